@@ -1,0 +1,1 @@
+//! Laws of the definitions. Each function answers nothing; its contract is the law, for every argument.

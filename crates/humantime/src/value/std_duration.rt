@@ -1,0 +1,190 @@
+//! A duration of whole nanoseconds.
+
+ghost use Rattle.std.specs.Prelude.{◌≡◌, ◌==◌, ◌+◌, ◌*◌, ◌/◌, ◌%◌, ◌^◌, ◌<◌, ◌↔◌, IsSome, IfSome};
+ghost use Rattle.std.proofs.Common.{rules};
+ghost use Rattle.std.specs.Cmp.{partial_order_from_own_ties};
+ghost use Rattle.std.specs.Cmp.Rules.{comparing};
+ghost use Rattle.std.specs.Ordering.{nat_cmp, as_partial_cmp};
+ghost use Rattle.humantime.specs.Times.{nanos_per_second, duration_end};
+
+use std::cmp::Ordering;
+use std::marker::Model;
+
+const NANOS_PER_SECOND: u32 = 1_000_000_000;
+
+/// A duration: whole seconds (`u64`) and nanoseconds below 10^9.
+///
+/// It has the calls of the `Duration` of Rust's standard library that a reader and a printer need.
+/// Contracts see it as its number of nanoseconds; order and equality are those of that number, and the
+/// default is zero.
+///
+/// ```text
+/// StdDuration::from_secs(9420) > StdDuration::ZERO
+/// ```
+#[derive(Clone, Copy, Hash, Default, Debug)]
+pub struct StdDuration {
+    secs: u64,
+    nanos: u32,
+}
+
+impl Model for StdDuration {
+    ghost use Rattle.std.specs.Prelude.{◌≡◌, ℕ, ◌+◌, ◌*◌, ◌/◌, ◌%◌, ◌<◌};
+    ghost use Rattle.std.proofs.Common.{arith};
+
+    ghost Value = { ℕ };
+
+    ghost view = { λ d. d.secs * 1_000_000_000 + d.nanos };
+
+    ghost invariant = { λ d. d.nanos < 1_000_000_000 };
+
+    ghost inverse = { λ n. record { secs = n / 1_000_000_000; nanos = n % 1_000_000_000 } };
+
+    ghost inverse_ok = { λ a h.
+        let secs : (a.secs * 1_000_000_000 + a.nanos) / 1_000_000_000 ≡ a.secs = omega arith in
+        let nanos : (a.secs * 1_000_000_000 + a.nanos) % 1_000_000_000 ≡ a.nanos = omega arith in
+        λ i. record { secs = secs i; nanos = nanos i } };
+}
+
+impl StdDuration {
+    /// No time at all: (0, 0).
+    pub const ZERO: StdDuration = StdDuration { secs: 0, nanos: 0 };
+
+    /// The longest duration: (18446744073709551615, 999999999).
+    pub const MAX: StdDuration = StdDuration {
+        secs: u64::MAX,
+        nanos: NANOS_PER_SECOND - 1,
+    };
+
+    /// The sum of the seconds and the nanoseconds; 10^9 nanoseconds and more are carried into seconds.
+    ///
+    /// The caller shows that the carried seconds fit `u64`; `checked_new` makes that test at run time.
+    ///
+    /// ```text
+    /// StdDuration::new(1, 1_500_000_000).as_secs() == 2
+    /// ```
+    pub fn new(secs: u64, nanos: u32) -> StdDuration
+        requires { secs + nanos / nanos_per_second < 2 ^ 64 }
+        ensures { result ≡ secs * nanos_per_second + nanos }
+    {
+        StdDuration {
+            secs: secs + (nanos / NANOS_PER_SECOND) as u64,
+            nanos: nanos % NANOS_PER_SECOND,
+        }
+    }
+
+    /// The sum of the seconds and the nanoseconds, or `None` where its seconds do not fit `u64`.
+    ///
+    /// ```text
+    /// StdDuration::checked_new(u64::MAX, 1_000_000_000) == None
+    /// ```
+    pub fn checked_new(secs: u64, nanos: u32) -> Option<StdDuration>
+        ensures fits { IsSome result ↔ (secs + nanos / nanos_per_second < 2 ^ 64) }
+        ensures sum { IfSome result (λ d. d ≡ secs * nanos_per_second + nanos) }
+    {
+        let secs = secs.checked_add((nanos / NANOS_PER_SECOND) as u64)?;
+        Some(StdDuration {
+            secs,
+            nanos: nanos % NANOS_PER_SECOND,
+        })
+    }
+
+    /// So many whole seconds.
+    ///
+    /// ```text
+    /// StdDuration::from_secs(60).subsec_nanos() == 0
+    /// ```
+    pub fn from_secs(secs: u64) -> StdDuration
+        ensures { result ≡ secs * nanos_per_second }
+    {
+        StdDuration { secs, nanos: 0 }
+    }
+
+    /// So many microseconds.
+    ///
+    /// ```text
+    /// StdDuration::from_micros(123).subsec_nanos() == 123_000
+    /// ```
+    pub fn from_micros(micros: u64) -> StdDuration
+        ensures { result ≡ micros * 1000 }
+    {
+        StdDuration {
+            secs: micros / 1_000_000,
+            nanos: (micros % 1_000_000 * 1000) as u32,
+        }
+    }
+
+    /// The whole seconds.
+    ///
+    /// ```text
+    /// StdDuration::from_micros(2_500_000).as_secs() == 2
+    /// ```
+    pub fn as_secs(&self) -> u64
+        ensures { result ≡ self.now / nanos_per_second }
+    {
+        self.secs
+    }
+
+    /// The nanoseconds beyond the whole seconds, below 10^9.
+    ///
+    /// ```text
+    /// StdDuration::from_micros(2_500_000).subsec_nanos() == 500_000_000
+    /// ```
+    pub fn subsec_nanos(&self) -> u32
+        ensures { result ≡ self.now % nanos_per_second }
+    {
+        self.nanos
+    }
+
+    /// The sum, or `None` where it passes `MAX`.
+    ///
+    /// ```text
+    /// StdDuration::MAX.checked_add(StdDuration::ZERO) == Some(StdDuration::MAX)
+    /// ```
+    pub fn checked_add(self, other: StdDuration) -> Option<StdDuration>
+        ensures fits { IsSome result ↔ (self + other < duration_end) }
+        ensures sum { IfSome result (λ d. d ≡ self + other) }
+    {
+        let secs = self.secs.checked_add(other.secs)?;
+        StdDuration::checked_new(secs, self.nanos + other.nanos)
+    }
+}
+
+impl PartialEq for StdDuration {
+    ghost eq = { ◌==◌ };
+
+    ghost laws = { Prim.search (comparing, rules) };
+
+    fn eq(&self, other: &StdDuration) -> bool {
+        self.secs == other.secs && self.nanos == other.nanos
+    }
+}
+
+impl Eq for StdDuration {
+    ghost laws = { Prim.search (comparing, rules) };
+}
+
+impl Ord for StdDuration {
+    ghost cmp = { nat_cmp };
+
+    ghost total = { Prim.search (comparing, rules) };
+
+    ghost matches_partial_cmp = { Prim.search (comparing, rules) };
+
+    ghost matches_eq = { Prim.search (comparing, rules) };
+
+    fn cmp(&self, other: &StdDuration) -> Ordering {
+        self.secs
+            .cmp(&other.secs)
+            .then(self.nanos.cmp(&other.nanos))
+    }
+}
+
+impl PartialOrd for StdDuration {
+    ghost partial_cmp = { as_partial_cmp nat_cmp };
+
+    ghost laws = { partial_order_from_own_ties (Prim.search (comparing, rules)) (Prim.search (comparing, rules)) };
+
+    fn partial_cmp(&self, other: &StdDuration) -> Option<Ordering> {
+        Some(self.cmp(other))
+    }
+}
