@@ -1,1 +1,12 @@
+pub mod Canonical
+pub mod Characters
+pub mod Counts
+pub mod Errors
+pub mod Faults
+pub mod Lending
+pub mod Reading
+pub mod Scales
+pub mod Slices
+pub mod Spans
 pub mod Times
+pub mod Units

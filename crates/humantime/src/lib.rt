@@ -3,6 +3,10 @@
 //! The contracts cite the definitions in `specs/`, which docs/MODEL.md says in plain words.
 #![tactic(auto)]
 
+mod duration;
+pub mod laws;
+mod unit;
 mod value;
 
+pub use duration::DurationError;
 pub use value::StdDuration;

@@ -1,0 +1,21 @@
+//! What a span adds.
+
+ghost use Rattle.std.specs.Prelude.{◌≤◌, ◌<◌, ◌^◌};
+
+use crate::unit::Unit;
+
+/// The digits after a point: the number that they read as, and how many there are.
+#[derive(Clone, Copy, PartialEq, Debug)]
+pub(crate) struct Fraction {
+    pub value: u64,
+    pub count: u32,
+    ghost few: { count ≤ 19 },
+}
+
+/// A span's number, its fraction and its unit.
+#[derive(Clone, Copy, PartialEq, Debug)]
+pub(crate) struct Amount {
+    pub value: u64,
+    pub fraction: Option<Fraction>,
+    pub unit: Unit,
+}
