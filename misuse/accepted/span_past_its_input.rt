@@ -1,0 +1,8 @@
+use crate::{Span, spans};
+
+fn first_span(text: &str) -> Option<Span<'_>> {
+    match spans(text).next() {
+        Some(Ok(span)) => Some(span),
+        _ => None,
+    }
+}
