@@ -3,6 +3,11 @@
 //! The contracts cite the definitions in `specs/`, which docs/MODEL.md says in plain words.
 #![tactic(auto)]
 
+mod calendar;
+pub mod laws;
+mod turns;
 mod value;
 
-pub use value::StdDuration;
+pub use calendar::{Date, date_of_day, day_number};
+pub use turns::Turns;
+pub use value::{StdDuration, SystemTime, SystemTimeError, UNIX_EPOCH};
