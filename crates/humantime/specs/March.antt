@@ -1,7 +1,7 @@
 -- Years that begin on 1 March, counted from 1 March 1600: the leap day is the last day of such a year.
 -- Private helpers of the calendar speak of these; no public contract does.
-use Rattle.std.specs.Prelude.{ℕ, ◌+◌, ◌-◌, ◌*◌, ◌/◌, [], ◌∷◌, slice_index_or, if◌then◌else◌}
-use Rattle.humantime.specs.Calendar.{is_leap_year}
+use Rattle.std.specs.Prelude.{ℕ, ◌+◌, ◌-◌, ◌*◌, ◌/◌, [], ◌∷◌, slice_index_or}
+use Rattle.humantime.specs.Calendar.{days_in_year}
 
 -- how many days lie before year n
 abbrev pub march_days : ℕ → ℕ
@@ -9,7 +9,7 @@ march_days n = n * 365 + n / 4 - n / 100 + n / 400
 
 -- how many days year n has: it ends with the February of the year 1601 + n
 abbrev pub march_year_length : ℕ → ℕ
-march_year_length n = 365 + (if is_leap_year (1601 + n) then 1 else 0)
+march_year_length n = days_in_year (1601 + n)
 
 -- how many days month k has at most; March is month 0
 unfoldable pub march_length : ℕ → ℕ

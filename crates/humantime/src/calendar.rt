@@ -97,6 +97,7 @@ fn days_before_month(year: u32, month: u32) -> u32
 /// ```text
 /// day_number(Date { year: 2000, month: 2, day: 29 }, &mut turns) == Some(11016)
 /// ```
+#[tactic(auto, using(crate::proofs::CalendarLemmas::days_of_years_bound, crate::proofs::CalendarLemmas::days_of_months_bound))]
 pub fn day_number(date: Date, turns: &mut Turns) -> Option<u32>
     ensures valid { IsSome result ↔ IsDate date }
     ensures day { IfSome result (λ n. n ≡ day_of date) }
@@ -164,6 +165,7 @@ fn march_date(year: u32, month: u32, left: u32) -> Date
 /// ```text
 /// date_of_day(11016, &mut turns) == Some(Date { year: 2000, month: 2, day: 29 })
 /// ```
+#[tactic(auto, using(crate::proofs::MarchLemmas::march_months_none, crate::proofs::MarchLemmas::march_months_next, crate::proofs::MarchLemmas::march_months_all), unfolding(crate::specs::March::march_length))]
 pub fn date_of_day(day: u32, turns: &mut Turns) -> Option<Date>
     ensures within { IsSome result ↔ (day ≤ 2_932_896) }
     ensures date { IfSome result (λ d. IsDate d × (day_of d ≡ day)) }
