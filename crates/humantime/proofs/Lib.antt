@@ -1,0 +1,3 @@
+pub mod CalendarLemmas
+pub mod MarchLemmas
+pub mod Months

@@ -3,10 +3,14 @@
 //! The contracts cite the definitions in `specs/`, which docs/MODEL.md says in plain words.
 #![tactic(auto)]
 
+mod calendar;
 mod duration;
 pub mod laws;
+mod turns;
 mod unit;
 mod value;
 
+pub use calendar::{Date, date_of_day, day_number};
 pub use duration::DurationError;
-pub use value::StdDuration;
+pub use turns::Turns;
+pub use value::{StdDuration, SystemTime, SystemTimeError, UNIX_EPOCH};

@@ -1,0 +1,236 @@
+//! A moment in time.
+
+ghost use Rattle.std.specs.Prelude.{◌≡◌, ℕ, ℤ, pos, ◌+◌, ◌*◌, ◌^◌, ◌<◌, ◌↔◌, ◌+ℤ◌, ◌≤ℤ◌, ◌<ℤ◌, IsSome, IfSome, IsOk, IfOk, IfErr};
+ghost use Rattle.std.proofs.Common.{rules};
+ghost use Rattle.std.specs.Cmp.{partial_order_from_own_ties};
+ghost use Rattle.std.specs.Cmp.Rules.{comparing};
+ghost use Rattle.std.specs.Ordering.{int_cmp, int_eq, as_partial_cmp};
+ghost use Rattle.humantime.specs.Moment.{moment, second_of, nano_of, moment_end};
+ghost use Rattle.humantime.specs.Times.{nanos_per_second};
+
+use crate::value::std_duration::StdDuration;
+use std::cmp::Ordering;
+use std::marker::Model;
+
+const NANOS_PER_SECOND: u32 = 1_000_000_000;
+
+/// The moment 1970-01-01T00:00:00Z.
+///
+/// ```text
+/// UNIX_EPOCH.unix_seconds() == 0
+/// ```
+pub const UNIX_EPOCH: SystemTime = SystemTime { secs: 0, nanos: 0 };
+
+/// A moment: seconds from 1970-01-01T00:00:00Z (`i64`) and nanoseconds below 10^9 after them.
+///
+/// It has the calls of the `SystemTime` of Rust's standard library that a reader and a printer need.
+/// Contracts see it as its number of nanoseconds from 1970, which is negative before; order and equality
+/// are those of that number.
+///
+/// ```text
+/// SystemTime::from_parts(-1, 999_999_999) < Some(UNIX_EPOCH)
+/// ```
+#[derive(Clone, Copy, Hash, Debug)]
+pub struct SystemTime {
+    secs: i64,
+    nanos: u32,
+}
+
+impl Model for SystemTime {
+    ghost use Rattle.std.specs.Prelude.{ℤ, ◌<◌};
+    ghost use Rattle.humantime.specs.Moment.{moment, second_of, nano_of};
+    ghost use Rattle.humantime.specs.MomentLemmas.{second_of-moment, nano_of-moment};
+
+    ghost Value = { ℤ };
+
+    ghost view = { λ t. moment t.secs t.nanos };
+
+    ghost invariant = { λ t. t.nanos < 1_000_000_000 };
+
+    ghost inverse = { λ z. record { secs = second_of z; nanos = nano_of z } };
+
+    ghost inverse_ok = { λ t h. λ i. record {
+      secs = second_of-moment t.secs t.nanos h i;
+      nanos = nano_of-moment t.secs t.nanos h i;
+    } };
+}
+
+/// That one moment is later than another, and by how much.
+///
+/// `SystemTime::duration_since` answers it. Contracts see it as the nanoseconds between the two moments;
+/// equality is that of this difference.
+///
+/// ```text
+/// UNIX_EPOCH.duration_since(later).unwrap_err().duration()
+/// ```
+#[derive(Clone, Copy, PartialEq, Eq, Debug)]
+pub struct SystemTimeError(StdDuration);
+
+impl Model for SystemTimeError {
+    ghost use Rattle.std.specs.Prelude.{ℕ};
+
+    ghost Value = { ℕ };
+
+    ghost view = { λ e. e.0 };
+
+    ghost inverse = { λ n. record { 0 = n } };
+}
+
+impl SystemTimeError {
+    /// How much later the moment is that was taken as the earlier one.
+    ///
+    /// ```text
+    /// UNIX_EPOCH.duration_since(later).unwrap_err().duration().as_secs()
+    /// ```
+    pub fn duration(&self) -> StdDuration
+        ensures { result ≡ self.now }
+    {
+        self.0
+    }
+}
+
+impl SystemTime {
+    /// The moment so many seconds and nanoseconds from 1970, or `None` for nanoseconds of 10^9 and more.
+    ///
+    /// ```text
+    /// SystemTime::from_parts(0, 1_000_000_000) == None
+    /// ```
+    pub fn from_parts(secs: i64, nanos: u32) -> Option<SystemTime>
+        ensures fits { IsSome result ↔ (nanos < nanos_per_second) }
+        ensures value { IfSome result (λ t. t ≡ moment secs nanos) }
+    {
+        if nanos < NANOS_PER_SECOND {
+            Some(SystemTime { secs, nanos })
+        } else {
+            None
+        }
+    }
+
+    /// The whole seconds from 1970, rounded down; negative before 1970.
+    ///
+    /// ```text
+    /// UNIX_EPOCH.unix_seconds() == 0
+    /// ```
+    pub fn unix_seconds(&self) -> i64
+        ensures { result ≡ second_of self.now }
+    {
+        self.secs
+    }
+
+    /// The nanoseconds after that second, below 10^9.
+    ///
+    /// ```text
+    /// UNIX_EPOCH.subsec_nanos() == 0
+    /// ```
+    pub fn subsec_nanos(&self) -> u32
+        ensures { result ≡ nano_of self.now }
+    {
+        self.nanos
+    }
+
+    /// The moment that is later by `duration`, or `None` where its seconds do not fit `i64`.
+    ///
+    /// ```text
+    /// UNIX_EPOCH.checked_add(StdDuration::from_secs(9_223_372_036_854_775_808)) == None
+    /// ```
+    pub fn checked_add(self, duration: StdDuration) -> Option<SystemTime>
+        ensures fits { IsSome result ↔ ((self +ℤ pos duration) <ℤ moment_end) }
+        ensures sum { IfSome result (λ t. t ≡ self +ℤ pos duration) }
+    {
+        let nanos = self.nanos + duration.subsec_nanos();
+        let carry = nanos / NANOS_PER_SECOND;
+        let secs = later_second(self.secs, duration.as_secs(), carry)?;
+        Some(SystemTime {
+            secs,
+            nanos: nanos % NANOS_PER_SECOND,
+        })
+    }
+
+    /// The time from `earlier` to this moment.
+    ///
+    /// Where `earlier` is the later one, the error has the time from this moment to `earlier`.
+    ///
+    /// ```text
+    /// later.duration_since(UNIX_EPOCH) == Ok(StdDuration::from_secs(5))
+    /// ```
+    pub fn duration_since(&self, earlier: SystemTime) -> Result<StdDuration, SystemTimeError>
+        ensures order { IsOk result ↔ (earlier ≤ℤ self.now) }
+        ensures later { IfOk result (λ d. self.now ≡ earlier +ℤ pos d) }
+        ensures before { IfErr result (λ e. earlier ≡ self.now +ℤ pos e) }
+    {
+        let now = *self;
+        if earlier <= now {
+            Ok(now.since(earlier))
+        } else {
+            Err(SystemTimeError(earlier.since(now)))
+        }
+    }
+
+    // The time from a moment that is not later.
+    fn since(self, earlier: SystemTime) -> StdDuration
+        requires { earlier ≤ℤ self }
+        ensures { self ≡ earlier +ℤ pos result }
+    {
+        let secs = self.secs.abs_diff(earlier.secs);
+        if earlier.nanos <= self.nanos {
+            StdDuration::new(secs, self.nanos - earlier.nanos)
+        } else {
+            StdDuration::new(secs - 1, self.nanos + NANOS_PER_SECOND - earlier.nanos)
+        }
+    }
+}
+
+// The second that is later by so many seconds and a carry, where it fits.
+fn later_second(second: i64, secs: u64, carry: u32) -> Option<i64>
+    ensures fits { IsSome result ↔ ((second +ℤ pos (secs + carry)) <ℤ pos (2 ^ 63)) }
+    ensures value { IfSome result (λ s. s ≡ second +ℤ pos (secs + carry)) }
+{
+    let later = second as i128 + (secs as i128 + carry as i128);
+    if later <= i64::MAX as i128 {
+        Some(later as i64)
+    } else {
+        None
+    }
+}
+
+impl PartialEq for SystemTime {
+    ghost eq = { int_eq };
+
+    ghost laws = { Prim.search (comparing, rules) };
+
+    #[tactic(auto, using(crate::specs::MomentLemmas::int_eq_moment))]
+    fn eq(&self, other: &SystemTime) -> bool {
+        self.secs == other.secs && self.nanos == other.nanos
+    }
+}
+
+impl Eq for SystemTime {
+    ghost laws = { Prim.search (comparing, rules) };
+}
+
+impl Ord for SystemTime {
+    ghost cmp = { int_cmp };
+
+    ghost total = { Prim.search (comparing, rules) };
+
+    ghost matches_partial_cmp = { Prim.search (comparing, rules) };
+
+    ghost matches_eq = { Prim.search (comparing, rules) };
+
+    #[tactic(auto, using(crate::specs::MomentLemmas::int_cmp_moment))]
+    fn cmp(&self, other: &SystemTime) -> Ordering {
+        self.secs
+            .cmp(&other.secs)
+            .then(self.nanos.cmp(&other.nanos))
+    }
+}
+
+impl PartialOrd for SystemTime {
+    ghost partial_cmp = { as_partial_cmp int_cmp };
+
+    ghost laws = { partial_order_from_own_ties (Prim.search (comparing, rules)) (Prim.search (comparing, rules)) };
+
+    fn partial_cmp(&self, other: &SystemTime) -> Option<Ordering> {
+        Some(self.cmp(other))
+    }
+}
