@@ -13,7 +13,7 @@ pub days_of_years_next : (n : ℕ) → days_of_years (suc n) ≡ days_of_years n
 unfolding days_of_years
 days_of_years_next n = refl
 
-days_of_no_years : days_of_years 0 ≡ 0
+pub days_of_no_years : days_of_years 0 ≡ 0
 unfolding days_of_years
 days_of_no_years = refl
 
@@ -74,6 +74,10 @@ days_of_months_bound y k small =
     + (if nat_lt 1 k then (days_in_year y - 365) else 0) ≤ 335)
     (omega arith) (omega arith) (omega arith) (omega arith) (omega arith) (omega arith)
     (omega arith) (omega arith) (omega arith) (omega arith) (omega arith) (omega arith) k small)
+
+pub days_of_no_months : (y : ℕ) → days_of_months y 0 ≡ 0
+unfolding days_of_months
+days_of_no_months y = refl
 
 pub days_of_months_next : (y : ℕ) (n : ℕ) → days_of_months y (suc n) ≡ days_of_months y n + days_in_month y (suc n)
 unfolding days_of_months

@@ -1,3 +1,4 @@
 pub mod CalendarLemmas
+pub mod DateLemmas
 pub mod MarchLemmas
 pub mod Months

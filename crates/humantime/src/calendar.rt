@@ -186,3 +186,6 @@ pub fn date_of_day(day: u32, turns: &mut Turns) -> Option<Date>
     }
     unreachable!()
 }
+
+#[cfg(test)]
+mod tests;

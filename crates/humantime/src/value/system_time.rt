@@ -234,3 +234,6 @@ impl PartialOrd for SystemTime {
         Some(self.cmp(other))
     }
 }
+
+#[cfg(test)]
+mod tests;
