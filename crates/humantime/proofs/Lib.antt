@@ -1,3 +1,5 @@
+mod AddingLemmas
+mod WordKeys
 pub mod CalendarLemmas
 pub mod DateLemmas
 pub mod MarchLemmas

@@ -16,3 +16,6 @@ pub mod Spans
 pub mod Times
 pub mod Turns
 pub mod Units
+pub mod ClassCodes
+pub mod Adding
+pub mod Keys

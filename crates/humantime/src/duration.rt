@@ -3,5 +3,6 @@
 mod amount;
 mod class;
 mod error;
+mod sum;
 
 pub use error::DurationError;

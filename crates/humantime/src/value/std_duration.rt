@@ -147,6 +147,34 @@ impl StdDuration {
         let secs = self.secs.checked_add(other.secs)?;
         StdDuration::checked_new(secs, self.nanos + other.nanos)
     }
+
+    /// The sum with so many seconds, or `None` where its whole seconds do not fit `u64`.
+    #[inline]
+    pub(crate) fn checked_add_secs(self, secs: u64) -> Option<StdDuration>
+        ensures fits { IsSome result ↔ (self / nanos_per_second + secs < 2 ^ 64) }
+        ensures sum { IfSome result (λ d. d ≡ self + secs * nanos_per_second) }
+    {
+        let secs = self.secs.checked_add(secs)?;
+        Some(StdDuration {
+            secs,
+            nanos: self.nanos,
+        })
+    }
+
+    /// The sum with so many nanoseconds, or `None` where its whole seconds, or these and the nanoseconds
+    /// beyond the whole seconds, do not fit `u64`.
+    #[inline]
+    pub(crate) fn checked_add_nanos(self, nanos: u64) -> Option<StdDuration>
+        ensures fits { IsSome result ↔ ((self % nanos_per_second + nanos < 2 ^ 64) × ((self + nanos) / nanos_per_second < 2 ^ 64)) }
+        ensures sum { IfSome result (λ d. d ≡ self + nanos) }
+    {
+        let sum = nanos.checked_add(self.nanos as u64)?;
+        let secs = self.secs.checked_add(sum / NANOS_PER_SECOND as u64)?;
+        Some(StdDuration {
+            secs,
+            nanos: (sum % NANOS_PER_SECOND as u64) as u32,
+        })
+    }
 }
 
 impl PartialEq for StdDuration {

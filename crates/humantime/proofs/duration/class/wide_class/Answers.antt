@@ -1,0 +1,14 @@
+use Rattle.std.proofs.Common.{arith, ◌≡◌, ◌∙◌, sym, refl, false}
+use Rattle.std.specs.Prelude.{◌==◌}
+use Rattle.std.specs.Char.{is_ascii_digit, is_ascii_alphabetic}
+use Rattle.humantime.specs.Characters.{class_of}
+use Rattle.humantime.proofs.duration.class.wide_class.Goals as goal
+
+pub returns-else-is_white : goal.returns-else-is_white
+unfolding class_of
+returns-else-is_white c =
+    let digit : is_ascii_digit c.args.c ≡ false = grind arith in
+    let letter : is_ascii_alphabetic c.args.c ≡ false = grind arith in
+    let point : (c.args.c == 46) ≡ false = grind arith in
+    let micro : (c.args.c == 181) ≡ false = grind arith in
+    rw (sym c.is_white.ensures.value ∙ c.if-is_white.false, digit, letter, micro, point) refl
