@@ -29,9 +29,9 @@ march_days_of_years (suc n) =
     let same : suc n + 369 ≡ n + 369 + 1 = omega arith in
     rw same (grind arith)
 
-pub days_before_year_closed : (y : ℕ) → 1970 ≤ y
-    → 365 * (y - 1970) + (y - 1969) / 4 - (y - 1901) / 100 + (y - 1601) / 400 ≡ days_of_years (y - 1970)
-days_before_year_closed y late =
+pub days_of_years_closed : (y : ℕ) → 1970 ≤ y
+    → days_of_years (y - 1970) ≡ 365 * (y - 1970) + (y - 1969) / 4 - (y - 1901) / 100 + (y - 1601) / 400
+days_of_years_closed y late =
     let closed : days_of_years (y - 1970) + 134_774 ≡ march_days (y - 1970 + 369) = march_days_of_years (y - 1970) in
     omega arith
 
@@ -40,40 +40,36 @@ days_of_years_bound n low =
     let closed : days_of_years n + 134_774 ≡ march_days (n + 369) = march_days_of_years n in
     omega arith
 
--- a year has 365 days and perhaps one more
-pub leap_day : (y : ℕ) → days_in_year y - 365 + 365 ≡ days_in_year y
-leap_day y = grind (arith, nat_tests)
+-- the days up to the end of year y
+pub days_of_years_more : (y : ℕ) → 1970 ≤ y → days_of_years (y + 1 - 1970) ≡ days_of_years (y - 1970) + days_in_year y
+days_of_years_more y late =
+    let next : suc (y - 1970) ≡ y + 1 - 1970 = omega arith in
+    let year : 1970 + (y - 1970) ≡ y = omega arith in
+    let more : days_of_years (suc (y - 1970)) ≡ days_of_years (y - 1970) + days_in_year (1970 + (y - 1970)) =
+    days_of_years_next (y - 1970) in
+    rw year at (rw next at more)
+
+-- the years up to 9999 have 2932897 days
+pub days_of_years_within : (y : ℕ) → 1970 ≤ y → y ≤ 9999 → days_of_years (y - 1970) + days_in_year y ≤ 2_932_897
+days_of_years_within y late low =
+    let more : days_of_years (y + 1 - 1970) ≡ days_of_years (y - 1970) + days_in_year y = days_of_years_more y late in
+    let closed : days_of_years (y + 1 - 1970) + 134_774 ≡ march_days (y + 1 - 1970 + 369) = march_days_of_years (y + 1 - 1970) in
+    omega arith
+
+pub days_of_years_all : (y : ℕ) → y ≡ 10_000 → days_of_years (y - 1970) ≡ 2_932_897
+days_of_years_all y end =
+    let closed : days_of_years (y - 1970) + 134_774 ≡ march_days (y - 1970 + 369) = march_days_of_years (y - 1970) in
+    omega arith
 
 pub days_in_year_bound : (y : ℕ) → days_in_year y ≤ 366
 days_in_year_bound y = grind (arith, nat_tests)
 
+days_in_year_least : (y : ℕ) → 365 ≤ days_in_year y
+days_in_year_least y = grind (arith, nat_tests)
+
 -- February has what the other months leave of the year
 pub february : (y : ℕ) → days_in_month y 2 + 337 ≡ days_in_year y
 february y = grind (arith, nat_tests)
-
--- the days before month k + 1
-pub days_of_months_closed : (y : ℕ) (leap : ℕ) → leap + 365 ≡ days_in_year y → (k : ℕ) → k < 12
-    → days_of_months y k ≡ slice_index_or (0 ∷ 31 ∷ 59 ∷ 90 ∷ 120 ∷ 151 ∷ 181 ∷ 212 ∷ 243 ∷ 273 ∷ 304 ∷ 334 ∷ []) k 0
-    + (if nat_lt 1 k then leap else 0)
-unfolding days_of_months
-days_of_months_closed y leap is =
-    let here : days_in_month y 2 + 337 ≡ days_in_year y = february y in
-    below_12
-    (λ k. days_of_months y k ≡ slice_index_or (0 ∷ 31 ∷ 59 ∷ 90 ∷ 120 ∷ 151 ∷ 181 ∷ 212 ∷ 243 ∷ 273 ∷ 304 ∷ 334 ∷ []) k 0
-    + (if nat_lt 1 k then leap else 0))
-    refl refl (omega arith) (omega arith) (omega arith) (omega arith) (omega arith) (omega arith) (omega arith)
-    (omega arith) (omega arith) (omega arith)
-
-pub days_of_months_bound : (y : ℕ) (k : ℕ) → k < 12 → days_of_months y k ≤ 335
-days_of_months_bound y k small =
-    let most : days_in_year y ≤ 366 = days_in_year_bound y in
-    let whole : days_in_year y - 365 + 365 ≡ days_in_year y = leap_day y in
-    rw (days_of_months_closed y (days_in_year y - 365) (leap_day y) k small)
-    (below_12
-    (λ k. slice_index_or (0 ∷ 31 ∷ 59 ∷ 90 ∷ 120 ∷ 151 ∷ 181 ∷ 212 ∷ 243 ∷ 273 ∷ 304 ∷ 334 ∷ []) k 0
-    + (if nat_lt 1 k then (days_in_year y - 365) else 0) ≤ 335)
-    (omega arith) (omega arith) (omega arith) (omega arith) (omega arith) (omega arith)
-    (omega arith) (omega arith) (omega arith) (omega arith) (omega arith) (omega arith) k small)
 
 pub days_of_no_months : (y : ℕ) → days_of_months y 0 ≡ 0
 unfolding days_of_months
@@ -83,11 +79,52 @@ pub days_of_months_next : (y : ℕ) (n : ℕ) → days_of_months y (suc n) ≡ d
 unfolding days_of_months
 days_of_months_next y n = refl
 
--- the twelve months make the year
-pub days_of_months_all : (y : ℕ) → days_of_months y 12 ≡ days_in_year y
-days_of_months_all y =
+-- the days up to the end of month m
+pub month_end : (y : ℕ) (m : ℕ) → 1 ≤ m → days_of_months y m ≡ days_of_months y (m - 1) + days_in_month y m
+month_end y m some =
+    let same : suc (m - 1) ≡ m = omega arith in
+    let next : days_of_months y (suc (m - 1)) ≡ days_of_months y (m - 1) + days_in_month y (suc (m - 1)) =
+    days_of_months_next y (m - 1) in
+    rw same at next
+
+pub days_of_months_more : (y : ℕ) (m : ℕ) → 1 ≤ m
+    → days_of_months y (m + 1 - 1) ≡ days_of_months y (m - 1) + days_in_month y m
+days_of_months_more y m some =
+    let here : m + 1 - 1 ≡ m = omega arith in
+    rw here (month_end y m some)
+
+-- the days of the first k months, by a table and the leap day
+abbrev days_in_table : ℕ → ℕ → ℕ
+days_in_table y k =
+    slice_index_or (0 ∷ 31 ∷ 59 ∷ 90 ∷ 120 ∷ 151 ∷ 181 ∷ 212 ∷ 243 ∷ 273 ∷ 304 ∷ 334 ∷ []) k 0
+    + (if nat_lt 1 k then (days_in_year y - 365) else 0)
+
+pub days_of_months_closed : (y : ℕ) (k : ℕ) → k < 12 → days_of_months y k ≡ days_in_table y k
+unfolding days_of_months
+days_of_months_closed y =
+    let second : days_in_month y 2 + 337 ≡ days_in_year y = february y in
+    let least : 365 ≤ days_in_year y = days_in_year_least y in
+    below_12 (λ k. days_of_months y k ≡ days_in_table y k)
+    refl refl (omega arith) (omega arith) (omega arith) (omega arith)
+    (omega arith) (omega arith) (omega arith) (omega arith) (omega arith) (omega arith)
+
+pub days_of_months_bound : (y : ℕ) (k : ℕ) → k < 12 → days_of_months y k ≤ 335
+unfolding days_of_months
+days_of_months_bound y =
+    let second : days_in_month y 2 + 337 ≡ days_in_year y = february y in
     let most : days_in_year y ≤ 366 = days_in_year_bound y in
-    let closed = days_of_months_closed y (days_in_year y - 365) (leap_day y) 11 (omega arith) in
-    let whole : days_in_year y - 365 + 365 ≡ days_in_year y = leap_day y in
-    let here : days_of_months y 12 ≡ days_of_months y 11 + days_in_month y 12 = days_of_months_next y 11 in
-    rw here (rw closed (omega arith))
+    below_12 (λ k. days_of_months y k ≤ 335)
+    (omega arith) (omega arith) (omega arith) (omega arith) (omega arith) (omega arith)
+    (omega arith) (omega arith) (omega arith) (omega arith) (omega arith) (omega arith)
+
+-- the twelve months make the year
+pub twelve_months : (y : ℕ) → days_of_months y 12 ≡ days_in_year y
+unfolding days_of_months
+twelve_months y =
+    let second : days_in_month y 2 + 337 ≡ days_in_year y = february y in
+    omega arith
+
+pub days_of_months_all : (y : ℕ) (m : ℕ) → m ≡ 13 → days_of_months y (m - 1) ≡ days_in_year y
+days_of_months_all y m end =
+    let twelve : m - 1 ≡ 12 = omega arith in
+    rw twelve (twelve_months y)

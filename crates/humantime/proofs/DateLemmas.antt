@@ -5,7 +5,7 @@ use Rattle.std.proofs.lemmas.Bool.{cases_order, cases_lt}
 use Rattle.humantime.specs.declared.calendar.Date.{Date}
 use Rattle.humantime.specs.Calendar.{days_in_year, days_in_month, days_of_years, days_of_months, IsValid, day_count}
 use Rattle.humantime.specs.Dates.{IsDate, day_of, IsDateOfDay, OneDate}
-use Rattle.humantime.proofs.CalendarLemmas.{days_of_years_next, days_of_no_years, days_of_no_months, days_of_months_next, days_of_months_all, march_days_of_years}
+use Rattle.humantime.proofs.CalendarLemmas.{days_of_years_next, days_of_no_years, days_of_no_months, days_of_months_next, twelve_months, month_end, days_of_years_more, march_days_of_years}
 use Rattle.humantime.specs.March.{march_days}
 
 -- more years have no fewer days, nor have more months
@@ -27,25 +27,11 @@ months_grow y n (suc more) =
     let before : days_of_months y n ≤ days_of_months y (n + more) = months_grow y n more in
     rw same (rw (days_of_months_next y (n + more)) (omega (arith, before)))
 
--- the days up to the end of a month, and up to the end of a year
-month_end : (y : ℕ) (m : ℕ) → 1 ≤ m → days_of_months y (m - 1) + days_in_month y m ≡ days_of_months y m
-month_end y m some =
-    let same : suc (m - 1) ≡ m = omega arith in
-    let next : days_of_months y (suc (m - 1)) ≡ days_of_months y (m - 1) + days_in_month y (suc (m - 1)) = days_of_months_next y (m - 1) in
-    sym (rw same at next)
-
-year_end : (y : ℕ) → 1970 ≤ y → days_of_years (y - 1970) + days_in_year y ≡ days_of_years (y + 1 - 1970)
-year_end y late =
-    let next : suc (y - 1970) ≡ y + 1 - 1970 = omega arith in
-    let year : 1970 + (y - 1970) ≡ y = omega arith in
-    let more : days_of_years (suc (y - 1970)) ≡ days_of_years (y - 1970) + days_in_year (1970 + (y - 1970)) = days_of_years_next (y - 1970) in
-    sym (rw year at (rw next at more))
-
 -- a date's day lies before the days of each later month and of each later year
 before_month : (y : ℕ) (m : ℕ) (d : ℕ) → IsValid y m d → (later : ℕ) → m < later
     → days_of_months y (m - 1) + (d - 1) < days_of_months y (later - 1)
 before_month y m d valid later less =
-    let upto : days_of_months y (m - 1) + days_in_month y m ≡ days_of_months y m = month_end y m valid.1.0 in
+    let upto : days_of_months y m ≡ days_of_months y (m - 1) + days_in_month y m = month_end y m valid.1.0 in
     let same : m + (later - 1 - m) ≡ later - 1 = omega arith in
     let grown : days_of_months y m ≤ days_of_months y (later - 1) = rw same at (months_grow y m (later - 1 - m)) in
     omega (arith, valid.2.0, valid.2.1)
@@ -54,8 +40,8 @@ before_year : (y : ℕ) (m : ℕ) (d : ℕ) → IsValid y m d → (later : ℕ) 
     → day_count y m d < days_of_years (later - 1970)
 before_year y m d valid later less =
     let month : days_of_months y (m - 1) + (d - 1) < days_of_months y (13 - 1) = before_month y m d valid 13 (omega (arith, valid.1.1)) in
-    let all : days_of_months y 12 ≡ days_in_year y = days_of_months_all y in
-    let upto : days_of_years (y - 1970) + days_in_year y ≡ days_of_years (y + 1 - 1970) = year_end y valid.0.0 in
+    let all : days_of_months y 12 ≡ days_in_year y = twelve_months y in
+    let upto : days_of_years (y + 1 - 1970) ≡ days_of_years (y - 1970) + days_in_year y = days_of_years_more y valid.0.0 in
     let same : y + 1 - 1970 + (later - 1 - y) ≡ later - 1970 = omega (arith, valid.0.0) in
     let grown : days_of_years (y + 1 - 1970) ≤ days_of_years (later - 1970) = rw same at (years_grow (y + 1 - 1970) (later - 1 - y)) in
     omega arith
@@ -107,7 +93,7 @@ next_month : (n : ℕ) (y : ℕ) (m : ℕ) (d : ℕ) → IsValid y m d × (day_c
     → IsValid y (m + 1) 1 × (day_count y (m + 1) 1 ≡ suc n)
 next_month n y m d is last more =
     let day : days_of_years (y - 1970) + days_of_months y (m - 1) + (d - 1) ≡ n = is.1 in
-    let whole : days_of_months y (m - 1) + days_in_month y m ≡ days_of_months y m = month_end y m is.0.1.0 in
+    let whole : days_of_months y m ≡ days_of_months y (m - 1) + days_in_month y m = month_end y m is.0.1.0 in
     let here : m + 1 - 1 ≡ m = omega arith in
     let some : 28 ≤ days_in_month y (m + 1) = month_some y (m + 1) in
     let next : days_of_years (y - 1970) + days_of_months y (m + 1 - 1) + 0 ≡ suc n = rw here (omega (arith, is.0.2.0, is.0.2.1)) in
@@ -117,10 +103,10 @@ next_year : (n : ℕ) (y : ℕ) (m : ℕ) (d : ℕ) → n < 2_932_896 → IsVali
     → days_in_month y m ≤ d → 12 ≤ m → IsValid (y + 1) 1 1 × (day_count (y + 1) 1 1 ≡ suc n)
 next_year n y m d few is last december =
     let day : days_of_years (y - 1970) + days_of_months y (m - 1) + (d - 1) ≡ n = is.1 in
-    let whole : days_of_months y (m - 1) + days_in_month y m ≡ days_of_months y m = month_end y m is.0.1.0 in
+    let whole : days_of_months y m ≡ days_of_months y (m - 1) + days_in_month y m = month_end y m is.0.1.0 in
     let twelve : m ≡ 12 = omega (arith, is.0.1.1) in
-    let months : days_of_months y m ≡ days_in_year y = rw twelve (days_of_months_all y) in
-    let years : days_of_years (y - 1970) + days_in_year y ≡ days_of_years (y + 1 - 1970) = year_end y is.0.0.0 in
+    let months : days_of_months y m ≡ days_in_year y = rw twelve (twelve_months y) in
+    let years : days_of_years (y + 1 - 1970) ≡ days_of_years (y - 1970) + days_in_year y = days_of_years_more y is.0.0.0 in
     let none : days_of_months (y + 1) 0 ≡ 0 = days_of_no_months (y + 1) in
     let closed : days_of_years (y + 1 - 1970) + 134_774 ≡ march_days (y + 1 - 1970 + 369) = march_days_of_years (y + 1 - 1970) in
     let next : days_of_years (y + 1 - 1970) ≡ suc n = omega (arith, is.0.2.0, is.0.2.1) in

@@ -1,10 +1,14 @@
+pub mod Adding
 pub mod Calendar
 pub mod Canonical
 pub mod Characters
+pub mod ClassCodes
 pub mod Counts
 pub mod Dates
+pub mod Deciding
 pub mod Errors
 pub mod Faults
+pub mod Keys
 pub mod Lending
 pub mod March
 pub mod Moment
@@ -16,6 +20,3 @@ pub mod Spans
 pub mod Times
 pub mod Turns
 pub mod Units
-pub mod ClassCodes
-pub mod Adding
-pub mod Keys

@@ -24,7 +24,8 @@ const MONTH_LENGTHS: [u32; 12] = [31, 28, 31, 30, 31, 30, 31, 31, 30, 31, 30, 31
 // The days of each month of a year that begins on 1 March and ends with a leap day.
 const MARCH_MONTH_LENGTHS: [u32; 12] = [31, 30, 31, 30, 31, 31, 30, 31, 30, 31, 31, 29];
 
-// The days from 1600-03-01 to 1970-01-01.
+// Cycles of 400 years, 146097 days each, are counted from 2000-03-01, which is day 11017. Earlier days lie
+// in the cycle before. It begins on 1600-03-01, which is so many days before 1970-01-01.
 const DAYS_FROM_MARCH_1600: u32 = 135_080;
 
 /// A date: year, month from 1 (January) to 12, day of the month from 1.
@@ -36,12 +37,16 @@ const DAYS_FROM_MARCH_1600: u32 = 135_080;
 /// ```
 #[derive(Clone, Copy, PartialEq, Eq, Debug)]
 pub struct Date {
+    /// The year; 1970 to 9999 where the date exists.
     pub year: u32,
+    /// The month; 1 is January.
     pub month: u32,
+    /// The day of the month, from 1.
     pub day: u32,
 }
 
 // The days of the years from 1970 up to this one.
+#[tactic(auto, using(crate::proofs::CalendarLemmas::days_of_years_closed))]
 fn days_before_year(year: u32) -> u32
     requires low { 1970 ≤ year }
     requires high { year ≤ 9999 }
@@ -76,6 +81,7 @@ fn month_length(year: u32, month: u32) -> u32
 }
 
 // The days of the year's months before this one.
+#[tactic(auto, using(crate::proofs::CalendarLemmas::days_of_months_closed))]
 fn days_before_month(year: u32, month: u32) -> u32
     requires low { 1 ≤ month }
     requires high { month ≤ 12 }
@@ -103,6 +109,7 @@ pub fn day_number(date: Date, turns: &mut Turns) -> Option<u32>
     ensures day { IfSome result (λ n. n ≡ day_of date) }
     ensures cost { turns.new ≡ turns.old }
 {
+    // No loop turns, so none is counted.
     let _ = turns;
     if date.year < FIRST_YEAR || date.year > LAST_YEAR || date.month < 1 || date.month > 12 {
         return None;
@@ -113,7 +120,7 @@ pub fn day_number(date: Date, turns: &mut Turns) -> Option<u32>
     Some(days_before_year(date.year) + days_before_month(date.year, date.month) + date.day - 1)
 }
 
-// The year from 1 March 1600 on, as years that begin on 1 March count, and the days of it before this day.
+// The year that holds this day, of the years that begin on 1 March, from 1600 on, and the day's place in it.
 fn march_year(day: u32) -> (u32, u32)
     requires { day ≤ 2_932_896 }
     ensures high { result.0 < 8400 }
@@ -132,7 +139,8 @@ fn march_year(day: u32) -> (u32, u32)
     (400 * cycles + 100 * centuries + 4 * fours + years, left)
 }
 
-// The date of a day of a month, March being month 0 of a year that begins with it.
+// The date with so many days of the month before it. March is month 0, and January and February are the last
+// months of a year that began in the calendar's year before.
 fn march_date(year: u32, month: u32, left: u32) -> Date
     requires month { month < 12 }
     requires left { left < march_length month }

@@ -1,3 +1,7 @@
+ghost use Rattle.std.specs.Prelude.{◌≡◌, ◌+◌, ◌-◌, ◌<◌, ◌≤◌, ◌↔◌, IsSome, IfSome};
+ghost use Rattle.humantime.specs.Calendar.{is_leap_year, days_in_year, days_in_month, days_of_years, days_of_months};
+ghost use Rattle.humantime.specs.Dates.{IsDate, day_of};
+
 use super::*;
 
 const TABLE: [(u32, u32, u32, u32); 23] = [
@@ -61,12 +65,22 @@ fn dates_that_do_not_exist(rt: HostRuntime) {
     assert_eq!(rt; date_of_day(2932897, &mut turns), None);
 }
 
-// The plain calendar, in which years are counted one by one.
-fn is_leap_year(year: u32) -> bool {
+// The plain calendar, in which years are counted one by one. It has the contracts of the fast one.
+fn is_leap_year(year: u32) -> bool
+    ensures { result ≡ is_leap_year year }
+{
     year % 4 == 0 && (year % 100 != 0 || year % 400 == 0)
 }
 
-fn days_of_month(year: u32, month: u32) -> u32 {
+fn length_of_year(year: u32) -> u32
+    ensures { result ≡ days_in_year year }
+{
+    if is_leap_year(year) { 366 } else { 365 }
+}
+
+fn length_of_month(year: u32, month: u32) -> u32
+    ensures { result ≡ days_in_month year month }
+{
     match month {
         2 => { if is_leap_year(year) { 29 } else { 28 } }
         4 | 6 | 9 | 11 => 30,
@@ -74,42 +88,76 @@ fn days_of_month(year: u32, month: u32) -> u32 {
     }
 }
 
-fn days_of_years(year: u32) -> u32 {
-    let mut days: u32 = 0;
+#[tactic(auto, using(crate::proofs::CalendarLemmas::days_of_years_more, crate::proofs::CalendarLemmas::days_of_years_bound, crate::proofs::CalendarLemmas::days_of_no_years))]
+fn counted_years(year: u32) -> u32
+    requires low { 1970 ≤ year }
+    requires high { year ≤ 9999 }
+    ensures { result ≡ days_of_years (year - 1970) }
+{
+    let mut days = 0;
     for earlier in 1970..year {
-        days = days.wrapping_add(if is_leap_year(earlier) { 366 } else { 365 });
+        days += length_of_year(earlier);
     }
     days
 }
 
-fn counted_day(date: Date) -> u32 {
-    let mut days = days_of_years(date.year);
-    for earlier in 1..date.month {
-        days = days.wrapping_add(days_of_month(date.year, earlier));
+#[tactic(auto, using(crate::proofs::CalendarLemmas::days_of_months_more, crate::proofs::CalendarLemmas::days_of_months_bound, crate::proofs::CalendarLemmas::days_of_no_months))]
+fn counted_months(year: u32, month: u32) -> u32
+    requires low { 1 ≤ month }
+    requires high { month ≤ 12 }
+    ensures { result ≡ days_of_months year (month - 1) }
+{
+    let mut days = 0;
+    for earlier in 1..month {
+        days += length_of_month(year, earlier);
     }
-    days.wrapping_add(date.day).wrapping_sub(1)
+    days
 }
 
-// The date of a year of which so many days have passed.
-fn date_in_year(year: u32, day: u32) -> Option<Date> {
+#[tactic(auto, using(crate::proofs::CalendarLemmas::days_of_years_bound, crate::proofs::CalendarLemmas::days_of_months_bound))]
+fn counted_day(date: Date) -> Option<u32>
+    ensures valid { IsSome result ↔ IsDate date }
+    ensures day { IfSome result (λ n. n ≡ day_of date) }
+{
+    if date.year < 1970 || date.year > 9999 || date.month < 1 || date.month > 12 {
+        return None;
+    }
+    if date.day < 1 || date.day > length_of_month(date.year, date.month) {
+        return None;
+    }
+    Some(counted_years(date.year) + counted_months(date.year, date.month) + date.day - 1)
+}
+
+#[tactic(auto, using(crate::proofs::CalendarLemmas::days_of_months_more, crate::proofs::CalendarLemmas::days_of_months_all, crate::proofs::CalendarLemmas::days_of_no_months))]
+fn date_in_year(year: u32, day: u32) -> Date
+    requires low { 1970 ≤ year }
+    requires high { year ≤ 9999 }
+    requires day { day < days_in_year year }
+    ensures valid { IsDate result }
+    ensures day { day_of result ≡ days_of_years (year - 1970) + day }
+{
     let mut left = day;
     for month in 1..13 {
-        let length = days_of_month(year, month);
+        let length = length_of_month(year, month);
         if left < length {
             let day = left + 1;
-            return Some(Date { year, month, day });
+            return Date { year, month, day };
         }
         left -= length;
     }
-    None
+    unreachable!()
 }
 
-fn counted_date(day: u32) -> Option<Date> {
+#[tactic(auto, using(crate::proofs::CalendarLemmas::days_of_years_more, crate::proofs::CalendarLemmas::days_of_no_years, crate::proofs::CalendarLemmas::days_of_years_within, crate::proofs::CalendarLemmas::days_of_years_all))]
+fn counted_date(day: u32) -> Option<Date>
+    ensures within { IsSome result ↔ (day ≤ 2_932_896) }
+    ensures date { IfSome result (λ d. IsDate d × (day_of d ≡ day)) }
+{
     let mut left = day;
     for year in 1970..10000 {
-        let length = if is_leap_year(year) { 366 } else { 365 };
+        let length = length_of_year(year);
         if left < length {
-            return date_in_year(year, left);
+            return Some(date_in_year(year, left));
         }
         left -= length;
     }
@@ -125,7 +173,7 @@ fn days_are_those_that_a_plain_program_counts(rt: HostRuntime) {
         let date = Date { year, month, day };
         assert_eq!(rt;
             day_number(date, &mut turns),
-            Some(counted_day(date)),
+            counted_day(date),
             "{year}-{month}-{day}"
         );
     }
@@ -152,7 +200,7 @@ fn every_day_in_both_directions(rt: HostRuntime) {
     for number in 0..2932897 {
         assert_eq!(rt; day_number(date, &mut turns), Some(number));
         assert_eq!(rt; date_of_day(number, &mut turns), Some(date));
-        if date.day < days_of_month(date.year, date.month) {
+        if date.day < length_of_month(date.year, date.month) {
             date.day = date.day.wrapping_add(1);
         } else if date.month < 12 {
             date.month += 1;

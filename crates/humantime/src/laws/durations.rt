@@ -1,0 +1,25 @@
+//! Laws of the texts of durations.
+
+ghost use Rattle.std.specs.Prelude.{chars};
+ghost use Rattle.humantime.specs.Faults.{OneOutcome, OneReading, OneListOfItems};
+ghost use Rattle.humantime.specs.Deciding.{ItemsDecideValue, ItemsDecideFault, ItemsDecideOverflow};
+
+/// A text has exactly one value or exactly one first fault, and at most one list of spans.
+///
+/// It also has exactly one list of items: spans, and what stops them.
+pub fn one_outcome(s: &str)
+    ensures outcome { OneOutcome (chars s.now) }
+    ensures reading { OneReading (chars s.now) }
+    ensures items { OneListOfItems (chars s.now) }
+{}
+
+/// The items of a text decide its value or its fault, unless the text is exactly `0`.
+///
+/// A text whose spans are within the limits stands for their sum, or has the fault that stops
+/// them. A text whose spans break a limit is too large, whatever stops them.
+pub fn spans_decide(s: &str)
+    ensures one { OneListOfItems (chars s.now) }
+    ensures accepted { ItemsDecideValue (chars s.now) }
+    ensures stopped { ItemsDecideFault (chars s.now) }
+    ensures too_large { ItemsDecideOverflow (chars s.now) }
+{}
