@@ -68,7 +68,7 @@ same_month y m d m' d' valid valid' same =
       ]
     ]
 
-same_date : (a : Date) (b : Date) → IsDate a → IsDate b → day_of a ≡ day_of b → a ≡ b
+pub same_date : (a : Date) (b : Date) → IsDate a → IsDate b → day_of a ≡ day_of b → a ≡ b
 same_date a b valid valid' same =
     let year : a.year ≡ b.year = same_year a.year a.month a.day b.year b.month b.day valid valid' same in
     let there : IsValid a.year b.month b.day = rw (sym year) at valid' in
@@ -82,14 +82,14 @@ same_date a b valid valid' same =
 month_some : (y : ℕ) (m : ℕ) → 28 ≤ days_in_month y m
 month_some y m = grind (arith, nat_tests)
 
-next_day : (n : ℕ) (y : ℕ) (m : ℕ) (d : ℕ) → IsValid y m d × (day_count y m d ≡ n) → d < days_in_month y m
+pub next_day : (n : ℕ) (y : ℕ) (m : ℕ) (d : ℕ) → IsValid y m d × (day_count y m d ≡ n) → d < days_in_month y m
     → IsValid y m (d + 1) × (day_count y m (d + 1) ≡ suc n)
 next_day n y m d is more =
     let some : 1 ≤ d = is.0.2.0 in
     let day : days_of_years (y - 1970) + days_of_months y (m - 1) + (d - 1) ≡ n = is.1 in
     ((is.0.0, is.0.1, (omega arith, omega arith)), omega arith)
 
-next_month : (n : ℕ) (y : ℕ) (m : ℕ) (d : ℕ) → IsValid y m d × (day_count y m d ≡ n) → days_in_month y m ≤ d → m < 12
+pub next_month : (n : ℕ) (y : ℕ) (m : ℕ) (d : ℕ) → IsValid y m d × (day_count y m d ≡ n) → days_in_month y m ≤ d → m < 12
     → IsValid y (m + 1) 1 × (day_count y (m + 1) 1 ≡ suc n)
 next_month n y m d is last more =
     let day : days_of_years (y - 1970) + days_of_months y (m - 1) + (d - 1) ≡ n = is.1 in
@@ -99,7 +99,7 @@ next_month n y m d is last more =
     let next : days_of_years (y - 1970) + days_of_months y (m + 1 - 1) + 0 ≡ suc n = rw here (omega (arith, is.0.2.0, is.0.2.1)) in
     ((is.0.0, (omega arith, omega arith), (omega arith, omega arith)), next)
 
-next_year : (n : ℕ) (y : ℕ) (m : ℕ) (d : ℕ) → n < 2_932_896 → IsValid y m d × (day_count y m d ≡ n)
+pub next_year : (n : ℕ) (y : ℕ) (m : ℕ) (d : ℕ) → n < 2_932_896 → IsValid y m d × (day_count y m d ≡ n)
     → days_in_month y m ≤ d → 12 ≤ m → IsValid (y + 1) 1 1 × (day_count (y + 1) 1 1 ≡ suc n)
 next_year n y m d few is last december =
     let day : days_of_years (y - 1970) + days_of_months y (m - 1) + (d - 1) ≡ n = is.1 in

@@ -14,6 +14,17 @@ pub mod Runs
 pub mod Settled
 pub mod Spelled
 pub mod Stopping
+pub mod TimestampByteLemmas
+pub mod TimestampCheckLemmas
+pub mod TimestampExitLemmas
+pub mod TimestampFractionLemmas
+pub mod TimestampPassLemmas
+pub mod TimestampPlaceLemmas
+pub mod TimestampPrintedLemmas
+pub mod TimestampReadTheorems
+pub mod TimestampSameLemmas
+pub mod TimestampShownLemmas
+pub mod TimestampStrictLemmas
 pub mod Told
 pub mod WorkedTexts
 pub mod Written

@@ -6,6 +6,7 @@ pub mod ClassCodes
 pub mod Counts
 pub mod Dates
 pub mod Deciding
+pub mod DigitText
 pub mod Errors
 pub mod Faults
 pub mod Keys
@@ -18,5 +19,12 @@ pub mod Scales
 pub mod Slices
 pub mod Spans
 pub mod Times
+pub mod TimestampChecks
+pub mod TimestampLaws
+pub mod TimestampMessages
+pub mod TimestampPrinted
+pub mod TimestampPrinting
+pub mod TimestampReading
+pub mod Timestamps
 pub mod Turns
 pub mod Units

@@ -2,6 +2,8 @@
 
 mod days;
 mod durations;
+mod timestamps;
 
 pub use days::one_date;
 pub use durations::{one_outcome, spans_decide};
+pub use timestamps::{one_stamp_outcome, printed_moment_reads, strict_is_weak};

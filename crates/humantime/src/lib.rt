@@ -4,6 +4,7 @@
 #![tactic(auto)]
 
 mod calendar;
+mod date;
 mod duration;
 pub mod laws;
 mod turns;
@@ -11,6 +12,10 @@ mod unit;
 mod value;
 
 pub use calendar::{Date, date_of_day, day_number};
+pub use date::{
+    Rfc3339Timestamp, TimestampError, format_rfc3339, format_rfc3339_micros, format_rfc3339_millis,
+    format_rfc3339_nanos, format_rfc3339_seconds, parse_rfc3339, parse_rfc3339_weak,
+};
 pub use duration::DurationError;
 pub use turns::Turns;
 pub use value::{StdDuration, SystemTime, SystemTimeError, UNIX_EPOCH};

@@ -166,6 +166,18 @@ impl SystemTime {
         }
     }
 
+    // The moment so many seconds and nanoseconds after 1970 began.
+    pub(crate) fn since_epoch(secs: u64, nanos: u32) -> SystemTime
+        requires secs { secs < 2 ^ 63 }
+        requires nanos { nanos < nanos_per_second }
+        ensures { result ≡ pos (secs * nanos_per_second + nanos) }
+    {
+        SystemTime {
+            secs: secs as i64,
+            nanos,
+        }
+    }
+
     // The time from a moment that is not later.
     fn since(self, earlier: SystemTime) -> StdDuration
         requires { earlier ≤ℤ self }

@@ -1,0 +1,138 @@
+-- The digits of a fraction, read one by one, are its nanoseconds.
+use Rattle.std.proofs.Common.{◌≡◌, ℕ, zero, suc, ◌+◌, ◌-◌, ◌*◌, ◌/◌, ◌^◌, ◌<◌, ◌≤◌, List, [], ◌∷◌, ◌++◌, length, get_or, take, drop, refl, sym, ◌∙◌, arith, add-one}
+use Rattle.std.specs.Prelude.{Bool, true, false, if◌then◌else◌}
+use Rattle.std.specs.Char.{is_ascii_digit, digit_value}
+use Rattle.std.specs.Int.{IsInRange}
+use Rattle.std.specs.Str.Parse.{digits_value_after}
+use Rattle.std.proofs.Math.Nat.{pow-suc, mul-le-mul_left}
+use Rattle.std.proofs.Math.Seq.{drop-cons}
+use Rattle.std.proofs.lemmas.Bool.Decides.{nat_tests}
+use Rattle.std.proofs.lemmas.List.{drop_all}
+use Rattle.std.proofs.lemmas.Str.{digit_value_digit}
+use Rattle.humantime.specs.DigitText.{AreDigits}
+use Rattle.humantime.specs.Timestamps.{nanos_of}
+use Rattle.humantime.specs.TimestampChecks.{past_digits}
+use Rattle.humantime.specs.TimestampReading.{front_digits}
+
+-- n and these digits, of which the first counts u, and each further one a tenth of the one before
+abbrev pub add_digits : ℕ → ℕ → List ℕ → ℕ
+add_digits n u [] = n
+add_digits n u (c ∷ cs) = add_digits (n + u * (c - 48)) (u / 10) cs
+
+add_nothing : (n : ℕ) (ds : List ℕ) → add_digits n 0 ds ≡ n
+add_nothing n [] = refl
+add_nothing n (c ∷ cs) =
+    let same : n + 0 * (c - 48) ≡ n = omega arith in
+    rw same (add_nothing n cs)
+
+pub is_digit_told : (c : ℕ) → is_ascii_digit c ≡ true → IsInRange 48 57 c
+is_digit_told c h = grind (arith, nat_tests)
+
+pub is_digit_from : (c : ℕ) → IsInRange 48 57 c → is_ascii_digit c ≡ true
+is_digit_from c h = grind (arith, nat_tests)
+
+pub front_are_digits : (cs : List ℕ) → AreDigits (front_digits cs)
+front_are_digits [] = tt
+front_are_digits (c ∷ cs) = by_test (is_ascii_digit c) refl (front_are_digits cs) where
+  by_test : (t : Bool) → is_ascii_digit c ≡ t → AreDigits (front_digits cs) → AreDigits (if t then c ∷ front_digits cs else [])
+  by_test true h more = (is_digit_told c h, more)
+  by_test false h more = tt
+
+zeros : ℕ → List ℕ
+zeros zero = []
+zeros (suc n) = 48 ∷ zeros n
+
+weights : (m d p q : ℕ) → q ≡ p * 10 → (m * 10 + d) * p ≡ m * q + q / 10 * d
+weights m d p q e =
+    let tenth : q / 10 ≡ p = omega arith in
+    rw tenth (rw e (grind arith))
+
+-- k of n zeros after the number m
+zeros_read : (k n m : ℕ) → k ≤ n → digits_value_after 10 m (take k (zeros n)) ≡ m * 10 ^ k
+unfolding zeros
+zeros_read zero n m h = omega arith
+zeros_read (suc k) zero m h = absurd (omega arith)
+zeros_read (suc k) (suc n) m h =
+    let rest : digits_value_after 10 (m * 10 + 0) (take k (zeros n)) ≡ (m * 10 + 0) * 10 ^ k = zeros_read k n (m * 10 + 0) (omega arith) in
+    let power : 10 ^ suc k ≡ 10 ^ k * 10 = pow-suc 10 k in
+    rest ∙ (weights m 0 (10 ^ k) (10 ^ suc k) power ∙ omega arith)
+
+-- the first k digits, filled with zeros, are the sum of the digits with their weights
+filled : (k n m : ℕ) (ds : List ℕ) → AreDigits ds → k ≤ n → digits_value_after 10 m (take k (ds ++ zeros n)) ≡ add_digits (m * 10 ^ k) (10 ^ k / 10) ds
+filled zero n m ds digits h =
+    let same : m * 10 ^ 0 ≡ m = omega arith in
+    rw same (sym (add_nothing m ds))
+filled (suc k) n m [] digits h = zeros_read (suc k) n m h
+filled (suc k) n m (c ∷ cs) digits h =
+    let value : digit_value c ≡ c - 48 = omega (arith, digit_value_digit c digits.0) in
+    let power : 10 ^ suc k ≡ 10 ^ k * 10 = pow-suc 10 k in
+    let tenth : 10 ^ suc k / 10 ≡ 10 ^ k = omega arith in
+    let rest : digits_value_after 10 (m * 10 + digit_value c) (take k (cs ++ zeros n)) ≡ add_digits ((m * 10 + digit_value c) * 10 ^ k) (10 ^ k / 10) cs = filled k n (m * 10 + digit_value c) cs digits.1 (omega arith) in
+    let first : (m * 10 + digit_value c) * 10 ^ k ≡ m * 10 ^ suc k + 10 ^ suc k / 10 * (c - 48) = rw value (weights m (c - 48) (10 ^ k) (10 ^ suc k) power) in
+    let tenth_back : 10 ^ k ≡ 10 ^ suc k / 10 = sym tenth in
+    rest ∙ (λ i. add_digits (first i) (tenth_back i / 10) cs)
+
+nine_zeros : zeros 9 ≡ 48 ∷ 48 ∷ 48 ∷ 48 ∷ 48 ∷ 48 ∷ 48 ∷ 48 ∷ 48 ∷ []
+unfolding zeros
+nine_zeros = refl
+
+pub nanos_added : (ds : List ℕ) → AreDigits ds → nanos_of ds ≡ add_digits 0 100_000_000 ds
+unfolding nanos_of
+nanos_added ds digits = rw nine_zeros at (filled 9 9 0 ds digits (omega arith))
+
+pub nanos_none : nanos_of [] ≡ 0
+unfolding nanos_of
+nanos_none = refl
+
+-- the first i digits are read: what they add up to, and where the digits end
+pub record IsRead (text : List ℕ) (i nanos unit : ℕ) : Type 0 where
+  pub value : add_digits nanos unit (front_digits (drop i text)) ≡ nanos_of (front_digits text)
+  pub rest : past_digits (drop i text) ≡ past_digits text
+  pub low : nanos < 1_000_000_000
+  pub room : nanos + 10 * unit ≤ 1_000_000_000
+
+pub read_none : (text : List ℕ) → IsRead text 0 0 100_000_000
+read_none text = record {
+  value = sym (nanos_added _ (front_are_digits text));
+  rest = refl;
+  low = omega arith;
+  room = omega arith;
+}
+
+pub read_more : (text : List ℕ) (i nanos unit : ℕ) → IsRead text i nanos unit → i < length text → is_ascii_digit (get_or text i 0) ≡ true
+    → IsRead text (i + 1) (nanos + unit * (get_or text i 0 - 48)) (unit / 10)
+read_more text i nanos unit so_far within digit =
+    let here : drop i text ≡ get_or text i 0 ∷ drop (suc i) text = drop-cons text i 0 within in
+    let value = rw (here, digit) at so_far.value in
+    let rest = rw (here, digit) at so_far.rest in
+    let range : IsInRange 48 57 (get_or text i 0) = is_digit_told _ digit in
+    let most : unit * (get_or text i 0 - 48) ≤ unit * 9 = mul-le-mul_left unit (omega arith) in
+    record {
+      value = rw (add-one i) value;
+      rest = rw (add-one i) rest;
+      low = omega (arith, so_far.low, so_far.room);
+      room = omega (arith, so_far.low, so_far.room);
+    }
+
+pub read_stop : (text : List ℕ) (i nanos unit : ℕ) → IsRead text i nanos unit → i < length text → is_ascii_digit (get_or text i 0) ≡ false
+    → (nanos ≡ nanos_of (front_digits text)) × (drop i text ≡ past_digits text)
+read_stop text i nanos unit so_far within other =
+    let here : drop i text ≡ get_or text i 0 ∷ drop (suc i) text = drop-cons text i 0 within in
+    let value : nanos ≡ nanos_of (front_digits text) = rw (here, other) at so_far.value in
+    let rest : get_or text i 0 ∷ drop (suc i) text ≡ past_digits text = rw (here, other) at so_far.rest in
+    (value, here ∙ rest)
+
+pub read_all : (text : List ℕ) (i nanos unit : ℕ) → IsRead text i nanos unit → length text ≤ i
+    → (nanos ≡ nanos_of (front_digits text)) × ([] ≡ past_digits text)
+read_all text i nanos unit so_far end =
+    let none : drop i text ≡ [] = drop_all i text end in
+    (rw none at so_far.value, rw none at so_far.rest)
+
+add_bound : (ds : List ℕ) (n u : ℕ) → AreDigits ds → n < 1_000_000_000 → n + 10 * u ≤ 1_000_000_000 → add_digits n u ds < 1_000_000_000
+add_bound [] n u digits low room = low
+add_bound (c ∷ cs) n u digits low room =
+    let most : u * (c - 48) ≤ u * 9 = mul-le-mul_left u (omega (arith, digits.0)) in
+    add_bound cs (n + u * (c - 48)) (u / 10) digits.1 (omega arith) (omega arith)
+
+pub nanos_bound : (ds : List ℕ) → AreDigits ds → nanos_of ds < 1_000_000_000
+nanos_bound ds digits = rw (nanos_added ds digits) (add_bound ds 0 100_000_000 digits (omega arith) (omega arith))

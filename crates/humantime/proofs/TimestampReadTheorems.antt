@@ -1,0 +1,71 @@
+-- The two sides of each parser's answer, and the laws of reading.
+use Rattle.std.proofs.Common.{◌≡◌, ℕ, List, refl, sym, ap, ◌∙◌}
+use Rattle.std.specs.Prelude.{◌↔◌, ℤ, pos, Bool, true, false, Option, Some, None, Result, Ok, Err, if◌then◌else◌}
+use Rattle.humantime.specs.declared.date.error.TimestampError.{TimestampError}
+use Rattle.humantime.specs.Timestamps.{Fields, IsWeak, IsStrict, moment_of, IsWeakMoment, IsStrictMoment}
+use Rattle.humantime.specs.TimestampChecks.{is_complete, weak_checks, strict_checks, first_failed}
+use Rattle.humantime.specs.TimestampReading.{fields_of, answer, weak_answer}
+use Rattle.humantime.specs.TimestampLaws.{OneTimestamp, StrictMomentIsWeak}
+use Rattle.humantime.proofs.TimestampCheckLemmas.{passes_from, passes_none}
+use Rattle.humantime.proofs.TimestampShownLemmas.{fields_weak}
+use Rattle.humantime.proofs.TimestampPassLemmas.{weak_fields}
+use Rattle.humantime.proofs.TimestampStrictLemmas.{strict_is_weak, strict_complete, complete_strict}
+
+-- an answer is a moment exactly where no check failed
+answer_told : (o : Option TimestampError) (n : ℕ) (t : ℤ) → answer o n ≡ Ok t → (o ≡ None) × (t ≡ pos n)
+answer_told None n t h = (refl, cc)
+answer_told (Some e) n t h = absurd (cc)
+
+answer_none : (o : Option TimestampError) (n : ℕ) → o ≡ None → answer o n ≡ Ok (pos n)
+answer_none o n h = rw h refl
+
+pub weak_moment : (b : List ℕ) (r : Result ℤ TimestampError) → r ≡ weak_answer b → (t : ℤ) → (r ≡ Ok t) ↔ IsWeakMoment b t
+weak_moment b r is t = (
+  (λ h. let p = answer_told (first_failed (weak_checks b)) (moment_of (fields_of b)) t (sym is ∙ h) in
+      (fields_of b, fields_weak b (passes_from b p.0), p.1)),
+  (λ m. let p = weak_fields b m.0 m.1 in
+      is ∙ answer_none (first_failed (weak_checks b)) (moment_of (fields_of b)) (passes_none b p.0)
+      ∙ ap Ok (ap (λ (f : Fields). pos (moment_of f)) (sym p.1) ∙ sym m.2)),
+)
+
+pub one_weak : (b : List ℕ) → OneTimestamp (weak_checks b) (IsWeak b)
+one_weak b = (
+  ((λ m. passes_none b (weak_fields b m.0 m.1).0), (λ h. (fields_of b, fields_weak b (passes_from b h)))),
+  (λ f g v w. (weak_fields b f v).1 ∙ sym (weak_fields b g w).1),
+)
+
+-- a text that is not complete has no strict moment
+pub refused_value : (b : List ℕ) (e : TimestampError) → is_complete b ≡ false → (t : ℤ) → (Err e ≡ Ok t) ↔ IsStrictMoment b t
+refused_value b e other t = (
+  (λ h. absurd (cc)),
+  (λ m. let whole : is_complete b ≡ true = strict_complete b m.0 m.1 in absurd (let no : ⊥ = cc in no)),
+)
+
+pub strict_value : (b : List ℕ) (r : Result ℤ TimestampError) → is_complete b ≡ true → (t : ℤ) → ((r ≡ Ok t) ↔ IsWeakMoment b t) → (r ≡ Ok t) ↔ IsStrictMoment b t
+strict_value b r whole t weak = (
+  (λ h. let m = weak.0 h in (m.0, complete_strict b m.0 whole m.1, m.2)),
+  (λ m. weak.1 (m.0, m.1.weak, m.2)),
+)
+
+pub strict_error : (b : List ℕ) (r : Result ℤ TimestampError) → is_complete b ≡ true → (e : TimestampError)
+    → ((r ≡ Err e) ↔ (first_failed (weak_checks b) ≡ Some e)) → (r ≡ Err e) ↔ (first_failed (strict_checks b) ≡ Some e)
+strict_error b r whole e weak = rw whole weak
+
+complete_from : (t : Bool) (e : TimestampError) (rest : Option TimestampError) → (if t then rest else Some e) ≡ None → (t ≡ true) × (rest ≡ None)
+complete_from true e rest h = (refl, h)
+complete_from false e rest h = absurd (cc)
+
+pub one_strict : (b : List ℕ) → OneTimestamp (strict_checks b) (IsStrict b)
+one_strict b = (
+  (
+    (λ m. let whole : is_complete b ≡ true = strict_complete b m.0 m.1 in rw whole (passes_none b (weak_fields b m.0 m.1.weak).0)),
+    (λ h. let p = complete_from (is_complete b) _ _ h in (fields_of b, complete_strict b (fields_of b) p.0 (fields_weak b (passes_from b p.1)))),
+  ),
+  (λ f g v w. (weak_fields b f v.weak).1 ∙ sym (weak_fields b g w.weak).1),
+)
+
+pub strict_moment_is_weak : (b : List ℕ) → StrictMomentIsWeak b
+strict_moment_is_weak b t = (
+  (λ m. let p = (strict_is_weak b m.0).0 m.1 in ((m.0, p.0, m.2), p.1)),
+  (λ p. (p.0.0, (strict_is_weak b p.0.0).1 (p.0.1, p.1), p.0.2)),
+)

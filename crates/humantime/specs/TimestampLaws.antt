@@ -1,0 +1,24 @@
+-- The laws of timestamps.
+use Rattle.std.specs.Prelude.{◌≡◌, ◌↔◌, ℕ, ℤ, Bool, List, slice_index, None, IsTrue}
+use Rattle.std.specs.Str.{byte}
+use Rattle.humantime.specs.declared.date.error.TimestampError.{TimestampError}
+use Rattle.humantime.specs.Timestamps.{Fields, IsWeak, IsStrict, IsWeakMoment, IsStrictMoment}
+use Rattle.humantime.specs.TimestampChecks.{ends_in_zone, first_failed}
+
+-- some parts are shown exactly where no check fails, and then no others
+abbrev pub OneTimestamp : List (Bool × TimestampError) → (Fields → Type 0) → Type 0
+OneTimestamp checks IsShown =
+    (((f : Fields) × IsShown f) ↔ (first_failed checks ≡ None))
+    × ((f g : Fields) → IsShown f → IsShown g → f ≡ g)
+
+-- a `T` between date and time, and `Z` or `+00:00` at the end
+abbrev pub IsMarked : List ℕ → Type 0
+IsMarked b = (slice_index b 10 ≡ byte "T") × IsTrue (ends_in_zone b)
+
+-- a text in strict form is one in weak form with these marks
+abbrev pub StrictIsWeak : List ℕ → Type 0
+StrictIsWeak b = (f : Fields) → IsStrict b f ↔ (IsWeak b f × IsMarked b)
+
+-- and its moment is the same
+abbrev pub StrictMomentIsWeak : List ℕ → Type 0
+StrictMomentIsWeak b = (t : ℤ) → IsStrictMoment b t ↔ (IsWeakMoment b t × IsMarked b)

@@ -1,0 +1,210 @@
+//! The parsers of timestamps.
+
+ghost use Rattle.std.specs.Prelude.{◌≡◌, ◌+◌, ◌^◌, ◌<◌, ◌≤◌, ◌↔◌, length, IsTrue, IsSome, IfSome, IfOk, Ok, Err, Some, ℤ};
+ghost use Rattle.humantime.specs.declared.date.error.TimestampError.{TimestampError};
+ghost use Rattle.humantime.specs.Times.{nanos_per_second};
+ghost use Rattle.humantime.specs.Timestamps.{nanos_of, seconds_of, IsWeakMoment, IsStrictMoment};
+ghost use Rattle.humantime.specs.TimestampChecks.{first_failed, weak_checks, strict_checks};
+ghost use Rattle.humantime.specs.TimestampChecks as TimestampChecks;
+ghost use Rattle.humantime.specs.TimestampReading as TimestampReading;
+
+use crate::calendar::{Date, day_number};
+use crate::date::error::TimestampError;
+use crate::turns::Turns;
+use crate::value::SystemTime;
+
+#[cfg(test)]
+mod tests;
+
+/// The moment that the text shows, in the weak form of a timestamp.
+///
+/// Date and time stand apart by `T` or a space, and the zone may be left out: nothing, `Z` and `+00:00` all
+/// mean the zone of Greenwich. A fraction of a second may have any number of digits, none too; those past the
+/// ninth are cut. Second 60 is read as 59. The text is looked at as bytes.
+///
+/// The error is that of the first check that fails: at least 19 bytes, then the signs in their places
+/// (`InvalidFormat`), the digits between them (`InvalidDigit`), a date of 1970 to 9999 and a time of day
+/// (`OutOfRange`), and the end (`InvalidFormat`, and after a point `InvalidDigit`). The rule is the crate's,
+/// after RFC 3339.
+///
+/// ```text
+/// parse_rfc3339_weak("2018-02-14 00:28:07")
+/// ```
+pub fn parse_rfc3339_weak(s: &str) -> Result<SystemTime, TimestampError>
+    ensures value { (t : ℤ) → (result ≡ Ok t) ↔ IsWeakMoment s.now t }
+    ensures error { (e : TimestampError) → (result ≡ Err e) ↔ (first_failed (weak_checks s.now) ≡ Some e) }
+{
+    read_timestamp(s.as_bytes())
+}
+
+/// The moment that the text shows, in the strict form of a timestamp.
+///
+/// It is the weak form with a `T` between date and time, and with `Z` or `+00:00` at the end. A text without
+/// these, or of less than 20 bytes, is `InvalidFormat`; any other text is answered as by the weak parser.
+/// RFC 3339 has this form; the crate takes no other zone, and no small letters.
+///
+/// ```text
+/// parse_rfc3339("2018-02-14T00:28:07Z")
+/// ```
+pub fn parse_rfc3339(s: &str) -> Result<SystemTime, TimestampError>
+    ensures value { (t : ℤ) → (result ≡ Ok t) ↔ IsStrictMoment s.now t }
+    ensures error { (e : TimestampError) → (result ≡ Err e) ↔ (first_failed (strict_checks s.now) ≡ Some e) }
+{
+    if !is_complete(s.as_bytes()) {
+        return Err(TimestampError::InvalidFormat);
+    }
+    parse_rfc3339_weak(s)
+}
+
+// At least 20 bytes, a `T` and a zone.
+#[tactic(auto, unfolding(crate::specs::TimestampChecks::is_complete))]
+fn is_complete(b: &[u8]) -> bool
+    ensures { result ≡ TimestampChecks.is_complete b.now }
+{
+    b.len() >= 20 && b[10] == b'T' && (b.ends_with(b"Z") || b.ends_with(b"+00:00"))
+}
+
+// The moment, or the error of the first check that fails.
+fn read_timestamp(b: &[u8]) -> Result<SystemTime, TimestampError>
+    ensures { result ≡ TimestampReading.weak_answer b.now }
+{
+    if b.len() < 19 || !has_signs(b) {
+        return Err(TimestampError::InvalidFormat);
+    }
+    if !has_digits(b) {
+        return Err(TimestampError::InvalidDigit);
+    }
+    let Some(secs) = read_seconds(b) else {
+        return Err(TimestampError::OutOfRange);
+    };
+    let nanos = read_end(b)?;
+    Ok(SystemTime::since_epoch(secs, nanos))
+}
+
+// The signs between the numbers.
+#[tactic(auto, unfolding(crate::specs::TimestampChecks::has_signs))]
+fn has_signs(b: &[u8]) -> bool
+    requires { 19 ≤ length b.now }
+    ensures { result ≡ TimestampChecks.has_signs b.now }
+{
+    b[4] == b'-'
+        && b[7] == b'-'
+        && (b[10] == b'T' || b[10] == b' ')
+        && b[13] == b':'
+        && b[16] == b':'
+}
+
+// Digits in all places between the signs.
+#[tactic(auto, unfolding(crate::specs::TimestampChecks::has_digits))]
+fn has_digits(b: &[u8]) -> bool
+    requires { 19 ≤ length b.now }
+    ensures { result ≡ TimestampChecks.has_digits b.now }
+{
+    has_two(b, 0)
+        && has_two(b, 2)
+        && has_two(b, 5)
+        && has_two(b, 8)
+        && has_two(b, 11)
+        && has_two(b, 14)
+        && has_two(b, 17)
+}
+
+// Two digits from this place on.
+#[tactic(auto, unfolding(crate::specs::TimestampChecks::has_two))]
+fn has_two(b: &[u8], at: usize) -> bool
+    requires { at + 1 < length b.now }
+    ensures { result ≡ TimestampChecks.has_two b.now at }
+{
+    b[at].is_ascii_digit() && b[at + 1].is_ascii_digit()
+}
+
+// The number that two digits show.
+#[tactic(auto, using(crate::proofs::TimestampPlaceLemmas::two_at_is), unfolding(crate::specs::TimestampChecks::has_two))]
+fn two_at(b: &[u8], at: usize) -> u32
+    requires room { at + 1 < length b.now }
+    requires digits { IsTrue (TimestampChecks.has_two b.now at) }
+    ensures value { result ≡ TimestampChecks.two_at b.now at }
+    ensures bound { result < 100 }
+{
+    (b[at] - b'0') as u32 * 10 + (b[at + 1] - b'0') as u32
+}
+
+// The seconds from 1970 to the date and the time, where there are such.
+#[tactic(auto, using(crate::proofs::TimestampPlaceLemmas::in_range_told, crate::proofs::TimestampPlaceLemmas::in_range_from), unfolding(crate::specs::TimestampChecks::has_digits))]
+fn read_seconds(b: &[u8]) -> Option<u64>
+    requires room { 19 ≤ length b.now }
+    requires digits { IsTrue (TimestampChecks.has_digits b.now) }
+    ensures range { IsSome result ↔ IsTrue (TimestampChecks.in_range b.now) }
+    ensures value { IfSome result (λ n. n ≡ seconds_of (TimestampReading.fields_of b.now)) }
+    ensures bound { IfSome result (λ n. n < 2 ^ 63) }
+{
+    let date = Date {
+        year: two_at(b, 0) * 100 + two_at(b, 2),
+        month: two_at(b, 5),
+        day: two_at(b, 8),
+    };
+    let hour = two_at(b, 11);
+    let minute = two_at(b, 14);
+    let second = two_at(b, 17);
+    let days = day_number(date, &mut Turns::new())?;
+    if hour > 23 || minute > 59 || second > 60 {
+        return None;
+    }
+    let time = hour * 3_600 + minute * 60 + second.min(59);
+    Some(days as u64 * 86_400 + time as u64)
+}
+
+// The nanoseconds, where the end is right.
+#[tactic(auto, using(crate::proofs::TimestampFractionLemmas::nanos_none), unfolding(crate::specs::TimestampChecks::ends_whole, crate::specs::TimestampChecks::ends_fraction))]
+fn read_end(b: &[u8]) -> Result<u32, TimestampError>
+    requires { 19 ≤ length b.now }
+    ensures value { result ≡ TimestampReading.end_answer b.now }
+    ensures bound { IfOk result (λ n. n < nanos_per_second) }
+{
+    if has_point(b) {
+        let (nanos, rest) = read_fraction(&b[20..]);
+        if is_zone(rest) {
+            Ok(nanos)
+        } else {
+            Err(TimestampError::InvalidDigit)
+        }
+    } else if is_zone(&b[19..]) {
+        Ok(0)
+    } else {
+        Err(TimestampError::InvalidFormat)
+    }
+}
+
+// A point after date and time.
+fn has_point(b: &[u8]) -> bool
+    ensures value { result ≡ TimestampChecks.has_point b.now }
+    ensures room { IsTrue result → 19 < length b.now }
+{
+    b.len() > 19 && b[19] == b'.'
+}
+
+// Nothing, `Z` or `+00:00`.
+fn is_zone(b: &[u8]) -> bool
+    ensures { result ≡ TimestampChecks.is_zone b.now }
+{
+    b.is_empty() || b == b"Z".as_slice() || b == b"+00:00".as_slice()
+}
+
+// The nanoseconds of the digits at the front, cut to nine of them, and what stands after them.
+#[tactic(auto, using(crate::proofs::TimestampFractionLemmas::read_none, crate::proofs::TimestampFractionLemmas::read_more, crate::proofs::TimestampFractionLemmas::read_stop, crate::proofs::TimestampFractionLemmas::read_all))]
+fn read_fraction(rest: &[u8]) -> (u32, &[u8])
+    ensures value { result.0 ≡ nanos_of (TimestampReading.front_digits rest.now) }
+    ensures bound { result.0 < nanos_per_second }
+    ensures rest { result.1.now ≡ TimestampChecks.past_digits rest.now }
+{
+    let mut nanos = 0;
+    let mut unit = 100_000_000;
+    for (i, c) in rest.iter().enumerate() {
+        if !c.is_ascii_digit() {
+            return (nanos, &rest[i..]);
+        }
+        nanos += unit * (*c - b'0') as u32;
+        unit /= 10;
+    }
+    (nanos, b"")
+}
