@@ -1,5 +1,5 @@
 -- The first fault of a text that isn't accepted.
-use Rattle.std.specs.Prelude.{◌≡◌, ◌≢◌, ◌⊎◌, ℕ, ◌<◌, ◌≤◌, Bool, true, false, List, [], ◌∷◌, ◌++◌, length, Option, Some, None, IsSome, if◌then◌else◌}
+use Rattle.std.specs.Prelude.{◌≡◌, ◌≢◌, ◌⊎◌, ℕ, ◌<◌, ◌≤◌, true, false, List, [], ◌∷◌, ◌++◌, length, Option, Some, None, IsSome, if◌then◌else◌}
 use Rattle.std.specs.List.{AllByRecursion}
 use Rattle.humantime.specs.Characters.{is_ws, is_digit, is_letter, is_numeric, is_point, begins, ends, leading, past, digits, decimal_value, offset_of, byte_length, u64_max}
 use Rattle.humantime.specs.Units.{scale_of_word}

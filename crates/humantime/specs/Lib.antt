@@ -11,12 +11,16 @@ pub mod Errors
 pub mod Faults
 pub mod Keys
 pub mod Lending
+pub mod Lents
 pub mod March
 pub mod Moment
 pub mod MomentLemmas
 pub mod Reading
+pub mod Remaining
 pub mod Scales
+pub mod Scanning
 pub mod Slices
+pub mod SpanParts
 pub mod Spans
 pub mod Times
 pub mod TimestampChecks

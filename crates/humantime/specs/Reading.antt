@@ -1,6 +1,6 @@
 -- Reading from left to right: the plain reference, which private functions meet. Theorems of proofs/ tie it to the
 -- definitions of Spans and Faults.
-use Rattle.std.specs.Prelude.{◌≡◌, ℕ, zero, suc, ◌≤◌, ◌+◌, ◌*◌, ◌/◌, ◌%◌, ◌^◌, ◌||◌, ◌&&◌, ◌==◌, bytes_eq, Bool, true, false, List, [], ◌∷◌, length, Option, Some, None, Result, Ok, Err, nat_lt, nat_le, if◌then◌else◌}
+use Rattle.std.specs.Prelude.{ℕ, zero, suc, ◌+◌, ◌*◌, ◌/◌, ◌%◌, ◌^◌, ◌||◌, ◌&&◌, ◌==◌, bytes_eq, Bool, true, false, List, [], ◌∷◌, length, Option, Some, None, Result, Ok, Err, nat_lt, nat_le, if◌then◌else◌}
 use Rattle.humantime.specs.Times.{nanos_per_second}
 use Rattle.humantime.specs.Characters.{is_ws, is_digit, is_numeric, past, decimal_value, offset_of, byte_length, u64_max}
 use Rattle.humantime.specs.Units.{Scale, scale_of_word}

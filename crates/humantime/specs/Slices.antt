@@ -1,6 +1,6 @@
 -- What a span lends of its text.
-use Rattle.std.specs.Prelude.{◌≡◌, ℕ, zero, suc, Bool, true, List, [], ◌∷◌, ◌++◌, length, Option, Some, None, option_map, Result, Ok, Err, if◌then◌else◌}
-use Rattle.humantime.specs.Characters.{is_ws, is_digit, is_letter, is_numeric, begins, ends, past, digits, decimal_value, offset_of}
+use Rattle.std.specs.Prelude.{◌≡◌, ℕ, true, List, [], ◌∷◌, ◌++◌, Option, Some, None, Result, Ok, Err}
+use Rattle.humantime.specs.Characters.{is_ws, is_digit, is_letter, is_numeric, begins, ends, digits, decimal_value, offset_of}
 use Rattle.humantime.specs.Spans.{Span, Only}
 use Rattle.humantime.specs.Faults.{Fault, Items}
 

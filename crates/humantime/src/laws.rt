@@ -2,8 +2,10 @@
 
 mod days;
 mod durations;
+mod spans;
 mod timestamps;
 
 pub use days::one_date;
 pub use durations::{one_outcome, spans_decide};
+pub use spans::spans_tile;
 pub use timestamps::{one_stamp_outcome, printed_moment_reads, strict_is_weak};

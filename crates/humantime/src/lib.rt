@@ -16,6 +16,6 @@ pub use date::{
     Rfc3339Timestamp, TimestampError, format_rfc3339, format_rfc3339_micros, format_rfc3339_millis,
     format_rfc3339_nanos, format_rfc3339_seconds, parse_rfc3339, parse_rfc3339_weak,
 };
-pub use duration::DurationError;
+pub use duration::{DurationError, Span, SpanIter, parse_duration, spans};
 pub use turns::Turns;
 pub use value::{StdDuration, SystemTime, SystemTimeError, UNIX_EPOCH};

@@ -1,0 +1,134 @@
+-- The list of what the items of a text lend.
+use Rattle.std.proofs.Common.{◌≡◌, ◌≢◌, ◌++◌, IsUtf8, chars, encode_utf8_all, arith, bytes_eq, ℕ, zero, suc, true, List, [], ◌∷◌, length, Option, Some, None, Result, Ok, Err, refl, sym, ap, ap₂, subst, subst₂, ◌∙◌}
+use Rattle.std.proofs.lemmas.Bool.{false_from_ne_true}
+use Rattle.std.proofs.lemmas.Str.{encodes-chars, encode_ascii}
+use Rattle.std.proofs.lemmas.Slice.Eq.{bytes_eq-Decides}
+use Rattle.humantime.specs.Characters.{is_ws, is_digit, begins, leading, past, offset_of}
+use Rattle.humantime.specs.Spans.{Span}
+use Rattle.humantime.specs.Faults.{Fault, NumberExpected, NumberOverflow, Empty, span_of}
+use Rattle.humantime.specs.Reading.{stop_at, read, items_from, items, with_span, add_span, settle, outcome}
+use Rattle.humantime.specs.Slices.{Lent, LendsEach, stopping, items_of, AreItems, OneListOfSlices}
+use Rattle.humantime.specs.Lending.{lent_at, lends, left_at, lent_items, judged}
+use Rattle.humantime.proofs.Found.{items_found}
+use Rattle.humantime.proofs.LendingSteps.{Turn, No_digit, Faulty, Spanned, turn, lends-expected, lends-stopped, lends-fine}
+use Rattle.humantime.proofs.ReadSteps.{read-expected, read-stopped, read-fine}
+use Rattle.humantime.proofs.Runs.{leading-past, Only-leading}
+use Rattle.humantime.proofs.SlicesTold.{one_each}
+use Rattle.humantime.proofs.SpanSlices.{is_lent}
+use Rattle.humantime.proofs.Spelled.{next_of}
+use Rattle.humantime.proofs.Told.{items_told}
+use Rattle.humantime.proofs.Trimming.{spelled_at}
+
+-- items and spans of one text add up to the same after every sum
+abbrev Agree : List (Result Lent Fault) → List Span × Option Fault → Type 0
+Agree items found = (t : ℕ) → judged t items ≡ settle t found.0 found.1
+
+agree_cons : (text rest : List ℕ) (items : List (Result Lent Fault)) (found : List Span × Option Fault) → Agree items found → Agree (Ok (lent_at text rest) ∷ items) (with_span (span_of rest) found)
+unfolding judged settle
+agree_cons text rest items found h = λ t.
+    ap (λ (s : Span). elim (add_span t s) as (λ _. Result ℕ Fault) [ None ↦ Err NumberOverflow | Some u ↦ judged u items ]) (spelled_at text rest)
+    ∙ by (add_span t (span_of rest))
+  where
+    by : (o : Option ℕ) → ◌≡◌ {A = Result ℕ Fault} (elim o [ None ↦ Err NumberOverflow | Some u ↦ judged u items ]) (elim o [ None ↦ Err NumberOverflow | Some u ↦ settle u found.0 found.1 ])
+    by None = refl
+    by (Some u) = h u
+
+agree_read : (n : ℕ) (text rest : List ℕ) → Agree (lends n text rest) (read n text rest)
+unfolding judged settle lends read
+agree_read zero text rest = λ t. refl
+agree_read (suc n) text [] = λ t. refl
+agree_read (suc n) text (c ∷ cs) = by (turn text (c ∷ cs)) (agree_read n text (next_of (c ∷ cs)))
+  where
+    by : Turn text (c ∷ cs) → Agree (lends n text (next_of (c ∷ cs))) (read n text (next_of (c ∷ cs))) → Agree (lends (suc n) text (c ∷ cs)) (read (suc n) text (c ∷ cs))
+    by (No_digit d) h = subst₂ Agree (sym (lends-expected n text (c ∷ cs) (λ e. cc) d)) (sym (read-expected n text (c ∷ cs) (λ e. cc) d)) (λ t. refl)
+    by (Faulty e d s) h = subst₂ Agree (sym (lends-stopped n text (c ∷ cs) e d s)) (sym (read-stopped n text (c ∷ cs) e d s)) (λ t. refl)
+    by (Spanned d s) h = subst₂ Agree (sym (lends-fine n text (c ∷ cs) d s)) (sym (read-fine n text (c ∷ cs) d s)) (agree_cons text (c ∷ cs) _ _ h)
+
+-- what the items add up to is what the spans that they spell add up to
+pub judged_read : (n t : ℕ) (text rest : List ℕ) → judged t (lends n text rest) ≡ settle t (read n text rest).0 (read n text rest).1
+judged_read n t text rest = agree_read n text rest t
+
+judged_from : (text rest : List ℕ) → judged 0 (left_at true text rest) ≡ settle 0 (items_from text rest).0 (items_from text rest).1
+unfolding judged settle
+judged_from text [] = refl
+judged_from text (c ∷ cs) = judged_read (length (c ∷ cs)) 0 text (c ∷ cs)
+
+pub judged_items : (text : List ℕ) → judged 0 (lent_items text) ≡ settle 0 (items text).0 (items text).1
+unfolding items
+judged_items text = judged_from text (past is_ws text)
+
+-- unless the text is `0`, what its items add up to is its outcome
+pub judged_outcome : (text : List ℕ) → text ≢ 48 ∷ [] → judged 0 (lent_items text) ≡ outcome text
+unfolding outcome
+judged_outcome text n = rw (false_from_ne_true (bytes_eq text (48 ∷ [])) (λ e. n ((bytes_eq-Decides text (48 ∷ [])).0 e))) (judged_items text)
+
+-- a text whose one character is `0` is that one byte
+pub not_zero : (bs : List ℕ) → IsUtf8 bs → (bs ≡ 48 ∷ [] → ⊥) → chars bs ≢ 48 ∷ []
+not_zero bs u n e = n (sym (encodes-chars bs u) ∙ ap encode_utf8_all e ∙ ap (λ (l : List ℕ). l ++ []) (encode_ascii 48 (omega arith)))
+
+-- The items from a rest on are what the spans found there lend, and then what stops them.
+record LentFrom (text rest : List ℕ) (items : List (Result Lent Fault)) (found : List Span × Option Fault) : Type 0 where
+  xs : List Lent
+  end : List ℕ
+  are : items ≡ items_of xs found.1
+  each : LendsEach text rest found.0 xs end
+
+lent_none : (text rest : List ℕ) (stop : Option Fault) → LentFrom text rest (stopping stop) ([], stop)
+lent_none text rest stop = record { xs = []; end = rest; are = refl; each = refl }
+
+lent_cons : (text rest : List ℕ) (items : List (Result Lent Fault)) (found : List Span × Option Fault) → begins is_digit rest ≡ true → stop_at text rest ≡ None
+    → LentFrom text (next_of rest) items found → LentFrom text rest (Ok (lent_at text rest) ∷ items) (with_span (span_of rest) found)
+lent_cons text rest items found b s f = record {
+  xs = lent_at text rest ∷ f.xs;
+  end = f.end;
+  are = ap (λ (l : List (Result Lent Fault)). Ok (lent_at text rest) ∷ l) f.are;
+  each = (next_of rest, is_lent text rest b s, f.each);
+}
+
+lent_from : (n : ℕ) (text rest : List ℕ) → LentFrom text rest (lends n text rest) (read n text rest)
+unfolding lends read
+lent_from zero text rest = lent_none text rest None
+lent_from (suc n) text [] = lent_none text [] None
+lent_from (suc n) text (c ∷ cs) = by (turn text (c ∷ cs)) (lent_from n text (next_of (c ∷ cs)))
+  where
+    by : Turn text (c ∷ cs) → LentFrom text (next_of (c ∷ cs)) (lends n text (next_of (c ∷ cs))) (read n text (next_of (c ∷ cs))) → LentFrom text (c ∷ cs) (lends (suc n) text (c ∷ cs)) (read (suc n) text (c ∷ cs))
+    by (No_digit d) f = subst₂ (LentFrom text (c ∷ cs)) (sym (lends-expected n text (c ∷ cs) (λ e. cc) d)) (sym (read-expected n text (c ∷ cs) (λ e. cc) d)) (lent_none text (c ∷ cs) (Some (NumberExpected (offset_of text (c ∷ cs)))))
+    by (Faulty e d s) f = subst₂ (LentFrom text (c ∷ cs)) (sym (lends-stopped n text (c ∷ cs) e d s)) (sym (read-stopped n text (c ∷ cs) e d s)) (lent_none text (c ∷ cs) (Some e))
+    by (Spanned d s) f = subst₂ (LentFrom text (c ∷ cs)) (sym (lends-fine n text (c ∷ cs) d s)) (sym (read-fine n text (c ∷ cs) d s)) (lent_cons text (c ∷ cs) _ _ d s f)
+
+lent_all : (text rest : List ℕ) → LentFrom text rest (left_at true text rest) (items_from text rest)
+lent_all text [] = lent_none text [] (Some Empty)
+lent_all text (c ∷ cs) = lent_from (length (c ∷ cs)) text (c ∷ cs)
+
+pub are_items : (text : List ℕ) → AreItems text (lent_items text)
+unfolding items
+are_items text =
+    let f = lent_all text (past is_ws text) in
+    record {
+      spans = (items text).0;
+      stop = (items text).1;
+      xs = f.xs;
+      space = leading is_ws text;
+      rest = past is_ws text;
+      end = f.end;
+      items = items_found text;
+      are = f.are;
+      whole = sym (leading-past is_ws text);
+      only_space = Only-leading is_ws text;
+      each = f.each;
+    }
+
+-- two lists that lend the same spans and stop alike are one
+same_lent : (text : List ℕ) (xs ys : List (Result Lent Fault)) (a : AreItems text xs) (b : AreItems text ys) → a.spans ≡ b.spans → a.stop ≡ b.stop → xs ≡ ys
+same_lent text xs ys a b p q =
+    let each : LendsEach text b.rest a.spans b.xs b.end = subst (λ (ss : List Span). LendsEach text b.rest ss b.xs b.end) (sym p) b.each in
+    a.are ∙ ap₂ items_of (one_each text a.space b.space a.rest b.rest a.spans a.xs b.xs a.end b.end a.only_space b.only_space (sym a.whole ∙ b.whole) a.each each) q ∙ sym b.are
+
+pub one_lent : (text : List ℕ) (others : List (Result Lent Fault)) → AreItems text others → others ≡ lent_items text
+one_lent text others o =
+    let a = are_items text in
+    let both : ◌≡◌ {A = List Span × Option Fault} (o.spans, o.stop) (a.spans, a.stop) = sym (items_told text o.spans o.stop o.items) ∙ items_told text a.spans a.stop a.items in
+    same_lent text others (lent_items text) o a (ap (λ (p : List Span × Option Fault). p.0) both) (ap (λ (p : List Span × Option Fault). p.1) both)
+
+pub one_list_of_slices : (text : List ℕ) → OneListOfSlices text
+one_list_of_slices text = (lent_items text, are_items text, one_lent text)

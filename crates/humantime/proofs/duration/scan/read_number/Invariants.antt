@@ -1,0 +1,13 @@
+use Rattle.std.proofs.Common.{length}
+use Rattle.std.specs.Str.{chars}
+use denote.Text.{Utf8}
+use denote.Shadow.{shadow}
+use Rattle.humantime.specs.Scanning.{IsTail}
+use Rattle.humantime.proofs.NumberLemmas.{IsAt}
+use Rattle.humantime.proofs.duration.scan.read_number.Given as goal
+
+abbrev pub invariant-loop-c : goal.invariant-loop-c
+invariant-loop-c l = record { text : shadow (Utf8 l.rest); at : IsAt (chars l.fn.text) l.value (chars l.rest); tail : IsTail l.fn.text l.rest }
+
+abbrev pub decreases-loop-c : goal.decreases-loop-c
+decreases-loop-c l = length (chars l.rest)

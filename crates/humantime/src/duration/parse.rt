@@ -1,0 +1,78 @@
+//! Whole texts.
+
+ghost use Rattle.std.specs.Prelude.{◌≡◌, ◌↔◌, ℕ, chars, IsOkAnd, IsErrAnd, IfErr};
+ghost use Rattle.humantime.specs.Errors.{fault_of, seen, NamesUnit};
+ghost use Rattle.humantime.specs.Faults.{Fault, HasFault};
+ghost use Rattle.humantime.specs.Lending.{judged, lent_items};
+ghost use Rattle.humantime.specs.Reading.{outcome};
+ghost use Rattle.humantime.specs.Remaining.{items_left, text_of};
+ghost use Rattle.humantime.specs.Slices.{AreItems};
+ghost use Rattle.humantime.specs.Spans.{Accepted};
+
+use crate::duration::error::DurationError;
+use crate::duration::iter::SpanIter;
+use crate::duration::sum::add_amount;
+use crate::value::StdDuration;
+
+/// The spans of a text from left to right, and then the fault at which they stop, if there is one.
+///
+/// Its errors are those of [`parse_duration`] save the one of a sum that is too large: what the spans add
+/// up to is not asked. After an error, and after the end, it gives `None` for good. The text `0` has no
+/// unit here.
+///
+/// ```text
+/// spans("2h 37min x") gives the span of "2h", that of "37min", and NumberExpected(9)
+/// ```
+#[inline(always)]
+pub fn spans(s: &str) -> SpanIter<'_>
+    ensures items { AreItems (chars s.now) (items_left result) }
+    ensures text { text_of result ≡ s.now }
+{
+    SpanIter::new(s)
+}
+
+/// The sum of the spans of a text.
+#[inline(always)]
+fn sum_of<'a>(text: &'a str) -> Result<StdDuration, DurationError<'a>>
+    ensures value { seen (λ d. d) result ≡ judged 0 (lent_items (chars text.now)) }
+    ensures unit { IfErr result (NamesUnit text.now) }
+{
+    let mut total = StdDuration::ZERO;
+    let mut items = spans(text);
+    while let Some(item) = items.step() {
+        let span = item?;
+        match add_amount(total, span.amount) {
+            Some(sum) => total = sum,
+            None => return Err(DurationError::NumberOverflow),
+        }
+    }
+    Ok(total)
+}
+
+fn outcome_of<'a>(text: &'a str) -> Result<StdDuration, DurationError<'a>>
+    ensures value { seen (λ d. d) result ≡ outcome (chars text.now) }
+    ensures unit { IfErr result (NamesUnit text.now) }
+{
+    if text == "0" {
+        return Ok(StdDuration::ZERO);
+    }
+    sum_of(text)
+}
+
+/// The duration that a text spells, or else its first fault.
+///
+/// A text is one span or more: a number, perhaps a fraction, and a unit, as in `2h 37min` or `1.5d`. White
+/// space may stand between digits and before and after each part. The spans are added up; `0` alone is
+/// zero. The error says what stands where the text goes wrong first, with offsets in bytes; the unit that
+/// it names is lent from the text.
+///
+/// ```text
+/// parse_duration("2h 37min") == Ok(StdDuration::from_secs(9420))
+/// ```
+pub fn parse_duration(s: &str) -> Result<StdDuration, DurationError<'_>>
+    ensures value { (v : ℕ) → (IsOkAnd result (λ d. d ≡ v) ↔ Accepted (chars s.now) v) }
+    ensures fault { (e : Fault) → (IsErrAnd result (λ x. fault_of x ≡ e) ↔ HasFault (chars s.now) e) }
+    ensures unit { IfErr result (NamesUnit s.now) }
+{
+    outcome_of(s)
+}

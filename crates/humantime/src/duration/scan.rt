@@ -1,0 +1,130 @@
+//! Steps over a text: a character, a number, a fraction.
+
+ghost use Rattle.std.specs.Prelude.{◌≡◌, ◌≢◌, ◌++◌, [], ◌∷◌, ℕ, List, chars, option_map, encode_utf8, IfNone, IfSome, IfOk, SomeIff, ◌+◌, ◌-◌, ◌*◌, ◌≤◌};
+ghost use Rattle.humantime.specs.Characters.{IsDigit, u64_max};
+ghost use Rattle.humantime.specs.Errors.{seen};
+ghost use Rattle.humantime.specs.Scales.{parts_of};
+ghost use Rattle.humantime.specs.Scanning.{IsTail, number_at, digits_at, fraction_read};
+
+use crate::duration::amount::Fraction;
+use crate::duration::class::{Class, class_of};
+use crate::duration::error::DurationError;
+
+/// How many digits a fraction may have.
+const FRACTION_DIGITS: u32 = 19;
+
+/// A number up to this one can take another digit.
+const TENTH_OF_MAX: u64 = 1_844_674_407_370_955_161;
+
+/// The first character of a text that begins with no ASCII character.
+#[cold]
+#[inline(never)]
+fn first_wide(text: &str) -> Option<(char, &str)>
+    ensures none { IfNone result (chars text.now ≡ []) }
+    ensures chars { IfSome result (λ x. chars text.now ≡ x.0 ∷ chars x.1.now) }
+    ensures tail { IfSome result (λ x. IsTail text.now x.1.now) }
+{
+    let mut all = text.chars();
+    match all.next() {
+        None => None,
+        Some(c) => Some((c, all.as_str())),
+    }
+}
+
+/// The first character, and the text after it.
+#[inline(always)]
+pub(crate) fn first(text: &str) -> Option<(char, &str)>
+    ensures none { IfNone result (chars text.now ≡ []) }
+    ensures chars { IfSome result (λ x. chars text.now ≡ x.0 ∷ chars x.1.now) }
+    ensures tail { IfSome result (λ x. IsTail text.now x.1.now) }
+{
+    let bytes = text.as_bytes();
+    if bytes.is_empty() {
+        return None;
+    }
+    let byte = bytes[0];
+    if byte < 0x80 {
+        return Some((byte as char, &text[1..]));
+    }
+    first_wide(text)
+}
+
+/// Ten times the value and the digit, or `None` where that is too large.
+#[inline(always)]
+fn push_digit(value: u64, c: char) -> Option<u64>
+    requires { IsDigit c }
+    ensures { SomeIff result (value * 10 + (c - 48) ≤ u64_max) (value * 10 + (c - 48)) }
+{
+    let digit = c as u64 - 48;
+    if value < TENTH_OF_MAX {
+        return Some(value * 10 + digit);
+    }
+    value.checked_mul(10)?.checked_add(digit)
+}
+
+/// The number at the front of the text, and what follows it.
+#[inline(always)]
+pub(crate) fn read_number<'a>(text: &'a str) -> Result<(u64, &'a str), DurationError<'a>>
+    ensures value { seen (λ x. (x.0, chars x.1.now)) result ≡ number_at (chars text.now) }
+    ensures tail { IfOk result (λ x. IsTail text.now x.1.now) }
+{
+    let mut value = 0;
+    let mut rest = text;
+    while let Some((c, after)) = first(rest) {
+        match class_of(c) {
+            Class::Digit => match push_digit(value, c) {
+                Some(more) => value = more,
+                None => return Err(DurationError::NumberOverflow),
+            },
+            Class::White => {}
+            Class::Letter | Class::Point | Class::Other => return Ok((value, rest)),
+        }
+        rest = after;
+    }
+    Ok((value, rest))
+}
+
+/// The digits at the front of the text, at most 19, and what follows them.
+#[inline(always)]
+fn read_digits<'a>(text: &'a str) -> Result<(Fraction, &'a str), DurationError<'a>>
+    ensures value { seen (λ x. (parts_of x.0, chars x.1.now)) result ≡ digits_at (chars text.now) }
+    ensures tail { IfOk result (λ x. IsTail text.now x.1.now) }
+{
+    let mut value = 0;
+    let mut count = 0;
+    let mut rest = text;
+    while let Some((c, after)) = first(rest) {
+        match class_of(c) {
+            Class::Digit => {
+                if count == FRACTION_DIGITS {
+                    return Err(DurationError::NumberOverflow);
+                }
+                value = value * 10 + (c as u64 - 48);
+                count += 1;
+            }
+            Class::White => {}
+            Class::Letter | Class::Point | Class::Other => {
+                return Ok((Fraction { value, count }, rest));
+            }
+        }
+        rest = after;
+    }
+    Ok((Fraction { value, count }, rest))
+}
+
+/// The fraction at the front of the text, if there is one, and what follows it.
+#[inline(always)]
+pub(crate) fn read_fraction<'a>(
+    text: &'a str,
+) -> Result<(Option<Fraction>, &'a str), DurationError<'a>>
+    ensures value { seen (λ x. (option_map parts_of x.0, chars x.1.now)) result ≡ fraction_read (chars text.now) }
+    ensures tail { IfOk result (λ x. IsTail text.now x.1.now) }
+{
+    if let Some((c, after)) = first(text) {
+        if class_of(c) == Class::Point {
+            let (digits, rest) = read_digits(after)?;
+            return Ok((Some(digits), rest));
+        }
+    }
+    Ok((None, text))
+}
