@@ -1,10 +1,9 @@
 -- One step over the items of a text, and their sum so far.
 use Rattle.std.proofs.Common.{◌≡◌, ◌≢◌, ℕ, zero, suc, ◌≤◌, Bool, true, false, List, [], ◌∷◌, length, Option, Some, None, Result, Ok, Err, if◌then◌else◌, refl, sym, ap, ◌∙◌, arith}
-use Rattle.std.specs.Iterator.{MakesProgress, item_count}
 use Rattle.humantime.specs.declared.duration.class.Class.{Class}
 use Rattle.humantime.specs.declared.duration.class.Class.TheVariants.{White, Digit, Letter, Point, Other}
 use Rattle.humantime.specs.Characters.{class_of, digit, is_ws, is_digit, begins, past, offset_of}
-use Rattle.humantime.specs.Faults.{Fault, NumberExpected, NumberOverflow, Empty, after_word}
+use Rattle.humantime.specs.Faults.{Fault, NumberExpected, NumberOverflow, after_word}
 use Rattle.humantime.specs.Reading.{stop_at, add_span}
 use Rattle.humantime.specs.Slices.{Lent}
 use Rattle.humantime.specs.Lending.{lent_at, lends, left_at, spelled, judged}
@@ -37,17 +36,17 @@ lends_left (suc n) text [] h = refl
 lends_left n text (c ∷ cs) h = lends_enough n (suc (length cs)) text (c ∷ cs) h (omega arith)
 
 -- what is left at a rest: its span and what is left after it, or the fault at which it stops, or that no number is there
-pub left_fine : (first : Bool) (text rest : List ℕ) → begins is_digit rest ≡ true → stop_at text rest ≡ None → left_at first text rest ≡ Ok (lent_at text rest) ∷ left_at false text (next_of rest)
+left_fine : (first : Bool) (text rest : List ℕ) → begins is_digit rest ≡ true → stop_at text rest ≡ None → left_at first text rest ≡ Ok (lent_at text rest) ∷ left_at false text (next_of rest)
 left_fine first text [] d s = cc
 left_fine first text (c ∷ cs) d s =
     let less = next_smaller (c ∷ cs) d in
     lends-fine (length cs) text (c ∷ cs) d s ∙ ap (λ (xs : List (Result Lent Fault)). Ok (lent_at text (c ∷ cs)) ∷ xs) (lends_left (length cs) text (next_of (c ∷ cs)) (omega arith))
 
-pub left_stopped : (first : Bool) (text rest : List ℕ) (e : Fault) → begins is_digit rest ≡ true → stop_at text rest ≡ Some e → left_at first text rest ≡ Err e ∷ []
+left_stopped : (first : Bool) (text rest : List ℕ) (e : Fault) → begins is_digit rest ≡ true → stop_at text rest ≡ Some e → left_at first text rest ≡ Err e ∷ []
 left_stopped first text [] e d s = cc
 left_stopped first text (c ∷ cs) e d s = lends-stopped (length cs) text (c ∷ cs) e d s
 
-pub left_expected : (first : Bool) (text rest : List ℕ) → rest ≢ [] → begins is_digit rest ≡ false → left_at first text rest ≡ Err (NumberExpected (offset_of text rest)) ∷ []
+left_expected : (first : Bool) (text rest : List ℕ) → rest ≢ [] → begins is_digit rest ≡ false → left_at first text rest ≡ Err (NumberExpected (offset_of text rest)) ∷ []
 left_expected first text [] n d = absurd (n refl)
 left_expected first text (c ∷ cs) n d = lends-expected (length cs) text (c ∷ cs) n d
 
@@ -65,12 +64,9 @@ begins_no_digit c rest cs k n e r = (λ z. cc, ap (begins is_digit) r ∙ ap dig
     by Point n = refl
     by Other n = refl
 
--- the items that are left, unless they have ended, where only white space was passed by before
+-- the items that are left before a text whose white space is still to be passed, unless they have ended
 abbrev pub left : Bool → Bool → List ℕ → List ℕ → List (Result Lent Fault)
 left ended first text before = if ended then [] else left_at first text (past is_ws before)
-
-pub left_ended : (ended first : Bool) (text before : List ℕ) → ended ≡ true → left ended first text before ≡ []
-left_ended ended first text before e = rw e
 
 pub step_fine : (ended first first' : Bool) (text before rest next : List ℕ) (x : Lent)
     → ended ≡ false → rest ≡ past is_ws before → begins is_digit rest ≡ true → stop_at text rest ≡ None → x ≡ lent_at text rest → next ≡ after_word rest → first' ≡ false
@@ -83,13 +79,6 @@ step_stopped ended first text before rest f e r d s = rw (e, ← r) (left_stoppe
 
 pub step_expected : (ended first : Bool) (text before rest : List ℕ) (n : ℕ) → ended ≡ false → rest ≡ past is_ws before → rest ≢ [] → begins is_digit rest ≡ false → n ≡ offset_of text rest → left ended first text before ≡ Err (NumberExpected n) ∷ []
 step_expected ended first text before rest n e r s d p = rw (e, ← r, p) (left_expected first text rest s d)
-
--- nothing is left at the end: an error where nothing was read before, else no item
-pub step_empty : (ended first : Bool) (text before rest : List ℕ) → ended ≡ false → rest ≡ past is_ws before → rest ≡ [] → first ≡ true → left ended first text before ≡ Err Empty ∷ []
-step_empty ended first text before rest e r s f = rw (e, ← r, s, f)
-
-pub step_done : (ended first : Bool) (text before rest : List ℕ) → ended ≡ false → rest ≡ past is_ws before → rest ≡ [] → first ≡ false → left ended first text before ≡ []
-step_done ended first text before rest e r s f = rw (e, ← r, s, f)
 
 -- what the items so far add up to, with the next item
 pub loop_done : (t : ℕ) (xs : List (Result Lent Fault)) (g : Result ℕ Fault) → judged t xs ≡ g → xs ≡ [] → Ok t ≡ g
@@ -113,7 +102,3 @@ unfolding judged
 loop_on t u xs more item x g h s i a =
     ap (λ (o : Option ℕ). elim o as (λ _. Result ℕ Fault) [ None ↦ Err NumberOverflow | Some u ↦ judged u more ]) a
     ∙ sym (ap (λ (y : Result Lent Fault). judged t (y ∷ more)) i) ∙ sym (ap (judged t) s) ∙ h
-
--- a step that takes one item off the list of what is left makes progress
-pub goes_on : {S A X : Type 0} (can : S → Type 0) (left : S → List X) (s t : S) (x : X) (r : A) → can t → left s ≡ x ∷ left t → MakesProgress can (item_count left) s (Some r) t
-goes_on can left s t x r c e = record { on = λ _. (c, tt, omega (arith, ap length e)); keeps = c; rests = λ f. tt }

@@ -1,22 +1,19 @@
 -- The list of what the items of a text lend.
-use Rattle.std.proofs.Common.{◌≡◌, ◌≢◌, ◌++◌, IsUtf8, chars, encode_utf8_all, arith, bytes_eq, ℕ, zero, suc, true, List, [], ◌∷◌, length, Option, Some, None, Result, Ok, Err, refl, sym, ap, ap₂, subst, subst₂, ◌∙◌}
-use Rattle.std.proofs.lemmas.Bool.{false_from_ne_true}
+use Rattle.std.proofs.Common.{◌≡◌, ◌≢◌, ◌++◌, IsUtf8, chars, encode_utf8_all, arith, ℕ, zero, suc, true, List, [], ◌∷◌, length, Option, Some, None, Result, Ok, Err, refl, sym, ap, ap₂, subst, subst₂, ◌∙◌}
 use Rattle.std.proofs.lemmas.Str.{encodes-chars, encode_ascii}
-use Rattle.std.proofs.lemmas.Slice.Eq.{bytes_eq-Decides}
 use Rattle.humantime.specs.Characters.{is_ws, is_digit, begins, leading, past, offset_of}
 use Rattle.humantime.specs.Spans.{Span}
 use Rattle.humantime.specs.Faults.{Fault, NumberExpected, NumberOverflow, Empty, span_of}
 use Rattle.humantime.specs.Reading.{stop_at, read, items_from, items, with_span, add_span, settle, outcome}
 use Rattle.humantime.specs.Slices.{Lent, LendsEach, stopping, items_of, AreItems, OneListOfSlices}
 use Rattle.humantime.specs.Lending.{lent_at, lends, left_at, lent_items, judged}
-use Rattle.humantime.proofs.Found.{items_found}
 use Rattle.humantime.proofs.LendingSteps.{Turn, No_digit, Faulty, Spanned, turn, lends-expected, lends-stopped, lends-fine}
+use Rattle.humantime.proofs.Outcomes.{items_found, items_told, outcome-items}
 use Rattle.humantime.proofs.ReadSteps.{read-expected, read-stopped, read-fine}
 use Rattle.humantime.proofs.Runs.{leading-past, Only-leading}
 use Rattle.humantime.proofs.SlicesTold.{one_each}
 use Rattle.humantime.proofs.SpanSlices.{is_lent}
 use Rattle.humantime.proofs.Spelled.{next_of}
-use Rattle.humantime.proofs.Told.{items_told}
 use Rattle.humantime.proofs.Trimming.{spelled_at}
 
 -- items and spans of one text add up to the same after every sum
@@ -59,12 +56,11 @@ judged_items text = judged_from text (past is_ws text)
 
 -- unless the text is `0`, what its items add up to is its outcome
 pub judged_outcome : (text : List ℕ) → text ≢ 48 ∷ [] → judged 0 (lent_items text) ≡ outcome text
-unfolding outcome
-judged_outcome text n = rw (false_from_ne_true (bytes_eq text (48 ∷ [])) (λ e. n ((bytes_eq-Decides text (48 ∷ [])).0 e))) (judged_items text)
+judged_outcome text some = judged_items text ∙ sym (outcome-items text some)
 
 -- a text whose one character is `0` is that one byte
-pub not_zero : (bs : List ℕ) → IsUtf8 bs → (bs ≡ 48 ∷ [] → ⊥) → chars bs ≢ 48 ∷ []
-not_zero bs u n e = n (sym (encodes-chars bs u) ∙ ap encode_utf8_all e ∙ ap (λ (l : List ℕ). l ++ []) (encode_ascii 48 (omega arith)))
+pub not_zero_chars : (bs : List ℕ) → IsUtf8 bs → (bs ≡ 48 ∷ [] → ⊥) → chars bs ≢ 48 ∷ []
+not_zero_chars bs u n e = n (sym (encodes-chars bs u) ∙ ap encode_utf8_all e ∙ ap (λ (l : List ℕ). l ++ []) (encode_ascii 48 (omega arith)))
 
 -- The items from a rest on are what the spans found there lend, and then what stops them.
 record LentFrom (text rest : List ℕ) (items : List (Result Lent Fault)) (found : List Span × Option Fault) : Type 0 where

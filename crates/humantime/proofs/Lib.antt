@@ -1,10 +1,14 @@
 mod AddingLemmas
 mod WordKeys
 pub mod CalendarLemmas
+pub mod CanonicalTexts
 pub mod Classes
+pub mod CountTexts
 pub mod DateLemmas
+pub mod DecimalLengths
 pub mod DigitLemmas
 pub mod Found
+pub mod GreatestCounts
 pub mod Iterating
 pub mod LendingSteps
 pub mod LentItems
@@ -13,6 +17,11 @@ pub mod Months
 pub mod NumberLemmas
 pub mod OneReading
 pub mod Outcomes
+pub mod PrintedDigits
+pub mod PrintedLengths
+pub mod PrintedRows
+pub mod PrintedSpans
+pub mod ReadBack
 pub mod ReadSteps
 pub mod Rooms
 pub mod Runs

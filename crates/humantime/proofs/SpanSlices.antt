@@ -14,11 +14,11 @@ use Rattle.humantime.proofs.Stopping.{Fine, Says, stop_says, some_letters}
 use Rattle.humantime.proofs.Trimming.{dropped, digits_past, digits_dropped_are, numeric_digit}
 
 -- the point with what follows it up to the word, if a point begins the text
-abbrev pub fraction_text : List ℕ → List ℕ
+abbrev fraction_text : List ℕ → List ℕ
 fraction_text [] = []
 fraction_text (c ∷ cs) = if is_point c then c ∷ leading is_numeric cs else []
 
-pub fraction_text-past : (cs : List ℕ) → cs ≡ fraction_text cs ++ past_fraction cs
+fraction_text-past : (cs : List ℕ) → cs ≡ fraction_text cs ++ past_fraction cs
 fraction_text-past [] = refl
 fraction_text-past (c ∷ cs) = by (is_point c)
   where
@@ -78,7 +78,7 @@ begins_leading p q [] b h = b
 begins_leading p q (c ∷ cs) b h = rw (h c b) b
 
 -- what stands up to the end of a word, from a first digit on, isn't empty
-pub word_front : (rest : List ℕ) → begins is_digit rest ≡ true → (front : List ℕ) × (rest ≡ front ++ after_word rest) × (0 < length front)
+word_front : (rest : List ℕ) → begins is_digit rest ≡ true → (front : List ℕ) × (rest ≡ front ++ after_word rest) × (0 < length front)
 word_front rest b =
     let number = leading is_numeric rest in
     let middle = fraction_text (after_number rest) in

@@ -14,7 +14,7 @@ use Rattle.humantime.specs.Dates.{day_of, IsDateOfDay}
 use Rattle.humantime.specs.DigitText.{nine_digits, AreDigits}
 use Rattle.humantime.specs.Timestamps.{Nothing, fraction_digits, nanos_of, written, time_text, fraction_text, zone_text, moment_of}
 use Rattle.humantime.specs.TimestampPrinted.{cut, HasPlaces, Prints, IsPrinted, IsPrintable, OnePrinted}
-use Rattle.humantime.specs.TimestampPrinting.{places, moment_kept, places_kept, fraction_of, fields_shown, IsDateTimeOf, next_date, date_of, date_time_of, printed_text}
+use Rattle.humantime.specs.TimestampPrinting.{places, moment_kept, places_kept, fraction_of, fields_shown, IsDateTimeOf, next_date, date_of, date_time_of, printed_text, moment_text}
 use Rattle.humantime.proofs.TimestampByteLemmas.{HoldsOfBytes, holds_before_zone, all_append}
 use Rattle.humantime.proofs.CalendarLemmas.{days_of_no_years, days_of_no_months}
 use Rattle.humantime.proofs.DateLemmas.{next_day, next_month, next_year}
@@ -235,7 +235,7 @@ printable_test z h = grind (arith, ints)
 -- the text that `Display` names is the printed one
 pub printed_text_is : (x : Rfc3339Timestamp) (text : List ℕ) → IsPrintable (moment_kept x) → IsPrinted (nat_abs (moment_kept x)) (places_kept x) text
     → printed_text x ≡ Some text
-unfolding printed_text
+unfolding moment_text
 printed_text_is x text h p =
     let t = nat_abs (moment_kept x) in
     let shown = shown_printed x.precision (date_time_of t) t (date_time_is t (printable_told (moment_kept x) h)) in

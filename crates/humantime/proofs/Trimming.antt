@@ -54,7 +54,7 @@ numeric_digit Letter n w = n
 numeric_digit Point n w = n
 numeric_digit Other n w = n
 
-pub no_digits : (cs : List ℕ) → Only is_ws cs → digits cs ≡ []
+no_digits : (cs : List ℕ) → Only is_ws cs → digits cs ≡ []
 no_digits [] o = refl
 no_digits (c ∷ cs) o = rw (white_no_digit (class_of c) o.0) (no_digits cs o.1)
 
@@ -69,13 +69,13 @@ digits_past (c ∷ cs) = by (is_ws c) refl (digits_past cs)
     by true e h = rw (white_no_digit (class_of c) e) h
     by false e h = refl
 
-pub digits_trimmed : (cs : List ℕ) → digits (trimmed cs) ≡ digits cs
+digits_trimmed : (cs : List ℕ) → digits (trimmed cs) ≡ digits cs
 digits_trimmed cs = digits_dropped (past is_ws cs) (trimmed cs) (dropped (past is_ws cs)) ∙ digits_past cs
 
-pub number_spelled : (rest : List ℕ) → digits (number_slice rest) ≡ number_of rest
+number_spelled : (rest : List ℕ) → digits (number_slice rest) ≡ number_of rest
 number_spelled rest = digits_dropped (leading is_numeric rest) (number_slice rest) (dropped (leading is_numeric rest))
 
-pub fraction_spelled : (after : List ℕ) → option_map digits (fraction_slice after) ≡ digits_in (fraction_at after)
+fraction_spelled : (after : List ℕ) → option_map digits (fraction_slice after) ≡ digits_in (fraction_at after)
 fraction_spelled after = by (fraction_at after)
   where
     by : (o : Option (List ℕ)) → option_map digits (option_map trimmed o) ≡ digits_in o

@@ -15,6 +15,8 @@ pub mod Lents
 pub mod March
 pub mod Moment
 pub mod MomentLemmas
+pub mod PrintedTexts
+pub mod Printing
 pub mod Reading
 pub mod Remaining
 pub mod Scales
@@ -32,3 +34,5 @@ pub mod TimestampReading
 pub mod Timestamps
 pub mod Turns
 pub mod Units
+pub mod WeakAnswers
+pub mod Writing

@@ -1,5 +1,5 @@
 -- The parts that a printer shows, and the one text of each moment.
-use Rattle.std.specs.Prelude.{◌≡◌, ℕ, zero, suc, ◌+◌, ◌*◌, ◌/◌, ◌%◌, ◌<◌, ◌≤◌, List, take, Option, Some, None, ℤ, pos, nat_abs, int_le, int_lt, nat_lt, ◌&&◌, if◌then◌else◌}
+use Rattle.std.specs.Prelude.{◌≡◌, ℕ, zero, suc, ◌+◌, ◌*◌, ◌/◌, ◌%◌, ◌<◌, ◌≤◌, List, take, Option, Some, None, ℤ, pos, nat_abs, int_le, int_lt, nat_lt, ◌&&◌, ◌==◌, if◌then◌else◌}
 use Rattle.humantime.specs.declared.calendar.Date.{Date}
 use Rattle.humantime.specs.declared.date.print.Rfc3339Timestamp.{Rfc3339Timestamp}
 use Rattle.humantime.specs.declared.date.print.DateTime.{DateTime}
@@ -8,6 +8,7 @@ use Rattle.humantime.specs.declared.date.print.Precision.TheVariants.{Seconds, M
 use Rattle.humantime.specs.Calendar.{days_in_month}
 use Rattle.humantime.specs.Dates.{IsDate, day_of}
 use Rattle.humantime.specs.DigitText.{nine_digits}
+use Rattle.humantime.specs.Moment.{nano_of}
 use Rattle.humantime.specs.Times.{nanos_per_second}
 use Rattle.humantime.specs.Timestamps.{Letter_T, Letter_Z, Fields, written}
 
@@ -84,9 +85,21 @@ date_time_of t = record {
   nanos = t % nanos_per_second;
 }
 
--- the printed text, where the moment is one of 1970 to 9999
-unfoldable pub printed_text : Rfc3339Timestamp → Option (List ℕ)
-printed_text x =
-    if int_le (pos 0) (moment_kept x) && int_lt (moment_kept x) (pos (253_402_300_800 * nanos_per_second))
-    then Some (written (fields_shown (date_time_of (nat_abs (moment_kept x))) (places_kept x)))
+-- the printed text of a moment with k digits after the second, where the moment is one of 1970 to 9999
+unfoldable pub moment_text : ℤ → ℕ → Option (List ℕ)
+moment_text t k =
+    if int_le (pos 0) t && int_lt t (pos (253_402_300_800 * nanos_per_second))
+    then Some (written (fields_shown (date_time_of (nat_abs t)) k))
     else None
+
+-- the printed text of a timestamp
+abbrev pub printed_text : Rfc3339Timestamp → Option (List ℕ)
+printed_text x = moment_text (moment_kept x) (places_kept x)
+
+-- how many digits a moment is printed with, where no number of them is asked for
+abbrev pub places_of : ℤ → ℕ
+places_of t = if nano_of t == 0 then 0 else 9
+
+-- and its text with so many
+abbrev pub shortest_text : ℤ → Option (List ℕ)
+shortest_text t = moment_text t (places_of t)

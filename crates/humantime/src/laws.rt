@@ -2,10 +2,14 @@
 
 mod days;
 mod durations;
+mod printed;
 mod spans;
 mod timestamps;
 
 pub use days::one_date;
 pub use durations::{one_outcome, spans_decide};
+pub use printed::{
+    canonical_again, printed_bounds, printed_duration_reads, printed_durations_differ,
+};
 pub use spans::spans_tile;
 pub use timestamps::{one_stamp_outcome, printed_moment_reads, strict_is_weak};

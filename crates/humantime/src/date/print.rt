@@ -1,10 +1,9 @@
 //! The printers of timestamps.
 
-ghost use Rattle.std.specs.Prelude.{◌≡◌, ◌+◌, ◌<◌, ◌≤◌, ◌↔◌, ◌==◌, IsSome, IfSome, IfNone, IsAscii, take, nat_abs, if◌then◌else◌};
-ghost use Rattle.humantime.specs.Moment.{nano_of};
+ghost use Rattle.std.specs.Prelude.{◌≡◌, ◌+◌, ◌<◌, ◌≤◌, ◌↔◌, IsSome, IfSome, IfNone, IsAscii, take, nat_abs};
 ghost use Rattle.humantime.specs.Timestamps.{written};
 ghost use Rattle.humantime.specs.TimestampPrinted.{IsPrintable, IsPrinted};
-ghost use Rattle.humantime.specs.TimestampPrinting.{places, moment_kept, places_kept, fields_shown, IsDateTimeOf, FitsPlaces};
+ghost use Rattle.humantime.specs.TimestampPrinting.{places, places_of, moment_kept, places_kept, fields_shown, IsDateTimeOf, FitsPlaces};
 
 use crate::calendar::{Date, date_of_day};
 use crate::turns::Turns;
@@ -60,7 +59,7 @@ pub struct Rfc3339Timestamp {
 /// ```
 pub fn format_rfc3339(moment: SystemTime) -> Rfc3339Timestamp
     ensures moment { moment_kept result ≡ moment }
-    ensures places { places_kept result ≡ (if nano_of moment == 0 then 0 else 9) }
+    ensures places { places_kept result ≡ places_of moment }
 {
     let precision = if moment.subsec_nanos() == 0 {
         Precision::Seconds

@@ -1,0 +1,63 @@
+-- What holds of printed texts, for every duration and every text.
+use Rattle.std.proofs.Common.{◌≡◌, ◌↔◌, ◌⊎◌, inl, inr, ℕ, ◌+◌, ◌/◌, ◌≤◌, List, [], ◌∷◌, refl, sym, ap, subst, ◌∙◌, arith}
+use Rattle.std.specs.Prelude.{chars, Result, Ok}
+use Rattle.std.proofs.lemmas.List.Sums.{sum_by-cons}
+use Rattle.humantime.specs.Times.{nanos_per_second}
+use Rattle.humantime.specs.Characters.{u64_max}
+use Rattle.humantime.specs.Spans.{Addition, nanos_of, total, additions, Accepted}
+use Rattle.humantime.specs.Faults.{Fault}
+use Rattle.humantime.specs.Reading.{outcome}
+use Rattle.humantime.specs.Counts.{Canon}
+use Rattle.humantime.specs.Canonical.{IsCanonicalOf}
+use Rattle.humantime.specs.Printing.{duration_text}
+use Rattle.humantime.specs.PrintedTexts.{HasOneText, TextsTellApart, HasCanonicalText, KeepsItsValue, KeepsItsText}
+use Rattle.humantime.proofs.Rooms.{RoomFrom, room_from_all}
+use Rattle.humantime.proofs.Outcomes.{outcome_accepted}
+use Rattle.humantime.proofs.GreatestCounts.{text_is_canon, canon_is_text, one_canon}
+use Rattle.humantime.proofs.PrintedSpans.{canon_reads}
+
+ok_same : (v w : ℕ) → ◌≡◌ {A = Result ℕ Fault} (Ok v) (Ok w) → v ≡ w
+ok_same v w e = cc
+
+-- a text is accepted with at most one value
+same_read : (text : List ℕ) (u v : ℕ) → Accepted text u → Accepted text v → u ≡ v
+same_read text u v a b = ok_same u v (sym (outcome_accepted text u a) ∙ outcome_accepted text v b)
+
+room_fits : (t : ℕ) (xs : List Addition) → t / nanos_per_second ≤ u64_max → RoomFrom t xs → (t + total xs) / nanos_per_second ≤ u64_max
+room_fits t [] h room = omega arith
+room_fits t (x ∷ xs) h room =
+    let e : t + total (x ∷ xs) ≡ (t + nanos_of x) + total xs = omega (arith, sum_by-cons nanos_of x xs) in
+    rw e (room_fits (t + nanos_of x) xs room.0.1 room.1)
+
+-- what is accepted is a duration
+accepted_fits : (text : List ℕ) (v : ℕ) → Accepted text v → v / nanos_per_second ≤ u64_max
+accepted_fits text v (inl zero) = rw zero.1 (omega arith)
+accepted_fits text v (inr h) =
+    let xs = additions h.0 in
+    let e : 0 + total xs ≡ v = omega (arith, h.3) in
+    subst (λ n. n / nanos_per_second ≤ u64_max) e (room_fits 0 xs (omega arith) (room_from_all xs h.2.room))
+
+pub one_text : (d : ℕ) → HasOneText d
+one_text d = (duration_text d, text_is_canon d, canon_is_text d)
+
+pub texts_tell_apart : (a b : ℕ) → a / nanos_per_second ≤ u64_max → b / nanos_per_second ≤ u64_max → TextsTellApart a b
+texts_tell_apart a b ha hb s t left right = (
+  (λ same. same_read (chars t) a b (subst (λ l. Accepted (chars l) a) same (canon_reads a ha s left)) (canon_reads b hb t right)),
+  (λ same. one_canon b s t (subst (λ d. Canon d s) same left) right),
+)
+
+pub has_canonical_text : (s : List ℕ) → HasCanonicalText s
+has_canonical_text s v accepted = (duration_text v, (v, accepted, text_is_canon v))
+
+-- the canonical text of what is accepted is accepted with the same value
+canonical_read : (s t : List ℕ) (h : IsCanonicalOf s t) → Accepted (chars t) h.0
+canonical_read s t h = canon_reads h.0 (accepted_fits (chars s) h.0 h.1) t h.2
+
+pub keeps_its_value : (s : List ℕ) → KeepsItsValue s
+keeps_its_value s v t accepted h = subst (λ d. Accepted (chars t) d) (same_read (chars s) h.0 v h.1 accepted) (canonical_read s t h)
+
+pub keeps_its_text : (s : List ℕ) → KeepsItsText s
+keeps_its_text s t u h = (
+  (λ k. one_canon h.0 u t (subst (λ d. Canon d u) (same_read (chars t) k.0 h.0 k.1 (canonical_read s t h)) k.2) h.2),
+  (λ same. (h.0, canonical_read s t h, subst (Canon h.0) (sym same) h.2)),
+)

@@ -1,0 +1,10 @@
+use Rattle.std.proofs.Common.{◌≡◌, sym, ap, subst, ◌∙◌}
+use Rattle.humantime.specs.Counts.{Canon}
+use Rattle.humantime.specs.Printing.{duration_text}
+use Rattle.humantime.proofs.GreatestCounts.{text_is_canon}
+use Rattle.humantime.proofs.duration.print.FormattedDuration.text.Goals as goal
+
+pub returns : goal.returns
+returns c =
+    let kept : c.self.inside.value ≡ c.args.self.now = cc in
+    subst (Canon c.args.self.now) (sym (c.text.ensures ∙ c.write_duration.ensures.written ∙ ap duration_text kept)) (text_is_canon c.args.self.now)

@@ -1,0 +1,146 @@
+ghost use Rattle.std.specs.Prelude.{⊤};
+
+use super::{canonical, format_duration};
+use crate::duration::error::DurationError;
+use crate::duration::parse::parse_duration;
+use crate::value::StdDuration;
+use std::fmt::{self, Write};
+use std::test::Fail;
+
+const LONGEST: &str = "100000000000years 11months 29days 23h 59m 59s 999ms 999us 999ns";
+
+/// Keeps what it is asked to take and counts the requests, or refuses each of them.
+#[derive(Drop)]
+struct Memory {
+    bytes: [u8; 80],
+    len: usize,
+    requests: u32,
+    refuses: bool,
+}
+
+impl Memory {
+    fn new(refuses: bool) -> Memory {
+        Memory {
+            bytes: [0; 80],
+            len: 0,
+            requests: 0,
+            refuses,
+        }
+    }
+
+    fn holds(&self, text: &str) -> bool {
+        self.len == text.len() && self.bytes.starts_with(text.as_bytes())
+    }
+}
+
+impl fmt::Write for Memory {
+    ghost write_str_gives = { λ s bs t. ⊤ };
+
+    fn write_str(&mut self, text: &str) -> fmt::Result {
+        self.requests = self.requests.saturating_add(1);
+        let end = self.len.saturating_add(text.len());
+        if self.refuses || end > 80 {
+            return Err(fmt::Error);
+        }
+        let bytes = &mut self.bytes[..];
+        bytes[self.len..end].copy_from_slice(text.as_bytes());
+        self.len = end;
+        Ok(())
+    }
+}
+
+#[test]
+fn a_duration_is_printed_in_its_greatest_counts(rt: HostRuntime) -> Result<(), Fail> {
+    let cases = [
+        (31_560_192, 0, "1year 43m 12s"),
+        (
+            u64::MAX,
+            999_999_999,
+            "584542046090years 7months 15days 17h 5m 3s 999ms 999us 999ns",
+        ),
+        (0, 0, "0s"),
+        (3_155_760_000_031_522_175, 999_999_999, LONGEST),
+        (0, 32_000_000, "32ms"),
+        (0, 123_000, "123us"),
+        (63_115_320, 12_000, "2years 2m 12us"),
+        (1_296_122, 0, "15days 2m 2s"),
+        (907_200, 0, "10days 12h"),
+        (15_778_800, 0, "5months 30days 10h 12m"),
+    ];
+    for (secs, nanos, text) in cases {
+        let value = StdDuration::checked_new(secs, nanos).ok_or("no duration")?;
+        let printed = format_duration(value);
+        assert_eq!(rt; printed.text(&mut [0; 64]), text);
+        assert_eq!(rt; *printed.get_ref(), value, "at {text}");
+        assert_eq!(rt; printed.clone()?.text(&mut [b'x'; 64]), text, "copied");
+    }
+    assert_eq!(rt; LONGEST.len(), 63);
+    Ok(())
+}
+
+#[test]
+fn width_and_fill_change_nothing(rt: HostRuntime) {
+    let printed = format_duration(StdDuration::from_secs(1_296_122));
+    let mut sink = Memory::new(false);
+    assert!(rt; write!(sink, "{printed:>80}").is_ok());
+    assert!(rt; sink.holds("15days 2m 2s"));
+    assert!(rt; write!(sink, "{printed:*<80}").is_ok());
+    assert!(rt; sink.holds("15days 2m 2s15days 2m 2s"));
+}
+
+#[test]
+fn a_sink_is_asked_once(rt: HostRuntime) {
+    let printed = format_duration(StdDuration::from_secs(1_296_122));
+    let mut sink = Memory::new(false);
+    assert_eq!(rt; write!(sink, "{printed}"), Ok(()));
+    assert_eq!(rt; sink.requests, 1);
+    let mut refusing = Memory::new(true);
+    assert_eq!(rt; write!(refusing, "{printed}"), Err(fmt::Error));
+    assert_eq!(rt; refusing.requests, 1);
+    assert_eq!(rt; refusing.len, 0);
+}
+
+#[test]
+fn each_second_of_a_day_reads_back(rt: HostRuntime) {
+    let mut buf = [0; 64];
+    for secs in 0..86_400 {
+        let value = StdDuration::from_secs(secs);
+        assert_eq!(rt;
+            parse_duration(format_duration(value).text(&mut buf)),
+            Ok(value),
+            "at {secs}"
+        );
+    }
+}
+
+#[test]
+fn a_canonical_text_is_printed_anew(rt: HostRuntime) {
+    let cases = [
+        ("2h 37min", "2h 37m"),
+        ("2years 2min 12us", "2years 2m 12us"),
+        ("12M", "1year 43m 12s"),
+        ("0", "0s"),
+        (LONGEST, LONGEST),
+    ];
+    for (text, printed) in cases {
+        assert_eq!(rt; canonical(text, &mut [0; 64]), Ok(printed));
+    }
+}
+
+#[test]
+fn an_error_leaves_the_buffer_and_outlives_its_loan(rt: HostRuntime) {
+    let mut buf = [b'-'; 64];
+    let error = canonical("10nights", &mut buf).err();
+    assert_eq!(rt; buf.as_slice(), [b'-'; 64].as_slice());
+    assert_eq!(rt; canonical("", &mut buf), Err(DurationError::Empty));
+    assert_eq!(rt; buf.as_slice(), [b'-'; 64].as_slice());
+    buf[0] = b'x';
+    assert_eq!(rt; canonical("17nanos", &mut buf), Ok("17ns"));
+    let nights = DurationError::UnknownUnit {
+        start: 2,
+        end: 8,
+        unit: "nights",
+        value: 10,
+    };
+    assert_eq!(rt; error, Some(nights));
+}

@@ -1,0 +1,57 @@
+//! Laws of printed durations.
+
+ghost use Rattle.humantime.specs.Counts.{Canon};
+ghost use Rattle.humantime.specs.Printing.{duration_text};
+ghost use Rattle.humantime.specs.PrintedTexts.{HasOneText, ReadsBack, TextsTellApart, HasShortText, HasSmallCounts, HasCanonicalText, KeepsItsValue, KeepsItsText};
+
+use crate::value::StdDuration;
+
+/// A duration has one canonical text, which is the text that is printed, and which is accepted with the duration.
+///
+/// ```text
+/// 2h 37m is the one text of 9420 seconds, and is read as 9420 seconds
+/// ```
+pub fn printed_duration_reads(d: StdDuration)
+    ensures one { HasOneText d }
+    ensures printed { Canon d (duration_text d) }
+    ensures reads { ReadsBack d }
+{
+    // The proof needs that the seconds fit a `u64`.
+    let _seconds = d.as_secs();
+}
+
+/// Two durations have equal canonical texts exactly where they are equal.
+///
+/// ```text
+/// 1m and 60s are not both canonical texts
+/// ```
+pub fn printed_durations_differ(a: StdDuration, b: StdDuration)
+    ensures { TextsTellApart a b }
+{
+    // The proof needs that the seconds fit a `u64`.
+    let _seconds = (a.as_secs(), b.as_secs());
+}
+
+/// A canonical text has at most 63 bytes; its months are at most 11, its days at most 30.
+///
+/// ```text
+/// 100000000000years 11months 29days 23h 59m 59s 999ms 999us 999ns has 63 bytes
+/// ```
+pub fn printed_bounds(d: StdDuration)
+    ensures length { HasShortText d }
+    ensures counts { HasSmallCounts d }
+{
+    // The proof needs that the seconds fit a `u64`.
+    let _seconds = d.as_secs();
+}
+
+/// What is accepted has a canonical text, which is accepted with the same duration, and is its own canonical text.
+///
+/// ```text
+/// the canonical text of 120min is 2h, and the canonical text of 2h is 2h
+/// ```
+pub fn canonical_again(s: &str)
+    ensures some { HasCanonicalText s.now }
+    ensures value { KeepsItsValue s.now }
+    ensures again { KeepsItsText s.now }
+{}
