@@ -7,6 +7,8 @@ mod calendar;
 mod date;
 mod duration;
 pub mod laws;
+#[cfg(test)]
+mod sinks;
 mod turns;
 mod unit;
 mod value;

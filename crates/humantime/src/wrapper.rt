@@ -6,11 +6,14 @@ ghost use Rattle.humantime.specs.Faults.{Fault, HasFault};
 ghost use Rattle.humantime.specs.Errors.{fault_of, NamesUnit};
 
 use crate::date::{TimestampError, format_rfc3339, parse_rfc3339_weak};
-use crate::duration::{DurationError, parse_duration};
+use crate::duration::{DurationError, format_duration, parse_duration};
 use crate::value::{StdDuration, SystemTime};
 use std::fmt;
 use std::marker::Model;
 use std::str::FromStr;
+
+#[cfg(test)]
+mod tests;
 
 /// A duration that is read by `from_str` and printed by `Display`, for a settings field or an option.
 ///
@@ -85,6 +88,20 @@ impl From<Duration> for StdDuration {
 
     fn from(duration: Duration) -> StdDuration {
         duration.0
+    }
+}
+
+/// As `Display` of what `format_duration` makes.
+impl fmt::Display for Duration {
+    ghost use Rattle.std.specs.Prelude.{Some};
+    ghost use Rattle.humantime.specs.Printing.{duration_text};
+
+    ghost output = { λ d. Some (duration_text d) };
+
+    ghost styled_output = { λ d _. Some (duration_text d) };
+
+    fn fmt<W: fmt::Write>(&self, f: &mut fmt::Formatter<W>) -> fmt::Result {
+        format_duration(self.0).fmt(f)
     }
 }
 

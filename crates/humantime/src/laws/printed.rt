@@ -15,10 +15,7 @@ pub fn printed_duration_reads(d: StdDuration)
     ensures one { HasOneText d }
     ensures printed { Canon d (duration_text d) }
     ensures reads { ReadsBack d }
-{
-    // The proof needs that the seconds fit a `u64`.
-    let _seconds = d.as_secs();
-}
+{}
 
 /// Two durations have equal canonical texts exactly where they are equal.
 ///
@@ -27,10 +24,7 @@ pub fn printed_duration_reads(d: StdDuration)
 /// ```
 pub fn printed_durations_differ(a: StdDuration, b: StdDuration)
     ensures { TextsTellApart a b }
-{
-    // The proof needs that the seconds fit a `u64`.
-    let _seconds = (a.as_secs(), b.as_secs());
-}
+{}
 
 /// A canonical text has at most 63 bytes; its months are at most 11, its days at most 30.
 ///
@@ -40,10 +34,7 @@ pub fn printed_durations_differ(a: StdDuration, b: StdDuration)
 pub fn printed_bounds(d: StdDuration)
     ensures length { HasShortText d }
     ensures counts { HasSmallCounts d }
-{
-    // The proof needs that the seconds fit a `u64`.
-    let _seconds = d.as_secs();
-}
+{}
 
 /// What is accepted has a canonical text, which is accepted with the same duration, and is its own canonical text.
 ///
