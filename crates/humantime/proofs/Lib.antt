@@ -36,6 +36,7 @@ pub mod TimestampByteLemmas
 pub mod TimestampCheckLemmas
 pub mod TimestampExitLemmas
 pub mod TimestampFractionLemmas
+pub mod TimestampPairLemmas
 pub mod TimestampPassLemmas
 pub mod TimestampPlaceLemmas
 pub mod TimestampPrintedLemmas

@@ -13,6 +13,7 @@ pub mod Keys
 pub mod Lending
 pub mod Lents
 pub mod March
+pub mod Messages
 pub mod Moment
 pub mod MomentLemmas
 pub mod PrintedTexts

@@ -7,7 +7,6 @@ mod calendar;
 mod date;
 mod duration;
 pub mod laws;
-#[cfg(test)]
 mod sinks;
 mod turns;
 mod unit;

@@ -1,7 +1,10 @@
 //! The printers of timestamps.
 
-ghost use Rattle.std.specs.Prelude.{◌≡◌, ◌+◌, ◌<◌, ◌≤◌, ◌↔◌, IsSome, IfSome, IfNone, IsAscii, take, nat_abs};
-ghost use Rattle.humantime.specs.Timestamps.{written};
+ghost use Rattle.std.specs.Prelude.{◌≡◌, ◌+◌, ◌<◌, ◌≤◌, ◌↔◌, ◌==◌, IsSome, IfSome, IfNone, IsAscii, ◌++◌, take, drop, slice_set, codes, nat_abs, if◌then◌else◌};
+ghost use Rattle.std.specs.Str.{byte};
+ghost use Rattle.humantime.specs.DigitText.{two_digits};
+ghost use Rattle.humantime.specs.Moment.{nano_of};
+ghost use Rattle.humantime.specs.Timestamps.{time_text, written};
 ghost use Rattle.humantime.specs.TimestampPrinted.{IsPrintable, IsPrinted};
 ghost use Rattle.humantime.specs.TimestampPrinting.{places, places_of, moment_kept, places_kept, fields_shown, IsDateTimeOf, FitsPlaces};
 
@@ -15,6 +18,10 @@ mod tests;
 
 // The first second of the year 10000.
 const END: i64 = 253_402_300_800;
+
+// The numbers below 100, in two digits each.
+static PAIRS: [u8; 200] =
+    *b"00010203040506070809101112131415161718192021222324252627282930313233343536373839404142434445464748495051525354555657585960616263646566676869707172737475767778798081828384858687888990919293949596979899";
 
 // How many digits the fraction of a second has: none, three, six or nine.
 #[derive(Clone, Copy, PartialEq, Eq, Debug)]
@@ -226,68 +233,58 @@ fn write_date_time(x: DateTime, precision: Precision, buf: &mut [u8; 30]) -> usi
     ensures fits { result ≤ 30 }
     ensures text { take result buf.new ≡ written (fields_shown x (places precision)) }
 {
-    let DateTime {
-        date,
-        hour,
-        minute,
-        second,
-        nanos,
-    } = x;
-    *buf = [
-        digit(date.year / 1000),
-        digit(date.year / 100 % 10),
-        digit(date.year / 10 % 10),
-        digit(date.year % 10),
-        b'-',
-        digit(date.month / 10),
-        digit(date.month % 10),
-        b'-',
-        digit(date.day / 10),
-        digit(date.day % 10),
-        b'T',
-        digit(hour / 10),
-        digit(hour % 10),
-        b':',
-        digit(minute / 10),
-        digit(minute % 10),
-        b':',
-        digit(second / 10),
-        digit(second % 10),
-        b'.',
-        digit(nanos / 100_000_000),
-        digit(nanos / 10_000_000 % 10),
-        digit(nanos / 1_000_000 % 10),
-        digit(nanos / 100_000 % 10),
-        digit(nanos / 10_000 % 10),
-        digit(nanos / 1_000 % 10),
-        digit(nanos / 100 % 10),
-        digit(nanos / 10 % 10),
-        digit(nanos % 10),
-        b'Z',
-    ];
+    write_time(x, buf);
+    if precision == Precision::Seconds {
+        return end_at(buf, 19);
+    }
+    put_two(buf, 20, x.nanos / 10_000_000);
+    put_two(buf, 22, x.nanos / 100_000 % 100);
+    put_two(buf, 24, x.nanos / 1_000 % 100);
+    put_two(buf, 26, x.nanos / 10 % 100);
+    buf[28] = b'0' + (x.nanos % 10) as u8;
     match precision {
-        Precision::Seconds => {
-            buf[19] = b'Z';
-            20
-        }
-        Precision::Millis => {
-            buf[23] = b'Z';
-            24
-        }
-        Precision::Micros => {
-            buf[26] = b'Z';
-            27
-        }
-        Precision::Nanos => 30,
+        Precision::Millis => end_at(buf, 23),
+        Precision::Micros => end_at(buf, 26),
+        _ => end_at(buf, 29),
     }
 }
 
-// The digit for a number below ten.
-fn digit(n: u32) -> u8
-    requires { n < 10 }
-    ensures { result ≡ 48 + n }
+// Writes `YYYY-MM-DDTHH:MM:SS` and a point to the front of the buffer.
+#[inline(always)]
+fn write_time(x: DateTime, buf: &mut [u8; 30])
+    requires { FitsPlaces x }
+    ensures { buf.new ≡ time_text (fields_shown x 0) ++ codes ".nnnnnnnnnz" }
 {
-    b'0' + n as u8
+    *buf = *b"yyyy-mm-ddThh:mm:ss.nnnnnnnnnz";
+    put_two(buf, 0, x.date.year / 100);
+    put_two(buf, 2, x.date.year % 100);
+    put_two(buf, 5, x.date.month);
+    put_two(buf, 8, x.date.day);
+    put_two(buf, 11, x.hour);
+    put_two(buf, 14, x.minute);
+    put_two(buf, 17, x.second);
+}
+
+// Writes a number below 100 as two digits at this place.
+#[inline(always)]
+fn put_two(buf: &mut [u8; 30], at: usize, n: u32)
+    requires place { at + 2 ≤ 30 }
+    requires small { n < 100 }
+    ensures { buf.new ≡ take at buf.old ++ two_digits n ++ drop (at + 2) buf.old }
+{
+    let pair = 2 * n as usize;
+    buf[at..at + 2].copy_from_slice(&PAIRS[pair..pair + 2]);
+}
+
+// Writes a `Z` at this place, and answers the length of the text that it ends.
+#[inline(always)]
+fn end_at(buf: &mut [u8; 30], at: usize) -> usize
+    requires { at < 30 }
+    ensures length { result ≡ at + 1 }
+    ensures bytes { buf.new ≡ slice_set buf.old at (byte "Z") }
+{
+    buf[at] = b'Z';
+    at + 1
 }
 
 // ASCII text at the front of a buffer.

@@ -1,6 +1,24 @@
 //! What is wrong with a text that is no duration.
 
+ghost use Rattle.std.specs.Prelude.{◌≡◌, Some, chars, encode_utf8_all};
+ghost use Rattle.std.specs.Fmt.{DisplaysOnOk};
+ghost use Rattle.humantime.specs.Errors.{fault_of};
+ghost use Rattle.humantime.specs.Messages.{message_of, unit_message};
+
+use std::error::Error;
+use std::fmt;
+
+#[cfg(test)]
+mod tests;
+
 /// Why a text is no duration. Offsets are in bytes.
+///
+/// Its message is the crate's, with the unit as it stands. Two errors are equal where their variants and
+/// fields are, and units where their texts are.
+///
+/// ```text
+/// DurationError::NumberExpected(13) is printed as `expected number at 13`
+/// ```
 #[derive(Clone, Copy, PartialEq, Debug)]
 pub enum DurationError<'a> {
     /// At this offset stands a character that has no place in a span.
@@ -22,4 +40,36 @@ pub enum DurationError<'a> {
     NumberOverflow,
     /// There is nothing, or only white space.
     Empty,
+}
+
+impl fmt::Display for DurationError<'_> {
+    ghost output = { λ e. Some (message_of (fault_of e)) };
+
+    fn fmt<W: fmt::Write>(&self, f: &mut fmt::Formatter<W>) -> fmt::Result {
+        match self {
+            DurationError::InvalidCharacter(at) => write!(f, "invalid character at {at}"),
+            DurationError::NumberExpected(at) => write!(f, "expected number at {at}"),
+            DurationError::UnknownUnit { unit, value, .. } => write_unit(unit, *value, f),
+            DurationError::NumberOverflow => f.write_str(
+                "number is too large or cannot be represented without a lack of precision (values below 1ns are not supported)",
+            ),
+            DurationError::Empty => f.write_str("value was empty"),
+        }
+    }
+}
+
+impl Error for DurationError<'_> {}
+
+/// Writes what is said of a unit that is missing or no unit's word. `value` is the number before it.
+fn write_unit<W: fmt::Write>(unit: &str, value: u64, f: &mut fmt::Formatter<W>) -> fmt::Result
+    ensures writes { DisplaysOnOk W.write_str_gives f.old result (Some (unit_message unit.now value)) f.new }
+    ensures characters { encode_utf8_all (chars unit.now) ≡ unit.now }
+{
+    if unit.is_empty() {
+        return write!(f, "time unit needed, for example {value}sec or {value}ms");
+    }
+    write!(
+        f,
+        "unknown time unit \"{unit}\", supported units: ns, us/µs, ms, sec, min, hours, days, weeks, months, years (and few variations)"
+    )
 }

@@ -164,3 +164,65 @@ fn one_broken_byte(rt: HostRuntime) -> Result<(), Fail> {
     }
     Ok(())
 }
+
+// The same in a longer text, for both parsers.
+#[test]
+fn one_broken_byte_of_a_longer_text(rt: HostRuntime) -> Result<(), Fail> {
+    for at in 0..27 {
+        let mut bytes = *b"2016-12-31T23:59:60.5+00:00";
+        bytes[at] = b'x';
+        let text = str::from_utf8(&bytes)?;
+        let (strict, weak) = match at {
+            4 | 7 | 10 | 13 | 16 | 19 => (
+                TimestampError::InvalidFormat,
+                TimestampError::InvalidFormat,
+            ),
+            21 | 22 | 23 | 24 | 25 | 26 => (
+                TimestampError::InvalidFormat,
+                TimestampError::InvalidDigit,
+            ),
+            _ => (TimestampError::InvalidDigit, TimestampError::InvalidDigit),
+        };
+        assert_eq!(rt; parse_rfc3339(text), Err(strict), "{text}");
+        assert_eq!(rt; parse_rfc3339_weak(text), Err(weak), "{text}");
+    }
+    Ok(())
+}
+
+#[test]
+fn each_front_of_a_text(rt: HostRuntime) -> Result<(), Fail> {
+    let bytes = *b"2018-02-14T00:28:07.25+00:00";
+    for len in 0..29 {
+        let text = str::from_utf8(&bytes[..len])?;
+        let weak = match len {
+            19 | 20 => Ok((1518568087, 0)),
+            21 => Ok((1518568087, 200000000)),
+            22 | 28 => Ok((1518568087, 250000000)),
+            23 | 24 | 25 | 26 | 27 => Err(TimestampError::InvalidDigit),
+            _ => Err(TimestampError::InvalidFormat),
+        };
+        assert_eq!(rt; parts(parse_rfc3339_weak(text)), weak, "{text}");
+        let strict = match len {
+            28 => Ok((1518568087, 250000000)),
+            _ => Err(TimestampError::InvalidFormat),
+        };
+        assert_eq!(rt; parts(parse_rfc3339(text)), strict, "{text}");
+    }
+    Ok(())
+}
+
+#[test]
+fn texts_past_ascii(rt: HostRuntime) {
+    for text in ["2018-02-14T00:28:07é", "ééééééééééé"] {
+        assert_eq!(rt;
+            parse_rfc3339(text),
+            Err(TimestampError::InvalidFormat),
+            "{text}"
+        );
+        assert_eq!(rt;
+            parse_rfc3339_weak(text),
+            Err(TimestampError::InvalidFormat),
+            "{text}"
+        );
+    }
+}

@@ -121,6 +121,10 @@ fn printed_moments(rt: HostRuntime) -> Result<(), Fail> {
             format_rfc3339_nanos(moment(1518563312, 789456123)?),
             "2018-02-13T23:08:32.789456123Z",
         ),
+        (
+            format_rfc3339_nanos(moment(253402300799, 999999999)?),
+            "9999-12-31T23:59:59.999999999Z",
+        ),
     ];
     for (printable, want) in cases {
         let mut buf = [0; 30];
@@ -147,7 +151,13 @@ fn second_60_is_printed_as_59(rt: HostRuntime) -> Result<(), Fail> {
 
 #[test]
 fn moments_that_are_not_printed(rt: HostRuntime) -> Result<(), Fail> {
-    for (secs, nanos) in [(253402300800, 0), (-1, 999999999)] {
+    let moments = [
+        (253402300800, 0),
+        (-1, 999999999),
+        (-9223372036854775808, 0),
+        (9223372036854775807, 999999999),
+    ];
+    for (secs, nanos) in moments {
         let moment = moment(secs, nanos)?;
         let all = [
             format_rfc3339(moment),

@@ -1,0 +1,8 @@
+use Rattle.std.proofs.lemmas.Str.{encodes-chars}
+use Rattle.humantime.proofs.duration.error.write_unit.Goals as goal
+
+pub returns-then-is_empty-clause-characters : goal.returns-then-is_empty-clause-characters
+returns-then-is_empty-clause-characters g c = encodes-chars c.args.unit.now c.utf8.unit
+
+pub returns-clause-characters : goal.returns-clause-characters
+returns-clause-characters g c = encodes-chars c.args.unit.now c.utf8.unit

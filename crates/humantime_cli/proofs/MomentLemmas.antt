@@ -1,0 +1,47 @@
+-- A moment that a text names is one of 1970 to 9999.
+use Rattle.std.proofs.Common.{arith, ◌≡◌, ℕ, ◌+◌, ◌-◌, ◌*◌, ◌<◌, ◌≤◌, List, suc, subst, sym, refl, ◌↔◌}
+use Rattle.std.proofs.lemmas.Int.{ints}
+use Rattle.std.specs.Prelude.{ℤ, Result, Ok, Err, IfOk}
+use Rattle.humantime.specs.declared.date.error.TimestampError.{TimestampError}
+use Rattle.humantime.specs.declared.calendar.Date.{Date}
+use Rattle.humantime.specs.Calendar.{days_in_year, days_in_month, days_of_months}
+use Rattle.humantime.specs.Dates.{IsDate, day_of}
+use Rattle.humantime.specs.Timestamps.{Fields, IsWeak, IsWeakMoment, IsStrictMoment, moment_of, fraction_digits}
+use Rattle.humantime.specs.TimestampPrinted.{IsPrintable}
+use Rattle.humantime.proofs.CalendarLemmas.{days_of_years_within, february}
+use Rattle.humantime.proofs.Months.{below_12}
+use Rattle.humantime.proofs.TimestampFractionLemmas.{nanos_bound}
+
+-- a month ends within its year
+month_within : (y : ℕ) (k : ℕ) → k < 12 → days_of_months y k + days_in_month y (suc k) ≤ days_in_year y
+unfolding days_of_months
+month_within y =
+    let second : days_in_month y 2 + 337 ≡ days_in_year y = february y in
+    below_12 (λ k. days_of_months y k + days_in_month y (suc k) ≤ days_in_year y)
+    (omega arith) (omega arith) (omega arith) (omega arith) (omega arith) (omega arith)
+    (omega arith) (omega arith) (omega arith) (omega arith) (omega arith) (omega arith)
+
+-- the last day is 9999-12-31
+day_within : (d : Date) → IsDate d → day_of d ≤ 2_932_896
+day_within d (year, month, day) =
+    let m = d.month - 1 in
+    let next : suc m ≡ d.month = omega (arith, month.0) in
+    let ends : days_of_months d.year m + days_in_month d.year d.month ≤ days_in_year d.year =
+    subst (λ n. days_of_months d.year m + days_in_month d.year n ≤ days_in_year d.year) next (month_within d.year m (omega (arith, month.0, month.1))) in
+    omega (arith, ends, day.0, day.1, days_of_years_within d.year year.0 year.1)
+
+-- the last moment is the last nanosecond of that day
+moment_within : (text : List ℕ) (f : Fields) → IsWeak text f → moment_of f < 253_402_300_800 * 1_000_000_000
+moment_within text f w =
+    omega (arith, day_within f.date w.date, w.hour, w.minute, nanos_bound (fraction_digits f.fraction) w.fraction)
+
+pub weak_printable : (text : List ℕ) (moment : ℤ) → IsWeakMoment text moment → IsPrintable moment
+weak_printable text moment (f, w, e) = subst IsPrintable (sym e) (omega (arith, ints), omega (arith, ints, moment_within text f w))
+
+pub strict_printable : (text : List ℕ) (moment : ℤ) → IsStrictMoment text moment → IsPrintable moment
+strict_printable text moment (f, s, e) = weak_printable text moment (f, s.weak, e)
+
+-- so is the moment that a parser answers
+pub read_printable : (P : ℤ → Type 0) (read : Result ℤ TimestampError) → ((t : ℤ) → (read ≡ Ok t) ↔ P t) → ((t : ℤ) → P t → IsPrintable t) → IfOk read IsPrintable
+read_printable P (Ok t) value within = within t ((value t).0 refl)
+read_printable P (Err e) value within = tt

@@ -1,0 +1,17 @@
+use Rattle.std.proofs.Common.{ap, subst}
+use Rattle.std.proofs.lemmas.List.{take_all}
+use Rattle.std.specs.Io.KnownBytes.{Appends}
+use Rattle.humantime_cli.specs.Writes.{Writes, AppendsFront, joined}
+use Rattle.humantime_cli.proofs.WritesLemmas.{front_of_line, both_written, cut}
+use Rattle.humantime_cli.proofs.writing.write_line.Goals as goal
+
+pub returns-in_err-write_all : goal.returns-in_err-write_all
+unfolding Writes
+returns-in_err-write_all g c =
+    let front = subst (AppendsFront _ _) c.as_bytes.ensures.value c.in_err-write_all.ensures in
+    cut _ _ _ _ c.from_residual.ensures.0 (front_of_line _ _ _ c.args.texts.now c.loop-text.text-index _ c.loop-text-test.true c.loop-text.invariant front)
+
+pub returns : goal.returns
+returns g c =
+    let all = ap joined (take_all c.loop-text.text-index c.args.texts.now c.loop-text-test.false) in
+    both_written _ _ _ _ _ _ (subst (Appends _ _) all c.loop-text.invariant) c.write_all-2.ensures

@@ -1,0 +1,238 @@
+ghost use Rattle.std.specs.Prelude.{◌≤◌, Some, take};
+
+use super::run;
+use std::io;
+use std::io::{ErrorKind, Write};
+
+const ROOM: usize = 256;
+
+/// How a writer fails.
+#[derive(Clone, Copy, PartialEq, Debug)]
+enum Failure {
+    Error,
+    Interrupted,
+    NoBytes,
+}
+
+/// A writer over memory. It takes at most `step` bytes at a time and `limit` in all, and fails from then on.
+#[derive(Drop)]
+struct Limited {
+    bytes: [u8; 256],
+    len: usize,
+    step: usize,
+    limit: usize,
+    failure: Failure,
+    requests: u32,
+    has_failed: bool,
+    requests_after: u32,
+    ghost in_range: { len ≤ 256 },
+}
+
+impl Limited {
+    fn new(step: usize, limit: usize, failure: Failure) -> Limited {
+        Limited {
+            bytes: [0; 256],
+            len: 0,
+            step,
+            limit,
+            failure,
+            requests: 0,
+            has_failed: false,
+            requests_after: 0,
+        }
+    }
+
+    fn open() -> Limited {
+        Limited::new(ROOM, ROOM, Failure::Error)
+    }
+
+    fn taken(&self) -> &[u8] {
+        &self.bytes[..self.len]
+    }
+}
+
+impl Write for Limited {
+    ghost contents = { λ writer. Some (take writer.len writer.bytes) };
+
+    fn write(&mut self, buf: &[u8]) -> io::Result<usize> {
+        self.requests = self.requests.saturating_add(1);
+        if self.has_failed {
+            self.requests_after = self.requests_after.saturating_add(1);
+        }
+        let room = self.limit.min(ROOM).saturating_sub(self.len);
+        let count = buf.len().min(self.step).min(room);
+        if count == 0 {
+            self.has_failed = true;
+            return match self.failure {
+                Failure::Error => Err(io::Error::from(ErrorKind::Other)),
+                Failure::Interrupted => Err(io::Error::from(ErrorKind::Interrupted)),
+                Failure::NoBytes => Ok(0),
+            };
+        }
+        let end = self.len + count;
+        let bytes = &mut self.bytes[..];
+        bytes[self.len..end].copy_from_slice(&buf[..count]);
+        self.len = end;
+        Ok(count)
+    }
+
+    fn flush(&mut self) -> io::Result<()> {
+        Ok(())
+    }
+}
+
+const USAGE: &str = "usage: humantime duration|strict|weak TEXT\n";
+
+#[test]
+fn accepted_texts_are_printed(rt: HostRuntime) {
+    let runs = [
+        ("duration", "2h 37min", "2h 37m\n"),
+        ("duration", "0", "0s\n"),
+        ("duration", "1 2 s", "12s\n"),
+        ("duration", "1.5w", "10days 12h\n"),
+        ("duration", "0.5y", "5months 30days 10h 12m\n"),
+        ("duration", "2years 2min 12us", "2years 2m 12us\n"),
+        (
+            "duration",
+            "18446744073709551615.999999999s",
+            "584542046090years 7months 15days 17h 5m 3s 999ms 999us 999ns\n",
+        ),
+        ("strict", "2016-12-31T23:59:60Z", "2016-12-31T23:59:59Z\n"),
+        (
+            "strict",
+            "9999-12-31T23:59:59.9999999999Z",
+            "9999-12-31T23:59:59.999999999Z\n",
+        ),
+        (
+            "weak",
+            "1970-01-01 00:00:00.5",
+            "1970-01-01T00:00:00.500000000Z\n",
+        ),
+        (
+            "weak",
+            "1970-01-01 00:00:00.000123",
+            "1970-01-01T00:00:00.000123000Z\n",
+        ),
+        ("weak", "2018-02-14T00:28:07.Z", "2018-02-14T00:28:07Z\n"),
+    ];
+    for (command, text, printed) in runs {
+        let (mut out, mut err) = (Limited::open(), Limited::open());
+        assert_eq!(rt; run(&[command, text], &mut out, &mut err), 0, "{text}");
+        assert_eq!(rt; out.taken(), printed.as_bytes(), "{text}");
+        assert_eq!(rt; err.requests, 0, "{text}");
+    }
+}
+
+#[test]
+fn refused_texts_are_explained(rt: HostRuntime) {
+    let runs = [
+        ("duration", "", "value was empty\n"),
+        ("duration", "1~", "invalid character at 1\n"),
+        ("duration", "1foo~", "invalid character at 4\n"),
+        ("duration", ".1s", "expected number at 0\n"),
+        (
+            "duration",
+            "10 months 1",
+            "time unit needed, for example 1sec or 1ms\n",
+        ),
+        (
+            "duration",
+            "123",
+            "time unit needed, for example 123sec or 123ms\n",
+        ),
+        (
+            "duration",
+            "10nights",
+            "unknown time unit \"nights\", supported units: ns, us/µs, ms, sec, min, hours, days, weeks, months, years (and few variations)\n",
+        ),
+        (
+            "duration",
+            "10000000000000y",
+            "number is too large or cannot be represented without a lack of precision (values below 1ns are not supported)\n",
+        ),
+        (
+            "strict",
+            "1970-01-01 00:00:00Z",
+            "timestamp format is invalid\n",
+        ),
+        (
+            "strict",
+            "2100-02-29T00:00:00Z",
+            "numeric component is out of range\n",
+        ),
+        (
+            "weak",
+            "1969-1x-01 00:00:00",
+            "bad character where digit is expected\n",
+        ),
+    ];
+    for (command, text, message) in runs {
+        let (mut out, mut err) = (Limited::open(), Limited::open());
+        assert_eq!(rt; run(&[command, text], &mut out, &mut err), 1, "{text}");
+        assert_eq!(rt; err.taken(), message.as_bytes(), "{text}");
+        assert_eq!(rt; out.requests, 0, "{text}");
+    }
+}
+
+#[test]
+fn other_words_are_told_the_usage(rt: HostRuntime) {
+    let runs: [&[&str]; 7] = [
+        &[],
+        &["duration"],
+        &["strict"],
+        &["duration", "1h", "2s"],
+        &["Duration", "1h"],
+        &["", ""],
+        &["2h 37min"],
+    ];
+    for words in runs {
+        let (mut out, mut err) = (Limited::open(), Limited::open());
+        assert_eq!(rt; run(words, &mut out, &mut err), 2);
+        assert_eq!(rt; err.taken(), USAGE.as_bytes());
+        assert_eq!(rt; out.requests, 0);
+    }
+}
+
+#[test]
+fn lines_are_written_byte_by_byte(rt: HostRuntime) {
+    let one_byte = || Limited::new(1, ROOM, Failure::Error);
+    let (mut out, mut err) = (one_byte(), one_byte());
+    assert_eq!(rt; run(&["duration", "2h 37min"], &mut out, &mut err), 0);
+    assert_eq!(rt; out.taken(), b"2h 37m\n".as_slice());
+    assert_eq!(rt; out.requests, 7);
+    assert_eq!(rt; run(&["duration", ""], &mut out, &mut err), 1);
+    assert_eq!(rt; err.taken(), b"value was empty\n".as_slice());
+    assert_eq!(rt; err.requests, 16);
+}
+
+#[test]
+fn nothing_follows_a_failed_write(rt: HostRuntime) {
+    let line = b"2h 37m\n";
+    for failure in [Failure::Error, Failure::Interrupted, Failure::NoBytes] {
+        for step in [1, 4, ROOM] {
+            for limit in 0..line.len() {
+                let (mut out, mut err) = (Limited::new(step, limit, failure), Limited::open());
+                assert_eq!(rt; run(&["duration", "2h 37min"], &mut out, &mut err), 3);
+                assert_eq!(rt; out.taken(), &line[..limit]);
+                assert_eq!(rt; out.requests_after, 0);
+                assert_eq!(rt; err.requests, 0);
+            }
+        }
+    }
+}
+
+#[test]
+fn nothing_follows_a_failed_write_of_a_message(rt: HostRuntime) {
+    let line = b"value was empty\n";
+    for failure in [Failure::Error, Failure::Interrupted, Failure::NoBytes] {
+        for step in [1, 4, ROOM] {
+            for limit in 0..line.len() {
+                let (mut out, mut err) = (Limited::open(), Limited::new(step, limit, failure));
+                assert_eq!(rt; run(&["duration", ""], &mut out, &mut err), 3);
+                assert_eq!(rt; err.taken(), &line[..limit]);
+                assert_eq!(rt; err.requests_after, 0);
+                assert_eq!(rt; out.requests, 0);
+            }
+        }
+    }
+}

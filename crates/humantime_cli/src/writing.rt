@@ -1,0 +1,36 @@
+//! Writing to a writer that may take its bytes bit by bit.
+
+ghost use Rattle.humantime_cli.specs.Writes.{Writes, line, joined};
+
+use std::io::Write;
+
+/// A write answered an error, or took no bytes.
+#[derive(Clone, Copy, PartialEq, Eq, Debug)]
+pub(crate) struct WriteFailed;
+
+/// Writes the texts one after the other, and a line feed. Nothing more is written after a write that failed.
+#[tactic(auto, unfolding(crate::specs::Writes::Writes))]
+pub(crate) fn write_line<W: Write>(to: &mut W, texts: &[&str]) -> Result<(), WriteFailed>
+    ensures { Writes result (W.contents to.old) (W.contents to.new) (line (joined texts.now)) }
+{
+    for text in texts {
+        write_all(to, text.as_bytes())?;
+    }
+    write_all(to, b"\n")
+}
+
+/// Writes all the bytes. A write that failed is not tried again.
+#[tactic(auto, unfolding(crate::specs::Writes::Writes))]
+fn write_all<W: Write>(to: &mut W, bytes: &[u8]) -> Result<(), WriteFailed>
+    ensures { Writes result (W.contents to.old) (W.contents to.new) bytes.now }
+{
+    let mut done = 0;
+    while done < bytes.len() {
+        match to.write(&bytes[done..]) {
+            Ok(0) => return Err(WriteFailed),
+            Ok(count) => done += count,
+            Err(_) => return Err(WriteFailed),
+        }
+    }
+    Ok(())
+}
