@@ -28,7 +28,7 @@ months_grow y n (suc more) =
     rw same (rw (days_of_months_next y (n + more)) (omega (arith, before)))
 
 -- a date's day lies before the days of each later month and of each later year
-before_month : (y : ℕ) (m : ℕ) (d : ℕ) → IsValid y m d → (later : ℕ) → m < later
+pub before_month : (y : ℕ) (m : ℕ) (d : ℕ) → IsValid y m d → (later : ℕ) → m < later
     → days_of_months y (m - 1) + (d - 1) < days_of_months y (later - 1)
 before_month y m d valid later less =
     let upto : days_of_months y m ≡ days_of_months y (m - 1) + days_in_month y m = month_end y m valid.1.0 in
@@ -36,7 +36,7 @@ before_month y m d valid later less =
     let grown : days_of_months y m ≤ days_of_months y (later - 1) = rw same at (months_grow y m (later - 1 - m)) in
     omega (arith, valid.2.0, valid.2.1)
 
-before_year : (y : ℕ) (m : ℕ) (d : ℕ) → IsValid y m d → (later : ℕ) → y < later
+pub before_year : (y : ℕ) (m : ℕ) (d : ℕ) → IsValid y m d → (later : ℕ) → y < later
     → day_count y m d < days_of_years (later - 1970)
 before_year y m d valid later less =
     let month : days_of_months y (m - 1) + (d - 1) < days_of_months y (13 - 1) = before_month y m d valid 13 (omega (arith, valid.1.1)) in

@@ -17,6 +17,7 @@ pub mod Months
 pub mod NumberLemmas
 pub mod OneReading
 pub mod Outcomes
+pub mod PointLemmas
 pub mod PrintedDigits
 pub mod PrintedLengths
 pub mod PrintedRows
@@ -34,8 +35,10 @@ pub mod Stopping
 pub mod Tails
 pub mod TimestampByteLemmas
 pub mod TimestampCheckLemmas
+pub mod TimestampEndLemmas
 pub mod TimestampExitLemmas
 pub mod TimestampFractionLemmas
+pub mod TimestampOrderLemmas
 pub mod TimestampPairLemmas
 pub mod TimestampPassLemmas
 pub mod TimestampPlaceLemmas

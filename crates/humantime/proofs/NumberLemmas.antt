@@ -1,14 +1,13 @@
 -- Reading a number digit by digit, and the digits of a fraction.
-use Rattle.std.proofs.Common.{◌≡◌, ◌≤◌, ◌<◌, ◌+◌, ◌-◌, ◌*◌, ◌^◌, ◌⊎◌, ◌≢◌, ℕ, List, [], ◌∷◌, length, Bool, false, refl, ap, sym, ◌∙◌, inl, inr, arith, Ok, Err, add-one}
-use Rattle.std.proofs.lemmas.Bool.{lt-ltb, le-ltb}
+use Rattle.std.proofs.Common.{◌≡◌, ◌≤◌, ◌<◌, ◌+◌, ◌-◌, ◌*◌, ◌^◌, ◌≢◌, ℕ, List, [], ◌∷◌, length, ap, sym, ◌∙◌, arith, Err, add-one}
+use Rattle.std.proofs.lemmas.Bool.{lt-ltb}
 use Rattle.std.proofs.Math.Nat.{pow-suc, pow-le-pow_right}
 use Rattle.std.specs.Char.{digit_value}
 use Rattle.std.specs.Str.Parse.{digits_value_after}
-use Rattle.humantime.specs.declared.duration.class.Class.{Class}
-use Rattle.humantime.specs.declared.duration.class.Class.TheVariants.{White, Digit, Letter, Point, Other}
-use Rattle.humantime.specs.Characters.{class_of, is_ws, is_letter, is_numeric, begins, leading, past, digits, decimal_value, u64_max}
+use Rattle.humantime.specs.declared.duration.class.Class.TheVariants.{White, Digit, Letter}
+use Rattle.humantime.specs.Characters.{class_of, is_ws, is_letter, is_numeric, leading, past, digits, decimal_value, u64_max}
 use Rattle.humantime.specs.Faults.{NumberOverflow, number_of, after_number}
-use Rattle.humantime.specs.Scanning.{number_at, digits_at}
+use Rattle.humantime.specs.Scanning.{number_at}
 use Rattle.humantime.proofs.DigitLemmas.{digit_greatest, digit_counts}
 
 -- v is read so far, and the number that begins the rest, read on from v, is that of the text.
@@ -16,9 +15,6 @@ pub record IsAt (text : List ℕ) (v : ℕ) (rest : List ℕ) : Type 0 where
   pub value : digits_value_after 10 v (digits (leading is_numeric rest)) ≡ decimal_value (number_of text)
   pub rest_is : past is_numeric rest ≡ after_number text
   pub fits : v ≤ u64_max
-
-pub at_start : (text : List ℕ) → IsAt text 0 text
-at_start text = record { value = refl; rest_is = refl; fits = omega arith }
 
 -- a digit begins what is numeric, and so does white space, which has no digit
 pub digit_first : (c : ℕ) (cs rest : List ℕ) → rest ≡ c ∷ cs → class_of c ≡ Digit → digits (leading is_numeric rest) ≡ c ∷ digits (leading is_numeric cs)
@@ -32,15 +28,6 @@ past_digit c cs rest e d = rw (e, d)
 
 pub past_white : (c : ℕ) (cs rest : List ℕ) → rest ≡ c ∷ cs → class_of c ≡ White → past is_numeric rest ≡ past is_numeric cs
 past_white c cs rest e d = rw (e, d)
-
--- what follows a number begins with nothing numeric
-pub leading_none : (p : ℕ → Bool) (cs : List ℕ) → begins p cs ≡ false → leading p cs ≡ []
-leading_none p [] e = refl
-leading_none p (c ∷ cs) e = rw e
-
-pub past_none : (p : ℕ → Bool) (cs : List ℕ) → begins p cs ≡ false → past p cs ≡ cs
-past_none p [] e = refl
-past_none p (c ∷ cs) e = rw e
 
 -- digits only make a value greater
 pub value_grows : (n : ℕ) (ds : List ℕ) → n ≤ digits_value_after 10 n ds
@@ -61,24 +48,12 @@ at_space text rest cs v c h e d = record {
   fits = h.fits;
 }
 
-pub number_ends : (text rest : List ℕ) (v : ℕ) → IsAt text v rest → begins is_numeric rest ≡ false → Ok (v, rest) ≡ number_at text
-number_ends text rest v h b =
-    let value : v ≡ decimal_value (number_of text) = sym (ap (λ (x : List ℕ). digits_value_after 10 v (digits x)) (leading_none is_numeric rest b)) ∙ h.value in
-    let left : rest ≡ after_number text = sym (past_none is_numeric rest b) ∙ h.rest_is in
-    rw (value, left, le-ltb u64_max (decimal_value (number_of text)) (omega (arith, value, h.fits)))
-
 pub number_passes : (text rest cs : List ℕ) (v c : ℕ) → IsAt text v rest → rest ≡ c ∷ cs → class_of c ≡ Digit → u64_max < v * 10 + (c - 48) → Err NumberOverflow ≡ number_at text
 number_passes text rest cs v c h e d over =
     let value : digits_value_after 10 (v * 10 + digit_value c) (digits (leading is_numeric cs)) ≡ decimal_value (number_of text) = sym (ap (digits_value_after 10 v) (digit_first c cs rest e d)) ∙ h.value in
     let grows = value_grows (v * 10 + digit_value c) (digits (leading is_numeric cs)) in
     let above : u64_max < decimal_value (number_of text) = omega (arith, value, grows, digit_counts c d) in
     rw (lt-ltb u64_max (decimal_value (number_of text)) above)
-
--- a letter, a point or another character ends a number
-pub other_ends : (c : ℕ) (rest cs : List ℕ) (k : Class) → (k ≡ Letter) ⊎ ((k ≡ Point) ⊎ (k ≡ Other)) → k ≡ class_of c → rest ≡ c ∷ cs → begins is_numeric rest ≡ false
-other_ends c rest cs k (inl l) e r = rw (r, ← e, l)
-other_ends c rest cs k (inr (inl l)) e r = rw (r, ← e, l)
-other_ends c rest cs k (inr (inr l)) e r = rw (r, ← e, l)
 
 pub past_letters : (c : ℕ) (cs rest : List ℕ) → rest ≡ c ∷ cs → class_of c ≡ Letter → past is_letter rest ≡ past is_letter cs
 past_letters c cs rest e d = rw (e, d)
@@ -93,9 +68,6 @@ pub record IsAmong (text : List ℕ) (v n : ℕ) (rest : List ℕ) : Type 0 wher
   pub rest_is : past is_numeric rest ≡ after_number text
   pub small : n ≤ 19
   pub fits : v < 10 ^ n
-
-pub among_start : (text : List ℕ) → IsAmong text 0 0 text
-among_start text = record { value = refl; count = omega arith; rest_is = refl; small = omega arith; fits = omega arith }
 
 pub among_space : (text rest cs : List ℕ) (v n c : ℕ) → IsAmong text v n rest → rest ≡ c ∷ cs → class_of c ≡ White → IsAmong text v n cs
 among_space text rest cs v n c h e d = record {
@@ -119,19 +91,6 @@ among_digit text rest cs v n c h e d few =
       small = omega arith;
       fits = omega arith;
     }
-
-pub digits_end : (text rest : List ℕ) (v n : ℕ) → IsAmong text v n rest → begins is_numeric rest ≡ false → Ok ((v, n), rest) ≡ digits_at text
-digits_end text rest v n h b =
-    let value : v ≡ decimal_value (number_of text) = sym (ap (λ (x : List ℕ). digits_value_after 10 v (digits x)) (leading_none is_numeric rest b)) ∙ h.value in
-    let count : n ≡ length (number_of text) = omega (arith, ap (λ (x : List ℕ). length (digits x)) (leading_none is_numeric rest b), h.count) in
-    let left : rest ≡ after_number text = sym (past_none is_numeric rest b) ∙ h.rest_is in
-    let small : n ≤ 19 = h.small in
-    rw (value, count, left, le-ltb 19 (length (number_of text)) (omega arith))
-
-pub digits_pass : (text rest cs : List ℕ) (v n c : ℕ) → IsAmong text v n rest → rest ≡ c ∷ cs → class_of c ≡ Digit → n ≡ 19 → Err NumberOverflow ≡ digits_at text
-digits_pass text rest cs v n c h e d many =
-    let above : 19 < length (number_of text) = omega (arith, ap length (digit_first c cs rest e d), h.count) in
-    rw (lt-ltb 19 (length (number_of text)) above)
 
 pub pow_19 : (n : ℕ) → n ≤ 19 → (n ≢ 19 → 10 ^ n ≤ 1000000000000000000) × (10 ^ n ≤ 10000000000000000000)
 pow_19 n h = (λ ne. pow-le-pow_right {n = 10} (omega arith) {i = n} {j = 18} (omega arith), pow-le-pow_right {n = 10} (omega arith) {i = n} {j = 19} (omega arith))

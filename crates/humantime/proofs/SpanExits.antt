@@ -1,103 +1,18 @@
 -- What is known of a rest once its number, its fraction and its word are read, and how each exit answers.
-use Rattle.std.proofs.Common.{◌≡◌, ◌≢◌, ◌++◌, ℕ, Bool, true, false, List, [], ◌∷◌, length, Option, Some, None, option_map, Result, Ok, Err, if◌then◌else◌, ltb, refl, sym, ap, ◌∙◌}
+use Rattle.std.proofs.Common.{◌≡◌, ◌≢◌, ◌++◌, ℕ, Bool, true, false, List, [], ◌∷◌, length, Option, Some, None, option_map, if◌then◌else◌, refl, sym, ap, ◌∙◌}
 use Rattle.std.proofs.lemmas.List.{append_cancel_right}
 use Rattle.std.specs.Str.{drop_trailing_whitespace}
 use Rattle.humantime.specs.declared.duration.amount.Amount.{Amount}
-use Rattle.humantime.specs.Characters.{is_letter, is_numeric, is_point, leading, past, decimal_value, u64_max, byte_length, offset_of}
+use Rattle.humantime.specs.Characters.{is_numeric, is_point, leading, past, decimal_value, byte_length, offset_of}
 use Rattle.humantime.specs.Units.{Scale, scale_of_word}
-use Rattle.humantime.specs.Faults.{Fault, InvalidCharacter, UnknownUnit, NumberOverflow, number_of, after_number, fraction_of, after_fraction, fraction_at, past_fraction, digits_in, word_of, after_word, span_of}
-use Rattle.humantime.specs.Reading.{long_fraction, too_long, stop_word, stop_by, stop_at}
+use Rattle.humantime.specs.Faults.{Fault, InvalidCharacter, UnknownUnit, NumberOverflow, number_of, after_number, fraction_of, past_fraction, word_of, after_word, span_of}
+use Rattle.humantime.specs.Reading.{too_long, stop_word, stop_by, stop_at}
 use Rattle.humantime.specs.Scales.{scale_of, counted, parts_of, IsAmountOf}
-use Rattle.humantime.specs.Scanning.{number_at, with_some, fraction_read, bare, ends_span, fault_without_word, fraction_in}
+use Rattle.humantime.specs.Scanning.{bare, ends_span, fault_without_word, fraction_in}
 use Rattle.humantime.specs.SpanParts.{IsSpanRead}
 use Rattle.humantime.specs.Lending.{trimmed, number_slice, fraction_slice, lent_at, spelled}
 use Rattle.humantime.proofs.Runs.{leading-past}
 use Rattle.humantime.proofs.Trimming.{spelled_at, suc_not_zero}
-
--- a result that was not too long
-abbrev fitting : {X : Type 0} → Bool → X → Result X Fault
-fitting b x = if b then Err NumberOverflow else Ok x
-
-fitting_told : {X : Type 0} (b : Bool) (x y : X) → Ok x ≡ fitting b y → (b ≡ false) × (x ≡ y)
-fitting_told true x y e = cc
-fitting_told false x y e = (refl, cc)
-
-record NumberTold (rest : List ℕ) (v : ℕ) (after : List ℕ) : Type 0 where
-  short : ltb u64_max (decimal_value (number_of rest)) ≡ false
-  value : v ≡ decimal_value (number_of rest)
-  after_is : after ≡ after_number rest
-
-number_told : (rest : List ℕ) (v : ℕ) (after : List ℕ) → Ok (v, after) ≡ number_at rest → NumberTold rest v after
-number_told rest v after e =
-    let r = fitting_told {X = ℕ × List ℕ} (ltb u64_max (decimal_value (number_of rest))) (v, after) (decimal_value (number_of rest), after_number rest) e in
-    record { short = r.0; value = ap (λ (x : ℕ × List ℕ). x.0) r.1; after_is = ap (λ (x : ℕ × List ℕ). x.1) r.1 }
-
-record FractionTold (after : List ℕ) (o : Option (ℕ × ℕ)) (behind : List ℕ) : Type 0 where
-  short : long_fraction (digits_in (fraction_at after)) ≡ false
-  fraction : o ≡ option_map counted (digits_in (fraction_at after))
-  behind_is : behind ≡ past_fraction after
-
-fraction_told : (after : List ℕ) (o : Option (ℕ × ℕ)) (behind : List ℕ) → Ok (o, behind) ≡ fraction_read after → FractionTold after o behind
-fraction_told [] o behind e =
-    let p = fitting_told {X = Option (ℕ × ℕ) × List ℕ} false (o, behind) (None, []) e in
-    record { short = refl; fraction = ap (λ (x : Option (ℕ × ℕ) × List ℕ). x.0) p.1; behind_is = ap (λ (x : Option (ℕ × ℕ) × List ℕ). x.1) p.1 }
-fraction_told (c ∷ cs) o behind e = by (is_point c) (ltb 19 (length (number_of cs))) e refl refl
-  where
-    by : (p b : Bool)
-        → Ok (o, behind) ≡ (if p then with_some (fitting b (counted (number_of cs), after_number cs)) else fitting {X = Option (ℕ × ℕ) × List ℕ} false (None, c ∷ cs))
-        → is_point c ≡ p → ltb 19 (length (number_of cs)) ≡ b → FractionTold (c ∷ cs) o behind
-    by true true e p b = cc
-    by true false e p b =
-        let q = (fitting_told {X = Option (ℕ × ℕ) × List ℕ} false (o, behind) (Some (counted (number_of cs)), after_number cs) e).1 in
-        record { short = rw p b; fraction = rw p (ap (λ (x : Option (ℕ × ℕ) × List ℕ). x.0) q); behind_is = rw p (ap (λ (x : Option (ℕ × ℕ) × List ℕ). x.1) q) }
-    by false b e p z =
-        let q = (fitting_told {X = Option (ℕ × ℕ) × List ℕ} false (o, behind) (None, c ∷ cs) e).1 in
-        record { short = rw p refl; fraction = rw p (ap (λ (x : Option (ℕ × ℕ) × List ℕ). x.0) q); behind_is = rw p (ap (λ (x : Option (ℕ × ℕ) × List ℕ). x.1) q) }
-
-pub span_read : (rest : List ℕ) (v : ℕ) (o : Option (ℕ × ℕ)) (after behind letters next : List ℕ) → Ok (v, after) ≡ number_at rest → Ok (o, behind) ≡ fraction_read after
-    → letters ≡ leading is_letter behind → next ≡ past is_letter behind → IsSpanRead rest v o after behind letters next
-span_read rest v o after behind letters next n f l x =
-    let a = number_told rest v after n in
-    let b = fraction_told after o behind f in
-    let is_after : after ≡ after_number rest = a.after_is in
-    let is_behind : behind ≡ after_fraction rest = b.behind_is ∙ ap past_fraction is_after in
-    record {
-      short = rw (a.short, ← is_after) b.short;
-      value_is = a.value;
-      fraction_is = b.fraction ∙ ap (λ (cs : List ℕ). option_map counted (digits_in (fraction_at cs))) is_after;
-      after_is = is_after;
-      behind_is = is_behind;
-      letters_is = l ∙ ap (leading is_letter) is_behind;
-      next_is = x ∙ ap (past is_letter) is_behind;
-    }
-
--- a number or a fraction that is too long
-err_told : {X : Type 0} (b : Bool) (x : X) (f : Fault) → Err f ≡ fitting b x → (b ≡ true) × (f ≡ NumberOverflow)
-err_told true x f e = (refl, cc)
-err_told false x f e = cc
-
-pub long_number : (rest : List ℕ) (f : Fault) → Err f ≡ number_at rest → (too_long (span_of rest) ≡ true) × (f ≡ NumberOverflow)
-long_number rest f e =
-    let r = err_told {X = ℕ × List ℕ} (ltb u64_max (decimal_value (number_of rest))) (decimal_value (number_of rest), after_number rest) f e in
-    (rw r.0 refl, r.1)
-
-long_told : (after : List ℕ) (f : Fault) → Err f ≡ fraction_read after → (long_fraction (digits_in (fraction_at after)) ≡ true) × (f ≡ NumberOverflow)
-long_told [] f e = cc
-long_told (c ∷ cs) f e = by (is_point c) (ltb 19 (length (number_of cs))) e refl refl
-  where
-    by : (p b : Bool)
-        → Err f ≡ (if p then with_some (fitting b (counted (number_of cs), after_number cs)) else fitting {X = Option (ℕ × ℕ) × List ℕ} false (None, c ∷ cs))
-        → is_point c ≡ p → ltb 19 (length (number_of cs)) ≡ b → (long_fraction (digits_in (fraction_at (c ∷ cs))) ≡ true) × (f ≡ NumberOverflow)
-    by true true e p b = (rw p b, cc)
-    by true false e p b = cc
-    by false b e p z = cc
-
-pub long_digits : (rest : List ℕ) (v : ℕ) (after : List ℕ) (f : Fault) → Ok (v, after) ≡ number_at rest → Err f ≡ fraction_read after → (too_long (span_of rest) ≡ true) × (f ≡ NumberOverflow)
-long_digits rest v after f n e =
-    let a = number_told rest v after n in
-    let r = long_told after f e in
-    let long : long_fraction (fraction_of rest) ≡ true = sym (ap (λ (cs : List ℕ). long_fraction (digits_in (fraction_at cs))) a.after_is) ∙ r.0 in
-    (rw (a.short, long) refl, r.1)
 
 pub exit_long : (text rest : List ℕ) (f : Fault) → too_long (span_of rest) ≡ true → f ≡ NumberOverflow → stop_at text rest ≡ Some f
 unfolding stop_at

@@ -1,5 +1,5 @@
 -- Ends of a text, over its bytes.
-use Rattle.std.proofs.Common.{◌≡◌, ◌≢◌, ◌≤◌, ◌-◌, ◌+◌, ℕ, List, [], ◌∷◌, ◌++◌, length, take, drop, refl, subst, ap, sym, ◌∙◌, arith, append_assoc, length-append, IsUtf8, IsCharBoundary, chars, encode_utf8, slice_range}
+use Rattle.std.proofs.Common.{◌≡◌, ◌≢◌, ◌≤◌, ◌-◌, ◌+◌, ℕ, List, [], ◌∷◌, ◌++◌, length, take, drop, subst, ap, sym, ◌∙◌, arith, append_assoc, length-append, IsUtf8, IsCharBoundary, chars, encode_utf8, slice_range}
 use Rattle.std.proofs.Math.Seq.{drop-append_seam, take-append_seam}
 use Rattle.std.proofs.lemmas.List.{take-append-drop}
 use Rattle.std.proofs.lemmas.Str.{IsUtf8-past_char, IsCharBoundary-at_seam, encodes-chars, chars-nil}
@@ -22,16 +22,12 @@ tail_after text front rest e u =
       utf8 = u;
     }
 
-pub tail_self : (text : List ℕ) → IsUtf8 text → IsTail text text
-tail_self text u = tail_after text [] text refl u
-
 pub tail_of_tail : (text rest after : List ℕ) → IsTail text rest → IsTail rest after → IsTail text after
 tail_of_tail text rest after t r =
     tail_after text (front_of text rest ++ front_of rest after) after
     (tail_whole text rest t ∙ ap (λ (x : List ℕ). front_of text rest ++ x) (tail_whole rest after r) ∙ sym (append_assoc (front_of text rest) (front_of rest after) after))
     r.utf8
 
--- what follows the first character
 pub tail_step : (text rest : List ℕ) (c : ℕ) → IsUtf8 text → text ≡ encode_utf8 c ++ rest → IsTail text rest
 tail_step text rest c u e = tail_after text (encode_utf8 c) rest e (IsUtf8-past_char text rest c u e)
 
@@ -39,6 +35,15 @@ pub tail_boundary : (text rest : List ℕ) → IsTail text rest → IsCharBounda
 tail_boundary text rest t =
     let count : length (front_of text rest) ≡ length text - length rest = omega (arith, ap length (tail_whole text rest t), length-append (front_of text rest) rest) in
     subst (IsCharBoundary text) count (IsCharBoundary-at_seam text (front_of text rest) rest (tail_whole text rest t) t.utf8)
+
+-- what follows the first character
+pub past_begins : (text rest part : List ℕ) (c k : ℕ) → text ≡ encode_utf8 c ++ rest → k ≡ length (encode_utf8 c) → part ≡ drop k text → text ≡ encode_utf8 c ++ part
+past_begins text rest part c k e n p =
+    let same : part ≡ rest = p ∙ ap (λ (m : ℕ). drop m text) n ∙ ap (drop (length (encode_utf8 c))) e ∙ drop-append_seam (encode_utf8 c) rest in
+    e ∙ ap (λ (x : List ℕ). encode_utf8 c ++ x) (sym same)
+
+pub past_begins_boundary : (text rest : List ℕ) (c k : ℕ) → IsUtf8 text → text ≡ encode_utf8 c ++ rest → k ≡ length (encode_utf8 c) → IsCharBoundary text k
+past_begins_boundary text rest c k u e n = subst (IsCharBoundary text) (sym n) (IsCharBoundary-at_seam text (encode_utf8 c) rest e (IsUtf8-past_char text rest c u e))
 
 -- the number of bytes of a text's characters is the text's
 pub byte_length-chars : (bs : List ℕ) → IsUtf8 bs → byte_length (chars bs) ≡ length bs

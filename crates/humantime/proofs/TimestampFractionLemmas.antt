@@ -1,10 +1,10 @@
 -- The digits of a fraction, read one by one, are its nanoseconds.
-use Rattle.std.proofs.Common.{◌≡◌, ℕ, zero, suc, ◌+◌, ◌-◌, ◌*◌, ◌/◌, ◌^◌, ◌<◌, ◌≤◌, List, [], ◌∷◌, ◌++◌, length, get_or, take, drop, refl, sym, ◌∙◌, arith, add-one}
+use Rattle.std.proofs.Common.{◌≡◌, ℕ, zero, suc, ◌+◌, ◌-◌, ◌*◌, ◌/◌, ◌^◌, ◌<◌, ◌≤◌, List, [], ◌∷◌, ◌++◌, length, get_or, take, drop, refl, sym, ◌∙◌, arith, add-one, ap, subst}
 use Rattle.std.specs.Prelude.{Bool, true, false, if◌then◌else◌}
 use Rattle.std.specs.Char.{is_ascii_digit, digit_value}
 use Rattle.std.specs.Int.{IsInRange}
 use Rattle.std.specs.Str.Parse.{digits_value_after}
-use Rattle.std.proofs.Math.Nat.{pow-suc, mul-le-mul_left}
+use Rattle.std.proofs.Math.Nat.{pow-suc, mul-le-mul_left, div-div-eq-div-mul, pow-le-pow_right, div-eq_of_lt}
 use Rattle.std.proofs.Math.Seq.{drop-cons}
 use Rattle.std.proofs.lemmas.Bool.Decides.{nat_tests}
 use Rattle.std.proofs.lemmas.List.{drop_all}
@@ -91,7 +91,20 @@ pub record IsRead (text : List ℕ) (i nanos unit : ℕ) : Type 0 where
   pub low : nanos < 1_000_000_000
   pub room : nanos + 10 * unit ≤ 1_000_000_000
 
-pub read_none : (text : List ℕ) → IsRead text 0 0 100_000_000
+-- what a 1 at a place counts
+abbrev pub weight : ℕ → ℕ
+weight i = 100_000_000 / 10 ^ i
+
+weight_next : (i : ℕ) → weight i / 10 ≡ weight (suc i)
+weight_next i = div-div-eq-div-mul 100_000_000 (10 ^ i) 10 ∙ ap (λ (p : ℕ). 100_000_000 / p) (sym (pow-suc 10 i))
+
+-- past the ninth place nothing counts
+pub no_weight : (i : ℕ) → 9 ≤ i → 0 ≡ weight i
+no_weight i h =
+    let grows : 10 ^ 9 ≤ 10 ^ i = pow-le-pow_right (omega arith) h in
+    sym (div-eq_of_lt (omega (arith, grows)))
+
+pub read_none : (text : List ℕ) → IsRead text 0 0 (weight 0)
 read_none text = record {
   value = sym (nanos_added _ (front_are_digits text));
   rest = refl;
@@ -99,20 +112,20 @@ read_none text = record {
   room = omega arith;
 }
 
-pub read_more : (text : List ℕ) (i nanos unit : ℕ) → IsRead text i nanos unit → i < length text → is_ascii_digit (get_or text i 0) ≡ true
-    → IsRead text (i + 1) (nanos + unit * (get_or text i 0 - 48)) (unit / 10)
-read_more text i nanos unit so_far within digit =
+pub read_more : (text : List ℕ) (i nanos : ℕ) → IsRead text i nanos (weight i) → i < length text → is_ascii_digit (get_or text i 0) ≡ true
+    → IsRead text (i + 1) (nanos + weight i * (get_or text i 0 - 48)) (weight (i + 1))
+read_more text i nanos so_far within digit =
     let here : drop i text ≡ get_or text i 0 ∷ drop (suc i) text = drop-cons text i 0 within in
     let value = rw (here, digit) at so_far.value in
     let rest = rw (here, digit) at so_far.rest in
     let range : IsInRange 48 57 (get_or text i 0) = is_digit_told _ digit in
-    let most : unit * (get_or text i 0 - 48) ≤ unit * 9 = mul-le-mul_left unit (omega arith) in
-    record {
-      value = rw (add-one i) value;
-      rest = rw (add-one i) rest;
+    let most : weight i * (get_or text i 0 - 48) ≤ weight i * 9 = mul-le-mul_left (weight i) (omega arith) in
+    rw (add-one i) (subst (IsRead text (suc i) (nanos + weight i * (get_or text i 0 - 48))) (weight_next i) (record {
+      value = value;
+      rest = rest;
       low = omega (arith, so_far.low, so_far.room);
       room = omega (arith, so_far.low, so_far.room);
-    }
+    }))
 
 pub read_stop : (text : List ℕ) (i nanos unit : ℕ) → IsRead text i nanos unit → i < length text → is_ascii_digit (get_or text i 0) ≡ false
     → (nanos ≡ nanos_of (front_digits text)) × (drop i text ≡ past_digits text)

@@ -1,8 +1,11 @@
 -- The laws of timestamps.
-use Rattle.std.specs.Prelude.{◌≡◌, ◌↔◌, ℕ, ℤ, Bool, List, slice_index, None, IsTrue}
+use Rattle.std.specs.Prelude.{◌≡◌, ◌≤◌, ◌↔◌, ℕ, ℤ, Bool, List, slice_index, None, IsTrue}
+use Rattle.std.specs.Cmp.Lexicographic.{slice_cmp}
+use Rattle.std.specs.Ordering.{nat_cmp}
 use Rattle.std.specs.Str.{byte}
 use Rattle.humantime.specs.declared.date.error.TimestampError.{TimestampError}
 use Rattle.humantime.specs.Timestamps.{Fields, IsWeak, IsStrict, IsWeakMoment, IsStrictMoment}
+use Rattle.humantime.specs.TimestampPrinted.{cut, IsPrinted}
 use Rattle.humantime.specs.TimestampChecks.{ends_in_zone, first_failed}
 
 -- some parts are shown exactly where no check fails, and then no others
@@ -22,3 +25,9 @@ StrictIsWeak b = (f : Fields) → IsStrict b f ↔ (IsWeak b f × IsMarked b)
 -- and its moment is the same
 abbrev pub StrictMomentIsWeak : List ℕ → Type 0
 StrictMomentIsWeak b = (t : ℤ) → IsStrictMoment b t ↔ (IsWeakMoment b t × IsMarked b)
+
+-- two moments, printed with equally many digits: the order of the bytes is that of the moments, cut
+abbrev pub InOrder : ℕ → ℕ → Type 0
+InOrder a b =
+    (k : ℕ) (x y : List ℕ) → k ≤ 9 → IsPrinted a k x → IsPrinted b k y
+    → slice_cmp nat_cmp x y ≡ nat_cmp (cut a k) (cut b k)

@@ -25,9 +25,13 @@ pub record Prints (t k : ℕ) (text : List ℕ) (f : Fields) : Type 0 where
 abbrev pub IsPrinted : ℕ → ℕ → List ℕ → Type 0
 IsPrinted t k text = (f : Fields) × Prints t k text f
 
+-- the first moment of the year 10000
+abbrev pub year_10000 : ℕ
+year_10000 = 253_402_300_800 * nanos_per_second
+
 -- a moment of 1970 to 9999
 abbrev pub IsPrintable : ℤ → Type 0
-IsPrintable t = (pos 0 ≤ℤ t) × (t <ℤ pos (253_402_300_800 * nanos_per_second))
+IsPrintable t = (pos 0 ≤ℤ t) × (t <ℤ pos year_10000)
 
 -- one text is this moment, printed, and in both forms it reads back as the moment, cut
 abbrev pub OnePrinted : ℕ → ℕ → Type 0

@@ -11,6 +11,7 @@ use Rattle.humantime.specs.DigitText.{nine_digits}
 use Rattle.humantime.specs.Moment.{nano_of}
 use Rattle.humantime.specs.Times.{nanos_per_second}
 use Rattle.humantime.specs.Timestamps.{Letter_T, Letter_Z, Fields, written}
+use Rattle.humantime.specs.TimestampPrinted.{year_10000}
 
 -- how many digits the fraction has
 abbrev pub places : Precision → ℕ
@@ -88,7 +89,7 @@ date_time_of t = record {
 -- the printed text of a moment with k digits after the second, where the moment is one of 1970 to 9999
 unfoldable pub moment_text : ℤ → ℕ → Option (List ℕ)
 moment_text t k =
-    if int_le (pos 0) t && int_lt t (pos (253_402_300_800 * nanos_per_second))
+    if int_le (pos 0) t && int_lt t (pos year_10000)
     then Some (written (fields_shown (date_time_of (nat_abs t)) k))
     else None
 

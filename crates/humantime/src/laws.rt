@@ -12,4 +12,4 @@ pub use printed::{
     canonical_again, printed_bounds, printed_duration_reads, printed_durations_differ,
 };
 pub use spans::spans_tile;
-pub use timestamps::{one_stamp_outcome, printed_moment_reads, strict_is_weak};
+pub use timestamps::{one_stamp_outcome, printed_moment_reads, stamps_in_order, strict_is_weak};

@@ -4,9 +4,12 @@
 #![tactic(auto)]
 
 mod calendar;
+#[cfg(test)]
+mod calling;
 mod date;
 mod duration;
 pub mod laws;
+#[cfg(test)]
 mod sinks;
 mod turns;
 mod unit;

@@ -1,6 +1,7 @@
 //! The parsers of timestamps.
 
-ghost use Rattle.std.specs.Prelude.{◌≡◌, ◌+◌, ◌^◌, ◌<◌, ◌≤◌, ◌↔◌, length, IsTrue, IsSome, IfSome, IfOk, Ok, Err, Some, ℤ};
+ghost use Rattle.std.specs.Prelude.{◌≡◌, ◌+◌, ◌/◌, ◌^◌, ◌<◌, ◌≤◌, ◌↔◌, length, IsTrue, IsSome, IfSome, IfOk, Ok, Err, Some, ℤ, codes};
+ghost use Rattle.std.specs.Str.{bytes_eq};
 ghost use Rattle.humantime.specs.declared.date.error.TimestampError.{TimestampError};
 ghost use Rattle.humantime.specs.Times.{nanos_per_second};
 ghost use Rattle.humantime.specs.Timestamps.{nanos_of, seconds_of, IsWeakMoment, IsStrictMoment};
@@ -15,6 +16,19 @@ use crate::value::SystemTime;
 
 #[cfg(test)]
 mod tests;
+
+// How many nanoseconds a 1 at each of the nine places of a fraction counts.
+static WEIGHTS: [u32; 9] = [
+    100_000_000,
+    10_000_000,
+    1_000_000,
+    100_000,
+    10_000,
+    1_000,
+    100,
+    10,
+    1,
+];
 
 /// The moment that the text shows, in the weak form of a timestamp.
 ///
@@ -61,7 +75,16 @@ pub fn parse_rfc3339(s: &str) -> Result<SystemTime, TimestampError>
 fn is_complete(b: &[u8]) -> bool
     ensures { result ≡ TimestampChecks.is_complete b.now }
 {
-    b.len() >= 20 && b[10] == b'T' && (b.ends_with(b"Z") || b.ends_with(b"+00:00"))
+    b.len() >= 20 && b[10] == b'T' && ends_in_zone(b)
+}
+
+// `Z` or `+00:00` at the end.
+#[tactic(auto, using(crate::proofs::TimestampEndLemmas::last_letter, crate::proofs::TimestampEndLemmas::last_offset))]
+fn ends_in_zone(b: &[u8]) -> bool
+    requires { 6 ≤ length b.now }
+    ensures { result ≡ TimestampChecks.ends_in_zone b.now }
+{
+    b[b.len() - 1] == b'Z' || is_offset(&b[b.len() - 6..])
 }
 
 // The moment, or the error of the first check that fails.
@@ -187,7 +210,20 @@ fn has_point(b: &[u8]) -> bool
 fn is_zone(b: &[u8]) -> bool
     ensures { result ≡ TimestampChecks.is_zone b.now }
 {
-    b.is_empty() || b == b"Z".as_slice() || b == b"+00:00".as_slice()
+    match b.len() {
+        0 => true,
+        1 => b[0] == b'Z',
+        6 => is_offset(b),
+        _ => false,
+    }
+}
+
+// `+00:00`, of six bytes.
+fn is_offset(b: &[u8]) -> bool
+    requires { length b.now ≡ 6 }
+    ensures { result ≡ bytes_eq b.now (codes "+00:00") }
+{
+    b[0] == b'+' && b[1] == b'0' && b[2] == b'0' && b[3] == b':' && b[4] == b'0' && b[5] == b'0'
 }
 
 // The nanoseconds of the digits at the front, cut to nine of them, and what stands after them.
@@ -198,13 +234,20 @@ fn read_fraction(rest: &[u8]) -> (u32, &[u8])
     ensures rest { result.1.now ≡ TimestampChecks.past_digits rest.now }
 {
     let mut nanos = 0;
-    let mut unit = 100_000_000;
     for (i, c) in rest.iter().enumerate() {
         if !c.is_ascii_digit() {
             return (nanos, &rest[i..]);
         }
-        nanos += unit * (*c - b'0') as u32;
-        unit /= 10;
+        nanos += weight_of(i) * (*c - b'0') as u32;
     }
     (nanos, b"")
+}
+
+// How many nanoseconds a 1 at this place of a fraction counts: none past the ninth.
+#[inline(always)]
+#[tactic(auto, using(crate::proofs::TimestampFractionLemmas::no_weight))]
+fn weight_of(at: usize) -> u32
+    ensures { result ≡ 100_000_000 / 10 ^ at }
+{
+    if at < 9 { WEIGHTS[at] } else { 0 }
 }

@@ -245,11 +245,13 @@ fn write_date_time(x: DateTime, precision: Precision, buf: &mut [u8; 30]) -> usi
     match precision {
         Precision::Millis => end_at(buf, 23),
         Precision::Micros => end_at(buf, 26),
+        // All nine digits.
         _ => end_at(buf, 29),
     }
 }
 
-// Writes `YYYY-MM-DDTHH:MM:SS` and a point to the front of the buffer.
+// Writes `YYYY-MM-DDTHH:MM:SS` and a point to the front of the buffer. The signs come with the pattern, and
+// the digits take the place of its letters.
 #[inline(always)]
 fn write_time(x: DateTime, buf: &mut [u8; 30])
     requires { FitsPlaces x }

@@ -14,6 +14,9 @@ use crate::duration::iter::SpanIter;
 use crate::duration::sum::add_amount;
 use crate::value::StdDuration;
 
+#[cfg(test)]
+mod tests;
+
 /// The spans of a text from left to right, and then the fault at which they stop, if there is one.
 ///
 /// Its errors are those of [`parse_duration`] save the one of a sum that is too large: what the spans add

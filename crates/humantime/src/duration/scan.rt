@@ -1,7 +1,7 @@
 //! Steps over a text: a character, a number, a fraction.
 
-ghost use Rattle.std.specs.Prelude.{◌≡◌, ◌≢◌, ◌++◌, [], ◌∷◌, ℕ, List, chars, option_map, encode_utf8, IfNone, IfSome, IfOk, SomeIff, ◌+◌, ◌-◌, ◌*◌, ◌≤◌};
-ghost use Rattle.humantime.specs.Characters.{IsDigit, u64_max};
+ghost use Rattle.std.specs.Prelude.{◌≡◌, false, ◌≢◌, ◌++◌, [], ◌∷◌, ℕ, List, chars, option_map, encode_utf8, IfNone, IfSome, IfOk, SomeIff, ◌+◌, ◌-◌, ◌*◌, ◌≤◌};
+ghost use Rattle.humantime.specs.Characters.{IsDigit, is_point, begins, u64_max};
 ghost use Rattle.humantime.specs.Errors.{seen};
 ghost use Rattle.humantime.specs.Scales.{parts_of};
 ghost use Rattle.humantime.specs.Scanning.{IsTail, number_at, digits_at, fraction_read};
@@ -16,18 +16,16 @@ const FRACTION_DIGITS: u32 = 19;
 /// A number up to this one can take another digit.
 const TENTH_OF_MAX: u64 = 1_844_674_407_370_955_161;
 
-/// The first character of a text that begins with no ASCII character.
+/// The first character of a text, for one that is not ASCII.
 #[cold]
 #[inline(never)]
-fn first_wide(text: &str) -> Option<(char, &str)>
-    ensures none { IfNone result (chars text.now ≡ []) }
-    ensures chars { IfSome result (λ x. chars text.now ≡ x.0 ∷ chars x.1.now) }
-    ensures tail { IfSome result (λ x. IsTail text.now x.1.now) }
+fn wide_char(text: &str) -> char
+    requires { chars text.now ≢ [] }
+    ensures { (rest : List ℕ) × (text.now ≡ encode_utf8 result ++ rest) }
 {
-    let mut all = text.chars();
-    match all.next() {
-        None => None,
-        Some(c) => Some((c, all.as_str())),
+    match text.chars().next() {
+        Some(c) => c,
+        None => unreachable!(),
     }
 }
 
@@ -46,7 +44,8 @@ pub(crate) fn first(text: &str) -> Option<(char, &str)>
     if byte < 0x80 {
         return Some((byte as char, &text[1..]));
     }
-    first_wide(text)
+    let c = wide_char(text);
+    Some((c, &text[c.len_utf8()..]))
 }
 
 /// Ten times the value and the digit, or `None` where that is too large.
@@ -112,6 +111,23 @@ fn read_digits<'a>(text: &'a str) -> Result<(Fraction, &'a str), DurationError<'
     Ok((Fraction { value, count }, rest))
 }
 
+/// What follows the point at the front of the text, if there is one.
+#[inline(always)]
+fn past_point(text: &str) -> Option<&str>
+    ensures none { IfNone result (begins is_point (chars text.now) ≡ false) }
+    ensures chars { IfSome result (λ rest. chars text.now ≡ 46 ∷ chars rest.now) }
+    ensures tail { IfSome result (λ rest. IsTail text.now rest.now) }
+{
+    let bytes = text.as_bytes();
+    if bytes.is_empty() {
+        return None;
+    }
+    if bytes[0] != b'.' {
+        return None;
+    }
+    Some(&text[1..])
+}
+
 /// The fraction at the front of the text, if there is one, and what follows it.
 #[inline(always)]
 pub(crate) fn read_fraction<'a>(
@@ -120,11 +136,9 @@ pub(crate) fn read_fraction<'a>(
     ensures value { seen (λ x. (option_map parts_of x.0, chars x.1.now)) result ≡ fraction_read (chars text.now) }
     ensures tail { IfOk result (λ x. IsTail text.now x.1.now) }
 {
-    if let Some((c, after)) = first(text) {
-        if class_of(c) == Class::Point {
-            let (digits, rest) = read_digits(after)?;
-            return Ok((Some(digits), rest));
-        }
-    }
-    Ok((None, text))
+    let Some(after) = past_point(text) else {
+        return Ok((None, text));
+    };
+    let (digits, rest) = read_digits(after)?;
+    Ok((Some(digits), rest))
 }

@@ -3,11 +3,12 @@
 ghost use Rattle.std.specs.Prelude.{nat_abs};
 ghost use Rattle.humantime.specs.Timestamps.{IsWeak, IsStrict};
 ghost use Rattle.humantime.specs.TimestampChecks.{weak_checks, strict_checks};
-ghost use Rattle.humantime.specs.TimestampLaws.{OneTimestamp, StrictIsWeak, StrictMomentIsWeak};
+ghost use Rattle.humantime.specs.TimestampLaws.{OneTimestamp, StrictIsWeak, StrictMomentIsWeak, InOrder};
 ghost use Rattle.humantime.specs.TimestampPrinted.{IsPrintable, OnePrinted};
 ghost use Rattle.humantime.specs.TimestampPrinting.{moment_kept, places_kept};
 
 use crate::date::Rfc3339Timestamp;
+use crate::value::SystemTime;
 
 /// A text in strict form is one in weak form with a `T` between date and time and a zone at its end.
 ///
@@ -46,4 +47,15 @@ pub fn printed_moment_reads(x: &Rfc3339Timestamp)
     ensures { IsPrintable (moment_kept x.now) → OnePrinted (nat_abs (moment_kept x.now)) (places_kept x.now) }
 {
     let _ = x;
+}
+
+/// Printed texts with equally many digits stand, as bytes, in the order of their moments, cut to these digits.
+///
+/// ```text
+/// stamps_in_order(earlier, later)
+/// ```
+pub fn stamps_in_order(a: SystemTime, b: SystemTime)
+    ensures { IsPrintable a → IsPrintable b → InOrder (nat_abs a) (nat_abs b) }
+{
+    let _ = (a, b);
 }
