@@ -11,7 +11,7 @@ use Rattle.humantime.specs.DigitText.{nine_digits}
 use Rattle.humantime.specs.Moment.{nano_of}
 use Rattle.humantime.specs.Times.{nanos_per_second}
 use Rattle.humantime.specs.Timestamps.{Letter_T, Letter_Z, Fields, written}
-use Rattle.humantime.specs.TimestampPrinted.{year_10000}
+use Rattle.humantime.specs.TimestampPrinted.{year_10000, IsPrinted}
 
 -- how many digits the fraction has
 abbrev pub places : Precision → ℕ
@@ -27,6 +27,10 @@ moment_kept x = x.moment
 -- how many digits its fraction is printed with
 abbrev pub places_kept : Rfc3339Timestamp → ℕ
 places_kept x = places x.precision
+
+-- the text is that moment, printed with so many digits
+abbrev pub IsTextOf : Rfc3339Timestamp → List ℕ → Type 0
+IsTextOf x text = IsPrinted (nat_abs (moment_kept x)) (places_kept x) text
 
 -- nothing for no digits, and else the first k of nine
 abbrev pub fraction_of : ℕ → ℕ → Option (List ℕ)

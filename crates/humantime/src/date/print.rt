@@ -1,12 +1,11 @@
 //! The printers of timestamps.
 
-ghost use Rattle.std.specs.Prelude.{◌≡◌, ◌+◌, ◌<◌, ◌≤◌, ◌↔◌, ◌==◌, IsSome, IfSome, IfNone, IsAscii, ◌++◌, take, drop, slice_set, codes, nat_abs, if◌then◌else◌};
+ghost use Rattle.std.specs.Prelude.{◌≡◌, ◌+◌, ◌<◌, ◌≤◌, ◌↔◌, IsSome, IfSome, IfNone, IsAscii, ◌++◌, take, drop, slice_set, codes, nat_abs};
 ghost use Rattle.std.specs.Str.{byte};
 ghost use Rattle.humantime.specs.DigitText.{two_digits};
-ghost use Rattle.humantime.specs.Moment.{nano_of};
 ghost use Rattle.humantime.specs.Timestamps.{time_text, written};
-ghost use Rattle.humantime.specs.TimestampPrinted.{IsPrintable, IsPrinted};
-ghost use Rattle.humantime.specs.TimestampPrinting.{places, places_of, moment_kept, places_kept, fields_shown, IsDateTimeOf, FitsPlaces};
+ghost use Rattle.humantime.specs.TimestampPrinted.{IsPrintable};
+ghost use Rattle.humantime.specs.TimestampPrinting.{places, places_of, moment_kept, places_kept, IsTextOf, fields_shown, IsDateTimeOf, FitsPlaces};
 
 use crate::calendar::{Date, date_of_day};
 use crate::turns::Turns;
@@ -165,7 +164,7 @@ impl Rfc3339Timestamp {
     /// ```
     pub fn text<'b>(&self, buf: &'b mut [u8; 30]) -> Option<&'b str>
         ensures within { IsSome result ↔ IsPrintable (moment_kept self.now) }
-        ensures text { IfSome result (λ t. IsPrinted (nat_abs (moment_kept self.now)) (places_kept self.now) t.now) }
+        ensures text { IfSome result (λ t. IsTextOf self.now t.now) }
     {
         let len = self.write(buf)?;
         Some(front(buf, len))
@@ -175,7 +174,7 @@ impl Rfc3339Timestamp {
     pub(crate) fn write(&self, buf: &mut [u8; 30]) -> Option<usize>
         ensures within { IsSome result ↔ IsPrintable (moment_kept self.now) }
         ensures fits { IfSome result (λ len. len ≤ 30) }
-        ensures text { IfSome result (λ len. IsPrinted (nat_abs (moment_kept self.now)) (places_kept self.now) (take len buf.new)) }
+        ensures text { IfSome result (λ len. IsTextOf self.now (take len buf.new)) }
         ensures unchanged { IfNone result (buf.new ≡ buf.old) }
     {
         let date_time = date_time_of(self.moment)?;

@@ -1,44 +1,8 @@
-ghost use Rattle.std.specs.Prelude.{◌≤◌};
-
 use super::*;
 use crate::date::parse_rfc3339;
+use crate::sinks::Sink;
 use std::fmt::Write;
 use std::test::Fail;
-
-// A sink over memory that counts the requests, and refuses each where it is told so.
-#[derive(Drop)]
-struct Sink {
-    bytes: [u8; 64],
-    len: usize,
-    requests: u32,
-    refuses: bool,
-    ghost in_range: { len ≤ 64 },
-}
-
-impl Sink {
-    fn new(refuses: bool) -> Sink {
-        Sink {
-            bytes: [0; 64],
-            len: 0,
-            requests: 0,
-            refuses,
-        }
-    }
-}
-
-impl fmt::Write for Sink {
-    fn write_str(&mut self, s: &str) -> fmt::Result {
-        self.requests = self.requests.wrapping_add(1);
-        if self.refuses || s.len() > 64 - self.len {
-            return Err(fmt::Error);
-        }
-        let end = self.len + s.len();
-        let all = &mut self.bytes[..];
-        all[self.len..end].copy_from_slice(s.as_bytes());
-        self.len = end;
-        Ok(())
-    }
-}
 
 fn moment(secs: i64, nanos: u32) -> Result<SystemTime, Fail> {
     Ok(SystemTime::from_parts(secs, nanos).ok_or("a moment")?)
@@ -129,10 +93,10 @@ fn printed_moments(rt: HostRuntime) -> Result<(), Fail> {
     for (printable, want) in cases {
         let mut buf = [0; 30];
         assert_eq!(rt; printable.text(&mut buf), Some(want));
-        let mut sink = Sink::new(false);
+        let mut sink = Sink::open();
         write!(sink, "{printable}")?;
-        assert_eq!(rt; &sink.bytes[..sink.len], want.as_bytes(), "{want}");
-        assert_eq!(rt; sink.requests, 1, "{want}");
+        assert_eq!(rt; sink.bytes(), want.as_bytes(), "{want}");
+        assert_eq!(rt; sink.requests(), 1, "{want}");
     }
     Ok(())
 }
@@ -170,9 +134,9 @@ fn moments_that_are_not_printed(rt: HostRuntime) -> Result<(), Fail> {
             let mut buf = [7; 30];
             assert_eq!(rt; printable.text(&mut buf), None, "{secs}");
             assert_eq!(rt; buf, [7; 30], "{secs}");
-            let mut sink = Sink::new(false);
+            let mut sink = Sink::open();
             assert_eq!(rt; write!(sink, "{printable}"), Err(fmt::Error), "{secs}");
-            assert_eq!(rt; (sink.requests, sink.len), (0, 0), "{secs}");
+            assert_eq!(rt; (sink.requests(), sink.bytes().len()), (0, 0), "{secs}");
         }
     }
     Ok(())
@@ -181,22 +145,19 @@ fn moments_that_are_not_printed(rt: HostRuntime) -> Result<(), Fail> {
 #[test]
 fn width_and_fill_are_ignored(rt: HostRuntime) -> Result<(), Fail> {
     let printable = format_rfc3339_millis(moment(1518563312, 456123999)?);
-    let mut sink = Sink::new(false);
+    let mut sink = Sink::open();
     write!(sink, "{printable:*>80}")?;
-    assert_eq!(rt;
-        &sink.bytes[..sink.len],
-        b"2018-02-13T23:08:32.456Z".as_slice()
-    );
-    assert_eq!(rt; sink.requests, 1);
+    assert_eq!(rt; sink.bytes(), b"2018-02-13T23:08:32.456Z".as_slice());
+    assert_eq!(rt; sink.requests(), 1);
     Ok(())
 }
 
 #[test]
 fn a_sink_that_refuses(rt: HostRuntime) -> Result<(), Fail> {
     let printable = format_rfc3339(moment(0, 0)?);
-    let mut sink = Sink::new(true);
+    let mut sink = Sink::refusing();
     assert_eq!(rt; write!(sink, "{printable}"), Err(fmt::Error));
-    assert_eq!(rt; (sink.requests, sink.len), (1, 0));
+    assert_eq!(rt; (sink.requests(), sink.bytes().len()), (1, 0));
     Ok(())
 }
 

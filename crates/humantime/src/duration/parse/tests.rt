@@ -165,7 +165,9 @@ fn fractions_of_a_minute_and_more(rt: HostRuntime) {
 #[test]
 fn the_greatest_values_are_reached(rt: HostRuntime) {
     let most = u64::MAX;
+    let nine_counts = "584542046090years 7months 15days 17h 5m 3s 999ms 999us 999ns";
     let rows = [
+        (nine_counts, most, 999_999_999),
         ("18446744073709551615ns 1ns", 18_446_744_073, 709_551_616),
         ("18446744073709551615.999999999s", most, 999_999_999),
         ("18446744073709551615s 999999999ns", most, 999_999_999),

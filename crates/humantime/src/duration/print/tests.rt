@@ -1,53 +1,12 @@
-ghost use Rattle.std.specs.Prelude.{⊤};
-
 use super::{canonical, format_duration};
 use crate::duration::error::DurationError;
 use crate::duration::parse::parse_duration;
+use crate::sinks::Sink;
 use crate::value::StdDuration;
 use std::fmt::{self, Write};
 use std::test::Fail;
 
 const LONGEST: &str = "100000000000years 11months 29days 23h 59m 59s 999ms 999us 999ns";
-
-/// Keeps what it is asked to take and counts the requests, or refuses each of them.
-#[derive(Drop)]
-struct Memory {
-    bytes: [u8; 80],
-    len: usize,
-    requests: u32,
-    refuses: bool,
-}
-
-impl Memory {
-    fn new(refuses: bool) -> Memory {
-        Memory {
-            bytes: [0; 80],
-            len: 0,
-            requests: 0,
-            refuses,
-        }
-    }
-
-    fn holds(&self, text: &str) -> bool {
-        self.len == text.len() && self.bytes.starts_with(text.as_bytes())
-    }
-}
-
-impl fmt::Write for Memory {
-    ghost write_str_gives = { λ s bs t. ⊤ };
-
-    fn write_str(&mut self, text: &str) -> fmt::Result {
-        self.requests = self.requests.saturating_add(1);
-        let end = self.len.saturating_add(text.len());
-        if self.refuses || end > 80 {
-            return Err(fmt::Error);
-        }
-        let bytes = &mut self.bytes[..];
-        bytes[self.len..end].copy_from_slice(text.as_bytes());
-        self.len = end;
-        Ok(())
-    }
-}
 
 #[test]
 fn a_duration_is_printed_in_its_greatest_counts(rt: HostRuntime) -> Result<(), Fail> {
@@ -81,23 +40,23 @@ fn a_duration_is_printed_in_its_greatest_counts(rt: HostRuntime) -> Result<(), F
 #[test]
 fn width_and_fill_change_nothing(rt: HostRuntime) {
     let printed = format_duration(StdDuration::from_secs(1_296_122));
-    let mut sink = Memory::new(false);
+    let mut sink = Sink::open();
     assert!(rt; write!(sink, "{printed:>80}").is_ok());
-    assert!(rt; sink.holds("15days 2m 2s"));
+    assert_eq!(rt; sink.bytes(), b"15days 2m 2s".as_slice());
     assert!(rt; write!(sink, "{printed:*<80}").is_ok());
-    assert!(rt; sink.holds("15days 2m 2s15days 2m 2s"));
+    assert_eq!(rt; sink.bytes(), b"15days 2m 2s15days 2m 2s".as_slice());
 }
 
 #[test]
 fn a_sink_is_asked_once(rt: HostRuntime) {
     let printed = format_duration(StdDuration::from_secs(1_296_122));
-    let mut sink = Memory::new(false);
+    let mut sink = Sink::open();
     assert_eq!(rt; write!(sink, "{printed}"), Ok(()));
-    assert_eq!(rt; sink.requests, 1);
-    let mut refusing = Memory::new(true);
+    assert_eq!(rt; sink.requests(), 1);
+    let mut refusing = Sink::refusing();
     assert_eq!(rt; write!(refusing, "{printed}"), Err(fmt::Error));
-    assert_eq!(rt; refusing.requests, 1);
-    assert_eq!(rt; refusing.len, 0);
+    assert_eq!(rt; refusing.requests(), 1);
+    assert_eq!(rt; refusing.bytes().len(), 0);
 }
 
 #[test]
