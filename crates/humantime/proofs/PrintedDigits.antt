@@ -1,5 +1,5 @@
 -- The digits of a printed count, as a number of a text.
-use Rattle.std.proofs.Common.{◌≡◌, ℕ, ◌<◌, ◌≤◌, ◌^◌, true, false, List, [], ◌∷◌, length, refl, ap, ◌∙◌, arith}
+use Rattle.std.proofs.Common.{◌≡◌, ℕ, ◌<◌, ◌^◌, true, List, [], ◌∷◌, length, refl, ap, arith}
 use Rattle.std.specs.Prelude.{decimal}
 use Rattle.std.specs.Int.{IsInRange}
 use Rattle.std.specs.Str.Parse.{AllDigits}
@@ -7,7 +7,7 @@ use Rattle.std.proofs.lemmas.Str.Parse.{digit_from_value}
 use Rattle.std.proofs.lemmas.Fmt.{decimal_is_IsNumeral}
 use Rattle.std.proofs.lemmas.Bool.Decides.{nat_tests}
 use Rattle.humantime.specs.declared.duration.class.Class.TheVariants.{Digit}
-use Rattle.humantime.specs.Characters.{class_of, digit, white, is_digit, is_ws, is_numeric, begins, digits, decimal_value}
+use Rattle.humantime.specs.Characters.{class_of, is_digit, is_numeric, begins, digits, decimal_value}
 use Rattle.humantime.specs.Spans.{Only}
 
 digit_here : (c : ℕ) → IsInRange 48 57 c → class_of c ≡ Digit

@@ -1,11 +1,11 @@
 -- The rows of printed counts: what each unit's word stands for.
-use Rattle.std.proofs.Common.{◌≡◌, ◌⊎◌, inl, inr, ℕ, ◌*◌, ◌^◌, ◌<◌, ◌≤◌, Bool, true, false, cond, List, [], ◌∷◌, ◌++◌, refl, subst, arith}
-use Rattle.std.specs.Prelude.{◌&&◌, Option, Some, None, codes, decimal, nat_lt}
+use Rattle.std.proofs.Common.{◌≡◌, ◌⊎◌, inl, inr, ℕ, ◌*◌, ◌^◌, ◌<◌, ◌≤◌, Bool, true, false, cond, List, [], ◌∷◌, ◌++◌, refl, arith}
+use Rattle.std.specs.Prelude.{◌&&◌, Some, None, codes, decimal, nat_lt}
 use Rattle.std.specs.Str.{IsUtf8, is_utf8, chars}
 use lib.Utf8.{encode}
 use Rattle.std.proofs.lemmas.Str.{IsUtf8-from_is_utf8}
 use Rattle.humantime.specs.Times.{nanos_per_second}
-use Rattle.humantime.specs.Characters.{class_of, is_letter, leading, begins, u64_max}
+use Rattle.humantime.specs.Characters.{class_of, is_letter, leading, begins}
 use Rattle.humantime.specs.Units.{Scale, in_nanos, in_seconds, in_seconds_and_nanos, scale_of_word}
 use Rattle.humantime.specs.Spans.{Span, Only}
 use Rattle.humantime.specs.Counts.{weights, Suffix, suffixes}

@@ -1,6 +1,6 @@
 -- A printed text is spans within all limits, which add up to its duration.
 use Rattle.std.proofs.Common.{◌≡◌, ◌≢◌, ◌⊎◌, inl, inr, ℕ, zero, suc, ◌+◌, ◌*◌, ◌/◌, ◌%◌, ◌^◌, ◌<◌, ◌≤◌, List, [], ◌∷◌, ◌++◌, length, Option, Some, None, refl, sym, ap, subst, ◌∙◌, arith, rules}
-use Rattle.std.specs.Prelude.{IsSome, IfSome, codes, decimal, chars}
+use Rattle.std.specs.Prelude.{IsSome, codes, decimal, chars}
 use Rattle.std.specs.Str.{IsUtf8}
 use Rattle.std.specs.List.{AllByRecursion, join_with_byte}
 use Rattle.std.proofs.Math.Nat.{mul_assoc, mul_comm}
@@ -12,11 +12,11 @@ use Rattle.std.proofs.lemmas.Fmt.{IsAscii-decimal, decimal_digit}
 use Rattle.humantime.specs.Times.{nanos_per_second}
 use Rattle.humantime.specs.Characters.{class_of, is_ws, decimal_value, u64_max}
 use Rattle.humantime.specs.Units.{Scale, scale_of_word}
-use Rattle.humantime.specs.Spans.{Span, Only, SpellsFraction, Spells, SpellsEach, Addition, nanos_of, total, fraction_additions, additions_at, additions_of, additions, Formed, Fits, HasRoom, Accepted}
+use Rattle.humantime.specs.Spans.{Span, Only, Spells, SpellsEach, total, fraction_additions, additions_of, additions, Formed, Fits, HasRoom, Accepted}
 use Rattle.humantime.specs.Counts.{weights, weighted_sum, Suffix, suffixes, without_plural, printed_count, printed_counts, joined_by_space, Canon}
 use Rattle.humantime.specs.Printing.{divided, duration_text}
 use Rattle.humantime.proofs.Rooms.{RoomFrom, RoomFrom-append, total-append, all_have_room}
-use Rattle.humantime.proofs.PrintedDigits.{IsNumber, decimal_number}
+use Rattle.humantime.proofs.PrintedDigits.{decimal_number}
 use Rattle.humantime.proofs.PrintedRows.{word_for, span_for, IsWord, Table, table, most, seconds}
 use Rattle.humantime.proofs.GreatestCounts.{canon_is_text, divided_sum, length-divided, weights_reach}
 

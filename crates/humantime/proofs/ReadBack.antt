@@ -1,12 +1,11 @@
 -- What holds of printed texts, for every duration and every text.
-use Rattle.std.proofs.Common.{◌≡◌, ◌↔◌, ◌⊎◌, inl, inr, ℕ, ◌+◌, ◌/◌, ◌≤◌, List, [], ◌∷◌, refl, sym, ap, subst, ◌∙◌, arith}
+use Rattle.std.proofs.Common.{◌≡◌, inl, inr, ℕ, ◌+◌, ◌/◌, ◌≤◌, List, [], ◌∷◌, sym, subst, ◌∙◌, arith}
 use Rattle.std.specs.Prelude.{chars, Result, Ok}
 use Rattle.std.proofs.lemmas.List.Sums.{sum_by-cons}
 use Rattle.humantime.specs.Times.{nanos_per_second}
 use Rattle.humantime.specs.Characters.{u64_max}
 use Rattle.humantime.specs.Spans.{Addition, nanos_of, total, additions, Accepted}
 use Rattle.humantime.specs.Faults.{Fault}
-use Rattle.humantime.specs.Reading.{outcome}
 use Rattle.humantime.specs.Counts.{Canon}
 use Rattle.humantime.specs.Canonical.{IsCanonicalOf}
 use Rattle.humantime.specs.Printing.{duration_text}

@@ -7,7 +7,7 @@ use Rattle.humantime.specs.declared.date.error.TimestampError.{TimestampError}
 use Rattle.humantime.specs.declared.date.error.TimestampError.TheVariants.{OutOfRange, InvalidDigit, InvalidFormat}
 use Rattle.humantime.specs.Timestamps.{nanos_of, fraction_digits, seconds_of}
 use Rattle.humantime.specs.TimestampChecks.{is_zone, has_signs, has_digits, in_range, has_point, ends_whole, ends_fraction}
-use Rattle.humantime.specs.TimestampReading.{fraction_at, fields_of, end_answer, answer, weak_answer}
+use Rattle.humantime.specs.TimestampReading.{fraction_answer, fraction_at, fields_of, end_answer, answer, weak_answer}
 use Rattle.humantime.proofs.TimestampFractionLemmas.{nanos_none}
 
 -- date and time are right
@@ -57,3 +57,13 @@ unfolding ends_whole ends_fraction
 exit_plain b point zone =
     let rest : is_zone (drop 19 b) ≡ true = rw (take_rest b 19) at zone in
     rw (point, rest) (ap Ok (sym nanos_none))
+
+pub exit_no_zone : (b : List ℕ) → has_point b ≡ false → is_zone (take (length b - 19) (drop 19 b)) ≡ false → Err InvalidFormat ≡ end_answer b
+unfolding ends_whole ends_fraction
+exit_no_zone b point zone =
+    let rest : is_zone (drop 19 b) ≡ false = rw (take_rest b 19) at zone in
+    rw (point, rest) refl
+
+pub exit_fraction : (b : List ℕ) → has_point b ≡ true → fraction_answer (take (length b - 20) (drop 20 b)) ≡ end_answer b
+unfolding ends_whole ends_fraction
+exit_fraction b point = rw (take_rest b 20, point) refl

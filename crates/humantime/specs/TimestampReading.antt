@@ -6,7 +6,7 @@ use Rattle.humantime.specs.declared.calendar.Date.{Date}
 use Rattle.humantime.specs.declared.date.error.TimestampError.{TimestampError}
 use Rattle.humantime.specs.declared.date.error.TimestampError.TheVariants.{InvalidDigit, InvalidFormat}
 use Rattle.humantime.specs.Timestamps.{Letter_T, Space, Zone, Nothing, Letter_Z, Offset, Fields, fraction_digits, nanos_of, moment_of}
-use Rattle.humantime.specs.TimestampChecks.{two_at, past_digits, has_point, ends_whole, ends_fraction, weak_checks, first_failed}
+use Rattle.humantime.specs.TimestampChecks.{two_at, past_digits, is_zone, has_point, ends_whole, ends_fraction, weak_checks, first_failed}
 
 -- the digits at the front
 abbrev pub front_digits : List ℕ → List ℕ
@@ -40,6 +40,10 @@ fields_of b = record {
   fraction = fraction_at b;
   zone = zone_at b;
 }
+
+-- the nanoseconds of what stands after a point, or the error of its end
+abbrev pub fraction_answer : List ℕ → Result ℕ TimestampError
+fraction_answer rest = if is_zone (past_digits rest) then Ok (nanos_of (front_digits rest)) else Err InvalidDigit
 
 -- the nanoseconds, or the error of the end
 abbrev pub end_answer : List ℕ → Result ℕ TimestampError

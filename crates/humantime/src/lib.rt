@@ -10,7 +10,7 @@ mod date;
 mod duration;
 pub mod laws;
 #[cfg(test)]
-mod sinks;
+mod testing;
 mod turns;
 mod unit;
 mod value;

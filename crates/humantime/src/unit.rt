@@ -5,8 +5,6 @@ ghost use Rattle.humantime.specs.Units.{scale_of_word};
 ghost use Rattle.humantime.specs.Scales.{scale_of};
 ghost use Rattle.humantime.specs.Keys.{key, scale_of_key};
 
-#[cfg(test)]
-mod tests;
 mod words;
 
 /// A unit of time.

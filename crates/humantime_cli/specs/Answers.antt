@@ -57,6 +57,11 @@ pub data Answers (words : List (List ℕ)) (status : ℕ) (out err : List ℕ) :
   -- any other words: how the program is called
   Misused : IsNoCommand words → status ≡ 2 → out ≡ [] → err ≡ line usage → Answers words status out err
 
+-- no other answer to the words
+abbrev pub OneAnswer : List (List ℕ) → Type 0
+OneAnswer words =
+    (status other : ℕ) (out err out' err' : List ℕ) → Answers words status out err → Answers words other out' err' → (other ≡ status) × (out' ≡ out) × (err' ≡ err)
+
 -- The program's end, and what the two writers took: from old_out to new_out, and from old_err to new_err.
 pub data Ends (words : List (List ℕ)) (status : ℕ) (old_out new_out old_err new_err : Option (List ℕ)) : Type 0 where
   -- just the answer

@@ -3,7 +3,7 @@
 ghost use Rattle.std.specs.Prelude.{◌≡◌, ◌∷◌, [], ℕ, List, codes, length, MatchOption, MatchResult, IfOk};
 ghost use Rattle.humantime.specs.TimestampMessages.{message_of};
 ghost use Rattle.humantime.specs.TimestampPrinted.{IsPrintable};
-ghost use Rattle.humantime_cli.specs.Answers.{texts, Ends, Prints, Refuses, IsPrintedMoment, IsNoCommand};
+ghost use Rattle.humantime_cli.specs.Answers.{texts, Ends, OneAnswer, Prints, Refuses, IsPrintedMoment, IsNoCommand};
 ghost use Rattle.humantime_cli.specs.Commands.{words_of, Tells};
 ghost use Rattle.humantime_cli.specs.Writes.{Writes, line};
 
@@ -47,7 +47,8 @@ enum Command<'a> {
 /// run(&["duration", "2h 37min"], &mut out, &mut err) == 0
 /// ```
 pub fn run<O: Write, E: Write>(words: &[&str], out: &mut O, err: &mut E) -> u8
-    ensures { Ends (texts words.now) result (O.contents out.old) (O.contents out.new) (E.contents err.old) (E.contents err.new) }
+    ensures ends { Ends (texts words.now) result (O.contents out.old) (O.contents out.new) (E.contents err.old) (E.contents err.new) }
+    ensures one { OneAnswer (texts words.now) }
 {
     match command_of(words) {
         Some(Command::Duration(text)) => answer_duration(text, out, err),

@@ -3,6 +3,7 @@ ghost use Rattle.humantime.specs.Calendar.{is_leap_year, days_in_year, days_in_m
 ghost use Rattle.humantime.specs.Dates.{IsDate, day_of};
 
 use super::*;
+use crate::testing::assert_same;
 
 const TABLE: [(u32, u32, u32, u32); 23] = [
     (1970, 1, 1, 0),
@@ -35,12 +36,8 @@ fn days_and_dates_of_a_table(rt: HostRuntime) {
     let mut turns = Turns::new();
     for (year, month, day, number) in TABLE {
         let date = Date { year, month, day };
-        assert_eq!(rt;
-            day_number(date, &mut turns),
-            Some(number),
-            "{year}-{month}-{day}"
-        );
-        assert_eq!(rt; date_of_day(number, &mut turns), Some(date), "{number}");
+        assert_same(&rt, day_number(date, &mut turns), Some(number));
+        assert_same(&rt, date_of_day(number, &mut turns), Some(date));
     }
 }
 
@@ -60,9 +57,9 @@ fn dates_that_do_not_exist(rt: HostRuntime) {
     ];
     for (year, month, day) in none {
         let date = Date { year, month, day };
-        assert_eq!(rt; day_number(date, &mut turns), None, "{year}-{month}-{day}");
+        assert_same(&rt, day_number(date, &mut turns), None);
     }
-    assert_eq!(rt; date_of_day(2932897, &mut turns), None);
+    assert_same(&rt, date_of_day(2932897, &mut turns), None);
 }
 
 // The plain calendar, in which years are counted one by one. It has the contracts of the fast one.
@@ -171,11 +168,7 @@ fn days_are_those_that_a_plain_program_counts(rt: HostRuntime) {
         let month = 1 + year % 12;
         let day = 1 + year % 28;
         let date = Date { year, month, day };
-        assert_eq!(rt;
-            day_number(date, &mut turns),
-            counted_day(date),
-            "{year}-{month}-{day}"
-        );
+        assert_same(&rt, day_number(date, &mut turns), counted_day(date));
     }
 }
 
@@ -184,7 +177,7 @@ fn dates_are_those_that_a_plain_program_counts(rt: HostRuntime) {
     let mut turns = Turns::new();
     for step in 0..20000 {
         let day = step * 146 + step % 7;
-        assert_eq!(rt; date_of_day(day, &mut turns), counted_date(day), "{day}");
+        assert_same(&rt, date_of_day(day, &mut turns), counted_date(day));
     }
 }
 
@@ -198,8 +191,8 @@ fn every_day_in_both_directions(rt: HostRuntime) {
         day: 1,
     };
     for number in 0..2932897 {
-        assert_eq!(rt; day_number(date, &mut turns), Some(number));
-        assert_eq!(rt; date_of_day(number, &mut turns), Some(date));
+        assert_same(&rt, day_number(date, &mut turns), Some(number));
+        assert_same(&rt, date_of_day(number, &mut turns), Some(date));
         if date.day < length_of_month(date.year, date.month) {
             date.day = date.day.wrapping_add(1);
         } else if date.month < 12 {
@@ -211,5 +204,5 @@ fn every_day_in_both_directions(rt: HostRuntime) {
             date.day = 1;
         }
     }
-    assert_eq!(rt; date.year, 10000);
+    assert_same(&rt, date.year, 10000);
 }

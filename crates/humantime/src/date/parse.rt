@@ -178,23 +178,30 @@ fn read_seconds(b: &[u8]) -> Option<u64>
 }
 
 // The nanoseconds, where the end is right.
-#[tactic(auto, using(crate::proofs::TimestampFractionLemmas::nanos_none), unfolding(crate::specs::TimestampChecks::ends_whole, crate::specs::TimestampChecks::ends_fraction))]
 fn read_end(b: &[u8]) -> Result<u32, TimestampError>
     requires { 19 ≤ length b.now }
     ensures value { result ≡ TimestampReading.end_answer b.now }
     ensures bound { IfOk result (λ n. n < nanos_per_second) }
 {
     if has_point(b) {
-        let (nanos, rest) = read_fraction(&b[20..]);
-        if is_zone(rest) {
-            Ok(nanos)
-        } else {
-            Err(TimestampError::InvalidDigit)
-        }
+        read_fraction_end(&b[20..])
     } else if is_zone(&b[19..]) {
         Ok(0)
     } else {
         Err(TimestampError::InvalidFormat)
+    }
+}
+
+// The nanoseconds of a fraction, where the end after it is right.
+fn read_fraction_end(rest: &[u8]) -> Result<u32, TimestampError>
+    ensures value { result ≡ TimestampReading.fraction_answer rest.now }
+    ensures bound { IfOk result (λ n. n < nanos_per_second) }
+{
+    let (nanos, end) = read_fraction(rest);
+    if is_zone(end) {
+        Ok(nanos)
+    } else {
+        Err(TimestampError::InvalidDigit)
     }
 }
 

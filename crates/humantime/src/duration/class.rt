@@ -5,9 +5,6 @@ ghost use Rattle.std.specs.Char.{is_whitespace};
 ghost use Rattle.humantime.specs.Characters.{class_of, IsOneOf, white_spaces};
 ghost use Rattle.humantime.specs.ClassCodes.{code_of};
 
-#[cfg(test)]
-mod tests;
-
 /// What a character is in a duration's text.
 #[derive(Clone, Copy, PartialEq, Eq, Debug)]
 pub(crate) enum Class {

@@ -19,9 +19,10 @@ mod tests;
 
 /// The spans of a text from left to right, and then the fault at which they stop, if there is one.
 ///
-/// Its errors are those of [`parse_duration`] save the one of a sum that is too large: what the spans add
-/// up to is not asked. After an error, and after the end, it gives `None` for good. The text `0` has no
-/// unit here.
+/// Its errors are those of [`parse_duration`], but the limits on values and sums are not asked: a number
+/// above `u64::MAX` and a fraction of 20 digits or more are too large here, and a value that is too large
+/// or too fine in its unit is not. The text `0` has no unit here. After an error, and after the end, it
+/// gives `None` for good.
 ///
 /// ```text
 /// spans("2h 37min x") gives the span of "2h", that of "37min", and NumberExpected(9)

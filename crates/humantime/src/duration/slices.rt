@@ -1,6 +1,6 @@
 //! Parts of a text.
 
-ghost use Rattle.std.specs.Prelude.{◌≡◌, ◌++◌, List, ℕ, chars, IsUtf8};
+ghost use Rattle.std.specs.Prelude.{◌≡◌, ◌-◌, ◌++◌, length, List, ℕ, chars, IsUtf8};
 ghost use Rattle.std.specs.Str.{drop_trailing_whitespace};
 ghost use Rattle.humantime.specs.Characters.{is_ws, is_letter, leading, past, offset_of};
 ghost use Rattle.humantime.specs.Lending.{trimmed};
@@ -13,7 +13,8 @@ use crate::duration::scan::first;
 #[inline(always)]
 pub(crate) fn offset_of(text: &str, rest: &str) -> usize
     requires { IsTail text.now rest.now }
-    ensures { result ≡ offset_of (chars text.now) (chars rest.now) }
+    ensures value { result ≡ offset_of (chars text.now) (chars rest.now) }
+    ensures bytes { result ≡ length text.now - length rest.now }
 {
     text.len() - rest.len()
 }
@@ -26,7 +27,7 @@ pub(crate) fn before<'a>(text: &'a str, rest: &str) -> &'a str
     ensures chars { chars text.now ≡ chars result.now ++ chars rest.now }
     ensures utf8 { IsUtf8 result.now }
 {
-    &text[..text.len() - rest.len()]
+    &text[..offset_of(text, rest)]
 }
 
 /// What follows the letters at the front of the text.

@@ -11,9 +11,6 @@ use crate::duration::amount::{Amount, Fraction};
 use crate::unit::Unit;
 use crate::value::StdDuration;
 
-#[cfg(test)]
-mod tests;
-
 /// The powers of ten that fit `u64`.
 static POWERS_OF_TEN: [u64; 20] = [
     1,

@@ -2,7 +2,7 @@ ghost use Rattle.std.specs.Prelude.{◌≡◌, ◌<◌, ◌<ℤ◌, ◌↔◌, I
 
 use super::*;
 use crate::UNIX_EPOCH;
-use crate::sinks::Sink;
+use crate::testing::{Sink, assert_same};
 use std::fmt::Write;
 use std::hash::{FoldHasher, Hash, Hasher};
 use std::test::Fail;
@@ -83,16 +83,17 @@ fn durations_read_and_print(rt: HostRuntime) -> Result<(), Fail> {
         ("0", 0, 0, "0s"),
     ] {
         let duration = Duration::from_str(text).ok().ok_or("refused")?;
-        assert_eq!(rt; duration.as_ref().as_secs(), secs);
-        assert_eq!(rt; duration.as_ref().subsec_nanos(), nanos);
+        assert_same(&rt, duration.as_ref().as_secs(), secs);
+        assert_same(&rt, duration.as_ref().subsec_nanos(), nanos);
         let mut sink = Sink::open();
         write!(sink, "{duration:>80}")?;
-        assert_eq!(rt; sink.bytes(), printed.as_bytes());
-        assert_eq!(rt; sink.requests(), 1);
+        assert_same(&rt, sink.bytes(), printed.as_bytes());
+        assert_same(&rt, sink.requests(), 1);
     }
-    assert_eq!(rt;
+    assert_same(
+        &rt,
         Duration::from_str("1foo~"),
-        Err(DurationError::InvalidCharacter(4))
+        Err(DurationError::InvalidCharacter(4)),
     );
     Ok(())
 }
@@ -100,23 +101,24 @@ fn durations_read_and_print(rt: HostRuntime) -> Result<(), Fail> {
 #[test]
 fn durations_wrap_their_value(rt: HostRuntime) -> Result<(), Fail> {
     let zero: Duration = first_value();
-    assert_eq!(rt; *zero.as_ref(), StdDuration::ZERO);
-    assert_eq!(rt; no_time(), zero);
+    assert_same(&rt, *zero.as_ref(), StdDuration::ZERO);
+    assert_same(&rt, no_time(), zero);
     let mut sink = Sink::open();
     write!(sink, "{zero}")?;
-    assert_eq!(rt; sink.bytes(), b"0s".as_slice());
+    assert_same(&rt, sink.bytes(), b"0s".as_slice());
     let value = StdDuration::from_secs(60);
     let minute = Duration::from(value);
-    assert_eq!(rt; minute, Duration::new(value));
-    assert_eq!(rt; StdDuration::from(minute), value);
+    assert_same(&rt, minute, Duration::new(value));
+    assert_same(&rt, StdDuration::from(minute), value);
     assert!(rt; is_shorter(zero, minute));
     assert!(rt; is_same_duration(least(minute, zero), zero));
-    assert_eq!(rt;
+    assert_same(
+        &rt,
         fed(&minute),
-        fed(&Duration::new(StdDuration::new(59, 1_000_000_000)))
+        fed(&Duration::new(StdDuration::new(59, 1_000_000_000))),
     );
     let (first, second) = durations_fed_alike(minute, minute, FoldHasher::default());
-    assert_eq!(rt; first.finish(), second.finish());
+    assert_same(&rt, first.finish(), second.finish());
     Ok(())
 }
 
@@ -124,14 +126,15 @@ fn durations_wrap_their_value(rt: HostRuntime) -> Result<(), Fail> {
 fn timestamps_read_and_print(rt: HostRuntime) -> Result<(), Fail> {
     let text = "2018-02-16T00:31:37Z";
     let timestamp = text.parse::<Timestamp>().ok().ok_or("refused")?;
-    assert_eq!(rt; timestamp.as_ref().unix_seconds(), 1_518_741_097);
+    assert_same(&rt, timestamp.as_ref().unix_seconds(), 1_518_741_097);
     let mut sink = Sink::open();
     write!(sink, "{timestamp:>80}")?;
-    assert_eq!(rt; sink.bytes(), text.as_bytes());
-    assert_eq!(rt; sink.requests(), 1);
-    assert_eq!(rt;
+    assert_same(&rt, sink.bytes(), text.as_bytes());
+    assert_same(&rt, sink.requests(), 1);
+    assert_same(
+        &rt,
         "1970-02-30T00:00:00Z".parse::<Timestamp>(),
-        Err(TimestampError::OutOfRange)
+        Err(TimestampError::OutOfRange),
     );
     Ok(())
 }
@@ -141,15 +144,15 @@ fn timestamps_wrap_their_moment(rt: HostRuntime) -> Result<(), Fail> {
     let moment = SystemTime::from_parts(-1, 999_999_999).ok_or("refused")?;
     let before = Timestamp::from(moment);
     let epoch = Timestamp::from(UNIX_EPOCH);
-    assert_eq!(rt; SystemTime::from(before), moment);
+    assert_same(&rt, SystemTime::from(before), moment);
     assert!(rt; is_earlier(before, epoch));
     assert!(rt; is_same_moment(least(epoch, before), before));
     let mut sink = Sink::open();
-    assert_eq!(rt; write!(sink, "{before}"), Err(fmt::Error));
-    assert_eq!(rt; sink.requests(), 0);
+    assert_same(&rt, write!(sink, "{before}"), Err(fmt::Error));
+    assert_same(&rt, sink.requests(), 0);
     let (first, second) = timestamps_fed_alike(before, before, FoldHasher::default());
-    assert_eq!(rt; first.finish(), second.finish());
-    assert_eq!(rt; fed(&epoch), fed(&Timestamp::from(UNIX_EPOCH)));
+    assert_same(&rt, first.finish(), second.finish());
+    assert_same(&rt, fed(&epoch), fed(&Timestamp::from(UNIX_EPOCH)));
     Ok(())
 }
 
@@ -157,9 +160,9 @@ fn timestamps_wrap_their_moment(rt: HostRuntime) -> Result<(), Fail> {
 fn a_sink_that_refuses_is_asked_once(rt: HostRuntime) {
     let mut sink = Sink::refusing();
     let minute = Duration::new(StdDuration::from_secs(60));
-    assert_eq!(rt; write!(sink, "{minute}"), Err(fmt::Error));
-    assert_eq!(rt; sink.requests(), 1);
+    assert_same(&rt, write!(sink, "{minute}"), Err(fmt::Error));
+    assert_same(&rt, sink.requests(), 1);
     let epoch = Timestamp::from(UNIX_EPOCH);
-    assert_eq!(rt; write!(sink, "{epoch}"), Err(fmt::Error));
-    assert_eq!(rt; sink.requests(), 2);
+    assert_same(&rt, write!(sink, "{epoch}"), Err(fmt::Error));
+    assert_same(&rt, sink.requests(), 2);
 }

@@ -1,4 +1,5 @@
 use super::*;
+use crate::testing::assert_same;
 use std::test::Fail;
 
 #[test]
@@ -16,7 +17,7 @@ fn messages(rt: HostRuntime) -> Result<(), Fail> {
     ];
     for (error, message) in cases {
         let text = error.to_string(rt.alloc())?;
-        assert_eq!(rt; text.as_str(), message);
+        assert_same(&rt, text.as_str(), message);
     }
     Ok(())
 }

@@ -1,4 +1,5 @@
 use super::*;
+use crate::testing::assert_same_at;
 use std::str;
 use std::test::Fail;
 
@@ -32,11 +33,12 @@ fn strict_moments(rt: HostRuntime) {
         ("2018-02-14T00:28:07.25+00:00", 1518568087, 250000000),
     ];
     for (text, secs, nanos) in cases {
-        assert_eq!(rt; parts(parse_rfc3339(text)), Ok((secs, nanos)), "{text}");
-        assert_eq!(rt;
+        assert_same_at(&rt, parts(parse_rfc3339(text)), Ok((secs, nanos)), text);
+        assert_same_at(
+            &rt,
             parts(parse_rfc3339_weak(text)),
             Ok((secs, nanos)),
-            "{text}"
+            text,
         );
     }
 }
@@ -59,10 +61,11 @@ fn weak_moments(rt: HostRuntime) {
         ("2018-02-14T00:28:07.Z", 1518568087, 0),
     ];
     for (text, secs, nanos) in cases {
-        assert_eq!(rt;
+        assert_same_at(
+            &rt,
             parts(parse_rfc3339_weak(text)),
             Ok((secs, nanos)),
-            "{text}"
+            text,
         );
     }
 }
@@ -81,15 +84,17 @@ fn numbers_out_of_range(rt: HostRuntime) {
         "1970-12-30T24:00:00Z",
     ];
     for text in cases {
-        assert_eq!(rt;
+        assert_same_at(
+            &rt,
             parse_rfc3339(text),
             Err(TimestampError::OutOfRange),
-            "{text}"
+            text,
         );
-        assert_eq!(rt;
+        assert_same_at(
+            &rt,
             parse_rfc3339_weak(text),
             Err(TimestampError::OutOfRange),
-            "{text}"
+            text,
         );
     }
 }
@@ -116,17 +121,19 @@ fn texts_that_are_not_in_strict_form(rt: HostRuntime) {
         "1970-01-01T00:00:00-00:00",
     ];
     for text in cases {
-        assert_eq!(rt;
+        assert_same_at(
+            &rt,
             parse_rfc3339(text),
             Err(TimestampError::InvalidFormat),
-            "{text}"
+            text,
         );
     }
     let text = "1970-01-01T00:00:00.5+abcdZ";
-    assert_eq!(rt;
+    assert_same_at(
+        &rt,
         parse_rfc3339(text),
         Err(TimestampError::InvalidDigit),
-        "{text}"
+        text,
     );
 }
 
@@ -145,7 +152,7 @@ fn texts_that_are_not_in_weak_form(rt: HostRuntime) {
         ("1970-13-01 00:00:00junk", TimestampError::OutOfRange),
     ];
     for (text, error) in cases {
-        assert_eq!(rt; parse_rfc3339_weak(text), Err(error), "{text}");
+        assert_same_at(&rt, parse_rfc3339_weak(text), Err(error), text);
     }
 }
 
@@ -160,7 +167,7 @@ fn one_broken_byte(rt: HostRuntime) -> Result<(), Fail> {
             4 | 7 | 10 | 13 | 16 | 19 => TimestampError::InvalidFormat,
             _ => TimestampError::InvalidDigit,
         };
-        assert_eq!(rt; parse_rfc3339(text), Err(error), "{text}");
+        assert_same_at(&rt, parse_rfc3339(text), Err(error), text);
     }
     Ok(())
 }
@@ -183,8 +190,8 @@ fn one_broken_byte_of_a_longer_text(rt: HostRuntime) -> Result<(), Fail> {
             ),
             _ => (TimestampError::InvalidDigit, TimestampError::InvalidDigit),
         };
-        assert_eq!(rt; parse_rfc3339(text), Err(strict), "{text}");
-        assert_eq!(rt; parse_rfc3339_weak(text), Err(weak), "{text}");
+        assert_same_at(&rt, parse_rfc3339(text), Err(strict), text);
+        assert_same_at(&rt, parse_rfc3339_weak(text), Err(weak), text);
     }
     Ok(())
 }
@@ -201,12 +208,12 @@ fn each_front_of_a_text(rt: HostRuntime) -> Result<(), Fail> {
             23 | 24 | 25 | 26 | 27 => Err(TimestampError::InvalidDigit),
             _ => Err(TimestampError::InvalidFormat),
         };
-        assert_eq!(rt; parts(parse_rfc3339_weak(text)), weak, "{text}");
+        assert_same_at(&rt, parts(parse_rfc3339_weak(text)), weak, text);
         let strict = match len {
             28 => Ok((1518568087, 250000000)),
             _ => Err(TimestampError::InvalidFormat),
         };
-        assert_eq!(rt; parts(parse_rfc3339(text)), strict, "{text}");
+        assert_same_at(&rt, parts(parse_rfc3339(text)), strict, text);
     }
     Ok(())
 }
@@ -214,15 +221,17 @@ fn each_front_of_a_text(rt: HostRuntime) -> Result<(), Fail> {
 #[test]
 fn texts_past_ascii(rt: HostRuntime) {
     for text in ["2018-02-14T00:28:07é", "ééééééééééé"] {
-        assert_eq!(rt;
+        assert_same_at(
+            &rt,
             parse_rfc3339(text),
             Err(TimestampError::InvalidFormat),
-            "{text}"
+            text,
         );
-        assert_eq!(rt;
+        assert_same_at(
+            &rt,
             parse_rfc3339_weak(text),
             Err(TimestampError::InvalidFormat),
-            "{text}"
+            text,
         );
     }
 }

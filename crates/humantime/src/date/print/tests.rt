@@ -1,104 +1,99 @@
 use super::*;
 use crate::date::parse_rfc3339;
-use crate::sinks::Sink;
+use crate::testing::{Sink, assert_same, assert_same_at};
 use std::fmt::Write;
+use std::process::Abort;
 use std::test::Fail;
 
 fn moment(secs: i64, nanos: u32) -> Result<SystemTime, Fail> {
     Ok(SystemTime::from_parts(secs, nanos).ok_or("a moment")?)
 }
 
-#[test]
-fn printed_moments(rt: HostRuntime) -> Result<(), Fail> {
-    let cases = [
-        (format_rfc3339(moment(0, 0)?), "1970-01-01T00:00:00Z"),
-        (format_rfc3339(moment(1, 0)?), "1970-01-01T00:00:01Z"),
-        (
-            format_rfc3339(moment(1325376000, 0)?),
-            "2012-01-01T00:00:00Z",
-        ),
-        (
-            format_rfc3339(moment(1518563312, 0)?),
-            "2018-02-13T23:08:32Z",
-        ),
-        (
-            format_rfc3339(moment(253402300799, 0)?),
-            "9999-12-31T23:59:59Z",
-        ),
-        (
-            format_rfc3339(moment(0, 123000000)?),
-            "1970-01-01T00:00:00.123000000Z",
-        ),
-        (
-            format_rfc3339(moment(1518563312, 456123999)?),
-            "2018-02-13T23:08:32.456123999Z",
-        ),
-        (
-            format_rfc3339_seconds(moment(1518563312, 456123999)?),
-            "2018-02-13T23:08:32Z",
-        ),
-        (
-            format_rfc3339_millis(moment(0, 0)?),
-            "1970-01-01T00:00:00.000Z",
-        ),
-        (
-            format_rfc3339_millis(moment(1518563312, 123000000)?),
-            "2018-02-13T23:08:32.123Z",
-        ),
-        (
-            format_rfc3339_millis(moment(1518563312, 456123999)?),
-            "2018-02-13T23:08:32.456Z",
-        ),
-        (
-            format_rfc3339_millis(moment(253402300799, 999999999)?),
-            "9999-12-31T23:59:59.999Z",
-        ),
-        (
-            format_rfc3339_micros(moment(0, 0)?),
-            "1970-01-01T00:00:00.000000Z",
-        ),
-        (
-            format_rfc3339_micros(moment(1518563312, 123000000)?),
-            "2018-02-13T23:08:32.123000Z",
-        ),
-        (
-            format_rfc3339_micros(moment(1518563312, 456123000)?),
-            "2018-02-13T23:08:32.456123Z",
-        ),
-        (
-            format_rfc3339_micros(moment(1518563312, 456123999)?),
-            "2018-02-13T23:08:32.456123Z",
-        ),
-        (
-            format_rfc3339_nanos(moment(0, 0)?),
-            "1970-01-01T00:00:00.000000000Z",
-        ),
-        (
-            format_rfc3339_nanos(moment(1518563312, 123000000)?),
-            "2018-02-13T23:08:32.123000000Z",
-        ),
-        (
-            format_rfc3339_nanos(moment(1518563312, 456123999)?),
-            "2018-02-13T23:08:32.456123999Z",
-        ),
-        (
-            format_rfc3339_nanos(moment(1518563312, 789456123)?),
-            "2018-02-13T23:08:32.789456123Z",
-        ),
-        (
-            format_rfc3339_nanos(moment(253402300799, 999999999)?),
-            "9999-12-31T23:59:59.999999999Z",
-        ),
-    ];
-    for (printable, want) in cases {
-        let mut buf = [0; 30];
-        assert_eq!(rt; printable.text(&mut buf), Some(want));
+/// The five calls.
+#[derive(Clone, Copy)]
+enum Call {
+    Shortest,
+    Seconds,
+    Millis,
+    Micros,
+    Nanos,
+}
+
+const CALLS: [Call; 5] = [
+    Call::Shortest,
+    Call::Seconds,
+    Call::Millis,
+    Call::Micros,
+    Call::Nanos,
+];
+
+fn called(call: Call, moment: SystemTime) -> Rfc3339Timestamp {
+    match call {
+        Call::Shortest => format_rfc3339(moment),
+        Call::Seconds => format_rfc3339_seconds(moment),
+        Call::Millis => format_rfc3339_millis(moment),
+        Call::Micros => format_rfc3339_micros(moment),
+        Call::Nanos => format_rfc3339_nanos(moment),
+    }
+}
+
+/// The call prints each moment so, by `text` and by one request of `Display`.
+fn assert_printed(rt: &impl Abort, call: Call, rows: &[(i64, u32, &str)]) -> Result<(), Fail> {
+    for (secs, nanos, text) in rows {
+        let printable = called(call, moment(*secs, *nanos)?);
+        assert_same(rt, printable.text(&mut [0; 30]), Some(*text));
         let mut sink = Sink::open();
         write!(sink, "{printable}")?;
-        assert_eq!(rt; sink.bytes(), want.as_bytes(), "{want}");
-        assert_eq!(rt; sink.requests(), 1, "{want}");
+        assert_same_at(rt, sink.bytes(), text.as_bytes(), text);
+        assert_same_at(rt, sink.requests(), 1, text);
     }
     Ok(())
+}
+
+#[test]
+fn moments_are_printed_with_no_digits_or_nine(rt: HostRuntime) -> Result<(), Fail> {
+    let rows = [
+        (0, 0, "1970-01-01T00:00:00Z"),
+        (1, 0, "1970-01-01T00:00:01Z"),
+        (1325376000, 0, "2012-01-01T00:00:00Z"),
+        (1518563312, 0, "2018-02-13T23:08:32Z"),
+        (253402300799, 0, "9999-12-31T23:59:59Z"),
+        (0, 123000000, "1970-01-01T00:00:00.123000000Z"),
+        (1518563312, 456123999, "2018-02-13T23:08:32.456123999Z"),
+    ];
+    assert_printed(&rt, Call::Shortest, &rows)
+}
+
+#[test]
+fn moments_are_cut_to_seconds_and_millis(rt: HostRuntime) -> Result<(), Fail> {
+    let seconds = [(1518563312, 456123999, "2018-02-13T23:08:32Z")];
+    assert_printed(&rt, Call::Seconds, &seconds)?;
+    let millis = [
+        (0, 0, "1970-01-01T00:00:00.000Z"),
+        (1518563312, 123000000, "2018-02-13T23:08:32.123Z"),
+        (1518563312, 456123999, "2018-02-13T23:08:32.456Z"),
+        (253402300799, 999999999, "9999-12-31T23:59:59.999Z"),
+    ];
+    assert_printed(&rt, Call::Millis, &millis)
+}
+
+#[test]
+fn moments_are_cut_to_micros_and_nanos(rt: HostRuntime) -> Result<(), Fail> {
+    let micros = [
+        (0, 0, "1970-01-01T00:00:00.000000Z"),
+        (1518563312, 123000000, "2018-02-13T23:08:32.123000Z"),
+        (1518563312, 456123000, "2018-02-13T23:08:32.456123Z"),
+        (1518563312, 456123999, "2018-02-13T23:08:32.456123Z"),
+    ];
+    assert_printed(&rt, Call::Micros, &micros)?;
+    let nanos = [
+        (0, 0, "1970-01-01T00:00:00.000000000Z"),
+        (1518563312, 123000000, "2018-02-13T23:08:32.123000000Z"),
+        (1518563312, 456123999, "2018-02-13T23:08:32.456123999Z"),
+        (1518563312, 789456123, "2018-02-13T23:08:32.789456123Z"),
+        (253402300799, 999999999, "9999-12-31T23:59:59.999999999Z"),
+    ];
+    assert_printed(&rt, Call::Nanos, &nanos)
 }
 
 #[test]
@@ -108,8 +103,8 @@ fn second_60_is_printed_as_59(rt: HostRuntime) -> Result<(), Fail> {
         .ok_or("a moment")?;
     let printable = format_rfc3339(read);
     let mut buf = [0; 30];
-    assert_eq!(rt; printable.text(&mut buf), Some("2016-12-31T23:59:59Z"));
-    assert_eq!(rt; printable.get_ref().unix_seconds(), 1483228799);
+    assert_same(&rt, printable.text(&mut buf), Some("2016-12-31T23:59:59Z"));
+    assert_same(&rt, printable.get_ref().unix_seconds(), 1483228799);
     Ok(())
 }
 
@@ -123,20 +118,14 @@ fn moments_that_are_not_printed(rt: HostRuntime) -> Result<(), Fail> {
     ];
     for (secs, nanos) in moments {
         let moment = moment(secs, nanos)?;
-        let all = [
-            format_rfc3339(moment),
-            format_rfc3339_seconds(moment),
-            format_rfc3339_millis(moment),
-            format_rfc3339_micros(moment),
-            format_rfc3339_nanos(moment),
-        ];
-        for printable in all {
+        for call in CALLS {
+            let printable = called(call, moment);
             let mut buf = [7; 30];
-            assert_eq!(rt; printable.text(&mut buf), None, "{secs}");
-            assert_eq!(rt; buf, [7; 30], "{secs}");
+            assert_same(&rt, printable.text(&mut buf), None);
+            assert_same(&rt, buf, [7; 30]);
             let mut sink = Sink::open();
-            assert_eq!(rt; write!(sink, "{printable}"), Err(fmt::Error), "{secs}");
-            assert_eq!(rt; (sink.requests(), sink.bytes().len()), (0, 0), "{secs}");
+            assert_same(&rt, write!(sink, "{printable}"), Err(fmt::Error));
+            assert_same(&rt, (sink.requests(), sink.bytes().len()), (0, 0));
         }
     }
     Ok(())
@@ -147,8 +136,8 @@ fn width_and_fill_are_ignored(rt: HostRuntime) -> Result<(), Fail> {
     let printable = format_rfc3339_millis(moment(1518563312, 456123999)?);
     let mut sink = Sink::open();
     write!(sink, "{printable:*>80}")?;
-    assert_eq!(rt; sink.bytes(), b"2018-02-13T23:08:32.456Z".as_slice());
-    assert_eq!(rt; sink.requests(), 1);
+    assert_same(&rt, sink.bytes(), b"2018-02-13T23:08:32.456Z".as_slice());
+    assert_same(&rt, sink.requests(), 1);
     Ok(())
 }
 
@@ -156,8 +145,8 @@ fn width_and_fill_are_ignored(rt: HostRuntime) -> Result<(), Fail> {
 fn a_sink_that_refuses(rt: HostRuntime) -> Result<(), Fail> {
     let printable = format_rfc3339(moment(0, 0)?);
     let mut sink = Sink::refusing();
-    assert_eq!(rt; write!(sink, "{printable}"), Err(fmt::Error));
-    assert_eq!(rt; (sink.requests(), sink.bytes().len()), (1, 0));
+    assert_same(&rt, write!(sink, "{printable}"), Err(fmt::Error));
+    assert_same(&rt, (sink.requests(), sink.bytes().len()), (1, 0));
     Ok(())
 }
 
@@ -208,13 +197,13 @@ fn days_as_counted(rt: &HostRuntime, first: i64, date: (u32, u32, u32)) -> Resul
 
 #[test]
 fn the_first_731_days(rt: HostRuntime) -> Result<(), Fail> {
-    assert_eq!(rt; days_as_counted(&rt, 0, (1970, 1, 1))?, 731);
+    assert_same(&rt, days_as_counted(&rt, 0, (1970, 1, 1))?, 731);
     Ok(())
 }
 
 #[test]
 fn the_731_days_from_2012(rt: HostRuntime) -> Result<(), Fail> {
-    assert_eq!(rt; days_as_counted(&rt, 1325376000, (2012, 1, 1))?, 731);
+    assert_same(&rt, days_as_counted(&rt, 1325376000, (2012, 1, 1))?, 731);
     Ok(())
 }
 

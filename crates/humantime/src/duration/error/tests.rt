@@ -1,4 +1,5 @@
 use super::DurationError;
+use crate::testing::assert_same;
 use std::test::Fail;
 
 #[test]
@@ -29,8 +30,8 @@ fn each_error_has_its_message(rt: HostRuntime) -> Result<(), Fail> {
         (DurationError::Empty, "value was empty"),
     ];
     for (error, message) in cases {
-        assert_eq!(rt; format!(in rt.alloc(); "{error}")?.as_str(), message);
-        assert_eq!(rt; error.clone()?, error, "a copy of {message}");
+        assert_same(&rt, format!(in rt.alloc(); "{error}")?.as_str(), message);
+        assert_same(&rt, error.clone()?, error);
     }
     Ok(())
 }
@@ -39,7 +40,7 @@ fn each_error_has_its_message(rt: HostRuntime) -> Result<(), Fail> {
 fn units_are_compared_by_their_text(rt: HostRuntime) {
     let text = "1foo 2foo 3bar";
     let first = unknown_unit(1, 4, &text[1..4], 1);
-    assert_eq!(rt; first, unknown_unit(1, 4, &text[6..9], 1));
+    assert_same(&rt, first, unknown_unit(1, 4, &text[6..9], 1));
     assert_ne!(rt; first, unknown_unit(1, 4, &text[11..14], 1));
     assert_ne!(rt; first, unknown_unit(2, 4, "foo", 1));
     assert_ne!(rt; first, unknown_unit(1, 5, "foo", 1));

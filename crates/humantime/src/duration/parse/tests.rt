@@ -1,19 +1,20 @@
 use super::*;
 use crate::duration::span::Span;
+use crate::testing::assert_same_at;
 use std::process::Abort;
 
 /// Each text is the sum of its spans, in seconds and nanoseconds.
 fn assert_values(rt: &impl Abort, rows: &[(&str, u64, u32)]) {
     for (text, secs, nanos) in rows {
         let value = StdDuration::checked_new(*secs, *nanos);
-        assert_eq!(rt; parse_duration(text).ok(), value, "at {text}");
+        assert_same_at(rt, parse_duration(text).ok(), value, text);
     }
 }
 
 /// Each text has this error.
 fn assert_errors(rt: &impl Abort, rows: &[(&str, DurationError<'_>)]) {
     for (text, error) in rows {
-        assert_eq!(rt; parse_duration(text), Err(*error), "at {text}");
+        assert_same_at(rt, parse_duration(text), Err(*error), text);
     }
 }
 
@@ -226,10 +227,11 @@ fn what_is_too_large_or_too_fine_overflows(rt: HostRuntime) {
     ];
     for texts in [too_fine.as_slice(), too_large.as_slice()] {
         for text in texts {
-            assert_eq!(rt;
+            assert_same_at(
+                &rt,
                 parse_duration(text),
                 Err(DurationError::NumberOverflow),
-                "at {text}"
+                text,
             );
         }
     }
@@ -275,10 +277,11 @@ fn a_character_out_of_place_is_named_by_its_offset(rt: HostRuntime) {
         ("1\u{3bc}s", 1),
     ];
     for (text, at) in rows {
-        assert_eq!(rt;
+        assert_same_at(
+            &rt,
             parse_duration(text),
             Err(DurationError::InvalidCharacter(at)),
-            "at {text}"
+            text,
         );
     }
 }
@@ -307,7 +310,7 @@ fn a_word_that_is_no_unit_is_lent_from_the_text(rt: HostRuntime) {
             unit,
             value,
         };
-        assert_eq!(rt; parse_duration(text), Err(error), "at {text}");
+        assert_same_at(&rt, parse_duration(text), Err(error), text);
     }
 }
 
@@ -330,11 +333,11 @@ fn assert_items(rt: &impl Abort, text: &str, rows: &[Row<'_>], errors: &[Duratio
     let mut items = spans(text);
     for row in rows {
         let item = items.next().and_then(|item| item.ok());
-        assert_eq!(rt; item.map(row_of), Some(*row), "at {text}");
+        assert_same_at(rt, item.map(row_of), Some(*row), text);
     }
     for error in errors {
         let item = items.next().and_then(|item| item.err());
-        assert_eq!(rt; item, Some(*error), "at {text}");
+        assert_same_at(rt, item, Some(*error), text);
     }
     for _ in 0..3 {
         assert!(rt; items.next().is_none(), "at {text}");

@@ -1,7 +1,7 @@
 use super::{canonical, format_duration};
 use crate::duration::error::DurationError;
 use crate::duration::parse::parse_duration;
-use crate::sinks::Sink;
+use crate::testing::{Sink, assert_same, assert_same_at};
 use crate::value::StdDuration;
 use std::fmt::{self, Write};
 use std::test::Fail;
@@ -29,11 +29,11 @@ fn a_duration_is_printed_in_its_greatest_counts(rt: HostRuntime) -> Result<(), F
     for (secs, nanos, text) in cases {
         let value = StdDuration::checked_new(secs, nanos).ok_or("no duration")?;
         let printed = format_duration(value);
-        assert_eq!(rt; printed.text(&mut [0; 64]), text);
-        assert_eq!(rt; *printed.get_ref(), value, "at {text}");
-        assert_eq!(rt; printed.clone()?.text(&mut [b'x'; 64]), text, "copied");
+        assert_same(&rt, printed.text(&mut [0; 64]), text);
+        assert_same_at(&rt, *printed.get_ref(), value, text);
+        assert_same(&rt, printed.clone()?.text(&mut [b'x'; 64]), text);
     }
-    assert_eq!(rt; LONGEST.len(), 63);
+    assert_same(&rt, LONGEST.len(), 63);
     Ok(())
 }
 
@@ -42,21 +42,21 @@ fn width_and_fill_change_nothing(rt: HostRuntime) {
     let printed = format_duration(StdDuration::from_secs(1_296_122));
     let mut sink = Sink::open();
     assert!(rt; write!(sink, "{printed:>80}").is_ok());
-    assert_eq!(rt; sink.bytes(), b"15days 2m 2s".as_slice());
+    assert_same(&rt, sink.bytes(), b"15days 2m 2s".as_slice());
     assert!(rt; write!(sink, "{printed:*<80}").is_ok());
-    assert_eq!(rt; sink.bytes(), b"15days 2m 2s15days 2m 2s".as_slice());
+    assert_same(&rt, sink.bytes(), b"15days 2m 2s15days 2m 2s".as_slice());
 }
 
 #[test]
 fn a_sink_is_asked_once(rt: HostRuntime) {
     let printed = format_duration(StdDuration::from_secs(1_296_122));
     let mut sink = Sink::open();
-    assert_eq!(rt; write!(sink, "{printed}"), Ok(()));
-    assert_eq!(rt; sink.requests(), 1);
+    assert_same(&rt, write!(sink, "{printed}"), Ok(()));
+    assert_same(&rt, sink.requests(), 1);
     let mut refusing = Sink::refusing();
-    assert_eq!(rt; write!(refusing, "{printed}"), Err(fmt::Error));
-    assert_eq!(rt; refusing.requests(), 1);
-    assert_eq!(rt; refusing.bytes().len(), 0);
+    assert_same(&rt, write!(refusing, "{printed}"), Err(fmt::Error));
+    assert_same(&rt, refusing.requests(), 1);
+    assert_same(&rt, refusing.bytes().len(), 0);
 }
 
 #[test]
@@ -64,10 +64,10 @@ fn each_second_of_a_day_reads_back(rt: HostRuntime) {
     let mut buf = [0; 64];
     for secs in 0..86_400 {
         let value = StdDuration::from_secs(secs);
-        assert_eq!(rt;
+        assert_same(
+            &rt,
             parse_duration(format_duration(value).text(&mut buf)),
             Ok(value),
-            "at {secs}"
         );
     }
 }
@@ -82,7 +82,7 @@ fn a_canonical_text_is_printed_anew(rt: HostRuntime) {
         (LONGEST, LONGEST),
     ];
     for (text, printed) in cases {
-        assert_eq!(rt; canonical(text, &mut [0; 64]), Ok(printed));
+        assert_same(&rt, canonical(text, &mut [0; 64]), Ok(printed));
     }
 }
 
@@ -90,16 +90,16 @@ fn a_canonical_text_is_printed_anew(rt: HostRuntime) {
 fn an_error_leaves_the_buffer_and_outlives_its_loan(rt: HostRuntime) {
     let mut buf = [b'-'; 64];
     let error = canonical("10nights", &mut buf).err();
-    assert_eq!(rt; buf.as_slice(), [b'-'; 64].as_slice());
-    assert_eq!(rt; canonical("", &mut buf), Err(DurationError::Empty));
-    assert_eq!(rt; buf.as_slice(), [b'-'; 64].as_slice());
+    assert_same(&rt, buf.as_slice(), [b'-'; 64].as_slice());
+    assert_same(&rt, canonical("", &mut buf), Err(DurationError::Empty));
+    assert_same(&rt, buf.as_slice(), [b'-'; 64].as_slice());
     buf[0] = b'x';
-    assert_eq!(rt; canonical("17nanos", &mut buf), Ok("17ns"));
+    assert_same(&rt, canonical("17nanos", &mut buf), Ok("17ns"));
     let nights = DurationError::UnknownUnit {
         start: 2,
         end: 8,
         unit: "nights",
         value: 10,
     };
-    assert_eq!(rt; error, Some(nights));
+    assert_same(&rt, error, Some(nights));
 }

@@ -2,6 +2,7 @@ ghost use Rattle.std.specs.Prelude.{◌≡◌, ◌+◌, ◌<◌, ◌↔◌, IsTr
 ghost use Rattle.humantime.specs.Times.{duration_end};
 
 use super::*;
+use crate::testing::assert_same;
 use std::hash::{FoldHasher, Hash, Hasher};
 use std::test::Fail;
 
@@ -71,34 +72,37 @@ fn copied(d: &StdDuration) -> StdDuration
 #[test]
 fn durations_have_two_parts(rt: HostRuntime) {
     let both = StdDuration::new(1, 2_500_000_000);
-    assert_eq!(rt; both.as_secs(), 3);
-    assert_eq!(rt; both.subsec_nanos(), 500_000_000);
+    assert_same(&rt, both.as_secs(), 3);
+    assert_same(&rt, both.subsec_nanos(), 500_000_000);
     let micros = StdDuration::from_micros(2_500_000);
-    assert_eq!(rt; micros.as_secs(), 2);
-    assert_eq!(rt; micros.subsec_nanos(), 500_000_000);
+    assert_same(&rt, micros.as_secs(), 2);
+    assert_same(&rt, micros.subsec_nanos(), 500_000_000);
     let secs = StdDuration::from_secs(9420);
-    assert_eq!(rt; secs.as_secs(), 9420);
-    assert_eq!(rt; secs.subsec_nanos(), 0);
-    assert_eq!(rt; none().as_secs(), 0);
-    assert_eq!(rt; greatest().as_secs(), 18_446_744_073_709_551_615);
-    assert_eq!(rt; greatest().subsec_nanos(), 999_999_999);
+    assert_same(&rt, secs.as_secs(), 9420);
+    assert_same(&rt, secs.subsec_nanos(), 0);
+    assert_same(&rt, none().as_secs(), 0);
+    assert_same(&rt, greatest().as_secs(), 18_446_744_073_709_551_615);
+    assert_same(&rt, greatest().subsec_nanos(), 999_999_999);
 }
 
 #[test]
 fn sums_are_exact_or_refused(rt: HostRuntime) {
     let nanosecond = StdDuration::new(0, 1);
-    assert_eq!(rt;
+    assert_same(
+        &rt,
         StdDuration::checked_new(18_446_744_073_709_551_615, 1_000_000_000),
-        None
+        None,
     );
-    assert_eq!(rt; StdDuration::MAX.checked_add(nanosecond), None);
-    assert_eq!(rt;
+    assert_same(&rt, StdDuration::MAX.checked_add(nanosecond), None);
+    assert_same(
+        &rt,
         StdDuration::MAX.checked_add(StdDuration::ZERO),
-        Some(StdDuration::MAX)
+        Some(StdDuration::MAX),
     );
-    assert_eq!(rt;
+    assert_same(
+        &rt,
         StdDuration::checked_new(18_446_744_073_709_551_615, 999_999_999),
-        Some(StdDuration::MAX)
+        Some(StdDuration::MAX),
     );
 }
 
@@ -107,13 +111,13 @@ fn durations_are_ordered_and_hashed_by_their_nanoseconds(rt: HostRuntime) -> Res
     let second = StdDuration::from_secs(1);
     let less = StdDuration::new(0, 999_999_999);
     assert!(rt; is_shorter(less, second));
-    assert_eq!(rt; least(second, less), less);
+    assert_same(&rt, least(second, less), less);
     let sum = less.checked_add(StdDuration::new(0, 1)).ok_or("too large")?;
     assert!(rt; is_same(sum, second));
-    assert_eq!(rt; fed(&sum), fed(&second));
+    assert_same(&rt, fed(&sum), fed(&second));
     let (first, again) = fed_alike(sum, sum, FoldHasher::default());
-    assert_eq!(rt; first.finish(), again.finish());
-    assert_eq!(rt; first_value::<StdDuration>(), default());
-    assert_eq!(rt; copied(&second.clone()?), second);
+    assert_same(&rt, first.finish(), again.finish());
+    assert_same(&rt, first_value::<StdDuration>(), default());
+    assert_same(&rt, copied(&second.clone()?), second);
     Ok(())
 }

@@ -1,6 +1,7 @@
 ghost use Rattle.std.specs.Prelude.{◌≡◌, ◌<ℤ◌, ◌↔◌, IsTrue, pos};
 
 use super::*;
+use crate::testing::assert_same;
 use crate::value::StdDuration;
 use std::hash::{FoldHasher, Hash, Hasher};
 use std::test::Fail;
@@ -62,12 +63,12 @@ fn moments_have_two_parts(rt: HostRuntime) -> Result<(), Fail> {
         (i64::MAX, 999_999_999),
     ] {
         let moment = SystemTime::from_parts(secs, nanos).ok_or("refused")?;
-        assert_eq!(rt; moment.unix_seconds(), secs);
-        assert_eq!(rt; moment.subsec_nanos(), nanos);
+        assert_same(&rt, moment.unix_seconds(), secs);
+        assert_same(&rt, moment.subsec_nanos(), nanos);
     }
-    assert_eq!(rt; SystemTime::from_parts(0, 1_000_000_000), None);
-    assert_eq!(rt; SystemTime::from_parts(0, 0), Some(UNIX_EPOCH));
-    assert_eq!(rt; epoch().unix_seconds(), 0);
+    assert_same(&rt, SystemTime::from_parts(0, 1_000_000_000), None);
+    assert_same(&rt, SystemTime::from_parts(0, 0), Some(UNIX_EPOCH));
+    assert_same(&rt, epoch().unix_seconds(), 0);
     Ok(())
 }
 
@@ -75,12 +76,13 @@ fn moments_have_two_parts(rt: HostRuntime) -> Result<(), Fail> {
 fn moments_add_and_differ(rt: HostRuntime) -> Result<(), Fail> {
     let first = SystemTime::from_parts(-9_223_372_036_854_775_808, 0).ok_or("refused")?;
     let last = first.checked_add(StdDuration::MAX).ok_or("too late")?;
-    assert_eq!(rt; last.unix_seconds(), 9_223_372_036_854_775_807);
-    assert_eq!(rt; last.subsec_nanos(), 999_999_999);
-    assert_eq!(rt; last.duration_since(first), Ok(StdDuration::MAX));
-    assert_eq!(rt;
+    assert_same(&rt, last.unix_seconds(), 9_223_372_036_854_775_807);
+    assert_same(&rt, last.subsec_nanos(), 999_999_999);
+    assert_same(&rt, last.duration_since(first), Ok(StdDuration::MAX));
+    assert_same(
+        &rt,
         UNIX_EPOCH.checked_add(StdDuration::from_secs(9_223_372_036_854_775_808)),
-        None
+        None,
     );
     Ok(())
 }
@@ -89,11 +91,11 @@ fn moments_add_and_differ(rt: HostRuntime) -> Result<(), Fail> {
 fn an_error_has_the_opposite_difference(rt: HostRuntime) -> Result<(), Fail> {
     let later = SystemTime::from_parts(5, 250).ok_or("refused")?;
     let error = UNIX_EPOCH.duration_since(later).err().ok_or("not later")?;
-    assert_eq!(rt; error.duration().as_secs(), 5);
-    assert_eq!(rt; error.duration().subsec_nanos(), 250);
+    assert_same(&rt, error.duration().as_secs(), 5);
+    assert_same(&rt, error.duration().subsec_nanos(), 250);
     let copy = error;
     assert!(rt; is_same_error(error, copy));
-    assert_eq!(rt; later.duration_since(UNIX_EPOCH), Ok(error.duration()));
+    assert_same(&rt, later.duration_since(UNIX_EPOCH), Ok(error.duration()));
     Ok(())
 }
 
@@ -101,14 +103,15 @@ fn an_error_has_the_opposite_difference(rt: HostRuntime) -> Result<(), Fail> {
 fn moments_are_ordered_and_hashed_by_their_nanoseconds(rt: HostRuntime) -> Result<(), Fail> {
     let before = SystemTime::from_parts(-1, 999_999_999).ok_or("refused")?;
     assert!(rt; is_earlier(before, UNIX_EPOCH));
-    assert_eq!(rt; least(UNIX_EPOCH, before), before);
+    assert_same(&rt, least(UNIX_EPOCH, before), before);
     let after = before
         .checked_add(StdDuration::new(0, 1))
         .ok_or("too late")?;
     assert!(rt; is_same_moment(after, UNIX_EPOCH));
-    assert_eq!(rt;
+    assert_same(
+        &rt,
         fed(&after, FoldHasher::default()),
-        fed(&UNIX_EPOCH, FoldHasher::default())
+        fed(&UNIX_EPOCH, FoldHasher::default()),
     );
     Ok(())
 }

@@ -12,4 +12,4 @@ pub returns : goal.returns
 returns c =
     let read = c.requires.parts.read in
     let slices = slices_read _ _ _ _ _ _ _ (chars c.before-2.result.now) (chars c.before-3.result.now) read c.before-2.ensures.chars c.before-3.ensures.chars in
-    lent_read (chars c.args.text.now) _ _ _ _ _ _ _ _ _ _ _ read slices c.offset_of.ensures c.offset_of-2.ensures
+    lent_read (chars c.args.text.now) _ _ _ _ _ _ _ _ _ _ _ read slices c.offset_of.ensures.value c.offset_of-2.ensures.value

@@ -24,7 +24,7 @@ returns-then-is_bare-clause-stop c =
     let parts = c.in_ok-parts.ensures.parts in
     let some : length c.in_ok-parts.parts.word.now ≢ 0 = grind (arith, common_steps) in
     exit_bare (chars c.args.text.now) _ _ _ _ _ _ _ parts.read (sym c.is_bare.ensures ∙ c.if-is_bare.true) (some_chars _ parts.word_utf8 some)
-    ∙ ap (λ (n : ℕ). Some (InvalidCharacter n)) (sym c.offset_of-point.ensures)
+    ∙ ap (λ (n : ℕ). Some (InvalidCharacter n)) (sym c.offset_of-point.ensures.value)
 
 pub returns-then-not-ends_span-clause-stop : goal.returns-then-not-ends_span-clause-stop
 returns-then-not-ends_span-clause-stop c =
@@ -32,13 +32,13 @@ returns-then-not-ends_span-clause-stop c =
     let some : length c.in_ok-parts.parts.word.now ≢ 0 = grind (arith, common_steps) in
     exit_after (chars c.args.text.now) _ _ _ _ _ _ _ parts.read (sym c.is_bare.ensures ∙ c.if-is_bare.false) (some_chars _ parts.word_utf8 some)
     (sym c.ends_span.ensures ∙ c.if-not-ends_span.true)
-    ∙ ap (λ (n : ℕ). Some (InvalidCharacter n)) (sym c.offset_of-next.ensures)
+    ∙ ap (λ (n : ℕ). Some (InvalidCharacter n)) (sym c.offset_of-next.ensures.value)
 
 pub returns-in-None-clause-stop : goal.returns-in-None-clause-stop
 returns-in-None-clause-stop c =
     let parts = c.in_ok-parts.ensures.parts in
     let some : length c.in_ok-parts.parts.word.now ≢ 0 = grind (arith, common_steps) in
-    rw (c.offset_of.ensures, c.offset_of-in-None.ensures)
+    rw (c.offset_of.ensures.value, c.offset_of-in-None.ensures.value)
     (exit_unit (chars c.args.text.now) _ _ _ _ _ _ _ parts.read (sym c.is_bare.ensures ∙ c.if-is_bare.false) (some_chars _ parts.word_utf8 some)
     (sym c.ends_span.ensures ∙ c.if-not-ends_span.false) (sym c.in-None.ensures))
 
@@ -48,7 +48,7 @@ returns-in-None-clause-unit c =
     let behind = tail_of_tail c.args.text.now c.args.rest.now _ c.requires (tail_of_tail c.args.rest.now c.in_ok-parts.parts.after_number.now c.in_ok-parts.parts.after_fraction.now parts.number_tail parts.fraction_tail) in
     let next = tail_of_tail c.args.text.now c.in_ok-parts.parts.after_fraction.now c.in_ok-parts.parts.after_word.now behind parts.word_tail in
     part_between c.args.text.now c.in_ok-parts.parts.after_fraction.now c.in_ok-parts.parts.word.now c.in_ok-parts.parts.after_word.now _ _
-    c.utf8.text behind next parts.word_whole c.offset_of.ensures c.offset_of-in-None.ensures
+    c.utf8.text behind next parts.word_whole c.offset_of.ensures.value c.offset_of-in-None.ensures.value
 
 pub returns-in-Some-clause-fine : goal.returns-in-Some-clause-fine
 returns-in-Some-clause-fine c =

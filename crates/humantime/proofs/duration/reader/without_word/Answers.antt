@@ -11,13 +11,13 @@ pub returns-then-not-is_empty-clause-fault : goal.returns-then-not-is_empty-clau
 returns-then-not-is_empty-clause-fault c =
     let some : length c.args.next.now ≢ 0 = grind (arith, common_steps) in
     at_next (chars c.args.text.now) (chars c.args.after.now) (chars c.args.next.now) (option_map parts_of c.args.fraction) c.args.value _
-    (some_chars c.args.next.now c.utf8.next some) c.offset_of.ensures
+    (some_chars c.args.next.now c.utf8.next some) c.offset_of.ensures.value
 
 pub returns-then-is_bare-clause-fault : goal.returns-then-is_bare-clause-fault
 returns-then-is_bare-clause-fault c =
     let none : length c.args.next.now ≡ 0 = grind (arith, common_steps) in
     at_point (chars c.args.text.now) (chars c.args.after.now) (chars c.args.next.now) (option_map parts_of c.args.fraction) c.args.value _
-    (no_bytes c.args.next.now none) (sym c.is_bare.ensures ∙ c.if-is_bare.true) c.offset_of-then-is_bare.ensures
+    (no_bytes c.args.next.now none) (sym c.is_bare.ensures ∙ c.if-is_bare.true) c.offset_of-then-is_bare.ensures.value
 
 pub returns-clause-fault : goal.returns-clause-fault
 returns-clause-fault c =

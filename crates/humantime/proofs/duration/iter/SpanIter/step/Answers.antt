@@ -12,7 +12,7 @@ returns-then-ne-clause-items c =
     let rest = chars c.past_space-rest.result.now in
     let other : c.class_of.result ≢ Digit = search rules in
     let b = begins_no_digit c.in-Some.c rest _ c.class_of.result other c.class_of.ensures c.in-Some.ensures.chars in
-    step_expected s.ended (eqb (length s.rest.now) (length s.text.now)) (chars s.text.now) (chars s.rest.now) rest _ c.if-self.false c.past_space-rest.ensures.rest b.0 b.1 c.offset_of.ensures
+    step_expected s.ended (eqb (length s.rest.now) (length s.text.now)) (chars s.text.now) (chars s.rest.now) rest _ c.if-self.false c.past_space-rest.ensures.rest b.0 b.1 c.offset_of.ensures.value
 
 pub returns-in-Ok-clause-items : goal.returns-in-Ok-clause-items
 returns-in-Ok-clause-items c =

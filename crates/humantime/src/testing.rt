@@ -1,8 +1,9 @@
-//! A sink for tests.
+//! What the tests share: a sink, and assertions on values of any type.
 
 ghost use Rattle.std.specs.Prelude.{◌≤◌};
 
-use std::fmt;
+use std::fmt::{self, Debug};
+use std::process::Abort;
 
 /// Keeps what it is asked to take and counts the requests, or refuses each of them.
 #[derive(Drop)]
@@ -58,4 +59,19 @@ impl fmt::Write for Sink {
         self.len = end;
         Ok(())
     }
+}
+
+/// The two are equal.
+pub(crate) fn assert_same<T: PartialEq + Debug + Drop>(rt: &impl Abort, left: T, right: T) {
+    assert_eq!(rt; left, right);
+}
+
+/// The two are equal, for the case of this text.
+pub(crate) fn assert_same_at<T: PartialEq + Debug + Drop>(
+    rt: &impl Abort,
+    left: T,
+    right: T,
+    at: &str,
+) {
+    assert_eq!(rt; left, right, "at {at}");
 }
