@@ -1,5 +1,5 @@
 -- The outcome by the plain reading is the value or the fault of the text, and these are one.
-use Rattle.std.proofs.Common.{◌≡◌, ◌↔◌, ◌≢◌, ◌⊎◌, ℕ, ◌≤◌, ◌+◌, List, [], ◌∷◌, ◌++◌, length, Option, Some, None, Result, Ok, Err, refl, sym, ap, ◌∙◌, inl, inr, arith, subst, append-nil}
+use Rattle.std.proofs.Common.{◌≡◌, ◌≢◌, ◌⊎◌, ℕ, ◌≤◌, ◌+◌, List, [], ◌∷◌, ◌++◌, length, Option, Some, None, Result, Ok, Err, refl, sym, ap, ◌∙◌, inl, inr, arith, subst, append-nil}
 use Rattle.std.specs.List.{AllByRecursion}
 use Rattle.std.specs.Str.{bytes_eq}
 use Rattle.std.proofs.lemmas.Bool.{cases_Bool, false≢true}
@@ -157,13 +157,6 @@ fault_from_outcome text e h = elim (zero_or_not text) [
   | inl z ↦ let p = sym h ∙ ap outcome z ∙ outcome-zero in cc
   | inr n ↦ fault_read text e n h
 ]
-
--- the outcome says exactly what the text stands for, and what is wrong with it
-pub accepted_exactly : (text : List ℕ) (v : ℕ) → (outcome text ≡ Ok v) ↔ Accepted text v
-accepted_exactly text v = (accepted_from_outcome text v, outcome_accepted text v)
-
-pub fault_exactly : (text : List ℕ) (e : Fault) → (outcome text ≡ Err e) ↔ HasFault text e
-fault_exactly text e = (fault_from_outcome text e, outcome_fault text e)
 
 one_value : (text : List ℕ) (v : ℕ) → outcome text ≡ Ok v → OnlyValue text v
 one_value text v h = (accepted_from_outcome text v h, λ w a. ok_same w v (sym (outcome_accepted text w a) ∙ h), λ e f. let p = outcome_fault text e f in cc)

@@ -40,9 +40,6 @@ low_room_from t x h = elim (cases_eq x.base 1) [
 room_from : (t : ℕ) (x : Addition) → HasRoom t x → room t x ≡ true
 room_from t x h = and_from (low_room t x) (high_room t x) (low_room_from t x h.0) (le-leb ((t + nanos_of x) / nanos_per_second) u64_max h.1)
 
-no_room : (t : ℕ) (x : Addition) → ¬ (HasRoom t x) → room t x ≡ false
-no_room t x h = elim (cases_Bool (room t x)) [ inl e ↦ absurd (h (room-true t x e)) | inr e ↦ e ]
-
 -- the sum where there is room, and none else
 pub add_all-room : (t : ℕ) (xs : List Addition) → RoomFrom t xs → add_all t xs ≡ Some (t + total xs)
 unfolding add_all

@@ -1,5 +1,5 @@
 -- The characters of a duration's text.
-use Rattle.std.specs.Prelude.{◌≡◌, ◌⊎◌, ℕ, ◌-◌, Bool, true, false, ◌||◌, ◌==◌, List, [], ◌∷◌, ◌++◌, length, if◌then◌else◌, encode_utf8_all, filter}
+use Rattle.std.specs.Prelude.{◌≡◌, ◌⊎◌, ℕ, ◌-◌, Bool, true, false, ◌||◌, ◌==◌, List, [], ◌∷◌, length, if◌then◌else◌, encode_utf8_all, filter}
 use Rattle.std.specs.Char.{is_whitespace, is_ascii_digit, is_ascii_alphabetic}
 use Rattle.std.specs.Str.Parse.{digits_value}
 use Rattle.humantime.specs.declared.duration.class.Class.{Class}
@@ -99,10 +99,6 @@ byte_length cs = length (encode_utf8_all cs)
 -- the offset in bytes at which the last part of a text begins: the length of what stands before it
 abbrev pub offset_of : List ℕ → List ℕ → ℕ
 offset_of text rest = byte_length text - byte_length rest
-
--- the text ends with the rest
-abbrev pub IsSuffix : List ℕ → List ℕ → Type 0
-IsSuffix rest text = (front : List ℕ) × (text ≡ front ++ rest)
 
 -- the characters of white space, one by one
 abbrev pub white_spaces : List ℕ

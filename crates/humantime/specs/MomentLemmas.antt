@@ -22,10 +22,6 @@ pub nano_of-moment : (s : ℤ) (n : ℕ) → n < 1_000_000_000 → nano_of (mome
 nano_of-moment (pos s) n small = omega arith
 nano_of-moment (negsuc s) n small = rw (moment-before s n small) (omega arith)
 
-pub moment-of : (z : ℤ) → moment (second_of z) (nano_of z) ≡ z
-moment-of (pos n) = omega (arith, ints)
-moment-of (negsuc n) = omega (arith, ints)
-
 -- a later second is a later moment, and in one second the nanoseconds decide
 pub int_cmp_moment : (s : ℤ) (t : ℤ) (m : ℕ) (n : ℕ) → m < 1_000_000_000 → n < 1_000_000_000
     → int_cmp (moment s m) (moment t n) ≡ ordering_then (int_cmp s t) (nat_cmp m n)

@@ -7,6 +7,10 @@ ghost use Rattle.humantime.specs.Deciding.{ItemsDecideValue, ItemsDecideFault, I
 /// A text has exactly one value or exactly one first fault, and at most one list of spans.
 ///
 /// It also has exactly one list of items: spans, and what stops them.
+///
+/// ```text
+/// 1h 30m is 5400 seconds and nothing else; 1h x has the one fault that a number is expected at 3
+/// ```
 pub fn one_outcome(s: &str)
     ensures outcome { OneOutcome (chars s.now) }
     ensures reading { OneReading (chars s.now) }
@@ -17,6 +21,10 @@ pub fn one_outcome(s: &str)
 ///
 /// A text whose spans are within the limits stands for their sum, or has the fault that stops
 /// them. A text whose spans break a limit is too large, whatever stops them.
+///
+/// ```text
+/// 18446744073710ms x is too large, though a number is expected at 17
+/// ```
 pub fn spans_decide(s: &str)
     ensures one { OneListOfItems (chars s.now) }
     ensures accepted { ItemsDecideValue (chars s.now) }

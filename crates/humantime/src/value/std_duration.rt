@@ -50,9 +50,17 @@ impl Model for StdDuration {
 
 impl StdDuration {
     /// No time at all: (0, 0).
+    ///
+    /// ```text
+    /// StdDuration::ZERO.as_secs() == 0
+    /// ```
     pub const ZERO: StdDuration = StdDuration { secs: 0, nanos: 0 };
 
     /// The longest duration: (18446744073709551615, 999999999).
+    ///
+    /// ```text
+    /// StdDuration::MAX.as_secs() == u64::MAX
+    /// ```
     pub const MAX: StdDuration = StdDuration {
         secs: u64::MAX,
         nanos: NANOS_PER_SECOND - 1,
