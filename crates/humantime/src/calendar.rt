@@ -194,6 +194,3 @@ pub fn date_of_day(day: u32, turns: &mut Turns) -> Option<Date>
     }
     unreachable!()
 }
-
-#[cfg(test)]
-mod tests;

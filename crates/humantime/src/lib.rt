@@ -4,13 +4,9 @@
 #![tactic(auto)]
 
 mod calendar;
-#[cfg(test)]
-mod calling;
 mod date;
 mod duration;
 pub mod laws;
-#[cfg(test)]
-mod testing;
 mod turns;
 mod unit;
 mod value;

@@ -12,9 +12,6 @@ use std::fmt;
 use std::marker::Model;
 use std::str::FromStr;
 
-#[cfg(test)]
-mod tests;
-
 /// A duration that is read by `from_str` and printed by `Display`, for a settings field or an option.
 ///
 /// Order, equality and hashing are those of the duration that it holds; the default is zero.

@@ -3,9 +3,6 @@
 use std::error::Error;
 use std::fmt;
 
-#[cfg(test)]
-mod tests;
-
 /// What is wrong with a text that should be a timestamp.
 ///
 /// The parsers answer the error of the first check that the text fails; the crate has these three.

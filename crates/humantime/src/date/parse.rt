@@ -14,9 +14,6 @@ use crate::date::error::TimestampError;
 use crate::turns::Turns;
 use crate::value::SystemTime;
 
-#[cfg(test)]
-mod tests;
-
 // How many nanoseconds a 1 at each of the nine places of a fraction counts.
 static WEIGHTS: [u32; 9] = [
     100_000_000,

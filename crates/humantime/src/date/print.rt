@@ -12,9 +12,6 @@ use crate::turns::Turns;
 use crate::value::SystemTime;
 use std::{fmt, str};
 
-#[cfg(test)]
-mod tests;
-
 // The first second of the year 10000.
 const END: i64 = 253_402_300_800;
 

@@ -8,9 +8,6 @@ ghost use Rattle.humantime.specs.Messages.{message_of, unit_message};
 use std::error::Error;
 use std::fmt;
 
-#[cfg(test)]
-mod tests;
-
 /// Why a text is no duration. Offsets are in bytes.
 ///
 /// Its message is the crate's, with the unit as it stands. Two errors are equal where their variants and

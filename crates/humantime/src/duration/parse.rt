@@ -14,9 +14,6 @@ use crate::duration::iter::SpanIter;
 use crate::duration::sum::add_amount;
 use crate::value::StdDuration;
 
-#[cfg(test)]
-mod tests;
-
 /// The spans of a text from left to right, and then the fault at which they stop, if there is one.
 ///
 /// Its errors are those of [`parse_duration`], but the limits on values and sums are not asked: a number

@@ -17,9 +17,6 @@ use crate::value::StdDuration;
 use std::fmt;
 use std::marker::Model;
 
-#[cfg(test)]
-mod tests;
-
 // How many seconds each unit has.
 const YEAR: u64 = 31_557_600;
 

@@ -10,9 +10,6 @@ ghost use Rattle.humantime.specs.Times.{nanos_per_second, duration_end};
 use std::cmp::Ordering;
 use std::marker::Model;
 
-#[cfg(test)]
-mod tests;
-
 const NANOS_PER_SECOND: u32 = 1_000_000_000;
 
 /// A duration: whole seconds (`u64`) and nanoseconds below 10^9.

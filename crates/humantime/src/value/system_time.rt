@@ -246,6 +246,3 @@ impl PartialOrd for SystemTime {
         Some(self.cmp(other))
     }
 }
-
-#[cfg(test)]
-mod tests;

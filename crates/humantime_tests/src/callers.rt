@@ -1,0 +1,3 @@
+//! Callers that are proved: what CALLING.md shows.
+
+pub mod limits;

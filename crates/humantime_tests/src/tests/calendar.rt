@@ -1,0 +1,81 @@
+//! Day numbers and dates.
+
+use crate::tests::plain_calendar::{PlainDate, next_day};
+use crate::tests::support::assert_same;
+use humantime::{Date, Turns, date_of_day, day_number};
+
+const TABLE: [(u32, u32, u32, u32); 23] = [
+    (1970, 1, 1, 0),
+    (1970, 12, 31, 364),
+    (1971, 1, 1, 365),
+    (1972, 2, 29, 789),
+    (1972, 3, 1, 790),
+    (1972, 12, 31, 1095),
+    (1973, 1, 1, 1096),
+    (1999, 12, 31, 10956),
+    (2000, 1, 1, 10957),
+    (2000, 2, 29, 11016),
+    (2000, 3, 1, 11017),
+    (2000, 12, 31, 11322),
+    (2001, 1, 1, 11323),
+    (2012, 1, 1, 15340),
+    (2018, 2, 14, 17576),
+    (2099, 12, 31, 47481),
+    (2100, 1, 1, 47482),
+    (2100, 2, 28, 47540),
+    (2100, 3, 1, 47541),
+    (2400, 2, 29, 157113),
+    (2400, 3, 1, 157114),
+    (9999, 1, 1, 2932532),
+    (9999, 12, 31, 2932896),
+];
+
+#[test]
+fn days_and_dates_of_a_table(rt: HostRuntime) {
+    let mut turns = Turns::new();
+    for (year, month, day, number) in TABLE {
+        let date = Date { year, month, day };
+        assert_same(&rt, day_number(date, &mut turns), Some(number));
+        assert_same(&rt, date_of_day(number, &mut turns), Some(date));
+    }
+}
+
+#[test]
+fn dates_that_do_not_exist(rt: HostRuntime) {
+    let mut turns = Turns::new();
+    let none = [
+        (1969, 12, 31),
+        (1970, 0, 1),
+        (1970, 13, 1),
+        (1970, 1, 0),
+        (1970, 4, 31),
+        (1970, 2, 29),
+        (2100, 2, 29),
+        (10000, 1, 1),
+        (4294967295, 1, 1),
+    ];
+    for (year, month, day) in none {
+        let date = Date { year, month, day };
+        assert_same(&rt, day_number(date, &mut turns), None);
+    }
+    assert_same(&rt, date_of_day(2932897, &mut turns), None);
+}
+
+/// Each day of the calendar, beside a counter that goes from each date to the next.
+#[test]
+fn every_day_in_both_directions(rt: HostRuntime) {
+    let mut turns = Turns::new();
+    let mut counted = PlainDate {
+        year: 1970,
+        month: 1,
+        day: 1,
+    };
+    for number in 0..2932897 {
+        let PlainDate { year, month, day } = counted;
+        let date = Date { year, month, day };
+        assert_same(&rt, day_number(date, &mut turns), Some(number));
+        assert_same(&rt, date_of_day(number, &mut turns), Some(date));
+        counted = next_day(counted);
+    }
+    assert_same(&rt, counted.year, 10000);
+}

@@ -1,0 +1,129 @@
+//! Durations, and the text of each.
+
+use crate::tests::support::{Sink, assert_same, assert_same_at};
+use humantime::{DurationError, StdDuration, canonical, format_duration, parse_duration};
+use std::fmt::{self, Write};
+use std::test::Fail;
+
+const LONGEST: &str = "100000000000years 11months 29days 23h 59m 59s 999ms 999us 999ns";
+
+#[test]
+fn a_duration_is_printed_in_its_greatest_counts(rt: HostRuntime) -> Result<(), Fail> {
+    let cases = [
+        (31_560_192, 0, "1year 43m 12s"),
+        (
+            u64::MAX,
+            999_999_999,
+            "584542046090years 7months 15days 17h 5m 3s 999ms 999us 999ns",
+        ),
+        (0, 0, "0s"),
+        (3_155_760_000_031_522_175, 999_999_999, LONGEST),
+        (0, 1, "1ns"),
+        (0, 999, "999ns"),
+        (0, 32_000_000, "32ms"),
+        (0, 123_000, "123us"),
+        (63_115_320, 12_000, "2years 2m 12us"),
+        (1_296_122, 0, "15days 2m 2s"),
+        (907_200, 0, "10days 12h"),
+        (15_778_800, 0, "5months 30days 10h 12m"),
+    ];
+    for (secs, nanos, text) in cases {
+        let value = StdDuration::checked_new(secs, nanos).ok_or("no duration")?;
+        let printed = format_duration(value);
+        assert_same(&rt, printed.text(&mut [0; 64]), text);
+        assert_same_at(&rt, *printed.get_ref(), value, text);
+        assert_same(&rt, printed.clone()?.text(&mut [b'x'; 64]), text);
+        let mut sink = Sink::open();
+        assert_same(&rt, write!(sink, "{printed}"), Ok(()));
+        assert_same_at(&rt, sink.bytes(), text.as_bytes(), text);
+        assert_same_at(&rt, sink.requests(), 1, text);
+    }
+    assert_same(&rt, LONGEST.len(), 63);
+    Ok(())
+}
+
+#[test]
+fn width_and_fill_change_nothing(rt: HostRuntime) {
+    let printed = format_duration(StdDuration::from_secs(1_296_122));
+    let mut sink = Sink::open();
+    assert!(rt; write!(sink, "{printed:>80}").is_ok());
+    assert_same(&rt, sink.bytes(), b"15days 2m 2s".as_slice());
+    assert!(rt; write!(sink, "{printed:*<80}").is_ok());
+    assert_same(&rt, sink.bytes(), b"15days 2m 2s15days 2m 2s".as_slice());
+}
+
+#[test]
+fn a_sink_is_asked_once(rt: HostRuntime) {
+    let printed = format_duration(StdDuration::from_secs(1_296_122));
+    let mut sink = Sink::open();
+    assert_same(&rt, write!(sink, "{printed}"), Ok(()));
+    assert_same(&rt, sink.requests(), 1);
+    let mut refusing = Sink::refusing();
+    assert_same(&rt, write!(refusing, "{printed}"), Err(fmt::Error));
+    assert_same(&rt, refusing.requests(), 1);
+    assert_same(&rt, refusing.bytes().len(), 0);
+}
+
+#[test]
+fn each_second_of_a_day_reads_back(rt: HostRuntime) {
+    let mut buf = [0; 64];
+    for secs in 0..86_400 {
+        let value = StdDuration::from_secs(secs);
+        assert_same(
+            &rt,
+            parse_duration(format_duration(value).text(&mut buf)),
+            Ok(value),
+        );
+    }
+}
+
+#[test]
+fn a_canonical_text_is_printed_anew(rt: HostRuntime) {
+    let cases = [
+        ("2h 37min", "2h 37m"),
+        ("2years 2min 12us", "2years 2m 12us"),
+        ("12M", "1year 43m 12s"),
+        ("0", "0s"),
+        (LONGEST, LONGEST),
+    ];
+    for (text, printed) in cases {
+        assert_same(&rt, canonical(text, &mut [0; 64]), Ok(printed));
+    }
+}
+
+#[test]
+fn each_error_leaves_the_buffer_as_it_was(rt: HostRuntime) {
+    let nights = DurationError::UnknownUnit {
+        start: 2,
+        end: 8,
+        unit: "nights",
+        value: 10,
+    };
+    let cases = [
+        ("1~", DurationError::InvalidCharacter(1)),
+        ("2h min", DurationError::NumberExpected(3)),
+        ("10nights", nights),
+        ("1.0000000002s", DurationError::NumberOverflow),
+        ("", DurationError::Empty),
+    ];
+    for (text, error) in cases {
+        let mut buf = [b'-'; 64];
+        assert_same_at(&rt, canonical(text, &mut buf), Err(error), text);
+        assert_same_at(&rt, buf.as_slice(), [b'-'; 64].as_slice(), text);
+    }
+}
+
+#[test]
+fn an_error_outlives_the_loan_of_the_buffer(rt: HostRuntime) {
+    let mut buf = [b'-'; 64];
+    let error = canonical("10 months 1", &mut buf).err();
+    buf[0] = b'x';
+    assert_same(&rt, canonical("17nanos", &mut buf), Ok("17ns"));
+    let no_unit = DurationError::UnknownUnit {
+        start: 11,
+        end: 11,
+        unit: "",
+        value: 1,
+    };
+    assert_same(&rt, error, Some(no_unit));
+}

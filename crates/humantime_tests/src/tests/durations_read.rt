@@ -1,0 +1,508 @@
+//! Texts of durations, and the value or the error of each.
+
+use crate::tests::support::assert_same_at;
+use humantime::{DurationError, StdDuration, parse_duration};
+use std::process::Abort;
+use std::test::Fail;
+
+/// Each text is the sum of its spans, in seconds and nanoseconds.
+fn assert_values(rt: &impl Abort, rows: &[(&str, u64, u32)]) {
+    for (text, secs, nanos) in rows {
+        let value = StdDuration::checked_new(*secs, *nanos);
+        assert_same_at(rt, parse_duration(text).ok(), value, text);
+    }
+}
+
+/// Each text has this error.
+fn assert_errors(rt: &impl Abort, rows: &[(&str, DurationError<'_>)]) {
+    for (text, error) in rows {
+        assert_same_at(rt, parse_duration(text), Err(*error), text);
+    }
+}
+
+#[test]
+fn numbers_with_each_word_are_counted_in_its_unit(rt: HostRuntime) {
+    let below_seconds = [
+        ("17nsec", 0, 17),
+        ("17nanos", 0, 17),
+        ("33ns", 0, 33),
+        ("3usec", 0, 3000),
+        ("78us", 0, 78_000),
+        ("163µs", 0, 163_000),
+        ("31msec", 0, 31_000_000),
+        ("31millis", 0, 31_000_000),
+        ("6ms", 0, 6_000_000),
+        ("32ms", 0, 32_000_000),
+    ];
+    assert_values(&rt, &below_seconds);
+    let seconds_and_minutes = [
+        ("3000s", 3000, 0),
+        ("300sec", 300, 0),
+        ("300secs", 300, 0),
+        ("50seconds", 50, 0),
+        ("1second", 1, 0),
+        ("100m", 6000, 0),
+        ("12min", 720, 0),
+        ("12mins", 720, 0),
+        ("1minute", 60, 0),
+        ("7minutes", 420, 0),
+    ];
+    assert_values(&rt, &seconds_and_minutes);
+    let hours_to_weeks = [
+        ("2h", 7200, 0),
+        ("7hr", 25_200, 0),
+        ("7hrs", 25_200, 0),
+        ("1hour", 3600, 0),
+        ("24hours", 86_400, 0),
+        ("1day", 86_400, 0),
+        ("2days", 172_800, 0),
+        ("365d", 31_536_000, 0),
+        ("1week", 604_800, 0),
+        ("7weeks", 4_233_600, 0),
+        ("104wks", 62_899_200, 0),
+        ("100wk", 60_480_000, 0),
+        ("52w", 31_449_600, 0),
+    ];
+    assert_values(&rt, &hours_to_weeks);
+    let months_and_years = [
+        ("1month", 2_630_016, 0),
+        ("3months", 7_890_048, 0),
+        ("12M", 31_560_192, 0),
+        ("1year", 31_557_600, 0),
+        ("7years", 220_903_200, 0),
+        ("15yrs", 473_364_000, 0),
+        ("10yr", 315_576_000, 0),
+        ("17y", 536_479_200, 0),
+    ];
+    assert_values(&rt, &months_and_years);
+}
+
+#[test]
+fn spans_are_added_up(rt: HostRuntime) {
+    let rows = [
+        ("2h 37min", 9420, 0),
+        ("2h 15m", 8100, 0),
+        ("20 min 17 nsec ", 1200, 17),
+        ("15days 2min 2s", 1_296_122, 0),
+        ("2years 2min 12us", 63_115_320, 12_000),
+        ("1.234s0.345ms0.678us0ns", 1, 234_345_678),
+        ("7.120us 3ns", 0, 7123),
+        ("7.123us 4ns", 0, 7127),
+        ("1.234s 789ns", 1, 234_000_789),
+        ("1.234s 0.789us", 1, 234_000_789),
+        ("1.234567s 0.789us", 1, 234_567_789),
+        ("1.234s 1.345ms 1.678us 1ns", 1, 235_346_679),
+        ("1.234s 0.345ms 0.678us 0ns", 1, 234_345_678),
+        ("0", 0, 0),
+        ("1 2 s", 12, 0),
+        ("12\u{3000}s", 12, 0),
+        ("2h ", 7200, 0),
+        ("00000000000000000001s", 1, 0),
+    ];
+    assert_values(&rt, &rows);
+}
+
+#[test]
+fn fractions_of_a_second_and_less(rt: HostRuntime) {
+    let below_seconds = [
+        ("3.1usec", 0, 3100),
+        ("3.1us", 0, 3100),
+        ("3.01us", 0, 3010),
+        ("3.001us", 0, 3001),
+        ("31.1msec", 0, 31_100_000),
+        ("31.1millis", 0, 31_100_000),
+        ("31.1ms", 0, 31_100_000),
+        ("31.01ms", 0, 31_010_000),
+        ("31.001ms", 0, 31_001_000),
+        ("31.0001ms", 0, 31_000_100),
+        ("31.00001ms", 0, 31_000_010),
+        ("31.000001ms", 0, 31_000_001),
+    ];
+    assert_values(&rt, &below_seconds);
+    let seconds = [
+        ("4.2s", 4, 200_000_000),
+        ("300.0sec", 300, 0),
+        ("300.0secs", 300, 0),
+        ("300.0seconds", 300, 0),
+        ("300.0s", 300, 0),
+        ("0.0s", 0, 0),
+        ("0.2s", 0, 200_000_000),
+        ("1.2s", 1, 200_000_000),
+        ("1.02s", 1, 20_000_000),
+        ("1.002s", 1, 2_000_000),
+        ("1.0002s", 1, 200_000),
+        ("1.00002s", 1, 20_000),
+        ("1.000002s", 1, 2000),
+        ("1.0000002s", 1, 200),
+        ("1.00000002s", 1, 20),
+        ("1.000000002s", 1, 2),
+        ("1.123456789s", 1, 123_456_789),
+        ("1 .5s", 1, 500_000_000),
+        ("1. 5s", 1, 500_000_000),
+    ];
+    assert_values(&rt, &seconds);
+}
+
+#[test]
+fn fractions_of_a_minute_and_more(rt: HostRuntime) {
+    let rows = [
+        ("100.0m", 6000, 0),
+        ("12.1min", 726, 0),
+        ("12.1mins", 726, 0),
+        ("1.5minute", 90, 0),
+        ("1.5minutes", 90, 0),
+        ("0.01m", 0, 600_000_000),
+        ("2.0h", 7200, 0),
+        ("2.0hr", 7200, 0),
+        ("2.0hrs", 7200, 0),
+        ("2.0hours", 7200, 0),
+        ("2.5h", 9000, 0),
+        ("0.5h", 1800, 0),
+        ("1.5day", 129_600, 0),
+        ("1.5days", 129_600, 0),
+        ("1.5d", 129_600, 0),
+        ("1.5w", 907_200, 0),
+        ("0.5y", 15_778_800, 0),
+    ];
+    assert_values(&rt, &rows);
+}
+
+#[test]
+fn the_greatest_values_are_reached(rt: HostRuntime) {
+    let most = u64::MAX;
+    let nine_counts = "584542046090years 7months 15days 17h 5m 3s 999ms 999us 999ns";
+    let rows = [
+        (nine_counts, most, 999_999_999),
+        ("18446744073709551615s", most, 0),
+        ("18446744073709551615ns 1ns", 18_446_744_073, 709_551_616),
+        ("18446744073709551615.999999999s", most, 999_999_999),
+        ("18446744073709551615s 999999999ns", most, 999_999_999),
+        ("18446744073709551614s 1000ms", most, 0),
+        ("18446744073709551.9us", 18_446_744_073, 709_551_900),
+        ("18446744073709ms", 18_446_744_073, 709_000_000),
+        ("584542046090y", 18_446_744_073_689_784_000, 0),
+        ("1.5000000000s", 1, 500_000_000),
+        ("0.0000000000000000000s", 0, 0),
+        ("0.0000000010000000000s", 0, 1),
+        ("0.307445734m", 18, 446_744_040),
+    ];
+    assert_values(&rt, &rows);
+}
+
+#[test]
+fn what_is_too_large_or_too_fine_overflows(rt: HostRuntime) {
+    let too_fine = [
+        "17.5nsec",
+        "5.1nanos",
+        "0.0005ns",
+        "1.0ns",
+        "3.0001us",
+        "0.0001us",
+        "0.123456us",
+        "31.0000001ms",
+        "1.0000000002s",
+        "0.0000000002s",
+        "0.000123456789s",
+        "0.0000000000000000001s",
+        "1.50000000000s",
+        "0.00000000000000000000s",
+        "0.307445735m",
+        "0.0001h",
+        "0.00000005d",
+    ];
+    let too_large = [
+        "100000000000000000000ns",
+        "100000000000000000us",
+        "100000000000000ms",
+        "18446744073710ms",
+        "100000000000000000000s",
+        "10000000000000000000m",
+        "1000000000000000000h",
+        "100000000000000000d",
+        "10000000000000000w",
+        "1000000000000000M",
+        "10000000000000y",
+        "584542046091y",
+        "18446744073709551616s",
+        "18446744073709551616ns",
+        "1ns 18446744073709551615ns",
+        "18446744073709551615s 1000000000ns",
+        "18446744073709551615s 1000ms",
+        "999ms18446744073709551615s 1ms",
+        "99999999999999999999",
+        "99999999999999999999~",
+        "100000000000000000us 1foo",
+    ];
+    for texts in [too_fine.as_slice(), too_large.as_slice()] {
+        for text in texts {
+            assert_same_at(
+                &rt,
+                parse_duration(text),
+                Err(DurationError::NumberOverflow),
+                text,
+            );
+        }
+    }
+}
+
+#[test]
+fn a_number_is_expected_where_a_span_begins(rt: HostRuntime) {
+    let rows = [
+        ("", DurationError::Empty),
+        ("\r", DurationError::Empty),
+        ("  x", DurationError::NumberExpected(2)),
+        ("2 hours  min", DurationError::NumberExpected(9)),
+        (".1s", DurationError::NumberExpected(0)),
+        (".", DurationError::NumberExpected(0)),
+        ("\0", DurationError::NumberExpected(0)),
+        ("-1s", DurationError::NumberExpected(0)),
+        ("1h -2m", DurationError::NumberExpected(3)),
+        ("1s .5s", DurationError::NumberExpected(3)),
+    ];
+    assert_errors(&rt, &rows);
+}
+
+#[test]
+fn a_character_out_of_place_is_named_by_its_offset(rt: HostRuntime) {
+    let rows = [
+        ("1.s", 1),
+        ("1.", 1),
+        ("1. s", 1),
+        ("1..s", 2),
+        ("1 .s", 2),
+        ("1.5.s", 3),
+        ("1.µ", 1),
+        ("1.foo~", 1),
+        ("1foo~", 4),
+        ("1µ~", 3),
+        ("1Nå", 2),
+        ("1é", 1),
+        ("1~", 1),
+        ("1,5s", 1),
+        ("1h-2m", 2),
+        ("1s.5s", 2),
+        ("1s\0", 2),
+        ("1\u{200b}s", 1),
+        ("1\u{3bc}s", 1),
+    ];
+    for (text, at) in rows {
+        assert_same_at(
+            &rt,
+            parse_duration(text),
+            Err(DurationError::InvalidCharacter(at)),
+            text,
+        );
+    }
+}
+
+#[test]
+fn a_word_that_is_no_unit_is_lent_from_the_text(rt: HostRuntime) {
+    let rows = [
+        ("00", 2, 2, "", 0),
+        (" 0", 2, 2, "", 0),
+        ("0 ", 2, 2, "", 0),
+        ("2", 1, 1, "", 2),
+        ("2h 3", 4, 4, "", 3),
+        ("2h 37mi", 5, 7, "mi", 37),
+        ("123", 3, 3, "", 123),
+        ("1.5", 3, 3, "", 1),
+        ("10 months 1", 11, 11, "", 1),
+        ("10nights", 2, 8, "nights", 10),
+        ("1foo ~", 1, 4, "foo", 1),
+        ("1.5foo", 3, 6, "foo", 1),
+        ("1hs", 1, 3, "hs", 1),
+        ("222nsec221nanosmsec7s5msec572s", 10, 19, "nanosmsec", 221),
+        ("1µ", 1, 3, "µ", 1),
+        ("1sµ", 1, 4, "sµ", 1),
+    ];
+    for (text, start, end, unit, value) in rows {
+        let error = DurationError::UnknownUnit {
+            start,
+            end,
+            unit,
+            value,
+        };
+        assert_same_at(&rt, parse_duration(text), Err(error), text);
+    }
+}
+
+/// The characters of white space.
+const WHITE: [char; 25] = [
+    '\u{9}', '\u{a}', '\u{b}', '\u{c}', '\u{d}', '\u{20}', '\u{85}', '\u{a0}', '\u{1680}',
+    '\u{2000}', '\u{2001}', '\u{2002}', '\u{2003}', '\u{2004}', '\u{2005}', '\u{2006}', '\u{2007}',
+    '\u{2008}', '\u{2009}', '\u{200a}', '\u{2028}', '\u{2029}', '\u{202f}', '\u{205f}', '\u{3000}',
+];
+
+/// Characters beside those of white space, digits, letters and the point, and others that look like them.
+const OUT_OF_PLACE: [char; 29] = [
+    '\0',
+    '\u{8}',
+    '\u{e}',
+    '\u{1f}',
+    '!',
+    ',',
+    '/',
+    ':',
+    '@',
+    '[',
+    '`',
+    '{',
+    '\u{7f}',
+    '\u{84}',
+    '\u{86}',
+    '\u{9f}',
+    '\u{a1}',
+    '\u{b4}',
+    '\u{b6}',
+    '\u{e9}',
+    '\u{3bc}',
+    '\u{660}',
+    '\u{180e}',
+    '\u{200b}',
+    '\u{2027}',
+    '\u{202a}',
+    '\u{feff}',
+    '\u{ff10}',
+    '\u{10ffff}',
+];
+
+#[test]
+fn white_space_stands_before_and_after_each_part(rt: HostRuntime) -> Result<(), Fail> {
+    for white in WHITE {
+        let text = format!(in rt.alloc(); "{white}1{white}2{white}s{white}")?;
+        let twelve = StdDuration::from_secs(12);
+        assert_same_at(
+            &rt,
+            parse_duration(text.as_str()),
+            Ok(twelve),
+            text.as_str(),
+        );
+    }
+    Ok(())
+}
+
+#[test]
+fn other_characters_are_named_where_they_stand(rt: HostRuntime) -> Result<(), Fail> {
+    for other in OUT_OF_PLACE {
+        let text = format!(in rt.alloc(); "1{other}s")?;
+        let error = DurationError::InvalidCharacter(1);
+        assert_same_at(
+            &rt,
+            parse_duration(text.as_str()),
+            Err(error),
+            text.as_str(),
+        );
+    }
+    Ok(())
+}
+
+#[test]
+fn letters_are_those_of_ascii_and_the_micro_sign(rt: HostRuntime) -> Result<(), Fail> {
+    for letter in ['A', 'Z', 'a', 'z', '\u{b5}'] {
+        let text = format!(in rt.alloc(); "1{letter}~")?;
+        let error = DurationError::InvalidCharacter(text.len().saturating_sub(1));
+        assert_same_at(
+            &rt,
+            parse_duration(text.as_str()),
+            Err(error),
+            text.as_str(),
+        );
+    }
+    for digit in ['0', '9'] {
+        let text = format!(in rt.alloc(); "1{digit}~")?;
+        let error = DurationError::InvalidCharacter(2);
+        assert_same_at(
+            &rt,
+            parse_duration(text.as_str()),
+            Err(error),
+            text.as_str(),
+        );
+    }
+    Ok(())
+}
+
+#[test]
+fn one_of_each_word_has_its_length(rt: HostRuntime) {
+    let below_minutes = [
+        ("1nanos", 0, 1),
+        ("1nsec", 0, 1),
+        ("1ns", 0, 1),
+        ("1usec", 0, 1000),
+        ("1us", 0, 1000),
+        ("1\u{b5}s", 0, 1000),
+        ("1millis", 0, 1_000_000),
+        ("1msec", 0, 1_000_000),
+        ("1ms", 0, 1_000_000),
+        ("1seconds", 1, 0),
+        ("1second", 1, 0),
+        ("1secs", 1, 0),
+        ("1sec", 1, 0),
+        ("1s", 1, 0),
+    ];
+    assert_values(&rt, &below_minutes);
+    let minutes_and_more = [
+        (
+            60,
+            ["1minutes", "1minute", "1min", "1mins", "1m"].as_slice(),
+        ),
+        (3600, &["1hours", "1hour", "1hr", "1hrs", "1h"]),
+        (86_400, &["1days", "1day", "1d"]),
+        (604_800, &["1weeks", "1week", "1wk", "1wks", "1w"]),
+        (2_630_016, &["1months", "1month", "1M"]),
+        (31_557_600, &["1years", "1year", "1yr", "1yrs", "1y"]),
+    ];
+    for (secs, texts) in minutes_and_more {
+        for text in texts {
+            assert_values(&rt, &[(*text, secs, 0)]);
+        }
+    }
+}
+
+#[test]
+fn no_other_word_is_a_unit(rt: HostRuntime) -> Result<(), Fail> {
+    for unit in [
+        "S", "Ms", "D", "H", "W", "Y", "\u{b5}", "\u{b5}S", "n", "u", "se", "mon", "foo",
+        "minutess", "ssssssss",
+    ] {
+        let text = format!(in rt.alloc(); "1{unit}")?;
+        let error = DurationError::UnknownUnit {
+            start: 1,
+            end: text.len(),
+            unit,
+            value: 1,
+        };
+        assert_same_at(
+            &rt,
+            parse_duration(text.as_str()),
+            Err(error),
+            text.as_str(),
+        );
+    }
+    Ok(())
+}
+
+#[test]
+fn a_fraction_may_have_each_number_of_digits(rt: HostRuntime) {
+    let rows = [
+        ("0.1s", 0, 100_000_000),
+        ("0.10s", 0, 100_000_000),
+        ("0.100s", 0, 100_000_000),
+        ("0.1000s", 0, 100_000_000),
+        ("0.10000s", 0, 100_000_000),
+        ("0.100000s", 0, 100_000_000),
+        ("0.1000000s", 0, 100_000_000),
+        ("0.10000000s", 0, 100_000_000),
+        ("0.000000001s", 0, 1),
+        ("0.0000000010s", 0, 1),
+        ("0.00000000100s", 0, 1),
+        ("0.000000001000s", 0, 1),
+        ("0.0000000010000s", 0, 1),
+        ("0.00000000100000s", 0, 1),
+        ("0.000000001000000s", 0, 1),
+        ("0.0000000010000000s", 0, 1),
+        ("0.00000000100000000s", 0, 1),
+        ("0.000000001000000000s", 0, 1),
+        ("0.0000000010000000000s", 0, 1),
+    ];
+    assert_values(&rt, &rows);
+}
