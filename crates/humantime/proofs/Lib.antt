@@ -10,6 +10,8 @@ pub mod DigitLemmas
 pub mod Found
 pub mod GreatestCounts
 pub mod Iterating
+pub mod JoinedPieces
+pub mod JoinedTexts
 pub mod LendingSteps
 pub mod LentItems
 pub mod MarchLemmas
@@ -24,15 +26,18 @@ pub mod PrintedRows
 pub mod PrintedSpans
 pub mod ReadBack
 pub mod ReadSteps
+pub mod Readings
 pub mod Rooms
 pub mod Runs
 pub mod Settled
 pub mod SlicesTold
+pub mod SpacelessTexts
 pub mod SpanExits
 pub mod SpanSlices
 pub mod Spelled
 pub mod Stopping
 pub mod Tails
+pub mod TextTheorems
 pub mod TimestampByteLemmas
 pub mod TimestampCheckLemmas
 pub mod TimestampEndLemmas

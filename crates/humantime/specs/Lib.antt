@@ -25,6 +25,7 @@ pub mod Scanning
 pub mod Slices
 pub mod SpanParts
 pub mod Spans
+pub mod TextLaws
 pub mod Times
 pub mod TimestampChecks
 pub mod TimestampLaws

@@ -4,6 +4,7 @@ mod days;
 mod durations;
 mod printed;
 mod spans;
+mod texts;
 mod timestamps;
 
 pub use days::one_date;
@@ -12,4 +13,5 @@ pub use printed::{
     canonical_again, printed_bounds, printed_duration_reads, printed_durations_differ,
 };
 pub use spans::spans_tile;
+pub use texts::{joined, reordered, without_ws};
 pub use timestamps::{one_stamp_outcome, printed_moment_reads, stamps_in_order, strict_is_weak};

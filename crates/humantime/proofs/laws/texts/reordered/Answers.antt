@@ -1,0 +1,9 @@
+use Rattle.std.proofs.Common.{chars}
+use Rattle.humantime.proofs.TextTheorems as law
+use Rattle.humantime.proofs.laws.texts.reordered.Goals as goal
+
+pub returns-clause-value : goal.returns-clause-value
+returns-clause-value c = law.reordered (chars c.args.a.now) (chars c.args.b.now)
+
+pub returns-clause-zero : goal.returns-clause-zero
+returns-clause-zero c = law.zero_has_no_spans
