@@ -1,0 +1,4 @@
+//! What is shown of `humantime` from outside.
+#![tactic(auto)]
+
+pub mod witnesses;
