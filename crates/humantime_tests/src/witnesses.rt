@@ -3,7 +3,7 @@
 //! Each function answers what its contract says, for every value. Where a derive were replaced by a body that
 //! means something else, the function here would not be proved.
 
-ghost use Rattle.std.specs.Prelude.{◌≡◌, ◌<◌, ◌≤◌, ◌<ℤ◌, ◌≤ℤ◌, ◌↔◌, IsTrue, IfOk};
+ghost use Rattle.std.specs.Prelude.{◌≡◌, ◌<◌, ◌≤◌, ◌<ℤ◌, ◌≤ℤ◌, ◌↔◌, IsTrue, IsOkAnd};
 
 use humantime::{
     Date, Duration, DurationError, FormattedDuration, Rfc3339Timestamp, Span, StdDuration,
@@ -42,7 +42,7 @@ pub fn is_at_most_std_duration(a: &StdDuration, b: &StdDuration) -> bool
 }
 
 pub fn cloned_std_duration(value: &StdDuration) -> Result<StdDuration, AllocError>
-    ensures { IfOk result (λ c. c ≡ value.now) }
+    ensures { IsOkAnd result (λ c. c ≡ value.now) }
 {
     value.clone()
 }
@@ -82,7 +82,7 @@ pub fn is_at_most_system_time(a: &SystemTime, b: &SystemTime) -> bool
 }
 
 pub fn cloned_system_time(value: &SystemTime) -> Result<SystemTime, AllocError>
-    ensures { IfOk result (λ c. c ≡ value.now) }
+    ensures { IsOkAnd result (λ c. c ≡ value.now) }
 {
     value.clone()
 }
@@ -122,7 +122,7 @@ pub fn is_at_most_duration(a: &Duration, b: &Duration) -> bool
 }
 
 pub fn cloned_duration(value: &Duration) -> Result<Duration, AllocError>
-    ensures { IfOk result (λ c. c ≡ value.now) }
+    ensures { IsOkAnd result (λ c. c ≡ value.now) }
 {
     value.clone()
 }
@@ -158,7 +158,7 @@ pub fn is_at_most_timestamp(a: &Timestamp, b: &Timestamp) -> bool
 }
 
 pub fn cloned_timestamp(value: &Timestamp) -> Result<Timestamp, AllocError>
-    ensures { IfOk result (λ c. c ≡ value.now) }
+    ensures { IsOkAnd result (λ c. c ≡ value.now) }
 {
     value.clone()
 }
@@ -182,7 +182,7 @@ pub fn is_same_system_time_error(a: &SystemTimeError, b: &SystemTimeError) -> bo
 }
 
 pub fn cloned_system_time_error(value: &SystemTimeError) -> Result<SystemTimeError, AllocError>
-    ensures { IfOk result (λ c. c ≡ value.now) }
+    ensures { IsOkAnd result (λ c. c ≡ value.now) }
 {
     value.clone()
 }
@@ -200,7 +200,7 @@ pub fn is_same_date(a: &Date, b: &Date) -> bool
 }
 
 pub fn cloned_date(value: &Date) -> Result<Date, AllocError>
-    ensures { IfOk result (λ c. c ≡ value.now) }
+    ensures { IsOkAnd result (λ c. c ≡ value.now) }
 {
     value.clone()
 }
@@ -218,7 +218,7 @@ pub fn is_same_timestamp_error(a: &TimestampError, b: &TimestampError) -> bool
 }
 
 pub fn cloned_timestamp_error(value: &TimestampError) -> Result<TimestampError, AllocError>
-    ensures { IfOk result (λ c. c ≡ value.now) }
+    ensures { IsOkAnd result (λ c. c ≡ value.now) }
 {
     value.clone()
 }
@@ -230,7 +230,7 @@ pub fn copied_timestamp_error(value: &TimestampError) -> TimestampError
 }
 
 pub fn cloned_rfc3339_timestamp(value: &Rfc3339Timestamp) -> Result<Rfc3339Timestamp, AllocError>
-    ensures { IfOk result (λ c. c ≡ value.now) }
+    ensures { IsOkAnd result (λ c. c ≡ value.now) }
 {
     value.clone()
 }
@@ -242,13 +242,13 @@ pub fn copied_rfc3339_timestamp(value: &Rfc3339Timestamp) -> Rfc3339Timestamp
 }
 
 pub fn cloned_formatted_duration(value: &FormattedDuration) -> Result<FormattedDuration, AllocError>
-    ensures { IfOk result (λ c. c ≡ value.now) }
+    ensures { IsOkAnd result (λ c. c ≡ value.now) }
 {
     value.clone()
 }
 
 pub fn cloned_span<'a>(value: &Span<'a>) -> Result<Span<'a>, AllocError>
-    ensures { IfOk result (λ c. c ≡ value.now) }
+    ensures { IsOkAnd result (λ c. c ≡ value.now) }
 {
     value.clone()
 }
@@ -260,7 +260,7 @@ pub fn copied_span<'a>(value: &Span<'a>) -> Span<'a>
 }
 
 pub fn cloned_duration_error<'a>(value: &DurationError<'a>) -> Result<DurationError<'a>, AllocError>
-    ensures { IfOk result (λ c. c ≡ value.now) }
+    ensures { IsOkAnd result (λ c. c ≡ value.now) }
 {
     value.clone()
 }
