@@ -38,8 +38,11 @@ pub mod Spelled
 pub mod Stopping
 pub mod Tails
 pub mod TextTheorems
+pub mod Theorems
 pub mod TimestampByteLemmas
 pub mod TimestampCheckLemmas
+pub mod TimestampDayLemmas
+pub mod TimestampDigitLemmas
 pub mod TimestampEndLemmas
 pub mod TimestampExitLemmas
 pub mod TimestampFractionLemmas

@@ -22,9 +22,11 @@ false_from true h = sym (h refl)
 false_from false h = refl
 
 pub exit_digits : (b : List ℕ) → 19 ≤ length b → has_signs b ≡ true → has_digits b ≡ false → Err InvalidDigit ≡ weak_answer b
+unfolding weak_answer
 exit_digits b long signs digits = rw (le-leb 19 (length b) long, signs, digits) refl
 
 pub exit_range : (b : List ℕ) → 19 ≤ length b → has_signs b ≡ true → has_digits b ≡ true → in_range b ≡ false → Err OutOfRange ≡ weak_answer b
+unfolding weak_answer
 exit_range b long signs digits range = rw (le-leb 19 (length b) long, signs, digits, range) refl
 
 -- the answer where date and time are right: with the end's nanoseconds, or its error
@@ -33,7 +35,7 @@ with_seconds secs (Ok nanos) = Ok (pos (secs * 1_000_000_000 + nanos))
 with_seconds secs (Err e) = Err e
 
 begun : (b : List ℕ) → Begins b → weak_answer b ≡ with_seconds (seconds_of (fields_of b)) (end_answer b)
-unfolding with_seconds
+unfolding with_seconds weak_answer
 begun b h = rw (le-leb 19 (length b) h.long, h.signs, h.digits, h.range) (by_tests (ends_whole b) (ends_fraction b)) where
   by_tests : (t u : Bool)
       → answer (if t then (if u then None else Some InvalidDigit) else Some InvalidFormat) (seconds_of (fields_of b) * 1_000_000_000 + nanos_of (fraction_digits (fraction_at b)))

@@ -1,11 +1,11 @@
 -- Printed texts stand in the order of their moments.
 use Rattle.std.proofs.Common.{◌≡◌, ℕ, zero, suc, ◌+◌, ◌-◌, ◌*◌, ◌/◌, ◌%◌, ◌<◌, ◌≤◌, ◌⊎◌, inl, inr, List, [], ◌∷◌, ◌++◌, length, take, refl, sym, ap, subst, ◌∙◌, arith}
-use Rattle.std.specs.Prelude.{min, codes, Option}
+use Rattle.std.specs.Prelude.{min, codes, Option, ℤ, pos}
 use Rattle.std.specs.declared.cmp.Ordering.{Ordering}
 use Rattle.std.specs.declared.cmp.Ordering.TheVariants.{Less, Equal, Greater}
 use Rattle.std.specs.Char.{digit_value}
 use Rattle.std.specs.Cmp.Lexicographic.{slice_cmp}
-use Rattle.std.specs.Ordering.{nat_cmp, ordering_then}
+use Rattle.std.specs.Ordering.{nat_cmp, int_cmp, ordering_then}
 use Rattle.std.specs.Str.Parse.{digits_value_after}
 use Rattle.std.proofs.Math.Nat.{mul-le-mul_right}
 use Rattle.std.proofs.lemmas.Bool.{cases_order}
@@ -15,8 +15,8 @@ use Rattle.humantime.specs.declared.calendar.Date.{Date}
 use Rattle.humantime.specs.Calendar.{days_of_years, days_of_months}
 use Rattle.humantime.specs.Dates.{IsDate, day_of}
 use Rattle.humantime.specs.DigitText.{two_digits, four_digits, AreDigits}
-use Rattle.humantime.specs.Timestamps.{Fields, fraction_text, fraction_digits, nanos_of}
-use Rattle.humantime.specs.TimestampPrinted.{HasPlaces, Prints}
+use Rattle.humantime.specs.Timestamps.{Fields, fraction_text, fraction_digits, nanos_of, moment_of}
+use Rattle.humantime.specs.TimestampPrinted.{HasPlaces, IsPrinted}
 use Rattle.humantime.specs.TimestampLaws.{InOrder}
 use Rattle.humantime.proofs.DateLemmas.{before_year, before_month}
 use Rattle.humantime.proofs.TimestampFractionLemmas.{nanos_bound}
@@ -194,9 +194,14 @@ shape_cmp y m d h i s y' m' d' h' i' s' end end' =
     ∙ ap (then_cmp y y') month
 
 -- a printed text has this shape
-shown_shape : (t k : ℕ) (text : List ℕ) (f : Fields) → Prints t k text f
-    → text ≡ shape f.date.year f.date.month f.date.day f.hour f.minute f.second (fraction_text f.fraction ++ codes "Z")
-shown_shape t k text f p = p.weak.shown ∙ rw (p.separator, p.zone) refl
+abbrev shape_of : Fields → List ℕ
+shape_of f = shape f.date.year f.date.month f.date.day f.hour f.minute f.second (fraction_text f.fraction ++ codes "Z")
+
+shown_shape : (t : ℤ) (k : ℕ) (text : List ℕ) (p : IsPrinted t k text) → text ≡ shape_of p.fields
+shown_shape t k text p = p.weak.shown ∙ rw (p.separator, p.zone) refl
+
+pos_cmp : (m n : ℕ) → nat_cmp m n ≡ int_cmp (pos m) (pos n)
+pos_cmp m n = grind (arith, nat_tests)
 
 -- the clock's numbers, one after the other
 clock_cmp : (a h i s m b j k t n : ℕ) → h ≤ 23 → i ≤ 59 → s ≤ 59 → m < 1_000_000_000 → j ≤ 23 → k ≤ 59 → t ≤ 59 → n < 1_000_000_000
@@ -212,12 +217,10 @@ clock_cmp a h i s m b j k t n h23 i59 s59 m9 j23 k59 t59 n9 =
     let nanos = ap (then_cmp (((a * 24 + h) * 60 + i) * 60 + s) (((b * 24 + j) * 60 + k) * 60 + t)) (sym (then_equal (nat_cmp m n))) ∙ (last ∙ then_equal _) in
     rw (← left, ← right) (hours ∙ (minutes ∙ (seconds ∙ nanos)))
 
-pub printed_order : (a b : ℕ) → InOrder a b
-printed_order a b k x y small px py =
-    let f = px.0 in
-    let g = py.0 in
-    let p = px.1 in
-    let q = py.1 in
+pub printed_order : (a b : ℤ) → InOrder a b
+printed_order a b k x y small p q =
+    let f = p.fields in
+    let g = q.fields in
     let fraction = fraction_cmp k f.fraction g.fraction small p.places q.places p.weak.fraction q.weak.fraction in
     let text = shape_cmp f.date.year f.date.month f.date.day f.hour f.minute f.second g.date.year g.date.month g.date.day g.hour g.minute g.second
     (fraction_text f.fraction ++ codes "Z") (fraction_text g.fraction ++ codes "Z") in
@@ -226,5 +229,6 @@ printed_order a b k x y small px py =
     (day_of g.date) g.hour g.minute g.second (nanos_of (fraction_digits g.fraction))
     p.weak.hour p.weak.minute p.second (nanos_bound _ p.weak.fraction)
     q.weak.hour q.weak.minute q.second (nanos_bound _ q.weak.fraction) in
-    rw (shown_shape a k x f p, shown_shape b k y g q)
-    (text ∙ (rw fraction (day ∙ clock) ∙ (λ i. nat_cmp (p.moment i) (q.moment i))))
+    let moments = pos_cmp (moment_of f) (moment_of g) ∙ (λ i. int_cmp (p.moment i) (q.moment i)) in
+    (λ i. slice_cmp nat_cmp (shown_shape a k x p i) (shown_shape b k y q i))
+    ∙ (text ∙ (rw fraction (day ∙ clock) ∙ moments))

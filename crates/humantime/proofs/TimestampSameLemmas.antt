@@ -1,13 +1,13 @@
 -- Two texts that are printed from one moment are one text.
 use Rattle.std.proofs.Common.{◌≡◌, ℕ, zero, suc, ◌+◌, ◌*◌, ◌<◌, ◌≤◌, List, [], ◌∷◌, ◌++◌, length, take, refl, sym, ap, subst, ◌∙◌, arith}
-use Rattle.std.specs.Prelude.{min, codes, Option, Some}
+use Rattle.std.specs.Prelude.{min, codes, Option, Some, ℤ, nat_abs}
 use Rattle.std.specs.Char.{digit_value}
 use Rattle.std.specs.Str.Parse.{digits_value_after}
 use Rattle.std.proofs.lemmas.Str.{digit_value_digit}
 use Rattle.humantime.specs.Dates.{day_of}
 use Rattle.humantime.specs.DigitText.{AreDigits}
-use Rattle.humantime.specs.Timestamps.{Fields, fraction_digits, nanos_of, written}
-use Rattle.humantime.specs.TimestampPrinted.{HasPlaces, Prints}
+use Rattle.humantime.specs.Timestamps.{fraction_digits, nanos_of, written}
+use Rattle.humantime.specs.TimestampPrinted.{HasPlaces, IsPrinted}
 use Rattle.humantime.proofs.DateLemmas.{same_date}
 use Rattle.humantime.proofs.TimestampFractionLemmas.{nanos_bound}
 
@@ -60,12 +60,14 @@ same_clock a h i s m b j k t n h23 i59 s59 m9 j23 k59 t59 n9 e =
     let minute : i ≡ k = omega arith in
     (day, hour, minute, omega arith, nanos)
 
-pub same_fields : (t k : ℕ) (x y : List ℕ) (f g : Fields) → k ≤ 9 → Prints t k x f → Prints t k y g → f ≡ g
-same_fields t k x y f g small p q =
+same_fields : (t : ℤ) (k : ℕ) (x y : List ℕ) → k ≤ 9 → (p : IsPrinted t k x) (q : IsPrinted t k y) → p.fields ≡ q.fields
+same_fields t k x y small p q =
+    let f = p.fields in
+    let g = q.fields in
     let clock = same_clock (day_of f.date) f.hour f.minute f.second (nanos_of (fraction_digits f.fraction))
     (day_of g.date) g.hour g.minute g.second (nanos_of (fraction_digits g.fraction))
     p.weak.hour p.weak.minute p.second (nanos_bound _ p.weak.fraction)
-    q.weak.hour q.weak.minute q.second (nanos_bound _ q.weak.fraction) (p.moment ∙ sym q.moment) in
+    q.weak.hour q.weak.minute q.second (nanos_bound _ q.weak.fraction) (ap nat_abs (p.moment ∙ sym q.moment)) in
     let date = same_date f.date g.date p.weak.date q.weak.date clock.0 in
     let separator = p.separator ∙ sym q.separator in
     let zone = p.zone ∙ sym q.zone in
@@ -80,5 +82,5 @@ same_fields t k x y f g small p q =
       zone = zone i;
     }
 
-pub same_printed : (t k : ℕ) (x y : List ℕ) (f g : Fields) → k ≤ 9 → Prints t k x f → Prints t k y g → x ≡ y
-same_printed t k x y f g small p q = p.weak.shown ∙ (ap written (same_fields t k x y f g small p q) ∙ sym q.weak.shown)
+pub same_printed : (t : ℤ) (k : ℕ) (x y : List ℕ) → k ≤ 9 → IsPrinted t k x → IsPrinted t k y → x ≡ y
+same_printed t k x y small p q = p.weak.shown ∙ (ap written (same_fields t k x y small p q) ∙ sym q.weak.shown)

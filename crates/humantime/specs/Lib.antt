@@ -5,6 +5,7 @@ pub mod Characters
 pub mod ClassCodes
 pub mod Counts
 pub mod Dates
+pub mod DatesOfDays
 pub mod Deciding
 pub mod DigitText
 pub mod Errors

@@ -22,6 +22,15 @@ pub nano_of-moment : (s : ℤ) (n : ℕ) → n < 1_000_000_000 → nano_of (mome
 nano_of-moment (pos s) n small = omega arith
 nano_of-moment (negsuc s) n small = rw (moment-before s n small) (omega arith)
 
+-- the parts of a moment make it up, and its nanoseconds are less than a second
+pub parts_of_moment : (z : ℤ) → moment (second_of z) (nano_of z) ≡ z
+parts_of_moment (pos n) = omega (arith, ints)
+parts_of_moment (negsuc n) = omega (arith, ints)
+
+pub nano_of_bound : (z : ℤ) → nano_of z < 1_000_000_000
+nano_of_bound (pos n) = omega arith
+nano_of_bound (negsuc n) = omega arith
+
 -- a later second is a later moment, and in one second the nanoseconds decide
 pub int_cmp_moment : (s : ℤ) (t : ℤ) (m : ℕ) (n : ℕ) → m < 1_000_000_000 → n < 1_000_000_000
     → int_cmp (moment s m) (moment t n) ≡ ordering_then (int_cmp s t) (nat_cmp m n)

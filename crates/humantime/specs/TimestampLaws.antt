@@ -1,7 +1,7 @@
 -- The laws of timestamps.
 use Rattle.std.specs.Prelude.{◌≡◌, ◌≤◌, ◌↔◌, ℕ, ℤ, Bool, List, slice_index, None, IsTrue}
 use Rattle.std.specs.Cmp.Lexicographic.{slice_cmp}
-use Rattle.std.specs.Ordering.{nat_cmp}
+use Rattle.std.specs.Ordering.{nat_cmp, int_cmp}
 use Rattle.std.specs.Str.{byte}
 use Rattle.humantime.specs.declared.date.error.TimestampError.{TimestampError}
 use Rattle.humantime.specs.Timestamps.{Fields, IsWeak, IsStrict, IsWeakMoment, IsStrictMoment}
@@ -27,7 +27,7 @@ abbrev pub StrictMomentIsWeak : List ℕ → Type 0
 StrictMomentIsWeak b = (t : ℤ) → IsStrictMoment b t ↔ (IsWeakMoment b t × IsMarked b)
 
 -- two moments, printed with equally many digits: the order of the bytes is that of the moments, cut
-abbrev pub InOrder : ℕ → ℕ → Type 0
+abbrev pub InOrder : ℤ → ℤ → Type 0
 InOrder a b =
     (k : ℕ) (x y : List ℕ) → k ≤ 9 → IsPrinted a k x → IsPrinted b k y
-    → slice_cmp nat_cmp x y ≡ nat_cmp (cut a k) (cut b k)
+    → slice_cmp nat_cmp x y ≡ int_cmp (cut a k) (cut b k)

@@ -6,7 +6,7 @@ use Rattle.humantime.specs.declared.calendar.Date.{Date}
 use Rattle.humantime.specs.declared.date.error.TimestampError.{TimestampError}
 use Rattle.humantime.specs.declared.date.error.TimestampError.TheVariants.{InvalidDigit, InvalidFormat}
 use Rattle.humantime.specs.Timestamps.{Letter_T, Space, Zone, Nothing, Letter_Z, Offset, Fields, fraction_digits, nanos_of, moment_of}
-use Rattle.humantime.specs.TimestampChecks.{two_at, past_digits, is_zone, has_point, ends_whole, ends_fraction, weak_checks, first_failed}
+use Rattle.humantime.specs.TimestampChecks.{two_at, past_digits, is_zone, has_point, ends_whole, ends_fraction, weak_checks, strict_checks, first_failed}
 
 -- the digits at the front
 abbrev pub front_digits : List ℕ → List ℕ
@@ -57,6 +57,10 @@ abbrev pub answer : Option TimestampError → ℕ → Result ℤ TimestampError
 answer None t = Ok (pos t)
 answer (Some e) t = Err e
 
--- the moment, or the error of the first check that fails
-abbrev pub weak_answer : List ℕ → Result ℤ TimestampError
+-- what a text in weak form reads as: the moment, or the error of the first check that fails
+unfoldable pub weak_answer : List ℕ → Result ℤ TimestampError
 weak_answer b = answer (first_failed (weak_checks b)) (moment_of (fields_of b))
+
+-- and in strict form
+unfoldable pub strict_answer : List ℕ → Result ℤ TimestampError
+strict_answer b = answer (first_failed (strict_checks b)) (moment_of (fields_of b))

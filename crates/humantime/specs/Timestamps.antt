@@ -88,9 +88,13 @@ abbrev pub moment_of : Fields → ℕ
 moment_of f = seconds_of f * nanos_per_second + nanos_of (fraction_digits f.fraction)
 
 -- the text shows some parts of this moment
-abbrev pub IsWeakMoment : List ℕ → ℤ → Type 0
-IsWeakMoment text t = (f : Fields) × IsWeak text f × (t ≡ pos (moment_of f))
+pub record IsWeakMoment (text : List ℕ) (t : ℤ) : Type 0 where
+  pub fields : Fields
+  pub weak : IsWeak text fields
+  pub moment : t ≡ pos (moment_of fields)
 
 -- and it has the letter `T` and a zone
-abbrev pub IsStrictMoment : List ℕ → ℤ → Type 0
-IsStrictMoment text t = (f : Fields) × IsStrict text f × (t ≡ pos (moment_of f))
+pub record IsStrictMoment (text : List ℕ) (t : ℤ) : Type 0 where
+  pub fields : Fields
+  pub strict : IsStrict text fields
+  pub moment : t ≡ pos (moment_of fields)

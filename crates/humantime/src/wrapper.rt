@@ -169,13 +169,22 @@ impl From<Timestamp> for SystemTime {
 
 /// As `Display` of what `format_rfc3339` makes: outside 1970 to 9999 it answers `fmt::Error`.
 impl fmt::Display for Timestamp {
+    ghost use Rattle.std.specs.Prelude.{◌≡◌, IsOk, Err};
+    ghost use Rattle.std.specs.Fmt.{DisplaysOnOk, DisplaysStyledOnOk, fmt_error};
+    ghost use Rattle.humantime.specs.TimestampPrinted.{IsPrintable};
     ghost use Rattle.humantime.specs.TimestampPrinting.{shortest_text};
 
     ghost output = { shortest_text };
 
     ghost styled_output = { λ t _. shortest_text t };
 
-    fn fmt<W: fmt::Write>(&self, f: &mut fmt::Formatter<W>) -> fmt::Result {
+    fn fmt<W: fmt::Write>(&self, f: &mut fmt::Formatter<W>) -> fmt::Result
+        ensures writes { DisplaysOnOk W.write_str_gives f.old result (shortest_text self.now) f.new }
+        ensures styled { DisplaysStyledOnOk W.write_str_gives f.old result (shortest_text self.now) f.new }
+        ensures within { IsOk result → IsPrintable self.now }
+        ensures refused { ¬ (IsPrintable self.now) → result ≡ Err fmt_error }
+        ensures untouched { ¬ (IsPrintable self.now) → f.new ≡ f.old }
+    {
         format_rfc3339(self.0).fmt(f)
     }
 }

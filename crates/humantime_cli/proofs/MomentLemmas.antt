@@ -36,10 +36,10 @@ moment_within text f w =
     omega (arith, day_within f.date w.date, w.hour, w.minute, nanos_bound (fraction_digits f.fraction) w.fraction)
 
 pub weak_printable : (text : List ℕ) (moment : ℤ) → IsWeakMoment text moment → IsPrintable moment
-weak_printable text moment (f, w, e) = subst IsPrintable (sym e) (omega (arith, ints), omega (arith, ints, moment_within text f w))
+weak_printable text moment m = subst IsPrintable (sym m.moment) (omega (arith, ints), omega (arith, ints, moment_within text m.fields m.weak))
 
 pub strict_printable : (text : List ℕ) (moment : ℤ) → IsStrictMoment text moment → IsPrintable moment
-strict_printable text moment (f, s, e) = weak_printable text moment (f, s.weak, e)
+strict_printable text moment m = weak_printable text moment (record { fields = m.fields; weak = m.strict.weak; moment = m.moment })
 
 -- so is the moment that a parser answers
 pub read_printable : (P : ℤ → Type 0) (read : Result ℤ TimestampError) → ((t : ℤ) → (read ≡ Ok t) ↔ P t) → ((t : ℤ) → P t → IsPrintable t) → IfOk read IsPrintable

@@ -1,24 +1,21 @@
 -- Each list of words has one answer at most.
-use Rattle.std.proofs.Common.{arith, ◌≡◌, ℕ, Bool, true, false, List, [], ◌∷◌, inl, inr, sym, ap, ◌∙◌, subst, refl}
-use Rattle.std.proofs.lemmas.Option.{none-some}
-use Rattle.std.specs.Prelude.{◌==◌, ℤ, pos, nat_abs, Option, Some, None, codes, chars, if◌then◌else◌}
+use Rattle.std.proofs.Common.{arith, ◌≡◌, ℕ, List, [], ◌∷◌, inl, inr, sym, ap, ◌∙◌, subst, refl}
+use Rattle.std.specs.Prelude.{ℤ, Option, Some, None, Result, Ok, Err, codes, chars}
 use Rattle.humantime.specs.declared.date.error.TimestampError.{TimestampError}
-use Rattle.humantime.specs.declared.date.print.Precision.TheVariants.{Seconds, Nanos}
 use Rattle.humantime.specs.Canonical.{IsCanonicalOf}
 use Rattle.humantime.specs.Counts.{Canon}
 use Rattle.humantime.specs.Faults.{Fault, HasFault, OneOutcome}
 use Rattle.humantime.specs.Messages as durations
-use Rattle.humantime.specs.Moment.{nano_of}
 use Rattle.humantime.specs.Spans.{Accepted}
 use Rattle.humantime.specs.TimestampChecks.{weak_checks, strict_checks, first_failed}
 use Rattle.humantime.specs.TimestampMessages as timestamps
-use Rattle.humantime.specs.TimestampPrinted.{IsPrinted}
-use Rattle.humantime.specs.Timestamps.{Fields, IsWeak, IsStrict, IsWeakMoment, IsStrictMoment, moment_of}
-use Rattle.humantime.specs.TimestampLaws.{OneTimestamp}
+use Rattle.humantime.specs.TimestampPrinting.{places_of}
+use Rattle.humantime.specs.TimestampReading.{weak_answer, strict_answer}
+use Rattle.humantime.specs.Timestamps.{IsWeakMoment, IsStrictMoment}
 use Rattle.humantime.proofs.GreatestCounts.{one_canon}
 use Rattle.humantime.proofs.Outcomes.{one_outcome}
 use Rattle.humantime.proofs.TimestampPrintedLemmas.{one_text}
-use Rattle.humantime.proofs.TimestampReadTheorems.{one_weak, one_strict}
+use Rattle.humantime.proofs.Theorems.{one_stamp_outcome, places_of_bound}
 use Rattle.humantime_cli.specs.Answers.{IsPrintedMoment, Prints, Printed_duration, Printed_strict, Printed_weak, Refuses, Refused_duration, Refused_strict, Refused_weak, IsNoCommand, Accepted as Accepts, Refused, Misused, OneAnswer}
 use Rattle.humantime_cli.specs.Writes.{line}
 
@@ -115,29 +112,35 @@ same_some e f same = ap (error_or e) same where
   error_or d None = d
   error_or d (Some x) = x
 
--- a timestamp has one moment, or an error
-same_moment : (checks : List (Bool × TimestampError)) (IsShown : Fields → Type 0) (m n : ℤ) → OneTimestamp checks IsShown
-    → (f : Fields) × IsShown f × (m ≡ pos (moment_of f)) → (f : Fields) × IsShown f × (n ≡ pos (moment_of f)) → m ≡ n
-same_moment checks IsShown m n one (f, s, e) (g, t, k) = e ∙ ap (λ h. pos (moment_of h)) (one.1 f g s t) ∙ sym k
+-- an answer is one moment or one error
+same_ok : (r : Result ℤ TimestampError) (m n : ℤ) → r ≡ Ok m → r ≡ Ok n → m ≡ n
+same_ok r m n p q = cc
 
-no_moment_and_error : (checks : List (Bool × TimestampError)) (IsShown : Fields → Type 0) (m : ℤ) (error : TimestampError) → OneTimestamp checks IsShown
-    → (f : Fields) × IsShown f × (m ≡ pos (moment_of f)) → first_failed checks ≡ Some error → ⊥
-no_moment_and_error checks IsShown m error one (f, s, e) failed = none-some _ (sym (one.0.0 (f, s)) ∙ failed)
+not_both : (r : Result ℤ TimestampError) (m : ℤ) (e : TimestampError) → r ≡ Ok m → r ≡ Err e → ⊥
+not_both r m e p q = cc
+
+-- a timestamp has one moment, or an error
+same_strict : (t : List ℕ) (m n : ℤ) → IsStrictMoment t m → IsStrictMoment t n → m ≡ n
+same_strict t m n p q =
+    let one = one_stamp_outcome t in
+    same_ok (strict_answer t) m n ((one.strict_value m).1 p) ((one.strict_value n).1 q)
+
+same_weak : (t : List ℕ) (m n : ℤ) → IsWeakMoment t m → IsWeakMoment t n → m ≡ n
+same_weak t m n p q =
+    let one = one_stamp_outcome t in
+    same_ok (weak_answer t) m n ((one.weak_value m).1 p) ((one.weak_value n).1 q)
 
 -- a moment has one printed text
 one_printed_moment : (m : ℤ) (x y : List ℕ) → IsPrintedMoment m x → IsPrintedMoment m y → x ≡ y
-one_printed_moment m x y = by_digits (nano_of m == 0) where
-  by_digits : (whole : Bool) → IsPrinted (nat_abs m) (if whole then 0 else 9) x → IsPrinted (nat_abs m) (if whole then 0 else 9) y → x ≡ y
-  by_digits true p q = one_text (nat_abs m) Seconds x y p q
-  by_digits false p q = one_text (nat_abs m) Nanos x y p q
+one_printed_moment m x y p q = one_text m (places_of m) x y (places_of_bound m) p q
 
 prints_once : (c : Command) (t x y : List ℕ) → PrintsOf c t x → PrintsOf c t y → x ≡ y
 prints_once Duration t x y (v, a, p) (w, b, q) =
     one_canon v x y p (subst (λ d. Canon d y) (sym (same_value (chars t) v w (one_outcome (chars t)) a b)) q)
 prints_once Strict t x y (m, a, p) (n, b, q) =
-    one_printed_moment m x y p (subst (λ k. IsPrintedMoment k y) (sym (same_moment (strict_checks t) (IsStrict t) m n (one_strict t) a b)) q)
+    one_printed_moment m x y p (subst (λ k. IsPrintedMoment k y) (sym (same_strict t m n a b)) q)
 prints_once Weak t x y (m, a, p) (n, b, q) =
-    one_printed_moment m x y p (subst (λ k. IsPrintedMoment k y) (sym (same_moment (weak_checks t) (IsWeak t) m n (one_weak t) a b)) q)
+    one_printed_moment m x y p (subst (λ k. IsPrintedMoment k y) (sym (same_weak t m n a b)) q)
 
 says_once : (c : Command) (t x y : List ℕ) → SaysOf c t x → SaysOf c t y → x ≡ y
 says_once Duration t x y (e, h, p) (f, k, q) = p ∙ ap durations.message_of (same_fault (chars t) e f (one_outcome (chars t)) h k) ∙ sym q
@@ -146,8 +149,12 @@ says_once Weak t x y (e, h, p) (f, k, q) = p ∙ ap timestamps.message_of (same_
 
 never_both : (c : Command) (t x y : List ℕ) → PrintsOf c t x → SaysOf c t y → ⊥
 never_both Duration t x y (v, a, p) (e, h, q) = no_value_and_fault (chars t) v e (one_outcome (chars t)) a h
-never_both Strict t x y (m, a, p) (e, h, q) = no_moment_and_error (strict_checks t) (IsStrict t) m e (one_strict t) a h
-never_both Weak t x y (m, a, p) (e, h, q) = no_moment_and_error (weak_checks t) (IsWeak t) m e (one_weak t) a h
+never_both Strict t x y (m, a, p) (e, h, q) =
+    let one = one_stamp_outcome t in
+    not_both (strict_answer t) m e ((one.strict_value m).1 a) ((one.strict_error e).1 h)
+never_both Weak t x y (m, a, p) (e, h, q) =
+    let one = one_stamp_outcome t in
+    not_both (weak_answer t) m e ((one.weak_value m).1 a) ((one.weak_error e).1 h)
 
 -- what is no command is told nothing of a text
 never_told : (Of : Command → List ℕ → List ℕ → Type 0) (words : List (List ℕ)) (told : List ℕ) → Told Of words told → IsNoCommand words → ⊥

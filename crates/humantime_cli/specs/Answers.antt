@@ -1,16 +1,16 @@
 -- What the program answers to its words.
-use Rattle.std.specs.Prelude.{◌≡◌, ◌≢◌, ◌==◌, ℕ, List, [], ◌∷◌, ℤ, nat_abs, Option, Some, codes, chars, map, if◌then◌else◌}
+use Rattle.std.specs.Prelude.{◌≡◌, ◌≢◌, ℕ, List, [], ◌∷◌, ℤ, Option, Some, codes, chars, map}
 use Rattle.std.specs.Borrow.{Bor}
 use Rattle.std.specs.Io.KnownBytes.{Appends}
 use Rattle.humantime.specs.declared.date.error.TimestampError.{TimestampError}
 use Rattle.humantime.specs.Faults.{Fault, HasFault}
 use Rattle.humantime.specs.Canonical.{IsCanonicalOf}
 use Rattle.humantime.specs.Messages as durations
-use Rattle.humantime.specs.Moment.{nano_of}
 use Rattle.humantime.specs.Timestamps.{IsWeakMoment, IsStrictMoment}
 use Rattle.humantime.specs.TimestampChecks.{weak_checks, strict_checks, first_failed}
 use Rattle.humantime.specs.TimestampMessages as timestamps
 use Rattle.humantime.specs.TimestampPrinted.{IsPrinted}
+use Rattle.humantime.specs.TimestampPrinting.{places_of}
 use Rattle.humantime_cli.specs.Writes.{AppendsFront, line}
 
 -- the words after the program's name, as texts
@@ -23,7 +23,7 @@ usage = codes "usage: humantime duration|strict|weak TEXT"
 
 -- the text is this moment, printed with no fraction where its second is whole, and else with nine digits
 abbrev pub IsPrintedMoment : ℤ → List ℕ → Type 0
-IsPrintedMoment moment printed = IsPrinted (nat_abs moment) (if nano_of moment == 0 then 0 else 9) printed
+IsPrintedMoment moment printed = IsPrinted moment (places_of moment) printed
 
 -- What is printed where the text is accepted.
 pub data Prints (words : List (List ℕ)) (printed : List ℕ) : Type 0 where

@@ -1,6 +1,9 @@
-//! What is shown of `humantime` from outside, by its public items alone: callers that are proved, and tables of tests.
+//! What is shown of `humantime` from outside, by its public items alone: callers that are proved, functions whose contracts say
+//! what the library's derives mean, and tables of tests.
 #![tactic(auto)]
 
 pub mod callers;
+pub mod witnesses;
+
 #[cfg(test)]
 mod tests;

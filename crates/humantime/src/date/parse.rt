@@ -7,6 +7,7 @@ ghost use Rattle.humantime.specs.Times.{nanos_per_second};
 ghost use Rattle.humantime.specs.Timestamps.{nanos_of, seconds_of, IsWeakMoment, IsStrictMoment};
 ghost use Rattle.humantime.specs.TimestampChecks.{first_failed, weak_checks, strict_checks};
 ghost use Rattle.humantime.specs.TimestampChecks as TimestampChecks;
+ghost use Rattle.humantime.specs.TimestampReading.{weak_answer, strict_answer};
 ghost use Rattle.humantime.specs.TimestampReading as TimestampReading;
 
 use crate::calendar::{Date, day_number};
@@ -44,6 +45,7 @@ static WEIGHTS: [u32; 9] = [
 pub fn parse_rfc3339_weak(s: &str) -> Result<SystemTime, TimestampError>
     ensures value { (t : ℤ) → (result ≡ Ok t) ↔ IsWeakMoment s.now t }
     ensures error { (e : TimestampError) → (result ≡ Err e) ↔ (first_failed (weak_checks s.now) ≡ Some e) }
+    ensures answer { result ≡ weak_answer s.now }
 {
     read_timestamp(s.as_bytes())
 }
@@ -60,6 +62,7 @@ pub fn parse_rfc3339_weak(s: &str) -> Result<SystemTime, TimestampError>
 pub fn parse_rfc3339(s: &str) -> Result<SystemTime, TimestampError>
     ensures value { (t : ℤ) → (result ≡ Ok t) ↔ IsStrictMoment s.now t }
     ensures error { (e : TimestampError) → (result ≡ Err e) ↔ (first_failed (strict_checks s.now) ≡ Some e) }
+    ensures answer { result ≡ strict_answer s.now }
 {
     if !is_complete(s.as_bytes()) {
         return Err(TimestampError::InvalidFormat);
@@ -85,8 +88,9 @@ fn ends_in_zone(b: &[u8]) -> bool
 }
 
 // The moment, or the error of the first check that fails.
+#[tactic(auto, unfolding(crate::specs::TimestampReading::weak_answer))]
 fn read_timestamp(b: &[u8]) -> Result<SystemTime, TimestampError>
-    ensures { result ≡ TimestampReading.weak_answer b.now }
+    ensures { result ≡ weak_answer b.now }
 {
     if b.len() < 19 || !has_signs(b) {
         return Err(TimestampError::InvalidFormat);

@@ -1,11 +1,11 @@
 //! The printers of timestamps.
 
-ghost use Rattle.std.specs.Prelude.{◌≡◌, ◌+◌, ◌<◌, ◌≤◌, ◌↔◌, IsSome, IfSome, IfNone, IsAscii, ◌++◌, take, drop, slice_set, codes, nat_abs};
+ghost use Rattle.std.specs.Prelude.{◌≡◌, ◌+◌, ◌<◌, ◌≤◌, ◌↔◌, IsSome, IfSome, IfNone, IsAscii, ◌++◌, take, drop, slice_set, codes};
 ghost use Rattle.std.specs.Str.{byte};
 ghost use Rattle.humantime.specs.DigitText.{two_digits};
 ghost use Rattle.humantime.specs.Timestamps.{time_text, written};
 ghost use Rattle.humantime.specs.TimestampPrinted.{IsPrintable};
-ghost use Rattle.humantime.specs.TimestampPrinting.{places, places_of, moment_kept, places_kept, IsTextOf, fields_shown, IsDateTimeOf, FitsPlaces};
+ghost use Rattle.humantime.specs.TimestampPrinting.{places, places_of, moment_kept, places_kept, IsTextOf, printed_text, shortest_text, fields_shown, IsDateTimeOf, FitsPlaces};
 
 use crate::calendar::{Date, date_of_day};
 use crate::turns::Turns;
@@ -60,9 +60,11 @@ pub struct Rfc3339Timestamp {
 /// ```text
 /// format_rfc3339(UNIX_EPOCH)
 /// ```
+#[tactic(auto, unfolding(crate::specs::TimestampPrinting::moment_kept, crate::specs::TimestampPrinting::places_kept))]
 pub fn format_rfc3339(moment: SystemTime) -> Rfc3339Timestamp
     ensures moment { moment_kept result ≡ moment }
     ensures places { places_kept result ≡ places_of moment }
+    ensures text { printed_text result ≡ shortest_text moment }
 {
     let precision = if moment.subsec_nanos() == 0 {
         Precision::Seconds
@@ -79,6 +81,7 @@ pub fn format_rfc3339(moment: SystemTime) -> Rfc3339Timestamp
 /// ```text
 /// format_rfc3339_seconds(UNIX_EPOCH)
 /// ```
+#[tactic(auto, unfolding(crate::specs::TimestampPrinting::moment_kept, crate::specs::TimestampPrinting::places_kept))]
 pub fn format_rfc3339_seconds(moment: SystemTime) -> Rfc3339Timestamp
     ensures moment { moment_kept result ≡ moment }
     ensures places { places_kept result ≡ 0 }
@@ -96,6 +99,7 @@ pub fn format_rfc3339_seconds(moment: SystemTime) -> Rfc3339Timestamp
 /// ```text
 /// format_rfc3339_millis(UNIX_EPOCH)
 /// ```
+#[tactic(auto, unfolding(crate::specs::TimestampPrinting::moment_kept, crate::specs::TimestampPrinting::places_kept))]
 pub fn format_rfc3339_millis(moment: SystemTime) -> Rfc3339Timestamp
     ensures moment { moment_kept result ≡ moment }
     ensures places { places_kept result ≡ 3 }
@@ -113,6 +117,7 @@ pub fn format_rfc3339_millis(moment: SystemTime) -> Rfc3339Timestamp
 /// ```text
 /// format_rfc3339_micros(UNIX_EPOCH)
 /// ```
+#[tactic(auto, unfolding(crate::specs::TimestampPrinting::moment_kept, crate::specs::TimestampPrinting::places_kept))]
 pub fn format_rfc3339_micros(moment: SystemTime) -> Rfc3339Timestamp
     ensures moment { moment_kept result ≡ moment }
     ensures places { places_kept result ≡ 6 }
@@ -130,6 +135,7 @@ pub fn format_rfc3339_micros(moment: SystemTime) -> Rfc3339Timestamp
 /// ```text
 /// format_rfc3339_nanos(UNIX_EPOCH)
 /// ```
+#[tactic(auto, unfolding(crate::specs::TimestampPrinting::moment_kept, crate::specs::TimestampPrinting::places_kept))]
 pub fn format_rfc3339_nanos(moment: SystemTime) -> Rfc3339Timestamp
     ensures moment { moment_kept result ≡ moment }
     ensures places { places_kept result ≡ 9 }
@@ -146,6 +152,7 @@ impl Rfc3339Timestamp {
     /// ```text
     /// *format_rfc3339(UNIX_EPOCH).get_ref() == UNIX_EPOCH
     /// ```
+    #[tactic(auto, unfolding(crate::specs::TimestampPrinting::moment_kept))]
     pub fn get_ref(&self) -> &SystemTime
         ensures { result.now ≡ moment_kept self.now }
     {
@@ -168,6 +175,7 @@ impl Rfc3339Timestamp {
     }
 
     // Writes the text to the front of the buffer. `None`, and the buffer as it was, outside 1970 to 9999.
+    #[tactic(auto, unfolding(crate::specs::TimestampPrinting::moment_kept))]
     pub(crate) fn write(&self, buf: &mut [u8; 30]) -> Option<usize>
         ensures within { IsSome result ↔ IsPrintable (moment_kept self.now) }
         ensures fits { IfSome result (λ len. len ≤ 30) }
@@ -182,7 +190,6 @@ impl Rfc3339Timestamp {
 impl fmt::Display for Rfc3339Timestamp {
     ghost use Rattle.std.specs.Prelude.{◌≡◌, IsOk, Err};
     ghost use Rattle.std.specs.Fmt.{DisplaysOnOk, DisplaysStyledOnOk, fmt_error};
-    ghost use Rattle.humantime.specs.TimestampPrinting.{printed_text};
 
     ghost output = { printed_text };
 
@@ -206,7 +213,7 @@ impl fmt::Display for Rfc3339Timestamp {
 // The date and the time of day of a moment of 1970 to 9999.
 fn date_time_of(moment: SystemTime) -> Option<DateTime>
     ensures within { IsSome result ↔ IsPrintable moment }
-    ensures value { IfSome result (λ x. IsDateTimeOf x (nat_abs moment)) }
+    ensures value { IfSome result (λ x. IsDateTimeOf x moment) }
 {
     let secs = moment.unix_seconds();
     if secs < 0 || secs >= END {

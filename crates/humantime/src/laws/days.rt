@@ -8,7 +8,7 @@ ghost use Rattle.humantime.specs.Dates.{OneDate};
 /// ```text
 /// one_date(11016)
 /// ```
-#[tactic(auto, using(crate::proofs::DateLemmas::one_date))]
+#[tactic(auto, using(crate::proofs::Theorems::one_date))]
 pub fn one_date(day: u32)
     ensures { day ≤ 2_932_896 → OneDate day }
 {

@@ -1,11 +1,13 @@
 //! Laws of timestamps.
 
-ghost use Rattle.std.specs.Prelude.{nat_abs};
-ghost use Rattle.humantime.specs.Timestamps.{IsWeak, IsStrict};
-ghost use Rattle.humantime.specs.TimestampChecks.{weak_checks, strict_checks};
+ghost use Rattle.std.specs.Prelude.{◌≡◌, ◌↔◌, ℕ, ℤ, List, Some, Ok, Err};
+ghost use Rattle.humantime.specs.declared.date.error.TimestampError.{TimestampError};
+ghost use Rattle.humantime.specs.Timestamps.{IsWeak, IsStrict, IsWeakMoment, IsStrictMoment};
+ghost use Rattle.humantime.specs.TimestampChecks.{weak_checks, strict_checks, first_failed};
 ghost use Rattle.humantime.specs.TimestampLaws.{OneTimestamp, StrictIsWeak, StrictMomentIsWeak, InOrder};
-ghost use Rattle.humantime.specs.TimestampPrinted.{IsPrintable, OnePrinted};
-ghost use Rattle.humantime.specs.TimestampPrinting.{moment_kept, places_kept};
+ghost use Rattle.humantime.specs.TimestampPrinted.{cut, IsPrintable, OnePrinted, ReadsAs};
+ghost use Rattle.humantime.specs.TimestampPrinting.{moment_kept, places_kept, printed_text, IsTextOf};
+ghost use Rattle.humantime.specs.TimestampReading.{weak_answer, strict_answer};
 
 use crate::date::Rfc3339Timestamp;
 use crate::value::SystemTime;
@@ -25,7 +27,7 @@ pub fn strict_is_weak(s: &str)
 }
 
 /// Each text has one outcome for each parser: it shows date and time exactly where no check fails, and then
-/// no others.
+/// no others. The parsers' answer as a function of the text has that outcome.
 ///
 /// ```text
 /// one_stamp_outcome("2018-02-30 00:28:07")
@@ -33,18 +35,26 @@ pub fn strict_is_weak(s: &str)
 pub fn one_stamp_outcome(s: &str)
     ensures weak { OneTimestamp (weak_checks s.now) (IsWeak s.now) }
     ensures strict { OneTimestamp (strict_checks s.now) (IsStrict s.now) }
+
+    // The answer as a function is the one of the relations.
+    ensures weak_value { (t : ℤ) → (weak_answer s.now ≡ Ok t) ↔ IsWeakMoment s.now t }
+    ensures weak_error { (e : TimestampError) → (weak_answer s.now ≡ Err e) ↔ (first_failed (weak_checks s.now) ≡ Some e) }
+    ensures strict_value { (t : ℤ) → (strict_answer s.now ≡ Ok t) ↔ IsStrictMoment s.now t }
+    ensures strict_error { (e : TimestampError) → (strict_answer s.now ≡ Err e) ↔ (first_failed (strict_checks s.now) ≡ Some e) }
 {
     let _ = s;
 }
 
-/// A moment of 1970 to 9999 has one printed text, and both parsers read it back as the moment, cut to the
-/// digits that are printed.
+/// A moment of 1970 to 9999 has one printed text, which `Display` writes, and both parsers read it back as the
+/// moment, cut to the digits that are printed.
 ///
 /// ```text
 /// printed_moment_reads(&format_rfc3339(UNIX_EPOCH))
 /// ```
 pub fn printed_moment_reads(x: &Rfc3339Timestamp)
-    ensures { IsPrintable (moment_kept x.now) → OnePrinted (nat_abs (moment_kept x.now)) (places_kept x.now) }
+    ensures one { IsPrintable (moment_kept x.now) → OnePrinted (moment_kept x.now) (places_kept x.now) }
+    ensures displayed { (text : List ℕ) → (printed_text x.now ≡ Some text) ↔ (IsPrintable (moment_kept x.now) × IsTextOf x.now text) }
+    ensures reads { (text : List ℕ) → IsTextOf x.now text → ReadsAs text (cut (moment_kept x.now) (places_kept x.now)) }
 {
     let _ = x;
 }
@@ -55,7 +65,7 @@ pub fn printed_moment_reads(x: &Rfc3339Timestamp)
 /// stamps_in_order(earlier, later)
 /// ```
 pub fn stamps_in_order(a: SystemTime, b: SystemTime)
-    ensures { IsPrintable a → IsPrintable b → InOrder (nat_abs a) (nat_abs b) }
+    ensures { InOrder a b }
 {
     let _ = (a, b);
 }

@@ -127,7 +127,8 @@ impl StdDuration {
     /// StdDuration::from_micros(2_500_000).as_secs() == 2
     /// ```
     pub fn as_secs(&self) -> u64
-        ensures { result ≡ self.now / nanos_per_second }
+        ensures secs { result ≡ self.now / nanos_per_second }
+        ensures within { self.now < duration_end }
     {
         self.secs
     }
@@ -138,7 +139,8 @@ impl StdDuration {
     /// StdDuration::from_micros(2_500_000).subsec_nanos() == 500_000_000
     /// ```
     pub fn subsec_nanos(&self) -> u32
-        ensures { result ≡ self.now % nanos_per_second }
+        ensures nanos { result ≡ self.now % nanos_per_second }
+        ensures bound { result < nanos_per_second }
     {
         self.nanos
     }

@@ -111,8 +111,10 @@ impl SystemTime {
     /// ```text
     /// UNIX_EPOCH.unix_seconds() == 0
     /// ```
+    #[tactic(auto, using(crate::specs::MomentLemmas::parts_of_moment))]
     pub fn unix_seconds(&self) -> i64
-        ensures { result ≡ second_of self.now }
+        ensures second { result ≡ second_of self.now }
+        ensures parts { moment result (nano_of self.now) ≡ self.now }
     {
         self.secs
     }
@@ -122,8 +124,11 @@ impl SystemTime {
     /// ```text
     /// UNIX_EPOCH.subsec_nanos() == 0
     /// ```
+    #[tactic(auto, using(crate::specs::MomentLemmas::parts_of_moment))]
     pub fn subsec_nanos(&self) -> u32
-        ensures { result ≡ nano_of self.now }
+        ensures nano { result ≡ nano_of self.now }
+        ensures parts { moment (second_of self.now) result ≡ self.now }
+        ensures bound { result < nanos_per_second }
     {
         self.nanos
     }

@@ -1,5 +1,12 @@
-use Rattle.humantime.proofs.TimestampPrintedLemmas.{one_printed}
+use Rattle.humantime.specs.TimestampPrinting.{moment_kept, places_kept}
+use Rattle.humantime.proofs.Theorems as theorem
 use Rattle.humantime.proofs.laws.timestamps.printed_moment_reads.Goals as goal
 
-pub returns : goal.returns
-returns c = one_printed c.args.x.now
+pub returns-clause-one : goal.returns-clause-one
+returns-clause-one c = (theorem.printed_moment_reads (moment_kept c.args.x.now) (places_kept c.args.x.now) (theorem.places_kept_bound c.args.x.now)).one
+
+pub returns-clause-displayed : goal.returns-clause-displayed
+returns-clause-displayed c = (theorem.printed_moment_reads (moment_kept c.args.x.now) (places_kept c.args.x.now) (theorem.places_kept_bound c.args.x.now)).displayed
+
+pub returns-clause-reads : goal.returns-clause-reads
+returns-clause-reads c = (theorem.printed_moment_reads (moment_kept c.args.x.now) (places_kept c.args.x.now) (theorem.places_kept_bound c.args.x.now)).reads

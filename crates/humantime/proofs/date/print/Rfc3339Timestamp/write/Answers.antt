@@ -1,7 +1,10 @@
-use Rattle.std.proofs.Common.{nat_abs}
-use Rattle.humantime.proofs.TimestampPrintedLemmas.{shown_printed}
+use Rattle.humantime.proofs.TimestampPrintedLemmas.{shown_printed, places_most}
+use Rattle.humantime.specs.TimestampPrinting.{places, moment_kept, places_kept}
 use Rattle.humantime.proofs.date.print.Rfc3339Timestamp.write.Goals as goal
 
 pub returns-clause-text : goal.returns-clause-text
+unfolding moment_kept places_kept
 returns-clause-text c =
-    rw c.write_date_time.ensures.text (shown_printed c.args.self.now.precision c.in_ok-date_time.date_time (nat_abs c.args.self.now.moment) c.in_ok-date_time.ensures.value)
+    let precision = c.args.self.now.precision in
+    rw c.write_date_time.ensures.text
+    (shown_printed c.in_ok-date_time.date_time c.args.self.now.moment (places precision) (places_most precision) c.in_ok-date_time.ensures.value)
