@@ -15,8 +15,10 @@ pub mod LentItems
 pub mod MarchLemmas
 pub mod Months
 pub mod NumberLemmas
+pub mod OnLiterals
 pub mod OneReading
 pub mod Outcomes
+pub mod Places
 pub mod PointLemmas
 pub mod PrintedDigits
 pub mod PrintedLengths
@@ -33,6 +35,7 @@ pub mod SpanSlices
 pub mod Spelled
 pub mod Stopping
 pub mod Tails
+pub mod Theorems
 pub mod TimestampByteLemmas
 pub mod TimestampCheckLemmas
 pub mod TimestampEndLemmas
@@ -49,5 +52,6 @@ pub mod TimestampShownLemmas
 pub mod TimestampStrictLemmas
 pub mod Told
 pub mod Trimming
+pub mod Unread
 pub mod WorkedTexts
 pub mod Written

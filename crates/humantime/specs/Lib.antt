@@ -7,6 +7,7 @@ pub mod Counts
 pub mod Dates
 pub mod Deciding
 pub mod DigitText
+pub mod DurationAnswers
 pub mod Errors
 pub mod Faults
 pub mod Keys

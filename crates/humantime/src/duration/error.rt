@@ -1,10 +1,11 @@
 //! What is wrong with a text that is no duration.
 
-ghost use Rattle.std.specs.Prelude.{◌≡◌, Some, chars, encode_utf8_all};
-ghost use Rattle.std.specs.Fmt.{DisplaysOnOk};
+ghost use Rattle.std.specs.Prelude.{◌≡◌, ◌++◌, Some, chars, decimal, encode_utf8_all};
+ghost use Rattle.std.specs.Fmt.{WritesOnOk, WritesStyledOnOk};
 ghost use Rattle.humantime.specs.Errors.{fault_of};
-ghost use Rattle.humantime.specs.Messages.{message_of, unit_message};
+ghost use Rattle.humantime.specs.Messages.{message_of, unit_message, unit_needed};
 
+use itoa::Buffer;
 use std::error::Error;
 use std::fmt;
 
@@ -42,13 +43,16 @@ pub enum DurationError<'a> {
     Empty,
 }
 
+/// Writes the message. Width and fill change nothing.
 impl fmt::Display for DurationError<'_> {
     ghost output = { λ e. Some (message_of (fault_of e)) };
 
+    ghost styled_output = { λ e _. Some (message_of (fault_of e)) };
+
     fn fmt<W: fmt::Write>(&self, f: &mut fmt::Formatter<W>) -> fmt::Result {
         match self {
-            DurationError::InvalidCharacter(at) => write!(f, "invalid character at {at}"),
-            DurationError::NumberExpected(at) => write!(f, "expected number at {at}"),
+            DurationError::InvalidCharacter(at) => write_place("invalid character at ", *at, f),
+            DurationError::NumberExpected(at) => write_place("expected number at ", *at, f),
             DurationError::UnknownUnit { unit, value, .. } => write_unit(unit, *value, f),
             DurationError::NumberOverflow => f.write_str(
                 "number is too large or cannot be represented without a lack of precision (values below 1ns are not supported)",
@@ -60,16 +64,42 @@ impl fmt::Display for DurationError<'_> {
 
 impl Error for DurationError<'_> {}
 
+/// Writes what is wrong, and the offset where it is.
+fn write_place<W: fmt::Write>(what: &str, at: usize, f: &mut fmt::Formatter<W>) -> fmt::Result
+    ensures writes { WritesOnOk W.write_str_gives f.old result (what.now ++ decimal at) f.new }
+    ensures styled { WritesStyledOnOk W.write_str_gives f.old result (what.now ++ decimal at) f.new }
+{
+    let mut buffer = Buffer::new();
+    f.write_str(what)?;
+    f.write_str(buffer.format(at))
+}
+
 /// Writes what is said of a unit that is missing or no unit's word. `value` is the number before it.
 fn write_unit<W: fmt::Write>(unit: &str, value: u64, f: &mut fmt::Formatter<W>) -> fmt::Result
-    ensures writes { DisplaysOnOk W.write_str_gives f.old result (Some (unit_message unit.now value)) f.new }
+    ensures writes { WritesOnOk W.write_str_gives f.old result (unit_message unit.now value) f.new }
+    ensures styled { WritesStyledOnOk W.write_str_gives f.old result (unit_message unit.now value) f.new }
     ensures characters { encode_utf8_all (chars unit.now) ≡ unit.now }
 {
     if unit.is_empty() {
-        return write!(f, "time unit needed, for example {value}sec or {value}ms");
+        return write_unit_needed(value, f);
     }
-    write!(
-        f,
-        "unknown time unit \"{unit}\", supported units: ns, us/µs, ms, sec, min, hours, days, weeks, months, years (and few variations)"
+    f.write_str("unknown time unit \"")?;
+    f.write_str(unit)?;
+    f.write_str(
+        "\", supported units: ns, us/µs, ms, sec, min, hours, days, weeks, months, years (and few variations)",
     )
+}
+
+/// Writes what is said of a number with no unit.
+fn write_unit_needed<W: fmt::Write>(value: u64, f: &mut fmt::Formatter<W>) -> fmt::Result
+    ensures writes { WritesOnOk W.write_str_gives f.old result (unit_needed value) f.new }
+    ensures styled { WritesStyledOnOk W.write_str_gives f.old result (unit_needed value) f.new }
+{
+    let mut buffer = Buffer::new();
+    let value = buffer.format(value);
+    f.write_str("time unit needed, for example ")?;
+    f.write_str(value)?;
+    f.write_str("sec or ")?;
+    f.write_str(value)?;
+    f.write_str("ms")
 }
