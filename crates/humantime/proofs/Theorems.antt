@@ -1,8 +1,10 @@
 -- The laws as theorems over plain variables, each under the name of its function in `laws`.
-use Rattle.std.proofs.Common.{◌≡◌, ◌↔◌, ℕ, ◌<◌, List, Result, Ok, Err, chars, refl, arith}
+use Rattle.std.proofs.Common.{◌≡◌, ◌↔◌, ℕ, ◌<◌, List, Result, Ok, Err, IsTrue, chars, refl, arith}
 use Rattle.humantime.specs.Times.{duration_end}
 use Rattle.humantime.specs.Spans.{Accepted}
 use Rattle.humantime.specs.Faults.{Fault, HasFault, OneOutcome, OneReading, OneListOfItems}
+use Rattle.humantime.specs.FaultEquality.{fault_eq}
+use Rattle.humantime.specs.FaultEqualityLemmas.{fault_eq-sound, fault_eq-same}
 use Rattle.humantime.specs.Deciding.{ItemsDecideValue, ItemsDecideFault, ItemsDecideOverflow}
 use Rattle.humantime.specs.Slices.{OneListOfSlices}
 use Rattle.humantime.specs.Counts.{Canon}
@@ -56,6 +58,10 @@ spans_decide text = record {
 -- A text of these characters lends one list of slices.
 pub spans_tile : (text : List ℕ) → OneListOfSlices text
 spans_tile text = lent.one_list_of_slices text
+
+-- Two errors are equal exactly where they name the same fault.
+pub errors_equal : (e f : Fault) → IsTrue (fault_eq e f) ↔ (e ≡ f)
+errors_equal e f = (fault_eq-sound e f, fault_eq-same e f)
 
 -- ---- printed durations
 

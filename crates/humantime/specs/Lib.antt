@@ -9,6 +9,8 @@ pub mod Deciding
 pub mod DigitText
 pub mod DurationAnswers
 pub mod Errors
+pub mod FaultEquality
+pub mod FaultEqualityLemmas
 pub mod Faults
 pub mod Keys
 pub mod Lending

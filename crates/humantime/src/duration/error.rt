@@ -1,9 +1,13 @@
 //! What is wrong with a text that is no duration.
 
-ghost use Rattle.std.specs.Prelude.{◌≡◌, ◌++◌, Some, chars, decimal, encode_utf8_all};
+ghost use Rattle.std.specs.Prelude.{◌≡◌, ◌++◌, Some, chars, decimal, encode_utf8_all, bytes_eq};
+ghost use Rattle.std.specs.Cmp.{on_per};
+ghost use Rattle.std.specs.Ordering.{on};
 ghost use Rattle.std.specs.Fmt.{WritesOnOk, WritesStyledOnOk};
 ghost use Rattle.humantime.specs.Errors.{fault_of};
+ghost use Rattle.humantime.specs.FaultEquality.{fault_eq};
 ghost use Rattle.humantime.specs.Messages.{message_of, unit_message, unit_needed};
+ghost use Rattle.humantime.specs.FaultEqualityLemmas.{fault_eq_laws};
 
 use itoa::Buffer;
 use std::error::Error;
@@ -20,7 +24,7 @@ mod tests;
 /// ```text
 /// DurationError::NumberExpected(13) is printed as `expected number at 13`
 /// ```
-#[derive(Clone, Copy, PartialEq, Debug)]
+#[derive(Clone, Copy, Debug)]
 pub enum DurationError<'a> {
     /// At this offset stands a character that has no place in a span.
     InvalidCharacter(usize),
@@ -41,6 +45,53 @@ pub enum DurationError<'a> {
     NumberOverflow,
     /// There is nothing, or only white space.
     Empty,
+}
+
+/// Two errors are equal exactly where they name the same fault.
+impl PartialEq for DurationError<'_> {
+    ghost eq = { on fault_of fault_eq };
+
+    ghost laws = { on_per fault_of fault_eq_laws };
+
+    fn eq(&self, other: &DurationError<'_>) -> bool {
+        match (*self, *other) {
+            (DurationError::InvalidCharacter(at), DurationError::InvalidCharacter(other_at)) => {
+                at == other_at
+            }
+            (DurationError::NumberExpected(at), DurationError::NumberExpected(other_at)) => {
+                at == other_at
+            }
+            (
+                DurationError::UnknownUnit {
+                    start,
+                    end,
+                    unit,
+                    value,
+                },
+                DurationError::UnknownUnit {
+                    start: other_start,
+                    end: other_end,
+                    unit: other_unit,
+                    value: other_value,
+                },
+            ) => {
+                start == other_start
+                    && end == other_end
+                    && is_same_text(unit, other_unit)
+                    && value == other_value
+            }
+            (DurationError::NumberOverflow, DurationError::NumberOverflow)
+            | (DurationError::Empty, DurationError::Empty) => true,
+            _ => false,
+        }
+    }
+}
+
+/// Whether two texts have the same characters.
+fn is_same_text(a: &str, b: &str) -> bool
+    ensures { result ≡ bytes_eq (chars a.now) (chars b.now) }
+{
+    a == b
 }
 
 /// Writes the message. Width and fill change nothing.
