@@ -33,8 +33,8 @@ unfolding canonical_answer
 answer_is_canonical s r e t = (
   (λ h.
       let p = printed_value (duration_answer (chars s)) t (sym e ∙ h) in
-      (p.0, (answer_accepts (chars s) _ refl p.0).0 p.1, subst (Canon p.0) p.2 (text_is_canon p.0))),
-  (λ h. e ∙ ap printed_answer ((answer_accepts (chars s) _ refl h.0).1 h.1) ∙ ap (λ (u : List ℕ). Ok u) (sym (canon_is_text h.0 t h.2))),
+      record { value = p.0; accepted = (answer_accepts (chars s) _ refl p.0).0 p.1; canon = subst (Canon p.0) p.2 (text_is_canon p.0) }),
+  (λ h. e ∙ ap printed_answer ((answer_accepts (chars s) _ refl h.value).1 h.accepted) ∙ ap (λ (u : List ℕ). Ok u) (sym (canon_is_text h.value t h.canon))),
 )
 
 pub answer_is_fault : (s : List ℕ) (r : Result (List ℕ) Fault) → r ≡ canonical_answer (chars s) → (f : Fault) → (r ≡ Err f) ↔ HasFault (chars s) f

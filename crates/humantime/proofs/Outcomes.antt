@@ -5,7 +5,7 @@ use Rattle.std.specs.Str.{bytes_eq}
 use Rattle.std.proofs.lemmas.Bool.{cases_Bool, false≢true}
 use Rattle.std.proofs.lemmas.Slice.Eq.{bytes_eq-Decides}
 use Rattle.humantime.specs.Characters.{is_digit}
-use Rattle.humantime.specs.Spans.{Span, Front, Reads, Formed, Good, value, Accepted}
+use Rattle.humantime.specs.Spans.{Span, Front, Reads, Formed, Good, value, Accepted, Bare_zero, Sum_of}
 use Rattle.humantime.specs.Faults.{Fault, NumberOverflow, Stops, Overflows, HasFault, Items, OneOutcome, OnlyValue, OnlyFault, OneListOfItems, span_of}
 use Rattle.humantime.specs.Deciding.{ItemsDecideValue, ItemsDecideFault, ItemsDecideOverflow}
 use Rattle.humantime.specs.Reading.{with_span, read, items, settle}
@@ -71,9 +71,9 @@ reads_whole text spans h = elim h.are.ends [
 ]
 
 pub outcome_accepted : (text : List ℕ) (v : ℕ) → Accepted text v → duration_answer text ≡ Ok v
-outcome_accepted text v (inl h) = rw (h.0, h.1) duration_answer-zero
-outcome_accepted text v (inr h) =
-    outcome_good text h.0 None (not_zero text h.0 h.1) (items_whole text h.0 h.1 h.2.formed) h.2 ∙ ap (λ (n : ℕ). Ok n) h.3
+outcome_accepted text v (Bare_zero zero none) = rw (zero, none) duration_answer-zero
+outcome_accepted text v (Sum_of spans reads good sum) =
+    outcome_good text spans None (not_zero text spans reads) (items_whole text spans reads good.formed) good ∙ ap (λ (n : ℕ). Ok n) sum
 
 stop_outcome : (text : List ℕ) (e : Fault) (h : HasFault text e) → Stops text h.front h.spans h.rest e → duration_answer text ≡ Err e
 stop_outcome text e h s =
@@ -106,7 +106,7 @@ outcome_fault text e h = elim h.fault [
 
 -- good items are a value or a fault
 good_value : (text : List ℕ) (spans : List Span) (stop : Option Fault) (v : ℕ) → Items text spans stop → Good spans → ended (value spans) stop ≡ Ok v → (stop ≡ None) × Accepted text v
-good_value text spans None v h g e = (refl, inr (spans, reads_whole text spans h, g, ok_same (value spans) v e))
+good_value text spans None v h g e = (refl, Sum_of spans (reads_whole text spans h) g (ok_same (value spans) v e))
 good_value text spans (Some f) v h g e = cc
 
 pub good_fault : (text : List ℕ) (spans : List Span) (stop : Option Fault) (e : Fault) → text ≢ 48 ∷ [] → Items text spans stop → Good spans → stop ≡ Some e → HasFault text e
@@ -139,7 +139,7 @@ accepted_read text v some h =
 
 pub accepted_from_outcome : (text : List ℕ) (v : ℕ) → duration_answer text ≡ Ok v → Accepted text v
 accepted_from_outcome text v h = elim (zero_or_not text) [
-  | inl z ↦ inl (z, ok_same v 0 (sym h ∙ ap duration_answer z ∙ duration_answer-zero))
+  | inl z ↦ Bare_zero z (ok_same v 0 (sym h ∙ ap duration_answer z ∙ duration_answer-zero))
   | inr n ↦ accepted_read text v n h
 ]
 
@@ -194,7 +194,7 @@ value_only text spans stop v some h o = elim (good_or_bad spans h.are.formed) [
 pub items_decide_value : (text : List ℕ) → ItemsDecideValue text
 items_decide_value text spans stop h some v = (
   λ a. value_only text spans stop v some h (outcome_accepted text v a),
-  λ p. inr (spans, reads_whole text spans (subst (Items text spans) p.0 h), p.1, p.2),
+  λ p. Sum_of spans (reads_whole text spans (subst (Items text spans) p.0 h)) p.1 p.2,
 )
 
 pub items_decide_fault : (text : List ℕ) → ItemsDecideFault text
