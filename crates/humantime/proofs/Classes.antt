@@ -1,10 +1,11 @@
 -- The classes of characters exclude each other.
-use Rattle.std.proofs.Common.{◌≡◌, ℕ, true, false, ◌||◌, refl, arith}
+use Rattle.std.proofs.Common.{◌≡◌, ℕ, Bool, true, false, ◌||◌, if◌then◌else◌, refl, sym, ◌∙◌, arith}
+use Rattle.std.specs.Char.{is_whitespace, char_set_contains}
 use Rattle.std.proofs.lemmas.Bool.{or_parts}
 use Rattle.std.proofs.lemmas.Bool.Decides.{nat_tests}
 use Rattle.humantime.specs.declared.duration.class.Class.{Class}
 use Rattle.humantime.specs.declared.duration.class.Class.TheVariants.{White, Digit, Letter, Point, Other}
-use Rattle.humantime.specs.Characters.{class_of, white, digit, letter, point, is_ws, is_digit, is_letter, is_point, is_numeric}
+use Rattle.humantime.specs.Characters.{class_of, white_spaces, white, digit, letter, point, is_ws, is_digit, is_letter, is_point, is_numeric}
 
 not_letter : (k : Class) → (digit k || white k) ≡ true → letter k ≡ false
 not_letter White e = refl
@@ -79,9 +80,26 @@ space_is_numeric c = white_or (class_of c)
 pub space_from_numeric : (c : ℕ) → is_numeric c ≡ true → is_digit c ≡ false → is_ws c ≡ true
 space_from_numeric c = white_not_digit (class_of c)
 
+-- the white space listed is that of std
+pub white_space_listed : (c : ℕ) → is_whitespace c ≡ char_set_contains white_spaces c
+unfolding white_spaces
+white_space_listed c = grind (arith, nat_tests)
+
+-- the class of a character of white space
+white_of : (w d l p : Bool) → white (if w then White else if d then Digit else if l then Letter else if p then Point else Other) ≡ w
+white_of true d l p = refl
+white_of false true l p = refl
+white_of false false true p = refl
+white_of false false false true = refl
+white_of false false false false = refl
+
+pub white_is : (c : ℕ) → is_whitespace c ≡ is_ws c
+unfolding class_of
+white_is c = white_space_listed c ∙ sym (white_of _ _ _ _)
+
 -- the point is one character
 pub is_point-46 : is_point 46 ≡ true
-unfolding class_of
+unfolding class_of white_spaces
 is_point-46 = refl
 
 pub is_point-true : (c : ℕ) → is_point c ≡ true → c ≡ 46

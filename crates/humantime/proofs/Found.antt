@@ -1,10 +1,10 @@
 -- What the plain reading finds in a text: its items, and the place where its spans are too large.
-use Rattle.std.proofs.Common.{◌≡◌, ◌≢◌, ◌⊎◌, ℕ, zero, suc, ◌≤◌, ◌+◌, true, false, List, [], ◌∷◌, ◌++◌, length, Option, Some, None, refl, sym, ap, ◌∙◌, inl, inr, arith, subst, append_assoc, append-nil}
+use Rattle.std.proofs.Common.{◌≡◌, ◌≢◌, ◌⊎◌, ℕ, zero, suc, ◌≤◌, ◌+◌, true, false, List, [], ◌∷◌, ◌++◌, length, Option, Some, None, refl, sym, ap, ◌∙◌, inl, inr, arith, subst, subst₂, append_assoc, append-nil}
 use Rattle.std.specs.List.{AllByRecursion}
 use Rattle.std.proofs.lemmas.Bool.{cases_Bool}
 use Rattle.humantime.specs.Characters.{is_ws, is_digit, begins, past, leading, offset_of}
 use Rattle.humantime.specs.Spans.{Span, Spells, SpellsEach, Front, Formed, total, additions_of, value}
-use Rattle.humantime.specs.Faults.{Fault, NumberExpected, NumberOverflow, Empty, Split, HasFault, Stops, No_number, Nothing_there, Items, EndsInSpace, after_word, span_of}
+use Rattle.humantime.specs.Faults.{Fault, NumberExpected, NumberOverflow, Empty, Split, HasFault, Stops, No_number, Nothing_there, Items, ItemsAt, EndsInSpace, after_word, span_of}
 use Rattle.humantime.specs.Reading.{stop_at, read, items}
 use Rattle.humantime.proofs.Runs.{ends-append, leading-past, Only-leading, begins-past}
 use Rattle.humantime.proofs.Spelled.{next_of, next_smaller}
@@ -12,6 +12,7 @@ use Rattle.humantime.proofs.Settled.{GoodFrom, IsAddedTo, added_or_not, value-co
 use Rattle.humantime.proofs.Stopping.{Fine, Says, stop_says}
 use Rattle.humantime.proofs.Written.{written_here, formed_here, spelling_some}
 use Rattle.humantime.proofs.ReadSteps.{read-end, read-expected, read-stopped, read-fine, items-nothing, items-read}
+use Rattle.humantime.proofs.Unread.{unread, unread_of, unread-end, unread-expected, unread-stopped, unread-fine}
 
 -- the front is read as these spans, each well formed, and reading goes on at the rest
 pub record IsReadTo (text front : List ℕ) (spans : List Span) (rest : List ℕ) : Type 0 where
@@ -65,37 +66,38 @@ read_on text front rest spans r d f =
 sum_push : (ss : List Span) (s : Span) → 0 + value (ss ++ s ∷ []) ≡ (0 + value ss) + total (additions_of s)
 sum_push ss s = omega (arith, value-append ss (s ∷ []), value-cons s [])
 
--- what the reading gives from here on, after the spans that stand before
-abbrev ItemsAfter : List ℕ → List Span → List Span × Option Fault → Type 0
-ItemsAfter text spans r = Items text (spans ++ r.0) r.1
+-- what the reading gives from here on up to an end, after the spans that stand before
+abbrev pub ItemsAfter : List ℕ → List Span → List ℕ → List Span × Option Fault → Type 0
+ItemsAfter text spans end r = (front : List ℕ) × ItemsAt text front end (spans ++ r.0) r.1
 
-items_end : (text front : List ℕ) (spans : List Span) → IsReadTo text front spans [] → ItemsAfter text spans ([], None)
-items_end text front spans r = rw (append-nil spans) (record { front = front; rest = []; split = r.split; formed = r.formed; ends = inl (refl, r.some refl, refl) })
+items_end : (text front : List ℕ) (spans : List Span) → IsReadTo text front spans [] → ItemsAfter text spans [] ([], None)
+items_end text front spans r = (front, rw (append-nil spans) (record { split = r.split; formed = r.formed; ends = inl (refl, r.some refl, refl) }))
 
-items_stop : (text front rest : List ℕ) (spans : List Span) (e : Fault) → IsReadTo text front spans rest → Stops text front spans rest e → ItemsAfter text spans ([], Some e)
-items_stop text front rest spans e r s =
-    rw (append-nil spans) (record { front = front; rest = rest; split = r.split; formed = r.formed; ends = inr (e, refl, s) })
+items_stop : (text front rest : List ℕ) (spans : List Span) (e : Fault) → IsReadTo text front spans rest → Stops text front spans rest e → ItemsAfter text spans rest ([], Some e)
+items_stop text front rest spans e r s = (front, rw (append-nil spans) (record { split = r.split; formed = r.formed; ends = inr (e, refl, s) }))
 
 -- a rest, with what is known of it and one more span
 found_step : (n : ℕ) (text front rest : List ℕ) (spans : List Span) → IsReadTo text front spans rest → begins is_digit rest ≡ true → length rest ≤ suc n
-    → ((f r : List ℕ) (ss : List Span) → length r ≤ n → IsReadTo text f ss r → ItemsAfter text ss (read n text r))
-    → (o : Option Fault) → stop_at text rest ≡ o → ItemsAfter text spans (read (suc n) text rest)
+    → ((f r : List ℕ) (ss : List Span) → length r ≤ n → IsReadTo text f ss r → ItemsAfter text ss (unread n text r) (read n text r))
+    → (o : Option Fault) → stop_at text rest ≡ o → ItemsAfter text spans (unread (suc n) text rest) (read (suc n) text rest)
 found_step n text front rest spans r d h next (Some e) s =
-    subst (ItemsAfter text spans) (sym (read-stopped n text rest e d s))
+    subst₂ (ItemsAfter text spans) (sym (unread-stopped n text rest e d s)) (sym (read-stopped n text rest e d s))
     (items_stop text front rest spans e r (subst (Says text front spans rest) s (stop_says text front spans rest d)))
 found_step n text front rest spans r d h next None s =
     let f : Fine rest = subst (Says text front spans rest) s (stop_says text front spans rest d) in
     let w = read_on text front rest spans r d f in
-    let i : ItemsAfter text (spans ++ span_of rest ∷ []) (read n text (next_of rest)) = next (front ++ w.0) (next_of rest) (spans ++ span_of rest ∷ []) (omega (arith, next_smaller rest d)) w.1 in
-    subst (ItemsAfter text spans) (sym (read-fine n text rest d s)) (rw append_assoc at i)
+    let more = read n text (next_of rest) in
+    let i = next (front ++ w.0) (next_of rest) (spans ++ span_of rest ∷ []) (omega (arith, next_smaller rest d)) w.1 in
+    let a = subst (λ (ss : List Span). ItemsAt text i.0 (unread n text (next_of rest)) ss more.1) (append_assoc spans (span_of rest ∷ []) more.0) i.1 in
+    subst₂ (ItemsAfter text spans) (sym (unread-fine n text rest d s)) (sym (read-fine n text rest d s)) (i.0, a)
 
-found : (n : ℕ) (text front rest : List ℕ) (spans : List Span) → length rest ≤ n → IsReadTo text front spans rest → ItemsAfter text spans (read n text rest)
-found n text front [] spans h r = subst (ItemsAfter text spans) (sym (read-end n text)) (items_end text front spans r)
+found : (n : ℕ) (text front rest : List ℕ) (spans : List Span) → length rest ≤ n → IsReadTo text front spans rest → ItemsAfter text spans (unread n text rest) (read n text rest)
+found n text front [] spans h r = subst₂ (ItemsAfter text spans) (sym (unread-end n text)) (sym (read-end n text)) (items_end text front spans r)
 found zero text front (c ∷ cs) spans h r = absurd (omega arith)
 found (suc n) text front (c ∷ cs) spans h r = elim (cases_Bool (is_digit c)) [
   | inl d ↦ found_step n text front (c ∷ cs) spans r d h (λ f m ss l k. found n text f m ss l k) (stop_at text (c ∷ cs)) refl
   | inr d ↦
-      subst (ItemsAfter text spans) (sym (read-expected n text (c ∷ cs) (λ e. cc) d))
+      subst₂ (ItemsAfter text spans) (sym (unread-expected n text (c ∷ cs) (λ e. cc) d)) (sym (read-expected n text (c ∷ cs) (λ e. cc) d))
       (items_stop text front (c ∷ cs) spans (NumberExpected (offset_of text (c ∷ cs))) r (No_number d (λ e. cc) (r.follows (λ e. cc) d) refl))
 ]
 
@@ -110,16 +112,21 @@ read_begun text rest e = record {
 begun : (text rest : List ℕ) → past is_ws text ≡ rest → rest ≢ [] → IsReadTo text (leading is_ws text) [] rest
 begun text rest e some = record { split = read_begun text rest e; formed = tt; follows = λ n d. inl refl; some = λ n. absurd (some n) }
 
-found_from : (text rest : List ℕ) → past is_ws text ≡ rest → ItemsAfter text [] (items text)
-found_from text [] e = subst (ItemsAfter text []) (sym (items-nothing text e))
-    (record { front = leading is_ws text; rest = []; split = read_begun text [] e; formed = tt; ends = inr (Empty, refl, Nothing_there refl refl refl) })
+found_from : (text rest : List ℕ) → past is_ws text ≡ rest → ItemsAfter text [] (unread (length rest) text rest) (items text)
+found_from text [] e =
+    subst₂ (ItemsAfter text []) (sym (unread-end 0 text)) (sym (items-nothing text e))
+    (leading is_ws text, record { split = read_begun text [] e; formed = tt; ends = inr (Empty, refl, Nothing_there refl refl refl) })
 found_from text (c ∷ cs) e =
     let some : c ∷ cs ≢ [] = λ n. cc in
-    subst (ItemsAfter text []) (sym (items-read text (c ∷ cs) e some))
+    subst (ItemsAfter text [] (unread (length (c ∷ cs)) text (c ∷ cs))) (sym (items-read text (c ∷ cs) e some))
     (found (length (c ∷ cs)) text (leading is_ws text) (c ∷ cs) [] (omega arith) (begun text (c ∷ cs) e some))
 
+-- the items of a text, and the rest behind them
+pub items_found_at : (text : List ℕ) → ItemsAfter text [] (unread_of text) (items text)
+items_found_at text = found_from text (past is_ws text) refl
+
 pub items_found : (text : List ℕ) → Items text (items text).0 (items text).1
-items_found text = found_from text (past is_ws text) refl
+items_found text = let i = items_found_at text in record { front = i.0; rest = unread_of text; are = i.1 }
 
 -- the reading is too large from here on
 abbrev IsTooLarge : List Span → List Span × Option Fault → Type 0

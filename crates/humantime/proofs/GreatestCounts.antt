@@ -73,12 +73,12 @@ counts_divided d counts g = greatest_divided weights (suc d) d counts (weights_r
 -- the text by division is a canonical text, and there is no other
 pub text_is_canon : (d : ℕ) → Canon d (duration_text d)
 unfolding duration_text
-text_is_canon d = (divided weights d, divided_greatest weights (suc d) d (weights_reach (suc d)) (omega arith), refl)
+text_is_canon d = record { counts = divided weights d; are = divided_greatest weights (suc d) d (weights_reach (suc d)) (omega arith); shown = refl }
 
 pub canon_is_text : (d : ℕ) (text : List ℕ) → Canon d text → text ≡ duration_text d
 unfolding duration_text
 canon_is_text d text canon =
-    canon.2 ∙ ap (λ ns. joined_by_space (printed_counts ns suffixes)) (counts_divided d canon.0 canon.1)
+    canon.shown ∙ ap (λ ns. joined_by_space (printed_counts ns suffixes)) (counts_divided d canon.counts canon.are)
 
 pub one_canon : (d : ℕ) (a b : List ℕ) → Canon d a → Canon d b → a ≡ b
 one_canon d a b left right = canon_is_text d a left ∙ sym (canon_is_text d b right)

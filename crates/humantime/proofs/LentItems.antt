@@ -4,17 +4,20 @@ use Rattle.std.proofs.lemmas.Str.{encodes-chars, encode_ascii}
 use Rattle.humantime.specs.Characters.{is_ws, is_digit, begins, leading, past, offset_of}
 use Rattle.humantime.specs.Spans.{Span}
 use Rattle.humantime.specs.Faults.{Fault, NumberExpected, NumberOverflow, Empty, span_of}
-use Rattle.humantime.specs.Reading.{stop_at, read, items_from, items, with_span, add_span, settle, outcome}
+use Rattle.humantime.specs.Reading.{stop_at, read, items_from, items, with_span, add_span, settle}
+use Rattle.humantime.specs.DurationAnswers.{duration_answer}
 use Rattle.humantime.specs.Slices.{Lent, LendsEach, stopping, items_of, AreItems, OneListOfSlices}
 use Rattle.humantime.specs.Lending.{lent_at, lends, left_at, lent_items, judged}
 use Rattle.humantime.proofs.LendingSteps.{Turn, No_digit, Faulty, Spanned, turn, lends-expected, lends-stopped, lends-fine}
-use Rattle.humantime.proofs.Outcomes.{items_found, items_told, outcome-items}
+use Rattle.humantime.proofs.Found.{items_found_at}
+use Rattle.humantime.proofs.Outcomes.{items_told, duration_answer-items}
 use Rattle.humantime.proofs.ReadSteps.{read-expected, read-stopped, read-fine}
 use Rattle.humantime.proofs.Runs.{leading-past, Only-leading}
 use Rattle.humantime.proofs.SlicesTold.{one_each}
 use Rattle.humantime.proofs.SpanSlices.{is_lent}
 use Rattle.humantime.proofs.Spelled.{next_of}
 use Rattle.humantime.proofs.Trimming.{spelled_at}
+use Rattle.humantime.proofs.Unread.{unread, unread_of, unread-expected, unread-stopped, unread-fine}
 
 -- items and spans of one text add up to the same after every sum
 abbrev Agree : List (Result Lent Fault) → List Span × Option Fault → Type 0
@@ -55,44 +58,55 @@ unfolding items
 judged_items text = judged_from text (past is_ws text)
 
 -- unless the text is `0`, what its items add up to is its outcome
-pub judged_outcome : (text : List ℕ) → text ≢ 48 ∷ [] → judged 0 (lent_items text) ≡ outcome text
-judged_outcome text some = judged_items text ∙ sym (outcome-items text some)
+pub judged_outcome : (text : List ℕ) → text ≢ 48 ∷ [] → judged 0 (lent_items text) ≡ duration_answer text
+judged_outcome text some = judged_items text ∙ sym (duration_answer-items text some)
 
 -- a text whose one character is `0` is that one byte
 pub not_zero_chars : (bs : List ℕ) → IsUtf8 bs → (bs ≡ 48 ∷ [] → ⊥) → chars bs ≢ 48 ∷ []
 not_zero_chars bs u n e = n (sym (encodes-chars bs u) ∙ ap encode_utf8_all e ∙ ap (λ (l : List ℕ). l ++ []) (encode_ascii 48 (omega arith)))
 
--- The items from a rest on are what the spans found there lend, and then what stops them.
-record LentFrom (text rest : List ℕ) (items : List (Result Lent Fault)) (found : List Span × Option Fault) : Type 0 where
+-- The items from a rest on are what the spans found there lend up to an end, and then what stops them.
+record LentFrom (text rest end : List ℕ) (items : List (Result Lent Fault)) (found : List Span × Option Fault) : Type 0 where
   xs : List Lent
-  end : List ℕ
   are : items ≡ items_of xs found.1
   each : LendsEach text rest found.0 xs end
 
-lent_none : (text rest : List ℕ) (stop : Option Fault) → LentFrom text rest (stopping stop) ([], stop)
-lent_none text rest stop = record { xs = []; end = rest; are = refl; each = refl }
+lent_none : (text rest : List ℕ) (stop : Option Fault) → LentFrom text rest rest (stopping stop) ([], stop)
+lent_none text rest stop = record { xs = []; are = refl; each = refl }
 
-lent_cons : (text rest : List ℕ) (items : List (Result Lent Fault)) (found : List Span × Option Fault) → begins is_digit rest ≡ true → stop_at text rest ≡ None
-    → LentFrom text (next_of rest) items found → LentFrom text rest (Ok (lent_at text rest) ∷ items) (with_span (span_of rest) found)
-lent_cons text rest items found b s f = record {
+lent_cons : (text rest end : List ℕ) (items : List (Result Lent Fault)) (found : List Span × Option Fault) → begins is_digit rest ≡ true → stop_at text rest ≡ None
+    → LentFrom text (next_of rest) end items found → LentFrom text rest end (Ok (lent_at text rest) ∷ items) (with_span (span_of rest) found)
+lent_cons text rest end items found b s f = record {
   xs = lent_at text rest ∷ f.xs;
-  end = f.end;
   are = ap (λ (l : List (Result Lent Fault)). Ok (lent_at text rest) ∷ l) f.are;
   each = (next_of rest, is_lent text rest b s, f.each);
 }
 
-lent_from : (n : ℕ) (text rest : List ℕ) → LentFrom text rest (lends n text rest) (read n text rest)
-unfolding lends read
+-- the same of equal ends, items and spans
+at_end : (text rest : List ℕ) {d e : List ℕ} {items others : List (Result Lent Fault)} {found same : List Span × Option Fault}
+    → e ≡ d → others ≡ items → same ≡ found → LentFrom text rest d items found → LentFrom text rest e others same
+at_end text rest {d = d} {others = others} {same = same} p q r f = subst (λ (x : List ℕ). LentFrom text rest x others same) (sym p) (subst₂ (LentFrom text rest d) (sym q) (sym r) f)
+
+lent_from : (n : ℕ) (text rest : List ℕ) → LentFrom text rest (unread n text rest) (lends n text rest) (read n text rest)
+unfolding lends read unread
 lent_from zero text rest = lent_none text rest None
 lent_from (suc n) text [] = lent_none text [] None
 lent_from (suc n) text (c ∷ cs) = by (turn text (c ∷ cs)) (lent_from n text (next_of (c ∷ cs)))
   where
-    by : Turn text (c ∷ cs) → LentFrom text (next_of (c ∷ cs)) (lends n text (next_of (c ∷ cs))) (read n text (next_of (c ∷ cs))) → LentFrom text (c ∷ cs) (lends (suc n) text (c ∷ cs)) (read (suc n) text (c ∷ cs))
-    by (No_digit d) f = subst₂ (LentFrom text (c ∷ cs)) (sym (lends-expected n text (c ∷ cs) (λ e. cc) d)) (sym (read-expected n text (c ∷ cs) (λ e. cc) d)) (lent_none text (c ∷ cs) (Some (NumberExpected (offset_of text (c ∷ cs)))))
-    by (Faulty e d s) f = subst₂ (LentFrom text (c ∷ cs)) (sym (lends-stopped n text (c ∷ cs) e d s)) (sym (read-stopped n text (c ∷ cs) e d s)) (lent_none text (c ∷ cs) (Some e))
-    by (Spanned d s) f = subst₂ (LentFrom text (c ∷ cs)) (sym (lends-fine n text (c ∷ cs) d s)) (sym (read-fine n text (c ∷ cs) d s)) (lent_cons text (c ∷ cs) _ _ d s f)
+    by : Turn text (c ∷ cs) → LentFrom text (next_of (c ∷ cs)) (unread n text (next_of (c ∷ cs))) (lends n text (next_of (c ∷ cs))) (read n text (next_of (c ∷ cs)))
+        → LentFrom text (c ∷ cs) (unread (suc n) text (c ∷ cs)) (lends (suc n) text (c ∷ cs)) (read (suc n) text (c ∷ cs))
+    by (No_digit d) f =
+        at_end text (c ∷ cs) (unread-expected n text (c ∷ cs) (λ e. cc) d) (lends-expected n text (c ∷ cs) (λ e. cc) d) (read-expected n text (c ∷ cs) (λ e. cc) d)
+        (lent_none text (c ∷ cs) (Some (NumberExpected (offset_of text (c ∷ cs)))))
+    by (Faulty e d s) f =
+        at_end text (c ∷ cs) (unread-stopped n text (c ∷ cs) e d s) (lends-stopped n text (c ∷ cs) e d s) (read-stopped n text (c ∷ cs) e d s)
+        (lent_none text (c ∷ cs) (Some e))
+    by (Spanned d s) f =
+        at_end text (c ∷ cs) (unread-fine n text (c ∷ cs) d s) (lends-fine n text (c ∷ cs) d s) (read-fine n text (c ∷ cs) d s)
+        (lent_cons text (c ∷ cs) _ _ _ d s f)
 
-lent_all : (text rest : List ℕ) → LentFrom text rest (left_at true text rest) (items_from text rest)
+lent_all : (text rest : List ℕ) → LentFrom text rest (unread (length rest) text rest) (left_at true text rest) (items_from text rest)
+unfolding unread
 lent_all text [] = lent_none text [] (Some Empty)
 lent_all text (c ∷ cs) = lent_from (length (c ∷ cs)) text (c ∷ cs)
 
@@ -100,14 +114,16 @@ pub are_items : (text : List ℕ) → AreItems text (lent_items text)
 unfolding items
 are_items text =
     let f = lent_all text (past is_ws text) in
+    let i = items_found_at text in
     record {
       spans = (items text).0;
       stop = (items text).1;
       xs = f.xs;
+      front = i.0;
+      rest = unread_of text;
       space = leading is_ws text;
-      rest = past is_ws text;
-      end = f.end;
-      items = items_found text;
+      body = past is_ws text;
+      items = i.1;
       are = f.are;
       whole = sym (leading-past is_ws text);
       only_space = Only-leading is_ws text;
@@ -117,13 +133,17 @@ are_items text =
 -- two lists that lend the same spans and stop alike are one
 same_lent : (text : List ℕ) (xs ys : List (Result Lent Fault)) (a : AreItems text xs) (b : AreItems text ys) → a.spans ≡ b.spans → a.stop ≡ b.stop → xs ≡ ys
 same_lent text xs ys a b p q =
-    let each : LendsEach text b.rest a.spans b.xs b.end = subst (λ (ss : List Span). LendsEach text b.rest ss b.xs b.end) (sym p) b.each in
-    a.are ∙ ap₂ items_of (one_each text a.space b.space a.rest b.rest a.spans a.xs b.xs a.end b.end a.only_space b.only_space (sym a.whole ∙ b.whole) a.each each) q ∙ sym b.are
+    let each : LendsEach text b.body a.spans b.xs b.rest = subst (λ (ss : List Span). LendsEach text b.body ss b.xs b.rest) (sym p) b.each in
+    a.are ∙ ap₂ items_of (one_each text a.space b.space a.body b.body a.spans a.xs b.xs a.rest b.rest a.only_space b.only_space (sym a.whole ∙ b.whole) a.each each) q ∙ sym b.are
+
+-- the spans and the stop are those that are read
+told_items : (text : List ℕ) (xs : List (Result Lent Fault)) (a : AreItems text xs) → items text ≡ (a.spans, a.stop)
+told_items text xs a = items_told text a.spans a.stop (record { front = a.front; rest = a.rest; are = a.items })
 
 pub one_lent : (text : List ℕ) (others : List (Result Lent Fault)) → AreItems text others → others ≡ lent_items text
 one_lent text others o =
     let a = are_items text in
-    let both : ◌≡◌ {A = List Span × Option Fault} (o.spans, o.stop) (a.spans, a.stop) = sym (items_told text o.spans o.stop o.items) ∙ items_told text a.spans a.stop a.items in
+    let both : ◌≡◌ {A = List Span × Option Fault} (o.spans, o.stop) (a.spans, a.stop) = sym (told_items text others o) ∙ told_items text (lent_items text) a in
     same_lent text others (lent_items text) o a (ap (λ (p : List Span × Option Fault). p.0) both) (ap (λ (p : List Span × Option Fault). p.1) both)
 
 pub one_list_of_slices : (text : List ℕ) → OneListOfSlices text

@@ -7,6 +7,7 @@ pub mod CountTexts
 pub mod DateLemmas
 pub mod DecimalLengths
 pub mod DigitLemmas
+pub mod DurationTheorems
 pub mod Found
 pub mod GreatestCounts
 pub mod Iterating
@@ -17,8 +18,10 @@ pub mod LentItems
 pub mod MarchLemmas
 pub mod Months
 pub mod NumberLemmas
+pub mod OnLiterals
 pub mod OneReading
 pub mod Outcomes
+pub mod Places
 pub mod PointLemmas
 pub mod PrintedDigits
 pub mod PrintedLengths
@@ -55,7 +58,9 @@ pub mod TimestampReadTheorems
 pub mod TimestampSameLemmas
 pub mod TimestampShownLemmas
 pub mod TimestampStrictLemmas
+pub mod TimestampTheorems
 pub mod Told
 pub mod Trimming
+pub mod Unread
 pub mod WorkedTexts
 pub mod Written

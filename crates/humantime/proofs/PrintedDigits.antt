@@ -1,5 +1,6 @@
 -- The digits of a printed count, as a number of a text.
-use Rattle.std.proofs.Common.{◌≡◌, ℕ, ◌<◌, ◌^◌, true, List, [], ◌∷◌, length, refl, ap, arith}
+use Rattle.std.proofs.Common.{◌≡◌, ℕ, ◌<◌, ◌^◌, true, false, List, [], ◌∷◌, length, refl, sym, ap, ◌∙◌, arith}
+use Rattle.std.specs.Char.{is_whitespace}
 use Rattle.std.specs.Prelude.{decimal}
 use Rattle.std.specs.Int.{IsInRange}
 use Rattle.std.specs.Str.Parse.{AllDigits}
@@ -9,10 +10,13 @@ use Rattle.std.proofs.lemmas.Bool.Decides.{nat_tests}
 use Rattle.humantime.specs.declared.duration.class.Class.TheVariants.{Digit}
 use Rattle.humantime.specs.Characters.{class_of, is_digit, is_numeric, begins, digits, decimal_value}
 use Rattle.humantime.specs.Spans.{Only}
+use Rattle.humantime.proofs.Classes.{white_space_listed}
 
 digit_here : (c : ℕ) → IsInRange 48 57 c → class_of c ≡ Digit
 unfolding class_of
-digit_here c h = grind (arith, nat_tests)
+digit_here c h =
+    let other : is_whitespace c ≡ false = grind (arith, nat_tests) in
+    rw (sym (white_space_listed c) ∙ other) (grind (arith, nat_tests))
 
 pub all_numeric : (ds : List ℕ) → AllDigits 10 ds → Only is_numeric ds
 all_numeric [] h = h

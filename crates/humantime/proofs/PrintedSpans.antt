@@ -10,9 +10,9 @@ use Rattle.std.proofs.lemmas.List.{append_assoc, append-nil}
 use Rattle.std.proofs.lemmas.Str.{chars-append, chars-IsAscii, chars-nil, IsUtf8-append, IsUtf8-from_ascii}
 use Rattle.std.proofs.lemmas.Fmt.{IsAscii-decimal, decimal_digit}
 use Rattle.humantime.specs.Times.{nanos_per_second}
-use Rattle.humantime.specs.Characters.{class_of, is_ws, decimal_value, u64_max}
+use Rattle.humantime.specs.Characters.{class_of, white_spaces, is_ws, decimal_value, u64_max}
 use Rattle.humantime.specs.Units.{Scale, scale_of_word}
-use Rattle.humantime.specs.Spans.{Span, Only, Spells, SpellsEach, total, fraction_additions, additions_of, additions, Formed, Fits, HasRoom, Accepted}
+use Rattle.humantime.specs.Spans.{Span, Only, Spells, SpellsEach, total, fraction_additions, additions_of, additions, Formed, Fits, HasRoom, Accepted, Sum_of}
 use Rattle.humantime.specs.Counts.{weights, weighted_sum, Suffix, suffixes, without_plural, printed_count, printed_counts, joined_by_space, Canon}
 use Rattle.humantime.specs.Printing.{divided, duration_text}
 use Rattle.humantime.proofs.Rooms.{RoomFrom, RoomFrom-append, total-append, all_have_room}
@@ -185,7 +185,7 @@ count_spells n w m s space h i only =
     }
 
 space_is : Only is_ws (32 ∷ [])
-unfolding class_of
+unfolding class_of white_spaces
 space_is = (refl, tt)
 
 chars_space : (bs : List ℕ) → chars (32 ∷ bs) ≡ 32 ∷ chars bs
@@ -234,12 +234,8 @@ joined_some (p ∷ ps) h = refl
 accepted_spans : (text : List ℕ) (spans : List Span) (v : ℕ) → SpellsEach text spans → spans ≢ [] → AllByRecursion Formed spans → AllByRecursion Fits spans
     → RoomFrom 0 (additions spans) → total (additions spans) ≡ v → Accepted text v
 accepted_spans text spans v each some formed fit room sum =
-    inr (
-      spans,
-      (record { space = []; body = text; whole = refl; only_space = tt; each = each }, some),
-      record { formed = formed; fit = fit; room = all_have_room (additions spans) room },
-      sum,
-    )
+    Sum_of spans (record { space = []; body = text; whole = refl; only_space = tt; each = each }, some)
+    (record { formed = formed; fit = fit; room = all_have_room (additions spans) room }) sum
 
 -- zero seconds
 zero_text : codes "0s" ≡ printed_count 0 (without_plural (codes "s"))

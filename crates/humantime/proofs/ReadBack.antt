@@ -4,7 +4,7 @@ use Rattle.std.specs.Prelude.{chars, Result, Ok}
 use Rattle.std.proofs.lemmas.List.Sums.{sum_by-cons}
 use Rattle.humantime.specs.Times.{nanos_per_second}
 use Rattle.humantime.specs.Characters.{u64_max}
-use Rattle.humantime.specs.Spans.{Addition, nanos_of, total, additions, Accepted}
+use Rattle.humantime.specs.Spans.{Addition, nanos_of, total, additions, Accepted, Bare_zero, Sum_of}
 use Rattle.humantime.specs.Faults.{Fault}
 use Rattle.humantime.specs.Counts.{Canon}
 use Rattle.humantime.specs.Canonical.{IsCanonicalOf}
@@ -30,11 +30,11 @@ room_fits t (x ∷ xs) h room =
 
 -- what is accepted is a duration
 accepted_fits : (text : List ℕ) (v : ℕ) → Accepted text v → v / nanos_per_second ≤ u64_max
-accepted_fits text v (inl zero) = rw zero.1 (omega arith)
-accepted_fits text v (inr h) =
-    let xs = additions h.0 in
-    let e : 0 + total xs ≡ v = omega (arith, h.3) in
-    subst (λ n. n / nanos_per_second ≤ u64_max) e (room_fits 0 xs (omega arith) (room_from_all xs h.2.room))
+accepted_fits text v (Bare_zero zero none) = rw none (omega arith)
+accepted_fits text v (Sum_of spans reads good sum) =
+    let xs = additions spans in
+    let e : 0 + total xs ≡ v = omega (arith, sum) in
+    subst (λ n. n / nanos_per_second ≤ u64_max) e (room_fits 0 xs (omega arith) (room_from_all xs good.room))
 
 pub one_text : (d : ℕ) → HasOneText d
 one_text d = (duration_text d, text_is_canon d, canon_is_text d)
@@ -46,17 +46,17 @@ texts_tell_apart a b ha hb s t left right = (
 )
 
 pub has_canonical_text : (s : List ℕ) → HasCanonicalText s
-has_canonical_text s v accepted = (duration_text v, (v, accepted, text_is_canon v))
+has_canonical_text s v accepted = (duration_text v, record { value = v; accepted = accepted; canon = text_is_canon v })
 
 -- the canonical text of what is accepted is accepted with the same value
-canonical_read : (s t : List ℕ) (h : IsCanonicalOf s t) → Accepted (chars t) h.0
-canonical_read s t h = canon_reads h.0 (accepted_fits (chars s) h.0 h.1) t h.2
+canonical_read : (s t : List ℕ) (h : IsCanonicalOf s t) → Accepted (chars t) h.value
+canonical_read s t h = canon_reads h.value (accepted_fits (chars s) h.value h.accepted) t h.canon
 
 pub keeps_its_value : (s : List ℕ) → KeepsItsValue s
-keeps_its_value s v t accepted h = subst (λ d. Accepted (chars t) d) (same_read (chars s) h.0 v h.1 accepted) (canonical_read s t h)
+keeps_its_value s v t accepted h = subst (λ d. Accepted (chars t) d) (same_read (chars s) h.value v h.accepted accepted) (canonical_read s t h)
 
 pub keeps_its_text : (s : List ℕ) → KeepsItsText s
 keeps_its_text s t u h = (
-  (λ k. one_canon h.0 u t (subst (λ d. Canon d u) (same_read (chars t) k.0 h.0 k.1 (canonical_read s t h)) k.2) h.2),
-  (λ same. (h.0, canonical_read s t h, subst (Canon h.0) (sym same) h.2)),
+  (λ k. one_canon h.value u t (subst (λ d. Canon d u) (same_read (chars t) k.value h.value k.accepted (canonical_read s t h)) k.canon) h.canon),
+  (λ same. record { value = h.value; accepted = canonical_read s t h; canon = subst (Canon h.value) (sym same) h.canon }),
 )

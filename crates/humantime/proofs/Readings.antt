@@ -3,7 +3,8 @@ use Rattle.std.proofs.Common.{◌≡◌, ◌≢◌, ℕ, List, None, Ok, Err, re
 use Rattle.std.specs.Prelude.{codes}
 use Rattle.humantime.specs.Spans.{Span, Reads, Good, value, Accepted}
 use Rattle.humantime.specs.Faults.{Fault, HasFault, Items}
-use Rattle.humantime.specs.Reading.{items, outcome}
+use Rattle.humantime.specs.DurationAnswers.{duration_answer}
+use Rattle.humantime.specs.Reading.{items}
 use Rattle.humantime.specs.TextLaws.{IsZeroOrSpans}
 use Rattle.humantime.proofs.OneReading.{not_zero}
 use Rattle.humantime.proofs.Outcomes.{zero_or_not, items_found, items_whole, reads_whole, one_reading, outcome_accepted, outcome_fault, items_decide_value}
@@ -54,6 +55,6 @@ same_spans a b spans v h k x =
 -- no text has a value and a fault
 pub no_value_and_fault : (text : List ℕ) (v : ℕ) (e : Fault) → Accepted text v → HasFault text e → ⊥
 no_value_and_fault text v e a f =
-    let ok : outcome text ≡ Ok v = outcome_accepted text v a in
-    let err : outcome text ≡ Err e = outcome_fault text e f in
+    let ok : duration_answer text ≡ Ok v = outcome_accepted text v a in
+    let err : duration_answer text ≡ Err e = outcome_fault text e f in
     cc

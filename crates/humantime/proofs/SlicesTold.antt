@@ -8,9 +8,9 @@ use Rattle.humantime.specs.Spans.{Span, Only}
 use Rattle.humantime.specs.Faults.{after_number, past_fraction, after_fraction}
 use Rattle.humantime.specs.Slices.{Lent, IsDigits, LendsFraction, IsLent, LendsEach}
 use Rattle.humantime.specs.Lending.{trimmed, number_slice, fraction_slice}
-use Rattle.humantime.proofs.Classes.{letter_not_numeric, letter_not_point, digit_not_space, space_is_numeric, point_not_numeric, is_point-46}
+use Rattle.humantime.proofs.Classes.{white_is, letter_not_numeric, letter_not_point, digit_not_space, space_is_numeric, point_not_numeric, is_point-46}
 use Rattle.humantime.proofs.Runs.{leading-append, past-append, begins-append, begins_not_nil, begins_other}
-use Rattle.humantime.proofs.Trimming.{white_is, suc_not_zero}
+use Rattle.humantime.proofs.Trimming.{suc_not_zero}
 
 drop_white : (cs : List ℕ) → Only is_ws cs → drop_trailing_whitespace cs ≡ []
 drop_white [] o = refl

@@ -3,7 +3,7 @@ use Rattle.std.proofs.Common.{◌≡◌, ℕ, Bool, true, false, cond, not, List
 use Rattle.std.specs.Prelude.{codes}
 use Rattle.std.proofs.lemmas.Bool.{cases_Bool}
 use Rattle.std.proofs.lemmas.List.Elements.{filter-append}
-use Rattle.humantime.specs.Characters.{class_of, is_ws, is_digit, is_letter, is_numeric, begins, digits}
+use Rattle.humantime.specs.Characters.{white_spaces, class_of, is_ws, is_digit, is_letter, is_numeric, begins, digits}
 use Rattle.humantime.specs.Spans.{Span, Only, SpellsFraction, Spells, SpellsEach, Front, Reads, Accepted}
 use Rattle.humantime.specs.TextLaws.{without_white_space, NeedsNoWhiteSpace}
 use Rattle.humantime.proofs.Classes.{digit_not_space, letter_not_space}
@@ -52,7 +52,7 @@ still_begins [] e = cc
 still_begins (c ∷ cs) e = ap (begins is_digit) (spaceless-other c cs (digit_not_space c e)) ∙ e
 
 point_stays : is_ws 46 ≡ false
-unfolding class_of
+unfolding class_of white_spaces
 point_stays = refl
 
 spells_fraction : (text : List ℕ) (fraction : Option (List ℕ)) → SpellsFraction text fraction → SpellsFraction (without_white_space text) fraction
@@ -114,7 +114,7 @@ pub spaceless_reads : (text : List ℕ) (spans : List Span) → Reads text spans
 spaceless_reads text spans h = (front_read text spans h.0, h.1)
 
 spaceless_zero : without_white_space (codes "0") ≡ codes "0"
-unfolding class_of
+unfolding class_of white_spaces
 spaceless_zero = refl
 
 pub spaceless_accepted : (text : List ℕ) → NeedsNoWhiteSpace text

@@ -3,6 +3,9 @@ use Rattle.std.proofs.Common.{◌≡◌, ◌≢◌, ◌≤◌, ◌-◌, ◌+◌,
 use Rattle.std.proofs.Math.Seq.{drop-append_seam, take-append_seam}
 use Rattle.std.proofs.lemmas.List.{take-append-drop}
 use Rattle.std.proofs.lemmas.Str.{IsUtf8-past_char, IsCharBoundary-at_seam, encodes-chars, chars-nil}
+use Rattle.std.specs.Prelude.{bytes_eq, encode_utf8_all}
+use Rattle.std.proofs.lemmas.Slice.Eq.{bytes_eq-Decides}
+use Rattle.humantime.specs.FaultEqualityLemmas.{both_ways}
 use Rattle.humantime.specs.Characters.{byte_length, offset_of}
 use Rattle.humantime.specs.Scanning.{IsTail}
 
@@ -79,3 +82,9 @@ part_between text behind part next start end u b n e s t =
       subst (IsCharBoundary text) (sym to) (tail_boundary text next n),
       sym (take-append_seam part next) ∙ ap (take (length part)) (sym cut) ∙ ap (λ (k : ℕ). take k (drop start text)) (sym count),
     )
+
+-- two texts have the same bytes exactly where they have the same characters
+pub same_chars : (a b : List ℕ) → IsUtf8 a → IsUtf8 b → bytes_eq a b ≡ bytes_eq (chars a) (chars b)
+same_chars a b u v = both_ways (bytes_eq a b) (bytes_eq (chars a) (chars b))
+    (λ h. (bytes_eq-Decides (chars a) (chars b)).1 (ap chars ((bytes_eq-Decides a b).0 h)))
+    (λ h. (bytes_eq-Decides a b).1 (sym (encodes-chars a u) ∙ ap encode_utf8_all ((bytes_eq-Decides (chars a) (chars b)).0 h) ∙ encodes-chars b v))

@@ -11,10 +11,7 @@ use Rattle.humantime.specs.Spans.{Only}
 use Rattle.humantime.specs.Faults.{number_of, after_number, fraction_at, digits_in, word_of, span_of}
 use Rattle.humantime.specs.Slices.{IsDigits}
 use Rattle.humantime.specs.Lending.{trimmed, number_slice, fraction_slice, lent_at, spelled}
-
-pub white_is : (c : ℕ) → is_whitespace c ≡ is_ws c
-unfolding class_of
-white_is c = grind (arith, nat_tests)
+use Rattle.humantime.proofs.Classes.{white_is}
 
 pub suc_not_zero : (n : ℕ) → eqb (suc n) 0 ≡ false
 suc_not_zero n = grind (arith, nat_tests)

@@ -1,15 +1,20 @@
 -- The characters of a duration's text.
-use Rattle.std.specs.Prelude.{◌≡◌, ◌⊎◌, ℕ, ◌-◌, Bool, true, false, ◌||◌, ◌==◌, List, [], ◌∷◌, length, if◌then◌else◌, encode_utf8_all, filter}
-use Rattle.std.specs.Char.{is_whitespace, is_ascii_digit, is_ascii_alphabetic}
+use Rattle.std.specs.Prelude.{◌≡◌, ℕ, ◌-◌, Bool, true, false, ◌||◌, ◌==◌, List, [], ◌∷◌, length, if◌then◌else◌, encode_utf8_all, filter}
+use Rattle.std.specs.Char.{char_set_contains, is_ascii_digit, is_ascii_alphabetic}
 use Rattle.std.specs.Str.Parse.{digits_value}
 use Rattle.humantime.specs.declared.duration.class.Class.{Class}
 use Rattle.humantime.specs.declared.duration.class.Class.TheVariants.{White, Digit, Letter, Point, Other}
 
--- What a character is: white space as Unicode has it, a digit 0 to 9, a letter a to z, A to Z or the micro sign, a point,
--- or anything else.
+-- the characters of white space, one by one: those that Unicode calls so
+unfoldable pub white_spaces : List ℕ
+white_spaces =
+    0x9 ∷ 0xa ∷ 0xb ∷ 0xc ∷ 0xd ∷ 0x20 ∷ 0x85 ∷ 0xa0 ∷ 0x1680 ∷ 0x2000 ∷ 0x2001 ∷ 0x2002 ∷ 0x2003 ∷ 0x2004 ∷ 0x2005 ∷ 0x2006
+    ∷ 0x2007 ∷ 0x2008 ∷ 0x2009 ∷ 0x200a ∷ 0x2028 ∷ 0x2029 ∷ 0x202f ∷ 0x205f ∷ 0x3000 ∷ []
+
+-- What a character is: white space, a digit 0 to 9, a letter a to z, A to Z or the micro sign, a point, or anything else.
 unfoldable pub class_of : ℕ → Class
 class_of c =
-    if is_whitespace c then White
+    if char_set_contains white_spaces c then White
     else if is_ascii_digit c then Digit
     else if is_ascii_alphabetic c || c == 0xb5 then Letter
     else if c == 46 then Point
@@ -99,14 +104,3 @@ byte_length cs = length (encode_utf8_all cs)
 -- the offset in bytes at which the last part of a text begins: the length of what stands before it
 abbrev pub offset_of : List ℕ → List ℕ → ℕ
 offset_of text rest = byte_length text - byte_length rest
-
--- the characters of white space, one by one
-abbrev pub white_spaces : List ℕ
-white_spaces =
-    0x9 ∷ 0xa ∷ 0xb ∷ 0xc ∷ 0xd ∷ 0x20 ∷ 0x85 ∷ 0xa0 ∷ 0x1680 ∷ 0x2000 ∷ 0x2001 ∷ 0x2002 ∷ 0x2003 ∷ 0x2004 ∷ 0x2005 ∷ 0x2006
-    ∷ 0x2007 ∷ 0x2008 ∷ 0x2009 ∷ 0x200a ∷ 0x2028 ∷ 0x2029 ∷ 0x202f ∷ 0x205f ∷ 0x3000 ∷ []
-
--- c is one of these
-abbrev pub IsOneOf : ℕ → List ℕ → Type 0
-IsOneOf c [] = ⊥
-IsOneOf c (d ∷ ds) = (c ≡ d) ⊎ IsOneOf c ds

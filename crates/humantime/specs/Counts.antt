@@ -64,6 +64,8 @@ abbrev pub joined_by_space : List (List ℕ) → List ℕ
 joined_by_space [] = codes "0s"
 joined_by_space (p ∷ ps) = join_with_byte 32 (p ∷ ps)
 
--- the one printed text of a duration of d nanoseconds
-abbrev pub Canon : ℕ → List ℕ → Type 0
-Canon d text = (counts : List ℕ) × Counts d counts × (text ≡ joined_by_space (printed_counts counts suffixes))
+-- The one printed text of a duration of d nanoseconds: its counts, each that isn't zero with its suffix.
+pub record Canon (d : ℕ) (text : List ℕ) : Type 0 where
+  pub counts : List ℕ
+  pub are : Counts d counts
+  pub shown : text ≡ joined_by_space (printed_counts counts suffixes)

@@ -146,13 +146,18 @@ pub record HasFault (text : List ℕ) (e : Fault) : Type 0 where
   pub good : Good spans
   pub fault : Stops text front spans rest e ⊎ (Overflows spans rest × (e ≡ NumberOverflow))
 
--- The text is these spans, each well formed, and then it ends or stops at a fault. What they add up to is not asked.
-pub record Items (text : List ℕ) (spans : List Span) (stop : Option Fault) : Type 0 where
-  pub front : List ℕ
-  pub rest : List ℕ
+-- The front of the text is these spans, each well formed, and behind it the text ends or stops at a fault. What the spans
+-- add up to is not asked.
+pub record ItemsAt (text front rest : List ℕ) (spans : List Span) (stop : Option Fault) : Type 0 where
   pub split : Split text front spans rest
   pub formed : AllByRecursion Formed spans
   pub ends : ((rest ≡ []) × (spans ≢ []) × (stop ≡ None)) ⊎ ((e : Fault) × (stop ≡ Some e) × Stops text front spans rest e)
+
+-- The text is these spans, and then it ends or stops at this fault.
+pub record Items (text : List ℕ) (spans : List Span) (stop : Option Fault) : Type 0 where
+  pub front : List ℕ
+  pub rest : List ℕ
+  pub are : ItemsAt text front rest spans stop
 
 -- the text has this value or fault, and no other
 abbrev pub OnlyValue : List ℕ → ℕ → Type 0

@@ -8,7 +8,10 @@ pub mod Dates
 pub mod DatesOfDays
 pub mod Deciding
 pub mod DigitText
+pub mod DurationAnswers
 pub mod Errors
+pub mod FaultEquality
+pub mod FaultEqualityLemmas
 pub mod Faults
 pub mod Keys
 pub mod Lending

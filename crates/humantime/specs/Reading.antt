@@ -1,6 +1,6 @@
 -- Reading from left to right: the plain reference, which private functions meet. Theorems of proofs/ tie it to the
 -- definitions of Spans and Faults.
-use Rattle.std.specs.Prelude.{ℕ, zero, suc, ◌+◌, ◌*◌, ◌/◌, ◌%◌, ◌^◌, ◌||◌, ◌&&◌, ◌==◌, bytes_eq, Bool, true, false, List, [], ◌∷◌, length, Option, Some, None, Result, Ok, Err, nat_lt, nat_le, if◌then◌else◌}
+use Rattle.std.specs.Prelude.{ℕ, zero, suc, ◌+◌, ◌*◌, ◌/◌, ◌%◌, ◌^◌, ◌||◌, ◌&&◌, ◌==◌, Bool, true, false, List, [], ◌∷◌, length, Option, Some, None, Result, Ok, Err, nat_lt, nat_le, if◌then◌else◌}
 use Rattle.humantime.specs.Times.{nanos_per_second}
 use Rattle.humantime.specs.Characters.{is_ws, is_digit, is_numeric, past, decimal_value, offset_of, byte_length, u64_max}
 use Rattle.humantime.specs.Units.{Scale, scale_of_word}
@@ -88,7 +88,3 @@ unfoldable pub settle : ℕ → List Span → Option Fault → Result ℕ Fault
 settle t [] None = Ok t
 settle t [] (Some e) = Err e
 settle t (s ∷ spans) stop = elim (add_span t s) [ None ↦ Err NumberOverflow | Some u ↦ settle u spans stop ]
-
--- the value of a text in nanoseconds, or its fault
-unfoldable pub outcome : List ℕ → Result ℕ Fault
-outcome text = if bytes_eq text (48 ∷ []) then Ok 0 else settle 0 (items text).0 (items text).1

@@ -2,7 +2,7 @@
 use Rattle.std.specs.Prelude.{◌≡◌, ℕ, true, List, [], ◌∷◌, ◌++◌, Option, Some, None, Result, Ok, Err}
 use Rattle.humantime.specs.Characters.{is_ws, is_digit, is_letter, is_numeric, begins, ends, digits, decimal_value, offset_of}
 use Rattle.humantime.specs.Spans.{Span, Only}
-use Rattle.humantime.specs.Faults.{Fault, Items}
+use Rattle.humantime.specs.Faults.{Fault, ItemsAt}
 
 -- The slices of the number, of the fraction and of the word, the offsets where the number begins and where the word
 -- ends, and the number itself.
@@ -63,19 +63,21 @@ abbrev pub items_of : List Lent → Option Fault → List (Result Lent Fault)
 items_of [] stop = stopping stop
 items_of (x ∷ xs) stop = Ok x ∷ items_of xs stop
 
--- These are the items of the text, and what they lend of it.
+-- These are the items of the text, and what they lend of it: slice by slice, from its first number to the rest behind its
+-- spans.
 pub record AreItems (text : List ℕ) (lent : List (Result Lent Fault)) : Type 0 where
   pub spans : List Span
   pub stop : Option Fault
   pub xs : List Lent
-  pub space : List ℕ
+  pub front : List ℕ
   pub rest : List ℕ
-  pub end : List ℕ
-  pub items : Items text spans stop
+  pub space : List ℕ
+  pub body : List ℕ
+  pub items : ItemsAt text front rest spans stop
   pub are : lent ≡ items_of xs stop
-  pub whole : text ≡ space ++ rest
+  pub whole : text ≡ space ++ body
   pub only_space : Only is_ws space
-  pub each : LendsEach text rest spans xs end
+  pub each : LendsEach text body spans xs rest
 
 -- there is exactly one such list
 abbrev pub OneListOfSlices : List ℕ → Type 0

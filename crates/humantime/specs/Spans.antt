@@ -1,5 +1,5 @@
 -- Spans, what they add up to, and the texts that are accepted.
-use Rattle.std.specs.Prelude.{◌≡◌, ◌≢◌, ◌⊎◌, ℕ, ◌+◌, ◌*◌, ◌/◌, ◌%◌, ◌^◌, ◌<◌, ◌≤◌, Bool, true, List, [], ◌∷◌, ◌++◌, length, Option, Some, None, IsSome, IfSome, sum_by, flat_map, ⊤}
+use Rattle.std.specs.Prelude.{◌≡◌, ◌≢◌, ℕ, ◌+◌, ◌*◌, ◌/◌, ◌%◌, ◌^◌, ◌<◌, ◌≤◌, Bool, true, List, [], ◌∷◌, ◌++◌, length, Option, Some, None, IsSome, IfSome, sum_by, flat_map, ⊤}
 use Rattle.std.specs.List.{AllByRecursion}
 use Rattle.humantime.specs.Times.{nanos_per_second}
 use Rattle.humantime.specs.Characters.{is_ws, is_letter, is_numeric, is_digit, begins, digits, decimal_value, u64_max}
@@ -116,6 +116,9 @@ pub record Good (spans : List Span) : Type 0 where
   pub fit : AllByRecursion Fits spans
   pub room : AllHaveRoom (additions spans)
 
--- the text stands for v nanoseconds: it is exactly `0`, or spans within the limits that add up to v
-abbrev pub Accepted : List ℕ → ℕ → Type 0
-Accepted text v = ((text ≡ 48 ∷ []) × (v ≡ 0)) ⊎ ((spans : List Span) × Reads text spans × Good spans × (value spans ≡ v))
+-- The text stands for v nanoseconds.
+pub data Accepted (text : List ℕ) (v : ℕ) : Type 0 where
+  -- it is exactly `0`
+  Bare_zero : text ≡ 48 ∷ [] → v ≡ 0 → Accepted text v
+  -- it is spans within the limits that add up to v
+  Sum_of : (spans : List Span) → Reads text spans → Good spans → value spans ≡ v → Accepted text v

@@ -1,9 +1,10 @@
 //! Durations and moments that read and print themselves.
 
-ghost use Rattle.std.specs.Prelude.{◌≡◌, ◌↔◌, ℕ, chars, IsOkAnd, IsErrAnd, IfErr, Some};
+ghost use Rattle.std.specs.Prelude.{◌≡◌, ◌↔◌, ℕ, chars, IfErr, Some};
 ghost use Rattle.humantime.specs.Spans.{Accepted};
 ghost use Rattle.humantime.specs.Faults.{Fault, HasFault};
-ghost use Rattle.humantime.specs.Errors.{fault_of, NamesUnit};
+ghost use Rattle.humantime.specs.DurationAnswers.{duration_answer};
+ghost use Rattle.humantime.specs.Errors.{told, PointsInto};
 
 use crate::date::{TimestampError, format_rfc3339, parse_rfc3339_weak};
 use crate::duration::{DurationError, format_duration, parse_duration};
@@ -50,9 +51,10 @@ impl Duration {
     /// Duration::from_str("1foo~") == Err(DurationError::InvalidCharacter(4))
     /// ```
     pub fn from_str(s: &str) -> Result<Duration, DurationError<'_>>
-        ensures value { (v : ℕ) → (IsOkAnd result (λ d. d ≡ v) ↔ Accepted (chars s.now) v) }
-        ensures fault { (e : Fault) → (IsErrAnd result (λ x. fault_of x ≡ e) ↔ HasFault (chars s.now) e) }
-        ensures unit { IfErr result (NamesUnit s.now) }
+        ensures value { (v : ℕ) → (told result ≡ Ok v) ↔ Accepted (chars s.now) v }
+        ensures fault { (e : Fault) → (told result ≡ Err e) ↔ HasFault (chars s.now) e }
+        ensures answer { told result ≡ duration_answer (chars s.now) }
+        ensures place { IfErr result (PointsInto s.now) }
     {
         match parse_duration(s) {
             Ok(value) => Ok(Duration(value)),

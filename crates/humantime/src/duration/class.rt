@@ -1,8 +1,8 @@
 //! The classes of characters.
 
-ghost use Rattle.std.specs.Prelude.{◌≡◌, ◌<◌, ◌≤◌, ◌↔◌, IsTrue};
-ghost use Rattle.std.specs.Char.{is_whitespace};
-ghost use Rattle.humantime.specs.Characters.{class_of, IsOneOf, white_spaces};
+ghost use Rattle.std.specs.Prelude.{◌≡◌, ◌<◌, ◌≤◌};
+ghost use Rattle.std.specs.Char.{char_set_contains};
+ghost use Rattle.humantime.specs.Characters.{class_of, white_spaces};
 ghost use Rattle.humantime.specs.ClassCodes.{code_of};
 
 /// What a character is in a duration's text.
@@ -40,8 +40,7 @@ static ASCII_CODES: [u8; 128] = [
 
 /// Whether a character is one of the 25 of white space.
 fn is_white(c: char) -> bool
-    ensures value { result ≡ is_whitespace c }
-    ensures listed { IsTrue result ↔ IsOneOf c white_spaces }
+    ensures { result ≡ char_set_contains white_spaces c }
 {
     c.is_whitespace()
 }

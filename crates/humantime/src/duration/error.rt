@@ -1,10 +1,15 @@
 //! What is wrong with a text that is no duration.
 
-ghost use Rattle.std.specs.Prelude.{◌≡◌, Some, chars, encode_utf8_all};
-ghost use Rattle.std.specs.Fmt.{DisplaysOnOk};
+ghost use Rattle.std.specs.Prelude.{◌≡◌, ◌++◌, Some, chars, decimal, encode_utf8_all, bytes_eq};
+ghost use Rattle.std.specs.Cmp.{on_per};
+ghost use Rattle.std.specs.Ordering.{on};
+ghost use Rattle.std.specs.Fmt.{WritesOnOk, WritesStyledOnOk};
 ghost use Rattle.humantime.specs.Errors.{fault_of};
-ghost use Rattle.humantime.specs.Messages.{message_of, unit_message};
+ghost use Rattle.humantime.specs.FaultEquality.{fault_eq};
+ghost use Rattle.humantime.specs.Messages.{message_of, unit_message, unit_needed};
+ghost use Rattle.humantime.specs.FaultEqualityLemmas.{fault_eq_laws};
 
+use itoa::Buffer;
 use std::error::Error;
 use std::fmt;
 
@@ -16,7 +21,7 @@ use std::fmt;
 /// ```text
 /// DurationError::NumberExpected(13) is printed as `expected number at 13`
 /// ```
-#[derive(Clone, Copy, PartialEq, Debug)]
+#[derive(Clone, Copy, Debug)]
 pub enum DurationError<'a> {
     /// At this offset stands a character that has no place in a span.
     InvalidCharacter(usize),
@@ -39,13 +44,63 @@ pub enum DurationError<'a> {
     Empty,
 }
 
+/// Two errors are equal exactly where they name the same fault.
+impl PartialEq for DurationError<'_> {
+    ghost eq = { on fault_of fault_eq };
+
+    ghost laws = { on_per fault_of fault_eq_laws };
+
+    fn eq(&self, other: &DurationError<'_>) -> bool {
+        match (*self, *other) {
+            (DurationError::InvalidCharacter(at), DurationError::InvalidCharacter(other_at)) => {
+                at == other_at
+            }
+            (DurationError::NumberExpected(at), DurationError::NumberExpected(other_at)) => {
+                at == other_at
+            }
+            (
+                DurationError::UnknownUnit {
+                    start,
+                    end,
+                    unit,
+                    value,
+                },
+                DurationError::UnknownUnit {
+                    start: other_start,
+                    end: other_end,
+                    unit: other_unit,
+                    value: other_value,
+                },
+            ) => {
+                start == other_start
+                    && end == other_end
+                    && is_same_text(unit, other_unit)
+                    && value == other_value
+            }
+            (DurationError::NumberOverflow, DurationError::NumberOverflow)
+            | (DurationError::Empty, DurationError::Empty) => true,
+            _ => false,
+        }
+    }
+}
+
+/// Whether two texts have the same characters.
+fn is_same_text(a: &str, b: &str) -> bool
+    ensures { result ≡ bytes_eq (chars a.now) (chars b.now) }
+{
+    a == b
+}
+
+/// Writes the message. Width and fill change nothing.
 impl fmt::Display for DurationError<'_> {
     ghost output = { λ e. Some (message_of (fault_of e)) };
 
+    ghost styled_output = { λ e _. Some (message_of (fault_of e)) };
+
     fn fmt<W: fmt::Write>(&self, f: &mut fmt::Formatter<W>) -> fmt::Result {
         match self {
-            DurationError::InvalidCharacter(at) => write!(f, "invalid character at {at}"),
-            DurationError::NumberExpected(at) => write!(f, "expected number at {at}"),
+            DurationError::InvalidCharacter(at) => write_place("invalid character at ", *at, f),
+            DurationError::NumberExpected(at) => write_place("expected number at ", *at, f),
             DurationError::UnknownUnit { unit, value, .. } => write_unit(unit, *value, f),
             DurationError::NumberOverflow => f.write_str(
                 "number is too large or cannot be represented without a lack of precision (values below 1ns are not supported)",
@@ -57,16 +112,42 @@ impl fmt::Display for DurationError<'_> {
 
 impl Error for DurationError<'_> {}
 
+/// Writes what is wrong, and the offset where it is.
+fn write_place<W: fmt::Write>(what: &str, at: usize, f: &mut fmt::Formatter<W>) -> fmt::Result
+    ensures writes { WritesOnOk W.write_str_gives f.old result (what.now ++ decimal at) f.new }
+    ensures styled { WritesStyledOnOk W.write_str_gives f.old result (what.now ++ decimal at) f.new }
+{
+    let mut buffer = Buffer::new();
+    f.write_str(what)?;
+    f.write_str(buffer.format(at))
+}
+
 /// Writes what is said of a unit that is missing or no unit's word. `value` is the number before it.
 fn write_unit<W: fmt::Write>(unit: &str, value: u64, f: &mut fmt::Formatter<W>) -> fmt::Result
-    ensures writes { DisplaysOnOk W.write_str_gives f.old result (Some (unit_message unit.now value)) f.new }
+    ensures writes { WritesOnOk W.write_str_gives f.old result (unit_message unit.now value) f.new }
+    ensures styled { WritesStyledOnOk W.write_str_gives f.old result (unit_message unit.now value) f.new }
     ensures characters { encode_utf8_all (chars unit.now) ≡ unit.now }
 {
     if unit.is_empty() {
-        return write!(f, "time unit needed, for example {value}sec or {value}ms");
+        return write_unit_needed(value, f);
     }
-    write!(
-        f,
-        "unknown time unit \"{unit}\", supported units: ns, us/µs, ms, sec, min, hours, days, weeks, months, years (and few variations)"
+    f.write_str("unknown time unit \"")?;
+    f.write_str(unit)?;
+    f.write_str(
+        "\", supported units: ns, us/µs, ms, sec, min, hours, days, weeks, months, years (and few variations)",
     )
+}
+
+/// Writes what is said of a number with no unit.
+fn write_unit_needed<W: fmt::Write>(value: u64, f: &mut fmt::Formatter<W>) -> fmt::Result
+    ensures writes { WritesOnOk W.write_str_gives f.old result (unit_needed value) f.new }
+    ensures styled { WritesStyledOnOk W.write_str_gives f.old result (unit_needed value) f.new }
+{
+    let mut buffer = Buffer::new();
+    let value = buffer.format(value);
+    f.write_str("time unit needed, for example ")?;
+    f.write_str(value)?;
+    f.write_str("sec or ")?;
+    f.write_str(value)?;
+    f.write_str("ms")
 }

@@ -2,7 +2,7 @@
 
 ghost use Rattle.std.specs.Prelude.{◌≡◌, chars, IfSome, IfErr};
 ghost use Rattle.std.proofs.Props.{props};
-ghost use Rattle.humantime.specs.Errors.{NamesUnit};
+ghost use Rattle.humantime.specs.Errors.{PointsInto};
 ghost use Rattle.humantime.specs.Scanning.{IsTail};
 
 use crate::duration::class::{Class, class_of};
@@ -46,11 +46,11 @@ impl<'a> SpanIter<'a> {
         }
     }
 
-    /// The next item, whose error names its unit in the text.
+    /// The next item, whose error points into the text.
     #[inline(always)]
     pub(crate) fn step(&mut self) -> Option<Result<Span<'a>, DurationError<'a>>>
         ensures items { YieldsFirstBy item_of items_left self.old result self.new }
-        ensures unit { IfSome result (λ item. IfErr item (NamesUnit (text_of self.old))) }
+        ensures place { IfSome result (λ item. IfErr item (PointsInto (text_of self.old))) }
         ensures text { text_of self.new ≡ text_of self.old }
     {
         if self.ended {
@@ -85,16 +85,22 @@ impl<'a> SpanIter<'a> {
 impl<'a> Iterator for SpanIter<'a> {
     type Item = Result<Span<'a>, DurationError<'a>>;
 
-    ghost use Rattle.std.specs.Iterator.{YieldsFirstBy, item_count};
+    ghost use Rattle.std.specs.Prelude.{⊤};
+    ghost use Rattle.std.specs.Iterator.{YieldsFirstBy, MakesProgress, item_count};
     ghost use Rattle.humantime.specs.Lents.{item_of};
-    ghost use Rattle.humantime.specs.Remaining.{items_left};
+    ghost use Rattle.humantime.specs.Remaining.{items_left, text_of};
 
     ghost next_gives = { YieldsFirstBy item_of items_left };
 
     ghost remaining = { item_count items_left };
 
     #[inline(always)]
-    fn next(&mut self) -> Option<Result<Span<'a>, DurationError<'a>>> {
+    fn next(&mut self) -> Option<Result<Span<'a>, DurationError<'a>>>
+        ensures steps { YieldsFirstBy item_of items_left self.old result self.new }
+        ensures goes { MakesProgress (λ _. ⊤) (item_count items_left) self.old result self.new }
+        ensures place { IfSome result (λ item. IfErr item (PointsInto (text_of self.old))) }
+        ensures text { text_of self.new ≡ text_of self.old }
+    {
         self.step()
     }
 }

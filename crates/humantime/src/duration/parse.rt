@@ -1,10 +1,10 @@
 //! Whole texts.
 
-ghost use Rattle.std.specs.Prelude.{◌≡◌, ◌↔◌, ℕ, chars, IsOkAnd, IsErrAnd, IfErr};
-ghost use Rattle.humantime.specs.Errors.{fault_of, seen, NamesUnit};
+ghost use Rattle.std.specs.Prelude.{◌≡◌, ◌↔◌, ℕ, chars, IfErr};
+ghost use Rattle.humantime.specs.DurationAnswers.{duration_answer};
+ghost use Rattle.humantime.specs.Errors.{told, PointsInto};
 ghost use Rattle.humantime.specs.Faults.{Fault, HasFault};
 ghost use Rattle.humantime.specs.Lending.{judged, lent_items};
-ghost use Rattle.humantime.specs.Reading.{outcome};
 ghost use Rattle.humantime.specs.Remaining.{items_left, text_of};
 ghost use Rattle.humantime.specs.Slices.{AreItems};
 ghost use Rattle.humantime.specs.Spans.{Accepted};
@@ -35,8 +35,8 @@ pub fn spans(s: &str) -> SpanIter<'_>
 /// The sum of the spans of a text.
 #[inline(always)]
 fn sum_of<'a>(text: &'a str) -> Result<StdDuration, DurationError<'a>>
-    ensures value { seen (λ d. d) result ≡ judged 0 (lent_items (chars text.now)) }
-    ensures unit { IfErr result (NamesUnit text.now) }
+    ensures value { told result ≡ judged 0 (lent_items (chars text.now)) }
+    ensures place { IfErr result (PointsInto text.now) }
 {
     let mut total = StdDuration::ZERO;
     let mut items = spans(text);
@@ -51,8 +51,8 @@ fn sum_of<'a>(text: &'a str) -> Result<StdDuration, DurationError<'a>>
 }
 
 fn outcome_of<'a>(text: &'a str) -> Result<StdDuration, DurationError<'a>>
-    ensures value { seen (λ d. d) result ≡ outcome (chars text.now) }
-    ensures unit { IfErr result (NamesUnit text.now) }
+    ensures answer { told result ≡ duration_answer (chars text.now) }
+    ensures place { IfErr result (PointsInto text.now) }
 {
     if text == "0" {
         return Ok(StdDuration::ZERO);
@@ -64,16 +64,17 @@ fn outcome_of<'a>(text: &'a str) -> Result<StdDuration, DurationError<'a>>
 ///
 /// A text is one span or more: a number, perhaps a fraction, and a unit, as in `2h 37min` or `1.5d`. White
 /// space may stand between digits and before and after each part. The spans are added up; `0` alone is
-/// zero. The error says what stands where the text goes wrong first, with offsets in bytes; the unit that
-/// it names is lent from the text.
+/// zero. The error says what stands where the text goes wrong first, with offsets in bytes, at which the
+/// text may be cut; the unit that it names is lent from the text.
 ///
 /// ```text
 /// parse_duration("2h 37min") == Ok(StdDuration::from_secs(9420))
 /// ```
 pub fn parse_duration(s: &str) -> Result<StdDuration, DurationError<'_>>
-    ensures value { (v : ℕ) → (IsOkAnd result (λ d. d ≡ v) ↔ Accepted (chars s.now) v) }
-    ensures fault { (e : Fault) → (IsErrAnd result (λ x. fault_of x ≡ e) ↔ HasFault (chars s.now) e) }
-    ensures unit { IfErr result (NamesUnit s.now) }
+    ensures value { (v : ℕ) → (told result ≡ Ok v) ↔ Accepted (chars s.now) v }
+    ensures fault { (e : Fault) → (told result ≡ Err e) ↔ HasFault (chars s.now) e }
+    ensures answer { told result ≡ duration_answer (chars s.now) }
+    ensures place { IfErr result (PointsInto s.now) }
 {
     outcome_of(s)
 }

@@ -1,10 +1,11 @@
 //! Durations printed.
 
-ghost use Rattle.std.specs.Prelude.{◌≡◌, ◌≤◌, ◌<◌, ◌↔◌, ℕ, List, [], length, take, chars, IfOk, IfErr, OnErr, IsOkAnd, IsErrAnd, Some};
+ghost use Rattle.std.specs.Prelude.{◌≡◌, ◌≤◌, ◌<◌, ◌↔◌, ℕ, List, [], length, take, chars, IfOk, IfErr, OnErr, Some};
 ghost use Rattle.std.specs.Str.{IsUtf8};
 ghost use Rattle.humantime.specs.Times.{nanos_per_second};
 ghost use Rattle.humantime.specs.Faults.{Fault, HasFault};
-ghost use Rattle.humantime.specs.Errors.{fault_of, NamesUnit};
+ghost use Rattle.humantime.specs.DurationAnswers.{canonical_answer};
+ghost use Rattle.humantime.specs.Errors.{seen, told_text, PointsInto};
 ghost use Rattle.humantime.specs.Counts.{Canon};
 ghost use Rattle.humantime.specs.Canonical.{IsCanonicalOf};
 ghost use Rattle.humantime.specs.Printing.{with_seconds, with_nanos, duration_text};
@@ -125,9 +126,10 @@ impl fmt::Display for FormattedDuration {
 /// canonical("2h 37min", &mut [0; 64]) == Ok("2h 37m")
 /// ```
 pub fn canonical<'a, 'b>(s: &'a str, buf: &'b mut [u8; 64]) -> Result<&'b str, DurationError<'a>>
-    ensures text { (t : List ℕ) → (IsOkAnd result (λ r. r.now ≡ t) ↔ IsCanonicalOf s.now t) }
-    ensures fault { (e : Fault) → (IsErrAnd result (λ x. fault_of x ≡ e) ↔ HasFault (chars s.now) e) }
-    ensures unit { IfErr result (NamesUnit s.now) }
+    ensures text { (t : List ℕ) → (told_text result ≡ Ok t) ↔ IsCanonicalOf s.now t }
+    ensures fault { (e : Fault) → (told_text result ≡ Err e) ↔ HasFault (chars s.now) e }
+    ensures answer { told_text result ≡ canonical_answer (chars s.now) }
+    ensures place { IfErr result (PointsInto s.now) }
 {
     let end = write_canonical(s, buf)?;
     Ok(front(buf, end))
@@ -138,9 +140,8 @@ fn write_canonical<'a>(s: &'a str, buf: &mut [u8; 64]) -> Result<usize, Duration
     ensures unchanged { OnErr result (buf.new ≡ buf.old) }
     ensures fits { IfOk result (λ end. end ≤ 64) }
     ensures utf8 { IfOk result (λ end. IsUtf8 (take end buf.new)) }
-    ensures text { (t : List ℕ) → (IsOkAnd result (λ end. take end buf.new ≡ t) ↔ IsCanonicalOf s.now t) }
-    ensures fault { (e : Fault) → (IsErrAnd result (λ x. fault_of x ≡ e) ↔ HasFault (chars s.now) e) }
-    ensures unit { IfErr result (NamesUnit s.now) }
+    ensures answer { seen (λ end. take end buf.new) result ≡ canonical_answer (chars s.now) }
+    ensures place { IfErr result (PointsInto s.now) }
 {
     let duration = parse_duration(s)?;
     Ok(format_duration(duration).write(buf))

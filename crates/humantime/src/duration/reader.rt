@@ -1,7 +1,7 @@
 //! Reading one span.
 
-ghost use Rattle.std.specs.Prelude.{◌≡◌, true, chars, option_map, IfOk, IfErr, Some, None};
-ghost use Rattle.humantime.specs.Errors.{fault_of, NamesUnit};
+ghost use Rattle.std.specs.Prelude.{◌≡◌, ◌<◌, true, length, chars, option_map, IfOk, IfErr, Some, None};
+ghost use Rattle.humantime.specs.Errors.{fault_of, PointsInto};
 ghost use Rattle.humantime.specs.Faults.{NumberOverflow, after_word, span_of};
 ghost use Rattle.humantime.specs.Lending.{lent_at};
 ghost use Rattle.humantime.specs.Lents.{lent_of};
@@ -55,8 +55,9 @@ fn without_word<'a>(
 ) -> DurationError<'a>
     requires after { IsTail text.now after.now }
     requires next { IsTail text.now next.now }
+    requires point { bare (option_map parts_of fraction) ≡ true → 0 < length after.now }
     ensures fault { fault_of result ≡ fault_without_word (chars text.now) (chars after.now) (chars next.now) (option_map parts_of fraction) value }
-    ensures unit { NamesUnit text.now result }
+    ensures place { PointsInto text.now result }
 {
     if !next.is_empty() {
         return DurationError::InvalidCharacter(offset_of(text, next));
@@ -133,7 +134,7 @@ pub(crate) fn span_at<'a>(
 ) -> Result<(Span<'a>, &'a str), DurationError<'a>>
     requires { IsTail text.now rest.now }
     ensures stop { IfErr result (λ e. stop_at (chars text.now) (chars rest.now) ≡ Some (fault_of e)) }
-    ensures unit { IfErr result (NamesUnit text.now) }
+    ensures place { IfErr result (PointsInto text.now) }
     ensures fine { IfOk result (λ x. stop_at (chars text.now) (chars rest.now) ≡ None) }
     ensures lent { IfOk result (λ x. lent_of x.0 ≡ lent_at (chars text.now) (chars rest.now)) }
     ensures next { IfOk result (λ x. chars x.1.now ≡ after_word (chars rest.now)) }

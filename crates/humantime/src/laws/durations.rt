@@ -1,12 +1,15 @@
 //! Laws of the texts of durations.
 
-ghost use Rattle.std.specs.Prelude.{chars};
-ghost use Rattle.humantime.specs.Faults.{OneOutcome, OneReading, OneListOfItems};
+ghost use Rattle.std.specs.Prelude.{◌≡◌, ◌↔◌, ℕ, chars, Ok, Err};
+ghost use Rattle.humantime.specs.Spans.{Accepted};
+ghost use Rattle.humantime.specs.Faults.{Fault, HasFault, OneOutcome, OneReading, OneListOfItems};
 ghost use Rattle.humantime.specs.Deciding.{ItemsDecideValue, ItemsDecideFault, ItemsDecideOverflow};
+ghost use Rattle.humantime.specs.DurationAnswers.{duration_answer};
 
 /// A text has exactly one value or exactly one first fault, and at most one list of spans.
 ///
-/// It also has exactly one list of items: spans, and what stops them.
+/// It also has exactly one list of items: spans, and what stops them. The answer, as a function of the text, is
+/// that value or that fault.
 ///
 /// ```text
 /// 1h 30m is 5400 seconds and nothing else; 1h x has the one fault that a number is expected at 3
@@ -15,6 +18,8 @@ pub fn one_outcome(s: &str)
     ensures outcome { OneOutcome (chars s.now) }
     ensures reading { OneReading (chars s.now) }
     ensures items { OneListOfItems (chars s.now) }
+    ensures value { (v : ℕ) → (duration_answer (chars s.now) ≡ Ok v) ↔ Accepted (chars s.now) v }
+    ensures fault { (e : Fault) → (duration_answer (chars s.now) ≡ Err e) ↔ HasFault (chars s.now) e }
 {}
 
 /// The items of a text decide its value or its fault, unless the text is exactly `0`.

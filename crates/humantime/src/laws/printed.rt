@@ -1,6 +1,10 @@
 //! Laws of printed durations.
 
+ghost use Rattle.std.specs.Prelude.{◌≡◌, ◌↔◌, ℕ, List, chars, Ok, Err};
+ghost use Rattle.humantime.specs.Canonical.{IsCanonicalOf};
 ghost use Rattle.humantime.specs.Counts.{Canon};
+ghost use Rattle.humantime.specs.DurationAnswers.{canonical_answer};
+ghost use Rattle.humantime.specs.Faults.{Fault, HasFault};
 ghost use Rattle.humantime.specs.Printing.{duration_text};
 ghost use Rattle.humantime.specs.PrintedTexts.{HasOneText, ReadsBack, TextsTellApart, HasShortText, HasSmallCounts, HasCanonicalText, KeepsItsValue, KeepsItsText};
 
@@ -38,6 +42,8 @@ pub fn printed_bounds(d: StdDuration)
 
 /// What is accepted has a canonical text, which is accepted with the same duration, and is its own canonical text.
 ///
+/// The answer, as a function of the text, is that canonical text or the first fault.
+///
 /// ```text
 /// the canonical text of 120min is 2h, and the canonical text of 2h is 2h
 /// ```
@@ -45,4 +51,6 @@ pub fn canonical_again(s: &str)
     ensures some { HasCanonicalText s.now }
     ensures value { KeepsItsValue s.now }
     ensures again { KeepsItsText s.now }
+    ensures text { (t : List ℕ) → (canonical_answer (chars s.now) ≡ Ok t) ↔ IsCanonicalOf s.now t }
+    ensures fault { (e : Fault) → (canonical_answer (chars s.now) ≡ Err e) ↔ HasFault (chars s.now) e }
 {}

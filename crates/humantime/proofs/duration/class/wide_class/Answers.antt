@@ -1,8 +1,12 @@
-use Rattle.std.proofs.Common.{arith, ◌≡◌, ◌∙◌, sym, refl, false}
+use Rattle.std.proofs.Common.{arith, rules, ◌≡◌, ◌∙◌, sym, refl, false}
 use Rattle.std.specs.Prelude.{◌==◌}
 use Rattle.std.specs.Char.{is_ascii_digit, is_ascii_alphabetic}
-use Rattle.humantime.specs.Characters.{class_of}
+use Rattle.humantime.specs.Characters.{class_of, white_spaces}
 use Rattle.humantime.proofs.duration.class.wide_class.Goals as goal
+
+pub returns-then-c-eq181 : goal.returns-then-c-eq181
+unfolding class_of white_spaces
+returns-then-c-eq181 c = search rules
 
 pub returns-else-is_white : goal.returns-else-is_white
 unfolding class_of
@@ -11,4 +15,4 @@ returns-else-is_white c =
     let letter : is_ascii_alphabetic c.args.c ≡ false = grind arith in
     let point : (c.args.c == 46) ≡ false = grind arith in
     let micro : (c.args.c == 181) ≡ false = grind arith in
-    rw (sym c.is_white.ensures.value ∙ c.if-is_white.false, digit, letter, micro, point) refl
+    rw (sym c.is_white.ensures ∙ c.if-is_white.false, digit, letter, micro, point) refl

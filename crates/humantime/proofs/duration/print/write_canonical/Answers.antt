@@ -1,17 +1,14 @@
-use Rattle.std.proofs.Common.{ap, ◌∙◌}
+use Rattle.std.proofs.Common.{ap, chars, ◌∙◌}
 use Rattle.std.proofs.lemmas.Result.{err_from_is_err_and}
 use Rattle.humantime.specs.Printing.{duration_text}
-use Rattle.humantime.proofs.CanonicalTexts.{canonical_if_read, no_canonical_if_refused}
+use Rattle.humantime.proofs.CanonicalTexts.{canonical_if_read, canonical_if_refused}
 use Rattle.humantime.proofs.duration.print.write_canonical.Goals as goal
 
-pub returns-in_err-duration-clause-text : goal.returns-in_err-duration-clause-text
-returns-in_err-duration-clause-text c =
+pub returns-in_err-duration-clause-answer : goal.returns-in_err-duration-clause-answer
+returns-in_err-duration-clause-answer c =
     let p = err_from_is_err_and c.from_residual.result c.from_residual.ensures.1 in
-    rw p.1 (no_canonical_if_refused c.args.s.now c.in_err-duration.ensures.value)
+    rw (p.1, p.2) (canonical_if_refused (chars c.args.s.now) _ c.in_err-duration.ensures.answer)
 
-pub returns-clause-text : goal.returns-clause-text
-returns-clause-text c =
-    canonical_if_read c.args.s.now _ c.in_ok-duration.duration c.in_ok-duration.ensures.value (c.write.ensures.text ∙ ap duration_text c.format_duration.ensures)
-
-pub returns-clause-fault : goal.returns-clause-fault
-returns-clause-fault c = c.in_ok-duration.ensures.fault
+pub returns-clause-answer : goal.returns-clause-answer
+returns-clause-answer c =
+    canonical_if_read (chars c.args.s.now) _ c.in_ok-duration.duration c.in_ok-duration.ensures.answer (c.write.ensures.text ∙ ap duration_text c.format_duration.ensures)

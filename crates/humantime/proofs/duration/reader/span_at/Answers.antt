@@ -3,8 +3,9 @@ use Rattle.std.proofs.lemmas.Grind.{common_steps}
 use Rattle.std.proofs.lemmas.Result.{err_from_is_err_and}
 use Rattle.humantime.specs.Faults.{Fault, InvalidCharacter}
 use Rattle.humantime.specs.Scales.{scale_of}
+use Rattle.humantime.proofs.Places.{some_bytes, rest_place, part_of_rests, bare_some, bad_some, overflow_points}
 use Rattle.humantime.proofs.SpanExits.{exit_long, exit_no_word, exit_bare, exit_after, exit_unit, exit_fine}
-use Rattle.humantime.proofs.Tails.{tail_of_tail, no_bytes, some_chars, part_between}
+use Rattle.humantime.proofs.Tails.{tail_of_tail, no_bytes, some_chars}
 use Rattle.humantime.proofs.duration.reader.span_at.Goals as goal
 
 pub returns-in_err-parts-clause-stop : goal.returns-in_err-parts-clause-stop
@@ -42,13 +43,37 @@ returns-in-None-clause-stop c =
     (exit_unit (chars c.args.text.now) _ _ _ _ _ _ _ parts.read (sym c.is_bare.ensures ∙ c.if-is_bare.false) (some_chars _ parts.word_utf8 some)
     (sym c.ends_span.ensures ∙ c.if-not-ends_span.false) (sym c.in-None.ensures))
 
-pub returns-in-None-clause-unit : goal.returns-in-None-clause-unit
-returns-in-None-clause-unit c =
+pub returns-in-None-clause-place : goal.returns-in-None-clause-place
+returns-in-None-clause-place c =
     let parts = c.in_ok-parts.ensures.parts in
     let behind = tail_of_tail c.args.text.now c.args.rest.now _ c.requires (tail_of_tail c.args.rest.now c.in_ok-parts.parts.after_number.now c.in_ok-parts.parts.after_fraction.now parts.number_tail parts.fraction_tail) in
     let next = tail_of_tail c.args.text.now c.in_ok-parts.parts.after_fraction.now c.in_ok-parts.parts.after_word.now behind parts.word_tail in
-    part_between c.args.text.now c.in_ok-parts.parts.after_fraction.now c.in_ok-parts.parts.word.now c.in_ok-parts.parts.after_word.now _ _
+    part_of_rests c.args.text.now c.in_ok-parts.parts.after_fraction.now c.in_ok-parts.parts.word.now c.in_ok-parts.parts.after_word.now _ _
     c.utf8.text behind next parts.word_whole c.offset_of.ensures.value c.offset_of-in-None.ensures.value
+
+pub returns-in_err-parts-clause-place : goal.returns-in_err-parts-clause-place
+returns-in_err-parts-clause-place c =
+    let p = err_from_is_err_and c.from_residual.result c.from_residual.ensures.1 in
+    rw (p.1, p.2) (overflow_points c.args.text.now _ c.in_err-parts.ensures.long.1)
+
+pub without_word-requires-clause-point : goal.without_word-requires-clause-point
+without_word-requires-clause-point c = λ bare.
+    some_bytes c.in_ok-parts.parts.after_number.now (bare_some _ _ _ _ _ _ _ c.in_ok-parts.ensures.parts.read bare)
+
+pub returns-then-is_bare-clause-place : goal.returns-then-is_bare-clause-place
+returns-then-is_bare-clause-place c =
+    let parts = c.in_ok-parts.ensures.parts in
+    let after = tail_of_tail c.args.text.now c.args.rest.now c.in_ok-parts.parts.after_number.now c.requires parts.number_tail in
+    rest_place c.args.text.now c.in_ok-parts.parts.after_number.now _ after c.offset_of-point.ensures.bytes
+    (some_bytes c.in_ok-parts.parts.after_number.now (bare_some _ _ _ _ _ _ _ parts.read (sym c.is_bare.ensures ∙ c.if-is_bare.true)))
+
+pub returns-then-not-ends_span-clause-place : goal.returns-then-not-ends_span-clause-place
+returns-then-not-ends_span-clause-place c =
+    let parts = c.in_ok-parts.ensures.parts in
+    let behind = tail_of_tail c.args.text.now c.args.rest.now _ c.requires (tail_of_tail c.args.rest.now c.in_ok-parts.parts.after_number.now c.in_ok-parts.parts.after_fraction.now parts.number_tail parts.fraction_tail) in
+    let next = tail_of_tail c.args.text.now c.in_ok-parts.parts.after_fraction.now c.in_ok-parts.parts.after_word.now behind parts.word_tail in
+    rest_place c.args.text.now c.in_ok-parts.parts.after_word.now _ next c.offset_of-next.ensures.bytes
+    (some_bytes c.in_ok-parts.parts.after_word.now (bad_some _ (sym c.ends_span.ensures ∙ c.if-not-ends_span.true)))
 
 pub returns-in-Some-clause-fine : goal.returns-in-Some-clause-fine
 returns-in-Some-clause-fine c =

@@ -3,6 +3,7 @@ use Rattle.std.proofs.lemmas.Grind.{common_steps}
 use Rattle.std.proofs.lemmas.Str.{chars-nil}
 use Rattle.humantime.specs.Faults.{UnknownUnit}
 use Rattle.humantime.specs.Scales.{parts_of}
+use Rattle.humantime.proofs.Places.{rest_place}
 use Rattle.humantime.proofs.Tails.{some_chars, no_bytes, byte_length-chars}
 use Rattle.humantime.proofs.SpanExits.{at_next, at_point, at_end}
 use Rattle.humantime.proofs.duration.reader.without_word.Goals as goal
@@ -25,3 +26,12 @@ returns-clause-fault c =
     ap (λ (u : List ℕ). UnknownUnit (length c.args.text.now) (length c.args.text.now) u c.args.value) chars-nil
     ∙ at_end (chars c.args.text.now) (chars c.args.after.now) (chars c.args.next.now) (option_map parts_of c.args.fraction) c.args.value (length c.args.text.now)
     (no_bytes c.args.next.now none) (sym c.is_bare.ensures ∙ c.if-is_bare.false) (sym (byte_length-chars c.args.text.now c.utf8.text))
+
+pub returns-then-not-is_empty-clause-place : goal.returns-then-not-is_empty-clause-place
+returns-then-not-is_empty-clause-place c =
+    let some : length c.args.next.now ≢ 0 = grind (arith, common_steps) in
+    rest_place c.args.text.now c.args.next.now _ c.requires.next c.offset_of.ensures.bytes (omega arith)
+
+pub returns-then-is_bare-clause-place : goal.returns-then-is_bare-clause-place
+returns-then-is_bare-clause-place c =
+    rest_place c.args.text.now c.args.after.now _ c.requires.after c.offset_of-then-is_bare.ensures.bytes (c.requires.point (sym c.is_bare.ensures ∙ c.if-is_bare.true))

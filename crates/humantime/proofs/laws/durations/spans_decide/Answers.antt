@@ -1,15 +1,15 @@
 use Rattle.std.proofs.Common.{chars}
-use Rattle.humantime.proofs.Outcomes.{one_list_of_items, items_decide_value, items_decide_fault, items_decide_overflow}
+use Rattle.humantime.proofs.Theorems.{spans_decide}
 use Rattle.humantime.proofs.laws.durations.spans_decide.Goals as goal
 
 pub returns-clause-one : goal.returns-clause-one
-returns-clause-one c = one_list_of_items (chars c.args.s.now)
+returns-clause-one c = (spans_decide (chars c.args.s.now)).one
 
 pub returns-clause-accepted : goal.returns-clause-accepted
-returns-clause-accepted c = items_decide_value (chars c.args.s.now)
+returns-clause-accepted c = (spans_decide (chars c.args.s.now)).accepted
 
 pub returns-clause-stopped : goal.returns-clause-stopped
-returns-clause-stopped c = items_decide_fault (chars c.args.s.now)
+returns-clause-stopped c = (spans_decide (chars c.args.s.now)).stopped
 
 pub returns-clause-too_large : goal.returns-clause-too_large
-returns-clause-too_large c = items_decide_overflow (chars c.args.s.now)
+returns-clause-too_large c = (spans_decide (chars c.args.s.now)).too_large

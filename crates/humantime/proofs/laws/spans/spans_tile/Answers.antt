@@ -1,6 +1,6 @@
 use Rattle.std.proofs.Common.{chars}
-use Rattle.humantime.proofs.LentItems.{one_list_of_slices}
+use Rattle.humantime.proofs.Theorems.{spans_tile}
 use Rattle.humantime.proofs.laws.spans.spans_tile.Goals as goal
 
 pub returns : goal.returns
-returns c = one_list_of_slices (chars c.args.s.now)
+returns c = spans_tile (chars c.args.s.now)

@@ -3,7 +3,8 @@ use Rattle.humantime.specs.Characters.{byte_length}
 use Rattle.humantime.specs.declared.duration.class.Class.TheVariants.{Digit}
 use Rattle.humantime.proofs.Iterating.{begins_digit, begins_no_digit, step_fine, step_stopped, step_expected}
 use Rattle.humantime.proofs.SpanSlices.{next_bytes}
-use Rattle.humantime.proofs.Tails.{byte_length-chars}
+use Rattle.humantime.proofs.Places.{first_bytes, rest_place}
+use Rattle.humantime.proofs.Tails.{byte_length-chars, tail_of_tail}
 use Rattle.humantime.proofs.duration.iter.SpanIter.step.Goals as goal
 
 pub returns-then-ne-clause-items : goal.returns-then-ne-clause-items
@@ -39,3 +40,10 @@ returns-in-Err-clause-items c =
     let is : c.class_of.result ≡ Digit = search rules in
     let d = begins_digit c.in-Some.c rest _ c.class_of.result is c.class_of.ensures c.in-Some.ensures.chars in
     step_stopped s.ended (eqb (length s.rest.now) (length s.text.now)) (chars s.text.now) (chars s.rest.now) rest _ c.if-self.false c.past_space-rest.ensures.rest d c.in-Err.ensures.stop
+
+pub returns-then-ne-clause-place : goal.returns-then-ne-clause-place
+returns-then-ne-clause-place c =
+    let s = c.args.self.now in
+    let rest = c.past_space-rest.result.now in
+    let tail = tail_of_tail s.text.now s.rest.now rest s.tail c.past_space-rest.ensures.tail in
+    rest_place s.text.now rest _ tail c.offset_of.ensures.bytes (first_bytes rest _ _ c.in-Some.ensures.chars)
