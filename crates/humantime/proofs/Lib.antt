@@ -50,7 +50,9 @@ pub mod TimestampReadTheorems
 pub mod TimestampSameLemmas
 pub mod TimestampShownLemmas
 pub mod TimestampStrictLemmas
+pub mod TimestampsOnLiterals
 pub mod Told
 pub mod Trimming
 pub mod WorkedTexts
+pub mod WorkedTimestamps
 pub mod Written
