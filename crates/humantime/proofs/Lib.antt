@@ -59,8 +59,10 @@ pub mod TimestampSameLemmas
 pub mod TimestampShownLemmas
 pub mod TimestampStrictLemmas
 pub mod TimestampTheorems
+pub mod TimestampsOnLiterals
 pub mod Told
 pub mod Trimming
 pub mod Unread
 pub mod WorkedTexts
+pub mod WorkedTimestamps
 pub mod Written

@@ -17,7 +17,7 @@ use Rattle.humantime.specs.TimestampPrinting.{moment_kept, places_kept, moment_t
 use Rattle.humantime.specs.TimestampReading.{weak_answer, strict_answer}
 use Rattle.humantime.proofs.DateLemmas as dates
 use Rattle.humantime.proofs.TimestampOrderLemmas.{printed_order}
-use Rattle.humantime.proofs.TimestampPrintedLemmas.{one_printed, text_displayed, printed_reads}
+use Rattle.humantime.proofs.TimestampPrintedLemmas.{one_text, one_printed, text_displayed, printed_reads}
 use Rattle.humantime.proofs.TimestampReadTheorems as read
 use Rattle.humantime.proofs.TimestampStrictLemmas as strict
 pub use Rattle.humantime.specs.MomentLemmas.{parts_of_moment, nano_of_bound}
@@ -88,6 +88,10 @@ printed_moment_reads t k small = record {
   displayed = λ text. text_displayed t k text small;
   reads = printed_reads t k;
 }
+
+-- a printed text is the one that is computed
+pub printed_is : (t : ℤ) (k : ℕ) (text known : List ℕ) → k ≤ 9 → moment_text t k ≡ Some known → IsPrinted t k text → text ≡ known
+printed_is t k text known small computed printed = one_text t k text known small printed ((text_displayed t k known small).0 computed).1
 
 -- what `Display` wrote, of a timestamp that is known by two equations
 pub displayed_as : (x : Rfc3339Timestamp) (t : ℤ) (k : ℕ) (bytes : List ℕ) → moment_kept x ≡ t → places_kept x ≡ k → IsPrintable t

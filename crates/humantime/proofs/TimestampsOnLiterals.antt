@@ -1,0 +1,13 @@
+-- What an answer unfolds to compute what a timestamp's text reads as, and what a moment prints as, on a literal.
+use Rattle.std.specs.Prelude.{⊤}
+use Rattle.humantime.specs.Calendar.{days_of_years, days_of_months}
+use Rattle.humantime.specs.DatesOfDays.{date_of}
+use Rattle.humantime.specs.March.{march_months}
+use Rattle.humantime.specs.Timestamps.{nanos_of}
+use Rattle.humantime.specs.TimestampChecks.{two_at, is_complete, has_signs, has_two, has_digits, in_range, ends_whole, ends_fraction}
+use Rattle.humantime.specs.TimestampPrinting.{moment_text}
+use Rattle.humantime.specs.TimestampReading.{weak_answer, strict_answer}
+
+unfoldable pub timestamps_on_literals : ⊤
+unfolding days_of_years days_of_months date_of march_months nanos_of two_at is_complete has_signs has_two has_digits in_range ends_whole ends_fraction moment_text weak_answer strict_answer
+timestamps_on_literals = tt
