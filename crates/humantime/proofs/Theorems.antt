@@ -70,12 +70,14 @@ pub record PrintsAndReads (d : ℕ) : Type 0 where
   pub one : HasOneText d
   pub printed : Canon d (duration_text d)
   pub reads : ReadsBack d
+  pub answer : duration_answer (chars (duration_text d)) ≡ Ok d
 
 pub printed_duration_reads : (d : ℕ) → d < duration_end → PrintsAndReads d
 printed_duration_reads d fits = record {
   one = back.one_text d;
   printed = counts.text_is_canon d;
   reads = printed.canon_reads d (omega arith);
+  answer = outcomes.outcome_accepted (chars (duration_text d)) d (printed.canon_reads d (omega arith) (duration_text d) (counts.text_is_canon d));
 }
 
 -- The canonical texts of two durations are equal exactly where these are.
