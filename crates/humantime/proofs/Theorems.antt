@@ -1,6 +1,8 @@
 -- The laws as theorems over plain variables, each under the name of its function in `laws`.
 use Rattle.std.proofs.Common.{◌≡◌, ◌↔◌, ℕ, ◌<◌, List, Result, Ok, Err, IsTrue, chars, refl, arith}
+use Rattle.humantime.specs.declared.duration.error.DurationError.{DurationError}
 use Rattle.humantime.specs.Times.{duration_end}
+use Rattle.humantime.specs.Errors.{told}
 use Rattle.humantime.specs.Spans.{Accepted}
 use Rattle.humantime.specs.Faults.{Fault, HasFault, OneOutcome, OneReading, OneListOfItems}
 use Rattle.humantime.specs.FaultEquality.{fault_eq}
@@ -58,6 +60,11 @@ spans_decide text = record {
 -- A text of these characters lends one list of slices.
 pub spans_tile : (text : List ℕ) → OneListOfSlices text
 spans_tile text = lent.one_list_of_slices text
+
+-- What is told as a value was answered as that value.
+pub told_value : (r : Result ℕ DurationError) (v : ℕ) → told r ≡ Ok v → r ≡ Ok v
+told_value (Ok d) v e = cc
+told_value (Err x) v e = cc
 
 -- Two errors are equal exactly where they name the same fault.
 pub errors_equal : (e f : Fault) → IsTrue (fault_eq e f) ↔ (e ≡ f)

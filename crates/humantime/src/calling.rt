@@ -1,12 +1,14 @@
-//! The caller that CALLING.md shows.
+//! The callers that CALLING.md shows.
 
-ghost use Rattle.std.specs.Prelude.{◌≡◌, ◌/◌, chars};
+ghost use Rattle.std.specs.Prelude.{◌≡◌, ◌+◌, ◌*◌, ◌/◌, ◌<◌, ◌≤◌, ◌↔◌, ℕ, chars, length, true, IfOk, IfSome, IsTrue, Ok, Some};
 ghost use Rattle.std.specs.Result.{result_map_both};
+ghost use Rattle.humantime.specs.Counts.{Canon};
 ghost use Rattle.humantime.specs.DurationAnswers.{duration_answer};
-ghost use Rattle.humantime.specs.Errors.{told};
+ghost use Rattle.humantime.specs.Errors.{told, fault_of};
 ghost use Rattle.humantime.specs.Times.{nanos_per_second};
 
-use crate::{DurationError, parse_duration};
+use crate::laws::printed_duration_reads;
+use crate::{DurationError, StdDuration, format_duration, parse_duration};
 
 /// The whole seconds of a time limit in a settings file, or the first fault of its text.
 pub fn limit_seconds(text: &str) -> Result<u64, DurationError<'_>>
@@ -15,8 +17,97 @@ pub fn limit_seconds(text: &str) -> Result<u64, DurationError<'_>>
     Ok(parse_duration(text)?.as_secs())
 }
 
+/// The sum of a start and a length, if it is a duration, or else the first fault of the two texts.
+pub fn end_of<'a>(start: &'a str, len: &'a str) -> Result<Option<StdDuration>, DurationError<'a>>
+    ensures { IfOk result (λ end. IfSome end (λ d. (v : ℕ) × (w : ℕ) × (duration_answer (chars start.now) ≡ Ok v) × (duration_answer (chars len.now) ≡ Ok w) × (d ≡ v + w))) }
+{
+    Ok(parse_duration(start)?.checked_add(parse_duration(len)?))
+}
+
+/// Whether both texts are durations, and the first is no longer than the second.
+pub fn is_within(text: &str, most: &str) -> bool
+    ensures { IsTrue result ↔ ((v : ℕ) × (w : ℕ) × (duration_answer (chars text.now) ≡ Ok v) × (duration_answer (chars most.now) ≡ Ok w) × (v ≤ w)) }
+{
+    match (parse_duration(text), parse_duration(most)) {
+        (Ok(d), Ok(limit)) => d <= limit,
+        _ => false,
+    }
+}
+
+/// What is to be underlined of a text that is no duration: its unit, or what stands from its bad character on.
+pub fn underlined(text: &str) -> &str
+    ensures { length result.now ≤ length text.now }
+{
+    match parse_duration(text) {
+        Err(DurationError::InvalidCharacter(at) | DurationError::NumberExpected(at)) => &text[at..],
+        Err(DurationError::UnknownUnit { start, end, .. }) => &text[start..end],
+        _ => "",
+    }
+}
+
+/// The place of an error in a line in which the text stands behind so many bytes.
+pub fn place_in_line(text: &str, before: u32) -> Option<u64>
+    ensures { IfSome result (λ n. n < before + length text.now) }
+{
+    match parse_duration(text) {
+        Err(DurationError::InvalidCharacter(at)) => Some(before as u64 + at as u64),
+        _ => None,
+    }
+}
+
+/// Whether a second look at a text finds the same error.
+pub fn is_same_error(a: &DurationError<'_>, b: &DurationError<'_>) -> bool
+    ensures { IsTrue result ↔ (fault_of a.now ≡ fault_of b.now) }
+{
+    *a == *b
+}
+
+/// A count of seconds as the text of a duration.
+pub fn shown_seconds<'b>(secs: u64, buffer: &'b mut [u8; 64]) -> &'b str
+    ensures { Canon (secs * nanos_per_second) result.now }
+{
+    format_duration(StdDuration::from_secs(secs)).text(buffer)
+}
+
+/// Writes a duration into a file and reads it again: it is the same.
+pub fn comes_back(duration: StdDuration) -> bool
+    ensures { result ≡ true }
+{
+    printed_duration_reads(duration);
+    match parse_duration(format_duration(duration).text(&mut [0; 64])) {
+        Ok(read) => read == duration,
+        Err(_) => false,
+    }
+}
+
+/// The limit that holds where a file names none.
+pub fn default_limit() -> Option<StdDuration>
+    ensures { result ≡ Some (9420 * nanos_per_second) }
+{
+    parse_duration("2h 37min").ok()
+}
+
 #[test]
 fn a_limit_is_read(rt: HostRuntime) {
     assert_eq!(rt; limit_seconds("1.5h 30s"), Ok(5430));
     assert_eq!(rt; limit_seconds("5 parsecs").is_err(), true);
+}
+
+#[test]
+fn callers_answer(rt: HostRuntime) {
+    assert_eq!(rt;
+        end_of("1h", "30min"),
+        Ok(Some(StdDuration::from_secs(5400)))
+    );
+    assert_eq!(rt; is_within("90s", "1min"), false);
+    assert_eq!(rt; underlined("10 nights"), "nights");
+    assert_eq!(rt; underlined("2h 5é"), "é");
+    assert_eq!(rt; place_in_line("1h~", 10), Some(12));
+    assert_eq!(rt;
+        is_same_error(&DurationError::Empty, &DurationError::NumberOverflow),
+        false
+    );
+    assert_eq!(rt; shown_seconds(90, &mut [0; 64]), "1m 30s");
+    assert_eq!(rt; comes_back(StdDuration::from_secs(9420)), true);
+    assert_eq!(rt; default_limit(), Some(StdDuration::from_secs(9420)));
 }
