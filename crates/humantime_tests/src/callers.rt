@@ -1,3 +1,3 @@
 //! Callers that are proved: what CALLING.md shows.
 
-pub mod limits;
+pub mod durations;

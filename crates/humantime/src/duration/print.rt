@@ -82,7 +82,8 @@ impl FormattedDuration {
     /// format_duration(StdDuration::from_secs(90)).text(&mut [0; 64]) == "1m 30s"
     /// ```
     pub fn text<'b>(&self, buf: &'b mut [u8; 64]) -> &'b str
-        ensures { Canon self.now result.now }
+        ensures canon { Canon self.now result.now }
+        ensures text { result.now ≡ duration_text self.now }
     {
         let mut writer = Writer::new(buf);
         write_duration(&mut writer, self.value);

@@ -3,7 +3,7 @@
 ghost use Rattle.std.specs.Prelude.{◌≡◌, ◌↔◌, ℕ, List, chars, Ok, Err};
 ghost use Rattle.humantime.specs.Canonical.{IsCanonicalOf};
 ghost use Rattle.humantime.specs.Counts.{Canon};
-ghost use Rattle.humantime.specs.DurationAnswers.{canonical_answer};
+ghost use Rattle.humantime.specs.DurationAnswers.{duration_answer, canonical_answer};
 ghost use Rattle.humantime.specs.Faults.{Fault, HasFault};
 ghost use Rattle.humantime.specs.Printing.{duration_text};
 ghost use Rattle.humantime.specs.PrintedTexts.{HasOneText, ReadsBack, TextsTellApart, HasShortText, HasSmallCounts, HasCanonicalText, KeepsItsValue, KeepsItsText};
@@ -19,6 +19,7 @@ pub fn printed_duration_reads(d: StdDuration)
     ensures one { HasOneText d }
     ensures printed { Canon d (duration_text d) }
     ensures reads { ReadsBack d }
+    ensures answer { duration_answer (chars (duration_text d)) ≡ Ok d }
 {}
 
 /// Two durations have equal canonical texts exactly where they are equal.
