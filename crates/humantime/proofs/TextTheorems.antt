@@ -1,10 +1,11 @@
 -- The laws of accepted texts, each named as the function of `laws` that promises it.
-use Rattle.std.proofs.Common.{◌≡◌, ◌↔◌, ℕ, ◌+◌, List, [], ◌∷◌, ◌++◌, chars, codes, IsUtf8, IsPermutation, sum_by, refl, sym, ap, ◌∙◌}
+use Rattle.std.proofs.Common.{◌≡◌, ◌↔◌, ℕ, ◌+◌, ◌/◌, ◌≤◌, List, [], ◌∷◌, ◌++◌, chars, codes, IsUtf8, IsPermutation, sum_by, refl, sym, ap, ◌∙◌}
 use Rattle.std.specs.List.{AllByRecursion}
 use Rattle.std.proofs.lemmas.List.Sorted.{sum_by-IsPermutation}
 use Rattle.std.proofs.lemmas.List.Sums.{sum_by-cons}
 use Rattle.std.proofs.lemmas.Str.{chars-append}
-use Rattle.humantime.specs.Characters.{is_ws}
+use Rattle.humantime.specs.Times.{nanos_per_second}
+use Rattle.humantime.specs.Characters.{is_ws, u64_max}
 use Rattle.humantime.specs.Spans.{Span, Only, Front, Reads, total, additions_of, additions, value, AllHaveRoom, Accepted}
 use Rattle.humantime.specs.Faults.{NumberOverflow, HasFault}
 use Rattle.humantime.specs.TextLaws.{NeedsNoWhiteSpace, IsZeroOrSpans, JoinedHaveSum, JoinedOverflow, JoinedHaveSumOrOverflow, ReorderedHaveOneValue, HasNoSpans}
@@ -13,6 +14,8 @@ use Rattle.humantime.proofs.Settled.{value-cons}
 use Rattle.humantime.proofs.Readings as readings
 use Rattle.humantime.proofs.SpacelessTexts as spaceless
 use Rattle.humantime.proofs.JoinedTexts as joined
+use Rattle.humantime.proofs.SmallAdditions as small
+use Rattle.humantime.proofs.SmallAdditions.{IsSmall}
 use Rattle.humantime.proofs.JoinedPieces as pieces
 use Rattle.humantime.proofs.JoinedPieces.{Piece, IsAcceptedPiece, joined_text, joined_spans, joined_value}
 
@@ -70,6 +73,12 @@ pub space_between : (before space after : List ℕ) (ss ts : List Span) (v : ℕ
 space_between before space after ss ts v h k only =
     same_spans (before ++ after) (before ++ (space ++ after)) (ss ++ ts) v
     (joined.reads-append before after ss ts h k) (joined.reads-space before space after ss ts h k only)
+
+-- two texts of small additions, one behind the other, with the sum exactly where it is a duration
+pub small_joined_sum : (a b : List ℕ) (ss ts : List Span) (u v : ℕ) → Reads a ss → Reads b ts → Accepted a u → Accepted b v
+    → AllByRecursion IsSmall (additions ss) → AllByRecursion IsSmall (additions ts)
+    → Accepted (a ++ b) (u + v) ↔ ((u + v) / nanos_per_second ≤ u64_max)
+small_joined_sum = small.small_joined_sum
 
 -- any number of texts, one behind the other: with the sum exactly where there is room
 pub pieces_sum : (p : Piece) (ps : List Piece) → AllByRecursion IsAcceptedPiece (p ∷ ps)
