@@ -1,16 +1,12 @@
 -- The laws of accepted texts, each named as the function of `laws` that promises it.
-use Rattle.std.proofs.Common.{◌≡◌, ◌↔◌, ℕ, ◌+◌, ◌/◌, ◌≤◌, List, [], ◌∷◌, ◌++◌, chars, codes, IsUtf8, IsPermutation, sum_by, refl, sym, ap, ◌∙◌}
+use Rattle.std.proofs.Common.{◌≡◌, ◌↔◌, ℕ, ◌+◌, ◌/◌, ◌≤◌, List, ◌∷◌, ◌++◌, chars, codes, IsUtf8}
 use Rattle.std.specs.List.{AllByRecursion}
-use Rattle.std.proofs.lemmas.List.Sorted.{sum_by-IsPermutation}
-use Rattle.std.proofs.lemmas.List.Sums.{sum_by-cons}
 use Rattle.std.proofs.lemmas.Str.{chars-append}
 use Rattle.humantime.specs.Times.{nanos_per_second}
 use Rattle.humantime.specs.Characters.{is_ws, u64_max}
-use Rattle.humantime.specs.Spans.{Span, Only, Front, Reads, total, additions_of, additions, value, AllHaveRoom, Accepted}
+use Rattle.humantime.specs.Spans.{Span, Only, Front, Reads, additions, AllHaveRoom, Accepted}
 use Rattle.humantime.specs.Faults.{NumberOverflow, HasFault}
 use Rattle.humantime.specs.TextLaws.{NeedsNoWhiteSpace, IsZeroOrSpans, JoinedHaveSum, JoinedOverflow, JoinedHaveSumOrOverflow, ReorderedHaveOneValue, HasNoSpans}
-use Rattle.humantime.proofs.OneReading.{not_zero}
-use Rattle.humantime.proofs.Settled.{value-cons}
 use Rattle.humantime.proofs.Readings as readings
 use Rattle.humantime.proofs.SpacelessTexts as spaceless
 use Rattle.humantime.proofs.JoinedTexts as joined
@@ -43,27 +39,17 @@ joined_sum_or_overflow = joined.joined_sum_or_overflow
 pub joined_characters : (a b : List ℕ) → IsUtf8 a → chars (a ++ b) ≡ chars a ++ chars b
 joined_characters = chars-append
 
--- the value of spans is the sum of what each adds, whatever their order
-abbrev worth : Span → ℕ
-worth span = total (additions_of span)
-
-value-sum : (spans : List Span) → value spans ≡ sum_by worth spans
-value-sum [] = refl
-value-sum (s ∷ ss) = value-cons s ss ∙ ap (λ (n : ℕ). worth s + n) (value-sum ss) ∙ sym (sum_by-cons worth s ss)
-
-pub value-permutation : (ss ts : List Span) → IsPermutation ss ts → value ss ≡ value ts
-value-permutation ss ts h = value-sum ss ∙ sym (sum_by-IsPermutation worth ss ts h) ∙ sym (value-sum ts)
-
 -- `reordered`: accepted texts whose spans are reorderings of each other have equal values
 pub reordered : (a b : List ℕ) → ReorderedHaveOneValue a b
-reordered a b ss ts u v h k moved x y =
-    sym (readings.accepted_spans a ss u h x).1 ∙ value-permutation ss ts moved ∙ (readings.accepted_spans b ts v k y).1
+reordered = readings.reordered_value
 
 -- `reordered`: the text `0` is no spans
 pub zero_has_no_spans : HasNoSpans (codes "0")
-zero_has_no_spans spans h = not_zero (codes "0") spans h refl
+zero_has_no_spans = readings.zero_has_no_spans
 
--- beyond the laws: texts of the same spans are accepted alike
+-- ---- beyond the laws
+
+-- texts of the same spans are accepted alike
 pub same_spans : (a b : List ℕ) (spans : List Span) (v : ℕ) → Reads a spans → Reads b spans → Accepted a v ↔ Accepted b v
 same_spans a b spans v h k = (readings.same_spans a b spans v h k, readings.same_spans b a spans v k h)
 
