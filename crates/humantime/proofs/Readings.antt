@@ -1,11 +1,11 @@
 -- Accepted texts and their spans.
-use Rattle.std.proofs.Common.{◌≡◌, ◌≢◌, ℕ, ◌+◌, List, [], ◌∷◌, None, Ok, Err, refl, sym, ap, ◌∙◌, sum_by, IsPermutation, inl, inr, subst}
+use Rattle.std.proofs.Common.{◌≡◌, ◌≢◌, ℕ, ◌+◌, List, [], ◌∷◌, None, refl, sym, ap, ◌∙◌, sum_by, IsPermutation, inl, inr, subst}
 use Rattle.std.specs.Prelude.{codes}
 use Rattle.std.proofs.lemmas.List.Sorted.{sum_by-IsPermutation}
 use Rattle.std.proofs.lemmas.List.Sums.{sum_by-cons}
 use Rattle.humantime.specs.Spans.{Span, Reads, total, additions_of, Good, value, Accepted}
 use Rattle.humantime.specs.Faults.{Fault, HasFault, Items}
-use Rattle.humantime.specs.Reading.{items, outcome}
+use Rattle.humantime.specs.Reading.{items}
 use Rattle.humantime.specs.TextLaws.{IsZeroOrSpans, HasNoSpans, ReorderedHaveOneValue}
 use Rattle.humantime.proofs.OneReading.{not_zero}
 use Rattle.humantime.proofs.Settled.{value-cons}
@@ -57,8 +57,8 @@ same_spans a b spans v h k x =
 -- no text has a value and a fault
 pub no_value_and_fault : (text : List ℕ) (v : ℕ) (e : Fault) → Accepted text v → HasFault text e → ⊥
 no_value_and_fault text v e a f =
-    let ok : outcome text ≡ Ok v = outcome_accepted text v a in
-    let err : outcome text ≡ Err e = outcome_fault text e f in
+    let ok = outcome_accepted text v a in
+    let err = outcome_fault text e f in
     cc
 
 -- the text `0` is no spans

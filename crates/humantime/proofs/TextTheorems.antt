@@ -1,7 +1,7 @@
--- The laws of accepted texts, each named as the function of `laws` that promises it.
-use Rattle.std.proofs.Common.{◌≡◌, ◌↔◌, ℕ, ◌+◌, ◌/◌, ◌≤◌, List, ◌∷◌, ◌++◌, chars, codes, IsUtf8}
+-- The laws of accepted texts as theorems over plain variables, each under the name of its function in `laws`, and some
+-- theorems beyond them.
+use Rattle.std.proofs.Common.{◌↔◌, ℕ, ◌+◌, ◌/◌, ◌≤◌, List, ◌∷◌, ◌++◌, codes}
 use Rattle.std.specs.List.{AllByRecursion}
-use Rattle.std.proofs.lemmas.Str.{chars-append}
 use Rattle.humantime.specs.Times.{nanos_per_second}
 use Rattle.humantime.specs.Characters.{is_ws, u64_max}
 use Rattle.humantime.specs.Spans.{Span, Only, Front, Reads, additions, AllHaveRoom, Accepted}
@@ -9,43 +9,41 @@ use Rattle.humantime.specs.Faults.{NumberOverflow, HasFault}
 use Rattle.humantime.specs.TextLaws.{NeedsNoWhiteSpace, IsZeroOrSpans, JoinedHaveSum, JoinedOverflow, JoinedHaveSumOrOverflow, ReorderedHaveOneValue, HasNoSpans}
 use Rattle.humantime.proofs.Readings as readings
 use Rattle.humantime.proofs.SpacelessTexts as spaceless
-use Rattle.humantime.proofs.JoinedTexts as joined
+use Rattle.humantime.proofs.JoinedTexts as texts
 use Rattle.humantime.proofs.SmallAdditions as small
 use Rattle.humantime.proofs.SmallAdditions.{IsSmall}
 use Rattle.humantime.proofs.JoinedPieces as pieces
 use Rattle.humantime.proofs.JoinedPieces.{Piece, IsAcceptedPiece, joined_text, joined_spans, joined_value}
 
--- `without_ws`: an accepted text without its white space is accepted with the same value
+-- What is accepted is accepted without its white space, with the same value.
 pub without_ws : (text : List ℕ) → NeedsNoWhiteSpace text
 without_ws = spaceless.spaceless_accepted
 
--- `joined`: an accepted text is exactly `0`, or it is spans
-pub zero_or_spans : (text : List ℕ) → IsZeroOrSpans text
-zero_or_spans = readings.zero_or_spans
+-- Two accepted texts, neither exactly `0`, are accepted one behind the other with the sum exactly where their additions
+-- have room, and are too large exactly where they haven't.
+pub record AddWhenJoined (a b : List ℕ) : Type 0 where
+  pub first : IsZeroOrSpans a
+  pub second : IsZeroOrSpans b
+  pub sum : JoinedHaveSum a b
+  pub overflow : JoinedOverflow a b
+  pub one : JoinedHaveSumOrOverflow a b
 
--- `joined`: with the sum exactly where there is room
-pub joined_sum : (a b : List ℕ) → JoinedHaveSum a b
-joined_sum = joined.joined_sum
+pub joined : (a b : List ℕ) → AddWhenJoined a b
+joined a b = record {
+  first = readings.zero_or_spans a;
+  second = readings.zero_or_spans b;
+  sum = texts.joined_sum a b;
+  overflow = texts.joined_overflow a b;
+  one = texts.joined_sum_or_overflow a b;
+}
 
--- `joined`: too large exactly where there is none
-pub joined_overflow : (a b : List ℕ) → JoinedOverflow a b
-joined_overflow = joined.joined_overflow
+-- Accepted texts whose spans are reorderings of each other have equal values; the text `0` has no spans.
+pub record KeepValueReordered (a b : List ℕ) : Type 0 where
+  pub value : ReorderedHaveOneValue a b
+  pub zero : HasNoSpans (codes "0")
 
--- `joined`: one of the two
-pub joined_sum_or_overflow : (a b : List ℕ) → JoinedHaveSumOrOverflow a b
-joined_sum_or_overflow = joined.joined_sum_or_overflow
-
--- `joined`: the characters of a text and another behind it
-pub joined_characters : (a b : List ℕ) → IsUtf8 a → chars (a ++ b) ≡ chars a ++ chars b
-joined_characters = chars-append
-
--- `reordered`: accepted texts whose spans are reorderings of each other have equal values
-pub reordered : (a b : List ℕ) → ReorderedHaveOneValue a b
-reordered = readings.reordered_value
-
--- `reordered`: the text `0` is no spans
-pub zero_has_no_spans : HasNoSpans (codes "0")
-zero_has_no_spans = readings.zero_has_no_spans
+pub reordered : (a b : List ℕ) → KeepValueReordered a b
+reordered a b = record { value = readings.reordered_value a b; zero = readings.zero_has_no_spans }
 
 -- ---- beyond the laws
 
@@ -58,7 +56,7 @@ pub space_between : (before space after : List ℕ) (ss ts : List Span) (v : ℕ
     → Accepted (before ++ after) v ↔ Accepted (before ++ (space ++ after)) v
 space_between before space after ss ts v h k only =
     same_spans (before ++ after) (before ++ (space ++ after)) (ss ++ ts) v
-    (joined.reads-append before after ss ts h k) (joined.reads-space before space after ss ts h k only)
+    (texts.reads-append before after ss ts h k) (texts.reads-space before space after ss ts h k only)
 
 -- two texts of small additions, one behind the other, with the sum exactly where it is a duration
 pub small_joined_sum : (a b : List ℕ) (ss ts : List Span) (u v : ℕ) → Reads a ss → Reads b ts → Accepted a u → Accepted b v
