@@ -34,6 +34,7 @@ pub mod Rooms
 pub mod Runs
 pub mod Settled
 pub mod SlicesTold
+pub mod SmallAdditions
 pub mod SpacelessTexts
 pub mod SpanExits
 pub mod SpanSlices

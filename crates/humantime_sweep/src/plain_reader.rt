@@ -4,7 +4,7 @@
 
 /// What is wrong with a text. Offsets are in bytes; the unit stands from `start` to `end`.
 #[derive(Clone, Copy, PartialEq, Debug)]
-pub enum Fault {
+pub(crate) enum Fault {
     Empty,
     NumberExpected(usize),
     InvalidCharacter(usize),
@@ -48,7 +48,7 @@ static UNITS: [Unit; 10] = [
 ];
 
 /// The seconds and nanoseconds that a text stands for, or its first fault.
-pub fn read(text: &[char]) -> Result<(u64, u32), Fault> {
+pub(crate) fn read(text: &[char]) -> Result<(u64, u32), Fault> {
     if text == ['0'].as_slice() {
         return Ok((0, 0));
     }
