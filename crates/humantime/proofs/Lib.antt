@@ -27,6 +27,7 @@ pub mod PrintedDigits
 pub mod PrintedLengths
 pub mod PrintedRows
 pub mod PrintedSpans
+pub mod PrintedTogether
 pub mod ReadBack
 pub mod ReadSteps
 pub mod Readings

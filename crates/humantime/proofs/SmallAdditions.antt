@@ -38,7 +38,7 @@ room_is_duration xs room =
     let sum : 0 + total xs ≡ total xs = omega arith in
     rw sum at (room_fits 0 xs (omega arith) (room_from_all xs room))
 
-each-append : (xs ys : List Addition) → AllByRecursion IsSmall xs → AllByRecursion IsSmall ys → AllByRecursion IsSmall (xs ++ ys)
+pub each-append : (xs ys : List Addition) → AllByRecursion IsSmall xs → AllByRecursion IsSmall ys → AllByRecursion IsSmall (xs ++ ys)
 each-append [] ys h k = k
 each-append (x ∷ xs) ys h k = (h.0, each-append xs ys h.1 k)
 

@@ -1,17 +1,19 @@
 -- The laws of accepted texts as theorems over plain variables, each under the name of its function in `laws`, and some
 -- theorems beyond them.
-use Rattle.std.proofs.Common.{◌↔◌, ℕ, ◌+◌, ◌/◌, ◌≤◌, List, ◌∷◌, ◌++◌, codes}
+use Rattle.std.proofs.Common.{◌↔◌, ℕ, ◌+◌, ◌/◌, ◌≤◌, List, ◌∷◌, ◌++◌, codes, chars}
 use Rattle.std.specs.List.{AllByRecursion}
 use Rattle.humantime.specs.Times.{nanos_per_second}
 use Rattle.humantime.specs.Characters.{is_ws, u64_max}
 use Rattle.humantime.specs.Spans.{Span, Only, Front, Reads, additions, AllHaveRoom, Accepted}
 use Rattle.humantime.specs.Faults.{NumberOverflow, HasFault}
+use Rattle.humantime.specs.Counts.{Canon}
 use Rattle.humantime.specs.TextLaws.{NeedsNoWhiteSpace, IsZeroOrSpans, JoinedHaveSum, JoinedOverflow, JoinedHaveSumOrOverflow, ReorderedHaveOneValue, HasNoSpans}
 use Rattle.humantime.proofs.Readings as readings
 use Rattle.humantime.proofs.SpacelessTexts as spaceless
 use Rattle.humantime.proofs.JoinedTexts as texts
 use Rattle.humantime.proofs.SmallAdditions as small
 use Rattle.humantime.proofs.SmallAdditions.{IsSmall}
+use Rattle.humantime.proofs.PrintedTogether as printed
 use Rattle.humantime.proofs.JoinedPieces as pieces
 use Rattle.humantime.proofs.JoinedPieces.{Piece, IsAcceptedPiece, joined_text, joined_spans, joined_value}
 
@@ -63,6 +65,11 @@ pub small_joined_sum : (a b : List ℕ) (ss ts : List Span) (u v : ℕ) → Read
     → AllByRecursion IsSmall (additions ss) → AllByRecursion IsSmall (additions ts)
     → Accepted (a ++ b) (u + v) ↔ ((u + v) / nanos_per_second ≤ u64_max)
 small_joined_sum = small.small_joined_sum
+
+-- the printed texts of two durations, one behind the other, with the sum exactly where it is a duration
+pub printed_joined_sum : (d e : ℕ) (s t : List ℕ) → d / nanos_per_second ≤ u64_max → e / nanos_per_second ≤ u64_max → Canon d s → Canon e t
+    → Accepted (chars s ++ chars t) (d + e) ↔ ((d + e) / nanos_per_second ≤ u64_max)
+printed_joined_sum = printed.printed_joined_sum
 
 -- any number of texts, one behind the other: with the sum exactly where there is room
 pub pieces_sum : (p : Piece) (ps : List Piece) → AllByRecursion IsAcceptedPiece (p ∷ ps)
