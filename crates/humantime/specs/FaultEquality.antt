@@ -6,7 +6,8 @@ use Rattle.humantime.specs.Faults.{Fault, InvalidCharacter, NumberExpected, Unkn
 abbrev pub fault_eq : Fault → Fault → Bool
 fault_eq (InvalidCharacter at) (InvalidCharacter at') = at == at'
 fault_eq (NumberExpected at) (NumberExpected at') = at == at'
-fault_eq (UnknownUnit start end unit value) (UnknownUnit start' end' unit' value') = start == start' && end == end' && bytes_eq unit unit' && value == value'
+fault_eq (UnknownUnit start end unit value) (UnknownUnit start' end' unit' value') =
+    start == start' && end == end' && bytes_eq unit unit' && value == value'
 fault_eq NumberOverflow NumberOverflow = true
 fault_eq Empty Empty = true
 fault_eq _ _ = false
