@@ -1,5 +1,5 @@
 -- Whether two faults are the same, as a test.
-use Rattle.std.specs.Prelude.{◌≡◌, ℕ, ◌==◌, Bool, true, false, ◌&&◌, bytes_eq}
+use Rattle.std.specs.Prelude.{◌==◌, Bool, true, false, ◌&&◌, bytes_eq}
 use Rattle.humantime.specs.Faults.{Fault, InvalidCharacter, NumberExpected, UnknownUnit, NumberOverflow, Empty}
 
 -- the same kind of fault with the same offsets, characters and number
