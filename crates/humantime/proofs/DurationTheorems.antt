@@ -80,12 +80,15 @@ pub record PrintsAndReads (d : ℕ) : Type 0 where
   pub answer : duration_answer (chars (duration_text d)) ≡ Ok d
 
 pub printed_duration_reads : (d : ℕ) → d < duration_end → PrintsAndReads d
-printed_duration_reads d fits = record {
-  one = back.one_text d;
-  printed = counts.text_is_canon d;
-  reads = printed.canon_reads d (omega arith);
-  answer = outcomes.outcome_accepted (chars (duration_text d)) d (printed.canon_reads d (omega arith) (duration_text d) (counts.text_is_canon d));
-}
+printed_duration_reads d fits =
+    let reads : ReadsBack d = printed.canon_reads d (omega arith) in
+    let canon = counts.text_is_canon d in
+    record {
+      one = back.one_text d;
+      printed = canon;
+      reads = reads;
+      answer = outcomes.outcome_accepted (chars (duration_text d)) d (reads (duration_text d) canon);
+    }
 
 -- The canonical texts of two durations are equal exactly where these are.
 pub printed_durations_differ : (a b : ℕ) → a < duration_end → b < duration_end → TextsTellApart a b

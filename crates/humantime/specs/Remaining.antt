@@ -25,4 +25,6 @@ text_of i = i.text.now
 -- an error points into it
 abbrev pub GivesItem : SpanIter → Option (Result Span DurationError) → SpanIter → Type 0
 GivesItem old result new =
-    YieldsFirstBy item_of items_left old result new × (text_of new ≡ text_of old) × IfSome result (λ item. IfErr item (PointsInto (text_of old)))
+    YieldsFirstBy item_of items_left old result new
+    × (text_of new ≡ text_of old)
+    × IfSome result (λ item. IfErr item (PointsInto (text_of old)))

@@ -14,7 +14,8 @@ use crate::duration::span::Span;
 
 /// The spans of a text that are still to come, from left to right, and then the fault at which they stop.
 ///
-/// After an error, and after the end, it gives `None` for good.
+/// After an error, and after the end, it gives `None` for good. An error points into the text, which may be
+/// cut at its offsets.
 ///
 /// ```text
 /// for item in spans("2h 37min") { .. }
