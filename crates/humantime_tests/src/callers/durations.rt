@@ -2,10 +2,7 @@
 
 ghost use Rattle.std.specs.Prelude.{◌≡◌, ◌+◌, ◌*◌, ◌/◌, ◌<◌, ◌≤◌, ◌↔◌, ℕ, chars, length, true, IfOk, IfSome, IsTrue, Ok, Some};
 ghost use Rattle.std.specs.Result.{result_map_both};
-ghost use Rattle.humantime.specs.Counts.{Canon};
-ghost use Rattle.humantime.specs.DurationAnswers.{duration_answer};
-ghost use Rattle.humantime.specs.Errors.{told, fault_of};
-ghost use Rattle.humantime.specs.Times.{nanos_per_second};
+ghost use Rattle.humantime.specs.Prelude.{Canon, duration_answer, told, fault_of, nanos_per_second};
 
 use humantime::laws::printed_duration_reads;
 use humantime::{DurationError, StdDuration, format_duration, parse_duration};
