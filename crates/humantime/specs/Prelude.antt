@@ -3,9 +3,9 @@
 -- amounts of time
 pub use Rattle.humantime.specs.Times.{nanos_per_second, duration_end}
 -- durations read: the answer as a function of the characters, and the relations that it is tied to
-pub use Rattle.humantime.specs.Errors.{told, told_text, fault_of, PointsInto}
+pub use Rattle.humantime.specs.Errors.{told, told_text, fault_of, PointsInto, IsPlaceIn, IsPartOf}
 pub use Rattle.humantime.specs.DurationAnswers.{duration_answer, canonical_answer}
-pub use Rattle.humantime.specs.Spans.{Accepted, Span, Reads, Good, value, additions, AllHaveRoom}
+pub use Rattle.humantime.specs.Spans.{Accepted, Bare_zero, Sum_of, Span, Reads, Good, value, additions, AllHaveRoom}
 pub use Rattle.humantime.specs.Faults.{Fault, HasFault, Items}
 pub use Rattle.humantime.specs.Messages.{message_of as fault_message}
 -- spans
