@@ -20,6 +20,7 @@ pub mod March
 pub mod Messages
 pub mod Moment
 pub mod MomentLemmas
+pub mod OlderSpecification
 pub mod PrintedTexts
 pub mod Printing
 pub mod Reading

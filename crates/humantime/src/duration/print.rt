@@ -53,7 +53,8 @@ impl Model for FormattedDuration {
 ///
 /// The text is that of the crate: years of 365.25 days, months of 30.44 days, days, hours, minutes, seconds,
 /// milliseconds, microseconds and nanoseconds, each as many as there is room for. Counts of zero are left out,
-/// and years, months and days take an `s` above one. No time at all is `0s`.
+/// and years, months and days take an `s` above one. Microseconds are `µs`, with the micro sign U+00B5. No time at
+/// all is `0s`, and no text is longer than 64 bytes.
 ///
 /// ```text
 /// format_duration(StdDuration::from_secs(9420)) prints 2h 37m
