@@ -18,6 +18,7 @@ pub mod LentItems
 pub mod MarchLemmas
 pub mod Months
 pub mod NumberLemmas
+pub mod OlderTexts
 pub mod OnLiterals
 pub mod OneReading
 pub mod Outcomes

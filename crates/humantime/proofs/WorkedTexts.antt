@@ -68,6 +68,20 @@ micro_alone : duration_answer (codes "1" ++ 0xb5 ∷ []) ≡ Err (UnknownUnit 1 
 unfolding humantime_on_literals
 micro_alone = refl
 
+-- and so does the Greek letter mu, which is another character
+greek_micros : duration_answer (codes "1" ++ 0x3bc ∷ codes "s") ≡ Ok 1000
+unfolding humantime_on_literals
+greek_micros = refl
+
+greek_letter_alone : duration_answer (codes "1" ++ 0x3bc ∷ []) ≡ Err (UnknownUnit 1 3 (0x3bc ∷ []) 1)
+unfolding humantime_on_literals
+greek_letter_alone = refl
+
+-- microseconds are printed with the micro sign
+printed_micros : duration_text 1000 ≡ codes "1" ++ 0xc2 ∷ 0xb5 ∷ codes "s"
+unfolding humantime_on_literals
+printed_micros = refl
+
 printed : duration_text 9420000000000 ≡ codes "2h 37m"
 unfolding humantime_on_literals
 printed = refl

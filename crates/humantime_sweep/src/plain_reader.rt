@@ -36,7 +36,7 @@ const SECOND: u128 = 1_000_000_000;
 
 static UNITS: [Unit; 10] = [
     ("nanos nsec ns", NANO, 1, None),
-    ("usec us µs", NANO, 1_000, Some(NANO)),
+    ("usec us \u{b5}s \u{3bc}s", NANO, 1_000, Some(NANO)),
     ("millis msec ms", NANO, 1_000_000, Some(NANO)),
     ("seconds second secs sec s", SECOND, 1, Some(NANO)),
     ("minutes minute min mins m", SECOND, 60, Some(NANO)),
@@ -197,7 +197,7 @@ fn kind_at(text: &[char], at: usize) -> Kind {
         Some('\u{2000}'..='\u{200a}' | '\u{2028}' | '\u{2029}') => Kind::Space,
         Some('\u{202f}' | '\u{205f}' | '\u{3000}') => Kind::Space,
         Some('0'..='9') => Kind::Digit,
-        Some('a'..='z' | 'A'..='Z' | '\u{b5}') => Kind::Letter,
+        Some('a'..='z' | 'A'..='Z' | '\u{b5}' | '\u{3bc}') => Kind::Letter,
         Some('.') => Kind::Point,
         Some(_) => Kind::Other,
     }

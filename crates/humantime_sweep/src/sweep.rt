@@ -35,8 +35,8 @@ static SPACES: [char; 25] = [
 ];
 
 /// What is put in the place of each character.
-static INSTEAD: [char; 10] = [
-    '0', '9', '.', 's', '~', 'µ', 'é', '\u{85}', '\u{3000}', '\u{200b}',
+static INSTEAD: [char; 11] = [
+    '0', '9', '.', 's', '~', '\u{b5}', '\u{3bc}', 'é', '\u{85}', '\u{3000}', '\u{200b}',
 ];
 
 /// What the library's error says.
@@ -115,7 +115,7 @@ fn with_one_changed(alloc: Global, text: &str, at: usize, new: char) -> Result<S
     Ok(changed)
 }
 
-/// Both answer alike with each character replaced by each of the ten.
+/// Both answer alike with each character replaced by each of the eleven.
 fn assert_changes_alike(rt: &impl Abort, alloc: Global, text: &str) -> Result<(), Fail> {
     for (at, _) in text.char_indices() {
         for new in &INSTEAD {

@@ -31,10 +31,10 @@ pub fn printed_durations_differ(a: StdDuration, b: StdDuration)
     ensures { TextsTellApart a b }
 {}
 
-/// A canonical text has at most 63 bytes; its months are at most 11, its days at most 30.
+/// A canonical text has at most 64 bytes; its months are at most 11, its days at most 30.
 ///
 /// ```text
-/// 100000000000years 11months 29days 23h 59m 59s 999ms 999us 999ns has 63 bytes
+/// 100000000000years 11months 29days 23h 59m 59s 999ms 999µs 999ns has 64 bytes
 /// ```
 pub fn printed_bounds(d: StdDuration)
     ensures length { HasShortText d }

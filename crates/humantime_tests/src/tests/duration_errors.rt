@@ -22,6 +22,10 @@ fn each_error_has_its_message(rt: HostRuntime) -> Result<(), Fail> {
             "unknown time unit \"nights\", supported units: ns, us/µs, ms, sec, min, hours, days, weeks, months, years (and few variations)",
         ),
         (
+            unknown_unit(1, 3, "\u{3bc}", 1),
+            "unknown time unit \"\u{3bc}\", supported units: ns, us/µs, ms, sec, min, hours, days, weeks, months, years (and few variations)",
+        ),
+        (
             unknown_unit(1, 3, "µ", 1),
             "unknown time unit \"µ\", supported units: ns, us/µs, ms, sec, min, hours, days, weeks, months, years (and few variations)",
         ),
