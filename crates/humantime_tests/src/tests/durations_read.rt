@@ -1,7 +1,8 @@
 //! Texts of durations, and the value or the error of each.
 
-use crate::tests::support::assert_same_at;
+use crate::tests::support::{Sink, assert_same_at};
 use humantime::{DurationError, StdDuration, parse_duration};
+use std::fmt::Write;
 use std::process::Abort;
 use std::test::Fail;
 
@@ -376,14 +377,11 @@ const OUT_OF_PLACE: [char; 31] = [
 #[test]
 fn white_space_stands_before_and_after_each_part(rt: HostRuntime) -> Result<(), Fail> {
     for white in WHITE {
-        let text = format!(in rt.alloc(); "{white}1{white}2{white}s{white}")?;
+        let mut line = Sink::open();
+        write!(line, "{white}1{white}2{white}s{white}")?;
+        let text = line.text();
         let twelve = StdDuration::from_secs(12);
-        assert_same_at(
-            &rt,
-            parse_duration(text.as_str()),
-            Ok(twelve),
-            text.as_str(),
-        );
+        assert_same_at(&rt, parse_duration(text), Ok(twelve), text);
     }
     Ok(())
 }
@@ -391,14 +389,11 @@ fn white_space_stands_before_and_after_each_part(rt: HostRuntime) -> Result<(), 
 #[test]
 fn other_characters_are_named_where_they_stand(rt: HostRuntime) -> Result<(), Fail> {
     for other in OUT_OF_PLACE {
-        let text = format!(in rt.alloc(); "1{other}s")?;
+        let mut line = Sink::open();
+        write!(line, "1{other}s")?;
+        let text = line.text();
         let error = DurationError::InvalidCharacter(1);
-        assert_same_at(
-            &rt,
-            parse_duration(text.as_str()),
-            Err(error),
-            text.as_str(),
-        );
+        assert_same_at(&rt, parse_duration(text), Err(error), text);
     }
     Ok(())
 }
@@ -406,24 +401,18 @@ fn other_characters_are_named_where_they_stand(rt: HostRuntime) -> Result<(), Fa
 #[test]
 fn letters_are_those_of_ascii_the_micro_sign_and_mu(rt: HostRuntime) -> Result<(), Fail> {
     for letter in ['A', 'Z', 'a', 'z', '\u{b5}', '\u{3bc}'] {
-        let text = format!(in rt.alloc(); "1{letter}~")?;
+        let mut line = Sink::open();
+        write!(line, "1{letter}~")?;
+        let text = line.text();
         let error = DurationError::InvalidCharacter(text.len().saturating_sub(1));
-        assert_same_at(
-            &rt,
-            parse_duration(text.as_str()),
-            Err(error),
-            text.as_str(),
-        );
+        assert_same_at(&rt, parse_duration(text), Err(error), text);
     }
     for digit in ['0', '9'] {
-        let text = format!(in rt.alloc(); "1{digit}~")?;
+        let mut line = Sink::open();
+        write!(line, "1{digit}~")?;
+        let text = line.text();
         let error = DurationError::InvalidCharacter(2);
-        assert_same_at(
-            &rt,
-            parse_duration(text.as_str()),
-            Err(error),
-            text.as_str(),
-        );
+        assert_same_at(&rt, parse_duration(text), Err(error), text);
     }
     Ok(())
 }
@@ -475,8 +464,10 @@ fn microseconds_are_spelled_in_four_ways(rt: HostRuntime) -> Result<(), Fail> {
     ];
     for (number, secs, nanos) in numbers {
         for word in ["us", "usec", "\u{b5}s", "\u{3bc}s"] {
-            let text = format!(in rt.alloc(); "{number}{word}")?;
-            assert_values(&rt, &[(text.as_str(), secs, nanos)]);
+            let mut line = Sink::open();
+            write!(line, "{number}{word}")?;
+            let text = line.text();
+            assert_values(&rt, &[(text, secs, nanos)]);
         }
     }
     Ok(())
@@ -504,19 +495,16 @@ fn no_other_word_is_a_unit(rt: HostRuntime) -> Result<(), Fail> {
         "minutess",
         "ssssssss",
     ] {
-        let text = format!(in rt.alloc(); "1{unit}")?;
+        let mut line = Sink::open();
+        write!(line, "1{unit}")?;
+        let text = line.text();
         let error = DurationError::UnknownUnit {
             start: 1,
             end: text.len(),
             unit,
             value: 1,
         };
-        assert_same_at(
-            &rt,
-            parse_duration(text.as_str()),
-            Err(error),
-            text.as_str(),
-        );
+        assert_same_at(&rt, parse_duration(text), Err(error), text);
     }
     Ok(())
 }
