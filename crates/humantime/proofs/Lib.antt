@@ -9,6 +9,7 @@ pub mod DecimalLengths
 pub mod DigitLemmas
 pub mod DurationTheorems
 pub mod Found
+pub mod FractionDigits
 pub mod GreatestCounts
 pub mod Iterating
 pub mod JoinedPieces
@@ -35,6 +36,7 @@ pub mod Readings
 pub mod Rooms
 pub mod Runs
 pub mod Settled
+pub mod SignificantDigits
 pub mod SlicesTold
 pub mod SmallAdditions
 pub mod SpacelessTexts

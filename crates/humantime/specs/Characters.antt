@@ -94,6 +94,16 @@ digits cs = filter is_digit cs
 abbrev pub decimal_value : List ℕ → ℕ
 decimal_value ds = digits_value 10 ds
 
+-- a digit and those that are left behind it; a zero with none behind it is dropped
+abbrev pub kept : ℕ → List ℕ → List ℕ
+kept d [] = if d == 48 then [] else d ∷ []
+kept d (e ∷ es) = d ∷ e ∷ es
+
+-- the digits without the zeros at their end
+unfoldable pub significant : List ℕ → List ℕ
+significant [] = []
+significant (d ∷ ds) = kept d (significant ds)
+
 -- the greatest number that a u64 holds
 abbrev pub u64_max : ℕ
 u64_max = 18446744073709551615
