@@ -1,8 +1,8 @@
 //! The printers of timestamps.
 
-ghost use Rattle.std.specs.Prelude.{◌≡◌, ◌+◌, ◌<◌, ◌≤◌, ◌↔◌, IsSome, IfSome, IfNone, IsAscii, ◌++◌, take, drop, slice_set, codes};
+ghost use Rattle.std.specs.Prelude.{◌≡◌, ◌+◌, ◌/◌, ◌%◌, ◌<◌, ◌≤◌, ◌↔◌, IsSome, IfSome, IfNone, IsAscii, ◌++◌, take, drop, slice_set, codes};
 ghost use Rattle.std.specs.Str.{byte};
-ghost use Rattle.humantime.specs.DigitText.{two_digits};
+ghost use Rattle.humantime.specs.DigitText.{digit, two_digits};
 ghost use Rattle.humantime.specs.Timestamps.{time_text, written};
 ghost use Rattle.humantime.specs.TimestampPrinted.{IsPrintable};
 ghost use Rattle.humantime.specs.TimestampPrinting.{places, places_of, moment_kept, places_kept, IsTextOf, printed_text, shortest_text, fields_shown, IsDateTimeOf, FitsPlaces};
@@ -270,15 +270,29 @@ fn write_time(x: DateTime, buf: &mut [u8; 30])
     put_two(buf, 17, x.second);
 }
 
-// Writes a number below 100 as two digits at this place.
+// The two digits of a number below 100.
 #[inline(always)]
+#[tactic(auto, using(crate::proofs::TimestampPairLemmas::tens_at, crate::proofs::TimestampPairLemmas::ones_at))]
+fn digits_of(n: u32) -> (u8, u8)
+    requires { n < 100 }
+    ensures tens { result.0 ≡ digit (n / 10) }
+    ensures ones { result.1 ≡ digit (n % 10) }
+{
+    let pair = 2 * n as usize;
+    (PAIRS[pair], PAIRS[pair + 1])
+}
+
+// Writes a number below 100 as two digits at this place. Two stores are one move, where a copied slice is a call.
+#[inline(always)]
+#[tactic(auto, using(crate::proofs::TimestampPairLemmas::two_set))]
 fn put_two(buf: &mut [u8; 30], at: usize, n: u32)
     requires place { at + 2 ≤ 30 }
     requires small { n < 100 }
     ensures { buf.new ≡ take at buf.old ++ two_digits n ++ drop (at + 2) buf.old }
 {
-    let pair = 2 * n as usize;
-    buf[at..at + 2].copy_from_slice(&PAIRS[pair..pair + 2]);
+    let (tens, ones) = digits_of(n);
+    buf[at] = tens;
+    buf[at + 1] = ones;
 }
 
 // Writes a `Z` at this place, and answers the length of the text that it ends.
