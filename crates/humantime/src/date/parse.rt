@@ -42,6 +42,7 @@ static WEIGHTS: [u32; 9] = [
 /// ```text
 /// parse_rfc3339_weak("2018-02-14 00:28:07")
 /// ```
+#[inline(always)]
 pub fn parse_rfc3339_weak(s: &str) -> Result<SystemTime, TimestampError>
     ensures value { (t : ℤ) → (result ≡ Ok t) ↔ IsWeakMoment s.now t }
     ensures error { (e : TimestampError) → (result ≡ Err e) ↔ (first_failed (weak_checks s.now) ≡ Some e) }
@@ -59,6 +60,7 @@ pub fn parse_rfc3339_weak(s: &str) -> Result<SystemTime, TimestampError>
 /// ```text
 /// parse_rfc3339("2018-02-14T00:28:07Z")
 /// ```
+#[inline(always)]
 pub fn parse_rfc3339(s: &str) -> Result<SystemTime, TimestampError>
     ensures value { (t : ℤ) → (result ≡ Ok t) ↔ IsStrictMoment s.now t }
     ensures error { (e : TimestampError) → (result ≡ Err e) ↔ (first_failed (strict_checks s.now) ≡ Some e) }
@@ -71,6 +73,7 @@ pub fn parse_rfc3339(s: &str) -> Result<SystemTime, TimestampError>
 }
 
 // At least 20 bytes, a `T` and a zone.
+#[inline(always)]
 #[tactic(auto, unfolding(crate::specs::TimestampChecks::is_complete))]
 fn is_complete(b: &[u8]) -> bool
     ensures { result ≡ TimestampChecks.is_complete b.now }
@@ -79,6 +82,7 @@ fn is_complete(b: &[u8]) -> bool
 }
 
 // `Z` or `+00:00` at the end.
+#[inline(always)]
 #[tactic(auto, using(crate::proofs::TimestampEndLemmas::last_letter, crate::proofs::TimestampEndLemmas::last_offset))]
 fn ends_in_zone(b: &[u8]) -> bool
     requires { 6 ≤ length b.now }
@@ -88,6 +92,7 @@ fn ends_in_zone(b: &[u8]) -> bool
 }
 
 // The moment, or the error of the first check that fails.
+#[inline(always)]
 #[tactic(auto, unfolding(crate::specs::TimestampReading::weak_answer))]
 fn read_timestamp(b: &[u8]) -> Result<SystemTime, TimestampError>
     ensures { result ≡ weak_answer b.now }
@@ -106,6 +111,7 @@ fn read_timestamp(b: &[u8]) -> Result<SystemTime, TimestampError>
 }
 
 // The signs between the numbers.
+#[inline(always)]
 #[tactic(auto, unfolding(crate::specs::TimestampChecks::has_signs))]
 fn has_signs(b: &[u8]) -> bool
     requires { 19 ≤ length b.now }
@@ -119,6 +125,7 @@ fn has_signs(b: &[u8]) -> bool
 }
 
 // Digits in all places between the signs.
+#[inline(always)]
 #[tactic(auto, unfolding(crate::specs::TimestampChecks::has_digits))]
 fn has_digits(b: &[u8]) -> bool
     requires { 19 ≤ length b.now }
@@ -134,6 +141,7 @@ fn has_digits(b: &[u8]) -> bool
 }
 
 // Two digits from this place on.
+#[inline(always)]
 #[tactic(auto, unfolding(crate::specs::TimestampChecks::has_two))]
 fn has_two(b: &[u8], at: usize) -> bool
     requires { at + 1 < length b.now }
@@ -143,6 +151,7 @@ fn has_two(b: &[u8], at: usize) -> bool
 }
 
 // The number that two digits show.
+#[inline(always)]
 #[tactic(auto, using(crate::proofs::TimestampPlaceLemmas::two_at_is), unfolding(crate::specs::TimestampChecks::has_two))]
 fn two_at(b: &[u8], at: usize) -> u32
     requires room { at + 1 < length b.now }
@@ -154,6 +163,7 @@ fn two_at(b: &[u8], at: usize) -> u32
 }
 
 // The seconds from 1970 to the date and the time, where there are such.
+#[inline(always)]
 #[tactic(auto, using(crate::proofs::TimestampPlaceLemmas::in_range_told, crate::proofs::TimestampPlaceLemmas::in_range_from), unfolding(crate::specs::TimestampChecks::has_digits))]
 fn read_seconds(b: &[u8]) -> Option<u64>
     requires room { 19 ≤ length b.now }
@@ -179,6 +189,7 @@ fn read_seconds(b: &[u8]) -> Option<u64>
 }
 
 // The nanoseconds, where the end is right.
+#[inline(always)]
 fn read_end(b: &[u8]) -> Result<u32, TimestampError>
     requires { 19 ≤ length b.now }
     ensures value { result ≡ TimestampReading.end_answer b.now }
@@ -194,6 +205,7 @@ fn read_end(b: &[u8]) -> Result<u32, TimestampError>
 }
 
 // The nanoseconds of a fraction, where the end after it is right.
+#[inline(always)]
 fn read_fraction_end(rest: &[u8]) -> Result<u32, TimestampError>
     ensures value { result ≡ TimestampReading.fraction_answer rest.now }
     ensures bound { IfOk result (λ n. n < nanos_per_second) }
@@ -207,6 +219,7 @@ fn read_fraction_end(rest: &[u8]) -> Result<u32, TimestampError>
 }
 
 // A point after date and time.
+#[inline(always)]
 fn has_point(b: &[u8]) -> bool
     ensures value { result ≡ TimestampChecks.has_point b.now }
     ensures room { IsTrue result → 19 < length b.now }
@@ -215,6 +228,7 @@ fn has_point(b: &[u8]) -> bool
 }
 
 // Nothing, `Z` or `+00:00`.
+#[inline(always)]
 fn is_zone(b: &[u8]) -> bool
     ensures { result ≡ TimestampChecks.is_zone b.now }
 {
@@ -227,6 +241,7 @@ fn is_zone(b: &[u8]) -> bool
 }
 
 // `+00:00`, of six bytes.
+#[inline(always)]
 fn is_offset(b: &[u8]) -> bool
     requires { length b.now ≡ 6 }
     ensures { result ≡ bytes_eq b.now (codes "+00:00") }
@@ -235,6 +250,7 @@ fn is_offset(b: &[u8]) -> bool
 }
 
 // The nanoseconds of the digits at the front, cut to nine of them, and what stands after them.
+#[inline(always)]
 #[tactic(auto, using(crate::proofs::TimestampFractionLemmas::read_none, crate::proofs::TimestampFractionLemmas::read_more, crate::proofs::TimestampFractionLemmas::read_stop, crate::proofs::TimestampFractionLemmas::read_all))]
 fn read_fraction(rest: &[u8]) -> (u32, &[u8])
     ensures value { result.0 ≡ nanos_of (TimestampReading.front_digits rest.now) }

@@ -166,6 +166,7 @@ impl Rfc3339Timestamp {
     /// ```text
     /// format_rfc3339(UNIX_EPOCH).text(&mut buf) == Some("1970-01-01T00:00:00Z")
     /// ```
+    #[inline(always)]
     pub fn text<'b>(&self, buf: &'b mut [u8; 30]) -> Option<&'b str>
         ensures within { IsSome result ↔ IsPrintable (moment_kept self.now) }
         ensures text { IfSome result (λ t. IsTextOf self.now t.now) }
@@ -175,6 +176,7 @@ impl Rfc3339Timestamp {
     }
 
     // Writes the text to the front of the buffer. `None`, and the buffer as it was, outside 1970 to 9999.
+    #[inline(always)]
     #[tactic(auto, unfolding(crate::specs::TimestampPrinting::moment_kept))]
     pub(crate) fn write(&self, buf: &mut [u8; 30]) -> Option<usize>
         ensures within { IsSome result ↔ IsPrintable (moment_kept self.now) }
@@ -211,6 +213,7 @@ impl fmt::Display for Rfc3339Timestamp {
 }
 
 // The date and the time of day of a moment of 1970 to 9999.
+#[inline(always)]
 fn date_time_of(moment: SystemTime) -> Option<DateTime>
     ensures within { IsSome result ↔ IsPrintable moment }
     ensures value { IfSome result (λ x. IsDateTimeOf x moment) }
@@ -231,6 +234,7 @@ fn date_time_of(moment: SystemTime) -> Option<DateTime>
 }
 
 // Writes date and time to the front of the buffer, and answers the text's length.
+#[inline(always)]
 fn write_date_time(x: DateTime, precision: Precision, buf: &mut [u8; 30]) -> usize
     requires { FitsPlaces x }
     ensures fits { result ≤ 30 }
@@ -242,15 +246,16 @@ fn write_date_time(x: DateTime, precision: Precision, buf: &mut [u8; 30]) -> usi
     }
     put_two(buf, 20, x.nanos / 10_000_000);
     put_two(buf, 22, x.nanos / 100_000 % 100);
+    if precision == Precision::Millis {
+        return end_at(buf, 23);
+    }
     put_two(buf, 24, x.nanos / 1_000 % 100);
+    if precision == Precision::Micros {
+        return end_at(buf, 26);
+    }
     put_two(buf, 26, x.nanos / 10 % 100);
     buf[28] = b'0' + (x.nanos % 10) as u8;
-    match precision {
-        Precision::Millis => end_at(buf, 23),
-        Precision::Micros => end_at(buf, 26),
-        // All nine digits.
-        _ => end_at(buf, 29),
-    }
+    end_at(buf, 29)
 }
 
 // Writes `YYYY-MM-DDTHH:MM:SS` and a point to the front of the buffer. The signs come with the pattern, and
@@ -307,6 +312,7 @@ fn end_at(buf: &mut [u8; 30], at: usize) -> usize
 }
 
 // ASCII text at the front of a buffer.
+#[inline(always)]
 fn front(buf: &[u8; 30], len: usize) -> &str
     requires fits { len ≤ 30 }
     requires ascii { IsAscii (take len buf.now) }
