@@ -49,6 +49,7 @@ pub mod TimestampDigitLemmas
 pub mod TimestampEndLemmas
 pub mod TimestampExitLemmas
 pub mod TimestampFractionLemmas
+pub mod TimestampLaneLemmas
 pub mod TimestampOrderLemmas
 pub mod TimestampPairLemmas
 pub mod TimestampPassLemmas

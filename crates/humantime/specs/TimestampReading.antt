@@ -1,12 +1,17 @@
 -- The parts that the bytes show, place by place, where no check fails.
-use Rattle.std.specs.Prelude.{ℕ, ◌+◌, ◌*◌, ◌==◌, List, [], ◌∷◌, drop, slice_index, codes, ℤ, pos, Option, Some, None, Result, Ok, Err, if◌then◌else◌}
+use Rattle.std.specs.Prelude.{ℕ, ◌+◌, ◌*◌, Bool, ◌==◌, List, [], ◌∷◌, drop, slice_index, codes, ℤ, pos, Option, Some, None, Result, Ok, Err, if◌then◌else◌}
 use Rattle.std.specs.Char.{is_ascii_digit}
+use Rattle.std.specs.List.{list_all}
 use Rattle.std.specs.Str.{byte, bytes_eq}
 use Rattle.humantime.specs.declared.calendar.Date.{Date}
 use Rattle.humantime.specs.declared.date.error.TimestampError.{TimestampError}
 use Rattle.humantime.specs.declared.date.error.TimestampError.TheVariants.{InvalidDigit, InvalidFormat}
 use Rattle.humantime.specs.Timestamps.{Letter_T, Space, Zone, Nothing, Letter_Z, Offset, Fields, fraction_digits, nanos_of, moment_of}
 use Rattle.humantime.specs.TimestampChecks.{two_at, past_digits, is_zone, has_point, ends_whole, ends_fraction, weak_checks, strict_checks, first_failed}
+
+-- digits in the first sixteen bytes, but for the signs
+unfoldable pub has_front_digits : List ℕ → Bool
+has_front_digits b = list_all (λ k. is_ascii_digit (slice_index b k)) (0 ∷ 1 ∷ 2 ∷ 3 ∷ 5 ∷ 6 ∷ 8 ∷ 9 ∷ 11 ∷ 12 ∷ 14 ∷ 15 ∷ [])
 
 -- the digits at the front
 abbrev pub front_digits : List ℕ → List ℕ

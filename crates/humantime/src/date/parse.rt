@@ -14,6 +14,7 @@ use crate::calendar::{Date, day_number};
 use crate::date::error::TimestampError;
 use crate::turns::Turns;
 use crate::value::SystemTime;
+use std::simd::prelude::*;
 
 // How many nanoseconds a 1 at each of the nine places of a fraction counts.
 static WEIGHTS: [u32; 9] = [
@@ -27,6 +28,9 @@ static WEIGHTS: [u32; 9] = [
     10,
     1,
 ];
+
+// How far each of the first sixteen bytes may be above `0`: a digit up to nine, and a sign wherever it is.
+const MOST_ABOVE_ZERO: [u8; 16] = [9, 9, 9, 9, 255, 9, 9, 255, 9, 9, 255, 9, 9, 255, 9, 9];
 
 /// The moment that the text shows, in the weak form of a timestamp.
 ///
@@ -126,18 +130,24 @@ fn has_signs(b: &[u8]) -> bool
 
 // Digits in all places between the signs.
 #[inline(always)]
-#[tactic(auto, unfolding(crate::specs::TimestampChecks::has_digits))]
+#[tactic(auto, using(crate::proofs::TimestampLaneLemmas::digits_of_parts))]
 fn has_digits(b: &[u8]) -> bool
     requires { 19 ≤ length b.now }
     ensures { result ≡ TimestampChecks.has_digits b.now }
 {
-    has_two(b, 0)
-        && has_two(b, 2)
-        && has_two(b, 5)
-        && has_two(b, 8)
-        && has_two(b, 11)
-        && has_two(b, 14)
-        && has_two(b, 17)
+    has_front_digits(b) && has_two(b, 17)
+}
+
+// Digits in the first sixteen bytes, but for the signs. All are tested at once: a lane of the vector is how far
+// a byte is above `0`, and a byte below it wraps around to far above nine.
+#[inline(always)]
+fn has_front_digits(b: &[u8]) -> bool
+    requires { 19 ≤ length b.now }
+    ensures { result ≡ TimestampReading.has_front_digits b.now }
+{
+    let above = u8x16::from_slice(b) - u8x16::splat(b'0');
+    let other = above.simd_gt(u8x16::from_array(MOST_ABOVE_ZERO));
+    other.to_bitmask() == 0
 }
 
 // Two digits from this place on.
