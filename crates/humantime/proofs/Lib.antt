@@ -50,6 +50,7 @@ pub mod TimestampEndLemmas
 pub mod TimestampExitLemmas
 pub mod TimestampFractionLemmas
 pub mod TimestampLaneLemmas
+pub mod TimestampNumberLemmas
 pub mod TimestampOrderLemmas
 pub mod TimestampPairLemmas
 pub mod TimestampPassLemmas

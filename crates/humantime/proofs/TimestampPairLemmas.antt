@@ -1,5 +1,5 @@
 -- The table of the numbers below 100 in two digits.
-use Rattle.std.proofs.Common.{◌≡◌, ℕ, zero, suc, ◌+◌, ◌*◌, ◌/◌, ◌%◌, ◌<◌, ◌≤◌, List, [], ◌∷◌, ◌++◌, take, drop, length, get_or, refl, sym, ap, add-one, ◌∙◌, arith}
+use Rattle.std.proofs.Common.{◌≡◌, ℕ, zero, suc, ◌+◌, ◌*◌, ◌/◌, ◌%◌, ◌<◌, ◌≤◌, List, [], ◌∷◌, ◌++◌, take, drop, length, get_or, refl, ap, arith}
 use Rattle.std.specs.Prelude.{Bool, true, false, ◌&&◌, ◌==◌, codes, slice_set}
 use Rattle.std.proofs.lemmas.Bool.{and_parts, eqb-true}
 

@@ -4,10 +4,10 @@ ghost use Rattle.std.specs.Prelude.{◌≡◌, ◌+◌, ◌/◌, ◌^◌, ◌<�
 ghost use Rattle.std.specs.Str.{bytes_eq};
 ghost use Rattle.humantime.specs.declared.date.error.TimestampError.{TimestampError};
 ghost use Rattle.humantime.specs.Times.{nanos_per_second};
-ghost use Rattle.humantime.specs.Timestamps.{nanos_of, seconds_of, IsWeakMoment, IsStrictMoment};
+ghost use Rattle.humantime.specs.Timestamps.{nanos_of, IsWeakMoment, IsStrictMoment};
 ghost use Rattle.humantime.specs.TimestampChecks.{first_failed, weak_checks, strict_checks};
 ghost use Rattle.humantime.specs.TimestampChecks as TimestampChecks;
-ghost use Rattle.humantime.specs.TimestampReading.{weak_answer, strict_answer};
+ghost use Rattle.humantime.specs.TimestampReading.{weak_answer, strict_answer, numbers_of, seconds_to, AreInRange};
 ghost use Rattle.humantime.specs.TimestampReading as TimestampReading;
 
 use crate::calendar::{Date, day_number};
@@ -31,6 +31,20 @@ static WEIGHTS: [u32; 9] = [
 
 // How far each of the first sixteen bytes may be above `0`: a digit up to nine, and a sign wherever it is.
 const MOST_ABOVE_ZERO: [u8; 16] = [9, 9, 9, 9, 255, 9, 9, 255, 9, 9, 255, 9, 9, 255, 9, 9];
+
+// What `0` adds to a number of two digits and of four, where each byte counts as it stands.
+const TWO_ZEROS: u32 = 11 * b'0' as u32;
+
+const FOUR_ZEROS: u32 = 1_111 * b'0' as u32;
+
+// The numbers of a date and a time of day.
+#[derive(Clone, Copy)]
+struct Numbers {
+    date: Date,
+    hour: u32,
+    minute: u32,
+    second: u32,
+}
 
 /// The moment that the text shows, in the weak form of a timestamp.
 ///
@@ -104,10 +118,12 @@ fn read_timestamp(b: &[u8]) -> Result<SystemTime, TimestampError>
     if b.len() < 19 || !has_signs(b) {
         return Err(TimestampError::InvalidFormat);
     }
+    // Read before the digits are tested: behind the test the bytes would be taken out of its vector, one by one.
+    let numbers = numbers_at(b);
     if !has_digits(b) {
         return Err(TimestampError::InvalidDigit);
     }
-    let Some(secs) = read_seconds(b) else {
+    let Some(secs) = seconds_of(numbers) else {
         return Err(TimestampError::OutOfRange);
     };
     let nanos = read_end(b)?;
@@ -160,41 +176,57 @@ fn has_two(b: &[u8], at: usize) -> bool
     b[at].is_ascii_digit() && b[at + 1].is_ascii_digit()
 }
 
-// The number that two digits show.
+// The number that two digits show. Where there are others, it is some number.
 #[inline(always)]
-#[tactic(auto, using(crate::proofs::TimestampPlaceLemmas::two_at_is), unfolding(crate::specs::TimestampChecks::has_two))]
+#[tactic(auto, using(crate::proofs::TimestampNumberLemmas::two_read))]
 fn two_at(b: &[u8], at: usize) -> u32
-    requires room { at + 1 < length b.now }
-    requires digits { IsTrue (TimestampChecks.has_two b.now at) }
-    ensures value { result ≡ TimestampChecks.two_at b.now at }
-    ensures bound { result < 100 }
+    requires { at + 1 < length b.now }
+    ensures { IsTrue (TimestampChecks.has_two b.now at) → result ≡ TimestampChecks.two_at b.now at }
 {
-    (b[at] - b'0') as u32 * 10 + (b[at + 1] - b'0') as u32
+    (b[at] as u32 * 10 + b[at + 1] as u32).wrapping_sub(TWO_ZEROS)
 }
 
-// The seconds from 1970 to the date and the time, where there are such.
+// The number that four digits at the front show. Where there are others, it is some number.
 #[inline(always)]
-#[tactic(auto, using(crate::proofs::TimestampPlaceLemmas::in_range_told, crate::proofs::TimestampPlaceLemmas::in_range_from), unfolding(crate::specs::TimestampChecks::has_digits))]
-fn read_seconds(b: &[u8]) -> Option<u64>
-    requires room { 19 ≤ length b.now }
-    requires digits { IsTrue (TimestampChecks.has_digits b.now) }
-    ensures range { IsSome result ↔ IsTrue (TimestampChecks.in_range b.now) }
-    ensures value { IfSome result (λ n. n ≡ seconds_of (TimestampReading.fields_of b.now)) }
+#[tactic(auto, using(crate::proofs::TimestampNumberLemmas::year_read))]
+fn year_at_front(b: &[u8]) -> u32
+    requires { 4 ≤ length b.now }
+    ensures { IsTrue (TimestampChecks.has_two b.now 0) → IsTrue (TimestampChecks.has_two b.now 2) → result ≡ (TimestampReading.date_at b.now).year }
+{
+    (b[0] as u32 * 1_000 + b[1] as u32 * 100 + b[2] as u32 * 10 + b[3] as u32)
+        .wrapping_sub(FOUR_ZEROS)
+}
+
+// The numbers that date and time show, where there are digits in all places.
+#[inline(always)]
+fn numbers_at(b: &[u8]) -> Numbers
+    requires { 19 ≤ length b.now }
+    ensures { IsTrue (TimestampChecks.has_digits b.now) → result ≡ numbers_of b.now }
+{
+    Numbers {
+        date: Date {
+            year: year_at_front(b),
+            month: two_at(b, 5),
+            day: two_at(b, 8),
+        },
+        hour: two_at(b, 11),
+        minute: two_at(b, 14),
+        second: two_at(b, 17),
+    }
+}
+
+// The seconds from 1970 to this date and time, where there are such.
+#[inline(always)]
+fn seconds_of(x: Numbers) -> Option<u64>
+    ensures range { IsSome result ↔ AreInRange x }
+    ensures value { IfSome result (λ n. n ≡ seconds_to x) }
     ensures bound { IfSome result (λ n. n < 2 ^ 63) }
 {
-    let date = Date {
-        year: two_at(b, 0) * 100 + two_at(b, 2),
-        month: two_at(b, 5),
-        day: two_at(b, 8),
-    };
-    let hour = two_at(b, 11);
-    let minute = two_at(b, 14);
-    let second = two_at(b, 17);
-    let days = day_number(date, &mut Turns::new())?;
-    if hour > 23 || minute > 59 || second > 60 {
+    let days = day_number(x.date, &mut Turns::new())?;
+    if x.hour > 23 || x.minute > 59 || x.second > 60 {
         return None;
     }
-    let time = hour * 3_600 + minute * 60 + second.min(59);
+    let time = x.hour * 3_600 + x.minute * 60 + x.second.min(59);
     Some(days as u64 * 86_400 + time as u64)
 }
 
