@@ -8,6 +8,7 @@ ghost use Rattle.humantime.specs.Timestamps.{nanos_of, IsWeakMoment, IsStrictMom
 ghost use Rattle.humantime.specs.TimestampChecks.{first_failed, weak_checks, strict_checks};
 ghost use Rattle.humantime.specs.TimestampChecks as TimestampChecks;
 ghost use Rattle.humantime.specs.TimestampReading.{weak_answer, strict_answer, numbers_of, seconds_to, AreInRange};
+ghost use Rattle.humantime.specs.TimestampFractions.{weight, AreThreeAt, IsRead};
 ghost use Rattle.humantime.specs.TimestampReading as TimestampReading;
 
 use crate::calendar::{Date, day_number};
@@ -291,20 +292,52 @@ fn is_offset(b: &[u8]) -> bool
     b[0] == b'+' && b[1] == b'0' && b[2] == b'0' && b[3] == b':' && b[4] == b'0' && b[5] == b'0'
 }
 
+// The number that three digits from this place on show, where there are three.
+#[inline(always)]
+fn three_at(rest: &[u8], at: usize) -> Option<u32>
+    requires { at ≤ length rest.now }
+    ensures { IfSome result (AreThreeAt rest.now at) }
+{
+    if rest.len() - at < 3 {
+        return None;
+    }
+    let (a, b, c) = (rest[at], rest[at + 1], rest[at + 2]);
+    if !a.is_ascii_digit() || !b.is_ascii_digit() || !c.is_ascii_digit() {
+        return None;
+    }
+    Some((a - b'0') as u32 * 100 + (b - b'0') as u32 * 10 + (c - b'0') as u32)
+}
+
+// How many digits stand at the front in groups of three, and their nanoseconds, cut to nine digits.
+#[inline(always)]
+#[tactic(auto, using(crate::proofs::TimestampFractionLemmas::read_none, crate::proofs::TimestampFractionLemmas::read_three))]
+fn read_threes(rest: &[u8]) -> (usize, u32)
+    ensures { IsRead rest.now result.0 result.1 }
+{
+    let mut at = 0;
+    let mut nanos = 0;
+    while let Some(three) = three_at(rest, at) {
+        nanos += weight_of(at + 2) * three;
+        at += 3;
+    }
+    (at, nanos)
+}
+
 // The nanoseconds of the digits at the front, cut to nine of them, and what stands after them.
 #[inline(always)]
-#[tactic(auto, using(crate::proofs::TimestampFractionLemmas::read_none, crate::proofs::TimestampFractionLemmas::read_more, crate::proofs::TimestampFractionLemmas::read_stop, crate::proofs::TimestampFractionLemmas::read_all))]
+#[tactic(auto, using(crate::proofs::TimestampFractionLemmas::read_more, crate::proofs::TimestampFractionLemmas::read_stop, crate::proofs::TimestampFractionLemmas::read_all))]
 fn read_fraction(rest: &[u8]) -> (u32, &[u8])
     ensures value { result.0 ≡ nanos_of (TimestampReading.front_digits rest.now) }
     ensures bound { result.0 < nanos_per_second }
     ensures rest { result.1.now ≡ TimestampChecks.past_digits rest.now }
 {
-    let mut nanos = 0;
-    for (i, c) in rest.iter().enumerate() {
-        if !c.is_ascii_digit() {
-            return (nanos, &rest[i..]);
+    let (mut at, mut nanos) = read_threes(rest);
+    while at < rest.len() {
+        if !rest[at].is_ascii_digit() {
+            return (nanos, &rest[at..]);
         }
-        nanos += weight_of(i) * (*c - b'0') as u32;
+        nanos += weight_of(at) * (rest[at] - b'0') as u32;
+        at += 1;
     }
     (nanos, b"")
 }
@@ -313,7 +346,7 @@ fn read_fraction(rest: &[u8]) -> (u32, &[u8])
 #[inline(always)]
 #[tactic(auto, using(crate::proofs::TimestampFractionLemmas::no_weight))]
 fn weight_of(at: usize) -> u32
-    ensures { result ≡ 100_000_000 / 10 ^ at }
+    ensures { result ≡ weight at }
 {
     if at < 9 { WEIGHTS[at] } else { 0 }
 }
