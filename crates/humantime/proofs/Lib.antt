@@ -54,6 +54,8 @@ pub mod TimestampDigitLemmas
 pub mod TimestampEndLemmas
 pub mod TimestampExitLemmas
 pub mod TimestampFractionLemmas
+pub mod TimestampLaneLemmas
+pub mod TimestampNumberLemmas
 pub mod TimestampOrderLemmas
 pub mod TimestampPairLemmas
 pub mod TimestampPassLemmas

@@ -7,7 +7,8 @@ use Rattle.humantime.specs.DigitText.{nine_digits, AreDigits}
 use Rattle.humantime.specs.Timestamps.{fraction_digits, nanos_of}
 use Rattle.humantime.specs.TimestampPrinted.{HasPlaces}
 use Rattle.humantime.specs.TimestampPrinting.{fraction_of}
-use Rattle.humantime.proofs.TimestampFractionLemmas.{add_digits, nanos_added}
+use Rattle.humantime.specs.TimestampFractions.{add_digits}
+use Rattle.humantime.proofs.TimestampFractionLemmas.{nanos_added}
 
 -- the last j digits of n, the highest first
 abbrev last_digits : ℕ → ℕ → List ℕ

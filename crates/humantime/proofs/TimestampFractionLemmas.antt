@@ -1,5 +1,5 @@
 -- The digits of a fraction, read one by one, are its nanoseconds.
-use Rattle.std.proofs.Common.{◌≡◌, ℕ, zero, suc, ◌+◌, ◌-◌, ◌*◌, ◌/◌, ◌^◌, ◌<◌, ◌≤◌, List, [], ◌∷◌, ◌++◌, length, get_or, take, drop, refl, sym, ◌∙◌, arith, add-one, ap, subst}
+use Rattle.std.proofs.Common.{◌≡◌, ℕ, zero, suc, ◌+◌, ◌-◌, ◌*◌, ◌/◌, ◌%◌, ◌^◌, ◌<◌, ◌≤◌, List, [], ◌∷◌, ◌++◌, length, get_or, take, drop, refl, sym, ◌∙◌, arith, add-one, ap, subst}
 use Rattle.std.specs.Prelude.{Bool, true, false, if◌then◌else◌}
 use Rattle.std.specs.Char.{is_ascii_digit, digit_value}
 use Rattle.std.specs.Int.{IsInRange}
@@ -13,11 +13,7 @@ use Rattle.humantime.specs.DigitText.{AreDigits}
 use Rattle.humantime.specs.Timestamps.{nanos_of}
 use Rattle.humantime.specs.TimestampChecks.{past_digits}
 use Rattle.humantime.specs.TimestampReading.{front_digits}
-
--- n and these digits, of which the first counts u, and each further one a tenth of the one before
-abbrev pub add_digits : ℕ → ℕ → List ℕ → ℕ
-add_digits n u [] = n
-add_digits n u (c ∷ cs) = add_digits (n + u * (c - 48)) (u / 10) cs
+use Rattle.humantime.specs.TimestampFractions.{add_digits, weight, AreThreeAt, IsRead}
 
 add_nothing : (n : ℕ) (ds : List ℕ) → add_digits n 0 ds ≡ n
 add_nothing n [] = refl
@@ -84,17 +80,6 @@ pub nanos_none : nanos_of [] ≡ 0
 unfolding nanos_of
 nanos_none = refl
 
--- the first i digits are read: what they add up to, and where the digits end
-pub record IsRead (text : List ℕ) (i nanos unit : ℕ) : Type 0 where
-  pub value : add_digits nanos unit (front_digits (drop i text)) ≡ nanos_of (front_digits text)
-  pub rest : past_digits (drop i text) ≡ past_digits text
-  pub low : nanos < 1_000_000_000
-  pub room : nanos + 10 * unit ≤ 1_000_000_000
-
--- what a 1 at a place counts
-abbrev pub weight : ℕ → ℕ
-weight i = 100_000_000 / 10 ^ i
-
 weight_next : (i : ℕ) → weight i / 10 ≡ weight (suc i)
 weight_next i = div-div-eq-div-mul 100_000_000 (10 ^ i) 10 ∙ ap (λ (p : ℕ). 100_000_000 / p) (sym (pow-suc 10 i))
 
@@ -104,40 +89,77 @@ no_weight i h =
     let grows : 10 ^ 9 ≤ 10 ^ i = pow-le-pow_right (omega arith) h in
     sym (div-eq_of_lt (omega (arith, grows)))
 
-pub read_none : (text : List ℕ) → IsRead text 0 0 (weight 0)
+pub read_none : (text : List ℕ) → IsRead text 0 0
 read_none text = record {
+  within = omega arith;
   value = sym (nanos_added _ (front_are_digits text));
   rest = refl;
   low = omega arith;
   room = omega arith;
 }
 
-pub read_more : (text : List ℕ) (i nanos : ℕ) → IsRead text i nanos (weight i) → i < length text → is_ascii_digit (get_or text i 0) ≡ true
-    → IsRead text (i + 1) (nanos + weight i * (get_or text i 0 - 48)) (weight (i + 1))
+pub read_more : (text : List ℕ) (i nanos : ℕ) → IsRead text i nanos → i < length text → is_ascii_digit (get_or text i 0) ≡ true
+    → IsRead text (i + 1) (nanos + weight i * (get_or text i 0 - 48))
 read_more text i nanos so_far within digit =
     let here : drop i text ≡ get_or text i 0 ∷ drop (suc i) text = drop-cons text i 0 within in
     let value = rw (here, digit) at so_far.value in
     let rest = rw (here, digit) at so_far.rest in
     let range : IsInRange 48 57 (get_or text i 0) = is_digit_told _ digit in
     let most : weight i * (get_or text i 0 - 48) ≤ weight i * 9 = mul-le-mul_left (weight i) (omega arith) in
-    rw (add-one i) (subst (IsRead text (suc i) (nanos + weight i * (get_or text i 0 - 48))) (weight_next i) (record {
-      value = value;
+    let n = nanos + weight i * (get_or text i 0 - 48) in
+    let tenth = weight_next i in
+    rw (add-one i) (record {
+      within = omega arith;
+      value = subst (λ (u : ℕ). add_digits n u (front_digits (drop (suc i) text)) ≡ nanos_of (front_digits text)) tenth value;
       rest = rest;
       low = omega (arith, so_far.low, so_far.room);
-      room = omega (arith, so_far.low, so_far.room);
-    }))
+      room = omega (arith, so_far.low, so_far.room, tenth);
+    })
 
-pub read_stop : (text : List ℕ) (i nanos unit : ℕ) → IsRead text i nanos unit → i < length text → is_ascii_digit (get_or text i 0) ≡ false
+-- a group of three digits counts by its last place
+record IsGroupAt (i : ℕ) : Type 0 where
+  first : weight i ≡ 100 * weight (i + 2)
+  second : weight (i + 1) ≡ 10 * weight (i + 2)
+
+group_of : (q i : ℕ) → i ≡ 3 * q → IsGroupAt i
+group_of zero i h = rw h (record { first = refl; second = refl })
+group_of (suc zero) i h = rw h (record { first = refl; second = refl })
+group_of (suc (suc zero)) i h = rw h (record { first = refl; second = refl })
+group_of (suc (suc (suc q))) i h =
+    let none = no_weight i (omega arith) in
+    let next = no_weight (i + 1) (omega arith) in
+    let last = no_weight (i + 2) (omega arith) in
+    record { first = omega arith; second = omega arith }
+
+spread : (u a b c : ℕ) → 100 * u * a + 10 * u * b + u * c ≡ u * (a * 100 + b * 10 + c)
+spread u a b c = grind arith
+
+pub read_three : (text : List ℕ) (i nanos n : ℕ) → i % 3 ≡ 0 → IsRead text i nanos → AreThreeAt text i n → IsRead text (i + 3) (nanos + weight (i + 2) * n)
+read_three text i nanos n group so_far three =
+    let a = get_or text i 0 - 48 in
+    let b = get_or text (i + 1) 0 - 48 in
+    let c = get_or text (i + 2) 0 - 48 in
+    let one = read_more text i nanos so_far (omega (arith, three.within)) three.first in
+    let two = read_more text (i + 1) (nanos + weight i * a) one (omega (arith, three.within)) three.second in
+    let second : i + 1 + 1 ≡ i + 2 = omega arith in
+    let third = read_more text (i + 2) (nanos + weight i * a + weight (i + 1) * b) (rw second at two) three.within three.third in
+    let place : i + 2 + 1 ≡ i + 3 = omega arith in
+    let weights = group_of (i / 3) i (omega arith) in
+    let sum : nanos + weight i * a + weight (i + 1) * b + weight (i + 2) * c ≡ nanos + weight (i + 2) * n =
+      rw (weights.first, weights.second, three.value) (omega (arith, spread (weight (i + 2)) a b c)) in
+    subst (IsRead text (i + 3)) sum (rw place at third)
+
+pub read_stop : (text : List ℕ) (i nanos : ℕ) → IsRead text i nanos → i < length text → is_ascii_digit (get_or text i 0) ≡ false
     → (nanos ≡ nanos_of (front_digits text)) × (drop i text ≡ past_digits text)
-read_stop text i nanos unit so_far within other =
+read_stop text i nanos so_far within other =
     let here : drop i text ≡ get_or text i 0 ∷ drop (suc i) text = drop-cons text i 0 within in
     let value : nanos ≡ nanos_of (front_digits text) = rw (here, other) at so_far.value in
     let rest : get_or text i 0 ∷ drop (suc i) text ≡ past_digits text = rw (here, other) at so_far.rest in
     (value, here ∙ rest)
 
-pub read_all : (text : List ℕ) (i nanos unit : ℕ) → IsRead text i nanos unit → length text ≤ i
+pub read_all : (text : List ℕ) (i nanos : ℕ) → IsRead text i nanos → length text ≤ i
     → (nanos ≡ nanos_of (front_digits text)) × ([] ≡ past_digits text)
-read_all text i nanos unit so_far end =
+read_all text i nanos so_far end =
     let none : drop i text ≡ [] = drop_all i text end in
     (rw none at so_far.value, rw none at so_far.rest)
 

@@ -34,6 +34,7 @@ pub mod Spans
 pub mod TextLaws
 pub mod Times
 pub mod TimestampChecks
+pub mod TimestampFractions
 pub mod TimestampLaws
 pub mod TimestampMessages
 pub mod TimestampPrinted

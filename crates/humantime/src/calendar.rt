@@ -46,6 +46,7 @@ pub struct Date {
 }
 
 // The days of the years from 1970 up to this one.
+#[inline(always)]
 #[tactic(auto, using(crate::proofs::CalendarLemmas::days_of_years_closed))]
 fn days_before_year(year: u32) -> u32
     requires low { 1970 ≤ year }
@@ -56,6 +57,7 @@ fn days_before_year(year: u32) -> u32
 }
 
 // 1 in a leap year, else 0.
+#[inline(always)]
 fn leap_days(year: u32) -> u32
     ensures { result + 365 ≡ days_in_year year }
 {
@@ -67,6 +69,7 @@ fn leap_days(year: u32) -> u32
 }
 
 // The days of a month.
+#[inline(always)]
 fn month_length(year: u32, month: u32) -> u32
     requires low { 1 ≤ month }
     requires high { month ≤ 12 }
@@ -81,6 +84,7 @@ fn month_length(year: u32, month: u32) -> u32
 }
 
 // The days of the year's months before this one.
+#[inline(always)]
 #[tactic(auto, using(crate::proofs::CalendarLemmas::days_of_months_closed))]
 fn days_before_month(year: u32, month: u32) -> u32
     requires low { 1 ≤ month }
@@ -103,6 +107,7 @@ fn days_before_month(year: u32, month: u32) -> u32
 /// ```text
 /// day_number(Date { year: 2000, month: 2, day: 29 }, &mut turns) == Some(11016)
 /// ```
+#[inline(always)]
 #[tactic(auto, using(crate::proofs::CalendarLemmas::days_of_years_bound, crate::proofs::CalendarLemmas::days_of_months_bound))]
 pub fn day_number(date: Date, turns: &mut Turns) -> Option<u32>
     ensures valid { IsSome result ↔ IsDate date }

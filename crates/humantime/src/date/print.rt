@@ -1,8 +1,8 @@
 //! The printers of timestamps.
 
-ghost use Rattle.std.specs.Prelude.{◌≡◌, ◌+◌, ◌<◌, ◌≤◌, ◌↔◌, IsSome, IfSome, IfNone, IsAscii, ◌++◌, take, drop, slice_set, codes};
+ghost use Rattle.std.specs.Prelude.{◌≡◌, ◌+◌, ◌/◌, ◌%◌, ◌<◌, ◌≤◌, ◌↔◌, IsSome, IfSome, IfNone, IsAscii, ◌++◌, take, drop, slice_set, codes};
 ghost use Rattle.std.specs.Str.{byte};
-ghost use Rattle.humantime.specs.DigitText.{two_digits};
+ghost use Rattle.humantime.specs.DigitText.{digit, two_digits};
 ghost use Rattle.humantime.specs.Timestamps.{time_text, written};
 ghost use Rattle.humantime.specs.TimestampPrinted.{IsPrintable};
 ghost use Rattle.humantime.specs.TimestampPrinting.{places, places_of, moment_kept, places_kept, IsTextOf, printed_text, shortest_text, fields_shown, IsDateTimeOf, FitsPlaces};
@@ -166,6 +166,7 @@ impl Rfc3339Timestamp {
     /// ```text
     /// format_rfc3339(UNIX_EPOCH).text(&mut buf) == Some("1970-01-01T00:00:00Z")
     /// ```
+    #[inline(always)]
     pub fn text<'b>(&self, buf: &'b mut [u8; 30]) -> Option<&'b str>
         ensures within { IsSome result ↔ IsPrintable (moment_kept self.now) }
         ensures text { IfSome result (λ t. IsTextOf self.now t.now) }
@@ -175,6 +176,7 @@ impl Rfc3339Timestamp {
     }
 
     // Writes the text to the front of the buffer. `None`, and the buffer as it was, outside 1970 to 9999.
+    #[inline(always)]
     #[tactic(auto, unfolding(crate::specs::TimestampPrinting::moment_kept))]
     pub(crate) fn write(&self, buf: &mut [u8; 30]) -> Option<usize>
         ensures within { IsSome result ↔ IsPrintable (moment_kept self.now) }
@@ -211,6 +213,7 @@ impl fmt::Display for Rfc3339Timestamp {
 }
 
 // The date and the time of day of a moment of 1970 to 9999.
+#[inline(always)]
 fn date_time_of(moment: SystemTime) -> Option<DateTime>
     ensures within { IsSome result ↔ IsPrintable moment }
     ensures value { IfSome result (λ x. IsDateTimeOf x moment) }
@@ -231,6 +234,7 @@ fn date_time_of(moment: SystemTime) -> Option<DateTime>
 }
 
 // Writes date and time to the front of the buffer, and answers the text's length.
+#[inline(always)]
 fn write_date_time(x: DateTime, precision: Precision, buf: &mut [u8; 30]) -> usize
     requires { FitsPlaces x }
     ensures fits { result ≤ 30 }
@@ -242,15 +246,16 @@ fn write_date_time(x: DateTime, precision: Precision, buf: &mut [u8; 30]) -> usi
     }
     put_two(buf, 20, x.nanos / 10_000_000);
     put_two(buf, 22, x.nanos / 100_000 % 100);
+    if precision == Precision::Millis {
+        return end_at(buf, 23);
+    }
     put_two(buf, 24, x.nanos / 1_000 % 100);
+    if precision == Precision::Micros {
+        return end_at(buf, 26);
+    }
     put_two(buf, 26, x.nanos / 10 % 100);
     buf[28] = b'0' + (x.nanos % 10) as u8;
-    match precision {
-        Precision::Millis => end_at(buf, 23),
-        Precision::Micros => end_at(buf, 26),
-        // All nine digits.
-        _ => end_at(buf, 29),
-    }
+    end_at(buf, 29)
 }
 
 // Writes `YYYY-MM-DDTHH:MM:SS` and a point to the front of the buffer. The signs come with the pattern, and
@@ -270,15 +275,29 @@ fn write_time(x: DateTime, buf: &mut [u8; 30])
     put_two(buf, 17, x.second);
 }
 
-// Writes a number below 100 as two digits at this place.
+// The two digits of a number below 100.
 #[inline(always)]
+#[tactic(auto, using(crate::proofs::TimestampPairLemmas::tens_at, crate::proofs::TimestampPairLemmas::ones_at))]
+fn digits_of(n: u32) -> (u8, u8)
+    requires { n < 100 }
+    ensures tens { result.0 ≡ digit (n / 10) }
+    ensures ones { result.1 ≡ digit (n % 10) }
+{
+    let pair = 2 * n as usize;
+    (PAIRS[pair], PAIRS[pair + 1])
+}
+
+// Writes a number below 100 as two digits at this place. Two stores are one move, where a copied slice is a call.
+#[inline(always)]
+#[tactic(auto, using(crate::proofs::TimestampPairLemmas::two_set))]
 fn put_two(buf: &mut [u8; 30], at: usize, n: u32)
     requires place { at + 2 ≤ 30 }
     requires small { n < 100 }
     ensures { buf.new ≡ take at buf.old ++ two_digits n ++ drop (at + 2) buf.old }
 {
-    let pair = 2 * n as usize;
-    buf[at..at + 2].copy_from_slice(&PAIRS[pair..pair + 2]);
+    let (tens, ones) = digits_of(n);
+    buf[at] = tens;
+    buf[at + 1] = ones;
 }
 
 // Writes a `Z` at this place, and answers the length of the text that it ends.
@@ -293,6 +312,7 @@ fn end_at(buf: &mut [u8; 30], at: usize) -> usize
 }
 
 // ASCII text at the front of a buffer.
+#[inline(always)]
 fn front(buf: &[u8; 30], len: usize) -> &str
     requires fits { len ≤ 30 }
     requires ascii { IsAscii (take len buf.now) }

@@ -172,6 +172,7 @@ impl SystemTime {
     }
 
     // The moment so many seconds and nanoseconds after 1970 began.
+    #[inline(always)]
     pub(crate) fn since_epoch(secs: u64, nanos: u32) -> SystemTime
         requires secs { secs < 2 ^ 63 }
         requires nanos { nanos < nanos_per_second }

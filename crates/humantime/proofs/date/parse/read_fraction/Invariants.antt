@@ -1,5 +1,9 @@
-use Rattle.humantime.proofs.TimestampFractionLemmas.{IsRead, weight}
+use Rattle.std.proofs.Common.{◌-◌, length}
+use Rattle.humantime.specs.TimestampFractions.{IsRead}
 use Rattle.humantime.proofs.date.parse.read_fraction.Given as goal
 
-abbrev pub invariant-loop-i : goal.invariant-loop-i
-invariant-loop-i l = IsRead l.rest l.i l.nanos (weight l.i)
+abbrev pub invariant-loop-at : goal.invariant-loop-at
+invariant-loop-at l = IsRead l.rest l.at l.nanos
+
+abbrev pub decreases-loop-at : goal.decreases-loop-at
+decreases-loop-at l = length l.rest - l.at
