@@ -1,8 +1,8 @@
 -- What some texts come to, by computation, and what that says of them.
-use Rattle.std.proofs.Common.{◌≡◌, ℕ, List, [], ◌∷◌, ◌++◌, Result, Ok, Err, refl}
+use Rattle.std.proofs.Common.{◌≡◌, [], ◌∷◌, ◌++◌, Ok, Err, refl}
 use Rattle.std.specs.Prelude.{codes}
 use Rattle.humantime.specs.Spans.{Accepted}
-use Rattle.humantime.specs.Faults.{Fault, HasFault, InvalidCharacter, UnknownUnit, NumberOverflow}
+use Rattle.humantime.specs.Faults.{HasFault, InvalidCharacter, UnknownUnit, NumberOverflow}
 use Rattle.humantime.specs.DurationAnswers.{duration_answer, canonical_answer}
 use Rattle.humantime.specs.Printing.{duration_text}
 use Rattle.humantime.proofs.OnLiterals.{humantime_on_literals}
