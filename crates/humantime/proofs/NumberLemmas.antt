@@ -1,14 +1,13 @@
 -- Reading a number digit by digit.
-use Rattle.std.proofs.Common.{◌≡◌, ◌≤◌, ◌<◌, ◌+◌, ◌-◌, ◌*◌, ◌^◌, ◌≢◌, ℕ, List, [], ◌∷◌, length, ap, sym, ◌∙◌, arith, Err, add-one}
+use Rattle.std.proofs.Common.{◌≡◌, ◌≤◌, ◌<◌, ◌+◌, ◌-◌, ◌*◌, ℕ, List, [], ◌∷◌, ap, sym, ◌∙◌, arith, Err}
 use Rattle.std.proofs.lemmas.Bool.{lt-ltb}
-use Rattle.std.proofs.Math.Nat.{pow-suc, pow-le-pow_right}
 use Rattle.std.specs.Char.{digit_value}
 use Rattle.std.specs.Str.Parse.{digits_value_after}
 use Rattle.humantime.specs.declared.duration.class.Class.TheVariants.{White, Digit, Letter}
 use Rattle.humantime.specs.Characters.{class_of, is_ws, is_letter, is_numeric, leading, past, digits, decimal_value, u64_max}
 use Rattle.humantime.specs.Faults.{NumberOverflow, number_of, after_number}
 use Rattle.humantime.specs.Scanning.{number_at}
-use Rattle.humantime.proofs.DigitLemmas.{digit_greatest, digit_counts}
+use Rattle.humantime.proofs.DigitLemmas.{digit_counts}
 
 -- v is read so far, and the number that begins the rest, read on from v, is that of the text.
 pub record IsAt (text : List ℕ) (v : ℕ) (rest : List ℕ) : Type 0 where

@@ -34,6 +34,31 @@ bare_point : duration_answer (codes "1.s") ≡ Err (InvalidCharacter 1)
 unfolding humantime_on_literals
 bare_point = refl
 
+-- zeros at the end of a fraction do not count
+zeros_at_the_end : duration_answer (codes "1.50000000000s") ≡ Ok 1500000000
+unfolding humantime_on_literals
+zeros_at_the_end = refl
+
+zeros_of_nanoseconds : duration_answer (codes "1.0ns") ≡ Ok 1
+unfolding humantime_on_literals
+zeros_of_nanoseconds = refl
+
+part_of_a_nanosecond : duration_answer (codes "1.5ns") ≡ Err NumberOverflow
+unfolding humantime_on_literals
+part_of_a_nanosecond = refl
+
+twenty_zeros : duration_answer (codes "0.00000000000000000000s") ≡ Ok 0
+unfolding humantime_on_literals
+twenty_zeros = refl
+
+twentieth_digit : duration_answer (codes "0.00000000000000000001s") ≡ Err NumberOverflow
+unfolding humantime_on_literals
+twentieth_digit = refl
+
+no_unit_behind_zeros : duration_answer (codes "1.00000000000000000000") ≡ Err (UnknownUnit 22 22 [] 1)
+unfolding humantime_on_literals
+no_unit_behind_zeros = refl
+
 no_unit : duration_answer (codes "1.5") ≡ Err (UnknownUnit 3 3 [] 1)
 unfolding humantime_on_literals
 no_unit = refl

@@ -79,9 +79,10 @@ fn read_span(text: &[char], start: usize, total: u128) -> Result<(usize, u128), 
     let word = end_of(text, behind, &[Kind::Digit, Kind::Space]);
     let end = end_of(text, word, &[Kind::Letter]);
     let next = kind_at(text, end);
-    // A number that is too large, or a fraction with a 20th digit.
+    // A number that is too large, or a fraction with a 20th digit before the zeros at its end.
     let (value, _) = digits(text, start, point).ok_or(Fault::NumberOverflow)?;
-    let (fraction, places) = digits(text, point, word).ok_or(Fault::NumberOverflow)?;
+    let last = without_zeros(text, point, word);
+    let (fraction, places) = digits(text, point, last).ok_or(Fault::NumberOverflow)?;
     if places > 19 {
         return Err(Fault::NumberOverflow);
     }
@@ -90,7 +91,7 @@ fn read_span(text: &[char], start: usize, total: u128) -> Result<(usize, u128), 
         return Err(Fault::InvalidCharacter(offset(text, end)));
     }
     // A point without digits, and then a letter or the end.
-    if has_point && places == 0 {
+    if has_point && !has_digit(text, point, word) {
         return Err(Fault::InvalidCharacter(offset(text, point)));
     }
     // A word, and then a character that has no place there.
@@ -108,7 +109,7 @@ fn read_span(text: &[char], start: usize, total: u128) -> Result<(usize, u128), 
     Ok((end_of(text, end, &[Kind::Space]), sum))
 }
 
-/// The total with a span, if that keeps the limits. Without a fraction there are no places.
+/// The total with a span, if that keeps the limits. Without a fraction, or with zeros alone, there are no places.
 fn add_span(total: u128, unit: &Unit, value: u64, fraction: u64, places: u32) -> Option<u128> {
     let (_, base, count, part) = *unit;
     let sum = add(total, base, value.checked_mul(count)?)?;
@@ -168,6 +169,22 @@ fn digits(text: &[char], from: usize, to: usize) -> Option<(u64, u32)> {
         }
     }
     Some((value, count))
+}
+
+/// Whether a digit stands between two places.
+fn has_digit(text: &[char], from: usize, to: usize) -> bool {
+    end_of(text, from.saturating_add(1), &[Kind::Space]) < to
+}
+
+/// Where the characters between two places end without the zeros, and the white space, at their end.
+fn without_zeros(text: &[char], from: usize, to: usize) -> usize {
+    let mut end = from;
+    for at in from..to {
+        if kind_at(text, at) == Kind::Digit && text.get(at) != Some(&'0') {
+            end = at.saturating_add(1);
+        }
+    }
+    end
 }
 
 /// Where the characters of these kinds end that stand at a place.

@@ -1,6 +1,6 @@
 //! What a span adds.
 
-ghost use Rattle.std.specs.Prelude.{◌≤◌, ◌<◌, ◌^◌};
+ghost use Rattle.std.specs.Prelude.{◌≤◌, ◌<◌};
 
 use crate::unit::Unit;
 

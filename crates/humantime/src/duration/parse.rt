@@ -17,8 +17,8 @@ use crate::value::StdDuration;
 /// The spans of a text from left to right, and then the fault at which they stop, if there is one.
 ///
 /// Its errors are those of [`parse_duration`], but the limits on values and sums are not asked: a number
-/// above `u64::MAX` and a fraction of 20 digits or more are too large here, and a value that is too large
-/// or too fine in its unit is not. The text `0` has no unit here. After an error, and after the end, it
+/// above `u64::MAX` and a fraction of 20 digits or more before the zeros at its end are too large here, and a
+/// value that is too large or too fine in its unit is not. The text `0` has no unit here. After an error, and after the end, it
 /// gives `None` for good.
 ///
 /// ```text
@@ -63,8 +63,8 @@ fn outcome_of<'a>(text: &'a str) -> Result<StdDuration, DurationError<'a>>
 /// The duration that a text spells, or else its first fault.
 ///
 /// A text is one span or more: a number, perhaps a fraction, and a unit, as in `2h 37min` or `1.5d`. White
-/// space may stand between digits and before and after each part. The spans are added up; `0` alone is
-/// zero. The error says what stands where the text goes wrong first, with offsets in bytes, at which the
+/// space may stand between digits and before and after each part. Zeros at the end of a fraction change nothing.
+/// The spans are added up; `0` alone is zero. The error says what stands where the text goes wrong first, with offsets in bytes, at which the
 /// text may be cut; the unit that it names is lent from the text.
 ///
 /// ```text

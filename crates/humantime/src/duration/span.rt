@@ -44,8 +44,8 @@ impl<'a> Span<'a> {
         trim_end(self.integer)
     }
 
-    /// The fraction, from its first to its last digit, with the white space between them; `None` where
-    /// there is no point.
+    /// The fraction, from its first to its last digit, with the white space between them and the zeros at its end;
+    /// `None` where there is no point.
     ///
     /// ```text
     /// Some("5 0") of "1. 5 0 h"

@@ -1,8 +1,9 @@
 ghost use Rattle.std.specs.Prelude.{◌≤◌, Some, take};
 
 use super::run;
-use std::io;
 use std::io::{ErrorKind, Write};
+use std::test::Fail;
+use std::{io, str};
 
 const ROOM: usize = 256;
 
@@ -103,6 +104,8 @@ fn accepted_texts_are_printed(rt: HostRuntime) {
             "100000000000years 11months 29days 23h 59m 59s 999ms 999µs 999ns\n",
         ),
         ("duration", "12us", "12\u{b5}s\n"),
+        ("duration", "1.50000000000s", "1s 500ms\n"),
+        ("duration", "1.0ns", "1ns\n"),
         ("duration", "12\u{b5}s", "12\u{b5}s\n"),
         ("duration", "12\u{3bc}s", "12\u{b5}s\n"),
         ("strict", "2016-12-31T23:59:60Z", "2016-12-31T23:59:59Z\n"),
@@ -129,6 +132,39 @@ fn accepted_texts_are_printed(rt: HostRuntime) {
         assert_eq!(rt; out.taken(), printed.as_bytes(), "{text}");
         assert_eq!(rt; err.requests, 0, "{text}");
     }
+}
+
+/// The status of a command on one text.
+fn status_of<'a>(command: &'a str, text: &'a str, out: &mut Limited, err: &mut Limited) -> u8 {
+    run(&[command, text], out, err)
+}
+
+#[test]
+fn zeros_at_the_end_of_a_fraction_do_not_count(rt: HostRuntime) -> Result<(), Fail> {
+    let mut bytes = [b'0'; 10_003];
+    bytes[0] = b'1';
+    bytes[1] = b'.';
+    bytes[10_002] = b's';
+    let (mut out, mut err) = (Limited::open(), Limited::open());
+    let text = str::from_utf8(&bytes)?;
+    assert_eq!(rt; status_of("duration", text, &mut out, &mut err), 0);
+    assert_eq!(rt; out.taken(), b"1s\n".as_slice());
+    assert_eq!(rt; err.requests, 0);
+    Ok(())
+}
+
+#[test]
+fn a_digit_behind_zeros_counts_with_them(rt: HostRuntime) -> Result<(), Fail> {
+    let mut bytes = [b'0'; 10_003];
+    bytes[1] = b'.';
+    bytes[10_001] = b'1';
+    bytes[10_002] = b's';
+    let (mut out, mut err) = (Limited::open(), Limited::open());
+    let text = str::from_utf8(&bytes)?;
+    assert_eq!(rt; status_of("duration", text, &mut out, &mut err), 1);
+    assert_eq!(rt; out.requests, 0);
+    assert_eq!(rt; err.taken().len(), 110);
+    Ok(())
 }
 
 #[test]

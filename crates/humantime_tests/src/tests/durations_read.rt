@@ -197,7 +197,6 @@ fn what_is_too_large_or_too_fine_overflows(rt: HostRuntime) {
         "17.5nsec",
         "5.1nanos",
         "0.0005ns",
-        "1.0ns",
         "3.0001us",
         "0.0001us",
         "0.123456us",
@@ -206,8 +205,6 @@ fn what_is_too_large_or_too_fine_overflows(rt: HostRuntime) {
         "0.0000000002s",
         "0.000123456789s",
         "0.0000000000000000001s",
-        "1.50000000000s",
-        "0.00000000000000000000s",
         "0.307445735m",
         "0.0001h",
         "0.00000005d",
@@ -531,6 +528,99 @@ fn a_fraction_may_have_each_number_of_digits(rt: HostRuntime) {
         ("0.00000000100000000s", 0, 1),
         ("0.000000001000000000s", 0, 1),
         ("0.0000000010000000000s", 0, 1),
+        ("0.00000000100000000000s", 0, 1),
+        ("0.000000001000000000000s", 0, 1),
     ];
     assert_values(&rt, &rows);
+}
+
+#[test]
+fn zeros_at_the_end_of_a_fraction_do_not_count(rt: HostRuntime) {
+    let values = [
+        ("1.50000000000s", 1, 500_000_000),
+        ("1.0ns", 0, 1),
+        ("7.000nanos 2.0nsec", 0, 9),
+        ("0.00000000000000000000s", 0, 0),
+        ("0.3074457340m", 18, 446_744_040),
+        ("0.1230000000000000000000000000000ms", 0, 123_000),
+        ("0.5000000000000000000000000000000h", 1800, 0),
+        ("1.0000000000000000000000000000000y", 31_557_600, 0),
+    ];
+    assert_values(&rt, &values);
+    let spaced = [
+        ("1.5 0 0 0 0 0 0 0 0 0 0 s", 1, 500_000_000),
+        ("1. 5\u{3000}0 0 0000000000000000000 0s", 1, 500_000_000),
+        ("1. 0 \u{85} 0ns", 0, 1),
+        ("0. 0 0 0 0 0 0 0 0 0 0 0 0 0 0 0 0 0 0 0 0 0 s", 0, 0),
+    ];
+    assert_values(&rt, &spaced);
+    let within = [
+        ("1.0500s", 1, 50_000_000),
+        ("1.1010s", 1, 101_000_000),
+        ("0.0000000010s", 0, 1),
+        ("1.1000000010000000000000s", 1, 100_000_001),
+    ];
+    assert_values(&rt, &within);
+}
+
+#[test]
+fn other_digits_of_a_fraction_count_with_the_zeros_before_them(rt: HostRuntime) {
+    let too_large_or_too_fine = [
+        ("1.5ns", DurationError::NumberOverflow),
+        ("1.50ns", DurationError::NumberOverflow),
+        ("1.05ns", DurationError::NumberOverflow),
+        ("0.00000000000000000001s", DurationError::NumberOverflow),
+        ("0.10000000000000000001s", DurationError::NumberOverflow),
+        ("0.100000000000000000010s", DurationError::NumberOverflow),
+        ("0.00000000000000000000 1~", DurationError::NumberOverflow),
+        ("0.3074457350m", DurationError::NumberOverflow),
+        ("0.0001h", DurationError::NumberOverflow),
+        ("0.00010h", DurationError::NumberOverflow),
+    ];
+    assert_errors(&rt, &too_large_or_too_fine);
+    let no_unit = DurationError::UnknownUnit {
+        start: 22,
+        end: 22,
+        unit: "",
+        value: 1,
+    };
+    let not_long = [
+        (
+            "1.00000000000000000000~",
+            DurationError::InvalidCharacter(22),
+        ),
+        ("1.00000000000000000000", no_unit),
+        (
+            "1.00000000000000000000.",
+            DurationError::InvalidCharacter(22),
+        ),
+        ("1.s", DurationError::InvalidCharacter(1)),
+        ("1. ", DurationError::InvalidCharacter(1)),
+        ("1.ns", DurationError::InvalidCharacter(1)),
+    ];
+    assert_errors(&rt, &not_long);
+}
+
+#[test]
+fn a_fraction_may_end_in_any_number_of_zeros(rt: HostRuntime) -> Result<(), Fail> {
+    for zero in ["0", "0 ", "\u{3000}0"] {
+        let mut zeros = String::new(rt.alloc());
+        for _ in 0..10_000 {
+            zeros.push_str(zero)?;
+        }
+        let zeros = zeros.as_str();
+        let none = format!(in rt.alloc(); "0.{zeros}s")?;
+        assert_values(&rt, &[(none.as_str(), 0, 0)]);
+        let nanosecond = format!(in rt.alloc(); "1.{zeros}ns")?;
+        assert_values(&rt, &[(nanosecond.as_str(), 0, 1)]);
+        let half = format!(in rt.alloc(); "1.5{zeros}h 30m")?;
+        assert_values(&rt, &[(half.as_str(), 7200, 0)]);
+        let with_digit = format!(in rt.alloc(); "0.{zeros}1s")?;
+        assert_errors(&rt, &[(with_digit.as_str(), DurationError::NumberOverflow)]);
+        let behind = format!(in rt.alloc(); "1.{zeros}~")?;
+        let place = zeros.len().saturating_add(2);
+        let out_of_place = DurationError::InvalidCharacter(place);
+        assert_errors(&rt, &[(behind.as_str(), out_of_place)]);
+    }
+    Ok(())
 }

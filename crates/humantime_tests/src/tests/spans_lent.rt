@@ -55,6 +55,13 @@ fn spans_lend_their_slices(rt: HostRuntime) {
         value: 1,
     };
     assert_items(&rt, "100000000000000000us 1foo", &large, &[unknown]);
+    let zeros = [("1", Some("50000000000"), "s", 0, 14, 1)];
+    assert_items(&rt, "1.50000000000s", &zeros, &[]);
+    let spaced_zeros = [
+        ("1", Some("0 0 0"), "ns", 1, 12, 1),
+        ("2", Some("10 0"), "h", 13, 20, 2),
+    ];
+    assert_items(&rt, " 1. 0 0 0 ns 2.10 0h", &spaced_zeros, &[]);
     let end = [("2", None, "h", 0, 2, 2), ("37", None, "min", 3, 8, 37)];
     assert_items(&rt, "2h 37min", &end, &[]);
 }
