@@ -9,11 +9,11 @@ use Rattle.humantime.specs.Characters.{decimal_value, u64_max}
 use Rattle.humantime.specs.Units.{Scale, scale_of_word}
 use Rattle.humantime.specs.Spans.{Span, Addition, fraction_additions}
 use Rattle.humantime.specs.Reading.{add_all, add_span, fraction_fits}
-use Rattle.humantime.specs.Scales.{counted}
+use Rattle.humantime.specs.Scales.{Counted, counted}
 use Rattle.humantime.specs.Adding.{add_one, add_times, part_of, add_part}
 
 -- the sum with a fraction after an addition, if there is a fraction
-abbrev pub then_add : Option ℕ → ℕ → Option ℕ → Option (ℕ × ℕ) → Option ℕ
+abbrev pub then_add : Option ℕ → ℕ → Option ℕ → Option Counted → Option ℕ
 then_add None base factor fraction = None
 then_add (Some t) base factor None = Some t
 then_add (Some t) base factor (Some p) = add_part t base factor p.0 p.1
@@ -29,7 +29,7 @@ both_parts t x true base (Some f) None = grind (arith, common_steps)
 both_parts t x true base None (Some ds) = grind (arith, common_steps)
 both_parts t x true base (Some f) (Some ds) = grind (arith, common_steps)
 
-pub span_adds : (t : ℕ) (s : Span) (u : Scale) (number : ℕ) (fraction : Option (ℕ × ℕ))
+pub span_adds : (t : ℕ) (s : Span) (u : Scale) (number : ℕ) (fraction : Option Counted)
     → scale_of_word s.word ≡ Some u → number ≡ decimal_value s.number → fraction ≡ option_map counted s.fraction
     → then_add (add_times t u.base u.factor number) u.fraction_base u.fraction_factor fraction ≡ add_span t s
 unfolding add_span

@@ -1,6 +1,8 @@
 -- The laws of durations as theorems over plain variables, each under the name of its function in `laws`.
 use Rattle.std.proofs.Common.{◌≡◌, ◌↔◌, ℕ, ◌<◌, List, Result, Ok, Err, IsTrue, chars, refl, arith}
+use Rattle.humantime.specs.declared.duration.error.DurationError.{DurationError}
 use Rattle.humantime.specs.Times.{duration_end}
+use Rattle.humantime.specs.Errors.{told}
 use Rattle.humantime.specs.Spans.{Accepted}
 use Rattle.humantime.specs.Faults.{Fault, HasFault, OneOutcome, OneReading, OneListOfItems}
 use Rattle.humantime.specs.FaultEquality.{fault_eq}
@@ -59,6 +61,11 @@ spans_decide text = record {
 pub spans_tile : (text : List ℕ) → OneListOfSlices text
 spans_tile text = lent.one_list_of_slices text
 
+-- What is told as a value was answered as that value.
+pub told_value : (r : Result ℕ DurationError) (v : ℕ) → told r ≡ Ok v → r ≡ Ok v
+told_value (Ok d) v e = cc
+told_value (Err x) v e = cc
+
 -- Two errors are equal exactly where they name the same fault.
 pub errors_equal : (e f : Fault) → IsTrue (fault_eq e f) ↔ (e ≡ f)
 errors_equal e f = (fault_eq-sound e f, fault_eq-same e f)
@@ -70,13 +77,18 @@ pub record PrintsAndReads (d : ℕ) : Type 0 where
   pub one : HasOneText d
   pub printed : Canon d (duration_text d)
   pub reads : ReadsBack d
+  pub answer : duration_answer (chars (duration_text d)) ≡ Ok d
 
 pub printed_duration_reads : (d : ℕ) → d < duration_end → PrintsAndReads d
-printed_duration_reads d fits = record {
-  one = back.one_text d;
-  printed = counts.text_is_canon d;
-  reads = printed.canon_reads d (omega arith);
-}
+printed_duration_reads d fits =
+    let reads : ReadsBack d = printed.canon_reads d (omega arith) in
+    let canon = counts.text_is_canon d in
+    record {
+      one = back.one_text d;
+      printed = canon;
+      reads = reads;
+      answer = outcomes.outcome_accepted (chars (duration_text d)) d (reads (duration_text d) canon);
+    }
 
 -- The canonical texts of two durations are equal exactly where these are.
 pub printed_durations_differ : (a b : ℕ) → a < duration_end → b < duration_end → TextsTellApart a b

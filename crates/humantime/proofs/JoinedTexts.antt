@@ -132,7 +132,8 @@ joined_sum_or_overflow a b u v x y some_a some_b =
     ]
 
 -- white space may stand wherever a span ends
-pub reads-space : (before space after : List ℕ) (ss ts : List Span) → Reads before ss → Front after ts → Only is_ws space → Reads (before ++ (space ++ after)) (ss ++ ts)
+pub reads-space : (before space after : List ℕ) (ss ts : List Span) → Reads before ss → Front after ts → Only is_ws space
+    → Reads (before ++ (space ++ after)) (ss ++ ts)
 reads-space before space after ss ts h k only = reads-append before (space ++ after) ss ts h (record {
   space = space ++ k.space;
   body = k.body;

@@ -9,6 +9,7 @@ pub mod DecimalLengths
 pub mod DigitLemmas
 pub mod DurationTheorems
 pub mod Found
+pub mod FractionDigits
 pub mod GreatestCounts
 pub mod Iterating
 pub mod JoinedPieces
@@ -18,6 +19,7 @@ pub mod LentItems
 pub mod MarchLemmas
 pub mod Months
 pub mod NumberLemmas
+pub mod OlderTexts
 pub mod OnLiterals
 pub mod OneReading
 pub mod Outcomes
@@ -27,13 +29,16 @@ pub mod PrintedDigits
 pub mod PrintedLengths
 pub mod PrintedRows
 pub mod PrintedSpans
+pub mod PrintedTogether
 pub mod ReadBack
 pub mod ReadSteps
 pub mod Readings
 pub mod Rooms
 pub mod Runs
 pub mod Settled
+pub mod SignificantDigits
 pub mod SlicesTold
+pub mod SmallAdditions
 pub mod SpacelessTexts
 pub mod SpanExits
 pub mod SpanSlices

@@ -1,4 +1,4 @@
--- Reading a number digit by digit, and the digits of a fraction.
+-- Reading a number digit by digit.
 use Rattle.std.proofs.Common.{◌≡◌, ◌≤◌, ◌<◌, ◌+◌, ◌-◌, ◌*◌, ◌^◌, ◌≢◌, ℕ, List, [], ◌∷◌, length, ap, sym, ◌∙◌, arith, Err, add-one}
 use Rattle.std.proofs.lemmas.Bool.{lt-ltb}
 use Rattle.std.proofs.Math.Nat.{pow-suc, pow-le-pow_right}
@@ -60,37 +60,3 @@ past_letters c cs rest e d = rw (e, d)
 
 pub past_space : (c : ℕ) (cs rest : List ℕ) → rest ≡ c ∷ cs → class_of c ≡ White → past is_ws rest ≡ past is_ws cs
 past_space c cs rest e d = rw (e, d)
-
--- The first n digits are read, as v, and the other digits that begin the rest are to come.
-pub record IsAmong (text : List ℕ) (v n : ℕ) (rest : List ℕ) : Type 0 where
-  pub value : digits_value_after 10 v (digits (leading is_numeric rest)) ≡ decimal_value (number_of text)
-  pub count : n + length (digits (leading is_numeric rest)) ≡ length (number_of text)
-  pub rest_is : past is_numeric rest ≡ after_number text
-  pub small : n ≤ 19
-  pub fits : v < 10 ^ n
-
-pub among_space : (text rest cs : List ℕ) (v n c : ℕ) → IsAmong text v n rest → rest ≡ c ∷ cs → class_of c ≡ White → IsAmong text v n cs
-among_space text rest cs v n c h e d = record {
-  value = sym (ap (digits_value_after 10 v) (space_first c cs rest e d)) ∙ h.value;
-  count = sym (ap (λ (x : List ℕ). n + length x) (space_first c cs rest e d)) ∙ h.count;
-  rest_is = sym (past_white c cs rest e d) ∙ h.rest_is;
-  small = h.small;
-  fits = h.fits;
-}
-
-pub among_digit : (text rest cs : List ℕ) (v n c : ℕ) → IsAmong text v n rest → rest ≡ c ∷ cs → class_of c ≡ Digit → n ≢ 19 → IsAmong text (v * 10 + (c - 48)) (n + 1) cs
-among_digit text rest cs v n c h e d few =
-    let most = digit_greatest c d in
-    let fits : v < 10 ^ n = h.fits in
-    let power : 10 ^ (n + 1) ≡ 10 ^ n * 10 = rw add-one (pow-suc 10 n) in
-    let small : n ≤ 19 = h.small in
-    record {
-      value = rw (← digit_counts c d) (sym (ap (digits_value_after 10 v) (digit_first c cs rest e d)) ∙ h.value);
-      count = omega (arith, ap length (digit_first c cs rest e d), h.count);
-      rest_is = sym (past_digit c cs rest e d) ∙ h.rest_is;
-      small = omega arith;
-      fits = omega arith;
-    }
-
-pub pow_19 : (n : ℕ) → n ≤ 19 → (n ≢ 19 → 10 ^ n ≤ 1000000000000000000) × (10 ^ n ≤ 10000000000000000000)
-pow_19 n h = (λ ne. pow-le-pow_right {n = 10} (omega arith) {i = n} {j = 18} (omega arith), pow-le-pow_right {n = 10} (omega arith) {i = n} {j = 19} (omega arith))

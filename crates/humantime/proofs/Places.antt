@@ -7,7 +7,7 @@ use Rattle.humantime.specs.declared.duration.error.DurationError.TheVariants as 
 use Rattle.humantime.specs.Characters.{offset_of}
 use Rattle.humantime.specs.Errors.{fault_of, IsPlaceIn, IsPartOf, PointsInto}
 use Rattle.humantime.specs.Faults.{NumberOverflow, fraction_at, digits_in}
-use Rattle.humantime.specs.Scales.{counted}
+use Rattle.humantime.specs.Scales.{Counted, counted}
 use Rattle.humantime.specs.Scanning.{IsTail, bare, ends_span}
 use Rattle.humantime.specs.SpanParts.{IsSpanRead}
 use Rattle.humantime.proofs.Tails.{tail_boundary, part_between}
@@ -37,7 +37,7 @@ part_of_rests text behind part next start end u b n e s t =
     (p.0, p.2.0, p.1, p.2, p.3)
 
 -- a point without digits is there
-pub bare_some : (rest : List ℕ) (v : ℕ) (o : Option (ℕ × ℕ)) (after behind letters next : List ℕ) → IsSpanRead rest v o after behind letters next → bare o ≡ true → after ≢ []
+pub bare_some : (rest : List ℕ) (v : ℕ) (o : Option Counted) (after behind letters next : List ℕ) → IsSpanRead rest v o after behind letters next → bare o ≡ true → after ≢ []
 bare_some rest v o after behind letters next s b none =
     let no_point : o ≡ None = s.fraction_is ∙ ap (λ (x : List ℕ). option_map counted (digits_in (fraction_at x))) (sym s.after_is ∙ none) in
     false≢true (sym (ap bare no_point) ∙ b)

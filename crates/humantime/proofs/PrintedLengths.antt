@@ -105,7 +105,7 @@ sizes_hold = (
   ),
 )
 
-length_is : length_for sizes suffixes ≡ 64
+length_is : length_for sizes suffixes ≡ 65
 unfolding sizes
 length_is = refl
 
@@ -113,16 +113,16 @@ as_many : length sizes ≡ length weights
 unfolding sizes
 as_many = refl
 
-joined_length : (ps : List (List ℕ)) → spaced_length ps ≤ 64 → length (joined_by_space ps) ≤ 63
+joined_length : (ps : List (List ℕ)) → spaced_length ps ≤ 65 → length (joined_by_space ps) ≤ 64
 joined_length [] h = omega arith
 joined_length (p ∷ ps) h = omega (arith, join_length p ps)
 
-pub canon_length : (d : ℕ) → d / nanos_per_second ≤ u64_max → (text : List ℕ) → Canon d text → length text ≤ 63
+pub canon_length : (d : ℕ) → d / nanos_per_second ≤ u64_max → (text : List ℕ) → Canon d text → length text ≤ 64
 unfolding duration_text
 canon_length d h text canon =
     let rows = rows_good weights suffixes most d 0 table (omega arith) (omega arith) in
     let all = counts_length weights sizes suffixes most d as_many sizes_hold (omega arith) rows.small in
-    let short : length (duration_text d) ≤ 63 = joined_length (printed_counts (divided weights d) suffixes) (omega (arith, length_is)) in
+    let short : length (duration_text d) ≤ 64 = joined_length (printed_counts (divided weights d) suffixes) (omega (arith, length_is)) in
     omega (arith, ap length (canon_is_text d text canon))
 
 pub counts_small : (d : ℕ) (counts : List ℕ) → Counts d counts → (slice_index counts 1 ≤ 11) × (slice_index counts 2 ≤ 30)

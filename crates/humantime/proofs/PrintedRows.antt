@@ -8,7 +8,7 @@ use Rattle.humantime.specs.Times.{nanos_per_second}
 use Rattle.humantime.specs.Characters.{class_of, white_spaces, is_letter, leading, begins}
 use Rattle.humantime.specs.Units.{Scale, in_nanos, in_seconds, in_seconds_and_nanos, scale_of_word}
 use Rattle.humantime.specs.Spans.{Span, Only}
-use Rattle.humantime.specs.Counts.{weights, Suffix, suffixes}
+use Rattle.humantime.specs.Counts.{weights, Suffix, micros, suffixes}
 
 -- the word behind a count of n, and the span of that count
 abbrev pub word_for : ℕ → Suffix → List ℕ
@@ -90,9 +90,9 @@ millis : IsWord 1000000 nanos_per_second (codes "ms")
 unfolding class_of white_spaces scale_of_word is_utf8 chars encode
 millis = known _ _ (codes "ms") (in_nanos 1000000 (Some 1000000)) refl refl refl (omega arith) (inr (refl, omega arith)) refl refl
 
-micros : IsWord 1000 1000000 (codes "us")
+micros_word : IsWord 1000 1000000 micros
 unfolding class_of white_spaces scale_of_word is_utf8 chars encode
-micros = known _ _ (codes "us") (in_nanos 1000 (Some 1000)) refl refl refl (omega arith) (inr (refl, omega arith)) refl refl
+micros_word = known _ _ micros (in_nanos 1000 (Some 1000)) refl refl refl (omega arith) (inr (refl, omega arith)) refl refl
 
 nanos : IsWord 1 1000 (codes "ns")
 unfolding class_of white_spaces scale_of_word is_utf8 chars encode
@@ -112,7 +112,7 @@ table = (
     (λ n. months (nat_lt 1 n)),
     (
       (λ n. days (nat_lt 1 n)),
-      ((λ n. hours), ((λ n. minutes), ((λ n. seconds), ((λ n. millis), ((λ n. micros), ((λ n. nanos), refl)))))),
+      ((λ n. hours), ((λ n. minutes), ((λ n. seconds), ((λ n. millis), ((λ n. micros_word), ((λ n. nanos), refl)))))),
     ),
   ),
 )

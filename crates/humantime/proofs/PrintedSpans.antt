@@ -34,7 +34,7 @@ no_fraction_adds base (Some factor) = refl
 is_some_at : (o : Option Scale) (u : Scale) → o ≡ Some u → IsSome o
 is_some_at o u e = rw e refl
 
-adds_one : (n : ℕ) (word : List ℕ) (u : Scale) → scale_of_word word ≡ Some u → decimal_value (decimal n) ≡ n
+pub adds_one : (n : ℕ) (word : List ℕ) (u : Scale) → scale_of_word word ≡ Some u → decimal_value (decimal n) ≡ n
     → additions_of (record { number = decimal n; fraction = None; word = word }) ≡ record { base = u.base; amount = n * u.factor } ∷ []
 adds_one n word u e v =
     rw (e, no_fraction_adds u.fraction_base u.fraction_factor) (ap (λ k. record { base = u.base; amount = k * u.factor } ∷ []) v)
@@ -130,7 +130,7 @@ rows_cons t w (suc n) ws ns s ss row rows h =
       small = (h, rows.small);
     }
 
-weight_positive : (w m : ℕ) (word : List ℕ) → IsWord w m word → 0 < w
+pub weight_positive : (w m : ℕ) (word : List ℕ) → IsWord w m word → 0 < w
 weight_positive w m word i =
     elim i.kind [
       | inl e ↦ let k : nanos_per_second * i.unit.factor ≡ w = rw (← e) i.weight in omega (arith, i.some)
@@ -205,7 +205,7 @@ join_spells p (q ∷ qs) s spans utf8 spells each =
       each,
     )
 
-counts_spell : (ws ns : List ℕ) (ss : List Suffix) (m : ℕ) → Table ws ss m → length ns ≡ length ws → AllByRecursion IsCount ns
+pub counts_spell : (ws ns : List ℕ) (ss : List Suffix) (m : ℕ) → Table ws ss m → length ns ≡ length ws → AllByRecursion IsCount ns
     → SpellsEach (chars (join_with_byte 32 (printed_counts ns ss))) (spans_for ns ss)
 counts_spell [] [] [] m h l small = chars-nil
 counts_spell [] [] (s ∷ ss) m h l small = absurd h
@@ -220,13 +220,13 @@ counts_spell (w ∷ ws) (suc n ∷ ns) (s ∷ ss) m h l small =
     (λ space only. count_spells (suc n) w m s space small.0 i only)
     (counts_spell ws ns ss w h.1 (omega arith) small.1)
 
-both_empty : (ns : List ℕ) (ss : List Suffix) → ((printed_counts ns ss ≡ []) × (spans_for ns ss ≡ [])) ⊎ ((printed_counts ns ss ≢ []) × (spans_for ns ss ≢ []))
+pub both_empty : (ns : List ℕ) (ss : List Suffix) → ((printed_counts ns ss ≡ []) × (spans_for ns ss ≡ [])) ⊎ ((printed_counts ns ss ≢ []) × (spans_for ns ss ≢ []))
 both_empty [] ss = inl (refl, refl)
 both_empty (n ∷ ns) [] = inl (refl, refl)
 both_empty (zero ∷ ns) (s ∷ ss) = both_empty ns ss
 both_empty (suc n ∷ ns) (s ∷ ss) = inr ((λ e. cc), (λ e. cc))
 
-joined_some : (ps : List (List ℕ)) → ps ≢ [] → joined_by_space ps ≡ join_with_byte 32 ps
+pub joined_some : (ps : List (List ℕ)) → ps ≢ [] → joined_by_space ps ≡ join_with_byte 32 ps
 joined_some [] h = absurd (h refl)
 joined_some (p ∷ ps) h = refl
 

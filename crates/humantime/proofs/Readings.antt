@@ -1,12 +1,14 @@
 -- Accepted texts and their spans.
-use Rattle.std.proofs.Common.{◌≡◌, ◌≢◌, ℕ, List, None, Ok, Err, refl, sym, ap, ◌∙◌, inl, inr, subst}
+use Rattle.std.proofs.Common.{◌≡◌, ◌≢◌, ℕ, ◌+◌, List, [], ◌∷◌, None, refl, sym, ap, ◌∙◌, sum_by, IsPermutation, inl, inr, subst}
 use Rattle.std.specs.Prelude.{codes}
-use Rattle.humantime.specs.Spans.{Span, Reads, Good, value, Accepted}
+use Rattle.std.proofs.lemmas.List.Sorted.{sum_by-IsPermutation}
+use Rattle.std.proofs.lemmas.List.Sums.{sum_by-cons}
+use Rattle.humantime.specs.Spans.{Span, Reads, total, additions_of, Good, value, Accepted}
 use Rattle.humantime.specs.Faults.{Fault, HasFault, Items}
-use Rattle.humantime.specs.DurationAnswers.{duration_answer}
 use Rattle.humantime.specs.Reading.{items}
-use Rattle.humantime.specs.TextLaws.{IsZeroOrSpans}
+use Rattle.humantime.specs.TextLaws.{IsZeroOrSpans, HasNoSpans, ReorderedHaveOneValue}
 use Rattle.humantime.proofs.OneReading.{not_zero}
+use Rattle.humantime.proofs.Settled.{value-cons}
 use Rattle.humantime.proofs.Outcomes.{zero_or_not, items_found, items_whole, reads_whole, one_reading, outcome_accepted, outcome_fault, items_decide_value}
 
 -- The text is spans within the limits that add up to v.
@@ -55,6 +57,25 @@ same_spans a b spans v h k x =
 -- no text has a value and a fault
 pub no_value_and_fault : (text : List ℕ) (v : ℕ) (e : Fault) → Accepted text v → HasFault text e → ⊥
 no_value_and_fault text v e a f =
-    let ok : duration_answer text ≡ Ok v = outcome_accepted text v a in
-    let err : duration_answer text ≡ Err e = outcome_fault text e f in
+    let ok = outcome_accepted text v a in
+    let err = outcome_fault text e f in
     cc
+
+-- the text `0` is no spans
+pub zero_has_no_spans : HasNoSpans (codes "0")
+zero_has_no_spans spans h = not_zero (codes "0") spans h refl
+
+-- the value of spans is the sum of what each adds, so their order doesn't matter
+abbrev worth : Span → ℕ
+worth span = total (additions_of span)
+
+value-sum : (spans : List Span) → value spans ≡ sum_by worth spans
+value-sum [] = refl
+value-sum (s ∷ ss) = value-cons s ss ∙ ap (λ (n : ℕ). worth s + n) (value-sum ss) ∙ sym (sum_by-cons worth s ss)
+
+pub value-permutation : (ss ts : List Span) → IsPermutation ss ts → value ss ≡ value ts
+value-permutation ss ts h = value-sum ss ∙ sym (sum_by-IsPermutation worth ss ts h) ∙ sym (value-sum ts)
+
+pub reordered_value : (a b : List ℕ) → ReorderedHaveOneValue a b
+reordered_value a b ss ts u v h k moved x y =
+    sym (accepted_spans a ss u h x).1 ∙ value-permutation ss ts moved ∙ (accepted_spans b ts v k y).1

@@ -5,11 +5,12 @@ use Rattle.std.specs.List.{AllByRecursion}
 use Rattle.std.specs.Option.{IsSome, IfSome}
 use Rattle.std.proofs.lemmas.Bool.{cases_Bool, false≢true, and_parts, and_from, leb-true, le-leb, eq-eqb, eqb-true}
 use Rattle.std.proofs.lemmas.Grind.{flat_map-append}
-use Rattle.humantime.specs.Characters.{decimal_value, u64_max}
+use Rattle.std.proofs.lemmas.List.{nil_from_length}
+use Rattle.humantime.specs.Characters.{decimal_value, significant, u64_max}
 use Rattle.humantime.specs.Units.{Scale, scale_of_word}
-use Rattle.humantime.specs.Spans.{Span, total, additions_of, additions, value, Formed, FitsFraction, Fits, Good}
+use Rattle.humantime.specs.Spans.{Span, total, additions_of, additions, value, Formed, IsWholePart, FitsFraction, Fits, Good}
 use Rattle.humantime.specs.Faults.{Fault, NumberOverflow}
-use Rattle.humantime.specs.Reading.{fraction_fits, fits_at, add_span, settle}
+use Rattle.humantime.specs.Reading.{is_whole_part, fraction_fits, fits_at, add_span, settle}
 use Rattle.humantime.proofs.Rooms.{RoomFrom, total-append, add_all-room, add_all-full, room_or_not, RoomFrom-append, RoomFrom-front, RoomFrom-back, room_from_all, all_have_room}
 
 -- the span keeps the limits after t nanoseconds
@@ -21,21 +22,27 @@ abbrev pub GoodFrom : ℕ → List Span → Type 0
 GoodFrom t [] = ⊤
 GoodFrom t (s ∷ ss) = IsAddedTo t s × GoodFrom (t + total (additions_of s)) ss
 
-fraction_fits-true : (f : Option ℕ) (o : Option (List ℕ)) → fraction_fits f o ≡ true → FitsFraction f o
-fraction_fits-true f None e = tt
-fraction_fits-true None (Some ds) e = cc
-fraction_fits-true (Some n) (Some ds) e =
+whole_part-true : (n : ℕ) (ds : List ℕ) → is_whole_part n ds ≡ true → IsWholePart n ds
+whole_part-true n ds e =
     let p = and_parts (nat_le (decimal_value ds * n) u64_max) (decimal_value ds * n % 10 ^ length ds == 0) e in
     (leb-true (decimal_value ds * n) u64_max p.0, eqb-true (decimal_value ds * n % 10 ^ length ds) 0 p.1)
 
-fraction_fits_from : (f : Option ℕ) (o : Option (List ℕ)) → FitsFraction f o → fraction_fits f o ≡ true
-fraction_fits_from f None h = refl
-fraction_fits_from None (Some ds) h = absurd h
-fraction_fits_from (Some n) (Some ds) h =
+whole_part_from : (n : ℕ) (ds : List ℕ) → IsWholePart n ds → is_whole_part n ds ≡ true
+whole_part_from n ds h =
     and_from (nat_le (decimal_value ds * n) u64_max) (decimal_value ds * n % 10 ^ length ds == 0)
     (le-leb (decimal_value ds * n) u64_max h.0) (eq-eqb (decimal_value ds * n % 10 ^ length ds) 0 h.1)
 
-abbrev FitsAt : Option Scale → Span → Type 0
+fraction_fits-true : (f : Option ℕ) (o : Option (List ℕ)) → fraction_fits f o ≡ true → FitsFraction f o
+fraction_fits-true f None e = tt
+fraction_fits-true None (Some ds) e = nil_from_length (significant ds) (eqb-true (length (significant ds)) 0 e)
+fraction_fits-true (Some n) (Some ds) e = whole_part-true n (significant ds) e
+
+fraction_fits_from : (f : Option ℕ) (o : Option (List ℕ)) → FitsFraction f o → fraction_fits f o ≡ true
+fraction_fits_from f None h = refl
+fraction_fits_from None (Some ds) h = eq-eqb (length (significant ds)) 0 (ap length h)
+fraction_fits_from (Some n) (Some ds) h = whole_part_from n (significant ds) h
+
+abbrev pub FitsAt : Option Scale → Span → Type 0
 FitsAt o s = IfSome o (λ u. (decimal_value s.number * u.factor ≤ u64_max) × FitsFraction u.fraction_factor s.fraction)
 
 fits_at-true : (o : Option Scale) (s : Span) → fits_at o s ≡ true → FitsAt o s

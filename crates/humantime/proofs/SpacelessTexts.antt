@@ -1,13 +1,14 @@
 -- A text without its white space spells the same spans.
-use Rattle.std.proofs.Common.{◌≡◌, ℕ, Bool, true, false, cond, not, List, [], ◌∷◌, ◌++◌, Option, Some, None, refl, sym, ap, ◌∙◌, inl, inr, subst}
+use Rattle.std.proofs.Common.{◌≡◌, ℕ, Bool, true, false, cond, not, List, [], ◌∷◌, ◌++◌, Option, Some, None, refl, sym, ap, ◌∙◌, inl, inr, subst, arith, rules}
 use Rattle.std.specs.Prelude.{codes}
-use Rattle.std.proofs.lemmas.Bool.{cases_Bool}
+use Rattle.std.proofs.lemmas.Bool.{cases_Bool, or_parts}
 use Rattle.std.proofs.lemmas.List.Elements.{filter-append}
-use Rattle.humantime.specs.Characters.{white_spaces, class_of, is_ws, is_digit, is_letter, is_numeric, begins, digits}
+use Rattle.humantime.specs.Characters.{is_ws, is_digit, is_letter, is_numeric, begins, digits}
 use Rattle.humantime.specs.Spans.{Span, Only, SpellsFraction, Spells, SpellsEach, Front, Reads, Accepted}
 use Rattle.humantime.specs.TextLaws.{without_white_space, NeedsNoWhiteSpace}
-use Rattle.humantime.proofs.Classes.{digit_not_space, letter_not_space}
+use Rattle.humantime.proofs.Classes.{digit_not_space, letter_not_space, point_not_numeric, is_point-46}
 use Rattle.humantime.proofs.Outcomes.{zero_or_not}
+use Rattle.humantime.proofs.PrintedDigits.{some_digit}
 use Rattle.humantime.proofs.Readings.{spans_of_accepted, same_spans}
 
 spaceless-append : (xs ys : List ℕ) → without_white_space (xs ++ ys) ≡ without_white_space xs ++ without_white_space ys
@@ -52,8 +53,7 @@ still_begins [] e = cc
 still_begins (c ∷ cs) e = ap (begins is_digit) (spaceless-other c cs (digit_not_space c e)) ∙ e
 
 point_stays : is_ws 46 ≡ false
-unfolding class_of white_spaces
-point_stays = refl
+point_stays = (or_parts (is_digit 46) (is_ws 46) (point_not_numeric 46 is_point-46)).1
 
 spells_fraction : (text : List ℕ) (fraction : Option (List ℕ)) → SpellsFraction text fraction → SpellsFraction (without_white_space text) fraction
 spells_fraction text None h = ap without_white_space h
@@ -114,8 +114,7 @@ pub spaceless_reads : (text : List ℕ) (spans : List Span) → Reads text spans
 spaceless_reads text spans h = (front_read text spans h.0, h.1)
 
 spaceless_zero : without_white_space (codes "0") ≡ codes "0"
-unfolding class_of white_spaces
-spaceless_zero = refl
+spaceless_zero = spaceless-other 48 [] (digit_not_space 48 (some_digit (codes "0") (search rules) (omega arith)))
 
 pub spaceless_accepted : (text : List ℕ) → NeedsNoWhiteSpace text
 spaceless_accepted text v a = elim (zero_or_not text) [

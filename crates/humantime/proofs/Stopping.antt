@@ -2,7 +2,7 @@
 use Rattle.std.proofs.Common.{◌≡◌, ◌≢◌, ◌⊎◌, ℕ, ◌≤◌, true, false, List, [], ◌∷◌, length, Option, Some, None, refl, sym, ap, ◌∙◌, inl, inr, arith}
 use Rattle.std.specs.Option.{IsSome, is_some}
 use Rattle.std.proofs.lemmas.Bool.{cases_Bool, false≢true, ltb-true, ltb-false, or_cases, or_parts}
-use Rattle.humantime.specs.Characters.{is_digit, is_numeric, begins, decimal_value, u64_max, offset_of, byte_length}
+use Rattle.humantime.specs.Characters.{is_digit, is_numeric, begins, decimal_value, significant, u64_max, offset_of, byte_length}
 use Rattle.humantime.specs.Units.{Scale, scale_of_word}
 use Rattle.humantime.specs.Spans.{Span}
 use Rattle.humantime.specs.Faults.{Fault, InvalidCharacter, UnknownUnit, number_of, after_number, fraction_of, word_of, after_word, span_of, IsOverLimit, StartsNumber, NoBarePoint, MayFollowWord, Stops, Nothing_there, No_number, Too_long, Bad_after_number, Bare_point, Bad_after_fraction, Bad_after_word, No_word, Wrong_word}
@@ -15,9 +15,9 @@ pub record Fine (rest : List ℕ) : Type 0 where
   pub word : IsSome (scale_of_word (word_of rest))
   pub ends : MayFollowWord (after_word rest)
 
-long_fraction-true : (o : Option (List ℕ)) → long_fraction o ≡ true → (ds : List ℕ) × (o ≡ Some ds) × (20 ≤ length ds)
+long_fraction-true : (o : Option (List ℕ)) → long_fraction o ≡ true → (ds : List ℕ) × (o ≡ Some ds) × (20 ≤ length (significant ds))
 long_fraction-true None e = cc
-long_fraction-true (Some ds) e = (ds, refl, omega (arith, ltb-true 19 (length ds) e))
+long_fraction-true (Some ds) e = (ds, refl, omega (arith, ltb-true 19 (length (significant ds)) e))
 
 too_long-true : (s : Span) → too_long s ≡ true → IsOverLimit s
 too_long-true s e = elim (or_cases _ (long_fraction s.fraction) e) [
@@ -29,7 +29,7 @@ too_long-false : (s : Span) → too_long s ≡ false → ¬ (IsOverLimit s)
 too_long-false s e (inl a) = let p = (or_parts _ (long_fraction s.fraction) e).0 in omega (arith, ltb-false u64_max (decimal_value s.number) p)
 too_long-false s e (inr b) =
     let p : long_fraction (Some b.0) ≡ false = ap long_fraction (sym b.1) ∙ (or_parts _ (long_fraction s.fraction) e).1 in
-    omega (arith, ltb-false 19 (length b.0) p, b.2)
+    omega (arith, ltb-false 19 (length (significant b.0)) p, b.2)
 
 too_long_from : (s : Span) → IsOverLimit s → too_long s ≡ true
 too_long_from s h = elim (cases_Bool (too_long s)) [ inl e ↦ e | inr e ↦ absurd (too_long-false s e h) ]

@@ -1,66 +1,55 @@
--- The laws of accepted texts, each named as the function of `laws` that promises it.
-use Rattle.std.proofs.Common.{◌≡◌, ◌↔◌, ℕ, ◌+◌, List, [], ◌∷◌, ◌++◌, chars, codes, IsUtf8, IsPermutation, sum_by, refl, sym, ap, ◌∙◌}
+-- The laws of accepted texts as theorems over plain variables, each under the name of its function in `laws`, and some
+-- theorems beyond them.
+use Rattle.std.proofs.Common.{◌↔◌, ℕ, ◌+◌, ◌/◌, ◌≤◌, List, ◌∷◌, ◌++◌, codes, chars}
 use Rattle.std.specs.List.{AllByRecursion}
-use Rattle.std.proofs.lemmas.List.Sorted.{sum_by-IsPermutation}
-use Rattle.std.proofs.lemmas.List.Sums.{sum_by-cons}
-use Rattle.std.proofs.lemmas.Str.{chars-append}
-use Rattle.humantime.specs.Characters.{is_ws}
-use Rattle.humantime.specs.Spans.{Span, Only, Front, Reads, total, additions_of, additions, value, AllHaveRoom, Accepted}
+use Rattle.humantime.specs.Times.{nanos_per_second}
+use Rattle.humantime.specs.Characters.{is_ws, u64_max}
+use Rattle.humantime.specs.Spans.{Span, Only, Front, Reads, additions, AllHaveRoom, Accepted}
 use Rattle.humantime.specs.Faults.{NumberOverflow, HasFault}
+use Rattle.humantime.specs.Counts.{Canon}
 use Rattle.humantime.specs.TextLaws.{NeedsNoWhiteSpace, IsZeroOrSpans, JoinedHaveSum, JoinedOverflow, JoinedHaveSumOrOverflow, ReorderedHaveOneValue, HasNoSpans}
-use Rattle.humantime.proofs.OneReading.{not_zero}
-use Rattle.humantime.proofs.Settled.{value-cons}
 use Rattle.humantime.proofs.Readings as readings
 use Rattle.humantime.proofs.SpacelessTexts as spaceless
-use Rattle.humantime.proofs.JoinedTexts as joined
+use Rattle.humantime.proofs.JoinedTexts as texts
+use Rattle.humantime.proofs.SmallAdditions as small
+use Rattle.humantime.proofs.SmallAdditions.{IsSmall}
+use Rattle.humantime.proofs.PrintedTogether as printed
 use Rattle.humantime.proofs.JoinedPieces as pieces
 use Rattle.humantime.proofs.JoinedPieces.{Piece, IsAcceptedPiece, joined_text, joined_spans, joined_value}
 
--- `without_ws`: an accepted text without its white space is accepted with the same value
+-- What is accepted is accepted without its white space, with the same value.
 pub without_ws : (text : List ℕ) → NeedsNoWhiteSpace text
 without_ws = spaceless.spaceless_accepted
 
--- `joined`: an accepted text is exactly `0`, or it is spans
-pub zero_or_spans : (text : List ℕ) → IsZeroOrSpans text
-zero_or_spans = readings.zero_or_spans
+-- Two accepted texts, neither exactly `0`, are accepted one behind the other with the sum exactly where their additions
+-- have room, and are too large exactly where they haven't.
+pub record AddWhenJoined (a b : List ℕ) : Type 0 where
+  pub first : IsZeroOrSpans a
+  pub second : IsZeroOrSpans b
+  pub sum : JoinedHaveSum a b
+  pub overflow : JoinedOverflow a b
+  pub one : JoinedHaveSumOrOverflow a b
 
--- `joined`: with the sum exactly where there is room
-pub joined_sum : (a b : List ℕ) → JoinedHaveSum a b
-joined_sum = joined.joined_sum
+pub joined : (a b : List ℕ) → AddWhenJoined a b
+joined a b = record {
+  first = readings.zero_or_spans a;
+  second = readings.zero_or_spans b;
+  sum = texts.joined_sum a b;
+  overflow = texts.joined_overflow a b;
+  one = texts.joined_sum_or_overflow a b;
+}
 
--- `joined`: too large exactly where there is none
-pub joined_overflow : (a b : List ℕ) → JoinedOverflow a b
-joined_overflow = joined.joined_overflow
+-- Accepted texts whose spans are reorderings of each other have equal values; the text `0` has no spans.
+pub record KeepValueReordered (a b : List ℕ) : Type 0 where
+  pub value : ReorderedHaveOneValue a b
+  pub zero : HasNoSpans (codes "0")
 
--- `joined`: one of the two
-pub joined_sum_or_overflow : (a b : List ℕ) → JoinedHaveSumOrOverflow a b
-joined_sum_or_overflow = joined.joined_sum_or_overflow
+pub reordered : (a b : List ℕ) → KeepValueReordered a b
+reordered a b = record { value = readings.reordered_value a b; zero = readings.zero_has_no_spans }
 
--- `joined`: the characters of a text and another behind it
-pub joined_characters : (a b : List ℕ) → IsUtf8 a → chars (a ++ b) ≡ chars a ++ chars b
-joined_characters = chars-append
+-- ---- beyond the laws
 
--- the value of spans is the sum of what each adds, whatever their order
-abbrev worth : Span → ℕ
-worth span = total (additions_of span)
-
-value-sum : (spans : List Span) → value spans ≡ sum_by worth spans
-value-sum [] = refl
-value-sum (s ∷ ss) = value-cons s ss ∙ ap (λ (n : ℕ). worth s + n) (value-sum ss) ∙ sym (sum_by-cons worth s ss)
-
-pub value-permutation : (ss ts : List Span) → IsPermutation ss ts → value ss ≡ value ts
-value-permutation ss ts h = value-sum ss ∙ sym (sum_by-IsPermutation worth ss ts h) ∙ sym (value-sum ts)
-
--- `reordered`: accepted texts whose spans are reorderings of each other have equal values
-pub reordered : (a b : List ℕ) → ReorderedHaveOneValue a b
-reordered a b ss ts u v h k moved x y =
-    sym (readings.accepted_spans a ss u h x).1 ∙ value-permutation ss ts moved ∙ (readings.accepted_spans b ts v k y).1
-
--- `reordered`: the text `0` is no spans
-pub zero_has_no_spans : HasNoSpans (codes "0")
-zero_has_no_spans spans h = not_zero (codes "0") spans h refl
-
--- beyond the laws: texts of the same spans are accepted alike
+-- texts of the same spans are accepted alike
 pub same_spans : (a b : List ℕ) (spans : List Span) (v : ℕ) → Reads a spans → Reads b spans → Accepted a v ↔ Accepted b v
 same_spans a b spans v h k = (readings.same_spans a b spans v h k, readings.same_spans b a spans v k h)
 
@@ -69,7 +58,18 @@ pub space_between : (before space after : List ℕ) (ss ts : List Span) (v : ℕ
     → Accepted (before ++ after) v ↔ Accepted (before ++ (space ++ after)) v
 space_between before space after ss ts v h k only =
     same_spans (before ++ after) (before ++ (space ++ after)) (ss ++ ts) v
-    (joined.reads-append before after ss ts h k) (joined.reads-space before space after ss ts h k only)
+    (texts.reads-append before after ss ts h k) (texts.reads-space before space after ss ts h k only)
+
+-- two texts of small additions, one behind the other, with the sum exactly where it is a duration
+pub small_joined_sum : (a b : List ℕ) (ss ts : List Span) (u v : ℕ) → Reads a ss → Reads b ts → Accepted a u → Accepted b v
+    → AllByRecursion IsSmall (additions ss) → AllByRecursion IsSmall (additions ts)
+    → Accepted (a ++ b) (u + v) ↔ ((u + v) / nanos_per_second ≤ u64_max)
+small_joined_sum = small.small_joined_sum
+
+-- the printed texts of two durations, one behind the other, with the sum exactly where it is a duration
+pub printed_joined_sum : (d e : ℕ) (s t : List ℕ) → d / nanos_per_second ≤ u64_max → e / nanos_per_second ≤ u64_max → Canon d s → Canon e t
+    → Accepted (chars s ++ chars t) (d + e) ↔ ((d + e) / nanos_per_second ≤ u64_max)
+printed_joined_sum = printed.printed_joined_sum
 
 -- any number of texts, one behind the other: with the sum exactly where there is room
 pub pieces_sum : (p : Piece) (ps : List Piece) → AllByRecursion IsAcceptedPiece (p ∷ ps)

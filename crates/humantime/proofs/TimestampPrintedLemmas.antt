@@ -1,6 +1,6 @@
 -- What the printer shows is the printed text of the moment, and the only one.
 use Rattle.std.proofs.Common.{◌≡◌, ◌≢◌, ℕ, zero, suc, ◌+◌, ◌-◌, ◌*◌, ◌/◌, ◌%◌, ◌^◌, ◌<◌, ◌≤◌, List, [], ◌∷◌, ◌++◌, refl, sym, ap, subst, ◌∙◌, arith}
-use Rattle.std.specs.Prelude.{◌↔◌, ◌==◌, Bool, true, false, min, Option, Some, None, ℤ, pos, negsuc, nat_lt, IsAscii, if◌then◌else◌}
+use Rattle.std.specs.Prelude.{◌↔◌, ◌==◌, Bool, true, false, min, Some, None, ℤ, pos, negsuc, nat_lt, IsAscii, if◌then◌else◌}
 use Rattle.std.specs.List.{AllByRecursion}
 use Rattle.std.proofs.Math.Nat.{mod-le}
 use Rattle.std.proofs.lemmas.Bool.{ltb-true, lt-ltb}
@@ -13,7 +13,7 @@ use Rattle.humantime.specs.declared.date.print.Rfc3339Timestamp.{Rfc3339Timestam
 use Rattle.humantime.specs.Dates.{day_of}
 use Rattle.humantime.specs.DatesOfDays.{date_of}
 use Rattle.humantime.specs.Moment.{nano_of}
-use Rattle.humantime.specs.Timestamps.{Letter_Z, Nothing, Zone, written, time_text, fraction_text, zone_text, moment_of, IsStrict}
+use Rattle.humantime.specs.Timestamps.{Letter_Z, Nothing, written, time_text, fraction_text, zone_text, moment_of}
 use Rattle.humantime.specs.TimestampPrinted.{cut, IsPrinted, IsPrintable, ReadsAs, OnePrinted}
 use Rattle.humantime.specs.TimestampPrinting.{places, moment_kept, places_kept, places_of, fields_shown, fields_at, IsDateTimeOf, IsTextOf, printed_text, moment_text}
 use Rattle.humantime.proofs.TimestampByteLemmas.{HoldsOfBytes, holds_before_zone, all_append}

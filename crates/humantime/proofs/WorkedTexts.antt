@@ -1,8 +1,8 @@
 -- What some texts come to, by computation, and what that says of them.
-use Rattle.std.proofs.Common.{◌≡◌, ℕ, List, [], ◌∷◌, ◌++◌, Result, Ok, Err, refl}
+use Rattle.std.proofs.Common.{◌≡◌, [], ◌∷◌, ◌++◌, Ok, Err, refl}
 use Rattle.std.specs.Prelude.{codes}
 use Rattle.humantime.specs.Spans.{Accepted}
-use Rattle.humantime.specs.Faults.{Fault, HasFault, InvalidCharacter, UnknownUnit, NumberOverflow}
+use Rattle.humantime.specs.Faults.{HasFault, InvalidCharacter, UnknownUnit, NumberOverflow}
 use Rattle.humantime.specs.DurationAnswers.{duration_answer, canonical_answer}
 use Rattle.humantime.specs.Printing.{duration_text}
 use Rattle.humantime.proofs.OnLiterals.{humantime_on_literals}
@@ -67,6 +67,20 @@ micros = refl
 micro_alone : duration_answer (codes "1" ++ 0xb5 ∷ []) ≡ Err (UnknownUnit 1 3 (0xb5 ∷ []) 1)
 unfolding humantime_on_literals
 micro_alone = refl
+
+-- and so does the Greek letter mu, which is another character
+greek_micros : duration_answer (codes "1" ++ 0x3bc ∷ codes "s") ≡ Ok 1000
+unfolding humantime_on_literals
+greek_micros = refl
+
+greek_letter_alone : duration_answer (codes "1" ++ 0x3bc ∷ []) ≡ Err (UnknownUnit 1 3 (0x3bc ∷ []) 1)
+unfolding humantime_on_literals
+greek_letter_alone = refl
+
+-- microseconds are printed with the micro sign
+printed_micros : duration_text 1000 ≡ codes "1" ++ 0xc2 ∷ 0xb5 ∷ codes "s"
+unfolding humantime_on_literals
+printed_micros = refl
 
 printed : duration_text 9420000000000 ≡ codes "2h 37m"
 unfolding humantime_on_literals

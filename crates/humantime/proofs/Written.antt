@@ -2,7 +2,7 @@
 use Rattle.std.proofs.Common.{◌≡◌, ◌≢◌, ℕ, ◌≤◌, ◌<◌, true, false, List, [], ◌∷◌, ◌++◌, length, Option, Some, None, refl, sym, ap, inl, inr, arith, append_assoc, length-append}
 use Rattle.std.specs.Option.{IfSome}
 use Rattle.std.proofs.lemmas.Bool.{cases_Bool, cases_lt}
-use Rattle.humantime.specs.Characters.{is_ws, is_digit, is_letter, is_point, is_numeric, leading, past, begins, ends, digits, decimal_value, u64_max}
+use Rattle.humantime.specs.Characters.{is_ws, is_digit, is_letter, is_point, is_numeric, leading, past, begins, ends, digits, decimal_value, significant, u64_max}
 use Rattle.humantime.specs.Spans.{Span, Only, SpellsFraction, Spells, Formed}
 use Rattle.humantime.specs.Faults.{number_of, after_number, fraction_at, past_fraction, digits_in, fraction_of, after_fraction, word_of, after_word, span_of, IsOverLimit, MayFollowWord}
 use Rattle.humantime.proofs.Classes.{digit_is_numeric, space_from_numeric, is_point-true}
@@ -94,20 +94,20 @@ written_here rest d h =
       },
     )
 
-fraction_short : (o : Option (List ℕ)) → ((ds : List ℕ) → o ≡ Some ds → length ds ≤ 19) → IfSome o (λ ds. length ds ≤ 19)
+fraction_short : (o : Option (List ℕ)) → ((ds : List ℕ) → o ≡ Some ds → length (significant ds) ≤ 19) → IfSome o (λ ds. length (significant ds) ≤ 19)
 fraction_short None h = tt
 fraction_short (Some ds) h = h ds refl
 
-short_fraction : (o : Option (List ℕ)) (ds : List ℕ) → IfSome o (λ ds. length ds ≤ 19) → o ≡ Some ds → length ds ≤ 19
+short_fraction : (o : Option (List ℕ)) (ds : List ℕ) → IfSome o (λ ds. length (significant ds) ≤ 19) → o ≡ Some ds → length (significant ds) ≤ 19
 short_fraction None ds h e = cc
-short_fraction (Some ds') ds h e = let p : ds' ≡ ds = cc in omega (arith, ap length p)
+short_fraction (Some ds') ds h e = let p : ds' ≡ ds = cc in rw (← p) h
 
 -- the span that begins the rest is well formed
 pub formed_here : (rest : List ℕ) → Fine rest → Formed (span_of rest)
 formed_here rest h = record {
   word = h.word;
   number = elim (cases_lt u64_max (decimal_value (number_of rest))) [ inl l ↦ absurd (h.within (inl l)) | inr l ↦ l ];
-  fraction = fraction_short (fraction_of rest) (λ ds e. elim (cases_lt 19 (length ds)) [ inl l ↦ absurd (h.within (inr (ds, e, l))) | inr l ↦ l ]);
+  fraction = fraction_short (fraction_of rest) (λ ds e. elim (cases_lt 19 (length (significant ds))) [ inl l ↦ absurd (h.within (inr (ds, e, l))) | inr l ↦ l ]);
 }
 
 within_limit : (s : Span) → Formed s → ¬ (IsOverLimit s)

@@ -23,7 +23,7 @@ abbrev pub add_some : ℕ → ℕ → Option ℕ → Option ℕ
 add_some t base None = None
 add_some t base (Some amount) = add_one t (record { base = base; amount = amount })
 
--- the sum with the part of a factor of a base, if the base has a factor for fractions
+-- the sum with the part of a factor of a base; where there is no factor for fractions, only none at all is added
 abbrev pub add_part : ℕ → ℕ → Option ℕ → ℕ → ℕ → Option ℕ
-add_part t base None number count = None
+add_part t base None number count = if count == 0 then Some t else None
 add_part t base (Some factor) number count = add_some t base (part_of number count factor)

@@ -11,12 +11,13 @@ white_spaces =
     0x9 ∷ 0xa ∷ 0xb ∷ 0xc ∷ 0xd ∷ 0x20 ∷ 0x85 ∷ 0xa0 ∷ 0x1680 ∷ 0x2000 ∷ 0x2001 ∷ 0x2002 ∷ 0x2003 ∷ 0x2004 ∷ 0x2005 ∷ 0x2006
     ∷ 0x2007 ∷ 0x2008 ∷ 0x2009 ∷ 0x200a ∷ 0x2028 ∷ 0x2029 ∷ 0x202f ∷ 0x205f ∷ 0x3000 ∷ []
 
--- What a character is: white space, a digit 0 to 9, a letter a to z, A to Z or the micro sign, a point, or anything else.
+-- What a character is: white space, a digit 0 to 9, a letter a to z, A to Z, the micro sign or the Greek letter mu, a point,
+-- or anything else.
 unfoldable pub class_of : ℕ → Class
 class_of c =
     if char_set_contains white_spaces c then White
     else if is_ascii_digit c then Digit
-    else if is_ascii_alphabetic c || c == 0xb5 then Letter
+    else if is_ascii_alphabetic c || c == 0xb5 || c == 0x3bc then Letter
     else if c == 46 then Point
     else Other
 
@@ -92,6 +93,16 @@ digits cs = filter is_digit cs
 
 abbrev pub decimal_value : List ℕ → ℕ
 decimal_value ds = digits_value 10 ds
+
+-- a digit and those that are left behind it; a zero with none behind it is dropped
+abbrev pub kept : ℕ → List ℕ → List ℕ
+kept d [] = if d == 48 then [] else d ∷ []
+kept d (e ∷ es) = d ∷ e ∷ es
+
+-- the digits without the zeros at their end
+unfoldable pub significant : List ℕ → List ℕ
+significant [] = []
+significant (d ∷ ds) = kept d (significant ds)
 
 -- the greatest number that a u64 holds
 abbrev pub u64_max : ℕ

@@ -42,11 +42,15 @@ with_plural text = record { text = text; plural = true }
 abbrev pub without_plural : List ℕ → Suffix
 without_plural text = record { text = text; plural = false }
 
+-- the bytes of `µs`, spelled with the micro sign
+abbrev pub micros : List ℕ
+micros = 0xc2 ∷ 0xb5 ∷ codes "s"
+
 abbrev pub suffixes : List Suffix
 suffixes =
     with_plural (codes "year") ∷ with_plural (codes "month") ∷ with_plural (codes "day")
     ∷ without_plural (codes "h") ∷ without_plural (codes "m") ∷ without_plural (codes "s")
-    ∷ without_plural (codes "ms") ∷ without_plural (codes "us") ∷ without_plural (codes "ns") ∷ []
+    ∷ without_plural (codes "ms") ∷ without_plural micros ∷ without_plural (codes "ns") ∷ []
 
 -- a count's digits and its suffix
 abbrev pub printed_count : ℕ → Suffix → List ℕ

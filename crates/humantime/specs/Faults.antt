@@ -1,7 +1,7 @@
 -- The first fault of a text that isn't accepted.
 use Rattle.std.specs.Prelude.{◌≡◌, ◌≢◌, ◌⊎◌, ℕ, ◌<◌, ◌≤◌, true, false, List, [], ◌∷◌, ◌++◌, length, Option, Some, None, IsSome, if◌then◌else◌}
 use Rattle.std.specs.List.{AllByRecursion}
-use Rattle.humantime.specs.Characters.{is_ws, is_digit, is_letter, is_numeric, is_point, begins, ends, leading, past, digits, decimal_value, offset_of, byte_length, u64_max}
+use Rattle.humantime.specs.Characters.{is_ws, is_digit, is_letter, is_numeric, is_point, begins, ends, leading, past, digits, decimal_value, significant, offset_of, byte_length, u64_max}
 use Rattle.humantime.specs.Units.{scale_of_word}
 use Rattle.humantime.specs.Spans.{Span, Front, Reads, Formed, Good, Accepted}
 
@@ -51,9 +51,9 @@ after_word rest = past is_letter (after_fraction rest)
 abbrev pub span_of : List ℕ → Span
 span_of rest = record { number = number_of rest; fraction = fraction_of rest; word = word_of rest }
 
--- the number is above the greatest, or the fraction has 20 digits or more
+-- the number is above the greatest, or the fraction has 20 digits or more before the zeros at its end
 abbrev pub IsOverLimit : Span → Type 0
-IsOverLimit s = (u64_max < decimal_value s.number) ⊎ ((ds : List ℕ) × (s.fraction ≡ Some ds) × (20 ≤ length ds))
+IsOverLimit s = (u64_max < decimal_value s.number) ⊎ ((ds : List ℕ) × (s.fraction ≡ Some ds) × (20 ≤ length (significant ds)))
 
 -- the rest begins with a digit, and neither its number nor its fraction is too long
 abbrev pub StartsNumber : List ℕ → Type 0

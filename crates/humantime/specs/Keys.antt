@@ -12,10 +12,13 @@ packed (b ∷ bs) = packed bs * 256 + b
 abbrev pub key : List ℕ → ℕ
 key bs = if nat_lt 7 (length bs) then 0 else packed bs
 
--- the bytes of a word whose letters are ASCII, save the micro sign
+-- the bytes of a word whose letters are ASCII, save the micro sign and the Greek letter mu
 abbrev pub bytes_of : List ℕ → List ℕ
 bytes_of [] = []
-bytes_of (c ∷ cs) = if c == 0xb5 then 0xc2 ∷ 0xb5 ∷ bytes_of cs else c ∷ bytes_of cs
+bytes_of (c ∷ cs) =
+    if c == 0xb5 then 0xc2 ∷ 0xb5 ∷ bytes_of cs
+    else if c == 0x3bc then 0xce ∷ 0xbc ∷ bytes_of cs
+    else c ∷ bytes_of cs
 
 -- each word's key, and what the word stands for
 abbrev pub keyed : List (List ℕ × Scale) → List (ℕ × Scale)

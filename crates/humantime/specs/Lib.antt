@@ -20,6 +20,8 @@ pub mod March
 pub mod Messages
 pub mod Moment
 pub mod MomentLemmas
+pub mod Prelude
+pub mod OlderSpecification
 pub mod PrintedTexts
 pub mod Printing
 pub mod Reading

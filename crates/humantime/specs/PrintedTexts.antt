@@ -16,9 +16,9 @@ ReadsBack d = (text : List ℕ) → Canon d text → Accepted (chars text) d
 abbrev pub TextsTellApart : ℕ → ℕ → Type 0
 TextsTellApart a b = (s t : List ℕ) → Canon a s → Canon b t → ((s ≡ t) ↔ (a ≡ b))
 
--- the canonical text of d nanoseconds has at most 63 bytes
+-- the canonical text of d nanoseconds has at most 64 bytes
 abbrev pub HasShortText : ℕ → Type 0
-HasShortText d = (text : List ℕ) → Canon d text → length text ≤ 63
+HasShortText d = (text : List ℕ) → Canon d text → length text ≤ 64
 
 -- the counts of d nanoseconds have at most 11 months and at most 30 days
 abbrev pub HasSmallCounts : ℕ → Type 0

@@ -1,7 +1,7 @@
 -- How a duration's text is put together.
 use Rattle.std.specs.Prelude.{ℕ, ◌/◌, ◌%◌, ◌==◌, List, [], ◌∷◌, ◌++◌, if◌then◌else◌, codes}
 use Rattle.humantime.specs.Times.{nanos_per_second}
-use Rattle.humantime.specs.Counts.{weights, Suffix, with_plural, without_plural, suffixes, printed_count, printed_counts, joined_by_space}
+use Rattle.humantime.specs.Counts.{weights, Suffix, with_plural, without_plural, micros, suffixes, printed_count, printed_counts, joined_by_space}
 
 -- the counts by division: as many of the first weight as there is room for, and then of the others what is left
 abbrev pub divided : List ℕ → ℕ → List ℕ
@@ -37,7 +37,7 @@ unfoldable pub with_nanos : List ℕ → ℕ → List ℕ
 with_nanos text nanos =
     with_count (with_count (with_count text
     (nanos / 1000000) (without_plural (codes "ms")))
-    (nanos % 1000000 / 1000) (without_plural (codes "us")))
+    (nanos % 1000000 / 1000) (without_plural micros))
     (nanos % 1000000 % 1000) (without_plural (codes "ns"))
 
 -- the text, or zero seconds where there is none

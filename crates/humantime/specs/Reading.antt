@@ -2,7 +2,7 @@
 -- definitions of Spans and Faults.
 use Rattle.std.specs.Prelude.{ℕ, zero, suc, ◌+◌, ◌*◌, ◌/◌, ◌%◌, ◌^◌, ◌||◌, ◌&&◌, ◌==◌, Bool, true, false, List, [], ◌∷◌, length, Option, Some, None, Result, Ok, Err, nat_lt, nat_le, if◌then◌else◌}
 use Rattle.humantime.specs.Times.{nanos_per_second}
-use Rattle.humantime.specs.Characters.{is_ws, is_digit, is_numeric, past, decimal_value, offset_of, byte_length, u64_max}
+use Rattle.humantime.specs.Characters.{is_ws, is_digit, is_numeric, past, decimal_value, significant, offset_of, byte_length, u64_max}
 use Rattle.humantime.specs.Units.{Scale, scale_of_word}
 use Rattle.humantime.specs.Spans.{Span, Addition, nanos_of, additions_of}
 use Rattle.humantime.specs.Faults.{Fault, InvalidCharacter, NumberExpected, UnknownUnit, NumberOverflow, Empty, number_of, after_number, fraction_of, after_fraction, word_of, after_word, span_of}
@@ -10,7 +10,7 @@ use Rattle.humantime.specs.Faults.{Fault, InvalidCharacter, NumberExpected, Unkn
 -- whether a number or a fraction is too long
 abbrev pub long_fraction : Option (List ℕ) → Bool
 long_fraction None = false
-long_fraction (Some ds) = nat_lt 19 (length ds)
+long_fraction (Some ds) = nat_lt 19 (length (significant ds))
 
 abbrev pub too_long : Span → Bool
 too_long s = nat_lt u64_max (decimal_value s.number) || long_fraction s.fraction
@@ -70,10 +70,13 @@ unfoldable pub add_all : ℕ → List Addition → Option ℕ
 add_all t [] = Some t
 add_all t (x ∷ xs) = if room t x then add_all (t + nanos_of x) xs else None
 
+abbrev pub is_whole_part : ℕ → List ℕ → Bool
+is_whole_part factor ds = nat_le (decimal_value ds * factor) u64_max && (decimal_value ds * factor % 10 ^ length ds == 0)
+
 abbrev pub fraction_fits : Option ℕ → Option (List ℕ) → Bool
 fraction_fits factor None = true
-fraction_fits None (Some ds) = false
-fraction_fits (Some factor) (Some ds) = nat_le (decimal_value ds * factor) u64_max && (decimal_value ds * factor % 10 ^ length ds == 0)
+fraction_fits None (Some ds) = length (significant ds) == 0
+fraction_fits (Some factor) (Some ds) = is_whole_part factor (significant ds)
 
 abbrev pub fits_at : Option Scale → Span → Bool
 fits_at None s = false

@@ -1,10 +1,10 @@
 -- What the code's units stand for.
-use Rattle.std.specs.Prelude.{◌≡◌, ℕ, List, length, Some, None, option_map}
+use Rattle.std.specs.Prelude.{◌≡◌, ℕ, Bool, true, false, List, [], ◌∷◌, length, Some, None, option_map}
 use Rattle.humantime.specs.declared.unit.Unit.{Unit}
 use Rattle.humantime.specs.declared.unit.Unit.TheVariants.{Nanosecond, Microsecond, Millisecond, Second, Minute, Hour, Day, Week, Month, Year}
 use Rattle.humantime.specs.declared.duration.amount.Fraction.{Fraction}
 use Rattle.humantime.specs.declared.duration.amount.Amount.{Amount}
-use Rattle.humantime.specs.Characters.{decimal_value}
+use Rattle.humantime.specs.Characters.{decimal_value, significant}
 use Rattle.humantime.specs.Units.{Scale, in_nanos, in_seconds_and_nanos, in_seconds, scale_of_word}
 use Rattle.humantime.specs.Spans.{Span}
 
@@ -20,12 +20,20 @@ scale_of Week = in_seconds 604800
 scale_of Month = in_seconds 2630016
 scale_of Year = in_seconds 31557600
 
--- a fraction as the number that its digits read as, and how many there are
-abbrev pub counted : List ℕ → ℕ × ℕ
-counted ds = (decimal_value ds, length ds)
+-- a fraction as the number that its digits before the zeros at their end read as, how many these are, and whether there is
+-- a digit at all
+abbrev pub Counted : Type 0
+Counted = ℕ × ℕ × Bool
 
-abbrev pub parts_of : Fraction → ℕ × ℕ
-parts_of f = (f.value, f.count)
+abbrev pub has_digits : List ℕ → Bool
+has_digits [] = false
+has_digits (d ∷ ds) = true
+
+abbrev pub counted : List ℕ → Counted
+counted ds = (decimal_value (significant ds), length (significant ds), has_digits ds)
+
+abbrev pub parts_of : Fraction → Counted
+parts_of f = (f.value, f.count, f.any)
 
 -- The amount is the one that the span stands for.
 pub record IsAmountOf (a : Amount) (s : Span) : Type 0 where

@@ -4,11 +4,11 @@ use Rattle.humantime.specs.declared.duration.reader.Parts.{Parts}
 use Rattle.humantime.specs.Characters.{decimal_value}
 use Rattle.humantime.specs.Faults.{number_of, after_number, fraction_of, after_fraction, word_of, after_word, span_of}
 use Rattle.humantime.specs.Reading.{too_long}
-use Rattle.humantime.specs.Scales.{counted, parts_of}
+use Rattle.humantime.specs.Scales.{Counted, counted, parts_of}
 use Rattle.humantime.specs.Scanning.{IsTail}
 
 -- The rest begins with a number and perhaps a fraction, neither of them too long, and letters and another text follow.
-pub record IsSpanRead (rest : List ℕ) (value : ℕ) (fraction : Option (ℕ × ℕ)) (after behind letters next : List ℕ) : Type 0 where
+pub record IsSpanRead (rest : List ℕ) (value : ℕ) (fraction : Option Counted) (after behind letters next : List ℕ) : Type 0 where
   pub short : too_long (span_of rest) ≡ false
   pub value_is : value ≡ decimal_value (number_of rest)
   pub fraction_is : fraction ≡ option_map counted (fraction_of rest)

@@ -2,7 +2,7 @@
 use Rattle.std.specs.Prelude.{◌≡◌, ◌≢◌, ℕ, ◌+◌, ◌*◌, ◌/◌, ◌%◌, ◌^◌, ◌<◌, ◌≤◌, Bool, true, List, [], ◌∷◌, ◌++◌, length, Option, Some, None, IsSome, IfSome, sum_by, flat_map, ⊤}
 use Rattle.std.specs.List.{AllByRecursion}
 use Rattle.humantime.specs.Times.{nanos_per_second}
-use Rattle.humantime.specs.Characters.{is_ws, is_letter, is_numeric, is_digit, begins, digits, decimal_value, u64_max}
+use Rattle.humantime.specs.Characters.{is_ws, is_letter, is_numeric, is_digit, begins, digits, decimal_value, significant, u64_max}
 use Rattle.humantime.specs.Units.{Scale, scale_of_word}
 
 -- The digits before the point, those after it where there is one, and the word.
@@ -62,9 +62,9 @@ nanos_of x = x.base * x.amount
 abbrev pub total : List Addition → ℕ
 total xs = sum_by nanos_of xs
 
--- how much a fraction with these digits is of a factor
+-- how much a fraction with these digits is of a factor; zeros at its end are left out
 abbrev pub fraction_amount : ℕ → List ℕ → ℕ
-fraction_amount factor ds = decimal_value ds * factor / 10 ^ length ds
+fraction_amount factor ds = decimal_value (significant ds) * factor / 10 ^ length (significant ds)
 
 abbrev pub fraction_additions : ℕ → Option ℕ → Option (List ℕ) → List Addition
 fraction_additions base (Some factor) (Some ds) = record { base = base; amount = fraction_amount factor ds } ∷ []
@@ -86,18 +86,23 @@ additions spans = flat_map additions_of spans
 abbrev pub value : List Span → ℕ
 value spans = total (additions spans)
 
--- the word is one of the units', the number fits a u64, and the fraction has at most 19 digits
+-- the word is one of the units', the number fits a u64, and the fraction has at most 19 digits before the zeros at its end
 pub record Formed (s : Span) : Type 0 where
   pub word : IsSome (scale_of_word s.word)
   pub number : decimal_value s.number ≤ u64_max
-  pub fraction : IfSome s.fraction (λ ds. length ds ≤ 19)
+  pub fraction : IfSome s.fraction (λ ds. length (significant ds) ≤ 19)
 
+-- these digits are a whole number of parts, and their product with the factor fits a u64
+abbrev pub IsWholePart : ℕ → List ℕ → Type 0
+IsWholePart factor ds = (decimal_value ds * factor ≤ u64_max) × (decimal_value ds * factor % 10 ^ length ds ≡ 0)
+
+-- a fraction is a whole number of its base; where there is none to count in, nothing but zeros
 abbrev pub FitsFraction : Option ℕ → Option (List ℕ) → Type 0
 FitsFraction factor None = ⊤
-FitsFraction None (Some ds) = ⊥
-FitsFraction (Some factor) (Some ds) = (decimal_value ds * factor ≤ u64_max) × (decimal_value ds * factor % 10 ^ length ds ≡ 0)
+FitsFraction None (Some ds) = significant ds ≡ []
+FitsFraction (Some factor) (Some ds) = IsWholePart factor (significant ds)
 
--- the products fit a u64, and the fraction is a whole number of its base
+-- the products fit a u64, and the fraction is a whole number
 abbrev pub Fits : Span → Type 0
 Fits s = IfSome (scale_of_word s.word) (λ u. (decimal_value s.number * u.factor ≤ u64_max) × FitsFraction u.fraction_factor s.fraction)
 

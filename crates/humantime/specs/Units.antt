@@ -25,11 +25,12 @@ abbrev pub in_seconds : ℕ → Scale
 in_seconds factor =
     record { base = nanos_per_second; factor = factor; fraction_base = nanos_per_second; fraction_factor = Some factor }
 
--- each word, and what it stands for
+-- each word, and what it stands for; one word begins with the micro sign, and one with the Greek letter mu
 abbrev pub words : List (List ℕ × Scale)
 words =
     (codes "nanos", in_nanos 1 None) ∷ (codes "nsec", in_nanos 1 None) ∷ (codes "ns", in_nanos 1 None)
-    ∷ (codes "usec", in_nanos 1000 (Some 1000)) ∷ (codes "us", in_nanos 1000 (Some 1000)) ∷ (0xb5 ∷ codes "s", in_nanos 1000 (Some 1000))
+    ∷ (codes "usec", in_nanos 1000 (Some 1000)) ∷ (codes "us", in_nanos 1000 (Some 1000))
+    ∷ (0xb5 ∷ codes "s", in_nanos 1000 (Some 1000)) ∷ (0x3bc ∷ codes "s", in_nanos 1000 (Some 1000))
     ∷ (codes "millis", in_nanos 1000000 (Some 1000000)) ∷ (codes "msec", in_nanos 1000000 (Some 1000000)) ∷ (codes "ms", in_nanos 1000000 (Some 1000000))
     ∷ (codes "seconds", in_seconds_and_nanos 1) ∷ (codes "second", in_seconds_and_nanos 1) ∷ (codes "secs", in_seconds_and_nanos 1) ∷ (codes "sec", in_seconds_and_nanos 1) ∷ (codes "s", in_seconds_and_nanos 1)
     ∷ (codes "minutes", in_seconds_and_nanos 60) ∷ (codes "minute", in_seconds_and_nanos 60) ∷ (codes "min", in_seconds_and_nanos 60) ∷ (codes "mins", in_seconds_and_nanos 60) ∷ (codes "m", in_seconds_and_nanos 60)

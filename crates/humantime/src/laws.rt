@@ -13,5 +13,5 @@ pub use printed::{
     canonical_again, printed_bounds, printed_duration_reads, printed_durations_differ,
 };
 pub use spans::spans_tile;
-pub use texts::{joined, reordered, without_ws};
+pub use texts::{joined, reordered, still_accepted, without_ws};
 pub use timestamps::{one_stamp_outcome, printed_moment_reads, stamps_in_order, strict_is_weak};

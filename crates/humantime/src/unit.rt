@@ -46,7 +46,7 @@ fn unit_of_key(key: u64) -> Option<Unit>
 {
     match key {
         words::NANOS | words::NSEC | words::NS => Some(Unit::Nanosecond),
-        words::USEC | words::US | words::MICRO_S => Some(Unit::Microsecond),
+        words::USEC | words::US | words::MICRO_S | words::MU_S => Some(Unit::Microsecond),
         words::MILLIS | words::MSEC | words::MS => Some(Unit::Millisecond),
         words::SECONDS | words::SECOND | words::SECS | words::SEC | words::S => Some(Unit::Second),
         words::MINUTES | words::MINUTE | words::MIN | words::MINS | words::M => Some(Unit::Minute),

@@ -4,7 +4,7 @@
 
 /// What is wrong with a text. Offsets are in bytes; the unit stands from `start` to `end`.
 #[derive(Clone, Copy, PartialEq, Debug)]
-pub enum Fault {
+pub(crate) enum Fault {
     Empty,
     NumberExpected(usize),
     InvalidCharacter(usize),
@@ -36,7 +36,7 @@ const SECOND: u128 = 1_000_000_000;
 
 static UNITS: [Unit; 10] = [
     ("nanos nsec ns", NANO, 1, None),
-    ("usec us µs", NANO, 1_000, Some(NANO)),
+    ("usec us \u{b5}s \u{3bc}s", NANO, 1_000, Some(NANO)),
     ("millis msec ms", NANO, 1_000_000, Some(NANO)),
     ("seconds second secs sec s", SECOND, 1, Some(NANO)),
     ("minutes minute min mins m", SECOND, 60, Some(NANO)),
@@ -48,7 +48,7 @@ static UNITS: [Unit; 10] = [
 ];
 
 /// The seconds and nanoseconds that a text stands for, or its first fault.
-pub fn read(text: &[char]) -> Result<(u64, u32), Fault> {
+pub(crate) fn read(text: &[char]) -> Result<(u64, u32), Fault> {
     if text == ['0'].as_slice() {
         return Ok((0, 0));
     }
@@ -197,7 +197,7 @@ fn kind_at(text: &[char], at: usize) -> Kind {
         Some('\u{2000}'..='\u{200a}' | '\u{2028}' | '\u{2029}') => Kind::Space,
         Some('\u{202f}' | '\u{205f}' | '\u{3000}') => Kind::Space,
         Some('0'..='9') => Kind::Digit,
-        Some('a'..='z' | 'A'..='Z' | '\u{b5}') => Kind::Letter,
+        Some('a'..='z' | 'A'..='Z' | '\u{b5}' | '\u{3bc}') => Kind::Letter,
         Some('.') => Kind::Point,
         Some(_) => Kind::Other,
     }

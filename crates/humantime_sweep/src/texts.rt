@@ -1,7 +1,7 @@
 //! The texts that the sweep begins with.
 
 /// Texts of the worked examples.
-pub(crate) static WORKED: [&str; 45] = [
+pub(crate) static WORKED: [&str; 48] = [
     "2h 37min",
     "1.234s0.345ms0.678us0ns",
     "0",
@@ -45,18 +45,22 @@ pub(crate) static WORKED: [&str; 45] = [
     "0.00000000000000000000s",
     "1µ",
     "1µ~",
+    "1\u{3bc}",
+    "1\u{3bc}~",
+    "1\u{3bc}\u{b5}s",
     "1é",
     "1.5foo",
 ];
 
 /// Texts of the Rust crate's tests: numbers with each word.
-pub(crate) static NUMBERS: [&str; 46] = [
+pub(crate) static NUMBERS: [&str; 47] = [
     "17nsec",
     "17nanos",
     "33ns",
     "3usec",
     "78us",
     "163µs",
+    "163\u{3bc}s",
     "31msec",
     "31millis",
     "6ms",
@@ -182,8 +186,8 @@ pub(crate) static REFUSED: [&str; 7] = [".1s", ".", "\0", "1~", "123", "10 month
 
 /// Texts as they are printed, and what they are printed from.
 pub(crate) static PRINTED: [&str; 7] = [
-    "123us",
-    "2years 2m 12us",
+    "123µs",
+    "2years 2m 12µs",
     "15days 2m 2s",
     "1.5w",
     "10days 12h",
@@ -192,7 +196,7 @@ pub(crate) static PRINTED: [&str; 7] = [
 ];
 
 /// Texts with a sign out of place, and at the limits.
-pub(crate) static LIMITS: [&str; 30] = [
+pub(crate) static LIMITS: [&str; 32] = [
     "1 .5s",
     "1. 5s",
     "18446744073709551614s 1000ms",
@@ -204,11 +208,13 @@ pub(crate) static LIMITS: [&str; 30] = [
     "1 .s",
     "1.5.s",
     "1.µ",
+    "1.\u{3bc}",
     "1h-2m",
     "1h -2m",
     "1s .5s",
     "1s.5s",
     "1sµ",
+    "1s\u{3bc}",
     "99999999999999999999",
     " 1 2.5 0 h3s x",
     "100000000000000000us 1foo",
@@ -221,6 +227,6 @@ pub(crate) static LIMITS: [&str; 30] = [
     "18446744073709551616s",
     "18446744073709551615s 1000000000ns",
     "1s\0",
-    "584542046090years 7months 15days 17h 5m 3s 999ms 999us 999ns",
-    "100000000000years 11months 29days 23h 59m 59s 999ms 999us 999ns",
+    "584542046090years 7months 15days 17h 5m 3s 999ms 999µs 999ns",
+    "100000000000years 11months 29days 23h 59m 59s 999ms 999µs 999ns",
 ];

@@ -1,3 +1,4 @@
 //! Callers that are proved: what CALLING.md shows.
 
-pub mod limits;
+pub mod durations;
+pub mod timestamps;

@@ -2,6 +2,7 @@
 //! from what the library answers.
 
 mod calendar;
+mod callers;
 mod counted_calendar;
 mod duration_errors;
 mod durations_printed;

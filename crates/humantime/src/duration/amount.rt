@@ -4,11 +4,13 @@ ghost use Rattle.std.specs.Prelude.{◌≤◌, ◌<◌, ◌^◌};
 
 use crate::unit::Unit;
 
-/// The digits after a point: the number that they read as, and how many there are.
+/// The digits after a point, without the zeros at their end: the number that they read as, and how many there are.
 #[derive(Clone, Copy, PartialEq, Debug)]
 pub(crate) struct Fraction {
     pub value: u64,
     pub count: u32,
+    /// Whether there is a digit, be it a zero.
+    pub any: bool,
     ghost few: { count ≤ 19 },
 }
 

@@ -53,7 +53,7 @@ fn wide_class(c: char) -> Class
     requires { 128 ≤ c }
     ensures { result ≡ class_of c }
 {
-    if c == '\u{b5}' {
+    if c == '\u{b5}' || c == '\u{3bc}' {
         Class::Letter
     } else if is_white(c) {
         Class::White

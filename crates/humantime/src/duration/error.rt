@@ -38,7 +38,8 @@ pub enum DurationError<'a> {
         /// The number that stands before the unit.
         value: u64,
     },
-    /// A number or a sum is too large, or a fraction is no whole number of nanoseconds.
+    /// A number, its product with its unit or a sum is too large, or a fraction has too many digits or is no
+    /// whole number of what its unit counts fractions in: nanoseconds up to minutes, seconds from hours up.
     NumberOverflow,
     /// There is nothing, or only white space.
     Empty,

@@ -14,7 +14,8 @@ use crate::duration::span::Span;
 
 /// The spans of a text that are still to come, from left to right, and then the fault at which they stop.
 ///
-/// After an error, and after the end, it gives `None` for good.
+/// After an error, and after the end, it gives `None` for good. An error points into the text, which may be
+/// cut at its offsets.
 ///
 /// ```text
 /// for item in spans("2h 37min") { .. }
@@ -85,22 +86,15 @@ impl<'a> SpanIter<'a> {
 impl<'a> Iterator for SpanIter<'a> {
     type Item = Result<Span<'a>, DurationError<'a>>;
 
-    ghost use Rattle.std.specs.Prelude.{⊤};
-    ghost use Rattle.std.specs.Iterator.{YieldsFirstBy, MakesProgress, item_count};
-    ghost use Rattle.humantime.specs.Lents.{item_of};
-    ghost use Rattle.humantime.specs.Remaining.{items_left, text_of};
+    ghost use Rattle.std.specs.Iterator.{item_count};
+    ghost use Rattle.humantime.specs.Remaining.{items_left, GivesItem};
 
-    ghost next_gives = { YieldsFirstBy item_of items_left };
+    ghost next_gives = { GivesItem };
 
     ghost remaining = { item_count items_left };
 
     #[inline(always)]
-    fn next(&mut self) -> Option<Result<Span<'a>, DurationError<'a>>>
-        ensures steps { YieldsFirstBy item_of items_left self.old result self.new }
-        ensures goes { MakesProgress (λ _. ⊤) (item_count items_left) self.old result self.new }
-        ensures place { IfSome result (λ item. IfErr item (PointsInto (text_of self.old))) }
-        ensures text { text_of self.new ≡ text_of self.old }
-    {
+    fn next(&mut self) -> Option<Result<Span<'a>, DurationError<'a>>> {
         self.step()
     }
 }

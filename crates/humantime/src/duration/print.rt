@@ -53,7 +53,8 @@ impl Model for FormattedDuration {
 ///
 /// The text is that of the crate: years of 365.25 days, months of 30.44 days, days, hours, minutes, seconds,
 /// milliseconds, microseconds and nanoseconds, each as many as there is room for. Counts of zero are left out,
-/// and years, months and days take an `s` above one. No time at all is `0s`.
+/// and years, months and days take an `s` above one. Microseconds are `µs`, with the micro sign U+00B5. No time at
+/// all is `0s`, and no text is longer than 64 bytes.
 ///
 /// ```text
 /// format_duration(StdDuration::from_secs(9420)) prints 2h 37m
@@ -82,7 +83,8 @@ impl FormattedDuration {
     /// format_duration(StdDuration::from_secs(90)).text(&mut [0; 64]) == "1m 30s"
     /// ```
     pub fn text<'b>(&self, buf: &'b mut [u8; 64]) -> &'b str
-        ensures { Canon self.now result.now }
+        ensures canon { Canon self.now result.now }
+        ensures text { result.now ≡ duration_text self.now }
     {
         let mut writer = Writer::new(buf);
         write_duration(&mut writer, self.value);
@@ -172,7 +174,7 @@ fn write_seconds(writer: &mut Writer<'_>, secs: u64)
     requires utf8 { IsUtf8 (written writer.old) }
     ensures same_reference { writer.new.bytes.ghost_name ≡ writer.old.bytes.ghost_name }
     ensures room { length writer.new.bytes.now ≡ 64 }
-    ensures end { writer.new.end ≤ 46 }
+    ensures end { writer.new.end ≤ 45 }
     ensures written { written writer.new ≡ with_seconds (written writer.old) secs }
     ensures utf8 { IsUtf8 (written writer.new) }
 {
@@ -192,7 +194,7 @@ fn write_seconds(writer: &mut Writer<'_>, secs: u64)
 #[tactic(auto, unfolding(crate::specs::Printing::with_nanos), using(crate::proofs::DecimalLengths::decimal_three))]
 fn write_nanos(writer: &mut Writer<'_>, nanos: u32)
     requires nanos { nanos < nanos_per_second }
-    requires end { writer.old.end ≤ 46 }
+    requires end { writer.old.end ≤ 45 }
     requires room { length writer.old.bytes.now ≡ 64 }
     requires utf8 { IsUtf8 (written writer.old) }
     ensures same_reference { writer.new.bytes.ghost_name ≡ writer.old.bytes.ghost_name }
@@ -203,6 +205,6 @@ fn write_nanos(writer: &mut Writer<'_>, nanos: u32)
 {
     let of_milli = nanos % 1_000_000;
     writer.push_count((nanos / 1_000_000) as u64, "ms");
-    writer.push_count((of_milli / 1000) as u64, "us");
+    writer.push_count((of_milli / 1000) as u64, "µs");
     writer.push_count((of_milli % 1000) as u64, "ns");
 }

@@ -25,7 +25,7 @@ fn is_bare(fraction: Option<Fraction>) -> bool
     ensures { result ≡ bare (option_map parts_of fraction) }
 {
     match fraction {
-        Some(digits) => digits.count == 0,
+        Some(digits) => !digits.any,
         None => false,
     }
 }

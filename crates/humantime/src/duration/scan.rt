@@ -10,7 +10,7 @@ use crate::duration::amount::Fraction;
 use crate::duration::class::{Class, class_of};
 use crate::duration::error::DurationError;
 
-/// How many digits a fraction may have.
+/// How many digits a fraction may have before the zeros at its end.
 const FRACTION_DIGITS: u32 = 19;
 
 /// A number up to this one can take another digit.
@@ -83,7 +83,7 @@ pub(crate) fn read_number<'a>(text: &'a str) -> Result<(u64, &'a str), DurationE
     Ok((value, rest))
 }
 
-/// The digits at the front of the text, at most 19, and what follows them.
+/// The digits at the front of the text, and what follows them: at most 19 digits, and then zeros.
 #[inline(always)]
 fn read_digits<'a>(text: &'a str) -> Result<(Fraction, &'a str), DurationError<'a>>
     ensures value { seen (λ x. (parts_of x.0, chars x.1.now)) result ≡ digits_at (chars text.now) }
@@ -91,24 +91,35 @@ fn read_digits<'a>(text: &'a str) -> Result<(Fraction, &'a str), DurationError<'
 {
     let mut value = 0;
     let mut count = 0;
+    // The same up to the last digit that is no zero.
+    let mut kept_value = 0;
+    let mut kept_count = 0;
     let mut rest = text;
     while let Some((c, after)) = first(rest) {
         match class_of(c) {
             Class::Digit => {
-                if count == FRACTION_DIGITS {
+                if count < FRACTION_DIGITS {
+                    value = value * 10 + (c as u64 - 48);
+                    count += 1;
+                    if c != '0' {
+                        kept_value = value;
+                        kept_count = count;
+                    }
+                } else if c != '0' {
                     return Err(DurationError::NumberOverflow);
                 }
-                value = value * 10 + (c as u64 - 48);
-                count += 1;
             }
             Class::White => {}
-            Class::Letter | Class::Point | Class::Other => {
-                return Ok((Fraction { value, count }, rest));
-            }
+            Class::Letter | Class::Point | Class::Other => break,
         }
         rest = after;
     }
-    Ok((Fraction { value, count }, rest))
+    let digits = Fraction {
+        value: kept_value,
+        count: kept_count,
+        any: count > 0,
+    };
+    Ok((digits, rest))
 }
 
 /// What follows the point at the front of the text, if there is one.

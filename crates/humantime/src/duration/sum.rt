@@ -108,7 +108,7 @@ fn add_fraction(total: StdDuration, fraction: Fraction, unit: Unit) -> Option<St
     ensures { result ≡ add_part total (scale_of unit).fraction_base (scale_of unit).fraction_factor fraction.value fraction.count }
 {
     match unit {
-        Unit::Nanosecond => None,
+        Unit::Nanosecond => (fraction.count == 0).then_some(total),
         Unit::Microsecond => add_nanos(total, part_of_power(fraction, 3)?),
         Unit::Millisecond => add_nanos(total, part_of_power(fraction, 6)?),
         Unit::Second => add_nanos(total, part_of_power(fraction, 9)?),

@@ -69,6 +69,7 @@ impl<'b> Writer<'b> {
         ensures same_reference { self.new.bytes.ghost_name ≡ self.old.bytes.ghost_name }
         ensures room { length self.new.bytes.now ≡ length self.old.bytes.now }
         ensures end { self.new.end ≤ self.old.end + 1 }
+        ensures first { self.old.end ≡ 0 → self.new.end ≡ 0 }
         ensures written { written self.new ≡ separated (written self.old) }
         ensures utf8 { IsUtf8 (written self.new) }
     {
@@ -86,6 +87,7 @@ impl<'b> Writer<'b> {
         ensures same_reference { self.new.bytes.ghost_name ≡ self.old.bytes.ghost_name }
         ensures room { length self.new.bytes.now ≡ length self.old.bytes.now }
         ensures end { self.new.end ≤ self.old.end + 1 + length (decimal count) + length unit.now }
+        ensures first { self.old.end ≡ 0 → self.new.end ≤ length (decimal count) + length unit.now }
         ensures written { written self.new ≡ with_count (written self.old) count (without_plural unit.now) }
         ensures utf8 { IsUtf8 (written self.new) }
     {
@@ -106,6 +108,7 @@ impl<'b> Writer<'b> {
         ensures same_reference { self.new.bytes.ghost_name ≡ self.old.bytes.ghost_name }
         ensures room { length self.new.bytes.now ≡ length self.old.bytes.now }
         ensures end { self.new.end ≤ self.old.end + 2 + length (decimal count) + length unit.now }
+        ensures first { self.old.end ≡ 0 → self.new.end ≤ 1 + length (decimal count) + length unit.now }
         ensures written { written self.new ≡ with_count (written self.old) count (with_plural unit.now) }
         ensures utf8 { IsUtf8 (written self.new) }
     {

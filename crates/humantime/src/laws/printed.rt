@@ -3,7 +3,7 @@
 ghost use Rattle.std.specs.Prelude.{◌≡◌, ◌↔◌, ℕ, List, chars, Ok, Err};
 ghost use Rattle.humantime.specs.Canonical.{IsCanonicalOf};
 ghost use Rattle.humantime.specs.Counts.{Canon};
-ghost use Rattle.humantime.specs.DurationAnswers.{canonical_answer};
+ghost use Rattle.humantime.specs.DurationAnswers.{duration_answer, canonical_answer};
 ghost use Rattle.humantime.specs.Faults.{Fault, HasFault};
 ghost use Rattle.humantime.specs.Printing.{duration_text};
 ghost use Rattle.humantime.specs.PrintedTexts.{HasOneText, ReadsBack, TextsTellApart, HasShortText, HasSmallCounts, HasCanonicalText, KeepsItsValue, KeepsItsText};
@@ -19,6 +19,7 @@ pub fn printed_duration_reads(d: StdDuration)
     ensures one { HasOneText d }
     ensures printed { Canon d (duration_text d) }
     ensures reads { ReadsBack d }
+    ensures answer { duration_answer (chars (duration_text d)) ≡ Ok d }
 {}
 
 /// Two durations have equal canonical texts exactly where they are equal.
@@ -30,10 +31,10 @@ pub fn printed_durations_differ(a: StdDuration, b: StdDuration)
     ensures { TextsTellApart a b }
 {}
 
-/// A canonical text has at most 63 bytes; its months are at most 11, its days at most 30.
+/// A canonical text has at most 64 bytes; its months are at most 11, its days at most 30.
 ///
 /// ```text
-/// 100000000000years 11months 29days 23h 59m 59s 999ms 999us 999ns has 63 bytes
+/// 100000000000years 11months 29days 23h 59m 59s 999ms 999µs 999ns has 64 bytes
 /// ```
 pub fn printed_bounds(d: StdDuration)
     ensures length { HasShortText d }

@@ -1,6 +1,7 @@
-//! Laws of accepted texts: without white space, one behind the other, and in another order.
+//! Laws of accepted texts: without white space, one behind the other, in another order, and accepted before.
 
 ghost use Rattle.std.specs.Prelude.{◌≡◌, ◌++◌, chars, codes};
+ghost use Rattle.humantime.specs.OlderSpecification.{IsStillAccepted};
 ghost use Rattle.humantime.specs.TextLaws.{NeedsNoWhiteSpace, IsZeroOrSpans, JoinedHaveSum, JoinedOverflow, JoinedHaveSumOrOverflow, ReorderedHaveOneValue, HasNoSpans};
 
 /// An accepted text without its white space is accepted with the same value.
@@ -43,4 +44,16 @@ pub fn joined(a: &str, b: &str)
 pub fn reordered(a: &str, b: &str)
     ensures value { ReorderedHaveOneValue (chars a.now) (chars b.now) }
     ensures zero { HasNoSpans (codes "0") }
+{}
+
+/// A text that was accepted while zeros at the end of a fraction counted is accepted with the same value.
+///
+/// They counted for the 19 digits that a fraction may have, and for the product and the power of ten by which it
+/// has to be whole; and nanoseconds had no fraction at all.
+///
+/// ```text
+/// 1.5000000000s was 1.5 seconds and is; 1.50000000000s was too large and is 1.5 seconds
+/// ```
+pub fn still_accepted(s: &str)
+    ensures { IsStillAccepted (chars s.now) }
 {}

@@ -18,6 +18,8 @@ pub(crate) const US: u64 = key!('u' 's');
 
 pub(crate) const MICRO_S: u64 = key!(0xc2 0xb5 's');
 
+pub(crate) const MU_S: u64 = key!(0xce 0xbc 's');
+
 pub(crate) const MILLIS: u64 = key!('m' 'i' 'l' 'l' 'i' 's');
 
 pub(crate) const MSEC: u64 = key!('m' 's' 'e' 'c');

@@ -91,12 +91,20 @@ fn accepted_texts_are_printed(rt: HostRuntime) {
         ("duration", "1 2 s", "12s\n"),
         ("duration", "1.5w", "10days 12h\n"),
         ("duration", "0.5y", "5months 30days 10h 12m\n"),
-        ("duration", "2years 2min 12us", "2years 2m 12us\n"),
+        ("duration", "2years 2min 12us", "2years 2m 12µs\n"),
         (
             "duration",
             "18446744073709551615.999999999s",
-            "584542046090years 7months 15days 17h 5m 3s 999ms 999us 999ns\n",
+            "584542046090years 7months 15days 17h 5m 3s 999ms 999µs 999ns\n",
         ),
+        (
+            "duration",
+            "100000000000y 11M 29d 23h 59m 59.999999999s",
+            "100000000000years 11months 29days 23h 59m 59s 999ms 999µs 999ns\n",
+        ),
+        ("duration", "12us", "12\u{b5}s\n"),
+        ("duration", "12\u{b5}s", "12\u{b5}s\n"),
+        ("duration", "12\u{3bc}s", "12\u{b5}s\n"),
         ("strict", "2016-12-31T23:59:60Z", "2016-12-31T23:59:59Z\n"),
         (
             "strict",
@@ -144,6 +152,11 @@ fn refused_texts_are_explained(rt: HostRuntime) {
             "duration",
             "10nights",
             "unknown time unit \"nights\", supported units: ns, us/µs, ms, sec, min, hours, days, weeks, months, years (and few variations)\n",
+        ),
+        (
+            "duration",
+            "1\u{3bc}",
+            "unknown time unit \"\u{3bc}\", supported units: ns, us/µs, ms, sec, min, hours, days, weeks, months, years (and few variations)\n",
         ),
         (
             "duration",

@@ -1,7 +1,8 @@
 //! The errors of durations: their messages, and which are equal.
 
-use crate::tests::support::assert_same;
+use crate::tests::support::{Sink, assert_same};
 use humantime::DurationError;
+use std::fmt::Write;
 use std::test::Fail;
 
 #[test]
@@ -22,6 +23,10 @@ fn each_error_has_its_message(rt: HostRuntime) -> Result<(), Fail> {
             "unknown time unit \"nights\", supported units: ns, us/µs, ms, sec, min, hours, days, weeks, months, years (and few variations)",
         ),
         (
+            unknown_unit(1, 3, "\u{3bc}", 1),
+            "unknown time unit \"\u{3bc}\", supported units: ns, us/µs, ms, sec, min, hours, days, weeks, months, years (and few variations)",
+        ),
+        (
             unknown_unit(1, 3, "µ", 1),
             "unknown time unit \"µ\", supported units: ns, us/µs, ms, sec, min, hours, days, weeks, months, years (and few variations)",
         ),
@@ -32,12 +37,12 @@ fn each_error_has_its_message(rt: HostRuntime) -> Result<(), Fail> {
         (DurationError::Empty, "value was empty"),
     ];
     for (error, message) in cases {
-        assert_same(&rt, format!(in rt.alloc(); "{error}")?.as_str(), message);
-        assert_same(
-            &rt,
-            format!(in rt.alloc(); "{error:*>200}")?.as_str(),
-            message,
-        );
+        let mut line = Sink::open();
+        write!(line, "{error}")?;
+        assert_same(&rt, line.text(), message);
+        let mut line = Sink::open();
+        write!(line, "{error:*>200}")?;
+        assert_same(&rt, line.text(), message);
         assert_same(&rt, error.clone()?, error);
     }
     Ok(())

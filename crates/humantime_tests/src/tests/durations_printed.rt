@@ -5,24 +5,22 @@ use humantime::{DurationError, StdDuration, canonical, format_duration, parse_du
 use std::fmt::{self, Write};
 use std::test::Fail;
 
-const LONGEST: &str = "100000000000years 11months 29days 23h 59m 59s 999ms 999us 999ns";
+const LONGEST: &str = "100000000000years 11months 29days 23h 59m 59s 999ms 999µs 999ns";
+
+const GREATEST: &str = "584542046090years 7months 15days 17h 5m 3s 999ms 999µs 999ns";
 
 #[test]
 fn a_duration_is_printed_in_its_greatest_counts(rt: HostRuntime) -> Result<(), Fail> {
     let cases = [
         (31_560_192, 0, "1year 43m 12s"),
-        (
-            u64::MAX,
-            999_999_999,
-            "584542046090years 7months 15days 17h 5m 3s 999ms 999us 999ns",
-        ),
+        (u64::MAX, 999_999_999, GREATEST),
         (0, 0, "0s"),
         (3_155_760_000_031_522_175, 999_999_999, LONGEST),
         (0, 1, "1ns"),
         (0, 999, "999ns"),
         (0, 32_000_000, "32ms"),
-        (0, 123_000, "123us"),
-        (63_115_320, 12_000, "2years 2m 12us"),
+        (0, 123_000, "123µs"),
+        (63_115_320, 12_000, "2years 2m 12µs"),
         (1_296_122, 0, "15days 2m 2s"),
         (907_200, 0, "10days 12h"),
         (15_778_800, 0, "5months 30days 10h 12m"),
@@ -38,8 +36,36 @@ fn a_duration_is_printed_in_its_greatest_counts(rt: HostRuntime) -> Result<(), F
         assert_same_at(&rt, sink.bytes(), text.as_bytes(), text);
         assert_same_at(&rt, sink.requests(), 1, text);
     }
-    assert_same(&rt, LONGEST.len(), 63);
+    assert_same(&rt, GREATEST.len(), 61);
     Ok(())
+}
+
+#[test]
+fn the_longest_text_fills_its_buffer(rt: HostRuntime) -> Result<(), Fail> {
+    let longest = StdDuration::checked_new(3_155_760_000_031_522_175, 999_999_999);
+    let printed = format_duration(longest.ok_or("no duration")?);
+    assert_same(&rt, LONGEST.len(), 64);
+    let mut buf = [b'-'; 64];
+    assert_same(&rt, printed.text(&mut buf), LONGEST);
+    assert_same(&rt, buf.as_slice(), LONGEST.as_bytes());
+    let mut again = [b'-'; 64];
+    assert_same(&rt, canonical(LONGEST, &mut again), Ok(LONGEST));
+    assert_same(&rt, again.as_slice(), LONGEST.as_bytes());
+    let mut sink = Sink::open();
+    assert_same(&rt, write!(sink, "{printed}"), Ok(()));
+    assert_same(&rt, sink.bytes(), LONGEST.as_bytes());
+    Ok(())
+}
+
+#[test]
+fn microseconds_are_printed_with_the_micro_sign(rt: HostRuntime) {
+    for text in ["1us", "1usec", "1\u{b5}s", "1\u{3bc}s"] {
+        let mut buf = [0; 64];
+        let printed = canonical(text, &mut buf).map(|printed| printed.as_bytes());
+        assert_same_at(&rt, printed, Ok([0x31, 0xc2, 0xb5, 0x73].as_slice()), text);
+    }
+    let printed = format_duration(StdDuration::from_micros(123));
+    assert_same(&rt, printed.text(&mut [0; 64]), "123\u{b5}s");
 }
 
 #[test]
@@ -81,7 +107,7 @@ fn each_second_of_a_day_reads_back(rt: HostRuntime) {
 fn a_canonical_text_is_printed_anew(rt: HostRuntime) {
     let cases = [
         ("2h 37min", "2h 37m"),
-        ("2years 2min 12us", "2years 2m 12us"),
+        ("2years 2min 12us", "2years 2m 12µs"),
         ("12M", "1year 43m 12s"),
         ("0", "0s"),
         (LONGEST, LONGEST),

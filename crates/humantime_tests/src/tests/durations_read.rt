@@ -1,7 +1,8 @@
 //! Texts of durations, and the value or the error of each.
 
-use crate::tests::support::assert_same_at;
+use crate::tests::support::{Sink, assert_same_at};
 use humantime::{DurationError, StdDuration, parse_duration};
+use std::fmt::Write;
 use std::process::Abort;
 use std::test::Fail;
 
@@ -28,7 +29,8 @@ fn numbers_with_each_word_are_counted_in_its_unit(rt: HostRuntime) {
         ("33ns", 0, 33),
         ("3usec", 0, 3000),
         ("78us", 0, 78_000),
-        ("163µs", 0, 163_000),
+        ("163\u{b5}s", 0, 163_000),
+        ("163\u{3bc}s", 0, 163_000),
         ("31msec", 0, 31_000_000),
         ("31millis", 0, 31_000_000),
         ("6ms", 0, 6_000_000),
@@ -170,7 +172,7 @@ fn fractions_of_a_minute_and_more(rt: HostRuntime) {
 #[test]
 fn the_greatest_values_are_reached(rt: HostRuntime) {
     let most = u64::MAX;
-    let nine_counts = "584542046090years 7months 15days 17h 5m 3s 999ms 999us 999ns";
+    let nine_counts = "584542046090years 7months 15days 17h 5m 3s 999ms 999µs 999ns";
     let rows = [
         (nine_counts, most, 999_999_999),
         ("18446744073709551615s", most, 0),
@@ -271,10 +273,12 @@ fn a_character_out_of_place_is_named_by_its_offset(rt: HostRuntime) {
         ("1..s", 2),
         ("1 .s", 2),
         ("1.5.s", 3),
-        ("1.µ", 1),
+        ("1.\u{b5}", 1),
+        ("1.\u{3bc}", 1),
         ("1.foo~", 1),
         ("1foo~", 4),
-        ("1µ~", 3),
+        ("1\u{b5}~", 3),
+        ("1\u{3bc}~", 3),
         ("1Nå", 2),
         ("1é", 1),
         ("1~", 1),
@@ -283,7 +287,6 @@ fn a_character_out_of_place_is_named_by_its_offset(rt: HostRuntime) {
         ("1s.5s", 2),
         ("1s\0", 2),
         ("1\u{200b}s", 1),
-        ("1\u{3bc}s", 1),
     ];
     for (text, at) in rows {
         assert_same_at(
@@ -312,8 +315,11 @@ fn a_word_that_is_no_unit_is_lent_from_the_text(rt: HostRuntime) {
         ("1.5foo", 3, 6, "foo", 1),
         ("1hs", 1, 3, "hs", 1),
         ("222nsec221nanosmsec7s5msec572s", 10, 19, "nanosmsec", 221),
-        ("1µ", 1, 3, "µ", 1),
-        ("1sµ", 1, 4, "sµ", 1),
+        ("1\u{b5}", 1, 3, "\u{b5}", 1),
+        ("1\u{3bc}", 1, 3, "\u{3bc}", 1),
+        ("1s\u{b5}", 1, 4, "s\u{b5}", 1),
+        ("1s\u{3bc}", 1, 4, "s\u{3bc}", 1),
+        ("1\u{3bc}\u{b5}s", 1, 6, "\u{3bc}\u{b5}s", 1),
     ];
     for (text, start, end, unit, value) in rows {
         let error = DurationError::UnknownUnit {
@@ -334,7 +340,7 @@ const WHITE: [char; 25] = [
 ];
 
 /// Characters beside those of white space, digits, letters and the point, and others that look like them.
-const OUT_OF_PLACE: [char; 29] = [
+const OUT_OF_PLACE: [char; 31] = [
     '\0',
     '\u{8}',
     '\u{e}',
@@ -355,7 +361,9 @@ const OUT_OF_PLACE: [char; 29] = [
     '\u{b4}',
     '\u{b6}',
     '\u{e9}',
-    '\u{3bc}',
+    '\u{39c}',
+    '\u{3bb}',
+    '\u{3bd}',
     '\u{660}',
     '\u{180e}',
     '\u{200b}',
@@ -369,14 +377,11 @@ const OUT_OF_PLACE: [char; 29] = [
 #[test]
 fn white_space_stands_before_and_after_each_part(rt: HostRuntime) -> Result<(), Fail> {
     for white in WHITE {
-        let text = format!(in rt.alloc(); "{white}1{white}2{white}s{white}")?;
+        let mut line = Sink::open();
+        write!(line, "{white}1{white}2{white}s{white}")?;
+        let text = line.text();
         let twelve = StdDuration::from_secs(12);
-        assert_same_at(
-            &rt,
-            parse_duration(text.as_str()),
-            Ok(twelve),
-            text.as_str(),
-        );
+        assert_same_at(&rt, parse_duration(text), Ok(twelve), text);
     }
     Ok(())
 }
@@ -384,39 +389,30 @@ fn white_space_stands_before_and_after_each_part(rt: HostRuntime) -> Result<(), 
 #[test]
 fn other_characters_are_named_where_they_stand(rt: HostRuntime) -> Result<(), Fail> {
     for other in OUT_OF_PLACE {
-        let text = format!(in rt.alloc(); "1{other}s")?;
+        let mut line = Sink::open();
+        write!(line, "1{other}s")?;
+        let text = line.text();
         let error = DurationError::InvalidCharacter(1);
-        assert_same_at(
-            &rt,
-            parse_duration(text.as_str()),
-            Err(error),
-            text.as_str(),
-        );
+        assert_same_at(&rt, parse_duration(text), Err(error), text);
     }
     Ok(())
 }
 
 #[test]
-fn letters_are_those_of_ascii_and_the_micro_sign(rt: HostRuntime) -> Result<(), Fail> {
-    for letter in ['A', 'Z', 'a', 'z', '\u{b5}'] {
-        let text = format!(in rt.alloc(); "1{letter}~")?;
+fn letters_are_those_of_ascii_the_micro_sign_and_mu(rt: HostRuntime) -> Result<(), Fail> {
+    for letter in ['A', 'Z', 'a', 'z', '\u{b5}', '\u{3bc}'] {
+        let mut line = Sink::open();
+        write!(line, "1{letter}~")?;
+        let text = line.text();
         let error = DurationError::InvalidCharacter(text.len().saturating_sub(1));
-        assert_same_at(
-            &rt,
-            parse_duration(text.as_str()),
-            Err(error),
-            text.as_str(),
-        );
+        assert_same_at(&rt, parse_duration(text), Err(error), text);
     }
     for digit in ['0', '9'] {
-        let text = format!(in rt.alloc(); "1{digit}~")?;
+        let mut line = Sink::open();
+        write!(line, "1{digit}~")?;
+        let text = line.text();
         let error = DurationError::InvalidCharacter(2);
-        assert_same_at(
-            &rt,
-            parse_duration(text.as_str()),
-            Err(error),
-            text.as_str(),
-        );
+        assert_same_at(&rt, parse_duration(text), Err(error), text);
     }
     Ok(())
 }
@@ -430,6 +426,7 @@ fn one_of_each_word_has_its_length(rt: HostRuntime) {
         ("1usec", 0, 1000),
         ("1us", 0, 1000),
         ("1\u{b5}s", 0, 1000),
+        ("1\u{3bc}s", 0, 1000),
         ("1millis", 0, 1_000_000),
         ("1msec", 0, 1_000_000),
         ("1ms", 0, 1_000_000),
@@ -459,24 +456,55 @@ fn one_of_each_word_has_its_length(rt: HostRuntime) {
 }
 
 #[test]
+fn microseconds_are_spelled_in_four_ways(rt: HostRuntime) -> Result<(), Fail> {
+    let numbers = [
+        ("12", 0, 12_000),
+        ("2.5", 0, 2_500),
+        ("18446744073709551.9", 18_446_744_073, 709_551_900),
+    ];
+    for (number, secs, nanos) in numbers {
+        for word in ["us", "usec", "\u{b5}s", "\u{3bc}s"] {
+            let mut line = Sink::open();
+            write!(line, "{number}{word}")?;
+            let text = line.text();
+            assert_values(&rt, &[(text, secs, nanos)]);
+        }
+    }
+    Ok(())
+}
+
+#[test]
 fn no_other_word_is_a_unit(rt: HostRuntime) -> Result<(), Fail> {
     for unit in [
-        "S", "Ms", "D", "H", "W", "Y", "\u{b5}", "\u{b5}S", "n", "u", "se", "mon", "foo",
-        "minutess", "ssssssss",
+        "S",
+        "Ms",
+        "D",
+        "H",
+        "W",
+        "Y",
+        "\u{b5}",
+        "\u{b5}S",
+        "\u{3bc}",
+        "\u{3bc}S",
+        "\u{b5}\u{3bc}s",
+        "n",
+        "u",
+        "se",
+        "mon",
+        "foo",
+        "minutess",
+        "ssssssss",
     ] {
-        let text = format!(in rt.alloc(); "1{unit}")?;
+        let mut line = Sink::open();
+        write!(line, "1{unit}")?;
+        let text = line.text();
         let error = DurationError::UnknownUnit {
             start: 1,
             end: text.len(),
             unit,
             value: 1,
         };
-        assert_same_at(
-            &rt,
-            parse_duration(text.as_str()),
-            Err(error),
-            text.as_str(),
-        );
+        assert_same_at(&rt, parse_duration(text), Err(error), text);
     }
     Ok(())
 }

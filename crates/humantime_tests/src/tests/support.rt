@@ -4,6 +4,7 @@ ghost use Rattle.std.specs.Prelude.{◌≤◌};
 
 use std::fmt::{self, Debug};
 use std::process::Abort;
+use std::str;
 
 /// Keeps what it is asked to take and counts the requests, or refuses each of them.
 #[derive(Drop)]
@@ -44,6 +45,11 @@ impl Sink {
     /// The bytes that it took.
     pub(crate) fn bytes(&self) -> &[u8] {
         &self.bytes[..self.len]
+    }
+
+    /// The text that it took.
+    pub(crate) fn text(&self) -> &str {
+        str::from_utf8(self.bytes()).unwrap_or("")
     }
 }
 

@@ -1,7 +1,8 @@
 //! The errors of timestamps and their messages.
 
-use crate::tests::support::assert_same;
+use crate::tests::support::{Sink, assert_same};
 use humantime::TimestampError;
+use std::fmt::Write;
 use std::test::Fail;
 
 #[test]
@@ -18,12 +19,12 @@ fn each_error_has_its_message(rt: HostRuntime) -> Result<(), Fail> {
         (TimestampError::InvalidFormat, "timestamp format is invalid"),
     ];
     for (error, message) in cases {
-        assert_same(&rt, error.to_string(rt.alloc())?.as_str(), message);
-        assert_same(
-            &rt,
-            format!(in rt.alloc(); "{error:*>200}")?.as_str(),
-            message,
-        );
+        let mut line = Sink::open();
+        write!(line, "{error}")?;
+        assert_same(&rt, line.text(), message);
+        let mut line = Sink::open();
+        write!(line, "{error:*>200}")?;
+        assert_same(&rt, line.text(), message);
     }
     Ok(())
 }

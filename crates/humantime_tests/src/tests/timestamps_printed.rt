@@ -126,9 +126,11 @@ fn a_moment_of_each_century_is_printed(rt: HostRuntime) -> Result<(), Fail> {
         let next = next_day(date);
         if date.year % 100 == 0 && date.month == 2 && next.month == 3 {
             let PlainDate { year, day, .. } = date;
-            let want = format!(in rt.alloc(); "{year:04}-02-{day:02}T23:59:59.123456789Z")?;
+            let mut line = Sink::open();
+            write!(line, "{year:04}-02-{day:02}T23:59:59.123456789Z")?;
+            let want = line.text();
             let last = moment(i64::from(number) * 86_400 + 86_399, 123456789)?;
-            assert_printed_whole(&rt, last, want.as_str())?;
+            assert_printed_whole(&rt, last, want)?;
         }
         date = next;
     }
@@ -211,8 +213,10 @@ fn days_as_counted(rt: &HostRuntime, first: i64, date: PlainDate) -> Result<u32,
     let mut right: u32 = 0;
     for _ in 0..731 {
         let PlainDate { year, month, day } = date;
-        let want = format!(in rt.alloc(); "{year:04}-{month:02}-{day:02}T00:00:00Z")?;
-        if is_printed_as(moment(secs, 0)?, want.as_str()) {
+        let mut line = Sink::open();
+        write!(line, "{year:04}-{month:02}-{day:02}T00:00:00Z")?;
+        let want = line.text();
+        if is_printed_as(moment(secs, 0)?, want) {
             right = right.wrapping_add(1);
         }
         date = next_day(date);
@@ -239,9 +243,11 @@ fn all_seconds_of_a_day(rt: HostRuntime) -> Result<(), Fail> {
         let hour = second / 3600;
         let minute = second / 60 % 60;
         let rest = second % 60;
-        let want = format!(in rt.alloc(); "2012-01-01T{hour:02}:{minute:02}:{rest:02}Z")?;
+        let mut line = Sink::open();
+        write!(line, "2012-01-01T{hour:02}:{minute:02}:{rest:02}Z")?;
+        let want = line.text();
         assert!(rt;
-            is_printed_as(moment(1325376000 + second, 0)?, want.as_str()),
+            is_printed_as(moment(1325376000 + second, 0)?, want),
             "{second}"
         );
     }

@@ -10,9 +10,9 @@ use std::fmt::{self, Write};
 use std::hash::{FoldHasher, Hash, Hasher};
 use std::test::Fail;
 
-const LONGEST: &str = "100000000000years 11months 29days 23h 59m 59s 999ms 999us 999ns";
+const LONGEST: &str = "100000000000years 11months 29days 23h 59m 59s 999ms 999µs 999ns";
 
-const GREATEST: &str = "584542046090years 7months 15days 17h 5m 3s 999ms 999us 999ns";
+const GREATEST: &str = "584542046090years 7months 15days 17h 5m 3s 999ms 999µs 999ns";
 
 fn least<T: Ord + Copy>(a: T, b: T) -> T {
     a.min(b)
@@ -86,7 +86,7 @@ fn no_time() -> Duration
 fn durations_read_and_print(rt: HostRuntime) -> Result<(), Fail> {
     for (text, secs, nanos, printed) in [
         ("12h 5min 2ns", 43_500, 2, "12h 5m 2ns"),
-        ("2years 2min 12us", 63_115_320, 12_000, "2years 2m 12us"),
+        ("2years 2min 12us", 63_115_320, 12_000, "2years 2m 12µs"),
         ("0", 0, 0, "0s"),
         (LONGEST, 3_155_760_000_031_522_175, 999_999_999, LONGEST),
         (GREATEST, u64::MAX, 999_999_999, GREATEST),

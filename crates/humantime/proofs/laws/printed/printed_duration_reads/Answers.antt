@@ -10,3 +10,6 @@ returns-clause-printed c = (printed_duration_reads c.args.d (omega arith)).print
 
 pub returns-clause-reads : goal.returns-clause-reads
 returns-clause-reads c = (printed_duration_reads c.args.d (omega arith)).reads
+
+pub returns-clause-answer : goal.returns-clause-answer
+returns-clause-answer c = (printed_duration_reads c.args.d (omega arith)).answer

@@ -3,7 +3,7 @@ use Rattle.humantime.proofs.TextTheorems as law
 use Rattle.humantime.proofs.laws.texts.reordered.Goals as goal
 
 pub returns-clause-value : goal.returns-clause-value
-returns-clause-value c = law.reordered (chars c.args.a.now) (chars c.args.b.now)
+returns-clause-value c = (law.reordered (chars c.args.a.now) (chars c.args.b.now)).value
 
 pub returns-clause-zero : goal.returns-clause-zero
-returns-clause-zero c = law.zero_has_no_spans
+returns-clause-zero c = (law.reordered (chars c.args.a.now) (chars c.args.b.now)).zero

@@ -4,7 +4,10 @@ use Rattle.humantime.specs.Printing.{duration_text}
 use Rattle.humantime.proofs.GreatestCounts.{text_is_canon}
 use Rattle.humantime.proofs.duration.print.FormattedDuration.text.Goals as goal
 
-pub returns : goal.returns
-returns c =
+pub returns-clause-text : goal.returns-clause-text
+returns-clause-text c =
     let kept : c.self.inside.value ≡ c.args.self.now = cc in
-    subst (Canon c.args.self.now) (sym (c.text.ensures ∙ c.write_duration.ensures.written ∙ ap duration_text kept)) (text_is_canon c.args.self.now)
+    c.text.ensures ∙ c.write_duration.ensures.written ∙ ap duration_text kept
+
+pub returns-clause-canon : goal.returns-clause-canon
+returns-clause-canon c = subst (Canon c.args.self.now) (sym (returns-clause-text c)) (text_is_canon c.args.self.now)

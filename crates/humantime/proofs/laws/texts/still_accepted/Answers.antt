@@ -1,0 +1,6 @@
+use Rattle.std.proofs.Common.{chars}
+use Rattle.humantime.proofs.OlderTexts as law
+use Rattle.humantime.proofs.laws.texts.still_accepted.Goals as goal
+
+pub returns : goal.returns
+returns c = law.still_accepted (chars c.args.s.now)

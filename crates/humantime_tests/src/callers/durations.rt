@@ -1,0 +1,85 @@
+//! Limits, ends and places of errors: callers of what reads and prints durations.
+
+ghost use Rattle.std.specs.Prelude.{◌≡◌, ◌+◌, ◌*◌, ◌/◌, ◌<◌, ◌≤◌, ◌↔◌, ℕ, chars, length, true, IfOk, IfSome, IsTrue, Ok, Some};
+ghost use Rattle.std.specs.Result.{result_map_both};
+ghost use Rattle.humantime.specs.Prelude.{Canon, duration_answer, told, fault_of, nanos_per_second};
+
+use humantime::laws::printed_duration_reads;
+use humantime::{DurationError, StdDuration, format_duration, parse_duration};
+
+/// The whole seconds of a time limit in a settings file, or the first fault of its text.
+pub fn limit_seconds(text: &str) -> Result<u64, DurationError<'_>>
+    ensures { told result ≡ result_map_both (λ v. v / nanos_per_second) (λ e. e) (duration_answer (chars text.now)) }
+{
+    Ok(parse_duration(text)?.as_secs())
+}
+
+/// The sum of a start and a length, if it is a duration, or else the first fault of the two texts.
+pub fn end_of<'a>(start: &'a str, len: &'a str) -> Result<Option<StdDuration>, DurationError<'a>>
+    ensures { IfOk result (λ end. IfSome end (λ d. (v : ℕ) × (w : ℕ) × (duration_answer (chars start.now) ≡ Ok v) × (duration_answer (chars len.now) ≡ Ok w) × (d ≡ v + w))) }
+{
+    Ok(parse_duration(start)?.checked_add(parse_duration(len)?))
+}
+
+/// Whether both texts are durations, and the first is no longer than the second.
+pub fn is_within(text: &str, most: &str) -> bool
+    ensures { IsTrue result ↔ ((v : ℕ) × (w : ℕ) × (duration_answer (chars text.now) ≡ Ok v) × (duration_answer (chars most.now) ≡ Ok w) × (v ≤ w)) }
+{
+    match (parse_duration(text), parse_duration(most)) {
+        (Ok(d), Ok(limit)) => d <= limit,
+        _ => false,
+    }
+}
+
+/// What is to be underlined of a text that is no duration: its unit, or what stands from its bad character on.
+pub fn underlined(text: &str) -> &str
+    ensures { length result.now ≤ length text.now }
+{
+    match parse_duration(text) {
+        Err(DurationError::InvalidCharacter(at) | DurationError::NumberExpected(at)) => &text[at..],
+        Err(DurationError::UnknownUnit { start, end, .. }) => &text[start..end],
+        _ => "",
+    }
+}
+
+/// The place of an error in a line in which the text stands behind so many bytes.
+pub fn place_in_line(text: &str, before: u32) -> Option<u64>
+    ensures { IfSome result (λ n. n < before + length text.now) }
+{
+    match parse_duration(text) {
+        Err(DurationError::InvalidCharacter(at)) => Some(before as u64 + at as u64),
+        _ => None,
+    }
+}
+
+/// Whether a second look at a text finds the same error.
+pub fn is_same_error(a: &DurationError<'_>, b: &DurationError<'_>) -> bool
+    ensures { IsTrue result ↔ (fault_of a.now ≡ fault_of b.now) }
+{
+    *a == *b
+}
+
+/// A count of seconds as the text of a duration.
+pub fn shown_seconds<'b>(secs: u64, buffer: &'b mut [u8; 64]) -> &'b str
+    ensures { Canon (secs * nanos_per_second) result.now }
+{
+    format_duration(StdDuration::from_secs(secs)).text(buffer)
+}
+
+/// Writes a duration into a file and reads it again: it is the same.
+pub fn comes_back(duration: StdDuration) -> bool
+    ensures { result ≡ true }
+{
+    printed_duration_reads(duration);
+    match parse_duration(format_duration(duration).text(&mut [0; 64])) {
+        Ok(read) => read == duration,
+        Err(_) => false,
+    }
+}
+
+/// The limit that holds where a file names none.
+pub fn default_limit() -> Option<StdDuration>
+    ensures { result ≡ Some (9420 * nanos_per_second) }
+{
+    parse_duration("2h 37min").ok()
+}

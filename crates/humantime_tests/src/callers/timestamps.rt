@@ -1,0 +1,67 @@
+//! Lines of a log: callers of what reads, prints and orders timestamps.
+
+ghost use Rattle.std.specs.Prelude.{◌≡◌, ◌*◌, ◌↔◌, ◌<ℤ◌, ◌≤ℤ◌, ℤ, pos, ◌+ℤ◌, IsTrue, IsSome, IfSome, IfOk, IsOkAnd, Ok, Err, string_bytes};
+ghost use Rattle.humantime.specs.declared.TimestampError.{TimestampError};
+ghost use Rattle.humantime.specs.Prelude.{weak_answer, strict_answer, IsPrinted, IsPrintable, cut, nanos_per_second};
+
+use humantime::{
+    StdDuration, SystemTime, TimestampError, format_rfc3339_millis, parse_rfc3339,
+    parse_rfc3339_weak,
+};
+use std::alloc::{AllocError, Global};
+
+/// Whether the moment of a line is not before this one, or what is wrong with the line's timestamp.
+pub fn is_since(stamp: &str, from: SystemTime) -> Result<bool, TimestampError>
+    ensures value { (t : ℤ) → strict_answer stamp.now ≡ Ok t → IsOkAnd result (λ since. IsTrue since ↔ (from ≤ℤ t)) }
+    ensures error { (e : TimestampError) → (result ≡ Err e) ↔ (strict_answer stamp.now ≡ Err e) }
+{
+    let moment = parse_rfc3339(stamp)?;
+    Ok(from <= moment)
+}
+
+/// The moment so long after the one that a text shows, if there is one.
+pub fn later_than(text: &str, time: StdDuration) -> Result<Option<SystemTime>, TimestampError>
+    ensures { IfOk result (λ later. IfSome later (λ moment. (t : ℤ) × (weak_answer text.now ≡ Ok t) × (moment ≡ t +ℤ pos time))) }
+{
+    Ok(parse_rfc3339_weak(text)?.checked_add(time))
+}
+
+/// Whether two texts show one moment, or have one error.
+pub fn is_same_moment(text: &str, other: &str) -> bool
+    ensures { IsTrue result ↔ (weak_answer text.now ≡ weak_answer other.now) }
+{
+    match (parse_rfc3339_weak(text), parse_rfc3339_weak(other)) {
+        (Ok(moment), Ok(same)) => moment == same,
+        (Err(error), Err(same)) => error == same,
+        _ => false,
+    }
+}
+
+/// A moment as it stands in front of a line, with milliseconds; none outside 1970 to 9999.
+pub fn stamp_of<'b>(moment: SystemTime, buffer: &'b mut [u8; 30]) -> Option<&'b str>
+    ensures within { IsSome result ↔ IsPrintable moment }
+    ensures text { IfSome result (λ text. IsPrinted moment 3 text.now) }
+{
+    format_rfc3339_millis(moment).text(buffer)
+}
+
+/// Whether one stamp is that of an earlier moment, told by their bytes alone.
+pub fn is_earlier(stamp: &str, other: &str) -> bool
+    ensures { (a : ℤ) (b : ℤ) → IsPrinted a 3 stamp.now → IsPrinted b 3 other.now → (IsTrue result ↔ (cut a 3 <ℤ cut b 3)) }
+{
+    stamp < other
+}
+
+/// A moment as a `String`, by `Display`.
+pub fn stamp_string(alloc: Global, moment: SystemTime) -> Result<String, AllocError>
+    ensures { IsPrintable moment → IfOk result (λ s. IsPrinted moment 3 (string_bytes s)) }
+{
+    format!(in alloc; "{}", format_rfc3339_millis(moment))
+}
+
+/// The moment from which lines are kept where nothing else is said.
+pub fn default_start() -> Result<SystemTime, TimestampError>
+    ensures { result ≡ Ok (pos (1_518_568_087 * nanos_per_second)) }
+{
+    parse_rfc3339("2018-02-14T00:28:07Z")
+}

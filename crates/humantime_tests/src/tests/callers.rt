@@ -1,0 +1,66 @@
+//! The callers of CALLING.md, run.
+
+use crate::callers::durations::{
+    comes_back, default_limit, end_of, is_same_error, is_within, limit_seconds, place_in_line,
+    shown_seconds, underlined,
+};
+use crate::callers::timestamps::{
+    default_start, is_earlier, is_same_moment, is_since, later_than, stamp_of, stamp_string,
+};
+use crate::tests::support::assert_same;
+use humantime::{DurationError, StdDuration, TimestampError, UNIX_EPOCH};
+use std::test::Fail;
+
+#[test]
+fn a_limit_is_read(rt: HostRuntime) {
+    assert_same(&rt, limit_seconds("1.5h 30s"), Ok(5430));
+    assert_same(&rt, limit_seconds("5 parsecs").is_err(), true);
+}
+
+#[test]
+fn callers_answer(rt: HostRuntime) {
+    assert_same(
+        &rt,
+        end_of("1h", "30min"),
+        Ok(Some(StdDuration::from_secs(5400))),
+    );
+    assert_same(&rt, is_within("90s", "1min"), false);
+    assert_same(&rt, underlined("10 nights"), "nights");
+    assert_same(&rt, underlined("2h 5é"), "é");
+    assert_same(&rt, place_in_line("1h~", 10), Some(12));
+    assert_same(
+        &rt,
+        is_same_error(&DurationError::Empty, &DurationError::NumberOverflow),
+        false,
+    );
+    assert_same(&rt, shown_seconds(90, &mut [0; 64]), "1m 30s");
+    assert_same(&rt, comes_back(StdDuration::from_secs(9420)), true);
+    assert_same(&rt, default_limit(), Some(StdDuration::from_secs(9420)));
+}
+
+#[test]
+fn callers_of_timestamps_answer(rt: HostRuntime) -> Result<(), Fail> {
+    let start = default_start().ok().ok_or("refused")?;
+    assert_same(&rt, start.unix_seconds(), 1518568087);
+    assert_same(&rt, is_since("2018-02-14T00:28:06Z", start), Ok(false));
+    assert_same(
+        &rt,
+        is_since("2018-02-14 00:28:07", start),
+        Err(TimestampError::InvalidFormat),
+    );
+    let later = later_than("1970-01-01 00:00:00", StdDuration::from_secs(1518568087));
+    assert_same(&rt, later, Ok(Some(start)));
+    assert_same(
+        &rt,
+        is_same_moment("2016-12-31T23:59:60Z", "2016-12-31 23:59:59"),
+        true,
+    );
+    let mut buffer = [0; 30];
+    let stamp = "1970-01-01T00:00:00.000Z";
+    assert_same(&rt, stamp_of(UNIX_EPOCH, &mut buffer), Some(stamp));
+    assert_same(&rt, is_earlier(stamp, "1970-01-01T00:00:00.001Z"), true);
+    if let Ok(string) = stamp_string(rt.alloc(), UNIX_EPOCH) {
+        assert_same(&rt, string.as_str(), stamp);
+    }
+    Ok(())
+}
