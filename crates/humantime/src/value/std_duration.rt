@@ -179,6 +179,13 @@ impl StdDuration {
         ensures sum { IfSome result (λ d. d ≡ self + nanos) }
     {
         let sum = nanos.checked_add(self.nanos as u64)?;
+        // Most sums carry nothing, and then nothing has to be divided.
+        if sum < NANOS_PER_SECOND as u64 {
+            return Some(StdDuration {
+                secs: self.secs,
+                nanos: sum as u32,
+            });
+        }
         let secs = self.secs.checked_add(sum / NANOS_PER_SECOND as u64)?;
         Some(StdDuration {
             secs,
