@@ -1,7 +1,9 @@
-//! Tests above the library, and nothing else: durations read by a plain reader too, and the two compared on a sweep
-//! of texts.
+//! Tests above the library, and nothing else: durations read by a plain reader too, the two compared on a sweep of texts,
+//! and long texts.
 #![tactic(auto)]
 
+#[cfg(test)]
+mod long_texts;
 #[cfg(test)]
 mod plain_reader;
 #[cfg(test)]

@@ -600,27 +600,3 @@ fn other_digits_of_a_fraction_count_with_the_zeros_before_them(rt: HostRuntime) 
     ];
     assert_errors(&rt, &not_long);
 }
-
-#[test]
-fn a_fraction_may_end_in_any_number_of_zeros(rt: HostRuntime) -> Result<(), Fail> {
-    for zero in ["0", "0 ", "\u{3000}0"] {
-        let mut zeros = String::new(rt.alloc());
-        for _ in 0..10_000 {
-            zeros.push_str(zero)?;
-        }
-        let zeros = zeros.as_str();
-        let none = format!(in rt.alloc(); "0.{zeros}s")?;
-        assert_values(&rt, &[(none.as_str(), 0, 0)]);
-        let nanosecond = format!(in rt.alloc(); "1.{zeros}ns")?;
-        assert_values(&rt, &[(nanosecond.as_str(), 0, 1)]);
-        let half = format!(in rt.alloc(); "1.5{zeros}h 30m")?;
-        assert_values(&rt, &[(half.as_str(), 7200, 0)]);
-        let with_digit = format!(in rt.alloc(); "0.{zeros}1s")?;
-        assert_errors(&rt, &[(with_digit.as_str(), DurationError::NumberOverflow)]);
-        let behind = format!(in rt.alloc(); "1.{zeros}~")?;
-        let place = zeros.len().saturating_add(2);
-        let out_of_place = DurationError::InvalidCharacter(place);
-        assert_errors(&rt, &[(behind.as_str(), out_of_place)]);
-    }
-    Ok(())
-}
