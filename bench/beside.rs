@@ -148,12 +148,14 @@ fn race(name: &str, mut of_crate: impl FnMut(), mut of_library: impl FnMut()) {
             return;
         }
     }
-    let rounds: usize = env!("BENCH_ROUNDS").parse().expect("a number of rounds");
     let taken = TAKEN.load(Relaxed);
     of_crate();
     let taken = TAKEN.load(Relaxed) - taken;
-    let once = batch(200, &mut of_crate).max(batch(200, &mut of_library)) / 200.0;
+    let once = batch(20, &mut of_crate).max(batch(20, &mut of_library)) / 20.0;
     let calls = ((30_000.0 / once) as usize).clamp(1, 1_000);
+    // A call that takes milliseconds has fewer rounds.
+    let wanted: usize = env!("BENCH_ROUNDS").parse().expect("a number of rounds");
+    let rounds = wanted.min((500_000_000.0 / once) as usize / calls).max(50);
     let mut least = [f64::MAX; 2];
     let mut ratios = Vec::with_capacity(rounds);
     for round in 0..rounds {
