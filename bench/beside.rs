@@ -1,0 +1,457 @@
+//! Times the crate and the library beside one another, in one process.
+//!
+//! Each row is one call of each side, which is not inlined and leaves its answer in the caller's place. The two
+//! sides are called in turn, batch by batch, and the side that begins changes with each round.
+
+use std::alloc::{GlobalAlloc, Layout, System};
+use std::fmt::Write;
+use std::hint::black_box;
+use std::sync::atomic::{AtomicUsize, Ordering::Relaxed};
+use std::time::{Duration, Instant, SystemTime, UNIX_EPOCH};
+
+// Moves the code by so many bytes, so that several builds differ in their layout.
+std::arch::global_asm!(concat!(".text\n.space ", env!("BENCH_PADDING"), ", 0x90"));
+
+/// Counts the crate's allocations.
+struct Counting;
+
+static TAKEN: AtomicUsize = AtomicUsize::new(0);
+
+unsafe impl GlobalAlloc for Counting {
+    unsafe fn alloc(&self, layout: Layout) -> *mut u8 {
+        TAKEN.store(TAKEN.load(Relaxed) + 1, Relaxed);
+        unsafe { System.alloc(layout) }
+    }
+
+    unsafe fn dealloc(&self, memory: *mut u8, layout: Layout) {
+        unsafe { System.dealloc(memory, layout) }
+    }
+}
+
+#[global_allocator]
+static COUNTING: Counting = Counting;
+
+/// What a call of the library answered.
+#[repr(C)]
+#[derive(Default)]
+struct Answer {
+    kind: u32,
+    nanos: u32,
+    secs: i64,
+    start: usize,
+    end: usize,
+    value: u64,
+}
+
+#[allow(improper_ctypes)]
+unsafe extern "C" {
+    fn library_read_duration(text: *const u8, length: usize, place: &mut Answer);
+    fn library_walk_spans(text: *const u8, length: usize, place: &mut Answer);
+    fn library_canonical(text: *const u8, length: usize, place: &mut [u8; 64]) -> usize;
+    fn library_print_duration(secs: u64, nanos: u32, place: &mut [u8; 64]) -> usize;
+    fn library_read_strict(text: *const u8, length: usize, place: &mut Answer);
+    fn library_read_weak(text: *const u8, length: usize, place: &mut Answer);
+    fn library_print_seconds(secs: i64, nanos: u32, place: &mut [u8; 30]) -> usize;
+    fn library_print_millis(secs: i64, nanos: u32, place: &mut [u8; 30]) -> usize;
+    fn library_print_micros(secs: i64, nanos: u32, place: &mut [u8; 30]) -> usize;
+    fn library_print_nanos(secs: i64, nanos: u32, place: &mut [u8; 30]) -> usize;
+}
+
+type ReadByLibrary = unsafe extern "C" fn(*const u8, usize, &mut Answer);
+
+type StampByLibrary = unsafe extern "C" fn(i64, u32, &mut [u8; 30]) -> usize;
+
+type DurationRead = Result<Duration, humantime::DurationError>;
+
+type MomentRead = Result<SystemTime, humantime::TimestampError>;
+
+/// Where the crate's text goes, with room for it.
+type Text = String;
+
+/// The text with the micro sign written as `u`, which the crate prints unless its feature `mu` is chosen.
+fn plain(text: &[u8]) -> String {
+    String::from_utf8_lossy(text).replace('µ', "u")
+}
+
+#[inline(never)]
+fn crate_read_duration(text: &str, place: &mut DurationRead) {
+    // Drops the answer before, and writes this one where it is wanted, without a copy.
+    unsafe {
+        std::ptr::drop_in_place(place);
+        std::ptr::write(place, humantime::parse_duration(text));
+    }
+}
+
+#[inline(never)]
+fn crate_canonical(text: &str, place: &mut Text) {
+    place.clear();
+    if let Ok(duration) = humantime::parse_duration(text) {
+        let _ = write!(place, "{}", humantime::format_duration(duration));
+    }
+}
+
+#[inline(never)]
+fn crate_print_duration(duration: Duration, place: &mut Text) {
+    place.clear();
+    let _ = write!(place, "{}", humantime::format_duration(duration));
+}
+
+#[inline(never)]
+fn crate_read_strict(text: &str, place: &mut MomentRead) {
+    unsafe { std::ptr::write(place, humantime::parse_rfc3339(text)) };
+}
+
+#[inline(never)]
+fn crate_read_weak(text: &str, place: &mut MomentRead) {
+    unsafe { std::ptr::write(place, humantime::parse_rfc3339_weak(text)) };
+}
+
+#[inline(never)]
+fn crate_print_seconds(moment: SystemTime, place: &mut Text) {
+    place.clear();
+    let _ = write!(place, "{}", humantime::format_rfc3339_seconds(moment));
+}
+
+#[inline(never)]
+fn crate_print_millis(moment: SystemTime, place: &mut Text) {
+    place.clear();
+    let _ = write!(place, "{}", humantime::format_rfc3339_millis(moment));
+}
+
+#[inline(never)]
+fn crate_print_micros(moment: SystemTime, place: &mut Text) {
+    place.clear();
+    let _ = write!(place, "{}", humantime::format_rfc3339_micros(moment));
+}
+
+#[inline(never)]
+fn crate_print_nanos(moment: SystemTime, place: &mut Text) {
+    place.clear();
+    let _ = write!(place, "{}", humantime::format_rfc3339_nanos(moment));
+}
+
+/// The nanoseconds of so many calls.
+#[inline(always)]
+fn batch(calls: usize, mut call: impl FnMut()) -> f64 {
+    let start = Instant::now();
+    for _ in 0..calls {
+        call();
+    }
+    start.elapsed().as_nanos() as f64
+}
+
+/// Prints a row: its name, the least time of each side, the median of the ratios, the allocations of a call of the crate.
+#[inline(always)]
+fn race(name: &str, mut of_crate: impl FnMut(), mut of_library: impl FnMut()) {
+    if let Ok(only) = std::env::var("BENCH_ONLY") {
+        if !name.contains(&only) {
+            return;
+        }
+    }
+    let taken = TAKEN.load(Relaxed);
+    of_crate();
+    let taken = TAKEN.load(Relaxed) - taken;
+    let once = batch(20, &mut of_crate).max(batch(20, &mut of_library)) / 20.0;
+    let calls = ((30_000.0 / once) as usize).clamp(1, 1_000);
+    // A call that takes milliseconds has fewer rounds.
+    let wanted: usize = env!("BENCH_ROUNDS").parse().expect("a number of rounds");
+    let rounds = wanted.min((500_000_000.0 / once) as usize / calls).max(50);
+    let mut least = [f64::MAX; 2];
+    let mut ratios = Vec::with_capacity(rounds);
+    for round in 0..rounds {
+        let (by_crate, by_library);
+        if round % 2 == 0 {
+            by_crate = batch(calls, &mut of_crate);
+            by_library = batch(calls, &mut of_library);
+        } else {
+            by_library = batch(calls, &mut of_library);
+            by_crate = batch(calls, &mut of_crate);
+        }
+        least[0] = least[0].min(by_crate / calls as f64);
+        least[1] = least[1].min(by_library / calls as f64);
+        ratios.push(by_library / by_crate);
+    }
+    ratios.sort_by(f64::total_cmp);
+    println!(
+        "{name}\t{:.2}\t{:.2}\t{:.4}\t{taken}",
+        least[0],
+        least[1],
+        ratios[rounds / 2]
+    );
+}
+
+/// The crate's answer to a duration's text, as the library says it.
+fn duration_answer(text: &str) -> (u32, u64, u32, usize, usize) {
+    use humantime::DurationError::*;
+    match humantime::parse_duration(text) {
+        Ok(duration) => (0, duration.as_secs(), duration.subsec_nanos(), 0, 0),
+        Err(InvalidCharacter(at)) => (1, 0, 0, at, 0),
+        Err(NumberExpected(at)) => (2, 0, 0, at, 0),
+        Err(UnknownUnit { start, end, value, .. }) => (3, value, 0, start, end),
+        Err(NumberOverflow) => (4, 0, 0, 0, 0),
+        Err(Empty) => (5, 0, 0, 0, 0),
+    }
+}
+
+macro_rules! read_duration {
+    ($name:expr, $text:expr) => {{
+        let text: &str = $text;
+        let mut place = Answer::default();
+        unsafe { library_read_duration(text.as_ptr(), text.len(), &mut place) };
+        assert_eq!(
+            (place.kind, place.value, place.nanos, place.start, place.end),
+            duration_answer(text),
+            "{}",
+            $name
+        );
+        let mut crate_place = Ok(Duration::ZERO);
+        race(
+            $name,
+            || {
+                crate_read_duration(black_box(text), &mut crate_place);
+                black_box(&crate_place);
+            },
+            || {
+                let text = black_box(text);
+                unsafe { library_read_duration(text.as_ptr(), text.len(), &mut place) };
+                black_box(&place);
+            },
+        );
+    }};
+}
+
+/// `spans` has no match in the crate; it stands beside the crate's reading of the same text.
+macro_rules! walk_spans {
+    ($name:expr, $text:expr) => {{
+        let text: &str = $text;
+        let mut place = Answer::default();
+        let mut crate_place = Ok(Duration::ZERO);
+        race(
+            $name,
+            || {
+                crate_read_duration(black_box(text), &mut crate_place);
+                black_box(&crate_place);
+            },
+            || {
+                let text = black_box(text);
+                unsafe { library_walk_spans(text.as_ptr(), text.len(), &mut place) };
+                black_box(&place);
+            },
+        );
+    }};
+}
+
+macro_rules! canonical {
+    ($name:expr, $text:expr) => {{
+        let text: &str = $text;
+        let mut place = [0; 64];
+        let mut crate_place = Text::with_capacity(64);
+        crate_canonical(text, &mut crate_place);
+        let length = unsafe { library_canonical(text.as_ptr(), text.len(), &mut place) };
+        assert_eq!(plain(&place[..length]), plain(crate_place.as_bytes()));
+        race(
+            $name,
+            || {
+                crate_canonical(black_box(text), &mut crate_place);
+                black_box(&crate_place);
+            },
+            || {
+                let text = black_box(text);
+                let length = unsafe { library_canonical(text.as_ptr(), text.len(), &mut place) };
+                black_box((length, &place));
+            },
+        );
+    }};
+}
+
+macro_rules! print_duration {
+    ($name:expr, $secs:expr, $nanos:expr) => {{
+        let (secs, nanos): (u64, u32) = ($secs, $nanos);
+        let duration = Duration::new(secs, nanos);
+        let mut place = [0; 64];
+        let mut crate_place = Text::with_capacity(64);
+        crate_print_duration(duration, &mut crate_place);
+        let length = unsafe { library_print_duration(secs, nanos, &mut place) };
+        assert_eq!(plain(&place[..length]), plain(crate_place.as_bytes()));
+        race(
+            $name,
+            || {
+                crate_print_duration(black_box(duration), &mut crate_place);
+                black_box(&crate_place);
+            },
+            || {
+                let (secs, nanos) = black_box((secs, nanos));
+                let length = unsafe { library_print_duration(secs, nanos, &mut place) };
+                black_box((length, &place));
+            },
+        );
+    }};
+}
+
+/// The crate's answer to a timestamp's text, as the library says it.
+fn moment_answer(answer: MomentRead) -> (u32, i64, u32) {
+    use humantime::TimestampError::*;
+    match answer {
+        Ok(moment) => {
+            let after = moment.duration_since(UNIX_EPOCH).expect("a moment from 1970 on");
+            (0, after.as_secs() as i64, after.subsec_nanos())
+        }
+        Err(OutOfRange) => (1, 0, 0),
+        Err(InvalidDigit) => (2, 0, 0),
+        Err(InvalidFormat) => (3, 0, 0),
+        Err(_) => unreachable!("the crate has three errors"),
+    }
+}
+
+macro_rules! read_moment {
+    ($name:expr, $by_crate:ident, $by_library:ident, $text:expr) => {{
+        let text: &str = $text;
+        let mut place = Answer::default();
+        let mut crate_place = Ok(UNIX_EPOCH);
+        $by_crate(text, &mut crate_place);
+        let by_library: ReadByLibrary = $by_library;
+        unsafe { by_library(text.as_ptr(), text.len(), &mut place) };
+        assert_eq!(
+            (place.kind, place.secs, place.nanos),
+            moment_answer(crate_place),
+            "{}",
+            $name
+        );
+        let mut crate_place = Ok(UNIX_EPOCH);
+        race(
+            $name,
+            || {
+                $by_crate(black_box(text), &mut crate_place);
+                black_box(&crate_place);
+            },
+            || {
+                let text = black_box(text);
+                unsafe { $by_library(text.as_ptr(), text.len(), &mut place) };
+                black_box(&place);
+            },
+        );
+    }};
+}
+
+macro_rules! print_moment {
+    ($name:expr, $by_crate:ident, $by_library:ident, $secs:expr, $nanos:expr) => {{
+        let (secs, nanos): (i64, u32) = ($secs, $nanos);
+        let moment = UNIX_EPOCH + Duration::new(secs as u64, nanos);
+        let mut place = [0; 30];
+        let mut crate_place = Text::with_capacity(64);
+        $by_crate(moment, &mut crate_place);
+        let by_library: StampByLibrary = $by_library;
+        let length = unsafe { by_library(secs, nanos, &mut place) };
+        assert_eq!(plain(&place[..length]), plain(crate_place.as_bytes()));
+        race(
+            $name,
+            || {
+                $by_crate(black_box(moment), &mut crate_place);
+                black_box(&crate_place);
+            },
+            || {
+                let (secs, nanos) = black_box((secs, nanos));
+                let length = unsafe { $by_library(secs, nanos, &mut place) };
+                black_box((length, &place));
+            },
+        );
+    }};
+}
+
+fn durations() {
+    let most = "584542046090years 7months 15days 17h 5m 3s 999ms 999us 999ns";
+    read_duration!("read `2h 37min`", "2h 37min");
+    read_duration!("read `1.234s 1.345ms 1.678us 1ns`", "1.234s 1.345ms 1.678us 1ns");
+    read_duration!("read `15days 2min 2s`", "15days 2min 2s");
+    read_duration!("read the 60 bytes of the longest duration", most);
+    read_duration!("read `12`, U+3000, `s 163µs`", "12\u{3000}s 163µs");
+    read_duration!("read `163µs`", "163µs");
+    read_duration!("read `0`", "0");
+    read_duration!("refuse `100000000000000000us 1foo`", "100000000000000000us 1foo");
+    read_duration!("refuse `1foo~`", "1foo~");
+    read_duration!("refuse `10nights`", "10nights");
+    read_duration!("refuse `12 34`", "12 34");
+    read_duration!("refuse `1h x`", "1h x");
+    read_duration!("refuse `20000000000000000000s`", "20000000000000000000s");
+    read_duration!("read a megabyte of `1h `", &"1h ".repeat(349_525));
+    walk_spans!("`spans` of the longest duration, beside the crate's reading", most);
+    walk_spans!(
+        "`spans` of a megabyte of `1h `, beside the crate's reading",
+        &"1h ".repeat(349_525)
+    );
+    canonical!("`canonical` of `2h 37min`, beside reading and printing", "2h 37min");
+    canonical!("`canonical` of the longest duration, beside reading and printing", most);
+    print_duration!("print 9420 seconds", 9_420, 0);
+    print_duration!("print 1296122 seconds", 1_296_122, 0);
+    print_duration!("print 63115320 seconds and 12000 nanoseconds", 63_115_320, 12_000);
+    print_duration!("print the longest duration", u64::MAX, 999_999_999);
+    print_duration!("print zero", 0, 0);
+}
+
+macro_rules! read_both {
+    ($verb:expr, $name:expr, $text:expr) => {{
+        read_moment!(
+            &format!("{} {}, strict", $verb, $name),
+            crate_read_strict,
+            library_read_strict,
+            $text
+        );
+        read_moment!(
+            &format!("{} {}, weak", $verb, $name),
+            crate_read_weak,
+            library_read_weak,
+            $text
+        );
+    }};
+}
+
+fn timestamps() {
+    read_both!("read", "`2018-02-14T00:28:07Z`", "2018-02-14T00:28:07Z");
+    read_both!("read", "`2018-02-14T00:28:07.133Z`", "2018-02-14T00:28:07.133Z");
+    read_both!(
+        "read",
+        "`2018-02-14T00:28:07.123456789Z`",
+        "2018-02-14T00:28:07.123456789Z"
+    );
+    read_both!("read", "`2018-02-14T00:28:07+00:00`", "2018-02-14T00:28:07+00:00");
+    read_both!("refuse", "`2018-02-14t00:28:07Z`", "2018-02-14t00:28:07Z");
+    read_both!("refuse", "`2018-02-1xT00:28:07Z`", "2018-02-1xT00:28:07Z");
+    read_both!("refuse", "`2018-02-30T00:28:07Z`", "2018-02-30T00:28:07Z");
+    read_both!("refuse", "`2018-02-14T00:28:07.13x3Z`", "2018-02-14T00:28:07.13x3Z");
+    let long = format!("2018-02-14T00:28:07.{}Z", "1".repeat(1_000_000));
+    read_both!("read", "a megabyte of fraction", &long);
+    let (secs, nanos) = (1_518_563_287, 123_456_789);
+    print_moment!(
+        "print a timestamp in seconds",
+        crate_print_seconds,
+        library_print_seconds,
+        secs,
+        nanos
+    );
+    print_moment!(
+        "print a timestamp in milliseconds",
+        crate_print_millis,
+        library_print_millis,
+        secs,
+        nanos
+    );
+    print_moment!(
+        "print a timestamp in microseconds",
+        crate_print_micros,
+        library_print_micros,
+        secs,
+        nanos
+    );
+    print_moment!(
+        "print a timestamp in nanoseconds",
+        crate_print_nanos,
+        library_print_nanos,
+        secs,
+        nanos
+    );
+}
+
+fn main() {
+    durations();
+    timestamps();
+}
