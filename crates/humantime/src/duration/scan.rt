@@ -1,10 +1,9 @@
 //! Steps over a text: a character, a number, a fraction.
 
-ghost use Rattle.std.specs.Prelude.{◌≡◌, false, ◌≢◌, ◌++◌, [], ◌∷◌, ℕ, List, length, chars, option_map, encode_utf8, IfNone, IfSome, IfOk, SomeIff, ◌+◌, ◌-◌, ◌*◌, ◌≤◌};
-ghost use Rattle.humantime.specs.Characters.{IsDigit, is_digit, is_point, begins, decimal_value, u64_max};
+ghost use Rattle.std.specs.Prelude.{◌≡◌, false, ◌≢◌, ◌++◌, [], ◌∷◌, ℕ, List, chars, option_map, encode_utf8, IfNone, IfSome, IfOk, SomeIff, ◌+◌, ◌-◌, ◌*◌, ◌≤◌};
+ghost use Rattle.humantime.specs.Characters.{IsDigit, is_point, begins, u64_max};
 ghost use Rattle.humantime.specs.Errors.{seen};
-ghost use Rattle.humantime.specs.Scales.{counted, parts_of};
-ghost use Rattle.humantime.specs.Spans.{Only};
+ghost use Rattle.humantime.specs.Scales.{parts_of};
 ghost use Rattle.humantime.specs.Scanning.{IsTail, number_at, digits_at, fraction_read};
 
 use crate::duration::amount::Fraction;
@@ -84,25 +83,6 @@ pub(crate) fn read_number<'a>(text: &'a str) -> Result<(u64, &'a str), DurationE
     Ok((value, rest))
 }
 
-/// The fraction of these digits, so many, which read as the value: without the zeros at their end.
-#[inline(always)]
-fn without_zeros(value: u64, count: u32) -> Fraction
-    requires { count ≤ 19 }
-    ensures { (ds : List ℕ) → Only is_digit ds → decimal_value ds ≡ value → length ds ≡ count → parts_of result ≡ counted ds }
-{
-    let mut kept_value = value;
-    let mut kept_count = count;
-    while kept_count > 0 && kept_value % 10 == 0 {
-        kept_value /= 10;
-        kept_count -= 1;
-    }
-    Fraction {
-        value: kept_value,
-        count: kept_count,
-        any: count > 0,
-    }
-}
-
 /// The digits at the front of the text, and what follows them: at most 19 digits, and then zeros.
 #[inline(always)]
 fn read_digits<'a>(text: &'a str) -> Result<(Fraction, &'a str), DurationError<'a>>
@@ -111,6 +91,9 @@ fn read_digits<'a>(text: &'a str) -> Result<(Fraction, &'a str), DurationError<'
 {
     let mut value = 0;
     let mut count = 0;
+    // The same up to the last digit that is no zero.
+    let mut kept_value = 0;
+    let mut kept_count = 0;
     let mut rest = text;
     while let Some((c, after)) = first(rest) {
         match class_of(c) {
@@ -118,6 +101,10 @@ fn read_digits<'a>(text: &'a str) -> Result<(Fraction, &'a str), DurationError<'
                 if count < FRACTION_DIGITS {
                     value = value * 10 + (c as u64 - 48);
                     count += 1;
+                    if c != '0' {
+                        kept_value = value;
+                        kept_count = count;
+                    }
                 } else if c != '0' {
                     return Err(DurationError::NumberOverflow);
                 }
@@ -127,7 +114,12 @@ fn read_digits<'a>(text: &'a str) -> Result<(Fraction, &'a str), DurationError<'
         }
         rest = after;
     }
-    Ok((without_zeros(value, count), rest))
+    let digits = Fraction {
+        value: kept_value,
+        count: kept_count,
+        any: count > 0,
+    };
+    Ok((digits, rest))
 }
 
 /// What follows the point at the front of the text, if there is one.
