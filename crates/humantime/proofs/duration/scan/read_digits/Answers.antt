@@ -30,7 +30,7 @@ overflow_add-value c =
 pub loop-c-preserved-then-c-ne48 : goal.loop-c-preserved-then-c-ne48
 loop-c-preserved-then-c-ne48 c = record {
   text = search rules;
-  at = among_digit _ (chars c.loop-c.rest.now) (chars c.in-Some.after.now) _ _ _ _ c.in-Some.c
+  at = among_digit _ (chars c.loop-c.rest.now) (chars c.in-Some.after.now) _ _ _ c.in-Some.c
       c.loop-c.invariant.at c.in-Some.ensures.chars (sym c.class_of.ensures ∙ c.in-Digit.is) c.if-count-lt-FRACTION_DIGITS.true c.if-c-ne48.true;
   tail = tail_of_tail _ c.loop-c.rest.now c.in-Some.after.now c.loop-c.invariant.tail c.in-Some.ensures.tail;
 }
@@ -38,7 +38,7 @@ loop-c-preserved-then-c-ne48 c = record {
 pub loop-c-preserved-else-c-ne48 : goal.loop-c-preserved-else-c-ne48
 loop-c-preserved-else-c-ne48 c = record {
   text = search rules;
-  at = among_zero _ (chars c.loop-c.rest.now) (chars c.in-Some.after.now) _ _ _ _ c.in-Some.c
+  at = among_zero _ (chars c.loop-c.rest.now) (chars c.in-Some.after.now) _ _ _ c.in-Some.c
       c.loop-c.invariant.at c.in-Some.ensures.chars (sym c.class_of.ensures ∙ c.in-Digit.is) c.if-count-lt-FRACTION_DIGITS.true c.if-c-ne48.false;
   tail = tail_of_tail _ c.loop-c.rest.now c.in-Some.after.now c.loop-c.invariant.tail c.in-Some.ensures.tail;
 }
@@ -46,7 +46,7 @@ loop-c-preserved-else-c-ne48 c = record {
 pub loop-c-preserved-else-c-ne48-2 : goal.loop-c-preserved-else-c-ne48-2
 loop-c-preserved-else-c-ne48-2 c = record {
   text = search rules;
-  at = among_zero_past _ (chars c.loop-c.rest.now) (chars c.in-Some.after.now) _ _ _ _ c.in-Some.c
+  at = among_zero_past _ (chars c.loop-c.rest.now) (chars c.in-Some.after.now) _ _ _ c.in-Some.c
       c.loop-c.invariant.at c.in-Some.ensures.chars (sym c.class_of.ensures ∙ c.in-Digit.is) c.if-count-lt-FRACTION_DIGITS.false c.if-c-ne48-2.false;
   tail = tail_of_tail _ c.loop-c.rest.now c.in-Some.after.now c.loop-c.invariant.tail c.in-Some.ensures.tail;
 }
@@ -54,18 +54,21 @@ loop-c-preserved-else-c-ne48-2 c = record {
 pub loop-c-preserved : goal.loop-c-preserved
 loop-c-preserved c = record {
   text = search rules;
-  at = among_space _ (chars c.loop-c.rest.now) (chars c.in-Some.after.now) _ _ _ _ c.in-Some.c
+  at = among_space _ (chars c.loop-c.rest.now) (chars c.in-Some.after.now) _ _ _ c.in-Some.c
       c.loop-c.invariant.at c.in-Some.ensures.chars (sym c.class_of.ensures ∙ c.in-White.is);
   tail = tail_of_tail _ c.loop-c.rest.now c.in-Some.after.now c.loop-c.invariant.tail c.in-Some.ensures.tail;
 }
 
 pub returns-then-c-ne48-2-clause-value : goal.returns-then-c-ne48-2-clause-value
 returns-then-c-ne48-2-clause-value c =
-    digits_pass _ (chars c.loop-c.rest.now) (chars c.in-Some.after.now) _ _ _ _ c.in-Some.c
+    digits_pass _ (chars c.loop-c.rest.now) (chars c.in-Some.after.now) _ _ _ c.in-Some.c
     c.loop-c.invariant.at c.in-Some.ensures.chars (sym c.class_of.ensures ∙ c.in-Digit.is) c.if-count-lt-FRACTION_DIGITS.false c.if-c-ne48-2.true
 
-pub invariant_of-digits : goal.invariant_of-digits
-invariant_of-digits c = record { few = kept_few _ _ _ _ _ _ c.loop-c.invariant.at }
+pub without_zeros-requires-clause-few : goal.without_zeros-requires-clause-few
+without_zeros-requires-clause-few c = c.loop-c.invariant.at.small
+
+pub without_zeros-requires-clause-kept : goal.without_zeros-requires-clause-kept
+without_zeros-requires-clause-kept c = kept_few _ _ _ _ _ c.loop-c.invariant.at
 
 pub returns-clause-value : goal.returns-clause-value
 returns-clause-value c =
@@ -73,4 +76,4 @@ returns-clause-value c =
       | in-Some+in-Letter w ↦ other_begins _ (chars w.in-Some.after.now) w.in-Some.c _ w.in-Letter.is w.class_of.ensures w.in-Some.ensures.chars
       | in_default w ↦ ap (begins is_numeric) w.in_default.ensures.none
     ] in
-    digits_end _ (chars c.loop-c.rest.now) _ _ _ _ c.loop-c.invariant.at ended
+    digits_end _ (chars c.loop-c.rest.now) _ _ _ _ c.loop-c.invariant.at ended c.without_zeros.ensures
