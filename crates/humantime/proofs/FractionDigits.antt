@@ -1,47 +1,48 @@
 -- Reading a fraction digit by digit.
-use Rattle.std.proofs.Common.{true, ◌≡◌, ◌≢◌, ◌≤◌, ◌<◌, ◌+◌, ◌-◌, ◌*◌, ◌/◌, ◌%◌, ◌^◌, ℕ, suc, Bool, false, List, [], ◌∷◌, ◌++◌, length, refl, ap, ap₂, sym, subst, ◌∙◌, inl, inr, ◌⊎◌, arith, Ok, Err, ltb, add-one, append_assoc, append-nil, length-append}
+use Rattle.std.proofs.Common.{◌≡◌, ◌≢◌, ◌≤◌, ◌<◌, ◌+◌, ◌-◌, ◌*◌, ◌/◌, ◌^◌, ℕ, suc, Bool, false, List, [], ◌∷◌, ◌++◌, length, refl, ap, ap₂, sym, ◌∙◌, inl, inr, ◌⊎◌, arith, Ok, Err, ltb, add-one, append_assoc, append-nil, length-append}
 use Rattle.std.proofs.lemmas.Bool.{lt-ltb, le-ltb, ne_eqb}
-use Rattle.std.proofs.lemmas.List.{nil_from_length}
 use Rattle.std.proofs.Math.Nat.{pow-suc, pow-le-pow_right}
 use Rattle.std.specs.Char.{digit_value}
 use Rattle.std.specs.Str.Parse.{digits_value_after}
 use Rattle.humantime.specs.declared.duration.class.Class.{Class}
 use Rattle.humantime.specs.declared.duration.class.Class.TheVariants.{White, Digit, Letter, Point, Other}
-use Rattle.humantime.specs.Characters.{class_of, digit, is_digit, is_numeric, begins, leading, past, digits, decimal_value, significant}
+use Rattle.humantime.specs.Characters.{class_of, is_numeric, begins, leading, past, digits, decimal_value, significant}
 use Rattle.humantime.specs.Faults.{NumberOverflow, number_of, after_number}
-use Rattle.humantime.specs.Spans.{Only}
 use Rattle.humantime.specs.Scales.{Counted, has_digits, counted}
 use Rattle.humantime.specs.Scanning.{digits_at}
-use Rattle.humantime.proofs.DigitLemmas.{digit_least, digit_greatest, digit_counts}
-use Rattle.humantime.proofs.JoinedTexts.{Only-append}
+use Rattle.humantime.proofs.DigitLemmas.{digit_greatest, digit_counts}
 use Rattle.humantime.proofs.NumberLemmas.{digit_first, space_first, past_digit, past_white}
-use Rattle.humantime.proofs.SignificantDigits.{zeros, zeros_cons, significant-zeros_behind, significant_shorter, significant_long, significant_last}
+use Rattle.humantime.proofs.SignificantDigits.{zeros, zeros_cons, significant-zeros_behind, significant_shorter, significant_long, significant_last, value_whole, value_kept}
 
--- The first n digits are read, as v. Zeros may follow them where they are 19, and then the other digits that begin the rest
--- are to come.
-pub record IsAmong (text : List ℕ) (v n : ℕ) (rest : List ℕ) : Type 0 where
+-- The first n digits are read, as v; without the zeros at their end they are k digits. More zeros may follow them
+-- where they are 19, and the other digits that begin the rest are to come.
+pub record IsAmong (text : List ℕ) (v n k : ℕ) (rest : List ℕ) : Type 0 where
   pub taken : List ℕ
   pub more : ℕ
   pub all : number_of text ≡ taken ++ (zeros more ++ digits (leading is_numeric rest))
-  pub are_digits : Only is_digit taken
   pub value : decimal_value taken ≡ v
   pub count : length taken ≡ n
+  pub kept_count : length (significant taken) ≡ k
   pub full : (more ≡ 0) ⊎ (n ≡ 19)
   pub rest_is : past is_numeric rest ≡ after_number text
   pub small : n ≤ 19
   pub fits : v < 10 ^ n
 
-pub among_none : (text : List ℕ) → IsAmong text 0 0 text
-among_none text = record { taken = []; more = 0; all = refl; are_digits = tt; value = refl; count = refl; full = inl refl; rest_is = refl; small = omega arith; fits = omega arith }
+pub among_none : (text : List ℕ) → IsAmong text 0 0 0 text
+unfolding significant
+among_none text = record { taken = []; more = 0; all = refl; value = refl; count = refl; kept_count = refl; full = inl refl; rest_is = refl; small = omega arith; fits = omega arith }
 
-pub among_space : (text rest cs : List ℕ) (v n c : ℕ) → IsAmong text v n rest → rest ≡ c ∷ cs → class_of c ≡ White → IsAmong text v n cs
-among_space text rest cs v n c h e d = record {
+pub kept_few : (text rest : List ℕ) (v n k : ℕ) → IsAmong text v n k rest → k ≤ n
+kept_few text rest v n k h = omega (arith, significant_shorter h.taken, h.count, h.kept_count)
+
+pub among_space : (text rest cs : List ℕ) (v n k c : ℕ) → IsAmong text v n k rest → rest ≡ c ∷ cs → class_of c ≡ White → IsAmong text v n k cs
+among_space text rest cs v n k c h e d = record {
   taken = h.taken;
   more = h.more;
   all = h.all ∙ ap (λ (l : List ℕ). h.taken ++ (zeros h.more ++ l)) (space_first c cs rest e d);
-  are_digits = h.are_digits;
   value = h.value;
   count = h.count;
+  kept_count = h.kept_count;
   full = h.full;
   rest_is = sym (past_white c cs rest e d) ∙ h.rest_is;
   small = h.small;
@@ -60,38 +61,79 @@ no_more : (more n : ℕ) → (more ≡ 0) ⊎ (n ≡ 19) → n < 19 → more ≡
 no_more more n (inl e) few = e
 no_more more n (inr e) few = absurd (omega arith)
 
--- a digit is read
-pub among_digit : (text rest cs : List ℕ) (v n c : ℕ) → IsAmong text v n rest → rest ≡ c ∷ cs → class_of c ≡ Digit → n < 19 → IsAmong text (v * 10 + (c - 48)) (n + 1) cs
-among_digit text rest cs v n c h e d few =
+-- What is known of digits after one more.
+record IsLonger (text taken : List ℕ) (v n c : ℕ) (cs : List ℕ) : Type 0 where
+  all : number_of text ≡ (taken ++ c ∷ []) ++ (zeros 0 ++ digits (leading is_numeric cs))
+  value : decimal_value (taken ++ c ∷ []) ≡ v * 10 + (c - 48)
+  count : length (taken ++ c ∷ []) ≡ n + 1
+  rest_is : past is_numeric cs ≡ after_number text
+  small : n + 1 ≤ 19
+  fits : v * 10 + (c - 48) < 10 ^ (n + 1)
+
+longer : (text rest cs : List ℕ) (v n k c : ℕ) → (h : IsAmong text v n k rest) → rest ≡ c ∷ cs → class_of c ≡ Digit → n < 19 → IsLonger text h.taken v n c cs
+longer text rest cs v n k c h e d few =
     let most = digit_greatest c d in
     let fits : v < 10 ^ n = h.fits in
     let power : 10 ^ (n + 1) ≡ 10 ^ n * 10 = rw add-one (pow-suc 10 n) in
     record {
-      taken = h.taken ++ c ∷ [];
-      more = 0;
       all = h.all
           ∙ ap (λ (m : ℕ). h.taken ++ (zeros m ++ digits (leading is_numeric rest))) (no_more h.more n h.full few)
           ∙ ap (λ (l : List ℕ). h.taken ++ l) (digit_first c cs rest e d)
           ∙ sym (append_assoc h.taken (c ∷ []) (digits (leading is_numeric cs)));
-      are_digits = Only-append is_digit h.taken (c ∷ []) h.are_digits (ap digit d, tt);
       value = value-last 0 h.taken c ∙ ap (λ (m : ℕ). m * 10 + digit_value c) h.value ∙ ap (λ (m : ℕ). v * 10 + m) (digit_counts c d);
       count = length-last h.taken c ∙ ap (λ (m : ℕ). m + 1) h.count;
-      full = inl refl;
       rest_is = sym (past_digit c cs rest e d) ∙ h.rest_is;
       small = omega arith;
       fits = omega arith;
     }
 
+-- a zero is read, and not kept
+pub among_zero : (text rest cs : List ℕ) (v n k c : ℕ) → IsAmong text v n k rest → rest ≡ c ∷ cs → class_of c ≡ Digit → n < 19 → c ≡ 48 → IsAmong text (v * 10 + (c - 48)) (n + 1) k cs
+among_zero text rest cs v n k c h e d few z =
+    let l = longer text rest cs v n k c h e d few in
+    let same : significant (h.taken ++ c ∷ []) ≡ significant h.taken = ap (λ (x : ℕ). significant (h.taken ++ x ∷ [])) z ∙ significant-zeros_behind h.taken 1 in
+    record {
+      taken = h.taken ++ c ∷ [];
+      more = 0;
+      all = l.all;
+      value = l.value;
+      count = l.count;
+      kept_count = ap length same ∙ h.kept_count;
+      full = inl refl;
+      rest_is = l.rest_is;
+      small = l.small;
+      fits = l.fits;
+    }
+
+-- another digit is read, and all digits up to it are kept
+pub among_digit : (text rest cs : List ℕ) (v n k c : ℕ) → IsAmong text v n k rest → rest ≡ c ∷ cs → class_of c ≡ Digit → n < 19 → c ≢ 48
+    → IsAmong text (v * 10 + (c - 48)) (n + 1) (n + 1) cs
+among_digit text rest cs v n k c h e d few some =
+    let l = longer text rest cs v n k c h e d few in
+    let same : significant (h.taken ++ c ∷ []) ≡ h.taken ++ c ∷ [] = significant_last h.taken c (ne_eqb c 48 some) in
+    record {
+      taken = h.taken ++ c ∷ [];
+      more = 0;
+      all = l.all;
+      value = l.value;
+      count = l.count;
+      kept_count = ap length same ∙ l.count;
+      full = inl refl;
+      rest_is = l.rest_is;
+      small = l.small;
+      fits = l.fits;
+    }
+
 -- a zero behind 19 digits is passed over
-pub among_zero_past : (text rest cs : List ℕ) (v n c : ℕ) → IsAmong text v n rest → rest ≡ c ∷ cs → class_of c ≡ Digit → 19 ≤ n → c ≡ 48 → IsAmong text v n cs
-among_zero_past text rest cs v n c h e d full z = record {
+pub among_zero_past : (text rest cs : List ℕ) (v n k c : ℕ) → IsAmong text v n k rest → rest ≡ c ∷ cs → class_of c ≡ Digit → 19 ≤ n → c ≡ 48 → IsAmong text v n k cs
+among_zero_past text rest cs v n k c h e d full z = record {
   taken = h.taken;
   more = suc h.more;
   all = h.all ∙ ap (λ (l : List ℕ). h.taken ++ (zeros h.more ++ l)) (digit_first c cs rest e d ∙ ap (λ (x : ℕ). x ∷ digits (leading is_numeric cs)) z)
       ∙ ap (λ (l : List ℕ). h.taken ++ l) (zeros_cons h.more (digits (leading is_numeric cs)));
-  are_digits = h.are_digits;
   value = h.value;
   count = h.count;
+  kept_count = h.kept_count;
   full = inr (omega (arith, h.small));
   rest_is = sym (past_digit c cs rest e d) ∙ h.rest_is;
   small = h.small;
@@ -99,8 +141,8 @@ among_zero_past text rest cs v n c h e d full z = record {
 }
 
 -- another digit behind 19 is one too many
-pub digits_pass : (text rest cs : List ℕ) (v n c : ℕ) → IsAmong text v n rest → rest ≡ c ∷ cs → class_of c ≡ Digit → 19 ≤ n → c ≢ 48 → Err NumberOverflow ≡ digits_at text
-digits_pass text rest cs v n c h e d full some =
+pub digits_pass : (text rest cs : List ℕ) (v n k c : ℕ) → IsAmong text v n k rest → rest ≡ c ∷ cs → class_of c ≡ Digit → 19 ≤ n → c ≢ 48 → Err NumberOverflow ≡ digits_at text
+digits_pass text rest cs v n k c h e d full some =
     let front = h.taken ++ zeros h.more in
     let behind = digits (leading is_numeric cs) in
     let all : number_of text ≡ front ++ c ∷ behind =
@@ -128,110 +170,32 @@ other_begins rest cs c k (inr (inl e)) is r = rw (r, ← is, e) refl
 other_begins rest cs c k (inr (inr e)) is r = rw (r, ← is, e) refl
 
 -- what is read is the fraction, where no digit and no white space follows
-pub digits_end : (text rest : List ℕ) (v n : ℕ) (f : Counted) → IsAmong text v n rest → begins is_numeric rest ≡ false
-    → ((ds : List ℕ) → Only is_digit ds → decimal_value ds ≡ v → length ds ≡ n → f ≡ counted ds) → Ok (f, rest) ≡ digits_at text
-digits_end text rest v n f h e is =
+pub digits_end : (text rest : List ℕ) (v n k : ℕ) (f : Counted) → IsAmong text v n k rest → begins is_numeric rest ≡ false
+    → ((ds : List ℕ) → decimal_value ds ≡ v → length ds ≡ n → length (significant ds) ≡ k → f ≡ counted ds) → Ok (f, rest) ≡ digits_at text
+digits_end text rest v n k f h e is =
     let all : number_of text ≡ h.taken ++ zeros h.more =
     h.all ∙ ap (λ (l : List ℕ). h.taken ++ (zeros h.more ++ l)) (no_digits rest e) ∙ ap (λ (l : List ℕ). h.taken ++ l) (append-nil (zeros h.more)) in
     let same : significant (number_of text) ≡ significant h.taken = ap significant all ∙ significant-zeros_behind h.taken h.more in
     let few : length (significant (number_of text)) ≤ 19 = omega (arith, ap length same, significant_shorter h.taken, h.count, h.small) in
     let some : has_digits h.taken ≡ has_digits (number_of text) = digits_of h.taken h.more n h.count h.full ∙ ap has_digits (sym all) in
-    let counts : counted h.taken ≡ counted (number_of text) =
-    ap₂ (λ (ds : List ℕ) (b : Bool). (decimal_value ds, length ds, b)) (sym same) some in
+    let counts : counted h.taken ≡ counted (number_of text) = ap₂ (λ (ds : List ℕ) (b : Bool). (decimal_value ds, length ds, b)) (sym same) some in
     let after : rest ≡ after_number text = sym (rest_there rest e) ∙ h.rest_is in
-    rw (le-ltb 19 (length (significant (number_of text))) few, is h.taken h.are_digits h.value h.count, counts, ← after) refl
+    rw (le-ltb 19 (length (significant (number_of text))) few, is h.taken h.value h.count h.kept_count, counts, ← after) refl
 
 pub pow_19 : (n : ℕ) → n ≤ 19 → (n < 19 → 10 ^ n ≤ 1000000000000000000) × (10 ^ n ≤ 10000000000000000000)
 pow_19 n h = (λ few. pow-le-pow_right {n = 10} (omega arith) {i = n} {j = 18} (omega arith), pow-le-pow_right {n = 10} (omega arith) {i = n} {j = 19} (omega arith))
-
--- ---- the zeros at the end of a number's digits
-
-last_digit : (ds : List ℕ) → 0 < length ds → (es : List ℕ) × (d : ℕ) × (ds ≡ es ++ d ∷ [])
-last_digit [] some = absurd (omega arith)
-last_digit (d ∷ []) some = ([], d, refl)
-last_digit (d ∷ e ∷ es) some = let rest = last_digit (e ∷ es) (omega arith) in (d ∷ rest.0, rest.1, ap (λ (l : List ℕ). d ∷ l) rest.2)
-
-Only-front : (p : ℕ → Bool) (xs ys : List ℕ) → Only p (xs ++ ys) → Only p xs
-Only-front p [] ys h = tt
-Only-front p (x ∷ xs) ys h = (h.0, Only-front p xs ys h.1)
-
-Only-last : (p : ℕ → Bool) (xs : List ℕ) (y : ℕ) → Only p (xs ++ y ∷ []) → p y ≡ true
-Only-last p [] y h = h.0
-Only-last p (x ∷ xs) y h = Only-last p xs y h.1
-
-digit_from : (k : Class) → digit k ≡ true → k ≡ Digit
-digit_from White e = cc
-digit_from Digit e = refl
-digit_from Letter e = cc
-digit_from Point e = cc
-digit_from Other e = cc
-
--- The digits without some of the zeros at their end are n digits that read as v.
-pub record IsKept (ds : List ℕ) (v n : ℕ) : Type 0 where
-  pub left : List ℕ
-  pub are_digits : Only is_digit left
-  pub value : decimal_value left ≡ v
-  pub count : length left ≡ n
-  pub same : significant left ≡ significant ds
-
-pub kept_all : (ds : List ℕ) (v n : ℕ) → Only is_digit ds → decimal_value ds ≡ v → length ds ≡ n → IsKept ds v n
-kept_all ds v n only value count = record { left = ds; are_digits = only; value = value; count = count; same = refl }
-
--- What is known of the last of the digits that are kept.
-record IsLast (left : List ℕ) (v n : ℕ) : Type 0 where
-  front : List ℕ
-  last : ℕ
-  whole : left ≡ front ++ last ∷ []
-  is_digit_ : class_of last ≡ Digit
-  value : v ≡ decimal_value front * 10 + (last - 48)
-  count : n ≡ length front + 1
-
-last_of : (ds : List ℕ) (v n : ℕ) → (h : IsKept ds v n) → 0 < n → IsLast h.left v n
-last_of ds v n h some =
-    let l = last_digit h.left (omega (arith, h.count)) in
-    let d : class_of l.1 ≡ Digit = digit_from (class_of l.1) (Only-last is_digit l.0 l.1 (subst (Only is_digit) l.2 h.are_digits)) in
-    record {
-      front = l.0;
-      last = l.1;
-      whole = l.2;
-      is_digit_ = d;
-      value = sym h.value ∙ ap decimal_value l.2 ∙ value-last 0 l.0 l.1 ∙ ap (λ (m : ℕ). decimal_value l.0 * 10 + m) (digit_counts l.1 d);
-      count = sym h.count ∙ ap length l.2 ∙ length-last l.0 l.1;
-    }
-
--- a zero at the end is left out
-pub kept_zero : (ds : List ℕ) (v n : ℕ) → IsKept ds v n → 0 < n → v % 10 ≡ 0 → IsKept ds (v / 10) (n - 1)
-kept_zero ds v n h some zero_last =
-    let l = last_of ds v n h some in
-    let least = digit_least l.last l.is_digit_ in
-    let most = digit_greatest l.last l.is_digit_ in
-    let is_zero : l.last ≡ 48 = omega (arith, l.value, zero_last, least, most) in
-    record {
-      left = l.front;
-      are_digits = Only-front is_digit l.front (l.last ∷ []) (subst (Only is_digit) l.whole h.are_digits);
-      value = omega (arith, l.value, is_zero);
-      count = omega (arith, l.count);
-      same = sym (ap significant l.whole ∙ ap (λ (d : ℕ). significant (l.front ++ d ∷ [])) is_zero ∙ significant-zeros_behind l.front 1) ∙ h.same;
-    }
 
 has_some : (ds : List ℕ) → ltb 0 (length ds) ≡ has_digits ds
 has_some [] = refl
 has_some (d ∷ ds) = lt-ltb 0 (length (d ∷ ds)) (omega arith)
 
-kept_are : (ds : List ℕ) (v n : ℕ) → IsKept ds v n → (n ≡ 0) ⊎ ((0 < n) × (v % 10 ≢ 0)) → (decimal_value (significant ds) ≡ v) × (length (significant ds) ≡ n)
-unfolding significant
-kept_are ds v n h (inl none) =
-    let empty : h.left ≡ [] = nil_from_length h.left (h.count ∙ none) in
-    let same : significant ds ≡ h.left = sym h.same ∙ ap significant empty ∙ sym empty in
-    (ap decimal_value same ∙ h.value, ap length same ∙ h.count)
-kept_are ds v n h (inr last) =
-    let l = last_of ds v n h last.0 in
-    let no_zero : l.last ≢ 48 = λ z. last.1 (omega (arith, l.value, z)) in
-    let same : significant ds ≡ h.left = sym h.same ∙ ap significant l.whole ∙ significant_last l.front l.last (ne_eqb l.last 48 no_zero) ∙ sym l.whole in
-    (ap decimal_value same ∙ h.value, ap length same ∙ h.count)
+-- the fraction where all its digits are kept, and where some zeros behind them are not
+pub all_kept : (ds : List ℕ) (v n k : ℕ) → k ≡ n → decimal_value ds ≡ v → length ds ≡ n → length (significant ds) ≡ k → (v, n, ltb 0 n) ≡ counted ds
+all_kept ds v n k same value count kept =
+    let whole : decimal_value (significant ds) ≡ v = value_whole ds (omega arith) ∙ value in
+    rw (whole, kept, same, ← count, has_some ds) refl
 
--- where no digit is left, or the last is no zero, what is kept is all that counts
-pub kept_counts : (ds : List ℕ) (v n count : ℕ) → IsKept ds v n → (n ≡ 0) ⊎ ((0 < n) × (v % 10 ≢ 0)) → length ds ≡ count → (v, n, ltb 0 count) ≡ counted ds
-kept_counts ds v n count h done size =
-    let is = kept_are ds v n h done in
-    rw (is.0, is.1, ← size, has_some ds) refl
+pub some_kept : (ds : List ℕ) (v n k power : ℕ) → power ≡ 10 ^ (n - k) → decimal_value ds ≡ v → length ds ≡ n → length (significant ds) ≡ k → (v / power, k, ltb 0 n) ≡ counted ds
+some_kept ds v n k power is value count kept =
+    let part : decimal_value (significant ds) ≡ v / power = sym (ap₂ (λ (x y : ℕ). x / y) (sym value) (is ∙ ap₂ (λ (x y : ℕ). 10 ^ (x - y)) (sym count) (sym kept)) ∙ value_kept ds) in
+    rw (part, kept, ← count, has_some ds) refl

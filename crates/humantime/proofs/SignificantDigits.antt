@@ -1,12 +1,12 @@
 -- The digits of a fraction without the zeros at their end.
-use Rattle.std.proofs.Common.{◌≡◌, ◌≤◌, ◌<◌, ◌+◌, ◌*◌, ◌/◌, ◌%◌, ◌^◌, ℕ, zero, suc, false, List, [], ◌∷◌, ◌++◌, length, refl, sym, ap, ap₂, ◌∙◌, inl, inr, arith, length-append}
+use Rattle.std.proofs.Common.{◌≡◌, ◌≤◌, ◌<◌, ◌+◌, ◌-◌, ◌*◌, ◌/◌, ◌%◌, ◌^◌, ℕ, zero, suc, false, List, [], ◌∷◌, ◌++◌, length, refl, sym, ap, ap₂, ◌∙◌, inl, inr, arith, length-append}
 use Rattle.std.specs.Prelude.{◌==◌}
 use Rattle.std.specs.Char.{digit_value}
 use Rattle.std.specs.Str.Parse.{digits_value_after}
 use Rattle.std.proofs.lemmas.Bool.{cases_Bool, eqb-true}
 use Rattle.std.proofs.lemmas.Nat.{pow-add}
 use Rattle.std.proofs.lemmas.Nat.Gcd.{dvd_of_mod-eq-zero}
-use Rattle.std.proofs.Math.Nat.{pow-suc, one-le-pow, mul_comm, mul_assoc, mul_right_comm, mul-div-mul_right, div-mul_cancel, le_of_mul-le-mul_right, le-mul_of_pos_right, mod-eq-sub-div-mul}
+use Rattle.std.proofs.Math.Nat.{pow-suc, one-le-pow, mul-one, mul-div_cancel, mul_comm, mul_assoc, mul_right_comm, mul-div-mul_right, div-mul_cancel, le_of_mul-le-mul_right, le-mul_of_pos_right, mod-eq-sub-div-mul}
 use Rattle.humantime.specs.Characters.{kept, decimal_value, significant}
 use Rattle.humantime.specs.Spans.{fraction_amount, IsWholePart}
 
@@ -95,6 +95,28 @@ value-zeros v (suc k) =
     let none : v * 10 + digit_value 48 ≡ v * 10 = omega arith in
     ap (λ (n : ℕ). digits_value_after 10 n (zeros k)) none ∙ rest ∙ mul_assoc v 10 (10 ^ k) ∙ ap (λ (n : ℕ). v * n) (mul_comm 10 (10 ^ k) ∙ sym more)
 
+zeros_count : (ds : List ℕ) → length ds ≡ length (significant ds) + (significant_and_zeros ds).0
+zeros_count ds =
+    let whole = significant_and_zeros ds in
+    ap length whole.1 ∙ length-append (significant ds) (zeros whole.0) ∙ ap (λ (n : ℕ). length (significant ds) + n) (length-zeros whole.0)
+
+zeros_value : (ds : List ℕ) → decimal_value ds ≡ decimal_value (significant ds) * 10 ^ (significant_and_zeros ds).0
+zeros_value ds =
+    let whole = significant_and_zeros ds in
+    ap decimal_value whole.1 ∙ value-append 0 (significant ds) (zeros whole.0) ∙ value-zeros (decimal_value (significant ds)) whole.0
+
+-- the number of the digits before the zeros at their end: all of them, or a part of all
+pub value_whole : (ds : List ℕ) → length (significant ds) ≡ length ds → decimal_value (significant ds) ≡ decimal_value ds
+value_whole ds all =
+    let none : (significant_and_zeros ds).0 ≡ 0 = omega (arith, zeros_count ds, all) in
+    sym (zeros_value ds ∙ ap (λ (k : ℕ). decimal_value (significant ds) * 10 ^ k) none ∙ mul-one (decimal_value (significant ds)))
+
+pub value_kept : (ds : List ℕ) → decimal_value ds / 10 ^ (length ds - length (significant ds)) ≡ decimal_value (significant ds)
+value_kept ds =
+    let zeros_behind = (significant_and_zeros ds).0 in
+    let count : length ds - length (significant ds) ≡ zeros_behind = omega (arith, zeros_count ds) in
+    ap₂ (λ (n k : ℕ). n / 10 ^ k) (zeros_value ds) count ∙ mul-div_cancel (decimal_value (significant ds)) (one-le-pow zeros_behind 10 (omega arith))
+
 -- Digits with zeros at their end are the digits before these, and a power of ten.
 pub record IsShifted (ds : List ℕ) : Type 0 where
   pub by : ℕ
@@ -104,15 +126,12 @@ pub record IsShifted (ds : List ℕ) : Type 0 where
 
 pub shifted : (ds : List ℕ) → IsShifted ds
 shifted ds =
-    let whole = significant_and_zeros ds in
-    let kept_digits = significant ds in
-    let count : length ds ≡ length kept_digits + whole.0 =
-    ap length whole.1 ∙ length-append kept_digits (zeros whole.0) ∙ ap (λ (n : ℕ). length kept_digits + n) (length-zeros whole.0) in
+    let zeros_behind = (significant_and_zeros ds).0 in
     record {
-      by = 10 ^ whole.0;
-      positive = one-le-pow whole.0 10 (omega arith);
-      value = ap decimal_value whole.1 ∙ value-append 0 kept_digits (zeros whole.0) ∙ value-zeros (decimal_value kept_digits) whole.0;
-      power = ap (λ (n : ℕ). 10 ^ n) count ∙ pow-add 10 (length kept_digits) whole.0;
+      by = 10 ^ zeros_behind;
+      positive = one-le-pow zeros_behind 10 (omega arith);
+      value = zeros_value ds;
+      power = ap (λ (n : ℕ). 10 ^ n) (zeros_count ds) ∙ pow-add 10 (length (significant ds)) zeros_behind;
     }
 
 divides : (x y c : ℕ) → 0 < c → x * c % (y * c) ≡ 0 → x % y ≡ 0

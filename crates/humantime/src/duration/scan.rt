@@ -1,15 +1,15 @@
 //! Steps over a text: a character, a number, a fraction.
 
 ghost use Rattle.std.specs.Prelude.{◌≡◌, false, ◌≢◌, ◌++◌, [], ◌∷◌, ℕ, List, length, chars, option_map, encode_utf8, IfNone, IfSome, IfOk, SomeIff, ◌+◌, ◌-◌, ◌*◌, ◌≤◌};
-ghost use Rattle.humantime.specs.Characters.{IsDigit, is_digit, is_point, begins, decimal_value, u64_max};
+ghost use Rattle.humantime.specs.Characters.{IsDigit, is_point, begins, decimal_value, significant, u64_max};
 ghost use Rattle.humantime.specs.Errors.{seen};
 ghost use Rattle.humantime.specs.Scales.{counted, parts_of};
-ghost use Rattle.humantime.specs.Spans.{Only};
 ghost use Rattle.humantime.specs.Scanning.{IsTail, number_at, digits_at, fraction_read};
 
 use crate::duration::amount::Fraction;
 use crate::duration::class::{Class, class_of};
 use crate::duration::error::DurationError;
+use crate::duration::sum::power_of_ten;
 
 /// How many digits a fraction may have before the zeros at its end.
 const FRACTION_DIGITS: u32 = 19;
@@ -84,22 +84,21 @@ pub(crate) fn read_number<'a>(text: &'a str) -> Result<(u64, &'a str), DurationE
     Ok((value, rest))
 }
 
-/// The fraction of these digits, so many, which read as the value: without the zeros at their end.
+/// The fraction of these digits, so many, which read as the value; behind the last that is kept stand zeros alone.
 #[inline(always)]
-fn without_zeros(value: u64, count: u32) -> Fraction
-    requires { count ≤ 19 }
-    ensures { (ds : List ℕ) → Only is_digit ds → decimal_value ds ≡ value → length ds ≡ count → parts_of result ≡ counted ds }
+fn without_zeros(value: u64, count: u32, kept: u32) -> Fraction
+    requires few { count ≤ 19 }
+    requires kept { kept ≤ count }
+    ensures { (ds : List ℕ) → decimal_value ds ≡ value → length ds ≡ count → length (significant ds) ≡ kept → parts_of result ≡ counted ds }
 {
-    let mut kept_value = value;
-    let mut kept_count = count;
-    while kept_count > 0 && kept_value % 10 == 0 {
-        kept_value /= 10;
-        kept_count -= 1;
+    let any = count > 0;
+    if kept == count {
+        return Fraction { value, count, any };
     }
     Fraction {
-        value: kept_value,
-        count: kept_count,
-        any: count > 0,
+        value: value / power_of_ten(count - kept),
+        count: kept,
+        any,
     }
 }
 
@@ -111,6 +110,8 @@ fn read_digits<'a>(text: &'a str) -> Result<(Fraction, &'a str), DurationError<'
 {
     let mut value = 0;
     let mut count = 0;
+    // How many digits there are up to the last that is no zero.
+    let mut kept = 0;
     let mut rest = text;
     while let Some((c, after)) = first(rest) {
         match class_of(c) {
@@ -118,6 +119,9 @@ fn read_digits<'a>(text: &'a str) -> Result<(Fraction, &'a str), DurationError<'
                 if count < FRACTION_DIGITS {
                     value = value * 10 + (c as u64 - 48);
                     count += 1;
+                    if c != '0' {
+                        kept = count;
+                    }
                 } else if c != '0' {
                     return Err(DurationError::NumberOverflow);
                 }
@@ -127,7 +131,7 @@ fn read_digits<'a>(text: &'a str) -> Result<(Fraction, &'a str), DurationError<'
         }
         rest = after;
     }
-    Ok((without_zeros(value, count), rest))
+    Ok((without_zeros(value, count, kept), rest))
 }
 
 /// What follows the point at the front of the text, if there is one.
