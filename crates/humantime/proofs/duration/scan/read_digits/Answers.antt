@@ -1,5 +1,4 @@
-use Rattle.std.proofs.Common.{rules, arith, ◌≡◌, ◌≢◌, ◌∙◌, false, refl, sym, ap, chars}
-use Rattle.std.proofs.lemmas.Grind.{common_steps}
+use Rattle.std.proofs.Common.{rules, arith, ◌≡◌, ◌∙◌, false, sym, ap, chars}
 use Rattle.humantime.specs.Characters.{is_numeric, begins}
 use Rattle.humantime.proofs.DigitLemmas.{digit_least, digit_greatest}
 use Rattle.humantime.proofs.FractionDigits.{among_none, among_digit, among_zero, among_zero_past, among_space, kept_few, digits_pass, digits_end, other_begins, pow_19}
