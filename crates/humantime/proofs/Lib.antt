@@ -23,6 +23,7 @@ pub mod OlderTexts
 pub mod OnLiterals
 pub mod OneReading
 pub mod Outcomes
+pub mod PlaceSteps
 pub mod Places
 pub mod PointLemmas
 pub mod PrintedDigits

@@ -1,9 +1,10 @@
 -- Reading a number digit by digit.
-use Rattle.std.proofs.Common.{◌≡◌, ◌≤◌, ◌<◌, ◌+◌, ◌-◌, ◌*◌, ℕ, List, [], ◌∷◌, ap, sym, ◌∙◌, arith, Err}
-use Rattle.std.proofs.lemmas.Bool.{lt-ltb}
+use Rattle.std.proofs.Common.{◌≡◌, ◌≤◌, ◌<◌, ◌+◌, ◌-◌, ◌*◌, ℕ, List, [], ◌∷◌, ap, sym, ◌∙◌, arith, Err, ◌≢◌, refl, Ok}
+use Rattle.std.proofs.lemmas.Bool.{lt-ltb, le-ltb}
 use Rattle.std.specs.Char.{digit_value}
 use Rattle.std.specs.Str.Parse.{digits_value_after}
-use Rattle.humantime.specs.declared.duration.class.Class.TheVariants.{White, Digit, Letter}
+use Rattle.humantime.specs.declared.duration.class.Class.{Class}
+use Rattle.humantime.specs.declared.duration.class.Class.TheVariants.{White, Digit, Letter, Point, Other}
 use Rattle.humantime.specs.Characters.{class_of, is_ws, is_letter, is_numeric, leading, past, digits, decimal_value, u64_max}
 use Rattle.humantime.specs.Faults.{NumberOverflow, number_of, after_number}
 use Rattle.humantime.specs.Scanning.{number_at}
@@ -59,3 +60,19 @@ past_letters c cs rest e d = rw (e, d)
 
 pub past_space : (c : ℕ) (cs rest : List ℕ) → rest ≡ c ∷ cs → class_of c ≡ White → past is_ws rest ≡ past is_ws cs
 past_space c cs rest e d = rw (e, d)
+
+-- a character that is neither a digit nor white space ends the number, and so does the end
+number_is : (text rest : List ℕ) (v : ℕ) → v ≡ decimal_value (number_of text) → rest ≡ after_number text → v ≤ u64_max → Ok (v, rest) ≡ number_at text
+number_is text rest v value rest_is fits =
+    let within = le-ltb u64_max (decimal_value (number_of text)) (omega (arith, value, fits)) in
+    rw within (λ i. Ok (value i, rest_is i))
+
+pub number_ends : (text rest cs : List ℕ) (v c : ℕ) (class : Class) → IsAt text v rest → rest ≡ c ∷ cs → class ≡ class_of c → class ≢ White → class ≢ Digit → Ok (v, rest) ≡ number_at text
+number_ends text rest cs v c White h e d w n = absurd (w refl)
+number_ends text rest cs v c Digit h e d w n = absurd (n refl)
+number_ends text rest cs v c Letter h e d w n = number_is text rest v (rw (e, ← d) at h.value) (e ∙ (rw (e, ← d) at h.rest_is)) h.fits
+number_ends text rest cs v c Point h e d w n = number_is text rest v (rw (e, ← d) at h.value) (e ∙ (rw (e, ← d) at h.rest_is)) h.fits
+number_ends text rest cs v c Other h e d w n = number_is text rest v (rw (e, ← d) at h.value) (e ∙ (rw (e, ← d) at h.rest_is)) h.fits
+
+pub number_whole : (text rest : List ℕ) (v : ℕ) → IsAt text v rest → rest ≡ [] → Ok (v, rest) ≡ number_at text
+number_whole text rest v h e = number_is text rest v (rw e at h.value) (e ∙ (rw e at h.rest_is)) h.fits

@@ -1,6 +1,7 @@
 -- The steps by which one span is read, over what is left of a text: the plain reference of the private functions.
-use Rattle.std.specs.Prelude.{◌≡◌, ◌≤◌, ℕ, ◌-◌, Bool, true, false, List, [], ◌∷◌, length, drop, Option, Some, None, Result, Ok, Err, nat_lt, not, if◌then◌else◌, IsUtf8}
-use Rattle.humantime.specs.Characters.{is_point, is_numeric, decimal_value, significant, u64_max, byte_length, offset_of}
+use Rattle.std.specs.Prelude.{◌≡◌, ◌≤◌, ℕ, ◌-◌, Bool, true, false, List, [], ◌∷◌, length, drop, Option, Some, None, Result, Ok, Err, nat_lt, not, if◌then◌else◌, IsUtf8, ◌<◌, IsCharBoundary, chars}
+use Rattle.humantime.specs.Characters.{is_point, is_numeric, decimal_value, significant, u64_max, byte_length, offset_of, class_of}
+use Rattle.humantime.specs.declared.duration.class.Class.{Class}
 use Rattle.humantime.specs.Faults.{Fault, InvalidCharacter, UnknownUnit, NumberOverflow, number_of, after_number}
 use Rattle.humantime.specs.Lending.{trimmed}
 use Rattle.humantime.specs.Scales.{Counted, counted}
@@ -10,6 +11,14 @@ pub record IsTail (text rest : List ℕ) : Type 0 where
   pub shorter : length rest ≤ length text
   pub ends : rest ≡ drop (length text - length rest) text
   pub utf8 : IsUtf8 rest
+
+-- from a place of a text over one character, of this class, to the next place
+pub record StepsOver (text : List ℕ) (at : ℕ) (class : Class) (next : ℕ) : Type 0 where
+  pub char : ℕ
+  pub is : class ≡ class_of char
+  pub chars : chars (drop at text) ≡ char ∷ chars (drop next text)
+  pub place : IsCharBoundary text next
+  pub further : at < next
 
 -- the number that begins a rest, and what follows it
 abbrev pub number_at : List ℕ → Result (ℕ × List ℕ) Fault

@@ -73,7 +73,7 @@ fn ascii_code(c: u8) -> u8
 
 /// The class of an ASCII character.
 #[inline(always)]
-fn ascii_class(c: u8) -> Class
+pub(crate) fn ascii_class(c: u8) -> Class
     requires { c < 128 }
     ensures { result ≡ class_of c }
 {

@@ -1,13 +1,14 @@
 //! Steps over a text: a character, a number, a fraction.
 
-ghost use Rattle.std.specs.Prelude.{◌≡◌, false, ◌≢◌, ◌++◌, [], ◌∷◌, ℕ, List, length, chars, option_map, encode_utf8, IfNone, IfSome, IfOk, SomeIff, ◌+◌, ◌-◌, ◌*◌, ◌≤◌};
+ghost use Rattle.std.specs.Prelude.{◌≡◌, false, ◌≢◌, ◌++◌, [], ◌∷◌, ℕ, List, length, chars, option_map, encode_utf8, IfNone, IfSome, IfOk, SomeIff, ◌+◌, ◌-◌, ◌*◌, ◌≤◌, slice_index, IsCharBoundary, ◌<◌};
 ghost use Rattle.humantime.specs.Characters.{IsDigit, is_point, begins, decimal_value, significant, u64_max};
 ghost use Rattle.humantime.specs.Errors.{seen};
 ghost use Rattle.humantime.specs.Scales.{counted, parts_of};
-ghost use Rattle.humantime.specs.Scanning.{IsTail, number_at, digits_at, fraction_read};
+ghost use Rattle.humantime.specs.Scanning.{IsTail, number_at, digits_at, fraction_read, StepsOver};
+ghost use Rattle.humantime.specs.declared.duration.class.Class.TheVariants.{Digit};
 
 use crate::duration::amount::Fraction;
-use crate::duration::class::{Class, class_of};
+use crate::duration::class::{Class, ascii_class, class_of};
 use crate::duration::error::DurationError;
 use crate::duration::sum::power_of_ten;
 
@@ -21,6 +22,31 @@ const TENTH_OF_MAX: u64 = 1_844_674_407_370_955_161;
 #[cold]
 #[inline(never)]
 fn wide_char(text: &str) -> char
+    requires { chars text.now ≢ [] }
+    ensures { (rest : List ℕ) × (text.now ≡ encode_utf8 result ++ rest) }
+{
+    first_char(text)
+}
+
+/// The class of the character at this place, for one that is not ASCII, and the place after it.
+///
+/// It stands out of line, so that loops over ASCII stay small, and answers numbers alone. It is not marked as rarely
+/// called: then the loops around it get slower.
+#[inline(never)]
+pub(crate) fn wide_step(text: &str, at: usize) -> (Class, usize)
+    requires place { IsCharBoundary text.now at }
+    requires some { at < length text.now }
+    requires wide { 128 ≤ slice_index text.now at }
+    ensures step { StepsOver text.now at result.0 result.1 }
+    ensures no_digit { result.0 ≢ Digit }
+{
+    let c = first_char(&text[at..]);
+    (class_of(c), at + c.len_utf8())
+}
+
+/// The first character of a text that has one.
+#[inline(always)]
+fn first_char(text: &str) -> char
     requires { chars text.now ≢ [] }
     ensures { (rest : List ℕ) × (text.now ≡ encode_utf8 result ++ rest) }
 {
@@ -51,11 +77,11 @@ pub(crate) fn first(text: &str) -> Option<(char, &str)>
 
 /// Ten times the value and the digit, or `None` where that is too large.
 #[inline(always)]
-fn push_digit(value: u64, c: char) -> Option<u64>
+fn push_digit(value: u64, c: u8) -> Option<u64>
     requires { IsDigit c }
     ensures { SomeIff result (value * 10 + (c - 48) ≤ u64_max) (value * 10 + (c - 48)) }
 {
-    let digit = c as u64 - 48;
+    let digit = (c - b'0') as u64;
     if value < TENTH_OF_MAX {
         return Some(value * 10 + digit);
     }
@@ -68,20 +94,29 @@ pub(crate) fn read_number<'a>(text: &'a str) -> Result<(u64, &'a str), DurationE
     ensures value { seen (λ x. (x.0, chars x.1.now)) result ≡ number_at (chars text.now) }
     ensures tail { IfOk result (λ x. IsTail text.now x.1.now) }
 {
+    let bytes = text.as_bytes();
     let mut value = 0;
-    let mut rest = text;
-    while let Some((c, after)) = first(rest) {
-        match class_of(c) {
-            Class::Digit => match push_digit(value, c) {
-                Some(more) => value = more,
-                None => return Err(DurationError::NumberOverflow),
-            },
-            Class::White => {}
-            Class::Letter | Class::Point | Class::Other => return Ok((value, rest)),
+    let mut at = 0;
+    while at < bytes.len() {
+        if bytes[at] < 0x80 {
+            match ascii_class(bytes[at]) {
+                Class::Digit => match push_digit(value, bytes[at]) {
+                    Some(more) => value = more,
+                    None => return Err(DurationError::NumberOverflow),
+                },
+                Class::White => {}
+                _ => return Ok((value, &text[at..])),
+            }
+            at += 1;
+        } else {
+            let (class, next) = wide_step(text, at);
+            match class {
+                Class::White => at = next,
+                _ => return Ok((value, &text[at..])),
+            }
         }
-        rest = after;
     }
-    Ok((value, rest))
+    Ok((value, &text[at..]))
 }
 
 /// The fraction of these digits, so many, which read as the value; behind the last that is kept stand zeros alone.

@@ -6,8 +6,8 @@ ghost use Rattle.humantime.specs.Characters.{is_ws, is_letter, leading, past, of
 ghost use Rattle.humantime.specs.Lending.{trimmed};
 ghost use Rattle.humantime.specs.Scanning.{IsTail};
 
-use crate::duration::class::{Class, class_of};
-use crate::duration::scan::first;
+use crate::duration::class::{Class, ascii_class, class_of};
+use crate::duration::scan::{first, wide_step};
 
 /// The offset at which a part begins that goes on to the end of the text.
 #[inline(always)]
@@ -36,14 +36,23 @@ fn past_letters<'a>(text: &'a str) -> &'a str
     ensures rest { chars result.now ≡ past is_letter (chars text.now) }
     ensures tail { IsTail text.now result.now }
 {
-    let mut rest = text;
-    while let Some((c, after)) = first(rest) {
-        match class_of(c) {
-            Class::Letter => rest = after,
-            Class::White | Class::Digit | Class::Point | Class::Other => return rest,
+    let bytes = text.as_bytes();
+    let mut at = 0;
+    while at < bytes.len() {
+        if bytes[at] < 0x80 {
+            match ascii_class(bytes[at]) {
+                Class::Letter => at += 1,
+                _ => return &text[at..],
+            }
+        } else {
+            let (class, next) = wide_step(text, at);
+            match class {
+                Class::Letter => at = next,
+                _ => return &text[at..],
+            }
         }
     }
-    rest
+    &text[at..]
 }
 
 /// The letters at the front of the text, and what follows them.
@@ -65,14 +74,23 @@ pub(crate) fn past_space<'a>(text: &'a str) -> &'a str
     ensures rest { chars result.now ≡ past is_ws (chars text.now) }
     ensures tail { IsTail text.now result.now }
 {
-    let mut rest = text;
-    while let Some((c, after)) = first(rest) {
-        match class_of(c) {
-            Class::White => rest = after,
-            Class::Digit | Class::Letter | Class::Point | Class::Other => return rest,
+    let bytes = text.as_bytes();
+    let mut at = 0;
+    while at < bytes.len() {
+        if bytes[at] < 0x80 {
+            match ascii_class(bytes[at]) {
+                Class::White => at += 1,
+                _ => return &text[at..],
+            }
+        } else {
+            let (class, next) = wide_step(text, at);
+            match class {
+                Class::White => at = next,
+                _ => return &text[at..],
+            }
         }
     }
-    rest
+    &text[at..]
 }
 
 /// The text without the white space at its end.
