@@ -34,7 +34,8 @@ older_fraction_additions base None fraction = []
 abbrev pub older_additions_at : Option Scale → Span → List Addition
 older_additions_at None s = []
 older_additions_at (Some u) s =
-    record { base = u.base; amount = decimal_value s.number * u.factor } ∷ older_fraction_additions u.fraction_base u.fraction_factor s.fraction
+    record { base = u.base; amount = decimal_value s.number * u.factor }
+    ∷ older_fraction_additions u.fraction_base u.fraction_factor s.fraction
 
 -- what a list of spans added, in order, by what the words stand for
 abbrev pub older_additions : (List ℕ → Option Scale) → List Span → List Addition
