@@ -26,18 +26,23 @@ OlderReads text spans = Reads text spans × AllByRecursion (λ s. Only is_older_
 
 -- what a fraction added: each of its digits counted
 abbrev pub older_fraction_additions : ℕ → Option ℕ → Option (List ℕ) → List Addition
-older_fraction_additions base (Some factor) (Some ds) = record { base = base; amount = decimal_value ds * factor / 10 ^ length ds } ∷ []
+older_fraction_additions base (Some factor) (Some ds) =
+    record { base = base; amount = decimal_value ds * factor / 10 ^ length ds } ∷ []
 older_fraction_additions base (Some factor) None = []
 older_fraction_additions base None fraction = []
 
 abbrev pub older_additions_at : Option Scale → Span → List Addition
 older_additions_at None s = []
 older_additions_at (Some u) s =
-    record { base = u.base; amount = decimal_value s.number * u.factor } ∷ older_fraction_additions u.fraction_base u.fraction_factor s.fraction
+    record { base = u.base; amount = decimal_value s.number * u.factor }
+    ∷ older_fraction_additions u.fraction_base u.fraction_factor s.fraction
 
 -- what a list of spans added, in order, by what the words stand for
 abbrev pub older_additions : (List ℕ → Option Scale) → List Span → List Addition
 older_additions scale spans = flat_map (λ s. older_additions_at (scale s.word) s) spans
+
+abbrev pub older_value : (List ℕ → Option Scale) → List Span → ℕ
+older_value scale spans = total (older_additions scale spans)
 
 -- the word stands for a unit, the number fits a u64, and the fraction has at most 19 digits
 pub record OlderFormed (scale : Option Scale) (s : Span) : Type 0 where
@@ -65,14 +70,15 @@ pub data AcceptedWithZeros (text : List ℕ) (v : ℕ) : Type 0 where
   -- it was exactly `0`
   Older_zero : text ≡ 48 ∷ [] → v ≡ 0 → AcceptedWithZeros text v
   -- it was spans within the limits that add up to v
-  Older_sum : (spans : List Span) → Reads text spans → OlderGood scale_of_word spans → total (older_additions scale_of_word spans) ≡ v → AcceptedWithZeros text v
+  Older_sum : (spans : List Span) → Reads text spans → OlderGood scale_of_word spans → older_value scale_of_word spans ≡ v
+      → AcceptedWithZeros text v
 
 -- While the Greek letter was no letter besides, the text stood for v nanoseconds.
 pub data AcceptedWithoutMu (text : List ℕ) (v : ℕ) : Type 0 where
   -- it was exactly `0`
   Oldest_zero : text ≡ 48 ∷ [] → v ≡ 0 → AcceptedWithoutMu text v
   -- it was spans of the older words within the limits that add up to v
-  Oldest_sum : (spans : List Span) → OlderReads text spans → OlderGood older_scale_of_word spans → total (older_additions older_scale_of_word spans) ≡ v
+  Oldest_sum : (spans : List Span) → OlderReads text spans → OlderGood older_scale_of_word spans → older_value older_scale_of_word spans ≡ v
       → AcceptedWithoutMu text v
 
 -- what was accepted while such zeros counted is accepted with the same value
