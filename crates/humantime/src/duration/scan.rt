@@ -124,37 +124,46 @@ fn read_digits<'a>(text: &'a str) -> Result<(Fraction, &'a str), DurationError<'
     ensures value { seen (λ x. (parts_of x.0, chars x.1.now)) result ≡ digits_at (chars text.now) }
     ensures tail { IfOk result (λ x. IsTail text.now x.1.now) }
 {
+    let bytes = text.as_bytes();
     let mut value = 0;
     let mut count = 0;
     // The same up to the last digit that is no zero.
     let mut kept_value = 0;
     let mut kept_count = 0;
-    let mut rest = text;
-    while let Some((c, after)) = first(rest) {
-        match class_of(c) {
-            Class::Digit => {
-                if count < FRACTION_DIGITS {
-                    value = value * 10 + (c as u64 - 48);
-                    count += 1;
-                    if c != '0' {
-                        kept_value = value;
-                        kept_count = count;
+    let mut at = 0;
+    while at < bytes.len() {
+        if bytes[at] < 0x80 {
+            match ascii_class(bytes[at]) {
+                Class::Digit => {
+                    if count < FRACTION_DIGITS {
+                        value = value * 10 + (bytes[at] - b'0') as u64;
+                        count += 1;
+                        if bytes[at] != b'0' {
+                            kept_value = value;
+                            kept_count = count;
+                        }
+                    } else if bytes[at] != b'0' {
+                        return Err(DurationError::NumberOverflow);
                     }
-                } else if c != '0' {
-                    return Err(DurationError::NumberOverflow);
                 }
+                Class::White => {}
+                _ => break,
             }
-            Class::White => {}
-            Class::Letter | Class::Point | Class::Other => break,
+            at += 1;
+        } else {
+            let (class, next) = wide_step(text, at);
+            match class {
+                Class::White => at = next,
+                _ => break,
+            }
         }
-        rest = after;
     }
     let digits = Fraction {
         value: kept_value,
         count: kept_count,
         any: count > 0,
     };
-    Ok((digits, rest))
+    Ok((digits, &text[at..]))
 }
 
 /// What follows the point at the front of the text, if there is one.
