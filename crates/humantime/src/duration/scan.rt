@@ -8,7 +8,7 @@ ghost use Rattle.humantime.specs.Scales.{parts_of};
 ghost use Rattle.humantime.specs.Scanning.{IsTail, StepsOver, number_at, digits_at, fraction_read};
 
 use crate::duration::amount::Fraction;
-use crate::duration::class::{Class, ascii_class, class_of};
+use crate::duration::class::{Class, ascii_class, wide_class};
 use crate::duration::error::DurationError;
 
 /// How many digits a fraction may have before the zeros at its end.
@@ -40,7 +40,7 @@ pub(crate) fn wide_step(text: &str, at: usize) -> (Class, usize)
     ensures no_digit { result.0 ≢ Digit }
 {
     let c = first_char(&text[at..]);
-    (class_of(c), at + c.len_utf8())
+    (wide_class(c), at + c.len_utf8())
 }
 
 /// The first character of a text that has one.
