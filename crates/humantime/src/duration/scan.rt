@@ -118,8 +118,9 @@ pub(crate) fn read_number<'a>(text: &'a str) -> Result<(u64, &'a str), DurationE
     Ok((value, &text[at..]))
 }
 
-/// The digits at the front of the text, and what follows them: at most 19 digits, and then zeros.
-#[inline(always)]
+/// The digits at the front of the text, and what follows them: at most 19 digits, and then zeros. It stands out of
+/// line, as it holds much, and spans without a fraction do not need it.
+#[inline(never)]
 fn read_digits<'a>(text: &'a str) -> Result<(Fraction, &'a str), DurationError<'a>>
     ensures value { seen (λ x. (parts_of x.0, chars x.1.now)) result ≡ digits_at (chars text.now) }
     ensures tail { IfOk result (λ x. IsTail text.now x.1.now) }
