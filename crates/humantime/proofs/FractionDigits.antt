@@ -1,5 +1,5 @@
 -- Reading a fraction digit by digit.
-use Rattle.std.proofs.Common.{◌≡◌, ◌≢◌, ◌≤◌, ◌<◌, ◌+◌, ◌-◌, ◌*◌, ◌/◌, ◌^◌, ℕ, suc, Bool, false, List, [], ◌∷◌, ◌++◌, length, refl, ap, ap₂, sym, ◌∙◌, inl, inr, ◌⊎◌, arith, Ok, Err, ltb, add-one, append_assoc, append-nil, length-append}
+use Rattle.std.proofs.Common.{◌≡◌, ◌≢◌, ◌≤◌, ◌<◌, ◌+◌, ◌-◌, ◌*◌, ◌^◌, ℕ, suc, false, List, [], ◌∷◌, ◌++◌, length, refl, ap, sym, ◌∙◌, inl, inr, ◌⊎◌, arith, Ok, Err, ltb, add-one, append_assoc, append-nil, length-append}
 use Rattle.std.proofs.lemmas.Bool.{lt-ltb, le-ltb, ne_eqb}
 use Rattle.std.proofs.Math.Nat.{pow-suc, pow-le-pow_right}
 use Rattle.std.specs.Char.{digit_value}
@@ -8,40 +8,42 @@ use Rattle.humantime.specs.declared.duration.class.Class.{Class}
 use Rattle.humantime.specs.declared.duration.class.Class.TheVariants.{White, Digit, Letter, Point, Other}
 use Rattle.humantime.specs.Characters.{class_of, is_numeric, begins, leading, past, digits, decimal_value, significant}
 use Rattle.humantime.specs.Faults.{NumberOverflow, number_of, after_number}
-use Rattle.humantime.specs.Scales.{Counted, has_digits, counted}
+use Rattle.humantime.specs.Scales.{has_digits}
 use Rattle.humantime.specs.Scanning.{digits_at}
 use Rattle.humantime.proofs.DigitLemmas.{digit_greatest, digit_counts}
 use Rattle.humantime.proofs.NumberLemmas.{digit_first, space_first, past_digit, past_white}
-use Rattle.humantime.proofs.SignificantDigits.{zeros, zeros_cons, significant-zeros_behind, significant_shorter, significant_long, significant_last, value_whole, value_kept}
+use Rattle.humantime.proofs.SignificantDigits.{zeros, zeros_cons, significant-zeros_behind, significant_shorter, significant_long, significant_last}
 
--- The first n digits are read, as v; without the zeros at their end they are k digits. More zeros may follow them
+-- The first n digits are read, as v; without the zeros at their end they are k digits, read as w. More zeros may follow them
 -- where they are 19, and the other digits that begin the rest are to come.
-pub record IsAmong (text : List ℕ) (v n k : ℕ) (rest : List ℕ) : Type 0 where
+pub record IsAmong (text : List ℕ) (v n w k : ℕ) (rest : List ℕ) : Type 0 where
   pub taken : List ℕ
   pub more : ℕ
   pub all : number_of text ≡ taken ++ (zeros more ++ digits (leading is_numeric rest))
   pub value : decimal_value taken ≡ v
   pub count : length taken ≡ n
+  pub kept_value : decimal_value (significant taken) ≡ w
   pub kept_count : length (significant taken) ≡ k
   pub full : (more ≡ 0) ⊎ (n ≡ 19)
   pub rest_is : past is_numeric rest ≡ after_number text
   pub small : n ≤ 19
   pub fits : v < 10 ^ n
 
-pub among_none : (text : List ℕ) → IsAmong text 0 0 0 text
+pub among_none : (text : List ℕ) → IsAmong text 0 0 0 0 text
 unfolding significant
-among_none text = record { taken = []; more = 0; all = refl; value = refl; count = refl; kept_count = refl; full = inl refl; rest_is = refl; small = omega arith; fits = omega arith }
+among_none text = record { taken = []; more = 0; all = refl; value = refl; count = refl; kept_value = refl; kept_count = refl; full = inl refl; rest_is = refl; small = omega arith; fits = omega arith }
 
-pub kept_few : (text rest : List ℕ) (v n k : ℕ) → IsAmong text v n k rest → k ≤ n
-kept_few text rest v n k h = omega (arith, significant_shorter h.taken, h.count, h.kept_count)
+pub kept_few : (text rest : List ℕ) (v n w k : ℕ) → IsAmong text v n w k rest → k ≤ 19
+kept_few text rest v n w k h = omega (arith, significant_shorter h.taken, h.count, h.kept_count, h.small)
 
-pub among_space : (text rest cs : List ℕ) (v n k c : ℕ) → IsAmong text v n k rest → rest ≡ c ∷ cs → class_of c ≡ White → IsAmong text v n k cs
-among_space text rest cs v n k c h e d = record {
+pub among_space : (text rest cs : List ℕ) (v n w k c : ℕ) → IsAmong text v n w k rest → rest ≡ c ∷ cs → class_of c ≡ White → IsAmong text v n w k cs
+among_space text rest cs v n w k c h e d = record {
   taken = h.taken;
   more = h.more;
   all = h.all ∙ ap (λ (l : List ℕ). h.taken ++ (zeros h.more ++ l)) (space_first c cs rest e d);
   value = h.value;
   count = h.count;
+  kept_value = h.kept_value;
   kept_count = h.kept_count;
   full = h.full;
   rest_is = sym (past_white c cs rest e d) ∙ h.rest_is;
@@ -70,8 +72,8 @@ record IsLonger (text taken : List ℕ) (v n c : ℕ) (cs : List ℕ) : Type 0 w
   small : n + 1 ≤ 19
   fits : v * 10 + (c - 48) < 10 ^ (n + 1)
 
-longer : (text rest cs : List ℕ) (v n k c : ℕ) → (h : IsAmong text v n k rest) → rest ≡ c ∷ cs → class_of c ≡ Digit → n < 19 → IsLonger text h.taken v n c cs
-longer text rest cs v n k c h e d few =
+longer : (text rest cs : List ℕ) (v n w k c : ℕ) → (h : IsAmong text v n w k rest) → rest ≡ c ∷ cs → class_of c ≡ Digit → n < 19 → IsLonger text h.taken v n c cs
+longer text rest cs v n w k c h e d few =
     let most = digit_greatest c d in
     let fits : v < 10 ^ n = h.fits in
     let power : 10 ^ (n + 1) ≡ 10 ^ n * 10 = rw add-one (pow-suc 10 n) in
@@ -88,9 +90,9 @@ longer text rest cs v n k c h e d few =
     }
 
 -- a zero is read, and not kept
-pub among_zero : (text rest cs : List ℕ) (v n k c : ℕ) → IsAmong text v n k rest → rest ≡ c ∷ cs → class_of c ≡ Digit → n < 19 → c ≡ 48 → IsAmong text (v * 10 + (c - 48)) (n + 1) k cs
-among_zero text rest cs v n k c h e d few z =
-    let l = longer text rest cs v n k c h e d few in
+pub among_zero : (text rest cs : List ℕ) (v n w k c : ℕ) → IsAmong text v n w k rest → rest ≡ c ∷ cs → class_of c ≡ Digit → n < 19 → c ≡ 48 → IsAmong text (v * 10 + (c - 48)) (n + 1) w k cs
+among_zero text rest cs v n w k c h e d few z =
+    let l = longer text rest cs v n w k c h e d few in
     let same : significant (h.taken ++ c ∷ []) ≡ significant h.taken = ap (λ (x : ℕ). significant (h.taken ++ x ∷ [])) z ∙ significant-zeros_behind h.taken 1 in
     record {
       taken = h.taken ++ c ∷ [];
@@ -98,6 +100,7 @@ among_zero text rest cs v n k c h e d few z =
       all = l.all;
       value = l.value;
       count = l.count;
+      kept_value = ap decimal_value same ∙ h.kept_value;
       kept_count = ap length same ∙ h.kept_count;
       full = inl refl;
       rest_is = l.rest_is;
@@ -106,10 +109,10 @@ among_zero text rest cs v n k c h e d few z =
     }
 
 -- another digit is read, and all digits up to it are kept
-pub among_digit : (text rest cs : List ℕ) (v n k c : ℕ) → IsAmong text v n k rest → rest ≡ c ∷ cs → class_of c ≡ Digit → n < 19 → c ≢ 48
-    → IsAmong text (v * 10 + (c - 48)) (n + 1) (n + 1) cs
-among_digit text rest cs v n k c h e d few some =
-    let l = longer text rest cs v n k c h e d few in
+pub among_digit : (text rest cs : List ℕ) (v n w k c : ℕ) → IsAmong text v n w k rest → rest ≡ c ∷ cs → class_of c ≡ Digit → n < 19 → c ≢ 48
+    → IsAmong text (v * 10 + (c - 48)) (n + 1) (v * 10 + (c - 48)) (n + 1) cs
+among_digit text rest cs v n w k c h e d few some =
+    let l = longer text rest cs v n w k c h e d few in
     let same : significant (h.taken ++ c ∷ []) ≡ h.taken ++ c ∷ [] = significant_last h.taken c (ne_eqb c 48 some) in
     record {
       taken = h.taken ++ c ∷ [];
@@ -117,6 +120,7 @@ among_digit text rest cs v n k c h e d few some =
       all = l.all;
       value = l.value;
       count = l.count;
+      kept_value = ap decimal_value same ∙ l.value;
       kept_count = ap length same ∙ l.count;
       full = inl refl;
       rest_is = l.rest_is;
@@ -125,14 +129,15 @@ among_digit text rest cs v n k c h e d few some =
     }
 
 -- a zero behind 19 digits is passed over
-pub among_zero_past : (text rest cs : List ℕ) (v n k c : ℕ) → IsAmong text v n k rest → rest ≡ c ∷ cs → class_of c ≡ Digit → 19 ≤ n → c ≡ 48 → IsAmong text v n k cs
-among_zero_past text rest cs v n k c h e d full z = record {
+pub among_zero_past : (text rest cs : List ℕ) (v n w k c : ℕ) → IsAmong text v n w k rest → rest ≡ c ∷ cs → class_of c ≡ Digit → 19 ≤ n → c ≡ 48 → IsAmong text v n w k cs
+among_zero_past text rest cs v n w k c h e d full z = record {
   taken = h.taken;
   more = suc h.more;
   all = h.all ∙ ap (λ (l : List ℕ). h.taken ++ (zeros h.more ++ l)) (digit_first c cs rest e d ∙ ap (λ (x : ℕ). x ∷ digits (leading is_numeric cs)) z)
       ∙ ap (λ (l : List ℕ). h.taken ++ l) (zeros_cons h.more (digits (leading is_numeric cs)));
   value = h.value;
   count = h.count;
+  kept_value = h.kept_value;
   kept_count = h.kept_count;
   full = inr (omega (arith, h.small));
   rest_is = sym (past_digit c cs rest e d) ∙ h.rest_is;
@@ -141,8 +146,8 @@ among_zero_past text rest cs v n k c h e d full z = record {
 }
 
 -- another digit behind 19 is one too many
-pub digits_pass : (text rest cs : List ℕ) (v n k c : ℕ) → IsAmong text v n k rest → rest ≡ c ∷ cs → class_of c ≡ Digit → 19 ≤ n → c ≢ 48 → Err NumberOverflow ≡ digits_at text
-digits_pass text rest cs v n k c h e d full some =
+pub digits_pass : (text rest cs : List ℕ) (v n w k c : ℕ) → IsAmong text v n w k rest → rest ≡ c ∷ cs → class_of c ≡ Digit → 19 ≤ n → c ≢ 48 → Err NumberOverflow ≡ digits_at text
+digits_pass text rest cs v n w k c h e d full some =
     let front = h.taken ++ zeros h.more in
     let behind = digits (leading is_numeric cs) in
     let all : number_of text ≡ front ++ c ∷ behind =
@@ -151,10 +156,10 @@ digits_pass text rest cs v n k c h e d full some =
     let over : 19 < length (significant (number_of text)) = omega (arith, many, significant_long front behind c (ne_eqb c 48 some), ap (λ (l : List ℕ). length (significant l)) all) in
     rw (lt-ltb 19 (length (significant (number_of text))) over) refl
 
-digits_of : (taken : List ℕ) (more n : ℕ) → length taken ≡ n → (more ≡ 0) ⊎ (n ≡ 19) → has_digits taken ≡ has_digits (taken ++ zeros more)
-digits_of [] more n count (inl e) = rw e refl
+digits_of : (taken : List ℕ) (more n : ℕ) → length taken ≡ n → (more ≡ 0) ⊎ (n ≡ 19) → ltb 0 n ≡ has_digits (taken ++ zeros more)
+digits_of [] more n count (inl e) = rw (← count, e) refl
 digits_of [] more n count (inr e) = absurd (omega (arith, count, e))
-digits_of (d ∷ ds) more n count full = refl
+digits_of (d ∷ ds) more n count full = rw (lt-ltb 0 n (omega (arith, count))) refl
 
 no_digits : (rest : List ℕ) → begins is_numeric rest ≡ false → digits (leading is_numeric rest) ≡ []
 no_digits [] e = refl
@@ -169,33 +174,18 @@ other_begins rest cs c k (inl e) is r = rw (r, ← is, e) refl
 other_begins rest cs c k (inr (inl e)) is r = rw (r, ← is, e) refl
 other_begins rest cs c k (inr (inr e)) is r = rw (r, ← is, e) refl
 
--- what is read is the fraction, where no digit and no white space follows
-pub digits_end : (text rest : List ℕ) (v n k : ℕ) (f : Counted) → IsAmong text v n k rest → begins is_numeric rest ≡ false
-    → ((ds : List ℕ) → decimal_value ds ≡ v → length ds ≡ n → length (significant ds) ≡ k → f ≡ counted ds) → Ok (f, rest) ≡ digits_at text
-digits_end text rest v n k f h e is =
+-- what is kept is the fraction, where no digit and no white space follows
+pub digits_end : (text rest : List ℕ) (v n w k : ℕ) → IsAmong text v n w k rest → begins is_numeric rest ≡ false → Ok ((w, k, ltb 0 n), rest) ≡ digits_at text
+digits_end text rest v n w k h e =
     let all : number_of text ≡ h.taken ++ zeros h.more =
     h.all ∙ ap (λ (l : List ℕ). h.taken ++ (zeros h.more ++ l)) (no_digits rest e) ∙ ap (λ (l : List ℕ). h.taken ++ l) (append-nil (zeros h.more)) in
     let same : significant (number_of text) ≡ significant h.taken = ap significant all ∙ significant-zeros_behind h.taken h.more in
-    let few : length (significant (number_of text)) ≤ 19 = omega (arith, ap length same, significant_shorter h.taken, h.count, h.small) in
-    let some : has_digits h.taken ≡ has_digits (number_of text) = digits_of h.taken h.more n h.count h.full ∙ ap has_digits (sym all) in
-    let counts : counted h.taken ≡ counted (number_of text) = ap₂ (λ (ds : List ℕ) (b : Bool). (decimal_value ds, length ds, b)) (sym same) some in
+    let few : length (significant (number_of text)) ≤ 19 = omega (arith, ap length same, h.kept_count, kept_few text rest v n w k h) in
+    let some : ltb 0 n ≡ has_digits (number_of text) = digits_of h.taken h.more n h.count h.full ∙ ap has_digits (sym all) in
+    let value : w ≡ decimal_value (significant (number_of text)) = sym (ap decimal_value same ∙ h.kept_value) in
+    let count : k ≡ length (significant (number_of text)) = sym (ap length same ∙ h.kept_count) in
     let after : rest ≡ after_number text = sym (rest_there rest e) ∙ h.rest_is in
-    rw (le-ltb 19 (length (significant (number_of text))) few, is h.taken h.value h.count h.kept_count, counts, ← after) refl
+    rw (le-ltb 19 (length (significant (number_of text))) few, some, value, count, ← after) refl
 
 pub pow_19 : (n : ℕ) → n ≤ 19 → (n < 19 → 10 ^ n ≤ 1000000000000000000) × (10 ^ n ≤ 10000000000000000000)
 pow_19 n h = (λ few. pow-le-pow_right {n = 10} (omega arith) {i = n} {j = 18} (omega arith), pow-le-pow_right {n = 10} (omega arith) {i = n} {j = 19} (omega arith))
-
-has_some : (ds : List ℕ) → ltb 0 (length ds) ≡ has_digits ds
-has_some [] = refl
-has_some (d ∷ ds) = lt-ltb 0 (length (d ∷ ds)) (omega arith)
-
--- the fraction where all its digits are kept, and where some zeros behind them are not
-pub all_kept : (ds : List ℕ) (v n k : ℕ) → k ≡ n → decimal_value ds ≡ v → length ds ≡ n → length (significant ds) ≡ k → (v, n, ltb 0 n) ≡ counted ds
-all_kept ds v n k same value count kept =
-    let whole : decimal_value (significant ds) ≡ v = value_whole ds (omega arith) ∙ value in
-    rw (whole, kept, same, ← count, has_some ds) refl
-
-pub some_kept : (ds : List ℕ) (v n k power : ℕ) → power ≡ 10 ^ (n - k) → decimal_value ds ≡ v → length ds ≡ n → length (significant ds) ≡ k → (v / power, k, ltb 0 n) ≡ counted ds
-some_kept ds v n k power is value count kept =
-    let part : decimal_value (significant ds) ≡ v / power = sym (ap₂ (λ (x y : ℕ). x / y) (sym value) (is ∙ ap₂ (λ (x y : ℕ). 10 ^ (x - y)) (sym count) (sym kept)) ∙ value_kept ds) in
-    rw (part, kept, ← count, has_some ds) refl

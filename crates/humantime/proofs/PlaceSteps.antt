@@ -1,10 +1,11 @@
 -- Places in a text, at which a character begins or the text ends, and steps from one to the next.
-use Rattle.std.proofs.Common.{◌≡◌, ◌<◌, ◌≤◌, ◌-◌, ◌+◌, ◌≢◌, ℕ, suc, List, [], ◌∷◌, ◌++◌, length, get_or, drop, drop-drop, refl, ap, sym, ◌∙◌, arith, add-one, length-drop, IsUtf8, IsCharBoundary, chars, encode_utf8}
+use Rattle.std.proofs.Common.{◌≡◌, ◌<◌, ◌≤◌, ◌-◌, ◌+◌, ◌≢◌, ℕ, suc, List, [], ◌∷◌, ◌++◌, length, get_or, drop, drop-drop, refl, ap, sym, ◌∙◌, arith, add-one, length-drop, IsUtf8, IsCharBoundary, chars, encode_utf8, false, inl, inr}
 use Rattle.std.proofs.Math.Seq.{drop-cons}
+use Rattle.std.proofs.lemmas.Bool.{cases_lt}
 use Rattle.std.proofs.lemmas.Str.{IsUtf8-drop, IsCharBoundary-after_ascii, IsCharBoundary-from_rest, chars_past_char, encode_ascii}
 use Rattle.humantime.specs.declared.duration.class.Class.{Class}
 use Rattle.humantime.specs.declared.duration.class.Class.TheVariants.{White, Digit, Letter, Point, Other}
-use Rattle.humantime.specs.Characters.{class_of, is_letter, is_ws, past}
+use Rattle.humantime.specs.Characters.{class_of, is_letter, is_ws, is_numeric, begins, past}
 use Rattle.humantime.specs.Scanning.{IsTail, StepsOver}
 use Rattle.humantime.proofs.DigitLemmas.{digit_greatest}
 use Rattle.humantime.proofs.NumberLemmas.{past_letters, past_space}
@@ -41,13 +42,23 @@ char_over text rest at c k class u place is begins long some =
       further = omega arith;
     }
 
--- and one that does not begin with ASCII is no digit
-pub no_digit : (text rest : List ℕ) (at c : ℕ) → at < length text → 128 ≤ get_or text at 0 → drop at text ≡ encode_utf8 c ++ rest → class_of c ≢ Digit
-no_digit text rest at c some wide begins is =
+-- and one that does not begin with ASCII lies beyond it, and is no digit
+pub beyond_ascii : (text rest : List ℕ) (at c : ℕ) → at < length text → 128 ≤ get_or text at 0 → drop at text ≡ encode_utf8 c ++ rest → 128 ≤ c
+beyond_ascii text rest at c some wide begins =
+    elim (cases_lt c 128) [
+      | inl small ↦ absurd (clash small)
+      | inr large ↦ large
+    ] where
+      clash : c < 128 → ⊥
+      clash small =
+          let same : get_or text at 0 ∷ drop (suc at) text ≡ c ∷ rest = sym (drop-cons text at 0 some) ∙ begins ∙ ap (λ (x : List ℕ). x ++ rest) (encode_ascii c small) in
+          let first : get_or text at 0 ≡ c = cc in
+          omega arith
+
+pub no_digit : (c : ℕ) → 128 ≤ c → class_of c ≢ Digit
+no_digit c wide is =
     let most = digit_greatest c is in
-    let same : get_or text at 0 ∷ drop (suc at) text ≡ c ∷ rest = sym (drop-cons text at 0 some) ∙ begins ∙ ap (λ (x : List ℕ). x ++ rest) (encode_ascii c (omega arith)) in
-    let first : get_or text at 0 ≡ c = cc in
-    absurd (omega arith)
+    omega arith
 
 -- what stands from a place on is a tail
 pub tail_at : (text : List ℕ) (at : ℕ) → IsUtf8 text → IsCharBoundary text at → IsTail text (drop at text)
@@ -90,6 +101,16 @@ letters_end text at next class s n = no_letter s.char (chars (drop next text)) (
 
 pub space_ends : (text : List ℕ) (at next : ℕ) (class : Class) → StepsOver text at class next → (class ≡ White → ⊥) → chars (drop at text) ≡ past is_ws (chars (drop at text))
 space_ends text at next class s n = no_space s.char (chars (drop next text)) (chars (drop at text)) class s.chars s.is n
+
+no_number : (c : ℕ) (cs rest : List ℕ) (class : Class) → rest ≡ c ∷ cs → class ≡ class_of c → class ≢ White → class ≢ Digit → begins is_numeric rest ≡ false
+no_number c cs rest White e d w n = absurd (w refl)
+no_number c cs rest Digit e d w n = absurd (n refl)
+no_number c cs rest Letter e d w n = rw (e, ← d) refl
+no_number c cs rest Point e d w n = rw (e, ← d) refl
+no_number c cs rest Other e d w n = rw (e, ← d) refl
+
+pub number_stops : (text : List ℕ) (at next : ℕ) (class : Class) → StepsOver text at class next → class ≢ White → class ≢ Digit → begins is_numeric (chars (drop at text)) ≡ false
+number_stops text at next class s w n = no_number s.char (chars (drop next text)) (chars (drop at text)) class s.chars s.is w n
 
 -- no characters stand at the end
 pub no_chars_at : (text : List ℕ) (at : ℕ) → length text ≤ at → chars (drop at text) ≡ []

@@ -146,7 +146,7 @@ read_three text i nanos n group so_far three =
     let place : i + 2 + 1 ≡ i + 3 = omega arith in
     let weights = group_of (i / 3) i (omega arith) in
     let sum : nanos + weight i * a + weight (i + 1) * b + weight (i + 2) * c ≡ nanos + weight (i + 2) * n =
-      rw (weights.first, weights.second, three.value) (omega (arith, spread (weight (i + 2)) a b c)) in
+    rw (weights.first, weights.second, three.value) (omega (arith, spread (weight (i + 2)) a b c)) in
     subst (IsRead text (i + 3)) sum (rw place at third)
 
 pub read_stop : (text : List ℕ) (i nanos : ℕ) → IsRead text i nanos → i < length text → is_ascii_digit (get_or text i 0) ≡ false

@@ -49,8 +49,8 @@ lanes_are b long fits =
     let sign = λ (k : ℕ). sign_lane (get_or b k 0) (fits k).fits in
     ap (λ (bytes : List ℕ). list_all not (lanes bytes)) (nineteen b long)
     ∙ (λ i. list_all (λ (x : Bool). x) (
-      digit 0 i ∷ digit 1 i ∷ digit 2 i ∷ digit 3 i ∷ sign 4 i ∷ digit 5 i ∷ digit 6 i ∷ sign 7 i
-      ∷ digit 8 i ∷ digit 9 i ∷ sign 10 i ∷ digit 11 i ∷ digit 12 i ∷ sign 13 i ∷ digit 14 i ∷ digit 15 i ∷ []
+    digit 0 i ∷ digit 1 i ∷ digit 2 i ∷ digit 3 i ∷ sign 4 i ∷ digit 5 i ∷ digit 6 i ∷ sign 7 i
+    ∷ digit 8 i ∷ digit 9 i ∷ sign 10 i ∷ digit 11 i ∷ digit 12 i ∷ sign 13 i ∷ digit 14 i ∷ digit 15 i ∷ []
     ))
 
 pub front_tested : (b : List ℕ) → 19 ≤ length b → ((k : ℕ) → Fits w8 (get_or b k 0)) → eqb (mask_l (lanes b) % 2 ^ 64) 0 ≡ has_front_digits b

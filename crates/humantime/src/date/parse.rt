@@ -194,8 +194,9 @@ fn year_at_front(b: &[u8]) -> u32
     requires { 4 ≤ length b.now }
     ensures { IsTrue (TimestampChecks.has_two b.now 0) → IsTrue (TimestampChecks.has_two b.now 2) → result ≡ (TimestampReading.date_at b.now).year }
 {
-    (b[0] as u32 * 1_000 + b[1] as u32 * 100 + b[2] as u32 * 10 + b[3] as u32)
-        .wrapping_sub(FOUR_ZEROS)
+    (b[0] as u32 * 1_000 + b[1] as u32 * 100 + b[2] as u32 * 10 + b[3] as u32).wrapping_sub(
+        FOUR_ZEROS,
+    )
 }
 
 // The numbers that date and time show, where there are digits in all places.

@@ -45,11 +45,20 @@ fn is_white(c: char) -> bool
     c.is_whitespace()
 }
 
-/// The class of a character beyond ASCII.
+/// The class of a character beyond ASCII, out of line.
 #[cold]
 #[inline(never)]
+fn rare_class(c: char) -> Class
+    requires { 128 ≤ c }
+    ensures { result ≡ class_of c }
+{
+    wide_class(c)
+}
+
+/// The class of a character beyond ASCII.
+#[inline(always)]
 #[tactic(auto, unfolding(crate::specs::Characters::class_of))]
-fn wide_class(c: char) -> Class
+pub(crate) fn wide_class(c: char) -> Class
     requires { 128 ≤ c }
     ensures { result ≡ class_of c }
 {
@@ -94,6 +103,6 @@ pub(crate) fn class_of(c: char) -> Class
     if (c as u32) < 128 {
         ascii_class(c as u8)
     } else {
-        wide_class(c)
+        rare_class(c)
     }
 }

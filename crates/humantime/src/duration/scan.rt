@@ -1,16 +1,15 @@
 //! Steps over a text: a character, a number, a fraction.
 
 ghost use Rattle.std.specs.Prelude.{◌≡◌, false, ◌≢◌, ◌++◌, [], ◌∷◌, ℕ, List, length, chars, option_map, encode_utf8, IfNone, IfSome, IfOk, SomeIff, ◌+◌, ◌-◌, ◌*◌, ◌≤◌, slice_index, IsCharBoundary, ◌<◌};
-ghost use Rattle.humantime.specs.Characters.{IsDigit, is_point, begins, decimal_value, significant, u64_max};
+ghost use Rattle.humantime.specs.Characters.{IsDigit, is_point, begins, u64_max};
 ghost use Rattle.humantime.specs.Errors.{seen};
-ghost use Rattle.humantime.specs.Scales.{counted, parts_of};
+ghost use Rattle.humantime.specs.Scales.{parts_of};
 ghost use Rattle.humantime.specs.Scanning.{IsTail, number_at, digits_at, fraction_read, StepsOver};
 ghost use Rattle.humantime.specs.declared.duration.class.Class.TheVariants.{Digit};
 
 use crate::duration::amount::Fraction;
-use crate::duration::class::{Class, ascii_class, class_of};
+use crate::duration::class::{Class, ascii_class, wide_class};
 use crate::duration::error::DurationError;
-use crate::duration::sum::power_of_ten;
 
 /// How many digits a fraction may have before the zeros at its end.
 const FRACTION_DIGITS: u32 = 19;
@@ -41,7 +40,7 @@ pub(crate) fn wide_step(text: &str, at: usize) -> (Class, usize)
     ensures no_digit { result.0 ≢ Digit }
 {
     let c = first_char(&text[at..]);
-    (class_of(c), at + c.len_utf8())
+    (wide_class(c), at + c.len_utf8())
 }
 
 /// The first character of a text that has one.
@@ -119,54 +118,53 @@ pub(crate) fn read_number<'a>(text: &'a str) -> Result<(u64, &'a str), DurationE
     Ok((value, &text[at..]))
 }
 
-/// The fraction of these digits, so many, which read as the value; behind the last that is kept stand zeros alone.
-#[inline(always)]
-fn without_zeros(value: u64, count: u32, kept: u32) -> Fraction
-    requires few { count ≤ 19 }
-    requires kept { kept ≤ count }
-    ensures { (ds : List ℕ) → decimal_value ds ≡ value → length ds ≡ count → length (significant ds) ≡ kept → parts_of result ≡ counted ds }
-{
-    let any = count > 0;
-    if kept == count {
-        return Fraction { value, count, any };
-    }
-    Fraction {
-        value: value / power_of_ten(count - kept),
-        count: kept,
-        any,
-    }
-}
-
-/// The digits at the front of the text, and what follows them: at most 19 digits, and then zeros.
-#[inline(always)]
+/// The digits at the front of the text, and what follows them: at most 19 digits, and then zeros. It stands out of
+/// line, as it holds much, and spans without a fraction do not need it.
+#[inline(never)]
 fn read_digits<'a>(text: &'a str) -> Result<(Fraction, &'a str), DurationError<'a>>
     ensures value { seen (λ x. (parts_of x.0, chars x.1.now)) result ≡ digits_at (chars text.now) }
     ensures tail { IfOk result (λ x. IsTail text.now x.1.now) }
 {
+    let bytes = text.as_bytes();
     let mut value = 0;
     let mut count = 0;
-    // How many digits there are up to the last that is no zero.
-    let mut kept = 0;
-    let mut rest = text;
-    while let Some((c, after)) = first(rest) {
-        match class_of(c) {
-            Class::Digit => {
-                if count < FRACTION_DIGITS {
-                    value = value * 10 + (c as u64 - 48);
-                    count += 1;
-                    if c != '0' {
-                        kept = count;
+    // The same up to the last digit that is no zero.
+    let mut kept_value = 0;
+    let mut kept_count = 0;
+    let mut at = 0;
+    while at < bytes.len() {
+        if bytes[at] < 0x80 {
+            match ascii_class(bytes[at]) {
+                Class::Digit => {
+                    if count < FRACTION_DIGITS {
+                        value = value * 10 + (bytes[at] - b'0') as u64;
+                        count += 1;
+                        if bytes[at] != b'0' {
+                            kept_value = value;
+                            kept_count = count;
+                        }
+                    } else if bytes[at] != b'0' {
+                        return Err(DurationError::NumberOverflow);
                     }
-                } else if c != '0' {
-                    return Err(DurationError::NumberOverflow);
                 }
+                Class::White => {}
+                _ => break,
             }
-            Class::White => {}
-            Class::Letter | Class::Point | Class::Other => break,
+            at += 1;
+        } else {
+            let (class, next) = wide_step(text, at);
+            match class {
+                Class::White => at = next,
+                _ => break,
+            }
         }
-        rest = after;
     }
-    Ok((without_zeros(value, count, kept), rest))
+    let digits = Fraction {
+        value: kept_value,
+        count: kept_count,
+        any: count > 0,
+    };
+    Ok((digits, &text[at..]))
 }
 
 /// What follows the point at the front of the text, if there is one.

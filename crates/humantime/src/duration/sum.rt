@@ -71,7 +71,7 @@ fn add_whole(total: StdDuration, value: u64, unit: Unit) -> Option<StdDuration>
 }
 
 /// Ten to this power.
-pub(crate) fn power_of_ten(exponent: u32) -> u64
+fn power_of_ten(exponent: u32) -> u64
     requires { exponent ≤ 19 }
     ensures { result ≡ 10 ^ exponent }
 {

@@ -1,13 +1,13 @@
-use Rattle.std.proofs.Common.{length}
+use Rattle.std.proofs.Common.{◌-◌, length, drop, IsCharBoundary}
 use Rattle.std.specs.Str.{chars}
-use denote.Text.{Utf8}
-use denote.Shadow.{shadow}
-use Rattle.humantime.specs.Scanning.{IsTail}
 use Rattle.humantime.proofs.FractionDigits.{IsAmong}
 use Rattle.humantime.proofs.duration.scan.read_digits.Given as goal
 
-abbrev pub invariant-loop-c : goal.invariant-loop-c
-invariant-loop-c l = record { text : shadow (Utf8 l.rest); at : IsAmong (chars l.fn.text) l.value l.count l.kept (chars l.rest); tail : IsTail l.fn.text l.rest }
+abbrev pub invariant-loop-at : goal.invariant-loop-at
+invariant-loop-at l = record {
+  place : IsCharBoundary l.text l.at;
+  read : IsAmong (chars l.text) l.value l.count l.kept_value l.kept_count (chars (drop l.at l.text));
+}
 
-abbrev pub decreases-loop-c : goal.decreases-loop-c
-decreases-loop-c l = length (chars l.rest)
+abbrev pub decreases-loop-at : goal.decreases-loop-at
+decreases-loop-at l = length l.text - l.at
