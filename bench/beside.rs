@@ -373,7 +373,13 @@ fn durations() {
     read_duration!("refuse `12 34`", "12 34");
     read_duration!("refuse `1h x`", "1h x");
     read_duration!("refuse `20000000000000000000s`", "20000000000000000000s");
-    read_duration!("read a megabyte of `1h `", &"1h ".repeat(349_525));
+    for (size, spans, others) in [("a tenth of a megabyte", 34_952, 104_856), ("a megabyte", 349_525, 1_048_575)] {
+        read_duration!(&format!("read {size} of `1h `"), &"1h ".repeat(spans));
+        read_duration!(&format!("refuse {size} of `1h `, and `~`"), &format!("{}~", "1h ".repeat(spans)));
+        read_duration!(&format!("refuse {size} of white space"), &" ".repeat(others));
+        read_duration!(&format!("refuse {size} of `0`"), &"0".repeat(others));
+        read_duration!(&format!("refuse `1` and {size} of `s`"), &format!("1{}", "s".repeat(others)));
+    }
     walk_spans!("`spans` of the longest duration, beside the crate's reading", most);
     walk_spans!(
         "`spans` of a megabyte of `1h `, beside the crate's reading",
