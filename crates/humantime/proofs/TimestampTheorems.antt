@@ -129,3 +129,20 @@ pub stamp_before : (a b : ℤ) (k : ℕ) (x y : List ℕ) → k ≤ 9 → IsPrin
     → IsTrue (is_lt (slice_cmp nat_cmp x y)) ↔ (cut a k <ℤ cut b k)
 stamp_before a b k x y small p q =
     subst (λ (o : Ordering). IsTrue (is_lt o) ↔ (cut a k <ℤ cut b k)) (sym (stamps_in_order a b k x y small p q)) (moment_before (cut a k) (cut b k))
+
+-- the order of bytes for each number of digits that a printer gives; `using` one of them, a caller that compares texts is proved
+-- with no answer
+earlier : (a b : ℤ) (k : ℕ) (x y : List ℕ) → k ≤ 9 → IsPrinted a k x → IsPrinted b k y → (cut a k <ℤ cut b k) ↔ IsTrue (is_lt (slice_cmp nat_cmp x y))
+earlier a b k x y small p q = let h = stamp_before a b k x y small p q in (h.1, h.0)
+
+pub earlier_in_seconds : (a b : ℤ) (x y : List ℕ) → IsPrinted a 0 x → IsPrinted b 0 y → (cut a 0 <ℤ cut b 0) ↔ IsTrue (is_lt (slice_cmp nat_cmp x y))
+earlier_in_seconds a b x y = earlier a b 0 x y (omega arith)
+
+pub earlier_in_millis : (a b : ℤ) (x y : List ℕ) → IsPrinted a 3 x → IsPrinted b 3 y → (cut a 3 <ℤ cut b 3) ↔ IsTrue (is_lt (slice_cmp nat_cmp x y))
+earlier_in_millis a b x y = earlier a b 3 x y (omega arith)
+
+pub earlier_in_micros : (a b : ℤ) (x y : List ℕ) → IsPrinted a 6 x → IsPrinted b 6 y → (cut a 6 <ℤ cut b 6) ↔ IsTrue (is_lt (slice_cmp nat_cmp x y))
+earlier_in_micros a b x y = earlier a b 6 x y (omega arith)
+
+pub earlier_in_nanos : (a b : ℤ) (x y : List ℕ) → IsPrinted a 9 x → IsPrinted b 9 y → (cut a 9 <ℤ cut b 9) ↔ IsTrue (is_lt (slice_cmp nat_cmp x y))
+earlier_in_nanos a b x y = earlier a b 9 x y (omega arith)

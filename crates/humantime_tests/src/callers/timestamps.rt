@@ -46,6 +46,7 @@ pub fn stamp_of<'b>(moment: SystemTime, buffer: &'b mut [u8; 30]) -> Option<&'b 
 }
 
 /// Whether one stamp is that of an earlier moment, told by their bytes alone.
+#[tactic(auto, using(humantime::proofs::Theorems::earlier_in_millis))]
 pub fn is_earlier(stamp: &str, other: &str) -> bool
     ensures { (a : ℤ) (b : ℤ) → IsPrinted a 3 stamp.now → IsPrinted b 3 other.now → (IsTrue result ↔ (cut a 3 <ℤ cut b 3)) }
 {
