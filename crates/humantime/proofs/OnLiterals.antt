@@ -3,11 +3,11 @@ use Rattle.std.specs.Prelude.{⊤}
 use Rattle.std.specs.Fmt.{digits}
 use Rattle.std.specs.Str.{chars, is_utf8}
 use lib.Utf8.{encode}
-use Rattle.humantime.specs.Characters.{class_of, white_spaces, significant}
-use Rattle.humantime.specs.Units.{scale_of_word}
-use Rattle.humantime.specs.Reading.{stop_at, read, items, add_all, add_span, settle}
-use Rattle.humantime.specs.Printing.{duration_text}
-use Rattle.humantime.specs.DurationAnswers.{duration_answer, canonical_answer}
+use Rattle.humantime.specs.Durations.Characters.{class_of, white_spaces, significant}
+use Rattle.humantime.specs.Durations.Units.{scale_of_word}
+use Rattle.humantime.specs.References.Durations.Reading.{stop_at, read, items, add_all, add_span, settle}
+use Rattle.humantime.specs.References.Durations.Printing.{duration_text}
+use Rattle.humantime.specs.References.Durations.Answers.{duration_answer, canonical_answer}
 
 unfoldable pub humantime_on_literals : ⊤
 unfolding duration_answer canonical_answer settle items read stop_at add_span add_all class_of white_spaces significant scale_of_word duration_text digits chars is_utf8 encode

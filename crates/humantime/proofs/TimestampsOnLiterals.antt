@@ -1,12 +1,12 @@
 -- What an answer unfolds to compute what a timestamp's text reads as, and what a moment prints as, on a literal.
 use Rattle.std.specs.Prelude.{⊤}
-use Rattle.humantime.specs.Calendar.{days_of_years, days_of_months}
-use Rattle.humantime.specs.DatesOfDays.{date_of}
-use Rattle.humantime.specs.March.{march_months}
-use Rattle.humantime.specs.Timestamps.{nanos_of}
-use Rattle.humantime.specs.TimestampChecks.{two_at, is_complete, has_signs, has_two, has_digits, in_range, ends_whole, ends_fraction}
-use Rattle.humantime.specs.TimestampPrinting.{moment_text}
-use Rattle.humantime.specs.TimestampReading.{weak_answer, strict_answer}
+use Rattle.humantime.specs.Calendar.Years.{days_of_years, days_of_months}
+use Rattle.humantime.specs.References.Calendar.DatesOfDays.{date_of}
+use Rattle.humantime.specs.References.Calendar.March.{march_months}
+use Rattle.humantime.specs.Timestamps.Fields.{nanos_of}
+use Rattle.humantime.specs.Timestamps.Checks.{two_at, is_complete, has_signs, has_two, has_digits, in_range, ends_whole, ends_fraction}
+use Rattle.humantime.specs.References.Timestamps.Printing.{moment_text}
+use Rattle.humantime.specs.References.Timestamps.Reading.{weak_answer, strict_answer}
 
 unfoldable pub timestamps_on_literals : ⊤
 unfolding days_of_years days_of_months date_of march_months nanos_of two_at is_complete has_signs has_two has_digits in_range ends_whole ends_fraction moment_text weak_answer strict_answer

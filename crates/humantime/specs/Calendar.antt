@@ -1,35 +1,3 @@
--- The calendar of 1970 to 9999, in which years and months are counted one by one.
-use Rattle.std.specs.Prelude.{ℕ, zero, suc, ◌+◌, ◌-◌, ◌%◌, Bool, ◌&&◌, ◌||◌, ◌==◌, not, if◌then◌else◌}
-use Rattle.std.specs.Int.{IsInRange}
-
--- a year that four divides and a hundred does not, or four hundred does
-abbrev pub is_leap_year : ℕ → Bool
-is_leap_year y = (y % 4 == 0) && (not (y % 100 == 0) || (y % 400 == 0))
-
--- how many days a year has
-abbrev pub days_in_year : ℕ → ℕ
-days_in_year y = if is_leap_year y then 366 else 365
-
--- how many days month m of year y has; January is month 1
-abbrev pub days_in_month : ℕ → ℕ → ℕ
-days_in_month y m =
-    if m == 2 then (if is_leap_year y then 29 else 28)
-    else (if (m == 4) || (m == 6) || (m == 9) || (m == 11) then 30 else 31)
-
--- how many days the first n years from 1970 on have
-unfoldable pub days_of_years : ℕ → ℕ
-days_of_years zero = 0
-days_of_years (suc n) = days_of_years n + days_in_year (1970 + n)
-
--- how many days the first n months of year y have
-unfoldable pub days_of_months : ℕ → ℕ → ℕ
-days_of_months y zero = 0
-days_of_months y (suc n) = days_of_months y n + days_in_month y (suc n)
-
--- day d of month m of year y exists, and the year is one of 1970 to 9999
-abbrev pub IsValid : ℕ → ℕ → ℕ → Type 0
-IsValid y m d = IsInRange 1970 9999 y × IsInRange 1 12 m × IsInRange 1 (days_in_month y m) d
-
--- how many days lie between 1970-01-01 and this date: years, months and days before it
-abbrev pub day_count : ℕ → ℕ → ℕ → ℕ
-day_count y m d = days_of_years (y - 1970) + days_of_months y (m - 1) + (d - 1)
+-- The calendar of 1970 to 9999, and its dates.
+pub mod Dates
+pub mod Years

@@ -1,30 +1,30 @@
 -- The words that a caller's contracts need, in one place. docs/MODEL.md says each.
 
 -- amounts of time
-pub use Rattle.humantime.specs.Times.{nanos_per_second, duration_end}
+pub use Rattle.humantime.specs.Values.Amounts.{nanos_per_second, duration_end}
 -- durations read: the answer as a function of the characters, and the relations that it is tied to
-pub use Rattle.humantime.specs.Errors.{told, told_text, fault_of, PointsInto, IsPlaceIn, IsPartOf}
-pub use Rattle.humantime.specs.DurationAnswers.{duration_answer, canonical_answer}
-pub use Rattle.humantime.specs.Spans.{Accepted, Bare_zero, Sum_of, Span, Reads, Good, value, additions, AllHaveRoom}
-pub use Rattle.humantime.specs.Faults.{Fault, HasFault, Items}
-pub use Rattle.humantime.specs.Messages.{message_of as fault_message}
+pub use Rattle.humantime.specs.Durations.Errors.{told, told_text, fault_of, PointsInto, IsPlaceIn, IsPartOf}
+pub use Rattle.humantime.specs.References.Durations.Answers.{duration_answer, canonical_answer}
+pub use Rattle.humantime.specs.Durations.Spans.{Accepted, Bare_zero, Sum_of, Span, Reads, Good, value, additions, AllHaveRoom}
+pub use Rattle.humantime.specs.Durations.Faults.{Fault, HasFault, Items}
+pub use Rattle.humantime.specs.Durations.Messages.{message_of as fault_message}
 -- spans
-pub use Rattle.humantime.specs.Slices.{Lent, AreItems}
-pub use Rattle.humantime.specs.Lents.{lent_of, item_of}
-pub use Rattle.humantime.specs.Remaining.{items_left, text_of, GivesItem}
+pub use Rattle.humantime.specs.Durations.Slices.{Lent, AreItems}
+pub use Rattle.humantime.specs.References.Durations.Lents.{lent_of, item_of}
+pub use Rattle.humantime.specs.References.Durations.Remaining.{items_left, text_of, GivesItem}
 -- durations printed
-pub use Rattle.humantime.specs.Counts.{Counts, Canon}
-pub use Rattle.humantime.specs.Canonical.{IsCanonicalOf}
-pub use Rattle.humantime.specs.Printing.{duration_text}
+pub use Rattle.humantime.specs.Durations.Counts.{Counts, Canon}
+pub use Rattle.humantime.specs.Durations.Canonical.{IsCanonicalOf}
+pub use Rattle.humantime.specs.References.Durations.Printing.{duration_text}
 -- moments and dates
-pub use Rattle.humantime.specs.Moment.{moment, second_of, nano_of, moment_end}
-pub use Rattle.humantime.specs.Dates.{IsDate, day_of, OneDate}
+pub use Rattle.humantime.specs.Values.Moments.{moment, second_of, nano_of, moment_end}
+pub use Rattle.humantime.specs.Calendar.Dates.{IsDate, day_of, OneDate}
 -- timestamps read
-pub use Rattle.humantime.specs.Timestamps.{Fields, IsWeak, IsStrict, IsWeakMoment, IsStrictMoment}
-pub use Rattle.humantime.specs.TimestampChecks.{weak_checks, strict_checks, first_failed}
-pub use Rattle.humantime.specs.TimestampReading.{weak_answer, strict_answer}
-pub use Rattle.humantime.specs.WeakAnswers.{IsWeakAnswer}
-pub use Rattle.humantime.specs.TimestampMessages.{message_of as timestamp_message}
+pub use Rattle.humantime.specs.Timestamps.Fields.{Fields, IsWeak, IsStrict, IsWeakMoment, IsStrictMoment}
+pub use Rattle.humantime.specs.Timestamps.Checks.{weak_checks, strict_checks, first_failed}
+pub use Rattle.humantime.specs.References.Timestamps.Reading.{weak_answer, strict_answer}
+pub use Rattle.humantime.specs.Timestamps.WeakAnswers.{IsWeakAnswer}
+pub use Rattle.humantime.specs.Timestamps.Messages.{message_of as timestamp_message}
 -- timestamps printed
-pub use Rattle.humantime.specs.TimestampPrinted.{cut, IsPrinted, IsPrintable, ReadsAs, OnePrinted}
-pub use Rattle.humantime.specs.TimestampPrinting.{moment_kept, places_kept, IsTextOf, moment_text, printed_text, places_of, shortest_text}
+pub use Rattle.humantime.specs.Timestamps.Printed.{cut, IsPrinted, IsPrintable, ReadsAs, OnePrinted}
+pub use Rattle.humantime.specs.References.Timestamps.Printing.{moment_kept, places_kept, IsTextOf, moment_text, printed_text, places_of, shortest_text}

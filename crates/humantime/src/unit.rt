@@ -1,9 +1,9 @@
 //! The units of time and their words.
 
 ghost use Rattle.std.specs.Prelude.{◌≡◌, chars, option_map};
-ghost use Rattle.humantime.specs.Units.{scale_of_word};
-ghost use Rattle.humantime.specs.Scales.{scale_of};
-ghost use Rattle.humantime.specs.Keys.{key, scale_of_key};
+ghost use Rattle.humantime.specs.Durations.Units.{scale_of_word};
+ghost use Rattle.humantime.specs.References.Durations.Scales.{scale_of};
+ghost use Rattle.humantime.specs.References.Durations.Keys.{key, scale_of_key};
 
 mod words;
 
@@ -40,7 +40,7 @@ fn key_of(word: &[u8]) -> u64
 }
 
 /// The unit whose word has this key.
-#[tactic(auto, unfolding(crate::specs::Keys::scale_of_key))]
+#[tactic(auto, unfolding(crate::specs::References::Durations::Keys::scale_of_key))]
 fn unit_of_key(key: u64) -> Option<Unit>
     ensures { option_map scale_of result ≡ scale_of_key key }
 {

@@ -1,10 +1,10 @@
 //! Durations and moments that read and print themselves.
 
 ghost use Rattle.std.specs.Prelude.{◌≡◌, ◌↔◌, ℕ, chars, IfErr, Some};
-ghost use Rattle.humantime.specs.Spans.{Accepted};
-ghost use Rattle.humantime.specs.Faults.{Fault, HasFault};
-ghost use Rattle.humantime.specs.DurationAnswers.{duration_answer};
-ghost use Rattle.humantime.specs.Errors.{told, PointsInto};
+ghost use Rattle.humantime.specs.Durations.Spans.{Accepted};
+ghost use Rattle.humantime.specs.Durations.Faults.{Fault, HasFault};
+ghost use Rattle.humantime.specs.References.Durations.Answers.{duration_answer};
+ghost use Rattle.humantime.specs.Durations.Errors.{told, PointsInto};
 
 use crate::date::{TimestampError, format_rfc3339, parse_rfc3339_weak};
 use crate::duration::{DurationError, format_duration, parse_duration};
@@ -93,7 +93,7 @@ impl From<Duration> for StdDuration {
 /// As `Display` of what `format_duration` makes.
 impl fmt::Display for Duration {
     ghost use Rattle.std.specs.Prelude.{Some};
-    ghost use Rattle.humantime.specs.Printing.{duration_text};
+    ghost use Rattle.humantime.specs.References.Durations.Printing.{duration_text};
 
     ghost output = { λ d. Some (duration_text d) };
 
@@ -139,7 +139,7 @@ impl Timestamp {
 
 /// Reads what `parse_rfc3339_weak` reads, with its errors.
 impl FromStr for Timestamp {
-    ghost use Rattle.humantime.specs.WeakAnswers.{IsWeakAnswer};
+    ghost use Rattle.humantime.specs.Timestamps.WeakAnswers.{IsWeakAnswer};
 
     type Err = TimestampError;
 
@@ -173,8 +173,8 @@ impl From<Timestamp> for SystemTime {
 impl fmt::Display for Timestamp {
     ghost use Rattle.std.specs.Prelude.{◌≡◌, IsOk, Err};
     ghost use Rattle.std.specs.Fmt.{DisplaysOnOk, DisplaysStyledOnOk, fmt_error};
-    ghost use Rattle.humantime.specs.TimestampPrinted.{IsPrintable};
-    ghost use Rattle.humantime.specs.TimestampPrinting.{shortest_text};
+    ghost use Rattle.humantime.specs.Timestamps.Printed.{IsPrintable};
+    ghost use Rattle.humantime.specs.References.Timestamps.Printing.{shortest_text};
 
     ghost output = { shortest_text };
 

@@ -4,13 +4,13 @@ use Rattle.std.proofs.lemmas.Int.{ints}
 use Rattle.std.specs.Prelude.{ℤ, Result, Ok, Err, IfOk}
 use Rattle.humantime.specs.declared.date.error.TimestampError.{TimestampError}
 use Rattle.humantime.specs.declared.calendar.Date.{Date}
-use Rattle.humantime.specs.Calendar.{days_in_year, days_in_month, days_of_months}
-use Rattle.humantime.specs.Dates.{IsDate, day_of}
-use Rattle.humantime.specs.Timestamps.{Fields, IsWeak, IsWeakMoment, IsStrictMoment, moment_of, fraction_digits}
-use Rattle.humantime.specs.TimestampPrinted.{IsPrintable}
-use Rattle.humantime.proofs.CalendarLemmas.{days_of_years_within, february}
-use Rattle.humantime.proofs.Months.{below_12}
-use Rattle.humantime.proofs.TimestampFractionLemmas.{nanos_bound}
+use Rattle.humantime.specs.Calendar.Years.{days_in_year, days_in_month, days_of_months}
+use Rattle.humantime.specs.Calendar.Dates.{IsDate, day_of}
+use Rattle.humantime.specs.Timestamps.Fields.{Fields, IsWeak, IsWeakMoment, IsStrictMoment, moment_of, fraction_digits}
+use Rattle.humantime.specs.Timestamps.Printed.{IsPrintable}
+use Rattle.humantime.proofs.Calendar.Years.{days_of_years_within, february}
+use Rattle.humantime.proofs.Calendar.Months.{below_12}
+use Rattle.humantime.proofs.Timestamps.Reading.Fractions.{nanos_bound}
 
 -- a month ends within its year
 month_within : (y : ℕ) (k : ℕ) → k < 12 → days_of_months y k + days_in_month y (suc k) ≤ days_in_year y

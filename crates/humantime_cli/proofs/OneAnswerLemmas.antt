@@ -2,19 +2,19 @@
 use Rattle.std.proofs.Common.{arith, ◌≡◌, ℕ, List, [], ◌∷◌, inl, inr, sym, ap, ◌∙◌, subst, refl}
 use Rattle.std.specs.Prelude.{ℤ, Option, Some, None, Result, Ok, Err, codes, chars}
 use Rattle.humantime.specs.declared.date.error.TimestampError.{TimestampError}
-use Rattle.humantime.specs.Canonical.{IsCanonicalOf}
-use Rattle.humantime.specs.Counts.{Canon}
-use Rattle.humantime.specs.Faults.{Fault, HasFault, OneOutcome}
-use Rattle.humantime.specs.Messages as durations
-use Rattle.humantime.specs.Spans.{Accepted}
-use Rattle.humantime.specs.TimestampChecks.{weak_checks, strict_checks, first_failed}
-use Rattle.humantime.specs.TimestampMessages as timestamps
-use Rattle.humantime.specs.TimestampPrinting.{places_of}
-use Rattle.humantime.specs.TimestampReading.{weak_answer, strict_answer}
-use Rattle.humantime.specs.Timestamps.{IsWeakMoment, IsStrictMoment}
-use Rattle.humantime.proofs.GreatestCounts.{one_canon}
-use Rattle.humantime.proofs.Outcomes.{one_outcome}
-use Rattle.humantime.proofs.TimestampPrintedLemmas.{one_text}
+use Rattle.humantime.specs.Durations.Canonical.{IsCanonicalOf}
+use Rattle.humantime.specs.Durations.Counts.{Canon}
+use Rattle.humantime.specs.Durations.Faults.{Fault, HasFault, OneOutcome}
+use Rattle.humantime.specs.Durations.Messages as durations
+use Rattle.humantime.specs.Durations.Spans.{Accepted}
+use Rattle.humantime.specs.Timestamps.Checks.{weak_checks, strict_checks, first_failed}
+use Rattle.humantime.specs.Timestamps.Messages as timestamps
+use Rattle.humantime.specs.References.Timestamps.Printing.{places_of}
+use Rattle.humantime.specs.References.Timestamps.Reading.{weak_answer, strict_answer}
+use Rattle.humantime.specs.Timestamps.Fields.{IsWeakMoment, IsStrictMoment}
+use Rattle.humantime.proofs.Durations.Printing.GreatestCounts.{one_canon}
+use Rattle.humantime.proofs.Durations.Reading.Outcomes.{one_outcome}
+use Rattle.humantime.proofs.Timestamps.Printing.Printed.{one_text}
 use Rattle.humantime.proofs.Theorems.{one_stamp_outcome, places_of_bound}
 use Rattle.humantime_cli.specs.Answers.{IsPrintedMoment, Prints, Printed_duration, Printed_strict, Printed_weak, Refuses, Refused_duration, Refused_strict, Refused_weak, IsNoCommand, Accepted as Accepts, Refused, Misused, OneAnswer}
 use Rattle.humantime_cli.specs.Writes.{line}

@@ -3,14 +3,14 @@ use Rattle.std.specs.Prelude.{◌≡◌, ◌≢◌, ℕ, List, [], ◌∷◌, �
 use Rattle.std.specs.Borrow.{Bor}
 use Rattle.std.specs.Io.KnownBytes.{Appends}
 use Rattle.humantime.specs.declared.date.error.TimestampError.{TimestampError}
-use Rattle.humantime.specs.Faults.{Fault, HasFault}
-use Rattle.humantime.specs.Canonical.{IsCanonicalOf}
-use Rattle.humantime.specs.Messages as durations
-use Rattle.humantime.specs.Timestamps.{IsWeakMoment, IsStrictMoment}
-use Rattle.humantime.specs.TimestampChecks.{weak_checks, strict_checks, first_failed}
-use Rattle.humantime.specs.TimestampMessages as timestamps
-use Rattle.humantime.specs.TimestampPrinted.{IsPrinted}
-use Rattle.humantime.specs.TimestampPrinting.{places_of}
+use Rattle.humantime.specs.Durations.Faults.{Fault, HasFault}
+use Rattle.humantime.specs.Durations.Canonical.{IsCanonicalOf}
+use Rattle.humantime.specs.Durations.Messages as durations
+use Rattle.humantime.specs.Timestamps.Fields.{IsWeakMoment, IsStrictMoment}
+use Rattle.humantime.specs.Timestamps.Checks.{weak_checks, strict_checks, first_failed}
+use Rattle.humantime.specs.Timestamps.Messages as timestamps
+use Rattle.humantime.specs.Timestamps.Printed.{IsPrinted}
+use Rattle.humantime.specs.References.Timestamps.Printing.{places_of}
 use Rattle.humantime_cli.specs.Writes.{AppendsFront, line}
 
 -- the words after the program's name, as texts

@@ -1,9 +1,9 @@
 //! The messages of errors.
 
 ghost use Rattle.std.specs.Prelude.{◌≡◌, ◌++◌, decimal, chars, encode_utf8_all};
-ghost use Rattle.humantime.specs.Errors.{fault_of};
-ghost use Rattle.humantime.specs.Messages.{message_of, unit_message};
-ghost use Rattle.humantime.specs.TimestampMessages as timestamps;
+ghost use Rattle.humantime.specs.Durations.Errors.{fault_of};
+ghost use Rattle.humantime.specs.Durations.Messages.{message_of, unit_message};
+ghost use Rattle.humantime.specs.Timestamps.Messages as timestamps;
 ghost use Rattle.humantime_cli.specs.Writes.{Writes, line};
 
 use crate::writing::{WriteFailed, write_line};

@@ -22,7 +22,7 @@ pub enum TimestampError {
 
 impl fmt::Display for TimestampError {
     ghost use Rattle.std.specs.Prelude.{Some};
-    ghost use Rattle.humantime.specs.TimestampMessages.{message_of};
+    ghost use Rattle.humantime.specs.Timestamps.Messages.{message_of};
 
     ghost output = { λ e. Some (message_of e) };
 

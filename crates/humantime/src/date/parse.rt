@@ -3,13 +3,13 @@
 ghost use Rattle.std.specs.Prelude.{◌≡◌, ◌+◌, ◌/◌, ◌^◌, ◌<◌, ◌≤◌, ◌↔◌, length, IsTrue, IsSome, IfSome, IfOk, Ok, Err, Some, ℤ, codes};
 ghost use Rattle.std.specs.Str.{bytes_eq};
 ghost use Rattle.humantime.specs.declared.date.error.TimestampError.{TimestampError};
-ghost use Rattle.humantime.specs.Times.{nanos_per_second};
-ghost use Rattle.humantime.specs.Timestamps.{nanos_of, IsWeakMoment, IsStrictMoment};
-ghost use Rattle.humantime.specs.TimestampChecks.{first_failed, weak_checks, strict_checks};
-ghost use Rattle.humantime.specs.TimestampChecks as TimestampChecks;
-ghost use Rattle.humantime.specs.TimestampReading.{weak_answer, strict_answer, numbers_of, seconds_to, AreInRange};
-ghost use Rattle.humantime.specs.TimestampFractions.{weight, AreThreeAt, IsRead};
-ghost use Rattle.humantime.specs.TimestampReading as TimestampReading;
+ghost use Rattle.humantime.specs.Values.Amounts.{nanos_per_second};
+ghost use Rattle.humantime.specs.Timestamps.Fields.{nanos_of, IsWeakMoment, IsStrictMoment};
+ghost use Rattle.humantime.specs.Timestamps.Checks.{first_failed, weak_checks, strict_checks};
+ghost use Rattle.humantime.specs.Timestamps.Checks as TimestampChecks;
+ghost use Rattle.humantime.specs.References.Timestamps.Reading.{weak_answer, strict_answer, numbers_of, seconds_to, AreInRange};
+ghost use Rattle.humantime.specs.References.Timestamps.Fractions.{weight, AreThreeAt, IsRead};
+ghost use Rattle.humantime.specs.References.Timestamps.Reading as TimestampReading;
 
 use crate::calendar::{Date, day_number};
 use crate::date::error::TimestampError;
@@ -93,7 +93,7 @@ pub fn parse_rfc3339(s: &str) -> Result<SystemTime, TimestampError>
 
 // At least 20 bytes, a `T` and a zone.
 #[inline(always)]
-#[tactic(auto, unfolding(crate::specs::TimestampChecks::is_complete))]
+#[tactic(auto, unfolding(crate::specs::Timestamps::Checks::is_complete))]
 fn is_complete(b: &[u8]) -> bool
     ensures { result ≡ TimestampChecks.is_complete b.now }
 {
@@ -102,7 +102,7 @@ fn is_complete(b: &[u8]) -> bool
 
 // `Z` or `+00:00` at the end.
 #[inline(always)]
-#[tactic(auto, using(crate::proofs::TimestampEndLemmas::last_letter, crate::proofs::TimestampEndLemmas::last_offset))]
+#[tactic(auto, using(crate::proofs::Timestamps::Reading::Ends::last_letter, crate::proofs::Timestamps::Reading::Ends::last_offset))]
 fn ends_in_zone(b: &[u8]) -> bool
     requires { 6 ≤ length b.now }
     ensures { result ≡ TimestampChecks.ends_in_zone b.now }
@@ -112,7 +112,7 @@ fn ends_in_zone(b: &[u8]) -> bool
 
 // The moment, or the error of the first check that fails.
 #[inline(always)]
-#[tactic(auto, unfolding(crate::specs::TimestampReading::weak_answer))]
+#[tactic(auto, unfolding(crate::specs::References::Timestamps::Reading::weak_answer))]
 fn read_timestamp(b: &[u8]) -> Result<SystemTime, TimestampError>
     ensures { result ≡ weak_answer b.now }
 {
@@ -133,7 +133,7 @@ fn read_timestamp(b: &[u8]) -> Result<SystemTime, TimestampError>
 
 // The signs between the numbers.
 #[inline(always)]
-#[tactic(auto, unfolding(crate::specs::TimestampChecks::has_signs))]
+#[tactic(auto, unfolding(crate::specs::Timestamps::Checks::has_signs))]
 fn has_signs(b: &[u8]) -> bool
     requires { 19 ≤ length b.now }
     ensures { result ≡ TimestampChecks.has_signs b.now }
@@ -147,7 +147,7 @@ fn has_signs(b: &[u8]) -> bool
 
 // Digits in all places between the signs.
 #[inline(always)]
-#[tactic(auto, using(crate::proofs::TimestampLaneLemmas::digits_of_parts))]
+#[tactic(auto, using(crate::proofs::Timestamps::Reading::Lanes::digits_of_parts))]
 fn has_digits(b: &[u8]) -> bool
     requires { 19 ≤ length b.now }
     ensures { result ≡ TimestampChecks.has_digits b.now }
@@ -169,7 +169,7 @@ fn has_front_digits(b: &[u8]) -> bool
 
 // Two digits from this place on.
 #[inline(always)]
-#[tactic(auto, unfolding(crate::specs::TimestampChecks::has_two))]
+#[tactic(auto, unfolding(crate::specs::Timestamps::Checks::has_two))]
 fn has_two(b: &[u8], at: usize) -> bool
     requires { at + 1 < length b.now }
     ensures { result ≡ TimestampChecks.has_two b.now at }
@@ -179,7 +179,7 @@ fn has_two(b: &[u8], at: usize) -> bool
 
 // The number that two digits show. Where there are others, it is some number.
 #[inline(always)]
-#[tactic(auto, using(crate::proofs::TimestampNumberLemmas::two_read))]
+#[tactic(auto, using(crate::proofs::Timestamps::Reading::Numbers::two_read))]
 fn two_at(b: &[u8], at: usize) -> u32
     requires { at + 1 < length b.now }
     ensures { IsTrue (TimestampChecks.has_two b.now at) → result ≡ TimestampChecks.two_at b.now at }
@@ -189,7 +189,7 @@ fn two_at(b: &[u8], at: usize) -> u32
 
 // The number that four digits at the front show. Where there are others, it is some number.
 #[inline(always)]
-#[tactic(auto, using(crate::proofs::TimestampNumberLemmas::year_read))]
+#[tactic(auto, using(crate::proofs::Timestamps::Reading::Numbers::year_read))]
 fn year_at_front(b: &[u8]) -> u32
     requires { 4 ≤ length b.now }
     ensures { IsTrue (TimestampChecks.has_two b.now 0) → IsTrue (TimestampChecks.has_two b.now 2) → result ≡ (TimestampReading.date_at b.now).year }
@@ -311,7 +311,7 @@ fn three_at(rest: &[u8], at: usize) -> Option<u32>
 
 // How many digits stand at the front in groups of three, and their nanoseconds, cut to nine digits.
 #[inline(always)]
-#[tactic(auto, using(crate::proofs::TimestampFractionLemmas::read_none, crate::proofs::TimestampFractionLemmas::read_three))]
+#[tactic(auto, using(crate::proofs::Timestamps::Reading::Fractions::read_none, crate::proofs::Timestamps::Reading::Fractions::read_three))]
 fn read_threes(rest: &[u8]) -> (usize, u32)
     ensures { IsRead rest.now result.0 result.1 }
 {
@@ -326,7 +326,7 @@ fn read_threes(rest: &[u8]) -> (usize, u32)
 
 // The nanoseconds of the digits at the front, cut to nine of them, and what stands after them.
 #[inline(always)]
-#[tactic(auto, using(crate::proofs::TimestampFractionLemmas::read_more, crate::proofs::TimestampFractionLemmas::read_stop, crate::proofs::TimestampFractionLemmas::read_all))]
+#[tactic(auto, using(crate::proofs::Timestamps::Reading::Fractions::read_more, crate::proofs::Timestamps::Reading::Fractions::read_stop, crate::proofs::Timestamps::Reading::Fractions::read_all))]
 fn read_fraction(rest: &[u8]) -> (u32, &[u8])
     ensures value { result.0 ≡ nanos_of (TimestampReading.front_digits rest.now) }
     ensures bound { result.0 < nanos_per_second }
@@ -345,7 +345,7 @@ fn read_fraction(rest: &[u8]) -> (u32, &[u8])
 
 // How many nanoseconds a 1 at this place of a fraction counts: none past the ninth.
 #[inline(always)]
-#[tactic(auto, using(crate::proofs::TimestampFractionLemmas::no_weight))]
+#[tactic(auto, using(crate::proofs::Timestamps::Reading::Fractions::no_weight))]
 fn weight_of(at: usize) -> u32
     ensures { result ≡ weight at }
 {

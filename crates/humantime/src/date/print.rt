@@ -2,10 +2,10 @@
 
 ghost use Rattle.std.specs.Prelude.{◌≡◌, ◌+◌, ◌/◌, ◌%◌, ◌<◌, ◌≤◌, ◌↔◌, IsSome, IfSome, IfNone, IsAscii, ◌++◌, take, drop, slice_set, codes};
 ghost use Rattle.std.specs.Str.{byte};
-ghost use Rattle.humantime.specs.DigitText.{digit, two_digits};
-ghost use Rattle.humantime.specs.Timestamps.{time_text, written};
-ghost use Rattle.humantime.specs.TimestampPrinted.{IsPrintable};
-ghost use Rattle.humantime.specs.TimestampPrinting.{places, places_of, moment_kept, places_kept, IsTextOf, printed_text, shortest_text, fields_shown, IsDateTimeOf, FitsPlaces};
+ghost use Rattle.humantime.specs.Timestamps.Digits.{digit, two_digits};
+ghost use Rattle.humantime.specs.Timestamps.Fields.{time_text, written};
+ghost use Rattle.humantime.specs.Timestamps.Printed.{IsPrintable};
+ghost use Rattle.humantime.specs.References.Timestamps.Printing.{places, places_of, moment_kept, places_kept, IsTextOf, printed_text, shortest_text, fields_shown, IsDateTimeOf, FitsPlaces};
 
 use crate::calendar::{Date, date_of_day};
 use crate::turns::Turns;
@@ -60,7 +60,7 @@ pub struct Rfc3339Timestamp {
 /// ```text
 /// format_rfc3339(UNIX_EPOCH)
 /// ```
-#[tactic(auto, unfolding(crate::specs::TimestampPrinting::moment_kept, crate::specs::TimestampPrinting::places_kept))]
+#[tactic(auto, unfolding(crate::specs::References::Timestamps::Printing::moment_kept, crate::specs::References::Timestamps::Printing::places_kept))]
 pub fn format_rfc3339(moment: SystemTime) -> Rfc3339Timestamp
     ensures moment { moment_kept result ≡ moment }
     ensures places { places_kept result ≡ places_of moment }
@@ -81,7 +81,7 @@ pub fn format_rfc3339(moment: SystemTime) -> Rfc3339Timestamp
 /// ```text
 /// format_rfc3339_seconds(UNIX_EPOCH)
 /// ```
-#[tactic(auto, unfolding(crate::specs::TimestampPrinting::moment_kept, crate::specs::TimestampPrinting::places_kept))]
+#[tactic(auto, unfolding(crate::specs::References::Timestamps::Printing::moment_kept, crate::specs::References::Timestamps::Printing::places_kept))]
 pub fn format_rfc3339_seconds(moment: SystemTime) -> Rfc3339Timestamp
     ensures moment { moment_kept result ≡ moment }
     ensures places { places_kept result ≡ 0 }
@@ -99,7 +99,7 @@ pub fn format_rfc3339_seconds(moment: SystemTime) -> Rfc3339Timestamp
 /// ```text
 /// format_rfc3339_millis(UNIX_EPOCH)
 /// ```
-#[tactic(auto, unfolding(crate::specs::TimestampPrinting::moment_kept, crate::specs::TimestampPrinting::places_kept))]
+#[tactic(auto, unfolding(crate::specs::References::Timestamps::Printing::moment_kept, crate::specs::References::Timestamps::Printing::places_kept))]
 pub fn format_rfc3339_millis(moment: SystemTime) -> Rfc3339Timestamp
     ensures moment { moment_kept result ≡ moment }
     ensures places { places_kept result ≡ 3 }
@@ -117,7 +117,7 @@ pub fn format_rfc3339_millis(moment: SystemTime) -> Rfc3339Timestamp
 /// ```text
 /// format_rfc3339_micros(UNIX_EPOCH)
 /// ```
-#[tactic(auto, unfolding(crate::specs::TimestampPrinting::moment_kept, crate::specs::TimestampPrinting::places_kept))]
+#[tactic(auto, unfolding(crate::specs::References::Timestamps::Printing::moment_kept, crate::specs::References::Timestamps::Printing::places_kept))]
 pub fn format_rfc3339_micros(moment: SystemTime) -> Rfc3339Timestamp
     ensures moment { moment_kept result ≡ moment }
     ensures places { places_kept result ≡ 6 }
@@ -135,7 +135,7 @@ pub fn format_rfc3339_micros(moment: SystemTime) -> Rfc3339Timestamp
 /// ```text
 /// format_rfc3339_nanos(UNIX_EPOCH)
 /// ```
-#[tactic(auto, unfolding(crate::specs::TimestampPrinting::moment_kept, crate::specs::TimestampPrinting::places_kept))]
+#[tactic(auto, unfolding(crate::specs::References::Timestamps::Printing::moment_kept, crate::specs::References::Timestamps::Printing::places_kept))]
 pub fn format_rfc3339_nanos(moment: SystemTime) -> Rfc3339Timestamp
     ensures moment { moment_kept result ≡ moment }
     ensures places { places_kept result ≡ 9 }
@@ -152,7 +152,7 @@ impl Rfc3339Timestamp {
     /// ```text
     /// *format_rfc3339(UNIX_EPOCH).get_ref() == UNIX_EPOCH
     /// ```
-    #[tactic(auto, unfolding(crate::specs::TimestampPrinting::moment_kept))]
+    #[tactic(auto, unfolding(crate::specs::References::Timestamps::Printing::moment_kept))]
     pub fn get_ref(&self) -> &SystemTime
         ensures { result.now ≡ moment_kept self.now }
     {
@@ -177,7 +177,7 @@ impl Rfc3339Timestamp {
 
     // Writes the text to the front of the buffer. `None`, and the buffer as it was, outside 1970 to 9999.
     #[inline(always)]
-    #[tactic(auto, unfolding(crate::specs::TimestampPrinting::moment_kept))]
+    #[tactic(auto, unfolding(crate::specs::References::Timestamps::Printing::moment_kept))]
     pub(crate) fn write(&self, buf: &mut [u8; 30]) -> Option<usize>
         ensures within { IsSome result ↔ IsPrintable (moment_kept self.now) }
         ensures fits { IfSome result (λ len. len ≤ 30) }
@@ -277,7 +277,7 @@ fn write_time(x: DateTime, buf: &mut [u8; 30])
 
 // The two digits of a number below 100.
 #[inline(always)]
-#[tactic(auto, using(crate::proofs::TimestampPairLemmas::tens_at, crate::proofs::TimestampPairLemmas::ones_at))]
+#[tactic(auto, using(crate::proofs::Timestamps::Printing::Pairs::tens_at, crate::proofs::Timestamps::Printing::Pairs::ones_at))]
 fn digits_of(n: u32) -> (u8, u8)
     requires { n < 100 }
     ensures tens { result.0 ≡ digit (n / 10) }
@@ -289,7 +289,7 @@ fn digits_of(n: u32) -> (u8, u8)
 
 // Writes a number below 100 as two digits at this place. Two stores are one move, where a copied slice is a call.
 #[inline(always)]
-#[tactic(auto, using(crate::proofs::TimestampPairLemmas::two_set))]
+#[tactic(auto, using(crate::proofs::Timestamps::Printing::Pairs::two_set))]
 fn put_two(buf: &mut [u8; 30], at: usize, n: u32)
     requires place { at + 2 ≤ 30 }
     requires small { n < 100 }

@@ -4,10 +4,10 @@ ghost use Rattle.std.specs.Prelude.{◌≡◌, ◌++◌, Some, chars, decimal, e
 ghost use Rattle.std.specs.Cmp.{on_per};
 ghost use Rattle.std.specs.Ordering.{on};
 ghost use Rattle.std.specs.Fmt.{WritesOnOk, WritesStyledOnOk};
-ghost use Rattle.humantime.specs.Errors.{fault_of};
-ghost use Rattle.humantime.specs.FaultEquality.{fault_eq};
-ghost use Rattle.humantime.specs.Messages.{message_of, unit_message, unit_needed};
-ghost use Rattle.humantime.specs.FaultEqualityLemmas.{fault_eq_laws};
+ghost use Rattle.humantime.specs.Durations.Errors.{fault_of};
+ghost use Rattle.humantime.specs.Durations.FaultEquality.{fault_eq};
+ghost use Rattle.humantime.specs.Durations.Messages.{message_of, unit_message, unit_needed};
+ghost use Rattle.humantime.specs.References.Durations.FaultEqualityLemmas.{fault_eq_laws};
 
 use itoa::Buffer;
 use std::error::Error;

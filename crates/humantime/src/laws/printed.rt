@@ -1,12 +1,12 @@
 //! Laws of printed durations.
 
 ghost use Rattle.std.specs.Prelude.{◌≡◌, ◌↔◌, ℕ, List, chars, Ok, Err};
-ghost use Rattle.humantime.specs.Canonical.{IsCanonicalOf};
-ghost use Rattle.humantime.specs.Counts.{Canon};
-ghost use Rattle.humantime.specs.DurationAnswers.{duration_answer, canonical_answer};
-ghost use Rattle.humantime.specs.Faults.{Fault, HasFault};
-ghost use Rattle.humantime.specs.Printing.{duration_text};
-ghost use Rattle.humantime.specs.PrintedTexts.{HasOneText, ReadsBack, TextsTellApart, HasShortText, HasSmallCounts, HasCanonicalText, KeepsItsValue, KeepsItsText};
+ghost use Rattle.humantime.specs.Durations.Canonical.{IsCanonicalOf};
+ghost use Rattle.humantime.specs.Durations.Counts.{Canon};
+ghost use Rattle.humantime.specs.References.Durations.Answers.{duration_answer, canonical_answer};
+ghost use Rattle.humantime.specs.Durations.Faults.{Fault, HasFault};
+ghost use Rattle.humantime.specs.References.Durations.Printing.{duration_text};
+ghost use Rattle.humantime.specs.Durations.PrintedLaws.{HasOneText, ReadsBack, TextsTellApart, HasShortText, HasSmallCounts, HasCanonicalText, KeepsItsValue, KeepsItsText};
 
 use crate::value::StdDuration;
 

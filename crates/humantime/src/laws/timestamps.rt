@@ -2,12 +2,12 @@
 
 ghost use Rattle.std.specs.Prelude.{◌≡◌, ◌↔◌, ℕ, ℤ, List, Some, Ok, Err};
 ghost use Rattle.humantime.specs.declared.date.error.TimestampError.{TimestampError};
-ghost use Rattle.humantime.specs.Timestamps.{IsWeak, IsStrict, IsWeakMoment, IsStrictMoment};
-ghost use Rattle.humantime.specs.TimestampChecks.{weak_checks, strict_checks, first_failed};
-ghost use Rattle.humantime.specs.TimestampLaws.{OneTimestamp, StrictIsWeak, StrictMomentIsWeak, InOrder};
-ghost use Rattle.humantime.specs.TimestampPrinted.{cut, IsPrintable, OnePrinted, ReadsAs};
-ghost use Rattle.humantime.specs.TimestampPrinting.{moment_kept, places_kept, printed_text, IsTextOf};
-ghost use Rattle.humantime.specs.TimestampReading.{weak_answer, strict_answer};
+ghost use Rattle.humantime.specs.Timestamps.Fields.{IsWeak, IsStrict, IsWeakMoment, IsStrictMoment};
+ghost use Rattle.humantime.specs.Timestamps.Checks.{weak_checks, strict_checks, first_failed};
+ghost use Rattle.humantime.specs.Timestamps.Laws.{OneTimestamp, StrictIsWeak, StrictMomentIsWeak, InOrder};
+ghost use Rattle.humantime.specs.Timestamps.Printed.{cut, IsPrintable, OnePrinted, ReadsAs};
+ghost use Rattle.humantime.specs.References.Timestamps.Printing.{moment_kept, places_kept, printed_text, IsTextOf};
+ghost use Rattle.humantime.specs.References.Timestamps.Reading.{weak_answer, strict_answer};
 
 use crate::date::Rfc3339Timestamp;
 use crate::value::SystemTime;

@@ -5,8 +5,8 @@ ghost use Rattle.std.proofs.Common.{rules};
 ghost use Rattle.std.specs.Cmp.{partial_order_from_own_ties};
 ghost use Rattle.std.specs.Cmp.Rules.{comparing};
 ghost use Rattle.std.specs.Ordering.{int_cmp, int_eq, as_partial_cmp};
-ghost use Rattle.humantime.specs.Moment.{moment, second_of, nano_of, moment_end};
-ghost use Rattle.humantime.specs.Times.{nanos_per_second};
+ghost use Rattle.humantime.specs.Values.Moments.{moment, second_of, nano_of, moment_end};
+ghost use Rattle.humantime.specs.Values.Amounts.{nanos_per_second};
 
 use crate::value::std_duration::StdDuration;
 use std::cmp::Ordering;
@@ -38,8 +38,8 @@ pub struct SystemTime {
 
 impl Model for SystemTime {
     ghost use Rattle.std.specs.Prelude.{ℤ, ◌<◌};
-    ghost use Rattle.humantime.specs.Moment.{moment, second_of, nano_of};
-    ghost use Rattle.humantime.specs.MomentLemmas.{second_of-moment, nano_of-moment};
+    ghost use Rattle.humantime.specs.Values.Moments.{moment, second_of, nano_of};
+    ghost use Rattle.humantime.specs.References.Values.MomentLemmas.{second_of-moment, nano_of-moment};
 
     ghost Value = { ℤ };
 
@@ -111,7 +111,7 @@ impl SystemTime {
     /// ```text
     /// UNIX_EPOCH.unix_seconds() == 0
     /// ```
-    #[tactic(auto, using(crate::specs::MomentLemmas::parts_of_moment))]
+    #[tactic(auto, using(crate::specs::References::Values::MomentLemmas::parts_of_moment))]
     pub fn unix_seconds(&self) -> i64
         ensures second { result ≡ second_of self.now }
         ensures parts { moment result (nano_of self.now) ≡ self.now }
@@ -124,7 +124,7 @@ impl SystemTime {
     /// ```text
     /// UNIX_EPOCH.subsec_nanos() == 0
     /// ```
-    #[tactic(auto, using(crate::specs::MomentLemmas::parts_of_moment))]
+    #[tactic(auto, using(crate::specs::References::Values::MomentLemmas::parts_of_moment))]
     pub fn subsec_nanos(&self) -> u32
         ensures nano { result ≡ nano_of self.now }
         ensures parts { moment (second_of self.now) result ≡ self.now }
@@ -216,7 +216,7 @@ impl PartialEq for SystemTime {
 
     ghost laws = { Prim.search (comparing, rules) };
 
-    #[tactic(auto, using(crate::specs::MomentLemmas::int_eq_moment))]
+    #[tactic(auto, using(crate::specs::References::Values::MomentLemmas::int_eq_moment))]
     fn eq(&self, other: &SystemTime) -> bool {
         self.secs == other.secs && self.nanos == other.nanos
     }
@@ -235,7 +235,7 @@ impl Ord for SystemTime {
 
     ghost matches_eq = { Prim.search (comparing, rules) };
 
-    #[tactic(auto, using(crate::specs::MomentLemmas::int_cmp_moment))]
+    #[tactic(auto, using(crate::specs::References::Values::MomentLemmas::int_cmp_moment))]
     fn cmp(&self, other: &SystemTime) -> Ordering {
         self.secs
             .cmp(&other.secs)

@@ -2,8 +2,8 @@
 //! date and day; the tests compare what they answer as well.
 
 ghost use Rattle.std.specs.Prelude.{◌≡◌, ◌+◌, ◌-◌, ◌<◌, ◌≤◌, ◌↔◌, IsSome, IfSome};
-ghost use Rattle.humantime.specs.Calendar.{is_leap_year, days_in_year, days_in_month, days_of_years, days_of_months};
-ghost use Rattle.humantime.specs.Dates.{IsDate, day_of};
+ghost use Rattle.humantime.specs.Calendar.Years.{is_leap_year, days_in_year, days_in_month, days_of_years, days_of_months};
+ghost use Rattle.humantime.specs.Calendar.Dates.{IsDate, day_of};
 
 use crate::tests::support::assert_same;
 use humantime::{Date, Turns, date_of_day, day_number};

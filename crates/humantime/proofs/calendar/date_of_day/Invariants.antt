@@ -1,5 +1,5 @@
 use Rattle.std.proofs.Common.{◌≡◌, ◌+◌}
-use Rattle.humantime.specs.March.{march_months}
+use Rattle.humantime.specs.References.Calendar.March.{march_months}
 use Rattle.humantime.proofs.calendar.date_of_day.Given as goal
 
 -- the months that are gone and the days that are left make the days of the year, and each month was a turn

@@ -1,5 +1,5 @@
 use Rattle.std.proofs.Common.{arith}
-use Rattle.humantime.proofs.WordKeys.{packed_rest}
+use Rattle.humantime.proofs.Durations.Bytes.WordKeys.{packed_rest}
 use Rattle.humantime.proofs.unit.key_of.Goals as goal
 
 pub overflow_mul-key : goal.overflow_mul-key

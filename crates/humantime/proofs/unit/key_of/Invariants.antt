@@ -1,5 +1,5 @@
 use Rattle.std.proofs.Common.{◌≡◌, ◌≤◌, length, drop}
-use Rattle.humantime.specs.Keys.{packed}
+use Rattle.humantime.specs.References.Durations.Keys.{packed}
 use Rattle.humantime.proofs.unit.key_of.Given as goal
 
 abbrev pub invariant-loop-i : goal.invariant-loop-i

@@ -1,6 +1,6 @@
 use Rattle.std.proofs.Common.{◌∙◌, ap}
-use Rattle.humantime.specs.Keys.{key, scale_of_key}
-use Rattle.humantime.proofs.WordKeys.{scale_by_key}
+use Rattle.humantime.specs.References.Durations.Keys.{key, scale_of_key}
+use Rattle.humantime.proofs.Durations.Bytes.WordKeys.{scale_by_key}
 use Rattle.humantime.proofs.unit.unit_of.Goals as goal
 
 pub returns : goal.returns

@@ -1,4 +1,4 @@
-use Rattle.humantime.proofs.TimestampLaneLemmas.{front_tested}
+use Rattle.humantime.proofs.Timestamps.Reading.Lanes.{front_tested}
 use Rattle.humantime.proofs.date.parse.has_front_digits.Goals as goal
 
 pub returns : goal.returns

@@ -1,4 +1,4 @@
-use Rattle.humantime.proofs.TimestampCheckLemmas.{pairs_told}
+use Rattle.humantime.proofs.Timestamps.Reading.Checks.{pairs_told}
 use Rattle.humantime.proofs.date.parse.numbers_at.Goals as goal
 
 pub returns : goal.returns

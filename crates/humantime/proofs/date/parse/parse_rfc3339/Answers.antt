@@ -1,5 +1,5 @@
 use Rattle.std.proofs.Common.{sym, ◌∙◌}
-use Rattle.humantime.proofs.TimestampReadTheorems.{refused_value, strict_value_of, strict_error_of, strict_refused, strict_as_weak}
+use Rattle.humantime.proofs.Timestamps.Laws.Reading.{refused_value, strict_value_of, strict_error_of, strict_refused, strict_as_weak}
 use Rattle.humantime.proofs.date.parse.parse_rfc3339.Goals as goal
 
 pub returns-then-not-is_complete-clause-value : goal.returns-then-not-is_complete-clause-value

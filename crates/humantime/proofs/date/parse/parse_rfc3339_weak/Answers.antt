@@ -1,4 +1,4 @@
-use Rattle.humantime.proofs.TimestampReadTheorems.{weak_value_of, weak_error_of}
+use Rattle.humantime.proofs.Timestamps.Laws.Reading.{weak_value_of, weak_error_of}
 use Rattle.humantime.proofs.date.parse.parse_rfc3339_weak.Goals as goal
 
 pub returns-clause-value : goal.returns-clause-value

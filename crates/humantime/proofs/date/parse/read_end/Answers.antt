@@ -1,5 +1,5 @@
 use Rattle.std.proofs.Common.{sym, ◌∙◌}
-use Rattle.humantime.proofs.TimestampExitLemmas.{exit_plain, exit_no_zone, exit_fraction}
+use Rattle.humantime.proofs.Timestamps.Reading.Exits.{exit_plain, exit_no_zone, exit_fraction}
 use Rattle.humantime.proofs.date.parse.read_end.Goals as goal
 
 pub returns-then-has_point-clause-value : goal.returns-then-has_point-clause-value

@@ -1,5 +1,5 @@
 use Rattle.std.proofs.Common.{refl, arith}
-use Rattle.humantime.proofs.TimestampFractionLemmas.{read_none, read_three}
+use Rattle.humantime.proofs.Timestamps.Reading.Fractions.{read_none, read_three}
 use Rattle.humantime.proofs.date.parse.read_threes.Goals as goal
 
 pub loop-three-init : goal.loop-three-init

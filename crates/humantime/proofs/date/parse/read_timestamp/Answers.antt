@@ -1,8 +1,8 @@
 use Rattle.std.proofs.Common.{rules, sym, ap, ◌∙◌}
 use Rattle.std.proofs.lemmas.Result.{err_from_is_err_and}
-use Rattle.humantime.specs.TimestampReading.{seconds_to}
-use Rattle.humantime.proofs.TimestampExitLemmas.{Begins, false_from, exit_digits, exit_range, exit_err, exit_ok}
-use Rattle.humantime.proofs.TimestampNumberLemmas.{in_range_told_of, in_range_of}
+use Rattle.humantime.specs.References.Timestamps.Reading.{seconds_to}
+use Rattle.humantime.proofs.Timestamps.Reading.Exits.{Begins, false_from, exit_digits, exit_range, exit_err, exit_ok}
+use Rattle.humantime.proofs.Timestamps.Reading.Numbers.{in_range_told_of, in_range_of}
 use Rattle.humantime.proofs.date.parse.read_timestamp.Goals as goal
 
 pub returns-then-not-has_digits : goal.returns-then-not-has_digits

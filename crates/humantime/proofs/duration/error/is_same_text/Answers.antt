@@ -1,5 +1,5 @@
 use Rattle.std.proofs.Common.{◌∙◌}
-use Rattle.humantime.proofs.Tails.{same_chars}
+use Rattle.humantime.proofs.Durations.Bytes.Tails.{same_chars}
 use Rattle.humantime.proofs.duration.error.is_same_text.Goals as goal
 
 pub returns : goal.returns

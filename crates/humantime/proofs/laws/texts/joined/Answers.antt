@@ -1,6 +1,6 @@
 use Rattle.std.proofs.Common.{chars}
 use Rattle.std.proofs.lemmas.Str.{chars-append}
-use Rattle.humantime.proofs.TextTheorems as law
+use Rattle.humantime.proofs.Durations.Laws.TextTheorems as law
 use Rattle.humantime.proofs.laws.texts.joined.Goals as goal
 
 pub returns-clause-first : goal.returns-clause-first

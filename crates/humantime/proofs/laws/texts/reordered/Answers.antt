@@ -1,5 +1,5 @@
 use Rattle.std.proofs.Common.{chars}
-use Rattle.humantime.proofs.TextTheorems as law
+use Rattle.humantime.proofs.Durations.Laws.TextTheorems as law
 use Rattle.humantime.proofs.laws.texts.reordered.Goals as goal
 
 pub returns-clause-value : goal.returns-clause-value

@@ -1,5 +1,5 @@
 use Rattle.std.proofs.Common.{chars}
-use Rattle.humantime.proofs.OlderTexts as law
+use Rattle.humantime.proofs.Durations.Laws.OlderTexts as law
 use Rattle.humantime.proofs.laws.texts.still_accepted.Goals as goal
 
 pub returns : goal.returns

@@ -1,5 +1,5 @@
 use Rattle.std.proofs.Common.{chars}
-use Rattle.humantime.proofs.TextTheorems as law
+use Rattle.humantime.proofs.Durations.Laws.TextTheorems as law
 use Rattle.humantime.proofs.laws.texts.without_ws.Goals as goal
 
 pub returns : goal.returns

@@ -1,4 +1,4 @@
-use Rattle.humantime.specs.TimestampPrinting.{moment_kept, places_kept}
+use Rattle.humantime.specs.References.Timestamps.Printing.{moment_kept, places_kept}
 use Rattle.humantime.proofs.Theorems as theorem
 use Rattle.humantime.proofs.laws.timestamps.printed_moment_reads.Goals as goal
 

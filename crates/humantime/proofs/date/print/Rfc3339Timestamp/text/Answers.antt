@@ -1,4 +1,4 @@
-use Rattle.humantime.proofs.TimestampPrintedLemmas.{printed_ascii}
+use Rattle.humantime.proofs.Timestamps.Printing.Printed.{printed_ascii}
 use Rattle.humantime.proofs.date.print.Rfc3339Timestamp.text.Goals as goal
 
 pub front-requires-clause-ascii : goal.front-requires-clause-ascii

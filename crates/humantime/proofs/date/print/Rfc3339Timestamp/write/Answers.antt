@@ -1,5 +1,5 @@
-use Rattle.humantime.proofs.TimestampPrintedLemmas.{shown_printed, places_most}
-use Rattle.humantime.specs.TimestampPrinting.{places, moment_kept, places_kept}
+use Rattle.humantime.proofs.Timestamps.Printing.Printed.{shown_printed, places_most}
+use Rattle.humantime.specs.References.Timestamps.Printing.{places, moment_kept, places_kept}
 use Rattle.humantime.proofs.date.print.Rfc3339Timestamp.write.Goals as goal
 
 pub returns-clause-text : goal.returns-clause-text

@@ -1,5 +1,5 @@
 use Rattle.std.proofs.Common.{rules, refl}
-use Rattle.humantime.proofs.TimestampPrintedLemmas.{printed_text_is}
+use Rattle.humantime.proofs.Timestamps.Printing.Printed.{printed_text_is}
 use Rattle.humantime.proofs.date.print.Rfc3339TimestampDisplay.fmt.Goals as goal
 
 pub returns-clause-writes : goal.returns-clause-writes

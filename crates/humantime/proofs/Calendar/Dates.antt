@@ -1,0 +1,139 @@
+-- Each day number has one date.
+use Rattle.std.proofs.Common.{◌≡◌, ◌∙◌, ℕ, zero, suc, ◌+◌, ◌-◌, ◌<◌, ◌≤◌, refl, sym, arith, inl, inr}
+use Rattle.std.proofs.lemmas.Bool.Decides.{nat_tests}
+use Rattle.std.proofs.lemmas.Bool.{cases_order, cases_lt}
+use Rattle.humantime.specs.declared.calendar.Date.{Date}
+use Rattle.humantime.specs.Calendar.Years.{days_in_year, days_in_month, days_of_years, days_of_months, IsValid, day_count}
+use Rattle.humantime.specs.Calendar.Dates.{IsDate, day_of, IsDateOfDay, OneDate}
+use Rattle.humantime.proofs.Calendar.Years.{days_of_years_next, days_of_no_years, days_of_no_months, days_of_months_next, twelve_months, month_end, days_of_years_more, march_days_of_years}
+use Rattle.humantime.specs.References.Calendar.March.{march_days}
+
+-- more years have no fewer days, nor have more months
+years_grow : (n : ℕ) (more : ℕ) → days_of_years n ≤ days_of_years (n + more)
+years_grow n zero =
+    let same : n + 0 ≡ n = omega arith in
+    rw same (omega arith)
+years_grow n (suc more) =
+    let same : n + suc more ≡ suc (n + more) = omega arith in
+    let before : days_of_years n ≤ days_of_years (n + more) = years_grow n more in
+    rw same (rw (days_of_years_next (n + more)) (omega (arith, before)))
+
+months_grow : (y : ℕ) (n : ℕ) (more : ℕ) → days_of_months y n ≤ days_of_months y (n + more)
+months_grow y n zero =
+    let same : n + 0 ≡ n = omega arith in
+    rw same (omega arith)
+months_grow y n (suc more) =
+    let same : n + suc more ≡ suc (n + more) = omega arith in
+    let before : days_of_months y n ≤ days_of_months y (n + more) = months_grow y n more in
+    rw same (rw (days_of_months_next y (n + more)) (omega (arith, before)))
+
+-- a date's day lies before the days of each later month and of each later year
+pub before_month : (y : ℕ) (m : ℕ) (d : ℕ) → IsValid y m d → (later : ℕ) → m < later
+    → days_of_months y (m - 1) + (d - 1) < days_of_months y (later - 1)
+before_month y m d valid later less =
+    let upto : days_of_months y m ≡ days_of_months y (m - 1) + days_in_month y m = month_end y m valid.1.0 in
+    let same : m + (later - 1 - m) ≡ later - 1 = omega arith in
+    let grown : days_of_months y m ≤ days_of_months y (later - 1) = rw same at (months_grow y m (later - 1 - m)) in
+    omega (arith, valid.2.0, valid.2.1)
+
+pub before_year : (y : ℕ) (m : ℕ) (d : ℕ) → IsValid y m d → (later : ℕ) → y < later
+    → day_count y m d < days_of_years (later - 1970)
+before_year y m d valid later less =
+    let month : days_of_months y (m - 1) + (d - 1) < days_of_months y (13 - 1) = before_month y m d valid 13 (omega (arith, valid.1.1)) in
+    let all : days_of_months y 12 ≡ days_in_year y = twelve_months y in
+    let upto : days_of_years (y + 1 - 1970) ≡ days_of_years (y - 1970) + days_in_year y = days_of_years_more y valid.0.0 in
+    let same : y + 1 - 1970 + (later - 1 - y) ≡ later - 1970 = omega (arith, valid.0.0) in
+    let grown : days_of_years (y + 1 - 1970) ≤ days_of_years (later - 1970) = rw same at (years_grow (y + 1 - 1970) (later - 1 - y)) in
+    omega arith
+
+same_year : (y : ℕ) (m : ℕ) (d : ℕ) (y' : ℕ) (m' : ℕ) (d' : ℕ) → IsValid y m d → IsValid y' m' d'
+    → day_count y m d ≡ day_count y' m' d' → y ≡ y'
+same_year y m d y' m' d' valid valid' same =
+    elim (cases_order y y') [
+      | inl e ↦ e
+      | inr r ↦ elim r [
+        | inl less ↦ absurd (let no : ⊥ = omega (arith, before_year y m d valid y' less) in no)
+        | inr less ↦ absurd (let no : ⊥ = omega (arith, before_year y' m' d' valid' y less) in no)
+      ]
+    ]
+
+same_month : (y : ℕ) (m : ℕ) (d : ℕ) (m' : ℕ) (d' : ℕ) → IsValid y m d → IsValid y m' d'
+    → day_count y m d ≡ day_count y m' d' → m ≡ m'
+same_month y m d m' d' valid valid' same =
+    elim (cases_order m m') [
+      | inl e ↦ e
+      | inr r ↦ elim r [
+        | inl less ↦ absurd (let no : ⊥ = omega (arith, before_month y m d valid m' less) in no)
+        | inr less ↦ absurd (let no : ⊥ = omega (arith, before_month y m' d' valid' m less) in no)
+      ]
+    ]
+
+pub same_date : (a : Date) (b : Date) → IsDate a → IsDate b → day_of a ≡ day_of b → a ≡ b
+same_date a b valid valid' same =
+    let year : a.year ≡ b.year = same_year a.year a.month a.day b.year b.month b.day valid valid' same in
+    let there : IsValid a.year b.month b.day = rw (sym year) at valid' in
+    let count : day_count a.year a.month a.day ≡ day_count a.year b.month b.day = rw (sym year) at same in
+    let month : a.month ≡ b.month = same_month a.year a.month a.day b.month b.day valid there count in
+    let count' : day_count a.year a.month a.day ≡ day_count a.year a.month b.day = rw (sym month) at count in
+    let day : a.day ≡ b.day = omega (arith, count', valid.2.0, valid'.2.0) in
+    λ i. record { year = year i; month = month i; day = day i }
+
+-- the date of the next day
+month_some : (y : ℕ) (m : ℕ) → 28 ≤ days_in_month y m
+month_some y m = grind (arith, nat_tests)
+
+pub next_day : (n : ℕ) (y : ℕ) (m : ℕ) (d : ℕ) → IsValid y m d × (day_count y m d ≡ n) → d < days_in_month y m
+    → IsValid y m (d + 1) × (day_count y m (d + 1) ≡ suc n)
+next_day n y m d is more =
+    let some : 1 ≤ d = is.0.2.0 in
+    let day : days_of_years (y - 1970) + days_of_months y (m - 1) + (d - 1) ≡ n = is.1 in
+    ((is.0.0, is.0.1, (omega arith, omega arith)), omega arith)
+
+pub next_month : (n : ℕ) (y : ℕ) (m : ℕ) (d : ℕ) → IsValid y m d × (day_count y m d ≡ n) → days_in_month y m ≤ d → m < 12
+    → IsValid y (m + 1) 1 × (day_count y (m + 1) 1 ≡ suc n)
+next_month n y m d is last more =
+    let day : days_of_years (y - 1970) + days_of_months y (m - 1) + (d - 1) ≡ n = is.1 in
+    let whole : days_of_months y m ≡ days_of_months y (m - 1) + days_in_month y m = month_end y m is.0.1.0 in
+    let here : m + 1 - 1 ≡ m = omega arith in
+    let some : 28 ≤ days_in_month y (m + 1) = month_some y (m + 1) in
+    let next : days_of_years (y - 1970) + days_of_months y (m + 1 - 1) + 0 ≡ suc n = rw here (omega (arith, is.0.2.0, is.0.2.1)) in
+    ((is.0.0, (omega arith, omega arith), (omega arith, omega arith)), next)
+
+pub next_year : (n : ℕ) (y : ℕ) (m : ℕ) (d : ℕ) → n < 2_932_896 → IsValid y m d × (day_count y m d ≡ n)
+    → days_in_month y m ≤ d → 12 ≤ m → IsValid (y + 1) 1 1 × (day_count (y + 1) 1 1 ≡ suc n)
+next_year n y m d few is last december =
+    let day : days_of_years (y - 1970) + days_of_months y (m - 1) + (d - 1) ≡ n = is.1 in
+    let whole : days_of_months y m ≡ days_of_months y (m - 1) + days_in_month y m = month_end y m is.0.1.0 in
+    let twelve : m ≡ 12 = omega (arith, is.0.1.1) in
+    let months : days_of_months y m ≡ days_in_year y = rw twelve (twelve_months y) in
+    let years : days_of_years (y + 1 - 1970) ≡ days_of_years (y - 1970) + days_in_year y = days_of_years_more y is.0.0.0 in
+    let none : days_of_months (y + 1) 0 ≡ 0 = days_of_no_months (y + 1) in
+    let closed : days_of_years (y + 1 - 1970) + 134_774 ≡ march_days (y + 1 - 1970 + 369) = march_days_of_years (y + 1 - 1970) in
+    let next : days_of_years (y + 1 - 1970) ≡ suc n = omega (arith, is.0.2.0, is.0.2.1) in
+    let count : days_of_years (y + 1 - 1970) + days_of_months (y + 1) 0 + 0 ≡ suc n = omega arith in
+    (((omega arith, omega (arith, closed, next, few)), (omega arith, omega arith), (omega arith, omega arith)), count)
+
+next_date : (n : ℕ) → n < 2_932_896 → (x : Date) → IsDateOfDay n x → (d : Date) × IsDateOfDay (suc n) d
+next_date n few x is =
+    elim (cases_lt x.day (days_in_month x.year x.month)) [
+      | inl more ↦ (record { year = x.year; month = x.month; day = x.day + 1 }, next_day n x.year x.month x.day is more)
+      | inr last ↦ elim (cases_lt x.month 12) [
+        | inl more ↦ (record { year = x.year; month = x.month + 1; day = 1 }, next_month n x.year x.month x.day is last more)
+        | inr december ↦ (record { year = x.year + 1; month = 1; day = 1 }, next_year n x.year x.month x.day few is last december)
+      ]
+    ]
+
+some_date : (n : ℕ) → n ≤ 2_932_896 → (d : Date) × IsDateOfDay n d
+some_date zero few =
+    let none : day_count 1970 1 1 ≡ 0 = rw days_of_no_years (rw (days_of_no_months 1970) refl) in (
+      record { year = 1970; month = 1; day = 1 },
+      (((omega arith, omega arith), (omega arith, omega arith), (omega arith, omega arith)), none),
+    )
+some_date (suc n) few =
+    let before = some_date n (omega (arith, few)) in
+    next_date n (omega (arith, few)) before.0 before.1
+
+pub one_date : (day : ℕ) → day ≤ 2_932_896 → OneDate day
+one_date day few =
+    let some = some_date day few in
+    (some.0, some.1, λ other is. same_date other some.0 is.0 some.1.0 (is.1 ∙ sym some.1.1))

@@ -1,0 +1,10 @@
+-- The reader's steps over the bytes of a text, and its sums.
+pub mod Additions
+pub mod Digits
+pub mod FractionDigits
+pub mod Numbers
+pub mod PlaceSteps
+pub mod Points
+pub mod SpanExits
+pub mod Tails
+pub mod WordKeys

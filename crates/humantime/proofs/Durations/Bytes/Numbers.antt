@@ -1,0 +1,78 @@
+-- Reading a number digit by digit.
+use Rattle.std.proofs.Common.{◌≡◌, ◌≤◌, ◌<◌, ◌+◌, ◌-◌, ◌*◌, ℕ, List, [], ◌∷◌, ap, sym, ◌∙◌, arith, Err, ◌≢◌, refl, Ok}
+use Rattle.std.proofs.lemmas.Bool.{lt-ltb, le-ltb}
+use Rattle.std.specs.Char.{digit_value}
+use Rattle.std.specs.Str.Parse.{digits_value_after}
+use Rattle.humantime.specs.declared.duration.reading.class.Class.{Class}
+use Rattle.humantime.specs.declared.duration.reading.class.Class.TheVariants.{White, Digit, Letter, Point, Other}
+use Rattle.humantime.specs.Durations.Characters.{class_of, is_ws, is_letter, is_numeric, leading, past, digits, decimal_value, u64_max}
+use Rattle.humantime.specs.Durations.Faults.{NumberOverflow, number_of, after_number}
+use Rattle.humantime.specs.References.Durations.Scanning.{number_at}
+use Rattle.humantime.proofs.Durations.Bytes.Digits.{digit_counts}
+
+-- v is read so far, and the number that begins the rest, read on from v, is that of the text.
+pub record IsAt (text : List ℕ) (v : ℕ) (rest : List ℕ) : Type 0 where
+  pub value : digits_value_after 10 v (digits (leading is_numeric rest)) ≡ decimal_value (number_of text)
+  pub rest_is : past is_numeric rest ≡ after_number text
+  pub fits : v ≤ u64_max
+
+-- a digit begins what is numeric, and so does white space, which has no digit
+pub digit_first : (c : ℕ) (cs rest : List ℕ) → rest ≡ c ∷ cs → class_of c ≡ Digit → digits (leading is_numeric rest) ≡ c ∷ digits (leading is_numeric cs)
+digit_first c cs rest e d = rw (e, d, d)
+
+pub space_first : (c : ℕ) (cs rest : List ℕ) → rest ≡ c ∷ cs → class_of c ≡ White → digits (leading is_numeric rest) ≡ digits (leading is_numeric cs)
+space_first c cs rest e d = rw (e, d, d)
+
+pub past_digit : (c : ℕ) (cs rest : List ℕ) → rest ≡ c ∷ cs → class_of c ≡ Digit → past is_numeric rest ≡ past is_numeric cs
+past_digit c cs rest e d = rw (e, d)
+
+pub past_white : (c : ℕ) (cs rest : List ℕ) → rest ≡ c ∷ cs → class_of c ≡ White → past is_numeric rest ≡ past is_numeric cs
+past_white c cs rest e d = rw (e, d)
+
+-- digits only make a value greater
+pub value_grows : (n : ℕ) (ds : List ℕ) → n ≤ digits_value_after 10 n ds
+value_grows n [] = omega arith
+value_grows n (d ∷ ds) = omega (arith, value_grows (n * 10 + digit_value d) ds)
+
+pub at_digit : (text rest cs : List ℕ) (v w c : ℕ) → IsAt text v rest → rest ≡ c ∷ cs → class_of c ≡ Digit → w ≡ v * 10 + (c - 48) → w ≤ u64_max → IsAt text w cs
+at_digit text rest cs v w c h e d n f = record {
+  value = rw (n, ← digit_counts c d) (sym (ap (digits_value_after 10 v) (digit_first c cs rest e d)) ∙ h.value);
+  rest_is = sym (past_digit c cs rest e d) ∙ h.rest_is;
+  fits = f;
+}
+
+pub at_space : (text rest cs : List ℕ) (v c : ℕ) → IsAt text v rest → rest ≡ c ∷ cs → class_of c ≡ White → IsAt text v cs
+at_space text rest cs v c h e d = record {
+  value = sym (ap (digits_value_after 10 v) (space_first c cs rest e d)) ∙ h.value;
+  rest_is = sym (past_white c cs rest e d) ∙ h.rest_is;
+  fits = h.fits;
+}
+
+pub number_passes : (text rest cs : List ℕ) (v c : ℕ) → IsAt text v rest → rest ≡ c ∷ cs → class_of c ≡ Digit → u64_max < v * 10 + (c - 48) → Err NumberOverflow ≡ number_at text
+number_passes text rest cs v c h e d over =
+    let value : digits_value_after 10 (v * 10 + digit_value c) (digits (leading is_numeric cs)) ≡ decimal_value (number_of text) = sym (ap (digits_value_after 10 v) (digit_first c cs rest e d)) ∙ h.value in
+    let grows = value_grows (v * 10 + digit_value c) (digits (leading is_numeric cs)) in
+    let above : u64_max < decimal_value (number_of text) = omega (arith, value, grows, digit_counts c d) in
+    rw (lt-ltb u64_max (decimal_value (number_of text)) above)
+
+pub past_letters : (c : ℕ) (cs rest : List ℕ) → rest ≡ c ∷ cs → class_of c ≡ Letter → past is_letter rest ≡ past is_letter cs
+past_letters c cs rest e d = rw (e, d)
+
+pub past_space : (c : ℕ) (cs rest : List ℕ) → rest ≡ c ∷ cs → class_of c ≡ White → past is_ws rest ≡ past is_ws cs
+past_space c cs rest e d = rw (e, d)
+
+-- a character that is neither a digit nor white space ends the number, and so does the end
+number_is : (text rest : List ℕ) (v : ℕ) → v ≡ decimal_value (number_of text) → rest ≡ after_number text → v ≤ u64_max → Ok (v, rest) ≡ number_at text
+number_is text rest v value rest_is fits =
+    let within = le-ltb u64_max (decimal_value (number_of text)) (omega (arith, value, fits)) in
+    rw within (λ i. Ok (value i, rest_is i))
+
+pub number_ends : (text rest cs : List ℕ) (v c : ℕ) (class : Class) → IsAt text v rest → rest ≡ c ∷ cs → class ≡ class_of c → class ≢ White → class ≢ Digit → Ok (v, rest) ≡ number_at text
+number_ends text rest cs v c White h e d w n = absurd (w refl)
+number_ends text rest cs v c Digit h e d w n = absurd (n refl)
+number_ends text rest cs v c Letter h e d w n = number_is text rest v (rw (e, ← d) at h.value) (e ∙ (rw (e, ← d) at h.rest_is)) h.fits
+number_ends text rest cs v c Point h e d w n = number_is text rest v (rw (e, ← d) at h.value) (e ∙ (rw (e, ← d) at h.rest_is)) h.fits
+number_ends text rest cs v c Other h e d w n = number_is text rest v (rw (e, ← d) at h.value) (e ∙ (rw (e, ← d) at h.rest_is)) h.fits
+
+pub number_whole : (text rest : List ℕ) (v : ℕ) → IsAt text v rest → rest ≡ [] → Ok (v, rest) ≡ number_at text
+number_whole text rest v h e = number_is text rest v (rw e at h.value) (e ∙ (rw e at h.rest_is)) h.fits

@@ -1,0 +1,95 @@
+-- A word's key tells which of the units' words it is.
+use Rattle.std.proofs.Common.{◌≡◌, ◌∙◌, sym, ap, refl, ℕ, zero, suc, ◌+◌, ◌*◌, ◌^◌, ◌<◌, ◌≤◌, Bool, true, false, ◌&&◌, List, [], ◌∷◌, length, length-drop, drop, get_or, inl, inr, ltb, chars, arith}
+use Rattle.std.specs.Prelude.{◌==◌, bytes_eq}
+use Rattle.std.specs.List.{list_all}
+use Rattle.std.specs.Map.{lookup}
+use Rattle.std.specs.Str.{IsUtf8}
+use Rattle.std.proofs.Math.Utf8.{encode, encodes, scalars}
+use Rattle.std.proofs.Math.Nat.{pow-suc, pow-le-pow_right}
+use Rattle.std.proofs.lemmas.List.{get_or-drop}
+use Rattle.std.proofs.lemmas.Bool.{and_parts, cases_lt, ltb-true, le-ltb, lt-ltb, eqb-true, eq-eqb}
+use Rattle.std.proofs.lemmas.Slice.Eq.{bytes_eq-Decides}
+use Rattle.std.proofs.lemmas.Str.{chars-encodes, encodes-chars}
+use Rattle.humantime.specs.Durations.Units.{Scale, words, scale_of_word}
+use Rattle.humantime.specs.References.Durations.Keys.{packed, key, bytes_of, keyed, scale_of_key}
+
+-- the list holds bytes
+abbrev pub HasBytes : List ℕ → Type 0
+HasBytes bs = (k : ℕ) → get_or bs k 0 < 256
+
+packed_positive : (bs : List ℕ) → 1 ≤ packed bs
+packed_positive [] = omega arith
+packed_positive (b ∷ bs) = omega (arith, packed_positive bs)
+
+packed_below : (bs : List ℕ) → HasBytes bs → packed bs < 2 * 256 ^ length bs
+packed_below [] h = omega arith
+packed_below (b ∷ bs) h =
+    let head : b < 256 = h 0 in
+    let longer : 256 ^ suc (length bs) ≡ 256 ^ length bs * 256 = pow-suc 256 (length bs) in
+    omega (arith, packed_below bs (λ k. h (suc k)), head, longer)
+
+-- what stands after the first of at most seven bytes leaves room for one more in a u64
+pub packed_rest : (bs : List ℕ) (i : ℕ) → HasBytes bs → length bs ≤ 7 → 0 < i → i ≤ length bs → packed (drop i bs) < 2 * 256 ^ 6
+packed_rest bs i h short some within =
+    let shorter : length (drop i bs) ≤ 6 = omega (arith, length-drop i bs) in
+    let bytes : HasBytes (drop i bs) = λ k. rw (get_or-drop i bs k 0) (h (i + k)) in
+    let power : 256 ^ length (drop i bs) ≤ 256 ^ 6 = pow-le-pow_right {n = 256} (omega arith) shorter in
+    omega (arith, packed_below (drop i bs) bytes, power)
+
+packed_same : (xs ys : List ℕ) → HasBytes xs → HasBytes ys → packed xs ≡ packed ys → xs ≡ ys
+packed_same [] [] h k e = refl
+packed_same [] (y ∷ ys) h k e = absurd (omega (arith, e, packed_positive ys))
+packed_same (x ∷ xs) [] h k e = absurd (omega (arith, e, packed_positive xs))
+packed_same (x ∷ xs) (y ∷ ys) h k e =
+    let x_fits : x < 256 = h 0 in
+    let y_fits : y < 256 = k 0 in
+    let rest : packed xs ≡ packed ys = omega (arith, e, x_fits, y_fits) in
+    let first : x ≡ y = omega (arith, e, rest) in
+    rw first (ap (λ zs. y ∷ zs) (packed_same xs ys (λ i. h (suc i)) (λ i. k (suc i)) rest))
+
+bytes_from_test : (bs : List ℕ) → list_all (λ b. ltb b 256) bs ≡ true → HasBytes bs
+bytes_from_test [] t k = omega arith
+bytes_from_test (b ∷ bs) t zero = ltb-true b 256 (and_parts _ _ t).0
+bytes_from_test (b ∷ bs) t (suc k) = bytes_from_test bs (and_parts _ _ t).1 k
+
+same_tests : (a b : Bool) → (a ≡ true → b ≡ true) → (b ≡ true → a ≡ true) → a ≡ b
+same_tests true true f g = refl
+same_tests true false f g = sym (f refl)
+same_tests false true f g = g refl
+same_tests false false f g = refl
+
+-- the word is spelled by at most seven bytes
+abbrev is_spelled : List ℕ → Bool
+is_spelled w = scalars w && (bytes_eq (encodes w) (bytes_of w) && (ltb (length (bytes_of w)) 8 && list_all (λ b. ltb b 256) (bytes_of w)))
+
+key_same : (xs ys : List ℕ) → HasBytes xs → HasBytes ys → length ys < 8 → key xs ≡ key ys → xs ≡ ys
+key_same xs ys h k short e =
+    let right : key ys ≡ packed ys = rw (le-ltb 7 (length ys) (omega arith)) refl in
+    elim (cases_lt 7 (length xs)) [
+      | inl more ↦ let left : key xs ≡ 0 = rw (lt-ltb 7 (length xs) more) refl in absurd (omega (arith, e, left, right, packed_positive ys))
+      | inr most ↦ let left : key xs ≡ packed xs = rw (le-ltb 7 (length xs) most) refl in packed_same xs ys h k (sym left ∙ e ∙ right)
+    ]
+
+key_tells : (bs w : List ℕ) → IsUtf8 bs → HasBytes bs → is_spelled w ≡ true → (key bs == key (bytes_of w)) ≡ bytes_eq (chars bs) w
+key_tells bs w text bytes spelled =
+    let p = and_parts _ _ spelled in
+    let q = and_parts _ _ p.1 in
+    let r = and_parts _ _ q.1 in
+    let spelling : encodes w ≡ bytes_of w = (bytes_eq-Decides (encodes w) (bytes_of w)).0 q.0 in
+    same_tests _ _
+    (λ e. let same : bs ≡ bytes_of w = key_same bs (bytes_of w) bytes (bytes_from_test (bytes_of w) r.1) (ltb-true _ _ r.0) (eqb-true _ _ e) in
+    (bytes_eq-Decides (chars bs) w).1 (ap chars (same ∙ sym spelling) ∙ chars-encodes w p.0))
+    (λ e. let same : bs ≡ bytes_of w = sym (encodes-chars bs text) ∙ ap encodes ((bytes_eq-Decides (chars bs) w).0 e) ∙ spelling in
+    eq-eqb _ _ (ap key same))
+
+by_key : (bs : List ℕ) → IsUtf8 bs → HasBytes bs → (ws : List (List ℕ × Scale)) → list_all (λ w. is_spelled w.0) ws ≡ true
+    → lookup (λ j. key bs == j) (keyed ws) ≡ lookup (bytes_eq (chars bs)) ws
+by_key bs text bytes [] t = refl
+by_key bs text bytes (w ∷ ws) t =
+    let p = and_parts _ _ t in
+    rw (key_tells bs w.0 text bytes p.0, by_key bs text bytes ws p.1) refl
+
+-- what a text stands for is what its key stands for
+pub scale_by_key : (bs : List ℕ) → IsUtf8 bs → HasBytes bs → scale_of_key (key bs) ≡ scale_of_word (chars bs)
+unfolding scale_of_key scale_of_word encode
+scale_by_key bs text bytes = by_key bs text bytes words refl

@@ -1,0 +1,155 @@
+-- What became of the texts that were accepted before.
+use Rattle.std.proofs.Common.{◌≡◌, ℕ, ◌*◌, ◌≤◌, Bool, true, false, List, [], ◌∷◌, ◌++◌, length, Option, Some, None, refl, sym, ap, ap₂, ◌∙◌, inl, inr, subst, arith}
+use Rattle.std.specs.Prelude.{◌==◌, bytes_eq, not}
+use Rattle.std.specs.List.{AllByRecursion, list_all}
+use Rattle.std.specs.Option.{IfSome}
+use Rattle.std.proofs.lemmas.Bool.{cases_Bool, false≢true, and_from, eqb-true}
+use Rattle.std.proofs.lemmas.Map.Entries.{lookup-filter-keys}
+use Rattle.std.proofs.lemmas.Slice.Eq.{bytes_eq-Decides}
+use Rattle.humantime.specs.Durations.Characters.{class_of, white_spaces, decimal_value, significant, is_ws, is_numeric}
+use Rattle.humantime.specs.Durations.Units.{Scale, words, scale_of_word}
+use Rattle.humantime.specs.Durations.Spans.{Span, Only, Spells, SpellsFraction, SpellsEach, fraction_additions, additions_at, additions, total, Formed, FitsFraction, Fits, Accepted, Bare_zero, Sum_of}
+use Rattle.humantime.specs.Durations.Older.{is_older_letter, older_scale_of_word, older_fraction_additions, older_additions_at, older_additions, OlderFormed, OlderFitsFraction, OlderFits, OlderGood, AcceptedWithZeros, Older_zero, Older_sum, AcceptedWithoutMu, Oldest_zero, Oldest_sum, IsStillAccepted, HasMu}
+use Rattle.humantime.proofs.Durations.Laws.JoinedTexts.{Only-append}
+use Rattle.humantime.proofs.Durations.Reading.Settled.{FitsAt}
+use Rattle.humantime.proofs.Durations.Reading.SignificantDigits.{significant_shorter, whole_part_kept, amount_kept}
+
+-- ---- zeros at the end of a fraction
+
+fraction_still_adds : (base : ℕ) (f : Option ℕ) (o : Option (List ℕ)) → older_fraction_additions base f o ≡ fraction_additions base f o
+fraction_still_adds base None o = refl
+fraction_still_adds base (Some f) None = refl
+fraction_still_adds base (Some f) (Some ds) = ap (λ (n : ℕ). record { base = base; amount = n } ∷ []) (amount_kept f ds)
+
+span_still_adds : (o : Option Scale) (s : Span) → older_additions_at o s ≡ additions_at o s
+span_still_adds None s = refl
+span_still_adds (Some u) s = ap (λ xs. record { base = u.base; amount = decimal_value s.number * u.factor } ∷ xs) (fraction_still_adds u.fraction_base u.fraction_factor s.fraction)
+
+still_add : (spans : List Span) → older_additions scale_of_word spans ≡ additions spans
+still_add [] = refl
+still_add (s ∷ ss) = ap₂ (λ x y. x ++ y) (span_still_adds (scale_of_word s.word) s) (still_add ss)
+
+still_short : (o : Option (List ℕ)) → IfSome o (λ ds. length ds ≤ 19) → IfSome o (λ ds. length (significant ds) ≤ 19)
+still_short None h = tt
+still_short (Some ds) h = omega (arith, significant_shorter ds, h)
+
+still_formed : (spans : List Span) → AllByRecursion (λ s. OlderFormed (scale_of_word s.word) s) spans → AllByRecursion Formed spans
+still_formed [] f = tt
+still_formed (s ∷ ss) f = (record { word = f.0.word; number = f.0.number; fraction = still_short s.fraction f.0.fraction }, still_formed ss f.1)
+
+fraction_still_fits : (f : Option ℕ) (o : Option (List ℕ)) → OlderFitsFraction f o → FitsFraction f o
+fraction_still_fits f None h = tt
+fraction_still_fits None (Some ds) h = absurd h
+fraction_still_fits (Some f) (Some ds) h = whole_part_kept f ds h
+
+still_fits : (o : Option Scale) (s : Span) → OlderFits o s → FitsAt o s
+still_fits None s h = tt
+still_fits (Some u) s h = (h.0, fraction_still_fits u.fraction_factor s.fraction h.1)
+
+still_fit : (spans : List Span) → AllByRecursion (λ s. OlderFits (scale_of_word s.word) s) spans → AllByRecursion Fits spans
+still_fit [] f = tt
+still_fit (s ∷ ss) f = (still_fits (scale_of_word s.word) s f.0, still_fit ss f.1)
+
+-- `still_accepted`: what was accepted while such zeros counted is accepted with the same value
+pub still_accepted : (text : List ℕ) → IsStillAccepted text
+still_accepted text v (Older_zero e z) = Bare_zero e z
+still_accepted text v (Older_sum spans h g sum) =
+    let same = still_add spans in
+    Sum_of spans h (record { formed = still_formed spans g.formed; fit = still_fit spans g.fit; room = rw (← same) g.room })
+    (ap total (sym same) ∙ sum)
+
+-- ---- the Greek letter
+
+abbrev OfOlderLetters : Span → Type 0
+OfOlderLetters s = Only is_older_letter s.word
+
+all_older : (word : List ℕ) → Only is_older_letter word → list_all is_older_letter word ≡ true
+all_older [] h = refl
+all_older (c ∷ cs) h = and_from (is_older_letter c) (list_all is_older_letter cs) h.0 (all_older cs h.1)
+
+-- a word of older letters stands for what it stood for
+same_scale : (word : List ℕ) → Only is_older_letter word → older_scale_of_word word ≡ scale_of_word word
+unfolding older_scale_of_word scale_of_word
+same_scale word h =
+    let same : (k : List ℕ) → bytes_eq word k ≡ true → list_all is_older_letter k ≡ true =
+    λ k e. subst (λ w. list_all is_older_letter w ≡ true) ((bytes_eq-Decides word k).0 e) (all_older word h) in
+    lookup-filter-keys (bytes_eq word) (list_all is_older_letter) true same words
+
+same_additions : (spans : List Span) → AllByRecursion OfOlderLetters spans → older_additions older_scale_of_word spans ≡ older_additions scale_of_word spans
+same_additions [] h = refl
+same_additions (s ∷ ss) h = ap₂ (λ x y. x ++ y) (ap (λ o. older_additions_at o s) (same_scale s.word h.0)) (same_additions ss h.1)
+
+-- what holds of each span and what its word stood for holds with what the word stands for
+each_same : (P : Option Scale → Span → Type 0) (spans : List Span) → AllByRecursion OfOlderLetters spans
+    → AllByRecursion (λ s. P (older_scale_of_word s.word) s) spans → AllByRecursion (λ s. P (scale_of_word s.word) s) spans
+each_same P [] h f = tt
+each_same P (s ∷ ss) h f = (subst (λ o. P o s) (same_scale s.word h.0) f.0, each_same P ss h.1 f.1)
+
+older_good : (spans : List Span) → AllByRecursion OfOlderLetters spans → OlderGood older_scale_of_word spans → OlderGood scale_of_word spans
+older_good spans h g = record {
+  formed = each_same OlderFormed spans h g.formed;
+  fit = each_same OlderFits spans h g.fit;
+  room = rw (← same_additions spans h) g.room;
+}
+
+-- what was accepted while the letter was none was accepted with the same value when it was one
+pub accepted_with_zeros : (text : List ℕ) (v : ℕ) → AcceptedWithoutMu text v → AcceptedWithZeros text v
+accepted_with_zeros text v (Oldest_zero e z) = Older_zero e z
+accepted_with_zeros text v (Oldest_sum spans h g sum) = Older_sum spans h.0 (older_good spans h.1 g) (ap total (sym (same_additions spans h.1)) ∙ sum)
+
+-- and it is accepted with the same value
+pub older_text_accepted : (text : List ℕ) (v : ℕ) → AcceptedWithoutMu text v → Accepted text v
+older_text_accepted text v a = still_accepted text v (accepted_with_zeros text v a)
+
+-- ---- it was in no text
+
+abbrev is_not_mu : ℕ → Bool
+is_not_mu c = not (c == 0x3bc)
+
+-- what passes a test that the letter fails is another character
+not_mu : (p : ℕ → Bool) → p 0x3bc ≡ false → (c : ℕ) → p c ≡ true → is_not_mu c ≡ true
+not_mu p fails c passes = elim (cases_Bool (c == 0x3bc)) [
+  | inl e ↦ absurd (false≢true (sym fails ∙ sym (ap p (eqb-true c 0x3bc e)) ∙ passes))
+  | inr e ↦ rw e refl
+]
+
+none_is_mu : (p : ℕ → Bool) → p 0x3bc ≡ false → (cs : List ℕ) → Only p cs → Only is_not_mu cs
+none_is_mu p fails [] h = tt
+none_is_mu p fails (c ∷ cs) h = (not_mu p fails c h.0, none_is_mu p fails cs h.1)
+
+no_mu_in_space : (cs : List ℕ) → Only is_ws cs → Only is_not_mu cs
+unfolding class_of white_spaces
+no_mu_in_space = none_is_mu is_ws refl
+
+no_mu_in_number : (cs : List ℕ) → Only is_numeric cs → Only is_not_mu cs
+unfolding class_of white_spaces
+no_mu_in_number = none_is_mu is_numeric refl
+
+no_mu_in_fraction : (text : List ℕ) (fraction : Option (List ℕ)) → SpellsFraction text fraction → Only is_not_mu text
+no_mu_in_fraction text None e = rw e tt
+no_mu_in_fraction text (Some ds) h = rw (h.1) (refl, no_mu_in_number h.0 h.2)
+
+no_mu_in_span : (text : List ℕ) (s : Span) → Spells text s → OfOlderLetters s → Only is_not_mu text
+no_mu_in_span text s h letters =
+    rw (h.whole) (Only-append is_not_mu h.a _ (no_mu_in_number h.a h.number)
+    (Only-append is_not_mu h.b _ (no_mu_in_fraction h.b s.fraction h.fraction)
+    (Only-append is_not_mu s.word _ (none_is_mu is_older_letter refl s.word letters) (no_mu_in_space h.c h.space))))
+
+no_mu_in_spans : (text : List ℕ) (spans : List Span) → SpellsEach text spans → AllByRecursion OfOlderLetters spans → Only is_not_mu text
+no_mu_in_spans text [] e letters = rw e tt
+no_mu_in_spans text (s ∷ ss) h letters =
+    rw (h.2) (Only-append is_not_mu h.0 h.1 (no_mu_in_span h.0 s h.3 letters.0) (no_mu_in_spans h.1 ss h.4 letters.1))
+
+no_mu_accepted : (text : List ℕ) (v : ℕ) → AcceptedWithoutMu text v → Only is_not_mu text
+no_mu_accepted text v (Oldest_zero e z) = rw e (refl, tt)
+no_mu_accepted text v (Oldest_sum spans h g sum) =
+    let front = h.0.0 in
+    rw (front.whole) (Only-append is_not_mu front.space front.body (no_mu_in_space front.space front.only_space) (no_mu_in_spans front.body spans front.each h.1))
+
+not_among : (before after : List ℕ) → ¬ (Only is_not_mu (before ++ 0x3bc ∷ after))
+not_among [] after h = false≢true (h.0)
+not_among (c ∷ cs) after h = not_among cs after h.1
+
+-- a text with the Greek letter was not accepted
+pub mu_not_accepted : (text : List ℕ) (v : ℕ) → HasMu text → ¬ (AcceptedWithoutMu text v)
+mu_not_accepted text v h a = not_among h.0 h.1 (subst (Only is_not_mu) h.2 (no_mu_accepted text v a))

@@ -1,0 +1,81 @@
+-- Accepted texts and their spans.
+use Rattle.std.proofs.Common.{◌≡◌, ◌≢◌, ℕ, ◌+◌, List, [], ◌∷◌, None, refl, sym, ap, ◌∙◌, sum_by, IsPermutation, inl, inr, subst}
+use Rattle.std.specs.Prelude.{codes}
+use Rattle.std.proofs.lemmas.List.Sorted.{sum_by-IsPermutation}
+use Rattle.std.proofs.lemmas.List.Sums.{sum_by-cons}
+use Rattle.humantime.specs.Durations.Spans.{Span, Reads, total, additions_of, Good, value, Accepted}
+use Rattle.humantime.specs.Durations.Faults.{Fault, HasFault, Items}
+use Rattle.humantime.specs.References.Durations.Reading.{items}
+use Rattle.humantime.specs.Durations.TextLaws.{IsZeroOrSpans, HasNoSpans, ReorderedHaveOneValue}
+use Rattle.humantime.proofs.Durations.Reading.OneReading.{not_zero}
+use Rattle.humantime.proofs.Durations.Reading.Settled.{value-cons}
+use Rattle.humantime.proofs.Durations.Reading.Outcomes.{zero_or_not, items_found, items_whole, reads_whole, one_reading, outcome_accepted, outcome_fault, items_decide_value}
+
+-- The text is spans within the limits that add up to v.
+pub record IsSumOfSpans (text : List ℕ) (v : ℕ) : Type 0 where
+  pub spans : List Span
+  pub reads : Reads text spans
+  pub good : Good spans
+  pub sum : value spans ≡ v
+
+-- a text of spans within the limits is accepted with their sum
+pub accepted_from_spans : (text : List ℕ) (spans : List Span) → Reads text spans → Good spans → Accepted text (value spans)
+accepted_from_spans text spans h g =
+    (items_decide_value text spans None (items_whole text spans h g.formed) (not_zero text spans h) (value spans)).1 (refl, g, refl)
+
+-- and what is accepted is such a text, unless it is exactly `0`
+pub spans_of_accepted : (text : List ℕ) (v : ℕ) → text ≢ codes "0" → Accepted text v → IsSumOfSpans text v
+spans_of_accepted text v some a =
+    let found : Items text (items text).0 (items text).1 = items_found text in
+    let d = (items_decide_value text (items text).0 (items text).1 found some v).0 a in
+    record {
+      spans = (items text).0;
+      reads = reads_whole text (items text).0 (subst (Items text (items text).0) d.0 found);
+      good = d.1;
+      sum = d.2;
+    }
+
+pub zero_or_spans : (text : List ℕ) → IsZeroOrSpans text
+zero_or_spans text v a = elim (zero_or_not text) [
+  | inl e ↦ inl e
+  | inr e ↦ let s = spans_of_accepted text v e a in inr (s.spans, s.reads)
+]
+
+-- an accepted text that reads as some spans is their sum, and they are within the limits
+pub accepted_spans : (text : List ℕ) (spans : List Span) (v : ℕ) → Reads text spans → Accepted text v → Good spans × (value spans ≡ v)
+accepted_spans text spans v h a =
+    let s = spans_of_accepted text v (not_zero text spans h) a in
+    let same : s.spans ≡ spans = one_reading text s.spans spans s.reads h in
+    (subst Good same s.good, ap value (sym same) ∙ s.sum)
+
+-- texts that are the same spans are accepted alike
+pub same_spans : (a b : List ℕ) (spans : List Span) (v : ℕ) → Reads a spans → Reads b spans → Accepted a v → Accepted b v
+same_spans a b spans v h k x =
+    let g = accepted_spans a spans v h x in
+    subst (Accepted b) g.1 (accepted_from_spans b spans k g.0)
+
+-- no text has a value and a fault
+pub no_value_and_fault : (text : List ℕ) (v : ℕ) (e : Fault) → Accepted text v → HasFault text e → ⊥
+no_value_and_fault text v e a f =
+    let ok = outcome_accepted text v a in
+    let err = outcome_fault text e f in
+    cc
+
+-- the text `0` is no spans
+pub zero_has_no_spans : HasNoSpans (codes "0")
+zero_has_no_spans spans h = not_zero (codes "0") spans h refl
+
+-- the value of spans is the sum of what each adds, so their order doesn't matter
+abbrev worth : Span → ℕ
+worth span = total (additions_of span)
+
+value-sum : (spans : List Span) → value spans ≡ sum_by worth spans
+value-sum [] = refl
+value-sum (s ∷ ss) = value-cons s ss ∙ ap (λ (n : ℕ). worth s + n) (value-sum ss) ∙ sym (sum_by-cons worth s ss)
+
+pub value-permutation : (ss ts : List Span) → IsPermutation ss ts → value ss ≡ value ts
+value-permutation ss ts h = value-sum ss ∙ sym (sum_by-IsPermutation worth ss ts h) ∙ sym (value-sum ts)
+
+pub reordered_value : (a b : List ℕ) → ReorderedHaveOneValue a b
+reordered_value a b ss ts u v h k moved x y =
+    sym (accepted_spans a ss u h x).1 ∙ value-permutation ss ts moved ∙ (accepted_spans b ts v k y).1

@@ -1,0 +1,59 @@
+-- Additions that find room wherever the whole sum is a duration.
+use Rattle.std.proofs.Common.{◌≡◌, ◌↔◌, ℕ, ◌+◌, ◌/◌, ◌≤◌, List, [], ◌∷◌, ◌++◌, sym, ap₂, ◌∙◌, subst, arith}
+use Rattle.std.specs.List.{AllByRecursion}
+use Rattle.std.proofs.lemmas.List.Sums.{sum_by-cons}
+use Rattle.humantime.specs.Values.Amounts.{nanos_per_second}
+use Rattle.humantime.specs.Durations.Characters.{u64_max}
+use Rattle.humantime.specs.Durations.Spans.{Span, Reads, Addition, nanos_of, total, additions, AllHaveRoom, Accepted}
+use Rattle.humantime.proofs.Durations.Reading.Rooms.{RoomFrom, total-append, room_from_all, all_have_room}
+use Rattle.humantime.proofs.Durations.Laws.Readings.{accepted_spans}
+use Rattle.humantime.proofs.Durations.Laws.JoinedTexts.{joined_sum}
+
+-- an addition of nanoseconds fits a u64 together with the nanoseconds beyond any whole seconds
+abbrev pub IsSmall : Addition → Type 0
+IsSmall x = x.base ≡ 1 → x.amount + 999999999 ≤ u64_max
+
+room_from_small : (t : ℕ) (xs : List Addition) → AllByRecursion IsSmall xs → (t + total xs) / nanos_per_second ≤ u64_max → RoomFrom t xs
+room_from_small t [] small fits = tt
+room_from_small t (x ∷ xs) small fits =
+    let sum : t + total (x ∷ xs) ≡ (t + nanos_of x) + total xs = omega (arith, sum_by-cons nanos_of x xs) in
+    let rest : ((t + nanos_of x) + total xs) / nanos_per_second ≤ u64_max = rw sum at fits in
+    (((λ one. let s = small.0 one in omega arith), omega arith), room_from_small (t + nanos_of x) xs small.1 rest)
+
+-- small additions have room where their sum is a duration
+pub small_have_room : (xs : List Addition) → AllByRecursion IsSmall xs → total xs / nanos_per_second ≤ u64_max → AllHaveRoom xs
+small_have_room xs small fits =
+    let sum : 0 + total xs ≡ total xs = omega arith in
+    all_have_room xs (room_from_small 0 xs small (rw sum fits))
+
+room_fits : (t : ℕ) (xs : List Addition) → t / nanos_per_second ≤ u64_max → RoomFrom t xs → (t + total xs) / nanos_per_second ≤ u64_max
+room_fits t [] fits room = omega arith
+room_fits t (x ∷ xs) fits room =
+    let sum : t + total (x ∷ xs) ≡ (t + nanos_of x) + total xs = omega (arith, sum_by-cons nanos_of x xs) in
+    rw sum (room_fits (t + nanos_of x) xs room.0.1 room.1)
+
+-- where additions have room, their sum is a duration
+pub room_is_duration : (xs : List Addition) → AllHaveRoom xs → total xs / nanos_per_second ≤ u64_max
+room_is_duration xs room =
+    let sum : 0 + total xs ≡ total xs = omega arith in
+    rw sum at (room_fits 0 xs (omega arith) (room_from_all xs room))
+
+pub each-append : (xs ys : List Addition) → AllByRecursion IsSmall xs → AllByRecursion IsSmall ys → AllByRecursion IsSmall (xs ++ ys)
+each-append [] ys h k = k
+each-append (x ∷ xs) ys h k = (h.0, each-append xs ys h.1 k)
+
+-- accepted texts with small additions, one behind the other, are accepted with the sum exactly where it is a duration
+pub small_joined_sum : (a b : List ℕ) (ss ts : List Span) (u v : ℕ) → Reads a ss → Reads b ts → Accepted a u → Accepted b v
+    → AllByRecursion IsSmall (additions ss) → AllByRecursion IsSmall (additions ts)
+    → Accepted (a ++ b) (u + v) ↔ ((u + v) / nanos_per_second ≤ u64_max)
+small_joined_sum a b ss ts u v h k x y small_ss small_ts =
+    let law = joined_sum a b ss ts u v h k x y in
+    let sum : total (additions ss ++ additions ts) ≡ u + v =
+    total-append (additions ss) (additions ts)
+    ∙ ap₂ (λ (m n : ℕ). m + n) (accepted_spans a ss u h x).1 (accepted_spans b ts v k y).1 in
+    let IsDuration : ℕ → Type 0 = λ n. n / nanos_per_second ≤ u64_max in (
+      λ accepted. subst IsDuration sum (room_is_duration (additions ss ++ additions ts) (law.0 accepted)),
+      λ fits.
+          let small = each-append (additions ss) (additions ts) small_ss small_ts in
+          law.1 (small_have_room (additions ss ++ additions ts) small (subst IsDuration (sym sum) fits)),
+    )

@@ -1,0 +1,125 @@
+-- A text without its white space spells the same spans.
+use Rattle.std.proofs.Common.{◌≡◌, ℕ, Bool, true, false, cond, not, List, [], ◌∷◌, ◌++◌, Option, Some, None, refl, sym, ap, ◌∙◌, inl, inr, subst, arith, rules}
+use Rattle.std.specs.Prelude.{codes}
+use Rattle.std.proofs.lemmas.Bool.{cases_Bool, or_parts}
+use Rattle.std.proofs.lemmas.List.Elements.{filter-append}
+use Rattle.humantime.specs.Durations.Characters.{is_ws, is_digit, is_letter, is_numeric, begins, digits}
+use Rattle.humantime.specs.Durations.Spans.{Span, Only, SpellsFraction, Spells, SpellsEach, Front, Reads, Accepted}
+use Rattle.humantime.specs.Durations.TextLaws.{without_white_space, NeedsNoWhiteSpace}
+use Rattle.humantime.proofs.Durations.Reading.Classes.{digit_not_space, letter_not_space, point_not_numeric, is_point-46}
+use Rattle.humantime.proofs.Durations.Reading.Outcomes.{zero_or_not}
+use Rattle.humantime.proofs.Durations.Printing.PrintedDigits.{some_digit}
+use Rattle.humantime.proofs.Durations.Laws.Readings.{spans_of_accepted, same_spans}
+
+spaceless-append : (xs ys : List ℕ) → without_white_space (xs ++ ys) ≡ without_white_space xs ++ without_white_space ys
+spaceless-append xs ys = filter-append (λ c. not (is_ws c)) xs ys
+
+-- white space goes, and each other character stays
+spaceless-space : (c : ℕ) (cs : List ℕ) → is_ws c ≡ true → without_white_space (c ∷ cs) ≡ without_white_space cs
+spaceless-space c cs e = ap (λ (b : Bool). cond (not b) (c ∷ without_white_space cs) (without_white_space cs)) e
+
+spaceless-other : (c : ℕ) (cs : List ℕ) → is_ws c ≡ false → without_white_space (c ∷ cs) ≡ c ∷ without_white_space cs
+spaceless-other c cs e = ap (λ (b : Bool). cond (not b) (c ∷ without_white_space cs) (without_white_space cs)) e
+
+only_space : (cs : List ℕ) → Only is_ws cs → without_white_space cs ≡ []
+only_space [] h = refl
+only_space (c ∷ cs) h = spaceless-space c cs h.0 ∙ only_space cs h.1
+
+only_letters : (cs : List ℕ) → Only is_letter cs → without_white_space cs ≡ cs
+only_letters [] h = refl
+only_letters (c ∷ cs) h = spaceless-other c cs (letter_not_space c h.0) ∙ ap (λ (l : List ℕ). c ∷ l) (only_letters cs h.1)
+
+still_only : (p : ℕ → Bool) (cs : List ℕ) → Only p cs → Only p (without_white_space cs)
+still_only p [] h = tt
+still_only p (c ∷ cs) h = elim (cases_Bool (is_ws c)) [
+  | inl e ↦ subst (Only p) (sym (spaceless-space c cs e)) (still_only p cs h.1)
+  | inr e ↦ subst (Only p) (sym (spaceless-other c cs e)) (h.0, still_only p cs h.1)
+]
+
+space_not_digit : (c : ℕ) → is_ws c ≡ true → is_digit c ≡ false
+space_not_digit c e = elim (cases_Bool (is_digit c)) [ inl d ↦ let n = digit_not_space c d in cc | inr d ↦ d ]
+
+same_digits : (cs : List ℕ) → digits (without_white_space cs) ≡ digits cs
+same_digits [] = refl
+same_digits (c ∷ cs) = elim (cases_Bool (is_ws c)) [
+  | inl e ↦
+      let gone : digits (c ∷ cs) ≡ digits cs = ap (λ (b : Bool). cond b (c ∷ digits cs) (digits cs)) (space_not_digit c e) in
+      ap digits (spaceless-space c cs e) ∙ same_digits cs ∙ sym gone
+  | inr e ↦ ap digits (spaceless-other c cs e) ∙ ap (λ (l : List ℕ). cond (is_digit c) (c ∷ l) l) (same_digits cs)
+]
+
+still_begins : (cs : List ℕ) → begins is_digit cs ≡ true → begins is_digit (without_white_space cs) ≡ true
+still_begins [] e = cc
+still_begins (c ∷ cs) e = ap (begins is_digit) (spaceless-other c cs (digit_not_space c e)) ∙ e
+
+point_stays : is_ws 46 ≡ false
+point_stays = (or_parts (is_digit 46) (is_ws 46) (point_not_numeric 46 is_point-46)).1
+
+spells_fraction : (text : List ℕ) (fraction : Option (List ℕ)) → SpellsFraction text fraction → SpellsFraction (without_white_space text) fraction
+spells_fraction text None h = ap without_white_space h
+spells_fraction text (Some ds) h = (
+  without_white_space h.0,
+  ap without_white_space h.1 ∙ spaceless-other 46 h.0 point_stays,
+  still_only is_numeric h.0 h.2,
+  same_digits h.0 ∙ h.3,
+  h.4,
+)
+
+spelling_parts : (a b word c : List ℕ) → Only is_letter word → Only is_ws c
+    → without_white_space (a ++ (b ++ (word ++ c))) ≡ without_white_space a ++ (without_white_space b ++ (word ++ []))
+spelling_parts a b word c letters space =
+    let p = spaceless-append a (b ++ (word ++ c)) in
+    let q = spaceless-append b (word ++ c) in
+    let r = spaceless-append word c in
+    let w = only_letters word letters in
+    let s = only_space c space in
+    cc
+
+spells_span : (here : List ℕ) (span : Span) → Spells here span → Spells (without_white_space here) span
+spells_span here span h = record {
+  a = without_white_space h.a;
+  b = without_white_space h.b;
+  c = [];
+  whole = ap without_white_space h.whole ∙ spelling_parts h.a h.b span.word h.c h.word h.space;
+  starts = still_begins h.a h.starts;
+  number = still_only is_numeric h.a h.number;
+  its_digits = same_digits h.a ∙ h.its_digits;
+  fraction = spells_fraction h.b span.fraction h.fraction;
+  word = h.word;
+  some_word = h.some_word;
+  space = tt;
+}
+
+spells_each : (body : List ℕ) (spans : List Span) → SpellsEach body spans → SpellsEach (without_white_space body) spans
+spells_each body [] h = ap without_white_space h
+spells_each body (s ∷ ss) h = (
+  without_white_space h.0,
+  without_white_space h.1,
+  ap without_white_space h.2 ∙ spaceless-append h.0 h.1,
+  spells_span h.0 s h.3,
+  spells_each h.1 ss h.4,
+)
+
+front_read : (text : List ℕ) (spans : List Span) → Front text spans → Front (without_white_space text) spans
+front_read text spans h = record {
+  space = [];
+  body = without_white_space h.body;
+  whole = ap without_white_space h.whole ∙ spaceless-append h.space h.body ∙ ap (λ (l : List ℕ). l ++ without_white_space h.body) (only_space h.space h.only_space);
+  only_space = tt;
+  each = spells_each h.body spans h.each;
+}
+
+-- the text without its white space is read as the same spans
+pub spaceless_reads : (text : List ℕ) (spans : List Span) → Reads text spans → Reads (without_white_space text) spans
+spaceless_reads text spans h = (front_read text spans h.0, h.1)
+
+spaceless_zero : without_white_space (codes "0") ≡ codes "0"
+spaceless_zero = spaceless-other 48 [] (digit_not_space 48 (some_digit (codes "0") (search rules) (omega arith)))
+
+pub spaceless_accepted : (text : List ℕ) → NeedsNoWhiteSpace text
+spaceless_accepted text v a = elim (zero_or_not text) [
+  | inl e ↦
+      let same : without_white_space text ≡ text = ap without_white_space e ∙ spaceless_zero ∙ sym e in
+      subst (λ (l : List ℕ). Accepted l v) (sym same) a
+  | inr e ↦ let s = spans_of_accepted text v e a in same_spans text (without_white_space text) s.spans v s.reads (spaceless_reads text s.spans s.reads) a
+]

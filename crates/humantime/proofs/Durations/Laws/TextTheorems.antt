@@ -1,0 +1,82 @@
+-- The laws of accepted texts as theorems over plain variables, each under the name of its function in `laws`, and some
+-- theorems beyond them.
+use Rattle.std.proofs.Common.{◌↔◌, ℕ, ◌+◌, ◌/◌, ◌≤◌, List, ◌∷◌, ◌++◌, codes, chars}
+use Rattle.std.specs.List.{AllByRecursion}
+use Rattle.humantime.specs.Values.Amounts.{nanos_per_second}
+use Rattle.humantime.specs.Durations.Characters.{is_ws, u64_max}
+use Rattle.humantime.specs.Durations.Spans.{Span, Only, Front, Reads, additions, AllHaveRoom, Accepted}
+use Rattle.humantime.specs.Durations.Faults.{NumberOverflow, HasFault}
+use Rattle.humantime.specs.Durations.Counts.{Canon}
+use Rattle.humantime.specs.Durations.TextLaws.{NeedsNoWhiteSpace, IsZeroOrSpans, JoinedHaveSum, JoinedOverflow, JoinedHaveSumOrOverflow, ReorderedHaveOneValue, HasNoSpans}
+use Rattle.humantime.proofs.Durations.Laws.Readings as readings
+use Rattle.humantime.proofs.Durations.Laws.SpacelessTexts as spaceless
+use Rattle.humantime.proofs.Durations.Laws.JoinedTexts as texts
+use Rattle.humantime.proofs.Durations.Laws.SmallAdditions as small
+use Rattle.humantime.proofs.Durations.Laws.SmallAdditions.{IsSmall}
+use Rattle.humantime.proofs.Durations.Laws.PrintedTogether as printed
+use Rattle.humantime.proofs.Durations.Laws.JoinedPieces as pieces
+use Rattle.humantime.proofs.Durations.Laws.JoinedPieces.{Piece, IsAcceptedPiece, joined_text, joined_spans, joined_value}
+
+-- What is accepted is accepted without its white space, with the same value.
+pub without_ws : (text : List ℕ) → NeedsNoWhiteSpace text
+without_ws = spaceless.spaceless_accepted
+
+-- Two accepted texts, neither exactly `0`, are accepted one behind the other with the sum exactly where their additions
+-- have room, and are too large exactly where they haven't.
+pub record AddWhenJoined (a b : List ℕ) : Type 0 where
+  pub first : IsZeroOrSpans a
+  pub second : IsZeroOrSpans b
+  pub sum : JoinedHaveSum a b
+  pub overflow : JoinedOverflow a b
+  pub one : JoinedHaveSumOrOverflow a b
+
+pub joined : (a b : List ℕ) → AddWhenJoined a b
+joined a b = record {
+  first = readings.zero_or_spans a;
+  second = readings.zero_or_spans b;
+  sum = texts.joined_sum a b;
+  overflow = texts.joined_overflow a b;
+  one = texts.joined_sum_or_overflow a b;
+}
+
+-- Accepted texts whose spans are reorderings of each other have equal values; the text `0` has no spans.
+pub record KeepValueReordered (a b : List ℕ) : Type 0 where
+  pub value : ReorderedHaveOneValue a b
+  pub zero : HasNoSpans (codes "0")
+
+pub reordered : (a b : List ℕ) → KeepValueReordered a b
+reordered a b = record { value = readings.reordered_value a b; zero = readings.zero_has_no_spans }
+
+-- ---- beyond the laws
+
+-- texts of the same spans are accepted alike
+pub same_spans : (a b : List ℕ) (spans : List Span) (v : ℕ) → Reads a spans → Reads b spans → Accepted a v ↔ Accepted b v
+same_spans a b spans v h k = (readings.same_spans a b spans v h k, readings.same_spans b a spans v k h)
+
+-- white space may stand wherever a span ends, with the same value
+pub space_between : (before space after : List ℕ) (ss ts : List Span) (v : ℕ) → Reads before ss → Front after ts → Only is_ws space
+    → Accepted (before ++ after) v ↔ Accepted (before ++ (space ++ after)) v
+space_between before space after ss ts v h k only =
+    same_spans (before ++ after) (before ++ (space ++ after)) (ss ++ ts) v
+    (texts.reads-append before after ss ts h k) (texts.reads-space before space after ss ts h k only)
+
+-- two texts of small additions, one behind the other, with the sum exactly where it is a duration
+pub small_joined_sum : (a b : List ℕ) (ss ts : List Span) (u v : ℕ) → Reads a ss → Reads b ts → Accepted a u → Accepted b v
+    → AllByRecursion IsSmall (additions ss) → AllByRecursion IsSmall (additions ts)
+    → Accepted (a ++ b) (u + v) ↔ ((u + v) / nanos_per_second ≤ u64_max)
+small_joined_sum = small.small_joined_sum
+
+-- the printed texts of two durations, one behind the other, with the sum exactly where it is a duration
+pub printed_joined_sum : (d e : ℕ) (s t : List ℕ) → d / nanos_per_second ≤ u64_max → e / nanos_per_second ≤ u64_max → Canon d s → Canon e t
+    → Accepted (chars s ++ chars t) (d + e) ↔ ((d + e) / nanos_per_second ≤ u64_max)
+printed_joined_sum = printed.printed_joined_sum
+
+-- any number of texts, one behind the other: with the sum exactly where there is room
+pub pieces_sum : (p : Piece) (ps : List Piece) → AllByRecursion IsAcceptedPiece (p ∷ ps)
+    → Accepted (joined_text (p ∷ ps)) (joined_value (p ∷ ps)) ↔ AllHaveRoom (additions (joined_spans (p ∷ ps)))
+pieces_sum = pieces.pieces_sum
+
+-- and too large exactly where there is none
+pub pieces_overflow : (p : Piece) (ps : List Piece) → AllByRecursion IsAcceptedPiece (p ∷ ps)
+    → HasFault (joined_text (p ∷ ps)) NumberOverflow ↔ ¬ (AllHaveRoom (additions (joined_spans (p ∷ ps))))
+pieces_overflow = pieces.pieces_overflow

@@ -1,0 +1,118 @@
+-- The rows of printed counts: what each unit's word stands for.
+use Rattle.std.proofs.Common.{◌≡◌, ◌⊎◌, inl, inr, ℕ, ◌*◌, ◌^◌, ◌<◌, ◌≤◌, Bool, true, false, cond, List, [], ◌∷◌, ◌++◌, refl, arith}
+use Rattle.std.specs.Prelude.{◌&&◌, Some, None, codes, decimal, nat_lt}
+use Rattle.std.specs.Str.{IsUtf8, is_utf8, chars}
+use lib.Utf8.{encode}
+use Rattle.std.proofs.lemmas.Str.{IsUtf8-from_is_utf8}
+use Rattle.humantime.specs.Values.Amounts.{nanos_per_second}
+use Rattle.humantime.specs.Durations.Characters.{class_of, white_spaces, is_letter, leading, begins}
+use Rattle.humantime.specs.Durations.Units.{Scale, in_nanos, in_seconds, in_seconds_and_nanos, scale_of_word}
+use Rattle.humantime.specs.Durations.Spans.{Span, Only}
+use Rattle.humantime.specs.Durations.Counts.{weights, Suffix, micros, suffixes}
+
+-- the word behind a count of n, and the span of that count
+abbrev pub word_for : ℕ → Suffix → List ℕ
+word_for n s = s.text ++ cond (s.plural && nat_lt 1 n) (codes "s") []
+
+abbrev pub span_for : ℕ → Suffix → Span
+span_for n s = record { number = decimal n; fraction = None; word = chars (word_for n s) }
+
+-- The word stands for w nanoseconds each: whole seconds, or nanoseconds where no more than a second m is left.
+pub record IsWord (w m : ℕ) (word : List ℕ) : Type 0 where
+  pub utf8 : IsUtf8 word
+  pub unit : Scale
+  pub is : scale_of_word (chars word) ≡ Some unit
+  pub weight : unit.base * unit.factor ≡ w
+  pub some : 0 < unit.factor
+  pub kind : (unit.base ≡ nanos_per_second) ⊎ ((unit.base ≡ 1) × (m ≤ nanos_per_second))
+  pub letters : Only is_letter (chars word)
+  pub first : begins is_letter (chars word) ≡ true
+
+leading_only : (p : ℕ → Bool) (cs : List ℕ) → leading p cs ≡ cs → Only p cs
+leading_only p [] e = tt
+leading_only p (c ∷ cs) e = by (p c) refl e (leading_only p cs)
+  where
+    by : (b : Bool) → p c ≡ b → cond b (c ∷ leading p cs) [] ≡ c ∷ cs → (leading p cs ≡ cs → Only p cs) → Only p (c ∷ cs)
+    by true h e rest = (h, rest cc)
+    by false h e rest = absurd cc
+
+known : (w m : ℕ) (word : List ℕ) (u : Scale) → is_utf8 word ≡ true → scale_of_word (chars word) ≡ Some u → u.base * u.factor ≡ w → 0 < u.factor
+    → (u.base ≡ nanos_per_second) ⊎ ((u.base ≡ 1) × (m ≤ nanos_per_second)) → leading is_letter (chars word) ≡ chars word → begins is_letter (chars word) ≡ true → IsWord w m word
+known w m word u utf8 is weight some kind letters first = record {
+  utf8 = IsUtf8-from_is_utf8 word utf8;
+  unit = u;
+  is = is;
+  weight = weight;
+  some = some;
+  kind = kind;
+  letters = leading_only is_letter (chars word) letters;
+  first = first;
+}
+
+abbrev year : ℕ
+year = 31557600 * nanos_per_second
+
+abbrev month : ℕ
+month = 2630016 * nanos_per_second
+
+-- a bound of all durations
+abbrev pub most : ℕ
+most = 2 ^ 64 * nanos_per_second
+
+years : (b : Bool) → IsWord year most (codes "year" ++ cond b (codes "s") [])
+unfolding class_of white_spaces scale_of_word is_utf8 chars encode
+years true = known _ _ (codes "years") (in_seconds 31557600) refl refl refl (omega arith) (inl refl) refl refl
+years false = known _ _ (codes "year") (in_seconds 31557600) refl refl refl (omega arith) (inl refl) refl refl
+
+months : (b : Bool) → IsWord month year (codes "month" ++ cond b (codes "s") [])
+unfolding class_of white_spaces scale_of_word is_utf8 chars encode
+months true = known _ _ (codes "months") (in_seconds 2630016) refl refl refl (omega arith) (inl refl) refl refl
+months false = known _ _ (codes "month") (in_seconds 2630016) refl refl refl (omega arith) (inl refl) refl refl
+
+days : (b : Bool) → IsWord (86400 * nanos_per_second) month (codes "day" ++ cond b (codes "s") [])
+unfolding class_of white_spaces scale_of_word is_utf8 chars encode
+days true = known _ _ (codes "days") (in_seconds 86400) refl refl refl (omega arith) (inl refl) refl refl
+days false = known _ _ (codes "day") (in_seconds 86400) refl refl refl (omega arith) (inl refl) refl refl
+
+hours : IsWord (3600 * nanos_per_second) (86400 * nanos_per_second) (codes "h")
+unfolding class_of white_spaces scale_of_word is_utf8 chars encode
+hours = known _ _ (codes "h") (in_seconds 3600) refl refl refl (omega arith) (inl refl) refl refl
+
+minutes : IsWord (60 * nanos_per_second) (3600 * nanos_per_second) (codes "m")
+unfolding class_of white_spaces scale_of_word is_utf8 chars encode
+minutes = known _ _ (codes "m") (in_seconds_and_nanos 60) refl refl refl (omega arith) (inl refl) refl refl
+
+pub seconds : IsWord nanos_per_second (60 * nanos_per_second) (codes "s")
+unfolding class_of white_spaces scale_of_word is_utf8 chars encode
+seconds = known _ _ (codes "s") (in_seconds_and_nanos 1) refl refl refl (omega arith) (inl refl) refl refl
+
+millis : IsWord 1000000 nanos_per_second (codes "ms")
+unfolding class_of white_spaces scale_of_word is_utf8 chars encode
+millis = known _ _ (codes "ms") (in_nanos 1000000 (Some 1000000)) refl refl refl (omega arith) (inr (refl, omega arith)) refl refl
+
+micros_word : IsWord 1000 1000000 micros
+unfolding class_of white_spaces scale_of_word is_utf8 chars encode
+micros_word = known _ _ micros (in_nanos 1000 (Some 1000)) refl refl refl (omega arith) (inr (refl, omega arith)) refl refl
+
+nanos : IsWord 1 1000 (codes "ns")
+unfolding class_of white_spaces scale_of_word is_utf8 chars encode
+nanos = known _ _ (codes "ns") (in_nanos 1 None) refl refl refl (omega arith) (inr (refl, omega arith)) refl refl
+
+-- each suffix gives words of its weight, where less than m is left
+abbrev pub Table : List ℕ → List Suffix → ℕ → Type 0
+Table [] [] m = m ≡ 1
+Table (w ∷ ws) (s ∷ ss) m = ((n : ℕ) → IsWord w m (word_for n s)) × Table ws ss w
+Table [] (s ∷ ss) m = ⊥
+Table (w ∷ ws) [] m = ⊥
+
+pub table : Table weights suffixes most
+table = (
+  (λ n. years (nat_lt 1 n)),
+  (
+    (λ n. months (nat_lt 1 n)),
+    (
+      (λ n. days (nat_lt 1 n)),
+      ((λ n. hours), ((λ n. minutes), ((λ n. seconds), ((λ n. millis), ((λ n. micros_word), ((λ n. nanos), refl)))))),
+    ),
+  ),
+)

@@ -1,0 +1,16 @@
+-- A text has one value or one fault: the plain reading finds it, and there is no other.
+pub mod Classes
+pub mod Found
+pub mod OneReading
+pub mod Outcomes
+pub mod ReadSteps
+pub mod Rooms
+pub mod Runs
+pub mod Settled
+pub mod SignificantDigits
+pub mod Spelled
+pub mod Stopping
+pub mod Told
+pub mod Unread
+pub mod WorkedTexts
+pub mod Written

@@ -1,0 +1,77 @@
+-- The longest front of a text that passes a test, and what follows it.
+use Rattle.std.proofs.Common.{◌≡◌, ◌≢◌, ℕ, ◌≤◌, ◌<◌, Bool, true, false, List, [], ◌∷◌, ◌++◌, length, refl, ap, inl, inr, arith, length-append}
+use Rattle.std.proofs.lemmas.Bool.{cases_Bool}
+use Rattle.humantime.specs.Durations.Characters.{leading, past, begins, ends}
+use Rattle.humantime.specs.Durations.Spans.{Only}
+
+pub leading-past : (p : ℕ → Bool) (cs : List ℕ) → leading p cs ++ past p cs ≡ cs
+leading-past p [] = refl
+leading-past p (c ∷ cs) = elim (cases_Bool (p c)) [ inl e ↦ rw e (ap (λ (x : List ℕ). c ∷ x) (leading-past p cs)) | inr e ↦ rw e ]
+
+pub Only-leading : (p : ℕ → Bool) (cs : List ℕ) → Only p (leading p cs)
+Only-leading p [] = tt
+Only-leading p (c ∷ cs) = elim (cases_Bool (p c)) [ inl e ↦ rw e (e, Only-leading p cs) | inr e ↦ rw e tt ]
+
+pub begins-past : (p : ℕ → Bool) (cs : List ℕ) → begins p (past p cs) ≡ false
+begins-past p [] = refl
+begins-past p (c ∷ cs) = elim (cases_Bool (p c)) [ inl e ↦ rw e (begins-past p cs) | inr e ↦ rw e e ]
+
+-- a front that passes, and then what doesn't begin so
+pub leading-append : (p : ℕ → Bool) (xs ys : List ℕ) → Only p xs → begins p ys ≡ false → leading p (xs ++ ys) ≡ xs
+leading-append p [] [] h e = refl
+leading-append p [] (y ∷ ys) h e = rw e
+leading-append p (x ∷ xs) ys h e = rw (h.0) (ap (λ (l : List ℕ). x ∷ l) (leading-append p xs ys h.1 e))
+
+pub past-append : (p : ℕ → Bool) (xs ys : List ℕ) → Only p xs → begins p ys ≡ false → past p (xs ++ ys) ≡ ys
+past-append p [] [] h e = refl
+past-append p [] (y ∷ ys) h e = rw e
+past-append p (x ∷ xs) ys h e = rw (h.0) (past-append p xs ys h.1 e)
+
+pub past_shorter : (p : ℕ → Bool) (cs : List ℕ) → length (past p cs) ≤ length cs
+past_shorter p cs = omega (arith, ap length (leading-past p cs), length-append (leading p cs) (past p cs))
+
+pub begins_some : (p : ℕ → Bool) (cs : List ℕ) → begins p cs ≡ true → 0 < length cs
+begins_some p [] e = cc
+begins_some p (c ∷ cs) e = omega arith
+
+pub begins_not_nil : (p : ℕ → Bool) (cs : List ℕ) → begins p cs ≡ true → cs ≢ []
+begins_not_nil p [] e = cc
+begins_not_nil p (c ∷ cs) e = λ h. cc
+
+pub begins_Only : (p : ℕ → Bool) (cs : List ℕ) → Only p cs → cs ≢ [] → begins p cs ≡ true
+begins_Only p [] h some = absurd (some refl)
+begins_Only p (c ∷ cs) h some = h.0
+
+pub ends_Only : (p : ℕ → Bool) (cs : List ℕ) → Only p cs → cs ≢ [] → ends p cs ≡ true
+ends_Only p [] h some = absurd (some refl)
+ends_Only p (c ∷ []) h some = h.0
+ends_Only p (c ∷ d ∷ cs) h some = ends_Only p (d ∷ cs) h.1 (λ e. cc)
+
+-- what begins so doesn't begin otherwise
+pub begins_other : (p q : ℕ → Bool) → ((c : ℕ) → p c ≡ true → q c ≡ false) → (cs : List ℕ) → begins p cs ≡ true → begins q cs ≡ false
+begins_other p q other [] e = refl
+begins_other p q other (c ∷ cs) e = other c e
+
+pub ends_other : (p q : ℕ → Bool) → ((c : ℕ) → p c ≡ true → q c ≡ false) → (cs : List ℕ) → ends p cs ≡ true → ends q cs ≡ false
+ends_other p q other [] e = refl
+ends_other p q other (c ∷ []) e = other c e
+ends_other p q other (c ∷ d ∷ cs) e = ends_other p q other (d ∷ cs) e
+
+pub begins_also : (p q : ℕ → Bool) → ((c : ℕ) → p c ≡ true → q c ≡ true) → (cs : List ℕ) → begins p cs ≡ true → begins q cs ≡ true
+begins_also p q also [] e = cc
+begins_also p q also (c ∷ cs) e = also c e
+
+-- a text begins as its first part does, and ends as its last part does
+pub begins-append : (p : ℕ → Bool) (xs ys : List ℕ) → xs ≢ [] → begins p (xs ++ ys) ≡ begins p xs
+begins-append p [] ys some = absurd (some refl)
+begins-append p (x ∷ xs) ys some = refl
+
+pub ends-append : (p : ℕ → Bool) (xs ys : List ℕ) → ys ≢ [] → ends p (xs ++ ys) ≡ ends p ys
+ends-append p [] ys some = refl
+ends-append p (x ∷ []) [] some = absurd (some refl)
+ends-append p (x ∷ []) (y ∷ ys) some = refl
+ends-append p (x ∷ z ∷ xs) ys some = ends-append p (z ∷ xs) ys some
+
+pub append_not_nil : (xs ys : List ℕ) → ys ≢ [] → xs ++ ys ≢ []
+append_not_nil [] ys some e = some e
+append_not_nil (x ∷ xs) ys some e = cc

@@ -1,0 +1,8 @@
+-- What spans and errors lend of their text.
+pub mod Iterating
+pub mod LendingSteps
+pub mod LentItems
+pub mod Places
+pub mod SlicesTold
+pub mod SpanSlices
+pub mod Trimming

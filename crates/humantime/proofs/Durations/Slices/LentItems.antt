@@ -1,0 +1,150 @@
+-- The list of what the items of a text lend.
+use Rattle.std.proofs.Common.{◌≡◌, ◌≢◌, ◌++◌, IsUtf8, chars, encode_utf8_all, arith, ℕ, zero, suc, true, List, [], ◌∷◌, length, Option, Some, None, Result, Ok, Err, refl, sym, ap, ap₂, subst, subst₂, ◌∙◌}
+use Rattle.std.proofs.lemmas.Str.{encodes-chars, encode_ascii}
+use Rattle.humantime.specs.Durations.Characters.{is_ws, is_digit, begins, leading, past, offset_of}
+use Rattle.humantime.specs.Durations.Spans.{Span}
+use Rattle.humantime.specs.Durations.Faults.{Fault, NumberExpected, NumberOverflow, Empty, span_of}
+use Rattle.humantime.specs.References.Durations.Reading.{stop_at, read, items_from, items, with_span, add_span, settle}
+use Rattle.humantime.specs.References.Durations.Answers.{duration_answer}
+use Rattle.humantime.specs.Durations.Slices.{Lent, LendsEach, stopping, items_of, AreItems, OneListOfSlices}
+use Rattle.humantime.specs.References.Durations.Lending.{lent_at, lends, left_at, lent_items, judged}
+use Rattle.humantime.proofs.Durations.Slices.LendingSteps.{Turn, No_digit, Faulty, Spanned, turn, lends-expected, lends-stopped, lends-fine}
+use Rattle.humantime.proofs.Durations.Reading.Found.{items_found_at}
+use Rattle.humantime.proofs.Durations.Reading.Outcomes.{items_told, duration_answer-items}
+use Rattle.humantime.proofs.Durations.Reading.ReadSteps.{read-expected, read-stopped, read-fine}
+use Rattle.humantime.proofs.Durations.Reading.Runs.{leading-past, Only-leading}
+use Rattle.humantime.proofs.Durations.Slices.SlicesTold.{one_each}
+use Rattle.humantime.proofs.Durations.Slices.SpanSlices.{is_lent}
+use Rattle.humantime.proofs.Durations.Reading.Spelled.{next_of}
+use Rattle.humantime.proofs.Durations.Slices.Trimming.{spelled_at}
+use Rattle.humantime.proofs.Durations.Reading.Unread.{unread, unread_of, unread-expected, unread-stopped, unread-fine}
+
+-- items and spans of one text add up to the same after every sum
+abbrev Agree : List (Result Lent Fault) → List Span × Option Fault → Type 0
+Agree items found = (t : ℕ) → judged t items ≡ settle t found.0 found.1
+
+agree_cons : (text rest : List ℕ) (items : List (Result Lent Fault)) (found : List Span × Option Fault) → Agree items found → Agree (Ok (lent_at text rest) ∷ items) (with_span (span_of rest) found)
+unfolding judged settle
+agree_cons text rest items found h = λ t.
+    ap (λ (s : Span). elim (add_span t s) as (λ _. Result ℕ Fault) [ None ↦ Err NumberOverflow | Some u ↦ judged u items ]) (spelled_at text rest)
+    ∙ by (add_span t (span_of rest))
+  where
+    by : (o : Option ℕ) → ◌≡◌ {A = Result ℕ Fault} (elim o [ None ↦ Err NumberOverflow | Some u ↦ judged u items ]) (elim o [ None ↦ Err NumberOverflow | Some u ↦ settle u found.0 found.1 ])
+    by None = refl
+    by (Some u) = h u
+
+agree_read : (n : ℕ) (text rest : List ℕ) → Agree (lends n text rest) (read n text rest)
+unfolding judged settle lends read
+agree_read zero text rest = λ t. refl
+agree_read (suc n) text [] = λ t. refl
+agree_read (suc n) text (c ∷ cs) = by (turn text (c ∷ cs)) (agree_read n text (next_of (c ∷ cs)))
+  where
+    by : Turn text (c ∷ cs) → Agree (lends n text (next_of (c ∷ cs))) (read n text (next_of (c ∷ cs))) → Agree (lends (suc n) text (c ∷ cs)) (read (suc n) text (c ∷ cs))
+    by (No_digit d) h = subst₂ Agree (sym (lends-expected n text (c ∷ cs) (λ e. cc) d)) (sym (read-expected n text (c ∷ cs) (λ e. cc) d)) (λ t. refl)
+    by (Faulty e d s) h = subst₂ Agree (sym (lends-stopped n text (c ∷ cs) e d s)) (sym (read-stopped n text (c ∷ cs) e d s)) (λ t. refl)
+    by (Spanned d s) h = subst₂ Agree (sym (lends-fine n text (c ∷ cs) d s)) (sym (read-fine n text (c ∷ cs) d s)) (agree_cons text (c ∷ cs) _ _ h)
+
+-- what the items add up to is what the spans that they spell add up to
+pub judged_read : (n t : ℕ) (text rest : List ℕ) → judged t (lends n text rest) ≡ settle t (read n text rest).0 (read n text rest).1
+judged_read n t text rest = agree_read n text rest t
+
+judged_from : (text rest : List ℕ) → judged 0 (left_at true text rest) ≡ settle 0 (items_from text rest).0 (items_from text rest).1
+unfolding judged settle
+judged_from text [] = refl
+judged_from text (c ∷ cs) = judged_read (length (c ∷ cs)) 0 text (c ∷ cs)
+
+pub judged_items : (text : List ℕ) → judged 0 (lent_items text) ≡ settle 0 (items text).0 (items text).1
+unfolding items
+judged_items text = judged_from text (past is_ws text)
+
+-- unless the text is `0`, what its items add up to is its outcome
+pub judged_outcome : (text : List ℕ) → text ≢ 48 ∷ [] → judged 0 (lent_items text) ≡ duration_answer text
+judged_outcome text some = judged_items text ∙ sym (duration_answer-items text some)
+
+-- a text whose one character is `0` is that one byte
+pub not_zero_chars : (bs : List ℕ) → IsUtf8 bs → (bs ≡ 48 ∷ [] → ⊥) → chars bs ≢ 48 ∷ []
+not_zero_chars bs u n e = n (sym (encodes-chars bs u) ∙ ap encode_utf8_all e ∙ ap (λ (l : List ℕ). l ++ []) (encode_ascii 48 (omega arith)))
+
+-- The items from a rest on are what the spans found there lend up to an end, and then what stops them.
+record LentFrom (text rest end : List ℕ) (items : List (Result Lent Fault)) (found : List Span × Option Fault) : Type 0 where
+  xs : List Lent
+  are : items ≡ items_of xs found.1
+  each : LendsEach text rest found.0 xs end
+
+lent_none : (text rest : List ℕ) (stop : Option Fault) → LentFrom text rest rest (stopping stop) ([], stop)
+lent_none text rest stop = record { xs = []; are = refl; each = refl }
+
+lent_cons : (text rest end : List ℕ) (items : List (Result Lent Fault)) (found : List Span × Option Fault) → begins is_digit rest ≡ true → stop_at text rest ≡ None
+    → LentFrom text (next_of rest) end items found → LentFrom text rest end (Ok (lent_at text rest) ∷ items) (with_span (span_of rest) found)
+lent_cons text rest end items found b s f = record {
+  xs = lent_at text rest ∷ f.xs;
+  are = ap (λ (l : List (Result Lent Fault)). Ok (lent_at text rest) ∷ l) f.are;
+  each = (next_of rest, is_lent text rest b s, f.each);
+}
+
+-- the same of equal ends, items and spans
+at_end : (text rest : List ℕ) {d e : List ℕ} {items others : List (Result Lent Fault)} {found same : List Span × Option Fault}
+    → e ≡ d → others ≡ items → same ≡ found → LentFrom text rest d items found → LentFrom text rest e others same
+at_end text rest {d = d} {others = others} {same = same} p q r f = subst (λ (x : List ℕ). LentFrom text rest x others same) (sym p) (subst₂ (LentFrom text rest d) (sym q) (sym r) f)
+
+lent_from : (n : ℕ) (text rest : List ℕ) → LentFrom text rest (unread n text rest) (lends n text rest) (read n text rest)
+unfolding lends read unread
+lent_from zero text rest = lent_none text rest None
+lent_from (suc n) text [] = lent_none text [] None
+lent_from (suc n) text (c ∷ cs) = by (turn text (c ∷ cs)) (lent_from n text (next_of (c ∷ cs)))
+  where
+    by : Turn text (c ∷ cs) → LentFrom text (next_of (c ∷ cs)) (unread n text (next_of (c ∷ cs))) (lends n text (next_of (c ∷ cs))) (read n text (next_of (c ∷ cs)))
+        → LentFrom text (c ∷ cs) (unread (suc n) text (c ∷ cs)) (lends (suc n) text (c ∷ cs)) (read (suc n) text (c ∷ cs))
+    by (No_digit d) f =
+        at_end text (c ∷ cs) (unread-expected n text (c ∷ cs) (λ e. cc) d) (lends-expected n text (c ∷ cs) (λ e. cc) d) (read-expected n text (c ∷ cs) (λ e. cc) d)
+        (lent_none text (c ∷ cs) (Some (NumberExpected (offset_of text (c ∷ cs)))))
+    by (Faulty e d s) f =
+        at_end text (c ∷ cs) (unread-stopped n text (c ∷ cs) e d s) (lends-stopped n text (c ∷ cs) e d s) (read-stopped n text (c ∷ cs) e d s)
+        (lent_none text (c ∷ cs) (Some e))
+    by (Spanned d s) f =
+        at_end text (c ∷ cs) (unread-fine n text (c ∷ cs) d s) (lends-fine n text (c ∷ cs) d s) (read-fine n text (c ∷ cs) d s)
+        (lent_cons text (c ∷ cs) _ _ _ d s f)
+
+lent_all : (text rest : List ℕ) → LentFrom text rest (unread (length rest) text rest) (left_at true text rest) (items_from text rest)
+unfolding unread
+lent_all text [] = lent_none text [] (Some Empty)
+lent_all text (c ∷ cs) = lent_from (length (c ∷ cs)) text (c ∷ cs)
+
+pub are_items : (text : List ℕ) → AreItems text (lent_items text)
+unfolding items
+are_items text =
+    let f = lent_all text (past is_ws text) in
+    let i = items_found_at text in
+    record {
+      spans = (items text).0;
+      stop = (items text).1;
+      xs = f.xs;
+      front = i.0;
+      rest = unread_of text;
+      space = leading is_ws text;
+      body = past is_ws text;
+      items = i.1;
+      are = f.are;
+      whole = sym (leading-past is_ws text);
+      only_space = Only-leading is_ws text;
+      each = f.each;
+    }
+
+-- two lists that lend the same spans and stop alike are one
+same_lent : (text : List ℕ) (xs ys : List (Result Lent Fault)) (a : AreItems text xs) (b : AreItems text ys) → a.spans ≡ b.spans → a.stop ≡ b.stop → xs ≡ ys
+same_lent text xs ys a b p q =
+    let each : LendsEach text b.body a.spans b.xs b.rest = subst (λ (ss : List Span). LendsEach text b.body ss b.xs b.rest) (sym p) b.each in
+    a.are ∙ ap₂ items_of (one_each text a.space b.space a.body b.body a.spans a.xs b.xs a.rest b.rest a.only_space b.only_space (sym a.whole ∙ b.whole) a.each each) q ∙ sym b.are
+
+-- the spans and the stop are those that are read
+told_items : (text : List ℕ) (xs : List (Result Lent Fault)) (a : AreItems text xs) → items text ≡ (a.spans, a.stop)
+told_items text xs a = items_told text a.spans a.stop (record { front = a.front; rest = a.rest; are = a.items })
+
+pub one_lent : (text : List ℕ) (others : List (Result Lent Fault)) → AreItems text others → others ≡ lent_items text
+one_lent text others o =
+    let a = are_items text in
+    let both : ◌≡◌ {A = List Span × Option Fault} (o.spans, o.stop) (a.spans, a.stop) = sym (told_items text others o) ∙ told_items text (lent_items text) a in
+    same_lent text others (lent_items text) o a (ap (λ (p : List Span × Option Fault). p.0) both) (ap (λ (p : List Span × Option Fault). p.1) both)
+
+pub one_list_of_slices : (text : List ℕ) → OneListOfSlices text
+one_list_of_slices text = (lent_items text, are_items text, one_lent text)

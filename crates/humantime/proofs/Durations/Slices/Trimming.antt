@@ -1,0 +1,108 @@
+-- Slices without the white space at their ends.
+use Rattle.std.proofs.Common.{◌≡◌, ℕ, suc, Bool, true, false, ◌&&◌, ◌||◌, cond, eqb, List, [], ◌∷◌, ◌++◌, length, Option, Some, None, option_map, ◌⊎◌, inl, inr, refl, sym, ap, ap₂, subst, ◌∙◌, append-nil, arith}
+use Rattle.std.specs.Char.{is_whitespace}
+use Rattle.std.specs.Str.{drop_trailing_whitespace}
+use Rattle.std.proofs.lemmas.Bool.Decides.{nat_tests}
+use Rattle.std.proofs.lemmas.List.Elements.{filter-append}
+use Rattle.humantime.specs.declared.duration.reading.class.Class.{Class}
+use Rattle.humantime.specs.declared.duration.reading.class.Class.TheVariants.{White, Digit, Letter, Point, Other}
+use Rattle.humantime.specs.Durations.Characters.{class_of, white, digit, is_ws, is_digit, is_numeric, begins, ends, leading, past, digits}
+use Rattle.humantime.specs.Durations.Spans.{Only}
+use Rattle.humantime.specs.Durations.Faults.{number_of, after_number, fraction_at, digits_in, word_of, span_of}
+use Rattle.humantime.specs.Durations.Slices.{IsDigits}
+use Rattle.humantime.specs.References.Durations.Lending.{trimmed, number_slice, fraction_slice, lent_at, spelled}
+use Rattle.humantime.proofs.Durations.Reading.Classes.{white_is}
+
+pub suc_not_zero : (n : ℕ) → eqb (suc n) 0 ≡ false
+suc_not_zero n = grind (arith, nat_tests)
+
+-- ds is cs without the white space at its end
+pub record Dropped (cs ds : List ℕ) : Type 0 where
+  pub tail : List ℕ
+  pub whole : cs ≡ ds ++ tail
+  pub space : Only is_ws tail
+  pub last : (ds ≡ []) ⊎ (ends is_ws ds ≡ false)
+
+last_of : (x : ℕ) (xs : List ℕ) → (x ∷ xs ≡ []) ⊎ (ends is_ws (x ∷ xs) ≡ false) → ends is_ws (x ∷ xs) ≡ false
+last_of x xs (inl e) = cc
+last_of x xs (inr e) = e
+
+pub dropped : (cs : List ℕ) → Dropped cs (drop_trailing_whitespace cs)
+dropped [] = record { tail = []; whole = refl; space = tt; last = inl refl }
+dropped (c ∷ cs) = by (is_whitespace c) (drop_trailing_whitespace cs) refl (dropped cs)
+  where
+    by : (w : Bool) (ds : List ℕ) → is_whitespace c ≡ w → Dropped cs ds → Dropped (c ∷ cs) (cond (w && eqb (length ds) 0) [] (c ∷ ds))
+    by true [] e d = record { tail = c ∷ d.tail; whole = ap (c ∷◌) d.whole; space = (sym (white_is c) ∙ e, d.space); last = inl refl }
+    by true (x ∷ xs) e d = rw (suc_not_zero (length xs)) (record { tail = d.tail; whole = ap (c ∷◌) d.whole; space = d.space; last = inr (last_of x xs d.last) })
+    by false [] e d = record { tail = d.tail; whole = ap (c ∷◌) d.whole; space = d.space; last = inr (sym (white_is c) ∙ e) }
+    by false (x ∷ xs) e d = record { tail = d.tail; whole = ap (c ∷◌) d.whole; space = d.space; last = inr (last_of x xs d.last) }
+
+white_no_digit : (k : Class) → white k ≡ true → digit k ≡ false
+white_no_digit White e = refl
+white_no_digit Digit e = cc
+white_no_digit Letter e = refl
+white_no_digit Point e = refl
+white_no_digit Other e = refl
+
+pub numeric_digit : (k : Class) → (digit k || white k) ≡ true → white k ≡ false → digit k ≡ true
+numeric_digit White n w = cc
+numeric_digit Digit n w = refl
+numeric_digit Letter n w = n
+numeric_digit Point n w = n
+numeric_digit Other n w = n
+
+no_digits : (cs : List ℕ) → Only is_ws cs → digits cs ≡ []
+no_digits [] o = refl
+no_digits (c ∷ cs) o = rw (white_no_digit (class_of c) o.0) (no_digits cs o.1)
+
+digits_dropped : (cs ds : List ℕ) → Dropped cs ds → digits ds ≡ digits cs
+digits_dropped cs ds d = sym (ap digits d.whole ∙ filter-append is_digit ds d.tail ∙ ap (digits ds ++◌) (no_digits d.tail d.space) ∙ append-nil (digits ds))
+
+pub digits_past : (cs : List ℕ) → digits (past is_ws cs) ≡ digits cs
+digits_past [] = refl
+digits_past (c ∷ cs) = by (is_ws c) refl (digits_past cs)
+  where
+    by : (w : Bool) → is_ws c ≡ w → digits (past is_ws cs) ≡ digits cs → digits (cond w (past is_ws cs) (c ∷ cs)) ≡ digits (c ∷ cs)
+    by true e h = rw (white_no_digit (class_of c) e) h
+    by false e h = refl
+
+digits_trimmed : (cs : List ℕ) → digits (trimmed cs) ≡ digits cs
+digits_trimmed cs = digits_dropped (past is_ws cs) (trimmed cs) (dropped (past is_ws cs)) ∙ digits_past cs
+
+number_spelled : (rest : List ℕ) → digits (number_slice rest) ≡ number_of rest
+number_spelled rest = digits_dropped (leading is_numeric rest) (number_slice rest) (dropped (leading is_numeric rest))
+
+fraction_spelled : (after : List ℕ) → option_map digits (fraction_slice after) ≡ digits_in (fraction_at after)
+fraction_spelled after = by (fraction_at after)
+  where
+    by : (o : Option (List ℕ)) → option_map digits (option_map trimmed o) ≡ digits_in o
+    by None = refl
+    by (Some cs) = ap (λ (x : List ℕ). Some x) (digits_trimmed cs)
+
+-- the slices spell the span that they are taken from
+pub spelled_at : (text rest : List ℕ) → spelled (lent_at text rest).number (lent_at text rest).fraction (lent_at text rest).unit ≡ span_of rest
+spelled_at text rest = ap₂ (λ (n : List ℕ) (f : Option (List ℕ)). record { number = n; fraction = f; word = word_of rest }) (number_spelled rest) (fraction_spelled (after_number rest))
+
+ends_digit : (x : ℕ) (xs : List ℕ) → Only is_numeric (x ∷ xs) → ends is_ws (x ∷ xs) ≡ false → ends is_digit (x ∷ xs) ≡ true
+ends_digit x [] o e = numeric_digit (class_of x) o.0 e
+ends_digit x (y ∷ ys) o e = ends_digit y ys o.1 e
+
+all_white : (cs : List ℕ) → Only is_ws cs → begins is_digit cs ≡ true → ⊥
+all_white [] o b = cc
+all_white (c ∷ cs) o b = let n = white_no_digit (class_of c) o.0 in cc
+
+only_front : (p : ℕ → Bool) (xs ys : List ℕ) → Only p (xs ++ ys) → Only p xs
+only_front p [] ys o = tt
+only_front p (x ∷ xs) ys o = (o.0, only_front p xs ys o.1)
+
+-- digits and white space from a first digit on, without the white space at the end
+pub digits_dropped_are : (cs ds : List ℕ) → Dropped cs ds → begins is_digit cs ≡ true → Only is_numeric cs → IsDigits ds (digits cs)
+digits_dropped_are cs [] d b o = absurd (all_white d.tail d.space (subst (λ (l : List ℕ). begins is_digit l ≡ true) d.whole b))
+digits_dropped_are cs (x ∷ xs) d b o =
+    let numeric = only_front is_numeric (x ∷ xs) d.tail (subst (Only is_numeric) d.whole o) in
+    record {
+      starts = subst (λ (l : List ℕ). begins is_digit l ≡ true) d.whole b;
+      stops = ends_digit x xs numeric (last_of x xs d.last);
+      numeric = numeric;
+      its_digits = digits_dropped cs (x ∷ xs) d;
+    }

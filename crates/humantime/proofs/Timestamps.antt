@@ -1,0 +1,4 @@
+-- What holds of timestamps' texts.
+pub mod Laws
+pub mod Printing
+pub mod Reading

@@ -1,0 +1,95 @@
+-- A text in strict form is one in weak form with a `T` and a zone at its end.
+use Rattle.std.proofs.Common.{◌≡◌, ◌≢◌, ℕ, ◌+◌, ◌-◌, ◌<◌, ◌≤◌, ◌⊎◌, inl, inr, List, [], ◌++◌, length, drop, refl, sym, ap, subst, ◌∙◌, arith, length-append}
+use Rattle.std.specs.Prelude.{true, ◌&&◌, ◌==◌, codes, slice_index}
+use Rattle.std.specs.List.{AllByRecursion, ends_with}
+use Rattle.std.specs.Prelude.{nat_eq, nat_le}
+use Rattle.std.proofs.lemmas.Bool.{and_parts, and_from, or_cases, or_left, or_right, eqb-true, eq-eqb, le-leb}
+use Rattle.std.proofs.lemmas.List.Prefix.{end_rest}
+use Rattle.std.proofs.lemmas.Slice.Eq.{bytes_eq-Decides}
+use Rattle.humantime.specs.Timestamps.Fields.{Separator, Letter_T, Space, Zone, Nothing, Letter_Z, Offset, Fields, separator_byte, fraction_text, zone_text, time_text, written, IsWeak, IsStrict}
+use Rattle.humantime.specs.Timestamps.Checks.{ends_in_zone, is_complete}
+use Rattle.humantime.specs.Timestamps.Laws.{StrictIsWeak}
+use Rattle.humantime.proofs.Timestamps.Reading.Bytes.{HoldsOfBytes, holds_before_zone, all_append, all_drop}
+
+-- neither `+` nor `Z`
+abbrev IsPlain : ℕ → Type 0
+IsPlain c = (c ≢ 43) × (c ≢ 90)
+
+other_than : (c n : ℕ) → (c < n) ⊎ (n < c) → c ≢ n
+other_than c n (inl less) e = absurd (omega arith)
+other_than c n (inr more) e = absurd (omega arith)
+
+plain_bytes : HoldsOfBytes IsPlain
+plain_bytes = record {
+  digit = λ c h. (other_than c 43 (inr (omega arith)), other_than c 90 (inl (omega arith)));
+  dash = (other_than 45 43 (inr (omega arith)), other_than 45 90 (inl (omega arith)));
+  colon = (other_than 58 43 (inr (omega arith)), other_than 58 90 (inl (omega arith)));
+  point = (other_than 46 43 (inr (omega arith)), other_than 46 90 (inl (omega arith)));
+  letter = (other_than 84 43 (inr (omega arith)), other_than 84 90 (inl (omega arith)));
+  space = (other_than 32 43 (inl (omega arith)), other_than 32 90 (inl (omega arith)));
+}
+
+-- a text that ends with e has e at its end
+end_told : (b e : List ℕ) → ends_with nat_eq b e ≡ true → e ≡ drop (length b - length e) b
+end_told b e h = (bytes_eq-Decides e (drop (length b - length e) b)).0 h
+
+end_from : (xs e : List ℕ) → ends_with nat_eq (xs ++ e) e ≡ true
+end_from xs e = (bytes_eq-Decides e (drop (length (xs ++ e) - length e) (xs ++ e))).1 (sym (end_rest (xs ++ e) e xs refl))
+
+-- without a zone there is no `Z` and no `+`, so no zone at the end
+plain_end : (b : List ℕ) → AllByRecursion IsPlain b → ends_in_zone b ≡ true → ⊥
+plain_end b plain h = by_end (or_cases _ _ h) where
+  by_end : (ends_with nat_eq b (codes "Z") ≡ true) ⊎ (ends_with nat_eq b (codes "+00:00") ≡ true) → ⊥
+  by_end (inl z) = (subst (AllByRecursion IsPlain) (sym (end_told b (codes "Z") z)) (all_drop IsPlain (length b - 1) b plain)).0.1 refl
+  by_end (inr offset) = (subst (AllByRecursion IsPlain) (sym (end_told b (codes "+00:00") offset)) (all_drop IsPlain (length b - 6) b plain)).0.0 refl
+
+has_zone : (b : List ℕ) (f : Fields) → IsWeak b f → ends_in_zone b ≡ true → f.zone ≢ Nothing
+has_zone b f w h none =
+    let before = holds_before_zone IsPlain plain_bytes b f w in
+    let all : AllByRecursion IsPlain ((time_text f ++ fraction_text f.fraction) ++ []) = all_append IsPlain (time_text f ++ fraction_text f.fraction) [] before tt in
+    let shown : b ≡ (time_text f ++ fraction_text f.fraction) ++ [] = w.shown ∙ ap (λ (z : Zone). (time_text f ++ fraction_text f.fraction) ++ zone_text z) none in
+    plain_end b (subst (AllByRecursion IsPlain) (sym shown) all) h
+
+zone_ends : (xs : List ℕ) (z : Zone) → z ≢ Nothing → ends_in_zone (xs ++ zone_text z) ≡ true
+zone_ends xs Nothing some = absurd (some refl)
+zone_ends xs Letter_Z some = or_left _ _ (end_from xs (codes "Z"))
+zone_ends xs Offset some = or_right _ _ (end_from xs (codes "+00:00"))
+
+zone_length : (z : Zone) → z ≢ Nothing → 1 ≤ length (zone_text z)
+zone_length Nothing some = absurd (some refl)
+zone_length Letter_Z some = omega arith
+zone_length Offset some = omega arith
+
+letter_told : (s : Separator) → separator_byte s ≡ 84 → s ≡ Letter_T
+letter_told Letter_T e = refl
+letter_told Space e = absurd (omega arith)
+
+pub strict_is_weak : (b : List ℕ) → StrictIsWeak b
+strict_is_weak b f = (
+  (λ s.
+      let ten : slice_index b 10 ≡ 84 = ap (λ (t : List ℕ). slice_index t 10) s.weak.shown ∙ ap separator_byte s.separator in
+      let end = zone_ends (time_text f ++ fraction_text f.fraction) f.zone s.zone in
+      (s.weak, (ten, subst (λ (t : List ℕ). ends_in_zone t ≡ true) (sym s.weak.shown) end))),
+  (λ p.
+      let ten : separator_byte f.separator ≡ 84 = sym (ap (λ (t : List ℕ). slice_index t 10) p.0.shown) ∙ p.1.0 in
+      record { weak = p.0; separator = letter_told f.separator ten; zone = has_zone b f p.0 p.1.1 }),
+)
+
+-- the check of the strict form
+pub strict_complete : (b : List ℕ) (f : Fields) → IsStrict b f → is_complete b ≡ true
+unfolding is_complete
+strict_complete b f s =
+    let marked = ((strict_is_weak b f).0 s).1 in
+    let zone = zone_length f.zone s.zone in
+    let whole : length (written f) ≡ length (time_text f ++ fraction_text f.fraction) + length (zone_text f.zone) = length-append (time_text f ++ fraction_text f.fraction) (zone_text f.zone) in
+    let before : length (time_text f ++ fraction_text f.fraction) ≡ 19 + length (fraction_text f.fraction) = length-append (time_text f) (fraction_text f.fraction) in
+    let shown : length b ≡ length (written f) = ap length s.weak.shown in
+    let long : nat_le 20 (length b) ≡ true = le-leb 20 (length b) (omega arith) in
+    and_from _ _ (and_from _ _ long (eq-eqb _ _ marked.0)) marked.1
+
+pub complete_strict : (b : List ℕ) (f : Fields) → is_complete b ≡ true → IsWeak b f → IsStrict b f
+unfolding is_complete
+complete_strict b f h w =
+    let end = and_parts (nat_le 20 (length b) && (slice_index b 10 == 84)) (ends_in_zone b) h in
+    let ten = and_parts (nat_le 20 (length b)) (slice_index b 10 == 84) end.0 in
+    (strict_is_weak b f).1 (w, (eqb-true _ _ ten.1, end.1))

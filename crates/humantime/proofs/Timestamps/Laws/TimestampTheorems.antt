@@ -1,0 +1,148 @@
+-- The laws of timestamps and days as theorems over plain variables, each under the name of its function in `laws`, and what callers cite beside them.
+use Rattle.std.proofs.Common.{◌≡◌, ◌≤◌, ℕ, List, refl, sym, subst, ◌∙◌, arith}
+use Rattle.std.specs.Prelude.{◌↔◌, ℤ, ◌≤ℤ◌, ◌<ℤ◌, Option, Some, None, Ok, Err, IsTrue, IfSome}
+use Rattle.std.specs.declared.cmp.Ordering.{Ordering}
+use Rattle.std.specs.Cmp.Lexicographic.{slice_cmp}
+use Rattle.std.specs.Ordering.{nat_cmp, int_cmp, is_le, is_lt}
+use Rattle.std.proofs.lemmas.Int.{ints}
+use Rattle.std.proofs.lemmas.Option.{none-some}
+use Rattle.humantime.specs.declared.date.error.TimestampError.{TimestampError}
+use Rattle.humantime.specs.declared.date.print.Rfc3339Timestamp.{Rfc3339Timestamp}
+use Rattle.humantime.specs.Calendar.Dates.{OneDate}
+use Rattle.humantime.specs.Timestamps.Fields.{IsWeak, IsStrict, IsWeakMoment, IsStrictMoment}
+use Rattle.humantime.specs.Timestamps.Checks.{weak_checks, strict_checks, first_failed}
+use Rattle.humantime.specs.Timestamps.Laws.{OneTimestamp, StrictIsWeak, StrictMomentIsWeak}
+use Rattle.humantime.specs.Timestamps.Printed.{cut, IsPrinted, IsPrintable, ReadsAs, OnePrinted}
+use Rattle.humantime.specs.References.Timestamps.Printing.{moment_kept, places_kept, moment_text, printed_text}
+use Rattle.humantime.specs.References.Timestamps.Reading.{weak_answer, strict_answer}
+use Rattle.humantime.proofs.Calendar.Dates as dates
+use Rattle.humantime.proofs.Timestamps.Laws.Order.{printed_order}
+use Rattle.humantime.proofs.Timestamps.Printing.Printed.{one_text, one_printed, text_displayed, printed_reads}
+use Rattle.humantime.proofs.Timestamps.Laws.Reading as read
+use Rattle.humantime.proofs.Timestamps.Laws.StrictForm as strict
+pub use Rattle.humantime.specs.References.Values.MomentLemmas.{parts_of_moment, nano_of_bound}
+pub use Rattle.humantime.proofs.Timestamps.Printing.Printed.{places_kept_bound, places_of_bound, printed_as}
+
+-- ---- Days
+
+pub one_date : (day : ℕ) → day ≤ 2_932_896 → OneDate day
+one_date = dates.one_date
+
+-- ---- Timestamps read
+
+-- the strict form is the weak one with a `T` and a zone: of the parts, and of the moment
+pub record StrictForm (text : List ℕ) : Type 0 where
+  pub parts : StrictIsWeak text
+  pub moment : StrictMomentIsWeak text
+
+pub strict_is_weak : (text : List ℕ) → StrictForm text
+strict_is_weak text = record { parts = strict.strict_is_weak text; moment = read.strict_moment_is_weak text }
+
+-- a text's one outcome in each form, and that the answer as a function is this outcome
+pub record StampOutcome (text : List ℕ) : Type 0 where
+  pub weak : OneTimestamp (weak_checks text) (IsWeak text)
+  pub strict : OneTimestamp (strict_checks text) (IsStrict text)
+  pub weak_value : (t : ℤ) → (weak_answer text ≡ Ok t) ↔ IsWeakMoment text t
+  pub weak_error : (e : TimestampError) → (weak_answer text ≡ Err e) ↔ (first_failed (weak_checks text) ≡ Some e)
+  pub strict_value : (t : ℤ) → (strict_answer text ≡ Ok t) ↔ IsStrictMoment text t
+  pub strict_error : (e : TimestampError) → (strict_answer text ≡ Err e) ↔ (first_failed (strict_checks text) ≡ Some e)
+
+pub one_stamp_outcome : (text : List ℕ) → StampOutcome text
+one_stamp_outcome text = record {
+  weak = read.one_weak text;
+  strict = read.one_strict text;
+  weak_value = read.weak_value text;
+  weak_error = read.weak_error text;
+  strict_value = read.strict_value text;
+  strict_error = read.strict_error text;
+}
+
+-- what a text reads as, from what it shows
+pub weak_read : (text : List ℕ) (t : ℤ) → IsWeakMoment text t → weak_answer text ≡ Ok t
+weak_read text t shown = (read.weak_value text t).1 shown
+
+pub weak_failed : (text : List ℕ) (e : TimestampError) → first_failed (weak_checks text) ≡ Some e → weak_answer text ≡ Err e
+weak_failed text e failed = (read.weak_error text e).1 failed
+
+pub strict_read : (text : List ℕ) (t : ℤ) → IsStrictMoment text t → strict_answer text ≡ Ok t
+strict_read text t shown = (read.strict_value text t).1 shown
+
+pub strict_failed : (text : List ℕ) (e : TimestampError) → first_failed (strict_checks text) ≡ Some e → strict_answer text ≡ Err e
+strict_failed text e failed = (read.strict_error text e).1 failed
+
+-- a moment in strict form is one in weak form
+pub strict_read_weak : (text : List ℕ) (t : ℤ) → IsStrictMoment text t → weak_answer text ≡ Ok t
+strict_read_weak text t shown = weak_read text t ((read.strict_moment_is_weak text t).0 shown).0
+
+-- ---- Timestamps printed
+
+-- the one text of a moment that is printed with k digits, and what it reads as
+pub record PrintedMoment (t : ℤ) (k : ℕ) : Type 0 where
+  pub one : IsPrintable t → OnePrinted t k
+  pub displayed : (text : List ℕ) → (moment_text t k ≡ Some text) ↔ (IsPrintable t × IsPrinted t k text)
+  pub reads : (text : List ℕ) → IsPrinted t k text → ReadsAs text (cut t k)
+
+pub printed_moment_reads : (t : ℤ) (k : ℕ) → k ≤ 9 → PrintedMoment t k
+printed_moment_reads t k small = record {
+  one = one_printed t k small;
+  displayed = λ text. text_displayed t k text small;
+  reads = printed_reads t k;
+}
+
+-- a printed text is the one that is computed
+pub printed_is : (t : ℤ) (k : ℕ) (text known : List ℕ) → k ≤ 9 → moment_text t k ≡ Some known → IsPrinted t k text → text ≡ known
+printed_is t k text known small computed printed = one_text t k text known small printed ((text_displayed t k known small).0 computed).1
+
+-- what `Display` wrote, of a timestamp that is known by two equations
+pub displayed_as : (x : Rfc3339Timestamp) (t : ℤ) (k : ℕ) (bytes : List ℕ) → moment_kept x ≡ t → places_kept x ≡ k → IsPrintable t
+    → IfSome (printed_text x) (λ text. bytes ≡ text) → IsPrinted t k bytes
+displayed_as x t k bytes moment digits within written = by_text (printed_text x) refl written where
+  printable : IsPrintable (moment_kept x)
+  printable = subst IsPrintable (sym moment) within
+
+  by_text : (o : Option (List ℕ)) → printed_text x ≡ o → IfSome o (λ text. bytes ≡ text) → IsPrinted t k bytes
+  by_text (Some text) is same =
+      let told = text_displayed (moment_kept x) (places_kept x) text (places_kept_bound x) in
+      printed_as x t k bytes moment digits (subst (IsPrinted (moment_kept x) (places_kept x)) (sym same) (told.0 is).1)
+  by_text None is same =
+      let one = one_printed (moment_kept x) (places_kept x) (places_kept_bound x) printable in
+      absurd (none-some _ (sym is ∙ (text_displayed (moment_kept x) (places_kept x) one.text (places_kept_bound x)).1 (printable, one.printed)))
+
+-- the bytes of two texts stand in the order of the moments that they print, cut to their digits
+pub stamps_in_order : (a b : ℤ) (k : ℕ) (x y : List ℕ) → k ≤ 9 → IsPrinted a k x → IsPrinted b k y → slice_cmp nat_cmp x y ≡ int_cmp (cut a k) (cut b k)
+stamps_in_order a b = printed_order a b
+
+-- what an order of two moments says
+pub moment_at_most : (a b : ℤ) → IsTrue (is_le (int_cmp a b)) ↔ (a ≤ℤ b)
+moment_at_most a b = ((λ h. grind (arith, ints)), (λ h. grind (arith, ints)))
+
+pub moment_before : (a b : ℤ) → IsTrue (is_lt (int_cmp a b)) ↔ (a <ℤ b)
+moment_before a b = ((λ h. grind (arith, ints)), (λ h. grind (arith, ints)))
+
+-- and what one of two printed texts says
+pub stamp_at_most : (a b : ℤ) (k : ℕ) (x y : List ℕ) → k ≤ 9 → IsPrinted a k x → IsPrinted b k y
+    → IsTrue (is_le (slice_cmp nat_cmp x y)) ↔ (cut a k ≤ℤ cut b k)
+stamp_at_most a b k x y small p q =
+    subst (λ (o : Ordering). IsTrue (is_le o) ↔ (cut a k ≤ℤ cut b k)) (sym (stamps_in_order a b k x y small p q)) (moment_at_most (cut a k) (cut b k))
+
+pub stamp_before : (a b : ℤ) (k : ℕ) (x y : List ℕ) → k ≤ 9 → IsPrinted a k x → IsPrinted b k y
+    → IsTrue (is_lt (slice_cmp nat_cmp x y)) ↔ (cut a k <ℤ cut b k)
+stamp_before a b k x y small p q =
+    subst (λ (o : Ordering). IsTrue (is_lt o) ↔ (cut a k <ℤ cut b k)) (sym (stamps_in_order a b k x y small p q)) (moment_before (cut a k) (cut b k))
+
+-- the order of bytes for each number of digits that a printer gives; `using` one of them, a caller that compares texts is proved
+-- with no answer
+earlier : (a b : ℤ) (k : ℕ) (x y : List ℕ) → k ≤ 9 → IsPrinted a k x → IsPrinted b k y → (cut a k <ℤ cut b k) ↔ IsTrue (is_lt (slice_cmp nat_cmp x y))
+earlier a b k x y small p q = let h = stamp_before a b k x y small p q in (h.1, h.0)
+
+pub earlier_in_seconds : (a b : ℤ) (x y : List ℕ) → IsPrinted a 0 x → IsPrinted b 0 y → (cut a 0 <ℤ cut b 0) ↔ IsTrue (is_lt (slice_cmp nat_cmp x y))
+earlier_in_seconds a b x y = earlier a b 0 x y (omega arith)
+
+pub earlier_in_millis : (a b : ℤ) (x y : List ℕ) → IsPrinted a 3 x → IsPrinted b 3 y → (cut a 3 <ℤ cut b 3) ↔ IsTrue (is_lt (slice_cmp nat_cmp x y))
+earlier_in_millis a b x y = earlier a b 3 x y (omega arith)
+
+pub earlier_in_micros : (a b : ℤ) (x y : List ℕ) → IsPrinted a 6 x → IsPrinted b 6 y → (cut a 6 <ℤ cut b 6) ↔ IsTrue (is_lt (slice_cmp nat_cmp x y))
+earlier_in_micros a b x y = earlier a b 6 x y (omega arith)
+
+pub earlier_in_nanos : (a b : ℤ) (x y : List ℕ) → IsPrinted a 9 x → IsPrinted b 9 y → (cut a 9 <ℤ cut b 9) ↔ IsTrue (is_lt (slice_cmp nat_cmp x y))
+earlier_in_nanos a b x y = earlier a b 9 x y (omega arith)

@@ -1,0 +1,4 @@
+-- A moment prints as one text.
+pub mod Digits
+pub mod Pairs
+pub mod Printed

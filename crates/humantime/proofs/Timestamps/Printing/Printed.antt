@@ -1,0 +1,190 @@
+-- What the printer shows is the printed text of the moment, and the only one.
+use Rattle.std.proofs.Common.{◌≡◌, ◌≢◌, ℕ, zero, suc, ◌+◌, ◌-◌, ◌*◌, ◌/◌, ◌%◌, ◌^◌, ◌<◌, ◌≤◌, List, [], ◌∷◌, ◌++◌, refl, sym, ap, subst, ◌∙◌, arith}
+use Rattle.std.specs.Prelude.{◌↔◌, ◌==◌, Bool, true, false, min, Some, None, ℤ, pos, negsuc, nat_lt, IsAscii, if◌then◌else◌}
+use Rattle.std.specs.List.{AllByRecursion}
+use Rattle.std.proofs.Math.Nat.{mod-le}
+use Rattle.std.proofs.lemmas.Bool.{ltb-true, lt-ltb}
+use Rattle.std.proofs.lemmas.Int.{ints}
+use Rattle.std.proofs.lemmas.Option.{none-some, same_Some}
+use Rattle.humantime.specs.declared.date.print.DateTime.{DateTime}
+use Rattle.humantime.specs.declared.date.print.Precision.{Precision}
+use Rattle.humantime.specs.declared.date.print.Precision.TheVariants.{Seconds, Millis, Micros, Nanos}
+use Rattle.humantime.specs.declared.date.print.Rfc3339Timestamp.{Rfc3339Timestamp}
+use Rattle.humantime.specs.Calendar.Dates.{day_of}
+use Rattle.humantime.specs.References.Calendar.DatesOfDays.{date_of}
+use Rattle.humantime.specs.Values.Moments.{nano_of}
+use Rattle.humantime.specs.Timestamps.Fields.{Letter_Z, Nothing, written, time_text, fraction_text, zone_text, moment_of}
+use Rattle.humantime.specs.Timestamps.Printed.{cut, IsPrinted, IsPrintable, ReadsAs, OnePrinted}
+use Rattle.humantime.specs.References.Timestamps.Printing.{places, moment_kept, places_kept, places_of, fields_shown, fields_at, IsDateTimeOf, IsTextOf, printed_text, moment_text}
+use Rattle.humantime.proofs.Timestamps.Reading.Bytes.{HoldsOfBytes, holds_before_zone, all_append}
+use Rattle.humantime.proofs.Calendar.DatesOfDays.{date_of_is}
+use Rattle.humantime.proofs.Timestamps.Printing.Digits.{shown_digits, shown_places, shown_nanos, cut_nanos}
+use Rattle.humantime.proofs.Timestamps.Laws.OneText.{same_printed}
+
+pub places_most : (p : Precision) → places p ≤ 9
+places_most Seconds = omega arith
+places_most Millis = omega arith
+places_most Micros = omega arith
+places_most Nanos = omega arith
+
+-- no timestamp is printed with more than nine digits
+pub places_kept_bound : (x : Rfc3339Timestamp) → places_kept x ≤ 9
+unfolding places_kept
+places_kept_bound x = places_most x.precision
+
+pub places_of_bound : (t : ℤ) → places_of t ≤ 9
+places_of_bound t = by_test (nano_of t == 0) where
+  by_test : (b : Bool) → (if b then 0 else 9) ≤ 9
+  by_test true = omega arith
+  by_test false = omega arith
+
+cut_pos : (t k : ℕ) → pos (t - t % 10 ^ (9 - k)) ≡ cut (pos t) k
+cut_pos t k = omega (arith, ints, mod-le t (10 ^ (9 - k)))
+
+-- the parts of a moment's date and time show it, printed
+shown_moment : (x : DateTime) (t k : ℕ) → k ≤ 9 → IsDateTimeOf x (pos t) → moment_of (fields_shown x k) ≡ t - t % 10 ^ (9 - k)
+shown_moment x t k small h =
+    let nanos = shown_nanos k x.nanos small h.nanos in
+    let second : min x.second 59 ≡ x.second = omega (arith, h.second) in
+    let seconds = day_of x.date * 86_400 + x.hour * 3_600 + x.minute * 60 + x.second in
+    let whole : seconds * 1_000_000_000 + x.nanos ≡ t = cc in
+    rw (second, nanos) (cut_nanos k seconds x.nanos small ∙ ap (λ (m : ℕ). m - m % 10 ^ (9 - k)) whole)
+
+pub shown_printed : (x : DateTime) (t : ℤ) (k : ℕ) → k ≤ 9 → IsDateTimeOf x t → IsPrinted t k (written (fields_shown x k))
+shown_printed x (negsuc t) k small h = absurd (let whole = h.sum in let no : ⊥ = cc in no)
+shown_printed x (pos t) k small h = record {
+  fields = fields_shown x k;
+  weak = record {
+    shown = refl;
+    date = h.date;
+    hour = h.hour;
+    minute = h.minute;
+    second = omega (arith, h.second);
+    fraction = shown_digits k x.nanos h.nanos;
+  };
+  separator = refl;
+  zone = refl;
+  second = h.second;
+  places = shown_places k x.nanos small;
+  moment = ap pos (shown_moment x t k small h) ∙ cut_pos t k;
+}
+
+-- a printed text is one
+pub one_text : (t : ℤ) (k : ℕ) (x y : List ℕ) → k ≤ 9 → IsPrinted t k x → IsPrinted t k y → x ≡ y
+one_text t k x y small p q = same_printed t k x y small p q
+
+-- the text of a moment that is known by two equations
+pub printed_as : (x : Rfc3339Timestamp) (t : ℤ) (k : ℕ) (text : List ℕ) → moment_kept x ≡ t → places_kept x ≡ k → IsTextOf x text → IsPrinted t k text
+printed_as x t k text moment digits p = subst (λ (n : ℕ). IsPrinted t n text) digits (subst (λ (z : ℤ). IsPrinted z (places_kept x) text) moment p)
+
+-- it is ASCII
+ascii_bytes : HoldsOfBytes (λ c. c < 128)
+ascii_bytes = record {
+  digit = λ c h. omega arith;
+  dash = omega arith;
+  colon = omega arith;
+  point = omega arith;
+  letter = omega arith;
+  space = omega arith;
+}
+
+ascii_from : (bs : List ℕ) → AllByRecursion (λ c. c < 128) bs → IsAscii bs
+ascii_from [] h i = omega arith
+ascii_from (b ∷ bs) h zero = h.0
+ascii_from (b ∷ bs) h (suc i) = ascii_from bs h.1 i
+
+pub printed_ascii : (t : ℤ) (k : ℕ) (text : List ℕ) → IsPrinted t k text → IsAscii text
+printed_ascii t k text p =
+    let f = p.fields in
+    let before = holds_before_zone (λ c. c < 128) ascii_bytes text f p.weak in
+    let zone : AllByRecursion (λ c. c < 128) (zone_text f.zone) = rw p.zone (omega arith, tt) in
+    let all = all_append (λ c. c < 128) (time_text f ++ fraction_text f.fraction) (zone_text f.zone) before zone in
+    ascii_from text (subst (AllByRecursion (λ c. c < 128)) (sym p.weak.shown) all)
+
+-- the date and the time of a moment of 1970 to 9999
+date_time_of : ℕ → DateTime
+date_time_of t = record {
+  date = date_of (t / 1_000_000_000 / 86_400);
+  hour = t / 1_000_000_000 % 86_400 / 3_600;
+  minute = t / 1_000_000_000 % 86_400 / 60 % 60;
+  second = t / 1_000_000_000 % 60;
+  nanos = t % 1_000_000_000;
+}
+
+clock_sum : (d s u n : ℕ) → d ≡ s / 86_400 → s ≡ u / 1_000_000_000 → n ≡ u % 1_000_000_000
+    → (d * 86_400 + s % 86_400 / 3_600 * 3_600 + s % 86_400 / 60 % 60 * 60 + s % 60) * 1_000_000_000 + n ≡ u
+clock_sum d s u n e f g = omega arith
+
+date_time_is : (t : ℕ) → t < 253_402_300_800 * 1_000_000_000 → IsDateTimeOf (date_time_of t) (pos t)
+unfolding date_time_of
+date_time_is t h =
+    let secs = t / 1_000_000_000 in
+    let late : secs < 253_402_300_800 = omega arith in
+    let date = date_of_is (secs / 86_400) (omega arith) in
+    record {
+      date = date.0;
+      hour = clock_hour secs;
+      minute = clock_minute secs;
+      second = clock_second secs;
+      nanos = omega arith;
+      sum = ap pos (clock_sum _ secs t (t % 1_000_000_000) date.1 refl refl);
+    } where
+      clock_hour : (s : ℕ) → s % 86_400 / 3_600 ≤ 23
+      clock_hour s = omega arith
+
+      clock_minute : (s : ℕ) → s % 86_400 / 60 % 60 ≤ 59
+      clock_minute s = omega arith
+
+      clock_second : (s : ℕ) → s % 60 ≤ 59
+      clock_second s = omega arith
+
+-- the text that is found for such a moment is its printed one
+found_printed : (t k : ℕ) → k ≤ 9 → t < 253_402_300_800 * 1_000_000_000 → IsPrinted (pos t) k (written (fields_at t k))
+unfolding date_time_of
+found_printed t k small within = shown_printed (date_time_of t) (pos t) k small (date_time_is t within)
+
+-- the text that `Display` names is the printed one
+text_told : (t : ℤ) (k : ℕ) (text : List ℕ) → k ≤ 9 → moment_text t k ≡ Some text → IsPrintable t × IsPrinted t k text
+unfolding moment_text
+text_told (negsuc t) k text small h = absurd (none-some _ h)
+text_told (pos t) k text small h = by_test (nat_lt t (253_402_300_800 * 1_000_000_000)) refl h where
+  by_test : (b : Bool) → nat_lt t (253_402_300_800 * 1_000_000_000) ≡ b → (if b then Some (written (fields_at t k)) else None) ≡ Some text
+      → IsPrintable (pos t) × IsPrinted (pos t) k text
+  by_test true e s =
+      let within : t < 253_402_300_800 * 1_000_000_000 = ltb-true _ _ e in
+      ((omega (arith, ints), omega (arith, ints)), subst (IsPrinted (pos t) k) (same_Some _ _ s) (found_printed t k small within))
+  by_test false e s = absurd (none-some _ s)
+
+text_from : (t : ℤ) (k : ℕ) (text : List ℕ) → k ≤ 9 → IsPrintable t → IsPrinted t k text → moment_text t k ≡ Some text
+unfolding moment_text
+text_from (negsuc t) k text small h p = absurd (omega (arith, ints, h.0))
+text_from (pos t) k text small h p =
+    let within : t < 253_402_300_800 * 1_000_000_000 = omega (arith, ints, h.1) in
+    rw (lt-ltb t (253_402_300_800 * 1_000_000_000) within) (ap Some (one_text (pos t) k (written (fields_at t k)) text small (found_printed t k small within) p))
+
+pub text_displayed : (t : ℤ) (k : ℕ) (text : List ℕ) → k ≤ 9 → (moment_text t k ≡ Some text) ↔ (IsPrintable t × IsPrinted t k text)
+text_displayed t k text small = (text_told t k text small, (λ p. text_from t k text small p.0 p.1))
+
+pub printed_text_is : (x : Rfc3339Timestamp) (text : List ℕ) → IsPrintable (moment_kept x) → IsTextOf x text → printed_text x ≡ Some text
+printed_text_is x text h p = text_from (moment_kept x) (places_kept x) text (places_kept_bound x) h p
+
+-- a printed text reads back as the moment, cut
+pub printed_reads : (t : ℤ) (k : ℕ) (text : List ℕ) → IsPrinted t k text → ReadsAs text (cut t k)
+printed_reads t k text p =
+    let zone : p.fields.zone ≢ Nothing = λ e. absurd (let same : Letter_Z ≡ Nothing = sym p.zone ∙ e in let no : ⊥ = cc in no) in
+    record {
+      strict = record { fields = p.fields; strict = record { weak = p.weak; separator = p.separator; zone = zone }; moment = sym p.moment };
+      weak = record { fields = p.fields; weak = p.weak; moment = sym p.moment };
+    }
+
+pub one_printed : (t : ℤ) (k : ℕ) → k ≤ 9 → IsPrintable t → OnePrinted t k
+one_printed (negsuc t) k small h = absurd (omega (arith, ints, h.0))
+one_printed (pos t) k small h =
+    let within : t < 253_402_300_800 * 1_000_000_000 = omega (arith, ints, h.1) in
+    let printed = found_printed t k small within in
+    record {
+      text = written (fields_at t k);
+      printed = printed;
+      only = λ other p. one_text (pos t) k other (written (fields_at t k)) small p printed;
+      reads = printed_reads (pos t) k (written (fields_at t k)) printed;
+    }

@@ -1,0 +1,173 @@
+-- A text that shows parts passes the checks, and the parts at its places are these.
+use Rattle.std.proofs.Common.{◌≡◌, ℕ, ◌+◌, ◌*◌, ◌/◌, ◌%◌, ◌≤◌, List, [], ◌∷◌, ◌++◌, length, drop, refl, sym, ap, subst, ◌∙◌, arith}
+use Rattle.std.specs.Prelude.{Bool, true, false, not, ◌||◌, ◌==◌, slice_index, Option, Some, None, if◌then◌else◌}
+use Rattle.std.specs.Int.{IsInRange}
+use Rattle.std.proofs.lemmas.Bool.{le-leb, and_from}
+use Rattle.humantime.specs.declared.calendar.Date.{Date}
+use Rattle.std.proofs.lemmas.Bool.Decides.{nat_tests}
+use Rattle.humantime.specs.Calendar.Years.{days_in_month}
+use Rattle.humantime.specs.Calendar.Dates.{IsDate}
+use Rattle.humantime.specs.Timestamps.Digits.{AreDigits}
+use Rattle.humantime.specs.Timestamps.Fields.{Separator, Letter_T, Space, Zone, Nothing, Letter_Z, Offset, Fields, fraction_text, fraction_digits, zone_text, written, IsWeak}
+use Rattle.humantime.specs.Timestamps.Checks.{two_at, is_zone, has_signs, has_two, ends_whole, ends_fraction, past_digits}
+use Rattle.humantime.specs.References.Timestamps.Reading.{front_digits, zone_of, fields_of, date_at}
+use Rattle.humantime.proofs.Timestamps.Reading.Checks.{Passes, Pairs, pairs_from}
+use Rattle.humantime.proofs.Timestamps.Reading.Fractions.{is_digit_from}
+use Rattle.humantime.proofs.Timestamps.Reading.Places.{two_at_is, in_range_from}
+
+-- two digits at a place, read back
+pub two_back : (b : List ℕ) (k m n : ℕ) → slice_index b k ≡ 48 + m → slice_index b (k + 1) ≡ 48 + n → m ≤ 9 → n ≤ 9
+    → (has_two b k ≡ true) × (two_at b k ≡ m * 10 + n)
+unfolding has_two
+two_back b k m n first second h i =
+    let range : IsInRange 48 57 (slice_index b k) = (omega arith, omega arith) in
+    let next : IsInRange 48 57 (slice_index b (k + 1)) = (omega arith, omega arith) in
+    let digits = and_from _ _ (is_digit_from (slice_index b k) range) (is_digit_from (slice_index b (k + 1)) next) in
+    (digits, two_at_is b k digits ∙ omega arith)
+
+pub month_most : (y m : ℕ) → days_in_month y m ≤ 31
+month_most y m = grind (arith, nat_tests)
+
+four_back : (y : ℕ) → y ≤ 9999
+    → (y / 1000 ≤ 9) × (y / 100 % 10 ≤ 9) × (y / 10 % 10 ≤ 9) × (y % 10 ≤ 9)
+    × ((y / 1000 * 10 + y / 100 % 10) * 100 + (y / 10 % 10 * 10 + y % 10) ≡ y)
+four_back y h = (omega arith, omega arith, omega arith, omega arith, omega arith)
+
+two_digits_back : (n : ℕ) → n ≤ 99 → (n / 10 ≤ 9) × (n % 10 ≤ 9) × (n / 10 * 10 + n % 10 ≡ n)
+two_digits_back n h = (omega arith, omega arith, omega arith)
+
+-- digits and then a zone
+past_back : (ds : List ℕ) (z : Zone) → AreDigits ds → past_digits (ds ++ zone_text z) ≡ zone_text z
+past_back [] Nothing digits = refl
+past_back [] Letter_Z digits = refl
+past_back [] Offset digits = refl
+past_back (c ∷ cs) z digits =
+    let digit = is_digit_from c digits.0 in
+    rw digit (past_back cs z digits.1)
+
+front_back : (ds : List ℕ) (z : Zone) → AreDigits ds → front_digits (ds ++ zone_text z) ≡ ds
+front_back [] Nothing digits = refl
+front_back [] Letter_Z digits = refl
+front_back [] Offset digits = refl
+front_back (c ∷ cs) z digits =
+    let digit = is_digit_from c digits.0 in
+    rw digit (ap (λ (xs : List ℕ). c ∷ xs) (front_back cs z digits.1))
+
+zone_is : (z : Zone) → is_zone (zone_text z) ≡ true
+zone_is Nothing = refl
+zone_is Letter_Z = refl
+zone_is Offset = refl
+
+zone_back : (z : Zone) → z ≡ zone_of (zone_text z)
+zone_back Nothing = refl
+zone_back Letter_Z = refl
+zone_back Offset = refl
+
+-- what stands after date and time
+abbrev end_text : Option (List ℕ) → Zone → List ℕ
+end_text fraction zone = fraction_text fraction ++ zone_text zone
+
+abbrev begins_point : List ℕ → Bool
+begins_point r = slice_index r 0 == 46
+
+no_point : (z : Zone) → begins_point (zone_text z) ≡ false
+no_point Nothing = refl
+no_point Letter_Z = refl
+no_point Offset = refl
+
+end_whole : (q : Option (List ℕ)) (z : Zone) → (begins_point (end_text q z) || is_zone (end_text q z)) ≡ true
+end_whole None z = rw (no_point z) (zone_is z)
+end_whole (Some ds) z = refl
+
+end_fraction : (q : Option (List ℕ)) (z : Zone) → AreDigits (fraction_digits q)
+    → (not (begins_point (end_text q z)) || is_zone (past_digits (drop 1 (end_text q z)))) ≡ true
+end_fraction None z digits = rw (no_point z) refl
+end_fraction (Some ds) z digits = rw (past_back ds z digits) (zone_is z)
+
+fraction_back : (q : Option (List ℕ)) (z : Zone) → AreDigits (fraction_digits q)
+    → q ≡ (if begins_point (end_text q z) then Some (front_digits (drop 1 (end_text q z))) else None)
+fraction_back None z digits = rw (no_point z) refl
+fraction_back (Some ds) z digits = rw (front_back ds z digits) refl
+
+end_zone_back : (q : Option (List ℕ)) (z : Zone) → AreDigits (fraction_digits q)
+    → z ≡ zone_of (if begins_point (end_text q z) then past_digits (drop 1 (end_text q z)) else end_text q z)
+end_zone_back None z digits = rw (no_point z) (zone_back z)
+end_zone_back (Some ds) z digits = rw (past_back ds z digits) (zone_back z)
+
+abbrev parts : Date → Separator → ℕ → ℕ → ℕ → Option (List ℕ) → Zone → Fields
+parts date separator hour minute second fraction zone = record {
+  date = date;
+  separator = separator;
+  hour = hour;
+  minute = minute;
+  second = second;
+  fraction = fraction;
+  zone = zone;
+}
+
+separator_back : (date : Date) (s : Separator) (h i n : ℕ) (q : Option (List ℕ)) (z : Zone)
+    → (has_signs (written (parts date s h i n q z)) ≡ true)
+    × (s ≡ (if slice_index (written (parts date s h i n q z)) 10 == 84 then Letter_T else Space))
+unfolding has_signs
+separator_back date Letter_T h i n q z = (refl, refl)
+separator_back date Space h i n q z = (refl, refl)
+
+written_passes : (f : Fields) → IsWeak (written f) f → Passes (written f) × (f ≡ fields_of (written f))
+unfolding ends_whole ends_fraction
+written_passes f w =
+    let b = written f in
+    let most = month_most f.date.year f.date.month in
+    let y = four_back f.date.year w.date.0.1 in
+    let m = two_digits_back f.date.month (omega (arith, w.date.1.1)) in
+    let d = two_digits_back f.date.day (omega (arith, w.date.2.1, most)) in
+    let h = two_digits_back f.hour (omega (arith, w.hour)) in
+    let i = two_digits_back f.minute (omega (arith, w.minute)) in
+    let s = two_digits_back f.second (omega (arith, w.second)) in
+    let century = two_back b 0 (f.date.year / 1000) (f.date.year / 100 % 10) refl refl y.0 y.1 in
+    let year = two_back b 2 (f.date.year / 10 % 10) (f.date.year % 10) refl refl y.2 y.3 in
+    let month = two_back b 5 (f.date.month / 10) (f.date.month % 10) refl refl m.0 m.1 in
+    let day = two_back b 8 (f.date.day / 10) (f.date.day % 10) refl refl d.0 d.1 in
+    let hour = two_back b 11 (f.hour / 10) (f.hour % 10) refl refl h.0 h.1 in
+    let minute = two_back b 14 (f.minute / 10) (f.minute % 10) refl refl i.0 i.1 in
+    let second = two_back b 17 (f.second / 10) (f.second % 10) refl refl s.0 s.1 in
+    let separator = separator_back f.date f.separator f.hour f.minute f.second f.fraction f.zone in
+    let year_is : f.date.year ≡ two_at b 0 * 100 + two_at b 2 = omega (arith, century.1, year.1, y.4) in
+    let month_is : f.date.month ≡ two_at b 5 = omega (arith, month.1, m.2) in
+    let day_is : f.date.day ≡ two_at b 8 = omega (arith, day.1, d.2) in
+    let hour_is : f.hour ≡ two_at b 11 = omega (arith, hour.1, h.2) in
+    let minute_is : f.minute ≡ two_at b 14 = omega (arith, minute.1, i.2) in
+    let second_is : f.second ≡ two_at b 17 = omega (arith, second.1, s.2) in
+    let date_is : f.date ≡ date_at b = λ j. record { year = year_is j; month = month_is j; day = day_is j } in
+    let pairs : Pairs b = record {
+      century = century.0;
+      year = year.0;
+      month = month.0;
+      day = day.0;
+      hour = hour.0;
+      minute = minute.0;
+      second = second.0;
+    } in
+    let passes : Passes b = record {
+      long = le-leb 19 (length b) (omega arith);
+      signs = separator.0;
+      digits = pairs_from b pairs;
+      range = in_range_from b (subst IsDate date_is w.date) (omega (arith, hour_is, w.hour)) (omega (arith, minute_is, w.minute)) (omega (arith, second_is, w.second));
+      whole = end_whole f.fraction f.zone;
+      fraction = end_fraction f.fraction f.zone w.fraction;
+    } in (
+      passes,
+      λ j. record {
+        date = date_is j;
+        separator = separator.1 j;
+        hour = hour_is j;
+        minute = minute_is j;
+        second = second_is j;
+        fraction = fraction_back f.fraction f.zone w.fraction j;
+        zone = end_zone_back f.fraction f.zone w.fraction j;
+      },
+    )
+
+pub weak_fields : (b : List ℕ) (f : Fields) → IsWeak b f → Passes b × (f ≡ fields_of b)
+weak_fields b f w =
+    let here : IsWeak (written f) f = subst (λ (t : List ℕ). IsWeak t f) w.shown w in
+    subst (λ (t : List ℕ). Passes t × (f ≡ fields_of t)) (sym w.shown) (written_passes f here)

@@ -1,9 +1,0 @@
-use Rattle.std.proofs.Common.{arith}
-use Rattle.std.proofs.lemmas.List.FromFn.{get_or-map-range_with_len}
-use Rattle.humantime.specs.Characters.{class_of, white_spaces}
-use Rattle.humantime.specs.ClassCodes.{code_of}
-use Rattle.humantime.proofs.duration.class.ascii_code.Goals as goal
-
-pub returns : goal.returns
-unfolding class_of white_spaces
-returns c = get_or-map-range_with_len (λ k. code_of (class_of k)) 0 128 c.args.c c.args.c 0 c.requires (omega arith)

@@ -1,0 +1,13 @@
+use Rattle.std.proofs.Common.{◌≡◌, sym, ap, subst, ◌∙◌}
+use Rattle.humantime.specs.Durations.Counts.{Canon}
+use Rattle.humantime.specs.References.Durations.Printing.{duration_text}
+use Rattle.humantime.proofs.Durations.Printing.GreatestCounts.{text_is_canon}
+use Rattle.humantime.proofs.duration.printing.print.FormattedDuration.text.Goals as goal
+
+pub returns-clause-text : goal.returns-clause-text
+returns-clause-text c =
+    let kept : c.self.inside.value ≡ c.args.self.now = cc in
+    c.text.ensures ∙ c.write_duration.ensures.written ∙ ap duration_text kept
+
+pub returns-clause-canon : goal.returns-clause-canon
+returns-clause-canon c = subst (Canon c.args.self.now) (sym (returns-clause-text c)) (text_is_canon c.args.self.now)

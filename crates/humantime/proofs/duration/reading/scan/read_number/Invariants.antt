@@ -1,0 +1,10 @@
+use Rattle.std.proofs.Common.{◌-◌, length, drop, IsCharBoundary}
+use Rattle.std.specs.Str.{chars}
+use Rattle.humantime.proofs.Durations.Bytes.Numbers.{IsAt}
+use Rattle.humantime.proofs.duration.reading.scan.read_number.Given as goal
+
+abbrev pub invariant-loop-at : goal.invariant-loop-at
+invariant-loop-at l = record { place : IsCharBoundary l.text l.at; read : IsAt (chars l.text) l.value (chars (drop l.at l.text)) }
+
+abbrev pub decreases-loop-at : goal.decreases-loop-at
+decreases-loop-at l = length l.text - l.at

@@ -1,0 +1,117 @@
+-- The characters of a duration's text.
+use Rattle.std.specs.Prelude.{◌≡◌, ℕ, ◌-◌, Bool, true, false, ◌||◌, ◌==◌, List, [], ◌∷◌, length, if◌then◌else◌, encode_utf8_all, filter}
+use Rattle.std.specs.Char.{char_set_contains, is_ascii_digit, is_ascii_alphabetic}
+use Rattle.std.specs.Str.Parse.{digits_value}
+use Rattle.humantime.specs.declared.duration.reading.class.Class.{Class}
+use Rattle.humantime.specs.declared.duration.reading.class.Class.TheVariants.{White, Digit, Letter, Point, Other}
+
+-- the characters of white space, one by one: those that Unicode calls so
+unfoldable pub white_spaces : List ℕ
+white_spaces =
+    0x9 ∷ 0xa ∷ 0xb ∷ 0xc ∷ 0xd ∷ 0x20 ∷ 0x85 ∷ 0xa0 ∷ 0x1680 ∷ 0x2000 ∷ 0x2001 ∷ 0x2002 ∷ 0x2003 ∷ 0x2004 ∷ 0x2005 ∷ 0x2006
+    ∷ 0x2007 ∷ 0x2008 ∷ 0x2009 ∷ 0x200a ∷ 0x2028 ∷ 0x2029 ∷ 0x202f ∷ 0x205f ∷ 0x3000 ∷ []
+
+-- What a character is: white space, a digit 0 to 9, a letter a to z, A to Z, the micro sign or the Greek letter mu, a point,
+-- or anything else.
+unfoldable pub class_of : ℕ → Class
+class_of c =
+    if char_set_contains white_spaces c then White
+    else if is_ascii_digit c then Digit
+    else if is_ascii_alphabetic c || c == 0xb5 || c == 0x3bc then Letter
+    else if c == 46 then Point
+    else Other
+
+abbrev pub white : Class → Bool
+white White = true
+white Digit = false
+white Letter = false
+white Point = false
+white Other = false
+
+abbrev pub digit : Class → Bool
+digit White = false
+digit Digit = true
+digit Letter = false
+digit Point = false
+digit Other = false
+
+abbrev pub letter : Class → Bool
+letter White = false
+letter Digit = false
+letter Letter = true
+letter Point = false
+letter Other = false
+
+abbrev pub point : Class → Bool
+point White = false
+point Digit = false
+point Letter = false
+point Point = true
+point Other = false
+
+abbrev pub is_ws : ℕ → Bool
+is_ws c = white (class_of c)
+
+abbrev pub is_digit : ℕ → Bool
+is_digit c = digit (class_of c)
+
+abbrev pub is_letter : ℕ → Bool
+is_letter c = letter (class_of c)
+
+abbrev pub is_point : ℕ → Bool
+is_point c = point (class_of c)
+
+abbrev pub IsDigit : ℕ → Type 0
+IsDigit c = class_of c ≡ Digit
+
+-- what a number holds: digits, and white space between and after them
+abbrev pub is_numeric : ℕ → Bool
+is_numeric c = is_digit c || is_ws c
+
+-- the longest front of a text whose characters pass a test, and the text past it
+abbrev pub leading : (ℕ → Bool) → List ℕ → List ℕ
+leading p [] = []
+leading p (c ∷ cs) = if p c then c ∷ leading p cs else []
+
+abbrev pub past : (ℕ → Bool) → List ℕ → List ℕ
+past p [] = []
+past p (c ∷ cs) = if p c then past p cs else c ∷ cs
+
+-- whether a text begins, and whether it ends, with a character that passes
+abbrev pub begins : (ℕ → Bool) → List ℕ → Bool
+begins p [] = false
+begins p (c ∷ cs) = p c
+
+abbrev pub ends : (ℕ → Bool) → List ℕ → Bool
+ends p [] = false
+ends p (c ∷ []) = p c
+ends p (c ∷ d ∷ cs) = ends p (d ∷ cs)
+
+-- the digits of a text, and the number that a list of digits reads as
+abbrev pub digits : List ℕ → List ℕ
+digits cs = filter is_digit cs
+
+abbrev pub decimal_value : List ℕ → ℕ
+decimal_value ds = digits_value 10 ds
+
+-- a digit and those that are left behind it; a zero with none behind it is dropped
+abbrev pub kept : ℕ → List ℕ → List ℕ
+kept d [] = if d == 48 then [] else d ∷ []
+kept d (e ∷ es) = d ∷ e ∷ es
+
+-- the digits without the zeros at their end
+unfoldable pub significant : List ℕ → List ℕ
+significant [] = []
+significant (d ∷ ds) = kept d (significant ds)
+
+-- the greatest number that a u64 holds
+abbrev pub u64_max : ℕ
+u64_max = 18446744073709551615
+
+-- how many bytes a text takes in UTF-8
+abbrev pub byte_length : List ℕ → ℕ
+byte_length cs = length (encode_utf8_all cs)
+
+-- the offset in bytes at which the last part of a text begins: the length of what stands before it
+abbrev pub offset_of : List ℕ → List ℕ → ℕ
+offset_of text rest = byte_length text - byte_length rest

@@ -1,0 +1,75 @@
+-- A duration in nine counts, and its one printed text.
+use Rattle.std.specs.Prelude.{◌≡◌, ◌⊎◌, ℕ, zero, suc, ◌+◌, ◌*◌, ◌<◌, Bool, true, false, ◌&&◌, List, [], ◌∷◌, ◌++◌, length, codes, decimal, nat_lt, if◌then◌else◌}
+use Rattle.std.specs.List.{join_with_byte}
+use Rattle.humantime.specs.Values.Amounts.{nanos_per_second}
+
+-- the weights of the counts in nanoseconds: years, months, days, hours, minutes, seconds, milliseconds, microseconds and
+-- nanoseconds
+abbrev pub weights : List ℕ
+weights =
+    31557600 * nanos_per_second ∷ 2630016 * nanos_per_second ∷ 86400 * nanos_per_second ∷ 3600 * nanos_per_second
+    ∷ 60 * nanos_per_second ∷ nanos_per_second ∷ 1000000 ∷ 1000 ∷ 1 ∷ []
+
+abbrev pub weighted_sum : List ℕ → List ℕ → ℕ
+weighted_sum [] counts = 0
+weighted_sum (w ∷ ws) [] = 0
+weighted_sum (w ∷ ws) (c ∷ cs) = w * c + weighted_sum ws cs
+
+-- the first count that differs is less
+abbrev pub IsBefore : List ℕ → List ℕ → Type 0
+IsBefore [] ys = ⊥
+IsBefore (x ∷ xs) [] = ⊥
+IsBefore (x ∷ xs) (y ∷ ys) = (x < y) ⊎ ((x ≡ y) × IsBefore xs ys)
+
+-- The counts have this sum, and no other counts with it are lexicographically greater.
+pub record AreGreatest (ws : List ℕ) (d : ℕ) (counts : List ℕ) : Type 0 where
+  pub as_many : length counts ≡ length ws
+  pub sum : weighted_sum ws counts ≡ d
+  pub greatest : (others : List ℕ) → length others ≡ length ws → weighted_sum ws others ≡ d → ¬ (IsBefore counts others)
+
+-- the nine counts of d nanoseconds
+abbrev pub Counts : ℕ → List ℕ → Type 0
+Counts d counts = AreGreatest weights d counts
+
+-- What stands behind a count, and whether it takes an s above one.
+pub record Suffix : Type 0 where
+  pub text : List ℕ
+  pub plural : Bool
+
+abbrev pub with_plural : List ℕ → Suffix
+with_plural text = record { text = text; plural = true }
+
+abbrev pub without_plural : List ℕ → Suffix
+without_plural text = record { text = text; plural = false }
+
+-- the bytes of `µs`, spelled with the micro sign
+abbrev pub micros : List ℕ
+micros = 0xc2 ∷ 0xb5 ∷ codes "s"
+
+abbrev pub suffixes : List Suffix
+suffixes =
+    with_plural (codes "year") ∷ with_plural (codes "month") ∷ with_plural (codes "day")
+    ∷ without_plural (codes "h") ∷ without_plural (codes "m") ∷ without_plural (codes "s")
+    ∷ without_plural (codes "ms") ∷ without_plural micros ∷ without_plural (codes "ns") ∷ []
+
+-- a count's digits and its suffix
+abbrev pub printed_count : ℕ → Suffix → List ℕ
+printed_count n s = decimal n ++ s.text ++ (if s.plural && nat_lt 1 n then codes "s" else [])
+
+-- each count that isn't zero, with its suffix
+abbrev pub printed_counts : List ℕ → List Suffix → List (List ℕ)
+printed_counts [] ss = []
+printed_counts (n ∷ ns) [] = []
+printed_counts (zero ∷ ns) (s ∷ ss) = printed_counts ns ss
+printed_counts (suc n ∷ ns) (s ∷ ss) = printed_count (suc n) s ∷ printed_counts ns ss
+
+-- joined by one space; nothing is zero seconds
+abbrev pub joined_by_space : List (List ℕ) → List ℕ
+joined_by_space [] = codes "0s"
+joined_by_space (p ∷ ps) = join_with_byte 32 (p ∷ ps)
+
+-- The one printed text of a duration of d nanoseconds: its counts, each that isn't zero with its suffix.
+pub record Canon (d : ℕ) (text : List ℕ) : Type 0 where
+  pub counts : List ℕ
+  pub are : Counts d counts
+  pub shown : text ≡ joined_by_space (printed_counts counts suffixes)

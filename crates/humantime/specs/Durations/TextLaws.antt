@@ -1,0 +1,45 @@
+-- Laws of accepted texts: without their white space, one behind the other, and with their spans in another order.
+use Rattle.std.specs.Prelude.{◌≡◌, ◌≢◌, ◌↔◌, ◌⊎◌, ℕ, ◌+◌, List, ◌++◌, codes, filter, not, IsPermutation}
+use Rattle.humantime.specs.Durations.Characters.{is_ws}
+use Rattle.humantime.specs.Durations.Spans.{Span, Reads, additions, AllHaveRoom, Accepted}
+use Rattle.humantime.specs.Durations.Faults.{NumberOverflow, HasFault}
+
+-- the text without its white space
+abbrev pub without_white_space : List ℕ → List ℕ
+without_white_space text = filter (λ c. not (is_ws c)) text
+
+-- what is accepted is accepted without its white space, with the same value
+abbrev pub NeedsNoWhiteSpace : List ℕ → Type 0
+NeedsNoWhiteSpace text = (v : ℕ) → Accepted text v → Accepted (without_white_space text) v
+
+-- what is accepted is exactly `0`, or it is spans
+abbrev pub IsZeroOrSpans : List ℕ → Type 0
+IsZeroOrSpans text = (v : ℕ) → Accepted text v → (text ≡ codes "0") ⊎ ((spans : List Span) × Reads text spans)
+
+-- the additions of the ones and then of the others all have room
+abbrev pub HaveRoomTogether : List Span → List Span → Type 0
+HaveRoomTogether ss ts = AllHaveRoom (additions ss ++ additions ts)
+
+-- accepted texts that are spans, one behind the other, are accepted with the sum exactly where there is room
+abbrev pub JoinedHaveSum : List ℕ → List ℕ → Type 0
+JoinedHaveSum a b = (ss ts : List Span) (u v : ℕ) → Reads a ss → Reads b ts → Accepted a u → Accepted b v
+    → Accepted (a ++ b) (u + v) ↔ HaveRoomTogether ss ts
+
+-- and they are too large exactly where there is none
+abbrev pub JoinedOverflow : List ℕ → List ℕ → Type 0
+JoinedOverflow a b = (ss ts : List Span) (u v : ℕ) → Reads a ss → Reads b ts → Accepted a u → Accepted b v
+    → HasFault (a ++ b) NumberOverflow ↔ ¬ (HaveRoomTogether ss ts)
+
+-- so they are accepted with the sum, or too large
+abbrev pub JoinedHaveSumOrOverflow : List ℕ → List ℕ → Type 0
+JoinedHaveSumOrOverflow a b = (u v : ℕ) → Accepted a u → Accepted b v → a ≢ codes "0" → b ≢ codes "0"
+    → Accepted (a ++ b) (u + v) ⊎ HasFault (a ++ b) NumberOverflow
+
+-- accepted texts whose spans are reorderings of each other have equal values
+abbrev pub ReorderedHaveOneValue : List ℕ → List ℕ → Type 0
+ReorderedHaveOneValue a b = (ss ts : List Span) (u v : ℕ) → Reads a ss → Reads b ts → IsPermutation ss ts
+    → Accepted a u → Accepted b v → u ≡ v
+
+-- the text is no spans
+abbrev pub HasNoSpans : List ℕ → Type 0
+HasNoSpans text = (spans : List Span) → ¬ (Reads text spans)

@@ -1,0 +1,4 @@
+-- Days and years counted without loops over years, and turns of loops.
+pub mod DatesOfDays
+pub mod March
+pub mod Turns

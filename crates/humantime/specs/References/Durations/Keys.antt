@@ -1,0 +1,30 @@
+-- A short word as one number, its key.
+use Rattle.std.specs.Prelude.{ℕ, ◌+◌, ◌*◌, ◌==◌, List, [], ◌∷◌, Option, length, nat_lt, if◌then◌else◌}
+use Rattle.std.specs.Map.{lookup}
+use Rattle.humantime.specs.Durations.Units.{Scale, words}
+
+-- the bytes as the digits of a number to base 256, the first the lowest, below a leading 1
+abbrev pub packed : List ℕ → ℕ
+packed [] = 1
+packed (b ∷ bs) = packed bs * 256 + b
+
+-- that number for at most seven bytes, else 0
+abbrev pub key : List ℕ → ℕ
+key bs = if nat_lt 7 (length bs) then 0 else packed bs
+
+-- the bytes of a word whose letters are ASCII, save the micro sign and the Greek letter mu
+abbrev pub bytes_of : List ℕ → List ℕ
+bytes_of [] = []
+bytes_of (c ∷ cs) =
+    if c == 0xb5 then 0xc2 ∷ 0xb5 ∷ bytes_of cs
+    else if c == 0x3bc then 0xce ∷ 0xbc ∷ bytes_of cs
+    else c ∷ bytes_of cs
+
+-- each word's key, and what the word stands for
+abbrev pub keyed : List (List ℕ × Scale) → List (ℕ × Scale)
+keyed [] = []
+keyed (w ∷ ws) = (key (bytes_of w.0), w.1) ∷ keyed ws
+
+-- what the word with this key stands for, if there is one
+unfoldable pub scale_of_key : ℕ → Option Scale
+scale_of_key k = lookup (λ j. k == j) (keyed words)

@@ -1,0 +1,25 @@
+-- What the code's spans and items say.
+use Rattle.std.specs.Prelude.{Result, Ok, Err, chars}
+use Rattle.std.specs.Str.{drop_trailing_whitespace}
+use Rattle.humantime.specs.declared.duration.error.DurationError.{DurationError}
+use Rattle.humantime.specs.declared.duration.reading.span.Span.{Span as TextSpan}
+use Rattle.humantime.specs.Durations.Faults.{Fault}
+use Rattle.humantime.specs.Durations.Errors.{fault_of}
+use Rattle.humantime.specs.References.Durations.Scanning.{fraction_in}
+use Rattle.humantime.specs.Durations.Slices.{Lent}
+
+-- what a span lends of its text
+abbrev pub lent_of : TextSpan → Lent
+lent_of s = record {
+  number = drop_trailing_whitespace (chars s.integer.now);
+  fraction = fraction_in (chars s.middle.now);
+  unit = chars s.unit.now;
+  start = s.start;
+  end = s.end;
+  value = s.amount.value;
+}
+
+-- a span by what it lends, and an error by the fault that it names
+abbrev pub item_of : Result TextSpan DurationError → Result Lent Fault
+item_of (Ok s) = Ok (lent_of s)
+item_of (Err e) = Err (fault_of e)

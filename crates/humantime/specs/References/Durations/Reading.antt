@@ -1,0 +1,93 @@
+-- Reading from left to right: the plain reference, which private functions meet. Theorems of proofs/ tie it to the
+-- definitions of Spans and Faults.
+use Rattle.std.specs.Prelude.{ℕ, zero, suc, ◌+◌, ◌*◌, ◌/◌, ◌%◌, ◌^◌, ◌||◌, ◌&&◌, ◌==◌, Bool, true, false, List, [], ◌∷◌, length, Option, Some, None, Result, Ok, Err, nat_lt, nat_le, if◌then◌else◌}
+use Rattle.humantime.specs.Values.Amounts.{nanos_per_second}
+use Rattle.humantime.specs.Durations.Characters.{is_ws, is_digit, is_numeric, past, decimal_value, significant, offset_of, byte_length, u64_max}
+use Rattle.humantime.specs.Durations.Units.{Scale, scale_of_word}
+use Rattle.humantime.specs.Durations.Spans.{Span, Addition, nanos_of, additions_of}
+use Rattle.humantime.specs.Durations.Faults.{Fault, InvalidCharacter, NumberExpected, UnknownUnit, NumberOverflow, Empty, number_of, after_number, fraction_of, after_fraction, word_of, after_word, span_of}
+
+-- whether a number or a fraction is too long
+abbrev pub long_fraction : Option (List ℕ) → Bool
+long_fraction None = false
+long_fraction (Some ds) = nat_lt 19 (length (significant ds))
+
+abbrev pub too_long : Span → Bool
+too_long s = nat_lt u64_max (decimal_value s.number) || long_fraction s.fraction
+
+-- what is wrong with a word of which this is known
+abbrev pub stop_word : List ℕ → List ℕ → Option Scale → Option Fault
+stop_word text rest (Some u) = None
+stop_word text rest None = Some (UnknownUnit (offset_of text (after_fraction rest)) (offset_of text (after_word rest)) (word_of rest) (decimal_value (number_of rest)))
+
+-- what is wrong with the span that begins the rest, by its fraction, its word and what follows them
+abbrev pub stop_by : List ℕ → List ℕ → Option (List ℕ) → List ℕ → List ℕ → Option Fault
+stop_by text rest (Some []) [] [] = Some (InvalidCharacter (offset_of text (after_number rest)))
+stop_by text rest (Some []) [] (c ∷ cs) = Some (InvalidCharacter (offset_of text (c ∷ cs)))
+stop_by text rest (Some []) (w ∷ ws) next = Some (InvalidCharacter (offset_of text (after_number rest)))
+stop_by text rest fraction [] [] = Some (UnknownUnit (byte_length text) (byte_length text) [] (decimal_value (number_of rest)))
+stop_by text rest fraction [] (c ∷ cs) = Some (InvalidCharacter (offset_of text (c ∷ cs)))
+stop_by text rest fraction (w ∷ ws) [] = stop_word text rest (scale_of_word (w ∷ ws))
+stop_by text rest fraction (w ∷ ws) (c ∷ cs) =
+    if is_numeric c then stop_word text rest (scale_of_word (w ∷ ws)) else Some (InvalidCharacter (offset_of text (c ∷ cs)))
+
+unfoldable pub stop_at : List ℕ → List ℕ → Option Fault
+stop_at text rest =
+    if too_long (span_of rest) then Some NumberOverflow
+    else stop_by text rest (fraction_of rest) (word_of rest) (after_word rest)
+
+-- a span before what was read after it
+abbrev pub with_span : Span → List Span × Option Fault → List Span × Option Fault
+with_span s r = (s ∷ r.0, r.1)
+
+-- the spans from a rest on, at most n of them, and where they stop
+unfoldable pub read : ℕ → List ℕ → List ℕ → List Span × Option Fault
+read zero text rest = ([], None)
+read (suc n) text [] = ([], None)
+read (suc n) text (c ∷ cs) =
+    if is_digit c
+    then elim (stop_at text (c ∷ cs)) [
+      | None ↦ with_span (span_of (c ∷ cs)) (read n text (past is_ws (after_word (c ∷ cs))))
+      | Some e ↦ ([], Some e)
+    ]
+    else ([], Some (NumberExpected (offset_of text (c ∷ cs))))
+
+-- the spans of a text, and where they stop
+abbrev pub items_from : List ℕ → List ℕ → List Span × Option Fault
+items_from text [] = ([], Some Empty)
+items_from text (c ∷ cs) = read (length (c ∷ cs)) text (c ∷ cs)
+
+unfoldable pub items : List ℕ → List Span × Option Fault
+items text = items_from text (past is_ws text)
+
+-- whether there is room for an addition, and the sum after some, if there is
+abbrev pub room : ℕ → Addition → Bool
+room t x =
+    (if x.base == 1 then nat_le (t % nanos_per_second + x.amount) u64_max else true)
+    && nat_le ((t + nanos_of x) / nanos_per_second) u64_max
+
+unfoldable pub add_all : ℕ → List Addition → Option ℕ
+add_all t [] = Some t
+add_all t (x ∷ xs) = if room t x then add_all (t + nanos_of x) xs else None
+
+abbrev pub is_whole_part : ℕ → List ℕ → Bool
+is_whole_part factor ds = nat_le (decimal_value ds * factor) u64_max && (decimal_value ds * factor % 10 ^ length ds == 0)
+
+abbrev pub fraction_fits : Option ℕ → Option (List ℕ) → Bool
+fraction_fits factor None = true
+fraction_fits None (Some ds) = length (significant ds) == 0
+fraction_fits (Some factor) (Some ds) = is_whole_part factor (significant ds)
+
+abbrev pub fits_at : Option Scale → Span → Bool
+fits_at None s = false
+fits_at (Some u) s = nat_le (decimal_value s.number * u.factor) u64_max && fraction_fits u.fraction_factor s.fraction
+
+-- the sum after t and a span, if the span keeps the limits
+unfoldable pub add_span : ℕ → Span → Option ℕ
+add_span t s = if fits_at (scale_of_word s.word) s then add_all t (additions_of s) else None
+
+-- what the spans add up to after t, unless they break a limit, and then the fault at which they stop
+unfoldable pub settle : ℕ → List Span → Option Fault → Result ℕ Fault
+settle t [] None = Ok t
+settle t [] (Some e) = Err e
+settle t (s ∷ spans) stop = elim (add_span t s) [ None ↦ Err NumberOverflow | Some u ↦ settle u spans stop ]

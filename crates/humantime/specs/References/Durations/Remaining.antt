@@ -1,0 +1,30 @@
+-- What an iterator over spans has left.
+use Rattle.std.specs.Prelude.{◌≡◌, ℕ, ◌==◌, List, [], Option, Result, IfSome, IfErr, length, if◌then◌else◌, chars}
+use Rattle.std.specs.Iterator.{YieldsFirstBy}
+use Rattle.humantime.specs.declared.duration.error.DurationError.{DurationError}
+use Rattle.humantime.specs.declared.duration.reading.span.Span.{Span}
+use Rattle.humantime.specs.declared.duration.reading.iter.SpanIter.{SpanIter}
+use Rattle.humantime.specs.Durations.Characters.{is_ws, past}
+use Rattle.humantime.specs.Durations.Faults.{Fault}
+use Rattle.humantime.specs.Durations.Slices.{Lent}
+use Rattle.humantime.specs.References.Durations.Lending.{left_at}
+use Rattle.humantime.specs.Durations.Errors.{PointsInto}
+use Rattle.humantime.specs.References.Durations.Lents.{item_of}
+
+-- the items to come: none after an error or the end, else those from the offset on that it has reached
+abbrev pub items_left : SpanIter → List (Result Lent Fault)
+items_left i =
+    if i.ended then []
+    else left_at (length i.rest.now == length i.text.now) (chars i.text.now) (past is_ws (chars i.rest.now))
+
+-- the text whose items they are
+abbrev pub text_of : SpanIter → List ℕ
+text_of i = i.text.now
+
+-- a call gave the first of the items to come and left the others, or nothing where none was to come; the text stayed, and
+-- an error points into it
+abbrev pub GivesItem : SpanIter → Option (Result Span DurationError) → SpanIter → Type 0
+GivesItem old result new =
+    YieldsFirstBy item_of items_left old result new
+    × (text_of new ≡ text_of old)
+    × IfSome result (λ item. IfErr item (PointsInto (text_of old)))

@@ -1,0 +1,42 @@
+-- What the code's units stand for.
+use Rattle.std.specs.Prelude.{◌≡◌, ℕ, Bool, true, false, List, [], ◌∷◌, length, Some, None, option_map}
+use Rattle.humantime.specs.declared.unit.Unit.{Unit}
+use Rattle.humantime.specs.declared.unit.Unit.TheVariants.{Nanosecond, Microsecond, Millisecond, Second, Minute, Hour, Day, Week, Month, Year}
+use Rattle.humantime.specs.declared.duration.reading.amount.Fraction.{Fraction}
+use Rattle.humantime.specs.declared.duration.reading.amount.Amount.{Amount}
+use Rattle.humantime.specs.Durations.Characters.{decimal_value, significant}
+use Rattle.humantime.specs.Durations.Units.{Scale, in_nanos, in_seconds_and_nanos, in_seconds, scale_of_word}
+use Rattle.humantime.specs.Durations.Spans.{Span}
+
+abbrev pub scale_of : Unit → Scale
+scale_of Nanosecond = in_nanos 1 None
+scale_of Microsecond = in_nanos 1000 (Some 1000)
+scale_of Millisecond = in_nanos 1000000 (Some 1000000)
+scale_of Second = in_seconds_and_nanos 1
+scale_of Minute = in_seconds_and_nanos 60
+scale_of Hour = in_seconds 3600
+scale_of Day = in_seconds 86400
+scale_of Week = in_seconds 604800
+scale_of Month = in_seconds 2630016
+scale_of Year = in_seconds 31557600
+
+-- a fraction as the number that its digits before the zeros at their end read as, how many these are, and whether there is
+-- a digit at all
+abbrev pub Counted : Type 0
+Counted = ℕ × ℕ × Bool
+
+abbrev pub has_digits : List ℕ → Bool
+has_digits [] = false
+has_digits (d ∷ ds) = true
+
+abbrev pub counted : List ℕ → Counted
+counted ds = (decimal_value (significant ds), length (significant ds), has_digits ds)
+
+abbrev pub parts_of : Fraction → Counted
+parts_of f = (f.value, f.count, f.any)
+
+-- The amount is the one that the span stands for.
+pub record IsAmountOf (a : Amount) (s : Span) : Type 0 where
+  pub unit : scale_of_word s.word ≡ Some (scale_of a.unit)
+  pub value : a.value ≡ decimal_value s.number
+  pub fraction : option_map parts_of a.fraction ≡ option_map counted s.fraction

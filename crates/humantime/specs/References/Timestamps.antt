@@ -1,0 +1,4 @@
+-- Reading and printing timestamps place by place, as private functions do.
+pub mod Fractions
+pub mod Printing
+pub mod Reading

@@ -1,0 +1,97 @@
+-- The parts that a printer shows, and the text of a moment as a function.
+use Rattle.std.specs.Prelude.{◌≡◌, ℕ, zero, suc, ◌+◌, ◌*◌, ◌/◌, ◌%◌, ◌<◌, ◌≤◌, List, take, Option, Some, None, ℤ, pos, negsuc, nat_lt, ◌==◌, if◌then◌else◌}
+use Rattle.humantime.specs.declared.date.print.Rfc3339Timestamp.{Rfc3339Timestamp}
+use Rattle.humantime.specs.declared.date.print.DateTime.{DateTime}
+use Rattle.humantime.specs.declared.date.print.Precision.{Precision}
+use Rattle.humantime.specs.declared.date.print.Precision.TheVariants.{Seconds, Millis, Micros, Nanos}
+use Rattle.humantime.specs.Calendar.Dates.{IsDate, day_of}
+use Rattle.humantime.specs.References.Calendar.DatesOfDays.{date_of}
+use Rattle.humantime.specs.Timestamps.Digits.{nine_digits}
+use Rattle.humantime.specs.Values.Moments.{nano_of}
+use Rattle.humantime.specs.Values.Amounts.{nanos_per_second}
+use Rattle.humantime.specs.Timestamps.Fields.{Letter_T, Letter_Z, Fields, written}
+use Rattle.humantime.specs.Timestamps.Printed.{year_10000, IsPrinted}
+
+-- how many digits the fraction has
+abbrev pub places : Precision → ℕ
+places Seconds = 0
+places Millis = 3
+places Micros = 6
+places Nanos = 9
+
+-- the moment that a printable timestamp keeps, in nanoseconds from 1970
+unfoldable pub moment_kept : Rfc3339Timestamp → ℤ
+moment_kept x = x.moment
+
+-- how many digits its second is printed with
+unfoldable pub places_kept : Rfc3339Timestamp → ℕ
+places_kept x = places x.precision
+
+-- the text is that moment, printed with so many digits
+abbrev pub IsTextOf : Rfc3339Timestamp → List ℕ → Type 0
+IsTextOf x text = IsPrinted (moment_kept x) (places_kept x) text
+
+-- nothing for no digits, and else the first k of nine
+abbrev pub fraction_of : ℕ → ℕ → Option (List ℕ)
+fraction_of n zero = None
+fraction_of n (suc k) = Some (take (suc k) (nine_digits n))
+
+-- the parts of this date and time, with k digits after the second
+abbrev pub fields_shown : DateTime → ℕ → Fields
+fields_shown x k = record {
+  date = x.date;
+  separator = Letter_T;
+  hour = x.hour;
+  minute = x.minute;
+  second = x.second;
+  fraction = fraction_of x.nanos k;
+  zone = Letter_Z;
+}
+
+-- these are the date and the time of the moment t
+pub record IsDateTimeOf (x : DateTime) (t : ℤ) : Type 0 where
+  pub date : IsDate x.date
+  pub hour : x.hour ≤ 23
+  pub minute : x.minute ≤ 59
+  pub second : x.second ≤ 59
+  pub nanos : x.nanos < nanos_per_second
+  pub sum : pos ((day_of x.date * 86_400 + x.hour * 3_600 + x.minute * 60 + x.second) * nanos_per_second + x.nanos) ≡ t
+
+-- the numbers fit their places in the text
+pub record FitsPlaces (x : DateTime) : Type 0 where
+  pub year : x.date.year ≤ 9999
+  pub month : x.date.month ≤ 99
+  pub day : x.date.day ≤ 99
+  pub hour : x.hour ≤ 99
+  pub minute : x.minute ≤ 99
+  pub second : x.second ≤ 99
+  pub nanos : x.nanos < nanos_per_second
+
+-- the parts of the moment t of 1970 or later, with k digits after the second
+abbrev pub fields_at : ℕ → ℕ → Fields
+fields_at t k = record {
+  date = date_of (t / nanos_per_second / 86_400);
+  separator = Letter_T;
+  hour = t / nanos_per_second % 86_400 / 3_600;
+  minute = t / nanos_per_second % 86_400 / 60 % 60;
+  second = t / nanos_per_second % 60;
+  fraction = fraction_of (t % nanos_per_second) k;
+  zone = Letter_Z;
+}
+
+-- the text of the moment t, printed with k digits, where it is one of 1970 to 9999
+unfoldable pub moment_text : ℤ → ℕ → Option (List ℕ)
+moment_text (pos t) k = if nat_lt t year_10000 then Some (written (fields_at t k)) else None
+moment_text (negsuc t) k = None
+
+-- the printed text of a timestamp
+abbrev pub printed_text : Rfc3339Timestamp → Option (List ℕ)
+printed_text x = moment_text (moment_kept x) (places_kept x)
+
+-- how many digits a moment is printed with, where no number of them is asked for
+abbrev pub places_of : ℤ → ℕ
+places_of t = if nano_of t == 0 then 0 else 9
+
+-- and its text with so many
+abbrev pub shortest_text : ℤ → Option (List ℕ)
+shortest_text t = moment_text t (places_of t)

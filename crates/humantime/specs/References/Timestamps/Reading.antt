@@ -1,0 +1,88 @@
+-- The parts that the bytes show, place by place, where no check fails.
+use Rattle.std.specs.Prelude.{ℕ, ◌+◌, ◌*◌, ◌≤◌, min, Bool, ◌==◌, List, [], ◌∷◌, drop, slice_index, codes, ℤ, pos, Option, Some, None, Result, Ok, Err, if◌then◌else◌}
+use Rattle.std.specs.Char.{is_ascii_digit}
+use Rattle.std.specs.List.{list_all}
+use Rattle.std.specs.Str.{byte, bytes_eq}
+use Rattle.humantime.specs.declared.calendar.Date.{Date}
+use Rattle.humantime.specs.declared.date.error.TimestampError.{TimestampError}
+use Rattle.humantime.specs.declared.date.parse.Numbers.{Numbers}
+use Rattle.humantime.specs.Calendar.Dates.{IsDate, day_of}
+use Rattle.humantime.specs.declared.date.error.TimestampError.TheVariants.{InvalidDigit, InvalidFormat}
+use Rattle.humantime.specs.Timestamps.Fields.{Letter_T, Space, Zone, Nothing, Letter_Z, Offset, Fields, fraction_digits, nanos_of, moment_of}
+use Rattle.humantime.specs.Timestamps.Checks.{two_at, past_digits, is_zone, has_point, ends_whole, ends_fraction, weak_checks, strict_checks, first_failed}
+
+-- digits in the first sixteen bytes, but for the signs
+unfoldable pub has_front_digits : List ℕ → Bool
+has_front_digits b = list_all (λ k. is_ascii_digit (slice_index b k)) (0 ∷ 1 ∷ 2 ∷ 3 ∷ 5 ∷ 6 ∷ 8 ∷ 9 ∷ 11 ∷ 12 ∷ 14 ∷ 15 ∷ [])
+
+-- the digits at the front
+abbrev pub front_digits : List ℕ → List ℕ
+front_digits [] = []
+front_digits (c ∷ cs) = if is_ascii_digit c then c ∷ front_digits cs else []
+
+-- the zone that this end shows
+abbrev pub zone_of : List ℕ → Zone
+zone_of b = if bytes_eq b [] then Nothing else (if bytes_eq b (codes "Z") then Letter_Z else Offset)
+
+-- the date in the first ten bytes
+abbrev pub date_at : List ℕ → Date
+date_at b = record { year = two_at b 0 * 100 + two_at b 2; month = two_at b 5; day = two_at b 8 }
+
+-- the numbers in the first nineteen bytes
+abbrev pub numbers_of : List ℕ → Numbers
+numbers_of b = record { date = date_at b; hour = two_at b 11; minute = two_at b 14; second = two_at b 17 }
+
+-- a date that exists, and a time of day, perhaps with a second 60
+pub record AreInRange (x : Numbers) : Type 0 where
+  pub date : IsDate x.date
+  pub hour : x.hour ≤ 23
+  pub minute : x.minute ≤ 59
+  pub second : x.second ≤ 60
+
+-- whole seconds from 1970 to this date and time; second 60 is read as 59
+abbrev pub seconds_to : Numbers → ℕ
+seconds_to x = day_of x.date * 86_400 + x.hour * 3_600 + x.minute * 60 + min x.second 59
+
+-- the fraction, where a point follows date and time
+abbrev pub fraction_at : List ℕ → Option (List ℕ)
+fraction_at b = if has_point b then Some (front_digits (drop 20 b)) else None
+
+-- the zone, after date, time and fraction
+abbrev pub zone_at : List ℕ → Zone
+zone_at b = zone_of (if has_point b then past_digits (drop 20 b) else drop 19 b)
+
+-- all parts
+abbrev pub fields_of : List ℕ → Fields
+fields_of b = record {
+  date = date_at b;
+  separator = (if slice_index b 10 == byte "T" then Letter_T else Space);
+  hour = two_at b 11;
+  minute = two_at b 14;
+  second = two_at b 17;
+  fraction = fraction_at b;
+  zone = zone_at b;
+}
+
+-- the nanoseconds of what stands after a point, or the error of its end
+abbrev pub fraction_answer : List ℕ → Result ℕ TimestampError
+fraction_answer rest = if is_zone (past_digits rest) then Ok (nanos_of (front_digits rest)) else Err InvalidDigit
+
+-- the nanoseconds, or the error of the end
+abbrev pub end_answer : List ℕ → Result ℕ TimestampError
+end_answer b =
+    if ends_whole b
+    then (if ends_fraction b then Ok (nanos_of (fraction_digits (fraction_at b))) else Err InvalidDigit)
+    else Err InvalidFormat
+
+-- the moment t where no check failed, else the error
+abbrev pub answer : Option TimestampError → ℕ → Result ℤ TimestampError
+answer None t = Ok (pos t)
+answer (Some e) t = Err e
+
+-- what a text in weak form reads as: the moment, or the error of the first check that fails
+unfoldable pub weak_answer : List ℕ → Result ℤ TimestampError
+weak_answer b = answer (first_failed (weak_checks b)) (moment_of (fields_of b))
+
+-- and in strict form
+unfoldable pub strict_answer : List ℕ → Result ℤ TimestampError
+strict_answer b = answer (first_failed (strict_checks b)) (moment_of (fields_of b))

@@ -1,0 +1,2 @@
+-- Moments and their parts.
+pub mod MomentLemmas

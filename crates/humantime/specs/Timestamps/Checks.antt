@@ -1,0 +1,92 @@
+-- The checks on a timestamp's bytes, in their order, each with the error of a text that fails it.
+use Rattle.std.specs.Prelude.{ℕ, ◌+◌, ◌*◌, Bool, not, ◌&&◌, ◌||◌, ◌==◌, nat_le, nat_eq, List, [], ◌∷◌, length, drop, slice_index, codes, Option, Some, None, if◌then◌else◌}
+use Rattle.std.specs.Char.{is_ascii_digit}
+use Rattle.std.specs.Int.{is_in_range}
+use Rattle.std.specs.List.{list_all, ends_with}
+use Rattle.std.specs.Str.{byte, bytes_eq}
+use Rattle.std.specs.Str.Parse.{digits_value}
+use Rattle.humantime.specs.declared.date.error.TimestampError.{TimestampError}
+use Rattle.humantime.specs.declared.date.error.TimestampError.TheVariants.{OutOfRange, InvalidDigit, InvalidFormat}
+use Rattle.humantime.specs.Calendar.Years.{days_in_month}
+
+-- the number that the two digits from place k on show
+unfoldable pub two_at : List ℕ → ℕ → ℕ
+two_at b k = digits_value 10 (slice_index b k ∷ slice_index b (k + 1) ∷ [])
+
+-- nothing, `Z` or `+00:00`
+abbrev pub is_zone : List ℕ → Bool
+is_zone b = bytes_eq b [] || bytes_eq b (codes "Z") || bytes_eq b (codes "+00:00")
+
+-- `Z` or `+00:00` at the end
+abbrev pub ends_in_zone : List ℕ → Bool
+ends_in_zone b = ends_with nat_eq b (codes "Z") || ends_with nat_eq b (codes "+00:00")
+
+-- what stands after the digits at the front
+abbrev pub past_digits : List ℕ → List ℕ
+past_digits [] = []
+past_digits (c ∷ cs) = if is_ascii_digit c then past_digits cs else c ∷ cs
+
+-- a date of 1970 or later that exists
+abbrev pub is_date : ℕ → ℕ → ℕ → Bool
+is_date y m d = nat_le 1970 y && is_in_range 1 12 m && is_in_range 1 (days_in_month y m) d
+
+-- at least 20 bytes, a `T` between date and time, and `Z` or `+00:00` at the end
+unfoldable pub is_complete : List ℕ → Bool
+is_complete b = nat_le 20 (length b) && (slice_index b 10 == byte "T") && ends_in_zone b
+
+-- at least 19 bytes
+abbrev pub is_long : List ℕ → Bool
+is_long b = nat_le 19 (length b)
+
+-- `-`, `-`, `T` or a space, `:` and `:` in their places
+unfoldable pub has_signs : List ℕ → Bool
+has_signs b =
+    (slice_index b 4 == byte "-") && (slice_index b 7 == byte "-")
+    && ((slice_index b 10 == byte "T") || (slice_index b 10 == byte " "))
+    && (slice_index b 13 == byte ":") && (slice_index b 16 == byte ":")
+
+-- two digits from place k on
+unfoldable pub has_two : List ℕ → ℕ → Bool
+has_two b k = is_ascii_digit (slice_index b k) && is_ascii_digit (slice_index b (k + 1))
+
+-- digits in all places between the signs
+unfoldable pub has_digits : List ℕ → Bool
+has_digits b = list_all (has_two b) (0 ∷ 2 ∷ 5 ∷ 8 ∷ 11 ∷ 14 ∷ 17 ∷ [])
+
+-- a date of 1970 or later that exists, and a time of day, perhaps with a second 60
+unfoldable pub in_range : List ℕ → Bool
+in_range b =
+    is_date (two_at b 0 * 100 + two_at b 2) (two_at b 5) (two_at b 8)
+    && nat_le (two_at b 11) 23 && nat_le (two_at b 14) 59 && nat_le (two_at b 17) 60
+
+-- a point after date and time
+abbrev pub has_point : List ℕ → Bool
+has_point b = slice_index b 19 == byte "."
+
+-- where no point follows: nothing, `Z` or `+00:00`
+unfoldable pub ends_whole : List ℕ → Bool
+ends_whole b = has_point b || is_zone (drop 19 b)
+
+-- where a point follows: digits, and then nothing, `Z` or `+00:00`
+unfoldable pub ends_fraction : List ℕ → Bool
+ends_fraction b = not (has_point b) || is_zone (past_digits (drop 20 b))
+
+-- the checks of the weak form
+abbrev pub weak_checks : List ℕ → List (Bool × TimestampError)
+weak_checks b =
+    (is_long b, InvalidFormat)
+    ∷ (has_signs b, InvalidFormat)
+    ∷ (has_digits b, InvalidDigit)
+    ∷ (in_range b, OutOfRange)
+    ∷ (ends_whole b, InvalidFormat)
+    ∷ (ends_fraction b, InvalidDigit)
+    ∷ []
+
+-- the checks of the strict form: one more, and it comes first
+abbrev pub strict_checks : List ℕ → List (Bool × TimestampError)
+strict_checks b = (is_complete b, InvalidFormat) ∷ weak_checks b
+
+-- the error of the first check that fails
+abbrev pub first_failed : List (Bool × TimestampError) → Option TimestampError
+first_failed [] = None
+first_failed (check ∷ checks) = if check.0 then first_failed checks else Some check.1

@@ -1,0 +1,33 @@
+-- The laws of timestamps.
+use Rattle.std.specs.Prelude.{◌≡◌, ◌≤◌, ◌↔◌, ℕ, ℤ, Bool, List, slice_index, None, IsTrue}
+use Rattle.std.specs.Cmp.Lexicographic.{slice_cmp}
+use Rattle.std.specs.Ordering.{nat_cmp, int_cmp}
+use Rattle.std.specs.Str.{byte}
+use Rattle.humantime.specs.declared.date.error.TimestampError.{TimestampError}
+use Rattle.humantime.specs.Timestamps.Fields.{Fields, IsWeak, IsStrict, IsWeakMoment, IsStrictMoment}
+use Rattle.humantime.specs.Timestamps.Printed.{cut, IsPrinted}
+use Rattle.humantime.specs.Timestamps.Checks.{ends_in_zone, first_failed}
+
+-- some parts are shown exactly where no check fails, and then no others
+abbrev pub OneTimestamp : List (Bool × TimestampError) → (Fields → Type 0) → Type 0
+OneTimestamp checks IsShown =
+    (((f : Fields) × IsShown f) ↔ (first_failed checks ≡ None))
+    × ((f g : Fields) → IsShown f → IsShown g → f ≡ g)
+
+-- a `T` between date and time, and `Z` or `+00:00` at the end
+abbrev pub IsMarked : List ℕ → Type 0
+IsMarked b = (slice_index b 10 ≡ byte "T") × IsTrue (ends_in_zone b)
+
+-- a text in strict form is one in weak form with these marks
+abbrev pub StrictIsWeak : List ℕ → Type 0
+StrictIsWeak b = (f : Fields) → IsStrict b f ↔ (IsWeak b f × IsMarked b)
+
+-- and its moment is the same
+abbrev pub StrictMomentIsWeak : List ℕ → Type 0
+StrictMomentIsWeak b = (t : ℤ) → IsStrictMoment b t ↔ (IsWeakMoment b t × IsMarked b)
+
+-- two moments, printed with equally many digits: the order of the bytes is that of the moments, cut
+abbrev pub InOrder : ℤ → ℤ → Type 0
+InOrder a b =
+    (k : ℕ) (x y : List ℕ) → k ≤ 9 → IsPrinted a k x → IsPrinted b k y
+    → slice_cmp nat_cmp x y ≡ int_cmp (cut a k) (cut b k)

@@ -1,0 +1,44 @@
+-- The text of a moment, its second cut to a number of digits.
+use Rattle.std.specs.Prelude.{◌≡◌, ℕ, zero, suc, ◌-◌, ◌*◌, ◌^◌, ◌≤◌, List, length, Option, Some, None, ℤ, pos, ◌≤ℤ◌, ◌<ℤ◌, ◌-ℤ◌}
+use Rattle.std.specs.Int.{int_rem_euclid}
+use Rattle.humantime.specs.Values.Amounts.{nanos_per_second}
+use Rattle.humantime.specs.Timestamps.Fields.{Letter_T, Letter_Z, Fields, IsWeak, IsStrictMoment, IsWeakMoment, moment_of}
+
+-- a moment in nanoseconds, cut to k digits after its second
+abbrev pub cut : ℤ → ℕ → ℤ
+cut t k = t -ℤ int_rem_euclid t (pos (10 ^ (9 - k)))
+
+-- no fraction for no digits, and else so many digits
+abbrev pub HasPlaces : Option (List ℕ) → ℕ → Type 0
+HasPlaces fraction zero = fraction ≡ None
+HasPlaces fraction (suc k) = (ds : List ℕ) × (fraction ≡ Some ds) × (length ds ≡ suc k)
+
+-- the text is the moment t, printed with k digits: it shows parts with `T` and `Z` and no second 60, of this moment, cut
+pub record IsPrinted (t : ℤ) (k : ℕ) (text : List ℕ) : Type 0 where
+  pub fields : Fields
+  pub weak : IsWeak text fields
+  pub separator : fields.separator ≡ Letter_T
+  pub zone : fields.zone ≡ Letter_Z
+  pub second : fields.second ≤ 59
+  pub places : HasPlaces fields.fraction k
+  pub moment : pos (moment_of fields) ≡ cut t k
+
+-- the first moment of the year 10000
+abbrev pub year_10000 : ℕ
+year_10000 = 253_402_300_800 * nanos_per_second
+
+-- a moment of 1970 to 9999
+abbrev pub IsPrintable : ℤ → Type 0
+IsPrintable t = (pos 0 ≤ℤ t) × (t <ℤ pos year_10000)
+
+-- in both forms the text reads as this moment
+pub record ReadsAs (text : List ℕ) (t : ℤ) : Type 0 where
+  pub strict : IsStrictMoment text t
+  pub weak : IsWeakMoment text t
+
+-- one text is this moment, printed, and it reads back as the moment, cut
+pub record OnePrinted (t : ℤ) (k : ℕ) : Type 0 where
+  pub text : List ℕ
+  pub printed : IsPrinted t k text
+  pub only : (other : List ℕ) → IsPrinted t k other → other ≡ text
+  pub reads : ReadsAs text (cut t k)

@@ -1,0 +1,210 @@
+//! Durations printed.
+
+ghost use Rattle.std.specs.Prelude.{◌≡◌, ◌≤◌, ◌<◌, ◌↔◌, ℕ, List, [], length, take, chars, IfOk, IfErr, OnErr, Some};
+ghost use Rattle.std.specs.Str.{IsUtf8};
+ghost use Rattle.humantime.specs.Values.Amounts.{nanos_per_second};
+ghost use Rattle.humantime.specs.Durations.Faults.{Fault, HasFault};
+ghost use Rattle.humantime.specs.References.Durations.Answers.{canonical_answer};
+ghost use Rattle.humantime.specs.Durations.Errors.{seen, told_text, PointsInto};
+ghost use Rattle.humantime.specs.Durations.Counts.{Canon};
+ghost use Rattle.humantime.specs.Durations.Canonical.{IsCanonicalOf};
+ghost use Rattle.humantime.specs.References.Durations.Printing.{with_seconds, with_nanos, duration_text};
+ghost use Rattle.humantime.specs.References.Durations.Writing.{written};
+
+use crate::duration::error::DurationError;
+use crate::duration::reading::parse::parse_duration;
+use crate::duration::printing::writer::{Writer, front};
+use crate::value::StdDuration;
+use std::fmt;
+use std::marker::Model;
+
+// How many seconds each unit has.
+const YEAR: u64 = 31_557_600;
+
+const MONTH: u64 = 2_630_016;
+
+const DAY: u64 = 86_400;
+
+const HOUR: u64 = 3_600;
+
+const MINUTE: u64 = 60;
+
+/// A duration that is to be printed.
+///
+/// Contracts see it as its number of nanoseconds.
+///
+/// ```text
+/// format_duration(StdDuration::from_secs(9420)).get_ref().as_secs() == 9420
+/// ```
+#[derive(Clone, Debug, Drop)]
+pub struct FormattedDuration {
+    value: StdDuration,
+}
+
+impl Model for FormattedDuration {
+    ghost use Rattle.std.specs.Prelude.{ℕ};
+
+    ghost Value = { ℕ };
+
+    ghost view = { λ d. d.value };
+}
+
+/// Keeps the duration to print it.
+///
+/// The text is that of the crate: years of 365.25 days, months of 30.44 days, days, hours, minutes, seconds,
+/// milliseconds, microseconds and nanoseconds, each as many as there is room for. Counts of zero are left out,
+/// and years, months and days take an `s` above one. Microseconds are `µs`, with the micro sign U+00B5. No time at
+/// all is `0s`, and no text is longer than 64 bytes.
+///
+/// ```text
+/// format_duration(StdDuration::from_secs(9420)) prints 2h 37m
+/// ```
+pub fn format_duration(val: StdDuration) -> FormattedDuration
+    ensures { result ≡ val }
+{
+    FormattedDuration { value: val }
+}
+
+impl FormattedDuration {
+    /// The duration.
+    ///
+    /// ```text
+    /// format_duration(StdDuration::ZERO).get_ref() == &StdDuration::ZERO
+    /// ```
+    pub fn get_ref(&self) -> &StdDuration
+        ensures { result.now ≡ self.now }
+    {
+        &self.value
+    }
+
+    /// The printed text, lent from the front of the buffer. What the buffer holds after the text may be anything.
+    ///
+    /// ```text
+    /// format_duration(StdDuration::from_secs(90)).text(&mut [0; 64]) == "1m 30s"
+    /// ```
+    pub fn text<'b>(&self, buf: &'b mut [u8; 64]) -> &'b str
+        ensures canon { Canon self.now result.now }
+        ensures text { result.now ≡ duration_text self.now }
+    {
+        let mut writer = Writer::new(buf);
+        write_duration(&mut writer, self.value);
+        writer.text()
+    }
+
+    /// Writes the printed text to the front of the buffer, and says how long it is.
+    fn write(&self, buf: &mut [u8; 64]) -> usize
+        ensures fits { result ≤ 64 }
+        ensures text { take result buf.new ≡ duration_text self.now }
+        ensures utf8 { IsUtf8 (take result buf.new) }
+    {
+        let mut writer = Writer::new(buf);
+        write_duration(&mut writer, self.value);
+        writer.finish()
+    }
+}
+
+/// Asks the sink once, for the whole text, and answers what the sink answers. Width and fill change nothing.
+///
+/// ```text
+/// format!("{:>80}", format_duration(StdDuration::from_secs(90))) == "1m 30s"
+/// ```
+impl fmt::Display for FormattedDuration {
+    ghost output = { λ d. Some (duration_text d) };
+
+    ghost styled_output = { λ d _. Some (duration_text d) };
+
+    fn fmt<W: fmt::Write>(&self, f: &mut fmt::Formatter<W>) -> fmt::Result {
+        let mut buffer = [0; 64];
+        f.write_str(self.text(&mut buffer))
+    }
+}
+
+/// The printed text of the duration that a text spells, lent from the front of the buffer, or else the text's
+/// first fault. At a fault nothing is written to the buffer.
+///
+/// The error lends from the text alone, so it may be kept while the buffer is written again.
+///
+/// ```text
+/// canonical("2h 37min", &mut [0; 64]) == Ok("2h 37m")
+/// ```
+pub fn canonical<'a, 'b>(s: &'a str, buf: &'b mut [u8; 64]) -> Result<&'b str, DurationError<'a>>
+    ensures text { (t : List ℕ) → (told_text result ≡ Ok t) ↔ IsCanonicalOf s.now t }
+    ensures fault { (e : Fault) → (told_text result ≡ Err e) ↔ HasFault (chars s.now) e }
+    ensures answer { told_text result ≡ canonical_answer (chars s.now) }
+    ensures place { IfErr result (PointsInto s.now) }
+{
+    let end = write_canonical(s, buf)?;
+    Ok(front(buf, end))
+}
+
+/// Writes the text of `canonical` to the front of the buffer, and says how long it is.
+fn write_canonical<'a>(s: &'a str, buf: &mut [u8; 64]) -> Result<usize, DurationError<'a>>
+    ensures unchanged { OnErr result (buf.new ≡ buf.old) }
+    ensures fits { IfOk result (λ end. end ≤ 64) }
+    ensures utf8 { IfOk result (λ end. IsUtf8 (take end buf.new)) }
+    ensures answer { seen (λ end. take end buf.new) result ≡ canonical_answer (chars s.now) }
+    ensures place { IfErr result (PointsInto s.now) }
+{
+    let duration = parse_duration(s)?;
+    Ok(format_duration(duration).write(buf))
+}
+
+/// Writes a duration's text.
+fn write_duration(writer: &mut Writer<'_>, duration: StdDuration)
+    requires empty { written writer.old ≡ [] }
+    requires end { writer.old.end ≡ 0 }
+    requires room { length writer.old.bytes.now ≡ 64 }
+    requires utf8 { IsUtf8 (written writer.old) }
+    ensures same_reference { writer.new.bytes.ghost_name ≡ writer.old.bytes.ghost_name }
+    ensures room { length writer.new.bytes.now ≡ 64 }
+    ensures end { writer.new.end ≤ 64 }
+    ensures written { written writer.new ≡ duration_text duration }
+    ensures utf8 { IsUtf8 (written writer.new) }
+{
+    write_seconds(writer, duration.as_secs());
+    write_nanos(writer, duration.subsec_nanos());
+    writer.push_zero_if_empty();
+}
+
+/// Writes the counts of whole seconds.
+#[tactic(auto, unfolding(crate::specs::References::Durations::Printing::with_seconds), using(crate::proofs::Durations::Printing::DecimalLengths::decimal_twelve, crate::proofs::Durations::Printing::DecimalLengths::decimal_two))]
+fn write_seconds(writer: &mut Writer<'_>, secs: u64)
+    requires end { writer.old.end ≡ 0 }
+    requires room { length writer.old.bytes.now ≡ 64 }
+    requires utf8 { IsUtf8 (written writer.old) }
+    ensures same_reference { writer.new.bytes.ghost_name ≡ writer.old.bytes.ghost_name }
+    ensures room { length writer.new.bytes.now ≡ 64 }
+    ensures end { writer.new.end ≤ 45 }
+    ensures written { written writer.new ≡ with_seconds (written writer.old) secs }
+    ensures utf8 { IsUtf8 (written writer.new) }
+{
+    let of_year = secs % YEAR;
+    let of_month = of_year % MONTH;
+    let of_day = of_month % DAY;
+    let of_hour = of_day % HOUR;
+    writer.push_plural(secs / YEAR, "year");
+    writer.push_plural(of_year / MONTH, "month");
+    writer.push_plural(of_month / DAY, "day");
+    writer.push_count(of_day / HOUR, "h");
+    writer.push_count(of_hour / MINUTE, "m");
+    writer.push_count(of_hour % MINUTE, "s");
+}
+
+/// Writes the counts of less than a second.
+#[tactic(auto, unfolding(crate::specs::References::Durations::Printing::with_nanos), using(crate::proofs::Durations::Printing::DecimalLengths::decimal_three))]
+fn write_nanos(writer: &mut Writer<'_>, nanos: u32)
+    requires nanos { nanos < nanos_per_second }
+    requires end { writer.old.end ≤ 45 }
+    requires room { length writer.old.bytes.now ≡ 64 }
+    requires utf8 { IsUtf8 (written writer.old) }
+    ensures same_reference { writer.new.bytes.ghost_name ≡ writer.old.bytes.ghost_name }
+    ensures room { length writer.new.bytes.now ≡ 64 }
+    ensures end { writer.new.end ≤ 64 }
+    ensures written { written writer.new ≡ with_nanos (written writer.old) nanos }
+    ensures utf8 { IsUtf8 (written writer.new) }
+{
+    let of_milli = nanos % 1_000_000;
+    writer.push_count((nanos / 1_000_000) as u64, "ms");
+    writer.push_count((of_milli / 1000) as u64, "µs");
+    writer.push_count((of_milli % 1000) as u64, "ns");
+}

@@ -1,0 +1,169 @@
+//! A text written to the front of a caller's buffer.
+
+ghost use Rattle.std.specs.Prelude.{◌≡◌, ◌≤◌, ◌+◌, ◌++◌, [], length, take, decimal};
+ghost use Rattle.std.specs.Str.{IsUtf8};
+ghost use Rattle.humantime.specs.Durations.Counts.{with_plural, without_plural};
+ghost use Rattle.humantime.specs.References.Durations.Printing.{separated, with_count, or_zero};
+ghost use Rattle.humantime.specs.References.Durations.Writing.{written};
+
+use itoa::Buffer;
+use std::str::from_utf8_unchecked;
+
+/// A buffer, and how many of its bytes are written.
+#[derive(Drop)]
+pub(crate) struct Writer<'b> {
+    bytes: &'b mut [u8],
+    end: usize,
+}
+
+impl<'b> Writer<'b> {
+    /// Nothing written yet.
+    #[inline(always)]
+    pub(crate) fn new(bytes: &'b mut [u8]) -> Writer<'b>
+        ensures same_reference { result.bytes.ghost_name ≡ bytes.entry.ghost_name }
+        ensures room { length result.bytes.now ≡ length bytes.old }
+        ensures end { result.end ≡ 0 }
+        ensures empty { written result ≡ [] }
+        ensures utf8 { IsUtf8 (written result) }
+    {
+        Writer { bytes, end: 0 }
+    }
+
+    /// Writes the text.
+    #[inline(always)]
+    fn push(&mut self, text: &str)
+        requires fits { self.old.end + length text.now ≤ length self.old.bytes.now }
+        requires utf8 { IsUtf8 (written self.old) }
+        ensures same_reference { self.new.bytes.ghost_name ≡ self.old.bytes.ghost_name }
+        ensures room { length self.new.bytes.now ≡ length self.old.bytes.now }
+        ensures end { self.new.end ≡ self.old.end + length text.now }
+        ensures written { written self.new ≡ written self.old ++ text.now }
+        ensures utf8 { IsUtf8 (written self.new) }
+    {
+        let end = self.end + text.len();
+        let bytes = &mut *self.bytes;
+        bytes[self.end..end].copy_from_slice(text.as_bytes());
+        self.end = end;
+    }
+
+    /// Writes the number's decimal digits.
+    #[inline(never)]
+    fn push_number(&mut self, number: u64)
+        requires fits { self.old.end + length (decimal number) ≤ length self.old.bytes.now }
+        requires utf8 { IsUtf8 (written self.old) }
+        ensures same_reference { self.new.bytes.ghost_name ≡ self.old.bytes.ghost_name }
+        ensures room { length self.new.bytes.now ≡ length self.old.bytes.now }
+        ensures end { self.new.end ≡ self.old.end + length (decimal number) }
+        ensures written { written self.new ≡ written self.old ++ decimal number }
+        ensures utf8 { IsUtf8 (written self.new) }
+    {
+        let mut buffer = Buffer::new();
+        self.push(buffer.format(number));
+    }
+
+    /// Writes a space, unless nothing is written.
+    #[inline(always)]
+    fn separate(&mut self)
+        requires fits { self.old.end + 1 ≤ length self.old.bytes.now }
+        requires utf8 { IsUtf8 (written self.old) }
+        ensures same_reference { self.new.bytes.ghost_name ≡ self.old.bytes.ghost_name }
+        ensures room { length self.new.bytes.now ≡ length self.old.bytes.now }
+        ensures end { self.new.end ≤ self.old.end + 1 }
+        ensures first { self.old.end ≡ 0 → self.new.end ≡ 0 }
+        ensures written { written self.new ≡ separated (written self.old) }
+        ensures utf8 { IsUtf8 (written self.new) }
+    {
+        if self.end > 0 {
+            self.push(" ");
+        }
+    }
+
+    /// Writes a count and its unit, with a space before it where it is not the first; a count of zero is left out.
+    #[inline(always)]
+    #[tactic(auto, unfolding(crate::specs::References::Durations::Printing::with_count))]
+    pub(crate) fn push_count(&mut self, count: u64, unit: &str)
+        requires fits { self.old.end + 1 + length (decimal count) + length unit.now ≤ length self.old.bytes.now }
+        requires utf8 { IsUtf8 (written self.old) }
+        ensures same_reference { self.new.bytes.ghost_name ≡ self.old.bytes.ghost_name }
+        ensures room { length self.new.bytes.now ≡ length self.old.bytes.now }
+        ensures end { self.new.end ≤ self.old.end + 1 + length (decimal count) + length unit.now }
+        ensures first { self.old.end ≡ 0 → self.new.end ≤ length (decimal count) + length unit.now }
+        ensures written { written self.new ≡ with_count (written self.old) count (without_plural unit.now) }
+        ensures utf8 { IsUtf8 (written self.new) }
+    {
+        if count == 0 {
+            return;
+        }
+        self.separate();
+        self.push_number(count);
+        self.push(unit);
+    }
+
+    /// Writes a count and its unit as `push_count` does, with an `s` behind the unit of more than one.
+    #[inline(always)]
+    #[tactic(auto, unfolding(crate::specs::References::Durations::Printing::with_count))]
+    pub(crate) fn push_plural(&mut self, count: u64, unit: &str)
+        requires fits { self.old.end + 2 + length (decimal count) + length unit.now ≤ length self.old.bytes.now }
+        requires utf8 { IsUtf8 (written self.old) }
+        ensures same_reference { self.new.bytes.ghost_name ≡ self.old.bytes.ghost_name }
+        ensures room { length self.new.bytes.now ≡ length self.old.bytes.now }
+        ensures end { self.new.end ≤ self.old.end + 2 + length (decimal count) + length unit.now }
+        ensures first { self.old.end ≡ 0 → self.new.end ≤ 1 + length (decimal count) + length unit.now }
+        ensures written { written self.new ≡ with_count (written self.old) count (with_plural unit.now) }
+        ensures utf8 { IsUtf8 (written self.new) }
+    {
+        self.push_count(count, unit);
+        if count > 1 {
+            self.push("s");
+        }
+    }
+
+    /// Writes zero seconds where nothing is written.
+    #[inline(always)]
+    pub(crate) fn push_zero_if_empty(&mut self)
+        requires fits { self.old.end ≤ length self.old.bytes.now }
+        requires room { 2 ≤ length self.old.bytes.now }
+        requires utf8 { IsUtf8 (written self.old) }
+        ensures same_reference { self.new.bytes.ghost_name ≡ self.old.bytes.ghost_name }
+        ensures room { length self.new.bytes.now ≡ length self.old.bytes.now }
+        ensures end { self.new.end ≤ length self.old.bytes.now }
+        ensures written { written self.new ≡ or_zero (written self.old) }
+        ensures utf8 { IsUtf8 (written self.new) }
+    {
+        if self.end == 0 {
+            self.push("0s");
+        }
+    }
+
+    /// How many bytes are written.
+    pub(crate) fn finish(self) -> usize
+        requires fits { self.end ≤ length self.bytes.now }
+        requires utf8 { IsUtf8 (written self) }
+        ensures most { result ≤ length self.entry.bytes.now }
+        ensures text { take result self.exit.0.now ≡ written self.entry }
+        ensures utf8 { IsUtf8 (take result self.exit.0.now) }
+    {
+        let Writer { bytes: _, end } = self;
+        end
+    }
+
+    /// The text that is written.
+    #[inline(always)]
+    pub(crate) fn text(self) -> &'b str
+        requires fits { self.end ≤ length self.bytes.now }
+        requires utf8 { IsUtf8 (written self) }
+        ensures { result.now ≡ written self.entry }
+    {
+        let Writer { bytes, end } = self;
+        unsafe { from_utf8_unchecked(&bytes[..end]) }
+    }
+}
+
+/// The text at the front of a buffer.
+pub(crate) fn front(buf: &[u8], end: usize) -> &str
+    requires fits { end ≤ length buf.now }
+    requires utf8 { IsUtf8 (take end buf.now) }
+    ensures { result.now ≡ take end buf.now }
+{
+    unsafe { from_utf8_unchecked(&buf[..end]) }
+}

@@ -1,0 +1,17 @@
+//! Durations read, in the order in which a text is read: the class of a character (`class`), a step over one (`scan`), a
+//! number and a fraction (`scan`), white space and a word (`slices`), a span (`reader`), the spans of a text (`iter`),
+//! their sum (`sum`), and the whole text (`parse`).
+
+mod amount;
+mod class;
+mod iter;
+mod parse;
+mod reader;
+mod scan;
+mod slices;
+mod span;
+mod sum;
+
+pub use iter::SpanIter;
+pub use parse::{parse_duration, spans};
+pub use span::Span;

@@ -1,0 +1,108 @@
+//! The classes of characters.
+
+ghost use Rattle.std.specs.Prelude.{◌≡◌, ◌<◌, ◌≤◌};
+ghost use Rattle.std.specs.Char.{char_set_contains};
+ghost use Rattle.humantime.specs.Durations.Characters.{class_of, white_spaces};
+ghost use Rattle.humantime.specs.References.Durations.ClassCodes.{code_of};
+
+/// What a character is in a duration's text.
+#[derive(Clone, Copy, PartialEq, Eq, Debug)]
+pub(crate) enum Class {
+    White,
+    Digit,
+    Letter,
+    Point,
+    Other,
+}
+
+// The codes of the classes in the table: white space, digit, letter, point, other.
+const W: u8 = 0;
+
+const D: u8 = 1;
+
+const L: u8 = 2;
+
+const P: u8 = 3;
+
+const O: u8 = 4;
+
+/// The code of each ASCII character's class, sixteen characters a row.
+static ASCII_CODES: [u8; 128] = [
+    O, O, O, O, O, O, O, O, O, W, W, W, W, W, O, O, // 0x00 to 0x0f
+    O, O, O, O, O, O, O, O, O, O, O, O, O, O, O, O, // 0x10 to 0x1f
+    W, O, O, O, O, O, O, O, O, O, O, O, O, O, P, O, // space to '/'
+    D, D, D, D, D, D, D, D, D, D, O, O, O, O, O, O, // '0' to '?'
+    O, L, L, L, L, L, L, L, L, L, L, L, L, L, L, L, // '@' to 'O'
+    L, L, L, L, L, L, L, L, L, L, L, O, O, O, O, O, // 'P' to '_'
+    O, L, L, L, L, L, L, L, L, L, L, L, L, L, L, L, // '`' to 'o'
+    L, L, L, L, L, L, L, L, L, L, L, O, O, O, O, O, // 'p' to 0x7f
+];
+
+/// Whether a character is one of the 25 of white space.
+fn is_white(c: char) -> bool
+    ensures { result ≡ char_set_contains white_spaces c }
+{
+    c.is_whitespace()
+}
+
+/// The class of a character beyond ASCII, out of line.
+#[cold]
+#[inline(never)]
+fn rare_class(c: char) -> Class
+    requires { 128 ≤ c }
+    ensures { result ≡ class_of c }
+{
+    wide_class(c)
+}
+
+/// The class of a character beyond ASCII.
+#[inline(always)]
+#[tactic(auto, unfolding(crate::specs::Durations::Characters::class_of))]
+pub(crate) fn wide_class(c: char) -> Class
+    requires { 128 ≤ c }
+    ensures { result ≡ class_of c }
+{
+    if c == '\u{b5}' || c == '\u{3bc}' {
+        Class::Letter
+    } else if is_white(c) {
+        Class::White
+    } else {
+        Class::Other
+    }
+}
+
+/// The code of an ASCII character's class.
+#[inline(always)]
+fn ascii_code(c: u8) -> u8
+    requires { c < 128 }
+    ensures { result ≡ code_of (class_of c) }
+{
+    ASCII_CODES[c as usize]
+}
+
+/// The class of an ASCII character.
+#[inline(always)]
+pub(crate) fn ascii_class(c: u8) -> Class
+    requires { c < 128 }
+    ensures { result ≡ class_of c }
+{
+    match ascii_code(c) {
+        W => Class::White,
+        D => Class::Digit,
+        L => Class::Letter,
+        P => Class::Point,
+        _ => Class::Other,
+    }
+}
+
+/// The class of a character.
+#[inline(always)]
+pub(crate) fn class_of(c: char) -> Class
+    ensures { result ≡ class_of c }
+{
+    if (c as u32) < 128 {
+        ascii_class(c as u8)
+    } else {
+        rare_class(c)
+    }
+}

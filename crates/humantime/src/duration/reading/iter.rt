@@ -1,0 +1,100 @@
+//! The spans of a text, one at a time.
+
+ghost use Rattle.std.specs.Prelude.{◌≡◌, chars, IfSome, IfErr};
+ghost use Rattle.std.proofs.Props.{props};
+ghost use Rattle.humantime.specs.Durations.Errors.{PointsInto};
+ghost use Rattle.humantime.specs.References.Durations.Scanning.{IsTail};
+
+use crate::duration::reading::class::{Class, class_of};
+use crate::duration::error::DurationError;
+use crate::duration::reading::reader::span_at;
+use crate::duration::reading::scan::first;
+use crate::duration::reading::slices::{offset_of, past_space};
+use crate::duration::reading::span::Span;
+
+/// The spans of a text that are still to come, from left to right, and then the fault at which they stop.
+///
+/// After an error, and after the end, it gives `None` for good. An error points into the text, which may be
+/// cut at its offsets.
+///
+/// ```text
+/// for item in spans("2h 37min") { .. }
+/// ```
+#[derive(Drop)]
+pub struct SpanIter<'a> {
+    text: &'a str,
+    rest: &'a str,
+    ended: bool,
+    ghost tail: { IsTail text.now rest.now } by { Prim.hlevel props },
+}
+
+impl<'a> SpanIter<'a> {
+    ghost use Rattle.std.specs.Iterator.{YieldsFirstBy};
+    ghost use Rattle.humantime.specs.References.Durations.Lending.{lent_items};
+    ghost use Rattle.humantime.specs.References.Durations.Lents.{item_of};
+    ghost use Rattle.humantime.specs.References.Durations.Remaining.{items_left, text_of};
+
+    /// All items of a text.
+    #[inline(always)]
+    pub(crate) fn new(text: &'a str) -> SpanIter<'a>
+        ensures items { items_left result ≡ lent_items (chars text.now) }
+        ensures text { text_of result ≡ text.now }
+    {
+        SpanIter {
+            text,
+            rest: text,
+            ended: false,
+        }
+    }
+
+    /// The next item, whose error points into the text.
+    #[inline(always)]
+    pub(crate) fn step(&mut self) -> Option<Result<Span<'a>, DurationError<'a>>>
+        ensures items { YieldsFirstBy item_of items_left self.old result self.new }
+        ensures place { IfSome result (λ item. IfErr item (PointsInto (text_of self.old))) }
+        ensures text { text_of self.new ≡ text_of self.old }
+    {
+        if self.ended {
+            return None;
+        }
+        let text = self.text;
+        let rest = past_space(self.rest);
+        let Some((c, _)) = first(rest) else {
+            self.ended = true;
+            if self.rest.len() == text.len() {
+                return Some(Err(DurationError::Empty));
+            }
+            return None;
+        };
+        if class_of(c) != Class::Digit {
+            self.ended = true;
+            return Some(Err(DurationError::NumberExpected(offset_of(text, rest))));
+        }
+        match span_at(text, rest) {
+            Ok((span, next)) => {
+                self.rest = next;
+                Some(Ok(span))
+            }
+            Err(e) => {
+                self.ended = true;
+                Some(Err(e))
+            }
+        }
+    }
+}
+
+impl<'a> Iterator for SpanIter<'a> {
+    type Item = Result<Span<'a>, DurationError<'a>>;
+
+    ghost use Rattle.std.specs.Iterator.{item_count};
+    ghost use Rattle.humantime.specs.References.Durations.Remaining.{items_left, GivesItem};
+
+    ghost next_gives = { GivesItem };
+
+    ghost remaining = { item_count items_left };
+
+    #[inline(always)]
+    fn next(&mut self) -> Option<Result<Span<'a>, DurationError<'a>>> {
+        self.step()
+    }
+}

@@ -1,0 +1,200 @@
+//! Steps over a text: a character, a number, a fraction.
+
+ghost use Rattle.std.specs.Prelude.{◌≡◌, false, ◌≢◌, ◌++◌, [], ◌∷◌, ℕ, List, length, chars, option_map, encode_utf8, IfNone, IfSome, IfOk, SomeIff, ◌+◌, ◌-◌, ◌*◌, ◌≤◌, slice_index, IsCharBoundary, ◌<◌};
+ghost use Rattle.humantime.specs.Durations.Characters.{IsDigit, is_point, begins, u64_max};
+ghost use Rattle.humantime.specs.Durations.Errors.{seen};
+ghost use Rattle.humantime.specs.References.Durations.Scales.{parts_of};
+ghost use Rattle.humantime.specs.References.Durations.Scanning.{IsTail, number_at, digits_at, fraction_read, StepsOver};
+ghost use Rattle.humantime.specs.declared.duration.reading.class.Class.TheVariants.{Digit};
+
+use crate::duration::reading::amount::Fraction;
+use crate::duration::reading::class::{Class, ascii_class, wide_class};
+use crate::duration::error::DurationError;
+
+/// How many digits a fraction may have before the zeros at its end.
+const FRACTION_DIGITS: u32 = 19;
+
+/// A number up to this one can take another digit.
+const TENTH_OF_MAX: u64 = 1_844_674_407_370_955_161;
+
+/// The first character of a text, for one that is not ASCII.
+#[cold]
+#[inline(never)]
+fn wide_char(text: &str) -> char
+    requires { chars text.now ≢ [] }
+    ensures { (rest : List ℕ) × (text.now ≡ encode_utf8 result ++ rest) }
+{
+    first_char(text)
+}
+
+/// The class of the character at this place, for one that is not ASCII, and the place after it.
+///
+/// It stands out of line, so that loops over ASCII stay small, and answers numbers alone. It is not marked as rarely
+/// called: then the loops around it get slower.
+#[inline(never)]
+pub(crate) fn wide_step(text: &str, at: usize) -> (Class, usize)
+    requires place { IsCharBoundary text.now at }
+    requires some { at < length text.now }
+    requires wide { 128 ≤ slice_index text.now at }
+    ensures step { StepsOver text.now at result.0 result.1 }
+    ensures no_digit { result.0 ≢ Digit }
+{
+    let c = first_char(&text[at..]);
+    (wide_class(c), at + c.len_utf8())
+}
+
+/// The first character of a text that has one.
+#[inline(always)]
+fn first_char(text: &str) -> char
+    requires { chars text.now ≢ [] }
+    ensures { (rest : List ℕ) × (text.now ≡ encode_utf8 result ++ rest) }
+{
+    match text.chars().next() {
+        Some(c) => c,
+        None => unreachable!(),
+    }
+}
+
+/// The first character, and the text after it.
+#[inline(always)]
+pub(crate) fn first(text: &str) -> Option<(char, &str)>
+    ensures none { IfNone result (chars text.now ≡ []) }
+    ensures chars { IfSome result (λ x. chars text.now ≡ x.0 ∷ chars x.1.now) }
+    ensures tail { IfSome result (λ x. IsTail text.now x.1.now) }
+{
+    let bytes = text.as_bytes();
+    if bytes.is_empty() {
+        return None;
+    }
+    let byte = bytes[0];
+    if byte < 0x80 {
+        return Some((byte as char, &text[1..]));
+    }
+    let c = wide_char(text);
+    Some((c, &text[c.len_utf8()..]))
+}
+
+/// Ten times the value and the digit, or `None` where that is too large.
+#[inline(always)]
+fn push_digit(value: u64, c: u8) -> Option<u64>
+    requires { IsDigit c }
+    ensures { SomeIff result (value * 10 + (c - 48) ≤ u64_max) (value * 10 + (c - 48)) }
+{
+    let digit = (c - b'0') as u64;
+    if value < TENTH_OF_MAX {
+        return Some(value * 10 + digit);
+    }
+    value.checked_mul(10)?.checked_add(digit)
+}
+
+/// The number at the front of the text, and what follows it.
+#[inline(always)]
+pub(crate) fn read_number<'a>(text: &'a str) -> Result<(u64, &'a str), DurationError<'a>>
+    ensures value { seen (λ x. (x.0, chars x.1.now)) result ≡ number_at (chars text.now) }
+    ensures tail { IfOk result (λ x. IsTail text.now x.1.now) }
+{
+    let bytes = text.as_bytes();
+    let mut value = 0;
+    let mut at = 0;
+    while at < bytes.len() {
+        if bytes[at] < 0x80 {
+            match ascii_class(bytes[at]) {
+                Class::Digit => match push_digit(value, bytes[at]) {
+                    Some(more) => value = more,
+                    None => return Err(DurationError::NumberOverflow),
+                },
+                Class::White => {}
+                _ => return Ok((value, &text[at..])),
+            }
+            at += 1;
+        } else {
+            let (class, next) = wide_step(text, at);
+            match class {
+                Class::White => at = next,
+                _ => return Ok((value, &text[at..])),
+            }
+        }
+    }
+    Ok((value, &text[at..]))
+}
+
+/// The digits at the front of the text, and what follows them: at most 19 digits, and then zeros. It stands out of
+/// line, as it holds much, and spans without a fraction do not need it.
+#[inline(never)]
+fn read_digits<'a>(text: &'a str) -> Result<(Fraction, &'a str), DurationError<'a>>
+    ensures value { seen (λ x. (parts_of x.0, chars x.1.now)) result ≡ digits_at (chars text.now) }
+    ensures tail { IfOk result (λ x. IsTail text.now x.1.now) }
+{
+    let bytes = text.as_bytes();
+    let mut value = 0;
+    let mut count = 0;
+    // The same up to the last digit that is no zero.
+    let mut kept_value = 0;
+    let mut kept_count = 0;
+    let mut at = 0;
+    while at < bytes.len() {
+        if bytes[at] < 0x80 {
+            match ascii_class(bytes[at]) {
+                Class::Digit => {
+                    if count < FRACTION_DIGITS {
+                        value = value * 10 + (bytes[at] - b'0') as u64;
+                        count += 1;
+                        if bytes[at] != b'0' {
+                            kept_value = value;
+                            kept_count = count;
+                        }
+                    } else if bytes[at] != b'0' {
+                        return Err(DurationError::NumberOverflow);
+                    }
+                }
+                Class::White => {}
+                _ => break,
+            }
+            at += 1;
+        } else {
+            let (class, next) = wide_step(text, at);
+            match class {
+                Class::White => at = next,
+                _ => break,
+            }
+        }
+    }
+    let digits = Fraction {
+        value: kept_value,
+        count: kept_count,
+        any: count > 0,
+    };
+    Ok((digits, &text[at..]))
+}
+
+/// What follows the point at the front of the text, if there is one.
+#[inline(always)]
+fn past_point(text: &str) -> Option<&str>
+    ensures none { IfNone result (begins is_point (chars text.now) ≡ false) }
+    ensures chars { IfSome result (λ rest. chars text.now ≡ 46 ∷ chars rest.now) }
+    ensures tail { IfSome result (λ rest. IsTail text.now rest.now) }
+{
+    let bytes = text.as_bytes();
+    if bytes.is_empty() {
+        return None;
+    }
+    if bytes[0] != b'.' {
+        return None;
+    }
+    Some(&text[1..])
+}
+
+/// The fraction at the front of the text, if there is one, and what follows it.
+#[inline(always)]
+pub(crate) fn read_fraction<'a>(
+    text: &'a str,
+) -> Result<(Option<Fraction>, &'a str), DurationError<'a>>
+    ensures value { seen (λ x. (option_map parts_of x.0, chars x.1.now)) result ≡ fraction_read (chars text.now) }
+    ensures tail { IfOk result (λ x. IsTail text.now x.1.now) }
+{
+    let Some(after) = past_point(text) else {
+        return Ok((None, text));
+    };
+    let (digits, rest) = read_digits(after)?;
+    Ok((Some(digits), rest))
+}
