@@ -1,4 +1,4 @@
-pub mod Calendar
+pub mod Dates
 pub mod Durations
 pub mod OnLiterals
 pub mod Theorems

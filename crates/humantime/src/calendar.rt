@@ -47,7 +47,7 @@ pub struct Date {
 
 // The days of the years from 1970 up to this one.
 #[inline(always)]
-#[tactic(auto, using(crate::proofs::Calendar::Years::days_of_years_closed))]
+#[tactic(auto, using(crate::proofs::Dates::Years::days_of_years_closed))]
 fn days_before_year(year: u32) -> u32
     requires low { 1970 ≤ year }
     requires high { year ≤ 9999 }
@@ -85,7 +85,7 @@ fn month_length(year: u32, month: u32) -> u32
 
 // The days of the year's months before this one.
 #[inline(always)]
-#[tactic(auto, using(crate::proofs::Calendar::Years::days_of_months_closed))]
+#[tactic(auto, using(crate::proofs::Dates::Years::days_of_months_closed))]
 fn days_before_month(year: u32, month: u32) -> u32
     requires low { 1 ≤ month }
     requires high { month ≤ 12 }
@@ -108,7 +108,7 @@ fn days_before_month(year: u32, month: u32) -> u32
 /// day_number(Date { year: 2000, month: 2, day: 29 }, &mut turns) == Some(11016)
 /// ```
 #[inline(always)]
-#[tactic(auto, using(crate::proofs::Calendar::Years::days_of_years_bound, crate::proofs::Calendar::Years::days_of_months_bound))]
+#[tactic(auto, using(crate::proofs::Dates::Years::days_of_years_bound, crate::proofs::Dates::Years::days_of_months_bound))]
 pub fn day_number(date: Date, turns: &mut Turns) -> Option<u32>
     ensures valid { IsSome result ↔ IsDate date }
     ensures day { IfSome result (λ n. n ≡ day_of date) }
@@ -178,7 +178,7 @@ fn march_date(year: u32, month: u32, left: u32) -> Date
 /// ```text
 /// date_of_day(11016, &mut turns) == Some(Date { year: 2000, month: 2, day: 29 })
 /// ```
-#[tactic(auto, using(crate::proofs::Calendar::March::march_months_none, crate::proofs::Calendar::March::march_months_next, crate::proofs::Calendar::March::march_months_all), unfolding(crate::specs::References::Calendar::March::march_length))]
+#[tactic(auto, using(crate::proofs::Dates::March::march_months_none, crate::proofs::Dates::March::march_months_next, crate::proofs::Dates::March::march_months_all), unfolding(crate::specs::References::Calendar::March::march_length))]
 pub fn date_of_day(day: u32, turns: &mut Turns) -> Option<Date>
     ensures within { IsSome result ↔ (day ≤ 2_932_896) }
     ensures date { IfSome result (λ d. IsDate d × (day_of d ≡ day)) }

@@ -8,8 +8,8 @@ use Rattle.humantime.specs.Calendar.Years.{days_in_year, days_in_month, days_of_
 use Rattle.humantime.specs.Calendar.Dates.{IsDate, day_of}
 use Rattle.humantime.specs.Timestamps.Fields.{Fields, IsWeak, IsWeakMoment, IsStrictMoment, moment_of, fraction_digits}
 use Rattle.humantime.specs.Timestamps.Printed.{IsPrintable}
-use Rattle.humantime.proofs.Calendar.Years.{days_of_years_within, february}
-use Rattle.humantime.proofs.Calendar.Months.{below_12}
+use Rattle.humantime.proofs.Dates.Years.{days_of_years_within, february}
+use Rattle.humantime.proofs.Dates.Months.{below_12}
 use Rattle.humantime.proofs.Timestamps.Reading.Fractions.{nanos_bound}
 
 -- a month ends within its year

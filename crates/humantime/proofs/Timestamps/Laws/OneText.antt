@@ -8,7 +8,7 @@ use Rattle.humantime.specs.Calendar.Dates.{day_of}
 use Rattle.humantime.specs.Timestamps.Digits.{AreDigits}
 use Rattle.humantime.specs.Timestamps.Fields.{fraction_digits, nanos_of, written}
 use Rattle.humantime.specs.Timestamps.Printed.{HasPlaces, IsPrinted}
-use Rattle.humantime.proofs.Calendar.Dates.{same_date}
+use Rattle.humantime.proofs.Dates.DaysOfDates.{same_date}
 use Rattle.humantime.proofs.Timestamps.Reading.Fractions.{nanos_bound}
 
 after_same : (ds : List ℕ) (m n : ℕ) → digits_value_after 10 m ds ≡ digits_value_after 10 n ds → m ≡ n

@@ -15,7 +15,7 @@ use Rattle.humantime.specs.Timestamps.Laws.{OneTimestamp, StrictIsWeak, StrictMo
 use Rattle.humantime.specs.Timestamps.Printed.{cut, IsPrinted, IsPrintable, ReadsAs, OnePrinted}
 use Rattle.humantime.specs.References.Timestamps.Printing.{moment_kept, places_kept, moment_text, printed_text}
 use Rattle.humantime.specs.References.Timestamps.Reading.{weak_answer, strict_answer}
-use Rattle.humantime.proofs.Calendar.Dates as dates
+use Rattle.humantime.proofs.Dates.DaysOfDates as dates
 use Rattle.humantime.proofs.Timestamps.Laws.Order.{printed_order}
 use Rattle.humantime.proofs.Timestamps.Printing.Printed.{one_text, one_printed, text_displayed, printed_reads}
 use Rattle.humantime.proofs.Timestamps.Laws.Reading as read

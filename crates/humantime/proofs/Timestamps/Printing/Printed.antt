@@ -17,7 +17,7 @@ use Rattle.humantime.specs.Timestamps.Fields.{Letter_Z, Nothing, written, time_t
 use Rattle.humantime.specs.Timestamps.Printed.{cut, IsPrinted, IsPrintable, ReadsAs, OnePrinted}
 use Rattle.humantime.specs.References.Timestamps.Printing.{places, moment_kept, places_kept, places_of, fields_shown, fields_at, IsDateTimeOf, IsTextOf, printed_text, moment_text}
 use Rattle.humantime.proofs.Timestamps.Reading.Bytes.{HoldsOfBytes, holds_before_zone, all_append}
-use Rattle.humantime.proofs.Calendar.DatesOfDays.{date_of_is}
+use Rattle.humantime.proofs.Dates.DatesOfDays.{date_of_is}
 use Rattle.humantime.proofs.Timestamps.Printing.Digits.{shown_digits, shown_places, shown_nanos, cut_nanos}
 use Rattle.humantime.proofs.Timestamps.Laws.OneText.{same_printed}
 

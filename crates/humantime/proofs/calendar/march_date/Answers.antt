@@ -1,4 +1,4 @@
-use Rattle.humantime.proofs.Calendar.March.{early_valid, early_day, late_valid, late_day}
+use Rattle.humantime.proofs.Dates.March.{early_valid, early_day, late_valid, late_day}
 use Rattle.humantime.proofs.calendar.march_date.Goals as goal
 
 pub returns-then-month-lt10-clause-valid : goal.returns-then-month-lt10-clause-valid

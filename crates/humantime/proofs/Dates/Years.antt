@@ -3,7 +3,7 @@ use Rattle.std.proofs.Common.{◌≡◌, ℕ, zero, suc, ◌+◌, ◌-◌, ◌*�
 use Rattle.std.specs.Prelude.{if◌then◌else◌, [], ◌∷◌, slice_index_or, nat_lt}
 use Rattle.std.proofs.lemmas.Bool.Decides.{nat_tests}
 use Rattle.humantime.specs.Calendar.Years.{days_in_year, days_in_month, days_of_years, days_of_months}
-use Rattle.humantime.proofs.Calendar.Months.{below_12}
+use Rattle.humantime.proofs.Dates.Months.{below_12}
 use Rattle.humantime.specs.References.Calendar.March.{march_days, march_year_length}
 
 pub march_days_next : (n : ℕ) → march_days (n + 1) ≡ march_days n + march_year_length n

@@ -1,5 +1,5 @@
 -- Each day has one date, found without a loop over years.
-pub mod Dates
+pub mod DaysOfDates
 pub mod DatesOfDays
 pub mod March
 pub mod Months

@@ -5,9 +5,9 @@ use Rattle.std.proofs.lemmas.Bool.{cases_lt, ltb-true, ltb-false}
 use Rattle.humantime.specs.Calendar.Dates.{IsDateOfDay}
 use Rattle.humantime.specs.References.Calendar.DatesOfDays.{march_year, march_month, march_date, date_in_march_year, date_of}
 use Rattle.humantime.specs.References.Calendar.March.{march_days, march_year_length, march_length, march_months}
-use Rattle.humantime.proofs.Calendar.Years.{march_days_next, days_in_year_bound}
-use Rattle.humantime.proofs.Calendar.March.{early_valid, early_day, late_valid, late_day}
-use Rattle.humantime.proofs.Calendar.Months.{below_12}
+use Rattle.humantime.proofs.Dates.Years.{march_days_next, days_in_year_bound}
+use Rattle.humantime.proofs.Dates.March.{early_valid, early_day, late_valid, late_day}
+use Rattle.humantime.proofs.Dates.Months.{below_12}
 
 -- the days before a year, by its place in its cycles
 days_by_cycles : (c q f r : ℕ) → q ≤ 3 → f ≤ 24 → r ≤ 3

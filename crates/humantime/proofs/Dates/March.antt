@@ -2,8 +2,8 @@
 use Rattle.std.proofs.Common.{◌≡◌, ℕ, ◌+◌, ◌-◌, ◌<◌, ◌≤◌, refl, ap, arith}
 use Rattle.humantime.specs.Calendar.Years.{days_in_year, days_in_month, days_of_years, days_of_months, IsValid, day_count}
 use Rattle.humantime.specs.References.Calendar.March.{march_days, march_year_length, march_length, march_months}
-use Rattle.humantime.proofs.Calendar.Months.{below_12, below_10, ten_or_eleven}
-use Rattle.humantime.proofs.Calendar.Years.{march_days_next, march_days_of_years, days_in_year_bound, february}
+use Rattle.humantime.proofs.Dates.Months.{below_12, below_10, ten_or_eleven}
+use Rattle.humantime.proofs.Dates.Years.{march_days_next, march_days_of_years, days_in_year_bound, february}
 
 pub march_months_none : march_months 0 ≡ 0
 unfolding march_months
