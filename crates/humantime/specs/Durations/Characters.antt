@@ -1,9 +1,8 @@
 -- The characters of a duration's text.
-use Rattle.std.specs.Prelude.{◌≡◌, ℕ, ◌-◌, Bool, true, false, ◌||◌, ◌==◌, List, [], ◌∷◌, length, if◌then◌else◌, encode_utf8_all, filter}
+use Rattle.std.specs.Prelude.{ℕ, ◌-◌, Bool, false, ◌||◌, ◌==◌, List, [], ◌∷◌, length, if◌then◌else◌, encode_utf8_all, filter}
 use Rattle.std.specs.Char.{char_set_contains, is_ascii_digit, is_ascii_alphabetic}
+use Rattle.std.specs.Str.{byte}
 use Rattle.std.specs.Str.Parse.{digits_value}
-use Rattle.humantime.specs.declared.duration.reading.class.Class.{Class}
-use Rattle.humantime.specs.declared.duration.reading.class.Class.TheVariants.{White, Digit, Letter, Point, Other}
 
 -- the characters of white space, one by one: those that Unicode calls so
 unfoldable pub white_spaces : List ℕ
@@ -11,58 +10,24 @@ white_spaces =
     0x9 ∷ 0xa ∷ 0xb ∷ 0xc ∷ 0xd ∷ 0x20 ∷ 0x85 ∷ 0xa0 ∷ 0x1680 ∷ 0x2000 ∷ 0x2001 ∷ 0x2002 ∷ 0x2003 ∷ 0x2004 ∷ 0x2005 ∷ 0x2006
     ∷ 0x2007 ∷ 0x2008 ∷ 0x2009 ∷ 0x200a ∷ 0x2028 ∷ 0x2029 ∷ 0x202f ∷ 0x205f ∷ 0x3000 ∷ []
 
--- What a character is: white space, a digit 0 to 9, a letter a to z, A to Z, the micro sign or the Greek letter mu, a point,
--- or anything else.
-unfoldable pub class_of : ℕ → Class
-class_of c =
-    if char_set_contains white_spaces c then White
-    else if is_ascii_digit c then Digit
-    else if is_ascii_alphabetic c || c == 0xb5 || c == 0x3bc then Letter
-    else if c == 46 then Point
-    else Other
+abbrev pub micro_sign : ℕ
+micro_sign = 0xb5
 
-abbrev pub white : Class → Bool
-white White = true
-white Digit = false
-white Letter = false
-white Point = false
-white Other = false
+abbrev pub greek_mu : ℕ
+greek_mu = 0x3bc
 
-abbrev pub digit : Class → Bool
-digit White = false
-digit Digit = true
-digit Letter = false
-digit Point = false
-digit Other = false
+-- what a character is: white space, a digit 0 to 9, a letter, or a point
+unfoldable pub is_ws : ℕ → Bool
+is_ws c = char_set_contains white_spaces c
 
-abbrev pub letter : Class → Bool
-letter White = false
-letter Digit = false
-letter Letter = true
-letter Point = false
-letter Other = false
+unfoldable pub is_digit : ℕ → Bool
+is_digit c = is_ascii_digit c
 
-abbrev pub point : Class → Bool
-point White = false
-point Digit = false
-point Letter = false
-point Point = true
-point Other = false
+unfoldable pub is_letter : ℕ → Bool
+is_letter c = is_ascii_alphabetic c || c == micro_sign || c == greek_mu
 
-abbrev pub is_ws : ℕ → Bool
-is_ws c = white (class_of c)
-
-abbrev pub is_digit : ℕ → Bool
-is_digit c = digit (class_of c)
-
-abbrev pub is_letter : ℕ → Bool
-is_letter c = letter (class_of c)
-
-abbrev pub is_point : ℕ → Bool
-is_point c = point (class_of c)
-
-abbrev pub IsDigit : ℕ → Type 0
-IsDigit c = class_of c ≡ Digit
+unfoldable pub is_point : ℕ → Bool
+is_point c = c == byte "."
 
 -- what a number holds: digits, and white space between and after them
 abbrev pub is_numeric : ℕ → Bool

@@ -1,7 +1,7 @@
 -- Reading, adding and printing durations step by step, as private functions do.
 pub mod Adding
 pub mod Answers
-pub mod ClassCodes
+pub mod Classes
 pub mod FaultEqualityLemmas
 pub mod Keys
 pub mod Lending

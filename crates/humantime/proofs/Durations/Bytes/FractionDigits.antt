@@ -4,10 +4,10 @@ use Rattle.std.proofs.lemmas.Bool.{lt-ltb, le-ltb, ne_eqb}
 use Rattle.std.proofs.Math.Nat.{pow-suc, pow-le-pow_right}
 use Rattle.std.specs.Char.{digit_value}
 use Rattle.std.specs.Str.Parse.{digits_value_after}
-use Rattle.humantime.specs.declared.duration.reading.class.Class.{Class}
-use Rattle.humantime.specs.declared.duration.reading.class.Class.TheVariants.{White, Digit, Letter, Point, Other}
-use Rattle.humantime.specs.Durations.Characters.{class_of, is_numeric, begins, leading, past, digits, decimal_value, significant}
+use Rattle.humantime.specs.declared.duration.reading.class.Class.TheVariants.{White, Digit}
+use Rattle.humantime.specs.Durations.Characters.{is_numeric, begins, leading, past, digits, decimal_value, significant}
 use Rattle.humantime.specs.Durations.Faults.{NumberOverflow, number_of, after_number}
+use Rattle.humantime.specs.References.Durations.Classes.{class_of}
 use Rattle.humantime.specs.References.Durations.Scales.{has_digits}
 use Rattle.humantime.specs.References.Durations.Scanning.{digits_at}
 use Rattle.humantime.proofs.Durations.Bytes.Digits.{digit_greatest, digit_counts}
@@ -168,11 +168,6 @@ no_digits (c ∷ cs) e = rw e refl
 rest_there : (rest : List ℕ) → begins is_numeric rest ≡ false → past is_numeric rest ≡ rest
 rest_there [] e = refl
 rest_there (c ∷ cs) e = rw e refl
-
-pub other_begins : (rest cs : List ℕ) (c : ℕ) (k : Class) → (k ≡ Letter) ⊎ ((k ≡ Point) ⊎ (k ≡ Other)) → k ≡ class_of c → rest ≡ c ∷ cs → begins is_numeric rest ≡ false
-other_begins rest cs c k (inl e) is r = rw (r, ← is, e) refl
-other_begins rest cs c k (inr (inl e)) is r = rw (r, ← is, e) refl
-other_begins rest cs c k (inr (inr e)) is r = rw (r, ← is, e) refl
 
 -- what is kept is the fraction, where no digit and no white space follows
 pub digits_end : (text rest : List ℕ) (v n w k : ℕ) → IsAmong text v n w k rest → begins is_numeric rest ≡ false → Ok ((w, k, ltb 0 n), rest) ≡ digits_at text

@@ -1,14 +1,16 @@
 -- Reading a number digit by digit.
-use Rattle.std.proofs.Common.{◌≡◌, ◌≤◌, ◌<◌, ◌+◌, ◌-◌, ◌*◌, ℕ, List, [], ◌∷◌, ap, sym, ◌∙◌, arith, Err, ◌≢◌, refl, Ok}
+use Rattle.std.proofs.Common.{◌≡◌, ◌≤◌, ◌<◌, ◌+◌, ◌-◌, ◌*◌, ℕ, List, [], ◌∷◌, ap, sym, ◌∙◌, arith, Err, ◌≢◌, Ok}
 use Rattle.std.proofs.lemmas.Bool.{lt-ltb, le-ltb}
 use Rattle.std.specs.Char.{digit_value}
 use Rattle.std.specs.Str.Parse.{digits_value_after}
 use Rattle.humantime.specs.declared.duration.reading.class.Class.{Class}
-use Rattle.humantime.specs.declared.duration.reading.class.Class.TheVariants.{White, Digit, Letter, Point, Other}
-use Rattle.humantime.specs.Durations.Characters.{class_of, is_ws, is_letter, is_numeric, leading, past, digits, decimal_value, u64_max}
+use Rattle.humantime.specs.declared.duration.reading.class.Class.TheVariants.{White, Digit, Letter}
+use Rattle.humantime.specs.Durations.Characters.{is_ws, is_letter, is_numeric, leading, past, digits, decimal_value, u64_max}
 use Rattle.humantime.specs.Durations.Faults.{NumberOverflow, number_of, after_number}
+use Rattle.humantime.specs.References.Durations.Classes.{class_of}
 use Rattle.humantime.specs.References.Durations.Scanning.{number_at}
 use Rattle.humantime.proofs.Durations.Bytes.Digits.{digit_counts}
+use Rattle.humantime.proofs.Durations.Reading.Classes.{is_ws-class, is_digit-class, is_letter-class, not_numeric, digit_is_numeric, space_is_numeric, space_not_digit}
 
 -- v is read so far, and the number that begins the rest, read on from v, is that of the text.
 pub record IsAt (text : List ℕ) (v : ℕ) (rest : List ℕ) : Type 0 where
@@ -18,16 +20,18 @@ pub record IsAt (text : List ℕ) (v : ℕ) (rest : List ℕ) : Type 0 where
 
 -- a digit begins what is numeric, and so does white space, which has no digit
 pub digit_first : (c : ℕ) (cs rest : List ℕ) → rest ≡ c ∷ cs → class_of c ≡ Digit → digits (leading is_numeric rest) ≡ c ∷ digits (leading is_numeric cs)
-digit_first c cs rest e d = rw (e, d, d)
+digit_first c cs rest e d = let digit = (is_digit-class c).0 d in rw (e, digit, digit)
 
 pub space_first : (c : ℕ) (cs rest : List ℕ) → rest ≡ c ∷ cs → class_of c ≡ White → digits (leading is_numeric rest) ≡ digits (leading is_numeric cs)
-space_first c cs rest e d = rw (e, d, d)
+space_first c cs rest e d =
+    let space = (is_ws-class c).0 d in
+    rw (e, space_is_numeric c space, space_not_digit c space)
 
 pub past_digit : (c : ℕ) (cs rest : List ℕ) → rest ≡ c ∷ cs → class_of c ≡ Digit → past is_numeric rest ≡ past is_numeric cs
-past_digit c cs rest e d = rw (e, d)
+past_digit c cs rest e d = rw (e, digit_is_numeric c ((is_digit-class c).0 d))
 
 pub past_white : (c : ℕ) (cs rest : List ℕ) → rest ≡ c ∷ cs → class_of c ≡ White → past is_numeric rest ≡ past is_numeric cs
-past_white c cs rest e d = rw (e, d)
+past_white c cs rest e d = rw (e, space_is_numeric c ((is_ws-class c).0 d))
 
 -- digits only make a value greater
 pub value_grows : (n : ℕ) (ds : List ℕ) → n ≤ digits_value_after 10 n ds
@@ -56,10 +60,10 @@ number_passes text rest cs v c h e d over =
     rw (lt-ltb u64_max (decimal_value (number_of text)) above)
 
 pub past_letters : (c : ℕ) (cs rest : List ℕ) → rest ≡ c ∷ cs → class_of c ≡ Letter → past is_letter rest ≡ past is_letter cs
-past_letters c cs rest e d = rw (e, d)
+past_letters c cs rest e d = rw (e, (is_letter-class c).0 d)
 
 pub past_space : (c : ℕ) (cs rest : List ℕ) → rest ≡ c ∷ cs → class_of c ≡ White → past is_ws rest ≡ past is_ws cs
-past_space c cs rest e d = rw (e, d)
+past_space c cs rest e d = rw (e, (is_ws-class c).0 d)
 
 -- a character that is neither a digit nor white space ends the number, and so does the end
 number_is : (text rest : List ℕ) (v : ℕ) → v ≡ decimal_value (number_of text) → rest ≡ after_number text → v ≤ u64_max → Ok (v, rest) ≡ number_at text
@@ -68,11 +72,9 @@ number_is text rest v value rest_is fits =
     rw within (λ i. Ok (value i, rest_is i))
 
 pub number_ends : (text rest cs : List ℕ) (v c : ℕ) (class : Class) → IsAt text v rest → rest ≡ c ∷ cs → class ≡ class_of c → class ≢ White → class ≢ Digit → Ok (v, rest) ≡ number_at text
-number_ends text rest cs v c White h e d w n = absurd (w refl)
-number_ends text rest cs v c Digit h e d w n = absurd (n refl)
-number_ends text rest cs v c Letter h e d w n = number_is text rest v (rw (e, ← d) at h.value) (e ∙ (rw (e, ← d) at h.rest_is)) h.fits
-number_ends text rest cs v c Point h e d w n = number_is text rest v (rw (e, ← d) at h.value) (e ∙ (rw (e, ← d) at h.rest_is)) h.fits
-number_ends text rest cs v c Other h e d w n = number_is text rest v (rw (e, ← d) at h.value) (e ∙ (rw (e, ← d) at h.rest_is)) h.fits
+number_ends text rest cs v c class h e d w n =
+    let other = not_numeric c (λ z. w (d ∙ z)) (λ z. n (d ∙ z)) in
+    number_is text rest v (rw (e, other) at h.value) (e ∙ (rw (e, other) at h.rest_is)) h.fits
 
 pub number_whole : (text rest : List ℕ) (v : ℕ) → IsAt text v rest → rest ≡ [] → Ok (v, rest) ≡ number_at text
 number_whole text rest v h e = number_is text rest v (rw e at h.value) (e ∙ (rw e at h.rest_is)) h.fits

@@ -4,12 +4,14 @@ use Rattle.std.proofs.Math.Seq.{drop-cons}
 use Rattle.std.proofs.lemmas.Bool.{cases_lt}
 use Rattle.std.proofs.lemmas.Str.{IsUtf8-drop, IsCharBoundary-after_ascii, IsCharBoundary-from_rest, chars_past_char, encode_ascii}
 use Rattle.humantime.specs.declared.duration.reading.class.Class.{Class}
-use Rattle.humantime.specs.declared.duration.reading.class.Class.TheVariants.{White, Digit, Letter, Point, Other}
-use Rattle.humantime.specs.Durations.Characters.{class_of, is_letter, is_ws, is_numeric, begins, past}
+use Rattle.humantime.specs.declared.duration.reading.class.Class.TheVariants.{White, Digit, Letter}
+use Rattle.humantime.specs.Durations.Characters.{is_letter, is_ws, is_numeric, begins, past}
+use Rattle.humantime.specs.References.Durations.Classes.{class_of}
 use Rattle.humantime.specs.References.Durations.Scanning.{IsTail, StepsOver}
 use Rattle.humantime.proofs.Durations.Bytes.Digits.{digit_greatest}
 use Rattle.humantime.proofs.Durations.Bytes.Numbers.{past_letters, past_space}
 use Rattle.humantime.proofs.Durations.Bytes.Tails.{past_begins, past_begins_boundary, no_bytes}
+use Rattle.humantime.proofs.Durations.Reading.Classes.{not_white, not_letter, not_numeric}
 
 -- over one byte of ASCII
 pub ascii_chars : (text : List ℕ) (at : ℕ) → IsUtf8 text → IsCharBoundary text at → at < length text → get_or text at 0 < 128
@@ -82,35 +84,14 @@ space_step text at next class all s is same =
     sym (past_space s.char (chars (drop next text)) (chars (drop at text)) s.chars (sym s.is ∙ is)) ∙ same
 
 -- another character ends them
-no_letter : (c : ℕ) (cs rest : List ℕ) (class : Class) → rest ≡ c ∷ cs → class ≡ class_of c → (class ≡ Letter → ⊥) → rest ≡ past is_letter rest
-no_letter c cs rest White e d n = rw (e, ← d) refl
-no_letter c cs rest Digit e d n = rw (e, ← d) refl
-no_letter c cs rest Letter e d n = absurd (n refl)
-no_letter c cs rest Point e d n = rw (e, ← d) refl
-no_letter c cs rest Other e d n = rw (e, ← d) refl
-
-no_space : (c : ℕ) (cs rest : List ℕ) (class : Class) → rest ≡ c ∷ cs → class ≡ class_of c → (class ≡ White → ⊥) → rest ≡ past is_ws rest
-no_space c cs rest White e d n = absurd (n refl)
-no_space c cs rest Digit e d n = rw (e, ← d) refl
-no_space c cs rest Letter e d n = rw (e, ← d) refl
-no_space c cs rest Point e d n = rw (e, ← d) refl
-no_space c cs rest Other e d n = rw (e, ← d) refl
-
 pub letters_end : (text : List ℕ) (at next : ℕ) (class : Class) → StepsOver text at class next → (class ≡ Letter → ⊥) → chars (drop at text) ≡ past is_letter (chars (drop at text))
-letters_end text at next class s n = no_letter s.char (chars (drop next text)) (chars (drop at text)) class s.chars s.is n
+letters_end text at next class s n = rw (s.chars, not_letter s.char (λ z. n (s.is ∙ z))) refl
 
 pub space_ends : (text : List ℕ) (at next : ℕ) (class : Class) → StepsOver text at class next → (class ≡ White → ⊥) → chars (drop at text) ≡ past is_ws (chars (drop at text))
-space_ends text at next class s n = no_space s.char (chars (drop next text)) (chars (drop at text)) class s.chars s.is n
-
-no_number : (c : ℕ) (cs rest : List ℕ) (class : Class) → rest ≡ c ∷ cs → class ≡ class_of c → class ≢ White → class ≢ Digit → begins is_numeric rest ≡ false
-no_number c cs rest White e d w n = absurd (w refl)
-no_number c cs rest Digit e d w n = absurd (n refl)
-no_number c cs rest Letter e d w n = rw (e, ← d) refl
-no_number c cs rest Point e d w n = rw (e, ← d) refl
-no_number c cs rest Other e d w n = rw (e, ← d) refl
+space_ends text at next class s n = rw (s.chars, not_white s.char (λ z. n (s.is ∙ z))) refl
 
 pub number_stops : (text : List ℕ) (at next : ℕ) (class : Class) → StepsOver text at class next → class ≢ White → class ≢ Digit → begins is_numeric (chars (drop at text)) ≡ false
-number_stops text at next class s w n = no_number s.char (chars (drop next text)) (chars (drop at text)) class s.chars s.is w n
+number_stops text at next class s w n = ap (begins is_numeric) s.chars ∙ not_numeric s.char (λ z. w (s.is ∙ z)) (λ z. n (s.is ∙ z))
 
 -- no characters stand at the end
 pub no_chars_at : (text : List ℕ) (at : ℕ) → length text ≤ at → chars (drop at text) ≡ []

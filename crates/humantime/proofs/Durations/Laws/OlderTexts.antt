@@ -6,7 +6,7 @@ use Rattle.std.specs.Option.{IfSome}
 use Rattle.std.proofs.lemmas.Bool.{cases_Bool, false≢true, and_from, eqb-true}
 use Rattle.std.proofs.lemmas.Map.Entries.{lookup-filter-keys}
 use Rattle.std.proofs.lemmas.Slice.Eq.{bytes_eq-Decides}
-use Rattle.humantime.specs.Durations.Characters.{class_of, white_spaces, decimal_value, significant, is_ws, is_numeric}
+use Rattle.humantime.specs.Durations.Characters.{white_spaces, is_ws, is_digit, is_numeric, decimal_value, significant}
 use Rattle.humantime.specs.Durations.Units.{Scale, words, scale_of_word}
 use Rattle.humantime.specs.Durations.Spans.{Span, Only, Spells, SpellsFraction, SpellsEach, fraction_additions, additions_at, additions, total, Formed, FitsFraction, Fits, Accepted, Bare_zero, Sum_of}
 use Rattle.humantime.specs.Durations.Older.{is_older_letter, older_scale_of_word, older_fraction_additions, older_additions_at, older_additions, OlderFormed, OlderFitsFraction, OlderFits, OlderGood, AcceptedWithZeros, Older_zero, Older_sum, AcceptedWithoutMu, Oldest_zero, Oldest_sum, IsStillAccepted, HasMu}
@@ -118,11 +118,11 @@ none_is_mu p fails [] h = tt
 none_is_mu p fails (c ∷ cs) h = (not_mu p fails c h.0, none_is_mu p fails cs h.1)
 
 no_mu_in_space : (cs : List ℕ) → Only is_ws cs → Only is_not_mu cs
-unfolding class_of white_spaces
+unfolding is_ws white_spaces
 no_mu_in_space = none_is_mu is_ws refl
 
 no_mu_in_number : (cs : List ℕ) → Only is_numeric cs → Only is_not_mu cs
-unfolding class_of white_spaces
+unfolding is_digit is_ws white_spaces
 no_mu_in_number = none_is_mu is_numeric refl
 
 no_mu_in_fraction : (text : List ℕ) (fraction : Option (List ℕ)) → SpellsFraction text fraction → Only is_not_mu text

@@ -1,40 +1,30 @@
 -- The digits of a printed count, as a number of a text.
-use Rattle.std.proofs.Common.{◌≡◌, ℕ, ◌<◌, ◌^◌, true, false, List, [], ◌∷◌, length, refl, sym, ap, ◌∙◌, arith}
-use Rattle.std.specs.Char.{is_whitespace}
+use Rattle.std.proofs.Common.{◌≡◌, ℕ, ◌<◌, ◌^◌, true, List, [], ◌∷◌, length, refl, ap, arith}
 use Rattle.std.specs.Prelude.{decimal}
 use Rattle.std.specs.Int.{IsInRange}
 use Rattle.std.specs.Str.Parse.{AllDigits}
 use Rattle.std.proofs.lemmas.Str.Parse.{digit_from_value}
 use Rattle.std.proofs.lemmas.Fmt.{decimal_is_IsNumeral}
 use Rattle.std.proofs.lemmas.Bool.Decides.{nat_tests}
-use Rattle.humantime.specs.declared.duration.reading.class.Class.TheVariants.{Digit}
-use Rattle.humantime.specs.Durations.Characters.{class_of, is_digit, is_numeric, begins, digits, decimal_value}
+use Rattle.humantime.specs.Durations.Characters.{is_digit, is_numeric, begins, digits, decimal_value}
 use Rattle.humantime.specs.Durations.Spans.{Only}
-use Rattle.humantime.proofs.Durations.Reading.Classes.{white_space_listed}
+use Rattle.humantime.proofs.Durations.Reading.Classes.{digit_is_numeric}
 
-digit_here : (c : ℕ) → IsInRange 48 57 c → class_of c ≡ Digit
-unfolding class_of
-digit_here c h =
-    let other : is_whitespace c ≡ false = grind (arith, nat_tests) in
-    rw (sym (white_space_listed c) ∙ other) (grind (arith, nat_tests))
+digit_here : (c : ℕ) → IsInRange 48 57 c → is_digit c ≡ true
+unfolding is_digit
+digit_here c h = grind (arith, nat_tests)
 
 pub all_numeric : (ds : List ℕ) → AllDigits 10 ds → Only is_numeric ds
 all_numeric [] h = h
-all_numeric (c ∷ cs) h =
-    let here : class_of c ≡ Digit = digit_here c (digit_from_value c h.0) in
-    (rw here refl, all_numeric cs h.1)
+all_numeric (c ∷ cs) h = (digit_is_numeric c (digit_here c (digit_from_value c h.0)), all_numeric cs h.1)
 
 pub all_digits : (ds : List ℕ) → AllDigits 10 ds → digits ds ≡ ds
 all_digits [] h = refl
-all_digits (c ∷ cs) h =
-    let here : class_of c ≡ Digit = digit_here c (digit_from_value c h.0) in
-    rw here (ap (λ l. c ∷ l) (all_digits cs h.1))
+all_digits (c ∷ cs) h = rw (digit_here c (digit_from_value c h.0)) (ap (λ l. c ∷ l) (all_digits cs h.1))
 
 pub some_digit : (ds : List ℕ) → AllDigits 10 ds → 0 < length ds → begins is_digit ds ≡ true
 some_digit [] h some = absurd (omega arith)
-some_digit (c ∷ cs) h some =
-    let here : class_of c ≡ Digit = digit_here c (digit_from_value c h.0) in
-    rw here refl
+some_digit (c ∷ cs) h some = digit_here c (digit_from_value c h.0)
 
 -- the digits are a number's, and read as n
 pub record IsNumber (ds : List ℕ) (n : ℕ) : Type 0 where

@@ -5,7 +5,7 @@ use Rattle.std.specs.Str.{IsUtf8, is_utf8, chars}
 use lib.Utf8.{encode}
 use Rattle.std.proofs.lemmas.Str.{IsUtf8-from_is_utf8}
 use Rattle.humantime.specs.Values.Amounts.{nanos_per_second}
-use Rattle.humantime.specs.Durations.Characters.{class_of, white_spaces, is_letter, leading, begins}
+use Rattle.humantime.specs.Durations.Characters.{is_letter, leading, begins}
 use Rattle.humantime.specs.Durations.Units.{Scale, in_nanos, in_seconds, in_seconds_and_nanos, scale_of_word}
 use Rattle.humantime.specs.Durations.Spans.{Span, Only}
 use Rattle.humantime.specs.Durations.Counts.{weights, Suffix, micros, suffixes}
@@ -60,42 +60,42 @@ abbrev pub most : ℕ
 most = 2 ^ 64 * nanos_per_second
 
 years : (b : Bool) → IsWord year most (codes "year" ++ cond b (codes "s") [])
-unfolding class_of white_spaces scale_of_word is_utf8 chars encode
+unfolding is_letter scale_of_word is_utf8 chars encode
 years true = known _ _ (codes "years") (in_seconds 31557600) refl refl refl (omega arith) (inl refl) refl refl
 years false = known _ _ (codes "year") (in_seconds 31557600) refl refl refl (omega arith) (inl refl) refl refl
 
 months : (b : Bool) → IsWord month year (codes "month" ++ cond b (codes "s") [])
-unfolding class_of white_spaces scale_of_word is_utf8 chars encode
+unfolding is_letter scale_of_word is_utf8 chars encode
 months true = known _ _ (codes "months") (in_seconds 2630016) refl refl refl (omega arith) (inl refl) refl refl
 months false = known _ _ (codes "month") (in_seconds 2630016) refl refl refl (omega arith) (inl refl) refl refl
 
 days : (b : Bool) → IsWord (86400 * nanos_per_second) month (codes "day" ++ cond b (codes "s") [])
-unfolding class_of white_spaces scale_of_word is_utf8 chars encode
+unfolding is_letter scale_of_word is_utf8 chars encode
 days true = known _ _ (codes "days") (in_seconds 86400) refl refl refl (omega arith) (inl refl) refl refl
 days false = known _ _ (codes "day") (in_seconds 86400) refl refl refl (omega arith) (inl refl) refl refl
 
 hours : IsWord (3600 * nanos_per_second) (86400 * nanos_per_second) (codes "h")
-unfolding class_of white_spaces scale_of_word is_utf8 chars encode
+unfolding is_letter scale_of_word is_utf8 chars encode
 hours = known _ _ (codes "h") (in_seconds 3600) refl refl refl (omega arith) (inl refl) refl refl
 
 minutes : IsWord (60 * nanos_per_second) (3600 * nanos_per_second) (codes "m")
-unfolding class_of white_spaces scale_of_word is_utf8 chars encode
+unfolding is_letter scale_of_word is_utf8 chars encode
 minutes = known _ _ (codes "m") (in_seconds_and_nanos 60) refl refl refl (omega arith) (inl refl) refl refl
 
 pub seconds : IsWord nanos_per_second (60 * nanos_per_second) (codes "s")
-unfolding class_of white_spaces scale_of_word is_utf8 chars encode
+unfolding is_letter scale_of_word is_utf8 chars encode
 seconds = known _ _ (codes "s") (in_seconds_and_nanos 1) refl refl refl (omega arith) (inl refl) refl refl
 
 millis : IsWord 1000000 nanos_per_second (codes "ms")
-unfolding class_of white_spaces scale_of_word is_utf8 chars encode
+unfolding is_letter scale_of_word is_utf8 chars encode
 millis = known _ _ (codes "ms") (in_nanos 1000000 (Some 1000000)) refl refl refl (omega arith) (inr (refl, omega arith)) refl refl
 
 micros_word : IsWord 1000 1000000 micros
-unfolding class_of white_spaces scale_of_word is_utf8 chars encode
+unfolding is_letter scale_of_word is_utf8 chars encode
 micros_word = known _ _ micros (in_nanos 1000 (Some 1000)) refl refl refl (omega arith) (inr (refl, omega arith)) refl refl
 
 nanos : IsWord 1 1000 (codes "ns")
-unfolding class_of white_spaces scale_of_word is_utf8 chars encode
+unfolding is_letter scale_of_word is_utf8 chars encode
 nanos = known _ _ (codes "ns") (in_nanos 1 None) refl refl refl (omega arith) (inr (refl, omega arith)) refl refl
 
 -- each suffix gives words of its weight, where less than m is left

@@ -10,7 +10,7 @@ use Rattle.std.proofs.lemmas.List.{append_assoc, append-nil}
 use Rattle.std.proofs.lemmas.Str.{chars-append, chars-IsAscii, chars-nil, IsUtf8-append, IsUtf8-from_ascii}
 use Rattle.std.proofs.lemmas.Fmt.{IsAscii-decimal, decimal_digit}
 use Rattle.humantime.specs.Values.Amounts.{nanos_per_second}
-use Rattle.humantime.specs.Durations.Characters.{class_of, white_spaces, is_ws, decimal_value, u64_max}
+use Rattle.humantime.specs.Durations.Characters.{white_spaces, is_ws, decimal_value, u64_max}
 use Rattle.humantime.specs.Durations.Units.{Scale, scale_of_word}
 use Rattle.humantime.specs.Durations.Spans.{Span, Only, Spells, SpellsEach, total, fraction_additions, additions_of, additions, Formed, Fits, HasRoom, Accepted, Sum_of}
 use Rattle.humantime.specs.Durations.Counts.{weights, weighted_sum, Suffix, suffixes, without_plural, printed_count, printed_counts, joined_by_space, Canon}
@@ -185,7 +185,7 @@ count_spells n w m s space h i only =
     }
 
 space_is : Only is_ws (32 ∷ [])
-unfolding class_of white_spaces
+unfolding is_ws white_spaces
 space_is = (refl, tt)
 
 chars_space : (bs : List ℕ) → chars (32 ∷ bs) ≡ 32 ∷ chars bs

@@ -1,110 +1,136 @@
--- The classes of characters exclude each other.
-use Rattle.std.proofs.Common.{◌≡◌, ℕ, Bool, true, false, ◌||◌, if◌then◌else◌, refl, sym, ◌∙◌, arith}
-use Rattle.std.specs.Char.{is_whitespace, char_set_contains}
-use Rattle.std.proofs.lemmas.Bool.{or_parts}
+-- What a character is excludes the others; and what its class says.
+use Rattle.std.proofs.Common.{◌≡◌, ◌≢◌, ◌⊎◌, ◌↔◌, ℕ, Bool, true, false, refl, sym, ◌∙◌, inl, inr, arith}
+use Rattle.std.specs.Prelude.{if◌then◌else◌}
+use Rattle.std.specs.Char.{is_whitespace}
+use Rattle.std.proofs.lemmas.Bool.{cases_Bool, false≢true, or_from, or_left, or_right}
 use Rattle.std.proofs.lemmas.Bool.Decides.{nat_tests}
 use Rattle.humantime.specs.declared.duration.reading.class.Class.{Class}
 use Rattle.humantime.specs.declared.duration.reading.class.Class.TheVariants.{White, Digit, Letter, Point, Other}
-use Rattle.humantime.specs.Durations.Characters.{class_of, white_spaces, white, digit, letter, point, is_ws, is_digit, is_letter, is_point, is_numeric}
-
-not_letter : (k : Class) → (digit k || white k) ≡ true → letter k ≡ false
-not_letter White e = refl
-not_letter Digit e = refl
-not_letter Letter e = cc
-not_letter Point e = refl
-not_letter Other e = refl
-
-not_numeric : (k : Class) → letter k ≡ true → (digit k || white k) ≡ false
-not_numeric White e = cc
-not_numeric Digit e = cc
-not_numeric Letter e = refl
-not_numeric Point e = refl
-not_numeric Other e = refl
-
-not_point : (k : Class) → letter k ≡ true → point k ≡ false
-not_point White e = cc
-not_point Digit e = cc
-not_point Letter e = refl
-not_point Point e = cc
-not_point Other e = refl
-
-no_number_at_point : (k : Class) → point k ≡ true → (digit k || white k) ≡ false
-no_number_at_point White e = cc
-no_number_at_point Digit e = cc
-no_number_at_point Letter e = cc
-no_number_at_point Point e = refl
-no_number_at_point Other e = cc
-
-digit_or : (k : Class) → digit k ≡ true → ((digit k || white k) ≡ true) × (white k ≡ false)
-digit_or White e = cc
-digit_or Digit e = (refl, refl)
-digit_or Letter e = cc
-digit_or Point e = cc
-digit_or Other e = cc
-
-white_or : (k : Class) → white k ≡ true → (digit k || white k) ≡ true
-white_or White e = refl
-white_or Digit e = cc
-white_or Letter e = cc
-white_or Point e = cc
-white_or Other e = cc
-
-white_not_digit : (k : Class) → (digit k || white k) ≡ true → digit k ≡ false → white k ≡ true
-white_not_digit White e d = refl
-white_not_digit Digit e d = cc
-white_not_digit Letter e d = cc
-white_not_digit Point e d = cc
-white_not_digit Other e d = cc
-
-pub numeric_not_letter : (c : ℕ) → is_numeric c ≡ true → is_letter c ≡ false
-numeric_not_letter c = not_letter (class_of c)
-
-pub letter_not_numeric : (c : ℕ) → is_letter c ≡ true → is_numeric c ≡ false
-letter_not_numeric c = not_numeric (class_of c)
-
-pub letter_not_point : (c : ℕ) → is_letter c ≡ true → is_point c ≡ false
-letter_not_point c = not_point (class_of c)
-
-pub point_not_numeric : (c : ℕ) → is_point c ≡ true → is_numeric c ≡ false
-point_not_numeric c = no_number_at_point (class_of c)
-
-pub digit_is_numeric : (c : ℕ) → is_digit c ≡ true → is_numeric c ≡ true
-digit_is_numeric c e = (digit_or (class_of c) e).0
-
-pub digit_not_space : (c : ℕ) → is_digit c ≡ true → is_ws c ≡ false
-digit_not_space c e = (digit_or (class_of c) e).1
-
-pub space_is_numeric : (c : ℕ) → is_ws c ≡ true → is_numeric c ≡ true
-space_is_numeric c = white_or (class_of c)
-
-pub space_from_numeric : (c : ℕ) → is_numeric c ≡ true → is_digit c ≡ false → is_ws c ≡ true
-space_from_numeric c = white_not_digit (class_of c)
+use Rattle.humantime.specs.Durations.Characters.{white_spaces, is_ws, is_digit, is_letter, is_point, is_numeric}
+use Rattle.humantime.specs.References.Durations.Classes.{class_of}
 
 -- the white space listed is that of std
-pub white_space_listed : (c : ℕ) → is_whitespace c ≡ char_set_contains white_spaces c
-unfolding white_spaces
-white_space_listed c = grind (arith, nat_tests)
-
--- the class of a character of white space
-white_of : (w d l p : Bool) → white (if w then White else if d then Digit else if l then Letter else if p then Point else Other) ≡ w
-white_of true d l p = refl
-white_of false true l p = refl
-white_of false false true p = refl
-white_of false false false true = refl
-white_of false false false false = refl
-
 pub white_is : (c : ℕ) → is_whitespace c ≡ is_ws c
-unfolding class_of
-white_is c = white_space_listed c ∙ sym (white_of _ _ _ _)
+unfolding is_ws white_spaces
+white_is c = grind (arith, nat_tests)
 
--- the point is one character
+-- ---- one test excludes the others
+
+pub digit_not_space : (c : ℕ) → is_digit c ≡ true → is_ws c ≡ false
+unfolding is_digit
+digit_not_space c e = let other : is_whitespace c ≡ false = grind (arith, nat_tests) in sym (white_is c) ∙ other
+
+pub letter_not_space : (c : ℕ) → is_letter c ≡ true → is_ws c ≡ false
+unfolding is_letter
+letter_not_space c e = let other : is_whitespace c ≡ false = grind (arith, nat_tests) in sym (white_is c) ∙ other
+
+point_not_space : (c : ℕ) → is_point c ≡ true → is_ws c ≡ false
+unfolding is_point
+point_not_space c e = let other : is_whitespace c ≡ false = grind (arith, nat_tests) in sym (white_is c) ∙ other
+
+letter_not_digit : (c : ℕ) → is_letter c ≡ true → is_digit c ≡ false
+unfolding is_digit is_letter
+letter_not_digit c e = grind (arith, nat_tests)
+
+point_not_digit : (c : ℕ) → is_point c ≡ true → is_digit c ≡ false
+unfolding is_digit is_point
+point_not_digit c e = grind (arith, nat_tests)
+
+pub letter_not_point : (c : ℕ) → is_letter c ≡ true → is_point c ≡ false
+unfolding is_letter is_point
+letter_not_point c e = grind (arith, nat_tests)
+
+-- what one of two tests excludes, the other excludes
+excluded : (a b : Bool) → (b ≡ true → a ≡ false) → a ≡ true → b ≡ false
+excluded a b h e = elim (cases_Bool b) [ inl f ↦ absurd (false≢true (sym (h f) ∙ e)) | inr f ↦ f ]
+
+pub space_not_digit : (c : ℕ) → is_ws c ≡ true → is_digit c ≡ false
+space_not_digit c = excluded (is_ws c) (is_digit c) (digit_not_space c)
+
+pub letter_not_numeric : (c : ℕ) → is_letter c ≡ true → is_numeric c ≡ false
+letter_not_numeric c e = or_from (is_digit c) (is_ws c) (letter_not_digit c e) (letter_not_space c e)
+
+pub point_not_numeric : (c : ℕ) → is_point c ≡ true → is_numeric c ≡ false
+point_not_numeric c e = or_from (is_digit c) (is_ws c) (point_not_digit c e) (point_not_space c e)
+
+pub numeric_not_letter : (c : ℕ) → is_numeric c ≡ true → is_letter c ≡ false
+numeric_not_letter c = excluded (is_numeric c) (is_letter c) (letter_not_numeric c)
+
+-- ---- what a number holds
+
+pub digit_is_numeric : (c : ℕ) → is_digit c ≡ true → is_numeric c ≡ true
+digit_is_numeric c = or_left (is_digit c) (is_ws c)
+
+pub space_is_numeric : (c : ℕ) → is_ws c ≡ true → is_numeric c ≡ true
+space_is_numeric c = or_right (is_digit c) (is_ws c)
+
+pub space_from_numeric : (c : ℕ) → is_numeric c ≡ true → is_digit c ≡ false → is_ws c ≡ true
+space_from_numeric c n d = rw d at n
+
+pub digit_from_numeric : (c : ℕ) → is_numeric c ≡ true → is_ws c ≡ false → is_digit c ≡ true
+digit_from_numeric c n w = elim (cases_Bool (is_digit c)) [ inl d ↦ d | inr d ↦ absurd (false≢true (sym w ∙ space_from_numeric c n d)) ]
+
+-- ---- the point is one character
+
 pub is_point-46 : is_point 46 ≡ true
-unfolding class_of white_spaces
+unfolding is_point
 is_point-46 = refl
 
 pub is_point-true : (c : ℕ) → is_point c ≡ true → c ≡ 46
-unfolding class_of
+unfolding is_point
 is_point-true c e = grind (arith, nat_tests)
 
-pub letter_not_space : (c : ℕ) → is_letter c ≡ true → is_ws c ≡ false
-letter_not_space c e = (or_parts (is_digit c) (is_ws c) (letter_not_numeric c e)).1
+-- ---- classes
+
+-- what a class says
+abbrev Says : Class → ℕ → Type 0
+Says White c = is_ws c ≡ true
+Says Digit c = is_digit c ≡ true
+Says Letter c = is_letter c ≡ true
+Says Point c = is_point c ≡ true
+Says Other c = Unit {0}
+
+class_says : (c : ℕ) → Says (class_of c) c
+unfolding class_of
+class_says c = by (is_ws c) (is_digit c) (is_letter c) (is_point c) refl refl refl refl
+  where
+    by : (w d l p : Bool) → is_ws c ≡ w → is_digit c ≡ d → is_letter c ≡ l → is_point c ≡ p
+        → Says (if w then White else if d then Digit else if l then Letter else if p then Point else Other) c
+    by true d l p e f g h = e
+    by false true l p e f g h = f
+    by false false true p e f g h = g
+    by false false false true e f g h = h
+    by false false false false e f g h = tt
+
+-- a character passes a test exactly where it is of the test's class
+pub is_ws-class : (c : ℕ) → (class_of c ≡ White) ↔ (is_ws c ≡ true)
+unfolding class_of
+is_ws-class c = ((λ e. let says = class_says c in rw e at says), (λ e. rw e refl))
+
+pub is_digit-class : (c : ℕ) → (class_of c ≡ Digit) ↔ (is_digit c ≡ true)
+unfolding class_of
+is_digit-class c = ((λ e. let says = class_says c in rw e at says), (λ e. rw (digit_not_space c e, e) refl))
+
+pub is_letter-class : (c : ℕ) → (class_of c ≡ Letter) ↔ (is_letter c ≡ true)
+unfolding class_of
+is_letter-class c = ((λ e. let says = class_says c in rw e at says), (λ e. rw (letter_not_space c e, letter_not_digit c e, e) refl))
+
+-- a test fails where a fact is not so that holds exactly where the test passes
+fails : (P : Type 0) (b : Bool) → (P ↔ (b ≡ true)) → ¬ P → b ≡ false
+fails P b h n = elim (cases_Bool b) [ inl e ↦ absurd (n (h.1 e)) | inr e ↦ e ]
+
+pub not_white : (c : ℕ) → class_of c ≢ White → is_ws c ≡ false
+not_white c = fails (class_of c ≡ White) (is_ws c) (is_ws-class c)
+
+pub not_digit : (c : ℕ) → class_of c ≢ Digit → is_digit c ≡ false
+not_digit c = fails (class_of c ≡ Digit) (is_digit c) (is_digit-class c)
+
+pub not_letter : (c : ℕ) → class_of c ≢ Letter → is_letter c ≡ false
+not_letter c = fails (class_of c ≡ Letter) (is_letter c) (is_letter-class c)
+
+pub numeric_class : (c : ℕ) → (class_of c ≡ Digit) ⊎ (class_of c ≡ White) → is_numeric c ≡ true
+numeric_class c (inl d) = digit_is_numeric c ((is_digit-class c).0 d)
+numeric_class c (inr w) = space_is_numeric c ((is_ws-class c).0 w)
+
+pub not_numeric : (c : ℕ) → class_of c ≢ White → class_of c ≢ Digit → is_numeric c ≡ false
+not_numeric c w d = or_from (is_digit c) (is_ws c) (not_digit c d) (not_white c w)

@@ -1,17 +1,17 @@
 -- What the span at a rest lends of the text.
 use Rattle.std.proofs.Common.{◌≡◌, ◌≢◌, ℕ, Bool, true, false, cond, if◌then◌else◌, List, [], ◌∷◌, ◌++◌, Some, None, option_map, refl, sym, ap, ap₂, subst, ◌∙◌, ◌<◌, length, encode_utf8_all, append_assoc, length-append, arith}
 use Rattle.std.proofs.lemmas.Str.{encodes-append, length-le-encodes}
-use Rattle.humantime.specs.Durations.Characters.{class_of, is_ws, is_digit, is_letter, is_numeric, is_point, begins, leading, past, digits, byte_length, offset_of}
+use Rattle.humantime.specs.Durations.Characters.{is_ws, is_digit, is_letter, is_numeric, is_point, begins, leading, past, digits, byte_length, offset_of}
 use Rattle.humantime.specs.Durations.Spans.{Only}
 use Rattle.humantime.specs.Durations.Faults.{after_number, fraction_at, past_fraction, digits_in, after_fraction, word_of, after_word, span_of}
 use Rattle.humantime.specs.References.Durations.Reading.{stop_at}
 use Rattle.humantime.specs.Durations.Slices.{IsDigits, LendsFraction, IsLent}
 use Rattle.humantime.specs.References.Durations.Lending.{trimmed, number_slice, fraction_slice, lent_at}
-use Rattle.humantime.proofs.Durations.Reading.Classes.{digit_is_numeric, is_point-true}
+use Rattle.humantime.proofs.Durations.Reading.Classes.{digit_is_numeric, digit_from_numeric, is_point-true}
 use Rattle.humantime.proofs.Durations.Reading.Runs.{leading-past, Only-leading, begins-past, begins_Only, begins_some}
 use Rattle.humantime.proofs.Durations.Reading.Spelled.{next_of}
 use Rattle.humantime.proofs.Durations.Reading.Stopping.{Fine, Says, stop_says, some_letters}
-use Rattle.humantime.proofs.Durations.Slices.Trimming.{dropped, digits_past, digits_dropped_are, numeric_digit}
+use Rattle.humantime.proofs.Durations.Slices.Trimming.{dropped, digits_past, digits_dropped_are}
 
 -- the point with what follows it up to the word, if a point begins the text
 abbrev fraction_text : List ℕ → List ℕ
@@ -37,7 +37,7 @@ Only-past p q (c ∷ cs) o = by (q c) (Only-past p q cs o.1)
 -- digits and white space that don't begin with white space begin with a digit
 begins_digit_or_end : (cs : List ℕ) → Only is_numeric cs → begins is_ws cs ≡ false → digits cs ≢ [] → begins is_digit cs ≡ true
 begins_digit_or_end [] o b d = absurd (d refl)
-begins_digit_or_end (c ∷ cs) o b d = numeric_digit (class_of c) o.0 b
+begins_digit_or_end (c ∷ cs) o b d = digit_from_numeric c o.0 b
 
 -- digits and white space, not without a digit, are white space, the trimmed part, and white space
 record TrimmedOf (cs : List ℕ) : Type 0 where

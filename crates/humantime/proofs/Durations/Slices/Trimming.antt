@@ -1,17 +1,15 @@
 -- Slices without the white space at their ends.
-use Rattle.std.proofs.Common.{◌≡◌, ℕ, suc, Bool, true, false, ◌&&◌, ◌||◌, cond, eqb, List, [], ◌∷◌, ◌++◌, length, Option, Some, None, option_map, ◌⊎◌, inl, inr, refl, sym, ap, ap₂, subst, ◌∙◌, append-nil, arith}
+use Rattle.std.proofs.Common.{◌≡◌, ℕ, suc, Bool, true, false, ◌&&◌, cond, eqb, List, [], ◌∷◌, ◌++◌, length, Option, Some, None, option_map, ◌⊎◌, inl, inr, refl, sym, ap, ap₂, subst, ◌∙◌, append-nil, arith}
 use Rattle.std.specs.Char.{is_whitespace}
 use Rattle.std.specs.Str.{drop_trailing_whitespace}
 use Rattle.std.proofs.lemmas.Bool.Decides.{nat_tests}
 use Rattle.std.proofs.lemmas.List.Elements.{filter-append}
-use Rattle.humantime.specs.declared.duration.reading.class.Class.{Class}
-use Rattle.humantime.specs.declared.duration.reading.class.Class.TheVariants.{White, Digit, Letter, Point, Other}
-use Rattle.humantime.specs.Durations.Characters.{class_of, white, digit, is_ws, is_digit, is_numeric, begins, ends, leading, past, digits}
+use Rattle.humantime.specs.Durations.Characters.{is_ws, is_digit, is_numeric, begins, ends, leading, past, digits}
 use Rattle.humantime.specs.Durations.Spans.{Only}
 use Rattle.humantime.specs.Durations.Faults.{number_of, after_number, fraction_at, digits_in, word_of, span_of}
 use Rattle.humantime.specs.Durations.Slices.{IsDigits}
 use Rattle.humantime.specs.References.Durations.Lending.{trimmed, number_slice, fraction_slice, lent_at, spelled}
-use Rattle.humantime.proofs.Durations.Reading.Classes.{white_is}
+use Rattle.humantime.proofs.Durations.Reading.Classes.{white_is, space_not_digit, digit_from_numeric}
 
 pub suc_not_zero : (n : ℕ) → eqb (suc n) 0 ≡ false
 suc_not_zero n = grind (arith, nat_tests)
@@ -37,23 +35,9 @@ dropped (c ∷ cs) = by (is_whitespace c) (drop_trailing_whitespace cs) refl (dr
     by false [] e d = record { tail = d.tail; whole = ap (c ∷◌) d.whole; space = d.space; last = inr (sym (white_is c) ∙ e) }
     by false (x ∷ xs) e d = record { tail = d.tail; whole = ap (c ∷◌) d.whole; space = d.space; last = inr (last_of x xs d.last) }
 
-white_no_digit : (k : Class) → white k ≡ true → digit k ≡ false
-white_no_digit White e = refl
-white_no_digit Digit e = cc
-white_no_digit Letter e = refl
-white_no_digit Point e = refl
-white_no_digit Other e = refl
-
-pub numeric_digit : (k : Class) → (digit k || white k) ≡ true → white k ≡ false → digit k ≡ true
-numeric_digit White n w = cc
-numeric_digit Digit n w = refl
-numeric_digit Letter n w = n
-numeric_digit Point n w = n
-numeric_digit Other n w = n
-
 no_digits : (cs : List ℕ) → Only is_ws cs → digits cs ≡ []
 no_digits [] o = refl
-no_digits (c ∷ cs) o = rw (white_no_digit (class_of c) o.0) (no_digits cs o.1)
+no_digits (c ∷ cs) o = rw (space_not_digit c o.0) (no_digits cs o.1)
 
 digits_dropped : (cs ds : List ℕ) → Dropped cs ds → digits ds ≡ digits cs
 digits_dropped cs ds d = sym (ap digits d.whole ∙ filter-append is_digit ds d.tail ∙ ap (digits ds ++◌) (no_digits d.tail d.space) ∙ append-nil (digits ds))
@@ -63,7 +47,7 @@ digits_past [] = refl
 digits_past (c ∷ cs) = by (is_ws c) refl (digits_past cs)
   where
     by : (w : Bool) → is_ws c ≡ w → digits (past is_ws cs) ≡ digits cs → digits (cond w (past is_ws cs) (c ∷ cs)) ≡ digits (c ∷ cs)
-    by true e h = rw (white_no_digit (class_of c) e) h
+    by true e h = rw (space_not_digit c e) h
     by false e h = refl
 
 digits_trimmed : (cs : List ℕ) → digits (trimmed cs) ≡ digits cs
@@ -84,12 +68,12 @@ pub spelled_at : (text rest : List ℕ) → spelled (lent_at text rest).number (
 spelled_at text rest = ap₂ (λ (n : List ℕ) (f : Option (List ℕ)). record { number = n; fraction = f; word = word_of rest }) (number_spelled rest) (fraction_spelled (after_number rest))
 
 ends_digit : (x : ℕ) (xs : List ℕ) → Only is_numeric (x ∷ xs) → ends is_ws (x ∷ xs) ≡ false → ends is_digit (x ∷ xs) ≡ true
-ends_digit x [] o e = numeric_digit (class_of x) o.0 e
+ends_digit x [] o e = digit_from_numeric x o.0 e
 ends_digit x (y ∷ ys) o e = ends_digit y ys o.1 e
 
 all_white : (cs : List ℕ) → Only is_ws cs → begins is_digit cs ≡ true → ⊥
 all_white [] o b = cc
-all_white (c ∷ cs) o b = let n = white_no_digit (class_of c) o.0 in cc
+all_white (c ∷ cs) o b = let n = space_not_digit c o.0 in cc
 
 only_front : (p : ℕ → Bool) (xs ys : List ℕ) → Only p (xs ++ ys) → Only p xs
 only_front p [] ys o = tt

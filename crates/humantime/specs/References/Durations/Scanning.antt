@@ -1,7 +1,8 @@
 -- The steps by which one span is read, over what is left of a text: the plain reference of the private functions.
 use Rattle.std.specs.Prelude.{◌≡◌, ◌≤◌, ℕ, ◌-◌, Bool, true, false, List, [], ◌∷◌, length, drop, Option, Some, None, Result, Ok, Err, nat_lt, not, if◌then◌else◌, IsUtf8, ◌<◌, IsCharBoundary, chars}
-use Rattle.humantime.specs.Durations.Characters.{is_point, is_numeric, decimal_value, significant, u64_max, byte_length, offset_of, class_of}
+use Rattle.humantime.specs.Durations.Characters.{is_point, is_numeric, decimal_value, significant, u64_max, byte_length, offset_of}
 use Rattle.humantime.specs.declared.duration.reading.class.Class.{Class}
+use Rattle.humantime.specs.References.Durations.Classes.{class_of}
 use Rattle.humantime.specs.Durations.Faults.{Fault, InvalidCharacter, UnknownUnit, NumberOverflow, number_of, after_number}
 use Rattle.humantime.specs.References.Durations.Lending.{trimmed}
 use Rattle.humantime.specs.References.Durations.Scales.{Counted, counted}

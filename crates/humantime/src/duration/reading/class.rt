@@ -1,9 +1,8 @@
 //! The classes of characters.
 
 ghost use Rattle.std.specs.Prelude.{◌≡◌, ◌<◌, ◌≤◌};
-ghost use Rattle.std.specs.Char.{char_set_contains};
-ghost use Rattle.humantime.specs.Durations.Characters.{class_of, white_spaces};
-ghost use Rattle.humantime.specs.References.Durations.ClassCodes.{code_of};
+ghost use Rattle.humantime.specs.Durations.Characters.{is_ws};
+ghost use Rattle.humantime.specs.References.Durations.Classes.{class_of, code_of};
 
 /// What a character is in a duration's text.
 #[derive(Clone, Copy, PartialEq, Eq, Debug)]
@@ -40,7 +39,7 @@ static ASCII_CODES: [u8; 128] = [
 
 /// Whether a character is one of the 25 of white space.
 fn is_white(c: char) -> bool
-    ensures { result ≡ char_set_contains white_spaces c }
+    ensures { result ≡ is_ws c }
 {
     c.is_whitespace()
 }
@@ -57,7 +56,7 @@ fn rare_class(c: char) -> Class
 
 /// The class of a character beyond ASCII.
 #[inline(always)]
-#[tactic(auto, unfolding(crate::specs::Durations::Characters::class_of))]
+#[tactic(auto, unfolding(crate::specs::References::Durations::Classes::class_of))]
 pub(crate) fn wide_class(c: char) -> Class
     requires { 128 ≤ c }
     ensures { result ≡ class_of c }

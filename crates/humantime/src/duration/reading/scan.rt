@@ -1,8 +1,9 @@
 //! Steps over a text: a character, a number, a fraction.
 
 ghost use Rattle.std.specs.Prelude.{◌≡◌, false, ◌≢◌, ◌++◌, [], ◌∷◌, ℕ, List, length, chars, option_map, encode_utf8, IfNone, IfSome, IfOk, SomeIff, ◌+◌, ◌-◌, ◌*◌, ◌≤◌, slice_index, IsCharBoundary, ◌<◌};
-ghost use Rattle.humantime.specs.Durations.Characters.{IsDigit, is_point, begins, u64_max};
+ghost use Rattle.humantime.specs.Durations.Characters.{is_point, begins, u64_max};
 ghost use Rattle.humantime.specs.Durations.Errors.{seen};
+ghost use Rattle.humantime.specs.References.Durations.Classes.{class_of};
 ghost use Rattle.humantime.specs.References.Durations.Scales.{parts_of};
 ghost use Rattle.humantime.specs.References.Durations.Scanning.{IsTail, number_at, digits_at, fraction_read, StepsOver};
 ghost use Rattle.humantime.specs.declared.duration.reading.class.Class.TheVariants.{Digit};
@@ -77,7 +78,7 @@ pub(crate) fn first(text: &str) -> Option<(char, &str)>
 /// Ten times the value and the digit, or `None` where that is too large.
 #[inline(always)]
 fn push_digit(value: u64, c: u8) -> Option<u64>
-    requires { IsDigit c }
+    requires { class_of c ≡ Digit }
     ensures { SomeIff result (value * 10 + (c - 48) ≤ u64_max) (value * 10 + (c - 48)) }
 {
     let digit = (c - b'0') as u64;

@@ -63,6 +63,11 @@ loop-at-preserved-then-bytes-at-lt128 c =
       ];
     }
 
+pub loop-at-preserved : goal.loop-at-preserved
+loop-at-preserved c =
+    let s = c.wide_step-class.ensures.step in
+    record { place = s.place; read = among_space _ _ _ _ _ _ _ s.char c.loop-at.invariant.read s.chars (sym s.is ∙ c.in-White-class.is) }
+
 pub invariant_of-digits : goal.invariant_of-digits
 invariant_of-digits c = record { few = kept_few _ _ _ _ _ _ c.loop-at.invariant.read }
 

@@ -44,6 +44,11 @@ loop-at-preserved-then-bytes-at-lt128 c =
       ];
     }
 
+pub loop-at-preserved : goal.loop-at-preserved
+loop-at-preserved c =
+    let s = c.wide_step-class.ensures.step in
+    record { place = s.place; read = at_space _ _ _ _ s.char c.loop-at.invariant.read s.chars (sym s.is ∙ c.in-White-class.is) }
+
 pub returns-in_default-class : goal.returns-in_default-class
 returns-in_default-class c =
     let s = c.wide_step-class.ensures.step in

@@ -25,6 +25,15 @@ returns-in_default c =
       tail = rw c.range_from.ensures.value (tail_at c.args.text.now c.loop-at.at c.utf8.text c.loop-at.invariant.place);
     }
 
+pub loop-at-preserved : goal.loop-at-preserved
+loop-at-preserved c =
+    let s = c.wide_step-class.ensures.step in
+    record { place = s.place; same = space_step _ _ _ _ _ s c.in-White-class.is c.loop-at.invariant.same }
+
+pub returns-in_default-class-clause-rest : goal.returns-in_default-class-clause-rest
+returns-in_default-class-clause-rest c =
+    ap chars c.range_from-in_default-class.ensures.value ∙ space_ends _ _ _ _ c.wide_step-class.ensures.step c.in_default-class.not-White ∙ c.loop-at.invariant.same
+
 pub returns-clause-rest : goal.returns-clause-rest
 returns-clause-rest c =
     let end : length c.args.text.now ≤ c.loop-at.at = grind (arith, common_steps) in
