@@ -7,7 +7,8 @@ use Rattle.std.specs.Str.Parse.{digits_value_after}
 use Rattle.humantime.specs.declared.duration.reading.class.Class.{Class}
 use Rattle.humantime.specs.declared.duration.reading.class.Class.TheVariants.{White, Digit, Letter, Point, Other}
 use Rattle.humantime.specs.Durations.Characters.{class_of, is_numeric, begins, leading, past, digits, decimal_value, significant}
-use Rattle.humantime.specs.Durations.Faults.{NumberOverflow, number_of, after_number}
+use Rattle.humantime.specs.Durations.Rests.{number_of, after_number}
+use Rattle.humantime.specs.Durations.Faults.{NumberOverflow}
 use Rattle.humantime.specs.References.Durations.Scales.{has_digits}
 use Rattle.humantime.specs.References.Durations.Scanning.{digits_at}
 use Rattle.humantime.proofs.Durations.Bytes.Digits.{digit_greatest, digit_counts}

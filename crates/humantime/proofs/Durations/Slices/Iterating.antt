@@ -3,7 +3,8 @@ use Rattle.std.proofs.Common.{◌≡◌, ◌≢◌, ℕ, zero, suc, ◌≤◌, B
 use Rattle.humantime.specs.declared.duration.reading.class.Class.{Class}
 use Rattle.humantime.specs.declared.duration.reading.class.Class.TheVariants.{White, Digit, Letter, Point, Other}
 use Rattle.humantime.specs.Durations.Characters.{class_of, digit, is_ws, is_digit, begins, past, offset_of}
-use Rattle.humantime.specs.Durations.Faults.{Fault, NumberExpected, NumberOverflow, after_word}
+use Rattle.humantime.specs.Durations.Rests.{after_word}
+use Rattle.humantime.specs.Durations.Faults.{Fault, NumberExpected, NumberOverflow}
 use Rattle.humantime.specs.References.Durations.Reading.{stop_at, add_span}
 use Rattle.humantime.specs.Durations.Slices.{Lent}
 use Rattle.humantime.specs.References.Durations.Lending.{lent_at, lends, left_at, spelled, judged}
