@@ -5,9 +5,13 @@ pub use Rattle.humantime.specs.Values.Amounts.{nanos_per_second, duration_end}
 -- durations read: the answer as a function of the characters, and the relations that it is tied to
 pub use Rattle.humantime.specs.Durations.Errors.{told, told_text, fault_of, PointsInto, IsPlaceIn, IsPartOf}
 pub use Rattle.humantime.specs.References.Durations.Answers.{duration_answer, canonical_answer}
-pub use Rattle.humantime.specs.Durations.Spans.{Accepted, Bare_zero, Sum_of, Span, Reads, Good, value, additions, AllHaveRoom}
-pub use Rattle.humantime.specs.Durations.Faults.{Fault, HasFault, Items}
-pub use Rattle.humantime.specs.Durations.Messages.{message_of as fault_message}
+pub use Rattle.humantime.specs.Durations.Accepted.{Accepted, Bare_zero, Sum_of}
+pub use Rattle.humantime.specs.Durations.Spans.{Span, Reads}
+pub use Rattle.humantime.specs.Durations.Sums.{value, additions}
+pub use Rattle.humantime.specs.Durations.Limits.{WithinLimits, AllHaveRoom}
+pub use Rattle.humantime.specs.Durations.Faults.{Fault, HasFault}
+pub use Rattle.humantime.specs.Durations.Items.{Items}
+pub use Rattle.humantime.specs.Durations.Messages.{fault_message}
 -- spans
 pub use Rattle.humantime.specs.Durations.Slices.{Lent, AreItems}
 pub use Rattle.humantime.specs.References.Durations.Lents.{lent_of, item_of}

@@ -1,7 +1,7 @@
 //! Durations and moments that read and print themselves.
 
 ghost use Rattle.std.specs.Prelude.{◌≡◌, ◌↔◌, ℕ, chars, IfErr, Some};
-ghost use Rattle.humantime.specs.Durations.Spans.{Accepted};
+ghost use Rattle.humantime.specs.Durations.Accepted.{Accepted};
 ghost use Rattle.humantime.specs.Durations.Faults.{Fault, HasFault};
 ghost use Rattle.humantime.specs.References.Durations.Answers.{duration_answer};
 ghost use Rattle.humantime.specs.Durations.Errors.{told, PointsInto};

@@ -5,7 +5,7 @@ use Rattle.std.specs.Io.KnownBytes.{Appends}
 use Rattle.humantime.specs.declared.date.error.TimestampError.{TimestampError}
 use Rattle.humantime.specs.Durations.Faults.{Fault, HasFault}
 use Rattle.humantime.specs.Durations.Canonical.{IsCanonicalOf}
-use Rattle.humantime.specs.Durations.Messages as durations
+use Rattle.humantime.specs.Durations.Messages.{fault_message}
 use Rattle.humantime.specs.Timestamps.Fields.{IsWeakMoment, IsStrictMoment}
 use Rattle.humantime.specs.Timestamps.Checks.{weak_checks, strict_checks, first_failed}
 use Rattle.humantime.specs.Timestamps.Messages as timestamps
@@ -36,7 +36,7 @@ pub data Prints (words : List (List ℕ)) (printed : List ℕ) : Type 0 where
 -- What is said where the text is refused.
 pub data Refuses (words : List (List ℕ)) (message : List ℕ) : Type 0 where
   -- the message of a duration's first fault
-  Refused_duration : (text : List ℕ) (fault : Fault) → words ≡ codes "duration" ∷ text ∷ [] → HasFault (chars text) fault → message ≡ durations.message_of fault → Refuses words message
+  Refused_duration : (text : List ℕ) (fault : Fault) → words ≡ codes "duration" ∷ text ∷ [] → HasFault (chars text) fault → message ≡ fault_message fault → Refuses words message
   -- the message of the first check that the timestamp fails
   Refused_strict : (text : List ℕ) (error : TimestampError) → words ≡ codes "strict" ∷ text ∷ [] → first_failed (strict_checks text) ≡ Some error
       → message ≡ timestamps.message_of error → Refuses words message

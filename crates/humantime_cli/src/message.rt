@@ -2,7 +2,7 @@
 
 ghost use Rattle.std.specs.Prelude.{◌≡◌, ◌++◌, decimal, chars, encode_utf8_all};
 ghost use Rattle.humantime.specs.Durations.Errors.{fault_of};
-ghost use Rattle.humantime.specs.Durations.Messages.{message_of, unit_message};
+ghost use Rattle.humantime.specs.Durations.Messages.{fault_message, unit_message};
 ghost use Rattle.humantime.specs.Timestamps.Messages as timestamps;
 ghost use Rattle.humantime_cli.specs.Writes.{Writes, line};
 
@@ -16,7 +16,7 @@ pub(crate) fn write_message<W: Write>(
     to: &mut W,
     error: DurationError<'_>,
 ) -> Result<(), WriteFailed>
-    ensures written { Writes result (W.contents to.old) (W.contents to.new) (line (message_of (fault_of error.entry))) }
+    ensures written { Writes result (W.contents to.old) (W.contents to.new) (line (fault_message (fault_of error.entry))) }
 {
     match error {
         DurationError::InvalidCharacter(at) => write_place(to, "invalid character at ", at),

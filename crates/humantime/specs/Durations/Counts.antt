@@ -1,4 +1,4 @@
--- A duration in nine counts, and its one printed text.
+-- A duration in nine counts, and its one printed text, which is bytes.
 use Rattle.std.specs.Prelude.{◌≡◌, ◌⊎◌, ℕ, zero, suc, ◌+◌, ◌*◌, ◌<◌, Bool, true, false, ◌&&◌, List, [], ◌∷◌, ◌++◌, length, codes, decimal, nat_lt, if◌then◌else◌}
 use Rattle.std.specs.List.{join_with_byte}
 use Rattle.humantime.specs.Values.Amounts.{nanos_per_second}
@@ -69,7 +69,7 @@ joined_by_space [] = codes "0s"
 joined_by_space (p ∷ ps) = join_with_byte 32 (p ∷ ps)
 
 -- The one printed text of a duration of d nanoseconds: its counts, each that isn't zero with its suffix.
-pub record Canon (d : ℕ) (text : List ℕ) : Type 0 where
+pub record Canon (d : ℕ) (bytes : List ℕ) : Type 0 where
   pub counts : List ℕ
   pub are : Counts d counts
-  pub shown : text ≡ joined_by_space (printed_counts counts suffixes)
+  pub shown : bytes ≡ joined_by_space (printed_counts counts suffixes)

@@ -1,4 +1,4 @@
--- What an error of a duration's text says.
+-- What an error of a duration's text says. A text is its bytes here, for offsets count them.
 use Rattle.std.specs.Prelude.{◌≡◌, ℕ, ◌<◌, ◌≤◌, List, length, Result, Ok, Err, ⊤, chars, slice_range}
 use Rattle.std.specs.Borrow.{Bor}
 use Rattle.std.specs.Str.{IsCharBoundary}
@@ -25,22 +25,20 @@ told_text (Err e) = Err (fault_of e)
 
 -- at this offset a character of the text begins
 abbrev pub IsPlaceIn : List ℕ → ℕ → Type 0
-IsPlaceIn s at = (at < length s) × IsCharBoundary s at
+IsPlaceIn bytes at = (at < length bytes) × IsCharBoundary bytes at
 
--- the part is that of the text from the one offset to the other, between two characters' ends
-abbrev pub IsPartOf : List ℕ → List ℕ → ℕ → ℕ → Type 0
-IsPartOf s part start end =
-    (start ≤ end) × (end ≤ length s) × IsCharBoundary s start × IsCharBoundary s end × (part ≡ slice_range s start end)
+-- The part is that of the text from the one offset to the other, between two characters' ends.
+pub record IsPartOf (bytes part : List ℕ) (start end : ℕ) : Type 0 where
+  pub in_order : start ≤ end
+  pub inside : end ≤ length bytes
+  pub start_boundary : IsCharBoundary bytes start
+  pub end_boundary : IsCharBoundary bytes end
+  pub part_is : part ≡ slice_range bytes start end
 
 -- the error points into the text: its offset is a character's, and its unit is the part between its offsets
 abbrev pub PointsInto : List ℕ → DurationError → Type 0
-PointsInto s (errors.InvalidCharacter at) = IsPlaceIn s at
-PointsInto s (errors.NumberExpected at) = IsPlaceIn s at
-PointsInto s (errors.UnknownUnit start end unit value) = IsPartOf s unit.now start end
-PointsInto s errors.NumberOverflow = ⊤
-PointsInto s errors.Empty = ⊤
-
--- what a function returned, with its value seen by view and its error as a fault
-abbrev pub seen : {X Y : Type 0} → (X → Y) → Result X DurationError → Result Y Fault
-seen view (Ok x) = Ok (view x)
-seen view (Err e) = Err (fault_of e)
+PointsInto bytes (errors.InvalidCharacter at) = IsPlaceIn bytes at
+PointsInto bytes (errors.NumberExpected at) = IsPlaceIn bytes at
+PointsInto bytes (errors.UnknownUnit start end unit value) = IsPartOf bytes unit.now start end
+PointsInto bytes errors.NumberOverflow = ⊤
+PointsInto bytes errors.Empty = ⊤

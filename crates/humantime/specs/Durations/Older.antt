@@ -6,7 +6,10 @@ use Rattle.std.specs.Char.{is_ascii_alphabetic}
 use Rattle.std.specs.Map.{lookup}
 use Rattle.humantime.specs.Durations.Characters.{decimal_value, u64_max}
 use Rattle.humantime.specs.Durations.Units.{Scale, words, scale_of_word}
-use Rattle.humantime.specs.Durations.Spans.{Span, Only, Reads, Addition, total, IsWholePart, AllHaveRoom, Accepted}
+use Rattle.humantime.specs.Durations.Spans.{Span, Only, Reads}
+use Rattle.humantime.specs.Durations.Sums.{Addition, total}
+use Rattle.humantime.specs.Durations.Limits.{IsWholePart, AllHaveRoom}
+use Rattle.humantime.specs.Durations.Accepted.{Accepted}
 
 -- the letters were a to z, A to Z and the micro sign
 abbrev pub is_older_letter : ℕ → Bool
@@ -60,7 +63,7 @@ abbrev pub OlderFits : Option Scale → Span → Type 0
 OlderFits scale s = IfSome scale (λ u. (decimal_value s.number * u.factor ≤ u64_max) × OlderFitsFraction u.fraction_factor s.fraction)
 
 -- the spans were within all limits
-pub record OlderGood (scale : List ℕ → Option Scale) (spans : List Span) : Type 0 where
+pub record OlderWithinLimits (scale : List ℕ → Option Scale) (spans : List Span) : Type 0 where
   pub formed : AllByRecursion (λ s. OlderFormed (scale s.word) s) spans
   pub fit : AllByRecursion (λ s. OlderFits (scale s.word) s) spans
   pub room : AllHaveRoom (older_additions scale spans)
@@ -70,7 +73,7 @@ pub data AcceptedWithZeros (text : List ℕ) (v : ℕ) : Type 0 where
   -- it was exactly `0`
   Older_zero : text ≡ 48 ∷ [] → v ≡ 0 → AcceptedWithZeros text v
   -- it was spans within the limits that add up to v
-  Older_sum : (spans : List Span) → Reads text spans → OlderGood scale_of_word spans → older_value scale_of_word spans ≡ v
+  Older_sum : (spans : List Span) → Reads text spans → OlderWithinLimits scale_of_word spans → older_value scale_of_word spans ≡ v
       → AcceptedWithZeros text v
 
 -- While the Greek letter was no letter besides, the text stood for v nanoseconds.
@@ -78,7 +81,7 @@ pub data AcceptedWithoutMu (text : List ℕ) (v : ℕ) : Type 0 where
   -- it was exactly `0`
   Oldest_zero : text ≡ 48 ∷ [] → v ≡ 0 → AcceptedWithoutMu text v
   -- it was spans of the older words within the limits that add up to v
-  Oldest_sum : (spans : List Span) → OlderReads text spans → OlderGood older_scale_of_word spans → older_value older_scale_of_word spans ≡ v
+  Oldest_sum : (spans : List Span) → OlderReads text spans → OlderWithinLimits older_scale_of_word spans → older_value older_scale_of_word spans ≡ v
       → AcceptedWithoutMu text v
 
 -- what was accepted while such zeros counted is accepted with the same value

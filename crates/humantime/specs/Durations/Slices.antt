@@ -1,8 +1,9 @@
--- What a span lends of its text.
+-- What a span lends of its text, which is its list of characters.
 use Rattle.std.specs.Prelude.{◌≡◌, ℕ, true, List, [], ◌∷◌, ◌++◌, Option, Some, None, Result, Ok, Err}
-use Rattle.humantime.specs.Durations.Characters.{is_ws, is_digit, is_letter, is_numeric, begins, ends, digits, decimal_value, offset_of}
-use Rattle.humantime.specs.Durations.Spans.{Span, Only}
-use Rattle.humantime.specs.Durations.Faults.{Fault, ItemsAt}
+use Rattle.humantime.specs.Durations.Characters.{is_ws, is_digit, begins, ends, decimal_value, offset_of}
+use Rattle.humantime.specs.Durations.Spans.{Span, Only, SpellsThen}
+use Rattle.humantime.specs.Durations.Faults.{Fault}
+use Rattle.humantime.specs.Durations.Items.{ItemsAt}
 
 -- The slices of the number, of the fraction and of the word, the offsets where the number begins and where the word
 -- ends, and the number itself.
@@ -14,37 +15,30 @@ pub record Lent : Type 0 where
   pub end : ℕ
   pub value : ℕ
 
--- from a first digit to a last one, with these digits
-pub record IsDigits (text ds : List ℕ) : Type 0 where
-  pub starts : begins is_digit text ≡ true
-  pub stops : ends is_digit text ≡ true
-  pub numeric : Only is_numeric text
-  pub its_digits : digits text ≡ ds
+-- The slice goes from the first digit of the text to the last: only white space stands around it.
+pub record IsDigitSlice (text slice : List ℕ) : Type 0 where
+  pub before : List ℕ
+  pub after : List ℕ
+  pub whole : text ≡ before ++ (slice ++ after)
+  pub only_before : Only is_ws before
+  pub only_after : Only is_ws after
+  pub starts : begins is_digit slice ≡ true
+  pub stops : ends is_digit slice ≡ true
 
--- what stands between a number and its word: nothing, or a point and the fraction, with white space around it
-abbrev pub LendsFraction : List ℕ → Option (List ℕ) → Option (List ℕ) → Type 0
-LendsFraction text None None = text ≡ []
-LendsFraction text (Some slice) (Some ds) =
-    (before : List ℕ) × (after : List ℕ) × (text ≡ 46 ∷ before ++ (slice ++ after)) × Only is_ws before × Only is_ws after × IsDigits slice ds
-LendsFraction text None (Some ds) = ⊥
-LendsFraction text (Some slice) None = ⊥
+-- no slice where there is no fraction, else the one behind the point
+abbrev pub LendsFraction : List ℕ → Option (List ℕ) → Type 0
+LendsFraction text None = text ≡ []
+LendsFraction text (Some slice) = (behind : List ℕ) × (text ≡ 46 ∷ behind) × IsDigitSlice behind slice
 
--- The text has the rest as its end, the rest begins with the span, and x is what the span lends; `next` follows it.
--- What lies in no slice is white space, or the point.
+-- The rest of the text spells the span and goes on with `next`, and x is what the span lends. So what lies in no slice is
+-- white space, or the point.
 pub record IsLent (text rest : List ℕ) (s : Span) (x : Lent) (next : List ℕ) : Type 0 where
-  pub gap : List ℕ
-  pub middle : List ℕ
-  pub space : List ℕ
-  pub whole : rest ≡ x.number ++ (gap ++ (middle ++ (x.unit ++ (space ++ next))))
-  pub number : IsDigits x.number s.number
-  pub gap_space : Only is_ws gap
-  pub fraction : LendsFraction middle x.fraction s.fraction
+  pub spelled : SpellsThen rest s next
+  pub number : IsDigitSlice spelled.spells.number_text x.number
+  pub fraction : LendsFraction spelled.spells.fraction_text x.fraction
   pub unit : x.unit ≡ s.word
-  pub letters : Only is_letter x.unit
-  pub some_letter : begins is_letter x.unit ≡ true
-  pub only_space : Only is_ws space
   pub start : x.start ≡ offset_of text rest
-  pub end : x.end ≡ offset_of text (space ++ next)
+  pub end : x.end ≡ offset_of text (spelled.spells.space ++ next)
   pub value : x.value ≡ decimal_value s.number
 
 -- each span lends its part, from the rest on, up to an end

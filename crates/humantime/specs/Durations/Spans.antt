@@ -1,11 +1,9 @@
--- Spans, what they add up to, and the texts that are accepted.
-use Rattle.std.specs.Prelude.{◌≡◌, ◌≢◌, ℕ, ◌+◌, ◌*◌, ◌/◌, ◌%◌, ◌^◌, ◌<◌, ◌≤◌, Bool, true, List, [], ◌∷◌, ◌++◌, length, Option, Some, None, IsSome, IfSome, sum_by, flat_map, ⊤}
+-- Spans, and how a text spells them. A text is its list of characters.
+use Rattle.std.specs.Prelude.{◌≡◌, ◌≢◌, ℕ, Bool, true, List, [], ◌∷◌, ◌++◌, Option, Some, None}
 use Rattle.std.specs.List.{AllByRecursion}
-use Rattle.humantime.specs.Values.Amounts.{nanos_per_second}
-use Rattle.humantime.specs.Durations.Characters.{is_ws, is_letter, is_numeric, is_digit, begins, digits, decimal_value, significant, u64_max}
-use Rattle.humantime.specs.Durations.Units.{Scale, scale_of_word}
+use Rattle.humantime.specs.Durations.Characters.{is_ws, is_letter, is_numeric, is_digit, begins, digits}
 
--- The digits before the point, those after it where there is one, and the word.
+-- What a span says: the digits of its number, those of its fraction if it has one, and its word.
 pub record Span : Type 0 where
   pub number : List ℕ
   pub fraction : Option (List ℕ)
@@ -13,33 +11,45 @@ pub record Span : Type 0 where
 
 -- each character of the text passes the test
 abbrev pub Only : (ℕ → Bool) → List ℕ → Type 0
-Only p cs = AllByRecursion (λ c. p c ≡ true) cs
+Only passes text = AllByRecursion (λ c. passes c ≡ true) text
 
--- nothing where there is no fraction, else a point, and digits and white space with these digits, at least one
+-- the text is digits and white space, and these are the digits
+abbrev pub HoldsDigits : List ℕ → List ℕ → Type 0
+HoldsDigits text ds = Only is_numeric text × (digits text ≡ ds)
+
+-- the text is letters, at least one
+abbrev pub IsLetters : List ℕ → Type 0
+IsLetters text = Only is_letter text × (text ≢ [])
+
+-- no text where there is no fraction; else a point, and then its digits, at least one, and white space
 abbrev pub SpellsFraction : List ℕ → Option (List ℕ) → Type 0
 SpellsFraction text None = text ≡ []
-SpellsFraction text (Some ds) = (rest : List ℕ) × (text ≡ 46 ∷ rest) × Only is_numeric rest × (digits rest ≡ ds) × (0 < length ds)
+SpellsFraction text (Some ds) = (behind : List ℕ) × (text ≡ 46 ∷ behind) × HoldsDigits behind ds × (ds ≢ [])
 
--- The text spells the span: its number, its fraction, its word, and white space.
+-- The text spells the span: its number, which begins with a digit, its fraction, its word, and white space.
 pub record Spells (text : List ℕ) (span : Span) : Type 0 where
-  pub a : List ℕ
-  pub b : List ℕ
-  pub c : List ℕ
-  pub whole : text ≡ a ++ (b ++ (span.word ++ c))
-  pub starts : begins is_digit a ≡ true
-  pub number : Only is_numeric a
-  pub its_digits : digits a ≡ span.number
-  pub fraction : SpellsFraction b span.fraction
-  pub word : Only is_letter span.word
-  pub some_word : begins is_letter span.word ≡ true
-  pub space : Only is_ws c
+  pub number_text : List ℕ
+  pub fraction_text : List ℕ
+  pub space : List ℕ
+  pub whole : text ≡ number_text ++ (fraction_text ++ (span.word ++ space))
+  pub starts : begins is_digit number_text ≡ true
+  pub number : HoldsDigits number_text span.number
+  pub fraction : SpellsFraction fraction_text span.fraction
+  pub word : IsLetters span.word
+  pub only_space : Only is_ws space
 
--- one spelling of each span, in order
+-- The text spells the span, and then the rest follows.
+pub record SpellsThen (text : List ℕ) (span : Span) (rest : List ℕ) : Type 0 where
+  pub here : List ℕ
+  pub whole : text ≡ here ++ rest
+  pub spells : Spells here span
+
+-- the text spells each span, in order
 abbrev pub SpellsEach : List ℕ → List Span → Type 0
 SpellsEach text [] = text ≡ []
-SpellsEach text (span ∷ spans) = (here : List ℕ) × (rest : List ℕ) × (text ≡ here ++ rest) × Spells here span × SpellsEach rest spans
+SpellsEach text (span ∷ spans) = (rest : List ℕ) × SpellsThen text span rest × SpellsEach rest spans
 
--- some white space, and then one spelling of each span
+-- The text is white space, or none, and then spells each span.
 pub record Front (text : List ℕ) (spans : List Span) : Type 0 where
   pub space : List ℕ
   pub body : List ℕ
@@ -47,83 +57,6 @@ pub record Front (text : List ℕ) (spans : List Span) : Type 0 where
   pub only_space : Only is_ws space
   pub each : SpellsEach body spans
 
--- the text is one span or more
+-- and there is a span
 abbrev pub Reads : List ℕ → List Span → Type 0
 Reads text spans = Front text spans × (spans ≢ [])
-
--- An amount that is added: so many times its base, which is one nanosecond or one second.
-pub record Addition : Type 0 where
-  pub base : ℕ
-  pub amount : ℕ
-
-abbrev pub nanos_of : Addition → ℕ
-nanos_of x = x.base * x.amount
-
-abbrev pub total : List Addition → ℕ
-total xs = sum_by nanos_of xs
-
--- how much a fraction with these digits is of a factor; zeros at its end are left out
-abbrev pub fraction_amount : ℕ → List ℕ → ℕ
-fraction_amount factor ds = decimal_value (significant ds) * factor / 10 ^ length (significant ds)
-
-abbrev pub fraction_additions : ℕ → Option ℕ → Option (List ℕ) → List Addition
-fraction_additions base (Some factor) (Some ds) = record { base = base; amount = fraction_amount factor ds } ∷ []
-fraction_additions base (Some factor) None = []
-fraction_additions base None fraction = []
-
-abbrev pub additions_at : Option Scale → Span → List Addition
-additions_at None s = []
-additions_at (Some u) s = record { base = u.base; amount = decimal_value s.number * u.factor } ∷ fraction_additions u.fraction_base u.fraction_factor s.fraction
-
--- what a span adds, its number first and then its fraction; and what a list of spans adds, in order
-abbrev pub additions_of : Span → List Addition
-additions_of s = additions_at (scale_of_word s.word) s
-
-abbrev pub additions : List Span → List Addition
-additions spans = flat_map additions_of spans
-
--- the plain sum of all additions, in nanoseconds
-abbrev pub value : List Span → ℕ
-value spans = total (additions spans)
-
--- the word is one of the units', the number fits a u64, and the fraction has at most 19 digits before the zeros at its end
-pub record Formed (s : Span) : Type 0 where
-  pub word : IsSome (scale_of_word s.word)
-  pub number : decimal_value s.number ≤ u64_max
-  pub fraction : IfSome s.fraction (λ ds. length (significant ds) ≤ 19)
-
--- these digits are a whole number of parts, and their product with the factor fits a u64
-abbrev pub IsWholePart : ℕ → List ℕ → Type 0
-IsWholePart factor ds = (decimal_value ds * factor ≤ u64_max) × (decimal_value ds * factor % 10 ^ length ds ≡ 0)
-
--- a fraction is a whole number of its base; where there is none to count in, nothing but zeros
-abbrev pub FitsFraction : Option ℕ → Option (List ℕ) → Type 0
-FitsFraction factor None = ⊤
-FitsFraction None (Some ds) = significant ds ≡ []
-FitsFraction (Some factor) (Some ds) = IsWholePart factor (significant ds)
-
--- the products fit a u64, and the fraction is a whole number
-abbrev pub Fits : Span → Type 0
-Fits s = IfSome (scale_of_word s.word) (λ u. (decimal_value s.number * u.factor ≤ u64_max) × FitsFraction u.fraction_factor s.fraction)
-
--- After t nanoseconds there is room for x: the whole seconds of the sum fit a u64, and so does the sum of x and the
--- nanoseconds beyond the whole seconds of t, where x is in nanoseconds.
-abbrev pub HasRoom : ℕ → Addition → Type 0
-HasRoom t x = (x.base ≡ 1 → t % nanos_per_second + x.amount ≤ u64_max) × ((t + nanos_of x) / nanos_per_second ≤ u64_max)
-
--- each addition has room after those before it
-abbrev pub AllHaveRoom : List Addition → Type 0
-AllHaveRoom xs = (before after : List Addition) (x : Addition) → xs ≡ before ++ x ∷ after → HasRoom (total before) x
-
--- the spans are within all limits
-pub record Good (spans : List Span) : Type 0 where
-  pub formed : AllByRecursion Formed spans
-  pub fit : AllByRecursion Fits spans
-  pub room : AllHaveRoom (additions spans)
-
--- The text stands for v nanoseconds.
-pub data Accepted (text : List ℕ) (v : ℕ) : Type 0 where
-  -- it is exactly `0`
-  Bare_zero : text ≡ 48 ∷ [] → v ≡ 0 → Accepted text v
-  -- it is spans within the limits that add up to v
-  Sum_of : (spans : List Span) → Reads text spans → Good spans → value spans ≡ v → Accepted text v

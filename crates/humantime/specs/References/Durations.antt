@@ -11,5 +11,6 @@ pub mod Reading
 pub mod Remaining
 pub mod Scales
 pub mod Scanning
+pub mod Seen
 pub mod SpanParts
 pub mod Writing

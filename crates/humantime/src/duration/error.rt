@@ -5,8 +5,8 @@ ghost use Rattle.std.specs.Cmp.{on_per};
 ghost use Rattle.std.specs.Ordering.{on};
 ghost use Rattle.std.specs.Fmt.{WritesOnOk, WritesStyledOnOk};
 ghost use Rattle.humantime.specs.Durations.Errors.{fault_of};
-ghost use Rattle.humantime.specs.Durations.FaultEquality.{fault_eq};
-ghost use Rattle.humantime.specs.Durations.Messages.{message_of, unit_message, unit_needed};
+ghost use Rattle.humantime.specs.Durations.Faults.{fault_eq};
+ghost use Rattle.humantime.specs.Durations.Messages.{fault_message, unit_message, unit_needed};
 ghost use Rattle.humantime.specs.References.Durations.FaultEqualityLemmas.{fault_eq_laws};
 
 use itoa::Buffer;
@@ -94,9 +94,9 @@ fn is_same_text(a: &str, b: &str) -> bool
 
 /// Writes the message. Width and fill change nothing.
 impl fmt::Display for DurationError<'_> {
-    ghost output = { λ e. Some (message_of (fault_of e)) };
+    ghost output = { λ e. Some (fault_message (fault_of e)) };
 
-    ghost styled_output = { λ e _. Some (message_of (fault_of e)) };
+    ghost styled_output = { λ e _. Some (fault_message (fault_of e)) };
 
     fn fmt<W: fmt::Write>(&self, f: &mut fmt::Formatter<W>) -> fmt::Result {
         match self {

@@ -1,9 +1,9 @@
 //! Laws of the texts of durations.
 
 ghost use Rattle.std.specs.Prelude.{◌≡◌, ◌↔◌, ℕ, chars, Ok, Err};
-ghost use Rattle.humantime.specs.Durations.Spans.{Accepted};
-ghost use Rattle.humantime.specs.Durations.Faults.{Fault, HasFault, OneOutcome, OneReading, OneListOfItems};
-ghost use Rattle.humantime.specs.Durations.ItemLaws.{ItemsDecideValue, ItemsDecideFault, ItemsDecideOverflow};
+ghost use Rattle.humantime.specs.Durations.Accepted.{Accepted};
+ghost use Rattle.humantime.specs.Durations.Faults.{Fault, HasFault};
+ghost use Rattle.humantime.specs.Durations.OutcomeLaws.{OneOutcome, OneReading, OneListOfItems, ItemsDecideValue, ItemsDecideFault, ItemsDecideOverflow};
 ghost use Rattle.humantime.specs.References.Durations.Answers.{duration_answer};
 
 /// A text has exactly one value or exactly one first fault, and at most one list of spans.

@@ -3,11 +3,11 @@ use Rattle.std.proofs.Common.{◌≡◌, ◌↔◌, ℕ, ◌<◌, List, Result, 
 use Rattle.humantime.specs.declared.duration.error.DurationError.{DurationError}
 use Rattle.humantime.specs.Values.Amounts.{duration_end}
 use Rattle.humantime.specs.Durations.Errors.{told}
-use Rattle.humantime.specs.Durations.Spans.{Accepted}
-use Rattle.humantime.specs.Durations.Faults.{Fault, HasFault, OneOutcome, OneReading, OneListOfItems}
-use Rattle.humantime.specs.Durations.FaultEquality.{fault_eq}
+use Rattle.humantime.specs.Durations.Accepted.{Accepted}
+use Rattle.humantime.specs.Durations.Faults.{Fault, HasFault}
+use Rattle.humantime.specs.Durations.OutcomeLaws.{OneOutcome, OneReading, OneListOfItems, ItemsDecideValue, ItemsDecideFault, ItemsDecideOverflow}
+use Rattle.humantime.specs.Durations.Faults.{fault_eq}
 use Rattle.humantime.specs.References.Durations.FaultEqualityLemmas.{fault_eq-sound, fault_eq-same}
-use Rattle.humantime.specs.Durations.ItemLaws.{ItemsDecideValue, ItemsDecideFault, ItemsDecideOverflow}
 use Rattle.humantime.specs.Durations.Slices.{OneListOfSlices}
 use Rattle.humantime.specs.Durations.Counts.{Canon}
 use Rattle.humantime.specs.Durations.Canonical.{IsCanonicalOf}

@@ -2,7 +2,10 @@
 use Rattle.std.proofs.Common.{◌≡◌, ◌↔◌, ℕ, ◌+◌, List, [], ◌∷◌, flat_map, sum_by, refl, sym, ap₂, ◌∙◌, subst}
 use Rattle.std.specs.List.{AllByRecursion}
 use Rattle.std.proofs.lemmas.List.Sums.{sum_by-cons}
-use Rattle.humantime.specs.Durations.Spans.{Span, Front, Reads, additions, value, Formed, Fits, AllHaveRoom, Accepted}
+use Rattle.humantime.specs.Durations.Spans.{Span, Front, Reads}
+use Rattle.humantime.specs.Durations.Sums.{additions, value}
+use Rattle.humantime.specs.Durations.Limits.{Formed, Fits, AllHaveRoom}
+use Rattle.humantime.specs.Durations.Accepted.{Accepted}
 use Rattle.humantime.specs.Durations.Faults.{NumberOverflow, HasFault}
 use Rattle.humantime.proofs.Durations.Reading.Settled.{value-append}
 use Rattle.humantime.proofs.Durations.Laws.Readings.{accepted_spans}

@@ -2,12 +2,15 @@
 use Rattle.std.proofs.Common.{◌≡◌, ◌≢◌, ◌↔◌, ℕ, ◌+◌, Bool, List, [], ◌∷◌, ◌++◌, None, refl, sym, ap, ap₂, ◌∙◌, inl, inr, subst, append_assoc, append-nil}
 use Rattle.std.specs.List.{AllByRecursion}
 use Rattle.humantime.specs.Durations.Characters.{is_ws}
-use Rattle.humantime.specs.Durations.Spans.{Span, Only, Spells, SpellsEach, Front, Reads, additions, value, Formed, Fits, AllHaveRoom, Good, Accepted}
+use Rattle.humantime.specs.Durations.Spans.{Span, Only, Spells, SpellsThen, SpellsEach, Front, Reads}
+use Rattle.humantime.specs.Durations.Sums.{additions, value}
+use Rattle.humantime.specs.Durations.Limits.{Formed, Fits, AllHaveRoom, WithinLimits}
+use Rattle.humantime.specs.Durations.Accepted.{Accepted}
 use Rattle.humantime.specs.Durations.Faults.{NumberOverflow, HasFault}
 use Rattle.humantime.specs.Durations.TextLaws.{JoinedHaveSum, JoinedOverflow, JoinedHaveSumOrOverflow}
 use Rattle.humantime.proofs.Durations.Reading.OneReading.{not_zero}
 use Rattle.humantime.proofs.Durations.Reading.Settled.{additions-append, value-append}
-use Rattle.humantime.proofs.Durations.Reading.Outcomes.{items_whole, good_or_bad, items_decide_overflow}
+use Rattle.humantime.proofs.Durations.Reading.Outcomes.{items_whole, within_or_beyond, items_decide_overflow}
 use Rattle.humantime.proofs.Durations.Laws.Readings.{accepted_from_spans, spans_of_accepted, accepted_spans, no_value_and_fault}
 
 pub Only-append : (p : ℕ → Bool) (xs ys : List ℕ) → Only p xs → Only p ys → Only p (xs ++ ys)
@@ -21,30 +24,44 @@ each-append P (s ∷ ss) ts h k = (h.0, each-append P ss ts h.1 k)
 -- white space behind a spelling belongs to it
 spells-space : (here space : List ℕ) (s : Span) → Spells here s → Only is_ws space → Spells (here ++ space) s
 spells-space here space s h only = record {
-  a = h.a;
-  b = h.b;
-  c = h.c ++ space;
+  number_text = h.number_text;
+  fraction_text = h.fraction_text;
+  space = h.space ++ space;
   whole = ap (λ (l : List ℕ). l ++ space) h.whole ∙ simp append_assoc;
   starts = h.starts;
   number = h.number;
-  its_digits = h.its_digits;
   fraction = h.fraction;
   word = h.word;
-  some_word = h.some_word;
-  space = Only-append is_ws h.c space h.space only;
+  only_space = Only-append is_ws h.space space h.only_space only;
+}
+
+-- more behind the rest
+spells_then-append : (text : List ℕ) (s : Span) (rest more : List ℕ) → SpellsThen text s rest → SpellsThen (text ++ more) s (rest ++ more)
+spells_then-append text s rest more h = record {
+  here = h.here;
+  whole = ap (λ (l : List ℕ). l ++ more) h.whole ∙ append_assoc h.here rest more;
+  spells = h.spells;
 }
 
 spells_each-space : (body space : List ℕ) (s : Span) (ss : List Span) → SpellsEach body (s ∷ ss) → Only is_ws space → SpellsEach (body ++ space) (s ∷ ss)
 spells_each-space body space s [] h only =
-    let alone : body ≡ h.0 = h.2 ∙ ap (λ (l : List ℕ). h.0 ++ l) h.4 ∙ append-nil h.0 in
-    (h.0 ++ space, [], ap (λ (l : List ℕ). l ++ space) alone ∙ sym (append-nil (h.0 ++ space)), spells-space h.0 space s h.3 only, refl)
+    let here = h.1.here in
+    let alone : body ≡ here = h.1.whole ∙ ap (λ (l : List ℕ). here ++ l) h.2 ∙ append-nil here in (
+      [],
+      record {
+        here = here ++ space;
+        whole = ap (λ (l : List ℕ). l ++ space) alone ∙ sym (append-nil (here ++ space));
+        spells = spells-space here space s h.1.spells only;
+      },
+      refl,
+    )
 spells_each-space body space s (t ∷ ts) h only =
-    (h.0, h.1 ++ space, ap (λ (l : List ℕ). l ++ space) h.2 ∙ append_assoc h.0 h.1 space, h.3, spells_each-space h.1 space t ts h.4 only)
+    (h.0 ++ space, spells_then-append body s h.0 space h.1, spells_each-space h.0 space t ts h.2 only)
 
 spells_each-append : (a b : List ℕ) (ss ts : List Span) → SpellsEach a ss → SpellsEach b ts → SpellsEach (a ++ b) (ss ++ ts)
 spells_each-append a b [] ts h k = subst (λ (l : List ℕ). SpellsEach (l ++ b) ts) (sym h) k
 spells_each-append a b (s ∷ ss) ts h k =
-    (h.0, h.1 ++ b, ap (λ (l : List ℕ). l ++ b) h.2 ∙ append_assoc h.0 h.1 b, h.3, spells_each-append h.1 b ss ts h.4 k)
+    (h.0 ++ b, spells_then-append a s h.0 b h.1, spells_each-append h.0 b ss ts h.2 k)
 
 -- spans behind spans
 pub front-append : (a b : List ℕ) (ss ts : List Span) → Reads a ss → Front b ts → Front (a ++ b) (ss ++ ts)
@@ -75,7 +92,7 @@ room_accepts text spans h formed fit = (
 )
 
 -- and is too large exactly where they haven't
-too_large : (text : List ℕ) (spans : List Span) → Reads text spans → AllByRecursion Formed spans → ¬ (Good spans) → HasFault text NumberOverflow
+too_large : (text : List ℕ) (spans : List Span) → Reads text spans → AllByRecursion Formed spans → ¬ (WithinLimits spans) → HasFault text NumberOverflow
 too_large text spans h formed bad = items_decide_overflow text spans None (items_whole text spans h formed) (not_zero text spans h) bad
 
 pub no_room_overflows : (text : List ℕ) (spans : List Span) → Reads text spans → AllByRecursion Formed spans → AllByRecursion Fits spans
@@ -126,7 +143,7 @@ joined_sum_or_overflow a b u v x y some_a some_b =
     let s = spans_of_accepted a u some_a x in
     let t = spans_of_accepted b v some_b y in
     let j = are_joined a b s.spans t.spans u v s.reads t.reads x y in
-    elim (good_or_bad (s.spans ++ t.spans) j.formed) [
+    elim (within_or_beyond (s.spans ++ t.spans) j.formed) [
       | inl g ↦ inl (subst (Accepted (a ++ b)) j.sum (accepted_from_spans (a ++ b) (s.spans ++ t.spans) j.reads g))
       | inr bad ↦ inr (too_large (a ++ b) (s.spans ++ t.spans) j.reads j.formed bad)
     ]

@@ -8,8 +8,11 @@ use Rattle.std.proofs.lemmas.Map.Entries.{lookup-filter-keys}
 use Rattle.std.proofs.lemmas.Slice.Eq.{bytes_eq-Decides}
 use Rattle.humantime.specs.Durations.Characters.{white_spaces, is_ws, is_digit, is_numeric, decimal_value, significant}
 use Rattle.humantime.specs.Durations.Units.{Scale, words, scale_of_word}
-use Rattle.humantime.specs.Durations.Spans.{Span, Only, Spells, SpellsFraction, SpellsEach, fraction_additions, additions_at, additions, total, Formed, FitsFraction, Fits, Accepted, Bare_zero, Sum_of}
-use Rattle.humantime.specs.Durations.Older.{is_older_letter, older_scale_of_word, older_fraction_additions, older_additions_at, older_additions, OlderFormed, OlderFitsFraction, OlderFits, OlderGood, AcceptedWithZeros, Older_zero, Older_sum, AcceptedWithoutMu, Oldest_zero, Oldest_sum, IsStillAccepted, HasMu}
+use Rattle.humantime.specs.Durations.Spans.{Span, Only, Spells, SpellsFraction, SpellsEach}
+use Rattle.humantime.specs.Durations.Sums.{fraction_additions, additions_at, additions, total}
+use Rattle.humantime.specs.Durations.Limits.{Formed, FitsFraction, Fits}
+use Rattle.humantime.specs.Durations.Accepted.{Accepted, Bare_zero, Sum_of}
+use Rattle.humantime.specs.Durations.Older.{is_older_letter, older_scale_of_word, older_fraction_additions, older_additions_at, older_additions, OlderFormed, OlderFitsFraction, OlderFits, OlderWithinLimits, AcceptedWithZeros, Older_zero, Older_sum, AcceptedWithoutMu, Oldest_zero, Oldest_sum, IsStillAccepted, HasMu}
 use Rattle.humantime.proofs.Durations.Laws.JoinedTexts.{Only-append}
 use Rattle.humantime.proofs.Durations.Reading.Settled.{FitsAt}
 use Rattle.humantime.proofs.Durations.Reading.SignificantDigits.{significant_shorter, whole_part_kept, amount_kept}
@@ -35,7 +38,7 @@ still_short (Some ds) h = omega (arith, significant_shorter ds, h)
 
 still_formed : (spans : List Span) → AllByRecursion (λ s. OlderFormed (scale_of_word s.word) s) spans → AllByRecursion Formed spans
 still_formed [] f = tt
-still_formed (s ∷ ss) f = (record { word = f.0.word; number = f.0.number; fraction = still_short s.fraction f.0.fraction }, still_formed ss f.1)
+still_formed (s ∷ ss) f = (record { short = record { number = f.0.number; fraction = still_short s.fraction f.0.fraction }; word = f.0.word }, still_formed ss f.1)
 
 fraction_still_fits : (f : Option ℕ) (o : Option (List ℕ)) → OlderFitsFraction f o → FitsFraction f o
 fraction_still_fits f None h = tt
@@ -85,8 +88,8 @@ each_same : (P : Option Scale → Span → Type 0) (spans : List Span) → AllBy
 each_same P [] h f = tt
 each_same P (s ∷ ss) h f = (subst (λ o. P o s) (same_scale s.word h.0) f.0, each_same P ss h.1 f.1)
 
-older_good : (spans : List Span) → AllByRecursion OfOlderLetters spans → OlderGood older_scale_of_word spans → OlderGood scale_of_word spans
-older_good spans h g = record {
+older_within_limits : (spans : List Span) → AllByRecursion OfOlderLetters spans → OlderWithinLimits older_scale_of_word spans → OlderWithinLimits scale_of_word spans
+older_within_limits spans h g = record {
   formed = each_same OlderFormed spans h g.formed;
   fit = each_same OlderFits spans h g.fit;
   room = rw (← same_additions spans h) g.room;
@@ -95,7 +98,7 @@ older_good spans h g = record {
 -- what was accepted while the letter was none was accepted with the same value when it was one
 pub accepted_with_zeros : (text : List ℕ) (v : ℕ) → AcceptedWithoutMu text v → AcceptedWithZeros text v
 accepted_with_zeros text v (Oldest_zero e z) = Older_zero e z
-accepted_with_zeros text v (Oldest_sum spans h g sum) = Older_sum spans h.0 (older_good spans h.1 g) (ap total (sym (same_additions spans h.1)) ∙ sum)
+accepted_with_zeros text v (Oldest_sum spans h g sum) = Older_sum spans h.0 (older_within_limits spans h.1 g) (ap total (sym (same_additions spans h.1)) ∙ sum)
 
 -- and it is accepted with the same value
 pub older_text_accepted : (text : List ℕ) (v : ℕ) → AcceptedWithoutMu text v → Accepted text v
@@ -127,18 +130,18 @@ no_mu_in_number = none_is_mu is_numeric refl
 
 no_mu_in_fraction : (text : List ℕ) (fraction : Option (List ℕ)) → SpellsFraction text fraction → Only is_not_mu text
 no_mu_in_fraction text None e = rw e tt
-no_mu_in_fraction text (Some ds) h = rw (h.1) (refl, no_mu_in_number h.0 h.2)
+no_mu_in_fraction text (Some ds) h = rw (h.1) (refl, no_mu_in_number h.0 h.2.0)
 
 no_mu_in_span : (text : List ℕ) (s : Span) → Spells text s → OfOlderLetters s → Only is_not_mu text
 no_mu_in_span text s h letters =
-    rw (h.whole) (Only-append is_not_mu h.a _ (no_mu_in_number h.a h.number)
-    (Only-append is_not_mu h.b _ (no_mu_in_fraction h.b s.fraction h.fraction)
-    (Only-append is_not_mu s.word _ (none_is_mu is_older_letter refl s.word letters) (no_mu_in_space h.c h.space))))
+    rw (h.whole) (Only-append is_not_mu h.number_text _ (no_mu_in_number h.number_text h.number.0)
+    (Only-append is_not_mu h.fraction_text _ (no_mu_in_fraction h.fraction_text s.fraction h.fraction)
+    (Only-append is_not_mu s.word _ (none_is_mu is_older_letter refl s.word letters) (no_mu_in_space h.space h.only_space))))
 
 no_mu_in_spans : (text : List ℕ) (spans : List Span) → SpellsEach text spans → AllByRecursion OfOlderLetters spans → Only is_not_mu text
 no_mu_in_spans text [] e letters = rw e tt
 no_mu_in_spans text (s ∷ ss) h letters =
-    rw (h.2) (Only-append is_not_mu h.0 h.1 (no_mu_in_span h.0 s h.3 letters.0) (no_mu_in_spans h.1 ss h.4 letters.1))
+    rw (h.1.whole) (Only-append is_not_mu h.1.here h.0 (no_mu_in_span h.1.here s h.1.spells letters.0) (no_mu_in_spans h.0 ss h.2 letters.1))
 
 no_mu_accepted : (text : List ℕ) (v : ℕ) → AcceptedWithoutMu text v → Only is_not_mu text
 no_mu_accepted text v (Oldest_zero e z) = rw e (refl, tt)

@@ -7,7 +7,9 @@ use Rattle.std.proofs.lemmas.Str.{chars-IsAscii}
 use Rattle.std.proofs.lemmas.List.Sums.{sum_by-cons}
 use Rattle.humantime.specs.Values.Amounts.{nanos_per_second}
 use Rattle.humantime.specs.Durations.Characters.{u64_max}
-use Rattle.humantime.specs.Durations.Spans.{Span, Reads, Addition, nanos_of, total, additions_of, additions, Accepted}
+use Rattle.humantime.specs.Durations.Spans.{Span, Reads}
+use Rattle.humantime.specs.Durations.Sums.{Addition, addition_nanos, total, additions_of, additions}
+use Rattle.humantime.specs.Durations.Accepted.{Accepted}
 use Rattle.humantime.specs.Durations.Counts.{weights, weighted_sum, Suffix, suffixes, printed_counts, joined_by_space, Canon}
 use Rattle.humantime.specs.References.Durations.Printing.{divided, duration_text}
 use Rattle.humantime.proofs.Durations.Printing.PrintedDigits.{decimal_number}
@@ -53,7 +55,7 @@ rows_small (w ∷ ws) (s ∷ ss) m r h below counts =
 zero_small : (xs : List Addition) → total xs ≡ 0 → AllByRecursion IsSmall xs
 zero_small [] h = tt
 zero_small (x ∷ xs) h =
-    let sum = sum_by-cons nanos_of x xs in
+    let sum = sum_by-cons addition_nanos x xs in
     let none : x.base * x.amount ≡ 0 = omega (arith, sum, h) in (
       λ one. let amount : 1 * x.amount ≡ 0 = rw one at none in omega (arith, amount),
       zero_small xs (omega (arith, sum, h)),

@@ -3,8 +3,12 @@ use Rattle.std.proofs.Common.{◌≡◌, ◌≢◌, ℕ, ◌+◌, List, [], ◌�
 use Rattle.std.specs.Prelude.{codes}
 use Rattle.std.proofs.lemmas.List.Sorted.{sum_by-IsPermutation}
 use Rattle.std.proofs.lemmas.List.Sums.{sum_by-cons}
-use Rattle.humantime.specs.Durations.Spans.{Span, Reads, total, additions_of, Good, value, Accepted}
-use Rattle.humantime.specs.Durations.Faults.{Fault, HasFault, Items}
+use Rattle.humantime.specs.Durations.Spans.{Span, Reads}
+use Rattle.humantime.specs.Durations.Sums.{total, additions_of, value}
+use Rattle.humantime.specs.Durations.Limits.{WithinLimits}
+use Rattle.humantime.specs.Durations.Accepted.{Accepted}
+use Rattle.humantime.specs.Durations.Faults.{Fault, HasFault}
+use Rattle.humantime.specs.Durations.Items.{Items}
 use Rattle.humantime.specs.References.Durations.Reading.{items}
 use Rattle.humantime.specs.Durations.TextLaws.{IsZeroOrSpans, HasNoSpans, ReorderedHaveOneValue}
 use Rattle.humantime.proofs.Durations.Reading.OneReading.{not_zero}
@@ -15,11 +19,11 @@ use Rattle.humantime.proofs.Durations.Reading.Outcomes.{zero_or_not, items_found
 pub record IsSumOfSpans (text : List ℕ) (v : ℕ) : Type 0 where
   pub spans : List Span
   pub reads : Reads text spans
-  pub good : Good spans
+  pub within : WithinLimits spans
   pub sum : value spans ≡ v
 
 -- a text of spans within the limits is accepted with their sum
-pub accepted_from_spans : (text : List ℕ) (spans : List Span) → Reads text spans → Good spans → Accepted text (value spans)
+pub accepted_from_spans : (text : List ℕ) (spans : List Span) → Reads text spans → WithinLimits spans → Accepted text (value spans)
 accepted_from_spans text spans h g =
     (items_decide_value text spans None (items_whole text spans h g.formed) (not_zero text spans h) (value spans)).1 (refl, g, refl)
 
@@ -31,7 +35,7 @@ spans_of_accepted text v some a =
     record {
       spans = (items text).0;
       reads = reads_whole text (items text).0 (subst (Items text (items text).0) d.0 found);
-      good = d.1;
+      within = d.1;
       sum = d.2;
     }
 
@@ -42,11 +46,11 @@ zero_or_spans text v a = elim (zero_or_not text) [
 ]
 
 -- an accepted text that reads as some spans is their sum, and they are within the limits
-pub accepted_spans : (text : List ℕ) (spans : List Span) (v : ℕ) → Reads text spans → Accepted text v → Good spans × (value spans ≡ v)
+pub accepted_spans : (text : List ℕ) (spans : List Span) (v : ℕ) → Reads text spans → Accepted text v → WithinLimits spans × (value spans ≡ v)
 accepted_spans text spans v h a =
     let s = spans_of_accepted text v (not_zero text spans h) a in
     let same : s.spans ≡ spans = one_reading text s.spans spans s.reads h in
-    (subst Good same s.good, ap value (sym same) ∙ s.sum)
+    (subst WithinLimits same s.within, ap value (sym same) ∙ s.sum)
 
 -- texts that are the same spans are accepted alike
 pub same_spans : (a b : List ℕ) (spans : List Span) (v : ℕ) → Reads a spans → Reads b spans → Accepted a v → Accepted b v

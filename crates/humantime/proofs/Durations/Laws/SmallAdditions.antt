@@ -4,7 +4,10 @@ use Rattle.std.specs.List.{AllByRecursion}
 use Rattle.std.proofs.lemmas.List.Sums.{sum_by-cons}
 use Rattle.humantime.specs.Values.Amounts.{nanos_per_second}
 use Rattle.humantime.specs.Durations.Characters.{u64_max}
-use Rattle.humantime.specs.Durations.Spans.{Span, Reads, Addition, nanos_of, total, additions, AllHaveRoom, Accepted}
+use Rattle.humantime.specs.Durations.Spans.{Span, Reads}
+use Rattle.humantime.specs.Durations.Sums.{Addition, addition_nanos, total, additions}
+use Rattle.humantime.specs.Durations.Limits.{AllHaveRoom}
+use Rattle.humantime.specs.Durations.Accepted.{Accepted}
 use Rattle.humantime.proofs.Durations.Reading.Rooms.{RoomFrom, total-append, room_from_all, all_have_room}
 use Rattle.humantime.proofs.Durations.Laws.Readings.{accepted_spans}
 use Rattle.humantime.proofs.Durations.Laws.JoinedTexts.{joined_sum}
@@ -16,9 +19,9 @@ IsSmall x = x.base ≡ 1 → x.amount + 999999999 ≤ u64_max
 room_from_small : (t : ℕ) (xs : List Addition) → AllByRecursion IsSmall xs → (t + total xs) / nanos_per_second ≤ u64_max → RoomFrom t xs
 room_from_small t [] small fits = tt
 room_from_small t (x ∷ xs) small fits =
-    let sum : t + total (x ∷ xs) ≡ (t + nanos_of x) + total xs = omega (arith, sum_by-cons nanos_of x xs) in
-    let rest : ((t + nanos_of x) + total xs) / nanos_per_second ≤ u64_max = rw sum at fits in
-    (((λ one. let s = small.0 one in omega arith), omega arith), room_from_small (t + nanos_of x) xs small.1 rest)
+    let sum : t + total (x ∷ xs) ≡ (t + addition_nanos x) + total xs = omega (arith, sum_by-cons addition_nanos x xs) in
+    let rest : ((t + addition_nanos x) + total xs) / nanos_per_second ≤ u64_max = rw sum at fits in
+    (((λ one. let s = small.0 one in omega arith), omega arith), room_from_small (t + addition_nanos x) xs small.1 rest)
 
 -- small additions have room where their sum is a duration
 pub small_have_room : (xs : List Addition) → AllByRecursion IsSmall xs → total xs / nanos_per_second ≤ u64_max → AllHaveRoom xs
@@ -29,8 +32,8 @@ small_have_room xs small fits =
 room_fits : (t : ℕ) (xs : List Addition) → t / nanos_per_second ≤ u64_max → RoomFrom t xs → (t + total xs) / nanos_per_second ≤ u64_max
 room_fits t [] fits room = omega arith
 room_fits t (x ∷ xs) fits room =
-    let sum : t + total (x ∷ xs) ≡ (t + nanos_of x) + total xs = omega (arith, sum_by-cons nanos_of x xs) in
-    rw sum (room_fits (t + nanos_of x) xs room.0.1 room.1)
+    let sum : t + total (x ∷ xs) ≡ (t + addition_nanos x) + total xs = omega (arith, sum_by-cons addition_nanos x xs) in
+    rw sum (room_fits (t + addition_nanos x) xs room.0.1 room.1)
 
 -- where additions have room, their sum is a duration
 pub room_is_duration : (xs : List Addition) → AllHaveRoom xs → total xs / nanos_per_second ≤ u64_max

@@ -4,7 +4,8 @@ use Rattle.std.specs.Prelude.{codes}
 use Rattle.std.proofs.lemmas.Bool.{cases_Bool, or_parts}
 use Rattle.std.proofs.lemmas.List.Elements.{filter-append}
 use Rattle.humantime.specs.Durations.Characters.{is_ws, is_digit, is_letter, is_numeric, begins, digits}
-use Rattle.humantime.specs.Durations.Spans.{Span, Only, SpellsFraction, Spells, SpellsEach, Front, Reads, Accepted}
+use Rattle.humantime.specs.Durations.Spans.{Span, Only, SpellsFraction, Spells, SpellsEach, Front, Reads}
+use Rattle.humantime.specs.Durations.Accepted.{Accepted}
 use Rattle.humantime.specs.Durations.TextLaws.{without_white_space, NeedsNoWhiteSpace}
 use Rattle.humantime.proofs.Durations.Reading.Classes.{digit_not_space, letter_not_space, point_not_numeric, is_point-46}
 use Rattle.humantime.proofs.Durations.Reading.Outcomes.{zero_or_not}
@@ -60,9 +61,8 @@ spells_fraction text None h = ap without_white_space h
 spells_fraction text (Some ds) h = (
   without_white_space h.0,
   ap without_white_space h.1 ∙ spaceless-other 46 h.0 point_stays,
-  still_only is_numeric h.0 h.2,
-  same_digits h.0 ∙ h.3,
-  h.4,
+  (still_only is_numeric h.0 h.2.0, same_digits h.0 ∙ h.2.1),
+  h.3,
 )
 
 spelling_parts : (a b word c : List ℕ) → Only is_letter word → Only is_ws c
@@ -77,27 +77,27 @@ spelling_parts a b word c letters space =
 
 spells_span : (here : List ℕ) (span : Span) → Spells here span → Spells (without_white_space here) span
 spells_span here span h = record {
-  a = without_white_space h.a;
-  b = without_white_space h.b;
-  c = [];
-  whole = ap without_white_space h.whole ∙ spelling_parts h.a h.b span.word h.c h.word h.space;
-  starts = still_begins h.a h.starts;
-  number = still_only is_numeric h.a h.number;
-  its_digits = same_digits h.a ∙ h.its_digits;
-  fraction = spells_fraction h.b span.fraction h.fraction;
+  number_text = without_white_space h.number_text;
+  fraction_text = without_white_space h.fraction_text;
+  space = [];
+  whole = ap without_white_space h.whole ∙ spelling_parts h.number_text h.fraction_text span.word h.space h.word.0 h.only_space;
+  starts = still_begins h.number_text h.starts;
+  number = (still_only is_numeric h.number_text h.number.0, same_digits h.number_text ∙ h.number.1);
+  fraction = spells_fraction h.fraction_text span.fraction h.fraction;
   word = h.word;
-  some_word = h.some_word;
-  space = tt;
+  only_space = tt;
 }
 
 spells_each : (body : List ℕ) (spans : List Span) → SpellsEach body spans → SpellsEach (without_white_space body) spans
 spells_each body [] h = ap without_white_space h
 spells_each body (s ∷ ss) h = (
   without_white_space h.0,
-  without_white_space h.1,
-  ap without_white_space h.2 ∙ spaceless-append h.0 h.1,
-  spells_span h.0 s h.3,
-  spells_each h.1 ss h.4,
+  record {
+    here = without_white_space h.1.here;
+    whole = ap without_white_space h.1.whole ∙ spaceless-append h.1.here h.0;
+    spells = spells_span h.1.here s h.1.spells;
+  },
+  spells_each h.0 ss h.2,
 )
 
 front_read : (text : List ℕ) (spans : List Span) → Front text spans → Front (without_white_space text) spans

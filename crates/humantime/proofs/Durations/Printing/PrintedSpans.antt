@@ -10,11 +10,15 @@ use Rattle.std.proofs.lemmas.List.{append_assoc, append-nil}
 use Rattle.std.proofs.lemmas.Str.{chars-append, chars-IsAscii, chars-nil, IsUtf8-append, IsUtf8-from_ascii}
 use Rattle.std.proofs.lemmas.Fmt.{IsAscii-decimal, decimal_digit}
 use Rattle.humantime.specs.Values.Amounts.{nanos_per_second}
-use Rattle.humantime.specs.Durations.Characters.{white_spaces, is_ws, decimal_value, u64_max}
+use Rattle.humantime.specs.Durations.Characters.{class_of, white_spaces, is_ws, is_letter, decimal_value, u64_max}
 use Rattle.humantime.specs.Durations.Units.{Scale, scale_of_word}
-use Rattle.humantime.specs.Durations.Spans.{Span, Only, Spells, SpellsEach, total, fraction_additions, additions_of, additions, Formed, Fits, HasRoom, Accepted, Sum_of}
+use Rattle.humantime.specs.Durations.Spans.{Span, Only, Spells, SpellsEach}
+use Rattle.humantime.specs.Durations.Sums.{total, fraction_additions, additions_of, additions}
+use Rattle.humantime.specs.Durations.Limits.{Formed, Fits, HasRoom}
+use Rattle.humantime.specs.Durations.Accepted.{Accepted, Sum_of}
 use Rattle.humantime.specs.Durations.Counts.{weights, weighted_sum, Suffix, suffixes, without_plural, printed_count, printed_counts, joined_by_space, Canon}
 use Rattle.humantime.specs.References.Durations.Printing.{divided, duration_text}
+use Rattle.humantime.proofs.Durations.Reading.Runs.{begins_not_nil}
 use Rattle.humantime.proofs.Durations.Reading.Rooms.{RoomFrom, RoomFrom-append, total-append, all_have_room}
 use Rattle.humantime.proofs.Durations.Printing.PrintedDigits.{decimal_number}
 use Rattle.humantime.proofs.Durations.Printing.PrintedRows.{word_for, span_for, IsWord, Table, table, most, seconds}
@@ -90,7 +94,10 @@ row_good t r m w n s i below left whole =
     let v = (decimal_number n (word_count t r m w n (word_for n s) i below left whole)).value in
     let adds = adds_one n (chars (word_for n s)) u i.is v in
     record {
-      formed = record { word = is_some_at _ u i.is; number = rw v (omega (arith, word_count t r m w n (word_for n s) i below left whole)); fraction = tt };
+      formed = record {
+        short = record { number = rw v (omega (arith, word_count t r m w n (word_for n s) i below left whole)); fraction = tt };
+        word = is_some_at _ u i.is;
+      };
       fits = fits_one n (chars (word_for n s)) u i.is v (small_fits t r m (n * u.factor) u.base small);
       room = rw adds (small_room t r m (n * u.factor) u.base small, tt);
       worth = rw adds (omega (arith, mul_assoc u.base u.factor n, ap (λ k. k * n) i.weight, ap (λ k. u.base * k) (mul_comm n u.factor)));
@@ -171,17 +178,15 @@ count_spells : (n w m : ℕ) (s : Suffix) (space : List ℕ) → n < 2 ^ 64 → 
 count_spells n w m s space h i only =
     let number = decimal_number n h in
     record {
-      a = decimal n;
-      b = [];
-      c = space;
+      number_text = decimal n;
+      fraction_text = [];
+      space = space;
       whole = ap (λ l. l ++ space) (count_chars n s h) ∙ append_assoc (decimal n) (chars (word_for n s)) space;
       starts = number.starts;
-      number = number.numeric;
-      its_digits = number.its_digits;
+      number = (number.numeric, number.its_digits);
       fraction = refl;
-      word = i.letters;
-      some_word = i.first;
-      space = only;
+      word = (i.letters, begins_not_nil is_letter (chars (word_for n s)) i.first);
+      only_space = only;
     }
 
 space_is : Only is_ws (32 ∷ [])
@@ -195,13 +200,16 @@ chars_space bs = chars-append (32 ∷ []) bs (IsUtf8-from_ascii (32 ∷ []) (sea
 join_spells : (p : List ℕ) (ps : List (List ℕ)) (s : Span) (spans : List Span) → IsUtf8 p → ((space : List ℕ) → Only is_ws space → Spells (chars p ++ space) s)
     → SpellsEach (chars (join_with_byte 32 ps)) spans → SpellsEach (chars (join_with_byte 32 (p ∷ ps))) (s ∷ spans)
 join_spells p [] s spans utf8 spells each =
-    (chars p ++ [], chars [], sym (append-nil (chars p)) ∙ sym (ap (λ l. (chars p ++ []) ++ l) chars-nil ∙ append-nil (chars p ++ [])), spells [] tt, each)
+    let whole = sym (append-nil (chars p)) ∙ sym (ap (λ l. (chars p ++ []) ++ l) chars-nil ∙ append-nil (chars p ++ [])) in
+    (chars [], record { here = chars p ++ []; whole = whole; spells = spells [] tt }, each)
 join_spells p (q ∷ qs) s spans utf8 spells each =
     let others = join_with_byte 32 (q ∷ qs) in (
-      chars p ++ 32 ∷ [],
       chars others,
-      chars-append p (32 ∷ others) utf8 ∙ ap (λ l. chars p ++ l) (chars_space others) ∙ sym (append_assoc (chars p) (32 ∷ []) (chars others)),
-      spells (32 ∷ []) space_is,
+      record {
+        here = chars p ++ 32 ∷ [];
+        whole = chars-append p (32 ∷ others) utf8 ∙ ap (λ l. chars p ++ l) (chars_space others) ∙ sym (append_assoc (chars p) (32 ∷ []) (chars others));
+        spells = spells (32 ∷ []) space_is;
+      },
       each,
     )
 
@@ -247,7 +255,8 @@ zero_reads =
     let row = row_good 0 0 (60 * nanos_per_second) nanos_per_second 0 s seconds (omega arith) (omega arith) (omega arith) in
     let spells = count_spells 0 nanos_per_second (60 * nanos_per_second) s [] (omega arith) seconds tt in
     let here = chars (printed_count 0 s) in
-    let each : SpellsEach here (span_for 0 s ∷ []) = (here ++ [], [], sym (append-nil here) ∙ sym (append-nil (here ++ [])), spells, refl) in
+    let each : SpellsEach here (span_for 0 s ∷ []) =
+    ([], record { here = here ++ []; whole = sym (append-nil here) ∙ sym (append-nil (here ++ [])); spells = spells }, refl) in
     let adds = additions_of (span_for 0 s) in
     subst (λ l. Accepted (chars l) 0) (sym zero_text)
     (accepted_spans here (span_for 0 s ∷ []) 0 each (λ e. cc) (row.formed, tt) (row.fits, tt) (RoomFrom-append 0 adds [] row.room tt) (omega (arith, total-append adds [], row.worth)))

@@ -3,12 +3,16 @@ use Rattle.std.proofs.Common.{◌≡◌, ◌≢◌, ◌⊎◌, ℕ, zero, suc, �
 use Rattle.std.specs.List.{AllByRecursion}
 use Rattle.std.proofs.lemmas.Bool.{cases_Bool}
 use Rattle.humantime.specs.Durations.Characters.{is_ws, is_digit, begins, past, leading, offset_of}
-use Rattle.humantime.specs.Durations.Spans.{Span, Spells, SpellsEach, Front, Formed, total, additions_of, value}
-use Rattle.humantime.specs.Durations.Faults.{Fault, NumberExpected, NumberOverflow, Empty, Split, HasFault, Stops, No_number, Nothing_there, Items, ItemsAt, EndsInSpace, after_word, span_of}
+use Rattle.humantime.specs.Durations.Spans.{Span, Spells, SpellsEach, Front}
+use Rattle.humantime.specs.Durations.Sums.{total, additions_of, value}
+use Rattle.humantime.specs.Durations.Limits.{Formed}
+use Rattle.humantime.specs.Durations.Rests.{after_word, span_of}
+use Rattle.humantime.specs.Durations.Faults.{Fault, NumberExpected, NumberOverflow, Empty, Split, HasFault, Stops, No_number, Nothing_there, EndsInSpace}
+use Rattle.humantime.specs.Durations.Items.{Items, ItemsAt}
 use Rattle.humantime.specs.References.Durations.Reading.{stop_at, read, items}
 use Rattle.humantime.proofs.Durations.Reading.Runs.{ends-append, leading-past, Only-leading, begins-past}
 use Rattle.humantime.proofs.Durations.Reading.Spelled.{next_of, next_smaller}
-use Rattle.humantime.proofs.Durations.Reading.Settled.{GoodFrom, IsAddedTo, added_or_not, value-cons, value-append, Good_from, good_from_Good, GoodFrom-push, GoodFrom-last}
+use Rattle.humantime.proofs.Durations.Reading.Settled.{WithinLimitsFrom, IsAddedTo, added_or_not, value-cons, value-append, WithinLimits_from, from_WithinLimits, WithinLimitsFrom-push, WithinLimitsFrom-last}
 use Rattle.humantime.proofs.Durations.Reading.Stopping.{Fine, Says, stop_says}
 use Rattle.humantime.proofs.Durations.Reading.Written.{written_here, formed_here, spelling_some}
 use Rattle.humantime.proofs.Durations.Reading.ReadSteps.{read-end, read-expected, read-stopped, read-fine, items-nothing, items-read}
@@ -26,8 +30,12 @@ all_push P [] s h p = (p, tt)
 all_push P (x ∷ ss) s h p = (h.0, all_push P ss s h.1 p)
 
 each_push : (body here : List ℕ) (ss : List Span) (s : Span) → SpellsEach body ss → Spells here s → SpellsEach (body ++ here) (ss ++ s ∷ [])
-each_push body here [] s h p = (here, [], rw h (sym (append-nil here)), p, refl)
-each_push body here (x ∷ ss) s h p = (h.0, h.1 ++ here, rw (h.2) (append_assoc h.0 h.1 here), h.3, each_push h.1 here ss s h.4 p)
+each_push body here [] s h p = ([], record { here = here; whole = rw h (sym (append-nil here)); spells = p }, refl)
+each_push body here (x ∷ ss) s h p = (
+  h.0 ++ here,
+  record { here = h.1.here; whole = rw (h.1.whole) (append_assoc h.1.here h.0 here); spells = h.1.spells },
+  each_push h.0 here ss s h.2 p,
+)
 
 front_push : (front here : List ℕ) (ss : List Span) (s : Span) → Front front ss → Spells here s → Front (front ++ here) (ss ++ s ∷ [])
 front_push front here ss s h p = record {
@@ -130,51 +138,51 @@ items_found text = let i = items_found_at text in record { front = i.0; rest = u
 
 -- the reading is too large from here on
 abbrev IsTooLarge : List Span → List Span × Option Fault → Type 0
-IsTooLarge spans r = ¬ (GoodFrom (0 + value spans) r.0)
+IsTooLarge spans r = ¬ (WithinLimitsFrom (0 + value spans) r.0)
 
-over_at : (text front rest : List ℕ) (spans : List Span) → text ≢ 48 ∷ [] → IsReadTo text front spans rest → GoodFrom 0 spans → begins is_digit rest ≡ true → Fine rest
+over_at : (text front rest : List ℕ) (spans : List Span) → text ≢ 48 ∷ [] → IsReadTo text front spans rest → WithinLimitsFrom 0 spans → begins is_digit rest ≡ true → Fine rest
     → ¬ (IsAddedTo (0 + value spans) (span_of rest)) → HasFault text NumberOverflow
-over_at text front rest spans not_zero r good d f over = record {
+over_at text front rest spans not_zero r within d f over = record {
   not_zero = not_zero;
   front = front;
   rest = rest;
   spans = spans;
   split = r.split;
-  good = Good_from spans r.formed good;
+  within = WithinLimits_from spans r.formed within;
   fault = inr (
     record {
-      starts = (d, f.within);
-      point = f.point;
+      number = (d, f.short);
+      not_bare = f.point;
       word = f.word;
-      ends = f.ends;
-      not_good = λ g. over (GoodFrom-last 0 spans (span_of rest) (good_from_Good (spans ++ span_of rest ∷ []) g));
+      follows = f.ends;
+      beyond = λ g. over (WithinLimitsFrom-last 0 spans (span_of rest) (from_WithinLimits (spans ++ span_of rest ∷ []) g));
     },
     refl,
   );
 }
 
-over_step : (n : ℕ) (text front rest : List ℕ) (spans : List Span) → text ≢ 48 ∷ [] → IsReadTo text front spans rest → GoodFrom 0 spans → begins is_digit rest ≡ true → length rest ≤ suc n
-    → ((f r : List ℕ) (ss : List Span) → length r ≤ n → IsReadTo text f ss r → GoodFrom 0 ss → IsTooLarge ss (read n text r) → HasFault text NumberOverflow)
+over_step : (n : ℕ) (text front rest : List ℕ) (spans : List Span) → text ≢ 48 ∷ [] → IsReadTo text front spans rest → WithinLimitsFrom 0 spans → begins is_digit rest ≡ true → length rest ≤ suc n
+    → ((f r : List ℕ) (ss : List Span) → length r ≤ n → IsReadTo text f ss r → WithinLimitsFrom 0 ss → IsTooLarge ss (read n text r) → HasFault text NumberOverflow)
     → (o : Option Fault) → stop_at text rest ≡ o → IsTooLarge spans (read (suc n) text rest) → HasFault text NumberOverflow
-over_step n text front rest spans not_zero r good d h next (Some e) s big = absurd (subst (IsTooLarge spans) (read-stopped n text rest e d s) big tt)
-over_step n text front rest spans not_zero r good d h next None s big =
+over_step n text front rest spans not_zero r within d h next (Some e) s big = absurd (subst (IsTooLarge spans) (read-stopped n text rest e d s) big tt)
+over_step n text front rest spans not_zero r within d h next None s big =
     let f : Fine rest = subst (Says text front spans rest) s (stop_says text front spans rest d) in
     let over = subst (IsTooLarge spans) (read-fine n text rest d s) big in
     elim (added_or_not (0 + value spans) (span_of rest) (formed_here rest f)) [
       | inl a ↦
           let w = read_on text front rest spans r d f in
           let sum : 0 + value (spans ++ span_of rest ∷ []) ≡ (0 + value spans) + total (additions_of (span_of rest)) = sum_push spans (span_of rest) in
-          next (front ++ w.0) (next_of rest) (spans ++ span_of rest ∷ []) (omega (arith, next_smaller rest d)) w.1 (GoodFrom-push 0 spans (span_of rest) good a)
+          next (front ++ w.0) (next_of rest) (spans ++ span_of rest ∷ []) (omega (arith, next_smaller rest d)) w.1 (WithinLimitsFrom-push 0 spans (span_of rest) within a)
           (λ g. over (a, rw sum at g))
-      | inr a ↦ over_at text front rest spans not_zero r good d f a
+      | inr a ↦ over_at text front rest spans not_zero r within d f a
     ]
 
-over_found : (n : ℕ) (text front rest : List ℕ) (spans : List Span) → text ≢ 48 ∷ [] → length rest ≤ n → IsReadTo text front spans rest → GoodFrom 0 spans
+over_found : (n : ℕ) (text front rest : List ℕ) (spans : List Span) → text ≢ 48 ∷ [] → length rest ≤ n → IsReadTo text front spans rest → WithinLimitsFrom 0 spans
     → IsTooLarge spans (read n text rest) → HasFault text NumberOverflow
-over_found n text front [] spans not_zero h r good big = absurd (subst (IsTooLarge spans) (read-end n text) big tt)
-over_found zero text front (c ∷ cs) spans not_zero h r good big = absurd (omega arith)
-over_found (suc n) text front (c ∷ cs) spans not_zero h r good big = elim (cases_Bool (is_digit c)) [
-  | inl d ↦ over_step n text front (c ∷ cs) spans not_zero r good d h (λ f m ss l k g b. over_found n text f m ss not_zero l k g b) (stop_at text (c ∷ cs)) refl big
+over_found n text front [] spans not_zero h r within big = absurd (subst (IsTooLarge spans) (read-end n text) big tt)
+over_found zero text front (c ∷ cs) spans not_zero h r within big = absurd (omega arith)
+over_found (suc n) text front (c ∷ cs) spans not_zero h r within big = elim (cases_Bool (is_digit c)) [
+  | inl d ↦ over_step n text front (c ∷ cs) spans not_zero r within d h (λ f m ss l k g b. over_found n text f m ss not_zero l k g b) (stop_at text (c ∷ cs)) refl big
   | inr d ↦ absurd (subst (IsTooLarge spans) (read-expected n text (c ∷ cs) (λ e. cc) d) big tt)
 ]
 
@@ -186,5 +194,5 @@ over_from text (c ∷ cs) not_zero e big =
     (subst (IsTooLarge []) (items-read text (c ∷ cs) e some) big)
 
 -- where the items of a text are too large, it has that fault
-pub too_large_found : (text : List ℕ) → text ≢ 48 ∷ [] → ¬ (GoodFrom 0 (items text).0) → HasFault text NumberOverflow
+pub too_large_found : (text : List ℕ) → text ≢ 48 ∷ [] → ¬ (WithinLimitsFrom 0 (items text).0) → HasFault text NumberOverflow
 too_large_found text not_zero bad = over_from text (past is_ws text) not_zero refl (λ g. let e : 0 + value [] ≡ 0 = omega arith in bad (rw e at g))

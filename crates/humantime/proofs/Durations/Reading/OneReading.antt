@@ -2,7 +2,8 @@
 use Rattle.std.proofs.Common.{◌≡◌, ◌≢◌, ℕ, ◌<◌, List, [], ◌∷◌, ◌++◌, length, refl, sym, ap, ap₂, ◌∙◌, inl, arith, subst, append-nil, length-append}
 use Rattle.humantime.specs.Durations.Characters.{is_ws, is_digit, past}
 use Rattle.humantime.specs.Durations.Spans.{Span, SpellsEach, Front, Reads}
-use Rattle.humantime.specs.Durations.Faults.{Split, OneReading}
+use Rattle.humantime.specs.Durations.Faults.{Split}
+use Rattle.humantime.specs.Durations.OutcomeLaws.{OneReading}
 use Rattle.humantime.proofs.Durations.Reading.Runs.{begins_not_nil}
 use Rattle.humantime.proofs.Durations.Reading.Spelled.{IsSpanAt}
 use Rattle.humantime.proofs.Durations.Reading.Written.{spelling_some}
@@ -17,10 +18,10 @@ one_each body [] [] h k = refl
 one_each body [] (t ∷ ts) h k = absurd (begins_not_nil is_digit body (each_starts body t ts k) h)
 one_each body (s ∷ ss) [] h k = absurd (begins_not_nil is_digit body (each_starts body s ss h) k)
 one_each body (s ∷ ss) (t ∷ ts) h k =
-    let i : IsSpanAt (body ++ []) s (h.1 ++ []) = first_here body [] s ss h (inl (inl refl)) refl in
-    let j : IsSpanAt (body ++ []) t (k.1 ++ []) = first_here body [] t ts k (inl (inl refl)) refl in
-    let next : k.1 ≡ h.1 = sym (append-nil k.1) ∙ sym j.next_is ∙ i.next_is ∙ append-nil h.1 in
-    ap₂ (λ (x : Span) (xs : List Span). x ∷ xs) (sym i.span ∙ j.span) (one_each h.1 ss ts h.4 (subst (λ x. SpellsEach x ts) next k.4))
+    let i : IsSpanAt (body ++ []) s (h.0 ++ []) = first_here body [] s ss h (inl (inl refl)) refl in
+    let j : IsSpanAt (body ++ []) t (k.0 ++ []) = first_here body [] t ts k (inl (inl refl)) refl in
+    let next : k.0 ≡ h.0 = sym (append-nil k.0) ∙ sym j.next_is ∙ i.next_is ∙ append-nil h.0 in
+    ap₂ (λ (x : Span) (xs : List Span). x ∷ xs) (sym i.span ∙ j.span) (one_each h.0 ss ts h.2 (subst (λ x. SpellsEach x ts) next k.2))
 
 pub one_front : (text : List ℕ) (ss ts : List Span) → Front text ss → Front text ts → ss ≡ ts
 unfolding split_whole
@@ -36,7 +37,7 @@ one_reading text ss ts h k = one_front text ss ts h.0 k.0
 -- a text that is read has a digit and a letter
 each_long : (body : List ℕ) (spans : List Span) → SpellsEach body spans → spans ≢ [] → 1 < length body
 each_long body [] h some = absurd (some refl)
-each_long body (s ∷ ss) h some = omega (arith, ap length h.2, length-append h.0 h.1, spelling_some h.0 s h.3)
+each_long body (s ∷ ss) h some = omega (arith, ap length h.1.whole, length-append h.1.here h.0, spelling_some h.1.here s h.1.spells)
 
 pub reads_long : (text : List ℕ) (spans : List Span) → Reads text spans → 1 < length text
 reads_long text spans h = omega (arith, ap length h.0.whole, length-append h.0.space h.0.body, each_long h.0.body spans h.0.each h.1)

@@ -5,13 +5,18 @@ use Rattle.std.specs.Str.{bytes_eq}
 use Rattle.std.proofs.lemmas.Bool.{cases_Bool, false≢true}
 use Rattle.std.proofs.lemmas.Slice.Eq.{bytes_eq-Decides}
 use Rattle.humantime.specs.Durations.Characters.{is_digit}
-use Rattle.humantime.specs.Durations.Spans.{Span, Front, Reads, Formed, Good, value, Accepted, Bare_zero, Sum_of}
-use Rattle.humantime.specs.Durations.Faults.{Fault, NumberOverflow, Stops, Overflows, HasFault, Items, OneOutcome, OnlyValue, OnlyFault, OneListOfItems, span_of}
-use Rattle.humantime.specs.Durations.ItemLaws.{ItemsDecideValue, ItemsDecideFault, ItemsDecideOverflow}
+use Rattle.humantime.specs.Durations.Spans.{Span, Front, Reads}
+use Rattle.humantime.specs.Durations.Sums.{value}
+use Rattle.humantime.specs.Durations.Limits.{Formed, WithinLimits}
+use Rattle.humantime.specs.Durations.Accepted.{Accepted, Bare_zero, Sum_of}
+use Rattle.humantime.specs.Durations.Rests.{span_of}
+use Rattle.humantime.specs.Durations.Faults.{Fault, NumberOverflow, Stops, Overflows, HasFault}
+use Rattle.humantime.specs.Durations.Items.{Items}
+use Rattle.humantime.specs.Durations.OutcomeLaws.{OneOutcome, OnlyValue, OnlyFault, OneListOfItems, ItemsDecideValue, ItemsDecideFault, ItemsDecideOverflow}
 use Rattle.humantime.specs.References.Durations.Reading.{with_span, read, items, settle}
 use Rattle.humantime.specs.References.Durations.Answers.{duration_answer}
 use Rattle.humantime.proofs.Durations.Reading.Runs.{begins_not_nil}
-use Rattle.humantime.proofs.Durations.Reading.Settled.{GoodFrom, IsAddedTo, add_span-bad, good_or_not, settle_over, settle-append, ended, settle_good, settle_bad, Good_from, good_from_Good, GoodFrom-push}
+use Rattle.humantime.proofs.Durations.Reading.Settled.{WithinLimitsFrom, IsAddedTo, add_span-over, within_or_not, settle_over, settle-append, ended, settle_within, settle_beyond, WithinLimits_from, from_WithinLimits, WithinLimitsFrom-push}
 use Rattle.humantime.proofs.Durations.Reading.Spelled.{next_of}
 use Rattle.humantime.proofs.Durations.Reading.Stopping.{Fine, fine_goes}
 use Rattle.humantime.proofs.Durations.Reading.Written.{formed_here}
@@ -51,12 +56,12 @@ zero_or_not text = elim (cases_Bool (bytes_eq text (48 ∷ []))) [
 pub outcome_settled : (text : List ℕ) (spans : List Span) (stop : Option Fault) → text ≢ 48 ∷ [] → Items text spans stop → duration_answer text ≡ settle 0 spans stop
 outcome_settled text spans stop some h = duration_answer-items text some ∙ ap (λ (r : List Span × Option Fault). settle 0 r.0 r.1) (items_told text spans stop h)
 
-pub outcome_good : (text : List ℕ) (spans : List Span) (stop : Option Fault) → text ≢ 48 ∷ [] → Items text spans stop → Good spans → duration_answer text ≡ ended (value spans) stop
-outcome_good text spans stop some h g =
-    outcome_settled text spans stop some h ∙ settle_good 0 spans stop g.formed (good_from_Good spans g) ∙ ap (λ (n : ℕ). ended n stop) (omega arith)
+pub outcome_within : (text : List ℕ) (spans : List Span) (stop : Option Fault) → text ≢ 48 ∷ [] → Items text spans stop → WithinLimits spans → duration_answer text ≡ ended (value spans) stop
+outcome_within text spans stop some h g =
+    outcome_settled text spans stop some h ∙ settle_within 0 spans stop g.formed (from_WithinLimits spans g) ∙ ap (λ (n : ℕ). ended n stop) (omega arith)
 
-pub outcome_bad : (text : List ℕ) (spans : List Span) (stop : Option Fault) → text ≢ 48 ∷ [] → Items text spans stop → ¬ (Good spans) → duration_answer text ≡ Err NumberOverflow
-outcome_bad text spans stop some h bad = outcome_settled text spans stop some h ∙ settle_bad 0 spans stop h.are.formed (λ g. bad (Good_from spans h.are.formed g))
+pub outcome_beyond : (text : List ℕ) (spans : List Span) (stop : Option Fault) → text ≢ 48 ∷ [] → Items text spans stop → ¬ (WithinLimits spans) → duration_answer text ≡ Err NumberOverflow
+outcome_beyond text spans stop some h bad = outcome_settled text spans stop some h ∙ settle_beyond 0 spans stop h.are.formed (λ g. bad (WithinLimits_from spans h.are.formed g))
 
 -- a text that is read whole stops nowhere
 pub items_whole : (text : List ℕ) (spans : List Span) → Reads text spans → AllByRecursion Formed spans → Items text spans None
@@ -72,31 +77,31 @@ reads_whole text spans h = elim h.are.ends [
 
 pub outcome_accepted : (text : List ℕ) (v : ℕ) → Accepted text v → duration_answer text ≡ Ok v
 outcome_accepted text v (Bare_zero zero none) = rw (zero, none) duration_answer-zero
-outcome_accepted text v (Sum_of spans reads good sum) =
-    outcome_good text spans None (not_zero text spans reads) (items_whole text spans reads good.formed) good ∙ ap (λ (n : ℕ). Ok n) sum
+outcome_accepted text v (Sum_of spans reads within sum) =
+    outcome_within text spans None (not_zero text spans reads) (items_whole text spans reads within.formed) within ∙ ap (λ (n : ℕ). Ok n) sum
 
 stop_outcome : (text : List ℕ) (e : Fault) (h : HasFault text e) → Stops text h.front h.spans h.rest e → duration_answer text ≡ Err e
 stop_outcome text e h s =
-    outcome_good text h.spans (Some e) h.not_zero (record { front = h.front; rest = h.rest; are = record { split = h.split; formed = h.good.formed; ends = inr (e, refl, s) } }) h.good
+    outcome_within text h.spans (Some e) h.not_zero (record { front = h.front; rest = h.rest; are = record { split = h.split; formed = h.within.formed; ends = inr (e, refl, s) } }) h.within
 
--- the spans before the rest are good, and not with the one that begins it
-over_settled : (n : ℕ) (text rest : List ℕ) (spans : List Span) → Good spans → Overflows spans rest → length rest ≤ n
+-- the spans before the rest are within the limits, and not with the one that begins it
+over_settled : (n : ℕ) (text rest : List ℕ) (spans : List Span) → WithinLimits spans → Overflows spans rest → length rest ≤ n
     → settle 0 (spans ++ (read n text rest).0) (read n text rest).1 ≡ Err NumberOverflow
-over_settled n text rest spans good o h =
-    let m = steps n rest (begins_not_nil is_digit rest o.starts.0) h in
-    let f : Fine rest = record { within = o.starts.1; point = o.point; word = o.word; ends = o.ends } in
-    let g : GoodFrom 0 spans = good_from_Good spans good in
+over_settled n text rest spans within o h =
+    let m = steps n rest (begins_not_nil is_digit rest o.number.0) h in
+    let f : Fine rest = record { short = o.number.1; point = o.not_bare; word = o.word; ends = o.follows } in
+    let g : WithinLimitsFrom 0 spans = from_WithinLimits spans within in
     let r = read m.0 text (next_of rest) in
-    let e : read n text rest ≡ with_span (span_of rest) r = ap (λ (k : ℕ). read k text rest) m.1 ∙ read-fine m.0 text rest o.starts.0 (fine_goes text rest f) in
+    let e : read n text rest ≡ with_span (span_of rest) r = ap (λ (k : ℕ). read k text rest) m.1 ∙ read-fine m.0 text rest o.number.0 (fine_goes text rest f) in
     let bad : ¬ (IsAddedTo (0 + value spans) (span_of rest)) = λ a.
-    o.not_good (Good_from (spans ++ span_of rest ∷ []) (all_push Formed spans (span_of rest) good.formed (formed_here rest f)) (GoodFrom-push 0 spans (span_of rest) g a)) in
-    ap (λ (x : List Span × Option Fault). settle 0 (spans ++ x.0) x.1) e ∙ settle-append 0 spans (span_of rest ∷ r.0) r.1 good.formed g
-    ∙ settle_over (0 + value spans) (span_of rest) r.0 r.1 (add_span-bad (0 + value spans) (span_of rest) bad)
+    o.beyond (WithinLimits_from (spans ++ span_of rest ∷ []) (all_push Formed spans (span_of rest) within.formed (formed_here rest f)) (WithinLimitsFrom-push 0 spans (span_of rest) g a)) in
+    ap (λ (x : List Span × Option Fault). settle 0 (spans ++ x.0) x.1) e ∙ settle-append 0 spans (span_of rest ∷ r.0) r.1 within.formed g
+    ∙ settle_over (0 + value spans) (span_of rest) r.0 r.1 (add_span-over (0 + value spans) (span_of rest) bad)
 
 over_outcome : (text : List ℕ) (e : Fault) (h : HasFault text e) → Overflows h.spans h.rest → duration_answer text ≡ Err NumberOverflow
 over_outcome text e h o =
-    let g = front_told text h.front h.rest h.spans h.split h.good.formed (inr (closes_digit h.front h.rest o.starts.0)) (λ n. absurd (begins_not_nil is_digit h.rest o.starts.0 n)) in
-    duration_answer-items text h.not_zero ∙ ap (λ (r : List Span × Option Fault). settle 0 r.0 r.1) g.is ∙ over_settled g.n text h.rest h.spans h.good o g.enough
+    let g = front_told text h.front h.rest h.spans h.split h.within.formed (inr (closes_digit h.front h.rest o.number.0)) (λ n. absurd (begins_not_nil is_digit h.rest o.number.0 n)) in
+    duration_answer-items text h.not_zero ∙ ap (λ (r : List Span × Option Fault). settle 0 r.0 r.1) g.is ∙ over_settled g.n text h.rest h.spans h.within o g.enough
 
 pub outcome_fault : (text : List ℕ) (e : Fault) → HasFault text e → duration_answer text ≡ Err e
 outcome_fault text e h = elim h.fault [
@@ -104,17 +109,17 @@ outcome_fault text e h = elim h.fault [
   | inr o ↦ over_outcome text e h o.0 ∙ ap (λ (x : Fault). Err x) (sym o.1)
 ]
 
--- good items are a value or a fault
-good_value : (text : List ℕ) (spans : List Span) (stop : Option Fault) (v : ℕ) → Items text spans stop → Good spans → ended (value spans) stop ≡ Ok v → (stop ≡ None) × Accepted text v
-good_value text spans None v h g e = (refl, Sum_of spans (reads_whole text spans h) g (ok_same (value spans) v e))
-good_value text spans (Some f) v h g e = cc
+-- items within the limits are a value or a fault
+within_value : (text : List ℕ) (spans : List Span) (stop : Option Fault) (v : ℕ) → Items text spans stop → WithinLimits spans → ended (value spans) stop ≡ Ok v → (stop ≡ None) × Accepted text v
+within_value text spans None v h g e = (refl, Sum_of spans (reads_whole text spans h) g (ok_same (value spans) v e))
+within_value text spans (Some f) v h g e = cc
 
-pub good_fault : (text : List ℕ) (spans : List Span) (stop : Option Fault) (e : Fault) → text ≢ 48 ∷ [] → Items text spans stop → Good spans → stop ≡ Some e → HasFault text e
-good_fault text spans stop e some h g is = elim h.are.ends [
+pub within_fault : (text : List ℕ) (spans : List Span) (stop : Option Fault) (e : Fault) → text ≢ 48 ∷ [] → Items text spans stop → WithinLimits spans → stop ≡ Some e → HasFault text e
+within_fault text spans stop e some h g is = elim h.are.ends [
   | inl o ↦ let n = o.2 in cc
   | inr o ↦
       let same : o.0 ≡ e = let p = o.1 in cc in
-      record { not_zero = some; front = h.front; rest = h.rest; spans = spans; split = h.are.split; good = g; fault = inl (subst (λ x. Stops text h.front spans h.rest x) same o.2) }
+      record { not_zero = some; front = h.front; rest = h.rest; spans = spans; split = h.are.split; within = g; fault = inl (subst (λ x. Stops text h.front spans h.rest x) same o.2) }
 ]
 
 ended_value : (v : ℕ) (stop : Option Fault) (w : ℕ) → ended v stop ≡ Ok w → v ≡ w
@@ -125,16 +130,16 @@ ended_fault : (v : ℕ) (stop : Option Fault) (e : Fault) → ended v stop ≡ E
 ended_fault v None e h = cc
 ended_fault v (Some f) e h = ap Some (err_same f e h)
 
--- the spans are good, or they aren't
-pub good_or_bad : (spans : List Span) → AllByRecursion Formed spans → Good spans ⊎ ¬ (Good spans)
-good_or_bad spans f = elim (good_or_not 0 spans f) [ inl g ↦ inl (Good_from spans f g) | inr b ↦ inr (λ g. b (good_from_Good spans g)) ]
+-- the spans are within the limits, or they aren't
+pub within_or_beyond : (spans : List Span) → AllByRecursion Formed spans → WithinLimits spans ⊎ ¬ (WithinLimits spans)
+within_or_beyond spans f = elim (within_or_not 0 spans f) [ inl g ↦ inl (WithinLimits_from spans f g) | inr b ↦ inr (λ g. b (from_WithinLimits spans g)) ]
 
 accepted_read : (text : List ℕ) (v : ℕ) → text ≢ 48 ∷ [] → duration_answer text ≡ Ok v → Accepted text v
 accepted_read text v some h =
     let i = items_found text in
-    elim (good_or_bad (items text).0 i.are.formed) [
-      | inl g ↦ (good_value text (items text).0 (items text).1 v i g (sym (outcome_good text (items text).0 (items text).1 some i g) ∙ h)).1
-      | inr b ↦ let e = outcome_bad text (items text).0 (items text).1 some i b in cc
+    elim (within_or_beyond (items text).0 i.are.formed) [
+      | inl g ↦ (within_value text (items text).0 (items text).1 v i g (sym (outcome_within text (items text).0 (items text).1 some i g) ∙ h)).1
+      | inr b ↦ let e = outcome_beyond text (items text).0 (items text).1 some i b in cc
     ]
 
 pub accepted_from_outcome : (text : List ℕ) (v : ℕ) → duration_answer text ≡ Ok v → Accepted text v
@@ -146,11 +151,11 @@ accepted_from_outcome text v h = elim (zero_or_not text) [
 fault_read : (text : List ℕ) (e : Fault) → text ≢ 48 ∷ [] → duration_answer text ≡ Err e → HasFault text e
 fault_read text e some h =
     let i = items_found text in
-    elim (good_or_bad (items text).0 i.are.formed) [
-      | inl g ↦ good_fault text (items text).0 (items text).1 e some i g (ended_fault (value (items text).0) (items text).1 e (sym (outcome_good text (items text).0 (items text).1 some i g) ∙ h))
+    elim (within_or_beyond (items text).0 i.are.formed) [
+      | inl g ↦ within_fault text (items text).0 (items text).1 e some i g (ended_fault (value (items text).0) (items text).1 e (sym (outcome_within text (items text).0 (items text).1 some i g) ∙ h))
       | inr b ↦
-          let is : NumberOverflow ≡ e = err_same NumberOverflow e (sym (outcome_bad text (items text).0 (items text).1 some i b) ∙ h) in
-          subst (HasFault text) is (too_large_found text some (λ g. b (Good_from (items text).0 i.are.formed g)))
+          let is : NumberOverflow ≡ e = err_same NumberOverflow e (sym (outcome_beyond text (items text).0 (items text).1 some i b) ∙ h) in
+          subst (HasFault text) is (too_large_found text some (λ g. b (WithinLimits_from (items text).0 i.are.formed g)))
     ]
 
 pub fault_from_outcome : (text : List ℕ) (e : Fault) → duration_answer text ≡ Err e → HasFault text e
@@ -183,12 +188,12 @@ pub one_list_of_items : (text : List ℕ) → OneListOfItems text
 one_list_of_items text = ((items text).0, (items text).1, items_found text, λ ss o h. let e = items_told text ss o h in (sym (ap (λ (r : List Span × Option Fault). r.0) e), sym (ap (λ (r : List Span × Option Fault). r.1) e)))
 
 -- the items decide the value, the fault, and that they are too large
-value_only : (text : List ℕ) (spans : List Span) (stop : Option Fault) (v : ℕ) → text ≢ 48 ∷ [] → Items text spans stop → duration_answer text ≡ Ok v → (stop ≡ None) × Good spans × (value spans ≡ v)
-value_only text spans stop v some h o = elim (good_or_bad spans h.are.formed) [
+value_only : (text : List ℕ) (spans : List Span) (stop : Option Fault) (v : ℕ) → text ≢ 48 ∷ [] → Items text spans stop → duration_answer text ≡ Ok v → (stop ≡ None) × WithinLimits spans × (value spans ≡ v)
+value_only text spans stop v some h o = elim (within_or_beyond spans h.are.formed) [
   | inl g ↦
-      let e = sym (outcome_good text spans stop some h g) ∙ o in
-      ((good_value text spans stop v h g e).0, g, ended_value (value spans) stop v e)
-  | inr b ↦ let e = outcome_bad text spans stop some h b in cc
+      let e = sym (outcome_within text spans stop some h g) ∙ o in
+      ((within_value text spans stop v h g e).0, g, ended_value (value spans) stop v e)
+  | inr b ↦ let e = outcome_beyond text spans stop some h b in cc
 ]
 
 pub items_decide_value : (text : List ℕ) → ItemsDecideValue text
@@ -198,7 +203,7 @@ items_decide_value text spans stop h some v = (
 )
 
 pub items_decide_fault : (text : List ℕ) → ItemsDecideFault text
-items_decide_fault text spans e h some g = good_fault text spans (Some e) e some h g refl
+items_decide_fault text spans e h some g = within_fault text spans (Some e) e some h g refl
 
 pub items_decide_overflow : (text : List ℕ) → ItemsDecideOverflow text
-items_decide_overflow text spans stop h some b = fault_from_outcome text NumberOverflow (outcome_bad text spans stop some h b)
+items_decide_overflow text spans stop h some b = fault_from_outcome text NumberOverflow (outcome_beyond text spans stop some h b)

@@ -5,23 +5,24 @@ use Rattle.std.proofs.lemmas.Bool.{cases_Bool, cases_eq, false≢true, and_parts
 use Rattle.std.proofs.lemmas.List.Sums.{sum_by-append, sum_by-cons}
 use Rattle.humantime.specs.Values.Amounts.{nanos_per_second}
 use Rattle.humantime.specs.Durations.Characters.{u64_max}
-use Rattle.humantime.specs.Durations.Spans.{Addition, nanos_of, total, HasRoom, AllHaveRoom}
+use Rattle.humantime.specs.Durations.Sums.{Addition, addition_nanos, total}
+use Rattle.humantime.specs.Durations.Limits.{HasRoom, AllHaveRoom}
 use Rattle.humantime.specs.References.Durations.Reading.{room, add_all}
 
 -- each addition has room, where t nanoseconds stand before them all
 abbrev pub RoomFrom : ℕ → List Addition → Type 0
 RoomFrom t [] = ⊤
-RoomFrom t (x ∷ xs) = HasRoom t x × RoomFrom (t + nanos_of x) xs
+RoomFrom t (x ∷ xs) = HasRoom t x × RoomFrom (t + addition_nanos x) xs
 
 pub total-append : (xs ys : List Addition) → total (xs ++ ys) ≡ total xs + total ys
-total-append xs ys = sum_by-append nanos_of xs ys
+total-append xs ys = sum_by-append addition_nanos xs ys
 
 -- the two tests for room
 abbrev low_room : ℕ → Addition → Bool
 low_room t x = if x.base == 1 then nat_le (t % nanos_per_second + x.amount) u64_max else true
 
 abbrev high_room : ℕ → Addition → Bool
-high_room t x = nat_le ((t + nanos_of x) / nanos_per_second) u64_max
+high_room t x = nat_le ((t + addition_nanos x) / nanos_per_second) u64_max
 
 low_room-true : (t : ℕ) (x : Addition) → low_room t x ≡ true → x.base ≡ 1 → t % nanos_per_second + x.amount ≤ u64_max
 low_room-true t x h e = leb-true (t % nanos_per_second + x.amount) u64_max (rw (eq-eqb x.base 1 e) at h)
@@ -29,7 +30,7 @@ low_room-true t x h e = leb-true (t % nanos_per_second + x.amount) u64_max (rw (
 room-true : (t : ℕ) (x : Addition) → room t x ≡ true → HasRoom t x
 room-true t x h =
     let p = and_parts (low_room t x) (high_room t x) h in
-    (low_room-true t x p.0, leb-true ((t + nanos_of x) / nanos_per_second) u64_max p.1)
+    (low_room-true t x p.0, leb-true ((t + addition_nanos x) / nanos_per_second) u64_max p.1)
 
 low_room_from : (t : ℕ) (x : Addition) → (x.base ≡ 1 → t % nanos_per_second + x.amount ≤ u64_max) → low_room t x ≡ true
 low_room_from t x h = elim (cases_eq x.base 1) [
@@ -38,27 +39,27 @@ low_room_from t x h = elim (cases_eq x.base 1) [
 ]
 
 room_from : (t : ℕ) (x : Addition) → HasRoom t x → room t x ≡ true
-room_from t x h = and_from (low_room t x) (high_room t x) (low_room_from t x h.0) (le-leb ((t + nanos_of x) / nanos_per_second) u64_max h.1)
+room_from t x h = and_from (low_room t x) (high_room t x) (low_room_from t x h.0) (le-leb ((t + addition_nanos x) / nanos_per_second) u64_max h.1)
 
 -- the sum where there is room, and none else
 pub add_all-room : (t : ℕ) (xs : List Addition) → RoomFrom t xs → add_all t xs ≡ Some (t + total xs)
 unfolding add_all
 add_all-room t [] h = ap Some (omega arith)
-add_all-room t (x ∷ xs) h = rw (room_from t x h.0) (add_all-room (t + nanos_of x) xs h.1 ∙ ap Some (omega (arith, sum_by-cons nanos_of x xs)))
+add_all-room t (x ∷ xs) h = rw (room_from t x h.0) (add_all-room (t + addition_nanos x) xs h.1 ∙ ap Some (omega (arith, sum_by-cons addition_nanos x xs)))
 
 pub add_all-full : (t : ℕ) (xs : List Addition) → ¬ (RoomFrom t xs) → add_all t xs ≡ None
 unfolding add_all
 add_all-full t [] h = absurd (h tt)
 add_all-full t (x ∷ xs) h = elim (cases_Bool (room t x)) [
-  | inl e ↦ rw e (add_all-full (t + nanos_of x) xs (λ r. h (room-true t x e, r)))
+  | inl e ↦ rw e (add_all-full (t + addition_nanos x) xs (λ r. h (room-true t x e, r)))
   | inr e ↦ rw e
 ]
 
 pub room_or_not : (t : ℕ) (xs : List Addition) → RoomFrom t xs ⊎ ¬ (RoomFrom t xs)
 room_or_not t [] = inl tt
-room_or_not t (x ∷ xs) = both (cases_Bool (room t x)) (room_or_not (t + nanos_of x) xs)
+room_or_not t (x ∷ xs) = both (cases_Bool (room t x)) (room_or_not (t + addition_nanos x) xs)
   where
-    both : (room t x ≡ true) ⊎ (room t x ≡ false) → RoomFrom (t + nanos_of x) xs ⊎ ¬ (RoomFrom (t + nanos_of x) xs) → RoomFrom t (x ∷ xs) ⊎ ¬ (RoomFrom t (x ∷ xs))
+    both : (room t x ≡ true) ⊎ (room t x ≡ false) → RoomFrom (t + addition_nanos x) xs ⊎ ¬ (RoomFrom (t + addition_nanos x) xs) → RoomFrom t (x ∷ xs) ⊎ ¬ (RoomFrom t (x ∷ xs))
     both (inl e) (inl r) = inl (room-true t x e, r)
     both (inl e) (inr r) = inr (λ h. r h.1)
     both (inr e) o = inr (λ h. false≢true (sym e ∙ room_from t x h.0))
@@ -67,18 +68,18 @@ room_or_not t (x ∷ xs) = both (cases_Bool (room t x)) (room_or_not (t + nanos_
 pub RoomFrom-append : (t : ℕ) (xs ys : List Addition) → RoomFrom t xs → RoomFrom (t + total xs) ys → RoomFrom t (xs ++ ys)
 RoomFrom-append t [] ys h k = let e : t + total [] ≡ t = omega arith in rw e at k
 RoomFrom-append t (x ∷ xs) ys h k =
-    let e : t + total (x ∷ xs) ≡ (t + nanos_of x) + total xs = omega (arith, sum_by-cons nanos_of x xs) in
-    (h.0, RoomFrom-append (t + nanos_of x) xs ys h.1 (rw e at k))
+    let e : t + total (x ∷ xs) ≡ (t + addition_nanos x) + total xs = omega (arith, sum_by-cons addition_nanos x xs) in
+    (h.0, RoomFrom-append (t + addition_nanos x) xs ys h.1 (rw e at k))
 
 pub RoomFrom-front : (t : ℕ) (xs ys : List Addition) → RoomFrom t (xs ++ ys) → RoomFrom t xs
 RoomFrom-front t [] ys h = tt
-RoomFrom-front t (x ∷ xs) ys h = (h.0, RoomFrom-front (t + nanos_of x) xs ys h.1)
+RoomFrom-front t (x ∷ xs) ys h = (h.0, RoomFrom-front (t + addition_nanos x) xs ys h.1)
 
 pub RoomFrom-back : (t : ℕ) (xs ys : List Addition) → RoomFrom t (xs ++ ys) → RoomFrom (t + total xs) ys
 RoomFrom-back t [] ys h = let e : t + total [] ≡ t = omega arith in rw e h
 RoomFrom-back t (x ∷ xs) ys h =
-    let e : t + total (x ∷ xs) ≡ (t + nanos_of x) + total xs = omega (arith, sum_by-cons nanos_of x xs) in
-    rw e (RoomFrom-back (t + nanos_of x) xs ys h.1)
+    let e : t + total (x ∷ xs) ≡ (t + addition_nanos x) + total xs = omega (arith, sum_by-cons addition_nanos x xs) in
+    rw e (RoomFrom-back (t + addition_nanos x) xs ys h.1)
 
 -- room one by one is room after each front
 from_each : (t : ℕ) (xs : List Addition) → ((before after : List Addition) (x : Addition) → xs ≡ before ++ x ∷ after → HasRoom (t + total before) x) → RoomFrom t xs
@@ -86,8 +87,8 @@ from_each t [] h = tt
 from_each t (y ∷ ys) h =
     let zero : t + total [] ≡ t = omega arith in (
       rw zero at (h [] ys y refl),
-      from_each (t + nanos_of y) ys (λ before after x e.
-          let p : t + total (y ∷ before) ≡ (t + nanos_of y) + total before = omega (arith, sum_by-cons nanos_of y before) in
+      from_each (t + addition_nanos y) ys (λ before after x e.
+          let p : t + total (y ∷ before) ≡ (t + addition_nanos y) + total before = omega (arith, sum_by-cons addition_nanos y before) in
           rw p at (h (y ∷ before) after x (ap (λ (l : List Addition). y ∷ l) e))),
     )
 

@@ -1,8 +1,8 @@
 -- The longest front of a text that passes a test, and what follows it.
 use Rattle.std.proofs.Common.{◌≡◌, ◌≢◌, ℕ, ◌≤◌, ◌<◌, Bool, true, false, List, [], ◌∷◌, ◌++◌, length, refl, ap, inl, inr, arith, length-append}
 use Rattle.std.proofs.lemmas.Bool.{cases_Bool}
-use Rattle.humantime.specs.Durations.Characters.{leading, past, begins, ends}
-use Rattle.humantime.specs.Durations.Spans.{Only}
+use Rattle.humantime.specs.Durations.Characters.{is_letter, leading, past, begins, ends}
+use Rattle.humantime.specs.Durations.Spans.{Only, IsLetters}
 
 pub leading-past : (p : ℕ → Bool) (cs : List ℕ) → leading p cs ++ past p cs ≡ cs
 leading-past p [] = refl
@@ -41,6 +41,9 @@ begins_not_nil p (c ∷ cs) e = λ h. cc
 pub begins_Only : (p : ℕ → Bool) (cs : List ℕ) → Only p cs → cs ≢ [] → begins p cs ≡ true
 begins_Only p [] h some = absurd (some refl)
 begins_Only p (c ∷ cs) h some = h.0
+
+pub letters_begin : (cs : List ℕ) → IsLetters cs → begins is_letter cs ≡ true
+letters_begin cs h = begins_Only is_letter cs h.0 h.1
 
 pub ends_Only : (p : ℕ → Bool) (cs : List ℕ) → Only p cs → cs ≢ [] → ends p cs ≡ true
 ends_Only p [] h some = absurd (some refl)

@@ -8,7 +8,9 @@ use Rattle.std.proofs.lemmas.Grind.{flat_map-append}
 use Rattle.std.proofs.lemmas.List.{nil_from_length}
 use Rattle.humantime.specs.Durations.Characters.{decimal_value, significant, u64_max}
 use Rattle.humantime.specs.Durations.Units.{Scale, scale_of_word}
-use Rattle.humantime.specs.Durations.Spans.{Span, total, additions_of, additions, value, Formed, IsWholePart, FitsFraction, Fits, Good}
+use Rattle.humantime.specs.Durations.Spans.{Span}
+use Rattle.humantime.specs.Durations.Sums.{total, additions_of, additions, value}
+use Rattle.humantime.specs.Durations.Limits.{Formed, IsWholePart, FitsFraction, Fits, WithinLimits}
 use Rattle.humantime.specs.Durations.Faults.{Fault, NumberOverflow}
 use Rattle.humantime.specs.References.Durations.Reading.{is_whole_part, fraction_fits, fits_at, add_span, settle}
 use Rattle.humantime.proofs.Durations.Reading.Rooms.{RoomFrom, total-append, add_all-room, add_all-full, room_or_not, RoomFrom-append, RoomFrom-front, RoomFrom-back, room_from_all, all_have_room}
@@ -18,9 +20,9 @@ abbrev pub IsAddedTo : ℕ → Span → Type 0
 IsAddedTo t s = Fits s × RoomFrom t (additions_of s)
 
 -- each span does, after those before it
-abbrev pub GoodFrom : ℕ → List Span → Type 0
-GoodFrom t [] = ⊤
-GoodFrom t (s ∷ ss) = IsAddedTo t s × GoodFrom (t + total (additions_of s)) ss
+abbrev pub WithinLimitsFrom : ℕ → List Span → Type 0
+WithinLimitsFrom t [] = ⊤
+WithinLimitsFrom t (s ∷ ss) = IsAddedTo t s × WithinLimitsFrom (t + total (additions_of s)) ss
 
 whole_part-true : (n : ℕ) (ds : List ℕ) → is_whole_part n ds ≡ true → IsWholePart n ds
 whole_part-true n ds e =
@@ -58,13 +60,13 @@ fits_at_from (Some u) s some h =
     (le-leb (decimal_value s.number * u.factor) u64_max h.0) (fraction_fits_from u.fraction_factor s.fraction h.1)
 
 -- the sum after a span that keeps the limits, and none after another
-pub add_span-good : (t : ℕ) (s : Span) → Formed s → IsAddedTo t s → add_span t s ≡ Some (t + total (additions_of s))
+pub add_span-added : (t : ℕ) (s : Span) → Formed s → IsAddedTo t s → add_span t s ≡ Some (t + total (additions_of s))
 unfolding add_span
-add_span-good t s f h = rw (fits_at_from (scale_of_word s.word) s f.word h.0) (add_all-room t (additions_of s) h.1)
+add_span-added t s f h = rw (fits_at_from (scale_of_word s.word) s f.word h.0) (add_all-room t (additions_of s) h.1)
 
-pub add_span-bad : (t : ℕ) (s : Span) → ¬ (IsAddedTo t s) → add_span t s ≡ None
+pub add_span-over : (t : ℕ) (s : Span) → ¬ (IsAddedTo t s) → add_span t s ≡ None
 unfolding add_span
-add_span-bad t s h = elim (cases_Bool (fits_at (scale_of_word s.word) s)) [
+add_span-over t s h = elim (cases_Bool (fits_at (scale_of_word s.word) s)) [
   | inl e ↦ rw e (add_all-full t (additions_of s) (λ r. h (fits_at-true (scale_of_word s.word) s e, r)))
   | inr e ↦ rw e
 ]
@@ -77,11 +79,11 @@ added_or_not t s f = both (cases_Bool (fits_at (scale_of_word s.word) s)) (room_
     both (inl e) (inr r) = inr (λ h. r h.1)
     both (inr e) o = inr (λ h. false≢true (sym e ∙ fits_at_from (scale_of_word s.word) s f.word h.0))
 
-pub good_or_not : (t : ℕ) (spans : List Span) → AllByRecursion Formed spans → GoodFrom t spans ⊎ ¬ (GoodFrom t spans)
-good_or_not t [] f = inl tt
-good_or_not t (s ∷ ss) f = both (added_or_not t s f.0) (good_or_not (t + total (additions_of s)) ss f.1)
+pub within_or_not : (t : ℕ) (spans : List Span) → AllByRecursion Formed spans → WithinLimitsFrom t spans ⊎ ¬ (WithinLimitsFrom t spans)
+within_or_not t [] f = inl tt
+within_or_not t (s ∷ ss) f = both (added_or_not t s f.0) (within_or_not (t + total (additions_of s)) ss f.1)
   where
-    both : IsAddedTo t s ⊎ ¬ (IsAddedTo t s) → GoodFrom (t + total (additions_of s)) ss ⊎ ¬ (GoodFrom (t + total (additions_of s)) ss) → GoodFrom t (s ∷ ss) ⊎ ¬ (GoodFrom t (s ∷ ss))
+    both : IsAddedTo t s ⊎ ¬ (IsAddedTo t s) → WithinLimitsFrom (t + total (additions_of s)) ss ⊎ ¬ (WithinLimitsFrom (t + total (additions_of s)) ss) → WithinLimitsFrom t (s ∷ ss) ⊎ ¬ (WithinLimitsFrom t (s ∷ ss))
     both (inl a) (inl b) = inl (a, b)
     both (inl a) (inr b) = inr (λ h. b h.1)
     both (inr a) o = inr (λ h. a h.0)
@@ -95,7 +97,7 @@ additions-append ss ts = flat_map-append additions_of ss ts
 pub value-append : (ss ts : List Span) → value (ss ++ ts) ≡ value ss + value ts
 value-append ss ts = ap total (additions-append ss ts) ∙ total-append (additions ss) (additions ts)
 
--- the reference over good spans goes on with their sum
+-- the reference over spans within the limits goes on with their sum
 pub settle_on : (t u : ℕ) (s : Span) (ss : List Span) (stop : Option Fault) → add_span t s ≡ Some u → settle t (s ∷ ss) stop ≡ settle u ss stop
 unfolding settle
 settle_on t u s ss stop e = rw (e, settle)
@@ -104,10 +106,10 @@ pub settle_over : (t : ℕ) (s : Span) (ss : List Span) (stop : Option Fault) �
 unfolding settle
 settle_over t s ss stop e = rw (e, settle)
 
-pub settle-append : (t : ℕ) (ss ts : List Span) (stop : Option Fault) → AllByRecursion Formed ss → GoodFrom t ss → settle t (ss ++ ts) stop ≡ settle (t + value ss) ts stop
+pub settle-append : (t : ℕ) (ss ts : List Span) (stop : Option Fault) → AllByRecursion Formed ss → WithinLimitsFrom t ss → settle t (ss ++ ts) stop ≡ settle (t + value ss) ts stop
 settle-append t [] ts stop f h = ap (λ (n : ℕ). settle n ts stop) (omega arith)
 settle-append t (s ∷ ss) ts stop f h =
-    settle_on t _ s (ss ++ ts) stop (add_span-good t s f.0 h.0)
+    settle_on t _ s (ss ++ ts) stop (add_span-added t s f.0 h.0)
     ∙ settle-append (t + total (additions_of s)) ss ts stop f.1 h.1
     ∙ ap (λ (n : ℕ). settle n ts stop) (omega (arith, value-cons s ss))
 
@@ -121,45 +123,45 @@ unfolding settle
 settle-nil t None = refl
 settle-nil t (Some e) = refl
 
-pub settle_good : (t : ℕ) (spans : List Span) (stop : Option Fault) → AllByRecursion Formed spans → GoodFrom t spans → settle t spans stop ≡ ended (t + value spans) stop
-settle_good t spans stop f h =
+pub settle_within : (t : ℕ) (spans : List Span) (stop : Option Fault) → AllByRecursion Formed spans → WithinLimitsFrom t spans → settle t spans stop ≡ ended (t + value spans) stop
+settle_within t spans stop f h =
     ap (λ (l : List Span). settle t l stop) (sym (append-nil spans)) ∙ settle-append t spans [] stop f h ∙ settle-nil (t + value spans) stop
 
 -- and over others it says that they are too large
-pub settle_bad : (t : ℕ) (spans : List Span) (stop : Option Fault) → AllByRecursion Formed spans → ¬ (GoodFrom t spans) → settle t spans stop ≡ Err NumberOverflow
-settle_bad t [] stop f h = absurd (h tt)
-settle_bad t (s ∷ ss) stop f h = elim (added_or_not t s f.0) [
-  | inl a ↦ settle_on t _ s ss stop (add_span-good t s f.0 a) ∙ settle_bad (t + total (additions_of s)) ss stop f.1 (λ r. h (a, r))
-  | inr a ↦ settle_over t s ss stop (add_span-bad t s a)
+pub settle_beyond : (t : ℕ) (spans : List Span) (stop : Option Fault) → AllByRecursion Formed spans → ¬ (WithinLimitsFrom t spans) → settle t spans stop ≡ Err NumberOverflow
+settle_beyond t [] stop f h = absurd (h tt)
+settle_beyond t (s ∷ ss) stop f h = elim (added_or_not t s f.0) [
+  | inl a ↦ settle_on t _ s ss stop (add_span-added t s f.0 a) ∙ settle_beyond (t + total (additions_of s)) ss stop f.1 (λ r. h (a, r))
+  | inr a ↦ settle_over t s ss stop (add_span-over t s a)
 ]
 
-room_each : (t : ℕ) (spans : List Span) → GoodFrom t spans → RoomFrom t (additions spans)
+room_each : (t : ℕ) (spans : List Span) → WithinLimitsFrom t spans → RoomFrom t (additions spans)
 room_each t [] h = tt
 room_each t (s ∷ ss) h = RoomFrom-append t (additions_of s) (additions ss) h.0.1 (room_each (t + total (additions_of s)) ss h.1)
 
-fit_each : (t : ℕ) (spans : List Span) → GoodFrom t spans → AllByRecursion Fits spans
+fit_each : (t : ℕ) (spans : List Span) → WithinLimitsFrom t spans → AllByRecursion Fits spans
 fit_each t [] h = tt
 fit_each t (s ∷ ss) h = (h.0.0, fit_each (t + total (additions_of s)) ss h.1)
 
-each_good : (t : ℕ) (spans : List Span) → AllByRecursion Fits spans → RoomFrom t (additions spans) → GoodFrom t spans
-each_good t [] f r = tt
-each_good t (s ∷ ss) f r = ((f.0, RoomFrom-front t (additions_of s) (additions ss) r), each_good (t + total (additions_of s)) ss f.1 (RoomFrom-back t (additions_of s) (additions ss) r))
+each_within : (t : ℕ) (spans : List Span) → AllByRecursion Fits spans → RoomFrom t (additions spans) → WithinLimitsFrom t spans
+each_within t [] f r = tt
+each_within t (s ∷ ss) f r = ((f.0, RoomFrom-front t (additions_of s) (additions ss) r), each_within (t + total (additions_of s)) ss f.1 (RoomFrom-back t (additions_of s) (additions ss) r))
 
-pub Good_from : (spans : List Span) → AllByRecursion Formed spans → GoodFrom 0 spans → Good spans
-Good_from spans f h = record { formed = f; fit = fit_each 0 spans h; room = all_have_room (additions spans) (room_each 0 spans h) }
+pub WithinLimits_from : (spans : List Span) → AllByRecursion Formed spans → WithinLimitsFrom 0 spans → WithinLimits spans
+WithinLimits_from spans f h = record { formed = f; fit = fit_each 0 spans h; room = all_have_room (additions spans) (room_each 0 spans h) }
 
-pub good_from_Good : (spans : List Span) → Good spans → GoodFrom 0 spans
-good_from_Good spans h = each_good 0 spans h.fit (room_from_all (additions spans) h.room)
+pub from_WithinLimits : (spans : List Span) → WithinLimits spans → WithinLimitsFrom 0 spans
+from_WithinLimits spans h = each_within 0 spans h.fit (room_from_all (additions spans) h.room)
 
--- good spans and one more
-pub GoodFrom-push : (t : ℕ) (ss : List Span) (s : Span) → GoodFrom t ss → IsAddedTo (t + value ss) s → GoodFrom t (ss ++ s ∷ [])
-GoodFrom-push t [] s h a = let e : t + value [] ≡ t = omega arith in (rw e at a, tt)
-GoodFrom-push t (x ∷ ss) s h a =
+-- spans within the limits and one more
+pub WithinLimitsFrom-push : (t : ℕ) (ss : List Span) (s : Span) → WithinLimitsFrom t ss → IsAddedTo (t + value ss) s → WithinLimitsFrom t (ss ++ s ∷ [])
+WithinLimitsFrom-push t [] s h a = let e : t + value [] ≡ t = omega arith in (rw e at a, tt)
+WithinLimitsFrom-push t (x ∷ ss) s h a =
     let e : t + value (x ∷ ss) ≡ (t + total (additions_of x)) + value ss = omega (arith, value-cons x ss) in
-    (h.0, GoodFrom-push (t + total (additions_of x)) ss s h.1 (rw e at a))
+    (h.0, WithinLimitsFrom-push (t + total (additions_of x)) ss s h.1 (rw e at a))
 
-pub GoodFrom-last : (t : ℕ) (ss : List Span) (s : Span) → GoodFrom t (ss ++ s ∷ []) → IsAddedTo (t + value ss) s
-GoodFrom-last t [] s h = let e : t + value [] ≡ t = omega arith in rw e (h.0)
-GoodFrom-last t (x ∷ ss) s h =
+pub WithinLimitsFrom-last : (t : ℕ) (ss : List Span) (s : Span) → WithinLimitsFrom t (ss ++ s ∷ []) → IsAddedTo (t + value ss) s
+WithinLimitsFrom-last t [] s h = let e : t + value [] ≡ t = omega arith in rw e (h.0)
+WithinLimitsFrom-last t (x ∷ ss) s h =
     let e : t + value (x ∷ ss) ≡ (t + total (additions_of x)) + value ss = omega (arith, value-cons x ss) in
-    rw e (GoodFrom-last (t + total (additions_of x)) ss s h.1)
+    rw e (WithinLimitsFrom-last (t + total (additions_of x)) ss s h.1)

@@ -8,7 +8,8 @@ use Rattle.std.proofs.lemmas.Nat.{pow-add}
 use Rattle.std.proofs.lemmas.Nat.Gcd.{dvd_of_mod-eq-zero}
 use Rattle.std.proofs.Math.Nat.{pow-suc, one-le-pow, mul-one, mul-div_cancel, mul_comm, mul_assoc, mul_right_comm, mul-div-mul_right, div-mul_cancel, le_of_mul-le-mul_right, le-mul_of_pos_right, mod-eq-sub-div-mul}
 use Rattle.humantime.specs.Durations.Characters.{kept, decimal_value, significant}
-use Rattle.humantime.specs.Durations.Spans.{fraction_amount, IsWholePart}
+use Rattle.humantime.specs.Durations.Sums.{fraction_amount}
+use Rattle.humantime.specs.Durations.Limits.{IsWholePart}
 
 -- so many zeros
 abbrev pub zeros : ℕ → List ℕ

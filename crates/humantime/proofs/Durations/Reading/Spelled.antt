@@ -1,11 +1,12 @@
 -- What a spelling is read as: the longest runs of characters give back the span that it spells.
-use Rattle.std.proofs.Common.{◌≡◌, ◌≢◌, ◌⊎◌, ℕ, ◌≤◌, ◌<◌, true, false, List, [], ◌∷◌, ◌++◌, length, Option, Some, None, refl, sym, ap, ◌∙◌, inl, inr, arith, append_assoc, append-nil}
+use Rattle.std.proofs.Common.{◌≡◌, ◌≢◌, ◌⊎◌, ℕ, ◌≤◌, ◌<◌, true, false, List, [], ◌∷◌, ◌++◌, length, Option, Some, None, refl, sym, ap, ◌∙◌, inl, inr, arith, subst, append_assoc, append-nil}
 use Rattle.std.proofs.lemmas.Bool.{cases_Bool, false≢true}
 use Rattle.humantime.specs.Durations.Characters.{is_ws, is_digit, is_letter, is_point, is_numeric, leading, past, begins, ends, digits}
-use Rattle.humantime.specs.Durations.Spans.{Span, Only, SpellsFraction, Spells}
-use Rattle.humantime.specs.Durations.Faults.{after_number, fraction_at, past_fraction, digits_in, fraction_of, after_fraction, word_of, after_word, span_of, EndsInSpace, MayFollowWord, NoBarePoint}
+use Rattle.humantime.specs.Durations.Spans.{Span, Only, SpellsFraction, Spells, SpellsThen}
+use Rattle.humantime.specs.Durations.Rests.{after_number, fraction_at, past_fraction, digits_in, fraction_of, after_fraction, word_of, after_word, span_of}
+use Rattle.humantime.specs.Durations.Faults.{EndsInSpace, MayFollowWord}
 use Rattle.humantime.proofs.Durations.Reading.Classes.{numeric_not_letter, letter_not_numeric, letter_not_point, letter_not_space, digit_is_numeric, space_is_numeric, point_not_numeric, is_point-46}
-use Rattle.humantime.proofs.Durations.Reading.Runs.{leading-append, past-append, past_shorter, begins-append, begins_other, begins_not_nil, ends_Only, ends_other, ends-append, append_not_nil}
+use Rattle.humantime.proofs.Durations.Reading.Runs.{leading-append, past-append, past_shorter, begins-append, begins_other, begins_not_nil, letters_begin, ends_Only, ends_other, ends-append, append_not_nil}
 
 -- what follows a span: the text past its word and past the white space behind it
 abbrev pub next_of : List ℕ → List ℕ
@@ -15,11 +16,11 @@ next_of rest = past is_ws (after_word rest)
 pub record IsSpanAt (rest : List ℕ) (s : Span) (next : List ℕ) : Type 0 where
   pub starts : begins is_digit rest ≡ true
   pub span : span_of rest ≡ s
-  pub point : NoBarePoint rest
+  pub point : fraction_of rest ≢ Some []
   pub ends : MayFollowWord (after_word rest)
   pub next_is : next_of rest ≡ next
 
-begins_word : (w t : List ℕ) → begins is_letter w ≡ true → begins is_letter (w ++ t) ≡ true
+pub begins_word : (w t : List ℕ) → begins is_letter w ≡ true → begins is_letter (w ++ t) ≡ true
 begins_word w t e = begins-append is_letter w t (begins_not_nil is_letter w e) ∙ e
 
 span_same : {s t : Span} → s.number ≡ t.number → s.fraction ≡ t.fraction → s.word ≡ t.word → s ≡ t
@@ -47,35 +48,61 @@ fraction_read b tail (Some ds) h e =
     let stops : begins is_numeric tail ≡ false = begins_other is_letter is_numeric letter_not_numeric tail e in
     rw (h.1) (record {
       stops = point_not_numeric 46 is_point-46;
-      is_read = rw (is_point-46, leading-append is_numeric h.0 tail h.2 stops) (ap Some h.3);
-      past_it = rw is_point-46 (past-append is_numeric h.0 tail h.2 stops);
-      some = λ p. let q : ds ≡ [] = cc in absurd (omega (arith, h.4, ap length q));
+      is_read = rw (is_point-46, leading-append is_numeric h.0 tail h.2.0 stops) (ap Some h.2.1);
+      past_it = rw is_point-46 (past-append is_numeric h.0 tail h.2.0 stops);
+      some = λ p. let q : ds ≡ [] = cc in h.3 q;
     })
+
+-- a spelled number and fraction before a word are read as these
+pub record IsReadToWord (rest number_text fraction_text tail : List ℕ) (fraction : Option (List ℕ)) : Type 0 where
+  pub number_is : leading is_numeric rest ≡ number_text
+  pub behind_is : after_number rest ≡ fraction_text ++ tail
+  pub fraction_is : fraction_of rest ≡ fraction
+  pub tail_is : after_fraction rest ≡ tail
+  pub some : fraction ≢ Some []
+
+read_to_word : (a b tail : List ℕ) (o : Option (List ℕ)) → Only is_numeric a → SpellsFraction b o → begins is_letter tail ≡ true → IsReadToWord (a ++ (b ++ tail)) a b tail o
+read_to_word a b tail o only f letter =
+    let h : IsFraction (b ++ tail) tail o = fraction_read b tail o f letter in
+    let behind : after_number (a ++ (b ++ tail)) ≡ b ++ tail = past-append is_numeric a (b ++ tail) only h.stops in
+    record {
+      number_is = leading-append is_numeric a (b ++ tail) only h.stops;
+      behind_is = behind;
+      fraction_is = ap (λ (x : List ℕ). digits_in (fraction_at x)) behind ∙ h.is_read;
+      tail_is = ap (λ (x : List ℕ). past_fraction x) behind ∙ h.past_it;
+      some = h.some;
+    }
 
 -- a spelling before what begins with no letter
 record IsRead (rest : List ℕ) (s : Span) (after : List ℕ) : Type 0 where
   span : span_of rest ≡ s
-  point : NoBarePoint rest
+  point : fraction_of rest ≢ Some []
   after_is : after_word rest ≡ after
 
 parts_read : (a b word after : List ℕ) (o : Option (List ℕ)) → Only is_numeric a → SpellsFraction b o → Only is_letter word → begins is_letter word ≡ true
     → begins is_letter after ≡ false → IsRead (a ++ (b ++ (word ++ after))) (record { number = digits a; fraction = o; word = word }) after
 parts_read a b word after o only f letters some stops =
-    let h : IsFraction (b ++ (word ++ after)) (word ++ after) o = fraction_read b (word ++ after) o f (begins_word word after some) in
     let rest = a ++ (b ++ (word ++ after)) in
-    let number : leading is_numeric rest ≡ a = leading-append is_numeric a (b ++ (word ++ after)) only h.stops in
-    let behind : after_number rest ≡ b ++ (word ++ after) = past-append is_numeric a (b ++ (word ++ after)) only h.stops in
-    let fraction : fraction_of rest ≡ o = ap (λ (x : List ℕ). digits_in (fraction_at x)) behind ∙ h.is_read in
-    let tail : after_fraction rest ≡ word ++ after = ap (λ (x : List ℕ). past_fraction x) behind ∙ h.past_it in
-    let word_is : word_of rest ≡ word = ap (leading is_letter) tail ∙ leading-append is_letter word after letters stops in
+    let h : IsReadToWord rest a b (word ++ after) o = read_to_word a b (word ++ after) o only f (begins_word word after some) in
+    let word_is : word_of rest ≡ word = ap (leading is_letter) h.tail_is ∙ leading-append is_letter word after letters stops in
     record {
-      span = span_same (ap digits number) fraction word_is;
-      point = λ p. h.some (sym fraction ∙ p);
-      after_is = ap (past is_letter) tail ∙ past-append is_letter word after letters stops;
+      span = span_same (ap digits h.number_is) h.fraction_is word_is;
+      point = λ p. h.some (sym h.fraction_is ∙ p);
+      after_is = ap (past is_letter) h.tail_is ∙ past-append is_letter word after letters stops;
     }
 
-spelling_parts : (here next : List ℕ) (s : Span) (h : Spells here s) → here ++ next ≡ h.a ++ (h.b ++ (s.word ++ (h.c ++ next)))
+spelling_parts : (here next : List ℕ) (s : Span) (h : Spells here s) → here ++ next ≡ h.number_text ++ (h.fraction_text ++ (s.word ++ (h.space ++ next)))
 spelling_parts here next s h = ap (λ (x : List ℕ). x ++ next) h.whole ∙ simp append_assoc
+
+-- a rest that spells a span is read as its number and fraction up to its word
+pub read_spelled : (rest next : List ℕ) (s : Span) (h : SpellsThen rest s next)
+    → IsReadToWord rest h.spells.number_text h.spells.fraction_text (s.word ++ (h.spells.space ++ next)) s.fraction
+read_spelled rest next s h =
+    let k = h.spells in
+    let tail = s.word ++ (k.space ++ next) in
+    let whole : rest ≡ k.number_text ++ (k.fraction_text ++ tail) = h.whole ∙ spelling_parts h.here next s k in
+    subst (λ (x : List ℕ). IsReadToWord x k.number_text k.fraction_text tail s.fraction) (sym whole)
+    (read_to_word k.number_text k.fraction_text tail s.fraction k.number.0 k.fraction (begins_word s.word (k.space ++ next) (letters_begin s.word k.word)))
 
 pub no_letter_follows : (cs : List ℕ) → MayFollowWord cs → begins is_letter cs ≡ false
 no_letter_follows cs (inl e) = rw e
@@ -97,15 +124,18 @@ followed a b word (x ∷ xs) here next whole only some space o = inr (space_is_n
 -- a spelling is the span that begins it, where its word ends with it
 pub spelled_here : (here next : List ℕ) (s : Span) → Spells here s → (MayFollowWord next ⊎ EndsInSpace here) → begins is_ws next ≡ false → IsSpanAt (here ++ next) s next
 spelled_here here next s h o no_space =
-    let f : MayFollowWord (h.c ++ next) = followed h.a h.b s.word h.c here next h.whole h.word h.some_word h.space o in
-    let r : IsRead (h.a ++ (h.b ++ (s.word ++ (h.c ++ next)))) (record { number = digits h.a; fraction = s.fraction; word = s.word }) (h.c ++ next) =
-    parts_read h.a h.b s.word (h.c ++ next) s.fraction h.number h.fraction h.word h.some_word (no_letter_follows (h.c ++ next) f) in
+    let a = h.number_text in
+    let b = h.fraction_text in
+    let letter = letters_begin s.word h.word in
+    let f : MayFollowWord (h.space ++ next) = followed a b s.word h.space here next h.whole h.word.0 letter h.only_space o in
+    let r : IsRead (a ++ (b ++ (s.word ++ (h.space ++ next)))) (record { number = digits a; fraction = s.fraction; word = s.word }) (h.space ++ next) =
+    parts_read a b s.word (h.space ++ next) s.fraction h.number.0 h.fraction h.word.0 letter (no_letter_follows (h.space ++ next) f) in
     rw (spelling_parts here next s h) (record {
-      starts = begins-append is_digit h.a (h.b ++ (s.word ++ (h.c ++ next))) (begins_not_nil is_digit h.a h.starts) ∙ h.starts;
-      span = r.span ∙ span_same h.its_digits refl refl;
+      starts = begins-append is_digit a (b ++ (s.word ++ (h.space ++ next))) (begins_not_nil is_digit a h.starts) ∙ h.starts;
+      span = r.span ∙ span_same h.number.1 refl refl;
       point = r.point;
       ends = rw (r.after_is) f;
-      next_is = ap (past is_ws) r.after_is ∙ past-append is_ws h.c next h.space no_space;
+      next_is = ap (past is_ws) r.after_is ∙ past-append is_ws h.space next h.only_space no_space;
     })
 
 past_fraction_shorter : (cs : List ℕ) → length (past_fraction cs) ≤ length cs

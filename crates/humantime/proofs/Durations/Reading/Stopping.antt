@@ -1,41 +1,54 @@
 -- Where the span that begins a rest stops, by the reference and by the table of faults.
 use Rattle.std.proofs.Common.{◌≡◌, ◌≢◌, ◌⊎◌, ℕ, ◌≤◌, true, false, List, [], ◌∷◌, length, Option, Some, None, refl, sym, ap, ◌∙◌, inl, inr, arith}
-use Rattle.std.specs.Option.{IsSome, is_some}
+use Rattle.std.specs.Option.{IsSome, IfSome, is_some}
 use Rattle.std.proofs.lemmas.Bool.{cases_Bool, false≢true, ltb-true, ltb-false, or_cases, or_parts}
 use Rattle.humantime.specs.Durations.Characters.{is_digit, is_numeric, begins, decimal_value, significant, u64_max, offset_of, byte_length}
 use Rattle.humantime.specs.Durations.Units.{Scale, scale_of_word}
 use Rattle.humantime.specs.Durations.Spans.{Span}
-use Rattle.humantime.specs.Durations.Faults.{Fault, InvalidCharacter, UnknownUnit, number_of, after_number, fraction_of, word_of, after_word, span_of, IsOverLimit, StartsNumber, NoBarePoint, MayFollowWord, Stops, Nothing_there, No_number, Too_long, Bad_after_number, Bare_point, Bad_after_fraction, Bad_after_word, No_word, Wrong_word}
+use Rattle.humantime.specs.Durations.Limits.{IsShort}
+use Rattle.humantime.specs.Durations.Rests.{number_of, after_number, fraction_of, word_of, after_word, span_of}
+use Rattle.humantime.specs.Durations.Faults.{Fault, InvalidCharacter, UnknownUnit, StartsNumber, MayFollowWord, Stops, Nothing_there, No_number, Too_long, Bad_after_number, Bare_point, Bad_after_fraction, Bad_after_word, No_word, Wrong_word}
 use Rattle.humantime.specs.References.Durations.Reading.{long_fraction, too_long, stop_word, stop_by, stop_at}
 
 -- a span that is well formed begins the rest
 pub record Fine (rest : List ℕ) : Type 0 where
-  pub within : ¬ (IsOverLimit (span_of rest))
-  pub point : NoBarePoint rest
+  pub short : IsShort (span_of rest)
+  pub point : fraction_of rest ≢ Some []
   pub word : IsSome (scale_of_word (word_of rest))
   pub ends : MayFollowWord (after_word rest)
 
-long_fraction-true : (o : Option (List ℕ)) → long_fraction o ≡ true → (ds : List ℕ) × (o ≡ Some ds) × (20 ≤ length (significant ds))
-long_fraction-true None e = cc
-long_fraction-true (Some ds) e = (ds, refl, omega (arith, ltb-true 19 (length (significant ds)) e))
+short_fraction : (o : Option (List ℕ)) → long_fraction o ≡ false → IfSome o (λ ds. length (significant ds) ≤ 19)
+short_fraction None e = tt
+short_fraction (Some ds) e = ltb-false 19 (length (significant ds)) e
 
-too_long-true : (s : Span) → too_long s ≡ true → IsOverLimit s
-too_long-true s e = elim (or_cases _ (long_fraction s.fraction) e) [
-  | inl a ↦ inl (ltb-true u64_max (decimal_value s.number) a)
-  | inr b ↦ inr (long_fraction-true s.fraction b)
+not_short_fraction : (o : Option (List ℕ)) → long_fraction o ≡ true → ¬ (IfSome o (λ ds. length (significant ds) ≤ 19))
+not_short_fraction None e h = cc
+not_short_fraction (Some ds) e h = omega (arith, ltb-true 19 (length (significant ds)) e)
+
+too_long-true : (s : Span) → too_long s ≡ true → ¬ (IsShort s)
+too_long-true s e h = elim (or_cases _ (long_fraction s.fraction) e) [
+  | inl a ↦ let p = ltb-true u64_max (decimal_value s.number) a in omega (arith, h.number)
+  | inr b ↦ not_short_fraction s.fraction b h.fraction
 ]
 
-too_long-false : (s : Span) → too_long s ≡ false → ¬ (IsOverLimit s)
-too_long-false s e (inl a) = let p = (or_parts _ (long_fraction s.fraction) e).0 in omega (arith, ltb-false u64_max (decimal_value s.number) p)
-too_long-false s e (inr b) =
-    let p : long_fraction (Some b.0) ≡ false = ap long_fraction (sym b.1) ∙ (or_parts _ (long_fraction s.fraction) e).1 in
-    omega (arith, ltb-false 19 (length (significant b.0)) p, b.2)
+too_long-false : (s : Span) → too_long s ≡ false → IsShort s
+too_long-false s e =
+    let p = or_parts _ (long_fraction s.fraction) e in
+    record { number = ltb-false u64_max (decimal_value s.number) p.0; fraction = short_fraction s.fraction p.1 }
 
-too_long_from : (s : Span) → IsOverLimit s → too_long s ≡ true
-too_long_from s h = elim (cases_Bool (too_long s)) [ inl e ↦ e | inr e ↦ absurd (too_long-false s e h) ]
+too_long_from : (s : Span) → ¬ (IsShort s) → too_long s ≡ true
+too_long_from s h = elim (cases_Bool (too_long s)) [ inl e ↦ e | inr e ↦ absurd (h (too_long-false s e)) ]
 
-not_too_long : (s : Span) → ¬ (IsOverLimit s) → too_long s ≡ false
-not_too_long s h = elim (cases_Bool (too_long s)) [ inl e ↦ absurd (h (too_long-true s e)) | inr e ↦ e ]
+not_too_long : (s : Span) → IsShort s → too_long s ≡ false
+not_too_long s h = elim (cases_Bool (too_long s)) [ inl e ↦ absurd (too_long-true s e h) | inr e ↦ e ]
+
+-- what doesn't follow a word
+may_not_follow : (c : ℕ) (cs : List ℕ) → is_numeric c ≡ false → ¬ (MayFollowWord (c ∷ cs))
+may_not_follow c cs e (inl n) = cc
+may_not_follow c cs e (inr y) = false≢true (sym e ∙ y)
+
+not_numeric : (c : ℕ) (cs : List ℕ) → ¬ (MayFollowWord (c ∷ cs)) → is_numeric c ≡ false
+not_numeric c cs bad = elim (cases_Bool (is_numeric c)) [ inl e ↦ absurd (bad (inr e)) | inr e ↦ e ]
 
 -- what an answer of the reference says
 abbrev pub Says : List ℕ → List ℕ → List Span → List ℕ → Option Fault → Type 0
@@ -54,7 +67,7 @@ says_word : (text front : List ℕ) (spans : List Span) (rest : List ℕ) (f : O
 says_word text front spans rest f w n p point letters ends None e =
     Wrong_word p.starts (rw (p.fraction_is) point) (rw (p.word_is) letters) (ap scale_of_word p.word_is ∙ e) (rw (p.next_is) ends) refl
 says_word text front spans rest f w n p point letters ends (Some u) e = record {
-  within = p.starts.1;
+  short = p.starts.1;
   point = rw (p.fraction_is) point;
   word = ap is_some (ap scale_of_word p.word_is ∙ e);
   ends = rw (p.next_is) ends;
@@ -70,7 +83,7 @@ says text front spans rest None [] (c ∷ cs) p = Bad_after_number p.starts p.fr
 says text front spans rest None (w ∷ ws) [] p = says_word text front spans rest None (w ∷ ws) [] p (λ e. cc) (λ e. cc) (inl refl) (scale_of_word (w ∷ ws)) refl
 says text front spans rest None (w ∷ ws) (c ∷ cs) p = elim (cases_Bool (is_numeric c)) [
   | inl e ↦ rw e (says_word text front spans rest None (w ∷ ws) (c ∷ cs) p (λ e. cc) (λ e. cc) (inr e) (scale_of_word (w ∷ ws)) refl)
-  | inr e ↦ rw e (Bad_after_word p.starts (rw (p.fraction_is) (λ e. cc)) (rw (p.word_is) (λ e. cc)) (rw (p.next_is) (λ e. cc)) (rw (p.next_is) e) (rw (p.next_is)))
+  | inr e ↦ rw e (Bad_after_word p.starts (rw (p.fraction_is) (λ e. cc)) (rw (p.word_is) (λ e. cc)) (rw (p.next_is) (may_not_follow c cs e)) (rw (p.next_is)))
 ]
 says text front spans rest (Some (d ∷ ds)) [] [] p = No_word p.starts (rw (p.fraction_is) (λ e. cc)) p.word_is p.next_is refl
 says text front spans rest (Some (d ∷ ds)) [] (c ∷ cs) p =
@@ -78,7 +91,7 @@ says text front spans rest (Some (d ∷ ds)) [] (c ∷ cs) p =
 says text front spans rest (Some (d ∷ ds)) (w ∷ ws) [] p = says_word text front spans rest (Some (d ∷ ds)) (w ∷ ws) [] p (λ e. cc) (λ e. cc) (inl refl) (scale_of_word (w ∷ ws)) refl
 says text front spans rest (Some (d ∷ ds)) (w ∷ ws) (c ∷ cs) p = elim (cases_Bool (is_numeric c)) [
   | inl e ↦ rw e (says_word text front spans rest (Some (d ∷ ds)) (w ∷ ws) (c ∷ cs) p (λ e. cc) (λ e. cc) (inr e) (scale_of_word (w ∷ ws)) refl)
-  | inr e ↦ rw e (Bad_after_word p.starts (rw (p.fraction_is) (λ e. cc)) (rw (p.word_is) (λ e. cc)) (rw (p.next_is) (λ e. cc)) (rw (p.next_is) e) (rw (p.next_is)))
+  | inr e ↦ rw e (Bad_after_word p.starts (rw (p.fraction_is) (λ e. cc)) (rw (p.word_is) (λ e. cc)) (rw (p.next_is) (may_not_follow c cs e)) (rw (p.next_is)))
 ]
 
 -- the reference answers by the table
@@ -116,12 +129,12 @@ end_bad text rest None [] [] point e d = refl
 end_bad text rest (Some []) [] [] point e d = absurd (point refl)
 end_bad text rest (Some (y ∷ ys)) [] [] point e d = refl
 
-after_bad : (text rest : List ℕ) (f : Option (List ℕ)) (w n : List ℕ) → f ≢ Some [] → w ≢ [] → n ≢ [] → begins is_numeric n ≡ false → stop_by text rest f w n ≡ Some (InvalidCharacter (offset_of text n))
-after_bad text rest f [] n point some more e = absurd (some refl)
-after_bad text rest f (x ∷ xs) [] point some more e = absurd (more refl)
-after_bad text rest (Some []) (x ∷ xs) (c ∷ cs) point some more e = absurd (point refl)
-after_bad text rest None (x ∷ xs) (c ∷ cs) point some more e = rw e
-after_bad text rest (Some (d ∷ ds)) (x ∷ xs) (c ∷ cs) point some more e = rw e
+after_bad : (text rest : List ℕ) (f : Option (List ℕ)) (w n : List ℕ) → f ≢ Some [] → w ≢ [] → ¬ (MayFollowWord n) → stop_by text rest f w n ≡ Some (InvalidCharacter (offset_of text n))
+after_bad text rest f [] n point some bad = absurd (some refl)
+after_bad text rest f (x ∷ xs) [] point some bad = absurd (bad (inl refl))
+after_bad text rest (Some []) (x ∷ xs) (c ∷ cs) point some bad = absurd (point refl)
+after_bad text rest None (x ∷ xs) (c ∷ cs) point some bad = rw (not_numeric c cs bad)
+after_bad text rest (Some (d ∷ ds)) (x ∷ xs) (c ∷ cs) point some bad = rw (not_numeric c cs bad)
 
 by_word : (text rest : List ℕ) (f : Option (List ℕ)) (w n : List ℕ) → f ≢ Some [] → w ≢ [] → MayFollowWord n → stop_by text rest f w n ≡ stop_word text rest (scale_of_word w)
 by_word text rest f [] n point some o = absurd (some refl)
@@ -133,7 +146,7 @@ by_word text rest (Some (d ∷ ds)) (x ∷ xs) (c ∷ cs) point some (inl o) = c
 by_word text rest None (x ∷ xs) (c ∷ cs) point some (inr o) = rw o
 by_word text rest (Some (d ∷ ds)) (x ∷ xs) (c ∷ cs) point some (inr o) = rw o
 
-stop_parts : (text rest : List ℕ) → ¬ (IsOverLimit (span_of rest)) → stop_at text rest ≡ stop_by text rest (fraction_of rest) (word_of rest) (after_word rest)
+stop_parts : (text rest : List ℕ) → IsShort (span_of rest) → stop_at text rest ≡ stop_by text rest (fraction_of rest) (word_of rest) (after_word rest)
 unfolding stop_at
 stop_parts text rest h = rw (not_too_long (span_of rest) h)
 
@@ -151,7 +164,7 @@ known_word text rest (Some u) h = refl
 -- at a span that is well formed nothing stops
 pub fine_goes : (text rest : List ℕ) → Fine rest → stop_at text rest ≡ None
 fine_goes text rest h =
-    stop_parts text rest h.within
+    stop_parts text rest h.short
     ∙ by_word text rest (fraction_of rest) (word_of rest) (after_word rest) h.point (some_letters (word_of rest) h.word) h.ends
     ∙ known_word text rest (scale_of_word (word_of rest)) h.word
 
@@ -167,8 +180,8 @@ stops_at text front spans rest e d (Bare_point starts point o is) =
     stop_parts text rest starts.1 ∙ bare text rest (fraction_of rest) (word_of rest) (after_word rest) point o ∙ ap Some (sym is)
 stops_at text front spans rest e d (Bad_after_fraction starts point none more is) =
     stop_parts text rest starts.1 ∙ bad text rest (fraction_of rest) (word_of rest) (after_word rest) none more ∙ ap Some (sym is)
-stops_at text front spans rest e d (Bad_after_word starts point some more stops is) =
-    stop_parts text rest starts.1 ∙ after_bad text rest (fraction_of rest) (word_of rest) (after_word rest) point some more stops ∙ ap Some (sym is)
+stops_at text front spans rest e d (Bad_after_word starts point some bad is) =
+    stop_parts text rest starts.1 ∙ after_bad text rest (fraction_of rest) (word_of rest) (after_word rest) point some bad ∙ ap Some (sym is)
 stops_at text front spans rest e d (No_word starts point none end is) =
     stop_parts text rest starts.1 ∙ end_bad text rest (fraction_of rest) (word_of rest) (after_word rest) point none end ∙ ap Some (sym is)
 stops_at text front spans rest e d (Wrong_word starts point some none o is) =

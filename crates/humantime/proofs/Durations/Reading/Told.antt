@@ -3,8 +3,10 @@ use Rattle.std.proofs.Common.{◌≡◌, ◌≢◌, ◌⊎◌, ℕ, ◌≤◌, t
 use Rattle.std.specs.List.{AllByRecursion}
 use Rattle.std.proofs.lemmas.Bool.{cases_Bool, false≢true}
 use Rattle.humantime.specs.Durations.Characters.{is_ws, is_digit, is_numeric, begins, ends, past, offset_of}
-use Rattle.humantime.specs.Durations.Spans.{Span, Spells, SpellsEach, Formed}
-use Rattle.humantime.specs.Durations.Faults.{Fault, NumberExpected, Empty, Split, Stops, Nothing_there, No_number, Too_long, Bad_after_number, Bare_point, Bad_after_fraction, Bad_after_word, No_word, Wrong_word, Items, EndsInSpace, MayFollowWord}
+use Rattle.humantime.specs.Durations.Spans.{Span, Spells, SpellsEach}
+use Rattle.humantime.specs.Durations.Limits.{Formed}
+use Rattle.humantime.specs.Durations.Faults.{Fault, NumberExpected, Empty, Split, Stops, Nothing_there, No_number, Too_long, Bad_after_number, Bare_point, Bad_after_fraction, Bad_after_word, No_word, Wrong_word, EndsInSpace, MayFollowWord}
+use Rattle.humantime.specs.Durations.Items.{Items}
 use Rattle.humantime.specs.References.Durations.Reading.{with_span, read, items}
 use Rattle.humantime.proofs.Durations.Reading.Classes.{digit_is_numeric, digit_not_space}
 use Rattle.humantime.proofs.Durations.Reading.Runs.{past-append, begins-append, begins_other, begins_also, begins_not_nil, ends-append}
@@ -21,10 +23,11 @@ pub closes_digit : (front rest : List ℕ) → begins is_digit rest ≡ true →
 closes_digit front rest d = inl (inr (begins_also is_digit is_numeric digit_is_numeric rest d))
 
 starts_here : (here : List ℕ) (s : Span) → Spells here s → begins is_digit here ≡ true
-starts_here here s h = rw (h.whole) (begins-append is_digit h.a (h.b ++ (s.word ++ h.c)) (begins_not_nil is_digit h.a h.starts) ∙ h.starts)
+starts_here here s h =
+    rw (h.whole) (begins-append is_digit h.number_text (h.fraction_text ++ (s.word ++ h.space)) (begins_not_nil is_digit h.number_text h.starts) ∙ h.starts)
 
 pub each_starts : (body : List ℕ) (s : Span) (ss : List Span) → SpellsEach body (s ∷ ss) → begins is_digit body ≡ true
-each_starts body s ss h = rw (h.2) (begins-append is_digit h.0 h.1 (begins_not_nil is_digit h.0 (starts_here h.0 s h.3)) ∙ starts_here h.0 s h.3)
+each_starts body s ss h = rw (h.1.whole) (begins-append is_digit h.1.here h.0 (begins_not_nil is_digit h.1.here (starts_here h.1.here s h.1.spells)) ∙ starts_here h.1.here s h.1.spells)
 
 starts_before : (body rest : List ℕ) (s : Span) (ss : List Span) → SpellsEach body (s ∷ ss) → begins is_digit (body ++ rest) ≡ true
 starts_before body rest s ss h = let d = each_starts body s ss h in begins-append is_digit body rest (begins_not_nil is_digit body d) ∙ d
@@ -45,11 +48,11 @@ closes_more here more rest (s ∷ ss) h (inl o) = inr (inl o)
 closes_more here more rest (s ∷ ss) h (inr e) = inr (inr (sym (ends-append is_ws here more (begins_not_nil is_digit more (each_starts more s ss h))) ∙ e))
 
 -- the first of these spans is the span that begins the text
-pub first_here : (body rest : List ℕ) (s : Span) (ss : List Span) (h : SpellsEach body (s ∷ ss)) → Closes body rest → begins is_ws rest ≡ false → IsSpanAt (body ++ rest) s (h.1 ++ rest)
+pub first_here : (body rest : List ℕ) (s : Span) (ss : List Span) (h : SpellsEach body (s ∷ ss)) → Closes body rest → begins is_ws rest ≡ false → IsSpanAt (body ++ rest) s (h.0 ++ rest)
 first_here body rest s ss h o e =
-    let c : Closes (h.0 ++ h.1) rest = subst (λ b. Closes b rest) h.2 o in
-    let i : IsSpanAt (h.0 ++ (h.1 ++ rest)) s (h.1 ++ rest) = spelled_here h.0 (h.1 ++ rest) s h.3 (closes_here h.0 h.1 rest ss h.4 c) (no_space_before h.1 rest ss h.4 e) in
-    rw (h.2, append_assoc) i
+    let c : Closes (h.1.here ++ h.0) rest = subst (λ b. Closes b rest) h.1.whole o in
+    let i : IsSpanAt (h.1.here ++ (h.0 ++ rest)) s (h.0 ++ rest) = spelled_here h.1.here (h.0 ++ rest) s h.1.spells (closes_here h.1.here h.0 rest ss h.2 c) (no_space_before h.0 rest ss h.2 e) in
+    rw (h.1.whole, append_assoc) i
 
 -- the reading goes through these spans, and on from the rest
 pub record GoesThrough (r : List Span × Option Fault) (text : List ℕ) (spans : List Span) (rest : List ℕ) : Type 0 where
@@ -79,8 +82,8 @@ through n text body rest [] h f o e l =
     rw h (record { n = n; enough = k; is = refl })
 through n text body rest (s ∷ ss) h f (inl o) e l = cc
 through n text body rest (s ∷ ss) h f (inr o) e l =
-    through_step n text (body ++ rest) (h.1 ++ rest) rest s ss (first_here body rest s ss h o e) f.0 l
-    (λ m k. through m text h.1 rest ss h.4 f.1 (closes_more h.0 h.1 rest ss h.4 (subst (λ b. Closes b rest) h.2 o)) e k)
+    through_step n text (body ++ rest) (h.0 ++ rest) rest s ss (first_here body rest s ss h o e) f.0 l
+    (λ m k. through m text h.0 rest ss h.2 f.1 (closes_more h.1.here h.0 rest ss h.2 (subst (λ b. Closes b rest) h.1.whole o)) e k)
 
 -- the front of a split begins where the white space ends
 pub front_begins : (text front rest : List ℕ) (spans : List Span) (h : Split text front spans rest) → past is_ws text ≡ h.read.body ++ rest
@@ -115,7 +118,7 @@ stops_closes text front spans rest e (Too_long d over is) = inr (closes_digit fr
 stops_closes text front spans rest e (Bad_after_number d a b c is) = inr (closes_digit front rest d.0)
 stops_closes text front spans rest e (Bare_point d a b is) = inr (closes_digit front rest d.0)
 stops_closes text front spans rest e (Bad_after_fraction d a b c is) = inr (closes_digit front rest d.0)
-stops_closes text front spans rest e (Bad_after_word d a b c f is) = inr (closes_digit front rest d.0)
+stops_closes text front spans rest e (Bad_after_word d a b c is) = inr (closes_digit front rest d.0)
 stops_closes text front spans rest e (No_word d a b c is) = inr (closes_digit front rest d.0)
 stops_closes text front spans rest e (Wrong_word d a b c f is) = inr (closes_digit front rest d.0)
 
@@ -137,7 +140,7 @@ is_start text front spans rest e (Too_long d over is) = at_digit text spans rest
 is_start text front spans rest e (Bad_after_number d a b c is) = at_digit text spans rest e d.0
 is_start text front spans rest e (Bare_point d a b is) = at_digit text spans rest e d.0
 is_start text front spans rest e (Bad_after_fraction d a b c is) = at_digit text spans rest e d.0
-is_start text front spans rest e (Bad_after_word d a b c f is) = at_digit text spans rest e d.0
+is_start text front spans rest e (Bad_after_word d a b c is) = at_digit text spans rest e d.0
 is_start text front spans rest e (No_word d a b c is) = at_digit text spans rest e d.0
 is_start text front spans rest e (Wrong_word d a b c f is) = at_digit text spans rest e d.0
 

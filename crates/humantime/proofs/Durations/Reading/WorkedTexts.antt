@@ -1,7 +1,7 @@
 -- What some texts come to, by computation, and what that says of them.
 use Rattle.std.proofs.Common.{◌≡◌, [], ◌∷◌, ◌++◌, Ok, Err, refl}
 use Rattle.std.specs.Prelude.{codes}
-use Rattle.humantime.specs.Durations.Spans.{Accepted}
+use Rattle.humantime.specs.Durations.Accepted.{Accepted}
 use Rattle.humantime.specs.Durations.Faults.{HasFault, InvalidCharacter, UnknownUnit, NumberOverflow}
 use Rattle.humantime.specs.References.Durations.Answers.{duration_answer, canonical_answer}
 use Rattle.humantime.specs.References.Durations.Printing.{duration_text}

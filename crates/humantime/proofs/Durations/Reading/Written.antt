@@ -1,12 +1,13 @@
 -- A rest that a well formed span begins is a spelling of that span, and then the rest behind it.
-use Rattle.std.proofs.Common.{◌≡◌, ◌≢◌, ℕ, ◌≤◌, ◌<◌, true, false, List, [], ◌∷◌, ◌++◌, length, Option, Some, None, refl, sym, ap, inl, inr, arith, append_assoc, length-append}
-use Rattle.std.specs.Option.{IfSome}
-use Rattle.std.proofs.lemmas.Bool.{cases_Bool, cases_lt}
-use Rattle.humantime.specs.Durations.Characters.{is_ws, is_digit, is_letter, is_point, is_numeric, leading, past, begins, ends, digits, decimal_value, significant, u64_max}
-use Rattle.humantime.specs.Durations.Spans.{Span, Only, SpellsFraction, Spells, Formed}
-use Rattle.humantime.specs.Durations.Faults.{number_of, after_number, fraction_at, past_fraction, digits_in, fraction_of, after_fraction, word_of, after_word, span_of, IsOverLimit, MayFollowWord}
+use Rattle.std.proofs.Common.{◌≡◌, ◌≢◌, ℕ, ◌<◌, true, false, List, [], ◌∷◌, ◌++◌, length, Option, Some, refl, sym, ap, ◌∙◌, inl, inr, arith, append_assoc, length-append}
+use Rattle.std.proofs.lemmas.Bool.{cases_Bool}
+use Rattle.humantime.specs.Durations.Characters.{is_ws, is_digit, is_letter, is_point, is_numeric, leading, past, begins, ends, digits}
+use Rattle.humantime.specs.Durations.Spans.{Span, Only, SpellsFraction, Spells}
+use Rattle.humantime.specs.Durations.Limits.{Formed}
+use Rattle.humantime.specs.Durations.Rests.{after_number, fraction_at, past_fraction, digits_in, after_fraction, word_of, after_word, span_of}
+use Rattle.humantime.specs.Durations.Faults.{MayFollowWord}
 use Rattle.humantime.proofs.Durations.Reading.Classes.{digit_is_numeric, space_from_numeric, is_point-true}
-use Rattle.humantime.proofs.Durations.Reading.Runs.{leading-past, Only-leading, begins_Only, begins_some, ends_Only, ends-append, append_not_nil}
+use Rattle.humantime.proofs.Durations.Reading.Runs.{leading-past, Only-leading, letters_begin, begins_some, ends_Only, ends-append, append_not_nil}
 use Rattle.humantime.proofs.Durations.Reading.Spelled.{next_of, IsSpanAt}
 use Rattle.humantime.proofs.Durations.Reading.Stopping.{Fine, some_letters}
 
@@ -16,20 +17,19 @@ pub record IsWritten (rest here : List ℕ) : Type 0 where
   pub spells : Spells here (span_of rest)
   pub closes : next_of rest ≢ [] → begins is_digit (next_of rest) ≡ false → ends is_ws here ≡ true
 
-some_length : (o : Option (List ℕ)) (ds : List ℕ) → o ≢ Some [] → o ≡ Some ds → 0 < length ds
-some_length o [] some e = absurd (some e)
-some_length o (d ∷ ds) some e = omega arith
+some_digits : (o : Option (List ℕ)) (ds : List ℕ) → o ≢ Some [] → o ≡ Some ds → ds ≢ []
+some_digits o ds some e none = some (e ∙ ap Some none)
 
 fraction_text : (m : List ℕ) → digits_in (fraction_at m) ≢ Some [] → (b : List ℕ) × (m ≡ b ++ past_fraction m) × SpellsFraction b (digits_in (fraction_at m))
 fraction_text [] some = ([], refl, refl)
 fraction_text (c ∷ cs) some = elim (cases_Bool (is_point c)) [
   | inl e ↦
       let p : digits_in (fraction_at (c ∷ cs)) ≡ Some (digits (leading is_numeric cs)) = rw e in
-      let q : 0 < length (digits (leading is_numeric cs)) = some_length _ _ some p in
+      let q : digits (leading is_numeric cs) ≢ [] = some_digits _ _ some p in
       rw e (
         c ∷ leading is_numeric cs,
         ap (λ (x : List ℕ). c ∷ x) (sym (leading-past is_numeric cs)),
-        (leading is_numeric cs, ap (λ (x : ℕ). x ∷ leading is_numeric cs) (is_point-true c e), Only-leading is_numeric cs, refl, q),
+        (leading is_numeric cs, ap (λ (x : ℕ). x ∷ leading is_numeric cs) (is_point-true c e), (Only-leading is_numeric cs, refl), q),
       )
   | inr e ↦ rw e ([], refl, refl)
 ]
@@ -60,11 +60,11 @@ pub spelling_some : (here : List ℕ) (s : Span) → Spells here s → 1 < lengt
 spelling_some here s h = omega (
   arith,
   ap length h.whole,
-  length-append h.a (h.b ++ (s.word ++ h.c)),
-  length-append h.b (s.word ++ h.c),
-  length-append s.word h.c,
-  begins_some is_digit h.a h.starts,
-  begins_some is_letter s.word h.some_word,
+  length-append h.number_text (h.fraction_text ++ (s.word ++ h.space)),
+  length-append h.fraction_text (s.word ++ h.space),
+  length-append s.word h.space,
+  begins_some is_digit h.number_text h.starts,
+  begins_some is_letter s.word (letters_begin s.word h.word),
 )
 
 pub written_here : (rest : List ℕ) → begins is_digit rest ≡ true → Fine rest → (here : List ℕ) × IsWritten rest here
@@ -78,43 +78,25 @@ written_here rest d h =
       record {
         whole = together _ _ _ _ _ _ _ _ _ (sym (leading-past is_numeric rest)) f.1 (sym (leading-past is_letter (after_fraction rest))) (sym (leading-past is_ws (after_word rest)));
         spells = record {
-          a = a;
-          b = f.0;
-          c = c;
+          number_text = a;
+          fraction_text = f.0;
+          space = c;
           whole = refl;
           starts = digit_begins rest d;
-          number = Only-leading is_numeric rest;
-          its_digits = refl;
+          number = (Only-leading is_numeric rest, refl);
           fraction = f.2;
-          word = Only-leading is_letter (after_fraction rest);
-          some_word = begins_Only is_letter w (Only-leading is_letter (after_fraction rest)) letters;
-          space = Only-leading is_ws (after_word rest);
+          word = (Only-leading is_letter (after_fraction rest), letters);
+          only_space = Only-leading is_ws (after_word rest);
         };
         closes = λ some e. space_last a f.0 w c (space_there (after_word rest) h.ends some e) (Only-leading is_ws (after_word rest));
       },
     )
 
-fraction_short : (o : Option (List ℕ)) → ((ds : List ℕ) → o ≡ Some ds → length (significant ds) ≤ 19) → IfSome o (λ ds. length (significant ds) ≤ 19)
-fraction_short None h = tt
-fraction_short (Some ds) h = h ds refl
-
-short_fraction : (o : Option (List ℕ)) (ds : List ℕ) → IfSome o (λ ds. length (significant ds) ≤ 19) → o ≡ Some ds → length (significant ds) ≤ 19
-short_fraction None ds h e = cc
-short_fraction (Some ds') ds h e = let p : ds' ≡ ds = cc in rw (← p) h
-
 -- the span that begins the rest is well formed
 pub formed_here : (rest : List ℕ) → Fine rest → Formed (span_of rest)
-formed_here rest h = record {
-  word = h.word;
-  number = elim (cases_lt u64_max (decimal_value (number_of rest))) [ inl l ↦ absurd (h.within (inl l)) | inr l ↦ l ];
-  fraction = fraction_short (fraction_of rest) (λ ds e. elim (cases_lt 19 (length (significant ds))) [ inl l ↦ absurd (h.within (inr (ds, e, l))) | inr l ↦ l ]);
-}
-
-within_limit : (s : Span) → Formed s → ¬ (IsOverLimit s)
-within_limit s f (inl l) = omega (arith, f.number)
-within_limit s f (inr x) = omega (arith, short_fraction s.fraction x.0 f.fraction x.1)
+formed_here rest h = record { short = h.short; word = h.word }
 
 pub fine_here : (rest next : List ℕ) (s : Span) → IsSpanAt rest s next → Formed s → Fine rest
 fine_here rest next s h f =
     let g : Formed (span_of rest) = rw (h.span) f in
-    record { within = within_limit (span_of rest) g; point = h.point; word = g.word; ends = h.ends }
+    record { short = g.short; point = h.point; word = g.word; ends = h.ends }

@@ -3,7 +3,8 @@ use Rattle.std.proofs.Common.{◌≡◌, ◌≢◌, ◌++◌, IsUtf8, chars, enc
 use Rattle.std.proofs.lemmas.Str.{encodes-chars, encode_ascii}
 use Rattle.humantime.specs.Durations.Characters.{is_ws, is_digit, begins, leading, past, offset_of}
 use Rattle.humantime.specs.Durations.Spans.{Span}
-use Rattle.humantime.specs.Durations.Faults.{Fault, NumberExpected, NumberOverflow, Empty, span_of}
+use Rattle.humantime.specs.Durations.Rests.{span_of}
+use Rattle.humantime.specs.Durations.Faults.{Fault, NumberExpected, NumberOverflow, Empty}
 use Rattle.humantime.specs.References.Durations.Reading.{stop_at, read, items_from, items, with_span, add_span, settle}
 use Rattle.humantime.specs.References.Durations.Answers.{duration_answer}
 use Rattle.humantime.specs.Durations.Slices.{Lent, LendsEach, stopping, items_of, AreItems, OneListOfSlices}

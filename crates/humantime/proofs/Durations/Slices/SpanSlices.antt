@@ -1,17 +1,20 @@
 -- What the span at a rest lends of the text.
-use Rattle.std.proofs.Common.{◌≡◌, ◌≢◌, ℕ, Bool, true, false, cond, if◌then◌else◌, List, [], ◌∷◌, ◌++◌, Some, None, option_map, refl, sym, ap, ap₂, subst, ◌∙◌, ◌<◌, length, encode_utf8_all, append_assoc, length-append, arith}
+use Rattle.std.proofs.Common.{◌≡◌, ◌≢◌, ℕ, Bool, true, false, cond, if◌then◌else◌, List, [], ◌∷◌, ◌++◌, Option, Some, None, refl, sym, ap, subst, ◌∙◌, ◌<◌, length, encode_utf8_all, append_assoc, length-append, arith}
+use Rattle.std.proofs.lemmas.List.{append_cancel_left}
 use Rattle.std.proofs.lemmas.Str.{encodes-append, length-le-encodes}
-use Rattle.humantime.specs.Durations.Characters.{is_ws, is_digit, is_letter, is_numeric, is_point, begins, leading, past, digits, byte_length, offset_of}
-use Rattle.humantime.specs.Durations.Spans.{Only}
+use Rattle.humantime.specs.Durations.Characters.{class_of, is_ws, is_digit, is_letter, is_numeric, is_point, begins, leading, past, digits, byte_length, offset_of}
+use Rattle.humantime.specs.Durations.Spans.{Only, SpellsFraction, SpellsThen}
+use Rattle.humantime.specs.Durations.Rests.{after_number, fraction_of, past_fraction, after_fraction, word_of, after_word, span_of}
 use Rattle.humantime.specs.Durations.Faults.{after_number, fraction_at, past_fraction, digits_in, after_fraction, word_of, after_word, span_of}
 use Rattle.humantime.specs.References.Durations.Reading.{stop_at}
-use Rattle.humantime.specs.Durations.Slices.{IsDigits, LendsFraction, IsLent}
+use Rattle.humantime.specs.Durations.Slices.{IsDigitSlice, LendsFraction, IsLent}
 use Rattle.humantime.specs.References.Durations.Lending.{trimmed, number_slice, fraction_slice, lent_at}
 use Rattle.humantime.proofs.Durations.Reading.Classes.{digit_is_numeric, digit_from_numeric, is_point-true}
-use Rattle.humantime.proofs.Durations.Reading.Runs.{leading-past, Only-leading, begins-past, begins_Only, begins_some}
-use Rattle.humantime.proofs.Durations.Reading.Spelled.{next_of}
+use Rattle.humantime.proofs.Durations.Reading.Runs.{leading-past, Only-leading, begins-past, letters_begin, begins_some, begins_Only}
+use Rattle.humantime.proofs.Durations.Reading.Spelled.{next_of, begins_word, read_spelled}
+use Rattle.humantime.proofs.Durations.Reading.Written.{written_here}
 use Rattle.humantime.proofs.Durations.Reading.Stopping.{Fine, Says, stop_says, some_letters}
-use Rattle.humantime.proofs.Durations.Slices.Trimming.{dropped, digits_past, digits_dropped_are}
+use Rattle.humantime.proofs.Durations.Slices.Trimming.{dropped, digits_past, digit_slice, no_slice, slice_behind_point, numeric_digit, digits_dropped_are}
 
 -- the point with what follows it up to the word, if a point begins the text
 abbrev fraction_text : List ℕ → List ℕ
@@ -39,39 +42,19 @@ begins_digit_or_end : (cs : List ℕ) → Only is_numeric cs → begins is_ws cs
 begins_digit_or_end [] o b d = absurd (d refl)
 begins_digit_or_end (c ∷ cs) o b d = digit_from_numeric c o.0 b
 
--- digits and white space, not without a digit, are white space, the trimmed part, and white space
-record TrimmedOf (cs : List ℕ) : Type 0 where
-  before : List ℕ
-  after : List ℕ
-  whole : cs ≡ before ++ (trimmed cs ++ after)
-  space_before : Only is_ws before
-  space_after : Only is_ws after
-  are : IsDigits (trimmed cs) (digits cs)
+-- digits and white space, not without a digit, with the slice from the first digit to the last
+trimmed_slice : (cs : List ℕ) → Only is_numeric cs → digits cs ≢ [] → IsDigitSlice cs (trimmed cs)
+trimmed_slice cs o n =
+    let numeric = Only-past is_numeric is_ws cs o in
+    let starts = begins_digit_or_end (past is_ws cs) numeric (begins-past is_ws cs) (λ z. n (sym (digits_past cs) ∙ z)) in
+    subst (λ (l : List ℕ). IsDigitSlice l (trimmed cs)) (leading-past is_ws cs)
+    (digit_slice (leading is_ws cs) (past is_ws cs) (trimmed cs) (dropped (past is_ws cs)) (Only-leading is_ws cs) starts numeric)
 
-trimmed_of : (cs : List ℕ) → Only is_numeric cs → digits cs ≢ [] → TrimmedOf cs
-trimmed_of cs o n =
-    let d = dropped (past is_ws cs) in
-    let e : digits (past is_ws cs) ≡ digits cs = digits_past cs in
-    let i = digits_dropped_are (past is_ws cs) (trimmed cs) d (begins_digit_or_end (past is_ws cs) (Only-past is_numeric is_ws cs o) (begins-past is_ws cs) (λ z. n (sym e ∙ z))) (Only-past is_numeric is_ws cs o) in
-    record {
-      before = leading is_ws cs;
-      after = d.tail;
-      whole = sym (leading-past is_ws cs) ∙ ap (λ (xs : List ℕ). leading is_ws cs ++ xs) d.whole;
-      space_before = Only-leading is_ws cs;
-      space_after = d.space;
-      are = subst (IsDigits (trimmed cs)) e i;
-    }
-
-fraction_is_lent : (after : List ℕ) → digits_in (fraction_at after) ≢ Some [] → LendsFraction (fraction_text after) (fraction_slice after) (digits_in (fraction_at after))
-fraction_is_lent [] n = refl
-fraction_is_lent (c ∷ cs) n = by (is_point c) refl n
-  where
-    by : (b : Bool) → is_point c ≡ b → digits_in (cond b (Some (leading is_numeric cs)) None) ≢ Some []
-        → LendsFraction (cond b (c ∷ leading is_numeric cs) []) (option_map trimmed (cond b (Some (leading is_numeric cs)) None)) (digits_in (cond b (Some (leading is_numeric cs)) None))
-    by true e n =
-        let t = trimmed_of (leading is_numeric cs) (Only-leading is_numeric cs) (λ z. n (ap (λ (x : List ℕ). Some x) z)) in
-        (t.before, t.after, rw (is_point-true c e) (ap (λ (xs : List ℕ). 46 ∷ xs) t.whole), t.space_before, t.space_after, t.are)
-    by false e n = refl
+fraction_is_lent : (b tail : List ℕ) (o : Option (List ℕ)) → SpellsFraction b o → begins is_letter tail ≡ true → LendsFraction b (fraction_slice (b ++ tail))
+fraction_is_lent b tail None h e = subst (LendsFraction b) (sym (ap (λ (l : List ℕ). fraction_slice (l ++ tail)) h ∙ no_slice tail e)) h
+fraction_is_lent b tail (Some ds) h e =
+    let slice : fraction_slice (b ++ tail) ≡ Some (trimmed h.0) = ap (λ (l : List ℕ). fraction_slice (l ++ tail)) h.1 ∙ slice_behind_point h.0 tail h.2.0 e in
+    subst (LendsFraction b) (sym slice) (h.0, h.1, trimmed_slice h.0 h.2.0 (λ z. h.3 (sym h.2.1 ∙ z)))
 
 begins_leading : (p q : ℕ → Bool) (cs : List ℕ) → begins p cs ≡ true → ((c : ℕ) → p c ≡ true → q c ≡ true) → begins p (leading q cs) ≡ true
 begins_leading p q [] b h = b
@@ -101,28 +84,23 @@ fine_at text rest b s = subst (Says text [] [] rest) s (stop_says text [] [] res
 -- where nothing stops, the slices of the span that begins a rest tile it up to the next number
 pub is_lent : (text rest : List ℕ) → begins is_digit rest ≡ true → stop_at text rest ≡ None → IsLent text rest (span_of rest) (lent_at text rest) (next_of rest)
 is_lent text rest b s =
-    let fine = fine_at text rest b s in
+    let w = written_here rest b (fine_at text rest b s) in
+    let spelled : SpellsThen rest (span_of rest) (next_of rest) = record { here = w.0; whole = w.1.whole; spells = w.1.spells } in
+    let h = w.1.spells in
+    let tail = word_of rest ++ (h.space ++ next_of rest) in
+    let letter : begins is_letter tail ≡ true = begins_word (word_of rest) (h.space ++ next_of rest) (letters_begin (word_of rest) h.word) in
+    let r = read_spelled rest (next_of rest) (span_of rest) spelled in
     let number = leading is_numeric rest in
-    let d = dropped number in
-    let middle = fraction_text (after_number rest) in
-    let space = leading is_ws (after_word rest) in
-    let more : after_word rest ≡ space ++ next_of rest = sym (leading-past is_ws (after_word rest)) in
-    let word : after_fraction rest ≡ word_of rest ++ (space ++ next_of rest) = sym (leading-past is_letter (after_fraction rest)) ∙ ap (λ (xs : List ℕ). word_of rest ++ xs) more in
-    let point : after_number rest ≡ middle ++ (word_of rest ++ (space ++ next_of rest)) = fraction_text-past (after_number rest) ∙ ap (λ (xs : List ℕ). middle ++ xs) word in
-    let whole : rest ≡ (number_slice rest ++ d.tail) ++ (middle ++ (word_of rest ++ (space ++ next_of rest))) = sym (leading-past is_numeric rest) ∙ ap₂ (λ (xs ys : List ℕ). xs ++ ys) d.whole point in
+    let number_is : IsDigitSlice number (number_slice rest) =
+    digit_slice [] number (number_slice rest) (dropped number) tt (begins_leading is_digit is_numeric rest b digit_is_numeric) (Only-leading is_numeric rest) in
+    let left : after_word rest ≡ h.space ++ next_of rest =
+    append_cancel_left (word_of rest) (after_word rest) (h.space ++ next_of rest) (leading-past is_letter (after_fraction rest) ∙ r.tail_is) in
     record {
-      gap = d.tail;
-      middle = middle;
-      space = space;
-      whole = whole ∙ append_assoc (number_slice rest) d.tail (middle ++ (word_of rest ++ (space ++ next_of rest)));
-      number = digits_dropped_are number (number_slice rest) d (begins_leading is_digit is_numeric rest b digit_is_numeric) (Only-leading is_numeric rest);
-      gap_space = d.space;
-      fraction = fraction_is_lent (after_number rest) fine.point;
+      spelled = spelled;
+      number = subst (λ (l : List ℕ). IsDigitSlice l (number_slice rest)) r.number_is number_is;
+      fraction = subst (λ (l : List ℕ). LendsFraction h.fraction_text (fraction_slice l)) (sym r.behind_is) (fraction_is_lent h.fraction_text tail (fraction_of rest) h.fraction letter);
       unit = refl;
-      letters = Only-leading is_letter (after_fraction rest);
-      some_letter = begins_Only is_letter (word_of rest) (Only-leading is_letter (after_fraction rest)) (some_letters (word_of rest) fine.word);
-      only_space = Only-leading is_ws (after_word rest);
       start = refl;
-      end = ap (offset_of text) more;
+      end = ap (offset_of text) left;
       value = refl;
     }

@@ -4,12 +4,15 @@ use Rattle.std.specs.Char.{is_whitespace}
 use Rattle.std.specs.Str.{drop_trailing_whitespace}
 use Rattle.std.proofs.lemmas.Bool.Decides.{nat_tests}
 use Rattle.std.proofs.lemmas.List.Elements.{filter-append}
-use Rattle.humantime.specs.Durations.Characters.{is_ws, is_digit, is_numeric, begins, ends, leading, past, digits}
+use Rattle.humantime.specs.declared.duration.reading.class.Class.{Class}
+use Rattle.humantime.specs.declared.duration.reading.class.Class.TheVariants.{White, Digit, Letter, Point, Other}
+use Rattle.humantime.specs.Durations.Characters.{class_of, white, digit, is_ws, is_digit, is_letter, is_numeric, begins, ends, leading, past, digits}
 use Rattle.humantime.specs.Durations.Spans.{Only}
-use Rattle.humantime.specs.Durations.Faults.{number_of, after_number, fraction_at, digits_in, word_of, span_of}
-use Rattle.humantime.specs.Durations.Slices.{IsDigits}
+use Rattle.humantime.specs.Durations.Rests.{number_of, after_number, fraction_at, digits_in, word_of, span_of}
+use Rattle.humantime.specs.Durations.Slices.{IsDigitSlice}
 use Rattle.humantime.specs.References.Durations.Lending.{trimmed, number_slice, fraction_slice, lent_at, spelled}
-use Rattle.humantime.proofs.Durations.Reading.Classes.{white_is, space_not_digit, digit_from_numeric}
+use Rattle.humantime.proofs.Durations.Reading.Classes.{white_is, letter_not_numeric, letter_not_point, is_point-46, space_not_digit, digit_from_numeric}
+use Rattle.humantime.proofs.Durations.Reading.Runs.{leading-append, begins_other}
 
 pub suc_not_zero : (n : ℕ) → eqb (suc n) 0 ≡ false
 suc_not_zero n = grind (arith, nat_tests)
@@ -79,14 +82,27 @@ only_front : (p : ℕ → Bool) (xs ys : List ℕ) → Only p (xs ++ ys) → Onl
 only_front p [] ys o = tt
 only_front p (x ∷ xs) ys o = (o.0, only_front p xs ys o.1)
 
--- digits and white space from a first digit on, without the white space at the end
-pub digits_dropped_are : (cs ds : List ℕ) → Dropped cs ds → begins is_digit cs ≡ true → Only is_numeric cs → IsDigits ds (digits cs)
-digits_dropped_are cs [] d b o = absurd (all_white d.tail d.space (subst (λ (l : List ℕ). begins is_digit l ≡ true) d.whole b))
-digits_dropped_are cs (x ∷ xs) d b o =
+-- digits and white space from a first digit on, without the white space at the end, behind other white space
+pub digit_slice : (before cs ds : List ℕ) → Dropped cs ds → Only is_ws before → begins is_digit cs ≡ true → Only is_numeric cs → IsDigitSlice (before ++ cs) ds
+digit_slice before cs [] d w b o = absurd (all_white d.tail d.space (subst (λ (l : List ℕ). begins is_digit l ≡ true) d.whole b))
+digit_slice before cs (x ∷ xs) d w b o =
     let numeric = only_front is_numeric (x ∷ xs) d.tail (subst (Only is_numeric) d.whole o) in
     record {
+      before = before;
+      after = d.tail;
+      whole = ap (λ (l : List ℕ). before ++ l) d.whole;
+      only_before = w;
+      only_after = d.space;
       starts = subst (λ (l : List ℕ). begins is_digit l ≡ true) d.whole b;
       stops = ends_digit x xs numeric (last_of x xs d.last);
-      numeric = numeric;
-      its_digits = digits_dropped cs (x ∷ xs) d;
     }
+
+-- the slice of the fraction behind a number, before a word
+pub no_slice : (tail : List ℕ) → begins is_letter tail ≡ true → fraction_slice tail ≡ None
+no_slice [] e = cc
+no_slice (c ∷ cs) e = rw (letter_not_point c e)
+
+pub slice_behind_point : (behind tail : List ℕ) → Only is_numeric behind → begins is_letter tail ≡ true → fraction_slice (46 ∷ (behind ++ tail)) ≡ Some (trimmed behind)
+slice_behind_point behind tail only e =
+    let stops : begins is_numeric tail ≡ false = begins_other is_letter is_numeric letter_not_numeric tail e in
+    rw (is_point-46, leading-append is_numeric behind tail only stops)

@@ -1,12 +1,12 @@
 -- Single additions to a duration of t nanoseconds. `None` is an addition that breaks a limit.
 use Rattle.std.specs.Prelude.{ℕ, ◌+◌, ◌*◌, ◌/◌, ◌%◌, ◌^◌, ◌&&◌, ◌==◌, nat_le, Option, Some, None, if◌then◌else◌}
 use Rattle.humantime.specs.Durations.Characters.{u64_max}
-use Rattle.humantime.specs.Durations.Spans.{Addition, nanos_of}
+use Rattle.humantime.specs.Durations.Sums.{Addition, addition_nanos}
 use Rattle.humantime.specs.References.Durations.Reading.{room}
 
 -- the sum with one addition, where there is room for it
 abbrev pub add_one : ℕ → Addition → Option ℕ
-add_one t x = if room t x then Some (t + nanos_of x) else None
+add_one t x = if room t x then Some (t + addition_nanos x) else None
 
 -- the sum with so many times a factor of a base
 abbrev pub add_times : ℕ → ℕ → ℕ → ℕ → Option ℕ

@@ -4,8 +4,10 @@ use Rattle.std.specs.Prelude.{ℕ, zero, suc, ◌+◌, ◌*◌, ◌/◌, ◌%◌
 use Rattle.humantime.specs.Values.Amounts.{nanos_per_second}
 use Rattle.humantime.specs.Durations.Characters.{is_ws, is_digit, is_numeric, past, decimal_value, significant, offset_of, byte_length, u64_max}
 use Rattle.humantime.specs.Durations.Units.{Scale, scale_of_word}
-use Rattle.humantime.specs.Durations.Spans.{Span, Addition, nanos_of, additions_of}
-use Rattle.humantime.specs.Durations.Faults.{Fault, InvalidCharacter, NumberExpected, UnknownUnit, NumberOverflow, Empty, number_of, after_number, fraction_of, after_fraction, word_of, after_word, span_of}
+use Rattle.humantime.specs.Durations.Spans.{Span}
+use Rattle.humantime.specs.Durations.Sums.{Addition, addition_nanos, additions_of}
+use Rattle.humantime.specs.Durations.Rests.{number_of, after_number, fraction_of, after_fraction, word_of, after_word, span_of}
+use Rattle.humantime.specs.Durations.Faults.{Fault, InvalidCharacter, NumberExpected, UnknownUnit, NumberOverflow, Empty}
 
 -- whether a number or a fraction is too long
 abbrev pub long_fraction : Option (List ℕ) → Bool
@@ -64,11 +66,11 @@ items text = items_from text (past is_ws text)
 abbrev pub room : ℕ → Addition → Bool
 room t x =
     (if x.base == 1 then nat_le (t % nanos_per_second + x.amount) u64_max else true)
-    && nat_le ((t + nanos_of x) / nanos_per_second) u64_max
+    && nat_le ((t + addition_nanos x) / nanos_per_second) u64_max
 
 unfoldable pub add_all : ℕ → List Addition → Option ℕ
 add_all t [] = Some t
-add_all t (x ∷ xs) = if room t x then add_all (t + nanos_of x) xs else None
+add_all t (x ∷ xs) = if room t x then add_all (t + addition_nanos x) xs else None
 
 abbrev pub is_whole_part : ℕ → List ℕ → Bool
 is_whole_part factor ds = nat_le (decimal_value ds * factor) u64_max && (decimal_value ds * factor % 10 ^ length ds == 0)

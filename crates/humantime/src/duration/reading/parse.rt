@@ -3,11 +3,11 @@
 ghost use Rattle.std.specs.Prelude.{◌≡◌, ◌↔◌, ℕ, chars, IfErr};
 ghost use Rattle.humantime.specs.References.Durations.Answers.{duration_answer};
 ghost use Rattle.humantime.specs.Durations.Errors.{told, PointsInto};
+ghost use Rattle.humantime.specs.Durations.Accepted.{Accepted};
 ghost use Rattle.humantime.specs.Durations.Faults.{Fault, HasFault};
 ghost use Rattle.humantime.specs.References.Durations.Lending.{judged, lent_items};
 ghost use Rattle.humantime.specs.References.Durations.Remaining.{items_left, text_of};
 ghost use Rattle.humantime.specs.Durations.Slices.{AreItems};
-ghost use Rattle.humantime.specs.Durations.Spans.{Accepted};
 
 use crate::duration::error::DurationError;
 use crate::duration::reading::iter::SpanIter;

@@ -1,0 +1,45 @@
+-- What a text is: one value or one fault, one list of spans, one list of items; and what its items decide. A text is its
+-- list of characters.
+use Rattle.std.specs.Prelude.{◌≡◌, ◌≢◌, ◌↔◌, ◌⊎◌, ℕ, List, [], ◌∷◌, Option, Some, None}
+use Rattle.humantime.specs.Durations.Spans.{Span, Reads}
+use Rattle.humantime.specs.Durations.Sums.{value}
+use Rattle.humantime.specs.Durations.Limits.{WithinLimits}
+use Rattle.humantime.specs.Durations.Accepted.{Accepted}
+use Rattle.humantime.specs.Durations.Faults.{Fault, NumberOverflow, HasFault}
+use Rattle.humantime.specs.Durations.Items.{Items}
+
+-- the text has this value or fault, and no other
+abbrev pub OnlyValue : List ℕ → ℕ → Type 0
+OnlyValue text v = Accepted text v × ((w : ℕ) → Accepted text w → w ≡ v) × ((e : Fault) → ¬ (HasFault text e))
+
+abbrev pub OnlyFault : List ℕ → Fault → Type 0
+OnlyFault text e = HasFault text e × ((f : Fault) → HasFault text f → f ≡ e) × ((w : ℕ) → ¬ (Accepted text w))
+
+-- exactly one value and no fault, or exactly one fault and no value
+abbrev pub OneOutcome : List ℕ → Type 0
+OneOutcome text = ((v : ℕ) × OnlyValue text v) ⊎ ((e : Fault) × OnlyFault text e)
+
+-- no two lists of spans are spelled by the text
+abbrev pub OneReading : List ℕ → Type 0
+OneReading text = (ss ts : List Span) → Reads text ss → Reads text ts → ss ≡ ts
+
+-- exactly one list of spans and stop
+abbrev pub OneListOfItems : List ℕ → Type 0
+OneListOfItems text = (spans : List Span) × (stop : Option Fault) × Items text spans stop
+    × ((ss : List Span) (o : Option Fault) → Items text ss o → (ss ≡ spans) × (o ≡ stop))
+
+-- the items of a text that isn't exactly `0` decide its value: it is accepted exactly where nothing stops the spans and they
+-- are within the limits, with their sum
+abbrev pub ItemsDecideValue : List ℕ → Type 0
+ItemsDecideValue text = (spans : List Span) (stop : Option Fault) → Items text spans stop → text ≢ 48 ∷ []
+    → (v : ℕ) → Accepted text v ↔ ((stop ≡ None) × WithinLimits spans × (value spans ≡ v))
+
+-- its fault, where the spans are within the limits: the one that stops them
+abbrev pub ItemsDecideFault : List ℕ → Type 0
+ItemsDecideFault text =
+    (spans : List Span) (e : Fault) → Items text spans (Some e) → text ≢ 48 ∷ [] → WithinLimits spans → HasFault text e
+
+-- and its fault where they aren't, whatever stops them
+abbrev pub ItemsDecideOverflow : List ℕ → Type 0
+ItemsDecideOverflow text = (spans : List Span) (stop : Option Fault) → Items text spans stop → text ≢ 48 ∷ []
+    → ¬ (WithinLimits spans) → HasFault text NumberOverflow
