@@ -28,7 +28,7 @@ pub use Rattle.humantime.specs.Timestamps.Fields.{Fields, IsWeak, IsStrict, IsWe
 pub use Rattle.humantime.specs.Timestamps.Checks.{weak_checks, strict_checks, first_failed}
 pub use Rattle.humantime.specs.References.Timestamps.Reading.{weak_answer, strict_answer}
 pub use Rattle.humantime.specs.Timestamps.WeakAnswers.{IsWeakAnswer}
-pub use Rattle.humantime.specs.Timestamps.Messages.{message_of as timestamp_message}
+pub use Rattle.humantime.specs.Timestamps.Messages.{timestamp_message}
 -- timestamps printed
 pub use Rattle.humantime.specs.Timestamps.Printed.{cut, IsPrinted, IsPrintable, ReadsAs, OnePrinted}
 pub use Rattle.humantime.specs.References.Timestamps.Printing.{moment_kept, places_kept, IsTextOf, moment_text, printed_text, places_of, shortest_text}

@@ -7,25 +7,26 @@ ghost use Rattle.humantime.specs.References.Calendar.March.{march_days, march_ye
 
 use crate::turns::Turns;
 
-// The first and the last year.
+/// The first year.
 const FIRST_YEAR: u32 = 1970;
 
+/// The last year.
 const LAST_YEAR: u32 = 9999;
 
-// The day of 9999-12-31.
+/// The day of 9999-12-31.
 const LAST_DAY: u32 = 2_932_896;
 
-// The days before each month of a common year, January first.
+/// The days before each month of a common year, January first.
 const DAYS_BEFORE_MONTH: [u32; 12] = [0, 31, 59, 90, 120, 151, 181, 212, 243, 273, 304, 334];
 
-// The days of each month, January first, with 28 for February.
+/// The days of each month, January first, with 28 for February.
 const MONTH_LENGTHS: [u32; 12] = [31, 28, 31, 30, 31, 30, 31, 31, 30, 31, 30, 31];
 
-// The days of each month of a year that begins on 1 March and ends with a leap day.
+/// The days of each month of a year that begins on 1 March and ends with a leap day.
 const MARCH_MONTH_LENGTHS: [u32; 12] = [31, 30, 31, 30, 31, 31, 30, 31, 30, 31, 31, 29];
 
-// Cycles of 400 years, 146097 days each, are counted from 2000-03-01, which is day 11017. Earlier days lie
-// in the cycle before. It begins on 1600-03-01, which is so many days before 1970-01-01.
+/// Cycles of 400 years, 146097 days each, are counted from 2000-03-01, which is day 11017. Earlier days lie
+/// in the cycle before. It begins on 1600-03-01, which is so many days before 1970-01-01.
 const DAYS_FROM_MARCH_1600: u32 = 135_080;
 
 /// A date: year, month from 1 (January) to 12, day of the month from 1.
@@ -45,7 +46,7 @@ pub struct Date {
     pub day: u32,
 }
 
-// The days of the years from 1970 up to this one.
+/// The days of the years from 1970 up to this one.
 #[inline(always)]
 #[tactic(auto, using(crate::proofs::Dates::Years::days_of_years_closed))]
 fn days_before_year(year: u32) -> u32
@@ -56,7 +57,7 @@ fn days_before_year(year: u32) -> u32
     365 * (year - 1970) + (year - 1969) / 4 - (year - 1901) / 100 + (year - 1601) / 400
 }
 
-// 1 in a leap year, else 0.
+/// 1 in a leap year, else 0.
 #[inline(always)]
 fn leap_days(year: u32) -> u32
     ensures { result + 365 ≡ days_in_year year }
@@ -68,7 +69,7 @@ fn leap_days(year: u32) -> u32
     }
 }
 
-// The days of a month.
+/// The days of a month.
 #[inline(always)]
 fn month_length(year: u32, month: u32) -> u32
     requires low { 1 ≤ month }
@@ -83,7 +84,7 @@ fn month_length(year: u32, month: u32) -> u32
     }
 }
 
-// The days of the year's months before this one.
+/// The days of the year's months before this one.
 #[inline(always)]
 #[tactic(auto, using(crate::proofs::Dates::Years::days_of_months_closed))]
 fn days_before_month(year: u32, month: u32) -> u32
@@ -125,7 +126,7 @@ pub fn day_number(date: Date, turns: &mut Turns) -> Option<u32>
     Some(days_before_year(date.year) + days_before_month(date.year, date.month) + date.day - 1)
 }
 
-// The year that holds this day, of the years that begin on 1 March, from 1600 on, and the day's place in it.
+/// The year that holds this day, of the years that begin on 1 March, from 1600 on, and the day's place in it.
 fn march_year(day: u32) -> (u32, u32)
     requires { day ≤ 2_932_896 }
     ensures high { result.0 < 8400 }
@@ -144,8 +145,8 @@ fn march_year(day: u32) -> (u32, u32)
     (400 * cycles + 100 * centuries + 4 * fours + years, left)
 }
 
-// The date with so many days of the month before it. March is month 0, and January and February are the last
-// months of a year that began in the calendar's year before.
+/// The date with so many days of the month before it. March is month 0, and January and February are the last
+/// months of a year that began in the calendar's year before.
 fn march_date(year: u32, month: u32, left: u32) -> Date
     requires month { month < 12 }
     requires left { left < march_length month }

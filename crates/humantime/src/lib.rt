@@ -3,6 +3,7 @@
 //! The contracts cite the definitions in `specs/`, which docs/MODEL.md says in plain words.
 #![tactic(auto)]
 
+mod buffer;
 mod calendar;
 mod date;
 mod duration;

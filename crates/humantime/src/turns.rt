@@ -6,7 +6,7 @@ use std::marker::Model;
 use std::mem;
 use std::snapshot::Snapshot;
 
-// One `Next` for each turn. At run time a chain is never kept: a snapshot has no bytes.
+/// One `Next` for each turn. At run time a chain is never kept: a snapshot has no bytes.
 #[derive(Drop)]
 enum Chain {
     Start,
@@ -52,7 +52,7 @@ impl Turns {
         }
     }
 
-    // Counts one turn.
+    /// Counts one turn.
     pub(crate) fn tick(&mut self)
         ensures { self.new ≡ self.old + 1 }
     {

@@ -8,7 +8,7 @@ use Rattle.humantime.specs.Calendar.Years.{days_in_year, days_in_month, days_of_
 use Rattle.humantime.specs.Calendar.Dates.{IsDate, day_of}
 use Rattle.humantime.specs.Timestamps.Fields.{Fields, IsWeak, IsWeakMoment, IsStrictMoment, moment_of, fraction_digits}
 use Rattle.humantime.specs.Timestamps.Printed.{IsPrintable}
-use Rattle.humantime.proofs.Dates.Years.{days_of_years_within, february}
+use Rattle.humantime.proofs.Dates.Years.{valid_told, days_of_years_within, february}
 use Rattle.humantime.proofs.Dates.Months.{below_12}
 use Rattle.humantime.proofs.Timestamps.Reading.Fractions.{nanos_bound}
 
@@ -23,12 +23,13 @@ month_within y =
 
 -- the last day is 9999-12-31
 day_within : (d : Date) → IsDate d → day_of d ≤ 2_932_896
-day_within d (year, month, day) =
+day_within d valid =
+    let within = valid_told d.year d.month d.day valid in
     let m = d.month - 1 in
-    let next : suc m ≡ d.month = omega (arith, month.0) in
+    let next : suc m ≡ d.month = omega (arith, within.1.0) in
     let ends : days_of_months d.year m + days_in_month d.year d.month ≤ days_in_year d.year =
-    subst (λ n. days_of_months d.year m + days_in_month d.year n ≤ days_in_year d.year) next (month_within d.year m (omega (arith, month.0, month.1))) in
-    omega (arith, ends, day.0, day.1, days_of_years_within d.year year.0 year.1)
+    subst (λ n. days_of_months d.year m + days_in_month d.year n ≤ days_in_year d.year) next (month_within d.year m (omega (arith, within.1.0, within.1.1))) in
+    omega (arith, ends, within.2.0, within.2.1, days_of_years_within d.year within.0.0 within.0.1)
 
 -- the last moment is the last nanosecond of that day
 moment_within : (text : List ℕ) (f : Fields) → IsWeak text f → moment_of f < 253_402_300_800 * 1_000_000_000

@@ -4,12 +4,13 @@ use Rattle.std.specs.Prelude.{ℤ, Option, Some, None, Result, Ok, Err, codes, c
 use Rattle.humantime.specs.declared.date.error.TimestampError.{TimestampError}
 use Rattle.humantime.specs.Durations.Canonical.{IsCanonicalOf}
 use Rattle.humantime.specs.Durations.Counts.{Canon}
+use Rattle.humantime.specs.Durations.Faults.{Fault, HasFault, OneOutcome}
+use Rattle.humantime.specs.Prelude.{fault_message, timestamp_message}
+use Rattle.humantime.specs.Durations.Spans.{Accepted}
 use Rattle.humantime.specs.Durations.Accepted.{Accepted}
-use Rattle.humantime.specs.Durations.Faults.{Fault, HasFault}
 use Rattle.humantime.specs.Durations.OutcomeLaws.{OneOutcome}
 use Rattle.humantime.specs.Durations.Messages.{fault_message}
 use Rattle.humantime.specs.Timestamps.Checks.{weak_checks, strict_checks, first_failed}
-use Rattle.humantime.specs.Timestamps.Messages as timestamps
 use Rattle.humantime.specs.References.Timestamps.Printing.{places_of}
 use Rattle.humantime.specs.References.Timestamps.Reading.{weak_answer, strict_answer}
 use Rattle.humantime.specs.Timestamps.Fields.{IsWeakMoment, IsStrictMoment}
@@ -71,8 +72,8 @@ PrintsOf Weak text printed = (moment : ℤ) × IsWeakMoment text moment × IsPri
 
 abbrev SaysOf : Command → List ℕ → List ℕ → Type 0
 SaysOf Duration text message = (fault : Fault) × HasFault (chars text) fault × (message ≡ fault_message fault)
-SaysOf Strict text message = (error : TimestampError) × (first_failed (strict_checks text) ≡ Some error) × (message ≡ timestamps.message_of error)
-SaysOf Weak text message = (error : TimestampError) × (first_failed (weak_checks text) ≡ Some error) × (message ≡ timestamps.message_of error)
+SaysOf Strict text message = (error : TimestampError) × (first_failed (strict_checks text) ≡ Some error) × (message ≡ timestamp_message error)
+SaysOf Weak text message = (error : TimestampError) × (first_failed (weak_checks text) ≡ Some error) × (message ≡ timestamp_message error)
 
 abbrev Told : (Command → List ℕ → List ℕ → Type 0) → List (List ℕ) → List ℕ → Type 0
 Told Of words told = (command : Command) × (text : List ℕ) × AreWords words command text × Of command text told
@@ -145,8 +146,8 @@ prints_once Weak t x y (m, a, p) (n, b, q) =
 
 says_once : (c : Command) (t x y : List ℕ) → SaysOf c t x → SaysOf c t y → x ≡ y
 says_once Duration t x y (e, h, p) (f, k, q) = p ∙ ap fault_message (same_fault (chars t) e f (one_outcome (chars t)) h k) ∙ sym q
-says_once Strict t x y (e, h, p) (f, k, q) = p ∙ ap timestamps.message_of (same_some e f (sym h ∙ k)) ∙ sym q
-says_once Weak t x y (e, h, p) (f, k, q) = p ∙ ap timestamps.message_of (same_some e f (sym h ∙ k)) ∙ sym q
+says_once Strict t x y (e, h, p) (f, k, q) = p ∙ ap timestamp_message (same_some e f (sym h ∙ k)) ∙ sym q
+says_once Weak t x y (e, h, p) (f, k, q) = p ∙ ap timestamp_message (same_some e f (sym h ∙ k)) ∙ sym q
 
 never_both : (c : Command) (t x y : List ℕ) → PrintsOf c t x → SaysOf c t y → ⊥
 never_both Duration t x y p (e, h, q) = no_value_and_fault (chars t) p.value e (one_outcome (chars t)) p.accepted h

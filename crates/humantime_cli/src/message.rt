@@ -34,7 +34,7 @@ pub(crate) fn write_message<W: Write>(
 
 /// The message of a timestamp's error.
 pub(crate) fn timestamp_message(error: TimestampError) -> &'static str
-    ensures { result.now ≡ timestamps.message_of error }
+    ensures { result.now ≡ timestamps.timestamp_message error }
 {
     match error {
         TimestampError::OutOfRange => "numeric component is out of range",

@@ -3,9 +3,9 @@ use Rattle.std.proofs.Common.{◌≡◌, ◌∙◌, ℕ, zero, suc, ◌+◌, ◌
 use Rattle.std.proofs.lemmas.Bool.Decides.{nat_tests}
 use Rattle.std.proofs.lemmas.Bool.{cases_order, cases_lt}
 use Rattle.humantime.specs.declared.calendar.Date.{Date}
-use Rattle.humantime.specs.Calendar.Years.{days_in_year, days_in_month, days_of_years, days_of_months, IsValid, day_count}
+use Rattle.humantime.specs.Calendar.Years.{days_in_year, days_in_month, days_of_years, days_of_months, day_count}
 use Rattle.humantime.specs.Calendar.Dates.{IsDate, day_of, IsDateOfDay, OneDate}
-use Rattle.humantime.proofs.Dates.Years.{days_of_years_next, days_of_no_years, days_of_no_months, days_of_months_next, twelve_months, month_end, days_of_years_more, march_days_of_years}
+use Rattle.humantime.proofs.Dates.Years.{AreWithin, valid_told, valid_from, days_of_years_next, days_of_no_years, days_of_no_months, days_of_months_next, twelve_months, month_end, days_of_years_more, march_days_of_years}
 use Rattle.humantime.specs.References.Calendar.March.{march_days}
 
 -- more years have no fewer days, nor have more months
@@ -28,7 +28,7 @@ months_grow y n (suc more) =
     rw same (rw (days_of_months_next y (n + more)) (omega (arith, before)))
 
 -- a date's day lies before the days of each later month and of each later year
-pub before_month : (y : ℕ) (m : ℕ) (d : ℕ) → IsValid y m d → (later : ℕ) → m < later
+pub before_month : (y : ℕ) (m : ℕ) (d : ℕ) → AreWithin y m d → (later : ℕ) → m < later
     → days_of_months y (m - 1) + (d - 1) < days_of_months y (later - 1)
 before_month y m d valid later less =
     let upto : days_of_months y m ≡ days_of_months y (m - 1) + days_in_month y m = month_end y m valid.1.0 in
@@ -36,7 +36,7 @@ before_month y m d valid later less =
     let grown : days_of_months y m ≤ days_of_months y (later - 1) = rw same at (months_grow y m (later - 1 - m)) in
     omega (arith, valid.2.0, valid.2.1)
 
-pub before_year : (y : ℕ) (m : ℕ) (d : ℕ) → IsValid y m d → (later : ℕ) → y < later
+pub before_year : (y : ℕ) (m : ℕ) (d : ℕ) → AreWithin y m d → (later : ℕ) → y < later
     → day_count y m d < days_of_years (later - 1970)
 before_year y m d valid later less =
     let month : days_of_months y (m - 1) + (d - 1) < days_of_months y (13 - 1) = before_month y m d valid 13 (omega (arith, valid.1.1)) in
@@ -46,7 +46,7 @@ before_year y m d valid later less =
     let grown : days_of_years (y + 1 - 1970) ≤ days_of_years (later - 1970) = rw same at (years_grow (y + 1 - 1970) (later - 1 - y)) in
     omega arith
 
-same_year : (y : ℕ) (m : ℕ) (d : ℕ) (y' : ℕ) (m' : ℕ) (d' : ℕ) → IsValid y m d → IsValid y' m' d'
+same_year : (y : ℕ) (m : ℕ) (d : ℕ) (y' : ℕ) (m' : ℕ) (d' : ℕ) → AreWithin y m d → AreWithin y' m' d'
     → day_count y m d ≡ day_count y' m' d' → y ≡ y'
 same_year y m d y' m' d' valid valid' same =
     elim (cases_order y y') [
@@ -57,7 +57,7 @@ same_year y m d y' m' d' valid valid' same =
       ]
     ]
 
-same_month : (y : ℕ) (m : ℕ) (d : ℕ) (m' : ℕ) (d' : ℕ) → IsValid y m d → IsValid y m' d'
+same_month : (y : ℕ) (m : ℕ) (d : ℕ) (m' : ℕ) (d' : ℕ) → AreWithin y m d → AreWithin y m' d'
     → day_count y m d ≡ day_count y m' d' → m ≡ m'
 same_month y m d m' d' valid valid' same =
     elim (cases_order m m') [
@@ -70,27 +70,29 @@ same_month y m d m' d' valid valid' same =
 
 pub same_date : (a : Date) (b : Date) → IsDate a → IsDate b → day_of a ≡ day_of b → a ≡ b
 same_date a b valid valid' same =
-    let year : a.year ≡ b.year = same_year a.year a.month a.day b.year b.month b.day valid valid' same in
-    let there : IsValid a.year b.month b.day = rw (sym year) at valid' in
+    let within = valid_told a.year a.month a.day valid in
+    let within' = valid_told b.year b.month b.day valid' in
+    let year : a.year ≡ b.year = same_year a.year a.month a.day b.year b.month b.day within within' same in
+    let there : AreWithin a.year b.month b.day = rw (sym year) at within' in
     let count : day_count a.year a.month a.day ≡ day_count a.year b.month b.day = rw (sym year) at same in
-    let month : a.month ≡ b.month = same_month a.year a.month a.day b.month b.day valid there count in
+    let month : a.month ≡ b.month = same_month a.year a.month a.day b.month b.day within there count in
     let count' : day_count a.year a.month a.day ≡ day_count a.year a.month b.day = rw (sym month) at count in
-    let day : a.day ≡ b.day = omega (arith, count', valid.2.0, valid'.2.0) in
+    let day : a.day ≡ b.day = omega (arith, count', within.2.0, within'.2.0) in
     λ i. record { year = year i; month = month i; day = day i }
 
 -- the date of the next day
 month_some : (y : ℕ) (m : ℕ) → 28 ≤ days_in_month y m
 month_some y m = grind (arith, nat_tests)
 
-pub next_day : (n : ℕ) (y : ℕ) (m : ℕ) (d : ℕ) → IsValid y m d × (day_count y m d ≡ n) → d < days_in_month y m
-    → IsValid y m (d + 1) × (day_count y m (d + 1) ≡ suc n)
+pub next_day : (n : ℕ) (y : ℕ) (m : ℕ) (d : ℕ) → AreWithin y m d × (day_count y m d ≡ n) → d < days_in_month y m
+    → AreWithin y m (d + 1) × (day_count y m (d + 1) ≡ suc n)
 next_day n y m d is more =
     let some : 1 ≤ d = is.0.2.0 in
     let day : days_of_years (y - 1970) + days_of_months y (m - 1) + (d - 1) ≡ n = is.1 in
     ((is.0.0, is.0.1, (omega arith, omega arith)), omega arith)
 
-pub next_month : (n : ℕ) (y : ℕ) (m : ℕ) (d : ℕ) → IsValid y m d × (day_count y m d ≡ n) → days_in_month y m ≤ d → m < 12
-    → IsValid y (m + 1) 1 × (day_count y (m + 1) 1 ≡ suc n)
+pub next_month : (n : ℕ) (y : ℕ) (m : ℕ) (d : ℕ) → AreWithin y m d × (day_count y m d ≡ n) → days_in_month y m ≤ d → m < 12
+    → AreWithin y (m + 1) 1 × (day_count y (m + 1) 1 ≡ suc n)
 next_month n y m d is last more =
     let day : days_of_years (y - 1970) + days_of_months y (m - 1) + (d - 1) ≡ n = is.1 in
     let whole : days_of_months y m ≡ days_of_months y (m - 1) + days_in_month y m = month_end y m is.0.1.0 in
@@ -99,8 +101,8 @@ next_month n y m d is last more =
     let next : days_of_years (y - 1970) + days_of_months y (m + 1 - 1) + 0 ≡ suc n = rw here (omega (arith, is.0.2.0, is.0.2.1)) in
     ((is.0.0, (omega arith, omega arith), (omega arith, omega arith)), next)
 
-pub next_year : (n : ℕ) (y : ℕ) (m : ℕ) (d : ℕ) → n < 2_932_896 → IsValid y m d × (day_count y m d ≡ n)
-    → days_in_month y m ≤ d → 12 ≤ m → IsValid (y + 1) 1 1 × (day_count (y + 1) 1 1 ≡ suc n)
+pub next_year : (n : ℕ) (y : ℕ) (m : ℕ) (d : ℕ) → n < 2_932_896 → AreWithin y m d × (day_count y m d ≡ n)
+    → days_in_month y m ≤ d → 12 ≤ m → AreWithin (y + 1) 1 1 × (day_count (y + 1) 1 1 ≡ suc n)
 next_year n y m d few is last december =
     let day : days_of_years (y - 1970) + days_of_months y (m - 1) + (d - 1) ≡ n = is.1 in
     let whole : days_of_months y m ≡ days_of_months y (m - 1) + days_in_month y m = month_end y m is.0.1.0 in
@@ -113,22 +115,24 @@ next_year n y m d few is last december =
     let count : days_of_years (y + 1 - 1970) + days_of_months (y + 1) 0 + 0 ≡ suc n = omega arith in
     (((omega arith, omega (arith, closed, next, few)), (omega arith, omega arith), (omega arith, omega arith)), count)
 
+dated : (n : ℕ) (y : ℕ) (m : ℕ) (d : ℕ) → AreWithin y m d × (day_count y m d ≡ n) → (x : Date) × IsDateOfDay n x
+dated n y m d h = (record { year = y; month = m; day = d }, (valid_from y m d h.0, h.1))
+
 next_date : (n : ℕ) → n < 2_932_896 → (x : Date) → IsDateOfDay n x → (d : Date) × IsDateOfDay (suc n) d
 next_date n few x is =
+    let here : AreWithin x.year x.month x.day × (day_count x.year x.month x.day ≡ n) = (valid_told x.year x.month x.day is.0, is.1) in
     elim (cases_lt x.day (days_in_month x.year x.month)) [
-      | inl more ↦ (record { year = x.year; month = x.month; day = x.day + 1 }, next_day n x.year x.month x.day is more)
+      | inl more ↦ dated (suc n) x.year x.month (x.day + 1) (next_day n x.year x.month x.day here more)
       | inr last ↦ elim (cases_lt x.month 12) [
-        | inl more ↦ (record { year = x.year; month = x.month + 1; day = 1 }, next_month n x.year x.month x.day is last more)
-        | inr december ↦ (record { year = x.year + 1; month = 1; day = 1 }, next_year n x.year x.month x.day few is last december)
+        | inl more ↦ dated (suc n) x.year (x.month + 1) 1 (next_month n x.year x.month x.day here last more)
+        | inr december ↦ dated (suc n) (x.year + 1) 1 1 (next_year n x.year x.month x.day few here last december)
       ]
     ]
 
 some_date : (n : ℕ) → n ≤ 2_932_896 → (d : Date) × IsDateOfDay n d
 some_date zero few =
-    let none : day_count 1970 1 1 ≡ 0 = rw days_of_no_years (rw (days_of_no_months 1970) refl) in (
-      record { year = 1970; month = 1; day = 1 },
-      (((omega arith, omega arith), (omega arith, omega arith), (omega arith, omega arith)), none),
-    )
+    let none : day_count 1970 1 1 ≡ 0 = rw days_of_no_years (rw (days_of_no_months 1970) refl) in
+    (record { year = 1970; month = 1; day = 1 }, (refl, none))
 some_date (suc n) few =
     let before = some_date n (omega (arith, few)) in
     next_date n (omega (arith, few)) before.0 before.1

@@ -3,7 +3,7 @@ use Rattle.std.proofs.Common.{◌≡◌, ℕ, ◌+◌, ◌-◌, ◌<◌, ◌≤�
 use Rattle.humantime.specs.Calendar.Years.{days_in_year, days_in_month, days_of_years, days_of_months, IsValid, day_count}
 use Rattle.humantime.specs.References.Calendar.March.{march_days, march_year_length, march_length, march_months}
 use Rattle.humantime.proofs.Dates.Months.{below_12, below_10, ten_or_eleven}
-use Rattle.humantime.proofs.Dates.Years.{march_days_next, march_days_of_years, days_in_year_bound, february}
+use Rattle.humantime.proofs.Dates.Years.{valid_from, march_days_next, march_days_of_years, days_in_year_bound, february}
 
 pub march_months_none : march_months 0 ≡ 0
 unfolding march_months
@@ -78,7 +78,7 @@ early_valid n k left early short first last =
     let length : march_length k ≡ days_in_month (1600 + n) (k + 3) = early_length (1600 + n) k early in
     let short' : left < days_in_month (1600 + n) (k + 3) = rw length at short in
     let fits : left + 1 ≤ days_in_month (1600 + n) (k + 3) = omega (arith, short') in
-    ((omega arith, omega arith), (omega arith, omega arith), (omega arith, fits))
+    valid_from (1600 + n) (k + 3) (left + 1) ((omega arith, omega arith), (omega arith, omega arith), (omega arith, fits))
 
 pub early_day : (n : ℕ) (k : ℕ) (left : ℕ) → k < 10 → left < march_length k
     → 135_080 ≤ march_days n + march_months k + left
@@ -100,7 +100,7 @@ late_valid n k left some late short within first last =
     let bound : march_months k + left < 366 = omega (arith, within, days_in_year_bound (1601 + n)) in
     let months : march_months k ≡ days_of_months (1601 + n) (k - 10) + 306 = late_months (1601 + n) k some late in
     let short' : left < days_in_month (1601 + n) (k - 9) = late_length (1601 + n) left k some late short within in
-    ((omega arith, omega arith), (omega arith, omega arith), (omega arith, omega (arith, short')))
+    valid_from (1601 + n) (k - 9) (left + 1) ((omega arith, omega arith), (omega arith, omega arith), (omega arith, omega (arith, short')))
 
 pub late_day : (n : ℕ) (k : ℕ) (left : ℕ) → k < 12 → 10 ≤ k → march_months k + left < march_year_length n
     → 135_080 ≤ march_days n + march_months k + left

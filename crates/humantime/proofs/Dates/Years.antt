@@ -1,10 +1,29 @@
 -- The days of years and of months in closed form.
 use Rattle.std.proofs.Common.{◌≡◌, ℕ, zero, suc, ◌+◌, ◌-◌, ◌*◌, ◌/◌, ◌<◌, ◌≤◌, refl, ap, arith}
-use Rattle.std.specs.Prelude.{if◌then◌else◌, [], ◌∷◌, slice_index_or, nat_lt}
+use Rattle.std.specs.Prelude.{true, ◌&&◌, if◌then◌else◌, [], ◌∷◌, slice_index_or, nat_lt}
+use Rattle.std.specs.Int.{IsInRange, is_in_range}
 use Rattle.std.proofs.lemmas.Bool.Decides.{nat_tests}
-use Rattle.humantime.specs.Calendar.Years.{days_in_year, days_in_month, days_of_years, days_of_months}
+use Rattle.humantime.specs.Calendar.Years.{days_in_year, days_in_month, days_of_years, days_of_months, IsValid}
 use Rattle.humantime.proofs.Dates.Months.{below_12}
 use Rattle.humantime.specs.References.Calendar.March.{march_days, march_year_length}
+
+-- the ranges of a date that exists
+abbrev pub AreWithin : ℕ → ℕ → ℕ → Type 0
+AreWithin y m d = IsInRange 1970 9999 y × IsInRange 1 12 m × IsInRange 1 (days_in_month y m) d
+
+within_ranges : (y m n d : ℕ) → (is_in_range 1970 9999 y && is_in_range 1 12 m && is_in_range 1 n d) ≡ true
+    → IsInRange 1970 9999 y × IsInRange 1 12 m × IsInRange 1 n d
+within_ranges y m n d h = grind (arith, nat_tests)
+
+ranges_within : (y m n d : ℕ) → IsInRange 1970 9999 y → IsInRange 1 12 m → IsInRange 1 n d
+    → (is_in_range 1970 9999 y && is_in_range 1 12 m && is_in_range 1 n d) ≡ true
+ranges_within y m n d year month day = grind (arith, nat_tests)
+
+pub valid_told : (y m d : ℕ) → IsValid y m d → AreWithin y m d
+valid_told y m d h = within_ranges y m (days_in_month y m) d h
+
+pub valid_from : (y m d : ℕ) → AreWithin y m d → IsValid y m d
+valid_from y m d h = ranges_within y m (days_in_month y m) d h.0 h.1 h.2
 
 pub march_days_next : (n : ℕ) → march_days (n + 1) ≡ march_days n + march_year_length n
 march_days_next n = grind (arith, nat_tests)

@@ -1,6 +1,6 @@
 -- The calendar of 1970 to 9999, in which years and months are counted one by one.
-use Rattle.std.specs.Prelude.{ℕ, zero, suc, ◌+◌, ◌-◌, ◌%◌, Bool, ◌&&◌, ◌||◌, ◌==◌, not, if◌then◌else◌}
-use Rattle.std.specs.Int.{IsInRange}
+use Rattle.std.specs.Prelude.{ℕ, zero, suc, ◌+◌, ◌-◌, ◌%◌, Bool, ◌&&◌, ◌||◌, ◌==◌, not, if◌then◌else◌, IsTrue}
+use Rattle.std.specs.Int.{is_in_range}
 
 -- a year that four divides and a hundred does not, or four hundred does
 abbrev pub is_leap_year : ℕ → Bool
@@ -27,8 +27,12 @@ days_of_months y zero = 0
 days_of_months y (suc n) = days_of_months y n + days_in_month y (suc n)
 
 -- day d of month m of year y exists, and the year is one of 1970 to 9999
+abbrev pub is_valid : ℕ → ℕ → ℕ → Bool
+is_valid y m d = is_in_range 1970 9999 y && is_in_range 1 12 m && is_in_range 1 (days_in_month y m) d
+
+-- the same as a statement
 abbrev pub IsValid : ℕ → ℕ → ℕ → Type 0
-IsValid y m d = IsInRange 1970 9999 y × IsInRange 1 12 m × IsInRange 1 (days_in_month y m) d
+IsValid y m d = IsTrue (is_valid y m d)
 
 -- how many days lie between 1970-01-01 and this date: years, months and days before it
 abbrev pub day_count : ℕ → ℕ → ℕ → ℕ

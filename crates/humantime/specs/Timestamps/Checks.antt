@@ -1,17 +1,13 @@
 -- The checks on a timestamp's bytes, in their order, each with the error of a text that fails it.
-use Rattle.std.specs.Prelude.{ℕ, ◌+◌, ◌*◌, Bool, not, ◌&&◌, ◌||◌, ◌==◌, nat_le, nat_eq, List, [], ◌∷◌, length, drop, slice_index, codes, Option, Some, None, if◌then◌else◌}
+use Rattle.std.specs.Prelude.{ℕ, Bool, not, ◌&&◌, ◌||◌, ◌==◌, nat_le, nat_eq, if◌then◌else◌, Option, Some, None}
+use Rattle.std.specs.Prelude.{List, [], ◌∷◌, length, drop, slice_index, slice_range, codes}
 use Rattle.std.specs.Char.{is_ascii_digit}
-use Rattle.std.specs.Int.{is_in_range}
 use Rattle.std.specs.List.{list_all, ends_with}
 use Rattle.std.specs.Str.{byte, bytes_eq}
 use Rattle.std.specs.Str.Parse.{digits_value}
 use Rattle.humantime.specs.declared.date.error.TimestampError.{TimestampError}
 use Rattle.humantime.specs.declared.date.error.TimestampError.TheVariants.{OutOfRange, InvalidDigit, InvalidFormat}
-use Rattle.humantime.specs.Calendar.Years.{days_in_month}
-
--- the number that the two digits from place k on show
-unfoldable pub two_at : List ℕ → ℕ → ℕ
-two_at b k = digits_value 10 (slice_index b k ∷ slice_index b (k + 1) ∷ [])
+use Rattle.humantime.specs.Calendar.Years.{is_valid}
 
 -- nothing, `Z` or `+00:00`
 abbrev pub is_zone : List ℕ → Bool
@@ -25,10 +21,6 @@ ends_in_zone b = ends_with nat_eq b (codes "Z") || ends_with nat_eq b (codes "+0
 abbrev pub past_digits : List ℕ → List ℕ
 past_digits [] = []
 past_digits (c ∷ cs) = if is_ascii_digit c then past_digits cs else c ∷ cs
-
--- a date of 1970 or later that exists
-abbrev pub is_date : ℕ → ℕ → ℕ → Bool
-is_date y m d = nat_le 1970 y && is_in_range 1 12 m && is_in_range 1 (days_in_month y m) d
 
 -- at least 20 bytes, a `T` between date and time, and `Z` or `+00:00` at the end
 unfoldable pub is_complete : List ℕ → Bool
@@ -45,19 +37,23 @@ has_signs b =
     && ((slice_index b 10 == byte "T") || (slice_index b 10 == byte " "))
     && (slice_index b 13 == byte ":") && (slice_index b 16 == byte ":")
 
--- two digits from place k on
-unfoldable pub has_two : List ℕ → ℕ → Bool
-has_two b k = is_ascii_digit (slice_index b k) && is_ascii_digit (slice_index b (k + 1))
+-- the places between the signs
+abbrev pub digit_places : List ℕ
+digit_places = 0 ∷ 1 ∷ 2 ∷ 3 ∷ 5 ∷ 6 ∷ 8 ∷ 9 ∷ 11 ∷ 12 ∷ 14 ∷ 15 ∷ 17 ∷ 18 ∷ []
 
--- digits in all places between the signs
+-- digits in all these places
 unfoldable pub has_digits : List ℕ → Bool
-has_digits b = list_all (has_two b) (0 ∷ 2 ∷ 5 ∷ 8 ∷ 11 ∷ 14 ∷ 17 ∷ [])
+has_digits b = list_all (λ k. is_ascii_digit (slice_index b k)) digit_places
 
--- a date of 1970 or later that exists, and a time of day, perhaps with a second 60
+-- the number that the bytes from one place up to another show
+unfoldable pub number : List ℕ → ℕ → ℕ → ℕ
+number b from to = digits_value 10 (slice_range b from to)
+
+-- a date of 1970 to 9999 that exists, and a time of day, perhaps with a second 60
 unfoldable pub in_range : List ℕ → Bool
 in_range b =
-    is_date (two_at b 0 * 100 + two_at b 2) (two_at b 5) (two_at b 8)
-    && nat_le (two_at b 11) 23 && nat_le (two_at b 14) 59 && nat_le (two_at b 17) 60
+    is_valid (number b 0 4) (number b 5 7) (number b 8 10)
+    && nat_le (number b 11 13) 23 && nat_le (number b 14 16) 59 && nat_le (number b 17 19) 60
 
 -- a point after date and time
 abbrev pub has_point : List ℕ → Bool

@@ -52,8 +52,8 @@ time_text f =
     ++ two_digits f.hour ++ codes ":" ++ two_digits f.minute ++ codes ":" ++ two_digits f.second
 
 -- the whole text: date and time, and then the fraction and the zone
-abbrev pub written : Fields → List ℕ
-written f = time_text f ++ fraction_text f.fraction ++ zone_text f.zone
+abbrev pub fields_text : Fields → List ℕ
+fields_text f = time_text f ++ fraction_text f.fraction ++ zone_text f.zone
 
 -- the digits after the point, none where there is no point
 abbrev pub fraction_digits : Option (List ℕ) → List ℕ
@@ -61,12 +61,12 @@ fraction_digits None = []
 fraction_digits (Some ds) = ds
 
 -- the nanoseconds of these digits: the first nine, filled with zeros
-unfoldable pub nanos_of : List ℕ → ℕ
-nanos_of ds = digits_value 10 (take 9 (ds ++ codes "000000000"))
+unfoldable pub fraction_nanos : List ℕ → ℕ
+fraction_nanos ds = digits_value 10 (take 9 (ds ++ codes "000000000"))
 
 -- the text shows these parts: a date of 1970 to 9999 that exists, and a time of day, perhaps with a second 60
 pub record IsWeak (text : List ℕ) (f : Fields) : Type 0 where
-  pub shown : text ≡ written f
+  pub shown : text ≡ fields_text f
   pub date : IsDate f.date
   pub hour : f.hour ≤ 23
   pub minute : f.minute ≤ 59
@@ -85,7 +85,7 @@ seconds_of f = day_of f.date * 86_400 + f.hour * 3_600 + f.minute * 60 + min f.s
 
 -- nanoseconds from 1970-01-01T00:00:00Z
 abbrev pub moment_of : Fields → ℕ
-moment_of f = seconds_of f * nanos_per_second + nanos_of (fraction_digits f.fraction)
+moment_of f = seconds_of f * nanos_per_second + fraction_nanos (fraction_digits f.fraction)
 
 -- the text shows some parts of this moment
 pub record IsWeakMoment (text : List ℕ) (t : ℤ) : Type 0 where

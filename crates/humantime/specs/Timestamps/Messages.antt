@@ -4,7 +4,7 @@ use Rattle.humantime.specs.declared.date.error.TimestampError.{TimestampError}
 use Rattle.humantime.specs.declared.date.error.TimestampError.TheVariants.{OutOfRange, InvalidDigit, InvalidFormat}
 
 -- the message of each error
-abbrev pub message_of : TimestampError → List ℕ
-message_of OutOfRange = codes "numeric component is out of range"
-message_of InvalidDigit = codes "bad character where digit is expected"
-message_of InvalidFormat = codes "timestamp format is invalid"
+abbrev pub timestamp_message : TimestampError → List ℕ
+timestamp_message OutOfRange = codes "numeric component is out of range"
+timestamp_message InvalidDigit = codes "bad character where digit is expected"
+timestamp_message InvalidFormat = codes "timestamp format is invalid"

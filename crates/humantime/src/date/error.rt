@@ -22,11 +22,11 @@ pub enum TimestampError {
 
 impl fmt::Display for TimestampError {
     ghost use Rattle.std.specs.Prelude.{Some};
-    ghost use Rattle.humantime.specs.Timestamps.Messages.{message_of};
+    ghost use Rattle.humantime.specs.Timestamps.Messages.{timestamp_message};
 
-    ghost output = { λ e. Some (message_of e) };
+    ghost output = { λ e. Some (timestamp_message e) };
 
-    ghost styled_output = { λ e _. Some (message_of e) };
+    ghost styled_output = { λ e _. Some (timestamp_message e) };
 
     fn fmt<W: fmt::Write>(&self, f: &mut fmt::Formatter<W>) -> fmt::Result {
         f.write_str(match self {

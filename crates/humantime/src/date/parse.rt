@@ -4,8 +4,8 @@ ghost use Rattle.std.specs.Prelude.{◌≡◌, ◌+◌, ◌/◌, ◌^◌, ◌<�
 ghost use Rattle.std.specs.Str.{bytes_eq};
 ghost use Rattle.humantime.specs.declared.date.error.TimestampError.{TimestampError};
 ghost use Rattle.humantime.specs.Values.Amounts.{nanos_per_second};
-ghost use Rattle.humantime.specs.Timestamps.Fields.{nanos_of, IsWeakMoment, IsStrictMoment};
-ghost use Rattle.humantime.specs.Timestamps.Checks.{first_failed, weak_checks, strict_checks};
+ghost use Rattle.humantime.specs.Timestamps.Fields.{fraction_nanos, IsWeakMoment, IsStrictMoment};
+ghost use Rattle.humantime.specs.Timestamps.Checks.{number, first_failed, weak_checks, strict_checks};
 ghost use Rattle.humantime.specs.Timestamps.Checks as TimestampChecks;
 ghost use Rattle.humantime.specs.References.Timestamps.Reading.{weak_answer, strict_answer, numbers_of, seconds_to, AreInRange};
 ghost use Rattle.humantime.specs.References.Timestamps.Fractions.{weight, AreThreeAt, IsRead};
@@ -17,7 +17,7 @@ use crate::turns::Turns;
 use crate::value::SystemTime;
 use std::simd::prelude::*;
 
-// How many nanoseconds a 1 at each of the nine places of a fraction counts.
+/// How many nanoseconds a 1 at each of the nine places of a fraction counts.
 static WEIGHTS: [u32; 9] = [
     100_000_000,
     10_000_000,
@@ -30,15 +30,16 @@ static WEIGHTS: [u32; 9] = [
     1,
 ];
 
-// How far each of the first sixteen bytes may be above `0`: a digit up to nine, and a sign wherever it is.
+/// How far each of the first sixteen bytes may be above `0`: a digit up to nine, and a sign wherever it is.
 const MOST_ABOVE_ZERO: [u8; 16] = [9, 9, 9, 9, 255, 9, 9, 255, 9, 9, 255, 9, 9, 255, 9, 9];
 
-// What `0` adds to a number of two digits and of four, where each byte counts as it stands.
+/// What `0` adds to a number of two digits, where each byte counts as it stands.
 const TWO_ZEROS: u32 = 11 * b'0' as u32;
 
+/// And to one of four.
 const FOUR_ZEROS: u32 = 1_111 * b'0' as u32;
 
-// The numbers of a date and a time of day.
+/// The numbers of a date and a time of day.
 #[derive(Clone, Copy)]
 struct Numbers {
     date: Date,
@@ -91,7 +92,7 @@ pub fn parse_rfc3339(s: &str) -> Result<SystemTime, TimestampError>
     parse_rfc3339_weak(s)
 }
 
-// At least 20 bytes, a `T` and a zone.
+/// At least 20 bytes, a `T` and a zone.
 #[inline(always)]
 #[tactic(auto, unfolding(crate::specs::Timestamps::Checks::is_complete))]
 fn is_complete(b: &[u8]) -> bool
@@ -100,7 +101,7 @@ fn is_complete(b: &[u8]) -> bool
     b.len() >= 20 && b[10] == b'T' && ends_in_zone(b)
 }
 
-// `Z` or `+00:00` at the end.
+/// `Z` or `+00:00` at the end.
 #[inline(always)]
 #[tactic(auto, using(crate::proofs::Timestamps::Reading::Ends::last_letter, crate::proofs::Timestamps::Reading::Ends::last_offset))]
 fn ends_in_zone(b: &[u8]) -> bool
@@ -110,7 +111,7 @@ fn ends_in_zone(b: &[u8]) -> bool
     b[b.len() - 1] == b'Z' || is_offset(&b[b.len() - 6..])
 }
 
-// The moment, or the error of the first check that fails.
+/// The moment, or the error of the first check that fails.
 #[inline(always)]
 #[tactic(auto, unfolding(crate::specs::References::Timestamps::Reading::weak_answer))]
 fn read_timestamp(b: &[u8]) -> Result<SystemTime, TimestampError>
@@ -131,7 +132,7 @@ fn read_timestamp(b: &[u8]) -> Result<SystemTime, TimestampError>
     Ok(SystemTime::since_epoch(secs, nanos))
 }
 
-// The signs between the numbers.
+/// The signs between the numbers.
 #[inline(always)]
 #[tactic(auto, unfolding(crate::specs::Timestamps::Checks::has_signs))]
 fn has_signs(b: &[u8]) -> bool
@@ -145,7 +146,7 @@ fn has_signs(b: &[u8]) -> bool
         && b[16] == b':'
 }
 
-// Digits in all places between the signs.
+/// Digits in all places between the signs.
 #[inline(always)]
 #[tactic(auto, using(crate::proofs::Timestamps::Reading::Lanes::digits_of_parts))]
 fn has_digits(b: &[u8]) -> bool
@@ -155,8 +156,8 @@ fn has_digits(b: &[u8]) -> bool
     has_front_digits(b) && has_two(b, 17)
 }
 
-// Digits in the first sixteen bytes, but for the signs. All are tested at once: a lane of the vector is how far
-// a byte is above `0`, and a byte below it wraps around to far above nine.
+/// Digits in the first sixteen bytes, but for the signs. All are tested at once: a lane of the vector is how far
+/// a byte is above `0`, and a byte below it wraps around to far above nine.
 #[inline(always)]
 fn has_front_digits(b: &[u8]) -> bool
     requires { 19 ≤ length b.now }
@@ -167,39 +168,39 @@ fn has_front_digits(b: &[u8]) -> bool
     other.to_bitmask() == 0
 }
 
-// Two digits from this place on.
+/// Two digits from this place on.
 #[inline(always)]
-#[tactic(auto, unfolding(crate::specs::Timestamps::Checks::has_two))]
+#[tactic(auto, unfolding(crate::specs::References::Timestamps::Reading::has_two))]
 fn has_two(b: &[u8], at: usize) -> bool
-    requires { at + 1 < length b.now }
-    ensures { result ≡ TimestampChecks.has_two b.now at }
+    requires { at + 2 ≤ length b.now }
+    ensures { result ≡ TimestampReading.has_two b.now at }
 {
     b[at].is_ascii_digit() && b[at + 1].is_ascii_digit()
 }
 
-// The number that two digits show. Where there are others, it is some number.
+/// The number that two digits show. Where there are others, it is some number.
 #[inline(always)]
 #[tactic(auto, using(crate::proofs::Timestamps::Reading::Numbers::two_read))]
 fn two_at(b: &[u8], at: usize) -> u32
-    requires { at + 1 < length b.now }
-    ensures { IsTrue (TimestampChecks.has_two b.now at) → result ≡ TimestampChecks.two_at b.now at }
+    requires { at + 2 ≤ length b.now }
+    ensures { IsTrue (TimestampReading.has_two b.now at) → result ≡ number b.now at (at + 2) }
 {
     (b[at] as u32 * 10 + b[at + 1] as u32).wrapping_sub(TWO_ZEROS)
 }
 
-// The number that four digits at the front show. Where there are others, it is some number.
+/// The number that four digits at the front show. Where there are others, it is some number.
 #[inline(always)]
 #[tactic(auto, using(crate::proofs::Timestamps::Reading::Numbers::year_read))]
 fn year_at_front(b: &[u8]) -> u32
     requires { 4 ≤ length b.now }
-    ensures { IsTrue (TimestampChecks.has_two b.now 0) → IsTrue (TimestampChecks.has_two b.now 2) → result ≡ (TimestampReading.date_at b.now).year }
+    ensures { IsTrue (TimestampReading.has_two b.now 0) → IsTrue (TimestampReading.has_two b.now 2) → result ≡ number b.now 0 4 }
 {
     (b[0] as u32 * 1_000 + b[1] as u32 * 100 + b[2] as u32 * 10 + b[3] as u32).wrapping_sub(
         FOUR_ZEROS,
     )
 }
 
-// The numbers that date and time show, where there are digits in all places.
+/// The numbers that date and time show, where there are digits in all places.
 #[inline(always)]
 fn numbers_at(b: &[u8]) -> Numbers
     requires { 19 ≤ length b.now }
@@ -217,7 +218,7 @@ fn numbers_at(b: &[u8]) -> Numbers
     }
 }
 
-// The seconds from 1970 to this date and time, where there are such.
+/// The seconds from 1970 to this date and time, where there are such.
 #[inline(always)]
 fn seconds_of(x: Numbers) -> Option<u64>
     ensures range { IsSome result ↔ AreInRange x }
@@ -232,7 +233,7 @@ fn seconds_of(x: Numbers) -> Option<u64>
     Some(days as u64 * 86_400 + time as u64)
 }
 
-// The nanoseconds, where the end is right.
+/// The nanoseconds, where the end is right.
 #[inline(always)]
 fn read_end(b: &[u8]) -> Result<u32, TimestampError>
     requires { 19 ≤ length b.now }
@@ -248,7 +249,7 @@ fn read_end(b: &[u8]) -> Result<u32, TimestampError>
     }
 }
 
-// The nanoseconds of a fraction, where the end after it is right.
+/// The nanoseconds of a fraction, where the end after it is right.
 #[inline(always)]
 fn read_fraction_end(rest: &[u8]) -> Result<u32, TimestampError>
     ensures value { result ≡ TimestampReading.fraction_answer rest.now }
@@ -262,7 +263,7 @@ fn read_fraction_end(rest: &[u8]) -> Result<u32, TimestampError>
     }
 }
 
-// A point after date and time.
+/// A point after date and time.
 #[inline(always)]
 fn has_point(b: &[u8]) -> bool
     ensures value { result ≡ TimestampChecks.has_point b.now }
@@ -271,7 +272,7 @@ fn has_point(b: &[u8]) -> bool
     b.len() > 19 && b[19] == b'.'
 }
 
-// Nothing, `Z` or `+00:00`.
+/// Nothing, `Z` or `+00:00`.
 #[inline(always)]
 fn is_zone(b: &[u8]) -> bool
     ensures { result ≡ TimestampChecks.is_zone b.now }
@@ -284,7 +285,7 @@ fn is_zone(b: &[u8]) -> bool
     }
 }
 
-// `+00:00`, of six bytes.
+/// `+00:00`, of six bytes.
 #[inline(always)]
 fn is_offset(b: &[u8]) -> bool
     requires { length b.now ≡ 6 }
@@ -293,7 +294,7 @@ fn is_offset(b: &[u8]) -> bool
     b[0] == b'+' && b[1] == b'0' && b[2] == b'0' && b[3] == b':' && b[4] == b'0' && b[5] == b'0'
 }
 
-// The number that three digits from this place on show, where there are three.
+/// The number that three digits from this place on show, where there are three.
 #[inline(always)]
 fn three_at(rest: &[u8], at: usize) -> Option<u32>
     requires { at ≤ length rest.now }
@@ -309,7 +310,7 @@ fn three_at(rest: &[u8], at: usize) -> Option<u32>
     Some((a - b'0') as u32 * 100 + (b - b'0') as u32 * 10 + (c - b'0') as u32)
 }
 
-// How many digits stand at the front in groups of three, and their nanoseconds, cut to nine digits.
+/// How many digits stand at the front in groups of three, and their nanoseconds, cut to nine digits.
 #[inline(always)]
 #[tactic(auto, using(crate::proofs::Timestamps::Reading::Fractions::read_none, crate::proofs::Timestamps::Reading::Fractions::read_three))]
 fn read_threes(rest: &[u8]) -> (usize, u32)
@@ -324,11 +325,11 @@ fn read_threes(rest: &[u8]) -> (usize, u32)
     (at, nanos)
 }
 
-// The nanoseconds of the digits at the front, cut to nine of them, and what stands after them.
+/// The nanoseconds of the digits at the front, cut to nine of them, and what stands after them.
 #[inline(always)]
 #[tactic(auto, using(crate::proofs::Timestamps::Reading::Fractions::read_more, crate::proofs::Timestamps::Reading::Fractions::read_stop, crate::proofs::Timestamps::Reading::Fractions::read_all))]
 fn read_fraction(rest: &[u8]) -> (u32, &[u8])
-    ensures value { result.0 ≡ nanos_of (TimestampReading.front_digits rest.now) }
+    ensures value { result.0 ≡ fraction_nanos (TimestampReading.front_digits rest.now) }
     ensures bound { result.0 < nanos_per_second }
     ensures rest { result.1.now ≡ TimestampChecks.past_digits rest.now }
 {
@@ -343,7 +344,7 @@ fn read_fraction(rest: &[u8]) -> (u32, &[u8])
     (nanos, b"")
 }
 
-// How many nanoseconds a 1 at this place of a fraction counts: none past the ninth.
+/// How many nanoseconds a 1 at this place of a fraction counts: none past the ninth.
 #[inline(always)]
 #[tactic(auto, using(crate::proofs::Timestamps::Reading::Fractions::no_weight))]
 fn weight_of(at: usize) -> u32

@@ -1,25 +1,26 @@
 //! The printers of timestamps.
 
-ghost use Rattle.std.specs.Prelude.{◌≡◌, ◌+◌, ◌/◌, ◌%◌, ◌<◌, ◌≤◌, ◌↔◌, IsSome, IfSome, IfNone, IsAscii, ◌++◌, take, drop, slice_set, codes};
+ghost use Rattle.std.specs.Prelude.{◌≡◌, ◌+◌, ◌/◌, ◌%◌, ◌<◌, ◌≤◌, ◌↔◌, IsSome, IfSome, IfNone, ◌++◌, take, drop, slice_set, codes};
 ghost use Rattle.std.specs.Str.{byte};
 ghost use Rattle.humantime.specs.Timestamps.Digits.{digit, two_digits};
-ghost use Rattle.humantime.specs.Timestamps.Fields.{time_text, written};
+ghost use Rattle.humantime.specs.Timestamps.Fields.{time_text, fields_text};
 ghost use Rattle.humantime.specs.Timestamps.Printed.{IsPrintable};
 ghost use Rattle.humantime.specs.References.Timestamps.Printing.{places, places_of, moment_kept, places_kept, IsTextOf, printed_text, shortest_text, fields_shown, IsDateTimeOf, FitsPlaces};
 
+use crate::buffer::front;
 use crate::calendar::{Date, date_of_day};
 use crate::turns::Turns;
 use crate::value::SystemTime;
-use std::{fmt, str};
+use std::fmt;
 
-// The first second of the year 10000.
+/// The first second of the year 10000.
 const END: i64 = 253_402_300_800;
 
-// The numbers below 100, in two digits each.
+/// The numbers below 100, in two digits each.
 static PAIRS: [u8; 200] =
     *b"00010203040506070809101112131415161718192021222324252627282930313233343536373839404142434445464748495051525354555657585960616263646566676869707172737475767778798081828384858687888990919293949596979899";
 
-// How many digits the fraction of a second has: none, three, six or nine.
+/// How many digits the fraction of a second has: none, three, six or nine.
 #[derive(Clone, Copy, PartialEq, Eq, Debug)]
 enum Precision {
     Seconds,
@@ -28,7 +29,7 @@ enum Precision {
     Nanos,
 }
 
-// A date and a time of day.
+/// A date and a time of day.
 #[derive(Clone, Copy)]
 struct DateTime {
     date: Date,
@@ -175,7 +176,7 @@ impl Rfc3339Timestamp {
         Some(front(buf, len))
     }
 
-    // Writes the text to the front of the buffer. `None`, and the buffer as it was, outside 1970 to 9999.
+    /// Writes the text to the front of the buffer. `None`, and the buffer as it was, outside 1970 to 9999.
     #[inline(always)]
     #[tactic(auto, unfolding(crate::specs::References::Timestamps::Printing::moment_kept))]
     pub(crate) fn write(&self, buf: &mut [u8; 30]) -> Option<usize>
@@ -212,7 +213,7 @@ impl fmt::Display for Rfc3339Timestamp {
     }
 }
 
-// The date and the time of day of a moment of 1970 to 9999.
+/// The date and the time of day of a moment of 1970 to 9999.
 #[inline(always)]
 fn date_time_of(moment: SystemTime) -> Option<DateTime>
     ensures within { IsSome result ↔ IsPrintable moment }
@@ -233,12 +234,12 @@ fn date_time_of(moment: SystemTime) -> Option<DateTime>
     })
 }
 
-// Writes date and time to the front of the buffer, and answers the text's length.
+/// Writes date and time to the front of the buffer, and answers the text's length.
 #[inline(always)]
 fn write_date_time(x: DateTime, precision: Precision, buf: &mut [u8; 30]) -> usize
     requires { FitsPlaces x }
     ensures fits { result ≤ 30 }
-    ensures text { take result buf.new ≡ written (fields_shown x (places precision)) }
+    ensures text { take result buf.new ≡ fields_text (fields_shown x (places precision)) }
 {
     write_time(x, buf);
     if precision == Precision::Seconds {
@@ -258,8 +259,8 @@ fn write_date_time(x: DateTime, precision: Precision, buf: &mut [u8; 30]) -> usi
     end_at(buf, 29)
 }
 
-// Writes `YYYY-MM-DDTHH:MM:SS` and a point to the front of the buffer. The signs come with the pattern, and
-// the digits take the place of its letters.
+/// Writes `YYYY-MM-DDTHH:MM:SS` and a point to the front of the buffer. The signs come with the pattern, and
+/// the digits take the place of its letters.
 #[inline(always)]
 fn write_time(x: DateTime, buf: &mut [u8; 30])
     requires { FitsPlaces x }
@@ -275,7 +276,7 @@ fn write_time(x: DateTime, buf: &mut [u8; 30])
     put_two(buf, 17, x.second);
 }
 
-// The two digits of a number below 100.
+/// The two digits of a number below 100.
 #[inline(always)]
 #[tactic(auto, using(crate::proofs::Timestamps::Printing::Pairs::tens_at, crate::proofs::Timestamps::Printing::Pairs::ones_at))]
 fn digits_of(n: u32) -> (u8, u8)
@@ -287,7 +288,7 @@ fn digits_of(n: u32) -> (u8, u8)
     (PAIRS[pair], PAIRS[pair + 1])
 }
 
-// Writes a number below 100 as two digits at this place. Two stores are one move, where a copied slice is a call.
+/// Writes a number below 100 as two digits at this place. Two stores are one move, where a copied slice is a call.
 #[inline(always)]
 #[tactic(auto, using(crate::proofs::Timestamps::Printing::Pairs::two_set))]
 fn put_two(buf: &mut [u8; 30], at: usize, n: u32)
@@ -300,7 +301,7 @@ fn put_two(buf: &mut [u8; 30], at: usize, n: u32)
     buf[at + 1] = ones;
 }
 
-// Writes a `Z` at this place, and answers the length of the text that it ends.
+/// Writes a `Z` at this place, and answers the length of the text that it ends.
 #[inline(always)]
 fn end_at(buf: &mut [u8; 30], at: usize) -> usize
     requires { at < 30 }
@@ -309,14 +310,4 @@ fn end_at(buf: &mut [u8; 30], at: usize) -> usize
 {
     buf[at] = b'Z';
     at + 1
-}
-
-// ASCII text at the front of a buffer.
-#[inline(always)]
-fn front(buf: &[u8; 30], len: usize) -> &str
-    requires fits { len ≤ 30 }
-    requires ascii { IsAscii (take len buf.now) }
-    ensures { result.now ≡ take len buf.now }
-{
-    unsafe { str::from_utf8_unchecked(&buf[..len]) }
 }

@@ -171,7 +171,7 @@ impl SystemTime {
         }
     }
 
-    // The moment so many seconds and nanoseconds after 1970 began.
+    /// The moment so many seconds and nanoseconds after 1970 began.
     #[inline(always)]
     pub(crate) fn since_epoch(secs: u64, nanos: u32) -> SystemTime
         requires secs { secs < 2 ^ 63 }
@@ -184,7 +184,7 @@ impl SystemTime {
         }
     }
 
-    // The time from a moment that is not later.
+    /// The time from a moment that is not later.
     fn since(self, earlier: SystemTime) -> StdDuration
         requires { earlier ≤ℤ self }
         ensures { self ≡ earlier +ℤ pos result }
@@ -198,7 +198,7 @@ impl SystemTime {
     }
 }
 
-// The second that is later by so many seconds and a carry, where it fits.
+/// The second that is later by so many seconds and a carry, where it fits.
 fn later_second(second: i64, secs: u64, carry: u32) -> Option<i64>
     ensures fits { IsSome result ↔ ((second +ℤ pos (secs + carry)) <ℤ pos (2 ^ 63)) }
     ensures value { IfSome result (λ s. s ≡ second +ℤ pos (secs + carry)) }

@@ -6,7 +6,7 @@ use Rattle.std.specs.Str.Parse.{digits_value_after}
 use Rattle.std.proofs.lemmas.Str.{digit_value_digit}
 use Rattle.humantime.specs.Calendar.Dates.{day_of}
 use Rattle.humantime.specs.Timestamps.Digits.{AreDigits}
-use Rattle.humantime.specs.Timestamps.Fields.{fraction_digits, nanos_of, written}
+use Rattle.humantime.specs.Timestamps.Fields.{fraction_digits, fraction_nanos, fields_text}
 use Rattle.humantime.specs.Timestamps.Printed.{HasPlaces, IsPrinted}
 use Rattle.humantime.proofs.Dates.DaysOfDates.{same_date}
 use Rattle.humantime.proofs.Timestamps.Reading.Fractions.{nanos_bound}
@@ -32,17 +32,17 @@ same_filled (suc k) (x ∷ xs) (y ∷ ys) zs m n d e long room h =
     let digit : x ≡ y = omega (arith, rest.0, first, second, d.0, e.0) in
     (front, λ i. digit i ∷ rest.1 i)
 
-same_nanos : (ds es : List ℕ) → AreDigits ds → AreDigits es → length ds ≡ length es → length ds ≤ 9 → nanos_of ds ≡ nanos_of es → ds ≡ es
-unfolding nanos_of
+same_nanos : (ds es : List ℕ) → AreDigits ds → AreDigits es → length ds ≡ length es → length ds ≤ 9 → fraction_nanos ds ≡ fraction_nanos es → ds ≡ es
+unfolding fraction_nanos
 same_nanos ds es d e long room h = (same_filled 9 ds es (codes "000000000") 0 0 d e long room h).1
 
 same_fraction : (k : ℕ) (p q : Option (List ℕ)) → k ≤ 9 → HasPlaces p k → HasPlaces q k → AreDigits (fraction_digits p) → AreDigits (fraction_digits q)
-    → nanos_of (fraction_digits p) ≡ nanos_of (fraction_digits q) → p ≡ q
+    → fraction_nanos (fraction_digits p) ≡ fraction_nanos (fraction_digits q) → p ≡ q
 same_fraction zero p q small h g d e same = h ∙ sym g
 same_fraction (suc k) p q small h g d e same =
     let first : AreDigits h.0 = subst (λ (o : Option (List ℕ)). AreDigits (fraction_digits o)) h.1 d in
     let second : AreDigits g.0 = subst (λ (o : Option (List ℕ)). AreDigits (fraction_digits o)) g.1 e in
-    let nanos : nanos_of h.0 ≡ nanos_of g.0 = sym (ap (λ (o : Option (List ℕ)). nanos_of (fraction_digits o)) h.1) ∙ (same ∙ ap (λ (o : Option (List ℕ)). nanos_of (fraction_digits o)) g.1) in
+    let nanos : fraction_nanos h.0 ≡ fraction_nanos g.0 = sym (ap (λ (o : Option (List ℕ)). fraction_nanos (fraction_digits o)) h.1) ∙ (same ∙ ap (λ (o : Option (List ℕ)). fraction_nanos (fraction_digits o)) g.1) in
     let digits : h.0 ≡ g.0 = same_nanos h.0 g.0 first second (h.2 ∙ sym g.2) (omega (arith, h.2)) nanos in
     h.1 ∙ (ap Some digits ∙ sym g.1)
 
@@ -64,8 +64,8 @@ same_fields : (t : ℤ) (k : ℕ) (x y : List ℕ) → k ≤ 9 → (p : IsPrinte
 same_fields t k x y small p q =
     let f = p.fields in
     let g = q.fields in
-    let clock = same_clock (day_of f.date) f.hour f.minute f.second (nanos_of (fraction_digits f.fraction))
-    (day_of g.date) g.hour g.minute g.second (nanos_of (fraction_digits g.fraction))
+    let clock = same_clock (day_of f.date) f.hour f.minute f.second (fraction_nanos (fraction_digits f.fraction))
+    (day_of g.date) g.hour g.minute g.second (fraction_nanos (fraction_digits g.fraction))
     p.weak.hour p.weak.minute p.second (nanos_bound _ p.weak.fraction)
     q.weak.hour q.weak.minute q.second (nanos_bound _ q.weak.fraction) (ap nat_abs (p.moment ∙ sym q.moment)) in
     let date = same_date f.date g.date p.weak.date q.weak.date clock.0 in
@@ -83,4 +83,4 @@ same_fields t k x y small p q =
     }
 
 pub same_printed : (t : ℤ) (k : ℕ) (x y : List ℕ) → k ≤ 9 → IsPrinted t k x → IsPrinted t k y → x ≡ y
-same_printed t k x y small p q = p.weak.shown ∙ (ap written (same_fields t k x y small p q) ∙ sym q.weak.shown)
+same_printed t k x y small p q = p.weak.shown ∙ (ap fields_text (same_fields t k x y small p q) ∙ sym q.weak.shown)

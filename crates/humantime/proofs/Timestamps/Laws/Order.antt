@@ -15,10 +15,11 @@ use Rattle.humantime.specs.declared.calendar.Date.{Date}
 use Rattle.humantime.specs.Calendar.Years.{days_of_years, days_of_months}
 use Rattle.humantime.specs.Calendar.Dates.{IsDate, day_of}
 use Rattle.humantime.specs.Timestamps.Digits.{two_digits, four_digits, AreDigits}
-use Rattle.humantime.specs.Timestamps.Fields.{Fields, fraction_text, fraction_digits, nanos_of, moment_of}
+use Rattle.humantime.specs.Timestamps.Fields.{Fields, fraction_text, fraction_digits, fraction_nanos, moment_of}
 use Rattle.humantime.specs.Timestamps.Printed.{HasPlaces, IsPrinted}
 use Rattle.humantime.specs.Timestamps.Laws.{InOrder}
 use Rattle.humantime.proofs.Dates.DaysOfDates.{before_year, before_month}
+use Rattle.humantime.proofs.Dates.Years.{AreWithin, valid_told}
 use Rattle.humantime.proofs.Timestamps.Reading.Fractions.{nanos_bound}
 
 cmp_less : (x y : ℕ) → x < y → nat_cmp x y ≡ Less
@@ -117,29 +118,35 @@ filled_cmp (suc k) (x ∷ xs) (y ∷ ys) zs ws m n d e long room =
     ∙ filled_cmp k xs ys zs ws (m * 10 + digit_value x) (n * 10 + digit_value y) d.1 e.1 (omega arith) (omega arith))
 
 nanos_cmp : (ds es ws : List ℕ) → AreDigits ds → AreDigits es → length ds ≡ length es → length ds ≤ 9
-    → slice_cmp nat_cmp (ds ++ ws) (es ++ ws) ≡ ordering_then (nat_cmp (nanos_of ds) (nanos_of es)) (slice_cmp nat_cmp ws ws)
-unfolding nanos_of
+    → slice_cmp nat_cmp (ds ++ ws) (es ++ ws) ≡ ordering_then (nat_cmp (fraction_nanos ds) (fraction_nanos es)) (slice_cmp nat_cmp ws ws)
+unfolding fraction_nanos
 nanos_cmp ds es ws d e long room = filled_cmp 9 ds es (codes "000000000") ws 0 0 d e long room
 
 fraction_cmp : (k : ℕ) (p q : Option (List ℕ)) → k ≤ 9 → HasPlaces p k → HasPlaces q k → AreDigits (fraction_digits p) → AreDigits (fraction_digits q)
-    → slice_cmp nat_cmp (fraction_text p ++ codes "Z") (fraction_text q ++ codes "Z") ≡ nat_cmp (nanos_of (fraction_digits p)) (nanos_of (fraction_digits q))
-fraction_cmp zero p q small h g d e = rw (h, g) (sym (cmp_equal (nanos_of []) (nanos_of []) refl))
+    → slice_cmp nat_cmp (fraction_text p ++ codes "Z") (fraction_text q ++ codes "Z") ≡ nat_cmp (fraction_nanos (fraction_digits p)) (fraction_nanos (fraction_digits q))
+fraction_cmp zero p q small h g d e = rw (h, g) (sym (cmp_equal (fraction_nanos []) (fraction_nanos []) refl))
 fraction_cmp (suc k) p q small h g d e =
     let first : AreDigits h.0 = subst (λ (o : Option (List ℕ)). AreDigits (fraction_digits o)) h.1 d in
     let second : AreDigits g.0 = subst (λ (o : Option (List ℕ)). AreDigits (fraction_digits o)) g.1 e in
-    rw (h.1, g.1) (nanos_cmp h.0 g.0 (codes "Z") first second (h.2 ∙ sym g.2) (omega (arith, h.2)) ∙ then_equal (nat_cmp (nanos_of h.0) (nanos_of g.0)))
+    rw (h.1, g.1) (nanos_cmp h.0 g.0 (codes "Z") first second (h.2 ∙ sym g.2) (omega (arith, h.2)) ∙ then_equal (nat_cmp (fraction_nanos h.0) (fraction_nanos g.0)))
 
 -- dates and their days
 day_cmp : (a b : Date) (o : Ordering) → IsDate a → IsDate b
     → ordering_then (nat_cmp a.year b.year) (ordering_then (nat_cmp a.month b.month) (ordering_then (nat_cmp a.day b.day) o))
     ≡ ordering_then (nat_cmp (day_of a) (day_of b)) o
 day_cmp a b o va vb = by_year (cases_order a.year b.year) where
+  left : AreWithin a.year a.month a.day
+  left = valid_told a.year a.month a.day va
+
+  right : AreWithin b.year b.month b.day
+  right = valid_told b.year b.month b.day vb
+
   by_day : a.year ≡ b.year → a.month ≡ b.month → ordering_then (nat_cmp a.day b.day) o ≡ ordering_then (nat_cmp (day_of a) (day_of b)) o
   by_day y m =
       let years : days_of_years (a.year - 1970) ≡ days_of_years (b.year - 1970) = ap (λ (k : ℕ). days_of_years (k - 1970)) y in
       let months : days_of_months a.year (a.month - 1) ≡ days_of_months b.year (b.month - 1) = λ i. days_of_months (y i) (m i - 1) in
       ap (λ (c : Ordering). ordering_then c o) (cmp_alike a.day b.day (day_of a) (day_of b)
-      ((λ h. omega (arith, va.2.0, vb.2.0)), (λ h. omega (arith, va.2.0, vb.2.0)), (λ h. omega (arith, va.2.0, vb.2.0))))
+      ((λ h. omega (arith, left.2.0, right.2.0)), (λ h. omega (arith, left.2.0, right.2.0)), (λ h. omega (arith, left.2.0, right.2.0))))
 
   by_month : a.year ≡ b.year → (a.month ≡ b.month) ⊎ ((a.month < b.month) ⊎ (b.month < a.month))
       → ordering_then (nat_cmp a.month b.month) (ordering_then (nat_cmp a.day b.day) o) ≡ ordering_then (nat_cmp (day_of a) (day_of b)) o
@@ -147,22 +154,22 @@ day_cmp a b o va vb = by_year (cases_order a.year b.year) where
   by_month y (inr (inl less)) =
       let years : days_of_years (a.year - 1970) ≡ days_of_years (b.year - 1970) = ap (λ (k : ℕ). days_of_years (k - 1970)) y in
       let months : days_of_months a.year (b.month - 1) ≡ days_of_months b.year (b.month - 1) = ap (λ (k : ℕ). days_of_months k (b.month - 1)) y in
-      let before = before_month a.year a.month a.day va b.month less in
+      let before = before_month a.year a.month a.day left b.month less in
       rw (cmp_less a.month b.month less, cmp_less (day_of a) (day_of b) (omega (arith, before))) refl
   by_month y (inr (inr more)) =
       let years : days_of_years (a.year - 1970) ≡ days_of_years (b.year - 1970) = ap (λ (k : ℕ). days_of_years (k - 1970)) y in
       let months : days_of_months a.year (a.month - 1) ≡ days_of_months b.year (a.month - 1) = ap (λ (k : ℕ). days_of_months k (a.month - 1)) y in
-      let before = before_month b.year b.month b.day vb a.month more in
+      let before = before_month b.year b.month b.day right a.month more in
       rw (cmp_greater a.month b.month more, cmp_greater (day_of a) (day_of b) (omega (arith, before))) refl
 
   by_year : (a.year ≡ b.year) ⊎ ((a.year < b.year) ⊎ (b.year < a.year))
       → ordering_then (nat_cmp a.year b.year) (ordering_then (nat_cmp a.month b.month) (ordering_then (nat_cmp a.day b.day) o)) ≡ ordering_then (nat_cmp (day_of a) (day_of b)) o
   by_year (inl y) = rw (cmp_equal a.year b.year y) (by_month y (cases_order a.month b.month))
   by_year (inr (inl less)) =
-      let before = before_year a.year a.month a.day va b.year less in
+      let before = before_year a.year a.month a.day left b.year less in
       rw (cmp_less a.year b.year less, cmp_less (day_of a) (day_of b) (omega (arith, before))) refl
   by_year (inr (inr more)) =
-      let before = before_year b.year b.month b.day vb a.year more in
+      let before = before_year b.year b.month b.day right a.year more in
       rw (cmp_greater a.year b.year more, cmp_greater (day_of a) (day_of b) (omega (arith, before))) refl
 
 -- a text with these numbers in their places, and then this end
@@ -224,9 +231,9 @@ printed_order a b k x y small p q =
     let fraction = fraction_cmp k f.fraction g.fraction small p.places q.places p.weak.fraction q.weak.fraction in
     let text = shape_cmp f.date.year f.date.month f.date.day f.hour f.minute f.second g.date.year g.date.month g.date.day g.hour g.minute g.second
     (fraction_text f.fraction ++ codes "Z") (fraction_text g.fraction ++ codes "Z") in
-    let day = day_cmp f.date g.date (then_cmp f.hour g.hour (then_cmp f.minute g.minute (then_cmp f.second g.second (nat_cmp (nanos_of (fraction_digits f.fraction)) (nanos_of (fraction_digits g.fraction)))))) p.weak.date q.weak.date in
-    let clock = clock_cmp (day_of f.date) f.hour f.minute f.second (nanos_of (fraction_digits f.fraction))
-    (day_of g.date) g.hour g.minute g.second (nanos_of (fraction_digits g.fraction))
+    let day = day_cmp f.date g.date (then_cmp f.hour g.hour (then_cmp f.minute g.minute (then_cmp f.second g.second (nat_cmp (fraction_nanos (fraction_digits f.fraction)) (fraction_nanos (fraction_digits g.fraction)))))) p.weak.date q.weak.date in
+    let clock = clock_cmp (day_of f.date) f.hour f.minute f.second (fraction_nanos (fraction_digits f.fraction))
+    (day_of g.date) g.hour g.minute g.second (fraction_nanos (fraction_digits g.fraction))
     p.weak.hour p.weak.minute p.second (nanos_bound _ p.weak.fraction)
     q.weak.hour q.weak.minute q.second (nanos_bound _ q.weak.fraction) in
     let moments = pos_cmp (moment_of f) (moment_of g) ∙ (λ i. int_cmp (p.moment i) (q.moment i)) in

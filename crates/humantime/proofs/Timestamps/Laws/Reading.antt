@@ -5,7 +5,7 @@ use Rattle.humantime.specs.declared.date.error.TimestampError.{TimestampError}
 use Rattle.humantime.specs.declared.date.error.TimestampError.TheVariants.{InvalidFormat}
 use Rattle.humantime.specs.Timestamps.Fields.{Fields, IsWeak, IsStrict, moment_of, IsWeakMoment, IsStrictMoment}
 use Rattle.humantime.specs.Timestamps.Checks.{is_complete, weak_checks, strict_checks, first_failed}
-use Rattle.humantime.specs.References.Timestamps.Reading.{fields_of, answer, weak_answer, strict_answer}
+use Rattle.humantime.specs.References.Timestamps.Reading.{fields_of, moment_or_error, weak_answer, strict_answer}
 use Rattle.humantime.specs.Timestamps.Laws.{OneTimestamp, StrictMomentIsWeak}
 use Rattle.humantime.proofs.Timestamps.Reading.Checks.{passes_from, passes_none}
 use Rattle.humantime.proofs.Timestamps.Reading.Shown.{fields_weak}
@@ -13,14 +13,14 @@ use Rattle.humantime.proofs.Timestamps.Reading.Passed.{weak_fields}
 use Rattle.humantime.proofs.Timestamps.Laws.StrictForm.{strict_is_weak, strict_complete, complete_strict}
 
 -- an answer is a moment exactly where no check failed
-answer_told : (o : Option TimestampError) (n : ℕ) (t : ℤ) → answer o n ≡ Ok t → (o ≡ None) × (t ≡ pos n)
+answer_told : (o : Option TimestampError) (n : ℕ) (t : ℤ) → moment_or_error o n ≡ Ok t → (o ≡ None) × (t ≡ pos n)
 answer_told None n t h = (refl, cc)
 answer_told (Some e) n t h = absurd (cc)
 
-answer_none : (o : Option TimestampError) (n : ℕ) → o ≡ None → answer o n ≡ Ok (pos n)
+answer_none : (o : Option TimestampError) (n : ℕ) → o ≡ None → moment_or_error o n ≡ Ok (pos n)
 answer_none o n h = rw h refl
 
-failed_told : (o : Option TimestampError) (n : ℕ) (e : TimestampError) → (answer o n ≡ Err e) ↔ (o ≡ Some e)
+failed_told : (o : Option TimestampError) (n : ℕ) (e : TimestampError) → (moment_or_error o n ≡ Err e) ↔ (o ≡ Some e)
 failed_told None n e = ((λ h. absurd (cc)), (λ h. absurd (cc)))
 failed_told (Some d) n e = ((λ h. let same : d ≡ e = cc in ap Some same), (λ h. let same : d ≡ e = cc in ap Err same))
 

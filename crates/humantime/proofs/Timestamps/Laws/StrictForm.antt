@@ -6,7 +6,7 @@ use Rattle.std.specs.Prelude.{nat_eq, nat_le}
 use Rattle.std.proofs.lemmas.Bool.{and_parts, and_from, or_cases, or_left, or_right, eqb-true, eq-eqb, le-leb}
 use Rattle.std.proofs.lemmas.List.Prefix.{end_rest}
 use Rattle.std.proofs.lemmas.Slice.Eq.{bytes_eq-Decides}
-use Rattle.humantime.specs.Timestamps.Fields.{Separator, Letter_T, Space, Zone, Nothing, Letter_Z, Offset, Fields, separator_byte, fraction_text, zone_text, time_text, written, IsWeak, IsStrict}
+use Rattle.humantime.specs.Timestamps.Fields.{Separator, Letter_T, Space, Zone, Nothing, Letter_Z, Offset, Fields, separator_byte, fraction_text, zone_text, time_text, fields_text, IsWeak, IsStrict}
 use Rattle.humantime.specs.Timestamps.Checks.{ends_in_zone, is_complete}
 use Rattle.humantime.specs.Timestamps.Laws.{StrictIsWeak}
 use Rattle.humantime.proofs.Timestamps.Reading.Bytes.{HoldsOfBytes, holds_before_zone, all_append, all_drop}
@@ -81,9 +81,9 @@ unfolding is_complete
 strict_complete b f s =
     let marked = ((strict_is_weak b f).0 s).1 in
     let zone = zone_length f.zone s.zone in
-    let whole : length (written f) ≡ length (time_text f ++ fraction_text f.fraction) + length (zone_text f.zone) = length-append (time_text f ++ fraction_text f.fraction) (zone_text f.zone) in
+    let whole : length (fields_text f) ≡ length (time_text f ++ fraction_text f.fraction) + length (zone_text f.zone) = length-append (time_text f ++ fraction_text f.fraction) (zone_text f.zone) in
     let before : length (time_text f ++ fraction_text f.fraction) ≡ 19 + length (fraction_text f.fraction) = length-append (time_text f) (fraction_text f.fraction) in
-    let shown : length b ≡ length (written f) = ap length s.weak.shown in
+    let shown : length b ≡ length (fields_text f) = ap length s.weak.shown in
     let long : nat_le 20 (length b) ≡ true = le-leb 20 (length b) (omega arith) in
     and_from _ _ (and_from _ _ long (eq-eqb _ _ marked.0)) marked.1
 

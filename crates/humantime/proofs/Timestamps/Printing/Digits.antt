@@ -4,9 +4,9 @@ use Rattle.std.proofs.Math.Nat.{pow-suc, mod-le, mul-add-mod_self_right, one-le-
 use Rattle.std.proofs.lemmas.List.{length-take-le}
 use Rattle.std.proofs.lemmas.Nat.{pow-add, div-add-mod', mod_below, mul-add-lt, mod-mul-add}
 use Rattle.humantime.specs.Timestamps.Digits.{nine_digits, AreDigits}
-use Rattle.humantime.specs.Timestamps.Fields.{fraction_digits, nanos_of}
+use Rattle.humantime.specs.Timestamps.Fields.{fraction_digits, fraction_nanos}
 use Rattle.humantime.specs.Timestamps.Printed.{HasPlaces}
-use Rattle.humantime.specs.References.Timestamps.Printing.{fraction_of}
+use Rattle.humantime.specs.References.Timestamps.Printing.{cut_fraction}
 use Rattle.humantime.specs.References.Timestamps.Fractions.{add_digits}
 use Rattle.humantime.proofs.Timestamps.Reading.Fractions.{nanos_added}
 
@@ -80,23 +80,23 @@ last_are_digits (suc k) (suc j) n = (digit_in (n / 10 ^ j % 10) (omega arith), l
 first_are_digits : (k n : ℕ) → n < 1_000_000_000 → AreDigits (take k (nine_digits n))
 first_are_digits k n h = subst (λ (ds : List ℕ). AreDigits (take k ds)) (nine_is n h) (last_are_digits k 9 n)
 
-fraction_is : (k n : ℕ) → fraction_digits (fraction_of n k) ≡ take k (nine_digits n)
+fraction_is : (k n : ℕ) → fraction_digits (cut_fraction n k) ≡ take k (nine_digits n)
 fraction_is zero n = refl
 fraction_is (suc k) n = refl
 
-pub shown_digits : (k n : ℕ) → n < 1_000_000_000 → AreDigits (fraction_digits (fraction_of n k))
+pub shown_digits : (k n : ℕ) → n < 1_000_000_000 → AreDigits (fraction_digits (cut_fraction n k))
 shown_digits k n h = rw (fraction_is k n) (first_are_digits k n h)
 
-pub shown_places : (k n : ℕ) → k ≤ 9 → HasPlaces (fraction_of n k) k
+pub shown_places : (k n : ℕ) → k ≤ 9 → HasPlaces (cut_fraction n k) k
 shown_places zero n h = refl
 shown_places (suc k) n h = (take (suc k) (nine_digits n), refl, length-take-le (suc k) (nine_digits n) h)
 
-pub shown_nanos : (k n : ℕ) → k ≤ 9 → n < 1_000_000_000 → nanos_of (fraction_digits (fraction_of n k)) ≡ n - n % 10 ^ (9 - k)
+pub shown_nanos : (k n : ℕ) → k ≤ 9 → n < 1_000_000_000 → fraction_nanos (fraction_digits (cut_fraction n k)) ≡ n - n % 10 ^ (9 - k)
 shown_nanos k n small h =
     let whole : n % 1_000_000_000 ≡ n = omega arith in
     let sum : add_digits 0 100_000_000 (take k (last_digits 9 n)) + n % 10 ^ (9 - k) ≡ 0 + n % 1_000_000_000 = sum_of_digits k 9 n 0 small in
     let nine : add_digits 0 100_000_000 (take k (nine_digits n)) + n % 10 ^ (9 - k) ≡ 0 + n % 1_000_000_000 = rw (nine_is n h) at sum in
-    ap nanos_of (fraction_is k n) ∙ (nanos_added (take k (nine_digits n)) (first_are_digits k n h) ∙ omega arith)
+    ap fraction_nanos (fraction_is k n) ∙ (nanos_added (take k (nine_digits n)) (first_are_digits k n h) ∙ omega arith)
 
 -- cutting a moment cuts its nanoseconds
 pub cut_nanos : (k s n : ℕ) → k ≤ 9

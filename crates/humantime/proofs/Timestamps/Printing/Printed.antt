@@ -13,7 +13,7 @@ use Rattle.humantime.specs.declared.date.print.Rfc3339Timestamp.{Rfc3339Timestam
 use Rattle.humantime.specs.Calendar.Dates.{day_of}
 use Rattle.humantime.specs.References.Calendar.DatesOfDays.{date_of}
 use Rattle.humantime.specs.Values.Moments.{nano_of}
-use Rattle.humantime.specs.Timestamps.Fields.{Letter_Z, Nothing, written, time_text, fraction_text, zone_text, moment_of}
+use Rattle.humantime.specs.Timestamps.Fields.{Letter_Z, Nothing, fields_text, time_text, fraction_text, zone_text, moment_of}
 use Rattle.humantime.specs.Timestamps.Printed.{cut, IsPrinted, IsPrintable, ReadsAs, OnePrinted}
 use Rattle.humantime.specs.References.Timestamps.Printing.{places, moment_kept, places_kept, places_of, fields_shown, fields_at, IsDateTimeOf, IsTextOf, printed_text, moment_text}
 use Rattle.humantime.proofs.Timestamps.Reading.Bytes.{HoldsOfBytes, holds_before_zone, all_append}
@@ -50,7 +50,7 @@ shown_moment x t k small h =
     let whole : seconds * 1_000_000_000 + x.nanos ≡ t = cc in
     rw (second, nanos) (cut_nanos k seconds x.nanos small ∙ ap (λ (m : ℕ). m - m % 10 ^ (9 - k)) whole)
 
-pub shown_printed : (x : DateTime) (t : ℤ) (k : ℕ) → k ≤ 9 → IsDateTimeOf x t → IsPrinted t k (written (fields_shown x k))
+pub shown_printed : (x : DateTime) (t : ℤ) (k : ℕ) → k ≤ 9 → IsDateTimeOf x t → IsPrinted t k (fields_text (fields_shown x k))
 shown_printed x (negsuc t) k small h = absurd (let whole = h.sum in let no : ⊥ = cc in no)
 shown_printed x (pos t) k small h = record {
   fields = fields_shown x k;
@@ -139,7 +139,7 @@ date_time_is t h =
       clock_second s = omega arith
 
 -- the text that is found for such a moment is its printed one
-found_printed : (t k : ℕ) → k ≤ 9 → t < 253_402_300_800 * 1_000_000_000 → IsPrinted (pos t) k (written (fields_at t k))
+found_printed : (t k : ℕ) → k ≤ 9 → t < 253_402_300_800 * 1_000_000_000 → IsPrinted (pos t) k (fields_text (fields_at t k))
 unfolding date_time_of
 found_printed t k small within = shown_printed (date_time_of t) (pos t) k small (date_time_is t within)
 
@@ -148,7 +148,7 @@ text_told : (t : ℤ) (k : ℕ) (text : List ℕ) → k ≤ 9 → moment_text t 
 unfolding moment_text
 text_told (negsuc t) k text small h = absurd (none-some _ h)
 text_told (pos t) k text small h = by_test (nat_lt t (253_402_300_800 * 1_000_000_000)) refl h where
-  by_test : (b : Bool) → nat_lt t (253_402_300_800 * 1_000_000_000) ≡ b → (if b then Some (written (fields_at t k)) else None) ≡ Some text
+  by_test : (b : Bool) → nat_lt t (253_402_300_800 * 1_000_000_000) ≡ b → (if b then Some (fields_text (fields_at t k)) else None) ≡ Some text
       → IsPrintable (pos t) × IsPrinted (pos t) k text
   by_test true e s =
       let within : t < 253_402_300_800 * 1_000_000_000 = ltb-true _ _ e in
@@ -160,7 +160,7 @@ unfolding moment_text
 text_from (negsuc t) k text small h p = absurd (omega (arith, ints, h.0))
 text_from (pos t) k text small h p =
     let within : t < 253_402_300_800 * 1_000_000_000 = omega (arith, ints, h.1) in
-    rw (lt-ltb t (253_402_300_800 * 1_000_000_000) within) (ap Some (one_text (pos t) k (written (fields_at t k)) text small (found_printed t k small within) p))
+    rw (lt-ltb t (253_402_300_800 * 1_000_000_000) within) (ap Some (one_text (pos t) k (fields_text (fields_at t k)) text small (found_printed t k small within) p))
 
 pub text_displayed : (t : ℤ) (k : ℕ) (text : List ℕ) → k ≤ 9 → (moment_text t k ≡ Some text) ↔ (IsPrintable t × IsPrinted t k text)
 text_displayed t k text small = (text_told t k text small, (λ p. text_from t k text small p.0 p.1))
@@ -183,8 +183,8 @@ one_printed (pos t) k small h =
     let within : t < 253_402_300_800 * 1_000_000_000 = omega (arith, ints, h.1) in
     let printed = found_printed t k small within in
     record {
-      text = written (fields_at t k);
+      text = fields_text (fields_at t k);
       printed = printed;
-      only = λ other p. one_text (pos t) k other (written (fields_at t k)) small p printed;
-      reads = printed_reads (pos t) k (written (fields_at t k)) printed;
+      only = λ other p. one_text (pos t) k other (fields_text (fields_at t k)) small p printed;
+      reads = printed_reads (pos t) k (fields_text (fields_at t k)) printed;
     }

@@ -5,6 +5,7 @@ use Rattle.std.specs.Int.{IsInRange}
 use Rattle.std.specs.List.{AllByRecursion}
 use Rattle.humantime.specs.Timestamps.Digits.{AreDigits}
 use Rattle.humantime.specs.Timestamps.Fields.{Separator, Letter_T, Space, Fields, separator_byte, fraction_text, fraction_digits, time_text, IsWeak}
+use Rattle.humantime.proofs.Dates.Years.{valid_told}
 use Rattle.humantime.proofs.Timestamps.Reading.Passed.{month_most}
 
 pub all_append : (P : ℕ → Type 0) (xs ys : List ℕ) → AllByRecursion P xs → AllByRecursion P ys → AllByRecursion P (xs ++ ys)
@@ -56,9 +57,10 @@ pub holds_before_zone : (P : ℕ → Type 0) → HoldsOfBytes P → (text : List
     → AllByRecursion P (time_text f ++ fraction_text f.fraction)
 holds_before_zone P p text f w =
     let most = month_most f.date.year f.date.month in
-    let y = four_hold P p f.date.year w.date.0.1 in
-    let m = two_hold P p f.date.month (omega (arith, w.date.1.1)) in
-    let d = two_hold P p f.date.day (omega (arith, w.date.2.1, most)) in
+    let date = valid_told f.date.year f.date.month f.date.day w.date in
+    let y = four_hold P p f.date.year date.0.1 in
+    let m = two_hold P p f.date.month (omega (arith, date.1.1)) in
+    let d = two_hold P p f.date.day (omega (arith, date.2.1, most)) in
     let s = separator_holds P p f.separator in
     let h = two_hold P p f.hour (omega (arith, w.hour)) in
     let i = two_hold P p f.minute (omega (arith, w.minute)) in

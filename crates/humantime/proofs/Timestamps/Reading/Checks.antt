@@ -1,17 +1,19 @@
 -- What the checks on a timestamp say, one by one.
-use Rattle.std.proofs.Common.{◌≡◌, ℕ, ◌<◌, ◌≤◌, List, [], ◌∷◌, ◌++◌, length, get_or, drop, ◌⊎◌, inl, inr, refl, ap, ◌∙◌, arith}
+use Rattle.std.proofs.Common.{◌≡◌, ℕ, ◌<◌, ◌≤◌, List, [], ◌∷◌, ◌++◌, length, get_or, drop, ◌⊎◌, inl, inr, refl, sym, ap, ◌∙◌, arith}
 use Rattle.std.specs.Prelude.{Bool, true, false, not, ◌||◌, ◌==◌, codes, slice_index, Option, Some, None, if◌then◌else◌}
 use Rattle.std.specs.Bool.{Decides}
 use Rattle.std.specs.Char.{is_ascii_digit}
 use Rattle.std.proofs.Math.Seq.{drop-cons}
+use Rattle.std.specs.List.{list_all}
+use Rattle.std.proofs.Math.Bool.{and_assoc, and-true}
 use Rattle.std.proofs.lemmas.Bool.{and_parts, cases_lt, eqb-true}
 use Rattle.std.proofs.Math.ListN.{get_or-eq_default}
 use Rattle.std.proofs.lemmas.Slice.Eq.{bytes_eq-Decides}
 use Rattle.humantime.specs.declared.date.error.TimestampError.{TimestampError}
 use Rattle.humantime.specs.Timestamps.Digits.{AreDigits}
 use Rattle.humantime.specs.Timestamps.Fields.{Letter_T, Space, Nothing, Letter_Z, Offset, separator_byte, fraction_text, fraction_digits, zone_text}
-use Rattle.humantime.specs.Timestamps.Checks.{is_zone, is_long, has_signs, has_two, has_digits, in_range, has_point, ends_whole, ends_fraction, past_digits, weak_checks, first_failed}
-use Rattle.humantime.specs.References.Timestamps.Reading.{front_digits, zone_of, fraction_at, zone_at}
+use Rattle.humantime.specs.Timestamps.Checks.{is_zone, is_long, has_signs, has_digits, in_range, has_point, ends_whole, ends_fraction, past_digits, weak_checks, first_failed}
+use Rattle.humantime.specs.References.Timestamps.Reading.{has_two, front_digits, zone_of, fraction_read, zone_at}
 use Rattle.humantime.proofs.Timestamps.Reading.Fractions.{front_are_digits}
 
 -- no check of the weak form fails
@@ -73,10 +75,17 @@ pub record Pairs (b : List ℕ) : Type 0 where
   pub minute : has_two b 14 ≡ true
   pub second : has_two b 17 ≡ true
 
+abbrev all_pairs : List ℕ → Bool
+all_pairs b = list_all (has_two b) (0 ∷ 2 ∷ 5 ∷ 8 ∷ 11 ∷ 14 ∷ 17 ∷ [])
+
+pairs_are : (b : List ℕ) → has_digits b ≡ all_pairs b
+unfolding has_digits has_two
+pairs_are b = simp (and_assoc, and-true)
+
 pub pairs_told : (b : List ℕ) → has_digits b ≡ true → Pairs b
-unfolding has_digits
 pairs_told b h =
-    let p0 = and_parts (has_two b 0) _ h in
+    let all : all_pairs b ≡ true = sym (pairs_are b) ∙ h in
+    let p0 = and_parts (has_two b 0) _ all in
     let p2 = and_parts (has_two b 2) _ p0.1 in
     let p5 = and_parts (has_two b 5) _ p2.1 in
     let p8 = and_parts (has_two b 8) _ p5.1 in
@@ -86,8 +95,7 @@ pairs_told b h =
     record { century = p0.0; year = p2.0; month = p5.0; day = p8.0; hour = p11.0; minute = p14.0; second = p17.0 }
 
 pub pairs_from : (b : List ℕ) → Pairs b → has_digits b ≡ true
-unfolding has_digits
-pairs_from b p = rw (p.century, p.year, p.month, p.day, p.hour, p.minute, p.second) refl
+pairs_from b p = pairs_are b ∙ rw (p.century, p.year, p.month, p.day, p.hour, p.minute, p.second) refl
 
 pub separator_shown : (c : ℕ) → ((c == 84) || (c == 32)) ≡ true → c ≡ separator_byte (if c == 84 then Letter_T else Space)
 separator_shown c h = by_test (c == 84) refl h where
@@ -124,7 +132,7 @@ point_within b h = by_length (cases_lt 19 (length b)) where
       absurd (omega arith)
 
 -- what stands after date and time
-pub end_shown : (b : List ℕ) → ends_whole b ≡ true → ends_fraction b ≡ true → drop 19 b ≡ fraction_text (fraction_at b) ++ zone_text (zone_at b)
+pub end_shown : (b : List ℕ) → ends_whole b ≡ true → ends_fraction b ≡ true → drop 19 b ≡ fraction_text (fraction_read b) ++ zone_text (zone_at b)
 unfolding ends_whole ends_fraction
 end_shown b whole fraction = by_test (has_point b) refl whole fraction where
   by_test : (t : Bool) → has_point b ≡ t → (t || is_zone (drop 19 b)) ≡ true → (not t || is_zone (past_digits (drop 20 b))) ≡ true
@@ -137,7 +145,7 @@ end_shown b whole fraction = by_test (has_point b) refl whole fraction where
       here ∙ (λ i. point i ∷ (rest ∙ (λ j. front_digits (drop 20 b) ++ zone j)) i)
   by_test false h w f = zone_shown (drop 19 b) w
 
-pub fraction_at_digits : (b : List ℕ) → AreDigits (fraction_digits (fraction_at b))
+pub fraction_at_digits : (b : List ℕ) → AreDigits (fraction_digits (fraction_read b))
 fraction_at_digits b = by_test (has_point b) where
   by_test : (t : Bool) → AreDigits (fraction_digits (if t then Some (front_digits (drop 20 b)) else None))
   by_test true = front_are_digits (drop 20 b)

@@ -5,9 +5,9 @@ use Rattle.std.proofs.lemmas.Bool.{le-leb}
 use Rattle.std.proofs.lemmas.List.{take_rest}
 use Rattle.humantime.specs.declared.date.error.TimestampError.{TimestampError}
 use Rattle.humantime.specs.declared.date.error.TimestampError.TheVariants.{OutOfRange, InvalidDigit, InvalidFormat}
-use Rattle.humantime.specs.Timestamps.Fields.{nanos_of, fraction_digits, seconds_of}
+use Rattle.humantime.specs.Timestamps.Fields.{fraction_nanos, fraction_digits, seconds_of}
 use Rattle.humantime.specs.Timestamps.Checks.{is_zone, has_signs, has_digits, in_range, has_point, ends_whole, ends_fraction}
-use Rattle.humantime.specs.References.Timestamps.Reading.{fraction_answer, fraction_at, fields_of, end_answer, answer, weak_answer}
+use Rattle.humantime.specs.References.Timestamps.Reading.{fraction_answer, fraction_read, fields_of, end_answer, moment_or_error, weak_answer}
 use Rattle.humantime.proofs.Timestamps.Reading.Fractions.{nanos_none}
 
 -- date and time are right
@@ -38,8 +38,8 @@ begun : (b : List ℕ) → Begins b → weak_answer b ≡ with_seconds (seconds_
 unfolding with_seconds weak_answer
 begun b h = rw (le-leb 19 (length b) h.long, h.signs, h.digits, h.range) (by_tests (ends_whole b) (ends_fraction b)) where
   by_tests : (t u : Bool)
-      → answer (if t then (if u then None else Some InvalidDigit) else Some InvalidFormat) (seconds_of (fields_of b) * 1_000_000_000 + nanos_of (fraction_digits (fraction_at b)))
-      ≡ with_seconds (seconds_of (fields_of b)) (if t then (if u then Ok (nanos_of (fraction_digits (fraction_at b))) else Err InvalidDigit) else Err InvalidFormat)
+      → moment_or_error (if t then (if u then None else Some InvalidDigit) else Some InvalidFormat) (seconds_of (fields_of b) * 1_000_000_000 + fraction_nanos (fraction_digits (fraction_read b)))
+      ≡ with_seconds (seconds_of (fields_of b)) (if t then (if u then Ok (fraction_nanos (fraction_digits (fraction_read b))) else Err InvalidDigit) else Err InvalidFormat)
   by_tests true true = refl
   by_tests true false = refl
   by_tests false u = refl

@@ -10,7 +10,7 @@ use Rattle.std.proofs.lemmas.Bool.Decides.{nat_tests}
 use Rattle.std.proofs.lemmas.List.{drop_all}
 use Rattle.std.proofs.lemmas.Str.{digit_value_digit}
 use Rattle.humantime.specs.Timestamps.Digits.{AreDigits}
-use Rattle.humantime.specs.Timestamps.Fields.{nanos_of}
+use Rattle.humantime.specs.Timestamps.Fields.{fraction_nanos}
 use Rattle.humantime.specs.Timestamps.Checks.{past_digits}
 use Rattle.humantime.specs.References.Timestamps.Reading.{front_digits}
 use Rattle.humantime.specs.References.Timestamps.Fractions.{add_digits, weight, AreThreeAt, IsRead}
@@ -72,12 +72,12 @@ nine_zeros : zeros 9 ≡ 48 ∷ 48 ∷ 48 ∷ 48 ∷ 48 ∷ 48 ∷ 48 ∷ 48 ∷
 unfolding zeros
 nine_zeros = refl
 
-pub nanos_added : (ds : List ℕ) → AreDigits ds → nanos_of ds ≡ add_digits 0 100_000_000 ds
-unfolding nanos_of
+pub nanos_added : (ds : List ℕ) → AreDigits ds → fraction_nanos ds ≡ add_digits 0 100_000_000 ds
+unfolding fraction_nanos
 nanos_added ds digits = rw nine_zeros at (filled 9 9 0 ds digits (omega arith))
 
-pub nanos_none : nanos_of [] ≡ 0
-unfolding nanos_of
+pub nanos_none : fraction_nanos [] ≡ 0
+unfolding fraction_nanos
 nanos_none = refl
 
 weight_next : (i : ℕ) → weight i / 10 ≡ weight (suc i)
@@ -110,7 +110,7 @@ read_more text i nanos so_far within digit =
     let tenth = weight_next i in
     rw (add-one i) (record {
       within = omega arith;
-      value = subst (λ (u : ℕ). add_digits n u (front_digits (drop (suc i) text)) ≡ nanos_of (front_digits text)) tenth value;
+      value = subst (λ (u : ℕ). add_digits n u (front_digits (drop (suc i) text)) ≡ fraction_nanos (front_digits text)) tenth value;
       rest = rest;
       low = omega (arith, so_far.low, so_far.room);
       room = omega (arith, so_far.low, so_far.room, tenth);
@@ -150,15 +150,15 @@ read_three text i nanos n group so_far three =
     subst (IsRead text (i + 3)) sum (rw place at third)
 
 pub read_stop : (text : List ℕ) (i nanos : ℕ) → IsRead text i nanos → i < length text → is_ascii_digit (get_or text i 0) ≡ false
-    → (nanos ≡ nanos_of (front_digits text)) × (drop i text ≡ past_digits text)
+    → (nanos ≡ fraction_nanos (front_digits text)) × (drop i text ≡ past_digits text)
 read_stop text i nanos so_far within other =
     let here : drop i text ≡ get_or text i 0 ∷ drop (suc i) text = drop-cons text i 0 within in
-    let value : nanos ≡ nanos_of (front_digits text) = rw (here, other) at so_far.value in
+    let value : nanos ≡ fraction_nanos (front_digits text) = rw (here, other) at so_far.value in
     let rest : get_or text i 0 ∷ drop (suc i) text ≡ past_digits text = rw (here, other) at so_far.rest in
     (value, here ∙ rest)
 
 pub read_all : (text : List ℕ) (i nanos : ℕ) → IsRead text i nanos → length text ≤ i
-    → (nanos ≡ nanos_of (front_digits text)) × ([] ≡ past_digits text)
+    → (nanos ≡ fraction_nanos (front_digits text)) × ([] ≡ past_digits text)
 read_all text i nanos so_far end =
     let none : drop i text ≡ [] = drop_all i text end in
     (rw none at so_far.value, rw none at so_far.rest)
@@ -169,5 +169,5 @@ add_bound (c ∷ cs) n u digits low room =
     let most : u * (c - 48) ≤ u * 9 = mul-le-mul_left u (omega (arith, digits.0)) in
     add_bound cs (n + u * (c - 48)) (u / 10) digits.1 (omega arith) (omega arith)
 
-pub nanos_bound : (ds : List ℕ) → AreDigits ds → nanos_of ds < 1_000_000_000
+pub nanos_bound : (ds : List ℕ) → AreDigits ds → fraction_nanos ds < 1_000_000_000
 nanos_bound ds digits = rw (nanos_added ds digits) (add_bound ds 0 100_000_000 digits (omega arith) (omega arith))

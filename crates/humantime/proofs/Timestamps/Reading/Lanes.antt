@@ -6,8 +6,8 @@ use Rattle.std.proofs.Math.Bool.{and_assoc, and-true}
 use Rattle.std.proofs.lemmas.Bool.{agree_below_at, eq-eqb, ne_eqb, cases_eq}
 use Rattle.std.proofs.lemmas.Simd.{mask_l-mod}
 use lib.Lanes.{zip2, mask_l, top}
-use Rattle.humantime.specs.Timestamps.Checks.{has_two, has_digits}
-use Rattle.humantime.specs.References.Timestamps.Reading.{has_front_digits}
+use Rattle.humantime.specs.Timestamps.Checks.{has_digits}
+use Rattle.humantime.specs.References.Timestamps.Reading.{has_two, has_front_digits}
 use Rattle.humantime.proofs.Timestamps.Reading.Checks.{nineteen}
 
 -- no bit is set exactly where no lane is

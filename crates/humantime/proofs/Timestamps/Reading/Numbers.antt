@@ -1,29 +1,28 @@
 -- Numbers read from bytes, which are those of the digits where there are digits.
-use Rattle.std.proofs.Common.{◌≡◌, ℕ, ◌+◌, ◌-◌, ◌*◌, ◌%◌, ◌^◌, List, sym, subst, arith}
+use Rattle.std.proofs.Common.{◌≡◌, ℕ, ◌+◌, ◌-◌, ◌*◌, ◌%◌, ◌^◌, ◌≤◌, List, length, sym, subst, arith}
 use Rattle.std.specs.Prelude.{true, IsTrue, slice_index}
 use Rattle.humantime.specs.declared.date.parse.Numbers.{Numbers}
-use Rattle.humantime.specs.Timestamps.Checks.{two_at, has_two, has_digits, in_range}
-use Rattle.humantime.specs.References.Timestamps.Reading.{numbers_of, AreInRange}
-use Rattle.humantime.proofs.Timestamps.Reading.Checks.{pairs_told}
-use Rattle.humantime.proofs.Timestamps.Reading.Places.{has_two_told, two_at_is, two_at_bound, in_range_told, in_range_from}
+use Rattle.humantime.specs.Timestamps.Checks.{number, in_range}
+use Rattle.humantime.specs.References.Timestamps.Reading.{has_two, numbers_of, AreInRange}
+use Rattle.humantime.proofs.Timestamps.Reading.Places.{has_two_told, number_of_two, number_of_four, in_range_told, in_range_from}
 
-pub two_read : (b : List ℕ) (k : ℕ) → has_two b k ≡ true → (slice_index b k * 10 + slice_index b (k + 1) + (2 ^ 32 - 528)) % 2 ^ 32 ≡ two_at b k
-two_read b k h =
+pub two_read : (b : List ℕ) (k : ℕ) → k + 2 ≤ length b → has_two b k ≡ true
+    → (slice_index b k * 10 + slice_index b (k + 1) + (2 ^ 32 - 528)) % 2 ^ 32 ≡ number b k (k + 2)
+two_read b k long h =
     let p = has_two_told b k h in
-    omega (arith, two_at_is b k h)
+    omega (arith, number_of_two b k long h)
 
-pub year_read : (b : List ℕ) → has_two b 0 ≡ true → has_two b 2 ≡ true
-    → (slice_index b 0 * 1_000 + slice_index b 1 * 100 + slice_index b 2 * 10 + slice_index b 3 + (2 ^ 32 - 53_328)) % 2 ^ 32 ≡ two_at b 0 * 100 + two_at b 2
-year_read b century decade =
+pub year_read : (b : List ℕ) → 4 ≤ length b → has_two b 0 ≡ true → has_two b 2 ≡ true
+    → (slice_index b 0 * 1_000 + slice_index b 1 * 100 + slice_index b 2 * 10 + slice_index b 3 + (2 ^ 32 - 53_328)) % 2 ^ 32 ≡ number b 0 4
+year_read b long century decade =
     let p = has_two_told b 0 century in
     let q = has_two_told b 2 decade in
-    omega (arith, two_at_is b 0 century, two_at_is b 2 decade)
+    omega (arith, number_of_four b long century decade)
 
 -- numbers that were read are in range exactly where the text is
-pub in_range_told_of : (b : List ℕ) (x : Numbers) → has_digits b ≡ true → x ≡ numbers_of b → IsTrue (in_range b) → AreInRange x
-in_range_told_of b x digits is h =
-    let pairs = pairs_told b digits in
-    let p = in_range_told b (two_at_bound b 0 pairs.century) (two_at_bound b 2 pairs.year) h in
+pub in_range_told_of : (b : List ℕ) (x : Numbers) → x ≡ numbers_of b → IsTrue (in_range b) → AreInRange x
+in_range_told_of b x is h =
+    let p = in_range_told b h in
     subst AreInRange (sym is) (record { date = p.0; hour = p.1; minute = p.2; second = p.3 })
 
 pub in_range_of : (b : List ℕ) (x : Numbers) → x ≡ numbers_of b → AreInRange x → IsTrue (in_range b)

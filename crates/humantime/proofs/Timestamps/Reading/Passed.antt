@@ -8,29 +8,44 @@ use Rattle.std.proofs.lemmas.Bool.Decides.{nat_tests}
 use Rattle.humantime.specs.Calendar.Years.{days_in_month}
 use Rattle.humantime.specs.Calendar.Dates.{IsDate}
 use Rattle.humantime.specs.Timestamps.Digits.{AreDigits}
-use Rattle.humantime.specs.Timestamps.Fields.{Separator, Letter_T, Space, Zone, Nothing, Letter_Z, Offset, Fields, fraction_text, fraction_digits, zone_text, written, IsWeak}
-use Rattle.humantime.specs.Timestamps.Checks.{two_at, is_zone, has_signs, has_two, ends_whole, ends_fraction, past_digits}
-use Rattle.humantime.specs.References.Timestamps.Reading.{front_digits, zone_of, fields_of, date_at}
+use Rattle.humantime.specs.Timestamps.Fields.{Separator, Letter_T, Space, Zone, Nothing, Letter_Z, Offset, Fields, fraction_text, fraction_digits, zone_text, fields_text, IsWeak}
+use Rattle.humantime.specs.Timestamps.Checks.{number, is_zone, has_signs, ends_whole, ends_fraction, past_digits}
+use Rattle.humantime.specs.References.Timestamps.Reading.{has_two, front_digits, zone_of, fields_of, date_at}
+use Rattle.humantime.proofs.Dates.Years.{valid_told}
 use Rattle.humantime.proofs.Timestamps.Reading.Checks.{Passes, Pairs, pairs_from}
 use Rattle.humantime.proofs.Timestamps.Reading.Fractions.{is_digit_from}
-use Rattle.humantime.proofs.Timestamps.Reading.Places.{two_at_is, in_range_from}
+use Rattle.humantime.proofs.Timestamps.Reading.Places.{number_of_two, number_of_four, in_range_from}
 
--- two digits at a place, read back
-pub two_back : (b : List ℕ) (k m n : ℕ) → slice_index b k ≡ 48 + m → slice_index b (k + 1) ≡ 48 + n → m ≤ 9 → n ≤ 9
-    → (has_two b k ≡ true) × (two_at b k ≡ m * 10 + n)
+-- two digits at a place
+pub two_there : (b : List ℕ) (k m n : ℕ) → slice_index b k ≡ 48 + m → slice_index b (k + 1) ≡ 48 + n → m ≤ 9 → n ≤ 9 → has_two b k ≡ true
 unfolding has_two
-two_back b k m n first second h i =
+two_there b k m n first second h i =
     let range : IsInRange 48 57 (slice_index b k) = (omega arith, omega arith) in
     let next : IsInRange 48 57 (slice_index b (k + 1)) = (omega arith, omega arith) in
-    let digits = and_from _ _ (is_digit_from (slice_index b k) range) (is_digit_from (slice_index b (k + 1)) next) in
-    (digits, two_at_is b k digits ∙ omega arith)
+    and_from _ _ (is_digit_from (slice_index b k) range) (is_digit_from (slice_index b (k + 1)) next)
+
+-- and their number, read back
+two_back : (b : List ℕ) (k m n : ℕ) → k + 2 ≤ length b → slice_index b k ≡ 48 + m → slice_index b (k + 1) ≡ 48 + n → m ≤ 9 → n ≤ 9
+    → (has_two b k ≡ true) × (number b k (k + 2) ≡ m * 10 + n)
+two_back b k m n long first second h i =
+    let digits = two_there b k m n first second h i in
+    (digits, number_of_two b k long digits ∙ omega arith)
+
+year_back : (b : List ℕ) (p q r s : ℕ) → 4 ≤ length b
+    → slice_index b 0 ≡ 48 + p → slice_index b 1 ≡ 48 + q → slice_index b 2 ≡ 48 + r → slice_index b 3 ≡ 48 + s
+    → p ≤ 9 → q ≤ 9 → r ≤ 9 → s ≤ 9
+    → (has_two b 0 ≡ true) × (has_two b 2 ≡ true) × (number b 0 4 ≡ p * 1000 + q * 100 + r * 10 + s)
+year_back b p q r s long first second third fourth hp hq hr hs =
+    let century = two_there b 0 p q first second hp hq in
+    let decade = two_there b 2 r s third fourth hr hs in
+    (century, decade, number_of_four b long century decade ∙ omega arith)
 
 pub month_most : (y m : ℕ) → days_in_month y m ≤ 31
 month_most y m = grind (arith, nat_tests)
 
 four_back : (y : ℕ) → y ≤ 9999
     → (y / 1000 ≤ 9) × (y / 100 % 10 ≤ 9) × (y / 10 % 10 ≤ 9) × (y % 10 ≤ 9)
-    × ((y / 1000 * 10 + y / 100 % 10) * 100 + (y / 10 % 10 * 10 + y % 10) ≡ y)
+    × (y / 1000 * 1000 + y / 100 % 10 * 100 + y / 10 % 10 * 10 + y % 10 ≡ y)
 four_back y h = (omega arith, omega arith, omega arith, omega arith, omega arith)
 
 two_digits_back : (n : ℕ) → n ≤ 99 → (n / 10 ≤ 9) × (n % 10 ≤ 9) × (n / 10 * 10 + n % 10 ≡ n)
@@ -106,41 +121,43 @@ parts date separator hour minute second fraction zone = record {
 }
 
 separator_back : (date : Date) (s : Separator) (h i n : ℕ) (q : Option (List ℕ)) (z : Zone)
-    → (has_signs (written (parts date s h i n q z)) ≡ true)
-    × (s ≡ (if slice_index (written (parts date s h i n q z)) 10 == 84 then Letter_T else Space))
+    → (has_signs (fields_text (parts date s h i n q z)) ≡ true)
+    × (s ≡ (if slice_index (fields_text (parts date s h i n q z)) 10 == 84 then Letter_T else Space))
 unfolding has_signs
 separator_back date Letter_T h i n q z = (refl, refl)
 separator_back date Space h i n q z = (refl, refl)
 
-written_passes : (f : Fields) → IsWeak (written f) f → Passes (written f) × (f ≡ fields_of (written f))
+written_passes : (f : Fields) → IsWeak (fields_text f) f → Passes (fields_text f) × (f ≡ fields_of (fields_text f))
 unfolding ends_whole ends_fraction
 written_passes f w =
-    let b = written f in
+    let b = fields_text f in
+    let long : 19 ≤ length b = omega arith in
     let most = month_most f.date.year f.date.month in
-    let y = four_back f.date.year w.date.0.1 in
-    let m = two_digits_back f.date.month (omega (arith, w.date.1.1)) in
-    let d = two_digits_back f.date.day (omega (arith, w.date.2.1, most)) in
+    let within = valid_told f.date.year f.date.month f.date.day w.date in
+    let y = four_back f.date.year within.0.1 in
+    let m = two_digits_back f.date.month (omega (arith, within.1.1)) in
+    let d = two_digits_back f.date.day (omega (arith, within.2.1, most)) in
     let h = two_digits_back f.hour (omega (arith, w.hour)) in
     let i = two_digits_back f.minute (omega (arith, w.minute)) in
     let s = two_digits_back f.second (omega (arith, w.second)) in
-    let century = two_back b 0 (f.date.year / 1000) (f.date.year / 100 % 10) refl refl y.0 y.1 in
-    let year = two_back b 2 (f.date.year / 10 % 10) (f.date.year % 10) refl refl y.2 y.3 in
-    let month = two_back b 5 (f.date.month / 10) (f.date.month % 10) refl refl m.0 m.1 in
-    let day = two_back b 8 (f.date.day / 10) (f.date.day % 10) refl refl d.0 d.1 in
-    let hour = two_back b 11 (f.hour / 10) (f.hour % 10) refl refl h.0 h.1 in
-    let minute = two_back b 14 (f.minute / 10) (f.minute % 10) refl refl i.0 i.1 in
-    let second = two_back b 17 (f.second / 10) (f.second % 10) refl refl s.0 s.1 in
+    let year = year_back b (f.date.year / 1000) (f.date.year / 100 % 10) (f.date.year / 10 % 10) (f.date.year % 10) (omega (arith, long))
+    refl refl refl refl y.0 y.1 y.2 y.3 in
+    let month = two_back b 5 (f.date.month / 10) (f.date.month % 10) (omega (arith, long)) refl refl m.0 m.1 in
+    let day = two_back b 8 (f.date.day / 10) (f.date.day % 10) (omega (arith, long)) refl refl d.0 d.1 in
+    let hour = two_back b 11 (f.hour / 10) (f.hour % 10) (omega (arith, long)) refl refl h.0 h.1 in
+    let minute = two_back b 14 (f.minute / 10) (f.minute % 10) (omega (arith, long)) refl refl i.0 i.1 in
+    let second = two_back b 17 (f.second / 10) (f.second % 10) (omega (arith, long)) refl refl s.0 s.1 in
     let separator = separator_back f.date f.separator f.hour f.minute f.second f.fraction f.zone in
-    let year_is : f.date.year ≡ two_at b 0 * 100 + two_at b 2 = omega (arith, century.1, year.1, y.4) in
-    let month_is : f.date.month ≡ two_at b 5 = omega (arith, month.1, m.2) in
-    let day_is : f.date.day ≡ two_at b 8 = omega (arith, day.1, d.2) in
-    let hour_is : f.hour ≡ two_at b 11 = omega (arith, hour.1, h.2) in
-    let minute_is : f.minute ≡ two_at b 14 = omega (arith, minute.1, i.2) in
-    let second_is : f.second ≡ two_at b 17 = omega (arith, second.1, s.2) in
+    let year_is : f.date.year ≡ number b 0 4 = sym (year.2 ∙ y.4) in
+    let month_is : f.date.month ≡ number b 5 7 = sym (month.1 ∙ m.2) in
+    let day_is : f.date.day ≡ number b 8 10 = sym (day.1 ∙ d.2) in
+    let hour_is : f.hour ≡ number b 11 13 = sym (hour.1 ∙ h.2) in
+    let minute_is : f.minute ≡ number b 14 16 = sym (minute.1 ∙ i.2) in
+    let second_is : f.second ≡ number b 17 19 = sym (second.1 ∙ s.2) in
     let date_is : f.date ≡ date_at b = λ j. record { year = year_is j; month = month_is j; day = day_is j } in
     let pairs : Pairs b = record {
-      century = century.0;
-      year = year.0;
+      century = year.0;
+      year = year.1;
       month = month.0;
       day = day.0;
       hour = hour.0;
@@ -148,7 +165,7 @@ written_passes f w =
       second = second.0;
     } in
     let passes : Passes b = record {
-      long = le-leb 19 (length b) (omega arith);
+      long = le-leb 19 (length b) long;
       signs = separator.0;
       digits = pairs_from b pairs;
       range = in_range_from b (subst IsDate date_is w.date) (omega (arith, hour_is, w.hour)) (omega (arith, minute_is, w.minute)) (omega (arith, second_is, w.second));
@@ -169,5 +186,5 @@ written_passes f w =
 
 pub weak_fields : (b : List ℕ) (f : Fields) → IsWeak b f → Passes b × (f ≡ fields_of b)
 weak_fields b f w =
-    let here : IsWeak (written f) f = subst (λ (t : List ℕ). IsWeak t f) w.shown w in
+    let here : IsWeak (fields_text f) f = subst (λ (t : List ℕ). IsWeak t f) w.shown w in
     subst (λ (t : List ℕ). Passes t × (f ≡ fields_of t)) (sym w.shown) (written_passes f here)

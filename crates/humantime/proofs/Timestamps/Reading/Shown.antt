@@ -1,50 +1,61 @@
 -- A text that fails no check shows the parts at its places.
-use Rattle.std.proofs.Common.{◌≡◌, ℕ, ◌+◌, ◌-◌, ◌*◌, ◌/◌, ◌%◌, ◌<◌, List, ◌∷◌, length, refl, ap, ◌∙◌, arith}
+use Rattle.std.proofs.Common.{◌≡◌, ℕ, ◌+◌, ◌-◌, ◌*◌, ◌/◌, ◌%◌, ◌≤◌, List, ◌∷◌, length, ◌∙◌, arith}
 use Rattle.std.specs.Prelude.{true, slice_index}
 use Rattle.std.specs.Int.{IsInRange}
 use Rattle.std.proofs.lemmas.Bool.{leb-true}
-use Rattle.humantime.specs.Timestamps.Fields.{written, IsWeak}
-use Rattle.humantime.specs.Timestamps.Checks.{two_at, has_two}
-use Rattle.humantime.specs.References.Timestamps.Reading.{fields_of}
+use Rattle.humantime.specs.Timestamps.Fields.{fields_text, IsWeak}
+use Rattle.humantime.specs.Timestamps.Checks.{number}
+use Rattle.humantime.specs.References.Timestamps.Reading.{has_two, fields_of}
 use Rattle.humantime.proofs.Timestamps.Reading.Checks.{Passes, signs_told, pairs_told, separator_shown, end_shown, fraction_at_digits, nineteen}
-use Rattle.humantime.proofs.Timestamps.Reading.Places.{has_two_told, two_at_is, two_at_bound, in_range_told}
+use Rattle.humantime.proofs.Timestamps.Reading.Places.{has_two_told, number_of_two, number_of_four, in_range_told}
 
 two_shown : (a c n : ℕ) → IsInRange 48 57 a × IsInRange 48 57 c → n ≡ (a - 48) * 10 + (c - 48) → (a ≡ 48 + n / 10) × (c ≡ 48 + n % 10)
 two_shown a c n h e = (omega arith, omega arith)
 
--- four digits, as two pairs
-four_shown : (m n y : ℕ) → m < 100 → n < 100 → y ≡ m * 100 + n
-    → (m / 10 ≡ y / 1000) × (m % 10 ≡ y / 100 % 10) × (n / 10 ≡ y / 10 % 10) × (n % 10 ≡ y % 10)
-four_shown m n y h k e = (omega arith, omega arith, omega arith, omega arith)
+digits_shown : (p q r s y : ℕ) → p ≤ 9 → q ≤ 9 → r ≤ 9 → s ≤ 9 → y ≡ p * 1000 + q * 100 + r * 10 + s
+    → (p ≡ y / 1000) × (q ≡ y / 100 % 10) × (r ≡ y / 10 % 10) × (s ≡ y % 10)
+digits_shown p q r s y hp hq hr hs e = (omega arith, omega arith, omega arith, omega arith)
 
-pair_shown : (b : List ℕ) (k : ℕ) → has_two b k ≡ true
-    → (slice_index b k ≡ 48 + two_at b k / 10) × (slice_index b (k + 1) ≡ 48 + two_at b k % 10)
-pair_shown b k h = two_shown (slice_index b k) (slice_index b (k + 1)) (two_at b k) (has_two_told b k h) (two_at_is b k h)
+four_shown : (a b c d y : ℕ) → IsInRange 48 57 a → IsInRange 48 57 b → IsInRange 48 57 c → IsInRange 48 57 d
+    → y ≡ (a - 48) * 1000 + (b - 48) * 100 + (c - 48) * 10 + (d - 48)
+    → (a ≡ 48 + y / 1000) × (b ≡ 48 + y / 100 % 10) × (c ≡ 48 + y / 10 % 10) × (d ≡ 48 + y % 10)
+four_shown a b c d y ha hb hc hd e =
+    let h = digits_shown (a - 48) (b - 48) (c - 48) (d - 48) y (omega arith) (omega arith) (omega arith) (omega arith) e in
+    (omega (arith, h.0), omega (arith, h.1), omega (arith, h.2), omega (arith, h.3))
 
-written_shown : (b : List ℕ) → Passes b → b ≡ written (fields_of b)
+pair_shown : (b : List ℕ) (k : ℕ) → k + 2 ≤ length b → has_two b k ≡ true
+    → (slice_index b k ≡ 48 + number b k (k + 2) / 10) × (slice_index b (k + 1) ≡ 48 + number b k (k + 2) % 10)
+pair_shown b k long h = two_shown (slice_index b k) (slice_index b (k + 1)) (number b k (k + 2)) (has_two_told b k h) (number_of_two b k long h)
+
+year_shown : (b : List ℕ) → 4 ≤ length b → has_two b 0 ≡ true → has_two b 2 ≡ true
+    → (slice_index b 0 ≡ 48 + number b 0 4 / 1000) × (slice_index b 1 ≡ 48 + number b 0 4 / 100 % 10)
+    × (slice_index b 2 ≡ 48 + number b 0 4 / 10 % 10) × (slice_index b 3 ≡ 48 + number b 0 4 % 10)
+year_shown b long century decade =
+    let p = has_two_told b 0 century in
+    let q = has_two_told b 2 decade in
+    four_shown _ _ _ _ (number b 0 4) p.0 p.1 q.0 q.1 (number_of_four b long century decade)
+
+written_shown : (b : List ℕ) → Passes b → b ≡ fields_text (fields_of b)
 written_shown b p =
     let signs = signs_told b p.signs in
     let pairs = pairs_told b p.digits in
-    let century = pair_shown b 0 pairs.century in
-    let decade = pair_shown b 2 pairs.year in
-    let year = four_shown (two_at b 0) (two_at b 2) (two_at b 0 * 100 + two_at b 2) (two_at_bound b 0 pairs.century) (two_at_bound b 2 pairs.year) refl in
-    let month = pair_shown b 5 pairs.month in
-    let day = pair_shown b 8 pairs.day in
+    let long = leb-true 19 (length b) p.long in
+    let year = year_shown b (omega arith) pairs.century pairs.year in
+    let month = pair_shown b 5 (omega arith) pairs.month in
+    let day = pair_shown b 8 (omega arith) pairs.day in
     let separator = separator_shown (slice_index b 10) signs.separator in
-    let hour = pair_shown b 11 pairs.hour in
-    let minute = pair_shown b 14 pairs.minute in
-    let second = pair_shown b 17 pairs.second in
+    let hour = pair_shown b 11 (omega arith) pairs.hour in
+    let minute = pair_shown b 14 (omega arith) pairs.minute in
+    let second = pair_shown b 17 (omega arith) pairs.second in
     let end = end_shown b p.whole p.fraction in
-    nineteen b (leb-true 19 (length b) p.long)
-    ∙ (λ i. (century.0 ∙ ap (λ (d : ℕ). 48 + d) year.0) i ∷ (century.1 ∙ ap (λ (d : ℕ). 48 + d) year.1) i
-    ∷ (decade.0 ∙ ap (λ (d : ℕ). 48 + d) year.2) i ∷ (decade.1 ∙ ap (λ (d : ℕ). 48 + d) year.3) i
+    nineteen b long
+    ∙ (λ i. year.0 i ∷ year.1 i ∷ year.2 i ∷ year.3 i
     ∷ signs.dash4 i ∷ month.0 i ∷ month.1 i ∷ signs.dash7 i ∷ day.0 i ∷ day.1 i ∷ separator i
     ∷ hour.0 i ∷ hour.1 i ∷ signs.colon13 i ∷ minute.0 i ∷ minute.1 i ∷ signs.colon16 i ∷ second.0 i ∷ second.1 i ∷ end i)
 
 pub fields_weak : (b : List ℕ) → Passes b → IsWeak b (fields_of b)
 fields_weak b p =
-    let pairs = pairs_told b p.digits in
-    let range = in_range_told b (two_at_bound b 0 pairs.century) (two_at_bound b 2 pairs.year) p.range in
+    let range = in_range_told b p.range in
     record {
       shown = written_shown b p;
       date = range.0;

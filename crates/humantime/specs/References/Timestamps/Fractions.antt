@@ -1,7 +1,7 @@
 -- The digits of a fraction, read from left to right.
 use Rattle.std.specs.Prelude.{◌≡◌, ℕ, ◌+◌, ◌-◌, ◌*◌, ◌/◌, ◌^◌, ◌<◌, ◌≤◌, List, [], ◌∷◌, length, drop, slice_index, IsTrue}
 use Rattle.std.specs.Char.{is_ascii_digit}
-use Rattle.humantime.specs.Timestamps.Fields.{nanos_of}
+use Rattle.humantime.specs.Timestamps.Fields.{fraction_nanos}
 use Rattle.humantime.specs.Timestamps.Checks.{past_digits}
 use Rattle.humantime.specs.References.Timestamps.Reading.{front_digits}
 
@@ -25,7 +25,7 @@ pub record AreThreeAt (text : List ℕ) (at n : ℕ) : Type 0 where
 -- the first i digits are read: what they add up to, and where the digits end
 pub record IsRead (text : List ℕ) (i nanos : ℕ) : Type 0 where
   pub within : i ≤ length text
-  pub value : add_digits nanos (weight i) (front_digits (drop i text)) ≡ nanos_of (front_digits text)
+  pub value : add_digits nanos (weight i) (front_digits (drop i text)) ≡ fraction_nanos (front_digits text)
   pub rest : past_digits (drop i text) ≡ past_digits text
   pub low : nanos < 1_000_000_000
   pub room : nanos + 10 * weight i ≤ 1_000_000_000

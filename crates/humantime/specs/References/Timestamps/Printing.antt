@@ -9,7 +9,7 @@ use Rattle.humantime.specs.References.Calendar.DatesOfDays.{date_of}
 use Rattle.humantime.specs.Timestamps.Digits.{nine_digits}
 use Rattle.humantime.specs.Values.Moments.{nano_of}
 use Rattle.humantime.specs.Values.Amounts.{nanos_per_second}
-use Rattle.humantime.specs.Timestamps.Fields.{Letter_T, Letter_Z, Fields, written}
+use Rattle.humantime.specs.Timestamps.Fields.{Letter_T, Letter_Z, Fields, fields_text}
 use Rattle.humantime.specs.Timestamps.Printed.{year_10000, IsPrinted}
 
 -- how many digits the fraction has
@@ -32,9 +32,9 @@ abbrev pub IsTextOf : Rfc3339Timestamp → List ℕ → Type 0
 IsTextOf x text = IsPrinted (moment_kept x) (places_kept x) text
 
 -- nothing for no digits, and else the first k of nine
-abbrev pub fraction_of : ℕ → ℕ → Option (List ℕ)
-fraction_of n zero = None
-fraction_of n (suc k) = Some (take (suc k) (nine_digits n))
+abbrev pub cut_fraction : ℕ → ℕ → Option (List ℕ)
+cut_fraction n zero = None
+cut_fraction n (suc k) = Some (take (suc k) (nine_digits n))
 
 -- the parts of this date and time, with k digits after the second
 abbrev pub fields_shown : DateTime → ℕ → Fields
@@ -44,7 +44,7 @@ fields_shown x k = record {
   hour = x.hour;
   minute = x.minute;
   second = x.second;
-  fraction = fraction_of x.nanos k;
+  fraction = cut_fraction x.nanos k;
   zone = Letter_Z;
 }
 
@@ -75,13 +75,13 @@ fields_at t k = record {
   hour = t / nanos_per_second % 86_400 / 3_600;
   minute = t / nanos_per_second % 86_400 / 60 % 60;
   second = t / nanos_per_second % 60;
-  fraction = fraction_of (t % nanos_per_second) k;
+  fraction = cut_fraction (t % nanos_per_second) k;
   zone = Letter_Z;
 }
 
 -- the text of the moment t, printed with k digits, where it is one of 1970 to 9999
 unfoldable pub moment_text : ℤ → ℕ → Option (List ℕ)
-moment_text (pos t) k = if nat_lt t year_10000 then Some (written (fields_at t k)) else None
+moment_text (pos t) k = if nat_lt t year_10000 then Some (fields_text (fields_at t k)) else None
 moment_text (negsuc t) k = None
 
 -- the printed text of a timestamp

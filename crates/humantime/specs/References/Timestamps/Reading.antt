@@ -1,5 +1,6 @@
 -- The parts that the bytes show, place by place, where no check fails.
-use Rattle.std.specs.Prelude.{ℕ, ◌+◌, ◌*◌, ◌≤◌, min, Bool, ◌==◌, List, [], ◌∷◌, drop, slice_index, codes, ℤ, pos, Option, Some, None, Result, Ok, Err, if◌then◌else◌}
+use Rattle.std.specs.Prelude.{ℕ, ◌+◌, ◌*◌, ◌≤◌, min, Bool, ◌&&◌, ◌==◌, if◌then◌else◌, ℤ, pos, Option, Some, None, Result, Ok, Err}
+use Rattle.std.specs.Prelude.{List, [], ◌∷◌, take, drop, slice_index, codes}
 use Rattle.std.specs.Char.{is_ascii_digit}
 use Rattle.std.specs.List.{list_all}
 use Rattle.std.specs.Str.{byte, bytes_eq}
@@ -8,12 +9,18 @@ use Rattle.humantime.specs.declared.date.error.TimestampError.{TimestampError}
 use Rattle.humantime.specs.declared.date.parse.Numbers.{Numbers}
 use Rattle.humantime.specs.Calendar.Dates.{IsDate, day_of}
 use Rattle.humantime.specs.declared.date.error.TimestampError.TheVariants.{InvalidDigit, InvalidFormat}
-use Rattle.humantime.specs.Timestamps.Fields.{Letter_T, Space, Zone, Nothing, Letter_Z, Offset, Fields, fraction_digits, nanos_of, moment_of}
-use Rattle.humantime.specs.Timestamps.Checks.{two_at, past_digits, is_zone, has_point, ends_whole, ends_fraction, weak_checks, strict_checks, first_failed}
+use Rattle.humantime.specs.Timestamps.Fields.{Letter_T, Space, Zone, Nothing, Letter_Z, Offset, Fields}
+use Rattle.humantime.specs.Timestamps.Fields.{fraction_digits, fraction_nanos, moment_of}
+use Rattle.humantime.specs.Timestamps.Checks.{digit_places, number, past_digits, is_zone, has_point, ends_whole, ends_fraction}
+use Rattle.humantime.specs.Timestamps.Checks.{weak_checks, strict_checks, first_failed}
 
--- digits in the first sixteen bytes, but for the signs
+-- two digits from place k on
+unfoldable pub has_two : List ℕ → ℕ → Bool
+has_two b k = is_ascii_digit (slice_index b k) && is_ascii_digit (slice_index b (k + 1))
+
+-- digits in those of the places that lie in the first sixteen bytes
 unfoldable pub has_front_digits : List ℕ → Bool
-has_front_digits b = list_all (λ k. is_ascii_digit (slice_index b k)) (0 ∷ 1 ∷ 2 ∷ 3 ∷ 5 ∷ 6 ∷ 8 ∷ 9 ∷ 11 ∷ 12 ∷ 14 ∷ 15 ∷ [])
+has_front_digits b = list_all (λ k. is_ascii_digit (slice_index b k)) (take 12 digit_places)
 
 -- the digits at the front
 abbrev pub front_digits : List ℕ → List ℕ
@@ -26,11 +33,11 @@ zone_of b = if bytes_eq b [] then Nothing else (if bytes_eq b (codes "Z") then L
 
 -- the date in the first ten bytes
 abbrev pub date_at : List ℕ → Date
-date_at b = record { year = two_at b 0 * 100 + two_at b 2; month = two_at b 5; day = two_at b 8 }
+date_at b = record { year = number b 0 4; month = number b 5 7; day = number b 8 10 }
 
 -- the numbers in the first nineteen bytes
 abbrev pub numbers_of : List ℕ → Numbers
-numbers_of b = record { date = date_at b; hour = two_at b 11; minute = two_at b 14; second = two_at b 17 }
+numbers_of b = record { date = date_at b; hour = number b 11 13; minute = number b 14 16; second = number b 17 19 }
 
 -- a date that exists, and a time of day, perhaps with a second 60
 pub record AreInRange (x : Numbers) : Type 0 where
@@ -44,8 +51,8 @@ abbrev pub seconds_to : Numbers → ℕ
 seconds_to x = day_of x.date * 86_400 + x.hour * 3_600 + x.minute * 60 + min x.second 59
 
 -- the fraction, where a point follows date and time
-abbrev pub fraction_at : List ℕ → Option (List ℕ)
-fraction_at b = if has_point b then Some (front_digits (drop 20 b)) else None
+abbrev pub fraction_read : List ℕ → Option (List ℕ)
+fraction_read b = if has_point b then Some (front_digits (drop 20 b)) else None
 
 -- the zone, after date, time and fraction
 abbrev pub zone_at : List ℕ → Zone
@@ -56,33 +63,33 @@ abbrev pub fields_of : List ℕ → Fields
 fields_of b = record {
   date = date_at b;
   separator = (if slice_index b 10 == byte "T" then Letter_T else Space);
-  hour = two_at b 11;
-  minute = two_at b 14;
-  second = two_at b 17;
-  fraction = fraction_at b;
+  hour = number b 11 13;
+  minute = number b 14 16;
+  second = number b 17 19;
+  fraction = fraction_read b;
   zone = zone_at b;
 }
 
 -- the nanoseconds of what stands after a point, or the error of its end
 abbrev pub fraction_answer : List ℕ → Result ℕ TimestampError
-fraction_answer rest = if is_zone (past_digits rest) then Ok (nanos_of (front_digits rest)) else Err InvalidDigit
+fraction_answer rest = if is_zone (past_digits rest) then Ok (fraction_nanos (front_digits rest)) else Err InvalidDigit
 
 -- the nanoseconds, or the error of the end
 abbrev pub end_answer : List ℕ → Result ℕ TimestampError
 end_answer b =
     if ends_whole b
-    then (if ends_fraction b then Ok (nanos_of (fraction_digits (fraction_at b))) else Err InvalidDigit)
+    then (if ends_fraction b then Ok (fraction_nanos (fraction_digits (fraction_read b))) else Err InvalidDigit)
     else Err InvalidFormat
 
 -- the moment t where no check failed, else the error
-abbrev pub answer : Option TimestampError → ℕ → Result ℤ TimestampError
-answer None t = Ok (pos t)
-answer (Some e) t = Err e
+abbrev pub moment_or_error : Option TimestampError → ℕ → Result ℤ TimestampError
+moment_or_error None t = Ok (pos t)
+moment_or_error (Some e) t = Err e
 
 -- what a text in weak form reads as: the moment, or the error of the first check that fails
 unfoldable pub weak_answer : List ℕ → Result ℤ TimestampError
-weak_answer b = answer (first_failed (weak_checks b)) (moment_of (fields_of b))
+weak_answer b = moment_or_error (first_failed (weak_checks b)) (moment_of (fields_of b))
 
 -- and in strict form
 unfoldable pub strict_answer : List ℕ → Result ℤ TimestampError
-strict_answer b = answer (first_failed (strict_checks b)) (moment_of (fields_of b))
+strict_answer b = moment_or_error (first_failed (strict_checks b)) (moment_of (fields_of b))

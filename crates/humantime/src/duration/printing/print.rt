@@ -12,9 +12,10 @@ ghost use Rattle.humantime.specs.Durations.Canonical.{IsCanonicalOf};
 ghost use Rattle.humantime.specs.References.Durations.Printing.{with_seconds, with_nanos, duration_text};
 ghost use Rattle.humantime.specs.References.Durations.Writing.{written};
 
+use crate::buffer::front;
 use crate::duration::error::DurationError;
 use crate::duration::reading::parse_duration;
-use crate::duration::printing::writer::{Writer, front};
+use crate::duration::printing::writer::Writer;
 use crate::value::StdDuration;
 use std::fmt;
 use std::marker::Model;

@@ -158,12 +158,3 @@ impl<'b> Writer<'b> {
         unsafe { from_utf8_unchecked(&bytes[..end]) }
     }
 }
-
-/// The text at the front of a buffer.
-pub(crate) fn front(buf: &[u8], end: usize) -> &str
-    requires fits { end ≤ length buf.now }
-    requires utf8 { IsUtf8 (take end buf.now) }
-    ensures { result.now ≡ take end buf.now }
-{
-    unsafe { from_utf8_unchecked(&buf[..end]) }
-}

@@ -13,7 +13,7 @@ pub returns-in_default : goal.returns-in_default
 returns-in_default c =
     let digits = sym c.has_digits.ensures ∙ c.if-not-has_digits.false in
     exit_range c.args.b.now c.if-b-lt19.false (sym c.has_signs.ensures ∙ c.if-not-has_signs.false) digits
-    (false_from _ (λ h. c.in_default.ensures.range.1 (in_range_told_of c.args.b.now _ digits (c.numbers_at-numbers.ensures digits) h)))
+    (false_from _ (λ h. c.in_default.ensures.range.1 (in_range_told_of c.args.b.now _ (c.numbers_at-numbers.ensures digits) h)))
 
 pub returns-in_err-nanos : goal.returns-in_err-nanos
 returns-in_err-nanos c =

@@ -1,0 +1,16 @@
+//! A text at the front of a caller's buffer.
+
+ghost use Rattle.std.specs.Prelude.{◌≡◌, ◌≤◌, length, take};
+ghost use Rattle.std.specs.Str.{IsUtf8};
+
+use std::str::from_utf8_unchecked;
+
+/// The text in the first `end` bytes.
+#[inline(always)]
+pub(crate) fn front(buf: &[u8], end: usize) -> &str
+    requires fits { end ≤ length buf.now }
+    requires utf8 { IsUtf8 (take end buf.now) }
+    ensures { result.now ≡ take end buf.now }
+{
+    unsafe { from_utf8_unchecked(&buf[..end]) }
+}
