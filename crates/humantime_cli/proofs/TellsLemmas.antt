@@ -2,8 +2,7 @@
 use Rattle.std.proofs.Common.{◌≡◌, ◌↔◌, ℕ, List, [], ◌∷◌, refl}
 use Rattle.std.specs.Prelude.{ℤ, Some, Result, Ok, Err, codes}
 use Rattle.humantime.specs.declared.date.error.TimestampError.{TimestampError}
-use Rattle.humantime.specs.Timestamps.Fields.{IsWeakMoment, IsStrictMoment}
-use Rattle.humantime.specs.Timestamps.Checks.{weak_checks, strict_checks, first_failed}
+use Rattle.humantime.specs.Prelude.{IsWeakMoment, IsStrictMoment, weak_checks, strict_checks, first_failed}
 use Rattle.humantime_cli.specs.Answers.{Printed_strict, Printed_weak, Refused_strict, Refused_weak}
 use Rattle.humantime_cli.specs.Commands.{Tells}
 

@@ -3,13 +3,7 @@ use Rattle.std.specs.Prelude.{◌≡◌, ◌≢◌, ℕ, List, [], ◌∷◌, �
 use Rattle.std.specs.Borrow.{Bor}
 use Rattle.std.specs.Io.KnownBytes.{Appends}
 use Rattle.humantime.specs.declared.date.error.TimestampError.{TimestampError}
-use Rattle.humantime.specs.Durations.Faults.{Fault, HasFault}
-use Rattle.humantime.specs.Durations.Canonical.{IsCanonicalOf}
-use Rattle.humantime.specs.Prelude.{fault_message, timestamp_message}
-use Rattle.humantime.specs.Timestamps.Fields.{IsWeakMoment, IsStrictMoment}
-use Rattle.humantime.specs.Timestamps.Checks.{weak_checks, strict_checks, first_failed}
-use Rattle.humantime.specs.Timestamps.Printed.{IsPrinted}
-use Rattle.humantime.specs.References.Timestamps.Printing.{places_of}
+use Rattle.humantime.specs.Prelude.{Fault, HasFault, IsCanonicalOf, fault_message, timestamp_message, IsWeakMoment, IsStrictMoment, weak_checks, strict_checks, first_failed, IsPrinted, places_of}
 use Rattle.humantime_cli.specs.Writes.{AppendsFront, line}
 
 -- the words after the program's name, as texts

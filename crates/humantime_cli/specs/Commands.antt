@@ -1,7 +1,7 @@
 -- The words of a command, and what they tell of a moment that was read.
 use Rattle.std.specs.Prelude.{ℕ, List, [], ◌∷◌, codes, ℤ, Result, MatchResult}
 use Rattle.humantime.specs.declared.date.error.TimestampError.{TimestampError}
-use Rattle.humantime.specs.Timestamps.Messages.{timestamp_message}
+use Rattle.humantime.specs.Prelude.{timestamp_message}
 use Rattle.humantime_cli.specs.declared.command.Command.{Command}
 use Rattle.humantime_cli.specs.declared.command.Command.TheVariants.{Duration, Strict, Weak}
 use Rattle.humantime_cli.specs.Answers.{Prints, Refuses, IsPrintedMoment}

@@ -1,7 +1,7 @@
 //! What the program does with its words.
 
 ghost use Rattle.std.specs.Prelude.{◌≡◌, ◌∷◌, [], ℕ, List, codes, length, MatchOption, MatchResult, IfOk};
-ghost use Rattle.humantime.specs.Timestamps.Printed.{IsPrintable};
+ghost use Rattle.humantime.specs.Prelude.{IsPrintable};
 ghost use Rattle.humantime_cli.specs.Answers.{texts, Ends, OneAnswer, Prints, Refuses, IsPrintedMoment, IsNoCommand};
 ghost use Rattle.humantime_cli.specs.Commands.{words_of, Tells};
 ghost use Rattle.humantime_cli.specs.Writes.{Writes, line};

@@ -1,8 +1,8 @@
 //! The messages of errors.
 
 ghost use Rattle.std.specs.Prelude.{◌≡◌, ◌++◌, decimal, chars, encode_utf8_all};
-ghost use Rattle.humantime.specs.Durations.Errors.{fault_of};
-ghost use Rattle.humantime.specs.Durations.Messages.{fault_message, unit_message};
+ghost use Rattle.humantime.specs.Prelude.{fault_of, fault_message};
+ghost use Rattle.humantime.specs.Durations.Messages.{unit_message};
 ghost use Rattle.humantime.specs.Timestamps.Messages as timestamps;
 ghost use Rattle.humantime_cli.specs.Writes.{Writes, line};
 

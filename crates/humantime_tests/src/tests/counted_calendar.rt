@@ -3,7 +3,7 @@
 
 ghost use Rattle.std.specs.Prelude.{◌≡◌, ◌+◌, ◌-◌, ◌<◌, ◌≤◌, ◌↔◌, IsSome, IfSome};
 ghost use Rattle.humantime.specs.Calendar.Years.{is_leap_year, days_in_year, days_in_month, days_of_years, days_of_months};
-ghost use Rattle.humantime.specs.Calendar.Dates.{IsDate, day_of};
+ghost use Rattle.humantime.specs.Prelude.{IsDate, day_of};
 
 use crate::tests::support::assert_same;
 use humantime::{Date, Turns, date_of_day, day_number};

@@ -1,7 +1,7 @@
 //! `StdDuration`: its parts, sums, order and hash.
 
 ghost use Rattle.std.specs.Prelude.{◌≡◌, ◌+◌, ◌<◌, ◌↔◌, IsTrue};
-ghost use Rattle.humantime.specs.Values.Amounts.{duration_end};
+ghost use Rattle.humantime.specs.Prelude.{duration_end};
 
 use crate::tests::support::assert_same;
 use humantime::StdDuration;

@@ -10,7 +10,7 @@ use Rattle.std.proofs.lemmas.List.{append_assoc, append-nil}
 use Rattle.std.proofs.lemmas.Str.{chars-append, chars-IsAscii, chars-nil, IsUtf8-append, IsUtf8-from_ascii}
 use Rattle.std.proofs.lemmas.Fmt.{IsAscii-decimal, decimal_digit}
 use Rattle.humantime.specs.Values.Amounts.{nanos_per_second}
-use Rattle.humantime.specs.Durations.Characters.{class_of, white_spaces, is_ws, is_letter, decimal_value, u64_max}
+use Rattle.humantime.specs.Durations.Characters.{white_spaces, is_ws, is_letter, decimal_value, u64_max}
 use Rattle.humantime.specs.Durations.Units.{Scale, scale_of_word}
 use Rattle.humantime.specs.Durations.Spans.{Span, Only, Spells, SpellsEach}
 use Rattle.humantime.specs.Durations.Sums.{total, fraction_additions, additions_of, additions}

@@ -1,10 +1,10 @@
 -- One step over the items of a text, and their sum so far.
 use Rattle.std.proofs.Common.{◌≡◌, ◌≢◌, ℕ, zero, suc, ◌≤◌, Bool, true, false, List, [], ◌∷◌, length, Option, Some, None, Result, Ok, Err, if◌then◌else◌, refl, sym, ap, ◌∙◌, arith}
 use Rattle.humantime.specs.declared.duration.reading.class.Class.{Class}
-use Rattle.humantime.specs.declared.duration.reading.class.Class.TheVariants.{White, Digit, Letter, Point, Other}
-use Rattle.humantime.specs.Durations.Characters.{class_of, digit, is_ws, is_digit, begins, past, offset_of}
+use Rattle.humantime.specs.declared.duration.reading.class.Class.TheVariants.{Digit}
+use Rattle.humantime.specs.Durations.Characters.{is_ws, is_digit, begins, past, offset_of}
 use Rattle.humantime.specs.Durations.Rests.{after_word}
-use Rattle.humantime.specs.Durations.Faults.{Fault, NumberExpected, NumberOverflow, after_word}
+use Rattle.humantime.specs.Durations.Faults.{Fault, NumberExpected, NumberOverflow}
 use Rattle.humantime.specs.References.Durations.Classes.{class_of}
 use Rattle.humantime.specs.References.Durations.Reading.{stop_at, add_span}
 use Rattle.humantime.specs.Durations.Slices.{Lent}

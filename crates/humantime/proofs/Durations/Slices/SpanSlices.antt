@@ -2,19 +2,19 @@
 use Rattle.std.proofs.Common.{◌≡◌, ◌≢◌, ℕ, Bool, true, false, cond, if◌then◌else◌, List, [], ◌∷◌, ◌++◌, Option, Some, None, refl, sym, ap, subst, ◌∙◌, ◌<◌, length, encode_utf8_all, append_assoc, length-append, arith}
 use Rattle.std.proofs.lemmas.List.{append_cancel_left}
 use Rattle.std.proofs.lemmas.Str.{encodes-append, length-le-encodes}
-use Rattle.humantime.specs.Durations.Characters.{class_of, is_ws, is_digit, is_letter, is_numeric, is_point, begins, leading, past, digits, byte_length, offset_of}
+use Rattle.humantime.specs.Durations.Characters.{is_ws, is_digit, is_letter, is_numeric, is_point, begins, leading, past, digits, byte_length, offset_of}
 use Rattle.humantime.specs.Durations.Spans.{Only, SpellsFraction, SpellsThen}
 use Rattle.humantime.specs.Durations.Rests.{after_number, fraction_of, past_fraction, after_fraction, word_of, after_word, span_of}
-use Rattle.humantime.specs.Durations.Faults.{after_number, fraction_at, past_fraction, digits_in, after_fraction, word_of, after_word, span_of}
+
 use Rattle.humantime.specs.References.Durations.Reading.{stop_at}
 use Rattle.humantime.specs.Durations.Slices.{IsDigitSlice, LendsFraction, IsLent}
 use Rattle.humantime.specs.References.Durations.Lending.{trimmed, number_slice, fraction_slice, lent_at}
-use Rattle.humantime.proofs.Durations.Reading.Classes.{digit_is_numeric, digit_from_numeric, is_point-true}
-use Rattle.humantime.proofs.Durations.Reading.Runs.{leading-past, Only-leading, begins-past, letters_begin, begins_some, begins_Only}
+use Rattle.humantime.proofs.Durations.Reading.Classes.{digit_is_numeric, digit_from_numeric}
+use Rattle.humantime.proofs.Durations.Reading.Runs.{leading-past, Only-leading, begins-past, letters_begin, begins_some}
 use Rattle.humantime.proofs.Durations.Reading.Spelled.{next_of, begins_word, read_spelled}
 use Rattle.humantime.proofs.Durations.Reading.Written.{written_here}
-use Rattle.humantime.proofs.Durations.Reading.Stopping.{Fine, Says, stop_says, some_letters}
-use Rattle.humantime.proofs.Durations.Slices.Trimming.{dropped, digits_past, digit_slice, no_slice, slice_behind_point, numeric_digit, digits_dropped_are}
+use Rattle.humantime.proofs.Durations.Reading.Stopping.{Fine, Says, stop_says}
+use Rattle.humantime.proofs.Durations.Slices.Trimming.{dropped, digits_past, digit_slice, no_slice, slice_behind_point}
 
 -- the point with what follows it up to the word, if a point begins the text
 abbrev fraction_text : List ℕ → List ℕ

@@ -4,9 +4,7 @@ use Rattle.std.specs.Char.{is_whitespace}
 use Rattle.std.specs.Str.{drop_trailing_whitespace}
 use Rattle.std.proofs.lemmas.Bool.Decides.{nat_tests}
 use Rattle.std.proofs.lemmas.List.Elements.{filter-append}
-use Rattle.humantime.specs.declared.duration.reading.class.Class.{Class}
-use Rattle.humantime.specs.declared.duration.reading.class.Class.TheVariants.{White, Digit, Letter, Point, Other}
-use Rattle.humantime.specs.Durations.Characters.{class_of, white, digit, is_ws, is_digit, is_letter, is_numeric, begins, ends, leading, past, digits}
+use Rattle.humantime.specs.Durations.Characters.{is_ws, is_digit, is_letter, is_numeric, begins, ends, leading, past, digits}
 use Rattle.humantime.specs.Durations.Spans.{Only}
 use Rattle.humantime.specs.Durations.Rests.{number_of, after_number, fraction_at, digits_in, word_of, span_of}
 use Rattle.humantime.specs.Durations.Slices.{IsDigitSlice}

@@ -1,9 +1,8 @@
 //! Steps over a text: a character, a number, a fraction.
 
 ghost use Rattle.std.specs.Prelude.{◌≡◌, false, ◌≢◌, ◌++◌, [], ◌∷◌, ℕ, List, length, chars, option_map, encode_utf8, IfNone, IfSome, IfOk, SomeIff, ◌+◌, ◌-◌, ◌*◌, ◌≤◌, slice_index, IsCharBoundary, ◌<◌};
-ghost use Rattle.humantime.specs.Durations.Characters.{IsDigit, is_point, begins, u64_max};
+ghost use Rattle.humantime.specs.Durations.Characters.{is_point, begins, u64_max};
 ghost use Rattle.humantime.specs.References.Durations.Seen.{seen};
-ghost use Rattle.humantime.specs.Durations.Errors.{seen};
 ghost use Rattle.humantime.specs.References.Durations.Classes.{class_of};
 ghost use Rattle.humantime.specs.References.Durations.Scales.{parts_of};
 ghost use Rattle.humantime.specs.References.Durations.Scanning.{IsTail, number_at, digits_at, fraction_read, StepsOver};

@@ -1,5 +1,5 @@
 use Rattle.std.proofs.Common.{refl}
-use Rattle.humantime.specs.Durations.Errors.{fault_of}
+use Rattle.humantime.specs.Prelude.{fault_of}
 use Rattle.humantime_cli.specs.Answers.{Printed_duration, Refused_duration}
 use Rattle.humantime_cli.proofs.EndsLemmas.{accepted, refused, one_text}
 use Rattle.humantime_cli.proofs.command.answer_duration.Goals as goal

@@ -1,5 +1,5 @@
 use Rattle.std.proofs.Common.{subst, sym}
-use Rattle.humantime.specs.References.Timestamps.Printing.{places_of}
+use Rattle.humantime.specs.Prelude.{places_of}
 use Rattle.humantime.proofs.Theorems.{printed_as}
 use Rattle.humantime_cli.specs.Answers.{Refuses}
 use Rattle.humantime_cli.specs.Commands.{Tells}

@@ -1,5 +1,5 @@
 use Rattle.std.proofs.Common.{ap, ◌∙◌}
-use Rattle.humantime.specs.Timestamps.Fields.{IsWeakMoment, IsStrictMoment}
+use Rattle.humantime.specs.Prelude.{IsWeakMoment, IsStrictMoment}
 use Rattle.humantime_cli.specs.Commands.{words_of}
 use Rattle.humantime_cli.proofs.EndsLemmas.{misused, same_words}
 use Rattle.humantime_cli.proofs.MomentLemmas.{read_printable, weak_printable, strict_printable}
