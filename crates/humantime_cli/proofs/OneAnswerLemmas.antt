@@ -6,7 +6,7 @@ use Rattle.humantime.specs.Durations.Canonical.{IsCanonicalOf}
 use Rattle.humantime.specs.Durations.Counts.{Canon}
 use Rattle.humantime.specs.Durations.Accepted.{Accepted}
 use Rattle.humantime.specs.Durations.Faults.{Fault, HasFault}
-use Rattle.humantime.specs.Durations.OutcomeLaws.{OneOutcome}
+use Rattle.humantime.specs.Laws.Outcomes.{OneOutcome}
 use Rattle.humantime.specs.Durations.Messages.{fault_message}
 use Rattle.humantime.specs.Timestamps.Checks.{weak_checks, strict_checks, first_failed}
 use Rattle.humantime.specs.Timestamps.Messages as timestamps
