@@ -9,12 +9,8 @@ pub mod Faults
 pub mod Items
 pub mod Limits
 pub mod Messages
-pub mod Older
-pub mod OutcomeLaws
-pub mod PrintedLaws
 pub mod Rests
 pub mod Slices
 pub mod Spans
 pub mod Sums
-pub mod TextLaws
 pub mod Units

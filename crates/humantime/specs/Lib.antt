@@ -1,5 +1,6 @@
 pub mod Calendar
 pub mod Durations
+pub mod Laws
 pub mod Prelude
 pub mod References
 pub mod Timestamps

@@ -42,16 +42,6 @@ StartsNumber rest = (begins is_digit rest ≡ true) × IsShort (span_of rest)
 abbrev pub MayFollowWord : List ℕ → Type 0
 MayFollowWord next = (next ≡ []) ⊎ (begins is_numeric next ≡ true)
 
--- the offsets of the point, of the word, and of what follows the word
-abbrev pub point_offset : List ℕ → List ℕ → ℕ
-point_offset text rest = offset_of text (after_number rest)
-
-abbrev pub word_offset : List ℕ → List ℕ → ℕ
-word_offset text rest = offset_of text (after_fraction rest)
-
-abbrev pub next_offset : List ℕ → List ℕ → ℕ
-next_offset text rest = offset_of text (after_word rest)
-
 -- How a text goes wrong at a rest, after spans that stand before it, whatever these add up to.
 pub data Stops (text front : List ℕ) (spans : List Span) (rest : List ℕ) (e : Fault) : Type 0 where
   -- there is nothing, or only white space
@@ -72,24 +62,24 @@ pub data Stops (text front : List ℕ) (spans : List Span) (rest : List ℕ) (e 
       → (no_point : fraction_of rest ≡ None)
       → (no_letter : word_of rest ≡ [])
       → (not_at_end : after_word rest ≢ [])
-      → e ≡ InvalidCharacter (next_offset text rest) → Stops text front spans rest e
-  -- a point without digits, and then a letter or the end
+      → e ≡ InvalidCharacter (offset_of text (after_word rest)) → Stops text front spans rest e
+  -- a point without digits, and then a letter or the end; the fault is at the point
   Bare_point : (number : StartsNumber rest)
       → (bare : fraction_of rest ≡ Some [])
       → (letter_or_end : (word_of rest ≢ []) ⊎ (after_word rest ≡ []))
-      → e ≡ InvalidCharacter (point_offset text rest) → Stops text front spans rest e
+      → e ≡ InvalidCharacter (offset_of text (after_number rest)) → Stops text front spans rest e
   -- after a point, digits and white space a character that is none of these and no letter
   Bad_after_fraction : (number : StartsNumber rest)
       → (point : fraction_of rest ≢ None)
       → (no_letter : word_of rest ≡ [])
       → (not_at_end : after_word rest ≢ [])
-      → e ≡ InvalidCharacter (next_offset text rest) → Stops text front spans rest e
+      → e ≡ InvalidCharacter (offset_of text (after_word rest)) → Stops text front spans rest e
   -- after the letters a character that is no letter, digit or white space
   Bad_after_word : (number : StartsNumber rest)
       → (not_bare : fraction_of rest ≢ Some [])
       → (letters : word_of rest ≢ [])
       → (bad : ¬ (MayFollowWord (after_word rest)))
-      → e ≡ InvalidCharacter (next_offset text rest) → Stops text front spans rest e
+      → e ≡ InvalidCharacter (offset_of text (after_word rest)) → Stops text front spans rest e
   -- the end, where a word has to stand
   No_word : (number : StartsNumber rest)
       → (not_bare : fraction_of rest ≢ Some [])
@@ -102,7 +92,7 @@ pub data Stops (text front : List ℕ) (spans : List Span) (rest : List ℕ) (e 
       → (letters : word_of rest ≢ [])
       → (unknown : scale_of_word (word_of rest) ≡ None)
       → (follows : MayFollowWord (after_word rest))
-      → e ≡ UnknownUnit (word_offset text rest) (next_offset text rest) (word_of rest) (decimal_value (number_of rest))
+      → e ≡ UnknownUnit (offset_of text (after_fraction rest)) (offset_of text (after_word rest)) (word_of rest) (decimal_value (number_of rest))
       → Stops text front spans rest e
 
 -- A whole span begins the rest, but with it the spans break a limit.

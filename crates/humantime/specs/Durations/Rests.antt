@@ -1,6 +1,6 @@
 -- The parts of a rest: what is left of a text begins with a number, perhaps a fraction, and a word, each the longest that
 -- stands there. A text is its list of characters.
-use Rattle.std.specs.Prelude.{ℕ, List, [], ◌∷◌, Option, Some, None, if◌then◌else◌}
+use Rattle.std.specs.Prelude.{ℕ, List, [], ◌∷◌, Option, Some, None, option_map, if◌then◌else◌}
 use Rattle.humantime.specs.Durations.Characters.{is_letter, is_numeric, is_point, leading, past, digits}
 use Rattle.humantime.specs.Durations.Spans.{Span}
 
@@ -21,12 +21,8 @@ past_fraction [] = []
 past_fraction (c ∷ cs) = if is_point c then past is_numeric cs else c ∷ cs
 
 -- the digits behind the point after the number, if there is a point, and what follows them
-abbrev pub digits_in : Option (List ℕ) → Option (List ℕ)
-digits_in None = None
-digits_in (Some cs) = Some (digits cs)
-
 abbrev pub fraction_of : List ℕ → Option (List ℕ)
-fraction_of rest = digits_in (fraction_at (after_number rest))
+fraction_of rest = option_map digits (fraction_at (after_number rest))
 
 abbrev pub after_fraction : List ℕ → List ℕ
 after_fraction rest = past_fraction (after_number rest)

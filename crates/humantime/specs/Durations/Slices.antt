@@ -45,16 +45,12 @@ pub record IsLent (text rest : List ℕ) (s : Span) (x : Lent) (next : List ℕ)
 abbrev pub LendsEach : List ℕ → List ℕ → List Span → List Lent → List ℕ → Type 0
 LendsEach text rest [] [] end = rest ≡ end
 LendsEach text rest (s ∷ ss) (x ∷ xs) end = (next : List ℕ) × IsLent text rest s x next × LendsEach text next ss xs end
-LendsEach text rest [] (x ∷ xs) end = ⊥
-LendsEach text rest (s ∷ ss) [] end = ⊥
+LendsEach text rest _ _ end = ⊥
 
 -- what a caller gets: what each span lends, and then the fault, if there is one
-abbrev pub stopping : Option Fault → List (Result Lent Fault)
-stopping None = []
-stopping (Some e) = Err e ∷ []
-
 abbrev pub items_of : List Lent → Option Fault → List (Result Lent Fault)
-items_of [] stop = stopping stop
+items_of [] None = []
+items_of [] (Some e) = Err e ∷ []
 items_of (x ∷ xs) stop = Ok x ∷ items_of xs stop
 
 -- These are the items of the text, and what they lend of it: slice by slice, from its first number to the rest behind its
@@ -72,8 +68,3 @@ pub record AreItems (text : List ℕ) (lent : List (Result Lent Fault)) : Type 0
   pub whole : text ≡ space ++ body
   pub only_space : Only is_ws space
   pub each : LendsEach text body spans xs rest
-
--- there is exactly one such list
-abbrev pub OneListOfSlices : List ℕ → Type 0
-OneListOfSlices text = (lent : List (Result Lent Fault)) × AreItems text lent
-    × ((others : List (Result Lent Fault)) → AreItems text others → others ≡ lent)

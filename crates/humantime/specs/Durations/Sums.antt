@@ -23,8 +23,7 @@ fraction_amount factor ds = decimal_value (significant ds) * factor / 10 ^ lengt
 -- what a fraction adds, where there is one and its unit has fractions
 abbrev pub fraction_additions : ℕ → Option ℕ → Option (List ℕ) → List Addition
 fraction_additions base (Some factor) (Some ds) = record { base = base; amount = fraction_amount factor ds } ∷ []
-fraction_additions base (Some factor) None = []
-fraction_additions base None fraction = []
+fraction_additions base _ _ = []
 
 -- what a span adds where its word is this unit's: its number first, and then its fraction
 abbrev pub additions_at : Option Scale → Span → List Addition

@@ -6,7 +6,7 @@ ghost use Rattle.humantime.specs.Durations.Counts.{Canon};
 ghost use Rattle.humantime.specs.References.Durations.Answers.{duration_answer, canonical_answer};
 ghost use Rattle.humantime.specs.Durations.Faults.{Fault, HasFault};
 ghost use Rattle.humantime.specs.References.Durations.Printing.{duration_text};
-ghost use Rattle.humantime.specs.Durations.PrintedLaws.{HasOneText, ReadsBack, TextsTellApart, HasShortText, HasSmallCounts, HasCanonicalText, KeepsItsValue, KeepsItsText};
+ghost use Rattle.humantime.specs.Laws.Printed.{HasOneText, ReadsBack, TextsTellApart, HasShortText, HasSmallCounts, HasCanonicalText, KeepsItsValue, KeepsItsText};
 
 use crate::value::StdDuration;
 

@@ -1,7 +1,7 @@
 //! What the spans of a text lend of it.
 
 ghost use Rattle.std.specs.Prelude.{chars};
-ghost use Rattle.humantime.specs.Durations.Slices.{OneListOfSlices};
+ghost use Rattle.humantime.specs.Laws.Outcomes.{OneListOfSlices};
 
 /// A text has exactly one list of items that lend it slice by slice, in order. What lies in no slice is white space, or
 /// the point before a fraction. The rule is the crate's.

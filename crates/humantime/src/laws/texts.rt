@@ -1,8 +1,8 @@
 //! Laws of accepted texts: without white space, one behind the other, in another order, and accepted before.
 
 ghost use Rattle.std.specs.Prelude.{◌≡◌, ◌++◌, chars, codes};
-ghost use Rattle.humantime.specs.Durations.Older.{IsStillAccepted};
-ghost use Rattle.humantime.specs.Durations.TextLaws.{NeedsNoWhiteSpace, IsZeroOrSpans, JoinedHaveSum, JoinedOverflow, JoinedHaveSumOrOverflow, ReorderedHaveOneValue, HasNoSpans};
+ghost use Rattle.humantime.specs.Laws.Older.{IsStillAccepted};
+ghost use Rattle.humantime.specs.Laws.Texts.{NeedsNoWhiteSpace, IsZeroOrSpans, JoinedHaveSum, JoinedOverflow, JoinedHaveSumOrOverflow, ReorderedHaveOneValue, HasNoSpans};
 
 /// An accepted text without its white space is accepted with the same value.
 ///

@@ -5,14 +5,13 @@ use Rattle.humantime.specs.Values.Amounts.{duration_end}
 use Rattle.humantime.specs.Durations.Errors.{told}
 use Rattle.humantime.specs.Durations.Accepted.{Accepted}
 use Rattle.humantime.specs.Durations.Faults.{Fault, HasFault}
-use Rattle.humantime.specs.Durations.OutcomeLaws.{OneOutcome, OneReading, OneListOfItems, ItemsDecideValue, ItemsDecideFault, ItemsDecideOverflow}
+use Rattle.humantime.specs.Laws.Outcomes.{OneOutcome, OneReading, OneListOfItems, ItemsDecideValue, ItemsDecideFault, ItemsDecideOverflow, OneListOfSlices}
 use Rattle.humantime.specs.Durations.Faults.{fault_eq}
 use Rattle.humantime.specs.References.Durations.FaultEqualityLemmas.{fault_eq-sound, fault_eq-same}
-use Rattle.humantime.specs.Durations.Slices.{OneListOfSlices}
 use Rattle.humantime.specs.Durations.Counts.{Canon}
 use Rattle.humantime.specs.Durations.Canonical.{IsCanonicalOf}
 use Rattle.humantime.specs.References.Durations.Printing.{duration_text}
-use Rattle.humantime.specs.Durations.PrintedLaws.{HasOneText, ReadsBack, TextsTellApart, HasShortText, HasSmallCounts, HasCanonicalText, KeepsItsValue, KeepsItsText}
+use Rattle.humantime.specs.Laws.Printed.{HasOneText, ReadsBack, TextsTellApart, HasShortText, HasSmallCounts, HasCanonicalText, KeepsItsValue, KeepsItsText}
 use Rattle.humantime.specs.References.Durations.Answers.{duration_answer, canonical_answer}
 use Rattle.humantime.proofs.Durations.Printing.CanonicalTexts as canonical
 use Rattle.humantime.proofs.Durations.Printing.GreatestCounts as counts

@@ -7,7 +7,7 @@ use Rattle.humantime.specs.Durations.Sums.{additions, value}
 use Rattle.humantime.specs.Durations.Limits.{Formed, Fits, AllHaveRoom, WithinLimits}
 use Rattle.humantime.specs.Durations.Accepted.{Accepted}
 use Rattle.humantime.specs.Durations.Faults.{NumberOverflow, HasFault}
-use Rattle.humantime.specs.Durations.TextLaws.{JoinedHaveSum, JoinedOverflow, JoinedHaveSumOrOverflow}
+use Rattle.humantime.specs.Laws.Texts.{JoinedHaveSum, JoinedOverflow, JoinedHaveSumOrOverflow}
 use Rattle.humantime.proofs.Durations.Reading.OneReading.{not_zero}
 use Rattle.humantime.proofs.Durations.Reading.Settled.{additions-append, value-append}
 use Rattle.humantime.proofs.Durations.Reading.Outcomes.{items_whole, within_or_beyond, items_decide_overflow}

@@ -12,7 +12,7 @@ use Rattle.humantime.specs.Durations.Spans.{Span, Only, Spells, SpellsFraction, 
 use Rattle.humantime.specs.Durations.Sums.{fraction_additions, additions_at, additions, total}
 use Rattle.humantime.specs.Durations.Limits.{Formed, FitsFraction, Fits}
 use Rattle.humantime.specs.Durations.Accepted.{Accepted, Bare_zero, Sum_of}
-use Rattle.humantime.specs.Durations.Older.{is_older_letter, older_scale_of_word, older_fraction_additions, older_additions_at, older_additions, OlderFormed, OlderFitsFraction, OlderFits, OlderWithinLimits, AcceptedWithZeros, Older_zero, Older_sum, AcceptedWithoutMu, Oldest_zero, Oldest_sum, IsStillAccepted, HasMu}
+use Rattle.humantime.specs.Laws.Older.{is_older_letter, older_scale_of_word, older_fraction_additions, older_additions_at, older_additions, OlderFormed, OlderFitsFraction, OlderFits, OlderWithinLimits, AcceptedWithZeros, Older_zero, Older_sum, AcceptedWithoutMu, Oldest_zero, Oldest_sum, IsStillAccepted, HasMu}
 use Rattle.humantime.proofs.Durations.Laws.JoinedTexts.{Only-append}
 use Rattle.humantime.proofs.Durations.Reading.Settled.{FitsAt}
 use Rattle.humantime.proofs.Durations.Reading.SignificantDigits.{significant_shorter, whole_part_kept, amount_kept}

@@ -10,7 +10,7 @@ use Rattle.humantime.specs.Durations.Accepted.{Accepted}
 use Rattle.humantime.specs.Durations.Faults.{Fault, HasFault}
 use Rattle.humantime.specs.Durations.Items.{Items}
 use Rattle.humantime.specs.References.Durations.Reading.{items}
-use Rattle.humantime.specs.Durations.TextLaws.{IsZeroOrSpans, HasNoSpans, ReorderedHaveOneValue}
+use Rattle.humantime.specs.Laws.Texts.{IsZeroOrSpans, HasNoSpans, ReorderedHaveOneValue}
 use Rattle.humantime.proofs.Durations.Reading.OneReading.{not_zero}
 use Rattle.humantime.proofs.Durations.Reading.Settled.{value-cons}
 use Rattle.humantime.proofs.Durations.Reading.Outcomes.{zero_or_not, items_found, items_whole, reads_whole, one_reading, outcome_accepted, outcome_fault, items_decide_value}

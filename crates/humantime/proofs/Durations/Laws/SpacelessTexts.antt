@@ -6,7 +6,7 @@ use Rattle.std.proofs.lemmas.List.Elements.{filter-append}
 use Rattle.humantime.specs.Durations.Characters.{is_ws, is_digit, is_letter, is_numeric, begins, digits}
 use Rattle.humantime.specs.Durations.Spans.{Span, Only, SpellsFraction, Spells, SpellsEach, Front, Reads}
 use Rattle.humantime.specs.Durations.Accepted.{Accepted}
-use Rattle.humantime.specs.Durations.TextLaws.{without_white_space, NeedsNoWhiteSpace}
+use Rattle.humantime.specs.Laws.Texts.{without_white_space, NeedsNoWhiteSpace}
 use Rattle.humantime.proofs.Durations.Reading.Classes.{digit_not_space, letter_not_space, point_not_numeric, is_point-46}
 use Rattle.humantime.proofs.Durations.Reading.Outcomes.{zero_or_not}
 use Rattle.humantime.proofs.Durations.Printing.PrintedDigits.{some_digit}

@@ -10,7 +10,7 @@ use Rattle.humantime.specs.Durations.Limits.{AllHaveRoom}
 use Rattle.humantime.specs.Durations.Accepted.{Accepted}
 use Rattle.humantime.specs.Durations.Faults.{NumberOverflow, HasFault}
 use Rattle.humantime.specs.Durations.Counts.{Canon}
-use Rattle.humantime.specs.Durations.TextLaws.{NeedsNoWhiteSpace, IsZeroOrSpans, JoinedHaveSum, JoinedOverflow, JoinedHaveSumOrOverflow, ReorderedHaveOneValue, HasNoSpans}
+use Rattle.humantime.specs.Laws.Texts.{NeedsNoWhiteSpace, IsZeroOrSpans, JoinedHaveSum, JoinedOverflow, JoinedHaveSumOrOverflow, ReorderedHaveOneValue, HasNoSpans}
 use Rattle.humantime.proofs.Durations.Laws.Readings as readings
 use Rattle.humantime.proofs.Durations.Laws.SpacelessTexts as spaceless
 use Rattle.humantime.proofs.Durations.Laws.JoinedTexts as texts

@@ -10,7 +10,7 @@ use Rattle.humantime.specs.Durations.Faults.{Fault}
 use Rattle.humantime.specs.Durations.Counts.{Canon}
 use Rattle.humantime.specs.Durations.Canonical.{IsCanonicalOf}
 use Rattle.humantime.specs.References.Durations.Printing.{duration_text}
-use Rattle.humantime.specs.Durations.PrintedLaws.{HasOneText, TextsTellApart, HasCanonicalText, KeepsItsValue, KeepsItsText}
+use Rattle.humantime.specs.Laws.Printed.{HasOneText, TextsTellApart, HasCanonicalText, KeepsItsValue, KeepsItsText}
 use Rattle.humantime.proofs.Durations.Reading.Rooms.{RoomFrom, room_from_all}
 use Rattle.humantime.proofs.Durations.Reading.Outcomes.{outcome_accepted}
 use Rattle.humantime.proofs.Durations.Printing.GreatestCounts.{text_is_canon, canon_is_text, one_canon}

@@ -3,7 +3,7 @@ use Rattle.std.proofs.Common.{◌≡◌, ◌≢◌, ℕ, ◌<◌, List, [], ◌�
 use Rattle.humantime.specs.Durations.Characters.{is_ws, is_digit, past}
 use Rattle.humantime.specs.Durations.Spans.{Span, SpellsEach, Front, Reads}
 use Rattle.humantime.specs.Durations.Faults.{Split}
-use Rattle.humantime.specs.Durations.OutcomeLaws.{OneReading}
+use Rattle.humantime.specs.Laws.Outcomes.{OneReading}
 use Rattle.humantime.proofs.Durations.Reading.Runs.{begins_not_nil}
 use Rattle.humantime.proofs.Durations.Reading.Spelled.{IsSpanAt}
 use Rattle.humantime.proofs.Durations.Reading.Written.{spelling_some}

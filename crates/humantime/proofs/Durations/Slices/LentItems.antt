@@ -7,7 +7,8 @@ use Rattle.humantime.specs.Durations.Rests.{span_of}
 use Rattle.humantime.specs.Durations.Faults.{Fault, NumberExpected, NumberOverflow, Empty}
 use Rattle.humantime.specs.References.Durations.Reading.{stop_at, read, items_from, items, with_span, add_span, settle}
 use Rattle.humantime.specs.References.Durations.Answers.{duration_answer}
-use Rattle.humantime.specs.Durations.Slices.{Lent, LendsEach, stopping, items_of, AreItems, OneListOfSlices}
+use Rattle.humantime.specs.Durations.Slices.{Lent, LendsEach, items_of, AreItems}
+use Rattle.humantime.specs.Laws.Outcomes.{OneListOfSlices}
 use Rattle.humantime.specs.References.Durations.Lending.{lent_at, lends, left_at, lent_items, judged}
 use Rattle.humantime.proofs.Durations.Slices.LendingSteps.{Turn, No_digit, Faulty, Spanned, turn, lends-expected, lends-stopped, lends-fine}
 use Rattle.humantime.proofs.Durations.Reading.Found.{items_found_at}
@@ -72,7 +73,7 @@ record LentFrom (text rest end : List ℕ) (items : List (Result Lent Fault)) (f
   are : items ≡ items_of xs found.1
   each : LendsEach text rest found.0 xs end
 
-lent_none : (text rest : List ℕ) (stop : Option Fault) → LentFrom text rest rest (stopping stop) ([], stop)
+lent_none : (text rest : List ℕ) (stop : Option Fault) → LentFrom text rest rest (items_of [] stop) ([], stop)
 lent_none text rest stop = record { xs = []; are = refl; each = refl }
 
 lent_cons : (text rest end : List ℕ) (items : List (Result Lent Fault)) (found : List Span × Option Fault) → begins is_digit rest ≡ true → stop_at text rest ≡ None

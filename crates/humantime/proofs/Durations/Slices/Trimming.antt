@@ -6,7 +6,7 @@ use Rattle.std.proofs.lemmas.Bool.Decides.{nat_tests}
 use Rattle.std.proofs.lemmas.List.Elements.{filter-append}
 use Rattle.humantime.specs.Durations.Characters.{is_ws, is_digit, is_letter, is_numeric, begins, ends, leading, past, digits}
 use Rattle.humantime.specs.Durations.Spans.{Only}
-use Rattle.humantime.specs.Durations.Rests.{number_of, after_number, fraction_at, digits_in, word_of, span_of}
+use Rattle.humantime.specs.Durations.Rests.{number_of, after_number, fraction_at, word_of, span_of}
 use Rattle.humantime.specs.Durations.Slices.{IsDigitSlice}
 use Rattle.humantime.specs.References.Durations.Lending.{trimmed, number_slice, fraction_slice, lent_at, spelled}
 use Rattle.humantime.proofs.Durations.Reading.Classes.{white_is, letter_not_numeric, letter_not_point, is_point-46, space_not_digit, digit_from_numeric}
@@ -57,10 +57,10 @@ digits_trimmed cs = digits_dropped (past is_ws cs) (trimmed cs) (dropped (past i
 number_spelled : (rest : List ℕ) → digits (number_slice rest) ≡ number_of rest
 number_spelled rest = digits_dropped (leading is_numeric rest) (number_slice rest) (dropped (leading is_numeric rest))
 
-fraction_spelled : (after : List ℕ) → option_map digits (fraction_slice after) ≡ digits_in (fraction_at after)
+fraction_spelled : (after : List ℕ) → option_map digits (fraction_slice after) ≡ option_map digits (fraction_at after)
 fraction_spelled after = by (fraction_at after)
   where
-    by : (o : Option (List ℕ)) → option_map digits (option_map trimmed o) ≡ digits_in o
+    by : (o : Option (List ℕ)) → option_map digits (option_map trimmed o) ≡ option_map digits o
     by None = refl
     by (Some cs) = ap (λ (x : List ℕ). Some x) (digits_trimmed cs)
 

@@ -1,12 +1,13 @@
--- What a text is: one value or one fault, one list of spans, one list of items; and what its items decide. A text is its
--- list of characters.
-use Rattle.std.specs.Prelude.{◌≡◌, ◌≢◌, ◌↔◌, ◌⊎◌, ℕ, List, [], ◌∷◌, Option, Some, None}
+-- What a text is: one value or one fault, one list of spans, one list of items, one list of slices; and what its items
+-- decide. A text is its list of characters.
+use Rattle.std.specs.Prelude.{◌≡◌, ◌≢◌, ◌↔◌, ◌⊎◌, ℕ, List, [], ◌∷◌, Option, Some, None, Result}
 use Rattle.humantime.specs.Durations.Spans.{Span, Reads}
 use Rattle.humantime.specs.Durations.Sums.{value}
 use Rattle.humantime.specs.Durations.Limits.{WithinLimits}
 use Rattle.humantime.specs.Durations.Accepted.{Accepted}
 use Rattle.humantime.specs.Durations.Faults.{Fault, NumberOverflow, HasFault}
 use Rattle.humantime.specs.Durations.Items.{Items}
+use Rattle.humantime.specs.Durations.Slices.{Lent, AreItems}
 
 -- the text has this value or fault, and no other
 abbrev pub OnlyValue : List ℕ → ℕ → Type 0
@@ -27,6 +28,11 @@ OneReading text = (ss ts : List Span) → Reads text ss → Reads text ts → ss
 abbrev pub OneListOfItems : List ℕ → Type 0
 OneListOfItems text = (spans : List Span) × (stop : Option Fault) × Items text spans stop
     × ((ss : List Span) (o : Option Fault) → Items text ss o → (ss ≡ spans) × (o ≡ stop))
+
+-- exactly one list of items with what they lend
+abbrev pub OneListOfSlices : List ℕ → Type 0
+OneListOfSlices text = (lent : List (Result Lent Fault)) × AreItems text lent
+    × ((others : List (Result Lent Fault)) → AreItems text others → others ≡ lent)
 
 -- the items of a text that isn't exactly `0` decide its value: it is accepted exactly where nothing stops the spans and they
 -- are within the limits, with their sum

@@ -1,5 +1,5 @@
 -- What was accepted before: while the Greek letter mu, U+03BC, was no letter, and while zeros at the end of a fraction
--- counted for its limits.
+-- counted for its limits. A text is its list of characters.
 use Rattle.std.specs.Prelude.{◌≡◌, ℕ, ◌*◌, ◌/◌, ◌^◌, ◌≤◌, Bool, ◌||◌, ◌==◌, List, [], ◌∷◌, ◌++◌, length, filter, Option, Some, None, IsSome, IfSome, flat_map, bytes_eq, ⊤}
 use Rattle.std.specs.List.{AllByRecursion, list_all}
 use Rattle.std.specs.Char.{is_ascii_alphabetic}
@@ -81,8 +81,8 @@ pub data AcceptedWithoutMu (text : List ℕ) (v : ℕ) : Type 0 where
   -- it was exactly `0`
   Oldest_zero : text ≡ 48 ∷ [] → v ≡ 0 → AcceptedWithoutMu text v
   -- it was spans of the older words within the limits that add up to v
-  Oldest_sum : (spans : List Span) → OlderReads text spans → OlderWithinLimits older_scale_of_word spans → older_value older_scale_of_word spans ≡ v
-      → AcceptedWithoutMu text v
+  Oldest_sum : (spans : List Span) → OlderReads text spans → OlderWithinLimits older_scale_of_word spans
+      → older_value older_scale_of_word spans ≡ v → AcceptedWithoutMu text v
 
 -- what was accepted while such zeros counted is accepted with the same value
 abbrev pub IsStillAccepted : List ℕ → Type 0
