@@ -128,9 +128,8 @@ pub fn day_number(date: Date, turns: &mut Turns) -> Option<u32>
 }
 
 // The year that holds this day, of the years that begin on 1 March, from 1600 on, and the day's place in it.
-//
-// A cycle is a quarter of a day longer than four times its part without a leap day at the end, so the part that
-// holds a day is found by quarters of a day, and the last part needs no case of its own.
+// Parts are counted in quarters of a day: a century of a cycle has 146097 of them, and a year of four 1461, also
+// the last one, whose leap day makes it longer than the others.
 #[inline(always)]
 fn march_year(day: u32) -> (u32, u32)
     requires { day ≤ 2_932_896 }
@@ -186,7 +185,7 @@ fn march_date(year: u32, month: u32, left: u32) -> Date
 /// date_of_day(11016, &mut turns) == Some(Date { year: 2000, month: 2, day: 29 })
 /// ```
 #[inline(always)]
-#[tactic(auto, using(crate::proofs::Dates::March::first_month, crate::proofs::Dates::March::month_over, crate::proofs::Dates::March::month_stays, crate::proofs::Dates::March::month_found), unfolding(crate::specs::References::Calendar::March::march_months))]
+#[tactic(auto, using(crate::proofs::Dates::March::first_month, crate::proofs::Dates::March::month_found), unfolding(crate::specs::References::Calendar::March::march_months))]
 pub fn date_of_day(day: u32, turns: &mut Turns) -> Option<Date>
     ensures within { IsSome result ↔ (day ≤ 2_932_896) }
     ensures date { IfSome result (λ d. IsDate d × (day_of d ≡ day)) }

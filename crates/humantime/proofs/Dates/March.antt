@@ -6,10 +6,6 @@ use Rattle.humantime.specs.References.Calendar.March.{march_days, march_year_len
 use Rattle.humantime.proofs.Dates.Months.{below_12, below_10, ten_or_eleven}
 use Rattle.humantime.proofs.Dates.Years.{march_days_next, march_days_of_years, days_in_year_bound, february}
 
-pub march_months_none : march_months 0 ≡ 0
-unfolding march_months
-march_months_none = refl
-
 pub march_months_next : (k : ℕ) → k < 12 → march_months (k + 1) ≡ march_months k + march_length k
 unfolding march_months march_length
 march_months_next =

@@ -211,6 +211,7 @@ impl<'b> Writer<'b> {
     }
 
     /// How many bytes are written.
+    #[inline(always)]
     pub(crate) fn finish(self) -> usize
         requires fits { self.end ≤ length self.bytes.now }
         requires utf8 { IsUtf8 (written self) }
@@ -221,20 +222,10 @@ impl<'b> Writer<'b> {
         let Writer { bytes: _, end } = self;
         end
     }
-
-    /// The text that is written.
-    #[inline(always)]
-    pub(crate) fn text(self) -> &'b str
-        requires fits { self.end ≤ length self.bytes.now }
-        requires utf8 { IsUtf8 (written self) }
-        ensures { result.now ≡ written self.entry }
-    {
-        let Writer { bytes, end } = self;
-        unsafe { from_utf8_unchecked(&bytes[..end]) }
-    }
 }
 
 /// The text at the front of a buffer.
+#[inline(always)]
 pub(crate) fn front(buf: &[u8], end: usize) -> &str
     requires fits { end ≤ length buf.now }
     requires utf8 { IsUtf8 (take end buf.now) }
