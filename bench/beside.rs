@@ -43,8 +43,22 @@ struct Answer {
     value: u64,
 }
 
+/// What the program wrote to one of its outputs.
+#[repr(C)]
+struct Sink {
+    length: usize,
+    bytes: [u8; 128],
+}
+
+impl Sink {
+    fn new() -> Sink {
+        Sink { length: 0, bytes: [0; 128] }
+    }
+}
+
 #[allow(improper_ctypes)]
 unsafe extern "C" {
+    fn library_run(command: *const u8, command_length: usize, text: *const u8, text_length: usize, out: &mut Sink, err: &mut Sink) -> u8;
     fn library_read_duration(text: *const u8, length: usize, place: &mut Answer);
     fn library_walk_spans(text: *const u8, length: usize, place: &mut Answer);
     fn library_canonical(text: *const u8, length: usize, place: &mut [u8; 64]) -> usize;
@@ -128,6 +142,27 @@ fn crate_print_micros(moment: SystemTime, place: &mut Text) {
 fn crate_print_nanos(moment: SystemTime, place: &mut Text) {
     place.clear();
     let _ = write!(place, "{}", humantime::format_rfc3339_nanos(moment));
+}
+
+/// What a program over the crate does with a command and its text: it reads, and prints what it read as a line.
+#[inline(never)]
+fn crate_run(command: &str, text: &str, place: &mut Text) {
+    place.clear();
+    let _ = match command {
+        "duration" => match humantime::parse_duration(text) {
+            Ok(duration) => writeln!(place, "{}", humantime::format_duration(duration)),
+            Err(error) => writeln!(place, "{error}"),
+        },
+        "strict" => match humantime::parse_rfc3339(text) {
+            Ok(moment) => writeln!(place, "{}", humantime::format_rfc3339(moment)),
+            Err(error) => writeln!(place, "{error}"),
+        },
+        "weak" => match humantime::parse_rfc3339_weak(text) {
+            Ok(moment) => writeln!(place, "{}", humantime::format_rfc3339(moment)),
+            Err(error) => writeln!(place, "{error}"),
+        },
+        _ => Ok(()),
+    };
 }
 
 /// The nanoseconds of so many calls.
@@ -457,7 +492,42 @@ fn timestamps() {
     );
 }
 
+/// The program's whole answer to a command and its text. What it refuses is written to the other place.
+macro_rules! run {
+    ($command:expr, $text:expr) => {{
+        let (command, text): (&str, &str) = ($command, $text);
+        let (mut out, mut err) = (Sink::new(), Sink::new());
+        let mut crate_place = Text::with_capacity(256);
+        crate_run(command, text, &mut crate_place);
+        unsafe { library_run(command.as_ptr(), command.len(), text.as_ptr(), text.len(), &mut out, &mut err) };
+        let told = [&out.bytes[..out.length], &err.bytes[..err.length]].concat();
+        assert_eq!(plain(&told), plain(crate_place.as_bytes()));
+        race(
+            &format!("the program's `{command}` of `{text}`, beside reading and printing"),
+            || {
+                crate_run(black_box(command), black_box(text), &mut crate_place);
+                black_box(&crate_place);
+            },
+            || {
+                let (command, text) = black_box((command, text));
+                let status = unsafe {
+                    library_run(command.as_ptr(), command.len(), text.as_ptr(), text.len(), &mut out, &mut err)
+                };
+                black_box((status, &out, &err));
+            },
+        );
+    }};
+}
+
+fn program() {
+    run!("duration", "2h 37min");
+    run!("duration", "1foo~");
+    run!("strict", "2018-02-14T00:28:07Z");
+    run!("weak", "2018-02-14T00:28:07.123456789Z");
+}
+
 fn main() {
     durations();
     timestamps();
+    program();
 }

@@ -22,8 +22,10 @@ const DAYS_BEFORE_MONTH: [u32; 12] = [0, 31, 59, 90, 120, 151, 181, 212, 243, 27
 /// The days of each month, January first, with 28 for February.
 const MONTH_LENGTHS: [u32; 12] = [31, 28, 31, 30, 31, 30, 31, 31, 30, 31, 30, 31];
 
-/// The days of each month of a year that begins on 1 March and ends with a leap day.
-const MARCH_MONTH_LENGTHS: [u32; 12] = [31, 30, 31, 30, 31, 31, 30, 31, 30, 31, 31, 29];
+/// The days before each month of a year that begins on 1 March, and of the whole year, which ends with a leap day.
+const DAYS_BEFORE_MARCH_MONTH: [u32; 13] = [
+    0, 31, 61, 92, 122, 153, 184, 214, 245, 275, 306, 337, 366,
+];
 
 /// Cycles of 400 years, 146097 days each, are counted from 2000-03-01, which is day 11017. Earlier days lie
 /// in the cycle before. It begins on 1600-03-01, which is so many days before 1970-01-01.
@@ -127,6 +129,9 @@ pub fn day_number(date: Date, turns: &mut Turns) -> Option<u32>
 }
 
 /// The year that holds this day, of the years that begin on 1 March, from 1600 on, and the day's place in it.
+/// Parts are counted in quarters of a day: a century of a cycle has 146097 of them, and a year of four 1461, also
+/// the last one, whose leap day makes it longer than the others.
+#[inline(always)]
 fn march_year(day: u32) -> (u32, u32)
     requires { day ≤ 2_932_896 }
     ensures high { result.0 < 8400 }
@@ -136,17 +141,18 @@ fn march_year(day: u32) -> (u32, u32)
     let days = day + DAYS_FROM_MARCH_1600;
     let cycles = days / 146_097;
     let mut left = days % 146_097;
-    let centuries = (left / 36_524).min(3);
+    let centuries = (4 * left + 3) / 146_097;
     left -= centuries * 36_524;
     let fours = left / 1461;
     left -= fours * 1461;
-    let years = (left / 365).min(3);
+    let years = (4 * left + 3) / 1461;
     left -= years * 365;
-    (400 * cycles + 100 * centuries + 4 * fours + years, left)
+    (100 * (4 * cycles + centuries) + 4 * fours + years, left)
 }
 
 /// The date with so many days of the month before it. March is month 0, and January and February are the last
 /// months of a year that began in the calendar's year before.
+#[inline(always)]
 fn march_date(year: u32, month: u32, left: u32) -> Date
     requires month { month < 12 }
     requires left { left < march_length month }
@@ -179,7 +185,8 @@ fn march_date(year: u32, month: u32, left: u32) -> Date
 /// ```text
 /// date_of_day(11016, &mut turns) == Some(Date { year: 2000, month: 2, day: 29 })
 /// ```
-#[tactic(auto, using(crate::proofs::Dates::March::march_months_none, crate::proofs::Dates::March::march_months_next, crate::proofs::Dates::March::march_months_all), unfolding(crate::specs::References::Calendar::March::march_length))]
+#[inline(always)]
+#[tactic(auto, using(crate::proofs::Dates::March::first_month, crate::proofs::Dates::March::month_found), unfolding(crate::specs::References::Calendar::March::march_months))]
 pub fn date_of_day(day: u32, turns: &mut Turns) -> Option<Date>
     ensures within { IsSome result ↔ (day ≤ 2_932_896) }
     ensures date { IfSome result (λ d. IsDate d × (day_of d ≡ day)) }
@@ -189,14 +196,14 @@ pub fn date_of_day(day: u32, turns: &mut Turns) -> Option<Date>
     if day > LAST_DAY {
         return None;
     }
-    let (year, mut left) = march_year(day);
-    for month in 0..12 {
+    let (year, left) = march_year(day);
+    let mut month = 0;
+    for next in 1..13_u32 {
         turns.tick();
-        let length = MARCH_MONTH_LENGTHS[month as usize];
-        if left < length {
-            return Some(march_date(year, month, left));
+        if left >= DAYS_BEFORE_MARCH_MONTH[next as usize] {
+            month += 1;
         }
-        left -= length;
     }
-    unreachable!()
+    let first = DAYS_BEFORE_MARCH_MONTH[month as usize];
+    Some(march_date(year, month, left - first))
 }

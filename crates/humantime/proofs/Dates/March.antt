@@ -1,13 +1,10 @@
 -- Years that begin with March, beside those of the calendar.
-use Rattle.std.proofs.Common.{◌≡◌, ℕ, ◌+◌, ◌-◌, ◌<◌, ◌≤◌, refl, ap, arith}
+use Rattle.std.proofs.Common.{◌≡◌, ◌⊎◌, inl, inr, ℕ, zero, suc, ◌+◌, ◌-◌, ◌<◌, ◌≤◌, refl, ap, subst, sym, arith}
+use Rattle.std.proofs.lemmas.Bool.{cases_eq}
 use Rattle.humantime.specs.Calendar.Years.{days_in_year, days_in_month, days_of_years, days_of_months, IsValid, day_count}
 use Rattle.humantime.specs.References.Calendar.March.{march_days, march_year_length, march_length, march_months}
 use Rattle.humantime.proofs.Dates.Months.{below_12, below_10, ten_or_eleven}
 use Rattle.humantime.proofs.Dates.Years.{valid_from, march_days_next, march_days_of_years, days_in_year_bound, february}
-
-pub march_months_none : march_months 0 ≡ 0
-unfolding march_months
-march_months_none = refl
 
 pub march_months_next : (k : ℕ) → k < 12 → march_months (k + 1) ≡ march_months k + march_length k
 unfolding march_months march_length
@@ -18,6 +15,50 @@ march_months_next =
 pub march_months_all : march_months 12 ≡ 366
 unfolding march_months
 march_months_all = refl
+
+months_grow : (n : ℕ) (k : ℕ) → n + k ≤ 12 → march_months n ≤ march_months (n + k)
+months_grow n zero h = let same : n + 0 ≡ n = omega arith in rw same (omega arith)
+months_grow n (suc k) h =
+    omega (arith, months_grow n k (omega arith), march_months_next (n + k) (omega arith), ap march_months (let e : n + suc k ≡ n + k + 1 = omega arith in e))
+
+-- The month that holds this day of the year, among those before the next.
+pub record IsMonthBefore (next day month : ℕ) : Type 0 where
+  pub some : month < next
+  pub begun : march_months month ≤ day
+  pub last : (month + 1 ≡ next) ⊎ (day < march_months (month + 1))
+
+pub first_month : (day : ℕ) → IsMonthBefore 1 day 0
+unfolding march_months
+first_month day = record { some = omega arith; begun = omega arith; last = inl refl }
+
+pub month_over : (next day month : ℕ) → next ≤ 12 → march_months next ≤ day → IsMonthBefore next day month → IsMonthBefore (next + 1) day (month + 1)
+month_over next day month few over h = elim h.last [
+  | inl same ↦ record { some = omega arith; begun = subst (λ (k : ℕ). march_months k ≤ day) (sym same) over; last = inl (omega arith) }
+  | inr later ↦
+      let e : month + 1 + (next - (month + 1)) ≡ next = omega (arith, h.some) in
+      let grow : march_months (month + 1) ≤ march_months next = subst (λ (k : ℕ). march_months (month + 1) ≤ march_months k) e (months_grow (month + 1) (next - (month + 1)) (omega (arith, h.some))) in
+      absurd (omega arith)
+]
+
+pub month_stays : (next day month : ℕ) → day < march_months next → IsMonthBefore next day month → IsMonthBefore (next + 1) day month
+month_stays next day month later h = record {
+  some = omega (arith, h.some);
+  begun = h.begun;
+  last = elim h.last [
+    | inl same ↦ inr (subst (λ (k : ℕ). day < march_months k) (sym same) later)
+    | inr before ↦ inr before
+  ];
+}
+
+-- of all twelve it is the one that holds the day
+pub month_found : (day month : ℕ) → day < 366 → IsMonthBefore 13 day month → (month < 12) × (day - march_months month < march_length month)
+month_found day month within h = elim (cases_eq month 12) [
+  | inl whole ↦ absurd (omega (arith, march_months_all, subst (λ (k : ℕ). march_months k ≤ day) whole h.begun))
+  | inr other ↦
+      let few : month < 12 = omega (arith, h.some, other) in
+      let later : day < march_months (month + 1) = elim h.last [ inl same ↦ absurd (omega arith) | inr before ↦ before ] in
+      (few, omega (arith, h.begun, march_months_next month few))
+]
 
 -- March to December are ten months of one year, and two months stand before them
 early_months : (y : ℕ) → (k : ℕ) → k < 10 → march_months k + days_in_year y ≡ days_of_months y (k + 2) + 306

@@ -14,8 +14,8 @@ ghost use Rattle.humantime.specs.References.Durations.Writing.{written};
 
 use crate::buffer::front;
 use crate::duration::error::DurationError;
-use crate::duration::reading::parse_duration;
 use crate::duration::printing::writer::Writer;
+use crate::duration::reading::parse_duration;
 use crate::value::StdDuration;
 use std::fmt;
 use std::marker::Model;
@@ -88,12 +88,12 @@ impl FormattedDuration {
         ensures canon { Canon self.now result.now }
         ensures text { result.now ≡ duration_text self.now }
     {
-        let mut writer = Writer::new(buf);
-        write_duration(&mut writer, self.value);
-        writer.text()
+        let end = self.write(buf);
+        front(buf, end)
     }
 
     /// Writes the printed text to the front of the buffer, and says how long it is.
+    #[inline(never)]
     fn write(&self, buf: &mut [u8; 64]) -> usize
         ensures fits { result ≤ 64 }
         ensures text { take result buf.new ≡ duration_text self.now }
@@ -152,6 +152,7 @@ fn write_canonical<'a>(s: &'a str, buf: &mut [u8; 64]) -> Result<usize, Duration
 }
 
 /// Writes a duration's text.
+#[inline(always)]
 fn write_duration(writer: &mut Writer<'_>, duration: StdDuration)
     requires empty { written writer.old ≡ [] }
     requires end { writer.old.end ≡ 0 }
@@ -169,6 +170,7 @@ fn write_duration(writer: &mut Writer<'_>, duration: StdDuration)
 }
 
 /// Writes the counts of whole seconds.
+#[inline(always)]
 #[tactic(auto, unfolding(crate::specs::References::Durations::Printing::with_seconds), using(crate::proofs::Durations::Printing::DecimalLengths::decimal_twelve, crate::proofs::Durations::Printing::DecimalLengths::decimal_two))]
 fn write_seconds(writer: &mut Writer<'_>, secs: u64)
     requires end { writer.old.end ≡ 0 }
@@ -193,6 +195,7 @@ fn write_seconds(writer: &mut Writer<'_>, secs: u64)
 }
 
 /// Writes the counts of less than a second.
+#[inline(always)]
 #[tactic(auto, unfolding(crate::specs::References::Durations::Printing::with_nanos), using(crate::proofs::Durations::Printing::DecimalLengths::decimal_three))]
 fn write_nanos(writer: &mut Writer<'_>, nanos: u32)
     requires nanos { nanos < nanos_per_second }

@@ -1,13 +1,12 @@
 //! A text written to the front of a caller's buffer.
 
-ghost use Rattle.std.specs.Prelude.{◌≡◌, ◌≤◌, ◌+◌, ◌++◌, [], length, take, decimal};
+ghost use Rattle.std.specs.Prelude.{◌≡◌, ◌<◌, ◌≤◌, ◌+◌, ◌∷◌, ◌++◌, [], length, take, decimal};
 ghost use Rattle.std.specs.Str.{IsUtf8};
 ghost use Rattle.humantime.specs.Durations.Counts.{with_plural, without_plural};
 ghost use Rattle.humantime.specs.References.Durations.Printing.{separated, with_count, or_zero};
 ghost use Rattle.humantime.specs.References.Durations.Writing.{written};
 
 use itoa::Buffer;
-use std::str::from_utf8_unchecked;
 
 /// A buffer, and how many of its bytes are written.
 #[derive(Drop)]
@@ -46,9 +45,66 @@ impl<'b> Writer<'b> {
         self.end = end;
     }
 
-    /// Writes the number's decimal digits.
+    /// Writes the digit of a number below ten.
+    #[inline(always)]
+    fn push_digit(&mut self, number: u32)
+        requires small { number < 10 }
+        requires fits { self.old.end < length self.old.bytes.now }
+        requires utf8 { IsUtf8 (written self.old) }
+        ensures same_reference { self.new.bytes.ghost_name ≡ self.old.bytes.ghost_name }
+        ensures room { length self.new.bytes.now ≡ length self.old.bytes.now }
+        ensures end { self.new.end ≡ self.old.end + 1 }
+        ensures written { written self.new ≡ written self.old ++ (48 + number) ∷ [] }
+        ensures utf8 { IsUtf8 (written self.new) }
+    {
+        let bytes = &mut *self.bytes;
+        bytes[self.end] = b'0' + number as u8;
+        self.end += 1;
+    }
+
+    /// Writes the digits of a number below 100.
+    #[inline(always)]
+    #[tactic(auto, using(crate::proofs::Durations::Printing::DecimalLengths::length_one, crate::proofs::Durations::Printing::DecimalLengths::length_more, crate::proofs::Durations::Printing::DecimalLengths::written_one, crate::proofs::Durations::Printing::DecimalLengths::written_more))]
+    fn push_below_100(&mut self, number: u32)
+        requires small { number < 100 }
+        requires fits { self.old.end + length (decimal number) ≤ length self.old.bytes.now }
+        requires utf8 { IsUtf8 (written self.old) }
+        ensures same_reference { self.new.bytes.ghost_name ≡ self.old.bytes.ghost_name }
+        ensures room { length self.new.bytes.now ≡ length self.old.bytes.now }
+        ensures end { self.new.end ≡ self.old.end + length (decimal number) }
+        ensures written { written self.new ≡ written self.old ++ decimal number }
+        ensures utf8 { IsUtf8 (written self.new) }
+    {
+        if number < 10 {
+            return self.push_digit(number);
+        }
+        self.push_digit(number / 10);
+        self.push_digit(number % 10);
+    }
+
+    /// Writes the digits of a number below 1000.
+    #[inline(always)]
+    #[tactic(auto, using(crate::proofs::Durations::Printing::DecimalLengths::length_one, crate::proofs::Durations::Printing::DecimalLengths::length_more, crate::proofs::Durations::Printing::DecimalLengths::written_one, crate::proofs::Durations::Printing::DecimalLengths::written_more))]
+    fn push_below_1000(&mut self, number: u32)
+        requires small { number < 1000 }
+        requires fits { self.old.end + length (decimal number) ≤ length self.old.bytes.now }
+        requires utf8 { IsUtf8 (written self.old) }
+        ensures same_reference { self.new.bytes.ghost_name ≡ self.old.bytes.ghost_name }
+        ensures room { length self.new.bytes.now ≡ length self.old.bytes.now }
+        ensures end { self.new.end ≡ self.old.end + length (decimal number) }
+        ensures written { written self.new ≡ written self.old ++ decimal number }
+        ensures utf8 { IsUtf8 (written self.new) }
+    {
+        if number < 10 {
+            return self.push_digit(number);
+        }
+        self.push_below_100(number / 10);
+        self.push_digit(number % 10);
+    }
+
+    /// Writes the digits of any number.
     #[inline(never)]
-    fn push_number(&mut self, number: u64)
+    fn push_long(&mut self, number: u64)
         requires fits { self.old.end + length (decimal number) ≤ length self.old.bytes.now }
         requires utf8 { IsUtf8 (written self.old) }
         ensures same_reference { self.new.bytes.ghost_name ≡ self.old.bytes.ghost_name }
@@ -59,6 +115,24 @@ impl<'b> Writer<'b> {
     {
         let mut buffer = Buffer::new();
         self.push(buffer.format(number));
+    }
+
+    /// Writes the number's decimal digits. Most counts are below 1000, and then no digits are copied.
+    #[inline(always)]
+    fn push_number(&mut self, number: u64)
+        requires fits { self.old.end + length (decimal number) ≤ length self.old.bytes.now }
+        requires utf8 { IsUtf8 (written self.old) }
+        ensures same_reference { self.new.bytes.ghost_name ≡ self.old.bytes.ghost_name }
+        ensures room { length self.new.bytes.now ≡ length self.old.bytes.now }
+        ensures end { self.new.end ≡ self.old.end + length (decimal number) }
+        ensures written { written self.new ≡ written self.old ++ decimal number }
+        ensures utf8 { IsUtf8 (written self.new) }
+    {
+        if number < 1000 {
+            self.push_below_1000(number as u32);
+        } else {
+            self.push_long(number);
+        }
     }
 
     /// Writes a space, unless nothing is written.
@@ -136,6 +210,7 @@ impl<'b> Writer<'b> {
     }
 
     /// How many bytes are written.
+    #[inline(always)]
     pub(crate) fn finish(self) -> usize
         requires fits { self.end ≤ length self.bytes.now }
         requires utf8 { IsUtf8 (written self) }
@@ -145,16 +220,5 @@ impl<'b> Writer<'b> {
     {
         let Writer { bytes: _, end } = self;
         end
-    }
-
-    /// The text that is written.
-    #[inline(always)]
-    pub(crate) fn text(self) -> &'b str
-        requires fits { self.end ≤ length self.bytes.now }
-        requires utf8 { IsUtf8 (written self) }
-        ensures { result.now ≡ written self.entry }
-    {
-        let Writer { bytes, end } = self;
-        unsafe { from_utf8_unchecked(&bytes[..end]) }
     }
 }

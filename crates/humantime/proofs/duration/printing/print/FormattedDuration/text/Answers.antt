@@ -5,9 +5,7 @@ use Rattle.humantime.proofs.Durations.Printing.GreatestCounts.{text_is_canon}
 use Rattle.humantime.proofs.duration.printing.print.FormattedDuration.text.Goals as goal
 
 pub returns-clause-text : goal.returns-clause-text
-returns-clause-text c =
-    let kept : c.self.inside.value ≡ c.args.self.now = cc in
-    c.text.ensures ∙ c.write_duration.ensures.written ∙ ap duration_text kept
+returns-clause-text c = c.front.ensures ∙ c.write-end.ensures.text
 
 pub returns-clause-canon : goal.returns-clause-canon
 returns-clause-canon c = subst (Canon c.args.self.now) (sym (returns-clause-text c)) (text_is_canon c.args.self.now)
