@@ -15,6 +15,10 @@ hours_and_minutes = refl
 hours_and_minutes_accepted : Accepted (codes "2h 37min") 9420000000000
 hours_and_minutes_accepted = accepted_from_outcome (codes "2h 37min") 9420000000000 hours_and_minutes
 
+white_space_between_digits : duration_answer (codes "1 2 s") ≡ Ok 12000000000
+unfolding humantime_on_literals
+white_space_between_digits = refl
+
 fractions : duration_answer (codes "1.234s0.345ms0.678us0ns") ≡ Ok 1234345678
 unfolding humantime_on_literals
 fractions = refl
