@@ -2,20 +2,8 @@
 use Rattle.std.proofs.Common.{arith, ◌≡◌, ℕ, List, [], ◌∷◌, inl, inr, sym, ap, ◌∙◌, subst, refl}
 use Rattle.std.specs.Prelude.{ℤ, Option, Some, None, Result, Ok, Err, codes, chars}
 use Rattle.humantime.specs.declared.date.error.TimestampError.{TimestampError}
-use Rattle.humantime.specs.Durations.Canonical.{IsCanonicalOf}
-use Rattle.humantime.specs.Durations.Counts.{Canon}
-use Rattle.humantime.specs.Durations.Accepted.{Accepted}
-use Rattle.humantime.specs.Durations.Faults.{Fault, HasFault}
-use Rattle.humantime.specs.Laws.Outcomes.{OneOutcome}
-use Rattle.humantime.specs.Durations.Messages.{fault_message}
-use Rattle.humantime.specs.Timestamps.Checks.{weak_checks, strict_checks, first_failed}
-use Rattle.humantime.specs.Timestamps.Messages as timestamps
-use Rattle.humantime.specs.References.Timestamps.Printing.{places_of}
-use Rattle.humantime.specs.References.Timestamps.Reading.{weak_answer, strict_answer}
-use Rattle.humantime.specs.Timestamps.Fields.{IsWeakMoment, IsStrictMoment}
 use Rattle.humantime.specs.Prelude.{IsCanonicalOf, Canon, Fault, HasFault, fault_message, timestamp_message, Accepted, weak_checks, strict_checks, first_failed, places_of, weak_answer, strict_answer, IsWeakMoment, IsStrictMoment}
-
-use Rattle.humantime.specs.Durations.OutcomeLaws.{OneOutcome}
+use Rattle.humantime.specs.Laws.Outcomes.{OneOutcome}
 use Rattle.humantime.proofs.Durations.Printing.GreatestCounts.{one_canon}
 use Rattle.humantime.proofs.Durations.Reading.Outcomes.{one_outcome}
 use Rattle.humantime.proofs.Timestamps.Printing.Printed.{one_text}
