@@ -1,7 +1,7 @@
 -- The first fault of a text that isn't accepted.
 use Rattle.std.specs.Prelude.{◌≡◌, ◌≢◌, ◌⊎◌, ℕ, ◌<◌, ◌≤◌, true, false, List, [], ◌∷◌, ◌++◌, length, Option, Some, None, IsSome, if◌then◌else◌}
 use Rattle.std.specs.List.{AllByRecursion}
-use Rattle.humantime.specs.Durations.Characters.{is_ws, is_digit, is_letter, is_numeric, is_point, begins, ends, leading, past, digits, decimal_value, significant, offset_of, byte_length, u64_max}
+use Rattle.humantime.specs.Durations.Characters.{is_ws, is_digit, is_letter, is_numeric, is_point, begins, ends, leading, past, digits, decimal_value, significant, offset_of, byte_length, u64_max, bare_zero}
 use Rattle.humantime.specs.Durations.Units.{scale_of_word}
 use Rattle.humantime.specs.Durations.Spans.{Span, Front, Reads, Formed, Good, Accepted}
 
@@ -138,7 +138,7 @@ pub record Overflows (spans : List Span) (rest : List ℕ) : Type 0 where
 
 -- The text isn't exactly `0`; it is a front of spans within the limits, and then a rest at which the fault stands.
 pub record HasFault (text : List ℕ) (e : Fault) : Type 0 where
-  pub not_zero : text ≢ 48 ∷ []
+  pub not_zero : text ≢ bare_zero
   pub front : List ℕ
   pub rest : List ℕ
   pub spans : List Span

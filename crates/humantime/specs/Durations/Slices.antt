@@ -1,5 +1,6 @@
 -- What a span lends of its text.
 use Rattle.std.specs.Prelude.{◌≡◌, ℕ, true, List, [], ◌∷◌, ◌++◌, Option, Some, None, Result, Ok, Err}
+use Rattle.std.specs.Str.{byte}
 use Rattle.humantime.specs.Durations.Characters.{is_ws, is_digit, is_letter, is_numeric, begins, ends, digits, decimal_value, offset_of}
 use Rattle.humantime.specs.Durations.Spans.{Span, Only}
 use Rattle.humantime.specs.Durations.Faults.{Fault, ItemsAt}
@@ -25,7 +26,8 @@ pub record IsDigits (text ds : List ℕ) : Type 0 where
 abbrev pub LendsFraction : List ℕ → Option (List ℕ) → Option (List ℕ) → Type 0
 LendsFraction text None None = text ≡ []
 LendsFraction text (Some slice) (Some ds) =
-    (before : List ℕ) × (after : List ℕ) × (text ≡ 46 ∷ before ++ (slice ++ after)) × Only is_ws before × Only is_ws after × IsDigits slice ds
+    (before : List ℕ) × (after : List ℕ) × (text ≡ byte "." ∷ before ++ (slice ++ after))
+    × Only is_ws before × Only is_ws after × IsDigits slice ds
 LendsFraction text None (Some ds) = ⊥
 LendsFraction text (Some slice) None = ⊥
 

@@ -1,8 +1,9 @@
 -- Spans, what they add up to, and the texts that are accepted.
 use Rattle.std.specs.Prelude.{◌≡◌, ◌≢◌, ℕ, ◌+◌, ◌*◌, ◌/◌, ◌%◌, ◌^◌, ◌<◌, ◌≤◌, Bool, true, List, [], ◌∷◌, ◌++◌, length, Option, Some, None, IsSome, IfSome, sum_by, flat_map, ⊤}
 use Rattle.std.specs.List.{AllByRecursion}
+use Rattle.std.specs.Str.{byte}
 use Rattle.humantime.specs.Values.Amounts.{nanos_per_second}
-use Rattle.humantime.specs.Durations.Characters.{is_ws, is_letter, is_numeric, is_digit, begins, digits, decimal_value, significant, u64_max}
+use Rattle.humantime.specs.Durations.Characters.{is_ws, is_letter, is_numeric, is_digit, begins, digits, decimal_value, significant, u64_max, bare_zero}
 use Rattle.humantime.specs.Durations.Units.{Scale, scale_of_word}
 
 -- The digits before the point, those after it where there is one, and the word.
@@ -18,7 +19,7 @@ Only p cs = AllByRecursion (λ c. p c ≡ true) cs
 -- nothing where there is no fraction, else a point, and digits and white space with these digits, at least one
 abbrev pub SpellsFraction : List ℕ → Option (List ℕ) → Type 0
 SpellsFraction text None = text ≡ []
-SpellsFraction text (Some ds) = (rest : List ℕ) × (text ≡ 46 ∷ rest) × Only is_numeric rest × (digits rest ≡ ds) × (0 < length ds)
+SpellsFraction text (Some ds) = (rest : List ℕ) × (text ≡ byte "." ∷ rest) × Only is_numeric rest × (digits rest ≡ ds) × (0 < length ds)
 
 -- The text spells the span: its number, its fraction, its word, and white space.
 pub record Spells (text : List ℕ) (span : Span) : Type 0 where
@@ -124,6 +125,6 @@ pub record Good (spans : List Span) : Type 0 where
 -- The text stands for v nanoseconds.
 pub data Accepted (text : List ℕ) (v : ℕ) : Type 0 where
   -- it is exactly `0`
-  Bare_zero : text ≡ 48 ∷ [] → v ≡ 0 → Accepted text v
+  Bare_zero : text ≡ bare_zero → v ≡ 0 → Accepted text v
   -- it is spans within the limits that add up to v
   Sum_of : (spans : List Span) → Reads text spans → Good spans → value spans ≡ v → Accepted text v

@@ -4,7 +4,7 @@ use Rattle.std.specs.List.{AllByRecursion}
 use Rattle.std.specs.Str.{bytes_eq}
 use Rattle.std.proofs.lemmas.Bool.{cases_Bool, false≢true}
 use Rattle.std.proofs.lemmas.Slice.Eq.{bytes_eq-Decides}
-use Rattle.humantime.specs.Durations.Characters.{is_digit}
+use Rattle.humantime.specs.Durations.Characters.{is_digit, bare_zero}
 use Rattle.humantime.specs.Durations.Spans.{Span, Front, Reads, Formed, Good, value, Accepted, Bare_zero, Sum_of}
 use Rattle.humantime.specs.Durations.Faults.{Fault, NumberOverflow, Stops, Overflows, HasFault, Items, OneOutcome, OnlyValue, OnlyFault, OneListOfItems, span_of}
 use Rattle.humantime.specs.Durations.ItemLaws.{ItemsDecideValue, ItemsDecideFault, ItemsDecideOverflow}
@@ -30,32 +30,32 @@ err_same : (e f : Fault) → ◌≡◌ {A = Result ℕ Fault} (Err e) (Err f) �
 err_same e f h = cc
 
 -- the text 0, and every other
-pub duration_answer-zero : duration_answer (48 ∷ []) ≡ Ok 0
+pub duration_answer-zero : duration_answer bare_zero ≡ Ok 0
 unfolding duration_answer
 duration_answer-zero = refl
 
-pub duration_answer-items : (text : List ℕ) → text ≢ 48 ∷ [] → duration_answer text ≡ settle 0 (items text).0 (items text).1
+pub duration_answer-items : (text : List ℕ) → text ≢ bare_zero → duration_answer text ≡ settle 0 (items text).0 (items text).1
 unfolding duration_answer
-duration_answer-items text some = elim (cases_Bool (bytes_eq text (48 ∷ []))) [
-  | inl e ↦ absurd (some ((bytes_eq-Decides text (48 ∷ [])).0 e))
+duration_answer-items text some = elim (cases_Bool (bytes_eq text bare_zero)) [
+  | inl e ↦ absurd (some ((bytes_eq-Decides text bare_zero).0 e))
   | inr e ↦ rw e
 ]
 
-pub zero_or_not : (text : List ℕ) → (text ≡ 48 ∷ []) ⊎ (text ≢ 48 ∷ [])
-zero_or_not text = elim (cases_Bool (bytes_eq text (48 ∷ []))) [
-  | inl e ↦ inl ((bytes_eq-Decides text (48 ∷ [])).0 e)
-  | inr e ↦ inr (λ h. false≢true (sym e ∙ (bytes_eq-Decides text (48 ∷ [])).1 h))
+pub zero_or_not : (text : List ℕ) → (text ≡ bare_zero) ⊎ (text ≢ bare_zero)
+zero_or_not text = elim (cases_Bool (bytes_eq text bare_zero)) [
+  | inl e ↦ inl ((bytes_eq-Decides text bare_zero).0 e)
+  | inr e ↦ inr (λ h. false≢true (sym e ∙ (bytes_eq-Decides text bare_zero).1 h))
 ]
 
 -- whatever the items are, they settle the outcome
-pub outcome_settled : (text : List ℕ) (spans : List Span) (stop : Option Fault) → text ≢ 48 ∷ [] → Items text spans stop → duration_answer text ≡ settle 0 spans stop
+pub outcome_settled : (text : List ℕ) (spans : List Span) (stop : Option Fault) → text ≢ bare_zero → Items text spans stop → duration_answer text ≡ settle 0 spans stop
 outcome_settled text spans stop some h = duration_answer-items text some ∙ ap (λ (r : List Span × Option Fault). settle 0 r.0 r.1) (items_told text spans stop h)
 
-pub outcome_good : (text : List ℕ) (spans : List Span) (stop : Option Fault) → text ≢ 48 ∷ [] → Items text spans stop → Good spans → duration_answer text ≡ ended (value spans) stop
+pub outcome_good : (text : List ℕ) (spans : List Span) (stop : Option Fault) → text ≢ bare_zero → Items text spans stop → Good spans → duration_answer text ≡ ended (value spans) stop
 outcome_good text spans stop some h g =
     outcome_settled text spans stop some h ∙ settle_good 0 spans stop g.formed (good_from_Good spans g) ∙ ap (λ (n : ℕ). ended n stop) (omega arith)
 
-pub outcome_bad : (text : List ℕ) (spans : List Span) (stop : Option Fault) → text ≢ 48 ∷ [] → Items text spans stop → ¬ (Good spans) → duration_answer text ≡ Err NumberOverflow
+pub outcome_bad : (text : List ℕ) (spans : List Span) (stop : Option Fault) → text ≢ bare_zero → Items text spans stop → ¬ (Good spans) → duration_answer text ≡ Err NumberOverflow
 outcome_bad text spans stop some h bad = outcome_settled text spans stop some h ∙ settle_bad 0 spans stop h.are.formed (λ g. bad (Good_from spans h.are.formed g))
 
 -- a text that is read whole stops nowhere
@@ -109,7 +109,7 @@ good_value : (text : List ℕ) (spans : List Span) (stop : Option Fault) (v : �
 good_value text spans None v h g e = (refl, Sum_of spans (reads_whole text spans h) g (ok_same (value spans) v e))
 good_value text spans (Some f) v h g e = cc
 
-pub good_fault : (text : List ℕ) (spans : List Span) (stop : Option Fault) (e : Fault) → text ≢ 48 ∷ [] → Items text spans stop → Good spans → stop ≡ Some e → HasFault text e
+pub good_fault : (text : List ℕ) (spans : List Span) (stop : Option Fault) (e : Fault) → text ≢ bare_zero → Items text spans stop → Good spans → stop ≡ Some e → HasFault text e
 good_fault text spans stop e some h g is = elim h.are.ends [
   | inl o ↦ let n = o.2 in cc
   | inr o ↦
@@ -129,7 +129,7 @@ ended_fault v (Some f) e h = ap Some (err_same f e h)
 pub good_or_bad : (spans : List Span) → AllByRecursion Formed spans → Good spans ⊎ ¬ (Good spans)
 good_or_bad spans f = elim (good_or_not 0 spans f) [ inl g ↦ inl (Good_from spans f g) | inr b ↦ inr (λ g. b (good_from_Good spans g)) ]
 
-accepted_read : (text : List ℕ) (v : ℕ) → text ≢ 48 ∷ [] → duration_answer text ≡ Ok v → Accepted text v
+accepted_read : (text : List ℕ) (v : ℕ) → text ≢ bare_zero → duration_answer text ≡ Ok v → Accepted text v
 accepted_read text v some h =
     let i = items_found text in
     elim (good_or_bad (items text).0 i.are.formed) [
@@ -143,7 +143,7 @@ accepted_from_outcome text v h = elim (zero_or_not text) [
   | inr n ↦ accepted_read text v n h
 ]
 
-fault_read : (text : List ℕ) (e : Fault) → text ≢ 48 ∷ [] → duration_answer text ≡ Err e → HasFault text e
+fault_read : (text : List ℕ) (e : Fault) → text ≢ bare_zero → duration_answer text ≡ Err e → HasFault text e
 fault_read text e some h =
     let i = items_found text in
     elim (good_or_bad (items text).0 i.are.formed) [
@@ -183,7 +183,7 @@ pub one_list_of_items : (text : List ℕ) → OneListOfItems text
 one_list_of_items text = ((items text).0, (items text).1, items_found text, λ ss o h. let e = items_told text ss o h in (sym (ap (λ (r : List Span × Option Fault). r.0) e), sym (ap (λ (r : List Span × Option Fault). r.1) e)))
 
 -- the items decide the value, the fault, and that they are too large
-value_only : (text : List ℕ) (spans : List Span) (stop : Option Fault) (v : ℕ) → text ≢ 48 ∷ [] → Items text spans stop → duration_answer text ≡ Ok v → (stop ≡ None) × Good spans × (value spans ≡ v)
+value_only : (text : List ℕ) (spans : List Span) (stop : Option Fault) (v : ℕ) → text ≢ bare_zero → Items text spans stop → duration_answer text ≡ Ok v → (stop ≡ None) × Good spans × (value spans ≡ v)
 value_only text spans stop v some h o = elim (good_or_bad spans h.are.formed) [
   | inl g ↦
       let e = sym (outcome_good text spans stop some h g) ∙ o in
