@@ -3,6 +3,7 @@
 -- amounts of time
 pub use Rattle.humantime.specs.Values.Amounts.{nanos_per_second, duration_end}
 -- durations read: the answer as a function of the characters, and the relations that it is tied to
+pub use Rattle.humantime.specs.Durations.Characters.{bare_zero}
 pub use Rattle.humantime.specs.Durations.Errors.{told, told_text, fault_of, PointsInto, IsPlaceIn, IsPartOf}
 pub use Rattle.humantime.specs.References.Durations.Answers.{duration_answer, canonical_answer}
 pub use Rattle.humantime.specs.Durations.Accepted.{Accepted, Bare_zero, Sum_of}

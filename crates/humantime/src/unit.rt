@@ -5,6 +5,7 @@ ghost use Rattle.humantime.specs.Durations.Units.{scale_of_word};
 ghost use Rattle.humantime.specs.References.Durations.Scales.{scale_of};
 ghost use Rattle.humantime.specs.References.Durations.Keys.{key, scale_of_key};
 
+pub(crate) mod sizes;
 mod words;
 
 /// A unit of time.

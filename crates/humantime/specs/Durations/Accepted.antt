@@ -7,6 +7,6 @@ use Rattle.humantime.specs.Durations.Limits.{WithinLimits}
 -- The text stands for v nanoseconds.
 pub data Accepted (text : List ℕ) (v : ℕ) : Type 0 where
   -- it is exactly `0`
-  Bare_zero : text ≡ 48 ∷ [] → v ≡ 0 → Accepted text v
+  Bare_zero : text ≡ bare_zero → v ≡ 0 → Accepted text v
   -- it is spans within the limits that add up to v
   Sum_of : (spans : List Span) → Reads text spans → WithinLimits spans → value spans ≡ v → Accepted text v

@@ -1,5 +1,5 @@
 -- The characters of a duration's text.
-use Rattle.std.specs.Prelude.{ℕ, ◌-◌, Bool, false, ◌||◌, ◌==◌, List, [], ◌∷◌, length, if◌then◌else◌, encode_utf8_all, filter}
+use Rattle.std.specs.Prelude.{ℕ, ◌-◌, Bool, false, ◌||◌, ◌==◌, List, [], ◌∷◌, length, if◌then◌else◌, encode_utf8_all, filter, codes}
 use Rattle.std.specs.Char.{char_set_contains, is_ascii_digit, is_ascii_alphabetic}
 use Rattle.std.specs.Str.{byte}
 use Rattle.std.specs.Str.Parse.{digits_value}
@@ -10,6 +10,7 @@ white_spaces =
     0x9 ∷ 0xa ∷ 0xb ∷ 0xc ∷ 0xd ∷ 0x20 ∷ 0x85 ∷ 0xa0 ∷ 0x1680 ∷ 0x2000 ∷ 0x2001 ∷ 0x2002 ∷ 0x2003 ∷ 0x2004 ∷ 0x2005 ∷ 0x2006
     ∷ 0x2007 ∷ 0x2008 ∷ 0x2009 ∷ 0x200a ∷ 0x2028 ∷ 0x2029 ∷ 0x202f ∷ 0x205f ∷ 0x3000 ∷ []
 
+-- the two letters beyond ASCII
 abbrev pub micro_sign : ℕ
 micro_sign = 0xb5
 
@@ -28,6 +29,10 @@ is_letter c = is_ascii_alphabetic c || c == micro_sign || c == greek_mu
 
 unfoldable pub is_point : ℕ → Bool
 is_point c = c == byte "."
+
+-- the text that is exactly `0`
+abbrev pub bare_zero : List ℕ
+bare_zero = codes "0"
 
 -- what a number holds: digits, and white space between and after them
 abbrev pub is_numeric : ℕ → Bool
@@ -61,7 +66,7 @@ decimal_value ds = digits_value 10 ds
 
 -- a digit and those that are left behind it; a zero with none behind it is dropped
 abbrev pub kept : ℕ → List ℕ → List ℕ
-kept d [] = if d == 48 then [] else d ∷ []
+kept d [] = if d == byte "0" then [] else d ∷ []
 kept d (e ∷ es) = d ∷ e ∷ es
 
 -- the digits without the zeros at their end

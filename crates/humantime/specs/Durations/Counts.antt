@@ -1,14 +1,16 @@
 -- A duration in nine counts, and its one printed text, which is bytes.
 use Rattle.std.specs.Prelude.{◌≡◌, ◌⊎◌, ℕ, zero, suc, ◌+◌, ◌*◌, ◌<◌, Bool, true, false, ◌&&◌, List, [], ◌∷◌, ◌++◌, length, codes, decimal, nat_lt, if◌then◌else◌}
 use Rattle.std.specs.List.{join_with_byte}
-use Rattle.humantime.specs.Values.Amounts.{nanos_per_second}
+use Rattle.std.specs.Str.{byte}
+use Rattle.humantime.specs.Values.Amounts.{nanos_per_micro, nanos_per_milli, nanos_per_second, seconds_per_minute, seconds_per_hour, seconds_per_day, seconds_per_month, seconds_per_year}
 
 -- the weights of the counts in nanoseconds: years, months, days, hours, minutes, seconds, milliseconds, microseconds and
 -- nanoseconds
 abbrev pub weights : List ℕ
 weights =
-    31557600 * nanos_per_second ∷ 2630016 * nanos_per_second ∷ 86400 * nanos_per_second ∷ 3600 * nanos_per_second
-    ∷ 60 * nanos_per_second ∷ nanos_per_second ∷ 1000000 ∷ 1000 ∷ 1 ∷ []
+    seconds_per_year * nanos_per_second ∷ seconds_per_month * nanos_per_second ∷ seconds_per_day * nanos_per_second
+    ∷ seconds_per_hour * nanos_per_second ∷ seconds_per_minute * nanos_per_second ∷ nanos_per_second
+    ∷ nanos_per_milli ∷ nanos_per_micro ∷ 1 ∷ []
 
 abbrev pub weighted_sum : List ℕ → List ℕ → ℕ
 weighted_sum [] counts = 0
@@ -66,7 +68,7 @@ printed_counts (suc n ∷ ns) (s ∷ ss) = printed_count (suc n) s ∷ printed_c
 -- joined by one space; nothing is zero seconds
 abbrev pub joined_by_space : List (List ℕ) → List ℕ
 joined_by_space [] = codes "0s"
-joined_by_space (p ∷ ps) = join_with_byte 32 (p ∷ ps)
+joined_by_space (p ∷ ps) = join_with_byte (byte " ") (p ∷ ps)
 
 -- The one printed text of a duration of d nanoseconds: its counts, each that isn't zero with its suffix.
 pub record Canon (d : ℕ) (bytes : List ℕ) : Type 0 where

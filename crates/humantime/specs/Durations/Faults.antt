@@ -105,7 +105,7 @@ pub record Overflows (spans : List Span) (rest : List ℕ) : Type 0 where
 
 -- The text isn't exactly `0`; it is a front of spans within the limits, and then a rest at which the fault stands.
 pub record HasFault (text : List ℕ) (e : Fault) : Type 0 where
-  pub not_zero : text ≢ 48 ∷ []
+  pub not_zero : text ≢ bare_zero
   pub front : List ℕ
   pub rest : List ℕ
   pub spans : List Span

@@ -1,8 +1,9 @@
 -- What a span lends of its text, which is its list of characters.
 use Rattle.std.specs.Prelude.{◌≡◌, ℕ, true, List, [], ◌∷◌, ◌++◌, Option, Some, None, Result, Ok, Err}
-use Rattle.humantime.specs.Durations.Characters.{is_ws, is_digit, begins, ends, decimal_value, offset_of}
+use Rattle.std.specs.Str.{byte}
+use Rattle.humantime.specs.Durations.Characters.{is_ws, is_digit, is_letter, is_numeric, begins, ends, digits, decimal_value, offset_of}
 use Rattle.humantime.specs.Durations.Spans.{Span, Only, SpellsThen}
-use Rattle.humantime.specs.Durations.Faults.{Fault}
+use Rattle.humantime.specs.Durations.Faults.{Fault, ItemsAt}
 use Rattle.humantime.specs.Durations.Items.{ItemsAt}
 
 -- The slices of the number, of the fraction and of the word, the offsets where the number begins and where the word
@@ -28,7 +29,7 @@ pub record IsDigitSlice (text slice : List ℕ) : Type 0 where
 -- no slice where there is no fraction, else the one behind the point
 abbrev pub LendsFraction : List ℕ → Option (List ℕ) → Type 0
 LendsFraction text None = text ≡ []
-LendsFraction text (Some slice) = (behind : List ℕ) × (text ≡ 46 ∷ behind) × IsDigitSlice behind slice
+LendsFraction text (Some slice) = (behind : List ℕ) × (text ≡ byte "." ∷ behind) × IsDigitSlice behind slice
 
 -- The rest of the text spells the span and goes on with `next`, and x is what the span lends. So what lies in no slice is
 -- white space, or the point.

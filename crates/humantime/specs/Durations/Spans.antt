@@ -1,7 +1,10 @@
 -- Spans, and how a text spells them. A text is its list of characters.
 use Rattle.std.specs.Prelude.{◌≡◌, ◌≢◌, ℕ, Bool, true, List, [], ◌∷◌, ◌++◌, Option, Some, None}
 use Rattle.std.specs.List.{AllByRecursion}
-use Rattle.humantime.specs.Durations.Characters.{is_ws, is_letter, is_numeric, is_digit, begins, digits}
+use Rattle.std.specs.Str.{byte}
+use Rattle.humantime.specs.Values.Amounts.{nanos_per_second}
+use Rattle.humantime.specs.Durations.Characters.{is_ws, is_letter, is_numeric, is_digit, begins, digits, decimal_value, significant, u64_max, bare_zero}
+use Rattle.humantime.specs.Durations.Units.{Scale, scale_of_word}
 
 -- What a span says: the digits of its number, those of its fraction if it has one, and its word.
 pub record Span : Type 0 where
@@ -24,7 +27,7 @@ IsLetters text = Only is_letter text × (text ≢ [])
 -- no text where there is no fraction; else a point, and then its digits, at least one, and white space
 abbrev pub SpellsFraction : List ℕ → Option (List ℕ) → Type 0
 SpellsFraction text None = text ≡ []
-SpellsFraction text (Some ds) = (behind : List ℕ) × (text ≡ 46 ∷ behind) × HoldsDigits behind ds × (ds ≢ [])
+SpellsFraction text (Some ds) = (behind : List ℕ) × (text ≡ byte "." ∷ behind) × HoldsDigits behind ds × (ds ≢ [])
 
 -- The text spells the span: its number, which begins with a digit, its fraction, its word, and white space.
 pub record Spells (text : List ℕ) (span : Span) : Type 0 where

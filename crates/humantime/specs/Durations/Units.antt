@@ -1,7 +1,8 @@
 -- The words of units.
-use Rattle.std.specs.Prelude.{ℕ, ◌*◌, List, [], ◌∷◌, Option, Some, None, codes, bytes_eq}
+use Rattle.std.specs.Prelude.{ℕ, ◌*◌, List, [], ◌∷◌, ◌++◌, map, Option, Some, None, codes, bytes_eq}
 use Rattle.std.specs.Map.{lookup}
-use Rattle.humantime.specs.Values.Amounts.{nanos_per_second}
+use Rattle.humantime.specs.Values.Amounts.{nanos_per_micro, nanos_per_milli, nanos_per_second, seconds_per_minute, seconds_per_hour, seconds_per_day, seconds_per_week, seconds_per_month, seconds_per_year}
+use Rattle.humantime.specs.Durations.Characters.{micro_sign, greek_mu}
 
 -- What a word stands for. A number before it counts `factor` times `base` nanoseconds. A fraction of one counts
 -- `fraction_factor` times `fraction_base` nanoseconds, where there may be a fraction.
@@ -11,9 +12,13 @@ pub record Scale : Type 0 where
   pub fraction_base : ℕ
   pub fraction_factor : Option ℕ
 
+-- one nanosecond, of which there is no fraction
+abbrev pub whole_nanos : Scale
+whole_nanos = record { base = 1; factor = 1; fraction_base = 1; fraction_factor = None }
+
 -- counted in nanoseconds, as the fraction is
-abbrev pub in_nanos : ℕ → Option ℕ → Scale
-in_nanos factor fraction = record { base = 1; factor = factor; fraction_base = 1; fraction_factor = fraction }
+abbrev pub in_nanos : ℕ → Scale
+in_nanos factor = record { base = 1; factor = factor; fraction_base = 1; fraction_factor = Some factor }
 
 -- counted in seconds, and the fraction in nanoseconds
 abbrev pub in_seconds_and_nanos : ℕ → Scale
@@ -25,21 +30,23 @@ abbrev pub in_seconds : ℕ → Scale
 in_seconds factor =
     record { base = nanos_per_second; factor = factor; fraction_base = nanos_per_second; fraction_factor = Some factor }
 
--- each word, and what it stands for; one word begins with the micro sign, and one with the Greek letter mu
+-- these words, each with what it stands for
+abbrev unit_words : List (List ℕ) → Scale → List (List ℕ × Scale)
+unit_words spellings scale = map (λ word. (word, scale)) spellings
+
+-- the words of the ten units
 abbrev pub words : List (List ℕ × Scale)
 words =
-    (codes "nanos", in_nanos 1 None) ∷ (codes "nsec", in_nanos 1 None) ∷ (codes "ns", in_nanos 1 None)
-    ∷ (codes "usec", in_nanos 1000 (Some 1000)) ∷ (codes "us", in_nanos 1000 (Some 1000))
-    ∷ (0xb5 ∷ codes "s", in_nanos 1000 (Some 1000)) ∷ (0x3bc ∷ codes "s", in_nanos 1000 (Some 1000))
-    ∷ (codes "millis", in_nanos 1000000 (Some 1000000)) ∷ (codes "msec", in_nanos 1000000 (Some 1000000)) ∷ (codes "ms", in_nanos 1000000 (Some 1000000))
-    ∷ (codes "seconds", in_seconds_and_nanos 1) ∷ (codes "second", in_seconds_and_nanos 1) ∷ (codes "secs", in_seconds_and_nanos 1) ∷ (codes "sec", in_seconds_and_nanos 1) ∷ (codes "s", in_seconds_and_nanos 1)
-    ∷ (codes "minutes", in_seconds_and_nanos 60) ∷ (codes "minute", in_seconds_and_nanos 60) ∷ (codes "min", in_seconds_and_nanos 60) ∷ (codes "mins", in_seconds_and_nanos 60) ∷ (codes "m", in_seconds_and_nanos 60)
-    ∷ (codes "hours", in_seconds 3600) ∷ (codes "hour", in_seconds 3600) ∷ (codes "hr", in_seconds 3600) ∷ (codes "hrs", in_seconds 3600) ∷ (codes "h", in_seconds 3600)
-    ∷ (codes "days", in_seconds 86400) ∷ (codes "day", in_seconds 86400) ∷ (codes "d", in_seconds 86400)
-    ∷ (codes "weeks", in_seconds 604800) ∷ (codes "week", in_seconds 604800) ∷ (codes "wk", in_seconds 604800) ∷ (codes "wks", in_seconds 604800) ∷ (codes "w", in_seconds 604800)
-    ∷ (codes "months", in_seconds 2630016) ∷ (codes "month", in_seconds 2630016) ∷ (codes "M", in_seconds 2630016)
-    ∷ (codes "years", in_seconds 31557600) ∷ (codes "year", in_seconds 31557600) ∷ (codes "yr", in_seconds 31557600) ∷ (codes "yrs", in_seconds 31557600) ∷ (codes "y", in_seconds 31557600)
-    ∷ []
+    unit_words (codes "nanos" ∷ codes "nsec" ∷ codes "ns" ∷ []) whole_nanos
+    ++ unit_words (codes "usec" ∷ codes "us" ∷ (micro_sign ∷ codes "s") ∷ (greek_mu ∷ codes "s") ∷ []) (in_nanos nanos_per_micro)
+    ++ unit_words (codes "millis" ∷ codes "msec" ∷ codes "ms" ∷ []) (in_nanos nanos_per_milli)
+    ++ unit_words (codes "seconds" ∷ codes "second" ∷ codes "secs" ∷ codes "sec" ∷ codes "s" ∷ []) (in_seconds_and_nanos 1)
+    ++ unit_words (codes "minutes" ∷ codes "minute" ∷ codes "min" ∷ codes "mins" ∷ codes "m" ∷ []) (in_seconds_and_nanos seconds_per_minute)
+    ++ unit_words (codes "hours" ∷ codes "hour" ∷ codes "hr" ∷ codes "hrs" ∷ codes "h" ∷ []) (in_seconds seconds_per_hour)
+    ++ unit_words (codes "days" ∷ codes "day" ∷ codes "d" ∷ []) (in_seconds seconds_per_day)
+    ++ unit_words (codes "weeks" ∷ codes "week" ∷ codes "wk" ∷ codes "wks" ∷ codes "w" ∷ []) (in_seconds seconds_per_week)
+    ++ unit_words (codes "months" ∷ codes "month" ∷ codes "M" ∷ []) (in_seconds seconds_per_month)
+    ++ unit_words (codes "years" ∷ codes "year" ∷ codes "yr" ∷ codes "yrs" ∷ codes "y" ∷ []) (in_seconds seconds_per_year)
 
 -- what a word stands for, if it is one of these
 unfoldable pub scale_of_word : List ℕ → Option Scale

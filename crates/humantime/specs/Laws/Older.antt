@@ -4,7 +4,7 @@ use Rattle.std.specs.Prelude.{◌≡◌, ℕ, ◌*◌, ◌/◌, ◌^◌, ◌≤�
 use Rattle.std.specs.List.{AllByRecursion, list_all}
 use Rattle.std.specs.Char.{is_ascii_alphabetic}
 use Rattle.std.specs.Map.{lookup}
-use Rattle.humantime.specs.Durations.Characters.{decimal_value, u64_max}
+use Rattle.humantime.specs.Durations.Characters.{micro_sign, greek_mu, decimal_value, u64_max, bare_zero}
 use Rattle.humantime.specs.Durations.Units.{Scale, words, scale_of_word}
 use Rattle.humantime.specs.Durations.Spans.{Span, Only, Reads}
 use Rattle.humantime.specs.Durations.Sums.{Addition, total}
@@ -13,7 +13,7 @@ use Rattle.humantime.specs.Durations.Accepted.{Accepted}
 
 -- the letters were a to z, A to Z and the micro sign
 abbrev pub is_older_letter : ℕ → Bool
-is_older_letter c = is_ascii_alphabetic c || c == 0xb5
+is_older_letter c = is_ascii_alphabetic c || c == micro_sign
 
 -- the words were those that these letters spell
 abbrev pub older_words : List (List ℕ × Scale)
@@ -71,7 +71,7 @@ pub record OlderWithinLimits (scale : List ℕ → Option Scale) (spans : List S
 -- While zeros at the end of a fraction counted, the text stood for v nanoseconds.
 pub data AcceptedWithZeros (text : List ℕ) (v : ℕ) : Type 0 where
   -- it was exactly `0`
-  Older_zero : text ≡ 48 ∷ [] → v ≡ 0 → AcceptedWithZeros text v
+  Older_zero : text ≡ bare_zero → v ≡ 0 → AcceptedWithZeros text v
   -- it was spans within the limits that add up to v
   Older_sum : (spans : List Span) → Reads text spans → OlderWithinLimits scale_of_word spans → older_value scale_of_word spans ≡ v
       → AcceptedWithZeros text v
@@ -79,7 +79,7 @@ pub data AcceptedWithZeros (text : List ℕ) (v : ℕ) : Type 0 where
 -- While the Greek letter was no letter besides, the text stood for v nanoseconds.
 pub data AcceptedWithoutMu (text : List ℕ) (v : ℕ) : Type 0 where
   -- it was exactly `0`
-  Oldest_zero : text ≡ 48 ∷ [] → v ≡ 0 → AcceptedWithoutMu text v
+  Oldest_zero : text ≡ bare_zero → v ≡ 0 → AcceptedWithoutMu text v
   -- it was spans of the older words within the limits that add up to v
   Oldest_sum : (spans : List Span) → OlderReads text spans → OlderWithinLimits older_scale_of_word spans
       → older_value older_scale_of_word spans ≡ v → AcceptedWithoutMu text v
@@ -90,4 +90,4 @@ IsStillAccepted text = (v : ℕ) → AcceptedWithZeros text v → Accepted text 
 
 -- the Greek letter stands in the text
 abbrev pub HasMu : List ℕ → Type 0
-HasMu text = (before : List ℕ) × (after : List ℕ) × (text ≡ before ++ 0x3bc ∷ after)
+HasMu text = (before : List ℕ) × (after : List ℕ) × (text ≡ before ++ greek_mu ∷ after)

@@ -37,15 +37,15 @@ OneListOfSlices text = (lent : List (Result Lent Fault)) × AreItems text lent
 -- the items of a text that isn't exactly `0` decide its value: it is accepted exactly where nothing stops the spans and they
 -- are within the limits, with their sum
 abbrev pub ItemsDecideValue : List ℕ → Type 0
-ItemsDecideValue text = (spans : List Span) (stop : Option Fault) → Items text spans stop → text ≢ 48 ∷ []
+ItemsDecideValue text = (spans : List Span) (stop : Option Fault) → Items text spans stop → text ≢ bare_zero
     → (v : ℕ) → Accepted text v ↔ ((stop ≡ None) × WithinLimits spans × (value spans ≡ v))
 
 -- its fault, where the spans are within the limits: the one that stops them
 abbrev pub ItemsDecideFault : List ℕ → Type 0
 ItemsDecideFault text =
-    (spans : List Span) (e : Fault) → Items text spans (Some e) → text ≢ 48 ∷ [] → WithinLimits spans → HasFault text e
+    (spans : List Span) (e : Fault) → Items text spans (Some e) → text ≢ bare_zero → WithinLimits spans → HasFault text e
 
 -- and its fault where they aren't, whatever stops them
 abbrev pub ItemsDecideOverflow : List ℕ → Type 0
-ItemsDecideOverflow text = (spans : List Span) (stop : Option Fault) → Items text spans stop → text ≢ 48 ∷ []
+ItemsDecideOverflow text = (spans : List Span) (stop : Option Fault) → Items text spans stop → text ≢ bare_zero
     → ¬ (WithinLimits spans) → HasFault text NumberOverflow

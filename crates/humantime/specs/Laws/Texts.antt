@@ -18,7 +18,7 @@ NeedsNoWhiteSpace text = (v : ℕ) → Accepted text v → Accepted (without_whi
 
 -- what is accepted is exactly `0`, or it is spans
 abbrev pub IsZeroOrSpans : List ℕ → Type 0
-IsZeroOrSpans text = (v : ℕ) → Accepted text v → (text ≡ codes "0") ⊎ ((spans : List Span) × Reads text spans)
+IsZeroOrSpans text = (v : ℕ) → Accepted text v → (text ≡ bare_zero) ⊎ ((spans : List Span) × Reads text spans)
 
 -- the additions of the ones and then of the others all have room
 abbrev pub HaveRoomTogether : List Span → List Span → Type 0
@@ -36,7 +36,7 @@ JoinedOverflow a b = (ss ts : List Span) (u v : ℕ) → Reads a ss → Reads b 
 
 -- so they are accepted with the sum, or too large
 abbrev pub JoinedHaveSumOrOverflow : List ℕ → List ℕ → Type 0
-JoinedHaveSumOrOverflow a b = (u v : ℕ) → Accepted a u → Accepted b v → a ≢ codes "0" → b ≢ codes "0"
+JoinedHaveSumOrOverflow a b = (u v : ℕ) → Accepted a u → Accepted b v → a ≢ bare_zero → b ≢ bare_zero
     → Accepted (a ++ b) (u + v) ⊎ HasFault (a ++ b) NumberOverflow
 
 -- accepted texts whose spans are reorderings of each other have equal values

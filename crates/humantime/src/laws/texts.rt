@@ -1,6 +1,9 @@
 //! Laws of accepted texts: without white space, one behind the other, in another order, and accepted before.
 
 ghost use Rattle.std.specs.Prelude.{◌≡◌, ◌++◌, chars, codes};
+ghost use Rattle.humantime.specs.Durations.Characters.{bare_zero};
+ghost use Rattle.humantime.specs.Durations.Older.{IsStillAccepted};
+ghost use Rattle.humantime.specs.Durations.TextLaws.{NeedsNoWhiteSpace, IsZeroOrSpans, JoinedHaveSum, JoinedOverflow, JoinedHaveSumOrOverflow, ReorderedHaveOneValue, HasNoSpans};
 ghost use Rattle.humantime.specs.Laws.Older.{IsStillAccepted};
 ghost use Rattle.humantime.specs.Laws.Texts.{NeedsNoWhiteSpace, IsZeroOrSpans, JoinedHaveSum, JoinedOverflow, JoinedHaveSumOrOverflow, ReorderedHaveOneValue, HasNoSpans};
 
@@ -43,7 +46,7 @@ pub fn joined(a: &str, b: &str)
 /// ```
 pub fn reordered(a: &str, b: &str)
     ensures value { ReorderedHaveOneValue (chars a.now) (chars b.now) }
-    ensures zero { HasNoSpans (codes "0") }
+    ensures zero { HasNoSpans bare_zero }
 {}
 
 /// A text that was accepted while zeros at the end of a fraction counted is accepted with the same value.

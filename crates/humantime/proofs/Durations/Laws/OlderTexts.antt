@@ -6,7 +6,7 @@ use Rattle.std.specs.Option.{IfSome}
 use Rattle.std.proofs.lemmas.Bool.{cases_Bool, false≢true, and_from, eqb-true}
 use Rattle.std.proofs.lemmas.Map.Entries.{lookup-filter-keys}
 use Rattle.std.proofs.lemmas.Slice.Eq.{bytes_eq-Decides}
-use Rattle.humantime.specs.Durations.Characters.{white_spaces, is_ws, is_digit, is_numeric, decimal_value, significant}
+use Rattle.humantime.specs.Durations.Characters.{greek_mu, white_spaces, is_ws, is_digit, is_numeric, decimal_value, significant}
 use Rattle.humantime.specs.Durations.Units.{Scale, words, scale_of_word}
 use Rattle.humantime.specs.Durations.Spans.{Span, Only, Spells, SpellsFraction, SpellsEach}
 use Rattle.humantime.specs.Durations.Sums.{fraction_additions, additions_at, additions, total}
@@ -107,16 +107,16 @@ older_text_accepted text v a = still_accepted text v (accepted_with_zeros text v
 -- ---- it was in no text
 
 abbrev is_not_mu : ℕ → Bool
-is_not_mu c = not (c == 0x3bc)
+is_not_mu c = not (c == greek_mu)
 
 -- what passes a test that the letter fails is another character
-not_mu : (p : ℕ → Bool) → p 0x3bc ≡ false → (c : ℕ) → p c ≡ true → is_not_mu c ≡ true
-not_mu p fails c passes = elim (cases_Bool (c == 0x3bc)) [
-  | inl e ↦ absurd (false≢true (sym fails ∙ sym (ap p (eqb-true c 0x3bc e)) ∙ passes))
+not_mu : (p : ℕ → Bool) → p greek_mu ≡ false → (c : ℕ) → p c ≡ true → is_not_mu c ≡ true
+not_mu p fails c passes = elim (cases_Bool (c == greek_mu)) [
+  | inl e ↦ absurd (false≢true (sym fails ∙ sym (ap p (eqb-true c greek_mu e)) ∙ passes))
   | inr e ↦ rw e refl
 ]
 
-none_is_mu : (p : ℕ → Bool) → p 0x3bc ≡ false → (cs : List ℕ) → Only p cs → Only is_not_mu cs
+none_is_mu : (p : ℕ → Bool) → p greek_mu ≡ false → (cs : List ℕ) → Only p cs → Only is_not_mu cs
 none_is_mu p fails [] h = tt
 none_is_mu p fails (c ∷ cs) h = (not_mu p fails c h.0, none_is_mu p fails cs h.1)
 
@@ -149,7 +149,7 @@ no_mu_accepted text v (Oldest_sum spans h g sum) =
     let front = h.0.0 in
     rw (front.whole) (Only-append is_not_mu front.space front.body (no_mu_in_space front.space front.only_space) (no_mu_in_spans front.body spans front.each h.1))
 
-not_among : (before after : List ℕ) → ¬ (Only is_not_mu (before ++ 0x3bc ∷ after))
+not_among : (before after : List ℕ) → ¬ (Only is_not_mu (before ++ greek_mu ∷ after))
 not_among [] after h = false≢true (h.0)
 not_among (c ∷ cs) after h = not_among cs after h.1
 

@@ -6,8 +6,8 @@ use Rattle.std.proofs.lemmas.Nat.{mod_below}
 use Rattle.std.proofs.lemmas.Str.{chars-IsAscii}
 use Rattle.std.proofs.lemmas.List.Sums.{sum_by-cons}
 use Rattle.humantime.specs.Values.Amounts.{nanos_per_second}
-use Rattle.humantime.specs.Durations.Characters.{u64_max}
-use Rattle.humantime.specs.Durations.Spans.{Span, Reads}
+use Rattle.humantime.specs.Durations.Characters.{u64_max, bare_zero}
+use Rattle.humantime.specs.Durations.Spans.{Span, Reads, Addition, nanos_of, total, additions_of, additions, Accepted}
 use Rattle.humantime.specs.Durations.Sums.{Addition, addition_nanos, total, additions_of, additions}
 use Rattle.humantime.specs.Durations.Accepted.{Accepted}
 use Rattle.humantime.specs.Durations.Counts.{weights, weighted_sum, Suffix, suffixes, printed_counts, joined_by_space, Canon}
@@ -67,7 +67,7 @@ record IsSmallText (text : List ℕ) : Type 0 where
   reads : Reads text spans
   small : AllByRecursion IsSmall (additions spans)
 
-no_zero : chars (codes "0s") ≢ codes "0"
+no_zero : chars (codes "0s") ≢ bare_zero
 no_zero e = let same = chars-IsAscii (codes "0s") (search rules) in absurd (omega (arith, ap length (sym same ∙ e)))
 
 zero_text : Accepted (chars (codes "0s")) 0 → IsSmallText (chars (codes "0s"))

@@ -1,13 +1,13 @@
 -- Accepted texts and their spans.
 use Rattle.std.proofs.Common.{◌≡◌, ◌≢◌, ℕ, ◌+◌, List, [], ◌∷◌, None, refl, sym, ap, ◌∙◌, sum_by, IsPermutation, inl, inr, subst}
-use Rattle.std.specs.Prelude.{codes}
 use Rattle.std.proofs.lemmas.List.Sorted.{sum_by-IsPermutation}
 use Rattle.std.proofs.lemmas.List.Sums.{sum_by-cons}
-use Rattle.humantime.specs.Durations.Spans.{Span, Reads}
+use Rattle.humantime.specs.Durations.Characters.{bare_zero}
+use Rattle.humantime.specs.Durations.Spans.{Span, Reads, total, additions_of, Good, value, Accepted}
+use Rattle.humantime.specs.Durations.Faults.{Fault, HasFault, Items}
 use Rattle.humantime.specs.Durations.Sums.{total, additions_of, value}
 use Rattle.humantime.specs.Durations.Limits.{WithinLimits}
 use Rattle.humantime.specs.Durations.Accepted.{Accepted}
-use Rattle.humantime.specs.Durations.Faults.{Fault, HasFault}
 use Rattle.humantime.specs.Durations.Items.{Items}
 use Rattle.humantime.specs.References.Durations.Reading.{items}
 use Rattle.humantime.specs.Laws.Texts.{IsZeroOrSpans, HasNoSpans, ReorderedHaveOneValue}
@@ -28,7 +28,7 @@ accepted_from_spans text spans h g =
     (items_decide_value text spans None (items_whole text spans h g.formed) (not_zero text spans h) (value spans)).1 (refl, g, refl)
 
 -- and what is accepted is such a text, unless it is exactly `0`
-pub spans_of_accepted : (text : List ℕ) (v : ℕ) → text ≢ codes "0" → Accepted text v → IsSumOfSpans text v
+pub spans_of_accepted : (text : List ℕ) (v : ℕ) → text ≢ bare_zero → Accepted text v → IsSumOfSpans text v
 spans_of_accepted text v some a =
     let found : Items text (items text).0 (items text).1 = items_found text in
     let d = (items_decide_value text (items text).0 (items text).1 found some v).0 a in
@@ -66,8 +66,8 @@ no_value_and_fault text v e a f =
     cc
 
 -- the text `0` is no spans
-pub zero_has_no_spans : HasNoSpans (codes "0")
-zero_has_no_spans spans h = not_zero (codes "0") spans h refl
+pub zero_has_no_spans : HasNoSpans bare_zero
+zero_has_no_spans spans h = not_zero bare_zero spans h refl
 
 -- the value of spans is the sum of what each adds, so their order doesn't matter
 abbrev worth : Span → ℕ

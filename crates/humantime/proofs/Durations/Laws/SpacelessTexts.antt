@@ -1,10 +1,10 @@
 -- A text without its white space spells the same spans.
 use Rattle.std.proofs.Common.{◌≡◌, ℕ, Bool, true, false, cond, not, List, [], ◌∷◌, ◌++◌, Option, Some, None, refl, sym, ap, ◌∙◌, inl, inr, subst, arith, rules}
-use Rattle.std.specs.Prelude.{codes}
 use Rattle.std.proofs.lemmas.Bool.{cases_Bool, or_parts}
 use Rattle.std.proofs.lemmas.List.Elements.{filter-append}
-use Rattle.humantime.specs.Durations.Characters.{is_ws, is_digit, is_letter, is_numeric, begins, digits}
-use Rattle.humantime.specs.Durations.Spans.{Span, Only, SpellsFraction, Spells, SpellsEach, Front, Reads}
+use Rattle.humantime.specs.Durations.Characters.{is_ws, is_digit, is_letter, is_numeric, begins, digits, bare_zero}
+use Rattle.humantime.specs.Durations.Spans.{Span, Only, SpellsFraction, Spells, SpellsEach, Front, Reads, Accepted}
+use Rattle.humantime.specs.Durations.TextLaws.{without_white_space, NeedsNoWhiteSpace}
 use Rattle.humantime.specs.Durations.Accepted.{Accepted}
 use Rattle.humantime.specs.Laws.Texts.{without_white_space, NeedsNoWhiteSpace}
 use Rattle.humantime.proofs.Durations.Reading.Classes.{digit_not_space, letter_not_space, point_not_numeric, is_point-46}
@@ -113,8 +113,8 @@ front_read text spans h = record {
 pub spaceless_reads : (text : List ℕ) (spans : List Span) → Reads text spans → Reads (without_white_space text) spans
 spaceless_reads text spans h = (front_read text spans h.0, h.1)
 
-spaceless_zero : without_white_space (codes "0") ≡ codes "0"
-spaceless_zero = spaceless-other 48 [] (digit_not_space 48 (some_digit (codes "0") (search rules) (omega arith)))
+spaceless_zero : without_white_space bare_zero ≡ bare_zero
+spaceless_zero = spaceless-other 48 [] (digit_not_space 48 (some_digit bare_zero (search rules) (omega arith)))
 
 pub spaceless_accepted : (text : List ℕ) → NeedsNoWhiteSpace text
 spaceless_accepted text v a = elim (zero_or_not text) [

@@ -1,10 +1,10 @@
 -- The laws of accepted texts as theorems over plain variables, each under the name of its function in `laws`, and some
 -- theorems beyond them.
-use Rattle.std.proofs.Common.{◌↔◌, ℕ, ◌+◌, ◌/◌, ◌≤◌, List, ◌∷◌, ◌++◌, codes, chars}
+use Rattle.std.proofs.Common.{◌↔◌, ℕ, ◌+◌, ◌/◌, ◌≤◌, List, ◌∷◌, ◌++◌, chars}
 use Rattle.std.specs.List.{AllByRecursion}
 use Rattle.humantime.specs.Values.Amounts.{nanos_per_second}
-use Rattle.humantime.specs.Durations.Characters.{is_ws, u64_max}
-use Rattle.humantime.specs.Durations.Spans.{Span, Only, Front, Reads}
+use Rattle.humantime.specs.Durations.Characters.{is_ws, u64_max, bare_zero}
+use Rattle.humantime.specs.Durations.Spans.{Span, Only, Front, Reads, additions, AllHaveRoom, Accepted}
 use Rattle.humantime.specs.Durations.Sums.{additions}
 use Rattle.humantime.specs.Durations.Limits.{AllHaveRoom}
 use Rattle.humantime.specs.Durations.Accepted.{Accepted}
@@ -45,7 +45,7 @@ joined a b = record {
 -- Accepted texts whose spans are reorderings of each other have equal values; the text `0` has no spans.
 pub record KeepValueReordered (a b : List ℕ) : Type 0 where
   pub value : ReorderedHaveOneValue a b
-  pub zero : HasNoSpans (codes "0")
+  pub zero : HasNoSpans bare_zero
 
 pub reordered : (a b : List ℕ) → KeepValueReordered a b
 reordered a b = record { value = readings.reordered_value a b; zero = readings.zero_has_no_spans }

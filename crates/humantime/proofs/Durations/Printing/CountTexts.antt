@@ -7,7 +7,7 @@ use Rattle.std.proofs.lemmas.Nat.{div-add-mod', mod_below, mul-add-lt, div-mul-a
 use Rattle.std.proofs.lemmas.Bool.Decides.{nat_tests}
 use Rattle.std.proofs.lemmas.List.{append_assoc, append-nil, length-append}
 use Rattle.std.proofs.lemmas.Fmt.{decimal_nonempty}
-use Rattle.humantime.specs.Values.Amounts.{nanos_per_second}
+use Rattle.humantime.specs.Values.Amounts.{nanos_per_micro, nanos_per_milli, nanos_per_second, seconds_per_minute, seconds_per_hour, seconds_per_day, seconds_per_month, seconds_per_year}
 use Rattle.humantime.specs.Durations.Counts.{Suffix, weights, suffixes, printed_count, printed_counts, joined_by_space}
 use Rattle.humantime.specs.References.Durations.Printing.{divided, duration_text, separated, with_count, with_seconds, with_nanos, or_zero, written_text}
 
@@ -104,23 +104,25 @@ next_count w x s n ws rest hw h more =
 -- the nine counts of s seconds and n nanoseconds
 abbrev counts_of : ℕ → ℕ → List ℕ
 counts_of s n =
-    s / 31557600 ∷ s % 31557600 / 2630016 ∷ s % 31557600 % 2630016 / 86400 ∷ s % 31557600 % 2630016 % 86400 / 3600
-    ∷ s % 31557600 % 2630016 % 86400 % 3600 / 60 ∷ s % 31557600 % 2630016 % 86400 % 3600 % 60
-    ∷ n / 1000000 ∷ n % 1000000 / 1000 ∷ n % 1000000 % 1000 ∷ []
+    s / seconds_per_year ∷ s % seconds_per_year / seconds_per_month ∷ s % seconds_per_year % seconds_per_month / seconds_per_day
+    ∷ s % seconds_per_year % seconds_per_month % seconds_per_day / seconds_per_hour
+    ∷ s % seconds_per_year % seconds_per_month % seconds_per_day % seconds_per_hour / seconds_per_minute
+    ∷ s % seconds_per_year % seconds_per_month % seconds_per_day % seconds_per_hour % seconds_per_minute
+    ∷ n / nanos_per_milli ∷ n % nanos_per_milli / nanos_per_micro ∷ n % nanos_per_milli % nanos_per_micro ∷ []
 
-last_counts : (x s n : ℕ) → IsSplit nanos_per_second x s n → divided (drop 5 weights) x ≡ s ∷ n / 1000000 ∷ n % 1000000 / 1000 ∷ n % 1000000 % 1000 ∷ []
+last_counts : (x s n : ℕ) → IsSplit nanos_per_second x s n → divided (drop 5 weights) x ≡ s ∷ n / nanos_per_milli ∷ n % nanos_per_milli / nanos_per_micro ∷ n % nanos_per_milli % nanos_per_micro ∷ []
 last_counts x s n h =
-    cons_same _ _ _ _ h.whole (ap (λ k. k / 1000000 ∷ k % 1000000 / 1000 ∷ k % 1000000 % 1000 / 1 ∷ []) h.left
-    ∙ ap (λ k. n / 1000000 ∷ n % 1000000 / 1000 ∷ k ∷ []) (div-one (n % 1000000 % 1000)))
+    cons_same _ _ _ _ h.whole (ap (λ k. k / nanos_per_milli ∷ k % nanos_per_milli / nanos_per_micro ∷ k % nanos_per_milli % nanos_per_micro / 1 ∷ []) h.left
+    ∙ ap (λ k. n / nanos_per_milli ∷ n % nanos_per_milli / nanos_per_micro ∷ k ∷ []) (div-one (n % nanos_per_milli % nanos_per_micro)))
 
 divided_counts : (d : ℕ) → divided weights d ≡ counts_of (d / nanos_per_second) (d % nanos_per_second)
 divided_counts d =
     let n = d % nanos_per_second in
-    next_count 31557600 d (d / nanos_per_second) n (drop 1 weights) _ (omega arith) (record { whole = refl; left = refl })
-    (λ a. next_count 2630016 _ _ n (drop 2 weights) _ (omega arith) a
-    (λ b. next_count 86400 _ _ n (drop 3 weights) _ (omega arith) b
-    (λ c. next_count 3600 _ _ n (drop 4 weights) _ (omega arith) c
-    (λ e. next_count 60 _ _ n (drop 5 weights) _ (omega arith) e
+    next_count seconds_per_year d (d / nanos_per_second) n (drop 1 weights) _ (omega arith) (record { whole = refl; left = refl })
+    (λ a. next_count seconds_per_month _ _ n (drop 2 weights) _ (omega arith) a
+    (λ b. next_count seconds_per_day _ _ n (drop 3 weights) _ (omega arith) b
+    (λ c. next_count seconds_per_hour _ _ n (drop 4 weights) _ (omega arith) c
+    (λ e. next_count seconds_per_minute _ _ n (drop 5 weights) _ (omega arith) e
     (λ f. last_counts _ _ n f)))))
 
 counts_fit : (s n : ℕ) → s < 2 ^ 64 → n < 2 ^ 64 → AllByRecursion IsWord64 (counts_of s n)

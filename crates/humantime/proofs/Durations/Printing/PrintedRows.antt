@@ -4,9 +4,9 @@ use Rattle.std.specs.Prelude.{◌&&◌, Some, None, codes, decimal, nat_lt}
 use Rattle.std.specs.Str.{IsUtf8, is_utf8, chars}
 use lib.Utf8.{encode}
 use Rattle.std.proofs.lemmas.Str.{IsUtf8-from_is_utf8}
-use Rattle.humantime.specs.Values.Amounts.{nanos_per_second}
+use Rattle.humantime.specs.Values.Amounts.{nanos_per_micro, nanos_per_milli, nanos_per_second, seconds_per_minute, seconds_per_hour, seconds_per_day, seconds_per_month, seconds_per_year}
 use Rattle.humantime.specs.Durations.Characters.{is_letter, leading, begins}
-use Rattle.humantime.specs.Durations.Units.{Scale, in_nanos, in_seconds, in_seconds_and_nanos, scale_of_word}
+use Rattle.humantime.specs.Durations.Units.{Scale, whole_nanos, in_nanos, in_seconds, in_seconds_and_nanos, scale_of_word}
 use Rattle.humantime.specs.Durations.Spans.{Span, Only}
 use Rattle.humantime.specs.Durations.Counts.{weights, Suffix, micros, suffixes}
 
@@ -50,10 +50,10 @@ known w m word u utf8 is weight some kind letters first = record {
 }
 
 abbrev year : ℕ
-year = 31557600 * nanos_per_second
+year = seconds_per_year * nanos_per_second
 
 abbrev month : ℕ
-month = 2630016 * nanos_per_second
+month = seconds_per_month * nanos_per_second
 
 -- a bound of all durations
 abbrev pub most : ℕ
@@ -61,42 +61,42 @@ most = 2 ^ 64 * nanos_per_second
 
 years : (b : Bool) → IsWord year most (codes "year" ++ cond b (codes "s") [])
 unfolding is_letter scale_of_word is_utf8 chars encode
-years true = known _ _ (codes "years") (in_seconds 31557600) refl refl refl (omega arith) (inl refl) refl refl
-years false = known _ _ (codes "year") (in_seconds 31557600) refl refl refl (omega arith) (inl refl) refl refl
+years true = known _ _ (codes "years") (in_seconds seconds_per_year) refl refl refl (omega arith) (inl refl) refl refl
+years false = known _ _ (codes "year") (in_seconds seconds_per_year) refl refl refl (omega arith) (inl refl) refl refl
 
 months : (b : Bool) → IsWord month year (codes "month" ++ cond b (codes "s") [])
 unfolding is_letter scale_of_word is_utf8 chars encode
-months true = known _ _ (codes "months") (in_seconds 2630016) refl refl refl (omega arith) (inl refl) refl refl
-months false = known _ _ (codes "month") (in_seconds 2630016) refl refl refl (omega arith) (inl refl) refl refl
+months true = known _ _ (codes "months") (in_seconds seconds_per_month) refl refl refl (omega arith) (inl refl) refl refl
+months false = known _ _ (codes "month") (in_seconds seconds_per_month) refl refl refl (omega arith) (inl refl) refl refl
 
-days : (b : Bool) → IsWord (86400 * nanos_per_second) month (codes "day" ++ cond b (codes "s") [])
+days : (b : Bool) → IsWord (seconds_per_day * nanos_per_second) month (codes "day" ++ cond b (codes "s") [])
 unfolding is_letter scale_of_word is_utf8 chars encode
-days true = known _ _ (codes "days") (in_seconds 86400) refl refl refl (omega arith) (inl refl) refl refl
-days false = known _ _ (codes "day") (in_seconds 86400) refl refl refl (omega arith) (inl refl) refl refl
+days true = known _ _ (codes "days") (in_seconds seconds_per_day) refl refl refl (omega arith) (inl refl) refl refl
+days false = known _ _ (codes "day") (in_seconds seconds_per_day) refl refl refl (omega arith) (inl refl) refl refl
 
-hours : IsWord (3600 * nanos_per_second) (86400 * nanos_per_second) (codes "h")
+hours : IsWord (seconds_per_hour * nanos_per_second) (seconds_per_day * nanos_per_second) (codes "h")
 unfolding is_letter scale_of_word is_utf8 chars encode
-hours = known _ _ (codes "h") (in_seconds 3600) refl refl refl (omega arith) (inl refl) refl refl
+hours = known _ _ (codes "h") (in_seconds seconds_per_hour) refl refl refl (omega arith) (inl refl) refl refl
 
-minutes : IsWord (60 * nanos_per_second) (3600 * nanos_per_second) (codes "m")
+minutes : IsWord (seconds_per_minute * nanos_per_second) (seconds_per_hour * nanos_per_second) (codes "m")
 unfolding is_letter scale_of_word is_utf8 chars encode
-minutes = known _ _ (codes "m") (in_seconds_and_nanos 60) refl refl refl (omega arith) (inl refl) refl refl
+minutes = known _ _ (codes "m") (in_seconds_and_nanos seconds_per_minute) refl refl refl (omega arith) (inl refl) refl refl
 
-pub seconds : IsWord nanos_per_second (60 * nanos_per_second) (codes "s")
+pub seconds : IsWord nanos_per_second (seconds_per_minute * nanos_per_second) (codes "s")
 unfolding is_letter scale_of_word is_utf8 chars encode
 seconds = known _ _ (codes "s") (in_seconds_and_nanos 1) refl refl refl (omega arith) (inl refl) refl refl
 
-millis : IsWord 1000000 nanos_per_second (codes "ms")
+millis : IsWord nanos_per_milli nanos_per_second (codes "ms")
 unfolding is_letter scale_of_word is_utf8 chars encode
-millis = known _ _ (codes "ms") (in_nanos 1000000 (Some 1000000)) refl refl refl (omega arith) (inr (refl, omega arith)) refl refl
+millis = known _ _ (codes "ms") (in_nanos nanos_per_milli) refl refl refl (omega arith) (inr (refl, omega arith)) refl refl
 
-micros_word : IsWord 1000 1000000 micros
+micros_word : IsWord nanos_per_micro nanos_per_milli micros
 unfolding is_letter scale_of_word is_utf8 chars encode
-micros_word = known _ _ micros (in_nanos 1000 (Some 1000)) refl refl refl (omega arith) (inr (refl, omega arith)) refl refl
+micros_word = known _ _ micros (in_nanos nanos_per_micro) refl refl refl (omega arith) (inr (refl, omega arith)) refl refl
 
-nanos : IsWord 1 1000 (codes "ns")
+nanos : IsWord 1 nanos_per_micro (codes "ns")
 unfolding is_letter scale_of_word is_utf8 chars encode
-nanos = known _ _ (codes "ns") (in_nanos 1 None) refl refl refl (omega arith) (inr (refl, omega arith)) refl refl
+nanos = known _ _ (codes "ns") whole_nanos refl refl refl (omega arith) (inr (refl, omega arith)) refl refl
 
 -- each suffix gives words of its weight, where less than m is left
 abbrev pub Table : List ℕ → List Suffix → ℕ → Type 0

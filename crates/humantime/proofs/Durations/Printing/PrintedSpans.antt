@@ -9,8 +9,8 @@ use Rattle.std.proofs.Math.Nat.{div-add-mod}
 use Rattle.std.proofs.lemmas.List.{append_assoc, append-nil}
 use Rattle.std.proofs.lemmas.Str.{chars-append, chars-IsAscii, chars-nil, IsUtf8-append, IsUtf8-from_ascii}
 use Rattle.std.proofs.lemmas.Fmt.{IsAscii-decimal, decimal_digit}
-use Rattle.humantime.specs.Values.Amounts.{nanos_per_second}
-use Rattle.humantime.specs.Durations.Characters.{white_spaces, is_ws, is_letter, decimal_value, u64_max}
+use Rattle.humantime.specs.Values.Amounts.{nanos_per_second, seconds_per_minute}
+use Rattle.humantime.specs.Durations.Characters.{white_spaces, is_ws, decimal_value, u64_max, is_letter}
 use Rattle.humantime.specs.Durations.Units.{Scale, scale_of_word}
 use Rattle.humantime.specs.Durations.Spans.{Span, Only, Spells, SpellsEach}
 use Rattle.humantime.specs.Durations.Sums.{total, fraction_additions, additions_of, additions}
@@ -252,8 +252,8 @@ zero_text = rw (decimal_digit 0 (omega arith)) refl
 zero_reads : Accepted (chars (codes "0s")) 0
 zero_reads =
     let s = without_plural (codes "s") in
-    let row = row_good 0 0 (60 * nanos_per_second) nanos_per_second 0 s seconds (omega arith) (omega arith) (omega arith) in
-    let spells = count_spells 0 nanos_per_second (60 * nanos_per_second) s [] (omega arith) seconds tt in
+    let row = row_good 0 0 (seconds_per_minute * nanos_per_second) nanos_per_second 0 s seconds (omega arith) (omega arith) (omega arith) in
+    let spells = count_spells 0 nanos_per_second (seconds_per_minute * nanos_per_second) s [] (omega arith) seconds tt in
     let here = chars (printed_count 0 s) in
     let each : SpellsEach here (span_for 0 s ∷ []) =
     ([], record { here = here ++ []; whole = sym (append-nil here) ∙ sym (append-nil (here ++ [])); spells = spells }, refl) in

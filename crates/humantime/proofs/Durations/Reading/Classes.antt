@@ -82,20 +82,20 @@ is_point-true c e = grind (arith, nat_tests)
 
 -- ---- classes
 
--- what a class says
-abbrev Says : Class → ℕ → Type 0
-Says White c = is_ws c ≡ true
-Says Digit c = is_digit c ≡ true
-Says Letter c = is_letter c ≡ true
-Says Point c = is_point c ≡ true
-Says Other c = Unit {0}
+-- the character passes the test of the class, if the class has one
+abbrev PassesTestOf : Class → ℕ → Type 0
+PassesTestOf White c = is_ws c ≡ true
+PassesTestOf Digit c = is_digit c ≡ true
+PassesTestOf Letter c = is_letter c ≡ true
+PassesTestOf Point c = is_point c ≡ true
+PassesTestOf Other c = Unit {0}
 
-class_says : (c : ℕ) → Says (class_of c) c
+passes_test : (c : ℕ) → PassesTestOf (class_of c) c
 unfolding class_of
-class_says c = by (is_ws c) (is_digit c) (is_letter c) (is_point c) refl refl refl refl
+passes_test c = by (is_ws c) (is_digit c) (is_letter c) (is_point c) refl refl refl refl
   where
     by : (w d l p : Bool) → is_ws c ≡ w → is_digit c ≡ d → is_letter c ≡ l → is_point c ≡ p
-        → Says (if w then White else if d then Digit else if l then Letter else if p then Point else Other) c
+        → PassesTestOf (if w then White else if d then Digit else if l then Letter else if p then Point else Other) c
     by true d l p e f g h = e
     by false true l p e f g h = f
     by false false true p e f g h = g
@@ -105,15 +105,15 @@ class_says c = by (is_ws c) (is_digit c) (is_letter c) (is_point c) refl refl re
 -- a character passes a test exactly where it is of the test's class
 pub is_ws-class : (c : ℕ) → (class_of c ≡ White) ↔ (is_ws c ≡ true)
 unfolding class_of
-is_ws-class c = ((λ e. let says = class_says c in rw e at says), (λ e. rw e refl))
+is_ws-class c = ((λ e. let passes = passes_test c in rw e at passes), (λ e. rw e refl))
 
 pub is_digit-class : (c : ℕ) → (class_of c ≡ Digit) ↔ (is_digit c ≡ true)
 unfolding class_of
-is_digit-class c = ((λ e. let says = class_says c in rw e at says), (λ e. rw (digit_not_space c e, e) refl))
+is_digit-class c = ((λ e. let passes = passes_test c in rw e at passes), (λ e. rw (digit_not_space c e, e) refl))
 
 pub is_letter-class : (c : ℕ) → (class_of c ≡ Letter) ↔ (is_letter c ≡ true)
 unfolding class_of
-is_letter-class c = ((λ e. let says = class_says c in rw e at says), (λ e. rw (letter_not_space c e, letter_not_digit c e, e) refl))
+is_letter-class c = ((λ e. let passes = passes_test c in rw e at passes), (λ e. rw (letter_not_space c e, letter_not_digit c e, e) refl))
 
 -- a test fails where a fact is not so that holds exactly where the test passes
 fails : (P : Type 0) (b : Bool) → (P ↔ (b ≡ true)) → ¬ P → b ≡ false

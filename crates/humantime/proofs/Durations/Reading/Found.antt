@@ -2,12 +2,12 @@
 use Rattle.std.proofs.Common.{◌≡◌, ◌≢◌, ◌⊎◌, ℕ, zero, suc, ◌≤◌, ◌+◌, true, false, List, [], ◌∷◌, ◌++◌, length, Option, Some, None, refl, sym, ap, ◌∙◌, inl, inr, arith, subst, subst₂, append_assoc, append-nil}
 use Rattle.std.specs.List.{AllByRecursion}
 use Rattle.std.proofs.lemmas.Bool.{cases_Bool}
-use Rattle.humantime.specs.Durations.Characters.{is_ws, is_digit, begins, past, leading, offset_of}
-use Rattle.humantime.specs.Durations.Spans.{Span, Spells, SpellsEach, Front}
+use Rattle.humantime.specs.Durations.Characters.{is_ws, is_digit, begins, past, leading, offset_of, bare_zero}
+use Rattle.humantime.specs.Durations.Spans.{Span, Spells, SpellsEach, Front, Formed, total, additions_of, value}
+use Rattle.humantime.specs.Durations.Faults.{Fault, NumberExpected, NumberOverflow, Empty, Split, HasFault, Stops, No_number, Nothing_there, Items, ItemsAt, EndsInSpace, after_word, span_of}
 use Rattle.humantime.specs.Durations.Sums.{total, additions_of, value}
 use Rattle.humantime.specs.Durations.Limits.{Formed}
 use Rattle.humantime.specs.Durations.Rests.{after_word, span_of}
-use Rattle.humantime.specs.Durations.Faults.{Fault, NumberExpected, NumberOverflow, Empty, Split, HasFault, Stops, No_number, Nothing_there, EndsInSpace}
 use Rattle.humantime.specs.Durations.Items.{Items, ItemsAt}
 use Rattle.humantime.specs.References.Durations.Reading.{stop_at, read, items}
 use Rattle.humantime.proofs.Durations.Reading.Runs.{ends-append, leading-past, Only-leading, begins-past}
@@ -140,7 +140,7 @@ items_found text = let i = items_found_at text in record { front = i.0; rest = u
 abbrev IsTooLarge : List Span → List Span × Option Fault → Type 0
 IsTooLarge spans r = ¬ (WithinLimitsFrom (0 + value spans) r.0)
 
-over_at : (text front rest : List ℕ) (spans : List Span) → text ≢ 48 ∷ [] → IsReadTo text front spans rest → WithinLimitsFrom 0 spans → begins is_digit rest ≡ true → Fine rest
+over_at : (text front rest : List ℕ) (spans : List Span) → text ≢ bare_zero → IsReadTo text front spans rest → WithinLimitsFrom 0 spans → begins is_digit rest ≡ true → Fine rest
     → ¬ (IsAddedTo (0 + value spans) (span_of rest)) → HasFault text NumberOverflow
 over_at text front rest spans not_zero r within d f over = record {
   not_zero = not_zero;
@@ -161,7 +161,7 @@ over_at text front rest spans not_zero r within d f over = record {
   );
 }
 
-over_step : (n : ℕ) (text front rest : List ℕ) (spans : List Span) → text ≢ 48 ∷ [] → IsReadTo text front spans rest → WithinLimitsFrom 0 spans → begins is_digit rest ≡ true → length rest ≤ suc n
+over_step : (n : ℕ) (text front rest : List ℕ) (spans : List Span) → text ≢ bare_zero → IsReadTo text front spans rest → WithinLimitsFrom 0 spans → begins is_digit rest ≡ true → length rest ≤ suc n
     → ((f r : List ℕ) (ss : List Span) → length r ≤ n → IsReadTo text f ss r → WithinLimitsFrom 0 ss → IsTooLarge ss (read n text r) → HasFault text NumberOverflow)
     → (o : Option Fault) → stop_at text rest ≡ o → IsTooLarge spans (read (suc n) text rest) → HasFault text NumberOverflow
 over_step n text front rest spans not_zero r within d h next (Some e) s big = absurd (subst (IsTooLarge spans) (read-stopped n text rest e d s) big tt)
@@ -177,7 +177,7 @@ over_step n text front rest spans not_zero r within d h next None s big =
       | inr a ↦ over_at text front rest spans not_zero r within d f a
     ]
 
-over_found : (n : ℕ) (text front rest : List ℕ) (spans : List Span) → text ≢ 48 ∷ [] → length rest ≤ n → IsReadTo text front spans rest → WithinLimitsFrom 0 spans
+over_found : (n : ℕ) (text front rest : List ℕ) (spans : List Span) → text ≢ bare_zero → length rest ≤ n → IsReadTo text front spans rest → WithinLimitsFrom 0 spans
     → IsTooLarge spans (read n text rest) → HasFault text NumberOverflow
 over_found n text front [] spans not_zero h r within big = absurd (subst (IsTooLarge spans) (read-end n text) big tt)
 over_found zero text front (c ∷ cs) spans not_zero h r within big = absurd (omega arith)
@@ -186,7 +186,7 @@ over_found (suc n) text front (c ∷ cs) spans not_zero h r within big = elim (c
   | inr d ↦ absurd (subst (IsTooLarge spans) (read-expected n text (c ∷ cs) (λ e. cc) d) big tt)
 ]
 
-over_from : (text rest : List ℕ) → text ≢ 48 ∷ [] → past is_ws text ≡ rest → IsTooLarge [] (items text) → HasFault text NumberOverflow
+over_from : (text rest : List ℕ) → text ≢ bare_zero → past is_ws text ≡ rest → IsTooLarge [] (items text) → HasFault text NumberOverflow
 over_from text [] not_zero e big = absurd (subst (IsTooLarge []) (items-nothing text e) big tt)
 over_from text (c ∷ cs) not_zero e big =
     let some : c ∷ cs ≢ [] = λ n. cc in
@@ -194,5 +194,5 @@ over_from text (c ∷ cs) not_zero e big =
     (subst (IsTooLarge []) (items-read text (c ∷ cs) e some) big)
 
 -- where the items of a text are too large, it has that fault
-pub too_large_found : (text : List ℕ) → text ≢ 48 ∷ [] → ¬ (WithinLimitsFrom 0 (items text).0) → HasFault text NumberOverflow
+pub too_large_found : (text : List ℕ) → text ≢ bare_zero → ¬ (WithinLimitsFrom 0 (items text).0) → HasFault text NumberOverflow
 too_large_found text not_zero bad = over_from text (past is_ws text) not_zero refl (λ g. let e : 0 + value [] ≡ 0 = omega arith in bad (rw e at g))

@@ -1,6 +1,6 @@
 -- A text is read as one list of spans at most, and the text 0 as none.
 use Rattle.std.proofs.Common.{◌≡◌, ◌≢◌, ℕ, ◌<◌, List, [], ◌∷◌, ◌++◌, length, refl, sym, ap, ap₂, ◌∙◌, inl, arith, subst, append-nil, length-append}
-use Rattle.humantime.specs.Durations.Characters.{is_ws, is_digit, past}
+use Rattle.humantime.specs.Durations.Characters.{is_ws, is_digit, past, bare_zero}
 use Rattle.humantime.specs.Durations.Spans.{Span, SpellsEach, Front, Reads}
 use Rattle.humantime.specs.Durations.Faults.{Split}
 use Rattle.humantime.specs.Laws.Outcomes.{OneReading}
@@ -42,5 +42,5 @@ each_long body (s ∷ ss) h some = omega (arith, ap length h.1.whole, length-app
 pub reads_long : (text : List ℕ) (spans : List Span) → Reads text spans → 1 < length text
 reads_long text spans h = omega (arith, ap length h.0.whole, length-append h.0.space h.0.body, each_long h.0.body spans h.0.each h.1)
 
-pub not_zero : (text : List ℕ) (spans : List Span) → Reads text spans → text ≢ 48 ∷ []
+pub not_zero : (text : List ℕ) (spans : List Span) → Reads text spans → text ≢ bare_zero
 not_zero text spans h e = omega (arith, ap length e, reads_long text spans h)

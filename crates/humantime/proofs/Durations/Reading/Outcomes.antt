@@ -4,13 +4,13 @@ use Rattle.std.specs.List.{AllByRecursion}
 use Rattle.std.specs.Str.{bytes_eq}
 use Rattle.std.proofs.lemmas.Bool.{cases_Bool, false≢true}
 use Rattle.std.proofs.lemmas.Slice.Eq.{bytes_eq-Decides}
-use Rattle.humantime.specs.Durations.Characters.{is_digit}
-use Rattle.humantime.specs.Durations.Spans.{Span, Front, Reads}
+use Rattle.humantime.specs.Durations.Characters.{is_digit, bare_zero}
+use Rattle.humantime.specs.Durations.Spans.{Span, Front, Reads, Formed, Good, value, Accepted, Bare_zero, Sum_of}
+use Rattle.humantime.specs.Durations.Faults.{Fault, NumberOverflow, Stops, Overflows, HasFault, Items, OneOutcome, OnlyValue, OnlyFault, OneListOfItems, span_of}
 use Rattle.humantime.specs.Durations.Sums.{value}
 use Rattle.humantime.specs.Durations.Limits.{Formed, WithinLimits}
 use Rattle.humantime.specs.Durations.Accepted.{Accepted, Bare_zero, Sum_of}
 use Rattle.humantime.specs.Durations.Rests.{span_of}
-use Rattle.humantime.specs.Durations.Faults.{Fault, NumberOverflow, Stops, Overflows, HasFault}
 use Rattle.humantime.specs.Durations.Items.{Items}
 use Rattle.humantime.specs.Laws.Outcomes.{OneOutcome, OnlyValue, OnlyFault, OneListOfItems, ItemsDecideValue, ItemsDecideFault, ItemsDecideOverflow}
 use Rattle.humantime.specs.References.Durations.Reading.{with_span, read, items, settle}
@@ -35,32 +35,32 @@ err_same : (e f : Fault) → ◌≡◌ {A = Result ℕ Fault} (Err e) (Err f) �
 err_same e f h = cc
 
 -- the text 0, and every other
-pub duration_answer-zero : duration_answer (48 ∷ []) ≡ Ok 0
+pub duration_answer-zero : duration_answer bare_zero ≡ Ok 0
 unfolding duration_answer
 duration_answer-zero = refl
 
-pub duration_answer-items : (text : List ℕ) → text ≢ 48 ∷ [] → duration_answer text ≡ settle 0 (items text).0 (items text).1
+pub duration_answer-items : (text : List ℕ) → text ≢ bare_zero → duration_answer text ≡ settle 0 (items text).0 (items text).1
 unfolding duration_answer
-duration_answer-items text some = elim (cases_Bool (bytes_eq text (48 ∷ []))) [
-  | inl e ↦ absurd (some ((bytes_eq-Decides text (48 ∷ [])).0 e))
+duration_answer-items text some = elim (cases_Bool (bytes_eq text bare_zero)) [
+  | inl e ↦ absurd (some ((bytes_eq-Decides text bare_zero).0 e))
   | inr e ↦ rw e
 ]
 
-pub zero_or_not : (text : List ℕ) → (text ≡ 48 ∷ []) ⊎ (text ≢ 48 ∷ [])
-zero_or_not text = elim (cases_Bool (bytes_eq text (48 ∷ []))) [
-  | inl e ↦ inl ((bytes_eq-Decides text (48 ∷ [])).0 e)
-  | inr e ↦ inr (λ h. false≢true (sym e ∙ (bytes_eq-Decides text (48 ∷ [])).1 h))
+pub zero_or_not : (text : List ℕ) → (text ≡ bare_zero) ⊎ (text ≢ bare_zero)
+zero_or_not text = elim (cases_Bool (bytes_eq text bare_zero)) [
+  | inl e ↦ inl ((bytes_eq-Decides text bare_zero).0 e)
+  | inr e ↦ inr (λ h. false≢true (sym e ∙ (bytes_eq-Decides text bare_zero).1 h))
 ]
 
 -- whatever the items are, they settle the outcome
-pub outcome_settled : (text : List ℕ) (spans : List Span) (stop : Option Fault) → text ≢ 48 ∷ [] → Items text spans stop → duration_answer text ≡ settle 0 spans stop
+pub outcome_settled : (text : List ℕ) (spans : List Span) (stop : Option Fault) → text ≢ bare_zero → Items text spans stop → duration_answer text ≡ settle 0 spans stop
 outcome_settled text spans stop some h = duration_answer-items text some ∙ ap (λ (r : List Span × Option Fault). settle 0 r.0 r.1) (items_told text spans stop h)
 
-pub outcome_within : (text : List ℕ) (spans : List Span) (stop : Option Fault) → text ≢ 48 ∷ [] → Items text spans stop → WithinLimits spans → duration_answer text ≡ ended (value spans) stop
+pub outcome_within : (text : List ℕ) (spans : List Span) (stop : Option Fault) → text ≢ bare_zero → Items text spans stop → WithinLimits spans → duration_answer text ≡ ended (value spans) stop
 outcome_within text spans stop some h g =
     outcome_settled text spans stop some h ∙ settle_within 0 spans stop g.formed (from_WithinLimits spans g) ∙ ap (λ (n : ℕ). ended n stop) (omega arith)
 
-pub outcome_beyond : (text : List ℕ) (spans : List Span) (stop : Option Fault) → text ≢ 48 ∷ [] → Items text spans stop → ¬ (WithinLimits spans) → duration_answer text ≡ Err NumberOverflow
+pub outcome_beyond : (text : List ℕ) (spans : List Span) (stop : Option Fault) → text ≢ bare_zero → Items text spans stop → ¬ (WithinLimits spans) → duration_answer text ≡ Err NumberOverflow
 outcome_beyond text spans stop some h bad = outcome_settled text spans stop some h ∙ settle_beyond 0 spans stop h.are.formed (λ g. bad (WithinLimits_from spans h.are.formed g))
 
 -- a text that is read whole stops nowhere
@@ -114,7 +114,7 @@ within_value : (text : List ℕ) (spans : List Span) (stop : Option Fault) (v : 
 within_value text spans None v h g e = (refl, Sum_of spans (reads_whole text spans h) g (ok_same (value spans) v e))
 within_value text spans (Some f) v h g e = cc
 
-pub within_fault : (text : List ℕ) (spans : List Span) (stop : Option Fault) (e : Fault) → text ≢ 48 ∷ [] → Items text spans stop → WithinLimits spans → stop ≡ Some e → HasFault text e
+pub within_fault : (text : List ℕ) (spans : List Span) (stop : Option Fault) (e : Fault) → text ≢ bare_zero → Items text spans stop → WithinLimits spans → stop ≡ Some e → HasFault text e
 within_fault text spans stop e some h g is = elim h.are.ends [
   | inl o ↦ let n = o.2 in cc
   | inr o ↦
@@ -134,7 +134,7 @@ ended_fault v (Some f) e h = ap Some (err_same f e h)
 pub within_or_beyond : (spans : List Span) → AllByRecursion Formed spans → WithinLimits spans ⊎ ¬ (WithinLimits spans)
 within_or_beyond spans f = elim (within_or_not 0 spans f) [ inl g ↦ inl (WithinLimits_from spans f g) | inr b ↦ inr (λ g. b (from_WithinLimits spans g)) ]
 
-accepted_read : (text : List ℕ) (v : ℕ) → text ≢ 48 ∷ [] → duration_answer text ≡ Ok v → Accepted text v
+accepted_read : (text : List ℕ) (v : ℕ) → text ≢ bare_zero → duration_answer text ≡ Ok v → Accepted text v
 accepted_read text v some h =
     let i = items_found text in
     elim (within_or_beyond (items text).0 i.are.formed) [
@@ -148,7 +148,7 @@ accepted_from_outcome text v h = elim (zero_or_not text) [
   | inr n ↦ accepted_read text v n h
 ]
 
-fault_read : (text : List ℕ) (e : Fault) → text ≢ 48 ∷ [] → duration_answer text ≡ Err e → HasFault text e
+fault_read : (text : List ℕ) (e : Fault) → text ≢ bare_zero → duration_answer text ≡ Err e → HasFault text e
 fault_read text e some h =
     let i = items_found text in
     elim (within_or_beyond (items text).0 i.are.formed) [
@@ -188,7 +188,7 @@ pub one_list_of_items : (text : List ℕ) → OneListOfItems text
 one_list_of_items text = ((items text).0, (items text).1, items_found text, λ ss o h. let e = items_told text ss o h in (sym (ap (λ (r : List Span × Option Fault). r.0) e), sym (ap (λ (r : List Span × Option Fault). r.1) e)))
 
 -- the items decide the value, the fault, and that they are too large
-value_only : (text : List ℕ) (spans : List Span) (stop : Option Fault) (v : ℕ) → text ≢ 48 ∷ [] → Items text spans stop → duration_answer text ≡ Ok v → (stop ≡ None) × WithinLimits spans × (value spans ≡ v)
+value_only : (text : List ℕ) (spans : List Span) (stop : Option Fault) (v : ℕ) → text ≢ bare_zero → Items text spans stop → duration_answer text ≡ Ok v → (stop ≡ None) × WithinLimits spans × (value spans ≡ v)
 value_only text spans stop v some h o = elim (within_or_beyond spans h.are.formed) [
   | inl g ↦
       let e = sym (outcome_within text spans stop some h g) ∙ o in

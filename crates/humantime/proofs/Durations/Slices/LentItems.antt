@@ -1,7 +1,7 @@
 -- The list of what the items of a text lend.
 use Rattle.std.proofs.Common.{◌≡◌, ◌≢◌, ◌++◌, IsUtf8, chars, encode_utf8_all, arith, ℕ, zero, suc, true, List, [], ◌∷◌, length, Option, Some, None, Result, Ok, Err, refl, sym, ap, ap₂, subst, subst₂, ◌∙◌}
 use Rattle.std.proofs.lemmas.Str.{encodes-chars, encode_ascii}
-use Rattle.humantime.specs.Durations.Characters.{is_ws, is_digit, begins, leading, past, offset_of}
+use Rattle.humantime.specs.Durations.Characters.{is_ws, is_digit, begins, leading, past, offset_of, bare_zero}
 use Rattle.humantime.specs.Durations.Spans.{Span}
 use Rattle.humantime.specs.Durations.Rests.{span_of}
 use Rattle.humantime.specs.Durations.Faults.{Fault, NumberExpected, NumberOverflow, Empty}
@@ -60,11 +60,11 @@ unfolding items
 judged_items text = judged_from text (past is_ws text)
 
 -- unless the text is `0`, what its items add up to is its outcome
-pub judged_outcome : (text : List ℕ) → text ≢ 48 ∷ [] → judged 0 (lent_items text) ≡ duration_answer text
+pub judged_outcome : (text : List ℕ) → text ≢ bare_zero → judged 0 (lent_items text) ≡ duration_answer text
 judged_outcome text some = judged_items text ∙ sym (duration_answer-items text some)
 
 -- a text whose one character is `0` is that one byte
-pub not_zero_chars : (bs : List ℕ) → IsUtf8 bs → (bs ≡ 48 ∷ [] → ⊥) → chars bs ≢ 48 ∷ []
+pub not_zero_chars : (bs : List ℕ) → IsUtf8 bs → (bs ≡ bare_zero → ⊥) → chars bs ≢ bare_zero
 not_zero_chars bs u n e = n (sym (encodes-chars bs u) ∙ ap encode_utf8_all e ∙ ap (λ (l : List ℕ). l ++ []) (encode_ascii 48 (omega arith)))
 
 -- The items from a rest on are what the spans found there lend up to an end, and then what stops them.

@@ -1,13 +1,14 @@
 -- What is answered of a duration's text, each as one function of its characters. Nobody has to believe these: the laws tie
 -- them to what is accepted, to the first fault and to the canonical text.
-use Rattle.std.specs.Prelude.{ℕ, List, [], ◌∷◌, Result, Ok, Err, bytes_eq, if◌then◌else◌}
+use Rattle.std.specs.Prelude.{ℕ, List, Result, Ok, Err, bytes_eq, if◌then◌else◌}
+use Rattle.humantime.specs.Durations.Characters.{bare_zero}
 use Rattle.humantime.specs.Durations.Faults.{Fault}
 use Rattle.humantime.specs.References.Durations.Printing.{duration_text}
 use Rattle.humantime.specs.References.Durations.Reading.{items, settle}
 
 -- the value of a text in nanoseconds, or its first fault
 unfoldable pub duration_answer : List ℕ → Result ℕ Fault
-duration_answer text = if bytes_eq text (48 ∷ []) then Ok 0 else settle 0 (items text).0 (items text).1
+duration_answer text = if bytes_eq text bare_zero then Ok 0 else settle 0 (items text).0 (items text).1
 
 -- the printed text of a value, or the same fault
 abbrev pub printed_answer : Result ℕ Fault → Result (List ℕ) Fault

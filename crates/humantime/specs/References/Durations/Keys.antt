@@ -1,6 +1,7 @@
 -- A short word as one number, its key.
 use Rattle.std.specs.Prelude.{ℕ, ◌+◌, ◌*◌, ◌==◌, List, [], ◌∷◌, Option, length, nat_lt, if◌then◌else◌}
 use Rattle.std.specs.Map.{lookup}
+use Rattle.humantime.specs.Durations.Characters.{micro_sign, greek_mu}
 use Rattle.humantime.specs.Durations.Units.{Scale, words}
 
 -- the bytes as the digits of a number to base 256, the first the lowest, below a leading 1
@@ -16,8 +17,8 @@ key bs = if nat_lt 7 (length bs) then 0 else packed bs
 abbrev pub bytes_of : List ℕ → List ℕ
 bytes_of [] = []
 bytes_of (c ∷ cs) =
-    if c == 0xb5 then 0xc2 ∷ 0xb5 ∷ bytes_of cs
-    else if c == 0x3bc then 0xce ∷ 0xbc ∷ bytes_of cs
+    if c == micro_sign then 0xc2 ∷ 0xb5 ∷ bytes_of cs
+    else if c == greek_mu then 0xce ∷ 0xbc ∷ bytes_of cs
     else c ∷ bytes_of cs
 
 -- each word's key, and what the word stands for

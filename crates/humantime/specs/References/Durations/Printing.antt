@@ -1,6 +1,6 @@
 -- How a duration's text is put together.
 use Rattle.std.specs.Prelude.{ℕ, ◌/◌, ◌%◌, ◌==◌, List, [], ◌∷◌, ◌++◌, if◌then◌else◌, codes}
-use Rattle.humantime.specs.Values.Amounts.{nanos_per_second}
+use Rattle.humantime.specs.Values.Amounts.{nanos_per_micro, nanos_per_milli, nanos_per_second, seconds_per_minute, seconds_per_hour, seconds_per_day, seconds_per_month, seconds_per_year}
 use Rattle.humantime.specs.Durations.Counts.{weights, Suffix, with_plural, without_plural, micros, suffixes, printed_count, printed_counts, joined_by_space}
 
 -- the counts by division: as many of the first weight as there is room for, and then of the others what is left
@@ -25,20 +25,20 @@ with_count text n s = if n == 0 then text else separated text ++ printed_count n
 unfoldable pub with_seconds : List ℕ → ℕ → List ℕ
 with_seconds text secs =
     with_count (with_count (with_count (with_count (with_count (with_count text
-    (secs / 31557600) (with_plural (codes "year")))
-    (secs % 31557600 / 2630016) (with_plural (codes "month")))
-    (secs % 31557600 % 2630016 / 86400) (with_plural (codes "day")))
-    (secs % 31557600 % 2630016 % 86400 / 3600) (without_plural (codes "h")))
-    (secs % 31557600 % 2630016 % 86400 % 3600 / 60) (without_plural (codes "m")))
-    (secs % 31557600 % 2630016 % 86400 % 3600 % 60) (without_plural (codes "s"))
+    (secs / seconds_per_year) (with_plural (codes "year")))
+    (secs % seconds_per_year / seconds_per_month) (with_plural (codes "month")))
+    (secs % seconds_per_year % seconds_per_month / seconds_per_day) (with_plural (codes "day")))
+    (secs % seconds_per_year % seconds_per_month % seconds_per_day / seconds_per_hour) (without_plural (codes "h")))
+    (secs % seconds_per_year % seconds_per_month % seconds_per_day % seconds_per_hour / seconds_per_minute) (without_plural (codes "m")))
+    (secs % seconds_per_year % seconds_per_month % seconds_per_day % seconds_per_hour % seconds_per_minute) (without_plural (codes "s"))
 
 -- milliseconds, microseconds and nanoseconds of less than a second, behind a text
 unfoldable pub with_nanos : List ℕ → ℕ → List ℕ
 with_nanos text nanos =
     with_count (with_count (with_count text
-    (nanos / 1000000) (without_plural (codes "ms")))
-    (nanos % 1000000 / 1000) (without_plural micros))
-    (nanos % 1000000 % 1000) (without_plural (codes "ns"))
+    (nanos / nanos_per_milli) (without_plural (codes "ms")))
+    (nanos % nanos_per_milli / nanos_per_micro) (without_plural micros))
+    (nanos % nanos_per_milli % nanos_per_micro) (without_plural (codes "ns"))
 
 -- the text, or zero seconds where there is none
 abbrev pub or_zero : List ℕ → List ℕ

@@ -1,24 +1,25 @@
 -- What the code's units stand for.
-use Rattle.std.specs.Prelude.{◌≡◌, ℕ, Bool, true, false, List, [], ◌∷◌, length, Some, None, option_map}
+use Rattle.std.specs.Prelude.{◌≡◌, ℕ, Bool, true, false, List, [], ◌∷◌, length, Some, option_map}
 use Rattle.humantime.specs.declared.unit.Unit.{Unit}
 use Rattle.humantime.specs.declared.unit.Unit.TheVariants.{Nanosecond, Microsecond, Millisecond, Second, Minute, Hour, Day, Week, Month, Year}
 use Rattle.humantime.specs.declared.duration.reading.amount.Fraction.{Fraction}
 use Rattle.humantime.specs.declared.duration.reading.amount.Amount.{Amount}
+use Rattle.humantime.specs.Values.Amounts.{nanos_per_micro, nanos_per_milli, seconds_per_minute, seconds_per_hour, seconds_per_day, seconds_per_week, seconds_per_month, seconds_per_year}
 use Rattle.humantime.specs.Durations.Characters.{decimal_value, significant}
-use Rattle.humantime.specs.Durations.Units.{Scale, in_nanos, in_seconds_and_nanos, in_seconds, scale_of_word}
+use Rattle.humantime.specs.Durations.Units.{Scale, whole_nanos, in_nanos, in_seconds_and_nanos, in_seconds, scale_of_word}
 use Rattle.humantime.specs.Durations.Spans.{Span}
 
 abbrev pub scale_of : Unit → Scale
-scale_of Nanosecond = in_nanos 1 None
-scale_of Microsecond = in_nanos 1000 (Some 1000)
-scale_of Millisecond = in_nanos 1000000 (Some 1000000)
+scale_of Nanosecond = whole_nanos
+scale_of Microsecond = in_nanos nanos_per_micro
+scale_of Millisecond = in_nanos nanos_per_milli
 scale_of Second = in_seconds_and_nanos 1
-scale_of Minute = in_seconds_and_nanos 60
-scale_of Hour = in_seconds 3600
-scale_of Day = in_seconds 86400
-scale_of Week = in_seconds 604800
-scale_of Month = in_seconds 2630016
-scale_of Year = in_seconds 31557600
+scale_of Minute = in_seconds_and_nanos seconds_per_minute
+scale_of Hour = in_seconds seconds_per_hour
+scale_of Day = in_seconds seconds_per_day
+scale_of Week = in_seconds seconds_per_week
+scale_of Month = in_seconds seconds_per_month
+scale_of Year = in_seconds seconds_per_year
 
 -- a fraction as the number that its digits before the zeros at their end read as, how many these are, and whether there is
 -- a digit at all

@@ -16,20 +16,11 @@ use crate::buffer::front;
 use crate::duration::error::DurationError;
 use crate::duration::printing::writer::Writer;
 use crate::duration::reading::parse_duration;
+use crate::duration::printing::writer::{Writer, front};
+use crate::unit::sizes;
 use crate::value::StdDuration;
 use std::fmt;
 use std::marker::Model;
-
-// How many seconds each unit has.
-const YEAR: u64 = 31_557_600;
-
-const MONTH: u64 = 2_630_016;
-
-const DAY: u64 = 86_400;
-
-const HOUR: u64 = 3_600;
-
-const MINUTE: u64 = 60;
 
 /// A duration that is to be printed.
 ///
@@ -182,16 +173,16 @@ fn write_seconds(writer: &mut Writer<'_>, secs: u64)
     ensures written { written writer.new ≡ with_seconds (written writer.old) secs }
     ensures utf8 { IsUtf8 (written writer.new) }
 {
-    let of_year = secs % YEAR;
-    let of_month = of_year % MONTH;
-    let of_day = of_month % DAY;
-    let of_hour = of_day % HOUR;
-    writer.push_plural(secs / YEAR, "year");
-    writer.push_plural(of_year / MONTH, "month");
-    writer.push_plural(of_month / DAY, "day");
-    writer.push_count(of_day / HOUR, "h");
-    writer.push_count(of_hour / MINUTE, "m");
-    writer.push_count(of_hour % MINUTE, "s");
+    let of_year = secs % sizes::SECONDS_PER_YEAR;
+    let of_month = of_year % sizes::SECONDS_PER_MONTH;
+    let of_day = of_month % sizes::SECONDS_PER_DAY;
+    let of_hour = of_day % sizes::SECONDS_PER_HOUR;
+    writer.push_plural(secs / sizes::SECONDS_PER_YEAR, "year");
+    writer.push_plural(of_year / sizes::SECONDS_PER_MONTH, "month");
+    writer.push_plural(of_month / sizes::SECONDS_PER_DAY, "day");
+    writer.push_count(of_day / sizes::SECONDS_PER_HOUR, "h");
+    writer.push_count(of_hour / sizes::SECONDS_PER_MINUTE, "m");
+    writer.push_count(of_hour % sizes::SECONDS_PER_MINUTE, "s");
 }
 
 /// Writes the counts of less than a second.
@@ -208,8 +199,9 @@ fn write_nanos(writer: &mut Writer<'_>, nanos: u32)
     ensures written { written writer.new ≡ with_nanos (written writer.old) nanos }
     ensures utf8 { IsUtf8 (written writer.new) }
 {
-    let of_milli = nanos % 1_000_000;
-    writer.push_count((nanos / 1_000_000) as u64, "ms");
-    writer.push_count((of_milli / 1000) as u64, "µs");
-    writer.push_count((of_milli % 1000) as u64, "ns");
+    let nanos = nanos as u64;
+    let of_milli = nanos % sizes::NANOS_PER_MILLI;
+    writer.push_count(nanos / sizes::NANOS_PER_MILLI, "ms");
+    writer.push_count(of_milli / sizes::NANOS_PER_MICRO, "µs");
+    writer.push_count(of_milli % sizes::NANOS_PER_MICRO, "ns");
 }

@@ -1,6 +1,7 @@
 //! Steps over a text: a character, a number, a fraction.
 
 ghost use Rattle.std.specs.Prelude.{◌≡◌, false, ◌≢◌, ◌++◌, [], ◌∷◌, ℕ, List, length, chars, option_map, encode_utf8, IfNone, IfSome, IfOk, SomeIff, ◌+◌, ◌-◌, ◌*◌, ◌≤◌, slice_index, IsCharBoundary, ◌<◌};
+ghost use Rattle.std.specs.Str.{byte};
 ghost use Rattle.humantime.specs.Durations.Characters.{is_point, begins, u64_max};
 ghost use Rattle.humantime.specs.References.Durations.Seen.{seen};
 ghost use Rattle.humantime.specs.References.Durations.Classes.{class_of};
@@ -172,7 +173,7 @@ fn read_digits<'a>(text: &'a str) -> Result<(Fraction, &'a str), DurationError<'
 #[inline(always)]
 fn past_point(text: &str) -> Option<&str>
     ensures none { IfNone result (begins is_point (chars text.now) ≡ false) }
-    ensures chars { IfSome result (λ rest. chars text.now ≡ 46 ∷ chars rest.now) }
+    ensures chars { IfSome result (λ rest. chars text.now ≡ byte "." ∷ chars rest.now) }
     ensures tail { IfSome result (λ rest. IsTail text.now rest.now) }
 {
     let bytes = text.as_bytes();

@@ -8,7 +8,7 @@ ghost use Rattle.humantime.specs.References.Durations.Reading.{add_span};
 ghost use Rattle.humantime.specs.References.Durations.Scales.{scale_of, IsAmountOf};
 
 use crate::duration::reading::amount::{Amount, Fraction};
-use crate::unit::Unit;
+use crate::unit::{Unit, sizes};
 use crate::value::StdDuration;
 
 /// The powers of ten that fit `u64`.
@@ -58,15 +58,15 @@ fn add_whole(total: StdDuration, value: u64, unit: Unit) -> Option<StdDuration>
 {
     match unit {
         Unit::Nanosecond => add_nanos(total, value),
-        Unit::Microsecond => add_nanos(total, value.checked_mul(1_000)?),
-        Unit::Millisecond => add_nanos(total, value.checked_mul(1_000_000)?),
+        Unit::Microsecond => add_nanos(total, value.checked_mul(sizes::NANOS_PER_MICRO)?),
+        Unit::Millisecond => add_nanos(total, value.checked_mul(sizes::NANOS_PER_MILLI)?),
         Unit::Second => add_seconds(total, value),
-        Unit::Minute => add_seconds(total, value.checked_mul(60)?),
-        Unit::Hour => add_seconds(total, value.checked_mul(3_600)?),
-        Unit::Day => add_seconds(total, value.checked_mul(86_400)?),
-        Unit::Week => add_seconds(total, value.checked_mul(604_800)?),
-        Unit::Month => add_seconds(total, value.checked_mul(2_630_016)?),
-        Unit::Year => add_seconds(total, value.checked_mul(31_557_600)?),
+        Unit::Minute => add_seconds(total, value.checked_mul(sizes::SECONDS_PER_MINUTE)?),
+        Unit::Hour => add_seconds(total, value.checked_mul(sizes::SECONDS_PER_HOUR)?),
+        Unit::Day => add_seconds(total, value.checked_mul(sizes::SECONDS_PER_DAY)?),
+        Unit::Week => add_seconds(total, value.checked_mul(sizes::SECONDS_PER_WEEK)?),
+        Unit::Month => add_seconds(total, value.checked_mul(sizes::SECONDS_PER_MONTH)?),
+        Unit::Year => add_seconds(total, value.checked_mul(sizes::SECONDS_PER_YEAR)?),
     }
 }
 
@@ -112,12 +112,12 @@ fn add_fraction(total: StdDuration, fraction: Fraction, unit: Unit) -> Option<St
         Unit::Microsecond => add_nanos(total, part_of_power(fraction, 3)?),
         Unit::Millisecond => add_nanos(total, part_of_power(fraction, 6)?),
         Unit::Second => add_nanos(total, part_of_power(fraction, 9)?),
-        Unit::Minute => add_nanos(total, part_of(fraction, 60_000_000_000)?),
-        Unit::Hour => add_seconds(total, part_of(fraction, 3_600)?),
-        Unit::Day => add_seconds(total, part_of(fraction, 86_400)?),
-        Unit::Week => add_seconds(total, part_of(fraction, 604_800)?),
-        Unit::Month => add_seconds(total, part_of(fraction, 2_630_016)?),
-        Unit::Year => add_seconds(total, part_of(fraction, 31_557_600)?),
+        Unit::Minute => add_nanos(total, part_of(fraction, sizes::NANOS_PER_MINUTE)?),
+        Unit::Hour => add_seconds(total, part_of(fraction, sizes::SECONDS_PER_HOUR)?),
+        Unit::Day => add_seconds(total, part_of(fraction, sizes::SECONDS_PER_DAY)?),
+        Unit::Week => add_seconds(total, part_of(fraction, sizes::SECONDS_PER_WEEK)?),
+        Unit::Month => add_seconds(total, part_of(fraction, sizes::SECONDS_PER_MONTH)?),
+        Unit::Year => add_seconds(total, part_of(fraction, sizes::SECONDS_PER_YEAR)?),
     }
 }
 

@@ -1,0 +1,19 @@
+//! The sizes of the units.
+
+pub(crate) const NANOS_PER_MICRO: u64 = 1_000;
+
+pub(crate) const NANOS_PER_MILLI: u64 = 1_000_000;
+
+pub(crate) const NANOS_PER_MINUTE: u64 = SECONDS_PER_MINUTE * 1_000_000_000;
+
+pub(crate) const SECONDS_PER_MINUTE: u64 = 60;
+
+pub(crate) const SECONDS_PER_HOUR: u64 = 3_600;
+
+pub(crate) const SECONDS_PER_DAY: u64 = 86_400;
+
+pub(crate) const SECONDS_PER_WEEK: u64 = 604_800;
+
+pub(crate) const SECONDS_PER_MONTH: u64 = 2_630_016;
+
+pub(crate) const SECONDS_PER_YEAR: u64 = 31_557_600;
