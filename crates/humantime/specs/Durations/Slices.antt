@@ -53,18 +53,14 @@ items_of [] None = []
 items_of [] (Some e) = Err e ∷ []
 items_of (x ∷ xs) stop = Ok x ∷ items_of xs stop
 
--- These are the items of the text, and what they lend of it: slice by slice, from its first number to the rest behind its
--- spans.
+-- These are the items of the text, and what they lend of it: slice by slice, from behind the white space at its start to
+-- the rest behind its spans.
 pub record AreItems (text : List ℕ) (lent : List (Result Lent Fault)) : Type 0 where
   pub spans : List Span
   pub stop : Option Fault
-  pub xs : List Lent
+  pub slices : List Lent
   pub front : List ℕ
   pub rest : List ℕ
-  pub space : List ℕ
-  pub body : List ℕ
   pub items : ItemsAt text front rest spans stop
-  pub are : lent ≡ items_of xs stop
-  pub whole : text ≡ space ++ body
-  pub only_space : Only is_ws space
-  pub each : LendsEach text body spans xs rest
+  pub are : lent ≡ items_of slices stop
+  pub each : LendsEach text (items.split.read.body ++ rest) spans slices rest
