@@ -1,7 +1,7 @@
 -- What a span lends of its text, which is its list of characters.
 use Rattle.std.specs.Prelude.{◌≡◌, ℕ, true, List, [], ◌∷◌, ◌++◌, Option, Some, None, Result, Ok, Err}
 use Rattle.humantime.specs.Durations.Characters.{is_ws, is_digit, begins, ends, decimal_value, offset_of}
-use Rattle.humantime.specs.Durations.Spans.{Span, Only, SpellsThen}
+use Rattle.humantime.specs.Durations.Spans.{Span, Only, Spells}
 use Rattle.humantime.specs.Durations.Faults.{Fault}
 use Rattle.humantime.specs.Durations.Items.{ItemsAt}
 
@@ -33,12 +33,12 @@ LendsFraction text (Some slice) = (behind : List ℕ) × (text ≡ 46 ∷ behind
 -- The rest of the text spells the span and goes on with `next`, and x is what the span lends. So what lies in no slice is
 -- white space, or the point.
 pub record IsLent (text rest : List ℕ) (s : Span) (x : Lent) (next : List ℕ) : Type 0 where
-  pub spelled : SpellsThen rest s next
-  pub number : IsDigitSlice spelled.spells.number_text x.number
-  pub fraction : LendsFraction spelled.spells.fraction_text x.fraction
+  pub spelled : Spells rest s next
+  pub number : IsDigitSlice spelled.number_text x.number
+  pub fraction : LendsFraction spelled.fraction_text x.fraction
   pub unit : x.unit ≡ s.word
   pub start : x.start ≡ offset_of text rest
-  pub end : x.end ≡ offset_of text (spelled.spells.space ++ next)
+  pub end : x.end ≡ offset_of text (spelled.space ++ next)
   pub value : x.value ≡ decimal_value s.number
 
 -- each span lends its part, from the rest on, up to an end
