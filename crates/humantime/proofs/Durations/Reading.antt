@@ -9,6 +9,7 @@ pub mod Runs
 pub mod Settled
 pub mod SignificantDigits
 pub mod Spelled
+pub mod Spellings
 pub mod Stopping
 pub mod Told
 pub mod Unread

@@ -31,8 +31,8 @@ FitsFraction (Some factor) (Some ds) = IsWholePart factor (significant ds)
 abbrev pub Fits : Span → Type 0
 Fits s = IfSome (scale_of_word s.word) (λ u. (decimal_value s.number * u.factor ≤ u64_max) × FitsFraction u.fraction_factor s.fraction)
 
--- After t nanoseconds there is room for x: the whole seconds of the sum fit a u64, and so does the sum of x and the
--- nanoseconds beyond the whole seconds of t, where x is in nanoseconds.
+-- After t nanoseconds there is room for x: where x is in nanoseconds, they and those beyond the whole seconds of t fit a u64
+-- together; and the whole seconds of the sum fit one.
 abbrev pub HasRoom : ℕ → Addition → Type 0
 HasRoom t x = (x.base ≡ 1 → t % nanos_per_second + x.amount ≤ u64_max) × ((t + addition_nanos x) / nanos_per_second ≤ u64_max)
 

@@ -1,9 +1,9 @@
 -- What a span lends of its text, which is its list of characters.
 use Rattle.std.specs.Prelude.{◌≡◌, ℕ, true, List, [], ◌∷◌, ◌++◌, Option, Some, None, Result, Ok, Err}
-use Rattle.std.specs.Str.{byte}
-use Rattle.humantime.specs.Durations.Characters.{is_ws, is_digit, is_letter, is_numeric, begins, ends, digits, decimal_value, offset_of}
-use Rattle.humantime.specs.Durations.Spans.{Span, Only, SpellsThen}
+use Rattle.humantime.specs.Durations.Characters.{is_ws, is_digit, begins, ends, decimal_value, offset_of, is_letter, is_numeric, digits}
+use Rattle.humantime.specs.Durations.Spans.{Span, Only, Spells, SpellsThen}
 use Rattle.humantime.specs.Durations.Faults.{Fault, ItemsAt}
+use Rattle.std.specs.Str.{byte}
 use Rattle.humantime.specs.Durations.Items.{ItemsAt}
 
 -- The slices of the number, of the fraction and of the word, the offsets where the number begins and where the word
@@ -34,12 +34,12 @@ LendsFraction text (Some slice) = (behind : List ℕ) × (text ≡ byte "." ∷ 
 -- The rest of the text spells the span and goes on with `next`, and x is what the span lends. So what lies in no slice is
 -- white space, or the point.
 pub record IsLent (text rest : List ℕ) (s : Span) (x : Lent) (next : List ℕ) : Type 0 where
-  pub spelled : SpellsThen rest s next
-  pub number : IsDigitSlice spelled.spells.number_text x.number
-  pub fraction : LendsFraction spelled.spells.fraction_text x.fraction
+  pub spelled : Spells rest s next
+  pub number : IsDigitSlice spelled.number_text x.number
+  pub fraction : LendsFraction spelled.fraction_text x.fraction
   pub unit : x.unit ≡ s.word
   pub start : x.start ≡ offset_of text rest
-  pub end : x.end ≡ offset_of text (spelled.spells.space ++ next)
+  pub end : x.end ≡ offset_of text (spelled.space ++ next)
   pub value : x.value ≡ decimal_value s.number
 
 -- each span lends its part, from the rest on, up to an end
@@ -54,18 +54,14 @@ items_of [] None = []
 items_of [] (Some e) = Err e ∷ []
 items_of (x ∷ xs) stop = Ok x ∷ items_of xs stop
 
--- These are the items of the text, and what they lend of it: slice by slice, from its first number to the rest behind its
--- spans.
+-- These are the items of the text, and what they lend of it: slice by slice, from behind the white space at its start to
+-- the rest behind its spans.
 pub record AreItems (text : List ℕ) (lent : List (Result Lent Fault)) : Type 0 where
   pub spans : List Span
   pub stop : Option Fault
-  pub xs : List Lent
+  pub slices : List Lent
   pub front : List ℕ
   pub rest : List ℕ
-  pub space : List ℕ
-  pub body : List ℕ
   pub items : ItemsAt text front rest spans stop
-  pub are : lent ≡ items_of xs stop
-  pub whole : text ≡ space ++ body
-  pub only_space : Only is_ws space
-  pub each : LendsEach text body spans xs rest
+  pub are : lent ≡ items_of slices stop
+  pub each : LendsEach text (items.split.read.body ++ rest) spans slices rest

@@ -29,28 +29,23 @@ abbrev pub SpellsFraction : List ℕ → Option (List ℕ) → Type 0
 SpellsFraction text None = text ≡ []
 SpellsFraction text (Some ds) = (behind : List ℕ) × (text ≡ byte "." ∷ behind) × HoldsDigits behind ds × (ds ≢ [])
 
--- The text spells the span: its number, which begins with a digit, its fraction, its word, and white space.
-pub record Spells (text : List ℕ) (span : Span) : Type 0 where
+-- The text spells the span, and then the rest follows. A span is spelled by its number, which begins with a digit, its
+-- fraction, its word, and white space.
+pub record Spells (text : List ℕ) (span : Span) (rest : List ℕ) : Type 0 where
   pub number_text : List ℕ
   pub fraction_text : List ℕ
   pub space : List ℕ
-  pub whole : text ≡ number_text ++ (fraction_text ++ (span.word ++ space))
+  pub whole : text ≡ number_text ++ (fraction_text ++ (span.word ++ (space ++ rest)))
   pub starts : begins is_digit number_text ≡ true
   pub number : HoldsDigits number_text span.number
   pub fraction : SpellsFraction fraction_text span.fraction
   pub word : IsLetters span.word
   pub only_space : Only is_ws space
 
--- The text spells the span, and then the rest follows.
-pub record SpellsThen (text : List ℕ) (span : Span) (rest : List ℕ) : Type 0 where
-  pub here : List ℕ
-  pub whole : text ≡ here ++ rest
-  pub spells : Spells here span
-
 -- the text spells each span, in order
 abbrev pub SpellsEach : List ℕ → List Span → Type 0
 SpellsEach text [] = text ≡ []
-SpellsEach text (span ∷ spans) = (rest : List ℕ) × SpellsThen text span rest × SpellsEach rest spans
+SpellsEach text (span ∷ spans) = (rest : List ℕ) × Spells text span rest × SpellsEach rest spans
 
 -- The text is white space, or none, and then spells each span.
 pub record Front (text : List ℕ) (spans : List Span) : Type 0 where

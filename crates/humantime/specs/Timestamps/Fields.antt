@@ -1,4 +1,4 @@
--- The parts of a timestamp, the text that shows them, and the moment that they name.
+-- The parts of a timestamp, the text that shows them, and the moment that they name. A text is its bytes.
 use Rattle.std.specs.Prelude.{◌≡◌, ◌≢◌, ℕ, ◌+◌, ◌*◌, ◌≤◌, min, List, [], ◌∷◌, ◌++◌, take, codes, Option, Some, None, ℤ, pos}
 use Rattle.std.specs.Str.{byte}
 use Rattle.std.specs.Str.Parse.{digits_value}
@@ -65,8 +65,8 @@ unfoldable pub fraction_nanos : List ℕ → ℕ
 fraction_nanos ds = digits_value 10 (take 9 (ds ++ codes "000000000"))
 
 -- the text shows these parts: a date of 1970 to 9999 that exists, and a time of day, perhaps with a second 60
-pub record IsWeak (text : List ℕ) (f : Fields) : Type 0 where
-  pub shown : text ≡ fields_text f
+pub record IsWeak (bytes : List ℕ) (f : Fields) : Type 0 where
+  pub shown : bytes ≡ fields_text f
   pub date : IsDate f.date
   pub hour : f.hour ≤ 23
   pub minute : f.minute ≤ 59
@@ -74,8 +74,8 @@ pub record IsWeak (text : List ℕ) (f : Fields) : Type 0 where
   pub fraction : AreDigits (fraction_digits f.fraction)
 
 -- and it has the letter `T` and a zone
-pub record IsStrict (text : List ℕ) (f : Fields) : Type 0 where
-  pub weak : IsWeak text f
+pub record IsStrict (bytes : List ℕ) (f : Fields) : Type 0 where
+  pub weak : IsWeak bytes f
   pub separator : f.separator ≡ Letter_T
   pub zone : f.zone ≢ Nothing
 
@@ -88,13 +88,13 @@ abbrev pub moment_of : Fields → ℕ
 moment_of f = seconds_of f * nanos_per_second + fraction_nanos (fraction_digits f.fraction)
 
 -- the text shows some parts of this moment
-pub record IsWeakMoment (text : List ℕ) (t : ℤ) : Type 0 where
+pub record IsWeakMoment (bytes : List ℕ) (t : ℤ) : Type 0 where
   pub fields : Fields
-  pub weak : IsWeak text fields
+  pub weak : IsWeak bytes fields
   pub moment : t ≡ pos (moment_of fields)
 
 -- and it has the letter `T` and a zone
-pub record IsStrictMoment (text : List ℕ) (t : ℤ) : Type 0 where
+pub record IsStrictMoment (bytes : List ℕ) (t : ℤ) : Type 0 where
   pub fields : Fields
-  pub strict : IsStrict text fields
+  pub strict : IsStrict bytes fields
   pub moment : t ≡ pos (moment_of fields)

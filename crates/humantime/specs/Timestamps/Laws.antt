@@ -1,4 +1,4 @@
--- The laws of timestamps.
+-- The laws of timestamps. A text is its bytes, called b.
 use Rattle.std.specs.Prelude.{◌≡◌, ◌≤◌, ◌↔◌, ℕ, ℤ, Bool, List, slice_index, None, IsTrue}
 use Rattle.std.specs.Cmp.Lexicographic.{slice_cmp}
 use Rattle.std.specs.Ordering.{nat_cmp, int_cmp}

@@ -1,4 +1,4 @@
--- The text of a moment, its second cut to a number of digits.
+-- The text of a moment, its second cut to a number of digits. A text is its bytes.
 use Rattle.std.specs.Prelude.{◌≡◌, ℕ, zero, suc, ◌-◌, ◌*◌, ◌^◌, ◌≤◌, List, length, Option, Some, None, ℤ, pos, ◌≤ℤ◌, ◌<ℤ◌, ◌-ℤ◌}
 use Rattle.std.specs.Int.{int_rem_euclid}
 use Rattle.humantime.specs.Values.Amounts.{nanos_per_second}
@@ -14,9 +14,9 @@ HasPlaces fraction zero = fraction ≡ None
 HasPlaces fraction (suc k) = (ds : List ℕ) × (fraction ≡ Some ds) × (length ds ≡ suc k)
 
 -- the text is the moment t, printed with k digits: it shows parts with `T` and `Z` and no second 60, of this moment, cut
-pub record IsPrinted (t : ℤ) (k : ℕ) (text : List ℕ) : Type 0 where
+pub record IsPrinted (t : ℤ) (k : ℕ) (bytes : List ℕ) : Type 0 where
   pub fields : Fields
-  pub weak : IsWeak text fields
+  pub weak : IsWeak bytes fields
   pub separator : fields.separator ≡ Letter_T
   pub zone : fields.zone ≡ Letter_Z
   pub second : fields.second ≤ 59
@@ -32,9 +32,9 @@ abbrev pub IsPrintable : ℤ → Type 0
 IsPrintable t = (pos 0 ≤ℤ t) × (t <ℤ pos year_10000)
 
 -- in both forms the text reads as this moment
-pub record ReadsAs (text : List ℕ) (t : ℤ) : Type 0 where
-  pub strict : IsStrictMoment text t
-  pub weak : IsWeakMoment text t
+pub record ReadsAs (bytes : List ℕ) (t : ℤ) : Type 0 where
+  pub strict : IsStrictMoment bytes t
+  pub weak : IsWeakMoment bytes t
 
 -- one text is this moment, printed, and it reads back as the moment, cut
 pub record OnePrinted (t : ℤ) (k : ℕ) : Type 0 where

@@ -2,13 +2,14 @@
 use Rattle.std.proofs.Common.{◌≡◌, ◌≢◌, ◌↔◌, ℕ, ◌+◌, Bool, List, [], ◌∷◌, ◌++◌, None, refl, sym, ap, ap₂, ◌∙◌, inl, inr, subst, append_assoc, append-nil}
 use Rattle.std.specs.List.{AllByRecursion}
 use Rattle.humantime.specs.Durations.Characters.{is_ws}
-use Rattle.humantime.specs.Durations.Spans.{Span, Only, Spells, SpellsThen, SpellsEach, Front, Reads}
+use Rattle.humantime.specs.Durations.Spans.{Span, Only, Spells, SpellsEach, Front, Reads}
 use Rattle.humantime.specs.Durations.Sums.{additions, value}
 use Rattle.humantime.specs.Durations.Limits.{Formed, Fits, AllHaveRoom, WithinLimits}
 use Rattle.humantime.specs.Durations.Accepted.{Accepted}
 use Rattle.humantime.specs.Durations.Faults.{NumberOverflow, HasFault}
 use Rattle.humantime.specs.Laws.Texts.{JoinedHaveSum, JoinedOverflow, JoinedHaveSumOrOverflow}
 use Rattle.humantime.proofs.Durations.Reading.OneReading.{not_zero}
+use Rattle.humantime.proofs.Durations.Reading.Spellings.{spells-append}
 use Rattle.humantime.proofs.Durations.Reading.Settled.{additions-append, value-append}
 use Rattle.humantime.proofs.Durations.Reading.Outcomes.{items_whole, within_or_beyond, items_decide_overflow}
 use Rattle.humantime.proofs.Durations.Laws.Readings.{accepted_from_spans, spans_of_accepted, accepted_spans, no_value_and_fault}
@@ -22,12 +23,12 @@ each-append P [] ts h k = k
 each-append P (s ∷ ss) ts h k = (h.0, each-append P ss ts h.1 k)
 
 -- white space behind a spelling belongs to it
-spells-space : (here space : List ℕ) (s : Span) → Spells here s → Only is_ws space → Spells (here ++ space) s
+spells-space : (here space : List ℕ) (s : Span) → Spells here s [] → Only is_ws space → Spells (here ++ space) s []
 spells-space here space s h only = record {
   number_text = h.number_text;
   fraction_text = h.fraction_text;
   space = h.space ++ space;
-  whole = ap (λ (l : List ℕ). l ++ space) h.whole ∙ simp append_assoc;
+  whole = ap (λ (l : List ℕ). l ++ space) h.whole ∙ simp (append_assoc, append-nil);
   starts = h.starts;
   number = h.number;
   fraction = h.fraction;
@@ -35,33 +36,13 @@ spells-space here space s h only = record {
   only_space = Only-append is_ws h.space space h.only_space only;
 }
 
--- more behind the rest
-spells_then-append : (text : List ℕ) (s : Span) (rest more : List ℕ) → SpellsThen text s rest → SpellsThen (text ++ more) s (rest ++ more)
-spells_then-append text s rest more h = record {
-  here = h.here;
-  whole = ap (λ (l : List ℕ). l ++ more) h.whole ∙ append_assoc h.here rest more;
-  spells = h.spells;
-}
-
 spells_each-space : (body space : List ℕ) (s : Span) (ss : List Span) → SpellsEach body (s ∷ ss) → Only is_ws space → SpellsEach (body ++ space) (s ∷ ss)
-spells_each-space body space s [] h only =
-    let here = h.1.here in
-    let alone : body ≡ here = h.1.whole ∙ ap (λ (l : List ℕ). here ++ l) h.2 ∙ append-nil here in (
-      [],
-      record {
-        here = here ++ space;
-        whole = ap (λ (l : List ℕ). l ++ space) alone ∙ sym (append-nil (here ++ space));
-        spells = spells-space here space s h.1.spells only;
-      },
-      refl,
-    )
-spells_each-space body space s (t ∷ ts) h only =
-    (h.0 ++ space, spells_then-append body s h.0 space h.1, spells_each-space h.0 space t ts h.2 only)
+spells_each-space body space s [] h only = ([], spells-space body space s (subst (Spells body s) h.2 h.1) only, refl)
+spells_each-space body space s (t ∷ ts) h only = (h.0 ++ space, spells-append body h.0 space s h.1, spells_each-space h.0 space t ts h.2 only)
 
 spells_each-append : (a b : List ℕ) (ss ts : List Span) → SpellsEach a ss → SpellsEach b ts → SpellsEach (a ++ b) (ss ++ ts)
 spells_each-append a b [] ts h k = subst (λ (l : List ℕ). SpellsEach (l ++ b) ts) (sym h) k
-spells_each-append a b (s ∷ ss) ts h k =
-    (h.0 ++ b, spells_then-append a s h.0 b h.1, spells_each-append h.0 b ss ts h.2 k)
+spells_each-append a b (s ∷ ss) ts h k = (h.0 ++ b, spells-append a h.0 b s h.1, spells_each-append h.0 b ss ts h.2 k)
 
 -- spans behind spans
 pub front-append : (a b : List ℕ) (ss ts : List Span) → Reads a ss → Front b ts → Front (a ++ b) (ss ++ ts)

@@ -132,16 +132,16 @@ no_mu_in_fraction : (text : List ℕ) (fraction : Option (List ℕ)) → SpellsF
 no_mu_in_fraction text None e = rw e tt
 no_mu_in_fraction text (Some ds) h = rw (h.1) (refl, no_mu_in_number h.0 h.2.0)
 
-no_mu_in_span : (text : List ℕ) (s : Span) → Spells text s → OfOlderLetters s → Only is_not_mu text
-no_mu_in_span text s h letters =
+no_mu_in_span : (text rest : List ℕ) (s : Span) → Spells text s rest → OfOlderLetters s → Only is_not_mu rest → Only is_not_mu text
+no_mu_in_span text rest s h letters none =
     rw (h.whole) (Only-append is_not_mu h.number_text _ (no_mu_in_number h.number_text h.number.0)
     (Only-append is_not_mu h.fraction_text _ (no_mu_in_fraction h.fraction_text s.fraction h.fraction)
-    (Only-append is_not_mu s.word _ (none_is_mu is_older_letter refl s.word letters) (no_mu_in_space h.space h.only_space))))
+    (Only-append is_not_mu s.word _ (none_is_mu is_older_letter refl s.word letters)
+    (Only-append is_not_mu h.space rest (no_mu_in_space h.space h.only_space) none))))
 
 no_mu_in_spans : (text : List ℕ) (spans : List Span) → SpellsEach text spans → AllByRecursion OfOlderLetters spans → Only is_not_mu text
 no_mu_in_spans text [] e letters = rw e tt
-no_mu_in_spans text (s ∷ ss) h letters =
-    rw (h.1.whole) (Only-append is_not_mu h.1.here h.0 (no_mu_in_span h.1.here s h.1.spells letters.0) (no_mu_in_spans h.0 ss h.2 letters.1))
+no_mu_in_spans text (s ∷ ss) h letters = no_mu_in_span text h.0 s h.1 letters.0 (no_mu_in_spans h.0 ss h.2 letters.1)
 
 no_mu_accepted : (text : List ℕ) (v : ℕ) → AcceptedWithoutMu text v → Only is_not_mu text
 no_mu_accepted text v (Oldest_zero e z) = rw e (refl, tt)

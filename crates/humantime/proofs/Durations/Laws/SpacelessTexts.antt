@@ -65,22 +65,23 @@ spells_fraction text (Some ds) h = (
   h.3,
 )
 
-spelling_parts : (a b word c : List ℕ) → Only is_letter word → Only is_ws c
-    → without_white_space (a ++ (b ++ (word ++ c))) ≡ without_white_space a ++ (without_white_space b ++ (word ++ []))
-spelling_parts a b word c letters space =
-    let p = spaceless-append a (b ++ (word ++ c)) in
-    let q = spaceless-append b (word ++ c) in
-    let r = spaceless-append word c in
+spelling_parts : (a b word c rest : List ℕ) → Only is_letter word → Only is_ws c
+    → without_white_space (a ++ (b ++ (word ++ (c ++ rest)))) ≡ without_white_space a ++ (without_white_space b ++ (word ++ without_white_space rest))
+spelling_parts a b word c rest letters space =
+    let p = spaceless-append a (b ++ (word ++ (c ++ rest))) in
+    let q = spaceless-append b (word ++ (c ++ rest)) in
+    let r = spaceless-append word (c ++ rest) in
+    let u = spaceless-append c rest in
     let w = only_letters word letters in
-    let s = only_space c space in
+    let s : without_white_space c ++ without_white_space rest ≡ without_white_space rest = ap (λ (l : List ℕ). l ++ without_white_space rest) (only_space c space) in
     cc
 
-spells_span : (here : List ℕ) (span : Span) → Spells here span → Spells (without_white_space here) span
-spells_span here span h = record {
+spells_span : (text rest : List ℕ) (span : Span) → Spells text span rest → Spells (without_white_space text) span (without_white_space rest)
+spells_span text rest span h = record {
   number_text = without_white_space h.number_text;
   fraction_text = without_white_space h.fraction_text;
   space = [];
-  whole = ap without_white_space h.whole ∙ spelling_parts h.number_text h.fraction_text span.word h.space h.word.0 h.only_space;
+  whole = ap without_white_space h.whole ∙ spelling_parts h.number_text h.fraction_text span.word h.space rest h.word.0 h.only_space;
   starts = still_begins h.number_text h.starts;
   number = (still_only is_numeric h.number_text h.number.0, same_digits h.number_text ∙ h.number.1);
   fraction = spells_fraction h.fraction_text span.fraction h.fraction;
@@ -90,15 +91,7 @@ spells_span here span h = record {
 
 spells_each : (body : List ℕ) (spans : List Span) → SpellsEach body spans → SpellsEach (without_white_space body) spans
 spells_each body [] h = ap without_white_space h
-spells_each body (s ∷ ss) h = (
-  without_white_space h.0,
-  record {
-    here = without_white_space h.1.here;
-    whole = ap without_white_space h.1.whole ∙ spaceless-append h.1.here h.0;
-    spells = spells_span h.1.here s h.1.spells;
-  },
-  spells_each h.0 ss h.2,
-)
+spells_each body (s ∷ ss) h = (without_white_space h.0, spells_span body h.0 s h.1, spells_each h.0 ss h.2)
 
 front_read : (text : List ℕ) (spans : List Span) → Front text spans → Front (without_white_space text) spans
 front_read text spans h = record {

@@ -19,6 +19,7 @@ use Rattle.humantime.specs.Durations.Accepted.{Accepted, Sum_of}
 use Rattle.humantime.specs.Durations.Counts.{weights, weighted_sum, Suffix, suffixes, without_plural, printed_count, printed_counts, joined_by_space, Canon}
 use Rattle.humantime.specs.References.Durations.Printing.{divided, duration_text}
 use Rattle.humantime.proofs.Durations.Reading.Runs.{begins_not_nil}
+use Rattle.humantime.proofs.Durations.Reading.Spellings.{spells-append}
 use Rattle.humantime.proofs.Durations.Reading.Rooms.{RoomFrom, RoomFrom-append, total-append, all_have_room}
 use Rattle.humantime.proofs.Durations.Printing.PrintedDigits.{decimal_number}
 use Rattle.humantime.proofs.Durations.Printing.PrintedRows.{word_for, span_for, IsWord, Table, table, most, seconds}
@@ -174,14 +175,14 @@ count_chars n s h =
     ∙ chars-append (decimal n) (word_for n s) (decimal_utf8 n h)
     ∙ ap (λ l. l ++ chars (word_for n s)) (chars-IsAscii (decimal n) (IsAscii-decimal n h))
 
-count_spells : (n w m : ℕ) (s : Suffix) (space : List ℕ) → n < 2 ^ 64 → IsWord w m (word_for n s) → Only is_ws space → Spells (chars (printed_count n s) ++ space) (span_for n s)
+count_spells : (n w m : ℕ) (s : Suffix) (space : List ℕ) → n < 2 ^ 64 → IsWord w m (word_for n s) → Only is_ws space → Spells (chars (printed_count n s) ++ space) (span_for n s) []
 count_spells n w m s space h i only =
     let number = decimal_number n h in
     record {
       number_text = decimal n;
       fraction_text = [];
       space = space;
-      whole = ap (λ l. l ++ space) (count_chars n s h) ∙ append_assoc (decimal n) (chars (word_for n s)) space;
+      whole = ap (λ l. l ++ space) (count_chars n s h) ∙ append_assoc (decimal n) (chars (word_for n s)) space ∙ sym (simp append-nil);
       starts = number.starts;
       number = (number.numeric, number.its_digits);
       fraction = refl;
@@ -197,21 +198,15 @@ chars_space : (bs : List ℕ) → chars (32 ∷ bs) ≡ 32 ∷ chars bs
 chars_space bs = chars-append (32 ∷ []) bs (IsUtf8-from_ascii (32 ∷ []) (search rules)) ∙ ap (λ l. l ++ chars bs) (chars-IsAscii (32 ∷ []) (search rules))
 
 -- a count, and a space and others behind it
-join_spells : (p : List ℕ) (ps : List (List ℕ)) (s : Span) (spans : List Span) → IsUtf8 p → ((space : List ℕ) → Only is_ws space → Spells (chars p ++ space) s)
+join_spells : (p : List ℕ) (ps : List (List ℕ)) (s : Span) (spans : List Span) → IsUtf8 p → ((space : List ℕ) → Only is_ws space → Spells (chars p ++ space) s [])
     → SpellsEach (chars (join_with_byte 32 ps)) spans → SpellsEach (chars (join_with_byte 32 (p ∷ ps))) (s ∷ spans)
 join_spells p [] s spans utf8 spells each =
     let whole = sym (append-nil (chars p)) ∙ sym (ap (λ l. (chars p ++ []) ++ l) chars-nil ∙ append-nil (chars p ++ [])) in
-    (chars [], record { here = chars p ++ []; whole = whole; spells = spells [] tt }, each)
+    (chars [], subst (λ l. Spells l s (chars [])) (sym whole) (spells-append (chars p ++ []) [] (chars []) s (spells [] tt)), each)
 join_spells p (q ∷ qs) s spans utf8 spells each =
-    let others = join_with_byte 32 (q ∷ qs) in (
-      chars others,
-      record {
-        here = chars p ++ 32 ∷ [];
-        whole = chars-append p (32 ∷ others) utf8 ∙ ap (λ l. chars p ++ l) (chars_space others) ∙ sym (append_assoc (chars p) (32 ∷ []) (chars others));
-        spells = spells (32 ∷ []) space_is;
-      },
-      each,
-    )
+    let others = join_with_byte 32 (q ∷ qs) in
+    let whole = chars-append p (32 ∷ others) utf8 ∙ ap (λ l. chars p ++ l) (chars_space others) ∙ sym (append_assoc (chars p) (32 ∷ []) (chars others)) in
+    (chars others, subst (λ l. Spells l s (chars others)) (sym whole) (spells-append (chars p ++ 32 ∷ []) [] (chars others) s (spells (32 ∷ []) space_is)), each)
 
 pub counts_spell : (ws ns : List ℕ) (ss : List Suffix) (m : ℕ) → Table ws ss m → length ns ≡ length ws → AllByRecursion IsCount ns
     → SpellsEach (chars (join_with_byte 32 (printed_counts ns ss))) (spans_for ns ss)
@@ -255,8 +250,7 @@ zero_reads =
     let row = row_good 0 0 (seconds_per_minute * nanos_per_second) nanos_per_second 0 s seconds (omega arith) (omega arith) (omega arith) in
     let spells = count_spells 0 nanos_per_second (seconds_per_minute * nanos_per_second) s [] (omega arith) seconds tt in
     let here = chars (printed_count 0 s) in
-    let each : SpellsEach here (span_for 0 s ∷ []) =
-    ([], record { here = here ++ []; whole = sym (append-nil here) ∙ sym (append-nil (here ++ [])); spells = spells }, refl) in
+    let each : SpellsEach here (span_for 0 s ∷ []) = ([], subst (λ l. Spells l (span_for 0 s) []) (append-nil here) spells, refl) in
     let adds = additions_of (span_for 0 s) in
     subst (λ l. Accepted (chars l) 0) (sym zero_text)
     (accepted_spans here (span_for 0 s ∷ []) 0 each (λ e. cc) (row.formed, tt) (row.fits, tt) (RoomFrom-append 0 adds [] row.room tt) (omega (arith, total-append adds [], row.worth)))

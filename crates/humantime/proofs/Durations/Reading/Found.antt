@@ -12,6 +12,7 @@ use Rattle.humantime.specs.Durations.Items.{Items, ItemsAt}
 use Rattle.humantime.specs.References.Durations.Reading.{stop_at, read, items}
 use Rattle.humantime.proofs.Durations.Reading.Runs.{ends-append, leading-past, Only-leading, begins-past}
 use Rattle.humantime.proofs.Durations.Reading.Spelled.{next_of, next_smaller}
+use Rattle.humantime.proofs.Durations.Reading.Spellings.{spells-append}
 use Rattle.humantime.proofs.Durations.Reading.Settled.{WithinLimitsFrom, IsAddedTo, added_or_not, value-cons, value-append, WithinLimits_from, from_WithinLimits, WithinLimitsFrom-push, WithinLimitsFrom-last}
 use Rattle.humantime.proofs.Durations.Reading.Stopping.{Fine, Says, stop_says}
 use Rattle.humantime.proofs.Durations.Reading.Written.{written_here, formed_here, spelling_some}
@@ -29,15 +30,11 @@ pub all_push : (P : Span → Type 0) (ss : List Span) (s : Span) → AllByRecurs
 all_push P [] s h p = (p, tt)
 all_push P (x ∷ ss) s h p = (h.0, all_push P ss s h.1 p)
 
-each_push : (body here : List ℕ) (ss : List Span) (s : Span) → SpellsEach body ss → Spells here s → SpellsEach (body ++ here) (ss ++ s ∷ [])
-each_push body here [] s h p = ([], record { here = here; whole = rw h (sym (append-nil here)); spells = p }, refl)
-each_push body here (x ∷ ss) s h p = (
-  h.0 ++ here,
-  record { here = h.1.here; whole = rw (h.1.whole) (append_assoc h.1.here h.0 here); spells = h.1.spells },
-  each_push h.0 here ss s h.2 p,
-)
+each_push : (body here : List ℕ) (ss : List Span) (s : Span) → SpellsEach body ss → Spells here s [] → SpellsEach (body ++ here) (ss ++ s ∷ [])
+each_push body here [] s h p = ([], rw h p, refl)
+each_push body here (x ∷ ss) s h p = (h.0 ++ here, spells-append body h.0 here x h.1, each_push h.0 here ss s h.2 p)
 
-front_push : (front here : List ℕ) (ss : List Span) (s : Span) → Front front ss → Spells here s → Front (front ++ here) (ss ++ s ∷ [])
+front_push : (front here : List ℕ) (ss : List Span) (s : Span) → Front front ss → Spells here s [] → Front (front ++ here) (ss ++ s ∷ [])
 front_push front here ss s h p = record {
   space = h.space;
   body = h.body ++ here;
@@ -46,8 +43,8 @@ front_push front here ss s h p = record {
   each = each_push h.body here ss s h.each p;
 }
 
-spelling_not_nil : (here : List ℕ) (s : Span) → Spells here s → here ≢ []
-spelling_not_nil here s h e = omega (arith, ap length e, spelling_some here s h)
+spelling_not_nil : (here : List ℕ) (s : Span) → Spells here s [] → here ≢ []
+spelling_not_nil here s h e = omega (arith, ap length e, spelling_some here [] s h)
 
 push_not_nil : (ss : List Span) (s : Span) → ss ++ s ∷ [] ≢ []
 push_not_nil [] s e = cc

@@ -37,7 +37,7 @@ one_reading text ss ts h k = one_front text ss ts h.0 k.0
 -- a text that is read has a digit and a letter
 each_long : (body : List ℕ) (spans : List Span) → SpellsEach body spans → spans ≢ [] → 1 < length body
 each_long body [] h some = absurd (some refl)
-each_long body (s ∷ ss) h some = omega (arith, ap length h.1.whole, length-append h.1.here h.0, spelling_some h.1.here s h.1.spells)
+each_long body (s ∷ ss) h some = spelling_some body h.0 s h.1
 
 pub reads_long : (text : List ℕ) (spans : List Span) → Reads text spans → 1 < length text
 reads_long text spans h = omega (arith, ap length h.0.whole, length-append h.0.space h.0.body, each_long h.0.body spans h.0.each h.1)

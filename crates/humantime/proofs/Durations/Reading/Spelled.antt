@@ -2,10 +2,11 @@
 use Rattle.std.proofs.Common.{◌≡◌, ◌≢◌, ◌⊎◌, ℕ, ◌≤◌, ◌<◌, true, false, List, [], ◌∷◌, ◌++◌, length, Option, Some, None, option_map, refl, sym, ap, ◌∙◌, inl, inr, arith, subst, append_assoc, append-nil}
 use Rattle.std.proofs.lemmas.Bool.{cases_Bool, false≢true}
 use Rattle.humantime.specs.Durations.Characters.{is_ws, is_digit, is_letter, is_point, is_numeric, leading, past, begins, ends, digits}
-use Rattle.humantime.specs.Durations.Spans.{Span, Only, SpellsFraction, Spells, SpellsThen}
+use Rattle.humantime.specs.Durations.Spans.{Span, Only, SpellsFraction, Spells}
 use Rattle.humantime.specs.Durations.Rests.{after_number, fraction_at, past_fraction, fraction_of, after_fraction, word_of, after_word, span_of}
 use Rattle.humantime.specs.Durations.Faults.{EndsInSpace, MayFollowWord}
 use Rattle.humantime.proofs.Durations.Reading.Classes.{numeric_not_letter, letter_not_numeric, letter_not_point, letter_not_space, digit_is_numeric, space_is_numeric, point_not_numeric, is_point-46}
+use Rattle.humantime.proofs.Durations.Reading.Spellings.{spells_alone}
 use Rattle.humantime.proofs.Durations.Reading.Runs.{leading-append, past-append, past_shorter, begins-append, begins_other, begins_not_nil, letters_begin, ends_Only, ends_other, ends-append, append_not_nil}
 
 -- what follows a span: the text past its word and past the white space behind it
@@ -91,18 +92,16 @@ parts_read a b word after o only f letters some stops =
       after_is = ap (past is_letter) h.tail_is ∙ past-append is_letter word after letters stops;
     }
 
-spelling_parts : (here next : List ℕ) (s : Span) (h : Spells here s) → here ++ next ≡ h.number_text ++ (h.fraction_text ++ (s.word ++ (h.space ++ next)))
-spelling_parts here next s h = ap (λ (x : List ℕ). x ++ next) h.whole ∙ simp append_assoc
+spelling_parts : (here next : List ℕ) (s : Span) (h : Spells here s []) → here ++ next ≡ h.number_text ++ (h.fraction_text ++ (s.word ++ (h.space ++ next)))
+spelling_parts here next s h = ap (λ (x : List ℕ). x ++ next) (spells_alone here s h) ∙ simp append_assoc
 
 -- a rest that spells a span is read as its number and fraction up to its word
-pub read_spelled : (rest next : List ℕ) (s : Span) (h : SpellsThen rest s next)
-    → IsReadToWord rest h.spells.number_text h.spells.fraction_text (s.word ++ (h.spells.space ++ next)) s.fraction
+pub read_spelled : (rest next : List ℕ) (s : Span) (h : Spells rest s next)
+    → IsReadToWord rest h.number_text h.fraction_text (s.word ++ (h.space ++ next)) s.fraction
 read_spelled rest next s h =
-    let k = h.spells in
-    let tail = s.word ++ (k.space ++ next) in
-    let whole : rest ≡ k.number_text ++ (k.fraction_text ++ tail) = h.whole ∙ spelling_parts h.here next s k in
-    subst (λ (x : List ℕ). IsReadToWord x k.number_text k.fraction_text tail s.fraction) (sym whole)
-    (read_to_word k.number_text k.fraction_text tail s.fraction k.number.0 k.fraction (begins_word s.word (k.space ++ next) (letters_begin s.word k.word)))
+    let tail = s.word ++ (h.space ++ next) in
+    subst (λ (x : List ℕ). IsReadToWord x h.number_text h.fraction_text tail s.fraction) (sym h.whole)
+    (read_to_word h.number_text h.fraction_text tail s.fraction h.number.0 h.fraction (begins_word s.word (h.space ++ next) (letters_begin s.word h.word)))
 
 pub no_letter_follows : (cs : List ℕ) → MayFollowWord cs → begins is_letter cs ≡ false
 no_letter_follows cs (inl e) = rw e
@@ -122,12 +121,12 @@ followed a b word [] here next whole only some space (inr e) = absurd (false≢t
 followed a b word (x ∷ xs) here next whole only some space o = inr (space_is_numeric x (space.0))
 
 -- a spelling is the span that begins it, where its word ends with it
-pub spelled_here : (here next : List ℕ) (s : Span) → Spells here s → (MayFollowWord next ⊎ EndsInSpace here) → begins is_ws next ≡ false → IsSpanAt (here ++ next) s next
+pub spelled_here : (here next : List ℕ) (s : Span) → Spells here s [] → (MayFollowWord next ⊎ EndsInSpace here) → begins is_ws next ≡ false → IsSpanAt (here ++ next) s next
 spelled_here here next s h o no_space =
     let a = h.number_text in
     let b = h.fraction_text in
     let letter = letters_begin s.word h.word in
-    let f : MayFollowWord (h.space ++ next) = followed a b s.word h.space here next h.whole h.word.0 letter h.only_space o in
+    let f : MayFollowWord (h.space ++ next) = followed a b s.word h.space here next (spells_alone here s h) h.word.0 letter h.only_space o in
     let r : IsRead (a ++ (b ++ (s.word ++ (h.space ++ next)))) (record { number = digits a; fraction = s.fraction; word = s.word }) (h.space ++ next) =
     parts_read a b s.word (h.space ++ next) s.fraction h.number.0 h.fraction h.word.0 letter (no_letter_follows (h.space ++ next) f) in
     rw (spelling_parts here next s h) (record {

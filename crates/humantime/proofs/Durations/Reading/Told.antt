@@ -11,6 +11,7 @@ use Rattle.humantime.specs.References.Durations.Reading.{with_span, read, items}
 use Rattle.humantime.proofs.Durations.Reading.Classes.{digit_is_numeric, digit_not_space}
 use Rattle.humantime.proofs.Durations.Reading.Runs.{past-append, begins-append, begins_other, begins_also, begins_not_nil, ends-append}
 use Rattle.humantime.proofs.Durations.Reading.Spelled.{next_of, next_smaller, IsSpanAt, spelled_here}
+use Rattle.humantime.proofs.Durations.Reading.Spellings.{apart}
 use Rattle.humantime.proofs.Durations.Reading.Stopping.{fine_goes, stops_at}
 use Rattle.humantime.proofs.Durations.Reading.Written.{fine_here}
 use Rattle.humantime.proofs.Durations.Reading.ReadSteps.{steps, read-end, read-expected, read-stopped, read-fine, items-nothing, items-read}
@@ -22,12 +23,13 @@ Closes front rest = MayFollowWord rest ⊎ EndsInSpace front
 pub closes_digit : (front rest : List ℕ) → begins is_digit rest ≡ true → Closes front rest
 closes_digit front rest d = inl (inr (begins_also is_digit is_numeric digit_is_numeric rest d))
 
-starts_here : (here : List ℕ) (s : Span) → Spells here s → begins is_digit here ≡ true
-starts_here here s h =
-    rw (h.whole) (begins-append is_digit h.number_text (h.fraction_text ++ (s.word ++ h.space)) (begins_not_nil is_digit h.number_text h.starts) ∙ h.starts)
+starts_here : (text rest : List ℕ) (s : Span) → Spells text s rest → begins is_digit text ≡ true
+starts_here text rest s h =
+    let behind = h.fraction_text ++ (s.word ++ (h.space ++ rest)) in
+    rw (h.whole) (begins-append is_digit h.number_text behind (begins_not_nil is_digit h.number_text h.starts) ∙ h.starts)
 
 pub each_starts : (body : List ℕ) (s : Span) (ss : List Span) → SpellsEach body (s ∷ ss) → begins is_digit body ≡ true
-each_starts body s ss h = rw (h.1.whole) (begins-append is_digit h.1.here h.0 (begins_not_nil is_digit h.1.here (starts_here h.1.here s h.1.spells)) ∙ starts_here h.1.here s h.1.spells)
+each_starts body s ss h = starts_here body h.0 s h.1
 
 starts_before : (body rest : List ℕ) (s : Span) (ss : List Span) → SpellsEach body (s ∷ ss) → begins is_digit (body ++ rest) ≡ true
 starts_before body rest s ss h = let d = each_starts body s ss h in begins-append is_digit body rest (begins_not_nil is_digit body d) ∙ d
@@ -50,9 +52,10 @@ closes_more here more rest (s ∷ ss) h (inr e) = inr (inr (sym (ends-append is_
 -- the first of these spans is the span that begins the text
 pub first_here : (body rest : List ℕ) (s : Span) (ss : List Span) (h : SpellsEach body (s ∷ ss)) → Closes body rest → begins is_ws rest ≡ false → IsSpanAt (body ++ rest) s (h.0 ++ rest)
 first_here body rest s ss h o e =
-    let c : Closes (h.1.here ++ h.0) rest = subst (λ b. Closes b rest) h.1.whole o in
-    let i : IsSpanAt (h.1.here ++ (h.0 ++ rest)) s (h.0 ++ rest) = spelled_here h.1.here (h.0 ++ rest) s h.1.spells (closes_here h.1.here h.0 rest ss h.2 c) (no_space_before h.0 rest ss h.2 e) in
-    rw (h.1.whole, append_assoc) i
+    let p = apart body h.0 s h.1 in
+    let c : Closes (p.here ++ h.0) rest = subst (λ b. Closes b rest) p.whole o in
+    let i : IsSpanAt (p.here ++ (h.0 ++ rest)) s (h.0 ++ rest) = spelled_here p.here (h.0 ++ rest) s p.spells (closes_here p.here h.0 rest ss h.2 c) (no_space_before h.0 rest ss h.2 e) in
+    rw (p.whole, append_assoc) i
 
 -- the reading goes through these spans, and on from the rest
 pub record GoesThrough (r : List Span × Option Fault) (text : List ℕ) (spans : List Span) (rest : List ℕ) : Type 0 where
@@ -82,8 +85,9 @@ through n text body rest [] h f o e l =
     rw h (record { n = n; enough = k; is = refl })
 through n text body rest (s ∷ ss) h f (inl o) e l = cc
 through n text body rest (s ∷ ss) h f (inr o) e l =
+    let p = apart body h.0 s h.1 in
     through_step n text (body ++ rest) (h.0 ++ rest) rest s ss (first_here body rest s ss h o e) f.0 l
-    (λ m k. through m text h.0 rest ss h.2 f.1 (closes_more h.1.here h.0 rest ss h.2 (subst (λ b. Closes b rest) h.1.whole o)) e k)
+    (λ m k. through m text h.0 rest ss h.2 f.1 (closes_more p.here h.0 rest ss h.2 (subst (λ b. Closes b rest) p.whole o)) e k)
 
 -- the front of a split begins where the white space ends
 pub front_begins : (text front rest : List ℕ) (spans : List Span) (h : Split text front spans rest) → past is_ws text ≡ h.read.body ++ rest

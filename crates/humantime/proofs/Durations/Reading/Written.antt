@@ -1,5 +1,5 @@
 -- A rest that a well formed span begins is a spelling of that span, and then the rest behind it.
-use Rattle.std.proofs.Common.{◌≡◌, ◌≢◌, ℕ, ◌<◌, true, false, List, [], ◌∷◌, ◌++◌, length, Option, Some, option_map, refl, sym, ap, ◌∙◌, inl, inr, arith, append_assoc, length-append}
+use Rattle.std.proofs.Common.{◌≡◌, ◌≢◌, ℕ, ◌<◌, true, false, List, [], ◌∷◌, ◌++◌, length, Option, Some, option_map, refl, sym, ap, ◌∙◌, inl, inr, arith, append_assoc, append-nil, length-append}
 use Rattle.std.proofs.lemmas.Bool.{cases_Bool}
 use Rattle.humantime.specs.Durations.Characters.{is_ws, is_digit, is_letter, is_point, is_numeric, leading, past, begins, ends, digits}
 use Rattle.humantime.specs.Durations.Spans.{Span, Only, SpellsFraction, Spells}
@@ -14,7 +14,7 @@ use Rattle.humantime.proofs.Durations.Reading.Stopping.{Fine, some_letters}
 -- a spelling of the span that begins the rest, in white space where no digit follows it
 pub record IsWritten (rest here : List ℕ) : Type 0 where
   pub whole : rest ≡ here ++ next_of rest
-  pub spells : Spells here (span_of rest)
+  pub spells : Spells here (span_of rest) []
   pub closes : next_of rest ≢ [] → begins is_digit (next_of rest) ≡ false → ends is_ws here ≡ true
 
 some_digits : (o : Option (List ℕ)) (ds : List ℕ) → o ≢ Some [] → o ≡ Some ds → ds ≢ []
@@ -56,13 +56,13 @@ space_last a b w c some h =
     rw (ends-append is_ws a (b ++ (w ++ c)) (append_not_nil b (w ++ c) last), ends-append is_ws b (w ++ c) last, ends-append is_ws w c some) (ends_Only is_ws c h some)
 
 -- a spelling has a digit and a letter
-pub spelling_some : (here : List ℕ) (s : Span) → Spells here s → 1 < length here
-spelling_some here s h = omega (
+pub spelling_some : (text rest : List ℕ) (s : Span) → Spells text s rest → 1 < length text
+spelling_some text rest s h = omega (
   arith,
   ap length h.whole,
-  length-append h.number_text (h.fraction_text ++ (s.word ++ h.space)),
-  length-append h.fraction_text (s.word ++ h.space),
-  length-append s.word h.space,
+  length-append h.number_text (h.fraction_text ++ (s.word ++ (h.space ++ rest))),
+  length-append h.fraction_text (s.word ++ (h.space ++ rest)),
+  length-append s.word (h.space ++ rest),
   begins_some is_digit h.number_text h.starts,
   begins_some is_letter s.word (letters_begin s.word h.word),
 )
@@ -81,7 +81,7 @@ written_here rest d h =
           number_text = a;
           fraction_text = f.0;
           space = c;
-          whole = refl;
+          whole = sym (simp append-nil);
           starts = digit_begins rest d;
           number = (Only-leading is_numeric rest, refl);
           fraction = f.2;

@@ -1,7 +1,7 @@
 -- The list of what the items of a text lend.
 use Rattle.std.proofs.Common.{◌≡◌, ◌≢◌, ◌++◌, IsUtf8, chars, encode_utf8_all, arith, ℕ, zero, suc, true, List, [], ◌∷◌, length, Option, Some, None, Result, Ok, Err, refl, sym, ap, ap₂, subst, subst₂, ◌∙◌}
 use Rattle.std.proofs.lemmas.Str.{encodes-chars, encode_ascii}
-use Rattle.humantime.specs.Durations.Characters.{is_ws, is_digit, begins, leading, past, offset_of, bare_zero}
+use Rattle.humantime.specs.Durations.Characters.{is_ws, is_digit, begins, past, offset_of, leading, bare_zero}
 use Rattle.humantime.specs.Durations.Spans.{Span}
 use Rattle.humantime.specs.Durations.Rests.{span_of}
 use Rattle.humantime.specs.Durations.Faults.{Fault, NumberExpected, NumberOverflow, Empty}
@@ -13,8 +13,8 @@ use Rattle.humantime.specs.References.Durations.Lending.{lent_at, lends, left_at
 use Rattle.humantime.proofs.Durations.Slices.LendingSteps.{Turn, No_digit, Faulty, Spanned, turn, lends-expected, lends-stopped, lends-fine}
 use Rattle.humantime.proofs.Durations.Reading.Found.{items_found_at}
 use Rattle.humantime.proofs.Durations.Reading.Outcomes.{items_told, duration_answer-items}
+use Rattle.humantime.proofs.Durations.Reading.Told.{front_begins}
 use Rattle.humantime.proofs.Durations.Reading.ReadSteps.{read-expected, read-stopped, read-fine}
-use Rattle.humantime.proofs.Durations.Reading.Runs.{leading-past, Only-leading}
 use Rattle.humantime.proofs.Durations.Slices.SlicesTold.{one_each}
 use Rattle.humantime.proofs.Durations.Slices.SpanSlices.{is_lent}
 use Rattle.humantime.proofs.Durations.Reading.Spelled.{next_of}
@@ -117,26 +117,26 @@ unfolding items
 are_items text =
     let f = lent_all text (past is_ws text) in
     let i = items_found_at text in
+    let begun = front_begins text i.0 (unread_of text) (items text).0 i.1.split in
     record {
       spans = (items text).0;
       stop = (items text).1;
-      xs = f.xs;
+      slices = f.xs;
       front = i.0;
       rest = unread_of text;
-      space = leading is_ws text;
-      body = past is_ws text;
       items = i.1;
       are = f.are;
-      whole = sym (leading-past is_ws text);
-      only_space = Only-leading is_ws text;
-      each = f.each;
+      each = subst (λ (l : List ℕ). LendsEach text l (items text).0 f.xs (unread_of text)) begun f.each;
     }
 
 -- two lists that lend the same spans and stop alike are one
 same_lent : (text : List ℕ) (xs ys : List (Result Lent Fault)) (a : AreItems text xs) (b : AreItems text ys) → a.spans ≡ b.spans → a.stop ≡ b.stop → xs ≡ ys
 same_lent text xs ys a b p q =
-    let each : LendsEach text b.body a.spans b.xs b.rest = subst (λ (ss : List Span). LendsEach text b.body ss b.xs b.rest) (sym p) b.each in
-    a.are ∙ ap₂ items_of (one_each text a.space b.space a.body b.body a.spans a.xs b.xs a.rest b.rest a.only_space b.only_space (sym a.whole ∙ b.whole) a.each each) q ∙ sym b.are
+    let m = a.items.split.read.body ++ a.rest in
+    let n = b.items.split.read.body ++ b.rest in
+    let from = sym (front_begins text a.front a.rest a.spans a.items.split) ∙ front_begins text b.front b.rest b.spans b.items.split in
+    let each : LendsEach text n a.spans b.slices b.rest = subst (λ (ss : List Span). LendsEach text n ss b.slices b.rest) (sym p) b.each in
+    a.are ∙ ap₂ items_of (one_each text [] [] m n a.spans a.slices b.slices a.rest b.rest tt tt from a.each each) q ∙ sym b.are
 
 -- the spans and the stop are those that are read
 told_items : (text : List ℕ) (xs : List (Result Lent Fault)) (a : AreItems text xs) → items text ≡ (a.spans, a.stop)

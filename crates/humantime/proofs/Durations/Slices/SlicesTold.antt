@@ -54,18 +54,17 @@ record Told (rest : List ℕ) (x : Lent) (t : List ℕ) : Type 0 where
   left : after_fraction rest ≡ x.unit ++ t
   starts : begins is_digit rest ≡ true
 
-told : (text rest : List ℕ) (s : Span) (x : Lent) (next : List ℕ) (h : IsLent text rest s x next) → Told rest x (h.spelled.spells.space ++ next)
+told : (text rest : List ℕ) (s : Span) (x : Lent) (next : List ℕ) (h : IsLent text rest s x next) → Told rest x (h.spelled.space ++ next)
 told text rest s x next h =
-    let k = h.spelled.spells in
+    let k = h.spelled in
     let r = read_spelled rest next s h.spelled in
     let letter = begins_word s.word (k.space ++ next) (letters_begin s.word k.word) in
     let no_space : past is_ws k.number_text ≡ k.number_text = past-append is_ws [] k.number_text tt (begins_other is_digit is_ws digit_not_space k.number_text k.starts) in
-    let rest_starts = begins_first is_digit h.spelled.here next (ap (begins is_digit) k.whole ∙ begins_first is_digit k.number_text (k.fraction_text ++ (s.word ++ k.space)) k.starts) in
     record {
       number = sym (trimmed_is k.number_text x.number h.number) ∙ ap drop_trailing_whitespace (no_space ∙ sym r.number_is);
       fraction = fraction_told k.fraction_text (s.word ++ (k.space ++ next)) s.fraction x.fraction k.fraction h.fraction letter ∙ ap fraction_slice (sym r.behind_is);
       left = r.tail_is ∙ ap (λ (w : List ℕ). w ++ (k.space ++ next)) (sym h.unit);
-      starts = ap (begins is_digit) h.spelled.whole ∙ rest_starts;
+      starts = ap (begins is_digit) k.whole ∙ begins_first is_digit k.number_text (k.fraction_text ++ (s.word ++ (k.space ++ next))) k.starts;
     }
 
 lent_same : (x y : Lent) → x.number ≡ y.number → x.fraction ≡ y.fraction → x.unit ≡ y.unit → x.start ≡ y.start → x.end ≡ y.end → x.value ≡ y.value → x ≡ y
@@ -83,12 +82,12 @@ record SameLent (x y : Lent) (t u : List ℕ) : Type 0 where
   same : x ≡ y
   left : t ≡ u
 
-one_span : (text rest : List ℕ) (s : Span) (x y : Lent) (m n : List ℕ) (h : IsLent text rest s x m) (k : IsLent text rest s y n) → SameLent x y (h.spelled.spells.space ++ m) (k.spelled.spells.space ++ n)
+one_span : (text rest : List ℕ) (s : Span) (x y : Lent) (m n : List ℕ) (h : IsLent text rest s x m) (k : IsLent text rest s y n) → SameLent x y (h.spelled.space ++ m) (k.spelled.space ++ n)
 one_span text rest s x y m n h k =
     let a = told text rest s x m h in
     let b = told text rest s y n k in
-    let p = h.spelled.spells.space ++ m in
-    let q = k.spelled.spells.space ++ n in
+    let p = h.spelled.space ++ m in
+    let q = k.spelled.space ++ n in
     let unit : x.unit ≡ y.unit = h.unit ∙ sym k.unit in
     let left : p ≡ q = append_cancel_left x.unit p q (sym a.left ∙ b.left ∙ ap (λ (w : List ℕ). w ++ q) (sym unit)) in
     record {
@@ -110,6 +109,6 @@ one_each text p q m n (s ∷ ss) (x ∷ xs) (y ∷ ys) d e o u w h k =
     let r : m ≡ n = sym (next_is p m o (each_starts text m s ss (x ∷ xs) d h)) ∙ ap (past is_ws) w ∙ next_is q n u (each_starts text n s ss (y ∷ ys) e k) in
     let l : IsLent text m s y k.0 = subst (λ (z : List ℕ). IsLent text z s y k.0) (sym r) k.1 in
     let one = one_span text m s x y h.0 k.0 h.1 l in
-    let p = h.1.spelled.spells in
-    let q = l.spelled.spells in
+    let p = h.1.spelled in
+    let q = l.spelled in
     ap₂ (λ (z : Lent) (zs : List Lent). z ∷ zs) one.same (one_each text p.space q.space h.0 k.0 ss xs ys d e p.only_space q.only_space one.left h.2 k.2)

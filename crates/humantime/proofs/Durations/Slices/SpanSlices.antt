@@ -2,8 +2,8 @@
 use Rattle.std.proofs.Common.{◌≡◌, ◌≢◌, ℕ, Bool, true, false, cond, if◌then◌else◌, List, [], ◌∷◌, ◌++◌, Option, Some, None, refl, sym, ap, subst, ◌∙◌, ◌<◌, length, encode_utf8_all, append_assoc, length-append, arith}
 use Rattle.std.proofs.lemmas.List.{append_cancel_left}
 use Rattle.std.proofs.lemmas.Str.{encodes-append, length-le-encodes}
-use Rattle.humantime.specs.Durations.Characters.{is_ws, is_digit, is_letter, is_numeric, is_point, begins, leading, past, digits, byte_length, offset_of}
-use Rattle.humantime.specs.Durations.Spans.{Only, SpellsFraction, SpellsThen}
+use Rattle.humantime.specs.Durations.Characters.{class_of, is_ws, is_digit, is_letter, is_numeric, is_point, begins, leading, past, digits, byte_length, offset_of}
+use Rattle.humantime.specs.Durations.Spans.{Only, SpellsFraction, Spells, SpellsThen}
 use Rattle.humantime.specs.Durations.Rests.{after_number, fraction_of, past_fraction, after_fraction, word_of, after_word, span_of}
 
 use Rattle.humantime.specs.References.Durations.Reading.{stop_at}
@@ -12,6 +12,7 @@ use Rattle.humantime.specs.References.Durations.Lending.{trimmed, number_slice, 
 use Rattle.humantime.proofs.Durations.Reading.Classes.{digit_is_numeric, digit_from_numeric}
 use Rattle.humantime.proofs.Durations.Reading.Runs.{leading-past, Only-leading, begins-past, letters_begin, begins_some}
 use Rattle.humantime.proofs.Durations.Reading.Spelled.{next_of, begins_word, read_spelled}
+use Rattle.humantime.proofs.Durations.Reading.Spellings.{spells-append}
 use Rattle.humantime.proofs.Durations.Reading.Written.{written_here}
 use Rattle.humantime.proofs.Durations.Reading.Stopping.{Fine, Says, stop_says}
 use Rattle.humantime.proofs.Durations.Slices.Trimming.{dropped, digits_past, digit_slice, no_slice, slice_behind_point}
@@ -85,18 +86,18 @@ fine_at text rest b s = subst (Says text [] [] rest) s (stop_says text [] [] res
 pub is_lent : (text rest : List ℕ) → begins is_digit rest ≡ true → stop_at text rest ≡ None → IsLent text rest (span_of rest) (lent_at text rest) (next_of rest)
 is_lent text rest b s =
     let w = written_here rest b (fine_at text rest b s) in
-    let spelled : SpellsThen rest (span_of rest) (next_of rest) = record { here = w.0; whole = w.1.whole; spells = w.1.spells } in
-    let h = w.1.spells in
+    let h : Spells rest (span_of rest) (next_of rest) =
+    subst (λ (l : List ℕ). Spells l (span_of rest) (next_of rest)) (sym w.1.whole) (spells-append w.0 [] (next_of rest) (span_of rest) w.1.spells) in
     let tail = word_of rest ++ (h.space ++ next_of rest) in
     let letter : begins is_letter tail ≡ true = begins_word (word_of rest) (h.space ++ next_of rest) (letters_begin (word_of rest) h.word) in
-    let r = read_spelled rest (next_of rest) (span_of rest) spelled in
+    let r = read_spelled rest (next_of rest) (span_of rest) h in
     let number = leading is_numeric rest in
     let number_is : IsDigitSlice number (number_slice rest) =
     digit_slice [] number (number_slice rest) (dropped number) tt (begins_leading is_digit is_numeric rest b digit_is_numeric) (Only-leading is_numeric rest) in
     let left : after_word rest ≡ h.space ++ next_of rest =
     append_cancel_left (word_of rest) (after_word rest) (h.space ++ next_of rest) (leading-past is_letter (after_fraction rest) ∙ r.tail_is) in
     record {
-      spelled = spelled;
+      spelled = h;
       number = subst (λ (l : List ℕ). IsDigitSlice l (number_slice rest)) r.number_is number_is;
       fraction = subst (λ (l : List ℕ). LendsFraction h.fraction_text (fraction_slice l)) (sym r.behind_is) (fraction_is_lent h.fraction_text tail (fraction_of rest) h.fraction letter);
       unit = refl;

@@ -1,0 +1,43 @@
+-- A spelling as a text of its own, and with more behind it.
+use Rattle.std.proofs.Common.{◌≡◌, ℕ, List, [], ◌++◌, sym, ap, ◌∙◌, append_assoc, append-nil}
+use Rattle.humantime.specs.Durations.Spans.{Span, Spells}
+
+-- The text is one that spells the span alone, and then the rest.
+pub record IsApart (text : List ℕ) (span : Span) (rest : List ℕ) : Type 0 where
+  pub here : List ℕ
+  pub whole : text ≡ here ++ rest
+  pub spells : Spells here span []
+
+pub apart : (text rest : List ℕ) (s : Span) → Spells text s rest → IsApart text s rest
+apart text rest s h = record {
+  here = h.number_text ++ (h.fraction_text ++ (s.word ++ h.space));
+  whole = h.whole ∙ sym (simp append_assoc);
+  spells = record {
+    number_text = h.number_text;
+    fraction_text = h.fraction_text;
+    space = h.space;
+    whole = sym (simp append-nil);
+    starts = h.starts;
+    number = h.number;
+    fraction = h.fraction;
+    word = h.word;
+    only_space = h.only_space;
+  };
+}
+
+pub spells-append : (text rest more : List ℕ) (s : Span) → Spells text s rest → Spells (text ++ more) s (rest ++ more)
+spells-append text rest more s h = record {
+  number_text = h.number_text;
+  fraction_text = h.fraction_text;
+  space = h.space;
+  whole = ap (λ (l : List ℕ). l ++ more) h.whole ∙ simp append_assoc;
+  starts = h.starts;
+  number = h.number;
+  fraction = h.fraction;
+  word = h.word;
+  only_space = h.only_space;
+}
+
+-- a spelling alone has nothing behind its white space
+pub spells_alone : (here : List ℕ) (s : Span) (h : Spells here s []) → here ≡ h.number_text ++ (h.fraction_text ++ (s.word ++ h.space))
+spells_alone here s h = h.whole ∙ simp append-nil
