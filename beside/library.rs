@@ -1,0 +1,35 @@
+//! The library's calls, as beside/exports.rt.txt exports them.
+
+#![allow(dead_code)]
+
+/// What a call of the library answered: a value where `kind` is 0, else an error.
+#[repr(C)]
+#[derive(Default)]
+pub struct Answer {
+    pub kind: u32,
+    pub nanos: u32,
+    pub secs: i64,
+    pub start: usize,
+    pub end: usize,
+    pub value: u64,
+}
+
+#[allow(improper_ctypes)]
+unsafe extern "C" {
+    pub fn library_read_duration(text: *const u8, length: usize, place: &mut Answer);
+    pub fn library_unit(text: *const u8, length: usize, place: &mut [u8; 64]) -> usize;
+    pub fn library_walk_spans(text: *const u8, length: usize, place: &mut Answer);
+    pub fn library_canonical(text: *const u8, length: usize, place: &mut [u8; 64]) -> usize;
+    pub fn library_print_duration(secs: u64, nanos: u32, place: &mut [u8; 64]) -> usize;
+    pub fn library_read_strict(text: *const u8, length: usize, place: &mut Answer);
+    pub fn library_read_weak(text: *const u8, length: usize, place: &mut Answer);
+    pub fn library_print_smart(secs: i64, nanos: u32, place: &mut [u8; 30]) -> usize;
+    pub fn library_print_seconds(secs: i64, nanos: u32, place: &mut [u8; 30]) -> usize;
+    pub fn library_print_millis(secs: i64, nanos: u32, place: &mut [u8; 30]) -> usize;
+    pub fn library_print_micros(secs: i64, nanos: u32, place: &mut [u8; 30]) -> usize;
+    pub fn library_print_nanos(secs: i64, nanos: u32, place: &mut [u8; 30]) -> usize;
+}
+
+pub type ReadByLibrary = unsafe extern "C" fn(*const u8, usize, &mut Answer);
+
+pub type StampByLibrary = unsafe extern "C" fn(i64, u32, &mut [u8; 30]) -> usize;
