@@ -3,6 +3,9 @@
 //! Each row is one call of each side, which is not inlined and leaves its answer in the caller's place. The two
 //! sides are called in turn, batch by batch, and the side that begins changes with each round.
 
+mod library;
+
+use library::*;
 use std::alloc::{GlobalAlloc, Layout, System};
 use std::fmt::Write;
 use std::hint::black_box;
@@ -30,50 +33,6 @@ unsafe impl GlobalAlloc for Counting {
 
 #[global_allocator]
 static COUNTING: Counting = Counting;
-
-/// What a call of the library answered.
-#[repr(C)]
-#[derive(Default)]
-struct Answer {
-    kind: u32,
-    nanos: u32,
-    secs: i64,
-    start: usize,
-    end: usize,
-    value: u64,
-}
-
-/// What the program wrote to one of its outputs.
-#[repr(C)]
-struct Sink {
-    length: usize,
-    bytes: [u8; 128],
-}
-
-impl Sink {
-    fn new() -> Sink {
-        Sink { length: 0, bytes: [0; 128] }
-    }
-}
-
-#[allow(improper_ctypes)]
-unsafe extern "C" {
-    fn library_run(command: *const u8, command_length: usize, text: *const u8, text_length: usize, out: &mut Sink, err: &mut Sink) -> u8;
-    fn library_read_duration(text: *const u8, length: usize, place: &mut Answer);
-    fn library_walk_spans(text: *const u8, length: usize, place: &mut Answer);
-    fn library_canonical(text: *const u8, length: usize, place: &mut [u8; 64]) -> usize;
-    fn library_print_duration(secs: u64, nanos: u32, place: &mut [u8; 64]) -> usize;
-    fn library_read_strict(text: *const u8, length: usize, place: &mut Answer);
-    fn library_read_weak(text: *const u8, length: usize, place: &mut Answer);
-    fn library_print_seconds(secs: i64, nanos: u32, place: &mut [u8; 30]) -> usize;
-    fn library_print_millis(secs: i64, nanos: u32, place: &mut [u8; 30]) -> usize;
-    fn library_print_micros(secs: i64, nanos: u32, place: &mut [u8; 30]) -> usize;
-    fn library_print_nanos(secs: i64, nanos: u32, place: &mut [u8; 30]) -> usize;
-}
-
-type ReadByLibrary = unsafe extern "C" fn(*const u8, usize, &mut Answer);
-
-type StampByLibrary = unsafe extern "C" fn(i64, u32, &mut [u8; 30]) -> usize;
 
 type DurationRead = Result<Duration, humantime::DurationError>;
 

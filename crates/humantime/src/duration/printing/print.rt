@@ -16,7 +16,6 @@ use crate::buffer::front;
 use crate::duration::error::DurationError;
 use crate::duration::printing::writer::Writer;
 use crate::duration::reading::parse_duration;
-use crate::duration::printing::writer::{Writer, front};
 use crate::unit::sizes;
 use crate::value::StdDuration;
 use std::fmt;

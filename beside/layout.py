@@ -1,0 +1,84 @@
+"""Lays out and builds the library and the Rust crate in one process, for bench/run and diff/run.
+
+Both are built from nothing but this repository, the kit, cargo and the crate's folder, in a folder elsewhere: the library
+is proved there as a static library with one function of C for each call (exports.rt.txt).
+"""
+import os
+import re
+import shutil
+import subprocess
+import sys
+
+HERE = os.path.dirname(os.path.abspath(__file__))
+ROOT = os.path.dirname(HERE)
+# Nothing can depend on a program, so its own crate is exported, with `exports.rt.txt` in place of its `main.rt`.
+EXPORTS = "humantime_cli"
+CARGO = """[package]
+name = "{name}"
+version = "0.0.0"
+edition = "2024"
+
+[[bin]]
+name = "{name}"
+path = "main.rs"
+
+[dependencies]
+humantime = {{ path = "{crate}" }}
+
+[workspace]
+"""
+
+
+def run(command, folder, **environment):
+    """What a command says; where it fails, that is said and all ends."""
+    done = subprocess.run(command, cwd=folder, env=dict(os.environ, **environment), stdout=subprocess.PIPE, stderr=subprocess.STDOUT, text=True)
+    if done.returncode != 0:
+        sys.exit(f"{' '.join(command)} failed:\n{done.stdout[-5000:]}")
+    return done.stdout
+
+
+def copy_of(crate, place):
+    """Copies a crate of this repository, with what earlier checks kept, so that little is proved again."""
+    shutil.rmtree(place, ignore_errors=True)
+    os.makedirs(os.path.dirname(place), exist_ok=True)
+    run(["cp", "-a", os.path.join(ROOT, "crates", crate), place], ROOT)
+
+
+def exports(top):
+    """Lays out the library, and its exports with the program's `run`, as a repository of their own."""
+    copy_of("humantime", os.path.join(top, "crates", "humantime"))
+    place = os.path.join(top, "crates", EXPORTS)
+    copy_of(EXPORTS, place)
+    os.remove(os.path.join(place, "src", "main.rt"))
+    shutil.copy(os.path.join(HERE, "exports.rt.txt"), os.path.join(place, "src", "lib.rt"))
+    with open(os.path.join(top, "crates.txt"), "w") as file:
+        file.write(f"humantime: itoa\n{EXPORTS} staticlib: humantime\n")
+    if not os.path.exists(os.path.join(top, ".git")):
+        run(["git", "init", "-q", top], ROOT)
+
+
+def library(top, backend):
+    """The folder of the static library, the names that it takes from elsewhere, and what it is built for."""
+    crate = os.path.join(top, "crates", EXPORTS)
+    said = run(["rt", "lib", "--backend", backend], crate)
+    made = os.path.join(crate, "out", f"lib{EXPORTS}.a")
+    folder = os.path.join(top, backend)
+    os.makedirs(folder, exist_ok=True)
+    shutil.copy(made, folder)
+    names = {line.split()[-1] for line in run(["nm", "-u", made], ROOT).splitlines() if " U " in line}
+    cpu = re.search(r"cpu=(\S+)", said)
+    return folder, sorted(names), cpu.group(1) if cpu else "?"
+
+
+def program(top, name, sources, crate, folder, cpu, **environment):
+    """Builds the sources (the first is the main one) with the crate and the static library of this folder."""
+    place = os.path.join(top, name)
+    os.makedirs(place, exist_ok=True)
+    for number, source in enumerate(sources):
+        shutil.copy(source, os.path.join(place, os.path.basename(source) if number else "main.rs"))
+    shutil.copy(os.path.join(HERE, "library.rs"), place)
+    with open(os.path.join(place, "Cargo.toml"), "w") as file:
+        file.write(CARGO.format(name=name, crate=os.path.abspath(crate)))
+    flags = f"-C target-cpu={cpu} -L native={folder} -l static={EXPORTS}"
+    run(["cargo", "build", "--release", "--offline"], place, RUSTFLAGS=flags, **environment)
+    return os.path.join(place, "target", "release", name)

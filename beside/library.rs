@@ -1,0 +1,49 @@
+//! The library's calls, as beside/exports.rt.txt exports them.
+
+#![allow(dead_code)]
+
+/// What a call of the library answered: a value where `kind` is 0, else an error.
+#[repr(C)]
+#[derive(Default)]
+pub struct Answer {
+    pub kind: u32,
+    pub nanos: u32,
+    pub secs: i64,
+    pub start: usize,
+    pub end: usize,
+    pub value: u64,
+}
+
+/// What the program wrote to one of its outputs.
+#[repr(C)]
+pub struct Sink {
+    pub length: usize,
+    pub bytes: [u8; 128],
+}
+
+impl Sink {
+    pub fn new() -> Sink {
+        Sink { length: 0, bytes: [0; 128] }
+    }
+}
+
+#[allow(improper_ctypes)]
+unsafe extern "C" {
+    pub fn library_run(command: *const u8, command_length: usize, text: *const u8, text_length: usize, out: &mut Sink, err: &mut Sink) -> u8;
+    pub fn library_read_duration(text: *const u8, length: usize, place: &mut Answer);
+    pub fn library_unit(text: *const u8, length: usize, place: &mut [u8; 64]) -> usize;
+    pub fn library_walk_spans(text: *const u8, length: usize, place: &mut Answer);
+    pub fn library_canonical(text: *const u8, length: usize, place: &mut [u8; 64]) -> usize;
+    pub fn library_print_duration(secs: u64, nanos: u32, place: &mut [u8; 64]) -> usize;
+    pub fn library_read_strict(text: *const u8, length: usize, place: &mut Answer);
+    pub fn library_read_weak(text: *const u8, length: usize, place: &mut Answer);
+    pub fn library_print_smart(secs: i64, nanos: u32, place: &mut [u8; 30]) -> usize;
+    pub fn library_print_seconds(secs: i64, nanos: u32, place: &mut [u8; 30]) -> usize;
+    pub fn library_print_millis(secs: i64, nanos: u32, place: &mut [u8; 30]) -> usize;
+    pub fn library_print_micros(secs: i64, nanos: u32, place: &mut [u8; 30]) -> usize;
+    pub fn library_print_nanos(secs: i64, nanos: u32, place: &mut [u8; 30]) -> usize;
+}
+
+pub type ReadByLibrary = unsafe extern "C" fn(*const u8, usize, &mut Answer);
+
+pub type StampByLibrary = unsafe extern "C" fn(i64, u32, &mut [u8; 30]) -> usize;

@@ -1,0 +1,302 @@
+//! Compares the library with the crate, call by call: the same answers, but for the differences that are listed.
+
+mod durations;
+mod library;
+mod moments;
+mod rows;
+mod texts;
+
+use moments::{PARSERS, PRINTERS};
+use rows::{Counts, Row, caught};
+use std::path::Path;
+use std::time::Duration;
+use texts::*;
+
+const DAY: u64 = 86_400;
+
+/// The first second that has no printed text.
+const END: i64 = 253_402_300_800;
+
+/// Reads a duration on both sides.
+fn read_duration(counts: &mut Counts, text: &str) {
+    counts.case();
+    let (by_crate, by_library) = (durations::read_by_crate(text), durations::read_by_library(text));
+    if by_crate == by_library && by_crate.is_some() {
+        return;
+    }
+    let tell = || format!("duration {text:?}: the crate {by_crate:?}, the library {by_library:?}");
+    match by_library.and_then(|answer| durations::explained(text, answer)) {
+        Some(rows) if !rows.is_empty() && by_crate.is_some() => counts.differs(rows, tell),
+        _ => counts.differs_unlisted(tell),
+    }
+}
+
+/// Prints a duration on both sides, and reads both texts on both sides.
+fn print_duration(counts: &mut Counts, secs: u64, nanos: u32) {
+    counts.case();
+    let by_crate = caught(|| humantime::format_duration(Duration::new(secs, nanos)).to_string());
+    let mut place = [0; 64];
+    let length = unsafe { library::library_print_duration(secs, nanos, &mut place) };
+    let by_library = String::from_utf8_lossy(&place[..length]).into_owned();
+    if by_crate.as_ref() != Ok(&by_library) {
+        let tell =
+            || format!("duration of {secs} s and {nanos} ns: the crate {by_crate:?}, the library {by_library:?}");
+        let with_micro_sign = by_crate.as_ref().map(|text| text.replace("us", "µs"));
+        if with_micro_sign.as_ref() == Ok(&by_library) {
+            counts.differs(vec![Row::MicroSignPrinted], tell);
+        } else {
+            counts.differs_unlisted(tell);
+        }
+    }
+    read_duration(counts, &by_library);
+}
+
+/// Reads a timestamp by both parsers on both sides.
+fn read_moment(counts: &mut Counts, text: &str) {
+    for parser in &PARSERS {
+        counts.case();
+        let (by_crate, by_library) = (parser.read_by_crate(text), parser.read_by_library(text));
+        if by_crate.as_ref() == Ok(&by_library) {
+            continue;
+        }
+        let row = by_crate
+            .as_ref()
+            .ok()
+            .and_then(|answer| moments::explained(text, *answer, by_library));
+        let tell = || {
+            format!(
+                "{} {text:?}: the crate {by_crate:?}, the library {by_library:?}",
+                parser.name
+            )
+        };
+        match row {
+            Some(row) => counts.differs(vec![row], tell),
+            None => counts.differs_unlisted(tell),
+        }
+    }
+}
+
+/// Prints a moment by the five printers on both sides, and reads each text by both parsers on both sides.
+fn print_moment(counts: &mut Counts, secs: i64, nanos: u32) {
+    for printer in &PRINTERS {
+        counts.case();
+        let (by_crate, by_library) = (
+            printer.print_by_crate(secs, nanos),
+            printer.print_by_library(secs, nanos),
+        );
+        if by_crate.as_ref() != Ok(&by_library) {
+            let tell = || {
+                format!(
+                    "{} of {secs} s and {nanos} ns: the crate {by_crate:?}, the library {by_library:?}",
+                    printer.name
+                )
+            };
+            if secs < 0 && by_crate.is_err() && by_library.is_empty() {
+                counts.differs(vec![Row::PanicBefore1970], tell);
+            } else {
+                counts.differs_unlisted(tell);
+            }
+        }
+        if !by_library.is_empty() {
+            read_moment(counts, &by_library);
+        }
+    }
+}
+
+/// The texts of the crate's sources and tests, their fronts, and each with one character taken out, replaced or put in.
+fn texts_of_the_crate(counts: &mut Counts, folder: &Path) {
+    let found = texts_of_crate(folder);
+    counts.begin("durations read: the texts of the crate's sources and tests, and those near them");
+    found
+        .iter()
+        .for_each(|text| variants(text, &HOSTILE, &mut |text| read_duration(counts, text)));
+    counts.begin("timestamps read: the same texts, and those near them");
+    found
+        .iter()
+        .for_each(|text| variants(text, &STAMP, &mut |text| read_moment(counts, text)));
+}
+
+fn short_durations(counts: &mut Counts) {
+    counts.begin("durations read: all texts of up to 5 of 18 characters");
+    all_texts(&HOSTILE, 5, &mut |text| read_duration(counts, text));
+    counts.begin("durations read: all texts of up to 7 of 10 characters");
+    all_texts(&FEWER, 7, &mut |text| read_duration(counts, text));
+}
+
+/// Each word with numbers at its limit, with fractions, and alone or behind a second span.
+fn words_at_their_limits(counts: &mut Counts) {
+    counts.begin("durations read: each word at its limit, with fractions, alone and beside another span");
+    let fractions = "|.0|.00|.5|.50|.000000001|.0000000010|.9|.3074457345|.18446744073|.0001|.25|.|. ";
+    let others = ["", "1ns", " 999999999ns ", "0s", "18446744073709551615s", "x", "."];
+    for (word, most) in words() {
+        let numbers = (0..7)
+            .map(|near| u128::from(most) + 3 - near)
+            .chain([0, 1, 9, 10, 584, 18_446_744_073]);
+        for number in numbers {
+            for fraction in fractions.split('|') {
+                for other in others {
+                    read_duration(counts, &format!("{number}{fraction}{word}{other}"));
+                    read_duration(counts, &format!("{other}{number}{fraction} {word}"));
+                }
+            }
+        }
+    }
+}
+
+fn random_durations(counts: &mut Counts) {
+    let mut random = Random::new(1);
+    counts.begin("durations read: random spans around each limit, and with a fault");
+    for _ in 0..12_000_000 {
+        read_duration(counts, &random_duration(&mut random));
+    }
+    counts.begin("durations read: sums around the greatest duration");
+    for _ in 0..3_000_000 {
+        read_duration(counts, &random_sum_at_limit(&mut random));
+    }
+}
+
+fn durations_printed(counts: &mut Counts) {
+    let mut random = Random::new(2);
+    let nanos = [0, 1, 999, 1_000, 1_001, 999_999, 1_000_000, 1_000_001, 999_999_999];
+    counts.begin("durations printed: around multiples of each unit; their texts read");
+    for size in [
+        1,
+        60,
+        3_600,
+        DAY,
+        604_800,
+        2_630_016,
+        31_557_600,
+        31_557_600 * 1_000_000,
+        u64::MAX / 31,
+    ] {
+        for times in 0..2_000u64 {
+            for near in [0, 1, 2] {
+                let secs = size.saturating_mul(times).saturating_add(near).saturating_sub(1);
+                print_duration(counts, secs, nanos[(times % 9) as usize]);
+            }
+        }
+    }
+    counts.begin("durations printed: each second of a day and a bit; their texts read");
+    (0..DAY + 100).for_each(|second| print_duration(counts, second, 0));
+    counts.begin("durations printed: random ones of any size; their texts read");
+    for _ in 0..4_000_000 {
+        let part = if random.percent(50) {
+            random.of(&nanos)
+        } else {
+            random.below(1_000_000_000) as u32
+        };
+        print_duration(counts, random.of_any_size(), part);
+    }
+}
+
+fn timestamps_read(counts: &mut Counts) {
+    counts.begin("timestamps read: each month, day and year, in and out of bounds");
+    for year in (0..10_000).filter(|year| *year < 2 || (1960..2110).contains(year) || year % 100 < 5 || *year > 9_990) {
+        for month in 0..14 {
+            for day in 0..33 {
+                read_moment(counts, &format!("{year:04}-{month:02}-{day:02}T00:00:00Z"));
+            }
+        }
+    }
+    counts.begin("timestamps read: each hour, minute and second of two digits");
+    for number in 0..1_000_000 {
+        let (hour, minute, second) = (number / 10_000, number / 100 % 100, number % 100);
+        read_moment(counts, &format!("2016-12-31T{hour:02}:{minute:02}:{second:02}Z"));
+    }
+    counts.begin("timestamps read: all ends of up to 6 of 11 characters, and of up to 5 after a fraction");
+    let ends = ['Z', '+', '0', '1', ':', '.', '-', 'z', ' ', '9', 'é'];
+    all_texts(&ends, 6, &mut |end| {
+        read_moment(counts, &format!("1970-01-01T00:00:00{end}"))
+    });
+    for front in [
+        "1970-01-01T00:00:00.",
+        "1970-01-01T00:00:00.5",
+        "9999-12-31 23:59:60.999999999",
+    ] {
+        all_texts(&ends, 5, &mut |end| read_moment(counts, &format!("{front}{end}")));
+        all_texts(&ends, 3, &mut |end| read_moment(counts, &format!("{front}+{end}:00")));
+    }
+}
+
+/// Each character of a few texts replaced by each of many, and each two of them by each two of a few.
+fn timestamps_spoiled(counts: &mut Counts) {
+    counts.begin("timestamps read: one character replaced by each of 256, two by each two of 14");
+    let texts = [
+        "2018-02-14T00:28:07Z",
+        "2018-02-14 00:28:07",
+        "2016-12-31T23:59:60+00:00",
+        "2000-02-29T12:34:56.789Z",
+        "1970-01-01T00:00:00.123456789+00:00",
+    ];
+    let many: Vec<char> = (0..256).filter_map(char::from_u32).collect();
+    for text in texts {
+        variants(text, &many, &mut |text| read_moment(counts, text));
+        let letters: Vec<char> = text.chars().collect();
+        for first in 0..letters.len() {
+            for second in 0..first {
+                for pair in 0..STAMP.len() * STAMP.len() {
+                    let mut spoiled = letters.clone();
+                    (spoiled[first], spoiled[second]) = (STAMP[pair / STAMP.len()], STAMP[pair % STAMP.len()]);
+                    read_moment(counts, &spoiled.iter().collect::<String>());
+                }
+            }
+        }
+    }
+}
+
+fn random_timestamps(counts: &mut Counts) {
+    let mut random = Random::new(3);
+    counts.begin("timestamps read: random parts, fractions and ends, and with a fault");
+    for _ in 0..4_000_000 {
+        read_moment(counts, &random_stamp(&mut random));
+    }
+}
+
+fn timestamps_printed(counts: &mut Counts) {
+    let mut random = Random::new(4);
+    counts.begin("timestamps printed: each day by each of five printers; their texts read");
+    for day in 0..END / DAY as i64 {
+        let nanos = if random.percent(50) {
+            0
+        } else {
+            random.below(1_000_000_000) as u32
+        };
+        print_moment(counts, day * DAY as i64 + random.below(DAY) as i64, nanos);
+    }
+    counts.begin("timestamps printed: each second of a day, and random moments; their texts read");
+    (0..DAY as i64).for_each(|second| print_moment(counts, 1_330_473_600 + second, 0));
+    for _ in 0..500_000 {
+        print_moment(
+            counts,
+            random.below(END as u64) as i64,
+            random.below(1_000_000_000) as u32,
+        );
+    }
+    counts.begin("timestamps printed: around and outside 1970 to 9999");
+    for near in 0..2_000 {
+        for nanos in [0, 1, 999_999_999] {
+            print_moment(counts, END - 1_000 + near, nanos);
+            print_moment(counts, near - 1_000, nanos);
+            print_moment(counts, END << random.below(20), nanos);
+            print_moment(counts, -(random.below(1 << 40) as i64), nanos);
+        }
+    }
+}
+
+fn main() {
+    let folder = std::env::args().nth(1).expect("the crate's folder");
+    std::panic::set_hook(Box::new(|_| {}));
+    let mut counts = Counts::default();
+    texts_of_the_crate(&mut counts, Path::new(&folder));
+    short_durations(&mut counts);
+    words_at_their_limits(&mut counts);
+    random_durations(&mut counts);
+    durations_printed(&mut counts);
+    timestamps_read(&mut counts);
+    timestamps_spoiled(&mut counts);
+    random_timestamps(&mut counts);
+    timestamps_printed(&mut counts);
+    let is_all_listed = counts.tell();
+    std::process::exit(if is_all_listed { 0 } else { 1 });
+}

@@ -1,0 +1,277 @@
+//! The texts that both sides read.
+
+use std::path::Path;
+
+/// Characters that end, continue or spoil a duration's text.
+pub const HOSTILE: [char; 18] = [
+    '0', '1', '9', '.', ' ', '\u{3000}', 's', 'h', 'n', 'u', 'M', 'µ', 'μ', '~', '-', '\0', 'é', '\u{200b}',
+];
+
+/// Fewer of them, for longer texts.
+pub const FEWER: [char; 10] = ['0', '1', '.', ' ', 's', 'n', 'm', 'μ', '~', 'h'];
+
+/// Characters that end, continue or spoil a timestamp's text.
+pub const STAMP: [char; 14] = [
+    '0', '1', '6', '9', 'Z', 'z', 'T', '+', '-', ':', '.', ' ', 'é', '\u{ff11}',
+];
+
+/// Random numbers, the same in each run.
+pub struct Random(u64);
+
+impl Random {
+    pub fn new(seed: u64) -> Random {
+        Random(seed)
+    }
+
+    pub fn number(&mut self) -> u64 {
+        self.0 = self.0.wrapping_add(0x9e37_79b9_7f4a_7c15);
+        let mixed = (self.0 ^ (self.0 >> 30)).wrapping_mul(0xbf58_476d_1ce4_e5b9);
+        let mixed = (mixed ^ (mixed >> 27)).wrapping_mul(0x94d0_49bb_1331_11eb);
+        mixed ^ (mixed >> 31)
+    }
+
+    pub fn below(&mut self, end: u64) -> u64 {
+        self.number() % end
+    }
+
+    /// True in so many of a hundred times.
+    pub fn percent(&mut self, times: u64) -> bool {
+        self.below(100) < times
+    }
+
+    pub fn of<T: Copy>(&mut self, list: &[T]) -> T {
+        list[self.below(list.len() as u64) as usize]
+    }
+
+    /// A number with a random count of bits.
+    pub fn of_any_size(&mut self) -> u64 {
+        let bits = self.below(65);
+        if bits == 0 { 0 } else { self.number() >> (64 - bits) }
+    }
+}
+
+/// All texts of up to so many of these characters, each handed over once.
+pub fn all_texts(alphabet: &[char], most: usize, to: &mut dyn FnMut(&str)) {
+    fn longer(text: &mut String, alphabet: &[char], left: usize, to: &mut dyn FnMut(&str)) {
+        to(text);
+        for letter in alphabet.iter().filter(|_| left > 0) {
+            text.push(*letter);
+            longer(text, alphabet, left - 1, to);
+            text.pop();
+        }
+    }
+    longer(&mut String::new(), alphabet, most, to);
+}
+
+/// The text's fronts, and the text with one character taken out, replaced, or put in before it.
+pub fn variants(text: &str, alphabet: &[char], to: &mut dyn FnMut(&str)) {
+    to(text);
+    for (at, letter) in text.char_indices() {
+        let (front, rest) = (&text[..at], &text[at + letter.len_utf8()..]);
+        to(front);
+        to(&format!("{front}{rest}"));
+        for other in alphabet {
+            to(&format!("{front}{other}{rest}"));
+            to(&format!("{front}{other}{letter}{rest}"));
+        }
+    }
+}
+
+/// The text with one random character replaced, put in or taken out.
+pub fn spoiled(text: &str, alphabet: &[char], random: &mut Random) -> String {
+    let mut letters: Vec<char> = text.chars().collect();
+    let at = random.below(letters.len() as u64 + 1) as usize;
+    let other = random.of(alphabet);
+    match random.below(3) {
+        0 if at < letters.len() => letters[at] = other,
+        1 if at < letters.len() => _ = letters.remove(at),
+        _ => letters.insert(at, other),
+    }
+    letters.into_iter().collect()
+}
+
+/// What stands between quotes in the crate's sources and tests, its documentation too.
+pub fn texts_of_crate(folder: &Path) -> Vec<String> {
+    let mut found = Vec::new();
+    let mut entries: Vec<_> = std::fs::read_dir(folder)
+        .expect("a folder")
+        .map(|entry| entry.expect("an entry").path())
+        .collect();
+    entries.sort();
+    for path in entries {
+        if path.is_dir() && !path.ends_with("target") {
+            found.extend(texts_of_crate(&path));
+        } else if path.extension().is_some_and(|ending| ending == "rs") {
+            let source = std::fs::read_to_string(&path).expect("a text");
+            source.lines().for_each(|line| quoted(line, &mut found));
+        }
+    }
+    found.sort();
+    found.dedup();
+    found
+}
+
+/// Adds what stands between quotes in the line. A text over several lines counts line by line.
+fn quoted(line: &str, found: &mut Vec<String>) {
+    let mut letters = line.chars();
+    let mut open: Option<String> = None;
+    while let Some(letter) = letters.next() {
+        match (letter, &mut open) {
+            ('"', None) => open = Some(String::new()),
+            ('"', Some(_)) => found.extend(open.take()),
+            ('\\', Some(text)) => match letters.next() {
+                Some('0') => text.push('\0'),
+                Some('n') => text.push('\n'),
+                Some('r') => text.push('\r'),
+                Some('t') => text.push('\t'),
+                other => text.extend(other),
+            },
+            (_, Some(text)) => text.push(letter),
+            _ => {}
+        }
+    }
+    found.extend(open);
+}
+
+/// The words of each unit, and how many nanoseconds or seconds it has.
+const UNITS: [(&[&str], u64); 10] = [
+    (&["nanos", "nsec", "ns"], 1),
+    (&["usec", "us", "µs", "μs"], 1_000),
+    (&["millis", "msec", "ms"], 1_000_000),
+    (&["seconds", "second", "secs", "sec", "s"], 1),
+    (&["minutes", "minute", "min", "mins", "m"], 60),
+    (&["hours", "hour", "hr", "hrs", "h"], 3_600),
+    (&["days", "day", "d"], 86_400),
+    (&["weeks", "week", "wk", "wks", "w"], 604_800),
+    (&["months", "month", "M"], 2_630_016),
+    (&["years", "year", "yr", "yrs", "y"], 31_557_600),
+];
+
+/// Each word, and the greatest number that may stand before it.
+pub fn words() -> impl Iterator<Item = (&'static str, u64)> {
+    UNITS
+        .iter()
+        .flat_map(|(words, size)| words.iter().map(move |word| (*word, u64::MAX / size)))
+}
+
+const NO_WORDS: [&str; 10] = ["", "S", "H", "sek", "µ", "μ", "µsec", "Ms", "monthss", "nightsandmore"];
+
+const SPACES: [&str; 6] = [" ", "  ", "\t", "\u{85}", "\u{3000}", "\u{2028} "];
+
+/// A span's text at one of the limits, or far from all.
+pub fn random_span(random: &mut Random) -> String {
+    let (words, size) = random.of(&UNITS);
+    let (word, most) = (random.of(words), u64::MAX / size);
+    let number = match random.below(8) {
+        0..=2 => random.below(1_000).to_string(),
+        3 | 4 => u128::from(most)
+            .saturating_add(4)
+            .saturating_sub(random.below(8).into())
+            .to_string(),
+        5 => (most / (1 + random.below(12))).to_string(),
+        6 => random.of_any_size().to_string(),
+        _ => random_digits(random, 22),
+    };
+    let mut text = String::new();
+    for digit in number.chars() {
+        text.push(digit);
+        if random.percent(1) {
+            text.push_str(random.of(&SPACES));
+        }
+    }
+    if random.percent(45) {
+        text.push('.');
+        text.push_str(&random_fraction(random));
+    }
+    if random.percent(10) {
+        text.push_str(random.of(&SPACES));
+    }
+    text.push_str(if random.percent(4) { random.of(&NO_WORDS) } else { word });
+    text
+}
+
+fn random_digits(random: &mut Random, most: u64) -> String {
+    let count = random.below(most + 1);
+    (0..count).map(|_| char::from(b'0' + random.below(10) as u8)).collect()
+}
+
+/// A fraction's digits: few or many, some at a limit of its product, often with zeros at their end.
+fn random_fraction(random: &mut Random) -> String {
+    let mut text = match random.below(6) {
+        0 => random_digits(random, 22),
+        1 => ((u64::MAX / random.of(&UNITS).1).saturating_add(2) - random.below(5)).to_string(),
+        2 => format!("{}{}", "0".repeat(random.below(20) as usize), random.below(10)),
+        _ => random_digits(random, 9),
+    };
+    if random.percent(40) {
+        text.push_str(&"0".repeat(random.below(14) as usize));
+    }
+    if random.percent(3) {
+        text.insert_str(random.below(text.len() as u64 + 1) as usize, random.of(&SPACES));
+    }
+    text
+}
+
+/// A duration's text of one to four spans, now and then with a fault.
+pub fn random_duration(random: &mut Random) -> String {
+    let mut text = String::new();
+    if random.percent(5) {
+        text.push_str(random.of(&SPACES));
+    }
+    for _ in 0..1 + random.below(4) {
+        text.push_str(&random_span(random));
+        if random.percent(60) {
+            text.push_str(random.of(&SPACES));
+        }
+    }
+    if random.percent(15) {
+        spoiled(&text, &HOSTILE, random)
+    } else {
+        text
+    }
+}
+
+/// Spans whose sum is the greatest duration, or a little less or more.
+pub fn random_sum_at_limit(random: &mut Random) -> String {
+    let first = random.of_any_size();
+    let second = (u64::MAX - first).saturating_add(2) - random.below(5).min(2);
+    let nanos = random.of(&[0, 1, 1_000, 999_999_999, 1_000_000_000, 1_000_000_001, 500_000_000]);
+    let more = random.of(&[
+        "",
+        " 1ns",
+        " 999999999ns",
+        " 1s",
+        " 0.5s",
+        " 500ms",
+        " 0.999999999s",
+        " 1000000us",
+    ]);
+    match random.below(4) {
+        0 => format!("{first}s {second}s {nanos}ns{more}"),
+        1 => format!("{nanos}ns {first}s {second}s{more}"),
+        2 => format!("{first}.{nanos:09}s{second}s{more}"),
+        _ => format!("{}ns {nanos}ns {second}s{more}", u64::MAX - random.below(3)),
+    }
+}
+
+/// A timestamp's text near the form: parts in and out of their bounds, and some end.
+pub fn random_stamp(random: &mut Random) -> String {
+    let any_year = 1970 + random.below(8030);
+    let year = random.of(&[1969, 1970, 1972, 1999, 2000, 2100, 2400, 9999, 0, any_year, any_year]);
+    let (month, day) = (random.below(14), random.below(33));
+    let (hour, minute, second) = (random.below(25), random.below(61), random.below(62));
+    let sign = random.of(&['T', 'T', ' ', 't']);
+    let mut text = format!("{year:04}-{month:02}-{day:02}{sign}{hour:02}:{minute:02}:{second:02}");
+    if random.percent(60) {
+        text.push('.');
+        text.push_str(&random_digits(random, 24));
+    }
+    text.push_str(random.of(&[
+        "Z", "Z", "", "+00:00", "+02:00", "-00:00", "+00:0", "ZZ", "z", "+00:00Z", "+abcdZ",
+    ]));
+    if random.percent(20) {
+        spoiled(&text, &STAMP, random)
+    } else {
+        text
+    }
+}
