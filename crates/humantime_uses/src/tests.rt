@@ -1,0 +1,3 @@
+//! The programs on real lines. What is expected was written by hand, never taken from an answer.
+
+mod retry;
