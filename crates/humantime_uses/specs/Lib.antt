@@ -1,1 +1,3 @@
+pub mod OptionErrors
+pub mod Options
 pub mod Retry

@@ -1,3 +1,4 @@
 //! The programs on real lines. What is expected was written by hand, never taken from an answer.
 
+mod option;
 mod retry;
