@@ -1,3 +1,4 @@
+pub mod LogLines
 pub mod OptionErrors
 pub mod Options
 pub mod Retry

@@ -1,6 +1,7 @@
 //! Small programs over `humantime`, one of each kind that reads or prints its texts, proved by its contracts alone.
 #![tactic(auto)]
 
+pub mod log_lines;
 pub mod option;
 pub mod retry;
 #[cfg(test)]

@@ -1,4 +1,5 @@
 //! The programs on real lines. What is expected was written by hand, never taken from an answer.
 
+mod log_lines;
 mod option;
 mod retry;
