@@ -1,2 +1,3 @@
+pub mod PrintedRows
 pub mod Stamps
 pub mod Waits

@@ -1,4 +1,6 @@
 pub mod LogLines
 pub mod OptionErrors
 pub mod Options
+pub mod Report
 pub mod Retry
+pub mod Rows

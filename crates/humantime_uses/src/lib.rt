@@ -3,6 +3,7 @@
 
 pub mod log_lines;
 pub mod option;
+pub mod report;
 pub mod retry;
 #[cfg(test)]
 mod tests;

@@ -52,7 +52,8 @@ fn is_between(moment: SystemTime, from: SystemTime, to: SystemTime) -> bool
 
 /// Whether the bytes of a text lie in a range.
 fn is_text_between(text: &str, from: &str, to: &str) -> bool
-    ensures { IsTrue result ↔ (IsTrue (is_le (slice_cmp nat_cmp from.now text.now)) × IsTrue (is_lt (slice_cmp nat_cmp text.now to.now))) }
+    ensures { IsTrue result
+        ↔ (IsTrue (is_le (slice_cmp nat_cmp from.now text.now)) × IsTrue (is_lt (slice_cmp nat_cmp text.now to.now))) }
 {
     from <= text && text < to
 }

@@ -2,4 +2,5 @@
 
 mod log_lines;
 mod option;
+mod report;
 mod retry;
