@@ -4,3 +4,4 @@ mod log_lines;
 mod option;
 mod report;
 mod retry;
+mod settings;
