@@ -4,18 +4,14 @@ use Rattle.std.specs.Prelude.{◌↔◌, ℤ, ◌≤ℤ◌, ◌<ℤ◌, IsTrue, 
 use Rattle.std.specs.Cmp.Lexicographic.{slice_cmp}
 use Rattle.std.specs.Ordering.{nat_cmp, is_le, is_lt}
 use Rattle.humantime.specs.Prelude.{IsPrinted, cut, strict_answer}
-use Rattle.humantime.proofs.Theorems.{printed_moment_reads, stamp_at_most, stamp_before, strict_read}
-
--- a printed text reads as its moment, cut
-pub printed_read : (t : ℤ) (text : List ℕ) → IsPrinted t 3 text → strict_answer text ≡ Ok (cut t 3)
-printed_read t text printed = strict_read text (cut t 3) ((printed_moment_reads t 3 (omega arith)).reads text printed).strict
+use Rattle.humantime.proofs.Theorems.{printed_read, stamp_at_most, stamp_before}
 
 -- the bytes lie in the range exactly where the moment does
 pub between_bytes : (a b t : ℤ) (from to text : List ℕ) → IsPrinted a 3 from → IsPrinted b 3 to → IsPrinted t 3 text
     → (IsTrue (is_le (slice_cmp nat_cmp from text)) × IsTrue (is_lt (slice_cmp nat_cmp text to)))
     ↔ ((u : ℤ) × (strict_answer text ≡ Ok u) × (cut a 3 ≤ℤ u) × (u <ℤ cut b 3))
 between_bytes a b t from to text first second printed =
-    let reads = printed_read t text printed in
+    let reads = printed_read t 3 text printed in
     let low = stamp_at_most a t 3 from text (omega arith) first printed in
     let high = stamp_before t b 3 text to (omega arith) printed second in (
       (λ h. (cut t 3, reads, low.0 h.0, high.0 h.1)),
