@@ -1,5 +1,6 @@
 -- Lines and bounds that are printed with milliseconds.
-use Rattle.std.proofs.Common.{◌≡◌, ℕ, List, subst, arith}
+use mathlib.Core.Bool.{beq}
+use Rattle.std.proofs.Common.{◌≡◌, ℕ, Bool, true, false, List, refl, subst, arith}
 use Rattle.std.specs.Prelude.{◌↔◌, ℤ, ◌≤ℤ◌, ◌<ℤ◌, IsTrue, Ok}
 use Rattle.std.specs.Cmp.Lexicographic.{slice_cmp}
 use Rattle.std.specs.Ordering.{nat_cmp, is_le, is_lt}
@@ -19,3 +20,10 @@ between_bytes a b t from to text first second printed =
           let same : h.0 ≡ cut t 3 = cc (h.1, reads) in
           (low.1 (subst (λ (u : ℤ). cut a 3 ≤ℤ u) same h.2), high.1 (subst (λ (u : ℤ). u <ℤ cut b 3) same h.3))),
     )
+
+-- two answers to one question are equal
+pub one_question : (r s : Bool) (P : Type 0) → (IsTrue r ↔ P) → (IsTrue s ↔ P) → beq r s ≡ true
+one_question true true P h k = refl
+one_question true false P h k = k.1 (h.0 refl)
+one_question false true P h k = h.1 (k.0 refl)
+one_question false false P h k = refl

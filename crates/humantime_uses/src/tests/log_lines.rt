@@ -1,7 +1,7 @@
 //! Lines of a log, filtered both ways.
 
-use crate::log_lines::{keeps, keeps_by_bytes};
-use humantime::{SystemTime, format_rfc3339_millis};
+use crate::log_lines::{answers_alike, bound_text, keeps, keeps_by_bytes};
+use humantime::SystemTime;
 use std::test::Fail;
 
 #[test]
@@ -10,12 +10,8 @@ fn both_filters_keep_the_same_lines(rt: HostRuntime) -> Result<(), Fail> {
     let to = SystemTime::from_parts(1_518_568_088, 500_000_000).ok_or("no moment")?;
     let mut first = [0; 30];
     let mut second = [0; 30];
-    let first = format_rfc3339_millis(from)
-        .text(&mut first)
-        .ok_or("no text")?;
-    let second = format_rfc3339_millis(to)
-        .text(&mut second)
-        .ok_or("no text")?;
+    let first = bound_text(from, &mut first).ok_or("no text")?;
+    let second = bound_text(to, &mut second).ok_or("no text")?;
     for (line, want) in [
         ("2018-02-14T00:28:06.999Z GET /early", false),
         ("2018-02-14T00:28:07.000Z GET /", true),
@@ -27,6 +23,7 @@ fn both_filters_keep_the_same_lines(rt: HostRuntime) -> Result<(), Fail> {
     ] {
         assert_eq!(rt; keeps(line, from, to), want, "at {line}");
         assert_eq!(rt; keeps_by_bytes(line, first, second), want, "at {line}");
+        assert_eq!(rt; answers_alike(line, from, to), true, "at {line}");
     }
     Ok(())
 }
