@@ -89,6 +89,10 @@ printed_duration_reads d fits =
       answer = outcomes.outcome_accepted (chars (duration_text d)) d (reads (duration_text d) canon);
     }
 
+-- The text that is printed is the canonical one, of any number of nanoseconds.
+pub printed_is_canon : (d : ℕ) → Canon d (duration_text d)
+printed_is_canon = counts.text_is_canon
+
 -- The canonical texts of two durations are equal exactly where these are.
 pub printed_durations_differ : (a b : ℕ) → a < duration_end → b < duration_end → TextsTellApart a b
 printed_durations_differ a b fits_a fits_b = back.texts_tell_apart a b (omega arith) (omega arith)

@@ -93,6 +93,19 @@ printed_moment_reads t k small = record {
 pub printed_is : (t : ℤ) (k : ℕ) (text known : List ℕ) → k ≤ 9 → moment_text t k ≡ Some known → IsPrinted t k text → text ≡ known
 printed_is t k text known small computed printed = one_text t k text known small printed ((text_displayed t k known small).0 computed).1
 
+-- a moment of 1970 to 9999 has a printed text, which is the one that is computed
+pub printed_some : (t : ℤ) (k : ℕ) → k ≤ 9 → IsPrintable t → (text : List ℕ) × (moment_text t k ≡ Some text) × IsPrinted t k text
+printed_some t k small printable =
+    let one = one_printed t k small printable in
+    (one.text, (text_displayed t k one.text small).1 (printable, one.printed), one.printed)
+
+-- and what a printed text reads as
+pub printed_read : (t : ℤ) (k : ℕ) (text : List ℕ) → IsPrinted t k text → strict_answer text ≡ Ok (cut t k)
+printed_read t k text printed = strict_read text (cut t k) (printed_reads t k text printed).strict
+
+pub printed_read_weak : (t : ℤ) (k : ℕ) (text : List ℕ) → IsPrinted t k text → weak_answer text ≡ Ok (cut t k)
+printed_read_weak t k text printed = weak_read text (cut t k) (printed_reads t k text printed).weak
+
 -- what `Display` wrote, of a timestamp that is known by two equations
 pub displayed_as : (x : Rfc3339Timestamp) (t : ℤ) (k : ℕ) (bytes : List ℕ) → moment_kept x ≡ t → places_kept x ≡ k → IsPrintable t
     → IfSome (printed_text x) (λ text. bytes ≡ text) → IsPrinted t k bytes

@@ -1,0 +1,4 @@
+pub mod LineEnds
+pub mod PrintedRows
+pub mod Stamps
+pub mod Waits

@@ -1,0 +1,13 @@
+-- Waits that are doubled up to a cap.
+use Rattle.std.specs.Prelude.{ℕ, ◌*◌, ◌^◌, min, List, Result, Ok, Err}
+use Rattle.humantime.specs.Prelude.{Fault, duration_text}
+
+-- the wait after so many tries: the first one, doubled as often, and at most the cap
+abbrev pub wait : ℕ → ℕ → ℕ → ℕ
+wait first cap tries = min (first * 2 ^ tries) cap
+
+-- its text, if both texts are durations, or else the fault of the first that isn't
+abbrev pub wait_answer : ℕ → Result ℕ Fault → Result ℕ Fault → Result (List ℕ) Fault
+wait_answer tries (Ok first) (Ok cap) = Ok (duration_text (wait first cap tries))
+wait_answer tries (Ok first) (Err fault) = Err fault
+wait_answer tries (Err fault) cap = Err fault

@@ -1,0 +1,62 @@
+//! How long to wait before the next try: twice as long after each, and at most a cap.
+//!
+//! The first wait and the cap are read from texts, as a settings file has them. What is printed is the canonical text of
+//! the exact minimum, after any number of tries.
+//!
+//! ```text
+//! wait_text("250ms", "1min", 3, &mut [0; 64]) == Ok("2s")
+//! ```
+
+ghost use Rattle.std.specs.Prelude.{◌≡◌, ◌+◌, min, chars};
+ghost use Rattle.humantime.specs.Prelude.{duration_answer, told_text};
+ghost use Rattle.humantime_uses.specs.Retry.{wait, wait_answer};
+
+use humantime::{DurationError, StdDuration, format_duration, parse_duration};
+
+/// The text of the wait after so many tries, lent from the front of the buffer, or else the first fault of the two texts.
+pub fn wait_text<'a, 'b>(
+    first: &'a str,
+    cap: &'a str,
+    tries: u32,
+    buffer: &'b mut [u8; 64],
+) -> Result<&'b str, DurationError<'a>>
+    ensures { told_text result ≡ wait_answer tries (duration_answer (chars first.now)) (duration_answer (chars cap.now)) }
+{
+    let first = parse_duration(first)?;
+    let cap = parse_duration(cap)?;
+    Ok(format_duration(wait_after(first, cap, tries)).text(buffer))
+}
+
+/// The wait after so many tries. It is doubled no more often than it takes to reach the cap.
+fn wait_after(first: StdDuration, cap: StdDuration, tries: u32) -> StdDuration
+    ensures { result ≡ wait first cap tries }
+{
+    if first == StdDuration::ZERO {
+        return first;
+    }
+    let mut wait = shorter(first, cap);
+    for _done in 0..tries {
+        if wait == cap {
+            return cap;
+        }
+        wait = doubled(wait, cap);
+    }
+    wait
+}
+
+/// Twice a time, and at most the cap.
+fn doubled(time: StdDuration, cap: StdDuration) -> StdDuration
+    ensures { result ≡ min (time + time) cap }
+{
+    match time.checked_add(time) {
+        Some(twice) => shorter(twice, cap),
+        None => cap,
+    }
+}
+
+/// The shorter of two times.
+fn shorter(a: StdDuration, b: StdDuration) -> StdDuration
+    ensures { result ≡ min a b }
+{
+    if a < b { a } else { b }
+}
