@@ -2,10 +2,11 @@
 
 ghost use Rattle.std.specs.Prelude.{◌≡◌, ◌<◌, ◌<ℤ◌, ◌↔◌, IsTrue};
 
-use crate::tests::support::{Sink, assert_same};
+use crate::tests::support::assert_same;
 use humantime::{
     Duration, DurationError, StdDuration, SystemTime, Timestamp, TimestampError, UNIX_EPOCH,
 };
+use humantime_sink::Sink;
 use std::fmt::{self, Write};
 use std::hash::{FoldHasher, Hash, Hasher};
 use std::test::Fail;

@@ -64,8 +64,12 @@ pub judged_outcome : (text : List ℕ) → text ≢ bare_zero → judged 0 (lent
 judged_outcome text some = judged_items text ∙ sym (duration_answer-items text some)
 
 -- a text whose one character is `0` is that one byte
-pub not_zero_chars : (bs : List ℕ) → IsUtf8 bs → (bs ≡ bare_zero → ⊥) → chars bs ≢ bare_zero
+not_zero_chars : (bs : List ℕ) → IsUtf8 bs → (bs ≡ bare_zero → ⊥) → chars bs ≢ bare_zero
 not_zero_chars bs u n e = n (sym (encodes-chars bs u) ∙ ap encode_utf8_all e ∙ ap (λ (l : List ℕ). l ++ []) (encode_ascii 48 (omega arith)))
+
+-- the same of the text's bytes
+pub sum_answers : (bs : List ℕ) → IsUtf8 bs → bs ≢ bare_zero → judged 0 (lent_items (chars bs)) ≡ duration_answer (chars bs)
+sum_answers bs u n = judged_outcome (chars bs) (not_zero_chars bs u n)
 
 -- The items from a rest on are what the spans found there lend up to an end, and then what stops them.
 record LentFrom (text rest end : List ℕ) (items : List (Result Lent Fault)) (found : List Span × Option Fault) : Type 0 where

@@ -50,6 +50,7 @@ fn sum_of<'a>(text: &'a str) -> Result<StdDuration, DurationError<'a>>
     Ok(total)
 }
 
+#[tactic(auto, using(crate::proofs::Durations::Slices::LentItems::sum_answers))]
 fn outcome_of<'a>(text: &'a str) -> Result<StdDuration, DurationError<'a>>
     ensures answer { told result ≡ duration_answer (chars text.now) }
     ensures place { IfErr result (PointsInto text.now) }

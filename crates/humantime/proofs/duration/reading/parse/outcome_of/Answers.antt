@@ -1,8 +1,7 @@
-use Rattle.std.proofs.Common.{rules, ◌≡◌, ◌∙◌, sym, ap, List, ℕ}
+use Rattle.std.proofs.Common.{rules, ◌≡◌, [], ◌∷◌, sym, ap, List, ℕ, ◌∙◌}
 use Rattle.std.specs.Str.{chars}
 use Rattle.humantime.specs.Durations.Characters.{bare_zero}
 use Rattle.humantime.specs.References.Durations.Answers.{duration_answer}
-use Rattle.humantime.proofs.Durations.Slices.LentItems.{judged_outcome, not_zero_chars}
 use Rattle.humantime.proofs.duration.reading.parse.outcome_of.Goals as goal
 
 pub returns-then-eq-clause-answer : goal.returns-then-eq-clause-answer
@@ -10,8 +9,3 @@ unfolding duration_answer chars
 returns-then-eq-clause-answer c =
     let e : c.args.text.now ≡ bare_zero = search rules in
     sym (ap (λ (x : List ℕ). duration_answer (chars x)) e)
-
-pub returns-clause-answer : goal.returns-clause-answer
-returns-clause-answer c =
-    let other : c.args.text.now ≡ bare_zero → ⊥ = search rules in
-    c.sum_of.ensures.value ∙ judged_outcome (chars c.args.text.now) (not_zero_chars c.args.text.now c.utf8.text other)

@@ -1,6 +1,6 @@
 //! Texts of timestamps, and the moment or the error of each.
 
-use crate::tests::support::assert_same_at;
+use crate::support::assert_same_at;
 use humantime::{SystemTime, TimestampError, parse_rfc3339, parse_rfc3339_weak};
 use std::str;
 use std::test::Fail;

@@ -1,11 +1,12 @@
 //! Moments, and the text of each in each precision.
 
-use crate::tests::plain_calendar::{PlainDate, next_day};
-use crate::tests::support::{Sink, assert_same, assert_same_at};
+use crate::plain_calendar::{PlainDate, next_day};
+use crate::support::{assert_same, assert_same_at};
 use humantime::{
     Rfc3339Timestamp, SystemTime, Timestamp, format_rfc3339, format_rfc3339_micros,
     format_rfc3339_millis, format_rfc3339_nanos, format_rfc3339_seconds, parse_rfc3339,
 };
+use humantime_sink::Sink;
 use std::fmt::{self, Write};
 use std::process::Abort;
 use std::test::Fail;

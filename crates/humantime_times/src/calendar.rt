@@ -1,7 +1,7 @@
 //! Day numbers and dates.
 
-use crate::tests::plain_calendar::{PlainDate, next_day};
-use crate::tests::support::assert_same;
+use crate::plain_calendar::{PlainDate, next_day};
+use crate::support::assert_same;
 use humantime::{Date, Turns, date_of_day, day_number};
 
 const TABLE: [(u32, u32, u32, u32); 23] = [

@@ -1,7 +1,8 @@
 //! The errors of timestamps and their messages.
 
-use crate::tests::support::{Sink, assert_same};
+use crate::support::assert_same;
 use humantime::TimestampError;
+use humantime_sink::Sink;
 use std::fmt::Write;
 use std::test::Fail;
 

@@ -1,6 +1,6 @@
 //! The spans of a text, and what each lends of it.
 
-use crate::tests::support::assert_same_at;
+use crate::support::assert_same_at;
 use humantime::{DurationError, Span, spans};
 use std::process::Abort;
 

@@ -1,7 +1,8 @@
 //! The errors of durations: their messages, and which are equal.
 
-use crate::tests::support::{Sink, assert_same};
+use crate::support::assert_same;
 use humantime::DurationError;
+use humantime_sink::Sink;
 use std::fmt::Write;
 use std::test::Fail;
 

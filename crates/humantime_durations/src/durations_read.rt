@@ -1,7 +1,8 @@
 //! Texts of durations, and the value or the error of each.
 
-use crate::tests::support::{Sink, assert_same_at};
+use crate::support::assert_same_at;
 use humantime::{DurationError, StdDuration, parse_duration};
+use humantime_sink::Sink;
 use std::fmt::Write;
 use std::process::Abort;
 use std::test::Fail;

@@ -1,7 +1,8 @@
 //! Durations, and the text of each.
 
-use crate::tests::support::{Sink, assert_same, assert_same_at};
+use crate::support::{assert_same, assert_same_at};
 use humantime::{DurationError, StdDuration, canonical, format_duration, parse_duration};
+use humantime_sink::Sink;
 use std::fmt::{self, Write};
 use std::test::Fail;
 
