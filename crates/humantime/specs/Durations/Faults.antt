@@ -1,6 +1,6 @@
 -- The first fault of a text that is not accepted. A text is its list of characters; offsets count its bytes.
 use Rattle.std.specs.Prelude.{◌≡◌, ◌≢◌, ◌⊎◌, ◌==◌, ◌&&◌, ℕ, Bool, true, false, List, [], ◌∷◌, ◌++◌, Some, None, IsSome, bytes_eq}
-use Rattle.humantime.specs.Durations.Characters.{is_ws, is_digit, is_numeric, begins, ends, decimal_value, offset_of, byte_length}
+use Rattle.humantime.specs.Durations.Characters.{is_ws, is_digit, is_numeric, begins, ends, decimal_value, offset_of, byte_length, bare_zero}
 use Rattle.humantime.specs.Durations.Units.{scale_of_word}
 use Rattle.humantime.specs.Durations.Spans.{Span, Front}
 use Rattle.humantime.specs.Durations.Limits.{IsShort, WithinLimits}

@@ -1,8 +1,8 @@
 -- What a span lends of its text, which is its list of characters.
 use Rattle.std.specs.Prelude.{◌≡◌, ℕ, true, List, [], ◌∷◌, ◌++◌, Option, Some, None, Result, Ok, Err}
-use Rattle.humantime.specs.Durations.Characters.{is_ws, is_digit, begins, ends, decimal_value, offset_of, is_letter, is_numeric, digits}
-use Rattle.humantime.specs.Durations.Spans.{Span, Only, Spells, SpellsThen}
-use Rattle.humantime.specs.Durations.Faults.{Fault, ItemsAt}
+use Rattle.humantime.specs.Durations.Characters.{is_ws, is_digit, begins, ends, decimal_value, offset_of}
+use Rattle.humantime.specs.Durations.Spans.{Span, Only, Spells}
+use Rattle.humantime.specs.Durations.Faults.{Fault}
 use Rattle.std.specs.Str.{byte}
 use Rattle.humantime.specs.Durations.Items.{ItemsAt}
 

@@ -2,9 +2,7 @@
 use Rattle.std.specs.Prelude.{◌≡◌, ◌≢◌, ℕ, Bool, true, List, [], ◌∷◌, ◌++◌, Option, Some, None}
 use Rattle.std.specs.List.{AllByRecursion}
 use Rattle.std.specs.Str.{byte}
-use Rattle.humantime.specs.Values.Amounts.{nanos_per_second}
-use Rattle.humantime.specs.Durations.Characters.{is_ws, is_letter, is_numeric, is_digit, begins, digits, decimal_value, significant, u64_max, bare_zero}
-use Rattle.humantime.specs.Durations.Units.{Scale, scale_of_word}
+use Rattle.humantime.specs.Durations.Characters.{is_ws, is_letter, is_numeric, is_digit, begins, digits}
 
 -- What a span says: the digits of its number, those of its fraction if it has one, and its word.
 pub record Span : Type 0 where

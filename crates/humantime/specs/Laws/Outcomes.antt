@@ -1,6 +1,6 @@
 -- What a text is: one value or one fault, one list of spans, one list of items, one list of slices; and what its items
 -- decide. A text is its list of characters.
-use Rattle.std.specs.Prelude.{◌≡◌, ◌≢◌, ◌↔◌, ◌⊎◌, ℕ, List, [], ◌∷◌, Option, Some, None, Result}
+use Rattle.std.specs.Prelude.{◌≡◌, ◌≢◌, ◌↔◌, ◌⊎◌, ℕ, List, Option, Some, None, Result}
 use Rattle.humantime.specs.Durations.Spans.{Span, Reads}
 use Rattle.humantime.specs.Durations.Sums.{value}
 use Rattle.humantime.specs.Durations.Limits.{WithinLimits}
@@ -8,6 +8,7 @@ use Rattle.humantime.specs.Durations.Accepted.{Accepted}
 use Rattle.humantime.specs.Durations.Faults.{Fault, NumberOverflow, HasFault}
 use Rattle.humantime.specs.Durations.Items.{Items}
 use Rattle.humantime.specs.Durations.Slices.{Lent, AreItems}
+use Rattle.humantime.specs.Durations.Characters.{bare_zero}
 
 -- the text has this value or fault, and no other
 abbrev pub OnlyValue : List ℕ → ℕ → Type 0

@@ -1,7 +1,7 @@
 -- Laws of accepted texts: without their white space, one behind the other, and with their spans in another order. A text
 -- is its list of characters.
-use Rattle.std.specs.Prelude.{◌≡◌, ◌≢◌, ◌↔◌, ◌⊎◌, ℕ, ◌+◌, List, ◌++◌, codes, filter, not, IsPermutation}
-use Rattle.humantime.specs.Durations.Characters.{is_ws}
+use Rattle.std.specs.Prelude.{◌≡◌, ◌≢◌, ◌↔◌, ◌⊎◌, ℕ, ◌+◌, List, ◌++◌, filter, not, IsPermutation}
+use Rattle.humantime.specs.Durations.Characters.{is_ws, bare_zero}
 use Rattle.humantime.specs.Durations.Spans.{Span, Reads}
 use Rattle.humantime.specs.Durations.Sums.{additions}
 use Rattle.humantime.specs.Durations.Limits.{AllHaveRoom}

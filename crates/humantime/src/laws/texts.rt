@@ -2,8 +2,6 @@
 
 ghost use Rattle.std.specs.Prelude.{◌≡◌, ◌++◌, chars, codes};
 ghost use Rattle.humantime.specs.Durations.Characters.{bare_zero};
-ghost use Rattle.humantime.specs.Durations.Older.{IsStillAccepted};
-ghost use Rattle.humantime.specs.Durations.TextLaws.{NeedsNoWhiteSpace, IsZeroOrSpans, JoinedHaveSum, JoinedOverflow, JoinedHaveSumOrOverflow, ReorderedHaveOneValue, HasNoSpans};
 ghost use Rattle.humantime.specs.Laws.Older.{IsStillAccepted};
 ghost use Rattle.humantime.specs.Laws.Texts.{NeedsNoWhiteSpace, IsZeroOrSpans, JoinedHaveSum, JoinedOverflow, JoinedHaveSumOrOverflow, ReorderedHaveOneValue, HasNoSpans};
 

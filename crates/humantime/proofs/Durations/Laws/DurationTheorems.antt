@@ -4,9 +4,8 @@ use Rattle.humantime.specs.declared.duration.error.DurationError.{DurationError}
 use Rattle.humantime.specs.Values.Amounts.{duration_end}
 use Rattle.humantime.specs.Durations.Errors.{told}
 use Rattle.humantime.specs.Durations.Accepted.{Accepted}
-use Rattle.humantime.specs.Durations.Faults.{Fault, HasFault}
+use Rattle.humantime.specs.Durations.Faults.{Fault, HasFault, fault_eq}
 use Rattle.humantime.specs.Laws.Outcomes.{OneOutcome, OneReading, OneListOfItems, ItemsDecideValue, ItemsDecideFault, ItemsDecideOverflow, OneListOfSlices}
-use Rattle.humantime.specs.Durations.Faults.{fault_eq}
 use Rattle.humantime.specs.References.Durations.FaultEqualityLemmas.{fault_eq-sound, fault_eq-same}
 use Rattle.humantime.specs.Durations.Counts.{Canon}
 use Rattle.humantime.specs.Durations.Canonical.{IsCanonicalOf}

@@ -7,7 +7,7 @@ use Rattle.std.proofs.lemmas.Str.{chars-IsAscii}
 use Rattle.std.proofs.lemmas.List.Sums.{sum_by-cons}
 use Rattle.humantime.specs.Values.Amounts.{nanos_per_second}
 use Rattle.humantime.specs.Durations.Characters.{u64_max, bare_zero}
-use Rattle.humantime.specs.Durations.Spans.{Span, Reads, Addition, nanos_of, total, additions_of, additions, Accepted}
+use Rattle.humantime.specs.Durations.Spans.{Span, Reads}
 use Rattle.humantime.specs.Durations.Sums.{Addition, addition_nanos, total, additions_of, additions}
 use Rattle.humantime.specs.Durations.Accepted.{Accepted}
 use Rattle.humantime.specs.Durations.Counts.{weights, weighted_sum, Suffix, suffixes, printed_counts, joined_by_space, Canon}

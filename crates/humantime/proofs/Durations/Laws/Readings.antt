@@ -3,8 +3,8 @@ use Rattle.std.proofs.Common.{◌≡◌, ◌≢◌, ℕ, ◌+◌, List, [], ◌�
 use Rattle.std.proofs.lemmas.List.Sorted.{sum_by-IsPermutation}
 use Rattle.std.proofs.lemmas.List.Sums.{sum_by-cons}
 use Rattle.humantime.specs.Durations.Characters.{bare_zero}
-use Rattle.humantime.specs.Durations.Spans.{Span, Reads, total, additions_of, Good, value, Accepted}
-use Rattle.humantime.specs.Durations.Faults.{Fault, HasFault, Items}
+use Rattle.humantime.specs.Durations.Spans.{Span, Reads}
+use Rattle.humantime.specs.Durations.Faults.{Fault, HasFault}
 use Rattle.humantime.specs.Durations.Sums.{total, additions_of, value}
 use Rattle.humantime.specs.Durations.Limits.{WithinLimits}
 use Rattle.humantime.specs.Durations.Accepted.{Accepted}

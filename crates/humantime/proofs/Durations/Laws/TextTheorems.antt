@@ -4,7 +4,7 @@ use Rattle.std.proofs.Common.{◌↔◌, ℕ, ◌+◌, ◌/◌, ◌≤◌, List,
 use Rattle.std.specs.List.{AllByRecursion}
 use Rattle.humantime.specs.Values.Amounts.{nanos_per_second}
 use Rattle.humantime.specs.Durations.Characters.{is_ws, u64_max, bare_zero}
-use Rattle.humantime.specs.Durations.Spans.{Span, Only, Front, Reads, additions, AllHaveRoom, Accepted}
+use Rattle.humantime.specs.Durations.Spans.{Span, Only, Front, Reads}
 use Rattle.humantime.specs.Durations.Sums.{additions}
 use Rattle.humantime.specs.Durations.Limits.{AllHaveRoom}
 use Rattle.humantime.specs.Durations.Accepted.{Accepted}

@@ -1,9 +1,8 @@
 -- The counts by division are the greatest, and no others are.
 use Rattle.std.proofs.Common.{◌≡◌, inl, inr, ℕ, suc, ◌+◌, ◌*◌, ◌/◌, ◌%◌, ◌<◌, ◌≤◌, List, [], ◌∷◌, length, refl, ap, sym, ◌∙◌, arith}
-use Rattle.std.proofs.Math.Nat.{mul_comm}
+use Rattle.std.proofs.Math.Nat.{mul_comm, div-add-mod}
 use Rattle.std.proofs.lemmas.Nat.{le-div, mod_below}
 use Rattle.std.proofs.lemmas.Bool.{cases_lt}
-use Rattle.std.proofs.Math.Nat.{div-add-mod}
 use Rattle.humantime.specs.Durations.Counts.{weights, weighted_sum, IsBefore, AreGreatest, Counts, Canon, suffixes, printed_counts, joined_by_space}
 use Rattle.humantime.specs.References.Durations.Printing.{divided, duration_text}
 

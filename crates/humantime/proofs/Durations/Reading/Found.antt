@@ -3,8 +3,8 @@ use Rattle.std.proofs.Common.{◌≡◌, ◌≢◌, ◌⊎◌, ℕ, zero, suc, �
 use Rattle.std.specs.List.{AllByRecursion}
 use Rattle.std.proofs.lemmas.Bool.{cases_Bool}
 use Rattle.humantime.specs.Durations.Characters.{is_ws, is_digit, begins, past, leading, offset_of, bare_zero}
-use Rattle.humantime.specs.Durations.Spans.{Span, Spells, SpellsEach, Front, Formed, total, additions_of, value}
-use Rattle.humantime.specs.Durations.Faults.{Fault, NumberExpected, NumberOverflow, Empty, Split, HasFault, Stops, No_number, Nothing_there, Items, ItemsAt, EndsInSpace, after_word, span_of}
+use Rattle.humantime.specs.Durations.Spans.{Span, Spells, SpellsEach, Front}
+use Rattle.humantime.specs.Durations.Faults.{Fault, NumberExpected, NumberOverflow, Empty, Split, HasFault, Stops, No_number, Nothing_there, EndsInSpace}
 use Rattle.humantime.specs.Durations.Sums.{total, additions_of, value}
 use Rattle.humantime.specs.Durations.Limits.{Formed}
 use Rattle.humantime.specs.Durations.Rests.{after_word, span_of}

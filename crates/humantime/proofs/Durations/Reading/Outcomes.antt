@@ -5,8 +5,8 @@ use Rattle.std.specs.Str.{bytes_eq}
 use Rattle.std.proofs.lemmas.Bool.{cases_Bool, false≢true}
 use Rattle.std.proofs.lemmas.Slice.Eq.{bytes_eq-Decides}
 use Rattle.humantime.specs.Durations.Characters.{is_digit, bare_zero}
-use Rattle.humantime.specs.Durations.Spans.{Span, Front, Reads, Formed, Good, value, Accepted, Bare_zero, Sum_of}
-use Rattle.humantime.specs.Durations.Faults.{Fault, NumberOverflow, Stops, Overflows, HasFault, Items, OneOutcome, OnlyValue, OnlyFault, OneListOfItems, span_of}
+use Rattle.humantime.specs.Durations.Spans.{Span, Front, Reads}
+use Rattle.humantime.specs.Durations.Faults.{Fault, NumberOverflow, Stops, Overflows, HasFault}
 use Rattle.humantime.specs.Durations.Sums.{value}
 use Rattle.humantime.specs.Durations.Limits.{Formed, WithinLimits}
 use Rattle.humantime.specs.Durations.Accepted.{Accepted, Bare_zero, Sum_of}

@@ -1,7 +1,7 @@
 -- The list of what the items of a text lend.
 use Rattle.std.proofs.Common.{◌≡◌, ◌≢◌, ◌++◌, IsUtf8, chars, encode_utf8_all, arith, ℕ, zero, suc, true, List, [], ◌∷◌, length, Option, Some, None, Result, Ok, Err, refl, sym, ap, ap₂, subst, subst₂, ◌∙◌}
 use Rattle.std.proofs.lemmas.Str.{encodes-chars, encode_ascii}
-use Rattle.humantime.specs.Durations.Characters.{is_ws, is_digit, begins, past, offset_of, leading, bare_zero}
+use Rattle.humantime.specs.Durations.Characters.{is_ws, is_digit, begins, past, offset_of, bare_zero}
 use Rattle.humantime.specs.Durations.Spans.{Span}
 use Rattle.humantime.specs.Durations.Rests.{span_of}
 use Rattle.humantime.specs.Durations.Faults.{Fault, NumberExpected, NumberOverflow, Empty}

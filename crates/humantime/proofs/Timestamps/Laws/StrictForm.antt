@@ -1,8 +1,7 @@
 -- A text in strict form is one in weak form with a `T` and a zone at its end.
 use Rattle.std.proofs.Common.{◌≡◌, ◌≢◌, ℕ, ◌+◌, ◌-◌, ◌<◌, ◌≤◌, ◌⊎◌, inl, inr, List, [], ◌++◌, length, drop, refl, sym, ap, subst, ◌∙◌, arith, length-append}
-use Rattle.std.specs.Prelude.{true, ◌&&◌, ◌==◌, codes, slice_index}
+use Rattle.std.specs.Prelude.{true, ◌&&◌, ◌==◌, codes, slice_index, nat_eq, nat_le}
 use Rattle.std.specs.List.{AllByRecursion, ends_with}
-use Rattle.std.specs.Prelude.{nat_eq, nat_le}
 use Rattle.std.proofs.lemmas.Bool.{and_parts, and_from, or_cases, or_left, or_right, eqb-true, eq-eqb, le-leb}
 use Rattle.std.proofs.lemmas.List.Prefix.{end_rest}
 use Rattle.std.proofs.lemmas.Slice.Eq.{bytes_eq-Decides}

@@ -4,8 +4,7 @@ use Rattle.std.specs.Prelude.{◌==◌, bytes_eq}
 use Rattle.std.specs.Cmp.{IsPartialEquivalence}
 use Rattle.std.proofs.lemmas.Bool.{false≢true, and_parts, and_from, eqb-true, eq-eqb}
 use Rattle.std.proofs.lemmas.Slice.Eq.{bytes_eq-Decides}
-use Rattle.humantime.specs.Durations.Faults.{Fault, InvalidCharacter, NumberExpected, UnknownUnit, NumberOverflow, Empty}
-use Rattle.humantime.specs.Durations.Faults.{fault_eq}
+use Rattle.humantime.specs.Durations.Faults.{Fault, InvalidCharacter, NumberExpected, UnknownUnit, NumberOverflow, Empty, fault_eq}
 
 -- two units alike
 unit_same : (a b c d : ℕ) (u w : List ℕ) (v x : ℕ) → ((((a == c) && (b == d)) && bytes_eq u w) && (v == x)) ≡ true → UnknownUnit a b u v ≡ UnknownUnit c d w x

@@ -1,6 +1,5 @@
 -- The parts that the bytes show, place by place, where no check fails.
-use Rattle.std.specs.Prelude.{ℕ, ◌+◌, ◌*◌, ◌≤◌, min, Bool, ◌&&◌, ◌==◌, if◌then◌else◌, ℤ, pos, Option, Some, None, Result, Ok, Err}
-use Rattle.std.specs.Prelude.{List, [], ◌∷◌, take, drop, slice_index, codes}
+use Rattle.std.specs.Prelude.{ℕ, ◌+◌, ◌*◌, ◌≤◌, min, Bool, ◌&&◌, ◌==◌, if◌then◌else◌, ℤ, pos, Option, Some, None, Result, Ok, Err, List, [], ◌∷◌, take, drop, slice_index, codes}
 use Rattle.std.specs.Char.{is_ascii_digit}
 use Rattle.std.specs.List.{list_all}
 use Rattle.std.specs.Str.{byte, bytes_eq}
@@ -9,10 +8,8 @@ use Rattle.humantime.specs.declared.date.error.TimestampError.{TimestampError}
 use Rattle.humantime.specs.declared.date.parse.Numbers.{Numbers}
 use Rattle.humantime.specs.Calendar.Dates.{IsDate, day_of}
 use Rattle.humantime.specs.declared.date.error.TimestampError.TheVariants.{InvalidDigit, InvalidFormat}
-use Rattle.humantime.specs.Timestamps.Fields.{Letter_T, Space, Zone, Nothing, Letter_Z, Offset, Fields}
-use Rattle.humantime.specs.Timestamps.Fields.{fraction_digits, fraction_nanos, moment_of}
-use Rattle.humantime.specs.Timestamps.Checks.{digit_places, number, past_digits, is_zone, has_point, ends_whole, ends_fraction}
-use Rattle.humantime.specs.Timestamps.Checks.{weak_checks, strict_checks, first_failed}
+use Rattle.humantime.specs.Timestamps.Fields.{Letter_T, Space, Zone, Nothing, Letter_Z, Offset, Fields, fraction_digits, fraction_nanos, moment_of}
+use Rattle.humantime.specs.Timestamps.Checks.{digit_places, number, past_digits, is_zone, has_point, ends_whole, ends_fraction, weak_checks, strict_checks, first_failed}
 
 -- two digits from place k on
 unfoldable pub has_two : List ℕ → ℕ → Bool

@@ -1,4 +1,4 @@
-use Rattle.std.proofs.Common.{rules, ◌≡◌, [], ◌∷◌, sym, ap, List, ℕ, ◌∙◌}
+use Rattle.std.proofs.Common.{rules, ◌≡◌, sym, ap, List, ℕ}
 use Rattle.std.specs.Str.{chars}
 use Rattle.humantime.specs.Durations.Characters.{bare_zero}
 use Rattle.humantime.specs.References.Durations.Answers.{duration_answer}

@@ -1,6 +1,5 @@
-use Rattle.std.proofs.Common.{◌≡◌, sym, ap, subst, ◌∙◌}
+use Rattle.std.proofs.Common.{sym, subst, ◌∙◌}
 use Rattle.humantime.specs.Durations.Counts.{Canon}
-use Rattle.humantime.specs.References.Durations.Printing.{duration_text}
 use Rattle.humantime.proofs.Durations.Printing.GreatestCounts.{text_is_canon}
 use Rattle.humantime.proofs.duration.printing.print.FormattedDuration.text.Goals as goal
 
