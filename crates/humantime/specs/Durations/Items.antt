@@ -6,14 +6,10 @@ use Rattle.humantime.specs.Durations.Spans.{Span}
 use Rattle.humantime.specs.Durations.Limits.{Formed}
 use Rattle.humantime.specs.Durations.Faults.{Fault, Split, Stops}
 
--- The front of the text is these spans, each well formed, and behind it the text ends or stops at a fault.
-pub record ItemsAt (text front rest : List ℕ) (spans : List Span) (stop : Option Fault) : Type 0 where
-  pub split : Split text front spans rest
-  pub formed : AllByRecursion Formed spans
-  pub ends : ((rest ≡ []) × (spans ≢ []) × (stop ≡ None)) ⊎ ((e : Fault) × (stop ≡ Some e) × Stops text front spans rest e)
-
--- The text is these spans, and then it ends or stops at this fault.
+-- The front of the text is these spans, each well formed, and behind it the text ends, or stops at this fault.
 pub record Items (text : List ℕ) (spans : List Span) (stop : Option Fault) : Type 0 where
   pub front : List ℕ
   pub rest : List ℕ
-  pub are : ItemsAt text front rest spans stop
+  pub split : Split text front spans rest
+  pub formed : AllByRecursion Formed spans
+  pub ends : ((rest ≡ []) × (spans ≢ []) × (stop ≡ None)) ⊎ ((e : Fault) × (stop ≡ Some e) × Stops text front spans rest e)

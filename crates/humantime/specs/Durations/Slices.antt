@@ -3,8 +3,8 @@ use Rattle.std.specs.Prelude.{◌≡◌, ℕ, true, List, [], ◌∷◌, ◌++�
 use Rattle.humantime.specs.Durations.Characters.{is_ws, is_digit, begins, ends, decimal_value, offset_of}
 use Rattle.humantime.specs.Durations.Spans.{Span, Only, Spells}
 use Rattle.humantime.specs.Durations.Faults.{Fault}
+use Rattle.humantime.specs.Durations.Items.{Items, ItemsAt}
 use Rattle.std.specs.Str.{byte}
-use Rattle.humantime.specs.Durations.Items.{ItemsAt}
 
 -- The slices of the number, of the fraction and of the word, the offsets where the number begins and where the word
 -- ends, and the number itself.
@@ -60,8 +60,6 @@ pub record AreItems (text : List ℕ) (lent : List (Result Lent Fault)) : Type 0
   pub spans : List Span
   pub stop : Option Fault
   pub slices : List Lent
-  pub front : List ℕ
-  pub rest : List ℕ
-  pub items : ItemsAt text front rest spans stop
+  pub items : Items text spans stop
   pub are : lent ≡ items_of slices stop
-  pub each : LendsEach text (items.split.read.body ++ rest) spans slices rest
+  pub each : LendsEach text (items.split.read.body ++ items.rest) spans slices items.rest

@@ -8,6 +8,7 @@ use Rattle.humantime.specs.Durations.Faults.{Fault, NumberExpected, NumberOverfl
 use Rattle.humantime.specs.Durations.Sums.{total, additions_of, value}
 use Rattle.humantime.specs.Durations.Limits.{Formed}
 use Rattle.humantime.specs.Durations.Rests.{after_word, span_of}
+use Rattle.humantime.specs.Durations.Faults.{Fault, NumberExpected, NumberOverflow, Empty, Split, HasFault, Stops, No_number, Nothing_there, EndsInSpace}
 use Rattle.humantime.specs.Durations.Items.{Items, ItemsAt}
 use Rattle.humantime.specs.References.Durations.Reading.{stop_at, read, items}
 use Rattle.humantime.proofs.Durations.Reading.Runs.{ends-append, leading-past, Only-leading, begins-past}
@@ -71,6 +72,12 @@ read_on text front rest spans r d f =
 sum_push : (ss : List Span) (s : Span) → 0 + value (ss ++ s ∷ []) ≡ (0 + value ss) + total (additions_of s)
 sum_push ss s = omega (arith, value-append ss (s ∷ []), value-cons s [])
 
+-- the items of a text whose front and rest are these
+pub record ItemsAt (text front rest : List ℕ) (spans : List Span) (stop : Option Fault) : Type 0 where
+  pub split : Split text front spans rest
+  pub formed : AllByRecursion Formed spans
+  pub ends : ((rest ≡ []) × (spans ≢ []) × (stop ≡ None)) ⊎ ((e : Fault) × (stop ≡ Some e) × Stops text front spans rest e)
+
 -- what the reading gives from here on up to an end, after the spans that stand before
 abbrev pub ItemsAfter : List ℕ → List Span → List ℕ → List Span × Option Fault → Type 0
 ItemsAfter text spans end r = (front : List ℕ) × ItemsAt text front end (spans ++ r.0) r.1
@@ -131,7 +138,9 @@ pub items_found_at : (text : List ℕ) → ItemsAfter text [] (unread_of text) (
 items_found_at text = found_from text (past is_ws text) refl
 
 pub items_found : (text : List ℕ) → Items text (items text).0 (items text).1
-items_found text = let i = items_found_at text in record { front = i.0; rest = unread_of text; are = i.1 }
+items_found text =
+    let i = items_found_at text in
+    record { front = i.0; rest = unread_of text; split = i.1.split; formed = i.1.formed; ends = i.1.ends }
 
 -- the reading is too large from here on
 abbrev IsTooLarge : List Span → List Span × Option Fault → Type 0

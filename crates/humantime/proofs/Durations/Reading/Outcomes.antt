@@ -4,13 +4,13 @@ use Rattle.std.specs.List.{AllByRecursion}
 use Rattle.std.specs.Str.{bytes_eq}
 use Rattle.std.proofs.lemmas.Bool.{cases_Bool, false≢true}
 use Rattle.std.proofs.lemmas.Slice.Eq.{bytes_eq-Decides}
-use Rattle.humantime.specs.Durations.Characters.{is_digit, bare_zero}
+use Rattle.humantime.specs.Durations.Characters.{is_digit}
 use Rattle.humantime.specs.Durations.Spans.{Span, Front, Reads}
-use Rattle.humantime.specs.Durations.Faults.{Fault, NumberOverflow, Stops, Overflows, HasFault}
 use Rattle.humantime.specs.Durations.Sums.{value}
 use Rattle.humantime.specs.Durations.Limits.{Formed, WithinLimits}
 use Rattle.humantime.specs.Durations.Accepted.{Accepted, Bare_zero, Sum_of}
 use Rattle.humantime.specs.Durations.Rests.{span_of}
+use Rattle.humantime.specs.Durations.Faults.{Fault, NumberOverflow, Stops, Overflows, HasFault}
 use Rattle.humantime.specs.Durations.Items.{Items}
 use Rattle.humantime.specs.Laws.Outcomes.{OneOutcome, OnlyValue, OnlyFault, OneListOfItems, ItemsDecideValue, ItemsDecideFault, ItemsDecideOverflow}
 use Rattle.humantime.specs.References.Durations.Reading.{with_span, read, items, settle}
@@ -35,21 +35,21 @@ err_same : (e f : Fault) → ◌≡◌ {A = Result ℕ Fault} (Err e) (Err f) �
 err_same e f h = cc
 
 -- the text 0, and every other
-pub duration_answer-zero : duration_answer bare_zero ≡ Ok 0
+pub duration_answer-zero : duration_answer (bare_zero) ≡ Ok 0
 unfolding duration_answer
 duration_answer-zero = refl
 
 pub duration_answer-items : (text : List ℕ) → text ≢ bare_zero → duration_answer text ≡ settle 0 (items text).0 (items text).1
 unfolding duration_answer
-duration_answer-items text some = elim (cases_Bool (bytes_eq text bare_zero)) [
-  | inl e ↦ absurd (some ((bytes_eq-Decides text bare_zero).0 e))
+duration_answer-items text some = elim (cases_Bool (bytes_eq text (bare_zero))) [
+  | inl e ↦ absurd (some ((bytes_eq-Decides text (bare_zero)).0 e))
   | inr e ↦ rw e
 ]
 
 pub zero_or_not : (text : List ℕ) → (text ≡ bare_zero) ⊎ (text ≢ bare_zero)
-zero_or_not text = elim (cases_Bool (bytes_eq text bare_zero)) [
-  | inl e ↦ inl ((bytes_eq-Decides text bare_zero).0 e)
-  | inr e ↦ inr (λ h. false≢true (sym e ∙ (bytes_eq-Decides text bare_zero).1 h))
+zero_or_not text = elim (cases_Bool (bytes_eq text (bare_zero))) [
+  | inl e ↦ inl ((bytes_eq-Decides text (bare_zero)).0 e)
+  | inr e ↦ inr (λ h. false≢true (sym e ∙ (bytes_eq-Decides text (bare_zero)).1 h))
 ]
 
 -- whatever the items are, they settle the outcome
@@ -61,17 +61,17 @@ outcome_within text spans stop some h g =
     outcome_settled text spans stop some h ∙ settle_within 0 spans stop g.formed (from_WithinLimits spans g) ∙ ap (λ (n : ℕ). ended n stop) (omega arith)
 
 pub outcome_beyond : (text : List ℕ) (spans : List Span) (stop : Option Fault) → text ≢ bare_zero → Items text spans stop → ¬ (WithinLimits spans) → duration_answer text ≡ Err NumberOverflow
-outcome_beyond text spans stop some h bad = outcome_settled text spans stop some h ∙ settle_beyond 0 spans stop h.are.formed (λ g. bad (WithinLimits_from spans h.are.formed g))
+outcome_beyond text spans stop some h bad = outcome_settled text spans stop some h ∙ settle_beyond 0 spans stop h.formed (λ g. bad (WithinLimits_from spans h.formed g))
 
 -- a text that is read whole stops nowhere
 pub items_whole : (text : List ℕ) (spans : List Span) → Reads text spans → AllByRecursion Formed spans → Items text spans None
-items_whole text spans h f = record { front = text; rest = []; are = record { split = split_whole text spans h.0; formed = f; ends = inl (refl, h.1, refl) } }
+items_whole text spans h f = record { front = text; rest = []; split = split_whole text spans h.0; formed = f; ends = inl (refl, h.1, refl) }
 
 pub reads_whole : (text : List ℕ) (spans : List Span) → Items text spans None → Reads text spans
-reads_whole text spans h = elim h.are.ends [
+reads_whole text spans h = elim h.ends [
   | inl o ↦
-      let e : h.front ≡ text = sym (h.are.split.whole ∙ ap (λ (x : List ℕ). h.front ++ x) o.0 ∙ append-nil h.front) in
-      (subst (λ t. Front t spans) e h.are.split.read, o.1)
+      let e : h.front ≡ text = sym (h.split.whole ∙ ap (λ (x : List ℕ). h.front ++ x) o.0 ∙ append-nil h.front) in
+      (subst (λ t. Front t spans) e h.split.read, o.1)
   | inr o ↦ let e = o.1 in cc
 ]
 
@@ -82,7 +82,7 @@ outcome_accepted text v (Sum_of spans reads within sum) =
 
 stop_outcome : (text : List ℕ) (e : Fault) (h : HasFault text e) → Stops text h.front h.spans h.rest e → duration_answer text ≡ Err e
 stop_outcome text e h s =
-    outcome_within text h.spans (Some e) h.not_zero (record { front = h.front; rest = h.rest; are = record { split = h.split; formed = h.within.formed; ends = inr (e, refl, s) } }) h.within
+    outcome_within text h.spans (Some e) h.not_zero (record { front = h.front; rest = h.rest; split = h.split; formed = h.within.formed; ends = inr (e, refl, s) }) h.within
 
 -- the spans before the rest are within the limits, and not with the one that begins it
 over_settled : (n : ℕ) (text rest : List ℕ) (spans : List Span) → WithinLimits spans → Overflows spans rest → length rest ≤ n
@@ -115,11 +115,11 @@ within_value text spans None v h g e = (refl, Sum_of spans (reads_whole text spa
 within_value text spans (Some f) v h g e = cc
 
 pub within_fault : (text : List ℕ) (spans : List Span) (stop : Option Fault) (e : Fault) → text ≢ bare_zero → Items text spans stop → WithinLimits spans → stop ≡ Some e → HasFault text e
-within_fault text spans stop e some h g is = elim h.are.ends [
+within_fault text spans stop e some h g is = elim h.ends [
   | inl o ↦ let n = o.2 in cc
   | inr o ↦
       let same : o.0 ≡ e = let p = o.1 in cc in
-      record { not_zero = some; front = h.front; rest = h.rest; spans = spans; split = h.are.split; within = g; fault = inl (subst (λ x. Stops text h.front spans h.rest x) same o.2) }
+      record { not_zero = some; front = h.front; rest = h.rest; spans = spans; split = h.split; within = g; fault = inl (subst (λ x. Stops text h.front spans h.rest x) same o.2) }
 ]
 
 ended_value : (v : ℕ) (stop : Option Fault) (w : ℕ) → ended v stop ≡ Ok w → v ≡ w
@@ -137,7 +137,7 @@ within_or_beyond spans f = elim (within_or_not 0 spans f) [ inl g ↦ inl (Withi
 accepted_read : (text : List ℕ) (v : ℕ) → text ≢ bare_zero → duration_answer text ≡ Ok v → Accepted text v
 accepted_read text v some h =
     let i = items_found text in
-    elim (within_or_beyond (items text).0 i.are.formed) [
+    elim (within_or_beyond (items text).0 i.formed) [
       | inl g ↦ (within_value text (items text).0 (items text).1 v i g (sym (outcome_within text (items text).0 (items text).1 some i g) ∙ h)).1
       | inr b ↦ let e = outcome_beyond text (items text).0 (items text).1 some i b in cc
     ]
@@ -151,11 +151,11 @@ accepted_from_outcome text v h = elim (zero_or_not text) [
 fault_read : (text : List ℕ) (e : Fault) → text ≢ bare_zero → duration_answer text ≡ Err e → HasFault text e
 fault_read text e some h =
     let i = items_found text in
-    elim (within_or_beyond (items text).0 i.are.formed) [
+    elim (within_or_beyond (items text).0 i.formed) [
       | inl g ↦ within_fault text (items text).0 (items text).1 e some i g (ended_fault (value (items text).0) (items text).1 e (sym (outcome_within text (items text).0 (items text).1 some i g) ∙ h))
       | inr b ↦
           let is : NumberOverflow ≡ e = err_same NumberOverflow e (sym (outcome_beyond text (items text).0 (items text).1 some i b) ∙ h) in
-          subst (HasFault text) is (too_large_found text some (λ g. b (WithinLimits_from (items text).0 i.are.formed g)))
+          subst (HasFault text) is (too_large_found text some (λ g. b (WithinLimits_from (items text).0 i.formed g)))
     ]
 
 pub fault_from_outcome : (text : List ℕ) (e : Fault) → duration_answer text ≡ Err e → HasFault text e
@@ -189,7 +189,7 @@ one_list_of_items text = ((items text).0, (items text).1, items_found text, λ s
 
 -- the items decide the value, the fault, and that they are too large
 value_only : (text : List ℕ) (spans : List Span) (stop : Option Fault) (v : ℕ) → text ≢ bare_zero → Items text spans stop → duration_answer text ≡ Ok v → (stop ≡ None) × WithinLimits spans × (value spans ≡ v)
-value_only text spans stop v some h o = elim (within_or_beyond spans h.are.formed) [
+value_only text spans stop v some h o = elim (within_or_beyond spans h.formed) [
   | inl g ↦
       let e = sym (outcome_within text spans stop some h g) ∙ o in
       ((within_value text spans stop v h g e).0, g, ended_value (value spans) stop v e)

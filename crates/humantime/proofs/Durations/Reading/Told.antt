@@ -190,4 +190,4 @@ told_at text front (c ∷ cs) spans stop h f o = told_some text front (c ∷ cs)
 
 -- whatever the items of a text are, the reading gives these
 pub items_told : (text : List ℕ) (spans : List Span) (stop : Option Fault) → Items text spans stop → items text ≡ (spans, stop)
-items_told text spans stop h = told_at text h.front h.rest spans stop h.are.split h.are.formed h.are.ends
+items_told text spans stop h = told_at text h.front h.rest spans stop h.split h.formed h.ends

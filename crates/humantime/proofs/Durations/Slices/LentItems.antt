@@ -126,9 +126,7 @@ are_items text =
       spans = (items text).0;
       stop = (items text).1;
       slices = f.xs;
-      front = i.0;
-      rest = unread_of text;
-      items = i.1;
+      items = record { front = i.0; rest = unread_of text; split = i.1.split; formed = i.1.formed; ends = i.1.ends };
       are = f.are;
       each = subst (λ (l : List ℕ). LendsEach text l (items text).0 f.xs (unread_of text)) begun f.each;
     }
@@ -136,15 +134,17 @@ are_items text =
 -- two lists that lend the same spans and stop alike are one
 same_lent : (text : List ℕ) (xs ys : List (Result Lent Fault)) (a : AreItems text xs) (b : AreItems text ys) → a.spans ≡ b.spans → a.stop ≡ b.stop → xs ≡ ys
 same_lent text xs ys a b p q =
-    let m = a.items.split.read.body ++ a.rest in
-    let n = b.items.split.read.body ++ b.rest in
-    let from = sym (front_begins text a.front a.rest a.spans a.items.split) ∙ front_begins text b.front b.rest b.spans b.items.split in
-    let each : LendsEach text n a.spans b.slices b.rest = subst (λ (ss : List Span). LendsEach text n ss b.slices b.rest) (sym p) b.each in
-    a.are ∙ ap₂ items_of (one_each text [] [] m n a.spans a.slices b.slices a.rest b.rest tt tt from a.each each) q ∙ sym b.are
+    let i = a.items in
+    let j = b.items in
+    let m = i.split.read.body ++ i.rest in
+    let n = j.split.read.body ++ j.rest in
+    let from = sym (front_begins text i.front i.rest a.spans i.split) ∙ front_begins text j.front j.rest b.spans j.split in
+    let each : LendsEach text n a.spans b.slices j.rest = subst (λ (ss : List Span). LendsEach text n ss b.slices j.rest) (sym p) b.each in
+    a.are ∙ ap₂ items_of (one_each text [] [] m n a.spans a.slices b.slices i.rest j.rest tt tt from a.each each) q ∙ sym b.are
 
 -- the spans and the stop are those that are read
 told_items : (text : List ℕ) (xs : List (Result Lent Fault)) (a : AreItems text xs) → items text ≡ (a.spans, a.stop)
-told_items text xs a = items_told text a.spans a.stop (record { front = a.front; rest = a.rest; are = a.items })
+told_items text xs a = items_told text a.spans a.stop a.items
 
 pub one_lent : (text : List ℕ) (others : List (Result Lent Fault)) → AreItems text others → others ≡ lent_items text
 one_lent text others o =
