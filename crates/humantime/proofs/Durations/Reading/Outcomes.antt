@@ -35,21 +35,21 @@ err_same : (e f : Fault) → ◌≡◌ {A = Result ℕ Fault} (Err e) (Err f) �
 err_same e f h = cc
 
 -- the text 0, and every other
-pub duration_answer-zero : duration_answer (bare_zero) ≡ Ok 0
+pub duration_answer-zero : duration_answer bare_zero ≡ Ok 0
 unfolding duration_answer
 duration_answer-zero = refl
 
 pub duration_answer-items : (text : List ℕ) → text ≢ bare_zero → duration_answer text ≡ settle 0 (items text).0 (items text).1
 unfolding duration_answer
-duration_answer-items text some = elim (cases_Bool (bytes_eq text (bare_zero))) [
-  | inl e ↦ absurd (some ((bytes_eq-Decides text (bare_zero)).0 e))
+duration_answer-items text some = elim (cases_Bool (bytes_eq text bare_zero)) [
+  | inl e ↦ absurd (some ((bytes_eq-Decides text bare_zero).0 e))
   | inr e ↦ rw e
 ]
 
 pub zero_or_not : (text : List ℕ) → (text ≡ bare_zero) ⊎ (text ≢ bare_zero)
-zero_or_not text = elim (cases_Bool (bytes_eq text (bare_zero))) [
-  | inl e ↦ inl ((bytes_eq-Decides text (bare_zero)).0 e)
-  | inr e ↦ inr (λ h. false≢true (sym e ∙ (bytes_eq-Decides text (bare_zero)).1 h))
+zero_or_not text = elim (cases_Bool (bytes_eq text bare_zero)) [
+  | inl e ↦ inl ((bytes_eq-Decides text bare_zero).0 e)
+  | inr e ↦ inr (λ h. false≢true (sym e ∙ (bytes_eq-Decides text bare_zero).1 h))
 ]
 
 -- whatever the items are, they settle the outcome
