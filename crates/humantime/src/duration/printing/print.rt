@@ -13,8 +13,8 @@ ghost use Rattle.humantime.specs.References.Durations.Writing.{written};
 
 use crate::buffer::front;
 use crate::duration::error::DurationError;
-use crate::duration::reading::parse_duration;
 use crate::duration::printing::writer::Writer;
+use crate::duration::reading::parse_duration;
 use crate::value::StdDuration;
 use std::fmt;
 use std::marker::Model;
