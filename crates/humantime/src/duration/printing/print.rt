@@ -19,15 +19,19 @@ use crate::value::StdDuration;
 use std::fmt;
 use std::marker::Model;
 
-// How many seconds each unit has.
+/// How many seconds a year has.
 const YEAR: u64 = 31_557_600;
 
+/// A month.
 const MONTH: u64 = 2_630_016;
 
+/// A day.
 const DAY: u64 = 86_400;
 
+/// An hour.
 const HOUR: u64 = 3_600;
 
+/// A minute.
 const MINUTE: u64 = 60;
 
 /// A duration that is to be printed.
