@@ -7,7 +7,7 @@ use std::test::Fail;
 
 type Moment = Result<(i64, u32), TimestampError>;
 
-// Seconds and nanoseconds of what was read.
+/// Seconds and nanoseconds of what was read.
 fn parts(read: Result<SystemTime, TimestampError>) -> Moment {
     let moment = read?;
     Ok((moment.unix_seconds(), moment.subsec_nanos()))
@@ -163,7 +163,7 @@ fn texts_that_are_not_in_weak_form(rt: HostRuntime) {
     }
 }
 
-// One byte after the other is replaced.
+/// One byte after the other is replaced.
 #[test]
 fn one_broken_byte(rt: HostRuntime) -> Result<(), Fail> {
     for at in 0..20 {
@@ -179,7 +179,7 @@ fn one_broken_byte(rt: HostRuntime) -> Result<(), Fail> {
     Ok(())
 }
 
-// The same in a longer text, for both parsers.
+/// The same in a longer text, for both parsers.
 #[test]
 fn one_broken_byte_of_a_longer_text(rt: HostRuntime) -> Result<(), Fail> {
     for at in 0..27 {

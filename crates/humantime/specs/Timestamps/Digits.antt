@@ -16,13 +16,6 @@ two_digits n = digit (n / 10) ∷ digit (n % 10) ∷ []
 abbrev pub four_digits : ℕ → List ℕ
 four_digits n = digit (n / 1000) ∷ digit (n / 100 % 10) ∷ digit (n / 10 % 10) ∷ digit (n % 10) ∷ []
 
--- a number below 10^9, in nine digits
-abbrev pub nine_digits : ℕ → List ℕ
-nine_digits n =
-    digit (n / 100_000_000) ∷ digit (n / 10_000_000 % 10) ∷ digit (n / 1_000_000 % 10)
-    ∷ digit (n / 100_000 % 10) ∷ digit (n / 10_000 % 10) ∷ digit (n / 1_000 % 10)
-    ∷ digit (n / 100 % 10) ∷ digit (n / 10 % 10) ∷ digit (n % 10) ∷ []
-
 -- each byte is a digit
 abbrev pub AreDigits : List ℕ → Type 0
 AreDigits ds = AllByRecursion (λ c. IsInRange (byte "0") (byte "9") c) ds

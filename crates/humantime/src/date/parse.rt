@@ -1,14 +1,15 @@
 //! The parsers of timestamps.
 
-ghost use Rattle.std.specs.Prelude.{◌≡◌, ◌+◌, ◌/◌, ◌^◌, ◌<◌, ◌≤◌, ◌↔◌, length, IsTrue, IsSome, IfSome, IfOk, Ok, Err, Some, ℤ, codes};
+ghost use Rattle.std.specs.Prelude.{◌≡◌, ◌≢◌, ◌+◌, ◌/◌, ◌^◌, ◌<◌, ◌≤◌, ◌↔◌, ◌&&◌, nat_eq, [], length, IsTrue, IsFalse, IsSome, IfSome, IfNone, IfOk, Ok, Err, Some, ℤ, codes};
+ghost use Rattle.std.specs.List.{ends_with};
 ghost use Rattle.std.specs.Str.{bytes_eq};
 ghost use Rattle.humantime.specs.declared.date.error.TimestampError.{TimestampError};
 ghost use Rattle.humantime.specs.Values.Amounts.{nanos_per_second};
 ghost use Rattle.humantime.specs.Timestamps.Fields.{fraction_nanos, IsWeakMoment, IsStrictMoment};
-ghost use Rattle.humantime.specs.Timestamps.Checks.{number, first_failed, weak_checks, strict_checks};
+ghost use Rattle.humantime.specs.Timestamps.Checks.{number, past_digits, first_failed, weak_checks, strict_checks};
 ghost use Rattle.humantime.specs.Timestamps.Checks as TimestampChecks;
 ghost use Rattle.humantime.specs.References.Timestamps.Reading.{weak_answer, strict_answer, numbers_of, seconds_to, AreInRange};
-ghost use Rattle.humantime.specs.References.Timestamps.Fractions.{weight, AreThreeAt, IsRead};
+ghost use Rattle.humantime.specs.References.Timestamps.Fractions.{weight, has_three, AreThreeAt, IsRead};
 ghost use Rattle.humantime.specs.References.Timestamps.Reading as TimestampReading;
 
 use crate::calendar::{Date, day_number};
@@ -30,11 +31,17 @@ static WEIGHTS: [u32; 9] = [
     1,
 ];
 
-/// How far each of the first sixteen bytes may be above `0`: a digit up to nine, and a sign wherever it is.
-const MOST_ABOVE_ZERO: [u8; 16] = [9, 9, 9, 9, 255, 9, 9, 255, 9, 9, 255, 9, 9, 255, 9, 9];
+/// The least byte at each of the first sixteen places, where a space stands for any byte.
+const LEAST: [u8; 16] = *b"0000-00-00 00:00";
+
+/// How far a byte may be above it: a digit up to nine, and a sign not at all.
+const MOST_ABOVE: [u8; 16] = [9, 9, 9, 9, 0, 9, 9, 0, 9, 9, 255, 9, 9, 0, 9, 9];
 
 /// What `0` adds to a number of two digits, where each byte counts as it stands.
 const TWO_ZEROS: u32 = 11 * b'0' as u32;
+
+/// And to one of three.
+const THREE_ZEROS: u32 = 111 * b'0' as u32;
 
 /// And to one of four.
 const FOUR_ZEROS: u32 = 1_111 * b'0' as u32;
@@ -103,12 +110,45 @@ fn is_complete(b: &[u8]) -> bool
 
 /// `Z` or `+00:00` at the end.
 #[inline(always)]
-#[tactic(auto, using(crate::proofs::Timestamps::Reading::Ends::last_letter, crate::proofs::Timestamps::Reading::Ends::last_offset))]
+#[tactic(auto, using(crate::proofs::Timestamps::Reading::Ends::some_zone))]
 fn ends_in_zone(b: &[u8]) -> bool
-    requires { 6 ≤ length b.now }
     ensures { result ≡ TimestampChecks.ends_in_zone b.now }
 {
-    b[b.len() - 1] == b'Z' || is_offset(&b[b.len() - 6..])
+    zone_length(b) > 0
+}
+
+/// How many bytes the zone at the end has: one for `Z`, six for `+00:00`, and none without a zone.
+#[inline(always)]
+#[tactic(auto, using(crate::proofs::Timestamps::Reading::Ends::zone_fits), unfolding(crate::specs::References::Timestamps::Reading::zone_length))]
+fn zone_length(b: &[u8]) -> usize
+    ensures value { result ≡ TimestampReading.zone_length b.now }
+    ensures fits { result ≤ length b.now }
+{
+    if ends_in_letter(b) {
+        1
+    } else if ends_in_offset(b) {
+        6
+    } else {
+        0
+    }
+}
+
+/// `Z` at the end.
+#[inline(always)]
+#[tactic(auto, using(crate::proofs::Timestamps::Reading::Ends::last_letter, crate::proofs::Timestamps::Reading::Ends::no_letter))]
+fn ends_in_letter(b: &[u8]) -> bool
+    ensures { result ≡ ends_with nat_eq b.now (codes "Z") }
+{
+    b.len() >= 1 && b[b.len() - 1] == b'Z'
+}
+
+/// `+00:00` at the end.
+#[inline(always)]
+#[tactic(auto, using(crate::proofs::Timestamps::Reading::Ends::last_offset, crate::proofs::Timestamps::Reading::Ends::no_offset))]
+fn ends_in_offset(b: &[u8]) -> bool
+    ensures { result ≡ ends_with nat_eq b.now (codes "+00:00") }
+{
+    b.len() >= 6 && is_offset(&b[b.len() - 6..])
 }
 
 /// The moment, or the error of the first check that fails.
@@ -117,19 +157,42 @@ fn ends_in_zone(b: &[u8]) -> bool
 fn read_timestamp(b: &[u8]) -> Result<SystemTime, TimestampError>
     ensures { result ≡ weak_answer b.now }
 {
-    if b.len() < 19 || !has_signs(b) {
+    if b.len() < 19 || !has_separator(b) {
         return Err(TimestampError::InvalidFormat);
     }
-    // Read before the digits are tested: behind the test the bytes would be taken out of its vector, one by one.
+    // Read before the bytes are tested: behind the test they would be taken out of its vector, one by one.
     let numbers = numbers_at(b);
-    if !has_digits(b) {
-        return Err(TimestampError::InvalidDigit);
+    if !is_shaped(b) {
+        return Err(shape_error(b));
     }
     let Some(secs) = seconds_of(numbers) else {
         return Err(TimestampError::OutOfRange);
     };
-    let nanos = read_end(b)?;
+    let nanos = read_end(&b[19..])?;
     Ok(SystemTime::since_epoch(secs, nanos))
+}
+
+/// `T` or a space between date and time.
+#[inline(always)]
+#[tactic(auto, unfolding(crate::specs::References::Timestamps::Reading::has_separator))]
+fn has_separator(b: &[u8]) -> bool
+    requires { 19 ≤ length b.now }
+    ensures { result ≡ TimestampReading.has_separator b.now }
+{
+    b[10] == b'T' || b[10] == b' '
+}
+
+/// The error of a text in which signs or digits are not in their places: the signs are looked at first.
+#[inline(always)]
+fn shape_error(b: &[u8]) -> TimestampError
+    requires { 19 ≤ length b.now }
+    ensures { result ≡ TimestampReading.shape_error b.now }
+{
+    if has_signs(b) {
+        TimestampError::InvalidDigit
+    } else {
+        TimestampError::InvalidFormat
+    }
 }
 
 /// The signs between the numbers.
@@ -146,25 +209,36 @@ fn has_signs(b: &[u8]) -> bool
         && b[16] == b':'
 }
 
-/// Digits in all places between the signs.
+/// Signs and digits in their places.
 #[inline(always)]
-#[tactic(auto, using(crate::proofs::Timestamps::Reading::Lanes::digits_of_parts))]
-fn has_digits(b: &[u8]) -> bool
-    requires { 19 ≤ length b.now }
-    ensures { result ≡ TimestampChecks.has_digits b.now }
+#[tactic(auto, using(crate::proofs::Timestamps::Reading::Lanes::shape_of_parts))]
+fn is_shaped(b: &[u8]) -> bool
+    requires long { 19 ≤ length b.now }
+    requires separator { IsTrue (TimestampReading.has_separator b.now) }
+    ensures { result ≡ (TimestampChecks.has_signs b.now && TimestampChecks.has_digits b.now) }
 {
-    has_front_digits(b) && has_two(b, 17)
+    is_shaped_front(b) && has_seconds(b)
 }
 
-/// Digits in the first sixteen bytes, but for the signs. All are tested at once: a lane of the vector is how far
-/// a byte is above `0`, and a byte below it wraps around to far above nine.
+/// The sign before the seconds, and their digits.
 #[inline(always)]
-fn has_front_digits(b: &[u8]) -> bool
+#[tactic(auto, unfolding(crate::specs::References::Timestamps::Reading::has_seconds))]
+fn has_seconds(b: &[u8]) -> bool
     requires { 19 ≤ length b.now }
-    ensures { result ≡ TimestampReading.has_front_digits b.now }
+    ensures { result ≡ TimestampReading.has_seconds b.now }
 {
-    let above = u8x16::from_slice(b) - u8x16::splat(b'0');
-    let other = above.simd_gt(u8x16::from_array(MOST_ABOVE_ZERO));
+    b[16] == b':' && has_two(b, 17)
+}
+
+/// Signs and digits in the first sixteen bytes, but for the sign between date and time. All are tested at once: a
+/// lane of the vector is how far a byte is above the least one, and a byte below that wraps around to far above.
+#[inline(always)]
+fn is_shaped_front(b: &[u8]) -> bool
+    requires { 19 ≤ length b.now }
+    ensures { result ≡ TimestampReading.is_shaped_front b.now }
+{
+    let above = u8x16::from_slice(b) - u8x16::from_array(LEAST);
+    let other = above.simd_gt(u8x16::from_array(MOST_ABOVE));
     other.to_bitmask() == 0
 }
 
@@ -233,115 +307,84 @@ fn seconds_of(x: Numbers) -> Option<u64>
     Some(days as u64 * 86_400 + time as u64)
 }
 
-/// The nanoseconds, where the end is right.
+/// The nanoseconds of what stands behind date and time, where it is right.
 #[inline(always)]
-fn read_end(b: &[u8]) -> Result<u32, TimestampError>
-    requires { 19 ≤ length b.now }
-    ensures value { result ≡ TimestampReading.end_answer b.now }
+fn read_end(rest: &[u8]) -> Result<u32, TimestampError>
+    ensures value { result ≡ TimestampReading.end_answer rest.now }
     ensures bound { IfOk result (λ n. n < nanos_per_second) }
 {
-    if has_point(b) {
-        read_fraction_end(&b[20..])
-    } else if is_zone(&b[19..]) {
-        Ok(0)
-    } else {
-        Err(TimestampError::InvalidFormat)
+    let end = rest.len() - zone_length(rest);
+    if end == 0 {
+        return Ok(0);
+    }
+    if rest[0] != b'.' {
+        return Err(TimestampError::InvalidFormat);
+    }
+    match read_digits(&rest[1..end]) {
+        Some(nanos) => Ok(nanos),
+        None => Err(TimestampError::InvalidDigit),
     }
 }
 
-/// The nanoseconds of a fraction, where the end after it is right.
-#[inline(always)]
-fn read_fraction_end(rest: &[u8]) -> Result<u32, TimestampError>
-    ensures value { result ≡ TimestampReading.fraction_answer rest.now }
-    ensures bound { IfOk result (λ n. n < nanos_per_second) }
-{
-    let (nanos, end) = read_fraction(rest);
-    if is_zone(end) {
-        Ok(nanos)
-    } else {
-        Err(TimestampError::InvalidDigit)
-    }
-}
-
-/// A point after date and time.
-#[inline(always)]
-fn has_point(b: &[u8]) -> bool
-    ensures value { result ≡ TimestampChecks.has_point b.now }
-    ensures room { IsTrue result → 19 < length b.now }
-{
-    b.len() > 19 && b[19] == b'.'
-}
-
-/// Nothing, `Z` or `+00:00`.
-#[inline(always)]
-fn is_zone(b: &[u8]) -> bool
-    ensures { result ≡ TimestampChecks.is_zone b.now }
-{
-    match b.len() {
-        0 => true,
-        1 => b[0] == b'Z',
-        6 => is_offset(b),
-        _ => false,
-    }
-}
-
-/// `+00:00`, of six bytes.
+/// `+00:00`, of six bytes. The first four are compared as one number, and the last two as another.
 #[inline(always)]
 fn is_offset(b: &[u8]) -> bool
     requires { length b.now ≡ 6 }
     ensures { result ≡ bytes_eq b.now (codes "+00:00") }
 {
-    b[0] == b'+' && b[1] == b'0' && b[2] == b'0' && b[3] == b':' && b[4] == b'0' && b[5] == b'0'
+    let front = u32::from_le_bytes([b[0], b[1], b[2], b[3]]);
+    let back = u16::from_le_bytes([b[4], b[5]]);
+    front == u32::from_le_bytes(*b"+00:") && back == u16::from_le_bytes(*b"00")
 }
 
-/// The number that three digits from this place on show, where there are three.
+/// The number that three digits from this place on show, where they are digits.
 #[inline(always)]
-fn three_at(rest: &[u8], at: usize) -> Option<u32>
-    requires { at ≤ length rest.now }
-    ensures { IfSome result (AreThreeAt rest.now at) }
+fn three_at(ds: &[u8], at: usize) -> Option<u32>
+    requires { at + 3 ≤ length ds.now }
+    ensures some { IfSome result (AreThreeAt ds.now at) }
+    ensures none { IfNone result (IsFalse (has_three ds.now at)) }
 {
-    if rest.len() - at < 3 {
-        return None;
-    }
-    let (a, b, c) = (rest[at], rest[at + 1], rest[at + 2]);
+    let (a, b, c) = (ds[at], ds[at + 1], ds[at + 2]);
     if !a.is_ascii_digit() || !b.is_ascii_digit() || !c.is_ascii_digit() {
         return None;
     }
-    Some((a - b'0') as u32 * 100 + (b - b'0') as u32 * 10 + (c - b'0') as u32)
+    Some(a as u32 * 100 + b as u32 * 10 + c as u32 - THREE_ZEROS)
 }
 
-/// How many digits stand at the front in groups of three, and their nanoseconds, cut to nine digits.
+/// How many digits stand in whole groups of three, and their nanoseconds, cut to nine digits; nothing where one of
+/// them is no digit.
 #[inline(always)]
-#[tactic(auto, using(crate::proofs::Timestamps::Reading::Fractions::read_none, crate::proofs::Timestamps::Reading::Fractions::read_three))]
-fn read_threes(rest: &[u8]) -> (usize, u32)
-    ensures { IsRead rest.now result.0 result.1 }
+#[tactic(auto, using(crate::proofs::Timestamps::Reading::Fractions::read_none, crate::proofs::Timestamps::Reading::Fractions::read_no_three))]
+fn read_threes(ds: &[u8]) -> Option<(usize, u32)>
+    ensures some { IfSome result (λ read. IsRead ds.now read.0 read.1) }
+    ensures none { IfNone result (past_digits ds.now ≢ []) }
 {
     let mut at = 0;
     let mut nanos = 0;
-    while let Some(three) = three_at(rest, at) {
-        nanos += weight_of(at + 2) * three;
+    while ds.len() - at >= 3 {
+        nanos += weight_of(at + 2) * three_at(ds, at)?;
         at += 3;
     }
-    (at, nanos)
+    Some((at, nanos))
 }
 
-/// The nanoseconds of the digits at the front, cut to nine of them, and what stands after them.
+/// The nanoseconds of these digits, cut to nine of them, where they are digits.
 #[inline(always)]
-#[tactic(auto, using(crate::proofs::Timestamps::Reading::Fractions::read_more, crate::proofs::Timestamps::Reading::Fractions::read_stop, crate::proofs::Timestamps::Reading::Fractions::read_all))]
-fn read_fraction(rest: &[u8]) -> (u32, &[u8])
-    ensures value { result.0 ≡ fraction_nanos (TimestampReading.front_digits rest.now) }
-    ensures bound { result.0 < nanos_per_second }
-    ensures rest { result.1.now ≡ TimestampChecks.past_digits rest.now }
+#[tactic(auto, using(crate::proofs::Timestamps::Reading::Fractions::read_stop, crate::proofs::Timestamps::Reading::Fractions::read_all))]
+fn read_digits(ds: &[u8]) -> Option<u32>
+    ensures some { IfSome result (λ n. (past_digits ds.now ≡ []) × (n ≡ fraction_nanos ds.now)) }
+    ensures none { IfNone result (past_digits ds.now ≢ []) }
+    ensures bound { IfSome result (λ n. n < nanos_per_second) }
 {
-    let (mut at, mut nanos) = read_threes(rest);
-    while at < rest.len() {
-        if !rest[at].is_ascii_digit() {
-            return (nanos, &rest[at..]);
+    let (mut at, mut nanos) = read_threes(ds)?;
+    while at < ds.len() {
+        if !ds[at].is_ascii_digit() {
+            return None;
         }
-        nanos += weight_of(at) * (rest[at] - b'0') as u32;
+        nanos += weight_of(at) * (ds[at] - b'0') as u32;
         at += 1;
     }
-    (nanos, b"")
+    Some(nanos)
 }
 
 /// How many nanoseconds a 1 at this place of a fraction counts: none past the ninth.

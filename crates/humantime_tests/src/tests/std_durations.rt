@@ -22,7 +22,7 @@ fn fed<T: Hash>(value: &T) -> u64 {
     hasher.finish()
 }
 
-// Equal durations leave any hasher in one state.
+/// Equal durations leave any hasher in one state.
 fn fed_alike<H: Hasher + Copy>(a: StdDuration, b: StdDuration, hasher: H) -> (H, H)
     requires { a ≡ b }
     ensures { result.0 ≡ result.1 }
@@ -46,7 +46,7 @@ fn is_same(a: StdDuration, b: StdDuration) -> bool
     a == b
 }
 
-// The constants and the default, as contracts see them.
+/// The constants and the default, as contracts see them.
 fn none() -> StdDuration
     ensures { result ≡ 0 }
 {

@@ -7,7 +7,7 @@ use humantime::{StdDuration, SystemTime, SystemTimeError, UNIX_EPOCH};
 use std::hash::{FoldHasher, Hash, Hasher};
 use std::test::Fail;
 
-// The derives and the order, each used once through its bound.
+/// The derives and the order, each used once through its bound.
 fn least<T: Ord + Copy>(a: T, b: T) -> T {
     a.min(b)
 }
@@ -35,7 +35,7 @@ fn fed<T: Hash, H: Hasher + Drop>(value: &T, mut hasher: H) -> u64 {
     hasher.finish()
 }
 
-// Equal moments leave a hasher in one state.
+/// Equal moments leave a hasher in one state.
 fn fed_alike<H: Hasher + Copy>(a: SystemTime, b: SystemTime, hasher: H) -> (H, H)
     requires { a ≡ b }
     ensures { result.0 ≡ result.1 }
@@ -47,7 +47,7 @@ fn fed_alike<H: Hasher + Copy>(a: SystemTime, b: SystemTime, hasher: H) -> (H, H
     (first, second)
 }
 
-// The epoch's contract: it is the moment 0.
+/// The epoch's contract: it is the moment 0.
 fn epoch() -> SystemTime
     ensures { result ≡ pos 0 }
 {

@@ -29,7 +29,7 @@ fn fed<T: Hash>(value: &T) -> u64 {
     hasher.finish()
 }
 
-// Equal values leave any hasher in one state.
+/// Equal values leave any hasher in one state.
 fn durations_fed_alike<H: Hasher + Copy>(a: Duration, b: Duration, hasher: H) -> (H, H)
     requires { a ≡ b }
     ensures { result.0 ≡ result.1 }
@@ -76,7 +76,7 @@ fn is_same_moment(a: Timestamp, b: Timestamp) -> bool
     a == b
 }
 
-// The default is zero.
+/// The default is zero.
 fn no_time() -> Duration
     ensures { result ≡ 0 }
 {

@@ -1,46 +1,15 @@
 -- A text in strict form is one in weak form with a `T` and a zone at its end.
-use Rattle.std.proofs.Common.{◌≡◌, ◌≢◌, ℕ, ◌+◌, ◌-◌, ◌<◌, ◌≤◌, ◌⊎◌, inl, inr, List, [], ◌++◌, length, drop, refl, sym, ap, subst, ◌∙◌, arith, length-append}
-use Rattle.std.specs.Prelude.{true, ◌&&◌, ◌==◌, codes, slice_index, nat_eq, nat_le}
+use Rattle.std.proofs.Common.{◌≡◌, ◌≢◌, ℕ, ◌+◌, ◌≤◌, List, [], ◌++◌, length, refl, sym, ap, subst, ◌∙◌, arith, length-append, ◌-◌, ◌<◌, ◌⊎◌, inl, inr, drop}
+use Rattle.std.specs.Prelude.{true, ◌&&◌, ◌==◌, codes, slice_index, nat_le, nat_eq}
 use Rattle.std.specs.List.{AllByRecursion, ends_with}
-use Rattle.std.proofs.lemmas.Bool.{and_parts, and_from, or_cases, or_left, or_right, eqb-true, eq-eqb, le-leb}
+use Rattle.std.proofs.lemmas.Bool.{and_parts, and_from, or_left, or_right, eqb-true, eq-eqb, le-leb, or_cases}
 use Rattle.std.proofs.lemmas.List.Prefix.{end_rest}
 use Rattle.std.proofs.lemmas.Slice.Eq.{bytes_eq-Decides}
 use Rattle.humantime.specs.Timestamps.Fields.{Separator, Letter_T, Space, Zone, Nothing, Letter_Z, Offset, Fields, separator_byte, fraction_text, zone_text, time_text, fields_text, IsWeak, IsStrict}
 use Rattle.humantime.specs.Timestamps.Checks.{ends_in_zone, is_complete}
 use Rattle.humantime.specs.Timestamps.Laws.{StrictIsWeak}
-use Rattle.humantime.proofs.Timestamps.Reading.Bytes.{HoldsOfBytes, holds_before_zone, all_append, all_drop}
-
--- neither `+` nor `Z`
-abbrev IsPlain : ℕ → Type 0
-IsPlain c = (c ≢ 43) × (c ≢ 90)
-
-other_than : (c n : ℕ) → (c < n) ⊎ (n < c) → c ≢ n
-other_than c n (inl less) e = absurd (omega arith)
-other_than c n (inr more) e = absurd (omega arith)
-
-plain_bytes : HoldsOfBytes IsPlain
-plain_bytes = record {
-  digit = λ c h. (other_than c 43 (inr (omega arith)), other_than c 90 (inl (omega arith)));
-  dash = (other_than 45 43 (inr (omega arith)), other_than 45 90 (inl (omega arith)));
-  colon = (other_than 58 43 (inr (omega arith)), other_than 58 90 (inl (omega arith)));
-  point = (other_than 46 43 (inr (omega arith)), other_than 46 90 (inl (omega arith)));
-  letter = (other_than 84 43 (inr (omega arith)), other_than 84 90 (inl (omega arith)));
-  space = (other_than 32 43 (inl (omega arith)), other_than 32 90 (inl (omega arith)));
-}
-
--- a text that ends with e has e at its end
-end_told : (b e : List ℕ) → ends_with nat_eq b e ≡ true → e ≡ drop (length b - length e) b
-end_told b e h = (bytes_eq-Decides e (drop (length b - length e) b)).0 h
-
-end_from : (xs e : List ℕ) → ends_with nat_eq (xs ++ e) e ≡ true
-end_from xs e = (bytes_eq-Decides e (drop (length (xs ++ e) - length e) (xs ++ e))).1 (sym (end_rest (xs ++ e) e xs refl))
-
--- without a zone there is no `Z` and no `+`, so no zone at the end
-plain_end : (b : List ℕ) → AllByRecursion IsPlain b → ends_in_zone b ≡ true → ⊥
-plain_end b plain h = by_end (or_cases _ _ h) where
-  by_end : (ends_with nat_eq b (codes "Z") ≡ true) ⊎ (ends_with nat_eq b (codes "+00:00") ≡ true) → ⊥
-  by_end (inl z) = (subst (AllByRecursion IsPlain) (sym (end_told b (codes "Z") z)) (all_drop IsPlain (length b - 1) b plain)).0.1 refl
-  by_end (inr offset) = (subst (AllByRecursion IsPlain) (sym (end_told b (codes "+00:00") offset)) (all_drop IsPlain (length b - 6) b plain)).0.0 refl
+use Rattle.humantime.proofs.Timestamps.Reading.Bytes.{holds_before_zone, all_append}
+use Rattle.humantime.proofs.Timestamps.Reading.Ends.{IsPlain, plain_bytes, plain_end, end_from}
 
 has_zone : (b : List ℕ) (f : Fields) → IsWeak b f → ends_in_zone b ≡ true → f.zone ≢ Nothing
 has_zone b f w h none =

@@ -26,7 +26,7 @@ pub record HoldsOfBytes (P : ℕ → Type 0) : Type 0 where
   pub letter : P 84
   pub space : P 32
 
-digits_hold : (P : ℕ → Type 0) → HoldsOfBytes P → (ds : List ℕ) → AreDigits ds → AllByRecursion P ds
+pub digits_hold : (P : ℕ → Type 0) → HoldsOfBytes P → (ds : List ℕ) → AreDigits ds → AllByRecursion P ds
 digits_hold P h [] digits = tt
 digits_hold P h (c ∷ cs) digits = (h.digit c digits.0, digits_hold P h cs digits.1)
 

@@ -1,8 +1,7 @@
 -- What the checks on a timestamp say, one by one.
-use Rattle.std.proofs.Common.{◌≡◌, ℕ, ◌<◌, ◌≤◌, List, [], ◌∷◌, ◌++◌, length, get_or, drop, ◌⊎◌, inl, inr, refl, sym, ap, ◌∙◌, arith}
+use Rattle.std.proofs.Common.{◌≡◌, ℕ, ◌<◌, ◌≤◌, List, [], ◌∷◌, ◌++◌, length, get_or, drop, ◌⊎◌, inl, inr, refl, sym, ◌∙◌, arith}
 use Rattle.std.specs.Prelude.{Bool, true, false, not, ◌||◌, ◌==◌, codes, slice_index, Option, Some, None, if◌then◌else◌}
 use Rattle.std.specs.Bool.{Decides}
-use Rattle.std.specs.Char.{is_ascii_digit}
 use Rattle.std.proofs.Math.Seq.{drop-cons}
 use Rattle.std.specs.List.{list_all}
 use Rattle.std.proofs.Math.Bool.{and_assoc, and-true}
@@ -14,7 +13,7 @@ use Rattle.humantime.specs.Timestamps.Digits.{AreDigits}
 use Rattle.humantime.specs.Timestamps.Fields.{Letter_T, Space, Nothing, Letter_Z, Offset, separator_byte, fraction_text, fraction_digits, zone_text}
 use Rattle.humantime.specs.Timestamps.Checks.{is_zone, is_long, has_signs, has_digits, in_range, has_point, ends_whole, ends_fraction, past_digits, weak_checks, first_failed}
 use Rattle.humantime.specs.References.Timestamps.Reading.{has_two, front_digits, zone_of, fraction_read, zone_at}
-use Rattle.humantime.proofs.Timestamps.Reading.Fractions.{front_are_digits}
+use Rattle.humantime.proofs.Timestamps.Reading.Fractions.{front_are_digits, front_past}
 
 -- no check of the weak form fails
 pub record Passes (b : List ℕ) : Type 0 where
@@ -102,14 +101,6 @@ separator_shown c h = by_test (c == 84) refl h where
   by_test : (t : Bool) → (c == 84) ≡ t → (t || (c == 32)) ≡ true → c ≡ separator_byte (if t then Letter_T else Space)
   by_test true e k = eqb-true c 84 e
   by_test false e k = eqb-true c 32 k
-
-pub front_past : (cs : List ℕ) → cs ≡ front_digits cs ++ past_digits cs
-front_past [] = refl
-front_past (c ∷ cs) = by_test (is_ascii_digit c) (front_past cs) where
-  by_test : (t : Bool) → cs ≡ front_digits cs ++ past_digits cs
-      → c ∷ cs ≡ (if t then c ∷ front_digits cs else []) ++ (if t then past_digits cs else c ∷ cs)
-  by_test true e = ap (λ (xs : List ℕ). c ∷ xs) e
-  by_test false e = refl
 
 zone_by : (z : List ℕ) (p q r : Bool) → Decides p (z ≡ []) → Decides q (z ≡ codes "Z") → Decides r (z ≡ codes "+00:00")
     → (p || q || r) ≡ true → z ≡ zone_text (if p then Nothing else (if q then Letter_Z else Offset))

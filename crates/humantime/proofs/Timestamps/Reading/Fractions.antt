@@ -1,6 +1,6 @@
 -- The digits of a fraction, read one by one, are its nanoseconds.
-use Rattle.std.proofs.Common.{◌≡◌, ℕ, zero, suc, ◌+◌, ◌-◌, ◌*◌, ◌/◌, ◌%◌, ◌^◌, ◌<◌, ◌≤◌, List, [], ◌∷◌, ◌++◌, length, get_or, take, drop, refl, sym, ◌∙◌, arith, add-one, ap, subst}
-use Rattle.std.specs.Prelude.{Bool, true, false, if◌then◌else◌}
+use Rattle.std.proofs.Common.{◌≡◌, ◌≢◌, ℕ, zero, suc, ◌+◌, ◌-◌, ◌*◌, ◌/◌, ◌%◌, ◌^◌, ◌<◌, ◌≤◌, List, [], ◌∷◌, ◌++◌, length, get_or, take, drop, refl, sym, ◌∙◌, arith, add-one, append-nil, ap, subst}
+use Rattle.std.specs.Prelude.{Bool, true, false, ◌&&◌, if◌then◌else◌}
 use Rattle.std.specs.Char.{is_ascii_digit, digit_value}
 use Rattle.std.specs.Int.{IsInRange}
 use Rattle.std.specs.Str.Parse.{digits_value_after}
@@ -13,7 +13,7 @@ use Rattle.humantime.specs.Timestamps.Digits.{AreDigits}
 use Rattle.humantime.specs.Timestamps.Fields.{fraction_nanos}
 use Rattle.humantime.specs.Timestamps.Checks.{past_digits}
 use Rattle.humantime.specs.References.Timestamps.Reading.{front_digits}
-use Rattle.humantime.specs.References.Timestamps.Fractions.{add_digits, weight, AreThreeAt, IsRead}
+use Rattle.humantime.specs.References.Timestamps.Fractions.{add_digits, weight, has_three, AreThreeAt, IsRead}
 
 add_nothing : (n : ℕ) (ds : List ℕ) → add_digits n 0 ds ≡ n
 add_nothing n [] = refl
@@ -134,34 +134,67 @@ group_of (suc (suc (suc q))) i h =
 spread : (u a b c : ℕ) → 100 * u * a + 10 * u * b + u * c ≡ u * (a * 100 + b * 10 + c)
 spread u a b c = grind arith
 
-pub read_three : (text : List ℕ) (i nanos n : ℕ) → i % 3 ≡ 0 → IsRead text i nanos → AreThreeAt text i n → IsRead text (i + 3) (nanos + weight (i + 2) * n)
-read_three text i nanos n group so_far three =
+pub read_three : (text : List ℕ) (i nanos n : ℕ) → i % 3 ≡ 0 → IsRead text i nanos → i + 3 ≤ length text → AreThreeAt text i n → IsRead text (i + 3) (nanos + weight (i + 2) * n)
+read_three text i nanos n group so_far within three =
     let a = get_or text i 0 - 48 in
     let b = get_or text (i + 1) 0 - 48 in
     let c = get_or text (i + 2) 0 - 48 in
-    let one = read_more text i nanos so_far (omega (arith, three.within)) three.first in
-    let two = read_more text (i + 1) (nanos + weight i * a) one (omega (arith, three.within)) three.second in
+    let one = read_more text i nanos so_far (omega (arith, within)) three.first in
+    let two = read_more text (i + 1) (nanos + weight i * a) one (omega (arith, within)) three.second in
     let second : i + 1 + 1 ≡ i + 2 = omega arith in
-    let third = read_more text (i + 2) (nanos + weight i * a + weight (i + 1) * b) (rw second at two) three.within three.third in
+    let third = read_more text (i + 2) (nanos + weight i * a + weight (i + 1) * b) (rw second at two) (omega (arith, within)) three.third in
     let place : i + 2 + 1 ≡ i + 3 = omega arith in
     let weights = group_of (i / 3) i (omega arith) in
     let sum : nanos + weight i * a + weight (i + 1) * b + weight (i + 2) * c ≡ nanos + weight (i + 2) * n =
     rw (weights.first, weights.second, three.value) (omega (arith, spread (weight (i + 2)) a b c)) in
     subst (IsRead text (i + 3)) sum (rw place at third)
 
-pub read_stop : (text : List ℕ) (i nanos : ℕ) → IsRead text i nanos → i < length text → is_ascii_digit (get_or text i 0) ≡ false
-    → (nanos ≡ fraction_nanos (front_digits text)) × (drop i text ≡ past_digits text)
-read_stop text i nanos so_far within other =
+-- a byte that is no digit stays
+other_stays : (a b c : ℕ) (r : List ℕ) → (is_ascii_digit a && is_ascii_digit b && is_ascii_digit c) ≡ false → past_digits (a ∷ b ∷ c ∷ r) ≢ []
+other_stays a b c r = by_tests (is_ascii_digit a) (is_ascii_digit b) (is_ascii_digit c) where
+  by_tests : (t u v : Bool) → (t && u && v) ≡ false
+      → (if t then (if u then (if v then past_digits r else c ∷ r) else b ∷ c ∷ r) else a ∷ b ∷ c ∷ r) ≢ []
+  by_tests true true true h e = absurd (let no : ⊥ = cc in no)
+  by_tests true true false h e = absurd (let no : ⊥ = cc in no)
+  by_tests true false v h e = absurd (let no : ⊥ = cc in no)
+  by_tests false u v h e = absurd (let no : ⊥ = cc in no)
+
+pub read_no_three : (text : List ℕ) (i nanos : ℕ) → IsRead text i nanos → i + 3 ≤ length text → has_three text i ≡ false → past_digits text ≢ []
+read_no_three text i nanos so_far within other none =
+    let two : i + 1 + 1 ≡ i + 2 = omega arith in
+    let first : drop i text ≡ get_or text i 0 ∷ drop (i + 1) text = rw (add-one i) (drop-cons text i 0 (omega arith)) in
+    let second : drop (i + 1) text ≡ get_or text (i + 1) 0 ∷ drop (i + 2) text =
+    rw two at (rw (← add-one (i + 1)) at (drop-cons text (i + 1) 0 (omega arith))) in
+    let third : drop (i + 2) text ≡ get_or text (i + 2) 0 ∷ drop (suc (i + 2)) text = drop-cons text (i + 2) 0 (omega arith) in
+    let rest = rw (first, second, third) at so_far.rest in
+    other_stays (get_or text i 0) (get_or text (i + 1) 0) (get_or text (i + 2) 0) (drop (suc (i + 2)) text) other (rest ∙ none)
+
+pub read_stop : (text : List ℕ) (i nanos : ℕ) → IsRead text i nanos → i < length text → is_ascii_digit (get_or text i 0) ≡ false → past_digits text ≢ []
+read_stop text i nanos so_far within other none =
     let here : drop i text ≡ get_or text i 0 ∷ drop (suc i) text = drop-cons text i 0 within in
-    let value : nanos ≡ fraction_nanos (front_digits text) = rw (here, other) at so_far.value in
     let rest : get_or text i 0 ∷ drop (suc i) text ≡ past_digits text = rw (here, other) at so_far.rest in
-    (value, here ∙ rest)
+    let same : get_or text i 0 ∷ drop (suc i) text ≡ [] = rest ∙ none in
+    absurd (let no : ⊥ = cc in no)
+
+pub front_past : (cs : List ℕ) → cs ≡ front_digits cs ++ past_digits cs
+front_past [] = refl
+front_past (c ∷ cs) = by_test (is_ascii_digit c) (front_past cs) where
+  by_test : (t : Bool) → cs ≡ front_digits cs ++ past_digits cs
+      → c ∷ cs ≡ (if t then c ∷ front_digits cs else []) ++ (if t then past_digits cs else c ∷ cs)
+  by_test true e = ap (λ (xs : List ℕ). c ∷ xs) e
+  by_test false e = refl
+
+-- where nothing stands behind the digits, there are digits alone
+pub all_digits : (cs : List ℕ) → past_digits cs ≡ [] → front_digits cs ≡ cs
+all_digits cs none = sym (front_past cs ∙ (ap (λ (end : List ℕ). front_digits cs ++ end) none ∙ append-nil (front_digits cs)))
 
 pub read_all : (text : List ℕ) (i nanos : ℕ) → IsRead text i nanos → length text ≤ i
-    → (nanos ≡ fraction_nanos (front_digits text)) × ([] ≡ past_digits text)
+    → (past_digits text ≡ []) × (nanos ≡ fraction_nanos text)
 read_all text i nanos so_far end =
-    let none : drop i text ≡ [] = drop_all i text end in
-    (rw none at so_far.value, rw none at so_far.rest)
+    let nothing : drop i text ≡ [] = drop_all i text end in
+    let none : past_digits text ≡ [] = sym (rw nothing at so_far.rest) in
+    let value : nanos ≡ fraction_nanos (front_digits text) = rw nothing at so_far.value in
+    (none, value ∙ ap fraction_nanos (all_digits text none))
 
 add_bound : (ds : List ℕ) (n u : ℕ) → AreDigits ds → n < 1_000_000_000 → n + 10 * u ≤ 1_000_000_000 → add_digits n u ds < 1_000_000_000
 add_bound [] n u digits low room = low

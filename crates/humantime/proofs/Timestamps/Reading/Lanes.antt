@@ -1,13 +1,14 @@
 -- Sixteen bytes tested at once are tested one by one.
-use Rattle.std.proofs.Common.{◌≡◌, ℕ, ◌+◌, ◌-◌, ◌*◌, ◌%◌, ◌^◌, ◌<◌, ◌≤◌, Bool, true, false, not, cond, eqb, ltb, ◌&&◌, List, [], ◌∷◌, map, length, get_or, take, replicate, Fits, w8, refl, sym, ap, ◌∙◌, arith, inl, inr}
+use Rattle.std.proofs.Common.{◌≡◌, ℕ, ◌+◌, ◌-◌, ◌*◌, ◌%◌, ◌^◌, ◌<◌, ◌≤◌, Bool, true, false, not, cond, eqb, ltb, ◌&&◌, List, [], ◌∷◌, map, length, get_or, take, Fits, w8, refl, sym, ap, ◌∙◌, arith, inl, inr}
 use Rattle.std.specs.Char.{is_ascii_digit}
 use Rattle.std.specs.List.{list_all}
-use Rattle.std.proofs.Math.Bool.{and_assoc, and-true}
+use Rattle.std.specs.Prelude.{◌==◌, codes, slice_index}
+use Rattle.std.proofs.Math.Bool.{and_assoc, and-true, and-false}
 use Rattle.std.proofs.lemmas.Bool.{agree_below_at, eq-eqb, ne_eqb, cases_eq}
 use Rattle.std.proofs.lemmas.Simd.{mask_l-mod}
 use lib.Lanes.{zip2, mask_l, top}
-use Rattle.humantime.specs.Timestamps.Checks.{has_digits}
-use Rattle.humantime.specs.References.Timestamps.Reading.{has_two, has_front_digits}
+use Rattle.humantime.specs.Timestamps.Checks.{has_signs, has_digits}
+use Rattle.humantime.specs.References.Timestamps.Reading.{has_two, has_front_digits, is_shaped_front, has_seconds, has_separator}
 use Rattle.humantime.proofs.Timestamps.Reading.Checks.{nineteen}
 
 -- no bit is set exactly where no lane is
@@ -23,42 +24,76 @@ none_set (false ∷ ms) =
 none_set_of : (ms : List Bool) → length ms ≤ 64 → eqb (mask_l ms % 2 ^ 64) 0 ≡ list_all not ms
 none_set_of ms few = ap (λ n. eqb n 0) (mask_l-mod ms 64 few) ∙ none_set ms
 
-abbrev most : List ℕ
-most = 9 ∷ 9 ∷ 9 ∷ 9 ∷ 255 ∷ 9 ∷ 9 ∷ 255 ∷ 9 ∷ 9 ∷ 255 ∷ 9 ∷ 9 ∷ 255 ∷ 9 ∷ 9 ∷ []
+-- the least byte of each place, and how far a byte may be above it
+abbrev least : List ℕ
+least = codes "0000-00-00 00:00"
 
--- how far a byte is above `0`, wrapped around, and a lane of all ones where that is beyond a most
-abbrev above_zero : ℕ → ℕ → ℕ
-above_zero a b = (a + (2 ^ 8 - b)) % 2 ^ 8
+abbrev most : List ℕ
+most = 9 ∷ 9 ∷ 9 ∷ 9 ∷ 0 ∷ 9 ∷ 9 ∷ 0 ∷ 9 ∷ 9 ∷ 255 ∷ 9 ∷ 9 ∷ 0 ∷ 9 ∷ 9 ∷ []
+
+-- how far a byte is above another, wrapped around, and a lane of all ones where that is beyond a most
+abbrev above : ℕ → ℕ → ℕ
+above a b = (a + (2 ^ 8 - b)) % 2 ^ 8
 
 abbrev beyond : ℕ → ℕ → ℕ
 beyond m a = cond (ltb m a) 255 0
 
 abbrev lanes : List ℕ → List Bool
-lanes b = map (top 7) (zip2 beyond most (zip2 above_zero (take 16 b) (replicate 16 48)))
+lanes b = map (top 7) (zip2 beyond most (zip2 above (take 16 b) least))
 
-digit_lane : (a : ℕ) → a < 256 → not (top 7 (beyond 9 (above_zero a 48))) ≡ is_ascii_digit a
-digit_lane a h = agree_below_at (λ c. not (top 7 (beyond 9 (above_zero c 48)))) is_ascii_digit 256 a refl h
+digit_lane : (a : ℕ) → a < 256 → not (top 7 (beyond 9 (above a 48))) ≡ is_ascii_digit a
+digit_lane a h = agree_below_at (λ c. not (top 7 (beyond 9 (above c 48)))) is_ascii_digit 256 a refl h
 
-sign_lane : (a : ℕ) → a < 256 → not (top 7 (beyond 255 (above_zero a 48))) ≡ true
-sign_lane a h = agree_below_at (λ c. not (top 7 (beyond 255 (above_zero c 48)))) (λ _. true) 256 a refl h
+dash_lane : (a : ℕ) → a < 256 → not (top 7 (beyond 0 (above a 45))) ≡ (a == 45)
+dash_lane a h = agree_below_at (λ c. not (top 7 (beyond 0 (above c 45)))) (λ c. c == 45) 256 a refl h
 
-lanes_are : (b : List ℕ) → 19 ≤ length b → ((k : ℕ) → Fits w8 (get_or b k 0)) → list_all not (lanes b) ≡ has_front_digits b
-unfolding has_front_digits
+colon_lane : (a : ℕ) → a < 256 → not (top 7 (beyond 0 (above a 58))) ≡ (a == 58)
+colon_lane a h = agree_below_at (λ c. not (top 7 (beyond 0 (above c 58)))) (λ c. c == 58) 256 a refl h
+
+any_lane : (a : ℕ) → a < 256 → not (top 7 (beyond 255 (above a 32))) ≡ true
+any_lane a h = agree_below_at (λ c. not (top 7 (beyond 255 (above c 32)))) (λ _. true) 256 a refl h
+
+-- the signs may be tested behind the digits
+signs_last : (s t u a b c d e f g h i j k l : Bool)
+    → (a && (b && (c && (d && (s && (e && (f && (t && (g && (h && (true && (i && (j && (u && (k && (l && true))))))))))))))))
+    ≡ ((a && (b && (c && (d && (e && (f && (g && (h && (i && (j && (k && (l && true)))))))))))) && s && t && u)
+signs_last true true true a b c d e f g h i j k l = simp and-true
+signs_last false t u a b c d e f g h i j k l = simp and-false
+signs_last true false u a b c d e f g h i j k l = simp and-false
+signs_last true true false a b c d e f g h i j k l = simp and-false
+
+lanes_are : (b : List ℕ) → 19 ≤ length b → ((k : ℕ) → Fits w8 (get_or b k 0)) → list_all not (lanes b) ≡ is_shaped_front b
+unfolding has_front_digits is_shaped_front
 lanes_are b long fits =
+    let shown = λ (k : ℕ). is_ascii_digit (slice_index b k) in
     let digit = λ (k : ℕ). digit_lane (get_or b k 0) (fits k).fits in
-    let sign = λ (k : ℕ). sign_lane (get_or b k 0) (fits k).fits in
+    let dash = λ (k : ℕ). dash_lane (get_or b k 0) (fits k).fits in
     ap (λ (bytes : List ℕ). list_all not (lanes bytes)) (nineteen b long)
     ∙ (λ i. list_all (λ (x : Bool). x) (
-    digit 0 i ∷ digit 1 i ∷ digit 2 i ∷ digit 3 i ∷ sign 4 i ∷ digit 5 i ∷ digit 6 i ∷ sign 7 i
-    ∷ digit 8 i ∷ digit 9 i ∷ sign 10 i ∷ digit 11 i ∷ digit 12 i ∷ sign 13 i ∷ digit 14 i ∷ digit 15 i ∷ []
+    digit 0 i ∷ digit 1 i ∷ digit 2 i ∷ digit 3 i ∷ dash 4 i ∷ digit 5 i ∷ digit 6 i ∷ dash 7 i
+    ∷ digit 8 i ∷ digit 9 i ∷ any_lane (get_or b 10 0) (fits 10).fits i ∷ digit 11 i ∷ digit 12 i
+    ∷ colon_lane (get_or b 13 0) (fits 13).fits i ∷ digit 14 i ∷ digit 15 i ∷ []
     ))
+    ∙ signs_last (slice_index b 4 == 45) (slice_index b 7 == 45) (slice_index b 13 == 58) (shown 0) (shown 1) (shown 2) (shown 3)
+    (shown 5) (shown 6) (shown 8) (shown 9) (shown 11) (shown 12) (shown 14) (shown 15)
 
-pub front_tested : (b : List ℕ) → 19 ≤ length b → ((k : ℕ) → Fits w8 (get_or b k 0)) → eqb (mask_l (lanes b) % 2 ^ 64) 0 ≡ has_front_digits b
+pub front_tested : (b : List ℕ) → 19 ≤ length b → ((k : ℕ) → Fits w8 (get_or b k 0)) → eqb (mask_l (lanes b) % 2 ^ 64) 0 ≡ is_shaped_front b
 front_tested b long fits =
     let sixteen : length (lanes b) ≡ 16 = ap (λ (bytes : List ℕ). length (lanes bytes)) (nineteen b long) in
     none_set_of (lanes b) (omega arith) ∙ lanes_are b long fits
 
 -- the last two digits stand behind the first sixteen bytes
-pub digits_of_parts : (b : List ℕ) → has_digits b ≡ (has_front_digits b && has_two b 17)
+digits_of_parts : (b : List ℕ) → has_digits b ≡ (has_front_digits b && has_two b 17)
 unfolding has_digits has_front_digits has_two
 digits_of_parts b = simp (and_assoc, and-true)
+
+-- the tests of the parts are those of the signs and of the digits
+joined : (digits p q r s two : Bool) → ((digits && p && q && r) && (s && two)) ≡ ((p && q && true && r && s) && (digits && two))
+joined true p q r s two = simp (and_assoc, and-true)
+joined false p q r s two = simp and-false
+
+pub shape_of_parts : (b : List ℕ) → has_separator b ≡ true → (is_shaped_front b && has_seconds b) ≡ (has_signs b && has_digits b)
+unfolding is_shaped_front has_seconds has_separator has_signs
+shape_of_parts b separator =
+    rw (separator, digits_of_parts b)
+    (joined (has_front_digits b) (slice_index b 4 == 45) (slice_index b 7 == 45) (slice_index b 13 == 58) (slice_index b 16 == 58) (has_two b 17))

@@ -52,7 +52,7 @@ two_digits_back : (n : ℕ) → n ≤ 99 → (n / 10 ≤ 9) × (n % 10 ≤ 9) ×
 two_digits_back n h = (omega arith, omega arith, omega arith)
 
 -- digits and then a zone
-past_back : (ds : List ℕ) (z : Zone) → AreDigits ds → past_digits (ds ++ zone_text z) ≡ zone_text z
+pub past_back : (ds : List ℕ) (z : Zone) → AreDigits ds → past_digits (ds ++ zone_text z) ≡ zone_text z
 past_back [] Nothing digits = refl
 past_back [] Letter_Z digits = refl
 past_back [] Offset digits = refl
@@ -60,7 +60,7 @@ past_back (c ∷ cs) z digits =
     let digit = is_digit_from c digits.0 in
     rw digit (past_back cs z digits.1)
 
-front_back : (ds : List ℕ) (z : Zone) → AreDigits ds → front_digits (ds ++ zone_text z) ≡ ds
+pub front_back : (ds : List ℕ) (z : Zone) → AreDigits ds → front_digits (ds ++ zone_text z) ≡ ds
 front_back [] Nothing digits = refl
 front_back [] Letter_Z digits = refl
 front_back [] Offset digits = refl
@@ -82,10 +82,10 @@ zone_back Offset = refl
 abbrev end_text : Option (List ℕ) → Zone → List ℕ
 end_text fraction zone = fraction_text fraction ++ zone_text zone
 
-abbrev begins_point : List ℕ → Bool
+abbrev pub begins_point : List ℕ → Bool
 begins_point r = slice_index r 0 == 46
 
-no_point : (z : Zone) → begins_point (zone_text z) ≡ false
+pub no_point : (z : Zone) → begins_point (zone_text z) ≡ false
 no_point Nothing = refl
 no_point Letter_Z = refl
 no_point Offset = refl

@@ -1,5 +1,5 @@
 -- The digits of a fraction, read from left to right.
-use Rattle.std.specs.Prelude.{◌≡◌, ℕ, ◌+◌, ◌-◌, ◌*◌, ◌/◌, ◌^◌, ◌<◌, ◌≤◌, List, [], ◌∷◌, length, drop, slice_index, IsTrue}
+use Rattle.std.specs.Prelude.{◌≡◌, ℕ, ◌+◌, ◌-◌, ◌*◌, ◌/◌, ◌^◌, ◌<◌, ◌≤◌, Bool, ◌&&◌, IsTrue, List, [], ◌∷◌, length, drop, slice_index}
 use Rattle.std.specs.Char.{is_ascii_digit}
 use Rattle.humantime.specs.Timestamps.Fields.{fraction_nanos}
 use Rattle.humantime.specs.Timestamps.Checks.{past_digits}
@@ -14,9 +14,13 @@ add_digits n u (c ∷ cs) = add_digits (n + u * (c - 48)) (u / 10) cs
 abbrev pub weight : ℕ → ℕ
 weight i = 100_000_000 / 10 ^ i
 
+-- three digits from place k on
+abbrev pub has_three : List ℕ → ℕ → Bool
+has_three b k =
+    is_ascii_digit (slice_index b k) && is_ascii_digit (slice_index b (k + 1)) && is_ascii_digit (slice_index b (k + 2))
+
 -- three digits stand from a place on, and they show this number
 pub record AreThreeAt (text : List ℕ) (at n : ℕ) : Type 0 where
-  pub within : at + 2 < length text
   pub first : IsTrue (is_ascii_digit (slice_index text at))
   pub second : IsTrue (is_ascii_digit (slice_index text (at + 1)))
   pub third : IsTrue (is_ascii_digit (slice_index text (at + 2)))

@@ -1,12 +1,13 @@
 -- The parts that a printer shows, and the text of a moment as a function.
-use Rattle.std.specs.Prelude.{◌≡◌, ℕ, zero, suc, ◌+◌, ◌*◌, ◌/◌, ◌%◌, ◌<◌, ◌≤◌, List, take, Option, Some, None, ℤ, pos, negsuc, nat_lt, ◌==◌, if◌then◌else◌}
+use Rattle.std.specs.Prelude.{◌≡◌, ℕ, zero, suc, ◌+◌, ◌*◌, ◌/◌, ◌%◌, ◌<◌, ◌≤◌, ℤ, pos, negsuc, nat_lt, ◌==◌, if◌then◌else◌}
+use Rattle.std.specs.Prelude.{List, [], ◌∷◌, take, Option, Some, None}
 use Rattle.humantime.specs.declared.date.print.Rfc3339Timestamp.{Rfc3339Timestamp}
 use Rattle.humantime.specs.declared.date.print.DateTime.{DateTime}
 use Rattle.humantime.specs.declared.date.print.Precision.{Precision}
 use Rattle.humantime.specs.declared.date.print.Precision.TheVariants.{Seconds, Millis, Micros, Nanos}
 use Rattle.humantime.specs.Calendar.Dates.{IsDate, day_of}
 use Rattle.humantime.specs.References.Calendar.DatesOfDays.{date_of}
-use Rattle.humantime.specs.Timestamps.Digits.{nine_digits}
+use Rattle.humantime.specs.Timestamps.Digits.{digit}
 use Rattle.humantime.specs.Values.Moments.{nano_of}
 use Rattle.humantime.specs.Values.Amounts.{nanos_per_second}
 use Rattle.humantime.specs.Timestamps.Fields.{Letter_T, Letter_Z, Fields, fields_text}
@@ -30,6 +31,13 @@ places_kept x = places x.precision
 -- the text is that moment, printed with so many digits
 abbrev pub IsTextOf : Rfc3339Timestamp → List ℕ → Type 0
 IsTextOf x text = IsPrinted (moment_kept x) (places_kept x) text
+
+-- a number below 10^9, in nine digits
+abbrev pub nine_digits : ℕ → List ℕ
+nine_digits n =
+    digit (n / 100_000_000) ∷ digit (n / 10_000_000 % 10) ∷ digit (n / 1_000_000 % 10)
+    ∷ digit (n / 100_000 % 10) ∷ digit (n / 10_000 % 10) ∷ digit (n / 1_000 % 10)
+    ∷ digit (n / 100 % 10) ∷ digit (n / 10 % 10) ∷ digit (n % 10) ∷ []
 
 -- nothing for no digits, and else the first k of nine
 abbrev pub cut_fraction : ℕ → ℕ → Option (List ℕ)

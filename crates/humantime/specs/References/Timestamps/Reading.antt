@@ -1,15 +1,15 @@
 -- The parts that the bytes show, place by place, where no check fails.
-use Rattle.std.specs.Prelude.{ℕ, ◌+◌, ◌*◌, ◌≤◌, min, Bool, ◌&&◌, ◌==◌, if◌then◌else◌, ℤ, pos, Option, Some, None, Result, Ok, Err, List, [], ◌∷◌, take, drop, slice_index, codes}
+use Rattle.std.specs.Prelude.{ℕ, ◌+◌, ◌*◌, ◌≤◌, min, Bool, ◌&&◌, ◌||◌, ◌==◌, nat_eq, if◌then◌else◌, ℤ, pos, Option, Some, None, Result, Ok, Err, List, [], ◌∷◌, take, drop, slice_index, codes}
 use Rattle.std.specs.Char.{is_ascii_digit}
-use Rattle.std.specs.List.{list_all}
+use Rattle.std.specs.List.{list_all, ends_with}
 use Rattle.std.specs.Str.{byte, bytes_eq}
 use Rattle.humantime.specs.declared.calendar.Date.{Date}
 use Rattle.humantime.specs.declared.date.error.TimestampError.{TimestampError}
 use Rattle.humantime.specs.declared.date.parse.Numbers.{Numbers}
 use Rattle.humantime.specs.Calendar.Dates.{IsDate, day_of}
 use Rattle.humantime.specs.declared.date.error.TimestampError.TheVariants.{InvalidDigit, InvalidFormat}
-use Rattle.humantime.specs.Timestamps.Fields.{Letter_T, Space, Zone, Nothing, Letter_Z, Offset, Fields, fraction_digits, fraction_nanos, moment_of}
-use Rattle.humantime.specs.Timestamps.Checks.{digit_places, number, past_digits, is_zone, has_point, ends_whole, ends_fraction, weak_checks, strict_checks, first_failed}
+use Rattle.humantime.specs.Timestamps.Fields.{Letter_T, Space, Zone, Nothing, Letter_Z, Offset, Fields, fraction_nanos, moment_of, fraction_digits}
+use Rattle.humantime.specs.Timestamps.Checks.{digit_places, number, past_digits, is_zone, has_signs, has_point, weak_checks, strict_checks, first_failed, ends_whole, ends_fraction}
 
 -- two digits from place k on
 unfoldable pub has_two : List ℕ → ℕ → Bool
@@ -18,6 +18,27 @@ has_two b k = is_ascii_digit (slice_index b k) && is_ascii_digit (slice_index b 
 -- digits in those of the places that lie in the first sixteen bytes
 unfoldable pub has_front_digits : List ℕ → Bool
 has_front_digits b = list_all (λ k. is_ascii_digit (slice_index b k)) (take 12 digit_places)
+
+-- these, and the signs between them, but for the one between date and time
+unfoldable pub is_shaped_front : List ℕ → Bool
+is_shaped_front b =
+    has_front_digits b && (slice_index b 4 == byte "-") && (slice_index b 7 == byte "-") && (slice_index b 13 == byte ":")
+
+-- the sign before the seconds, and their digits
+unfoldable pub has_seconds : List ℕ → Bool
+has_seconds b = (slice_index b 16 == byte ":") && has_two b 17
+
+-- `T` or a space between date and time
+unfoldable pub has_separator : List ℕ → Bool
+has_separator b = (slice_index b 10 == byte "T") || (slice_index b 10 == byte " ")
+
+-- the error of a text in which signs or digits are not in their places
+abbrev pub shape_error : List ℕ → TimestampError
+shape_error b = if has_signs b then InvalidDigit else InvalidFormat
+
+-- how many bytes the zone at the end has
+unfoldable pub zone_length : List ℕ → ℕ
+zone_length b = if ends_with nat_eq b (codes "Z") then 1 else (if ends_with nat_eq b (codes "+00:00") then 6 else 0)
 
 -- the digits at the front
 abbrev pub front_digits : List ℕ → List ℕ
@@ -71,12 +92,11 @@ fields_of b = record {
 abbrev pub fraction_answer : List ℕ → Result ℕ TimestampError
 fraction_answer rest = if is_zone (past_digits rest) then Ok (fraction_nanos (front_digits rest)) else Err InvalidDigit
 
--- the nanoseconds, or the error of the end
+-- the nanoseconds of what stands behind date and time, or its error
 abbrev pub end_answer : List ℕ → Result ℕ TimestampError
-end_answer b =
-    if ends_whole b
-    then (if ends_fraction b then Ok (fraction_nanos (fraction_digits (fraction_read b))) else Err InvalidDigit)
-    else Err InvalidFormat
+end_answer rest =
+    if slice_index rest 0 == byte "." then fraction_answer (drop 1 rest)
+    else (if is_zone rest then Ok 0 else Err InvalidFormat)
 
 -- the moment t where no check failed, else the error
 abbrev pub moment_or_error : Option TimestampError → ℕ → Result ℤ TimestampError

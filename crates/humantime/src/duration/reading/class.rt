@@ -14,15 +14,19 @@ pub(crate) enum Class {
     Other,
 }
 
-// The codes of the classes in the table: white space, digit, letter, point, other.
+/// The code of white space in the table.
 const W: u8 = 0;
 
+/// That of a digit.
 const D: u8 = 1;
 
+/// That of a letter.
 const L: u8 = 2;
 
+/// That of the point.
 const P: u8 = 3;
 
+/// That of any other character.
 const O: u8 = 4;
 
 /// The code of each ASCII character's class, sixteen characters a row.

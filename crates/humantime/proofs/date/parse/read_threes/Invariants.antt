@@ -2,8 +2,8 @@ use Rattle.std.proofs.Common.{◌≡◌, ◌-◌, ◌%◌, length}
 use Rattle.humantime.specs.References.Timestamps.Fractions.{IsRead}
 use Rattle.humantime.proofs.date.parse.read_threes.Given as goal
 
-abbrev pub invariant-loop-three : goal.invariant-loop-three
-invariant-loop-three l = (l.at % 3 ≡ 0) × IsRead l.rest l.at l.nanos
+abbrev pub invariant-loop-at : goal.invariant-loop-at
+invariant-loop-at l = (l.at % 3 ≡ 0) × IsRead l.ds l.at l.nanos
 
-abbrev pub decreases-loop-three : goal.decreases-loop-three
-decreases-loop-three l = length l.rest - l.at
+abbrev pub decreases-loop-at : goal.decreases-loop-at
+decreases-loop-at l = length l.ds - l.at
