@@ -1,6 +1,6 @@
 -- Waits that are doubled up to a cap.
 use Rattle.std.specs.Prelude.{ℕ, ◌*◌, ◌^◌, min, List, Result, Ok, Err}
-use Rattle.humantime.specs.Prelude.{Fault, duration_text}
+use Rattle.humantime.specs.Prelude.{Accepted, Canon, Fault, duration_text}
 
 -- the wait after so many tries: the first one, doubled as often, and at most the cap
 abbrev pub wait : ℕ → ℕ → ℕ → ℕ
@@ -11,3 +11,11 @@ abbrev pub wait_answer : ℕ → Result ℕ Fault → Result ℕ Fault → Resul
 wait_answer tries (Ok first) (Ok cap) = Ok (duration_text (wait first cap tries))
 wait_answer tries (Ok first) (Err fault) = Err fault
 wait_answer tries (Err fault) cap = Err fault
+
+-- Both texts are durations, and the third is the canonical text of the wait.
+pub record IsWaitText (tries : ℕ) (first cap text : List ℕ) : Type 0 where
+  pub first_wait : ℕ
+  pub longest : ℕ
+  pub read : Accepted first first_wait
+  pub capped : Accepted cap longest
+  pub shown : Canon (wait first_wait longest tries) text

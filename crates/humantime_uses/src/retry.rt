@@ -7,9 +7,9 @@
 //! wait_text("250ms", "1min", 3, &mut [0; 64]) == Ok("2s")
 //! ```
 
-ghost use Rattle.std.specs.Prelude.{◌≡◌, ◌+◌, min, chars};
+ghost use Rattle.std.specs.Prelude.{◌≡◌, ◌+◌, min, chars, IfOk};
 ghost use Rattle.humantime.specs.Prelude.{duration_answer, told_text};
-ghost use Rattle.humantime_uses.specs.Retry.{wait, wait_answer};
+ghost use Rattle.humantime_uses.specs.Retry.{IsWaitText, wait, wait_answer};
 
 use humantime::{DurationError, StdDuration, format_duration, parse_duration};
 
@@ -20,7 +20,8 @@ pub fn wait_text<'a, 'b>(
     tries: u32,
     buffer: &'b mut [u8; 64],
 ) -> Result<&'b str, DurationError<'a>>
-    ensures { told_text result ≡ wait_answer tries (duration_answer (chars first.now)) (duration_answer (chars cap.now)) }
+    ensures answer { told_text result ≡ wait_answer tries (duration_answer (chars first.now)) (duration_answer (chars cap.now)) }
+    ensures canon { IfOk result (λ text. IsWaitText tries (chars first.now) (chars cap.now) text.now) }
 {
     let first = parse_duration(first)?;
     let cap = parse_duration(cap)?;
