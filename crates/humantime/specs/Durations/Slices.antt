@@ -3,7 +3,7 @@ use Rattle.std.specs.Prelude.{◌≡◌, ℕ, true, List, [], ◌∷◌, ◌++�
 use Rattle.humantime.specs.Durations.Characters.{is_ws, is_digit, begins, ends, decimal_value, offset_of}
 use Rattle.humantime.specs.Durations.Spans.{Span, Only, Spells}
 use Rattle.humantime.specs.Durations.Faults.{Fault}
-use Rattle.humantime.specs.Durations.Items.{Items, ItemsAt}
+use Rattle.humantime.specs.Durations.Items.{Items}
 use Rattle.std.specs.Str.{byte}
 
 -- The slices of the number, of the fraction and of the word, the offsets where the number begins and where the word

@@ -8,8 +8,7 @@ use Rattle.humantime.specs.Durations.Faults.{Fault, NumberExpected, NumberOverfl
 use Rattle.humantime.specs.Durations.Sums.{total, additions_of, value}
 use Rattle.humantime.specs.Durations.Limits.{Formed}
 use Rattle.humantime.specs.Durations.Rests.{after_word, span_of}
-use Rattle.humantime.specs.Durations.Faults.{Fault, NumberExpected, NumberOverflow, Empty, Split, HasFault, Stops, No_number, Nothing_there, EndsInSpace}
-use Rattle.humantime.specs.Durations.Items.{Items, ItemsAt}
+use Rattle.humantime.specs.Durations.Items.{Items}
 use Rattle.humantime.specs.References.Durations.Reading.{stop_at, read, items}
 use Rattle.humantime.proofs.Durations.Reading.Runs.{ends-append, leading-past, Only-leading, begins-past}
 use Rattle.humantime.proofs.Durations.Reading.Spelled.{next_of, next_smaller}

@@ -4,7 +4,7 @@ use Rattle.std.specs.List.{AllByRecursion}
 use Rattle.std.specs.Str.{bytes_eq}
 use Rattle.std.proofs.lemmas.Bool.{cases_Bool, false≢true}
 use Rattle.std.proofs.lemmas.Slice.Eq.{bytes_eq-Decides}
-use Rattle.humantime.specs.Durations.Characters.{is_digit}
+use Rattle.humantime.specs.Durations.Characters.{is_digit, bare_zero}
 use Rattle.humantime.specs.Durations.Spans.{Span, Front, Reads}
 use Rattle.humantime.specs.Durations.Sums.{value}
 use Rattle.humantime.specs.Durations.Limits.{Formed, WithinLimits}

@@ -8,8 +8,8 @@ use Rattle.humantime.specs.declared.date.error.TimestampError.{TimestampError}
 use Rattle.humantime.specs.declared.date.parse.Numbers.{Numbers}
 use Rattle.humantime.specs.Calendar.Dates.{IsDate, day_of}
 use Rattle.humantime.specs.declared.date.error.TimestampError.TheVariants.{InvalidDigit, InvalidFormat}
-use Rattle.humantime.specs.Timestamps.Fields.{Letter_T, Space, Zone, Nothing, Letter_Z, Offset, Fields, fraction_nanos, moment_of, fraction_digits}
-use Rattle.humantime.specs.Timestamps.Checks.{digit_places, number, past_digits, is_zone, has_signs, has_point, weak_checks, strict_checks, first_failed, ends_whole, ends_fraction}
+use Rattle.humantime.specs.Timestamps.Fields.{Letter_T, Space, Zone, Nothing, Letter_Z, Offset, Fields, fraction_nanos, moment_of}
+use Rattle.humantime.specs.Timestamps.Checks.{digit_places, number, past_digits, is_zone, has_signs, has_point, weak_checks, strict_checks, first_failed}
 
 -- two digits from place k on
 unfoldable pub has_two : List ℕ → ℕ → Bool
