@@ -8,7 +8,7 @@ use Rattle.std.proofs.lemmas.List.Prefix.{end_rest}
 use Rattle.std.proofs.lemmas.Slice.Eq.{bytes_eq-Decides}
 use Rattle.humantime.specs.Timestamps.Fields.{Separator, Letter_T, Space, Zone, Nothing, Letter_Z, Offset, Fields, separator_byte, fraction_text, zone_text, time_text, written, IsWeak, IsStrict}
 use Rattle.humantime.specs.Timestamps.Checks.{ends_in_zone, is_complete}
-use Rattle.humantime.specs.Timestamps.Laws.{StrictIsWeak}
+use Rattle.humantime.specs.Laws.Timestamps.{StrictIsWeak}
 use Rattle.humantime.proofs.Timestamps.Reading.Bytes.{HoldsOfBytes, holds_before_zone, all_append, all_drop}
 
 -- neither `+` nor `Z`
