@@ -32,6 +32,8 @@ unsafe extern "C" {
     pub fn library_run(command: *const u8, command_length: usize, text: *const u8, text_length: usize, out: &mut Sink, err: &mut Sink) -> u8;
     pub fn library_read_duration(text: *const u8, length: usize, place: &mut Answer);
     pub fn library_unit(text: *const u8, length: usize, place: &mut [u8; 64]) -> usize;
+    pub fn library_duration_message(text: *const u8, length: usize, place: &mut [u8; 256]) -> usize;
+    pub fn library_moment_message(text: *const u8, length: usize, place: &mut [u8; 256]) -> usize;
     pub fn library_walk_spans(text: *const u8, length: usize, place: &mut Answer);
     pub fn library_canonical(text: *const u8, length: usize, place: &mut [u8; 64]) -> usize;
     pub fn library_print_duration(secs: u64, nanos: u32, place: &mut [u8; 64]) -> usize;
@@ -47,3 +49,10 @@ unsafe extern "C" {
 pub type ReadByLibrary = unsafe extern "C" fn(*const u8, usize, &mut Answer);
 
 pub type StampByLibrary = unsafe extern "C" fn(i64, u32, &mut [u8; 30]) -> usize;
+
+/// The text that a call leaves at the front of its place; the call answers how many bytes it has.
+pub fn text_of<const N: usize>(call: impl FnOnce(&mut [u8; N]) -> usize) -> String {
+    let mut place = [0; N];
+    let length = call(&mut place);
+    String::from_utf8_lossy(&place[..length]).into_owned()
+}

@@ -1,6 +1,6 @@
 //! Durations read: what each side answers, and which differences are listed.
 
-use crate::library::{Answer, library_read_duration, library_unit};
+use crate::library::{Answer, library_duration_message, library_read_duration, library_unit, text_of};
 use crate::rows::{Row, caught};
 use std::time::Duration;
 
@@ -71,6 +71,13 @@ fn has_unit(text: &str, start: usize, end: usize) -> bool {
     let kept = length.min(64);
     text.get(start..end)
         .is_some_and(|unit| unit.len() == length && unit.as_bytes()[..kept] == bytes[..kept])
+}
+
+/// The messages of both sides' errors, where they differ. The library's export has room for 256 bytes.
+pub fn other_messages(text: &str) -> Option<(String, String)> {
+    let by_crate = humantime::parse_duration(text).err()?.to_string();
+    let by_library = text_of(|place| unsafe { library_duration_message(text.as_ptr(), text.len(), place) });
+    (by_crate != by_library && by_crate.len() <= 256).then_some((by_crate, by_library))
 }
 
 /// The rows under which the library's answer is what it has to be, or none: then the difference is not listed.

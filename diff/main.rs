@@ -22,6 +22,9 @@ fn read_duration(counts: &mut Counts, text: &str) {
     counts.case();
     let (by_crate, by_library) = (durations::read_by_crate(text), durations::read_by_library(text));
     if by_crate == by_library && by_crate.is_some() {
+        if let Some(messages) = durations::other_messages(text) {
+            counts.differs_unlisted(|| format!("messages of duration {text:?}: {messages:?}"));
+        }
         return;
     }
     let tell = || format!("duration {text:?}: the crate {by_crate:?}, the library {by_library:?}");
@@ -35,9 +38,7 @@ fn read_duration(counts: &mut Counts, text: &str) {
 fn print_duration(counts: &mut Counts, secs: u64, nanos: u32) {
     counts.case();
     let by_crate = caught(|| humantime::format_duration(Duration::new(secs, nanos)).to_string());
-    let mut place = [0; 64];
-    let length = unsafe { library::library_print_duration(secs, nanos, &mut place) };
-    let by_library = String::from_utf8_lossy(&place[..length]).into_owned();
+    let by_library = library::text_of(|place| unsafe { library::library_print_duration(secs, nanos, place) });
     if by_crate.as_ref() != Ok(&by_library) {
         let tell =
             || format!("duration of {secs} s and {nanos} ns: the crate {by_crate:?}, the library {by_library:?}");
@@ -53,6 +54,9 @@ fn print_duration(counts: &mut Counts, secs: u64, nanos: u32) {
 
 /// Reads a timestamp by both parsers on both sides.
 fn read_moment(counts: &mut Counts, text: &str) {
+    if let Some(messages) = moments::other_messages(text) {
+        counts.differs_unlisted(|| format!("messages of timestamp {text:?}: {messages:?}"));
+    }
     for parser in &PARSERS {
         counts.case();
         let (by_crate, by_library) = (parser.read_by_crate(text), parser.read_by_library(text));

@@ -63,6 +63,13 @@ impl Parser {
     }
 }
 
+/// The messages of both sides' errors by the weak parser, where they differ.
+pub fn other_messages(text: &str) -> Option<(String, String)> {
+    let by_crate = humantime::parse_rfc3339_weak(text).err()?.to_string();
+    let by_library = text_of(|place| unsafe { library_moment_message(text.as_ptr(), text.len(), place) });
+    (by_crate != by_library).then_some((by_crate, by_library))
+}
+
 /// The row that lists the difference of these answers to the text.
 pub fn explained(text: &str, by_crate: Read, by_library: Read) -> Option<Row> {
     let end = text.as_bytes().get(19..)?;
@@ -130,9 +137,7 @@ impl Printer {
 
     /// The library's text, or nothing where it has none.
     pub fn print_by_library(&self, secs: i64, nanos: u32) -> String {
-        let mut place = [0; 30];
-        let length = unsafe { (self.by_library)(secs, nanos, &mut place) };
-        String::from_utf8_lossy(&place[..length]).into_owned()
+        text_of(|place| unsafe { (self.by_library)(secs, nanos, place) })
     }
 }
 
