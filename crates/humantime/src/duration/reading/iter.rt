@@ -5,8 +5,8 @@ ghost use Rattle.std.proofs.Props.{props};
 ghost use Rattle.humantime.specs.Durations.Errors.{PointsInto};
 ghost use Rattle.humantime.specs.References.Durations.Scanning.{IsTail};
 
-use crate::duration::reading::class::{Class, class_of};
 use crate::duration::error::DurationError;
+use crate::duration::reading::class::{Class, class_of};
 use crate::duration::reading::reader::span_at;
 use crate::duration::reading::scan::first;
 use crate::duration::reading::slices::{offset_of, past_space};

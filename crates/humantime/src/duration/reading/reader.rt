@@ -12,9 +12,9 @@ ghost use Rattle.humantime.specs.References.Durations.Scanning.{IsTail, bare, en
 ghost use Rattle.humantime.specs.References.Durations.SpanParts.{ArePartsOf};
 ghost use Rattle.humantime.specs.Durations.Units.{scale_of_word};
 
+use crate::duration::error::DurationError;
 use crate::duration::reading::amount::{Amount, Fraction};
 use crate::duration::reading::class::{Class, class_of};
-use crate::duration::error::DurationError;
 use crate::duration::reading::scan::{first, read_fraction, read_number};
 use crate::duration::reading::slices::{before, offset_of, read_word};
 use crate::duration::reading::span::Span;

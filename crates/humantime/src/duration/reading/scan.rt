@@ -9,9 +9,9 @@ ghost use Rattle.humantime.specs.References.Durations.Scales.{parts_of};
 ghost use Rattle.humantime.specs.References.Durations.Scanning.{IsTail, number_at, digits_at, fraction_read, StepsOver};
 ghost use Rattle.humantime.specs.declared.duration.reading.class.Class.TheVariants.{Digit};
 
+use crate::duration::error::DurationError;
 use crate::duration::reading::amount::Fraction;
 use crate::duration::reading::class::{Class, ascii_class, wide_class};
-use crate::duration::error::DurationError;
 
 /// How many digits a fraction may have before the zeros at its end.
 const FRACTION_DIGITS: u32 = 19;
