@@ -1,6 +1,7 @@
 -- The classes of characters exclude each other.
-use Rattle.std.proofs.Common.{◌≡◌, ℕ, Bool, true, false, ◌||◌, if◌then◌else◌, refl, sym, ◌∙◌, arith}
-use Rattle.std.specs.Char.{is_whitespace, char_set_contains}
+use Rattle.std.proofs.Common.{◌≡◌, ◌≤◌, ℕ, Bool, true, false, ◌||◌, if◌then◌else◌, refl, sym, ◌∙◌, arith}
+use Rattle.std.specs.Char.{is_whitespace, char_set_contains, is_ascii_digit, is_ascii_alphabetic}
+use Rattle.std.specs.Prelude.{◌==◌}
 use Rattle.std.proofs.lemmas.Bool.{or_parts}
 use Rattle.std.proofs.lemmas.Bool.Decides.{nat_tests}
 use Rattle.humantime.specs.declared.duration.reading.class.Class.{Class}
@@ -96,6 +97,41 @@ white_of false false false false = refl
 pub white_is : (c : ℕ) → is_whitespace c ≡ is_ws c
 unfolding class_of
 white_is c = white_space_listed c ∙ sym (white_of _ _ _ _)
+
+-- a digit is one of ASCII
+digit_of : (w d l p : Bool) → (w ≡ true → d ≡ false) → d ≡ digit (if w then White else if d then Digit else if l then Letter else if p then Point else Other)
+digit_of true d l p h = h refl
+digit_of false true l p h = refl
+digit_of false false true p h = refl
+digit_of false false false true h = refl
+digit_of false false false false h = refl
+
+white_no_digit : (c : ℕ) → char_set_contains white_spaces c ≡ true → is_ascii_digit c ≡ false
+unfolding white_spaces
+white_no_digit c white = grind (arith, nat_tests)
+
+pub digit_is : (c : ℕ) → is_ascii_digit c ≡ is_digit c
+unfolding class_of
+digit_is c = digit_of _ _ _ _ (white_no_digit c)
+
+pub wide_no_digit : (c : ℕ) → 128 ≤ c → is_ascii_digit c ≡ false
+wide_no_digit c wide = grind (arith, nat_tests)
+
+wide_no_point : (c : ℕ) → 128 ≤ c → (c == 46) ≡ false
+wide_no_point c wide = grind (arith, nat_tests)
+
+-- a character beyond ASCII that is neither white space nor a letter is another
+other_of : (w d l p : Bool) → w ≡ false → d ≡ false → p ≡ false → letter (if w then White else if d then Digit else if l then Letter else if p then Point else Other) ≡ false
+    → Other ≡ (if w then White else if d then Digit else if l then Letter else if p then Point else Other)
+other_of true d l p e f g h = cc
+other_of false true l p e f g h = cc
+other_of false false l true e f g h = cc
+other_of false false true false e f g h = cc
+other_of false false false false e f g h = refl
+
+pub wide_other : (c : ℕ) → 128 ≤ c → char_set_contains white_spaces c ≡ false → is_letter c ≡ false → Other ≡ class_of c
+unfolding class_of
+wide_other c wide white plain = other_of (char_set_contains white_spaces c) (is_ascii_digit c) (is_ascii_alphabetic c || c == 0xb5 || c == 0x3bc) (c == 46) white (wide_no_digit c wide) (wide_no_point c wide) plain
 
 -- the point is one character
 pub is_point-46 : is_point 46 ≡ true

@@ -1,8 +1,6 @@
 -- One step over the items of a text, and their sum so far.
 use Rattle.std.proofs.Common.{◌≡◌, ◌≢◌, ℕ, zero, suc, ◌≤◌, Bool, true, false, List, [], ◌∷◌, length, Option, Some, None, Result, Ok, Err, if◌then◌else◌, refl, sym, ap, ◌∙◌, arith}
-use Rattle.humantime.specs.declared.duration.reading.class.Class.{Class}
-use Rattle.humantime.specs.declared.duration.reading.class.Class.TheVariants.{White, Digit, Letter, Point, Other}
-use Rattle.humantime.specs.Durations.Characters.{class_of, digit, is_ws, is_digit, begins, past, offset_of}
+use Rattle.humantime.specs.Durations.Characters.{is_ws, is_digit, begins, past, offset_of}
 use Rattle.humantime.specs.Durations.Faults.{Fault, NumberExpected, NumberOverflow, after_word}
 use Rattle.humantime.specs.References.Durations.Reading.{stop_at, add_span}
 use Rattle.humantime.specs.Durations.Slices.{Lent}
@@ -49,20 +47,6 @@ left_stopped first text (c ∷ cs) e d s = lends-stopped (length cs) text (c ∷
 left_expected : (first : Bool) (text rest : List ℕ) → rest ≢ [] → begins is_digit rest ≡ false → left_at first text rest ≡ Err (NumberExpected (offset_of text rest)) ∷ []
 left_expected first text [] n d = absurd (n refl)
 left_expected first text (c ∷ cs) n d = lends-expected (length cs) text (c ∷ cs) n d
-
--- how a rest begins, by the class of its first character
-pub begins_digit : (c : ℕ) (rest cs : List ℕ) (k : Class) → k ≡ Digit → k ≡ class_of c → rest ≡ c ∷ cs → begins is_digit rest ≡ true
-begins_digit c rest cs k d e r = ap (begins is_digit) r ∙ ap digit (sym e ∙ d)
-
-pub begins_no_digit : (c : ℕ) (rest cs : List ℕ) (k : Class) → k ≢ Digit → k ≡ class_of c → rest ≡ c ∷ cs → (rest ≢ []) × (begins is_digit rest ≡ false)
-begins_no_digit c rest cs k n e r = (λ z. cc, ap (begins is_digit) r ∙ ap digit (sym e) ∙ by k n)
-  where
-    by : (k : Class) → k ≢ Digit → digit k ≡ false
-    by White n = refl
-    by Digit n = absurd (n refl)
-    by Letter n = refl
-    by Point n = refl
-    by Other n = refl
 
 -- the items that are left before a text whose white space is still to be passed, unless they have ended
 abbrev pub left : Bool → Bool → List ℕ → List ℕ → List (Result Lent Fault)

@@ -12,8 +12,8 @@ ghost use Rattle.humantime.specs.References.Durations.Printing.{with_seconds, wi
 ghost use Rattle.humantime.specs.References.Durations.Writing.{written};
 
 use crate::duration::error::DurationError;
-use crate::duration::reading::parse_duration;
 use crate::duration::printing::writer::{Writer, front};
+use crate::duration::reading::parse_duration;
 use crate::value::StdDuration;
 use std::fmt;
 use std::marker::Model;

@@ -54,7 +54,7 @@ fn outcome_of<'a>(text: &'a str) -> Result<StdDuration, DurationError<'a>>
     ensures answer { told result ≡ duration_answer (chars text.now) }
     ensures place { IfErr result (PointsInto text.now) }
 {
-    if text == "0" {
+    if text.len() == 1 && text == "0" {
         return Ok(StdDuration::ZERO);
     }
     sum_of(text)

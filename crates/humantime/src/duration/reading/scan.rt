@@ -1,47 +1,21 @@
 //! Steps over a text: a character, a number, a fraction.
 
-ghost use Rattle.std.specs.Prelude.{◌≡◌, false, ◌≢◌, ◌++◌, [], ◌∷◌, ℕ, List, length, chars, option_map, encode_utf8, IfNone, IfSome, IfOk, SomeIff, ◌+◌, ◌-◌, ◌*◌, ◌≤◌, slice_index, IsCharBoundary, ◌<◌};
-ghost use Rattle.humantime.specs.Durations.Characters.{IsDigit, is_point, begins, u64_max};
+ghost use Rattle.std.specs.Prelude.{◌≡◌, false, ◌≢◌, ◌++◌, [], ◌∷◌, ℕ, List, ◌==◌, ◌&&◌, ◌||◌, length, chars, option_map, encode_utf8, IfNone, IfSome, IfOk, SomeIff, ◌+◌, ◌-◌, ◌*◌, ◌≤◌, slice_index, IsCharBoundary, ◌<◌};
+ghost use Rattle.humantime.specs.Durations.Characters.{IsDigit, is_digit, is_point, begins, u64_max};
 ghost use Rattle.humantime.specs.Durations.Errors.{seen};
 ghost use Rattle.humantime.specs.References.Durations.Scales.{parts_of};
-ghost use Rattle.humantime.specs.References.Durations.Scanning.{IsTail, number_at, digits_at, fraction_read, StepsOver};
-ghost use Rattle.humantime.specs.declared.duration.reading.class.Class.TheVariants.{Digit};
+ghost use Rattle.humantime.specs.References.Durations.Scanning.{IsTail, first_class, number_at, digits_at, fraction_read, StepsOver};
+ghost use Rattle.humantime.specs.declared.duration.reading.class.Class.TheVariants.{Digit, Letter};
 
+use crate::duration::error::DurationError;
 use crate::duration::reading::amount::Fraction;
 use crate::duration::reading::class::{Class, ascii_class, wide_class};
-use crate::duration::error::DurationError;
 
 /// How many digits a fraction may have before the zeros at its end.
 const FRACTION_DIGITS: u32 = 19;
 
 /// A number up to this one can take another digit.
 const TENTH_OF_MAX: u64 = 1_844_674_407_370_955_161;
-
-/// The first character of a text, for one that is not ASCII.
-#[cold]
-#[inline(never)]
-fn wide_char(text: &str) -> char
-    requires { chars text.now ≢ [] }
-    ensures { (rest : List ℕ) × (text.now ≡ encode_utf8 result ++ rest) }
-{
-    first_char(text)
-}
-
-/// The class of the character at this place, for one that is not ASCII, and the place after it.
-///
-/// It stands out of line, so that loops over ASCII stay small, and answers numbers alone. It is not marked as rarely
-/// called: then the loops around it get slower.
-#[inline(never)]
-pub(crate) fn wide_step(text: &str, at: usize) -> (Class, usize)
-    requires place { IsCharBoundary text.now at }
-    requires some { at < length text.now }
-    requires wide { 128 ≤ slice_index text.now at }
-    ensures step { StepsOver text.now at result.0 result.1 }
-    ensures no_digit { result.0 ≢ Digit }
-{
-    let c = first_char(&text[at..]);
-    (wide_class(c), at + c.len_utf8())
-}
 
 /// The first character of a text that has one.
 #[inline(always)]
@@ -55,23 +29,58 @@ fn first_char(text: &str) -> char
     }
 }
 
-/// The first character, and the text after it.
+/// Whether these are the two bytes of the micro sign, or those of the Greek letter mu.
 #[inline(always)]
-pub(crate) fn first(text: &str) -> Option<(char, &str)>
-    ensures none { IfNone result (chars text.now ≡ []) }
-    ensures chars { IfSome result (λ x. chars text.now ≡ x.0 ∷ chars x.1.now) }
-    ensures tail { IfSome result (λ x. IsTail text.now x.1.now) }
+fn is_mu(first: u8, second: u8) -> bool
+    ensures { result ≡ ((first == 0xc2 && second == 0xb5) || (first == 0xce && second == 0xbc)) }
+{
+    first == 0xc2 && second == 0xb5 || first == 0xce && second == 0xbc
+}
+
+/// The class of the character at this place, for one that is not ASCII, and the place after it.
+///
+/// It stands out of line, so that loops over ASCII stay small, and answers numbers alone. It is not marked as rarely
+/// called: then the loops around it get slower. The letters beyond ASCII are told by their bytes.
+#[inline(never)]
+pub(crate) fn wide_step(text: &str, at: usize) -> (Class, usize)
+    requires place { IsCharBoundary text.now at }
+    requires some { at < length text.now }
+    requires wide { 128 ≤ slice_index text.now at }
+    ensures step { StepsOver text.now at result.0 result.1 }
+    ensures no_digit { result.0 ≢ Digit }
+    ensures letter { result.0 ≡ Letter → result.1 ≡ at + 2 }
+{
+    let bytes = text.as_bytes();
+    if at + 1 < bytes.len() && is_mu(bytes[at], bytes[at + 1]) {
+        return (Class::Letter, at + 2);
+    }
+    let c = first_char(&text[at..]);
+    (wide_class(c), at + c.len_utf8())
+}
+
+/// The class of the first character, if there is one.
+#[inline(always)]
+pub(crate) fn first_class(text: &str) -> Option<Class>
+    ensures { result ≡ first_class (chars text.now) }
 {
     let bytes = text.as_bytes();
     if bytes.is_empty() {
         return None;
     }
-    let byte = bytes[0];
-    if byte < 0x80 {
-        return Some((byte as char, &text[1..]));
+    if bytes[0] < 0x80 {
+        return Some(ascii_class(bytes[0]));
     }
-    let c = wide_char(text);
-    Some((c, &text[c.len_utf8()..]))
+    let (class, _) = wide_step(text, 0);
+    Some(class)
+}
+
+/// Whether the first character is a digit.
+#[inline(always)]
+pub(crate) fn begins_with_digit(text: &str) -> bool
+    ensures { result ≡ begins is_digit (chars text.now) }
+{
+    let bytes = text.as_bytes();
+    !bytes.is_empty() && bytes[0].is_ascii_digit()
 }
 
 /// Ten times the value and the digit, or `None` where that is too large.
@@ -169,7 +178,7 @@ fn read_digits<'a>(text: &'a str) -> Result<(Fraction, &'a str), DurationError<'
 
 /// What follows the point at the front of the text, if there is one.
 #[inline(always)]
-fn past_point(text: &str) -> Option<&str>
+pub(crate) fn past_point(text: &str) -> Option<&str>
     ensures none { IfNone result (begins is_point (chars text.now) ≡ false) }
     ensures chars { IfSome result (λ rest. chars text.now ≡ 46 ∷ chars rest.now) }
     ensures tail { IfSome result (λ rest. IsTail text.now rest.now) }
