@@ -50,6 +50,8 @@ fn sum_of<'a>(text: &'a str) -> Result<StdDuration, DurationError<'a>>
     Ok(total)
 }
 
+/// The value of a text, or its first fault.
+#[inline(always)]
 fn outcome_of<'a>(text: &'a str) -> Result<StdDuration, DurationError<'a>>
     ensures answer { told result ≡ duration_answer (chars text.now) }
     ensures place { IfErr result (PointsInto text.now) }
@@ -70,6 +72,7 @@ fn outcome_of<'a>(text: &'a str) -> Result<StdDuration, DurationError<'a>>
 /// ```text
 /// parse_duration("2h 37min") == Ok(StdDuration::from_secs(9420))
 /// ```
+#[inline(always)]
 pub fn parse_duration(s: &str) -> Result<StdDuration, DurationError<'_>>
     ensures value { (v : ℕ) → (told result ≡ Ok v) ↔ Accepted (chars s.now) v }
     ensures fault { (e : Fault) → (told result ≡ Err e) ↔ HasFault (chars s.now) e }
