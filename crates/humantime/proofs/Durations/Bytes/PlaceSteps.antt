@@ -8,7 +8,7 @@ use Rattle.std.proofs.lemmas.Bool.Decides.{nat_tests}
 use Rattle.std.proofs.lemmas.Str.{IsUtf8-drop, IsCharBoundary-after_ascii, IsCharBoundary-from_rest, chars_past_char, encode_ascii}
 use Rattle.humantime.specs.declared.duration.reading.class.Class.{Class}
 use Rattle.humantime.specs.declared.duration.reading.class.Class.TheVariants.{White, Digit, Letter, Point, Other}
-use Rattle.humantime.specs.Durations.Characters.{class_of, white_spaces, is_letter, is_ws, is_numeric, begins, past}
+use Rattle.humantime.specs.Durations.Characters.{class_of, white_spaces, is_letter, is_ws, begins, past}
 use Rattle.humantime.specs.References.Durations.Scanning.{IsTail, StepsOver}
 use Rattle.humantime.proofs.Durations.Bytes.Digits.{digit_greatest}
 use Rattle.humantime.proofs.Durations.Bytes.Numbers.{past_letters, past_space}
@@ -161,28 +161,22 @@ no_letter c cs rest Letter e d n = absurd (n refl)
 no_letter c cs rest Point e d n = rw (e, ← d) refl
 no_letter c cs rest Other e d n = rw (e, ← d) refl
 
-no_space : (c : ℕ) (cs rest : List ℕ) (class : Class) → rest ≡ c ∷ cs → class ≡ class_of c → (class ≡ White → ⊥) → rest ≡ past is_ws rest
-no_space c cs rest White e d n = absurd (n refl)
-no_space c cs rest Digit e d n = rw (e, ← d) refl
-no_space c cs rest Letter e d n = rw (e, ← d) refl
-no_space c cs rest Point e d n = rw (e, ← d) refl
-no_space c cs rest Other e d n = rw (e, ← d) refl
-
 pub letters_end : (text : List ℕ) (at next : ℕ) (class : Class) → StepsOver text at class next → (class ≡ Letter → ⊥) → chars (drop at text) ≡ past is_letter (chars (drop at text))
 letters_end text at next class s n = no_letter s.char (chars (drop next text)) (chars (drop at text)) class s.chars s.is n
 
-pub space_ends : (text : List ℕ) (at next : ℕ) (class : Class) → StepsOver text at class next → (class ≡ White → ⊥) → chars (drop at text) ≡ past is_ws (chars (drop at text))
-space_ends text at next class s n = no_space s.char (chars (drop next text)) (chars (drop at text)) class s.chars s.is n
+pub space_ends : (rest : List ℕ) → begins is_ws rest ≡ false → rest ≡ past is_ws rest
+space_ends [] e = refl
+space_ends (c ∷ cs) e = rw e refl
 
-no_number : (c : ℕ) (cs rest : List ℕ) (class : Class) → rest ≡ c ∷ cs → class ≡ class_of c → class ≢ White → class ≢ Digit → begins is_numeric rest ≡ false
-no_number c cs rest White e d w n = absurd (w refl)
-no_number c cs rest Digit e d w n = absurd (n refl)
-no_number c cs rest Letter e d w n = rw (e, ← d) refl
-no_number c cs rest Point e d w n = rw (e, ← d) refl
-no_number c cs rest Other e d w n = rw (e, ← d) refl
+no_white : (c : ℕ) (cs rest : List ℕ) (class : Class) → rest ≡ c ∷ cs → class ≡ class_of c → class ≢ White → begins is_ws rest ≡ false
+no_white c cs rest White e d w = absurd (w refl)
+no_white c cs rest Digit e d w = rw (e, ← d) refl
+no_white c cs rest Letter e d w = rw (e, ← d) refl
+no_white c cs rest Point e d w = rw (e, ← d) refl
+no_white c cs rest Other e d w = rw (e, ← d) refl
 
-pub number_stops : (text : List ℕ) (at next : ℕ) (class : Class) → StepsOver text at class next → class ≢ White → class ≢ Digit → begins is_numeric (chars (drop at text)) ≡ false
-number_stops text at next class s w n = no_number s.char (chars (drop next text)) (chars (drop at text)) class s.chars s.is w n
+pub white_stops : (text : List ℕ) (at next : ℕ) (class : Class) → StepsOver text at class next → class ≢ White → begins is_ws (chars (drop at text)) ≡ false
+white_stops text at next class s w = no_white s.char (chars (drop next text)) (chars (drop at text)) class s.chars s.is w
 
 -- no characters stand at the end
 pub no_chars_at : (text : List ℕ) (at : ℕ) → length text ≤ at → chars (drop at text) ≡ []

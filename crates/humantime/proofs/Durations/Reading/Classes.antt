@@ -114,6 +114,16 @@ pub digit_is : (c : ℕ) → is_ascii_digit c ≡ is_digit c
 unfolding class_of
 digit_is c = digit_of _ _ _ _ (white_no_digit c)
 
+digit_class : (k : Class) → digit k ≡ true → k ≡ Digit
+digit_class White e = cc
+digit_class Digit e = refl
+digit_class Letter e = cc
+digit_class Point e = cc
+digit_class Other e = cc
+
+pub ascii_digit_class : (c : ℕ) → is_ascii_digit c ≡ true → class_of c ≡ Digit
+ascii_digit_class c e = digit_class (class_of c) (sym (digit_is c) ∙ e)
+
 pub wide_no_digit : (c : ℕ) → 128 ≤ c → is_ascii_digit c ≡ false
 wide_no_digit c wide = grind (arith, nat_tests)
 

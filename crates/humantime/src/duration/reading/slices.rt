@@ -6,8 +6,7 @@ ghost use Rattle.humantime.specs.Durations.Characters.{is_ws, past, offset_of};
 ghost use Rattle.humantime.specs.References.Durations.Lending.{trimmed};
 ghost use Rattle.humantime.specs.References.Durations.Scanning.{IsTail};
 
-use crate::duration::reading::class::{Class, ascii_class};
-use crate::duration::reading::scan::wide_step;
+use crate::duration::reading::scan::white_step;
 
 /// The offset at which a part begins that goes on to the end of the text.
 #[inline(always)]
@@ -39,17 +38,9 @@ pub(crate) fn past_space<'a>(text: &'a str) -> &'a str
     let bytes = text.as_bytes();
     let mut at = 0;
     while at < bytes.len() {
-        if bytes[at] < 0x80 {
-            match ascii_class(bytes[at]) {
-                Class::White => at += 1,
-                _ => return &text[at..],
-            }
-        } else {
-            let (class, next) = wide_step(text, at);
-            match class {
-                Class::White => at = next,
-                _ => return &text[at..],
-            }
+        match white_step(text, at) {
+            Some(next) => at = next,
+            None => break,
         }
     }
     &text[at..]
