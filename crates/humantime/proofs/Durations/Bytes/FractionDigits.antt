@@ -4,13 +4,13 @@ use Rattle.std.proofs.lemmas.Bool.{lt-ltb, le-ltb, ne_eqb}
 use Rattle.std.proofs.lemmas.Nat.{pow-add}
 use Rattle.std.proofs.Math.Nat.{pow-suc, pow-le-pow_right, mul-le-mul_right}
 use Rattle.std.specs.Str.Parse.{digits_value_after}
-use Rattle.humantime.specs.declared.duration.reading.class.Class.TheVariants.{White, Digit}
+use Rattle.humantime.specs.declared.duration.reading.class.Class.TheVariants.{Digit}
 use Rattle.humantime.specs.Durations.Characters.{class_of, is_numeric, begins, leading, past, digits, decimal_value, significant}
 use Rattle.humantime.specs.Durations.Faults.{NumberOverflow, number_of, after_number}
 use Rattle.humantime.specs.References.Durations.Scales.{has_digits}
 use Rattle.humantime.specs.References.Durations.Scanning.{digits_at}
 use Rattle.humantime.proofs.Durations.Bytes.Digits.{digit_greatest, digit_counts}
-use Rattle.humantime.proofs.Durations.Bytes.Numbers.{digit_first, space_first, past_digit, past_white, no_digits, rest_there}
+use Rattle.humantime.proofs.Durations.Bytes.Numbers.{digit_first, past_digit, no_digits, rest_there}
 use Rattle.humantime.proofs.Durations.Reading.SignificantDigits.{zeros, zeros_cons, length-zeros, value-append, value-zeros, significant-zeros_behind, significant_long, significant_last}
 
 -- The digits that are read begin with n of them, read as v, that end with no zero, and z zeros follow; the other digits that
@@ -28,18 +28,6 @@ pub record IsAmong (text : List ℕ) (v n z : ℕ) (rest : List ℕ) : Type 0 wh
 pub among_none : (text : List ℕ) → IsAmong text 0 0 0 text
 unfolding significant
 among_none text = record { taken = []; all = refl; value = refl; count = refl; kept = refl; rest_is = refl; small = omega arith; fits = omega arith }
-
-pub among_space : (text rest cs : List ℕ) (v n z c : ℕ) → IsAmong text v n z rest → rest ≡ c ∷ cs → class_of c ≡ White → IsAmong text v n z cs
-among_space text rest cs v n z c h e d = record {
-  taken = h.taken;
-  all = h.all ∙ ap (λ (l : List ℕ). h.taken ++ (zeros z ++ l)) (space_first c cs rest e d);
-  value = h.value;
-  count = h.count;
-  kept = h.kept;
-  rest_is = sym (past_white c cs rest e d) ∙ h.rest_is;
-  small = h.small;
-  fits = h.fits;
-}
 
 one_more : (z : ℕ) → suc z ≡ z + 1
 one_more z = omega arith

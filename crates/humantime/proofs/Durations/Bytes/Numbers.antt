@@ -40,13 +40,6 @@ at_digit text rest cs v w c h e d n f = record {
   fits = f;
 }
 
-pub at_space : (text rest cs : List ℕ) (v c : ℕ) → IsAt text v rest → rest ≡ c ∷ cs → class_of c ≡ White → IsAt text v cs
-at_space text rest cs v c h e d = record {
-  value = sym (ap (digits_value_after 10 v) (space_first c cs rest e d)) ∙ h.value;
-  rest_is = sym (past_white c cs rest e d) ∙ h.rest_is;
-  fits = h.fits;
-}
-
 pub number_passes : (text rest cs : List ℕ) (v c : ℕ) → IsAt text v rest → rest ≡ c ∷ cs → class_of c ≡ Digit → u64_max < v * 10 + (c - 48) → Err NumberOverflow ≡ number_at text
 number_passes text rest cs v c h e d over =
     let value : digits_value_after 10 (v * 10 + digit_value c) (digits (leading is_numeric cs)) ≡ decimal_value (number_of text) = sym (ap (digits_value_after 10 v) (digit_first c cs rest e d)) ∙ h.value in

@@ -1,5 +1,5 @@
 -- Places in a text, at which a character begins or the text ends, and steps from one to the next.
-use Rattle.std.proofs.Common.{◌≡◌, ◌<◌, ◌≤◌, ◌-◌, ◌+◌, ◌≢◌, ℕ, suc, List, [], ◌∷◌, ◌++◌, length, get_or, drop, drop-drop, refl, ap, sym, ◌∙◌, arith, add-one, length-drop, IsUtf8, IsCharBoundary, chars, encode_utf8, Bool, true, false, ◌⊎◌, inl, inr}
+use Rattle.std.proofs.Common.{◌≡◌, ◌<◌, ◌≤◌, ◌+◌, ◌≢◌, ℕ, suc, List, [], ◌∷◌, ◌++◌, length, get_or, drop, drop-drop, refl, ap, sym, ◌∙◌, arith, add-one, length-drop, IsUtf8, IsCharBoundary, chars, encode_utf8, Bool, true, false, ◌⊎◌, inl, inr}
 use Rattle.std.specs.Prelude.{◌==◌, ◌&&◌, ◌||◌}
 use Rattle.std.proofs.Math.Seq.{drop-cons}
 use Rattle.std.proofs.Math.Utf8.{encode}
@@ -9,9 +9,9 @@ use Rattle.std.proofs.lemmas.Str.{IsUtf8-drop, IsCharBoundary-after_ascii, IsCha
 use Rattle.humantime.specs.declared.duration.reading.class.Class.{Class}
 use Rattle.humantime.specs.declared.duration.reading.class.Class.TheVariants.{White, Digit, Letter, Point, Other}
 use Rattle.humantime.specs.Durations.Characters.{class_of, white_spaces, is_letter, is_ws, begins, past}
-use Rattle.humantime.specs.References.Durations.Scanning.{IsTail, StepsOver}
+use Rattle.humantime.specs.References.Durations.Scanning.{StepsOver}
 use Rattle.humantime.proofs.Durations.Bytes.Digits.{digit_greatest}
-use Rattle.humantime.proofs.Durations.Bytes.Numbers.{past_letters, past_space}
+use Rattle.humantime.proofs.Durations.Bytes.Numbers.{past_letters}
 use Rattle.humantime.proofs.Durations.Bytes.Tails.{past_begins, past_begins_boundary, no_bytes}
 
 -- over one byte of ASCII
@@ -132,26 +132,11 @@ no_digit c wide is =
     let most = digit_greatest c is in
     omega arith
 
--- what stands from a place on is a tail
-pub tail_at : (text : List ℕ) (at : ℕ) → IsUtf8 text → IsCharBoundary text at → IsTail text (drop at text)
-tail_at text at u place =
-    let back : length text - length (drop at text) ≡ at = omega (arith, length-drop at text, place.0) in
-    record {
-      shorter = omega (arith, length-drop at text);
-      ends = ap (λ (k : ℕ). drop k text) (sym back);
-      utf8 = IsUtf8-drop text at u place;
-    }
-
 -- the next place is behind the letters, or the white space, exactly as this one is
 pub letter_step : (text : List ℕ) (at next : ℕ) (class : Class) (all : List ℕ) → StepsOver text at class next → class ≡ Letter
     → past is_letter (chars (drop at text)) ≡ all → past is_letter (chars (drop next text)) ≡ all
 letter_step text at next class all s is same =
     sym (past_letters s.char (chars (drop next text)) (chars (drop at text)) s.chars (sym s.is ∙ is)) ∙ same
-
-pub space_step : (text : List ℕ) (at next : ℕ) (class : Class) (all : List ℕ) → StepsOver text at class next → class ≡ White
-    → past is_ws (chars (drop at text)) ≡ all → past is_ws (chars (drop next text)) ≡ all
-space_step text at next class all s is same =
-    sym (past_space s.char (chars (drop next text)) (chars (drop at text)) s.chars (sym s.is ∙ is)) ∙ same
 
 -- another character ends them
 no_letter : (c : ℕ) (cs rest : List ℕ) (class : Class) → rest ≡ c ∷ cs → class ≡ class_of c → (class ≡ Letter → ⊥) → rest ≡ past is_letter rest
