@@ -3,7 +3,7 @@ use Rattle.std.proofs.Common.{◌≡◌, ◌≤◌, ◌<◌, ◌+◌, ◌-◌, �
 use Rattle.std.proofs.lemmas.Bool.{lt-ltb, le-ltb}
 use Rattle.std.specs.Char.{digit_value}
 use Rattle.std.specs.Str.Parse.{digits_value_after}
-use Rattle.humantime.specs.declared.duration.reading.class.Class.TheVariants.{White, Digit, Letter}
+use Rattle.humantime.specs.declared.duration.reading.class.Class.TheVariants.{Digit, Letter}
 use Rattle.humantime.specs.Durations.Characters.{class_of, is_ws, is_digit, is_letter, is_numeric, begins, leading, past, digits, decimal_value, u64_max}
 use Rattle.humantime.specs.Durations.Faults.{NumberOverflow, number_of, after_number}
 use Rattle.humantime.specs.References.Durations.Scanning.{number_at}
@@ -15,18 +15,12 @@ pub record IsAt (text : List ℕ) (v : ℕ) (rest : List ℕ) : Type 0 where
   pub rest_is : past is_numeric rest ≡ after_number text
   pub fits : v ≤ u64_max
 
--- a digit begins what is numeric, and so does white space, which has no digit
+-- a digit begins what is numeric
 pub digit_first : (c : ℕ) (cs rest : List ℕ) → rest ≡ c ∷ cs → class_of c ≡ Digit → digits (leading is_numeric rest) ≡ c ∷ digits (leading is_numeric cs)
 digit_first c cs rest e d = rw (e, d, d)
 
-pub space_first : (c : ℕ) (cs rest : List ℕ) → rest ≡ c ∷ cs → class_of c ≡ White → digits (leading is_numeric rest) ≡ digits (leading is_numeric cs)
-space_first c cs rest e d = rw (e, d, d)
-
 pub past_digit : (c : ℕ) (cs rest : List ℕ) → rest ≡ c ∷ cs → class_of c ≡ Digit → past is_numeric rest ≡ past is_numeric cs
 past_digit c cs rest e d = rw (e, d)
-
-pub past_white : (c : ℕ) (cs rest : List ℕ) → rest ≡ c ∷ cs → class_of c ≡ White → past is_numeric rest ≡ past is_numeric cs
-past_white c cs rest e d = rw (e, d)
 
 -- digits only make a value greater
 pub value_grows : (n : ℕ) (ds : List ℕ) → n ≤ digits_value_after 10 n ds
@@ -49,9 +43,6 @@ number_passes text rest cs v c h e d over =
 
 pub past_letters : (c : ℕ) (cs rest : List ℕ) → rest ≡ c ∷ cs → class_of c ≡ Letter → past is_letter rest ≡ past is_letter cs
 past_letters c cs rest e d = rw (e, d)
-
-pub past_space : (c : ℕ) (cs rest : List ℕ) → rest ≡ c ∷ cs → class_of c ≡ White → past is_ws rest ≡ past is_ws cs
-past_space c cs rest e d = rw (e, d)
 
 -- what is numeric ends where neither a digit nor white space follows
 pub no_numeric : (rest : List ℕ) → begins is_digit rest ≡ false → begins is_ws rest ≡ false → begins is_numeric rest ≡ false
