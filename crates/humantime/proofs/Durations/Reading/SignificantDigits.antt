@@ -80,15 +80,15 @@ significant_and_zeros (d ∷ ds) =
     let here = kept_zeros d (significant ds) rest.0 in
     (here.0, ap (λ (l : List ℕ). d ∷ l) rest.1 ∙ here.1)
 
-length-zeros : (k : ℕ) → length (zeros k) ≡ k
+pub length-zeros : (k : ℕ) → length (zeros k) ≡ k
 length-zeros zero = refl
 length-zeros (suc k) = ap suc (length-zeros k)
 
-value-append : (v : ℕ) (ds es : List ℕ) → digits_value_after 10 v (ds ++ es) ≡ digits_value_after 10 (digits_value_after 10 v ds) es
+pub value-append : (v : ℕ) (ds es : List ℕ) → digits_value_after 10 v (ds ++ es) ≡ digits_value_after 10 (digits_value_after 10 v ds) es
 value-append v [] es = refl
 value-append v (d ∷ ds) es = value-append (v * 10 + digit_value d) ds es
 
-value-zeros : (v k : ℕ) → digits_value_after 10 v (zeros k) ≡ v * 10 ^ k
+pub value-zeros : (v k : ℕ) → digits_value_after 10 v (zeros k) ≡ v * 10 ^ k
 value-zeros v zero = omega arith
 value-zeros v (suc k) =
     let more : 10 ^ suc k ≡ 10 ^ k * 10 = pow-suc 10 k in
