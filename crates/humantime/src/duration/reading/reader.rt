@@ -34,6 +34,7 @@ fn is_bare(fraction: Option<Fraction>) -> bool
 
 /// Whether a digit, white space or the end follows.
 #[inline(always)]
+#[tactic(auto, using(crate::proofs::Durations::Bytes::SpanEnds::ends_by_class))]
 fn ends_span(next: &str) -> bool
     ensures { result ≡ ends_span (chars next.now) }
 {
