@@ -1,6 +1,6 @@
--- What the laws of durations say, which are proved as the contracts of the functions of `src/laws`. No other contract cites
--- these words.
+-- What the laws say, which are proved as the contracts of the functions of `src/laws`. No other contract cites these words.
 pub mod Older
 pub mod Outcomes
 pub mod Printed
 pub mod Texts
+pub mod Timestamps

@@ -3,7 +3,6 @@
 pub mod Checks
 pub mod Digits
 pub mod Fields
-pub mod Laws
 pub mod Messages
 pub mod Printed
 pub mod WeakAnswers

@@ -11,7 +11,7 @@ abbrev pub unit_unknown : List ℕ → List ℕ
 unit_unknown unit_bytes =
     codes "unknown time unit \"" ++ unit_bytes
     ++ (codes "\", supported units: ns, us/" ++ (194 ∷ 181 ∷ [])
-        ++ codes "s, ms, sec, min, hours, days, weeks, months, years (and few variations)")
+    ++ codes "s, ms, sec, min, hours, days, weeks, months, years (and few variations)")
 
 -- one of these two, for the bytes of a unit
 abbrev pub unit_message : List ℕ → ℕ → List ℕ

@@ -17,7 +17,7 @@ use Rattle.humantime.specs.Calendar.Dates.{IsDate, day_of}
 use Rattle.humantime.specs.Timestamps.Digits.{two_digits, four_digits, AreDigits}
 use Rattle.humantime.specs.Timestamps.Fields.{Fields, fraction_text, fraction_digits, fraction_nanos, moment_of}
 use Rattle.humantime.specs.Timestamps.Printed.{HasPlaces, IsPrinted}
-use Rattle.humantime.specs.Timestamps.Laws.{InOrder}
+use Rattle.humantime.specs.Laws.Timestamps.{InOrder}
 use Rattle.humantime.proofs.Dates.DaysOfDates.{before_year, before_month}
 use Rattle.humantime.proofs.Dates.Years.{AreWithin, valid_told}
 use Rattle.humantime.proofs.Timestamps.Reading.Fractions.{nanos_bound}

@@ -5,8 +5,8 @@ use Rattle.humantime.specs.declared.date.error.TimestampError.{TimestampError}
 use Rattle.humantime.specs.declared.date.error.TimestampError.TheVariants.{InvalidFormat}
 use Rattle.humantime.specs.Timestamps.Fields.{Fields, IsWeak, IsStrict, moment_of, IsWeakMoment, IsStrictMoment}
 use Rattle.humantime.specs.Timestamps.Checks.{is_complete, weak_checks, strict_checks, first_failed}
-use Rattle.humantime.specs.References.Timestamps.Reading.{fields_of, moment_or_error, weak_answer, strict_answer}
-use Rattle.humantime.specs.Timestamps.Laws.{OneTimestamp, StrictMomentIsWeak}
+use Rattle.humantime.specs.References.Timestamps.Reading.{fields_of, weak_answer, strict_answer, moment_or_error}
+use Rattle.humantime.specs.Laws.Timestamps.{OneTimestamp, StrictMomentIsWeak}
 use Rattle.humantime.proofs.Timestamps.Reading.Checks.{passes_from, passes_none}
 use Rattle.humantime.proofs.Timestamps.Reading.Shown.{fields_weak}
 use Rattle.humantime.proofs.Timestamps.Reading.Passed.{weak_fields}

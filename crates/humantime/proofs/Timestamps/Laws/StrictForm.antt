@@ -5,7 +5,7 @@ use Rattle.std.specs.List.{AllByRecursion}
 use Rattle.std.proofs.lemmas.Bool.{and_parts, and_from, or_left, or_right, eqb-true, eq-eqb, le-leb}
 use Rattle.humantime.specs.Timestamps.Fields.{Separator, Letter_T, Space, Zone, Nothing, Letter_Z, Offset, Fields, separator_byte, fraction_text, zone_text, time_text, fields_text, IsWeak, IsStrict}
 use Rattle.humantime.specs.Timestamps.Checks.{ends_in_zone, is_complete}
-use Rattle.humantime.specs.Timestamps.Laws.{StrictIsWeak}
+use Rattle.humantime.specs.Laws.Timestamps.{StrictIsWeak}
 use Rattle.humantime.proofs.Timestamps.Reading.Bytes.{holds_before_zone, all_append}
 use Rattle.humantime.proofs.Timestamps.Reading.Ends.{IsPlain, plain_bytes, plain_end, end_from}
 

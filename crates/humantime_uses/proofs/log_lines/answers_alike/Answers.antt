@@ -14,5 +14,5 @@ returns-in-Some-Some c = λ t printed whole_from whole_to.
     let second : IsPrinted to 3 c.in-Some-Some.second.now = search rules in
     let IsSaid : ℤ → ℤ → Type 0 = λ a b. IsTrue c.keeps_by_bytes.result ↔ IsKept a b line in
     let said = subst (λ (b : ℤ). IsSaid from b) whole_to
-        (subst (λ (a : ℤ). IsSaid a (cut to 3)) whole_from (c.keeps_by_bytes.ensures from to t first second printed)) in
+    (subst (λ (a : ℤ). IsSaid a (cut to 3)) whole_from (c.keeps_by_bytes.ensures from to t first second printed)) in
     one_question c.keeps.result c.keeps_by_bytes.result (IsKept from to line) c.keeps.ensures said
