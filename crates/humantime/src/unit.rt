@@ -1,9 +1,8 @@
 //! The units of time and their words.
 
-ghost use Rattle.std.specs.Prelude.{◌≡◌, chars, option_map};
-ghost use Rattle.humantime.specs.Durations.Units.{scale_of_word};
+ghost use Rattle.std.specs.Prelude.{◌≡◌, ◌+◌, ◌*◌, ◌^◌, ◌<◌, option_map};
 ghost use Rattle.humantime.specs.References.Durations.Scales.{scale_of};
-ghost use Rattle.humantime.specs.References.Durations.Keys.{key, scale_of_key};
+ghost use Rattle.humantime.specs.References.Durations.Keys.{scale_of_key};
 
 pub(crate) mod sizes;
 mod words;
@@ -23,26 +22,28 @@ pub(crate) enum Unit {
     Year,
 }
 
-/// A word's bytes as one number: they are its digits to base 256, the first byte the lowest, below a leading 1.
-/// It is 0 for words that are longer than each unit's.
-fn key_of(word: &[u8]) -> u64
-    ensures { result ≡ key word.now }
+/// The key of a word without letters.
+///
+/// A word's key is one number: its bytes are the digits to base 256, the first the highest, behind a leading 1.
+pub(crate) const NO_LETTERS: u64 = 1;
+
+/// The key of each word of more bytes than a unit's word has.
+pub(crate) const TOO_LONG: u64 = 0;
+
+/// How many bytes the longest word of a unit has.
+pub(crate) const MOST_BYTES: usize = 7;
+
+/// The key of a word with one byte more, where it fits.
+#[inline(always)]
+pub(crate) fn key_with(key: u64, byte: u8) -> u64
+    ensures { key * 256 + byte < 2 ^ 64 → result ≡ key * 256 + byte }
 {
-    let mut i = word.len();
-    if i > 7 {
-        return 0;
-    }
-    let mut key = 1;
-    while i > 0 {
-        i -= 1;
-        key = key * 256 + word[i] as u64;
-    }
-    key
+    key.wrapping_mul(256).wrapping_add(byte as u64)
 }
 
-/// The unit whose word has this key.
+/// The unit whose word has this key, if there is one.
 #[tactic(auto, unfolding(crate::specs::References::Durations::Keys::scale_of_key))]
-fn unit_of_key(key: u64) -> Option<Unit>
+pub(crate) fn unit_of(key: u64) -> Option<Unit>
     ensures { option_map scale_of result ≡ scale_of_key key }
 {
     match key {
@@ -58,11 +59,4 @@ fn unit_of_key(key: u64) -> Option<Unit>
         words::YEARS | words::YEAR | words::YR | words::YRS | words::Y => Some(Unit::Year),
         _ => None,
     }
-}
-
-/// The unit that a word stands for, if it is one of the words.
-pub(crate) fn unit_of(word: &str) -> Option<Unit>
-    ensures { option_map scale_of result ≡ scale_of_word (chars word.now) }
-{
-    unit_of_key(key_of(word.as_bytes()))
 }

@@ -5,6 +5,7 @@ pub mod FractionDigits
 pub mod Numbers
 pub mod PlaceSteps
 pub mod Points
+pub mod SpanEnds
 pub mod SpanExits
 pub mod Tails
 pub mod WordKeys

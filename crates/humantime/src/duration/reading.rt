@@ -1,5 +1,5 @@
 //! Durations read, in the order in which a text is read: the class of a character (`class`), a step over one (`scan`), a
-//! number and a fraction (`scan`), white space and a word (`slices`), a span (`reader`), the spans of a text (`iter`),
+//! number and a fraction (`scan`), white space (`slices`), a word (`word`), a span (`reader`), the spans of a text (`iter`),
 //! their sum (`sum`), and the whole text (`parse`).
 
 mod amount;
@@ -11,6 +11,7 @@ mod scan;
 mod slices;
 mod span;
 mod sum;
+mod word;
 
 pub use iter::SpanIter;
 pub use parse::{parse_duration, spans};

@@ -2,8 +2,9 @@
 
 /// The key of a word that is written out by its bytes.
 macro_rules! key {
-    () => { 1 };
-    ($first:literal $($rest:literal)*) => { key!($($rest)*) * 256 + $first as u64 };
+    ($($byte:literal)*) => { key!(@ 1; $($byte)*) };
+    (@ $key:expr;) => { $key };
+    (@ $key:expr; $first:literal $($rest:literal)*) => { key!(@ $key * 256 + $first as u64; $($rest)*) };
 }
 
 pub(crate) const NANOS: u64 = key!('n' 'a' 'n' 'o' 's');

@@ -1,17 +1,16 @@
 -- Reading a number digit by digit.
-use Rattle.std.proofs.Common.{◌≡◌, ◌≤◌, ◌<◌, ◌+◌, ◌-◌, ◌*◌, ℕ, List, [], ◌∷◌, ap, sym, ◌∙◌, arith, Err, ◌≢◌, Ok}
+use Rattle.std.proofs.Common.{◌≡◌, ◌≤◌, ◌<◌, ◌+◌, ◌-◌, ◌*◌, ℕ, List, [], ◌∷◌, ap, sym, ◌∙◌, arith, Err, false, refl, Ok}
 use Rattle.std.proofs.lemmas.Bool.{lt-ltb, le-ltb}
 use Rattle.std.specs.Char.{digit_value}
 use Rattle.std.specs.Str.Parse.{digits_value_after}
-use Rattle.humantime.specs.declared.duration.reading.class.Class.{Class}
-use Rattle.humantime.specs.declared.duration.reading.class.Class.TheVariants.{White, Digit, Letter}
-use Rattle.humantime.specs.Durations.Characters.{is_ws, is_letter, is_numeric, leading, past, digits, decimal_value, u64_max}
-use Rattle.humantime.specs.Durations.Rests.{number_of, after_number}
+use Rattle.humantime.specs.declared.duration.reading.class.Class.TheVariants.{Digit, Letter, White}
+use Rattle.humantime.specs.Durations.Characters.{is_ws, is_digit, is_letter, is_numeric, begins, leading, past, digits, decimal_value, u64_max}
 use Rattle.humantime.specs.Durations.Faults.{NumberOverflow}
+use Rattle.humantime.specs.Durations.Rests.{number_of, after_number}
 use Rattle.humantime.specs.References.Durations.Classes.{class_of}
 use Rattle.humantime.specs.References.Durations.Scanning.{number_at}
 use Rattle.humantime.proofs.Durations.Bytes.Digits.{digit_counts}
-use Rattle.humantime.proofs.Durations.Reading.Classes.{is_ws-class, is_digit-class, is_letter-class, not_numeric, digit_is_numeric, space_is_numeric, space_not_digit}
+use Rattle.humantime.proofs.Durations.Reading.Classes.{is_ws-class, is_digit-class, is_letter-class, digit_is_numeric, space_is_numeric, space_not_digit}
 
 -- v is read so far, and the number that begins the rest, read on from v, is that of the text.
 pub record IsAt (text : List ℕ) (v : ℕ) (rest : List ℕ) : Type 0 where
@@ -19,7 +18,7 @@ pub record IsAt (text : List ℕ) (v : ℕ) (rest : List ℕ) : Type 0 where
   pub rest_is : past is_numeric rest ≡ after_number text
   pub fits : v ≤ u64_max
 
--- a digit begins what is numeric, and so does white space, which has no digit
+-- a digit begins what is numeric
 pub digit_first : (c : ℕ) (cs rest : List ℕ) → rest ≡ c ∷ cs → class_of c ≡ Digit → digits (leading is_numeric rest) ≡ c ∷ digits (leading is_numeric cs)
 digit_first c cs rest e d = let digit = (is_digit-class c).0 d in rw (e, digit, digit)
 
@@ -66,16 +65,23 @@ past_letters c cs rest e d = rw (e, (is_letter-class c).0 d)
 pub past_space : (c : ℕ) (cs rest : List ℕ) → rest ≡ c ∷ cs → class_of c ≡ White → past is_ws rest ≡ past is_ws cs
 past_space c cs rest e d = rw (e, (is_ws-class c).0 d)
 
--- a character that is neither a digit nor white space ends the number, and so does the end
+-- what is numeric ends where neither a digit nor white space follows
+pub no_numeric : (rest : List ℕ) → begins is_digit rest ≡ false → begins is_ws rest ≡ false → begins is_numeric rest ≡ false
+no_numeric [] d w = refl
+no_numeric (c ∷ cs) d w = rw (d, w) refl
+
+pub no_digits : (rest : List ℕ) → begins is_numeric rest ≡ false → digits (leading is_numeric rest) ≡ []
+no_digits [] e = refl
+no_digits (c ∷ cs) e = rw e refl
+
+pub rest_there : (rest : List ℕ) → begins is_numeric rest ≡ false → past is_numeric rest ≡ rest
+rest_there [] e = refl
+rest_there (c ∷ cs) e = rw e refl
+
 number_is : (text rest : List ℕ) (v : ℕ) → v ≡ decimal_value (number_of text) → rest ≡ after_number text → v ≤ u64_max → Ok (v, rest) ≡ number_at text
 number_is text rest v value rest_is fits =
     let within = le-ltb u64_max (decimal_value (number_of text)) (omega (arith, value, fits)) in
     rw within (λ i. Ok (value i, rest_is i))
 
-pub number_ends : (text rest cs : List ℕ) (v c : ℕ) (class : Class) → IsAt text v rest → rest ≡ c ∷ cs → class ≡ class_of c → class ≢ White → class ≢ Digit → Ok (v, rest) ≡ number_at text
-number_ends text rest cs v c class h e d w n =
-    let other = not_numeric c (λ z. w (d ∙ z)) (λ z. n (d ∙ z)) in
-    number_is text rest v (rw (e, other) at h.value) (e ∙ (rw (e, other) at h.rest_is)) h.fits
-
-pub number_whole : (text rest : List ℕ) (v : ℕ) → IsAt text v rest → rest ≡ [] → Ok (v, rest) ≡ number_at text
-number_whole text rest v h e = number_is text rest v (rw e at h.value) (e ∙ (rw e at h.rest_is)) h.fits
+pub number_end : (text rest : List ℕ) (v : ℕ) → IsAt text v rest → begins is_numeric rest ≡ false → Ok (v, rest) ≡ number_at text
+number_end text rest v h e = number_is text rest v (ap (digits_value_after 10 v) (sym (no_digits rest e)) ∙ h.value) (sym (rest_there rest e) ∙ h.rest_is) h.fits

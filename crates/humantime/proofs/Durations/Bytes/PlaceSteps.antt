@@ -1,17 +1,20 @@
 -- Places in a text, at which a character begins or the text ends, and steps from one to the next.
-use Rattle.std.proofs.Common.{◌≡◌, ◌<◌, ◌≤◌, ◌-◌, ◌+◌, ◌≢◌, ℕ, suc, List, [], ◌∷◌, ◌++◌, length, get_or, drop, drop-drop, refl, ap, sym, ◌∙◌, arith, add-one, length-drop, IsUtf8, IsCharBoundary, chars, encode_utf8, false, inl, inr}
+use Rattle.std.proofs.Common.{◌≡◌, ◌<◌, ◌≤◌, ◌+◌, ◌≢◌, ℕ, suc, List, [], ◌∷◌, ◌++◌, length, get_or, drop, drop-drop, refl, ap, sym, ◌∙◌, arith, add-one, length-drop, IsUtf8, IsCharBoundary, chars, encode_utf8, Bool, true, false, ◌⊎◌, inl, inr}
+use Rattle.std.specs.Prelude.{◌==◌, ◌&&◌, ◌||◌}
 use Rattle.std.proofs.Math.Seq.{drop-cons}
-use Rattle.std.proofs.lemmas.Bool.{cases_lt}
+use Rattle.std.proofs.Math.Utf8.{encode}
+use Rattle.std.proofs.lemmas.Bool.{cases_lt, cases_Bool, or_cases, and_parts, eqb-true, false≢true}
+use Rattle.std.proofs.lemmas.Bool.Decides.{nat_tests}
 use Rattle.std.proofs.lemmas.Str.{IsUtf8-drop, IsCharBoundary-after_ascii, IsCharBoundary-from_rest, chars_past_char, encode_ascii}
 use Rattle.humantime.specs.declared.duration.reading.class.Class.{Class}
 use Rattle.humantime.specs.declared.duration.reading.class.Class.TheVariants.{White, Digit, Letter}
-use Rattle.humantime.specs.Durations.Characters.{is_letter, is_ws, is_numeric, begins, past}
+use Rattle.humantime.specs.Durations.Characters.{white_spaces, is_letter, is_ws, is_digit, begins, past}
+use Rattle.humantime.specs.References.Durations.Scanning.{StepsOver}
 use Rattle.humantime.specs.References.Durations.Classes.{class_of}
-use Rattle.humantime.specs.References.Durations.Scanning.{IsTail, StepsOver}
 use Rattle.humantime.proofs.Durations.Bytes.Digits.{digit_greatest}
 use Rattle.humantime.proofs.Durations.Bytes.Numbers.{past_letters, past_space}
 use Rattle.humantime.proofs.Durations.Bytes.Tails.{past_begins, past_begins_boundary, no_bytes}
-use Rattle.humantime.proofs.Durations.Reading.Classes.{not_white, not_letter, not_numeric}
+use Rattle.humantime.proofs.Durations.Reading.Classes.{not_white, not_letter}
 
 -- over one byte of ASCII
 pub ascii_chars : (text : List ℕ) (at : ℕ) → IsUtf8 text → IsCharBoundary text at → at < length text → get_or text at 0 < 128
@@ -44,6 +47,75 @@ char_over text rest at c k class u place is begins long some =
       further = omega arith;
     }
 
+-- a pair of bytes is that of the micro sign, or that of the Greek letter mu
+abbrev pub is_mu_pair : ℕ → ℕ → Bool
+is_mu_pair first second = (first == 0xc2 && second == 0xb5) || (first == 0xce && second == 0xbc)
+
+two_bytes : (text : List ℕ) (at : ℕ) → at + 1 < length text → drop at text ≡ get_or text at 0 ∷ get_or text (at + 1) 0 ∷ drop (at + 2) text
+two_bytes text at some =
+    let one : suc at ≡ at + 1 = omega arith in
+    let two : suc (at + 1) ≡ at + 2 = omega arith in
+    drop-cons text at 0 (omega arith)
+    ∙ ap (λ (k : ℕ). get_or text at 0 ∷ drop k text) one
+    ∙ ap (λ (x : List ℕ). get_or text at 0 ∷ x) (drop-cons text (at + 1) 0 some)
+    ∙ ap (λ (k : ℕ). get_or text at 0 ∷ get_or text (at + 1) 0 ∷ drop k text) two
+
+micro_bytes : encode_utf8 181 ≡ 0xc2 ∷ 0xb5 ∷ []
+unfolding encode
+micro_bytes = refl
+
+mu_bytes : encode_utf8 956 ≡ 0xce ∷ 0xbc ∷ []
+unfolding encode
+mu_bytes = refl
+
+micro_class : Letter ≡ class_of 181
+unfolding class_of is_ws white_spaces is_digit is_letter
+micro_class = refl
+
+mu_class : Letter ≡ class_of 956
+unfolding class_of is_ws white_spaces is_digit is_letter
+mu_class = refl
+
+-- over either of them
+pub mu_over : (text : List ℕ) (at : ℕ) → IsUtf8 text → IsCharBoundary text at → at + 1 < length text → is_mu_pair (get_or text at 0) (get_or text (at + 1) 0) ≡ true
+    → StepsOver text at Letter (at + 2)
+mu_over text at u place some pair = elim (or_cases _ _ pair) [
+  | inl micro ↦
+      let p = and_parts _ _ micro in
+      char_over text (drop (at + 2) text) at 181 2 Letter u place micro_class
+      (two_bytes text at some ∙ ap (λ (x : List ℕ). x ++ drop (at + 2) text) (bytes _ _ _ _ p.0 p.1 ∙ sym micro_bytes)) (ap length (sym micro_bytes)) (omega arith)
+  | inr mu ↦
+      let p = and_parts _ _ mu in
+      char_over text (drop (at + 2) text) at 956 2 Letter u place mu_class
+      (two_bytes text at some ∙ ap (λ (x : List ℕ). x ++ drop (at + 2) text) (bytes _ _ _ _ p.0 p.1 ∙ sym mu_bytes)) (ap length (sym mu_bytes)) (omega arith)
+] where
+  bytes : (a b x y : ℕ) → (a == x) ≡ true → (b == y) ≡ true → a ∷ b ∷ [] ≡ x ∷ y ∷ []
+  bytes a b x y e d = rw (eqb-true a x e, eqb-true b y d) refl
+
+-- a character beyond ASCII that has other bytes is no letter
+wide_letter : (c : ℕ) → 128 ≤ c → is_letter c ≡ true → (c ≡ 181) ⊎ (c ≡ 956)
+unfolding is_letter
+wide_letter c wide letter = grind (arith, nat_tests)
+
+pub no_mu : (text rest : List ℕ) (at c : ℕ) → at < length text → 128 ≤ c → drop at text ≡ encode_utf8 c ++ rest
+    → (at + 1 < length text → is_mu_pair (get_or text at 0) (get_or text (at + 1) 0) ≡ false) → is_letter c ≡ false
+no_mu text rest at c some wide begins other =
+    elim (cases_Bool (is_letter c)) [
+      | inr plain ↦ plain
+      | inl letter ↦ elim (wide_letter c wide letter) [
+        | inl micro ↦ absurd (clash 0xc2 0xb5 (begins ∙ ap (λ (n : ℕ). encode_utf8 n ++ rest) micro ∙ ap (λ (x : List ℕ). x ++ rest) micro_bytes) refl)
+        | inr mu ↦ absurd (clash 0xce 0xbc (begins ∙ ap (λ (n : ℕ). encode_utf8 n ++ rest) mu ∙ ap (λ (x : List ℕ). x ++ rest) mu_bytes) refl)
+      ]
+    ] where
+      clash : (a b : ℕ) → drop at text ≡ a ∷ b ∷ rest → is_mu_pair a b ≡ true → ⊥
+      clash a b e pair =
+          let two : at + 1 < length text = omega (arith, ap length e, length-drop at text) in
+          let same : get_or text at 0 ∷ get_or text (at + 1) 0 ∷ drop (at + 2) text ≡ a ∷ b ∷ rest = sym (two_bytes text at two) ∙ e in
+          let first : get_or text at 0 ≡ a = cc in
+          let second : get_or text (at + 1) 0 ≡ b = cc in
+          let differs = other two in
+          false≢true (sym (rw (first, second) at differs) ∙ pair)
+
 -- and one that does not begin with ASCII lies beyond it, and is no digit
 pub beyond_ascii : (text rest : List ℕ) (at c : ℕ) → at < length text → 128 ≤ get_or text at 0 → drop at text ≡ encode_utf8 c ++ rest → 128 ≤ c
 beyond_ascii text rest at c some wide begins =
@@ -62,36 +134,25 @@ no_digit c wide is =
     let most = digit_greatest c is in
     omega arith
 
--- what stands from a place on is a tail
-pub tail_at : (text : List ℕ) (at : ℕ) → IsUtf8 text → IsCharBoundary text at → IsTail text (drop at text)
-tail_at text at u place =
-    let back : length text - length (drop at text) ≡ at = omega (arith, length-drop at text, place.0) in
-    record {
-      shorter = omega (arith, length-drop at text);
-      ends = ap (λ (k : ℕ). drop k text) (sym back);
-      utf8 = IsUtf8-drop text at u place;
-    }
-
 -- the next place is behind the letters, or the white space, exactly as this one is
 pub letter_step : (text : List ℕ) (at next : ℕ) (class : Class) (all : List ℕ) → StepsOver text at class next → class ≡ Letter
     → past is_letter (chars (drop at text)) ≡ all → past is_letter (chars (drop next text)) ≡ all
 letter_step text at next class all s is same =
     sym (past_letters s.char (chars (drop next text)) (chars (drop at text)) s.chars (sym s.is ∙ is)) ∙ same
 
-pub space_step : (text : List ℕ) (at next : ℕ) (class : Class) (all : List ℕ) → StepsOver text at class next → class ≡ White
-    → past is_ws (chars (drop at text)) ≡ all → past is_ws (chars (drop next text)) ≡ all
-space_step text at next class all s is same =
-    sym (past_space s.char (chars (drop next text)) (chars (drop at text)) s.chars (sym s.is ∙ is)) ∙ same
+pub space_step : (text : List ℕ) (at next : ℕ) (all : List ℕ) → StepsOver text at White next → past is_ws (chars (drop at text)) ≡ all → past is_ws (chars (drop next text)) ≡ all
+space_step text at next all s same = sym (past_space s.char (chars (drop next text)) (chars (drop at text)) s.chars (sym s.is)) ∙ same
 
 -- another character ends them
 pub letters_end : (text : List ℕ) (at next : ℕ) (class : Class) → StepsOver text at class next → (class ≡ Letter → ⊥) → chars (drop at text) ≡ past is_letter (chars (drop at text))
 letters_end text at next class s n = rw (s.chars, not_letter s.char (λ z. n (s.is ∙ z))) refl
 
-pub space_ends : (text : List ℕ) (at next : ℕ) (class : Class) → StepsOver text at class next → (class ≡ White → ⊥) → chars (drop at text) ≡ past is_ws (chars (drop at text))
-space_ends text at next class s n = rw (s.chars, not_white s.char (λ z. n (s.is ∙ z))) refl
+pub space_ends : (rest : List ℕ) → begins is_ws rest ≡ false → rest ≡ past is_ws rest
+space_ends [] e = refl
+space_ends (c ∷ cs) e = rw e refl
 
-pub number_stops : (text : List ℕ) (at next : ℕ) (class : Class) → StepsOver text at class next → class ≢ White → class ≢ Digit → begins is_numeric (chars (drop at text)) ≡ false
-number_stops text at next class s w n = ap (begins is_numeric) s.chars ∙ not_numeric s.char (λ z. w (s.is ∙ z)) (λ z. n (s.is ∙ z))
+pub white_stops : (text : List ℕ) (at next : ℕ) (class : Class) → StepsOver text at class next → class ≢ White → begins is_ws (chars (drop at text)) ≡ false
+white_stops text at next class s w = ap (begins is_ws) s.chars ∙ not_white s.char (λ z. w (s.is ∙ z))
 
 -- no characters stand at the end
 pub no_chars_at : (text : List ℕ) (at : ℕ) → length text ≤ at → chars (drop at text) ≡ []

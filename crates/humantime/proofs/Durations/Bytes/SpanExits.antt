@@ -104,14 +104,15 @@ integer_is rest integer after e a =
 middle_is : (after middle behind : List ℕ) → after ≡ middle ++ behind → behind ≡ past_fraction after → fraction_in middle ≡ fraction_slice after
 middle_is [] [] behind e b = refl
 middle_is [] (m ∷ ms) behind e b = cc
-middle_is (c ∷ cs) middle behind e b = by (is_point c) e b
+middle_is (c ∷ cs) middle behind e b = by (is_point c) refl e b
   where
-    by : (p : Bool) → c ∷ cs ≡ middle ++ behind → behind ≡ (if p then past is_numeric cs else c ∷ cs) → fraction_in middle ≡ option_map trimmed (if p then Some (leading is_numeric cs) else None)
-    by true e b =
+    by : (p : Bool) → is_point c ≡ p → c ∷ cs ≡ middle ++ behind → behind ≡ (if p then past is_numeric cs else c ∷ cs) → fraction_in middle ≡ option_map trimmed (if p then Some (leading is_numeric cs) else None)
+    by true h e b =
         ap fraction_in
         (append_cancel_right middle (c ∷ leading is_numeric cs) behind
         (sym e ∙ ap (λ (x : List ℕ). c ∷ x) (sym (leading-past is_numeric cs) ∙ ap (λ (x : List ℕ). leading is_numeric cs ++ x) (sym b))))
-    by false e b = ap fraction_in (append_cancel_right middle [] behind (sym e ∙ sym b))
+        ∙ ap (λ (p : Bool). if p then Some (trimmed (leading is_numeric cs)) else None) h
+    by false h e b = ap fraction_in (append_cancel_right middle [] behind (sym e ∙ sym b))
 
 -- The slices, before white space is left off, are those of the span that was read.
 pub record AreSlices (rest integer middle : List ℕ) : Type 0 where

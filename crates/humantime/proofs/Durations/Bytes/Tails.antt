@@ -31,9 +31,6 @@ tail_of_tail text rest after t r =
     (tail_whole text rest t ∙ ap (λ (x : List ℕ). front_of text rest ++ x) (tail_whole rest after r) ∙ sym (append_assoc (front_of text rest) (front_of rest after) after))
     r.utf8
 
-pub tail_step : (text rest : List ℕ) (c : ℕ) → IsUtf8 text → text ≡ encode_utf8 c ++ rest → IsTail text rest
-tail_step text rest c u e = tail_after text (encode_utf8 c) rest e (IsUtf8-past_char text rest c u e)
-
 pub tail_boundary : (text rest : List ℕ) → IsTail text rest → IsCharBoundary text (length text - length rest)
 tail_boundary text rest t =
     let count : length (front_of text rest) ≡ length text - length rest = omega (arith, ap length (tail_whole text rest t), length-append (front_of text rest) rest) in

@@ -1,12 +1,13 @@
 -- A word's key tells which of the units' words it is.
-use Rattle.std.proofs.Common.{◌≡◌, ◌∙◌, sym, ap, refl, ℕ, zero, suc, ◌+◌, ◌*◌, ◌^◌, ◌<◌, ◌≤◌, Bool, true, false, ◌&&◌, List, [], ◌∷◌, length, length-drop, drop, get_or, inl, inr, ltb, chars, arith}
-use Rattle.std.specs.Prelude.{◌==◌, bytes_eq}
+use Rattle.std.proofs.Common.{◌≡◌, ◌∙◌, sym, ap, refl, ℕ, zero, suc, ◌+◌, ◌-◌, ◌*◌, ◌^◌, ◌<◌, ◌≤◌, Bool, true, false, ◌&&◌, List, [], ◌∷◌, length, length-take, take, get_or, inl, inr, ltb, chars, arith}
+use Rattle.std.specs.Prelude.{◌==◌, bytes_eq, reverse}
 use Rattle.std.specs.List.{list_all}
 use Rattle.std.specs.Map.{lookup}
 use Rattle.std.specs.Str.{IsUtf8}
 use Rattle.std.proofs.Math.Utf8.{encode, encodes, scalars}
 use Rattle.std.proofs.Math.Nat.{pow-suc, pow-le-pow_right}
-use Rattle.std.proofs.lemmas.List.{get_or-drop}
+use Rattle.std.proofs.Math.Seq.{take-suc}
+use Rattle.std.proofs.lemmas.List.{get_or-reverse, get_or-take, get_or_past, length-reverse, reverse-append, reverse-reverse, take_more}
 use Rattle.std.proofs.lemmas.Bool.{and_parts, cases_lt, ltb-true, le-ltb, lt-ltb, eqb-true, eq-eqb}
 use Rattle.std.proofs.lemmas.Slice.Eq.{bytes_eq-Decides}
 use Rattle.std.proofs.lemmas.Str.{chars-encodes, encodes-chars}
@@ -21,20 +22,54 @@ packed_positive : (bs : List ℕ) → 1 ≤ packed bs
 packed_positive [] = omega arith
 packed_positive (b ∷ bs) = omega (arith, packed_positive bs)
 
-packed_below : (bs : List ℕ) → HasBytes bs → packed bs < 2 * 256 ^ length bs
-packed_below [] h = omega arith
-packed_below (b ∷ bs) h =
-    let head : b < 256 = h 0 in
-    let longer : 256 ^ suc (length bs) ≡ 256 ^ length bs * 256 = pow-suc 256 (length bs) in
-    omega (arith, packed_below bs (λ k. h (suc k)), head, longer)
+pub front_bytes : (bs : List ℕ) (n : ℕ) → HasBytes bs → HasBytes (take n bs)
+front_bytes bs n h k =
+    elim (cases_lt k n) [
+      | inl inside ↦ rw (get_or-take n bs k 0 inside) (h k)
+      | inr past ↦ rw (get_or_past (take n bs) k 0 (omega (arith, past, length-take n bs))) (omega arith)
+    ]
 
--- what stands after the first of at most seven bytes leaves room for one more in a u64
-pub packed_rest : (bs : List ℕ) (i : ℕ) → HasBytes bs → length bs ≤ 7 → 0 < i → i ≤ length bs → packed (drop i bs) < 2 * 256 ^ 6
-packed_rest bs i h short some within =
-    let shorter : length (drop i bs) ≤ 6 = omega (arith, length-drop i bs) in
-    let bytes : HasBytes (drop i bs) = λ k. rw (get_or-drop i bs k 0) (h (i + k)) in
-    let power : 256 ^ length (drop i bs) ≤ 256 ^ 6 = pow-le-pow_right {n = 256} (omega arith) shorter in
-    omega (arith, packed_below (drop i bs) bytes, power)
+bytes_reversed : (bs : List ℕ) → HasBytes bs → HasBytes (reverse bs)
+bytes_reversed bs h k =
+    elim (cases_lt k (length bs)) [
+      | inl inside ↦ rw (get_or-reverse bs k 0 inside) (h (length bs - 1 - k))
+      | inr past ↦ rw (get_or_past (reverse bs) k 0 (rw (length-reverse bs) past)) (omega arith)
+    ]
+
+packed_front : (bs : List ℕ) (at : ℕ) → at < length bs → packed (reverse (take (at + 1) bs)) ≡ packed (reverse (take at bs)) * 256 + get_or bs at 0
+packed_front bs at some = rw (take_more bs at 0 some, reverse-append (take at bs) (get_or bs at 0 ∷ [])) refl
+
+packed_front_below : (bs : List ℕ) (at : ℕ) → HasBytes bs → at ≤ length bs → packed (reverse (take at bs)) < 2 * 256 ^ at
+packed_front_below bs zero h within = omega arith
+packed_front_below bs (suc at) h within =
+    let front : packed (reverse (take (suc at) bs)) ≡ packed (reverse (take at bs)) * 256 + get_or bs at 0 =
+    rw (take-suc bs at 0 (omega arith), reverse-append (take at bs) (get_or bs at 0 ∷ [])) refl in
+    let longer : 256 ^ suc at ≡ 256 ^ at * 256 = pow-suc 256 at in
+    omega (arith, front, longer, h at, packed_front_below bs at h (omega arith))
+
+-- The number made so far is that of the bytes before a place, where they are at most seven.
+abbrev pub IsSoFar : List ℕ → ℕ → ℕ → Type 0
+IsSoFar bs at k = at ≤ 7 → k ≡ packed (reverse (take at bs))
+
+-- and so it is with the byte at this place
+pub key_more : (bs : List ℕ) (at k m : ℕ) → HasBytes bs → at < length bs → IsSoFar bs at k → (k * 256 + get_or bs at 0 < 2 ^ 64 → m ≡ k * 256 + get_or bs at 0) → IsSoFar bs (at + 1) m
+key_more bs at k m bytes some so_far next short =
+    let power : 256 ^ at ≤ 256 ^ 6 = pow-le-pow_right {n = 256} (omega arith) {i = at} {j = 6} (omega arith) in
+    let below : packed (reverse (take at bs)) < 2 * 256 ^ at = packed_front_below bs at bytes (omega arith) in
+    let is : k ≡ packed (reverse (take at bs)) = so_far (omega arith) in
+    let head : get_or bs at 0 < 256 = bytes at in
+    next (omega arith) ∙ ap (λ (n : ℕ). n * 256 + get_or bs at 0) is ∙ sym (packed_front bs at some)
+
+-- the key of a front
+pub key_short : (bs : List ℕ) (at k : ℕ) → at ≤ length bs → at ≤ 7 → IsSoFar bs at k → k ≡ key (take at bs)
+key_short bs at k within short so_far =
+    let count : length (take at bs) ≡ at = omega (arith, length-take at bs) in
+    so_far short ∙ sym (rw (le-ltb 7 (length (take at bs)) (omega arith)) refl)
+
+pub key_long : (bs : List ℕ) (at : ℕ) → at ≤ length bs → 7 < at → 0 ≡ key (take at bs)
+key_long bs at within long =
+    let count : length (take at bs) ≡ at = omega (arith, length-take at bs) in
+    sym (rw (lt-ltb 7 (length (take at bs)) (omega arith)) refl)
 
 packed_same : (xs ys : List ℕ) → HasBytes xs → HasBytes ys → packed xs ≡ packed ys → xs ≡ ys
 packed_same [] [] h k e = refl
@@ -62,12 +97,17 @@ same_tests false false f g = refl
 abbrev is_spelled : List ℕ → Bool
 is_spelled w = scalars w && (bytes_eq (encodes w) (bytes_of w) && (ltb (length (bytes_of w)) 8 && list_all (λ b. ltb b 256) (bytes_of w)))
 
+reverse_same : (xs ys : List ℕ) → reverse xs ≡ reverse ys → xs ≡ ys
+reverse_same xs ys e = sym (reverse-reverse xs) ∙ ap reverse e ∙ reverse-reverse ys
+
 key_same : (xs ys : List ℕ) → HasBytes xs → HasBytes ys → length ys < 8 → key xs ≡ key ys → xs ≡ ys
 key_same xs ys h k short e =
-    let right : key ys ≡ packed ys = rw (le-ltb 7 (length ys) (omega arith)) refl in
+    let right : key ys ≡ packed (reverse ys) = rw (le-ltb 7 (length ys) (omega arith)) refl in
     elim (cases_lt 7 (length xs)) [
-      | inl more ↦ let left : key xs ≡ 0 = rw (lt-ltb 7 (length xs) more) refl in absurd (omega (arith, e, left, right, packed_positive ys))
-      | inr most ↦ let left : key xs ≡ packed xs = rw (le-ltb 7 (length xs) most) refl in packed_same xs ys h k (sym left ∙ e ∙ right)
+      | inl more ↦ let left : key xs ≡ 0 = rw (lt-ltb 7 (length xs) more) refl in absurd (omega (arith, e, left, right, packed_positive (reverse ys)))
+      | inr most ↦
+          let left : key xs ≡ packed (reverse xs) = rw (le-ltb 7 (length xs) most) refl in
+          reverse_same xs ys (packed_same (reverse xs) (reverse ys) (bytes_reversed xs h) (bytes_reversed ys k) (sym left ∙ e ∙ right))
     ]
 
 key_tells : (bs w : List ℕ) → IsUtf8 bs → HasBytes bs → is_spelled w ≡ true → (key bs == key (bytes_of w)) ≡ bytes_eq (chars bs) w

@@ -1,7 +1,7 @@
 -- What a character is excludes the others; and what its class says.
-use Rattle.std.proofs.Common.{◌≡◌, ◌≢◌, ◌⊎◌, ◌↔◌, ℕ, Bool, true, false, refl, sym, ◌∙◌, inl, inr, arith}
+use Rattle.std.proofs.Common.{◌≡◌, ◌≢◌, ◌≤◌, ◌⊎◌, ◌↔◌, ℕ, Bool, true, false, refl, sym, ◌∙◌, inl, inr, arith}
 use Rattle.std.specs.Prelude.{if◌then◌else◌}
-use Rattle.std.specs.Char.{is_whitespace}
+use Rattle.std.specs.Char.{is_whitespace, is_ascii_digit}
 use Rattle.std.proofs.lemmas.Bool.{cases_Bool, false≢true, or_from, or_left, or_right}
 use Rattle.std.proofs.lemmas.Bool.Decides.{nat_tests}
 use Rattle.humantime.specs.declared.duration.reading.class.Class.{Class}
@@ -134,3 +134,25 @@ numeric_class c (inr w) = space_is_numeric c ((is_ws-class c).0 w)
 
 pub not_numeric : (c : ℕ) → class_of c ≢ White → class_of c ≢ Digit → is_numeric c ≡ false
 not_numeric c w d = or_from (is_digit c) (is_ws c) (not_digit c d) (not_white c w)
+
+-- ---- by bytes
+
+-- a digit is one of ASCII
+pub digit_is : (c : ℕ) → is_ascii_digit c ≡ is_digit c
+unfolding is_digit
+digit_is c = refl
+
+pub ascii_digit_class : (c : ℕ) → is_ascii_digit c ≡ true → class_of c ≡ Digit
+ascii_digit_class c e = (is_digit-class c).1 (sym (digit_is c) ∙ e)
+
+pub wide_no_digit : (c : ℕ) → 128 ≤ c → is_ascii_digit c ≡ false
+wide_no_digit c wide = grind (arith, nat_tests)
+
+wide_no_point : (c : ℕ) → 128 ≤ c → is_point c ≡ false
+unfolding is_point
+wide_no_point c wide = grind (arith, nat_tests)
+
+-- a character beyond ASCII that is neither white space nor a letter is another
+pub wide_other : (c : ℕ) → 128 ≤ c → is_ws c ≡ false → is_letter c ≡ false → Other ≡ class_of c
+unfolding class_of
+wide_other c wide white plain = rw (white, sym (digit_is c) ∙ wide_no_digit c wide, plain, wide_no_point c wide) refl

@@ -1,12 +1,12 @@
 -- The digits of a fraction without the zeros at their end.
-use Rattle.std.proofs.Common.{◌≡◌, ◌≤◌, ◌<◌, ◌+◌, ◌-◌, ◌*◌, ◌/◌, ◌%◌, ◌^◌, ℕ, zero, suc, false, List, [], ◌∷◌, ◌++◌, length, refl, sym, ap, ap₂, ◌∙◌, inl, inr, arith, length-append}
+use Rattle.std.proofs.Common.{◌≡◌, ◌≤◌, ◌<◌, ◌+◌, ◌*◌, ◌/◌, ◌%◌, ◌^◌, ℕ, zero, suc, false, List, [], ◌∷◌, ◌++◌, length, refl, sym, ap, ap₂, ◌∙◌, inl, inr, arith, length-append}
 use Rattle.std.specs.Prelude.{◌==◌}
 use Rattle.std.specs.Char.{digit_value}
 use Rattle.std.specs.Str.Parse.{digits_value_after}
 use Rattle.std.proofs.lemmas.Bool.{cases_Bool, eqb-true}
 use Rattle.std.proofs.lemmas.Nat.{pow-add}
 use Rattle.std.proofs.lemmas.Nat.Gcd.{dvd_of_mod-eq-zero}
-use Rattle.std.proofs.Math.Nat.{pow-suc, one-le-pow, mul-one, mul-div_cancel, mul_comm, mul_assoc, mul_right_comm, mul-div-mul_right, div-mul_cancel, le_of_mul-le-mul_right, le-mul_of_pos_right, mod-eq-sub-div-mul}
+use Rattle.std.proofs.Math.Nat.{pow-suc, one-le-pow, mul_comm, mul_assoc, mul_right_comm, mul-div-mul_right, div-mul_cancel, le_of_mul-le-mul_right, le-mul_of_pos_right, mod-eq-sub-div-mul}
 use Rattle.humantime.specs.Durations.Characters.{kept, decimal_value, significant}
 use Rattle.humantime.specs.Durations.Sums.{fraction_amount}
 use Rattle.humantime.specs.Durations.Limits.{IsWholePart}
@@ -80,15 +80,15 @@ significant_and_zeros (d ∷ ds) =
     let here = kept_zeros d (significant ds) rest.0 in
     (here.0, ap (λ (l : List ℕ). d ∷ l) rest.1 ∙ here.1)
 
-length-zeros : (k : ℕ) → length (zeros k) ≡ k
+pub length-zeros : (k : ℕ) → length (zeros k) ≡ k
 length-zeros zero = refl
 length-zeros (suc k) = ap suc (length-zeros k)
 
-value-append : (v : ℕ) (ds es : List ℕ) → digits_value_after 10 v (ds ++ es) ≡ digits_value_after 10 (digits_value_after 10 v ds) es
+pub value-append : (v : ℕ) (ds es : List ℕ) → digits_value_after 10 v (ds ++ es) ≡ digits_value_after 10 (digits_value_after 10 v ds) es
 value-append v [] es = refl
 value-append v (d ∷ ds) es = value-append (v * 10 + digit_value d) ds es
 
-value-zeros : (v k : ℕ) → digits_value_after 10 v (zeros k) ≡ v * 10 ^ k
+pub value-zeros : (v k : ℕ) → digits_value_after 10 v (zeros k) ≡ v * 10 ^ k
 value-zeros v zero = omega arith
 value-zeros v (suc k) =
     let more : 10 ^ suc k ≡ 10 ^ k * 10 = pow-suc 10 k in
@@ -105,18 +105,6 @@ zeros_value : (ds : List ℕ) → decimal_value ds ≡ decimal_value (significan
 zeros_value ds =
     let whole = significant_and_zeros ds in
     ap decimal_value whole.1 ∙ value-append 0 (significant ds) (zeros whole.0) ∙ value-zeros (decimal_value (significant ds)) whole.0
-
--- the number of the digits before the zeros at their end: all of them, or a part of all
-pub value_whole : (ds : List ℕ) → length (significant ds) ≡ length ds → decimal_value (significant ds) ≡ decimal_value ds
-value_whole ds all =
-    let none : (significant_and_zeros ds).0 ≡ 0 = omega (arith, zeros_count ds, all) in
-    sym (zeros_value ds ∙ ap (λ (k : ℕ). decimal_value (significant ds) * 10 ^ k) none ∙ mul-one (decimal_value (significant ds)))
-
-pub value_kept : (ds : List ℕ) → decimal_value ds / 10 ^ (length ds - length (significant ds)) ≡ decimal_value (significant ds)
-value_kept ds =
-    let zeros_behind = (significant_and_zeros ds).0 in
-    let count : length ds - length (significant ds) ≡ zeros_behind = omega (arith, zeros_count ds) in
-    ap₂ (λ (n k : ℕ). n / 10 ^ k) (zeros_value ds) count ∙ mul-div_cancel (decimal_value (significant ds)) (one-le-pow zeros_behind 10 (omega arith))
 
 -- Digits with zeros at their end are the digits before these, and a power of ten.
 pub record IsShifted (ds : List ℕ) : Type 0 where

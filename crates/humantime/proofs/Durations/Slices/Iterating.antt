@@ -1,16 +1,12 @@
 -- One step over the items of a text, and their sum so far.
 use Rattle.std.proofs.Common.{◌≡◌, ◌≢◌, ℕ, zero, suc, ◌≤◌, Bool, true, false, List, [], ◌∷◌, length, Option, Some, None, Result, Ok, Err, if◌then◌else◌, refl, sym, ap, ◌∙◌, arith}
-use Rattle.humantime.specs.declared.duration.reading.class.Class.{Class}
-use Rattle.humantime.specs.declared.duration.reading.class.Class.TheVariants.{Digit}
 use Rattle.humantime.specs.Durations.Characters.{is_ws, is_digit, begins, past, offset_of}
-use Rattle.humantime.specs.Durations.Rests.{after_word}
 use Rattle.humantime.specs.Durations.Faults.{Fault, NumberExpected, NumberOverflow}
-use Rattle.humantime.specs.References.Durations.Classes.{class_of}
+use Rattle.humantime.specs.Durations.Rests.{after_word}
 use Rattle.humantime.specs.References.Durations.Reading.{stop_at, add_span}
 use Rattle.humantime.specs.Durations.Slices.{Lent}
 use Rattle.humantime.specs.References.Durations.Lending.{lent_at, lends, left_at, spelled, judged}
 use Rattle.humantime.proofs.Durations.Slices.LendingSteps.{Turn, No_digit, Faulty, Spanned, turn, lends-expected, lends-stopped, lends-fine}
-use Rattle.humantime.proofs.Durations.Reading.Classes.{is_digit-class, not_digit}
 use Rattle.humantime.proofs.Durations.Reading.Spelled.{next_of, next_smaller}
 
 some : (c : ℕ) (cs : List ℕ) → c ∷ cs ≢ []
@@ -52,13 +48,6 @@ left_stopped first text (c ∷ cs) e d s = lends-stopped (length cs) text (c ∷
 left_expected : (first : Bool) (text rest : List ℕ) → rest ≢ [] → begins is_digit rest ≡ false → left_at first text rest ≡ Err (NumberExpected (offset_of text rest)) ∷ []
 left_expected first text [] n d = absurd (n refl)
 left_expected first text (c ∷ cs) n d = lends-expected (length cs) text (c ∷ cs) n d
-
--- how a rest begins, by the class of its first character
-pub begins_digit : (c : ℕ) (rest cs : List ℕ) (k : Class) → k ≡ Digit → k ≡ class_of c → rest ≡ c ∷ cs → begins is_digit rest ≡ true
-begins_digit c rest cs k d e r = ap (begins is_digit) r ∙ (is_digit-class c).0 (sym e ∙ d)
-
-pub begins_no_digit : (c : ℕ) (rest cs : List ℕ) (k : Class) → k ≢ Digit → k ≡ class_of c → rest ≡ c ∷ cs → (rest ≢ []) × (begins is_digit rest ≡ false)
-begins_no_digit c rest cs k n e r = (λ z. cc, ap (begins is_digit) r ∙ not_digit c (λ z. n (e ∙ z)))
 
 -- the items that are left before a text whose white space is still to be passed, unless they have ended
 abbrev pub left : Bool → Bool → List ℕ → List ℕ → List (Result Lent Fault)

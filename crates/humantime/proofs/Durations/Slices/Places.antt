@@ -18,12 +18,6 @@ pub some_bytes : (bs : List ℕ) → chars bs ≢ [] → 0 < length bs
 some_bytes [] some = absurd (some chars-nil)
 some_bytes (b ∷ bs) some = omega arith
 
-pub first_bytes : (bs : List ℕ) (c : ℕ) (cs : List ℕ) → chars bs ≡ c ∷ cs → 0 < length bs
-first_bytes bs c cs e = some_bytes bs (λ none. let p = sym e ∙ none in nothing p)
-  where
-    nothing : c ∷ cs ≡ [] → ⊥
-    nothing p = omega (arith, ap length p)
-
 -- a rest that has a byte begins at a character's offset
 pub rest_place : (text rest : List ℕ) (at : ℕ) → IsTail text rest → at ≡ length text - length rest → 0 < length rest → IsPlaceIn text at
 rest_place text rest at tail is some =

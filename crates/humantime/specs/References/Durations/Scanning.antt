@@ -22,6 +22,11 @@ pub record StepsOver (text : List ℕ) (at : ℕ) (class : Class) (next : ℕ) :
   pub place : IsCharBoundary text next
   pub further : at < next
 
+-- the class of the first character
+abbrev pub first_class : List ℕ → Option Class
+first_class [] = None
+first_class (c ∷ cs) = Some (class_of c)
+
 -- the number that begins a rest, and what follows it
 abbrev pub number_at : List ℕ → Result (ℕ × List ℕ) Fault
 number_at rest =
@@ -56,7 +61,7 @@ ends_span (c ∷ cs) = is_numeric c
 -- the slice of the fraction in what stands between a number and its word
 abbrev pub fraction_in : List ℕ → Option (List ℕ)
 fraction_in [] = None
-fraction_in (c ∷ cs) = Some (trimmed cs)
+fraction_in (c ∷ cs) = if is_point c then Some (trimmed cs) else None
 
 -- what is wrong where a number and its fraction, if there is one, are followed by no letter
 abbrev pub fault_without_word : List ℕ → List ℕ → List ℕ → Option Counted → ℕ → Fault

@@ -19,9 +19,9 @@ pub record IsSpanRead (rest : List ℕ) (value : ℕ) (fraction : Option Counted
 
 -- These are the parts of the rest, each followed by what stands behind it in the text.
 pub record ArePartsOf (rest : List ℕ) (p : Parts) : Type 0 where
-  pub read : IsSpanRead (chars rest) p.value (option_map parts_of p.fraction) (chars p.after_number.now) (chars p.after_fraction.now) (chars p.word.now) (chars p.after_word.now)
+  pub read : IsSpanRead (chars rest) p.value (option_map parts_of p.fraction) (chars p.after_number.now) (chars p.after_fraction.now) (chars p.word.letters.now) (chars p.after_word.now)
   pub number_tail : IsTail rest p.after_number.now
   pub fraction_tail : IsTail p.after_number.now p.after_fraction.now
-  pub word_whole : p.after_fraction.now ≡ p.word.now ++ p.after_word.now
-  pub word_utf8 : IsUtf8 p.word.now
+  pub word_whole : p.after_fraction.now ≡ p.word.letters.now ++ p.after_word.now
+  pub word_utf8 : IsUtf8 p.word.letters.now
   pub word_tail : IsTail p.after_fraction.now p.after_word.now

@@ -8,7 +8,7 @@ use crate::unit::Unit;
 #[derive(Clone, Copy, PartialEq, Debug)]
 pub(crate) struct Fraction {
     pub value: u64,
-    pub count: u32,
+    pub count: usize,
     /// Whether there is a digit, be it a zero.
     pub any: bool,
     ghost few: { count ≤ 19 },

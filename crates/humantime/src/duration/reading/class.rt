@@ -1,7 +1,8 @@
 //! The classes of characters.
 
-ghost use Rattle.std.specs.Prelude.{◌≡◌, ◌<◌, ◌≤◌};
-ghost use Rattle.humantime.specs.Durations.Characters.{is_ws};
+ghost use Rattle.std.specs.Prelude.{◌≡◌, ◌≢◌, false, ◌<◌, ◌≤◌};
+ghost use Rattle.humantime.specs.Durations.Characters.{is_letter, is_ws};
+ghost use Rattle.humantime.specs.declared.duration.reading.class.Class.TheVariants.{Letter};
 ghost use Rattle.humantime.specs.References.Durations.Classes.{class_of, code_of};
 
 /// What a character is in a duration's text.
@@ -48,26 +49,15 @@ fn is_white(c: char) -> bool
     c.is_whitespace()
 }
 
-/// The class of a character beyond ASCII, out of line.
-#[cold]
-#[inline(never)]
-fn rare_class(c: char) -> Class
-    requires { 128 ≤ c }
-    ensures { result ≡ class_of c }
-{
-    wide_class(c)
-}
-
-/// The class of a character beyond ASCII.
+/// The class of a character beyond ASCII that is no letter.
 #[inline(always)]
-#[tactic(auto, unfolding(crate::specs::References::Durations::Classes::class_of))]
 pub(crate) fn wide_class(c: char) -> Class
-    requires { 128 ≤ c }
-    ensures { result ≡ class_of c }
+    requires wide { 128 ≤ c }
+    requires no_letter { is_letter c ≡ false }
+    ensures class { result ≡ class_of c }
+    ensures no_letter { result ≢ Letter }
 {
-    if c == '\u{b5}' || c == '\u{3bc}' {
-        Class::Letter
-    } else if is_white(c) {
+    if is_white(c) {
         Class::White
     } else {
         Class::Other
@@ -95,17 +85,5 @@ pub(crate) fn ascii_class(c: u8) -> Class
         L => Class::Letter,
         P => Class::Point,
         _ => Class::Other,
-    }
-}
-
-/// The class of a character.
-#[inline(always)]
-pub(crate) fn class_of(c: char) -> Class
-    ensures { result ≡ class_of c }
-{
-    if (c as u32) < 128 {
-        ascii_class(c as u8)
-    } else {
-        rare_class(c)
     }
 }

@@ -6,9 +6,8 @@ ghost use Rattle.humantime.specs.Durations.Errors.{PointsInto};
 ghost use Rattle.humantime.specs.References.Durations.Scanning.{IsTail};
 
 use crate::duration::error::DurationError;
-use crate::duration::reading::class::{Class, class_of};
 use crate::duration::reading::reader::span_at;
-use crate::duration::reading::scan::first;
+use crate::duration::reading::scan::begins_with_digit;
 use crate::duration::reading::slices::{offset_of, past_space};
 use crate::duration::reading::span::Span;
 
@@ -59,14 +58,14 @@ impl<'a> SpanIter<'a> {
         }
         let text = self.text;
         let rest = past_space(self.rest);
-        let Some((c, _)) = first(rest) else {
+        if rest.is_empty() {
             self.ended = true;
             if self.rest.len() == text.len() {
                 return Some(Err(DurationError::Empty));
             }
             return None;
-        };
-        if class_of(c) != Class::Digit {
+        }
+        if !begins_with_digit(rest) {
             self.ended = true;
             return Some(Err(DurationError::NumberExpected(offset_of(text, rest))));
         }

@@ -32,8 +32,8 @@ pub fn spans(s: &str) -> SpanIter<'_>
     SpanIter::new(s)
 }
 
-/// The sum of the spans of a text.
-#[inline(always)]
+/// The sum of the spans of a text. It stands out of line, so that the text `0` is answered at once.
+#[inline(never)]
 fn sum_of<'a>(text: &'a str) -> Result<StdDuration, DurationError<'a>>
     ensures value { told result ≡ judged 0 (lent_items (chars text.now)) }
     ensures place { IfErr result (PointsInto text.now) }
@@ -50,12 +50,14 @@ fn sum_of<'a>(text: &'a str) -> Result<StdDuration, DurationError<'a>>
     Ok(total)
 }
 
+/// The value of a text, or its first fault.
+#[inline(always)]
 #[tactic(auto, using(crate::proofs::Durations::Slices::LentItems::sum_answers))]
 fn outcome_of<'a>(text: &'a str) -> Result<StdDuration, DurationError<'a>>
     ensures answer { told result ≡ duration_answer (chars text.now) }
     ensures place { IfErr result (PointsInto text.now) }
 {
-    if text == "0" {
+    if text.len() == 1 && text == "0" {
         return Ok(StdDuration::ZERO);
     }
     sum_of(text)

@@ -14,10 +14,11 @@ ghost use Rattle.humantime.specs.Durations.Units.{scale_of_word};
 
 use crate::duration::error::DurationError;
 use crate::duration::reading::amount::{Amount, Fraction};
-use crate::duration::reading::class::{Class, class_of};
-use crate::duration::reading::scan::{first, read_fraction, read_number};
-use crate::duration::reading::slices::{before, offset_of, read_word};
+use crate::duration::reading::class::Class;
+use crate::duration::reading::scan::{first_class, read_fraction, read_number};
+use crate::duration::reading::slices::{before, offset_of};
 use crate::duration::reading::span::Span;
+use crate::duration::reading::word::{Word, read_word};
 use crate::unit::{Unit, unit_of};
 
 /// Whether a point has no digits behind it.
@@ -33,15 +34,13 @@ fn is_bare(fraction: Option<Fraction>) -> bool
 
 /// Whether a digit, white space or the end follows.
 #[inline(always)]
+#[tactic(auto, using(crate::proofs::Durations::Bytes::SpanEnds::ends_by_class))]
 fn ends_span(next: &str) -> bool
     ensures { result ≡ ends_span (chars next.now) }
 {
-    match first(next) {
-        None => true,
-        Some((c, _)) => match class_of(c) {
-            Class::Digit | Class::White => true,
-            Class::Letter | Class::Point | Class::Other => false,
-        },
+    match first_class(next) {
+        None | Some(Class::Digit | Class::White) => true,
+        Some(Class::Letter | Class::Point | Class::Other) => false,
     }
 }
 
@@ -82,7 +81,7 @@ struct Parts<'a> {
     after_number: &'a str,
     fraction: Option<Fraction>,
     after_fraction: &'a str,
-    word: &'a str,
+    word: Word<'a>,
     after_word: &'a str,
 }
 
@@ -110,13 +109,13 @@ fn parts_at<'a>(rest: &'a str) -> Result<Parts<'a>, DurationError<'a>>
 fn lend<'a>(text: &'a str, rest: &'a str, parts: Parts<'a>, unit: Unit) -> Span<'a>
     requires tail { IsTail text.now rest.now }
     requires parts { ArePartsOf rest.now parts }
-    requires unit { scale_of_word (chars parts.word.now) ≡ Some (scale_of unit) }
+    requires unit { scale_of_word (chars parts.word.letters.now) ≡ Some (scale_of unit) }
     ensures { lent_of result ≡ lent_at (chars text.now) (chars rest.now) }
 {
     Span {
         integer: before(rest, parts.after_number),
         middle: before(parts.after_number, parts.after_fraction),
-        unit: parts.word,
+        unit: parts.word.letters,
         start: offset_of(text, rest),
         end: offset_of(text, parts.after_word),
         amount: Amount {
@@ -142,7 +141,7 @@ pub(crate) fn span_at<'a>(
     ensures tail { IfOk result (λ x. IsTail text.now x.1.now) }
 {
     let parts = parts_at(rest)?;
-    if parts.word.is_empty() {
+    if parts.word.letters.is_empty() {
         return Err(without_word(
             text,
             parts.after_number,
@@ -159,11 +158,11 @@ pub(crate) fn span_at<'a>(
         let next = offset_of(text, parts.after_word);
         return Err(DurationError::InvalidCharacter(next));
     }
-    match unit_of(parts.word) {
+    match unit_of(parts.word.key) {
         None => Err(DurationError::UnknownUnit {
             start: offset_of(text, parts.after_fraction),
             end: offset_of(text, parts.after_word),
-            unit: parts.word,
+            unit: parts.word.letters,
             value: parts.value,
         }),
         Some(unit) => Ok((lend(text, rest, parts, unit), parts.after_word)),

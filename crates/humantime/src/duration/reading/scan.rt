@@ -1,49 +1,24 @@
 //! Steps over a text: a character, a number, a fraction.
 
-ghost use Rattle.std.specs.Prelude.{◌≡◌, false, ◌≢◌, ◌++◌, [], ◌∷◌, ℕ, List, length, chars, option_map, encode_utf8, IfNone, IfSome, IfOk, SomeIff, ◌+◌, ◌-◌, ◌*◌, ◌≤◌, slice_index, IsCharBoundary, ◌<◌};
+ghost use Rattle.std.specs.Prelude.{◌≡◌, false, ◌≢◌, ◌++◌, [], ◌∷◌, ℕ, List, ◌==◌, ◌&&◌, ◌||◌, ◌^◌, nat_lt, drop, length, chars, option_map, encode_utf8, IfNone, IfSome, IfOk, SomeIff, ◌+◌, ◌-◌, ◌*◌, ◌≤◌, slice_index, IsCharBoundary, ◌<◌};
+ghost use Rattle.humantime.specs.Durations.Characters.{is_digit, is_point, is_ws, begins, u64_max};
 ghost use Rattle.std.specs.Str.{byte};
-ghost use Rattle.humantime.specs.Durations.Characters.{is_point, begins, u64_max};
 ghost use Rattle.humantime.specs.References.Durations.Seen.{seen};
 ghost use Rattle.humantime.specs.References.Durations.Classes.{class_of};
 ghost use Rattle.humantime.specs.References.Durations.Scales.{parts_of};
-ghost use Rattle.humantime.specs.References.Durations.Scanning.{IsTail, number_at, digits_at, fraction_read, StepsOver};
-ghost use Rattle.humantime.specs.declared.duration.reading.class.Class.TheVariants.{Digit};
+ghost use Rattle.humantime.specs.References.Durations.Scanning.{IsTail, first_class, number_at, digits_at, fraction_read, StepsOver};
+ghost use Rattle.humantime.specs.declared.duration.reading.class.Class.TheVariants.{White, Digit, Letter};
 
 use crate::duration::error::DurationError;
 use crate::duration::reading::amount::Fraction;
 use crate::duration::reading::class::{Class, ascii_class, wide_class};
+use crate::duration::reading::sum::power_of_ten;
 
 /// How many digits a fraction may have before the zeros at its end.
-const FRACTION_DIGITS: u32 = 19;
+const FRACTION_DIGITS: usize = 19;
 
 /// A number up to this one can take another digit.
 const TENTH_OF_MAX: u64 = 1_844_674_407_370_955_161;
-
-/// The first character of a text, for one that is not ASCII.
-#[cold]
-#[inline(never)]
-fn wide_char(text: &str) -> char
-    requires { chars text.now ≢ [] }
-    ensures { (rest : List ℕ) × (text.now ≡ encode_utf8 result ++ rest) }
-{
-    first_char(text)
-}
-
-/// The class of the character at this place, for one that is not ASCII, and the place after it.
-///
-/// It stands out of line, so that loops over ASCII stay small, and answers numbers alone. It is not marked as rarely
-/// called: then the loops around it get slower.
-#[inline(never)]
-pub(crate) fn wide_step(text: &str, at: usize) -> (Class, usize)
-    requires place { IsCharBoundary text.now at }
-    requires some { at < length text.now }
-    requires wide { 128 ≤ slice_index text.now at }
-    ensures step { StepsOver text.now at result.0 result.1 }
-    ensures no_digit { result.0 ≢ Digit }
-{
-    let c = first_char(&text[at..]);
-    (wide_class(c), at + c.len_utf8())
-}
 
 /// The first character of a text that has one.
 #[inline(always)]
@@ -57,23 +32,80 @@ fn first_char(text: &str) -> char
     }
 }
 
-/// The first character, and the text after it.
+/// Whether these are the two bytes of the micro sign, or those of the Greek letter mu.
 #[inline(always)]
-pub(crate) fn first(text: &str) -> Option<(char, &str)>
-    ensures none { IfNone result (chars text.now ≡ []) }
-    ensures chars { IfSome result (λ x. chars text.now ≡ x.0 ∷ chars x.1.now) }
-    ensures tail { IfSome result (λ x. IsTail text.now x.1.now) }
+fn is_mu(first: u8, second: u8) -> bool
+    ensures { result ≡ ((first == 0xc2 && second == 0xb5) || (first == 0xce && second == 0xbc)) }
+{
+    first == 0xc2 && second == 0xb5 || first == 0xce && second == 0xbc
+}
+
+/// The class of the character at this place, for one that is not ASCII, and the place after it.
+///
+/// It stands out of line, so that loops over ASCII stay small, and answers numbers alone. It is not marked as rarely
+/// called: then the loops around it get slower. The letters beyond ASCII are told by their bytes.
+#[inline(never)]
+pub(crate) fn wide_step(text: &str, at: usize) -> (Class, usize)
+    requires place { IsCharBoundary text.now at }
+    requires some { at < length text.now }
+    requires wide { 128 ≤ slice_index text.now at }
+    ensures step { StepsOver text.now at result.0 result.1 }
+    ensures no_digit { result.0 ≢ Digit }
+    ensures letter { result.0 ≡ Letter → result.1 ≡ at + 2 }
+{
+    let bytes = text.as_bytes();
+    if at + 1 < bytes.len() && is_mu(bytes[at], bytes[at + 1]) {
+        return (Class::Letter, at + 2);
+    }
+    let c = first_char(&text[at..]);
+    (wide_class(c), at + c.len_utf8())
+}
+
+/// The place after the white space at this place, if some stands there.
+#[inline(always)]
+pub(crate) fn white_step(text: &str, at: usize) -> Option<usize>
+    requires place { IsCharBoundary text.now at }
+    requires some { at < length text.now }
+    ensures step { IfSome result (λ next. StepsOver text.now at White next) }
+    ensures none { IfNone result (begins is_ws (chars (drop at text.now)) ≡ false) }
+{
+    let bytes = text.as_bytes();
+    if bytes[at] < 0x80 {
+        return match ascii_class(bytes[at]) {
+            Class::White => Some(at + 1),
+            _ => None,
+        };
+    }
+    let (class, next) = wide_step(text, at);
+    match class {
+        Class::White => Some(next),
+        _ => None,
+    }
+}
+
+/// The class of the first character, if there is one.
+#[inline(always)]
+pub(crate) fn first_class(text: &str) -> Option<Class>
+    ensures { result ≡ first_class (chars text.now) }
 {
     let bytes = text.as_bytes();
     if bytes.is_empty() {
         return None;
     }
-    let byte = bytes[0];
-    if byte < 0x80 {
-        return Some((byte as char, &text[1..]));
+    if bytes[0] < 0x80 {
+        return Some(ascii_class(bytes[0]));
     }
-    let c = wide_char(text);
-    Some((c, &text[c.len_utf8()..]))
+    let (class, _) = wide_step(text, 0);
+    Some(class)
+}
+
+/// Whether the first character is a digit.
+#[inline(always)]
+pub(crate) fn begins_with_digit(text: &str) -> bool
+    ensures { result ≡ begins is_digit (chars text.now) }
+{
+    let bytes = text.as_bytes();
+    !bytes.is_empty() && bytes[0].is_ascii_digit()
 }
 
 /// Ten times the value and the digit, or `None` where that is too large.
@@ -99,25 +131,75 @@ pub(crate) fn read_number<'a>(text: &'a str) -> Result<(u64, &'a str), DurationE
     let mut value = 0;
     let mut at = 0;
     while at < bytes.len() {
-        if bytes[at] < 0x80 {
-            match ascii_class(bytes[at]) {
-                Class::Digit => match push_digit(value, bytes[at]) {
-                    Some(more) => value = more,
-                    None => return Err(DurationError::NumberOverflow),
-                },
-                Class::White => {}
-                _ => return Ok((value, &text[at..])),
+        if bytes[at].is_ascii_digit() {
+            match push_digit(value, bytes[at]) {
+                Some(more) => value = more,
+                None => return Err(DurationError::NumberOverflow),
             }
             at += 1;
         } else {
-            let (class, next) = wide_step(text, at);
-            match class {
-                Class::White => at = next,
-                _ => return Ok((value, &text[at..])),
+            match white_step(text, at) {
+                Some(next) => at = next,
+                None => break,
             }
         }
     }
     Ok((value, &text[at..]))
+}
+
+/// The digits of a fraction as far as they are read: those before the zeros at their end, as a number and by their
+/// count, and how many zeros follow.
+#[derive(Clone, Copy)]
+struct Digits {
+    value: u64,
+    count: usize,
+    zeros: usize,
+}
+
+impl Digits {
+    const NONE: Digits = Digits {
+        value: 0,
+        count: 0,
+        zeros: 0,
+    };
+
+    /// One digit more, or `None` where that is no zero and behind 19 others.
+    #[inline(always)]
+    fn push(self, c: u8) -> Option<Digits>
+        requires digit { class_of c ≡ Digit }
+        requires few { self.count ≤ 19 }
+        requires fits { self.value < 10 ^ self.count }
+        requires room { self.zeros + 1 < 2 ^ 64 }
+        ensures none { IfNone result ((c ≢ 48) × (19 ≤ self.count + self.zeros)) }
+        ensures zero { IfSome result (λ d. c ≡ 48 → (d.value ≡ self.value) × (d.count ≡ self.count) × (d.zeros ≡ self.zeros + 1)) }
+        ensures value { IfSome result (λ d. c ≢ 48 → d.value ≡ self.value * 10 ^ (self.zeros + 1) + (c - 48)) }
+        ensures count { IfSome result (λ d. c ≢ 48 → (d.count ≡ self.count + self.zeros + 1) × (d.count ≤ 19) × (d.zeros ≡ 0)) }
+    {
+        if c == b'0' {
+            return Some(Digits {
+                value: self.value,
+                count: self.count,
+                zeros: self.zeros + 1,
+            });
+        }
+        if self.zeros >= FRACTION_DIGITS - self.count {
+            return None;
+        }
+        let places = self.zeros + 1;
+        Some(Digits {
+            value: self.value * power_of_ten(places) + (c - b'0') as u64,
+            count: self.count + places,
+            zeros: 0,
+        })
+    }
+
+    /// Whether there is a digit, be it a zero.
+    #[inline(always)]
+    fn any(self) -> bool
+        ensures { result ≡ (nat_lt 0 self.count || nat_lt 0 self.zeros) }
+    {
+        self.count > 0 || self.zeros > 0
+    }
 }
 
 /// The digits at the front of the text, and what follows them: at most 19 digits, and then zeros. It stands out of
@@ -128,50 +210,33 @@ fn read_digits<'a>(text: &'a str) -> Result<(Fraction, &'a str), DurationError<'
     ensures tail { IfOk result (λ x. IsTail text.now x.1.now) }
 {
     let bytes = text.as_bytes();
-    let mut value = 0;
-    let mut count = 0;
-    // The same up to the last digit that is no zero.
-    let mut kept_value = 0;
-    let mut kept_count = 0;
+    let mut digits = Digits::NONE;
     let mut at = 0;
     while at < bytes.len() {
-        if bytes[at] < 0x80 {
-            match ascii_class(bytes[at]) {
-                Class::Digit => {
-                    if count < FRACTION_DIGITS {
-                        value = value * 10 + (bytes[at] - b'0') as u64;
-                        count += 1;
-                        if bytes[at] != b'0' {
-                            kept_value = value;
-                            kept_count = count;
-                        }
-                    } else if bytes[at] != b'0' {
-                        return Err(DurationError::NumberOverflow);
-                    }
-                }
-                Class::White => {}
-                _ => break,
+        if bytes[at].is_ascii_digit() {
+            match digits.push(bytes[at]) {
+                Some(more) => digits = more,
+                None => return Err(DurationError::NumberOverflow),
             }
             at += 1;
         } else {
-            let (class, next) = wide_step(text, at);
-            match class {
-                Class::White => at = next,
-                _ => break,
+            match white_step(text, at) {
+                Some(next) => at = next,
+                None => break,
             }
         }
     }
-    let digits = Fraction {
-        value: kept_value,
-        count: kept_count,
-        any: count > 0,
+    let fraction = Fraction {
+        value: digits.value,
+        count: digits.count,
+        any: digits.any(),
     };
-    Ok((digits, &text[at..]))
+    Ok((fraction, &text[at..]))
 }
 
 /// What follows the point at the front of the text, if there is one.
 #[inline(always)]
-fn past_point(text: &str) -> Option<&str>
+pub(crate) fn past_point(text: &str) -> Option<&str>
     ensures none { IfNone result (begins is_point (chars text.now) ≡ false) }
     ensures chars { IfSome result (λ rest. chars text.now ≡ byte "." ∷ chars rest.now) }
     ensures tail { IfSome result (λ rest. IsTail text.now rest.now) }

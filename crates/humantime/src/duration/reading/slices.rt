@@ -2,12 +2,11 @@
 
 ghost use Rattle.std.specs.Prelude.{◌≡◌, ◌-◌, ◌++◌, length, List, ℕ, chars, IsUtf8};
 ghost use Rattle.std.specs.Str.{drop_trailing_whitespace};
-ghost use Rattle.humantime.specs.Durations.Characters.{is_ws, is_letter, leading, past, offset_of};
+ghost use Rattle.humantime.specs.Durations.Characters.{is_ws, past, offset_of};
 ghost use Rattle.humantime.specs.References.Durations.Lending.{trimmed};
 ghost use Rattle.humantime.specs.References.Durations.Scanning.{IsTail};
 
-use crate::duration::reading::class::{Class, ascii_class, class_of};
-use crate::duration::reading::scan::{first, wide_step};
+use crate::duration::reading::scan::white_step;
 
 /// The offset at which a part begins that goes on to the end of the text.
 #[inline(always)]
@@ -30,44 +29,6 @@ pub(crate) fn before<'a>(text: &'a str, rest: &str) -> &'a str
     &text[..offset_of(text, rest)]
 }
 
-/// What follows the letters at the front of the text.
-#[inline(always)]
-fn past_letters<'a>(text: &'a str) -> &'a str
-    ensures rest { chars result.now ≡ past is_letter (chars text.now) }
-    ensures tail { IsTail text.now result.now }
-{
-    let bytes = text.as_bytes();
-    let mut at = 0;
-    while at < bytes.len() {
-        if bytes[at] < 0x80 {
-            match ascii_class(bytes[at]) {
-                Class::Letter => at += 1,
-                _ => return &text[at..],
-            }
-        } else {
-            let (class, next) = wide_step(text, at);
-            match class {
-                Class::Letter => at = next,
-                _ => return &text[at..],
-            }
-        }
-    }
-    &text[at..]
-}
-
-/// The letters at the front of the text, and what follows them.
-#[inline(always)]
-pub(crate) fn read_word<'a>(text: &'a str) -> (&'a str, &'a str)
-    ensures word { chars result.0.now ≡ leading is_letter (chars text.now) }
-    ensures rest { chars result.1.now ≡ past is_letter (chars text.now) }
-    ensures whole { text.now ≡ result.0.now ++ result.1.now }
-    ensures utf8 { IsUtf8 result.0.now }
-    ensures tail { IsTail text.now result.1.now }
-{
-    let rest = past_letters(text);
-    (before(text, rest), rest)
-}
-
 /// What follows the white space at the front of the text.
 #[inline(always)]
 pub(crate) fn past_space<'a>(text: &'a str) -> &'a str
@@ -77,17 +38,9 @@ pub(crate) fn past_space<'a>(text: &'a str) -> &'a str
     let bytes = text.as_bytes();
     let mut at = 0;
     while at < bytes.len() {
-        if bytes[at] < 0x80 {
-            match ascii_class(bytes[at]) {
-                Class::White => at += 1,
-                _ => return &text[at..],
-            }
-        } else {
-            let (class, next) = wide_step(text, at);
-            match class {
-                Class::White => at = next,
-                _ => return &text[at..],
-            }
+        match white_step(text, at) {
+            Some(next) => at = next,
+            None => break,
         }
     }
     &text[at..]

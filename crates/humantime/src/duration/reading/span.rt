@@ -7,7 +7,7 @@ ghost use Rattle.humantime.specs.References.Durations.Scales.{IsAmountOf};
 ghost use Rattle.humantime.specs.References.Durations.Scanning.{fraction_in};
 
 use crate::duration::reading::amount::Amount;
-use crate::duration::reading::scan::first;
+use crate::duration::reading::scan::past_point;
 use crate::duration::reading::slices::{trim, trim_end};
 
 /// A number with its fraction and its unit, lent from the text that they stand in.
@@ -53,7 +53,7 @@ impl<'a> Span<'a> {
     pub fn fraction(&self) -> Option<&'a str>
         ensures { option_map (λ t. chars t.now) result ≡ (lent_of self.now).fraction }
     {
-        let (_, digits) = first(self.middle)?;
+        let digits = past_point(self.middle)?;
         Some(trim(digits))
     }
 

@@ -71,11 +71,11 @@ fn add_whole(total: StdDuration, value: u64, unit: Unit) -> Option<StdDuration>
 }
 
 /// Ten to this power.
-fn power_of_ten(exponent: u32) -> u64
+pub(crate) fn power_of_ten(exponent: usize) -> u64
     requires { exponent ≤ 19 }
     ensures { result ≡ 10 ^ exponent }
 {
-    POWERS_OF_TEN[exponent as usize]
+    POWERS_OF_TEN[exponent]
 }
 
 /// The part of the factor that the fraction is, where it is whole and the product fits.
@@ -93,7 +93,7 @@ fn part_of(fraction: Fraction, factor: u64) -> Option<u64>
 
 /// The part of a power of ten that the fraction is, without a division where its digits are few.
 #[tactic(auto, using(crate::proofs::Durations::Bytes::Additions::few_digits))]
-fn part_of_power(fraction: Fraction, exponent: u32) -> Option<u64>
+fn part_of_power(fraction: Fraction, exponent: usize) -> Option<u64>
     requires { exponent ≤ 9 }
     ensures { result ≡ part_of fraction.value fraction.count (10 ^ exponent) }
 {

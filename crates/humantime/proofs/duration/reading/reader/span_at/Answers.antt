@@ -16,21 +16,21 @@ returns-in_err-parts-clause-stop c =
 
 pub returns-then-is_empty-clause-stop : goal.returns-then-is_empty-clause-stop
 returns-then-is_empty-clause-stop c =
-    let none : length c.in_ok-parts.parts.word.now ≡ 0 = grind (arith, common_steps) in
-    exit_no_word (chars c.args.text.now) _ _ _ _ _ _ _ c.in_ok-parts.ensures.parts.read (no_bytes c.in_ok-parts.parts.word.now none)
+    let none : length c.in_ok-parts.parts.word.letters.now ≡ 0 = grind (arith, common_steps) in
+    exit_no_word (chars c.args.text.now) _ _ _ _ _ _ _ c.in_ok-parts.ensures.parts.read (no_bytes c.in_ok-parts.parts.word.letters.now none)
     ∙ ap (λ (f : Fault). Some f) (sym c.without_word.ensures.fault)
 
 pub returns-then-is_bare-clause-stop : goal.returns-then-is_bare-clause-stop
 returns-then-is_bare-clause-stop c =
     let parts = c.in_ok-parts.ensures.parts in
-    let some : length c.in_ok-parts.parts.word.now ≢ 0 = grind (arith, common_steps) in
+    let some : length c.in_ok-parts.parts.word.letters.now ≢ 0 = grind (arith, common_steps) in
     exit_bare (chars c.args.text.now) _ _ _ _ _ _ _ parts.read (sym c.is_bare.ensures ∙ c.if-is_bare.true) (some_chars _ parts.word_utf8 some)
     ∙ ap (λ (n : ℕ). Some (InvalidCharacter n)) (sym c.offset_of-point.ensures.value)
 
 pub returns-then-not-ends_span-clause-stop : goal.returns-then-not-ends_span-clause-stop
 returns-then-not-ends_span-clause-stop c =
     let parts = c.in_ok-parts.ensures.parts in
-    let some : length c.in_ok-parts.parts.word.now ≢ 0 = grind (arith, common_steps) in
+    let some : length c.in_ok-parts.parts.word.letters.now ≢ 0 = grind (arith, common_steps) in
     exit_after (chars c.args.text.now) _ _ _ _ _ _ _ parts.read (sym c.is_bare.ensures ∙ c.if-is_bare.false) (some_chars _ parts.word_utf8 some)
     (sym c.ends_span.ensures ∙ c.if-not-ends_span.true)
     ∙ ap (λ (n : ℕ). Some (InvalidCharacter n)) (sym c.offset_of-next.ensures.value)
@@ -38,17 +38,17 @@ returns-then-not-ends_span-clause-stop c =
 pub returns-in-None-clause-stop : goal.returns-in-None-clause-stop
 returns-in-None-clause-stop c =
     let parts = c.in_ok-parts.ensures.parts in
-    let some : length c.in_ok-parts.parts.word.now ≢ 0 = grind (arith, common_steps) in
+    let some : length c.in_ok-parts.parts.word.letters.now ≢ 0 = grind (arith, common_steps) in
     rw (c.offset_of.ensures.value, c.offset_of-in-None.ensures.value)
     (exit_unit (chars c.args.text.now) _ _ _ _ _ _ _ parts.read (sym c.is_bare.ensures ∙ c.if-is_bare.false) (some_chars _ parts.word_utf8 some)
-    (sym c.ends_span.ensures ∙ c.if-not-ends_span.false) (sym c.in-None.ensures))
+    (sym c.ends_span.ensures ∙ c.if-not-ends_span.false) (sym (c.in-None.ensures ∙ c.in_ok-parts.parts.word.told)))
 
 pub returns-in-None-clause-place : goal.returns-in-None-clause-place
 returns-in-None-clause-place c =
     let parts = c.in_ok-parts.ensures.parts in
     let behind = tail_of_tail c.args.text.now c.args.rest.now _ c.requires (tail_of_tail c.args.rest.now c.in_ok-parts.parts.after_number.now c.in_ok-parts.parts.after_fraction.now parts.number_tail parts.fraction_tail) in
     let next = tail_of_tail c.args.text.now c.in_ok-parts.parts.after_fraction.now c.in_ok-parts.parts.after_word.now behind parts.word_tail in
-    part_of_rests c.args.text.now c.in_ok-parts.parts.after_fraction.now c.in_ok-parts.parts.word.now c.in_ok-parts.parts.after_word.now _ _
+    part_of_rests c.args.text.now c.in_ok-parts.parts.after_fraction.now c.in_ok-parts.parts.word.letters.now c.in_ok-parts.parts.after_word.now _ _
     c.utf8.text behind next parts.word_whole c.offset_of.ensures.value c.offset_of-in-None.ensures.value
 
 pub returns-in_err-parts-clause-place : goal.returns-in_err-parts-clause-place
@@ -78,6 +78,6 @@ returns-then-not-ends_span-clause-place c =
 pub returns-in-Some-clause-fine : goal.returns-in-Some-clause-fine
 returns-in-Some-clause-fine c =
     let parts = c.in_ok-parts.ensures.parts in
-    let some : length c.in_ok-parts.parts.word.now ≢ 0 = grind (arith, common_steps) in
+    let some : length c.in_ok-parts.parts.word.letters.now ≢ 0 = grind (arith, common_steps) in
     exit_fine (chars c.args.text.now) _ _ _ _ _ _ _ (scale_of c.in-Some.unit) parts.read (sym c.is_bare.ensures ∙ c.if-is_bare.false) (some_chars _ parts.word_utf8 some)
-    (sym c.ends_span.ensures ∙ c.if-not-ends_span.false) (sym c.in-Some.ensures)
+    (sym c.ends_span.ensures ∙ c.if-not-ends_span.false) (sym (c.in-Some.ensures ∙ c.in_ok-parts.parts.word.told))

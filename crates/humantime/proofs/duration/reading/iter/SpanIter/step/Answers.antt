@@ -1,26 +1,25 @@
-use Rattle.std.proofs.Common.{◌≡◌, ◌≢◌, ◌<◌, ap, chars, eqb, length, ne_eqb, arith, rules}
+use Rattle.std.proofs.Common.{◌≢◌, ◌<◌, ◌∙◌, ap, sym, chars, eqb, length, ne_eqb, arith, rules}
+use Rattle.std.proofs.lemmas.Grind.{common_steps}
 use Rattle.humantime.specs.Durations.Characters.{byte_length}
-use Rattle.humantime.specs.declared.duration.reading.class.Class.TheVariants.{Digit}
-use Rattle.humantime.proofs.Durations.Slices.Iterating.{begins_digit, begins_no_digit, step_fine, step_stopped, step_expected}
+use Rattle.humantime.proofs.Durations.Slices.Iterating.{step_fine, step_stopped, step_expected}
 use Rattle.humantime.proofs.Durations.Slices.SpanSlices.{next_bytes}
-use Rattle.humantime.proofs.Durations.Slices.Places.{first_bytes, rest_place}
-use Rattle.humantime.proofs.Durations.Bytes.Tails.{byte_length-chars, tail_of_tail}
+use Rattle.humantime.proofs.Durations.Slices.Places.{rest_place}
+use Rattle.humantime.proofs.Durations.Bytes.Tails.{byte_length-chars, no_bytes, some_chars, tail_of_tail}
 use Rattle.humantime.proofs.duration.reading.iter.SpanIter.step.Goals as goal
 
-pub returns-then-ne-clause-items : goal.returns-then-ne-clause-items
-returns-then-ne-clause-items c =
+pub returns-then-not-begins_with_digit-clause-items : goal.returns-then-not-begins_with_digit-clause-items
+returns-then-not-begins_with_digit-clause-items c =
     let s = c.args.self.now in
     let rest = chars c.past_space-rest.result.now in
-    let other : c.class_of.result ≢ Digit = search rules in
-    let b = begins_no_digit c.in-Some.c rest _ c.class_of.result other c.class_of.ensures c.in-Some.ensures.chars in
-    step_expected s.ended (eqb (length s.rest.now) (length s.text.now)) (chars s.text.now) (chars s.rest.now) rest _ c.if-self.false c.past_space-rest.ensures.rest b.0 b.1 c.offset_of.ensures.value
+    let b = sym c.begins_with_digit.ensures ∙ c.if-not-begins_with_digit.true in
+    let some : length c.past_space-rest.result.now ≢ 0 = grind (arith, common_steps) in
+    step_expected s.ended (eqb (length s.rest.now) (length s.text.now)) (chars s.text.now) (chars s.rest.now) rest _ c.if-self.false c.past_space-rest.ensures.rest (some_chars c.past_space-rest.result.now c.past_space-rest.utf8 some) b c.offset_of.ensures.value
 
 pub returns-in-Ok-clause-items : goal.returns-in-Ok-clause-items
 returns-in-Ok-clause-items c =
     let s = c.args.self.now in
     let rest = chars c.past_space-rest.result.now in
-    let is : c.class_of.result ≡ Digit = search rules in
-    let d = begins_digit c.in-Some.c rest _ c.class_of.result is c.class_of.ensures c.in-Some.ensures.chars in
+    let d = sym c.begins_with_digit.ensures ∙ c.if-not-begins_with_digit.false in
     let less : length c.in-Ok.next.now < length c.past_space-rest.result.now = omega (
       arith,
       next_bytes rest d,
@@ -37,13 +36,23 @@ pub returns-in-Err-clause-items : goal.returns-in-Err-clause-items
 returns-in-Err-clause-items c =
     let s = c.args.self.now in
     let rest = chars c.past_space-rest.result.now in
-    let is : c.class_of.result ≡ Digit = search rules in
-    let d = begins_digit c.in-Some.c rest _ c.class_of.result is c.class_of.ensures c.in-Some.ensures.chars in
+    let d = sym c.begins_with_digit.ensures ∙ c.if-not-begins_with_digit.false in
     step_stopped s.ended (eqb (length s.rest.now) (length s.text.now)) (chars s.text.now) (chars s.rest.now) rest _ c.if-self.false c.past_space-rest.ensures.rest d c.in-Err.ensures.stop
 
-pub returns-then-ne-clause-place : goal.returns-then-ne-clause-place
-returns-then-ne-clause-place c =
+pub returns-then-not-begins_with_digit-clause-place : goal.returns-then-not-begins_with_digit-clause-place
+returns-then-not-begins_with_digit-clause-place c =
     let s = c.args.self.now in
     let rest = c.past_space-rest.result.now in
+    let some : 0 < length rest = grind (arith, common_steps) in
     let tail = tail_of_tail s.text.now s.rest.now rest s.tail c.past_space-rest.ensures.tail in
-    rest_place s.text.now rest _ tail c.offset_of.ensures.bytes (first_bytes rest _ _ c.in-Some.ensures.chars)
+    rest_place s.text.now rest _ tail c.offset_of.ensures.bytes some
+
+pub returns-then-self-text-clause-items : goal.returns-then-self-text-clause-items
+returns-then-self-text-clause-items c =
+    let none = no_bytes c.past_space-rest.result.now (grind (arith, common_steps)) in
+    search rules
+
+pub returns-then-is_empty-clause-items : goal.returns-then-is_empty-clause-items
+returns-then-is_empty-clause-items c =
+    let none = no_bytes c.past_space-rest.result.now (grind (arith, common_steps)) in
+    search rules

@@ -1,0 +1,34 @@
+use Rattle.std.proofs.Common.{◌≡◌, ◌++◌, List, ℕ, take, sym, ap, ◌∙◌, chars, arith}
+use Rattle.std.proofs.lemmas.Grind.{common_steps}
+use Rattle.std.proofs.lemmas.List.{append_cancel_right}
+use Rattle.std.proofs.lemmas.Str.{chars-append}
+use Rattle.humantime.specs.Durations.Characters.{is_letter, leading, past}
+use Rattle.humantime.specs.References.Durations.Keys.{key, scale_of_key}
+use Rattle.humantime.proofs.Durations.Bytes.WordKeys.{HasBytes, front_bytes, key_short, key_long, scale_by_key}
+use Rattle.humantime.proofs.Durations.Reading.Runs.{leading-past}
+use Rattle.humantime.proofs.duration.reading.word.read_word.Goals as goal
+use Rattle.humantime.proofs.duration.reading.word.read_word.Goals.{then-end-gt-MOST_BYTES, else-end-gt-MOST_BYTES}
+
+pub invariant_of-result : goal.invariant_of-result
+invariant_of-result c =
+    let text = c.args.text.now in
+    let end = c.letters_end-end.result.0 in
+    let letters = c.range-letters.result.now in
+    let front : letters ≡ take end text = grind (arith, common_steps) in
+    let within = c.letters_end-end.ensures.place.0 in
+    let made : c.if-end-gt-MOST_BYTES.key ≡ key (take end text) = elim c.if-end-gt-MOST_BYTES.branch [
+      | then-end-gt-MOST_BYTES w ↦ w.key-is ∙ key_long text end within w.if-end-gt-MOST_BYTES.true
+      | else-end-gt-MOST_BYTES w ↦ w.key-is ∙ key_short text end c.letters_end-end.result.1 within w.if-end-gt-MOST_BYTES.false c.letters_end-end.ensures.key
+    ] in
+    let bytes : HasBytes letters = rw front (front_bytes text end (λ k. (c.type_inv.text k).fits)) in
+    record { told = ap scale_of_key (made ∙ ap key (sym front)) ∙ scale_by_key letters c.range-letters.utf8 bytes }
+
+pub returns-clause-word : goal.returns-clause-word
+returns-clause-word c =
+    let text = c.args.text.now in
+    let letters = c.range-letters.result.now in
+    let rest = c.range_from.result.now in
+    let whole : text ≡ letters ++ rest = grind (arith, common_steps) in
+    let after : chars rest ≡ past is_letter (chars text) = ap chars c.range_from.ensures.value ∙ c.letters_end-end.ensures.rest in
+    append_cancel_right (chars letters) (leading is_letter (chars text)) (past is_letter (chars text))
+    (ap (λ (x : List ℕ). chars letters ++ x) (sym after) ∙ sym (ap chars whole ∙ chars-append letters rest c.range-letters.utf8) ∙ sym (leading-past is_letter (chars text)))

@@ -1,0 +1,67 @@
+//! The word of a unit.
+
+ghost use Rattle.std.specs.Prelude.{◌≡◌, ◌≤◌, ◌++◌, take, drop, reverse, chars, IsUtf8, IsCharBoundary};
+ghost use Rattle.humantime.specs.Durations.Characters.{is_letter, leading, past};
+ghost use Rattle.humantime.specs.Durations.Units.{scale_of_word};
+ghost use Rattle.humantime.specs.References.Durations.Keys.{packed, scale_of_key};
+ghost use Rattle.humantime.specs.References.Durations.Scanning.{IsTail};
+
+use crate::duration::reading::class::{Class, ascii_class};
+use crate::duration::reading::scan::wide_step;
+use crate::unit::{MOST_BYTES, NO_LETTERS, TOO_LONG, key_with};
+
+/// The letters of a word, and the key by which its unit is found.
+#[derive(Clone, Copy)]
+pub(crate) struct Word<'a> {
+    pub letters: &'a str,
+    pub key: u64,
+    ghost told: { scale_of_key key ≡ scale_of_word (chars letters.now) },
+}
+
+/// The place after the letters at the front of the text, and the key of the bytes before it, where they are few.
+#[inline(always)]
+fn letters_end(text: &str) -> (usize, u64)
+    ensures place { IsCharBoundary text.now result.0 }
+    ensures rest { chars (drop result.0 text.now) ≡ past is_letter (chars text.now) }
+    ensures key { result.0 ≤ 7 → result.1 ≡ packed (reverse (take result.0 text.now)) }
+{
+    let bytes = text.as_bytes();
+    let mut key = NO_LETTERS;
+    let mut at = 0;
+    while at < bytes.len() {
+        if bytes[at] < 0x80 {
+            match ascii_class(bytes[at]) {
+                Class::Letter => {
+                    key = key_with(key, bytes[at]);
+                    at += 1;
+                }
+                _ => break,
+            }
+        } else {
+            let (class, next) = wide_step(text, at);
+            match class {
+                Class::Letter => {
+                    key = key_with(key_with(key, bytes[at]), bytes[at + 1]);
+                    at = next;
+                }
+                _ => break,
+            }
+        }
+    }
+    (at, key)
+}
+
+/// The word at the front of the text, and what follows it.
+#[inline(always)]
+pub(crate) fn read_word<'a>(text: &'a str) -> (Word<'a>, &'a str)
+    ensures word { chars result.0.letters.now ≡ leading is_letter (chars text.now) }
+    ensures rest { chars result.1.now ≡ past is_letter (chars text.now) }
+    ensures whole { text.now ≡ result.0.letters.now ++ result.1.now }
+    ensures utf8 { IsUtf8 result.0.letters.now }
+    ensures tail { IsTail text.now result.1.now }
+{
+    let (end, key) = letters_end(text);
+    let letters = &text[..end];
+    let key = if end > MOST_BYTES { TOO_LONG } else { key };
+    (Word { letters, key }, &text[end..])
+}
