@@ -1,6 +1,6 @@
 -- What an answer unfolds to compute what a timestamp's text reads as, and what a moment prints as, on a literal.
 use Rattle.std.specs.Prelude.{⊤}
-use Rattle.humantime.specs.Calendar.Years.{days_of_years, days_of_months}
+use Rattle.humantime.specs.Calendar.{days_of_years, days_of_months}
 use Rattle.humantime.specs.References.Calendar.DatesOfDays.{date_of}
 use Rattle.humantime.specs.References.Calendar.March.{march_months}
 use Rattle.humantime.specs.Timestamps.Fields.{fraction_nanos}

@@ -2,8 +2,8 @@
 
 ghost use Rattle.std.specs.Prelude.{◌≡◌, ◌++◌, decimal, chars, encode_utf8_all};
 ghost use Rattle.humantime.specs.Prelude.{fault_of, fault_message};
-ghost use Rattle.humantime.specs.Durations.Messages.{unit_message};
-ghost use Rattle.humantime.specs.Timestamps.Messages as timestamps;
+ghost use Rattle.humantime.specs.Durations.Errors.{unit_message};
+ghost use Rattle.humantime.specs.Timestamps.Checks as timestamps;
 ghost use Rattle.humantime_cli.specs.Writes.{Writes, line};
 
 use crate::writing::{WriteFailed, write_line};

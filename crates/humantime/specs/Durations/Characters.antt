@@ -17,6 +17,10 @@ micro_sign = 0xb5
 abbrev pub greek_mu : ℕ
 greek_mu = 0x3bc
 
+-- the bytes of `µs`, spelled with the micro sign
+abbrev pub micro_suffix : List ℕ
+micro_suffix = 0xc2 ∷ 0xb5 ∷ codes "s"
+
 -- what a character is: white space, a digit 0 to 9, a letter, or a point
 unfoldable pub is_ws : ℕ → Bool
 is_ws c = char_set_contains white_spaces c

@@ -46,7 +46,7 @@ SpellsEach text [] = text ≡ []
 SpellsEach text (span ∷ spans) = (rest : List ℕ) × Spells text span rest × SpellsEach rest spans
 
 -- The text is white space, or none, and then spells each span.
-pub record Front (text : List ℕ) (spans : List Span) : Type 0 where
+pub record SpellsAll (text : List ℕ) (spans : List Span) : Type 0 where
   pub space : List ℕ
   pub body : List ℕ
   pub whole : text ≡ space ++ body
@@ -55,4 +55,4 @@ pub record Front (text : List ℕ) (spans : List Span) : Type 0 where
 
 -- and there is a span
 abbrev pub Reads : List ℕ → List Span → Type 0
-Reads text spans = Front text spans × (spans ≢ [])
+Reads text spans = SpellsAll text spans × (spans ≢ [])

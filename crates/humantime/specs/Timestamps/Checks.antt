@@ -1,12 +1,12 @@
--- The checks on a timestamp's bytes, in their order, each with the error of a text that fails it.
+-- The checks on a timestamp's bytes, in their order, each with the error of a text that fails it; and the errors' messages.
 use Rattle.std.specs.Prelude.{ℕ, Bool, not, ◌&&◌, ◌||◌, ◌==◌, nat_le, nat_eq, if◌then◌else◌, Option, Some, None, List, [], ◌∷◌, length, drop, slice_index, slice_range, codes}
 use Rattle.std.specs.Char.{is_ascii_digit}
 use Rattle.std.specs.List.{list_all, ends_with}
 use Rattle.std.specs.Str.{byte, bytes_eq}
-use Rattle.std.specs.Str.Parse.{digits_value}
+use Rattle.humantime.specs.Durations.Characters.{decimal_value, past}
 use Rattle.humantime.specs.declared.date.error.TimestampError.{TimestampError}
 use Rattle.humantime.specs.declared.date.error.TimestampError.TheVariants.{OutOfRange, InvalidDigit, InvalidFormat}
-use Rattle.humantime.specs.Calendar.Years.{is_valid}
+use Rattle.humantime.specs.Calendar.{is_valid}
 
 -- nothing, `Z` or `+00:00`
 abbrev pub is_zone : List ℕ → Bool
@@ -16,18 +16,9 @@ is_zone b = bytes_eq b [] || bytes_eq b (codes "Z") || bytes_eq b (codes "+00:00
 abbrev pub ends_in_zone : List ℕ → Bool
 ends_in_zone b = ends_with nat_eq b (codes "Z") || ends_with nat_eq b (codes "+00:00")
 
--- what stands after the digits at the front
-abbrev pub past_digits : List ℕ → List ℕ
-past_digits [] = []
-past_digits (c ∷ cs) = if is_ascii_digit c then past_digits cs else c ∷ cs
-
 -- at least 20 bytes, a `T` between date and time, and `Z` or `+00:00` at the end
 unfoldable pub is_complete : List ℕ → Bool
 is_complete b = nat_le 20 (length b) && (slice_index b 10 == byte "T") && ends_in_zone b
-
--- at least 19 bytes
-abbrev pub is_long : List ℕ → Bool
-is_long b = nat_le 19 (length b)
 
 -- `-`, `-`, `T` or a space, `:` and `:` in their places
 unfoldable pub has_signs : List ℕ → Bool
@@ -46,7 +37,7 @@ has_digits b = list_all (λ k. is_ascii_digit (slice_index b k)) digit_places
 
 -- the number that the bytes from one place up to another show
 unfoldable pub number : List ℕ → ℕ → ℕ → ℕ
-number b from to = digits_value 10 (slice_range b from to)
+number b from to = decimal_value (slice_range b from to)
 
 -- a date of 1970 to 9999 that exists, and a time of day, perhaps with a second 60
 unfoldable pub in_range : List ℕ → Bool
@@ -64,12 +55,12 @@ ends_whole b = has_point b || is_zone (drop 19 b)
 
 -- where a point follows: digits, and then nothing, `Z` or `+00:00`
 unfoldable pub ends_fraction : List ℕ → Bool
-ends_fraction b = not (has_point b) || is_zone (past_digits (drop 20 b))
+ends_fraction b = not (has_point b) || is_zone (past is_ascii_digit (drop 20 b))
 
--- the checks of the weak form
+-- the checks of the weak form: each with the error of a text that fails it
 abbrev pub weak_checks : List ℕ → List (Bool × TimestampError)
 weak_checks b =
-    (is_long b, InvalidFormat)
+    (nat_le 19 (length b), InvalidFormat)
     ∷ (has_signs b, InvalidFormat)
     ∷ (has_digits b, InvalidDigit)
     ∷ (in_range b, OutOfRange)
@@ -85,3 +76,9 @@ strict_checks b = (is_complete b, InvalidFormat) ∷ weak_checks b
 abbrev pub first_failed : List (Bool × TimestampError) → Option TimestampError
 first_failed [] = None
 first_failed (check ∷ checks) = if check.0 then first_failed checks else Some check.1
+
+-- the message of an error
+abbrev pub timestamp_message : TimestampError → List ℕ
+timestamp_message OutOfRange = codes "numeric component is out of range"
+timestamp_message InvalidDigit = codes "bad character where digit is expected"
+timestamp_message InvalidFormat = codes "timestamp format is invalid"

@@ -4,11 +4,11 @@ ghost use Rattle.std.specs.Prelude.{◌≡◌, ◌≢◌, ◌+◌, ◌/◌, ◌^
 ghost use Rattle.std.specs.List.{ends_with};
 ghost use Rattle.std.specs.Str.{bytes_eq};
 ghost use Rattle.humantime.specs.declared.date.error.TimestampError.{TimestampError};
-ghost use Rattle.humantime.specs.Values.Amounts.{nanos_per_second};
+ghost use Rattle.humantime.specs.Values.{nanos_per_second};
 ghost use Rattle.humantime.specs.Timestamps.Fields.{fraction_nanos, IsWeakMoment, IsStrictMoment};
-ghost use Rattle.humantime.specs.Timestamps.Checks.{number, past_digits, first_failed, weak_checks, strict_checks};
+ghost use Rattle.humantime.specs.Timestamps.Checks.{number, first_failed, weak_checks, strict_checks};
+ghost use Rattle.humantime.specs.References.Timestamps.Reading.{past_digits, weak_answer, strict_answer, numbers_of, seconds_to, AreInRange};
 ghost use Rattle.humantime.specs.Timestamps.Checks as TimestampChecks;
-ghost use Rattle.humantime.specs.References.Timestamps.Reading.{weak_answer, strict_answer, numbers_of, seconds_to, AreInRange};
 ghost use Rattle.humantime.specs.References.Timestamps.Fractions.{weight, has_three, AreThreeAt, IsRead};
 ghost use Rattle.humantime.specs.References.Timestamps.Reading as TimestampReading;
 

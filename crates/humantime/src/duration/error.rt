@@ -4,10 +4,8 @@ ghost use Rattle.std.specs.Prelude.{◌≡◌, ◌++◌, Some, chars, decimal, e
 ghost use Rattle.std.specs.Cmp.{on_per};
 ghost use Rattle.std.specs.Ordering.{on};
 ghost use Rattle.std.specs.Fmt.{WritesOnOk, WritesStyledOnOk};
-ghost use Rattle.humantime.specs.Durations.Errors.{fault_of};
-ghost use Rattle.humantime.specs.Durations.Faults.{fault_eq};
-ghost use Rattle.humantime.specs.Durations.Messages.{fault_message, unit_message, unit_needed};
-ghost use Rattle.humantime.specs.References.Durations.FaultEqualityLemmas.{fault_eq_laws};
+ghost use Rattle.humantime.specs.Durations.Errors.{fault_of, fault_message, unit_message, unit_needed};
+ghost use Rattle.humantime.specs.References.Durations.FaultEqualityLemmas.{fault_eq, fault_eq_laws};
 
 use itoa::Buffer;
 use std::error::Error;

@@ -5,8 +5,7 @@ use Rattle.std.specs.Str.{drop_trailing_whitespace}
 use Rattle.humantime.specs.declared.duration.reading.amount.Amount.{Amount}
 use Rattle.humantime.specs.Durations.Characters.{is_numeric, is_point, leading, past, decimal_value, byte_length, offset_of}
 use Rattle.humantime.specs.Durations.Units.{Scale, scale_of_word}
-use Rattle.humantime.specs.Durations.Rests.{number_of, after_number, fraction_of, past_fraction, word_of, after_word, span_of}
-use Rattle.humantime.specs.Durations.Faults.{Fault, InvalidCharacter, UnknownUnit, NumberOverflow}
+use Rattle.humantime.specs.Durations.Faults.{number_of, after_number, fraction_of, past_fraction, word_of, after_word, span_of, Fault, InvalidCharacter, UnknownUnit, NumberOverflow}
 use Rattle.humantime.specs.References.Durations.Reading.{too_long, stop_word, stop_by, stop_at}
 use Rattle.humantime.specs.References.Durations.Scales.{Counted, scale_of, counted, parts_of, IsAmountOf}
 use Rattle.humantime.specs.References.Durations.Scanning.{bare, ends_span, fault_without_word, fraction_in}

@@ -8,8 +8,7 @@ use Rattle.std.proofs.lemmas.Nat.{pow-add}
 use Rattle.std.proofs.lemmas.Nat.Gcd.{dvd_of_mod-eq-zero}
 use Rattle.std.proofs.Math.Nat.{pow-suc, one-le-pow, mul_comm, mul_assoc, mul_right_comm, mul-div-mul_right, div-mul_cancel, le_of_mul-le-mul_right, le-mul_of_pos_right, mod-eq-sub-div-mul}
 use Rattle.humantime.specs.Durations.Characters.{kept, decimal_value, significant}
-use Rattle.humantime.specs.Durations.Sums.{fraction_amount}
-use Rattle.humantime.specs.Durations.Limits.{IsWholePart}
+use Rattle.humantime.specs.Durations.Accepted.{IsWholePart}
 
 -- so many zeros
 abbrev pub zeros : ℕ → List ℕ
@@ -141,7 +140,7 @@ whole_part_kept f ds h =
     let rest : kept_value * f * s.by % (10 ^ length (significant ds) * s.by) ≡ 0 = rw (← product, ← s.power) h.1 in
     (omega (arith, less, product, h.0), divides (kept_value * f) (10 ^ length (significant ds)) s.by s.positive rest)
 
-pub amount_kept : (f : ℕ) (ds : List ℕ) → decimal_value ds * f / 10 ^ length ds ≡ fraction_amount f ds
+pub amount_kept : (f : ℕ) (ds : List ℕ) → decimal_value ds * f / 10 ^ length ds ≡ decimal_value (significant ds) * f / 10 ^ length (significant ds)
 amount_kept f ds =
     let s = shifted ds in
     let kept_value = decimal_value (significant ds) in

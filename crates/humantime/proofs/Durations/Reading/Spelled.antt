@@ -3,8 +3,7 @@ use Rattle.std.proofs.Common.{◌≡◌, ◌≢◌, ◌⊎◌, ℕ, ◌≤◌, �
 use Rattle.std.proofs.lemmas.Bool.{cases_Bool, false≢true}
 use Rattle.humantime.specs.Durations.Characters.{is_ws, is_digit, is_letter, is_point, is_numeric, leading, past, begins, ends, digits}
 use Rattle.humantime.specs.Durations.Spans.{Span, Only, SpellsFraction, Spells}
-use Rattle.humantime.specs.Durations.Rests.{after_number, fraction_at, past_fraction, fraction_of, after_fraction, word_of, after_word, span_of}
-use Rattle.humantime.specs.Durations.Faults.{EndsInSpace, MayFollowWord}
+use Rattle.humantime.specs.Durations.Faults.{after_number, fraction_at, past_fraction, fraction_of, after_fraction, word_of, after_word, span_of, MayFollowWord}
 use Rattle.humantime.proofs.Durations.Reading.Classes.{numeric_not_letter, letter_not_numeric, letter_not_point, letter_not_space, digit_is_numeric, space_is_numeric, point_not_numeric, is_point-46}
 use Rattle.humantime.proofs.Durations.Reading.Spellings.{spells_alone}
 use Rattle.humantime.proofs.Durations.Reading.Runs.{leading-append, past-append, past_shorter, begins-append, begins_other, begins_not_nil, letters_begin, ends_Only, ends_other, ends-append, append_not_nil}
@@ -115,13 +114,13 @@ ends_in_word a b word only some =
     (ends_other is_letter is_ws letter_not_space word (ends_Only is_letter word only n))
 
 followed : (a b word c here next : List ℕ) → here ≡ a ++ (b ++ (word ++ c)) → Only is_letter word → begins is_letter word ≡ true → Only is_ws c
-    → (MayFollowWord next ⊎ EndsInSpace here) → MayFollowWord (c ++ next)
+    → (MayFollowWord next ⊎ (ends is_ws here ≡ true)) → MayFollowWord (c ++ next)
 followed a b word [] here next whole only some space (inl e) = e
 followed a b word [] here next whole only some space (inr e) = absurd (false≢true (sym (ends_in_word a b word only some) ∙ ap (ends is_ws) (sym whole) ∙ e))
 followed a b word (x ∷ xs) here next whole only some space o = inr (space_is_numeric x (space.0))
 
 -- a spelling is the span that begins it, where its word ends with it
-pub spelled_here : (here next : List ℕ) (s : Span) → Spells here s [] → (MayFollowWord next ⊎ EndsInSpace here) → begins is_ws next ≡ false → IsSpanAt (here ++ next) s next
+pub spelled_here : (here next : List ℕ) (s : Span) → Spells here s [] → (MayFollowWord next ⊎ (ends is_ws here ≡ true)) → begins is_ws next ≡ false → IsSpanAt (here ++ next) s next
 spelled_here here next s h o no_space =
     let a = h.number_text in
     let b = h.fraction_text in

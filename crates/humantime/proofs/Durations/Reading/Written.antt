@@ -3,9 +3,8 @@ use Rattle.std.proofs.Common.{◌≡◌, ◌≢◌, ℕ, ◌<◌, true, false, L
 use Rattle.std.proofs.lemmas.Bool.{cases_Bool}
 use Rattle.humantime.specs.Durations.Characters.{is_ws, is_digit, is_letter, is_point, is_numeric, leading, past, begins, ends, digits}
 use Rattle.humantime.specs.Durations.Spans.{Span, Only, SpellsFraction, Spells}
-use Rattle.humantime.specs.Durations.Limits.{Formed}
-use Rattle.humantime.specs.Durations.Rests.{after_number, fraction_at, past_fraction, after_fraction, word_of, after_word, span_of}
-use Rattle.humantime.specs.Durations.Faults.{MayFollowWord}
+use Rattle.humantime.specs.Durations.Accepted.{Formed}
+use Rattle.humantime.specs.Durations.Faults.{after_number, fraction_at, past_fraction, after_fraction, word_of, after_word, span_of, MayFollowWord}
 use Rattle.humantime.proofs.Durations.Reading.Classes.{digit_is_numeric, space_from_numeric, is_point-true}
 use Rattle.humantime.proofs.Durations.Reading.Runs.{leading-past, Only-leading, letters_begin, begins_some, ends_Only, ends-append, append_not_nil}
 use Rattle.humantime.proofs.Durations.Reading.Spelled.{next_of, IsSpanAt}
@@ -94,9 +93,9 @@ written_here rest d h =
 
 -- the span that begins the rest is well formed
 pub formed_here : (rest : List ℕ) → Fine rest → Formed (span_of rest)
-formed_here rest h = record { short = h.short; word = h.word }
+formed_here rest h = record { numbers = h.numbers; word = h.word }
 
 pub fine_here : (rest next : List ℕ) (s : Span) → IsSpanAt rest s next → Formed s → Fine rest
 fine_here rest next s h f =
     let g : Formed (span_of rest) = rw (h.span) f in
-    record { short = g.short; point = h.point; word = g.word; ends = h.ends }
+    record { numbers = g.numbers; point = h.point; word = g.word; ends = h.ends }

@@ -6,8 +6,8 @@ use Rattle.std.proofs.lemmas.Bool.Decides.{nat_tests}
 use Rattle.std.proofs.lemmas.List.Elements.{filter-append}
 use Rattle.humantime.specs.Durations.Characters.{is_ws, is_digit, is_letter, is_numeric, begins, ends, leading, past, digits}
 use Rattle.humantime.specs.Durations.Spans.{Only}
-use Rattle.humantime.specs.Durations.Rests.{number_of, after_number, fraction_at, word_of, span_of}
-use Rattle.humantime.specs.Durations.Slices.{IsDigitSlice}
+use Rattle.humantime.specs.Durations.Faults.{number_of, after_number, fraction_at, word_of, span_of}
+use Rattle.humantime.specs.Durations.Items.{IsDigitSlice}
 use Rattle.humantime.specs.References.Durations.Lending.{trimmed, number_slice, fraction_slice, lent_at, spelled}
 use Rattle.humantime.proofs.Durations.Reading.Classes.{white_is, letter_not_numeric, letter_not_point, is_point-46, space_not_digit, digit_from_numeric}
 use Rattle.humantime.proofs.Durations.Reading.Runs.{leading-append, begins_other}

@@ -4,9 +4,9 @@ use Rattle.std.specs.Prelude.{min, codes, Option, Some, ℤ, nat_abs}
 use Rattle.std.specs.Char.{digit_value}
 use Rattle.std.specs.Str.Parse.{digits_value_after}
 use Rattle.std.proofs.lemmas.Str.{digit_value_digit}
-use Rattle.humantime.specs.Calendar.Dates.{day_of}
-use Rattle.humantime.specs.Timestamps.Digits.{AreDigits}
-use Rattle.humantime.specs.Timestamps.Fields.{fraction_digits, fraction_nanos, fields_text}
+use Rattle.humantime.specs.Calendar.{day_of}
+use Rattle.humantime.specs.Timestamps.Fields.{AreDigits, fraction_nanos, fields_text}
+use Rattle.humantime.specs.References.Timestamps.Reading.{fraction_digits}
 use Rattle.humantime.specs.Timestamps.Printed.{HasPlaces, IsPrinted}
 use Rattle.humantime.proofs.Dates.DaysOfDates.{same_date}
 use Rattle.humantime.proofs.Timestamps.Reading.Fractions.{nanos_bound}

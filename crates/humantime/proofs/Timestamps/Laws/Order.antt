@@ -12,10 +12,9 @@ use Rattle.std.proofs.lemmas.Bool.{cases_order}
 use Rattle.std.proofs.lemmas.Bool.Decides.{nat_tests}
 use Rattle.std.proofs.lemmas.Str.{digit_value_digit}
 use Rattle.humantime.specs.declared.calendar.Date.{Date}
-use Rattle.humantime.specs.Calendar.Years.{days_of_years, days_of_months}
-use Rattle.humantime.specs.Calendar.Dates.{IsDate, day_of}
-use Rattle.humantime.specs.Timestamps.Digits.{two_digits, four_digits, AreDigits}
-use Rattle.humantime.specs.Timestamps.Fields.{Fields, fraction_text, fraction_digits, fraction_nanos, moment_of}
+use Rattle.humantime.specs.Calendar.{days_of_years, days_of_months, IsDate, day_of}
+use Rattle.humantime.specs.Timestamps.Fields.{two_digits, four_digits, AreDigits, Fields, fraction_text, fraction_nanos, moment_of}
+use Rattle.humantime.specs.References.Timestamps.Reading.{fraction_digits}
 use Rattle.humantime.specs.Timestamps.Printed.{HasPlaces, IsPrinted}
 use Rattle.humantime.specs.Laws.Timestamps.{InOrder}
 use Rattle.humantime.proofs.Dates.DaysOfDates.{before_year, before_month}

@@ -3,8 +3,8 @@ use Rattle.std.proofs.Common.{ℕ, zero, suc, ◌+◌, ◌/◌, ◌%◌, ◌≤�
 use Rattle.std.specs.Prelude.{Option, Some, None}
 use Rattle.std.specs.Int.{IsInRange}
 use Rattle.std.specs.List.{AllByRecursion}
-use Rattle.humantime.specs.Timestamps.Digits.{AreDigits}
-use Rattle.humantime.specs.Timestamps.Fields.{Separator, Letter_T, Space, Fields, separator_byte, fraction_text, fraction_digits, time_text, IsWeak}
+use Rattle.humantime.specs.Timestamps.Fields.{AreDigits, Separator, Letter_T, Space, Fields, separator_byte, fraction_text, date_time_text, IsWeak}
+use Rattle.humantime.specs.References.Timestamps.Reading.{fraction_digits}
 use Rattle.humantime.proofs.Dates.Years.{valid_told}
 use Rattle.humantime.proofs.Timestamps.Reading.Passed.{month_most}
 
@@ -54,7 +54,7 @@ four_hold P h n small = (
 
 -- of all bytes before the zone
 pub holds_before_zone : (P : ℕ → Type 0) → HoldsOfBytes P → (text : List ℕ) (f : Fields) → IsWeak text f
-    → AllByRecursion P (time_text f ++ fraction_text f.fraction)
+    → AllByRecursion P (date_time_text f ++ fraction_text f.fraction)
 holds_before_zone P p text f w =
     let most = month_most f.date.year f.date.month in
     let date = valid_told f.date.year f.date.month f.date.day w.date in

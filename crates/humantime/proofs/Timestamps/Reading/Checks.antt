@@ -1,5 +1,5 @@
 -- What the checks on a timestamp say, one by one.
-use Rattle.std.proofs.Common.{◌≡◌, ℕ, ◌<◌, ◌≤◌, List, [], ◌∷◌, ◌++◌, length, get_or, drop, ◌⊎◌, inl, inr, refl, sym, ◌∙◌, arith}
+use Rattle.std.proofs.Common.{◌≡◌, ℕ, ◌<◌, ◌≤◌, List, [], ◌∷◌, ◌++◌, length, get_or, drop, ◌⊎◌, inl, inr, refl, sym, ◌∙◌, arith, nat_le}
 use Rattle.std.specs.Prelude.{Bool, true, false, not, ◌||◌, ◌==◌, codes, slice_index, Option, Some, None, if◌then◌else◌}
 use Rattle.std.specs.Bool.{Decides}
 use Rattle.std.proofs.Math.Seq.{drop-cons}
@@ -9,15 +9,14 @@ use Rattle.std.proofs.lemmas.Bool.{and_parts, cases_lt, eqb-true}
 use Rattle.std.proofs.Math.ListN.{get_or-eq_default}
 use Rattle.std.proofs.lemmas.Slice.Eq.{bytes_eq-Decides}
 use Rattle.humantime.specs.declared.date.error.TimestampError.{TimestampError}
-use Rattle.humantime.specs.Timestamps.Digits.{AreDigits}
-use Rattle.humantime.specs.Timestamps.Fields.{Letter_T, Space, Nothing, Letter_Z, Offset, separator_byte, fraction_text, fraction_digits, zone_text}
-use Rattle.humantime.specs.Timestamps.Checks.{is_zone, is_long, has_signs, has_digits, in_range, has_point, ends_whole, ends_fraction, past_digits, weak_checks, first_failed}
-use Rattle.humantime.specs.References.Timestamps.Reading.{has_two, front_digits, zone_of, fraction_read, zone_at}
+use Rattle.humantime.specs.Timestamps.Fields.{AreDigits, Letter_T, Space, No_zone, Letter_Z, Zero_offset, separator_byte, fraction_text, zone_text}
+use Rattle.humantime.specs.References.Timestamps.Reading.{fraction_digits, past_digits, has_two, front_digits, zone_of, fraction_read, zone_at}
+use Rattle.humantime.specs.Timestamps.Checks.{is_zone, has_signs, has_digits, in_range, has_point, ends_whole, ends_fraction, weak_checks, first_failed}
 use Rattle.humantime.proofs.Timestamps.Reading.Fractions.{front_are_digits, front_past}
 
 -- no check of the weak form fails
 pub record Passes (b : List ℕ) : Type 0 where
-  pub long : is_long b ≡ true
+  pub long : nat_le 19 (length b) ≡ true
   pub signs : has_signs b ≡ true
   pub digits : has_digits b ≡ true
   pub range : in_range b ≡ true
@@ -30,7 +29,7 @@ none_first false e rest h = absurd (cc)
 
 pub passes_from : (b : List ℕ) → first_failed (weak_checks b) ≡ None → Passes b
 passes_from b h =
-    let long = none_first (is_long b) _ _ h in
+    let long = none_first (nat_le 19 (length b)) _ _ h in
     let signs = none_first (has_signs b) _ _ long.1 in
     let digits = none_first (has_digits b) _ _ signs.1 in
     let range = none_first (in_range b) _ _ digits.1 in
@@ -103,7 +102,7 @@ separator_shown c h = by_test (c == 84) refl h where
   by_test false e k = eqb-true c 32 k
 
 zone_by : (z : List ℕ) (p q r : Bool) → Decides p (z ≡ []) → Decides q (z ≡ codes "Z") → Decides r (z ≡ codes "+00:00")
-    → (p || q || r) ≡ true → z ≡ zone_text (if p then Nothing else (if q then Letter_Z else Offset))
+    → (p || q || r) ≡ true → z ≡ zone_text (if p then No_zone else (if q then Letter_Z else Zero_offset))
 zone_by z true q r a b c h = a.0 refl
 zone_by z false true r a b c h = b.0 refl
 zone_by z false false true a b c h = c.0 refl

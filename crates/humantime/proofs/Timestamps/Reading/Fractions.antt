@@ -9,10 +9,8 @@ use Rattle.std.proofs.Math.Seq.{drop-cons}
 use Rattle.std.proofs.lemmas.Bool.Decides.{nat_tests}
 use Rattle.std.proofs.lemmas.List.{drop_all}
 use Rattle.std.proofs.lemmas.Str.{digit_value_digit}
-use Rattle.humantime.specs.Timestamps.Digits.{AreDigits}
-use Rattle.humantime.specs.Timestamps.Fields.{fraction_nanos}
-use Rattle.humantime.specs.Timestamps.Checks.{past_digits}
-use Rattle.humantime.specs.References.Timestamps.Reading.{front_digits}
+use Rattle.humantime.specs.Timestamps.Fields.{AreDigits, fraction_nanos}
+use Rattle.humantime.specs.References.Timestamps.Reading.{past_digits, front_digits}
 use Rattle.humantime.specs.References.Timestamps.Fractions.{add_digits, weight, has_three, AreThreeAt, IsRead}
 
 add_nothing : (n : ℕ) (ds : List ℕ) → add_digits n 0 ds ≡ n

@@ -5,12 +5,10 @@ use Rattle.std.specs.Int.{IsInRange}
 use Rattle.std.proofs.lemmas.Bool.{le-leb, and_from}
 use Rattle.humantime.specs.declared.calendar.Date.{Date}
 use Rattle.std.proofs.lemmas.Bool.Decides.{nat_tests}
-use Rattle.humantime.specs.Calendar.Years.{days_in_month}
-use Rattle.humantime.specs.Calendar.Dates.{IsDate}
-use Rattle.humantime.specs.Timestamps.Digits.{AreDigits}
-use Rattle.humantime.specs.Timestamps.Fields.{Separator, Letter_T, Space, Zone, Nothing, Letter_Z, Offset, Fields, fraction_text, fraction_digits, zone_text, fields_text, IsWeak}
-use Rattle.humantime.specs.Timestamps.Checks.{number, is_zone, has_signs, ends_whole, ends_fraction, past_digits}
-use Rattle.humantime.specs.References.Timestamps.Reading.{has_two, front_digits, zone_of, fields_of, date_at}
+use Rattle.humantime.specs.Calendar.{days_in_month, IsDate}
+use Rattle.humantime.specs.Timestamps.Fields.{AreDigits, Separator, Letter_T, Space, Zone, No_zone, Letter_Z, Zero_offset, Fields, fraction_text, zone_text, fields_text, IsWeak}
+use Rattle.humantime.specs.References.Timestamps.Reading.{fraction_digits, past_digits, has_two, front_digits, zone_of, fields_of, date_at}
+use Rattle.humantime.specs.Timestamps.Checks.{number, is_zone, has_signs, ends_whole, ends_fraction}
 use Rattle.humantime.proofs.Dates.Years.{valid_told}
 use Rattle.humantime.proofs.Timestamps.Reading.Checks.{Passes, Pairs, pairs_from}
 use Rattle.humantime.proofs.Timestamps.Reading.Fractions.{is_digit_from}
@@ -53,30 +51,30 @@ two_digits_back n h = (omega arith, omega arith, omega arith)
 
 -- digits and then a zone
 pub past_back : (ds : List ℕ) (z : Zone) → AreDigits ds → past_digits (ds ++ zone_text z) ≡ zone_text z
-past_back [] Nothing digits = refl
+past_back [] No_zone digits = refl
 past_back [] Letter_Z digits = refl
-past_back [] Offset digits = refl
+past_back [] Zero_offset digits = refl
 past_back (c ∷ cs) z digits =
     let digit = is_digit_from c digits.0 in
     rw digit (past_back cs z digits.1)
 
 pub front_back : (ds : List ℕ) (z : Zone) → AreDigits ds → front_digits (ds ++ zone_text z) ≡ ds
-front_back [] Nothing digits = refl
+front_back [] No_zone digits = refl
 front_back [] Letter_Z digits = refl
-front_back [] Offset digits = refl
+front_back [] Zero_offset digits = refl
 front_back (c ∷ cs) z digits =
     let digit = is_digit_from c digits.0 in
     rw digit (ap (λ (xs : List ℕ). c ∷ xs) (front_back cs z digits.1))
 
 zone_is : (z : Zone) → is_zone (zone_text z) ≡ true
-zone_is Nothing = refl
+zone_is No_zone = refl
 zone_is Letter_Z = refl
-zone_is Offset = refl
+zone_is Zero_offset = refl
 
 zone_back : (z : Zone) → z ≡ zone_of (zone_text z)
-zone_back Nothing = refl
+zone_back No_zone = refl
 zone_back Letter_Z = refl
-zone_back Offset = refl
+zone_back Zero_offset = refl
 
 -- what stands after date and time
 abbrev end_text : Option (List ℕ) → Zone → List ℕ
@@ -86,9 +84,9 @@ abbrev pub begins_point : List ℕ → Bool
 begins_point r = slice_index r 0 == 46
 
 pub no_point : (z : Zone) → begins_point (zone_text z) ≡ false
-no_point Nothing = refl
+no_point No_zone = refl
 no_point Letter_Z = refl
-no_point Offset = refl
+no_point Zero_offset = refl
 
 end_whole : (q : Option (List ℕ)) (z : Zone) → (begins_point (end_text q z) || is_zone (end_text q z)) ≡ true
 end_whole None z = rw (no_point z) (zone_is z)

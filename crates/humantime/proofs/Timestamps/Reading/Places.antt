@@ -7,8 +7,7 @@ use Rattle.std.proofs.Math.Seq.{drop-cons}
 use Rattle.std.proofs.lemmas.Bool.{and_parts}
 use Rattle.std.proofs.lemmas.Bool.Decides.{nat_tests}
 use Rattle.std.proofs.lemmas.Str.{digit_value_digit}
-use Rattle.humantime.specs.Calendar.Years.{is_valid}
-use Rattle.humantime.specs.Calendar.Dates.{IsDate}
+use Rattle.humantime.specs.Calendar.{is_valid, IsDate}
 use Rattle.humantime.specs.Timestamps.Checks.{number, in_range}
 use Rattle.humantime.specs.References.Timestamps.Reading.{has_two, date_at}
 use Rattle.humantime.proofs.Timestamps.Reading.Fractions.{is_digit_told}

@@ -3,10 +3,9 @@ use Rattle.std.specs.Prelude.{ℕ, zero, suc, Bool, true, List, [], ◌∷◌, l
 use Rattle.std.specs.Str.{drop_trailing_whitespace}
 use Rattle.humantime.specs.Durations.Characters.{is_ws, is_digit, is_numeric, leading, past, digits, decimal_value, offset_of}
 use Rattle.humantime.specs.Durations.Spans.{Span}
-use Rattle.humantime.specs.Durations.Rests.{number_of, after_number, fraction_at, word_of, after_word}
-use Rattle.humantime.specs.Durations.Faults.{Fault, NumberExpected, NumberOverflow, Empty}
+use Rattle.humantime.specs.Durations.Faults.{number_of, after_number, fraction_at, word_of, after_word, Fault, NumberExpected, NumberOverflow, Empty}
 use Rattle.humantime.specs.References.Durations.Reading.{stop_at, add_span}
-use Rattle.humantime.specs.Durations.Slices.{Lent}
+use Rattle.humantime.specs.Durations.Items.{Lent}
 
 -- without the white space at both ends
 abbrev pub trimmed : List ℕ → List ℕ

@@ -2,7 +2,7 @@ use Rattle.std.proofs.Common.{◌≡◌, ℕ, List, length, false, refl, sym, �
 use Rattle.std.specs.Prelude.{◌==◌}
 use Rattle.std.proofs.Output.{has_written_styled_append, has_written_styled_of_eq}
 use Rattle.std.proofs.lemmas.Str.{encodes-chars}
-use Rattle.humantime.specs.Durations.Messages.{unit_unknown, unit_message}
+use Rattle.humantime.specs.Durations.Errors.{unit_unknown, unit_message}
 use Rattle.humantime.proofs.duration.error.write_unit.Goals as goal
 
 -- what is said of a unit that is there
