@@ -1,5 +1,5 @@
 -- The characters of a duration's text.
-use Rattle.std.specs.Prelude.{ℕ, ◌-◌, Bool, false, ◌||◌, ◌==◌, List, [], ◌∷◌, length, if◌then◌else◌, encode_utf8_all, filter, codes}
+use Rattle.std.specs.Prelude.{ℕ, ◌-◌, Bool, false, ◌||◌, ◌==◌, List, [], ◌∷◌, length, if◌then◌else◌, encode_utf8_all, filter, codes, reverse}
 use Rattle.std.specs.Char.{char_set_contains, is_ascii_digit, is_ascii_alphabetic}
 use Rattle.std.specs.Str.{byte}
 use Rattle.std.specs.Str.Parse.{digits_value}
@@ -68,15 +68,9 @@ digits cs = filter is_digit cs
 abbrev pub decimal_value : List ℕ → ℕ
 decimal_value ds = digits_value 10 ds
 
--- a digit and those that are left behind it; a zero with none behind it is dropped
-abbrev pub kept : ℕ → List ℕ → List ℕ
-kept d [] = if d == byte "0" then [] else d ∷ []
-kept d (e ∷ es) = d ∷ e ∷ es
-
 -- the digits without the zeros at their end
 unfoldable pub significant : List ℕ → List ℕ
-significant [] = []
-significant (d ∷ ds) = kept d (significant ds)
+significant ds = reverse (past (λ d. d == byte "0") (reverse ds))
 
 -- the greatest number that a u64 holds
 abbrev pub u64_max : ℕ

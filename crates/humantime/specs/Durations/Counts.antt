@@ -1,7 +1,9 @@
 -- A duration in nine counts, its one printed text, and the canonical text of what a text spells. Texts are bytes here.
-use Rattle.std.specs.Prelude.{◌≡◌, ◌⊎◌, ℕ, zero, suc, ◌+◌, ◌*◌, ◌<◌, Bool, true, false, ◌&&◌, List, [], ◌∷◌, ◌++◌, length, codes, decimal, nat_lt, if◌then◌else◌, chars}
+use Rattle.std.specs.Prelude.{◌≡◌, ℕ, zero, suc, ◌+◌, ◌*◌, Bool, true, false, ◌&&◌, List, [], ◌∷◌, ◌++◌, length, codes, decimal, nat_lt, if◌then◌else◌, chars, IsTrue}
 use Rattle.std.specs.List.{join_with_byte}
 use Rattle.std.specs.Str.{byte}
+use Rattle.std.specs.Ordering.{nat_cmp, is_le}
+use Rattle.std.specs.Cmp.Lexicographic.{slice_cmp}
 use Rattle.humantime.specs.Durations.Characters.{micro_suffix}
 use Rattle.humantime.specs.Values.{nanos_per_micro, nanos_per_milli, nanos_per_second, seconds_per_minute, seconds_per_hour, seconds_per_day, seconds_per_month, seconds_per_year}
 use Rattle.humantime.specs.Durations.Accepted.{Accepted}
@@ -18,17 +20,11 @@ weighted_sum [] counts = 0
 weighted_sum (w ∷ ws) [] = 0
 weighted_sum (w ∷ ws) (c ∷ cs) = w * c + weighted_sum ws cs
 
--- the first count that differs is less
-abbrev pub IsBefore : List ℕ → List ℕ → Type 0
-IsBefore [] ys = ⊥
-IsBefore (x ∷ xs) [] = ⊥
-IsBefore (x ∷ xs) (y ∷ ys) = (x < y) ⊎ ((x ≡ y) × IsBefore xs ys)
-
--- The counts have this sum, and no other counts with it are lexicographically greater.
+-- The counts have this sum, and all others with it are lexicographically at most these.
 pub record AreGreatest (ws : List ℕ) (d : ℕ) (counts : List ℕ) : Type 0 where
   pub as_many : length counts ≡ length ws
   pub sum : weighted_sum ws counts ≡ d
-  pub greatest : (others : List ℕ) → length others ≡ length ws → weighted_sum ws others ≡ d → ¬ (IsBefore counts others)
+  pub greatest : (others : List ℕ) → length others ≡ length ws → weighted_sum ws others ≡ d → IsTrue (is_le (slice_cmp nat_cmp others counts))
 
 -- the nine counts of d nanoseconds
 abbrev pub Counts : ℕ → List ℕ → Type 0
