@@ -1,34 +1,25 @@
 -- The first fault of a text that is not accepted. A text is its list of characters; offsets count its bytes.
-use Rattle.std.specs.Prelude.{ℕ, List, [], ◌∷◌, Option, Some, None, option_map, if◌then◌else◌, ◌≡◌, ◌≢◌, ◌⊎◌, true, false, ◌++◌, IsSome}
+use Rattle.std.specs.Prelude.{ℕ, List, [], ◌∷◌, Option, Some, None, if◌then◌else◌, ◌≡◌, ◌≢◌, ◌⊎◌, true, false, ◌++◌, IsSome, drop}
 use Rattle.humantime.specs.Durations.Characters.{is_letter, is_numeric, is_point, leading, past, digits, is_ws, is_digit, begins, ends, decimal_value, offset_of, byte_length, bare_zero}
 use Rattle.humantime.specs.Durations.Spans.{Span, SpellsAll}
 use Rattle.humantime.specs.Durations.Units.{scale_of_word}
 use Rattle.humantime.specs.Durations.Accepted.{NumbersFit, WithinLimits}
 
--- the digits of the longest front of digits and white space, and what follows this front
+-- the number that begins a rest: its digits, and what follows it
 abbrev pub number_of : List ℕ → List ℕ
 number_of rest = digits (leading is_numeric rest)
 
 abbrev pub after_number : List ℕ → List ℕ
 after_number rest = past is_numeric rest
 
--- the digits and white space behind a point, if a point begins the text, and what follows them
-abbrev pub fraction_at : List ℕ → Option (List ℕ)
-fraction_at [] = None
-fraction_at (c ∷ cs) = if is_point c then Some (leading is_numeric cs) else None
-
-abbrev pub past_fraction : List ℕ → List ℕ
-past_fraction [] = []
-past_fraction (c ∷ cs) = if is_point c then past is_numeric cs else c ∷ cs
-
--- the digits behind the point after the number, if there is a point, and what follows them
+-- the fraction, if a point follows the number: its digits, and what follows both
 abbrev pub fraction_of : List ℕ → Option (List ℕ)
-fraction_of rest = option_map digits (fraction_at (after_number rest))
+fraction_of rest = if begins is_point (after_number rest) then Some (number_of (drop 1 (after_number rest))) else None
 
 abbrev pub after_fraction : List ℕ → List ℕ
-after_fraction rest = past_fraction (after_number rest)
+after_fraction rest = if begins is_point (after_number rest) then after_number (drop 1 (after_number rest)) else after_number rest
 
--- the longest front of letters after both, and what follows it
+-- the word: the letters that follow both, and what follows them
 abbrev pub word_of : List ℕ → List ℕ
 word_of rest = leading is_letter (after_fraction rest)
 
