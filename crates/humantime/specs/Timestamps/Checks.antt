@@ -1,5 +1,5 @@
 -- The checks on a timestamp's bytes, in their order, each with the error of a text that fails it; and the errors' messages.
-use Rattle.std.specs.Prelude.{ℕ, Bool, not, ◌&&◌, ◌||◌, ◌==◌, nat_le, nat_eq, if◌then◌else◌, Option, Some, None, List, [], ◌∷◌, length, drop, slice_index, slice_range, codes}
+use Rattle.std.specs.Prelude.{ℕ, Bool, ◌&&◌, ◌||◌, ◌==◌, nat_le, nat_eq, if◌then◌else◌, Option, Some, None, List, [], ◌∷◌, length, drop, slice_index, slice_range, codes, true}
 use Rattle.std.specs.Char.{is_ascii_digit}
 use Rattle.std.specs.List.{list_all, ends_with}
 use Rattle.std.specs.Str.{byte, bytes_eq}
@@ -36,26 +36,26 @@ unfoldable pub has_digits : List ℕ → Bool
 has_digits b = list_all (λ k. is_ascii_digit (slice_index b k)) digit_places
 
 -- the number that the bytes from one place up to another show
-unfoldable pub number : List ℕ → ℕ → ℕ → ℕ
-number b from to = decimal_value (slice_range b from to)
+unfoldable pub number_between : List ℕ → ℕ → ℕ → ℕ
+number_between b from to = decimal_value (slice_range b from to)
 
 -- a date of 1970 to 9999 that exists, and a time of day, perhaps with a second 60
 unfoldable pub in_range : List ℕ → Bool
 in_range b =
-    is_valid (number b 0 4) (number b 5 7) (number b 8 10)
-    && nat_le (number b 11 13) 23 && nat_le (number b 14 16) 59 && nat_le (number b 17 19) 60
+    is_valid (number_between b 0 4) (number_between b 5 7) (number_between b 8 10)
+    && nat_le (number_between b 11 13) 23 && nat_le (number_between b 14 16) 59 && nat_le (number_between b 17 19) 60
 
 -- a point after date and time
 abbrev pub has_point : List ℕ → Bool
 has_point b = slice_index b 19 == byte "."
 
 -- where no point follows: nothing, `Z` or `+00:00`
-unfoldable pub ends_whole : List ℕ → Bool
-ends_whole b = has_point b || is_zone (drop 19 b)
+unfoldable pub ends_without_point : List ℕ → Bool
+ends_without_point b = if has_point b then true else is_zone (drop 19 b)
 
 -- where a point follows: digits, and then nothing, `Z` or `+00:00`
-unfoldable pub ends_fraction : List ℕ → Bool
-ends_fraction b = not (has_point b) || is_zone (past is_ascii_digit (drop 20 b))
+unfoldable pub ends_after_point : List ℕ → Bool
+ends_after_point b = if has_point b then is_zone (past is_ascii_digit (drop 20 b)) else true
 
 -- the checks of the weak form: each with the error of a text that fails it
 abbrev pub weak_checks : List ℕ → List (Bool × TimestampError)
@@ -64,8 +64,8 @@ weak_checks b =
     ∷ (has_signs b, InvalidFormat)
     ∷ (has_digits b, InvalidDigit)
     ∷ (in_range b, OutOfRange)
-    ∷ (ends_whole b, InvalidFormat)
-    ∷ (ends_fraction b, InvalidDigit)
+    ∷ (ends_without_point b, InvalidFormat)
+    ∷ (ends_after_point b, InvalidDigit)
     ∷ []
 
 -- the checks of the strict form: one more, and it comes first

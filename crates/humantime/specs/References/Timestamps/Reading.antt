@@ -10,7 +10,7 @@ use Rattle.humantime.specs.declared.date.parse.Numbers.{Numbers}
 use Rattle.humantime.specs.Calendar.{IsDate, day_of}
 use Rattle.humantime.specs.declared.date.error.TimestampError.TheVariants.{InvalidDigit, InvalidFormat}
 use Rattle.humantime.specs.Timestamps.Fields.{Letter_T, Space, Zone, No_zone, Letter_Z, Zero_offset, Fields, fraction_nanos, moment_of, IsWeakMoment}
-use Rattle.humantime.specs.Timestamps.Checks.{digit_places, number, is_zone, has_signs, has_point, weak_checks, strict_checks, first_failed}
+use Rattle.humantime.specs.Timestamps.Checks.{digit_places, number_between, is_zone, has_signs, has_point, weak_checks, strict_checks, first_failed}
 
 -- two digits from place k on
 unfoldable pub has_two : List ℕ → ℕ → Bool
@@ -56,11 +56,11 @@ zone_of b = if bytes_eq b [] then No_zone else (if bytes_eq b (codes "Z") then L
 
 -- the date in the first ten bytes
 abbrev pub date_at : List ℕ → Date
-date_at b = record { year = number b 0 4; month = number b 5 7; day = number b 8 10 }
+date_at b = record { year = number_between b 0 4; month = number_between b 5 7; day = number_between b 8 10 }
 
 -- the numbers in the first nineteen bytes
 abbrev pub numbers_of : List ℕ → Numbers
-numbers_of b = record { date = date_at b; hour = number b 11 13; minute = number b 14 16; second = number b 17 19 }
+numbers_of b = record { date = date_at b; hour = number_between b 11 13; minute = number_between b 14 16; second = number_between b 17 19 }
 
 -- a date that exists, and a time of day, perhaps with a second 60
 pub record AreInRange (x : Numbers) : Type 0 where
@@ -90,9 +90,9 @@ abbrev pub fields_of : List ℕ → Fields
 fields_of b = record {
   date = date_at b;
   separator = (if slice_index b 10 == byte "T" then Letter_T else Space);
-  hour = number b 11 13;
-  minute = number b 14 16;
-  second = number b 17 19;
+  hour = number_between b 11 13;
+  minute = number_between b 14 16;
+  second = number_between b 17 19;
   fraction = fraction_read b;
   zone = zone_at b;
 }
