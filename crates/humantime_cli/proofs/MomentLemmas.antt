@@ -34,7 +34,7 @@ day_within d valid =
 -- the last moment is the last nanosecond of that day
 moment_within : (text : List ℕ) (f : Fields) → IsWeak text f → moment_of f < 253_402_300_800 * 1_000_000_000
 moment_within text f w =
-    omega (arith, day_within f.date w.date, w.hour, w.minute, nanos_bound (fraction_digits f.fraction) w.fraction)
+    omega (arith, day_within f.date w.date, w.hour, w.minute, nanos_bound (unwrap_or f.fraction []) (digits_told _ w.fraction))
 
 pub weak_printable : (text : List ℕ) (moment : ℤ) → IsWeakMoment text moment → IsPrintable moment
 weak_printable text moment m = subst IsPrintable (sym m.moment) (omega (arith, ints), omega (arith, ints, moment_within text m.fields m.weak))

@@ -1,5 +1,5 @@
 -- The items of a text, and what each lends of it. A text is its list of characters.
-use Rattle.std.specs.Prelude.{◌≡◌, ◌≢◌, ◌⊎◌, List, ℕ, [], Option, Some, None, true, ◌∷◌, ◌++◌, Result, Ok, Err}
+use Rattle.std.specs.Prelude.{◌≡◌, ◌≢◌, ◌⊎◌, List, ℕ, [], Option, Some, None, true, ◌∷◌, ◌++◌, Result, Ok, Err, map, option_to_list, option_map}
 use Rattle.std.specs.List.{AllByRecursion}
 use Rattle.humantime.specs.Durations.Spans.{Span, Only, Spells}
 use Rattle.humantime.specs.Durations.Accepted.{Formed}
@@ -57,9 +57,7 @@ LendsEach text here _ _ end = ⊥
 
 -- what a caller gets: what each span lends, and then the fault, if there is one
 abbrev pub items_of : List Lent → Option Fault → List (Result Lent Fault)
-items_of [] None = []
-items_of [] (Some e) = Err e ∷ []
-items_of (x ∷ xs) stop = Ok x ∷ items_of xs stop
+items_of slices stop = map Ok slices ++ option_to_list (option_map Err stop)
 
 -- These are the items of the text, with what they lend, from behind the white space at its start to the rest behind its spans.
 pub record AreItems (text : List ℕ) (lent : List (Result Lent Fault)) : Type 0 where

@@ -1,8 +1,6 @@
 -- The parts of a timestamp, the text that shows them, and the moment that they name. A text is its bytes.
-use Rattle.std.specs.Prelude.{ℕ, ◌+◌, ◌/◌, ◌%◌, List, [], ◌∷◌, ◌≡◌, ◌≢◌, ◌*◌, ◌≤◌, min, ◌++◌, take, codes, Option, Some, None, ℤ, pos, unwrap_or}
-use Rattle.std.specs.Int.{IsInRange}
-use Rattle.std.specs.List.{AllByRecursion}
-use Rattle.std.specs.Str.{byte}
+use Rattle.std.specs.Prelude.{ℕ, ◌+◌, ◌/◌, ◌%◌, List, [], ◌∷◌, ◌≡◌, ◌≢◌, ◌*◌, ◌≤◌, min, ◌++◌, take, codes, Option, Some, None, ℤ, pos, unwrap_or, IsTrue}
+use Rattle.std.specs.Str.{byte, all_ascii_digits}
 use Rattle.humantime.specs.Durations.Characters.{decimal_value}
 use Rattle.humantime.specs.declared.calendar.Date.{Date}
 use Rattle.humantime.specs.Calendar.{IsDate, day_of}
@@ -19,10 +17,6 @@ two_digits n = digit (n / 10) ∷ digit (n % 10) ∷ []
 -- a number below 10000, in four digits
 abbrev pub four_digits : ℕ → List ℕ
 four_digits n = digit (n / 1000) ∷ digit (n / 100 % 10) ∷ digit (n / 10 % 10) ∷ digit (n % 10) ∷ []
-
--- each byte is a digit
-abbrev pub AreDigits : List ℕ → Type 0
-AreDigits ds = AllByRecursion (λ c. IsInRange (byte "0") (byte "9") c) ds
 
 -- what stands between the date and the time
 pub data Separator : Type 0 where
@@ -80,7 +74,7 @@ pub record IsWeak (bytes : List ℕ) (f : Fields) : Type 0 where
   pub hour : f.hour ≤ 23
   pub minute : f.minute ≤ 59
   pub second : f.second ≤ 60
-  pub fraction : AreDigits (unwrap_or f.fraction [])
+  pub fraction : IsTrue (all_ascii_digits (unwrap_or f.fraction []))
 
 -- in strict form the text shows these parts: with the letter `T` and a zone
 pub record IsStrict (bytes : List ℕ) (f : Fields) : Type 0 where

@@ -6,6 +6,7 @@ use Rattle.std.proofs.Math.Nat.{mod-le}
 use Rattle.std.proofs.lemmas.Bool.{ltb-true, lt-ltb}
 use Rattle.std.proofs.lemmas.Int.{ints}
 use Rattle.std.proofs.lemmas.Option.{none-some, same_Some}
+use Rattle.humantime.proofs.Timestamps.Reading.Fractions.{digits_from}
 use Rattle.humantime.specs.declared.date.print.DateTime.{DateTime}
 use Rattle.humantime.specs.declared.date.print.Precision.{Precision}
 use Rattle.humantime.specs.declared.date.print.Precision.TheVariants.{Seconds, Millis, Micros, Nanos}
@@ -61,7 +62,7 @@ shown_printed x (pos t) k small h = record {
     hour = h.hour;
     minute = h.minute;
     second = omega (arith, h.second);
-    fraction = shown_digits k x.nanos h.nanos;
+    fraction = digits_from _ (shown_digits k x.nanos h.nanos);
   };
   separator = refl;
   zone = refl;

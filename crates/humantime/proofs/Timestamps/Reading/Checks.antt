@@ -9,8 +9,8 @@ use Rattle.std.proofs.lemmas.Bool.{and_parts, cases_lt, eqb-true}
 use Rattle.std.proofs.Math.ListN.{get_or-eq_default}
 use Rattle.std.proofs.lemmas.Slice.Eq.{bytes_eq-Decides}
 use Rattle.humantime.specs.declared.date.error.TimestampError.{TimestampError}
-use Rattle.humantime.specs.Timestamps.Fields.{AreDigits, Letter_T, Space, No_zone, Letter_Z, Zero_offset, separator_byte, fraction_text, zone_text}
-use Rattle.humantime.specs.References.Timestamps.Reading.{fraction_digits, past_digits, has_two, front_digits, zone_of, fraction_read, zone_at}
+use Rattle.humantime.specs.References.Timestamps.Reading.{AreDigits, fraction_digits, past_digits, has_two, front_digits, zone_of, fraction_read, zone_at}
+use Rattle.humantime.specs.Timestamps.Fields.{Letter_T, Space, No_zone, Letter_Z, Zero_offset, separator_byte, fraction_text, zone_text}
 use Rattle.humantime.specs.Timestamps.Checks.{is_zone, has_signs, has_digits, in_range, has_point, ends_without_point, ends_after_point, weak_checks, first_failed}
 use Rattle.humantime.proofs.Timestamps.Reading.Fractions.{front_are_digits, front_past}
 

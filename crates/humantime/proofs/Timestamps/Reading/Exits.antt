@@ -8,8 +8,8 @@ use Rattle.std.proofs.lemmas.List.{drop-drop, get_or-drop, take_at, take_rest}
 use Rattle.std.proofs.lemmas.List.Folds.{drop_split}
 use Rattle.humantime.specs.declared.date.error.TimestampError.{TimestampError}
 use Rattle.humantime.specs.declared.date.error.TimestampError.TheVariants.{OutOfRange, InvalidDigit, InvalidFormat}
-use Rattle.humantime.specs.Timestamps.Fields.{AreDigits, No_zone, zone_text, fraction_nanos, seconds_of, moment_of}
-use Rattle.humantime.specs.References.Timestamps.Reading.{fraction_digits, past_digits, has_separator, shape_error, zone_length, zone_of, front_digits, fields_of, end_answer, moment_or_error, weak_answer}
+use Rattle.humantime.specs.References.Timestamps.Reading.{AreDigits, fraction_digits, past_digits, has_separator, shape_error, zone_length, zone_of, front_digits, fields_of, end_answer, moment_or_error, weak_answer}
+use Rattle.humantime.specs.Timestamps.Fields.{No_zone, zone_text, fraction_nanos, seconds_of, moment_of}
 use Rattle.humantime.specs.Timestamps.Checks.{is_zone, has_signs, has_digits, in_range, has_point, ends_without_point, ends_after_point, first_failed}
 use Rattle.humantime.proofs.Timestamps.Reading.Bytes.{digits_hold}
 use Rattle.humantime.proofs.Timestamps.Reading.Checks.{zone_shown}

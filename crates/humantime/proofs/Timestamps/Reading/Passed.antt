@@ -6,12 +6,12 @@ use Rattle.std.proofs.lemmas.Bool.{le-leb, and_from}
 use Rattle.humantime.specs.declared.calendar.Date.{Date}
 use Rattle.std.proofs.lemmas.Bool.Decides.{nat_tests}
 use Rattle.humantime.specs.Calendar.{days_in_month, IsDate}
-use Rattle.humantime.specs.Timestamps.Fields.{AreDigits, Separator, Letter_T, Space, Zone, No_zone, Letter_Z, Zero_offset, Fields, fraction_text, zone_text, fields_text, IsWeak}
-use Rattle.humantime.specs.References.Timestamps.Reading.{fraction_digits, past_digits, has_two, front_digits, zone_of, fields_of, date_at}
+use Rattle.humantime.specs.References.Timestamps.Reading.{AreDigits, fraction_digits, past_digits, has_two, front_digits, zone_of, fields_of, date_at}
+use Rattle.humantime.specs.Timestamps.Fields.{Separator, Letter_T, Space, Zone, No_zone, Letter_Z, Zero_offset, Fields, fraction_text, zone_text, fields_text, IsWeak}
 use Rattle.humantime.specs.Timestamps.Checks.{number_between, is_zone, has_signs, ends_without_point, ends_after_point}
 use Rattle.humantime.proofs.Dates.Years.{valid_told}
 use Rattle.humantime.proofs.Timestamps.Reading.Checks.{Passes, Pairs, pairs_from}
-use Rattle.humantime.proofs.Timestamps.Reading.Fractions.{is_digit_from}
+use Rattle.humantime.proofs.Timestamps.Reading.Fractions.{is_digit_from, digits_told}
 use Rattle.humantime.proofs.Timestamps.Reading.Places.{number_of_two, number_of_four, in_range_from}
 
 -- two digits at a place
@@ -168,7 +168,7 @@ written_passes f w =
       digits = pairs_from b pairs;
       range = in_range_from b (subst IsDate date_is w.date) (omega (arith, hour_is, w.hour)) (omega (arith, minute_is, w.minute)) (omega (arith, second_is, w.second));
       whole = end_whole f.fraction f.zone;
-      fraction = end_fraction f.fraction f.zone w.fraction;
+      fraction = end_fraction f.fraction f.zone (digits_told _ w.fraction);
     } in (
       passes,
       λ j. record {
@@ -177,8 +177,8 @@ written_passes f w =
         hour = hour_is j;
         minute = minute_is j;
         second = second_is j;
-        fraction = fraction_back f.fraction f.zone w.fraction j;
-        zone = end_zone_back f.fraction f.zone w.fraction j;
+        fraction = fraction_back f.fraction f.zone (digits_told _ w.fraction) j;
+        zone = end_zone_back f.fraction f.zone (digits_told _ w.fraction) j;
       },
     )
 

@@ -3,6 +3,7 @@ use Rattle.std.proofs.Common.{◌≡◌, ℕ, ◌+◌, ◌-◌, ◌*◌, ◌/◌
 use Rattle.std.specs.Prelude.{true, slice_index}
 use Rattle.std.specs.Int.{IsInRange}
 use Rattle.std.proofs.lemmas.Bool.{leb-true}
+use Rattle.humantime.proofs.Timestamps.Reading.Fractions.{digits_from}
 use Rattle.humantime.specs.Timestamps.Fields.{fields_text, IsWeak}
 use Rattle.humantime.specs.Timestamps.Checks.{number_between}
 use Rattle.humantime.specs.References.Timestamps.Reading.{has_two, fields_of}
@@ -62,5 +63,5 @@ fields_weak b p =
       hour = range.1;
       minute = range.2;
       second = range.3;
-      fraction = fraction_at_digits b;
+      fraction = digits_from _ (fraction_at_digits b);
     }

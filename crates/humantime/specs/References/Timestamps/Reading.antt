@@ -1,8 +1,9 @@
 -- The parts that the bytes show, place by place, where no check fails.
 use Rattle.std.specs.Prelude.{ℕ, ◌+◌, ◌*◌, ◌≤◌, min, Bool, ◌&&◌, ◌||◌, ◌==◌, nat_eq, if◌then◌else◌, ℤ, pos, Option, Some, None, Result, Ok, Err, List, [], ◌∷◌, take, drop, slice_index, codes, unwrap_or, ◌≡◌, ◌↔◌}
 use Rattle.std.specs.Char.{is_ascii_digit}
-use Rattle.std.specs.List.{list_all, ends_with}
+use Rattle.std.specs.List.{list_all, ends_with, AllByRecursion}
 use Rattle.std.specs.Str.{byte, bytes_eq}
+use Rattle.std.specs.Int.{IsInRange}
 use Rattle.humantime.specs.Durations.Characters.{past}
 use Rattle.humantime.specs.declared.calendar.Date.{Date}
 use Rattle.humantime.specs.declared.date.error.TimestampError.{TimestampError}
@@ -80,6 +81,10 @@ fraction_read b = if has_point b then Some (front_digits (drop 20 b)) else None
 -- the zone, after date, time and fraction
 abbrev pub zone_at : List ℕ → Zone
 zone_at b = zone_of (if has_point b then past_digits (drop 20 b) else drop 19 b)
+
+-- each byte is a digit
+abbrev pub AreDigits : List ℕ → Type 0
+AreDigits ds = AllByRecursion (λ c. IsInRange 48 57 c) ds
 
 -- the digits after the point, none where there is no point
 abbrev pub fraction_digits : Option (List ℕ) → List ℕ
