@@ -1,16 +1,15 @@
 -- A moment that a text names is one of 1970 to 9999.
-use Rattle.std.proofs.Common.{arith, ◌≡◌, ℕ, ◌+◌, ◌-◌, ◌*◌, ◌<◌, ◌≤◌, List, suc, subst, sym, refl, ◌↔◌}
+use Rattle.std.proofs.Common.{arith, ◌≡◌, ℕ, ◌+◌, ◌-◌, ◌*◌, ◌<◌, ◌≤◌, List, suc, subst, sym, refl, ◌↔◌, []}
 use Rattle.std.proofs.lemmas.Int.{ints}
-use Rattle.std.specs.Prelude.{ℤ, Result, Ok, Err, IfOk}
+use Rattle.std.specs.Prelude.{ℤ, Result, Ok, Err, IfOk, unwrap_or}
 use Rattle.humantime.specs.declared.date.error.TimestampError.{TimestampError}
 use Rattle.humantime.specs.declared.calendar.Date.{Date}
 use Rattle.humantime.specs.Calendar.{days_in_year, days_in_month, days_of_months}
 use Rattle.humantime.specs.Prelude.{IsDate, day_of, Fields, IsWeak, IsWeakMoment, IsStrictMoment, IsPrintable}
 use Rattle.humantime.specs.Timestamps.Fields.{moment_of}
-use Rattle.humantime.specs.References.Timestamps.Reading.{fraction_digits}
 use Rattle.humantime.proofs.Dates.Years.{valid_told, days_of_years_within, february}
 use Rattle.humantime.proofs.Dates.Months.{below_12}
-use Rattle.humantime.proofs.Timestamps.Reading.Fractions.{nanos_bound}
+use Rattle.humantime.proofs.Timestamps.Reading.Fractions.{nanos_bound, digits_told}
 
 -- a month ends within its year
 month_within : (y : ℕ) (k : ℕ) → k < 12 → days_of_months y k + days_in_month y (suc k) ≤ days_in_year y
