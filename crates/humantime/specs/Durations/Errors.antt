@@ -1,5 +1,5 @@
 -- What an error of a duration's text says, and its message. A text is its bytes here, for offsets count them.
-use Rattle.std.specs.Prelude.{◌≡◌, ℕ, ◌<◌, ◌≤◌, List, length, Result, ⊤, chars, slice_range, ◌==◌, ◌++◌, codes, decimal, encode_utf8_all, if◌then◌else◌}
+use Rattle.std.specs.Prelude.{◌≡◌, ℕ, ◌<◌, ◌≤◌, List, length, Result, ⊤, chars, slice_range, ◌++◌, codes, decimal, encode_utf8_all, ◌∷◌, []}
 use Rattle.std.specs.Borrow.{Bor}
 use Rattle.std.specs.Str.{IsCharBoundary}
 use Rattle.std.specs.Result.{result_map_both}
@@ -40,26 +40,19 @@ PointsInto bytes (errors.UnknownUnit start end unit value) = IsPartOf bytes unit
 PointsInto bytes errors.NumberOverflow = ⊤
 PointsInto bytes errors.Empty = ⊤
 
--- what is said of a number with no unit
-abbrev pub unit_needed : ℕ → List ℕ
-unit_needed value = codes "time unit needed, for example " ++ decimal value ++ codes "sec or " ++ decimal value ++ codes "ms"
-
--- what is said of a unit that is no unit's word
-abbrev pub unit_unknown : List ℕ → List ℕ
-unit_unknown unit_bytes =
-    codes "unknown time unit \"" ++ unit_bytes
+-- what is said of a number with no unit, and of a unit that is no unit's word
+abbrev pub unit_message : List ℕ → ℕ → List ℕ
+unit_message [] value = codes "time unit needed, for example " ++ decimal value ++ codes "sec or " ++ decimal value ++ codes "ms"
+unit_message (c ∷ cs) value =
+    codes "unknown time unit \"" ++ encode_utf8_all (c ∷ cs)
     ++ (codes "\", supported units: ns, us/" ++ micro_suffix
     ++ codes ", ms, sec, min, hours, days, weeks, months, years (and few variations)")
-
--- one of these two, for the bytes of a unit
-abbrev pub unit_message : List ℕ → ℕ → List ℕ
-unit_message unit_bytes value = if length unit_bytes == 0 then unit_needed value else unit_unknown unit_bytes
 
 -- the message of each fault
 abbrev pub fault_message : Fault → List ℕ
 fault_message (InvalidCharacter at) = codes "invalid character at " ++ decimal at
 fault_message (NumberExpected at) = codes "expected number at " ++ decimal at
-fault_message (UnknownUnit start end unit value) = unit_message (encode_utf8_all unit) value
+fault_message (UnknownUnit start end unit value) = unit_message unit value
 fault_message NumberOverflow =
     codes "number is too large or cannot be represented without a lack of precision (values below 1ns are not supported)"
 fault_message Empty = codes "value was empty"
