@@ -36,10 +36,10 @@ moment_within text f w =
     omega (arith, day_within f.date w.date, w.hour, w.minute, nanos_bound (unwrap_or f.fraction []) (digits_told _ w.fraction))
 
 pub weak_printable : (text : List ℕ) (moment : ℤ) → IsWeakMoment text moment → IsPrintable moment
-weak_printable text moment m = subst IsPrintable (sym m.moment) (omega (arith, ints), omega (arith, ints, moment_within text m.fields m.weak))
+weak_printable text moment m = subst IsPrintable (sym m.2) (omega (arith, ints), omega (arith, ints, moment_within text m.0 m.1))
 
 pub strict_printable : (text : List ℕ) (moment : ℤ) → IsStrictMoment text moment → IsPrintable moment
-strict_printable text moment m = weak_printable text moment (record { fields = m.fields; weak = m.strict.weak; moment = m.moment })
+strict_printable text moment m = weak_printable text moment (m.0, m.1.weak, m.2)
 
 -- so is the moment that a parser answers
 pub read_printable : (P : ℤ → Type 0) (read : Result ℤ TimestampError) → ((t : ℤ) → (read ≡ Ok t) ↔ P t) → ((t : ℤ) → P t → IsPrintable t) → IfOk read IsPrintable

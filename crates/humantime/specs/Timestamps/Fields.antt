@@ -90,14 +90,9 @@ seconds_of f = day_of f.date * seconds_per_day + f.hour * seconds_per_hour + f.m
 abbrev pub moment_of : Fields → ℕ
 moment_of f = seconds_of f * nanos_per_second + fraction_nanos (unwrap_or f.fraction [])
 
--- in weak form the text shows some parts of this moment
-pub record IsWeakMoment (bytes : List ℕ) (t : ℤ) : Type 0 where
-  pub fields : Fields
-  pub weak : IsWeak bytes fields
-  pub moment : t ≡ pos (moment_of fields)
+-- in weak form the text shows some parts of this moment; in strict form it does
+abbrev pub IsWeakMoment : List ℕ → ℤ → Type 0
+IsWeakMoment bytes t = (f : Fields) × IsWeak bytes f × (t ≡ pos (moment_of f))
 
--- in strict form the text shows some parts of this moment
-pub record IsStrictMoment (bytes : List ℕ) (t : ℤ) : Type 0 where
-  pub fields : Fields
-  pub strict : IsStrict bytes fields
-  pub moment : t ≡ pos (moment_of fields)
+abbrev pub IsStrictMoment : List ℕ → ℤ → Type 0
+IsStrictMoment bytes t = (f : Fields) × IsStrict bytes f × (t ≡ pos (moment_of f))

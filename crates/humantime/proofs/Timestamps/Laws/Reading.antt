@@ -28,10 +28,10 @@ pub weak_value : (b : List ℕ) (t : ℤ) → (weak_answer b ≡ Ok t) ↔ IsWea
 unfolding weak_answer
 weak_value b t = (
   (λ h. let p = answer_told (first_failed (weak_checks b)) (moment_of (fields_of b)) t h in
-      record { fields = fields_of b; weak = fields_weak b (passes_from b p.0); moment = p.1 }),
-  (λ m. let p = weak_fields b m.fields m.weak in
+      (fields_of b, fields_weak b (passes_from b p.0), p.1)),
+  (λ m. let p = weak_fields b m.0 m.1 in
       answer_none (first_failed (weak_checks b)) (moment_of (fields_of b)) (passes_none b p.0)
-      ∙ ap Ok (ap (λ (f : Fields). pos (moment_of f)) (sym p.1) ∙ sym m.moment)),
+      ∙ ap Ok (ap (λ (f : Fields). pos (moment_of f)) (sym p.1) ∙ sym m.2)),
 )
 
 pub weak_error : (b : List ℕ) (e : TimestampError) → (weak_answer b ≡ Err e) ↔ (first_failed (weak_checks b) ≡ Some e)
@@ -55,13 +55,13 @@ one_weak b = (
 pub refused_value : (b : List ℕ) (e : TimestampError) → is_complete b ≡ false → (t : ℤ) → (Err e ≡ Ok t) ↔ IsStrictMoment b t
 refused_value b e other t = (
   (λ h. absurd (cc)),
-  (λ m. let whole : is_complete b ≡ true = strict_complete b m.fields m.strict in absurd (let no : ⊥ = cc in no)),
+  (λ m. let whole : is_complete b ≡ true = strict_complete b m.0 m.1 in absurd (let no : ⊥ = cc in no)),
 )
 
 pub strict_value_of : (b : List ℕ) (r : Result ℤ TimestampError) → is_complete b ≡ true → (t : ℤ) → ((r ≡ Ok t) ↔ IsWeakMoment b t) → (r ≡ Ok t) ↔ IsStrictMoment b t
 strict_value_of b r whole t weak = (
-  (λ h. let m = weak.0 h in record { fields = m.fields; strict = complete_strict b m.fields whole m.weak; moment = m.moment }),
-  (λ m. weak.1 (record { fields = m.fields; weak = m.strict.weak; moment = m.moment })),
+  (λ h. let m = weak.0 h in (m.0, complete_strict b m.0 whole m.1, m.2)),
+  (λ m. weak.1 (m.0, m.1.weak, m.2)),
 )
 
 pub strict_error_of : (b : List ℕ) (r : Result ℤ TimestampError) → is_complete b ≡ true → (e : TimestampError)
@@ -102,6 +102,6 @@ one_strict b = (
 
 pub strict_moment_is_weak : (b : List ℕ) → StrictMomentIsWeak b
 strict_moment_is_weak b t = (
-  (λ m. let p = (strict_is_weak b m.fields).0 m.strict in (record { fields = m.fields; weak = p.0; moment = m.moment }, p.1)),
-  (λ p. record { fields = p.0.fields; strict = (strict_is_weak b p.0.fields).1 (p.0.weak, p.1); moment = p.0.moment }),
+  (λ m. let p = (strict_is_weak b m.0).0 m.1 in ((m.0, p.0, m.2), p.1)),
+  (λ p. (p.0.0, (strict_is_weak b p.0.0).1 (p.0.1, p.1), p.0.2)),
 )

@@ -175,8 +175,8 @@ pub printed_reads : (t : ℤ) (k : ℕ) (text : List ℕ) → IsPrinted t k text
 printed_reads t k text p =
     let zone : p.fields.zone ≢ No_zone = λ e. absurd (let same : Letter_Z ≡ No_zone = sym p.zone ∙ e in let no : ⊥ = cc in no) in
     record {
-      strict = record { fields = p.fields; strict = record { weak = p.weak; separator = p.separator; zone = zone }; moment = sym p.moment };
-      weak = record { fields = p.fields; weak = p.weak; moment = sym p.moment };
+      strict = (p.fields, record { weak = p.weak; separator = p.separator; zone = zone }, sym p.moment);
+      weak = (p.fields, p.weak, sym p.moment);
     }
 
 pub one_printed : (t : ℤ) (k : ℕ) → k ≤ 9 → IsPrintable t → OnePrinted t k
