@@ -1,5 +1,4 @@
--- What a duration's text says: its characters and words, its spans, their sum and their limits, its first fault, its items;
--- and the one text that a duration prints as.
+-- What a duration's text says: its spans, their sum and limits, its first fault, its items; and the one text of a duration.
 pub mod Accepted
 pub mod Characters
 pub mod Counts

@@ -53,6 +53,6 @@ pub record SpellsAll (text : List ℕ) (spans : List Span) : Type 0 where
   pub only_space : Only is_ws space
   pub each : SpellsEach body spans
 
--- and there is a span
+-- and there is a span. Each word is the longest run of letters that stands there, since a span begins with a digit.
 abbrev pub Reads : List ℕ → List Span → Type 0
 Reads text spans = SpellsAll text spans × (spans ≢ [])

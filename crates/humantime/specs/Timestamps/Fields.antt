@@ -6,15 +6,13 @@ use Rattle.humantime.specs.declared.calendar.Date.{Date}
 use Rattle.humantime.specs.Calendar.{IsDate, day_of}
 use Rattle.humantime.specs.Values.{nanos_per_second, seconds_per_day, seconds_per_hour, seconds_per_minute}
 
--- the digit of a number below ten
+-- the digit of a number below ten; a number below 100 in two digits, and one below 10000 in four
 abbrev pub digit : ℕ → ℕ
 digit n = byte "0" + n
 
--- a number below 100, in two digits
 abbrev pub two_digits : ℕ → List ℕ
 two_digits n = digit (n / 10) ∷ digit (n % 10) ∷ []
 
--- a number below 10000, in four digits
 abbrev pub four_digits : ℕ → List ℕ
 four_digits n = digit (n / 1000) ∷ digit (n / 100 % 10) ∷ digit (n / 10 % 10) ∷ digit (n % 10) ∷ []
 
@@ -76,7 +74,7 @@ pub record IsWeak (bytes : List ℕ) (f : Fields) : Type 0 where
   pub second : f.second ≤ 60
   pub fraction : IsTrue (all_ascii_digits (unwrap_or f.fraction []))
 
--- in strict form the text shows these parts: with the letter `T` and a zone
+-- in strict form the text shows these parts: it does in weak form, with the letter `T` and a zone
 pub record IsStrict (bytes : List ℕ) (f : Fields) : Type 0 where
   pub weak : IsWeak bytes f
   pub separator : f.separator ≡ Letter_T
@@ -90,7 +88,7 @@ seconds_of f = day_of f.date * seconds_per_day + f.hour * seconds_per_hour + f.m
 abbrev pub moment_of : Fields → ℕ
 moment_of f = seconds_of f * nanos_per_second + fraction_nanos (unwrap_or f.fraction [])
 
--- in weak form the text shows some parts of this moment; in strict form it does
+-- the text shows some parts of this moment: in weak form, and in strict form
 abbrev pub IsWeakMoment : List ℕ → ℤ → Type 0
 IsWeakMoment bytes t = (f : Fields) × IsWeak bytes f × (t ≡ pos (moment_of f))
 

@@ -13,7 +13,7 @@ abbrev pub HasPlaces : Option (List ℕ) → ℕ → Type 0
 HasPlaces fraction zero = fraction ≡ None
 HasPlaces fraction (suc k) = (ds : List ℕ) × (fraction ≡ Some ds) × (length ds ≡ suc k)
 
--- The text is the moment t, printed with k digits, at most nine: it shows parts with `T` and `Z` and no second 60, of t, cut.
+-- The text is the moment t, printed with k digits, at most nine: it shows parts with `T`, `Z` and no second 60, whose moment is t, cut.
 pub record IsPrinted (t : ℤ) (k : ℕ) (bytes : List ℕ) : Type 0 where
   pub fields : Fields
   pub weak : IsWeak bytes fields
