@@ -24,7 +24,8 @@ weighted_sum (w ∷ ws) (c ∷ cs) = w * c + weighted_sum ws cs
 pub record AreGreatest (ws : List ℕ) (d : ℕ) (counts : List ℕ) : Type 0 where
   pub as_many : length counts ≡ length ws
   pub sum : weighted_sum ws counts ≡ d
-  pub greatest : (others : List ℕ) → length others ≡ length ws → weighted_sum ws others ≡ d → IsTrue (is_le (slice_cmp nat_cmp others counts))
+  pub greatest : (others : List ℕ) → length others ≡ length ws → weighted_sum ws others ≡ d
+      → IsTrue (is_le (slice_cmp nat_cmp others counts))
 
 -- the nine counts of d nanoseconds
 abbrev pub Counts : ℕ → List ℕ → Type 0

@@ -76,7 +76,8 @@ pub data Stops (text front : List ℕ) (spans : List Span) (rest : List ℕ) (e 
   -- letters that are no unit's word
   Wrong_word : StartsNumber rest → fraction_of rest ≢ Some [] → word_of rest ≢ [] → scale_of_word (word_of rest) ≡ None
       → MayFollowWord (after_word rest)
-      → e ≡ UnknownUnit (offset_of text (after_fraction rest)) (offset_of text (after_word rest)) (word_of rest) (decimal_value (number_of rest))
+      → e ≡ UnknownUnit (offset_of text (after_fraction rest)) (offset_of text (after_word rest)) (word_of rest)
+      (decimal_value (number_of rest))
       → Stops text front spans rest e
 
 -- A whole span begins the rest, but with it the spans break a limit.

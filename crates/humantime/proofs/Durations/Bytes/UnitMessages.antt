@@ -1,5 +1,5 @@
 -- What is said of a unit by its characters is what is said of it by its bytes.
-use Rattle.std.proofs.Common.{◌≡◌, ◌==◌, ◌≤◌, ◌+◌, false, ℕ, List, [], ◌∷◌, length, length-append, ap, refl, ◌∙◌, arith}
+use Rattle.std.proofs.Common.{◌≡◌, ◌==◌, ◌≤◌, false, ℕ, List, [], ◌∷◌, length, length-append, ap, refl, ◌∙◌, arith}
 use Rattle.std.specs.Prelude.{chars, encode_utf8_all, IsUtf8}
 use Rattle.std.specs.Char.{encode_utf8, len_utf8}
 use Rattle.std.proofs.lemmas.Str.{encodes-chars, length-encode}
@@ -15,7 +15,7 @@ by_characters : (cs : List ℕ) (value : ℕ) → unit_message cs value ≡ mess
 by_characters [] value = refl
 by_characters (c ∷ cs) value =
     let width : 1 ≤ length (encode_utf8 c) = omega (arith, length-encode c, some_width c) in
-    let whole : length (encode_utf8_all (c ∷ cs)) ≡ length (encode_utf8 c) + length (encode_utf8_all cs) = length-append (encode_utf8 c) (encode_utf8_all cs) in
+    let whole = length-append (encode_utf8 c) (encode_utf8_all cs) in
     let some : (length (encode_utf8_all (c ∷ cs)) == 0) ≡ false = ne_eqb _ 0 (λ e. omega arith) in
     rw some refl
 

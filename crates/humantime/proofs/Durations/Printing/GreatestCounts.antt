@@ -76,7 +76,7 @@ greatest_divided (w ∷ ws) m d (c ∷ cs) r h g =
     let most : c ≤ d / w = first_most w c (weighted_sum ws cs) d r.0 g.sum in
     elim (cases_lt c (d / w)) [
       | inl less ↦
-          let most : IsTrue (is_le (slice_cmp nat_cmp (divided (w ∷ ws) d) (c ∷ cs))) = g.greatest (divided (w ∷ ws) d) (length-divided (w ∷ ws) d) (divided_sum (w ∷ ws) m d r h) in
+          let most = g.greatest (divided (w ∷ ws) d) (length-divided (w ∷ ws) d) (divided_sum (w ∷ ws) m d r h) in
           absurd (false≢true (rw (cmp_greater (d / w) c less) at most))
       | inr least ↦
           let e : c ≡ d / w = omega arith in

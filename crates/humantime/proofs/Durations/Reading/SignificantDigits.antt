@@ -33,7 +33,10 @@ kept_before : (d : ℕ) (es : List ℕ) → reverse (past (λ c. c == 48) (es ++
 kept_before d [] = elim (cases_Bool (d == 48)) [ inl e ↦ rw e refl | inr e ↦ rw e refl ]
 kept_before d (e ∷ es) = elim (cases_Bool (e == 48)) [
   | inl same ↦ rw same (kept_before d es)
-  | inr other ↦ rw other (reverse-append (e ∷ es) (d ∷ []) ∙ sym (ap (kept d) (reverse-append (e ∷ []) es) ∙ kept_last d e (reverse es) ∙ ap (λ (l : List ℕ). d ∷ l) (sym (reverse-append (e ∷ []) es))))
+  | inr other ↦
+      let turned : reverse (e ∷ es) ≡ reverse es ++ e ∷ [] = reverse-append (e ∷ []) es in
+      let some : kept d (reverse (e ∷ es)) ≡ d ∷ reverse (e ∷ es) = rw turned (kept_last d e (reverse es)) in
+      rw other (reverse-append (e ∷ es) (d ∷ []) ∙ sym some)
 ]
 
 -- the digits that are left, from the first on
@@ -50,7 +53,8 @@ significant-zeros (suc n) = significant-cons 48 (zeros n) ∙ ap (kept 48) (sign
 pub significant-zeros_behind : (ds : List ℕ) (n : ℕ) → significant (ds ++ zeros n) ≡ significant ds
 unfolding significant
 significant-zeros_behind [] n = significant-zeros n
-significant-zeros_behind (d ∷ ds) n = significant-cons d (ds ++ zeros n) ∙ ap (kept d) (significant-zeros_behind ds n) ∙ sym (significant-cons d ds)
+significant-zeros_behind (d ∷ ds) n =
+    significant-cons d (ds ++ zeros n) ∙ ap (kept d) (significant-zeros_behind ds n) ∙ sym (significant-cons d ds)
 
 kept_shorter : (d : ℕ) (ds : List ℕ) → length (kept d ds) ≤ suc (length ds)
 kept_shorter d [] = elim (cases_Bool (d == 48)) [ inl e ↦ rw e (omega arith) | inr e ↦ rw e (omega arith) ]
