@@ -1,9 +1,9 @@
 -- What spans add up to, their limits, and the texts that are accepted. A text is its list of characters.
 use Rattle.std.specs.Prelude.{ℕ, ◌*◌, ◌/◌, ◌^◌, List, [], ◌∷◌, length, Option, Some, None, sum_by, flat_map, ◌≡◌, ◌+◌, ◌%◌, ◌≤◌, ◌++◌, IsSome, IfSome, ⊤}
+use Rattle.std.specs.List.{AllByRecursion}
 use Rattle.humantime.specs.Durations.Characters.{decimal_value, significant, u64_max, bare_zero}
 use Rattle.humantime.specs.Durations.Units.{Scale, scale_of_word}
 use Rattle.humantime.specs.Durations.Spans.{Span, Reads}
-use Rattle.std.specs.List.{AllByRecursion}
 use Rattle.humantime.specs.Values.{nanos_per_second}
 
 -- An amount that is added: so many times its base, which is one nanosecond or one second.

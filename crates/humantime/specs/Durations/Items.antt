@@ -1,11 +1,11 @@
 -- The items of a text, and what each lends of it. A text is its list of characters.
 use Rattle.std.specs.Prelude.{◌≡◌, ◌≢◌, ◌⊎◌, List, ℕ, [], Option, Some, None, true, ◌∷◌, ◌++◌, Result, Ok, Err, map, option_to_list, option_map}
 use Rattle.std.specs.List.{AllByRecursion}
+use Rattle.std.specs.Str.{byte}
 use Rattle.humantime.specs.Durations.Spans.{Span, Only, Spells}
 use Rattle.humantime.specs.Durations.Accepted.{Formed}
 use Rattle.humantime.specs.Durations.Faults.{Fault, Split, Stops}
 use Rattle.humantime.specs.Durations.Characters.{is_ws, is_digit, begins, ends, decimal_value, offset_of}
-use Rattle.std.specs.Str.{byte}
 
 -- The front of the text is these spans, each well formed, and behind it the text ends, or stops at this fault.
 pub record Items (text : List ℕ) (spans : List Span) (stop : Option Fault) : Type 0 where
