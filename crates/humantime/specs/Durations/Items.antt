@@ -31,8 +31,8 @@ pub record IsDigitSlice (text slice : List ℕ) : Type 0 where
   pub whole : text ≡ before ++ (slice ++ after)
   pub only_before : Only is_ws before
   pub only_after : Only is_ws after
-  pub starts : begins is_digit slice ≡ true
-  pub stops : ends is_digit slice ≡ true
+  pub first_digit : begins is_digit slice ≡ true
+  pub last_digit : ends is_digit slice ≡ true
 
 -- no slice where there is no fraction, else the one behind the point
 abbrev pub LendsFraction : List ℕ → Option (List ℕ) → Type 0

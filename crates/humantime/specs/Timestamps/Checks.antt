@@ -17,8 +17,8 @@ abbrev pub ends_in_zone : List ℕ → Bool
 ends_in_zone b = ends_with nat_eq b (codes "Z") || ends_with nat_eq b (codes "+00:00")
 
 -- at least 20 bytes, a `T` between date and time, and `Z` or `+00:00` at the end
-unfoldable pub is_complete : List ℕ → Bool
-is_complete b = nat_le 20 (length b) && (slice_index b 10 == byte "T") && ends_in_zone b
+unfoldable pub has_marks : List ℕ → Bool
+has_marks b = nat_le 20 (length b) && (slice_index b 10 == byte "T") && ends_in_zone b
 
 -- `-`, `-`, `T` or a space, `:` and `:` in their places
 unfoldable pub has_signs : List ℕ → Bool
@@ -70,7 +70,7 @@ weak_checks b =
 
 -- the checks of the strict form: one more, and it comes first
 abbrev pub strict_checks : List ℕ → List (Bool × TimestampError)
-strict_checks b = (is_complete b, InvalidFormat) ∷ weak_checks b
+strict_checks b = (has_marks b, InvalidFormat) ∷ weak_checks b
 
 -- the error of the first check that fails
 abbrev pub first_failed : List (Bool × TimestampError) → Option TimestampError

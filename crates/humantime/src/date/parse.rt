@@ -93,7 +93,7 @@ pub fn parse_rfc3339(s: &str) -> Result<SystemTime, TimestampError>
     ensures error { (e : TimestampError) → (result ≡ Err e) ↔ (first_failed (strict_checks s.now) ≡ Some e) }
     ensures answer { result ≡ strict_answer s.now }
 {
-    if !is_complete(s.as_bytes()) {
+    if !has_marks(s.as_bytes()) {
         return Err(TimestampError::InvalidFormat);
     }
     parse_rfc3339_weak(s)
@@ -101,9 +101,9 @@ pub fn parse_rfc3339(s: &str) -> Result<SystemTime, TimestampError>
 
 /// At least 20 bytes, a `T` and a zone.
 #[inline(always)]
-#[tactic(auto, unfolding(crate::specs::Timestamps::Checks::is_complete))]
-fn is_complete(b: &[u8]) -> bool
-    ensures { result ≡ TimestampChecks.is_complete b.now }
+#[tactic(auto, unfolding(crate::specs::Timestamps::Checks::has_marks))]
+fn has_marks(b: &[u8]) -> bool
+    ensures { result ≡ TimestampChecks.has_marks b.now }
 {
     b.len() >= 20 && b[10] == b'T' && ends_in_zone(b)
 }

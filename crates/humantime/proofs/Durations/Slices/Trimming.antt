@@ -91,8 +91,8 @@ digit_slice before cs (x ∷ xs) d w b o =
       whole = ap (λ (l : List ℕ). before ++ l) d.whole;
       only_before = w;
       only_after = d.space;
-      starts = subst (λ (l : List ℕ). begins is_digit l ≡ true) d.whole b;
-      stops = ends_digit x xs numeric (last_of x xs d.last);
+      first_digit = subst (λ (l : List ℕ). begins is_digit l ≡ true) d.whole b;
+      last_digit = ends_digit x xs numeric (last_of x xs d.last);
     }
 
 -- the slice of the fraction behind a number, before a word

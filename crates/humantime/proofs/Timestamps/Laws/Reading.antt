@@ -4,7 +4,7 @@ use Rattle.std.specs.Prelude.{◌↔◌, ℤ, pos, Bool, true, false, Option, So
 use Rattle.humantime.specs.declared.date.error.TimestampError.{TimestampError}
 use Rattle.humantime.specs.declared.date.error.TimestampError.TheVariants.{InvalidFormat}
 use Rattle.humantime.specs.Timestamps.Fields.{Fields, IsWeak, IsStrict, moment_of, IsWeakMoment, IsStrictMoment}
-use Rattle.humantime.specs.Timestamps.Checks.{is_complete, weak_checks, strict_checks, first_failed}
+use Rattle.humantime.specs.Timestamps.Checks.{has_marks, weak_checks, strict_checks, first_failed}
 use Rattle.humantime.specs.References.Timestamps.Reading.{fields_of, weak_answer, strict_answer, moment_or_error}
 use Rattle.humantime.specs.Laws.Timestamps.{OneTimestamp, StrictMomentIsWeak}
 use Rattle.humantime.proofs.Timestamps.Reading.Checks.{passes_from, passes_none}
@@ -52,34 +52,34 @@ one_weak b = (
 )
 
 -- a text that is not complete has no strict moment
-pub refused_value : (b : List ℕ) (e : TimestampError) → is_complete b ≡ false → (t : ℤ) → (Err e ≡ Ok t) ↔ IsStrictMoment b t
+pub refused_value : (b : List ℕ) (e : TimestampError) → has_marks b ≡ false → (t : ℤ) → (Err e ≡ Ok t) ↔ IsStrictMoment b t
 refused_value b e other t = (
   (λ h. absurd (cc)),
-  (λ m. let whole : is_complete b ≡ true = strict_complete b m.0 m.1 in absurd (let no : ⊥ = cc in no)),
+  (λ m. let whole : has_marks b ≡ true = strict_complete b m.0 m.1 in absurd (let no : ⊥ = cc in no)),
 )
 
-pub strict_value_of : (b : List ℕ) (r : Result ℤ TimestampError) → is_complete b ≡ true → (t : ℤ) → ((r ≡ Ok t) ↔ IsWeakMoment b t) → (r ≡ Ok t) ↔ IsStrictMoment b t
+pub strict_value_of : (b : List ℕ) (r : Result ℤ TimestampError) → has_marks b ≡ true → (t : ℤ) → ((r ≡ Ok t) ↔ IsWeakMoment b t) → (r ≡ Ok t) ↔ IsStrictMoment b t
 strict_value_of b r whole t weak = (
   (λ h. let m = weak.0 h in (m.0, complete_strict b m.0 whole m.1, m.2)),
   (λ m. weak.1 (m.0, m.1.weak, m.2)),
 )
 
-pub strict_error_of : (b : List ℕ) (r : Result ℤ TimestampError) → is_complete b ≡ true → (e : TimestampError)
+pub strict_error_of : (b : List ℕ) (r : Result ℤ TimestampError) → has_marks b ≡ true → (e : TimestampError)
     → ((r ≡ Err e) ↔ (first_failed (weak_checks b) ≡ Some e)) → (r ≡ Err e) ↔ (first_failed (strict_checks b) ≡ Some e)
 strict_error_of b r whole e weak = rw whole weak
 
 -- the answer of the strict form, where its own check fails and where it does not
-pub strict_refused : (b : List ℕ) → is_complete b ≡ false → Err InvalidFormat ≡ strict_answer b
+pub strict_refused : (b : List ℕ) → has_marks b ≡ false → Err InvalidFormat ≡ strict_answer b
 unfolding strict_answer
 strict_refused b other = rw other refl
 
-pub strict_as_weak : (b : List ℕ) → is_complete b ≡ true → weak_answer b ≡ strict_answer b
+pub strict_as_weak : (b : List ℕ) → has_marks b ≡ true → weak_answer b ≡ strict_answer b
 unfolding weak_answer strict_answer
 strict_as_weak b whole = rw whole refl
 
 pub strict_value : (b : List ℕ) (t : ℤ) → (strict_answer b ≡ Ok t) ↔ IsStrictMoment b t
-strict_value b t = by_test (is_complete b) refl where
-  by_test : (c : Bool) → is_complete b ≡ c → (strict_answer b ≡ Ok t) ↔ IsStrictMoment b t
+strict_value b t = by_test (has_marks b) refl where
+  by_test : (c : Bool) → has_marks b ≡ c → (strict_answer b ≡ Ok t) ↔ IsStrictMoment b t
   by_test true whole = strict_value_of b (strict_answer b) whole t (rw (← strict_as_weak b whole) (weak_value b t))
   by_test false other = rw (← strict_refused b other) (refused_value b InvalidFormat other t)
 
@@ -94,8 +94,8 @@ complete_from false e rest h = absurd (cc)
 pub one_strict : (b : List ℕ) → OneTimestamp (strict_checks b) (IsStrict b)
 one_strict b = (
   (
-    (λ m. let whole : is_complete b ≡ true = strict_complete b m.0 m.1 in rw whole (passes_none b (weak_fields b m.0 m.1.weak).0)),
-    (λ h. let p = complete_from (is_complete b) _ _ h in (fields_of b, complete_strict b (fields_of b) p.0 (fields_weak b (passes_from b p.1)))),
+    (λ m. let whole : has_marks b ≡ true = strict_complete b m.0 m.1 in rw whole (passes_none b (weak_fields b m.0 m.1.weak).0)),
+    (λ h. let p = complete_from (has_marks b) _ _ h in (fields_of b, complete_strict b (fields_of b) p.0 (fields_weak b (passes_from b p.1)))),
   ),
   (λ f g v w. (weak_fields b f v.weak).1 ∙ sym (weak_fields b g w.weak).1),
 )

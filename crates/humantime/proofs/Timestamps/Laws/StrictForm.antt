@@ -4,7 +4,7 @@ use Rattle.std.specs.Prelude.{true, ◌&&◌, ◌==◌, codes, slice_index, nat_
 use Rattle.std.specs.List.{AllByRecursion}
 use Rattle.std.proofs.lemmas.Bool.{and_parts, and_from, or_left, or_right, eqb-true, eq-eqb, le-leb}
 use Rattle.humantime.specs.Timestamps.Fields.{Separator, Letter_T, Space, Zone, No_zone, Letter_Z, Zero_offset, Fields, separator_byte, fraction_text, zone_text, date_time_text, fields_text, IsWeak, IsStrict}
-use Rattle.humantime.specs.Timestamps.Checks.{ends_in_zone, is_complete}
+use Rattle.humantime.specs.Timestamps.Checks.{ends_in_zone, has_marks}
 use Rattle.humantime.specs.Laws.Timestamps.{StrictIsWeak}
 use Rattle.humantime.proofs.Timestamps.Reading.Bytes.{holds_before_zone, all_append}
 use Rattle.humantime.proofs.Timestamps.Reading.Ends.{IsPlain, plain_bytes, plain_end, end_from}
@@ -42,8 +42,8 @@ strict_is_weak b f = (
 )
 
 -- the check of the strict form
-pub strict_complete : (b : List ℕ) (f : Fields) → IsStrict b f → is_complete b ≡ true
-unfolding is_complete
+pub strict_complete : (b : List ℕ) (f : Fields) → IsStrict b f → has_marks b ≡ true
+unfolding has_marks
 strict_complete b f s =
     let marked = ((strict_is_weak b f).0 s).1 in
     let zone = zone_length f.zone s.zone in
@@ -53,8 +53,8 @@ strict_complete b f s =
     let long : nat_le 20 (length b) ≡ true = le-leb 20 (length b) (omega arith) in
     and_from _ _ (and_from _ _ long (eq-eqb _ _ marked.0)) marked.1
 
-pub complete_strict : (b : List ℕ) (f : Fields) → is_complete b ≡ true → IsWeak b f → IsStrict b f
-unfolding is_complete
+pub complete_strict : (b : List ℕ) (f : Fields) → has_marks b ≡ true → IsWeak b f → IsStrict b f
+unfolding has_marks
 complete_strict b f h w =
     let end = and_parts (nat_le 20 (length b) && (slice_index b 10 == 84)) (ends_in_zone b) h in
     let ten = and_parts (nat_le 20 (length b)) (slice_index b 10 == 84) end.0 in
