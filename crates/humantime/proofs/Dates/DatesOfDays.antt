@@ -2,7 +2,7 @@
 use Rattle.std.proofs.Common.{◌≡◌, ℕ, ◌+◌, ◌-◌, ◌*◌, ◌/◌, ◌%◌, ◌<◌, ◌≤◌, ◌⊎◌, inl, inr, refl, sym, ap, subst, ◌∙◌, arith}
 use Rattle.std.specs.Prelude.{Bool, true, false, min, nat_lt, if◌then◌else◌}
 use Rattle.std.proofs.lemmas.Bool.{cases_lt, ltb-true, ltb-false}
-use Rattle.humantime.specs.Calendar.Dates.{IsDateOfDay}
+use Rattle.humantime.specs.Laws.Days.{IsDateOfDay}
 use Rattle.humantime.specs.References.Calendar.DatesOfDays.{march_year, march_month, march_date, date_in_march_year, date_of}
 use Rattle.humantime.specs.References.Calendar.March.{march_days, march_year_length, march_length, march_months}
 use Rattle.humantime.proofs.Dates.Years.{march_days_next, days_in_year_bound}

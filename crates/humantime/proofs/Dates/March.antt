@@ -1,10 +1,10 @@
 -- Years that begin with March, beside those of the calendar.
-use Rattle.std.proofs.Common.{◌≡◌, ◌⊎◌, inl, inr, ℕ, zero, suc, ◌+◌, ◌-◌, ◌<◌, ◌≤◌, refl, ap, subst, sym, arith}
+use Rattle.std.proofs.Common.{◌≡◌, ◌⊎◌, inl, inr, ℕ, zero, suc, ◌+◌, ◌-◌, ◌<◌, ◌≤◌, refl, ap, subst, sym, arith, IsTrue}
 use Rattle.std.proofs.lemmas.Bool.{cases_eq}
-use Rattle.humantime.specs.Calendar.Years.{days_in_year, days_in_month, days_of_years, days_of_months, IsValid, day_count}
+use Rattle.humantime.specs.Calendar.{days_in_year, days_in_month, days_of_years, days_of_months, is_valid}
 use Rattle.humantime.specs.References.Calendar.March.{march_days, march_year_length, march_length, march_months}
 use Rattle.humantime.proofs.Dates.Months.{below_12, below_10, ten_or_eleven}
-use Rattle.humantime.proofs.Dates.Years.{valid_from, march_days_next, march_days_of_years, days_in_year_bound, february}
+use Rattle.humantime.proofs.Dates.Years.{valid_from, march_days_next, march_days_of_years, days_in_year_bound, february, day_count}
 
 pub march_months_next : (k : ℕ) → k < 12 → march_months (k + 1) ≡ march_months k + march_length k
 unfolding march_months march_length
@@ -113,7 +113,7 @@ days_after_march n enough =
 
 pub early_valid : (n : ℕ) (k : ℕ) (left : ℕ) → k < 10 → left < march_length k
     → 135_080 ≤ march_days n + march_months k + left → march_days n + march_months k + left ≤ 3_067_976
-    → IsValid (1600 + n) (k + 3) (left + 1)
+    → IsTrue (is_valid (1600 + n) (k + 3) (left + 1))
 early_valid n k left early short first last =
     let bound : march_months k + march_length k ≤ 306 = early_bound k early in
     let length : march_length k ≡ days_in_month (1600 + n) (k + 3) = early_length (1600 + n) k early in
@@ -136,7 +136,7 @@ early_day n k left early short first =
 pub late_valid : (n : ℕ) (k : ℕ) (left : ℕ) → k < 12 → 10 ≤ k → left < march_length k
     → march_months k + left < march_year_length n
     → 135_080 ≤ march_days n + march_months k + left → march_days n + march_months k + left ≤ 3_067_976
-    → IsValid (1601 + n) (k - 9) (left + 1)
+    → IsTrue (is_valid (1601 + n) (k - 9) (left + 1))
 late_valid n k left some late short within first last =
     let bound : march_months k + left < 366 = omega (arith, within, days_in_year_bound (1601 + n)) in
     let months : march_months k ≡ days_of_months (1601 + n) (k - 10) + 306 = late_months (1601 + n) k some late in

@@ -8,4 +8,5 @@ pub mod Points
 pub mod SpanEnds
 pub mod SpanExits
 pub mod Tails
+pub mod UnitMessages
 pub mod WordKeys

@@ -8,7 +8,7 @@ use Rattle.std.proofs.Math.Nat.{one-le-pow, pow-le-pow_right, mul-le-mul, mul-mo
 use Rattle.humantime.specs.Durations.Characters.{decimal_value, u64_max}
 use Rattle.humantime.specs.Durations.Units.{Scale, scale_of_word}
 use Rattle.humantime.specs.Durations.Spans.{Span}
-use Rattle.humantime.specs.Durations.Sums.{Addition, fraction_additions}
+use Rattle.humantime.specs.Durations.Accepted.{Addition, fraction_additions}
 use Rattle.humantime.specs.References.Durations.Reading.{add_all, add_span, fraction_fits}
 use Rattle.humantime.specs.References.Durations.Scales.{Counted, counted}
 use Rattle.humantime.specs.References.Durations.Adding.{add_one, add_times, part_of, add_part}

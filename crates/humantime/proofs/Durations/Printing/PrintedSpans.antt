@@ -8,15 +8,14 @@ use Rattle.std.proofs.lemmas.Nat.{mod_below}
 use Rattle.std.proofs.lemmas.List.{append_assoc, append-nil}
 use Rattle.std.proofs.lemmas.Str.{chars-append, chars-IsAscii, chars-nil, IsUtf8-append, IsUtf8-from_ascii}
 use Rattle.std.proofs.lemmas.Fmt.{IsAscii-decimal, decimal_digit}
-use Rattle.humantime.specs.Values.Amounts.{nanos_per_second, seconds_per_minute}
+use Rattle.humantime.specs.Values.{nanos_per_second, seconds_per_minute}
 use Rattle.humantime.specs.Durations.Characters.{white_spaces, is_ws, decimal_value, u64_max, is_letter}
 use Rattle.humantime.specs.Durations.Units.{Scale, scale_of_word}
 use Rattle.humantime.specs.Durations.Spans.{Span, Only, Spells, SpellsEach}
-use Rattle.humantime.specs.Durations.Sums.{total, fraction_additions, additions_of, additions}
-use Rattle.humantime.specs.Durations.Limits.{Formed, Fits, HasRoom}
-use Rattle.humantime.specs.Durations.Accepted.{Accepted, Sum_of}
-use Rattle.humantime.specs.Durations.Counts.{weights, weighted_sum, Suffix, suffixes, without_plural, printed_count, printed_counts, joined_by_space, Canon}
-use Rattle.humantime.specs.References.Durations.Printing.{divided, duration_text}
+use Rattle.humantime.specs.Durations.Accepted.{total, fraction_additions, additions, Formed, Fits, HasRoom, Accepted, Sum_of}
+use Rattle.humantime.specs.References.Durations.Reading.{additions_of}
+use Rattle.humantime.specs.Durations.Counts.{weights, weighted_sum, suffixes, printed_count, printed_counts, joined_by_space, Canon}
+use Rattle.humantime.specs.References.Durations.Printing.{Suffix, without_plural, divided, duration_text}
 use Rattle.humantime.proofs.Durations.Reading.Runs.{begins_not_nil}
 use Rattle.humantime.proofs.Durations.Reading.Spellings.{spells-append}
 use Rattle.humantime.proofs.Durations.Reading.Rooms.{RoomFrom, RoomFrom-append, total-append, all_have_room}
@@ -95,7 +94,7 @@ row_good t r m w n s i below left whole =
     let adds = adds_one n (chars (word_for n s)) u i.is v in
     record {
       formed = record {
-        short = record { number = rw v (omega (arith, word_count t r m w n (word_for n s) i below left whole)); fraction = tt };
+        numbers = record { number = rw v (omega (arith, word_count t r m w n (word_for n s) i below left whole)); fraction = tt };
         word = is_some_at _ u i.is;
       };
       fits = fits_one n (chars (word_for n s)) u i.is v (small_fits t r m (n * u.factor) u.base small);
@@ -170,7 +169,7 @@ count_utf8 n s h word = rw append_assoc (IsUtf8-append (decimal n) (word_for n s
 
 count_chars : (n : ℕ) (s : Suffix) → n < 2 ^ 64 → chars (printed_count n s) ≡ decimal n ++ chars (word_for n s)
 count_chars n s h =
-    ap chars (append_assoc (decimal n) s.text _)
+    ap chars (append_assoc (decimal n) s.0 _)
     ∙ chars-append (decimal n) (word_for n s) (decimal_utf8 n h)
     ∙ ap (λ l. l ++ chars (word_for n s)) (chars-IsAscii (decimal n) (IsAscii-decimal n h))
 

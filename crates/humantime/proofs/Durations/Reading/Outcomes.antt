@@ -5,12 +5,9 @@ use Rattle.std.specs.Str.{bytes_eq}
 use Rattle.std.proofs.lemmas.Bool.{cases_Bool, false≢true}
 use Rattle.std.proofs.lemmas.Slice.Eq.{bytes_eq-Decides}
 use Rattle.humantime.specs.Durations.Characters.{is_digit, bare_zero}
-use Rattle.humantime.specs.Durations.Spans.{Span, Front, Reads}
-use Rattle.humantime.specs.Durations.Sums.{value}
-use Rattle.humantime.specs.Durations.Limits.{Formed, WithinLimits}
-use Rattle.humantime.specs.Durations.Accepted.{Accepted, Bare_zero, Sum_of}
-use Rattle.humantime.specs.Durations.Rests.{span_of}
-use Rattle.humantime.specs.Durations.Faults.{Fault, NumberOverflow, Stops, Overflows, HasFault}
+use Rattle.humantime.specs.Durations.Spans.{Span, SpellsAll, Reads}
+use Rattle.humantime.specs.Durations.Accepted.{value, Formed, WithinLimits, Accepted, Bare_zero, Sum_of}
+use Rattle.humantime.specs.Durations.Faults.{span_of, Fault, NumberOverflow, Stops, Overflows, HasFault}
 use Rattle.humantime.specs.Durations.Items.{Items}
 use Rattle.humantime.specs.Laws.Outcomes.{OneOutcome, OnlyValue, OnlyFault, OneListOfItems, ItemsDecideValue, ItemsDecideFault, ItemsDecideOverflow}
 use Rattle.humantime.specs.References.Durations.Reading.{with_span, read, items, settle}
@@ -71,7 +68,7 @@ pub reads_whole : (text : List ℕ) (spans : List Span) → Items text spans Non
 reads_whole text spans h = elim h.ends [
   | inl o ↦
       let e : h.front ≡ text = sym (h.split.whole ∙ ap (λ (x : List ℕ). h.front ++ x) o.0 ∙ append-nil h.front) in
-      (subst (λ t. Front t spans) e h.split.read, o.1)
+      (subst (λ t. SpellsAll t spans) e h.split.spelled, o.1)
   | inr o ↦ let e = o.1 in cc
 ]
 
@@ -89,7 +86,7 @@ over_settled : (n : ℕ) (text rest : List ℕ) (spans : List Span) → WithinLi
     → settle 0 (spans ++ (read n text rest).0) (read n text rest).1 ≡ Err NumberOverflow
 over_settled n text rest spans within o h =
     let m = steps n rest (begins_not_nil is_digit rest o.number.0) h in
-    let f : Fine rest = record { short = o.number.1; point = o.not_bare; word = o.word; ends = o.follows } in
+    let f : Fine rest = record { numbers = o.number.1; point = o.not_bare; word = o.word; ends = o.follows } in
     let g : WithinLimitsFrom 0 spans = from_WithinLimits spans within in
     let r = read m.0 text (next_of rest) in
     let e : read n text rest ≡ with_span (span_of rest) r = ap (λ (k : ℕ). read k text rest) m.1 ∙ read-fine m.0 text rest o.number.0 (fine_goes text rest f) in

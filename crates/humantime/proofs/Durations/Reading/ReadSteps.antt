@@ -3,8 +3,7 @@ use Rattle.std.proofs.Common.{◌≡◌, ◌≢◌, ℕ, zero, suc, ◌≤◌, B
 use Rattle.std.specs.Prelude.{if◌then◌else◌}
 use Rattle.humantime.specs.Durations.Characters.{is_ws, is_digit, past, begins, offset_of}
 use Rattle.humantime.specs.Durations.Spans.{Span}
-use Rattle.humantime.specs.Durations.Rests.{after_word, span_of}
-use Rattle.humantime.specs.Durations.Faults.{Fault, NumberExpected, Empty}
+use Rattle.humantime.specs.Durations.Faults.{after_word, span_of, Fault, NumberExpected, Empty}
 use Rattle.humantime.specs.References.Durations.Reading.{stop_at, with_span, read, items}
 use Rattle.humantime.proofs.Durations.Reading.Spelled.{next_of}
 

@@ -3,10 +3,9 @@ use Rattle.std.proofs.Common.{◌≡◌, ◌⊎◌, ℕ, ◌≤◌, ◌+◌, ◌
 use Rattle.std.specs.Prelude.{⊤, ◌==◌, nat_le, if◌then◌else◌}
 use Rattle.std.proofs.lemmas.Bool.{cases_Bool, cases_eq, false≢true, and_parts, and_from, leb-true, le-leb, eq-eqb, ne_eqb}
 use Rattle.std.proofs.lemmas.List.Sums.{sum_by-append, sum_by-cons}
-use Rattle.humantime.specs.Values.Amounts.{nanos_per_second}
+use Rattle.humantime.specs.Values.{nanos_per_second}
 use Rattle.humantime.specs.Durations.Characters.{u64_max}
-use Rattle.humantime.specs.Durations.Sums.{Addition, addition_nanos, total}
-use Rattle.humantime.specs.Durations.Limits.{HasRoom, AllHaveRoom}
+use Rattle.humantime.specs.Durations.Accepted.{Addition, addition_nanos, total, HasRoom, AllHaveRoom}
 use Rattle.humantime.specs.References.Durations.Reading.{room, add_all}
 
 -- each addition has room, where t nanoseconds stand before them all

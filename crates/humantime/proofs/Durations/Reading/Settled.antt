@@ -9,10 +9,9 @@ use Rattle.std.proofs.lemmas.List.{nil_from_length}
 use Rattle.humantime.specs.Durations.Characters.{decimal_value, significant, u64_max}
 use Rattle.humantime.specs.Durations.Units.{Scale, scale_of_word}
 use Rattle.humantime.specs.Durations.Spans.{Span}
-use Rattle.humantime.specs.Durations.Sums.{total, additions_of, additions, value}
-use Rattle.humantime.specs.Durations.Limits.{Formed, IsWholePart, FitsFraction, Fits, WithinLimits}
+use Rattle.humantime.specs.Durations.Accepted.{total, additions, value, Formed, IsWholePart, FitsFraction, Fits, WithinLimits}
+use Rattle.humantime.specs.References.Durations.Reading.{additions_of, is_whole_part, fraction_fits, fits_at, add_span, settle}
 use Rattle.humantime.specs.Durations.Faults.{Fault, NumberOverflow}
-use Rattle.humantime.specs.References.Durations.Reading.{is_whole_part, fraction_fits, fits_at, add_span, settle}
 use Rattle.humantime.proofs.Durations.Reading.Rooms.{RoomFrom, total-append, add_all-room, add_all-full, room_or_not, RoomFrom-append, RoomFrom-front, RoomFrom-back, room_from_all, all_have_room}
 
 -- the span keeps the limits after t nanoseconds

@@ -5,14 +5,13 @@ use Rattle.std.proofs.lemmas.Bool.{cases_Bool, false≢true, ltb-true, ltb-false
 use Rattle.humantime.specs.Durations.Characters.{is_digit, is_numeric, begins, decimal_value, significant, u64_max, offset_of, byte_length}
 use Rattle.humantime.specs.Durations.Units.{Scale, scale_of_word}
 use Rattle.humantime.specs.Durations.Spans.{Span}
-use Rattle.humantime.specs.Durations.Limits.{IsShort}
-use Rattle.humantime.specs.Durations.Rests.{number_of, after_number, fraction_of, word_of, after_word, span_of}
-use Rattle.humantime.specs.Durations.Faults.{Fault, InvalidCharacter, UnknownUnit, StartsNumber, MayFollowWord, Stops, Nothing_there, No_number, Too_long, Bad_after_number, Bare_point, Bad_after_fraction, Bad_after_word, No_word, Wrong_word}
+use Rattle.humantime.specs.Durations.Accepted.{NumbersFit}
+use Rattle.humantime.specs.Durations.Faults.{number_of, after_number, fraction_of, word_of, after_word, span_of, Fault, InvalidCharacter, UnknownUnit, StartsNumber, MayFollowWord, Stops, Nothing_there, No_number, Too_great, Bare_point, No_letter, Bad_after_word, No_word, Wrong_word}
 use Rattle.humantime.specs.References.Durations.Reading.{long_fraction, too_long, stop_word, stop_by, stop_at}
 
 -- a span that is well formed begins the rest
 pub record Fine (rest : List ℕ) : Type 0 where
-  pub short : IsShort (span_of rest)
+  pub numbers : NumbersFit (span_of rest)
   pub point : fraction_of rest ≢ Some []
   pub word : IsSome (scale_of_word (word_of rest))
   pub ends : MayFollowWord (after_word rest)
@@ -25,21 +24,21 @@ not_short_fraction : (o : Option (List ℕ)) → long_fraction o ≡ true → ¬
 not_short_fraction None e h = cc
 not_short_fraction (Some ds) e h = omega (arith, ltb-true 19 (length (significant ds)) e)
 
-too_long-true : (s : Span) → too_long s ≡ true → ¬ (IsShort s)
+too_long-true : (s : Span) → too_long s ≡ true → ¬ (NumbersFit s)
 too_long-true s e h = elim (or_cases _ (long_fraction s.fraction) e) [
   | inl a ↦ let p = ltb-true u64_max (decimal_value s.number) a in omega (arith, h.number)
   | inr b ↦ not_short_fraction s.fraction b h.fraction
 ]
 
-too_long-false : (s : Span) → too_long s ≡ false → IsShort s
+too_long-false : (s : Span) → too_long s ≡ false → NumbersFit s
 too_long-false s e =
     let p = or_parts _ (long_fraction s.fraction) e in
     record { number = ltb-false u64_max (decimal_value s.number) p.0; fraction = short_fraction s.fraction p.1 }
 
-too_long_from : (s : Span) → ¬ (IsShort s) → too_long s ≡ true
+too_long_from : (s : Span) → ¬ (NumbersFit s) → too_long s ≡ true
 too_long_from s h = elim (cases_Bool (too_long s)) [ inl e ↦ e | inr e ↦ absurd (h (too_long-false s e)) ]
 
-not_too_long : (s : Span) → IsShort s → too_long s ≡ false
+not_too_long : (s : Span) → NumbersFit s → too_long s ≡ false
 not_too_long s h = elim (cases_Bool (too_long s)) [ inl e ↦ absurd (too_long-true s e h) | inr e ↦ e ]
 
 -- what doesn't follow a word
@@ -67,7 +66,7 @@ says_word : (text front : List ℕ) (spans : List Span) (rest : List ℕ) (f : O
 says_word text front spans rest f w n p point letters ends None e =
     Wrong_word p.starts (rw (p.fraction_is) point) (rw (p.word_is) letters) (ap scale_of_word p.word_is ∙ e) (rw (p.next_is) ends) refl
 says_word text front spans rest f w n p point letters ends (Some u) e = record {
-  short = p.starts.1;
+  numbers = p.starts.1;
   point = rw (p.fraction_is) point;
   word = ap is_some (ap scale_of_word p.word_is ∙ e);
   ends = rw (p.next_is) ends;
@@ -75,19 +74,17 @@ says_word text front spans rest f w n p point letters ends (Some u) e = record {
 
 says : (text front : List ℕ) (spans : List Span) (rest : List ℕ) (f : Option (List ℕ)) (w n : List ℕ) → Parts rest f w n → Says text front spans rest (stop_by text rest f w n)
 says text front spans rest (Some []) [] [] p = Bare_point p.starts p.fraction_is (inr p.next_is) refl
-says text front spans rest (Some []) [] (c ∷ cs) p =
-    Bad_after_fraction p.starts (rw (p.fraction_is) (λ e. cc)) p.word_is (rw (p.next_is) (λ e. cc)) (rw (p.next_is))
+says text front spans rest (Some []) [] (c ∷ cs) p = No_letter p.starts p.word_is (rw (p.next_is) (λ e. cc)) (rw (p.next_is))
 says text front spans rest (Some []) (w ∷ ws) n p = Bare_point p.starts p.fraction_is (inl (rw (p.word_is) (λ e. cc))) refl
 says text front spans rest None [] [] p = No_word p.starts (rw (p.fraction_is) (λ e. cc)) p.word_is p.next_is refl
-says text front spans rest None [] (c ∷ cs) p = Bad_after_number p.starts p.fraction_is p.word_is (rw (p.next_is) (λ e. cc)) (rw (p.next_is))
+says text front spans rest None [] (c ∷ cs) p = No_letter p.starts p.word_is (rw (p.next_is) (λ e. cc)) (rw (p.next_is))
 says text front spans rest None (w ∷ ws) [] p = says_word text front spans rest None (w ∷ ws) [] p (λ e. cc) (λ e. cc) (inl refl) (scale_of_word (w ∷ ws)) refl
 says text front spans rest None (w ∷ ws) (c ∷ cs) p = elim (cases_Bool (is_numeric c)) [
   | inl e ↦ rw e (says_word text front spans rest None (w ∷ ws) (c ∷ cs) p (λ e. cc) (λ e. cc) (inr e) (scale_of_word (w ∷ ws)) refl)
   | inr e ↦ rw e (Bad_after_word p.starts (rw (p.fraction_is) (λ e. cc)) (rw (p.word_is) (λ e. cc)) (rw (p.next_is) (may_not_follow c cs e)) (rw (p.next_is)))
 ]
 says text front spans rest (Some (d ∷ ds)) [] [] p = No_word p.starts (rw (p.fraction_is) (λ e. cc)) p.word_is p.next_is refl
-says text front spans rest (Some (d ∷ ds)) [] (c ∷ cs) p =
-    Bad_after_fraction p.starts (rw (p.fraction_is) (λ e. cc)) p.word_is (rw (p.next_is) (λ e. cc)) (rw (p.next_is))
+says text front spans rest (Some (d ∷ ds)) [] (c ∷ cs) p = No_letter p.starts p.word_is (rw (p.next_is) (λ e. cc)) (rw (p.next_is))
 says text front spans rest (Some (d ∷ ds)) (w ∷ ws) [] p = says_word text front spans rest (Some (d ∷ ds)) (w ∷ ws) [] p (λ e. cc) (λ e. cc) (inl refl) (scale_of_word (w ∷ ws)) refl
 says text front spans rest (Some (d ∷ ds)) (w ∷ ws) (c ∷ cs) p = elim (cases_Bool (is_numeric c)) [
   | inl e ↦ rw e (says_word text front spans rest (Some (d ∷ ds)) (w ∷ ws) (c ∷ cs) p (λ e. cc) (λ e. cc) (inr e) (scale_of_word (w ∷ ws)) refl)
@@ -98,7 +95,7 @@ says text front spans rest (Some (d ∷ ds)) (w ∷ ws) (c ∷ cs) p = elim (cas
 pub stop_says : (text front : List ℕ) (spans : List Span) (rest : List ℕ) → begins is_digit rest ≡ true → Says text front spans rest (stop_at text rest)
 unfolding stop_at
 stop_says text front spans rest d = elim (cases_Bool (too_long (span_of rest))) [
-  | inl e ↦ rw e (Too_long d (too_long-true (span_of rest) e) refl)
+  | inl e ↦ rw e (Too_great d (too_long-true (span_of rest) e) refl)
   | inr e ↦ rw e (says text front spans rest (fraction_of rest) (word_of rest) (after_word rest) (record {
     starts = (d, too_long-false (span_of rest) e);
     fraction_is = refl;
@@ -146,7 +143,7 @@ by_word text rest (Some (d ∷ ds)) (x ∷ xs) (c ∷ cs) point some (inl o) = c
 by_word text rest None (x ∷ xs) (c ∷ cs) point some (inr o) = rw o
 by_word text rest (Some (d ∷ ds)) (x ∷ xs) (c ∷ cs) point some (inr o) = rw o
 
-stop_parts : (text rest : List ℕ) → IsShort (span_of rest) → stop_at text rest ≡ stop_by text rest (fraction_of rest) (word_of rest) (after_word rest)
+stop_parts : (text rest : List ℕ) → NumbersFit (span_of rest) → stop_at text rest ≡ stop_by text rest (fraction_of rest) (word_of rest) (after_word rest)
 unfolding stop_at
 stop_parts text rest h = rw (not_too_long (span_of rest) h)
 
@@ -164,7 +161,7 @@ known_word text rest (Some u) h = refl
 -- at a span that is well formed nothing stops
 pub fine_goes : (text rest : List ℕ) → Fine rest → stop_at text rest ≡ None
 fine_goes text rest h =
-    stop_parts text rest h.short
+    stop_parts text rest h.numbers
     ∙ by_word text rest (fraction_of rest) (word_of rest) (after_word rest) h.point (some_letters (word_of rest) h.word) h.ends
     ∙ known_word text rest (scale_of_word (word_of rest)) h.word
 
@@ -173,13 +170,11 @@ pub stops_at : (text front : List ℕ) (spans : List Span) (rest : List ℕ) (e 
 unfolding stop_at
 stops_at text front spans rest e d (Nothing_there none empty is) = absurd (false≢true (sym (ap (begins is_digit) empty) ∙ d))
 stops_at text front spans rest e d (No_number none some o is) = absurd (false≢true (sym none ∙ d))
-stops_at text front spans rest e d (Too_long starts over is) = rw (too_long_from (span_of rest) over, is)
-stops_at text front spans rest e d (Bad_after_number starts point none more is) =
+stops_at text front spans rest e d (Too_great starts over is) = rw (too_long_from (span_of rest) over, is)
+stops_at text front spans rest e d (No_letter starts none more is) =
     stop_parts text rest starts.1 ∙ bad text rest (fraction_of rest) (word_of rest) (after_word rest) none more ∙ ap Some (sym is)
 stops_at text front spans rest e d (Bare_point starts point o is) =
     stop_parts text rest starts.1 ∙ bare text rest (fraction_of rest) (word_of rest) (after_word rest) point o ∙ ap Some (sym is)
-stops_at text front spans rest e d (Bad_after_fraction starts point none more is) =
-    stop_parts text rest starts.1 ∙ bad text rest (fraction_of rest) (word_of rest) (after_word rest) none more ∙ ap Some (sym is)
 stops_at text front spans rest e d (Bad_after_word starts point some bad is) =
     stop_parts text rest starts.1 ∙ after_bad text rest (fraction_of rest) (word_of rest) (after_word rest) point some bad ∙ ap Some (sym is)
 stops_at text front spans rest e d (No_word starts point none end is) =

@@ -4,8 +4,8 @@ use Rattle.std.specs.List.{AllByRecursion}
 use Rattle.std.proofs.lemmas.Bool.{cases_Bool, false≢true}
 use Rattle.humantime.specs.Durations.Characters.{is_ws, is_digit, is_numeric, begins, ends, past, offset_of}
 use Rattle.humantime.specs.Durations.Spans.{Span, Spells, SpellsEach}
-use Rattle.humantime.specs.Durations.Limits.{Formed}
-use Rattle.humantime.specs.Durations.Faults.{Fault, NumberExpected, Empty, Split, Stops, Nothing_there, No_number, Too_long, Bad_after_number, Bare_point, Bad_after_fraction, Bad_after_word, No_word, Wrong_word, EndsInSpace, MayFollowWord}
+use Rattle.humantime.specs.Durations.Accepted.{Formed}
+use Rattle.humantime.specs.Durations.Faults.{Fault, NumberExpected, Empty, Split, Stops, Nothing_there, No_number, Too_great, Bare_point, No_letter, Bad_after_word, No_word, Wrong_word, MayFollowWord}
 use Rattle.humantime.specs.Durations.Items.{Items}
 use Rattle.humantime.specs.References.Durations.Reading.{with_span, read, items}
 use Rattle.humantime.proofs.Durations.Reading.Classes.{digit_is_numeric, digit_not_space}
@@ -18,7 +18,7 @@ use Rattle.humantime.proofs.Durations.Reading.ReadSteps.{steps, read-end, read-e
 
 -- what stands before the rest ends there: in white space, or by what the rest begins with
 abbrev pub Closes : List ℕ → List ℕ → Type 0
-Closes front rest = MayFollowWord rest ⊎ EndsInSpace front
+Closes front rest = MayFollowWord rest ⊎ (ends is_ws front ≡ true)
 
 pub closes_digit : (front rest : List ℕ) → begins is_digit rest ≡ true → Closes front rest
 closes_digit front rest d = inl (inr (begins_also is_digit is_numeric digit_is_numeric rest d))
@@ -90,10 +90,10 @@ through n text body rest (s ∷ ss) h f (inr o) e l =
     (λ m k. through m text h.0 rest ss h.2 f.1 (closes_more p.here h.0 rest ss h.2 (subst (λ b. Closes b rest) p.whole o)) e k)
 
 -- the front of a split begins where the white space ends
-pub front_begins : (text front rest : List ℕ) (spans : List Span) (h : Split text front spans rest) → past is_ws text ≡ h.read.body ++ rest
+pub front_begins : (text front rest : List ℕ) (spans : List Span) (h : Split text front spans rest) → past is_ws text ≡ h.spelled.body ++ rest
 front_begins text front rest spans h =
-    let e : text ≡ h.read.space ++ (h.read.body ++ rest) = h.whole ∙ ap (λ (x : List ℕ). x ++ rest) h.read.whole ∙ append_assoc h.read.space h.read.body rest in
-    rw e (past-append is_ws h.read.space (h.read.body ++ rest) h.read.only_space (no_space_before h.read.body rest spans h.read.each h.no_space))
+    let e : text ≡ h.spelled.space ++ (h.spelled.body ++ rest) = h.whole ∙ ap (λ (x : List ℕ). x ++ rest) h.spelled.whole ∙ append_assoc h.spelled.space h.spelled.body rest in
+    rw e (past-append is_ws h.spelled.space (h.spelled.body ++ rest) h.spelled.only_space (no_space_before h.spelled.body rest spans h.spelled.each h.no_space))
 
 some_left : (body rest : List ℕ) (spans : List Span) → SpellsEach body spans → (rest ≡ [] → spans ≢ []) → body ++ rest ≢ []
 some_left body rest [] h some e = let k : rest ≡ [] = rw h at e in some k refl
@@ -106,11 +106,11 @@ closes_body space body rest spans h (inr o) = closes_more space body rest spans 
 pub front_told : (text front rest : List ℕ) (spans : List Span) → Split text front spans rest → AllByRecursion Formed spans → (spans ≡ []) ⊎ Closes front rest → (rest ≡ [] → spans ≢ [])
     → GoesThrough (items text) text spans rest
 front_told text front rest spans h f o some =
-    let body = h.read.body in
-    let left : body ++ rest ≢ [] = some_left body rest spans h.read.each some in
-    let c : (spans ≡ []) ⊎ Closes (h.read.space ++ body) rest = subst (λ x. (spans ≡ []) ⊎ Closes x rest) h.read.whole o in
+    let body = h.spelled.body in
+    let left : body ++ rest ≢ [] = some_left body rest spans h.spelled.each some in
+    let c : (spans ≡ []) ⊎ Closes (h.spelled.space ++ body) rest = subst (λ x. (spans ≡ []) ⊎ Closes x rest) h.spelled.whole o in
     let g : GoesThrough (read (length (body ++ rest)) text (body ++ rest)) text spans rest =
-    through (length (body ++ rest)) text body rest spans h.read.each f (closes_body h.read.space body rest spans h.read.each c) h.no_space (omega arith) in
+    through (length (body ++ rest)) text body rest spans h.spelled.each f (closes_body h.spelled.space body rest spans h.spelled.each c) h.no_space (omega arith) in
     record { n = g.n; enough = g.enough; is = items-read text (body ++ rest) (front_begins text front rest spans h) left ∙ g.is }
 
 -- where the text stops, the spans before it end there
@@ -118,10 +118,9 @@ stops_closes : (text front : List ℕ) (spans : List Span) (rest : List ℕ) (e 
 stops_closes text front spans rest e (Nothing_there none empty is) = inl none
 stops_closes text front spans rest e (No_number d some (inl o) is) = inl o
 stops_closes text front spans rest e (No_number d some (inr o) is) = inr (inr o)
-stops_closes text front spans rest e (Too_long d over is) = inr (closes_digit front rest d)
-stops_closes text front spans rest e (Bad_after_number d a b c is) = inr (closes_digit front rest d.0)
+stops_closes text front spans rest e (Too_great d over is) = inr (closes_digit front rest d)
+stops_closes text front spans rest e (No_letter d a b is) = inr (closes_digit front rest d.0)
 stops_closes text front spans rest e (Bare_point d a b is) = inr (closes_digit front rest d.0)
-stops_closes text front spans rest e (Bad_after_fraction d a b c is) = inr (closes_digit front rest d.0)
 stops_closes text front spans rest e (Bad_after_word d a b c is) = inr (closes_digit front rest d.0)
 stops_closes text front spans rest e (No_word d a b c is) = inr (closes_digit front rest d.0)
 stops_closes text front spans rest e (Wrong_word d a b c f is) = inr (closes_digit front rest d.0)
@@ -140,10 +139,9 @@ at_digit text spans rest e d = record {
 is_start : (text front : List ℕ) (spans : List Span) (rest : List ℕ) (e : Fault) → Stops text front spans rest e → IsStart text spans rest e
 is_start text front spans rest e (Nothing_there none empty is) = record { at_end = λ n. (none, is); no_digit = λ d some. absurd (some empty) }
 is_start text front spans rest e (No_number d some o is) = record { at_end = λ n. absurd (some n); no_digit = λ k n. is }
-is_start text front spans rest e (Too_long d over is) = at_digit text spans rest e d
-is_start text front spans rest e (Bad_after_number d a b c is) = at_digit text spans rest e d.0
+is_start text front spans rest e (Too_great d over is) = at_digit text spans rest e d
+is_start text front spans rest e (No_letter d a b is) = at_digit text spans rest e d.0
 is_start text front spans rest e (Bare_point d a b is) = at_digit text spans rest e d.0
-is_start text front spans rest e (Bad_after_fraction d a b c is) = at_digit text spans rest e d.0
 is_start text front spans rest e (Bad_after_word d a b c is) = at_digit text spans rest e d.0
 is_start text front spans rest e (No_word d a b c is) = at_digit text spans rest e d.0
 is_start text front spans rest e (Wrong_word d a b c f is) = at_digit text spans rest e d.0
@@ -180,7 +178,7 @@ told_some text front rest spans stop some h f o =
 told_none : (text front : List ℕ) (stop : Option Fault) → Split text front [] [] → Ends text front [] [] stop → items text ≡ ([], stop)
 told_none text front stop h (inl o) = absurd (o.1 refl)
 told_none text front stop h (inr o) =
-    let e : past is_ws text ≡ [] = front_begins text front [] [] h ∙ ap (λ (x : List ℕ). x ++ []) h.read.each in
+    let e : past is_ws text ≡ [] = front_begins text front [] [] h ∙ ap (λ (x : List ℕ). x ++ []) h.spelled.each in
     items-nothing text e ∙ ap (λ (x : Option Fault). ([], x)) (ap Some (sym ((is_start text front [] [] o.0 o.2).at_end refl).1) ∙ sym o.1)
 
 told_at : (text front rest : List ℕ) (spans : List Span) (stop : Option Fault) → Split text front spans rest → AllByRecursion Formed spans → Ends text front spans rest stop → items text ≡ (spans, stop)

@@ -3,7 +3,7 @@ use Rattle.std.proofs.Common.{◌≡◌, ◌≢◌, ℕ, suc, Bool, true, false,
 use Rattle.humantime.specs.Durations.Characters.{is_digit, begins, offset_of}
 use Rattle.humantime.specs.Durations.Faults.{Fault, NumberExpected}
 use Rattle.humantime.specs.References.Durations.Reading.{stop_at}
-use Rattle.humantime.specs.Durations.Slices.{Lent}
+use Rattle.humantime.specs.Durations.Items.{Lent}
 use Rattle.humantime.specs.References.Durations.Lending.{lent_at, lends}
 use Rattle.humantime.proofs.Durations.Reading.Spelled.{next_of}
 

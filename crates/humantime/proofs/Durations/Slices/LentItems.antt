@@ -3,11 +3,10 @@ use Rattle.std.proofs.Common.{◌≡◌, ◌≢◌, ◌++◌, IsUtf8, chars, enc
 use Rattle.std.proofs.lemmas.Str.{encodes-chars, encode_ascii}
 use Rattle.humantime.specs.Durations.Characters.{is_ws, is_digit, begins, past, offset_of, bare_zero}
 use Rattle.humantime.specs.Durations.Spans.{Span}
-use Rattle.humantime.specs.Durations.Rests.{span_of}
-use Rattle.humantime.specs.Durations.Faults.{Fault, NumberExpected, NumberOverflow, Empty}
+use Rattle.humantime.specs.Durations.Faults.{span_of, Fault, NumberExpected, NumberOverflow, Empty}
 use Rattle.humantime.specs.References.Durations.Reading.{stop_at, read, items_from, items, with_span, add_span, settle}
 use Rattle.humantime.specs.References.Durations.Answers.{duration_answer}
-use Rattle.humantime.specs.Durations.Slices.{Lent, LendsEach, items_of, AreItems}
+use Rattle.humantime.specs.Durations.Items.{Lent, LendsEach, items_of, AreItems}
 use Rattle.humantime.specs.Laws.Outcomes.{OneListOfSlices}
 use Rattle.humantime.specs.References.Durations.Lending.{lent_at, lends, left_at, lent_items, judged}
 use Rattle.humantime.proofs.Durations.Slices.LendingSteps.{Turn, No_digit, Faulty, Spanned, turn, lends-expected, lends-stopped, lends-fine}
@@ -136,8 +135,8 @@ same_lent : (text : List ℕ) (xs ys : List (Result Lent Fault)) (a : AreItems t
 same_lent text xs ys a b p q =
     let i = a.items in
     let j = b.items in
-    let m = i.split.read.body ++ i.rest in
-    let n = j.split.read.body ++ j.rest in
+    let m = i.split.spelled.body ++ i.rest in
+    let n = j.split.spelled.body ++ j.rest in
     let from = sym (front_begins text i.front i.rest a.spans i.split) ∙ front_begins text j.front j.rest b.spans j.split in
     let each : LendsEach text n a.spans b.slices j.rest = subst (λ (ss : List Span). LendsEach text n ss b.slices j.rest) (sym p) b.each in
     a.are ∙ ap₂ items_of (one_each text [] [] m n a.spans a.slices b.slices i.rest j.rest tt tt from a.each each) q ∙ sym b.are

@@ -4,9 +4,9 @@ use Rattle.std.proofs.lemmas.Bool.{false≢true}
 use Rattle.std.proofs.lemmas.Str.{chars-nil}
 use Rattle.humantime.specs.declared.duration.error.DurationError.{DurationError}
 use Rattle.humantime.specs.declared.duration.error.DurationError.TheVariants as errors
-use Rattle.humantime.specs.Durations.Characters.{digits, offset_of}
+use Rattle.humantime.specs.Durations.Characters.{offset_of}
 use Rattle.humantime.specs.Durations.Errors.{fault_of, IsPlaceIn, IsPartOf, PointsInto}
-use Rattle.humantime.specs.Durations.Rests.{fraction_at}
+use Rattle.humantime.specs.References.Durations.Lending.{fraction_at}
 use Rattle.humantime.specs.Durations.Faults.{NumberOverflow}
 use Rattle.humantime.specs.References.Durations.Scales.{Counted, counted}
 use Rattle.humantime.specs.References.Durations.Scanning.{IsTail, bare, ends_span}
@@ -29,12 +29,12 @@ pub part_of_rests : (text behind part next : List ℕ) (start end : ℕ) → IsU
     → start ≡ offset_of (chars text) (chars behind) → end ≡ offset_of (chars text) (chars next) → IsPartOf text part start end
 part_of_rests text behind part next start end u b n e s t =
     let p = part_between text behind part next start end u b n e s t in
-    record { in_order = p.0; inside = p.2.0; start_boundary = p.1; end_boundary = p.2; part_is = p.3 }
+    (p.0, p.1, p.2, p.3)
 
 -- a point without digits is there
 pub bare_some : (rest : List ℕ) (v : ℕ) (o : Option Counted) (after behind letters next : List ℕ) → IsSpanRead rest v o after behind letters next → bare o ≡ true → after ≢ []
 bare_some rest v o after behind letters next s b none =
-    let no_point : o ≡ None = s.fraction_is ∙ ap (λ (x : List ℕ). option_map counted (option_map digits (fraction_at x))) (sym s.after_is ∙ none) in
+    let no_point : o ≡ None = s.fraction_is ∙ ap (λ (x : List ℕ). option_map counted (fraction_at x)) (sym s.after_is ∙ none) in
     false≢true (sym (ap bare no_point) ∙ b)
 
 -- what can't follow a word is there

@@ -5,8 +5,8 @@ use Rattle.std.specs.Str.{drop_trailing_whitespace}
 use Rattle.std.proofs.lemmas.List.{append_cancel_left}
 use Rattle.humantime.specs.Durations.Characters.{is_ws, is_digit, is_letter, begins, ends, past, offset_of}
 use Rattle.humantime.specs.Durations.Spans.{Span, Only, SpellsFraction}
-use Rattle.humantime.specs.Durations.Rests.{after_number, after_fraction}
-use Rattle.humantime.specs.Durations.Slices.{Lent, IsDigitSlice, LendsFraction, IsLent, LendsEach}
+use Rattle.humantime.specs.Durations.Faults.{after_number, after_fraction}
+use Rattle.humantime.specs.Durations.Items.{Lent, IsDigitSlice, LendsFraction, IsLent, LendsEach}
 use Rattle.humantime.specs.References.Durations.Lending.{trimmed, number_slice, fraction_slice}
 use Rattle.humantime.proofs.Durations.Reading.Classes.{white_is, digit_not_space}
 use Rattle.humantime.proofs.Durations.Reading.Runs.{past-append, begins-append, begins_not_nil, begins_other, letters_begin}
@@ -34,8 +34,8 @@ begins_first p xs ys e = begins-append p xs ys (begins_not_nil p xs e) ∙ e
 -- a text without the white space at its ends goes from its first digit to its last
 trimmed_is : (text slice : List ℕ) → IsDigitSlice text slice → trimmed text ≡ slice
 trimmed_is text slice h =
-    let stops : begins is_ws (slice ++ h.after) ≡ false = begins_other is_digit is_ws digit_not_space (slice ++ h.after) (begins_first is_digit slice h.after h.starts) in
-    ap trimmed h.whole ∙ ap drop_trailing_whitespace (past-append is_ws h.before (slice ++ h.after) h.only_before stops) ∙ drop_tail slice h.after h.only_after h.stops
+    let stops : begins is_ws (slice ++ h.after) ≡ false = begins_other is_digit is_ws digit_not_space (slice ++ h.after) (begins_first is_digit slice h.after h.first_digit) in
+    ap trimmed h.whole ∙ ap drop_trailing_whitespace (past-append is_ws h.before (slice ++ h.after) h.only_before stops) ∙ drop_tail slice h.after h.only_after h.last_digit
 
 fraction_told : (b tail : List ℕ) (o f : Option (List ℕ)) → SpellsFraction b o → LendsFraction b f → begins is_letter tail ≡ true → f ≡ fraction_slice (b ++ tail)
 fraction_told b tail None None h k e = sym (ap (λ (l : List ℕ). fraction_slice (l ++ tail)) h ∙ no_slice tail e)

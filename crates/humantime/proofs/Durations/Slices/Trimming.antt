@@ -1,14 +1,14 @@
 -- Slices without the white space at their ends.
-use Rattle.std.proofs.Common.{◌≡◌, ℕ, suc, Bool, true, false, ◌&&◌, cond, eqb, List, [], ◌∷◌, ◌++◌, length, Option, Some, None, option_map, ◌⊎◌, inl, inr, refl, sym, ap, ap₂, subst, ◌∙◌, append-nil, arith}
+use Rattle.std.proofs.Common.{◌≡◌, ℕ, suc, Bool, true, false, ◌&&◌, cond, eqb, List, [], ◌∷◌, ◌++◌, length, Option, Some, None, option_map, ◌⊎◌, inl, inr, refl, sym, ap, ap₂, subst, ◌∙◌, append-nil, arith, if◌then◌else◌, drop}
 use Rattle.std.specs.Char.{is_whitespace}
 use Rattle.std.specs.Str.{drop_trailing_whitespace}
 use Rattle.std.proofs.lemmas.Bool.Decides.{nat_tests}
 use Rattle.std.proofs.lemmas.List.Elements.{filter-append}
-use Rattle.humantime.specs.Durations.Characters.{is_ws, is_digit, is_letter, is_numeric, begins, ends, leading, past, digits}
+use Rattle.humantime.specs.Durations.Characters.{is_ws, is_digit, is_letter, is_numeric, begins, ends, leading, past, digits, is_point}
 use Rattle.humantime.specs.Durations.Spans.{Only}
-use Rattle.humantime.specs.Durations.Rests.{number_of, after_number, fraction_at, word_of, span_of}
-use Rattle.humantime.specs.Durations.Slices.{IsDigitSlice}
-use Rattle.humantime.specs.References.Durations.Lending.{trimmed, number_slice, fraction_slice, lent_at, spelled}
+use Rattle.humantime.specs.Durations.Faults.{number_of, after_number, word_of, span_of}
+use Rattle.humantime.specs.References.Durations.Lending.{fraction_at, trimmed, number_slice, fraction_slice, lent_at, spelled}
+use Rattle.humantime.specs.Durations.Items.{IsDigitSlice}
 use Rattle.humantime.proofs.Durations.Reading.Classes.{white_is, letter_not_numeric, letter_not_point, is_point-46, space_not_digit, digit_from_numeric}
 use Rattle.humantime.proofs.Durations.Reading.Runs.{leading-append, begins_other}
 
@@ -57,12 +57,12 @@ digits_trimmed cs = digits_dropped (past is_ws cs) (trimmed cs) (dropped (past i
 number_spelled : (rest : List ℕ) → digits (number_slice rest) ≡ number_of rest
 number_spelled rest = digits_dropped (leading is_numeric rest) (number_slice rest) (dropped (leading is_numeric rest))
 
-fraction_spelled : (after : List ℕ) → option_map digits (fraction_slice after) ≡ option_map digits (fraction_at after)
-fraction_spelled after = by (fraction_at after)
+fraction_spelled : (after : List ℕ) → option_map digits (fraction_slice after) ≡ fraction_at after
+fraction_spelled after = by (begins is_point after)
   where
-    by : (o : Option (List ℕ)) → option_map digits (option_map trimmed o) ≡ option_map digits o
-    by None = refl
-    by (Some cs) = ap (λ (x : List ℕ). Some x) (digits_trimmed cs)
+    by : (b : Bool) → option_map digits (if b then Some (trimmed (leading is_numeric (drop 1 after))) else None) ≡ (if b then Some (number_of (drop 1 after)) else None)
+    by true = ap (λ (x : List ℕ). Some x) (digits_trimmed (leading is_numeric (drop 1 after)))
+    by false = refl
 
 -- the slices spell the span that they are taken from
 pub spelled_at : (text rest : List ℕ) → spelled (lent_at text rest).number (lent_at text rest).fraction (lent_at text rest).unit ≡ span_of rest
@@ -91,8 +91,8 @@ digit_slice before cs (x ∷ xs) d w b o =
       whole = ap (λ (l : List ℕ). before ++ l) d.whole;
       only_before = w;
       only_after = d.space;
-      starts = subst (λ (l : List ℕ). begins is_digit l ≡ true) d.whole b;
-      stops = ends_digit x xs numeric (last_of x xs d.last);
+      first_digit = subst (λ (l : List ℕ). begins is_digit l ≡ true) d.whole b;
+      last_digit = ends_digit x xs numeric (last_of x xs d.last);
     }
 
 -- the slice of the fraction behind a number, before a word

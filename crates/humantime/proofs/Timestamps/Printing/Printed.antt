@@ -6,15 +6,17 @@ use Rattle.std.proofs.Math.Nat.{mod-le}
 use Rattle.std.proofs.lemmas.Bool.{ltb-true, lt-ltb}
 use Rattle.std.proofs.lemmas.Int.{ints}
 use Rattle.std.proofs.lemmas.Option.{none-some, same_Some}
+use Rattle.humantime.proofs.Timestamps.Reading.Fractions.{digits_from}
 use Rattle.humantime.specs.declared.date.print.DateTime.{DateTime}
 use Rattle.humantime.specs.declared.date.print.Precision.{Precision}
 use Rattle.humantime.specs.declared.date.print.Precision.TheVariants.{Seconds, Millis, Micros, Nanos}
 use Rattle.humantime.specs.declared.date.print.Rfc3339Timestamp.{Rfc3339Timestamp}
-use Rattle.humantime.specs.Calendar.Dates.{day_of}
+use Rattle.humantime.specs.Calendar.{day_of}
 use Rattle.humantime.specs.References.Calendar.DatesOfDays.{date_of}
-use Rattle.humantime.specs.Values.Moments.{nano_of}
-use Rattle.humantime.specs.Timestamps.Fields.{Letter_Z, Nothing, fields_text, time_text, fraction_text, zone_text, moment_of}
-use Rattle.humantime.specs.Timestamps.Printed.{cut, IsPrinted, IsPrintable, ReadsAs, OnePrinted}
+use Rattle.humantime.specs.Values.{nano_of}
+use Rattle.humantime.specs.Timestamps.Fields.{Letter_Z, No_zone, fields_text, date_time_text, fraction_text, zone_text, moment_of}
+use Rattle.humantime.specs.Timestamps.Printed.{cut, IsPrinted, IsPrintable}
+use Rattle.humantime.specs.Laws.Timestamps.{ReadsAs, OnePrinted}
 use Rattle.humantime.specs.References.Timestamps.Printing.{places, moment_kept, places_kept, places_of, fields_shown, fields_at, IsDateTimeOf, IsTextOf, printed_text, moment_text}
 use Rattle.humantime.proofs.Timestamps.Reading.Bytes.{HoldsOfBytes, holds_before_zone, all_append}
 use Rattle.humantime.proofs.Dates.DatesOfDays.{date_of_is}
@@ -60,7 +62,7 @@ shown_printed x (pos t) k small h = record {
     hour = h.hour;
     minute = h.minute;
     second = omega (arith, h.second);
-    fraction = shown_digits k x.nanos h.nanos;
+    fraction = digits_from _ (shown_digits k x.nanos h.nanos);
   };
   separator = refl;
   zone = refl;
@@ -98,7 +100,7 @@ printed_ascii t k text p =
     let f = p.fields in
     let before = holds_before_zone (λ c. c < 128) ascii_bytes text f p.weak in
     let zone : AllByRecursion (λ c. c < 128) (zone_text f.zone) = rw p.zone (omega arith, tt) in
-    let all = all_append (λ c. c < 128) (time_text f ++ fraction_text f.fraction) (zone_text f.zone) before zone in
+    let all = all_append (λ c. c < 128) (date_time_text f ++ fraction_text f.fraction) (zone_text f.zone) before zone in
     ascii_from text (subst (AllByRecursion (λ c. c < 128)) (sym p.weak.shown) all)
 
 -- the date and the time of a moment of 1970 to 9999
@@ -171,10 +173,10 @@ printed_text_is x text h p = text_from (moment_kept x) (places_kept x) text (pla
 -- a printed text reads back as the moment, cut
 pub printed_reads : (t : ℤ) (k : ℕ) (text : List ℕ) → IsPrinted t k text → ReadsAs text (cut t k)
 printed_reads t k text p =
-    let zone : p.fields.zone ≢ Nothing = λ e. absurd (let same : Letter_Z ≡ Nothing = sym p.zone ∙ e in let no : ⊥ = cc in no) in
+    let zone : p.fields.zone ≢ No_zone = λ e. absurd (let same : Letter_Z ≡ No_zone = sym p.zone ∙ e in let no : ⊥ = cc in no) in
     record {
-      strict = record { fields = p.fields; strict = record { weak = p.weak; separator = p.separator; zone = zone }; moment = sym p.moment };
-      weak = record { fields = p.fields; weak = p.weak; moment = sym p.moment };
+      strict = (p.fields, record { weak = p.weak; separator = p.separator; zone = zone }, sym p.moment);
+      weak = (p.fields, p.weak, sym p.moment);
     }
 
 pub one_printed : (t : ℤ) (k : ℕ) → k ≤ 9 → IsPrintable t → OnePrinted t k

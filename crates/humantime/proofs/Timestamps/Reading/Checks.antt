@@ -1,6 +1,6 @@
 -- What the checks on a timestamp say, one by one.
-use Rattle.std.proofs.Common.{◌≡◌, ℕ, ◌<◌, ◌≤◌, List, [], ◌∷◌, ◌++◌, length, get_or, drop, ◌⊎◌, inl, inr, refl, sym, ◌∙◌, arith}
-use Rattle.std.specs.Prelude.{Bool, true, false, not, ◌||◌, ◌==◌, codes, slice_index, Option, Some, None, if◌then◌else◌}
+use Rattle.std.proofs.Common.{◌≡◌, ℕ, ◌<◌, ◌≤◌, List, [], ◌∷◌, ◌++◌, length, get_or, drop, ◌⊎◌, inl, inr, refl, sym, ◌∙◌, arith, nat_le}
+use Rattle.std.specs.Prelude.{Bool, true, false, ◌||◌, ◌==◌, codes, slice_index, Option, Some, None, if◌then◌else◌}
 use Rattle.std.specs.Bool.{Decides}
 use Rattle.std.proofs.Math.Seq.{drop-cons}
 use Rattle.std.specs.List.{list_all}
@@ -9,20 +9,19 @@ use Rattle.std.proofs.lemmas.Bool.{and_parts, cases_lt, eqb-true}
 use Rattle.std.proofs.Math.ListN.{get_or-eq_default}
 use Rattle.std.proofs.lemmas.Slice.Eq.{bytes_eq-Decides}
 use Rattle.humantime.specs.declared.date.error.TimestampError.{TimestampError}
-use Rattle.humantime.specs.Timestamps.Digits.{AreDigits}
-use Rattle.humantime.specs.Timestamps.Fields.{Letter_T, Space, Nothing, Letter_Z, Offset, separator_byte, fraction_text, fraction_digits, zone_text}
-use Rattle.humantime.specs.Timestamps.Checks.{is_zone, is_long, has_signs, has_digits, in_range, has_point, ends_whole, ends_fraction, past_digits, weak_checks, first_failed}
-use Rattle.humantime.specs.References.Timestamps.Reading.{has_two, front_digits, zone_of, fraction_read, zone_at}
+use Rattle.humantime.specs.References.Timestamps.Reading.{AreDigits, fraction_digits, past_digits, has_two, front_digits, zone_of, fraction_read, zone_at}
+use Rattle.humantime.specs.Timestamps.Fields.{Letter_T, Space, No_zone, Letter_Z, Zero_offset, separator_byte, fraction_text, zone_text}
+use Rattle.humantime.specs.Timestamps.Checks.{is_zone, has_signs, has_digits, in_range, has_point, ends_without_point, ends_after_point, weak_checks, first_failed}
 use Rattle.humantime.proofs.Timestamps.Reading.Fractions.{front_are_digits, front_past}
 
 -- no check of the weak form fails
 pub record Passes (b : List ℕ) : Type 0 where
-  pub long : is_long b ≡ true
+  pub long : nat_le 19 (length b) ≡ true
   pub signs : has_signs b ≡ true
   pub digits : has_digits b ≡ true
   pub range : in_range b ≡ true
-  pub whole : ends_whole b ≡ true
-  pub fraction : ends_fraction b ≡ true
+  pub whole : ends_without_point b ≡ true
+  pub fraction : ends_after_point b ≡ true
 
 none_first : (t : Bool) (e : TimestampError) (rest : Option TimestampError) → (if t then rest else Some e) ≡ None → (t ≡ true) × (rest ≡ None)
 none_first true e rest h = (refl, h)
@@ -30,12 +29,12 @@ none_first false e rest h = absurd (cc)
 
 pub passes_from : (b : List ℕ) → first_failed (weak_checks b) ≡ None → Passes b
 passes_from b h =
-    let long = none_first (is_long b) _ _ h in
+    let long = none_first (nat_le 19 (length b)) _ _ h in
     let signs = none_first (has_signs b) _ _ long.1 in
     let digits = none_first (has_digits b) _ _ signs.1 in
     let range = none_first (in_range b) _ _ digits.1 in
-    let whole = none_first (ends_whole b) _ _ range.1 in
-    let fraction = none_first (ends_fraction b) _ _ whole.1 in
+    let whole = none_first (ends_without_point b) _ _ range.1 in
+    let fraction = none_first (ends_after_point b) _ _ whole.1 in
     record { long = long.0; signs = signs.0; digits = digits.0; range = range.0; whole = whole.0; fraction = fraction.0 }
 
 pub passes_none : (b : List ℕ) → Passes b → first_failed (weak_checks b) ≡ None
@@ -103,7 +102,7 @@ separator_shown c h = by_test (c == 84) refl h where
   by_test false e k = eqb-true c 32 k
 
 zone_by : (z : List ℕ) (p q r : Bool) → Decides p (z ≡ []) → Decides q (z ≡ codes "Z") → Decides r (z ≡ codes "+00:00")
-    → (p || q || r) ≡ true → z ≡ zone_text (if p then Nothing else (if q then Letter_Z else Offset))
+    → (p || q || r) ≡ true → z ≡ zone_text (if p then No_zone else (if q then Letter_Z else Zero_offset))
 zone_by z true q r a b c h = a.0 refl
 zone_by z false true r a b c h = b.0 refl
 zone_by z false false true a b c h = c.0 refl
@@ -123,10 +122,10 @@ point_within b h = by_length (cases_lt 19 (length b)) where
       absurd (omega arith)
 
 -- what stands after date and time
-pub end_shown : (b : List ℕ) → ends_whole b ≡ true → ends_fraction b ≡ true → drop 19 b ≡ fraction_text (fraction_read b) ++ zone_text (zone_at b)
-unfolding ends_whole ends_fraction
+pub end_shown : (b : List ℕ) → ends_without_point b ≡ true → ends_after_point b ≡ true → drop 19 b ≡ fraction_text (fraction_read b) ++ zone_text (zone_at b)
+unfolding ends_without_point ends_after_point
 end_shown b whole fraction = by_test (has_point b) refl whole fraction where
-  by_test : (t : Bool) → has_point b ≡ t → (t || is_zone (drop 19 b)) ≡ true → (not t || is_zone (past_digits (drop 20 b))) ≡ true
+  by_test : (t : Bool) → has_point b ≡ t → (if t then true else is_zone (drop 19 b)) ≡ true → (if t then is_zone (past_digits (drop 20 b)) else true) ≡ true
       → drop 19 b ≡ fraction_text (if t then Some (front_digits (drop 20 b)) else None) ++ zone_text (zone_of (if t then past_digits (drop 20 b) else drop 19 b))
   by_test true h w f =
       let here : drop 19 b ≡ get_or b 19 0 ∷ drop 20 b = drop-cons b 19 0 (point_within b h) in

@@ -9,7 +9,7 @@ use Rattle.std.proofs.lemmas.Bool.Decides.{nat_tests, same_from_decides}
 use Rattle.std.proofs.lemmas.List.{drop_all, take_rest}
 use Rattle.std.proofs.lemmas.List.Prefix.{end_rest}
 use Rattle.std.proofs.lemmas.Slice.Eq.{bytes_eq-Decides}
-use Rattle.humantime.specs.Timestamps.Fields.{Zone, Nothing, Letter_Z, Offset, zone_text}
+use Rattle.humantime.specs.Timestamps.Fields.{Zone, No_zone, Letter_Z, Zero_offset, zone_text}
 use Rattle.humantime.specs.Timestamps.Checks.{is_zone, ends_in_zone}
 use Rattle.humantime.specs.References.Timestamps.Reading.{zone_length}
 use Rattle.humantime.proofs.Timestamps.Reading.Bytes.{HoldsOfBytes, all_drop}
@@ -137,7 +137,7 @@ offset_end xs z =
 -- behind plain bytes the zone is found
 pub zone_length_of : (xs : List ℕ) (z : Zone) → AllByRecursion IsPlain xs → zone_length (xs ++ zone_text z) ≡ length (zone_text z)
 unfolding zone_length
-zone_length_of xs Nothing plain =
+zone_length_of xs No_zone plain =
     let none : xs ++ [] ≡ xs = append-nil xs in
     let letter = false_unless (ends_with nat_eq xs (codes "Z")) (no_letter_end xs plain) in
     let offset = false_unless (ends_with nat_eq xs (codes "+00:00")) (no_offset_end xs plain) in
@@ -145,7 +145,7 @@ zone_length_of xs Nothing plain =
 zone_length_of xs Letter_Z plain =
     let letter = end_from xs (codes "Z") in
     rw letter refl
-zone_length_of xs Offset plain =
+zone_length_of xs Zero_offset plain =
     let letter = false_unless (ends_with nat_eq (xs ++ codes "+00:00") (codes "Z")) (offset_end xs) in
     let offset = end_from xs (codes "+00:00") in
     rw (letter, offset) refl

@@ -7,9 +7,8 @@ use Rattle.std.proofs.Math.Seq.{drop-cons}
 use Rattle.std.proofs.lemmas.Bool.{and_parts}
 use Rattle.std.proofs.lemmas.Bool.Decides.{nat_tests}
 use Rattle.std.proofs.lemmas.Str.{digit_value_digit}
-use Rattle.humantime.specs.Calendar.Years.{is_valid}
-use Rattle.humantime.specs.Calendar.Dates.{IsDate}
-use Rattle.humantime.specs.Timestamps.Checks.{number, in_range}
+use Rattle.humantime.specs.Calendar.{is_valid, IsDate}
+use Rattle.humantime.specs.Timestamps.Checks.{number_between, in_range}
 use Rattle.humantime.specs.References.Timestamps.Reading.{has_two, date_at}
 use Rattle.humantime.proofs.Timestamps.Reading.Fractions.{is_digit_told}
 
@@ -39,15 +38,15 @@ four_bytes b long =
     ) refl
 
 pub number_of_two : (b : List ℕ) (k : ℕ) → k + 2 ≤ length b → has_two b k ≡ true
-    → number b k (k + 2) ≡ (slice_index b k - 48) * 10 + (slice_index b (k + 1) - 48)
-unfolding number
+    → number_between b k (k + 2) ≡ (slice_index b k - 48) * 10 + (slice_index b (k + 1) - 48)
+unfolding number_between
 number_of_two b k long h =
     let p = has_two_told b k h in
     rw (two_bytes b k long) (omega (arith, digit_value_digit _ p.0, digit_value_digit _ p.1))
 
 pub number_of_four : (b : List ℕ) → 4 ≤ length b → has_two b 0 ≡ true → has_two b 2 ≡ true
-    → number b 0 4 ≡ (slice_index b 0 - 48) * 1000 + (slice_index b 1 - 48) * 100 + (slice_index b 2 - 48) * 10 + (slice_index b 3 - 48)
-unfolding number
+    → number_between b 0 4 ≡ (slice_index b 0 - 48) * 1000 + (slice_index b 1 - 48) * 100 + (slice_index b 2 - 48) * 10 + (slice_index b 3 - 48)
+unfolding number_between
 number_of_four b long century decade =
     let p = has_two_told b 0 century in
     let q = has_two_told b 2 decade in
@@ -63,14 +62,14 @@ bounds_from : (date : Bool) (h i s : ℕ) → date ≡ true → h ≤ 23 → i �
 bounds_from date h i s d e f g = grind (arith, nat_tests)
 
 pub in_range_told : (b : List ℕ) → IsTrue (in_range b)
-    → IsDate (date_at b) × (number b 11 13 ≤ 23) × (number b 14 16 ≤ 59) × (number b 17 19 ≤ 60)
+    → IsDate (date_at b) × (number_between b 11 13 ≤ 23) × (number_between b 14 16 ≤ 59) × (number_between b 17 19 ≤ 60)
 unfolding in_range
 in_range_told b h =
-    bounds_told (is_valid (number b 0 4) (number b 5 7) (number b 8 10)) (number b 11 13) (number b 14 16) (number b 17 19) h
+    bounds_told (is_valid (number_between b 0 4) (number_between b 5 7) (number_between b 8 10)) (number_between b 11 13) (number_between b 14 16) (number_between b 17 19) h
 
-pub in_range_from : (b : List ℕ) → IsDate (date_at b) → number b 11 13 ≤ 23 → number b 14 16 ≤ 59 → number b 17 19 ≤ 60
+pub in_range_from : (b : List ℕ) → IsDate (date_at b) → number_between b 11 13 ≤ 23 → number_between b 14 16 ≤ 59 → number_between b 17 19 ≤ 60
     → IsTrue (in_range b)
 unfolding in_range
 in_range_from b date hour minute second =
-    bounds_from (is_valid (number b 0 4) (number b 5 7) (number b 8 10)) (number b 11 13) (number b 14 16) (number b 17 19)
+    bounds_from (is_valid (number_between b 0 4) (number_between b 5 7) (number_between b 8 10)) (number_between b 11 13) (number_between b 14 16) (number_between b 17 19)
     date hour minute second

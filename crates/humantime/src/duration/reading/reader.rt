@@ -2,8 +2,7 @@
 
 ghost use Rattle.std.specs.Prelude.{◌≡◌, ◌<◌, true, length, chars, option_map, IfOk, IfErr, Some, None};
 ghost use Rattle.humantime.specs.Durations.Errors.{fault_of, PointsInto};
-ghost use Rattle.humantime.specs.Durations.Rests.{after_word, span_of};
-ghost use Rattle.humantime.specs.Durations.Faults.{NumberOverflow};
+ghost use Rattle.humantime.specs.Durations.Faults.{after_word, span_of, NumberOverflow};
 ghost use Rattle.humantime.specs.References.Durations.Lending.{lent_at};
 ghost use Rattle.humantime.specs.References.Durations.Lents.{lent_of};
 ghost use Rattle.humantime.specs.References.Durations.Reading.{stop_at, too_long};

@@ -1,7 +1,7 @@
 //! Additions to a duration, each refused where it breaks a limit.
 
 ghost use Rattle.std.specs.Prelude.{◌≡◌, ◌≤◌, ◌^◌};
-ghost use Rattle.humantime.specs.Values.Amounts.{nanos_per_second};
+ghost use Rattle.humantime.specs.Values.{nanos_per_second};
 ghost use Rattle.humantime.specs.Durations.Spans.{Span};
 ghost use Rattle.humantime.specs.References.Durations.Adding.{add_one, add_times, part_of, add_part};
 ghost use Rattle.humantime.specs.References.Durations.Reading.{add_span};

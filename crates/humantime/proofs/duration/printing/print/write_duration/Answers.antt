@@ -1,5 +1,5 @@
 use Rattle.std.proofs.Common.{[], ◌/◌, ◌<◌, ◌^◌, arith, ap, ◌∙◌}
-use Rattle.humantime.specs.Values.Amounts.{nanos_per_second}
+use Rattle.humantime.specs.Values.{nanos_per_second}
 use Rattle.humantime.specs.References.Durations.Printing.{with_seconds, with_nanos, or_zero, written_text}
 use Rattle.humantime.proofs.Durations.Printing.CountTexts.{written_is_text}
 use Rattle.humantime.proofs.duration.printing.print.write_duration.Goals as goal
