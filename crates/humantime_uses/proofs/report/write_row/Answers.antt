@@ -6,17 +6,7 @@ use Rattle.humantime_uses.proofs.report.write_row.Goals as goal
 pub returns : goal.returns
 returns g c = λ printable.
     let start = printed_some c.args.start 3 (omega arith) printable in
+    let taken = printed_is_canon c.args.took in
+    let limited = printed_is_canon c.args.limit in
     let wrote = rw start.1 at c.write.ensures.writes in
-    on_ok_weaker c.write.result (λ calls. (
-      _,
-      record {
-        start_text = _;
-        took_text = _;
-        limit_text = _;
-        started = start.2;
-        shown = refl;
-        taken = printed_is_canon c.args.took;
-        limited = printed_is_canon c.args.limit;
-      },
-      calls,
-    )) wrote
+    on_ok_weaker c.write.result (λ calls. (_, (_, _, _, start.2, taken, limited, refl), calls)) wrote
