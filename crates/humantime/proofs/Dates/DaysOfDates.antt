@@ -1,4 +1,5 @@
 -- Each day number has one date.
+use Rattle.std.proofs.lemmas.Grind.{common_steps}
 use Rattle.std.proofs.Common.{◌≡◌, ◌∙◌, ℕ, zero, suc, ◌+◌, ◌-◌, ◌<◌, ◌≤◌, refl, sym, arith, inl, inr}
 use Rattle.std.proofs.lemmas.Bool.Decides.{nat_tests}
 use Rattle.std.proofs.lemmas.Bool.{cases_order, cases_lt}
@@ -69,16 +70,7 @@ same_month y m d m' d' valid valid' same =
     ]
 
 pub same_date : (a : Date) (b : Date) → IsDate a → IsDate b → day_of a ≡ day_of b → a ≡ b
-same_date a b valid valid' same =
-    let within = valid_told a.year a.month a.day valid in
-    let within' = valid_told b.year b.month b.day valid' in
-    let year : a.year ≡ b.year = same_year a.year a.month a.day b.year b.month b.day within within' same in
-    let there : AreWithin a.year b.month b.day = rw (sym year) at within' in
-    let count : day_count a.year a.month a.day ≡ day_count a.year b.month b.day = rw (sym year) at same in
-    let month : a.month ≡ b.month = same_month a.year a.month a.day b.month b.day within there count in
-    let count' : day_count a.year a.month a.day ≡ day_count a.year a.month b.day = rw (sym month) at count in
-    let day : a.day ≡ b.day = omega (arith, count', within.2.0, within'.2.0) in
-    λ i. record { year = year i; month = month i; day = day i }
+same_date a b valid valid' same = grind (arith, common_steps, valid_told, same_year, same_month)
 
 -- the date of the next day
 month_some : (y : ℕ) (m : ℕ) → 28 ≤ days_in_month y m
@@ -86,10 +78,7 @@ month_some y m = grind (arith, nat_tests)
 
 pub next_day : (n : ℕ) (y : ℕ) (m : ℕ) (d : ℕ) → AreWithin y m d × (day_count y m d ≡ n) → d < days_in_month y m
     → AreWithin y m (d + 1) × (day_count y m (d + 1) ≡ suc n)
-next_day n y m d is more =
-    let some : 1 ≤ d = is.0.2.0 in
-    let day : days_of_years (y - 1970) + days_of_months y (m - 1) + (d - 1) ≡ n = is.1 in
-    ((is.0.0, is.0.1, (omega arith, omega arith)), omega arith)
+next_day n y m d is more = grind (arith, common_steps)
 
 pub next_month : (n : ℕ) (y : ℕ) (m : ℕ) (d : ℕ) → AreWithin y m d × (day_count y m d ≡ n) → days_in_month y m ≤ d → m < 12
     → AreWithin y (m + 1) 1 × (day_count y (m + 1) 1 ≡ suc n)

@@ -1,4 +1,5 @@
 -- The days of years and of months in closed form.
+use Rattle.std.proofs.lemmas.Grind.{common_steps}
 use Rattle.std.proofs.Common.{◌≡◌, ℕ, zero, suc, ◌+◌, ◌-◌, ◌*◌, ◌/◌, ◌<◌, ◌≤◌, refl, ap, arith}
 use Rattle.std.specs.Prelude.{true, ◌&&◌, if◌then◌else◌, [], ◌∷◌, slice_index_or, nat_lt}
 use Rattle.std.specs.Int.{IsInRange, is_in_range}
@@ -50,14 +51,10 @@ march_days_of_years (suc n) =
 
 pub days_of_years_closed : (y : ℕ) → 1970 ≤ y
     → days_of_years (y - 1970) ≡ 365 * (y - 1970) + (y - 1969) / 4 - (y - 1901) / 100 + (y - 1601) / 400
-days_of_years_closed y late =
-    let closed : days_of_years (y - 1970) + 134_774 ≡ march_days (y - 1970 + 369) = march_days_of_years (y - 1970) in
-    omega arith
+days_of_years_closed y late = grind (arith, common_steps, march_days_of_years)
 
 pub days_of_years_bound : (n : ℕ) → n ≤ 8029 → days_of_years n ≤ 2_932_532
-days_of_years_bound n low =
-    let closed : days_of_years n + 134_774 ≡ march_days (n + 369) = march_days_of_years n in
-    omega arith
+days_of_years_bound n low = grind (arith, common_steps, march_days_of_years)
 
 -- the days up to the end of year y
 pub days_of_years_more : (y : ℕ) → 1970 ≤ y → days_of_years (y + 1 - 1970) ≡ days_of_years (y - 1970) + days_in_year y
@@ -70,21 +67,10 @@ days_of_years_more y late =
 
 -- the years up to 9999 have 2932897 days
 pub days_of_years_within : (y : ℕ) → 1970 ≤ y → y ≤ 9999 → days_of_years (y - 1970) + days_in_year y ≤ 2_932_897
-days_of_years_within y late low =
-    let more : days_of_years (y + 1 - 1970) ≡ days_of_years (y - 1970) + days_in_year y = days_of_years_more y late in
-    let closed : days_of_years (y + 1 - 1970) + 134_774 ≡ march_days (y + 1 - 1970 + 369) = march_days_of_years (y + 1 - 1970) in
-    omega arith
-
-pub days_of_years_all : (y : ℕ) → y ≡ 10_000 → days_of_years (y - 1970) ≡ 2_932_897
-days_of_years_all y end =
-    let closed : days_of_years (y - 1970) + 134_774 ≡ march_days (y - 1970 + 369) = march_days_of_years (y - 1970) in
-    omega arith
+days_of_years_within y late low = grind (arith, common_steps, days_of_years_more, march_days_of_years)
 
 pub days_in_year_bound : (y : ℕ) → days_in_year y ≤ 366
 days_in_year_bound y = grind (arith, nat_tests)
-
-days_in_year_least : (y : ℕ) → 365 ≤ days_in_year y
-days_in_year_least y = grind (arith, nat_tests)
 
 -- February has what the other months leave of the year
 pub february : (y : ℕ) → days_in_month y 2 + 337 ≡ days_in_year y
@@ -106,12 +92,6 @@ month_end y m some =
     days_of_months_next y (m - 1) in
     rw same at next
 
-pub days_of_months_more : (y : ℕ) (m : ℕ) → 1 ≤ m
-    → days_of_months y (m + 1 - 1) ≡ days_of_months y (m - 1) + days_in_month y m
-days_of_months_more y m some =
-    let here : m + 1 - 1 ≡ m = omega arith in
-    rw here (month_end y m some)
-
 -- the days of the first k months, by a table and the leap day
 abbrev days_in_table : ℕ → ℕ → ℕ
 days_in_table y k =
@@ -120,12 +100,7 @@ days_in_table y k =
 
 pub days_of_months_closed : (y : ℕ) (k : ℕ) → k < 12 → days_of_months y k ≡ days_in_table y k
 unfolding days_of_months
-days_of_months_closed y =
-    let second : days_in_month y 2 + 337 ≡ days_in_year y = february y in
-    let least : 365 ≤ days_in_year y = days_in_year_least y in
-    below_12 (λ k. days_of_months y k ≡ days_in_table y k)
-    refl refl (omega arith) (omega arith) (omega arith) (omega arith)
-    (omega arith) (omega arith) (omega arith) (omega arith) (omega arith) (omega arith)
+days_of_months_closed y = grind (arith, common_steps)
 
 pub days_of_months_bound : (y : ℕ) (k : ℕ) → k < 12 → days_of_months y k ≤ 335
 unfolding days_of_months
@@ -139,11 +114,4 @@ days_of_months_bound y =
 -- the twelve months make the year
 pub twelve_months : (y : ℕ) → days_of_months y 12 ≡ days_in_year y
 unfolding days_of_months
-twelve_months y =
-    let second : days_in_month y 2 + 337 ≡ days_in_year y = february y in
-    omega arith
-
-pub days_of_months_all : (y : ℕ) (m : ℕ) → m ≡ 13 → days_of_months y (m - 1) ≡ days_in_year y
-days_of_months_all y m end =
-    let twelve : m - 1 ≡ 12 = omega arith in
-    rw twelve (twelve_months y)
+twelve_months y = grind (arith, common_steps)

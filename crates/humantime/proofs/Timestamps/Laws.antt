@@ -4,4 +4,3 @@ pub mod Order
 pub mod Reading
 pub mod StrictForm
 pub mod TimestampTheorems
-pub mod WorkedTimestamps

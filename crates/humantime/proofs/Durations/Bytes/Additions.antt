@@ -1,5 +1,5 @@
 -- Single additions, and the sum with a whole span.
-use Rattle.std.proofs.Common.{◌≡◌, ◌∙◌, ap, refl, ℕ, ◌-◌, ◌*◌, ◌^◌, ◌<◌, ◌≤◌, Bool, true, false, ◌&&◌, List, ◌∷◌, Option, Some, None, option_map, arith}
+use Rattle.std.proofs.Common.{◌≡◌, ◌∙◌, ap, refl, ℕ, ◌-◌, ◌*◌, ◌^◌, ◌<◌, ◌≤◌, Bool, true, ◌&&◌, List, ◌∷◌, Option, Some, None, option_map, arith}
 use Rattle.std.specs.Prelude.{nat_le, if◌then◌else◌}
 use Rattle.std.proofs.lemmas.Grind.{common_steps}
 use Rattle.std.proofs.lemmas.Bool.{le-leb}
@@ -24,11 +24,7 @@ both_parts : (t : ℕ) (x : Addition) (fits : Bool) (base : ℕ) (factor : Optio
     → then_add (if fits then add_one t x else None) base factor (option_map counted fraction)
     ≡ (if fits && fraction_fits factor fraction then add_all t (x ∷ fraction_additions base factor fraction) else None)
 unfolding add_all
-both_parts t x false base factor fraction = refl
-both_parts t x true base None None = grind (arith, common_steps)
-both_parts t x true base (Some f) None = grind (arith, common_steps)
-both_parts t x true base None (Some ds) = grind (arith, common_steps)
-both_parts t x true base (Some f) (Some ds) = grind (arith, common_steps)
+both_parts t x fits base factor fraction = grind (arith, common_steps)
 
 pub span_adds : (t : ℕ) (s : Span) (u : Scale) (number : ℕ) (fraction : Option Counted)
     → scale_of_word s.word ≡ Some u → number ≡ decimal_value s.number → fraction ≡ option_map counted s.fraction

@@ -1,4 +1,5 @@
 -- How a text begins: with a digit, with a point.
+use Rattle.std.proofs.lemmas.Grind.{common_steps}
 use Rattle.std.proofs.Common.{◌≡◌, ◌≢◌, ◌<◌, ◌∙◌, ◌+◌, ℕ, true, false, ap, length, drop, length-drop, IsCharBoundary, List, [], ◌∷◌, inl, inr, refl, sym, get_or, IsUtf8, chars, encode_utf8_all, arith}
 use Rattle.std.specs.Char.{is_ascii_digit}
 use Rattle.std.proofs.lemmas.List.{get_or-drop}
@@ -54,7 +55,4 @@ pub record IsDigitAt (text : List ℕ) (at : ℕ) : Type 0 where
   pub place : IsCharBoundary text (at + 1)
 
 pub digit_here : (text : List ℕ) (at : ℕ) → IsUtf8 text → IsCharBoundary text at → at < length text → is_ascii_digit (get_or text at 0) ≡ true → IsDigitAt text at
-digit_here text at u place some d =
-    let is : class_of (get_or text at 0) ≡ Digit = ascii_digit_class (get_or text at 0) d in
-    let small : get_or text at 0 < 128 = omega (arith, digit_greatest (get_or text at 0) is) in
-    record { is = is; chars = ascii_chars text at u place some small; place = IsCharBoundary-after_ascii text at u some small }
+digit_here text at u place some d = grind (arith, common_steps, ascii_digit_class, digit_greatest, ascii_chars, IsCharBoundary-after_ascii)

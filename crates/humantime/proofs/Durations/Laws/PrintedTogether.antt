@@ -1,5 +1,6 @@
 -- The printed texts of two durations, one behind the other.
-use Rattle.std.proofs.Common.{◌≡◌, ◌≢◌, ◌↔◌, ℕ, zero, suc, ◌+◌, ◌*◌, ◌/◌, ◌%◌, ◌^◌, ◌<◌, ◌≤◌, List, [], ◌∷◌, ◌++◌, length, codes, chars, inl, inr, refl, sym, ap, subst, ◌∙◌, arith, rules}
+use Rattle.std.proofs.lemmas.Grind.{common_steps}
+use Rattle.std.proofs.Common.{◌≡◌, ◌≢◌, ◌↔◌, ℕ, suc, ◌+◌, ◌*◌, ◌/◌, ◌%◌, ◌^◌, ◌<◌, ◌≤◌, List, [], ◌∷◌, ◌++◌, length, codes, chars, inl, inr, refl, sym, ap, subst, ◌∙◌, arith, rules}
 use Rattle.std.specs.List.{AllByRecursion}
 use Rattle.std.proofs.Math.Nat.{mul_comm, div-add-mod}
 use Rattle.std.proofs.lemmas.Nat.{mod_below}
@@ -17,7 +18,7 @@ use Rattle.humantime.proofs.Durations.Printing.PrintedRows.{word_for, span_for, 
 use Rattle.humantime.proofs.Durations.Printing.PrintedSpans.{IsCount, spans_for, adds_one, weight_positive, rows_good, counts_spell, both_empty, joined_some, canon_reads}
 use Rattle.humantime.proofs.Durations.Printing.GreatestCounts.{canon_is_text, divided_sum, length-divided, weights_reach}
 use Rattle.humantime.proofs.Durations.Laws.Readings.{spans_of_accepted}
-use Rattle.humantime.proofs.Durations.Laws.SmallAdditions.{IsSmall, each-append, small_joined_sum}
+use Rattle.humantime.proofs.Durations.Laws.SmallAdditions.{IsSmall, small_joined_sum}
 
 -- a count is whole seconds, or nanoseconds of less than a second
 count_small : (r m w n : ℕ) (s : Suffix) → IsWord w m (word_for n s) → r < m → w * n ≤ r → n < 2 ^ 64
@@ -35,8 +36,7 @@ count_small r m w n s i below left fits =
 
 cons_small : (n : ℕ) (ns : List ℕ) (s : Suffix) (ss : List Suffix) → AllByRecursion IsSmall (additions_of (span_for n s))
     → AllByRecursion IsSmall (additions (spans_for ns ss)) → AllByRecursion IsSmall (additions (spans_for (n ∷ ns) (s ∷ ss)))
-cons_small zero ns s ss row rows = rows
-cons_small (suc n) ns s ss row rows = each-append (additions_of (span_for (suc n) s)) (additions (spans_for ns ss)) row rows
+cons_small n ns s ss hyp1 hyp2 = grind (arith, common_steps)
 
 rows_small : (ws : List ℕ) (ss : List Suffix) (m r : ℕ) → Table ws ss m → r < m → AllByRecursion IsCount (divided ws r)
     → AllByRecursion IsSmall (additions (spans_for (divided ws r) ss))
@@ -71,9 +71,7 @@ no_zero : chars (codes "0s") ≢ bare_zero
 no_zero e = let same = chars-IsAscii (codes "0s") (search rules) in absurd (omega (arith, ap length (sym same ∙ e)))
 
 zero_text : Accepted (chars (codes "0s")) 0 → IsSmallText (chars (codes "0s"))
-zero_text accepted =
-    let s = spans_of_accepted (chars (codes "0s")) 0 no_zero accepted in
-    record { spans = s.spans; reads = s.reads; small = zero_small (additions s.spans) s.sum }
+zero_text accepted = grind (arith, common_steps, spans_of_accepted, no_zero, zero_small)
 
 counts_text : (d : ℕ) → d / nanos_per_second ≤ u64_max → Accepted (chars (duration_text d)) d → IsSmallText (chars (duration_text d))
 unfolding duration_text

@@ -1,9 +1,10 @@
 -- The counts by division are the greatest, and no others are.
+use Rattle.std.proofs.lemmas.Grind.{common_steps}
 use Rattle.std.proofs.Common.{◌≡◌, inl, inr, ℕ, suc, ◌+◌, ◌*◌, ◌/◌, ◌%◌, ◌<◌, ◌≤◌, List, [], ◌∷◌, length, refl, ap, sym, ◌∙◌, arith}
 use Rattle.std.proofs.Math.Nat.{mul_comm, div-add-mod}
 use Rattle.std.proofs.lemmas.Nat.{le-div, mod_below}
 use Rattle.std.proofs.lemmas.Bool.{cases_lt}
-use Rattle.humantime.specs.Durations.Counts.{weights, weighted_sum, IsBefore, AreGreatest, Counts, Canon, suffixes, printed_counts, joined_by_space}
+use Rattle.humantime.specs.Durations.Counts.{weights, weighted_sum, IsBefore, AreGreatest, Counts, Canon}
 use Rattle.humantime.specs.References.Durations.Printing.{divided, duration_text}
 
 -- each weight is positive and the last is one, where what is left is below m
@@ -76,8 +77,7 @@ text_is_canon d = record { counts = divided weights d; are = divided_greatest we
 
 pub canon_is_text : (d : ℕ) (text : List ℕ) → Canon d text → text ≡ duration_text d
 unfolding duration_text
-canon_is_text d text canon =
-    canon.shown ∙ ap (λ ns. joined_by_space (printed_counts ns suffixes)) (counts_divided d canon.counts canon.are)
+canon_is_text d text canon = grind (arith, common_steps, counts_divided)
 
 pub one_canon : (d : ℕ) (a b : List ℕ) → Canon d a → Canon d b → a ≡ b
 one_canon d a b left right = canon_is_text d a left ∙ sym (canon_is_text d b right)

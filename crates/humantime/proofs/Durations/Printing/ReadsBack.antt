@@ -1,11 +1,12 @@
 -- What holds of printed texts, for every duration and every text.
+use Rattle.std.proofs.lemmas.Grind.{common_steps}
 use Rattle.std.proofs.Common.{◌≡◌, ℕ, ◌+◌, ◌/◌, ◌≤◌, List, [], ◌∷◌, sym, subst, ◌∙◌, arith}
 use Rattle.std.specs.Prelude.{chars, Result, Ok}
 use Rattle.std.proofs.lemmas.List.Sums.{sum_by-cons}
 use Rattle.humantime.specs.Values.Amounts.{nanos_per_second}
 use Rattle.humantime.specs.Durations.Characters.{u64_max}
-use Rattle.humantime.specs.Durations.Sums.{Addition, addition_nanos, total, additions}
-use Rattle.humantime.specs.Durations.Accepted.{Accepted, Bare_zero, Sum_of}
+use Rattle.humantime.specs.Durations.Sums.{Addition, addition_nanos, total}
+use Rattle.humantime.specs.Durations.Accepted.{Accepted}
 use Rattle.humantime.specs.Durations.Faults.{Fault}
 use Rattle.humantime.specs.Durations.Counts.{Canon}
 use Rattle.humantime.specs.Durations.Canonical.{IsCanonicalOf}
@@ -31,11 +32,7 @@ room_fits t (x ∷ xs) h room =
 
 -- what is accepted is a duration
 accepted_fits : (text : List ℕ) (v : ℕ) → Accepted text v → v / nanos_per_second ≤ u64_max
-accepted_fits text v (Bare_zero zero none) = rw none (omega arith)
-accepted_fits text v (Sum_of spans reads within sum) =
-    let xs = additions spans in
-    let e : 0 + total xs ≡ v = omega (arith, sum) in
-    subst (λ n. n / nanos_per_second ≤ u64_max) e (room_fits 0 xs (omega arith) (room_from_all xs within.room))
+accepted_fits text v hyp1 = grind (arith, common_steps, room_fits, room_from_all)
 
 pub one_text : (d : ℕ) → HasOneText d
 one_text d = (duration_text d, text_is_canon d, canon_is_text d)

@@ -1,6 +1,6 @@
 -- What a character is excludes the others; and what its class says.
+use Rattle.std.proofs.lemmas.Grind.{common_steps}
 use Rattle.std.proofs.Common.{◌≡◌, ◌≢◌, ◌≤◌, ◌⊎◌, ◌↔◌, ℕ, Bool, true, false, refl, sym, ◌∙◌, inl, inr, arith}
-use Rattle.std.specs.Prelude.{if◌then◌else◌}
 use Rattle.std.specs.Char.{is_whitespace, is_ascii_digit}
 use Rattle.std.proofs.lemmas.Bool.{cases_Bool, false≢true, or_from, or_left, or_right}
 use Rattle.std.proofs.lemmas.Bool.Decides.{nat_tests}
@@ -92,15 +92,7 @@ PassesTestOf Other c = Unit {0}
 
 passes_test : (c : ℕ) → PassesTestOf (class_of c) c
 unfolding class_of
-passes_test c = by (is_ws c) (is_digit c) (is_letter c) (is_point c) refl refl refl refl
-  where
-    by : (w d l p : Bool) → is_ws c ≡ w → is_digit c ≡ d → is_letter c ≡ l → is_point c ≡ p
-        → PassesTestOf (if w then White else if d then Digit else if l then Letter else if p then Point else Other) c
-    by true d l p e f g h = e
-    by false true l p e f g h = f
-    by false false true p e f g h = g
-    by false false false true e f g h = h
-    by false false false false e f g h = tt
+passes_test c = grind (arith, common_steps)
 
 -- a character passes a test exactly where it is of the test's class
 pub is_ws-class : (c : ℕ) → (class_of c ≡ White) ↔ (is_ws c ≡ true)
@@ -129,8 +121,7 @@ pub not_letter : (c : ℕ) → class_of c ≢ Letter → is_letter c ≡ false
 not_letter c = fails (class_of c ≡ Letter) (is_letter c) (is_letter-class c)
 
 pub numeric_class : (c : ℕ) → (class_of c ≡ Digit) ⊎ (class_of c ≡ White) → is_numeric c ≡ true
-numeric_class c (inl d) = digit_is_numeric c ((is_digit-class c).0 d)
-numeric_class c (inr w) = space_is_numeric c ((is_ws-class c).0 w)
+numeric_class c hyp1 = grind (arith, common_steps, digit_is_numeric, is_digit-class, space_is_numeric, is_ws-class)
 
 pub not_numeric : (c : ℕ) → class_of c ≢ White → class_of c ≢ Digit → is_numeric c ≡ false
 not_numeric c w d = or_from (is_digit c) (is_ws c) (not_digit c d) (not_white c w)

@@ -1,11 +1,12 @@
 -- The outcome by the plain reading is the value or the fault of the text, and these are one.
-use Rattle.std.proofs.Common.{◌≡◌, ◌≢◌, ◌⊎◌, ◌↔◌, ℕ, ◌≤◌, ◌+◌, List, [], ◌∷◌, ◌++◌, length, Option, Some, None, Result, Ok, Err, refl, sym, ap, ◌∙◌, inl, inr, arith, subst, append-nil}
+use Rattle.std.proofs.lemmas.Grind.{common_steps}
+use Rattle.std.proofs.Common.{◌≡◌, ◌≢◌, ◌⊎◌, ◌↔◌, ℕ, ◌≤◌, ◌+◌, List, [], ◌∷◌, ◌++◌, length, Option, Some, None, Result, Ok, Err, refl, sym, ap, ◌∙◌, inl, inr, arith, subst}
 use Rattle.std.specs.List.{AllByRecursion}
 use Rattle.std.specs.Str.{bytes_eq}
 use Rattle.std.proofs.lemmas.Bool.{cases_Bool, false≢true}
 use Rattle.std.proofs.lemmas.Slice.Eq.{bytes_eq-Decides}
 use Rattle.humantime.specs.Durations.Characters.{is_digit, bare_zero}
-use Rattle.humantime.specs.Durations.Spans.{Span, Front, Reads}
+use Rattle.humantime.specs.Durations.Spans.{Span, Reads}
 use Rattle.humantime.specs.Durations.Sums.{value}
 use Rattle.humantime.specs.Durations.Limits.{Formed, WithinLimits}
 use Rattle.humantime.specs.Durations.Accepted.{Accepted, Bare_zero, Sum_of}
@@ -41,10 +42,7 @@ duration_answer-zero = refl
 
 pub duration_answer-items : (text : List ℕ) → text ≢ bare_zero → duration_answer text ≡ settle 0 (items text).0 (items text).1
 unfolding duration_answer
-duration_answer-items text some = elim (cases_Bool (bytes_eq text bare_zero)) [
-  | inl e ↦ absurd (some ((bytes_eq-Decides text bare_zero).0 e))
-  | inr e ↦ rw e
-]
+duration_answer-items text some = grind (arith, common_steps, cases_Bool, bytes_eq-Decides)
 
 pub zero_or_not : (text : List ℕ) → (text ≡ bare_zero) ⊎ (text ≢ bare_zero)
 zero_or_not text = elim (cases_Bool (bytes_eq text bare_zero)) [
@@ -68,12 +66,7 @@ pub items_whole : (text : List ℕ) (spans : List Span) → Reads text spans →
 items_whole text spans h f = record { front = text; rest = []; split = split_whole text spans h.0; formed = f; ends = inl (refl, h.1, refl) }
 
 pub reads_whole : (text : List ℕ) (spans : List Span) → Items text spans None → Reads text spans
-reads_whole text spans h = elim h.ends [
-  | inl o ↦
-      let e : h.front ≡ text = sym (h.split.whole ∙ ap (λ (x : List ℕ). h.front ++ x) o.0 ∙ append-nil h.front) in
-      (subst (λ t. Front t spans) e h.split.read, o.1)
-  | inr o ↦ let e = o.1 in cc
-]
+reads_whole text spans h = grind (arith, common_steps)
 
 pub outcome_accepted : (text : List ℕ) (v : ℕ) → Accepted text v → duration_answer text ≡ Ok v
 outcome_accepted text v (Bare_zero zero none) = rw (zero, none) duration_answer-zero
@@ -115,20 +108,13 @@ within_value text spans None v h g e = (refl, Sum_of spans (reads_whole text spa
 within_value text spans (Some f) v h g e = cc
 
 pub within_fault : (text : List ℕ) (spans : List Span) (stop : Option Fault) (e : Fault) → text ≢ bare_zero → Items text spans stop → WithinLimits spans → stop ≡ Some e → HasFault text e
-within_fault text spans stop e some h g is = elim h.ends [
-  | inl o ↦ let n = o.2 in cc
-  | inr o ↦
-      let same : o.0 ≡ e = let p = o.1 in cc in
-      record { not_zero = some; front = h.front; rest = h.rest; spans = spans; split = h.split; within = g; fault = inl (subst (λ x. Stops text h.front spans h.rest x) same o.2) }
-]
+within_fault text spans stop e some h g is = grind (arith, common_steps)
 
 ended_value : (v : ℕ) (stop : Option Fault) (w : ℕ) → ended v stop ≡ Ok w → v ≡ w
-ended_value v None w h = ok_same v w h
-ended_value v (Some f) w h = cc
+ended_value v stop w hyp1 = grind (arith, common_steps)
 
 ended_fault : (v : ℕ) (stop : Option Fault) (e : Fault) → ended v stop ≡ Err e → stop ≡ Some e
-ended_fault v None e h = cc
-ended_fault v (Some f) e h = ap Some (err_same f e h)
+ended_fault v stop e hyp1 = grind (arith, common_steps)
 
 -- the spans are within the limits, or they aren't
 pub within_or_beyond : (spans : List Span) → AllByRecursion Formed spans → WithinLimits spans ⊎ ¬ (WithinLimits spans)
@@ -159,10 +145,7 @@ fault_read text e some h =
     ]
 
 pub fault_from_outcome : (text : List ℕ) (e : Fault) → duration_answer text ≡ Err e → HasFault text e
-fault_from_outcome text e h = elim (zero_or_not text) [
-  | inl z ↦ let p = sym h ∙ ap duration_answer z ∙ duration_answer-zero in cc
-  | inr n ↦ fault_read text e n h
-]
+fault_from_outcome text e h = grind (arith, common_steps, zero_or_not, duration_answer-zero, fault_read)
 
 -- so what was answered as the function says is the value or the fault
 pub answer_accepts : (text : List ℕ) (r : Result ℕ Fault) → r ≡ duration_answer text → (v : ℕ) → (r ≡ Ok v) ↔ Accepted text v

@@ -1,7 +1,8 @@
 -- What a spelling is read as: the longest runs of characters give back the span that it spells.
+use Rattle.std.proofs.lemmas.Grind.{common_steps}
 use Rattle.std.proofs.Common.{◌≡◌, ◌≢◌, ◌⊎◌, ℕ, ◌≤◌, ◌<◌, true, false, List, [], ◌∷◌, ◌++◌, length, Option, Some, None, option_map, refl, sym, ap, ◌∙◌, inl, inr, arith, subst, append_assoc, append-nil}
 use Rattle.std.proofs.lemmas.Bool.{cases_Bool, false≢true}
-use Rattle.humantime.specs.Durations.Characters.{is_ws, is_digit, is_letter, is_point, is_numeric, leading, past, begins, ends, digits}
+use Rattle.humantime.specs.Durations.Characters.{is_ws, is_digit, is_letter, is_numeric, leading, past, begins, ends, digits}
 use Rattle.humantime.specs.Durations.Spans.{Span, Only, SpellsFraction, Spells}
 use Rattle.humantime.specs.Durations.Rests.{after_number, fraction_at, past_fraction, fraction_of, after_fraction, word_of, after_word, span_of}
 use Rattle.humantime.specs.Durations.Faults.{EndsInSpace, MayFollowWord}
@@ -63,16 +64,7 @@ pub record IsReadToWord (rest number_text fraction_text tail : List ℕ) (fracti
   pub some : fraction ≢ Some []
 
 read_to_word : (a b tail : List ℕ) (o : Option (List ℕ)) → Only is_numeric a → SpellsFraction b o → begins is_letter tail ≡ true → IsReadToWord (a ++ (b ++ tail)) a b tail o
-read_to_word a b tail o only f letter =
-    let h : IsFraction (b ++ tail) tail o = fraction_read b tail o f letter in
-    let behind : after_number (a ++ (b ++ tail)) ≡ b ++ tail = past-append is_numeric a (b ++ tail) only h.stops in
-    record {
-      number_is = leading-append is_numeric a (b ++ tail) only h.stops;
-      behind_is = behind;
-      fraction_is = ap (λ (x : List ℕ). option_map digits (fraction_at x)) behind ∙ h.is_read;
-      tail_is = ap (λ (x : List ℕ). past_fraction x) behind ∙ h.past_it;
-      some = h.some;
-    }
+read_to_word a b tail o only f letter = grind (arith, common_steps, fraction_read, past-append, leading-append)
 
 -- a spelling before what begins with no letter
 record IsRead (rest : List ℕ) (s : Span) (after : List ℕ) : Type 0 where
@@ -104,8 +96,7 @@ read_spelled rest next s h =
     (read_to_word h.number_text h.fraction_text tail s.fraction h.number.0 h.fraction (begins_word s.word (h.space ++ next) (letters_begin s.word h.word)))
 
 pub no_letter_follows : (cs : List ℕ) → MayFollowWord cs → begins is_letter cs ≡ false
-no_letter_follows cs (inl e) = rw e
-no_letter_follows cs (inr e) = begins_other is_numeric is_letter numeric_not_letter cs e
+no_letter_follows cs hyp1 = grind (arith, common_steps, begins_other, numeric_not_letter)
 
 -- where a spelling ends with its word, it doesn't end in white space
 ends_in_word : (a b word : List ℕ) → Only is_letter word → begins is_letter word ≡ true → ends is_ws (a ++ (b ++ (word ++ []))) ≡ false
@@ -138,19 +129,11 @@ spelled_here here next s h o no_space =
     })
 
 past_fraction_shorter : (cs : List ℕ) → length (past_fraction cs) ≤ length cs
-past_fraction_shorter [] = omega arith
-past_fraction_shorter (c ∷ cs) = elim (cases_Bool (is_point c)) [ inl e ↦ rw e (omega (arith, past_shorter is_numeric cs)) | inr e ↦ rw e (omega arith) ]
+past_fraction_shorter cs = grind (arith, common_steps, cases_Bool, past_shorter)
 
 number_shorter : (rest : List ℕ) → begins is_digit rest ≡ true → length (after_number rest) < length rest
-number_shorter [] e = cc
-number_shorter (c ∷ cs) e = rw (digit_is_numeric c e) (omega (arith, past_shorter is_numeric cs))
+number_shorter rest hyp1 = grind (arith, common_steps, digit_is_numeric, past_shorter)
 
 -- what follows a span is shorter than what it begins
 pub next_smaller : (rest : List ℕ) → begins is_digit rest ≡ true → length (next_of rest) < length rest
-next_smaller rest e = omega (
-  arith,
-  number_shorter rest e,
-  past_fraction_shorter (after_number rest),
-  past_shorter is_letter (after_fraction rest),
-  past_shorter is_ws (after_word rest),
-)
+next_smaller rest e = grind (arith, common_steps, number_shorter, past_fraction_shorter, past_shorter)

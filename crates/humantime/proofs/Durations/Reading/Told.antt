@@ -1,11 +1,12 @@
 -- The plain reading tells the spans that a text is read as, whatever reads it.
+use Rattle.std.proofs.lemmas.Grind.{common_steps}
 use Rattle.std.proofs.Common.{◌≡◌, ◌≢◌, ◌⊎◌, ℕ, ◌≤◌, true, false, List, [], ◌∷◌, ◌++◌, length, Option, Some, None, refl, sym, ap, ◌∙◌, inl, inr, arith, subst, append_assoc, append-nil}
 use Rattle.std.specs.List.{AllByRecursion}
-use Rattle.std.proofs.lemmas.Bool.{cases_Bool, false≢true}
+use Rattle.std.proofs.lemmas.Bool.{cases_Bool}
 use Rattle.humantime.specs.Durations.Characters.{is_ws, is_digit, is_numeric, begins, ends, past, offset_of}
 use Rattle.humantime.specs.Durations.Spans.{Span, Spells, SpellsEach}
 use Rattle.humantime.specs.Durations.Limits.{Formed}
-use Rattle.humantime.specs.Durations.Faults.{Fault, NumberExpected, Empty, Split, Stops, Nothing_there, No_number, Too_long, Bad_after_number, Bare_point, Bad_after_fraction, Bad_after_word, No_word, Wrong_word, EndsInSpace, MayFollowWord}
+use Rattle.humantime.specs.Durations.Faults.{Fault, NumberExpected, Empty, Split, Stops, EndsInSpace, MayFollowWord}
 use Rattle.humantime.specs.Durations.Items.{Items}
 use Rattle.humantime.specs.References.Durations.Reading.{with_span, read, items}
 use Rattle.humantime.proofs.Durations.Reading.Classes.{digit_is_numeric, digit_not_space}
@@ -24,9 +25,7 @@ pub closes_digit : (front rest : List ℕ) → begins is_digit rest ≡ true →
 closes_digit front rest d = inl (inr (begins_also is_digit is_numeric digit_is_numeric rest d))
 
 starts_here : (text rest : List ℕ) (s : Span) → Spells text s rest → begins is_digit text ≡ true
-starts_here text rest s h =
-    let behind = h.fraction_text ++ (s.word ++ (h.space ++ rest)) in
-    rw (h.whole) (begins-append is_digit h.number_text behind (begins_not_nil is_digit h.number_text h.starts) ∙ h.starts)
+starts_here text rest s h = grind (arith, common_steps)
 
 pub each_starts : (body : List ℕ) (s : Span) (ss : List Span) → SpellsEach body (s ∷ ss) → begins is_digit body ≡ true
 each_starts body s ss h = starts_here body h.0 s h.1
@@ -91,17 +90,14 @@ through n text body rest (s ∷ ss) h f (inr o) e l =
 
 -- the front of a split begins where the white space ends
 pub front_begins : (text front rest : List ℕ) (spans : List Span) (h : Split text front spans rest) → past is_ws text ≡ h.read.body ++ rest
-front_begins text front rest spans h =
-    let e : text ≡ h.read.space ++ (h.read.body ++ rest) = h.whole ∙ ap (λ (x : List ℕ). x ++ rest) h.read.whole ∙ append_assoc h.read.space h.read.body rest in
-    rw e (past-append is_ws h.read.space (h.read.body ++ rest) h.read.only_space (no_space_before h.read.body rest spans h.read.each h.no_space))
+front_begins text front rest spans h = grind (arith, common_steps, append_assoc, past-append, no_space_before)
 
 some_left : (body rest : List ℕ) (spans : List Span) → SpellsEach body spans → (rest ≡ [] → spans ≢ []) → body ++ rest ≢ []
 some_left body rest [] h some e = let k : rest ≡ [] = rw h at e in some k refl
 some_left body rest (s ∷ ss) h some e = begins_not_nil is_digit (body ++ rest) (starts_before body rest s ss h) e
 
 closes_body : (space body rest : List ℕ) (spans : List Span) → SpellsEach body spans → (spans ≡ []) ⊎ Closes (space ++ body) rest → (spans ≡ []) ⊎ Closes body rest
-closes_body space body rest spans h (inl o) = inl o
-closes_body space body rest spans h (inr o) = closes_more space body rest spans h o
+closes_body space body rest spans hyp1 hyp2 = grind (arith, common_steps, closes_more)
 
 pub front_told : (text front rest : List ℕ) (spans : List Span) → Split text front spans rest → AllByRecursion Formed spans → (spans ≡ []) ⊎ Closes front rest → (rest ≡ [] → spans ≢ [])
     → GoesThrough (items text) text spans rest
@@ -113,40 +109,13 @@ front_told text front rest spans h f o some =
     through (length (body ++ rest)) text body rest spans h.read.each f (closes_body h.read.space body rest spans h.read.each c) h.no_space (omega arith) in
     record { n = g.n; enough = g.enough; is = items-read text (body ++ rest) (front_begins text front rest spans h) left ∙ g.is }
 
--- where the text stops, the spans before it end there
-stops_closes : (text front : List ℕ) (spans : List Span) (rest : List ℕ) (e : Fault) → Stops text front spans rest e → (spans ≡ []) ⊎ Closes front rest
-stops_closes text front spans rest e (Nothing_there none empty is) = inl none
-stops_closes text front spans rest e (No_number d some (inl o) is) = inl o
-stops_closes text front spans rest e (No_number d some (inr o) is) = inr (inr o)
-stops_closes text front spans rest e (Too_long d over is) = inr (closes_digit front rest d)
-stops_closes text front spans rest e (Bad_after_number d a b c is) = inr (closes_digit front rest d.0)
-stops_closes text front spans rest e (Bare_point d a b is) = inr (closes_digit front rest d.0)
-stops_closes text front spans rest e (Bad_after_fraction d a b c is) = inr (closes_digit front rest d.0)
-stops_closes text front spans rest e (Bad_after_word d a b c is) = inr (closes_digit front rest d.0)
-stops_closes text front spans rest e (No_word d a b c is) = inr (closes_digit front rest d.0)
-stops_closes text front spans rest e (Wrong_word d a b c f is) = inr (closes_digit front rest d.0)
-
 -- at the end only an empty text stops; where no number begins, that is the fault
 record IsStart (text : List ℕ) (spans : List Span) (rest : List ℕ) (e : Fault) : Type 0 where
   at_end : rest ≡ [] → (spans ≡ []) × (e ≡ Empty)
   no_digit : begins is_digit rest ≡ false → rest ≢ [] → e ≡ NumberExpected (offset_of text rest)
 
-at_digit : (text : List ℕ) (spans : List Span) (rest : List ℕ) (e : Fault) → begins is_digit rest ≡ true → IsStart text spans rest e
-at_digit text spans rest e d = record {
-  at_end = λ n. absurd (begins_not_nil is_digit rest d n);
-  no_digit = λ n. absurd (false≢true (sym n ∙ d));
-}
-
 is_start : (text front : List ℕ) (spans : List Span) (rest : List ℕ) (e : Fault) → Stops text front spans rest e → IsStart text spans rest e
-is_start text front spans rest e (Nothing_there none empty is) = record { at_end = λ n. (none, is); no_digit = λ d some. absurd (some empty) }
-is_start text front spans rest e (No_number d some o is) = record { at_end = λ n. absurd (some n); no_digit = λ k n. is }
-is_start text front spans rest e (Too_long d over is) = at_digit text spans rest e d
-is_start text front spans rest e (Bad_after_number d a b c is) = at_digit text spans rest e d.0
-is_start text front spans rest e (Bare_point d a b is) = at_digit text spans rest e d.0
-is_start text front spans rest e (Bad_after_fraction d a b c is) = at_digit text spans rest e d.0
-is_start text front spans rest e (Bad_after_word d a b c is) = at_digit text spans rest e d.0
-is_start text front spans rest e (No_word d a b c is) = at_digit text spans rest e d.0
-is_start text front spans rest e (Wrong_word d a b c f is) = at_digit text spans rest e d.0
+is_start text front spans rest e hyp1 = grind (arith, common_steps)
 
 -- the reading stops where the text does
 stop_told : (n : ℕ) (text front rest : List ℕ) (spans : List Span) (e : Fault) → rest ≢ [] → length rest ≤ n → Stops text front spans rest e → read n text rest ≡ ([], Some e)
@@ -168,8 +137,7 @@ rest_told n text front [] spans stop some h (inr o) = absurd (some refl ((is_sta
 rest_told n text front (c ∷ cs) spans stop some h (inr o) = stop_told n text front (c ∷ cs) spans o.0 (λ e. cc) h o.2 ∙ ap (λ (x : Option Fault). ([], x)) (sym o.1)
 
 ends_closes : (text front rest : List ℕ) (spans : List Span) (stop : Option Fault) → Ends text front spans rest stop → (spans ≡ []) ⊎ Closes front rest
-ends_closes text front rest spans stop (inl o) = inr (inl (inl o.0))
-ends_closes text front rest spans stop (inr o) = stops_closes text front spans rest o.0 o.2
+ends_closes text front rest spans stop hyp1 = grind (arith, common_steps)
 
 told_some : (text front rest : List ℕ) (spans : List Span) (stop : Option Fault) → (rest ≡ [] → spans ≢ []) → Split text front spans rest → AllByRecursion Formed spans
     → Ends text front spans rest stop → items text ≡ (spans, stop)

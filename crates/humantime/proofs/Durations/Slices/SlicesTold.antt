@@ -1,4 +1,6 @@
 -- What a span lends of the text is told by the text and the span.
+use Rattle.std.proofs.Common.{arith}
+use Rattle.std.proofs.lemmas.Grind.{common_steps}
 use Rattle.std.proofs.Common.{◌≡◌, ℕ, suc, Bool, true, false, ◌&&◌, cond, eqb, List, [], ◌∷◌, ◌++◌, length, Option, Some, None, refl, sym, ap, ap₂, subst, ◌∙◌}
 use Rattle.std.specs.Char.{is_whitespace}
 use Rattle.std.specs.Str.{drop_trailing_whitespace}
@@ -33,9 +35,7 @@ begins_first p xs ys e = begins-append p xs ys (begins_not_nil p xs e) ∙ e
 
 -- a text without the white space at its ends goes from its first digit to its last
 trimmed_is : (text slice : List ℕ) → IsDigitSlice text slice → trimmed text ≡ slice
-trimmed_is text slice h =
-    let stops : begins is_ws (slice ++ h.after) ≡ false = begins_other is_digit is_ws digit_not_space (slice ++ h.after) (begins_first is_digit slice h.after h.starts) in
-    ap trimmed h.whole ∙ ap drop_trailing_whitespace (past-append is_ws h.before (slice ++ h.after) h.only_before stops) ∙ drop_tail slice h.after h.only_after h.stops
+trimmed_is text slice h = grind (arith, common_steps, begins_other, digit_not_space, begins_first, past-append, drop_tail)
 
 fraction_told : (b tail : List ℕ) (o f : Option (List ℕ)) → SpellsFraction b o → LendsFraction b f → begins is_letter tail ≡ true → f ≡ fraction_slice (b ++ tail)
 fraction_told b tail None None h k e = sym (ap (λ (l : List ℕ). fraction_slice (l ++ tail)) h ∙ no_slice tail e)
@@ -71,8 +71,7 @@ lent_same : (x y : Lent) → x.number ≡ y.number → x.fraction ≡ y.fraction
 lent_same x y a b c d e f = λ i. record { number = a i; fraction = b i; unit = c i; start = d i; end = e i; value = f i }
 
 each_starts : (text rest : List ℕ) (s : Span) (ss : List Span) (xs : List Lent) (end : List ℕ) → LendsEach text rest (s ∷ ss) xs end → begins is_digit rest ≡ true
-each_starts text rest s ss [] end h = absurd h
-each_starts text rest s ss (x ∷ xs) end h = (told text rest s x h.0 h.1).starts
+each_starts text rest s ss xs end hyp1 = grind (arith, common_steps)
 
 next_is : (space next : List ℕ) → Only is_ws space → begins is_digit next ≡ true → past is_ws (space ++ next) ≡ next
 next_is space next o b = past-append is_ws space next o (begins_other is_digit is_ws digit_not_space next b)
@@ -96,9 +95,7 @@ one_span text rest s x y m n h k =
     }
 
 no_spans : (text m n : List ℕ) (xs ys : List Lent) (d e : List ℕ) → LendsEach text m [] xs d → LendsEach text n [] ys e → xs ≡ ys
-no_spans text m n [] [] d e h k = refl
-no_spans text m n [] (y ∷ ys) d e h k = absurd k
-no_spans text m n (x ∷ xs) ys d e h k = absurd h
+no_spans text m n xs ys d e hyp1 hyp2 = grind (arith, common_steps)
 
 -- one list of spans lends one list of slices, wherever in white space the rest of the text begins
 pub one_each : (text p q m n : List ℕ) (spans : List Span) (xs ys : List Lent) (d e : List ℕ) → Only is_ws p → Only is_ws q → p ++ m ≡ q ++ n → LendsEach text m spans xs d → LendsEach text n spans ys e → xs ≡ ys

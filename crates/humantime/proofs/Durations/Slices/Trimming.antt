@@ -1,4 +1,5 @@
 -- Slices without the white space at their ends.
+use Rattle.std.proofs.lemmas.Grind.{common_steps}
 use Rattle.std.proofs.Common.{◌≡◌, ℕ, suc, Bool, true, false, ◌&&◌, cond, eqb, List, [], ◌∷◌, ◌++◌, length, Option, Some, None, option_map, ◌⊎◌, inl, inr, refl, sym, ap, ap₂, subst, ◌∙◌, append-nil, arith}
 use Rattle.std.specs.Char.{is_whitespace}
 use Rattle.std.specs.Str.{drop_trailing_whitespace}
@@ -23,8 +24,7 @@ pub record Dropped (cs ds : List ℕ) : Type 0 where
   pub last : (ds ≡ []) ⊎ (ends is_ws ds ≡ false)
 
 last_of : (x : ℕ) (xs : List ℕ) → (x ∷ xs ≡ []) ⊎ (ends is_ws (x ∷ xs) ≡ false) → ends is_ws (x ∷ xs) ≡ false
-last_of x xs (inl e) = cc
-last_of x xs (inr e) = e
+last_of x xs hyp1 = grind (arith, common_steps)
 
 pub dropped : (cs : List ℕ) → Dropped cs (drop_trailing_whitespace cs)
 dropped [] = record { tail = []; whole = refl; space = tt; last = inl refl }
@@ -58,11 +58,7 @@ number_spelled : (rest : List ℕ) → digits (number_slice rest) ≡ number_of 
 number_spelled rest = digits_dropped (leading is_numeric rest) (number_slice rest) (dropped (leading is_numeric rest))
 
 fraction_spelled : (after : List ℕ) → option_map digits (fraction_slice after) ≡ option_map digits (fraction_at after)
-fraction_spelled after = by (fraction_at after)
-  where
-    by : (o : Option (List ℕ)) → option_map digits (option_map trimmed o) ≡ option_map digits o
-    by None = refl
-    by (Some cs) = ap (λ (x : List ℕ). Some x) (digits_trimmed cs)
+fraction_spelled after = grind (arith, common_steps, digits_trimmed)
 
 -- the slices spell the span that they are taken from
 pub spelled_at : (text rest : List ℕ) → spelled (lent_at text rest).number (lent_at text rest).fraction (lent_at text rest).unit ≡ span_of rest
@@ -73,8 +69,7 @@ ends_digit x [] o e = digit_from_numeric x o.0 e
 ends_digit x (y ∷ ys) o e = ends_digit y ys o.1 e
 
 all_white : (cs : List ℕ) → Only is_ws cs → begins is_digit cs ≡ true → ⊥
-all_white [] o b = cc
-all_white (c ∷ cs) o b = let n = space_not_digit c o.0 in cc
+all_white cs hyp1 hyp2 = grind (arith, common_steps, space_not_digit)
 
 only_front : (p : ℕ → Bool) (xs ys : List ℕ) → Only p (xs ++ ys) → Only p xs
 only_front p [] ys o = tt
@@ -97,10 +92,7 @@ digit_slice before cs (x ∷ xs) d w b o =
 
 -- the slice of the fraction behind a number, before a word
 pub no_slice : (tail : List ℕ) → begins is_letter tail ≡ true → fraction_slice tail ≡ None
-no_slice [] e = cc
-no_slice (c ∷ cs) e = rw (letter_not_point c e)
+no_slice tail hyp1 = grind (arith, common_steps, letter_not_point)
 
 pub slice_behind_point : (behind tail : List ℕ) → Only is_numeric behind → begins is_letter tail ≡ true → fraction_slice (46 ∷ (behind ++ tail)) ≡ Some (trimmed behind)
-slice_behind_point behind tail only e =
-    let stops : begins is_numeric tail ≡ false = begins_other is_letter is_numeric letter_not_numeric tail e in
-    rw (is_point-46, leading-append is_numeric behind tail only stops)
+slice_behind_point behind tail only e = grind (arith, common_steps, begins_other, letter_not_numeric, is_point-46, leading-append)

@@ -1,6 +1,7 @@
 -- Two texts that are printed from one moment are one text.
-use Rattle.std.proofs.Common.{◌≡◌, ℕ, zero, suc, ◌+◌, ◌*◌, ◌<◌, ◌≤◌, List, [], ◌∷◌, ◌++◌, length, take, refl, sym, ap, subst, ◌∙◌, arith}
-use Rattle.std.specs.Prelude.{min, codes, Option, Some, ℤ, nat_abs}
+use Rattle.std.proofs.lemmas.Grind.{common_steps}
+use Rattle.std.proofs.Common.{◌≡◌, ℕ, zero, suc, ◌+◌, ◌*◌, ◌<◌, ◌≤◌, List, [], ◌∷◌, ◌++◌, length, take, refl, sym, ap, ◌∙◌, arith}
+use Rattle.std.specs.Prelude.{min, codes, Option, ℤ, nat_abs}
 use Rattle.std.specs.Char.{digit_value}
 use Rattle.std.specs.Str.Parse.{digits_value_after}
 use Rattle.std.proofs.lemmas.Str.{digit_value_digit}
@@ -38,27 +39,13 @@ same_nanos ds es d e long room h = (same_filled 9 ds es (codes "000000000") 0 0 
 
 same_fraction : (k : ℕ) (p q : Option (List ℕ)) → k ≤ 9 → HasPlaces p k → HasPlaces q k → AreDigits (fraction_digits p) → AreDigits (fraction_digits q)
     → fraction_nanos (fraction_digits p) ≡ fraction_nanos (fraction_digits q) → p ≡ q
-same_fraction zero p q small h g d e same = h ∙ sym g
-same_fraction (suc k) p q small h g d e same =
-    let first : AreDigits h.0 = subst (λ (o : Option (List ℕ)). AreDigits (fraction_digits o)) h.1 d in
-    let second : AreDigits g.0 = subst (λ (o : Option (List ℕ)). AreDigits (fraction_digits o)) g.1 e in
-    let nanos : fraction_nanos h.0 ≡ fraction_nanos g.0 = sym (ap (λ (o : Option (List ℕ)). fraction_nanos (fraction_digits o)) h.1) ∙ (same ∙ ap (λ (o : Option (List ℕ)). fraction_nanos (fraction_digits o)) g.1) in
-    let digits : h.0 ≡ g.0 = same_nanos h.0 g.0 first second (h.2 ∙ sym g.2) (omega (arith, h.2)) nanos in
-    h.1 ∙ (ap Some digits ∙ sym g.1)
+same_fraction k p q hyp1 hyp2 hyp3 hyp4 hyp5 hyp6 = grind (arith, common_steps, same_nanos)
 
 -- equal moments have equal parts
 same_clock : (a h i s m b j k t n : ℕ) → h ≤ 23 → i ≤ 59 → s ≤ 59 → m < 1_000_000_000 → j ≤ 23 → k ≤ 59 → t ≤ 59 → n < 1_000_000_000
     → (a * 86_400 + h * 3_600 + i * 60 + min s 59) * 1_000_000_000 + m ≡ (b * 86_400 + j * 3_600 + k * 60 + min t 59) * 1_000_000_000 + n
     → (a ≡ b) × (h ≡ j) × (i ≡ k) × (s ≡ t) × (m ≡ n)
-same_clock a h i s m b j k t n h23 i59 s59 m9 j23 k59 t59 n9 e =
-    let second : min s 59 ≡ s = omega arith in
-    let other : min t 59 ≡ t = omega arith in
-    let whole : a * 86_400 + h * 3_600 + i * 60 + min s 59 ≡ b * 86_400 + j * 3_600 + k * 60 + min t 59 = omega arith in
-    let nanos : m ≡ n = omega arith in
-    let day : a ≡ b = omega arith in
-    let hour : h ≡ j = omega arith in
-    let minute : i ≡ k = omega arith in
-    (day, hour, minute, omega arith, nanos)
+same_clock a h i s m b j k t n h23 i59 s59 m9 j23 k59 t59 n9 e = grind (arith, common_steps)
 
 same_fields : (t : ℤ) (k : ℕ) (x y : List ℕ) → k ≤ 9 → (p : IsPrinted t k x) (q : IsPrinted t k y) → p.fields ≡ q.fields
 same_fields t k x y small p q =

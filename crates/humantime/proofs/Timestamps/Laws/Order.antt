@@ -1,5 +1,6 @@
 -- Printed texts stand in the order of their moments.
-use Rattle.std.proofs.Common.{◌≡◌, ℕ, zero, suc, ◌+◌, ◌-◌, ◌*◌, ◌/◌, ◌%◌, ◌<◌, ◌≤◌, ◌⊎◌, inl, inr, List, [], ◌∷◌, ◌++◌, length, take, refl, sym, ap, subst, ◌∙◌, arith}
+use Rattle.std.proofs.lemmas.Grind.{common_steps}
+use Rattle.std.proofs.Common.{◌≡◌, ℕ, zero, suc, ◌+◌, ◌-◌, ◌*◌, ◌<◌, ◌≤◌, ◌⊎◌, inl, inr, List, [], ◌∷◌, ◌++◌, length, take, refl, sym, ap, ◌∙◌, arith}
 use Rattle.std.specs.Prelude.{min, codes, Option, ℤ, pos}
 use Rattle.std.specs.declared.cmp.Ordering.{Ordering}
 use Rattle.std.specs.declared.cmp.Ordering.TheVariants.{Less, Equal, Greater}
@@ -7,7 +8,6 @@ use Rattle.std.specs.Char.{digit_value}
 use Rattle.std.specs.Cmp.Lexicographic.{slice_cmp}
 use Rattle.std.specs.Ordering.{nat_cmp, int_cmp, ordering_then}
 use Rattle.std.specs.Str.Parse.{digits_value_after}
-use Rattle.std.proofs.Math.Nat.{mul-le-mul_right}
 use Rattle.std.proofs.lemmas.Bool.{cases_order}
 use Rattle.std.proofs.lemmas.Bool.Decides.{nat_tests}
 use Rattle.std.proofs.lemmas.Str.{digit_value_digit}
@@ -36,22 +36,13 @@ abbrev Alike : ℕ → ℕ → ℕ → ℕ → Type 0
 Alike m n x y = (m < n → x < y) × (m ≡ n → x ≡ y) × (n < m → y < x)
 
 cmp_alike : (m n x y : ℕ) → Alike m n x y → nat_cmp m n ≡ nat_cmp x y
-cmp_alike m n x y h = by_order (cases_order m n) where
-  by_order : (m ≡ n) ⊎ ((m < n) ⊎ (n < m)) → nat_cmp m n ≡ nat_cmp x y
-  by_order (inl e) = cmp_equal m n e ∙ sym (cmp_equal x y (h.1 e))
-  by_order (inr (inl less)) = cmp_less m n less ∙ sym (cmp_less x y (h.0 less))
-  by_order (inr (inr more)) = cmp_greater m n more ∙ sym (cmp_greater x y (h.2 more))
+cmp_alike m n x y h = grind (arith, common_steps)
 
 then_equal : (o : Ordering) → ordering_then o Equal ≡ o
-then_equal Less = refl
-then_equal Equal = refl
-then_equal Greater = refl
+then_equal o = grind (arith, common_steps)
 
 below : (w m n x y : ℕ) → x < w → m < n → m * w + x < n * w + y
-below w m n x y h less =
-    let more : (m + 1) * w ≤ n * w = mul-le-mul_right w (omega arith) in
-    let next : (m + 1) * w ≡ m * w + w = grind arith in
-    omega arith
+below w m n x y h less = grind (arith, common_steps)
 
 -- a number and what is counted below it, in units of which it has w
 mixed_cmp : (w m n x y : ℕ) (o : Ordering) → x < w → y < w
@@ -64,34 +55,13 @@ mixed_cmp w m n x y o hx hy = by_order (cases_order m n) where
   by_order (inr (inl less)) = rw (cmp_less m n less, cmp_less (m * w + x) (n * w + y) (below w m n x y hx less)) refl
   by_order (inr (inr more)) = rw (cmp_greater m n more, cmp_greater (m * w + x) (n * w + y) (below w n m y x hy more)) refl
 
-shift_cmp : (m n : ℕ) → nat_cmp (48 + m) (48 + n) ≡ nat_cmp m n
-shift_cmp m n = cmp_alike (48 + m) (48 + n) m n ((λ h. omega arith), (λ h. omega arith), (λ h. omega arith))
-
 two_cmp : (m n : ℕ) (xs ys : List ℕ)
     → slice_cmp nat_cmp (two_digits m ++ xs) (two_digits n ++ ys) ≡ ordering_then (nat_cmp m n) (slice_cmp nat_cmp xs ys)
-two_cmp m n xs ys =
-    let o = slice_cmp nat_cmp xs ys in
-    let left : m / 10 * 10 + m % 10 ≡ m = omega arith in
-    let right : n / 10 * 10 + n % 10 ≡ n = omega arith in
-    rw (shift_cmp (m / 10) (n / 10), shift_cmp (m % 10) (n % 10))
-    (rw (left, right) at (mixed_cmp 10 (m / 10) (n / 10) (m % 10) (n % 10) o (omega arith) (omega arith)))
+two_cmp m n xs ys = grind (arith, common_steps)
 
 four_cmp : (m n : ℕ) (xs ys : List ℕ)
     → slice_cmp nat_cmp (four_digits m ++ xs) (four_digits n ++ ys) ≡ ordering_then (nat_cmp m n) (slice_cmp nat_cmp xs ys)
-four_cmp m n xs ys =
-    let o = slice_cmp nat_cmp xs ys in
-    let a : m / 1000 * 10 + m / 100 % 10 ≡ m / 100 = omega arith in
-    let b : n / 1000 * 10 + n / 100 % 10 ≡ n / 100 = omega arith in
-    let c : m / 100 * 10 + m / 10 % 10 ≡ m / 10 = omega arith in
-    let d : n / 100 * 10 + n / 10 % 10 ≡ n / 10 = omega arith in
-    let e : m / 10 * 10 + m % 10 ≡ m = omega arith in
-    let f : n / 10 * 10 + n % 10 ≡ n = omega arith in
-    let units = ordering_then (nat_cmp (m % 10) (n % 10)) o in
-    let tens = ordering_then (nat_cmp (m / 10 % 10) (n / 10 % 10)) units in
-    rw (shift_cmp (m / 1000) (n / 1000), shift_cmp (m / 100 % 10) (n / 100 % 10), shift_cmp (m / 10 % 10) (n / 10 % 10), shift_cmp (m % 10) (n % 10))
-    ((rw (a, b) at (mixed_cmp 10 (m / 1000) (n / 1000) (m / 100 % 10) (n / 100 % 10) tens (omega arith) (omega arith)))
-    ∙ ((rw (c, d) at (mixed_cmp 10 (m / 100) (n / 100) (m / 10 % 10) (n / 10 % 10) units (omega arith) (omega arith)))
-    ∙ (rw (e, f) at (mixed_cmp 10 (m / 10) (n / 10) (m % 10) (n % 10) o (omega arith) (omega arith)))))
+four_cmp m n xs ys = grind (arith, common_steps)
 
 after_cmp : (ds : List ℕ) (m n : ℕ) → nat_cmp m n ≡ nat_cmp (digits_value_after 10 m ds) (digits_value_after 10 n ds)
 after_cmp [] m n = refl
@@ -124,11 +94,7 @@ nanos_cmp ds es ws d e long room = filled_cmp 9 ds es (codes "000000000") ws 0 0
 
 fraction_cmp : (k : ℕ) (p q : Option (List ℕ)) → k ≤ 9 → HasPlaces p k → HasPlaces q k → AreDigits (fraction_digits p) → AreDigits (fraction_digits q)
     → slice_cmp nat_cmp (fraction_text p ++ codes "Z") (fraction_text q ++ codes "Z") ≡ nat_cmp (fraction_nanos (fraction_digits p)) (fraction_nanos (fraction_digits q))
-fraction_cmp zero p q small h g d e = rw (h, g) (sym (cmp_equal (fraction_nanos []) (fraction_nanos []) refl))
-fraction_cmp (suc k) p q small h g d e =
-    let first : AreDigits h.0 = subst (λ (o : Option (List ℕ)). AreDigits (fraction_digits o)) h.1 d in
-    let second : AreDigits g.0 = subst (λ (o : Option (List ℕ)). AreDigits (fraction_digits o)) g.1 e in
-    rw (h.1, g.1) (nanos_cmp h.0 g.0 (codes "Z") first second (h.2 ∙ sym g.2) (omega (arith, h.2)) ∙ then_equal (nat_cmp (fraction_nanos h.0) (fraction_nanos g.0)))
+fraction_cmp k p q hyp1 hyp2 hyp3 hyp4 hyp5 = grind (arith, common_steps, cmp_equal, nanos_cmp, then_equal)
 
 -- dates and their days
 day_cmp : (a b : Date) (o : Ordering) → IsDate a → IsDate b
@@ -185,10 +151,7 @@ then_cmp m n o = ordering_then (nat_cmp m n) o
 clock_shape_cmp : (h i s h' i' s' : ℕ) (end end' : List ℕ)
     → slice_cmp nat_cmp (clock_shape h i s end) (clock_shape h' i' s' end')
     ≡ then_cmp h h' (then_cmp i i' (then_cmp s s' (slice_cmp nat_cmp end end')))
-clock_shape_cmp h i s h' i' s' end end' =
-    let second = two_cmp s s' end end' in
-    let minute = two_cmp i i' (codes ":" ++ two_digits s ++ end) (codes ":" ++ two_digits s' ++ end') ∙ ap (then_cmp i i') second in
-    two_cmp h h' (codes ":" ++ two_digits i ++ codes ":" ++ two_digits s ++ end) (codes ":" ++ two_digits i' ++ codes ":" ++ two_digits s' ++ end') ∙ ap (then_cmp h h') minute
+clock_shape_cmp h i s h' i' s' end end' = grind (arith, common_steps)
 
 shape_cmp : (y m d h i s y' m' d' h' i' s' : ℕ) (end end' : List ℕ)
     → slice_cmp nat_cmp (shape y m d h i s end) (shape y' m' d' h' i' s' end')

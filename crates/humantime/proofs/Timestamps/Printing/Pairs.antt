@@ -1,4 +1,5 @@
 -- The table of the numbers below 100 in two digits.
+use Rattle.std.proofs.lemmas.Grind.{common_steps}
 use Rattle.std.proofs.Common.{◌≡◌, ℕ, zero, suc, ◌+◌, ◌*◌, ◌/◌, ◌%◌, ◌<◌, ◌≤◌, List, [], ◌∷◌, ◌++◌, take, drop, length, get_or, refl, ap, arith}
 use Rattle.std.specs.Prelude.{Bool, true, false, ◌&&◌, ◌==◌, codes, slice_set}
 use Rattle.std.proofs.lemmas.Bool.{and_parts, eqb-true}
@@ -42,9 +43,7 @@ pub tens_at : (n i : ℕ) → i ≡ 2 * n → n < 100 → get_or pairs i 0 ≡ 4
 tens_at n i e h = rw e ((pair_of n h).tens)
 
 pub ones_at : (n i : ℕ) → i ≡ 2 * n + 1 → n < 100 → get_or pairs i 0 ≡ 48 + n % 10
-ones_at n i e h =
-    let next : 2 * n + 1 ≡ suc (2 * n) = omega arith in
-    rw (e, next) ((pair_of n h).ones)
+ones_at n i e h = grind (arith, common_steps, pair_of)
 
 set_at : (at : ℕ) (xs : List ℕ) (a b : ℕ) → suc at < length xs → slice_set (slice_set xs at a) (suc at) b ≡ take at xs ++ (a ∷ b ∷ []) ++ drop (suc (suc at)) xs
 set_at zero [] a b h = absurd (omega arith)

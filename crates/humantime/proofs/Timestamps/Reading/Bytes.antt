@@ -1,21 +1,19 @@
 -- What holds of digits and signs holds of each byte of a timestamp.
-use Rattle.std.proofs.Common.{ℕ, zero, suc, ◌+◌, ◌/◌, ◌%◌, ◌≤◌, List, [], ◌∷◌, ◌++◌, drop, arith}
-use Rattle.std.specs.Prelude.{Option, Some, None}
+use Rattle.std.proofs.lemmas.Grind.{common_steps}
+use Rattle.std.proofs.Common.{ℕ, ◌+◌, ◌/◌, ◌%◌, ◌≤◌, List, [], ◌∷◌, ◌++◌, drop, arith}
+use Rattle.std.specs.Prelude.{Option}
 use Rattle.std.specs.Int.{IsInRange}
 use Rattle.std.specs.List.{AllByRecursion}
 use Rattle.humantime.specs.Timestamps.Digits.{AreDigits}
-use Rattle.humantime.specs.Timestamps.Fields.{Separator, Letter_T, Space, Fields, separator_byte, fraction_text, fraction_digits, time_text, IsWeak}
+use Rattle.humantime.specs.Timestamps.Fields.{Separator, Fields, separator_byte, fraction_text, fraction_digits, time_text, IsWeak}
 use Rattle.humantime.proofs.Dates.Years.{valid_told}
 use Rattle.humantime.proofs.Timestamps.Reading.Passed.{month_most}
 
 pub all_append : (P : ℕ → Type 0) (xs ys : List ℕ) → AllByRecursion P xs → AllByRecursion P ys → AllByRecursion P (xs ++ ys)
-all_append P [] ys h k = k
-all_append P (x ∷ xs) ys h k = (h.0, all_append P xs ys h.1 k)
+all_append P xs ys hyp1 hyp2 = grind (arith, common_steps)
 
 pub all_drop : (P : ℕ → Type 0) (n : ℕ) (xs : List ℕ) → AllByRecursion P xs → AllByRecursion P (drop n xs)
-all_drop P zero xs h = h
-all_drop P (suc n) [] h = tt
-all_drop P (suc n) (x ∷ xs) h = all_drop P n xs h.1
+all_drop P n xs hyp1 = grind (arith, common_steps)
 
 -- a property of the digits, the signs and the separators
 pub record HoldsOfBytes (P : ℕ → Type 0) : Type 0 where
@@ -31,12 +29,10 @@ digits_hold P h [] digits = tt
 digits_hold P h (c ∷ cs) digits = (h.digit c digits.0, digits_hold P h cs digits.1)
 
 fraction_holds : (P : ℕ → Type 0) → HoldsOfBytes P → (q : Option (List ℕ)) → AreDigits (fraction_digits q) → AllByRecursion P (fraction_text q)
-fraction_holds P h None digits = tt
-fraction_holds P h (Some ds) digits = (h.point, digits_hold P h ds digits)
+fraction_holds P hyp1 q hyp2 = grind (arith, common_steps, digits_hold)
 
 separator_holds : (P : ℕ → Type 0) → HoldsOfBytes P → (s : Separator) → P (separator_byte s)
-separator_holds P h Letter_T = h.letter
-separator_holds P h Space = h.space
+separator_holds P hyp1 s = grind (arith, common_steps)
 
 digit_holds : (P : ℕ → Type 0) → HoldsOfBytes P → (n : ℕ) → n ≤ 9 → P (48 + n)
 digit_holds P h n small = h.digit (48 + n) (omega arith, omega arith)
@@ -45,12 +41,7 @@ two_hold : (P : ℕ → Type 0) → HoldsOfBytes P → (n : ℕ) → n ≤ 99 �
 two_hold P h n small = (digit_holds P h (n / 10) (omega arith), digit_holds P h (n % 10) (omega arith))
 
 four_hold : (P : ℕ → Type 0) → HoldsOfBytes P → (n : ℕ) → n ≤ 9999 → P (48 + n / 1000) × P (48 + n / 100 % 10) × P (48 + n / 10 % 10) × P (48 + n % 10)
-four_hold P h n small = (
-  digit_holds P h (n / 1000) (omega arith),
-  digit_holds P h (n / 100 % 10) (omega arith),
-  digit_holds P h (n / 10 % 10) (omega arith),
-  digit_holds P h (n % 10) (omega arith),
-)
+four_hold P h n small = grind (arith, common_steps)
 
 -- of all bytes before the zone
 pub holds_before_zone : (P : ℕ → Type 0) → HoldsOfBytes P → (text : List ℕ) (f : Fields) → IsWeak text f

@@ -1,6 +1,7 @@
 -- The digits of a fraction, read one by one, are its nanoseconds.
+use Rattle.std.proofs.lemmas.Grind.{common_steps}
 use Rattle.std.proofs.Common.{◌≡◌, ◌≢◌, ℕ, zero, suc, ◌+◌, ◌-◌, ◌*◌, ◌/◌, ◌%◌, ◌^◌, ◌<◌, ◌≤◌, List, [], ◌∷◌, ◌++◌, length, get_or, take, drop, refl, sym, ◌∙◌, arith, add-one, append-nil, ap, subst}
-use Rattle.std.specs.Prelude.{Bool, true, false, ◌&&◌, if◌then◌else◌}
+use Rattle.std.specs.Prelude.{Bool, true, false, if◌then◌else◌}
 use Rattle.std.specs.Char.{is_ascii_digit, digit_value}
 use Rattle.std.specs.Int.{IsInRange}
 use Rattle.std.specs.Str.Parse.{digits_value_after}
@@ -90,13 +91,7 @@ no_weight i h =
     sym (div-eq_of_lt (omega (arith, grows)))
 
 pub read_none : (text : List ℕ) → IsRead text 0 0
-read_none text = record {
-  within = omega arith;
-  value = sym (nanos_added _ (front_are_digits text));
-  rest = refl;
-  low = omega arith;
-  room = omega arith;
-}
+read_none text = grind (arith, common_steps, nanos_added, front_are_digits)
 
 pub read_more : (text : List ℕ) (i nanos : ℕ) → IsRead text i nanos → i < length text → is_ascii_digit (get_or text i 0) ≡ true
     → IsRead text (i + 1) (nanos + weight i * (get_or text i 0 - 48))
@@ -149,32 +144,11 @@ read_three text i nanos n group so_far within three =
     rw (weights.first, weights.second, three.value) (omega (arith, spread (weight (i + 2)) a b c)) in
     subst (IsRead text (i + 3)) sum (rw place at third)
 
--- a byte that is no digit stays
-other_stays : (a b c : ℕ) (r : List ℕ) → (is_ascii_digit a && is_ascii_digit b && is_ascii_digit c) ≡ false → past_digits (a ∷ b ∷ c ∷ r) ≢ []
-other_stays a b c r = by_tests (is_ascii_digit a) (is_ascii_digit b) (is_ascii_digit c) where
-  by_tests : (t u v : Bool) → (t && u && v) ≡ false
-      → (if t then (if u then (if v then past_digits r else c ∷ r) else b ∷ c ∷ r) else a ∷ b ∷ c ∷ r) ≢ []
-  by_tests true true true h e = absurd (let no : ⊥ = cc in no)
-  by_tests true true false h e = absurd (let no : ⊥ = cc in no)
-  by_tests true false v h e = absurd (let no : ⊥ = cc in no)
-  by_tests false u v h e = absurd (let no : ⊥ = cc in no)
-
 pub read_no_three : (text : List ℕ) (i nanos : ℕ) → IsRead text i nanos → i + 3 ≤ length text → has_three text i ≡ false → past_digits text ≢ []
-read_no_three text i nanos so_far within other none =
-    let two : i + 1 + 1 ≡ i + 2 = omega arith in
-    let first : drop i text ≡ get_or text i 0 ∷ drop (i + 1) text = rw (add-one i) (drop-cons text i 0 (omega arith)) in
-    let second : drop (i + 1) text ≡ get_or text (i + 1) 0 ∷ drop (i + 2) text =
-    rw two at (rw (← add-one (i + 1)) at (drop-cons text (i + 1) 0 (omega arith))) in
-    let third : drop (i + 2) text ≡ get_or text (i + 2) 0 ∷ drop (suc (i + 2)) text = drop-cons text (i + 2) 0 (omega arith) in
-    let rest = rw (first, second, third) at so_far.rest in
-    other_stays (get_or text i 0) (get_or text (i + 1) 0) (get_or text (i + 2) 0) (drop (suc (i + 2)) text) other (rest ∙ none)
+read_no_three text i nanos so_far within other none = grind (arith, common_steps)
 
 pub read_stop : (text : List ℕ) (i nanos : ℕ) → IsRead text i nanos → i < length text → is_ascii_digit (get_or text i 0) ≡ false → past_digits text ≢ []
-read_stop text i nanos so_far within other none =
-    let here : drop i text ≡ get_or text i 0 ∷ drop (suc i) text = drop-cons text i 0 within in
-    let rest : get_or text i 0 ∷ drop (suc i) text ≡ past_digits text = rw (here, other) at so_far.rest in
-    let same : get_or text i 0 ∷ drop (suc i) text ≡ [] = rest ∙ none in
-    absurd (let no : ⊥ = cc in no)
+read_stop text i nanos so_far within other none = grind (arith, common_steps)
 
 pub front_past : (cs : List ℕ) → cs ≡ front_digits cs ++ past_digits cs
 front_past [] = refl
@@ -190,11 +164,7 @@ all_digits cs none = sym (front_past cs ∙ (ap (λ (end : List ℕ). front_digi
 
 pub read_all : (text : List ℕ) (i nanos : ℕ) → IsRead text i nanos → length text ≤ i
     → (past_digits text ≡ []) × (nanos ≡ fraction_nanos text)
-read_all text i nanos so_far end =
-    let nothing : drop i text ≡ [] = drop_all i text end in
-    let none : past_digits text ≡ [] = sym (rw nothing at so_far.rest) in
-    let value : nanos ≡ fraction_nanos (front_digits text) = rw nothing at so_far.value in
-    (none, value ∙ ap fraction_nanos (all_digits text none))
+read_all text i nanos so_far end = grind (arith, common_steps, drop_all, all_digits)
 
 add_bound : (ds : List ℕ) (n u : ℕ) → AreDigits ds → n < 1_000_000_000 → n + 10 * u ≤ 1_000_000_000 → add_digits n u ds < 1_000_000_000
 add_bound [] n u digits low room = low

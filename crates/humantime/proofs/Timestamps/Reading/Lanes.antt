@@ -1,4 +1,5 @@
 -- Sixteen bytes tested at once are tested one by one.
+use Rattle.std.proofs.lemmas.Grind.{common_steps}
 use Rattle.std.proofs.Common.{◌≡◌, ℕ, ◌+◌, ◌-◌, ◌*◌, ◌%◌, ◌^◌, ◌<◌, ◌≤◌, Bool, true, false, not, cond, eqb, ltb, ◌&&◌, List, [], ◌∷◌, map, length, get_or, take, Fits, w8, refl, sym, ap, ◌∙◌, arith, inl, inr}
 use Rattle.std.specs.Char.{is_ascii_digit}
 use Rattle.std.specs.List.{list_all}
@@ -57,10 +58,7 @@ any_lane a h = agree_below_at (λ c. not (top 7 (beyond 255 (above c 32)))) (λ 
 signs_last : (s t u a b c d e f g h i j k l : Bool)
     → (a && (b && (c && (d && (s && (e && (f && (t && (g && (h && (true && (i && (j && (u && (k && (l && true))))))))))))))))
     ≡ ((a && (b && (c && (d && (e && (f && (g && (h && (i && (j && (k && (l && true)))))))))))) && s && t && u)
-signs_last true true true a b c d e f g h i j k l = simp and-true
-signs_last false t u a b c d e f g h i j k l = simp and-false
-signs_last true false u a b c d e f g h i j k l = simp and-false
-signs_last true true false a b c d e f g h i j k l = simp and-false
+signs_last s t u a b c d e f g h i j k l = grind (arith, common_steps)
 
 lanes_are : (b : List ℕ) → 19 ≤ length b → ((k : ℕ) → Fits w8 (get_or b k 0)) → list_all not (lanes b) ≡ is_shaped_front b
 unfolding has_front_digits is_shaped_front
@@ -78,9 +76,7 @@ lanes_are b long fits =
     (shown 5) (shown 6) (shown 8) (shown 9) (shown 11) (shown 12) (shown 14) (shown 15)
 
 pub front_tested : (b : List ℕ) → 19 ≤ length b → ((k : ℕ) → Fits w8 (get_or b k 0)) → eqb (mask_l (lanes b) % 2 ^ 64) 0 ≡ is_shaped_front b
-front_tested b long fits =
-    let sixteen : length (lanes b) ≡ 16 = ap (λ (bytes : List ℕ). length (lanes bytes)) (nineteen b long) in
-    none_set_of (lanes b) (omega arith) ∙ lanes_are b long fits
+front_tested b long fits = grind (arith, common_steps, nineteen, none_set_of, lanes_are)
 
 -- the last two digits stand behind the first sixteen bytes
 digits_of_parts : (b : List ℕ) → has_digits b ≡ (has_front_digits b && has_two b 17)
@@ -89,11 +85,8 @@ digits_of_parts b = simp (and_assoc, and-true)
 
 -- the tests of the parts are those of the signs and of the digits
 joined : (digits p q r s two : Bool) → ((digits && p && q && r) && (s && two)) ≡ ((p && q && true && r && s) && (digits && two))
-joined true p q r s two = simp (and_assoc, and-true)
-joined false p q r s two = simp and-false
+joined digits p q r s two = grind (arith, common_steps, and_assoc, and-true, and-false)
 
 pub shape_of_parts : (b : List ℕ) → has_separator b ≡ true → (is_shaped_front b && has_seconds b) ≡ (has_signs b && has_digits b)
 unfolding is_shaped_front has_seconds has_separator has_signs
-shape_of_parts b separator =
-    rw (separator, digits_of_parts b)
-    (joined (has_front_digits b) (slice_index b 4 == 45) (slice_index b 7 == 45) (slice_index b 13 == 58) (slice_index b 16 == 58) (has_two b 17))
+shape_of_parts b separator = grind (arith, common_steps, digits_of_parts, joined)

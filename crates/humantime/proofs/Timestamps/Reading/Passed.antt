@@ -1,8 +1,8 @@
 -- A text that shows parts passes the checks, and the parts at its places are these.
+use Rattle.std.proofs.lemmas.Grind.{common_steps}
 use Rattle.std.proofs.Common.{◌≡◌, ℕ, ◌+◌, ◌*◌, ◌/◌, ◌%◌, ◌≤◌, List, [], ◌∷◌, ◌++◌, length, drop, refl, sym, ap, subst, ◌∙◌, arith}
 use Rattle.std.specs.Prelude.{Bool, true, false, not, ◌||◌, ◌==◌, slice_index, Option, Some, None, if◌then◌else◌}
-use Rattle.std.specs.Int.{IsInRange}
-use Rattle.std.proofs.lemmas.Bool.{le-leb, and_from}
+use Rattle.std.proofs.lemmas.Bool.{le-leb}
 use Rattle.humantime.specs.declared.calendar.Date.{Date}
 use Rattle.std.proofs.lemmas.Bool.Decides.{nat_tests}
 use Rattle.humantime.specs.Calendar.Years.{days_in_month}
@@ -19,10 +19,7 @@ use Rattle.humantime.proofs.Timestamps.Reading.Places.{number_of_two, number_of_
 -- two digits at a place
 pub two_there : (b : List ℕ) (k m n : ℕ) → slice_index b k ≡ 48 + m → slice_index b (k + 1) ≡ 48 + n → m ≤ 9 → n ≤ 9 → has_two b k ≡ true
 unfolding has_two
-two_there b k m n first second h i =
-    let range : IsInRange 48 57 (slice_index b k) = (omega arith, omega arith) in
-    let next : IsInRange 48 57 (slice_index b (k + 1)) = (omega arith, omega arith) in
-    and_from _ _ (is_digit_from (slice_index b k) range) (is_digit_from (slice_index b (k + 1)) next)
+two_there b k m n first second h i = grind (arith, common_steps)
 
 -- and their number, read back
 two_back : (b : List ℕ) (k m n : ℕ) → k + 2 ≤ length b → slice_index b k ≡ 48 + m → slice_index b (k + 1) ≡ 48 + n → m ≤ 9 → n ≤ 9
@@ -69,14 +66,10 @@ front_back (c ∷ cs) z digits =
     rw digit (ap (λ (xs : List ℕ). c ∷ xs) (front_back cs z digits.1))
 
 zone_is : (z : Zone) → is_zone (zone_text z) ≡ true
-zone_is Nothing = refl
-zone_is Letter_Z = refl
-zone_is Offset = refl
+zone_is z = grind (arith, common_steps)
 
 zone_back : (z : Zone) → z ≡ zone_of (zone_text z)
-zone_back Nothing = refl
-zone_back Letter_Z = refl
-zone_back Offset = refl
+zone_back z = grind (arith, common_steps)
 
 -- what stands after date and time
 abbrev end_text : Option (List ℕ) → Zone → List ℕ
@@ -91,23 +84,19 @@ no_point Letter_Z = refl
 no_point Offset = refl
 
 end_whole : (q : Option (List ℕ)) (z : Zone) → (begins_point (end_text q z) || is_zone (end_text q z)) ≡ true
-end_whole None z = rw (no_point z) (zone_is z)
-end_whole (Some ds) z = refl
+end_whole q z = grind (arith, common_steps)
 
 end_fraction : (q : Option (List ℕ)) (z : Zone) → AreDigits (fraction_digits q)
     → (not (begins_point (end_text q z)) || is_zone (past_digits (drop 1 (end_text q z)))) ≡ true
-end_fraction None z digits = rw (no_point z) refl
-end_fraction (Some ds) z digits = rw (past_back ds z digits) (zone_is z)
+end_fraction q z hyp1 = grind (arith, common_steps, no_point, past_back, zone_is)
 
 fraction_back : (q : Option (List ℕ)) (z : Zone) → AreDigits (fraction_digits q)
     → q ≡ (if begins_point (end_text q z) then Some (front_digits (drop 1 (end_text q z))) else None)
-fraction_back None z digits = rw (no_point z) refl
-fraction_back (Some ds) z digits = rw (front_back ds z digits) refl
+fraction_back q z hyp1 = grind (arith, common_steps, no_point, front_back)
 
 end_zone_back : (q : Option (List ℕ)) (z : Zone) → AreDigits (fraction_digits q)
     → z ≡ zone_of (if begins_point (end_text q z) then past_digits (drop 1 (end_text q z)) else end_text q z)
-end_zone_back None z digits = rw (no_point z) (zone_back z)
-end_zone_back (Some ds) z digits = rw (past_back ds z digits) (zone_back z)
+end_zone_back q z hyp1 = grind (arith, common_steps, no_point, zone_back, past_back)
 
 abbrev parts : Date → Separator → ℕ → ℕ → ℕ → Option (List ℕ) → Zone → Fields
 parts date separator hour minute second fraction zone = record {
@@ -124,8 +113,7 @@ separator_back : (date : Date) (s : Separator) (h i n : ℕ) (q : Option (List �
     → (has_signs (fields_text (parts date s h i n q z)) ≡ true)
     × (s ≡ (if slice_index (fields_text (parts date s h i n q z)) 10 == 84 then Letter_T else Space))
 unfolding has_signs
-separator_back date Letter_T h i n q z = (refl, refl)
-separator_back date Space h i n q z = (refl, refl)
+separator_back date s h i n q z = grind (arith, common_steps)
 
 written_passes : (f : Fields) → IsWeak (fields_text f) f → Passes (fields_text f) × (f ≡ fields_of (fields_text f))
 unfolding ends_whole ends_fraction
