@@ -11,18 +11,14 @@ use Rattle.humantime.specs.References.Calendar.March.{march_days}
 
 -- more years have no fewer days, nor have more months
 years_grow : (n : ℕ) (more : ℕ) → days_of_years n ≤ days_of_years (n + more)
-years_grow n zero =
-    let same : n + 0 ≡ n = omega arith in
-    rw same (omega arith)
+years_grow n zero = grind (arith, common_steps)
 years_grow n (suc more) =
     let same : n + suc more ≡ suc (n + more) = omega arith in
     let before : days_of_years n ≤ days_of_years (n + more) = years_grow n more in
     rw same (rw (days_of_years_next (n + more)) (omega (arith, before)))
 
 months_grow : (y : ℕ) (n : ℕ) (more : ℕ) → days_of_months y n ≤ days_of_months y (n + more)
-months_grow y n zero =
-    let same : n + 0 ≡ n = omega arith in
-    rw same (omega arith)
+months_grow y n zero = grind (arith, common_steps)
 months_grow y n (suc more) =
     let same : n + suc more ≡ suc (n + more) = omega arith in
     let before : days_of_months y n ≤ days_of_months y (n + more) = months_grow y n more in
@@ -83,7 +79,6 @@ next_day n y m d is more = grind (arith, common_steps)
 pub next_month : (n : ℕ) (y : ℕ) (m : ℕ) (d : ℕ) → AreWithin y m d × (day_count y m d ≡ n) → days_in_month y m ≤ d → m < 12
     → AreWithin y (m + 1) 1 × (day_count y (m + 1) 1 ≡ suc n)
 next_month n y m d is last more =
-    let day : days_of_years (y - 1970) + days_of_months y (m - 1) + (d - 1) ≡ n = is.1 in
     let whole : days_of_months y m ≡ days_of_months y (m - 1) + days_in_month y m = month_end y m is.0.1.0 in
     let here : m + 1 - 1 ≡ m = omega arith in
     let some : 28 ≤ days_in_month y (m + 1) = month_some y (m + 1) in
@@ -93,7 +88,6 @@ next_month n y m d is last more =
 pub next_year : (n : ℕ) (y : ℕ) (m : ℕ) (d : ℕ) → n < 2_932_896 → AreWithin y m d × (day_count y m d ≡ n)
     → days_in_month y m ≤ d → 12 ≤ m → AreWithin (y + 1) 1 1 × (day_count (y + 1) 1 1 ≡ suc n)
 next_year n y m d few is last december =
-    let day : days_of_years (y - 1970) + days_of_months y (m - 1) + (d - 1) ≡ n = is.1 in
     let whole : days_of_months y m ≡ days_of_months y (m - 1) + days_in_month y m = month_end y m is.0.1.0 in
     let twelve : m ≡ 12 = omega (arith, is.0.1.1) in
     let months : days_of_months y m ≡ days_in_year y = rw twelve (twelve_months y) in

@@ -11,10 +11,6 @@ pub march_months_next : (k : ℕ) → k < 12 → march_months (k + 1) ≡ march_
 unfolding march_months march_length
 march_months_next = grind (arith, common_steps)
 
-pub march_months_all : march_months 12 ≡ 366
-unfolding march_months
-march_months_all = refl
-
 months_grow : (n : ℕ) (k : ℕ) → n + k ≤ 12 → march_months n ≤ march_months (n + k)
 months_grow n zero h = let same : n + 0 ≡ n = omega arith in rw same (omega arith)
 months_grow n (suc k) h =
@@ -44,12 +40,8 @@ month_stays next day month later h = grind (arith, common_steps)
 
 -- of all twelve it is the one that holds the day
 pub month_found : (day month : ℕ) → day < 366 → IsMonthBefore 13 day month → (month < 12) × (day - march_months month < march_length month)
-month_found day month within h = grind (arith, common_steps, cases_eq, march_months_all, march_months_next)
-
--- March to December are ten months of one year, and two months stand before them
-early_months : (y : ℕ) → (k : ℕ) → k < 10 → march_months k + days_in_year y ≡ days_of_months y (k + 2) + 306
-unfolding march_months days_of_months
-early_months y = grind (arith, common_steps)
+unfolding march_months
+month_found day month within h = grind (arith, common_steps, common_steps, cases_eq, march_months_next)
 
 early_length : (y : ℕ) → (k : ℕ) → k < 10 → march_length k ≡ days_in_month y (k + 3)
 unfolding march_length
@@ -84,14 +76,8 @@ early_valid n k left early short first last = grind (arith, common_steps, early_
 pub early_day : (n : ℕ) (k : ℕ) (left : ℕ) → k < 10 → left < march_length k
     → 135_080 ≤ march_days n + march_months k + left
     → day_count (1600 + n) (k + 3) (left + 1) + 135_080 ≡ march_days n + march_months k + left
-early_day n k left early short first =
-    let bound : march_months k + march_length k ≤ 306 = early_bound k early in
-    let enough : 370 ≤ n = omega arith in
-    let years : days_of_years (1600 + n - 1970) + days_in_year (1600 + n) + 134_774 ≡ march_days n = days_before_march n enough in
-    let months : march_months k + days_in_year (1600 + n) ≡ days_of_months (1600 + n) (k + 2) + 306 =
-    early_months (1600 + n) k early in
-    let same : k + 3 - 1 ≡ k + 2 = omega arith in
-    rw same (omega arith)
+unfolding days_of_months march_months
+early_day n k left early short first = grind (arith, common_steps, early_bound, days_before_march, common_steps)
 
 pub late_valid : (n : ℕ) (k : ℕ) (left : ℕ) → k < 12 → 10 ≤ k → left < march_length k
     → march_months k + left < march_year_length n

@@ -1,6 +1,6 @@
 -- The days of years and of months in closed form.
 use Rattle.std.proofs.lemmas.Grind.{common_steps}
-use Rattle.std.proofs.Common.{◌≡◌, ℕ, zero, suc, ◌+◌, ◌-◌, ◌*◌, ◌/◌, ◌<◌, ◌≤◌, refl, ap, arith}
+use Rattle.std.proofs.Common.{◌≡◌, ℕ, zero, suc, ◌+◌, ◌-◌, ◌*◌, ◌/◌, ◌<◌, ◌≤◌, refl, arith}
 use Rattle.std.specs.Prelude.{true, ◌&&◌, if◌then◌else◌, [], ◌∷◌, slice_index_or, nat_lt}
 use Rattle.std.specs.Int.{IsInRange, is_in_range}
 use Rattle.std.proofs.lemmas.Bool.Decides.{nat_tests}
@@ -16,15 +16,11 @@ within_ranges : (y m n d : ℕ) → (is_in_range 1970 9999 y && is_in_range 1 12
     → IsInRange 1970 9999 y × IsInRange 1 12 m × IsInRange 1 n d
 within_ranges y m n d h = grind (arith, nat_tests)
 
-ranges_within : (y m n d : ℕ) → IsInRange 1970 9999 y → IsInRange 1 12 m → IsInRange 1 n d
-    → (is_in_range 1970 9999 y && is_in_range 1 12 m && is_in_range 1 n d) ≡ true
-ranges_within y m n d year month day = grind (arith, nat_tests)
-
 pub valid_told : (y m d : ℕ) → IsValid y m d → AreWithin y m d
 valid_told y m d h = within_ranges y m (days_in_month y m) d h
 
 pub valid_from : (y m d : ℕ) → AreWithin y m d → IsValid y m d
-valid_from y m d h = ranges_within y m (days_in_month y m) d h.0 h.1 h.2
+valid_from y m d h = grind (arith, common_steps, nat_tests)
 
 pub march_days_next : (n : ℕ) → march_days (n + 1) ≡ march_days n + march_year_length n
 march_days_next n = grind (arith, nat_tests)
@@ -40,14 +36,7 @@ days_of_no_years = refl
 -- from 1601-01-01 to 1970-01-01 there are 134774 days, in 369 years
 pub march_days_of_years : (n : ℕ) → days_of_years n + 134_774 ≡ march_days (n + 369)
 march_days_of_years zero = rw days_of_no_years refl
-march_days_of_years (suc n) =
-    let year : 1601 + (n + 369) ≡ 1970 + n = omega arith in
-    let length : march_year_length (n + 369) ≡ days_in_year (1970 + n) = ap days_in_year year in
-    let before : days_of_years n + 134_774 ≡ march_days (n + 369) = march_days_of_years n in
-    let next : march_days (n + 369 + 1) ≡ march_days (n + 369) + march_year_length (n + 369) = march_days_next (n + 369) in
-    let here : days_of_years (suc n) ≡ days_of_years n + days_in_year (1970 + n) = days_of_years_next n in
-    let same : suc n + 369 ≡ n + 369 + 1 = omega arith in
-    rw same (grind arith)
+march_days_of_years (suc n) = grind (arith, common_steps, (march_days_of_years n), march_days_next, days_of_years_next)
 
 pub days_of_years_closed : (y : ℕ) → 1970 ≤ y
     → days_of_years (y - 1970) ≡ 365 * (y - 1970) + (y - 1969) / 4 - (y - 1901) / 100 + (y - 1601) / 400

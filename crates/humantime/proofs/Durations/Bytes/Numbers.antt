@@ -67,8 +67,5 @@ no_digits (c ∷ cs) e = rw e refl
 pub rest_there : (rest : List ℕ) → begins is_numeric rest ≡ false → past is_numeric rest ≡ rest
 rest_there rest hyp1 = grind (arith, common_steps)
 
-number_is : (text rest : List ℕ) (v : ℕ) → v ≡ decimal_value (number_of text) → rest ≡ after_number text → v ≤ u64_max → Ok (v, rest) ≡ number_at text
-number_is text rest v value rest_is fits = grind (arith, common_steps)
-
 pub number_end : (text rest : List ℕ) (v : ℕ) → IsAt text v rest → begins is_numeric rest ≡ false → Ok (v, rest) ≡ number_at text
-number_end text rest v h e = number_is text rest v (ap (digits_value_after 10 v) (sym (no_digits rest e)) ∙ h.value) (sym (rest_there rest e) ∙ h.rest_is) h.fits
+number_end text rest v h e = grind (arith, common_steps, no_digits, rest_there, common_steps)

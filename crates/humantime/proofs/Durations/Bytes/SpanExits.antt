@@ -5,12 +5,12 @@ use Rattle.std.proofs.Common.{◌≡◌, ◌≢◌, ◌++◌, ℕ, Bool, true, f
 use Rattle.std.proofs.lemmas.List.{append_cancel_right}
 use Rattle.std.specs.Str.{drop_trailing_whitespace}
 use Rattle.humantime.specs.declared.duration.reading.amount.Amount.{Amount}
-use Rattle.humantime.specs.Durations.Characters.{is_numeric, is_point, leading, past, decimal_value, byte_length, offset_of}
+use Rattle.humantime.specs.Durations.Characters.{is_numeric, is_point, leading, past, byte_length, offset_of}
 use Rattle.humantime.specs.Durations.Units.{Scale, scale_of_word}
-use Rattle.humantime.specs.Durations.Rests.{number_of, after_number, fraction_of, past_fraction, word_of, after_word, span_of}
+use Rattle.humantime.specs.Durations.Rests.{after_number, fraction_of, past_fraction, word_of, after_word, span_of}
 use Rattle.humantime.specs.Durations.Faults.{Fault, InvalidCharacter, UnknownUnit, NumberOverflow}
 use Rattle.humantime.specs.References.Durations.Reading.{too_long, stop_word, stop_by, stop_at}
-use Rattle.humantime.specs.References.Durations.Scales.{Counted, scale_of, counted, parts_of, IsAmountOf}
+use Rattle.humantime.specs.References.Durations.Scales.{Counted, scale_of, parts_of, IsAmountOf}
 use Rattle.humantime.specs.References.Durations.Scanning.{bare, ends_span, fault_without_word, fraction_in}
 use Rattle.humantime.specs.References.Durations.SpanParts.{IsSpanRead}
 use Rattle.humantime.specs.References.Durations.Lending.{trimmed, number_slice, fraction_slice, lent_at, spelled}
@@ -26,38 +26,22 @@ stop_short : (text rest : List ℕ) → too_long (span_of rest) ≡ false → st
 unfolding stop_at
 stop_short text rest e = rw e
 
-no_word : (text rest : List ℕ) (f : Option (List ℕ)) (next : List ℕ)
-    → stop_by text rest f [] next ≡ Some (fault_without_word text (after_number rest) next (option_map counted f) (decimal_value (number_of rest)))
-no_word text rest f next = grind (arith, common_steps)
-
-bare_point : (text rest : List ℕ) (f : Option (List ℕ)) (word next : List ℕ) → bare (option_map counted f) ≡ true → word ≢ []
-    → stop_by text rest f word next ≡ Some (InvalidCharacter (offset_of text (after_number rest)))
-bare_point text rest f word next hyp1 hyp2 = grind (arith, common_steps)
-
-bad_next : (text rest : List ℕ) (f : Option (List ℕ)) (word next : List ℕ) → bare (option_map counted f) ≡ false → word ≢ [] → ends_span next ≡ false
-    → stop_by text rest f word next ≡ Some (InvalidCharacter (offset_of text next))
-bad_next text rest f word next hyp1 hyp2 hyp3 = grind (arith, common_steps)
-
-by_word : (text rest : List ℕ) (f : Option (List ℕ)) (word next : List ℕ) → bare (option_map counted f) ≡ false → word ≢ [] → ends_span next ≡ true
-    → stop_by text rest f word next ≡ stop_word text rest (scale_of_word word)
-by_word text rest f word next hyp1 hyp2 hyp3 = grind (arith, common_steps)
-
 -- the exits
 pub exit_no_word : (text rest : List ℕ) (v : ℕ) (o : Option Counted) (after behind letters next : List ℕ) → IsSpanRead rest v o after behind letters next
     → letters ≡ [] → stop_at text rest ≡ Some (fault_without_word text after next o v)
-exit_no_word text rest v o after behind letters next s e = grind (arith, common_steps, stop_short, no_word)
+exit_no_word text rest v o after behind letters next s e = grind (arith, common_steps, common_steps, stop_short)
 
 pub exit_bare : (text rest : List ℕ) (v : ℕ) (o : Option Counted) (after behind letters next : List ℕ) → IsSpanRead rest v o after behind letters next
     → bare o ≡ true → letters ≢ [] → stop_at text rest ≡ Some (InvalidCharacter (offset_of text after))
-exit_bare text rest v o after behind letters next s b n = grind (arith, common_steps, stop_short, bare_point)
+exit_bare text rest v o after behind letters next s b n = grind (arith, common_steps, common_steps, stop_short)
 
 pub exit_after : (text rest : List ℕ) (v : ℕ) (o : Option Counted) (after behind letters next : List ℕ) → IsSpanRead rest v o after behind letters next
     → bare o ≡ false → letters ≢ [] → ends_span next ≡ false → stop_at text rest ≡ Some (InvalidCharacter (offset_of text next))
-exit_after text rest v o after behind letters next s b n e = grind (arith, common_steps, stop_short, bad_next)
+exit_after text rest v o after behind letters next s b n e = grind (arith, common_steps, common_steps, stop_short)
 
 exit_word : (text rest : List ℕ) (v : ℕ) (o : Option Counted) (after behind letters next : List ℕ) → IsSpanRead rest v o after behind letters next
     → bare o ≡ false → letters ≢ [] → ends_span next ≡ true → stop_at text rest ≡ stop_word text rest (scale_of_word letters)
-exit_word text rest v o after behind letters next s b n e = grind (arith, common_steps, stop_short, by_word)
+exit_word text rest v o after behind letters next s b n e = grind (arith, common_steps, common_steps, stop_short)
 
 pub exit_unit : (text rest : List ℕ) (v : ℕ) (o : Option Counted) (after behind letters next : List ℕ) → IsSpanRead rest v o after behind letters next
     → bare o ≡ false → letters ≢ [] → ends_span next ≡ true → scale_of_word letters ≡ None

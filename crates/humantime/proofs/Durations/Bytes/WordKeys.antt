@@ -1,12 +1,12 @@
 -- A word's key tells which of the units' words it is.
 use Rattle.std.proofs.lemmas.Grind.{common_steps}
-use Rattle.std.proofs.Common.{◌≡◌, ◌∙◌, sym, ap, refl, ℕ, zero, suc, ◌+◌, ◌*◌, ◌^◌, ◌<◌, ◌≤◌, Bool, true, ◌&&◌, List, [], ◌∷◌, length, take, get_or, inl, inr, ltb, chars, arith}
+use Rattle.std.proofs.Common.{◌≡◌, ◌∙◌, sym, ap, refl, ℕ, zero, suc, ◌+◌, ◌*◌, ◌^◌, ◌<◌, ◌≤◌, Bool, true, ◌&&◌, List, [], ◌∷◌, length, take, get_or, ltb, chars, arith}
 use Rattle.std.specs.Prelude.{◌==◌, bytes_eq, reverse}
 use Rattle.std.specs.List.{list_all}
 use Rattle.std.specs.Map.{lookup}
 use Rattle.std.specs.Str.{IsUtf8}
 use Rattle.std.proofs.Math.Utf8.{encode, encodes, scalars}
-use Rattle.std.proofs.Math.Nat.{pow-suc, pow-le-pow_right}
+use Rattle.std.proofs.Math.Nat.{pow-le-pow_right}
 use Rattle.std.proofs.Math.Seq.{take-suc}
 use Rattle.std.proofs.lemmas.List.{get_or-reverse, get_or_past, length-reverse, reverse-append, reverse-reverse, take_more}
 use Rattle.std.proofs.lemmas.Bool.{and_parts, cases_lt, ltb-true, le-ltb, lt-ltb, eqb-true, eq-eqb}
@@ -26,19 +26,12 @@ packed_positive (b ∷ bs) = omega (arith, packed_positive bs)
 pub front_bytes : (bs : List ℕ) (n : ℕ) → HasBytes bs → HasBytes (take n bs)
 front_bytes bs n h k = grind (arith, common_steps)
 
-bytes_reversed : (bs : List ℕ) → HasBytes bs → HasBytes (reverse bs)
-bytes_reversed bs h k = grind (arith, common_steps, cases_lt, get_or-reverse, get_or_past, length-reverse)
-
-packed_front : (bs : List ℕ) (at : ℕ) → at < length bs → packed (reverse (take (at + 1) bs)) ≡ packed (reverse (take at bs)) * 256 + get_or bs at 0
-packed_front bs at some = rw (take_more bs at 0 some, reverse-append (take at bs) (get_or bs at 0 ∷ [])) refl
-
 packed_front_below : (bs : List ℕ) (at : ℕ) → HasBytes bs → at ≤ length bs → packed (reverse (take at bs)) < 2 * 256 ^ at
 packed_front_below bs zero h within = omega arith
 packed_front_below bs (suc at) h within =
     let front : packed (reverse (take (suc at) bs)) ≡ packed (reverse (take at bs)) * 256 + get_or bs at 0 =
     rw (take-suc bs at 0 (omega arith), reverse-append (take at bs) (get_or bs at 0 ∷ [])) refl in
-    let longer : 256 ^ suc at ≡ 256 ^ at * 256 = pow-suc 256 at in
-    omega (arith, front, longer, h at, packed_front_below bs at h (omega arith))
+    omega (arith, front, h at, packed_front_below bs at h (omega arith))
 
 -- The number made so far is that of the bytes before a place, where they are at most seven.
 abbrev pub IsSoFar : List ℕ → ℕ → ℕ → Type 0
@@ -46,7 +39,7 @@ IsSoFar bs at k = at ≤ 7 → k ≡ packed (reverse (take at bs))
 
 -- and so it is with the byte at this place
 pub key_more : (bs : List ℕ) (at k m : ℕ) → HasBytes bs → at < length bs → IsSoFar bs at k → (k * 256 + get_or bs at 0 < 2 ^ 64 → m ≡ k * 256 + get_or bs at 0) → IsSoFar bs (at + 1) m
-key_more bs at k m bytes some so_far next short = grind (arith, common_steps, pow-le-pow_right, packed_front_below, packed_front)
+key_more bs at k m bytes some so_far next short = grind (arith, common_steps, common_steps, pow-le-pow_right, packed_front_below, take_more, reverse-append)
 
 -- the key of a front
 pub key_short : (bs : List ℕ) (at k : ℕ) → at ≤ length bs → at ≤ 7 → IsSoFar bs at k → k ≡ key (take at bs)
@@ -80,14 +73,7 @@ reverse_same : (xs ys : List ℕ) → reverse xs ≡ reverse ys → xs ≡ ys
 reverse_same xs ys e = sym (reverse-reverse xs) ∙ ap reverse e ∙ reverse-reverse ys
 
 key_same : (xs ys : List ℕ) → HasBytes xs → HasBytes ys → length ys < 8 → key xs ≡ key ys → xs ≡ ys
-key_same xs ys h k short e =
-    let right : key ys ≡ packed (reverse ys) = rw (le-ltb 7 (length ys) (omega arith)) refl in
-    elim (cases_lt 7 (length xs)) [
-      | inl more ↦ let left : key xs ≡ 0 = rw (lt-ltb 7 (length xs) more) refl in absurd (omega (arith, e, left, right, packed_positive (reverse ys)))
-      | inr most ↦
-          let left : key xs ≡ packed (reverse xs) = rw (le-ltb 7 (length xs) most) refl in
-          reverse_same xs ys (packed_same (reverse xs) (reverse ys) (bytes_reversed xs h) (bytes_reversed ys k) (sym left ∙ e ∙ right))
-    ]
+key_same xs ys h k short e = grind (arith, common_steps, le-ltb, cases_lt, lt-ltb, packed_positive, reverse_same, packed_same, common_steps, get_or-reverse, get_or_past, length-reverse)
 
 key_tells : (bs w : List ℕ) → IsUtf8 bs → HasBytes bs → is_spelled w ≡ true → (key bs == key (bytes_of w)) ≡ bytes_eq (chars bs) w
 key_tells bs w text bytes spelled =

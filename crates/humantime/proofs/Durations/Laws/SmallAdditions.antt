@@ -32,9 +32,7 @@ small_have_room xs small fits =
 
 room_fits : (t : ℕ) (xs : List Addition) → t / nanos_per_second ≤ u64_max → RoomFrom t xs → (t + total xs) / nanos_per_second ≤ u64_max
 room_fits t [] fits room = omega arith
-room_fits t (x ∷ xs) fits room =
-    let sum : t + total (x ∷ xs) ≡ (t + addition_nanos x) + total xs = omega (arith, sum_by-cons addition_nanos x xs) in
-    rw sum (room_fits (t + addition_nanos x) xs room.0.1 room.1)
+room_fits t (x ∷ xs) fits room = grind (arith, common_steps, (room_fits (t + addition_nanos x) xs room.0.1 room.1), sum_by-cons)
 
 -- where additions have room, their sum is a duration
 pub room_is_duration : (xs : List Addition) → AllHaveRoom xs → total xs / nanos_per_second ≤ u64_max

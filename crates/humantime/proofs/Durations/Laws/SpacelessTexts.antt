@@ -32,22 +32,14 @@ only_letters (c ∷ cs) h = spaceless-other c cs (letter_not_space c h.0) ∙ ap
 
 still_only : (p : ℕ → Bool) (cs : List ℕ) → Only p cs → Only p (without_white_space cs)
 still_only p [] h = tt
-still_only p (c ∷ cs) h = elim (cases_Bool (is_ws c)) [
-  | inl e ↦ subst (Only p) (sym (spaceless-space c cs e)) (still_only p cs h.1)
-  | inr e ↦ subst (Only p) (sym (spaceless-other c cs e)) (h.0, still_only p cs h.1)
-]
+still_only p (c ∷ cs) h = grind (arith, common_steps, (still_only p cs h.1), (still_only p cs h.1), cases_Bool, spaceless-space, spaceless-other)
 
 space_not_digit : (c : ℕ) → is_ws c ≡ true → is_digit c ≡ false
 space_not_digit c e = elim (cases_Bool (is_digit c)) [ inl d ↦ let n = digit_not_space c d in cc | inr d ↦ d ]
 
 same_digits : (cs : List ℕ) → digits (without_white_space cs) ≡ digits cs
 same_digits [] = refl
-same_digits (c ∷ cs) = elim (cases_Bool (is_ws c)) [
-  | inl e ↦
-      let gone : digits (c ∷ cs) ≡ digits cs = ap (λ (b : Bool). cond b (c ∷ digits cs) (digits cs)) (space_not_digit c e) in
-      ap digits (spaceless-space c cs e) ∙ same_digits cs ∙ sym gone
-  | inr e ↦ ap digits (spaceless-other c cs e) ∙ ap (λ (l : List ℕ). cond (is_digit c) (c ∷ l) l) (same_digits cs)
-]
+same_digits (c ∷ cs) = grind (arith, common_steps, (same_digits cs), (same_digits cs), cases_Bool, space_not_digit, spaceless-space, spaceless-other)
 
 still_begins : (cs : List ℕ) → begins is_digit cs ≡ true → begins is_digit (without_white_space cs) ≡ true
 still_begins cs hyp1 = grind (arith, common_steps, spaceless-other, digit_not_space)

@@ -1,6 +1,6 @@
 -- A text written count by count is the counts' text.
 use Rattle.std.proofs.lemmas.Grind.{common_steps}
-use Rattle.std.proofs.Common.{◌≡◌, ℕ, zero, suc, ◌/◌, ◌%◌, ◌<◌, ◌^◌, false, List, [], ◌∷◌, ◌++◌, length, eqb, refl, ap, sym, ◌∙◌, arith}
+use Rattle.std.proofs.Common.{◌≡◌, ℕ, zero, suc, ◌/◌, ◌%◌, ◌<◌, ◌^◌, List, [], ◌∷◌, ◌++◌, length, refl, ap, sym, ◌∙◌, arith}
 use Rattle.std.specs.Prelude.{codes}
 use Rattle.std.specs.List.{AllByRecursion, join_with_byte}
 use Rattle.std.proofs.lemmas.Bool.Decides.{nat_tests}
@@ -24,16 +24,13 @@ abbrev spaced : List (List ℕ) → List ℕ
 spaced [] = []
 spaced (p ∷ ps) = 32 ∷ (p ++ spaced ps)
 
-suc_not_zero : (n : ℕ) → eqb (suc n) 0 ≡ false
-suc_not_zero n = grind (arith, nat_tests)
-
 with_zero : (text : List ℕ) (s : Suffix) → with_count text 0 s ≡ text
 unfolding with_count
 with_zero text s = refl
 
 with_some : (text : List ℕ) (n : ℕ) (s : Suffix) → with_count text (suc n) s ≡ separated text ++ printed_count (suc n) s
 unfolding with_count
-with_some text n s = rw (suc_not_zero n) refl
+with_some text n s = grind (arith, common_steps, nat_tests)
 
 join_spaced : (p : List ℕ) (ps : List (List ℕ)) → join_with_byte 32 (p ∷ ps) ≡ p ++ spaced ps
 join_spaced p [] = sym (append-nil p)
@@ -43,10 +40,7 @@ behind_text : (b : ℕ) (bs ns : List ℕ) (ss : List Suffix) → with_counts (b
 behind_text b bs [] ss = sym (append-nil (b ∷ bs))
 behind_text b bs (n ∷ ns) [] = sym (append-nil (b ∷ bs))
 behind_text b bs (zero ∷ ns) (s ∷ ss) = ap (λ t. with_counts t ns ss) (with_zero (b ∷ bs) s) ∙ behind_text b bs ns ss
-behind_text b bs (suc n ∷ ns) (s ∷ ss) =
-    ap (λ t. with_counts t ns ss) (with_some (b ∷ bs) n s)
-    ∙ behind_text b (bs ++ codes " " ++ printed_count (suc n) s) ns ss
-    ∙ simp append_assoc
+behind_text b bs (suc n ∷ ns) (s ∷ ss) = grind (arith, common_steps, (behind_text b (bs ++ codes " " ++ printed_count (suc n) s) ns ss), with_some, append_assoc)
 
 behind_some : (text ns : List ℕ) (ss : List Suffix) → 0 < length text → with_counts text ns ss ≡ text ++ spaced (printed_counts ns ss)
 behind_some [] ns ss h = absurd (omega arith)
@@ -63,13 +57,7 @@ one_by_one : (ns : List ℕ) (ss : List Suffix) → AllByRecursion IsWord64 ns �
 one_by_one [] ss h = refl
 one_by_one (n ∷ ns) [] h = refl
 one_by_one (zero ∷ ns) (s ∷ ss) h = ap (λ t. or_zero (with_counts t ns ss)) (with_zero [] s) ∙ one_by_one ns ss h.1
-one_by_one (suc n ∷ ns) (s ∷ ss) h =
-    let p = printed_count (suc n) s in
-    let some : 0 < length p = count_some (suc n) s h.0 in
-    ap (λ t. or_zero (with_counts t ns ss)) (with_some [] n s)
-    ∙ ap or_zero (behind_some p ns ss some)
-    ∙ or_zero_some p (spaced (printed_counts ns ss)) some
-    ∙ sym (join_spaced p (printed_counts ns ss))
+one_by_one (suc n ∷ ns) (s ∷ ss) h = grind (arith, common_steps, count_some, with_some, behind_some, or_zero_some, join_spaced)
 
 -- the nine counts of s seconds and n nanoseconds
 abbrev counts_of : ℕ → ℕ → List ℕ

@@ -31,11 +31,7 @@ pub record IsWord (w m : ℕ) (word : List ℕ) : Type 0 where
 
 leading_only : (p : ℕ → Bool) (cs : List ℕ) → leading p cs ≡ cs → Only p cs
 leading_only p [] e = tt
-leading_only p (c ∷ cs) e = by (p c) refl e (leading_only p cs)
-  where
-    by : (b : Bool) → p c ≡ b → cond b (c ∷ leading p cs) [] ≡ c ∷ cs → (leading p cs ≡ cs → Only p cs) → Only p (c ∷ cs)
-    by true h e rest = (h, rest cc)
-    by false h e rest = absurd cc
+leading_only p (c ∷ cs) e = grind (arith, common_steps, (leading_only p cs))
 
 known : (w m : ℕ) (word : List ℕ) (u : Scale) → is_utf8 word ≡ true → scale_of_word (chars word) ≡ Some u → u.base * u.factor ≡ w → 0 < u.factor
     → (u.base ≡ nanos_per_second) ⊎ ((u.base ≡ 1) × (m ≤ nanos_per_second)) → leading is_letter (chars word) ≡ chars word → begins is_letter (chars word) ≡ true → IsWord w m word

@@ -4,7 +4,7 @@ use Rattle.std.proofs.Common.{◌≡◌, ◌≢◌, ◌⊎◌, inl, inr, ℕ, ze
 use Rattle.std.specs.Prelude.{IsSome, codes, decimal, chars}
 use Rattle.std.specs.Str.{IsUtf8}
 use Rattle.std.specs.List.{AllByRecursion, join_with_byte}
-use Rattle.std.proofs.Math.Nat.{mul_assoc, mul_comm, div-add-mod}
+use Rattle.std.proofs.Math.Nat.{mul_assoc, mul_comm}
 use Rattle.std.proofs.lemmas.Nat.{mod_below}
 use Rattle.std.proofs.lemmas.List.{append_assoc, append-nil}
 use Rattle.std.proofs.lemmas.Str.{chars-append, chars-IsAscii, chars-nil, IsUtf8-append, IsUtf8-from_ascii}
@@ -113,9 +113,8 @@ rows_good (w ∷ ws) (s ∷ ss) m r t h below whole =
     let q = r / w in
     let word = h.0 q in
     let positive : 0 < w = weight_positive w m (word_for q s) word in
-    let split = div-add-mod r w in
-    let least : w * q ≤ r = omega (arith, split) in
-    let total_same : (t + w * q) + r % w ≡ t + r = omega (arith, split) in
+    let least : w * q ≤ r = omega (arith) in
+    let total_same : (t + w * q) + r % w ≡ t + r = omega (arith) in
     rows_cons t w q ws (divided ws (r % w)) s ss
     (row_good t r m w q s word below least whole)
     (rows_good ws ss w (r % w) (t + w * q) h.1 (mod_below r w positive) (subst (λ k. k / nanos_per_second ≤ u64_max) (sym total_same) whole))

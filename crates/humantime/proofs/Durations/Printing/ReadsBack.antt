@@ -26,9 +26,7 @@ same_read text u v a b = ok_same u v (sym (outcome_accepted text u a) ∙ outcom
 
 room_fits : (t : ℕ) (xs : List Addition) → t / nanos_per_second ≤ u64_max → RoomFrom t xs → (t + total xs) / nanos_per_second ≤ u64_max
 room_fits t [] h room = omega arith
-room_fits t (x ∷ xs) h room =
-    let e : t + total (x ∷ xs) ≡ (t + addition_nanos x) + total xs = omega (arith, sum_by-cons addition_nanos x xs) in
-    rw e (room_fits (t + addition_nanos x) xs room.0.1 room.1)
+room_fits t (x ∷ xs) h room = grind (arith, common_steps, (room_fits (t + addition_nanos x) xs room.0.1 room.1), sum_by-cons)
 
 -- what is accepted is a duration
 accepted_fits : (text : List ℕ) (v : ℕ) → Accepted text v → v / nanos_per_second ≤ u64_max

@@ -1,6 +1,6 @@
 -- Room for additions, one after the other.
 use Rattle.std.proofs.lemmas.Grind.{common_steps}
-use Rattle.std.proofs.Common.{◌≡◌, ℕ, ◌≤◌, ◌+◌, ◌/◌, ◌%◌, Bool, true, List, [], ◌∷◌, ◌++◌, Some, None, refl, ap, ◌∙◌, inl, inr, arith}
+use Rattle.std.proofs.Common.{◌≡◌, ℕ, ◌+◌, ◌%◌, Bool, true, List, [], ◌∷◌, ◌++◌, Some, None, refl, ap, ◌∙◌, inl, inr, arith}
 use Rattle.std.specs.Prelude.{⊤, ◌==◌, nat_le, if◌then◌else◌}
 use Rattle.std.proofs.lemmas.Bool.{cases_Bool, and_from, le-leb}
 use Rattle.std.proofs.lemmas.List.Sums.{sum_by-append, sum_by-cons}
@@ -22,17 +22,11 @@ total-append xs ys = sum_by-append addition_nanos xs ys
 abbrev low_room : ℕ → Addition → Bool
 low_room t x = if x.base == 1 then nat_le (t % nanos_per_second + x.amount) u64_max else true
 
-abbrev high_room : ℕ → Addition → Bool
-high_room t x = nat_le ((t + addition_nanos x) / nanos_per_second) u64_max
-
 room-true : (t : ℕ) (x : Addition) → room t x ≡ true → HasRoom t x
 room-true t x h = grind (arith, common_steps)
 
-low_room_from : (t : ℕ) (x : Addition) → (x.base ≡ 1 → t % nanos_per_second + x.amount ≤ u64_max) → low_room t x ≡ true
-low_room_from t x h = grind (arith, common_steps)
-
 room_from : (t : ℕ) (x : Addition) → HasRoom t x → room t x ≡ true
-room_from t x h = and_from (low_room t x) (high_room t x) (low_room_from t x h.0) (le-leb ((t + addition_nanos x) / nanos_per_second) u64_max h.1)
+room_from t x h = grind (arith, common_steps, and_from, le-leb, common_steps)
 
 -- the sum where there is room, and none else
 pub add_all-room : (t : ℕ) (xs : List Addition) → RoomFrom t xs → add_all t xs ≡ Some (t + total xs)
@@ -61,9 +55,7 @@ RoomFrom-front t (x ∷ xs) ys h = (h.0, RoomFrom-front (t + addition_nanos x) x
 
 pub RoomFrom-back : (t : ℕ) (xs ys : List Addition) → RoomFrom t (xs ++ ys) → RoomFrom (t + total xs) ys
 RoomFrom-back t [] ys h = let e : t + total [] ≡ t = omega arith in rw e h
-RoomFrom-back t (x ∷ xs) ys h =
-    let e : t + total (x ∷ xs) ≡ (t + addition_nanos x) + total xs = omega (arith, sum_by-cons addition_nanos x xs) in
-    rw e (RoomFrom-back (t + addition_nanos x) xs ys h.1)
+RoomFrom-back t (x ∷ xs) ys h = grind (arith, common_steps, (RoomFrom-back (t + addition_nanos x) xs ys h.1), sum_by-cons)
 
 -- room one by one is room after each front
 from_each : (t : ℕ) (xs : List Addition) → ((before after : List Addition) (x : Addition) → xs ≡ before ++ x ∷ after → HasRoom (t + total before) x) → RoomFrom t xs

@@ -37,11 +37,8 @@ begins_some p cs hyp1 = grind (arith, common_steps)
 pub begins_not_nil : (p : ℕ → Bool) (cs : List ℕ) → begins p cs ≡ true → cs ≢ []
 begins_not_nil p cs hyp1 = grind (arith, common_steps)
 
-pub begins_Only : (p : ℕ → Bool) (cs : List ℕ) → Only p cs → cs ≢ [] → begins p cs ≡ true
-begins_Only p cs hyp1 hyp2 = grind (arith, common_steps)
-
 pub letters_begin : (cs : List ℕ) → IsLetters cs → begins is_letter cs ≡ true
-letters_begin cs h = begins_Only is_letter cs h.0 h.1
+letters_begin cs h = grind (arith, common_steps, common_steps)
 
 pub ends_Only : (p : ℕ → Bool) (cs : List ℕ) → Only p cs → cs ≢ [] → ends p cs ≡ true
 ends_Only p [] h some = absurd (some refl)

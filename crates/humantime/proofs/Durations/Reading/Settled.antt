@@ -1,18 +1,18 @@
 -- What spans add up to by the reference, and whether they are within the limits.
 use Rattle.std.proofs.lemmas.Grind.{common_steps}
-use Rattle.std.proofs.Common.{◌≡◌, ◌⊎◌, ℕ, ◌≤◌, ◌+◌, ◌*◌, true, List, [], ◌∷◌, ◌++◌, Option, Some, None, Result, Ok, Err, sym, ap, ◌∙◌, inl, inr, arith, append-nil}
+use Rattle.std.proofs.Common.{◌≡◌, ◌⊎◌, ℕ, ◌≤◌, ◌+◌, ◌*◌, List, [], ◌∷◌, ◌++◌, Option, Some, None, Result, Ok, Err, sym, ap, ◌∙◌, inl, inr, arith, append-nil}
 use Rattle.std.specs.Prelude.{⊤}
 use Rattle.std.specs.List.{AllByRecursion}
-use Rattle.std.specs.Option.{IsSome, IfSome}
+use Rattle.std.specs.Option.{IfSome}
 use Rattle.std.proofs.lemmas.Bool.{cases_Bool}
 use Rattle.std.proofs.lemmas.Grind.{flat_map-append}
 use Rattle.humantime.specs.Durations.Characters.{decimal_value, u64_max}
-use Rattle.humantime.specs.Durations.Units.{Scale, scale_of_word}
+use Rattle.humantime.specs.Durations.Units.{Scale}
 use Rattle.humantime.specs.Durations.Spans.{Span}
 use Rattle.humantime.specs.Durations.Sums.{total, additions_of, additions, value}
 use Rattle.humantime.specs.Durations.Limits.{Formed, FitsFraction, Fits, WithinLimits}
 use Rattle.humantime.specs.Durations.Faults.{Fault, NumberOverflow}
-use Rattle.humantime.specs.References.Durations.Reading.{fits_at, add_span, settle}
+use Rattle.humantime.specs.References.Durations.Reading.{add_span, settle}
 use Rattle.humantime.proofs.Durations.Reading.Rooms.{RoomFrom, total-append, add_all-room, add_all-full, RoomFrom-append, RoomFrom-front, RoomFrom-back, room_from_all, all_have_room}
 
 -- the span keeps the limits after t nanoseconds
@@ -27,32 +27,21 @@ WithinLimitsFrom t (s ∷ ss) = IsAddedTo t s × WithinLimitsFrom (t + total (ad
 abbrev pub FitsAt : Option Scale → Span → Type 0
 FitsAt o s = IfSome o (λ u. (decimal_value s.number * u.factor ≤ u64_max) × FitsFraction u.fraction_factor s.fraction)
 
-fits_at-true : (o : Option Scale) (s : Span) → fits_at o s ≡ true → FitsAt o s
-fits_at-true o s hyp1 = grind (arith, common_steps)
-
-fits_at_from : (o : Option Scale) (s : Span) → IsSome o → FitsAt o s → fits_at o s ≡ true
-fits_at_from o s hyp1 hyp2 = grind (arith, common_steps)
-
 -- the sum after a span that keeps the limits, and none after another
 pub add_span-added : (t : ℕ) (s : Span) → Formed s → IsAddedTo t s → add_span t s ≡ Some (t + total (additions_of s))
 unfolding add_span
-add_span-added t s f h = rw (fits_at_from (scale_of_word s.word) s f.word h.0) (add_all-room t (additions_of s) h.1)
+add_span-added t s f h = grind (arith, common_steps, add_all-room, common_steps)
 
 pub add_span-over : (t : ℕ) (s : Span) → ¬ (IsAddedTo t s) → add_span t s ≡ None
 unfolding add_span
-add_span-over t s h = grind (arith, common_steps, cases_Bool, add_all-full, fits_at-true)
+add_span-over t s h = grind (arith, common_steps, common_steps, cases_Bool, add_all-full)
 
 pub added_or_not : (t : ℕ) (s : Span) → Formed s → IsAddedTo t s ⊎ ¬ (IsAddedTo t s)
 added_or_not t s f = grind (arith, common_steps)
 
 pub within_or_not : (t : ℕ) (spans : List Span) → AllByRecursion Formed spans → WithinLimitsFrom t spans ⊎ ¬ (WithinLimitsFrom t spans)
 within_or_not t [] f = inl tt
-within_or_not t (s ∷ ss) f = both (added_or_not t s f.0) (within_or_not (t + total (additions_of s)) ss f.1)
-  where
-    both : IsAddedTo t s ⊎ ¬ (IsAddedTo t s) → WithinLimitsFrom (t + total (additions_of s)) ss ⊎ ¬ (WithinLimitsFrom (t + total (additions_of s)) ss) → WithinLimitsFrom t (s ∷ ss) ⊎ ¬ (WithinLimitsFrom t (s ∷ ss))
-    both (inl a) (inl b) = inl (a, b)
-    both (inl a) (inr b) = inr (λ h. b h.1)
-    both (inr a) o = inr (λ h. a h.0)
+within_or_not t (s ∷ ss) f = grind (arith, common_steps, (within_or_not (t + total (additions_of s)) ss f.1), added_or_not)
 
 pub value-cons : (s : Span) (ss : List Span) → value (s ∷ ss) ≡ total (additions_of s) + value ss
 value-cons s ss = total-append (additions_of s) (additions ss)
@@ -74,10 +63,7 @@ settle_over t s ss stop e = rw (e, settle)
 
 pub settle-append : (t : ℕ) (ss ts : List Span) (stop : Option Fault) → AllByRecursion Formed ss → WithinLimitsFrom t ss → settle t (ss ++ ts) stop ≡ settle (t + value ss) ts stop
 settle-append t [] ts stop f h = ap (λ (n : ℕ). settle n ts stop) (omega arith)
-settle-append t (s ∷ ss) ts stop f h =
-    settle_on t _ s (ss ++ ts) stop (add_span-added t s f.0 h.0)
-    ∙ settle-append (t + total (additions_of s)) ss ts stop f.1 h.1
-    ∙ ap (λ (n : ℕ). settle n ts stop) (omega (arith, value-cons s ss))
+settle-append t (s ∷ ss) ts stop f h = grind (arith, common_steps, (settle-append (t + total (additions_of s)) ss ts stop f.1 h.1), settle_on, add_span-added, value-cons)
 
 -- the value, or else the fault at which they stop
 abbrev pub ended : ℕ → Option Fault → Result ℕ Fault
@@ -127,6 +113,4 @@ WithinLimitsFrom-push t (x ∷ ss) s h a =
 
 pub WithinLimitsFrom-last : (t : ℕ) (ss : List Span) (s : Span) → WithinLimitsFrom t (ss ++ s ∷ []) → IsAddedTo (t + value ss) s
 WithinLimitsFrom-last t [] s h = let e : t + value [] ≡ t = omega arith in rw e (h.0)
-WithinLimitsFrom-last t (x ∷ ss) s h =
-    let e : t + value (x ∷ ss) ≡ (t + total (additions_of x)) + value ss = omega (arith, value-cons x ss) in
-    rw e (WithinLimitsFrom-last (t + total (additions_of x)) ss s h.1)
+WithinLimitsFrom-last t (x ∷ ss) s h = grind (arith, common_steps, (WithinLimitsFrom-last (t + total (additions_of x)) ss s h.1), value-cons)

@@ -1,6 +1,6 @@
 -- The digits of a fraction without the zeros at their end.
 use Rattle.std.proofs.lemmas.Grind.{common_steps}
-use Rattle.std.proofs.Common.{◌≡◌, ◌≤◌, ◌<◌, ◌+◌, ◌*◌, ◌/◌, ◌%◌, ◌^◌, ℕ, zero, suc, false, List, [], ◌∷◌, ◌++◌, length, refl, sym, ap, ap₂, ◌∙◌, inl, inr, arith, length-append}
+use Rattle.std.proofs.Common.{◌≡◌, ◌≤◌, ◌<◌, ◌+◌, ◌*◌, ◌/◌, ◌%◌, ◌^◌, ℕ, zero, suc, false, List, [], ◌∷◌, ◌++◌, length, refl, ap, ap₂, ◌∙◌, inl, inr, arith, length-append}
 use Rattle.std.specs.Prelude.{◌==◌}
 use Rattle.std.specs.Char.{digit_value}
 use Rattle.std.specs.Str.Parse.{digits_value_after}
@@ -87,11 +87,7 @@ value-append v (d ∷ ds) es = value-append (v * 10 + digit_value d) ds es
 
 pub value-zeros : (v k : ℕ) → digits_value_after 10 v (zeros k) ≡ v * 10 ^ k
 value-zeros v zero = omega arith
-value-zeros v (suc k) =
-    let more : 10 ^ suc k ≡ 10 ^ k * 10 = pow-suc 10 k in
-    let rest : digits_value_after 10 (v * 10) (zeros k) ≡ v * 10 * 10 ^ k = value-zeros (v * 10) k in
-    let none : v * 10 + digit_value 48 ≡ v * 10 = omega arith in
-    ap (λ (n : ℕ). digits_value_after 10 n (zeros k)) none ∙ rest ∙ mul_assoc v 10 (10 ^ k) ∙ ap (λ (n : ℕ). v * n) (mul_comm 10 (10 ^ k) ∙ sym more)
+value-zeros v (suc k) = grind (arith, common_steps, (value-zeros (v * 10) k), pow-suc, mul_assoc, mul_comm)
 
 zeros_count : (ds : List ℕ) → length ds ≡ length (significant ds) + (significant_and_zeros ds).0
 zeros_count ds = grind (arith, common_steps, significant_and_zeros, length-append, length-zeros)

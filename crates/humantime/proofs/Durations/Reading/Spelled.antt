@@ -1,10 +1,10 @@
 -- What a spelling is read as: the longest runs of characters give back the span that it spells.
 use Rattle.std.proofs.lemmas.Grind.{common_steps}
-use Rattle.std.proofs.Common.{◌≡◌, ◌≢◌, ◌⊎◌, ℕ, ◌≤◌, ◌<◌, true, false, List, [], ◌∷◌, ◌++◌, length, Option, Some, None, option_map, refl, sym, ap, ◌∙◌, inl, inr, arith, subst, append_assoc, append-nil}
+use Rattle.std.proofs.Common.{◌≡◌, ◌≢◌, ◌⊎◌, ℕ, ◌≤◌, ◌<◌, true, false, List, [], ◌∷◌, ◌++◌, length, Option, Some, None, option_map, refl, sym, ap, ◌∙◌, inl, inr, arith, append_assoc, append-nil}
 use Rattle.std.proofs.lemmas.Bool.{cases_Bool, false≢true}
 use Rattle.humantime.specs.Durations.Characters.{is_ws, is_digit, is_letter, is_numeric, leading, past, begins, ends, digits}
 use Rattle.humantime.specs.Durations.Spans.{Span, Only, SpellsFraction, Spells}
-use Rattle.humantime.specs.Durations.Rests.{after_number, fraction_at, past_fraction, fraction_of, after_fraction, word_of, after_word, span_of}
+use Rattle.humantime.specs.Durations.Rests.{after_number, fraction_at, past_fraction, fraction_of, after_fraction, after_word, span_of}
 use Rattle.humantime.specs.Durations.Faults.{EndsInSpace, MayFollowWord}
 use Rattle.humantime.proofs.Durations.Reading.Classes.{numeric_not_letter, letter_not_numeric, letter_not_point, letter_not_space, digit_is_numeric, space_is_numeric, point_not_numeric, is_point-46}
 use Rattle.humantime.proofs.Durations.Reading.Spellings.{spells_alone}
@@ -46,14 +46,7 @@ fraction_read b tail None h e = rw h (record {
   past_it = (no_point tail e).1;
   some = λ p. cc;
 })
-fraction_read b tail (Some ds) h e =
-    let stops : begins is_numeric tail ≡ false = begins_other is_letter is_numeric letter_not_numeric tail e in
-    rw (h.1) (record {
-      stops = point_not_numeric 46 is_point-46;
-      is_read = rw (is_point-46, leading-append is_numeric h.0 tail h.2.0 stops) (ap Some h.2.1);
-      past_it = rw is_point-46 (past-append is_numeric h.0 tail h.2.0 stops);
-      some = λ p. let q : ds ≡ [] = cc in h.3 q;
-    })
+fraction_read b tail (Some ds) h e = grind (arith, common_steps, begins_other, letter_not_numeric, point_not_numeric, is_point-46, leading-append, past-append)
 
 -- a spelled number and fraction before a word are read as these
 pub record IsReadToWord (rest number_text fraction_text tail : List ℕ) (fraction : Option (List ℕ)) : Type 0 where
@@ -63,9 +56,6 @@ pub record IsReadToWord (rest number_text fraction_text tail : List ℕ) (fracti
   pub tail_is : after_fraction rest ≡ tail
   pub some : fraction ≢ Some []
 
-read_to_word : (a b tail : List ℕ) (o : Option (List ℕ)) → Only is_numeric a → SpellsFraction b o → begins is_letter tail ≡ true → IsReadToWord (a ++ (b ++ tail)) a b tail o
-read_to_word a b tail o only f letter = grind (arith, common_steps, fraction_read, past-append, leading-append)
-
 -- a spelling before what begins with no letter
 record IsRead (rest : List ℕ) (s : Span) (after : List ℕ) : Type 0 where
   span : span_of rest ≡ s
@@ -74,15 +64,7 @@ record IsRead (rest : List ℕ) (s : Span) (after : List ℕ) : Type 0 where
 
 parts_read : (a b word after : List ℕ) (o : Option (List ℕ)) → Only is_numeric a → SpellsFraction b o → Only is_letter word → begins is_letter word ≡ true
     → begins is_letter after ≡ false → IsRead (a ++ (b ++ (word ++ after))) (record { number = digits a; fraction = o; word = word }) after
-parts_read a b word after o only f letters some stops =
-    let rest = a ++ (b ++ (word ++ after)) in
-    let h : IsReadToWord rest a b (word ++ after) o = read_to_word a b (word ++ after) o only f (begins_word word after some) in
-    let word_is : word_of rest ≡ word = ap (leading is_letter) h.tail_is ∙ leading-append is_letter word after letters stops in
-    record {
-      span = span_same (ap digits h.number_is) h.fraction_is word_is;
-      point = λ p. h.some (sym h.fraction_is ∙ p);
-      after_is = ap (past is_letter) h.tail_is ∙ past-append is_letter word after letters stops;
-    }
+parts_read a b word after o only f letters some stops = grind (arith, common_steps, begins_word, leading-append, span_same, past-append, common_steps, fraction_read)
 
 spelling_parts : (here next : List ℕ) (s : Span) (h : Spells here s []) → here ++ next ≡ h.number_text ++ (h.fraction_text ++ (s.word ++ (h.space ++ next)))
 spelling_parts here next s h = ap (λ (x : List ℕ). x ++ next) (spells_alone here s h) ∙ simp append_assoc
@@ -90,10 +72,7 @@ spelling_parts here next s h = ap (λ (x : List ℕ). x ++ next) (spells_alone h
 -- a rest that spells a span is read as its number and fraction up to its word
 pub read_spelled : (rest next : List ℕ) (s : Span) (h : Spells rest s next)
     → IsReadToWord rest h.number_text h.fraction_text (s.word ++ (h.space ++ next)) s.fraction
-read_spelled rest next s h =
-    let tail = s.word ++ (h.space ++ next) in
-    subst (λ (x : List ℕ). IsReadToWord x h.number_text h.fraction_text tail s.fraction) (sym h.whole)
-    (read_to_word h.number_text h.fraction_text tail s.fraction h.number.0 h.fraction (begins_word s.word (h.space ++ next) (letters_begin s.word h.word)))
+read_spelled rest next s h = grind (arith, common_steps, begins_word, letters_begin, common_steps, fraction_read, past-append, leading-append)
 
 pub no_letter_follows : (cs : List ℕ) → MayFollowWord cs → begins is_letter cs ≡ false
 no_letter_follows cs hyp1 = grind (arith, common_steps, begins_other, numeric_not_letter)
@@ -131,9 +110,6 @@ spelled_here here next s h o no_space =
 past_fraction_shorter : (cs : List ℕ) → length (past_fraction cs) ≤ length cs
 past_fraction_shorter cs = grind (arith, common_steps, cases_Bool, past_shorter)
 
-number_shorter : (rest : List ℕ) → begins is_digit rest ≡ true → length (after_number rest) < length rest
-number_shorter rest hyp1 = grind (arith, common_steps, digit_is_numeric, past_shorter)
-
 -- what follows a span is shorter than what it begins
 pub next_smaller : (rest : List ℕ) → begins is_digit rest ≡ true → length (next_of rest) < length rest
-next_smaller rest e = grind (arith, common_steps, number_shorter, past_fraction_shorter, past_shorter)
+next_smaller rest e = grind (arith, common_steps, common_steps, past_fraction_shorter, past_shorter, digit_is_numeric)

@@ -1,7 +1,7 @@
 -- Where the span that begins a rest stops, by the reference and by the table of faults.
 use Rattle.std.proofs.lemmas.Grind.{common_steps}
-use Rattle.std.proofs.Common.{◌≡◌, ◌≢◌, ℕ, true, false, List, [], Option, Some, None, refl, sym, ap, ◌∙◌, inl, inr, arith}
-use Rattle.std.specs.Option.{IsSome, is_some}
+use Rattle.std.proofs.Common.{◌≡◌, ◌≢◌, ℕ, true, false, List, [], Option, Some, None, arith}
+use Rattle.std.specs.Option.{IsSome}
 use Rattle.std.proofs.lemmas.Bool.{cases_Bool, false≢true}
 use Rattle.humantime.specs.Durations.Characters.{is_digit, begins}
 use Rattle.humantime.specs.Durations.Units.{Scale, scale_of_word}
@@ -18,11 +18,8 @@ pub record Fine (rest : List ℕ) : Type 0 where
   pub word : IsSome (scale_of_word (word_of rest))
   pub ends : MayFollowWord (after_word rest)
 
-too_long-true : (s : Span) → too_long s ≡ true → ¬ (IsShort s)
-too_long-true s e h = grind (arith, common_steps)
-
 not_too_long : (s : Span) → IsShort s → too_long s ≡ false
-not_too_long s h = elim (cases_Bool (too_long s)) [ inl e ↦ absurd (too_long-true s e h) | inr e ↦ e ]
+not_too_long s h = grind (arith, common_steps, cases_Bool, common_steps)
 
 -- what an answer of the reference says
 abbrev pub Says : List ℕ → List ℕ → List Span → List ℕ → Option Fault → Type 0
@@ -37,23 +34,17 @@ stop_says text front spans rest d = grind (arith, common_steps)
 by_word : (text rest : List ℕ) (f : Option (List ℕ)) (w n : List ℕ) → f ≢ Some [] → w ≢ [] → MayFollowWord n → stop_by text rest f w n ≡ stop_word text rest (scale_of_word w)
 by_word text rest f w n hyp1 hyp2 hyp3 = grind (arith, common_steps)
 
-stop_parts : (text rest : List ℕ) → IsShort (span_of rest) → stop_at text rest ≡ stop_by text rest (fraction_of rest) (word_of rest) (after_word rest)
-unfolding stop_at
-stop_parts text rest h = rw (not_too_long (span_of rest) h)
-
-no_word_empty : scale_of_word [] ≡ None
-unfolding scale_of_word
-no_word_empty = refl
-
 pub some_letters : (word : List ℕ) → IsSome (scale_of_word word) → word ≢ []
-some_letters word h e = false≢true (sym (ap is_some (ap scale_of_word e ∙ no_word_empty)) ∙ h)
+unfolding scale_of_word
+some_letters word h e = grind (arith, common_steps, false≢true)
 
 known_word : (text rest : List ℕ) (o : Option Scale) → IsSome o → stop_word text rest o ≡ None
 known_word text rest o hyp1 = grind (arith, common_steps)
 
 -- at a span that is well formed nothing stops
 pub fine_goes : (text rest : List ℕ) → Fine rest → stop_at text rest ≡ None
-fine_goes text rest h = grind (arith, common_steps, stop_parts, by_word, some_letters, known_word)
+unfolding stop_at
+fine_goes text rest h = grind (arith, common_steps, common_steps, by_word, some_letters, known_word, not_too_long)
 
 -- each row of the table where a number begins
 pub stops_at : (text front : List ℕ) (spans : List Span) (rest : List ℕ) (e : Fault) → begins is_digit rest ≡ true → Stops text front spans rest e → stop_at text rest ≡ Some e

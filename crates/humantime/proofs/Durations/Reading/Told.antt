@@ -4,7 +4,7 @@ use Rattle.std.proofs.Common.{◌≡◌, ◌≢◌, ◌⊎◌, ℕ, ◌≤◌, t
 use Rattle.std.specs.List.{AllByRecursion}
 use Rattle.std.proofs.lemmas.Bool.{cases_Bool}
 use Rattle.humantime.specs.Durations.Characters.{is_ws, is_digit, is_numeric, begins, ends, past, offset_of}
-use Rattle.humantime.specs.Durations.Spans.{Span, Spells, SpellsEach}
+use Rattle.humantime.specs.Durations.Spans.{Span, SpellsEach}
 use Rattle.humantime.specs.Durations.Limits.{Formed}
 use Rattle.humantime.specs.Durations.Faults.{Fault, NumberExpected, Empty, Split, Stops, EndsInSpace, MayFollowWord}
 use Rattle.humantime.specs.Durations.Items.{Items}
@@ -24,11 +24,8 @@ Closes front rest = MayFollowWord rest ⊎ EndsInSpace front
 pub closes_digit : (front rest : List ℕ) → begins is_digit rest ≡ true → Closes front rest
 closes_digit front rest d = inl (inr (begins_also is_digit is_numeric digit_is_numeric rest d))
 
-starts_here : (text rest : List ℕ) (s : Span) → Spells text s rest → begins is_digit text ≡ true
-starts_here text rest s h = grind (arith, common_steps)
-
 pub each_starts : (body : List ℕ) (s : Span) (ss : List Span) → SpellsEach body (s ∷ ss) → begins is_digit body ≡ true
-each_starts body s ss h = starts_here body h.0 s h.1
+each_starts body s ss h = grind (arith, common_steps, common_steps)
 
 starts_before : (body rest : List ℕ) (s : Span) (ss : List Span) → SpellsEach body (s ∷ ss) → begins is_digit (body ++ rest) ≡ true
 starts_before body rest s ss h = let d = each_starts body s ss h in begins-append is_digit body rest (begins_not_nil is_digit body d) ∙ d
@@ -79,9 +76,7 @@ through_step n text whole next rest s ss i f h more =
 
 through : (n : ℕ) (text body rest : List ℕ) (spans : List Span) → SpellsEach body spans → AllByRecursion Formed spans → (spans ≡ []) ⊎ Closes body rest → begins is_ws rest ≡ false
     → length (body ++ rest) ≤ n → GoesThrough (read n text (body ++ rest)) text spans rest
-through n text body rest [] h f o e l =
-    let k : length rest ≤ n = rw h at l in
-    rw h (record { n = n; enough = k; is = refl })
+through n text body rest [] h f o e l = grind (arith, common_steps)
 through n text body rest (s ∷ ss) h f (inl o) e l = cc
 through n text body rest (s ∷ ss) h f (inr o) e l =
     let p = apart body h.0 s h.1 in

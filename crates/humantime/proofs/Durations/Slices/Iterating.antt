@@ -40,12 +40,6 @@ left_fine first text (c ∷ cs) d s =
     let less = next_smaller (c ∷ cs) d in
     lends-fine (length cs) text (c ∷ cs) d s ∙ ap (λ (xs : List (Result Lent Fault)). Ok (lent_at text (c ∷ cs)) ∷ xs) (lends_left (length cs) text (next_of (c ∷ cs)) (omega arith))
 
-left_stopped : (first : Bool) (text rest : List ℕ) (e : Fault) → begins is_digit rest ≡ true → stop_at text rest ≡ Some e → left_at first text rest ≡ Err e ∷ []
-left_stopped first text rest e hyp1 hyp2 = grind (arith, common_steps, lends-stopped)
-
-left_expected : (first : Bool) (text rest : List ℕ) → rest ≢ [] → begins is_digit rest ≡ false → left_at first text rest ≡ Err (NumberExpected (offset_of text rest)) ∷ []
-left_expected first text rest hyp1 hyp2 = grind (arith, common_steps, lends-expected)
-
 -- the items that are left before a text whose white space is still to be passed, unless they have ended
 abbrev pub left : Bool → Bool → List ℕ → List ℕ → List (Result Lent Fault)
 left ended first text before = if ended then [] else left_at first text (past is_ws before)
@@ -56,10 +50,10 @@ pub step_fine : (ended first first' : Bool) (text before rest next : List ℕ) (
 step_fine ended first first' text before rest next x e r d s i n f = grind (arith, common_steps, left_fine)
 
 pub step_stopped : (ended first : Bool) (text before rest : List ℕ) (f : Fault) → ended ≡ false → rest ≡ past is_ws before → begins is_digit rest ≡ true → stop_at text rest ≡ Some f → left ended first text before ≡ Err f ∷ []
-step_stopped ended first text before rest f e r d s = rw (e, ← r) (left_stopped first text rest f d s)
+step_stopped ended first text before rest f e r d s = grind (arith, common_steps, common_steps, lends-stopped)
 
 pub step_expected : (ended first : Bool) (text before rest : List ℕ) (n : ℕ) → ended ≡ false → rest ≡ past is_ws before → rest ≢ [] → begins is_digit rest ≡ false → n ≡ offset_of text rest → left ended first text before ≡ Err (NumberExpected n) ∷ []
-step_expected ended first text before rest n e r s d p = rw (e, ← r, p) (left_expected first text rest s d)
+step_expected ended first text before rest n e r s d p = grind (arith, common_steps, common_steps, lends-expected)
 
 -- what the items so far add up to, with the next item
 pub loop_done : (t : ℕ) (xs : List (Result Lent Fault)) (g : Result ℕ Fault) → judged t xs ≡ g → xs ≡ [] → Ok t ≡ g

@@ -1,8 +1,8 @@
 -- What a span lends of the text is told by the text and the span.
 use Rattle.std.proofs.Common.{arith}
+use Rattle.std.proofs.Math.Bool.{and-false}
 use Rattle.std.proofs.lemmas.Grind.{common_steps}
-use Rattle.std.proofs.Common.{◌≡◌, ℕ, suc, Bool, true, false, ◌&&◌, cond, eqb, List, [], ◌∷◌, ◌++◌, length, Option, Some, None, refl, sym, ap, ap₂, subst, ◌∙◌}
-use Rattle.std.specs.Char.{is_whitespace}
+use Rattle.std.proofs.Common.{◌≡◌, ℕ, Bool, true, ◌&&◌, cond, eqb, List, [], ◌∷◌, ◌++◌, length, Option, Some, None, refl, sym, ap, ap₂, subst, ◌∙◌}
 use Rattle.std.specs.Str.{drop_trailing_whitespace}
 use Rattle.std.proofs.lemmas.List.{append_cancel_left}
 use Rattle.humantime.specs.Durations.Characters.{is_ws, is_digit, is_letter, begins, ends, past, offset_of}
@@ -23,12 +23,7 @@ drop_white (c ∷ cs) o = ap₂ (λ (b : Bool) (l : List ℕ). cond (b && eqb (l
 drop_tail : (xs tail : List ℕ) → Only is_ws tail → ends is_digit xs ≡ true → drop_trailing_whitespace (xs ++ tail) ≡ xs
 drop_tail [] tail o e = cc
 drop_tail (x ∷ []) tail o e = ap₂ (λ (b : Bool) (l : List ℕ). cond (b && eqb (length l) 0) [] (x ∷ l)) (white_is x ∙ digit_not_space x e) (drop_white tail o)
-drop_tail (x ∷ y ∷ xs) tail o e =
-    ap (λ (l : List ℕ). cond (is_whitespace x && eqb (length l) 0) [] (x ∷ l)) (drop_tail (y ∷ xs) tail o e) ∙ by (is_whitespace x)
-  where
-    by : (b : Bool) → cond (b && eqb (suc (length xs)) 0) [] (x ∷ y ∷ xs) ≡ x ∷ y ∷ xs
-    by true = rw (suc_not_zero (length xs))
-    by false = refl
+drop_tail (x ∷ y ∷ xs) tail o e = rw (drop_tail (y ∷ xs) tail o e, suc_not_zero (length xs), and-false)
 
 begins_first : (p : ℕ → Bool) (xs ys : List ℕ) → begins p xs ≡ true → begins p (xs ++ ys) ≡ true
 begins_first p xs ys e = begins-append p xs ys (begins_not_nil p xs e) ∙ e
@@ -42,7 +37,6 @@ fraction_told b tail None None h k e = sym (ap (λ (l : List ℕ). fraction_slic
 fraction_told b tail None (Some slice) h k e = let p = sym h ∙ k.1 in cc
 fraction_told b tail (Some ds) None h k e = let p = sym k ∙ h.1 in cc
 fraction_told b tail (Some ds) (Some slice) h k e =
-    let p = sym h.1 ∙ k.1 in
     let same : h.0 ≡ k.0 = cc in
     let behind : fraction_slice (b ++ tail) ≡ Some (trimmed h.0) = ap (λ (l : List ℕ). fraction_slice (l ++ tail)) h.1 ∙ slice_behind_point h.0 tail h.2.0 e in
     sym (behind ∙ ap (λ (l : List ℕ). Some (trimmed l)) same ∙ ap (λ (l : List ℕ). Some l) (trimmed_is k.0 slice k.2))

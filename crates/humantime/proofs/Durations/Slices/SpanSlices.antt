@@ -1,6 +1,6 @@
 -- What the span at a rest lends of the text.
 use Rattle.std.proofs.lemmas.Grind.{common_steps}
-use Rattle.std.proofs.Common.{◌≡◌, ◌≢◌, ℕ, Bool, true, false, cond, if◌then◌else◌, List, [], ◌∷◌, ◌++◌, Option, None, refl, sym, ap, subst, ◌∙◌, ◌<◌, length, encode_utf8_all, append_assoc, length-append, arith}
+use Rattle.std.proofs.Common.{◌≡◌, ◌≢◌, ℕ, Bool, true, false, if◌then◌else◌, List, [], ◌∷◌, ◌++◌, Option, None, refl, sym, ap, subst, ◌∙◌, ◌<◌, length, encode_utf8_all, append_assoc, length-append, arith}
 use Rattle.std.proofs.lemmas.List.{append_cancel_left}
 use Rattle.std.proofs.lemmas.Str.{encodes-append, length-le-encodes}
 use Rattle.humantime.specs.Durations.Characters.{is_ws, is_digit, is_letter, is_numeric, is_point, begins, leading, past, digits, byte_length, offset_of}
@@ -27,11 +27,7 @@ fraction_text-past cs = grind (arith, common_steps, leading-past)
 
 Only-past : (p q : ℕ → Bool) (cs : List ℕ) → Only p cs → Only p (past q cs)
 Only-past p q [] o = tt
-Only-past p q (c ∷ cs) o = by (q c) (Only-past p q cs o.1)
-  where
-    by : (b : Bool) → Only p (past q cs) → Only p (cond b (past q cs) (c ∷ cs))
-    by true h = h
-    by false h = o
+Only-past p q (c ∷ cs) o = grind (arith, common_steps, (Only-past p q cs o.1))
 
 -- digits and white space that don't begin with white space begin with a digit
 begins_digit_or_end : (cs : List ℕ) → Only is_numeric cs → begins is_ws cs ≡ false → digits cs ≢ [] → begins is_digit cs ≡ true

@@ -14,9 +14,7 @@ use Rattle.humantime.proofs.Timestamps.Reading.Fractions.{nanos_bound}
 
 after_same : (ds : List ℕ) (m n : ℕ) → digits_value_after 10 m ds ≡ digits_value_after 10 n ds → m ≡ n
 after_same [] m n h = h
-after_same (c ∷ cs) m n h =
-    let next : m * 10 + digit_value c ≡ n * 10 + digit_value c = after_same cs (m * 10 + digit_value c) (n * 10 + digit_value c) h in
-    omega arith
+after_same (c ∷ cs) m n h = grind (arith, common_steps, (after_same cs (m * 10 + digit_value c) (n * 10 + digit_value c) h))
 
 -- equally many digits that are filled to the same number are the same
 same_filled : (k : ℕ) (ds es zs : List ℕ) (m n : ℕ) → AreDigits ds → AreDigits es → length ds ≡ length es → length ds ≤ k
@@ -25,13 +23,7 @@ same_filled k [] [] zs m n d e long room h = (after_same (take k zs) m n h, refl
 same_filled k [] (y ∷ ys) zs m n d e long room h = absurd (omega arith)
 same_filled k (x ∷ xs) [] zs m n d e long room h = absurd (omega arith)
 same_filled zero (x ∷ xs) (y ∷ ys) zs m n d e long room h = absurd (omega arith)
-same_filled (suc k) (x ∷ xs) (y ∷ ys) zs m n d e long room h =
-    let rest = same_filled k xs ys zs (m * 10 + digit_value x) (n * 10 + digit_value y) d.1 e.1 (omega arith) (omega arith) h in
-    let first = digit_value_digit x d.0 in
-    let second = digit_value_digit y e.0 in
-    let front : m ≡ n = omega (arith, rest.0, first, second, d.0, e.0) in
-    let digit : x ≡ y = omega (arith, rest.0, first, second, d.0, e.0) in
-    (front, λ i. digit i ∷ rest.1 i)
+same_filled (suc k) (x ∷ xs) (y ∷ ys) zs m n d e long room h = grind (arith, common_steps, (same_filled k xs ys zs (m * 10 + digit_value x) (n * 10 + digit_value y) d.1 e.1 (omega arith) (omega arith) h), digit_value_digit)
 
 same_nanos : (ds es : List ℕ) → AreDigits ds → AreDigits es → length ds ≡ length es → length ds ≤ 9 → fraction_nanos ds ≡ fraction_nanos es → ds ≡ es
 unfolding fraction_nanos

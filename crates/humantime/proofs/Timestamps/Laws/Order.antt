@@ -65,9 +65,7 @@ four_cmp m n xs ys = grind (arith, common_steps)
 
 after_cmp : (ds : List ℕ) (m n : ℕ) → nat_cmp m n ≡ nat_cmp (digits_value_after 10 m ds) (digits_value_after 10 n ds)
 after_cmp [] m n = refl
-after_cmp (c ∷ cs) m n =
-    cmp_alike m n (m * 10 + digit_value c) (n * 10 + digit_value c) ((λ h. omega arith), (λ h. omega arith), (λ h. omega arith))
-    ∙ after_cmp cs (m * 10 + digit_value c) (n * 10 + digit_value c)
+after_cmp (c ∷ cs) m n = grind (arith, common_steps, (after_cmp cs (m * 10 + digit_value c) (n * 10 + digit_value c)), cmp_alike)
 
 -- equally many digits, filled with others
 filled_cmp : (k : ℕ) (ds es zs ws : List ℕ) (m n : ℕ) → AreDigits ds → AreDigits es → length ds ≡ length es → length ds ≤ k
@@ -77,15 +75,7 @@ filled_cmp k [] [] zs ws m n d e long room = ap (λ (c : Ordering). ordering_the
 filled_cmp k [] (y ∷ ys) zs ws m n d e long room = absurd (omega arith)
 filled_cmp k (x ∷ xs) [] zs ws m n d e long room = absurd (omega arith)
 filled_cmp zero (x ∷ xs) (y ∷ ys) zs ws m n d e long room = absurd (omega arith)
-filled_cmp (suc k) (x ∷ xs) (y ∷ ys) zs ws m n d e long room =
-    let first = digit_value_digit x d.0 in
-    let second = digit_value_digit y e.0 in
-    let digits : nat_cmp x y ≡ nat_cmp (digit_value x) (digit_value y) = cmp_alike x y (digit_value x) (digit_value y) ((λ h. omega arith), (λ h. omega arith), (λ h. omega arith)) in
-    let low : digit_value x < 10 = omega (arith, d.0) in
-    let high : digit_value y < 10 = omega (arith, e.0) in
-    rw digits
-    (mixed_cmp 10 m n (digit_value x) (digit_value y) (slice_cmp nat_cmp (xs ++ ws) (ys ++ ws)) low high
-    ∙ filled_cmp k xs ys zs ws (m * 10 + digit_value x) (n * 10 + digit_value y) d.1 e.1 (omega arith) (omega arith))
+filled_cmp (suc k) (x ∷ xs) (y ∷ ys) zs ws m n d e long room = grind (arith, common_steps, (filled_cmp k xs ys zs ws (m * 10 + digit_value x) (n * 10 + digit_value y) d.1 e.1 (omega arith) (omega arith)), digit_value_digit, cmp_alike, mixed_cmp)
 
 nanos_cmp : (ds es ws : List ℕ) → AreDigits ds → AreDigits es → length ds ≡ length es → length ds ≤ 9
     → slice_cmp nat_cmp (ds ++ ws) (es ++ ws) ≡ ordering_then (nat_cmp (fraction_nanos ds) (fraction_nanos es)) (slice_cmp nat_cmp ws ws)

@@ -1,6 +1,6 @@
 -- The digits of a fraction: the first k of nine are the nanoseconds, cut to k digits.
 use Rattle.std.proofs.lemmas.Grind.{common_steps}
-use Rattle.std.proofs.Common.{◌≡◌, ℕ, zero, suc, ◌+◌, ◌-◌, ◌*◌, ◌/◌, ◌%◌, ◌^◌, ◌<◌, ◌≤◌, List, [], ◌∷◌, take, refl, sym, ap, subst, ◌∙◌, arith}
+use Rattle.std.proofs.Common.{◌≡◌, ℕ, zero, suc, ◌+◌, ◌-◌, ◌*◌, ◌/◌, ◌%◌, ◌^◌, ◌<◌, ◌≤◌, List, [], ◌∷◌, take, sym, ap, subst, ◌∙◌, arith}
 use Rattle.std.proofs.Math.Nat.{pow-suc, mod-le, mul-add-mod_self_right, one-le-pow, mul_assoc}
 use Rattle.std.proofs.lemmas.Nat.{pow-add, div-add-mod', mod_below, mul-add-lt, mod-mul-add}
 use Rattle.humantime.specs.Timestamps.Digits.{AreDigits}
@@ -40,9 +40,7 @@ back d = omega arith
 
 -- the first k of the last j digits, each with its weight, and what is left
 sum_of_digits : (k j n a : ℕ) → k ≤ j → add_digits a (10 ^ j / 10) (take k (last_digits j n)) + n % 10 ^ (j - k) ≡ a + n % 10 ^ j
-sum_of_digits zero j n a h =
-    let same : j - 0 ≡ j = omega arith in
-    rw same refl
+sum_of_digits zero j n a h = grind (arith, common_steps)
 sum_of_digits (suc k) zero n a h = absurd (omega arith)
 sum_of_digits (suc k) (suc j) n a h =
     let d = n / 10 ^ j % 10 in
@@ -81,7 +79,6 @@ shown_places k n hyp1 = grind (arith, common_steps)
 
 pub shown_nanos : (k n : ℕ) → k ≤ 9 → n < 1_000_000_000 → fraction_nanos (fraction_digits (cut_fraction n k)) ≡ n - n % 10 ^ (9 - k)
 shown_nanos k n small h =
-    let whole : n % 1_000_000_000 ≡ n = omega arith in
     let sum : add_digits 0 100_000_000 (take k (last_digits 9 n)) + n % 10 ^ (9 - k) ≡ 0 + n % 1_000_000_000 = sum_of_digits k 9 n 0 small in
     let nine : add_digits 0 100_000_000 (take k (nine_digits n)) + n % 10 ^ (9 - k) ≡ 0 + n % 1_000_000_000 = rw (nine_is n h) at sum in
     ap fraction_nanos (fraction_is k n) ∙ (nanos_added (take k (nine_digits n)) (first_are_digits k n h) ∙ omega arith)

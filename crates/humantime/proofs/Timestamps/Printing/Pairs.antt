@@ -21,11 +21,7 @@ record IsPairAt (xs : List ℕ) (i n : ℕ) : Type 0 where
 pair_at : (xs : List ℕ) (k i : ℕ) → are_pairs k xs ≡ true → i * 2 < length xs → IsPairAt xs (i * 2) (k + i)
 pair_at [] k i h within = absurd (omega arith)
 pair_at (a ∷ []) k i h within = absurd (cc)
-pair_at (a ∷ b ∷ rest) k zero h within =
-    let p = and_parts ((a == 48 + k / 10) && (b == 48 + k % 10)) (are_pairs (suc k) rest) h in
-    let q = and_parts (a == 48 + k / 10) (b == 48 + k % 10) p.0 in
-    let same : k + 0 ≡ k = omega arith in
-    rw same (record { tens = eqb-true _ _ q.0; ones = eqb-true _ _ q.1 })
+pair_at (a ∷ b ∷ rest) k zero h within = grind (arith, common_steps, and_parts, eqb-true)
 pair_at (a ∷ b ∷ rest) k (suc i) h within =
     let p = and_parts ((a == 48 + k / 10) && (b == 48 + k % 10)) (are_pairs (suc k) rest) h in
     let next : suc i * 2 ≡ suc (suc (i * 2)) = omega arith in

@@ -97,7 +97,6 @@ date_time_is : (t : ℕ) → t < 253_402_300_800 * 1_000_000_000 → IsDateTimeO
 unfolding date_time_of
 date_time_is t h =
     let secs = t / 1_000_000_000 in
-    let late : secs < 253_402_300_800 = omega arith in
     let date = date_of_is (secs / 86_400) (omega arith) in
     record {
       date = date.0;

@@ -1,16 +1,15 @@
 -- What the checks on a timestamp say, one by one.
 use Rattle.std.proofs.lemmas.Grind.{common_steps}
-use Rattle.std.proofs.Common.{◌≡◌, ℕ, ◌<◌, ◌≤◌, List, [], ◌∷◌, ◌++◌, length, get_or, drop, refl, ◌∙◌, arith}
-use Rattle.std.specs.Prelude.{Bool, true, ◌||◌, ◌==◌, codes, slice_index, None, if◌then◌else◌}
-use Rattle.std.specs.Bool.{Decides}
+use Rattle.std.proofs.Common.{◌≡◌, ℕ, ◌≤◌, List, [], ◌∷◌, ◌++◌, length, get_or, drop, refl, arith}
+use Rattle.std.specs.Prelude.{Bool, true, ◌||◌, ◌==◌, slice_index, None, if◌then◌else◌}
 use Rattle.std.proofs.Math.Seq.{drop-cons}
 use Rattle.std.specs.List.{list_all}
 use Rattle.std.proofs.Math.Bool.{and_assoc, and-true}
 use Rattle.std.proofs.lemmas.Bool.{and_parts, eqb-true}
 use Rattle.std.proofs.lemmas.Slice.Eq.{bytes_eq-Decides}
 use Rattle.humantime.specs.Timestamps.Digits.{AreDigits}
-use Rattle.humantime.specs.Timestamps.Fields.{Letter_T, Space, Nothing, Letter_Z, Offset, separator_byte, fraction_text, fraction_digits, zone_text}
-use Rattle.humantime.specs.Timestamps.Checks.{is_zone, is_long, has_signs, has_digits, in_range, has_point, ends_whole, ends_fraction, weak_checks, first_failed}
+use Rattle.humantime.specs.Timestamps.Fields.{Letter_T, Space, separator_byte, fraction_text, fraction_digits, zone_text}
+use Rattle.humantime.specs.Timestamps.Checks.{is_zone, is_long, has_signs, has_digits, in_range, ends_whole, ends_fraction, weak_checks, first_failed}
 use Rattle.humantime.specs.References.Timestamps.Reading.{has_two, zone_of, fraction_read, zone_at}
 use Rattle.humantime.proofs.Timestamps.Reading.Fractions.{front_are_digits, front_past}
 
@@ -54,34 +53,24 @@ pub record Pairs (b : List ℕ) : Type 0 where
 abbrev all_pairs : List ℕ → Bool
 all_pairs b = list_all (has_two b) (0 ∷ 2 ∷ 5 ∷ 8 ∷ 11 ∷ 14 ∷ 17 ∷ [])
 
-pairs_are : (b : List ℕ) → has_digits b ≡ all_pairs b
-unfolding has_digits has_two
-pairs_are b = simp (and_assoc, and-true)
-
 pub pairs_told : (b : List ℕ) → has_digits b ≡ true → Pairs b
-pairs_told b h = grind (arith, common_steps, pairs_are, and_parts)
+unfolding has_digits has_two
+pairs_told b h = grind (arith, common_steps, common_steps, and_parts, and_assoc, and-true)
 
 pub pairs_from : (b : List ℕ) → Pairs b → has_digits b ≡ true
-pairs_from b p = pairs_are b ∙ rw (p.century, p.year, p.month, p.day, p.hour, p.minute, p.second) refl
+unfolding has_digits has_two
+pairs_from b p = grind (arith, common_steps, and_assoc, and-true)
 
 pub separator_shown : (c : ℕ) → ((c == 84) || (c == 32)) ≡ true → c ≡ separator_byte (if c == 84 then Letter_T else Space)
 separator_shown c h = grind (arith, common_steps)
 
-zone_by : (z : List ℕ) (p q r : Bool) → Decides p (z ≡ []) → Decides q (z ≡ codes "Z") → Decides r (z ≡ codes "+00:00")
-    → (p || q || r) ≡ true → z ≡ zone_text (if p then Nothing else (if q then Letter_Z else Offset))
-zone_by z p q r hyp1 hyp2 hyp3 hyp4 = grind (arith, common_steps)
-
 pub zone_shown : (z : List ℕ) → is_zone z ≡ true → z ≡ zone_text (zone_of z)
-zone_shown z h = zone_by z _ _ _ (bytes_eq-Decides z []) (bytes_eq-Decides z (codes "Z")) (bytes_eq-Decides z (codes "+00:00")) h
-
--- a point at place 19 lies within the text
-pub point_within : (b : List ℕ) → has_point b ≡ true → 19 < length b
-point_within b h = grind (arith, common_steps)
+zone_shown z h = grind (arith, common_steps, bytes_eq-Decides, common_steps)
 
 -- what stands after date and time
 pub end_shown : (b : List ℕ) → ends_whole b ≡ true → ends_fraction b ≡ true → drop 19 b ≡ fraction_text (fraction_read b) ++ zone_text (zone_at b)
-unfolding ends_whole ends_fraction
-end_shown b whole fraction = grind (arith, common_steps, drop-cons, point_within, eqb-true, front_past, zone_shown)
+unfolding ends_fraction ends_whole
+end_shown b whole fraction = grind (arith, common_steps, common_steps, drop-cons, eqb-true, front_past, zone_shown)
 
 pub fraction_at_digits : (b : List ℕ) → AreDigits (fraction_digits (fraction_read b))
 fraction_at_digits b = grind (arith, common_steps, front_are_digits)

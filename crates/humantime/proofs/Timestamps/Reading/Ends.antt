@@ -21,23 +21,19 @@ end_told b e h = (bytes_eq-Decides e (drop (length b - length e) b)).0 h
 pub end_from : (xs e : List ℕ) → ends_with nat_eq (xs ++ e) e ≡ true
 end_from xs e = (bytes_eq-Decides e (drop (length (xs ++ e) - length e) (xs ++ e))).1 (sym (end_rest (xs ++ e) e xs refl))
 
--- a shorter text does not
-short_end : (b e : List ℕ) → length b < length e → ends_with nat_eq b e ≡ false
-short_end b e short = grind (arith, common_steps)
-
 -- ---- `Z` and `+00:00`
 
 pub last_letter : (b : List ℕ) → 1 ≤ length b → (slice_index b (length b - 1) == 90) ≡ ends_with nat_eq b (codes "Z")
 last_letter b some = grind (arith, common_steps)
 
 pub no_letter : (b : List ℕ) → length b < 1 → false ≡ ends_with nat_eq b (codes "Z")
-no_letter b short = sym (short_end b (codes "Z") short)
+no_letter b short = grind (arith, common_steps, common_steps)
 
 pub last_offset : (b : List ℕ) → bytes_eq (take (length b - (length b - 6)) (drop (length b - 6) b)) (codes "+00:00") ≡ ends_with nat_eq b (codes "+00:00")
 last_offset b = grind (arith, common_steps)
 
 pub no_offset : (b : List ℕ) → length b < 6 → false ≡ ends_with nat_eq b (codes "+00:00")
-no_offset b short = sym (short_end b (codes "+00:00") short)
+no_offset b short = grind (arith, common_steps, common_steps)
 
 -- ---- How long the zone is
 
@@ -82,7 +78,6 @@ offset_end xs z =
     let b = xs ++ codes "+00:00" in
     let split : b ≡ (xs ++ codes "+00:0") ++ codes "0" = sym (append_assoc xs (codes "+00:0") (codes "0")) in
     let last : drop (length b - 1) b ≡ codes "0" = end_rest b (codes "0") (xs ++ codes "+00:0") split in
-    let same : codes "Z" ≡ codes "0" = end_told b (codes "Z") z ∙ last in
     let no : ⊥ = cc in
     no
 
@@ -94,13 +89,8 @@ zone_length_of xs Nothing plain =
     let letter = false_unless (ends_with nat_eq xs (codes "Z")) (no_letter_end xs plain) in
     let offset = false_unless (ends_with nat_eq xs (codes "+00:00")) (no_offset_end xs plain) in
     rw (none, letter, offset) refl
-zone_length_of xs Letter_Z plain =
-    let letter = end_from xs (codes "Z") in
-    rw letter refl
-zone_length_of xs Offset plain =
-    let letter = false_unless (ends_with nat_eq (xs ++ codes "+00:00") (codes "Z")) (offset_end xs) in
-    let offset = end_from xs (codes "+00:00") in
-    rw (letter, offset) refl
+zone_length_of xs Letter_Z plain = grind (arith, common_steps, end_from)
+zone_length_of xs Offset plain = grind (arith, common_steps, false_unless, end_from, offset_end)
 
 -- ---- `+00:00` as two numbers
 

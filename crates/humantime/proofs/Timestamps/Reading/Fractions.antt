@@ -1,7 +1,7 @@
 -- The digits of a fraction, read one by one, are its nanoseconds.
 use Rattle.std.proofs.lemmas.Grind.{common_steps}
 use Rattle.std.proofs.Common.{◌≡◌, ◌≢◌, ℕ, zero, suc, ◌+◌, ◌-◌, ◌*◌, ◌/◌, ◌%◌, ◌^◌, ◌<◌, ◌≤◌, List, [], ◌∷◌, ◌++◌, length, get_or, take, drop, refl, sym, ◌∙◌, arith, add-one, append-nil, ap, subst}
-use Rattle.std.specs.Prelude.{Bool, true, false, if◌then◌else◌}
+use Rattle.std.specs.Prelude.{true, false}
 use Rattle.std.specs.Char.{is_ascii_digit, digit_value}
 use Rattle.std.specs.Int.{IsInRange}
 use Rattle.std.specs.Str.Parse.{digits_value_after}
@@ -18,9 +18,7 @@ use Rattle.humantime.specs.References.Timestamps.Fractions.{add_digits, weight, 
 
 add_nothing : (n : ℕ) (ds : List ℕ) → add_digits n 0 ds ≡ n
 add_nothing n [] = refl
-add_nothing n (c ∷ cs) =
-    let same : n + 0 * (c - 48) ≡ n = omega arith in
-    rw same (add_nothing n cs)
+add_nothing n (c ∷ cs) = grind (arith, common_steps, (add_nothing n cs))
 
 pub is_digit_told : (c : ℕ) → is_ascii_digit c ≡ true → IsInRange 48 57 c
 is_digit_told c h = grind (arith, nat_tests)
@@ -30,10 +28,7 @@ is_digit_from c h = grind (arith, nat_tests)
 
 pub front_are_digits : (cs : List ℕ) → AreDigits (front_digits cs)
 front_are_digits [] = tt
-front_are_digits (c ∷ cs) = by_test (is_ascii_digit c) refl (front_are_digits cs) where
-  by_test : (t : Bool) → is_ascii_digit c ≡ t → AreDigits (front_digits cs) → AreDigits (if t then c ∷ front_digits cs else [])
-  by_test true h more = (is_digit_told c h, more)
-  by_test false h more = tt
+front_are_digits (c ∷ cs) = grind (arith, common_steps, (front_are_digits cs), is_digit_told)
 
 zeros : ℕ → List ℕ
 zeros zero = []
@@ -49,25 +44,13 @@ zeros_read : (k n m : ℕ) → k ≤ n → digits_value_after 10 m (take k (zero
 unfolding zeros
 zeros_read zero n m h = omega arith
 zeros_read (suc k) zero m h = absurd (omega arith)
-zeros_read (suc k) (suc n) m h =
-    let rest : digits_value_after 10 (m * 10 + 0) (take k (zeros n)) ≡ (m * 10 + 0) * 10 ^ k = zeros_read k n (m * 10 + 0) (omega arith) in
-    let power : 10 ^ suc k ≡ 10 ^ k * 10 = pow-suc 10 k in
-    rest ∙ (weights m 0 (10 ^ k) (10 ^ suc k) power ∙ omega arith)
+zeros_read (suc k) (suc n) m h = grind (arith, common_steps, (zeros_read k n (m * 10 + 0) (omega arith)), zeros, pow-suc, weights)
 
 -- the first k digits, filled with zeros, are the sum of the digits with their weights
 filled : (k n m : ℕ) (ds : List ℕ) → AreDigits ds → k ≤ n → digits_value_after 10 m (take k (ds ++ zeros n)) ≡ add_digits (m * 10 ^ k) (10 ^ k / 10) ds
-filled zero n m ds digits h =
-    let same : m * 10 ^ 0 ≡ m = omega arith in
-    rw same (sym (add_nothing m ds))
+filled zero n m ds digits h = grind (arith, common_steps, add_nothing)
 filled (suc k) n m [] digits h = zeros_read (suc k) n m h
-filled (suc k) n m (c ∷ cs) digits h =
-    let value : digit_value c ≡ c - 48 = omega (arith, digit_value_digit c digits.0) in
-    let power : 10 ^ suc k ≡ 10 ^ k * 10 = pow-suc 10 k in
-    let tenth : 10 ^ suc k / 10 ≡ 10 ^ k = omega arith in
-    let rest : digits_value_after 10 (m * 10 + digit_value c) (take k (cs ++ zeros n)) ≡ add_digits ((m * 10 + digit_value c) * 10 ^ k) (10 ^ k / 10) cs = filled k n (m * 10 + digit_value c) cs digits.1 (omega arith) in
-    let first : (m * 10 + digit_value c) * 10 ^ k ≡ m * 10 ^ suc k + 10 ^ suc k / 10 * (c - 48) = rw value (weights m (c - 48) (10 ^ k) (10 ^ suc k) power) in
-    let tenth_back : 10 ^ k ≡ 10 ^ suc k / 10 = sym tenth in
-    rest ∙ (λ i. add_digits (first i) (tenth_back i / 10) cs)
+filled (suc k) n m (c ∷ cs) digits h = grind (arith, common_steps, (filled k n (m * 10 + digit_value c) cs digits.1 (omega arith)), digit_value_digit, pow-suc, zeros, weights)
 
 nine_zeros : zeros 9 ≡ 48 ∷ 48 ∷ 48 ∷ 48 ∷ 48 ∷ 48 ∷ 48 ∷ 48 ∷ 48 ∷ []
 unfolding zeros
@@ -120,11 +103,7 @@ group_of : (q i : ℕ) → i ≡ 3 * q → IsGroupAt i
 group_of zero i h = rw h (record { first = refl; second = refl })
 group_of (suc zero) i h = rw h (record { first = refl; second = refl })
 group_of (suc (suc zero)) i h = rw h (record { first = refl; second = refl })
-group_of (suc (suc (suc q))) i h =
-    let none = no_weight i (omega arith) in
-    let next = no_weight (i + 1) (omega arith) in
-    let last = no_weight (i + 2) (omega arith) in
-    record { first = omega arith; second = omega arith }
+group_of (suc (suc (suc q))) i h = grind (arith, common_steps, no_weight)
 
 spread : (u a b c : ℕ) → 100 * u * a + 10 * u * b + u * c ≡ u * (a * 100 + b * 10 + c)
 spread u a b c = grind arith
@@ -152,11 +131,7 @@ read_stop text i nanos so_far within other none = grind (arith, common_steps)
 
 pub front_past : (cs : List ℕ) → cs ≡ front_digits cs ++ past_digits cs
 front_past [] = refl
-front_past (c ∷ cs) = by_test (is_ascii_digit c) (front_past cs) where
-  by_test : (t : Bool) → cs ≡ front_digits cs ++ past_digits cs
-      → c ∷ cs ≡ (if t then c ∷ front_digits cs else []) ++ (if t then past_digits cs else c ∷ cs)
-  by_test true e = ap (λ (xs : List ℕ). c ∷ xs) e
-  by_test false e = refl
+front_past (c ∷ cs) = grind (arith, common_steps, (front_past cs))
 
 -- where nothing stands behind the digits, there are digits alone
 pub all_digits : (cs : List ℕ) → past_digits cs ≡ [] → front_digits cs ≡ cs

@@ -1,6 +1,6 @@
 -- Sixteen bytes tested at once are tested one by one.
 use Rattle.std.proofs.lemmas.Grind.{common_steps}
-use Rattle.std.proofs.Common.{◌≡◌, ℕ, ◌+◌, ◌-◌, ◌*◌, ◌%◌, ◌^◌, ◌<◌, ◌≤◌, Bool, true, false, not, cond, eqb, ltb, ◌&&◌, List, [], ◌∷◌, map, length, get_or, take, Fits, w8, refl, sym, ap, ◌∙◌, arith, inl, inr}
+use Rattle.std.proofs.Common.{◌≡◌, ℕ, ◌+◌, ◌-◌, ◌*◌, ◌%◌, ◌^◌, ◌<◌, ◌≤◌, Bool, true, false, not, cond, eqb, ltb, ◌&&◌, List, [], ◌∷◌, map, length, get_or, take, Fits, w8, refl, ap, ◌∙◌, arith}
 use Rattle.std.specs.Char.{is_ascii_digit}
 use Rattle.std.specs.List.{list_all}
 use Rattle.std.specs.Prelude.{◌==◌, codes, slice_index}
@@ -16,11 +16,7 @@ use Rattle.humantime.proofs.Timestamps.Reading.Checks.{nineteen}
 none_set : (ms : List Bool) → eqb (mask_l ms) 0 ≡ list_all not ms
 none_set [] = refl
 none_set (true ∷ ms) = ne_eqb (1 + 2 * mask_l ms) 0 (λ h. absurd (omega arith))
-none_set (false ∷ ms) =
-    elim (cases_eq (mask_l ms) 0) [
-      | inl none ↦ eq-eqb (0 + 2 * mask_l ms) 0 (omega arith) ∙ sym (eq-eqb _ _ none) ∙ none_set ms
-      | inr some ↦ ne_eqb (0 + 2 * mask_l ms) 0 (λ h. some (omega arith)) ∙ sym (ne_eqb _ _ some) ∙ none_set ms
-    ]
+none_set (false ∷ ms) = grind (arith, common_steps, (none_set ms), (none_set ms), ne_eqb, cases_eq, eq-eqb)
 
 none_set_of : (ms : List Bool) → length ms ≤ 64 → eqb (mask_l ms % 2 ^ 64) 0 ≡ list_all not ms
 none_set_of ms few = ap (λ n. eqb n 0) (mask_l-mod ms 64 few) ∙ none_set ms
@@ -78,15 +74,10 @@ lanes_are b long fits =
 pub front_tested : (b : List ℕ) → 19 ≤ length b → ((k : ℕ) → Fits w8 (get_or b k 0)) → eqb (mask_l (lanes b) % 2 ^ 64) 0 ≡ is_shaped_front b
 front_tested b long fits = grind (arith, common_steps, nineteen, none_set_of, lanes_are)
 
--- the last two digits stand behind the first sixteen bytes
-digits_of_parts : (b : List ℕ) → has_digits b ≡ (has_front_digits b && has_two b 17)
-unfolding has_digits has_front_digits has_two
-digits_of_parts b = simp (and_assoc, and-true)
-
 -- the tests of the parts are those of the signs and of the digits
 joined : (digits p q r s two : Bool) → ((digits && p && q && r) && (s && two)) ≡ ((p && q && true && r && s) && (digits && two))
 joined digits p q r s two = grind (arith, common_steps, and_assoc, and-true, and-false)
 
 pub shape_of_parts : (b : List ℕ) → has_separator b ≡ true → (is_shaped_front b && has_seconds b) ≡ (has_signs b && has_digits b)
-unfolding is_shaped_front has_seconds has_separator has_signs
-shape_of_parts b separator = grind (arith, common_steps, digits_of_parts, joined)
+unfolding has_digits has_front_digits has_seconds has_separator has_signs has_two is_shaped_front
+shape_of_parts b separator = grind (arith, common_steps, common_steps, joined, and_assoc, and-true)

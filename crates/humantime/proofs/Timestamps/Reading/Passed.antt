@@ -1,6 +1,6 @@
 -- A text that shows parts passes the checks, and the parts at its places are these.
 use Rattle.std.proofs.lemmas.Grind.{common_steps}
-use Rattle.std.proofs.Common.{◌≡◌, ℕ, ◌+◌, ◌*◌, ◌/◌, ◌%◌, ◌≤◌, List, [], ◌∷◌, ◌++◌, length, drop, refl, sym, ap, subst, ◌∙◌, arith}
+use Rattle.std.proofs.Common.{◌≡◌, ℕ, ◌+◌, ◌*◌, ◌/◌, ◌%◌, ◌≤◌, List, [], ◌∷◌, ◌++◌, length, drop, refl, sym, subst, ◌∙◌, arith}
 use Rattle.std.specs.Prelude.{Bool, true, false, not, ◌||◌, ◌==◌, slice_index, Option, Some, None, if◌then◌else◌}
 use Rattle.std.proofs.lemmas.Bool.{le-leb}
 use Rattle.humantime.specs.declared.calendar.Date.{Date}
@@ -16,26 +16,18 @@ use Rattle.humantime.proofs.Timestamps.Reading.Checks.{Passes, Pairs, pairs_from
 use Rattle.humantime.proofs.Timestamps.Reading.Fractions.{is_digit_from}
 use Rattle.humantime.proofs.Timestamps.Reading.Places.{number_of_two, number_of_four, in_range_from}
 
--- two digits at a place
-pub two_there : (b : List ℕ) (k m n : ℕ) → slice_index b k ≡ 48 + m → slice_index b (k + 1) ≡ 48 + n → m ≤ 9 → n ≤ 9 → has_two b k ≡ true
-unfolding has_two
-two_there b k m n first second h i = grind (arith, common_steps)
-
 -- and their number, read back
 two_back : (b : List ℕ) (k m n : ℕ) → k + 2 ≤ length b → slice_index b k ≡ 48 + m → slice_index b (k + 1) ≡ 48 + n → m ≤ 9 → n ≤ 9
     → (has_two b k ≡ true) × (number b k (k + 2) ≡ m * 10 + n)
-two_back b k m n long first second h i =
-    let digits = two_there b k m n first second h i in
-    (digits, number_of_two b k long digits ∙ omega arith)
+unfolding has_two
+two_back b k m n long first second h i = grind (arith, common_steps, number_of_two, common_steps)
 
 year_back : (b : List ℕ) (p q r s : ℕ) → 4 ≤ length b
     → slice_index b 0 ≡ 48 + p → slice_index b 1 ≡ 48 + q → slice_index b 2 ≡ 48 + r → slice_index b 3 ≡ 48 + s
     → p ≤ 9 → q ≤ 9 → r ≤ 9 → s ≤ 9
     → (has_two b 0 ≡ true) × (has_two b 2 ≡ true) × (number b 0 4 ≡ p * 1000 + q * 100 + r * 10 + s)
-year_back b p q r s long first second third fourth hp hq hr hs =
-    let century = two_there b 0 p q first second hp hq in
-    let decade = two_there b 2 r s third fourth hr hs in
-    (century, decade, number_of_four b long century decade ∙ omega arith)
+unfolding has_two
+year_back b p q r s long first second third fourth hp hq hr hs = grind (arith, common_steps, number_of_four, common_steps)
 
 pub month_most : (y m : ℕ) → days_in_month y m ≤ 31
 month_most y m = grind (arith, nat_tests)
@@ -53,23 +45,13 @@ pub past_back : (ds : List ℕ) (z : Zone) → AreDigits ds → past_digits (ds 
 past_back [] Nothing digits = refl
 past_back [] Letter_Z digits = refl
 past_back [] Offset digits = refl
-past_back (c ∷ cs) z digits =
-    let digit = is_digit_from c digits.0 in
-    rw digit (past_back cs z digits.1)
+past_back (c ∷ cs) z digits = grind (arith, common_steps, (past_back cs z digits.1), is_digit_from)
 
 pub front_back : (ds : List ℕ) (z : Zone) → AreDigits ds → front_digits (ds ++ zone_text z) ≡ ds
 front_back [] Nothing digits = refl
 front_back [] Letter_Z digits = refl
 front_back [] Offset digits = refl
-front_back (c ∷ cs) z digits =
-    let digit = is_digit_from c digits.0 in
-    rw digit (ap (λ (xs : List ℕ). c ∷ xs) (front_back cs z digits.1))
-
-zone_is : (z : Zone) → is_zone (zone_text z) ≡ true
-zone_is z = grind (arith, common_steps)
-
-zone_back : (z : Zone) → z ≡ zone_of (zone_text z)
-zone_back z = grind (arith, common_steps)
+front_back (c ∷ cs) z digits = grind (arith, common_steps, (front_back cs z digits.1), is_digit_from)
 
 -- what stands after date and time
 abbrev end_text : Option (List ℕ) → Zone → List ℕ
@@ -88,7 +70,7 @@ end_whole q z = grind (arith, common_steps)
 
 end_fraction : (q : Option (List ℕ)) (z : Zone) → AreDigits (fraction_digits q)
     → (not (begins_point (end_text q z)) || is_zone (past_digits (drop 1 (end_text q z)))) ≡ true
-end_fraction q z hyp1 = grind (arith, common_steps, no_point, past_back, zone_is)
+end_fraction q z hyp1 = grind (arith, common_steps, common_steps, no_point, past_back)
 
 fraction_back : (q : Option (List ℕ)) (z : Zone) → AreDigits (fraction_digits q)
     → q ≡ (if begins_point (end_text q z) then Some (front_digits (drop 1 (end_text q z))) else None)
@@ -96,7 +78,7 @@ fraction_back q z hyp1 = grind (arith, common_steps, no_point, front_back)
 
 end_zone_back : (q : Option (List ℕ)) (z : Zone) → AreDigits (fraction_digits q)
     → z ≡ zone_of (if begins_point (end_text q z) then past_digits (drop 1 (end_text q z)) else end_text q z)
-end_zone_back q z hyp1 = grind (arith, common_steps, no_point, zone_back, past_back)
+end_zone_back q z hyp1 = grind (arith, common_steps, common_steps, no_point, past_back)
 
 abbrev parts : Date → Separator → ℕ → ℕ → ℕ → Option (List ℕ) → Zone → Fields
 parts date separator hour minute second fraction zone = record {
