@@ -1,11 +1,9 @@
 -- Room for additions, one after the other.
 use Rattle.std.proofs.lemmas.Grind.{common_steps}
-use Rattle.std.proofs.Common.{◌≡◌, ℕ, ◌+◌, ◌%◌, Bool, true, List, [], ◌∷◌, ◌++◌, Some, None, refl, ap, ◌∙◌, inl, inr, arith}
-use Rattle.std.specs.Prelude.{⊤, ◌==◌, nat_le, if◌then◌else◌}
+use Rattle.std.proofs.Common.{◌≡◌, ℕ, ◌+◌, true, List, [], ◌∷◌, ◌++◌, Some, None, refl, ap, ◌∙◌, inl, inr, arith}
+use Rattle.std.specs.Prelude.{⊤}
 use Rattle.std.proofs.lemmas.Bool.{cases_Bool, and_from, le-leb}
 use Rattle.std.proofs.lemmas.List.Sums.{sum_by-append, sum_by-cons}
-use Rattle.humantime.specs.Values.Amounts.{nanos_per_second}
-use Rattle.humantime.specs.Durations.Characters.{u64_max}
 use Rattle.humantime.specs.Durations.Sums.{Addition, addition_nanos, total}
 use Rattle.humantime.specs.Durations.Limits.{HasRoom, AllHaveRoom}
 use Rattle.humantime.specs.References.Durations.Reading.{room, add_all}
@@ -17,10 +15,6 @@ RoomFrom t (x ∷ xs) = HasRoom t x × RoomFrom (t + addition_nanos x) xs
 
 pub total-append : (xs ys : List Addition) → total (xs ++ ys) ≡ total xs + total ys
 total-append xs ys = sum_by-append addition_nanos xs ys
-
--- the two tests for room
-abbrev low_room : ℕ → Addition → Bool
-low_room t x = if x.base == 1 then nat_le (t % nanos_per_second + x.amount) u64_max else true
 
 room-true : (t : ℕ) (x : Addition) → room t x ≡ true → HasRoom t x
 room-true t x h = grind (arith, common_steps)

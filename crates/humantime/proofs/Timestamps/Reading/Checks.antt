@@ -1,9 +1,8 @@
 -- What the checks on a timestamp say, one by one.
 use Rattle.std.proofs.lemmas.Grind.{common_steps}
-use Rattle.std.proofs.Common.{◌≡◌, ℕ, ◌≤◌, List, [], ◌∷◌, ◌++◌, length, get_or, drop, refl, arith}
-use Rattle.std.specs.Prelude.{Bool, true, ◌||◌, ◌==◌, slice_index, None, if◌then◌else◌}
+use Rattle.std.proofs.Common.{◌≡◌, ℕ, ◌≤◌, List, ◌∷◌, ◌++◌, length, get_or, drop, refl, arith}
+use Rattle.std.specs.Prelude.{true, ◌||◌, ◌==◌, slice_index, None, if◌then◌else◌}
 use Rattle.std.proofs.Math.Seq.{drop-cons}
-use Rattle.std.specs.List.{list_all}
 use Rattle.std.proofs.Math.Bool.{and_assoc, and-true}
 use Rattle.std.proofs.lemmas.Bool.{and_parts, eqb-true}
 use Rattle.std.proofs.lemmas.Slice.Eq.{bytes_eq-Decides}
@@ -49,9 +48,6 @@ pub record Pairs (b : List ℕ) : Type 0 where
   pub hour : has_two b 11 ≡ true
   pub minute : has_two b 14 ≡ true
   pub second : has_two b 17 ≡ true
-
-abbrev all_pairs : List ℕ → Bool
-all_pairs b = list_all (has_two b) (0 ∷ 2 ∷ 5 ∷ 8 ∷ 11 ∷ 14 ∷ 17 ∷ [])
 
 pub pairs_told : (b : List ℕ) → has_digits b ≡ true → Pairs b
 unfolding has_digits has_two

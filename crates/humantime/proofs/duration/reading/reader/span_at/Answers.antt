@@ -9,10 +9,7 @@ use Rattle.humantime.proofs.Durations.Bytes.Tails.{tail_of_tail, no_bytes, some_
 use Rattle.humantime.proofs.duration.reading.reader.span_at.Goals as goal
 
 pub returns-in_err-parts-clause-stop : goal.returns-in_err-parts-clause-stop
-returns-in_err-parts-clause-stop c =
-    let p = err_from_is_err_and c.from_residual.result c.from_residual.ensures.1 in
-    let long = c.in_err-parts.ensures.long in
-    rw (p.1, p.2) (exit_long (chars c.args.text.now) (chars c.args.rest.now) _ long.0 long.1)
+returns-in_err-parts-clause-stop c = grind (arith, common_steps, err_from_is_err_and, exit_long)
 
 pub returns-then-is_empty-clause-stop : goal.returns-then-is_empty-clause-stop
 returns-then-is_empty-clause-stop c =
@@ -52,13 +49,10 @@ returns-in-None-clause-place c =
     c.utf8.text behind next parts.word_whole c.offset_of.ensures.value c.offset_of-in-None.ensures.value
 
 pub returns-in_err-parts-clause-place : goal.returns-in_err-parts-clause-place
-returns-in_err-parts-clause-place c =
-    let p = err_from_is_err_and c.from_residual.result c.from_residual.ensures.1 in
-    rw (p.1, p.2) (overflow_points c.args.text.now _ c.in_err-parts.ensures.long.1)
+returns-in_err-parts-clause-place c = grind (arith, common_steps, err_from_is_err_and, overflow_points)
 
 pub without_word-requires-clause-point : goal.without_word-requires-clause-point
-without_word-requires-clause-point c = λ bare.
-    some_bytes c.in_ok-parts.parts.after_number.now (bare_some _ _ _ _ _ _ _ c.in_ok-parts.ensures.parts.read bare)
+without_word-requires-clause-point c = grind (arith, common_steps, some_bytes, bare_some)
 
 pub returns-then-is_bare-clause-place : goal.returns-then-is_bare-clause-place
 returns-then-is_bare-clause-place c =
