@@ -41,7 +41,7 @@ month_stays next day month later h = grind (arith, common_steps)
 -- of all twelve it is the one that holds the day
 pub month_found : (day month : ℕ) → day < 366 → IsMonthBefore 13 day month → (month < 12) × (day - march_months month < march_length month)
 unfolding march_months
-month_found day month within h = grind (arith, common_steps, common_steps, cases_eq, march_months_next)
+month_found day month within h = grind (arith, common_steps, cases_eq, march_months_next)
 
 early_length : (y : ℕ) → (k : ℕ) → k < 10 → march_length k ≡ days_in_month y (k + 3)
 unfolding march_length

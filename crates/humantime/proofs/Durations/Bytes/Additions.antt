@@ -22,7 +22,7 @@ pub span_adds : (t : ℕ) (s : Span) (u : Scale) (number : ℕ) (fraction : Opti
     → scale_of_word s.word ≡ Some u → number ≡ decimal_value s.number → fraction ≡ option_map counted s.fraction
     → then_add (add_times t u.base u.factor number) u.fraction_base u.fraction_factor fraction ≡ add_span t s
 unfolding add_all add_span
-span_adds t s u number fraction word value parts = grind (arith, common_steps, common_steps)
+span_adds t s u number fraction word value parts = grind (arith, common_steps)
 
 pub power_positive : (n : ℕ) → 0 < 10 ^ n
 power_positive n = one-le-pow n 10 (omega arith)

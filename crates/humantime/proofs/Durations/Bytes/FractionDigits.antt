@@ -37,7 +37,7 @@ among_space text rest cs v n z c h e d = grind (arith, common_steps, zeros, spac
 
 -- a zero is one zero more
 pub among_zero : (text rest cs : List ℕ) (v n z c : ℕ) → IsAmong text v n z rest → rest ≡ c ∷ cs → class_of c ≡ Digit → c ≡ 48 → IsAmong text v n (z + 1) cs
-among_zero text rest cs v n z c h e d is_zero = grind (arith, common_steps, common_steps, zeros, digit_first, zeros_cons, past_digit)
+among_zero text rest cs v n z c h e d is_zero = grind (arith, common_steps, zeros, digit_first, zeros_cons, past_digit)
 
 -- the zeros and one digit more fit where they are at most 19
 pub shifted_fits : (v n z d : ℕ) → v < 10 ^ n → d ≤ 9 → v * 10 ^ (z + 1) + d < 10 ^ (n + z + 1)

@@ -110,7 +110,7 @@ pub letters_end : (text : List ℕ) (at next : ℕ) (class : Class) → StepsOve
 letters_end text at next class s n = rw (s.chars, not_letter s.char (λ z. n (s.is ∙ z))) refl
 
 pub space_ends : (rest : List ℕ) → begins is_ws rest ≡ false → rest ≡ past is_ws rest
-space_ends rest hyp1 = grind (arith, common_steps)
+space_ends rest h = grind (arith, common_steps)
 
 pub white_stops : (text : List ℕ) (at next : ℕ) (class : Class) → StepsOver text at class next → class ≢ White → begins is_ws (chars (drop at text)) ≡ false
 white_stops text at next class s w = ap (begins is_ws) s.chars ∙ not_white s.char (λ z. w (s.is ∙ z))

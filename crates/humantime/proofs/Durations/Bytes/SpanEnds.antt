@@ -17,4 +17,4 @@ ends_before (Some Point) = false
 ends_before (Some Other) = false
 
 pub ends_by_class : (cs : List ℕ) → ends_span cs ≡ ends_before (first_class cs)
-ends_by_class cs = grind (arith, common_steps, common_steps, numeric_class, not_numeric)
+ends_by_class cs = grind (arith, common_steps, numeric_class, not_numeric)

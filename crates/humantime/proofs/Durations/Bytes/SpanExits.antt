@@ -15,7 +15,7 @@ use Rattle.humantime.specs.References.Durations.Scanning.{bare, ends_span, fault
 use Rattle.humantime.specs.References.Durations.SpanParts.{IsSpanRead}
 use Rattle.humantime.specs.References.Durations.Lending.{trimmed, number_slice, fraction_slice, lent_at, spelled}
 use Rattle.humantime.proofs.Durations.Reading.Runs.{leading-past}
-use Rattle.humantime.proofs.Durations.Slices.Trimming.{spelled_at}
+use Rattle.humantime.proofs.Durations.Bytes.Trimming.{spelled_at}
 
 pub exit_long : (text rest : List ℕ) (f : Fault) → too_long (span_of rest) ≡ true → f ≡ NumberOverflow → stop_at text rest ≡ Some f
 unfolding stop_at
@@ -29,19 +29,19 @@ stop_short text rest e = rw e
 -- the exits
 pub exit_no_word : (text rest : List ℕ) (v : ℕ) (o : Option Counted) (after behind letters next : List ℕ) → IsSpanRead rest v o after behind letters next
     → letters ≡ [] → stop_at text rest ≡ Some (fault_without_word text after next o v)
-exit_no_word text rest v o after behind letters next s e = grind (arith, common_steps, common_steps, stop_short)
+exit_no_word text rest v o after behind letters next s e = grind (arith, common_steps, stop_short)
 
 pub exit_bare : (text rest : List ℕ) (v : ℕ) (o : Option Counted) (after behind letters next : List ℕ) → IsSpanRead rest v o after behind letters next
     → bare o ≡ true → letters ≢ [] → stop_at text rest ≡ Some (InvalidCharacter (offset_of text after))
-exit_bare text rest v o after behind letters next s b n = grind (arith, common_steps, common_steps, stop_short)
+exit_bare text rest v o after behind letters next s b n = grind (arith, common_steps, stop_short)
 
 pub exit_after : (text rest : List ℕ) (v : ℕ) (o : Option Counted) (after behind letters next : List ℕ) → IsSpanRead rest v o after behind letters next
     → bare o ≡ false → letters ≢ [] → ends_span next ≡ false → stop_at text rest ≡ Some (InvalidCharacter (offset_of text next))
-exit_after text rest v o after behind letters next s b n e = grind (arith, common_steps, common_steps, stop_short)
+exit_after text rest v o after behind letters next s b n e = grind (arith, common_steps, stop_short)
 
 exit_word : (text rest : List ℕ) (v : ℕ) (o : Option Counted) (after behind letters next : List ℕ) → IsSpanRead rest v o after behind letters next
     → bare o ≡ false → letters ≢ [] → ends_span next ≡ true → stop_at text rest ≡ stop_word text rest (scale_of_word letters)
-exit_word text rest v o after behind letters next s b n e = grind (arith, common_steps, common_steps, stop_short)
+exit_word text rest v o after behind letters next s b n e = grind (arith, common_steps, stop_short)
 
 pub exit_unit : (text rest : List ℕ) (v : ℕ) (o : Option Counted) (after behind letters next : List ℕ) → IsSpanRead rest v o after behind letters next
     → bare o ≡ false → letters ≢ [] → ends_span next ≡ true → scale_of_word letters ≡ None
@@ -96,7 +96,7 @@ lent_read text rest v o after behind letters next integer middle start end s x f
 
 -- what a caller of `without_word` has to show of its answer
 pub at_next : (text after next : List ℕ) (o : Option Counted) (v n : ℕ) → next ≢ [] → n ≡ offset_of text next → InvalidCharacter n ≡ fault_without_word text after next o v
-at_next text after next o v n hyp1 hyp2 = grind (arith, common_steps)
+at_next text after next o v n h k = grind (arith, common_steps)
 
 pub at_point : (text after next : List ℕ) (o : Option Counted) (v n : ℕ) → next ≡ [] → bare o ≡ true → n ≡ offset_of text after → InvalidCharacter n ≡ fault_without_word text after next o v
 at_point text after next o v n e b p = rw (e, b, p)

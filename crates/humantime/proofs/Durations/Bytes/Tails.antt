@@ -47,7 +47,7 @@ pub some_chars : (bs : List ℕ) → IsUtf8 bs → length bs ≢ 0 → chars bs 
 some_chars bs u n e = n (no_chars bs u e)
 
 pub no_bytes : (bs : List ℕ) → length bs ≡ 0 → chars bs ≡ []
-no_bytes bs hyp1 = grind (arith, common_steps, chars-nil)
+no_bytes bs h = grind (arith, common_steps, chars-nil)
 
 -- a part between two places of a text is the slice from the one offset to the other
 pub part_between : (text behind part next : List ℕ) (start end : ℕ) → IsUtf8 text → IsTail text behind → IsTail text next → behind ≡ part ++ next

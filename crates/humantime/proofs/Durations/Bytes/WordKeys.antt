@@ -39,7 +39,7 @@ IsSoFar bs at k = at ≤ 7 → k ≡ packed (reverse (take at bs))
 
 -- and so it is with the byte at this place
 pub key_more : (bs : List ℕ) (at k m : ℕ) → HasBytes bs → at < length bs → IsSoFar bs at k → (k * 256 + get_or bs at 0 < 2 ^ 64 → m ≡ k * 256 + get_or bs at 0) → IsSoFar bs (at + 1) m
-key_more bs at k m bytes some so_far next short = grind (arith, common_steps, common_steps, pow-le-pow_right, packed_front_below, take_more, reverse-append)
+key_more bs at k m bytes some so_far next short = grind (arith, common_steps, pow-le-pow_right, packed_front_below, take_more, reverse-append)
 
 -- the key of a front
 pub key_short : (bs : List ℕ) (at k : ℕ) → at ≤ length bs → at ≤ 7 → IsSoFar bs at k → k ≡ key (take at bs)
@@ -60,10 +60,10 @@ packed_same (x ∷ xs) (y ∷ ys) h k e =
     rw first (ap (λ zs. y ∷ zs) (packed_same xs ys (λ i. h (suc i)) (λ i. k (suc i)) rest))
 
 bytes_from_test : (bs : List ℕ) → list_all (λ b. ltb b 256) bs ≡ true → HasBytes bs
-bytes_from_test bs hyp1 = grind (arith, common_steps)
+bytes_from_test bs h = grind (arith, common_steps)
 
 same_tests : (a b : Bool) → (a ≡ true → b ≡ true) → (b ≡ true → a ≡ true) → a ≡ b
-same_tests a b hyp1 hyp2 = grind (arith, common_steps)
+same_tests a b h k = grind (arith, common_steps)
 
 -- the word is spelled by at most seven bytes
 abbrev is_spelled : List ℕ → Bool

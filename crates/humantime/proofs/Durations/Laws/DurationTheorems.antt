@@ -62,7 +62,7 @@ spans_tile text = lent.one_list_of_slices text
 
 -- What is told as a value was answered as that value.
 pub told_value : (r : Result ℕ DurationError) (v : ℕ) → told r ≡ Ok v → r ≡ Ok v
-told_value r v hyp1 = grind (arith, common_steps)
+told_value r v h = grind (arith, common_steps)
 
 -- Two errors are equal exactly where they name the same fault.
 pub errors_equal : (e f : Fault) → IsTrue (fault_eq e f) ↔ (e ≡ f)

@@ -17,10 +17,10 @@ use Rattle.humantime.proofs.Durations.Reading.Outcomes.{items_whole, within_or_b
 use Rattle.humantime.proofs.Durations.Laws.Readings.{accepted_from_spans, spans_of_accepted, accepted_spans, no_value_and_fault}
 
 pub Only-append : (p : ℕ → Bool) (xs ys : List ℕ) → Only p xs → Only p ys → Only p (xs ++ ys)
-Only-append p xs ys hyp1 hyp2 = grind (arith, common_steps)
+Only-append p xs ys h k = grind (arith, common_steps)
 
 pub each-append : (P : Span → Type 0) (ss ts : List Span) → AllByRecursion P ss → AllByRecursion P ts → AllByRecursion P (ss ++ ts)
-each-append P ss ts hyp1 hyp2 = grind (arith, common_steps)
+each-append P ss ts h k = grind (arith, common_steps)
 
 -- white space behind a spelling belongs to it
 spells-space : (here space : List ℕ) (s : Span) → Spells here s [] → Only is_ws space → Spells (here ++ space) s []

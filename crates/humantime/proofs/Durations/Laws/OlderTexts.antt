@@ -30,17 +30,17 @@ still_add : (spans : List Span) → older_additions scale_of_word spans ≡ addi
 still_add spans = grind (arith, common_steps, span_still_adds)
 
 still_short : (o : Option (List ℕ)) → IfSome o (λ ds. length ds ≤ 19) → IfSome o (λ ds. length (significant ds) ≤ 19)
-still_short o hyp1 = grind (arith, common_steps, significant_shorter)
+still_short o h = grind (arith, common_steps, significant_shorter)
 
 still_formed : (spans : List Span) → AllByRecursion (λ s. OlderFormed (scale_of_word s.word) s) spans → AllByRecursion Formed spans
 still_formed [] f = tt
 still_formed (s ∷ ss) f = (record { short = record { number = f.0.number; fraction = still_short s.fraction f.0.fraction }; word = f.0.word }, still_formed ss f.1)
 
 fraction_still_fits : (f : Option ℕ) (o : Option (List ℕ)) → OlderFitsFraction f o → FitsFraction f o
-fraction_still_fits f o hyp1 = grind (arith, common_steps, whole_part_kept)
+fraction_still_fits f o h = grind (arith, common_steps, whole_part_kept)
 
 still_fits : (o : Option Scale) (s : Span) → OlderFits o s → FitsAt o s
-still_fits o s hyp1 = grind (arith, common_steps, fraction_still_fits)
+still_fits o s h = grind (arith, common_steps, fraction_still_fits)
 
 still_fit : (spans : List Span) → AllByRecursion (λ s. OlderFits (scale_of_word s.word) s) spans → AllByRecursion Fits spans
 still_fit [] f = tt
@@ -116,7 +116,7 @@ unfolding is_digit is_ws white_spaces
 no_mu_in_number = none_is_mu is_numeric refl
 
 no_mu_in_fraction : (text : List ℕ) (fraction : Option (List ℕ)) → SpellsFraction text fraction → Only is_not_mu text
-no_mu_in_fraction text fraction hyp1 = grind (arith, common_steps, no_mu_in_number)
+no_mu_in_fraction text fraction h = grind (arith, common_steps, no_mu_in_number)
 
 no_mu_in_span : (text rest : List ℕ) (s : Span) → Spells text s rest → OfOlderLetters s → Only is_not_mu rest → Only is_not_mu text
 no_mu_in_span text rest s h letters none = grind (arith, common_steps, Only-append, no_mu_in_number, no_mu_in_fraction, none_is_mu, no_mu_in_space)
@@ -126,7 +126,7 @@ no_mu_in_spans text [] e letters = rw e tt
 no_mu_in_spans text (s ∷ ss) h letters = no_mu_in_span text h.0 s h.1 letters.0 (no_mu_in_spans h.0 ss h.2 letters.1)
 
 no_mu_accepted : (text : List ℕ) (v : ℕ) → AcceptedWithoutMu text v → Only is_not_mu text
-no_mu_accepted text v hyp1 = grind (arith, common_steps, Only-append, no_mu_in_space, no_mu_in_spans)
+no_mu_accepted text v h = grind (arith, common_steps, Only-append, no_mu_in_space, no_mu_in_spans)
 
 not_among : (before after : List ℕ) → ¬ (Only is_not_mu (before ++ greek_mu ∷ after))
 not_among [] after h = false≢true (h.0)

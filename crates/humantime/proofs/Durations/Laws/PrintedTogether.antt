@@ -36,7 +36,7 @@ count_small r m w n s i below left fits =
 
 cons_small : (n : ℕ) (ns : List ℕ) (s : Suffix) (ss : List Suffix) → AllByRecursion IsSmall (additions_of (span_for n s))
     → AllByRecursion IsSmall (additions (spans_for ns ss)) → AllByRecursion IsSmall (additions (spans_for (n ∷ ns) (s ∷ ss)))
-cons_small n ns s ss hyp1 hyp2 = grind (arith, common_steps)
+cons_small n ns s ss h k = grind (arith, common_steps)
 
 rows_small : (ws : List ℕ) (ss : List Suffix) (m r : ℕ) → Table ws ss m → r < m → AllByRecursion IsCount (divided ws r)
     → AllByRecursion IsSmall (additions (spans_for (divided ws r) ss))

@@ -39,7 +39,7 @@ pub room_is_duration : (xs : List Addition) → AllHaveRoom xs → total xs / na
 room_is_duration xs room = grind (arith, common_steps, room_fits, room_from_all)
 
 pub each-append : (xs ys : List Addition) → AllByRecursion IsSmall xs → AllByRecursion IsSmall ys → AllByRecursion IsSmall (xs ++ ys)
-each-append xs ys hyp1 hyp2 = grind (arith, common_steps)
+each-append xs ys h k = grind (arith, common_steps)
 
 -- accepted texts with small additions, one behind the other, are accepted with the sum exactly where it is a duration
 pub small_joined_sum : (a b : List ℕ) (ss ts : List Span) (u v : ℕ) → Reads a ss → Reads b ts → Accepted a u → Accepted b v

@@ -42,13 +42,13 @@ same_digits [] = refl
 same_digits (c ∷ cs) = grind (arith, common_steps, (same_digits cs), (same_digits cs), cases_Bool, space_not_digit, spaceless-space, spaceless-other)
 
 still_begins : (cs : List ℕ) → begins is_digit cs ≡ true → begins is_digit (without_white_space cs) ≡ true
-still_begins cs hyp1 = grind (arith, common_steps, spaceless-other, digit_not_space)
+still_begins cs h = grind (arith, common_steps, spaceless-other, digit_not_space)
 
 point_stays : is_ws 46 ≡ false
 point_stays = (or_parts (is_digit 46) (is_ws 46) (point_not_numeric 46 is_point-46)).1
 
 spells_fraction : (text : List ℕ) (fraction : Option (List ℕ)) → SpellsFraction text fraction → SpellsFraction (without_white_space text) fraction
-spells_fraction text fraction hyp1 = grind (arith, common_steps, spaceless-other, point_stays, still_only, same_digits)
+spells_fraction text fraction h = grind (arith, common_steps, spaceless-other, point_stays, still_only, same_digits)
 
 spelling_parts : (a b word c rest : List ℕ) → Only is_letter word → Only is_ws c
     → without_white_space (a ++ (b ++ (word ++ (c ++ rest)))) ≡ without_white_space a ++ (without_white_space b ++ (word ++ without_white_space rest))

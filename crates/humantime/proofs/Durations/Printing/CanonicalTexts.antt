@@ -22,7 +22,7 @@ canonical_if_refused text e refused = ap printed_answer refused
 
 -- a printed answer comes from a value, and a fault from the same fault
 printed_value : (a : Result ℕ Fault) (t : List ℕ) → printed_answer a ≡ Ok t → (v : ℕ) × (a ≡ Ok v) × (duration_text v ≡ t)
-printed_value a t hyp1 = grind (arith, common_steps)
+printed_value a t h = grind (arith, common_steps)
 
 printed_fault : (a : Result ℕ Fault) (f : Fault) → (printed_answer a ≡ Err f) ↔ (a ≡ Err f)
 printed_fault a f = grind (arith, common_steps)

@@ -45,7 +45,7 @@ count_length n k s some below fits = grind (arith, common_steps, length-append, 
 
 counts_cons : (n x : ℕ) (ns : List ℕ) (s : Suffix) (ss : List Suffix) → length (printed_count n s) + 1 ≤ x
     → spaced_length (printed_counts (n ∷ ns) (s ∷ ss)) ≤ x + spaced_length (printed_counts ns ss)
-counts_cons n x ns s ss hyp1 = grind (arith, common_steps)
+counts_cons n x ns s ss h = grind (arith, common_steps)
 
 counts_length : (ws ks : List ℕ) (ss : List Suffix) (m r : ℕ) → length ks ≡ length ws → Sizes ws ks ss m → r < m → AllByRecursion IsCount (divided ws r)
     → spaced_length (printed_counts (divided ws r) ss) ≤ length_for ks ss
@@ -70,7 +70,7 @@ unfolding sizes
 as_many = refl
 
 joined_length : (ps : List (List ℕ)) → spaced_length ps ≤ 65 → length (joined_by_space ps) ≤ 64
-joined_length ps hyp1 = grind (arith, common_steps, join_length)
+joined_length ps h = grind (arith, common_steps, join_length)
 
 pub canon_length : (d : ℕ) → d / nanos_per_second ≤ u64_max → (text : List ℕ) → Canon d text → length text ≤ 64
 unfolding duration_text

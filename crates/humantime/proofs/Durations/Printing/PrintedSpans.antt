@@ -100,7 +100,7 @@ pub record RowsGood (t : ℕ) (ws ns : List ℕ) (ss : List Suffix) : Type 0 whe
 
 rows_cons : (t w q : ℕ) (ws ns : List ℕ) (s : Suffix) (ss : List Suffix) → RowGood t (w * q) (span_for q s) → RowsGood (t + w * q) ws ns ss → q < 2 ^ 64
     → RowsGood t (w ∷ ws) (q ∷ ns) (s ∷ ss)
-rows_cons t w q ws ns s ss hyp1 hyp2 hyp3 = grind (arith, common_steps)
+rows_cons t w q ws ns s ss h k e = grind (arith, common_steps)
 
 pub weight_positive : (w m : ℕ) (word : List ℕ) → IsWord w m word → 0 < w
 weight_positive w m word i = grind (arith, common_steps)
@@ -186,7 +186,7 @@ both_empty (zero ∷ ns) (s ∷ ss) = both_empty ns ss
 both_empty (suc n ∷ ns) (s ∷ ss) = inr ((λ e. cc), (λ e. cc))
 
 pub joined_some : (ps : List (List ℕ)) → ps ≢ [] → joined_by_space ps ≡ join_with_byte 32 ps
-joined_some ps hyp1 = grind (arith, common_steps)
+joined_some ps h = grind (arith, common_steps)
 
 -- spans within the limits are accepted
 accepted_spans : (text : List ℕ) (spans : List Span) (v : ℕ) → SpellsEach text spans → spans ≢ [] → AllByRecursion Formed spans → AllByRecursion Fits spans

@@ -30,7 +30,7 @@ room_fits t (x ∷ xs) h room = grind (arith, common_steps, (room_fits (t + addi
 
 -- what is accepted is a duration
 accepted_fits : (text : List ℕ) (v : ℕ) → Accepted text v → v / nanos_per_second ≤ u64_max
-accepted_fits text v hyp1 = grind (arith, common_steps, room_fits, room_from_all)
+accepted_fits text v h = grind (arith, common_steps, room_fits, room_from_all)
 
 pub one_text : (d : ℕ) → HasOneText d
 one_text d = (duration_text d, text_is_canon d, canon_is_text d)

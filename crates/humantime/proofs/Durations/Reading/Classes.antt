@@ -104,7 +104,7 @@ pub not_letter : (c : ℕ) → class_of c ≢ Letter → is_letter c ≡ false
 not_letter c = grind (arith, common_steps, is_letter-class, cases_Bool)
 
 pub numeric_class : (c : ℕ) → (class_of c ≡ Digit) ⊎ (class_of c ≡ White) → is_numeric c ≡ true
-numeric_class c hyp1 = grind (arith, common_steps, digit_is_numeric, is_digit-class, space_is_numeric, is_ws-class)
+numeric_class c h = grind (arith, common_steps, digit_is_numeric, is_digit-class, space_is_numeric, is_ws-class)
 
 pub not_numeric : (c : ℕ) → class_of c ≢ White → class_of c ≢ Digit → is_numeric c ≡ false
 not_numeric c w d = or_from (is_digit c) (is_ws c) (not_digit c d) (not_white c w)

@@ -28,7 +28,7 @@ pub record IsReadTo (text front : List ℕ) (spans : List Span) (rest : List ℕ
   pub some : rest ≡ [] → spans ≢ []
 
 pub all_push : (P : Span → Type 0) (ss : List Span) (s : Span) → AllByRecursion P ss → P s → AllByRecursion P (ss ++ s ∷ [])
-all_push P ss s hyp1 hyp2 = grind (arith, common_steps)
+all_push P ss s h k = grind (arith, common_steps)
 
 each_push : (body here : List ℕ) (ss : List Span) (s : Span) → SpellsEach body ss → Spells here s [] → SpellsEach (body ++ here) (ss ++ s ∷ [])
 each_push body here [] s h p = ([], rw h p, refl)

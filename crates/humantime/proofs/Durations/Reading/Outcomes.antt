@@ -111,10 +111,10 @@ pub within_fault : (text : List ℕ) (spans : List Span) (stop : Option Fault) (
 within_fault text spans stop e some h g is = grind (arith, common_steps)
 
 ended_value : (v : ℕ) (stop : Option Fault) (w : ℕ) → ended v stop ≡ Ok w → v ≡ w
-ended_value v stop w hyp1 = grind (arith, common_steps)
+ended_value v stop w h = grind (arith, common_steps)
 
 ended_fault : (v : ℕ) (stop : Option Fault) (e : Fault) → ended v stop ≡ Err e → stop ≡ Some e
-ended_fault v stop e hyp1 = grind (arith, common_steps)
+ended_fault v stop e h = grind (arith, common_steps)
 
 -- the spans are within the limits, or they aren't
 pub within_or_beyond : (spans : List Span) → AllByRecursion Formed spans → WithinLimits spans ⊎ ¬ (WithinLimits spans)

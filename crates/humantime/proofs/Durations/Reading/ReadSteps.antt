@@ -13,15 +13,15 @@ read-end n text = grind (arith, common_steps)
 
 pub read-expected : (n : ℕ) (text rest : List ℕ) → rest ≢ [] → begins is_digit rest ≡ false → read (suc n) text rest ≡ ([], Some (NumberExpected (offset_of text rest)))
 unfolding read
-read-expected n text rest hyp1 hyp2 = grind (arith, common_steps)
+read-expected n text rest h k = grind (arith, common_steps)
 
 pub read-stopped : (n : ℕ) (text rest : List ℕ) (e : Fault) → begins is_digit rest ≡ true → stop_at text rest ≡ Some e → read (suc n) text rest ≡ ([], Some e)
 unfolding read
-read-stopped n text rest e hyp1 hyp2 = grind (arith, common_steps)
+read-stopped n text rest e h k = grind (arith, common_steps)
 
 pub read-fine : (n : ℕ) (text rest : List ℕ) → begins is_digit rest ≡ true → stop_at text rest ≡ None → read (suc n) text rest ≡ with_span (span_of rest) (read n text (next_of rest))
 unfolding read
-read-fine n text rest hyp1 hyp2 = grind (arith, common_steps)
+read-fine n text rest h k = grind (arith, common_steps)
 
 -- enough steps for a rest: at least one where it isn't empty
 pub steps : (n : ℕ) (rest : List ℕ) → rest ≢ [] → length rest ≤ n → (m : ℕ) × (n ≡ suc m)
@@ -35,4 +35,4 @@ items-nothing text e = rw e
 
 pub items-read : (text rest : List ℕ) → past is_ws text ≡ rest → rest ≢ [] → items text ≡ read (length rest) text rest
 unfolding items
-items-read text rest hyp1 hyp2 = grind (arith, common_steps)
+items-read text rest h k = grind (arith, common_steps)

@@ -32,13 +32,13 @@ pub past_shorter : (p : ℕ → Bool) (cs : List ℕ) → length (past p cs) ≤
 past_shorter p cs = omega (arith, ap length (leading-past p cs), length-append (leading p cs) (past p cs))
 
 pub begins_some : (p : ℕ → Bool) (cs : List ℕ) → begins p cs ≡ true → 0 < length cs
-begins_some p cs hyp1 = grind (arith, common_steps)
+begins_some p cs h = grind (arith, common_steps)
 
 pub begins_not_nil : (p : ℕ → Bool) (cs : List ℕ) → begins p cs ≡ true → cs ≢ []
-begins_not_nil p cs hyp1 = grind (arith, common_steps)
+begins_not_nil p cs h = grind (arith, common_steps)
 
 pub letters_begin : (cs : List ℕ) → IsLetters cs → begins is_letter cs ≡ true
-letters_begin cs h = grind (arith, common_steps, common_steps)
+letters_begin cs h = grind (arith, common_steps)
 
 pub ends_Only : (p : ℕ → Bool) (cs : List ℕ) → Only p cs → cs ≢ [] → ends p cs ≡ true
 ends_Only p [] h some = absurd (some refl)
@@ -47,7 +47,7 @@ ends_Only p (c ∷ d ∷ cs) h some = ends_Only p (d ∷ cs) h.1 (λ e. cc)
 
 -- what begins so doesn't begin otherwise
 pub begins_other : (p q : ℕ → Bool) → ((c : ℕ) → p c ≡ true → q c ≡ false) → (cs : List ℕ) → begins p cs ≡ true → begins q cs ≡ false
-begins_other p q hyp1 cs hyp2 = grind (arith, common_steps)
+begins_other p q h cs k = grind (arith, common_steps)
 
 pub ends_other : (p q : ℕ → Bool) → ((c : ℕ) → p c ≡ true → q c ≡ false) → (cs : List ℕ) → ends p cs ≡ true → ends q cs ≡ false
 ends_other p q other [] e = refl
@@ -55,11 +55,11 @@ ends_other p q other (c ∷ []) e = other c e
 ends_other p q other (c ∷ d ∷ cs) e = ends_other p q other (d ∷ cs) e
 
 pub begins_also : (p q : ℕ → Bool) → ((c : ℕ) → p c ≡ true → q c ≡ true) → (cs : List ℕ) → begins p cs ≡ true → begins q cs ≡ true
-begins_also p q hyp1 cs hyp2 = grind (arith, common_steps)
+begins_also p q h cs k = grind (arith, common_steps)
 
 -- a text begins as its first part does, and ends as its last part does
 pub begins-append : (p : ℕ → Bool) (xs ys : List ℕ) → xs ≢ [] → begins p (xs ++ ys) ≡ begins p xs
-begins-append p xs ys hyp1 = grind (arith, common_steps)
+begins-append p xs ys h = grind (arith, common_steps)
 
 pub ends-append : (p : ℕ → Bool) (xs ys : List ℕ) → ys ≢ [] → ends p (xs ++ ys) ≡ ends p ys
 ends-append p [] ys some = refl

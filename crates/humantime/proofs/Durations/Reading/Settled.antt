@@ -34,7 +34,7 @@ add_span-added t s f h = grind (arith, common_steps, add_all-room, common_steps)
 
 pub add_span-over : (t : ℕ) (s : Span) → ¬ (IsAddedTo t s) → add_span t s ≡ None
 unfolding add_span
-add_span-over t s h = grind (arith, common_steps, common_steps, cases_Bool, add_all-full)
+add_span-over t s h = grind (arith, common_steps, cases_Bool, add_all-full)
 
 pub added_or_not : (t : ℕ) (s : Span) → Formed s → IsAddedTo t s ⊎ ¬ (IsAddedTo t s)
 added_or_not t s f = grind (arith, common_steps)

@@ -41,10 +41,10 @@ significant_shorter [] = omega arith
 significant_shorter (d ∷ ds) = omega (arith, kept_shorter d (significant ds), significant_shorter ds)
 
 kept_some : (d : ℕ) (ds : List ℕ) → (d == 48) ≡ false → 0 < length (kept d ds)
-kept_some d ds hyp1 = grind (arith, common_steps)
+kept_some d ds h = grind (arith, common_steps)
 
 kept_more : (d n : ℕ) (ds : List ℕ) → n < length ds → suc n < length (kept d ds)
-kept_more d n ds hyp1 = grind (arith, common_steps)
+kept_more d n ds h = grind (arith, common_steps)
 
 -- digits before one that is no zero are kept
 pub significant_long : (ds es : List ℕ) (d : ℕ) → (d == 48) ≡ false → length ds < length (significant (ds ++ d ∷ es))

@@ -75,7 +75,7 @@ pub read_spelled : (rest next : List ℕ) (s : Span) (h : Spells rest s next)
 read_spelled rest next s h = grind (arith, common_steps, begins_word, letters_begin, common_steps, fraction_read, past-append, leading-append)
 
 pub no_letter_follows : (cs : List ℕ) → MayFollowWord cs → begins is_letter cs ≡ false
-no_letter_follows cs hyp1 = grind (arith, common_steps, begins_other, numeric_not_letter)
+no_letter_follows cs h = grind (arith, common_steps, begins_other, numeric_not_letter)
 
 -- where a spelling ends with its word, it doesn't end in white space
 ends_in_word : (a b word : List ℕ) → Only is_letter word → begins is_letter word ≡ true → ends is_ws (a ++ (b ++ (word ++ []))) ≡ false
@@ -112,4 +112,4 @@ past_fraction_shorter cs = grind (arith, common_steps, cases_Bool, past_shorter)
 
 -- what follows a span is shorter than what it begins
 pub next_smaller : (rest : List ℕ) → begins is_digit rest ≡ true → length (next_of rest) < length rest
-next_smaller rest e = grind (arith, common_steps, common_steps, past_fraction_shorter, past_shorter, digit_is_numeric)
+next_smaller rest e = grind (arith, common_steps, past_fraction_shorter, past_shorter, digit_is_numeric)

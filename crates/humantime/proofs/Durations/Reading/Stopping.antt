@@ -32,21 +32,21 @@ unfolding stop_at
 stop_says text front spans rest d = grind (arith, common_steps)
 
 by_word : (text rest : List ℕ) (f : Option (List ℕ)) (w n : List ℕ) → f ≢ Some [] → w ≢ [] → MayFollowWord n → stop_by text rest f w n ≡ stop_word text rest (scale_of_word w)
-by_word text rest f w n hyp1 hyp2 hyp3 = grind (arith, common_steps)
+by_word text rest f w n h k e = grind (arith, common_steps)
 
 pub some_letters : (word : List ℕ) → IsSome (scale_of_word word) → word ≢ []
 unfolding scale_of_word
 some_letters word h e = grind (arith, common_steps, false≢true)
 
 known_word : (text rest : List ℕ) (o : Option Scale) → IsSome o → stop_word text rest o ≡ None
-known_word text rest o hyp1 = grind (arith, common_steps)
+known_word text rest o h = grind (arith, common_steps)
 
 -- at a span that is well formed nothing stops
 pub fine_goes : (text rest : List ℕ) → Fine rest → stop_at text rest ≡ None
 unfolding stop_at
-fine_goes text rest h = grind (arith, common_steps, common_steps, by_word, some_letters, known_word, not_too_long)
+fine_goes text rest h = grind (arith, common_steps, by_word, some_letters, known_word, not_too_long)
 
 -- each row of the table where a number begins
 pub stops_at : (text front : List ℕ) (spans : List Span) (rest : List ℕ) (e : Fault) → begins is_digit rest ≡ true → Stops text front spans rest e → stop_at text rest ≡ Some e
 unfolding stop_at
-stops_at text front spans rest e hyp1 hyp2 = grind (arith, common_steps)
+stops_at text front spans rest e h k = grind (arith, common_steps)

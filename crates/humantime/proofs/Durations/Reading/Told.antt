@@ -25,7 +25,7 @@ pub closes_digit : (front rest : List ℕ) → begins is_digit rest ≡ true →
 closes_digit front rest d = inl (inr (begins_also is_digit is_numeric digit_is_numeric rest d))
 
 pub each_starts : (body : List ℕ) (s : Span) (ss : List Span) → SpellsEach body (s ∷ ss) → begins is_digit body ≡ true
-each_starts body s ss h = grind (arith, common_steps, common_steps)
+each_starts body s ss h = grind (arith, common_steps)
 
 starts_before : (body rest : List ℕ) (s : Span) (ss : List Span) → SpellsEach body (s ∷ ss) → begins is_digit (body ++ rest) ≡ true
 starts_before body rest s ss h = let d = each_starts body s ss h in begins-append is_digit body rest (begins_not_nil is_digit body d) ∙ d
@@ -92,7 +92,7 @@ some_left body rest [] h some e = let k : rest ≡ [] = rw h at e in some k refl
 some_left body rest (s ∷ ss) h some e = begins_not_nil is_digit (body ++ rest) (starts_before body rest s ss h) e
 
 closes_body : (space body rest : List ℕ) (spans : List Span) → SpellsEach body spans → (spans ≡ []) ⊎ Closes (space ++ body) rest → (spans ≡ []) ⊎ Closes body rest
-closes_body space body rest spans hyp1 hyp2 = grind (arith, common_steps, closes_more)
+closes_body space body rest spans h k = grind (arith, common_steps, closes_more)
 
 pub front_told : (text front rest : List ℕ) (spans : List Span) → Split text front spans rest → AllByRecursion Formed spans → (spans ≡ []) ⊎ Closes front rest → (rest ≡ [] → spans ≢ [])
     → GoesThrough (items text) text spans rest
@@ -110,7 +110,7 @@ record IsStart (text : List ℕ) (spans : List Span) (rest : List ℕ) (e : Faul
   no_digit : begins is_digit rest ≡ false → rest ≢ [] → e ≡ NumberExpected (offset_of text rest)
 
 is_start : (text front : List ℕ) (spans : List Span) (rest : List ℕ) (e : Fault) → Stops text front spans rest e → IsStart text spans rest e
-is_start text front spans rest e hyp1 = grind (arith, common_steps)
+is_start text front spans rest e h = grind (arith, common_steps)
 
 -- the reading stops where the text does
 stop_told : (n : ℕ) (text front rest : List ℕ) (spans : List Span) (e : Fault) → rest ≢ [] → length rest ≤ n → Stops text front spans rest e → read n text rest ≡ ([], Some e)
@@ -132,7 +132,7 @@ rest_told n text front [] spans stop some h (inr o) = absurd (some refl ((is_sta
 rest_told n text front (c ∷ cs) spans stop some h (inr o) = stop_told n text front (c ∷ cs) spans o.0 (λ e. cc) h o.2 ∙ ap (λ (x : Option Fault). ([], x)) (sym o.1)
 
 ends_closes : (text front rest : List ℕ) (spans : List Span) (stop : Option Fault) → Ends text front spans rest stop → (spans ≡ []) ⊎ Closes front rest
-ends_closes text front rest spans stop hyp1 = grind (arith, common_steps)
+ends_closes text front rest spans stop h = grind (arith, common_steps)
 
 told_some : (text front rest : List ℕ) (spans : List Span) (stop : Option Fault) → (rest ≡ [] → spans ≢ []) → Split text front spans rest → AllByRecursion Formed spans
     → Ends text front spans rest stop → items text ≡ (spans, stop)

@@ -25,12 +25,12 @@ unread-end n text = grind (arith, common_steps)
 
 pub unread-expected : (n : ℕ) (text rest : List ℕ) → rest ≢ [] → begins is_digit rest ≡ false → unread (suc n) text rest ≡ rest
 unfolding unread
-unread-expected n text rest hyp1 hyp2 = grind (arith, common_steps)
+unread-expected n text rest h k = grind (arith, common_steps)
 
 pub unread-stopped : (n : ℕ) (text rest : List ℕ) (e : Fault) → begins is_digit rest ≡ true → stop_at text rest ≡ Some e → unread (suc n) text rest ≡ rest
 unfolding unread
-unread-stopped n text rest e hyp1 hyp2 = grind (arith, common_steps)
+unread-stopped n text rest e h k = grind (arith, common_steps)
 
 pub unread-fine : (n : ℕ) (text rest : List ℕ) → begins is_digit rest ≡ true → stop_at text rest ≡ None → unread (suc n) text rest ≡ unread n text (next_of rest)
 unfolding unread
-unread-fine n text rest hyp1 hyp2 = grind (arith, common_steps)
+unread-fine n text rest h k = grind (arith, common_steps)

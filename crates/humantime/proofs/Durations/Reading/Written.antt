@@ -41,7 +41,7 @@ digit_begins (c ∷ cs) e = rw (digit_is_numeric c e) e
 
 -- white space stands behind the word, where what follows the word is neither the end nor a digit
 space_there : (n : List ℕ) → MayFollowWord n → past is_ws n ≢ [] → begins is_digit (past is_ws n) ≡ false → leading is_ws n ≢ []
-space_there n hyp1 hyp2 hyp3 = grind (arith, common_steps)
+space_there n h k e = grind (arith, common_steps)
 
 together : (rest a m b tail w n c next : List ℕ) → rest ≡ a ++ m → m ≡ b ++ tail → tail ≡ w ++ n → n ≡ c ++ next → rest ≡ (a ++ (b ++ (w ++ c))) ++ next
 together rest a m b tail w n c next p q r s = rw (p, q, r, s) (simp append_assoc)

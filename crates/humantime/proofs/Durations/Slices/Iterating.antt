@@ -31,7 +31,7 @@ lends_enough (suc n) (suc m) text (c ∷ cs) h k = by (turn text (c ∷ cs)) (λ
 
 lends_left : (n : ℕ) (text rest : List ℕ) → length rest ≤ n → lends n text rest ≡ left_at false text rest
 unfolding lends
-lends_left n text rest hyp1 = grind (arith, common_steps, lends_enough)
+lends_left n text rest h = grind (arith, common_steps, lends_enough)
 
 -- what is left at a rest: its span and what is left after it, or the fault at which it stops, or that no number is there
 left_fine : (first : Bool) (text rest : List ℕ) → begins is_digit rest ≡ true → stop_at text rest ≡ None → left_at first text rest ≡ Ok (lent_at text rest) ∷ left_at false text (next_of rest)
@@ -50,10 +50,10 @@ pub step_fine : (ended first first' : Bool) (text before rest next : List ℕ) (
 step_fine ended first first' text before rest next x e r d s i n f = grind (arith, common_steps, left_fine)
 
 pub step_stopped : (ended first : Bool) (text before rest : List ℕ) (f : Fault) → ended ≡ false → rest ≡ past is_ws before → begins is_digit rest ≡ true → stop_at text rest ≡ Some f → left ended first text before ≡ Err f ∷ []
-step_stopped ended first text before rest f e r d s = grind (arith, common_steps, common_steps, lends-stopped)
+step_stopped ended first text before rest f e r d s = grind (arith, common_steps, lends-stopped)
 
 pub step_expected : (ended first : Bool) (text before rest : List ℕ) (n : ℕ) → ended ≡ false → rest ≡ past is_ws before → rest ≢ [] → begins is_digit rest ≡ false → n ≡ offset_of text rest → left ended first text before ≡ Err (NumberExpected n) ∷ []
-step_expected ended first text before rest n e r s d p = grind (arith, common_steps, common_steps, lends-expected)
+step_expected ended first text before rest n e r s d p = grind (arith, common_steps, lends-expected)
 
 -- what the items so far add up to, with the next item
 pub loop_done : (t : ℕ) (xs : List (Result Lent Fault)) (g : Result ℕ Fault) → judged t xs ≡ g → xs ≡ [] → Ok t ≡ g

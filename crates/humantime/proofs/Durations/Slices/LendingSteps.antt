@@ -24,12 +24,12 @@ turn text rest = by (begins is_digit rest) (stop_at text rest) refl refl
 
 pub lends-expected : (n : ℕ) (text rest : List ℕ) → rest ≢ [] → begins is_digit rest ≡ false → lends (suc n) text rest ≡ Err (NumberExpected (offset_of text rest)) ∷ []
 unfolding lends
-lends-expected n text rest hyp1 hyp2 = grind (arith, common_steps)
+lends-expected n text rest h k = grind (arith, common_steps)
 
 pub lends-stopped : (n : ℕ) (text rest : List ℕ) (e : Fault) → begins is_digit rest ≡ true → stop_at text rest ≡ Some e → lends (suc n) text rest ≡ Err e ∷ []
 unfolding lends
-lends-stopped n text rest e hyp1 hyp2 = grind (arith, common_steps)
+lends-stopped n text rest e h k = grind (arith, common_steps)
 
 pub lends-fine : (n : ℕ) (text rest : List ℕ) → begins is_digit rest ≡ true → stop_at text rest ≡ None → lends (suc n) text rest ≡ Ok (lent_at text rest) ∷ lends n text (next_of rest)
 unfolding lends
-lends-fine n text rest hyp1 hyp2 = grind (arith, common_steps)
+lends-fine n text rest h k = grind (arith, common_steps)

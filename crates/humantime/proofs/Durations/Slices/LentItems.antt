@@ -19,7 +19,7 @@ use Rattle.humantime.proofs.Durations.Reading.ReadSteps.{read-expected, read-sto
 use Rattle.humantime.proofs.Durations.Slices.SlicesTold.{one_each}
 use Rattle.humantime.proofs.Durations.Slices.SpanSlices.{is_lent}
 use Rattle.humantime.proofs.Durations.Reading.Spelled.{next_of}
-use Rattle.humantime.proofs.Durations.Slices.Trimming.{spelled_at}
+use Rattle.humantime.proofs.Durations.Bytes.Trimming.{spelled_at}
 use Rattle.humantime.proofs.Durations.Reading.Unread.{unread, unread_of, unread-expected, unread-stopped, unread-fine}
 
 -- items and spans of one text add up to the same after every sum

@@ -14,7 +14,7 @@ use Rattle.humantime.proofs.Durations.Bytes.Tails.{tail_boundary, part_between}
 
 -- a text that has a character has a byte
 pub some_bytes : (bs : List ℕ) → chars bs ≢ [] → 0 < length bs
-some_bytes bs hyp1 = grind (arith, common_steps, chars-nil)
+some_bytes bs h = grind (arith, common_steps, chars-nil)
 
 -- a rest that has a byte begins at a character's offset
 pub rest_place : (text rest : List ℕ) (at : ℕ) → IsTail text rest → at ≡ length text - length rest → 0 < length rest → IsPlaceIn text at
@@ -37,4 +37,4 @@ bad_some next e none = false≢true (sym e ∙ ap ends_span none)
 
 -- an overflow has no place
 pub overflow_points : (s : List ℕ) (e : DurationError) → fault_of e ≡ NumberOverflow → PointsInto s e
-overflow_points s e hyp1 = grind (arith, common_steps)
+overflow_points s e h = grind (arith, common_steps)

@@ -13,7 +13,7 @@ use Rattle.humantime.specs.References.Durations.Lending.{trimmed, number_slice, 
 use Rattle.humantime.proofs.Durations.Reading.Classes.{white_is, digit_not_space}
 use Rattle.humantime.proofs.Durations.Reading.Runs.{past-append, begins-append, begins_not_nil, begins_other, letters_begin}
 use Rattle.humantime.proofs.Durations.Reading.Spelled.{begins_word, read_spelled}
-use Rattle.humantime.proofs.Durations.Slices.Trimming.{suc_not_zero, no_slice, slice_behind_point}
+use Rattle.humantime.proofs.Durations.Bytes.Trimming.{suc_not_zero, no_slice, slice_behind_point}
 
 drop_white : (cs : List ℕ) → Only is_ws cs → drop_trailing_whitespace cs ≡ []
 drop_white [] o = refl
@@ -65,7 +65,7 @@ lent_same : (x y : Lent) → x.number ≡ y.number → x.fraction ≡ y.fraction
 lent_same x y a b c d e f = λ i. record { number = a i; fraction = b i; unit = c i; start = d i; end = e i; value = f i }
 
 each_starts : (text rest : List ℕ) (s : Span) (ss : List Span) (xs : List Lent) (end : List ℕ) → LendsEach text rest (s ∷ ss) xs end → begins is_digit rest ≡ true
-each_starts text rest s ss xs end hyp1 = grind (arith, common_steps)
+each_starts text rest s ss xs end h = grind (arith, common_steps)
 
 next_is : (space next : List ℕ) → Only is_ws space → begins is_digit next ≡ true → past is_ws (space ++ next) ≡ next
 next_is space next o b = past-append is_ws space next o (begins_other is_digit is_ws digit_not_space next b)
@@ -89,7 +89,7 @@ one_span text rest s x y m n h k =
     }
 
 no_spans : (text m n : List ℕ) (xs ys : List Lent) (d e : List ℕ) → LendsEach text m [] xs d → LendsEach text n [] ys e → xs ≡ ys
-no_spans text m n xs ys d e hyp1 hyp2 = grind (arith, common_steps)
+no_spans text m n xs ys d e h k = grind (arith, common_steps)
 
 -- one list of spans lends one list of slices, wherever in white space the rest of the text begins
 pub one_each : (text p q m n : List ℕ) (spans : List Span) (xs ys : List Lent) (d e : List ℕ) → Only is_ws p → Only is_ws q → p ++ m ≡ q ++ n → LendsEach text m spans xs d → LendsEach text n spans ys e → xs ≡ ys

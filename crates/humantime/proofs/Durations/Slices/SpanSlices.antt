@@ -15,7 +15,7 @@ use Rattle.humantime.proofs.Durations.Reading.Spelled.{next_of, begins_word, rea
 use Rattle.humantime.proofs.Durations.Reading.Spellings.{spells-append}
 use Rattle.humantime.proofs.Durations.Reading.Written.{written_here}
 use Rattle.humantime.proofs.Durations.Reading.Stopping.{Fine, Says, stop_says}
-use Rattle.humantime.proofs.Durations.Slices.Trimming.{dropped, digits_past, digit_slice, no_slice, slice_behind_point}
+use Rattle.humantime.proofs.Durations.Bytes.Trimming.{dropped, digits_past, digit_slice, no_slice, slice_behind_point}
 
 -- the point with what follows it up to the word, if a point begins the text
 abbrev fraction_text : List ℕ → List ℕ
@@ -31,7 +31,7 @@ Only-past p q (c ∷ cs) o = grind (arith, common_steps, (Only-past p q cs o.1))
 
 -- digits and white space that don't begin with white space begin with a digit
 begins_digit_or_end : (cs : List ℕ) → Only is_numeric cs → begins is_ws cs ≡ false → digits cs ≢ [] → begins is_digit cs ≡ true
-begins_digit_or_end cs hyp1 hyp2 hyp3 = grind (arith, common_steps)
+begins_digit_or_end cs h k e = grind (arith, common_steps)
 
 -- digits and white space, not without a digit, with the slice from the first digit to the last
 trimmed_slice : (cs : List ℕ) → Only is_numeric cs → digits cs ≢ [] → IsDigitSlice cs (trimmed cs)
@@ -42,10 +42,10 @@ trimmed_slice cs o n =
     (digit_slice (leading is_ws cs) (past is_ws cs) (trimmed cs) (dropped (past is_ws cs)) (Only-leading is_ws cs) starts numeric)
 
 fraction_is_lent : (b tail : List ℕ) (o : Option (List ℕ)) → SpellsFraction b o → begins is_letter tail ≡ true → LendsFraction b (fraction_slice (b ++ tail))
-fraction_is_lent b tail o hyp1 hyp2 = grind (arith, common_steps, no_slice, slice_behind_point, trimmed_slice)
+fraction_is_lent b tail o h k = grind (arith, common_steps, no_slice, slice_behind_point, trimmed_slice)
 
 begins_leading : (p q : ℕ → Bool) (cs : List ℕ) → begins p cs ≡ true → ((c : ℕ) → p c ≡ true → q c ≡ true) → begins p (leading q cs) ≡ true
-begins_leading p q cs hyp1 hyp2 = grind (arith, common_steps)
+begins_leading p q cs h k = grind (arith, common_steps)
 
 -- what stands up to the end of a word, from a first digit on, isn't empty
 word_front : (rest : List ℕ) → begins is_digit rest ≡ true → (front : List ℕ) × (rest ≡ front ++ after_word rest) × (0 < length front)

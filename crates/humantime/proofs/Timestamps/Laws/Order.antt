@@ -84,7 +84,7 @@ nanos_cmp ds es ws d e long room = filled_cmp 9 ds es (codes "000000000") ws 0 0
 
 fraction_cmp : (k : ℕ) (p q : Option (List ℕ)) → k ≤ 9 → HasPlaces p k → HasPlaces q k → AreDigits (fraction_digits p) → AreDigits (fraction_digits q)
     → slice_cmp nat_cmp (fraction_text p ++ codes "Z") (fraction_text q ++ codes "Z") ≡ nat_cmp (fraction_nanos (fraction_digits p)) (fraction_nanos (fraction_digits q))
-fraction_cmp k p q hyp1 hyp2 hyp3 hyp4 hyp5 = grind (arith, common_steps, cmp_equal, nanos_cmp, then_equal)
+fraction_cmp k p q h e f g i = grind (arith, common_steps, cmp_equal, nanos_cmp, then_equal)
 
 -- dates and their days
 day_cmp : (a b : Date) (o : Ordering) → IsDate a → IsDate b

@@ -16,7 +16,7 @@ use Rattle.humantime.proofs.Timestamps.Laws.StrictForm.{strict_is_weak, strict_c
 
 -- an answer is a moment exactly where no check failed
 answer_told : (o : Option TimestampError) (n : ℕ) (t : ℤ) → moment_or_error o n ≡ Ok t → (o ≡ None) × (t ≡ pos n)
-answer_told o n t hyp1 = grind (arith, common_steps)
+answer_told o n t h = grind (arith, common_steps)
 
 answer_none : (o : Option TimestampError) (n : ℕ) → o ≡ None → moment_or_error o n ≡ Ok (pos n)
 answer_none o n h = rw h refl
@@ -82,7 +82,7 @@ unfolding strict_answer
 strict_error b e = failed_told (first_failed (strict_checks b)) (moment_of (fields_of b)) e
 
 complete_from : (t : Bool) (e : TimestampError) (rest : Option TimestampError) → (if t then rest else Some e) ≡ None → (t ≡ true) × (rest ≡ None)
-complete_from t e rest hyp1 = grind (arith, common_steps)
+complete_from t e rest h = grind (arith, common_steps)
 
 pub one_strict : (b : List ℕ) → OneTimestamp (strict_checks b) (IsStrict b)
 one_strict b = (

@@ -18,7 +18,7 @@ has_zone b f w h none =
     plain_end b (subst (AllByRecursion IsPlain) (sym shown) all) h
 
 zone_ends : (xs : List ℕ) (z : Zone) → z ≢ Nothing → ends_in_zone (xs ++ zone_text z) ≡ true
-zone_ends xs z hyp1 = grind (arith, common_steps)
+zone_ends xs z h = grind (arith, common_steps)
 
 zone_length : (z : Zone) → z ≢ Nothing → 1 ≤ length (zone_text z)
 zone_length Nothing some = absurd (some refl)
@@ -26,7 +26,7 @@ zone_length Letter_Z some = omega arith
 zone_length Offset some = omega arith
 
 letter_told : (s : Separator) → separator_byte s ≡ 84 → s ≡ Letter_T
-letter_told s hyp1 = grind (arith, common_steps)
+letter_told s h = grind (arith, common_steps)
 
 pub strict_is_weak : (b : List ℕ) → StrictIsWeak b
 strict_is_weak b f = (

@@ -75,7 +75,7 @@ pub shown_digits : (k n : ℕ) → n < 1_000_000_000 → AreDigits (fraction_dig
 shown_digits k n h = rw (fraction_is k n) (first_are_digits k n h)
 
 pub shown_places : (k n : ℕ) → k ≤ 9 → HasPlaces (cut_fraction n k) k
-shown_places k n hyp1 = grind (arith, common_steps)
+shown_places k n h = grind (arith, common_steps)
 
 pub shown_nanos : (k n : ℕ) → k ≤ 9 → n < 1_000_000_000 → fraction_nanos (fraction_digits (cut_fraction n k)) ≡ n - n % 10 ^ (9 - k)
 shown_nanos k n small h =

@@ -17,7 +17,7 @@ use Rattle.humantime.specs.References.Timestamps.Printing.{places, moment_kept, 
 use Rattle.humantime.proofs.Timestamps.Reading.Bytes.{HoldsOfBytes, holds_before_zone, all_append}
 use Rattle.humantime.proofs.Dates.DatesOfDays.{date_of_is}
 use Rattle.humantime.proofs.Timestamps.Printing.Digits.{shown_digits, shown_places, shown_nanos, cut_nanos}
-use Rattle.humantime.proofs.Timestamps.Laws.OneText.{same_printed}
+use Rattle.humantime.proofs.Timestamps.Printing.OneText.{same_printed}
 
 pub places_most : (p : Precision) → places p ≤ 9
 places_most p = grind (arith, common_steps)
@@ -69,7 +69,7 @@ ascii_bytes : HoldsOfBytes (λ c. c < 128)
 ascii_bytes = grind (arith, common_steps)
 
 ascii_from : (bs : List ℕ) → AllByRecursion (λ c. c < 128) bs → IsAscii bs
-ascii_from bs hyp1 = grind (arith, common_steps)
+ascii_from bs h = grind (arith, common_steps)
 
 pub printed_ascii : (t : ℤ) (k : ℕ) (text : List ℕ) → IsPrinted t k text → IsAscii text
 printed_ascii t k text p =

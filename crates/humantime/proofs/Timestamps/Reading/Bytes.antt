@@ -9,10 +9,10 @@ use Rattle.humantime.proofs.Dates.Years.{valid_told}
 use Rattle.humantime.proofs.Timestamps.Reading.Passed.{month_most}
 
 pub all_append : (P : ℕ → Type 0) (xs ys : List ℕ) → AllByRecursion P xs → AllByRecursion P ys → AllByRecursion P (xs ++ ys)
-all_append P xs ys hyp1 hyp2 = grind (arith, common_steps)
+all_append P xs ys h k = grind (arith, common_steps)
 
 pub all_drop : (P : ℕ → Type 0) (n : ℕ) (xs : List ℕ) → AllByRecursion P xs → AllByRecursion P (drop n xs)
-all_drop P n xs hyp1 = grind (arith, common_steps)
+all_drop P n xs h = grind (arith, common_steps)
 
 -- a property of the digits, the signs and the separators
 pub record HoldsOfBytes (P : ℕ → Type 0) : Type 0 where
@@ -28,7 +28,7 @@ digits_hold P h [] digits = tt
 digits_hold P h (c ∷ cs) digits = (h.digit c digits.0, digits_hold P h cs digits.1)
 
 separator_holds : (P : ℕ → Type 0) → HoldsOfBytes P → (s : Separator) → P (separator_byte s)
-separator_holds P hyp1 s = grind (arith, common_steps)
+separator_holds P h s = grind (arith, common_steps)
 
 two_hold : (P : ℕ → Type 0) → HoldsOfBytes P → (n : ℕ) → n ≤ 99 → P (48 + n / 10) × P (48 + n % 10)
 two_hold P h n small = grind (arith, common_steps)

@@ -51,7 +51,7 @@ pub record Pairs (b : List ℕ) : Type 0 where
 
 pub pairs_told : (b : List ℕ) → has_digits b ≡ true → Pairs b
 unfolding has_digits has_two
-pairs_told b h = grind (arith, common_steps, common_steps, and_parts, and_assoc, and-true)
+pairs_told b h = grind (arith, common_steps, and_parts, and_assoc, and-true)
 
 pub pairs_from : (b : List ℕ) → Pairs b → has_digits b ≡ true
 unfolding has_digits has_two
@@ -66,7 +66,7 @@ zone_shown z h = grind (arith, common_steps, bytes_eq-Decides, common_steps)
 -- what stands after date and time
 pub end_shown : (b : List ℕ) → ends_whole b ≡ true → ends_fraction b ≡ true → drop 19 b ≡ fraction_text (fraction_read b) ++ zone_text (zone_at b)
 unfolding ends_fraction ends_whole
-end_shown b whole fraction = grind (arith, common_steps, common_steps, drop-cons, eqb-true, front_past, zone_shown)
+end_shown b whole fraction = grind (arith, common_steps, drop-cons, eqb-true, front_past, zone_shown)
 
 pub fraction_at_digits : (b : List ℕ) → AreDigits (fraction_digits (fraction_read b))
 fraction_at_digits b = grind (arith, common_steps, front_are_digits)

@@ -27,13 +27,13 @@ pub last_letter : (b : List ℕ) → 1 ≤ length b → (slice_index b (length b
 last_letter b some = grind (arith, common_steps)
 
 pub no_letter : (b : List ℕ) → length b < 1 → false ≡ ends_with nat_eq b (codes "Z")
-no_letter b short = grind (arith, common_steps, common_steps)
+no_letter b short = grind (arith, common_steps)
 
 pub last_offset : (b : List ℕ) → bytes_eq (take (length b - (length b - 6)) (drop (length b - 6) b)) (codes "+00:00") ≡ ends_with nat_eq b (codes "+00:00")
 last_offset b = grind (arith, common_steps)
 
 pub no_offset : (b : List ℕ) → length b < 6 → false ≡ ends_with nat_eq b (codes "+00:00")
-no_offset b short = grind (arith, common_steps, common_steps)
+no_offset b short = grind (arith, common_steps)
 
 -- ---- How long the zone is
 
@@ -70,7 +70,7 @@ pub plain_end : (b : List ℕ) → AllByRecursion IsPlain b → ends_in_zone b �
 plain_end b plain h = grind (arith, common_steps)
 
 false_unless : (t : Bool) → (t ≡ true → ⊥) → t ≡ false
-false_unless t hyp1 = grind (arith, common_steps)
+false_unless t h = grind (arith, common_steps)
 
 -- an offset has no `Z` at its end
 offset_end : (xs : List ℕ) → ends_with nat_eq (xs ++ codes "+00:00") (codes "Z") ≡ true → ⊥

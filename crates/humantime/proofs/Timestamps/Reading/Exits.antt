@@ -27,7 +27,7 @@ pub record Begins (b : List ℕ) : Type 0 where
   pub range : in_range b ≡ true
 
 pub false_from : (t : Bool) → (t ≡ true → false ≡ true) → t ≡ false
-false_from t hyp1 = grind (arith, common_steps)
+false_from t h = grind (arith, common_steps)
 
 pub exit_short : (b : List ℕ) → length b < 19 → Err InvalidFormat ≡ weak_answer b
 unfolding weak_answer
@@ -35,7 +35,7 @@ exit_short b short = rw (lt-leb 19 (length b) short) refl
 
 pub exit_separator : (b : List ℕ) → has_separator b ≡ false → Err InvalidFormat ≡ weak_answer b
 unfolding has_separator has_signs weak_answer
-exit_separator b other = grind (arith, common_steps, common_steps)
+exit_separator b other = grind (arith, common_steps)
 
 pub exit_shape : (b : List ℕ) (e : TimestampError) → 19 ≤ length b → (has_signs b && has_digits b) ≡ false → e ≡ shape_error b → Err e ≡ weak_answer b
 unfolding weak_answer

@@ -80,4 +80,4 @@ joined digits p q r s two = grind (arith, common_steps, and_assoc, and-true, and
 
 pub shape_of_parts : (b : List ℕ) → has_separator b ≡ true → (is_shaped_front b && has_seconds b) ≡ (has_signs b && has_digits b)
 unfolding has_digits has_front_digits has_seconds has_separator has_signs has_two is_shaped_front
-shape_of_parts b separator = grind (arith, common_steps, common_steps, joined, and_assoc, and-true)
+shape_of_parts b separator = grind (arith, common_steps, joined, and_assoc, and-true)

@@ -70,15 +70,15 @@ end_whole q z = grind (arith, common_steps)
 
 end_fraction : (q : Option (List ℕ)) (z : Zone) → AreDigits (fraction_digits q)
     → (not (begins_point (end_text q z)) || is_zone (past_digits (drop 1 (end_text q z)))) ≡ true
-end_fraction q z hyp1 = grind (arith, common_steps, common_steps, no_point, past_back)
+end_fraction q z h = grind (arith, common_steps, no_point, past_back)
 
 fraction_back : (q : Option (List ℕ)) (z : Zone) → AreDigits (fraction_digits q)
     → q ≡ (if begins_point (end_text q z) then Some (front_digits (drop 1 (end_text q z))) else None)
-fraction_back q z hyp1 = grind (arith, common_steps, no_point, front_back)
+fraction_back q z h = grind (arith, common_steps, no_point, front_back)
 
 end_zone_back : (q : Option (List ℕ)) (z : Zone) → AreDigits (fraction_digits q)
     → z ≡ zone_of (if begins_point (end_text q z) then past_digits (drop 1 (end_text q z)) else end_text q z)
-end_zone_back q z hyp1 = grind (arith, common_steps, common_steps, no_point, past_back)
+end_zone_back q z h = grind (arith, common_steps, no_point, past_back)
 
 abbrev parts : Date → Separator → ℕ → ℕ → ℕ → Option (List ℕ) → Zone → Fields
 parts date separator hour minute second fraction zone = record {

@@ -25,7 +25,7 @@ number_of_two b k long h = grind (arith, common_steps, has_two_told, two_bytes, 
 pub number_of_four : (b : List ℕ) → 4 ≤ length b → has_two b 0 ≡ true → has_two b 2 ≡ true
     → number b 0 4 ≡ (slice_index b 0 - 48) * 1000 + (slice_index b 1 - 48) * 100 + (slice_index b 2 - 48) * 10 + (slice_index b 3 - 48)
 unfolding number
-number_of_four b long century decade = grind (arith, common_steps, common_steps, has_two_told, digit_value_digit)
+number_of_four b long century decade = grind (arith, common_steps, has_two_told, digit_value_digit)
 
 pub in_range_told : (b : List ℕ) → IsTrue (in_range b)
     → IsDate (date_at b) × (number b 11 13 ≤ 23) × (number b 14 16 ≤ 59) × (number b 17 19 ≤ 60)

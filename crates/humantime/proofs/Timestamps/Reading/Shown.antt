@@ -16,7 +16,7 @@ pair_shown b k long h = grind (arith, common_steps, has_two_told, number_of_two)
 year_shown : (b : List ℕ) → 4 ≤ length b → has_two b 0 ≡ true → has_two b 2 ≡ true
     → (slice_index b 0 ≡ 48 + number b 0 4 / 1000) × (slice_index b 1 ≡ 48 + number b 0 4 / 100 % 10)
     × (slice_index b 2 ≡ 48 + number b 0 4 / 10 % 10) × (slice_index b 3 ≡ 48 + number b 0 4 % 10)
-year_shown b long century decade = grind (arith, common_steps, common_steps, has_two_told, number_of_four)
+year_shown b long century decade = grind (arith, common_steps, has_two_told, number_of_four)
 
 written_shown : (b : List ℕ) → Passes b → b ≡ fields_text (fields_of b)
 written_shown b p =

@@ -9,7 +9,7 @@ pub returns-then-is_empty-clause-none : goal.returns-then-is_empty-clause-none
 returns-then-is_empty-clause-none c = rw (no_bytes c.args.text.now (grind (arith, common_steps))) refl
 
 pub returns-then-bytes-ne46-clause-none : goal.returns-then-bytes-ne46-clause-none
-returns-then-bytes-ne46-clause-none c = grind (arith, common_steps, common_steps, no_point)
+returns-then-bytes-ne46-clause-none c = grind (arith, common_steps, no_point)
 
 pub range_from-requires : goal.range_from-requires
 range_from-requires c =

@@ -38,7 +38,7 @@ loop-at-preserved c =
     }
 
 pub returns-after-loop-at-clause-rest : goal.returns-after-loop-at-clause-rest
-returns-after-loop-at-clause-rest c = grind (arith, common_steps, common_steps, no_chars_at)
+returns-after-loop-at-clause-rest c = grind (arith, common_steps, no_chars_at)
 
 pub returns-in_default-clause-rest : goal.returns-in_default-clause-rest
 returns-in_default-clause-rest c =

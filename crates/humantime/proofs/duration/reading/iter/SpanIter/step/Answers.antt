@@ -7,7 +7,7 @@ use Rattle.humantime.proofs.Durations.Bytes.Tails.{byte_length-chars, no_bytes, 
 use Rattle.humantime.proofs.duration.reading.iter.SpanIter.step.Goals as goal
 
 pub returns-then-not-begins_with_digit-clause-items : goal.returns-then-not-begins_with_digit-clause-items
-returns-then-not-begins_with_digit-clause-items c = grind (arith, common_steps, common_steps, step_expected, some_chars)
+returns-then-not-begins_with_digit-clause-items c = grind (arith, common_steps, step_expected, some_chars)
 
 pub returns-in-Ok-clause-items : goal.returns-in-Ok-clause-items
 returns-in-Ok-clause-items c = grind (arith, common_steps, next_bytes, byte_length-chars, ne_eqb, step_fine)

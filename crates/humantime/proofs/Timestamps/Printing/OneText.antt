@@ -31,7 +31,7 @@ same_nanos ds es d e long room h = (same_filled 9 ds es (codes "000000000") 0 0 
 
 same_fraction : (k : ℕ) (p q : Option (List ℕ)) → k ≤ 9 → HasPlaces p k → HasPlaces q k → AreDigits (fraction_digits p) → AreDigits (fraction_digits q)
     → fraction_nanos (fraction_digits p) ≡ fraction_nanos (fraction_digits q) → p ≡ q
-same_fraction k p q hyp1 hyp2 hyp3 hyp4 hyp5 hyp6 = grind (arith, common_steps, same_nanos)
+same_fraction k p q h e f g i j = grind (arith, common_steps, same_nanos)
 
 -- equal moments have equal parts
 same_clock : (a h i s m b j k t n : ℕ) → h ≤ 23 → i ≤ 59 → s ≤ 59 → m < 1_000_000_000 → j ≤ 23 → k ≤ 59 → t ≤ 59 → n < 1_000_000_000

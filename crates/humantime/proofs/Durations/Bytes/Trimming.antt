@@ -24,7 +24,7 @@ pub record Dropped (cs ds : List ℕ) : Type 0 where
   pub last : (ds ≡ []) ⊎ (ends is_ws ds ≡ false)
 
 last_of : (x : ℕ) (xs : List ℕ) → (x ∷ xs ≡ []) ⊎ (ends is_ws (x ∷ xs) ≡ false) → ends is_ws (x ∷ xs) ≡ false
-last_of x xs hyp1 = grind (arith, common_steps)
+last_of x xs h = grind (arith, common_steps)
 
 pub dropped : (cs : List ℕ) → Dropped cs (drop_trailing_whitespace cs)
 dropped [] = record { tail = []; whole = refl; space = tt; last = inl refl }
@@ -48,7 +48,7 @@ digits_past [] = refl
 digits_past (c ∷ cs) = grind (arith, common_steps, (digits_past cs), space_not_digit)
 
 fraction_spelled : (after : List ℕ) → option_map digits (fraction_slice after) ≡ option_map digits (fraction_at after)
-fraction_spelled after = grind (arith, common_steps, common_steps, digits_dropped, dropped, digits_past)
+fraction_spelled after = grind (arith, common_steps, digits_dropped, dropped, digits_past)
 
 -- the slices spell the span that they are taken from
 pub spelled_at : (text rest : List ℕ) → spelled (lent_at text rest).number (lent_at text rest).fraction (lent_at text rest).unit ≡ span_of rest
@@ -59,7 +59,7 @@ ends_digit x [] o e = digit_from_numeric x o.0 e
 ends_digit x (y ∷ ys) o e = ends_digit y ys o.1 e
 
 all_white : (cs : List ℕ) → Only is_ws cs → begins is_digit cs ≡ true → ⊥
-all_white cs hyp1 hyp2 = grind (arith, common_steps, space_not_digit)
+all_white cs h k = grind (arith, common_steps, space_not_digit)
 
 only_front : (p : ℕ → Bool) (xs ys : List ℕ) → Only p (xs ++ ys) → Only p xs
 only_front p [] ys o = tt
@@ -72,7 +72,7 @@ digit_slice before cs (x ∷ xs) d w b o = grind (arith, common_steps, only_fron
 
 -- the slice of the fraction behind a number, before a word
 pub no_slice : (tail : List ℕ) → begins is_letter tail ≡ true → fraction_slice tail ≡ None
-no_slice tail hyp1 = grind (arith, common_steps, letter_not_point)
+no_slice tail h = grind (arith, common_steps, letter_not_point)
 
 pub slice_behind_point : (behind tail : List ℕ) → Only is_numeric behind → begins is_letter tail ≡ true → fraction_slice (46 ∷ (behind ++ tail)) ≡ Some (trimmed behind)
 slice_behind_point behind tail only e = grind (arith, common_steps, begins_other, letter_not_numeric, is_point-46, leading-append)
