@@ -78,12 +78,7 @@ next_day n y m d is more = grind (arith, common_steps)
 
 pub next_month : (n : ℕ) (y : ℕ) (m : ℕ) (d : ℕ) → AreWithin y m d × (day_count y m d ≡ n) → days_in_month y m ≤ d → m < 12
     → AreWithin y (m + 1) 1 × (day_count y (m + 1) 1 ≡ suc n)
-next_month n y m d is last more =
-    let whole : days_of_months y m ≡ days_of_months y (m - 1) + days_in_month y m = month_end y m is.0.1.0 in
-    let here : m + 1 - 1 ≡ m = omega arith in
-    let some : 28 ≤ days_in_month y (m + 1) = month_some y (m + 1) in
-    let next : days_of_years (y - 1970) + days_of_months y (m + 1 - 1) + 0 ≡ suc n = rw here (omega (arith, is.0.2.0, is.0.2.1)) in
-    ((is.0.0, (omega arith, omega arith), (omega arith, omega arith)), next)
+next_month n y m d is last more = grind (arith, common_steps, (month_end y m is.0.1.0), (month_some y (m + 1)))
 
 pub next_year : (n : ℕ) (y : ℕ) (m : ℕ) (d : ℕ) → n < 2_932_896 → AreWithin y m d × (day_count y m d ≡ n)
     → days_in_month y m ≤ d → 12 ≤ m → AreWithin (y + 1) 1 1 × (day_count (y + 1) 1 1 ≡ suc n)

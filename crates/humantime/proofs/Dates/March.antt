@@ -83,11 +83,7 @@ pub late_valid : (n : ℕ) (k : ℕ) (left : ℕ) → k < 12 → 10 ≤ k → le
     → march_months k + left < march_year_length n
     → 135_080 ≤ march_days n + march_months k + left → march_days n + march_months k + left ≤ 3_067_976
     → IsValid (1601 + n) (k - 9) (left + 1)
-late_valid n k left some late short within first last =
-    let bound : march_months k + left < 366 = omega (arith, within, days_in_year_bound (1601 + n)) in
-    let months : march_months k ≡ days_of_months (1601 + n) (k - 10) + 306 = late_months (1601 + n) k some late in
-    let short' : left < days_in_month (1601 + n) (k - 9) = late_length (1601 + n) left k some late short within in
-    valid_from (1601 + n) (k - 9) (left + 1) ((omega arith, omega arith), (omega arith, omega arith), (omega arith, omega (arith, short')))
+late_valid n k left some late short within first last = grind (arith, common_steps, within, days_in_year_bound (1601 + n), (late_months (1601 + n) k some late), (late_length (1601 + n) left k some late short within), valid_from)
 
 pub late_day : (n : ℕ) (k : ℕ) (left : ℕ) → k < 12 → 10 ≤ k → march_months k + left < march_year_length n
     → 135_080 ≤ march_days n + march_months k + left

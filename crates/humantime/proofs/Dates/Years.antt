@@ -47,12 +47,7 @@ days_of_years_bound n low = grind (arith, common_steps, march_days_of_years)
 
 -- the days up to the end of year y
 pub days_of_years_more : (y : ℕ) → 1970 ≤ y → days_of_years (y + 1 - 1970) ≡ days_of_years (y - 1970) + days_in_year y
-days_of_years_more y late =
-    let next : suc (y - 1970) ≡ y + 1 - 1970 = omega arith in
-    let year : 1970 + (y - 1970) ≡ y = omega arith in
-    let more : days_of_years (suc (y - 1970)) ≡ days_of_years (y - 1970) + days_in_year (1970 + (y - 1970)) =
-    days_of_years_next (y - 1970) in
-    rw year at (rw next at more)
+days_of_years_more y late = grind (arith, common_steps, (days_of_years_next (y - 1970)))
 
 -- the years up to 9999 have 2932897 days
 pub days_of_years_within : (y : ℕ) → 1970 ≤ y → y ≤ 9999 → days_of_years (y - 1970) + days_in_year y ≤ 2_932_897
@@ -75,11 +70,7 @@ days_of_months_next y n = refl
 
 -- the days up to the end of month m
 pub month_end : (y : ℕ) (m : ℕ) → 1 ≤ m → days_of_months y m ≡ days_of_months y (m - 1) + days_in_month y m
-month_end y m some =
-    let same : suc (m - 1) ≡ m = omega arith in
-    let next : days_of_months y (suc (m - 1)) ≡ days_of_months y (m - 1) + days_in_month y (suc (m - 1)) =
-    days_of_months_next y (m - 1) in
-    rw same at next
+month_end y m some = grind (arith, common_steps, (days_of_months_next y (m - 1)))
 
 -- the days of the first k months, by a table and the leap day
 abbrev days_in_table : ℕ → ℕ → ℕ

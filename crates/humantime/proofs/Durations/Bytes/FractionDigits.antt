@@ -49,9 +49,7 @@ shifted_fits v n z d fits digit =
     omega (arith, longer, some, below)
 
 pub push_fits : (v n z d p : ℕ) → v < 10 ^ n → d ≤ 9 → n + z + 1 ≤ 19 → p ≡ 10 ^ (z + 1) → v * p + d < 2 ^ 64
-push_fits v n z d p fits digit few power =
-    let top : 10 ^ (n + z + 1) ≤ 10 ^ 19 = pow-le-pow_right {n = 10} (omega arith) {i = n + z + 1} {j = 19} few in
-    rw power (omega (arith, top, shifted_fits v n z d fits digit))
+push_fits v n z d p fits digit few power = grind (arith, common_steps, (pow-le-pow_right {n = 10} (omega arith) {i = n + z + 1} {j = 19} few), shifted_fits)
 
 -- another digit follows the zeros
 pub among_digit : (text rest cs : List ℕ) (v n z w m c : ℕ) → IsAmong text v n z rest → rest ≡ c ∷ cs → class_of c ≡ Digit → c ≢ 48

@@ -44,11 +44,7 @@ pub at_space : (text rest cs : List ℕ) (v c : ℕ) → IsAt text v rest → re
 at_space text rest cs v c h e d = grind (arith, common_steps, space_first, past_white)
 
 pub number_passes : (text rest cs : List ℕ) (v c : ℕ) → IsAt text v rest → rest ≡ c ∷ cs → class_of c ≡ Digit → u64_max < v * 10 + (c - 48) → Err NumberOverflow ≡ number_at text
-number_passes text rest cs v c h e d over =
-    let value : digits_value_after 10 (v * 10 + digit_value c) (digits (leading is_numeric cs)) ≡ decimal_value (number_of text) = sym (ap (digits_value_after 10 v) (digit_first c cs rest e d)) ∙ h.value in
-    let grows = value_grows (v * 10 + digit_value c) (digits (leading is_numeric cs)) in
-    let above : u64_max < decimal_value (number_of text) = omega (arith, value, grows, digit_counts c d) in
-    rw (lt-ltb u64_max (decimal_value (number_of text)) above)
+number_passes text rest cs v c h e d over = grind (arith, common_steps, (sym (ap (digits_value_after 10 v) (digit_first c cs rest e d)) ∙ h.value), (value_grows (v * 10 + digit_value c) (digits (leading is_numeric cs))), digit_counts c d, lt-ltb)
 
 pub past_letters : (c : ℕ) (cs rest : List ℕ) → rest ≡ c ∷ cs → class_of c ≡ Letter → past is_letter rest ≡ past is_letter cs
 past_letters c cs rest e d = rw (e, (is_letter-class c).0 d)

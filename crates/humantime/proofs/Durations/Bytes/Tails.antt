@@ -21,9 +21,7 @@ pub tail_of_tail : (text rest after : List ℕ) → IsTail text rest → IsTail 
 tail_of_tail text rest after t r = grind (arith, common_steps)
 
 pub tail_boundary : (text rest : List ℕ) → IsTail text rest → IsCharBoundary text (length text - length rest)
-tail_boundary text rest t =
-    let count : length (front_of text rest) ≡ length text - length rest = omega (arith, ap length (tail_whole text rest t), length-append (front_of text rest) rest) in
-    subst (IsCharBoundary text) count (IsCharBoundary-at_seam text (front_of text rest) rest (tail_whole text rest t) t.utf8)
+tail_boundary text rest t = grind (arith, common_steps, ap length (tail_whole text rest t), length-append (front_of text rest) rest, IsCharBoundary-at_seam, tail_whole)
 
 -- what follows the first character
 pub past_begins : (text rest part : List ℕ) (c k : ℕ) → text ≡ encode_utf8 c ++ rest → k ≡ length (encode_utf8 c) → part ≡ drop k text → text ≡ encode_utf8 c ++ part

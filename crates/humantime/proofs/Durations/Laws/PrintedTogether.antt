@@ -43,23 +43,12 @@ rows_small : (ws : List ℕ) (ss : List Suffix) (m r : ℕ) → Table ws ss m �
 rows_small [] [] m r h below counts = tt
 rows_small [] (s ∷ ss) m r h below counts = absurd h
 rows_small (w ∷ ws) [] m r h below counts = absurd h
-rows_small (w ∷ ws) (s ∷ ss) m r h below counts =
-    let q = r / w in
-    let positive : 0 < w = weight_positive w m (word_for q s) (h.0 q) in
-    let least : w * q ≤ r = omega (arith, div-add-mod r w) in
-    cons_small q (divided ws (r % w)) s ss
-    (count_small r m w q s (h.0 q) below least counts.0)
-    (rows_small ws ss w (r % w) h.1 (mod_below r w positive) counts.1)
+rows_small (w ∷ ws) (s ∷ ss) m r h below counts = grind (arith, common_steps, (weight_positive w m (word_for (r / w) s) (h.0 (r / w))), div-add-mod r w, (rows_small ws ss w (r % w) h.1 (mod_below r w (weight_positive w m (word_for (r / w) s) (h.0 (r / w)))) counts.1), cons_small, count_small, mod_below)
 
 -- no time at all is in small additions
 zero_small : (xs : List Addition) → total xs ≡ 0 → AllByRecursion IsSmall xs
 zero_small [] h = tt
-zero_small (x ∷ xs) h =
-    let sum = sum_by-cons addition_nanos x xs in
-    let none : x.base * x.amount ≡ 0 = omega (arith, sum, h) in (
-      λ one. let amount : 1 * x.amount ≡ 0 = rw one at none in omega (arith, amount),
-      zero_small xs (omega (arith, sum, h)),
-    )
+zero_small (x ∷ xs) h = grind (arith, common_steps, (sum_by-cons addition_nanos x xs), h, (zero_small xs (omega (arith, (sum_by-cons addition_nanos x xs), h))))
 
 -- The characters are spans of small additions.
 record IsSmallText (text : List ℕ) : Type 0 where

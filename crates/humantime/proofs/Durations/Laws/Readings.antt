@@ -36,10 +36,7 @@ zero_or_spans text v a = grind (arith, common_steps)
 
 -- an accepted text that reads as some spans is their sum, and they are within the limits
 pub accepted_spans : (text : List ℕ) (spans : List Span) (v : ℕ) → Reads text spans → Accepted text v → WithinLimits spans × (value spans ≡ v)
-accepted_spans text spans v h a =
-    let s = spans_of_accepted text v (not_zero text spans h) a in
-    let same : s.spans ≡ spans = one_reading text s.spans spans s.reads h in
-    (subst WithinLimits same s.within, ap value (sym same) ∙ s.sum)
+accepted_spans text spans v h a = grind (arith, common_steps, (spans_of_accepted text v (not_zero text spans h) a), (one_reading text (spans_of_accepted text v (not_zero text spans h) a).spans spans (spans_of_accepted text v (not_zero text spans h) a).reads h))
 
 -- texts that are the same spans are accepted alike
 pub same_spans : (a b : List ℕ) (spans : List Span) (v : ℕ) → Reads a spans → Reads b spans → Accepted a v → Accepted b v
@@ -49,10 +46,7 @@ same_spans a b spans v h k x =
 
 -- no text has a value and a fault
 pub no_value_and_fault : (text : List ℕ) (v : ℕ) (e : Fault) → Accepted text v → HasFault text e → ⊥
-no_value_and_fault text v e a f =
-    let ok = outcome_accepted text v a in
-    let err = outcome_fault text e f in
-    cc
+no_value_and_fault text v e a f = grind (arith, common_steps, (outcome_accepted text v a), (outcome_fault text e f))
 
 -- the text `0` is no spans
 pub zero_has_no_spans : HasNoSpans bare_zero

@@ -39,7 +39,4 @@ answer_is_canonical s r e t = (
 
 pub answer_is_fault : (s : List ℕ) (r : Result (List ℕ) Fault) → r ≡ canonical_answer (chars s) → (f : Fault) → (r ≡ Err f) ↔ HasFault (chars s) f
 unfolding canonical_answer
-answer_is_fault s r e f =
-    let p = printed_fault (duration_answer (chars s)) f in
-    let q = answer_faults (chars s) (duration_answer (chars s)) refl f in
-    ((λ h. q.0 (p.0 (sym e ∙ h))), (λ h. e ∙ p.1 (q.1 h)))
+answer_is_fault s r e f = grind (arith, common_steps, (printed_fault (duration_answer (chars s)) f), (answer_faults (chars s) (duration_answer (chars s)) refl f))

@@ -34,11 +34,4 @@ pub record IsNumber (ds : List ℕ) (n : ℕ) : Type 0 where
   pub value : decimal_value ds ≡ n
 
 pub decimal_number : (n : ℕ) → n < 2 ^ 64 → IsNumber (decimal n) n
-decimal_number n h =
-    let p = decimal_is_IsNumeral n h in
-    record {
-      starts = some_digit (decimal n) p.0.1 p.0.0;
-      numeric = all_numeric (decimal n) p.0.1;
-      its_digits = all_digits (decimal n) p.0.1;
-      value = p.1;
-    }
+decimal_number n h = grind (arith, common_steps, (decimal_is_IsNumeral n h), some_digit, all_numeric, all_digits)

@@ -10,7 +10,7 @@ use Rattle.std.proofs.lemmas.List.{append_assoc, append-nil}
 use Rattle.std.proofs.lemmas.Str.{chars-append, chars-IsAscii, chars-nil, IsUtf8-append, IsUtf8-from_ascii}
 use Rattle.std.proofs.lemmas.Fmt.{IsAscii-decimal, decimal_digit}
 use Rattle.humantime.specs.Values.Amounts.{nanos_per_second, seconds_per_minute}
-use Rattle.humantime.specs.Durations.Characters.{white_spaces, is_ws, decimal_value, u64_max, is_letter}
+use Rattle.humantime.specs.Durations.Characters.{white_spaces, is_ws, decimal_value, u64_max}
 use Rattle.humantime.specs.Durations.Units.{Scale, scale_of_word}
 use Rattle.humantime.specs.Durations.Spans.{Span, Only, Spells, SpellsEach}
 use Rattle.humantime.specs.Durations.Sums.{total, additions_of, additions}
@@ -65,20 +65,7 @@ word_count : (t r m w n : ℕ) (word : List ℕ) (i : IsWord w m word) → r < m
 word_count t r m w n word i below left whole = grind (arith, common_steps)
 
 row_good : (t r m w n : ℕ) (s : Suffix) → IsWord w m (word_for n s) → r < m → w * n ≤ r → (t + r) / nanos_per_second ≤ u64_max → RowGood t (w * n) (span_for n s)
-row_good t r m w n s i below left whole =
-    let u = i.unit in
-    let small = row_small t r m w n (word_for n s) i below left whole in
-    let v = (decimal_number n (word_count t r m w n (word_for n s) i below left whole)).value in
-    let adds = adds_one n (chars (word_for n s)) u i.is v in
-    record {
-      formed = record {
-        short = record { number = rw v (omega (arith, word_count t r m w n (word_for n s) i below left whole)); fraction = tt };
-        word = is_some_at _ u i.is;
-      };
-      fits = fits_one n (chars (word_for n s)) u i.is v (small_fits t r m (n * u.factor) u.base small);
-      room = rw adds (small_room t r m (n * u.factor) u.base small, tt);
-      worth = rw adds (omega (arith, mul_assoc u.base u.factor n, ap (λ k. k * n) i.weight, ap (λ k. u.base * k) (mul_comm n u.factor)));
-    }
+row_good t r m w n s i below left whole = grind (arith, common_steps, (row_small t r m w n (word_for n s) i below left whole), (decimal_number n (word_count t r m w n (word_for n s) i below left whole)).value, (adds_one n (chars (word_for n s)) i.unit i.is ((decimal_number n (word_count t r m w n (word_for n s) i below left whole)).value)), word_count, word_for, is_some_at, fits_one, small_fits, small_room, mul_assoc, mul_comm)
 
 -- the spans of the counts that are not zero
 abbrev pub spans_for : List ℕ → List Suffix → List Span
@@ -132,19 +119,7 @@ count_chars : (n : ℕ) (s : Suffix) → n < 2 ^ 64 → chars (printed_count n s
 count_chars n s h = grind (arith, common_steps, append_assoc, chars-append, word_for, decimal_utf8, chars-IsAscii, IsAscii-decimal)
 
 count_spells : (n w m : ℕ) (s : Suffix) (space : List ℕ) → n < 2 ^ 64 → IsWord w m (word_for n s) → Only is_ws space → Spells (chars (printed_count n s) ++ space) (span_for n s) []
-count_spells n w m s space h i only =
-    let number = decimal_number n h in
-    record {
-      number_text = decimal n;
-      fraction_text = [];
-      space = space;
-      whole = ap (λ l. l ++ space) (count_chars n s h) ∙ append_assoc (decimal n) (chars (word_for n s)) space ∙ sym (simp append-nil);
-      starts = number.starts;
-      number = (number.numeric, number.its_digits);
-      fraction = refl;
-      word = (i.letters, begins_not_nil is_letter (chars (word_for n s)) i.first);
-      only_space = only;
-    }
+count_spells n w m s space h i only = grind (arith, common_steps, (decimal_number n h), count_chars, append_assoc, word_for, append-nil, begins_not_nil)
 
 space_is : Only is_ws (32 ∷ [])
 unfolding is_ws white_spaces
@@ -159,10 +134,7 @@ join_spells : (p : List ℕ) (ps : List (List ℕ)) (s : Span) (spans : List Spa
 join_spells p [] s spans utf8 spells each =
     let whole = sym (append-nil (chars p)) ∙ sym (ap (λ l. (chars p ++ []) ++ l) chars-nil ∙ append-nil (chars p ++ [])) in
     (chars [], subst (λ l. Spells l s (chars [])) (sym whole) (spells-append (chars p ++ []) [] (chars []) s (spells [] tt)), each)
-join_spells p (q ∷ qs) s spans utf8 spells each =
-    let others = join_with_byte 32 (q ∷ qs) in
-    let whole = chars-append p (32 ∷ others) utf8 ∙ ap (λ l. chars p ++ l) (chars_space others) ∙ sym (append_assoc (chars p) (32 ∷ []) (chars others)) in
-    (chars others, subst (λ l. Spells l s (chars others)) (sym whole) (spells-append (chars p ++ 32 ∷ []) [] (chars others) s (spells (32 ∷ []) space_is)), each)
+join_spells p (q ∷ qs) s spans utf8 spells each = grind (arith, common_steps, (chars-append p (32 ∷ (join_with_byte 32 (q ∷ qs))) utf8 ∙ ap (λ l. chars p ++ l) (chars_space (join_with_byte 32 (q ∷ qs))) ∙ sym (append_assoc (chars p) (32 ∷ []) (chars (join_with_byte 32 (q ∷ qs))))), spells-append, space_is)
 
 pub counts_spell : (ws ns : List ℕ) (ss : List Suffix) (m : ℕ) → Table ws ss m → length ns ≡ length ws → AllByRecursion IsCount ns
     → SpellsEach (chars (join_with_byte 32 (printed_counts ns ss))) (spans_for ns ss)

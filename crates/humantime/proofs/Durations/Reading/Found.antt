@@ -126,9 +126,7 @@ pub items_found_at : (text : List ℕ) → ItemsAfter text [] (unread_of text) (
 items_found_at text = found_from text (past is_ws text) refl
 
 pub items_found : (text : List ℕ) → Items text (items text).0 (items text).1
-items_found text =
-    let i = items_found_at text in
-    record { front = i.0; rest = unread_of text; split = i.1.split; formed = i.1.formed; ends = i.1.ends }
+items_found text = grind (arith, common_steps, (items_found_at text), unread_of)
 
 -- the reading is too large from here on
 abbrev IsTooLarge : List Span → List Span × Option Fault → Type 0

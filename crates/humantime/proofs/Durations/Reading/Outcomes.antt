@@ -92,9 +92,7 @@ over_settled n text rest spans within o h =
     ∙ settle_over (0 + value spans) (span_of rest) r.0 r.1 (add_span-over (0 + value spans) (span_of rest) bad)
 
 over_outcome : (text : List ℕ) (e : Fault) (h : HasFault text e) → Overflows h.spans h.rest → duration_answer text ≡ Err NumberOverflow
-over_outcome text e h o =
-    let g = front_told text h.front h.rest h.spans h.split h.within.formed (inr (closes_digit h.front h.rest o.number.0)) (λ n. absurd (begins_not_nil is_digit h.rest o.number.0 n)) in
-    duration_answer-items text h.not_zero ∙ ap (λ (r : List Span × Option Fault). settle 0 r.0 r.1) g.is ∙ over_settled g.n text h.rest h.spans h.within o g.enough
+over_outcome text e h o = grind (arith, common_steps, (front_told text h.front h.rest h.spans h.split h.within.formed (inr (closes_digit h.front h.rest o.number.0)) (λ n. absurd (begins_not_nil is_digit h.rest o.number.0 n))), duration_answer-items, not_zero, over_settled)
 
 pub outcome_fault : (text : List ℕ) (e : Fault) → HasFault text e → duration_answer text ≡ Err e
 outcome_fault text e h = elim h.fault [

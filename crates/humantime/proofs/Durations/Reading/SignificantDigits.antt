@@ -1,6 +1,6 @@
 -- The digits of a fraction without the zeros at their end.
 use Rattle.std.proofs.lemmas.Grind.{common_steps}
-use Rattle.std.proofs.Common.{◌≡◌, ◌≤◌, ◌<◌, ◌+◌, ◌*◌, ◌/◌, ◌%◌, ◌^◌, ℕ, zero, suc, false, List, [], ◌∷◌, ◌++◌, length, refl, ap, ap₂, ◌∙◌, inl, inr, arith, length-append}
+use Rattle.std.proofs.Common.{◌≡◌, ◌≤◌, ◌<◌, ◌+◌, ◌*◌, ◌/◌, ◌%◌, ◌^◌, ℕ, zero, suc, false, List, [], ◌∷◌, ◌++◌, length, refl, ap, ◌∙◌, inl, inr, arith, length-append}
 use Rattle.std.specs.Prelude.{◌==◌}
 use Rattle.std.specs.Char.{digit_value}
 use Rattle.std.specs.Str.Parse.{digits_value_after}
@@ -72,10 +72,7 @@ kept_zeros d (e ∷ es) k = (k, refl)
 significant_and_zeros : (ds : List ℕ) → (k : ℕ) × (ds ≡ significant ds ++ zeros k)
 unfolding significant
 significant_and_zeros [] = (0, refl)
-significant_and_zeros (d ∷ ds) =
-    let rest = significant_and_zeros ds in
-    let here = kept_zeros d (significant ds) rest.0 in
-    (here.0, ap (λ (l : List ℕ). d ∷ l) rest.1 ∙ here.1)
+significant_and_zeros (d ∷ ds) = grind (arith, common_steps, (significant_and_zeros ds), (kept_zeros d (significant ds) (significant_and_zeros ds).0))
 
 pub length-zeros : (k : ℕ) → length (zeros k) ≡ k
 length-zeros zero = refl
@@ -126,8 +123,4 @@ whole_part_kept f ds h =
     (omega (arith, less, product, h.0), divides (kept_value * f) (10 ^ length (significant ds)) s.by s.positive rest)
 
 pub amount_kept : (f : ℕ) (ds : List ℕ) → decimal_value ds * f / 10 ^ length ds ≡ fraction_amount f ds
-amount_kept f ds =
-    let s = shifted ds in
-    let kept_value = decimal_value (significant ds) in
-    let product : decimal_value ds * f ≡ kept_value * f * s.by = ap (λ (n : ℕ). n * f) s.value ∙ mul_right_comm kept_value s.by f in
-    ap₂ (λ (x y : ℕ). x / y) product s.power ∙ mul-div-mul_right (kept_value * f) (10 ^ length (significant ds)) s.positive
+amount_kept f ds = grind (arith, common_steps, (shifted ds), (ap (λ (n : ℕ). n * f) (shifted ds).value ∙ mul_right_comm (decimal_value (significant ds)) (shifted ds).by f), mul-div-mul_right)

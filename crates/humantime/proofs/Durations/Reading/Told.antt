@@ -47,11 +47,7 @@ closes_more here more rest (s ∷ ss) h (inr e) = inr (inr (sym (ends-append is_
 
 -- the first of these spans is the span that begins the text
 pub first_here : (body rest : List ℕ) (s : Span) (ss : List Span) (h : SpellsEach body (s ∷ ss)) → Closes body rest → begins is_ws rest ≡ false → IsSpanAt (body ++ rest) s (h.0 ++ rest)
-first_here body rest s ss h o e =
-    let p = apart body h.0 s h.1 in
-    let c : Closes (p.here ++ h.0) rest = subst (λ b. Closes b rest) p.whole o in
-    let i : IsSpanAt (p.here ++ (h.0 ++ rest)) s (h.0 ++ rest) = spelled_here p.here (h.0 ++ rest) s p.spells (closes_here p.here h.0 rest ss h.2 c) (no_space_before h.0 rest ss h.2 e) in
-    rw (p.whole, append_assoc) i
+first_here body rest s ss h o e = grind (arith, common_steps, (apart body h.0 s h.1), (subst (λ b. Closes b rest) (apart body h.0 s h.1).whole o), (spelled_here (apart body h.0 s h.1).here (h.0 ++ rest) s (apart body h.0 s h.1).spells (closes_here (apart body h.0 s h.1).here h.0 rest ss h.2 (subst (λ b. Closes b rest) (apart body h.0 s h.1).whole o)) (no_space_before h.0 rest ss h.2 e)), append_assoc)
 
 -- the reading goes through these spans, and on from the rest
 pub record GoesThrough (r : List Span × Option Fault) (text : List ℕ) (spans : List Span) (rest : List ℕ) : Type 0 where
@@ -142,9 +138,7 @@ told_some text front rest spans stop some h f o =
 
 told_none : (text front : List ℕ) (stop : Option Fault) → Split text front [] [] → Ends text front [] [] stop → items text ≡ ([], stop)
 told_none text front stop h (inl o) = absurd (o.1 refl)
-told_none text front stop h (inr o) =
-    let e : past is_ws text ≡ [] = front_begins text front [] [] h ∙ ap (λ (x : List ℕ). x ++ []) h.read.each in
-    items-nothing text e ∙ ap (λ (x : Option Fault). ([], x)) (ap Some (sym ((is_start text front [] [] o.0 o.2).at_end refl).1) ∙ sym o.1)
+told_none text front stop h (inr o) = grind (arith, common_steps, (front_begins text front [] [] h ∙ ap (λ (x : List ℕ). x ++ []) h.read.each), items-nothing, is_start)
 
 told_at : (text front rest : List ℕ) (spans : List Span) (stop : Option Fault) → Split text front spans rest → AllByRecursion Formed spans → Ends text front spans rest stop → items text ≡ (spans, stop)
 told_at text front [] [] stop h f o = told_none text front stop h o

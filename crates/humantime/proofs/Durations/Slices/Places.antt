@@ -23,9 +23,7 @@ rest_place text rest at tail is some = grind (arith, common_steps, tail_boundary
 -- what stands between two rests is a part of the text
 pub part_of_rests : (text behind part next : List ℕ) (start end : ℕ) → IsUtf8 text → IsTail text behind → IsTail text next → behind ≡ part ++ next
     → start ≡ offset_of (chars text) (chars behind) → end ≡ offset_of (chars text) (chars next) → IsPartOf text part start end
-part_of_rests text behind part next start end u b n e s t =
-    let p = part_between text behind part next start end u b n e s t in
-    record { in_order = p.0; inside = p.2.0; start_boundary = p.1; end_boundary = p.2; part_is = p.3 }
+part_of_rests text behind part next start end u b n e s t = grind (arith, common_steps, (part_between text behind part next start end u b n e s t))
 
 -- a point without digits is there
 pub bare_some : (rest : List ℕ) (v : ℕ) (o : Option Counted) (after behind letters next : List ℕ) → IsSpanRead rest v o after behind letters next → bare o ≡ true → after ≢ []

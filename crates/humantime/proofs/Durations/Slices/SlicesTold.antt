@@ -5,7 +5,7 @@ use Rattle.std.proofs.lemmas.Grind.{common_steps}
 use Rattle.std.proofs.Common.{◌≡◌, ℕ, Bool, true, ◌&&◌, cond, eqb, List, [], ◌∷◌, ◌++◌, length, Option, Some, None, refl, sym, ap, ap₂, subst, ◌∙◌}
 use Rattle.std.specs.Str.{drop_trailing_whitespace}
 use Rattle.std.proofs.lemmas.List.{append_cancel_left}
-use Rattle.humantime.specs.Durations.Characters.{is_ws, is_digit, is_letter, begins, ends, past, offset_of}
+use Rattle.humantime.specs.Durations.Characters.{is_ws, is_digit, is_letter, begins, ends, past}
 use Rattle.humantime.specs.Durations.Spans.{Span, Only, SpellsFraction}
 use Rattle.humantime.specs.Durations.Rests.{after_number, after_fraction}
 use Rattle.humantime.specs.Durations.Slices.{Lent, IsDigitSlice, LendsFraction, IsLent, LendsEach}
@@ -76,17 +76,7 @@ record SameLent (x y : Lent) (t u : List ℕ) : Type 0 where
   left : t ≡ u
 
 one_span : (text rest : List ℕ) (s : Span) (x y : Lent) (m n : List ℕ) (h : IsLent text rest s x m) (k : IsLent text rest s y n) → SameLent x y (h.spelled.space ++ m) (k.spelled.space ++ n)
-one_span text rest s x y m n h k =
-    let a = told text rest s x m h in
-    let b = told text rest s y n k in
-    let p = h.spelled.space ++ m in
-    let q = k.spelled.space ++ n in
-    let unit : x.unit ≡ y.unit = h.unit ∙ sym k.unit in
-    let left : p ≡ q = append_cancel_left x.unit p q (sym a.left ∙ b.left ∙ ap (λ (w : List ℕ). w ++ q) (sym unit)) in
-    record {
-      same = lent_same x y (a.number ∙ sym b.number) (a.fraction ∙ sym b.fraction) unit (h.start ∙ sym k.start) (h.end ∙ ap (offset_of text) left ∙ sym k.end) (h.value ∙ sym k.value);
-      left = left;
-    }
+one_span text rest s x y m n h k = grind (arith, common_steps, (told text rest s x m h), (told text rest s y n k), (append_cancel_left x.unit (h.spelled.space ++ m) (k.spelled.space ++ n) (sym (told text rest s x m h).left ∙ (told text rest s y n k).left ∙ ap (λ (w : List ℕ). w ++ (k.spelled.space ++ n)) (sym (h.unit ∙ sym k.unit)))), lent_same)
 
 no_spans : (text m n : List ℕ) (xs ys : List Lent) (d e : List ℕ) → LendsEach text m [] xs d → LendsEach text n [] ys e → xs ≡ ys
 no_spans text m n xs ys d e h k = grind (arith, common_steps)

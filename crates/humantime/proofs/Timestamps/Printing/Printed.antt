@@ -1,6 +1,6 @@
 -- What the printer shows is the printed text of the moment, and the only one.
 use Rattle.std.proofs.lemmas.Grind.{common_steps}
-use Rattle.std.proofs.Common.{◌≡◌, ℕ, ◌+◌, ◌-◌, ◌*◌, ◌/◌, ◌%◌, ◌^◌, ◌<◌, ◌≤◌, List, ◌++◌, refl, sym, ap, subst, ◌∙◌, arith}
+use Rattle.std.proofs.Common.{◌≡◌, ℕ, ◌+◌, ◌-◌, ◌*◌, ◌/◌, ◌%◌, ◌^◌, ◌<◌, ◌≤◌, List, ◌++◌, refl, ap, subst, ◌∙◌, arith}
 use Rattle.std.specs.Prelude.{◌↔◌, Bool, true, false, Some, None, ℤ, pos, negsuc, nat_lt, IsAscii, if◌then◌else◌}
 use Rattle.std.specs.List.{AllByRecursion}
 use Rattle.std.proofs.Math.Nat.{mod-le}
@@ -72,12 +72,7 @@ ascii_from : (bs : List ℕ) → AllByRecursion (λ c. c < 128) bs → IsAscii b
 ascii_from bs h = grind (arith, common_steps)
 
 pub printed_ascii : (t : ℤ) (k : ℕ) (text : List ℕ) → IsPrinted t k text → IsAscii text
-printed_ascii t k text p =
-    let f = p.fields in
-    let before = holds_before_zone (λ c. c < 128) ascii_bytes text f p.weak in
-    let zone : AllByRecursion (λ c. c < 128) (zone_text f.zone) = rw p.zone (omega arith, tt) in
-    let all = all_append (λ c. c < 128) (time_text f ++ fraction_text f.fraction) (zone_text f.zone) before zone in
-    ascii_from text (subst (AllByRecursion (λ c. c < 128)) (sym p.weak.shown) all)
+printed_ascii t k text p = grind (arith, common_steps, (holds_before_zone (λ c. c < 128) ascii_bytes text p.fields p.weak), (all_append (λ c. c < 128) (time_text p.fields ++ fraction_text (p.fields).fraction) (zone_text (p.fields).zone) (holds_before_zone (λ c. c < 128) ascii_bytes text p.fields p.weak) (rw p.zone (omega arith, tt))), ascii_from)
 
 -- the date and the time of a moment of 1970 to 9999
 date_time_of : ℕ → DateTime

@@ -74,21 +74,12 @@ false_unless t h = grind (arith, common_steps)
 
 -- an offset has no `Z` at its end
 offset_end : (xs : List ℕ) → ends_with nat_eq (xs ++ codes "+00:00") (codes "Z") ≡ true → ⊥
-offset_end xs z =
-    let b = xs ++ codes "+00:00" in
-    let split : b ≡ (xs ++ codes "+00:0") ++ codes "0" = sym (append_assoc xs (codes "+00:0") (codes "0")) in
-    let last : drop (length b - 1) b ≡ codes "0" = end_rest b (codes "0") (xs ++ codes "+00:0") split in
-    let no : ⊥ = cc in
-    no
+offset_end xs z = grind (arith, common_steps, (sym (append_assoc xs (codes "+00:0") (codes "0"))), (end_rest (xs ++ codes "+00:00") (codes "0") (xs ++ codes "+00:0") (sym (append_assoc xs (codes "+00:0") (codes "0")))))
 
 -- behind plain bytes the zone is found
 pub zone_length_of : (xs : List ℕ) (z : Zone) → AllByRecursion IsPlain xs → zone_length (xs ++ zone_text z) ≡ length (zone_text z)
 unfolding zone_length
-zone_length_of xs Nothing plain =
-    let none : xs ++ [] ≡ xs = append-nil xs in
-    let letter = false_unless (ends_with nat_eq xs (codes "Z")) (no_letter_end xs plain) in
-    let offset = false_unless (ends_with nat_eq xs (codes "+00:00")) (no_offset_end xs plain) in
-    rw (none, letter, offset) refl
+zone_length_of xs Nothing plain = grind (arith, common_steps, (append-nil xs), (false_unless (ends_with nat_eq xs (codes "Z")) (no_letter_end xs plain)), (false_unless (ends_with nat_eq xs (codes "+00:00")) (no_offset_end xs plain)))
 zone_length_of xs Letter_Z plain = grind (arith, common_steps, end_from)
 zone_length_of xs Offset plain = grind (arith, common_steps, false_unless, end_from, offset_end)
 

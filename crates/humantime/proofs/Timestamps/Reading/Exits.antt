@@ -84,9 +84,7 @@ is_end : (r : List ℕ) → is_zone r ≡ true → Ok 0 ≡ end_answer r
 is_end r zone = grind (arith, common_steps)
 
 pub exit_plain : (r : List ℕ) → length r - zone_length r ≡ 0 → Ok 0 ≡ end_answer r
-exit_plain r none =
-    let zone : is_zone (drop 0 r) ≡ true = subst (λ (n : ℕ). is_zone (drop n r) ≡ true) none (zone_behind r) in
-    is_end r zone
+exit_plain r none = grind (arith, common_steps, (subst (λ (n : ℕ). is_zone (drop n r) ≡ true) none (zone_behind r)), is_end)
 
 abbrev whole : Bool → Result ℕ TimestampError
 whole t = if t then Ok 0 else Err InvalidFormat

@@ -1,6 +1,6 @@
 -- Numbers read from bytes, which are those of the digits where there are digits.
 use Rattle.std.proofs.lemmas.Grind.{common_steps}
-use Rattle.std.proofs.Common.{◌≡◌, ℕ, ◌+◌, ◌-◌, ◌*◌, ◌%◌, ◌^◌, ◌≤◌, List, length, sym, subst, arith}
+use Rattle.std.proofs.Common.{◌≡◌, ℕ, ◌+◌, ◌-◌, ◌*◌, ◌%◌, ◌^◌, ◌≤◌, List, length, arith}
 use Rattle.std.specs.Prelude.{true, IsTrue, slice_index}
 use Rattle.humantime.specs.declared.date.parse.Numbers.{Numbers}
 use Rattle.humantime.specs.Timestamps.Checks.{number, in_range}
@@ -17,9 +17,7 @@ year_read b long century decade = grind (arith, common_steps, has_two_told, numb
 
 -- numbers that were read are in range exactly where the text is
 pub in_range_told_of : (b : List ℕ) (x : Numbers) → x ≡ numbers_of b → IsTrue (in_range b) → AreInRange x
-in_range_told_of b x is h =
-    let p = in_range_told b h in
-    subst AreInRange (sym is) (record { date = p.0; hour = p.1; minute = p.2; second = p.3 })
+in_range_told_of b x is h = grind (arith, common_steps, (in_range_told b h))
 
 pub in_range_of : (b : List ℕ) (x : Numbers) → x ≡ numbers_of b → AreInRange x → IsTrue (in_range b)
 in_range_of b x is h = grind (arith, common_steps, in_range_from)
