@@ -41,19 +41,21 @@ cmp_alike m n x y h = grind (arith, common_steps)
 then_equal : (o : Ordering) → ordering_then o Equal ≡ o
 then_equal o = grind (arith, common_steps)
 
+-- what is compared first decides, unless it is equal
+step_cmp : (m n x y : ℕ) (c o : Ordering) → (m < n → x < y) → (n < m → y < x) → (m ≡ n → c ≡ ordering_then (nat_cmp x y) o)
+    → ordering_then (nat_cmp m n) c ≡ ordering_then (nat_cmp x y) o
+step_cmp m n x y c o less more same = grind (arith, nat_tests)
+
 below : (w m n x y : ℕ) → x < w → m < n → m * w + x < n * w + y
 below w m n x y h less = grind (arith, common_steps)
 
 -- a number and what is counted below it, in units of which it has w
 mixed_cmp : (w m n x y : ℕ) (o : Ordering) → x < w → y < w
     → ordering_then (nat_cmp m n) (ordering_then (nat_cmp x y) o) ≡ ordering_then (nat_cmp (m * w + x) (n * w + y)) o
-mixed_cmp w m n x y o hx hy = by_order (cases_order m n) where
-  by_order : (m ≡ n) ⊎ ((m < n) ⊎ (n < m)) → ordering_then (nat_cmp m n) (ordering_then (nat_cmp x y) o) ≡ ordering_then (nat_cmp (m * w + x) (n * w + y)) o
-  by_order (inl e) =
-      let units : m * w ≡ n * w = ap (λ (k : ℕ). k * w) e in
-      rw (cmp_equal m n e) (ap (λ (c : Ordering). ordering_then c o) (cmp_alike x y (m * w + x) (n * w + y) ((λ h. omega arith), (λ h. omega arith), (λ h. omega arith))))
-  by_order (inr (inl less)) = rw (cmp_less m n less, cmp_less (m * w + x) (n * w + y) (below w m n x y hx less)) refl
-  by_order (inr (inr more)) = rw (cmp_greater m n more, cmp_greater (m * w + x) (n * w + y) (below w n m y x hy more)) refl
+mixed_cmp w m n x y o hx hy =
+    step_cmp m n (m * w + x) (n * w + y) (ordering_then (nat_cmp x y) o) o (below w m n x y hx) (below w n m y x hy) (λ e.
+    let units : m * w ≡ n * w = ap (λ (k : ℕ). k * w) e in
+    ap (λ (c : Ordering). ordering_then c o) (cmp_alike x y (m * w + x) (n * w + y) ((λ h. omega arith), (λ h. omega arith), (λ h. omega arith))))
 
 two_cmp : (m n : ℕ) (xs ys : List ℕ)
     → slice_cmp nat_cmp (two_digits m ++ xs) (two_digits n ++ ys) ≡ ordering_then (nat_cmp m n) (slice_cmp nat_cmp xs ys)
@@ -90,43 +92,14 @@ fraction_cmp k p q h e f g i = grind (arith, common_steps, cmp_equal, nanos_cmp,
 day_cmp : (a b : Date) (o : Ordering) → IsDate a → IsDate b
     → ordering_then (nat_cmp a.year b.year) (ordering_then (nat_cmp a.month b.month) (ordering_then (nat_cmp a.day b.day) o))
     ≡ ordering_then (nat_cmp (day_of a) (day_of b)) o
-day_cmp a b o va vb = by_year (cases_order a.year b.year) where
-  left : AreWithin a.year a.month a.day
-  left = valid_told a.year a.month a.day va
-
-  right : AreWithin b.year b.month b.day
-  right = valid_told b.year b.month b.day vb
-
-  by_day : a.year ≡ b.year → a.month ≡ b.month → ordering_then (nat_cmp a.day b.day) o ≡ ordering_then (nat_cmp (day_of a) (day_of b)) o
-  by_day y m =
-      let years : days_of_years (a.year - 1970) ≡ days_of_years (b.year - 1970) = ap (λ (k : ℕ). days_of_years (k - 1970)) y in
-      let months : days_of_months a.year (a.month - 1) ≡ days_of_months b.year (b.month - 1) = λ i. days_of_months (y i) (m i - 1) in
-      ap (λ (c : Ordering). ordering_then c o) (cmp_alike a.day b.day (day_of a) (day_of b)
-      ((λ h. omega (arith, left.2.0, right.2.0)), (λ h. omega (arith, left.2.0, right.2.0)), (λ h. omega (arith, left.2.0, right.2.0))))
-
-  by_month : a.year ≡ b.year → (a.month ≡ b.month) ⊎ ((a.month < b.month) ⊎ (b.month < a.month))
-      → ordering_then (nat_cmp a.month b.month) (ordering_then (nat_cmp a.day b.day) o) ≡ ordering_then (nat_cmp (day_of a) (day_of b)) o
-  by_month y (inl m) = rw (cmp_equal a.month b.month m) (by_day y m)
-  by_month y (inr (inl less)) =
-      let years : days_of_years (a.year - 1970) ≡ days_of_years (b.year - 1970) = ap (λ (k : ℕ). days_of_years (k - 1970)) y in
-      let months : days_of_months a.year (b.month - 1) ≡ days_of_months b.year (b.month - 1) = ap (λ (k : ℕ). days_of_months k (b.month - 1)) y in
-      let before = before_month a.year a.month a.day left b.month less in
-      rw (cmp_less a.month b.month less, cmp_less (day_of a) (day_of b) (omega (arith, before))) refl
-  by_month y (inr (inr more)) =
-      let years : days_of_years (a.year - 1970) ≡ days_of_years (b.year - 1970) = ap (λ (k : ℕ). days_of_years (k - 1970)) y in
-      let months : days_of_months a.year (a.month - 1) ≡ days_of_months b.year (a.month - 1) = ap (λ (k : ℕ). days_of_months k (a.month - 1)) y in
-      let before = before_month b.year b.month b.day right a.month more in
-      rw (cmp_greater a.month b.month more, cmp_greater (day_of a) (day_of b) (omega (arith, before))) refl
-
-  by_year : (a.year ≡ b.year) ⊎ ((a.year < b.year) ⊎ (b.year < a.year))
-      → ordering_then (nat_cmp a.year b.year) (ordering_then (nat_cmp a.month b.month) (ordering_then (nat_cmp a.day b.day) o)) ≡ ordering_then (nat_cmp (day_of a) (day_of b)) o
-  by_year (inl y) = rw (cmp_equal a.year b.year y) (by_month y (cases_order a.month b.month))
-  by_year (inr (inl less)) =
-      let before = before_year a.year a.month a.day left b.year less in
-      rw (cmp_less a.year b.year less, cmp_less (day_of a) (day_of b) (omega (arith, before))) refl
-  by_year (inr (inr more)) =
-      let before = before_year b.year b.month b.day right a.year more in
-      rw (cmp_greater a.year b.year more, cmp_greater (day_of a) (day_of b) (omega (arith, before))) refl
+day_cmp a b o va vb =
+    let left = valid_told a.year a.month a.day va in
+    let right = valid_told b.year b.month b.day vb in
+    step_cmp a.year b.year (day_of a) (day_of b) _ o
+    (λ less. omega (arith, before_year a.year a.month a.day left b.year less)) (λ more. omega (arith, before_year b.year b.month b.day right a.year more)) (λ y.
+    step_cmp a.month b.month (day_of a) (day_of b) _ o
+    (λ less. grind (arith, before_month a.year a.month a.day left b.month less, y)) (λ more. grind (arith, before_month b.year b.month b.day right a.month more, y))
+    (λ m. step_cmp a.day b.day (day_of a) (day_of b) o o (λ less. grind (arith, left.2.0, y, m)) (λ more. grind (arith, right.2.0, y, m)) (λ d. grind (arith, nat_tests, y, m, d))))
 
 -- a text with these numbers in their places, and then this end
 abbrev clock_shape : ℕ → ℕ → ℕ → List ℕ → List ℕ

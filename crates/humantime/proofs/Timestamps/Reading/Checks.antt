@@ -75,25 +75,5 @@ fraction_at_digits b = grind (arith, common_steps, front_are_digits)
 pub nineteen : (b : List ℕ) → 19 ≤ length b
     → b ≡ get_or b 0 0 ∷ get_or b 1 0 ∷ get_or b 2 0 ∷ get_or b 3 0 ∷ get_or b 4 0 ∷ get_or b 5 0 ∷ get_or b 6 0 ∷ get_or b 7 0 ∷ get_or b 8 0 ∷ get_or b 9 0
     ∷ get_or b 10 0 ∷ get_or b 11 0 ∷ get_or b 12 0 ∷ get_or b 13 0 ∷ get_or b 14 0 ∷ get_or b 15 0 ∷ get_or b 16 0 ∷ get_or b 17 0 ∷ get_or b 18 0 ∷ drop 19 b
-nineteen b h =
-    rw (
-      ← drop-cons b 18 0 (omega arith),
-      ← drop-cons b 17 0 (omega arith),
-      ← drop-cons b 16 0 (omega arith),
-      ← drop-cons b 15 0 (omega arith),
-      ← drop-cons b 14 0 (omega arith),
-      ← drop-cons b 13 0 (omega arith),
-      ← drop-cons b 12 0 (omega arith),
-      ← drop-cons b 11 0 (omega arith),
-      ← drop-cons b 10 0 (omega arith),
-      ← drop-cons b 9 0 (omega arith),
-      ← drop-cons b 8 0 (omega arith),
-      ← drop-cons b 7 0 (omega arith),
-      ← drop-cons b 6 0 (omega arith),
-      ← drop-cons b 5 0 (omega arith),
-      ← drop-cons b 4 0 (omega arith),
-      ← drop-cons b 3 0 (omega arith),
-      ← drop-cons b 2 0 (omega arith),
-      ← drop-cons b 1 0 (omega arith),
-      ← drop-cons b 0 0 (omega arith),
-    ) refl
+nineteen (b0 ∷ b1 ∷ b2 ∷ b3 ∷ b4 ∷ b5 ∷ b6 ∷ b7 ∷ b8 ∷ b9 ∷ b10 ∷ b11 ∷ b12 ∷ b13 ∷ b14 ∷ b15 ∷ b16 ∷ b17 ∷ b18 ∷ r) h = refl
+nineteen _ h = absurd (omega arith)

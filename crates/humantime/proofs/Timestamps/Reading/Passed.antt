@@ -16,29 +16,20 @@ use Rattle.humantime.proofs.Timestamps.Reading.Checks.{Passes, Pairs, pairs_from
 use Rattle.humantime.proofs.Timestamps.Reading.Fractions.{is_digit_from}
 use Rattle.humantime.proofs.Timestamps.Reading.Places.{number_of_two, number_of_four, in_range_from}
 
--- and their number, read back
-two_back : (b : List ℕ) (k m n : ℕ) → k + 2 ≤ length b → slice_index b k ≡ 48 + m → slice_index b (k + 1) ≡ 48 + n → m ≤ 9 → n ≤ 9
-    → (has_two b k ≡ true) × (number b k (k + 2) ≡ m * 10 + n)
+-- the digits of a number at its place, read back
+two_back : (b : List ℕ) (k n : ℕ) → k + 2 ≤ length b → slice_index b k ≡ 48 + n / 10 → slice_index b (k + 1) ≡ 48 + n % 10 → n ≤ 99
+    → (has_two b k ≡ true) × (n ≡ number b k (k + 2))
 unfolding has_two
-two_back b k m n long first second h i = grind (arith, common_steps, number_of_two, common_steps)
+two_back b k n long first second h = grind (arith, common_steps, number_of_two)
 
-year_back : (b : List ℕ) (p q r s : ℕ) → 4 ≤ length b
-    → slice_index b 0 ≡ 48 + p → slice_index b 1 ≡ 48 + q → slice_index b 2 ≡ 48 + r → slice_index b 3 ≡ 48 + s
-    → p ≤ 9 → q ≤ 9 → r ≤ 9 → s ≤ 9
-    → (has_two b 0 ≡ true) × (has_two b 2 ≡ true) × (number b 0 4 ≡ p * 1000 + q * 100 + r * 10 + s)
+year_back : (b : List ℕ) (n : ℕ) → 4 ≤ length b → n ≤ 9999
+    → slice_index b 0 ≡ 48 + n / 1000 → slice_index b 1 ≡ 48 + n / 100 % 10 → slice_index b 2 ≡ 48 + n / 10 % 10 → slice_index b 3 ≡ 48 + n % 10
+    → (has_two b 0 ≡ true) × (has_two b 2 ≡ true) × (n ≡ number b 0 4)
 unfolding has_two
-year_back b p q r s long first second third fourth hp hq hr hs = grind (arith, common_steps, number_of_four, common_steps)
+year_back b n long h first second third fourth = grind (arith, common_steps, number_of_four)
 
 pub month_most : (y m : ℕ) → days_in_month y m ≤ 31
 month_most y m = grind (arith, nat_tests)
-
-four_back : (y : ℕ) → y ≤ 9999
-    → (y / 1000 ≤ 9) × (y / 100 % 10 ≤ 9) × (y / 10 % 10 ≤ 9) × (y % 10 ≤ 9)
-    × (y / 1000 * 1000 + y / 100 % 10 * 100 + y / 10 % 10 * 10 + y % 10 ≡ y)
-four_back y h = (omega arith, omega arith, omega arith, omega arith, omega arith)
-
-two_digits_back : (n : ℕ) → n ≤ 99 → (n / 10 ≤ 9) × (n % 10 ≤ 9) × (n / 10 * 10 + n % 10 ≡ n)
-two_digits_back n h = (omega arith, omega arith, omega arith)
 
 -- digits and then a zone
 pub past_back : (ds : List ℕ) (z : Zone) → AreDigits ds → past_digits (ds ++ zone_text z) ≡ zone_text z
@@ -104,27 +95,14 @@ written_passes f w =
     let long : 19 ≤ length b = omega arith in
     let most = month_most f.date.year f.date.month in
     let within = valid_told f.date.year f.date.month f.date.day w.date in
-    let y = four_back f.date.year within.0.1 in
-    let m = two_digits_back f.date.month (omega (arith, within.1.1)) in
-    let d = two_digits_back f.date.day (omega (arith, within.2.1, most)) in
-    let h = two_digits_back f.hour (omega (arith, w.hour)) in
-    let i = two_digits_back f.minute (omega (arith, w.minute)) in
-    let s = two_digits_back f.second (omega (arith, w.second)) in
-    let year = year_back b (f.date.year / 1000) (f.date.year / 100 % 10) (f.date.year / 10 % 10) (f.date.year % 10) (omega (arith, long))
-    refl refl refl refl y.0 y.1 y.2 y.3 in
-    let month = two_back b 5 (f.date.month / 10) (f.date.month % 10) (omega (arith, long)) refl refl m.0 m.1 in
-    let day = two_back b 8 (f.date.day / 10) (f.date.day % 10) (omega (arith, long)) refl refl d.0 d.1 in
-    let hour = two_back b 11 (f.hour / 10) (f.hour % 10) (omega (arith, long)) refl refl h.0 h.1 in
-    let minute = two_back b 14 (f.minute / 10) (f.minute % 10) (omega (arith, long)) refl refl i.0 i.1 in
-    let second = two_back b 17 (f.second / 10) (f.second % 10) (omega (arith, long)) refl refl s.0 s.1 in
+    let year = year_back b f.date.year (omega (arith, long)) within.0.1 refl refl refl refl in
+    let month = two_back b 5 f.date.month (omega (arith, long)) refl refl (omega (arith, within.1.1)) in
+    let day = two_back b 8 f.date.day (omega (arith, long)) refl refl (omega (arith, within.2.1, most)) in
+    let hour = two_back b 11 f.hour (omega (arith, long)) refl refl (omega (arith, w.hour)) in
+    let minute = two_back b 14 f.minute (omega (arith, long)) refl refl (omega (arith, w.minute)) in
+    let second = two_back b 17 f.second (omega (arith, long)) refl refl (omega (arith, w.second)) in
     let separator = separator_back f.date f.separator f.hour f.minute f.second f.fraction f.zone in
-    let year_is : f.date.year ≡ number b 0 4 = sym (year.2 ∙ y.4) in
-    let month_is : f.date.month ≡ number b 5 7 = sym (month.1 ∙ m.2) in
-    let day_is : f.date.day ≡ number b 8 10 = sym (day.1 ∙ d.2) in
-    let hour_is : f.hour ≡ number b 11 13 = sym (hour.1 ∙ h.2) in
-    let minute_is : f.minute ≡ number b 14 16 = sym (minute.1 ∙ i.2) in
-    let second_is : f.second ≡ number b 17 19 = sym (second.1 ∙ s.2) in
-    let date_is : f.date ≡ date_at b = λ j. record { year = year_is j; month = month_is j; day = day_is j } in
+    let date_is : f.date ≡ date_at b = λ j. record { year = year.2 j; month = month.1 j; day = day.1 j } in
     let pairs : Pairs b = record {
       century = year.0;
       year = year.1;
@@ -138,7 +116,7 @@ written_passes f w =
       long = le-leb 19 (length b) long;
       signs = separator.0;
       digits = pairs_from b pairs;
-      range = in_range_from b (subst IsDate date_is w.date) (omega (arith, hour_is, w.hour)) (omega (arith, minute_is, w.minute)) (omega (arith, second_is, w.second));
+      range = in_range_from b (subst IsDate date_is w.date) (omega (arith, hour.1, w.hour)) (omega (arith, minute.1, w.minute)) (omega (arith, second.1, w.second));
       whole = end_whole f.fraction f.zone;
       fraction = end_fraction f.fraction f.zone w.fraction;
     } in (
@@ -146,9 +124,9 @@ written_passes f w =
       λ j. record {
         date = date_is j;
         separator = separator.1 j;
-        hour = hour_is j;
-        minute = minute_is j;
-        second = second_is j;
+        hour = hour.1 j;
+        minute = minute.1 j;
+        second = second.1 j;
         fraction = fraction_back f.fraction f.zone w.fraction j;
         zone = end_zone_back f.fraction f.zone w.fraction j;
       },
