@@ -61,10 +61,6 @@ late_length : (y : ℕ) → (left : ℕ) → (k : ℕ) → k < 12 → 10 ≤ k �
 unfolding march_months march_length
 late_length y left = grind (arith, common_steps)
 
--- the days before 1 January of the year in which year n begins, and of the next one
-days_before_march : (n : ℕ) → 370 ≤ n → days_of_years (1600 + n - 1970) + days_in_year (1600 + n) + 134_774 ≡ march_days n
-days_before_march n enough = grind (arith, common_steps, march_days_of_years, march_days_next)
-
 days_after_march : (n : ℕ) → 369 ≤ n → days_of_years (1601 + n - 1970) + 134_774 ≡ march_days n
 days_after_march n enough = grind (arith, common_steps, march_days_of_years)
 
@@ -77,7 +73,7 @@ pub early_day : (n : ℕ) (k : ℕ) (left : ℕ) → k < 10 → left < march_len
     → 135_080 ≤ march_days n + march_months k + left
     → day_count (1600 + n) (k + 3) (left + 1) + 135_080 ≡ march_days n + march_months k + left
 unfolding days_of_months march_months
-early_day n k left early short first = grind (arith, common_steps, early_bound, days_before_march, common_steps)
+early_day n k left early short first = grind (arith, common_steps, early_bound, march_days_of_years, march_days_next)
 
 pub late_valid : (n : ℕ) (k : ℕ) (left : ℕ) → k < 12 → 10 ≤ k → left < march_length k
     → march_months k + left < march_year_length n

@@ -1,6 +1,6 @@
 -- Places in a text, at which a character begins or the text ends, and steps from one to the next.
 use Rattle.std.proofs.lemmas.Grind.{common_steps}
-use Rattle.std.proofs.Common.{◌≡◌, ◌<◌, ◌≤◌, ◌+◌, ◌≢◌, ℕ, List, [], ◌∷◌, ◌++◌, length, get_or, drop, drop-drop, refl, ap, sym, ◌∙◌, arith, add-one, length-drop, IsUtf8, IsCharBoundary, chars, encode_utf8, Bool, true, false, ◌⊎◌, inl, inr}
+use Rattle.std.proofs.Common.{◌≡◌, ◌<◌, ◌≤◌, ◌+◌, ◌≢◌, ℕ, List, [], ◌∷◌, ◌++◌, length, get_or, drop, drop-drop, refl, ap, sym, ◌∙◌, arith, add-one, length-drop, IsUtf8, IsCharBoundary, chars, encode_utf8, Bool, true, false, inl, inr}
 use Rattle.std.specs.Prelude.{◌==◌, ◌&&◌, ◌||◌}
 use Rattle.std.proofs.Math.Seq.{drop-cons}
 use Rattle.std.proofs.Math.Utf8.{encode}
@@ -81,14 +81,10 @@ mu_over text at u place some pair = elim (or_cases _ _ pair) [
   bytes : (a b x y : ℕ) → (a == x) ≡ true → (b == y) ≡ true → a ∷ b ∷ [] ≡ x ∷ y ∷ []
   bytes a b x y e d = rw (eqb-true a x e, eqb-true b y d) refl
 
--- a character beyond ASCII that has other bytes is no letter
-wide_letter : (c : ℕ) → 128 ≤ c → is_letter c ≡ true → (c ≡ 181) ⊎ (c ≡ 956)
-unfolding is_letter
-wide_letter c wide letter = grind (arith, nat_tests)
-
 pub no_mu : (text rest : List ℕ) (at c : ℕ) → at < length text → 128 ≤ c → drop at text ≡ encode_utf8 c ++ rest
     → (at + 1 < length text → is_mu_pair (get_or text at 0) (get_or text (at + 1) 0) ≡ false) → is_letter c ≡ false
-no_mu text rest at c some wide begins other = grind (arith, common_steps, cases_Bool, wide_letter, encode_utf8, micro_bytes, mu_bytes, length-drop, two_bytes, false≢true)
+unfolding is_letter
+no_mu text rest at c some wide begins other = grind (arith, common_steps, cases_Bool, encode_utf8, micro_bytes, mu_bytes, length-drop, two_bytes, false≢true, nat_tests)
 
 -- and one that does not begin with ASCII lies beyond it, and is no digit
 pub beyond_ascii : (text rest : List ℕ) (at c : ℕ) → at < length text → 128 ≤ get_or text at 0 → drop at text ≡ encode_utf8 c ++ rest → 128 ≤ c

@@ -9,7 +9,7 @@ use Rattle.humantime.specs.Durations.Characters.{is_numeric, is_point, leading, 
 use Rattle.humantime.specs.Durations.Units.{Scale, scale_of_word}
 use Rattle.humantime.specs.Durations.Rests.{after_number, fraction_of, past_fraction, word_of, after_word, span_of}
 use Rattle.humantime.specs.Durations.Faults.{Fault, InvalidCharacter, UnknownUnit, NumberOverflow}
-use Rattle.humantime.specs.References.Durations.Reading.{too_long, stop_word, stop_by, stop_at}
+use Rattle.humantime.specs.References.Durations.Reading.{too_long, stop_by, stop_at}
 use Rattle.humantime.specs.References.Durations.Scales.{Counted, scale_of, parts_of, IsAmountOf}
 use Rattle.humantime.specs.References.Durations.Scanning.{bare, ends_span, fault_without_word, fraction_in}
 use Rattle.humantime.specs.References.Durations.SpanParts.{IsSpanRead}
@@ -39,20 +39,14 @@ pub exit_after : (text rest : List ℕ) (v : ℕ) (o : Option Counted) (after be
     → bare o ≡ false → letters ≢ [] → ends_span next ≡ false → stop_at text rest ≡ Some (InvalidCharacter (offset_of text next))
 exit_after text rest v o after behind letters next s b n e = grind (arith, common_steps, stop_short)
 
-exit_word : (text rest : List ℕ) (v : ℕ) (o : Option Counted) (after behind letters next : List ℕ) → IsSpanRead rest v o after behind letters next
-    → bare o ≡ false → letters ≢ [] → ends_span next ≡ true → stop_at text rest ≡ stop_word text rest (scale_of_word letters)
-exit_word text rest v o after behind letters next s b n e = grind (arith, common_steps, stop_short)
-
 pub exit_unit : (text rest : List ℕ) (v : ℕ) (o : Option Counted) (after behind letters next : List ℕ) → IsSpanRead rest v o after behind letters next
     → bare o ≡ false → letters ≢ [] → ends_span next ≡ true → scale_of_word letters ≡ None
     → stop_at text rest ≡ Some (UnknownUnit (offset_of text behind) (offset_of text next) letters v)
-exit_unit text rest v o after behind letters next s b n e u =
-    exit_word text rest v o after behind letters next s b n e ∙ ap (stop_word text rest) u ∙ rw (s.behind_is, s.next_is, s.letters_is, s.value_is)
+exit_unit text rest v o after behind letters next s b n e u = grind (arith, common_steps, stop_short)
 
 pub exit_fine : (text rest : List ℕ) (v : ℕ) (o : Option Counted) (after behind letters next : List ℕ) (u : Scale) → IsSpanRead rest v o after behind letters next
     → bare o ≡ false → letters ≢ [] → ends_span next ≡ true → scale_of_word letters ≡ Some u → stop_at text rest ≡ None
-exit_fine text rest v o after behind letters next u s b n e w =
-    exit_word text rest v o after behind letters next s b n e ∙ ap (stop_word text rest) w
+exit_fine text rest v o after behind letters next u s b n e w = grind (arith, common_steps, stop_short)
 
 -- the slices of a span that was read
 integer_is : (rest integer after : List ℕ) → rest ≡ integer ++ after → after ≡ after_number rest → integer ≡ leading is_numeric rest

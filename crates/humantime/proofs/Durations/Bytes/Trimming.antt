@@ -1,13 +1,13 @@
 -- Slices without the white space at their ends.
 use Rattle.std.proofs.lemmas.Grind.{common_steps}
-use Rattle.std.proofs.Common.{◌≡◌, ℕ, suc, Bool, true, false, ◌&&◌, cond, eqb, List, [], ◌∷◌, ◌++◌, length, Some, None, option_map, ◌⊎◌, inl, inr, refl, sym, ap, subst, ◌∙◌, append-nil, arith}
+use Rattle.std.proofs.Common.{◌≡◌, ℕ, suc, Bool, true, false, ◌&&◌, cond, eqb, List, [], ◌∷◌, ◌++◌, length, Some, None, ◌⊎◌, inl, inr, refl, sym, ap, subst, ◌∙◌, append-nil, arith}
 use Rattle.std.specs.Char.{is_whitespace}
 use Rattle.std.specs.Str.{drop_trailing_whitespace}
 use Rattle.std.proofs.lemmas.Bool.Decides.{nat_tests}
 use Rattle.std.proofs.lemmas.List.Elements.{filter-append}
 use Rattle.humantime.specs.Durations.Characters.{is_ws, is_digit, is_letter, is_numeric, begins, ends, past, digits}
 use Rattle.humantime.specs.Durations.Spans.{Only}
-use Rattle.humantime.specs.Durations.Rests.{fraction_at, span_of}
+use Rattle.humantime.specs.Durations.Rests.{span_of}
 use Rattle.humantime.specs.Durations.Slices.{IsDigitSlice}
 use Rattle.humantime.specs.References.Durations.Lending.{trimmed, fraction_slice, lent_at, spelled}
 use Rattle.humantime.proofs.Durations.Reading.Classes.{white_is, letter_not_numeric, letter_not_point, is_point-46, space_not_digit, digit_from_numeric}
@@ -47,12 +47,9 @@ pub digits_past : (cs : List ℕ) → digits (past is_ws cs) ≡ digits cs
 digits_past [] = refl
 digits_past (c ∷ cs) = grind (arith, common_steps, (digits_past cs), space_not_digit)
 
-fraction_spelled : (after : List ℕ) → option_map digits (fraction_slice after) ≡ option_map digits (fraction_at after)
-fraction_spelled after = grind (arith, common_steps, digits_dropped, dropped, digits_past)
-
 -- the slices spell the span that they are taken from
 pub spelled_at : (text rest : List ℕ) → spelled (lent_at text rest).number (lent_at text rest).fraction (lent_at text rest).unit ≡ span_of rest
-spelled_at text rest = grind (arith, common_steps, fraction_spelled, digits_dropped, dropped)
+spelled_at text rest = grind (arith, common_steps, digits_dropped, dropped, digits_past)
 
 ends_digit : (x : ℕ) (xs : List ℕ) → Only is_numeric (x ∷ xs) → ends is_ws (x ∷ xs) ≡ false → ends is_digit (x ∷ xs) ≡ true
 ends_digit x [] o e = digit_from_numeric x o.0 e

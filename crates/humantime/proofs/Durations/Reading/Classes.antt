@@ -97,9 +97,6 @@ is_letter-class c = grind (arith, common_steps, passes_test, letter_not_space, n
 pub not_white : (c : ℕ) → class_of c ≢ White → is_ws c ≡ false
 not_white c = grind (arith, common_steps, is_ws-class, cases_Bool)
 
-pub not_digit : (c : ℕ) → class_of c ≢ Digit → is_digit c ≡ false
-not_digit c = grind (arith, common_steps, is_digit-class, cases_Bool)
-
 pub not_letter : (c : ℕ) → class_of c ≢ Letter → is_letter c ≡ false
 not_letter c = grind (arith, common_steps, is_letter-class, cases_Bool)
 
@@ -107,7 +104,7 @@ pub numeric_class : (c : ℕ) → (class_of c ≡ Digit) ⊎ (class_of c ≡ Whi
 numeric_class c h = grind (arith, common_steps, digit_is_numeric, is_digit-class, space_is_numeric, is_ws-class)
 
 pub not_numeric : (c : ℕ) → class_of c ≢ White → class_of c ≢ Digit → is_numeric c ≡ false
-not_numeric c w d = or_from (is_digit c) (is_ws c) (not_digit c d) (not_white c w)
+not_numeric c w d = grind (arith, common_steps, or_from, not_white, is_digit-class, cases_Bool)
 
 -- ---- by bytes
 

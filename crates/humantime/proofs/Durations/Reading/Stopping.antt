@@ -9,7 +9,7 @@ use Rattle.humantime.specs.Durations.Spans.{Span}
 use Rattle.humantime.specs.Durations.Limits.{IsShort}
 use Rattle.humantime.specs.Durations.Rests.{fraction_of, word_of, after_word, span_of}
 use Rattle.humantime.specs.Durations.Faults.{Fault, MayFollowWord, Stops}
-use Rattle.humantime.specs.References.Durations.Reading.{too_long, stop_word, stop_by, stop_at}
+use Rattle.humantime.specs.References.Durations.Reading.{too_long, stop_word, stop_at}
 
 -- a span that is well formed begins the rest
 pub record Fine (rest : List ℕ) : Type 0 where
@@ -31,9 +31,6 @@ pub stop_says : (text front : List ℕ) (spans : List Span) (rest : List ℕ) �
 unfolding stop_at
 stop_says text front spans rest d = grind (arith, common_steps)
 
-by_word : (text rest : List ℕ) (f : Option (List ℕ)) (w n : List ℕ) → f ≢ Some [] → w ≢ [] → MayFollowWord n → stop_by text rest f w n ≡ stop_word text rest (scale_of_word w)
-by_word text rest f w n h k e = grind (arith, common_steps)
-
 pub some_letters : (word : List ℕ) → IsSome (scale_of_word word) → word ≢ []
 unfolding scale_of_word
 some_letters word h e = grind (arith, common_steps, false≢true)
@@ -44,7 +41,7 @@ known_word text rest o h = grind (arith, common_steps)
 -- at a span that is well formed nothing stops
 pub fine_goes : (text rest : List ℕ) → Fine rest → stop_at text rest ≡ None
 unfolding stop_at
-fine_goes text rest h = grind (arith, common_steps, by_word, some_letters, known_word, not_too_long)
+fine_goes text rest h = grind (arith, common_steps, some_letters, known_word, not_too_long)
 
 -- each row of the table where a number begins
 pub stops_at : (text front : List ℕ) (spans : List Span) (rest : List ℕ) (e : Fault) → begins is_digit rest ≡ true → Stops text front spans rest e → stop_at text rest ≡ Some e

@@ -33,10 +33,7 @@ separator_holds P h s = grind (arith, common_steps)
 two_hold : (P : ℕ → Type 0) → HoldsOfBytes P → (n : ℕ) → n ≤ 99 → P (48 + n / 10) × P (48 + n % 10)
 two_hold P h n small = grind (arith, common_steps)
 
-four_hold : (P : ℕ → Type 0) → HoldsOfBytes P → (n : ℕ) → n ≤ 9999 → P (48 + n / 1000) × P (48 + n / 100 % 10) × P (48 + n / 10 % 10) × P (48 + n % 10)
-four_hold P h n small = grind (arith, common_steps)
-
 -- of all bytes before the zone
 pub holds_before_zone : (P : ℕ → Type 0) → HoldsOfBytes P → (text : List ℕ) (f : Fields) → IsWeak text f
     → AllByRecursion P (time_text f ++ fraction_text f.fraction)
-holds_before_zone P p text f w = grind (arith, common_steps, month_most, valid_told, four_hold, two_hold, separator_holds, common_steps, digits_hold)
+holds_before_zone P p text f w = grind (arith, common_steps, month_most, valid_told, two_hold, separator_holds, digits_hold)

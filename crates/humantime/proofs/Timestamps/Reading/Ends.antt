@@ -1,6 +1,6 @@
 -- The zone at the end of a text.
 use Rattle.std.proofs.lemmas.Grind.{common_steps}
-use Rattle.std.proofs.Common.{◌≡◌, ◌≢◌, ℕ, ◌+◌, ◌-◌, ◌*◌, ◌<◌, ◌≤◌, List, [], ◌∷◌, ◌++◌, length, get_or, take, drop, refl, sym, ap, subst, ◌∙◌, append-nil, append_assoc, Fits, w8, arith}
+use Rattle.std.proofs.Common.{◌≡◌, ◌≢◌, ℕ, ◌+◌, ◌-◌, ◌*◌, ◌<◌, ◌≤◌, List, [], ◌∷◌, ◌++◌, length, get_or, take, drop, refl, sym, ap, ◌∙◌, append-nil, append_assoc, Fits, w8, arith}
 use Rattle.std.specs.Prelude.{Bool, true, false, ◌&&◌, ◌==◌, codes, nat_eq, nat_lt, slice_index}
 use Rattle.std.specs.List.{AllByRecursion, ends_with}
 use Rattle.std.specs.Str.{bytes_eq}
@@ -13,10 +13,6 @@ use Rattle.humantime.specs.References.Timestamps.Reading.{zone_length}
 use Rattle.humantime.proofs.Timestamps.Reading.Bytes.{HoldsOfBytes, all_drop}
 
 -- ---- A text at the end of another
-
--- a text that ends with e has e at its end
-pub end_told : (b e : List ℕ) → ends_with nat_eq b e ≡ true → e ≡ drop (length b - length e) b
-end_told b e h = (bytes_eq-Decides e (drop (length b - length e) b)).0 h
 
 pub end_from : (xs e : List ℕ) → ends_with nat_eq (xs ++ e) e ≡ true
 end_from xs e = (bytes_eq-Decides e (drop (length (xs ++ e) - length e) (xs ++ e))).1 (sym (end_rest (xs ++ e) e xs refl))
@@ -60,10 +56,10 @@ pub plain_bytes : HoldsOfBytes IsPlain
 plain_bytes = grind (arith, common_steps)
 
 no_letter_end : (b : List ℕ) → AllByRecursion IsPlain b → ends_with nat_eq b (codes "Z") ≡ true → ⊥
-no_letter_end b plain z = (subst (AllByRecursion IsPlain) (sym (end_told b (codes "Z") z)) (all_drop IsPlain (length b - 1) b plain)).0.1 refl
+no_letter_end b plain z = grind (arith, common_steps, all_drop, bytes_eq-Decides)
 
 no_offset_end : (b : List ℕ) → AllByRecursion IsPlain b → ends_with nat_eq b (codes "+00:00") ≡ true → ⊥
-no_offset_end b plain offset = (subst (AllByRecursion IsPlain) (sym (end_told b (codes "+00:00") offset)) (all_drop IsPlain (length b - 6) b plain)).0.0 refl
+no_offset_end b plain offset = grind (arith, common_steps, all_drop, bytes_eq-Decides)
 
 -- without a zone there is no `Z` and no `+`, so no zone at the end
 pub plain_end : (b : List ℕ) → AllByRecursion IsPlain b → ends_in_zone b ≡ true → ⊥

@@ -18,9 +18,6 @@ none_set [] = refl
 none_set (true ∷ ms) = ne_eqb (1 + 2 * mask_l ms) 0 (λ h. absurd (omega arith))
 none_set (false ∷ ms) = grind (arith, common_steps, (none_set ms), (none_set ms), ne_eqb, cases_eq, eq-eqb)
 
-none_set_of : (ms : List Bool) → length ms ≤ 64 → eqb (mask_l ms % 2 ^ 64) 0 ≡ list_all not ms
-none_set_of ms few = ap (λ n. eqb n 0) (mask_l-mod ms 64 few) ∙ none_set ms
-
 -- the least byte of each place, and how far a byte may be above it
 abbrev least : List ℕ
 least = codes "0000-00-00 00:00"
@@ -72,7 +69,7 @@ lanes_are b long fits =
     (shown 5) (shown 6) (shown 8) (shown 9) (shown 11) (shown 12) (shown 14) (shown 15)
 
 pub front_tested : (b : List ℕ) → 19 ≤ length b → ((k : ℕ) → Fits w8 (get_or b k 0)) → eqb (mask_l (lanes b) % 2 ^ 64) 0 ≡ is_shaped_front b
-front_tested b long fits = grind (arith, common_steps, nineteen, none_set_of, lanes_are)
+front_tested b long fits = grind (arith, common_steps, nineteen, lanes_are, mask_l-mod, none_set)
 
 -- the tests of the parts are those of the signs and of the digits
 joined : (digits p q r s two : Bool) → ((digits && p && q && r) && (s && two)) ≡ ((p && q && true && r && s) && (digits && two))
