@@ -27,13 +27,7 @@ pub digits_hold : (P : ℕ → Type 0) → HoldsOfBytes P → (ds : List ℕ) �
 digits_hold P h [] digits = tt
 digits_hold P h (c ∷ cs) digits = (h.digit c digits.0, digits_hold P h cs digits.1)
 
-separator_holds : (P : ℕ → Type 0) → HoldsOfBytes P → (s : Separator) → P (separator_byte s)
-separator_holds P h s = grind (arith, common_steps)
-
-two_hold : (P : ℕ → Type 0) → HoldsOfBytes P → (n : ℕ) → n ≤ 99 → P (48 + n / 10) × P (48 + n % 10)
-two_hold P h n small = grind (arith, common_steps)
-
 -- of all bytes before the zone
 pub holds_before_zone : (P : ℕ → Type 0) → HoldsOfBytes P → (text : List ℕ) (f : Fields) → IsWeak text f
     → AllByRecursion P (time_text f ++ fraction_text f.fraction)
-holds_before_zone P p text f w = grind (arith, common_steps, month_most, valid_told, two_hold, separator_holds, digits_hold)
+holds_before_zone P p text f w = grind (arith, common_steps, month_most, valid_told, digits_hold)
