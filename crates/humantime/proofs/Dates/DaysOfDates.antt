@@ -1,7 +1,6 @@
 -- Each day number has one date.
 use Rattle.std.proofs.lemmas.Grind.{common_steps}
 use Rattle.std.proofs.Common.{◌≡◌, ◌∙◌, ℕ, zero, suc, ◌+◌, ◌-◌, ◌<◌, ◌≤◌, refl, sym, arith, inl, inr}
-use Rattle.std.proofs.lemmas.Bool.Decides.{nat_tests}
 use Rattle.std.proofs.lemmas.Bool.{cases_order, cases_lt}
 use Rattle.humantime.specs.declared.calendar.Date.{Date}
 use Rattle.humantime.specs.Calendar.Years.{days_in_year, days_in_month, days_of_years, days_of_months, day_count}
@@ -66,11 +65,7 @@ same_month y m d m' d' valid valid' same =
     ]
 
 pub same_date : (a : Date) (b : Date) → IsDate a → IsDate b → day_of a ≡ day_of b → a ≡ b
-same_date a b valid valid' same = grind (arith, common_steps, valid_told, same_year, same_month)
-
--- the date of the next day
-month_some : (y : ℕ) (m : ℕ) → 28 ≤ days_in_month y m
-month_some y m = grind (arith, nat_tests)
+same_date a b valid valid' same = grind (arith, common_steps, same_year, same_month)
 
 pub next_day : (n : ℕ) (y : ℕ) (m : ℕ) (d : ℕ) → AreWithin y m d × (day_count y m d ≡ n) → d < days_in_month y m
     → AreWithin y m (d + 1) × (day_count y m (d + 1) ≡ suc n)
@@ -78,7 +73,7 @@ next_day n y m d is more = grind (arith, common_steps)
 
 pub next_month : (n : ℕ) (y : ℕ) (m : ℕ) (d : ℕ) → AreWithin y m d × (day_count y m d ≡ n) → days_in_month y m ≤ d → m < 12
     → AreWithin y (m + 1) 1 × (day_count y (m + 1) 1 ≡ suc n)
-next_month n y m d is last more = grind (arith, common_steps, (month_end y m is.0.1.0), (month_some y (m + 1)))
+next_month n y m d is last more = grind (arith, common_steps, (month_end y m is.0.1.0))
 
 pub next_year : (n : ℕ) (y : ℕ) (m : ℕ) (d : ℕ) → n < 2_932_896 → AreWithin y m d × (day_count y m d ≡ n)
     → days_in_month y m ≤ d → 12 ≤ m → AreWithin (y + 1) 1 1 × (day_count (y + 1) 1 1 ≡ suc n)

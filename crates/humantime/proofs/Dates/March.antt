@@ -1,11 +1,10 @@
 -- Years that begin with March, beside those of the calendar.
 use Rattle.std.proofs.lemmas.Grind.{common_steps}
 use Rattle.std.proofs.Common.{◌≡◌, ◌⊎◌, inl, inr, ℕ, zero, suc, ◌+◌, ◌-◌, ◌<◌, ◌≤◌, refl, ap, subst, sym, arith}
-use Rattle.std.proofs.lemmas.Bool.{cases_eq}
 use Rattle.humantime.specs.Calendar.Years.{days_in_year, days_in_month, days_of_years, days_of_months, IsValid, day_count}
 use Rattle.humantime.specs.References.Calendar.March.{march_days, march_year_length, march_length, march_months}
 use Rattle.humantime.proofs.Dates.Months.{ten_or_eleven}
-use Rattle.humantime.proofs.Dates.Years.{valid_from, march_days_next, march_days_of_years, days_in_year_bound}
+use Rattle.humantime.proofs.Dates.Years.{march_days_of_years, days_in_year_bound}
 
 pub march_months_next : (k : ℕ) → k < 12 → march_months (k + 1) ≡ march_months k + march_length k
 unfolding march_months march_length
@@ -41,7 +40,7 @@ month_stays next day month later h = grind (arith, common_steps)
 -- of all twelve it is the one that holds the day
 pub month_found : (day month : ℕ) → day < 366 → IsMonthBefore 13 day month → (month < 12) × (day - march_months month < march_length month)
 unfolding march_months
-month_found day month within h = grind (arith, common_steps, cases_eq, march_months_next)
+month_found day month within h = grind (arith, common_steps, march_months_next)
 
 early_length : (y : ℕ) → (k : ℕ) → k < 10 → march_length k ≡ days_in_month y (k + 3)
 unfolding march_length
@@ -67,19 +66,19 @@ days_after_march n enough = grind (arith, common_steps, march_days_of_years)
 pub early_valid : (n : ℕ) (k : ℕ) (left : ℕ) → k < 10 → left < march_length k
     → 135_080 ≤ march_days n + march_months k + left → march_days n + march_months k + left ≤ 3_067_976
     → IsValid (1600 + n) (k + 3) (left + 1)
-early_valid n k left early short first last = grind (arith, common_steps, early_bound, early_length, valid_from)
+early_valid n k left early short first last = grind (arith, common_steps, early_bound, early_length)
 
 pub early_day : (n : ℕ) (k : ℕ) (left : ℕ) → k < 10 → left < march_length k
     → 135_080 ≤ march_days n + march_months k + left
     → day_count (1600 + n) (k + 3) (left + 1) + 135_080 ≡ march_days n + march_months k + left
 unfolding days_of_months march_months
-early_day n k left early short first = grind (arith, common_steps, early_bound, march_days_of_years, march_days_next)
+early_day n k left early short first = grind (arith, common_steps, early_bound, march_days_of_years)
 
 pub late_valid : (n : ℕ) (k : ℕ) (left : ℕ) → k < 12 → 10 ≤ k → left < march_length k
     → march_months k + left < march_year_length n
     → 135_080 ≤ march_days n + march_months k + left → march_days n + march_months k + left ≤ 3_067_976
     → IsValid (1601 + n) (k - 9) (left + 1)
-late_valid n k left some late short within first last = grind (arith, common_steps, within, days_in_year_bound (1601 + n), (late_months (1601 + n) k some late), (late_length (1601 + n) left k some late short within), valid_from)
+late_valid n k left some late short within first last = grind (arith, common_steps, (late_months (1601 + n) k some late), (late_length (1601 + n) left k some late short within))
 
 pub late_day : (n : ℕ) (k : ℕ) (left : ℕ) → k < 12 → 10 ≤ k → march_months k + left < march_year_length n
     → 135_080 ≤ march_days n + march_months k + left

@@ -36,7 +36,7 @@ days_of_no_years = refl
 -- from 1601-01-01 to 1970-01-01 there are 134774 days, in 369 years
 pub march_days_of_years : (n : ℕ) → days_of_years n + 134_774 ≡ march_days (n + 369)
 march_days_of_years zero = rw days_of_no_years refl
-march_days_of_years (suc n) = grind (arith, common_steps, (march_days_of_years n), march_days_next, days_of_years_next)
+march_days_of_years (suc n) = grind (arith, common_steps, (march_days_of_years n), days_of_years_next)
 
 pub days_of_years_closed : (y : ℕ) → 1970 ≤ y
     → days_of_years (y - 1970) ≡ 365 * (y - 1970) + (y - 1969) / 4 - (y - 1901) / 100 + (y - 1601) / 400
@@ -51,7 +51,7 @@ days_of_years_more y late = grind (arith, common_steps, (days_of_years_next (y -
 
 -- the years up to 9999 have 2932897 days
 pub days_of_years_within : (y : ℕ) → 1970 ≤ y → y ≤ 9999 → days_of_years (y - 1970) + days_in_year y ≤ 2_932_897
-days_of_years_within y late low = grind (arith, common_steps, days_of_years_more, march_days_of_years)
+days_of_years_within y late low = grind (arith, common_steps, march_days_of_years)
 
 pub days_in_year_bound : (y : ℕ) → days_in_year y ≤ 366
 days_in_year_bound y = grind (arith, nat_tests)

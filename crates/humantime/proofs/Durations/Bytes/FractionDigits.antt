@@ -1,7 +1,7 @@
 -- Reading a fraction digit by digit.
 use Rattle.std.proofs.lemmas.Grind.{common_steps}
-use Rattle.std.proofs.Common.{◌≡◌, ◌≢◌, ◌≤◌, ◌<◌, ◌+◌, ◌-◌, ◌*◌, ◌^◌, ℕ, zero, suc, false, ◌||◌, List, [], ◌∷◌, ◌++◌, length, refl, ap, ap₂, sym, ◌∙◌, arith, Ok, Err, ltb, add-one, append_assoc, append-nil, length-append}
-use Rattle.std.proofs.lemmas.Bool.{lt-ltb, le-ltb, ne_eqb}
+use Rattle.std.proofs.Common.{◌≡◌, ◌≢◌, ◌≤◌, ◌<◌, ◌+◌, ◌-◌, ◌*◌, ◌^◌, ℕ, zero, suc, false, ◌||◌, List, [], ◌∷◌, ◌++◌, length, refl, ap, ap₂, sym, ◌∙◌, arith, Ok, Err, ltb, add-one, append_assoc, length-append}
+use Rattle.std.proofs.lemmas.Bool.{lt-ltb, ne_eqb}
 use Rattle.std.proofs.lemmas.Nat.{pow-add}
 use Rattle.std.proofs.Math.Nat.{pow-suc, pow-le-pow_right, mul-le-mul_right}
 use Rattle.std.specs.Str.Parse.{digits_value_after}
@@ -13,7 +13,7 @@ use Rattle.humantime.specs.References.Durations.Classes.{class_of}
 use Rattle.humantime.specs.References.Durations.Scales.{has_digits}
 use Rattle.humantime.specs.References.Durations.Scanning.{digits_at}
 use Rattle.humantime.proofs.Durations.Bytes.Digits.{digit_greatest, digit_counts}
-use Rattle.humantime.proofs.Durations.Bytes.Numbers.{digit_first, space_first, past_digit, past_white, no_digits, rest_there}
+use Rattle.humantime.proofs.Durations.Bytes.Numbers.{digit_first, space_first, past_digit, past_white}
 use Rattle.humantime.proofs.Durations.Reading.SignificantDigits.{zeros, zeros_cons, length-zeros, value-append, value-zeros, significant-zeros_behind, significant_long, significant_last}
 
 -- The digits that are read begin with n of them, read as v, that end with no zero, and z zeros follow; the other digits that
@@ -33,11 +33,11 @@ unfolding significant
 among_none text = record { taken = []; all = refl; value = refl; count = refl; kept = refl; rest_is = refl; small = omega arith; fits = omega arith }
 
 pub among_space : (text rest cs : List ℕ) (v n z c : ℕ) → IsAmong text v n z rest → rest ≡ c ∷ cs → class_of c ≡ White → IsAmong text v n z cs
-among_space text rest cs v n z c h e d = grind (arith, common_steps, zeros, space_first, past_white)
+among_space text rest cs v n z c h e d = grind (arith, common_steps, space_first, past_white)
 
 -- a zero is one zero more
 pub among_zero : (text rest cs : List ℕ) (v n z c : ℕ) → IsAmong text v n z rest → rest ≡ c ∷ cs → class_of c ≡ Digit → c ≡ 48 → IsAmong text v n (z + 1) cs
-among_zero text rest cs v n z c h e d is_zero = grind (arith, common_steps, zeros, digit_first, zeros_cons, past_digit)
+among_zero text rest cs v n z c h e d is_zero = grind (arith, common_steps, digit_first, zeros_cons, past_digit)
 
 -- the zeros and one digit more fit where they are at most 19
 pub shifted_fits : (v n z d : ℕ) → v < 10 ^ n → d ≤ 9 → v * 10 ^ (z + 1) + d < 10 ^ (n + z + 1)
@@ -92,4 +92,4 @@ digits_of (d ∷ ds) z n count = rw (lt-ltb 0 n (omega (arith, count))) refl
 
 -- what is kept is the fraction, where no digit and no white space follows
 pub digits_end : (text rest : List ℕ) (v n z : ℕ) → IsAmong text v n z rest → begins is_numeric rest ≡ false → Ok ((v, n, ltb 0 n || ltb 0 z), rest) ≡ digits_at text
-digits_end text rest v n z h e = grind (arith, common_steps, zeros, no_digits, append-nil, significant-zeros_behind, digits_of, rest_there, le-ltb)
+digits_end text rest v n z h e = grind (arith, common_steps, significant-zeros_behind, digits_of)

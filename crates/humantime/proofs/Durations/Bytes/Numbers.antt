@@ -1,7 +1,6 @@
 -- Reading a number digit by digit.
 use Rattle.std.proofs.lemmas.Grind.{common_steps}
 use Rattle.std.proofs.Common.{◌≡◌, ◌≤◌, ◌<◌, ◌+◌, ◌-◌, ◌*◌, ℕ, List, [], ◌∷◌, ap, sym, ◌∙◌, arith, Err, false, refl, Ok}
-use Rattle.std.proofs.lemmas.Bool.{lt-ltb}
 use Rattle.std.specs.Char.{digit_value}
 use Rattle.std.specs.Str.Parse.{digits_value_after}
 use Rattle.humantime.specs.declared.duration.reading.class.Class.TheVariants.{Digit, Letter, White}
@@ -24,7 +23,7 @@ pub digit_first : (c : ℕ) (cs rest : List ℕ) → rest ≡ c ∷ cs → class
 digit_first c cs rest e d = let digit = (is_digit-class c).0 d in rw (e, digit, digit)
 
 pub space_first : (c : ℕ) (cs rest : List ℕ) → rest ≡ c ∷ cs → class_of c ≡ White → digits (leading is_numeric rest) ≡ digits (leading is_numeric cs)
-space_first c cs rest e d = grind (arith, common_steps, is_ws-class, space_is_numeric, space_not_digit)
+space_first c cs rest e d = grind (arith, common_steps, is_ws-class, space_not_digit)
 
 pub past_digit : (c : ℕ) (cs rest : List ℕ) → rest ≡ c ∷ cs → class_of c ≡ Digit → past is_numeric rest ≡ past is_numeric cs
 past_digit c cs rest e d = rw (e, digit_is_numeric c ((is_digit-class c).0 d))
@@ -44,7 +43,7 @@ pub at_space : (text rest cs : List ℕ) (v c : ℕ) → IsAt text v rest → re
 at_space text rest cs v c h e d = grind (arith, common_steps, space_first, past_white)
 
 pub number_passes : (text rest cs : List ℕ) (v c : ℕ) → IsAt text v rest → rest ≡ c ∷ cs → class_of c ≡ Digit → u64_max < v * 10 + (c - 48) → Err NumberOverflow ≡ number_at text
-number_passes text rest cs v c h e d over = grind (arith, common_steps, (sym (ap (digits_value_after 10 v) (digit_first c cs rest e d)) ∙ h.value), (value_grows (v * 10 + digit_value c) (digits (leading is_numeric cs))), digit_counts c d, lt-ltb)
+number_passes text rest cs v c h e d over = grind (arith, common_steps, (sym (ap (digits_value_after 10 v) (digit_first c cs rest e d)) ∙ h.value), (value_grows (v * 10 + digit_value c) (digits (leading is_numeric cs))), digit_counts c d)
 
 pub past_letters : (c : ℕ) (cs rest : List ℕ) → rest ≡ c ∷ cs → class_of c ≡ Letter → past is_letter rest ≡ past is_letter cs
 past_letters c cs rest e d = rw (e, (is_letter-class c).0 d)
@@ -64,4 +63,4 @@ pub rest_there : (rest : List ℕ) → begins is_numeric rest ≡ false → past
 rest_there rest h = grind (arith, common_steps)
 
 pub number_end : (text rest : List ℕ) (v : ℕ) → IsAt text v rest → begins is_numeric rest ≡ false → Ok (v, rest) ≡ number_at text
-number_end text rest v h e = grind (arith, common_steps, no_digits, rest_there, common_steps)
+number_end text rest v h e = grind (arith, common_steps, common_steps)

@@ -4,7 +4,7 @@ use Rattle.std.proofs.Common.{◌≡◌, ◌<◌, ◌≤◌, ◌+◌, ◌≢◌,
 use Rattle.std.specs.Prelude.{◌==◌, ◌&&◌, ◌||◌}
 use Rattle.std.proofs.Math.Seq.{drop-cons}
 use Rattle.std.proofs.Math.Utf8.{encode}
-use Rattle.std.proofs.lemmas.Bool.{cases_Bool, or_cases, and_parts, eqb-true, false≢true}
+use Rattle.std.proofs.lemmas.Bool.{or_cases, and_parts, eqb-true}
 use Rattle.std.proofs.lemmas.Bool.Decides.{nat_tests}
 use Rattle.std.proofs.lemmas.Str.{IsUtf8-drop, IsCharBoundary-after_ascii, IsCharBoundary-from_rest, chars_past_char, encode_ascii}
 use Rattle.humantime.specs.declared.duration.reading.class.Class.{Class}
@@ -84,7 +84,7 @@ mu_over text at u place some pair = elim (or_cases _ _ pair) [
 pub no_mu : (text rest : List ℕ) (at c : ℕ) → at < length text → 128 ≤ c → drop at text ≡ encode_utf8 c ++ rest
     → (at + 1 < length text → is_mu_pair (get_or text at 0) (get_or text (at + 1) 0) ≡ false) → is_letter c ≡ false
 unfolding is_letter
-no_mu text rest at c some wide begins other = grind (arith, common_steps, cases_Bool, encode_utf8, micro_bytes, mu_bytes, length-drop, two_bytes, false≢true, nat_tests)
+no_mu text rest at c some wide begins other = grind (arith, common_steps, micro_bytes, mu_bytes, two_bytes, nat_tests)
 
 -- and one that does not begin with ASCII lies beyond it, and is no digit
 pub beyond_ascii : (text rest : List ℕ) (at c : ℕ) → at < length text → 128 ≤ get_or text at 0 → drop at text ≡ encode_utf8 c ++ rest → 128 ≤ c

@@ -9,7 +9,6 @@ use Rattle.humantime.specs.Durations.Characters.{is_digit, is_point, begins}
 use Rattle.humantime.specs.declared.duration.reading.class.Class.TheVariants.{Digit}
 use Rattle.humantime.specs.References.Durations.Scanning.{digits_at, with_some, fraction_read}
 use Rattle.humantime.proofs.Durations.Reading.Classes.{is_point-46, is_point-true, digit_is, wide_no_digit, ascii_digit_class}
-use Rattle.humantime.proofs.Durations.Bytes.Digits.{digit_greatest}
 use Rattle.humantime.proofs.Durations.Bytes.PlaceSteps.{ascii_chars}
 use Rattle.humantime.specs.References.Durations.Classes.{class_of}
 
@@ -55,4 +54,4 @@ pub record IsDigitAt (text : List ℕ) (at : ℕ) : Type 0 where
   pub place : IsCharBoundary text (at + 1)
 
 pub digit_here : (text : List ℕ) (at : ℕ) → IsUtf8 text → IsCharBoundary text at → at < length text → is_ascii_digit (get_or text at 0) ≡ true → IsDigitAt text at
-digit_here text at u place some d = grind (arith, common_steps, ascii_digit_class, digit_greatest, ascii_chars, IsCharBoundary-after_ascii)
+digit_here text at u place some d = grind (arith, common_steps, ascii_digit_class, ascii_chars, IsCharBoundary-after_ascii)

@@ -1,7 +1,6 @@
 -- Ends of a text, over its bytes.
 use Rattle.std.proofs.lemmas.Grind.{common_steps}
 use Rattle.std.proofs.Common.{◌≡◌, ◌≢◌, ◌≤◌, ◌-◌, ℕ, List, [], ◌++◌, length, take, drop, subst, ap, sym, ◌∙◌, arith, length-append, IsUtf8, IsCharBoundary, chars, encode_utf8, slice_range}
-use Rattle.std.proofs.Math.Seq.{take-append_seam}
 use Rattle.std.proofs.lemmas.List.{take-append-drop}
 use Rattle.std.proofs.lemmas.Str.{IsUtf8-past_char, IsCharBoundary-at_seam, encodes-chars, chars-nil}
 use Rattle.std.specs.Prelude.{bytes_eq, encode_utf8_all}
@@ -21,7 +20,7 @@ pub tail_of_tail : (text rest after : List ℕ) → IsTail text rest → IsTail 
 tail_of_tail text rest after t r = grind (arith, common_steps)
 
 pub tail_boundary : (text rest : List ℕ) → IsTail text rest → IsCharBoundary text (length text - length rest)
-tail_boundary text rest t = grind (arith, common_steps, ap length (tail_whole text rest t), length-append (front_of text rest) rest, IsCharBoundary-at_seam, tail_whole)
+tail_boundary text rest t = grind (arith, common_steps, ap length (tail_whole text rest t), length-append (front_of text rest) rest, IsCharBoundary-at_seam)
 
 -- what follows the first character
 pub past_begins : (text rest part : List ℕ) (c k : ℕ) → text ≡ encode_utf8 c ++ rest → k ≡ length (encode_utf8 c) → part ≡ drop k text → text ≡ encode_utf8 c ++ part
@@ -51,7 +50,7 @@ no_bytes bs h = grind (arith, common_steps, chars-nil)
 pub part_between : (text behind part next : List ℕ) (start end : ℕ) → IsUtf8 text → IsTail text behind → IsTail text next → behind ≡ part ++ next
     → start ≡ offset_of (chars text) (chars behind) → end ≡ offset_of (chars text) (chars next)
     → (start ≤ end) × IsCharBoundary text start × IsCharBoundary text end × (part ≡ slice_range text start end)
-part_between text behind part next start end u b n e s t = grind (arith, common_steps, tail_offset, length-append, tail_boundary, take-append_seam)
+part_between text behind part next start end u b n e s t = grind (arith, common_steps, tail_offset, tail_boundary)
 
 -- two texts have the same bytes exactly where they have the same characters
 pub same_chars : (a b : List ℕ) → IsUtf8 a → IsUtf8 b → bytes_eq a b ≡ bytes_eq (chars a) (chars b)

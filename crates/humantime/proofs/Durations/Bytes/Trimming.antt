@@ -11,7 +11,7 @@ use Rattle.humantime.specs.Durations.Rests.{span_of}
 use Rattle.humantime.specs.Durations.Slices.{IsDigitSlice}
 use Rattle.humantime.specs.References.Durations.Lending.{trimmed, fraction_slice, lent_at, spelled}
 use Rattle.humantime.proofs.Durations.Reading.Classes.{white_is, letter_not_numeric, letter_not_point, is_point-46, space_not_digit, digit_from_numeric}
-use Rattle.humantime.proofs.Durations.Reading.Runs.{leading-append, begins_other}
+use Rattle.humantime.proofs.Durations.Reading.Runs.{leading-append}
 
 pub suc_not_zero : (n : ℕ) → eqb (suc n) 0 ≡ false
 suc_not_zero n = grind (arith, nat_tests)
@@ -65,11 +65,11 @@ only_front p (x ∷ xs) ys o = (o.0, only_front p xs ys o.1)
 -- digits and white space from a first digit on, without the white space at the end, behind other white space
 pub digit_slice : (before cs ds : List ℕ) → Dropped cs ds → Only is_ws before → begins is_digit cs ≡ true → Only is_numeric cs → IsDigitSlice (before ++ cs) ds
 digit_slice before cs [] d w b o = absurd (all_white d.tail d.space (subst (λ (l : List ℕ). begins is_digit l ≡ true) d.whole b))
-digit_slice before cs (x ∷ xs) d w b o = grind (arith, common_steps, only_front, ends_digit, last_of)
+digit_slice before cs (x ∷ xs) d w b o = grind (arith, common_steps, only_front, ends_digit)
 
 -- the slice of the fraction behind a number, before a word
 pub no_slice : (tail : List ℕ) → begins is_letter tail ≡ true → fraction_slice tail ≡ None
 no_slice tail h = grind (arith, common_steps, letter_not_point)
 
 pub slice_behind_point : (behind tail : List ℕ) → Only is_numeric behind → begins is_letter tail ≡ true → fraction_slice (46 ∷ (behind ++ tail)) ≡ Some (trimmed behind)
-slice_behind_point behind tail only e = grind (arith, common_steps, begins_other, letter_not_numeric, is_point-46, leading-append)
+slice_behind_point behind tail only e = grind (arith, common_steps, letter_not_numeric, is_point-46, leading-append)

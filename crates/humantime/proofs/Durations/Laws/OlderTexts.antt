@@ -2,19 +2,17 @@
 use Rattle.std.proofs.lemmas.Grind.{common_steps}
 use Rattle.std.proofs.Common.{◌≡◌, ℕ, ◌≤◌, Bool, true, false, List, [], ◌∷◌, ◌++◌, length, Option, refl, sym, ap, ap₂, ◌∙◌, subst, arith}
 use Rattle.std.specs.Prelude.{◌==◌, not}
-use Rattle.std.specs.List.{AllByRecursion, list_all}
+use Rattle.std.specs.List.{AllByRecursion}
 use Rattle.std.specs.Option.{IfSome}
-use Rattle.std.proofs.lemmas.Bool.{false≢true, and_from}
-use Rattle.std.proofs.lemmas.Map.Entries.{lookup-filter-keys}
+use Rattle.std.proofs.lemmas.Bool.{false≢true}
 use Rattle.std.proofs.lemmas.Slice.Eq.{bytes_eq-Decides}
 use Rattle.humantime.specs.Durations.Characters.{greek_mu, white_spaces, is_ws, is_digit, is_numeric, significant}
 use Rattle.humantime.specs.Durations.Units.{Scale, scale_of_word}
-use Rattle.humantime.specs.Durations.Spans.{Span, Only, Spells, SpellsFraction, SpellsEach}
+use Rattle.humantime.specs.Durations.Spans.{Span, Only, Spells, SpellsEach}
 use Rattle.humantime.specs.Durations.Sums.{fraction_additions, additions_at, additions, total}
 use Rattle.humantime.specs.Durations.Limits.{Formed, FitsFraction, Fits}
 use Rattle.humantime.specs.Durations.Accepted.{Accepted, Bare_zero, Sum_of}
 use Rattle.humantime.specs.Laws.Older.{is_older_letter, older_scale_of_word, older_fraction_additions, older_additions_at, older_additions, OlderFormed, OlderFitsFraction, OlderFits, OlderWithinLimits, AcceptedWithZeros, Older_zero, Older_sum, AcceptedWithoutMu, Oldest_zero, Oldest_sum, IsStillAccepted, HasMu}
-use Rattle.humantime.proofs.Durations.Laws.JoinedTexts.{Only-append}
 use Rattle.humantime.proofs.Durations.Reading.Settled.{FitsAt}
 use Rattle.humantime.proofs.Durations.Reading.SignificantDigits.{significant_shorter, whole_part_kept, amount_kept}
 
@@ -59,14 +57,10 @@ still_accepted text v (Older_sum spans h g sum) =
 abbrev OfOlderLetters : Span → Type 0
 OfOlderLetters s = Only is_older_letter s.word
 
-all_older : (word : List ℕ) → Only is_older_letter word → list_all is_older_letter word ≡ true
-all_older [] h = refl
-all_older (c ∷ cs) h = and_from (is_older_letter c) (list_all is_older_letter cs) h.0 (all_older cs h.1)
-
 -- a word of older letters stands for what it stood for
 same_scale : (word : List ℕ) → Only is_older_letter word → older_scale_of_word word ≡ scale_of_word word
 unfolding older_scale_of_word scale_of_word
-same_scale word h = grind (arith, common_steps, bytes_eq-Decides, all_older, lookup-filter-keys)
+same_scale word h = grind (arith, common_steps, bytes_eq-Decides)
 
 same_additions : (spans : List Span) → AllByRecursion OfOlderLetters spans → older_additions older_scale_of_word spans ≡ older_additions scale_of_word spans
 same_additions [] h = refl
@@ -115,18 +109,15 @@ no_mu_in_number : (cs : List ℕ) → Only is_numeric cs → Only is_not_mu cs
 unfolding is_digit is_ws white_spaces
 no_mu_in_number = none_is_mu is_numeric refl
 
-no_mu_in_fraction : (text : List ℕ) (fraction : Option (List ℕ)) → SpellsFraction text fraction → Only is_not_mu text
-no_mu_in_fraction text fraction h = grind (arith, common_steps, no_mu_in_number)
-
 no_mu_in_span : (text rest : List ℕ) (s : Span) → Spells text s rest → OfOlderLetters s → Only is_not_mu rest → Only is_not_mu text
-no_mu_in_span text rest s h letters none = grind (arith, common_steps, Only-append, no_mu_in_number, no_mu_in_fraction, none_is_mu, no_mu_in_space)
+no_mu_in_span text rest s h letters none = grind (arith, common_steps, no_mu_in_number, none_is_mu, no_mu_in_space)
 
 no_mu_in_spans : (text : List ℕ) (spans : List Span) → SpellsEach text spans → AllByRecursion OfOlderLetters spans → Only is_not_mu text
 no_mu_in_spans text [] e letters = rw e tt
 no_mu_in_spans text (s ∷ ss) h letters = no_mu_in_span text h.0 s h.1 letters.0 (no_mu_in_spans h.0 ss h.2 letters.1)
 
 no_mu_accepted : (text : List ℕ) (v : ℕ) → AcceptedWithoutMu text v → Only is_not_mu text
-no_mu_accepted text v h = grind (arith, common_steps, Only-append, no_mu_in_space, no_mu_in_spans)
+no_mu_accepted text v h = grind (arith, common_steps, no_mu_in_space, no_mu_in_spans)
 
 not_among : (before after : List ℕ) → ¬ (Only is_not_mu (before ++ greek_mu ∷ after))
 not_among [] after h = false≢true (h.0)

@@ -36,7 +36,7 @@ zero_or_spans text v a = grind (arith, common_steps)
 
 -- an accepted text that reads as some spans is their sum, and they are within the limits
 pub accepted_spans : (text : List ℕ) (spans : List Span) (v : ℕ) → Reads text spans → Accepted text v → WithinLimits spans × (value spans ≡ v)
-accepted_spans text spans v h a = grind (arith, common_steps, (spans_of_accepted text v (not_zero text spans h) a), (one_reading text (spans_of_accepted text v (not_zero text spans h) a).spans spans (spans_of_accepted text v (not_zero text spans h) a).reads h))
+accepted_spans text spans v h a = grind (arith, common_steps, (one_reading text (spans_of_accepted text v (not_zero text spans h) a).spans spans (spans_of_accepted text v (not_zero text spans h) a).reads h))
 
 -- texts that are the same spans are accepted alike
 pub same_spans : (a b : List ℕ) (spans : List Span) (v : ℕ) → Reads a spans → Reads b spans → Accepted a v → Accepted b v

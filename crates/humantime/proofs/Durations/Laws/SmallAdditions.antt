@@ -32,7 +32,7 @@ small_have_room xs small fits =
 
 room_fits : (t : ℕ) (xs : List Addition) → t / nanos_per_second ≤ u64_max → RoomFrom t xs → (t + total xs) / nanos_per_second ≤ u64_max
 room_fits t [] fits room = omega arith
-room_fits t (x ∷ xs) fits room = grind (arith, common_steps, (room_fits (t + addition_nanos x) xs room.0.1 room.1), sum_by-cons)
+room_fits t (x ∷ xs) fits room = grind (arith, common_steps, (room_fits (t + addition_nanos x) xs room.0.1 room.1))
 
 -- where additions have room, their sum is a duration
 pub room_is_duration : (xs : List Addition) → AllHaveRoom xs → total xs / nanos_per_second ≤ u64_max

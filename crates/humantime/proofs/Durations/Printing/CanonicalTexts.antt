@@ -24,9 +24,6 @@ canonical_if_refused text e refused = ap printed_answer refused
 printed_value : (a : Result ℕ Fault) (t : List ℕ) → printed_answer a ≡ Ok t → (v : ℕ) × (a ≡ Ok v) × (duration_text v ≡ t)
 printed_value a t h = grind (arith, common_steps)
 
-printed_fault : (a : Result ℕ Fault) (f : Fault) → (printed_answer a ≡ Err f) ↔ (a ≡ Err f)
-printed_fault a f = grind (arith, common_steps)
-
 -- what was answered as the function says is the canonical text, or the fault
 pub answer_is_canonical : (s : List ℕ) (r : Result (List ℕ) Fault) → r ≡ canonical_answer (chars s) → (t : List ℕ) → (r ≡ Ok t) ↔ IsCanonicalOf s t
 unfolding canonical_answer
@@ -39,4 +36,4 @@ answer_is_canonical s r e t = (
 
 pub answer_is_fault : (s : List ℕ) (r : Result (List ℕ) Fault) → r ≡ canonical_answer (chars s) → (f : Fault) → (r ≡ Err f) ↔ HasFault (chars s) f
 unfolding canonical_answer
-answer_is_fault s r e f = grind (arith, common_steps, (printed_fault (duration_answer (chars s)) f), (answer_faults (chars s) (duration_answer (chars s)) refl f))
+answer_is_fault s r e f = grind (arith, common_steps, (answer_faults (chars s) (duration_answer (chars s)) refl f))

@@ -4,7 +4,7 @@ use Rattle.std.proofs.Common.{◌≡◌, ℕ, zero, suc, ◌/◌, ◌%◌, ◌<�
 use Rattle.std.specs.Prelude.{codes}
 use Rattle.std.specs.List.{AllByRecursion, join_with_byte}
 use Rattle.std.proofs.lemmas.Bool.Decides.{nat_tests}
-use Rattle.std.proofs.lemmas.List.{append_assoc, append-nil, length-append}
+use Rattle.std.proofs.lemmas.List.{append-nil, length-append}
 use Rattle.std.proofs.lemmas.Fmt.{decimal_nonempty}
 use Rattle.humantime.specs.Values.Amounts.{nanos_per_micro, nanos_per_milli, nanos_per_second, seconds_per_minute, seconds_per_hour, seconds_per_day, seconds_per_month, seconds_per_year}
 use Rattle.humantime.specs.Durations.Counts.{Suffix, weights, suffixes, printed_count, printed_counts, joined_by_space}
@@ -40,7 +40,7 @@ behind_text : (b : ℕ) (bs ns : List ℕ) (ss : List Suffix) → with_counts (b
 behind_text b bs [] ss = sym (append-nil (b ∷ bs))
 behind_text b bs (n ∷ ns) [] = sym (append-nil (b ∷ bs))
 behind_text b bs (zero ∷ ns) (s ∷ ss) = ap (λ t. with_counts t ns ss) (with_zero (b ∷ bs) s) ∙ behind_text b bs ns ss
-behind_text b bs (suc n ∷ ns) (s ∷ ss) = grind (arith, common_steps, (behind_text b (bs ++ codes " " ++ printed_count (suc n) s) ns ss), with_some, append_assoc)
+behind_text b bs (suc n ∷ ns) (s ∷ ss) = grind (arith, common_steps, (behind_text b (bs ++ codes " " ++ printed_count (suc n) s) ns ss), with_some)
 
 behind_some : (text ns : List ℕ) (ss : List Suffix) → 0 < length text → with_counts text ns ss ≡ text ++ spaced (printed_counts ns ss)
 behind_some [] ns ss h = absurd (omega arith)

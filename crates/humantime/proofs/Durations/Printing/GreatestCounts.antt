@@ -21,7 +21,7 @@ length-divided (w ∷ ws) d = ap suc (length-divided ws (d % w))
 
 pub divided_sum : (ws : List ℕ) (m d : ℕ) → Reaches ws m → d < m → weighted_sum ws (divided ws d) ≡ d
 divided_sum [] m d r h = omega arith
-divided_sum (w ∷ ws) m d r h = grind (arith, common_steps, (divided_sum ws w (d % w) r.1 (mod_below d w r.0)), mod_below, div-add-mod)
+divided_sum (w ∷ ws) m d r h = grind (arith, common_steps, (divided_sum ws w (d % w) r.1 (mod_below d w r.0)))
 
 -- a first count and the rest of a sum
 first_most : (w c s d : ℕ) → 0 < w → w * c + s ≡ d → c ≤ d / w

@@ -24,7 +24,7 @@ all_digits [] h = refl
 all_digits (c ∷ cs) h = rw (digit_here c (digit_from_value c h.0)) (ap (λ l. c ∷ l) (all_digits cs h.1))
 
 pub some_digit : (ds : List ℕ) → AllDigits 10 ds → 0 < length ds → begins is_digit ds ≡ true
-some_digit ds h k = grind (arith, common_steps, digit_here, digit_from_value)
+some_digit ds h k = grind (arith, common_steps, digit_here)
 
 -- the digits are a number's, and read as n
 pub record IsNumber (ds : List ℕ) (n : ℕ) : Type 0 where

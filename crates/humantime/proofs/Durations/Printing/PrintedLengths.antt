@@ -1,9 +1,9 @@
 -- How long a printed text is, and how large its counts are.
 use Rattle.std.proofs.lemmas.Grind.{common_steps}
-use Rattle.std.proofs.Common.{◌≡◌, ℕ, ◌+◌, ◌*◌, ◌/◌, ◌%◌, ◌^◌, ◌<◌, ◌≤◌, Bool, cond, List, [], ◌∷◌, length, refl, sym, ap, subst, arith}
-use Rattle.std.specs.Prelude.{◌&&◌, codes, slice_index, ⊤}
+use Rattle.std.proofs.Common.{◌≡◌, ℕ, ◌+◌, ◌*◌, ◌/◌, ◌%◌, ◌^◌, ◌<◌, ◌≤◌, cond, List, [], ◌∷◌, length, refl, sym, ap, subst, arith}
+use Rattle.std.specs.Prelude.{slice_index, ⊤}
 use Rattle.std.specs.List.{AllByRecursion, join_with_byte}
-use Rattle.std.proofs.lemmas.Nat.{div_below, mod_below}
+use Rattle.std.proofs.lemmas.Nat.{mod_below}
 use Rattle.std.proofs.lemmas.List.{length-append}
 use Rattle.std.proofs.lemmas.Fmt.{length-decimal-le}
 use Rattle.humantime.specs.Values.Amounts.{nanos_per_second}
@@ -37,22 +37,15 @@ join_length : (p : List ℕ) (ps : List (List ℕ)) → length (join_with_byte 3
 join_length p [] = omega arith
 join_length p (q ∷ ps) = omega (arith, length-append p (32 ∷ join_with_byte 32 (q ∷ ps)), join_length q ps)
 
-plural_length : (p b : Bool) → length (cond (p && b) (codes "s") []) ≤ cond p 1 0
-plural_length p b = grind (arith, common_steps)
-
 count_length : (n k : ℕ) (s : Suffix) → 0 < k → n < 10 ^ k → n < 2 ^ 64 → length (printed_count n s) ≤ k + suffix_length s
-count_length n k s some below fits = grind (arith, common_steps, length-append, plural_length, length-decimal-le)
-
-counts_cons : (n x : ℕ) (ns : List ℕ) (s : Suffix) (ss : List Suffix) → length (printed_count n s) + 1 ≤ x
-    → spaced_length (printed_counts (n ∷ ns) (s ∷ ss)) ≤ x + spaced_length (printed_counts ns ss)
-counts_cons n x ns s ss h = grind (arith, common_steps)
+count_length n k s some below fits = grind (arith, common_steps, length-decimal-le)
 
 counts_length : (ws ks : List ℕ) (ss : List Suffix) (m r : ℕ) → length ks ≡ length ws → Sizes ws ks ss m → r < m → AllByRecursion IsCount (divided ws r)
     → spaced_length (printed_counts (divided ws r) ss) ≤ length_for ks ss
 counts_length [] ks ss m r l h below small = omega arith
 counts_length (w ∷ ws) [] ss m r l h below small = absurd (omega arith)
 counts_length (w ∷ ws) (k ∷ ks) [] m r l h below small = omega arith
-counts_length (w ∷ ws) (k ∷ ks) (s ∷ ss) m r l h below small = grind (arith, common_steps, (counts_length ws ks ss w (r % w) (omega arith) h.3 (mod_below r w h.1) small.1), div_below, mod_below, count_length, counts_cons)
+counts_length (w ∷ ws) (k ∷ ks) (s ∷ ss) m r l h below small = grind (arith, common_steps, (counts_length ws ks ss w (r % w) (omega arith) h.3 (mod_below r w h.1) small.1), count_length)
 
 sizes : List ℕ
 sizes = 12 ∷ 2 ∷ 2 ∷ 2 ∷ 2 ∷ 2 ∷ 3 ∷ 3 ∷ 3 ∷ []

@@ -4,7 +4,7 @@ use Rattle.std.proofs.Common.{◌≡◌, ◌≢◌, ◌⊎◌, inl, inr, ℕ, ze
 use Rattle.std.specs.Prelude.{IsSome, codes, decimal, chars}
 use Rattle.std.specs.Str.{IsUtf8}
 use Rattle.std.specs.List.{AllByRecursion, join_with_byte}
-use Rattle.std.proofs.Math.Nat.{mul_assoc, mul_comm}
+use Rattle.std.proofs.Math.Nat.{mul_assoc}
 use Rattle.std.proofs.lemmas.Nat.{mod_below}
 use Rattle.std.proofs.lemmas.List.{append_assoc, append-nil}
 use Rattle.std.proofs.lemmas.Str.{chars-append, chars-IsAscii, chars-nil, IsUtf8-append, IsUtf8-from_ascii}
@@ -18,7 +18,6 @@ use Rattle.humantime.specs.Durations.Limits.{Formed, Fits, HasRoom}
 use Rattle.humantime.specs.Durations.Accepted.{Accepted, Sum_of}
 use Rattle.humantime.specs.Durations.Counts.{weights, weighted_sum, Suffix, suffixes, without_plural, printed_count, printed_counts, joined_by_space, Canon}
 use Rattle.humantime.specs.References.Durations.Printing.{divided, duration_text}
-use Rattle.humantime.proofs.Durations.Reading.Runs.{begins_not_nil}
 use Rattle.humantime.proofs.Durations.Reading.Spellings.{spells-append}
 use Rattle.humantime.proofs.Durations.Reading.Rooms.{RoomFrom, RoomFrom-append, total-append, all_have_room}
 use Rattle.humantime.proofs.Durations.Printing.PrintedDigits.{decimal_number}
@@ -59,13 +58,13 @@ small_room t r m y base h = grind (arith, common_steps)
 -- a count of n that is worth w each
 row_small : (t r m w n : ℕ) (word : List ℕ) (i : IsWord w m word) → r < m → w * n ≤ r → (t + r) / nanos_per_second ≤ u64_max
     → IsSmall t r m (n * i.unit.factor) i.unit.base
-row_small t r m w n word i below left whole = grind (arith, common_steps, mul_assoc, mul_comm)
+row_small t r m w n word i below left whole = grind (arith, common_steps, mul_assoc)
 
 word_count : (t r m w n : ℕ) (word : List ℕ) (i : IsWord w m word) → r < m → w * n ≤ r → (t + r) / nanos_per_second ≤ u64_max → n < 2 ^ 64
 word_count t r m w n word i below left whole = grind (arith, common_steps)
 
 row_good : (t r m w n : ℕ) (s : Suffix) → IsWord w m (word_for n s) → r < m → w * n ≤ r → (t + r) / nanos_per_second ≤ u64_max → RowGood t (w * n) (span_for n s)
-row_good t r m w n s i below left whole = grind (arith, common_steps, (row_small t r m w n (word_for n s) i below left whole), (decimal_number n (word_count t r m w n (word_for n s) i below left whole)).value, (adds_one n (chars (word_for n s)) i.unit i.is ((decimal_number n (word_count t r m w n (word_for n s) i below left whole)).value)), word_count, word_for, is_some_at, fits_one, small_fits, small_room, mul_assoc, mul_comm)
+row_good t r m w n s i below left whole = grind (arith, common_steps, (row_small t r m w n (word_for n s) i below left whole), (decimal_number n (word_count t r m w n (word_for n s) i below left whole)).value, (adds_one n (chars (word_for n s)) i.unit i.is ((decimal_number n (word_count t r m w n (word_for n s) i below left whole)).value)), word_count, word_for, is_some_at, fits_one, small_fits, small_room, mul_assoc)
 
 -- the spans of the counts that are not zero
 abbrev pub spans_for : List ℕ → List Suffix → List Span
@@ -116,10 +115,10 @@ count_utf8 : (n : ℕ) (s : Suffix) → n < 2 ^ 64 → IsUtf8 (word_for n s) →
 count_utf8 n s h word = rw append_assoc (IsUtf8-append (decimal n) (word_for n s) (decimal_utf8 n h) word)
 
 count_chars : (n : ℕ) (s : Suffix) → n < 2 ^ 64 → chars (printed_count n s) ≡ decimal n ++ chars (word_for n s)
-count_chars n s h = grind (arith, common_steps, append_assoc, chars-append, word_for, decimal_utf8, chars-IsAscii, IsAscii-decimal)
+count_chars n s h = grind (arith, common_steps, chars-append, decimal_utf8, chars-IsAscii, IsAscii-decimal)
 
 count_spells : (n w m : ℕ) (s : Suffix) (space : List ℕ) → n < 2 ^ 64 → IsWord w m (word_for n s) → Only is_ws space → Spells (chars (printed_count n s) ++ space) (span_for n s) []
-count_spells n w m s space h i only = grind (arith, common_steps, (decimal_number n h), count_chars, append_assoc, word_for, append-nil, begins_not_nil)
+count_spells n w m s space h i only = grind (arith, common_steps, (decimal_number n h), count_chars)
 
 space_is : Only is_ws (32 ∷ [])
 unfolding is_ws white_spaces
@@ -134,7 +133,7 @@ join_spells : (p : List ℕ) (ps : List (List ℕ)) (s : Span) (spans : List Spa
 join_spells p [] s spans utf8 spells each =
     let whole = sym (append-nil (chars p)) ∙ sym (ap (λ l. (chars p ++ []) ++ l) chars-nil ∙ append-nil (chars p ++ [])) in
     (chars [], subst (λ l. Spells l s (chars [])) (sym whole) (spells-append (chars p ++ []) [] (chars []) s (spells [] tt)), each)
-join_spells p (q ∷ qs) s spans utf8 spells each = grind (arith, common_steps, (chars-append p (32 ∷ (join_with_byte 32 (q ∷ qs))) utf8 ∙ ap (λ l. chars p ++ l) (chars_space (join_with_byte 32 (q ∷ qs))) ∙ sym (append_assoc (chars p) (32 ∷ []) (chars (join_with_byte 32 (q ∷ qs))))), spells-append, space_is)
+join_spells p (q ∷ qs) s spans utf8 spells each = grind (arith, common_steps, (chars-append p (32 ∷ (join_with_byte 32 (q ∷ qs))) utf8 ∙ ap (λ l. chars p ++ l) (chars_space (join_with_byte 32 (q ∷ qs))) ∙ sym (append_assoc (chars p) (32 ∷ []) (chars (join_with_byte 32 (q ∷ qs))))), space_is)
 
 pub counts_spell : (ws ns : List ℕ) (ss : List Suffix) (m : ℕ) → Table ws ss m → length ns ≡ length ws → AllByRecursion IsCount ns
     → SpellsEach (chars (join_with_byte 32 (printed_counts ns ss))) (spans_for ns ss)

@@ -2,7 +2,6 @@
 use Rattle.std.proofs.lemmas.Grind.{common_steps}
 use Rattle.std.proofs.Common.{◌≡◌, ℕ, ◌+◌, ◌/◌, ◌≤◌, List, [], ◌∷◌, sym, subst, ◌∙◌, arith}
 use Rattle.std.specs.Prelude.{chars, Result, Ok}
-use Rattle.std.proofs.lemmas.List.Sums.{sum_by-cons}
 use Rattle.humantime.specs.Values.Amounts.{nanos_per_second}
 use Rattle.humantime.specs.Durations.Characters.{u64_max}
 use Rattle.humantime.specs.Durations.Sums.{Addition, addition_nanos, total}
@@ -26,7 +25,7 @@ same_read text u v a b = ok_same u v (sym (outcome_accepted text u a) ∙ outcom
 
 room_fits : (t : ℕ) (xs : List Addition) → t / nanos_per_second ≤ u64_max → RoomFrom t xs → (t + total xs) / nanos_per_second ≤ u64_max
 room_fits t [] h room = omega arith
-room_fits t (x ∷ xs) h room = grind (arith, common_steps, (room_fits (t + addition_nanos x) xs room.0.1 room.1), sum_by-cons)
+room_fits t (x ∷ xs) h room = grind (arith, common_steps, (room_fits (t + addition_nanos x) xs room.0.1 room.1))
 
 -- what is accepted is a duration
 accepted_fits : (text : List ℕ) (v : ℕ) → Accepted text v → v / nanos_per_second ≤ u64_max

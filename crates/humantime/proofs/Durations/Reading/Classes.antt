@@ -2,7 +2,7 @@
 use Rattle.std.proofs.lemmas.Grind.{common_steps}
 use Rattle.std.proofs.Common.{◌≡◌, ◌≢◌, ◌≤◌, ◌⊎◌, ◌↔◌, ℕ, true, false, refl, sym, ◌∙◌, arith}
 use Rattle.std.specs.Char.{is_whitespace, is_ascii_digit}
-use Rattle.std.proofs.lemmas.Bool.{cases_Bool, false≢true, or_from, or_left, or_right}
+use Rattle.std.proofs.lemmas.Bool.{or_left, or_right}
 use Rattle.std.proofs.lemmas.Bool.Decides.{nat_tests}
 use Rattle.humantime.specs.declared.duration.reading.class.Class.{Class}
 use Rattle.humantime.specs.declared.duration.reading.class.Class.TheVariants.{White, Digit, Letter, Point, Other}
@@ -33,18 +33,18 @@ unfolding is_letter is_point
 letter_not_point c e = grind (arith, nat_tests)
 
 pub space_not_digit : (c : ℕ) → is_ws c ≡ true → is_digit c ≡ false
-space_not_digit c = grind (arith, common_steps, digit_not_space, cases_Bool, false≢true)
+space_not_digit c = grind (arith, common_steps, digit_not_space)
 
 pub letter_not_numeric : (c : ℕ) → is_letter c ≡ true → is_numeric c ≡ false
 unfolding is_digit is_letter
-letter_not_numeric c e = grind (arith, common_steps, or_from, letter_not_space, nat_tests)
+letter_not_numeric c e = grind (arith, common_steps, letter_not_space, nat_tests)
 
 pub point_not_numeric : (c : ℕ) → is_point c ≡ true → is_numeric c ≡ false
 unfolding is_digit is_point
-point_not_numeric c e = grind (arith, common_steps, or_from, point_not_space, nat_tests)
+point_not_numeric c e = grind (arith, common_steps, point_not_space, nat_tests)
 
 pub numeric_not_letter : (c : ℕ) → is_numeric c ≡ true → is_letter c ≡ false
-numeric_not_letter c = grind (arith, common_steps, letter_not_numeric, cases_Bool, false≢true)
+numeric_not_letter c = grind (arith, common_steps, letter_not_numeric)
 
 -- ---- what a number holds
 
@@ -55,7 +55,7 @@ pub space_is_numeric : (c : ℕ) → is_ws c ≡ true → is_numeric c ≡ true
 space_is_numeric c = or_right (is_digit c) (is_ws c)
 
 pub digit_from_numeric : (c : ℕ) → is_numeric c ≡ true → is_ws c ≡ false → is_digit c ≡ true
-digit_from_numeric c n w = grind (arith, common_steps, cases_Bool, false≢true)
+digit_from_numeric c n w = grind (arith, common_steps)
 
 -- ---- the point is one character
 
@@ -92,19 +92,19 @@ is_digit-class c = ((λ e. let passes = passes_test c in rw e at passes), (λ e.
 
 pub is_letter-class : (c : ℕ) → (class_of c ≡ Letter) ↔ (is_letter c ≡ true)
 unfolding class_of is_digit is_letter
-is_letter-class c = grind (arith, common_steps, passes_test, letter_not_space, nat_tests)
+is_letter-class c = grind (arith, common_steps, letter_not_space, nat_tests)
 
 pub not_white : (c : ℕ) → class_of c ≢ White → is_ws c ≡ false
-not_white c = grind (arith, common_steps, is_ws-class, cases_Bool)
+not_white c = grind (arith, common_steps, is_ws-class)
 
 pub not_letter : (c : ℕ) → class_of c ≢ Letter → is_letter c ≡ false
-not_letter c = grind (arith, common_steps, is_letter-class, cases_Bool)
+not_letter c = grind (arith, common_steps, is_letter-class)
 
 pub numeric_class : (c : ℕ) → (class_of c ≡ Digit) ⊎ (class_of c ≡ White) → is_numeric c ≡ true
-numeric_class c h = grind (arith, common_steps, digit_is_numeric, is_digit-class, space_is_numeric, is_ws-class)
+numeric_class c h = grind (arith, common_steps, is_digit-class, is_ws-class)
 
 pub not_numeric : (c : ℕ) → class_of c ≢ White → class_of c ≢ Digit → is_numeric c ≡ false
-not_numeric c w d = grind (arith, common_steps, or_from, not_white, is_digit-class, cases_Bool)
+not_numeric c w d = grind (arith, common_steps, not_white, is_digit-class)
 
 -- ---- by bytes
 

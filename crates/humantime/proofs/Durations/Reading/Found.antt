@@ -35,7 +35,7 @@ each_push body here [] s h p = ([], rw h p, refl)
 each_push body here (x ∷ ss) s h p = (h.0 ++ here, spells-append body h.0 here x h.1, each_push h.0 here ss s h.2 p)
 
 front_push : (front here : List ℕ) (ss : List Span) (s : Span) → Front front ss → Spells here s [] → Front (front ++ here) (ss ++ s ∷ [])
-front_push front here ss s h p = grind (arith, common_steps, append_assoc, each_push)
+front_push front here ss s h p = grind (arith, common_steps, each_push)
 
 spelling_not_nil : (here : List ℕ) (s : Span) → Spells here s [] → here ≢ []
 spelling_not_nil here s h e = omega (arith, ap length e, spelling_some here [] s h)
@@ -107,7 +107,7 @@ found (suc n) text front (c ∷ cs) spans h r = elim (cases_Bool (is_digit c)) [
 
 -- past its white space a text is read to its front, with no span yet
 pub read_begun : (text rest : List ℕ) → past is_ws text ≡ rest → Split text (leading is_ws text) [] rest
-read_begun text rest e = grind (arith, common_steps, leading-past, append-nil, Only-leading, begins-past)
+read_begun text rest e = grind (arith, common_steps, leading-past, Only-leading, begins-past)
 
 begun : (text rest : List ℕ) → past is_ws text ≡ rest → rest ≢ [] → IsReadTo text (leading is_ws text) [] rest
 begun text rest e some = record { split = read_begun text rest e; formed = tt; follows = λ n d. inl refl; some = λ n. absurd (some n) }
@@ -126,7 +126,7 @@ pub items_found_at : (text : List ℕ) → ItemsAfter text [] (unread_of text) (
 items_found_at text = found_from text (past is_ws text) refl
 
 pub items_found : (text : List ℕ) → Items text (items text).0 (items text).1
-items_found text = grind (arith, common_steps, (items_found_at text), unread_of)
+items_found text = grind (arith, common_steps, (items_found_at text))
 
 -- the reading is too large from here on
 abbrev IsTooLarge : List Span → List Span × Option Fault → Type 0

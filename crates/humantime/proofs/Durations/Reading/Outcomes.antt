@@ -42,7 +42,7 @@ duration_answer-zero = refl
 
 pub duration_answer-items : (text : List ℕ) → text ≢ bare_zero → duration_answer text ≡ settle 0 (items text).0 (items text).1
 unfolding duration_answer
-duration_answer-items text some = grind (arith, common_steps, cases_Bool, bytes_eq-Decides)
+duration_answer-items text some = grind (arith, common_steps, bytes_eq-Decides)
 
 pub zero_or_not : (text : List ℕ) → (text ≡ bare_zero) ⊎ (text ≢ bare_zero)
 zero_or_not text = elim (cases_Bool (bytes_eq text bare_zero)) [
@@ -92,7 +92,7 @@ over_settled n text rest spans within o h =
     ∙ settle_over (0 + value spans) (span_of rest) r.0 r.1 (add_span-over (0 + value spans) (span_of rest) bad)
 
 over_outcome : (text : List ℕ) (e : Fault) (h : HasFault text e) → Overflows h.spans h.rest → duration_answer text ≡ Err NumberOverflow
-over_outcome text e h o = grind (arith, common_steps, (front_told text h.front h.rest h.spans h.split h.within.formed (inr (closes_digit h.front h.rest o.number.0)) (λ n. absurd (begins_not_nil is_digit h.rest o.number.0 n))), duration_answer-items, not_zero, over_settled)
+over_outcome text e h o = grind (arith, common_steps, (front_told text h.front h.rest h.spans h.split h.within.formed (inr (closes_digit h.front h.rest o.number.0)) (λ n. absurd (begins_not_nil is_digit h.rest o.number.0 n))), duration_answer-items, over_settled)
 
 pub outcome_fault : (text : List ℕ) (e : Fault) → HasFault text e → duration_answer text ≡ Err e
 outcome_fault text e h = elim h.fault [
@@ -143,7 +143,7 @@ fault_read text e some h =
     ]
 
 pub fault_from_outcome : (text : List ℕ) (e : Fault) → duration_answer text ≡ Err e → HasFault text e
-fault_from_outcome text e h = grind (arith, common_steps, zero_or_not, duration_answer-zero, fault_read)
+fault_from_outcome text e h = grind (arith, common_steps, duration_answer-zero, fault_read)
 
 -- so what was answered as the function says is the value or the fault
 pub answer_accepts : (text : List ℕ) (r : Result ℕ Fault) → r ≡ duration_answer text → (v : ℕ) → (r ≡ Ok v) ↔ Accepted text v

@@ -2,7 +2,7 @@
 use Rattle.std.proofs.lemmas.Grind.{common_steps}
 use Rattle.std.proofs.Common.{◌≡◌, ℕ, ◌+◌, true, List, [], ◌∷◌, ◌++◌, Some, None, refl, ap, ◌∙◌, inl, inr, arith}
 use Rattle.std.specs.Prelude.{⊤}
-use Rattle.std.proofs.lemmas.Bool.{cases_Bool, and_from, le-leb}
+use Rattle.std.proofs.lemmas.Bool.{cases_Bool}
 use Rattle.std.proofs.lemmas.List.Sums.{sum_by-append, sum_by-cons}
 use Rattle.humantime.specs.Durations.Sums.{Addition, addition_nanos, total}
 use Rattle.humantime.specs.Durations.Limits.{HasRoom, AllHaveRoom}
@@ -20,7 +20,7 @@ room-true : (t : ℕ) (x : Addition) → room t x ≡ true → HasRoom t x
 room-true t x h = grind (arith, common_steps)
 
 room_from : (t : ℕ) (x : Addition) → HasRoom t x → room t x ≡ true
-room_from t x h = grind (arith, common_steps, and_from, le-leb, common_steps)
+room_from t x h = grind (arith, common_steps, common_steps)
 
 -- the sum where there is room, and none else
 pub add_all-room : (t : ℕ) (xs : List Addition) → RoomFrom t xs → add_all t xs ≡ Some (t + total xs)
@@ -49,7 +49,7 @@ RoomFrom-front t (x ∷ xs) ys h = (h.0, RoomFrom-front (t + addition_nanos x) x
 
 pub RoomFrom-back : (t : ℕ) (xs ys : List Addition) → RoomFrom t (xs ++ ys) → RoomFrom (t + total xs) ys
 RoomFrom-back t [] ys h = let e : t + total [] ≡ t = omega arith in rw e h
-RoomFrom-back t (x ∷ xs) ys h = grind (arith, common_steps, (RoomFrom-back (t + addition_nanos x) xs ys h.1), sum_by-cons)
+RoomFrom-back t (x ∷ xs) ys h = grind (arith, common_steps, (RoomFrom-back (t + addition_nanos x) xs ys h.1))
 
 -- room one by one is room after each front
 from_each : (t : ℕ) (xs : List Addition) → ((before after : List Addition) (x : Addition) → xs ≡ before ++ x ∷ after → HasRoom (t + total before) x) → RoomFrom t xs

@@ -4,7 +4,6 @@ use Rattle.std.proofs.Common.{◌≡◌, ◌⊎◌, ℕ, ◌≤◌, ◌+◌, ◌
 use Rattle.std.specs.Prelude.{⊤}
 use Rattle.std.specs.List.{AllByRecursion}
 use Rattle.std.specs.Option.{IfSome}
-use Rattle.std.proofs.lemmas.Bool.{cases_Bool}
 use Rattle.std.proofs.lemmas.Grind.{flat_map-append}
 use Rattle.humantime.specs.Durations.Characters.{decimal_value, u64_max}
 use Rattle.humantime.specs.Durations.Units.{Scale}
@@ -34,14 +33,14 @@ add_span-added t s f h = grind (arith, common_steps, add_all-room, common_steps)
 
 pub add_span-over : (t : ℕ) (s : Span) → ¬ (IsAddedTo t s) → add_span t s ≡ None
 unfolding add_span
-add_span-over t s h = grind (arith, common_steps, cases_Bool, add_all-full)
+add_span-over t s h = grind (arith, common_steps, add_all-full)
 
 pub added_or_not : (t : ℕ) (s : Span) → Formed s → IsAddedTo t s ⊎ ¬ (IsAddedTo t s)
 added_or_not t s f = grind (arith, common_steps)
 
 pub within_or_not : (t : ℕ) (spans : List Span) → AllByRecursion Formed spans → WithinLimitsFrom t spans ⊎ ¬ (WithinLimitsFrom t spans)
 within_or_not t [] f = inl tt
-within_or_not t (s ∷ ss) f = grind (arith, common_steps, (within_or_not (t + total (additions_of s)) ss f.1), added_or_not)
+within_or_not t (s ∷ ss) f = grind (arith, common_steps, (within_or_not (t + total (additions_of s)) ss f.1))
 
 pub value-cons : (s : Span) (ss : List Span) → value (s ∷ ss) ≡ total (additions_of s) + value ss
 value-cons s ss = total-append (additions_of s) (additions ss)
@@ -63,7 +62,7 @@ settle_over t s ss stop e = rw (e, settle)
 
 pub settle-append : (t : ℕ) (ss ts : List Span) (stop : Option Fault) → AllByRecursion Formed ss → WithinLimitsFrom t ss → settle t (ss ++ ts) stop ≡ settle (t + value ss) ts stop
 settle-append t [] ts stop f h = ap (λ (n : ℕ). settle n ts stop) (omega arith)
-settle-append t (s ∷ ss) ts stop f h = grind (arith, common_steps, (settle-append (t + total (additions_of s)) ss ts stop f.1 h.1), settle_on, add_span-added, value-cons)
+settle-append t (s ∷ ss) ts stop f h = grind (arith, common_steps, (settle-append (t + total (additions_of s)) ss ts stop f.1 h.1), settle_on, add_span-added)
 
 -- the value, or else the fault at which they stop
 abbrev pub ended : ℕ → Option Fault → Result ℕ Fault
@@ -113,4 +112,4 @@ WithinLimitsFrom-push t (x ∷ ss) s h a =
 
 pub WithinLimitsFrom-last : (t : ℕ) (ss : List Span) (s : Span) → WithinLimitsFrom t (ss ++ s ∷ []) → IsAddedTo (t + value ss) s
 WithinLimitsFrom-last t [] s h = let e : t + value [] ≡ t = omega arith in rw e (h.0)
-WithinLimitsFrom-last t (x ∷ ss) s h = grind (arith, common_steps, (WithinLimitsFrom-last (t + total (additions_of x)) ss s h.1), value-cons)
+WithinLimitsFrom-last t (x ∷ ss) s h = grind (arith, common_steps, (WithinLimitsFrom-last (t + total (additions_of x)) ss s h.1))

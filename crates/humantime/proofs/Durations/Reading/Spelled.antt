@@ -1,12 +1,12 @@
 -- What a spelling is read as: the longest runs of characters give back the span that it spells.
 use Rattle.std.proofs.lemmas.Grind.{common_steps}
 use Rattle.std.proofs.Common.{◌≡◌, ◌≢◌, ◌⊎◌, ℕ, ◌≤◌, ◌<◌, true, false, List, [], ◌∷◌, ◌++◌, length, Option, Some, None, option_map, refl, sym, ap, ◌∙◌, inl, inr, arith, append_assoc, append-nil}
-use Rattle.std.proofs.lemmas.Bool.{cases_Bool, false≢true}
+use Rattle.std.proofs.lemmas.Bool.{false≢true}
 use Rattle.humantime.specs.Durations.Characters.{is_ws, is_digit, is_letter, is_numeric, leading, past, begins, ends, digits}
 use Rattle.humantime.specs.Durations.Spans.{Span, Only, SpellsFraction, Spells}
 use Rattle.humantime.specs.Durations.Rests.{after_number, fraction_at, past_fraction, fraction_of, after_fraction, after_word, span_of}
 use Rattle.humantime.specs.Durations.Faults.{EndsInSpace, MayFollowWord}
-use Rattle.humantime.proofs.Durations.Reading.Classes.{numeric_not_letter, letter_not_numeric, letter_not_point, letter_not_space, digit_is_numeric, space_is_numeric, point_not_numeric, is_point-46}
+use Rattle.humantime.proofs.Durations.Reading.Classes.{numeric_not_letter, letter_not_numeric, letter_not_point, letter_not_space, space_is_numeric, point_not_numeric, is_point-46}
 use Rattle.humantime.proofs.Durations.Reading.Spellings.{spells_alone}
 use Rattle.humantime.proofs.Durations.Reading.Runs.{leading-append, past-append, past_shorter, begins-append, begins_other, begins_not_nil, letters_begin, ends_Only, ends_other, ends-append, append_not_nil}
 
@@ -46,7 +46,7 @@ fraction_read b tail None h e = rw h (record {
   past_it = (no_point tail e).1;
   some = λ p. cc;
 })
-fraction_read b tail (Some ds) h e = grind (arith, common_steps, begins_other, letter_not_numeric, point_not_numeric, is_point-46, leading-append, past-append)
+fraction_read b tail (Some ds) h e = grind (arith, common_steps, letter_not_numeric, point_not_numeric, is_point-46, leading-append, past-append)
 
 -- a spelled number and fraction before a word are read as these
 pub record IsReadToWord (rest number_text fraction_text tail : List ℕ) (fraction : Option (List ℕ)) : Type 0 where
@@ -64,7 +64,7 @@ record IsRead (rest : List ℕ) (s : Span) (after : List ℕ) : Type 0 where
 
 parts_read : (a b word after : List ℕ) (o : Option (List ℕ)) → Only is_numeric a → SpellsFraction b o → Only is_letter word → begins is_letter word ≡ true
     → begins is_letter after ≡ false → IsRead (a ++ (b ++ (word ++ after))) (record { number = digits a; fraction = o; word = word }) after
-parts_read a b word after o only f letters some stops = grind (arith, common_steps, begins_word, leading-append, span_same, past-append, common_steps, fraction_read)
+parts_read a b word after o only f letters some stops = grind (arith, common_steps, leading-append, past-append, common_steps, fraction_read)
 
 spelling_parts : (here next : List ℕ) (s : Span) (h : Spells here s []) → here ++ next ≡ h.number_text ++ (h.fraction_text ++ (s.word ++ (h.space ++ next)))
 spelling_parts here next s h = ap (λ (x : List ℕ). x ++ next) (spells_alone here s h) ∙ simp append_assoc
@@ -72,10 +72,10 @@ spelling_parts here next s h = ap (λ (x : List ℕ). x ++ next) (spells_alone h
 -- a rest that spells a span is read as its number and fraction up to its word
 pub read_spelled : (rest next : List ℕ) (s : Span) (h : Spells rest s next)
     → IsReadToWord rest h.number_text h.fraction_text (s.word ++ (h.space ++ next)) s.fraction
-read_spelled rest next s h = grind (arith, common_steps, begins_word, letters_begin, common_steps, fraction_read, past-append, leading-append)
+read_spelled rest next s h = grind (arith, common_steps, begins_word, common_steps, fraction_read, past-append, leading-append)
 
 pub no_letter_follows : (cs : List ℕ) → MayFollowWord cs → begins is_letter cs ≡ false
-no_letter_follows cs h = grind (arith, common_steps, begins_other, numeric_not_letter)
+no_letter_follows cs h = grind (arith, common_steps, numeric_not_letter)
 
 -- where a spelling ends with its word, it doesn't end in white space
 ends_in_word : (a b word : List ℕ) → Only is_letter word → begins is_letter word ≡ true → ends is_ws (a ++ (b ++ (word ++ []))) ≡ false
@@ -108,8 +108,8 @@ spelled_here here next s h o no_space =
     })
 
 past_fraction_shorter : (cs : List ℕ) → length (past_fraction cs) ≤ length cs
-past_fraction_shorter cs = grind (arith, common_steps, cases_Bool, past_shorter)
+past_fraction_shorter cs = grind (arith, common_steps, past_shorter)
 
 -- what follows a span is shorter than what it begins
 pub next_smaller : (rest : List ℕ) → begins is_digit rest ≡ true → length (next_of rest) < length rest
-next_smaller rest e = grind (arith, common_steps, past_fraction_shorter, past_shorter, digit_is_numeric)
+next_smaller rest e = grind (arith, common_steps, past_fraction_shorter, past_shorter)

@@ -1,15 +1,14 @@
 -- Where the span that begins a rest stops, by the reference and by the table of faults.
 use Rattle.std.proofs.lemmas.Grind.{common_steps}
-use Rattle.std.proofs.Common.{◌≡◌, ◌≢◌, ℕ, true, false, List, [], Option, Some, None, arith}
+use Rattle.std.proofs.Common.{◌≡◌, ◌≢◌, ℕ, true, List, [], Option, Some, None, arith}
 use Rattle.std.specs.Option.{IsSome}
-use Rattle.std.proofs.lemmas.Bool.{cases_Bool, false≢true}
 use Rattle.humantime.specs.Durations.Characters.{is_digit, begins}
-use Rattle.humantime.specs.Durations.Units.{Scale, scale_of_word}
+use Rattle.humantime.specs.Durations.Units.{scale_of_word}
 use Rattle.humantime.specs.Durations.Spans.{Span}
 use Rattle.humantime.specs.Durations.Limits.{IsShort}
 use Rattle.humantime.specs.Durations.Rests.{fraction_of, word_of, after_word, span_of}
 use Rattle.humantime.specs.Durations.Faults.{Fault, MayFollowWord, Stops}
-use Rattle.humantime.specs.References.Durations.Reading.{too_long, stop_word, stop_at}
+use Rattle.humantime.specs.References.Durations.Reading.{stop_at}
 
 -- a span that is well formed begins the rest
 pub record Fine (rest : List ℕ) : Type 0 where
@@ -17,9 +16,6 @@ pub record Fine (rest : List ℕ) : Type 0 where
   pub point : fraction_of rest ≢ Some []
   pub word : IsSome (scale_of_word (word_of rest))
   pub ends : MayFollowWord (after_word rest)
-
-not_too_long : (s : Span) → IsShort s → too_long s ≡ false
-not_too_long s h = grind (arith, common_steps, cases_Bool, common_steps)
 
 -- what an answer of the reference says
 abbrev pub Says : List ℕ → List ℕ → List Span → List ℕ → Option Fault → Type 0
@@ -33,15 +29,12 @@ stop_says text front spans rest d = grind (arith, common_steps)
 
 pub some_letters : (word : List ℕ) → IsSome (scale_of_word word) → word ≢ []
 unfolding scale_of_word
-some_letters word h e = grind (arith, common_steps, false≢true)
-
-known_word : (text rest : List ℕ) (o : Option Scale) → IsSome o → stop_word text rest o ≡ None
-known_word text rest o h = grind (arith, common_steps)
+some_letters word h e = grind (arith, common_steps)
 
 -- at a span that is well formed nothing stops
 pub fine_goes : (text rest : List ℕ) → Fine rest → stop_at text rest ≡ None
 unfolding stop_at
-fine_goes text rest h = grind (arith, common_steps, some_letters, known_word, not_too_long)
+fine_goes text rest h = grind (arith, common_steps, some_letters)
 
 -- each row of the table where a number begins
 pub stops_at : (text front : List ℕ) (spans : List Span) (rest : List ℕ) (e : Fault) → begins is_digit rest ≡ true → Stops text front spans rest e → stop_at text rest ≡ Some e

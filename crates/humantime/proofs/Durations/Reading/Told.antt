@@ -1,6 +1,6 @@
 -- The plain reading tells the spans that a text is read as, whatever reads it.
 use Rattle.std.proofs.lemmas.Grind.{common_steps}
-use Rattle.std.proofs.Common.{◌≡◌, ◌≢◌, ◌⊎◌, ℕ, ◌≤◌, true, false, List, [], ◌∷◌, ◌++◌, length, Option, Some, None, refl, sym, ap, ◌∙◌, inl, inr, arith, subst, append_assoc, append-nil}
+use Rattle.std.proofs.Common.{◌≡◌, ◌≢◌, ◌⊎◌, ℕ, ◌≤◌, true, false, List, [], ◌∷◌, ◌++◌, length, Option, Some, None, refl, sym, ap, ◌∙◌, inl, inr, arith, subst, append-nil}
 use Rattle.std.specs.List.{AllByRecursion}
 use Rattle.std.proofs.lemmas.Bool.{cases_Bool}
 use Rattle.humantime.specs.Durations.Characters.{is_ws, is_digit, is_numeric, begins, ends, past, offset_of}
@@ -47,7 +47,7 @@ closes_more here more rest (s ∷ ss) h (inr e) = inr (inr (sym (ends-append is_
 
 -- the first of these spans is the span that begins the text
 pub first_here : (body rest : List ℕ) (s : Span) (ss : List Span) (h : SpellsEach body (s ∷ ss)) → Closes body rest → begins is_ws rest ≡ false → IsSpanAt (body ++ rest) s (h.0 ++ rest)
-first_here body rest s ss h o e = grind (arith, common_steps, (apart body h.0 s h.1), (subst (λ b. Closes b rest) (apart body h.0 s h.1).whole o), (spelled_here (apart body h.0 s h.1).here (h.0 ++ rest) s (apart body h.0 s h.1).spells (closes_here (apart body h.0 s h.1).here h.0 rest ss h.2 (subst (λ b. Closes b rest) (apart body h.0 s h.1).whole o)) (no_space_before h.0 rest ss h.2 e)), append_assoc)
+first_here body rest s ss h o e = grind (arith, common_steps, (spelled_here (apart body h.0 s h.1).here (h.0 ++ rest) s (apart body h.0 s h.1).spells (closes_here (apart body h.0 s h.1).here h.0 rest ss h.2 (subst (λ b. Closes b rest) (apart body h.0 s h.1).whole o)) (no_space_before h.0 rest ss h.2 e)))
 
 -- the reading goes through these spans, and on from the rest
 pub record GoesThrough (r : List Span × Option Fault) (text : List ℕ) (spans : List Span) (rest : List ℕ) : Type 0 where
@@ -81,7 +81,7 @@ through n text body rest (s ∷ ss) h f (inr o) e l =
 
 -- the front of a split begins where the white space ends
 pub front_begins : (text front rest : List ℕ) (spans : List Span) (h : Split text front spans rest) → past is_ws text ≡ h.read.body ++ rest
-front_begins text front rest spans h = grind (arith, common_steps, append_assoc, past-append, no_space_before)
+front_begins text front rest spans h = grind (arith, common_steps, past-append, no_space_before)
 
 some_left : (body rest : List ℕ) (spans : List Span) → SpellsEach body spans → (rest ≡ [] → spans ≢ []) → body ++ rest ≢ []
 some_left body rest [] h some e = let k : rest ≡ [] = rw h at e in some k refl
@@ -138,7 +138,7 @@ told_some text front rest spans stop some h f o =
 
 told_none : (text front : List ℕ) (stop : Option Fault) → Split text front [] [] → Ends text front [] [] stop → items text ≡ ([], stop)
 told_none text front stop h (inl o) = absurd (o.1 refl)
-told_none text front stop h (inr o) = grind (arith, common_steps, (front_begins text front [] [] h ∙ ap (λ (x : List ℕ). x ++ []) h.read.each), items-nothing, is_start)
+told_none text front stop h (inr o) = grind (arith, common_steps, (front_begins text front [] [] h ∙ ap (λ (x : List ℕ). x ++ []) h.read.each), items-nothing)
 
 told_at : (text front rest : List ℕ) (spans : List Span) (stop : Option Fault) → Split text front spans rest → AllByRecursion Formed spans → Ends text front spans rest stop → items text ≡ (spans, stop)
 told_at text front [] [] stop h f o = told_none text front stop h o

@@ -8,7 +8,7 @@ use Rattle.humantime.specs.Durations.Limits.{Formed}
 use Rattle.humantime.specs.Durations.Rests.{after_number, fraction_at, past_fraction, after_fraction, word_of, after_word, span_of}
 use Rattle.humantime.specs.Durations.Faults.{MayFollowWord}
 use Rattle.humantime.proofs.Durations.Reading.Classes.{digit_is_numeric, is_point-true}
-use Rattle.humantime.proofs.Durations.Reading.Runs.{leading-past, Only-leading, ends_Only, ends-append, append_not_nil}
+use Rattle.humantime.proofs.Durations.Reading.Runs.{leading-past, Only-leading, ends_Only, ends-append}
 use Rattle.humantime.proofs.Durations.Reading.Spelled.{next_of, IsSpanAt}
 use Rattle.humantime.proofs.Durations.Reading.Stopping.{Fine, some_letters}
 
@@ -47,7 +47,7 @@ together : (rest a m b tail w n c next : List ℕ) → rest ≡ a ++ m → m ≡
 together rest a m b tail w n c next p q r s = rw (p, q, r, s) (simp append_assoc)
 
 space_last : (a b w c : List ℕ) → c ≢ [] → Only is_ws c → ends is_ws (a ++ (b ++ (w ++ c))) ≡ true
-space_last a b w c some h = grind (arith, common_steps, append_not_nil, ends-append, ends_Only)
+space_last a b w c some h = grind (arith, common_steps, ends-append, ends_Only)
 
 -- a spelling has a digit and a letter
 pub spelling_some : (text rest : List ℕ) (s : Span) → Spells text s rest → 1 < length text

@@ -36,7 +36,7 @@ lends_left n text rest h = grind (arith, common_steps, lends_enough)
 -- what is left at a rest: its span and what is left after it, or the fault at which it stops, or that no number is there
 left_fine : (first : Bool) (text rest : List ℕ) → begins is_digit rest ≡ true → stop_at text rest ≡ None → left_at first text rest ≡ Ok (lent_at text rest) ∷ left_at false text (next_of rest)
 left_fine first text [] d s = cc
-left_fine first text (c ∷ cs) d s = grind (arith, common_steps, (next_smaller (c ∷ cs) d), lends-fine, lends_left, next_of)
+left_fine first text (c ∷ cs) d s = grind (arith, common_steps, (next_smaller (c ∷ cs) d), lends-fine, lends_left)
 
 -- the items that are left before a text whose white space is still to be passed, unless they have ended
 abbrev pub left : Bool → Bool → List ℕ → List ℕ → List (Result Lent Fault)

@@ -107,7 +107,7 @@ lent_from (suc n) text (c ∷ cs) = by (turn text (c ∷ cs)) (lent_from n text 
 
 lent_all : (text rest : List ℕ) → LentFrom text rest (unread (length rest) text rest) (left_at true text rest) (items_from text rest)
 unfolding unread
-lent_all text rest = grind (arith, common_steps, lent_none, lent_from)
+lent_all text rest = grind (arith, common_steps, lent_from)
 
 pub are_items : (text : List ℕ) → AreItems text (lent_items text)
 unfolding items
@@ -126,7 +126,7 @@ are_items text =
 
 -- two lists that lend the same spans and stop alike are one
 same_lent : (text : List ℕ) (xs ys : List (Result Lent Fault)) (a : AreItems text xs) (b : AreItems text ys) → a.spans ≡ b.spans → a.stop ≡ b.stop → xs ≡ ys
-same_lent text xs ys a b p q = grind (arith, common_steps, front_begins, one_each)
+same_lent text xs ys a b p q = grind (arith, common_steps, one_each)
 
 -- the spans and the stop are those that are read
 told_items : (text : List ℕ) (xs : List (Result Lent Fault)) (a : AreItems text xs) → items text ≡ (a.spans, a.stop)

@@ -30,7 +30,7 @@ begins_first p xs ys e = begins-append p xs ys (begins_not_nil p xs e) ∙ e
 
 -- a text without the white space at its ends goes from its first digit to its last
 trimmed_is : (text slice : List ℕ) → IsDigitSlice text slice → trimmed text ≡ slice
-trimmed_is text slice h = grind (arith, common_steps, begins_other, digit_not_space, begins_first, past-append, drop_tail)
+trimmed_is text slice h = grind (arith, common_steps, digit_not_space, past-append, drop_tail)
 
 fraction_told : (b tail : List ℕ) (o f : Option (List ℕ)) → SpellsFraction b o → LendsFraction b f → begins is_letter tail ≡ true → f ≡ fraction_slice (b ++ tail)
 fraction_told b tail None None h k e = sym (ap (λ (l : List ℕ). fraction_slice (l ++ tail)) h ∙ no_slice tail e)
@@ -61,9 +61,6 @@ told text rest s x next h =
       starts = ap (begins is_digit) k.whole ∙ begins_first is_digit k.number_text (k.fraction_text ++ (s.word ++ (k.space ++ next))) k.starts;
     }
 
-lent_same : (x y : Lent) → x.number ≡ y.number → x.fraction ≡ y.fraction → x.unit ≡ y.unit → x.start ≡ y.start → x.end ≡ y.end → x.value ≡ y.value → x ≡ y
-lent_same x y a b c d e f = λ i. record { number = a i; fraction = b i; unit = c i; start = d i; end = e i; value = f i }
-
 each_starts : (text rest : List ℕ) (s : Span) (ss : List Span) (xs : List Lent) (end : List ℕ) → LendsEach text rest (s ∷ ss) xs end → begins is_digit rest ≡ true
 each_starts text rest s ss xs end h = grind (arith, common_steps)
 
@@ -76,7 +73,7 @@ record SameLent (x y : Lent) (t u : List ℕ) : Type 0 where
   left : t ≡ u
 
 one_span : (text rest : List ℕ) (s : Span) (x y : Lent) (m n : List ℕ) (h : IsLent text rest s x m) (k : IsLent text rest s y n) → SameLent x y (h.spelled.space ++ m) (k.spelled.space ++ n)
-one_span text rest s x y m n h k = grind (arith, common_steps, (told text rest s x m h), (told text rest s y n k), (append_cancel_left x.unit (h.spelled.space ++ m) (k.spelled.space ++ n) (sym (told text rest s x m h).left ∙ (told text rest s y n k).left ∙ ap (λ (w : List ℕ). w ++ (k.spelled.space ++ n)) (sym (h.unit ∙ sym k.unit)))), lent_same)
+one_span text rest s x y m n h k = grind (arith, common_steps, (told text rest s x m h), (told text rest s y n k), (append_cancel_left x.unit (h.spelled.space ++ m) (k.spelled.space ++ n) (sym (told text rest s x m h).left ∙ (told text rest s y n k).left ∙ ap (λ (w : List ℕ). w ++ (k.spelled.space ++ n)) (sym (h.unit ∙ sym k.unit)))))
 
 no_spans : (text m n : List ℕ) (xs ys : List Lent) (d e : List ℕ) → LendsEach text m [] xs d → LendsEach text n [] ys e → xs ≡ ys
 no_spans text m n xs ys d e h k = grind (arith, common_steps)

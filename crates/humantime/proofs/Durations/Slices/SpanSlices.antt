@@ -1,6 +1,6 @@
 -- What the span at a rest lends of the text.
 use Rattle.std.proofs.lemmas.Grind.{common_steps}
-use Rattle.std.proofs.Common.{◌≡◌, ◌≢◌, ℕ, Bool, true, false, if◌then◌else◌, List, [], ◌∷◌, ◌++◌, Option, None, refl, sym, ap, subst, ◌∙◌, ◌<◌, length, encode_utf8_all, append_assoc, length-append, arith}
+use Rattle.std.proofs.Common.{◌≡◌, ◌≢◌, ℕ, Bool, true, false, if◌then◌else◌, List, [], ◌∷◌, ◌++◌, Option, None, refl, sym, ap, subst, ◌∙◌, ◌<◌, length, append_assoc, length-append, arith}
 use Rattle.std.proofs.lemmas.List.{append_cancel_left}
 use Rattle.std.proofs.lemmas.Str.{encodes-append, length-le-encodes}
 use Rattle.humantime.specs.Durations.Characters.{is_ws, is_digit, is_letter, is_numeric, is_point, begins, leading, past, digits, byte_length, offset_of}
@@ -59,7 +59,7 @@ word_front rest b =
     (number ++ (middle ++ word_of rest), whole ∙ simp (← append_assoc), omega (arith, length-append number (middle ++ word_of rest)))
 
 pub next_bytes : (rest : List ℕ) → begins is_digit rest ≡ true → byte_length (after_word rest) < byte_length rest
-next_bytes rest b = grind (arith, common_steps, word_front, encode_utf8_all, encodes-append, length-append, length-le-encodes)
+next_bytes rest b = grind (arith, common_steps, word_front, encodes-append, length-le-encodes)
 
 -- where nothing stops, the span is well formed
 fine_at : (text rest : List ℕ) → begins is_digit rest ≡ true → stop_at text rest ≡ None → Fine rest

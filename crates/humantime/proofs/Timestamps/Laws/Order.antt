@@ -9,7 +9,6 @@ use Rattle.std.specs.Cmp.Lexicographic.{slice_cmp}
 use Rattle.std.specs.Ordering.{nat_cmp, int_cmp, ordering_then}
 use Rattle.std.specs.Str.Parse.{digits_value_after}
 use Rattle.std.proofs.lemmas.Bool.Decides.{nat_tests}
-use Rattle.std.proofs.lemmas.Str.{digit_value_digit}
 use Rattle.humantime.specs.declared.calendar.Date.{Date}
 use Rattle.humantime.specs.Calendar.Dates.{IsDate, day_of}
 use Rattle.humantime.specs.Timestamps.Digits.{two_digits, four_digits, AreDigits}
@@ -19,9 +18,6 @@ use Rattle.humantime.specs.Laws.Timestamps.{InOrder}
 use Rattle.humantime.proofs.Dates.DaysOfDates.{before_year, before_month}
 use Rattle.humantime.proofs.Dates.Years.{valid_told}
 use Rattle.humantime.proofs.Timestamps.Reading.Fractions.{nanos_bound}
-
-cmp_equal : (x y : ℕ) → x ≡ y → nat_cmp x y ≡ Equal
-cmp_equal x y h = grind (arith, nat_tests)
 
 -- two pairs of numbers that are compared alike
 abbrev Alike : ℕ → ℕ → ℕ → ℕ → Type 0
@@ -59,7 +55,7 @@ four_cmp m n xs ys = grind (arith, common_steps)
 
 after_cmp : (ds : List ℕ) (m n : ℕ) → nat_cmp m n ≡ nat_cmp (digits_value_after 10 m ds) (digits_value_after 10 n ds)
 after_cmp [] m n = refl
-after_cmp (c ∷ cs) m n = grind (arith, common_steps, (after_cmp cs (m * 10 + digit_value c) (n * 10 + digit_value c)), cmp_alike)
+after_cmp (c ∷ cs) m n = grind (arith, common_steps, (after_cmp cs (m * 10 + digit_value c) (n * 10 + digit_value c)))
 
 -- equally many digits, filled with others
 filled_cmp : (k : ℕ) (ds es zs ws : List ℕ) (m n : ℕ) → AreDigits ds → AreDigits es → length ds ≡ length es → length ds ≤ k
@@ -69,7 +65,7 @@ filled_cmp k [] [] zs ws m n d e long room = ap (λ (c : Ordering). ordering_the
 filled_cmp k [] (y ∷ ys) zs ws m n d e long room = absurd (omega arith)
 filled_cmp k (x ∷ xs) [] zs ws m n d e long room = absurd (omega arith)
 filled_cmp zero (x ∷ xs) (y ∷ ys) zs ws m n d e long room = absurd (omega arith)
-filled_cmp (suc k) (x ∷ xs) (y ∷ ys) zs ws m n d e long room = grind (arith, common_steps, (filled_cmp k xs ys zs ws (m * 10 + digit_value x) (n * 10 + digit_value y) d.1 e.1 (omega arith) (omega arith)), digit_value_digit, cmp_alike, mixed_cmp)
+filled_cmp (suc k) (x ∷ xs) (y ∷ ys) zs ws m n d e long room = grind (arith, common_steps, (filled_cmp k xs ys zs ws (m * 10 + digit_value x) (n * 10 + digit_value y) d.1 e.1 (omega arith) (omega arith)))
 
 nanos_cmp : (ds es ws : List ℕ) → AreDigits ds → AreDigits es → length ds ≡ length es → length ds ≤ 9
     → slice_cmp nat_cmp (ds ++ ws) (es ++ ws) ≡ ordering_then (nat_cmp (fraction_nanos ds) (fraction_nanos es)) (slice_cmp nat_cmp ws ws)
@@ -78,7 +74,7 @@ nanos_cmp ds es ws d e long room = filled_cmp 9 ds es (codes "000000000") ws 0 0
 
 fraction_cmp : (k : ℕ) (p q : Option (List ℕ)) → k ≤ 9 → HasPlaces p k → HasPlaces q k → AreDigits (fraction_digits p) → AreDigits (fraction_digits q)
     → slice_cmp nat_cmp (fraction_text p ++ codes "Z") (fraction_text q ++ codes "Z") ≡ nat_cmp (fraction_nanos (fraction_digits p)) (fraction_nanos (fraction_digits q))
-fraction_cmp k p q h e f g i = grind (arith, common_steps, cmp_equal, nanos_cmp, then_equal)
+fraction_cmp k p q h e f g i = grind (arith, common_steps, nanos_cmp)
 
 -- dates and their days
 day_cmp : (a b : Date) (o : Ordering) → IsDate a → IsDate b

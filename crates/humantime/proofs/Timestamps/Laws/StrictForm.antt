@@ -1,10 +1,9 @@
 -- A text in strict form is one in weak form with a `T` and a zone at its end.
 use Rattle.std.proofs.lemmas.Grind.{common_steps}
-use Rattle.std.proofs.Common.{◌≡◌, ◌≢◌, ℕ, ◌≤◌, List, [], ◌++◌, length, refl, sym, ap, subst, ◌∙◌, arith, length-append}
+use Rattle.std.proofs.Common.{◌≡◌, ◌≢◌, ℕ, List, [], ◌++◌, sym, ap, subst, ◌∙◌, arith}
 use Rattle.std.specs.Prelude.{true, slice_index}
 use Rattle.std.specs.List.{AllByRecursion}
-use Rattle.std.proofs.lemmas.Bool.{and_parts, and_from, eqb-true, eq-eqb, le-leb}
-use Rattle.humantime.specs.Timestamps.Fields.{Separator, Letter_T, Zone, Nothing, Letter_Z, Offset, Fields, separator_byte, fraction_text, zone_text, time_text, IsWeak, IsStrict}
+use Rattle.humantime.specs.Timestamps.Fields.{Separator, Letter_T, Zone, Nothing, Fields, separator_byte, fraction_text, zone_text, time_text, IsWeak, IsStrict}
 use Rattle.humantime.specs.Timestamps.Checks.{ends_in_zone, is_complete}
 use Rattle.humantime.specs.Laws.Timestamps.{StrictIsWeak}
 use Rattle.humantime.proofs.Timestamps.Reading.Bytes.{holds_before_zone, all_append}
@@ -19,11 +18,6 @@ has_zone b f w h none =
 
 zone_ends : (xs : List ℕ) (z : Zone) → z ≢ Nothing → ends_in_zone (xs ++ zone_text z) ≡ true
 zone_ends xs z h = grind (arith, common_steps)
-
-zone_length : (z : Zone) → z ≢ Nothing → 1 ≤ length (zone_text z)
-zone_length Nothing some = absurd (some refl)
-zone_length Letter_Z some = omega arith
-zone_length Offset some = omega arith
 
 letter_told : (s : Separator) → separator_byte s ≡ 84 → s ≡ Letter_T
 letter_told s h = grind (arith, common_steps)
@@ -42,8 +36,8 @@ strict_is_weak b f = (
 -- the check of the strict form
 pub strict_complete : (b : List ℕ) (f : Fields) → IsStrict b f → is_complete b ≡ true
 unfolding is_complete
-strict_complete b f s = grind (arith, common_steps, strict_is_weak, zone_length, length-append, le-leb, and_from, eq-eqb)
+strict_complete b f s = grind (arith, common_steps, strict_is_weak)
 
 pub complete_strict : (b : List ℕ) (f : Fields) → is_complete b ≡ true → IsWeak b f → IsStrict b f
 unfolding is_complete
-complete_strict b f h w = grind (arith, common_steps, and_parts, strict_is_weak, eqb-true)
+complete_strict b f h w = grind (arith, common_steps, strict_is_weak)

@@ -78,7 +78,7 @@ pub shown_places : (k n : ℕ) → k ≤ 9 → HasPlaces (cut_fraction n k) k
 shown_places k n h = grind (arith, common_steps)
 
 pub shown_nanos : (k n : ℕ) → k ≤ 9 → n < 1_000_000_000 → fraction_nanos (fraction_digits (cut_fraction n k)) ≡ n - n % 10 ^ (9 - k)
-shown_nanos k n small h = grind (arith, common_steps, (sum_of_digits k 9 n 0 small), (rw (nine_is n h) at (sum_of_digits k 9 n 0 small)), fraction_is, nanos_added, first_are_digits)
+shown_nanos k n small h = grind (arith, common_steps, (rw (nine_is n h) at (sum_of_digits k 9 n 0 small)), nanos_added, first_are_digits)
 
 -- cutting a moment cuts its nanoseconds
 pub cut_nanos : (k s n : ℕ) → k ≤ 9

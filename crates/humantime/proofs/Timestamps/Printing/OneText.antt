@@ -4,7 +4,6 @@ use Rattle.std.proofs.Common.{◌≡◌, ℕ, zero, suc, ◌+◌, ◌*◌, ◌<�
 use Rattle.std.specs.Prelude.{min, codes, Option, ℤ, nat_abs}
 use Rattle.std.specs.Char.{digit_value}
 use Rattle.std.specs.Str.Parse.{digits_value_after}
-use Rattle.std.proofs.lemmas.Str.{digit_value_digit}
 use Rattle.humantime.specs.Calendar.Dates.{day_of}
 use Rattle.humantime.specs.Timestamps.Digits.{AreDigits}
 use Rattle.humantime.specs.Timestamps.Fields.{fraction_digits, fraction_nanos, fields_text}
@@ -23,7 +22,7 @@ same_filled k [] [] zs m n d e long room h = (after_same (take k zs) m n h, refl
 same_filled k [] (y ∷ ys) zs m n d e long room h = absurd (omega arith)
 same_filled k (x ∷ xs) [] zs m n d e long room h = absurd (omega arith)
 same_filled zero (x ∷ xs) (y ∷ ys) zs m n d e long room h = absurd (omega arith)
-same_filled (suc k) (x ∷ xs) (y ∷ ys) zs m n d e long room h = grind (arith, common_steps, (same_filled k xs ys zs (m * 10 + digit_value x) (n * 10 + digit_value y) d.1 e.1 (omega arith) (omega arith) h), digit_value_digit)
+same_filled (suc k) (x ∷ xs) (y ∷ ys) zs m n d e long room h = grind (arith, common_steps, (same_filled k xs ys zs (m * 10 + digit_value x) (n * 10 + digit_value y) d.1 e.1 (omega arith) (omega arith) h))
 
 same_nanos : (ds es : List ℕ) → AreDigits ds → AreDigits es → length ds ≡ length es → length ds ≤ 9 → fraction_nanos ds ≡ fraction_nanos es → ds ≡ es
 unfolding fraction_nanos

@@ -2,7 +2,7 @@
 use Rattle.std.proofs.lemmas.Grind.{common_steps}
 use Rattle.std.proofs.Common.{◌≡◌, ℕ, zero, suc, ◌+◌, ◌*◌, ◌/◌, ◌%◌, ◌<◌, ◌≤◌, List, [], ◌∷◌, ◌++◌, take, drop, length, get_or, refl, ap, arith}
 use Rattle.std.specs.Prelude.{Bool, true, false, ◌&&◌, ◌==◌, codes, slice_set}
-use Rattle.std.proofs.lemmas.Bool.{and_parts, eqb-true}
+use Rattle.std.proofs.lemmas.Bool.{and_parts}
 
 abbrev pairs : List ℕ
 pairs = codes "00010203040506070809101112131415161718192021222324252627282930313233343536373839404142434445464748495051525354555657585960616263646566676869707172737475767778798081828384858687888990919293949596979899"
@@ -21,7 +21,7 @@ record IsPairAt (xs : List ℕ) (i n : ℕ) : Type 0 where
 pair_at : (xs : List ℕ) (k i : ℕ) → are_pairs k xs ≡ true → i * 2 < length xs → IsPairAt xs (i * 2) (k + i)
 pair_at [] k i h within = absurd (omega arith)
 pair_at (a ∷ []) k i h within = absurd (cc)
-pair_at (a ∷ b ∷ rest) k zero h within = grind (arith, common_steps, and_parts, eqb-true)
+pair_at (a ∷ b ∷ rest) k zero h within = grind (arith, common_steps)
 pair_at (a ∷ b ∷ rest) k (suc i) h within =
     let p = and_parts ((a == 48 + k / 10) && (b == 48 + k % 10)) (are_pairs (suc k) rest) h in
     let next : suc i * 2 ≡ suc (suc (i * 2)) = omega arith in

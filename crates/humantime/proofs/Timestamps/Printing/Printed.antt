@@ -1,6 +1,6 @@
 -- What the printer shows is the printed text of the moment, and the only one.
 use Rattle.std.proofs.lemmas.Grind.{common_steps}
-use Rattle.std.proofs.Common.{◌≡◌, ℕ, ◌+◌, ◌-◌, ◌*◌, ◌/◌, ◌%◌, ◌^◌, ◌<◌, ◌≤◌, List, ◌++◌, refl, ap, subst, ◌∙◌, arith}
+use Rattle.std.proofs.Common.{◌≡◌, ℕ, ◌+◌, ◌-◌, ◌*◌, ◌/◌, ◌%◌, ◌^◌, ◌<◌, ◌≤◌, List, refl, ap, subst, ◌∙◌, arith}
 use Rattle.std.specs.Prelude.{◌↔◌, Bool, true, false, Some, None, ℤ, pos, negsuc, nat_lt, IsAscii, if◌then◌else◌}
 use Rattle.std.specs.List.{AllByRecursion}
 use Rattle.std.proofs.Math.Nat.{mod-le}
@@ -11,10 +11,10 @@ use Rattle.humantime.specs.declared.date.print.DateTime.{DateTime}
 use Rattle.humantime.specs.declared.date.print.Precision.{Precision}
 use Rattle.humantime.specs.declared.date.print.Rfc3339Timestamp.{Rfc3339Timestamp}
 use Rattle.humantime.specs.References.Calendar.DatesOfDays.{date_of}
-use Rattle.humantime.specs.Timestamps.Fields.{fields_text, time_text, fraction_text, zone_text, moment_of}
+use Rattle.humantime.specs.Timestamps.Fields.{fields_text, moment_of}
 use Rattle.humantime.specs.Timestamps.Printed.{cut, IsPrinted, IsPrintable, ReadsAs, OnePrinted}
 use Rattle.humantime.specs.References.Timestamps.Printing.{places, moment_kept, places_kept, places_of, fields_shown, fields_at, IsDateTimeOf, IsTextOf, printed_text, moment_text}
-use Rattle.humantime.proofs.Timestamps.Reading.Bytes.{HoldsOfBytes, holds_before_zone, all_append}
+use Rattle.humantime.proofs.Timestamps.Reading.Bytes.{HoldsOfBytes, holds_before_zone}
 use Rattle.humantime.proofs.Dates.DatesOfDays.{date_of_is}
 use Rattle.humantime.proofs.Timestamps.Printing.Digits.{shown_digits, shown_places, shown_nanos, cut_nanos}
 use Rattle.humantime.proofs.Timestamps.Printing.OneText.{same_printed}
@@ -72,7 +72,7 @@ ascii_from : (bs : List ℕ) → AllByRecursion (λ c. c < 128) bs → IsAscii b
 ascii_from bs h = grind (arith, common_steps)
 
 pub printed_ascii : (t : ℤ) (k : ℕ) (text : List ℕ) → IsPrinted t k text → IsAscii text
-printed_ascii t k text p = grind (arith, common_steps, (holds_before_zone (λ c. c < 128) ascii_bytes text p.fields p.weak), (all_append (λ c. c < 128) (time_text p.fields ++ fraction_text (p.fields).fraction) (zone_text (p.fields).zone) (holds_before_zone (λ c. c < 128) ascii_bytes text p.fields p.weak) (rw p.zone (omega arith, tt))), ascii_from)
+printed_ascii t k text p = grind (arith, common_steps, (holds_before_zone (λ c. c < 128) ascii_bytes text p.fields p.weak), ascii_from)
 
 -- the date and the time of a moment of 1970 to 9999
 date_time_of : ℕ → DateTime

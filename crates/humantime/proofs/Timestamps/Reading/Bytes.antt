@@ -1,12 +1,10 @@
 -- What holds of digits and signs holds of each byte of a timestamp.
 use Rattle.std.proofs.lemmas.Grind.{common_steps}
-use Rattle.std.proofs.Common.{ℕ, ◌+◌, ◌/◌, ◌%◌, ◌≤◌, List, [], ◌∷◌, ◌++◌, drop, arith}
+use Rattle.std.proofs.Common.{ℕ, List, [], ◌∷◌, ◌++◌, drop, arith}
 use Rattle.std.specs.Int.{IsInRange}
 use Rattle.std.specs.List.{AllByRecursion}
 use Rattle.humantime.specs.Timestamps.Digits.{AreDigits}
-use Rattle.humantime.specs.Timestamps.Fields.{Separator, Fields, separator_byte, fraction_text, time_text, IsWeak}
-use Rattle.humantime.proofs.Dates.Years.{valid_told}
-use Rattle.humantime.proofs.Timestamps.Reading.Passed.{month_most}
+use Rattle.humantime.specs.Timestamps.Fields.{Fields, fraction_text, time_text, IsWeak}
 
 pub all_append : (P : ℕ → Type 0) (xs ys : List ℕ) → AllByRecursion P xs → AllByRecursion P ys → AllByRecursion P (xs ++ ys)
 all_append P xs ys h k = grind (arith, common_steps)
@@ -30,4 +28,4 @@ digits_hold P h (c ∷ cs) digits = (h.digit c digits.0, digits_hold P h cs digi
 -- of all bytes before the zone
 pub holds_before_zone : (P : ℕ → Type 0) → HoldsOfBytes P → (text : List ℕ) (f : Fields) → IsWeak text f
     → AllByRecursion P (time_text f ++ fraction_text f.fraction)
-holds_before_zone P p text f w = grind (arith, common_steps, month_most, valid_told, digits_hold)
+holds_before_zone P p text f w = grind (arith, common_steps, digits_hold)

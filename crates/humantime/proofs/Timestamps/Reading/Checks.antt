@@ -2,9 +2,7 @@
 use Rattle.std.proofs.lemmas.Grind.{common_steps}
 use Rattle.std.proofs.Common.{◌≡◌, ℕ, ◌≤◌, List, ◌∷◌, ◌++◌, length, get_or, drop, refl, arith}
 use Rattle.std.specs.Prelude.{true, ◌||◌, ◌==◌, slice_index, None, if◌then◌else◌}
-use Rattle.std.proofs.Math.Seq.{drop-cons}
-use Rattle.std.proofs.Math.Bool.{and_assoc, and-true}
-use Rattle.std.proofs.lemmas.Bool.{and_parts, eqb-true}
+use Rattle.std.proofs.lemmas.Bool.{and_parts}
 use Rattle.std.proofs.lemmas.Slice.Eq.{bytes_eq-Decides}
 use Rattle.humantime.specs.Timestamps.Digits.{AreDigits}
 use Rattle.humantime.specs.Timestamps.Fields.{Letter_T, Space, separator_byte, fraction_text, fraction_digits, zone_text}
@@ -51,11 +49,11 @@ pub record Pairs (b : List ℕ) : Type 0 where
 
 pub pairs_told : (b : List ℕ) → has_digits b ≡ true → Pairs b
 unfolding has_digits has_two
-pairs_told b h = grind (arith, common_steps, and_parts, and_assoc, and-true)
+pairs_told b h = grind (arith, common_steps, and_parts)
 
 pub pairs_from : (b : List ℕ) → Pairs b → has_digits b ≡ true
 unfolding has_digits has_two
-pairs_from b p = grind (arith, common_steps, and_assoc, and-true)
+pairs_from b p = grind (arith, common_steps)
 
 pub separator_shown : (c : ℕ) → ((c == 84) || (c == 32)) ≡ true → c ≡ separator_byte (if c == 84 then Letter_T else Space)
 separator_shown c h = grind (arith, common_steps)
@@ -66,7 +64,7 @@ zone_shown z h = grind (arith, common_steps, bytes_eq-Decides, common_steps)
 -- what stands after date and time
 pub end_shown : (b : List ℕ) → ends_whole b ≡ true → ends_fraction b ≡ true → drop 19 b ≡ fraction_text (fraction_read b) ++ zone_text (zone_at b)
 unfolding ends_fraction ends_whole
-end_shown b whole fraction = grind (arith, common_steps, drop-cons, eqb-true, front_past, zone_shown)
+end_shown b whole fraction = grind (arith, common_steps, front_past, zone_shown)
 
 pub fraction_at_digits : (b : List ℕ) → AreDigits (fraction_digits (fraction_read b))
 fraction_at_digits b = grind (arith, common_steps, front_are_digits)

@@ -1,21 +1,16 @@
 -- The zone at the end of a text.
 use Rattle.std.proofs.lemmas.Grind.{common_steps}
-use Rattle.std.proofs.Common.{◌≡◌, ◌≢◌, ℕ, ◌+◌, ◌-◌, ◌*◌, ◌<◌, ◌≤◌, List, [], ◌∷◌, ◌++◌, length, get_or, take, drop, refl, sym, ap, ◌∙◌, append-nil, append_assoc, Fits, w8, arith}
-use Rattle.std.specs.Prelude.{Bool, true, false, ◌&&◌, ◌==◌, codes, nat_eq, nat_lt, slice_index}
+use Rattle.std.proofs.Common.{◌≡◌, ◌≢◌, ℕ, ◌+◌, ◌-◌, ◌*◌, ◌<◌, ◌≤◌, List, [], ◌∷◌, ◌++◌, length, get_or, take, drop, sym, ap, ◌∙◌, append_assoc, Fits, w8, arith}
+use Rattle.std.specs.Prelude.{true, false, ◌&&◌, ◌==◌, codes, nat_eq, nat_lt, slice_index}
 use Rattle.std.specs.List.{AllByRecursion, ends_with}
 use Rattle.std.specs.Str.{bytes_eq}
 use Rattle.std.proofs.lemmas.Bool.Decides.{nat_tests}
-use Rattle.std.proofs.lemmas.List.Prefix.{end_rest}
-use Rattle.std.proofs.lemmas.Slice.Eq.{bytes_eq-Decides}
 use Rattle.humantime.specs.Timestamps.Fields.{Zone, Nothing, Letter_Z, Offset, zone_text}
 use Rattle.humantime.specs.Timestamps.Checks.{is_zone, ends_in_zone}
 use Rattle.humantime.specs.References.Timestamps.Reading.{zone_length}
-use Rattle.humantime.proofs.Timestamps.Reading.Bytes.{HoldsOfBytes, all_drop}
+use Rattle.humantime.proofs.Timestamps.Reading.Bytes.{HoldsOfBytes}
 
 -- ---- A text at the end of another
-
-pub end_from : (xs e : List ℕ) → ends_with nat_eq (xs ++ e) e ≡ true
-end_from xs e = (bytes_eq-Decides e (drop (length (xs ++ e) - length e) (xs ++ e))).1 (sym (end_rest (xs ++ e) e xs refl))
 
 -- ---- `Z` and `+00:00`
 
@@ -55,29 +50,20 @@ IsPlain c = (c ≢ 43) × (c ≢ 90)
 pub plain_bytes : HoldsOfBytes IsPlain
 plain_bytes = grind (arith, common_steps)
 
-no_letter_end : (b : List ℕ) → AllByRecursion IsPlain b → ends_with nat_eq b (codes "Z") ≡ true → ⊥
-no_letter_end b plain z = grind (arith, common_steps, all_drop, bytes_eq-Decides)
-
-no_offset_end : (b : List ℕ) → AllByRecursion IsPlain b → ends_with nat_eq b (codes "+00:00") ≡ true → ⊥
-no_offset_end b plain offset = grind (arith, common_steps, all_drop, bytes_eq-Decides)
-
 -- without a zone there is no `Z` and no `+`, so no zone at the end
 pub plain_end : (b : List ℕ) → AllByRecursion IsPlain b → ends_in_zone b ≡ true → ⊥
 plain_end b plain h = grind (arith, common_steps)
 
-false_unless : (t : Bool) → (t ≡ true → ⊥) → t ≡ false
-false_unless t h = grind (arith, common_steps)
-
 -- an offset has no `Z` at its end
 offset_end : (xs : List ℕ) → ends_with nat_eq (xs ++ codes "+00:00") (codes "Z") ≡ true → ⊥
-offset_end xs z = grind (arith, common_steps, (sym (append_assoc xs (codes "+00:0") (codes "0"))), (end_rest (xs ++ codes "+00:00") (codes "0") (xs ++ codes "+00:0") (sym (append_assoc xs (codes "+00:0") (codes "0")))))
+offset_end xs z = grind (arith, common_steps, (sym (append_assoc xs (codes "+00:0") (codes "0"))))
 
 -- behind plain bytes the zone is found
 pub zone_length_of : (xs : List ℕ) (z : Zone) → AllByRecursion IsPlain xs → zone_length (xs ++ zone_text z) ≡ length (zone_text z)
 unfolding zone_length
-zone_length_of xs Nothing plain = grind (arith, common_steps, (append-nil xs), (false_unless (ends_with nat_eq xs (codes "Z")) (no_letter_end xs plain)), (false_unless (ends_with nat_eq xs (codes "+00:00")) (no_offset_end xs plain)))
-zone_length_of xs Letter_Z plain = grind (arith, common_steps, end_from)
-zone_length_of xs Offset plain = grind (arith, common_steps, false_unless, end_from, offset_end)
+zone_length_of xs Nothing plain = grind (arith, common_steps)
+zone_length_of xs Letter_Z plain = grind (arith, common_steps)
+zone_length_of xs Offset plain = grind (arith, common_steps, offset_end)
 
 -- ---- `+00:00` as two numbers
 

@@ -5,7 +5,7 @@ use Rattle.std.specs.Prelude.{Bool, true, false, not, ◌&&◌, ◌||◌, ℤ, p
 use Rattle.std.specs.List.{AllByRecursion}
 use Rattle.std.proofs.Math.Seq.{drop-cons}
 use Rattle.std.proofs.lemmas.Bool.{le-leb, lt-leb, eqb-true}
-use Rattle.std.proofs.lemmas.List.{drop-drop, get_or-drop, take_at, take_rest}
+use Rattle.std.proofs.lemmas.List.{drop-drop, get_or-drop, take_at}
 use Rattle.std.proofs.lemmas.List.Folds.{drop_split}
 use Rattle.humantime.specs.declared.date.error.TimestampError.{TimestampError}
 use Rattle.humantime.specs.declared.date.error.TimestampError.TheVariants.{OutOfRange, InvalidDigit, InvalidFormat}
@@ -72,19 +72,15 @@ rest_of b = take (length b - 19) (drop 19 b)
 
 pub exit_err : (b : List ℕ) (e : TimestampError) → Begins b → end_answer (rest_of b) ≡ Err e → Err e ≡ weak_answer b
 unfolding with_seconds
-exit_err b e h end = grind (arith, common_steps, take_rest, begun, with_seconds)
+exit_err b e h end = grind (arith, common_steps, begun)
 
 pub exit_ok : (b : List ℕ) (secs nanos : ℕ) (t : ℤ) → Begins b → secs ≡ seconds_of (fields_of b) → end_answer (rest_of b) ≡ Ok nanos
     → t ≡ pos (secs * 1_000_000_000 + nanos) → Ok t ≡ weak_answer b
 unfolding with_seconds
-exit_ok b secs nanos t h seconds end moment = grind (arith, common_steps, take_rest, begun, with_seconds)
-
--- the ways out of the end
-is_end : (r : List ℕ) → is_zone r ≡ true → Ok 0 ≡ end_answer r
-is_end r zone = grind (arith, common_steps)
+exit_ok b secs nanos t h seconds end moment = grind (arith, common_steps, begun)
 
 pub exit_plain : (r : List ℕ) → length r - zone_length r ≡ 0 → Ok 0 ≡ end_answer r
-exit_plain r none = grind (arith, common_steps, (subst (λ (n : ℕ). is_zone (drop n r) ≡ true) none (zone_behind r)), is_end)
+exit_plain r none = grind (arith, common_steps, (subst (λ (n : ℕ). is_zone (drop n r) ≡ true) none (zone_behind r)))
 
 abbrev whole : Bool → Result ℕ TimestampError
 whole t = if t then Ok 0 else Err InvalidFormat

@@ -8,8 +8,6 @@ use Rattle.std.specs.Str.Parse.{digits_value_after}
 use Rattle.std.proofs.Math.Nat.{pow-suc, mul-le-mul_left, div-div-eq-div-mul, pow-le-pow_right, div-eq_of_lt}
 use Rattle.std.proofs.Math.Seq.{drop-cons}
 use Rattle.std.proofs.lemmas.Bool.Decides.{nat_tests}
-use Rattle.std.proofs.lemmas.List.{drop_all}
-use Rattle.std.proofs.lemmas.Str.{digit_value_digit}
 use Rattle.humantime.specs.Timestamps.Digits.{AreDigits}
 use Rattle.humantime.specs.Timestamps.Fields.{fraction_nanos}
 use Rattle.humantime.specs.Timestamps.Checks.{past_digits}
@@ -28,7 +26,7 @@ is_digit_from c h = grind (arith, nat_tests)
 
 pub front_are_digits : (cs : List ℕ) → AreDigits (front_digits cs)
 front_are_digits [] = tt
-front_are_digits (c ∷ cs) = grind (arith, common_steps, (front_are_digits cs), is_digit_told)
+front_are_digits (c ∷ cs) = grind (arith, common_steps, (front_are_digits cs))
 
 zeros : ℕ → List ℕ
 zeros zero = []
@@ -44,13 +42,13 @@ zeros_read : (k n m : ℕ) → k ≤ n → digits_value_after 10 m (take k (zero
 unfolding zeros
 zeros_read zero n m h = omega arith
 zeros_read (suc k) zero m h = absurd (omega arith)
-zeros_read (suc k) (suc n) m h = grind (arith, common_steps, (zeros_read k n (m * 10 + 0) (omega arith)), zeros, pow-suc, weights)
+zeros_read (suc k) (suc n) m h = grind (arith, common_steps, (zeros_read k n (m * 10 + 0) (omega arith)), weights)
 
 -- the first k digits, filled with zeros, are the sum of the digits with their weights
 filled : (k n m : ℕ) (ds : List ℕ) → AreDigits ds → k ≤ n → digits_value_after 10 m (take k (ds ++ zeros n)) ≡ add_digits (m * 10 ^ k) (10 ^ k / 10) ds
 filled zero n m ds digits h = grind (arith, common_steps, add_nothing)
 filled (suc k) n m [] digits h = zeros_read (suc k) n m h
-filled (suc k) n m (c ∷ cs) digits h = grind (arith, common_steps, (filled k n (m * 10 + digit_value c) cs digits.1 (omega arith)), digit_value_digit, pow-suc, zeros, weights)
+filled (suc k) n m (c ∷ cs) digits h = grind (arith, common_steps, (filled k n (m * 10 + digit_value c) cs digits.1 (omega arith)), weights)
 
 nine_zeros : zeros 9 ≡ 48 ∷ 48 ∷ 48 ∷ 48 ∷ 48 ∷ 48 ∷ 48 ∷ 48 ∷ 48 ∷ []
 unfolding zeros
@@ -139,7 +137,7 @@ all_digits cs none = sym (front_past cs ∙ (ap (λ (end : List ℕ). front_digi
 
 pub read_all : (text : List ℕ) (i nanos : ℕ) → IsRead text i nanos → length text ≤ i
     → (past_digits text ≡ []) × (nanos ≡ fraction_nanos text)
-read_all text i nanos so_far end = grind (arith, common_steps, drop_all, all_digits)
+read_all text i nanos so_far end = grind (arith, common_steps, all_digits)
 
 add_bound : (ds : List ℕ) (n u : ℕ) → AreDigits ds → n < 1_000_000_000 → n + 10 * u ≤ 1_000_000_000 → add_digits n u ds < 1_000_000_000
 add_bound [] n u digits low room = low

@@ -1,22 +1,15 @@
 -- Sixteen bytes tested at once are tested one by one.
 use Rattle.std.proofs.lemmas.Grind.{common_steps}
-use Rattle.std.proofs.Common.{◌≡◌, ℕ, ◌+◌, ◌-◌, ◌*◌, ◌%◌, ◌^◌, ◌<◌, ◌≤◌, Bool, true, false, not, cond, eqb, ltb, ◌&&◌, List, [], ◌∷◌, map, length, get_or, take, Fits, w8, refl, ap, ◌∙◌, arith}
+use Rattle.std.proofs.Common.{◌≡◌, ℕ, ◌+◌, ◌-◌, ◌%◌, ◌^◌, ◌<◌, ◌≤◌, Bool, true, not, cond, eqb, ltb, ◌&&◌, List, [], ◌∷◌, map, length, get_or, take, Fits, w8, refl, ap, ◌∙◌, arith}
 use Rattle.std.specs.Char.{is_ascii_digit}
 use Rattle.std.specs.List.{list_all}
 use Rattle.std.specs.Prelude.{◌==◌, codes, slice_index}
-use Rattle.std.proofs.Math.Bool.{and_assoc, and-true, and-false}
-use Rattle.std.proofs.lemmas.Bool.{agree_below_at, eq-eqb, ne_eqb, cases_eq}
-use Rattle.std.proofs.lemmas.Simd.{mask_l-mod}
+use Rattle.std.proofs.Math.Bool.{and_assoc}
+use Rattle.std.proofs.lemmas.Bool.{agree_below_at}
 use lib.Lanes.{zip2, mask_l, top}
 use Rattle.humantime.specs.Timestamps.Checks.{has_signs, has_digits}
 use Rattle.humantime.specs.References.Timestamps.Reading.{has_two, has_front_digits, is_shaped_front, has_seconds, has_separator}
 use Rattle.humantime.proofs.Timestamps.Reading.Checks.{nineteen}
-
--- no bit is set exactly where no lane is
-none_set : (ms : List Bool) → eqb (mask_l ms) 0 ≡ list_all not ms
-none_set [] = refl
-none_set (true ∷ ms) = ne_eqb (1 + 2 * mask_l ms) 0 (λ h. absurd (omega arith))
-none_set (false ∷ ms) = grind (arith, common_steps, (none_set ms), (none_set ms), ne_eqb, cases_eq, eq-eqb)
 
 -- the least byte of each place, and how far a byte may be above it
 abbrev least : List ℕ
@@ -69,12 +62,12 @@ lanes_are b long fits =
     (shown 5) (shown 6) (shown 8) (shown 9) (shown 11) (shown 12) (shown 14) (shown 15)
 
 pub front_tested : (b : List ℕ) → 19 ≤ length b → ((k : ℕ) → Fits w8 (get_or b k 0)) → eqb (mask_l (lanes b) % 2 ^ 64) 0 ≡ is_shaped_front b
-front_tested b long fits = grind (arith, common_steps, nineteen, lanes_are, mask_l-mod, none_set)
+front_tested b long fits = grind (arith, common_steps, lanes_are)
 
 -- the tests of the parts are those of the signs and of the digits
 joined : (digits p q r s two : Bool) → ((digits && p && q && r) && (s && two)) ≡ ((p && q && true && r && s) && (digits && two))
-joined digits p q r s two = grind (arith, common_steps, and_assoc, and-true, and-false)
+joined digits p q r s two = grind (arith, common_steps, and_assoc)
 
 pub shape_of_parts : (b : List ℕ) → has_separator b ≡ true → (is_shaped_front b && has_seconds b) ≡ (has_signs b && has_digits b)
 unfolding has_digits has_front_digits has_seconds has_separator has_signs has_two is_shaped_front
-shape_of_parts b separator = grind (arith, common_steps, joined, and_assoc, and-true)
+shape_of_parts b separator = grind (arith, common_steps, joined)

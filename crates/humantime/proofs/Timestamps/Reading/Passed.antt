@@ -1,7 +1,7 @@
 -- A text that shows parts passes the checks, and the parts at its places are these.
 use Rattle.std.proofs.lemmas.Grind.{common_steps}
 use Rattle.std.proofs.Common.{◌≡◌, ℕ, ◌+◌, ◌/◌, ◌%◌, ◌≤◌, List, [], ◌∷◌, ◌++◌, length, drop, refl, sym, subst, arith}
-use Rattle.std.specs.Prelude.{Bool, true, false, not, ◌||◌, ◌==◌, slice_index, Option, Some, None, if◌then◌else◌}
+use Rattle.std.specs.Prelude.{Bool, true, not, ◌||◌, ◌==◌, slice_index, Option, Some, None, if◌then◌else◌}
 use Rattle.std.proofs.lemmas.Bool.{le-leb}
 use Rattle.humantime.specs.declared.calendar.Date.{Date}
 use Rattle.std.proofs.lemmas.Bool.Decides.{nat_tests}
@@ -13,7 +13,6 @@ use Rattle.humantime.specs.Timestamps.Checks.{number, is_zone, has_signs, ends_w
 use Rattle.humantime.specs.References.Timestamps.Reading.{has_two, front_digits, zone_of, fields_of, date_at}
 use Rattle.humantime.proofs.Dates.Years.{valid_told}
 use Rattle.humantime.proofs.Timestamps.Reading.Checks.{Passes, Pairs, pairs_from}
-use Rattle.humantime.proofs.Timestamps.Reading.Fractions.{is_digit_from}
 use Rattle.humantime.proofs.Timestamps.Reading.Places.{number_of_two, number_of_four, in_range_from}
 
 -- the digits of a number at its place, read back
@@ -36,13 +35,13 @@ pub past_back : (ds : List ℕ) (z : Zone) → AreDigits ds → past_digits (ds 
 past_back [] Nothing digits = refl
 past_back [] Letter_Z digits = refl
 past_back [] Offset digits = refl
-past_back (c ∷ cs) z digits = grind (arith, common_steps, (past_back cs z digits.1), is_digit_from)
+past_back (c ∷ cs) z digits = grind (arith, common_steps, (past_back cs z digits.1))
 
 pub front_back : (ds : List ℕ) (z : Zone) → AreDigits ds → front_digits (ds ++ zone_text z) ≡ ds
 front_back [] Nothing digits = refl
 front_back [] Letter_Z digits = refl
 front_back [] Offset digits = refl
-front_back (c ∷ cs) z digits = grind (arith, common_steps, (front_back cs z digits.1), is_digit_from)
+front_back (c ∷ cs) z digits = grind (arith, common_steps, (front_back cs z digits.1))
 
 -- what stands after date and time
 abbrev end_text : Option (List ℕ) → Zone → List ℕ
@@ -51,25 +50,20 @@ end_text fraction zone = fraction_text fraction ++ zone_text zone
 abbrev pub begins_point : List ℕ → Bool
 begins_point r = slice_index r 0 == 46
 
-pub no_point : (z : Zone) → begins_point (zone_text z) ≡ false
-no_point Nothing = refl
-no_point Letter_Z = refl
-no_point Offset = refl
-
 end_whole : (q : Option (List ℕ)) (z : Zone) → (begins_point (end_text q z) || is_zone (end_text q z)) ≡ true
 end_whole q z = grind (arith, common_steps)
 
 end_fraction : (q : Option (List ℕ)) (z : Zone) → AreDigits (fraction_digits q)
     → (not (begins_point (end_text q z)) || is_zone (past_digits (drop 1 (end_text q z)))) ≡ true
-end_fraction q z h = grind (arith, common_steps, no_point, past_back)
+end_fraction q z h = grind (arith, common_steps, past_back)
 
 fraction_back : (q : Option (List ℕ)) (z : Zone) → AreDigits (fraction_digits q)
     → q ≡ (if begins_point (end_text q z) then Some (front_digits (drop 1 (end_text q z))) else None)
-fraction_back q z h = grind (arith, common_steps, no_point, front_back)
+fraction_back q z h = grind (arith, common_steps, front_back)
 
 end_zone_back : (q : Option (List ℕ)) (z : Zone) → AreDigits (fraction_digits q)
     → z ≡ zone_of (if begins_point (end_text q z) then past_digits (drop 1 (end_text q z)) else end_text q z)
-end_zone_back q z h = grind (arith, common_steps, no_point, past_back)
+end_zone_back q z h = grind (arith, common_steps, past_back)
 
 abbrev parts : Date → Separator → ℕ → ℕ → ℕ → Option (List ℕ) → Zone → Fields
 parts date separator hour minute second fraction zone = record {

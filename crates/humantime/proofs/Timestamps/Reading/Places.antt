@@ -20,7 +20,7 @@ two_bytes b k long = grind (arith, common_steps)
 pub number_of_two : (b : List ℕ) (k : ℕ) → k + 2 ≤ length b → has_two b k ≡ true
     → number b k (k + 2) ≡ (slice_index b k - 48) * 10 + (slice_index b (k + 1) - 48)
 unfolding number
-number_of_two b k long h = grind (arith, common_steps, has_two_told, two_bytes, digit_value_digit)
+number_of_two b k long h = grind (arith, common_steps, has_two_told, two_bytes)
 
 pub number_of_four : (b : List ℕ) → 4 ≤ length b → has_two b 0 ≡ true → has_two b 2 ≡ true
     → number b 0 4 ≡ (slice_index b 0 - 48) * 1000 + (slice_index b 1 - 48) * 100 + (slice_index b 2 - 48) * 10 + (slice_index b 3 - 48)
