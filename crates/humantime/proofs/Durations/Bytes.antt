@@ -1,4 +1,4 @@
--- The reader's steps over the bytes of a text, and its sums.
+-- The reader's steps over the bytes of a text, its slices, and its sums.
 pub mod Additions
 pub mod Digits
 pub mod FractionDigits
@@ -9,4 +9,5 @@ pub mod SpanEnds
 pub mod SpanExits
 pub mod Tails
 pub mod UnitMessages
+pub mod Trimming
 pub mod WordKeys

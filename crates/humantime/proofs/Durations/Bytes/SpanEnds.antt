@@ -1,9 +1,9 @@
 -- A span ends before the end, a digit and white space.
-use Rattle.std.proofs.Common.{◌≡◌, ℕ, Bool, true, false, List, [], ◌∷◌, Option, Some, None, refl, inl, inr}
+use Rattle.std.proofs.Common.{arith}
+use Rattle.std.proofs.lemmas.Grind.{common_steps}
+use Rattle.std.proofs.Common.{◌≡◌, ℕ, Bool, true, false, List, Option, Some, None}
 use Rattle.humantime.specs.declared.duration.reading.class.Class.{Class}
 use Rattle.humantime.specs.declared.duration.reading.class.Class.TheVariants.{White, Digit, Letter, Point, Other}
-use Rattle.humantime.specs.Durations.Characters.{is_numeric}
-use Rattle.humantime.specs.References.Durations.Classes.{class_of}
 use Rattle.humantime.specs.References.Durations.Scanning.{first_class, ends_span}
 use Rattle.humantime.proofs.Durations.Reading.Classes.{numeric_class, not_numeric}
 
@@ -16,13 +16,5 @@ ends_before (Some Letter) = false
 ends_before (Some Point) = false
 ends_before (Some Other) = false
 
-numeric_by_class : (c : ℕ) (k : Class) → class_of c ≡ k → is_numeric c ≡ ends_before (Some k)
-numeric_by_class c White e = numeric_class c (inr e)
-numeric_by_class c Digit e = numeric_class c (inl e)
-numeric_by_class c Letter e = not_numeric c (λ w. cc) (λ d. cc)
-numeric_by_class c Point e = not_numeric c (λ w. cc) (λ d. cc)
-numeric_by_class c Other e = not_numeric c (λ w. cc) (λ d. cc)
-
 pub ends_by_class : (cs : List ℕ) → ends_span cs ≡ ends_before (first_class cs)
-ends_by_class [] = refl
-ends_by_class (c ∷ cs) = numeric_by_class c (class_of c) refl
+ends_by_class cs = grind (arith, common_steps, numeric_class, not_numeric)

@@ -1,4 +1,5 @@
 -- The laws of durations as theorems over plain variables, each under the name of its function in `laws`.
+use Rattle.std.proofs.lemmas.Grind.{common_steps}
 use Rattle.std.proofs.Common.{◌≡◌, ◌↔◌, ℕ, ◌<◌, List, Result, Ok, Err, IsTrue, chars, refl, arith}
 use Rattle.humantime.specs.declared.duration.error.DurationError.{DurationError}
 use Rattle.humantime.specs.Values.{duration_end}
@@ -60,8 +61,7 @@ spans_tile text = lent.one_list_of_slices text
 
 -- What is told as a value was answered as that value.
 pub told_value : (r : Result ℕ DurationError) (v : ℕ) → told r ≡ Ok v → r ≡ Ok v
-told_value (Ok d) v e = cc
-told_value (Err x) v e = cc
+told_value r v h = grind (arith, common_steps)
 
 -- Two errors are equal exactly where they name the same fault.
 pub errors_equal : (e f : Fault) → IsTrue (fault_eq e f) ↔ (e ≡ f)

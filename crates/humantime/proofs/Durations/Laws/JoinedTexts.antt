@@ -1,5 +1,7 @@
 -- Texts one behind the other.
-use Rattle.std.proofs.Common.{◌≡◌, ◌≢◌, ◌↔◌, ℕ, ◌+◌, Bool, List, [], ◌∷◌, ◌++◌, None, refl, sym, ap, ap₂, ◌∙◌, inl, inr, subst, append_assoc, append-nil}
+use Rattle.std.proofs.Common.{arith}
+use Rattle.std.proofs.lemmas.Grind.{common_steps}
+use Rattle.std.proofs.Common.{◌≡◌, ◌≢◌, ◌↔◌, ℕ, ◌+◌, Bool, List, [], ◌∷◌, ◌++◌, None, refl, sym, ap, ap₂, ◌∙◌, inl, inr, subst, append_assoc}
 use Rattle.std.specs.List.{AllByRecursion}
 use Rattle.humantime.specs.Durations.Characters.{is_ws}
 use Rattle.humantime.specs.Durations.Spans.{Span, Only, Spells, SpellsEach, SpellsAll, Reads}
@@ -13,26 +15,14 @@ use Rattle.humantime.proofs.Durations.Reading.Outcomes.{items_whole, within_or_b
 use Rattle.humantime.proofs.Durations.Laws.Readings.{accepted_from_spans, spans_of_accepted, accepted_spans, no_value_and_fault}
 
 pub Only-append : (p : ℕ → Bool) (xs ys : List ℕ) → Only p xs → Only p ys → Only p (xs ++ ys)
-Only-append p [] ys h k = k
-Only-append p (x ∷ xs) ys h k = (h.0, Only-append p xs ys h.1 k)
+Only-append p xs ys h k = grind (arith, common_steps)
 
 pub each-append : (P : Span → Type 0) (ss ts : List Span) → AllByRecursion P ss → AllByRecursion P ts → AllByRecursion P (ss ++ ts)
-each-append P [] ts h k = k
-each-append P (s ∷ ss) ts h k = (h.0, each-append P ss ts h.1 k)
+each-append P ss ts h k = grind (arith, common_steps)
 
 -- white space behind a spelling belongs to it
 spells-space : (here space : List ℕ) (s : Span) → Spells here s [] → Only is_ws space → Spells (here ++ space) s []
-spells-space here space s h only = record {
-  number_text = h.number_text;
-  fraction_text = h.fraction_text;
-  space = h.space ++ space;
-  whole = ap (λ (l : List ℕ). l ++ space) h.whole ∙ simp (append_assoc, append-nil);
-  starts = h.starts;
-  number = h.number;
-  fraction = h.fraction;
-  word = h.word;
-  only_space = Only-append is_ws h.space space h.only_space only;
-}
+spells-space here space s h only = grind (arith, common_steps)
 
 spells_each-space : (body space : List ℕ) (s : Span) (ss : List Span) → SpellsEach body (s ∷ ss) → Only is_ws space → SpellsEach (body ++ space) (s ∷ ss)
 spells_each-space body space s [] h only = ([], spells-space body space s (subst (Spells body s) h.2 h.1) only, refl)

@@ -6,7 +6,8 @@ use Rattle.std.proofs.lemmas.Bool.{cases_lt, false≢true}
 use Rattle.std.specs.Ordering.{is_le}
 use Rattle.std.specs.Cmp.Lexicographic.{slice_cmp}
 use Rattle.std.specs.Cmp.{nat_cmp_is}
-use Rattle.humantime.specs.Durations.Counts.{weights, weighted_sum, AreGreatest, Counts, Canon, suffixes, printed_counts, joined_by_space}
+use Rattle.humantime.specs.Durations.Counts.{weights, weighted_sum, AreGreatest, Counts, Canon}
+use Rattle.std.proofs.lemmas.Grind.{common_steps}
 use Rattle.humantime.specs.References.Durations.Printing.{divided, duration_text}
 
 -- each weight is positive and the last is one, where what is left is below m
@@ -23,9 +24,7 @@ length-divided (w ∷ ws) d = ap suc (length-divided ws (d % w))
 
 pub divided_sum : (ws : List ℕ) (m d : ℕ) → Reaches ws m → d < m → weighted_sum ws (divided ws d) ≡ d
 divided_sum [] m d r h = omega arith
-divided_sum (w ∷ ws) m d r h =
-    let e : weighted_sum ws (divided ws (d % w)) ≡ d % w = divided_sum ws w (d % w) r.1 (mod_below d w r.0) in
-    omega (arith, div-add-mod d w)
+divided_sum (w ∷ ws) m d r h = grind (arith, common_steps, (divided_sum ws w (d % w) r.1 (mod_below d w r.0)))
 
 -- a first count and the rest of a sum
 first_most : (w c s d : ℕ) → 0 < w → w * c + s ≡ d → c ≤ d / w
@@ -94,8 +93,7 @@ text_is_canon d = record { counts = divided weights d; are = divided_greatest we
 
 pub canon_is_text : (d : ℕ) (text : List ℕ) → Canon d text → text ≡ duration_text d
 unfolding duration_text
-canon_is_text d text canon =
-    canon.shown ∙ ap (λ ns. joined_by_space (printed_counts ns suffixes)) (counts_divided d canon.counts canon.are)
+canon_is_text d text canon = grind (arith, common_steps, counts_divided)
 
 pub one_canon : (d : ℕ) (a b : List ℕ) → Canon d a → Canon d b → a ≡ b
 one_canon d a b left right = canon_is_text d a left ∙ sym (canon_is_text d b right)

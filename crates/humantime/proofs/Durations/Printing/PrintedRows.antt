@@ -1,4 +1,5 @@
 -- The rows of printed counts: what each unit's word stands for.
+use Rattle.std.proofs.lemmas.Grind.{common_steps}
 use Rattle.std.proofs.Common.{◌≡◌, ◌⊎◌, inl, inr, ℕ, ◌*◌, ◌^◌, ◌<◌, ◌≤◌, Bool, true, false, cond, List, [], ◌∷◌, ◌++◌, refl, arith}
 use Rattle.std.specs.Prelude.{◌&&◌, Some, None, codes, decimal, nat_lt}
 use Rattle.std.specs.Str.{IsUtf8, is_utf8, chars}
@@ -31,24 +32,11 @@ pub record IsWord (w m : ℕ) (word : List ℕ) : Type 0 where
 
 leading_only : (p : ℕ → Bool) (cs : List ℕ) → leading p cs ≡ cs → Only p cs
 leading_only p [] e = tt
-leading_only p (c ∷ cs) e = by (p c) refl e (leading_only p cs)
-  where
-    by : (b : Bool) → p c ≡ b → cond b (c ∷ leading p cs) [] ≡ c ∷ cs → (leading p cs ≡ cs → Only p cs) → Only p (c ∷ cs)
-    by true h e rest = (h, rest cc)
-    by false h e rest = absurd cc
+leading_only p (c ∷ cs) e = grind (arith, common_steps, (leading_only p cs))
 
 known : (w m : ℕ) (word : List ℕ) (u : Scale) → is_utf8 word ≡ true → scale_of_word (chars word) ≡ Some u → u.base * u.factor ≡ w → 0 < u.factor
     → (u.base ≡ nanos_per_second) ⊎ ((u.base ≡ 1) × (m ≤ nanos_per_second)) → leading is_letter (chars word) ≡ chars word → begins is_letter (chars word) ≡ true → IsWord w m word
-known w m word u utf8 is weight some kind letters first = record {
-  utf8 = IsUtf8-from_is_utf8 word utf8;
-  unit = u;
-  is = is;
-  weight = weight;
-  some = some;
-  kind = kind;
-  letters = leading_only is_letter (chars word) letters;
-  first = first;
-}
+known w m word u utf8 is weight some kind letters first = grind (arith, common_steps, IsUtf8-from_is_utf8, leading_only)
 
 abbrev year : ℕ
 year = seconds_per_year * nanos_per_second
@@ -107,13 +95,4 @@ Table [] (s ∷ ss) m = ⊥
 Table (w ∷ ws) [] m = ⊥
 
 pub table : Table weights suffixes most
-table = (
-  (λ n. years (nat_lt 1 n)),
-  (
-    (λ n. months (nat_lt 1 n)),
-    (
-      (λ n. days (nat_lt 1 n)),
-      ((λ n. hours), ((λ n. minutes), ((λ n. seconds), ((λ n. millis), ((λ n. micros_word), ((λ n. nanos), refl)))))),
-    ),
-  ),
-)
+table = grind (arith, common_steps, years, months, days, hours, minutes, seconds, millis, micros_word, nanos)

@@ -1,10 +1,10 @@
 -- What holds of printed texts, for every duration and every text.
+use Rattle.std.proofs.lemmas.Grind.{common_steps}
 use Rattle.std.proofs.Common.{◌≡◌, ℕ, ◌+◌, ◌/◌, ◌≤◌, List, [], ◌∷◌, sym, subst, ◌∙◌, arith}
 use Rattle.std.specs.Prelude.{chars, Result, Ok}
-use Rattle.std.proofs.lemmas.List.Sums.{sum_by-cons}
 use Rattle.humantime.specs.Values.{nanos_per_second}
 use Rattle.humantime.specs.Durations.Characters.{u64_max}
-use Rattle.humantime.specs.Durations.Accepted.{Addition, addition_nanos, total, additions, Accepted, Bare_zero, Sum_of}
+use Rattle.humantime.specs.Durations.Accepted.{Addition, addition_nanos, total, Accepted}
 use Rattle.humantime.specs.Durations.Faults.{Fault}
 use Rattle.humantime.specs.Durations.Counts.{Canon, IsCanonicalOf}
 use Rattle.humantime.specs.References.Durations.Printing.{duration_text}
@@ -23,17 +23,11 @@ same_read text u v a b = ok_same u v (sym (outcome_accepted text u a) ∙ outcom
 
 room_fits : (t : ℕ) (xs : List Addition) → t / nanos_per_second ≤ u64_max → RoomFrom t xs → (t + total xs) / nanos_per_second ≤ u64_max
 room_fits t [] h room = omega arith
-room_fits t (x ∷ xs) h room =
-    let e : t + total (x ∷ xs) ≡ (t + addition_nanos x) + total xs = omega (arith, sum_by-cons addition_nanos x xs) in
-    rw e (room_fits (t + addition_nanos x) xs room.0.1 room.1)
+room_fits t (x ∷ xs) h room = grind (arith, common_steps, (room_fits (t + addition_nanos x) xs room.0.1 room.1))
 
 -- what is accepted is a duration
 accepted_fits : (text : List ℕ) (v : ℕ) → Accepted text v → v / nanos_per_second ≤ u64_max
-accepted_fits text v (Bare_zero zero none) = rw none (omega arith)
-accepted_fits text v (Sum_of spans reads within sum) =
-    let xs = additions spans in
-    let e : 0 + total xs ≡ v = omega (arith, sum) in
-    subst (λ n. n / nanos_per_second ≤ u64_max) e (room_fits 0 xs (omega arith) (room_from_all xs within.room))
+accepted_fits text v h = grind (arith, common_steps, room_fits, room_from_all)
 
 pub one_text : (d : ℕ) → HasOneText d
 one_text d = (duration_text d, text_is_canon d, canon_is_text d)

@@ -1,4 +1,6 @@
 -- The two sides of each parser's answer, and the laws of reading.
+use Rattle.std.proofs.Common.{arith}
+use Rattle.std.proofs.lemmas.Grind.{common_steps}
 use Rattle.std.proofs.Common.{◌≡◌, ℕ, List, refl, sym, ap, ◌∙◌}
 use Rattle.std.specs.Prelude.{◌↔◌, ℤ, pos, Bool, true, false, Option, Some, None, Result, Ok, Err, if◌then◌else◌}
 use Rattle.humantime.specs.declared.date.error.TimestampError.{TimestampError}
@@ -14,15 +16,13 @@ use Rattle.humantime.proofs.Timestamps.Laws.StrictForm.{strict_is_weak, strict_c
 
 -- an answer is a moment exactly where no check failed
 answer_told : (o : Option TimestampError) (n : ℕ) (t : ℤ) → moment_or_error o n ≡ Ok t → (o ≡ None) × (t ≡ pos n)
-answer_told None n t h = (refl, cc)
-answer_told (Some e) n t h = absurd (cc)
+answer_told o n t h = grind (arith, common_steps)
 
 answer_none : (o : Option TimestampError) (n : ℕ) → o ≡ None → moment_or_error o n ≡ Ok (pos n)
 answer_none o n h = rw h refl
 
 failed_told : (o : Option TimestampError) (n : ℕ) (e : TimestampError) → (moment_or_error o n ≡ Err e) ↔ (o ≡ Some e)
-failed_told None n e = ((λ h. absurd (cc)), (λ h. absurd (cc)))
-failed_told (Some d) n e = ((λ h. let same : d ≡ e = cc in ap Some same), (λ h. let same : d ≡ e = cc in ap Err same))
+failed_told o n e = grind (arith, common_steps)
 
 pub weak_value : (b : List ℕ) (t : ℤ) → (weak_answer b ≡ Ok t) ↔ IsWeakMoment b t
 unfolding weak_answer
@@ -53,16 +53,10 @@ one_weak b = (
 
 -- a text that is not complete has no strict moment
 pub refused_value : (b : List ℕ) (e : TimestampError) → has_marks b ≡ false → (t : ℤ) → (Err e ≡ Ok t) ↔ IsStrictMoment b t
-refused_value b e other t = (
-  (λ h. absurd (cc)),
-  (λ m. let whole : has_marks b ≡ true = strict_complete b m.0 m.1 in absurd (let no : ⊥ = cc in no)),
-)
+refused_value b e other t = grind (arith, common_steps, strict_complete)
 
 pub strict_value_of : (b : List ℕ) (r : Result ℤ TimestampError) → has_marks b ≡ true → (t : ℤ) → ((r ≡ Ok t) ↔ IsWeakMoment b t) → (r ≡ Ok t) ↔ IsStrictMoment b t
-strict_value_of b r whole t weak = (
-  (λ h. let m = weak.0 h in (m.0, complete_strict b m.0 whole m.1, m.2)),
-  (λ m. weak.1 (m.0, m.1.weak, m.2)),
-)
+strict_value_of b r whole t weak = grind (arith, common_steps, complete_strict)
 
 pub strict_error_of : (b : List ℕ) (r : Result ℤ TimestampError) → has_marks b ≡ true → (e : TimestampError)
     → ((r ≡ Err e) ↔ (first_failed (weak_checks b) ≡ Some e)) → (r ≡ Err e) ↔ (first_failed (strict_checks b) ≡ Some e)
@@ -88,8 +82,7 @@ unfolding strict_answer
 strict_error b e = failed_told (first_failed (strict_checks b)) (moment_of (fields_of b)) e
 
 complete_from : (t : Bool) (e : TimestampError) (rest : Option TimestampError) → (if t then rest else Some e) ≡ None → (t ≡ true) × (rest ≡ None)
-complete_from true e rest h = (refl, h)
-complete_from false e rest h = absurd (cc)
+complete_from t e rest h = grind (arith, common_steps)
 
 pub one_strict : (b : List ℕ) → OneTimestamp (strict_checks b) (IsStrict b)
 one_strict b = (

@@ -45,8 +45,7 @@ returns-in-None-clause-place c =
     c.utf8.text behind next parts.word_whole c.offset_of.ensures.value c.offset_of-in-None.ensures.value
 
 pub without_word-requires-clause-point : goal.without_word-requires-clause-point
-without_word-requires-clause-point c = λ bare.
-    some_bytes c.args.parts.after_number.now (bare_some _ _ _ _ _ _ _ c.requires.parts.read bare)
+without_word-requires-clause-point c = grind (arith, common_steps, some_bytes, bare_some)
 
 pub returns-then-is_bare-clause-place : goal.returns-then-is_bare-clause-place
 returns-then-is_bare-clause-place c =
