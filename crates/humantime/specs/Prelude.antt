@@ -10,7 +10,7 @@ pub use Rattle.humantime.specs.Durations.Errors.{told, told_text, fault_of, Poin
 pub use Rattle.humantime.specs.References.Durations.Answers.{duration_answer, canonical_answer}
 pub use Rattle.humantime.specs.Durations.Accepted.{Accepted, Bare_zero, Sum_of, value, additions, WithinLimits, AllHaveRoom}
 pub use Rattle.humantime.specs.Durations.Spans.{Span, Reads}
-pub use Rattle.humantime.specs.Durations.Faults.{Fault, HasFault}
+pub use Rattle.humantime.specs.Durations.Faults.{Fault, InvalidCharacter, NumberExpected, UnknownUnit, NumberOverflow, Empty, HasFault}
 -- spans
 pub use Rattle.humantime.specs.Durations.Items.{Items, Lent, AreItems}
 pub use Rattle.humantime.specs.References.Durations.Lents.{lent_of, item_of}

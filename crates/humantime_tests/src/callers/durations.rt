@@ -1,8 +1,8 @@
 //! Limits, ends and places of errors: callers of what reads and prints durations.
 
-ghost use Rattle.std.specs.Prelude.{◌≡◌, ◌+◌, ◌*◌, ◌/◌, ◌<◌, ◌≤◌, ◌↔◌, ℕ, chars, length, true, IfOk, IfSome, IsTrue, Ok, Some};
+ghost use Rattle.std.specs.Prelude.{◌≡◌, ◌+◌, ◌*◌, ◌/◌, ◌<◌, ◌≤◌, ◌↔◌, ℕ, chars, length, true, IfSome, IsSome, IsOkAnd, IsErrAnd, IsTrue, Ok, Err, Some};
 ghost use Rattle.std.specs.Result.{result_map_both};
-ghost use Rattle.humantime.specs.Prelude.{Canon, duration_answer, told, fault_of, nanos_per_second};
+ghost use Rattle.humantime.specs.Prelude.{Canon, Fault, duration_answer, duration_end, told, fault_of, nanos_per_second};
 
 use humantime::laws::printed_duration_reads;
 use humantime::{DurationError, StdDuration, format_duration, parse_duration};
@@ -16,7 +16,9 @@ pub fn limit_seconds(text: &str) -> Result<u64, DurationError<'_>>
 
 /// The sum of a start and a length, if it is a duration, or else the first fault of the two texts.
 pub fn end_of<'a>(start: &'a str, len: &'a str) -> Result<Option<StdDuration>, DurationError<'a>>
-    ensures { IfOk result (λ end. IfSome end (λ d. (v : ℕ) × (w : ℕ) × (duration_answer (chars start.now) ≡ Ok v) × (duration_answer (chars len.now) ≡ Ok w) × (d ≡ v + w))) }
+    ensures sum { (v : ℕ) (w : ℕ) → duration_answer (chars start.now) ≡ Ok v → duration_answer (chars len.now) ≡ Ok w → IsOkAnd result (λ end. (IsSome end ↔ (v + w < duration_end)) × IfSome end (λ d. d ≡ v + w)) }
+    ensures start_fault { (e : Fault) → duration_answer (chars start.now) ≡ Err e → IsErrAnd result (λ error. fault_of error ≡ e) }
+    ensures len_fault { (v : ℕ) (e : Fault) → duration_answer (chars start.now) ≡ Ok v → duration_answer (chars len.now) ≡ Err e → IsErrAnd result (λ error. fault_of error ≡ e) }
 {
     Ok(parse_duration(start)?.checked_add(parse_duration(len)?))
 }

@@ -2,7 +2,7 @@
 
 ghost use Rattle.std.specs.Prelude.{◌≡◌, ◌*◌, ◌↔◌, ◌<ℤ◌, ◌≤ℤ◌, ℤ, pos, ◌+ℤ◌, IsTrue, IsSome, IfSome, IfOk, IsOkAnd, Ok, Err, string_bytes};
 ghost use Rattle.humantime.specs.declared.TimestampError.{TimestampError};
-ghost use Rattle.humantime.specs.Prelude.{weak_answer, strict_answer, IsPrinted, IsPrintable, cut, nanos_per_second};
+ghost use Rattle.humantime.specs.Prelude.{weak_answer, strict_answer, IsPrinted, IsPrintable, cut, moment_end, nanos_per_second};
 
 use humantime::{
     StdDuration, SystemTime, TimestampError, format_rfc3339_millis, parse_rfc3339,
@@ -21,7 +21,8 @@ pub fn is_since(stamp: &str, from: SystemTime) -> Result<bool, TimestampError>
 
 /// The moment so long after the one that a text shows, if there is one.
 pub fn later_than(text: &str, time: StdDuration) -> Result<Option<SystemTime>, TimestampError>
-    ensures { IfOk result (λ later. IfSome later (λ moment. (t : ℤ) × (weak_answer text.now ≡ Ok t) × (moment ≡ t +ℤ pos time))) }
+    ensures moment { (t : ℤ) → weak_answer text.now ≡ Ok t → IsOkAnd result (λ later. (IsSome later ↔ ((t +ℤ pos time) <ℤ moment_end)) × IfSome later (λ moment. moment ≡ t +ℤ pos time)) }
+    ensures error { (e : TimestampError) → (result ≡ Err e) ↔ (weak_answer text.now ≡ Err e) }
 {
     Ok(parse_rfc3339_weak(text)?.checked_add(time))
 }
