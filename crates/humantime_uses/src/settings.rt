@@ -9,12 +9,12 @@
 //!                ^
 //! ```
 
-ghost use Rattle.std.specs.Prelude.{◌≡◌, ◌↔◌, ◌++◌, chars, drop, length, IfErr, IfSome, IsSome, IsTrue};
+ghost use Rattle.std.specs.Prelude.{◌≡◌, ◌↔◌, [], ◌∷◌, ◌++◌, chars, drop, length, IfErr, IfSome, IsSome, IsTrue};
 ghost use Rattle.std.specs.Str.{IsCharBoundary};
 ghost use Rattle.humantime.specs.Prelude.{PointsInto, duration_answer, fault_of, strict_answer};
 ghost use Rattle.std.specs.Fmt.{WritesOnOk};
 ghost use Rattle.humantime_uses.specs.Settings.{FaultPointsInto, fault_place, has_value, key_of, line_answer, moved, since_answer, timeout_answer, told_line, value_at, value_of};
-ghost use Rattle.humantime_uses.specs.Marks.{blank, marked};
+ghost use Rattle.humantime_uses.specs.Marks.{blank, blank_for, marked};
 
 use humantime::{
     DurationError, StdDuration, SystemTime, TimestampError, parse_duration, parse_rfc3339,
@@ -237,7 +237,14 @@ fn write_blank<W: fmt::Write>(text: &str, f: &mut fmt::Formatter<W>) -> fmt::Res
     ensures { WritesOnOk W.write_str_gives f.old result (blank text.now) f.new }
 {
     for c in text.chars() {
-        f.write_str(if c == '\t' { "\t" } else { " " })?;
+        f.write_str(blank_of(c))?;
     }
     Ok(())
+}
+
+/// A tab for a tab, and a space for another character.
+fn blank_of(c: char) -> &'static str
+    ensures { result.now ≡ blank_for c ∷ [] }
+{
+    if c == '\t' { "\t" } else { " " }
 }
