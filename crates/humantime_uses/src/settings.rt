@@ -49,7 +49,7 @@ pub enum LineFault<'a> {
 /// its end.
 #[derive(Clone, Copy, PartialEq, Debug)]
 pub struct LineError<'a> {
-    /// What stands before the `=`, without the white space around it.
+    /// What stands before the `=`, or the whole line, without the white space at its end.
     pub key: &'a str,
     /// The line up to the fault.
     pub before: &'a str,
