@@ -37,9 +37,7 @@ pub fn keeps_by_bytes(line: &str, from: &str, to: &str) -> bool
 pub fn answers_alike(line: &str, from: SystemTime, to: SystemTime) -> bool
     ensures { (t : ℤ) → IsPrinted t 3 (stamp line.now) → cut from 3 ≡ from → cut to 3 ≡ to → result ≡ true }
 {
-    let mut first = [0; 30];
-    let mut second = [0; 30];
-    match (bound_text(from, &mut first), bound_text(to, &mut second)) {
+    match (bound_text(from, &mut [0; 30]), bound_text(to, &mut [0; 30])) {
         (Some(first), Some(second)) => keeps(line, from, to) == keeps_by_bytes(line, first, second),
         _ => true,
     }

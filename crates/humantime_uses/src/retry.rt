@@ -28,7 +28,7 @@ pub fn wait_text<'a, 'b>(
     Ok(format_duration(wait_after(first, cap, tries)).text(buffer))
 }
 
-/// The wait after so many tries. It is doubled no more often than it takes to reach the cap.
+/// The wait after so many tries. It is doubled no more often than it takes to reach the cap, which no time at all never reaches.
 #[tactic(auto, using(crate::proofs::Waits::wait_more, crate::proofs::Waits::wait_at_cap))]
 fn wait_after(first: StdDuration, cap: StdDuration, tries: u32) -> StdDuration
     ensures { result ≡ wait first cap tries }

@@ -9,17 +9,16 @@
 //!                ^
 //! ```
 
+mod marked;
+
 ghost use Rattle.std.specs.Prelude.{◌≡◌, ◌↔◌, ◌++◌, chars, drop, length, IfErr, IfSome, IsSome, IsTrue};
 ghost use Rattle.std.specs.Str.{IsCharBoundary};
 ghost use Rattle.humantime.specs.Prelude.{PointsInto, duration_answer, fault_of, strict_answer};
-ghost use Rattle.std.specs.Fmt.{WritesOnOk};
 ghost use Rattle.humantime_uses.specs.Settings.{FaultPointsInto, fault_place, has_value, key_of, line_answer, moved, since_answer, timeout_answer, told_line, value_at, value_of};
-ghost use Rattle.humantime_uses.specs.Marks.{blank, marked};
 
 use humantime::{
     DurationError, StdDuration, SystemTime, TimestampError, parse_duration, parse_rfc3339,
 };
-use std::fmt;
 
 /// What a line sets.
 #[derive(Clone, Copy, PartialEq, Debug)]
@@ -49,7 +48,7 @@ pub enum LineFault<'a> {
 /// its end.
 #[derive(Clone, Copy, PartialEq, Debug)]
 pub struct LineError<'a> {
-    /// What stands before the `=`, without the white space around it.
+    /// What stands before the `=`, or the whole line, without the white space at its end.
     pub key: &'a str,
     /// The line up to the fault.
     pub before: &'a str,
@@ -184,60 +183,4 @@ fn cut<'a>(line: &'a str, key: &'a str, at: usize, fault: LineFault<'a>) -> Line
         after,
         fault,
     }
-}
-
-/// Writes what is wrong with which key, the line, and a mark under the fault, with no line feed behind it.
-///
-/// The mark stands under the character at the fault, not so many columns to the right as bytes stand before it: a terminal
-/// shows characters. A tab before the fault is a tab before the mark. Characters of two columns or of none move the mark.
-impl fmt::Display for LineError<'_> {
-    ghost use Rattle.std.specs.Prelude.{Some};
-    ghost use Rattle.humantime_uses.specs.SettingErrors.{error_text};
-
-    ghost output = { λ error. Some (error_text error) };
-
-    fn fmt<W: fmt::Write>(&self, f: &mut fmt::Formatter<W>) -> fmt::Result {
-        f.write_str(self.key)?;
-        f.write_str(": ")?;
-        self.fault.fmt(f)?;
-        f.write_str("\n")?;
-        write_marked(self.before, self.after, f)
-    }
-}
-
-impl fmt::Display for LineFault<'_> {
-    ghost use Rattle.std.specs.Prelude.{Some};
-    ghost use Rattle.humantime_uses.specs.SettingErrors.{fault_text};
-
-    ghost output = { λ fault. Some (fault_text fault) };
-
-    fn fmt<W: fmt::Write>(&self, f: &mut fmt::Formatter<W>) -> fmt::Result {
-        match self {
-            LineFault::NoValue => f.write_str("there is no `=`"),
-            LineFault::UnknownKey => f.write_str("no such setting"),
-            LineFault::Duration(error) => error.fmt(f),
-            LineFault::Timestamp(error) => error.fmt(f),
-        }
-    }
-}
-
-/// Writes a line, which is cut in two, and below it a mark under the cut.
-fn write_marked<W: fmt::Write>(before: &str, after: &str, f: &mut fmt::Formatter<W>) -> fmt::Result
-    ensures { WritesOnOk W.write_str_gives f.old result (marked before.now after.now) f.new }
-{
-    f.write_str(before)?;
-    f.write_str(after)?;
-    f.write_str("\n")?;
-    write_blank(before, f)?;
-    f.write_str("^")
-}
-
-/// Writes a tab for each tab, and a space for each other character.
-fn write_blank<W: fmt::Write>(text: &str, f: &mut fmt::Formatter<W>) -> fmt::Result
-    ensures { WritesOnOk W.write_str_gives f.old result (blank text.now) f.new }
-{
-    for c in text.chars() {
-        f.write_str(if c == '\t' { "\t" } else { " " })?;
-    }
-    Ok(())
 }

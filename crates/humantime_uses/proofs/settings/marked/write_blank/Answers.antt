@@ -1,7 +1,7 @@
 use Rattle.std.proofs.lemmas.Iterator.{YieldsList-from_chars}
 use Rattle.std.proofs.lemmas.Iterator.Consumers.{YieldsList-end}
 use Rattle.std.proofs.lemmas.List.{map-id}
-use Rattle.humantime_uses.proofs.settings.write_blank.Goals as goal
+use Rattle.humantime_uses.proofs.settings.marked.write_blank.Goals as goal
 
 pub returns : goal.returns
 returns g c = λ plain _.
