@@ -1,7 +1,7 @@
 use Rattle.std.proofs.Common.{refl, sym, ap, chars, drop, ◌∙◌, arith}
 use Rattle.std.proofs.lemmas.Str.{IsCharBoundary-start}
 use Rattle.humantime.specs.Durations.Characters.{is_ws, past}
-use Rattle.humantime.proofs.Durations.Bytes.PlaceSteps.{space_step, space_ends, no_chars_at}
+use Rattle.humantime.proofs.Durations.Bytes.PlaceSteps.{space_step, ends_there, no_chars_at}
 use Rattle.humantime.proofs.duration.reading.slices.past_space.Goals as goal
 use Rattle.humantime.proofs.duration.reading.slices.past_space.Goals.{else-loop-at-test, then-loop-at-test+in-None}
 
@@ -21,5 +21,5 @@ returns-clause-rest c =
       | else-loop-at-test w ↦
           let none = no_chars_at text at (omega (arith, w.loop-at-test.false, c.as_bytes-bytes.ensures.len)) in
           none ∙ sym (ap (past is_ws) none) ∙ c.loop-at.invariant.same
-      | then-loop-at-test+in-None w ↦ space_ends (chars (drop at text)) w.in-None.ensures.none ∙ c.loop-at.invariant.same
+      | then-loop-at-test+in-None w ↦ ends_there is_ws (chars (drop at text)) w.in-None.ensures.none ∙ c.loop-at.invariant.same
     ])
