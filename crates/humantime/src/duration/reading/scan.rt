@@ -34,8 +34,9 @@ fn first_char(text: &str) -> char
 
 /// How many bytes of white space stand at this place, where no ASCII does: those of one character, or none.
 ///
-/// It stands out of line, so that loops over ASCII stay small, and answers a number alone. It is not marked as rarely
-/// called: then the loops around it get slower.
+/// It stands out of line, marked as rarely called, so that loops over ASCII keep what they hold in registers, and
+/// answers a number alone.
+#[cold]
 #[inline(never)]
 pub(crate) fn wide_space(text: &str, at: usize) -> usize
     requires place { IsCharBoundary text.now at }
@@ -172,9 +173,8 @@ impl Digits {
     }
 }
 
-/// The digits at the front of the text, and what follows them: at most 19 digits, and then zeros. It stands out of
-/// line, as it holds much, and spans without a fraction do not need it.
-#[inline(never)]
+/// The digits at the front of the text, and what follows them: at most 19 digits, and then zeros.
+#[inline(always)]
 fn read_digits<'a>(text: &'a str) -> Result<(Fraction, &'a str), DurationError<'a>>
     ensures value { seen (λ x. (parts_of x.0, chars x.1.now)) result ≡ digits_at (chars text.now) }
     ensures tail { IfOk result (λ x. IsTail text.now x.1.now) }
