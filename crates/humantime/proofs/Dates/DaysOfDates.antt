@@ -1,27 +1,23 @@
 -- Each day number has one date.
+use Rattle.std.proofs.lemmas.Grind.{common_steps}
 use Rattle.std.proofs.Common.{◌≡◌, ◌∙◌, ℕ, zero, suc, ◌+◌, ◌-◌, ◌<◌, ◌≤◌, refl, sym, arith, inl, inr}
-use Rattle.std.proofs.lemmas.Bool.Decides.{nat_tests}
 use Rattle.std.proofs.lemmas.Bool.{cases_order, cases_lt}
 use Rattle.humantime.specs.declared.calendar.Date.{Date}
-use Rattle.humantime.specs.Calendar.Years.{days_in_year, days_in_month, days_of_years, days_of_months, day_count}
-use Rattle.humantime.specs.Calendar.Dates.{IsDate, day_of, IsDateOfDay, OneDate}
-use Rattle.humantime.proofs.Dates.Years.{AreWithin, valid_told, valid_from, days_of_years_next, days_of_no_years, days_of_no_months, days_of_months_next, twelve_months, month_end, days_of_years_more, march_days_of_years}
+use Rattle.humantime.specs.Calendar.{days_in_year, days_in_month, days_of_years, days_of_months, IsDate, day_of}
+use Rattle.humantime.specs.Laws.Days.{IsDateOfDay, OneDate}
+use Rattle.humantime.proofs.Dates.Years.{AreWithin, valid_told, valid_from, days_of_years_next, days_of_no_years, days_of_no_months, days_of_months_next, twelve_months, month_end, days_of_years_more, march_days_of_years, day_count}
 use Rattle.humantime.specs.References.Calendar.March.{march_days}
 
 -- more years have no fewer days, nor have more months
 years_grow : (n : ℕ) (more : ℕ) → days_of_years n ≤ days_of_years (n + more)
-years_grow n zero =
-    let same : n + 0 ≡ n = omega arith in
-    rw same (omega arith)
+years_grow n zero = grind (arith, common_steps)
 years_grow n (suc more) =
     let same : n + suc more ≡ suc (n + more) = omega arith in
     let before : days_of_years n ≤ days_of_years (n + more) = years_grow n more in
     rw same (rw (days_of_years_next (n + more)) (omega (arith, before)))
 
 months_grow : (y : ℕ) (n : ℕ) (more : ℕ) → days_of_months y n ≤ days_of_months y (n + more)
-months_grow y n zero =
-    let same : n + 0 ≡ n = omega arith in
-    rw same (omega arith)
+months_grow y n zero = grind (arith, common_steps)
 months_grow y n (suc more) =
     let same : n + suc more ≡ suc (n + more) = omega arith in
     let before : days_of_months y n ≤ days_of_months y (n + more) = months_grow y n more in
@@ -69,42 +65,19 @@ same_month y m d m' d' valid valid' same =
     ]
 
 pub same_date : (a : Date) (b : Date) → IsDate a → IsDate b → day_of a ≡ day_of b → a ≡ b
-same_date a b valid valid' same =
-    let within = valid_told a.year a.month a.day valid in
-    let within' = valid_told b.year b.month b.day valid' in
-    let year : a.year ≡ b.year = same_year a.year a.month a.day b.year b.month b.day within within' same in
-    let there : AreWithin a.year b.month b.day = rw (sym year) at within' in
-    let count : day_count a.year a.month a.day ≡ day_count a.year b.month b.day = rw (sym year) at same in
-    let month : a.month ≡ b.month = same_month a.year a.month a.day b.month b.day within there count in
-    let count' : day_count a.year a.month a.day ≡ day_count a.year a.month b.day = rw (sym month) at count in
-    let day : a.day ≡ b.day = omega (arith, count', within.2.0, within'.2.0) in
-    λ i. record { year = year i; month = month i; day = day i }
-
--- the date of the next day
-month_some : (y : ℕ) (m : ℕ) → 28 ≤ days_in_month y m
-month_some y m = grind (arith, nat_tests)
+same_date a b valid valid' same = grind (arith, common_steps, same_year, same_month)
 
 pub next_day : (n : ℕ) (y : ℕ) (m : ℕ) (d : ℕ) → AreWithin y m d × (day_count y m d ≡ n) → d < days_in_month y m
     → AreWithin y m (d + 1) × (day_count y m (d + 1) ≡ suc n)
-next_day n y m d is more =
-    let some : 1 ≤ d = is.0.2.0 in
-    let day : days_of_years (y - 1970) + days_of_months y (m - 1) + (d - 1) ≡ n = is.1 in
-    ((is.0.0, is.0.1, (omega arith, omega arith)), omega arith)
+next_day n y m d is more = grind (arith, common_steps)
 
 pub next_month : (n : ℕ) (y : ℕ) (m : ℕ) (d : ℕ) → AreWithin y m d × (day_count y m d ≡ n) → days_in_month y m ≤ d → m < 12
     → AreWithin y (m + 1) 1 × (day_count y (m + 1) 1 ≡ suc n)
-next_month n y m d is last more =
-    let day : days_of_years (y - 1970) + days_of_months y (m - 1) + (d - 1) ≡ n = is.1 in
-    let whole : days_of_months y m ≡ days_of_months y (m - 1) + days_in_month y m = month_end y m is.0.1.0 in
-    let here : m + 1 - 1 ≡ m = omega arith in
-    let some : 28 ≤ days_in_month y (m + 1) = month_some y (m + 1) in
-    let next : days_of_years (y - 1970) + days_of_months y (m + 1 - 1) + 0 ≡ suc n = rw here (omega (arith, is.0.2.0, is.0.2.1)) in
-    ((is.0.0, (omega arith, omega arith), (omega arith, omega arith)), next)
+next_month n y m d is last more = grind (arith, common_steps, (month_end y m is.0.1.0))
 
 pub next_year : (n : ℕ) (y : ℕ) (m : ℕ) (d : ℕ) → n < 2_932_896 → AreWithin y m d × (day_count y m d ≡ n)
     → days_in_month y m ≤ d → 12 ≤ m → AreWithin (y + 1) 1 1 × (day_count (y + 1) 1 1 ≡ suc n)
 next_year n y m d few is last december =
-    let day : days_of_years (y - 1970) + days_of_months y (m - 1) + (d - 1) ≡ n = is.1 in
     let whole : days_of_months y m ≡ days_of_months y (m - 1) + days_in_month y m = month_end y m is.0.1.0 in
     let twelve : m ≡ 12 = omega (arith, is.0.1.1) in
     let months : days_of_months y m ≡ days_in_year y = rw twelve (twelve_months y) in

@@ -1,4 +1,4 @@
--- The reader's steps over the bytes of a text, and its sums.
+-- The reader's steps over the bytes of a text, its slices, and its sums.
 pub mod Additions
 pub mod Digits
 pub mod FractionDigits
@@ -8,4 +8,6 @@ pub mod Points
 pub mod SpanEnds
 pub mod SpanExits
 pub mod Tails
+pub mod UnitMessages
+pub mod Trimming
 pub mod WordKeys

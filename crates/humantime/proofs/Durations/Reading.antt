@@ -13,5 +13,4 @@ pub mod Spellings
 pub mod Stopping
 pub mod Told
 pub mod Unread
-pub mod WorkedTexts
 pub mod Written

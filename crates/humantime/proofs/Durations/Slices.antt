@@ -5,4 +5,3 @@ pub mod LentItems
 pub mod Places
 pub mod SlicesTold
 pub mod SpanSlices
-pub mod Trimming

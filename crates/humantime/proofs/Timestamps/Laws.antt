@@ -1,7 +1,5 @@
 -- What callers cite of timestamps, under the names of `laws`, and the order of printed texts.
-pub mod OneText
 pub mod Order
 pub mod Reading
 pub mod StrictForm
 pub mod TimestampTheorems
-pub mod WorkedTimestamps

@@ -1,4 +1,5 @@
 -- A moment prints as one text.
 pub mod Digits
+pub mod OneText
 pub mod Pairs
 pub mod Printed

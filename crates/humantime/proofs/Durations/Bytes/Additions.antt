@@ -1,6 +1,6 @@
 -- Single additions, and the sum with a whole span.
-use Rattle.std.proofs.Common.{◌≡◌, ◌∙◌, ap, refl, ℕ, ◌-◌, ◌*◌, ◌^◌, ◌<◌, ◌≤◌, Bool, true, false, ◌&&◌, List, ◌∷◌, Option, Some, None, option_map, arith}
-use Rattle.std.specs.Prelude.{nat_le, if◌then◌else◌}
+use Rattle.std.proofs.Common.{◌≡◌, ◌∙◌, ap, refl, ℕ, ◌-◌, ◌*◌, ◌^◌, ◌<◌, ◌≤◌, true, Option, Some, None, option_map, arith}
+use Rattle.std.specs.Prelude.{nat_le}
 use Rattle.std.proofs.lemmas.Grind.{common_steps}
 use Rattle.std.proofs.lemmas.Bool.{le-leb}
 use Rattle.std.proofs.lemmas.Nat.{pow-add}
@@ -8,10 +8,9 @@ use Rattle.std.proofs.Math.Nat.{one-le-pow, pow-le-pow_right, mul-le-mul, mul-mo
 use Rattle.humantime.specs.Durations.Characters.{decimal_value, u64_max}
 use Rattle.humantime.specs.Durations.Units.{Scale, scale_of_word}
 use Rattle.humantime.specs.Durations.Spans.{Span}
-use Rattle.humantime.specs.Durations.Sums.{Addition, fraction_additions}
-use Rattle.humantime.specs.References.Durations.Reading.{add_all, add_span, fraction_fits}
+use Rattle.humantime.specs.References.Durations.Reading.{add_all, add_span}
 use Rattle.humantime.specs.References.Durations.Scales.{Counted, counted}
-use Rattle.humantime.specs.References.Durations.Adding.{add_one, add_times, part_of, add_part}
+use Rattle.humantime.specs.References.Durations.Adding.{add_times, part_of, add_part}
 
 -- the sum with a fraction after an addition, if there is a fraction
 abbrev pub then_add : Option ℕ → ℕ → Option ℕ → Option Counted → Option ℕ
@@ -19,23 +18,11 @@ then_add None base factor fraction = None
 then_add (Some t) base factor None = Some t
 then_add (Some t) base factor (Some p) = add_part t base factor p.0 p.1
 
--- a number and then a fraction add up to what the span adds
-both_parts : (t : ℕ) (x : Addition) (fits : Bool) (base : ℕ) (factor : Option ℕ) (fraction : Option (List ℕ))
-    → then_add (if fits then add_one t x else None) base factor (option_map counted fraction)
-    ≡ (if fits && fraction_fits factor fraction then add_all t (x ∷ fraction_additions base factor fraction) else None)
-unfolding add_all
-both_parts t x false base factor fraction = refl
-both_parts t x true base None None = grind (arith, common_steps)
-both_parts t x true base (Some f) None = grind (arith, common_steps)
-both_parts t x true base None (Some ds) = grind (arith, common_steps)
-both_parts t x true base (Some f) (Some ds) = grind (arith, common_steps)
-
 pub span_adds : (t : ℕ) (s : Span) (u : Scale) (number : ℕ) (fraction : Option Counted)
     → scale_of_word s.word ≡ Some u → number ≡ decimal_value s.number → fraction ≡ option_map counted s.fraction
     → then_add (add_times t u.base u.factor number) u.fraction_base u.fraction_factor fraction ≡ add_span t s
-unfolding add_span
-span_adds t s u number fraction word value parts =
-    rw (word, value, parts) (both_parts t (record { base = u.base; amount = decimal_value s.number * u.factor }) (nat_le (decimal_value s.number * u.factor) u64_max) u.fraction_base u.fraction_factor s.fraction)
+unfolding add_all add_span
+span_adds t s u number fraction word value parts = grind (arith, common_steps)
 
 pub power_positive : (n : ℕ) → 0 < 10 ^ n
 power_positive n = one-le-pow n 10 (omega arith)

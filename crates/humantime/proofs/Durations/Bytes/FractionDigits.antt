@@ -1,18 +1,18 @@
 -- Reading a fraction digit by digit.
-use Rattle.std.proofs.Common.{◌≡◌, ◌≢◌, ◌≤◌, ◌<◌, ◌+◌, ◌-◌, ◌*◌, ◌^◌, ℕ, zero, suc, false, ◌||◌, List, [], ◌∷◌, ◌++◌, length, refl, ap, ap₂, sym, ◌∙◌, arith, Ok, Err, ltb, add-one, append_assoc, append-nil, length-append}
-use Rattle.std.proofs.lemmas.Bool.{lt-ltb, le-ltb, ne_eqb}
+use Rattle.std.proofs.lemmas.Grind.{common_steps}
+use Rattle.std.proofs.Common.{◌≡◌, ◌≢◌, ◌≤◌, ◌<◌, ◌+◌, ◌-◌, ◌*◌, ◌^◌, ℕ, zero, suc, false, ◌||◌, List, [], ◌∷◌, ◌++◌, length, refl, ap, ap₂, sym, ◌∙◌, arith, Ok, Err, ltb, add-one, append_assoc, length-append}
+use Rattle.std.proofs.lemmas.Bool.{lt-ltb, ne_eqb}
 use Rattle.std.proofs.lemmas.Nat.{pow-add}
 use Rattle.std.proofs.Math.Nat.{pow-suc, pow-le-pow_right, mul-le-mul_right}
 use Rattle.std.specs.Str.Parse.{digits_value_after}
 use Rattle.humantime.specs.declared.duration.reading.class.Class.TheVariants.{Digit, White}
 use Rattle.humantime.specs.Durations.Characters.{is_numeric, begins, leading, past, digits, decimal_value, significant}
-use Rattle.humantime.specs.Durations.Faults.{NumberOverflow}
-use Rattle.humantime.specs.Durations.Rests.{number_of, after_number}
+use Rattle.humantime.specs.Durations.Faults.{NumberOverflow, number_of, after_number}
 use Rattle.humantime.specs.References.Durations.Classes.{class_of}
 use Rattle.humantime.specs.References.Durations.Scales.{has_digits}
 use Rattle.humantime.specs.References.Durations.Scanning.{digits_at}
 use Rattle.humantime.proofs.Durations.Bytes.Digits.{digit_greatest, digit_counts}
-use Rattle.humantime.proofs.Durations.Bytes.Numbers.{digit_first, space_first, past_digit, past_white, no_digits, rest_there}
+use Rattle.humantime.proofs.Durations.Bytes.Numbers.{digit_first, space_first, past_digit, past_white}
 use Rattle.humantime.proofs.Durations.Reading.SignificantDigits.{zeros, zeros_cons, length-zeros, value-append, value-zeros, significant-zeros_behind, significant_long, significant_last}
 
 -- The digits that are read begin with n of them, read as v, that end with no zero, and z zeros follow; the other digits that
@@ -32,34 +32,11 @@ unfolding significant
 among_none text = record { taken = []; all = refl; value = refl; count = refl; kept = refl; rest_is = refl; small = omega arith; fits = omega arith }
 
 pub among_space : (text rest cs : List ℕ) (v n z c : ℕ) → IsAmong text v n z rest → rest ≡ c ∷ cs → class_of c ≡ White → IsAmong text v n z cs
-among_space text rest cs v n z c h e d = record {
-  taken = h.taken;
-  all = h.all ∙ ap (λ (l : List ℕ). h.taken ++ (zeros z ++ l)) (space_first c cs rest e d);
-  value = h.value;
-  count = h.count;
-  kept = h.kept;
-  rest_is = sym (past_white c cs rest e d) ∙ h.rest_is;
-  small = h.small;
-  fits = h.fits;
-}
-
-one_more : (z : ℕ) → suc z ≡ z + 1
-one_more z = omega arith
+among_space text rest cs v n z c h e d = grind (arith, common_steps, space_first, past_white)
 
 -- a zero is one zero more
 pub among_zero : (text rest cs : List ℕ) (v n z c : ℕ) → IsAmong text v n z rest → rest ≡ c ∷ cs → class_of c ≡ Digit → c ≡ 48 → IsAmong text v n (z + 1) cs
-among_zero text rest cs v n z c h e d is_zero = record {
-  taken = h.taken;
-  all = h.all ∙ ap (λ (l : List ℕ). h.taken ++ (zeros z ++ l)) (digit_first c cs rest e d ∙ ap (λ (x : ℕ). x ∷ digits (leading is_numeric cs)) is_zero)
-      ∙ ap (λ (l : List ℕ). h.taken ++ l) (zeros_cons z (digits (leading is_numeric cs)))
-      ∙ ap (λ (k : ℕ). h.taken ++ (zeros k ++ digits (leading is_numeric cs))) (one_more z);
-  value = h.value;
-  count = h.count;
-  kept = h.kept;
-  rest_is = sym (past_digit c cs rest e d) ∙ h.rest_is;
-  small = h.small;
-  fits = h.fits;
-}
+among_zero text rest cs v n z c h e d is_zero = grind (arith, common_steps, digit_first, zeros_cons, past_digit)
 
 -- the zeros and one digit more fit where they are at most 19
 pub shifted_fits : (v n z d : ℕ) → v < 10 ^ n → d ≤ 9 → v * 10 ^ (z + 1) + d < 10 ^ (n + z + 1)
@@ -71,9 +48,7 @@ shifted_fits v n z d fits digit =
     omega (arith, longer, some, below)
 
 pub push_fits : (v n z d p : ℕ) → v < 10 ^ n → d ≤ 9 → n + z + 1 ≤ 19 → p ≡ 10 ^ (z + 1) → v * p + d < 2 ^ 64
-push_fits v n z d p fits digit few power =
-    let top : 10 ^ (n + z + 1) ≤ 10 ^ 19 = pow-le-pow_right {n = 10} (omega arith) {i = n + z + 1} {j = 19} few in
-    rw power (omega (arith, top, shifted_fits v n z d fits digit))
+push_fits v n z d p fits digit few power = grind (arith, common_steps, (pow-le-pow_right {n = 10} (omega arith) {i = n + z + 1} {j = 19} few), shifted_fits)
 
 -- another digit follows the zeros
 pub among_digit : (text rest cs : List ℕ) (v n z w m c : ℕ) → IsAmong text v n z rest → rest ≡ c ∷ cs → class_of c ≡ Digit → c ≢ 48
@@ -116,13 +91,4 @@ digits_of (d ∷ ds) z n count = rw (lt-ltb 0 n (omega (arith, count))) refl
 
 -- what is kept is the fraction, where no digit and no white space follows
 pub digits_end : (text rest : List ℕ) (v n z : ℕ) → IsAmong text v n z rest → begins is_numeric rest ≡ false → Ok ((v, n, ltb 0 n || ltb 0 z), rest) ≡ digits_at text
-digits_end text rest v n z h e =
-    let all : number_of text ≡ h.taken ++ zeros z =
-    h.all ∙ ap (λ (l : List ℕ). h.taken ++ (zeros z ++ l)) (no_digits rest e) ∙ ap (λ (l : List ℕ). h.taken ++ l) (append-nil (zeros z)) in
-    let same : significant (number_of text) ≡ h.taken = ap significant all ∙ significant-zeros_behind h.taken z ∙ h.kept in
-    let few : length (significant (number_of text)) ≤ 19 = omega (arith, ap length same, h.count, h.small) in
-    let some : (ltb 0 n || ltb 0 z) ≡ has_digits (number_of text) = digits_of h.taken z n h.count ∙ ap has_digits (sym all) in
-    let value : v ≡ decimal_value (significant (number_of text)) = sym (ap decimal_value same ∙ h.value) in
-    let count : n ≡ length (significant (number_of text)) = sym (ap length same ∙ h.count) in
-    let after : rest ≡ after_number text = sym (rest_there rest e) ∙ h.rest_is in
-    rw (le-ltb 19 (length (significant (number_of text))) few, some, value, count, ← after) refl
+digits_end text rest v n z h e = grind (arith, common_steps, significant-zeros_behind, digits_of)

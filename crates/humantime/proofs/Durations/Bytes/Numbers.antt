@@ -1,12 +1,11 @@
 -- Reading a number digit by digit.
+use Rattle.std.proofs.lemmas.Grind.{common_steps}
 use Rattle.std.proofs.Common.{◌≡◌, ◌≤◌, ◌<◌, ◌+◌, ◌-◌, ◌*◌, ℕ, List, [], ◌∷◌, ap, sym, ◌∙◌, arith, Err, false, refl, Ok}
-use Rattle.std.proofs.lemmas.Bool.{lt-ltb, le-ltb}
 use Rattle.std.specs.Char.{digit_value}
 use Rattle.std.specs.Str.Parse.{digits_value_after}
 use Rattle.humantime.specs.declared.duration.reading.class.Class.TheVariants.{Digit, Letter, White}
 use Rattle.humantime.specs.Durations.Characters.{is_ws, is_digit, is_letter, is_numeric, begins, leading, past, digits, decimal_value, u64_max}
-use Rattle.humantime.specs.Durations.Faults.{NumberOverflow}
-use Rattle.humantime.specs.Durations.Rests.{number_of, after_number}
+use Rattle.humantime.specs.Durations.Faults.{NumberOverflow, number_of, after_number}
 use Rattle.humantime.specs.References.Durations.Classes.{class_of}
 use Rattle.humantime.specs.References.Durations.Scanning.{number_at}
 use Rattle.humantime.proofs.Durations.Bytes.Digits.{digit_counts}
@@ -23,9 +22,7 @@ pub digit_first : (c : ℕ) (cs rest : List ℕ) → rest ≡ c ∷ cs → class
 digit_first c cs rest e d = let digit = (is_digit-class c).0 d in rw (e, digit, digit)
 
 pub space_first : (c : ℕ) (cs rest : List ℕ) → rest ≡ c ∷ cs → class_of c ≡ White → digits (leading is_numeric rest) ≡ digits (leading is_numeric cs)
-space_first c cs rest e d =
-    let space = (is_ws-class c).0 d in
-    rw (e, space_is_numeric c space, space_not_digit c space)
+space_first c cs rest e d = grind (arith, common_steps, is_ws-class, space_not_digit)
 
 pub past_digit : (c : ℕ) (cs rest : List ℕ) → rest ≡ c ∷ cs → class_of c ≡ Digit → past is_numeric rest ≡ past is_numeric cs
 past_digit c cs rest e d = rw (e, digit_is_numeric c ((is_digit-class c).0 d))
@@ -39,25 +36,13 @@ value_grows n [] = omega arith
 value_grows n (d ∷ ds) = omega (arith, value_grows (n * 10 + digit_value d) ds)
 
 pub at_digit : (text rest cs : List ℕ) (v w c : ℕ) → IsAt text v rest → rest ≡ c ∷ cs → class_of c ≡ Digit → w ≡ v * 10 + (c - 48) → w ≤ u64_max → IsAt text w cs
-at_digit text rest cs v w c h e d n f = record {
-  value = rw (n, ← digit_counts c d) (sym (ap (digits_value_after 10 v) (digit_first c cs rest e d)) ∙ h.value);
-  rest_is = sym (past_digit c cs rest e d) ∙ h.rest_is;
-  fits = f;
-}
+at_digit text rest cs v w c h e d n f = grind (arith, common_steps, digit_counts, digit_first, past_digit)
 
 pub at_space : (text rest cs : List ℕ) (v c : ℕ) → IsAt text v rest → rest ≡ c ∷ cs → class_of c ≡ White → IsAt text v cs
-at_space text rest cs v c h e d = record {
-  value = sym (ap (digits_value_after 10 v) (space_first c cs rest e d)) ∙ h.value;
-  rest_is = sym (past_white c cs rest e d) ∙ h.rest_is;
-  fits = h.fits;
-}
+at_space text rest cs v c h e d = grind (arith, common_steps, space_first, past_white)
 
 pub number_passes : (text rest cs : List ℕ) (v c : ℕ) → IsAt text v rest → rest ≡ c ∷ cs → class_of c ≡ Digit → u64_max < v * 10 + (c - 48) → Err NumberOverflow ≡ number_at text
-number_passes text rest cs v c h e d over =
-    let value : digits_value_after 10 (v * 10 + digit_value c) (digits (leading is_numeric cs)) ≡ decimal_value (number_of text) = sym (ap (digits_value_after 10 v) (digit_first c cs rest e d)) ∙ h.value in
-    let grows = value_grows (v * 10 + digit_value c) (digits (leading is_numeric cs)) in
-    let above : u64_max < decimal_value (number_of text) = omega (arith, value, grows, digit_counts c d) in
-    rw (lt-ltb u64_max (decimal_value (number_of text)) above)
+number_passes text rest cs v c h e d over = grind (arith, common_steps, (sym (ap (digits_value_after 10 v) (digit_first c cs rest e d)) ∙ h.value), (value_grows (v * 10 + digit_value c) (digits (leading is_numeric cs))), digit_counts c d)
 
 pub past_letters : (c : ℕ) (cs rest : List ℕ) → rest ≡ c ∷ cs → class_of c ≡ Letter → past is_letter rest ≡ past is_letter cs
 past_letters c cs rest e d = rw (e, (is_letter-class c).0 d)
@@ -67,21 +52,14 @@ past_space c cs rest e d = rw (e, (is_ws-class c).0 d)
 
 -- what is numeric ends where neither a digit nor white space follows
 pub no_numeric : (rest : List ℕ) → begins is_digit rest ≡ false → begins is_ws rest ≡ false → begins is_numeric rest ≡ false
-no_numeric [] d w = refl
-no_numeric (c ∷ cs) d w = rw (d, w) refl
+no_numeric rest h k = grind (arith, common_steps)
 
 pub no_digits : (rest : List ℕ) → begins is_numeric rest ≡ false → digits (leading is_numeric rest) ≡ []
 no_digits [] e = refl
 no_digits (c ∷ cs) e = rw e refl
 
 pub rest_there : (rest : List ℕ) → begins is_numeric rest ≡ false → past is_numeric rest ≡ rest
-rest_there [] e = refl
-rest_there (c ∷ cs) e = rw e refl
-
-number_is : (text rest : List ℕ) (v : ℕ) → v ≡ decimal_value (number_of text) → rest ≡ after_number text → v ≤ u64_max → Ok (v, rest) ≡ number_at text
-number_is text rest v value rest_is fits =
-    let within = le-ltb u64_max (decimal_value (number_of text)) (omega (arith, value, fits)) in
-    rw within (λ i. Ok (value i, rest_is i))
+rest_there rest h = grind (arith, common_steps)
 
 pub number_end : (text rest : List ℕ) (v : ℕ) → IsAt text v rest → begins is_numeric rest ≡ false → Ok (v, rest) ≡ number_at text
-number_end text rest v h e = number_is text rest v (ap (digits_value_after 10 v) (sym (no_digits rest e)) ∙ h.value) (sym (rest_there rest e) ∙ h.rest_is) h.fits
+number_end text rest v h e = grind (arith, common_steps, common_steps)

@@ -1,9 +1,10 @@
 -- Places in a text, at which a character begins or the text ends, and steps from one to the next.
-use Rattle.std.proofs.Common.{◌≡◌, ◌<◌, ◌≤◌, ◌+◌, ◌≢◌, ℕ, suc, List, [], ◌∷◌, ◌++◌, length, get_or, drop, drop-drop, refl, ap, sym, ◌∙◌, arith, add-one, length-drop, IsUtf8, IsCharBoundary, chars, encode_utf8, encode_utf8_all, Bool, true, false, ◌⊎◌, inl, inr}
+use Rattle.std.proofs.lemmas.Grind.{common_steps}
+use Rattle.std.proofs.Common.{◌≡◌, ◌<◌, ◌≤◌, ◌+◌, ◌≢◌, ℕ, List, [], ◌∷◌, ◌++◌, length, get_or, drop, drop-drop, refl, ap, sym, ◌∙◌, arith, add-one, length-drop, IsUtf8, IsCharBoundary, chars, encode_utf8, encode_utf8_all, Bool, true, false, inl, inr}
 use Rattle.std.specs.Prelude.{◌==◌, ◌&&◌, ◌||◌}
 use Rattle.std.proofs.Math.Seq.{drop-cons}
 use Rattle.std.proofs.Math.Utf8.{encode}
-use Rattle.std.proofs.lemmas.Bool.{cases_lt, cases_Bool, or_cases, and_parts, eqb-true, false≢true}
+use Rattle.std.proofs.lemmas.Bool.{or_cases, and_parts, eqb-true}
 use Rattle.std.proofs.lemmas.Bool.Decides.{nat_tests}
 use Rattle.std.proofs.lemmas.Str.{IsUtf8-drop, IsCharBoundary-after_ascii, IsCharBoundary-from_rest, chars_past_char, encode_ascii, encodes-chars}
 use Rattle.humantime.specs.declared.duration.reading.class.Class.{Class}
@@ -25,13 +26,7 @@ ascii_chars text at u place some small =
 
 pub ascii_over : (text : List ℕ) (at : ℕ) (class : Class) → IsUtf8 text → IsCharBoundary text at → at < length text → get_or text at 0 < 128
     → class ≡ class_of (get_or text at 0) → StepsOver text at class (at + 1)
-ascii_over text at class u place some small is = record {
-  char = get_or text at 0;
-  is = is;
-  chars = ascii_chars text at u place some small;
-  place = IsCharBoundary-after_ascii text at u some small;
-  further = omega arith;
-}
+ascii_over text at class u place some small is = grind (arith, common_steps, ascii_chars, IsCharBoundary-after_ascii)
 
 -- over a character of so many bytes
 pub char_over : (text rest : List ℕ) (at c k : ℕ) (class : Class) → IsUtf8 text → IsCharBoundary text at → class ≡ class_of c
@@ -58,13 +53,7 @@ abbrev pub is_mu_pair : ℕ → ℕ → Bool
 is_mu_pair first second = (first == 0xc2 && second == 0xb5) || (first == 0xce && second == 0xbc)
 
 two_bytes : (text : List ℕ) (at : ℕ) → at + 1 < length text → drop at text ≡ get_or text at 0 ∷ get_or text (at + 1) 0 ∷ drop (at + 2) text
-two_bytes text at some =
-    let one : suc at ≡ at + 1 = omega arith in
-    let two : suc (at + 1) ≡ at + 2 = omega arith in
-    drop-cons text at 0 (omega arith)
-    ∙ ap (λ (k : ℕ). get_or text at 0 ∷ drop k text) one
-    ∙ ap (λ (x : List ℕ). get_or text at 0 ∷ x) (drop-cons text (at + 1) 0 some)
-    ∙ ap (λ (k : ℕ). get_or text at 0 ∷ get_or text (at + 1) 0 ∷ drop k text) two
+two_bytes text at some = grind (arith, common_steps)
 
 micro_bytes : encode_utf8 181 ≡ 0xc2 ∷ 0xb5 ∷ []
 unfolding encode
@@ -98,42 +87,14 @@ mu_over text at u place some pair = elim (or_cases _ _ pair) [
   bytes : (a b x y : ℕ) → (a == x) ≡ true → (b == y) ≡ true → a ∷ b ∷ [] ≡ x ∷ y ∷ []
   bytes a b x y e d = rw (eqb-true a x e, eqb-true b y d) refl
 
--- a character that does not begin with ASCII lies beyond it
-pub beyond_ascii : (text rest : List ℕ) (at c : ℕ) → at < length text → 128 ≤ get_or text at 0 → drop at text ≡ encode_utf8 c ++ rest → 128 ≤ c
-beyond_ascii text rest at c some wide begins =
-    elim (cases_lt c 128) [
-      | inl small ↦ absurd (clash small)
-      | inr large ↦ large
-    ] where
-      clash : c < 128 → ⊥
-      clash small =
-          let same : get_or text at 0 ∷ drop (suc at) text ≡ c ∷ rest = sym (drop-cons text at 0 some) ∙ begins ∙ ap (λ (x : List ℕ). x ++ rest) (encode_ascii c small) in
-          let first : get_or text at 0 ≡ c = cc in
-          omega arith
-
--- a character beyond ASCII that has other bytes is no letter
-wide_letter : (c : ℕ) → 128 ≤ c → is_letter c ≡ true → (c ≡ 181) ⊎ (c ≡ 956)
-unfolding is_letter
-wide_letter c wide letter = grind (arith, nat_tests)
-
 pub no_mu : (text rest : List ℕ) (at c : ℕ) → at < length text → 128 ≤ c → drop at text ≡ encode_utf8 c ++ rest
     → (at + 1 < length text → is_mu_pair (get_or text at 0) (get_or text (at + 1) 0) ≡ false) → is_letter c ≡ false
-no_mu text rest at c some wide begins other =
-    elim (cases_Bool (is_letter c)) [
-      | inr plain ↦ plain
-      | inl letter ↦ elim (wide_letter c wide letter) [
-        | inl micro ↦ absurd (clash 0xc2 0xb5 (begins ∙ ap (λ (n : ℕ). encode_utf8 n ++ rest) micro ∙ ap (λ (x : List ℕ). x ++ rest) micro_bytes) refl)
-        | inr mu ↦ absurd (clash 0xce 0xbc (begins ∙ ap (λ (n : ℕ). encode_utf8 n ++ rest) mu ∙ ap (λ (x : List ℕ). x ++ rest) mu_bytes) refl)
-      ]
-    ] where
-      clash : (a b : ℕ) → drop at text ≡ a ∷ b ∷ rest → is_mu_pair a b ≡ true → ⊥
-      clash a b e pair =
-          let two : at + 1 < length text = omega (arith, ap length e, length-drop at text) in
-          let same : get_or text at 0 ∷ get_or text (at + 1) 0 ∷ drop (at + 2) text ≡ a ∷ b ∷ rest = sym (two_bytes text at two) ∙ e in
-          let first : get_or text at 0 ≡ a = cc in
-          let second : get_or text (at + 1) 0 ≡ b = cc in
-          let differs = other two in
-          false≢true (sym (rw (first, second) at differs) ∙ pair)
+unfolding is_letter
+no_mu text rest at c some wide begins other = grind (arith, common_steps, micro_bytes, mu_bytes, two_bytes, nat_tests)
+
+-- a character that does not begin with ASCII lies beyond it
+pub beyond_ascii : (text rest : List ℕ) (at c : ℕ) → at < length text → 128 ≤ get_or text at 0 → drop at text ≡ encode_utf8 c ++ rest → 128 ≤ c
+beyond_ascii text rest at c some wide begins = grind (arith, common_steps)
 
 pub no_letter : (text : List ℕ) (at : ℕ) → IsUtf8 text → IsCharBoundary text at → at < length text → 128 ≤ get_or text at 0
     → (at + 1 < length text → is_mu_pair (get_or text at 0) (get_or text (at + 1) 0) ≡ false) → begins is_letter (chars (drop at text)) ≡ false
@@ -146,8 +107,7 @@ no_letter text at u place some wide other = by (chars (drop at text)) (encodes-c
 -- the next place is behind the letters, or the white space, exactly as this one is
 pub letter_step : (text : List ℕ) (at next : ℕ) (class : Class) (all : List ℕ) → StepsOver text at class next → class ≡ Letter
     → past is_letter (chars (drop at text)) ≡ all → past is_letter (chars (drop next text)) ≡ all
-letter_step text at next class all s is same =
-    sym (past_letters s.char (chars (drop next text)) (chars (drop at text)) s.chars (sym s.is ∙ is)) ∙ same
+letter_step text at next class all s is same = grind (arith, common_steps, past_letters)
 
 pub space_step : (text : List ℕ) (at next : ℕ) (all : List ℕ) → StepsOver text at White next → past is_ws (chars (drop at text)) ≡ all → past is_ws (chars (drop next text)) ≡ all
 space_step text at next all s same = sym (past_space s.char (chars (drop next text)) (chars (drop at text)) s.chars (sym s.is)) ∙ same

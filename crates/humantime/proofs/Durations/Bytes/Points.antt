@@ -1,4 +1,5 @@
 -- How a text begins: with a digit, with a point.
+use Rattle.std.proofs.lemmas.Grind.{common_steps}
 use Rattle.std.proofs.Common.{◌≡◌, ◌≢◌, ◌<◌, ◌∙◌, ◌+◌, ℕ, true, false, ap, length, drop, length-drop, IsCharBoundary, List, [], ◌∷◌, inl, inr, refl, sym, get_or, IsUtf8, chars, encode_utf8_all, arith}
 use Rattle.std.specs.Char.{is_ascii_digit}
 use Rattle.std.proofs.lemmas.List.{get_or-drop}
@@ -8,7 +9,6 @@ use Rattle.humantime.specs.Durations.Characters.{is_digit, is_point, begins}
 use Rattle.humantime.specs.declared.duration.reading.class.Class.TheVariants.{Digit}
 use Rattle.humantime.specs.References.Durations.Scanning.{digits_at, with_some, fraction_read}
 use Rattle.humantime.proofs.Durations.Reading.Classes.{is_point-46, is_point-true, digit_is, wide_no_digit, ascii_digit_class}
-use Rattle.humantime.proofs.Durations.Bytes.Digits.{digit_greatest}
 use Rattle.humantime.proofs.Durations.Bytes.PlaceSteps.{ascii_chars}
 use Rattle.humantime.specs.References.Durations.Classes.{class_of}
 
@@ -54,7 +54,4 @@ pub record IsDigitAt (text : List ℕ) (at : ℕ) : Type 0 where
   pub place : IsCharBoundary text (at + 1)
 
 pub digit_here : (text : List ℕ) (at : ℕ) → IsUtf8 text → IsCharBoundary text at → at < length text → is_ascii_digit (get_or text at 0) ≡ true → IsDigitAt text at
-digit_here text at u place some d =
-    let is : class_of (get_or text at 0) ≡ Digit = ascii_digit_class (get_or text at 0) d in
-    let small : get_or text at 0 < 128 = omega (arith, digit_greatest (get_or text at 0) is) in
-    record { is = is; chars = ascii_chars text at u place some small; place = IsCharBoundary-after_ascii text at u some small }
+digit_here text at u place some d = grind (arith, common_steps, ascii_digit_class, ascii_chars, IsCharBoundary-after_ascii)

@@ -1,5 +1,6 @@
 -- A span ends before the end, a digit and white space.
-use Rattle.std.proofs.Common.{◌≡◌, ◌≤◌, ◌<◌, ◌∙◌, ℕ, Bool, true, false, List, [], ◌∷◌, length, get_or, chars, encode_utf8_all, IsUtf8, refl, sym, ap, inl, inr, arith}
+use Rattle.std.proofs.lemmas.Grind.{common_steps}
+use Rattle.std.proofs.Common.{◌≡◌, ◌≤◌, ◌<◌, ◌∙◌, ℕ, Bool, true, false, List, [], ◌∷◌, length, get_or, chars, encode_utf8_all, IsUtf8, refl, sym, ap, inr, arith}
 use Rattle.std.proofs.lemmas.Str.{IsCharBoundary-start, encodes-chars}
 use Rattle.humantime.specs.declared.duration.reading.class.Class.{Class}
 use Rattle.humantime.specs.declared.duration.reading.class.Class.TheVariants.{White, Digit, Letter, Point, Other}
@@ -18,11 +19,7 @@ ends_before Point = false
 ends_before Other = false
 
 numeric_by_class : (c : ℕ) (k : Class) → class_of c ≡ k → is_numeric c ≡ ends_before k
-numeric_by_class c White e = numeric_class c (inr e)
-numeric_by_class c Digit e = numeric_class c (inl e)
-numeric_by_class c Letter e = not_numeric c (λ w. cc) (λ d. cc)
-numeric_by_class c Point e = not_numeric c (λ w. cc) (λ d. cc)
-numeric_by_class c Other e = not_numeric c (λ w. cc) (λ d. cc)
+numeric_by_class c k e = grind (arith, common_steps, numeric_class, not_numeric)
 
 pub ends_by_class : (text : List ℕ) (k : Class) → IsUtf8 text → 0 < length text → get_or text 0 0 < 128 → k ≡ class_of (get_or text 0 0)
     → ends_before k ≡ ends_span (chars text)

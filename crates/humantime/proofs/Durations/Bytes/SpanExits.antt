@@ -1,19 +1,20 @@
 -- What is known of a rest once its number, its fraction and its word are read, and how each exit answers.
+use Rattle.std.proofs.Common.{arith}
+use Rattle.std.proofs.lemmas.Grind.{common_steps}
 use Rattle.std.proofs.Common.{◌≡◌, ◌≢◌, ◌++◌, ℕ, Bool, true, false, List, [], ◌∷◌, Option, Some, None, option_map, if◌then◌else◌, refl, sym, ap, ◌∙◌}
 use Rattle.std.proofs.lemmas.List.{append_cancel_right}
 use Rattle.std.specs.Str.{drop_trailing_whitespace}
 use Rattle.humantime.specs.declared.duration.reading.amount.Amount.{Amount}
-use Rattle.humantime.specs.Durations.Characters.{is_numeric, is_point, leading, past, decimal_value, byte_length, offset_of}
+use Rattle.humantime.specs.Durations.Characters.{is_numeric, is_point, leading, past, byte_length, offset_of}
 use Rattle.humantime.specs.Durations.Units.{Scale, scale_of_word}
-use Rattle.humantime.specs.Durations.Rests.{number_of, after_number, fraction_of, past_fraction, word_of, after_word, span_of}
-use Rattle.humantime.specs.Durations.Faults.{Fault, InvalidCharacter, UnknownUnit, NumberOverflow}
-use Rattle.humantime.specs.References.Durations.Reading.{too_long, stop_word, stop_by, stop_at}
-use Rattle.humantime.specs.References.Durations.Scales.{Counted, scale_of, counted, parts_of, IsAmountOf}
+use Rattle.humantime.specs.Durations.Faults.{after_number, fraction_of, word_of, after_word, span_of, Fault, InvalidCharacter, UnknownUnit, NumberOverflow}
+use Rattle.humantime.specs.References.Durations.Lending.{past_fraction, trimmed, number_slice, fraction_slice, lent_at, spelled}
+use Rattle.humantime.specs.References.Durations.Reading.{too_long, stop_by, stop_at}
+use Rattle.humantime.specs.References.Durations.Scales.{Counted, scale_of, parts_of, IsAmountOf}
 use Rattle.humantime.specs.References.Durations.Scanning.{bare, ends_span, fault_without_word, fraction_in}
 use Rattle.humantime.specs.References.Durations.SpanParts.{IsSpanRead}
-use Rattle.humantime.specs.References.Durations.Lending.{trimmed, number_slice, fraction_slice, lent_at, spelled}
 use Rattle.humantime.proofs.Durations.Reading.Runs.{leading-past}
-use Rattle.humantime.proofs.Durations.Slices.Trimming.{spelled_at}
+use Rattle.humantime.proofs.Durations.Bytes.Trimming.{spelled_at}
 
 pub exit_long : (text rest : List ℕ) (f : Fault) → too_long (span_of rest) ≡ true → f ≡ NumberOverflow → stop_at text rest ≡ Some f
 unfolding stop_at
@@ -24,76 +25,27 @@ stop_short : (text rest : List ℕ) → too_long (span_of rest) ≡ false → st
 unfolding stop_at
 stop_short text rest e = rw e
 
-no_word : (text rest : List ℕ) (f : Option (List ℕ)) (next : List ℕ)
-    → stop_by text rest f [] next ≡ Some (fault_without_word text (after_number rest) next (option_map counted f) (decimal_value (number_of rest)))
-no_word text rest None [] = refl
-no_word text rest None (c ∷ cs) = refl
-no_word text rest (Some []) [] = refl
-no_word text rest (Some []) (c ∷ cs) = refl
-no_word text rest (Some (d ∷ ds)) [] = refl
-no_word text rest (Some (d ∷ ds)) (c ∷ cs) = refl
-
-bare_point : (text rest : List ℕ) (f : Option (List ℕ)) (word next : List ℕ) → bare (option_map counted f) ≡ true → word ≢ []
-    → stop_by text rest f word next ≡ Some (InvalidCharacter (offset_of text (after_number rest)))
-bare_point text rest None word next b n = cc
-bare_point text rest (Some []) [] next b n = absurd (n refl)
-bare_point text rest (Some []) (w ∷ ws) next b n = refl
-bare_point text rest (Some (d ∷ ds)) word next b n = cc
-
-bad_next : (text rest : List ℕ) (f : Option (List ℕ)) (word next : List ℕ) → bare (option_map counted f) ≡ false → word ≢ [] → ends_span next ≡ false
-    → stop_by text rest f word next ≡ Some (InvalidCharacter (offset_of text next))
-bad_next text rest f [] next b n e = absurd (n refl)
-bad_next text rest f (w ∷ ws) [] b n e = cc
-bad_next text rest None (w ∷ ws) (c ∷ cs) b n e = rw e
-bad_next text rest (Some []) (w ∷ ws) (c ∷ cs) b n e = cc
-bad_next text rest (Some (d ∷ ds)) (w ∷ ws) (c ∷ cs) b n e = rw e
-
-by_word : (text rest : List ℕ) (f : Option (List ℕ)) (word next : List ℕ) → bare (option_map counted f) ≡ false → word ≢ [] → ends_span next ≡ true
-    → stop_by text rest f word next ≡ stop_word text rest (scale_of_word word)
-by_word text rest f [] next b n e = absurd (n refl)
-by_word text rest (Some []) (w ∷ ws) next b n e = cc
-by_word text rest None (w ∷ ws) [] b n e = refl
-by_word text rest (Some (d ∷ ds)) (w ∷ ws) [] b n e = refl
-by_word text rest None (w ∷ ws) (c ∷ cs) b n e = rw e
-by_word text rest (Some (d ∷ ds)) (w ∷ ws) (c ∷ cs) b n e = rw e
-
 -- the exits
 pub exit_no_word : (text rest : List ℕ) (v : ℕ) (o : Option Counted) (after behind letters next : List ℕ) → IsSpanRead rest v o after behind letters next
     → letters ≡ [] → stop_at text rest ≡ Some (fault_without_word text after next o v)
-exit_no_word text rest v o after behind letters next s e =
-    stop_short text rest s.short
-    ∙ ap (λ (w : List ℕ). stop_by text rest (fraction_of rest) w (after_word rest)) (sym s.letters_is ∙ e)
-    ∙ rw (s.value_is, s.fraction_is, s.after_is, s.next_is) (no_word text rest (fraction_of rest) (after_word rest))
+exit_no_word text rest v o after behind letters next s e = grind (arith, common_steps, stop_short)
 
 pub exit_bare : (text rest : List ℕ) (v : ℕ) (o : Option Counted) (after behind letters next : List ℕ) → IsSpanRead rest v o after behind letters next
     → bare o ≡ true → letters ≢ [] → stop_at text rest ≡ Some (InvalidCharacter (offset_of text after))
-exit_bare text rest v o after behind letters next s b n =
-    stop_short text rest s.short
-    ∙ rw s.after_is (bare_point text rest (fraction_of rest) (word_of rest) (after_word rest) (sym (ap bare s.fraction_is) ∙ b) (λ z. n (s.letters_is ∙ z)))
+exit_bare text rest v o after behind letters next s b n = grind (arith, common_steps, stop_short)
 
 pub exit_after : (text rest : List ℕ) (v : ℕ) (o : Option Counted) (after behind letters next : List ℕ) → IsSpanRead rest v o after behind letters next
     → bare o ≡ false → letters ≢ [] → ends_span next ≡ false → stop_at text rest ≡ Some (InvalidCharacter (offset_of text next))
-exit_after text rest v o after behind letters next s b n e =
-    stop_short text rest s.short
-    ∙ rw s.next_is (bad_next text rest (fraction_of rest) (word_of rest) (after_word rest) (sym (ap bare s.fraction_is) ∙ b) (λ z. n (s.letters_is ∙ z)) (sym (ap ends_span s.next_is) ∙ e))
-
-exit_word : (text rest : List ℕ) (v : ℕ) (o : Option Counted) (after behind letters next : List ℕ) → IsSpanRead rest v o after behind letters next
-    → bare o ≡ false → letters ≢ [] → ends_span next ≡ true → stop_at text rest ≡ stop_word text rest (scale_of_word letters)
-exit_word text rest v o after behind letters next s b n e =
-    stop_short text rest s.short
-    ∙ by_word text rest (fraction_of rest) (word_of rest) (after_word rest) (sym (ap bare s.fraction_is) ∙ b) (λ z. n (s.letters_is ∙ z)) (sym (ap ends_span s.next_is) ∙ e)
-    ∙ ap (λ (w : List ℕ). stop_word text rest (scale_of_word w)) (sym s.letters_is)
+exit_after text rest v o after behind letters next s b n e = grind (arith, common_steps, stop_short)
 
 pub exit_unit : (text rest : List ℕ) (v : ℕ) (o : Option Counted) (after behind letters next : List ℕ) → IsSpanRead rest v o after behind letters next
     → bare o ≡ false → letters ≢ [] → ends_span next ≡ true → scale_of_word letters ≡ None
     → stop_at text rest ≡ Some (UnknownUnit (offset_of text behind) (offset_of text next) letters v)
-exit_unit text rest v o after behind letters next s b n e u =
-    exit_word text rest v o after behind letters next s b n e ∙ ap (stop_word text rest) u ∙ rw (s.behind_is, s.next_is, s.letters_is, s.value_is)
+exit_unit text rest v o after behind letters next s b n e u = grind (arith, common_steps, stop_short)
 
 pub exit_fine : (text rest : List ℕ) (v : ℕ) (o : Option Counted) (after behind letters next : List ℕ) (u : Scale) → IsSpanRead rest v o after behind letters next
     → bare o ≡ false → letters ≢ [] → ends_span next ≡ true → scale_of_word letters ≡ Some u → stop_at text rest ≡ None
-exit_fine text rest v o after behind letters next u s b n e w =
-    exit_word text rest v o after behind letters next s b n e ∙ ap (stop_word text rest) w
+exit_fine text rest v o after behind letters next u s b n e w = grind (arith, common_steps, stop_short)
 
 -- the slices of a span that was read
 integer_is : (rest integer after : List ℕ) → rest ≡ integer ++ after → after ≡ after_number rest → integer ≡ leading is_numeric rest
@@ -106,7 +58,7 @@ middle_is [] [] behind e b = refl
 middle_is [] (m ∷ ms) behind e b = cc
 middle_is (c ∷ cs) middle behind e b = by (is_point c) refl e b
   where
-    by : (p : Bool) → is_point c ≡ p → c ∷ cs ≡ middle ++ behind → behind ≡ (if p then past is_numeric cs else c ∷ cs) → fraction_in middle ≡ option_map trimmed (if p then Some (leading is_numeric cs) else None)
+    by : (p : Bool) → is_point c ≡ p → c ∷ cs ≡ middle ++ behind → behind ≡ (if p then past is_numeric cs else c ∷ cs) → fraction_in middle ≡ (if p then Some (trimmed (leading is_numeric cs)) else None)
     by true h e b =
         ap fraction_in
         (append_cancel_right middle (c ∷ leading is_numeric cs) behind
@@ -121,10 +73,7 @@ pub record AreSlices (rest integer middle : List ℕ) : Type 0 where
 
 pub slices_read : (rest : List ℕ) (v : ℕ) (o : Option Counted) (after behind letters next integer middle : List ℕ) → IsSpanRead rest v o after behind letters next
     → rest ≡ integer ++ after → after ≡ middle ++ behind → AreSlices rest integer middle
-slices_read rest v o after behind letters next integer middle s i m = record {
-  number = ap drop_trailing_whitespace (integer_is rest integer after i s.after_is);
-  fraction = middle_is after middle behind m (s.behind_is ∙ sym (ap past_fraction s.after_is)) ∙ ap fraction_slice s.after_is;
-}
+slices_read rest v o after behind letters next integer middle s i m = grind (arith, common_steps, integer_is, middle_is)
 
 pub amount_read : (rest : List ℕ) (v : ℕ) (o : Option Counted) (after behind letters next integer middle : List ℕ) (a : Amount) → IsSpanRead rest v o after behind letters next
     → AreSlices rest integer middle → scale_of_word letters ≡ Some (scale_of a.unit) → a.value ≡ v → option_map parts_of a.fraction ≡ o
@@ -136,13 +85,11 @@ amount_read rest v o after behind letters next integer middle a s x u n f =
 pub lent_read : (text rest : List ℕ) (v : ℕ) (o : Option Counted) (after behind letters next integer middle : List ℕ) (start end : ℕ) → IsSpanRead rest v o after behind letters next
     → AreSlices rest integer middle → start ≡ offset_of text rest → end ≡ offset_of text next
     → record { number = drop_trailing_whitespace integer; fraction = fraction_in middle; unit = letters; start = start; end = end; value = v } ≡ lent_at text rest
-lent_read text rest v o after behind letters next integer middle start end s x from to =
-    rw (x.number, x.fraction, s.letters_is, from, to, s.next_is, s.value_is)
+lent_read text rest v o after behind letters next integer middle start end s x from to = grind (arith, common_steps)
 
 -- what a caller of `without_word` has to show of its answer
 pub at_next : (text after next : List ℕ) (o : Option Counted) (v n : ℕ) → next ≢ [] → n ≡ offset_of text next → InvalidCharacter n ≡ fault_without_word text after next o v
-at_next text after [] o v n e p = absurd (e refl)
-at_next text after (c ∷ cs) o v n e p = ap (λ (k : ℕ). InvalidCharacter k) p
+at_next text after next o v n h k = grind (arith, common_steps)
 
 pub at_point : (text after next : List ℕ) (o : Option Counted) (v n : ℕ) → next ≡ [] → bare o ≡ true → n ≡ offset_of text after → InvalidCharacter n ≡ fault_without_word text after next o v
 at_point text after next o v n e b p = rw (e, b, p)

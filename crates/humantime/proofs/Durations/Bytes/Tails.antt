@@ -1,6 +1,6 @@
 -- Ends of a text, over its bytes.
-use Rattle.std.proofs.Common.{◌≡◌, ◌≢◌, ◌≤◌, ◌-◌, ◌+◌, ℕ, List, [], ◌∷◌, ◌++◌, length, take, drop, subst, ap, sym, ◌∙◌, arith, append_assoc, length-append, IsUtf8, IsCharBoundary, chars, encode_utf8, slice_range}
-use Rattle.std.proofs.Math.Seq.{drop-append_seam, take-append_seam}
+use Rattle.std.proofs.lemmas.Grind.{common_steps}
+use Rattle.std.proofs.Common.{◌≡◌, ◌≢◌, ◌≤◌, ◌-◌, ℕ, List, [], ◌++◌, length, take, drop, subst, ap, sym, ◌∙◌, arith, length-append, IsUtf8, IsCharBoundary, chars, encode_utf8, slice_range}
 use Rattle.std.proofs.lemmas.List.{take-append-drop}
 use Rattle.std.proofs.lemmas.Str.{IsUtf8-past_char, IsCharBoundary-at_seam, encodes-chars, chars-nil}
 use Rattle.std.specs.Prelude.{bytes_eq, encode_utf8_all}
@@ -16,31 +16,15 @@ front_of text rest = take (length text - length rest) text
 pub tail_whole : (text rest : List ℕ) → IsTail text rest → text ≡ front_of text rest ++ rest
 tail_whole text rest t = sym (take-append-drop (length text - length rest) text) ∙ ap (λ (x : List ℕ). front_of text rest ++ x) (sym t.ends)
 
-pub tail_after : (text front rest : List ℕ) → text ≡ front ++ rest → IsUtf8 rest → IsTail text rest
-tail_after text front rest e u =
-    let count : length text - length rest ≡ length front = omega (arith, ap length e, length-append front rest) in
-    record {
-      shorter = omega (arith, ap length e, length-append front rest);
-      ends = rw count (sym (ap (drop (length front)) e ∙ drop-append_seam front rest));
-      utf8 = u;
-    }
-
 pub tail_of_tail : (text rest after : List ℕ) → IsTail text rest → IsTail rest after → IsTail text after
-tail_of_tail text rest after t r =
-    tail_after text (front_of text rest ++ front_of rest after) after
-    (tail_whole text rest t ∙ ap (λ (x : List ℕ). front_of text rest ++ x) (tail_whole rest after r) ∙ sym (append_assoc (front_of text rest) (front_of rest after) after))
-    r.utf8
+tail_of_tail text rest after t r = grind (arith, common_steps)
 
 pub tail_boundary : (text rest : List ℕ) → IsTail text rest → IsCharBoundary text (length text - length rest)
-tail_boundary text rest t =
-    let count : length (front_of text rest) ≡ length text - length rest = omega (arith, ap length (tail_whole text rest t), length-append (front_of text rest) rest) in
-    subst (IsCharBoundary text) count (IsCharBoundary-at_seam text (front_of text rest) rest (tail_whole text rest t) t.utf8)
+tail_boundary text rest t = grind (arith, common_steps, ap length (tail_whole text rest t), length-append (front_of text rest) rest, IsCharBoundary-at_seam)
 
 -- what follows the first character
 pub past_begins : (text rest part : List ℕ) (c k : ℕ) → text ≡ encode_utf8 c ++ rest → k ≡ length (encode_utf8 c) → part ≡ drop k text → text ≡ encode_utf8 c ++ part
-past_begins text rest part c k e n p =
-    let same : part ≡ rest = p ∙ ap (λ (m : ℕ). drop m text) n ∙ ap (drop (length (encode_utf8 c))) e ∙ drop-append_seam (encode_utf8 c) rest in
-    e ∙ ap (λ (x : List ℕ). encode_utf8 c ++ x) (sym same)
+past_begins text rest part c k e n p = grind (arith, common_steps)
 
 pub past_begins_boundary : (text rest : List ℕ) (c k : ℕ) → IsUtf8 text → text ≡ encode_utf8 c ++ rest → k ≡ length (encode_utf8 c) → IsCharBoundary text k
 past_begins_boundary text rest c k u e n = subst (IsCharBoundary text) (sym n) (IsCharBoundary-at_seam text (encode_utf8 c) rest e (IsUtf8-past_char text rest c u e))
@@ -60,25 +44,13 @@ pub some_chars : (bs : List ℕ) → IsUtf8 bs → length bs ≢ 0 → chars bs 
 some_chars bs u n e = n (no_chars bs u e)
 
 pub no_bytes : (bs : List ℕ) → length bs ≡ 0 → chars bs ≡ []
-no_bytes [] e = chars-nil
-no_bytes (b ∷ bs) e = absurd (omega arith)
+no_bytes bs h = grind (arith, common_steps, chars-nil)
 
 -- a part between two places of a text is the slice from the one offset to the other
 pub part_between : (text behind part next : List ℕ) (start end : ℕ) → IsUtf8 text → IsTail text behind → IsTail text next → behind ≡ part ++ next
     → start ≡ offset_of (chars text) (chars behind) → end ≡ offset_of (chars text) (chars next)
     → (start ≤ end) × IsCharBoundary text start × IsCharBoundary text end × (part ≡ slice_range text start end)
-part_between text behind part next start end u b n e s t =
-    let from : start ≡ length text - length behind = s ∙ sym (tail_offset text behind u b) in
-    let to : end ≡ length text - length next = t ∙ sym (tail_offset text next u n) in
-    let long : length behind ≡ length part + length next = omega (arith, ap length e, length-append part next) in
-    let inside = b.shorter in
-    let count : end - start ≡ length part = omega arith in
-    let cut : drop start text ≡ part ++ next = rw from (sym b.ends ∙ e) in (
-      omega arith,
-      subst (IsCharBoundary text) (sym from) (tail_boundary text behind b),
-      subst (IsCharBoundary text) (sym to) (tail_boundary text next n),
-      sym (take-append_seam part next) ∙ ap (take (length part)) (sym cut) ∙ ap (λ (k : ℕ). take k (drop start text)) (sym count),
-    )
+part_between text behind part next start end u b n e s t = grind (arith, common_steps, tail_offset, tail_boundary)
 
 -- two texts have the same bytes exactly where they have the same characters
 pub same_chars : (a b : List ℕ) → IsUtf8 a → IsUtf8 b → bytes_eq a b ≡ bytes_eq (chars a) (chars b)

@@ -1,14 +1,14 @@
 -- A word's key tells which of the units' words it is.
-use Rattle.std.proofs.Common.{◌≡◌, ◌∙◌, sym, ap, refl, ℕ, zero, suc, ◌+◌, ◌-◌, ◌*◌, ◌^◌, ◌<◌, ◌≤◌, Bool, true, false, ◌&&◌, List, [], ◌∷◌, length, length-take, take, get_or, inl, inr, ltb, chars, arith}
+use Rattle.std.proofs.lemmas.Grind.{common_steps}
+use Rattle.std.proofs.Common.{◌≡◌, ◌∙◌, sym, ap, refl, ℕ, zero, suc, ◌+◌, ◌*◌, ◌^◌, ◌<◌, ◌≤◌, Bool, true, ◌&&◌, List, [], ◌∷◌, length, take, get_or, ltb, chars, arith}
 use Rattle.std.specs.Prelude.{◌==◌, bytes_eq, reverse}
 use Rattle.std.specs.List.{list_all}
 use Rattle.std.specs.Map.{lookup}
 use Rattle.std.specs.Str.{IsUtf8}
 use Rattle.std.proofs.Math.Utf8.{encode, encodes, scalars}
-use Rattle.std.proofs.Math.Nat.{pow-suc, pow-le-pow_right}
 use Rattle.std.proofs.Math.Seq.{take-suc}
-use Rattle.std.proofs.lemmas.List.{get_or-reverse, get_or-take, get_or_past, length-reverse, reverse-append, reverse-reverse, take_more}
-use Rattle.std.proofs.lemmas.Bool.{and_parts, cases_lt, ltb-true, le-ltb, lt-ltb, eqb-true, eq-eqb}
+use Rattle.std.proofs.lemmas.List.{get_or-reverse, reverse-append, reverse-reverse}
+use Rattle.std.proofs.lemmas.Bool.{and_parts, ltb-true, eqb-true, eq-eqb}
 use Rattle.std.proofs.lemmas.Slice.Eq.{bytes_eq-Decides}
 use Rattle.std.proofs.lemmas.Str.{chars-encodes, encodes-chars}
 use Rattle.humantime.specs.Durations.Units.{Scale, words, scale_of_word}
@@ -23,29 +23,14 @@ packed_positive [] = omega arith
 packed_positive (b ∷ bs) = omega (arith, packed_positive bs)
 
 pub front_bytes : (bs : List ℕ) (n : ℕ) → HasBytes bs → HasBytes (take n bs)
-front_bytes bs n h k =
-    elim (cases_lt k n) [
-      | inl inside ↦ rw (get_or-take n bs k 0 inside) (h k)
-      | inr past ↦ rw (get_or_past (take n bs) k 0 (omega (arith, past, length-take n bs))) (omega arith)
-    ]
-
-bytes_reversed : (bs : List ℕ) → HasBytes bs → HasBytes (reverse bs)
-bytes_reversed bs h k =
-    elim (cases_lt k (length bs)) [
-      | inl inside ↦ rw (get_or-reverse bs k 0 inside) (h (length bs - 1 - k))
-      | inr past ↦ rw (get_or_past (reverse bs) k 0 (rw (length-reverse bs) past)) (omega arith)
-    ]
-
-packed_front : (bs : List ℕ) (at : ℕ) → at < length bs → packed (reverse (take (at + 1) bs)) ≡ packed (reverse (take at bs)) * 256 + get_or bs at 0
-packed_front bs at some = rw (take_more bs at 0 some, reverse-append (take at bs) (get_or bs at 0 ∷ [])) refl
+front_bytes bs n h k = grind (arith, common_steps)
 
 packed_front_below : (bs : List ℕ) (at : ℕ) → HasBytes bs → at ≤ length bs → packed (reverse (take at bs)) < 2 * 256 ^ at
 packed_front_below bs zero h within = omega arith
 packed_front_below bs (suc at) h within =
     let front : packed (reverse (take (suc at) bs)) ≡ packed (reverse (take at bs)) * 256 + get_or bs at 0 =
     rw (take-suc bs at 0 (omega arith), reverse-append (take at bs) (get_or bs at 0 ∷ [])) refl in
-    let longer : 256 ^ suc at ≡ 256 ^ at * 256 = pow-suc 256 at in
-    omega (arith, front, longer, h at, packed_front_below bs at h (omega arith))
+    omega (arith, front, h at, packed_front_below bs at h (omega arith))
 
 -- The number made so far is that of the bytes before a place, where they are at most seven.
 abbrev pub IsSoFar : List ℕ → ℕ → ℕ → Type 0
@@ -53,23 +38,14 @@ IsSoFar bs at k = at ≤ 7 → k ≡ packed (reverse (take at bs))
 
 -- and so it is with the byte at this place
 pub key_more : (bs : List ℕ) (at k m : ℕ) → HasBytes bs → at < length bs → IsSoFar bs at k → (k * 256 + get_or bs at 0 < 2 ^ 64 → m ≡ k * 256 + get_or bs at 0) → IsSoFar bs (at + 1) m
-key_more bs at k m bytes some so_far next short =
-    let power : 256 ^ at ≤ 256 ^ 6 = pow-le-pow_right {n = 256} (omega arith) {i = at} {j = 6} (omega arith) in
-    let below : packed (reverse (take at bs)) < 2 * 256 ^ at = packed_front_below bs at bytes (omega arith) in
-    let is : k ≡ packed (reverse (take at bs)) = so_far (omega arith) in
-    let head : get_or bs at 0 < 256 = bytes at in
-    next (omega arith) ∙ ap (λ (n : ℕ). n * 256 + get_or bs at 0) is ∙ sym (packed_front bs at some)
+key_more bs at k m bytes some so_far next short = grind (arith, common_steps, packed_front_below)
 
 -- the key of a front
 pub key_short : (bs : List ℕ) (at k : ℕ) → at ≤ length bs → at ≤ 7 → IsSoFar bs at k → k ≡ key (take at bs)
-key_short bs at k within short so_far =
-    let count : length (take at bs) ≡ at = omega (arith, length-take at bs) in
-    so_far short ∙ sym (rw (le-ltb 7 (length (take at bs)) (omega arith)) refl)
+key_short bs at k within short so_far = grind (arith, common_steps)
 
 pub key_long : (bs : List ℕ) (at : ℕ) → at ≤ length bs → 7 < at → 0 ≡ key (take at bs)
-key_long bs at within long =
-    let count : length (take at bs) ≡ at = omega (arith, length-take at bs) in
-    sym (rw (lt-ltb 7 (length (take at bs)) (omega arith)) refl)
+key_long bs at within long = grind (arith, common_steps)
 
 packed_same : (xs ys : List ℕ) → HasBytes xs → HasBytes ys → packed xs ≡ packed ys → xs ≡ ys
 packed_same [] [] h k e = refl
@@ -83,15 +59,10 @@ packed_same (x ∷ xs) (y ∷ ys) h k e =
     rw first (ap (λ zs. y ∷ zs) (packed_same xs ys (λ i. h (suc i)) (λ i. k (suc i)) rest))
 
 bytes_from_test : (bs : List ℕ) → list_all (λ b. ltb b 256) bs ≡ true → HasBytes bs
-bytes_from_test [] t k = omega arith
-bytes_from_test (b ∷ bs) t zero = ltb-true b 256 (and_parts _ _ t).0
-bytes_from_test (b ∷ bs) t (suc k) = bytes_from_test bs (and_parts _ _ t).1 k
+bytes_from_test bs h = grind (arith, common_steps)
 
 same_tests : (a b : Bool) → (a ≡ true → b ≡ true) → (b ≡ true → a ≡ true) → a ≡ b
-same_tests true true f g = refl
-same_tests true false f g = sym (f refl)
-same_tests false true f g = g refl
-same_tests false false f g = refl
+same_tests a b h k = grind (arith, common_steps)
 
 -- the word is spelled by at most seven bytes
 abbrev is_spelled : List ℕ → Bool
@@ -101,14 +72,7 @@ reverse_same : (xs ys : List ℕ) → reverse xs ≡ reverse ys → xs ≡ ys
 reverse_same xs ys e = sym (reverse-reverse xs) ∙ ap reverse e ∙ reverse-reverse ys
 
 key_same : (xs ys : List ℕ) → HasBytes xs → HasBytes ys → length ys < 8 → key xs ≡ key ys → xs ≡ ys
-key_same xs ys h k short e =
-    let right : key ys ≡ packed (reverse ys) = rw (le-ltb 7 (length ys) (omega arith)) refl in
-    elim (cases_lt 7 (length xs)) [
-      | inl more ↦ let left : key xs ≡ 0 = rw (lt-ltb 7 (length xs) more) refl in absurd (omega (arith, e, left, right, packed_positive (reverse ys)))
-      | inr most ↦
-          let left : key xs ≡ packed (reverse xs) = rw (le-ltb 7 (length xs) most) refl in
-          reverse_same xs ys (packed_same (reverse xs) (reverse ys) (bytes_reversed xs h) (bytes_reversed ys k) (sym left ∙ e ∙ right))
-    ]
+key_same xs ys h k short e = grind (arith, common_steps, packed_positive, reverse_same, packed_same, common_steps, get_or-reverse)
 
 key_tells : (bs w : List ℕ) → IsUtf8 bs → HasBytes bs → is_spelled w ≡ true → (key bs == key (bytes_of w)) ≡ bytes_eq (chars bs) w
 key_tells bs w text bytes spelled =

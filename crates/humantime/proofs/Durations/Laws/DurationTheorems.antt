@@ -1,14 +1,14 @@
 -- The laws of durations as theorems over plain variables, each under the name of its function in `laws`.
+use Rattle.std.proofs.lemmas.Grind.{common_steps}
 use Rattle.std.proofs.Common.{◌≡◌, ◌↔◌, ℕ, ◌<◌, List, Result, Ok, Err, IsTrue, chars, refl, arith}
 use Rattle.humantime.specs.declared.duration.error.DurationError.{DurationError}
-use Rattle.humantime.specs.Values.Amounts.{duration_end}
+use Rattle.humantime.specs.Values.{duration_end}
 use Rattle.humantime.specs.Durations.Errors.{told}
 use Rattle.humantime.specs.Durations.Accepted.{Accepted}
-use Rattle.humantime.specs.Durations.Faults.{Fault, HasFault, fault_eq}
+use Rattle.humantime.specs.Durations.Faults.{Fault, HasFault}
+use Rattle.humantime.specs.References.Durations.FaultEqualityLemmas.{fault_eq, fault_eq-sound, fault_eq-same}
 use Rattle.humantime.specs.Laws.Outcomes.{OneOutcome, OneReading, OneListOfItems, ItemsDecideValue, ItemsDecideFault, ItemsDecideOverflow, OneListOfSlices}
-use Rattle.humantime.specs.References.Durations.FaultEqualityLemmas.{fault_eq-sound, fault_eq-same}
-use Rattle.humantime.specs.Durations.Counts.{Canon}
-use Rattle.humantime.specs.Durations.Canonical.{IsCanonicalOf}
+use Rattle.humantime.specs.Durations.Counts.{Canon, IsCanonicalOf}
 use Rattle.humantime.specs.References.Durations.Printing.{duration_text}
 use Rattle.humantime.specs.Laws.Printed.{HasOneText, ReadsBack, TextsTellApart, HasShortText, HasSmallCounts, HasCanonicalText, KeepsItsValue, KeepsItsText}
 use Rattle.humantime.specs.References.Durations.Answers.{duration_answer, canonical_answer}
@@ -61,8 +61,7 @@ spans_tile text = lent.one_list_of_slices text
 
 -- What is told as a value was answered as that value.
 pub told_value : (r : Result ℕ DurationError) (v : ℕ) → told r ≡ Ok v → r ≡ Ok v
-told_value (Ok d) v e = cc
-told_value (Err x) v e = cc
+told_value r v h = grind (arith, common_steps)
 
 -- Two errors are equal exactly where they name the same fault.
 pub errors_equal : (e f : Fault) → IsTrue (fault_eq e f) ↔ (e ≡ f)

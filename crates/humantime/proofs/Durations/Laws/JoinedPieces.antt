@@ -1,15 +1,13 @@
 -- Any number of texts one behind the other.
-use Rattle.std.proofs.Common.{◌≡◌, ◌↔◌, ℕ, ◌+◌, List, [], ◌∷◌, flat_map, sum_by, refl, sym, ap₂, ◌∙◌, subst}
+use Rattle.std.proofs.Common.{arith}
+use Rattle.std.proofs.lemmas.Grind.{common_steps}
+use Rattle.std.proofs.Common.{◌≡◌, ◌↔◌, ℕ, List, [], ◌∷◌, flat_map, sum_by, refl, subst}
 use Rattle.std.specs.List.{AllByRecursion}
-use Rattle.std.proofs.lemmas.List.Sums.{sum_by-cons}
-use Rattle.humantime.specs.Durations.Spans.{Span, Front, Reads}
-use Rattle.humantime.specs.Durations.Sums.{additions, value}
-use Rattle.humantime.specs.Durations.Limits.{Formed, Fits, AllHaveRoom}
-use Rattle.humantime.specs.Durations.Accepted.{Accepted}
+use Rattle.humantime.specs.Durations.Spans.{Span, SpellsAll, Reads}
+use Rattle.humantime.specs.Durations.Accepted.{additions, value, Formed, Fits, AllHaveRoom, Accepted}
 use Rattle.humantime.specs.Durations.Faults.{NumberOverflow, HasFault}
-use Rattle.humantime.proofs.Durations.Reading.Settled.{value-append}
 use Rattle.humantime.proofs.Durations.Laws.Readings.{accepted_spans}
-use Rattle.humantime.proofs.Durations.Laws.JoinedTexts.{each-append, front-append, some-append, room_accepts, no_room_overflows}
+use Rattle.humantime.proofs.Durations.Laws.JoinedTexts.{front-append, some-append, room_accepts, no_room_overflows}
 
 -- A text, its spans and its value.
 pub record Piece : Type 0 where
@@ -31,26 +29,18 @@ joined_spans ps = flat_map (λ (p : Piece). p.spans) ps
 abbrev pub joined_value : List Piece → ℕ
 joined_value ps = sum_by (λ (p : Piece). p.value) ps
 
-nothing_read : Front [] []
+nothing_read : SpellsAll [] []
 nothing_read = record { space = []; body = []; whole = refl; only_space = tt; each = refl }
 
 record AreJoined (ps : List Piece) : Type 0 where
-  front : Front (joined_text ps) (joined_spans ps)
+  front : SpellsAll (joined_text ps) (joined_spans ps)
   formed : AllByRecursion Formed (joined_spans ps)
   fit : AllByRecursion Fits (joined_spans ps)
   sum : value (joined_spans ps) ≡ joined_value ps
 
 are_joined : (ps : List Piece) → AllByRecursion IsAcceptedPiece ps → AreJoined ps
 are_joined [] h = record { front = nothing_read; formed = tt; fit = tt; sum = refl }
-are_joined (p ∷ ps) h =
-    let rest = are_joined ps h.1 in
-    let here = accepted_spans p.text p.spans p.value h.0.0 h.0.1 in
-    record {
-      front = front-append p.text (joined_text ps) p.spans (joined_spans ps) h.0.0 rest.front;
-      formed = each-append Formed p.spans (joined_spans ps) here.0.formed rest.formed;
-      fit = each-append Fits p.spans (joined_spans ps) here.0.fit rest.fit;
-      sum = value-append p.spans (joined_spans ps) ∙ ap₂ (λ (m n : ℕ). m + n) here.1 rest.sum ∙ sym (sum_by-cons (λ (q : Piece). q.value) p ps);
-    }
+are_joined (p ∷ ps) h = grind (arith, common_steps, (are_joined ps h.1), (accepted_spans p.text p.spans p.value h.0.0 h.0.1), front-append)
 
 joined_reads : (p : Piece) (ps : List Piece) → AllByRecursion IsAcceptedPiece (p ∷ ps) → Reads (joined_text (p ∷ ps)) (joined_spans (p ∷ ps))
 joined_reads p ps h = ((are_joined (p ∷ ps) h).front, some-append p.spans (joined_spans ps) h.0.0.1)

@@ -1,11 +1,11 @@
 -- Texts one behind the other.
-use Rattle.std.proofs.Common.{◌≡◌, ◌≢◌, ◌↔◌, ℕ, ◌+◌, Bool, List, [], ◌∷◌, ◌++◌, None, refl, sym, ap, ap₂, ◌∙◌, inl, inr, subst, append_assoc, append-nil}
+use Rattle.std.proofs.Common.{arith}
+use Rattle.std.proofs.lemmas.Grind.{common_steps}
+use Rattle.std.proofs.Common.{◌≡◌, ◌≢◌, ◌↔◌, ℕ, ◌+◌, Bool, List, [], ◌∷◌, ◌++◌, None, refl, sym, ap, ap₂, ◌∙◌, inl, inr, subst, append_assoc}
 use Rattle.std.specs.List.{AllByRecursion}
 use Rattle.humantime.specs.Durations.Characters.{is_ws}
-use Rattle.humantime.specs.Durations.Spans.{Span, Only, Spells, SpellsEach, Front, Reads}
-use Rattle.humantime.specs.Durations.Sums.{additions, value}
-use Rattle.humantime.specs.Durations.Limits.{Formed, Fits, AllHaveRoom, WithinLimits}
-use Rattle.humantime.specs.Durations.Accepted.{Accepted}
+use Rattle.humantime.specs.Durations.Spans.{Span, Only, Spells, SpellsEach, SpellsAll, Reads}
+use Rattle.humantime.specs.Durations.Accepted.{additions, value, Formed, Fits, AllHaveRoom, WithinLimits, Accepted}
 use Rattle.humantime.specs.Durations.Faults.{NumberOverflow, HasFault}
 use Rattle.humantime.specs.Laws.Texts.{JoinedHaveSum, JoinedOverflow, JoinedHaveSumOrOverflow}
 use Rattle.humantime.proofs.Durations.Reading.OneReading.{not_zero}
@@ -15,26 +15,14 @@ use Rattle.humantime.proofs.Durations.Reading.Outcomes.{items_whole, within_or_b
 use Rattle.humantime.proofs.Durations.Laws.Readings.{accepted_from_spans, spans_of_accepted, accepted_spans, no_value_and_fault}
 
 pub Only-append : (p : ℕ → Bool) (xs ys : List ℕ) → Only p xs → Only p ys → Only p (xs ++ ys)
-Only-append p [] ys h k = k
-Only-append p (x ∷ xs) ys h k = (h.0, Only-append p xs ys h.1 k)
+Only-append p xs ys h k = grind (arith, common_steps)
 
 pub each-append : (P : Span → Type 0) (ss ts : List Span) → AllByRecursion P ss → AllByRecursion P ts → AllByRecursion P (ss ++ ts)
-each-append P [] ts h k = k
-each-append P (s ∷ ss) ts h k = (h.0, each-append P ss ts h.1 k)
+each-append P ss ts h k = grind (arith, common_steps)
 
 -- white space behind a spelling belongs to it
 spells-space : (here space : List ℕ) (s : Span) → Spells here s [] → Only is_ws space → Spells (here ++ space) s []
-spells-space here space s h only = record {
-  number_text = h.number_text;
-  fraction_text = h.fraction_text;
-  space = h.space ++ space;
-  whole = ap (λ (l : List ℕ). l ++ space) h.whole ∙ simp (append_assoc, append-nil);
-  starts = h.starts;
-  number = h.number;
-  fraction = h.fraction;
-  word = h.word;
-  only_space = Only-append is_ws h.space space h.only_space only;
-}
+spells-space here space s h only = grind (arith, common_steps)
 
 spells_each-space : (body space : List ℕ) (s : Span) (ss : List Span) → SpellsEach body (s ∷ ss) → Only is_ws space → SpellsEach (body ++ space) (s ∷ ss)
 spells_each-space body space s [] h only = ([], spells-space body space s (subst (Spells body s) h.2 h.1) only, refl)
@@ -45,7 +33,7 @@ spells_each-append a b [] ts h k = subst (λ (l : List ℕ). SpellsEach (l ++ b)
 spells_each-append a b (s ∷ ss) ts h k = (h.0 ++ b, spells-append a h.0 b s h.1, spells_each-append h.0 b ss ts h.2 k)
 
 -- spans behind spans
-pub front-append : (a b : List ℕ) (ss ts : List Span) → Reads a ss → Front b ts → Front (a ++ b) (ss ++ ts)
+pub front-append : (a b : List ℕ) (ss ts : List Span) → Reads a ss → SpellsAll b ts → SpellsAll (a ++ b) (ss ++ ts)
 front-append a b [] ts h k = absurd (h.1 refl)
 front-append a b (s ∷ ss) ts h k =
     let f = h.0 in
@@ -61,7 +49,7 @@ pub some-append : (ss ts : List Span) → ss ≢ [] → ss ++ ts ≢ []
 some-append [] ts some e = some refl
 some-append (s ∷ ss) ts some e = cc
 
-pub reads-append : (a b : List ℕ) (ss ts : List Span) → Reads a ss → Front b ts → Reads (a ++ b) (ss ++ ts)
+pub reads-append : (a b : List ℕ) (ss ts : List Span) → Reads a ss → SpellsAll b ts → Reads (a ++ b) (ss ++ ts)
 reads-append a b ss ts h k = (front-append a b ss ts h k, some-append ss ts h.1)
 
 -- a text of spans that are within the limits one by one is accepted exactly where their additions have room
@@ -130,7 +118,7 @@ joined_sum_or_overflow a b u v x y some_a some_b =
     ]
 
 -- white space may stand wherever a span ends
-pub reads-space : (before space after : List ℕ) (ss ts : List Span) → Reads before ss → Front after ts → Only is_ws space
+pub reads-space : (before space after : List ℕ) (ss ts : List Span) → Reads before ss → SpellsAll after ts → Only is_ws space
     → Reads (before ++ (space ++ after)) (ss ++ ts)
 reads-space before space after ss ts h k only = reads-append before (space ++ after) ss ts h (record {
   space = space ++ k.space;

@@ -1,53 +1,42 @@
 -- What became of the texts that were accepted before.
-use Rattle.std.proofs.Common.{◌≡◌, ℕ, ◌*◌, ◌≤◌, Bool, true, false, List, [], ◌∷◌, ◌++◌, length, Option, Some, None, refl, sym, ap, ap₂, ◌∙◌, inl, inr, subst, arith}
-use Rattle.std.specs.Prelude.{◌==◌, bytes_eq, not}
-use Rattle.std.specs.List.{AllByRecursion, list_all}
+use Rattle.std.proofs.lemmas.Grind.{common_steps}
+use Rattle.std.proofs.Common.{◌≡◌, ℕ, ◌≤◌, Bool, true, false, List, [], ◌∷◌, ◌++◌, length, Option, refl, sym, ap, ap₂, ◌∙◌, subst, arith}
+use Rattle.std.specs.Prelude.{◌==◌, not}
+use Rattle.std.specs.List.{AllByRecursion}
 use Rattle.std.specs.Option.{IfSome}
-use Rattle.std.proofs.lemmas.Bool.{cases_Bool, false≢true, and_from, eqb-true}
-use Rattle.std.proofs.lemmas.Map.Entries.{lookup-filter-keys}
+use Rattle.std.proofs.lemmas.Bool.{false≢true}
 use Rattle.std.proofs.lemmas.Slice.Eq.{bytes_eq-Decides}
-use Rattle.humantime.specs.Durations.Characters.{greek_mu, white_spaces, is_ws, is_digit, is_numeric, decimal_value, significant}
-use Rattle.humantime.specs.Durations.Units.{Scale, words, scale_of_word}
-use Rattle.humantime.specs.Durations.Spans.{Span, Only, Spells, SpellsFraction, SpellsEach}
-use Rattle.humantime.specs.Durations.Sums.{fraction_additions, additions_at, additions, total}
-use Rattle.humantime.specs.Durations.Limits.{Formed, FitsFraction, Fits}
-use Rattle.humantime.specs.Durations.Accepted.{Accepted, Bare_zero, Sum_of}
+use Rattle.humantime.specs.Durations.Characters.{greek_mu, white_spaces, is_ws, is_digit, is_numeric, significant}
+use Rattle.humantime.specs.Durations.Units.{Scale, scale_of_word}
+use Rattle.humantime.specs.Durations.Spans.{Span, Only, Spells, SpellsEach}
+use Rattle.humantime.specs.Durations.Accepted.{fraction_additions, additions_at, additions, total, Formed, FitsFraction, Fits, Accepted, Bare_zero, Sum_of}
 use Rattle.humantime.specs.Laws.Older.{is_older_letter, older_scale_of_word, older_fraction_additions, older_additions_at, older_additions, OlderFormed, OlderFitsFraction, OlderFits, OlderWithinLimits, AcceptedWithZeros, Older_zero, Older_sum, AcceptedWithoutMu, Oldest_zero, Oldest_sum, IsStillAccepted, HasMu}
-use Rattle.humantime.proofs.Durations.Laws.JoinedTexts.{Only-append}
 use Rattle.humantime.proofs.Durations.Reading.Settled.{FitsAt}
 use Rattle.humantime.proofs.Durations.Reading.SignificantDigits.{significant_shorter, whole_part_kept, amount_kept}
 
 -- ---- zeros at the end of a fraction
 
 fraction_still_adds : (base : ℕ) (f : Option ℕ) (o : Option (List ℕ)) → older_fraction_additions base f o ≡ fraction_additions base f o
-fraction_still_adds base None o = refl
-fraction_still_adds base (Some f) None = refl
-fraction_still_adds base (Some f) (Some ds) = ap (λ (n : ℕ). record { base = base; amount = n } ∷ []) (amount_kept f ds)
+fraction_still_adds base f o = grind (arith, common_steps, amount_kept)
 
 span_still_adds : (o : Option Scale) (s : Span) → older_additions_at o s ≡ additions_at o s
-span_still_adds None s = refl
-span_still_adds (Some u) s = ap (λ xs. record { base = u.base; amount = decimal_value s.number * u.factor } ∷ xs) (fraction_still_adds u.fraction_base u.fraction_factor s.fraction)
+span_still_adds o s = grind (arith, common_steps, fraction_still_adds)
 
 still_add : (spans : List Span) → older_additions scale_of_word spans ≡ additions spans
-still_add [] = refl
-still_add (s ∷ ss) = ap₂ (λ x y. x ++ y) (span_still_adds (scale_of_word s.word) s) (still_add ss)
+still_add spans = grind (arith, common_steps, span_still_adds)
 
 still_short : (o : Option (List ℕ)) → IfSome o (λ ds. length ds ≤ 19) → IfSome o (λ ds. length (significant ds) ≤ 19)
-still_short None h = tt
-still_short (Some ds) h = omega (arith, significant_shorter ds, h)
+still_short o h = grind (arith, common_steps, significant_shorter)
 
 still_formed : (spans : List Span) → AllByRecursion (λ s. OlderFormed (scale_of_word s.word) s) spans → AllByRecursion Formed spans
 still_formed [] f = tt
-still_formed (s ∷ ss) f = (record { short = record { number = f.0.number; fraction = still_short s.fraction f.0.fraction }; word = f.0.word }, still_formed ss f.1)
+still_formed (s ∷ ss) f = (record { numbers = record { number = f.0.number; fraction = still_short s.fraction f.0.fraction }; word = f.0.word }, still_formed ss f.1)
 
 fraction_still_fits : (f : Option ℕ) (o : Option (List ℕ)) → OlderFitsFraction f o → FitsFraction f o
-fraction_still_fits f None h = tt
-fraction_still_fits None (Some ds) h = absurd h
-fraction_still_fits (Some f) (Some ds) h = whole_part_kept f ds h
+fraction_still_fits f o h = grind (arith, common_steps, whole_part_kept)
 
 still_fits : (o : Option Scale) (s : Span) → OlderFits o s → FitsAt o s
-still_fits None s h = tt
-still_fits (Some u) s h = (h.0, fraction_still_fits u.fraction_factor s.fraction h.1)
+still_fits o s h = grind (arith, common_steps, fraction_still_fits)
 
 still_fit : (spans : List Span) → AllByRecursion (λ s. OlderFits (scale_of_word s.word) s) spans → AllByRecursion Fits spans
 still_fit [] f = tt
@@ -66,17 +55,10 @@ still_accepted text v (Older_sum spans h g sum) =
 abbrev OfOlderLetters : Span → Type 0
 OfOlderLetters s = Only is_older_letter s.word
 
-all_older : (word : List ℕ) → Only is_older_letter word → list_all is_older_letter word ≡ true
-all_older [] h = refl
-all_older (c ∷ cs) h = and_from (is_older_letter c) (list_all is_older_letter cs) h.0 (all_older cs h.1)
-
 -- a word of older letters stands for what it stood for
 same_scale : (word : List ℕ) → Only is_older_letter word → older_scale_of_word word ≡ scale_of_word word
 unfolding older_scale_of_word scale_of_word
-same_scale word h =
-    let same : (k : List ℕ) → bytes_eq word k ≡ true → list_all is_older_letter k ≡ true =
-    λ k e. subst (λ w. list_all is_older_letter w ≡ true) ((bytes_eq-Decides word k).0 e) (all_older word h) in
-    lookup-filter-keys (bytes_eq word) (list_all is_older_letter) true same words
+same_scale word h = grind (arith, common_steps, bytes_eq-Decides)
 
 same_additions : (spans : List Span) → AllByRecursion OfOlderLetters spans → older_additions older_scale_of_word spans ≡ older_additions scale_of_word spans
 same_additions [] h = refl
@@ -111,10 +93,7 @@ is_not_mu c = not (c == greek_mu)
 
 -- what passes a test that the letter fails is another character
 not_mu : (p : ℕ → Bool) → p greek_mu ≡ false → (c : ℕ) → p c ≡ true → is_not_mu c ≡ true
-not_mu p fails c passes = elim (cases_Bool (c == greek_mu)) [
-  | inl e ↦ absurd (false≢true (sym fails ∙ sym (ap p (eqb-true c greek_mu e)) ∙ passes))
-  | inr e ↦ rw e refl
-]
+not_mu p fails c passes = grind (arith, common_steps)
 
 none_is_mu : (p : ℕ → Bool) → p greek_mu ≡ false → (cs : List ℕ) → Only p cs → Only is_not_mu cs
 none_is_mu p fails [] h = tt
@@ -128,26 +107,15 @@ no_mu_in_number : (cs : List ℕ) → Only is_numeric cs → Only is_not_mu cs
 unfolding is_digit is_ws white_spaces
 no_mu_in_number = none_is_mu is_numeric refl
 
-no_mu_in_fraction : (text : List ℕ) (fraction : Option (List ℕ)) → SpellsFraction text fraction → Only is_not_mu text
-no_mu_in_fraction text None e = rw e tt
-no_mu_in_fraction text (Some ds) h = rw (h.1) (refl, no_mu_in_number h.0 h.2.0)
-
 no_mu_in_span : (text rest : List ℕ) (s : Span) → Spells text s rest → OfOlderLetters s → Only is_not_mu rest → Only is_not_mu text
-no_mu_in_span text rest s h letters none =
-    rw (h.whole) (Only-append is_not_mu h.number_text _ (no_mu_in_number h.number_text h.number.0)
-    (Only-append is_not_mu h.fraction_text _ (no_mu_in_fraction h.fraction_text s.fraction h.fraction)
-    (Only-append is_not_mu s.word _ (none_is_mu is_older_letter refl s.word letters)
-    (Only-append is_not_mu h.space rest (no_mu_in_space h.space h.only_space) none))))
+no_mu_in_span text rest s h letters none = grind (arith, common_steps, no_mu_in_number, none_is_mu, no_mu_in_space)
 
 no_mu_in_spans : (text : List ℕ) (spans : List Span) → SpellsEach text spans → AllByRecursion OfOlderLetters spans → Only is_not_mu text
 no_mu_in_spans text [] e letters = rw e tt
 no_mu_in_spans text (s ∷ ss) h letters = no_mu_in_span text h.0 s h.1 letters.0 (no_mu_in_spans h.0 ss h.2 letters.1)
 
 no_mu_accepted : (text : List ℕ) (v : ℕ) → AcceptedWithoutMu text v → Only is_not_mu text
-no_mu_accepted text v (Oldest_zero e z) = rw e (refl, tt)
-no_mu_accepted text v (Oldest_sum spans h g sum) =
-    let front = h.0.0 in
-    rw (front.whole) (Only-append is_not_mu front.space front.body (no_mu_in_space front.space front.only_space) (no_mu_in_spans front.body spans front.each h.1))
+no_mu_accepted text v h = grind (arith, common_steps, no_mu_in_space, no_mu_in_spans)
 
 not_among : (before after : List ℕ) → ¬ (Only is_not_mu (before ++ greek_mu ∷ after))
 not_among [] after h = false≢true (h.0)

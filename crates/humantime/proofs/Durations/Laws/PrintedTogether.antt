@@ -1,23 +1,23 @@
 -- The printed texts of two durations, one behind the other.
-use Rattle.std.proofs.Common.{◌≡◌, ◌≢◌, ◌↔◌, ℕ, zero, suc, ◌+◌, ◌*◌, ◌/◌, ◌%◌, ◌^◌, ◌<◌, ◌≤◌, List, [], ◌∷◌, ◌++◌, length, codes, chars, inl, inr, refl, sym, ap, subst, ◌∙◌, arith, rules}
+use Rattle.std.proofs.lemmas.Grind.{common_steps}
+use Rattle.std.proofs.Common.{◌≡◌, ◌≢◌, ◌↔◌, ℕ, suc, ◌+◌, ◌*◌, ◌/◌, ◌%◌, ◌^◌, ◌<◌, ◌≤◌, List, [], ◌∷◌, ◌++◌, length, codes, chars, inl, inr, refl, sym, ap, subst, ◌∙◌, arith, rules}
 use Rattle.std.specs.List.{AllByRecursion}
-use Rattle.std.proofs.Math.Nat.{mul_comm, div-add-mod}
+use Rattle.std.proofs.Math.Nat.{mul_comm}
 use Rattle.std.proofs.lemmas.Nat.{mod_below}
 use Rattle.std.proofs.lemmas.Str.{chars-IsAscii}
 use Rattle.std.proofs.lemmas.List.Sums.{sum_by-cons}
-use Rattle.humantime.specs.Values.Amounts.{nanos_per_second}
+use Rattle.humantime.specs.Values.{nanos_per_second}
 use Rattle.humantime.specs.Durations.Characters.{u64_max, bare_zero}
 use Rattle.humantime.specs.Durations.Spans.{Span, Reads}
-use Rattle.humantime.specs.Durations.Sums.{Addition, addition_nanos, total, additions_of, additions}
-use Rattle.humantime.specs.Durations.Accepted.{Accepted}
-use Rattle.humantime.specs.Durations.Counts.{weights, weighted_sum, Suffix, suffixes, printed_counts, joined_by_space, Canon}
-use Rattle.humantime.specs.References.Durations.Printing.{divided, duration_text}
+use Rattle.humantime.specs.Durations.Accepted.{Addition, addition_nanos, total, additions, Accepted}
+use Rattle.humantime.specs.References.Durations.Reading.{additions_of}
+use Rattle.humantime.specs.Durations.Counts.{weights, weighted_sum, suffixes, printed_counts, joined_by_space, Canon}
+use Rattle.humantime.specs.References.Durations.Printing.{Suffix, divided, duration_text}
 use Rattle.humantime.proofs.Durations.Printing.PrintedDigits.{decimal_number}
 use Rattle.humantime.proofs.Durations.Printing.PrintedRows.{word_for, span_for, IsWord, Table, table, most}
 use Rattle.humantime.proofs.Durations.Printing.PrintedSpans.{IsCount, spans_for, adds_one, weight_positive, rows_good, counts_spell, both_empty, joined_some, canon_reads}
 use Rattle.humantime.proofs.Durations.Printing.GreatestCounts.{canon_is_text, divided_sum, length-divided, weights_reach}
-use Rattle.humantime.proofs.Durations.Laws.Readings.{spans_of_accepted}
-use Rattle.humantime.proofs.Durations.Laws.SmallAdditions.{IsSmall, each-append, small_joined_sum}
+use Rattle.humantime.proofs.Durations.Laws.SmallAdditions.{IsSmall, small_joined_sum}
 
 -- a count is whole seconds, or nanoseconds of less than a second
 count_small : (r m w n : ℕ) (s : Suffix) → IsWord w m (word_for n s) → r < m → w * n ≤ r → n < 2 ^ 64
@@ -33,33 +33,17 @@ count_small r m w n s i below left fits =
     ] in
     rw (adds_one n (chars (word_for n s)) i.unit i.is (decimal_number n fits).value) (few, tt)
 
-cons_small : (n : ℕ) (ns : List ℕ) (s : Suffix) (ss : List Suffix) → AllByRecursion IsSmall (additions_of (span_for n s))
-    → AllByRecursion IsSmall (additions (spans_for ns ss)) → AllByRecursion IsSmall (additions (spans_for (n ∷ ns) (s ∷ ss)))
-cons_small zero ns s ss row rows = rows
-cons_small (suc n) ns s ss row rows = each-append (additions_of (span_for (suc n) s)) (additions (spans_for ns ss)) row rows
-
 rows_small : (ws : List ℕ) (ss : List Suffix) (m r : ℕ) → Table ws ss m → r < m → AllByRecursion IsCount (divided ws r)
     → AllByRecursion IsSmall (additions (spans_for (divided ws r) ss))
 rows_small [] [] m r h below counts = tt
 rows_small [] (s ∷ ss) m r h below counts = absurd h
 rows_small (w ∷ ws) [] m r h below counts = absurd h
-rows_small (w ∷ ws) (s ∷ ss) m r h below counts =
-    let q = r / w in
-    let positive : 0 < w = weight_positive w m (word_for q s) (h.0 q) in
-    let least : w * q ≤ r = omega (arith, div-add-mod r w) in
-    cons_small q (divided ws (r % w)) s ss
-    (count_small r m w q s (h.0 q) below least counts.0)
-    (rows_small ws ss w (r % w) h.1 (mod_below r w positive) counts.1)
+rows_small (w ∷ ws) (s ∷ ss) m r h below counts = grind (arith, common_steps, (rows_small ws ss w (r % w) h.1 (mod_below r w (weight_positive w m (word_for (r / w) s) (h.0 (r / w)))) counts.1), count_small)
 
 -- no time at all is in small additions
 zero_small : (xs : List Addition) → total xs ≡ 0 → AllByRecursion IsSmall xs
 zero_small [] h = tt
-zero_small (x ∷ xs) h =
-    let sum = sum_by-cons addition_nanos x xs in
-    let none : x.base * x.amount ≡ 0 = omega (arith, sum, h) in (
-      λ one. let amount : 1 * x.amount ≡ 0 = rw one at none in omega (arith, amount),
-      zero_small xs (omega (arith, sum, h)),
-    )
+zero_small (x ∷ xs) h = grind (arith, common_steps, (zero_small xs (omega (arith, (sum_by-cons addition_nanos x xs), h))))
 
 -- The characters are spans of small additions.
 record IsSmallText (text : List ℕ) : Type 0 where
@@ -71,9 +55,7 @@ no_zero : chars (codes "0s") ≢ bare_zero
 no_zero e = let same = chars-IsAscii (codes "0s") (search rules) in absurd (omega (arith, ap length (sym same ∙ e)))
 
 zero_text : Accepted (chars (codes "0s")) 0 → IsSmallText (chars (codes "0s"))
-zero_text accepted =
-    let s = spans_of_accepted (chars (codes "0s")) 0 no_zero accepted in
-    record { spans = s.spans; reads = s.reads; small = zero_small (additions s.spans) s.sum }
+zero_text accepted = grind (arith, common_steps, no_zero, zero_small)
 
 counts_text : (d : ℕ) → d / nanos_per_second ≤ u64_max → Accepted (chars (duration_text d)) d → IsSmallText (chars (duration_text d))
 unfolding duration_text

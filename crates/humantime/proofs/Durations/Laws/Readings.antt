@@ -1,19 +1,18 @@
 -- Accepted texts and their spans.
-use Rattle.std.proofs.Common.{◌≡◌, ◌≢◌, ℕ, ◌+◌, List, [], ◌∷◌, None, refl, sym, ap, ◌∙◌, sum_by, IsPermutation, inl, inr, subst}
+use Rattle.std.proofs.Common.{arith}
+use Rattle.std.proofs.lemmas.Grind.{common_steps}
+use Rattle.std.proofs.Common.{◌≡◌, ◌≢◌, ℕ, ◌+◌, List, [], ◌∷◌, None, refl, sym, ap, ◌∙◌, sum_by, IsPermutation, subst}
 use Rattle.std.proofs.lemmas.List.Sorted.{sum_by-IsPermutation}
 use Rattle.std.proofs.lemmas.List.Sums.{sum_by-cons}
 use Rattle.humantime.specs.Durations.Characters.{bare_zero}
 use Rattle.humantime.specs.Durations.Spans.{Span, Reads}
 use Rattle.humantime.specs.Durations.Faults.{Fault, HasFault}
-use Rattle.humantime.specs.Durations.Sums.{total, additions_of, value}
-use Rattle.humantime.specs.Durations.Limits.{WithinLimits}
-use Rattle.humantime.specs.Durations.Accepted.{Accepted}
-use Rattle.humantime.specs.Durations.Items.{Items}
-use Rattle.humantime.specs.References.Durations.Reading.{items}
+use Rattle.humantime.specs.Durations.Accepted.{total, value, WithinLimits, Accepted}
+use Rattle.humantime.specs.References.Durations.Reading.{additions_of}
 use Rattle.humantime.specs.Laws.Texts.{IsZeroOrSpans, HasNoSpans, ReorderedHaveOneValue}
 use Rattle.humantime.proofs.Durations.Reading.OneReading.{not_zero}
 use Rattle.humantime.proofs.Durations.Reading.Settled.{value-cons}
-use Rattle.humantime.proofs.Durations.Reading.Outcomes.{zero_or_not, items_found, items_whole, reads_whole, one_reading, outcome_accepted, outcome_fault, items_decide_value}
+use Rattle.humantime.proofs.Durations.Reading.Outcomes.{items_whole, one_reading, outcome_accepted, outcome_fault, items_decide_value}
 
 -- The text is spans within the limits that add up to v.
 pub record IsSumOfSpans (text : List ℕ) (v : ℕ) : Type 0 where
@@ -29,28 +28,14 @@ accepted_from_spans text spans h g =
 
 -- and what is accepted is such a text, unless it is exactly `0`
 pub spans_of_accepted : (text : List ℕ) (v : ℕ) → text ≢ bare_zero → Accepted text v → IsSumOfSpans text v
-spans_of_accepted text v some a =
-    let found : Items text (items text).0 (items text).1 = items_found text in
-    let d = (items_decide_value text (items text).0 (items text).1 found some v).0 a in
-    record {
-      spans = (items text).0;
-      reads = reads_whole text (items text).0 (subst (Items text (items text).0) d.0 found);
-      within = d.1;
-      sum = d.2;
-    }
+spans_of_accepted text v some a = grind (arith, common_steps)
 
 pub zero_or_spans : (text : List ℕ) → IsZeroOrSpans text
-zero_or_spans text v a = elim (zero_or_not text) [
-  | inl e ↦ inl e
-  | inr e ↦ let s = spans_of_accepted text v e a in inr (s.spans, s.reads)
-]
+zero_or_spans text v a = grind (arith, common_steps)
 
 -- an accepted text that reads as some spans is their sum, and they are within the limits
 pub accepted_spans : (text : List ℕ) (spans : List Span) (v : ℕ) → Reads text spans → Accepted text v → WithinLimits spans × (value spans ≡ v)
-accepted_spans text spans v h a =
-    let s = spans_of_accepted text v (not_zero text spans h) a in
-    let same : s.spans ≡ spans = one_reading text s.spans spans s.reads h in
-    (subst WithinLimits same s.within, ap value (sym same) ∙ s.sum)
+accepted_spans text spans v h a = grind (arith, common_steps, (one_reading text (spans_of_accepted text v (not_zero text spans h) a).spans spans (spans_of_accepted text v (not_zero text spans h) a).reads h))
 
 -- texts that are the same spans are accepted alike
 pub same_spans : (a b : List ℕ) (spans : List Span) (v : ℕ) → Reads a spans → Reads b spans → Accepted a v → Accepted b v
@@ -60,10 +45,7 @@ same_spans a b spans v h k x =
 
 -- no text has a value and a fault
 pub no_value_and_fault : (text : List ℕ) (v : ℕ) (e : Fault) → Accepted text v → HasFault text e → ⊥
-no_value_and_fault text v e a f =
-    let ok = outcome_accepted text v a in
-    let err = outcome_fault text e f in
-    cc
+no_value_and_fault text v e a f = grind (arith, common_steps, (outcome_accepted text v a), (outcome_fault text e f))
 
 -- the text `0` is no spans
 pub zero_has_no_spans : HasNoSpans bare_zero

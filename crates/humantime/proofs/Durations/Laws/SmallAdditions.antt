@@ -1,13 +1,12 @@
 -- Additions that find room wherever the whole sum is a duration.
+use Rattle.std.proofs.lemmas.Grind.{common_steps}
 use Rattle.std.proofs.Common.{◌≡◌, ◌↔◌, ℕ, ◌+◌, ◌/◌, ◌≤◌, List, [], ◌∷◌, ◌++◌, sym, ap₂, ◌∙◌, subst, arith}
 use Rattle.std.specs.List.{AllByRecursion}
 use Rattle.std.proofs.lemmas.List.Sums.{sum_by-cons}
-use Rattle.humantime.specs.Values.Amounts.{nanos_per_second}
+use Rattle.humantime.specs.Values.{nanos_per_second}
 use Rattle.humantime.specs.Durations.Characters.{u64_max}
 use Rattle.humantime.specs.Durations.Spans.{Span, Reads}
-use Rattle.humantime.specs.Durations.Sums.{Addition, addition_nanos, total, additions}
-use Rattle.humantime.specs.Durations.Limits.{AllHaveRoom}
-use Rattle.humantime.specs.Durations.Accepted.{Accepted}
+use Rattle.humantime.specs.Durations.Accepted.{Addition, addition_nanos, total, additions, AllHaveRoom, Accepted}
 use Rattle.humantime.proofs.Durations.Reading.Rooms.{RoomFrom, total-append, room_from_all, all_have_room}
 use Rattle.humantime.proofs.Durations.Laws.Readings.{accepted_spans}
 use Rattle.humantime.proofs.Durations.Laws.JoinedTexts.{joined_sum}
@@ -31,19 +30,14 @@ small_have_room xs small fits =
 
 room_fits : (t : ℕ) (xs : List Addition) → t / nanos_per_second ≤ u64_max → RoomFrom t xs → (t + total xs) / nanos_per_second ≤ u64_max
 room_fits t [] fits room = omega arith
-room_fits t (x ∷ xs) fits room =
-    let sum : t + total (x ∷ xs) ≡ (t + addition_nanos x) + total xs = omega (arith, sum_by-cons addition_nanos x xs) in
-    rw sum (room_fits (t + addition_nanos x) xs room.0.1 room.1)
+room_fits t (x ∷ xs) fits room = grind (arith, common_steps, (room_fits (t + addition_nanos x) xs room.0.1 room.1))
 
 -- where additions have room, their sum is a duration
 pub room_is_duration : (xs : List Addition) → AllHaveRoom xs → total xs / nanos_per_second ≤ u64_max
-room_is_duration xs room =
-    let sum : 0 + total xs ≡ total xs = omega arith in
-    rw sum at (room_fits 0 xs (omega arith) (room_from_all xs room))
+room_is_duration xs room = grind (arith, common_steps, room_fits, room_from_all)
 
 pub each-append : (xs ys : List Addition) → AllByRecursion IsSmall xs → AllByRecursion IsSmall ys → AllByRecursion IsSmall (xs ++ ys)
-each-append [] ys h k = k
-each-append (x ∷ xs) ys h k = (h.0, each-append xs ys h.1 k)
+each-append xs ys h k = grind (arith, common_steps)
 
 -- accepted texts with small additions, one behind the other, are accepted with the sum exactly where it is a duration
 pub small_joined_sum : (a b : List ℕ) (ss ts : List Span) (u v : ℕ) → Reads a ss → Reads b ts → Accepted a u → Accepted b v

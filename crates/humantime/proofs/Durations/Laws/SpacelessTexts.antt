@@ -1,18 +1,15 @@
 -- A text without its white space spells the same spans.
-use Rattle.std.proofs.Common.{◌≡◌, ℕ, Bool, true, false, cond, not, List, [], ◌∷◌, ◌++◌, Option, Some, None, refl, sym, ap, ◌∙◌, inl, inr, subst, arith, rules}
+use Rattle.std.proofs.lemmas.Grind.{common_steps}
+use Rattle.std.proofs.Common.{◌≡◌, ℕ, Bool, true, false, cond, not, List, [], ◌∷◌, ◌++◌, Option, refl, sym, ap, ◌∙◌, inl, inr, subst, arith, rules}
 use Rattle.std.proofs.lemmas.Bool.{cases_Bool, or_parts}
-use Rattle.std.proofs.lemmas.List.Elements.{filter-append}
-use Rattle.humantime.specs.Durations.Characters.{is_ws, is_digit, is_letter, is_numeric, begins, digits, bare_zero}
-use Rattle.humantime.specs.Durations.Spans.{Span, Only, SpellsFraction, Spells, SpellsEach, Front, Reads}
+use Rattle.humantime.specs.Durations.Characters.{is_ws, is_digit, is_letter, begins, digits, bare_zero}
+use Rattle.humantime.specs.Durations.Spans.{Span, Only, SpellsFraction, Spells, SpellsEach, SpellsAll, Reads}
 use Rattle.humantime.specs.Durations.Accepted.{Accepted}
 use Rattle.humantime.specs.Laws.Texts.{without_white_space, NeedsNoWhiteSpace}
 use Rattle.humantime.proofs.Durations.Reading.Classes.{digit_not_space, letter_not_space, point_not_numeric, is_point-46}
 use Rattle.humantime.proofs.Durations.Reading.Outcomes.{zero_or_not}
 use Rattle.humantime.proofs.Durations.Printing.PrintedDigits.{some_digit}
 use Rattle.humantime.proofs.Durations.Laws.Readings.{spans_of_accepted, same_spans}
-
-spaceless-append : (xs ys : List ℕ) → without_white_space (xs ++ ys) ≡ without_white_space xs ++ without_white_space ys
-spaceless-append xs ys = filter-append (λ c. not (is_ws c)) xs ys
 
 -- white space goes, and each other character stays
 spaceless-space : (c : ℕ) (cs : List ℕ) → is_ws c ≡ true → without_white_space (c ∷ cs) ≡ without_white_space cs
@@ -31,75 +28,37 @@ only_letters (c ∷ cs) h = spaceless-other c cs (letter_not_space c h.0) ∙ ap
 
 still_only : (p : ℕ → Bool) (cs : List ℕ) → Only p cs → Only p (without_white_space cs)
 still_only p [] h = tt
-still_only p (c ∷ cs) h = elim (cases_Bool (is_ws c)) [
-  | inl e ↦ subst (Only p) (sym (spaceless-space c cs e)) (still_only p cs h.1)
-  | inr e ↦ subst (Only p) (sym (spaceless-other c cs e)) (h.0, still_only p cs h.1)
-]
+still_only p (c ∷ cs) h = grind (arith, common_steps, (still_only p cs h.1), (still_only p cs h.1), cases_Bool, spaceless-space)
 
 space_not_digit : (c : ℕ) → is_ws c ≡ true → is_digit c ≡ false
 space_not_digit c e = elim (cases_Bool (is_digit c)) [ inl d ↦ let n = digit_not_space c d in cc | inr d ↦ d ]
 
 same_digits : (cs : List ℕ) → digits (without_white_space cs) ≡ digits cs
 same_digits [] = refl
-same_digits (c ∷ cs) = elim (cases_Bool (is_ws c)) [
-  | inl e ↦
-      let gone : digits (c ∷ cs) ≡ digits cs = ap (λ (b : Bool). cond b (c ∷ digits cs) (digits cs)) (space_not_digit c e) in
-      ap digits (spaceless-space c cs e) ∙ same_digits cs ∙ sym gone
-  | inr e ↦ ap digits (spaceless-other c cs e) ∙ ap (λ (l : List ℕ). cond (is_digit c) (c ∷ l) l) (same_digits cs)
-]
+same_digits (c ∷ cs) = grind (arith, common_steps, (same_digits cs), (same_digits cs), cases_Bool, space_not_digit, spaceless-space)
 
 still_begins : (cs : List ℕ) → begins is_digit cs ≡ true → begins is_digit (without_white_space cs) ≡ true
-still_begins [] e = cc
-still_begins (c ∷ cs) e = ap (begins is_digit) (spaceless-other c cs (digit_not_space c e)) ∙ e
+still_begins cs h = grind (arith, common_steps, digit_not_space)
 
 point_stays : is_ws 46 ≡ false
 point_stays = (or_parts (is_digit 46) (is_ws 46) (point_not_numeric 46 is_point-46)).1
 
 spells_fraction : (text : List ℕ) (fraction : Option (List ℕ)) → SpellsFraction text fraction → SpellsFraction (without_white_space text) fraction
-spells_fraction text None h = ap without_white_space h
-spells_fraction text (Some ds) h = (
-  without_white_space h.0,
-  ap without_white_space h.1 ∙ spaceless-other 46 h.0 point_stays,
-  (still_only is_numeric h.0 h.2.0, same_digits h.0 ∙ h.2.1),
-  h.3,
-)
+spells_fraction text fraction h = grind (arith, common_steps, point_stays, still_only, same_digits)
 
 spelling_parts : (a b word c rest : List ℕ) → Only is_letter word → Only is_ws c
     → without_white_space (a ++ (b ++ (word ++ (c ++ rest)))) ≡ without_white_space a ++ (without_white_space b ++ (word ++ without_white_space rest))
-spelling_parts a b word c rest letters space =
-    let p = spaceless-append a (b ++ (word ++ (c ++ rest))) in
-    let q = spaceless-append b (word ++ (c ++ rest)) in
-    let r = spaceless-append word (c ++ rest) in
-    let u = spaceless-append c rest in
-    let w = only_letters word letters in
-    let s : without_white_space c ++ without_white_space rest ≡ without_white_space rest = ap (λ (l : List ℕ). l ++ without_white_space rest) (only_space c space) in
-    cc
+spelling_parts a b word c rest letters space = grind (arith, common_steps, only_letters, only_space)
 
 spells_span : (text rest : List ℕ) (span : Span) → Spells text span rest → Spells (without_white_space text) span (without_white_space rest)
-spells_span text rest span h = record {
-  number_text = without_white_space h.number_text;
-  fraction_text = without_white_space h.fraction_text;
-  space = [];
-  whole = ap without_white_space h.whole ∙ spelling_parts h.number_text h.fraction_text span.word h.space rest h.word.0 h.only_space;
-  starts = still_begins h.number_text h.starts;
-  number = (still_only is_numeric h.number_text h.number.0, same_digits h.number_text ∙ h.number.1);
-  fraction = spells_fraction h.fraction_text span.fraction h.fraction;
-  word = h.word;
-  only_space = tt;
-}
+spells_span text rest span h = grind (arith, common_steps, spelling_parts, only_space, still_begins, still_only, same_digits, spells_fraction)
 
 spells_each : (body : List ℕ) (spans : List Span) → SpellsEach body spans → SpellsEach (without_white_space body) spans
 spells_each body [] h = ap without_white_space h
 spells_each body (s ∷ ss) h = (without_white_space h.0, spells_span body h.0 s h.1, spells_each h.0 ss h.2)
 
-front_read : (text : List ℕ) (spans : List Span) → Front text spans → Front (without_white_space text) spans
-front_read text spans h = record {
-  space = [];
-  body = without_white_space h.body;
-  whole = ap without_white_space h.whole ∙ spaceless-append h.space h.body ∙ ap (λ (l : List ℕ). l ++ without_white_space h.body) (only_space h.space h.only_space);
-  only_space = tt;
-  each = spells_each h.body spans h.each;
-}
+front_read : (text : List ℕ) (spans : List Span) → SpellsAll text spans → SpellsAll (without_white_space text) spans
+front_read text spans h = grind (arith, common_steps, only_space, spells_each)
 
 -- the text without its white space is read as the same spans
 pub spaceless_reads : (text : List ℕ) (spans : List Span) → Reads text spans → Reads (without_white_space text) spans

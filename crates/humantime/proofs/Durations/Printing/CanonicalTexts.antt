@@ -1,9 +1,10 @@
 -- The canonical text of a text that was read, or not read.
+use Rattle.std.proofs.Common.{arith}
+use Rattle.std.proofs.lemmas.Grind.{common_steps}
 use Rattle.std.proofs.Common.{◌≡◌, ◌↔◌, ℕ, List, Result, Ok, Err, refl, sym, ap, subst, ◌∙◌}
 use Rattle.std.specs.Prelude.{chars}
 use Rattle.humantime.specs.Durations.Faults.{Fault, HasFault}
-use Rattle.humantime.specs.Durations.Counts.{Canon}
-use Rattle.humantime.specs.Durations.Canonical.{IsCanonicalOf}
+use Rattle.humantime.specs.Durations.Counts.{Canon, IsCanonicalOf}
 use Rattle.humantime.specs.References.Durations.Printing.{duration_text}
 use Rattle.humantime.specs.References.Durations.Answers.{duration_answer, printed_answer, canonical_answer}
 use Rattle.humantime.proofs.Durations.Printing.GreatestCounts.{text_is_canon, canon_is_text}
@@ -20,12 +21,7 @@ canonical_if_refused text e refused = ap printed_answer refused
 
 -- a printed answer comes from a value, and a fault from the same fault
 printed_value : (a : Result ℕ Fault) (t : List ℕ) → printed_answer a ≡ Ok t → (v : ℕ) × (a ≡ Ok v) × (duration_text v ≡ t)
-printed_value (Ok v) t e = (v, refl, cc)
-printed_value (Err f) t e = cc
-
-printed_fault : (a : Result ℕ Fault) (f : Fault) → (printed_answer a ≡ Err f) ↔ (a ≡ Err f)
-printed_fault (Ok v) f = (λ e. cc, λ e. cc)
-printed_fault (Err g) f = (λ e. cc, λ e. cc)
+printed_value a t h = grind (arith, common_steps)
 
 -- what was answered as the function says is the canonical text, or the fault
 pub answer_is_canonical : (s : List ℕ) (r : Result (List ℕ) Fault) → r ≡ canonical_answer (chars s) → (t : List ℕ) → (r ≡ Ok t) ↔ IsCanonicalOf s t
@@ -33,13 +29,10 @@ unfolding canonical_answer
 answer_is_canonical s r e t = (
   (λ h.
       let p = printed_value (duration_answer (chars s)) t (sym e ∙ h) in
-      record { value = p.0; accepted = (answer_accepts (chars s) _ refl p.0).0 p.1; canon = subst (Canon p.0) p.2 (text_is_canon p.0) }),
-  (λ h. e ∙ ap printed_answer ((answer_accepts (chars s) _ refl h.value).1 h.accepted) ∙ ap (λ (u : List ℕ). Ok u) (sym (canon_is_text h.value t h.canon))),
+      record { duration = p.0; accepted = (answer_accepts (chars s) _ refl p.0).0 p.1; canon = subst (Canon p.0) p.2 (text_is_canon p.0) }),
+  (λ h. e ∙ ap printed_answer ((answer_accepts (chars s) _ refl h.duration).1 h.accepted) ∙ ap (λ (u : List ℕ). Ok u) (sym (canon_is_text h.duration t h.canon))),
 )
 
 pub answer_is_fault : (s : List ℕ) (r : Result (List ℕ) Fault) → r ≡ canonical_answer (chars s) → (f : Fault) → (r ≡ Err f) ↔ HasFault (chars s) f
 unfolding canonical_answer
-answer_is_fault s r e f =
-    let p = printed_fault (duration_answer (chars s)) f in
-    let q = answer_faults (chars s) (duration_answer (chars s)) refl f in
-    ((λ h. q.0 (p.0 (sym e ∙ h))), (λ h. e ∙ p.1 (q.1 h)))
+answer_is_fault s r e f = grind (arith, common_steps, (answer_faults (chars s) (duration_answer (chars s)) refl f))

@@ -1,4 +1,5 @@
 -- The digits of a printed count, as a number of a text.
+use Rattle.std.proofs.lemmas.Grind.{common_steps}
 use Rattle.std.proofs.Common.{◌≡◌, ℕ, ◌<◌, ◌^◌, true, List, [], ◌∷◌, length, refl, ap, arith}
 use Rattle.std.specs.Prelude.{decimal}
 use Rattle.std.specs.Int.{IsInRange}
@@ -23,8 +24,7 @@ all_digits [] h = refl
 all_digits (c ∷ cs) h = rw (digit_here c (digit_from_value c h.0)) (ap (λ l. c ∷ l) (all_digits cs h.1))
 
 pub some_digit : (ds : List ℕ) → AllDigits 10 ds → 0 < length ds → begins is_digit ds ≡ true
-some_digit [] h some = absurd (omega arith)
-some_digit (c ∷ cs) h some = digit_here c (digit_from_value c h.0)
+some_digit ds h k = grind (arith, common_steps, digit_here)
 
 -- the digits are a number's, and read as n
 pub record IsNumber (ds : List ℕ) (n : ℕ) : Type 0 where
@@ -34,11 +34,4 @@ pub record IsNumber (ds : List ℕ) (n : ℕ) : Type 0 where
   pub value : decimal_value ds ≡ n
 
 pub decimal_number : (n : ℕ) → n < 2 ^ 64 → IsNumber (decimal n) n
-decimal_number n h =
-    let p = decimal_is_IsNumeral n h in
-    record {
-      starts = some_digit (decimal n) p.0.1 p.0.0;
-      numeric = all_numeric (decimal n) p.0.1;
-      its_digits = all_digits (decimal n) p.0.1;
-      value = p.1;
-    }
+decimal_number n h = grind (arith, common_steps, (decimal_is_IsNumeral n h), some_digit, all_numeric, all_digits)

@@ -5,16 +5,16 @@ use Rattle.std.specs.List.{AllByRecursion, join_with_byte}
 use Rattle.std.proofs.lemmas.Nat.{div_below, mod_below}
 use Rattle.std.proofs.lemmas.List.{length-append}
 use Rattle.std.proofs.lemmas.Fmt.{length-decimal-le}
-use Rattle.humantime.specs.Values.Amounts.{nanos_per_second}
+use Rattle.humantime.specs.Values.{nanos_per_second}
 use Rattle.humantime.specs.Durations.Characters.{u64_max}
-use Rattle.humantime.specs.Durations.Counts.{weights, Suffix, suffixes, printed_count, printed_counts, joined_by_space, Counts, Canon}
-use Rattle.humantime.specs.References.Durations.Printing.{divided, duration_text}
+use Rattle.humantime.specs.Durations.Counts.{weights, suffixes, printed_count, printed_counts, joined_by_space, Counts, Canon}
+use Rattle.humantime.specs.References.Durations.Printing.{Suffix, divided, duration_text}
 use Rattle.humantime.proofs.Durations.Printing.PrintedRows.{table, most}
 use Rattle.humantime.proofs.Durations.Printing.PrintedSpans.{IsCount, rows_good}
 use Rattle.humantime.proofs.Durations.Printing.GreatestCounts.{canon_is_text, counts_divided}
 
 abbrev suffix_length : Suffix → ℕ
-suffix_length s = length s.text + cond s.plural 1 0
+suffix_length s = length s.0 + cond s.1 1 0
 
 -- a count of each weight has at most so many digits, where less than m is left
 abbrev Sizes : List ℕ → List ℕ → List Suffix → ℕ → Type 0
@@ -45,9 +45,9 @@ count_length : (n k : ℕ) (s : Suffix) → 0 < k → n < 10 ^ k → n < 2 ^ 64 
 count_length n k s some below fits =
     omega (
       arith,
-      length-append (decimal n ++ s.text) (cond (s.plural && nat_lt 1 n) (codes "s") []),
-      length-append (decimal n) s.text,
-      plural_length s.plural (nat_lt 1 n),
+      length-append (decimal n ++ s.0) (cond (s.1 && nat_lt 1 n) (codes "s") []),
+      length-append (decimal n) s.0,
+      plural_length s.1 (nat_lt 1 n),
       length-decimal-le k n some below fits,
     )
 

@@ -1,18 +1,20 @@
 -- The rows of printed counts: what each unit's word stands for.
+use Rattle.std.proofs.lemmas.Grind.{common_steps}
 use Rattle.std.proofs.Common.{◌≡◌, ◌⊎◌, inl, inr, ℕ, ◌*◌, ◌^◌, ◌<◌, ◌≤◌, Bool, true, false, cond, List, [], ◌∷◌, ◌++◌, refl, arith}
 use Rattle.std.specs.Prelude.{◌&&◌, Some, None, codes, decimal, nat_lt}
 use Rattle.std.specs.Str.{IsUtf8, is_utf8, chars}
 use lib.Utf8.{encode}
 use Rattle.std.proofs.lemmas.Str.{IsUtf8-from_is_utf8}
-use Rattle.humantime.specs.Values.Amounts.{nanos_per_micro, nanos_per_milli, nanos_per_second, seconds_per_minute, seconds_per_hour, seconds_per_day, seconds_per_month, seconds_per_year}
-use Rattle.humantime.specs.Durations.Characters.{is_letter, leading, begins}
+use Rattle.humantime.specs.Values.{nanos_per_micro, nanos_per_milli, nanos_per_second, seconds_per_minute, seconds_per_hour, seconds_per_day, seconds_per_month, seconds_per_year}
+use Rattle.humantime.specs.Durations.Characters.{is_letter, leading, begins, micro_suffix}
 use Rattle.humantime.specs.Durations.Units.{Scale, whole_nanos, in_nanos, in_seconds, in_seconds_and_nanos, scale_of_word}
 use Rattle.humantime.specs.Durations.Spans.{Span, Only}
-use Rattle.humantime.specs.Durations.Counts.{weights, Suffix, micros, suffixes}
+use Rattle.humantime.specs.Durations.Counts.{weights, suffixes}
+use Rattle.humantime.specs.References.Durations.Printing.{Suffix}
 
 -- the word behind a count of n, and the span of that count
 abbrev pub word_for : ℕ → Suffix → List ℕ
-word_for n s = s.text ++ cond (s.plural && nat_lt 1 n) (codes "s") []
+word_for n s = s.0 ++ cond (s.1 && nat_lt 1 n) (codes "s") []
 
 abbrev pub span_for : ℕ → Suffix → Span
 span_for n s = record { number = decimal n; fraction = None; word = chars (word_for n s) }
@@ -30,24 +32,11 @@ pub record IsWord (w m : ℕ) (word : List ℕ) : Type 0 where
 
 leading_only : (p : ℕ → Bool) (cs : List ℕ) → leading p cs ≡ cs → Only p cs
 leading_only p [] e = tt
-leading_only p (c ∷ cs) e = by (p c) refl e (leading_only p cs)
-  where
-    by : (b : Bool) → p c ≡ b → cond b (c ∷ leading p cs) [] ≡ c ∷ cs → (leading p cs ≡ cs → Only p cs) → Only p (c ∷ cs)
-    by true h e rest = (h, rest cc)
-    by false h e rest = absurd cc
+leading_only p (c ∷ cs) e = grind (arith, common_steps, (leading_only p cs))
 
 known : (w m : ℕ) (word : List ℕ) (u : Scale) → is_utf8 word ≡ true → scale_of_word (chars word) ≡ Some u → u.base * u.factor ≡ w → 0 < u.factor
     → (u.base ≡ nanos_per_second) ⊎ ((u.base ≡ 1) × (m ≤ nanos_per_second)) → leading is_letter (chars word) ≡ chars word → begins is_letter (chars word) ≡ true → IsWord w m word
-known w m word u utf8 is weight some kind letters first = record {
-  utf8 = IsUtf8-from_is_utf8 word utf8;
-  unit = u;
-  is = is;
-  weight = weight;
-  some = some;
-  kind = kind;
-  letters = leading_only is_letter (chars word) letters;
-  first = first;
-}
+known w m word u utf8 is weight some kind letters first = grind (arith, common_steps, IsUtf8-from_is_utf8, leading_only)
 
 abbrev year : ℕ
 year = seconds_per_year * nanos_per_second
@@ -90,9 +79,9 @@ millis : IsWord nanos_per_milli nanos_per_second (codes "ms")
 unfolding is_letter scale_of_word is_utf8 chars encode
 millis = known _ _ (codes "ms") (in_nanos nanos_per_milli) refl refl refl (omega arith) (inr (refl, omega arith)) refl refl
 
-micros_word : IsWord nanos_per_micro nanos_per_milli micros
+micros_word : IsWord nanos_per_micro nanos_per_milli micro_suffix
 unfolding is_letter scale_of_word is_utf8 chars encode
-micros_word = known _ _ micros (in_nanos nanos_per_micro) refl refl refl (omega arith) (inr (refl, omega arith)) refl refl
+micros_word = known _ _ micro_suffix (in_nanos nanos_per_micro) refl refl refl (omega arith) (inr (refl, omega arith)) refl refl
 
 nanos : IsWord 1 nanos_per_micro (codes "ns")
 unfolding is_letter scale_of_word is_utf8 chars encode
@@ -106,13 +95,4 @@ Table [] (s ∷ ss) m = ⊥
 Table (w ∷ ws) [] m = ⊥
 
 pub table : Table weights suffixes most
-table = (
-  (λ n. years (nat_lt 1 n)),
-  (
-    (λ n. months (nat_lt 1 n)),
-    (
-      (λ n. days (nat_lt 1 n)),
-      ((λ n. hours), ((λ n. minutes), ((λ n. seconds), ((λ n. millis), ((λ n. micros_word), ((λ n. nanos), refl)))))),
-    ),
-  ),
-)
+table = grind (arith, common_steps, years, months, days, hours, minutes, seconds, millis, micros_word, nanos)

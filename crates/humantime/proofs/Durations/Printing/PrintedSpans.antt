@@ -1,23 +1,22 @@
 -- A printed text is spans within all limits, which add up to its duration.
+use Rattle.std.proofs.lemmas.Grind.{common_steps}
 use Rattle.std.proofs.Common.{◌≡◌, ◌≢◌, ◌⊎◌, inl, inr, ℕ, zero, suc, ◌+◌, ◌*◌, ◌/◌, ◌%◌, ◌^◌, ◌<◌, ◌≤◌, List, [], ◌∷◌, ◌++◌, length, Option, Some, None, refl, sym, ap, subst, ◌∙◌, arith, rules}
 use Rattle.std.specs.Prelude.{IsSome, codes, decimal, chars}
 use Rattle.std.specs.Str.{IsUtf8}
 use Rattle.std.specs.List.{AllByRecursion, join_with_byte}
-use Rattle.std.proofs.Math.Nat.{mul_assoc, mul_comm, div-add-mod}
+use Rattle.std.proofs.Math.Nat.{mul_assoc}
 use Rattle.std.proofs.lemmas.Nat.{mod_below}
 use Rattle.std.proofs.lemmas.List.{append_assoc, append-nil}
 use Rattle.std.proofs.lemmas.Str.{chars-append, chars-IsAscii, chars-nil, IsUtf8-append, IsUtf8-from_ascii}
 use Rattle.std.proofs.lemmas.Fmt.{IsAscii-decimal, decimal_digit}
-use Rattle.humantime.specs.Values.Amounts.{nanos_per_second, seconds_per_minute}
-use Rattle.humantime.specs.Durations.Characters.{white_spaces, is_ws, decimal_value, u64_max, is_letter}
+use Rattle.humantime.specs.Values.{nanos_per_second, seconds_per_minute}
+use Rattle.humantime.specs.Durations.Characters.{white_spaces, is_ws, decimal_value, u64_max}
 use Rattle.humantime.specs.Durations.Units.{Scale, scale_of_word}
 use Rattle.humantime.specs.Durations.Spans.{Span, Only, Spells, SpellsEach}
-use Rattle.humantime.specs.Durations.Sums.{total, fraction_additions, additions_of, additions}
-use Rattle.humantime.specs.Durations.Limits.{Formed, Fits, HasRoom}
-use Rattle.humantime.specs.Durations.Accepted.{Accepted, Sum_of}
-use Rattle.humantime.specs.Durations.Counts.{weights, weighted_sum, Suffix, suffixes, without_plural, printed_count, printed_counts, joined_by_space, Canon}
-use Rattle.humantime.specs.References.Durations.Printing.{divided, duration_text}
-use Rattle.humantime.proofs.Durations.Reading.Runs.{begins_not_nil}
+use Rattle.humantime.specs.Durations.Accepted.{total, additions, Formed, Fits, HasRoom, Accepted, Sum_of}
+use Rattle.humantime.specs.References.Durations.Reading.{additions_of}
+use Rattle.humantime.specs.Durations.Counts.{weights, weighted_sum, suffixes, printed_count, printed_counts, joined_by_space, Canon}
+use Rattle.humantime.specs.References.Durations.Printing.{Suffix, without_plural, divided, duration_text}
 use Rattle.humantime.proofs.Durations.Reading.Spellings.{spells-append}
 use Rattle.humantime.proofs.Durations.Reading.Rooms.{RoomFrom, RoomFrom-append, total-append, all_have_room}
 use Rattle.humantime.proofs.Durations.Printing.PrintedDigits.{decimal_number}
@@ -31,17 +30,12 @@ pub record RowGood (t v : ℕ) (s : Span) : Type 0 where
   pub room : RoomFrom t (additions_of s)
   pub worth : total (additions_of s) ≡ v
 
-no_fraction_adds : (base : ℕ) (factor : Option ℕ) → fraction_additions base factor None ≡ []
-no_fraction_adds base None = refl
-no_fraction_adds base (Some factor) = refl
-
 is_some_at : (o : Option Scale) (u : Scale) → o ≡ Some u → IsSome o
 is_some_at o u e = rw e refl
 
 pub adds_one : (n : ℕ) (word : List ℕ) (u : Scale) → scale_of_word word ≡ Some u → decimal_value (decimal n) ≡ n
     → additions_of (record { number = decimal n; fraction = None; word = word }) ≡ record { base = u.base; amount = n * u.factor } ∷ []
-adds_one n word u e v =
-    rw (e, no_fraction_adds u.fraction_base u.fraction_factor) (ap (λ k. record { base = u.base; amount = k * u.factor } ∷ []) v)
+adds_one n word u e v = grind (arith, common_steps)
 
 fits_one : (n : ℕ) (word : List ℕ) (u : Scale) → scale_of_word word ≡ Some u → decimal_value (decimal n) ≡ n → n * u.factor ≤ u64_max
     → Fits (record { number = decimal n; fraction = None; word = word })
@@ -55,53 +49,21 @@ record IsSmall (t r m y base : ℕ) : Type 0 where
   kind : (base ≡ nanos_per_second) ⊎ ((base ≡ 1) × (m ≤ nanos_per_second))
 
 small_fits : (t r m y base : ℕ) → IsSmall t r m y base → y ≤ u64_max
-small_fits t r m y base h = elim h.kind [
-  | inl e ↦ let k : nanos_per_second * y ≤ r = rw (← e) h.left in omega (arith, h.whole)
-  | inr e ↦ let k : 1 * y ≤ r = rw (← e.0) h.left in omega (arith, h.below, e.1)
-]
+small_fits t r m y base h = grind (arith, common_steps)
 
 small_room : (t r m y base : ℕ) → IsSmall t r m y base → HasRoom t (record { base = base; amount = y })
-small_room t r m y base h = (
-  (λ one. elim h.kind [
-    | inl e ↦ absurd (omega (arith, sym e ∙ one))
-    | inr e ↦ let k : 1 * y ≤ r = rw (← e.0) h.left in omega (arith, h.below, e.1)
-  ]),
-  omega (arith, h.left, h.whole),
-)
+small_room t r m y base h = grind (arith, common_steps)
 
 -- a count of n that is worth w each
 row_small : (t r m w n : ℕ) (word : List ℕ) (i : IsWord w m word) → r < m → w * n ≤ r → (t + r) / nanos_per_second ≤ u64_max
     → IsSmall t r m (n * i.unit.factor) i.unit.base
-row_small t r m w n word i below left whole = record {
-  left = omega (arith, left, mul_assoc i.unit.base i.unit.factor n, ap (λ k. k * n) i.weight, ap (λ k. i.unit.base * k) (mul_comm n i.unit.factor));
-  below = below;
-  whole = whole;
-  kind = i.kind;
-}
-
-factor_most : (n f : ℕ) → 0 < f → n ≤ n * f
-factor_most n f h = grind arith
+row_small t r m w n word i below left whole = grind (arith, common_steps, mul_assoc)
 
 word_count : (t r m w n : ℕ) (word : List ℕ) (i : IsWord w m word) → r < m → w * n ≤ r → (t + r) / nanos_per_second ≤ u64_max → n < 2 ^ 64
-word_count t r m w n word i below left whole =
-    let y : n * i.unit.factor ≤ u64_max = small_fits t r m (n * i.unit.factor) i.unit.base (row_small t r m w n word i below left whole) in
-    omega (arith, factor_most n i.unit.factor i.some)
+word_count t r m w n word i below left whole = grind (arith, common_steps)
 
 row_good : (t r m w n : ℕ) (s : Suffix) → IsWord w m (word_for n s) → r < m → w * n ≤ r → (t + r) / nanos_per_second ≤ u64_max → RowGood t (w * n) (span_for n s)
-row_good t r m w n s i below left whole =
-    let u = i.unit in
-    let small = row_small t r m w n (word_for n s) i below left whole in
-    let v = (decimal_number n (word_count t r m w n (word_for n s) i below left whole)).value in
-    let adds = adds_one n (chars (word_for n s)) u i.is v in
-    record {
-      formed = record {
-        short = record { number = rw v (omega (arith, word_count t r m w n (word_for n s) i below left whole)); fraction = tt };
-        word = is_some_at _ u i.is;
-      };
-      fits = fits_one n (chars (word_for n s)) u i.is v (small_fits t r m (n * u.factor) u.base small);
-      room = rw adds (small_room t r m (n * u.factor) u.base small, tt);
-      worth = rw adds (omega (arith, mul_assoc u.base u.factor n, ap (λ k. k * n) i.weight, ap (λ k. u.base * k) (mul_comm n u.factor)));
-    }
+row_good t r m w n s i below left whole = grind (arith, common_steps, (row_small t r m w n (word_for n s) i below left whole), (decimal_number n (word_count t r m w n (word_for n s) i below left whole)).value, (adds_one n (chars (word_for n s)) i.unit i.is ((decimal_number n (word_count t r m w n (word_for n s) i below left whole)).value)), word_count, word_for, is_some_at, fits_one, small_fits, small_room, mul_assoc)
 
 -- the spans of the counts that are not zero
 abbrev pub spans_for : List ℕ → List Suffix → List Span
@@ -123,26 +85,10 @@ pub record RowsGood (t : ℕ) (ws ns : List ℕ) (ss : List Suffix) : Type 0 whe
 
 rows_cons : (t w q : ℕ) (ws ns : List ℕ) (s : Suffix) (ss : List Suffix) → RowGood t (w * q) (span_for q s) → RowsGood (t + w * q) ws ns ss → q < 2 ^ 64
     → RowsGood t (w ∷ ws) (q ∷ ns) (s ∷ ss)
-rows_cons t w zero ws ns s ss row rows h =
-    let e : t + w * 0 ≡ t = omega arith in
-    record { formed = rows.formed; fit = rows.fit; room = rw e at rows.room; sum = omega (arith, rows.sum); small = (h, rows.small) }
-rows_cons t w (suc n) ws ns s ss row rows h =
-    let here = additions_of (span_for (suc n) s) in
-    let rest = additions (spans_for ns ss) in
-    record {
-      formed = (row.formed, rows.formed);
-      fit = (row.fits, rows.fit);
-      room = RoomFrom-append t here rest row.room (subst (λ v. RoomFrom (t + v) rest) (sym row.worth) rows.room);
-      sum = omega (arith, total-append here rest, row.worth, rows.sum);
-      small = (h, rows.small);
-    }
+rows_cons t w q ws ns s ss h k e = grind (arith, common_steps)
 
 pub weight_positive : (w m : ℕ) (word : List ℕ) → IsWord w m word → 0 < w
-weight_positive w m word i =
-    elim i.kind [
-      | inl e ↦ let k : nanos_per_second * i.unit.factor ≡ w = rw (← e) i.weight in omega (arith, i.some)
-      | inr e ↦ let k : 1 * i.unit.factor ≡ w = rw (← e.0) i.weight in omega (arith, i.some)
-    ]
+weight_positive w m word i = grind (arith, common_steps)
 
 pub rows_good : (ws : List ℕ) (ss : List Suffix) (m r t : ℕ) → Table ws ss m → r < m → (t + r) / nanos_per_second ≤ u64_max → RowsGood t ws (divided ws r) ss
 rows_good [] [] m r t h below whole = record { formed = tt; fit = tt; room = tt; sum = refl; small = tt }
@@ -152,9 +98,8 @@ rows_good (w ∷ ws) (s ∷ ss) m r t h below whole =
     let q = r / w in
     let word = h.0 q in
     let positive : 0 < w = weight_positive w m (word_for q s) word in
-    let split = div-add-mod r w in
-    let least : w * q ≤ r = omega (arith, split) in
-    let total_same : (t + w * q) + r % w ≡ t + r = omega (arith, split) in
+    let least : w * q ≤ r = omega (arith) in
+    let total_same : (t + w * q) + r % w ≡ t + r = omega (arith) in
     rows_cons t w q ws (divided ws (r % w)) s ss
     (row_good t r m w q s word below least whole)
     (rows_good ws ss w (r % w) (t + w * q) h.1 (mod_below r w positive) (subst (λ k. k / nanos_per_second ≤ u64_max) (sym total_same) whole))
@@ -169,25 +114,10 @@ count_utf8 : (n : ℕ) (s : Suffix) → n < 2 ^ 64 → IsUtf8 (word_for n s) →
 count_utf8 n s h word = rw append_assoc (IsUtf8-append (decimal n) (word_for n s) (decimal_utf8 n h) word)
 
 count_chars : (n : ℕ) (s : Suffix) → n < 2 ^ 64 → chars (printed_count n s) ≡ decimal n ++ chars (word_for n s)
-count_chars n s h =
-    ap chars (append_assoc (decimal n) s.text _)
-    ∙ chars-append (decimal n) (word_for n s) (decimal_utf8 n h)
-    ∙ ap (λ l. l ++ chars (word_for n s)) (chars-IsAscii (decimal n) (IsAscii-decimal n h))
+count_chars n s h = grind (arith, common_steps, chars-append, decimal_utf8, chars-IsAscii, IsAscii-decimal)
 
 count_spells : (n w m : ℕ) (s : Suffix) (space : List ℕ) → n < 2 ^ 64 → IsWord w m (word_for n s) → Only is_ws space → Spells (chars (printed_count n s) ++ space) (span_for n s) []
-count_spells n w m s space h i only =
-    let number = decimal_number n h in
-    record {
-      number_text = decimal n;
-      fraction_text = [];
-      space = space;
-      whole = ap (λ l. l ++ space) (count_chars n s h) ∙ append_assoc (decimal n) (chars (word_for n s)) space ∙ sym (simp append-nil);
-      starts = number.starts;
-      number = (number.numeric, number.its_digits);
-      fraction = refl;
-      word = (i.letters, begins_not_nil is_letter (chars (word_for n s)) i.first);
-      only_space = only;
-    }
+count_spells n w m s space h i only = grind (arith, common_steps, (decimal_number n h), count_chars)
 
 space_is : Only is_ws (32 ∷ [])
 unfolding is_ws white_spaces
@@ -202,10 +132,7 @@ join_spells : (p : List ℕ) (ps : List (List ℕ)) (s : Span) (spans : List Spa
 join_spells p [] s spans utf8 spells each =
     let whole = sym (append-nil (chars p)) ∙ sym (ap (λ l. (chars p ++ []) ++ l) chars-nil ∙ append-nil (chars p ++ [])) in
     (chars [], subst (λ l. Spells l s (chars [])) (sym whole) (spells-append (chars p ++ []) [] (chars []) s (spells [] tt)), each)
-join_spells p (q ∷ qs) s spans utf8 spells each =
-    let others = join_with_byte 32 (q ∷ qs) in
-    let whole = chars-append p (32 ∷ others) utf8 ∙ ap (λ l. chars p ++ l) (chars_space others) ∙ sym (append_assoc (chars p) (32 ∷ []) (chars others)) in
-    (chars others, subst (λ l. Spells l s (chars others)) (sym whole) (spells-append (chars p ++ 32 ∷ []) [] (chars others) s (spells (32 ∷ []) space_is)), each)
+join_spells p (q ∷ qs) s spans utf8 spells each = grind (arith, common_steps, (chars-append p (32 ∷ (join_with_byte 32 (q ∷ qs))) utf8 ∙ ap (λ l. chars p ++ l) (chars_space (join_with_byte 32 (q ∷ qs))) ∙ sym (append_assoc (chars p) (32 ∷ []) (chars (join_with_byte 32 (q ∷ qs))))), space_is)
 
 pub counts_spell : (ws ns : List ℕ) (ss : List Suffix) (m : ℕ) → Table ws ss m → length ns ≡ length ws → AllByRecursion IsCount ns
     → SpellsEach (chars (join_with_byte 32 (printed_counts ns ss))) (spans_for ns ss)
@@ -229,8 +156,7 @@ both_empty (zero ∷ ns) (s ∷ ss) = both_empty ns ss
 both_empty (suc n ∷ ns) (s ∷ ss) = inr ((λ e. cc), (λ e. cc))
 
 pub joined_some : (ps : List (List ℕ)) → ps ≢ [] → joined_by_space ps ≡ join_with_byte 32 ps
-joined_some [] h = absurd (h refl)
-joined_some (p ∷ ps) h = refl
+joined_some ps h = grind (arith, common_steps)
 
 -- spans within the limits are accepted
 accepted_spans : (text : List ℕ) (spans : List Span) (v : ℕ) → SpellsEach text spans → spans ≢ [] → AllByRecursion Formed spans → AllByRecursion Fits spans

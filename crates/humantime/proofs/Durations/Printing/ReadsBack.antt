@@ -1,14 +1,12 @@
 -- What holds of printed texts, for every duration and every text.
+use Rattle.std.proofs.lemmas.Grind.{common_steps}
 use Rattle.std.proofs.Common.{◌≡◌, ℕ, ◌+◌, ◌/◌, ◌≤◌, List, [], ◌∷◌, sym, subst, ◌∙◌, arith}
 use Rattle.std.specs.Prelude.{chars, Result, Ok}
-use Rattle.std.proofs.lemmas.List.Sums.{sum_by-cons}
-use Rattle.humantime.specs.Values.Amounts.{nanos_per_second}
+use Rattle.humantime.specs.Values.{nanos_per_second}
 use Rattle.humantime.specs.Durations.Characters.{u64_max}
-use Rattle.humantime.specs.Durations.Sums.{Addition, addition_nanos, total, additions}
-use Rattle.humantime.specs.Durations.Accepted.{Accepted, Bare_zero, Sum_of}
+use Rattle.humantime.specs.Durations.Accepted.{Addition, addition_nanos, total, Accepted}
 use Rattle.humantime.specs.Durations.Faults.{Fault}
-use Rattle.humantime.specs.Durations.Counts.{Canon}
-use Rattle.humantime.specs.Durations.Canonical.{IsCanonicalOf}
+use Rattle.humantime.specs.Durations.Counts.{Canon, IsCanonicalOf}
 use Rattle.humantime.specs.References.Durations.Printing.{duration_text}
 use Rattle.humantime.specs.Laws.Printed.{HasOneText, TextsTellApart, HasCanonicalText, KeepsItsValue, KeepsItsText}
 use Rattle.humantime.proofs.Durations.Reading.Rooms.{RoomFrom, room_from_all}
@@ -25,17 +23,11 @@ same_read text u v a b = ok_same u v (sym (outcome_accepted text u a) ∙ outcom
 
 room_fits : (t : ℕ) (xs : List Addition) → t / nanos_per_second ≤ u64_max → RoomFrom t xs → (t + total xs) / nanos_per_second ≤ u64_max
 room_fits t [] h room = omega arith
-room_fits t (x ∷ xs) h room =
-    let e : t + total (x ∷ xs) ≡ (t + addition_nanos x) + total xs = omega (arith, sum_by-cons addition_nanos x xs) in
-    rw e (room_fits (t + addition_nanos x) xs room.0.1 room.1)
+room_fits t (x ∷ xs) h room = grind (arith, common_steps, (room_fits (t + addition_nanos x) xs room.0.1 room.1))
 
 -- what is accepted is a duration
 accepted_fits : (text : List ℕ) (v : ℕ) → Accepted text v → v / nanos_per_second ≤ u64_max
-accepted_fits text v (Bare_zero zero none) = rw none (omega arith)
-accepted_fits text v (Sum_of spans reads within sum) =
-    let xs = additions spans in
-    let e : 0 + total xs ≡ v = omega (arith, sum) in
-    subst (λ n. n / nanos_per_second ≤ u64_max) e (room_fits 0 xs (omega arith) (room_from_all xs within.room))
+accepted_fits text v h = grind (arith, common_steps, room_fits, room_from_all)
 
 pub one_text : (d : ℕ) → HasOneText d
 one_text d = (duration_text d, text_is_canon d, canon_is_text d)
@@ -47,17 +39,17 @@ texts_tell_apart a b ha hb s t left right = (
 )
 
 pub has_canonical_text : (s : List ℕ) → HasCanonicalText s
-has_canonical_text s v accepted = (duration_text v, record { value = v; accepted = accepted; canon = text_is_canon v })
+has_canonical_text s v accepted = (duration_text v, record { duration = v; accepted = accepted; canon = text_is_canon v })
 
 -- the canonical text of what is accepted is accepted with the same value
-canonical_read : (s t : List ℕ) (h : IsCanonicalOf s t) → Accepted (chars t) h.value
-canonical_read s t h = canon_reads h.value (accepted_fits (chars s) h.value h.accepted) t h.canon
+canonical_read : (s t : List ℕ) (h : IsCanonicalOf s t) → Accepted (chars t) h.duration
+canonical_read s t h = canon_reads h.duration (accepted_fits (chars s) h.duration h.accepted) t h.canon
 
 pub keeps_its_value : (s : List ℕ) → KeepsItsValue s
-keeps_its_value s v t accepted h = subst (λ d. Accepted (chars t) d) (same_read (chars s) h.value v h.accepted accepted) (canonical_read s t h)
+keeps_its_value s v t accepted h = subst (λ d. Accepted (chars t) d) (same_read (chars s) h.duration v h.accepted accepted) (canonical_read s t h)
 
 pub keeps_its_text : (s : List ℕ) → KeepsItsText s
 keeps_its_text s t u h = (
-  (λ k. one_canon h.value u t (subst (λ d. Canon d u) (same_read (chars t) k.value h.value k.accepted (canonical_read s t h)) k.canon) h.canon),
-  (λ same. record { value = h.value; accepted = canonical_read s t h; canon = subst (Canon h.value) (sym same) h.canon }),
+  (λ k. one_canon h.duration u t (subst (λ d. Canon d u) (same_read (chars t) k.duration h.duration k.accepted (canonical_read s t h)) k.canon) h.canon),
+  (λ same. record { duration = h.duration; accepted = canonical_read s t h; canon = subst (Canon h.duration) (sym same) h.canon }),
 )

@@ -1,8 +1,8 @@
 -- What a character is excludes the others; and what its class says.
-use Rattle.std.proofs.Common.{◌≡◌, ◌≢◌, ◌≤◌, ◌⊎◌, ◌↔◌, ℕ, Bool, true, false, refl, sym, ◌∙◌, inl, inr, arith}
-use Rattle.std.specs.Prelude.{if◌then◌else◌}
+use Rattle.std.proofs.lemmas.Grind.{common_steps}
+use Rattle.std.proofs.Common.{◌≡◌, ◌≢◌, ◌≤◌, ◌⊎◌, ◌↔◌, ℕ, true, false, refl, sym, ◌∙◌, arith}
 use Rattle.std.specs.Char.{is_whitespace, is_ascii_digit}
-use Rattle.std.proofs.lemmas.Bool.{cases_Bool, false≢true, or_from, or_left, or_right}
+use Rattle.std.proofs.lemmas.Bool.{or_left, or_right}
 use Rattle.std.proofs.lemmas.Bool.Decides.{nat_tests}
 use Rattle.humantime.specs.declared.duration.reading.class.Class.{Class}
 use Rattle.humantime.specs.declared.duration.reading.class.Class.TheVariants.{White, Digit, Letter, Point, Other}
@@ -28,33 +28,23 @@ point_not_space : (c : ℕ) → is_point c ≡ true → is_ws c ≡ false
 unfolding is_point
 point_not_space c e = let other : is_whitespace c ≡ false = grind (arith, nat_tests) in sym (white_is c) ∙ other
 
-letter_not_digit : (c : ℕ) → is_letter c ≡ true → is_digit c ≡ false
-unfolding is_digit is_letter
-letter_not_digit c e = grind (arith, nat_tests)
-
-point_not_digit : (c : ℕ) → is_point c ≡ true → is_digit c ≡ false
-unfolding is_digit is_point
-point_not_digit c e = grind (arith, nat_tests)
-
 pub letter_not_point : (c : ℕ) → is_letter c ≡ true → is_point c ≡ false
 unfolding is_letter is_point
 letter_not_point c e = grind (arith, nat_tests)
 
--- what one of two tests excludes, the other excludes
-excluded : (a b : Bool) → (b ≡ true → a ≡ false) → a ≡ true → b ≡ false
-excluded a b h e = elim (cases_Bool b) [ inl f ↦ absurd (false≢true (sym (h f) ∙ e)) | inr f ↦ f ]
-
 pub space_not_digit : (c : ℕ) → is_ws c ≡ true → is_digit c ≡ false
-space_not_digit c = excluded (is_ws c) (is_digit c) (digit_not_space c)
+space_not_digit c = grind (arith, common_steps, digit_not_space)
 
 pub letter_not_numeric : (c : ℕ) → is_letter c ≡ true → is_numeric c ≡ false
-letter_not_numeric c e = or_from (is_digit c) (is_ws c) (letter_not_digit c e) (letter_not_space c e)
+unfolding is_digit is_letter
+letter_not_numeric c e = grind (arith, common_steps, letter_not_space, nat_tests)
 
 pub point_not_numeric : (c : ℕ) → is_point c ≡ true → is_numeric c ≡ false
-point_not_numeric c e = or_from (is_digit c) (is_ws c) (point_not_digit c e) (point_not_space c e)
+unfolding is_digit is_point
+point_not_numeric c e = grind (arith, common_steps, point_not_space, nat_tests)
 
 pub numeric_not_letter : (c : ℕ) → is_numeric c ≡ true → is_letter c ≡ false
-numeric_not_letter c = excluded (is_numeric c) (is_letter c) (letter_not_numeric c)
+numeric_not_letter c = grind (arith, common_steps, letter_not_numeric)
 
 -- ---- what a number holds
 
@@ -64,11 +54,8 @@ digit_is_numeric c = or_left (is_digit c) (is_ws c)
 pub space_is_numeric : (c : ℕ) → is_ws c ≡ true → is_numeric c ≡ true
 space_is_numeric c = or_right (is_digit c) (is_ws c)
 
-pub space_from_numeric : (c : ℕ) → is_numeric c ≡ true → is_digit c ≡ false → is_ws c ≡ true
-space_from_numeric c n d = rw d at n
-
 pub digit_from_numeric : (c : ℕ) → is_numeric c ≡ true → is_ws c ≡ false → is_digit c ≡ true
-digit_from_numeric c n w = elim (cases_Bool (is_digit c)) [ inl d ↦ d | inr d ↦ absurd (false≢true (sym w ∙ space_from_numeric c n d)) ]
+digit_from_numeric c n w = grind (arith, common_steps)
 
 -- ---- the point is one character
 
@@ -92,15 +79,7 @@ PassesTestOf Other c = Unit {0}
 
 passes_test : (c : ℕ) → PassesTestOf (class_of c) c
 unfolding class_of
-passes_test c = by (is_ws c) (is_digit c) (is_letter c) (is_point c) refl refl refl refl
-  where
-    by : (w d l p : Bool) → is_ws c ≡ w → is_digit c ≡ d → is_letter c ≡ l → is_point c ≡ p
-        → PassesTestOf (if w then White else if d then Digit else if l then Letter else if p then Point else Other) c
-    by true d l p e f g h = e
-    by false true l p e f g h = f
-    by false false true p e f g h = g
-    by false false false true e f g h = h
-    by false false false false e f g h = tt
+passes_test c = grind (arith, common_steps)
 
 -- a character passes a test exactly where it is of the test's class
 pub is_ws-class : (c : ℕ) → (class_of c ≡ White) ↔ (is_ws c ≡ true)
@@ -112,28 +91,20 @@ unfolding class_of
 is_digit-class c = ((λ e. let passes = passes_test c in rw e at passes), (λ e. rw (digit_not_space c e, e) refl))
 
 pub is_letter-class : (c : ℕ) → (class_of c ≡ Letter) ↔ (is_letter c ≡ true)
-unfolding class_of
-is_letter-class c = ((λ e. let passes = passes_test c in rw e at passes), (λ e. rw (letter_not_space c e, letter_not_digit c e, e) refl))
-
--- a test fails where a fact is not so that holds exactly where the test passes
-fails : (P : Type 0) (b : Bool) → (P ↔ (b ≡ true)) → ¬ P → b ≡ false
-fails P b h n = elim (cases_Bool b) [ inl e ↦ absurd (n (h.1 e)) | inr e ↦ e ]
+unfolding class_of is_digit is_letter
+is_letter-class c = grind (arith, common_steps, letter_not_space, nat_tests)
 
 pub not_white : (c : ℕ) → class_of c ≢ White → is_ws c ≡ false
-not_white c = fails (class_of c ≡ White) (is_ws c) (is_ws-class c)
-
-pub not_digit : (c : ℕ) → class_of c ≢ Digit → is_digit c ≡ false
-not_digit c = fails (class_of c ≡ Digit) (is_digit c) (is_digit-class c)
+not_white c = grind (arith, common_steps, is_ws-class)
 
 pub not_letter : (c : ℕ) → class_of c ≢ Letter → is_letter c ≡ false
-not_letter c = fails (class_of c ≡ Letter) (is_letter c) (is_letter-class c)
+not_letter c = grind (arith, common_steps, is_letter-class)
 
 pub numeric_class : (c : ℕ) → (class_of c ≡ Digit) ⊎ (class_of c ≡ White) → is_numeric c ≡ true
-numeric_class c (inl d) = digit_is_numeric c ((is_digit-class c).0 d)
-numeric_class c (inr w) = space_is_numeric c ((is_ws-class c).0 w)
+numeric_class c h = grind (arith, common_steps, is_digit-class, is_ws-class)
 
 pub not_numeric : (c : ℕ) → class_of c ≢ White → class_of c ≢ Digit → is_numeric c ≡ false
-not_numeric c w d = or_from (is_digit c) (is_ws c) (not_digit c d) (not_white c w)
+not_numeric c w d = grind (arith, common_steps, not_white, is_digit-class)
 
 -- ---- by bytes
 

@@ -1,15 +1,14 @@
 -- What the plain reading finds in a text: its items, and the place where its spans are too large.
+use Rattle.std.proofs.lemmas.Grind.{common_steps}
 use Rattle.std.proofs.Common.{◌≡◌, ◌≢◌, ◌⊎◌, ℕ, zero, suc, ◌≤◌, ◌+◌, true, false, List, [], ◌∷◌, ◌++◌, length, Option, Some, None, refl, sym, ap, ◌∙◌, inl, inr, arith, subst, subst₂, append_assoc, append-nil}
 use Rattle.std.specs.List.{AllByRecursion}
 use Rattle.std.proofs.lemmas.Bool.{cases_Bool}
-use Rattle.humantime.specs.Durations.Characters.{is_ws, is_digit, begins, past, leading, offset_of, bare_zero}
-use Rattle.humantime.specs.Durations.Spans.{Span, Spells, SpellsEach, Front}
-use Rattle.humantime.specs.Durations.Faults.{Fault, NumberExpected, NumberOverflow, Empty, Split, HasFault, Stops, No_number, Nothing_there, EndsInSpace}
-use Rattle.humantime.specs.Durations.Sums.{total, additions_of, value}
-use Rattle.humantime.specs.Durations.Limits.{Formed}
-use Rattle.humantime.specs.Durations.Rests.{after_word, span_of}
+use Rattle.humantime.specs.Durations.Characters.{is_ws, is_digit, begins, past, leading, offset_of, bare_zero, ends}
+use Rattle.humantime.specs.Durations.Spans.{Span, Spells, SpellsEach, SpellsAll}
+use Rattle.humantime.specs.Durations.Faults.{Fault, NumberExpected, NumberOverflow, Empty, Split, HasFault, Stops, No_number, Nothing_there, after_word, span_of}
+use Rattle.humantime.specs.Durations.Accepted.{total, value, Formed}
+use Rattle.humantime.specs.References.Durations.Reading.{additions_of, stop_at, read, items}
 use Rattle.humantime.specs.Durations.Items.{Items}
-use Rattle.humantime.specs.References.Durations.Reading.{stop_at, read, items}
 use Rattle.humantime.proofs.Durations.Reading.Runs.{ends-append, leading-past, Only-leading, begins-past}
 use Rattle.humantime.proofs.Durations.Reading.Spelled.{next_of, next_smaller}
 use Rattle.humantime.proofs.Durations.Reading.Spellings.{spells-append}
@@ -23,32 +22,24 @@ use Rattle.humantime.proofs.Durations.Reading.Unread.{unread, unread_of, unread-
 pub record IsReadTo (text front : List ℕ) (spans : List Span) (rest : List ℕ) : Type 0 where
   pub split : Split text front spans rest
   pub formed : AllByRecursion Formed spans
-  pub follows : rest ≢ [] → begins is_digit rest ≡ false → (spans ≡ []) ⊎ EndsInSpace front
+  pub follows : rest ≢ [] → begins is_digit rest ≡ false → (spans ≡ []) ⊎ (ends is_ws front ≡ true)
   pub some : rest ≡ [] → spans ≢ []
 
 pub all_push : (P : Span → Type 0) (ss : List Span) (s : Span) → AllByRecursion P ss → P s → AllByRecursion P (ss ++ s ∷ [])
-all_push P [] s h p = (p, tt)
-all_push P (x ∷ ss) s h p = (h.0, all_push P ss s h.1 p)
+all_push P ss s h k = grind (arith, common_steps)
 
 each_push : (body here : List ℕ) (ss : List Span) (s : Span) → SpellsEach body ss → Spells here s [] → SpellsEach (body ++ here) (ss ++ s ∷ [])
 each_push body here [] s h p = ([], rw h p, refl)
 each_push body here (x ∷ ss) s h p = (h.0 ++ here, spells-append body h.0 here x h.1, each_push h.0 here ss s h.2 p)
 
-front_push : (front here : List ℕ) (ss : List Span) (s : Span) → Front front ss → Spells here s [] → Front (front ++ here) (ss ++ s ∷ [])
-front_push front here ss s h p = record {
-  space = h.space;
-  body = h.body ++ here;
-  whole = rw (h.whole) (append_assoc h.space h.body here);
-  only_space = h.only_space;
-  each = each_push h.body here ss s h.each p;
-}
+front_push : (front here : List ℕ) (ss : List Span) (s : Span) → SpellsAll front ss → Spells here s [] → SpellsAll (front ++ here) (ss ++ s ∷ [])
+front_push front here ss s h p = grind (arith, common_steps, each_push)
 
 spelling_not_nil : (here : List ℕ) (s : Span) → Spells here s [] → here ≢ []
 spelling_not_nil here s h e = omega (arith, ap length e, spelling_some here [] s h)
 
 push_not_nil : (ss : List Span) (s : Span) → ss ++ s ∷ [] ≢ []
-push_not_nil [] s e = cc
-push_not_nil (x ∷ ss) s e = cc
+push_not_nil ss s = grind (arith, common_steps)
 
 -- one span further
 pub read_on : (text front rest : List ℕ) (spans : List Span) → IsReadTo text front spans rest → begins is_digit rest ≡ true → Fine rest
@@ -59,7 +50,7 @@ read_on text front rest spans r d f =
       record {
         split = record {
           whole = r.split.whole ∙ ap (λ (x : List ℕ). front ++ x) w.1.whole ∙ sym (append_assoc front w.0 (next_of rest));
-          read = front_push front w.0 spans (span_of rest) r.split.read w.1.spells;
+          spelled = front_push front w.0 spans (span_of rest) r.split.spelled w.1.spells;
           no_space = begins-past is_ws (after_word rest);
         };
         formed = all_push Formed spans (span_of rest) r.formed (formed_here rest f);
@@ -114,11 +105,7 @@ found (suc n) text front (c ∷ cs) spans h r = elim (cases_Bool (is_digit c)) [
 
 -- past its white space a text is read to its front, with no span yet
 pub read_begun : (text rest : List ℕ) → past is_ws text ≡ rest → Split text (leading is_ws text) [] rest
-read_begun text rest e = record {
-  whole = sym (leading-past is_ws text) ∙ ap (λ (x : List ℕ). leading is_ws text ++ x) e;
-  read = record { space = leading is_ws text; body = []; whole = sym (append-nil (leading is_ws text)); only_space = Only-leading is_ws text; each = refl };
-  no_space = ap (begins is_ws) (sym e) ∙ begins-past is_ws text;
-}
+read_begun text rest e = grind (arith, common_steps, leading-past, Only-leading, begins-past)
 
 begun : (text rest : List ℕ) → past is_ws text ≡ rest → rest ≢ [] → IsReadTo text (leading is_ws text) [] rest
 begun text rest e some = record { split = read_begun text rest e; formed = tt; follows = λ n d. inl refl; some = λ n. absurd (some n) }
@@ -137,9 +124,7 @@ pub items_found_at : (text : List ℕ) → ItemsAfter text [] (unread_of text) (
 items_found_at text = found_from text (past is_ws text) refl
 
 pub items_found : (text : List ℕ) → Items text (items text).0 (items text).1
-items_found text =
-    let i = items_found_at text in
-    record { front = i.0; rest = unread_of text; split = i.1.split; formed = i.1.formed; ends = i.1.ends }
+items_found text = grind (arith, common_steps, (items_found_at text))
 
 -- the reading is too large from here on
 abbrev IsTooLarge : List Span → List Span × Option Fault → Type 0
@@ -156,7 +141,7 @@ over_at text front rest spans not_zero r within d f over = record {
   within = WithinLimits_from spans r.formed within;
   fault = inr (
     record {
-      number = (d, f.short);
+      number = (d, f.numbers);
       not_bare = f.point;
       word = f.word;
       follows = f.ends;

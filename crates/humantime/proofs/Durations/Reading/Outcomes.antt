@@ -1,16 +1,14 @@
 -- The outcome by the plain reading is the value or the fault of the text, and these are one.
-use Rattle.std.proofs.Common.{◌≡◌, ◌≢◌, ◌⊎◌, ◌↔◌, ℕ, ◌≤◌, ◌+◌, List, [], ◌∷◌, ◌++◌, length, Option, Some, None, Result, Ok, Err, refl, sym, ap, ◌∙◌, inl, inr, arith, subst, append-nil}
+use Rattle.std.proofs.lemmas.Grind.{common_steps}
+use Rattle.std.proofs.Common.{◌≡◌, ◌≢◌, ◌⊎◌, ◌↔◌, ℕ, ◌≤◌, ◌+◌, List, [], ◌∷◌, ◌++◌, length, Option, Some, None, Result, Ok, Err, refl, sym, ap, ◌∙◌, inl, inr, arith, subst}
 use Rattle.std.specs.List.{AllByRecursion}
 use Rattle.std.specs.Str.{bytes_eq}
 use Rattle.std.proofs.lemmas.Bool.{cases_Bool, false≢true}
 use Rattle.std.proofs.lemmas.Slice.Eq.{bytes_eq-Decides}
 use Rattle.humantime.specs.Durations.Characters.{is_digit, bare_zero}
-use Rattle.humantime.specs.Durations.Spans.{Span, Front, Reads}
-use Rattle.humantime.specs.Durations.Sums.{value}
-use Rattle.humantime.specs.Durations.Limits.{Formed, WithinLimits}
-use Rattle.humantime.specs.Durations.Accepted.{Accepted, Bare_zero, Sum_of}
-use Rattle.humantime.specs.Durations.Rests.{span_of}
-use Rattle.humantime.specs.Durations.Faults.{Fault, NumberOverflow, Stops, Overflows, HasFault}
+use Rattle.humantime.specs.Durations.Spans.{Span, Reads}
+use Rattle.humantime.specs.Durations.Accepted.{value, Formed, WithinLimits, Accepted, Bare_zero, Sum_of}
+use Rattle.humantime.specs.Durations.Faults.{span_of, Fault, NumberOverflow, Stops, Overflows, HasFault}
 use Rattle.humantime.specs.Durations.Items.{Items}
 use Rattle.humantime.specs.Laws.Outcomes.{OneOutcome, OnlyValue, OnlyFault, OneListOfItems, ItemsDecideValue, ItemsDecideFault, ItemsDecideOverflow}
 use Rattle.humantime.specs.References.Durations.Reading.{with_span, read, items, settle}
@@ -41,10 +39,7 @@ duration_answer-zero = refl
 
 pub duration_answer-items : (text : List ℕ) → text ≢ bare_zero → duration_answer text ≡ settle 0 (items text).0 (items text).1
 unfolding duration_answer
-duration_answer-items text some = elim (cases_Bool (bytes_eq text bare_zero)) [
-  | inl e ↦ absurd (some ((bytes_eq-Decides text bare_zero).0 e))
-  | inr e ↦ rw e
-]
+duration_answer-items text some = grind (arith, common_steps, bytes_eq-Decides)
 
 pub zero_or_not : (text : List ℕ) → (text ≡ bare_zero) ⊎ (text ≢ bare_zero)
 zero_or_not text = elim (cases_Bool (bytes_eq text bare_zero)) [
@@ -68,12 +63,7 @@ pub items_whole : (text : List ℕ) (spans : List Span) → Reads text spans →
 items_whole text spans h f = record { front = text; rest = []; split = split_whole text spans h.0; formed = f; ends = inl (refl, h.1, refl) }
 
 pub reads_whole : (text : List ℕ) (spans : List Span) → Items text spans None → Reads text spans
-reads_whole text spans h = elim h.ends [
-  | inl o ↦
-      let e : h.front ≡ text = sym (h.split.whole ∙ ap (λ (x : List ℕ). h.front ++ x) o.0 ∙ append-nil h.front) in
-      (subst (λ t. Front t spans) e h.split.read, o.1)
-  | inr o ↦ let e = o.1 in cc
-]
+reads_whole text spans h = grind (arith, common_steps)
 
 pub outcome_accepted : (text : List ℕ) (v : ℕ) → Accepted text v → duration_answer text ≡ Ok v
 outcome_accepted text v (Bare_zero zero none) = rw (zero, none) duration_answer-zero
@@ -89,7 +79,7 @@ over_settled : (n : ℕ) (text rest : List ℕ) (spans : List Span) → WithinLi
     → settle 0 (spans ++ (read n text rest).0) (read n text rest).1 ≡ Err NumberOverflow
 over_settled n text rest spans within o h =
     let m = steps n rest (begins_not_nil is_digit rest o.number.0) h in
-    let f : Fine rest = record { short = o.number.1; point = o.not_bare; word = o.word; ends = o.follows } in
+    let f : Fine rest = record { numbers = o.number.1; point = o.not_bare; word = o.word; ends = o.follows } in
     let g : WithinLimitsFrom 0 spans = from_WithinLimits spans within in
     let r = read m.0 text (next_of rest) in
     let e : read n text rest ≡ with_span (span_of rest) r = ap (λ (k : ℕ). read k text rest) m.1 ∙ read-fine m.0 text rest o.number.0 (fine_goes text rest f) in
@@ -99,9 +89,7 @@ over_settled n text rest spans within o h =
     ∙ settle_over (0 + value spans) (span_of rest) r.0 r.1 (add_span-over (0 + value spans) (span_of rest) bad)
 
 over_outcome : (text : List ℕ) (e : Fault) (h : HasFault text e) → Overflows h.spans h.rest → duration_answer text ≡ Err NumberOverflow
-over_outcome text e h o =
-    let g = front_told text h.front h.rest h.spans h.split h.within.formed (inr (closes_digit h.front h.rest o.number.0)) (λ n. absurd (begins_not_nil is_digit h.rest o.number.0 n)) in
-    duration_answer-items text h.not_zero ∙ ap (λ (r : List Span × Option Fault). settle 0 r.0 r.1) g.is ∙ over_settled g.n text h.rest h.spans h.within o g.enough
+over_outcome text e h o = grind (arith, common_steps, (front_told text h.front h.rest h.spans h.split h.within.formed (inr (closes_digit h.front h.rest o.number.0)) (λ n. absurd (begins_not_nil is_digit h.rest o.number.0 n))), duration_answer-items, over_settled)
 
 pub outcome_fault : (text : List ℕ) (e : Fault) → HasFault text e → duration_answer text ≡ Err e
 outcome_fault text e h = elim h.fault [
@@ -123,12 +111,10 @@ within_fault text spans stop e some h g is = elim h.ends [
 ]
 
 ended_value : (v : ℕ) (stop : Option Fault) (w : ℕ) → ended v stop ≡ Ok w → v ≡ w
-ended_value v None w h = ok_same v w h
-ended_value v (Some f) w h = cc
+ended_value v stop w h = grind (arith, common_steps)
 
 ended_fault : (v : ℕ) (stop : Option Fault) (e : Fault) → ended v stop ≡ Err e → stop ≡ Some e
-ended_fault v None e h = cc
-ended_fault v (Some f) e h = ap Some (err_same f e h)
+ended_fault v stop e h = grind (arith, common_steps)
 
 -- the spans are within the limits, or they aren't
 pub within_or_beyond : (spans : List Span) → AllByRecursion Formed spans → WithinLimits spans ⊎ ¬ (WithinLimits spans)
@@ -159,10 +145,7 @@ fault_read text e some h =
     ]
 
 pub fault_from_outcome : (text : List ℕ) (e : Fault) → duration_answer text ≡ Err e → HasFault text e
-fault_from_outcome text e h = elim (zero_or_not text) [
-  | inl z ↦ let p = sym h ∙ ap duration_answer z ∙ duration_answer-zero in cc
-  | inr n ↦ fault_read text e n h
-]
+fault_from_outcome text e h = grind (arith, common_steps, duration_answer-zero, fault_read)
 
 -- so what was answered as the function says is the value or the fault
 pub answer_accepts : (text : List ℕ) (r : Result ℕ Fault) → r ≡ duration_answer text → (v : ℕ) → (r ≡ Ok v) ↔ Accepted text v

@@ -1,12 +1,10 @@
 -- Room for additions, one after the other.
-use Rattle.std.proofs.Common.{◌≡◌, ◌⊎◌, ℕ, ◌≤◌, ◌+◌, ◌/◌, ◌%◌, Bool, true, false, List, [], ◌∷◌, ◌++◌, Some, None, refl, sym, ap, ◌∙◌, inl, inr, arith, subst}
-use Rattle.std.specs.Prelude.{⊤, ◌==◌, nat_le, if◌then◌else◌}
-use Rattle.std.proofs.lemmas.Bool.{cases_Bool, cases_eq, false≢true, and_parts, and_from, leb-true, le-leb, eq-eqb, ne_eqb}
+use Rattle.std.proofs.lemmas.Grind.{common_steps}
+use Rattle.std.proofs.Common.{◌≡◌, ℕ, ◌+◌, true, List, [], ◌∷◌, ◌++◌, Some, None, refl, ap, ◌∙◌, inl, inr, arith}
+use Rattle.std.specs.Prelude.{⊤}
+use Rattle.std.proofs.lemmas.Bool.{cases_Bool}
 use Rattle.std.proofs.lemmas.List.Sums.{sum_by-append, sum_by-cons}
-use Rattle.humantime.specs.Values.Amounts.{nanos_per_second}
-use Rattle.humantime.specs.Durations.Characters.{u64_max}
-use Rattle.humantime.specs.Durations.Sums.{Addition, addition_nanos, total}
-use Rattle.humantime.specs.Durations.Limits.{HasRoom, AllHaveRoom}
+use Rattle.humantime.specs.Durations.Accepted.{Addition, addition_nanos, total, HasRoom, AllHaveRoom}
 use Rattle.humantime.specs.References.Durations.Reading.{room, add_all}
 
 -- each addition has room, where t nanoseconds stand before them all
@@ -17,29 +15,11 @@ RoomFrom t (x ∷ xs) = HasRoom t x × RoomFrom (t + addition_nanos x) xs
 pub total-append : (xs ys : List Addition) → total (xs ++ ys) ≡ total xs + total ys
 total-append xs ys = sum_by-append addition_nanos xs ys
 
--- the two tests for room
-abbrev low_room : ℕ → Addition → Bool
-low_room t x = if x.base == 1 then nat_le (t % nanos_per_second + x.amount) u64_max else true
-
-abbrev high_room : ℕ → Addition → Bool
-high_room t x = nat_le ((t + addition_nanos x) / nanos_per_second) u64_max
-
-low_room-true : (t : ℕ) (x : Addition) → low_room t x ≡ true → x.base ≡ 1 → t % nanos_per_second + x.amount ≤ u64_max
-low_room-true t x h e = leb-true (t % nanos_per_second + x.amount) u64_max (rw (eq-eqb x.base 1 e) at h)
-
 room-true : (t : ℕ) (x : Addition) → room t x ≡ true → HasRoom t x
-room-true t x h =
-    let p = and_parts (low_room t x) (high_room t x) h in
-    (low_room-true t x p.0, leb-true ((t + addition_nanos x) / nanos_per_second) u64_max p.1)
-
-low_room_from : (t : ℕ) (x : Addition) → (x.base ≡ 1 → t % nanos_per_second + x.amount ≤ u64_max) → low_room t x ≡ true
-low_room_from t x h = elim (cases_eq x.base 1) [
-  | inl e ↦ rw (eq-eqb x.base 1 e) (le-leb (t % nanos_per_second + x.amount) u64_max (h e))
-  | inr e ↦ rw (ne_eqb x.base 1 e)
-]
+room-true t x h = grind (arith, common_steps)
 
 room_from : (t : ℕ) (x : Addition) → HasRoom t x → room t x ≡ true
-room_from t x h = and_from (low_room t x) (high_room t x) (low_room_from t x h.0) (le-leb ((t + addition_nanos x) / nanos_per_second) u64_max h.1)
+room_from t x h = grind (arith, common_steps, common_steps)
 
 -- the sum where there is room, and none else
 pub add_all-room : (t : ℕ) (xs : List Addition) → RoomFrom t xs → add_all t xs ≡ Some (t + total xs)
@@ -55,15 +35,6 @@ add_all-full t (x ∷ xs) h = elim (cases_Bool (room t x)) [
   | inr e ↦ rw e
 ]
 
-pub room_or_not : (t : ℕ) (xs : List Addition) → RoomFrom t xs ⊎ ¬ (RoomFrom t xs)
-room_or_not t [] = inl tt
-room_or_not t (x ∷ xs) = both (cases_Bool (room t x)) (room_or_not (t + addition_nanos x) xs)
-  where
-    both : (room t x ≡ true) ⊎ (room t x ≡ false) → RoomFrom (t + addition_nanos x) xs ⊎ ¬ (RoomFrom (t + addition_nanos x) xs) → RoomFrom t (x ∷ xs) ⊎ ¬ (RoomFrom t (x ∷ xs))
-    both (inl e) (inl r) = inl (room-true t x e, r)
-    both (inl e) (inr r) = inr (λ h. r h.1)
-    both (inr e) o = inr (λ h. false≢true (sym e ∙ room_from t x h.0))
-
 -- room one by one, for lists joined end to end
 pub RoomFrom-append : (t : ℕ) (xs ys : List Addition) → RoomFrom t xs → RoomFrom (t + total xs) ys → RoomFrom t (xs ++ ys)
 RoomFrom-append t [] ys h k = let e : t + total [] ≡ t = omega arith in rw e at k
@@ -77,9 +48,7 @@ RoomFrom-front t (x ∷ xs) ys h = (h.0, RoomFrom-front (t + addition_nanos x) x
 
 pub RoomFrom-back : (t : ℕ) (xs ys : List Addition) → RoomFrom t (xs ++ ys) → RoomFrom (t + total xs) ys
 RoomFrom-back t [] ys h = let e : t + total [] ≡ t = omega arith in rw e h
-RoomFrom-back t (x ∷ xs) ys h =
-    let e : t + total (x ∷ xs) ≡ (t + addition_nanos x) + total xs = omega (arith, sum_by-cons addition_nanos x xs) in
-    rw e (RoomFrom-back (t + addition_nanos x) xs ys h.1)
+RoomFrom-back t (x ∷ xs) ys h = grind (arith, common_steps, (RoomFrom-back (t + addition_nanos x) xs ys h.1))
 
 -- room one by one is room after each front
 from_each : (t : ℕ) (xs : List Addition) → ((before after : List Addition) (x : Addition) → xs ≡ before ++ x ∷ after → HasRoom (t + total before) x) → RoomFrom t xs
@@ -96,7 +65,4 @@ pub room_from_all : (xs : List Addition) → AllHaveRoom xs → RoomFrom 0 xs
 room_from_all xs h = from_each 0 xs (λ before after x e. let p : 0 + total before ≡ total before = omega arith in rw p (h before after x e))
 
 pub all_have_room : (xs : List Addition) → RoomFrom 0 xs → AllHaveRoom xs
-all_have_room xs h before after x e =
-    let p : 0 + total before ≡ total before = omega arith in
-    let k : RoomFrom 0 (before ++ x ∷ after) = subst (λ l. RoomFrom 0 l) e h in
-    rw p at (RoomFrom-back 0 before (x ∷ after) k).0
+all_have_room xs h before after x e = grind (arith, common_steps, RoomFrom-back)

@@ -1,4 +1,5 @@
 -- The longest front of a text that passes a test, and what follows it.
+use Rattle.std.proofs.lemmas.Grind.{common_steps}
 use Rattle.std.proofs.Common.{◌≡◌, ◌≢◌, ℕ, ◌≤◌, ◌<◌, Bool, true, false, List, [], ◌∷◌, ◌++◌, length, refl, ap, inl, inr, arith, length-append}
 use Rattle.std.proofs.lemmas.Bool.{cases_Bool}
 use Rattle.humantime.specs.Durations.Characters.{is_letter, leading, past, begins, ends}
@@ -31,19 +32,13 @@ pub past_shorter : (p : ℕ → Bool) (cs : List ℕ) → length (past p cs) ≤
 past_shorter p cs = omega (arith, ap length (leading-past p cs), length-append (leading p cs) (past p cs))
 
 pub begins_some : (p : ℕ → Bool) (cs : List ℕ) → begins p cs ≡ true → 0 < length cs
-begins_some p [] e = cc
-begins_some p (c ∷ cs) e = omega arith
+begins_some p cs h = grind (arith, common_steps)
 
 pub begins_not_nil : (p : ℕ → Bool) (cs : List ℕ) → begins p cs ≡ true → cs ≢ []
-begins_not_nil p [] e = cc
-begins_not_nil p (c ∷ cs) e = λ h. cc
-
-pub begins_Only : (p : ℕ → Bool) (cs : List ℕ) → Only p cs → cs ≢ [] → begins p cs ≡ true
-begins_Only p [] h some = absurd (some refl)
-begins_Only p (c ∷ cs) h some = h.0
+begins_not_nil p cs h = grind (arith, common_steps)
 
 pub letters_begin : (cs : List ℕ) → IsLetters cs → begins is_letter cs ≡ true
-letters_begin cs h = begins_Only is_letter cs h.0 h.1
+letters_begin cs h = grind (arith, common_steps)
 
 pub ends_Only : (p : ℕ → Bool) (cs : List ℕ) → Only p cs → cs ≢ [] → ends p cs ≡ true
 ends_Only p [] h some = absurd (some refl)
@@ -52,8 +47,7 @@ ends_Only p (c ∷ d ∷ cs) h some = ends_Only p (d ∷ cs) h.1 (λ e. cc)
 
 -- what begins so doesn't begin otherwise
 pub begins_other : (p q : ℕ → Bool) → ((c : ℕ) → p c ≡ true → q c ≡ false) → (cs : List ℕ) → begins p cs ≡ true → begins q cs ≡ false
-begins_other p q other [] e = refl
-begins_other p q other (c ∷ cs) e = other c e
+begins_other p q h cs k = grind (arith, common_steps)
 
 pub ends_other : (p q : ℕ → Bool) → ((c : ℕ) → p c ≡ true → q c ≡ false) → (cs : List ℕ) → ends p cs ≡ true → ends q cs ≡ false
 ends_other p q other [] e = refl
@@ -61,13 +55,11 @@ ends_other p q other (c ∷ []) e = other c e
 ends_other p q other (c ∷ d ∷ cs) e = ends_other p q other (d ∷ cs) e
 
 pub begins_also : (p q : ℕ → Bool) → ((c : ℕ) → p c ≡ true → q c ≡ true) → (cs : List ℕ) → begins p cs ≡ true → begins q cs ≡ true
-begins_also p q also [] e = cc
-begins_also p q also (c ∷ cs) e = also c e
+begins_also p q h cs k = grind (arith, common_steps)
 
 -- a text begins as its first part does, and ends as its last part does
 pub begins-append : (p : ℕ → Bool) (xs ys : List ℕ) → xs ≢ [] → begins p (xs ++ ys) ≡ begins p xs
-begins-append p [] ys some = absurd (some refl)
-begins-append p (x ∷ xs) ys some = refl
+begins-append p xs ys h = grind (arith, common_steps)
 
 pub ends-append : (p : ℕ → Bool) (xs ys : List ℕ) → ys ≢ [] → ends p (xs ++ ys) ≡ ends p ys
 ends-append p [] ys some = refl

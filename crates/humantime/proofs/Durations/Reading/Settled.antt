@@ -1,19 +1,17 @@
 -- What spans add up to by the reference, and whether they are within the limits.
-use Rattle.std.proofs.Common.{◌≡◌, ◌⊎◌, ℕ, ◌≤◌, ◌+◌, ◌*◌, ◌%◌, ◌^◌, true, false, List, [], ◌∷◌, ◌++◌, length, Option, Some, None, Result, Ok, Err, refl, sym, ap, ◌∙◌, inl, inr, arith, append-nil}
-use Rattle.std.specs.Prelude.{⊤, ◌==◌, nat_le}
+use Rattle.std.proofs.lemmas.Grind.{common_steps}
+use Rattle.std.proofs.Common.{◌≡◌, ◌⊎◌, ℕ, ◌≤◌, ◌+◌, ◌*◌, List, [], ◌∷◌, ◌++◌, Option, Some, None, Result, Ok, Err, sym, ap, ◌∙◌, inl, inr, arith, append-nil}
+use Rattle.std.specs.Prelude.{⊤}
 use Rattle.std.specs.List.{AllByRecursion}
-use Rattle.std.specs.Option.{IsSome, IfSome}
-use Rattle.std.proofs.lemmas.Bool.{cases_Bool, false≢true, and_parts, and_from, leb-true, le-leb, eq-eqb, eqb-true}
+use Rattle.std.specs.Option.{IfSome}
 use Rattle.std.proofs.lemmas.Grind.{flat_map-append}
-use Rattle.std.proofs.lemmas.List.{nil_from_length}
-use Rattle.humantime.specs.Durations.Characters.{decimal_value, significant, u64_max}
-use Rattle.humantime.specs.Durations.Units.{Scale, scale_of_word}
+use Rattle.humantime.specs.Durations.Characters.{decimal_value, u64_max}
+use Rattle.humantime.specs.Durations.Units.{Scale}
 use Rattle.humantime.specs.Durations.Spans.{Span}
-use Rattle.humantime.specs.Durations.Sums.{total, additions_of, additions, value}
-use Rattle.humantime.specs.Durations.Limits.{Formed, IsWholePart, FitsFraction, Fits, WithinLimits}
+use Rattle.humantime.specs.Durations.Accepted.{total, additions, value, Formed, FitsFraction, Fits, WithinLimits}
+use Rattle.humantime.specs.References.Durations.Reading.{additions_of, add_span, settle}
 use Rattle.humantime.specs.Durations.Faults.{Fault, NumberOverflow}
-use Rattle.humantime.specs.References.Durations.Reading.{is_whole_part, fraction_fits, fits_at, add_span, settle}
-use Rattle.humantime.proofs.Durations.Reading.Rooms.{RoomFrom, total-append, add_all-room, add_all-full, room_or_not, RoomFrom-append, RoomFrom-front, RoomFrom-back, room_from_all, all_have_room}
+use Rattle.humantime.proofs.Durations.Reading.Rooms.{RoomFrom, total-append, add_all-room, add_all-full, RoomFrom-append, RoomFrom-front, RoomFrom-back, room_from_all, all_have_room}
 
 -- the span keeps the limits after t nanoseconds
 abbrev pub IsAddedTo : ℕ → Span → Type 0
@@ -24,69 +22,24 @@ abbrev pub WithinLimitsFrom : ℕ → List Span → Type 0
 WithinLimitsFrom t [] = ⊤
 WithinLimitsFrom t (s ∷ ss) = IsAddedTo t s × WithinLimitsFrom (t + total (additions_of s)) ss
 
-whole_part-true : (n : ℕ) (ds : List ℕ) → is_whole_part n ds ≡ true → IsWholePart n ds
-whole_part-true n ds e =
-    let p = and_parts (nat_le (decimal_value ds * n) u64_max) (decimal_value ds * n % 10 ^ length ds == 0) e in
-    (leb-true (decimal_value ds * n) u64_max p.0, eqb-true (decimal_value ds * n % 10 ^ length ds) 0 p.1)
-
-whole_part_from : (n : ℕ) (ds : List ℕ) → IsWholePart n ds → is_whole_part n ds ≡ true
-whole_part_from n ds h =
-    and_from (nat_le (decimal_value ds * n) u64_max) (decimal_value ds * n % 10 ^ length ds == 0)
-    (le-leb (decimal_value ds * n) u64_max h.0) (eq-eqb (decimal_value ds * n % 10 ^ length ds) 0 h.1)
-
-fraction_fits-true : (f : Option ℕ) (o : Option (List ℕ)) → fraction_fits f o ≡ true → FitsFraction f o
-fraction_fits-true f None e = tt
-fraction_fits-true None (Some ds) e = nil_from_length (significant ds) (eqb-true (length (significant ds)) 0 e)
-fraction_fits-true (Some n) (Some ds) e = whole_part-true n (significant ds) e
-
-fraction_fits_from : (f : Option ℕ) (o : Option (List ℕ)) → FitsFraction f o → fraction_fits f o ≡ true
-fraction_fits_from f None h = refl
-fraction_fits_from None (Some ds) h = eq-eqb (length (significant ds)) 0 (ap length h)
-fraction_fits_from (Some n) (Some ds) h = whole_part_from n (significant ds) h
-
 abbrev pub FitsAt : Option Scale → Span → Type 0
 FitsAt o s = IfSome o (λ u. (decimal_value s.number * u.factor ≤ u64_max) × FitsFraction u.fraction_factor s.fraction)
-
-fits_at-true : (o : Option Scale) (s : Span) → fits_at o s ≡ true → FitsAt o s
-fits_at-true None s e = tt
-fits_at-true (Some u) s e =
-    let p = and_parts (nat_le (decimal_value s.number * u.factor) u64_max) (fraction_fits u.fraction_factor s.fraction) e in
-    (leb-true (decimal_value s.number * u.factor) u64_max p.0, fraction_fits-true u.fraction_factor s.fraction p.1)
-
-fits_at_from : (o : Option Scale) (s : Span) → IsSome o → FitsAt o s → fits_at o s ≡ true
-fits_at_from None s some h = cc
-fits_at_from (Some u) s some h =
-    and_from (nat_le (decimal_value s.number * u.factor) u64_max) (fraction_fits u.fraction_factor s.fraction)
-    (le-leb (decimal_value s.number * u.factor) u64_max h.0) (fraction_fits_from u.fraction_factor s.fraction h.1)
 
 -- the sum after a span that keeps the limits, and none after another
 pub add_span-added : (t : ℕ) (s : Span) → Formed s → IsAddedTo t s → add_span t s ≡ Some (t + total (additions_of s))
 unfolding add_span
-add_span-added t s f h = rw (fits_at_from (scale_of_word s.word) s f.word h.0) (add_all-room t (additions_of s) h.1)
+add_span-added t s f h = grind (arith, common_steps, add_all-room, common_steps)
 
 pub add_span-over : (t : ℕ) (s : Span) → ¬ (IsAddedTo t s) → add_span t s ≡ None
 unfolding add_span
-add_span-over t s h = elim (cases_Bool (fits_at (scale_of_word s.word) s)) [
-  | inl e ↦ rw e (add_all-full t (additions_of s) (λ r. h (fits_at-true (scale_of_word s.word) s e, r)))
-  | inr e ↦ rw e
-]
+add_span-over t s h = grind (arith, common_steps, add_all-full)
 
 pub added_or_not : (t : ℕ) (s : Span) → Formed s → IsAddedTo t s ⊎ ¬ (IsAddedTo t s)
-added_or_not t s f = both (cases_Bool (fits_at (scale_of_word s.word) s)) (room_or_not t (additions_of s))
-  where
-    both : (fits_at (scale_of_word s.word) s ≡ true) ⊎ (fits_at (scale_of_word s.word) s ≡ false) → RoomFrom t (additions_of s) ⊎ ¬ (RoomFrom t (additions_of s)) → IsAddedTo t s ⊎ ¬ (IsAddedTo t s)
-    both (inl e) (inl r) = inl (fits_at-true (scale_of_word s.word) s e, r)
-    both (inl e) (inr r) = inr (λ h. r h.1)
-    both (inr e) o = inr (λ h. false≢true (sym e ∙ fits_at_from (scale_of_word s.word) s f.word h.0))
+added_or_not t s f = grind (arith, common_steps)
 
 pub within_or_not : (t : ℕ) (spans : List Span) → AllByRecursion Formed spans → WithinLimitsFrom t spans ⊎ ¬ (WithinLimitsFrom t spans)
 within_or_not t [] f = inl tt
-within_or_not t (s ∷ ss) f = both (added_or_not t s f.0) (within_or_not (t + total (additions_of s)) ss f.1)
-  where
-    both : IsAddedTo t s ⊎ ¬ (IsAddedTo t s) → WithinLimitsFrom (t + total (additions_of s)) ss ⊎ ¬ (WithinLimitsFrom (t + total (additions_of s)) ss) → WithinLimitsFrom t (s ∷ ss) ⊎ ¬ (WithinLimitsFrom t (s ∷ ss))
-    both (inl a) (inl b) = inl (a, b)
-    both (inl a) (inr b) = inr (λ h. b h.1)
-    both (inr a) o = inr (λ h. a h.0)
+within_or_not t (s ∷ ss) f = grind (arith, common_steps, (within_or_not (t + total (additions_of s)) ss f.1))
 
 pub value-cons : (s : Span) (ss : List Span) → value (s ∷ ss) ≡ total (additions_of s) + value ss
 value-cons s ss = total-append (additions_of s) (additions ss)
@@ -108,10 +61,7 @@ settle_over t s ss stop e = rw (e, settle)
 
 pub settle-append : (t : ℕ) (ss ts : List Span) (stop : Option Fault) → AllByRecursion Formed ss → WithinLimitsFrom t ss → settle t (ss ++ ts) stop ≡ settle (t + value ss) ts stop
 settle-append t [] ts stop f h = ap (λ (n : ℕ). settle n ts stop) (omega arith)
-settle-append t (s ∷ ss) ts stop f h =
-    settle_on t _ s (ss ++ ts) stop (add_span-added t s f.0 h.0)
-    ∙ settle-append (t + total (additions_of s)) ss ts stop f.1 h.1
-    ∙ ap (λ (n : ℕ). settle n ts stop) (omega (arith, value-cons s ss))
+settle-append t (s ∷ ss) ts stop f h = grind (arith, common_steps, (settle-append (t + total (additions_of s)) ss ts stop f.1 h.1), settle_on, add_span-added)
 
 -- the value, or else the fault at which they stop
 abbrev pub ended : ℕ → Option Fault → Result ℕ Fault
@@ -120,8 +70,7 @@ ended v (Some e) = Err e
 
 settle-nil : (t : ℕ) (stop : Option Fault) → settle t [] stop ≡ ended t stop
 unfolding settle
-settle-nil t None = refl
-settle-nil t (Some e) = refl
+settle-nil t stop = grind (arith, common_steps)
 
 pub settle_within : (t : ℕ) (spans : List Span) (stop : Option Fault) → AllByRecursion Formed spans → WithinLimitsFrom t spans → settle t spans stop ≡ ended (t + value spans) stop
 settle_within t spans stop f h =
@@ -162,6 +111,4 @@ WithinLimitsFrom-push t (x ∷ ss) s h a =
 
 pub WithinLimitsFrom-last : (t : ℕ) (ss : List Span) (s : Span) → WithinLimitsFrom t (ss ++ s ∷ []) → IsAddedTo (t + value ss) s
 WithinLimitsFrom-last t [] s h = let e : t + value [] ≡ t = omega arith in rw e (h.0)
-WithinLimitsFrom-last t (x ∷ ss) s h =
-    let e : t + value (x ∷ ss) ≡ (t + total (additions_of x)) + value ss = omega (arith, value-cons x ss) in
-    rw e (WithinLimitsFrom-last (t + total (additions_of x)) ss s h.1)
+WithinLimitsFrom-last t (x ∷ ss) s h = grind (arith, common_steps, (WithinLimitsFrom-last (t + total (additions_of x)) ss s h.1))

@@ -1,11 +1,12 @@
 -- What a spelling is read as: the longest runs of characters give back the span that it spells.
-use Rattle.std.proofs.Common.{◌≡◌, ◌≢◌, ◌⊎◌, ℕ, ◌≤◌, ◌<◌, true, false, List, [], ◌∷◌, ◌++◌, length, Option, Some, None, option_map, refl, sym, ap, ◌∙◌, inl, inr, arith, subst, append_assoc, append-nil}
-use Rattle.std.proofs.lemmas.Bool.{cases_Bool, false≢true}
-use Rattle.humantime.specs.Durations.Characters.{is_ws, is_digit, is_letter, is_point, is_numeric, leading, past, begins, ends, digits}
+use Rattle.std.proofs.Common.{◌≡◌, ◌≢◌, ◌⊎◌, ℕ, ◌≤◌, ◌<◌, true, false, List, [], ◌∷◌, ◌++◌, length, Option, Some, None, refl, sym, ap, ◌∙◌, inl, inr, arith, append_assoc, append-nil}
+use Rattle.std.proofs.lemmas.Bool.{false≢true}
+use Rattle.humantime.specs.Durations.Characters.{is_ws, is_digit, is_letter, is_numeric, leading, past, begins, ends, digits}
 use Rattle.humantime.specs.Durations.Spans.{Span, Only, SpellsFraction, Spells}
-use Rattle.humantime.specs.Durations.Rests.{after_number, fraction_at, past_fraction, fraction_of, after_fraction, word_of, after_word, span_of}
-use Rattle.humantime.specs.Durations.Faults.{EndsInSpace, MayFollowWord}
-use Rattle.humantime.proofs.Durations.Reading.Classes.{numeric_not_letter, letter_not_numeric, letter_not_point, letter_not_space, digit_is_numeric, space_is_numeric, point_not_numeric, is_point-46}
+use Rattle.humantime.specs.Durations.Faults.{after_number, fraction_of, after_fraction, after_word, span_of, MayFollowWord}
+use Rattle.humantime.specs.References.Durations.Lending.{fraction_at, past_fraction}
+use Rattle.humantime.proofs.Durations.Reading.Classes.{numeric_not_letter, letter_not_numeric, letter_not_point, letter_not_space, space_is_numeric, point_not_numeric, is_point-46}
+use Rattle.std.proofs.lemmas.Grind.{common_steps}
 use Rattle.humantime.proofs.Durations.Reading.Spellings.{spells_alone}
 use Rattle.humantime.proofs.Durations.Reading.Runs.{leading-append, past-append, past_shorter, begins-append, begins_other, begins_not_nil, letters_begin, ends_Only, ends_other, ends-append, append_not_nil}
 
@@ -30,11 +31,11 @@ span_same p q r = λ i. record { number = p i; fraction = q i; word = r i }
 -- what stands behind the number, where it is a spelled fraction and then a word
 record IsFraction (m tail : List ℕ) (o : Option (List ℕ)) : Type 0 where
   stops : begins is_numeric m ≡ false
-  is_read : option_map digits (fraction_at m) ≡ o
+  is_read : fraction_at m ≡ o
   past_it : past_fraction m ≡ tail
   some : o ≢ Some []
 
-no_point : (tail : List ℕ) → begins is_letter tail ≡ true → (option_map digits (fraction_at tail) ≡ None) × (past_fraction tail ≡ tail)
+no_point : (tail : List ℕ) → begins is_letter tail ≡ true → (fraction_at tail ≡ None) × (past_fraction tail ≡ tail)
 no_point [] e = cc
 no_point (c ∷ cs) e = rw (letter_not_point c e) (refl, refl)
 
@@ -45,14 +46,7 @@ fraction_read b tail None h e = rw h (record {
   past_it = (no_point tail e).1;
   some = λ p. cc;
 })
-fraction_read b tail (Some ds) h e =
-    let stops : begins is_numeric tail ≡ false = begins_other is_letter is_numeric letter_not_numeric tail e in
-    rw (h.1) (record {
-      stops = point_not_numeric 46 is_point-46;
-      is_read = rw (is_point-46, leading-append is_numeric h.0 tail h.2.0 stops) (ap Some h.2.1);
-      past_it = rw is_point-46 (past-append is_numeric h.0 tail h.2.0 stops);
-      some = λ p. let q : ds ≡ [] = cc in h.3 q;
-    })
+fraction_read b tail (Some ds) h e = grind (arith, common_steps, letter_not_numeric, point_not_numeric, is_point-46, leading-append, past-append)
 
 -- a spelled number and fraction before a word are read as these
 pub record IsReadToWord (rest number_text fraction_text tail : List ℕ) (fraction : Option (List ℕ)) : Type 0 where
@@ -62,18 +56,6 @@ pub record IsReadToWord (rest number_text fraction_text tail : List ℕ) (fracti
   pub tail_is : after_fraction rest ≡ tail
   pub some : fraction ≢ Some []
 
-read_to_word : (a b tail : List ℕ) (o : Option (List ℕ)) → Only is_numeric a → SpellsFraction b o → begins is_letter tail ≡ true → IsReadToWord (a ++ (b ++ tail)) a b tail o
-read_to_word a b tail o only f letter =
-    let h : IsFraction (b ++ tail) tail o = fraction_read b tail o f letter in
-    let behind : after_number (a ++ (b ++ tail)) ≡ b ++ tail = past-append is_numeric a (b ++ tail) only h.stops in
-    record {
-      number_is = leading-append is_numeric a (b ++ tail) only h.stops;
-      behind_is = behind;
-      fraction_is = ap (λ (x : List ℕ). option_map digits (fraction_at x)) behind ∙ h.is_read;
-      tail_is = ap (λ (x : List ℕ). past_fraction x) behind ∙ h.past_it;
-      some = h.some;
-    }
-
 -- a spelling before what begins with no letter
 record IsRead (rest : List ℕ) (s : Span) (after : List ℕ) : Type 0 where
   span : span_of rest ≡ s
@@ -82,15 +64,7 @@ record IsRead (rest : List ℕ) (s : Span) (after : List ℕ) : Type 0 where
 
 parts_read : (a b word after : List ℕ) (o : Option (List ℕ)) → Only is_numeric a → SpellsFraction b o → Only is_letter word → begins is_letter word ≡ true
     → begins is_letter after ≡ false → IsRead (a ++ (b ++ (word ++ after))) (record { number = digits a; fraction = o; word = word }) after
-parts_read a b word after o only f letters some stops =
-    let rest = a ++ (b ++ (word ++ after)) in
-    let h : IsReadToWord rest a b (word ++ after) o = read_to_word a b (word ++ after) o only f (begins_word word after some) in
-    let word_is : word_of rest ≡ word = ap (leading is_letter) h.tail_is ∙ leading-append is_letter word after letters stops in
-    record {
-      span = span_same (ap digits h.number_is) h.fraction_is word_is;
-      point = λ p. h.some (sym h.fraction_is ∙ p);
-      after_is = ap (past is_letter) h.tail_is ∙ past-append is_letter word after letters stops;
-    }
+parts_read a b word after o only f letters some stops = grind (arith, common_steps, leading-append, past-append, common_steps, fraction_read)
 
 spelling_parts : (here next : List ℕ) (s : Span) (h : Spells here s []) → here ++ next ≡ h.number_text ++ (h.fraction_text ++ (s.word ++ (h.space ++ next)))
 spelling_parts here next s h = ap (λ (x : List ℕ). x ++ next) (spells_alone here s h) ∙ simp append_assoc
@@ -98,14 +72,10 @@ spelling_parts here next s h = ap (λ (x : List ℕ). x ++ next) (spells_alone h
 -- a rest that spells a span is read as its number and fraction up to its word
 pub read_spelled : (rest next : List ℕ) (s : Span) (h : Spells rest s next)
     → IsReadToWord rest h.number_text h.fraction_text (s.word ++ (h.space ++ next)) s.fraction
-read_spelled rest next s h =
-    let tail = s.word ++ (h.space ++ next) in
-    subst (λ (x : List ℕ). IsReadToWord x h.number_text h.fraction_text tail s.fraction) (sym h.whole)
-    (read_to_word h.number_text h.fraction_text tail s.fraction h.number.0 h.fraction (begins_word s.word (h.space ++ next) (letters_begin s.word h.word)))
+read_spelled rest next s h = grind (arith, common_steps, begins_word, common_steps, fraction_read, past-append, leading-append)
 
 pub no_letter_follows : (cs : List ℕ) → MayFollowWord cs → begins is_letter cs ≡ false
-no_letter_follows cs (inl e) = rw e
-no_letter_follows cs (inr e) = begins_other is_numeric is_letter numeric_not_letter cs e
+no_letter_follows cs h = grind (arith, common_steps, numeric_not_letter)
 
 -- where a spelling ends with its word, it doesn't end in white space
 ends_in_word : (a b word : List ℕ) → Only is_letter word → begins is_letter word ≡ true → ends is_ws (a ++ (b ++ (word ++ []))) ≡ false
@@ -115,13 +85,13 @@ ends_in_word a b word only some =
     (ends_other is_letter is_ws letter_not_space word (ends_Only is_letter word only n))
 
 followed : (a b word c here next : List ℕ) → here ≡ a ++ (b ++ (word ++ c)) → Only is_letter word → begins is_letter word ≡ true → Only is_ws c
-    → (MayFollowWord next ⊎ EndsInSpace here) → MayFollowWord (c ++ next)
+    → (MayFollowWord next ⊎ (ends is_ws here ≡ true)) → MayFollowWord (c ++ next)
 followed a b word [] here next whole only some space (inl e) = e
 followed a b word [] here next whole only some space (inr e) = absurd (false≢true (sym (ends_in_word a b word only some) ∙ ap (ends is_ws) (sym whole) ∙ e))
 followed a b word (x ∷ xs) here next whole only some space o = inr (space_is_numeric x (space.0))
 
 -- a spelling is the span that begins it, where its word ends with it
-pub spelled_here : (here next : List ℕ) (s : Span) → Spells here s [] → (MayFollowWord next ⊎ EndsInSpace here) → begins is_ws next ≡ false → IsSpanAt (here ++ next) s next
+pub spelled_here : (here next : List ℕ) (s : Span) → Spells here s [] → (MayFollowWord next ⊎ (ends is_ws here ≡ true)) → begins is_ws next ≡ false → IsSpanAt (here ++ next) s next
 spelled_here here next s h o no_space =
     let a = h.number_text in
     let b = h.fraction_text in
@@ -138,19 +108,8 @@ spelled_here here next s h o no_space =
     })
 
 past_fraction_shorter : (cs : List ℕ) → length (past_fraction cs) ≤ length cs
-past_fraction_shorter [] = omega arith
-past_fraction_shorter (c ∷ cs) = elim (cases_Bool (is_point c)) [ inl e ↦ rw e (omega (arith, past_shorter is_numeric cs)) | inr e ↦ rw e (omega arith) ]
-
-number_shorter : (rest : List ℕ) → begins is_digit rest ≡ true → length (after_number rest) < length rest
-number_shorter [] e = cc
-number_shorter (c ∷ cs) e = rw (digit_is_numeric c e) (omega (arith, past_shorter is_numeric cs))
+past_fraction_shorter cs = grind (arith, common_steps, past_shorter)
 
 -- what follows a span is shorter than what it begins
 pub next_smaller : (rest : List ℕ) → begins is_digit rest ≡ true → length (next_of rest) < length rest
-next_smaller rest e = omega (
-  arith,
-  number_shorter rest e,
-  past_fraction_shorter (after_number rest),
-  past_shorter is_letter (after_fraction rest),
-  past_shorter is_ws (after_word rest),
-)
+next_smaller rest e = grind (arith, common_steps, past_fraction_shorter, past_shorter)

@@ -1,5 +1,7 @@
 -- A spelling as a text of its own, and with more behind it.
-use Rattle.std.proofs.Common.{◌≡◌, ℕ, List, [], ◌++◌, sym, ap, ◌∙◌, append_assoc, append-nil}
+use Rattle.std.proofs.Common.{arith}
+use Rattle.std.proofs.lemmas.Grind.{common_steps}
+use Rattle.std.proofs.Common.{◌≡◌, ℕ, List, [], ◌++◌, sym, ◌∙◌, append_assoc, append-nil}
 use Rattle.humantime.specs.Durations.Spans.{Span, Spells}
 
 -- The text is one that spells the span alone, and then the rest.
@@ -26,17 +28,7 @@ apart text rest s h = record {
 }
 
 pub spells-append : (text rest more : List ℕ) (s : Span) → Spells text s rest → Spells (text ++ more) s (rest ++ more)
-spells-append text rest more s h = record {
-  number_text = h.number_text;
-  fraction_text = h.fraction_text;
-  space = h.space;
-  whole = ap (λ (l : List ℕ). l ++ more) h.whole ∙ simp append_assoc;
-  starts = h.starts;
-  number = h.number;
-  fraction = h.fraction;
-  word = h.word;
-  only_space = h.only_space;
-}
+spells-append text rest more s h = grind (arith, common_steps)
 
 -- a spelling alone has nothing behind its white space
 pub spells_alone : (here : List ℕ) (s : Span) (h : Spells here s []) → here ≡ h.number_text ++ (h.fraction_text ++ (s.word ++ h.space))

@@ -1,11 +1,12 @@
 -- The plain reading tells the spans that a text is read as, whatever reads it.
-use Rattle.std.proofs.Common.{◌≡◌, ◌≢◌, ◌⊎◌, ℕ, ◌≤◌, true, false, List, [], ◌∷◌, ◌++◌, length, Option, Some, None, refl, sym, ap, ◌∙◌, inl, inr, arith, subst, append_assoc, append-nil}
+use Rattle.std.proofs.lemmas.Grind.{common_steps}
+use Rattle.std.proofs.Common.{◌≡◌, ◌≢◌, ◌⊎◌, ℕ, ◌≤◌, true, false, List, [], ◌∷◌, ◌++◌, length, Option, Some, None, refl, sym, ap, ◌∙◌, inl, inr, arith, subst, append-nil}
 use Rattle.std.specs.List.{AllByRecursion}
-use Rattle.std.proofs.lemmas.Bool.{cases_Bool, false≢true}
+use Rattle.std.proofs.lemmas.Bool.{cases_Bool}
 use Rattle.humantime.specs.Durations.Characters.{is_ws, is_digit, is_numeric, begins, ends, past, offset_of}
-use Rattle.humantime.specs.Durations.Spans.{Span, Spells, SpellsEach}
-use Rattle.humantime.specs.Durations.Limits.{Formed}
-use Rattle.humantime.specs.Durations.Faults.{Fault, NumberExpected, Empty, Split, Stops, Nothing_there, No_number, Too_long, Bad_after_number, Bare_point, Bad_after_fraction, Bad_after_word, No_word, Wrong_word, EndsInSpace, MayFollowWord}
+use Rattle.humantime.specs.Durations.Spans.{Span, SpellsEach}
+use Rattle.humantime.specs.Durations.Accepted.{Formed}
+use Rattle.humantime.specs.Durations.Faults.{Fault, NumberExpected, Empty, Split, Stops, MayFollowWord}
 use Rattle.humantime.specs.Durations.Items.{Items}
 use Rattle.humantime.specs.References.Durations.Reading.{with_span, read, items}
 use Rattle.humantime.proofs.Durations.Reading.Classes.{digit_is_numeric, digit_not_space}
@@ -18,18 +19,13 @@ use Rattle.humantime.proofs.Durations.Reading.ReadSteps.{steps, read-end, read-e
 
 -- what stands before the rest ends there: in white space, or by what the rest begins with
 abbrev pub Closes : List ℕ → List ℕ → Type 0
-Closes front rest = MayFollowWord rest ⊎ EndsInSpace front
+Closes front rest = MayFollowWord rest ⊎ (ends is_ws front ≡ true)
 
 pub closes_digit : (front rest : List ℕ) → begins is_digit rest ≡ true → Closes front rest
 closes_digit front rest d = inl (inr (begins_also is_digit is_numeric digit_is_numeric rest d))
 
-starts_here : (text rest : List ℕ) (s : Span) → Spells text s rest → begins is_digit text ≡ true
-starts_here text rest s h =
-    let behind = h.fraction_text ++ (s.word ++ (h.space ++ rest)) in
-    rw (h.whole) (begins-append is_digit h.number_text behind (begins_not_nil is_digit h.number_text h.starts) ∙ h.starts)
-
 pub each_starts : (body : List ℕ) (s : Span) (ss : List Span) → SpellsEach body (s ∷ ss) → begins is_digit body ≡ true
-each_starts body s ss h = starts_here body h.0 s h.1
+each_starts body s ss h = grind (arith, common_steps)
 
 starts_before : (body rest : List ℕ) (s : Span) (ss : List Span) → SpellsEach body (s ∷ ss) → begins is_digit (body ++ rest) ≡ true
 starts_before body rest s ss h = let d = each_starts body s ss h in begins-append is_digit body rest (begins_not_nil is_digit body d) ∙ d
@@ -51,11 +47,7 @@ closes_more here more rest (s ∷ ss) h (inr e) = inr (inr (sym (ends-append is_
 
 -- the first of these spans is the span that begins the text
 pub first_here : (body rest : List ℕ) (s : Span) (ss : List Span) (h : SpellsEach body (s ∷ ss)) → Closes body rest → begins is_ws rest ≡ false → IsSpanAt (body ++ rest) s (h.0 ++ rest)
-first_here body rest s ss h o e =
-    let p = apart body h.0 s h.1 in
-    let c : Closes (p.here ++ h.0) rest = subst (λ b. Closes b rest) p.whole o in
-    let i : IsSpanAt (p.here ++ (h.0 ++ rest)) s (h.0 ++ rest) = spelled_here p.here (h.0 ++ rest) s p.spells (closes_here p.here h.0 rest ss h.2 c) (no_space_before h.0 rest ss h.2 e) in
-    rw (p.whole, append_assoc) i
+first_here body rest s ss h o e = grind (arith, common_steps, (spelled_here (apart body h.0 s h.1).here (h.0 ++ rest) s (apart body h.0 s h.1).spells (closes_here (apart body h.0 s h.1).here h.0 rest ss h.2 (subst (λ b. Closes b rest) (apart body h.0 s h.1).whole o)) (no_space_before h.0 rest ss h.2 e)))
 
 -- the reading goes through these spans, and on from the rest
 pub record GoesThrough (r : List Span × Option Fault) (text : List ℕ) (spans : List Span) (rest : List ℕ) : Type 0 where
@@ -80,9 +72,7 @@ through_step n text whole next rest s ss i f h more =
 
 through : (n : ℕ) (text body rest : List ℕ) (spans : List Span) → SpellsEach body spans → AllByRecursion Formed spans → (spans ≡ []) ⊎ Closes body rest → begins is_ws rest ≡ false
     → length (body ++ rest) ≤ n → GoesThrough (read n text (body ++ rest)) text spans rest
-through n text body rest [] h f o e l =
-    let k : length rest ≤ n = rw h at l in
-    rw h (record { n = n; enough = k; is = refl })
+through n text body rest [] h f o e l = grind (arith, common_steps)
 through n text body rest (s ∷ ss) h f (inl o) e l = cc
 through n text body rest (s ∷ ss) h f (inr o) e l =
     let p = apart body h.0 s h.1 in
@@ -90,63 +80,33 @@ through n text body rest (s ∷ ss) h f (inr o) e l =
     (λ m k. through m text h.0 rest ss h.2 f.1 (closes_more p.here h.0 rest ss h.2 (subst (λ b. Closes b rest) p.whole o)) e k)
 
 -- the front of a split begins where the white space ends
-pub front_begins : (text front rest : List ℕ) (spans : List Span) (h : Split text front spans rest) → past is_ws text ≡ h.read.body ++ rest
-front_begins text front rest spans h =
-    let e : text ≡ h.read.space ++ (h.read.body ++ rest) = h.whole ∙ ap (λ (x : List ℕ). x ++ rest) h.read.whole ∙ append_assoc h.read.space h.read.body rest in
-    rw e (past-append is_ws h.read.space (h.read.body ++ rest) h.read.only_space (no_space_before h.read.body rest spans h.read.each h.no_space))
+pub front_begins : (text front rest : List ℕ) (spans : List Span) (h : Split text front spans rest) → past is_ws text ≡ h.spelled.body ++ rest
+front_begins text front rest spans h = grind (arith, common_steps, past-append, no_space_before)
 
 some_left : (body rest : List ℕ) (spans : List Span) → SpellsEach body spans → (rest ≡ [] → spans ≢ []) → body ++ rest ≢ []
 some_left body rest [] h some e = let k : rest ≡ [] = rw h at e in some k refl
 some_left body rest (s ∷ ss) h some e = begins_not_nil is_digit (body ++ rest) (starts_before body rest s ss h) e
 
 closes_body : (space body rest : List ℕ) (spans : List Span) → SpellsEach body spans → (spans ≡ []) ⊎ Closes (space ++ body) rest → (spans ≡ []) ⊎ Closes body rest
-closes_body space body rest spans h (inl o) = inl o
-closes_body space body rest spans h (inr o) = closes_more space body rest spans h o
+closes_body space body rest spans h k = grind (arith, common_steps, closes_more)
 
 pub front_told : (text front rest : List ℕ) (spans : List Span) → Split text front spans rest → AllByRecursion Formed spans → (spans ≡ []) ⊎ Closes front rest → (rest ≡ [] → spans ≢ [])
     → GoesThrough (items text) text spans rest
 front_told text front rest spans h f o some =
-    let body = h.read.body in
-    let left : body ++ rest ≢ [] = some_left body rest spans h.read.each some in
-    let c : (spans ≡ []) ⊎ Closes (h.read.space ++ body) rest = subst (λ x. (spans ≡ []) ⊎ Closes x rest) h.read.whole o in
+    let body = h.spelled.body in
+    let left : body ++ rest ≢ [] = some_left body rest spans h.spelled.each some in
+    let c : (spans ≡ []) ⊎ Closes (h.spelled.space ++ body) rest = subst (λ x. (spans ≡ []) ⊎ Closes x rest) h.spelled.whole o in
     let g : GoesThrough (read (length (body ++ rest)) text (body ++ rest)) text spans rest =
-    through (length (body ++ rest)) text body rest spans h.read.each f (closes_body h.read.space body rest spans h.read.each c) h.no_space (omega arith) in
+    through (length (body ++ rest)) text body rest spans h.spelled.each f (closes_body h.spelled.space body rest spans h.spelled.each c) h.no_space (omega arith) in
     record { n = g.n; enough = g.enough; is = items-read text (body ++ rest) (front_begins text front rest spans h) left ∙ g.is }
-
--- where the text stops, the spans before it end there
-stops_closes : (text front : List ℕ) (spans : List Span) (rest : List ℕ) (e : Fault) → Stops text front spans rest e → (spans ≡ []) ⊎ Closes front rest
-stops_closes text front spans rest e (Nothing_there none empty is) = inl none
-stops_closes text front spans rest e (No_number d some (inl o) is) = inl o
-stops_closes text front spans rest e (No_number d some (inr o) is) = inr (inr o)
-stops_closes text front spans rest e (Too_long d over is) = inr (closes_digit front rest d)
-stops_closes text front spans rest e (Bad_after_number d a b c is) = inr (closes_digit front rest d.0)
-stops_closes text front spans rest e (Bare_point d a b is) = inr (closes_digit front rest d.0)
-stops_closes text front spans rest e (Bad_after_fraction d a b c is) = inr (closes_digit front rest d.0)
-stops_closes text front spans rest e (Bad_after_word d a b c is) = inr (closes_digit front rest d.0)
-stops_closes text front spans rest e (No_word d a b c is) = inr (closes_digit front rest d.0)
-stops_closes text front spans rest e (Wrong_word d a b c f is) = inr (closes_digit front rest d.0)
 
 -- at the end only an empty text stops; where no number begins, that is the fault
 record IsStart (text : List ℕ) (spans : List Span) (rest : List ℕ) (e : Fault) : Type 0 where
   at_end : rest ≡ [] → (spans ≡ []) × (e ≡ Empty)
   no_digit : begins is_digit rest ≡ false → rest ≢ [] → e ≡ NumberExpected (offset_of text rest)
 
-at_digit : (text : List ℕ) (spans : List Span) (rest : List ℕ) (e : Fault) → begins is_digit rest ≡ true → IsStart text spans rest e
-at_digit text spans rest e d = record {
-  at_end = λ n. absurd (begins_not_nil is_digit rest d n);
-  no_digit = λ n. absurd (false≢true (sym n ∙ d));
-}
-
 is_start : (text front : List ℕ) (spans : List Span) (rest : List ℕ) (e : Fault) → Stops text front spans rest e → IsStart text spans rest e
-is_start text front spans rest e (Nothing_there none empty is) = record { at_end = λ n. (none, is); no_digit = λ d some. absurd (some empty) }
-is_start text front spans rest e (No_number d some o is) = record { at_end = λ n. absurd (some n); no_digit = λ k n. is }
-is_start text front spans rest e (Too_long d over is) = at_digit text spans rest e d
-is_start text front spans rest e (Bad_after_number d a b c is) = at_digit text spans rest e d.0
-is_start text front spans rest e (Bare_point d a b is) = at_digit text spans rest e d.0
-is_start text front spans rest e (Bad_after_fraction d a b c is) = at_digit text spans rest e d.0
-is_start text front spans rest e (Bad_after_word d a b c is) = at_digit text spans rest e d.0
-is_start text front spans rest e (No_word d a b c is) = at_digit text spans rest e d.0
-is_start text front spans rest e (Wrong_word d a b c f is) = at_digit text spans rest e d.0
+is_start text front spans rest e h = grind (arith, common_steps)
 
 -- the reading stops where the text does
 stop_told : (n : ℕ) (text front rest : List ℕ) (spans : List Span) (e : Fault) → rest ≢ [] → length rest ≤ n → Stops text front spans rest e → read n text rest ≡ ([], Some e)
@@ -168,8 +128,7 @@ rest_told n text front [] spans stop some h (inr o) = absurd (some refl ((is_sta
 rest_told n text front (c ∷ cs) spans stop some h (inr o) = stop_told n text front (c ∷ cs) spans o.0 (λ e. cc) h o.2 ∙ ap (λ (x : Option Fault). ([], x)) (sym o.1)
 
 ends_closes : (text front rest : List ℕ) (spans : List Span) (stop : Option Fault) → Ends text front spans rest stop → (spans ≡ []) ⊎ Closes front rest
-ends_closes text front rest spans stop (inl o) = inr (inl (inl o.0))
-ends_closes text front rest spans stop (inr o) = stops_closes text front spans rest o.0 o.2
+ends_closes text front rest spans stop h = grind (arith, common_steps)
 
 told_some : (text front rest : List ℕ) (spans : List Span) (stop : Option Fault) → (rest ≡ [] → spans ≢ []) → Split text front spans rest → AllByRecursion Formed spans
     → Ends text front spans rest stop → items text ≡ (spans, stop)
@@ -179,9 +138,7 @@ told_some text front rest spans stop some h f o =
 
 told_none : (text front : List ℕ) (stop : Option Fault) → Split text front [] [] → Ends text front [] [] stop → items text ≡ ([], stop)
 told_none text front stop h (inl o) = absurd (o.1 refl)
-told_none text front stop h (inr o) =
-    let e : past is_ws text ≡ [] = front_begins text front [] [] h ∙ ap (λ (x : List ℕ). x ++ []) h.read.each in
-    items-nothing text e ∙ ap (λ (x : Option Fault). ([], x)) (ap Some (sym ((is_start text front [] [] o.0 o.2).at_end refl).1) ∙ sym o.1)
+told_none text front stop h (inr o) = grind (arith, common_steps, (front_begins text front [] [] h ∙ ap (λ (x : List ℕ). x ++ []) h.spelled.each), items-nothing)
 
 told_at : (text front rest : List ℕ) (spans : List Span) (stop : Option Fault) → Split text front spans rest → AllByRecursion Formed spans → Ends text front spans rest stop → items text ≡ (spans, stop)
 told_at text front [] [] stop h f o = told_none text front stop h o

@@ -1,5 +1,7 @@
 -- The rest at which the plain reading ends.
-use Rattle.std.proofs.Common.{◌≡◌, ◌≢◌, ℕ, zero, suc, Bool, true, false, List, [], ◌∷◌, length, Option, Some, None, refl, ap, ◌∙◌}
+use Rattle.std.proofs.Common.{arith}
+use Rattle.std.proofs.lemmas.Grind.{common_steps}
+use Rattle.std.proofs.Common.{◌≡◌, ◌≢◌, ℕ, zero, suc, true, false, List, [], ◌∷◌, length, Some, None}
 use Rattle.std.specs.Prelude.{if◌then◌else◌}
 use Rattle.humantime.specs.Durations.Characters.{is_ws, is_digit, past, begins}
 use Rattle.humantime.specs.Durations.Faults.{Fault}
@@ -19,24 +21,16 @@ unread_of text = unread (length (past is_ws text)) text (past is_ws text)
 
 pub unread-end : (n : ℕ) (text : List ℕ) → unread n text [] ≡ []
 unfolding unread
-unread-end zero text = refl
-unread-end (suc n) text = refl
+unread-end n text = grind (arith, common_steps)
 
 pub unread-expected : (n : ℕ) (text rest : List ℕ) → rest ≢ [] → begins is_digit rest ≡ false → unread (suc n) text rest ≡ rest
 unfolding unread
-unread-expected n text [] some d = absurd (some refl)
-unread-expected n text (c ∷ cs) some d = rw d
+unread-expected n text rest h k = grind (arith, common_steps)
 
 pub unread-stopped : (n : ℕ) (text rest : List ℕ) (e : Fault) → begins is_digit rest ≡ true → stop_at text rest ≡ Some e → unread (suc n) text rest ≡ rest
 unfolding unread
-unread-stopped n text [] e d s = cc
-unread-stopped n text (c ∷ cs) e d s = rw (d, s)
-
--- what is left at a number, by whether the span stops
-abbrev by_stop : ℕ → List ℕ → List ℕ → Option Fault → List ℕ
-by_stop n text rest o = elim o [ None ↦ unread n text (next_of rest) | Some e ↦ rest ]
+unread-stopped n text rest e h k = grind (arith, common_steps)
 
 pub unread-fine : (n : ℕ) (text rest : List ℕ) → begins is_digit rest ≡ true → stop_at text rest ≡ None → unread (suc n) text rest ≡ unread n text (next_of rest)
 unfolding unread
-unread-fine n text [] d s = cc
-unread-fine n text (c ∷ cs) d s = ap (λ (b : Bool). if b then by_stop n text (c ∷ cs) (stop_at text (c ∷ cs)) else c ∷ cs) d ∙ ap (by_stop n text (c ∷ cs)) s
+unread-fine n text rest h k = grind (arith, common_steps)

@@ -1,13 +1,14 @@
 -- A rest that a well formed span begins is a spelling of that span, and then the rest behind it.
-use Rattle.std.proofs.Common.{◌≡◌, ◌≢◌, ℕ, ◌<◌, true, false, List, [], ◌∷◌, ◌++◌, length, Option, Some, option_map, refl, sym, ap, ◌∙◌, inl, inr, arith, append_assoc, append-nil, length-append}
+use Rattle.std.proofs.Common.{◌≡◌, ◌≢◌, ℕ, ◌<◌, true, false, List, [], ◌∷◌, ◌++◌, length, Option, Some, refl, sym, ap, ◌∙◌, inl, inr, arith, append_assoc, append-nil}
 use Rattle.std.proofs.lemmas.Bool.{cases_Bool}
 use Rattle.humantime.specs.Durations.Characters.{is_ws, is_digit, is_letter, is_point, is_numeric, leading, past, begins, ends, digits}
 use Rattle.humantime.specs.Durations.Spans.{Span, Only, SpellsFraction, Spells}
-use Rattle.humantime.specs.Durations.Limits.{Formed}
-use Rattle.humantime.specs.Durations.Rests.{after_number, fraction_at, past_fraction, after_fraction, word_of, after_word, span_of}
-use Rattle.humantime.specs.Durations.Faults.{MayFollowWord}
-use Rattle.humantime.proofs.Durations.Reading.Classes.{digit_is_numeric, space_from_numeric, is_point-true}
-use Rattle.humantime.proofs.Durations.Reading.Runs.{leading-past, Only-leading, letters_begin, begins_some, ends_Only, ends-append, append_not_nil}
+use Rattle.humantime.specs.Durations.Accepted.{Formed}
+use Rattle.humantime.specs.Durations.Faults.{after_number, after_fraction, word_of, after_word, span_of, MayFollowWord}
+use Rattle.humantime.specs.References.Durations.Lending.{fraction_at, past_fraction}
+use Rattle.humantime.proofs.Durations.Reading.Classes.{digit_is_numeric, is_point-true}
+use Rattle.humantime.proofs.Durations.Reading.Runs.{leading-past, Only-leading, ends_Only, ends-append}
+use Rattle.std.proofs.lemmas.Grind.{common_steps}
 use Rattle.humantime.proofs.Durations.Reading.Spelled.{next_of, IsSpanAt}
 use Rattle.humantime.proofs.Durations.Reading.Stopping.{Fine, some_letters}
 
@@ -20,11 +21,11 @@ pub record IsWritten (rest here : List ℕ) : Type 0 where
 some_digits : (o : Option (List ℕ)) (ds : List ℕ) → o ≢ Some [] → o ≡ Some ds → ds ≢ []
 some_digits o ds some e none = some (e ∙ ap Some none)
 
-fraction_text : (m : List ℕ) → option_map digits (fraction_at m) ≢ Some [] → (b : List ℕ) × (m ≡ b ++ past_fraction m) × SpellsFraction b (option_map digits (fraction_at m))
+fraction_text : (m : List ℕ) → fraction_at m ≢ Some [] → (b : List ℕ) × (m ≡ b ++ past_fraction m) × SpellsFraction b (fraction_at m)
 fraction_text [] some = ([], refl, refl)
 fraction_text (c ∷ cs) some = elim (cases_Bool (is_point c)) [
   | inl e ↦
-      let p : option_map digits (fraction_at (c ∷ cs)) ≡ Some (digits (leading is_numeric cs)) = rw e in
+      let p : fraction_at (c ∷ cs) ≡ Some (digits (leading is_numeric cs)) = rw e in
       let q : digits (leading is_numeric cs) ≢ [] = some_digits _ _ some p in
       rw e (
         c ∷ leading is_numeric cs,
@@ -40,32 +41,17 @@ digit_begins (c ∷ cs) e = rw (digit_is_numeric c e) e
 
 -- white space stands behind the word, where what follows the word is neither the end nor a digit
 space_there : (n : List ℕ) → MayFollowWord n → past is_ws n ≢ [] → begins is_digit (past is_ws n) ≡ false → leading is_ws n ≢ []
-space_there [] o some e = absurd (some refl)
-space_there (c ∷ cs) (inl o) some e = cc
-space_there (c ∷ cs) (inr o) some e = elim (cases_Bool (is_ws c)) [
-  | inl w ↦ rw w (λ q. cc)
-  | inr w ↦ let d : is_digit c ≡ false = rw w at e in let k : is_ws c ≡ true = space_from_numeric c o d in cc
-]
+space_there n h k e = grind (arith, common_steps)
 
 together : (rest a m b tail w n c next : List ℕ) → rest ≡ a ++ m → m ≡ b ++ tail → tail ≡ w ++ n → n ≡ c ++ next → rest ≡ (a ++ (b ++ (w ++ c))) ++ next
 together rest a m b tail w n c next p q r s = rw (p, q, r, s) (simp append_assoc)
 
 space_last : (a b w c : List ℕ) → c ≢ [] → Only is_ws c → ends is_ws (a ++ (b ++ (w ++ c))) ≡ true
-space_last a b w c some h =
-    let last = append_not_nil w c some in
-    rw (ends-append is_ws a (b ++ (w ++ c)) (append_not_nil b (w ++ c) last), ends-append is_ws b (w ++ c) last, ends-append is_ws w c some) (ends_Only is_ws c h some)
+space_last a b w c some h = grind (arith, common_steps, ends-append, ends_Only)
 
 -- a spelling has a digit and a letter
 pub spelling_some : (text rest : List ℕ) (s : Span) → Spells text s rest → 1 < length text
-spelling_some text rest s h = omega (
-  arith,
-  ap length h.whole,
-  length-append h.number_text (h.fraction_text ++ (s.word ++ (h.space ++ rest))),
-  length-append h.fraction_text (s.word ++ (h.space ++ rest)),
-  length-append s.word (h.space ++ rest),
-  begins_some is_digit h.number_text h.starts,
-  begins_some is_letter s.word (letters_begin s.word h.word),
-)
+spelling_some text rest s h = grind (arith, common_steps)
 
 pub written_here : (rest : List ℕ) → begins is_digit rest ≡ true → Fine rest → (here : List ℕ) × IsWritten rest here
 written_here rest d h =
@@ -94,9 +80,7 @@ written_here rest d h =
 
 -- the span that begins the rest is well formed
 pub formed_here : (rest : List ℕ) → Fine rest → Formed (span_of rest)
-formed_here rest h = record { short = h.short; word = h.word }
+formed_here rest h = record { numbers = h.numbers; word = h.word }
 
 pub fine_here : (rest next : List ℕ) (s : Span) → IsSpanAt rest s next → Formed s → Fine rest
-fine_here rest next s h f =
-    let g : Formed (span_of rest) = rw (h.span) f in
-    record { short = g.short; point = h.point; word = g.word; ends = h.ends }
+fine_here rest next s h f = grind (arith, common_steps)

@@ -1,10 +1,10 @@
 -- One step over the items of a text, and their sum so far.
-use Rattle.std.proofs.Common.{◌≡◌, ◌≢◌, ℕ, zero, suc, ◌≤◌, Bool, true, false, List, [], ◌∷◌, length, Option, Some, None, Result, Ok, Err, if◌then◌else◌, refl, sym, ap, ◌∙◌, arith}
+use Rattle.std.proofs.lemmas.Grind.{common_steps}
+use Rattle.std.proofs.Common.{◌≡◌, ◌≢◌, ℕ, zero, suc, ◌≤◌, Bool, true, false, List, [], ◌∷◌, length, Some, None, Result, Ok, Err, if◌then◌else◌, refl, sym, ap, ◌∙◌, arith}
 use Rattle.humantime.specs.Durations.Characters.{is_ws, is_digit, begins, past, offset_of}
-use Rattle.humantime.specs.Durations.Faults.{Fault, NumberExpected, NumberOverflow}
-use Rattle.humantime.specs.Durations.Rests.{after_word}
+use Rattle.humantime.specs.Durations.Faults.{Fault, NumberExpected, NumberOverflow, after_word}
 use Rattle.humantime.specs.References.Durations.Reading.{stop_at, add_span}
-use Rattle.humantime.specs.Durations.Slices.{Lent}
+use Rattle.humantime.specs.Durations.Items.{Lent}
 use Rattle.humantime.specs.References.Durations.Lending.{lent_at, lends, left_at, spelled, judged}
 use Rattle.humantime.proofs.Durations.Slices.LendingSteps.{Turn, No_digit, Faulty, Spanned, turn, lends-expected, lends-stopped, lends-fine}
 use Rattle.humantime.proofs.Durations.Reading.Spelled.{next_of, next_smaller}
@@ -30,24 +30,12 @@ lends_enough (suc n) (suc m) text (c ∷ cs) h k = by (turn text (c ∷ cs)) (λ
 
 lends_left : (n : ℕ) (text rest : List ℕ) → length rest ≤ n → lends n text rest ≡ left_at false text rest
 unfolding lends
-lends_left zero text [] h = refl
-lends_left (suc n) text [] h = refl
-lends_left n text (c ∷ cs) h = lends_enough n (suc (length cs)) text (c ∷ cs) h (omega arith)
+lends_left n text rest h = grind (arith, common_steps, lends_enough)
 
 -- what is left at a rest: its span and what is left after it, or the fault at which it stops, or that no number is there
 left_fine : (first : Bool) (text rest : List ℕ) → begins is_digit rest ≡ true → stop_at text rest ≡ None → left_at first text rest ≡ Ok (lent_at text rest) ∷ left_at false text (next_of rest)
 left_fine first text [] d s = cc
-left_fine first text (c ∷ cs) d s =
-    let less = next_smaller (c ∷ cs) d in
-    lends-fine (length cs) text (c ∷ cs) d s ∙ ap (λ (xs : List (Result Lent Fault)). Ok (lent_at text (c ∷ cs)) ∷ xs) (lends_left (length cs) text (next_of (c ∷ cs)) (omega arith))
-
-left_stopped : (first : Bool) (text rest : List ℕ) (e : Fault) → begins is_digit rest ≡ true → stop_at text rest ≡ Some e → left_at first text rest ≡ Err e ∷ []
-left_stopped first text [] e d s = cc
-left_stopped first text (c ∷ cs) e d s = lends-stopped (length cs) text (c ∷ cs) e d s
-
-left_expected : (first : Bool) (text rest : List ℕ) → rest ≢ [] → begins is_digit rest ≡ false → left_at first text rest ≡ Err (NumberExpected (offset_of text rest)) ∷ []
-left_expected first text [] n d = absurd (n refl)
-left_expected first text (c ∷ cs) n d = lends-expected (length cs) text (c ∷ cs) n d
+left_fine first text (c ∷ cs) d s = grind (arith, common_steps, (next_smaller (c ∷ cs) d), lends-fine, lends_left)
 
 -- the items that are left before a text whose white space is still to be passed, unless they have ended
 abbrev pub left : Bool → Bool → List ℕ → List ℕ → List (Result Lent Fault)
@@ -56,14 +44,13 @@ left ended first text before = if ended then [] else left_at first text (past is
 pub step_fine : (ended first first' : Bool) (text before rest next : List ℕ) (x : Lent)
     → ended ≡ false → rest ≡ past is_ws before → begins is_digit rest ≡ true → stop_at text rest ≡ None → x ≡ lent_at text rest → next ≡ after_word rest → first' ≡ false
     → left ended first text before ≡ Ok x ∷ left ended first' text next
-step_fine ended first first' text before rest next x e r d s i n f =
-    rw (e, f, ← r, n, i) (left_fine first text rest d s)
+step_fine ended first first' text before rest next x e r d s i n f = grind (arith, common_steps, left_fine)
 
 pub step_stopped : (ended first : Bool) (text before rest : List ℕ) (f : Fault) → ended ≡ false → rest ≡ past is_ws before → begins is_digit rest ≡ true → stop_at text rest ≡ Some f → left ended first text before ≡ Err f ∷ []
-step_stopped ended first text before rest f e r d s = rw (e, ← r) (left_stopped first text rest f d s)
+step_stopped ended first text before rest f e r d s = grind (arith, common_steps, lends-stopped)
 
 pub step_expected : (ended first : Bool) (text before rest : List ℕ) (n : ℕ) → ended ≡ false → rest ≡ past is_ws before → rest ≢ [] → begins is_digit rest ≡ false → n ≡ offset_of text rest → left ended first text before ≡ Err (NumberExpected n) ∷ []
-step_expected ended first text before rest n e r s d p = rw (e, ← r, p) (left_expected first text rest s d)
+step_expected ended first text before rest n e r s d p = grind (arith, common_steps, lends-expected)
 
 -- what the items so far add up to, with the next item
 pub loop_done : (t : ℕ) (xs : List (Result Lent Fault)) (g : Result ℕ Fault) → judged t xs ≡ g → xs ≡ [] → Ok t ≡ g
@@ -77,13 +64,9 @@ loop_err t xs more item e g h s i = sym (ap (λ (y : Result Lent Fault). judged 
 pub loop_over : (t : ℕ) (xs more : List (Result Lent Fault)) (item : Result Lent Fault) (x : Lent) (g : Result ℕ Fault) → judged t xs ≡ g → xs ≡ item ∷ more → item ≡ Ok x
     → None ≡ add_span t (spelled x.number x.fraction x.unit) → Err NumberOverflow ≡ g
 unfolding judged
-loop_over t xs more item x g h s i a =
-    ap (λ (o : Option ℕ). elim o as (λ _. Result ℕ Fault) [ None ↦ Err NumberOverflow | Some u ↦ judged u more ]) a
-    ∙ sym (ap (λ (y : Result Lent Fault). judged t (y ∷ more)) i) ∙ sym (ap (judged t) s) ∙ h
+loop_over t xs more item x g h s i a = grind (arith, common_steps)
 
 pub loop_on : (t u : ℕ) (xs more : List (Result Lent Fault)) (item : Result Lent Fault) (x : Lent) (g : Result ℕ Fault) → judged t xs ≡ g → xs ≡ item ∷ more → item ≡ Ok x
     → Some u ≡ add_span t (spelled x.number x.fraction x.unit) → judged u more ≡ g
 unfolding judged
-loop_on t u xs more item x g h s i a =
-    ap (λ (o : Option ℕ). elim o as (λ _. Result ℕ Fault) [ None ↦ Err NumberOverflow | Some u ↦ judged u more ]) a
-    ∙ sym (ap (λ (y : Result Lent Fault). judged t (y ∷ more)) i) ∙ sym (ap (judged t) s) ∙ h
+loop_on t u xs more item x g h s i a = grind (arith, common_steps)

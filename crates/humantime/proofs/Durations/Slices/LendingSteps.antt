@@ -1,9 +1,10 @@
 -- One step of what spans lend, at each rest.
-use Rattle.std.proofs.Common.{◌≡◌, ◌≢◌, ℕ, suc, Bool, true, false, List, [], ◌∷◌, Option, Some, None, Result, Ok, Err, if◌then◌else◌, refl, ap, ◌∙◌}
+use Rattle.std.proofs.Common.{arith}
+use Rattle.std.proofs.lemmas.Grind.{common_steps}
+use Rattle.std.proofs.Common.{◌≡◌, ◌≢◌, ℕ, suc, Bool, true, false, List, [], ◌∷◌, Option, Some, None, Ok, Err, refl}
 use Rattle.humantime.specs.Durations.Characters.{is_digit, begins, offset_of}
 use Rattle.humantime.specs.Durations.Faults.{Fault, NumberExpected}
 use Rattle.humantime.specs.References.Durations.Reading.{stop_at}
-use Rattle.humantime.specs.Durations.Slices.{Lent}
 use Rattle.humantime.specs.References.Durations.Lending.{lent_at, lends}
 use Rattle.humantime.proofs.Durations.Reading.Spelled.{next_of}
 
@@ -23,21 +24,12 @@ turn text rest = by (begins is_digit rest) (stop_at text rest) refl refl
 
 pub lends-expected : (n : ℕ) (text rest : List ℕ) → rest ≢ [] → begins is_digit rest ≡ false → lends (suc n) text rest ≡ Err (NumberExpected (offset_of text rest)) ∷ []
 unfolding lends
-lends-expected n text [] some d = absurd (some refl)
-lends-expected n text (c ∷ cs) some d = rw d
+lends-expected n text rest h k = grind (arith, common_steps)
 
 pub lends-stopped : (n : ℕ) (text rest : List ℕ) (e : Fault) → begins is_digit rest ≡ true → stop_at text rest ≡ Some e → lends (suc n) text rest ≡ Err e ∷ []
 unfolding lends
-lends-stopped n text [] e d s = cc
-lends-stopped n text (c ∷ cs) e d s = rw (d, s)
-
--- what is lent at a number, by whether the span stops
-abbrev by_stop : ℕ → List ℕ → List ℕ → Option Fault → List (Result Lent Fault)
-by_stop n text rest o = elim o [ None ↦ Ok (lent_at text rest) ∷ lends n text (next_of rest) | Some e ↦ Err e ∷ [] ]
+lends-stopped n text rest e h k = grind (arith, common_steps)
 
 pub lends-fine : (n : ℕ) (text rest : List ℕ) → begins is_digit rest ≡ true → stop_at text rest ≡ None → lends (suc n) text rest ≡ Ok (lent_at text rest) ∷ lends n text (next_of rest)
 unfolding lends
-lends-fine n text [] d s = cc
-lends-fine n text (c ∷ cs) d s =
-    ap (λ (b : Bool). if b then by_stop n text (c ∷ cs) (stop_at text (c ∷ cs)) else (Err (NumberExpected (offset_of text (c ∷ cs))) ∷ [])) d
-    ∙ ap (by_stop n text (c ∷ cs)) s
+lends-fine n text rest h k = grind (arith, common_steps)

@@ -1,13 +1,13 @@
 -- The list of what the items of a text lend.
-use Rattle.std.proofs.Common.{◌≡◌, ◌≢◌, ◌++◌, IsUtf8, chars, encode_utf8_all, arith, ℕ, zero, suc, true, List, [], ◌∷◌, length, Option, Some, None, Result, Ok, Err, refl, sym, ap, ap₂, subst, subst₂, ◌∙◌}
+use Rattle.std.proofs.lemmas.Grind.{common_steps}
+use Rattle.std.proofs.Common.{◌≡◌, ◌≢◌, ◌++◌, IsUtf8, chars, encode_utf8_all, arith, ℕ, zero, suc, true, List, [], ◌∷◌, length, Option, Some, None, Result, Ok, refl, sym, ap, subst, subst₂, ◌∙◌}
 use Rattle.std.proofs.lemmas.Str.{encodes-chars, encode_ascii}
 use Rattle.humantime.specs.Durations.Characters.{is_ws, is_digit, begins, past, offset_of, bare_zero}
 use Rattle.humantime.specs.Durations.Spans.{Span}
-use Rattle.humantime.specs.Durations.Rests.{span_of}
-use Rattle.humantime.specs.Durations.Faults.{Fault, NumberExpected, NumberOverflow, Empty}
-use Rattle.humantime.specs.References.Durations.Reading.{stop_at, read, items_from, items, with_span, add_span, settle}
+use Rattle.humantime.specs.Durations.Faults.{span_of, Fault, NumberExpected}
+use Rattle.humantime.specs.References.Durations.Reading.{stop_at, read, items_from, items, with_span, settle}
 use Rattle.humantime.specs.References.Durations.Answers.{duration_answer}
-use Rattle.humantime.specs.Durations.Slices.{Lent, LendsEach, items_of, AreItems}
+use Rattle.humantime.specs.Durations.Items.{Lent, LendsEach, items_of, AreItems}
 use Rattle.humantime.specs.Laws.Outcomes.{OneListOfSlices}
 use Rattle.humantime.specs.References.Durations.Lending.{lent_at, lends, left_at, lent_items, judged}
 use Rattle.humantime.proofs.Durations.Slices.LendingSteps.{Turn, No_digit, Faulty, Spanned, turn, lends-expected, lends-stopped, lends-fine}
@@ -18,7 +18,7 @@ use Rattle.humantime.proofs.Durations.Reading.ReadSteps.{read-expected, read-sto
 use Rattle.humantime.proofs.Durations.Slices.SlicesTold.{one_each}
 use Rattle.humantime.proofs.Durations.Slices.SpanSlices.{is_lent}
 use Rattle.humantime.proofs.Durations.Reading.Spelled.{next_of}
-use Rattle.humantime.proofs.Durations.Slices.Trimming.{spelled_at}
+use Rattle.humantime.proofs.Durations.Bytes.Trimming.{spelled_at}
 use Rattle.humantime.proofs.Durations.Reading.Unread.{unread, unread_of, unread-expected, unread-stopped, unread-fine}
 
 -- items and spans of one text add up to the same after every sum
@@ -27,13 +27,7 @@ Agree items found = (t : ℕ) → judged t items ≡ settle t found.0 found.1
 
 agree_cons : (text rest : List ℕ) (items : List (Result Lent Fault)) (found : List Span × Option Fault) → Agree items found → Agree (Ok (lent_at text rest) ∷ items) (with_span (span_of rest) found)
 unfolding judged settle
-agree_cons text rest items found h = λ t.
-    ap (λ (s : Span). elim (add_span t s) as (λ _. Result ℕ Fault) [ None ↦ Err NumberOverflow | Some u ↦ judged u items ]) (spelled_at text rest)
-    ∙ by (add_span t (span_of rest))
-  where
-    by : (o : Option ℕ) → ◌≡◌ {A = Result ℕ Fault} (elim o [ None ↦ Err NumberOverflow | Some u ↦ judged u items ]) (elim o [ None ↦ Err NumberOverflow | Some u ↦ settle u found.0 found.1 ])
-    by None = refl
-    by (Some u) = h u
+agree_cons text rest items found h = grind (arith, common_steps, spelled_at)
 
 agree_read : (n : ℕ) (text rest : List ℕ) → Agree (lends n text rest) (read n text rest)
 unfolding judged settle lends read
@@ -52,8 +46,7 @@ judged_read n t text rest = agree_read n text rest t
 
 judged_from : (text rest : List ℕ) → judged 0 (left_at true text rest) ≡ settle 0 (items_from text rest).0 (items_from text rest).1
 unfolding judged settle
-judged_from text [] = refl
-judged_from text (c ∷ cs) = judged_read (length (c ∷ cs)) 0 text (c ∷ cs)
+judged_from text rest = grind (arith, common_steps, judged_read)
 
 pub judged_items : (text : List ℕ) → judged 0 (lent_items text) ≡ settle 0 (items text).0 (items text).1
 unfolding items
@@ -113,8 +106,7 @@ lent_from (suc n) text (c ∷ cs) = by (turn text (c ∷ cs)) (lent_from n text 
 
 lent_all : (text rest : List ℕ) → LentFrom text rest (unread (length rest) text rest) (left_at true text rest) (items_from text rest)
 unfolding unread
-lent_all text [] = lent_none text [] (Some Empty)
-lent_all text (c ∷ cs) = lent_from (length (c ∷ cs)) text (c ∷ cs)
+lent_all text rest = grind (arith, common_steps, lent_from)
 
 pub are_items : (text : List ℕ) → AreItems text (lent_items text)
 unfolding items
@@ -133,14 +125,7 @@ are_items text =
 
 -- two lists that lend the same spans and stop alike are one
 same_lent : (text : List ℕ) (xs ys : List (Result Lent Fault)) (a : AreItems text xs) (b : AreItems text ys) → a.spans ≡ b.spans → a.stop ≡ b.stop → xs ≡ ys
-same_lent text xs ys a b p q =
-    let i = a.items in
-    let j = b.items in
-    let m = i.split.read.body ++ i.rest in
-    let n = j.split.read.body ++ j.rest in
-    let from = sym (front_begins text i.front i.rest a.spans i.split) ∙ front_begins text j.front j.rest b.spans j.split in
-    let each : LendsEach text n a.spans b.slices j.rest = subst (λ (ss : List Span). LendsEach text n ss b.slices j.rest) (sym p) b.each in
-    a.are ∙ ap₂ items_of (one_each text [] [] m n a.spans a.slices b.slices i.rest j.rest tt tt from a.each each) q ∙ sym b.are
+same_lent text xs ys a b p q = grind (arith, common_steps, one_each)
 
 -- the spans and the stop are those that are read
 told_items : (text : List ℕ) (xs : List (Result Lent Fault)) (a : AreItems text xs) → items text ≡ (a.spans, a.stop)

@@ -1,41 +1,33 @@
 -- Where the error of a text points.
-use Rattle.std.proofs.Common.{◌≡◌, ◌≢◌, ◌<◌, ◌-◌, ◌++◌, ℕ, true, false, List, [], ◌∷◌, length, Option, None, option_map, sym, ap, subst, ◌∙◌, arith, IsUtf8, IsCharBoundary, chars}
+use Rattle.std.proofs.lemmas.Grind.{common_steps}
+use Rattle.std.proofs.Common.{◌≡◌, ◌≢◌, ◌<◌, ◌-◌, ◌++◌, ℕ, true, false, List, [], length, Option, sym, ap, ◌∙◌, arith, IsUtf8, chars}
 use Rattle.std.proofs.lemmas.Bool.{false≢true}
 use Rattle.std.proofs.lemmas.Str.{chars-nil}
 use Rattle.humantime.specs.declared.duration.error.DurationError.{DurationError}
-use Rattle.humantime.specs.declared.duration.error.DurationError.TheVariants as errors
-use Rattle.humantime.specs.Durations.Characters.{digits, offset_of}
+use Rattle.humantime.specs.Durations.Characters.{offset_of}
 use Rattle.humantime.specs.Durations.Errors.{fault_of, IsPlaceIn, IsPartOf, PointsInto}
-use Rattle.humantime.specs.Durations.Rests.{fraction_at}
 use Rattle.humantime.specs.Durations.Faults.{NumberOverflow}
-use Rattle.humantime.specs.References.Durations.Scales.{Counted, counted}
+use Rattle.humantime.specs.References.Durations.Scales.{Counted}
 use Rattle.humantime.specs.References.Durations.Scanning.{IsTail, bare, ends_span}
 use Rattle.humantime.specs.References.Durations.SpanParts.{IsSpanRead}
 use Rattle.humantime.proofs.Durations.Bytes.Tails.{tail_boundary, part_between}
 
 -- a text that has a character has a byte
 pub some_bytes : (bs : List ℕ) → chars bs ≢ [] → 0 < length bs
-some_bytes [] some = absurd (some chars-nil)
-some_bytes (b ∷ bs) some = omega arith
+some_bytes bs h = grind (arith, common_steps, chars-nil)
 
 -- a rest that has a byte begins at a character's offset
 pub rest_place : (text rest : List ℕ) (at : ℕ) → IsTail text rest → at ≡ length text - length rest → 0 < length rest → IsPlaceIn text at
-rest_place text rest at tail is some =
-    let inside = tail.shorter in
-    (omega arith, subst (IsCharBoundary text) (sym is) (tail_boundary text rest tail))
+rest_place text rest at tail is some = grind (arith, common_steps, tail_boundary)
 
 -- what stands between two rests is a part of the text
 pub part_of_rests : (text behind part next : List ℕ) (start end : ℕ) → IsUtf8 text → IsTail text behind → IsTail text next → behind ≡ part ++ next
     → start ≡ offset_of (chars text) (chars behind) → end ≡ offset_of (chars text) (chars next) → IsPartOf text part start end
-part_of_rests text behind part next start end u b n e s t =
-    let p = part_between text behind part next start end u b n e s t in
-    record { in_order = p.0; inside = p.2.0; start_boundary = p.1; end_boundary = p.2; part_is = p.3 }
+part_of_rests text behind part next start end u b n e s t = grind (arith, common_steps, (part_between text behind part next start end u b n e s t))
 
 -- a point without digits is there
 pub bare_some : (rest : List ℕ) (v : ℕ) (o : Option Counted) (after behind letters next : List ℕ) → IsSpanRead rest v o after behind letters next → bare o ≡ true → after ≢ []
-bare_some rest v o after behind letters next s b none =
-    let no_point : o ≡ None = s.fraction_is ∙ ap (λ (x : List ℕ). option_map counted (option_map digits (fraction_at x))) (sym s.after_is ∙ none) in
-    false≢true (sym (ap bare no_point) ∙ b)
+bare_some rest v o after behind letters next s b none = grind (arith, common_steps)
 
 -- what can't follow a word is there
 pub bad_some : (next : List ℕ) → ends_span next ≡ false → next ≢ []
@@ -43,8 +35,4 @@ bad_some next e none = false≢true (sym e ∙ ap ends_span none)
 
 -- an overflow has no place
 pub overflow_points : (s : List ℕ) (e : DurationError) → fault_of e ≡ NumberOverflow → PointsInto s e
-overflow_points s (errors.InvalidCharacter at) h = cc
-overflow_points s (errors.NumberExpected at) h = cc
-overflow_points s (errors.UnknownUnit start end unit value) h = cc
-overflow_points s errors.NumberOverflow h = tt
-overflow_points s errors.Empty h = tt
+overflow_points s e h = grind (arith, common_steps)

@@ -1,17 +1,19 @@
 -- What a span lends of the text is told by the text and the span.
-use Rattle.std.proofs.Common.{◌≡◌, ℕ, suc, Bool, true, false, ◌&&◌, cond, eqb, List, [], ◌∷◌, ◌++◌, length, Option, Some, None, refl, sym, ap, ap₂, subst, ◌∙◌}
-use Rattle.std.specs.Char.{is_whitespace}
+use Rattle.std.proofs.Common.{arith}
+use Rattle.std.proofs.Math.Bool.{and-false}
+use Rattle.std.proofs.lemmas.Grind.{common_steps}
+use Rattle.std.proofs.Common.{◌≡◌, ℕ, Bool, true, ◌&&◌, cond, eqb, List, [], ◌∷◌, ◌++◌, length, Option, Some, None, refl, sym, ap, ap₂, subst, ◌∙◌}
 use Rattle.std.specs.Str.{drop_trailing_whitespace}
 use Rattle.std.proofs.lemmas.List.{append_cancel_left}
-use Rattle.humantime.specs.Durations.Characters.{is_ws, is_digit, is_letter, begins, ends, past, offset_of}
+use Rattle.humantime.specs.Durations.Characters.{is_ws, is_digit, is_letter, begins, ends, past}
 use Rattle.humantime.specs.Durations.Spans.{Span, Only, SpellsFraction}
-use Rattle.humantime.specs.Durations.Rests.{after_number, after_fraction}
-use Rattle.humantime.specs.Durations.Slices.{Lent, IsDigitSlice, LendsFraction, IsLent, LendsEach}
+use Rattle.humantime.specs.Durations.Faults.{after_number, after_fraction}
+use Rattle.humantime.specs.Durations.Items.{Lent, IsDigitSlice, LendsFraction, IsLent, LendsEach}
 use Rattle.humantime.specs.References.Durations.Lending.{trimmed, number_slice, fraction_slice}
 use Rattle.humantime.proofs.Durations.Reading.Classes.{white_is, digit_not_space}
 use Rattle.humantime.proofs.Durations.Reading.Runs.{past-append, begins-append, begins_not_nil, begins_other, letters_begin}
 use Rattle.humantime.proofs.Durations.Reading.Spelled.{begins_word, read_spelled}
-use Rattle.humantime.proofs.Durations.Slices.Trimming.{suc_not_zero, no_slice, slice_behind_point}
+use Rattle.humantime.proofs.Durations.Bytes.Trimming.{suc_not_zero, no_slice, slice_behind_point}
 
 drop_white : (cs : List ℕ) → Only is_ws cs → drop_trailing_whitespace cs ≡ []
 drop_white [] o = refl
@@ -21,28 +23,20 @@ drop_white (c ∷ cs) o = ap₂ (λ (b : Bool) (l : List ℕ). cond (b && eqb (l
 drop_tail : (xs tail : List ℕ) → Only is_ws tail → ends is_digit xs ≡ true → drop_trailing_whitespace (xs ++ tail) ≡ xs
 drop_tail [] tail o e = cc
 drop_tail (x ∷ []) tail o e = ap₂ (λ (b : Bool) (l : List ℕ). cond (b && eqb (length l) 0) [] (x ∷ l)) (white_is x ∙ digit_not_space x e) (drop_white tail o)
-drop_tail (x ∷ y ∷ xs) tail o e =
-    ap (λ (l : List ℕ). cond (is_whitespace x && eqb (length l) 0) [] (x ∷ l)) (drop_tail (y ∷ xs) tail o e) ∙ by (is_whitespace x)
-  where
-    by : (b : Bool) → cond (b && eqb (suc (length xs)) 0) [] (x ∷ y ∷ xs) ≡ x ∷ y ∷ xs
-    by true = rw (suc_not_zero (length xs))
-    by false = refl
+drop_tail (x ∷ y ∷ xs) tail o e = rw (drop_tail (y ∷ xs) tail o e, suc_not_zero (length xs), and-false)
 
 begins_first : (p : ℕ → Bool) (xs ys : List ℕ) → begins p xs ≡ true → begins p (xs ++ ys) ≡ true
 begins_first p xs ys e = begins-append p xs ys (begins_not_nil p xs e) ∙ e
 
 -- a text without the white space at its ends goes from its first digit to its last
 trimmed_is : (text slice : List ℕ) → IsDigitSlice text slice → trimmed text ≡ slice
-trimmed_is text slice h =
-    let stops : begins is_ws (slice ++ h.after) ≡ false = begins_other is_digit is_ws digit_not_space (slice ++ h.after) (begins_first is_digit slice h.after h.starts) in
-    ap trimmed h.whole ∙ ap drop_trailing_whitespace (past-append is_ws h.before (slice ++ h.after) h.only_before stops) ∙ drop_tail slice h.after h.only_after h.stops
+trimmed_is text slice h = grind (arith, common_steps, digit_not_space, past-append, drop_tail)
 
 fraction_told : (b tail : List ℕ) (o f : Option (List ℕ)) → SpellsFraction b o → LendsFraction b f → begins is_letter tail ≡ true → f ≡ fraction_slice (b ++ tail)
 fraction_told b tail None None h k e = sym (ap (λ (l : List ℕ). fraction_slice (l ++ tail)) h ∙ no_slice tail e)
 fraction_told b tail None (Some slice) h k e = let p = sym h ∙ k.1 in cc
 fraction_told b tail (Some ds) None h k e = let p = sym k ∙ h.1 in cc
 fraction_told b tail (Some ds) (Some slice) h k e =
-    let p = sym h.1 ∙ k.1 in
     let same : h.0 ≡ k.0 = cc in
     let behind : fraction_slice (b ++ tail) ≡ Some (trimmed h.0) = ap (λ (l : List ℕ). fraction_slice (l ++ tail)) h.1 ∙ slice_behind_point h.0 tail h.2.0 e in
     sym (behind ∙ ap (λ (l : List ℕ). Some (trimmed l)) same ∙ ap (λ (l : List ℕ). Some l) (trimmed_is k.0 slice k.2))
@@ -67,12 +61,8 @@ told text rest s x next h =
       starts = ap (begins is_digit) k.whole ∙ begins_first is_digit k.number_text (k.fraction_text ++ (s.word ++ (k.space ++ next))) k.starts;
     }
 
-lent_same : (x y : Lent) → x.number ≡ y.number → x.fraction ≡ y.fraction → x.unit ≡ y.unit → x.start ≡ y.start → x.end ≡ y.end → x.value ≡ y.value → x ≡ y
-lent_same x y a b c d e f = λ i. record { number = a i; fraction = b i; unit = c i; start = d i; end = e i; value = f i }
-
 each_starts : (text rest : List ℕ) (s : Span) (ss : List Span) (xs : List Lent) (end : List ℕ) → LendsEach text rest (s ∷ ss) xs end → begins is_digit rest ≡ true
-each_starts text rest s ss [] end h = absurd h
-each_starts text rest s ss (x ∷ xs) end h = (told text rest s x h.0 h.1).starts
+each_starts text rest s ss xs end h = grind (arith, common_steps)
 
 next_is : (space next : List ℕ) → Only is_ws space → begins is_digit next ≡ true → past is_ws (space ++ next) ≡ next
 next_is space next o b = past-append is_ws space next o (begins_other is_digit is_ws digit_not_space next b)
@@ -83,22 +73,10 @@ record SameLent (x y : Lent) (t u : List ℕ) : Type 0 where
   left : t ≡ u
 
 one_span : (text rest : List ℕ) (s : Span) (x y : Lent) (m n : List ℕ) (h : IsLent text rest s x m) (k : IsLent text rest s y n) → SameLent x y (h.spelled.space ++ m) (k.spelled.space ++ n)
-one_span text rest s x y m n h k =
-    let a = told text rest s x m h in
-    let b = told text rest s y n k in
-    let p = h.spelled.space ++ m in
-    let q = k.spelled.space ++ n in
-    let unit : x.unit ≡ y.unit = h.unit ∙ sym k.unit in
-    let left : p ≡ q = append_cancel_left x.unit p q (sym a.left ∙ b.left ∙ ap (λ (w : List ℕ). w ++ q) (sym unit)) in
-    record {
-      same = lent_same x y (a.number ∙ sym b.number) (a.fraction ∙ sym b.fraction) unit (h.start ∙ sym k.start) (h.end ∙ ap (offset_of text) left ∙ sym k.end) (h.value ∙ sym k.value);
-      left = left;
-    }
+one_span text rest s x y m n h k = grind (arith, common_steps, (told text rest s x m h), (told text rest s y n k), (append_cancel_left x.unit (h.spelled.space ++ m) (k.spelled.space ++ n) (sym (told text rest s x m h).left ∙ (told text rest s y n k).left ∙ ap (λ (w : List ℕ). w ++ (k.spelled.space ++ n)) (sym (h.unit ∙ sym k.unit)))))
 
 no_spans : (text m n : List ℕ) (xs ys : List Lent) (d e : List ℕ) → LendsEach text m [] xs d → LendsEach text n [] ys e → xs ≡ ys
-no_spans text m n [] [] d e h k = refl
-no_spans text m n [] (y ∷ ys) d e h k = absurd k
-no_spans text m n (x ∷ xs) ys d e h k = absurd h
+no_spans text m n xs ys d e h k = grind (arith, common_steps)
 
 -- one list of spans lends one list of slices, wherever in white space the rest of the text begins
 pub one_each : (text p q m n : List ℕ) (spans : List Span) (xs ys : List Lent) (d e : List ℕ) → Only is_ws p → Only is_ws q → p ++ m ≡ q ++ n → LendsEach text m spans xs d → LendsEach text n spans ys e → xs ≡ ys

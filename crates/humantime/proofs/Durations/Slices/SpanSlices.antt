@@ -1,20 +1,22 @@
 -- What the span at a rest lends of the text.
-use Rattle.std.proofs.Common.{◌≡◌, ◌≢◌, ℕ, Bool, true, false, cond, if◌then◌else◌, List, [], ◌∷◌, ◌++◌, Option, Some, None, refl, sym, ap, subst, ◌∙◌, ◌<◌, length, encode_utf8_all, append_assoc, length-append, arith}
+use Rattle.std.proofs.lemmas.Grind.{common_steps}
+use Rattle.std.proofs.Common.{◌≡◌, ◌≢◌, ℕ, Bool, true, false, if◌then◌else◌, List, [], ◌∷◌, ◌++◌, Option, None, refl, sym, ap, subst, ◌∙◌, ◌<◌, length, append_assoc, length-append, arith}
 use Rattle.std.proofs.lemmas.List.{append_cancel_left}
 use Rattle.std.proofs.lemmas.Str.{encodes-append, length-le-encodes}
 use Rattle.humantime.specs.Durations.Characters.{is_ws, is_digit, is_letter, is_numeric, is_point, begins, leading, past, digits, byte_length, offset_of}
 use Rattle.humantime.specs.Durations.Spans.{Only, SpellsFraction, Spells}
-use Rattle.humantime.specs.Durations.Rests.{after_number, fraction_of, past_fraction, after_fraction, word_of, after_word, span_of}
+use Rattle.humantime.specs.Durations.Faults.{after_number, fraction_of, after_fraction, word_of, after_word, span_of}
+use Rattle.humantime.specs.References.Durations.Lending.{past_fraction, trimmed, number_slice, fraction_slice, lent_at}
 use Rattle.humantime.specs.References.Durations.Reading.{stop_at}
-use Rattle.humantime.specs.Durations.Slices.{IsDigitSlice, LendsFraction, IsLent}
+use Rattle.humantime.specs.Durations.Items.{IsDigitSlice, LendsFraction, IsLent}
+use Rattle.humantime.proofs.Durations.Reading.Classes.{digit_is_numeric}
 use Rattle.humantime.specs.References.Durations.Lending.{trimmed, number_slice, fraction_slice, lent_at}
-use Rattle.humantime.proofs.Durations.Reading.Classes.{digit_is_numeric, digit_from_numeric}
 use Rattle.humantime.proofs.Durations.Reading.Runs.{leading-past, Only-leading, begins-past, letters_begin, begins_some}
 use Rattle.humantime.proofs.Durations.Reading.Spelled.{next_of, begins_word, read_spelled}
 use Rattle.humantime.proofs.Durations.Reading.Spellings.{spells-append}
 use Rattle.humantime.proofs.Durations.Reading.Written.{written_here}
 use Rattle.humantime.proofs.Durations.Reading.Stopping.{Fine, Says, stop_says}
-use Rattle.humantime.proofs.Durations.Slices.Trimming.{dropped, digits_past, digit_slice, no_slice, slice_behind_point}
+use Rattle.humantime.proofs.Durations.Bytes.Trimming.{dropped, digits_past, digit_slice, no_slice, slice_behind_point}
 
 -- the point with what follows it up to the word, if a point begins the text
 abbrev fraction_text : List ℕ → List ℕ
@@ -22,25 +24,15 @@ fraction_text [] = []
 fraction_text (c ∷ cs) = if is_point c then c ∷ leading is_numeric cs else []
 
 fraction_text-past : (cs : List ℕ) → cs ≡ fraction_text cs ++ past_fraction cs
-fraction_text-past [] = refl
-fraction_text-past (c ∷ cs) = by (is_point c)
-  where
-    by : (b : Bool) → c ∷ cs ≡ cond b (c ∷ leading is_numeric cs) [] ++ cond b (past is_numeric cs) (c ∷ cs)
-    by true = ap (λ (xs : List ℕ). c ∷ xs) (sym (leading-past is_numeric cs))
-    by false = refl
+fraction_text-past cs = grind (arith, common_steps, leading-past)
 
 Only-past : (p q : ℕ → Bool) (cs : List ℕ) → Only p cs → Only p (past q cs)
 Only-past p q [] o = tt
-Only-past p q (c ∷ cs) o = by (q c) (Only-past p q cs o.1)
-  where
-    by : (b : Bool) → Only p (past q cs) → Only p (cond b (past q cs) (c ∷ cs))
-    by true h = h
-    by false h = o
+Only-past p q (c ∷ cs) o = grind (arith, common_steps, (Only-past p q cs o.1))
 
 -- digits and white space that don't begin with white space begin with a digit
 begins_digit_or_end : (cs : List ℕ) → Only is_numeric cs → begins is_ws cs ≡ false → digits cs ≢ [] → begins is_digit cs ≡ true
-begins_digit_or_end [] o b d = absurd (d refl)
-begins_digit_or_end (c ∷ cs) o b d = digit_from_numeric c o.0 b
+begins_digit_or_end cs h k e = grind (arith, common_steps)
 
 -- digits and white space, not without a digit, with the slice from the first digit to the last
 trimmed_slice : (cs : List ℕ) → Only is_numeric cs → digits cs ≢ [] → IsDigitSlice cs (trimmed cs)
@@ -51,14 +43,10 @@ trimmed_slice cs o n =
     (digit_slice (leading is_ws cs) (past is_ws cs) (trimmed cs) (dropped (past is_ws cs)) (Only-leading is_ws cs) starts numeric)
 
 fraction_is_lent : (b tail : List ℕ) (o : Option (List ℕ)) → SpellsFraction b o → begins is_letter tail ≡ true → LendsFraction b (fraction_slice (b ++ tail))
-fraction_is_lent b tail None h e = subst (LendsFraction b) (sym (ap (λ (l : List ℕ). fraction_slice (l ++ tail)) h ∙ no_slice tail e)) h
-fraction_is_lent b tail (Some ds) h e =
-    let slice : fraction_slice (b ++ tail) ≡ Some (trimmed h.0) = ap (λ (l : List ℕ). fraction_slice (l ++ tail)) h.1 ∙ slice_behind_point h.0 tail h.2.0 e in
-    subst (LendsFraction b) (sym slice) (h.0, h.1, trimmed_slice h.0 h.2.0 (λ z. h.3 (sym h.2.1 ∙ z)))
+fraction_is_lent b tail o h k = grind (arith, common_steps, no_slice, slice_behind_point, trimmed_slice)
 
 begins_leading : (p q : ℕ → Bool) (cs : List ℕ) → begins p cs ≡ true → ((c : ℕ) → p c ≡ true → q c ≡ true) → begins p (leading q cs) ≡ true
-begins_leading p q [] b h = b
-begins_leading p q (c ∷ cs) b h = rw (h c b) b
+begins_leading p q cs h k = grind (arith, common_steps)
 
 -- what stands up to the end of a word, from a first digit on, isn't empty
 word_front : (rest : List ℕ) → begins is_digit rest ≡ true → (front : List ℕ) × (rest ≡ front ++ after_word rest) × (0 < length front)
@@ -72,10 +60,7 @@ word_front rest b =
     (number ++ (middle ++ word_of rest), whole ∙ simp (← append_assoc), omega (arith, length-append number (middle ++ word_of rest)))
 
 pub next_bytes : (rest : List ℕ) → begins is_digit rest ≡ true → byte_length (after_word rest) < byte_length rest
-next_bytes rest b =
-    let f = word_front rest b in
-    let bytes : encode_utf8_all rest ≡ encode_utf8_all f.0 ++ encode_utf8_all (after_word rest) = ap encode_utf8_all f.1 ∙ encodes-append f.0 (after_word rest) in
-    omega (arith, f.2, ap length bytes, length-append (encode_utf8_all f.0) (encode_utf8_all (after_word rest)), length-le-encodes f.0)
+next_bytes rest b = grind (arith, common_steps, word_front, encodes-append, length-le-encodes)
 
 -- where nothing stops, the span is well formed
 fine_at : (text rest : List ℕ) → begins is_digit rest ≡ true → stop_at text rest ≡ None → Fine rest

@@ -1,103 +1,61 @@
 -- Printed texts stand in the order of their moments.
-use Rattle.std.proofs.Common.{◌≡◌, ℕ, zero, suc, ◌+◌, ◌-◌, ◌*◌, ◌/◌, ◌%◌, ◌<◌, ◌≤◌, ◌⊎◌, inl, inr, List, [], ◌∷◌, ◌++◌, length, take, refl, sym, ap, subst, ◌∙◌, arith}
+use Rattle.std.proofs.lemmas.Grind.{common_steps}
+use Rattle.std.proofs.Common.{◌≡◌, ℕ, zero, suc, ◌+◌, ◌*◌, ◌<◌, ◌≤◌, List, [], ◌∷◌, ◌++◌, length, take, refl, sym, ap, ◌∙◌, arith}
 use Rattle.std.specs.Prelude.{min, codes, Option, ℤ, pos}
 use Rattle.std.specs.declared.cmp.Ordering.{Ordering}
-use Rattle.std.specs.declared.cmp.Ordering.TheVariants.{Less, Equal, Greater}
+use Rattle.std.specs.declared.cmp.Ordering.TheVariants.{Equal}
 use Rattle.std.specs.Char.{digit_value}
 use Rattle.std.specs.Cmp.Lexicographic.{slice_cmp}
 use Rattle.std.specs.Ordering.{nat_cmp, int_cmp, ordering_then}
 use Rattle.std.specs.Str.Parse.{digits_value_after}
-use Rattle.std.proofs.Math.Nat.{mul-le-mul_right}
-use Rattle.std.proofs.lemmas.Bool.{cases_order}
 use Rattle.std.proofs.lemmas.Bool.Decides.{nat_tests}
-use Rattle.std.proofs.lemmas.Str.{digit_value_digit}
 use Rattle.humantime.specs.declared.calendar.Date.{Date}
-use Rattle.humantime.specs.Calendar.Years.{days_of_years, days_of_months}
-use Rattle.humantime.specs.Calendar.Dates.{IsDate, day_of}
-use Rattle.humantime.specs.Timestamps.Digits.{two_digits, four_digits, AreDigits}
-use Rattle.humantime.specs.Timestamps.Fields.{Fields, fraction_text, fraction_digits, fraction_nanos, moment_of}
+use Rattle.humantime.specs.Calendar.{IsDate, day_of}
+use Rattle.humantime.specs.Timestamps.Fields.{two_digits, four_digits, Fields, fraction_text, fraction_nanos, moment_of}
+use Rattle.humantime.specs.References.Timestamps.Reading.{AreDigits, fraction_digits}
 use Rattle.humantime.specs.Timestamps.Printed.{HasPlaces, IsPrinted}
 use Rattle.humantime.specs.Laws.Timestamps.{InOrder}
 use Rattle.humantime.proofs.Dates.DaysOfDates.{before_year, before_month}
-use Rattle.humantime.proofs.Dates.Years.{AreWithin, valid_told}
-use Rattle.humantime.proofs.Timestamps.Reading.Fractions.{nanos_bound}
-
-cmp_less : (x y : ℕ) → x < y → nat_cmp x y ≡ Less
-cmp_less x y h = grind (arith, nat_tests)
-
-cmp_equal : (x y : ℕ) → x ≡ y → nat_cmp x y ≡ Equal
-cmp_equal x y h = grind (arith, nat_tests)
-
-cmp_greater : (x y : ℕ) → y < x → nat_cmp x y ≡ Greater
-cmp_greater x y h = grind (arith, nat_tests)
+use Rattle.humantime.proofs.Dates.Years.{valid_told}
+use Rattle.humantime.proofs.Timestamps.Reading.Fractions.{nanos_bound, digits_told}
 
 -- two pairs of numbers that are compared alike
 abbrev Alike : ℕ → ℕ → ℕ → ℕ → Type 0
 Alike m n x y = (m < n → x < y) × (m ≡ n → x ≡ y) × (n < m → y < x)
 
 cmp_alike : (m n x y : ℕ) → Alike m n x y → nat_cmp m n ≡ nat_cmp x y
-cmp_alike m n x y h = by_order (cases_order m n) where
-  by_order : (m ≡ n) ⊎ ((m < n) ⊎ (n < m)) → nat_cmp m n ≡ nat_cmp x y
-  by_order (inl e) = cmp_equal m n e ∙ sym (cmp_equal x y (h.1 e))
-  by_order (inr (inl less)) = cmp_less m n less ∙ sym (cmp_less x y (h.0 less))
-  by_order (inr (inr more)) = cmp_greater m n more ∙ sym (cmp_greater x y (h.2 more))
+cmp_alike m n x y h = grind (arith, common_steps)
 
 then_equal : (o : Ordering) → ordering_then o Equal ≡ o
-then_equal Less = refl
-then_equal Equal = refl
-then_equal Greater = refl
+then_equal o = grind (arith, common_steps)
+
+-- what is compared first decides, unless it is equal
+step_cmp : (m n x y : ℕ) (c o : Ordering) → (m < n → x < y) → (n < m → y < x) → (m ≡ n → c ≡ ordering_then (nat_cmp x y) o)
+    → ordering_then (nat_cmp m n) c ≡ ordering_then (nat_cmp x y) o
+step_cmp m n x y c o less more same = grind (arith, nat_tests)
 
 below : (w m n x y : ℕ) → x < w → m < n → m * w + x < n * w + y
-below w m n x y h less =
-    let more : (m + 1) * w ≤ n * w = mul-le-mul_right w (omega arith) in
-    let next : (m + 1) * w ≡ m * w + w = grind arith in
-    omega arith
+below w m n x y h less = grind (arith, common_steps)
 
 -- a number and what is counted below it, in units of which it has w
 mixed_cmp : (w m n x y : ℕ) (o : Ordering) → x < w → y < w
     → ordering_then (nat_cmp m n) (ordering_then (nat_cmp x y) o) ≡ ordering_then (nat_cmp (m * w + x) (n * w + y)) o
-mixed_cmp w m n x y o hx hy = by_order (cases_order m n) where
-  by_order : (m ≡ n) ⊎ ((m < n) ⊎ (n < m)) → ordering_then (nat_cmp m n) (ordering_then (nat_cmp x y) o) ≡ ordering_then (nat_cmp (m * w + x) (n * w + y)) o
-  by_order (inl e) =
-      let units : m * w ≡ n * w = ap (λ (k : ℕ). k * w) e in
-      rw (cmp_equal m n e) (ap (λ (c : Ordering). ordering_then c o) (cmp_alike x y (m * w + x) (n * w + y) ((λ h. omega arith), (λ h. omega arith), (λ h. omega arith))))
-  by_order (inr (inl less)) = rw (cmp_less m n less, cmp_less (m * w + x) (n * w + y) (below w m n x y hx less)) refl
-  by_order (inr (inr more)) = rw (cmp_greater m n more, cmp_greater (m * w + x) (n * w + y) (below w n m y x hy more)) refl
-
-shift_cmp : (m n : ℕ) → nat_cmp (48 + m) (48 + n) ≡ nat_cmp m n
-shift_cmp m n = cmp_alike (48 + m) (48 + n) m n ((λ h. omega arith), (λ h. omega arith), (λ h. omega arith))
+mixed_cmp w m n x y o hx hy =
+    step_cmp m n (m * w + x) (n * w + y) (ordering_then (nat_cmp x y) o) o (below w m n x y hx) (below w n m y x hy) (λ e.
+    let units : m * w ≡ n * w = ap (λ (k : ℕ). k * w) e in
+    ap (λ (c : Ordering). ordering_then c o) (cmp_alike x y (m * w + x) (n * w + y) ((λ h. omega arith), (λ h. omega arith), (λ h. omega arith))))
 
 two_cmp : (m n : ℕ) (xs ys : List ℕ)
     → slice_cmp nat_cmp (two_digits m ++ xs) (two_digits n ++ ys) ≡ ordering_then (nat_cmp m n) (slice_cmp nat_cmp xs ys)
-two_cmp m n xs ys =
-    let o = slice_cmp nat_cmp xs ys in
-    let left : m / 10 * 10 + m % 10 ≡ m = omega arith in
-    let right : n / 10 * 10 + n % 10 ≡ n = omega arith in
-    rw (shift_cmp (m / 10) (n / 10), shift_cmp (m % 10) (n % 10))
-    (rw (left, right) at (mixed_cmp 10 (m / 10) (n / 10) (m % 10) (n % 10) o (omega arith) (omega arith)))
+two_cmp m n xs ys = grind (arith, common_steps)
 
 four_cmp : (m n : ℕ) (xs ys : List ℕ)
     → slice_cmp nat_cmp (four_digits m ++ xs) (four_digits n ++ ys) ≡ ordering_then (nat_cmp m n) (slice_cmp nat_cmp xs ys)
-four_cmp m n xs ys =
-    let o = slice_cmp nat_cmp xs ys in
-    let a : m / 1000 * 10 + m / 100 % 10 ≡ m / 100 = omega arith in
-    let b : n / 1000 * 10 + n / 100 % 10 ≡ n / 100 = omega arith in
-    let c : m / 100 * 10 + m / 10 % 10 ≡ m / 10 = omega arith in
-    let d : n / 100 * 10 + n / 10 % 10 ≡ n / 10 = omega arith in
-    let e : m / 10 * 10 + m % 10 ≡ m = omega arith in
-    let f : n / 10 * 10 + n % 10 ≡ n = omega arith in
-    let units = ordering_then (nat_cmp (m % 10) (n % 10)) o in
-    let tens = ordering_then (nat_cmp (m / 10 % 10) (n / 10 % 10)) units in
-    rw (shift_cmp (m / 1000) (n / 1000), shift_cmp (m / 100 % 10) (n / 100 % 10), shift_cmp (m / 10 % 10) (n / 10 % 10), shift_cmp (m % 10) (n % 10))
-    ((rw (a, b) at (mixed_cmp 10 (m / 1000) (n / 1000) (m / 100 % 10) (n / 100 % 10) tens (omega arith) (omega arith)))
-    ∙ ((rw (c, d) at (mixed_cmp 10 (m / 100) (n / 100) (m / 10 % 10) (n / 10 % 10) units (omega arith) (omega arith)))
-    ∙ (rw (e, f) at (mixed_cmp 10 (m / 10) (n / 10) (m % 10) (n % 10) o (omega arith) (omega arith)))))
+four_cmp m n xs ys = grind (arith, common_steps)
 
 after_cmp : (ds : List ℕ) (m n : ℕ) → nat_cmp m n ≡ nat_cmp (digits_value_after 10 m ds) (digits_value_after 10 n ds)
 after_cmp [] m n = refl
-after_cmp (c ∷ cs) m n =
-    cmp_alike m n (m * 10 + digit_value c) (n * 10 + digit_value c) ((λ h. omega arith), (λ h. omega arith), (λ h. omega arith))
-    ∙ after_cmp cs (m * 10 + digit_value c) (n * 10 + digit_value c)
+after_cmp (c ∷ cs) m n = grind (arith, common_steps, (after_cmp cs (m * 10 + digit_value c) (n * 10 + digit_value c)))
 
 -- equally many digits, filled with others
 filled_cmp : (k : ℕ) (ds es zs ws : List ℕ) (m n : ℕ) → AreDigits ds → AreDigits es → length ds ≡ length es → length ds ≤ k
@@ -107,15 +65,7 @@ filled_cmp k [] [] zs ws m n d e long room = ap (λ (c : Ordering). ordering_the
 filled_cmp k [] (y ∷ ys) zs ws m n d e long room = absurd (omega arith)
 filled_cmp k (x ∷ xs) [] zs ws m n d e long room = absurd (omega arith)
 filled_cmp zero (x ∷ xs) (y ∷ ys) zs ws m n d e long room = absurd (omega arith)
-filled_cmp (suc k) (x ∷ xs) (y ∷ ys) zs ws m n d e long room =
-    let first = digit_value_digit x d.0 in
-    let second = digit_value_digit y e.0 in
-    let digits : nat_cmp x y ≡ nat_cmp (digit_value x) (digit_value y) = cmp_alike x y (digit_value x) (digit_value y) ((λ h. omega arith), (λ h. omega arith), (λ h. omega arith)) in
-    let low : digit_value x < 10 = omega (arith, d.0) in
-    let high : digit_value y < 10 = omega (arith, e.0) in
-    rw digits
-    (mixed_cmp 10 m n (digit_value x) (digit_value y) (slice_cmp nat_cmp (xs ++ ws) (ys ++ ws)) low high
-    ∙ filled_cmp k xs ys zs ws (m * 10 + digit_value x) (n * 10 + digit_value y) d.1 e.1 (omega arith) (omega arith))
+filled_cmp (suc k) (x ∷ xs) (y ∷ ys) zs ws m n d e long room = grind (arith, common_steps, (filled_cmp k xs ys zs ws (m * 10 + digit_value x) (n * 10 + digit_value y) d.1 e.1 (omega arith) (omega arith)))
 
 nanos_cmp : (ds es ws : List ℕ) → AreDigits ds → AreDigits es → length ds ≡ length es → length ds ≤ 9
     → slice_cmp nat_cmp (ds ++ ws) (es ++ ws) ≡ ordering_then (nat_cmp (fraction_nanos ds) (fraction_nanos es)) (slice_cmp nat_cmp ws ws)
@@ -124,53 +74,20 @@ nanos_cmp ds es ws d e long room = filled_cmp 9 ds es (codes "000000000") ws 0 0
 
 fraction_cmp : (k : ℕ) (p q : Option (List ℕ)) → k ≤ 9 → HasPlaces p k → HasPlaces q k → AreDigits (fraction_digits p) → AreDigits (fraction_digits q)
     → slice_cmp nat_cmp (fraction_text p ++ codes "Z") (fraction_text q ++ codes "Z") ≡ nat_cmp (fraction_nanos (fraction_digits p)) (fraction_nanos (fraction_digits q))
-fraction_cmp zero p q small h g d e = rw (h, g) (sym (cmp_equal (fraction_nanos []) (fraction_nanos []) refl))
-fraction_cmp (suc k) p q small h g d e =
-    let first : AreDigits h.0 = subst (λ (o : Option (List ℕ)). AreDigits (fraction_digits o)) h.1 d in
-    let second : AreDigits g.0 = subst (λ (o : Option (List ℕ)). AreDigits (fraction_digits o)) g.1 e in
-    rw (h.1, g.1) (nanos_cmp h.0 g.0 (codes "Z") first second (h.2 ∙ sym g.2) (omega (arith, h.2)) ∙ then_equal (nat_cmp (fraction_nanos h.0) (fraction_nanos g.0)))
+fraction_cmp k p q h e f g i = grind (arith, common_steps, nanos_cmp)
 
 -- dates and their days
 day_cmp : (a b : Date) (o : Ordering) → IsDate a → IsDate b
     → ordering_then (nat_cmp a.year b.year) (ordering_then (nat_cmp a.month b.month) (ordering_then (nat_cmp a.day b.day) o))
     ≡ ordering_then (nat_cmp (day_of a) (day_of b)) o
-day_cmp a b o va vb = by_year (cases_order a.year b.year) where
-  left : AreWithin a.year a.month a.day
-  left = valid_told a.year a.month a.day va
-
-  right : AreWithin b.year b.month b.day
-  right = valid_told b.year b.month b.day vb
-
-  by_day : a.year ≡ b.year → a.month ≡ b.month → ordering_then (nat_cmp a.day b.day) o ≡ ordering_then (nat_cmp (day_of a) (day_of b)) o
-  by_day y m =
-      let years : days_of_years (a.year - 1970) ≡ days_of_years (b.year - 1970) = ap (λ (k : ℕ). days_of_years (k - 1970)) y in
-      let months : days_of_months a.year (a.month - 1) ≡ days_of_months b.year (b.month - 1) = λ i. days_of_months (y i) (m i - 1) in
-      ap (λ (c : Ordering). ordering_then c o) (cmp_alike a.day b.day (day_of a) (day_of b)
-      ((λ h. omega (arith, left.2.0, right.2.0)), (λ h. omega (arith, left.2.0, right.2.0)), (λ h. omega (arith, left.2.0, right.2.0))))
-
-  by_month : a.year ≡ b.year → (a.month ≡ b.month) ⊎ ((a.month < b.month) ⊎ (b.month < a.month))
-      → ordering_then (nat_cmp a.month b.month) (ordering_then (nat_cmp a.day b.day) o) ≡ ordering_then (nat_cmp (day_of a) (day_of b)) o
-  by_month y (inl m) = rw (cmp_equal a.month b.month m) (by_day y m)
-  by_month y (inr (inl less)) =
-      let years : days_of_years (a.year - 1970) ≡ days_of_years (b.year - 1970) = ap (λ (k : ℕ). days_of_years (k - 1970)) y in
-      let months : days_of_months a.year (b.month - 1) ≡ days_of_months b.year (b.month - 1) = ap (λ (k : ℕ). days_of_months k (b.month - 1)) y in
-      let before = before_month a.year a.month a.day left b.month less in
-      rw (cmp_less a.month b.month less, cmp_less (day_of a) (day_of b) (omega (arith, before))) refl
-  by_month y (inr (inr more)) =
-      let years : days_of_years (a.year - 1970) ≡ days_of_years (b.year - 1970) = ap (λ (k : ℕ). days_of_years (k - 1970)) y in
-      let months : days_of_months a.year (a.month - 1) ≡ days_of_months b.year (a.month - 1) = ap (λ (k : ℕ). days_of_months k (a.month - 1)) y in
-      let before = before_month b.year b.month b.day right a.month more in
-      rw (cmp_greater a.month b.month more, cmp_greater (day_of a) (day_of b) (omega (arith, before))) refl
-
-  by_year : (a.year ≡ b.year) ⊎ ((a.year < b.year) ⊎ (b.year < a.year))
-      → ordering_then (nat_cmp a.year b.year) (ordering_then (nat_cmp a.month b.month) (ordering_then (nat_cmp a.day b.day) o)) ≡ ordering_then (nat_cmp (day_of a) (day_of b)) o
-  by_year (inl y) = rw (cmp_equal a.year b.year y) (by_month y (cases_order a.month b.month))
-  by_year (inr (inl less)) =
-      let before = before_year a.year a.month a.day left b.year less in
-      rw (cmp_less a.year b.year less, cmp_less (day_of a) (day_of b) (omega (arith, before))) refl
-  by_year (inr (inr more)) =
-      let before = before_year b.year b.month b.day right a.year more in
-      rw (cmp_greater a.year b.year more, cmp_greater (day_of a) (day_of b) (omega (arith, before))) refl
+day_cmp a b o va vb =
+    let left = valid_told a.year a.month a.day va in
+    let right = valid_told b.year b.month b.day vb in
+    step_cmp a.year b.year (day_of a) (day_of b) _ o
+    (λ less. omega (arith, before_year a.year a.month a.day left b.year less)) (λ more. omega (arith, before_year b.year b.month b.day right a.year more)) (λ y.
+    step_cmp a.month b.month (day_of a) (day_of b) _ o
+    (λ less. grind (arith, before_month a.year a.month a.day left b.month less, y)) (λ more. grind (arith, before_month b.year b.month b.day right a.month more, y))
+    (λ m. step_cmp a.day b.day (day_of a) (day_of b) o o (λ less. grind (arith, left.2.0, y, m)) (λ more. grind (arith, right.2.0, y, m)) (λ d. grind (arith, nat_tests, y, m, d))))
 
 -- a text with these numbers in their places, and then this end
 abbrev clock_shape : ℕ → ℕ → ℕ → List ℕ → List ℕ
@@ -185,10 +102,7 @@ then_cmp m n o = ordering_then (nat_cmp m n) o
 clock_shape_cmp : (h i s h' i' s' : ℕ) (end end' : List ℕ)
     → slice_cmp nat_cmp (clock_shape h i s end) (clock_shape h' i' s' end')
     ≡ then_cmp h h' (then_cmp i i' (then_cmp s s' (slice_cmp nat_cmp end end')))
-clock_shape_cmp h i s h' i' s' end end' =
-    let second = two_cmp s s' end end' in
-    let minute = two_cmp i i' (codes ":" ++ two_digits s ++ end) (codes ":" ++ two_digits s' ++ end') ∙ ap (then_cmp i i') second in
-    two_cmp h h' (codes ":" ++ two_digits i ++ codes ":" ++ two_digits s ++ end) (codes ":" ++ two_digits i' ++ codes ":" ++ two_digits s' ++ end') ∙ ap (then_cmp h h') minute
+clock_shape_cmp h i s h' i' s' end end' = grind (arith, common_steps)
 
 shape_cmp : (y m d h i s y' m' d' h' i' s' : ℕ) (end end' : List ℕ)
     → slice_cmp nat_cmp (shape y m d h i s end) (shape y' m' d' h' i' s' end')
@@ -228,14 +142,14 @@ pub printed_order : (a b : ℤ) → InOrder a b
 printed_order a b k x y small p q =
     let f = p.fields in
     let g = q.fields in
-    let fraction = fraction_cmp k f.fraction g.fraction small p.places q.places p.weak.fraction q.weak.fraction in
+    let fraction = fraction_cmp k f.fraction g.fraction small p.places q.places (digits_told _ p.weak.fraction) (digits_told _ q.weak.fraction) in
     let text = shape_cmp f.date.year f.date.month f.date.day f.hour f.minute f.second g.date.year g.date.month g.date.day g.hour g.minute g.second
     (fraction_text f.fraction ++ codes "Z") (fraction_text g.fraction ++ codes "Z") in
     let day = day_cmp f.date g.date (then_cmp f.hour g.hour (then_cmp f.minute g.minute (then_cmp f.second g.second (nat_cmp (fraction_nanos (fraction_digits f.fraction)) (fraction_nanos (fraction_digits g.fraction)))))) p.weak.date q.weak.date in
     let clock = clock_cmp (day_of f.date) f.hour f.minute f.second (fraction_nanos (fraction_digits f.fraction))
     (day_of g.date) g.hour g.minute g.second (fraction_nanos (fraction_digits g.fraction))
-    p.weak.hour p.weak.minute p.second (nanos_bound _ p.weak.fraction)
-    q.weak.hour q.weak.minute q.second (nanos_bound _ q.weak.fraction) in
+    p.weak.hour p.weak.minute p.second (nanos_bound _ (digits_told _ p.weak.fraction))
+    q.weak.hour q.weak.minute q.second (nanos_bound _ (digits_told _ q.weak.fraction)) in
     let moments = pos_cmp (moment_of f) (moment_of g) ∙ (λ i. int_cmp (p.moment i) (q.moment i)) in
     (λ i. slice_cmp nat_cmp (shown_shape a k x p i) (shown_shape b k y q i))
     ∙ (text ∙ (rw fraction (day ∙ clock) ∙ moments))

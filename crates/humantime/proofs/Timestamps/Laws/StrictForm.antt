@@ -1,40 +1,32 @@
 -- A text in strict form is one in weak form with a `T` and a zone at its end.
-use Rattle.std.proofs.Common.{◌≡◌, ◌≢◌, ℕ, ◌+◌, ◌≤◌, List, [], ◌++◌, length, refl, sym, ap, subst, ◌∙◌, arith, length-append}
-use Rattle.std.specs.Prelude.{true, ◌&&◌, ◌==◌, codes, slice_index, nat_le}
+use Rattle.std.proofs.lemmas.Grind.{common_steps}
+use Rattle.std.proofs.Common.{◌≡◌, ◌≢◌, ℕ, List, [], ◌++◌, sym, ap, subst, ◌∙◌, arith}
+use Rattle.std.specs.Prelude.{true, slice_index}
 use Rattle.std.specs.List.{AllByRecursion}
-use Rattle.std.proofs.lemmas.Bool.{and_parts, and_from, or_left, or_right, eqb-true, eq-eqb, le-leb}
-use Rattle.humantime.specs.Timestamps.Fields.{Separator, Letter_T, Space, Zone, Nothing, Letter_Z, Offset, Fields, separator_byte, fraction_text, zone_text, time_text, fields_text, IsWeak, IsStrict}
-use Rattle.humantime.specs.Timestamps.Checks.{ends_in_zone, is_complete}
+use Rattle.humantime.specs.Timestamps.Fields.{Separator, Letter_T, Zone, No_zone, Fields, separator_byte, fraction_text, zone_text, date_time_text, IsWeak, IsStrict}
+use Rattle.humantime.specs.Timestamps.Checks.{ends_in_zone, has_marks}
 use Rattle.humantime.specs.Laws.Timestamps.{StrictIsWeak}
 use Rattle.humantime.proofs.Timestamps.Reading.Bytes.{holds_before_zone, all_append}
-use Rattle.humantime.proofs.Timestamps.Reading.Ends.{IsPlain, plain_bytes, plain_end, end_from}
+use Rattle.humantime.proofs.Timestamps.Reading.Ends.{IsPlain, plain_bytes, plain_end}
 
-has_zone : (b : List ℕ) (f : Fields) → IsWeak b f → ends_in_zone b ≡ true → f.zone ≢ Nothing
+has_zone : (b : List ℕ) (f : Fields) → IsWeak b f → ends_in_zone b ≡ true → f.zone ≢ No_zone
 has_zone b f w h none =
     let before = holds_before_zone IsPlain plain_bytes b f w in
-    let all : AllByRecursion IsPlain ((time_text f ++ fraction_text f.fraction) ++ []) = all_append IsPlain (time_text f ++ fraction_text f.fraction) [] before tt in
-    let shown : b ≡ (time_text f ++ fraction_text f.fraction) ++ [] = w.shown ∙ ap (λ (z : Zone). (time_text f ++ fraction_text f.fraction) ++ zone_text z) none in
+    let all : AllByRecursion IsPlain ((date_time_text f ++ fraction_text f.fraction) ++ []) = all_append IsPlain (date_time_text f ++ fraction_text f.fraction) [] before tt in
+    let shown : b ≡ (date_time_text f ++ fraction_text f.fraction) ++ [] = w.shown ∙ ap (λ (z : Zone). (date_time_text f ++ fraction_text f.fraction) ++ zone_text z) none in
     plain_end b (subst (AllByRecursion IsPlain) (sym shown) all) h
 
-zone_ends : (xs : List ℕ) (z : Zone) → z ≢ Nothing → ends_in_zone (xs ++ zone_text z) ≡ true
-zone_ends xs Nothing some = absurd (some refl)
-zone_ends xs Letter_Z some = or_left _ _ (end_from xs (codes "Z"))
-zone_ends xs Offset some = or_right _ _ (end_from xs (codes "+00:00"))
-
-zone_length : (z : Zone) → z ≢ Nothing → 1 ≤ length (zone_text z)
-zone_length Nothing some = absurd (some refl)
-zone_length Letter_Z some = omega arith
-zone_length Offset some = omega arith
+zone_ends : (xs : List ℕ) (z : Zone) → z ≢ No_zone → ends_in_zone (xs ++ zone_text z) ≡ true
+zone_ends xs z h = grind (arith, common_steps)
 
 letter_told : (s : Separator) → separator_byte s ≡ 84 → s ≡ Letter_T
-letter_told Letter_T e = refl
-letter_told Space e = absurd (omega arith)
+letter_told s h = grind (arith, common_steps)
 
 pub strict_is_weak : (b : List ℕ) → StrictIsWeak b
 strict_is_weak b f = (
   (λ s.
       let ten : slice_index b 10 ≡ 84 = ap (λ (t : List ℕ). slice_index t 10) s.weak.shown ∙ ap separator_byte s.separator in
-      let end = zone_ends (time_text f ++ fraction_text f.fraction) f.zone s.zone in
+      let end = zone_ends (date_time_text f ++ fraction_text f.fraction) f.zone s.zone in
       (s.weak, (ten, subst (λ (t : List ℕ). ends_in_zone t ≡ true) (sym s.weak.shown) end))),
   (λ p.
       let ten : separator_byte f.separator ≡ 84 = sym (ap (λ (t : List ℕ). slice_index t 10) p.0.shown) ∙ p.1.0 in
@@ -42,20 +34,10 @@ strict_is_weak b f = (
 )
 
 -- the check of the strict form
-pub strict_complete : (b : List ℕ) (f : Fields) → IsStrict b f → is_complete b ≡ true
-unfolding is_complete
-strict_complete b f s =
-    let marked = ((strict_is_weak b f).0 s).1 in
-    let zone = zone_length f.zone s.zone in
-    let whole : length (fields_text f) ≡ length (time_text f ++ fraction_text f.fraction) + length (zone_text f.zone) = length-append (time_text f ++ fraction_text f.fraction) (zone_text f.zone) in
-    let before : length (time_text f ++ fraction_text f.fraction) ≡ 19 + length (fraction_text f.fraction) = length-append (time_text f) (fraction_text f.fraction) in
-    let shown : length b ≡ length (fields_text f) = ap length s.weak.shown in
-    let long : nat_le 20 (length b) ≡ true = le-leb 20 (length b) (omega arith) in
-    and_from _ _ (and_from _ _ long (eq-eqb _ _ marked.0)) marked.1
+pub strict_complete : (b : List ℕ) (f : Fields) → IsStrict b f → has_marks b ≡ true
+unfolding has_marks
+strict_complete b f s = grind (arith, common_steps, strict_is_weak)
 
-pub complete_strict : (b : List ℕ) (f : Fields) → is_complete b ≡ true → IsWeak b f → IsStrict b f
-unfolding is_complete
-complete_strict b f h w =
-    let end = and_parts (nat_le 20 (length b) && (slice_index b 10 == 84)) (ends_in_zone b) h in
-    let ten = and_parts (nat_le 20 (length b)) (slice_index b 10 == 84) end.0 in
-    (strict_is_weak b f).1 (w, (eqb-true _ _ ten.1, end.1))
+pub complete_strict : (b : List ℕ) (f : Fields) → has_marks b ≡ true → IsWeak b f → IsStrict b f
+unfolding has_marks
+complete_strict b f h w = grind (arith, common_steps, strict_is_weak)

@@ -1,10 +1,10 @@
 -- The digits of a fraction: the first k of nine are the nanoseconds, cut to k digits.
-use Rattle.std.proofs.Common.{◌≡◌, ℕ, zero, suc, ◌+◌, ◌-◌, ◌*◌, ◌/◌, ◌%◌, ◌^◌, ◌<◌, ◌≤◌, List, [], ◌∷◌, take, refl, sym, ap, subst, ◌∙◌, arith}
+use Rattle.std.proofs.lemmas.Grind.{common_steps}
+use Rattle.std.proofs.Common.{◌≡◌, ℕ, zero, suc, ◌+◌, ◌-◌, ◌*◌, ◌/◌, ◌%◌, ◌^◌, ◌<◌, ◌≤◌, List, [], ◌∷◌, take, sym, ap, subst, ◌∙◌, arith}
 use Rattle.std.proofs.Math.Nat.{pow-suc, mod-le, mul-add-mod_self_right, one-le-pow, mul_assoc}
-use Rattle.std.proofs.lemmas.List.{length-take-le}
 use Rattle.std.proofs.lemmas.Nat.{pow-add, div-add-mod', mod_below, mul-add-lt, mod-mul-add}
-use Rattle.humantime.specs.Timestamps.Digits.{AreDigits}
-use Rattle.humantime.specs.Timestamps.Fields.{fraction_digits, fraction_nanos}
+use Rattle.humantime.specs.References.Timestamps.Reading.{AreDigits, fraction_digits}
+use Rattle.humantime.specs.Timestamps.Fields.{fraction_nanos}
 use Rattle.humantime.specs.Timestamps.Printed.{HasPlaces}
 use Rattle.humantime.specs.References.Timestamps.Printing.{nine_digits, cut_fraction}
 use Rattle.humantime.specs.References.Timestamps.Fractions.{add_digits}
@@ -16,18 +16,13 @@ last_digits zero n = []
 last_digits (suc j) n = (48 + n / 10 ^ j % 10) ∷ last_digits j n
 
 power_some : (j : ℕ) → 0 < 10 ^ j
-power_some j =
-    let some : 1 ≤ 10 ^ j = one-le-pow j 10 (omega arith) in
-    omega arith
+power_some j = grind (arith, common_steps, one-le-pow)
 
 spread : (a b p : ℕ) → (a * 10 + b) * p ≡ a * (p * 10) + p * b
 spread a b p = grind arith
 
 joined : (a b p r q n : ℕ) → a * 10 + b ≡ q → q * p + r ≡ n → a * (p * 10) + (p * b + r) ≡ n
-joined a b p r q n tens whole =
-    let split : (a * 10 + b) * p + r ≡ n = rw tens whole in
-    let parts : a * (p * 10) + p * b + r ≡ n = rw (spread a b p) at split in
-    omega arith
+joined a b p r q n tens whole = grind (arith, common_steps, spread)
 
 -- one digit more
 digit_more : (n p : ℕ) → 0 < p → n % (p * 10) ≡ p * (n / p % 10) + n % p
@@ -45,9 +40,7 @@ back d = omega arith
 
 -- the first k of the last j digits, each with its weight, and what is left
 sum_of_digits : (k j n a : ℕ) → k ≤ j → add_digits a (10 ^ j / 10) (take k (last_digits j n)) + n % 10 ^ (j - k) ≡ a + n % 10 ^ j
-sum_of_digits zero j n a h =
-    let same : j - 0 ≡ j = omega arith in
-    rw same refl
+sum_of_digits zero j n a h = grind (arith, common_steps)
 sum_of_digits (suc k) zero n a h = absurd (omega arith)
 sum_of_digits (suc k) (suc j) n a h =
     let d = n / 10 ^ j % 10 in
@@ -62,12 +55,7 @@ sum_of_digits (suc k) (suc j) n a h =
       summed a b c m e = omega arith
 
 nine_is : (n : ℕ) → n < 1_000_000_000 → last_digits 9 n ≡ nine_digits n
-nine_is n h =
-    let first : n / 100_000_000 % 10 ≡ n / 100_000_000 = omega arith in
-    let last : n / 1 % 10 ≡ n % 10 = omega arith in
-    λ i. (48 + first i) ∷ (48 + n / 10_000_000 % 10) ∷ (48 + n / 1_000_000 % 10)
-    ∷ (48 + n / 100_000 % 10) ∷ (48 + n / 10_000 % 10) ∷ (48 + n / 1_000 % 10)
-    ∷ (48 + n / 100 % 10) ∷ (48 + n / 10 % 10) ∷ (48 + last i) ∷ []
+nine_is n h = grind (arith, common_steps)
 
 digit_in : (d : ℕ) → d ≤ 9 → (48 ≤ 48 + d) × (48 + d ≤ 57)
 digit_in d h = (omega arith, omega arith)
@@ -81,22 +69,16 @@ first_are_digits : (k n : ℕ) → n < 1_000_000_000 → AreDigits (take k (nine
 first_are_digits k n h = subst (λ (ds : List ℕ). AreDigits (take k ds)) (nine_is n h) (last_are_digits k 9 n)
 
 fraction_is : (k n : ℕ) → fraction_digits (cut_fraction n k) ≡ take k (nine_digits n)
-fraction_is zero n = refl
-fraction_is (suc k) n = refl
+fraction_is k n = grind (arith, common_steps)
 
 pub shown_digits : (k n : ℕ) → n < 1_000_000_000 → AreDigits (fraction_digits (cut_fraction n k))
 shown_digits k n h = rw (fraction_is k n) (first_are_digits k n h)
 
 pub shown_places : (k n : ℕ) → k ≤ 9 → HasPlaces (cut_fraction n k) k
-shown_places zero n h = refl
-shown_places (suc k) n h = (take (suc k) (nine_digits n), refl, length-take-le (suc k) (nine_digits n) h)
+shown_places k n h = grind (arith, common_steps)
 
 pub shown_nanos : (k n : ℕ) → k ≤ 9 → n < 1_000_000_000 → fraction_nanos (fraction_digits (cut_fraction n k)) ≡ n - n % 10 ^ (9 - k)
-shown_nanos k n small h =
-    let whole : n % 1_000_000_000 ≡ n = omega arith in
-    let sum : add_digits 0 100_000_000 (take k (last_digits 9 n)) + n % 10 ^ (9 - k) ≡ 0 + n % 1_000_000_000 = sum_of_digits k 9 n 0 small in
-    let nine : add_digits 0 100_000_000 (take k (nine_digits n)) + n % 10 ^ (9 - k) ≡ 0 + n % 1_000_000_000 = rw (nine_is n h) at sum in
-    ap fraction_nanos (fraction_is k n) ∙ (nanos_added (take k (nine_digits n)) (first_are_digits k n h) ∙ omega arith)
+shown_nanos k n small h = grind (arith, common_steps, (rw (nine_is n h) at (sum_of_digits k 9 n 0 small)), nanos_added, first_are_digits)
 
 -- cutting a moment cuts its nanoseconds
 pub cut_nanos : (k s n : ℕ) → k ≤ 9

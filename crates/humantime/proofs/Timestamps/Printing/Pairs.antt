@@ -1,7 +1,8 @@
 -- The table of the numbers below 100 in two digits.
+use Rattle.std.proofs.lemmas.Grind.{common_steps}
 use Rattle.std.proofs.Common.{◌≡◌, ℕ, zero, suc, ◌+◌, ◌*◌, ◌/◌, ◌%◌, ◌<◌, ◌≤◌, List, [], ◌∷◌, ◌++◌, take, drop, length, get_or, refl, ap, arith}
 use Rattle.std.specs.Prelude.{Bool, true, false, ◌&&◌, ◌==◌, codes, slice_set}
-use Rattle.std.proofs.lemmas.Bool.{and_parts, eqb-true}
+use Rattle.std.proofs.lemmas.Bool.{and_parts}
 
 abbrev pairs : List ℕ
 pairs = codes "00010203040506070809101112131415161718192021222324252627282930313233343536373839404142434445464748495051525354555657585960616263646566676869707172737475767778798081828384858687888990919293949596979899"
@@ -20,11 +21,7 @@ record IsPairAt (xs : List ℕ) (i n : ℕ) : Type 0 where
 pair_at : (xs : List ℕ) (k i : ℕ) → are_pairs k xs ≡ true → i * 2 < length xs → IsPairAt xs (i * 2) (k + i)
 pair_at [] k i h within = absurd (omega arith)
 pair_at (a ∷ []) k i h within = absurd (cc)
-pair_at (a ∷ b ∷ rest) k zero h within =
-    let p = and_parts ((a == 48 + k / 10) && (b == 48 + k % 10)) (are_pairs (suc k) rest) h in
-    let q = and_parts (a == 48 + k / 10) (b == 48 + k % 10) p.0 in
-    let same : k + 0 ≡ k = omega arith in
-    rw same (record { tens = eqb-true _ _ q.0; ones = eqb-true _ _ q.1 })
+pair_at (a ∷ b ∷ rest) k zero h within = grind (arith, common_steps)
 pair_at (a ∷ b ∷ rest) k (suc i) h within =
     let p = and_parts ((a == 48 + k / 10) && (b == 48 + k % 10)) (are_pairs (suc k) rest) h in
     let next : suc i * 2 ≡ suc (suc (i * 2)) = omega arith in
@@ -42,9 +39,7 @@ pub tens_at : (n i : ℕ) → i ≡ 2 * n → n < 100 → get_or pairs i 0 ≡ 4
 tens_at n i e h = rw e ((pair_of n h).tens)
 
 pub ones_at : (n i : ℕ) → i ≡ 2 * n + 1 → n < 100 → get_or pairs i 0 ≡ 48 + n % 10
-ones_at n i e h =
-    let next : 2 * n + 1 ≡ suc (2 * n) = omega arith in
-    rw (e, next) ((pair_of n h).ones)
+ones_at n i e h = grind (arith, common_steps, pair_of)
 
 set_at : (at : ℕ) (xs : List ℕ) (a b : ℕ) → suc at < length xs → slice_set (slice_set xs at a) (suc at) b ≡ take at xs ++ (a ∷ b ∷ []) ++ drop (suc (suc at)) xs
 set_at zero [] a b h = absurd (omega arith)

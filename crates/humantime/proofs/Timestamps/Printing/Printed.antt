@@ -1,31 +1,28 @@
 -- What the printer shows is the printed text of the moment, and the only one.
-use Rattle.std.proofs.Common.{◌≡◌, ◌≢◌, ℕ, zero, suc, ◌+◌, ◌-◌, ◌*◌, ◌/◌, ◌%◌, ◌^◌, ◌<◌, ◌≤◌, List, [], ◌∷◌, ◌++◌, refl, sym, ap, subst, ◌∙◌, arith}
-use Rattle.std.specs.Prelude.{◌↔◌, ◌==◌, Bool, true, false, min, Some, None, ℤ, pos, negsuc, nat_lt, IsAscii, if◌then◌else◌}
+use Rattle.std.proofs.lemmas.Grind.{common_steps}
+use Rattle.std.proofs.Common.{◌≡◌, ℕ, ◌+◌, ◌-◌, ◌*◌, ◌/◌, ◌%◌, ◌^◌, ◌<◌, ◌≤◌, List, refl, ap, subst, ◌∙◌, arith}
+use Rattle.std.specs.Prelude.{◌↔◌, Bool, true, false, Some, None, ℤ, pos, negsuc, nat_lt, IsAscii, if◌then◌else◌}
 use Rattle.std.specs.List.{AllByRecursion}
 use Rattle.std.proofs.Math.Nat.{mod-le}
 use Rattle.std.proofs.lemmas.Bool.{ltb-true, lt-ltb}
 use Rattle.std.proofs.lemmas.Int.{ints}
 use Rattle.std.proofs.lemmas.Option.{none-some, same_Some}
+use Rattle.humantime.proofs.Timestamps.Reading.Fractions.{digits_from}
 use Rattle.humantime.specs.declared.date.print.DateTime.{DateTime}
 use Rattle.humantime.specs.declared.date.print.Precision.{Precision}
-use Rattle.humantime.specs.declared.date.print.Precision.TheVariants.{Seconds, Millis, Micros, Nanos}
 use Rattle.humantime.specs.declared.date.print.Rfc3339Timestamp.{Rfc3339Timestamp}
-use Rattle.humantime.specs.Calendar.Dates.{day_of}
 use Rattle.humantime.specs.References.Calendar.DatesOfDays.{date_of}
-use Rattle.humantime.specs.Values.Moments.{nano_of}
-use Rattle.humantime.specs.Timestamps.Fields.{Letter_Z, Nothing, fields_text, time_text, fraction_text, zone_text, moment_of}
-use Rattle.humantime.specs.Timestamps.Printed.{cut, IsPrinted, IsPrintable, ReadsAs, OnePrinted}
+use Rattle.humantime.specs.Timestamps.Fields.{fields_text, moment_of}
+use Rattle.humantime.specs.Timestamps.Printed.{cut, IsPrinted, IsPrintable}
+use Rattle.humantime.specs.Laws.Timestamps.{ReadsAs, OnePrinted}
 use Rattle.humantime.specs.References.Timestamps.Printing.{places, moment_kept, places_kept, places_of, fields_shown, fields_at, IsDateTimeOf, IsTextOf, printed_text, moment_text}
-use Rattle.humantime.proofs.Timestamps.Reading.Bytes.{HoldsOfBytes, holds_before_zone, all_append}
+use Rattle.humantime.proofs.Timestamps.Reading.Bytes.{HoldsOfBytes, holds_before_zone}
 use Rattle.humantime.proofs.Dates.DatesOfDays.{date_of_is}
 use Rattle.humantime.proofs.Timestamps.Printing.Digits.{shown_digits, shown_places, shown_nanos, cut_nanos}
-use Rattle.humantime.proofs.Timestamps.Laws.OneText.{same_printed}
+use Rattle.humantime.proofs.Timestamps.Printing.OneText.{same_printed}
 
 pub places_most : (p : Precision) → places p ≤ 9
-places_most Seconds = omega arith
-places_most Millis = omega arith
-places_most Micros = omega arith
-places_most Nanos = omega arith
+places_most p = grind (arith, common_steps)
 
 -- no timestamp is printed with more than nine digits
 pub places_kept_bound : (x : Rfc3339Timestamp) → places_kept x ≤ 9
@@ -33,22 +30,14 @@ unfolding places_kept
 places_kept_bound x = places_most x.precision
 
 pub places_of_bound : (t : ℤ) → places_of t ≤ 9
-places_of_bound t = by_test (nano_of t == 0) where
-  by_test : (b : Bool) → (if b then 0 else 9) ≤ 9
-  by_test true = omega arith
-  by_test false = omega arith
+places_of_bound t = grind (arith, common_steps)
 
 cut_pos : (t k : ℕ) → pos (t - t % 10 ^ (9 - k)) ≡ cut (pos t) k
 cut_pos t k = omega (arith, ints, mod-le t (10 ^ (9 - k)))
 
 -- the parts of a moment's date and time show it, printed
 shown_moment : (x : DateTime) (t k : ℕ) → k ≤ 9 → IsDateTimeOf x (pos t) → moment_of (fields_shown x k) ≡ t - t % 10 ^ (9 - k)
-shown_moment x t k small h =
-    let nanos = shown_nanos k x.nanos small h.nanos in
-    let second : min x.second 59 ≡ x.second = omega (arith, h.second) in
-    let seconds = day_of x.date * 86_400 + x.hour * 3_600 + x.minute * 60 + x.second in
-    let whole : seconds * 1_000_000_000 + x.nanos ≡ t = cc in
-    rw (second, nanos) (cut_nanos k seconds x.nanos small ∙ ap (λ (m : ℕ). m - m % 10 ^ (9 - k)) whole)
+shown_moment x t k small h = grind (arith, common_steps, shown_nanos, cut_nanos)
 
 pub shown_printed : (x : DateTime) (t : ℤ) (k : ℕ) → k ≤ 9 → IsDateTimeOf x t → IsPrinted t k (fields_text (fields_shown x k))
 shown_printed x (negsuc t) k small h = absurd (let whole = h.sum in let no : ⊥ = cc in no)
@@ -60,7 +49,7 @@ shown_printed x (pos t) k small h = record {
     hour = h.hour;
     minute = h.minute;
     second = omega (arith, h.second);
-    fraction = shown_digits k x.nanos h.nanos;
+    fraction = digits_from _ (shown_digits k x.nanos h.nanos);
   };
   separator = refl;
   zone = refl;
@@ -79,27 +68,13 @@ printed_as x t k text moment digits p = subst (λ (n : ℕ). IsPrinted t n text)
 
 -- it is ASCII
 ascii_bytes : HoldsOfBytes (λ c. c < 128)
-ascii_bytes = record {
-  digit = λ c h. omega arith;
-  dash = omega arith;
-  colon = omega arith;
-  point = omega arith;
-  letter = omega arith;
-  space = omega arith;
-}
+ascii_bytes = grind (arith, common_steps)
 
 ascii_from : (bs : List ℕ) → AllByRecursion (λ c. c < 128) bs → IsAscii bs
-ascii_from [] h i = omega arith
-ascii_from (b ∷ bs) h zero = h.0
-ascii_from (b ∷ bs) h (suc i) = ascii_from bs h.1 i
+ascii_from bs h = grind (arith, common_steps)
 
 pub printed_ascii : (t : ℤ) (k : ℕ) (text : List ℕ) → IsPrinted t k text → IsAscii text
-printed_ascii t k text p =
-    let f = p.fields in
-    let before = holds_before_zone (λ c. c < 128) ascii_bytes text f p.weak in
-    let zone : AllByRecursion (λ c. c < 128) (zone_text f.zone) = rw p.zone (omega arith, tt) in
-    let all = all_append (λ c. c < 128) (time_text f ++ fraction_text f.fraction) (zone_text f.zone) before zone in
-    ascii_from text (subst (AllByRecursion (λ c. c < 128)) (sym p.weak.shown) all)
+printed_ascii t k text p = grind (arith, common_steps, (holds_before_zone (λ c. c < 128) ascii_bytes text p.fields p.weak), ascii_from)
 
 -- the date and the time of a moment of 1970 to 9999
 date_time_of : ℕ → DateTime
@@ -119,7 +94,6 @@ date_time_is : (t : ℕ) → t < 253_402_300_800 * 1_000_000_000 → IsDateTimeO
 unfolding date_time_of
 date_time_is t h =
     let secs = t / 1_000_000_000 in
-    let late : secs < 253_402_300_800 = omega arith in
     let date = date_of_is (secs / 86_400) (omega arith) in
     record {
       date = date.0;
@@ -170,12 +144,7 @@ printed_text_is x text h p = text_from (moment_kept x) (places_kept x) text (pla
 
 -- a printed text reads back as the moment, cut
 pub printed_reads : (t : ℤ) (k : ℕ) (text : List ℕ) → IsPrinted t k text → ReadsAs text (cut t k)
-printed_reads t k text p =
-    let zone : p.fields.zone ≢ Nothing = λ e. absurd (let same : Letter_Z ≡ Nothing = sym p.zone ∙ e in let no : ⊥ = cc in no) in
-    record {
-      strict = record { fields = p.fields; strict = record { weak = p.weak; separator = p.separator; zone = zone }; moment = sym p.moment };
-      weak = record { fields = p.fields; weak = p.weak; moment = sym p.moment };
-    }
+printed_reads t k text p = grind (arith, common_steps)
 
 pub one_printed : (t : ℤ) (k : ℕ) → k ≤ 9 → IsPrintable t → OnePrinted t k
 one_printed (negsuc t) k small h = absurd (omega (arith, ints, h.0))

@@ -3,8 +3,9 @@ use Rattle.std.proofs.Common.{ℕ, zero, suc, ◌+◌, ◌/◌, ◌%◌, ◌≤�
 use Rattle.std.specs.Prelude.{Option, Some, None}
 use Rattle.std.specs.Int.{IsInRange}
 use Rattle.std.specs.List.{AllByRecursion}
-use Rattle.humantime.specs.Timestamps.Digits.{AreDigits}
-use Rattle.humantime.specs.Timestamps.Fields.{Separator, Letter_T, Space, Fields, separator_byte, fraction_text, fraction_digits, time_text, IsWeak}
+use Rattle.humantime.proofs.Timestamps.Reading.Fractions.{digits_told}
+use Rattle.humantime.specs.References.Timestamps.Reading.{AreDigits, fraction_digits}
+use Rattle.humantime.specs.Timestamps.Fields.{Separator, Letter_T, Space, Fields, separator_byte, fraction_text, date_time_text, IsWeak}
 use Rattle.humantime.proofs.Dates.Years.{valid_told}
 use Rattle.humantime.proofs.Timestamps.Reading.Passed.{month_most}
 
@@ -54,7 +55,7 @@ four_hold P h n small = (
 
 -- of all bytes before the zone
 pub holds_before_zone : (P : ℕ → Type 0) → HoldsOfBytes P → (text : List ℕ) (f : Fields) → IsWeak text f
-    → AllByRecursion P (time_text f ++ fraction_text f.fraction)
+    → AllByRecursion P (date_time_text f ++ fraction_text f.fraction)
 holds_before_zone P p text f w =
     let most = month_most f.date.year f.date.month in
     let date = valid_told f.date.year f.date.month f.date.day w.date in
@@ -65,5 +66,5 @@ holds_before_zone P p text f w =
     let h = two_hold P p f.hour (omega (arith, w.hour)) in
     let i = two_hold P p f.minute (omega (arith, w.minute)) in
     let n = two_hold P p f.second (omega (arith, w.second)) in
-    let q = fraction_holds P p f.fraction w.fraction in
+    let q = fraction_holds P p f.fraction (digits_told _ w.fraction) in
     (y.0, (y.1, (y.2, (y.3, (p.dash, (m.0, (m.1, (p.dash, (d.0, (d.1, (s, (h.0, (h.1, (p.colon, (i.0, (i.1, (p.colon, (n.0, (n.1, q)))))))))))))))))))

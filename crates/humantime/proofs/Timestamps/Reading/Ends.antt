@@ -1,91 +1,45 @@
 -- The zone at the end of a text.
-use Rattle.std.proofs.Common.{◌≡◌, ◌≢◌, ℕ, suc, ◌+◌, ◌-◌, ◌*◌, ◌<◌, ◌≤◌, ◌⊎◌, inl, inr, List, [], ◌∷◌, ◌++◌, length, get_or, take, drop, refl, sym, ap, subst, ◌∙◌, append-nil, append_assoc, length-drop, Fits, w8, arith}
-use Rattle.std.specs.Prelude.{Bool, true, false, ◌&&◌, ◌||◌, ◌==◌, codes, nat_eq, nat_lt, slice_index, if◌then◌else◌}
+use Rattle.std.proofs.lemmas.Grind.{common_steps}
+use Rattle.std.proofs.Common.{◌≡◌, ◌≢◌, ℕ, ◌+◌, ◌-◌, ◌*◌, ◌<◌, ◌≤◌, List, [], ◌∷◌, ◌++◌, length, get_or, take, drop, sym, ap, ◌∙◌, append_assoc, Fits, w8, arith}
+use Rattle.std.specs.Prelude.{true, false, ◌&&◌, ◌==◌, codes, nat_eq, nat_lt, slice_index}
 use Rattle.std.specs.List.{AllByRecursion, ends_with}
 use Rattle.std.specs.Str.{bytes_eq}
-use Rattle.std.proofs.Math.Seq.{drop-cons}
-use Rattle.std.proofs.lemmas.Bool.{or_cases}
-use Rattle.std.proofs.lemmas.Bool.Decides.{nat_tests, same_from_decides}
-use Rattle.std.proofs.lemmas.List.{drop_all, take_rest}
-use Rattle.std.proofs.lemmas.List.Prefix.{end_rest}
-use Rattle.std.proofs.lemmas.Slice.Eq.{bytes_eq-Decides}
-use Rattle.humantime.specs.Timestamps.Fields.{Zone, Nothing, Letter_Z, Offset, zone_text}
+use Rattle.std.proofs.lemmas.Bool.Decides.{nat_tests}
+use Rattle.humantime.specs.Timestamps.Fields.{Zone, No_zone, Letter_Z, Zero_offset, zone_text}
 use Rattle.humantime.specs.Timestamps.Checks.{is_zone, ends_in_zone}
 use Rattle.humantime.specs.References.Timestamps.Reading.{zone_length}
-use Rattle.humantime.proofs.Timestamps.Reading.Bytes.{HoldsOfBytes, all_drop}
+use Rattle.humantime.proofs.Timestamps.Reading.Bytes.{HoldsOfBytes}
 
 -- ---- A text at the end of another
 
--- a text that ends with e has e at its end
-pub end_told : (b e : List ℕ) → ends_with nat_eq b e ≡ true → e ≡ drop (length b - length e) b
-end_told b e h = (bytes_eq-Decides e (drop (length b - length e) b)).0 h
-
-pub end_from : (xs e : List ℕ) → ends_with nat_eq (xs ++ e) e ≡ true
-end_from xs e = (bytes_eq-Decides e (drop (length (xs ++ e) - length e) (xs ++ e))).1 (sym (end_rest (xs ++ e) e xs refl))
-
-end_fits : (b e : List ℕ) → ends_with nat_eq b e ≡ true → length e ≤ length b
-end_fits b e h = omega (arith, ap length (end_told b e h), length-drop (length b - length e) b)
-
--- a shorter text does not
-short_end : (b e : List ℕ) → length b < length e → ends_with nat_eq b e ≡ false
-short_end b e short = by_test (ends_with nat_eq b e) refl where
-  by_test : (t : Bool) → ends_with nat_eq b e ≡ t → t ≡ false
-  by_test true h = absurd (let fits = end_fits b e h in let no : ⊥ = omega arith in no)
-  by_test false h = refl
-
 -- ---- `Z` and `+00:00`
 
-same_test : (c : ℕ) → (c == 90) ≡ ((90 == c) && true)
-same_test c = grind (arith, nat_tests)
-
 pub last_letter : (b : List ℕ) → 1 ≤ length b → (slice_index b (length b - 1) == 90) ≡ ends_with nat_eq b (codes "Z")
-last_letter b some =
-    let here : drop (length b - 1) b ≡ get_or b (length b - 1) 0 ∷ drop (suc (length b - 1)) b = drop-cons b (length b - 1) 0 (omega arith) in
-    let none : drop (suc (length b - 1)) b ≡ [] = drop_all (suc (length b - 1)) b (omega arith) in
-    rw (here, none) (same_test (get_or b (length b - 1) 0))
+last_letter b some = grind (arith, common_steps)
 
 pub no_letter : (b : List ℕ) → length b < 1 → false ≡ ends_with nat_eq b (codes "Z")
-no_letter b short = sym (short_end b (codes "Z") short)
+no_letter b short = grind (arith, common_steps)
 
 pub last_offset : (b : List ℕ) → bytes_eq (take (length b - (length b - 6)) (drop (length b - 6) b)) (codes "+00:00") ≡ ends_with nat_eq b (codes "+00:00")
-last_offset b =
-    let e = codes "+00:00" in
-    let tail = drop (length b - 6) b in
-    rw (take_rest b (length b - 6)) (same_from_decides _ _ (bytes_eq-Decides tail e) ((λ h. sym ((bytes_eq-Decides e tail).0 h)), (λ h. (bytes_eq-Decides e tail).1 (sym h))))
+last_offset b = grind (arith, common_steps)
 
 pub no_offset : (b : List ℕ) → length b < 6 → false ≡ ends_with nat_eq b (codes "+00:00")
-no_offset b short = sym (short_end b (codes "+00:00") short)
+no_offset b short = grind (arith, common_steps)
 
 -- ---- How long the zone is
 
-abbrev length_by : Bool → Bool → ℕ
-length_by letter offset = if letter then 1 else (if offset then 6 else 0)
-
 pub some_zone : (b : List ℕ) → nat_lt 0 (zone_length b) ≡ ends_in_zone b
 unfolding zone_length
-some_zone b = by_tests (ends_with nat_eq b (codes "Z")) (ends_with nat_eq b (codes "+00:00")) where
-  by_tests : (t u : Bool) → nat_lt 0 (length_by t u) ≡ (t || u)
-  by_tests true u = refl
-  by_tests false true = refl
-  by_tests false false = refl
+some_zone b = grind (arith, common_steps)
 
 pub zone_fits : (b : List ℕ) → zone_length b ≤ length b
 unfolding zone_length
-zone_fits b = by_tests (ends_with nat_eq b (codes "Z")) (ends_with nat_eq b (codes "+00:00")) refl refl where
-  by_tests : (t u : Bool) → ends_with nat_eq b (codes "Z") ≡ t → ends_with nat_eq b (codes "+00:00") ≡ u → length_by t u ≤ length b
-  by_tests true u h k = end_fits b (codes "Z") h
-  by_tests false true h k = end_fits b (codes "+00:00") k
-  by_tests false false h k = omega arith
+zone_fits b = grind (arith, common_steps)
 
 -- so many bytes are a zone
 pub zone_behind : (b : List ℕ) → is_zone (drop (length b - zone_length b) b) ≡ true
 unfolding zone_length
-zone_behind b = by_tests (ends_with nat_eq b (codes "Z")) (ends_with nat_eq b (codes "+00:00")) refl refl where
-  by_tests : (t u : Bool) → ends_with nat_eq b (codes "Z") ≡ t → ends_with nat_eq b (codes "+00:00") ≡ u
-      → is_zone (drop (length b - length_by t u) b) ≡ true
-  by_tests true u h k = subst (λ (z : List ℕ). is_zone z ≡ true) (end_told b (codes "Z") h) refl
-  by_tests false true h k = subst (λ (z : List ℕ). is_zone z ≡ true) (end_told b (codes "+00:00") k) refl
-  by_tests false false h k = subst (λ (z : List ℕ). is_zone z ≡ true) (sym (drop_all (length b - 0) b (omega arith))) refl
+zone_behind b = grind (arith, common_steps)
 
 -- ---- Bytes that are no zone
 
@@ -93,79 +47,30 @@ zone_behind b = by_tests (ends_with nat_eq b (codes "Z")) (ends_with nat_eq b (c
 abbrev pub IsPlain : ℕ → Type 0
 IsPlain c = (c ≢ 43) × (c ≢ 90)
 
-other_than : (c n : ℕ) → (c < n) ⊎ (n < c) → c ≢ n
-other_than c n (inl less) e = absurd (omega arith)
-other_than c n (inr more) e = absurd (omega arith)
-
 pub plain_bytes : HoldsOfBytes IsPlain
-plain_bytes = record {
-  digit = λ c h. (other_than c 43 (inr (omega arith)), other_than c 90 (inl (omega arith)));
-  dash = (other_than 45 43 (inr (omega arith)), other_than 45 90 (inl (omega arith)));
-  colon = (other_than 58 43 (inr (omega arith)), other_than 58 90 (inl (omega arith)));
-  point = (other_than 46 43 (inr (omega arith)), other_than 46 90 (inl (omega arith)));
-  letter = (other_than 84 43 (inr (omega arith)), other_than 84 90 (inl (omega arith)));
-  space = (other_than 32 43 (inl (omega arith)), other_than 32 90 (inl (omega arith)));
-}
-
-no_letter_end : (b : List ℕ) → AllByRecursion IsPlain b → ends_with nat_eq b (codes "Z") ≡ true → ⊥
-no_letter_end b plain z = (subst (AllByRecursion IsPlain) (sym (end_told b (codes "Z") z)) (all_drop IsPlain (length b - 1) b plain)).0.1 refl
-
-no_offset_end : (b : List ℕ) → AllByRecursion IsPlain b → ends_with nat_eq b (codes "+00:00") ≡ true → ⊥
-no_offset_end b plain offset = (subst (AllByRecursion IsPlain) (sym (end_told b (codes "+00:00") offset)) (all_drop IsPlain (length b - 6) b plain)).0.0 refl
+plain_bytes = grind (arith, common_steps)
 
 -- without a zone there is no `Z` and no `+`, so no zone at the end
 pub plain_end : (b : List ℕ) → AllByRecursion IsPlain b → ends_in_zone b ≡ true → ⊥
-plain_end b plain h = by_end (or_cases _ _ h) where
-  by_end : (ends_with nat_eq b (codes "Z") ≡ true) ⊎ (ends_with nat_eq b (codes "+00:00") ≡ true) → ⊥
-  by_end (inl z) = no_letter_end b plain z
-  by_end (inr offset) = no_offset_end b plain offset
-
-false_unless : (t : Bool) → (t ≡ true → ⊥) → t ≡ false
-false_unless true h = absurd (h refl)
-false_unless false h = refl
+plain_end b plain h = grind (arith, common_steps)
 
 -- an offset has no `Z` at its end
 offset_end : (xs : List ℕ) → ends_with nat_eq (xs ++ codes "+00:00") (codes "Z") ≡ true → ⊥
-offset_end xs z =
-    let b = xs ++ codes "+00:00" in
-    let split : b ≡ (xs ++ codes "+00:0") ++ codes "0" = sym (append_assoc xs (codes "+00:0") (codes "0")) in
-    let last : drop (length b - 1) b ≡ codes "0" = end_rest b (codes "0") (xs ++ codes "+00:0") split in
-    let same : codes "Z" ≡ codes "0" = end_told b (codes "Z") z ∙ last in
-    let no : ⊥ = cc in
-    no
+offset_end xs z = grind (arith, common_steps, (sym (append_assoc xs (codes "+00:0") (codes "0"))))
 
 -- behind plain bytes the zone is found
 pub zone_length_of : (xs : List ℕ) (z : Zone) → AllByRecursion IsPlain xs → zone_length (xs ++ zone_text z) ≡ length (zone_text z)
 unfolding zone_length
-zone_length_of xs Nothing plain =
-    let none : xs ++ [] ≡ xs = append-nil xs in
-    let letter = false_unless (ends_with nat_eq xs (codes "Z")) (no_letter_end xs plain) in
-    let offset = false_unless (ends_with nat_eq xs (codes "+00:00")) (no_offset_end xs plain) in
-    rw (none, letter, offset) refl
-zone_length_of xs Letter_Z plain =
-    let letter = end_from xs (codes "Z") in
-    rw letter refl
-zone_length_of xs Offset plain =
-    let letter = false_unless (ends_with nat_eq (xs ++ codes "+00:00") (codes "Z")) (offset_end xs) in
-    let offset = end_from xs (codes "+00:00") in
-    rw (letter, offset) refl
+zone_length_of xs No_zone plain = grind (arith, common_steps)
+zone_length_of xs Letter_Z plain = grind (arith, common_steps)
+zone_length_of xs Zero_offset plain = grind (arith, common_steps, offset_end)
 
 -- ---- `+00:00` as two numbers
 
 -- a list of six bytes
 six : (b : List ℕ) → length b ≡ 6
     → b ≡ get_or b 0 0 ∷ get_or b 1 0 ∷ get_or b 2 0 ∷ get_or b 3 0 ∷ get_or b 4 0 ∷ get_or b 5 0 ∷ []
-six b h =
-    let none : drop 6 b ≡ [] = drop_all 6 b (omega arith) in
-    rw (
-      ← none,
-      ← drop-cons b 5 0 (omega arith),
-      ← drop-cons b 4 0 (omega arith),
-      ← drop-cons b 3 0 (omega arith),
-      ← drop-cons b 2 0 (omega arith),
-      ← drop-cons b 1 0 (omega arith),
-      ← drop-cons b 0 0 (omega arith),
-    ) refl
+six b h = grind (arith, common_steps)
 
 -- four bytes, and two, are told by their numbers
 four_are : (a b c d : ℕ) → a < 256 → b < 256 → c < 256 → d < 256 → a + b * 256 + c * 65_536 + d * 16_777_216 ≡ 976_236_587

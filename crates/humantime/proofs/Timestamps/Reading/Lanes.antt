@@ -1,28 +1,15 @@
 -- Sixteen bytes tested at once are tested one by one.
-use Rattle.std.proofs.Common.{◌≡◌, ℕ, ◌+◌, ◌-◌, ◌*◌, ◌%◌, ◌^◌, ◌<◌, ◌≤◌, Bool, true, false, not, cond, eqb, ltb, ◌&&◌, List, [], ◌∷◌, map, length, get_or, take, Fits, w8, refl, sym, ap, ◌∙◌, arith, inl, inr}
+use Rattle.std.proofs.lemmas.Grind.{common_steps}
+use Rattle.std.proofs.Common.{◌≡◌, ℕ, ◌+◌, ◌-◌, ◌%◌, ◌^◌, ◌<◌, ◌≤◌, Bool, true, not, cond, eqb, ltb, ◌&&◌, List, [], ◌∷◌, map, length, get_or, take, Fits, w8, refl, ap, ◌∙◌, arith}
 use Rattle.std.specs.Char.{is_ascii_digit}
 use Rattle.std.specs.List.{list_all}
 use Rattle.std.specs.Prelude.{◌==◌, codes, slice_index}
-use Rattle.std.proofs.Math.Bool.{and_assoc, and-true, and-false}
-use Rattle.std.proofs.lemmas.Bool.{agree_below_at, eq-eqb, ne_eqb, cases_eq}
-use Rattle.std.proofs.lemmas.Simd.{mask_l-mod}
+use Rattle.std.proofs.Math.Bool.{and_assoc}
+use Rattle.std.proofs.lemmas.Bool.{agree_below_at}
 use lib.Lanes.{zip2, mask_l, top}
 use Rattle.humantime.specs.Timestamps.Checks.{has_signs, has_digits}
 use Rattle.humantime.specs.References.Timestamps.Reading.{has_two, has_front_digits, is_shaped_front, has_seconds, has_separator}
 use Rattle.humantime.proofs.Timestamps.Reading.Checks.{nineteen}
-
--- no bit is set exactly where no lane is
-none_set : (ms : List Bool) → eqb (mask_l ms) 0 ≡ list_all not ms
-none_set [] = refl
-none_set (true ∷ ms) = ne_eqb (1 + 2 * mask_l ms) 0 (λ h. absurd (omega arith))
-none_set (false ∷ ms) =
-    elim (cases_eq (mask_l ms) 0) [
-      | inl none ↦ eq-eqb (0 + 2 * mask_l ms) 0 (omega arith) ∙ sym (eq-eqb _ _ none) ∙ none_set ms
-      | inr some ↦ ne_eqb (0 + 2 * mask_l ms) 0 (λ h. some (omega arith)) ∙ sym (ne_eqb _ _ some) ∙ none_set ms
-    ]
-
-none_set_of : (ms : List Bool) → length ms ≤ 64 → eqb (mask_l ms % 2 ^ 64) 0 ≡ list_all not ms
-none_set_of ms few = ap (λ n. eqb n 0) (mask_l-mod ms 64 few) ∙ none_set ms
 
 -- the least byte of each place, and how far a byte may be above it
 abbrev least : List ℕ
@@ -57,10 +44,7 @@ any_lane a h = agree_below_at (λ c. not (top 7 (beyond 255 (above c 32)))) (λ 
 signs_last : (s t u a b c d e f g h i j k l : Bool)
     → (a && (b && (c && (d && (s && (e && (f && (t && (g && (h && (true && (i && (j && (u && (k && (l && true))))))))))))))))
     ≡ ((a && (b && (c && (d && (e && (f && (g && (h && (i && (j && (k && (l && true)))))))))))) && s && t && u)
-signs_last true true true a b c d e f g h i j k l = simp and-true
-signs_last false t u a b c d e f g h i j k l = simp and-false
-signs_last true false u a b c d e f g h i j k l = simp and-false
-signs_last true true false a b c d e f g h i j k l = simp and-false
+signs_last s t u a b c d e f g h i j k l = grind (arith, common_steps)
 
 lanes_are : (b : List ℕ) → 19 ≤ length b → ((k : ℕ) → Fits w8 (get_or b k 0)) → list_all not (lanes b) ≡ is_shaped_front b
 unfolding has_front_digits is_shaped_front
@@ -78,22 +62,12 @@ lanes_are b long fits =
     (shown 5) (shown 6) (shown 8) (shown 9) (shown 11) (shown 12) (shown 14) (shown 15)
 
 pub front_tested : (b : List ℕ) → 19 ≤ length b → ((k : ℕ) → Fits w8 (get_or b k 0)) → eqb (mask_l (lanes b) % 2 ^ 64) 0 ≡ is_shaped_front b
-front_tested b long fits =
-    let sixteen : length (lanes b) ≡ 16 = ap (λ (bytes : List ℕ). length (lanes bytes)) (nineteen b long) in
-    none_set_of (lanes b) (omega arith) ∙ lanes_are b long fits
-
--- the last two digits stand behind the first sixteen bytes
-digits_of_parts : (b : List ℕ) → has_digits b ≡ (has_front_digits b && has_two b 17)
-unfolding has_digits has_front_digits has_two
-digits_of_parts b = simp (and_assoc, and-true)
+front_tested b long fits = grind (arith, common_steps, lanes_are)
 
 -- the tests of the parts are those of the signs and of the digits
 joined : (digits p q r s two : Bool) → ((digits && p && q && r) && (s && two)) ≡ ((p && q && true && r && s) && (digits && two))
-joined true p q r s two = simp (and_assoc, and-true)
-joined false p q r s two = simp and-false
+joined digits p q r s two = grind (arith, common_steps, and_assoc)
 
 pub shape_of_parts : (b : List ℕ) → has_separator b ≡ true → (is_shaped_front b && has_seconds b) ≡ (has_signs b && has_digits b)
-unfolding is_shaped_front has_seconds has_separator has_signs
-shape_of_parts b separator =
-    rw (separator, digits_of_parts b)
-    (joined (has_front_digits b) (slice_index b 4 == 45) (slice_index b 7 == 45) (slice_index b 13 == 58) (slice_index b 16 == 58) (has_two b 17))
+unfolding has_digits has_front_digits has_seconds has_separator has_signs has_two is_shaped_front
+shape_of_parts b separator = grind (arith, common_steps, joined)

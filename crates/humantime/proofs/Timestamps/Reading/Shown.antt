@@ -1,39 +1,23 @@
 -- A text that fails no check shows the parts at its places.
-use Rattle.std.proofs.Common.{◌≡◌, ℕ, ◌+◌, ◌-◌, ◌*◌, ◌/◌, ◌%◌, ◌≤◌, List, ◌∷◌, length, ◌∙◌, arith}
+use Rattle.std.proofs.lemmas.Grind.{common_steps}
+use Rattle.std.proofs.Common.{◌≡◌, ℕ, ◌+◌, ◌/◌, ◌%◌, ◌≤◌, List, ◌∷◌, length, ◌∙◌, arith}
 use Rattle.std.specs.Prelude.{true, slice_index}
-use Rattle.std.specs.Int.{IsInRange}
 use Rattle.std.proofs.lemmas.Bool.{leb-true}
+use Rattle.humantime.proofs.Timestamps.Reading.Fractions.{digits_from}
 use Rattle.humantime.specs.Timestamps.Fields.{fields_text, IsWeak}
-use Rattle.humantime.specs.Timestamps.Checks.{number}
+use Rattle.humantime.specs.Timestamps.Checks.{number_between}
 use Rattle.humantime.specs.References.Timestamps.Reading.{has_two, fields_of}
 use Rattle.humantime.proofs.Timestamps.Reading.Checks.{Passes, signs_told, pairs_told, separator_shown, end_shown, fraction_at_digits, nineteen}
 use Rattle.humantime.proofs.Timestamps.Reading.Places.{has_two_told, number_of_two, number_of_four, in_range_told}
 
-two_shown : (a c n : ℕ) → IsInRange 48 57 a × IsInRange 48 57 c → n ≡ (a - 48) * 10 + (c - 48) → (a ≡ 48 + n / 10) × (c ≡ 48 + n % 10)
-two_shown a c n h e = (omega arith, omega arith)
-
-digits_shown : (p q r s y : ℕ) → p ≤ 9 → q ≤ 9 → r ≤ 9 → s ≤ 9 → y ≡ p * 1000 + q * 100 + r * 10 + s
-    → (p ≡ y / 1000) × (q ≡ y / 100 % 10) × (r ≡ y / 10 % 10) × (s ≡ y % 10)
-digits_shown p q r s y hp hq hr hs e = (omega arith, omega arith, omega arith, omega arith)
-
-four_shown : (a b c d y : ℕ) → IsInRange 48 57 a → IsInRange 48 57 b → IsInRange 48 57 c → IsInRange 48 57 d
-    → y ≡ (a - 48) * 1000 + (b - 48) * 100 + (c - 48) * 10 + (d - 48)
-    → (a ≡ 48 + y / 1000) × (b ≡ 48 + y / 100 % 10) × (c ≡ 48 + y / 10 % 10) × (d ≡ 48 + y % 10)
-four_shown a b c d y ha hb hc hd e =
-    let h = digits_shown (a - 48) (b - 48) (c - 48) (d - 48) y (omega arith) (omega arith) (omega arith) (omega arith) e in
-    (omega (arith, h.0), omega (arith, h.1), omega (arith, h.2), omega (arith, h.3))
-
 pair_shown : (b : List ℕ) (k : ℕ) → k + 2 ≤ length b → has_two b k ≡ true
-    → (slice_index b k ≡ 48 + number b k (k + 2) / 10) × (slice_index b (k + 1) ≡ 48 + number b k (k + 2) % 10)
-pair_shown b k long h = two_shown (slice_index b k) (slice_index b (k + 1)) (number b k (k + 2)) (has_two_told b k h) (number_of_two b k long h)
+    → (slice_index b k ≡ 48 + number_between b k (k + 2) / 10) × (slice_index b (k + 1) ≡ 48 + number_between b k (k + 2) % 10)
+pair_shown b k long h = grind (arith, common_steps, has_two_told, number_of_two)
 
 year_shown : (b : List ℕ) → 4 ≤ length b → has_two b 0 ≡ true → has_two b 2 ≡ true
-    → (slice_index b 0 ≡ 48 + number b 0 4 / 1000) × (slice_index b 1 ≡ 48 + number b 0 4 / 100 % 10)
-    × (slice_index b 2 ≡ 48 + number b 0 4 / 10 % 10) × (slice_index b 3 ≡ 48 + number b 0 4 % 10)
-year_shown b long century decade =
-    let p = has_two_told b 0 century in
-    let q = has_two_told b 2 decade in
-    four_shown _ _ _ _ (number b 0 4) p.0 p.1 q.0 q.1 (number_of_four b long century decade)
+    → (slice_index b 0 ≡ 48 + number_between b 0 4 / 1000) × (slice_index b 1 ≡ 48 + number_between b 0 4 / 100 % 10)
+    × (slice_index b 2 ≡ 48 + number_between b 0 4 / 10 % 10) × (slice_index b 3 ≡ 48 + number_between b 0 4 % 10)
+year_shown b long century decade = grind (arith, common_steps, has_two_told, number_of_four)
 
 written_shown : (b : List ℕ) → Passes b → b ≡ fields_text (fields_of b)
 written_shown b p =
@@ -62,5 +46,5 @@ fields_weak b p =
       hour = range.1;
       minute = range.2;
       second = range.3;
-      fraction = fraction_at_digits b;
+      fraction = digits_from _ (fraction_at_digits b);
     }

@@ -1,4 +1,5 @@
-use Rattle.std.proofs.Common.{◌≡◌, ℕ, ◌+◌, ◌<◌, sym, subst, arith}
+use Rattle.std.proofs.lemmas.Grind.{common_steps}
+use Rattle.std.proofs.Common.{◌+◌, sym, subst, arith}
 use Rattle.humantime.specs.References.Calendar.March.{march_months}
 use Rattle.humantime.proofs.Dates.March.{IsMonthBefore, month_over, month_stays, month_found}
 use Rattle.humantime.proofs.Dates.Years.{days_in_year_bound}
@@ -19,9 +20,4 @@ loop-next-preserved c =
 
 pub march_date-requires-clause-left : goal.march_date-requires-clause-left
 unfolding march_months
-march_date-requires-clause-left c =
-    let day = c.march_year-year.result.1 in
-    let all : c.loop-next.next ≡ 13 = omega arith in
-    let found : IsMonthBefore 13 day c.loop-next.month = subst (λ (n : ℕ). IsMonthBefore n day c.loop-next.month) all c.loop-next.invariant.0 in
-    let within : day < 366 = omega (arith, c.march_year-year.ensures.within, days_in_year_bound (1601 + c.march_year-year.result.0)) in
-    (month_found day c.loop-next.month within found).1
+march_date-requires-clause-left c = grind (arith, common_steps, days_in_year_bound, month_found)

@@ -1,3 +1,5 @@
+use Rattle.std.proofs.Common.{arith}
+use Rattle.std.proofs.lemmas.Grind.{common_steps}
 use Rattle.std.proofs.Common.{rules, sym, ap, ◌∙◌}
 use Rattle.std.proofs.lemmas.Bool.{and_parts}
 use Rattle.std.proofs.lemmas.Result.{err_from_is_err_and}
@@ -8,21 +10,13 @@ use Rattle.humantime.proofs.date.parse.read_timestamp.Goals as goal
 use Rattle.humantime.proofs.date.parse.read_timestamp.Goals.{then-b-lt19-via-then-b-lt19, then-b-lt19-via-else-b-lt19+then-not-has_separator}
 
 pub returns-then-b-lt19 : goal.returns-then-b-lt19
-returns-then-b-lt19 c =
-    elim c.then-b-lt19.branch [
-      | then-b-lt19-via-then-b-lt19 w ↦ exit_short c.args.b.now w.if-b-lt19.true
-      | then-b-lt19-via-else-b-lt19+then-not-has_separator w ↦ exit_separator c.args.b.now (sym w.has_separator.ensures ∙ w.if-not-has_separator.true)
-    ]
+returns-then-b-lt19 c = grind (arith, common_steps, then-b-lt19-via-then-b-lt19, exit_short, then-b-lt19-via-else-b-lt19+then-not-has_separator, exit_separator)
 
 pub returns-then-not-is_shaped : goal.returns-then-not-is_shaped
-returns-then-not-is_shaped c =
-    exit_shape c.args.b.now _ c.if-b-lt19.false (sym c.is_shaped.ensures ∙ c.if-not-is_shaped.true) c.shape_error.ensures
+returns-then-not-is_shaped c = grind (arith, common_steps, exit_shape)
 
 pub returns-in_default : goal.returns-in_default
-returns-in_default c =
-    let shape = and_parts _ _ (sym c.is_shaped.ensures ∙ c.if-not-is_shaped.false) in
-    exit_range c.args.b.now c.if-b-lt19.false shape.0 shape.1
-    (false_from _ (λ h. c.in_default.ensures.range.1 (in_range_told_of c.args.b.now _ (c.numbers_at-numbers.ensures shape.1) h)))
+returns-in_default c = grind (arith, common_steps, and_parts, exit_range, false_from, in_range_told_of)
 
 pub returns-in_err-nanos : goal.returns-in_err-nanos
 returns-in_err-nanos c =

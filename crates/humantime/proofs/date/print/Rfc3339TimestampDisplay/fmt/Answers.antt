@@ -1,10 +1,11 @@
+use Rattle.std.proofs.Common.{arith}
+use Rattle.std.proofs.lemmas.Grind.{common_steps}
 use Rattle.std.proofs.Common.{rules, refl}
 use Rattle.humantime.proofs.Timestamps.Printing.Printed.{printed_text_is}
 use Rattle.humantime.proofs.date.print.Rfc3339TimestampDisplay.fmt.Goals as goal
 
 pub returns-clause-writes : goal.returns-clause-writes
-returns-clause-writes g c =
-    rw (printed_text_is c.args.self.now c.in-Some.text.now (c.in-Some.ensures.within.0 refl) c.in-Some.ensures.text) (search rules)
+returns-clause-writes g c = grind (arith, common_steps, printed_text_is)
 
 pub returns-clause-styled : goal.returns-clause-styled
 returns-clause-styled g c =

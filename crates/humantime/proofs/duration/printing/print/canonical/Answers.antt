@@ -1,11 +1,11 @@
+use Rattle.std.proofs.Common.{arith}
+use Rattle.std.proofs.lemmas.Grind.{common_steps}
 use Rattle.std.proofs.lemmas.Result.{err_from_is_err_and}
 use Rattle.humantime.proofs.Durations.Printing.CanonicalTexts.{answer_is_canonical, answer_is_fault}
 use Rattle.humantime.proofs.duration.printing.print.canonical.Goals as goal
 
 pub returns-in_err-end-clause-answer : goal.returns-in_err-end-clause-answer
-returns-in_err-end-clause-answer c =
-    let p = err_from_is_err_and c.from_residual.result c.from_residual.ensures.1 in
-    rw (p.1, p.2) c.in_err-end.ensures.answer
+returns-in_err-end-clause-answer c = grind (arith, common_steps, err_from_is_err_and)
 
 pub returns-in_err-end-clause-text : goal.returns-in_err-end-clause-text
 returns-in_err-end-clause-text c = answer_is_canonical c.args.s.now _ (returns-in_err-end-clause-answer c)

@@ -1,3 +1,5 @@
+use Rattle.std.proofs.Common.{arith}
+use Rattle.std.proofs.lemmas.Grind.{common_steps}
 use Rattle.std.proofs.Common.{ap, chars, ◌∙◌}
 use Rattle.std.proofs.lemmas.Result.{err_from_is_err_and}
 use Rattle.humantime.specs.References.Durations.Printing.{duration_text}
@@ -5,9 +7,7 @@ use Rattle.humantime.proofs.Durations.Printing.CanonicalTexts.{canonical_if_read
 use Rattle.humantime.proofs.duration.printing.print.write_canonical.Goals as goal
 
 pub returns-in_err-duration-clause-answer : goal.returns-in_err-duration-clause-answer
-returns-in_err-duration-clause-answer c =
-    let p = err_from_is_err_and c.from_residual.result c.from_residual.ensures.1 in
-    rw (p.1, p.2) (canonical_if_refused (chars c.args.s.now) _ c.in_err-duration.ensures.answer)
+returns-in_err-duration-clause-answer c = grind (arith, common_steps, err_from_is_err_and, canonical_if_refused)
 
 pub returns-clause-answer : goal.returns-clause-answer
 returns-clause-answer c =

@@ -1,4 +1,4 @@
-use Rattle.std.proofs.Common.{◌≡◌, ◌≢◌, ◌++◌, ◌≤◌, ◌<◌, length, get_or, encode_utf8, arith, refl}
+use Rattle.std.proofs.Common.{◌≡◌, ◌++◌, ◌≤◌, ◌<◌, length, get_or, encode_utf8, arith, refl}
 use Rattle.std.proofs.lemmas.Grind.{common_steps}
 use Rattle.std.proofs.lemmas.Str.{chars_past_char, lead_after_ascii}
 use Rattle.humantime.proofs.Durations.Bytes.Points.{no_point}
@@ -9,9 +9,7 @@ pub returns-then-is_empty-clause-none : goal.returns-then-is_empty-clause-none
 returns-then-is_empty-clause-none c = rw (no_bytes c.args.text.now (grind (arith, common_steps))) refl
 
 pub returns-then-bytes-ne46-clause-none : goal.returns-then-bytes-ne46-clause-none
-returns-then-bytes-ne46-clause-none c =
-    let n : get_or c.args.text.now 0 0 ≢ 46 = grind (arith, common_steps) in
-    no_point c.args.text.now c.utf8.text n
+returns-then-bytes-ne46-clause-none c = grind (arith, common_steps, no_point)
 
 pub range_from-requires : goal.range_from-requires
 range_from-requires c =

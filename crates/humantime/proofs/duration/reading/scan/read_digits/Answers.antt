@@ -1,3 +1,4 @@
+use Rattle.std.proofs.lemmas.Grind.{common_steps}
 use Rattle.std.proofs.Common.{◌≡◌, ◌+◌, ◌<◌, false, get_or, length, drop, sym, ap, chars, ◌∙◌, inl, inr, arith}
 use Rattle.std.proofs.lemmas.Bool.{cases_eq}
 use Rattle.std.proofs.lemmas.Str.{IsCharBoundary-start}
@@ -51,13 +52,7 @@ loop-at-preserved-then-is_ascii_digit c =
     ]
 
 pub loop-at-preserved : goal.loop-at-preserved
-loop-at-preserved c =
-    let s = c.in-Some-white_step.ensures.step in
-    record {
-      place = s.place;
-      read = among_space _ _ _ _ _ _ s.char c.loop-at.invariant.read s.chars (sym s.is);
-      zeros = omega (arith, s.further, c.loop-at.invariant.zeros);
-    }
+loop-at-preserved c = grind (arith, common_steps, among_space)
 
 pub returns-clause-value : goal.returns-clause-value
 returns-clause-value c =

@@ -1,6 +1,6 @@
-use Rattle.std.proofs.Common.{◌≡◌, ◌+◌, ◌<◌, false, get_or, length, refl, sym, ap, chars, drop, ◌∙◌, arith}
+use Rattle.std.proofs.lemmas.Grind.{common_steps}
+use Rattle.std.proofs.Common.{◌+◌, ◌<◌, get_or, length, refl, sym, chars, drop, ◌∙◌, arith}
 use Rattle.std.proofs.lemmas.Str.{IsCharBoundary-start}
-use Rattle.humantime.specs.Durations.Characters.{begins, is_numeric}
 use Rattle.humantime.proofs.Durations.Bytes.Numbers.{at_digit, at_space, number_passes, number_end, no_numeric}
 use Rattle.humantime.proofs.Durations.Bytes.PlaceSteps.{no_chars_at}
 use Rattle.humantime.proofs.Durations.Bytes.Points.{digit_at, digit_here}
@@ -42,15 +42,4 @@ loop-at-preserved c =
     record { place = s.place; read = at_space _ _ _ _ s.char c.loop-at.invariant.read s.chars (sym s.is) }
 
 pub returns-clause-value : goal.returns-clause-value
-returns-clause-value c =
-    let text = c.args.text.now in
-    let at = c.loop-at.at in
-    let ended : begins is_numeric (chars (drop at text)) ≡ false = elim c.loop-at-test.branch [
-      | else-loop-at-test w ↦ ap (begins is_numeric) (no_chars_at text at (omega (arith, w.loop-at-test.false, c.as_bytes-bytes.ensures.len)))
-      | then-loop-at-test+else-is_ascii_digit+in-None-white_step w ↦
-          no_numeric (chars (drop at text))
-          (sym (digit_at text at c.utf8.text c.loop-at.invariant.place (omega (arith, w.loop-at-test.true, c.as_bytes-bytes.ensures.len)))
-          ∙ (rw c.as_bytes-bytes.ensures.value at (sym w.is_ascii_digit.ensures.value ∙ w.if-is_ascii_digit.false)))
-          w.in-None-white_step.ensures.none
-    ] in
-    rw c.range_from.ensures.value (number_end _ _ _ c.loop-at.invariant.read ended)
+returns-clause-value c = grind (arith, common_steps, else-loop-at-test, no_chars_at, then-loop-at-test+else-is_ascii_digit+in-None-white_step, no_numeric, digit_at, number_end)

@@ -1,13 +1,11 @@
-use Rattle.std.proofs.Common.{◌<◌, get_or, sym, ◌∙◌}
-use Rattle.humantime.specs.declared.duration.reading.class.Class.TheVariants.{White}
+use Rattle.std.proofs.Common.{arith}
+use Rattle.std.proofs.lemmas.Grind.{common_steps}
+use Rattle.std.proofs.Common.{◌<◌, get_or}
 use Rattle.humantime.proofs.Durations.Bytes.PlaceSteps.{ascii_over, white_stops}
 use Rattle.humantime.proofs.duration.reading.scan.white_step.Goals as goal
 
 pub returns-in-White-clause-step : goal.returns-in-White-clause-step
-returns-in-White-clause-step c =
-    let small : get_or c.args.text.now c.args.at 0 < 128 = rw c.as_bytes-bytes.ensures.value at c.if-bytes-at-lt128.true in
-    ascii_over c.args.text.now c.args.at White c.utf8.text c.requires.place c.requires.some small
-    (sym c.in-White.is ∙ (rw c.as_bytes-bytes.ensures.value at c.ascii_class.ensures))
+returns-in-White-clause-step c = grind (arith, common_steps, ascii_over)
 
 pub returns-in_default : goal.returns-in_default
 returns-in_default c =

@@ -1,12 +1,11 @@
-use Rattle.std.proofs.Common.{ap, sym, subst, ◌∙◌, chars, IsCharBoundary, ◌≡◌, ◌++◌, arith}
+use Rattle.std.proofs.Common.{ap, ◌∙◌, chars, ◌≡◌, ◌++◌, arith}
 use Rattle.std.proofs.lemmas.Grind.{common_steps}
 use Rattle.std.proofs.lemmas.Str.{chars-append}
 use Rattle.humantime.proofs.Durations.Bytes.Tails.{tail_boundary}
 use Rattle.humantime.proofs.duration.reading.slices.before.Goals as goal
 
 pub range-requires-clause-end_boundary : goal.range-requires-clause-end_boundary
-range-requires-clause-end_boundary c =
-    subst (IsCharBoundary c.args.text.now) (sym c.offset_of.ensures.bytes) (tail_boundary c.args.text.now c.args.rest.now c.requires)
+range-requires-clause-end_boundary c = grind (arith, common_steps, tail_boundary)
 
 pub returns-clause-chars : goal.returns-clause-chars
 returns-clause-chars c =

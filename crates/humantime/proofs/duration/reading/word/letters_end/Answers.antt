@@ -1,7 +1,7 @@
-use Rattle.std.proofs.Common.{◌≡◌, ◌<◌, ◌≤◌, ◌+◌, ℕ, get_or, length, refl, sym, ap, chars, drop, subst, ◌∙◌, arith}
+use Rattle.std.proofs.Common.{◌≡◌, ◌<◌, ◌≤◌, ◌+◌, ℕ, get_or, length, refl, sym, chars, drop, subst, ◌∙◌, arith}
 use Rattle.std.proofs.lemmas.Grind.{common_steps}
 use Rattle.std.proofs.lemmas.Str.{IsCharBoundary-start}
-use Rattle.humantime.specs.Durations.Characters.{is_letter, past}
+use Rattle.humantime.specs.Durations.Characters.{is_letter}
 use Rattle.humantime.proofs.Durations.Bytes.PlaceSteps.{ascii_over, letter_step, letters_end, no_chars_at, mu_over, no_letter, ends_there}
 use Rattle.humantime.proofs.Durations.Bytes.WordKeys.{IsSoFar, key_more}
 use Rattle.humantime.proofs.duration.reading.word.letters_end.Goals as goal
@@ -52,10 +52,7 @@ returns-else-at-bytes-clause-rest c =
     ])) ∙ c.loop-at.invariant.same
 
 pub returns-after-loop-at-clause-rest : goal.returns-after-loop-at-clause-rest
-returns-after-loop-at-clause-rest c =
-    let end : length c.args.text.now ≤ c.loop-at.at = grind (arith, common_steps) in
-    let none = no_chars_at c.args.text.now c.loop-at.at end in
-    none ∙ sym (ap (past is_letter) none) ∙ c.loop-at.invariant.same
+returns-after-loop-at-clause-rest c = grind (arith, common_steps, no_chars_at)
 
 pub returns-in_default-clause-rest : goal.returns-in_default-clause-rest
 returns-in_default-clause-rest c =

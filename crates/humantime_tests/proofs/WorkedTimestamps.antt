@@ -2,7 +2,7 @@
 use Rattle.std.proofs.Common.{◌≡◌, ◌+◌, ◌*◌, Some, None, Ok, Err, refl}
 use Rattle.std.specs.Prelude.{codes, pos, negsuc}
 use Rattle.humantime.specs.declared.date.error.TimestampError.TheVariants.{OutOfRange, InvalidDigit, InvalidFormat}
-use Rattle.humantime.specs.Values.Amounts.{nanos_per_second}
+use Rattle.humantime.specs.Values.{nanos_per_second}
 use Rattle.humantime.specs.References.Timestamps.Printing.{moment_text, shortest_text}
 use Rattle.humantime.specs.References.Timestamps.Reading.{weak_answer, strict_answer}
 use Rattle.humantime.proofs.TimestampsOnLiterals.{timestamps_on_literals}

@@ -1,16 +1,17 @@
 -- Slices without the white space at their ends.
-use Rattle.std.proofs.Common.{◌≡◌, ℕ, suc, Bool, true, false, ◌&&◌, cond, eqb, List, [], ◌∷◌, ◌++◌, length, Option, Some, None, option_map, ◌⊎◌, inl, inr, refl, sym, ap, ap₂, subst, ◌∙◌, append-nil, arith}
+use Rattle.std.proofs.Common.{◌≡◌, ℕ, suc, Bool, true, false, ◌&&◌, cond, eqb, List, [], ◌∷◌, ◌++◌, length, Some, None, ◌⊎◌, inl, inr, refl, sym, ap, subst, ◌∙◌, append-nil, arith}
+use Rattle.std.proofs.lemmas.Grind.{common_steps}
 use Rattle.std.specs.Char.{is_whitespace}
 use Rattle.std.specs.Str.{drop_trailing_whitespace}
 use Rattle.std.proofs.lemmas.Bool.Decides.{nat_tests}
 use Rattle.std.proofs.lemmas.List.Elements.{filter-append}
-use Rattle.humantime.specs.Durations.Characters.{is_ws, is_digit, is_letter, is_numeric, begins, ends, leading, past, digits}
+use Rattle.humantime.specs.Durations.Characters.{is_ws, is_digit, is_letter, is_numeric, begins, ends, past, digits}
 use Rattle.humantime.specs.Durations.Spans.{Only}
-use Rattle.humantime.specs.Durations.Rests.{number_of, after_number, fraction_at, word_of, span_of}
-use Rattle.humantime.specs.Durations.Slices.{IsDigitSlice}
-use Rattle.humantime.specs.References.Durations.Lending.{trimmed, number_slice, fraction_slice, lent_at, spelled}
+use Rattle.humantime.specs.Durations.Faults.{span_of}
+use Rattle.humantime.specs.References.Durations.Lending.{trimmed, fraction_slice, lent_at, spelled}
+use Rattle.humantime.specs.Durations.Items.{IsDigitSlice}
 use Rattle.humantime.proofs.Durations.Reading.Classes.{white_is, letter_not_numeric, letter_not_point, is_point-46, space_not_digit, digit_from_numeric}
-use Rattle.humantime.proofs.Durations.Reading.Runs.{leading-append, begins_other}
+use Rattle.humantime.proofs.Durations.Reading.Runs.{leading-append}
 
 pub suc_not_zero : (n : ℕ) → eqb (suc n) 0 ≡ false
 suc_not_zero n = grind (arith, nat_tests)
@@ -23,8 +24,7 @@ pub record Dropped (cs ds : List ℕ) : Type 0 where
   pub last : (ds ≡ []) ⊎ (ends is_ws ds ≡ false)
 
 last_of : (x : ℕ) (xs : List ℕ) → (x ∷ xs ≡ []) ⊎ (ends is_ws (x ∷ xs) ≡ false) → ends is_ws (x ∷ xs) ≡ false
-last_of x xs (inl e) = cc
-last_of x xs (inr e) = e
+last_of x xs h = grind (arith, common_steps)
 
 pub dropped : (cs : List ℕ) → Dropped cs (drop_trailing_whitespace cs)
 dropped [] = record { tail = []; whole = refl; space = tt; last = inl refl }
@@ -45,36 +45,18 @@ digits_dropped cs ds d = sym (ap digits d.whole ∙ filter-append is_digit ds d.
 
 pub digits_past : (cs : List ℕ) → digits (past is_ws cs) ≡ digits cs
 digits_past [] = refl
-digits_past (c ∷ cs) = by (is_ws c) refl (digits_past cs)
-  where
-    by : (w : Bool) → is_ws c ≡ w → digits (past is_ws cs) ≡ digits cs → digits (cond w (past is_ws cs) (c ∷ cs)) ≡ digits (c ∷ cs)
-    by true e h = rw (space_not_digit c e) h
-    by false e h = refl
-
-digits_trimmed : (cs : List ℕ) → digits (trimmed cs) ≡ digits cs
-digits_trimmed cs = digits_dropped (past is_ws cs) (trimmed cs) (dropped (past is_ws cs)) ∙ digits_past cs
-
-number_spelled : (rest : List ℕ) → digits (number_slice rest) ≡ number_of rest
-number_spelled rest = digits_dropped (leading is_numeric rest) (number_slice rest) (dropped (leading is_numeric rest))
-
-fraction_spelled : (after : List ℕ) → option_map digits (fraction_slice after) ≡ option_map digits (fraction_at after)
-fraction_spelled after = by (fraction_at after)
-  where
-    by : (o : Option (List ℕ)) → option_map digits (option_map trimmed o) ≡ option_map digits o
-    by None = refl
-    by (Some cs) = ap (λ (x : List ℕ). Some x) (digits_trimmed cs)
+digits_past (c ∷ cs) = grind (arith, common_steps, (digits_past cs), space_not_digit)
 
 -- the slices spell the span that they are taken from
 pub spelled_at : (text rest : List ℕ) → spelled (lent_at text rest).number (lent_at text rest).fraction (lent_at text rest).unit ≡ span_of rest
-spelled_at text rest = ap₂ (λ (n : List ℕ) (f : Option (List ℕ)). record { number = n; fraction = f; word = word_of rest }) (number_spelled rest) (fraction_spelled (after_number rest))
+spelled_at text rest = grind (arith, common_steps, digits_dropped, dropped, digits_past)
 
 ends_digit : (x : ℕ) (xs : List ℕ) → Only is_numeric (x ∷ xs) → ends is_ws (x ∷ xs) ≡ false → ends is_digit (x ∷ xs) ≡ true
 ends_digit x [] o e = digit_from_numeric x o.0 e
 ends_digit x (y ∷ ys) o e = ends_digit y ys o.1 e
 
 all_white : (cs : List ℕ) → Only is_ws cs → begins is_digit cs ≡ true → ⊥
-all_white [] o b = cc
-all_white (c ∷ cs) o b = let n = space_not_digit c o.0 in cc
+all_white cs h k = grind (arith, common_steps, space_not_digit)
 
 only_front : (p : ℕ → Bool) (xs ys : List ℕ) → Only p (xs ++ ys) → Only p xs
 only_front p [] ys o = tt
@@ -83,24 +65,11 @@ only_front p (x ∷ xs) ys o = (o.0, only_front p xs ys o.1)
 -- digits and white space from a first digit on, without the white space at the end, behind other white space
 pub digit_slice : (before cs ds : List ℕ) → Dropped cs ds → Only is_ws before → begins is_digit cs ≡ true → Only is_numeric cs → IsDigitSlice (before ++ cs) ds
 digit_slice before cs [] d w b o = absurd (all_white d.tail d.space (subst (λ (l : List ℕ). begins is_digit l ≡ true) d.whole b))
-digit_slice before cs (x ∷ xs) d w b o =
-    let numeric = only_front is_numeric (x ∷ xs) d.tail (subst (Only is_numeric) d.whole o) in
-    record {
-      before = before;
-      after = d.tail;
-      whole = ap (λ (l : List ℕ). before ++ l) d.whole;
-      only_before = w;
-      only_after = d.space;
-      starts = subst (λ (l : List ℕ). begins is_digit l ≡ true) d.whole b;
-      stops = ends_digit x xs numeric (last_of x xs d.last);
-    }
+digit_slice before cs (x ∷ xs) d w b o = grind (arith, common_steps, only_front, ends_digit)
 
 -- the slice of the fraction behind a number, before a word
 pub no_slice : (tail : List ℕ) → begins is_letter tail ≡ true → fraction_slice tail ≡ None
-no_slice [] e = cc
-no_slice (c ∷ cs) e = rw (letter_not_point c e)
+no_slice tail h = grind (arith, common_steps, letter_not_point)
 
 pub slice_behind_point : (behind tail : List ℕ) → Only is_numeric behind → begins is_letter tail ≡ true → fraction_slice (46 ∷ (behind ++ tail)) ≡ Some (trimmed behind)
-slice_behind_point behind tail only e =
-    let stops : begins is_numeric tail ≡ false = begins_other is_letter is_numeric letter_not_numeric tail e in
-    rw (is_point-46, leading-append is_numeric behind tail only stops)
+slice_behind_point behind tail only e = grind (arith, common_steps, letter_not_numeric, is_point-46, leading-append)

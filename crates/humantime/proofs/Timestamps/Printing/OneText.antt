@@ -1,21 +1,19 @@
 -- Two texts that are printed from one moment are one text.
-use Rattle.std.proofs.Common.{◌≡◌, ℕ, zero, suc, ◌+◌, ◌*◌, ◌<◌, ◌≤◌, List, [], ◌∷◌, ◌++◌, length, take, refl, sym, ap, subst, ◌∙◌, arith}
-use Rattle.std.specs.Prelude.{min, codes, Option, Some, ℤ, nat_abs}
+use Rattle.std.proofs.lemmas.Grind.{common_steps}
+use Rattle.std.proofs.Common.{◌≡◌, ℕ, zero, suc, ◌+◌, ◌*◌, ◌<◌, ◌≤◌, List, [], ◌∷◌, ◌++◌, length, take, refl, sym, ap, ◌∙◌, arith}
+use Rattle.std.specs.Prelude.{min, codes, Option, ℤ, nat_abs}
 use Rattle.std.specs.Char.{digit_value}
 use Rattle.std.specs.Str.Parse.{digits_value_after}
-use Rattle.std.proofs.lemmas.Str.{digit_value_digit}
-use Rattle.humantime.specs.Calendar.Dates.{day_of}
-use Rattle.humantime.specs.Timestamps.Digits.{AreDigits}
-use Rattle.humantime.specs.Timestamps.Fields.{fraction_digits, fraction_nanos, fields_text}
+use Rattle.humantime.specs.Calendar.{day_of}
+use Rattle.humantime.specs.References.Timestamps.Reading.{AreDigits, fraction_digits}
+use Rattle.humantime.specs.Timestamps.Fields.{fraction_nanos, fields_text}
 use Rattle.humantime.specs.Timestamps.Printed.{HasPlaces, IsPrinted}
 use Rattle.humantime.proofs.Dates.DaysOfDates.{same_date}
-use Rattle.humantime.proofs.Timestamps.Reading.Fractions.{nanos_bound}
+use Rattle.humantime.proofs.Timestamps.Reading.Fractions.{nanos_bound, digits_told}
 
 after_same : (ds : List ℕ) (m n : ℕ) → digits_value_after 10 m ds ≡ digits_value_after 10 n ds → m ≡ n
 after_same [] m n h = h
-after_same (c ∷ cs) m n h =
-    let next : m * 10 + digit_value c ≡ n * 10 + digit_value c = after_same cs (m * 10 + digit_value c) (n * 10 + digit_value c) h in
-    omega arith
+after_same (c ∷ cs) m n h = grind (arith, common_steps, (after_same cs (m * 10 + digit_value c) (n * 10 + digit_value c) h))
 
 -- equally many digits that are filled to the same number are the same
 same_filled : (k : ℕ) (ds es zs : List ℕ) (m n : ℕ) → AreDigits ds → AreDigits es → length ds ≡ length es → length ds ≤ k
@@ -24,13 +22,7 @@ same_filled k [] [] zs m n d e long room h = (after_same (take k zs) m n h, refl
 same_filled k [] (y ∷ ys) zs m n d e long room h = absurd (omega arith)
 same_filled k (x ∷ xs) [] zs m n d e long room h = absurd (omega arith)
 same_filled zero (x ∷ xs) (y ∷ ys) zs m n d e long room h = absurd (omega arith)
-same_filled (suc k) (x ∷ xs) (y ∷ ys) zs m n d e long room h =
-    let rest = same_filled k xs ys zs (m * 10 + digit_value x) (n * 10 + digit_value y) d.1 e.1 (omega arith) (omega arith) h in
-    let first = digit_value_digit x d.0 in
-    let second = digit_value_digit y e.0 in
-    let front : m ≡ n = omega (arith, rest.0, first, second, d.0, e.0) in
-    let digit : x ≡ y = omega (arith, rest.0, first, second, d.0, e.0) in
-    (front, λ i. digit i ∷ rest.1 i)
+same_filled (suc k) (x ∷ xs) (y ∷ ys) zs m n d e long room h = grind (arith, common_steps, (same_filled k xs ys zs (m * 10 + digit_value x) (n * 10 + digit_value y) d.1 e.1 (omega arith) (omega arith) h))
 
 same_nanos : (ds es : List ℕ) → AreDigits ds → AreDigits es → length ds ≡ length es → length ds ≤ 9 → fraction_nanos ds ≡ fraction_nanos es → ds ≡ es
 unfolding fraction_nanos
@@ -38,27 +30,13 @@ same_nanos ds es d e long room h = (same_filled 9 ds es (codes "000000000") 0 0 
 
 same_fraction : (k : ℕ) (p q : Option (List ℕ)) → k ≤ 9 → HasPlaces p k → HasPlaces q k → AreDigits (fraction_digits p) → AreDigits (fraction_digits q)
     → fraction_nanos (fraction_digits p) ≡ fraction_nanos (fraction_digits q) → p ≡ q
-same_fraction zero p q small h g d e same = h ∙ sym g
-same_fraction (suc k) p q small h g d e same =
-    let first : AreDigits h.0 = subst (λ (o : Option (List ℕ)). AreDigits (fraction_digits o)) h.1 d in
-    let second : AreDigits g.0 = subst (λ (o : Option (List ℕ)). AreDigits (fraction_digits o)) g.1 e in
-    let nanos : fraction_nanos h.0 ≡ fraction_nanos g.0 = sym (ap (λ (o : Option (List ℕ)). fraction_nanos (fraction_digits o)) h.1) ∙ (same ∙ ap (λ (o : Option (List ℕ)). fraction_nanos (fraction_digits o)) g.1) in
-    let digits : h.0 ≡ g.0 = same_nanos h.0 g.0 first second (h.2 ∙ sym g.2) (omega (arith, h.2)) nanos in
-    h.1 ∙ (ap Some digits ∙ sym g.1)
+same_fraction k p q h e f g i j = grind (arith, common_steps, same_nanos)
 
 -- equal moments have equal parts
 same_clock : (a h i s m b j k t n : ℕ) → h ≤ 23 → i ≤ 59 → s ≤ 59 → m < 1_000_000_000 → j ≤ 23 → k ≤ 59 → t ≤ 59 → n < 1_000_000_000
     → (a * 86_400 + h * 3_600 + i * 60 + min s 59) * 1_000_000_000 + m ≡ (b * 86_400 + j * 3_600 + k * 60 + min t 59) * 1_000_000_000 + n
     → (a ≡ b) × (h ≡ j) × (i ≡ k) × (s ≡ t) × (m ≡ n)
-same_clock a h i s m b j k t n h23 i59 s59 m9 j23 k59 t59 n9 e =
-    let second : min s 59 ≡ s = omega arith in
-    let other : min t 59 ≡ t = omega arith in
-    let whole : a * 86_400 + h * 3_600 + i * 60 + min s 59 ≡ b * 86_400 + j * 3_600 + k * 60 + min t 59 = omega arith in
-    let nanos : m ≡ n = omega arith in
-    let day : a ≡ b = omega arith in
-    let hour : h ≡ j = omega arith in
-    let minute : i ≡ k = omega arith in
-    (day, hour, minute, omega arith, nanos)
+same_clock a h i s m b j k t n h23 i59 s59 m9 j23 k59 t59 n9 e = grind (arith, common_steps)
 
 same_fields : (t : ℤ) (k : ℕ) (x y : List ℕ) → k ≤ 9 → (p : IsPrinted t k x) (q : IsPrinted t k y) → p.fields ≡ q.fields
 same_fields t k x y small p q =
@@ -66,12 +44,12 @@ same_fields t k x y small p q =
     let g = q.fields in
     let clock = same_clock (day_of f.date) f.hour f.minute f.second (fraction_nanos (fraction_digits f.fraction))
     (day_of g.date) g.hour g.minute g.second (fraction_nanos (fraction_digits g.fraction))
-    p.weak.hour p.weak.minute p.second (nanos_bound _ p.weak.fraction)
-    q.weak.hour q.weak.minute q.second (nanos_bound _ q.weak.fraction) (ap nat_abs (p.moment ∙ sym q.moment)) in
+    p.weak.hour p.weak.minute p.second (nanos_bound _ (digits_told _ p.weak.fraction))
+    q.weak.hour q.weak.minute q.second (nanos_bound _ (digits_told _ q.weak.fraction)) (ap nat_abs (p.moment ∙ sym q.moment)) in
     let date = same_date f.date g.date p.weak.date q.weak.date clock.0 in
     let separator = p.separator ∙ sym q.separator in
     let zone = p.zone ∙ sym q.zone in
-    let fraction = same_fraction k f.fraction g.fraction small p.places q.places p.weak.fraction q.weak.fraction clock.4 in
+    let fraction = same_fraction k f.fraction g.fraction small p.places q.places (digits_told _ p.weak.fraction) (digits_told _ q.weak.fraction) clock.4 in
     λ i. record {
       date = date i;
       separator = separator i;

@@ -1,0 +1,84 @@
+-- What some texts come to, by computation, and what that says of them.
+use Rattle.std.proofs.Common.{◌≡◌, ℕ, List, [], ◌∷◌, ◌++◌, Result, Ok, Err, map, refl}
+use Rattle.std.specs.Prelude.{codes}
+use Rattle.humantime.specs.Durations.Faults.{Fault, HasFault, InvalidCharacter, UnknownUnit, NumberOverflow}
+use Rattle.humantime.specs.Prelude.{Accepted, duration_answer, canonical_answer, duration_text}
+use Rattle.humantime.proofs.OnLiterals.{humantime_on_literals}
+use Rattle.humantime.proofs.Durations.Reading.Outcomes.{accepted_from_outcome, fault_from_outcome}
+
+-- A text, and its value in nanoseconds or its first fault.
+record Row : Type 0 where
+  text : List ℕ
+  answer : Result ℕ Fault
+
+abbrev row : List ℕ → Result ℕ Fault → Row
+row text answer = record { text = text; answer = answer }
+
+abbrev rows : List Row
+rows =
+    row (codes "2h 37min") (Ok 9_420_000_000_000)
+    ∷ row (codes "1 2 s") (Ok 12_000_000_000)
+    ∷ row (codes "1.234s0.345ms0.678us0ns") (Ok 1_234_345_678)
+    ∷ row (codes "18446744073709551615ns 1ns") (Ok 18_446_744_073_709_551_616)
+    ∷ row (codes "1ns 18446744073709551615ns") (Err NumberOverflow)
+    ∷ row (codes "1.s") (Err (InvalidCharacter 1))
+    ∷ row (codes "1.5") (Err (UnknownUnit 3 3 [] 1))
+    ∷ row (codes "1foo ~") (Err (UnknownUnit 1 4 (codes "foo") 1))
+    ∷ row (codes "222nsec221nanosmsec7s5msec572s") (Err (UnknownUnit 10 19 (codes "nanosmsec") 221))
+    ∷ []
+
+-- zeros at the end of a fraction do not count
+abbrev rows_of_zeros : List Row
+rows_of_zeros =
+    row (codes "1.50000000000s") (Ok 1_500_000_000)
+    ∷ row (codes "1.0ns") (Ok 1)
+    ∷ row (codes "1.5ns") (Err NumberOverflow)
+    ∷ row (codes "0.00000000000000000000s") (Ok 0)
+    ∷ row (codes "0.00000000000000000001s") (Err NumberOverflow)
+    ∷ row (codes "1.00000000000000000000") (Err (UnknownUnit 22 22 [] 1))
+    ∷ []
+
+-- å is no letter of a unit, an ideographic space is white space, and the micro sign and the Greek letter mu take two bytes
+abbrev rows_beyond_ascii : List Row
+rows_beyond_ascii =
+    row (codes "1N" ++ 0xe5 ∷ []) (Err (InvalidCharacter 2))
+    ∷ row (codes "12" ++ 0x3000 ∷ codes "s") (Ok 12_000_000_000)
+    ∷ row (codes "163" ++ 0xb5 ∷ codes "s") (Ok 163_000)
+    ∷ row (codes "1" ++ 0xb5 ∷ []) (Err (UnknownUnit 1 3 (0xb5 ∷ []) 1))
+    ∷ row (codes "1" ++ 0x3bc ∷ codes "s") (Ok 1_000)
+    ∷ row (codes "1" ++ 0x3bc ∷ []) (Err (UnknownUnit 1 3 (0x3bc ∷ []) 1))
+    ∷ []
+
+-- each text of the rows has its answer
+abbrev AreAnswered : List Row → Type 0
+AreAnswered xs = map (λ x. duration_answer x.text) xs ≡ map (λ x. x.answer) xs
+
+rows_answered : AreAnswered (rows ++ rows_of_zeros ++ rows_beyond_ascii)
+unfolding humantime_on_literals
+rows_answered = refl
+
+-- what an answer says of its text
+hours_and_minutes : Accepted (codes "2h 37min") 9_420_000_000_000
+unfolding humantime_on_literals
+hours_and_minutes = accepted_from_outcome _ _ refl
+
+nanos_first : HasFault (codes "1ns 18446744073709551615ns") NumberOverflow
+unfolding humantime_on_literals
+nanos_first = fault_from_outcome _ _ refl
+
+first_fault : HasFault (codes "222nsec221nanosmsec7s5msec572s") (UnknownUnit 10 19 (codes "nanosmsec") 221)
+unfolding humantime_on_literals
+first_fault = fault_from_outcome _ _ refl
+
+-- microseconds are printed with the micro sign
+printed_micros : duration_text 1_000 ≡ codes "1" ++ 0xc2 ∷ 0xb5 ∷ codes "s"
+unfolding humantime_on_literals
+printed_micros = refl
+
+printed : duration_text 9_420_000_000_000 ≡ codes "2h 37m"
+unfolding humantime_on_literals
+printed = refl
+
+canonical : canonical_answer (codes "2h 37min") ≡ Ok (codes "2h 37m")
+unfolding humantime_on_literals
+canonical = refl
