@@ -42,6 +42,7 @@ pub(crate) fn key_with(key: u64, byte: u8) -> u64
 }
 
 /// The unit whose word has this key, if there is one.
+#[inline(always)]
 #[tactic(auto, unfolding(crate::specs::References::Durations::Keys::scale_of_key))]
 pub(crate) fn unit_of(key: u64) -> Option<Unit>
     ensures { option_map scale_of result ≡ scale_of_key key }

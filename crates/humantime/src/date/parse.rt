@@ -362,14 +362,16 @@ fn read_threes(ds: &[u8]) -> Option<(usize, u32)>
     let mut at = 0;
     let mut nanos = 0;
     while ds.len() - at >= 3 {
-        nanos += weight_of(at + 2) * three_at(ds, at)?;
+        let three = three_at(ds, at)?;
+        nanos += weight_of(at + 2) * three;
         at += 3;
     }
     Some((at, nanos))
 }
 
-/// The nanoseconds of these digits, cut to nine of them, where they are digits.
-#[inline(always)]
+/// The nanoseconds of these digits, cut to nine of them, where they are digits. It stands out of line: inlined, it takes
+/// the registers in which date and time are kept.
+#[inline(never)]
 #[tactic(auto, using(crate::proofs::Timestamps::Reading::Fractions::read_stop, crate::proofs::Timestamps::Reading::Fractions::read_all))]
 fn read_digits(ds: &[u8]) -> Option<u32>
     ensures some { IfSome result (λ n. (past_digits ds.now ≡ []) × (n ≡ fraction_nanos ds.now)) }

@@ -1,18 +1,17 @@
 -- Places in a text, at which a character begins or the text ends, and steps from one to the next.
 use Rattle.std.proofs.lemmas.Grind.{common_steps}
-use Rattle.std.proofs.Common.{◌≡◌, ◌<◌, ◌≤◌, ◌+◌, ◌≢◌, ℕ, List, [], ◌∷◌, ◌++◌, length, get_or, drop, drop-drop, refl, ap, sym, ◌∙◌, arith, add-one, length-drop, IsUtf8, IsCharBoundary, chars, encode_utf8, Bool, true, false, inl, inr}
+use Rattle.std.proofs.Common.{◌≡◌, ◌<◌, ◌≤◌, ◌+◌, ◌≢◌, ℕ, List, [], ◌∷◌, ◌++◌, length, get_or, drop, drop-drop, refl, ap, sym, ◌∙◌, arith, add-one, length-drop, IsUtf8, IsCharBoundary, chars, encode_utf8, encode_utf8_all, Bool, true, false, inl, inr}
 use Rattle.std.specs.Prelude.{◌==◌, ◌&&◌, ◌||◌}
 use Rattle.std.proofs.Math.Seq.{drop-cons}
 use Rattle.std.proofs.Math.Utf8.{encode}
 use Rattle.std.proofs.lemmas.Bool.{or_cases, and_parts, eqb-true}
 use Rattle.std.proofs.lemmas.Bool.Decides.{nat_tests}
-use Rattle.std.proofs.lemmas.Str.{IsUtf8-drop, IsCharBoundary-after_ascii, IsCharBoundary-from_rest, chars_past_char, encode_ascii}
+use Rattle.std.proofs.lemmas.Str.{IsUtf8-drop, IsCharBoundary-after_ascii, IsCharBoundary-from_rest, chars_past_char, encode_ascii, encodes-chars}
 use Rattle.humantime.specs.declared.duration.reading.class.Class.{Class}
-use Rattle.humantime.specs.declared.duration.reading.class.Class.TheVariants.{White, Digit, Letter}
+use Rattle.humantime.specs.declared.duration.reading.class.Class.TheVariants.{White, Letter}
 use Rattle.humantime.specs.Durations.Characters.{white_spaces, is_letter, is_ws, is_digit, begins, past}
 use Rattle.humantime.specs.References.Durations.Scanning.{StepsOver}
 use Rattle.humantime.specs.References.Durations.Classes.{class_of}
-use Rattle.humantime.proofs.Durations.Bytes.Digits.{digit_greatest}
 use Rattle.humantime.proofs.Durations.Bytes.Numbers.{past_letters, past_space}
 use Rattle.humantime.proofs.Durations.Bytes.Tails.{past_begins, past_begins_boundary, no_bytes}
 use Rattle.humantime.proofs.Durations.Reading.Classes.{not_white, not_letter}
@@ -41,6 +40,13 @@ char_over text rest at c k class u place is begins long some =
       place = IsCharBoundary-from_rest text at k place.0 (past_begins_boundary (drop at text) rest c k utf8 begins long);
       further = omega arith;
     }
+
+-- a character that is no white space stands at this place
+pub no_space_at : (text rest : List ℕ) (at c : ℕ) → IsUtf8 text → IsCharBoundary text at → drop at text ≡ encode_utf8 c ++ rest → is_ws c ≡ false
+    → begins is_ws (chars (drop at text)) ≡ false
+no_space_at text rest at c u place begin other =
+    let utf8 = IsUtf8-drop text at u place in
+    ap (begins is_ws) (chars_past_char (drop at text) rest c utf8 begin) ∙ other
 
 -- a pair of bytes is that of the micro sign, or that of the Greek letter mu
 abbrev pub is_mu_pair : ℕ → ℕ → Bool
@@ -86,12 +92,17 @@ pub no_mu : (text rest : List ℕ) (at c : ℕ) → at < length text → 128 ≤
 unfolding is_letter
 no_mu text rest at c some wide begins other = grind (arith, common_steps, micro_bytes, mu_bytes, two_bytes, nat_tests)
 
--- and one that does not begin with ASCII lies beyond it, and is no digit
+-- a character that does not begin with ASCII lies beyond it
 pub beyond_ascii : (text rest : List ℕ) (at c : ℕ) → at < length text → 128 ≤ get_or text at 0 → drop at text ≡ encode_utf8 c ++ rest → 128 ≤ c
 beyond_ascii text rest at c some wide begins = grind (arith, common_steps)
 
-pub no_digit : (c : ℕ) → 128 ≤ c → class_of c ≢ Digit
-no_digit c wide is = grind (arith, common_steps, digit_greatest)
+pub no_letter : (text : List ℕ) (at : ℕ) → IsUtf8 text → IsCharBoundary text at → at < length text → 128 ≤ get_or text at 0
+    → (at + 1 < length text → is_mu_pair (get_or text at 0) (get_or text (at + 1) 0) ≡ false) → begins is_letter (chars (drop at text)) ≡ false
+no_letter text at u place some wide other = by (chars (drop at text)) (encodes-chars (drop at text) (IsUtf8-drop text at u place))
+  where
+    by : (cs : List ℕ) → encode_utf8_all cs ≡ drop at text → begins is_letter cs ≡ false
+    by [] e = refl
+    by (c ∷ cs) e = no_mu text (encode_utf8_all cs) at c some (beyond_ascii text (encode_utf8_all cs) at c some wide (sym e)) (sym e) other
 
 -- the next place is behind the letters, or the white space, exactly as this one is
 pub letter_step : (text : List ℕ) (at next : ℕ) (class : Class) (all : List ℕ) → StepsOver text at class next → class ≡ Letter
@@ -105,8 +116,9 @@ space_step text at next all s same = sym (past_space s.char (chars (drop next te
 pub letters_end : (text : List ℕ) (at next : ℕ) (class : Class) → StepsOver text at class next → (class ≡ Letter → ⊥) → chars (drop at text) ≡ past is_letter (chars (drop at text))
 letters_end text at next class s n = rw (s.chars, not_letter s.char (λ z. n (s.is ∙ z))) refl
 
-pub space_ends : (rest : List ℕ) → begins is_ws rest ≡ false → rest ≡ past is_ws rest
-space_ends rest h = grind (arith, common_steps)
+pub ends_there : (p : ℕ → Bool) (rest : List ℕ) → begins p rest ≡ false → rest ≡ past p rest
+ends_there p [] e = refl
+ends_there p (c ∷ cs) e = rw e refl
 
 pub white_stops : (text : List ℕ) (at next : ℕ) (class : Class) → StepsOver text at class next → class ≢ White → begins is_ws (chars (drop at text)) ≡ false
 white_stops text at next class s w = ap (begins is_ws) s.chars ∙ not_white s.char (λ z. w (s.is ∙ z))

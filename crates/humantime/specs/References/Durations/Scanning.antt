@@ -21,11 +21,6 @@ pub record StepsOver (text : List ℕ) (at : ℕ) (class : Class) (next : ℕ) :
   pub place : IsCharBoundary text next
   pub further : at < next
 
--- the class of the first character
-abbrev pub first_class : List ℕ → Option Class
-first_class [] = None
-first_class (c ∷ cs) = Some (class_of c)
-
 -- the number that begins a rest, and what follows it
 abbrev pub number_at : List ℕ → Result (ℕ × List ℕ) Fault
 number_at rest =

@@ -43,25 +43,11 @@ static ASCII_CODES: [u8; 128] = [
 ];
 
 /// Whether a character is one of the 25 of white space.
-fn is_white(c: char) -> bool
+#[inline(always)]
+pub(crate) fn is_white(c: char) -> bool
     ensures { result ≡ is_ws c }
 {
     c.is_whitespace()
-}
-
-/// The class of a character beyond ASCII that is no letter.
-#[inline(always)]
-pub(crate) fn wide_class(c: char) -> Class
-    requires wide { 128 ≤ c }
-    requires no_letter { is_letter c ≡ false }
-    ensures class { result ≡ class_of c }
-    ensures no_letter { result ≢ Letter }
-{
-    if is_white(c) {
-        Class::White
-    } else {
-        Class::Other
-    }
 }
 
 /// The code of an ASCII character's class.

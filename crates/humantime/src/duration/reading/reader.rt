@@ -13,8 +13,8 @@ ghost use Rattle.humantime.specs.Durations.Units.{scale_of_word};
 
 use crate::duration::error::DurationError;
 use crate::duration::reading::amount::{Amount, Fraction};
-use crate::duration::reading::class::Class;
-use crate::duration::reading::scan::{first_class, read_fraction, read_number};
+use crate::duration::reading::class::{Class, ascii_class};
+use crate::duration::reading::scan::{read_fraction, read_number, wide_space};
 use crate::duration::reading::slices::{before, offset_of};
 use crate::duration::reading::span::Span;
 use crate::duration::reading::word::{Word, read_word};
@@ -33,14 +33,20 @@ fn is_bare(fraction: Option<Fraction>) -> bool
 
 /// Whether a digit, white space or the end follows.
 #[inline(always)]
-#[tactic(auto, using(crate::proofs::Durations::Bytes::SpanEnds::ends_by_class))]
 fn ends_span(next: &str) -> bool
     ensures { result ≡ ends_span (chars next.now) }
 {
-    match first_class(next) {
-        None | Some(Class::Digit | Class::White) => true,
-        Some(Class::Letter | Class::Point | Class::Other) => false,
+    let bytes = next.as_bytes();
+    if bytes.is_empty() {
+        return true;
     }
+    if bytes[0] < 0x80 {
+        return match ascii_class(bytes[0]) {
+            Class::White | Class::Digit => true,
+            Class::Letter | Class::Point | Class::Other => false,
+        };
+    }
+    wide_space(next, 0) > 0
 }
 
 /// What is wrong where no letter follows a number and its fraction.

@@ -6,12 +6,12 @@ ghost use Rattle.std.specs.Str.{byte};
 ghost use Rattle.humantime.specs.References.Durations.Seen.{seen};
 ghost use Rattle.humantime.specs.References.Durations.Classes.{class_of};
 ghost use Rattle.humantime.specs.References.Durations.Scales.{parts_of};
-ghost use Rattle.humantime.specs.References.Durations.Scanning.{IsTail, first_class, number_at, digits_at, fraction_read, StepsOver};
+ghost use Rattle.humantime.specs.References.Durations.Scanning.{IsTail, number_at, digits_at, fraction_read, StepsOver};
 ghost use Rattle.humantime.specs.declared.duration.reading.class.Class.TheVariants.{White, Digit, Letter};
 
 use crate::duration::error::DurationError;
 use crate::duration::reading::amount::Fraction;
-use crate::duration::reading::class::{Class, ascii_class, wide_class};
+use crate::duration::reading::class::{Class, ascii_class, is_white};
 use crate::duration::reading::sum::power_of_ten;
 
 /// How many digits a fraction may have before the zeros at its end.
@@ -32,33 +32,21 @@ fn first_char(text: &str) -> char
     }
 }
 
-/// Whether these are the two bytes of the micro sign, or those of the Greek letter mu.
-#[inline(always)]
-fn is_mu(first: u8, second: u8) -> bool
-    ensures { result ≡ ((first == 0xc2 && second == 0xb5) || (first == 0xce && second == 0xbc)) }
-{
-    first == 0xc2 && second == 0xb5 || first == 0xce && second == 0xbc
-}
-
-/// The class of the character at this place, for one that is not ASCII, and the place after it.
+/// How many bytes of white space stand at this place, where no ASCII does: those of one character, or none.
 ///
-/// It stands out of line, so that loops over ASCII stay small, and answers numbers alone. It is not marked as rarely
-/// called: then the loops around it get slower. The letters beyond ASCII are told by their bytes.
+/// It stands out of line, marked as rarely called, so that loops over ASCII keep what they hold in registers, and
+/// answers a number alone.
+#[cold]
 #[inline(never)]
-pub(crate) fn wide_step(text: &str, at: usize) -> (Class, usize)
+pub(crate) fn wide_space(text: &str, at: usize) -> usize
     requires place { IsCharBoundary text.now at }
     requires some { at < length text.now }
     requires wide { 128 ≤ slice_index text.now at }
-    ensures step { StepsOver text.now at result.0 result.1 }
-    ensures no_digit { result.0 ≢ Digit }
-    ensures letter { result.0 ≡ Letter → result.1 ≡ at + 2 }
+    ensures space { 0 < result → StepsOver text.now at White (at + result) }
+    ensures none { result ≡ 0 → begins is_ws (chars (drop at text.now)) ≡ false }
 {
-    let bytes = text.as_bytes();
-    if at + 1 < bytes.len() && is_mu(bytes[at], bytes[at + 1]) {
-        return (Class::Letter, at + 2);
-    }
     let c = first_char(&text[at..]);
-    (wide_class(c), at + c.len_utf8())
+    if is_white(c) { c.len_utf8() } else { 0 }
 }
 
 /// The place after the white space at this place, if some stands there.
@@ -76,27 +64,10 @@ pub(crate) fn white_step(text: &str, at: usize) -> Option<usize>
             _ => None,
         };
     }
-    let (class, next) = wide_step(text, at);
-    match class {
-        Class::White => Some(next),
-        _ => None,
+    match wide_space(text, at) {
+        0 => None,
+        width => Some(at + width),
     }
-}
-
-/// The class of the first character, if there is one.
-#[inline(always)]
-pub(crate) fn first_class(text: &str) -> Option<Class>
-    ensures { result ≡ first_class (chars text.now) }
-{
-    let bytes = text.as_bytes();
-    if bytes.is_empty() {
-        return None;
-    }
-    if bytes[0] < 0x80 {
-        return Some(ascii_class(bytes[0]));
-    }
-    let (class, _) = wide_step(text, 0);
-    Some(class)
 }
 
 /// Whether the first character is a digit.
@@ -202,9 +173,8 @@ impl Digits {
     }
 }
 
-/// The digits at the front of the text, and what follows them: at most 19 digits, and then zeros. It stands out of
-/// line, as it holds much, and spans without a fraction do not need it.
-#[inline(never)]
+/// The digits at the front of the text, and what follows them: at most 19 digits, and then zeros.
+#[inline(always)]
 fn read_digits<'a>(text: &'a str) -> Result<(Fraction, &'a str), DurationError<'a>>
     ensures value { seen (λ x. (parts_of x.0, chars x.1.now)) result ≡ digits_at (chars text.now) }
     ensures tail { IfOk result (λ x. IsTail text.now x.1.now) }

@@ -1,13 +1,12 @@
 //! The word of a unit.
 
-ghost use Rattle.std.specs.Prelude.{◌≡◌, ◌≤◌, ◌++◌, take, drop, reverse, chars, IsUtf8, IsCharBoundary};
+ghost use Rattle.std.specs.Prelude.{◌≡◌, ◌≤◌, ◌==◌, ◌&&◌, ◌||◌, ◌++◌, take, drop, reverse, chars, IsUtf8, IsCharBoundary};
 ghost use Rattle.humantime.specs.Durations.Characters.{is_letter, leading, past};
 ghost use Rattle.humantime.specs.Durations.Units.{scale_of_word};
 ghost use Rattle.humantime.specs.References.Durations.Keys.{packed, scale_of_key};
 ghost use Rattle.humantime.specs.References.Durations.Scanning.{IsTail};
 
 use crate::duration::reading::class::{Class, ascii_class};
-use crate::duration::reading::scan::wide_step;
 use crate::unit::{MOST_BYTES, NO_LETTERS, TOO_LONG, key_with};
 
 /// The letters of a word, and the key by which its unit is found.
@@ -16,6 +15,14 @@ pub(crate) struct Word<'a> {
     pub letters: &'a str,
     pub key: u64,
     ghost told: { scale_of_key key ≡ scale_of_word (chars letters.now) },
+}
+
+/// Whether these are the two bytes of the micro sign, or those of the Greek letter mu: the letters beyond ASCII.
+#[inline(always)]
+fn is_mu(first: u8, second: u8) -> bool
+    ensures { result ≡ ((first == 0xc2 && second == 0xb5) || (first == 0xce && second == 0xbc)) }
+{
+    first == 0xc2 && second == 0xb5 || first == 0xce && second == 0xbc
 }
 
 /// The place after the letters at the front of the text, and the key of the bytes before it, where they are few.
@@ -37,15 +44,11 @@ fn letters_end(text: &str) -> (usize, u64)
                 }
                 _ => break,
             }
+        } else if at + 1 < bytes.len() && is_mu(bytes[at], bytes[at + 1]) {
+            key = key_with(key_with(key, bytes[at]), bytes[at + 1]);
+            at += 2;
         } else {
-            let (class, next) = wide_step(text, at);
-            match class {
-                Class::Letter => {
-                    key = key_with(key_with(key, bytes[at]), bytes[at + 1]);
-                    at = next;
-                }
-                _ => break,
-            }
+            break;
         }
     }
     (at, key)

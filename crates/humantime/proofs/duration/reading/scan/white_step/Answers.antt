@@ -16,6 +16,3 @@ returns-in_default c =
           (ascii_over c.args.text.now c.args.at c.ascii_class.result c.utf8.text c.requires.place c.requires.some small (rw c.as_bytes-bytes.ensures.value at c.ascii_class.ensures))
           c.in_default.not-White;
     }
-
-pub returns-in_default-class : goal.returns-in_default-class
-returns-in_default-class c = record { step = tt; none = white_stops _ _ _ _ c.wide_step-class.ensures.step c.in_default-class.not-White }

@@ -1,9 +1,11 @@
-use Rattle.std.proofs.Common.{◌≡◌, ◌<◌, ◌+◌, ℕ, get_or, length, refl, subst, ◌∙◌, arith}
+use Rattle.std.proofs.Common.{◌≡◌, ◌<◌, ◌≤◌, ◌+◌, ℕ, get_or, length, refl, sym, chars, drop, subst, ◌∙◌, arith}
 use Rattle.std.proofs.lemmas.Grind.{common_steps}
 use Rattle.std.proofs.lemmas.Str.{IsCharBoundary-start}
-use Rattle.humantime.proofs.Durations.Bytes.PlaceSteps.{ascii_over, letter_step, letters_end, no_chars_at}
+use Rattle.humantime.specs.Durations.Characters.{is_letter}
+use Rattle.humantime.proofs.Durations.Bytes.PlaceSteps.{ascii_over, letter_step, letters_end, no_chars_at, mu_over, no_letter, ends_there}
 use Rattle.humantime.proofs.Durations.Bytes.WordKeys.{IsSoFar, key_more}
 use Rattle.humantime.proofs.duration.reading.word.letters_end.Goals as goal
+use Rattle.humantime.proofs.duration.reading.word.letters_end.Goals.{else-at-bytes-via-then-at-bytes+else-is_mu, else-at-bytes-via-else-at-bytes}
 
 pub loop-at-init : goal.loop-at-init
 loop-at-init c = record { place = IsCharBoundary-start c.args.text.now c.utf8.text; same = refl; key = λ _. refl }
@@ -25,17 +27,29 @@ pub loop-at-preserved : goal.loop-at-preserved
 loop-at-preserved c =
     let text = c.args.text.now in
     let at = c.loop-at.at in
-    let s = c.wide_step-class.ensures.step in
-    let two : at + 1 + 1 ≡ c.wide_step-class.result.1 = omega (arith, c.wide_step-class.ensures.letter c.in-Letter-class.is) in
-    let within = s.place.0 in
+    let two : at + 1 + 1 ≡ at + 2 = omega arith in
+    let within : at + 1 < length text = omega (arith, c.if-at-bytes.true, c.as_bytes-bytes.ensures.len) in
+    let s = mu_over text at c.utf8.text c.loop-at.invariant.place within (rw c.as_bytes-bytes.ensures.value at (sym c.is_mu.ensures ∙ c.if-is_mu.true)) in
     let bytes = λ (k : ℕ). (c.type_inv.text k).fits in
     let first = key_more text at c.loop-at.key c.key_with.result bytes (omega arith) c.loop-at.invariant.key (rw c.as_bytes-bytes.ensures.value at c.key_with.ensures) in
-    let second = key_more text (at + 1) c.key_with.result c.key_with-key-in-Letter-class.result bytes (omega arith) first (rw c.as_bytes-bytes.ensures.value at c.key_with-key-in-Letter-class.ensures) in
+    let second = key_more text (at + 1) c.key_with.result c.key_with-key-then-is_mu.result bytes within first (rw c.as_bytes-bytes.ensures.value at c.key_with-key-then-is_mu.ensures) in
     record {
       place = s.place;
-      same = letter_step _ _ _ _ _ s c.in-Letter-class.is c.loop-at.invariant.same;
-      key = subst (λ (n : ℕ). IsSoFar text n c.key_with-key-in-Letter-class.result) two second;
+      same = letter_step _ _ _ _ _ s refl c.loop-at.invariant.same;
+      key = subst (λ (n : ℕ). IsSoFar text n c.key_with-key-then-is_mu.result) two second;
     }
+
+pub returns-else-at-bytes-clause-rest : goal.returns-else-at-bytes-clause-rest
+returns-else-at-bytes-clause-rest c =
+    let text = c.args.text.now in
+    let at = c.loop-at.at in
+    let wide : 128 ≤ get_or text at 0 = rw c.as_bytes-bytes.ensures.value at c.if-bytes-at-lt128.false in
+    let some : at < length text = omega (arith, c.loop-at-test.true, c.as_bytes-bytes.ensures.len) in
+    ends_there is_letter (chars (drop at text)) (no_letter text at c.utf8.text c.loop-at.invariant.place some wide
+    (elim c.else-at-bytes.branch [
+      | else-at-bytes-via-then-at-bytes+else-is_mu w ↦ λ two. rw c.as_bytes-bytes.ensures.value at (sym w.is_mu.ensures ∙ w.if-is_mu.false)
+      | else-at-bytes-via-else-at-bytes w ↦ λ two. absurd (omega (arith, two, w.if-at-bytes.false, c.as_bytes-bytes.ensures.len))
+    ])) ∙ c.loop-at.invariant.same
 
 pub returns-after-loop-at-clause-rest : goal.returns-after-loop-at-clause-rest
 returns-after-loop-at-clause-rest c = grind (arith, common_steps, no_chars_at)
@@ -46,6 +60,3 @@ returns-in_default-clause-rest c =
     let some : c.loop-at.at < length c.args.text.now = grind (arith, common_steps) in
     let s = ascii_over c.args.text.now c.loop-at.at c.ascii_class.result c.utf8.text c.loop-at.invariant.place some small (rw c.as_bytes-bytes.ensures.value at c.ascii_class.ensures) in
     letters_end _ _ _ _ s c.in_default.not-Letter ∙ c.loop-at.invariant.same
-
-pub returns-in_default-class-clause-rest : goal.returns-in_default-class-clause-rest
-returns-in_default-class-clause-rest c = letters_end _ _ _ _ c.wide_step-class.ensures.step c.in_default-class.not-Letter ∙ c.loop-at.invariant.same
