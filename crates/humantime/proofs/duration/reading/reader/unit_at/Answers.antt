@@ -68,3 +68,12 @@ returns-in-Some-clause-fine c =
     let some : length c.args.parts.word.letters.now ≢ 0 = grind (arith, common_steps) in
     exit_fine (chars c.args.text.now) _ _ _ _ _ _ _ (scale_of c.in-Some.unit) parts.read (sym c.is_bare.ensures ∙ c.if-is_bare.false) (some_chars _ parts.word_utf8 some)
     (sym c.ends_span.ensures ∙ c.if-not-ends_span.false) (sym (c.in-Some.ensures ∙ c.args.parts.word.told))
+
+pub without_word-requires-clause-after : goal.without_word-requires-clause-after
+without_word-requires-clause-after c = tail_of_tail c.args.text.now c.args.rest.now c.args.parts.after_number.now c.requires.tail c.requires.parts.number_tail
+
+pub without_word-requires-clause-next : goal.without_word-requires-clause-next
+without_word-requires-clause-next c =
+    let parts = c.requires.parts in
+    let behind = tail_of_tail c.args.text.now c.args.rest.now _ c.requires.tail (tail_of_tail c.args.rest.now c.args.parts.after_number.now c.args.parts.after_fraction.now parts.number_tail parts.fraction_tail) in
+    tail_of_tail c.args.text.now c.args.parts.after_fraction.now c.args.parts.after_word.now behind parts.word_tail
