@@ -1,6 +1,6 @@
 -- What holds of digits and signs holds of each byte of a timestamp.
 use Rattle.std.proofs.lemmas.Grind.{common_steps}
-use Rattle.std.proofs.Common.{ℕ, List, [], ◌∷◌, ◌++◌, drop, arith}
+use Rattle.std.proofs.Common.{ℕ, List, [], ◌∷◌, ◌++◌, arith}
 use Rattle.std.specs.Int.{IsInRange}
 use Rattle.std.specs.List.{AllByRecursion}
 use Rattle.humantime.specs.Timestamps.Digits.{AreDigits}
@@ -8,9 +8,6 @@ use Rattle.humantime.specs.Timestamps.Fields.{Fields, fraction_text, time_text, 
 
 pub all_append : (P : ℕ → Type 0) (xs ys : List ℕ) → AllByRecursion P xs → AllByRecursion P ys → AllByRecursion P (xs ++ ys)
 all_append P xs ys h k = grind (arith, common_steps)
-
-pub all_drop : (P : ℕ → Type 0) (n : ℕ) (xs : List ℕ) → AllByRecursion P xs → AllByRecursion P (drop n xs)
-all_drop P n xs h = grind (arith, common_steps)
 
 -- a property of the digits, the signs and the separators
 pub record HoldsOfBytes (P : ℕ → Type 0) : Type 0 where

@@ -1,6 +1,6 @@
 -- The zone at the end of a text.
 use Rattle.std.proofs.lemmas.Grind.{common_steps}
-use Rattle.std.proofs.Common.{◌≡◌, ◌≢◌, ℕ, ◌+◌, ◌-◌, ◌*◌, ◌<◌, ◌≤◌, List, [], ◌∷◌, ◌++◌, length, get_or, take, drop, sym, ap, ◌∙◌, append_assoc, Fits, w8, arith}
+use Rattle.std.proofs.Common.{◌≡◌, ◌≢◌, ℕ, ◌+◌, ◌-◌, ◌*◌, ◌<◌, ◌≤◌, List, [], ◌∷◌, ◌++◌, length, get_or, take, drop, sym, append_assoc, Fits, w8, arith}
 use Rattle.std.specs.Prelude.{true, false, ◌&&◌, ◌==◌, codes, nat_eq, nat_lt, slice_index}
 use Rattle.std.specs.List.{AllByRecursion, ends_with}
 use Rattle.std.specs.Str.{bytes_eq}
@@ -83,9 +83,4 @@ two_tested a b n m ha hb e f = grind (arith, nat_tests)
 pub offset_told : (b : List ℕ) (n m : ℕ) → length b ≡ 6 → ((k : ℕ) → Fits w8 (get_or b k 0))
     → get_or b 0 0 + get_or b 1 0 * 256 + get_or b 2 0 * 65_536 + get_or b 3 0 * 16_777_216 ≡ 976_236_587
     → n ≡ get_or b 4 0 + get_or b 5 0 * 256 → m ≡ 12_336 → (n == m) ≡ bytes_eq b (codes "+00:00")
-offset_told b n m h fits front back known =
-    let p = four_are (get_or b 0 0) (get_or b 1 0) (get_or b 2 0) (get_or b 3 0) (fits 0).fits (fits 1).fits (fits 2).fits (fits 3).fits front in
-    let whole : b ≡ 43 ∷ 48 ∷ 48 ∷ 58 ∷ get_or b 4 0 ∷ get_or b 5 0 ∷ [] =
-    six b h ∙ (λ i. p.0 i ∷ p.1 i ∷ p.2 i ∷ p.3 i ∷ get_or b 4 0 ∷ get_or b 5 0 ∷ []) in
-    two_tested (get_or b 4 0) (get_or b 5 0) n m (fits 4).fits (fits 5).fits back known
-    ∙ sym (ap (λ (l : List ℕ). bytes_eq l (codes "+00:00")) whole)
+offset_told b n m h fits front back known = grind (arith, nat_tests, four_are, six, two_tested)

@@ -21,9 +21,6 @@ add_nothing n (c ∷ cs) = grind (arith, common_steps, (add_nothing n cs))
 pub is_digit_told : (c : ℕ) → is_ascii_digit c ≡ true → IsInRange 48 57 c
 is_digit_told c h = grind (arith, nat_tests)
 
-pub is_digit_from : (c : ℕ) → IsInRange 48 57 c → is_ascii_digit c ≡ true
-is_digit_from c h = grind (arith, nat_tests)
-
 pub front_are_digits : (cs : List ℕ) → AreDigits (front_digits cs)
 front_are_digits [] = tt
 front_are_digits (c ∷ cs) = grind (arith, common_steps, (front_are_digits cs))
