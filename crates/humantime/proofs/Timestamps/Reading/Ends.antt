@@ -10,8 +10,6 @@ use Rattle.humantime.specs.Timestamps.Checks.{is_zone, ends_in_zone}
 use Rattle.humantime.specs.References.Timestamps.Reading.{zone_length}
 use Rattle.humantime.proofs.Timestamps.Reading.Bytes.{HoldsOfBytes}
 
--- ---- A text at the end of another
-
 -- ---- `Z` and `+00:00`
 
 pub last_letter : (b : List ℕ) → 1 ≤ length b → (slice_index b (length b - 1) == 90) ≡ ends_with nat_eq b (codes "Z")
