@@ -1,16 +1,9 @@
--- What a duration's text says: its characters and words, its spans, their sum and their limits, its first fault, its items;
--- and the one text that a duration prints as.
+-- What a duration's text says: its spans, their sum and limits, its first fault, its items; and the one text of a duration.
 pub mod Accepted
-pub mod Canonical
 pub mod Characters
 pub mod Counts
 pub mod Errors
 pub mod Faults
 pub mod Items
-pub mod Limits
-pub mod Messages
-pub mod Rests
-pub mod Slices
 pub mod Spans
-pub mod Sums
 pub mod Units

@@ -1,35 +1,28 @@
 -- The words that a caller's contracts need, in one place. docs/MODEL.md says each.
 
--- amounts of time
-pub use Rattle.humantime.specs.Values.Amounts.{nanos_per_second, duration_end}
+-- amounts of time, moments and dates
+pub use Rattle.humantime.specs.Values.{nanos_per_second, duration_end, moment, second_of, nano_of, moment_end}
+pub use Rattle.humantime.specs.Calendar.{IsDate, day_of}
+pub use Rattle.humantime.specs.Laws.Days.{OneDate}
 -- durations read: the answer as a function of the characters, and the relations that it is tied to
 pub use Rattle.humantime.specs.Durations.Characters.{bare_zero}
-pub use Rattle.humantime.specs.Durations.Errors.{told, told_text, fault_of, PointsInto, IsPlaceIn, IsPartOf}
+pub use Rattle.humantime.specs.Durations.Errors.{told, told_text, fault_of, PointsInto, IsPlaceIn, IsPartOf, fault_message}
 pub use Rattle.humantime.specs.References.Durations.Answers.{duration_answer, canonical_answer}
-pub use Rattle.humantime.specs.Durations.Accepted.{Accepted, Bare_zero, Sum_of}
+pub use Rattle.humantime.specs.Durations.Accepted.{Accepted, Bare_zero, Sum_of, value, additions, WithinLimits, AllHaveRoom}
 pub use Rattle.humantime.specs.Durations.Spans.{Span, Reads}
-pub use Rattle.humantime.specs.Durations.Sums.{value, additions}
-pub use Rattle.humantime.specs.Durations.Limits.{WithinLimits, AllHaveRoom}
 pub use Rattle.humantime.specs.Durations.Faults.{Fault, HasFault}
-pub use Rattle.humantime.specs.Durations.Items.{Items}
-pub use Rattle.humantime.specs.Durations.Messages.{fault_message}
 -- spans
-pub use Rattle.humantime.specs.Durations.Slices.{Lent, AreItems}
+pub use Rattle.humantime.specs.Durations.Items.{Items, Lent, AreItems}
 pub use Rattle.humantime.specs.References.Durations.Lents.{lent_of, item_of}
 pub use Rattle.humantime.specs.References.Durations.Remaining.{items_left, text_of, GivesItem}
 -- durations printed
-pub use Rattle.humantime.specs.Durations.Counts.{Counts, Canon}
-pub use Rattle.humantime.specs.Durations.Canonical.{IsCanonicalOf}
+pub use Rattle.humantime.specs.Durations.Counts.{Counts, Canon, IsCanonicalOf}
 pub use Rattle.humantime.specs.References.Durations.Printing.{duration_text}
--- moments and dates
-pub use Rattle.humantime.specs.Values.Moments.{moment, second_of, nano_of, moment_end}
-pub use Rattle.humantime.specs.Calendar.Dates.{IsDate, day_of, OneDate}
 -- timestamps read
 pub use Rattle.humantime.specs.Timestamps.Fields.{Fields, IsWeak, IsStrict, IsWeakMoment, IsStrictMoment}
-pub use Rattle.humantime.specs.Timestamps.Checks.{weak_checks, strict_checks, first_failed}
-pub use Rattle.humantime.specs.References.Timestamps.Reading.{weak_answer, strict_answer}
-pub use Rattle.humantime.specs.Timestamps.WeakAnswers.{IsWeakAnswer}
-pub use Rattle.humantime.specs.Timestamps.Messages.{timestamp_message}
+pub use Rattle.humantime.specs.Timestamps.Checks.{weak_checks, strict_checks, first_failed, timestamp_message}
+pub use Rattle.humantime.specs.References.Timestamps.Reading.{weak_answer, strict_answer, IsWeakAnswer}
 -- timestamps printed
-pub use Rattle.humantime.specs.Timestamps.Printed.{cut, IsPrinted, IsPrintable, ReadsAs, OnePrinted}
+pub use Rattle.humantime.specs.Timestamps.Printed.{cut, IsPrinted, IsPrintable}
+pub use Rattle.humantime.specs.Laws.Timestamps.{ReadsAs, OnePrinted}
 pub use Rattle.humantime.specs.References.Timestamps.Printing.{moment_kept, places_kept, IsTextOf, moment_text, printed_text, places_of, shortest_text}

@@ -1,8 +1,4 @@
--- What a timestamp's text says: its parts, the checks on its bytes, its moment; and the one text that a moment prints
--- as.
+-- What a timestamp's text says: its parts, the checks on its bytes, its moment; and the one text that a moment prints as.
 pub mod Checks
-pub mod Digits
 pub mod Fields
-pub mod Messages
 pub mod Printed
-pub mod WeakAnswers

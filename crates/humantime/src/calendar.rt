@@ -1,8 +1,7 @@
 //! Days from 1970-01-01 and the dates of 1970 to 9999.
 
 ghost use Rattle.std.specs.Prelude.{◌≡◌, ◌+◌, ◌-◌, ◌<◌, ◌≤◌, ◌↔◌, IsSome, IfSome};
-ghost use Rattle.humantime.specs.Calendar.Years.{days_in_year, days_in_month, days_of_years, days_of_months};
-ghost use Rattle.humantime.specs.Calendar.Dates.{IsDate, day_of};
+ghost use Rattle.humantime.specs.Calendar.{days_in_year, days_in_month, days_of_years, days_of_months, IsDate, day_of};
 ghost use Rattle.humantime.specs.References.Calendar.March.{march_days, march_year_length, march_length, march_months};
 
 use crate::turns::Turns;

@@ -8,7 +8,7 @@ pub(crate) mod sizes;
 mod words;
 
 /// A unit of time.
-#[derive(Clone, Copy, PartialEq, Eq, Debug)]
+#[derive(Clone, Copy, Debug)]
 pub(crate) enum Unit {
     Nanosecond,
     Microsecond,

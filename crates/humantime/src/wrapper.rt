@@ -139,7 +139,7 @@ impl Timestamp {
 
 /// Reads what `parse_rfc3339_weak` reads, with its errors.
 impl FromStr for Timestamp {
-    ghost use Rattle.humantime.specs.Timestamps.WeakAnswers.{IsWeakAnswer};
+    ghost use Rattle.humantime.specs.References.Timestamps.Reading.{IsWeakAnswer};
 
     type Err = TimestampError;
 

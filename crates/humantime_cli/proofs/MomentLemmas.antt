@@ -1,15 +1,15 @@
 -- A moment that a text names is one of 1970 to 9999.
-use Rattle.std.proofs.Common.{arith, ◌≡◌, ℕ, ◌+◌, ◌-◌, ◌*◌, ◌<◌, ◌≤◌, List, suc, subst, sym, refl, ◌↔◌}
+use Rattle.std.proofs.Common.{arith, ◌≡◌, ℕ, ◌+◌, ◌-◌, ◌*◌, ◌<◌, ◌≤◌, List, suc, subst, sym, refl, ◌↔◌, []}
 use Rattle.std.proofs.lemmas.Int.{ints}
-use Rattle.std.specs.Prelude.{ℤ, Result, Ok, Err, IfOk}
+use Rattle.std.specs.Prelude.{ℤ, Result, Ok, Err, IfOk, unwrap_or}
 use Rattle.humantime.specs.declared.date.error.TimestampError.{TimestampError}
 use Rattle.humantime.specs.declared.calendar.Date.{Date}
-use Rattle.humantime.specs.Calendar.Years.{days_in_year, days_in_month, days_of_months}
+use Rattle.humantime.specs.Calendar.{days_in_year, days_in_month, days_of_months}
 use Rattle.humantime.specs.Prelude.{IsDate, day_of, Fields, IsWeak, IsWeakMoment, IsStrictMoment, IsPrintable}
-use Rattle.humantime.specs.Timestamps.Fields.{moment_of, fraction_digits}
+use Rattle.humantime.specs.Timestamps.Fields.{moment_of}
 use Rattle.humantime.proofs.Dates.Years.{valid_told, days_of_years_within, february}
 use Rattle.humantime.proofs.Dates.Months.{below_12}
-use Rattle.humantime.proofs.Timestamps.Reading.Fractions.{nanos_bound}
+use Rattle.humantime.proofs.Timestamps.Reading.Fractions.{nanos_bound, digits_told}
 
 -- a month ends within its year
 month_within : (y : ℕ) (k : ℕ) → k < 12 → days_of_months y k + days_in_month y (suc k) ≤ days_in_year y
@@ -33,13 +33,13 @@ day_within d valid =
 -- the last moment is the last nanosecond of that day
 moment_within : (text : List ℕ) (f : Fields) → IsWeak text f → moment_of f < 253_402_300_800 * 1_000_000_000
 moment_within text f w =
-    omega (arith, day_within f.date w.date, w.hour, w.minute, nanos_bound (fraction_digits f.fraction) w.fraction)
+    omega (arith, day_within f.date w.date, w.hour, w.minute, nanos_bound (unwrap_or f.fraction []) (digits_told _ w.fraction))
 
 pub weak_printable : (text : List ℕ) (moment : ℤ) → IsWeakMoment text moment → IsPrintable moment
-weak_printable text moment m = subst IsPrintable (sym m.moment) (omega (arith, ints), omega (arith, ints, moment_within text m.fields m.weak))
+weak_printable text moment m = subst IsPrintable (sym m.2) (omega (arith, ints), omega (arith, ints, moment_within text m.0 m.1))
 
 pub strict_printable : (text : List ℕ) (moment : ℤ) → IsStrictMoment text moment → IsPrintable moment
-strict_printable text moment m = weak_printable text moment (record { fields = m.fields; weak = m.strict.weak; moment = m.moment })
+strict_printable text moment m = weak_printable text moment (m.0, m.1.weak, m.2)
 
 -- so is the moment that a parser answers
 pub read_printable : (P : ℤ → Type 0) (read : Result ℤ TimestampError) → ((t : ℤ) → (read ≡ Ok t) ↔ P t) → ((t : ℤ) → P t → IsPrintable t) → IfOk read IsPrintable

@@ -128,7 +128,7 @@ one_printed_moment m x y p q = one_text m (places_of m) x y (places_of_bound m) 
 
 prints_once : (c : Command) (t x y : List ℕ) → PrintsOf c t x → PrintsOf c t y → x ≡ y
 prints_once Duration t x y h k =
-    one_canon h.value x y h.canon (subst (λ d. Canon d y) (sym (same_value (chars t) h.value k.value (one_outcome (chars t)) h.accepted k.accepted)) k.canon)
+    one_canon h.duration x y h.canon (subst (λ d. Canon d y) (sym (same_value (chars t) h.duration k.duration (one_outcome (chars t)) h.accepted k.accepted)) k.canon)
 prints_once Strict t x y (m, a, p) (n, b, q) =
     one_printed_moment m x y p (subst (λ k. IsPrintedMoment k y) (sym (same_strict t m n a b)) q)
 prints_once Weak t x y (m, a, p) (n, b, q) =
@@ -140,7 +140,7 @@ says_once Strict t x y (e, h, p) (f, k, q) = p ∙ ap timestamp_message (same_so
 says_once Weak t x y (e, h, p) (f, k, q) = p ∙ ap timestamp_message (same_some e f (sym h ∙ k)) ∙ sym q
 
 never_both : (c : Command) (t x y : List ℕ) → PrintsOf c t x → SaysOf c t y → ⊥
-never_both Duration t x y p (e, h, q) = no_value_and_fault (chars t) p.value e (one_outcome (chars t)) p.accepted h
+never_both Duration t x y p (e, h, q) = no_value_and_fault (chars t) p.duration e (one_outcome (chars t)) p.accepted h
 never_both Strict t x y (m, a, p) (e, h, q) =
     let one = one_stamp_outcome t in
     not_both (strict_answer t) m e ((one.strict_value m).1 a) ((one.strict_error e).1 h)

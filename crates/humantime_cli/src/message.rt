@@ -1,9 +1,10 @@
 //! The messages of errors.
 
-ghost use Rattle.std.specs.Prelude.{◌≡◌, ◌++◌, decimal, chars, encode_utf8_all};
+ghost use Rattle.std.specs.Prelude.{◌≡◌, ◌++◌, decimal, chars};
 ghost use Rattle.humantime.specs.Prelude.{fault_of, fault_message};
-ghost use Rattle.humantime.specs.Durations.Messages.{unit_message};
-ghost use Rattle.humantime.specs.Timestamps.Messages as timestamps;
+ghost use Rattle.humantime.specs.Durations.Errors.{unit_message};
+ghost use Rattle.humantime.specs.References.Durations.UnitMessages.{message_of_unit};
+ghost use Rattle.humantime.specs.Timestamps.Checks as timestamps;
 ghost use Rattle.humantime_cli.specs.Writes.{Writes, line};
 
 use crate::writing::{WriteFailed, write_line};
@@ -53,8 +54,8 @@ fn write_place<W: Write>(to: &mut W, what: &str, at: usize) -> Result<(), WriteF
 
 /// Writes what is said of a unit that is missing or no unit's word, and a line feed. `value` is the number before it.
 fn write_unit<W: Write>(to: &mut W, unit: &str, value: u64) -> Result<(), WriteFailed>
-    ensures written { Writes result (W.contents to.old) (W.contents to.new) (line (unit_message unit.now value)) }
-    ensures characters { encode_utf8_all (chars unit.now) ≡ unit.now }
+    ensures written { Writes result (W.contents to.old) (W.contents to.new) (line (message_of_unit unit.now value)) }
+    ensures characters { unit_message (chars unit.now) value ≡ message_of_unit unit.now value }
 {
     if unit.is_empty() {
         let mut buffer = [0; 20];

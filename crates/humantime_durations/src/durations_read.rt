@@ -15,6 +15,18 @@ fn assert_values(rt: &impl Abort, rows: &[(&str, u64, u32)]) {
     }
 }
 
+/// Each text is too large, or too fine.
+fn assert_overflows(rt: &impl Abort, texts: &[&str]) {
+    for text in texts {
+        assert_same_at(
+            rt,
+            parse_duration(text),
+            Err(DurationError::NumberOverflow),
+            text,
+        );
+    }
+}
+
 /// Each text has this error.
 fn assert_errors(rt: &impl Abort, rows: &[(&str, DurationError<'_>)]) {
     for (text, error) in rows {
@@ -23,8 +35,8 @@ fn assert_errors(rt: &impl Abort, rows: &[(&str, DurationError<'_>)]) {
 }
 
 #[test]
-fn numbers_with_each_word_are_counted_in_its_unit(rt: HostRuntime) {
-    let below_seconds = [
+fn numbers_with_words_below_a_second_are_counted_in_their_unit(rt: HostRuntime) {
+    let rows = [
         ("17nsec", 0, 17),
         ("17nanos", 0, 17),
         ("33ns", 0, 33),
@@ -37,8 +49,12 @@ fn numbers_with_each_word_are_counted_in_its_unit(rt: HostRuntime) {
         ("6ms", 0, 6_000_000),
         ("32ms", 0, 32_000_000),
     ];
-    assert_values(&rt, &below_seconds);
-    let seconds_and_minutes = [
+    assert_values(&rt, &rows);
+}
+
+#[test]
+fn numbers_of_seconds_and_minutes_are_counted_in_their_unit(rt: HostRuntime) {
+    let rows = [
         ("3000s", 3000, 0),
         ("300sec", 300, 0),
         ("300secs", 300, 0),
@@ -50,8 +66,12 @@ fn numbers_with_each_word_are_counted_in_its_unit(rt: HostRuntime) {
         ("1minute", 60, 0),
         ("7minutes", 420, 0),
     ];
-    assert_values(&rt, &seconds_and_minutes);
-    let hours_to_weeks = [
+    assert_values(&rt, &rows);
+}
+
+#[test]
+fn numbers_of_hours_to_weeks_are_counted_in_their_unit(rt: HostRuntime) {
+    let rows = [
         ("2h", 7200, 0),
         ("7hr", 25_200, 0),
         ("7hrs", 25_200, 0),
@@ -66,8 +86,12 @@ fn numbers_with_each_word_are_counted_in_its_unit(rt: HostRuntime) {
         ("100wk", 60_480_000, 0),
         ("52w", 31_449_600, 0),
     ];
-    assert_values(&rt, &hours_to_weeks);
-    let months_and_years = [
+    assert_values(&rt, &rows);
+}
+
+#[test]
+fn numbers_of_months_and_years_are_counted_in_their_unit(rt: HostRuntime) {
+    let rows = [
         ("1month", 2_630_016, 0),
         ("3months", 7_890_048, 0),
         ("12M", 31_560_192, 0),
@@ -77,7 +101,7 @@ fn numbers_with_each_word_are_counted_in_its_unit(rt: HostRuntime) {
         ("10yr", 315_576_000, 0),
         ("17y", 536_479_200, 0),
     ];
-    assert_values(&rt, &months_and_years);
+    assert_values(&rt, &rows);
 }
 
 #[test]
@@ -193,8 +217,8 @@ fn the_greatest_values_are_reached(rt: HostRuntime) {
 }
 
 #[test]
-fn what_is_too_large_or_too_fine_overflows(rt: HostRuntime) {
-    let too_fine = [
+fn what_is_too_fine_overflows(rt: HostRuntime) {
+    let texts = [
         "17.5nsec",
         "5.1nanos",
         "0.0005ns",
@@ -210,7 +234,12 @@ fn what_is_too_large_or_too_fine_overflows(rt: HostRuntime) {
         "0.0001h",
         "0.00000005d",
     ];
-    let too_large = [
+    assert_overflows(&rt, &texts);
+}
+
+#[test]
+fn what_is_too_large_overflows(rt: HostRuntime) {
+    let texts = [
         "100000000000000000000ns",
         "100000000000000000us",
         "100000000000000ms",
@@ -233,16 +262,7 @@ fn what_is_too_large_or_too_fine_overflows(rt: HostRuntime) {
         "99999999999999999999~",
         "100000000000000000us 1foo",
     ];
-    for texts in [too_fine.as_slice(), too_large.as_slice()] {
-        for text in texts {
-            assert_same_at(
-                &rt,
-                parse_duration(text),
-                Err(DurationError::NumberOverflow),
-                text,
-            );
-        }
-    }
+    assert_overflows(&rt, &texts);
 }
 
 #[test]

@@ -2,7 +2,9 @@
 use Rattle.std.proofs.Common.{◌≡◌, ◌+◌, ◌*◌, Some, None, Ok, Err, refl}
 use Rattle.std.specs.Prelude.{codes, pos, negsuc}
 use Rattle.humantime.specs.declared.date.error.TimestampError.TheVariants.{OutOfRange, InvalidDigit, InvalidFormat}
-use Rattle.humantime.specs.Prelude.{nanos_per_second, weak_answer, strict_answer, moment_text, shortest_text}
+use Rattle.humantime.specs.Values.{nanos_per_second}
+use Rattle.humantime.specs.References.Timestamps.Printing.{moment_text, shortest_text}
+use Rattle.humantime.specs.References.Timestamps.Reading.{weak_answer, strict_answer}
 use Rattle.humantime.proofs.TimestampsOnLiterals.{timestamps_on_literals}
 
 weak_form : weak_answer (codes "2018-02-14 00:28:07") ≡ Ok (pos (1_518_568_087 * nanos_per_second))

@@ -3,6 +3,8 @@
 use crate::plain_calendar::{PlainDate, next_day};
 use crate::support::assert_same;
 use humantime::{Date, Turns, date_of_day, day_number};
+use std::ops::Range;
+use std::process::Abort;
 
 const TABLE: [(u32, u32, u32, u32); 23] = [
     (1970, 1, 1, 0),
@@ -61,21 +63,50 @@ fn dates_that_do_not_exist(rt: HostRuntime) {
     assert_same(&rt, date_of_day(2932897, &mut turns), None);
 }
 
-/// Each day of the calendar, beside a counter that goes from each date to the next.
-#[test]
-fn every_day_in_both_directions(rt: HostRuntime) {
+/// Each of so many days in both directions, beside a counter that goes from each date to the next; it ends at this date.
+fn assert_days(rt: &impl Abort, days: Range<u32>, first: PlainDate, end: PlainDate) {
     let mut turns = Turns::new();
-    let mut counted = PlainDate {
-        year: 1970,
-        month: 1,
-        day: 1,
-    };
-    for number in 0..2932897 {
+    let mut counted = first;
+    for number in days {
         let PlainDate { year, month, day } = counted;
         let date = Date { year, month, day };
-        assert_same(&rt, day_number(date, &mut turns), Some(number));
-        assert_same(&rt, date_of_day(number, &mut turns), Some(date));
+        assert_same(rt, day_number(date, &mut turns), Some(number));
+        assert_same(rt, date_of_day(number, &mut turns), Some(date));
         counted = next_day(counted);
     }
-    assert_same(&rt, counted.year, 10000);
+    assert_same(rt, counted, end);
+}
+
+/// The first day of a year.
+const fn new_year(year: u32) -> PlainDate {
+    PlainDate {
+        year,
+        month: 1,
+        day: 1,
+    }
+}
+
+// The three tests below meet: each ends on the day with which the next begins.
+const NEW_YEAR_4800: u32 = 1033636;
+
+const NEW_YEAR_7200: u32 = 1910218;
+
+#[test]
+fn every_day_to_4799_in_both_directions(rt: HostRuntime) {
+    assert_days(&rt, 0..NEW_YEAR_4800, new_year(1970), new_year(4800));
+}
+
+#[test]
+fn every_day_of_4800_to_7199_in_both_directions(rt: HostRuntime) {
+    assert_days(
+        &rt,
+        NEW_YEAR_4800..NEW_YEAR_7200,
+        new_year(4800),
+        new_year(7200),
+    );
+}
+
+#[test]
+fn every_day_from_7200_in_both_directions(rt: HostRuntime) {
+    assert_days(&rt, NEW_YEAR_7200..2932897, new_year(7200), new_year(10000));
 }

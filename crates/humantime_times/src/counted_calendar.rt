@@ -2,7 +2,7 @@
 //! date and day; the tests compare what they answer as well.
 
 ghost use Rattle.std.specs.Prelude.{◌≡◌, ◌+◌, ◌-◌, ◌<◌, ◌≤◌, ◌↔◌, IsSome, IfSome};
-ghost use Rattle.humantime.specs.Calendar.Years.{is_leap_year, days_in_year, days_in_month, days_of_years, days_of_months};
+ghost use Rattle.humantime.specs.Calendar.{is_leap_year, days_in_year, days_in_month, days_of_years, days_of_months};
 ghost use Rattle.humantime.specs.Prelude.{IsDate, day_of};
 
 use crate::support::assert_same;

@@ -1,7 +1,7 @@
 //! A calendar that goes from each date to the next, without a line of the library.
 
 /// Year, month and day of the month.
-#[derive(Clone, Copy)]
+#[derive(Clone, Copy, PartialEq, Debug)]
 pub(crate) struct PlainDate {
     pub year: u32,
     pub month: u32,

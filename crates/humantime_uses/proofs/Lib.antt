@@ -1,4 +1,1 @@
-pub mod LineEnds
-pub mod PrintedRows
-pub mod Stamps
 pub mod Waits

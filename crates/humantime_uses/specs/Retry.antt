@@ -12,10 +12,7 @@ wait_answer tries (Ok first) (Ok cap) = Ok (duration_text (wait first cap tries)
 wait_answer tries (Ok first) (Err fault) = Err fault
 wait_answer tries (Err fault) cap = Err fault
 
--- Both texts are durations, and the third is the canonical text of the wait.
-pub record IsWaitText (tries : ℕ) (first cap text : List ℕ) : Type 0 where
-  pub first_wait : ℕ
-  pub longest : ℕ
-  pub read : Accepted first first_wait
-  pub capped : Accepted cap longest
-  pub shown : Canon (wait first_wait longest tries) text
+-- both texts are durations, and the third is the canonical text of the wait
+abbrev pub IsWaitText : ℕ → List ℕ → List ℕ → List ℕ → Type 0
+IsWaitText tries first cap text =
+    (a : ℕ) × (b : ℕ) × Accepted first a × Accepted cap b × Canon (wait a b tries) text

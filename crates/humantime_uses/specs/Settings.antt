@@ -1,5 +1,5 @@
 -- Lines of a settings file.
-use Rattle.std.specs.Prelude.{◌≡◌, ◌++◌, true, ℕ, ◌+◌, ◌-◌, ◌==◌, Bool, ℤ, List, length, codes, chars, bytes_eq, nat_lt, Result, Ok, Err, ⊤, if◌then◌else◌}
+use Rattle.std.specs.Prelude.{ℕ, ◌+◌, ◌-◌, ◌==◌, Bool, ℤ, List, length, codes, chars, bytes_eq, nat_lt, Result, Ok, Err, ⊤, if◌then◌else◌}
 use Rattle.std.specs.List.{before_first, after_first, position_or_len}
 use Rattle.std.specs.Str.{byte, trim_start, trim_end}
 use Rattle.humantime.specs.declared.TimestampError.{TimestampError}
@@ -14,10 +14,6 @@ use Rattle.humantime.specs.Prelude.{Fault, PointsInto, duration_answer, strict_a
 abbrev pub is_equals : ℕ → Bool
 is_equals b = b == byte "="
 
--- the text stands at the end of the line
-abbrev pub EndsIn : List ℕ → List ℕ → Type 0
-EndsIn line text = (front : List ℕ) × (line ≡ front ++ text)
-
 -- there is a `=` in the line
 abbrev pub has_value : List ℕ → Bool
 has_value line = nat_lt (position_or_len is_equals line) (length line)
@@ -29,13 +25,9 @@ key_of line = trim_end (before_first is_equals line)
 abbrev pub value_of : List ℕ → List ℕ
 value_of line = trim_start (after_first is_equals line)
 
--- the byte of a text at which a fault stands, 0 where it has no place
-abbrev pub place_of : Fault → ℕ
-place_of (InvalidCharacter at) = at
-place_of (NumberExpected at) = at
-place_of (UnknownUnit start end unit value) = start
-place_of NumberOverflow = 0
-place_of Empty = 0
+-- the byte of the line at which the value begins
+abbrev pub value_at : List ℕ → ℕ
+value_at line = length line - length (value_of line)
 
 -- the fault of a text, its offsets counted from so many bytes before the text
 abbrev pub moved : ℕ → Fault → Fault
@@ -44,6 +36,14 @@ moved by (NumberExpected at) = NumberExpected (by + at)
 moved by (UnknownUnit start end unit value) = UnknownUnit (by + start) (by + end) unit value
 moved by NumberOverflow = NumberOverflow
 moved by Empty = Empty
+
+-- the byte at which a fault stands, or this one where it has no place
+abbrev pub fault_place : ℕ → Fault → ℕ
+fault_place at (InvalidCharacter place) = place
+fault_place at (NumberExpected place) = place
+fault_place at (UnknownUnit start end unit value) = start
+fault_place at NumberOverflow = at
+fault_place at Empty = at
 
 -- What is wrong with a line, its offsets counted in the line and a unit named by its characters.
 pub data Wrong : Type 0 where
@@ -82,7 +82,7 @@ refused key at wrong = Err (record { key = key; at = at; wrong = wrong })
 -- what a value at the end of a line sets, or that the line is refused: a duration, or its fault
 abbrev pub timeout_answer : List ℕ → ℕ → Result ℕ Fault → Result Setting Refusal
 timeout_answer key at (Ok timeout) = Ok (Timeout timeout)
-timeout_answer key at (Err fault) = refused key (at + place_of fault) (No_duration (moved at fault))
+timeout_answer key at (Err fault) = refused key (fault_place at (moved at fault)) (No_duration (moved at fault))
 
 -- a timestamp, or its error
 abbrev pub since_answer : List ℕ → ℕ → Result ℤ TimestampError → Result Setting Refusal
@@ -99,12 +99,5 @@ keyed_answer key at value =
 -- what a line says
 abbrev pub line_answer : List ℕ → Result Setting Refusal
 line_answer line =
-    if has_value line then keyed_answer (key_of line) (length line - length (value_of line)) (value_of line)
+    if has_value line then keyed_answer (key_of line) (value_at line) (value_of line)
     else refused (key_of line) (length line) No_value
-
--- The line has a `=`, this key and this value, and the value stands at its end.
-pub record HasParts (line key value : List ℕ) : Type 0 where
-  pub some : has_value line ≡ true
-  pub named : key ≡ key_of line
-  pub valued : value ≡ value_of line
-  pub ends : EndsIn line value

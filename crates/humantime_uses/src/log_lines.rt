@@ -7,7 +7,7 @@
 //! keeps_by_bytes("2018-02-14T00:28:07.133Z GET /", "2018-02-14T00:28:07.000Z", "2018-02-14T00:28:08.000Z")
 //! ```
 
-ghost use Rattle.std.specs.Prelude.{◌≡◌, ◌↔◌, ◌≤ℤ◌, ◌<ℤ◌, ℤ, true, IsTrue, IsSome, IfSome};
+ghost use Rattle.std.specs.Prelude.{◌≡◌, ◌↔◌, ℤ, true, IsTrue, IsSome, IfSome};
 ghost use Rattle.std.specs.Cmp.Lexicographic.{slice_cmp};
 ghost use Rattle.std.specs.Ordering.{nat_cmp, is_le, is_lt};
 ghost use Rattle.humantime.specs.Prelude.{IsPrintable, IsPrinted, cut};
@@ -20,7 +20,7 @@ pub fn keeps(line: &str, from: SystemTime, to: SystemTime) -> bool
     ensures { IsTrue result ↔ IsKept from to line.now }
 {
     match parse_rfc3339(stamp_of(line)) {
-        Ok(moment) => is_between(moment, from, to),
+        Ok(moment) => from <= moment && moment < to,
         Err(_) => false,
     }
 }
@@ -61,13 +61,6 @@ fn stamp_of(line: &str) -> &str
         Some((stamp, _)) => stamp,
         None => line,
     }
-}
-
-/// Whether a moment lies in a range.
-fn is_between(moment: SystemTime, from: SystemTime, to: SystemTime) -> bool
-    ensures { IsTrue result ↔ ((from ≤ℤ moment) × (moment <ℤ to)) }
-{
-    from <= moment && moment < to
 }
 
 /// Whether the bytes of a text lie in a range.

@@ -1,7 +1,7 @@
 //! A row of a report: when a job started, how long it took and how long it might have taken.
 //!
-//! `Display` writes exactly the row's bytes into any sink. A start outside 1970 to 9999 has no text, and then no row ends
-//! well.
+//! `Display` writes exactly the row's bytes into any sink. A start outside 1970 to 9999 has no text, and writing its row
+//! fails.
 //!
 //! ```text
 //! Row { start: UNIX_EPOCH, took, limit } prints `1970-01-01T00:00:00.000Z  1m 30s of 2h`

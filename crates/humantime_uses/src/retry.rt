@@ -29,13 +29,14 @@ pub fn wait_text<'a, 'b>(
 }
 
 /// The wait after so many tries. It is doubled no more often than it takes to reach the cap.
+#[tactic(auto, using(crate::proofs::Waits::wait_more, crate::proofs::Waits::wait_at_cap))]
 fn wait_after(first: StdDuration, cap: StdDuration, tries: u32) -> StdDuration
     ensures { result ≡ wait first cap tries }
 {
     if first == StdDuration::ZERO {
         return first;
     }
-    let mut wait = shorter(first, cap);
+    let mut wait = first.min(cap);
     for _done in 0..tries {
         if wait == cap {
             return cap;
@@ -50,14 +51,7 @@ fn doubled(time: StdDuration, cap: StdDuration) -> StdDuration
     ensures { result ≡ min (time + time) cap }
 {
     match time.checked_add(time) {
-        Some(twice) => shorter(twice, cap),
+        Some(twice) => twice.min(cap),
         None => cap,
     }
-}
-
-/// The shorter of two times.
-fn shorter(a: StdDuration, b: StdDuration) -> StdDuration
-    ensures { result ≡ min a b }
-{
-    if a < b { a } else { b }
 }

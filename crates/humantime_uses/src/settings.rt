@@ -9,10 +9,11 @@
 //!                ^
 //! ```
 
-ghost use Rattle.std.specs.Prelude.{◌≡◌, ◌++◌, ◌-◌, ◌≤◌, chars, drop, false, length, IfErr, MatchOption};
+ghost use Rattle.std.specs.Prelude.{◌≡◌, ◌↔◌, ◌++◌, chars, drop, length, IfErr, IfSome, IsSome, IsTrue};
+ghost use Rattle.std.specs.Str.{IsCharBoundary};
 ghost use Rattle.humantime.specs.Prelude.{PointsInto, duration_answer, fault_of, strict_answer};
 ghost use Rattle.std.specs.Fmt.{WritesOnOk};
-ghost use Rattle.humantime_uses.specs.Settings.{EndsIn, FaultPointsInto, HasParts, has_value, line_answer, moved, place_of, since_answer, timeout_answer, told_line};
+ghost use Rattle.humantime_uses.specs.Settings.{FaultPointsInto, fault_place, has_value, key_of, line_answer, moved, since_answer, timeout_answer, told_line, value_at, value_of};
 ghost use Rattle.humantime_uses.specs.Marks.{blank, marked};
 
 use humantime::{
@@ -64,88 +65,88 @@ pub fn read_line(line: &str) -> Result<Setting, LineError<'_>>
     ensures line { IfErr result (λ error. error.before.now ++ error.after.now ≡ line.now) }
     ensures place { IfErr result (λ error. FaultPointsInto line.now error.fault) }
 {
-    let Some((key, value)) = parts_of(line) else {
-        return Err(cut(line, line.trim_end(), "", LineFault::NoValue));
+    let Some((key, at)) = parts_of(line) else {
+        return Err(LineError {
+            key: line.trim_end(),
+            before: line,
+            after: "",
+            fault: LineFault::NoValue,
+        });
     };
     match key {
-        "timeout" => read_timeout(line, key, value),
-        "since" => read_since(line, key, value),
-        _ => Err(cut(line, key, line, LineFault::UnknownKey)),
+        "timeout" => read_timeout(line, key, at),
+        "since" => read_since(line, key, at),
+        _ => Err(LineError {
+            key,
+            before: "",
+            after: line,
+            fault: LineFault::UnknownKey,
+        }),
     }
 }
 
-/// The key and the value, if there is a `=`.
-fn parts_of(line: &str) -> Option<(&str, &str)>
-    ensures { MatchOption result (has_value line.now ≡ false) (λ parts. HasParts line.now parts.0.now parts.1.now) }
+/// The key, and the byte at which the value begins, if there is a `=`.
+fn parts_of(line: &str) -> Option<(&str, usize)>
+    ensures some { IsSome result ↔ IsTrue (has_value line.now) }
+    ensures key { IfSome result (λ parts. parts.0.now ≡ key_of line.now) }
+    ensures at { IfSome result (λ parts. parts.1 ≡ value_at line.now) }
+    ensures value { IfSome result (λ parts. drop parts.1 line.now ≡ value_of line.now) }
+    ensures boundary { IfSome result (λ parts. IsCharBoundary line.now parts.1) }
 {
     match line.split_once('=') {
-        Some((key, value)) => Some((key.trim_end(), value.trim_start())),
+        Some((key, value)) => Some((key.trim_end(), line.len() - value.trim_start().len())),
         None => None,
     }
 }
 
-/// The duration at the end of a line, or what is wrong with it.
-fn read_timeout<'a>(line: &'a str, key: &'a str, value: &'a str) -> Result<Setting, LineError<'a>>
-    requires { EndsIn line.now value.now }
-    ensures answer { told_line result ≡ timeout_answer key.now (length line.now - length value.now) (duration_answer (chars value.now)) }
+/// The duration that begins at a byte of a line, or what is wrong with it.
+fn read_timeout<'a>(line: &'a str, key: &'a str, at: usize) -> Result<Setting, LineError<'a>>
+    requires { IsCharBoundary line.now at }
+    ensures answer { told_line result ≡ timeout_answer key.now at (duration_answer (chars (drop at line.now))) }
     ensures line { IfErr result (λ error. error.before.now ++ error.after.now ≡ line.now) }
     ensures place { IfErr result (λ error. FaultPointsInto line.now error.fault) }
 {
-    match parse_duration(value) {
+    match parse_duration(&line[at..]) {
         Ok(timeout) => Ok(Setting::Timeout(timeout)),
         Err(error) => {
-            let after = from_fault(value, error);
-            let error = in_line(line, value, error);
-            Err(cut(line, key, after, LineFault::Duration(error)))
+            let error = in_line(line, at, error);
+            let place = place_or(line, at, error);
+            Err(cut(line, key, place, LineFault::Duration(error)))
         }
     }
 }
 
-/// The moment at the end of a line, or what is wrong with it.
-fn read_since<'a>(line: &'a str, key: &'a str, value: &'a str) -> Result<Setting, LineError<'a>>
-    requires { EndsIn line.now value.now }
-    ensures answer { told_line result ≡ since_answer key.now (length line.now - length value.now) (strict_answer value.now) }
+/// The moment that begins at a byte of a line, or what is wrong with it.
+fn read_since<'a>(line: &'a str, key: &'a str, at: usize) -> Result<Setting, LineError<'a>>
+    requires { IsCharBoundary line.now at }
+    ensures answer { told_line result ≡ since_answer key.now at (strict_answer (drop at line.now)) }
     ensures line { IfErr result (λ error. error.before.now ++ error.after.now ≡ line.now) }
     ensures place { IfErr result (λ error. FaultPointsInto line.now error.fault) }
 {
-    match parse_rfc3339(value) {
+    match parse_rfc3339(&line[at..]) {
         Ok(since) => Ok(Setting::Since(since)),
-        Err(error) => Err(cut(line, key, value, LineFault::Timestamp(error))),
+        Err(error) => Err(cut(line, key, at, LineFault::Timestamp(error))),
     }
 }
 
-/// A value from its fault on.
-fn from_fault<'a>(value: &'a str, error: DurationError<'_>) -> &'a str
-    requires { PointsInto value.now error }
-    ensures rest { result.now ≡ drop (place_of (fault_of error.entry)) value.now }
-    ensures within { place_of (fault_of error.entry) ≤ length value.now }
-{
-    match error {
-        DurationError::InvalidCharacter(at) | DurationError::NumberExpected(at) => &value[at..],
-        DurationError::UnknownUnit { start, .. } => &value[start..],
-        DurationError::NumberOverflow | DurationError::Empty => value,
-    }
-}
-
-/// The error of a value at the end of a line, with its offsets in the line.
-fn in_line<'a>(line: &str, value: &str, error: DurationError<'a>) -> DurationError<'a>
-    requires value { EndsIn line.now value.now }
-    requires place { PointsInto value.now error }
-    ensures fault { fault_of result ≡ moved (length line.now - length value.now) (fault_of error.entry) }
+/// The error of the value that begins at a byte of a line, with its offsets in the line.
+fn in_line<'a>(line: &str, at: usize, error: DurationError<'a>) -> DurationError<'a>
+    requires boundary { IsCharBoundary line.now at }
+    requires place { PointsInto (drop at line.now) error }
+    ensures fault { fault_of result ≡ moved at (fault_of error.entry) }
     ensures place { PointsInto line.now result }
 {
-    let before = line.len() - value.len();
     match error {
-        DurationError::InvalidCharacter(at) => DurationError::InvalidCharacter(before + at),
-        DurationError::NumberExpected(at) => DurationError::NumberExpected(before + at),
+        DurationError::InvalidCharacter(place) => DurationError::InvalidCharacter(at + place),
+        DurationError::NumberExpected(place) => DurationError::NumberExpected(at + place),
         DurationError::UnknownUnit {
             start,
             end,
             unit,
             value,
         } => DurationError::UnknownUnit {
-            start: before + start,
-            end: before + end,
+            start: at + start,
+            end: at + end,
             unit,
             value,
         },
@@ -154,15 +155,28 @@ fn in_line<'a>(line: &str, value: &str, error: DurationError<'a>) -> DurationErr
     }
 }
 
-/// The error of a line that ends in what stands from the fault on.
-fn cut<'a>(line: &'a str, key: &'a str, after: &'a str, fault: LineFault<'a>) -> LineError<'a>
-    requires { EndsIn line.now after.now }
+/// The byte of a line at which an error stands, or this one where it has no place.
+fn place_or(line: &str, at: usize, error: DurationError<'_>) -> usize
+    requires boundary { IsCharBoundary line.now at }
+    requires place { PointsInto line.now error }
+    ensures place { result ≡ fault_place at (fault_of error.entry) }
+    ensures boundary { IsCharBoundary line.now result }
+{
+    match error {
+        DurationError::InvalidCharacter(place) | DurationError::NumberExpected(place) => place,
+        DurationError::UnknownUnit { start, .. } => start,
+        DurationError::NumberOverflow | DurationError::Empty => at,
+    }
+}
+
+/// The error of a line whose fault stands at a byte.
+fn cut<'a>(line: &'a str, key: &'a str, at: usize, fault: LineFault<'a>) -> LineError<'a>
+    requires { IsCharBoundary line.now at }
     ensures key { result.key.now ≡ key.now }
-    ensures at { length result.before.now ≡ length line.now - length after.now }
+    ensures at { length result.before.now ≡ at }
     ensures line { result.before.now ++ result.after.now ≡ line.now }
     ensures fault { result.fault ≡ fault.entry }
 {
-    let at = line.len() - after.len();
     let (before, after) = line.split_at(at);
     LineError {
         key,

@@ -1,9 +1,9 @@
 -- The date that is found by cycles is the date of the day.
-use Rattle.std.proofs.lemmas.Grind.{common_steps}
 use Rattle.std.proofs.Common.{◌≡◌, ℕ, ◌+◌, ◌-◌, ◌<◌, ◌≤◌, refl, sym, subst, arith}
 use Rattle.std.specs.Prelude.{Bool, true, false, nat_lt, if◌then◌else◌}
 use Rattle.std.proofs.lemmas.Bool.{ltb-true, ltb-false}
-use Rattle.humantime.specs.Calendar.Dates.{IsDateOfDay}
+use Rattle.humantime.specs.Laws.Days.{IsDateOfDay}
+use Rattle.std.proofs.lemmas.Grind.{common_steps}
 use Rattle.humantime.specs.References.Calendar.DatesOfDays.{march_year, march_month, march_date, date_in_march_year, date_of}
 use Rattle.humantime.specs.References.Calendar.March.{march_days, march_year_length, march_length, march_months}
 use Rattle.humantime.proofs.Dates.Years.{march_days_next, days_in_year_bound}

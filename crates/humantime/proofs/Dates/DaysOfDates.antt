@@ -3,9 +3,9 @@ use Rattle.std.proofs.lemmas.Grind.{common_steps}
 use Rattle.std.proofs.Common.{◌≡◌, ◌∙◌, ℕ, zero, suc, ◌+◌, ◌-◌, ◌<◌, ◌≤◌, refl, sym, arith, inl, inr}
 use Rattle.std.proofs.lemmas.Bool.{cases_order, cases_lt}
 use Rattle.humantime.specs.declared.calendar.Date.{Date}
-use Rattle.humantime.specs.Calendar.Years.{days_in_year, days_in_month, days_of_years, days_of_months, day_count}
-use Rattle.humantime.specs.Calendar.Dates.{IsDate, day_of, IsDateOfDay, OneDate}
-use Rattle.humantime.proofs.Dates.Years.{AreWithin, valid_told, valid_from, days_of_years_next, days_of_no_years, days_of_no_months, days_of_months_next, twelve_months, month_end, days_of_years_more, march_days_of_years}
+use Rattle.humantime.specs.Calendar.{days_in_year, days_in_month, days_of_years, days_of_months, IsDate, day_of}
+use Rattle.humantime.specs.Laws.Days.{IsDateOfDay, OneDate}
+use Rattle.humantime.proofs.Dates.Years.{AreWithin, valid_told, valid_from, days_of_years_next, days_of_no_years, days_of_no_months, days_of_months_next, twelve_months, month_end, days_of_years_more, march_days_of_years, day_count}
 use Rattle.humantime.specs.References.Calendar.March.{march_days}
 
 -- more years have no fewer days, nor have more months

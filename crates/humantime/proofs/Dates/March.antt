@@ -1,10 +1,10 @@
 -- Years that begin with March, beside those of the calendar.
-use Rattle.std.proofs.lemmas.Grind.{common_steps}
-use Rattle.std.proofs.Common.{◌≡◌, ◌⊎◌, inl, inr, ℕ, zero, suc, ◌+◌, ◌-◌, ◌<◌, ◌≤◌, refl, ap, subst, sym, arith}
-use Rattle.humantime.specs.Calendar.Years.{days_in_year, days_in_month, days_of_years, days_of_months, IsValid, day_count}
+use Rattle.std.proofs.Common.{◌≡◌, ◌⊎◌, inl, inr, ℕ, zero, suc, ◌+◌, ◌-◌, ◌<◌, ◌≤◌, refl, ap, subst, sym, arith, IsTrue}
+use Rattle.humantime.specs.Calendar.{days_in_year, days_in_month, days_of_years, days_of_months, is_valid}
 use Rattle.humantime.specs.References.Calendar.March.{march_days, march_year_length, march_length, march_months}
 use Rattle.humantime.proofs.Dates.Months.{ten_or_eleven}
-use Rattle.humantime.proofs.Dates.Years.{march_days_of_years, days_in_year_bound}
+use Rattle.humantime.proofs.Dates.Years.{march_days_of_years, days_in_year_bound, day_count}
+use Rattle.std.proofs.lemmas.Grind.{common_steps}
 
 pub march_months_next : (k : ℕ) → k < 12 → march_months (k + 1) ≡ march_months k + march_length k
 unfolding march_months march_length
@@ -65,7 +65,7 @@ days_after_march n enough = grind (arith, common_steps, march_days_of_years)
 
 pub early_valid : (n : ℕ) (k : ℕ) (left : ℕ) → k < 10 → left < march_length k
     → 135_080 ≤ march_days n + march_months k + left → march_days n + march_months k + left ≤ 3_067_976
-    → IsValid (1600 + n) (k + 3) (left + 1)
+    → IsTrue (is_valid (1600 + n) (k + 3) (left + 1))
 early_valid n k left early short first last = grind (arith, common_steps, early_bound, early_length)
 
 pub early_day : (n : ℕ) (k : ℕ) (left : ℕ) → k < 10 → left < march_length k
@@ -77,7 +77,7 @@ early_day n k left early short first = grind (arith, common_steps, early_bound, 
 pub late_valid : (n : ℕ) (k : ℕ) (left : ℕ) → k < 12 → 10 ≤ k → left < march_length k
     → march_months k + left < march_year_length n
     → 135_080 ≤ march_days n + march_months k + left → march_days n + march_months k + left ≤ 3_067_976
-    → IsValid (1601 + n) (k - 9) (left + 1)
+    → IsTrue (is_valid (1601 + n) (k - 9) (left + 1))
 late_valid n k left some late short within first last = grind (arith, common_steps, (late_months (1601 + n) k some late), (late_length (1601 + n) left k some late short within))
 
 pub late_day : (n : ℕ) (k : ℕ) (left : ℕ) → k < 12 → 10 ≤ k → march_months k + left < march_year_length n

@@ -1,12 +1,16 @@
 -- The days of years and of months in closed form.
+use Rattle.std.proofs.Common.{◌≡◌, ℕ, zero, suc, ◌+◌, ◌-◌, ◌*◌, ◌/◌, ◌<◌, ◌≤◌, refl, arith, IsTrue}
 use Rattle.std.proofs.lemmas.Grind.{common_steps}
-use Rattle.std.proofs.Common.{◌≡◌, ℕ, zero, suc, ◌+◌, ◌-◌, ◌*◌, ◌/◌, ◌<◌, ◌≤◌, refl, arith}
 use Rattle.std.specs.Prelude.{true, ◌&&◌, if◌then◌else◌, [], ◌∷◌, slice_index_or, nat_lt}
 use Rattle.std.specs.Int.{IsInRange, is_in_range}
 use Rattle.std.proofs.lemmas.Bool.Decides.{nat_tests}
-use Rattle.humantime.specs.Calendar.Years.{days_in_year, days_in_month, days_of_years, days_of_months, IsValid}
+use Rattle.humantime.specs.Calendar.{days_in_year, days_in_month, days_of_years, days_of_months, is_valid}
 use Rattle.humantime.proofs.Dates.Months.{below_12}
 use Rattle.humantime.specs.References.Calendar.March.{march_days, march_year_length}
+
+-- how many days lie between 1970-01-01 and day d of month m of year y
+abbrev pub day_count : ℕ → ℕ → ℕ → ℕ
+day_count y m d = days_of_years (y - 1970) + days_of_months y (m - 1) + (d - 1)
 
 -- the ranges of a date that exists
 abbrev pub AreWithin : ℕ → ℕ → ℕ → Type 0
@@ -16,10 +20,10 @@ within_ranges : (y m n d : ℕ) → (is_in_range 1970 9999 y && is_in_range 1 12
     → IsInRange 1970 9999 y × IsInRange 1 12 m × IsInRange 1 n d
 within_ranges y m n d h = grind (arith, nat_tests)
 
-pub valid_told : (y m d : ℕ) → IsValid y m d → AreWithin y m d
+pub valid_told : (y m d : ℕ) → IsTrue (is_valid y m d) → AreWithin y m d
 valid_told y m d h = within_ranges y m (days_in_month y m) d h
 
-pub valid_from : (y m d : ℕ) → AreWithin y m d → IsValid y m d
+pub valid_from : (y m d : ℕ) → AreWithin y m d → IsTrue (is_valid y m d)
 valid_from y m d h = grind (arith, common_steps, nat_tests)
 
 pub march_days_next : (n : ℕ) → march_days (n + 1) ≡ march_days n + march_year_length n

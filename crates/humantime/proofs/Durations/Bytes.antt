@@ -8,5 +8,6 @@ pub mod Points
 pub mod SpanEnds
 pub mod SpanExits
 pub mod Tails
+pub mod UnitMessages
 pub mod Trimming
 pub mod WordKeys

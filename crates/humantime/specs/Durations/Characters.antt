@@ -1,5 +1,5 @@
--- The characters of a duration's text.
-use Rattle.std.specs.Prelude.{ℕ, ◌-◌, Bool, false, ◌||◌, ◌==◌, List, [], ◌∷◌, length, if◌then◌else◌, encode_utf8_all, filter, codes}
+-- The characters of a duration's text, and what timestamps share: the front of a list, and the number that digits show.
+use Rattle.std.specs.Prelude.{ℕ, ◌-◌, Bool, false, ◌||◌, ◌==◌, List, [], ◌∷◌, length, if◌then◌else◌, encode_utf8_all, filter, codes, reverse}
 use Rattle.std.specs.Char.{char_set_contains, is_ascii_digit, is_ascii_alphabetic}
 use Rattle.std.specs.Str.{byte}
 use Rattle.std.specs.Str.Parse.{digits_value}
@@ -16,6 +16,10 @@ micro_sign = 0xb5
 
 abbrev pub greek_mu : ℕ
 greek_mu = 0x3bc
+
+-- the bytes of `µs`, spelled with the micro sign
+abbrev pub micro_suffix : List ℕ
+micro_suffix = 0xc2 ∷ 0xb5 ∷ codes "s"
 
 -- what a character is: white space, a digit 0 to 9, a letter, or a point
 unfoldable pub is_ws : ℕ → Bool
@@ -64,15 +68,9 @@ digits cs = filter is_digit cs
 abbrev pub decimal_value : List ℕ → ℕ
 decimal_value ds = digits_value 10 ds
 
--- a digit and those that are left behind it; a zero with none behind it is dropped
-abbrev pub kept : ℕ → List ℕ → List ℕ
-kept d [] = if d == byte "0" then [] else d ∷ []
-kept d (e ∷ es) = d ∷ e ∷ es
-
 -- the digits without the zeros at their end
 unfoldable pub significant : List ℕ → List ℕ
-significant [] = []
-significant (d ∷ ds) = kept d (significant ds)
+significant ds = reverse (past (λ d. d == byte "0") (reverse ds))
 
 -- the greatest number that a u64 holds
 abbrev pub u64_max : ℕ

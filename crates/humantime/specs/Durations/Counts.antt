@@ -1,11 +1,14 @@
--- A duration in nine counts, and its one printed text, which is bytes.
-use Rattle.std.specs.Prelude.{◌≡◌, ◌⊎◌, ℕ, zero, suc, ◌+◌, ◌*◌, ◌<◌, Bool, true, false, ◌&&◌, List, [], ◌∷◌, ◌++◌, length, codes, decimal, nat_lt, if◌then◌else◌}
+-- A duration in nine counts, its one printed text, and the canonical text of what a text spells. Texts are bytes here.
+use Rattle.std.specs.Prelude.{◌≡◌, ℕ, zero, suc, ◌+◌, ◌*◌, Bool, true, false, ◌&&◌, List, [], ◌∷◌, ◌++◌, length, codes, decimal, nat_lt, if◌then◌else◌, chars, IsTrue}
 use Rattle.std.specs.List.{join_with_byte}
 use Rattle.std.specs.Str.{byte}
-use Rattle.humantime.specs.Values.Amounts.{nanos_per_micro, nanos_per_milli, nanos_per_second, seconds_per_minute, seconds_per_hour, seconds_per_day, seconds_per_month, seconds_per_year}
+use Rattle.std.specs.Ordering.{nat_cmp, is_le}
+use Rattle.std.specs.Cmp.Lexicographic.{slice_cmp}
+use Rattle.humantime.specs.Durations.Characters.{micro_suffix}
+use Rattle.humantime.specs.Values.{nanos_per_micro, nanos_per_milli, nanos_per_second, seconds_per_minute, seconds_per_hour, seconds_per_day, seconds_per_month, seconds_per_year}
+use Rattle.humantime.specs.Durations.Accepted.{Accepted}
 
--- the weights of the counts in nanoseconds: years, months, days, hours, minutes, seconds, milliseconds, microseconds and
--- nanoseconds
+-- the weights of the nine counts in nanoseconds, from years to nanoseconds
 abbrev pub weights : List ℕ
 weights =
     seconds_per_year * nanos_per_second ∷ seconds_per_month * nanos_per_second ∷ seconds_per_day * nanos_per_second
@@ -17,49 +20,29 @@ weighted_sum [] counts = 0
 weighted_sum (w ∷ ws) [] = 0
 weighted_sum (w ∷ ws) (c ∷ cs) = w * c + weighted_sum ws cs
 
--- the first count that differs is less
-abbrev pub IsBefore : List ℕ → List ℕ → Type 0
-IsBefore [] ys = ⊥
-IsBefore (x ∷ xs) [] = ⊥
-IsBefore (x ∷ xs) (y ∷ ys) = (x < y) ⊎ ((x ≡ y) × IsBefore xs ys)
-
--- The counts have this sum, and no other counts with it are lexicographically greater.
+-- The counts have this sum, and all others with it are lexicographically at most these.
 pub record AreGreatest (ws : List ℕ) (d : ℕ) (counts : List ℕ) : Type 0 where
   pub as_many : length counts ≡ length ws
   pub sum : weighted_sum ws counts ≡ d
-  pub greatest : (others : List ℕ) → length others ≡ length ws → weighted_sum ws others ≡ d → ¬ (IsBefore counts others)
+  pub greatest : (others : List ℕ) → length others ≡ length ws → weighted_sum ws others ≡ d
+      → IsTrue (is_le (slice_cmp nat_cmp others counts))
 
 -- the nine counts of d nanoseconds
 abbrev pub Counts : ℕ → List ℕ → Type 0
 Counts d counts = AreGreatest weights d counts
 
--- What stands behind a count, and whether it takes an s above one.
-pub record Suffix : Type 0 where
-  pub text : List ℕ
-  pub plural : Bool
-
-abbrev pub with_plural : List ℕ → Suffix
-with_plural text = record { text = text; plural = true }
-
-abbrev pub without_plural : List ℕ → Suffix
-without_plural text = record { text = text; plural = false }
-
--- the bytes of `µs`, spelled with the micro sign
-abbrev pub micros : List ℕ
-micros = 0xc2 ∷ 0xb5 ∷ codes "s"
-
-abbrev pub suffixes : List Suffix
+-- what stands behind each count, and whether it takes an s above one
+abbrev pub suffixes : List (List ℕ × Bool)
 suffixes =
-    with_plural (codes "year") ∷ with_plural (codes "month") ∷ with_plural (codes "day")
-    ∷ without_plural (codes "h") ∷ without_plural (codes "m") ∷ without_plural (codes "s")
-    ∷ without_plural (codes "ms") ∷ without_plural micros ∷ without_plural (codes "ns") ∷ []
+    (codes "year", true) ∷ (codes "month", true) ∷ (codes "day", true) ∷ (codes "h", false) ∷ (codes "m", false) ∷ (codes "s", false)
+    ∷ (codes "ms", false) ∷ (micro_suffix, false) ∷ (codes "ns", false) ∷ []
 
 -- a count's digits and its suffix
-abbrev pub printed_count : ℕ → Suffix → List ℕ
-printed_count n s = decimal n ++ s.text ++ (if s.plural && nat_lt 1 n then codes "s" else [])
+abbrev pub printed_count : ℕ → List ℕ × Bool → List ℕ
+printed_count n s = decimal n ++ s.0 ++ (if s.1 && nat_lt 1 n then codes "s" else [])
 
 -- each count that isn't zero, with its suffix
-abbrev pub printed_counts : List ℕ → List Suffix → List (List ℕ)
+abbrev pub printed_counts : List ℕ → List (List ℕ × Bool) → List (List ℕ)
 printed_counts [] ss = []
 printed_counts (n ∷ ns) [] = []
 printed_counts (zero ∷ ns) (s ∷ ss) = printed_counts ns ss
@@ -70,8 +53,14 @@ abbrev pub joined_by_space : List (List ℕ) → List ℕ
 joined_by_space [] = codes "0s"
 joined_by_space (p ∷ ps) = join_with_byte (byte " ") (p ∷ ps)
 
--- The one printed text of a duration of d nanoseconds: its counts, each that isn't zero with its suffix.
+-- The canonical text of a duration of d nanoseconds, the one that it is printed as: its counts, each that isn't zero with its suffix.
 pub record Canon (d : ℕ) (bytes : List ℕ) : Type 0 where
   pub counts : List ℕ
   pub are : Counts d counts
   pub shown : bytes ≡ joined_by_space (printed_counts counts suffixes)
+
+-- The first text is accepted, and the second is the canonical text of its duration.
+pub record IsCanonicalOf (bytes printed : List ℕ) : Type 0 where
+  pub duration : ℕ
+  pub accepted : Accepted (chars bytes) duration
+  pub canon : Canon duration printed

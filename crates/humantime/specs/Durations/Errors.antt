@@ -1,10 +1,12 @@
--- What an error of a duration's text says. A text is its bytes here, for offsets count them.
-use Rattle.std.specs.Prelude.{◌≡◌, ℕ, ◌<◌, ◌≤◌, List, length, Result, Ok, Err, ⊤, chars, slice_range}
+-- What an error of a duration's text says, and its message. A text is its bytes here, for offsets count them.
+use Rattle.std.specs.Prelude.{◌≡◌, ℕ, ◌<◌, ◌≤◌, List, length, Result, ⊤, chars, slice_range, ◌++◌, codes, decimal, encode_utf8_all, ◌∷◌, []}
 use Rattle.std.specs.Borrow.{Bor}
 use Rattle.std.specs.Str.{IsCharBoundary}
+use Rattle.std.specs.Result.{result_map_both}
+use Rattle.humantime.specs.Durations.Characters.{micro_suffix}
 use Rattle.humantime.specs.declared.duration.error.DurationError.{DurationError}
-use Rattle.humantime.specs.declared.duration.error.DurationError.TheVariants as errors
 use Rattle.humantime.specs.Durations.Faults.{Fault, InvalidCharacter, NumberExpected, UnknownUnit, NumberOverflow, Empty}
+use Rattle.humantime.specs.declared.duration.error.DurationError.TheVariants as errors
 
 -- the fault that an error names; a unit is named by its characters, not by its place in memory
 abbrev pub fault_of : DurationError → Fault
@@ -16,24 +18,19 @@ fault_of errors.Empty = Empty
 
 -- what was answered, its error as the fault that it names: a duration in nanoseconds, or a text
 abbrev pub told : Result ℕ DurationError → Result ℕ Fault
-told (Ok d) = Ok d
-told (Err e) = Err (fault_of e)
+told r = result_map_both (λ d. d) fault_of r
 
 abbrev pub told_text : Result (Bor (List ℕ)) DurationError → Result (List ℕ) Fault
-told_text (Ok t) = Ok t.now
-told_text (Err e) = Err (fault_of e)
+told_text r = result_map_both (λ t. t.now) fault_of r
 
 -- at this offset a character of the text begins
 abbrev pub IsPlaceIn : List ℕ → ℕ → Type 0
 IsPlaceIn bytes at = (at < length bytes) × IsCharBoundary bytes at
 
--- The part is that of the text from the one offset to the other, between two characters' ends.
-pub record IsPartOf (bytes part : List ℕ) (start end : ℕ) : Type 0 where
-  pub in_order : start ≤ end
-  pub inside : end ≤ length bytes
-  pub start_boundary : IsCharBoundary bytes start
-  pub end_boundary : IsCharBoundary bytes end
-  pub part_is : part ≡ slice_range bytes start end
+-- the part is that of the text from the one offset to the other, both between characters
+abbrev pub IsPartOf : List ℕ → List ℕ → ℕ → ℕ → Type 0
+IsPartOf bytes part start end =
+    (start ≤ end) × IsCharBoundary bytes start × IsCharBoundary bytes end × (part ≡ slice_range bytes start end)
 
 -- the error points into the text: its offset is a character's, and its unit is the part between its offsets
 abbrev pub PointsInto : List ℕ → DurationError → Type 0
@@ -42,3 +39,20 @@ PointsInto bytes (errors.NumberExpected at) = IsPlaceIn bytes at
 PointsInto bytes (errors.UnknownUnit start end unit value) = IsPartOf bytes unit.now start end
 PointsInto bytes errors.NumberOverflow = ⊤
 PointsInto bytes errors.Empty = ⊤
+
+-- what is said of a number with no unit, and of a unit that is no unit's word
+abbrev pub unit_message : List ℕ → ℕ → List ℕ
+unit_message [] value = codes "time unit needed, for example " ++ decimal value ++ codes "sec or " ++ decimal value ++ codes "ms"
+unit_message (c ∷ cs) value =
+    codes "unknown time unit \"" ++ encode_utf8_all (c ∷ cs)
+    ++ (codes "\", supported units: ns, us/" ++ micro_suffix
+    ++ codes ", ms, sec, min, hours, days, weeks, months, years (and few variations)")
+
+-- the message of each fault
+abbrev pub fault_message : Fault → List ℕ
+fault_message (InvalidCharacter at) = codes "invalid character at " ++ decimal at
+fault_message (NumberExpected at) = codes "expected number at " ++ decimal at
+fault_message (UnknownUnit start end unit value) = unit_message unit value
+fault_message NumberOverflow =
+    codes "number is too large or cannot be represented without a lack of precision (values below 1ns are not supported)"
+fault_message Empty = codes "value was empty"

@@ -1,10 +1,34 @@
 -- The first fault of a text that is not accepted. A text is its list of characters; offsets count its bytes.
-use Rattle.std.specs.Prelude.{◌≡◌, ◌≢◌, ◌⊎◌, ◌==◌, ◌&&◌, ℕ, Bool, true, false, List, [], ◌∷◌, ◌++◌, Some, None, IsSome, bytes_eq}
-use Rattle.humantime.specs.Durations.Characters.{is_ws, is_digit, is_numeric, begins, ends, decimal_value, offset_of, byte_length, bare_zero}
+use Rattle.std.specs.Prelude.{ℕ, List, [], ◌∷◌, Option, Some, None, if◌then◌else◌, ◌≡◌, ◌≢◌, ◌⊎◌, true, false, ◌++◌, IsSome, drop}
+use Rattle.humantime.specs.Durations.Characters.{is_letter, is_numeric, is_point, leading, past, digits, is_ws, is_digit, begins, ends, decimal_value, offset_of, byte_length, bare_zero}
+use Rattle.humantime.specs.Durations.Spans.{Span, SpellsAll}
 use Rattle.humantime.specs.Durations.Units.{scale_of_word}
-use Rattle.humantime.specs.Durations.Spans.{Span, Front}
-use Rattle.humantime.specs.Durations.Limits.{IsShort, WithinLimits}
-use Rattle.humantime.specs.Durations.Rests.{number_of, after_number, fraction_of, after_fraction, word_of, after_word, span_of}
+use Rattle.humantime.specs.Durations.Accepted.{NumbersFit, WithinLimits}
+
+-- the number that begins a rest: its digits, and what follows it
+abbrev pub number_of : List ℕ → List ℕ
+number_of rest = digits (leading is_numeric rest)
+
+abbrev pub after_number : List ℕ → List ℕ
+after_number rest = past is_numeric rest
+
+-- the fraction, if a point follows the number: its digits, and what follows both
+abbrev pub fraction_of : List ℕ → Option (List ℕ)
+fraction_of rest = if begins is_point (after_number rest) then Some (number_of (drop 1 (after_number rest))) else None
+
+abbrev pub after_fraction : List ℕ → List ℕ
+after_fraction rest = if begins is_point (after_number rest) then after_number (drop 1 (after_number rest)) else after_number rest
+
+-- the word: the letters that follow both, and what follows them
+abbrev pub word_of : List ℕ → List ℕ
+word_of rest = leading is_letter (after_fraction rest)
+
+abbrev pub after_word : List ℕ → List ℕ
+after_word rest = past is_letter (after_fraction rest)
+
+-- the span that begins the rest
+abbrev pub span_of : List ℕ → Span
+span_of rest = record { number = number_of rest; fraction = fraction_of rest; word = word_of rest }
 
 -- What is wrong with a text, with offsets in bytes.
 pub data Fault : Type 0 where
@@ -14,29 +38,15 @@ pub data Fault : Type 0 where
   NumberOverflow : Fault
   Empty : Fault
 
--- whether two faults are the same
-abbrev pub fault_eq : Fault → Fault → Bool
-fault_eq (InvalidCharacter at) (InvalidCharacter at') = at == at'
-fault_eq (NumberExpected at) (NumberExpected at') = at == at'
-fault_eq (UnknownUnit start end unit value) (UnknownUnit start' end' unit' value') =
-    start == start' && end == end' && bytes_eq unit unit' && value == value'
-fault_eq NumberOverflow NumberOverflow = true
-fault_eq Empty Empty = true
-fault_eq _ _ = false
-
 -- The text is a front that spells the spans, and then a rest that doesn't begin with white space.
 pub record Split (text front : List ℕ) (spans : List Span) (rest : List ℕ) : Type 0 where
   pub whole : text ≡ front ++ rest
-  pub read : Front front spans
+  pub spelled : SpellsAll front spans
   pub no_space : begins is_ws rest ≡ false
 
--- the front's last character is white space
-abbrev pub EndsInSpace : List ℕ → Type 0
-EndsInSpace front = ends is_ws front ≡ true
-
--- a number begins the rest, and neither it nor the fraction behind it is too long
+-- a digit begins the rest, and its number and its fraction fit
 abbrev pub StartsNumber : List ℕ → Type 0
-StartsNumber rest = (begins is_digit rest ≡ true) × IsShort (span_of rest)
+StartsNumber rest = (begins is_digit rest ≡ true) × NumbersFit (span_of rest)
 
 -- a digit, white space or the end follows
 abbrev pub MayFollowWord : List ℕ → Type 0
@@ -45,53 +55,27 @@ MayFollowWord next = (next ≡ []) ⊎ (begins is_numeric next ≡ true)
 -- How a text goes wrong at a rest, after spans that stand before it, whatever these add up to.
 pub data Stops (text front : List ℕ) (spans : List Span) (rest : List ℕ) (e : Fault) : Type 0 where
   -- there is nothing, or only white space
-  Nothing_there : (no_span : spans ≡ [])
-      → (at_end : rest ≡ [])
-      → e ≡ Empty → Stops text front spans rest e
+  Nothing_there : spans ≡ [] → rest ≡ [] → e ≡ Empty → Stops text front spans rest e
   -- no digit where a number has to begin: at the start, or after a span that ends in white space
-  No_number : (no_digit : begins is_digit rest ≡ false)
-      → (not_at_end : rest ≢ [])
-      → (due : (spans ≡ []) ⊎ EndsInSpace front)
+  No_number : begins is_digit rest ≡ false → rest ≢ [] → (spans ≡ []) ⊎ (ends is_ws front ≡ true)
       → e ≡ NumberExpected (offset_of text rest) → Stops text front spans rest e
-  -- the number or its fraction is too long, whatever follows
-  Too_long : (digit : begins is_digit rest ≡ true)
-      → (long : ¬ (IsShort (span_of rest)))
-      → e ≡ NumberOverflow → Stops text front spans rest e
-  -- after the number a character that is no digit, white space, letter or point
-  Bad_after_number : (number : StartsNumber rest)
-      → (no_point : fraction_of rest ≡ None)
-      → (no_letter : word_of rest ≡ [])
-      → (not_at_end : after_word rest ≢ [])
-      → e ≡ InvalidCharacter (offset_of text (after_word rest)) → Stops text front spans rest e
+  -- the number is above the greatest or its fraction too long, whatever follows
+  Too_great : begins is_digit rest ≡ true → ¬ (NumbersFit (span_of rest)) → e ≡ NumberOverflow → Stops text front spans rest e
   -- a point without digits, and then a letter or the end; the fault is at the point
-  Bare_point : (number : StartsNumber rest)
-      → (bare : fraction_of rest ≡ Some [])
-      → (letter_or_end : (word_of rest ≢ []) ⊎ (after_word rest ≡ []))
+  Bare_point : StartsNumber rest → fraction_of rest ≡ Some [] → (word_of rest ≢ []) ⊎ (after_word rest ≡ [])
       → e ≡ InvalidCharacter (offset_of text (after_number rest)) → Stops text front spans rest e
-  -- after a point, digits and white space a character that is none of these and no letter
-  Bad_after_fraction : (number : StartsNumber rest)
-      → (point : fraction_of rest ≢ None)
-      → (no_letter : word_of rest ≡ [])
-      → (not_at_end : after_word rest ≢ [])
+  -- where a word has to begin, a character that is no letter
+  No_letter : StartsNumber rest → word_of rest ≡ [] → after_word rest ≢ []
       → e ≡ InvalidCharacter (offset_of text (after_word rest)) → Stops text front spans rest e
-  -- after the letters a character that is no letter, digit or white space
-  Bad_after_word : (number : StartsNumber rest)
-      → (not_bare : fraction_of rest ≢ Some [])
-      → (letters : word_of rest ≢ [])
-      → (bad : ¬ (MayFollowWord (after_word rest)))
+  -- after the letters a character that is no letter, digit or white space; the letters are not looked at
+  Bad_after_word : StartsNumber rest → fraction_of rest ≢ Some [] → word_of rest ≢ [] → ¬ (MayFollowWord (after_word rest))
       → e ≡ InvalidCharacter (offset_of text (after_word rest)) → Stops text front spans rest e
-  -- the end, where a word has to stand
-  No_word : (number : StartsNumber rest)
-      → (not_bare : fraction_of rest ≢ Some [])
-      → (no_letter : word_of rest ≡ [])
-      → (at_end : after_word rest ≡ [])
+  -- where a word has to begin, the end
+  No_word : StartsNumber rest → fraction_of rest ≢ Some [] → word_of rest ≡ [] → after_word rest ≡ []
       → e ≡ UnknownUnit (byte_length text) (byte_length text) [] (decimal_value (number_of rest)) → Stops text front spans rest e
-  -- the letters are no unit's word
-  Wrong_word : (number : StartsNumber rest)
-      → (not_bare : fraction_of rest ≢ Some [])
-      → (letters : word_of rest ≢ [])
-      → (unknown : scale_of_word (word_of rest) ≡ None)
-      → (follows : MayFollowWord (after_word rest))
+  -- letters that are no unit's word
+  Wrong_word : StartsNumber rest → fraction_of rest ≢ Some [] → word_of rest ≢ [] → scale_of_word (word_of rest) ≡ None
+      → MayFollowWord (after_word rest)
       → e ≡ UnknownUnit (offset_of text (after_fraction rest)) (offset_of text (after_word rest)) (word_of rest)
       (decimal_value (number_of rest))
       → Stops text front spans rest e

@@ -1,10 +1,11 @@
--- The items of a text: its spans, whatever they add up to, and the fault at which they stop, if there is one. A text is its
--- list of characters.
-use Rattle.std.specs.Prelude.{◌≡◌, ◌≢◌, ◌⊎◌, List, ℕ, [], Option, Some, None}
+-- The items of a text, and what each lends of it. A text is its list of characters.
+use Rattle.std.specs.Prelude.{◌≡◌, ◌≢◌, ◌⊎◌, List, ℕ, [], Option, Some, None, true, ◌∷◌, ◌++◌, Result, Ok, Err, map, option_to_list, option_map}
 use Rattle.std.specs.List.{AllByRecursion}
-use Rattle.humantime.specs.Durations.Spans.{Span}
-use Rattle.humantime.specs.Durations.Limits.{Formed}
+use Rattle.std.specs.Str.{byte}
+use Rattle.humantime.specs.Durations.Spans.{Span, Only, Spells}
+use Rattle.humantime.specs.Durations.Accepted.{Formed}
 use Rattle.humantime.specs.Durations.Faults.{Fault, Split, Stops}
+use Rattle.humantime.specs.Durations.Characters.{is_ws, is_digit, begins, ends, decimal_value, offset_of}
 
 -- The front of the text is these spans, each well formed, and behind it the text ends, or stops at this fault.
 pub record Items (text : List ℕ) (spans : List Span) (stop : Option Fault) : Type 0 where
@@ -13,3 +14,56 @@ pub record Items (text : List ℕ) (spans : List Span) (stop : Option Fault) : T
   pub split : Split text front spans rest
   pub formed : AllByRecursion Formed spans
   pub ends : ((rest ≡ []) × (spans ≢ []) × (stop ≡ None)) ⊎ ((e : Fault) × (stop ≡ Some e) × Stops text front spans rest e)
+
+-- The slices of the number, the fraction and the word, the offsets where the number begins and the word ends, and the number.
+pub record Lent : Type 0 where
+  pub number : List ℕ
+  pub fraction : Option (List ℕ)
+  pub unit : List ℕ
+  pub start : ℕ
+  pub end : ℕ
+  pub value : ℕ
+
+-- The slice goes from the first digit of the text to the last: only white space stands around it.
+pub record IsDigitSlice (text slice : List ℕ) : Type 0 where
+  pub before : List ℕ
+  pub after : List ℕ
+  pub whole : text ≡ before ++ (slice ++ after)
+  pub only_before : Only is_ws before
+  pub only_after : Only is_ws after
+  pub first_digit : begins is_digit slice ≡ true
+  pub last_digit : ends is_digit slice ≡ true
+
+-- no slice where there is no fraction, else the one behind the point
+abbrev pub LendsFraction : List ℕ → Option (List ℕ) → Type 0
+LendsFraction text None = text ≡ []
+LendsFraction text (Some slice) = (behind : List ℕ) × (text ≡ byte "." ∷ behind) × IsDigitSlice behind slice
+
+-- From here on the text spells the span, then goes on with `next`, and x is what the span lends of the text.
+pub record IsLent (text here : List ℕ) (s : Span) (x : Lent) (next : List ℕ) : Type 0 where
+  pub spelled : Spells here s next
+  pub number : IsDigitSlice spelled.number_text x.number
+  pub fraction : LendsFraction spelled.fraction_text x.fraction
+  pub unit : x.unit ≡ s.word
+  pub start : x.start ≡ offset_of text here
+  pub end : x.end ≡ offset_of text (spelled.space ++ next)
+  pub value : x.value ≡ decimal_value s.number
+
+-- each span lends its part, from here on, up to an end
+abbrev pub LendsEach : List ℕ → List ℕ → List Span → List Lent → List ℕ → Type 0
+LendsEach text here [] [] end = here ≡ end
+LendsEach text here (s ∷ ss) (x ∷ xs) end = (next : List ℕ) × IsLent text here s x next × LendsEach text next ss xs end
+LendsEach text here _ _ end = ⊥
+
+-- what a caller gets: what each span lends, and then the fault, if there is one
+abbrev pub items_of : List Lent → Option Fault → List (Result Lent Fault)
+items_of slices stop = map Ok slices ++ option_to_list (option_map Err stop)
+
+-- These are the items of the text, with what they lend, from behind the white space at its start to the rest behind its spans.
+pub record AreItems (text : List ℕ) (lent : List (Result Lent Fault)) : Type 0 where
+  pub spans : List Span
+  pub stop : Option Fault
+  pub slices : List Lent
+  pub items : Items text spans stop
+  pub are : lent ≡ items_of slices stop
+  pub each : LendsEach text (items.split.spelled.body ++ items.rest) spans slices items.rest

@@ -46,13 +46,13 @@ SpellsEach text [] = text ≡ []
 SpellsEach text (span ∷ spans) = (rest : List ℕ) × Spells text span rest × SpellsEach rest spans
 
 -- The text is white space, or none, and then spells each span.
-pub record Front (text : List ℕ) (spans : List Span) : Type 0 where
+pub record SpellsAll (text : List ℕ) (spans : List Span) : Type 0 where
   pub space : List ℕ
   pub body : List ℕ
   pub whole : text ≡ space ++ body
   pub only_space : Only is_ws space
   pub each : SpellsEach body spans
 
--- and there is a span
+-- and there is a span. Each word is the longest run of letters that stands there, since a span begins with a digit.
 abbrev pub Reads : List ℕ → List Span → Type 0
-Reads text spans = Front text spans × (spans ≢ [])
+Reads text spans = SpellsAll text spans × (spans ≢ [])

@@ -7,9 +7,7 @@ use Rattle.std.specs.Map.{lookup}
 use Rattle.humantime.specs.Durations.Characters.{micro_sign, greek_mu, decimal_value, u64_max, bare_zero}
 use Rattle.humantime.specs.Durations.Units.{Scale, words, scale_of_word}
 use Rattle.humantime.specs.Durations.Spans.{Span, Only, Reads}
-use Rattle.humantime.specs.Durations.Sums.{Addition, total}
-use Rattle.humantime.specs.Durations.Limits.{IsWholePart, AllHaveRoom}
-use Rattle.humantime.specs.Durations.Accepted.{Accepted}
+use Rattle.humantime.specs.Durations.Accepted.{Addition, total, IsWholePart, AllHaveRoom, Accepted}
 
 -- the letters were a to z, A to Z and the micro sign
 abbrev pub is_older_letter : ℕ → Bool

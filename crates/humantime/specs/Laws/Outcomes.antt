@@ -2,12 +2,9 @@
 -- decide. A text is its list of characters.
 use Rattle.std.specs.Prelude.{◌≡◌, ◌≢◌, ◌↔◌, ◌⊎◌, ℕ, List, Option, Some, None, Result}
 use Rattle.humantime.specs.Durations.Spans.{Span, Reads}
-use Rattle.humantime.specs.Durations.Sums.{value}
-use Rattle.humantime.specs.Durations.Limits.{WithinLimits}
-use Rattle.humantime.specs.Durations.Accepted.{Accepted}
+use Rattle.humantime.specs.Durations.Accepted.{value, WithinLimits, Accepted}
 use Rattle.humantime.specs.Durations.Faults.{Fault, NumberOverflow, HasFault}
-use Rattle.humantime.specs.Durations.Items.{Items}
-use Rattle.humantime.specs.Durations.Slices.{Lent, AreItems}
+use Rattle.humantime.specs.Durations.Items.{Items, Lent, AreItems}
 use Rattle.humantime.specs.Durations.Characters.{bare_zero}
 
 -- the text has this value or fault, and no other

@@ -1,8 +1,7 @@
 -- What holds of printed texts. They are bytes; `chars` gives their characters.
 use Rattle.std.specs.Prelude.{◌≡◌, ◌↔◌, ℕ, ◌≤◌, List, length, chars, slice_index}
 use Rattle.humantime.specs.Durations.Accepted.{Accepted}
-use Rattle.humantime.specs.Durations.Counts.{Counts, Canon}
-use Rattle.humantime.specs.Durations.Canonical.{IsCanonicalOf}
+use Rattle.humantime.specs.Durations.Counts.{Counts, Canon, IsCanonicalOf}
 
 -- d nanoseconds have one canonical text, and no other
 abbrev pub HasOneText : ℕ → Type 0

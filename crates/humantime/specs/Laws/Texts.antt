@@ -3,9 +3,7 @@
 use Rattle.std.specs.Prelude.{◌≡◌, ◌≢◌, ◌↔◌, ◌⊎◌, ℕ, ◌+◌, List, ◌++◌, filter, not, IsPermutation}
 use Rattle.humantime.specs.Durations.Characters.{is_ws, bare_zero}
 use Rattle.humantime.specs.Durations.Spans.{Span, Reads}
-use Rattle.humantime.specs.Durations.Sums.{additions}
-use Rattle.humantime.specs.Durations.Limits.{AllHaveRoom}
-use Rattle.humantime.specs.Durations.Accepted.{Accepted}
+use Rattle.humantime.specs.Durations.Accepted.{additions, AllHaveRoom, Accepted}
 use Rattle.humantime.specs.Durations.Faults.{NumberOverflow, HasFault}
 
 -- the text without its white space

@@ -31,3 +31,15 @@ abbrev pub InOrder : ℤ → ℤ → Type 0
 InOrder a b =
     (k : ℕ) (x y : List ℕ) → k ≤ 9 → IsPrinted a k x → IsPrinted b k y
     → slice_cmp nat_cmp x y ≡ int_cmp (cut a k) (cut b k)
+
+-- in both forms the text reads as this moment
+pub record ReadsAs (bytes : List ℕ) (t : ℤ) : Type 0 where
+  pub strict : IsStrictMoment bytes t
+  pub weak : IsWeakMoment bytes t
+
+-- one text is this moment, printed, and it reads back as the moment, cut
+pub record OnePrinted (t : ℤ) (k : ℕ) : Type 0 where
+  pub text : List ℕ
+  pub printed : IsPrinted t k text
+  pub only : (other : List ℕ) → IsPrinted t k other → other ≡ text
+  pub reads : ReadsAs text (cut t k)

@@ -13,4 +13,5 @@ pub mod Scales
 pub mod Scanning
 pub mod Seen
 pub mod SpanParts
+pub mod UnitMessages
 pub mod Writing

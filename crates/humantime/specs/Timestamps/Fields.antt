@@ -1,11 +1,20 @@
 -- The parts of a timestamp, the text that shows them, and the moment that they name. A text is its bytes.
-use Rattle.std.specs.Prelude.{◌≡◌, ◌≢◌, ℕ, ◌+◌, ◌*◌, ◌≤◌, min, List, [], ◌∷◌, ◌++◌, take, codes, Option, Some, None, ℤ, pos}
-use Rattle.std.specs.Str.{byte}
-use Rattle.std.specs.Str.Parse.{digits_value}
+use Rattle.std.specs.Prelude.{ℕ, ◌+◌, ◌/◌, ◌%◌, List, [], ◌∷◌, ◌≡◌, ◌≢◌, ◌*◌, ◌≤◌, min, ◌++◌, take, codes, Option, Some, None, ℤ, pos, unwrap_or, IsTrue}
+use Rattle.std.specs.Str.{byte, all_ascii_digits}
+use Rattle.humantime.specs.Durations.Characters.{decimal_value}
 use Rattle.humantime.specs.declared.calendar.Date.{Date}
-use Rattle.humantime.specs.Calendar.Dates.{IsDate, day_of}
-use Rattle.humantime.specs.Timestamps.Digits.{two_digits, four_digits, AreDigits}
-use Rattle.humantime.specs.Values.Amounts.{nanos_per_second}
+use Rattle.humantime.specs.Calendar.{IsDate, day_of}
+use Rattle.humantime.specs.Values.{nanos_per_second, seconds_per_day, seconds_per_hour, seconds_per_minute}
+
+-- the digit of a number below ten; a number below 100 in two digits, and one below 10000 in four
+abbrev pub digit : ℕ → ℕ
+digit n = byte "0" + n
+
+abbrev pub two_digits : ℕ → List ℕ
+two_digits n = digit (n / 10) ∷ digit (n % 10) ∷ []
+
+abbrev pub four_digits : ℕ → List ℕ
+four_digits n = digit (n / 1000) ∷ digit (n / 100 % 10) ∷ digit (n / 10 % 10) ∷ digit (n % 10) ∷ []
 
 -- what stands between the date and the time
 pub data Separator : Type 0 where
@@ -14,9 +23,9 @@ pub data Separator : Type 0 where
 
 -- what stands at the end: always the zone of Greenwich
 pub data Zone : Type 0 where
-  Nothing : Zone
+  No_zone : Zone
   Letter_Z : Zone
-  Offset : Zone
+  Zero_offset : Zone
 
 -- the parts; a fraction is the digits after the point, perhaps none
 pub record Fields : Type 0 where
@@ -28,73 +37,60 @@ pub record Fields : Type 0 where
   pub fraction : Option (List ℕ)
   pub zone : Zone
 
--- the byte of a separator
+-- the byte of a separator, and how a fraction and a zone are written
 abbrev pub separator_byte : Separator → ℕ
 separator_byte Letter_T = byte "T"
 separator_byte Space = byte " "
 
--- how a fraction is written
 abbrev pub fraction_text : Option (List ℕ) → List ℕ
 fraction_text None = []
 fraction_text (Some ds) = codes "." ++ ds
 
--- how a zone is written
 abbrev pub zone_text : Zone → List ℕ
-zone_text Nothing = []
+zone_text No_zone = []
 zone_text Letter_Z = codes "Z"
-zone_text Offset = codes "+00:00"
+zone_text Zero_offset = codes "+00:00"
 
 -- `YYYY-MM-DD`, the separator, and `HH:MM:SS`
-abbrev pub time_text : Fields → List ℕ
-time_text f =
+abbrev pub date_time_text : Fields → List ℕ
+date_time_text f =
     four_digits f.date.year ++ codes "-" ++ two_digits f.date.month ++ codes "-" ++ two_digits f.date.day
-    ++ (separator_byte f.separator ∷ [])
-    ++ two_digits f.hour ++ codes ":" ++ two_digits f.minute ++ codes ":" ++ two_digits f.second
+    ++ separator_byte f.separator ∷ two_digits f.hour ++ codes ":" ++ two_digits f.minute ++ codes ":" ++ two_digits f.second
 
 -- the whole text: date and time, and then the fraction and the zone
 abbrev pub fields_text : Fields → List ℕ
-fields_text f = time_text f ++ fraction_text f.fraction ++ zone_text f.zone
-
--- the digits after the point, none where there is no point
-abbrev pub fraction_digits : Option (List ℕ) → List ℕ
-fraction_digits None = []
-fraction_digits (Some ds) = ds
+fields_text f = date_time_text f ++ fraction_text f.fraction ++ zone_text f.zone
 
 -- the nanoseconds of these digits: the first nine, filled with zeros
 unfoldable pub fraction_nanos : List ℕ → ℕ
-fraction_nanos ds = digits_value 10 (take 9 (ds ++ codes "000000000"))
+fraction_nanos ds = decimal_value (take 9 (ds ++ codes "000000000"))
 
--- the text shows these parts: a date of 1970 to 9999 that exists, and a time of day, perhaps with a second 60
+-- in weak form the text shows these parts: a date of 1970 to 9999 that exists, and a time of day, perhaps with a second 60
 pub record IsWeak (bytes : List ℕ) (f : Fields) : Type 0 where
   pub shown : bytes ≡ fields_text f
   pub date : IsDate f.date
   pub hour : f.hour ≤ 23
   pub minute : f.minute ≤ 59
   pub second : f.second ≤ 60
-  pub fraction : AreDigits (fraction_digits f.fraction)
+  pub fraction : IsTrue (all_ascii_digits (unwrap_or f.fraction []))
 
--- and it has the letter `T` and a zone
+-- in strict form the text shows these parts: it does in weak form, with the letter `T` and a zone
 pub record IsStrict (bytes : List ℕ) (f : Fields) : Type 0 where
   pub weak : IsWeak bytes f
   pub separator : f.separator ≡ Letter_T
-  pub zone : f.zone ≢ Nothing
+  pub zone : f.zone ≢ No_zone
 
 -- whole seconds from 1970-01-01T00:00:00Z; second 60 is read as 59
 abbrev pub seconds_of : Fields → ℕ
-seconds_of f = day_of f.date * 86_400 + f.hour * 3_600 + f.minute * 60 + min f.second 59
+seconds_of f = day_of f.date * seconds_per_day + f.hour * seconds_per_hour + f.minute * seconds_per_minute + min f.second 59
 
 -- nanoseconds from 1970-01-01T00:00:00Z
 abbrev pub moment_of : Fields → ℕ
-moment_of f = seconds_of f * nanos_per_second + fraction_nanos (fraction_digits f.fraction)
+moment_of f = seconds_of f * nanos_per_second + fraction_nanos (unwrap_or f.fraction [])
 
--- the text shows some parts of this moment
-pub record IsWeakMoment (bytes : List ℕ) (t : ℤ) : Type 0 where
-  pub fields : Fields
-  pub weak : IsWeak bytes fields
-  pub moment : t ≡ pos (moment_of fields)
+-- the text shows some parts of this moment: in weak form, and in strict form
+abbrev pub IsWeakMoment : List ℕ → ℤ → Type 0
+IsWeakMoment bytes t = (f : Fields) × IsWeak bytes f × (t ≡ pos (moment_of f))
 
--- and it has the letter `T` and a zone
-pub record IsStrictMoment (bytes : List ℕ) (t : ℤ) : Type 0 where
-  pub fields : Fields
-  pub strict : IsStrict bytes fields
-  pub moment : t ≡ pos (moment_of fields)
+abbrev pub IsStrictMoment : List ℕ → ℤ → Type 0
+IsStrictMoment bytes t = (f : Fields) × IsStrict bytes f × (t ≡ pos (moment_of f))

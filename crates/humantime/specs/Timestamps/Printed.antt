@@ -1,8 +1,8 @@
 -- The text of a moment, its second cut to a number of digits. A text is its bytes.
 use Rattle.std.specs.Prelude.{◌≡◌, ℕ, zero, suc, ◌-◌, ◌*◌, ◌^◌, ◌≤◌, List, length, Option, Some, None, ℤ, pos, ◌≤ℤ◌, ◌<ℤ◌, ◌-ℤ◌}
 use Rattle.std.specs.Int.{int_rem_euclid}
-use Rattle.humantime.specs.Values.Amounts.{nanos_per_second}
-use Rattle.humantime.specs.Timestamps.Fields.{Letter_T, Letter_Z, Fields, IsWeak, IsStrictMoment, IsWeakMoment, moment_of}
+use Rattle.humantime.specs.Values.{nanos_per_second, seconds_per_day}
+use Rattle.humantime.specs.Timestamps.Fields.{Letter_T, Letter_Z, Fields, IsWeak, moment_of}
 
 -- a moment in nanoseconds, cut to k digits after its second
 abbrev pub cut : ℤ → ℕ → ℤ
@@ -13,7 +13,7 @@ abbrev pub HasPlaces : Option (List ℕ) → ℕ → Type 0
 HasPlaces fraction zero = fraction ≡ None
 HasPlaces fraction (suc k) = (ds : List ℕ) × (fraction ≡ Some ds) × (length ds ≡ suc k)
 
--- the text is the moment t, printed with k digits: it shows parts with `T` and `Z` and no second 60, of this moment, cut
+-- The text is the moment t, printed with k digits, at most nine: it shows parts with `T`, `Z` and no second 60, whose moment is t, cut.
 pub record IsPrinted (t : ℤ) (k : ℕ) (bytes : List ℕ) : Type 0 where
   pub fields : Fields
   pub weak : IsWeak bytes fields
@@ -23,22 +23,10 @@ pub record IsPrinted (t : ℤ) (k : ℕ) (bytes : List ℕ) : Type 0 where
   pub places : HasPlaces fields.fraction k
   pub moment : pos (moment_of fields) ≡ cut t k
 
--- the first moment of the year 10000
+-- the first moment of the year 10000, which begins 2932897 days after 1970-01-01
 abbrev pub year_10000 : ℕ
-year_10000 = 253_402_300_800 * nanos_per_second
+year_10000 = 2_932_897 * seconds_per_day * nanos_per_second
 
 -- a moment of 1970 to 9999
 abbrev pub IsPrintable : ℤ → Type 0
 IsPrintable t = (pos 0 ≤ℤ t) × (t <ℤ pos year_10000)
-
--- in both forms the text reads as this moment
-pub record ReadsAs (bytes : List ℕ) (t : ℤ) : Type 0 where
-  pub strict : IsStrictMoment bytes t
-  pub weak : IsWeakMoment bytes t
-
--- one text is this moment, printed, and it reads back as the moment, cut
-pub record OnePrinted (t : ℤ) (k : ℕ) : Type 0 where
-  pub text : List ℕ
-  pub printed : IsPrinted t k text
-  pub only : (other : List ℕ) → IsPrinted t k other → other ≡ text
-  pub reads : ReadsAs text (cut t k)

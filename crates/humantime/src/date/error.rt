@@ -22,7 +22,7 @@ pub enum TimestampError {
 
 impl fmt::Display for TimestampError {
     ghost use Rattle.std.specs.Prelude.{Some};
-    ghost use Rattle.humantime.specs.Timestamps.Messages.{timestamp_message};
+    ghost use Rattle.humantime.specs.Timestamps.Checks.{timestamp_message};
 
     ghost output = { λ e. Some (timestamp_message e) };
 

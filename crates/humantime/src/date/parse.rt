@@ -4,11 +4,11 @@ ghost use Rattle.std.specs.Prelude.{◌≡◌, ◌≢◌, ◌+◌, ◌/◌, ◌^
 ghost use Rattle.std.specs.List.{ends_with};
 ghost use Rattle.std.specs.Str.{bytes_eq};
 ghost use Rattle.humantime.specs.declared.date.error.TimestampError.{TimestampError};
-ghost use Rattle.humantime.specs.Values.Amounts.{nanos_per_second};
+ghost use Rattle.humantime.specs.Values.{nanos_per_second};
 ghost use Rattle.humantime.specs.Timestamps.Fields.{fraction_nanos, IsWeakMoment, IsStrictMoment};
-ghost use Rattle.humantime.specs.Timestamps.Checks.{number, past_digits, first_failed, weak_checks, strict_checks};
+ghost use Rattle.humantime.specs.Timestamps.Checks.{number_between, first_failed, weak_checks, strict_checks};
+ghost use Rattle.humantime.specs.References.Timestamps.Reading.{past_digits, weak_answer, strict_answer, numbers_of, seconds_to, AreInRange};
 ghost use Rattle.humantime.specs.Timestamps.Checks as TimestampChecks;
-ghost use Rattle.humantime.specs.References.Timestamps.Reading.{weak_answer, strict_answer, numbers_of, seconds_to, AreInRange};
 ghost use Rattle.humantime.specs.References.Timestamps.Fractions.{weight, has_three, AreThreeAt, IsRead};
 ghost use Rattle.humantime.specs.References.Timestamps.Reading as TimestampReading;
 
@@ -93,7 +93,7 @@ pub fn parse_rfc3339(s: &str) -> Result<SystemTime, TimestampError>
     ensures error { (e : TimestampError) → (result ≡ Err e) ↔ (first_failed (strict_checks s.now) ≡ Some e) }
     ensures answer { result ≡ strict_answer s.now }
 {
-    if !is_complete(s.as_bytes()) {
+    if !has_marks(s.as_bytes()) {
         return Err(TimestampError::InvalidFormat);
     }
     parse_rfc3339_weak(s)
@@ -101,9 +101,9 @@ pub fn parse_rfc3339(s: &str) -> Result<SystemTime, TimestampError>
 
 /// At least 20 bytes, a `T` and a zone.
 #[inline(always)]
-#[tactic(auto, unfolding(crate::specs::Timestamps::Checks::is_complete))]
-fn is_complete(b: &[u8]) -> bool
-    ensures { result ≡ TimestampChecks.is_complete b.now }
+#[tactic(auto, unfolding(crate::specs::Timestamps::Checks::has_marks))]
+fn has_marks(b: &[u8]) -> bool
+    ensures { result ≡ TimestampChecks.has_marks b.now }
 {
     b.len() >= 20 && b[10] == b'T' && ends_in_zone(b)
 }
@@ -257,7 +257,7 @@ fn has_two(b: &[u8], at: usize) -> bool
 #[tactic(auto, using(crate::proofs::Timestamps::Reading::Numbers::two_read))]
 fn two_at(b: &[u8], at: usize) -> u32
     requires { at + 2 ≤ length b.now }
-    ensures { IsTrue (TimestampReading.has_two b.now at) → result ≡ number b.now at (at + 2) }
+    ensures { IsTrue (TimestampReading.has_two b.now at) → result ≡ number_between b.now at (at + 2) }
 {
     (b[at] as u32 * 10 + b[at + 1] as u32).wrapping_sub(TWO_ZEROS)
 }
@@ -267,7 +267,7 @@ fn two_at(b: &[u8], at: usize) -> u32
 #[tactic(auto, using(crate::proofs::Timestamps::Reading::Numbers::year_read))]
 fn year_at_front(b: &[u8]) -> u32
     requires { 4 ≤ length b.now }
-    ensures { IsTrue (TimestampReading.has_two b.now 0) → IsTrue (TimestampReading.has_two b.now 2) → result ≡ number b.now 0 4 }
+    ensures { IsTrue (TimestampReading.has_two b.now 0) → IsTrue (TimestampReading.has_two b.now 2) → result ≡ number_between b.now 0 4 }
 {
     (b[0] as u32 * 1_000 + b[1] as u32 * 100 + b[2] as u32 * 10 + b[3] as u32).wrapping_sub(
         FOUR_ZEROS,

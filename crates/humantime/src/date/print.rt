@@ -2,8 +2,7 @@
 
 ghost use Rattle.std.specs.Prelude.{◌≡◌, ◌+◌, ◌/◌, ◌%◌, ◌<◌, ◌≤◌, ◌↔◌, IsSome, IfSome, IfNone, ◌++◌, take, drop, slice_set, codes};
 ghost use Rattle.std.specs.Str.{byte};
-ghost use Rattle.humantime.specs.Timestamps.Digits.{digit, two_digits};
-ghost use Rattle.humantime.specs.Timestamps.Fields.{time_text, fields_text};
+ghost use Rattle.humantime.specs.Timestamps.Fields.{digit, two_digits, date_time_text, fields_text};
 ghost use Rattle.humantime.specs.Timestamps.Printed.{IsPrintable};
 ghost use Rattle.humantime.specs.References.Timestamps.Printing.{places, places_of, moment_kept, places_kept, IsTextOf, printed_text, shortest_text, fields_shown, IsDateTimeOf, FitsPlaces};
 
@@ -21,7 +20,7 @@ static PAIRS: [u8; 200] =
     *b"00010203040506070809101112131415161718192021222324252627282930313233343536373839404142434445464748495051525354555657585960616263646566676869707172737475767778798081828384858687888990919293949596979899";
 
 /// How many digits the fraction of a second has: none, three, six or nine.
-#[derive(Clone, Copy, PartialEq, Eq, Debug)]
+#[derive(Debug, Clone, Copy)]
 enum Precision {
     Seconds,
     Millis,
@@ -264,7 +263,7 @@ fn write_date_time(x: DateTime, precision: Precision, buf: &mut [u8; 30]) -> usi
 #[inline(always)]
 fn write_time(x: DateTime, buf: &mut [u8; 30])
     requires { FitsPlaces x }
-    ensures { buf.new ≡ time_text (fields_shown x 0) ++ codes ".nnnnnnnnnz" }
+    ensures { buf.new ≡ date_time_text (fields_shown x 0) ++ codes ".nnnnnnnnnz" }
 {
     *buf = *b"yyyy-mm-ddThh:mm:ss.nnnnnnnnnz";
     put_two(buf, 0, x.date.year / 100);

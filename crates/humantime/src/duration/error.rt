@@ -1,13 +1,12 @@
 //! What is wrong with a text that is no duration.
 
-ghost use Rattle.std.specs.Prelude.{◌≡◌, ◌++◌, Some, chars, decimal, encode_utf8_all, bytes_eq};
+ghost use Rattle.std.specs.Prelude.{◌≡◌, ◌++◌, Some, chars, decimal, bytes_eq};
 ghost use Rattle.std.specs.Cmp.{on_per};
 ghost use Rattle.std.specs.Ordering.{on};
 ghost use Rattle.std.specs.Fmt.{WritesOnOk, WritesStyledOnOk};
-ghost use Rattle.humantime.specs.Durations.Errors.{fault_of};
-ghost use Rattle.humantime.specs.Durations.Faults.{fault_eq};
-ghost use Rattle.humantime.specs.Durations.Messages.{fault_message, unit_message, unit_needed};
-ghost use Rattle.humantime.specs.References.Durations.FaultEqualityLemmas.{fault_eq_laws};
+ghost use Rattle.humantime.specs.Durations.Errors.{fault_of, fault_message, unit_message};
+ghost use Rattle.humantime.specs.References.Durations.FaultEqualityLemmas.{fault_eq, fault_eq_laws};
+ghost use Rattle.humantime.specs.References.Durations.UnitMessages.{unit_needed, message_of_unit};
 
 use itoa::Buffer;
 use std::error::Error;
@@ -125,9 +124,9 @@ fn write_place<W: fmt::Write>(what: &str, at: usize, f: &mut fmt::Formatter<W>) 
 
 /// Writes what is said of a unit that is missing or no unit's word. `value` is the number before it.
 fn write_unit<W: fmt::Write>(unit: &str, value: u64, f: &mut fmt::Formatter<W>) -> fmt::Result
-    ensures writes { WritesOnOk W.write_str_gives f.old result (unit_message unit.now value) f.new }
-    ensures styled { WritesStyledOnOk W.write_str_gives f.old result (unit_message unit.now value) f.new }
-    ensures characters { encode_utf8_all (chars unit.now) ≡ unit.now }
+    ensures writes { WritesOnOk W.write_str_gives f.old result (message_of_unit unit.now value) f.new }
+    ensures styled { WritesStyledOnOk W.write_str_gives f.old result (message_of_unit unit.now value) f.new }
+    ensures characters { unit_message (chars unit.now) value ≡ message_of_unit unit.now value }
 {
     if unit.is_empty() {
         return write_unit_needed(value, f);

@@ -1,7 +1,7 @@
 //! Laws of days and dates.
 
 ghost use Rattle.std.specs.Prelude.{◌≤◌};
-ghost use Rattle.humantime.specs.Calendar.Dates.{OneDate};
+ghost use Rattle.humantime.specs.Laws.Days.{OneDate};
 
 /// Each day from 1970-01-01 to 9999-12-31 is the day of one date, and of no other.
 ///

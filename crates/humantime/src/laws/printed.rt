@@ -1,8 +1,7 @@
 //! Laws of printed durations.
 
 ghost use Rattle.std.specs.Prelude.{◌≡◌, ◌↔◌, ℕ, List, chars, Ok, Err};
-ghost use Rattle.humantime.specs.Durations.Canonical.{IsCanonicalOf};
-ghost use Rattle.humantime.specs.Durations.Counts.{Canon};
+ghost use Rattle.humantime.specs.Durations.Counts.{IsCanonicalOf, Canon};
 ghost use Rattle.humantime.specs.References.Durations.Answers.{duration_answer, canonical_answer};
 ghost use Rattle.humantime.specs.Durations.Faults.{Fault, HasFault};
 ghost use Rattle.humantime.specs.References.Durations.Printing.{duration_text};

@@ -4,8 +4,8 @@ ghost use Rattle.std.specs.Prelude.{◌≡◌, ◌↔◌, ℕ, ℤ, List, Some, 
 ghost use Rattle.humantime.specs.declared.date.error.TimestampError.{TimestampError};
 ghost use Rattle.humantime.specs.Timestamps.Fields.{IsWeak, IsStrict, IsWeakMoment, IsStrictMoment};
 ghost use Rattle.humantime.specs.Timestamps.Checks.{weak_checks, strict_checks, first_failed};
-ghost use Rattle.humantime.specs.Laws.Timestamps.{OneTimestamp, StrictIsWeak, StrictMomentIsWeak, InOrder};
-ghost use Rattle.humantime.specs.Timestamps.Printed.{cut, IsPrintable, OnePrinted, ReadsAs};
+ghost use Rattle.humantime.specs.Laws.Timestamps.{OneTimestamp, StrictIsWeak, StrictMomentIsWeak, InOrder, OnePrinted, ReadsAs};
+ghost use Rattle.humantime.specs.Timestamps.Printed.{cut, IsPrintable};
 ghost use Rattle.humantime.specs.References.Timestamps.Printing.{moment_kept, places_kept, printed_text, IsTextOf};
 ghost use Rattle.humantime.specs.References.Timestamps.Reading.{weak_answer, strict_answer};
 

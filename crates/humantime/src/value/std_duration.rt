@@ -5,7 +5,7 @@ ghost use Rattle.std.proofs.Common.{rules};
 ghost use Rattle.std.specs.Cmp.{partial_order_from_own_ties};
 ghost use Rattle.std.specs.Cmp.Rules.{comparing};
 ghost use Rattle.std.specs.Ordering.{nat_cmp, as_partial_cmp};
-ghost use Rattle.humantime.specs.Values.Amounts.{nanos_per_second, duration_end};
+ghost use Rattle.humantime.specs.Values.{nanos_per_second, duration_end};
 
 use std::cmp::Ordering;
 use std::marker::Model;

@@ -5,8 +5,7 @@ ghost use Rattle.std.proofs.Common.{rules};
 ghost use Rattle.std.specs.Cmp.{partial_order_from_own_ties};
 ghost use Rattle.std.specs.Cmp.Rules.{comparing};
 ghost use Rattle.std.specs.Ordering.{int_cmp, int_eq, as_partial_cmp};
-ghost use Rattle.humantime.specs.Values.Moments.{moment, second_of, nano_of, moment_end};
-ghost use Rattle.humantime.specs.Values.Amounts.{nanos_per_second};
+ghost use Rattle.humantime.specs.Values.{moment, second_of, nano_of, moment_end, nanos_per_second};
 
 use crate::value::std_duration::StdDuration;
 use std::cmp::Ordering;
@@ -38,7 +37,7 @@ pub struct SystemTime {
 
 impl Model for SystemTime {
     ghost use Rattle.std.specs.Prelude.{ℤ, ◌<◌};
-    ghost use Rattle.humantime.specs.Values.Moments.{moment, second_of, nano_of};
+    ghost use Rattle.humantime.specs.Values.{moment, second_of, nano_of};
     ghost use Rattle.humantime.specs.References.Values.MomentLemmas.{second_of-moment, nano_of-moment};
 
     ghost Value = { ℤ };

@@ -2,6 +2,7 @@ ghost use Rattle.std.specs.Prelude.{◌≤◌, Some, take};
 
 use super::run;
 use std::io::{ErrorKind, Write};
+use std::process::Abort;
 use std::test::Fail;
 use std::{io, str};
 
@@ -84,59 +85,66 @@ impl Write for Limited {
 
 const USAGE: &str = "usage: humantime duration|strict|weak TEXT\n";
 
-#[test]
-fn accepted_texts_are_printed(rt: HostRuntime) {
-    let runs = [
-        ("duration", "2h 37min", "2h 37m\n"),
-        ("duration", "0", "0s\n"),
-        ("duration", "1 2 s", "12s\n"),
-        ("duration", "1.5w", "10days 12h\n"),
-        ("duration", "0.5y", "5months 30days 10h 12m\n"),
-        ("duration", "2years 2min 12us", "2years 2m 12µs\n"),
-        (
-            "duration",
-            "18446744073709551615.999999999s",
-            "584542046090years 7months 15days 17h 5m 3s 999ms 999µs 999ns\n",
-        ),
-        (
-            "duration",
-            "100000000000y 11M 29d 23h 59m 59.999999999s",
-            "100000000000years 11months 29days 23h 59m 59s 999ms 999µs 999ns\n",
-        ),
-        ("duration", "12us", "12\u{b5}s\n"),
-        ("duration", "1.50000000000s", "1s 500ms\n"),
-        ("duration", "1.0ns", "1ns\n"),
-        ("duration", "12\u{b5}s", "12\u{b5}s\n"),
-        ("duration", "12\u{3bc}s", "12\u{b5}s\n"),
-        ("strict", "2016-12-31T23:59:60Z", "2016-12-31T23:59:59Z\n"),
-        (
-            "strict",
-            "9999-12-31T23:59:59.9999999999Z",
-            "9999-12-31T23:59:59.999999999Z\n",
-        ),
-        (
-            "weak",
-            "1970-01-01 00:00:00.5",
-            "1970-01-01T00:00:00.500000000Z\n",
-        ),
-        (
-            "weak",
-            "1970-01-01 00:00:00.000123",
-            "1970-01-01T00:00:00.000123000Z\n",
-        ),
-        ("weak", "2018-02-14T00:28:07.Z", "2018-02-14T00:28:07Z\n"),
-    ];
-    for (command, text, printed) in runs {
+/// The status of a command on one text.
+fn status_of<'a>(command: &'a str, text: &'a str, out: &mut Limited, err: &mut Limited) -> u8 {
+    run(&[command, text], out, err)
+}
+
+/// A command writes one line for each text.
+fn assert_printed<'a>(rt: &impl Abort, command: &'a str, rows: &[(&'a str, &str)]) {
+    for (text, printed) in rows {
         let (mut out, mut err) = (Limited::open(), Limited::open());
-        assert_eq!(rt; run(&[command, text], &mut out, &mut err), 0, "{text}");
+        assert_eq!(rt; status_of(command, text, &mut out, &mut err), 0, "{text}");
         assert_eq!(rt; out.taken(), printed.as_bytes(), "{text}");
         assert_eq!(rt; err.requests, 0, "{text}");
     }
 }
 
-/// The status of a command on one text.
-fn status_of<'a>(command: &'a str, text: &'a str, out: &mut Limited, err: &mut Limited) -> u8 {
-    run(&[command, text], out, err)
+#[test]
+fn accepted_durations_are_printed(rt: HostRuntime) {
+    let rows = [
+        ("2h 37min", "2h 37m\n"),
+        ("0", "0s\n"),
+        ("1 2 s", "12s\n"),
+        ("1.5w", "10days 12h\n"),
+        ("0.5y", "5months 30days 10h 12m\n"),
+        ("2years 2min 12us", "2years 2m 12µs\n"),
+        (
+            "18446744073709551615.999999999s",
+            "584542046090years 7months 15days 17h 5m 3s 999ms 999µs 999ns\n",
+        ),
+        (
+            "100000000000y 11M 29d 23h 59m 59.999999999s",
+            "100000000000years 11months 29days 23h 59m 59s 999ms 999µs 999ns\n",
+        ),
+        ("12us", "12\u{b5}s\n"),
+        ("1.50000000000s", "1s 500ms\n"),
+        ("1.0ns", "1ns\n"),
+        ("12\u{b5}s", "12\u{b5}s\n"),
+        ("12\u{3bc}s", "12\u{b5}s\n"),
+    ];
+    assert_printed(&rt, "duration", &rows);
+}
+
+#[test]
+fn accepted_timestamps_are_printed(rt: HostRuntime) {
+    let strict = [
+        ("2016-12-31T23:59:60Z", "2016-12-31T23:59:59Z\n"),
+        (
+            "9999-12-31T23:59:59.9999999999Z",
+            "9999-12-31T23:59:59.999999999Z\n",
+        ),
+    ];
+    assert_printed(&rt, "strict", &strict);
+    let weak = [
+        ("1970-01-01 00:00:00.5", "1970-01-01T00:00:00.500000000Z\n"),
+        (
+            "1970-01-01 00:00:00.000123",
+            "1970-01-01T00:00:00.000123000Z\n",
+        ),
+        ("2018-02-14T00:28:07.Z", "2018-02-14T00:28:07Z\n"),
+    ];
+    assert_printed(&rt, "weak", &weak);
 }
 
 #[test]
@@ -167,60 +175,56 @@ fn a_digit_behind_zeros_counts_with_them(rt: HostRuntime) -> Result<(), Fail> {
     Ok(())
 }
 
+/// A command explains what is wrong with each text.
+fn assert_explained<'a>(rt: &impl Abort, command: &'a str, rows: &[(&'a str, &str)]) {
+    for (text, message) in rows {
+        let (mut out, mut err) = (Limited::open(), Limited::open());
+        assert_eq!(rt; status_of(command, text, &mut out, &mut err), 1, "{text}");
+        assert_eq!(rt; err.taken(), message.as_bytes(), "{text}");
+        assert_eq!(rt; out.requests, 0, "{text}");
+    }
+}
+
 #[test]
-fn refused_texts_are_explained(rt: HostRuntime) {
-    let runs = [
-        ("duration", "", "value was empty\n"),
-        ("duration", "1~", "invalid character at 1\n"),
-        ("duration", "1foo~", "invalid character at 4\n"),
-        ("duration", ".1s", "expected number at 0\n"),
+fn refused_durations_are_explained(rt: HostRuntime) {
+    let rows = [
+        ("", "value was empty\n"),
+        ("1~", "invalid character at 1\n"),
+        ("1foo~", "invalid character at 4\n"),
+        (".1s", "expected number at 0\n"),
+        ("10 months 1", "time unit needed, for example 1sec or 1ms\n"),
+        ("123", "time unit needed, for example 123sec or 123ms\n"),
         (
-            "duration",
-            "10 months 1",
-            "time unit needed, for example 1sec or 1ms\n",
-        ),
-        (
-            "duration",
-            "123",
-            "time unit needed, for example 123sec or 123ms\n",
-        ),
-        (
-            "duration",
             "10nights",
             "unknown time unit \"nights\", supported units: ns, us/µs, ms, sec, min, hours, days, weeks, months, years (and few variations)\n",
         ),
         (
-            "duration",
             "1\u{3bc}",
             "unknown time unit \"\u{3bc}\", supported units: ns, us/µs, ms, sec, min, hours, days, weeks, months, years (and few variations)\n",
         ),
         (
-            "duration",
             "10000000000000y",
             "number is too large or cannot be represented without a lack of precision (values below 1ns are not supported)\n",
         ),
+    ];
+    assert_explained(&rt, "duration", &rows);
+}
+
+#[test]
+fn refused_timestamps_are_explained(rt: HostRuntime) {
+    let strict = [
+        ("1970-01-01 00:00:00Z", "timestamp format is invalid\n"),
         (
-            "strict",
-            "1970-01-01 00:00:00Z",
-            "timestamp format is invalid\n",
-        ),
-        (
-            "strict",
             "2100-02-29T00:00:00Z",
             "numeric component is out of range\n",
         ),
-        (
-            "weak",
-            "1969-1x-01 00:00:00",
-            "bad character where digit is expected\n",
-        ),
     ];
-    for (command, text, message) in runs {
-        let (mut out, mut err) = (Limited::open(), Limited::open());
-        assert_eq!(rt; run(&[command, text], &mut out, &mut err), 1, "{text}");
-        assert_eq!(rt; err.taken(), message.as_bytes(), "{text}");
-        assert_eq!(rt; out.requests, 0, "{text}");
-    }
+    assert_explained(&rt, "strict", &strict);
+    let weak = [(
+        "1969-1x-01 00:00:00",
+        "bad character where digit is expected\n",
+    )];
+    assert_explained(&rt, "weak", &weak);
 }
 
 #[test]

@@ -2,6 +2,7 @@
 
 use crate::settings::{LineFault, Setting, read_line};
 use humantime::{DurationError, StdDuration, SystemTime, TimestampError};
+use std::process::Abort;
 use std::test::Fail;
 
 #[test]
@@ -24,8 +25,35 @@ fn lines_set(rt: HostRuntime) -> Result<(), Fail> {
     Ok(())
 }
 
+/// Each line is refused, with this key, at this byte, for this fault.
+fn assert_refused(
+    rt: &impl Abort,
+    rows: &[(&str, &str, usize, LineFault<'_>)],
+) -> Result<(), Fail> {
+    for (line, key, at, fault) in rows {
+        let Err(error) = read_line(line) else {
+            return Err(Fail::from("accepted"));
+        };
+        assert_eq!(rt; error.key, *key);
+        assert_eq!(rt; error.before.len(), *at, "at {line}");
+        assert_eq!(rt; error.fault, *fault, "at {line}");
+    }
+    Ok(())
+}
+
 #[test]
-fn an_error_names_the_byte_of_the_line(rt: HostRuntime) -> Result<(), Fail> {
+fn a_line_that_sets_nothing_is_refused(rt: HostRuntime) -> Result<(), Fail> {
+    let rows = [
+        ("", "", 0, LineFault::NoValue),
+        ("timeout ", "timeout", 8, LineFault::NoValue),
+        ("retries = 5", "retries", 0, LineFault::UnknownKey),
+        (" timeout = 1s", " timeout", 0, LineFault::UnknownKey),
+    ];
+    assert_refused(&rt, &rows)
+}
+
+#[test]
+fn an_error_of_a_duration_names_the_byte_of_the_line(rt: HostRuntime) -> Result<(), Fail> {
     let nights = DurationError::UnknownUnit {
         start: 12,
         end: 18,
@@ -38,72 +66,28 @@ fn an_error_names_the_byte_of_the_line(rt: HostRuntime) -> Result<(), Fail> {
         unit: "",
         value: 37,
     };
-    for (line, key, at, fault) in [
-        ("", "", 0, LineFault::NoValue),
-        ("timeout ", "timeout", 8, LineFault::NoValue),
-        ("retries = 5", "retries", 0, LineFault::UnknownKey),
-        (" timeout = 1s", " timeout", 0, LineFault::UnknownKey),
-        (
-            "timeout = 10nights",
-            "timeout",
-            12,
-            LineFault::Duration(nights),
-        ),
-        (
-            "timeout = 10h 37",
-            "timeout",
-            16,
-            LineFault::Duration(no_unit),
-        ),
-        (
-            "timeout = 1h=2",
-            "timeout",
-            12,
-            LineFault::Duration(DurationError::InvalidCharacter(12)),
-        ),
-        (
-            "timeout = 5µs x",
-            "timeout",
-            15,
-            LineFault::Duration(DurationError::NumberExpected(15)),
-        ),
-        (
-            "timeout = 1.05ns",
-            "timeout",
-            10,
-            LineFault::Duration(DurationError::NumberOverflow),
-        ),
-        (
-            "timeout =  ",
-            "timeout",
-            11,
-            LineFault::Duration(DurationError::Empty),
-        ),
-        (
-            "since = 2018-02-30T00:28:07Z",
-            "since",
-            8,
-            LineFault::Timestamp(TimestampError::OutOfRange),
-        ),
-        (
-            "since = 2018-02-14Tmm:28:07Z",
-            "since",
-            8,
-            LineFault::Timestamp(TimestampError::InvalidDigit),
-        ),
-        (
-            "since = yesterday",
-            "since",
-            8,
-            LineFault::Timestamp(TimestampError::InvalidFormat),
-        ),
+    for (line, at, error) in [
+        ("timeout = 10nights", 12, nights),
+        ("timeout = 10h 37", 16, no_unit),
+        ("timeout = 1h=2", 12, DurationError::InvalidCharacter(12)),
+        ("timeout = 5µs x", 15, DurationError::NumberExpected(15)),
+        ("timeout = 1.05ns", 10, DurationError::NumberOverflow),
+        ("timeout =  ", 11, DurationError::Empty),
     ] {
-        let Err(error) = read_line(line) else {
-            return Err(Fail::from("accepted"));
-        };
-        assert_eq!(rt; error.key, key);
-        assert_eq!(rt; error.before.len(), at, "at {line}");
-        assert_eq!(rt; error.fault, fault, "at {line}");
+        let row = (line, "timeout", at, LineFault::Duration(error));
+        assert_refused(&rt, &[row])?;
+    }
+    Ok(())
+}
+
+#[test]
+fn an_error_of_a_timestamp_stands_where_it_begins(rt: HostRuntime) -> Result<(), Fail> {
+    for (line, error) in [
+        ("since = 2018-02-30T00:28:07Z", TimestampError::OutOfRange),
+        ("since = 2018-02-14Tmm:28:07Z", TimestampError::InvalidDigit),
+        ("since = yesterday", TimestampError::InvalidFormat),
+    ] {
+        assert_refused(&rt, &[(line, "since", 8, LineFault::Timestamp(error))])?;
     }
     Ok(())
 }

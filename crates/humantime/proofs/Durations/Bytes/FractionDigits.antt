@@ -7,8 +7,7 @@ use Rattle.std.proofs.Math.Nat.{pow-suc, pow-le-pow_right, mul-le-mul_right}
 use Rattle.std.specs.Str.Parse.{digits_value_after}
 use Rattle.humantime.specs.declared.duration.reading.class.Class.TheVariants.{Digit, White}
 use Rattle.humantime.specs.Durations.Characters.{is_numeric, begins, leading, past, digits, decimal_value, significant}
-use Rattle.humantime.specs.Durations.Faults.{NumberOverflow}
-use Rattle.humantime.specs.Durations.Rests.{number_of, after_number}
+use Rattle.humantime.specs.Durations.Faults.{NumberOverflow, number_of, after_number}
 use Rattle.humantime.specs.References.Durations.Classes.{class_of}
 use Rattle.humantime.specs.References.Durations.Scales.{has_digits}
 use Rattle.humantime.specs.References.Durations.Scanning.{digits_at}

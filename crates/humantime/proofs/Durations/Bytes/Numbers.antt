@@ -5,8 +5,7 @@ use Rattle.std.specs.Char.{digit_value}
 use Rattle.std.specs.Str.Parse.{digits_value_after}
 use Rattle.humantime.specs.declared.duration.reading.class.Class.TheVariants.{Digit, Letter, White}
 use Rattle.humantime.specs.Durations.Characters.{is_ws, is_digit, is_letter, is_numeric, begins, leading, past, digits, decimal_value, u64_max}
-use Rattle.humantime.specs.Durations.Faults.{NumberOverflow}
-use Rattle.humantime.specs.Durations.Rests.{number_of, after_number}
+use Rattle.humantime.specs.Durations.Faults.{NumberOverflow, number_of, after_number}
 use Rattle.humantime.specs.References.Durations.Classes.{class_of}
 use Rattle.humantime.specs.References.Durations.Scanning.{number_at}
 use Rattle.humantime.proofs.Durations.Bytes.Digits.{digit_counts}

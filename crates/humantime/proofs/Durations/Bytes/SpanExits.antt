@@ -7,13 +7,12 @@ use Rattle.std.specs.Str.{drop_trailing_whitespace}
 use Rattle.humantime.specs.declared.duration.reading.amount.Amount.{Amount}
 use Rattle.humantime.specs.Durations.Characters.{is_numeric, is_point, leading, past, byte_length, offset_of}
 use Rattle.humantime.specs.Durations.Units.{Scale, scale_of_word}
-use Rattle.humantime.specs.Durations.Rests.{after_number, fraction_of, past_fraction, word_of, after_word, span_of}
-use Rattle.humantime.specs.Durations.Faults.{Fault, InvalidCharacter, UnknownUnit, NumberOverflow}
+use Rattle.humantime.specs.Durations.Faults.{after_number, fraction_of, word_of, after_word, span_of, Fault, InvalidCharacter, UnknownUnit, NumberOverflow}
+use Rattle.humantime.specs.References.Durations.Lending.{past_fraction, trimmed, number_slice, fraction_slice, lent_at, spelled}
 use Rattle.humantime.specs.References.Durations.Reading.{too_long, stop_by, stop_at}
 use Rattle.humantime.specs.References.Durations.Scales.{Counted, scale_of, parts_of, IsAmountOf}
 use Rattle.humantime.specs.References.Durations.Scanning.{bare, ends_span, fault_without_word, fraction_in}
 use Rattle.humantime.specs.References.Durations.SpanParts.{IsSpanRead}
-use Rattle.humantime.specs.References.Durations.Lending.{trimmed, number_slice, fraction_slice, lent_at, spelled}
 use Rattle.humantime.proofs.Durations.Reading.Runs.{leading-past}
 use Rattle.humantime.proofs.Durations.Bytes.Trimming.{spelled_at}
 
@@ -59,7 +58,7 @@ middle_is [] [] behind e b = refl
 middle_is [] (m ∷ ms) behind e b = cc
 middle_is (c ∷ cs) middle behind e b = by (is_point c) refl e b
   where
-    by : (p : Bool) → is_point c ≡ p → c ∷ cs ≡ middle ++ behind → behind ≡ (if p then past is_numeric cs else c ∷ cs) → fraction_in middle ≡ option_map trimmed (if p then Some (leading is_numeric cs) else None)
+    by : (p : Bool) → is_point c ≡ p → c ∷ cs ≡ middle ++ behind → behind ≡ (if p then past is_numeric cs else c ∷ cs) → fraction_in middle ≡ (if p then Some (trimmed (leading is_numeric cs)) else None)
     by true h e b =
         ap fraction_in
         (append_cancel_right middle (c ∷ leading is_numeric cs) behind

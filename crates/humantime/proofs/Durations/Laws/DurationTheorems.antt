@@ -2,14 +2,13 @@
 use Rattle.std.proofs.lemmas.Grind.{common_steps}
 use Rattle.std.proofs.Common.{◌≡◌, ◌↔◌, ℕ, ◌<◌, List, Result, Ok, Err, IsTrue, chars, refl, arith}
 use Rattle.humantime.specs.declared.duration.error.DurationError.{DurationError}
-use Rattle.humantime.specs.Values.Amounts.{duration_end}
+use Rattle.humantime.specs.Values.{duration_end}
 use Rattle.humantime.specs.Durations.Errors.{told}
 use Rattle.humantime.specs.Durations.Accepted.{Accepted}
-use Rattle.humantime.specs.Durations.Faults.{Fault, HasFault, fault_eq}
+use Rattle.humantime.specs.Durations.Faults.{Fault, HasFault}
+use Rattle.humantime.specs.References.Durations.FaultEqualityLemmas.{fault_eq, fault_eq-sound, fault_eq-same}
 use Rattle.humantime.specs.Laws.Outcomes.{OneOutcome, OneReading, OneListOfItems, ItemsDecideValue, ItemsDecideFault, ItemsDecideOverflow, OneListOfSlices}
-use Rattle.humantime.specs.References.Durations.FaultEqualityLemmas.{fault_eq-sound, fault_eq-same}
-use Rattle.humantime.specs.Durations.Counts.{Canon}
-use Rattle.humantime.specs.Durations.Canonical.{IsCanonicalOf}
+use Rattle.humantime.specs.Durations.Counts.{Canon, IsCanonicalOf}
 use Rattle.humantime.specs.References.Durations.Printing.{duration_text}
 use Rattle.humantime.specs.Laws.Printed.{HasOneText, ReadsBack, TextsTellApart, HasShortText, HasSmallCounts, HasCanonicalText, KeepsItsValue, KeepsItsText}
 use Rattle.humantime.specs.References.Durations.Answers.{duration_answer, canonical_answer}

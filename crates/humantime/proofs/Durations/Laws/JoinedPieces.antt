@@ -3,10 +3,8 @@ use Rattle.std.proofs.Common.{arith}
 use Rattle.std.proofs.lemmas.Grind.{common_steps}
 use Rattle.std.proofs.Common.{◌≡◌, ◌↔◌, ℕ, List, [], ◌∷◌, flat_map, sum_by, refl, subst}
 use Rattle.std.specs.List.{AllByRecursion}
-use Rattle.humantime.specs.Durations.Spans.{Span, Front, Reads}
-use Rattle.humantime.specs.Durations.Sums.{additions, value}
-use Rattle.humantime.specs.Durations.Limits.{Formed, Fits, AllHaveRoom}
-use Rattle.humantime.specs.Durations.Accepted.{Accepted}
+use Rattle.humantime.specs.Durations.Spans.{Span, SpellsAll, Reads}
+use Rattle.humantime.specs.Durations.Accepted.{additions, value, Formed, Fits, AllHaveRoom, Accepted}
 use Rattle.humantime.specs.Durations.Faults.{NumberOverflow, HasFault}
 use Rattle.humantime.proofs.Durations.Laws.Readings.{accepted_spans}
 use Rattle.humantime.proofs.Durations.Laws.JoinedTexts.{front-append, some-append, room_accepts, no_room_overflows}
@@ -31,11 +29,11 @@ joined_spans ps = flat_map (λ (p : Piece). p.spans) ps
 abbrev pub joined_value : List Piece → ℕ
 joined_value ps = sum_by (λ (p : Piece). p.value) ps
 
-nothing_read : Front [] []
+nothing_read : SpellsAll [] []
 nothing_read = record { space = []; body = []; whole = refl; only_space = tt; each = refl }
 
 record AreJoined (ps : List Piece) : Type 0 where
-  front : Front (joined_text ps) (joined_spans ps)
+  front : SpellsAll (joined_text ps) (joined_spans ps)
   formed : AllByRecursion Formed (joined_spans ps)
   fit : AllByRecursion Fits (joined_spans ps)
   sum : value (joined_spans ps) ≡ joined_value ps

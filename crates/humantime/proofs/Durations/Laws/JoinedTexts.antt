@@ -4,10 +4,8 @@ use Rattle.std.proofs.lemmas.Grind.{common_steps}
 use Rattle.std.proofs.Common.{◌≡◌, ◌≢◌, ◌↔◌, ℕ, ◌+◌, Bool, List, [], ◌∷◌, ◌++◌, None, refl, sym, ap, ap₂, ◌∙◌, inl, inr, subst, append_assoc}
 use Rattle.std.specs.List.{AllByRecursion}
 use Rattle.humantime.specs.Durations.Characters.{is_ws}
-use Rattle.humantime.specs.Durations.Spans.{Span, Only, Spells, SpellsEach, Front, Reads}
-use Rattle.humantime.specs.Durations.Sums.{additions, value}
-use Rattle.humantime.specs.Durations.Limits.{Formed, Fits, AllHaveRoom, WithinLimits}
-use Rattle.humantime.specs.Durations.Accepted.{Accepted}
+use Rattle.humantime.specs.Durations.Spans.{Span, Only, Spells, SpellsEach, SpellsAll, Reads}
+use Rattle.humantime.specs.Durations.Accepted.{additions, value, Formed, Fits, AllHaveRoom, WithinLimits, Accepted}
 use Rattle.humantime.specs.Durations.Faults.{NumberOverflow, HasFault}
 use Rattle.humantime.specs.Laws.Texts.{JoinedHaveSum, JoinedOverflow, JoinedHaveSumOrOverflow}
 use Rattle.humantime.proofs.Durations.Reading.OneReading.{not_zero}
@@ -35,7 +33,7 @@ spells_each-append a b [] ts h k = subst (λ (l : List ℕ). SpellsEach (l ++ b)
 spells_each-append a b (s ∷ ss) ts h k = (h.0 ++ b, spells-append a h.0 b s h.1, spells_each-append h.0 b ss ts h.2 k)
 
 -- spans behind spans
-pub front-append : (a b : List ℕ) (ss ts : List Span) → Reads a ss → Front b ts → Front (a ++ b) (ss ++ ts)
+pub front-append : (a b : List ℕ) (ss ts : List Span) → Reads a ss → SpellsAll b ts → SpellsAll (a ++ b) (ss ++ ts)
 front-append a b [] ts h k = absurd (h.1 refl)
 front-append a b (s ∷ ss) ts h k =
     let f = h.0 in
@@ -51,7 +49,7 @@ pub some-append : (ss ts : List Span) → ss ≢ [] → ss ++ ts ≢ []
 some-append [] ts some e = some refl
 some-append (s ∷ ss) ts some e = cc
 
-pub reads-append : (a b : List ℕ) (ss ts : List Span) → Reads a ss → Front b ts → Reads (a ++ b) (ss ++ ts)
+pub reads-append : (a b : List ℕ) (ss ts : List Span) → Reads a ss → SpellsAll b ts → Reads (a ++ b) (ss ++ ts)
 reads-append a b ss ts h k = (front-append a b ss ts h k, some-append ss ts h.1)
 
 -- a text of spans that are within the limits one by one is accepted exactly where their additions have room
@@ -120,7 +118,7 @@ joined_sum_or_overflow a b u v x y some_a some_b =
     ]
 
 -- white space may stand wherever a span ends
-pub reads-space : (before space after : List ℕ) (ss ts : List Span) → Reads before ss → Front after ts → Only is_ws space
+pub reads-space : (before space after : List ℕ) (ss ts : List Span) → Reads before ss → SpellsAll after ts → Only is_ws space
     → Reads (before ++ (space ++ after)) (ss ++ ts)
 reads-space before space after ss ts h k only = reads-append before (space ++ after) ss ts h (record {
   space = space ++ k.space;

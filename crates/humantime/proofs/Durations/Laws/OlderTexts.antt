@@ -9,9 +9,7 @@ use Rattle.std.proofs.lemmas.Slice.Eq.{bytes_eq-Decides}
 use Rattle.humantime.specs.Durations.Characters.{greek_mu, white_spaces, is_ws, is_digit, is_numeric, significant}
 use Rattle.humantime.specs.Durations.Units.{Scale, scale_of_word}
 use Rattle.humantime.specs.Durations.Spans.{Span, Only, Spells, SpellsEach}
-use Rattle.humantime.specs.Durations.Sums.{fraction_additions, additions_at, additions, total}
-use Rattle.humantime.specs.Durations.Limits.{Formed, FitsFraction, Fits}
-use Rattle.humantime.specs.Durations.Accepted.{Accepted, Bare_zero, Sum_of}
+use Rattle.humantime.specs.Durations.Accepted.{fraction_additions, additions_at, additions, total, Formed, FitsFraction, Fits, Accepted, Bare_zero, Sum_of}
 use Rattle.humantime.specs.Laws.Older.{is_older_letter, older_scale_of_word, older_fraction_additions, older_additions_at, older_additions, OlderFormed, OlderFitsFraction, OlderFits, OlderWithinLimits, AcceptedWithZeros, Older_zero, Older_sum, AcceptedWithoutMu, Oldest_zero, Oldest_sum, IsStillAccepted, HasMu}
 use Rattle.humantime.proofs.Durations.Reading.Settled.{FitsAt}
 use Rattle.humantime.proofs.Durations.Reading.SignificantDigits.{significant_shorter, whole_part_kept, amount_kept}
@@ -32,7 +30,7 @@ still_short o h = grind (arith, common_steps, significant_shorter)
 
 still_formed : (spans : List Span) → AllByRecursion (λ s. OlderFormed (scale_of_word s.word) s) spans → AllByRecursion Formed spans
 still_formed [] f = tt
-still_formed (s ∷ ss) f = (record { short = record { number = f.0.number; fraction = still_short s.fraction f.0.fraction }; word = f.0.word }, still_formed ss f.1)
+still_formed (s ∷ ss) f = (record { numbers = record { number = f.0.number; fraction = still_short s.fraction f.0.fraction }; word = f.0.word }, still_formed ss f.1)
 
 fraction_still_fits : (f : Option ℕ) (o : Option (List ℕ)) → OlderFitsFraction f o → FitsFraction f o
 fraction_still_fits f o h = grind (arith, common_steps, whole_part_kept)

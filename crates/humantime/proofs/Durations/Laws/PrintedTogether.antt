@@ -6,13 +6,13 @@ use Rattle.std.proofs.Math.Nat.{mul_comm}
 use Rattle.std.proofs.lemmas.Nat.{mod_below}
 use Rattle.std.proofs.lemmas.Str.{chars-IsAscii}
 use Rattle.std.proofs.lemmas.List.Sums.{sum_by-cons}
-use Rattle.humantime.specs.Values.Amounts.{nanos_per_second}
+use Rattle.humantime.specs.Values.{nanos_per_second}
 use Rattle.humantime.specs.Durations.Characters.{u64_max, bare_zero}
 use Rattle.humantime.specs.Durations.Spans.{Span, Reads}
-use Rattle.humantime.specs.Durations.Sums.{Addition, addition_nanos, total, additions_of, additions}
-use Rattle.humantime.specs.Durations.Accepted.{Accepted}
-use Rattle.humantime.specs.Durations.Counts.{weights, weighted_sum, Suffix, suffixes, printed_counts, joined_by_space, Canon}
-use Rattle.humantime.specs.References.Durations.Printing.{divided, duration_text}
+use Rattle.humantime.specs.Durations.Accepted.{Addition, addition_nanos, total, additions, Accepted}
+use Rattle.humantime.specs.References.Durations.Reading.{additions_of}
+use Rattle.humantime.specs.Durations.Counts.{weights, weighted_sum, suffixes, printed_counts, joined_by_space, Canon}
+use Rattle.humantime.specs.References.Durations.Printing.{Suffix, divided, duration_text}
 use Rattle.humantime.proofs.Durations.Printing.PrintedDigits.{decimal_number}
 use Rattle.humantime.proofs.Durations.Printing.PrintedRows.{word_for, span_for, IsWord, Table, table, most}
 use Rattle.humantime.proofs.Durations.Printing.PrintedSpans.{IsCount, spans_for, adds_one, weight_positive, rows_good, counts_spell, both_empty, joined_some, canon_reads}

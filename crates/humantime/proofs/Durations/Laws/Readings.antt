@@ -7,9 +7,8 @@ use Rattle.std.proofs.lemmas.List.Sums.{sum_by-cons}
 use Rattle.humantime.specs.Durations.Characters.{bare_zero}
 use Rattle.humantime.specs.Durations.Spans.{Span, Reads}
 use Rattle.humantime.specs.Durations.Faults.{Fault, HasFault}
-use Rattle.humantime.specs.Durations.Sums.{total, additions_of, value}
-use Rattle.humantime.specs.Durations.Limits.{WithinLimits}
-use Rattle.humantime.specs.Durations.Accepted.{Accepted}
+use Rattle.humantime.specs.Durations.Accepted.{total, value, WithinLimits, Accepted}
+use Rattle.humantime.specs.References.Durations.Reading.{additions_of}
 use Rattle.humantime.specs.Laws.Texts.{IsZeroOrSpans, HasNoSpans, ReorderedHaveOneValue}
 use Rattle.humantime.proofs.Durations.Reading.OneReading.{not_zero}
 use Rattle.humantime.proofs.Durations.Reading.Settled.{value-cons}

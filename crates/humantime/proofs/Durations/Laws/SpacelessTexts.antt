@@ -3,7 +3,7 @@ use Rattle.std.proofs.lemmas.Grind.{common_steps}
 use Rattle.std.proofs.Common.{◌≡◌, ℕ, Bool, true, false, cond, not, List, [], ◌∷◌, ◌++◌, Option, refl, sym, ap, ◌∙◌, inl, inr, subst, arith, rules}
 use Rattle.std.proofs.lemmas.Bool.{cases_Bool, or_parts}
 use Rattle.humantime.specs.Durations.Characters.{is_ws, is_digit, is_letter, begins, digits, bare_zero}
-use Rattle.humantime.specs.Durations.Spans.{Span, Only, SpellsFraction, Spells, SpellsEach, Front, Reads}
+use Rattle.humantime.specs.Durations.Spans.{Span, Only, SpellsFraction, Spells, SpellsEach, SpellsAll, Reads}
 use Rattle.humantime.specs.Durations.Accepted.{Accepted}
 use Rattle.humantime.specs.Laws.Texts.{without_white_space, NeedsNoWhiteSpace}
 use Rattle.humantime.proofs.Durations.Reading.Classes.{digit_not_space, letter_not_space, point_not_numeric, is_point-46}
@@ -57,7 +57,7 @@ spells_each : (body : List ℕ) (spans : List Span) → SpellsEach body spans �
 spells_each body [] h = ap without_white_space h
 spells_each body (s ∷ ss) h = (without_white_space h.0, spells_span body h.0 s h.1, spells_each h.0 ss h.2)
 
-front_read : (text : List ℕ) (spans : List Span) → Front text spans → Front (without_white_space text) spans
+front_read : (text : List ℕ) (spans : List Span) → SpellsAll text spans → SpellsAll (without_white_space text) spans
 front_read text spans h = grind (arith, common_steps, only_space, spells_each)
 
 -- the text without its white space is read as the same spans

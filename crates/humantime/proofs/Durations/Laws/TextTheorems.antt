@@ -2,12 +2,10 @@
 -- theorems beyond them.
 use Rattle.std.proofs.Common.{◌↔◌, ℕ, ◌+◌, ◌/◌, ◌≤◌, List, ◌∷◌, ◌++◌, chars}
 use Rattle.std.specs.List.{AllByRecursion}
-use Rattle.humantime.specs.Values.Amounts.{nanos_per_second}
+use Rattle.humantime.specs.Values.{nanos_per_second}
 use Rattle.humantime.specs.Durations.Characters.{is_ws, u64_max, bare_zero}
-use Rattle.humantime.specs.Durations.Spans.{Span, Only, Front, Reads}
-use Rattle.humantime.specs.Durations.Sums.{additions}
-use Rattle.humantime.specs.Durations.Limits.{AllHaveRoom}
-use Rattle.humantime.specs.Durations.Accepted.{Accepted}
+use Rattle.humantime.specs.Durations.Spans.{Span, Only, SpellsAll, Reads}
+use Rattle.humantime.specs.Durations.Accepted.{additions, AllHaveRoom, Accepted}
 use Rattle.humantime.specs.Durations.Faults.{NumberOverflow, HasFault}
 use Rattle.humantime.specs.Durations.Counts.{Canon}
 use Rattle.humantime.specs.Laws.Texts.{NeedsNoWhiteSpace, IsZeroOrSpans, JoinedHaveSum, JoinedOverflow, JoinedHaveSumOrOverflow, ReorderedHaveOneValue, HasNoSpans}
@@ -57,7 +55,7 @@ pub same_spans : (a b : List ℕ) (spans : List Span) (v : ℕ) → Reads a span
 same_spans a b spans v h k = (readings.same_spans a b spans v h k, readings.same_spans b a spans v k h)
 
 -- white space may stand wherever a span ends, with the same value
-pub space_between : (before space after : List ℕ) (ss ts : List Span) (v : ℕ) → Reads before ss → Front after ts → Only is_ws space
+pub space_between : (before space after : List ℕ) (ss ts : List Span) (v : ℕ) → Reads before ss → SpellsAll after ts → Only is_ws space
     → Accepted (before ++ after) v ↔ Accepted (before ++ (space ++ after)) v
 space_between before space after ss ts v h k only =
     same_spans (before ++ after) (before ++ (space ++ after)) (ss ++ ts) v

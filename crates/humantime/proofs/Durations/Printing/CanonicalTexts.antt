@@ -4,8 +4,7 @@ use Rattle.std.proofs.lemmas.Grind.{common_steps}
 use Rattle.std.proofs.Common.{◌≡◌, ◌↔◌, ℕ, List, Result, Ok, Err, refl, sym, ap, subst, ◌∙◌}
 use Rattle.std.specs.Prelude.{chars}
 use Rattle.humantime.specs.Durations.Faults.{Fault, HasFault}
-use Rattle.humantime.specs.Durations.Counts.{Canon}
-use Rattle.humantime.specs.Durations.Canonical.{IsCanonicalOf}
+use Rattle.humantime.specs.Durations.Counts.{Canon, IsCanonicalOf}
 use Rattle.humantime.specs.References.Durations.Printing.{duration_text}
 use Rattle.humantime.specs.References.Durations.Answers.{duration_answer, printed_answer, canonical_answer}
 use Rattle.humantime.proofs.Durations.Printing.GreatestCounts.{text_is_canon, canon_is_text}
@@ -30,8 +29,8 @@ unfolding canonical_answer
 answer_is_canonical s r e t = (
   (λ h.
       let p = printed_value (duration_answer (chars s)) t (sym e ∙ h) in
-      record { value = p.0; accepted = (answer_accepts (chars s) _ refl p.0).0 p.1; canon = subst (Canon p.0) p.2 (text_is_canon p.0) }),
-  (λ h. e ∙ ap printed_answer ((answer_accepts (chars s) _ refl h.value).1 h.accepted) ∙ ap (λ (u : List ℕ). Ok u) (sym (canon_is_text h.value t h.canon))),
+      record { duration = p.0; accepted = (answer_accepts (chars s) _ refl p.0).0 p.1; canon = subst (Canon p.0) p.2 (text_is_canon p.0) }),
+  (λ h. e ∙ ap printed_answer ((answer_accepts (chars s) _ refl h.duration).1 h.accepted) ∙ ap (λ (u : List ℕ). Ok u) (sym (canon_is_text h.duration t h.canon))),
 )
 
 pub answer_is_fault : (s : List ℕ) (r : Result (List ℕ) Fault) → r ≡ canonical_answer (chars s) → (f : Fault) → (r ≡ Err f) ↔ HasFault (chars s) f

@@ -6,9 +6,9 @@ use Rattle.std.specs.List.{AllByRecursion, join_with_byte}
 use Rattle.std.proofs.lemmas.Bool.Decides.{nat_tests}
 use Rattle.std.proofs.lemmas.List.{append-nil, length-append}
 use Rattle.std.proofs.lemmas.Fmt.{decimal_nonempty}
-use Rattle.humantime.specs.Values.Amounts.{nanos_per_micro, nanos_per_milli, nanos_per_second, seconds_per_minute, seconds_per_hour, seconds_per_day, seconds_per_month, seconds_per_year}
-use Rattle.humantime.specs.Durations.Counts.{Suffix, weights, suffixes, printed_count, printed_counts, joined_by_space}
-use Rattle.humantime.specs.References.Durations.Printing.{divided, duration_text, separated, with_count, with_seconds, with_nanos, or_zero, written_text}
+use Rattle.humantime.specs.Values.{nanos_per_micro, nanos_per_milli, nanos_per_second, seconds_per_minute, seconds_per_hour, seconds_per_day, seconds_per_month, seconds_per_year}
+use Rattle.humantime.specs.References.Durations.Printing.{Suffix, divided, duration_text, separated, with_count, with_seconds, with_nanos, or_zero, written_text}
+use Rattle.humantime.specs.Durations.Counts.{weights, suffixes, printed_count, printed_counts, joined_by_space}
 
 abbrev pub IsWord64 : ℕ → Type 0
 IsWord64 n = n < 2 ^ 64

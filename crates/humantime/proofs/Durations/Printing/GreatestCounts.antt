@@ -1,10 +1,13 @@
 -- The counts by division are the greatest, and no others are.
-use Rattle.std.proofs.lemmas.Grind.{common_steps}
-use Rattle.std.proofs.Common.{◌≡◌, inl, inr, ℕ, suc, ◌+◌, ◌*◌, ◌/◌, ◌%◌, ◌<◌, ◌≤◌, List, [], ◌∷◌, length, refl, ap, sym, ◌∙◌, arith}
+use Rattle.std.proofs.Common.{◌≡◌, inl, inr, ℕ, suc, ◌+◌, ◌*◌, ◌/◌, ◌%◌, ◌<◌, ◌≤◌, List, [], ◌∷◌, length, refl, ap, sym, ◌∙◌, arith, nat_cmp, IsTrue, Less, Equal, Greater}
 use Rattle.std.proofs.Math.Nat.{mul_comm, div-add-mod}
 use Rattle.std.proofs.lemmas.Nat.{le-div, mod_below}
-use Rattle.std.proofs.lemmas.Bool.{cases_lt}
-use Rattle.humantime.specs.Durations.Counts.{weights, weighted_sum, IsBefore, AreGreatest, Counts, Canon}
+use Rattle.std.proofs.lemmas.Bool.{cases_lt, false≢true}
+use Rattle.std.specs.Ordering.{is_le}
+use Rattle.std.specs.Cmp.Lexicographic.{slice_cmp}
+use Rattle.std.specs.Cmp.{nat_cmp_is}
+use Rattle.humantime.specs.Durations.Counts.{weights, weighted_sum, AreGreatest, Counts, Canon}
+use Rattle.std.proofs.lemmas.Grind.{common_steps}
 use Rattle.humantime.specs.References.Durations.Printing.{divided, duration_text}
 
 -- each weight is positive and the last is one, where what is left is below m
@@ -30,14 +33,27 @@ first_most w c s d h e = le-div c d w h (omega (arith, mul_comm w c))
 rest_left : (w c s d : ℕ) → w * c + s ≡ d → c ≡ d / w → s ≡ d % w
 rest_left w c s d e f = omega (arith, div-add-mod d w, ap (λ n. w * n) f)
 
-divided_last : (ws : List ℕ) (m d : ℕ) → Reaches ws m → (others : List ℕ) → length others ≡ length ws → weighted_sum ws others ≡ d → ¬ (IsBefore (divided ws d) others)
-divided_last [] m d r others l e b = b
-divided_last (w ∷ ws) m d r [] l e b = b
-divided_last (w ∷ ws) m d r (c ∷ cs) l e b =
+cmp_less : (x y : ℕ) → x < y → nat_cmp x y ≡ Less
+cmp_less x y h = sym (nat_cmp_is x y Less h)
+
+cmp_same : (x y : ℕ) → x ≡ y → nat_cmp x y ≡ Equal
+cmp_same x y h = sym (nat_cmp_is x y Equal h)
+
+cmp_greater : (x y : ℕ) → y < x → nat_cmp x y ≡ Greater
+cmp_greater x y h = sym (nat_cmp_is x y Greater h)
+
+divided_last : (ws : List ℕ) (m d : ℕ) → Reaches ws m → (others : List ℕ) → length others ≡ length ws → weighted_sum ws others ≡ d
+    → IsTrue (is_le (slice_cmp nat_cmp others (divided ws d)))
+divided_last [] m d r [] l e = refl
+divided_last [] m d r (c ∷ cs) l e = absurd (omega (arith, l))
+divided_last (w ∷ ws) m d r [] l e = absurd (omega (arith, l))
+divided_last (w ∷ ws) m d r (c ∷ cs) l e =
     let most : c ≤ d / w = first_most w c (weighted_sum ws cs) d r.0 e in
-    elim b as (λ v. ⊥) [
-      | inl less ↦ absurd (omega arith)
-      | inr same ↦ divided_last ws w (d % w) r.1 cs (omega arith) (rest_left w c (weighted_sum ws cs) d e (sym same.0)) same.1
+    elim (cases_lt c (d / w)) [
+      | inl less ↦ rw (cmp_less c (d / w) less) refl
+      | inr least ↦
+          let same : c ≡ d / w = omega arith in
+          rw (cmp_same c (d / w) same) (divided_last ws w (d % w) r.1 cs (omega arith) (rest_left w c (weighted_sum ws cs) d e same))
     ]
 
 pub divided_greatest : (ws : List ℕ) (m d : ℕ) → Reaches ws m → d < m → AreGreatest ws d (divided ws d)
@@ -48,7 +64,7 @@ rest_greatest : (w c d : ℕ) (ws cs : List ℕ) → c ≡ d / w → AreGreatest
 rest_greatest w c d ws cs e g = record {
   as_many = omega (arith, g.as_many);
   sum = rest_left w c (weighted_sum ws cs) d g.sum e;
-  greatest = λ others l s b. g.greatest (c ∷ others) (ap suc l) (omega (arith, div-add-mod d w, ap (λ n. w * n) e)) (inr (refl, b));
+  greatest = λ others l s. rw (cmp_same c c refl) at (g.greatest (c ∷ others) (ap suc l) (omega (arith, div-add-mod d w, ap (λ n. w * n) e)));
 }
 
 pub greatest_divided : (ws : List ℕ) (m d : ℕ) (counts : List ℕ) → Reaches ws m → d < m → AreGreatest ws d counts → counts ≡ divided ws d
@@ -58,7 +74,9 @@ greatest_divided (w ∷ ws) m d [] r h g = absurd (omega (arith, g.as_many))
 greatest_divided (w ∷ ws) m d (c ∷ cs) r h g =
     let most : c ≤ d / w = first_most w c (weighted_sum ws cs) d r.0 g.sum in
     elim (cases_lt c (d / w)) [
-      | inl less ↦ absurd (g.greatest (divided (w ∷ ws) d) (length-divided (w ∷ ws) d) (divided_sum (w ∷ ws) m d r h) (inl less))
+      | inl less ↦
+          let most = g.greatest (divided (w ∷ ws) d) (length-divided (w ∷ ws) d) (divided_sum (w ∷ ws) m d r h) in
+          absurd (false≢true (rw (cmp_greater (d / w) c less) at most))
       | inr least ↦
           let e : c ≡ d / w = omega arith in
           let rest : cs ≡ divided ws (d % w) = greatest_divided ws w (d % w) cs r.1 (mod_below d w r.0) (rest_greatest w c d ws cs e g) in

@@ -5,15 +5,16 @@ use Rattle.std.specs.Prelude.{◌&&◌, Some, None, codes, decimal, nat_lt}
 use Rattle.std.specs.Str.{IsUtf8, is_utf8, chars}
 use lib.Utf8.{encode}
 use Rattle.std.proofs.lemmas.Str.{IsUtf8-from_is_utf8}
-use Rattle.humantime.specs.Values.Amounts.{nanos_per_micro, nanos_per_milli, nanos_per_second, seconds_per_minute, seconds_per_hour, seconds_per_day, seconds_per_month, seconds_per_year}
-use Rattle.humantime.specs.Durations.Characters.{is_letter, leading, begins}
+use Rattle.humantime.specs.Values.{nanos_per_micro, nanos_per_milli, nanos_per_second, seconds_per_minute, seconds_per_hour, seconds_per_day, seconds_per_month, seconds_per_year}
+use Rattle.humantime.specs.Durations.Characters.{is_letter, leading, begins, micro_suffix}
 use Rattle.humantime.specs.Durations.Units.{Scale, whole_nanos, in_nanos, in_seconds, in_seconds_and_nanos, scale_of_word}
 use Rattle.humantime.specs.Durations.Spans.{Span, Only}
-use Rattle.humantime.specs.Durations.Counts.{weights, Suffix, micros, suffixes}
+use Rattle.humantime.specs.Durations.Counts.{weights, suffixes}
+use Rattle.humantime.specs.References.Durations.Printing.{Suffix}
 
 -- the word behind a count of n, and the span of that count
 abbrev pub word_for : ℕ → Suffix → List ℕ
-word_for n s = s.text ++ cond (s.plural && nat_lt 1 n) (codes "s") []
+word_for n s = s.0 ++ cond (s.1 && nat_lt 1 n) (codes "s") []
 
 abbrev pub span_for : ℕ → Suffix → Span
 span_for n s = record { number = decimal n; fraction = None; word = chars (word_for n s) }
@@ -78,9 +79,9 @@ millis : IsWord nanos_per_milli nanos_per_second (codes "ms")
 unfolding is_letter scale_of_word is_utf8 chars encode
 millis = known _ _ (codes "ms") (in_nanos nanos_per_milli) refl refl refl (omega arith) (inr (refl, omega arith)) refl refl
 
-micros_word : IsWord nanos_per_micro nanos_per_milli micros
+micros_word : IsWord nanos_per_micro nanos_per_milli micro_suffix
 unfolding is_letter scale_of_word is_utf8 chars encode
-micros_word = known _ _ micros (in_nanos nanos_per_micro) refl refl refl (omega arith) (inr (refl, omega arith)) refl refl
+micros_word = known _ _ micro_suffix (in_nanos nanos_per_micro) refl refl refl (omega arith) (inr (refl, omega arith)) refl refl
 
 nanos : IsWord 1 nanos_per_micro (codes "ns")
 unfolding is_letter scale_of_word is_utf8 chars encode

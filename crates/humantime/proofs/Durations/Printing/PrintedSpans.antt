@@ -9,15 +9,14 @@ use Rattle.std.proofs.lemmas.Nat.{mod_below}
 use Rattle.std.proofs.lemmas.List.{append_assoc, append-nil}
 use Rattle.std.proofs.lemmas.Str.{chars-append, chars-IsAscii, chars-nil, IsUtf8-append, IsUtf8-from_ascii}
 use Rattle.std.proofs.lemmas.Fmt.{IsAscii-decimal, decimal_digit}
-use Rattle.humantime.specs.Values.Amounts.{nanos_per_second, seconds_per_minute}
+use Rattle.humantime.specs.Values.{nanos_per_second, seconds_per_minute}
 use Rattle.humantime.specs.Durations.Characters.{white_spaces, is_ws, decimal_value, u64_max}
 use Rattle.humantime.specs.Durations.Units.{Scale, scale_of_word}
 use Rattle.humantime.specs.Durations.Spans.{Span, Only, Spells, SpellsEach}
-use Rattle.humantime.specs.Durations.Sums.{total, additions_of, additions}
-use Rattle.humantime.specs.Durations.Limits.{Formed, Fits, HasRoom}
-use Rattle.humantime.specs.Durations.Accepted.{Accepted, Sum_of}
-use Rattle.humantime.specs.Durations.Counts.{weights, weighted_sum, Suffix, suffixes, without_plural, printed_count, printed_counts, joined_by_space, Canon}
-use Rattle.humantime.specs.References.Durations.Printing.{divided, duration_text}
+use Rattle.humantime.specs.Durations.Accepted.{total, additions, Formed, Fits, HasRoom, Accepted, Sum_of}
+use Rattle.humantime.specs.References.Durations.Reading.{additions_of}
+use Rattle.humantime.specs.Durations.Counts.{weights, weighted_sum, suffixes, printed_count, printed_counts, joined_by_space, Canon}
+use Rattle.humantime.specs.References.Durations.Printing.{Suffix, without_plural, divided, duration_text}
 use Rattle.humantime.proofs.Durations.Reading.Spellings.{spells-append}
 use Rattle.humantime.proofs.Durations.Reading.Rooms.{RoomFrom, RoomFrom-append, total-append, all_have_room}
 use Rattle.humantime.proofs.Durations.Printing.PrintedDigits.{decimal_number}

@@ -2,13 +2,11 @@
 use Rattle.std.proofs.lemmas.Grind.{common_steps}
 use Rattle.std.proofs.Common.{◌≡◌, ℕ, ◌+◌, ◌/◌, ◌≤◌, List, [], ◌∷◌, sym, subst, ◌∙◌, arith}
 use Rattle.std.specs.Prelude.{chars, Result, Ok}
-use Rattle.humantime.specs.Values.Amounts.{nanos_per_second}
+use Rattle.humantime.specs.Values.{nanos_per_second}
 use Rattle.humantime.specs.Durations.Characters.{u64_max}
-use Rattle.humantime.specs.Durations.Sums.{Addition, addition_nanos, total}
-use Rattle.humantime.specs.Durations.Accepted.{Accepted}
+use Rattle.humantime.specs.Durations.Accepted.{Addition, addition_nanos, total, Accepted}
 use Rattle.humantime.specs.Durations.Faults.{Fault}
-use Rattle.humantime.specs.Durations.Counts.{Canon}
-use Rattle.humantime.specs.Durations.Canonical.{IsCanonicalOf}
+use Rattle.humantime.specs.Durations.Counts.{Canon, IsCanonicalOf}
 use Rattle.humantime.specs.References.Durations.Printing.{duration_text}
 use Rattle.humantime.specs.Laws.Printed.{HasOneText, TextsTellApart, HasCanonicalText, KeepsItsValue, KeepsItsText}
 use Rattle.humantime.proofs.Durations.Reading.Rooms.{RoomFrom, room_from_all}
@@ -41,17 +39,17 @@ texts_tell_apart a b ha hb s t left right = (
 )
 
 pub has_canonical_text : (s : List ℕ) → HasCanonicalText s
-has_canonical_text s v accepted = (duration_text v, record { value = v; accepted = accepted; canon = text_is_canon v })
+has_canonical_text s v accepted = (duration_text v, record { duration = v; accepted = accepted; canon = text_is_canon v })
 
 -- the canonical text of what is accepted is accepted with the same value
-canonical_read : (s t : List ℕ) (h : IsCanonicalOf s t) → Accepted (chars t) h.value
-canonical_read s t h = canon_reads h.value (accepted_fits (chars s) h.value h.accepted) t h.canon
+canonical_read : (s t : List ℕ) (h : IsCanonicalOf s t) → Accepted (chars t) h.duration
+canonical_read s t h = canon_reads h.duration (accepted_fits (chars s) h.duration h.accepted) t h.canon
 
 pub keeps_its_value : (s : List ℕ) → KeepsItsValue s
-keeps_its_value s v t accepted h = subst (λ d. Accepted (chars t) d) (same_read (chars s) h.value v h.accepted accepted) (canonical_read s t h)
+keeps_its_value s v t accepted h = subst (λ d. Accepted (chars t) d) (same_read (chars s) h.duration v h.accepted accepted) (canonical_read s t h)
 
 pub keeps_its_text : (s : List ℕ) → KeepsItsText s
 keeps_its_text s t u h = (
-  (λ k. one_canon h.value u t (subst (λ d. Canon d u) (same_read (chars t) k.value h.value k.accepted (canonical_read s t h)) k.canon) h.canon),
-  (λ same. record { value = h.value; accepted = canonical_read s t h; canon = subst (Canon h.value) (sym same) h.canon }),
+  (λ k. one_canon h.duration u t (subst (λ d. Canon d u) (same_read (chars t) k.duration h.duration k.accepted (canonical_read s t h)) k.canon) h.canon),
+  (λ same. record { duration = h.duration; accepted = canonical_read s t h; canon = subst (Canon h.duration) (sym same) h.canon }),
 )

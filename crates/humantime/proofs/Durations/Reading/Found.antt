@@ -3,14 +3,12 @@ use Rattle.std.proofs.lemmas.Grind.{common_steps}
 use Rattle.std.proofs.Common.{◌≡◌, ◌≢◌, ◌⊎◌, ℕ, zero, suc, ◌≤◌, ◌+◌, true, false, List, [], ◌∷◌, ◌++◌, length, Option, Some, None, refl, sym, ap, ◌∙◌, inl, inr, arith, subst, subst₂, append_assoc, append-nil}
 use Rattle.std.specs.List.{AllByRecursion}
 use Rattle.std.proofs.lemmas.Bool.{cases_Bool}
-use Rattle.humantime.specs.Durations.Characters.{is_ws, is_digit, begins, past, leading, offset_of, bare_zero}
-use Rattle.humantime.specs.Durations.Spans.{Span, Spells, SpellsEach, Front}
-use Rattle.humantime.specs.Durations.Faults.{Fault, NumberExpected, NumberOverflow, Empty, Split, HasFault, Stops, No_number, Nothing_there, EndsInSpace}
-use Rattle.humantime.specs.Durations.Sums.{total, additions_of, value}
-use Rattle.humantime.specs.Durations.Limits.{Formed}
-use Rattle.humantime.specs.Durations.Rests.{after_word, span_of}
+use Rattle.humantime.specs.Durations.Characters.{is_ws, is_digit, begins, past, leading, offset_of, bare_zero, ends}
+use Rattle.humantime.specs.Durations.Spans.{Span, Spells, SpellsEach, SpellsAll}
+use Rattle.humantime.specs.Durations.Faults.{Fault, NumberExpected, NumberOverflow, Empty, Split, HasFault, Stops, No_number, Nothing_there, after_word, span_of}
+use Rattle.humantime.specs.Durations.Accepted.{total, value, Formed}
+use Rattle.humantime.specs.References.Durations.Reading.{additions_of, stop_at, read, items}
 use Rattle.humantime.specs.Durations.Items.{Items}
-use Rattle.humantime.specs.References.Durations.Reading.{stop_at, read, items}
 use Rattle.humantime.proofs.Durations.Reading.Runs.{ends-append, leading-past, Only-leading, begins-past}
 use Rattle.humantime.proofs.Durations.Reading.Spelled.{next_of, next_smaller}
 use Rattle.humantime.proofs.Durations.Reading.Spellings.{spells-append}
@@ -24,7 +22,7 @@ use Rattle.humantime.proofs.Durations.Reading.Unread.{unread, unread_of, unread-
 pub record IsReadTo (text front : List ℕ) (spans : List Span) (rest : List ℕ) : Type 0 where
   pub split : Split text front spans rest
   pub formed : AllByRecursion Formed spans
-  pub follows : rest ≢ [] → begins is_digit rest ≡ false → (spans ≡ []) ⊎ EndsInSpace front
+  pub follows : rest ≢ [] → begins is_digit rest ≡ false → (spans ≡ []) ⊎ (ends is_ws front ≡ true)
   pub some : rest ≡ [] → spans ≢ []
 
 pub all_push : (P : Span → Type 0) (ss : List Span) (s : Span) → AllByRecursion P ss → P s → AllByRecursion P (ss ++ s ∷ [])
@@ -34,7 +32,7 @@ each_push : (body here : List ℕ) (ss : List Span) (s : Span) → SpellsEach bo
 each_push body here [] s h p = ([], rw h p, refl)
 each_push body here (x ∷ ss) s h p = (h.0 ++ here, spells-append body h.0 here x h.1, each_push h.0 here ss s h.2 p)
 
-front_push : (front here : List ℕ) (ss : List Span) (s : Span) → Front front ss → Spells here s [] → Front (front ++ here) (ss ++ s ∷ [])
+front_push : (front here : List ℕ) (ss : List Span) (s : Span) → SpellsAll front ss → Spells here s [] → SpellsAll (front ++ here) (ss ++ s ∷ [])
 front_push front here ss s h p = grind (arith, common_steps, each_push)
 
 spelling_not_nil : (here : List ℕ) (s : Span) → Spells here s [] → here ≢ []
@@ -52,7 +50,7 @@ read_on text front rest spans r d f =
       record {
         split = record {
           whole = r.split.whole ∙ ap (λ (x : List ℕ). front ++ x) w.1.whole ∙ sym (append_assoc front w.0 (next_of rest));
-          read = front_push front w.0 spans (span_of rest) r.split.read w.1.spells;
+          spelled = front_push front w.0 spans (span_of rest) r.split.spelled w.1.spells;
           no_space = begins-past is_ws (after_word rest);
         };
         formed = all_push Formed spans (span_of rest) r.formed (formed_here rest f);
@@ -143,7 +141,7 @@ over_at text front rest spans not_zero r within d f over = record {
   within = WithinLimits_from spans r.formed within;
   fault = inr (
     record {
-      number = (d, f.short);
+      number = (d, f.numbers);
       not_bare = f.point;
       word = f.word;
       follows = f.ends;

@@ -1,8 +1,8 @@
 -- A text is read as one list of spans at most, and the text 0 as none.
-use Rattle.std.proofs.lemmas.Grind.{common_steps}
 use Rattle.std.proofs.Common.{◌≡◌, ◌≢◌, ℕ, ◌<◌, List, [], ◌∷◌, length, refl, sym, ap, ◌∙◌, inl, arith, subst, append-nil, length-append}
 use Rattle.humantime.specs.Durations.Characters.{is_digit, bare_zero}
-use Rattle.humantime.specs.Durations.Spans.{Span, SpellsEach, Front, Reads}
+use Rattle.humantime.specs.Durations.Spans.{Span, SpellsEach, SpellsAll, Reads}
+use Rattle.std.proofs.lemmas.Grind.{common_steps}
 use Rattle.humantime.specs.Durations.Faults.{Split}
 use Rattle.humantime.specs.Laws.Outcomes.{OneReading}
 use Rattle.humantime.proofs.Durations.Reading.Runs.{begins_not_nil}
@@ -10,8 +10,8 @@ use Rattle.humantime.proofs.Durations.Reading.Written.{spelling_some}
 use Rattle.humantime.proofs.Durations.Reading.Told.{each_starts, first_here, front_begins}
 
 -- a whole text as a front with nothing behind it
-pub split_whole : (text : List ℕ) (spans : List Span) → Front text spans → Split text text spans []
-split_whole text spans h = record { whole = sym (append-nil text); read = h; no_space = refl }
+pub split_whole : (text : List ℕ) (spans : List Span) → SpellsAll text spans → Split text text spans []
+split_whole text spans h = record { whole = sym (append-nil text); spelled = h; no_space = refl }
 
 one_each : (body : List ℕ) (ss ts : List Span) → SpellsEach body ss → SpellsEach body ts → ss ≡ ts
 one_each body [] [] h k = refl
@@ -19,7 +19,7 @@ one_each body [] (t ∷ ts) h k = absurd (begins_not_nil is_digit body (each_sta
 one_each body (s ∷ ss) [] h k = absurd (begins_not_nil is_digit body (each_starts body s ss h) k)
 one_each body (s ∷ ss) (t ∷ ts) h k = grind (arith, common_steps, (first_here body [] s ss h (inl (inl refl)) refl), (first_here body [] t ts k (inl (inl refl)) refl), (one_each h.0 ss ts h.2 (subst (λ x. SpellsEach x ts) (sym (append-nil k.0) ∙ sym (first_here body [] t ts k (inl (inl refl)) refl).next_is ∙ (first_here body [] s ss h (inl (inl refl)) refl).next_is ∙ append-nil h.0) k.2)))
 
-pub one_front : (text : List ℕ) (ss ts : List Span) → Front text ss → Front text ts → ss ≡ ts
+pub one_front : (text : List ℕ) (ss ts : List Span) → SpellsAll text ss → SpellsAll text ts → ss ≡ ts
 unfolding split_whole
 one_front text ss ts h k = grind (arith, common_steps, (front_begins text text [] ss (split_whole text ss h)), (front_begins text text [] ts (split_whole text ts k)), one_each)
 

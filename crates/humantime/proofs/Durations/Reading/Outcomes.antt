@@ -7,11 +7,8 @@ use Rattle.std.proofs.lemmas.Bool.{cases_Bool, false≢true}
 use Rattle.std.proofs.lemmas.Slice.Eq.{bytes_eq-Decides}
 use Rattle.humantime.specs.Durations.Characters.{is_digit, bare_zero}
 use Rattle.humantime.specs.Durations.Spans.{Span, Reads}
-use Rattle.humantime.specs.Durations.Sums.{value}
-use Rattle.humantime.specs.Durations.Limits.{Formed, WithinLimits}
-use Rattle.humantime.specs.Durations.Accepted.{Accepted, Bare_zero, Sum_of}
-use Rattle.humantime.specs.Durations.Rests.{span_of}
-use Rattle.humantime.specs.Durations.Faults.{Fault, NumberOverflow, Stops, Overflows, HasFault}
+use Rattle.humantime.specs.Durations.Accepted.{value, Formed, WithinLimits, Accepted, Bare_zero, Sum_of}
+use Rattle.humantime.specs.Durations.Faults.{span_of, Fault, NumberOverflow, Stops, Overflows, HasFault}
 use Rattle.humantime.specs.Durations.Items.{Items}
 use Rattle.humantime.specs.Laws.Outcomes.{OneOutcome, OnlyValue, OnlyFault, OneListOfItems, ItemsDecideValue, ItemsDecideFault, ItemsDecideOverflow}
 use Rattle.humantime.specs.References.Durations.Reading.{with_span, read, items, settle}
@@ -82,7 +79,7 @@ over_settled : (n : ℕ) (text rest : List ℕ) (spans : List Span) → WithinLi
     → settle 0 (spans ++ (read n text rest).0) (read n text rest).1 ≡ Err NumberOverflow
 over_settled n text rest spans within o h =
     let m = steps n rest (begins_not_nil is_digit rest o.number.0) h in
-    let f : Fine rest = record { short = o.number.1; point = o.not_bare; word = o.word; ends = o.follows } in
+    let f : Fine rest = record { numbers = o.number.1; point = o.not_bare; word = o.word; ends = o.follows } in
     let g : WithinLimitsFrom 0 spans = from_WithinLimits spans within in
     let r = read m.0 text (next_of rest) in
     let e : read n text rest ≡ with_span (span_of rest) r = ap (λ (k : ℕ). read k text rest) m.1 ∙ read-fine m.0 text rest o.number.0 (fine_goes text rest f) in
@@ -106,7 +103,12 @@ within_value text spans None v h g e = (refl, Sum_of spans (reads_whole text spa
 within_value text spans (Some f) v h g e = cc
 
 pub within_fault : (text : List ℕ) (spans : List Span) (stop : Option Fault) (e : Fault) → text ≢ bare_zero → Items text spans stop → WithinLimits spans → stop ≡ Some e → HasFault text e
-within_fault text spans stop e some h g is = grind (arith, common_steps)
+within_fault text spans stop e some h g is = elim h.ends [
+  | inl o ↦ let n = o.2 in cc
+  | inr o ↦
+      let same : o.0 ≡ e = let p = o.1 in cc in
+      record { not_zero = some; front = h.front; rest = h.rest; spans = spans; split = h.split; within = g; fault = inl (subst (λ x. Stops text h.front spans h.rest x) same o.2) }
+]
 
 ended_value : (v : ℕ) (stop : Option Fault) (w : ℕ) → ended v stop ≡ Ok w → v ≡ w
 ended_value v stop w h = grind (arith, common_steps)

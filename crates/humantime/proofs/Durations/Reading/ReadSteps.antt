@@ -2,8 +2,7 @@
 use Rattle.std.proofs.lemmas.Grind.{common_steps}
 use Rattle.std.proofs.Common.{◌≡◌, ◌≢◌, ℕ, zero, suc, ◌≤◌, true, false, List, [], ◌∷◌, length, Some, None, refl, arith}
 use Rattle.humantime.specs.Durations.Characters.{is_ws, is_digit, past, begins, offset_of}
-use Rattle.humantime.specs.Durations.Rests.{span_of}
-use Rattle.humantime.specs.Durations.Faults.{Fault, NumberExpected, Empty}
+use Rattle.humantime.specs.Durations.Faults.{span_of, Fault, NumberExpected, Empty}
 use Rattle.humantime.specs.References.Durations.Reading.{stop_at, with_span, read, items}
 use Rattle.humantime.proofs.Durations.Reading.Spelled.{next_of}
 

@@ -4,8 +4,7 @@ use Rattle.std.proofs.Common.{◌≡◌, ℕ, ◌+◌, true, List, [], ◌∷◌
 use Rattle.std.specs.Prelude.{⊤}
 use Rattle.std.proofs.lemmas.Bool.{cases_Bool}
 use Rattle.std.proofs.lemmas.List.Sums.{sum_by-append, sum_by-cons}
-use Rattle.humantime.specs.Durations.Sums.{Addition, addition_nanos, total}
-use Rattle.humantime.specs.Durations.Limits.{HasRoom, AllHaveRoom}
+use Rattle.humantime.specs.Durations.Accepted.{Addition, addition_nanos, total, HasRoom, AllHaveRoom}
 use Rattle.humantime.specs.References.Durations.Reading.{room, add_all}
 
 -- each addition has room, where t nanoseconds stand before them all

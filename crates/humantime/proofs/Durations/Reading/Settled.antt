@@ -8,10 +8,9 @@ use Rattle.std.proofs.lemmas.Grind.{flat_map-append}
 use Rattle.humantime.specs.Durations.Characters.{decimal_value, u64_max}
 use Rattle.humantime.specs.Durations.Units.{Scale}
 use Rattle.humantime.specs.Durations.Spans.{Span}
-use Rattle.humantime.specs.Durations.Sums.{total, additions_of, additions, value}
-use Rattle.humantime.specs.Durations.Limits.{Formed, FitsFraction, Fits, WithinLimits}
+use Rattle.humantime.specs.Durations.Accepted.{total, additions, value, Formed, FitsFraction, Fits, WithinLimits}
+use Rattle.humantime.specs.References.Durations.Reading.{additions_of, add_span, settle}
 use Rattle.humantime.specs.Durations.Faults.{Fault, NumberOverflow}
-use Rattle.humantime.specs.References.Durations.Reading.{add_span, settle}
 use Rattle.humantime.proofs.Durations.Reading.Rooms.{RoomFrom, total-append, add_all-room, add_all-full, RoomFrom-append, RoomFrom-front, RoomFrom-back, room_from_all, all_have_room}
 
 -- the span keeps the limits after t nanoseconds

@@ -1,12 +1,12 @@
 -- What a spelling is read as: the longest runs of characters give back the span that it spells.
-use Rattle.std.proofs.lemmas.Grind.{common_steps}
-use Rattle.std.proofs.Common.{◌≡◌, ◌≢◌, ◌⊎◌, ℕ, ◌≤◌, ◌<◌, true, false, List, [], ◌∷◌, ◌++◌, length, Option, Some, None, option_map, refl, sym, ap, ◌∙◌, inl, inr, arith, append_assoc, append-nil}
+use Rattle.std.proofs.Common.{◌≡◌, ◌≢◌, ◌⊎◌, ℕ, ◌≤◌, ◌<◌, true, false, List, [], ◌∷◌, ◌++◌, length, Option, Some, None, refl, sym, ap, ◌∙◌, inl, inr, arith, append_assoc, append-nil}
 use Rattle.std.proofs.lemmas.Bool.{false≢true}
 use Rattle.humantime.specs.Durations.Characters.{is_ws, is_digit, is_letter, is_numeric, leading, past, begins, ends, digits}
 use Rattle.humantime.specs.Durations.Spans.{Span, Only, SpellsFraction, Spells}
-use Rattle.humantime.specs.Durations.Rests.{after_number, fraction_at, past_fraction, fraction_of, after_fraction, after_word, span_of}
-use Rattle.humantime.specs.Durations.Faults.{EndsInSpace, MayFollowWord}
+use Rattle.humantime.specs.Durations.Faults.{after_number, fraction_of, after_fraction, after_word, span_of, MayFollowWord}
+use Rattle.humantime.specs.References.Durations.Lending.{fraction_at, past_fraction}
 use Rattle.humantime.proofs.Durations.Reading.Classes.{numeric_not_letter, letter_not_numeric, letter_not_point, letter_not_space, space_is_numeric, point_not_numeric, is_point-46}
+use Rattle.std.proofs.lemmas.Grind.{common_steps}
 use Rattle.humantime.proofs.Durations.Reading.Spellings.{spells_alone}
 use Rattle.humantime.proofs.Durations.Reading.Runs.{leading-append, past-append, past_shorter, begins-append, begins_other, begins_not_nil, letters_begin, ends_Only, ends_other, ends-append, append_not_nil}
 
@@ -31,11 +31,11 @@ span_same p q r = λ i. record { number = p i; fraction = q i; word = r i }
 -- what stands behind the number, where it is a spelled fraction and then a word
 record IsFraction (m tail : List ℕ) (o : Option (List ℕ)) : Type 0 where
   stops : begins is_numeric m ≡ false
-  is_read : option_map digits (fraction_at m) ≡ o
+  is_read : fraction_at m ≡ o
   past_it : past_fraction m ≡ tail
   some : o ≢ Some []
 
-no_point : (tail : List ℕ) → begins is_letter tail ≡ true → (option_map digits (fraction_at tail) ≡ None) × (past_fraction tail ≡ tail)
+no_point : (tail : List ℕ) → begins is_letter tail ≡ true → (fraction_at tail ≡ None) × (past_fraction tail ≡ tail)
 no_point [] e = cc
 no_point (c ∷ cs) e = rw (letter_not_point c e) (refl, refl)
 
@@ -85,13 +85,13 @@ ends_in_word a b word only some =
     (ends_other is_letter is_ws letter_not_space word (ends_Only is_letter word only n))
 
 followed : (a b word c here next : List ℕ) → here ≡ a ++ (b ++ (word ++ c)) → Only is_letter word → begins is_letter word ≡ true → Only is_ws c
-    → (MayFollowWord next ⊎ EndsInSpace here) → MayFollowWord (c ++ next)
+    → (MayFollowWord next ⊎ (ends is_ws here ≡ true)) → MayFollowWord (c ++ next)
 followed a b word [] here next whole only some space (inl e) = e
 followed a b word [] here next whole only some space (inr e) = absurd (false≢true (sym (ends_in_word a b word only some) ∙ ap (ends is_ws) (sym whole) ∙ e))
 followed a b word (x ∷ xs) here next whole only some space o = inr (space_is_numeric x (space.0))
 
 -- a spelling is the span that begins it, where its word ends with it
-pub spelled_here : (here next : List ℕ) (s : Span) → Spells here s [] → (MayFollowWord next ⊎ EndsInSpace here) → begins is_ws next ≡ false → IsSpanAt (here ++ next) s next
+pub spelled_here : (here next : List ℕ) (s : Span) → Spells here s [] → (MayFollowWord next ⊎ (ends is_ws here ≡ true)) → begins is_ws next ≡ false → IsSpanAt (here ++ next) s next
 spelled_here here next s h o no_space =
     let a = h.number_text in
     let b = h.fraction_text in

@@ -5,14 +5,13 @@ use Rattle.std.specs.Option.{IsSome}
 use Rattle.humantime.specs.Durations.Characters.{is_digit, begins}
 use Rattle.humantime.specs.Durations.Units.{scale_of_word}
 use Rattle.humantime.specs.Durations.Spans.{Span}
-use Rattle.humantime.specs.Durations.Limits.{IsShort}
-use Rattle.humantime.specs.Durations.Rests.{fraction_of, word_of, after_word, span_of}
-use Rattle.humantime.specs.Durations.Faults.{Fault, MayFollowWord, Stops}
+use Rattle.humantime.specs.Durations.Accepted.{NumbersFit}
+use Rattle.humantime.specs.Durations.Faults.{fraction_of, word_of, after_word, span_of, Fault, MayFollowWord, Stops}
 use Rattle.humantime.specs.References.Durations.Reading.{stop_at}
 
 -- a span that is well formed begins the rest
 pub record Fine (rest : List ℕ) : Type 0 where
-  pub short : IsShort (span_of rest)
+  pub numbers : NumbersFit (span_of rest)
   pub point : fraction_of rest ≢ Some []
   pub word : IsSome (scale_of_word (word_of rest))
   pub ends : MayFollowWord (after_word rest)

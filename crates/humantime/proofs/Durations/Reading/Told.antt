@@ -5,8 +5,8 @@ use Rattle.std.specs.List.{AllByRecursion}
 use Rattle.std.proofs.lemmas.Bool.{cases_Bool}
 use Rattle.humantime.specs.Durations.Characters.{is_ws, is_digit, is_numeric, begins, ends, past, offset_of}
 use Rattle.humantime.specs.Durations.Spans.{Span, SpellsEach}
-use Rattle.humantime.specs.Durations.Limits.{Formed}
-use Rattle.humantime.specs.Durations.Faults.{Fault, NumberExpected, Empty, Split, Stops, EndsInSpace, MayFollowWord}
+use Rattle.humantime.specs.Durations.Accepted.{Formed}
+use Rattle.humantime.specs.Durations.Faults.{Fault, NumberExpected, Empty, Split, Stops, MayFollowWord}
 use Rattle.humantime.specs.Durations.Items.{Items}
 use Rattle.humantime.specs.References.Durations.Reading.{with_span, read, items}
 use Rattle.humantime.proofs.Durations.Reading.Classes.{digit_is_numeric, digit_not_space}
@@ -19,7 +19,7 @@ use Rattle.humantime.proofs.Durations.Reading.ReadSteps.{steps, read-end, read-e
 
 -- what stands before the rest ends there: in white space, or by what the rest begins with
 abbrev pub Closes : List ℕ → List ℕ → Type 0
-Closes front rest = MayFollowWord rest ⊎ EndsInSpace front
+Closes front rest = MayFollowWord rest ⊎ (ends is_ws front ≡ true)
 
 pub closes_digit : (front rest : List ℕ) → begins is_digit rest ≡ true → Closes front rest
 closes_digit front rest d = inl (inr (begins_also is_digit is_numeric digit_is_numeric rest d))
@@ -80,7 +80,7 @@ through n text body rest (s ∷ ss) h f (inr o) e l =
     (λ m k. through m text h.0 rest ss h.2 f.1 (closes_more p.here h.0 rest ss h.2 (subst (λ b. Closes b rest) p.whole o)) e k)
 
 -- the front of a split begins where the white space ends
-pub front_begins : (text front rest : List ℕ) (spans : List Span) (h : Split text front spans rest) → past is_ws text ≡ h.read.body ++ rest
+pub front_begins : (text front rest : List ℕ) (spans : List Span) (h : Split text front spans rest) → past is_ws text ≡ h.spelled.body ++ rest
 front_begins text front rest spans h = grind (arith, common_steps, past-append, no_space_before)
 
 some_left : (body rest : List ℕ) (spans : List Span) → SpellsEach body spans → (rest ≡ [] → spans ≢ []) → body ++ rest ≢ []
@@ -93,11 +93,11 @@ closes_body space body rest spans h k = grind (arith, common_steps, closes_more)
 pub front_told : (text front rest : List ℕ) (spans : List Span) → Split text front spans rest → AllByRecursion Formed spans → (spans ≡ []) ⊎ Closes front rest → (rest ≡ [] → spans ≢ [])
     → GoesThrough (items text) text spans rest
 front_told text front rest spans h f o some =
-    let body = h.read.body in
-    let left : body ++ rest ≢ [] = some_left body rest spans h.read.each some in
-    let c : (spans ≡ []) ⊎ Closes (h.read.space ++ body) rest = subst (λ x. (spans ≡ []) ⊎ Closes x rest) h.read.whole o in
+    let body = h.spelled.body in
+    let left : body ++ rest ≢ [] = some_left body rest spans h.spelled.each some in
+    let c : (spans ≡ []) ⊎ Closes (h.spelled.space ++ body) rest = subst (λ x. (spans ≡ []) ⊎ Closes x rest) h.spelled.whole o in
     let g : GoesThrough (read (length (body ++ rest)) text (body ++ rest)) text spans rest =
-    through (length (body ++ rest)) text body rest spans h.read.each f (closes_body h.read.space body rest spans h.read.each c) h.no_space (omega arith) in
+    through (length (body ++ rest)) text body rest spans h.spelled.each f (closes_body h.spelled.space body rest spans h.spelled.each c) h.no_space (omega arith) in
     record { n = g.n; enough = g.enough; is = items-read text (body ++ rest) (front_begins text front rest spans h) left ∙ g.is }
 
 -- at the end only an empty text stops; where no number begins, that is the fault
@@ -138,7 +138,7 @@ told_some text front rest spans stop some h f o =
 
 told_none : (text front : List ℕ) (stop : Option Fault) → Split text front [] [] → Ends text front [] [] stop → items text ≡ ([], stop)
 told_none text front stop h (inl o) = absurd (o.1 refl)
-told_none text front stop h (inr o) = grind (arith, common_steps, (front_begins text front [] [] h ∙ ap (λ (x : List ℕ). x ++ []) h.read.each), items-nothing)
+told_none text front stop h (inr o) = grind (arith, common_steps, (front_begins text front [] [] h ∙ ap (λ (x : List ℕ). x ++ []) h.spelled.each), items-nothing)
 
 told_at : (text front rest : List ℕ) (spans : List Span) (stop : Option Fault) → Split text front spans rest → AllByRecursion Formed spans → Ends text front spans rest stop → items text ≡ (spans, stop)
 told_at text front [] [] stop h f o = told_none text front stop h o

@@ -1,14 +1,14 @@
 -- A rest that a well formed span begins is a spelling of that span, and then the rest behind it.
-use Rattle.std.proofs.lemmas.Grind.{common_steps}
-use Rattle.std.proofs.Common.{◌≡◌, ◌≢◌, ℕ, ◌<◌, true, false, List, [], ◌∷◌, ◌++◌, length, Option, Some, option_map, refl, sym, ap, ◌∙◌, inl, inr, arith, append_assoc, append-nil}
+use Rattle.std.proofs.Common.{◌≡◌, ◌≢◌, ℕ, ◌<◌, true, false, List, [], ◌∷◌, ◌++◌, length, Option, Some, refl, sym, ap, ◌∙◌, inl, inr, arith, append_assoc, append-nil}
 use Rattle.std.proofs.lemmas.Bool.{cases_Bool}
 use Rattle.humantime.specs.Durations.Characters.{is_ws, is_digit, is_letter, is_point, is_numeric, leading, past, begins, ends, digits}
 use Rattle.humantime.specs.Durations.Spans.{Span, Only, SpellsFraction, Spells}
-use Rattle.humantime.specs.Durations.Limits.{Formed}
-use Rattle.humantime.specs.Durations.Rests.{after_number, fraction_at, past_fraction, after_fraction, word_of, after_word, span_of}
-use Rattle.humantime.specs.Durations.Faults.{MayFollowWord}
+use Rattle.humantime.specs.Durations.Accepted.{Formed}
+use Rattle.humantime.specs.Durations.Faults.{after_number, after_fraction, word_of, after_word, span_of, MayFollowWord}
+use Rattle.humantime.specs.References.Durations.Lending.{fraction_at, past_fraction}
 use Rattle.humantime.proofs.Durations.Reading.Classes.{digit_is_numeric, is_point-true}
 use Rattle.humantime.proofs.Durations.Reading.Runs.{leading-past, Only-leading, ends_Only, ends-append}
+use Rattle.std.proofs.lemmas.Grind.{common_steps}
 use Rattle.humantime.proofs.Durations.Reading.Spelled.{next_of, IsSpanAt}
 use Rattle.humantime.proofs.Durations.Reading.Stopping.{Fine, some_letters}
 
@@ -21,11 +21,11 @@ pub record IsWritten (rest here : List ℕ) : Type 0 where
 some_digits : (o : Option (List ℕ)) (ds : List ℕ) → o ≢ Some [] → o ≡ Some ds → ds ≢ []
 some_digits o ds some e none = some (e ∙ ap Some none)
 
-fraction_text : (m : List ℕ) → option_map digits (fraction_at m) ≢ Some [] → (b : List ℕ) × (m ≡ b ++ past_fraction m) × SpellsFraction b (option_map digits (fraction_at m))
+fraction_text : (m : List ℕ) → fraction_at m ≢ Some [] → (b : List ℕ) × (m ≡ b ++ past_fraction m) × SpellsFraction b (fraction_at m)
 fraction_text [] some = ([], refl, refl)
 fraction_text (c ∷ cs) some = elim (cases_Bool (is_point c)) [
   | inl e ↦
-      let p : option_map digits (fraction_at (c ∷ cs)) ≡ Some (digits (leading is_numeric cs)) = rw e in
+      let p : fraction_at (c ∷ cs) ≡ Some (digits (leading is_numeric cs)) = rw e in
       let q : digits (leading is_numeric cs) ≢ [] = some_digits _ _ some p in
       rw e (
         c ∷ leading is_numeric cs,
@@ -80,7 +80,7 @@ written_here rest d h =
 
 -- the span that begins the rest is well formed
 pub formed_here : (rest : List ℕ) → Fine rest → Formed (span_of rest)
-formed_here rest h = record { short = h.short; word = h.word }
+formed_here rest h = record { numbers = h.numbers; word = h.word }
 
 pub fine_here : (rest next : List ℕ) (s : Span) → IsSpanAt rest s next → Formed s → Fine rest
 fine_here rest next s h f = grind (arith, common_steps)

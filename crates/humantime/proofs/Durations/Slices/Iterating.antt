@@ -2,10 +2,9 @@
 use Rattle.std.proofs.lemmas.Grind.{common_steps}
 use Rattle.std.proofs.Common.{◌≡◌, ◌≢◌, ℕ, zero, suc, ◌≤◌, Bool, true, false, List, [], ◌∷◌, length, Some, None, Result, Ok, Err, if◌then◌else◌, refl, sym, ap, ◌∙◌, arith}
 use Rattle.humantime.specs.Durations.Characters.{is_ws, is_digit, begins, past, offset_of}
-use Rattle.humantime.specs.Durations.Faults.{Fault, NumberExpected, NumberOverflow}
-use Rattle.humantime.specs.Durations.Rests.{after_word}
+use Rattle.humantime.specs.Durations.Faults.{Fault, NumberExpected, NumberOverflow, after_word}
 use Rattle.humantime.specs.References.Durations.Reading.{stop_at, add_span}
-use Rattle.humantime.specs.Durations.Slices.{Lent}
+use Rattle.humantime.specs.Durations.Items.{Lent}
 use Rattle.humantime.specs.References.Durations.Lending.{lent_at, lends, left_at, spelled, judged}
 use Rattle.humantime.proofs.Durations.Slices.LendingSteps.{Turn, No_digit, Faulty, Spanned, turn, lends-expected, lends-stopped, lends-fine}
 use Rattle.humantime.proofs.Durations.Reading.Spelled.{next_of, next_smaller}

@@ -4,11 +4,10 @@ use Rattle.std.proofs.Common.{◌≡◌, ◌≢◌, ◌++◌, IsUtf8, chars, enc
 use Rattle.std.proofs.lemmas.Str.{encodes-chars, encode_ascii}
 use Rattle.humantime.specs.Durations.Characters.{is_ws, is_digit, begins, past, offset_of, bare_zero}
 use Rattle.humantime.specs.Durations.Spans.{Span}
-use Rattle.humantime.specs.Durations.Rests.{span_of}
-use Rattle.humantime.specs.Durations.Faults.{Fault, NumberExpected}
+use Rattle.humantime.specs.Durations.Faults.{span_of, Fault, NumberExpected}
 use Rattle.humantime.specs.References.Durations.Reading.{stop_at, read, items_from, items, with_span, settle}
 use Rattle.humantime.specs.References.Durations.Answers.{duration_answer}
-use Rattle.humantime.specs.Durations.Slices.{Lent, LendsEach, items_of, AreItems}
+use Rattle.humantime.specs.Durations.Items.{Lent, LendsEach, items_of, AreItems}
 use Rattle.humantime.specs.Laws.Outcomes.{OneListOfSlices}
 use Rattle.humantime.specs.References.Durations.Lending.{lent_at, lends, left_at, lent_items, judged}
 use Rattle.humantime.proofs.Durations.Slices.LendingSteps.{Turn, No_digit, Faulty, Spanned, turn, lends-expected, lends-stopped, lends-fine}

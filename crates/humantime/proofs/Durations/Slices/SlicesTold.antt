@@ -7,8 +7,8 @@ use Rattle.std.specs.Str.{drop_trailing_whitespace}
 use Rattle.std.proofs.lemmas.List.{append_cancel_left}
 use Rattle.humantime.specs.Durations.Characters.{is_ws, is_digit, is_letter, begins, ends, past}
 use Rattle.humantime.specs.Durations.Spans.{Span, Only, SpellsFraction}
-use Rattle.humantime.specs.Durations.Rests.{after_number, after_fraction}
-use Rattle.humantime.specs.Durations.Slices.{Lent, IsDigitSlice, LendsFraction, IsLent, LendsEach}
+use Rattle.humantime.specs.Durations.Faults.{after_number, after_fraction}
+use Rattle.humantime.specs.Durations.Items.{Lent, IsDigitSlice, LendsFraction, IsLent, LendsEach}
 use Rattle.humantime.specs.References.Durations.Lending.{trimmed, number_slice, fraction_slice}
 use Rattle.humantime.proofs.Durations.Reading.Classes.{white_is, digit_not_space}
 use Rattle.humantime.proofs.Durations.Reading.Runs.{past-append, begins-append, begins_not_nil, begins_other, letters_begin}

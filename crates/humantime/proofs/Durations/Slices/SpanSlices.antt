@@ -5,11 +5,12 @@ use Rattle.std.proofs.lemmas.List.{append_cancel_left}
 use Rattle.std.proofs.lemmas.Str.{encodes-append, length-le-encodes}
 use Rattle.humantime.specs.Durations.Characters.{is_ws, is_digit, is_letter, is_numeric, is_point, begins, leading, past, digits, byte_length, offset_of}
 use Rattle.humantime.specs.Durations.Spans.{Only, SpellsFraction, Spells}
-use Rattle.humantime.specs.Durations.Rests.{after_number, fraction_of, past_fraction, after_fraction, word_of, after_word, span_of}
+use Rattle.humantime.specs.Durations.Faults.{after_number, fraction_of, after_fraction, word_of, after_word, span_of}
+use Rattle.humantime.specs.References.Durations.Lending.{past_fraction, trimmed, number_slice, fraction_slice, lent_at}
 use Rattle.humantime.specs.References.Durations.Reading.{stop_at}
-use Rattle.humantime.specs.Durations.Slices.{IsDigitSlice, LendsFraction, IsLent}
-use Rattle.humantime.specs.References.Durations.Lending.{trimmed, number_slice, fraction_slice, lent_at}
+use Rattle.humantime.specs.Durations.Items.{IsDigitSlice, LendsFraction, IsLent}
 use Rattle.humantime.proofs.Durations.Reading.Classes.{digit_is_numeric}
+use Rattle.humantime.specs.References.Durations.Lending.{trimmed, number_slice, fraction_slice, lent_at}
 use Rattle.humantime.proofs.Durations.Reading.Runs.{leading-past, Only-leading, begins-past, letters_begin, begins_some}
 use Rattle.humantime.proofs.Durations.Reading.Spelled.{next_of, begins_word, read_spelled}
 use Rattle.humantime.proofs.Durations.Reading.Spellings.{spells-append}

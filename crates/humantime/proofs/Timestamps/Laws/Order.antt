@@ -10,14 +10,14 @@ use Rattle.std.specs.Ordering.{nat_cmp, int_cmp, ordering_then}
 use Rattle.std.specs.Str.Parse.{digits_value_after}
 use Rattle.std.proofs.lemmas.Bool.Decides.{nat_tests}
 use Rattle.humantime.specs.declared.calendar.Date.{Date}
-use Rattle.humantime.specs.Calendar.Dates.{IsDate, day_of}
-use Rattle.humantime.specs.Timestamps.Digits.{two_digits, four_digits, AreDigits}
-use Rattle.humantime.specs.Timestamps.Fields.{Fields, fraction_text, fraction_digits, fraction_nanos, moment_of}
+use Rattle.humantime.specs.Calendar.{IsDate, day_of}
+use Rattle.humantime.specs.Timestamps.Fields.{two_digits, four_digits, Fields, fraction_text, fraction_nanos, moment_of}
+use Rattle.humantime.specs.References.Timestamps.Reading.{AreDigits, fraction_digits}
 use Rattle.humantime.specs.Timestamps.Printed.{HasPlaces, IsPrinted}
 use Rattle.humantime.specs.Laws.Timestamps.{InOrder}
 use Rattle.humantime.proofs.Dates.DaysOfDates.{before_year, before_month}
 use Rattle.humantime.proofs.Dates.Years.{valid_told}
-use Rattle.humantime.proofs.Timestamps.Reading.Fractions.{nanos_bound}
+use Rattle.humantime.proofs.Timestamps.Reading.Fractions.{nanos_bound, digits_told}
 
 -- two pairs of numbers that are compared alike
 abbrev Alike : ℕ → ℕ → ℕ → ℕ → Type 0
@@ -126,14 +126,14 @@ pub printed_order : (a b : ℤ) → InOrder a b
 printed_order a b k x y small p q =
     let f = p.fields in
     let g = q.fields in
-    let fraction = fraction_cmp k f.fraction g.fraction small p.places q.places p.weak.fraction q.weak.fraction in
+    let fraction = fraction_cmp k f.fraction g.fraction small p.places q.places (digits_told _ p.weak.fraction) (digits_told _ q.weak.fraction) in
     let text = shape_cmp f.date.year f.date.month f.date.day f.hour f.minute f.second g.date.year g.date.month g.date.day g.hour g.minute g.second
     (fraction_text f.fraction ++ codes "Z") (fraction_text g.fraction ++ codes "Z") in
     let day = day_cmp f.date g.date (then_cmp f.hour g.hour (then_cmp f.minute g.minute (then_cmp f.second g.second (nat_cmp (fraction_nanos (fraction_digits f.fraction)) (fraction_nanos (fraction_digits g.fraction)))))) p.weak.date q.weak.date in
     let clock = clock_cmp (day_of f.date) f.hour f.minute f.second (fraction_nanos (fraction_digits f.fraction))
     (day_of g.date) g.hour g.minute g.second (fraction_nanos (fraction_digits g.fraction))
-    p.weak.hour p.weak.minute p.second (nanos_bound _ p.weak.fraction)
-    q.weak.hour q.weak.minute q.second (nanos_bound _ q.weak.fraction) in
+    p.weak.hour p.weak.minute p.second (nanos_bound _ (digits_told _ p.weak.fraction))
+    q.weak.hour q.weak.minute q.second (nanos_bound _ (digits_told _ q.weak.fraction)) in
     let moments = pos_cmp (moment_of f) (moment_of g) ∙ (λ i. int_cmp (p.moment i) (q.moment i)) in
     (λ i. slice_cmp nat_cmp (shown_shape a k x p i) (shown_shape b k y q i))
     ∙ (text ∙ (rw fraction (day ∙ clock) ∙ moments))

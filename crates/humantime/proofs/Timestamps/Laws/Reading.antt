@@ -6,7 +6,7 @@ use Rattle.std.specs.Prelude.{◌↔◌, ℤ, pos, Bool, true, false, Option, So
 use Rattle.humantime.specs.declared.date.error.TimestampError.{TimestampError}
 use Rattle.humantime.specs.declared.date.error.TimestampError.TheVariants.{InvalidFormat}
 use Rattle.humantime.specs.Timestamps.Fields.{Fields, IsWeak, IsStrict, moment_of, IsWeakMoment, IsStrictMoment}
-use Rattle.humantime.specs.Timestamps.Checks.{is_complete, weak_checks, strict_checks, first_failed}
+use Rattle.humantime.specs.Timestamps.Checks.{has_marks, weak_checks, strict_checks, first_failed}
 use Rattle.humantime.specs.References.Timestamps.Reading.{fields_of, weak_answer, strict_answer, moment_or_error}
 use Rattle.humantime.specs.Laws.Timestamps.{OneTimestamp, StrictMomentIsWeak}
 use Rattle.humantime.proofs.Timestamps.Reading.Checks.{passes_from, passes_none}
@@ -28,10 +28,10 @@ pub weak_value : (b : List ℕ) (t : ℤ) → (weak_answer b ≡ Ok t) ↔ IsWea
 unfolding weak_answer
 weak_value b t = (
   (λ h. let p = answer_told (first_failed (weak_checks b)) (moment_of (fields_of b)) t h in
-      record { fields = fields_of b; weak = fields_weak b (passes_from b p.0); moment = p.1 }),
-  (λ m. let p = weak_fields b m.fields m.weak in
+      (fields_of b, fields_weak b (passes_from b p.0), p.1)),
+  (λ m. let p = weak_fields b m.0 m.1 in
       answer_none (first_failed (weak_checks b)) (moment_of (fields_of b)) (passes_none b p.0)
-      ∙ ap Ok (ap (λ (f : Fields). pos (moment_of f)) (sym p.1) ∙ sym m.moment)),
+      ∙ ap Ok (ap (λ (f : Fields). pos (moment_of f)) (sym p.1) ∙ sym m.2)),
 )
 
 pub weak_error : (b : List ℕ) (e : TimestampError) → (weak_answer b ≡ Err e) ↔ (first_failed (weak_checks b) ≡ Some e)
@@ -52,28 +52,28 @@ one_weak b = (
 )
 
 -- a text that is not complete has no strict moment
-pub refused_value : (b : List ℕ) (e : TimestampError) → is_complete b ≡ false → (t : ℤ) → (Err e ≡ Ok t) ↔ IsStrictMoment b t
+pub refused_value : (b : List ℕ) (e : TimestampError) → has_marks b ≡ false → (t : ℤ) → (Err e ≡ Ok t) ↔ IsStrictMoment b t
 refused_value b e other t = grind (arith, common_steps, strict_complete)
 
-pub strict_value_of : (b : List ℕ) (r : Result ℤ TimestampError) → is_complete b ≡ true → (t : ℤ) → ((r ≡ Ok t) ↔ IsWeakMoment b t) → (r ≡ Ok t) ↔ IsStrictMoment b t
+pub strict_value_of : (b : List ℕ) (r : Result ℤ TimestampError) → has_marks b ≡ true → (t : ℤ) → ((r ≡ Ok t) ↔ IsWeakMoment b t) → (r ≡ Ok t) ↔ IsStrictMoment b t
 strict_value_of b r whole t weak = grind (arith, common_steps, complete_strict)
 
-pub strict_error_of : (b : List ℕ) (r : Result ℤ TimestampError) → is_complete b ≡ true → (e : TimestampError)
+pub strict_error_of : (b : List ℕ) (r : Result ℤ TimestampError) → has_marks b ≡ true → (e : TimestampError)
     → ((r ≡ Err e) ↔ (first_failed (weak_checks b) ≡ Some e)) → (r ≡ Err e) ↔ (first_failed (strict_checks b) ≡ Some e)
 strict_error_of b r whole e weak = rw whole weak
 
 -- the answer of the strict form, where its own check fails and where it does not
-pub strict_refused : (b : List ℕ) → is_complete b ≡ false → Err InvalidFormat ≡ strict_answer b
+pub strict_refused : (b : List ℕ) → has_marks b ≡ false → Err InvalidFormat ≡ strict_answer b
 unfolding strict_answer
 strict_refused b other = rw other refl
 
-pub strict_as_weak : (b : List ℕ) → is_complete b ≡ true → weak_answer b ≡ strict_answer b
+pub strict_as_weak : (b : List ℕ) → has_marks b ≡ true → weak_answer b ≡ strict_answer b
 unfolding weak_answer strict_answer
 strict_as_weak b whole = rw whole refl
 
 pub strict_value : (b : List ℕ) (t : ℤ) → (strict_answer b ≡ Ok t) ↔ IsStrictMoment b t
-strict_value b t = by_test (is_complete b) refl where
-  by_test : (c : Bool) → is_complete b ≡ c → (strict_answer b ≡ Ok t) ↔ IsStrictMoment b t
+strict_value b t = by_test (has_marks b) refl where
+  by_test : (c : Bool) → has_marks b ≡ c → (strict_answer b ≡ Ok t) ↔ IsStrictMoment b t
   by_test true whole = strict_value_of b (strict_answer b) whole t (rw (← strict_as_weak b whole) (weak_value b t))
   by_test false other = rw (← strict_refused b other) (refused_value b InvalidFormat other t)
 
@@ -87,14 +87,14 @@ complete_from t e rest h = grind (arith, common_steps)
 pub one_strict : (b : List ℕ) → OneTimestamp (strict_checks b) (IsStrict b)
 one_strict b = (
   (
-    (λ m. let whole : is_complete b ≡ true = strict_complete b m.0 m.1 in rw whole (passes_none b (weak_fields b m.0 m.1.weak).0)),
-    (λ h. let p = complete_from (is_complete b) _ _ h in (fields_of b, complete_strict b (fields_of b) p.0 (fields_weak b (passes_from b p.1)))),
+    (λ m. let whole : has_marks b ≡ true = strict_complete b m.0 m.1 in rw whole (passes_none b (weak_fields b m.0 m.1.weak).0)),
+    (λ h. let p = complete_from (has_marks b) _ _ h in (fields_of b, complete_strict b (fields_of b) p.0 (fields_weak b (passes_from b p.1)))),
   ),
   (λ f g v w. (weak_fields b f v.weak).1 ∙ sym (weak_fields b g w.weak).1),
 )
 
 pub strict_moment_is_weak : (b : List ℕ) → StrictMomentIsWeak b
 strict_moment_is_weak b t = (
-  (λ m. let p = (strict_is_weak b m.fields).0 m.strict in (record { fields = m.fields; weak = p.0; moment = m.moment }, p.1)),
-  (λ p. record { fields = p.0.fields; strict = (strict_is_weak b p.0.fields).1 (p.0.weak, p.1); moment = p.0.moment }),
+  (λ m. let p = (strict_is_weak b m.0).0 m.1 in ((m.0, p.0, m.2), p.1)),
+  (λ p. (p.0.0, (strict_is_weak b p.0.0).1 (p.0.1, p.1), p.0.2)),
 )

@@ -8,11 +8,11 @@ use Rattle.std.proofs.lemmas.Int.{ints}
 use Rattle.std.proofs.lemmas.Option.{none-some}
 use Rattle.humantime.specs.declared.date.error.TimestampError.{TimestampError}
 use Rattle.humantime.specs.declared.date.print.Rfc3339Timestamp.{Rfc3339Timestamp}
-use Rattle.humantime.specs.Calendar.Dates.{OneDate}
+use Rattle.humantime.specs.Laws.Days.{OneDate}
 use Rattle.humantime.specs.Timestamps.Fields.{IsWeak, IsStrict, IsWeakMoment, IsStrictMoment}
 use Rattle.humantime.specs.Timestamps.Checks.{weak_checks, strict_checks, first_failed}
-use Rattle.humantime.specs.Laws.Timestamps.{OneTimestamp, StrictIsWeak, StrictMomentIsWeak}
-use Rattle.humantime.specs.Timestamps.Printed.{cut, IsPrinted, IsPrintable, ReadsAs, OnePrinted}
+use Rattle.humantime.specs.Laws.Timestamps.{OneTimestamp, StrictIsWeak, StrictMomentIsWeak, ReadsAs, OnePrinted}
+use Rattle.humantime.specs.Timestamps.Printed.{cut, IsPrinted, IsPrintable}
 use Rattle.humantime.specs.References.Timestamps.Printing.{moment_kept, places_kept, moment_text, printed_text}
 use Rattle.humantime.specs.References.Timestamps.Reading.{weak_answer, strict_answer}
 use Rattle.humantime.proofs.Dates.DaysOfDates as dates
@@ -142,6 +142,20 @@ pub stamp_before : (a b : ℤ) (k : ℕ) (x y : List ℕ) → k ≤ 9 → IsPrin
     → IsTrue (is_lt (slice_cmp nat_cmp x y)) ↔ (cut a k <ℤ cut b k)
 stamp_before a b k x y small p q =
     subst (λ (o : Ordering). IsTrue (is_lt o) ↔ (cut a k <ℤ cut b k)) (sym (stamps_in_order a b k x y small p q)) (moment_before (cut a k) (cut b k))
+
+-- the bytes of a printed text lie between two printed bounds, the first of them included, exactly where the moment that it reads as does
+pub stamps_between : (a b t : ℤ) (k : ℕ) (x y text : List ℕ) → k ≤ 9 → IsPrinted a k x → IsPrinted b k y → IsPrinted t k text
+    → (IsTrue (is_le (slice_cmp nat_cmp x text)) × IsTrue (is_lt (slice_cmp nat_cmp text y)))
+    ↔ ((u : ℤ) × (strict_answer text ≡ Ok u) × (cut a k ≤ℤ u) × (u <ℤ cut b k))
+stamps_between a b t k x y text small first second printed =
+    let reads = printed_read t k text printed in
+    let low = stamp_at_most a t k x text small first printed in
+    let high = stamp_before t b k text y small printed second in (
+      (λ h. (cut t k, reads, low.0 h.0, high.0 h.1)),
+      (λ h.
+          let same : h.0 ≡ cut t k = cc (h.1, reads) in
+          (low.1 (subst (λ (u : ℤ). cut a k ≤ℤ u) same h.2), high.1 (subst (λ (u : ℤ). u <ℤ cut b k) same h.3))),
+    )
 
 -- the order of bytes for each number of digits that a printer gives; `using` one of them, a caller that compares texts is proved
 -- with no answer

@@ -3,8 +3,8 @@ use Rattle.std.proofs.lemmas.Grind.{common_steps}
 use Rattle.std.proofs.Common.{◌≡◌, ℕ, zero, suc, ◌+◌, ◌-◌, ◌*◌, ◌/◌, ◌%◌, ◌^◌, ◌<◌, ◌≤◌, List, [], ◌∷◌, take, sym, ap, subst, ◌∙◌, arith}
 use Rattle.std.proofs.Math.Nat.{pow-suc, mod-le, mul-add-mod_self_right, one-le-pow, mul_assoc}
 use Rattle.std.proofs.lemmas.Nat.{pow-add, div-add-mod', mod_below, mul-add-lt, mod-mul-add}
-use Rattle.humantime.specs.Timestamps.Digits.{AreDigits}
-use Rattle.humantime.specs.Timestamps.Fields.{fraction_digits, fraction_nanos}
+use Rattle.humantime.specs.References.Timestamps.Reading.{AreDigits, fraction_digits}
+use Rattle.humantime.specs.Timestamps.Fields.{fraction_nanos}
 use Rattle.humantime.specs.Timestamps.Printed.{HasPlaces}
 use Rattle.humantime.specs.References.Timestamps.Printing.{nine_digits, cut_fraction}
 use Rattle.humantime.specs.References.Timestamps.Fractions.{add_digits}

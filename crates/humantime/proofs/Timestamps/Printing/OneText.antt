@@ -4,12 +4,12 @@ use Rattle.std.proofs.Common.{◌≡◌, ℕ, zero, suc, ◌+◌, ◌*◌, ◌<�
 use Rattle.std.specs.Prelude.{min, codes, Option, ℤ, nat_abs}
 use Rattle.std.specs.Char.{digit_value}
 use Rattle.std.specs.Str.Parse.{digits_value_after}
-use Rattle.humantime.specs.Calendar.Dates.{day_of}
-use Rattle.humantime.specs.Timestamps.Digits.{AreDigits}
-use Rattle.humantime.specs.Timestamps.Fields.{fraction_digits, fraction_nanos, fields_text}
+use Rattle.humantime.specs.Calendar.{day_of}
+use Rattle.humantime.specs.References.Timestamps.Reading.{AreDigits, fraction_digits}
+use Rattle.humantime.specs.Timestamps.Fields.{fraction_nanos, fields_text}
 use Rattle.humantime.specs.Timestamps.Printed.{HasPlaces, IsPrinted}
 use Rattle.humantime.proofs.Dates.DaysOfDates.{same_date}
-use Rattle.humantime.proofs.Timestamps.Reading.Fractions.{nanos_bound}
+use Rattle.humantime.proofs.Timestamps.Reading.Fractions.{nanos_bound, digits_told}
 
 after_same : (ds : List ℕ) (m n : ℕ) → digits_value_after 10 m ds ≡ digits_value_after 10 n ds → m ≡ n
 after_same [] m n h = h
@@ -44,12 +44,12 @@ same_fields t k x y small p q =
     let g = q.fields in
     let clock = same_clock (day_of f.date) f.hour f.minute f.second (fraction_nanos (fraction_digits f.fraction))
     (day_of g.date) g.hour g.minute g.second (fraction_nanos (fraction_digits g.fraction))
-    p.weak.hour p.weak.minute p.second (nanos_bound _ p.weak.fraction)
-    q.weak.hour q.weak.minute q.second (nanos_bound _ q.weak.fraction) (ap nat_abs (p.moment ∙ sym q.moment)) in
+    p.weak.hour p.weak.minute p.second (nanos_bound _ (digits_told _ p.weak.fraction))
+    q.weak.hour q.weak.minute q.second (nanos_bound _ (digits_told _ q.weak.fraction)) (ap nat_abs (p.moment ∙ sym q.moment)) in
     let date = same_date f.date g.date p.weak.date q.weak.date clock.0 in
     let separator = p.separator ∙ sym q.separator in
     let zone = p.zone ∙ sym q.zone in
-    let fraction = same_fraction k f.fraction g.fraction small p.places q.places p.weak.fraction q.weak.fraction clock.4 in
+    let fraction = same_fraction k f.fraction g.fraction small p.places q.places (digits_told _ p.weak.fraction) (digits_told _ q.weak.fraction) clock.4 in
     λ i. record {
       date = date i;
       separator = separator i;

@@ -7,12 +7,14 @@ use Rattle.std.proofs.Math.Nat.{mod-le}
 use Rattle.std.proofs.lemmas.Bool.{ltb-true, lt-ltb}
 use Rattle.std.proofs.lemmas.Int.{ints}
 use Rattle.std.proofs.lemmas.Option.{none-some, same_Some}
+use Rattle.humantime.proofs.Timestamps.Reading.Fractions.{digits_from}
 use Rattle.humantime.specs.declared.date.print.DateTime.{DateTime}
 use Rattle.humantime.specs.declared.date.print.Precision.{Precision}
 use Rattle.humantime.specs.declared.date.print.Rfc3339Timestamp.{Rfc3339Timestamp}
 use Rattle.humantime.specs.References.Calendar.DatesOfDays.{date_of}
 use Rattle.humantime.specs.Timestamps.Fields.{fields_text, moment_of}
-use Rattle.humantime.specs.Timestamps.Printed.{cut, IsPrinted, IsPrintable, ReadsAs, OnePrinted}
+use Rattle.humantime.specs.Timestamps.Printed.{cut, IsPrinted, IsPrintable}
+use Rattle.humantime.specs.Laws.Timestamps.{ReadsAs, OnePrinted}
 use Rattle.humantime.specs.References.Timestamps.Printing.{places, moment_kept, places_kept, places_of, fields_shown, fields_at, IsDateTimeOf, IsTextOf, printed_text, moment_text}
 use Rattle.humantime.proofs.Timestamps.Reading.Bytes.{HoldsOfBytes, holds_before_zone}
 use Rattle.humantime.proofs.Dates.DatesOfDays.{date_of_is}
@@ -47,7 +49,7 @@ shown_printed x (pos t) k small h = record {
     hour = h.hour;
     minute = h.minute;
     second = omega (arith, h.second);
-    fraction = shown_digits k x.nanos h.nanos;
+    fraction = digits_from _ (shown_digits k x.nanos h.nanos);
   };
   separator = refl;
   zone = refl;

@@ -1,23 +1,22 @@
 -- What the checks on a timestamp say, one by one.
-use Rattle.std.proofs.lemmas.Grind.{common_steps}
-use Rattle.std.proofs.Common.{◌≡◌, ℕ, ◌≤◌, List, ◌∷◌, ◌++◌, length, get_or, drop, refl, arith}
+use Rattle.std.proofs.Common.{◌≡◌, ℕ, ◌≤◌, List, ◌∷◌, ◌++◌, length, get_or, drop, refl, arith, nat_le}
 use Rattle.std.specs.Prelude.{true, ◌||◌, ◌==◌, slice_index, None, if◌then◌else◌}
 use Rattle.std.proofs.lemmas.Bool.{and_parts}
 use Rattle.std.proofs.lemmas.Slice.Eq.{bytes_eq-Decides}
-use Rattle.humantime.specs.Timestamps.Digits.{AreDigits}
-use Rattle.humantime.specs.Timestamps.Fields.{Letter_T, Space, separator_byte, fraction_text, fraction_digits, zone_text}
-use Rattle.humantime.specs.Timestamps.Checks.{is_zone, is_long, has_signs, has_digits, in_range, ends_whole, ends_fraction, weak_checks, first_failed}
-use Rattle.humantime.specs.References.Timestamps.Reading.{has_two, zone_of, fraction_read, zone_at}
+use Rattle.humantime.specs.References.Timestamps.Reading.{AreDigits, fraction_digits, has_two, zone_of, fraction_read, zone_at}
+use Rattle.humantime.specs.Timestamps.Fields.{Letter_T, Space, separator_byte, fraction_text, zone_text}
+use Rattle.humantime.specs.Timestamps.Checks.{is_zone, has_signs, has_digits, in_range, ends_without_point, ends_after_point, weak_checks, first_failed}
+use Rattle.std.proofs.lemmas.Grind.{common_steps}
 use Rattle.humantime.proofs.Timestamps.Reading.Fractions.{front_are_digits, front_past}
 
 -- no check of the weak form fails
 pub record Passes (b : List ℕ) : Type 0 where
-  pub long : is_long b ≡ true
+  pub long : nat_le 19 (length b) ≡ true
   pub signs : has_signs b ≡ true
   pub digits : has_digits b ≡ true
   pub range : in_range b ≡ true
-  pub whole : ends_whole b ≡ true
-  pub fraction : ends_fraction b ≡ true
+  pub whole : ends_without_point b ≡ true
+  pub fraction : ends_after_point b ≡ true
 
 pub passes_from : (b : List ℕ) → first_failed (weak_checks b) ≡ None → Passes b
 passes_from b h = grind (arith, common_steps)
@@ -62,8 +61,8 @@ pub zone_shown : (z : List ℕ) → is_zone z ≡ true → z ≡ zone_text (zone
 zone_shown z h = grind (arith, common_steps, bytes_eq-Decides, common_steps)
 
 -- what stands after date and time
-pub end_shown : (b : List ℕ) → ends_whole b ≡ true → ends_fraction b ≡ true → drop 19 b ≡ fraction_text (fraction_read b) ++ zone_text (zone_at b)
-unfolding ends_fraction ends_whole
+pub end_shown : (b : List ℕ) → ends_without_point b ≡ true → ends_after_point b ≡ true → drop 19 b ≡ fraction_text (fraction_read b) ++ zone_text (zone_at b)
+unfolding ends_after_point ends_without_point
 end_shown b whole fraction = grind (arith, common_steps, front_past, zone_shown)
 
 pub fraction_at_digits : (b : List ℕ) → AreDigits (fraction_digits (fraction_read b))

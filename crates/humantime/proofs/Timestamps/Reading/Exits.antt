@@ -1,7 +1,7 @@
 -- What each way out of the weak parser answers.
-use Rattle.std.proofs.lemmas.Grind.{common_steps}
 use Rattle.std.proofs.Common.{◌≡◌, ◌≢◌, ℕ, suc, ◌+◌, ◌-◌, ◌*◌, ◌<◌, ◌≤◌, List, [], ◌∷◌, ◌++◌, length, get_or, take, drop, append-nil, length-append, refl, sym, ap, subst, ◌∙◌, arith}
-use Rattle.std.specs.Prelude.{Bool, true, false, not, ◌&&◌, ◌||◌, ℤ, pos, Some, None, Result, Ok, Err, slice_index, slice_range, if◌then◌else◌}
+use Rattle.std.specs.Prelude.{Bool, true, false, ◌&&◌, ℤ, pos, Some, None, Result, Ok, Err, slice_index, slice_range, if◌then◌else◌}
+use Rattle.std.proofs.lemmas.Grind.{common_steps}
 use Rattle.std.specs.List.{AllByRecursion}
 use Rattle.std.proofs.Math.Seq.{drop-cons}
 use Rattle.std.proofs.lemmas.Bool.{le-leb, lt-leb, eqb-true}
@@ -9,10 +9,9 @@ use Rattle.std.proofs.lemmas.List.{drop-drop, get_or-drop, take_at}
 use Rattle.std.proofs.lemmas.List.Folds.{drop_split}
 use Rattle.humantime.specs.declared.date.error.TimestampError.{TimestampError}
 use Rattle.humantime.specs.declared.date.error.TimestampError.TheVariants.{OutOfRange, InvalidDigit, InvalidFormat}
-use Rattle.humantime.specs.Timestamps.Digits.{AreDigits}
-use Rattle.humantime.specs.Timestamps.Fields.{Nothing, zone_text, fraction_nanos, fraction_digits, seconds_of}
-use Rattle.humantime.specs.Timestamps.Checks.{is_zone, has_signs, has_digits, in_range, has_point, ends_whole, ends_fraction, past_digits}
-use Rattle.humantime.specs.References.Timestamps.Reading.{has_separator, shape_error, zone_length, zone_of, front_digits, fields_of, end_answer, moment_or_error, weak_answer}
+use Rattle.humantime.specs.References.Timestamps.Reading.{AreDigits, fraction_digits, past_digits, has_separator, shape_error, zone_length, zone_of, front_digits, fields_of, end_answer, moment_or_error, weak_answer}
+use Rattle.humantime.specs.Timestamps.Fields.{No_zone, zone_text, fraction_nanos, seconds_of}
+use Rattle.humantime.specs.Timestamps.Checks.{is_zone, has_signs, has_digits, in_range, has_point, ends_without_point, ends_after_point}
 use Rattle.humantime.proofs.Timestamps.Reading.Bytes.{digits_hold}
 use Rattle.humantime.proofs.Timestamps.Reading.Checks.{zone_shown}
 use Rattle.humantime.proofs.Timestamps.Reading.Ends.{IsPlain, plain_bytes, zone_behind, zone_length_of}
@@ -51,14 +50,14 @@ with_seconds secs (Ok nanos) = Ok (pos (secs * 1_000_000_000 + nanos))
 with_seconds secs (Err e) = Err e
 
 begun : (b : List ℕ) → Begins b → weak_answer b ≡ with_seconds (seconds_of (fields_of b)) (end_answer (drop 19 b))
-unfolding with_seconds weak_answer ends_whole ends_fraction
+unfolding with_seconds weak_answer ends_without_point ends_after_point
 begun b h =
     let point : slice_index (drop 19 b) 0 ≡ slice_index b 19 = get_or-drop 19 b 0 0 in
     let rest : drop 1 (drop 19 b) ≡ drop 20 b = drop-drop 1 19 b in
     rw (le-leb 19 (length b) h.long, h.signs, h.digits, h.range, point, rest)
     (by_tests (has_point b) (is_zone (past_digits (drop 20 b))) (is_zone (drop 19 b))) where
       by_tests : (t u v : Bool)
-          → moment_or_error (if t || v then (if not t || u then None else Some InvalidDigit) else Some InvalidFormat)
+          → moment_or_error (if (if t then true else v) then (if (if t then u else true) then None else Some InvalidDigit) else Some InvalidFormat)
           (seconds_of (fields_of b) * 1_000_000_000 + fraction_nanos (fraction_digits (if t then Some (front_digits (drop 20 b)) else None)))
           ≡ with_seconds (seconds_of (fields_of b)) (if t then (if u then Ok (fraction_nanos (front_digits (drop 20 b))) else Err InvalidDigit) else (if v then Ok 0 else Err InvalidFormat))
       by_tests true true v = refl
@@ -133,6 +132,6 @@ exit_no_fraction r some point other = rw point (by_test (is_zone (past_digits (d
       let few : length r - zone_length r - 1 ≡ length f = omega arith in
       let same : digits_before_zone r ≡ f =
       (λ i. take (few i) (rest i)) ∙ take_at f (zone_text w) (length f) refl in
-      let none : past_digits f ≡ [] = ap past_digits (sym (append-nil f)) ∙ past_back f Nothing are in
+      let none : past_digits f ≡ [] = ap past_digits (sym (append-nil f)) ∙ past_back f No_zone are in
       absurd (other (ap past_digits same ∙ none))
   by_test false zone = refl

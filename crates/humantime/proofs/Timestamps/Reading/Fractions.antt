@@ -8,10 +8,10 @@ use Rattle.std.specs.Str.Parse.{digits_value_after}
 use Rattle.std.proofs.Math.Nat.{pow-suc, mul-le-mul_left, div-div-eq-div-mul, pow-le-pow_right, div-eq_of_lt}
 use Rattle.std.proofs.Math.Seq.{drop-cons}
 use Rattle.std.proofs.lemmas.Bool.Decides.{nat_tests}
-use Rattle.humantime.specs.Timestamps.Digits.{AreDigits}
+use Rattle.std.specs.Str.{all_ascii_digits}
+use Rattle.std.proofs.lemmas.Bool.{and_parts, and_from}
+use Rattle.humantime.specs.References.Timestamps.Reading.{AreDigits, past_digits, front_digits}
 use Rattle.humantime.specs.Timestamps.Fields.{fraction_nanos}
-use Rattle.humantime.specs.Timestamps.Checks.{past_digits}
-use Rattle.humantime.specs.References.Timestamps.Reading.{front_digits}
 use Rattle.humantime.specs.References.Timestamps.Fractions.{add_digits, weight, has_three, AreThreeAt, IsRead}
 
 add_nothing : (n : ℕ) (ds : List ℕ) → add_digits n 0 ds ≡ n
@@ -20,6 +20,19 @@ add_nothing n (c ∷ cs) = grind (arith, common_steps, (add_nothing n cs))
 
 pub is_digit_told : (c : ℕ) → is_ascii_digit c ≡ true → IsInRange 48 57 c
 is_digit_told c h = grind (arith, nat_tests)
+
+pub is_digit_from : (c : ℕ) → IsInRange 48 57 c → is_ascii_digit c ≡ true
+is_digit_from c h = grind (arith, nat_tests)
+
+pub digits_told : (ds : List ℕ) → all_ascii_digits ds ≡ true → AreDigits ds
+digits_told [] h = tt
+digits_told (c ∷ cs) h =
+    let p = and_parts (is_ascii_digit c) (all_ascii_digits cs) h in
+    (is_digit_told c p.0, digits_told cs p.1)
+
+pub digits_from : (ds : List ℕ) → AreDigits ds → all_ascii_digits ds ≡ true
+digits_from [] d = refl
+digits_from (c ∷ cs) d = and_from (is_ascii_digit c) (all_ascii_digits cs) (is_digit_from c d.0) (digits_from cs d.1)
 
 pub front_are_digits : (cs : List ℕ) → AreDigits (front_digits cs)
 front_are_digits [] = tt

@@ -3,19 +3,20 @@ use Rattle.std.proofs.lemmas.Grind.{common_steps}
 use Rattle.std.proofs.Common.{◌≡◌, ℕ, ◌+◌, ◌/◌, ◌%◌, ◌≤◌, List, ◌∷◌, length, ◌∙◌, arith}
 use Rattle.std.specs.Prelude.{true, slice_index}
 use Rattle.std.proofs.lemmas.Bool.{leb-true}
+use Rattle.humantime.proofs.Timestamps.Reading.Fractions.{digits_from}
 use Rattle.humantime.specs.Timestamps.Fields.{fields_text, IsWeak}
-use Rattle.humantime.specs.Timestamps.Checks.{number}
+use Rattle.humantime.specs.Timestamps.Checks.{number_between}
 use Rattle.humantime.specs.References.Timestamps.Reading.{has_two, fields_of}
 use Rattle.humantime.proofs.Timestamps.Reading.Checks.{Passes, signs_told, pairs_told, separator_shown, end_shown, fraction_at_digits, nineteen}
 use Rattle.humantime.proofs.Timestamps.Reading.Places.{has_two_told, number_of_two, number_of_four, in_range_told}
 
 pair_shown : (b : List ℕ) (k : ℕ) → k + 2 ≤ length b → has_two b k ≡ true
-    → (slice_index b k ≡ 48 + number b k (k + 2) / 10) × (slice_index b (k + 1) ≡ 48 + number b k (k + 2) % 10)
+    → (slice_index b k ≡ 48 + number_between b k (k + 2) / 10) × (slice_index b (k + 1) ≡ 48 + number_between b k (k + 2) % 10)
 pair_shown b k long h = grind (arith, common_steps, has_two_told, number_of_two)
 
 year_shown : (b : List ℕ) → 4 ≤ length b → has_two b 0 ≡ true → has_two b 2 ≡ true
-    → (slice_index b 0 ≡ 48 + number b 0 4 / 1000) × (slice_index b 1 ≡ 48 + number b 0 4 / 100 % 10)
-    × (slice_index b 2 ≡ 48 + number b 0 4 / 10 % 10) × (slice_index b 3 ≡ 48 + number b 0 4 % 10)
+    → (slice_index b 0 ≡ 48 + number_between b 0 4 / 1000) × (slice_index b 1 ≡ 48 + number_between b 0 4 / 100 % 10)
+    × (slice_index b 2 ≡ 48 + number_between b 0 4 / 10 % 10) × (slice_index b 3 ≡ 48 + number_between b 0 4 % 10)
 year_shown b long century decade = grind (arith, common_steps, has_two_told, number_of_four)
 
 written_shown : (b : List ℕ) → Passes b → b ≡ fields_text (fields_of b)
@@ -37,4 +38,13 @@ written_shown b p =
     ∷ hour.0 i ∷ hour.1 i ∷ signs.colon13 i ∷ minute.0 i ∷ minute.1 i ∷ signs.colon16 i ∷ second.0 i ∷ second.1 i ∷ end i)
 
 pub fields_weak : (b : List ℕ) → Passes b → IsWeak b (fields_of b)
-fields_weak b p = grind (arith, common_steps, (in_range_told b p.range), written_shown, fraction_at_digits)
+fields_weak b p =
+    let range = in_range_told b p.range in
+    record {
+      shown = written_shown b p;
+      date = range.0;
+      hour = range.1;
+      minute = range.2;
+      second = range.3;
+      fraction = digits_from _ (fraction_at_digits b);
+    }

@@ -1,7 +1,7 @@
 -- Years that begin on 1 March, counted from 1 March 1600: the leap day is the last day of such a year.
 -- Private helpers of the calendar speak of these; no public contract does.
 use Rattle.std.specs.Prelude.{ℕ, ◌+◌, ◌-◌, ◌*◌, ◌/◌, [], ◌∷◌, slice_index_or}
-use Rattle.humantime.specs.Calendar.Years.{days_in_year}
+use Rattle.humantime.specs.Calendar.{days_in_year}
 
 -- how many days lie before year n
 abbrev pub march_days : ℕ → ℕ

@@ -1,7 +1,7 @@
 -- Single additions to a duration of t nanoseconds. `None` is an addition that breaks a limit.
 use Rattle.std.specs.Prelude.{ℕ, ◌+◌, ◌*◌, ◌/◌, ◌%◌, ◌^◌, ◌&&◌, ◌==◌, nat_le, Option, Some, None, if◌then◌else◌}
 use Rattle.humantime.specs.Durations.Characters.{u64_max}
-use Rattle.humantime.specs.Durations.Sums.{Addition, addition_nanos}
+use Rattle.humantime.specs.Durations.Accepted.{Addition, addition_nanos}
 use Rattle.humantime.specs.References.Durations.Reading.{room}
 
 -- the sum with one addition, where there is room for it

@@ -4,7 +4,17 @@ use Rattle.std.specs.Prelude.{◌==◌, bytes_eq}
 use Rattle.std.specs.Cmp.{IsPartialEquivalence}
 use Rattle.std.proofs.lemmas.Bool.{false≢true, and_parts, and_from, eqb-true, eq-eqb}
 use Rattle.std.proofs.lemmas.Slice.Eq.{bytes_eq-Decides}
-use Rattle.humantime.specs.Durations.Faults.{Fault, InvalidCharacter, NumberExpected, UnknownUnit, NumberOverflow, Empty, fault_eq}
+use Rattle.humantime.specs.Durations.Faults.{Fault, InvalidCharacter, NumberExpected, UnknownUnit, NumberOverflow, Empty}
+
+-- whether two faults are the same
+abbrev pub fault_eq : Fault → Fault → Bool
+fault_eq (InvalidCharacter at) (InvalidCharacter at') = at == at'
+fault_eq (NumberExpected at) (NumberExpected at') = at == at'
+fault_eq (UnknownUnit start end unit value) (UnknownUnit start' end' unit' value') =
+    start == start' && end == end' && bytes_eq unit unit' && value == value'
+fault_eq NumberOverflow NumberOverflow = true
+fault_eq Empty Empty = true
+fault_eq _ _ = false
 
 -- two units alike
 unit_same : (a b c d : ℕ) (u w : List ℕ) (v x : ℕ) → ((((a == c) && (b == d)) && bytes_eq u w) && (v == x)) ≡ true → UnknownUnit a b u v ≡ UnknownUnit c d w x

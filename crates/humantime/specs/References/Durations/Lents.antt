@@ -6,7 +6,7 @@ use Rattle.humantime.specs.declared.duration.reading.span.Span.{Span as TextSpan
 use Rattle.humantime.specs.Durations.Faults.{Fault}
 use Rattle.humantime.specs.Durations.Errors.{fault_of}
 use Rattle.humantime.specs.References.Durations.Scanning.{fraction_in}
-use Rattle.humantime.specs.Durations.Slices.{Lent}
+use Rattle.humantime.specs.Durations.Items.{Lent}
 
 -- what a span lends of its text
 abbrev pub lent_of : TextSpan → Lent

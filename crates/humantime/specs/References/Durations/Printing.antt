@@ -1,7 +1,18 @@
 -- How a duration's text is put together.
-use Rattle.std.specs.Prelude.{ℕ, ◌/◌, ◌%◌, ◌==◌, List, [], ◌∷◌, ◌++◌, if◌then◌else◌, codes}
-use Rattle.humantime.specs.Values.Amounts.{nanos_per_micro, nanos_per_milli, nanos_per_second, seconds_per_minute, seconds_per_hour, seconds_per_day, seconds_per_month, seconds_per_year}
-use Rattle.humantime.specs.Durations.Counts.{weights, Suffix, with_plural, without_plural, micros, suffixes, printed_count, printed_counts, joined_by_space}
+use Rattle.std.specs.Prelude.{ℕ, ◌/◌, ◌%◌, ◌==◌, List, [], ◌∷◌, ◌++◌, if◌then◌else◌, codes, Bool, true, false}
+use Rattle.humantime.specs.Values.{nanos_per_micro, nanos_per_milli, nanos_per_second, seconds_per_minute, seconds_per_hour, seconds_per_day, seconds_per_month, seconds_per_year}
+use Rattle.humantime.specs.Durations.Counts.{weights, suffixes, printed_count, printed_counts, joined_by_space}
+use Rattle.humantime.specs.Durations.Characters.{micro_suffix}
+
+-- what stands behind a count, and whether it takes an s above one
+abbrev pub Suffix : Type 0
+Suffix = List ℕ × Bool
+
+abbrev pub with_plural : List ℕ → Suffix
+with_plural text = (text, true)
+
+abbrev pub without_plural : List ℕ → Suffix
+without_plural text = (text, false)
 
 -- the counts by division: as many of the first weight as there is room for, and then of the others what is left
 abbrev pub divided : List ℕ → ℕ → List ℕ
@@ -37,7 +48,7 @@ unfoldable pub with_nanos : List ℕ → ℕ → List ℕ
 with_nanos text nanos =
     with_count (with_count (with_count text
     (nanos / nanos_per_milli) (without_plural (codes "ms")))
-    (nanos % nanos_per_milli / nanos_per_micro) (without_plural micros))
+    (nanos % nanos_per_milli / nanos_per_micro) (without_plural micro_suffix))
     (nanos % nanos_per_milli % nanos_per_micro) (without_plural (codes "ns"))
 
 -- the text, or zero seconds where there is none

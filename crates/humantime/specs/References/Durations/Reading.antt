@@ -1,13 +1,16 @@
 -- Reading from left to right: the plain reference, which private functions meet. Theorems of proofs/ tie it to the
 -- definitions of Spans and Faults.
 use Rattle.std.specs.Prelude.{ℕ, zero, suc, ◌+◌, ◌*◌, ◌/◌, ◌%◌, ◌^◌, ◌||◌, ◌&&◌, ◌==◌, Bool, true, false, List, [], ◌∷◌, length, Option, Some, None, Result, Ok, Err, nat_lt, nat_le, if◌then◌else◌}
-use Rattle.humantime.specs.Values.Amounts.{nanos_per_second}
+use Rattle.humantime.specs.Values.{nanos_per_second}
 use Rattle.humantime.specs.Durations.Characters.{is_ws, is_digit, is_numeric, past, decimal_value, significant, offset_of, byte_length, u64_max}
 use Rattle.humantime.specs.Durations.Units.{Scale, scale_of_word}
 use Rattle.humantime.specs.Durations.Spans.{Span}
-use Rattle.humantime.specs.Durations.Sums.{Addition, addition_nanos, additions_of}
-use Rattle.humantime.specs.Durations.Rests.{number_of, after_number, fraction_of, after_fraction, word_of, after_word, span_of}
-use Rattle.humantime.specs.Durations.Faults.{Fault, InvalidCharacter, NumberExpected, UnknownUnit, NumberOverflow, Empty}
+use Rattle.humantime.specs.Durations.Accepted.{Addition, addition_nanos, additions_at}
+use Rattle.humantime.specs.Durations.Faults.{number_of, after_number, fraction_of, after_fraction, word_of, after_word, span_of, Fault, InvalidCharacter, NumberExpected, UnknownUnit, NumberOverflow, Empty}
+
+-- what a span adds
+abbrev pub additions_of : Span → List Addition
+additions_of s = additions_at (scale_of_word s.word) s
 
 -- whether a number or a fraction is too long
 abbrev pub long_fraction : Option (List ℕ) → Bool

@@ -6,7 +6,7 @@ use Rattle.humantime.specs.declared.duration.reading.span.Span.{Span}
 use Rattle.humantime.specs.declared.duration.reading.iter.SpanIter.{SpanIter}
 use Rattle.humantime.specs.Durations.Characters.{is_ws, past}
 use Rattle.humantime.specs.Durations.Faults.{Fault}
-use Rattle.humantime.specs.Durations.Slices.{Lent}
+use Rattle.humantime.specs.Durations.Items.{Lent}
 use Rattle.humantime.specs.References.Durations.Lending.{left_at}
 use Rattle.humantime.specs.Durations.Errors.{PointsInto}
 use Rattle.humantime.specs.References.Durations.Lents.{item_of}

@@ -2,8 +2,7 @@
 use Rattle.std.specs.Prelude.{◌≡◌, ◌≤◌, ℕ, ◌-◌, Bool, true, false, List, [], ◌∷◌, length, drop, Option, Some, None, Result, Ok, Err, nat_lt, not, if◌then◌else◌, IsUtf8, ◌<◌, IsCharBoundary, chars}
 use Rattle.humantime.specs.Durations.Characters.{is_point, is_numeric, decimal_value, significant, u64_max, byte_length, offset_of}
 use Rattle.humantime.specs.declared.duration.reading.class.Class.{Class}
-use Rattle.humantime.specs.Durations.Rests.{number_of, after_number}
-use Rattle.humantime.specs.Durations.Faults.{Fault, InvalidCharacter, UnknownUnit, NumberOverflow}
+use Rattle.humantime.specs.Durations.Faults.{number_of, after_number, Fault, InvalidCharacter, UnknownUnit, NumberOverflow}
 use Rattle.humantime.specs.References.Durations.Classes.{class_of}
 use Rattle.humantime.specs.References.Durations.Lending.{trimmed}
 use Rattle.humantime.specs.References.Durations.Scales.{Counted, counted}

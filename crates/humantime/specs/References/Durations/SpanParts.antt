@@ -2,7 +2,7 @@
 use Rattle.std.specs.Prelude.{◌≡◌, ℕ, ◌++◌, false, List, Option, option_map, IsUtf8, chars}
 use Rattle.humantime.specs.declared.duration.reading.reader.Parts.{Parts}
 use Rattle.humantime.specs.Durations.Characters.{decimal_value}
-use Rattle.humantime.specs.Durations.Rests.{number_of, after_number, fraction_of, after_fraction, word_of, after_word, span_of}
+use Rattle.humantime.specs.Durations.Faults.{number_of, after_number, fraction_of, after_fraction, word_of, after_word, span_of}
 use Rattle.humantime.specs.References.Durations.Reading.{too_long}
 use Rattle.humantime.specs.References.Durations.Scales.{Counted, counted, parts_of}
 use Rattle.humantime.specs.References.Durations.Scanning.{IsTail}

@@ -2,8 +2,7 @@
 use Rattle.std.specs.Prelude.{◌≡◌, ℕ, ◌+◌, ◌-◌, ◌*◌, ◌/◌, ◌^◌, ◌<◌, ◌≤◌, Bool, ◌&&◌, IsTrue, List, [], ◌∷◌, length, drop, slice_index}
 use Rattle.std.specs.Char.{is_ascii_digit}
 use Rattle.humantime.specs.Timestamps.Fields.{fraction_nanos}
-use Rattle.humantime.specs.Timestamps.Checks.{past_digits}
-use Rattle.humantime.specs.References.Timestamps.Reading.{front_digits}
+use Rattle.humantime.specs.References.Timestamps.Reading.{past_digits, front_digits}
 
 -- n and these digits, of which the first counts u, and each further one a tenth of the one before
 abbrev pub add_digits : ℕ → ℕ → List ℕ → ℕ

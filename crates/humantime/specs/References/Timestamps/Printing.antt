@@ -4,12 +4,10 @@ use Rattle.humantime.specs.declared.date.print.Rfc3339Timestamp.{Rfc3339Timestam
 use Rattle.humantime.specs.declared.date.print.DateTime.{DateTime}
 use Rattle.humantime.specs.declared.date.print.Precision.{Precision}
 use Rattle.humantime.specs.declared.date.print.Precision.TheVariants.{Seconds, Millis, Micros, Nanos}
-use Rattle.humantime.specs.Calendar.Dates.{IsDate, day_of}
+use Rattle.humantime.specs.Calendar.{IsDate, day_of}
 use Rattle.humantime.specs.References.Calendar.DatesOfDays.{date_of}
-use Rattle.humantime.specs.Timestamps.Digits.{digit}
-use Rattle.humantime.specs.Values.Moments.{nano_of}
-use Rattle.humantime.specs.Values.Amounts.{nanos_per_second}
-use Rattle.humantime.specs.Timestamps.Fields.{Letter_T, Letter_Z, Fields, fields_text}
+use Rattle.humantime.specs.Timestamps.Fields.{digit, Letter_T, Letter_Z, Fields, fields_text}
+use Rattle.humantime.specs.Values.{nano_of, nanos_per_second}
 use Rattle.humantime.specs.Timestamps.Printed.{year_10000, IsPrinted}
 
 -- how many digits the fraction has

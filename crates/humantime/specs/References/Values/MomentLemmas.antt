@@ -3,7 +3,7 @@ use Rattle.std.proofs.Common.{◌≡◌, ℕ, ◌+◌, ◌-◌, ◌*◌, ◌/◌
 use Rattle.std.specs.Prelude.{ℤ, pos, negsuc}
 use Rattle.std.specs.Ordering.{nat_cmp, int_cmp, int_eq, ordering_then}
 use Rattle.std.proofs.lemmas.Int.{ints}
-use Rattle.humantime.specs.Values.Moments.{moment, second_of, nano_of}
+use Rattle.humantime.specs.Values.{moment, second_of, nano_of}
 
 -- a moment before 1970, counted backwards
 moment-before : (s : ℕ) (n : ℕ) → n < 1_000_000_000

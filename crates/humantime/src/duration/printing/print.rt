@@ -2,13 +2,12 @@
 
 ghost use Rattle.std.specs.Prelude.{◌≡◌, ◌≤◌, ◌<◌, ◌↔◌, ℕ, List, [], length, take, chars, IfOk, IfErr, OnErr, Some};
 ghost use Rattle.std.specs.Str.{IsUtf8};
-ghost use Rattle.humantime.specs.Values.Amounts.{nanos_per_second};
+ghost use Rattle.humantime.specs.Values.{nanos_per_second};
 ghost use Rattle.humantime.specs.Durations.Faults.{Fault, HasFault};
 ghost use Rattle.humantime.specs.References.Durations.Answers.{canonical_answer};
 ghost use Rattle.humantime.specs.Durations.Errors.{told_text, PointsInto};
 ghost use Rattle.humantime.specs.References.Durations.Seen.{seen};
-ghost use Rattle.humantime.specs.Durations.Counts.{Canon};
-ghost use Rattle.humantime.specs.Durations.Canonical.{IsCanonicalOf};
+ghost use Rattle.humantime.specs.Durations.Counts.{Canon, IsCanonicalOf};
 ghost use Rattle.humantime.specs.References.Durations.Printing.{with_seconds, with_nanos, duration_text};
 ghost use Rattle.humantime.specs.References.Durations.Writing.{written};
 

@@ -2,8 +2,7 @@
 
 ghost use Rattle.std.specs.Prelude.{◌≡◌, ◌<◌, ◌≤◌, ◌+◌, ◌∷◌, ◌++◌, [], length, take, decimal};
 ghost use Rattle.std.specs.Str.{IsUtf8};
-ghost use Rattle.humantime.specs.Durations.Counts.{with_plural, without_plural};
-ghost use Rattle.humantime.specs.References.Durations.Printing.{separated, with_count, or_zero};
+ghost use Rattle.humantime.specs.References.Durations.Printing.{with_plural, without_plural, separated, with_count, or_zero};
 ghost use Rattle.humantime.specs.References.Durations.Writing.{written};
 
 use itoa::Buffer;

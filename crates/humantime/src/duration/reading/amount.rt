@@ -5,7 +5,7 @@ ghost use Rattle.std.specs.Prelude.{◌≤◌, ◌<◌};
 use crate::unit::Unit;
 
 /// The digits after a point, without the zeros at their end: the number that they read as, and how many there are.
-#[derive(Clone, Copy, PartialEq, Debug)]
+#[derive(Clone, Copy, Debug)]
 pub(crate) struct Fraction {
     pub value: u64,
     pub count: usize,
@@ -15,7 +15,7 @@ pub(crate) struct Fraction {
 }
 
 /// A span's number, its fraction and its unit.
-#[derive(Clone, Copy, PartialEq, Debug)]
+#[derive(Clone, Copy, Debug)]
 pub(crate) struct Amount {
     pub value: u64,
     pub fraction: Option<Fraction>,

@@ -6,7 +6,7 @@ ghost use Rattle.humantime.specs.declared.duration.reading.class.Class.TheVarian
 ghost use Rattle.humantime.specs.References.Durations.Classes.{class_of, code_of};
 
 /// What a character is in a duration's text.
-#[derive(Clone, Copy, PartialEq, Eq, Debug)]
+#[derive(Clone, Copy)]
 pub(crate) enum Class {
     White,
     Digit,

@@ -7,7 +7,7 @@ ghost use Rattle.humantime.specs.Durations.Accepted.{Accepted};
 ghost use Rattle.humantime.specs.Durations.Faults.{Fault, HasFault};
 ghost use Rattle.humantime.specs.References.Durations.Lending.{judged, lent_items};
 ghost use Rattle.humantime.specs.References.Durations.Remaining.{items_left, text_of};
-ghost use Rattle.humantime.specs.Durations.Slices.{AreItems};
+ghost use Rattle.humantime.specs.Durations.Items.{AreItems};
 
 use crate::duration::error::DurationError;
 use crate::duration::reading::iter::SpanIter;

@@ -2,8 +2,7 @@
 
 ghost use Rattle.std.specs.Prelude.{◌≡◌, ◌<◌, true, length, chars, option_map, IfOk, IfErr, Some, None};
 ghost use Rattle.humantime.specs.Durations.Errors.{fault_of, PointsInto};
-ghost use Rattle.humantime.specs.Durations.Rests.{after_word, span_of};
-ghost use Rattle.humantime.specs.Durations.Faults.{NumberOverflow};
+ghost use Rattle.humantime.specs.Durations.Faults.{after_word, span_of, NumberOverflow};
 ghost use Rattle.humantime.specs.References.Durations.Lending.{lent_at};
 ghost use Rattle.humantime.specs.References.Durations.Lents.{lent_of};
 ghost use Rattle.humantime.specs.References.Durations.Reading.{stop_at, too_long};
@@ -126,21 +125,16 @@ fn lend<'a>(text: &'a str, rest: &'a str, parts: Parts<'a>, unit: Unit) -> Span<
     }
 }
 
-/// The span that begins the rest of a text, and what follows its word.
+/// The unit of the parts that begin a rest, or what is wrong with them.
 #[inline(always)]
-pub(crate) fn span_at<'a>(
-    text: &'a str,
-    rest: &'a str,
-) -> Result<(Span<'a>, &'a str), DurationError<'a>>
-    requires { IsTail text.now rest.now }
+fn unit_at<'a>(text: &'a str, rest: &'a str, parts: Parts<'a>) -> Result<Unit, DurationError<'a>>
+    requires tail { IsTail text.now rest.now }
+    requires parts { ArePartsOf rest.now parts }
     ensures stop { IfErr result (λ e. stop_at (chars text.now) (chars rest.now) ≡ Some (fault_of e)) }
     ensures place { IfErr result (PointsInto text.now) }
-    ensures fine { IfOk result (λ x. stop_at (chars text.now) (chars rest.now) ≡ None) }
-    ensures lent { IfOk result (λ x. lent_of x.0 ≡ lent_at (chars text.now) (chars rest.now)) }
-    ensures next { IfOk result (λ x. chars x.1.now ≡ after_word (chars rest.now)) }
-    ensures tail { IfOk result (λ x. IsTail text.now x.1.now) }
+    ensures fine { IfOk result (λ _. stop_at (chars text.now) (chars rest.now) ≡ None) }
+    ensures unit { IfOk result (λ unit. scale_of_word (chars parts.entry.word.letters.now) ≡ Some (scale_of unit)) }
 {
-    let parts = parts_at(rest)?;
     if parts.word.letters.is_empty() {
         return Err(without_word(
             text,
@@ -165,6 +159,25 @@ pub(crate) fn span_at<'a>(
             unit: parts.word.letters,
             value: parts.value,
         }),
-        Some(unit) => Ok((lend(text, rest, parts, unit), parts.after_word)),
+        Some(unit) => Ok(unit),
     }
+}
+
+/// The span that begins the rest of a text, and what follows its word.
+#[inline(always)]
+pub(crate) fn span_at<'a>(
+    text: &'a str,
+    rest: &'a str,
+) -> Result<(Span<'a>, &'a str), DurationError<'a>>
+    requires { IsTail text.now rest.now }
+    ensures stop { IfErr result (λ e. stop_at (chars text.now) (chars rest.now) ≡ Some (fault_of e)) }
+    ensures place { IfErr result (PointsInto text.now) }
+    ensures fine { IfOk result (λ x. stop_at (chars text.now) (chars rest.now) ≡ None) }
+    ensures lent { IfOk result (λ x. lent_of x.0 ≡ lent_at (chars text.now) (chars rest.now)) }
+    ensures next { IfOk result (λ x. chars x.1.now ≡ after_word (chars rest.now)) }
+    ensures tail { IfOk result (λ x. IsTail text.now x.1.now) }
+{
+    let parts = parts_at(rest)?;
+    let unit = unit_at(text, rest, parts)?;
+    Ok((lend(text, rest, parts, unit), parts.after_word))
 }

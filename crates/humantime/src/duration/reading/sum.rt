@@ -1,7 +1,7 @@
 //! Additions to a duration, each refused where it breaks a limit.
 
 ghost use Rattle.std.specs.Prelude.{◌≡◌, ◌≤◌, ◌^◌};
-ghost use Rattle.humantime.specs.Values.Amounts.{nanos_per_second};
+ghost use Rattle.humantime.specs.Values.{nanos_per_second};
 ghost use Rattle.humantime.specs.Durations.Spans.{Span};
 ghost use Rattle.humantime.specs.References.Durations.Adding.{add_one, add_times, part_of, add_part};
 ghost use Rattle.humantime.specs.References.Durations.Reading.{add_span};
@@ -52,21 +52,35 @@ fn add_seconds(total: StdDuration, seconds: u64) -> Option<StdDuration>
     total.checked_add_secs(seconds)
 }
 
+/// The duration and so many times these nanoseconds.
+fn add_nanos_times(total: StdDuration, nanos: u64, times: u64) -> Option<StdDuration>
+    ensures { result ≡ add_times total 1 nanos times }
+{
+    add_nanos(total, times.checked_mul(nanos)?)
+}
+
+/// The duration and so many times these seconds.
+fn add_seconds_times(total: StdDuration, seconds: u64, times: u64) -> Option<StdDuration>
+    ensures { result ≡ add_times total nanos_per_second seconds times }
+{
+    add_seconds(total, times.checked_mul(seconds)?)
+}
+
 /// The duration and so many of the unit.
 fn add_whole(total: StdDuration, value: u64, unit: Unit) -> Option<StdDuration>
     ensures { result ≡ add_times total (scale_of unit).base (scale_of unit).factor value }
 {
     match unit {
         Unit::Nanosecond => add_nanos(total, value),
-        Unit::Microsecond => add_nanos(total, value.checked_mul(sizes::NANOS_PER_MICRO)?),
-        Unit::Millisecond => add_nanos(total, value.checked_mul(sizes::NANOS_PER_MILLI)?),
+        Unit::Microsecond => add_nanos_times(total, sizes::NANOS_PER_MICRO, value),
+        Unit::Millisecond => add_nanos_times(total, sizes::NANOS_PER_MILLI, value),
         Unit::Second => add_seconds(total, value),
-        Unit::Minute => add_seconds(total, value.checked_mul(sizes::SECONDS_PER_MINUTE)?),
-        Unit::Hour => add_seconds(total, value.checked_mul(sizes::SECONDS_PER_HOUR)?),
-        Unit::Day => add_seconds(total, value.checked_mul(sizes::SECONDS_PER_DAY)?),
-        Unit::Week => add_seconds(total, value.checked_mul(sizes::SECONDS_PER_WEEK)?),
-        Unit::Month => add_seconds(total, value.checked_mul(sizes::SECONDS_PER_MONTH)?),
-        Unit::Year => add_seconds(total, value.checked_mul(sizes::SECONDS_PER_YEAR)?),
+        Unit::Minute => add_seconds_times(total, sizes::SECONDS_PER_MINUTE, value),
+        Unit::Hour => add_seconds_times(total, sizes::SECONDS_PER_HOUR, value),
+        Unit::Day => add_seconds_times(total, sizes::SECONDS_PER_DAY, value),
+        Unit::Week => add_seconds_times(total, sizes::SECONDS_PER_WEEK, value),
+        Unit::Month => add_seconds_times(total, sizes::SECONDS_PER_MONTH, value),
+        Unit::Year => add_seconds_times(total, sizes::SECONDS_PER_YEAR, value),
     }
 }
 

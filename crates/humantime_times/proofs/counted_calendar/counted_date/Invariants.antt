@@ -1,5 +1,5 @@
 use Rattle.std.proofs.Common.{◌≡◌, ◌+◌, ◌-◌}
-use Rattle.humantime.specs.Calendar.Years.{days_of_years}
+use Rattle.humantime.specs.Calendar.{days_of_years}
 use Rattle.humantime_times.proofs.counted_calendar.counted_date.Given as goal
 
 abbrev pub invariant-loop-year : goal.invariant-loop-year

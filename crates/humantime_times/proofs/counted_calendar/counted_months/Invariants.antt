@@ -1,5 +1,5 @@
 use Rattle.std.proofs.Common.{◌≡◌, ◌-◌}
-use Rattle.humantime.specs.Calendar.Years.{days_of_months}
+use Rattle.humantime.specs.Calendar.{days_of_months}
 use Rattle.humantime_times.proofs.counted_calendar.counted_months.Given as goal
 
 abbrev pub invariant-loop-earlier : goal.invariant-loop-earlier

@@ -1,5 +1,5 @@
 use Rattle.std.proofs.Common.{◌≡◌, ◌-◌}
-use Rattle.humantime.specs.Calendar.Years.{days_of_years}
+use Rattle.humantime.specs.Calendar.{days_of_years}
 use Rattle.humantime_times.proofs.counted_calendar.counted_years.Given as goal
 
 abbrev pub invariant-loop-earlier : goal.invariant-loop-earlier

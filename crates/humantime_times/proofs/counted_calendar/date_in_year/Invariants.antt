@@ -1,5 +1,5 @@
 use Rattle.std.proofs.Common.{◌≡◌, ◌+◌, ◌-◌}
-use Rattle.humantime.specs.Calendar.Years.{days_of_months}
+use Rattle.humantime.specs.Calendar.{days_of_months}
 use Rattle.humantime_times.proofs.counted_calendar.date_in_year.Given as goal
 
 abbrev pub invariant-loop-month : goal.invariant-loop-month

@@ -1,21 +1,23 @@
-use Rattle.std.proofs.Common.{◌≡◌, ◌+◌, ◌<◌, length, ap, ◌∙◌, arith, rules}
-use Rattle.std.proofs.lemmas.Bool.Decides.{nat_tests}
-use Rattle.std.specs.List.{before_first, after_first, position_or_len}
-use Rattle.std.specs.Str.{trim_start, trim_end}
+use Rattle.std.proofs.Common.{◌≡◌, ℕ, ◌+◌, ◌-◌, List, length, take, drop, sym, ◌∙◌, arith, rules, take-append-drop}
+use Rattle.std.proofs.lemmas.List.{drop-drop}
+use Rattle.std.proofs.lemmas.List.Prefix.{end_rest}
+use Rattle.std.proofs.lemmas.Str.{IsCharBoundary-from_drop}
+use Rattle.std.specs.List.{after_first, position_or_len}
+use Rattle.std.specs.Str.{IsTrimStart}
 use Rattle.humantime_uses.specs.Settings.{is_equals}
-use Rattle.humantime_uses.proofs.LineEnds.{ends_in_rest, ends_in_end}
 use Rattle.humantime_uses.proofs.settings.parts_of.Goals as goal
 
-pub returns-in-Some : goal.returns-in-Some
-returns-in-Some c =
-    let line = c.args.line.now in
-    let key : c.in-Some.key.now ≡ before_first is_equals line = search rules in
-    let value : c.in-Some.value.now ≡ after_first is_equals line = search rules in
-    let within : position_or_len is_equals line < length line = search rules in
-    let trimmed = c.trim_start.ensures.value in record {
-      some = grind (arith, nat_tests);
-      named = c.trim_end.ensures.trim ∙ ap trim_end key;
-      valued = c.trim_start.ensures.trim ∙ ap trim_start value;
-      ends = ends_in_end line _ _ (ends_in_rest line c.in-Some.value.now (position_or_len is_equals line + 1) value)
-          (ends_in_rest c.in-Some.value.now c.trim_start.result.now trimmed.0 trimmed.1);
-    }
+-- the value stands at the end of the line
+value_at_end : (line rest value : List ℕ) → rest ≡ after_first is_equals line → IsTrimStart rest value
+    → drop (length line - length value) line ≡ value
+value_at_end line rest value e trimmed =
+    let n = position_or_len is_equals line + 1 + trimmed.0 in
+    rw (trimmed.1, e, drop-drop) (end_rest line (drop n line) (take n line) (sym (take-append-drop n line)))
+
+pub returns-in-Some-clause-value : goal.returns-in-Some-clause-value
+returns-in-Some-clause-value c = value_at_end c.args.line.now c.in-Some.value.now _ (search rules) c.trim_start.ensures.value ∙ search rules
+
+pub returns-in-Some-clause-boundary : goal.returns-in-Some-clause-boundary
+returns-in-Some-clause-boundary c =
+    let same = value_at_end c.args.line.now c.in-Some.value.now _ (search rules) c.trim_start.ensures.value in
+    IsCharBoundary-from_drop c.args.line.now _ (omega arith) (rw same c.trim_start.utf8)

@@ -4,5 +4,4 @@ use Rattle.humantime_uses.specs.Marks.{blank_for}
 use Rattle.humantime_uses.proofs.settings.write_blank.Given as goal
 
 abbrev pub invariant-loop-c : goal.invariant-loop-c
-invariant-loop-c g l =
-    IsPlainFormatter l.initial.f → HasWritten g.W.Write.write_str_gives l.initial.f (map blank_for l.yielded) l.f
+invariant-loop-c g l = IsPlainFormatter l.initial.f → HasWritten g.W.Write.write_str_gives l.initial.f (map blank_for l.yielded) l.f

@@ -1,25 +1,25 @@
 use Rattle.std.proofs.Common.{◌≡◌, ℕ, List, length, false, refl, sym, ◌∙◌}
 use Rattle.std.specs.Prelude.{◌==◌}
 use Rattle.std.proofs.Output.{has_written_styled_append, has_written_styled_of_eq}
-use Rattle.std.proofs.lemmas.Str.{encodes-chars}
-use Rattle.humantime.specs.Durations.Messages.{unit_unknown, unit_message}
+use Rattle.humantime.specs.References.Durations.UnitMessages.{unit_unknown, message_of_unit}
+use Rattle.humantime.proofs.Durations.Bytes.UnitMessages.{unit_said}
 use Rattle.humantime.proofs.duration.error.write_unit.Goals as goal
 
 -- what is said of a unit that is there
-some_unit : (unit : List ℕ) (value : ℕ) → (length unit == 0) ≡ false → unit_unknown unit ≡ unit_message unit value
+some_unit : (unit : List ℕ) (value : ℕ) → (length unit == 0) ≡ false → unit_unknown unit ≡ message_of_unit unit value
 some_unit unit value some = rw some refl
 
 pub returns-then-is_empty-clause-characters : goal.returns-then-is_empty-clause-characters
-returns-then-is_empty-clause-characters g c = encodes-chars c.args.unit.now c.utf8.unit
+returns-then-is_empty-clause-characters g c = unit_said c.args.unit.now c.args.value c.utf8.unit
 
 pub returns-in_err-write_str-clause-characters : goal.returns-in_err-write_str-clause-characters
-returns-in_err-write_str-clause-characters g c = encodes-chars c.args.unit.now c.utf8.unit
+returns-in_err-write_str-clause-characters g c = unit_said c.args.unit.now c.args.value c.utf8.unit
 
 pub returns-in_err-write_str-2-clause-characters : goal.returns-in_err-write_str-2-clause-characters
-returns-in_err-write_str-2-clause-characters g c = encodes-chars c.args.unit.now c.utf8.unit
+returns-in_err-write_str-2-clause-characters g c = unit_said c.args.unit.now c.args.value c.utf8.unit
 
 pub returns-clause-characters : goal.returns-clause-characters
-returns-clause-characters g c = encodes-chars c.args.unit.now c.utf8.unit
+returns-clause-characters g c = unit_said c.args.unit.now c.args.value c.utf8.unit
 
 pub returns-clause-styled : goal.returns-clause-styled
 returns-clause-styled g c = λ flush ok.

@@ -1,4 +1,4 @@
-use Rattle.std.proofs.Common.{List, ℕ, ◌++◌, refl, ap}
+use Rattle.std.proofs.Common.{List, ℕ, true, ◌++◌, refl, ap}
 use Rattle.std.specs.Prelude.{codes}
 use Rattle.std.proofs.Output.{has_written_styled_append, has_written_styled_of_eq}
 use Rattle.humantime.proofs.duration.error.write_unit_needed.Goals as goal
@@ -9,10 +9,10 @@ needed digits = codes "time unit needed, for example " ++ digits ++ codes "sec o
 
 pub returns-clause-styled : goal.returns-clause-styled
 returns-clause-styled g c = λ flush ok.
-    let a = c.in_ok-write_str.ensures.styled flush refl in
-    let b = c.in_ok-write_str-2.ensures.styled a.flush refl in
-    let d = c.in_ok-write_str-3.ensures.styled b.flush refl in
-    let e = c.in_ok-write_str-4.ensures.styled d.flush refl in
+    let a = c.in_ok-write_str.ensures.styled flush (refl {a = true}) in
+    let b = c.in_ok-write_str-2.ensures.styled a.flush (refl {a = true}) in
+    let d = c.in_ok-write_str-3.ensures.styled b.flush (refl {a = true}) in
+    let e = c.in_ok-write_str-4.ensures.styled d.flush (refl {a = true}) in
     let f = c.write_str-5.ensures.styled e.flush ok in
     has_written_styled_of_eq _ _ _ _ _ (ap needed c.format-value.ensures.text)
     (has_written_styled_append _ _ _ _ _ _ (has_written_styled_append _ _ _ _ _ _ (has_written_styled_append _ _ _ _ _ _ (has_written_styled_append _ _ _ _ _ _ a b) d) e) f)
