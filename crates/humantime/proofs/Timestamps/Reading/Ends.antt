@@ -5,7 +5,7 @@ use Rattle.std.specs.Prelude.{true, false, ◌&&◌, ◌==◌, codes, nat_eq, na
 use Rattle.std.specs.List.{AllByRecursion, ends_with}
 use Rattle.std.specs.Str.{bytes_eq}
 use Rattle.std.proofs.lemmas.Bool.Decides.{nat_tests}
-use Rattle.humantime.specs.Timestamps.Fields.{Zone, No_zone, Letter_Z, Zero_offset, zone_text}
+use Rattle.humantime.specs.Timestamps.Fields.{Zone, zone_text}
 use Rattle.humantime.specs.Timestamps.Checks.{is_zone, ends_in_zone}
 use Rattle.humantime.specs.References.Timestamps.Reading.{zone_length}
 use Rattle.humantime.proofs.Timestamps.Reading.Bytes.{HoldsOfBytes}
@@ -59,9 +59,7 @@ offset_end xs z = grind (arith, common_steps, (sym (append_assoc xs (codes "+00:
 -- behind plain bytes the zone is found
 pub zone_length_of : (xs : List ℕ) (z : Zone) → AllByRecursion IsPlain xs → zone_length (xs ++ zone_text z) ≡ length (zone_text z)
 unfolding zone_length
-zone_length_of xs No_zone plain = grind (arith, common_steps)
-zone_length_of xs Letter_Z plain = grind (arith, common_steps)
-zone_length_of xs Zero_offset plain = grind (arith, common_steps, offset_end)
+zone_length_of xs z h = grind (arith, common_steps, common_steps, offset_end)
 
 -- ---- `+00:00` as two numbers
 
