@@ -52,12 +52,7 @@ counts_length : (ws ks : List ℕ) (ss : List Suffix) (m r : ℕ) → length ks 
 counts_length [] ks ss m r l h below small = omega arith
 counts_length (w ∷ ws) [] ss m r l h below small = absurd (omega arith)
 counts_length (w ∷ ws) (k ∷ ks) [] m r l h below small = omega arith
-counts_length (w ∷ ws) (k ∷ ks) (s ∷ ss) m r l h below small =
-    let q = r / w in
-    let short : q < 10 ^ k = div_below r w (10 ^ k) h.1 (omega (arith, h.2)) in
-    let rest = counts_length ws ks ss w (r % w) (omega arith) h.3 (mod_below r w h.1) small.1 in
-    let here : length (printed_count q s) + 1 ≤ k + suffix_length s + 1 = omega (arith, count_length q k s h.0 short small.0) in
-    omega (arith, counts_cons q (k + suffix_length s + 1) (divided ws (r % w)) s ss here)
+counts_length (w ∷ ws) (k ∷ ks) (s ∷ ss) m r l h below small = grind (arith, common_steps, (div_below r w (10 ^ k) h.1 (omega (arith, h.2))), (counts_length ws ks ss w (r % w) (omega arith) h.3 (mod_below r w h.1) small.1), count_length (r / w) k s h.0 (div_below r w (10 ^ k) h.1 (omega (arith, h.2))) small.0, counts_cons)
 
 sizes : List ℕ
 sizes = 12 ∷ 2 ∷ 2 ∷ 2 ∷ 2 ∷ 2 ∷ 3 ∷ 3 ∷ 3 ∷ []

@@ -1,6 +1,6 @@
 -- The digits of a fraction without the zeros at their end.
 use Rattle.std.proofs.lemmas.Grind.{common_steps}
-use Rattle.std.proofs.Common.{◌≡◌, ◌≤◌, ◌<◌, ◌+◌, ◌*◌, ◌/◌, ◌%◌, ◌^◌, ℕ, zero, suc, false, List, [], ◌∷◌, ◌++◌, length, refl, sym, ap, ap₂, ◌∙◌, inl, inr, arith, length-append, reverse}
+use Rattle.std.proofs.Common.{◌≡◌, ◌≤◌, ◌<◌, ◌+◌, ◌*◌, ◌/◌, ◌%◌, ◌^◌, ℕ, zero, suc, false, List, [], ◌∷◌, ◌++◌, length, refl, sym, ap, ◌∙◌, inl, inr, arith, length-append, reverse}
 use Rattle.std.specs.Prelude.{◌==◌, if◌then◌else◌}
 use Rattle.std.specs.Char.{digit_value}
 use Rattle.std.specs.Str.Parse.{digits_value_after}
@@ -106,11 +106,7 @@ value-append v (d ∷ ds) es = value-append (v * 10 + digit_value d) ds es
 
 pub value-zeros : (v k : ℕ) → digits_value_after 10 v (zeros k) ≡ v * 10 ^ k
 value-zeros v zero = omega arith
-value-zeros v (suc k) =
-    let more : 10 ^ suc k ≡ 10 ^ k * 10 = pow-suc 10 k in
-    let rest : digits_value_after 10 (v * 10) (zeros k) ≡ v * 10 * 10 ^ k = value-zeros (v * 10) k in
-    let none : v * 10 + digit_value 48 ≡ v * 10 = omega arith in
-    ap (λ (n : ℕ). digits_value_after 10 n (zeros k)) none ∙ rest ∙ mul_assoc v 10 (10 ^ k) ∙ ap (λ (n : ℕ). v * n) (mul_comm 10 (10 ^ k) ∙ sym more)
+value-zeros v (suc k) = grind (arith, common_steps, (pow-suc 10 k), (value-zeros (v * 10) k), mul_assoc, mul_comm)
 
 zeros_count : (ds : List ℕ) → length ds ≡ length (significant ds) + (significant_and_zeros ds).0
 zeros_count ds = grind (arith, common_steps, significant_and_zeros, length-append, length-zeros)
@@ -149,8 +145,4 @@ whole_part_kept f ds h =
     (omega (arith, less, product, h.0), divides (kept_value * f) (10 ^ length (significant ds)) s.by s.positive rest)
 
 pub amount_kept : (f : ℕ) (ds : List ℕ) → decimal_value ds * f / 10 ^ length ds ≡ decimal_value (significant ds) * f / 10 ^ length (significant ds)
-amount_kept f ds =
-    let s = shifted ds in
-    let kept_value = decimal_value (significant ds) in
-    let product : decimal_value ds * f ≡ kept_value * f * s.by = ap (λ (n : ℕ). n * f) s.value ∙ mul_right_comm kept_value s.by f in
-    ap₂ (λ (x y : ℕ). x / y) product s.power ∙ mul-div-mul_right (kept_value * f) (10 ^ length (significant ds)) s.positive
+amount_kept f ds = grind (arith, common_steps, (shifted ds), (ap (λ (n : ℕ). n * f) (shifted ds).value ∙ mul_right_comm (decimal_value (significant ds)) (shifted ds).by f), mul-div-mul_right)

@@ -1,6 +1,6 @@
 -- A text that shows parts passes the checks, and the parts at its places are these.
 use Rattle.std.proofs.lemmas.Grind.{common_steps}
-use Rattle.std.proofs.Common.{◌≡◌, ℕ, ◌+◌, ◌/◌, ◌%◌, ◌≤◌, List, [], ◌∷◌, ◌++◌, length, drop, refl, sym, ap, subst, arith}
+use Rattle.std.proofs.Common.{◌≡◌, ℕ, ◌+◌, ◌/◌, ◌%◌, ◌≤◌, List, [], ◌∷◌, ◌++◌, length, drop, refl, sym, subst, arith}
 use Rattle.std.specs.Prelude.{Bool, true, false, ◌==◌, slice_index, Option, Some, None, if◌then◌else◌}
 use Rattle.std.proofs.lemmas.Bool.{le-leb}
 use Rattle.humantime.specs.declared.calendar.Date.{Date}
@@ -34,17 +34,13 @@ pub past_back : (ds : List ℕ) (z : Zone) → AreDigits ds → past_digits (ds 
 past_back [] No_zone digits = refl
 past_back [] Letter_Z digits = refl
 past_back [] Zero_offset digits = refl
-past_back (c ∷ cs) z digits =
-    let digit = is_digit_from c digits.0 in
-    rw digit (past_back cs z digits.1)
+past_back (c ∷ cs) z digits = grind (arith, common_steps, (is_digit_from c digits.0), (past_back cs z digits.1))
 
 pub front_back : (ds : List ℕ) (z : Zone) → AreDigits ds → front_digits (ds ++ zone_text z) ≡ ds
 front_back [] No_zone digits = refl
 front_back [] Letter_Z digits = refl
 front_back [] Zero_offset digits = refl
-front_back (c ∷ cs) z digits =
-    let digit = is_digit_from c digits.0 in
-    rw digit (ap (λ (xs : List ℕ). c ∷ xs) (front_back cs z digits.1))
+front_back (c ∷ cs) z digits = grind (arith, common_steps, (is_digit_from c digits.0), (front_back cs z digits.1))
 
 zone_is : (z : Zone) → is_zone (zone_text z) ≡ true
 zone_is z = grind (arith, common_steps)
