@@ -1,6 +1,6 @@
 -- Reading a number digit by digit.
 use Rattle.std.proofs.lemmas.Grind.{common_steps}
-use Rattle.std.proofs.Common.{◌≡◌, ◌≤◌, ◌<◌, ◌+◌, ◌-◌, ◌*◌, ℕ, List, [], ◌∷◌, ap, sym, ◌∙◌, arith, Err, false, refl, Ok}
+use Rattle.std.proofs.Common.{◌≡◌, ◌≤◌, ◌<◌, ◌+◌, ◌-◌, ◌*◌, ℕ, List, [], ◌∷◌, ap, sym, ◌∙◌, arith, Err, false, Ok}
 use Rattle.std.specs.Char.{digit_value}
 use Rattle.std.specs.Str.Parse.{digits_value_after}
 use Rattle.humantime.specs.declared.duration.reading.class.Class.TheVariants.{Digit, Letter, White}
@@ -53,13 +53,6 @@ past_space c cs rest e d = rw (e, (is_ws-class c).0 d)
 -- what is numeric ends where neither a digit nor white space follows
 pub no_numeric : (rest : List ℕ) → begins is_digit rest ≡ false → begins is_ws rest ≡ false → begins is_numeric rest ≡ false
 no_numeric rest h k = grind (arith, common_steps)
-
-pub no_digits : (rest : List ℕ) → begins is_numeric rest ≡ false → digits (leading is_numeric rest) ≡ []
-no_digits [] e = refl
-no_digits (c ∷ cs) e = rw e refl
-
-pub rest_there : (rest : List ℕ) → begins is_numeric rest ≡ false → past is_numeric rest ≡ rest
-rest_there rest h = grind (arith, common_steps)
 
 pub number_end : (text rest : List ℕ) (v : ℕ) → IsAt text v rest → begins is_numeric rest ≡ false → Ok (v, rest) ≡ number_at text
 number_end text rest v h e = grind (arith, common_steps, common_steps)

@@ -87,6 +87,7 @@ mu_over text at u place some pair = elim (or_cases _ _ pair) [
   bytes : (a b x y : ℕ) → (a == x) ≡ true → (b == y) ≡ true → a ∷ b ∷ [] ≡ x ∷ y ∷ []
   bytes a b x y e d = rw (eqb-true a x e, eqb-true b y d) refl
 
+-- a character beyond ASCII that has other bytes is no letter
 pub no_mu : (text rest : List ℕ) (at c : ℕ) → at < length text → 128 ≤ c → drop at text ≡ encode_utf8 c ++ rest
     → (at + 1 < length text → is_mu_pair (get_or text at 0) (get_or text (at + 1) 0) ≡ false) → is_letter c ≡ false
 unfolding is_letter

@@ -1,6 +1,7 @@
 -- How long a printed text is, and how large its counts are.
-use Rattle.std.proofs.Common.{◌≡◌, ℕ, zero, suc, ◌+◌, ◌*◌, ◌/◌, ◌%◌, ◌^◌, ◌<◌, ◌≤◌, Bool, true, false, cond, List, [], ◌∷◌, ◌++◌, length, refl, sym, ap, subst, arith}
-use Rattle.std.specs.Prelude.{◌&&◌, codes, decimal, nat_lt, slice_index, ⊤}
+use Rattle.std.proofs.lemmas.Grind.{common_steps}
+use Rattle.std.proofs.Common.{◌≡◌, ℕ, ◌+◌, ◌*◌, ◌/◌, ◌%◌, ◌^◌, ◌<◌, ◌≤◌, Bool, cond, List, [], ◌∷◌, length, refl, sym, ap, subst, arith}
+use Rattle.std.specs.Prelude.{◌&&◌, codes, slice_index, ⊤}
 use Rattle.std.specs.List.{AllByRecursion, join_with_byte}
 use Rattle.std.proofs.lemmas.Nat.{div_below, mod_below}
 use Rattle.std.proofs.lemmas.List.{length-append}
@@ -37,73 +38,28 @@ join_length p [] = omega arith
 join_length p (q ∷ ps) = omega (arith, length-append p (32 ∷ join_with_byte 32 (q ∷ ps)), join_length q ps)
 
 plural_length : (p b : Bool) → length (cond (p && b) (codes "s") []) ≤ cond p 1 0
-plural_length true true = omega arith
-plural_length true false = omega arith
-plural_length false b = omega arith
+plural_length p b = grind (arith, common_steps)
 
 count_length : (n k : ℕ) (s : Suffix) → 0 < k → n < 10 ^ k → n < 2 ^ 64 → length (printed_count n s) ≤ k + suffix_length s
-count_length n k s some below fits =
-    omega (
-      arith,
-      length-append (decimal n ++ s.0) (cond (s.1 && nat_lt 1 n) (codes "s") []),
-      length-append (decimal n) s.0,
-      plural_length s.1 (nat_lt 1 n),
-      length-decimal-le k n some below fits,
-    )
+count_length n k s some below fits = grind (arith, common_steps, length-append, plural_length, length-decimal-le)
 
 counts_cons : (n x : ℕ) (ns : List ℕ) (s : Suffix) (ss : List Suffix) → length (printed_count n s) + 1 ≤ x
     → spaced_length (printed_counts (n ∷ ns) (s ∷ ss)) ≤ x + spaced_length (printed_counts ns ss)
-counts_cons zero x ns s ss h = omega arith
-counts_cons (suc n) x ns s ss h = omega arith
+counts_cons n x ns s ss h = grind (arith, common_steps)
 
 counts_length : (ws ks : List ℕ) (ss : List Suffix) (m r : ℕ) → length ks ≡ length ws → Sizes ws ks ss m → r < m → AllByRecursion IsCount (divided ws r)
     → spaced_length (printed_counts (divided ws r) ss) ≤ length_for ks ss
 counts_length [] ks ss m r l h below small = omega arith
 counts_length (w ∷ ws) [] ss m r l h below small = absurd (omega arith)
 counts_length (w ∷ ws) (k ∷ ks) [] m r l h below small = omega arith
-counts_length (w ∷ ws) (k ∷ ks) (s ∷ ss) m r l h below small =
-    let q = r / w in
-    let short : q < 10 ^ k = div_below r w (10 ^ k) h.1 (omega (arith, h.2)) in
-    let rest = counts_length ws ks ss w (r % w) (omega arith) h.3 (mod_below r w h.1) small.1 in
-    let here : length (printed_count q s) + 1 ≤ k + suffix_length s + 1 = omega (arith, count_length q k s h.0 short small.0) in
-    omega (arith, counts_cons q (k + suffix_length s + 1) (divided ws (r % w)) s ss here)
+counts_length (w ∷ ws) (k ∷ ks) (s ∷ ss) m r l h below small = grind (arith, common_steps, (div_below r w (10 ^ k) h.1 (omega (arith, h.2))), (counts_length ws ks ss w (r % w) (omega arith) h.3 (mod_below r w h.1) small.1), count_length (r / w) k s h.0 (div_below r w (10 ^ k) h.1 (omega (arith, h.2))) small.0, counts_cons)
 
 sizes : List ℕ
 sizes = 12 ∷ 2 ∷ 2 ∷ 2 ∷ 2 ∷ 2 ∷ 3 ∷ 3 ∷ 3 ∷ []
 
 sizes_hold : Sizes weights sizes suffixes most
 unfolding sizes
-sizes_hold = (
-  omega arith,
-  omega arith,
-  omega arith,
-  (
-    omega arith,
-    omega arith,
-    omega arith,
-    (
-      omega arith,
-      omega arith,
-      omega arith,
-      (
-        omega arith,
-        omega arith,
-        omega arith,
-        (
-          omega arith,
-          omega arith,
-          omega arith,
-          (
-            omega arith,
-            omega arith,
-            omega arith,
-            (omega arith, omega arith, omega arith, (omega arith, omega arith, omega arith, (omega arith, omega arith, omega arith, tt))),
-          ),
-        ),
-      ),
-    ),
-  ),
-)
+sizes_hold = grind (arith, common_steps)
 
 length_is : length_for sizes suffixes ≡ 65
 unfolding sizes
@@ -114,8 +70,7 @@ unfolding sizes
 as_many = refl
 
 joined_length : (ps : List (List ℕ)) → spaced_length ps ≤ 65 → length (joined_by_space ps) ≤ 64
-joined_length [] h = omega arith
-joined_length (p ∷ ps) h = omega (arith, join_length p ps)
+joined_length ps h = grind (arith, common_steps, join_length)
 
 pub canon_length : (d : ℕ) → d / nanos_per_second ≤ u64_max → (text : List ℕ) → Canon d text → length text ≤ 64
 unfolding duration_text

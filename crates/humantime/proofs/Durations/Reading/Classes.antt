@@ -4,8 +4,7 @@ use Rattle.std.proofs.Common.{◌≡◌, ◌≢◌, ◌≤◌, ◌⊎◌, ◌↔
 use Rattle.std.specs.Char.{is_whitespace, is_ascii_digit}
 use Rattle.std.proofs.lemmas.Bool.{or_left, or_right}
 use Rattle.std.proofs.lemmas.Bool.Decides.{nat_tests}
-use Rattle.humantime.specs.declared.duration.reading.class.Class.{Class}
-use Rattle.humantime.specs.declared.duration.reading.class.Class.TheVariants.{White, Digit, Letter, Point, Other}
+use Rattle.humantime.specs.declared.duration.reading.class.Class.TheVariants.{White, Digit, Letter, Other}
 use Rattle.humantime.specs.Durations.Characters.{white_spaces, is_ws, is_digit, is_letter, is_point, is_numeric}
 use Rattle.humantime.specs.References.Durations.Classes.{class_of}
 
@@ -69,26 +68,14 @@ is_point-true c e = grind (arith, nat_tests)
 
 -- ---- classes
 
--- the character passes the test of the class, if the class has one
-abbrev PassesTestOf : Class → ℕ → Type 0
-PassesTestOf White c = is_ws c ≡ true
-PassesTestOf Digit c = is_digit c ≡ true
-PassesTestOf Letter c = is_letter c ≡ true
-PassesTestOf Point c = is_point c ≡ true
-PassesTestOf Other c = Unit {0}
-
-passes_test : (c : ℕ) → PassesTestOf (class_of c) c
-unfolding class_of
-passes_test c = grind (arith, common_steps)
-
 -- a character passes a test exactly where it is of the test's class
 pub is_ws-class : (c : ℕ) → (class_of c ≡ White) ↔ (is_ws c ≡ true)
 unfolding class_of
-is_ws-class c = ((λ e. let passes = passes_test c in rw e at passes), (λ e. rw e refl))
+is_ws-class c = grind (arith, common_steps)
 
 pub is_digit-class : (c : ℕ) → (class_of c ≡ Digit) ↔ (is_digit c ≡ true)
 unfolding class_of
-is_digit-class c = ((λ e. let passes = passes_test c in rw e at passes), (λ e. rw (digit_not_space c e, e) refl))
+is_digit-class c = grind (arith, common_steps, digit_not_space)
 
 pub is_letter-class : (c : ℕ) → (class_of c ≡ Letter) ↔ (is_letter c ≡ true)
 unfolding class_of is_digit is_letter

@@ -1,6 +1,6 @@
 -- Printed texts stand in the order of their moments.
 use Rattle.std.proofs.lemmas.Grind.{common_steps}
-use Rattle.std.proofs.Common.{◌≡◌, ℕ, zero, suc, ◌+◌, ◌*◌, ◌<◌, ◌≤◌, List, [], ◌∷◌, ◌++◌, length, take, refl, sym, ap, ◌∙◌, arith}
+use Rattle.std.proofs.Common.{◌≡◌, ℕ, zero, suc, ◌+◌, ◌*◌, ◌<◌, ◌≤◌, List, [], ◌∷◌, ◌++◌, length, take, refl, ap, ◌∙◌, arith}
 use Rattle.std.specs.Prelude.{min, codes, Option, ℤ, pos}
 use Rattle.std.specs.declared.cmp.Ordering.{Ordering}
 use Rattle.std.specs.declared.cmp.Ordering.TheVariants.{Equal}
@@ -36,14 +36,6 @@ step_cmp m n x y c o less more same = grind (arith, nat_tests)
 
 below : (w m n x y : ℕ) → x < w → m < n → m * w + x < n * w + y
 below w m n x y h less = grind (arith, common_steps)
-
--- a number and what is counted below it, in units of which it has w
-mixed_cmp : (w m n x y : ℕ) (o : Ordering) → x < w → y < w
-    → ordering_then (nat_cmp m n) (ordering_then (nat_cmp x y) o) ≡ ordering_then (nat_cmp (m * w + x) (n * w + y)) o
-mixed_cmp w m n x y o hx hy =
-    step_cmp m n (m * w + x) (n * w + y) (ordering_then (nat_cmp x y) o) o (below w m n x y hx) (below w n m y x hy) (λ e.
-    let units : m * w ≡ n * w = ap (λ (k : ℕ). k * w) e in
-    ap (λ (c : Ordering). ordering_then c o) (cmp_alike x y (m * w + x) (n * w + y) ((λ h. omega arith), (λ h. omega arith), (λ h. omega arith))))
 
 two_cmp : (m n : ℕ) (xs ys : List ℕ)
     → slice_cmp nat_cmp (two_digits m ++ xs) (two_digits n ++ ys) ≡ ordering_then (nat_cmp m n) (slice_cmp nat_cmp xs ys)
@@ -128,15 +120,7 @@ pos_cmp m n = grind (arith, nat_tests)
 clock_cmp : (a h i s m b j k t n : ℕ) → h ≤ 23 → i ≤ 59 → s ≤ 59 → m < 1_000_000_000 → j ≤ 23 → k ≤ 59 → t ≤ 59 → n < 1_000_000_000
     → then_cmp a b (then_cmp h j (then_cmp i k (then_cmp s t (nat_cmp m n))))
     ≡ nat_cmp ((a * 86_400 + h * 3_600 + i * 60 + min s 59) * 1_000_000_000 + m) ((b * 86_400 + j * 3_600 + k * 60 + min t 59) * 1_000_000_000 + n)
-clock_cmp a h i s m b j k t n h23 i59 s59 m9 j23 k59 t59 n9 =
-    let hours = mixed_cmp 24 a b h j (then_cmp i k (then_cmp s t (nat_cmp m n))) (omega arith) (omega arith) in
-    let minutes = mixed_cmp 60 (a * 24 + h) (b * 24 + j) i k (then_cmp s t (nat_cmp m n)) (omega arith) (omega arith) in
-    let seconds = mixed_cmp 60 ((a * 24 + h) * 60 + i) ((b * 24 + j) * 60 + k) s t (nat_cmp m n) (omega arith) (omega arith) in
-    let left : (((a * 24 + h) * 60 + i) * 60 + s) ≡ a * 86_400 + h * 3_600 + i * 60 + min s 59 = omega arith in
-    let right : (((b * 24 + j) * 60 + k) * 60 + t) ≡ b * 86_400 + j * 3_600 + k * 60 + min t 59 = omega arith in
-    let last = mixed_cmp 1_000_000_000 (((a * 24 + h) * 60 + i) * 60 + s) (((b * 24 + j) * 60 + k) * 60 + t) m n Equal m9 n9 in
-    let nanos = ap (then_cmp (((a * 24 + h) * 60 + i) * 60 + s) (((b * 24 + j) * 60 + k) * 60 + t)) (sym (then_equal (nat_cmp m n))) ∙ (last ∙ then_equal _) in
-    rw (← left, ← right) (hours ∙ (minutes ∙ (seconds ∙ nanos)))
+clock_cmp a h i s m b j k t n h23 i59 s59 m9 j23 k59 t59 n9 = grind (arith, common_steps, then_equal, step_cmp, below, cmp_alike)
 
 pub printed_order : (a b : ℤ) → InOrder a b
 printed_order a b k x y small p q =

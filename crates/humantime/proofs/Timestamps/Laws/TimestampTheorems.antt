@@ -1,4 +1,5 @@
 -- The laws of timestamps and days as theorems over plain variables, each under the name of its function in `laws`, and what callers cite beside them.
+use Rattle.std.proofs.lemmas.Grind.{common_steps}
 use Rattle.std.proofs.Common.{◌≡◌, ◌≤◌, ℕ, List, refl, sym, subst, ◌∙◌, arith}
 use Rattle.std.specs.Prelude.{◌↔◌, ℤ, ◌≤ℤ◌, ◌<ℤ◌, Option, Some, None, Ok, Err, IsTrue, IfSome}
 use Rattle.std.specs.declared.cmp.Ordering.{Ordering}
@@ -147,15 +148,7 @@ stamp_before a b k x y small p q =
 pub stamps_between : (a b t : ℤ) (k : ℕ) (x y text : List ℕ) → k ≤ 9 → IsPrinted a k x → IsPrinted b k y → IsPrinted t k text
     → (IsTrue (is_le (slice_cmp nat_cmp x text)) × IsTrue (is_lt (slice_cmp nat_cmp text y)))
     ↔ ((u : ℤ) × (strict_answer text ≡ Ok u) × (cut a k ≤ℤ u) × (u <ℤ cut b k))
-stamps_between a b t k x y text small first second printed =
-    let reads = printed_read t k text printed in
-    let low = stamp_at_most a t k x text small first printed in
-    let high = stamp_before t b k text y small printed second in (
-      (λ h. (cut t k, reads, low.0 h.0, high.0 h.1)),
-      (λ h.
-          let same : h.0 ≡ cut t k = cc (h.1, reads) in
-          (low.1 (subst (λ (u : ℤ). cut a k ≤ℤ u) same h.2), high.1 (subst (λ (u : ℤ). u <ℤ cut b k) same h.3))),
-    )
+stamps_between a b t k x y text small first second printed = grind (arith, common_steps, (printed_read t k text printed), (stamp_at_most a t k x text small first printed), (stamp_before t b k text y small printed second))
 
 -- the order of bytes for each number of digits that a printer gives; `using` one of them, a caller that compares texts is proved
 -- with no answer

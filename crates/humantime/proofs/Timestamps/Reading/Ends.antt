@@ -1,16 +1,14 @@
 -- The zone at the end of a text.
 use Rattle.std.proofs.lemmas.Grind.{common_steps}
-use Rattle.std.proofs.Common.{◌≡◌, ◌≢◌, ℕ, ◌+◌, ◌-◌, ◌*◌, ◌<◌, ◌≤◌, List, [], ◌∷◌, ◌++◌, length, get_or, take, drop, sym, ap, ◌∙◌, append_assoc, Fits, w8, arith}
+use Rattle.std.proofs.Common.{◌≡◌, ◌≢◌, ℕ, ◌+◌, ◌-◌, ◌*◌, ◌<◌, ◌≤◌, List, [], ◌∷◌, ◌++◌, length, get_or, take, drop, sym, append_assoc, Fits, w8, arith}
 use Rattle.std.specs.Prelude.{true, false, ◌&&◌, ◌==◌, codes, nat_eq, nat_lt, slice_index}
 use Rattle.std.specs.List.{AllByRecursion, ends_with}
 use Rattle.std.specs.Str.{bytes_eq}
 use Rattle.std.proofs.lemmas.Bool.Decides.{nat_tests}
-use Rattle.humantime.specs.Timestamps.Fields.{Zone, No_zone, Letter_Z, Zero_offset, zone_text}
+use Rattle.humantime.specs.Timestamps.Fields.{Zone, zone_text}
 use Rattle.humantime.specs.Timestamps.Checks.{is_zone, ends_in_zone}
 use Rattle.humantime.specs.References.Timestamps.Reading.{zone_length}
 use Rattle.humantime.proofs.Timestamps.Reading.Bytes.{HoldsOfBytes}
-
--- ---- A text at the end of another
 
 -- ---- `Z` and `+00:00`
 
@@ -61,9 +59,7 @@ offset_end xs z = grind (arith, common_steps, (sym (append_assoc xs (codes "+00:
 -- behind plain bytes the zone is found
 pub zone_length_of : (xs : List ℕ) (z : Zone) → AllByRecursion IsPlain xs → zone_length (xs ++ zone_text z) ≡ length (zone_text z)
 unfolding zone_length
-zone_length_of xs No_zone plain = grind (arith, common_steps)
-zone_length_of xs Letter_Z plain = grind (arith, common_steps)
-zone_length_of xs Zero_offset plain = grind (arith, common_steps, offset_end)
+zone_length_of xs z h = grind (arith, common_steps, common_steps, offset_end)
 
 -- ---- `+00:00` as two numbers
 
@@ -83,9 +79,4 @@ two_tested a b n m ha hb e f = grind (arith, nat_tests)
 pub offset_told : (b : List ℕ) (n m : ℕ) → length b ≡ 6 → ((k : ℕ) → Fits w8 (get_or b k 0))
     → get_or b 0 0 + get_or b 1 0 * 256 + get_or b 2 0 * 65_536 + get_or b 3 0 * 16_777_216 ≡ 976_236_587
     → n ≡ get_or b 4 0 + get_or b 5 0 * 256 → m ≡ 12_336 → (n == m) ≡ bytes_eq b (codes "+00:00")
-offset_told b n m h fits front back known =
-    let p = four_are (get_or b 0 0) (get_or b 1 0) (get_or b 2 0) (get_or b 3 0) (fits 0).fits (fits 1).fits (fits 2).fits (fits 3).fits front in
-    let whole : b ≡ 43 ∷ 48 ∷ 48 ∷ 58 ∷ get_or b 4 0 ∷ get_or b 5 0 ∷ [] =
-    six b h ∙ (λ i. p.0 i ∷ p.1 i ∷ p.2 i ∷ p.3 i ∷ get_or b 4 0 ∷ get_or b 5 0 ∷ []) in
-    two_tested (get_or b 4 0) (get_or b 5 0) n m (fits 4).fits (fits 5).fits back known
-    ∙ sym (ap (λ (l : List ℕ). bytes_eq l (codes "+00:00")) whole)
+offset_told b n m h fits front back known = grind (arith, nat_tests, four_are, six, two_tested)

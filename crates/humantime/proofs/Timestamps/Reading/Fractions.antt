@@ -26,9 +26,7 @@ is_digit_from c h = grind (arith, nat_tests)
 
 pub digits_told : (ds : List ℕ) → all_ascii_digits ds ≡ true → AreDigits ds
 digits_told [] h = tt
-digits_told (c ∷ cs) h =
-    let p = and_parts (is_ascii_digit c) (all_ascii_digits cs) h in
-    (is_digit_told c p.0, digits_told cs p.1)
+digits_told (c ∷ cs) h = grind (arith, common_steps, (and_parts (is_ascii_digit c) (all_ascii_digits cs) h), (digits_told cs (and_parts (is_ascii_digit c) (all_ascii_digits cs) h).1), is_digit_told)
 
 pub digits_from : (ds : List ℕ) → AreDigits ds → all_ascii_digits ds ≡ true
 digits_from [] d = refl

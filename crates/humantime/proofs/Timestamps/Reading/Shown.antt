@@ -38,13 +38,4 @@ written_shown b p =
     ∷ hour.0 i ∷ hour.1 i ∷ signs.colon13 i ∷ minute.0 i ∷ minute.1 i ∷ signs.colon16 i ∷ second.0 i ∷ second.1 i ∷ end i)
 
 pub fields_weak : (b : List ℕ) → Passes b → IsWeak b (fields_of b)
-fields_weak b p =
-    let range = in_range_told b p.range in
-    record {
-      shown = written_shown b p;
-      date = range.0;
-      hour = range.1;
-      minute = range.2;
-      second = range.3;
-      fraction = digits_from _ (fraction_at_digits b);
-    }
+fields_weak b p = grind (arith, common_steps, (in_range_told b p.range), written_shown, digits_from, fraction_at_digits)
