@@ -19,6 +19,13 @@ tail_whole text rest t = sym (take-append-drop (length text - length rest) text)
 pub tail_of_tail : (text rest after : List ℕ) → IsTail text rest → IsTail rest after → IsTail text after
 tail_of_tail text rest after t r = grind (arith, common_steps)
 
+-- a tail behind two, and behind three others
+pub tail_behind_two : (text rest a b : List ℕ) → IsTail text rest → IsTail rest a → IsTail a b → IsTail text b
+tail_behind_two text rest a b t u v = tail_of_tail text a b (tail_of_tail text rest a t u) v
+
+pub tail_behind_three : (text rest a b c : List ℕ) → IsTail text rest → IsTail rest a → IsTail a b → IsTail b c → IsTail text c
+tail_behind_three text rest a b c t u v w = tail_of_tail text b c (tail_behind_two text rest a b t u v) w
+
 pub tail_boundary : (text rest : List ℕ) → IsTail text rest → IsCharBoundary text (length text - length rest)
 tail_boundary text rest t = grind (arith, common_steps, ap length (tail_whole text rest t), length-append (front_of text rest) rest, IsCharBoundary-at_seam)
 

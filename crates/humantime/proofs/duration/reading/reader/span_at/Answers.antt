@@ -3,7 +3,7 @@ use Rattle.std.proofs.lemmas.Grind.{common_steps}
 use Rattle.std.proofs.lemmas.Result.{err_from_is_err_and}
 use Rattle.humantime.proofs.Durations.Slices.Places.{overflow_points}
 use Rattle.humantime.proofs.Durations.Bytes.SpanExits.{exit_long}
-use Rattle.humantime.proofs.Durations.Bytes.Tails.{tail_of_tail}
+use Rattle.humantime.proofs.Durations.Bytes.Tails.{tail_behind_three}
 use Rattle.humantime.proofs.duration.reading.reader.span_at.Goals as goal
 
 pub returns-in_err-parts-clause-stop : goal.returns-in_err-parts-clause-stop
@@ -15,5 +15,4 @@ returns-in_err-parts-clause-place c = grind (arith, common_steps, err_from_is_er
 pub returns-clause-tail : goal.returns-clause-tail
 returns-clause-tail c =
     let parts = c.in_ok-parts.ensures.parts in
-    let behind = tail_of_tail c.args.text.now c.args.rest.now _ c.requires (tail_of_tail c.args.rest.now c.in_ok-parts.parts.after_number.now c.in_ok-parts.parts.after_fraction.now parts.number_tail parts.fraction_tail) in
-    tail_of_tail c.args.text.now c.in_ok-parts.parts.after_fraction.now c.in_ok-parts.parts.after_word.now behind parts.word_tail
+    tail_behind_three c.args.text.now c.args.rest.now _ _ c.in_ok-parts.parts.after_word.now c.requires parts.number_tail parts.fraction_tail parts.word_tail

@@ -4,7 +4,7 @@ use Rattle.humantime.specs.Durations.Faults.{Fault, InvalidCharacter}
 use Rattle.humantime.specs.References.Durations.Scales.{scale_of}
 use Rattle.humantime.proofs.Durations.Slices.Places.{some_bytes, rest_place, part_of_rests, bare_some, bad_some}
 use Rattle.humantime.proofs.Durations.Bytes.SpanExits.{exit_no_word, exit_bare, exit_after, exit_unit, exit_fine}
-use Rattle.humantime.proofs.Durations.Bytes.Tails.{tail_of_tail, no_bytes, some_chars}
+use Rattle.humantime.proofs.Durations.Bytes.Tails.{tail_of_tail, no_bytes, some_chars, tail_behind_two, tail_behind_three}
 use Rattle.humantime.proofs.duration.reading.reader.unit_at.Goals as goal
 
 pub returns-then-is_empty-clause-stop : goal.returns-then-is_empty-clause-stop
@@ -39,8 +39,8 @@ returns-in-None-clause-stop c =
 pub returns-in-None-clause-place : goal.returns-in-None-clause-place
 returns-in-None-clause-place c =
     let parts = c.requires.parts in
-    let behind = tail_of_tail c.args.text.now c.args.rest.now _ c.requires.tail (tail_of_tail c.args.rest.now c.args.parts.after_number.now c.args.parts.after_fraction.now parts.number_tail parts.fraction_tail) in
-    let next = tail_of_tail c.args.text.now c.args.parts.after_fraction.now c.args.parts.after_word.now behind parts.word_tail in
+    let behind = tail_behind_two c.args.text.now c.args.rest.now _ c.args.parts.after_fraction.now c.requires.tail parts.number_tail parts.fraction_tail in
+    let next = tail_behind_three c.args.text.now c.args.rest.now _ _ c.args.parts.after_word.now c.requires.tail parts.number_tail parts.fraction_tail parts.word_tail in
     part_of_rests c.args.text.now c.args.parts.after_fraction.now c.args.parts.word.letters.now c.args.parts.after_word.now _ _
     c.utf8.text behind next parts.word_whole c.offset_of.ensures.value c.offset_of-in-None.ensures.value
 
@@ -57,8 +57,7 @@ returns-then-is_bare-clause-place c =
 pub returns-then-not-ends_span-clause-place : goal.returns-then-not-ends_span-clause-place
 returns-then-not-ends_span-clause-place c =
     let parts = c.requires.parts in
-    let behind = tail_of_tail c.args.text.now c.args.rest.now _ c.requires.tail (tail_of_tail c.args.rest.now c.args.parts.after_number.now c.args.parts.after_fraction.now parts.number_tail parts.fraction_tail) in
-    let next = tail_of_tail c.args.text.now c.args.parts.after_fraction.now c.args.parts.after_word.now behind parts.word_tail in
+    let next = tail_behind_three c.args.text.now c.args.rest.now _ _ c.args.parts.after_word.now c.requires.tail parts.number_tail parts.fraction_tail parts.word_tail in
     rest_place c.args.text.now c.args.parts.after_word.now _ next c.offset_of-next.ensures.bytes
     (some_bytes c.args.parts.after_word.now (bad_some _ (sym c.ends_span.ensures ∙ c.if-not-ends_span.true)))
 
@@ -75,5 +74,4 @@ without_word-requires-clause-after c = tail_of_tail c.args.text.now c.args.rest.
 pub without_word-requires-clause-next : goal.without_word-requires-clause-next
 without_word-requires-clause-next c =
     let parts = c.requires.parts in
-    let behind = tail_of_tail c.args.text.now c.args.rest.now _ c.requires.tail (tail_of_tail c.args.rest.now c.args.parts.after_number.now c.args.parts.after_fraction.now parts.number_tail parts.fraction_tail) in
-    tail_of_tail c.args.text.now c.args.parts.after_fraction.now c.args.parts.after_word.now behind parts.word_tail
+    tail_behind_three c.args.text.now c.args.rest.now _ _ c.args.parts.after_word.now c.requires.tail parts.number_tail parts.fraction_tail parts.word_tail
