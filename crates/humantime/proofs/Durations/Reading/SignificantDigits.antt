@@ -1,6 +1,5 @@
 -- The digits of a fraction without the zeros at their end.
-use Rattle.std.proofs.lemmas.Grind.{common_steps}
-use Rattle.std.proofs.Common.{◌≡◌, ◌≤◌, ◌<◌, ◌+◌, ◌*◌, ◌/◌, ◌%◌, ◌^◌, ℕ, zero, suc, false, List, [], ◌∷◌, ◌++◌, length, refl, sym, ap, ◌∙◌, inl, inr, arith, length-append, reverse}
+use Rattle.std.proofs.Common.{◌≡◌, ◌≤◌, ◌<◌, ◌+◌, ◌*◌, ◌/◌, ◌%◌, ◌^◌, ℕ, zero, suc, false, List, [], ◌∷◌, ◌++◌, length, refl, sym, ap, ap₂, ◌∙◌, inl, inr, arith, length-append, reverse}
 use Rattle.std.specs.Prelude.{◌==◌, if◌then◌else◌}
 use Rattle.std.specs.Char.{digit_value}
 use Rattle.std.specs.Str.Parse.{digits_value_after}
@@ -27,7 +26,8 @@ kept d [] = if d == 48 then [] else d ∷ []
 kept d (e ∷ es) = d ∷ e ∷ es
 
 kept_last : (c d : ℕ) (ds : List ℕ) → kept c (ds ++ d ∷ []) ≡ c ∷ ds ++ d ∷ []
-kept_last c d ds = grind (arith, common_steps)
+kept_last c d [] = refl
+kept_last c d (e ∷ es) = refl
 
 kept_before : (d : ℕ) (es : List ℕ) → reverse (past (λ c. c == 48) (es ++ d ∷ [])) ≡ kept d (reverse (past (λ c. c == 48) es))
 kept_before d [] = elim (cases_Bool (d == 48)) [ inl e ↦ rw e refl | inr e ↦ rw e refl ]
@@ -57,7 +57,8 @@ significant-zeros_behind (d ∷ ds) n =
     significant-cons d (ds ++ zeros n) ∙ ap (kept d) (significant-zeros_behind ds n) ∙ sym (significant-cons d ds)
 
 kept_shorter : (d : ℕ) (ds : List ℕ) → length (kept d ds) ≤ suc (length ds)
-kept_shorter d ds = grind (arith, common_steps)
+kept_shorter d [] = elim (cases_Bool (d == 48)) [ inl e ↦ rw e (omega arith) | inr e ↦ rw e (omega arith) ]
+kept_shorter d (e ∷ es) = omega arith
 
 pub significant_shorter : (ds : List ℕ) → length (significant ds) ≤ length ds
 unfolding significant
@@ -65,10 +66,12 @@ significant_shorter [] = omega arith
 significant_shorter (d ∷ ds) = omega (arith, ap length (significant-cons d ds), kept_shorter d (significant ds), significant_shorter ds)
 
 kept_some : (d : ℕ) (ds : List ℕ) → (d == 48) ≡ false → 0 < length (kept d ds)
-kept_some d ds h = grind (arith, common_steps)
+kept_some d [] e = rw e (omega arith)
+kept_some d (c ∷ ds) e = omega arith
 
 kept_more : (d n : ℕ) (ds : List ℕ) → n < length ds → suc n < length (kept d ds)
-kept_more d n ds h = grind (arith, common_steps)
+kept_more d n [] h = absurd (omega (arith, h))
+kept_more d n (c ∷ ds) h = omega (arith, h)
 
 -- digits before one that is no zero are kept
 pub significant_long : (ds es : List ℕ) (d : ℕ) → (d == 48) ≡ false → length ds < length (significant (ds ++ d ∷ es))
@@ -77,7 +80,8 @@ significant_long (c ∷ ds) es d e = rw (significant-cons c (ds ++ d ∷ es)) (k
 
 pub significant_last : (ds : List ℕ) (d : ℕ) → (d == 48) ≡ false → significant (ds ++ d ∷ []) ≡ ds ++ d ∷ []
 unfolding significant
-significant_last ds d h = grind (arith, common_steps)
+significant_last [] d e = rw e refl
+significant_last (c ∷ ds) d e = significant-cons c (ds ++ d ∷ []) ∙ ap (kept c) (significant_last ds d e) ∙ kept_last c d ds
 
 -- ---- what zeros at the end change: nothing but a power of ten
 
@@ -106,13 +110,21 @@ value-append v (d ∷ ds) es = value-append (v * 10 + digit_value d) ds es
 
 pub value-zeros : (v k : ℕ) → digits_value_after 10 v (zeros k) ≡ v * 10 ^ k
 value-zeros v zero = omega arith
-value-zeros v (suc k) = grind (arith, common_steps, (pow-suc 10 k), (value-zeros (v * 10) k), mul_assoc, mul_comm)
+value-zeros v (suc k) =
+    let more : 10 ^ suc k ≡ 10 ^ k * 10 = pow-suc 10 k in
+    let rest : digits_value_after 10 (v * 10) (zeros k) ≡ v * 10 * 10 ^ k = value-zeros (v * 10) k in
+    let none : v * 10 + digit_value 48 ≡ v * 10 = omega arith in
+    ap (λ (n : ℕ). digits_value_after 10 n (zeros k)) none ∙ rest ∙ mul_assoc v 10 (10 ^ k) ∙ ap (λ (n : ℕ). v * n) (mul_comm 10 (10 ^ k) ∙ sym more)
 
 zeros_count : (ds : List ℕ) → length ds ≡ length (significant ds) + (significant_and_zeros ds).0
-zeros_count ds = grind (arith, common_steps, significant_and_zeros, length-append, length-zeros)
+zeros_count ds =
+    let whole = significant_and_zeros ds in
+    ap length whole.1 ∙ length-append (significant ds) (zeros whole.0) ∙ ap (λ (n : ℕ). length (significant ds) + n) (length-zeros whole.0)
 
 zeros_value : (ds : List ℕ) → decimal_value ds ≡ decimal_value (significant ds) * 10 ^ (significant_and_zeros ds).0
-zeros_value ds = grind (arith, common_steps, significant_and_zeros, value-append, value-zeros)
+zeros_value ds =
+    let whole = significant_and_zeros ds in
+    ap decimal_value whole.1 ∙ value-append 0 (significant ds) (zeros whole.0) ∙ value-zeros (decimal_value (significant ds)) whole.0
 
 -- Digits with zeros at their end are the digits before these, and a power of ten.
 pub record IsShifted (ds : List ℕ) : Type 0 where
@@ -132,7 +144,12 @@ shifted ds =
     }
 
 divides : (x y c : ℕ) → 0 < c → x * c % (y * c) ≡ 0 → x % y ≡ 0
-divides x y c some e = grind (arith, common_steps, div-mul_cancel, dvd_of_mod-eq-zero, mul-div-mul_right, mul_assoc, le_of_mul-le-mul_right, mod-eq-sub-div-mul)
+divides x y c some e =
+    let whole : x * c / (y * c) * (y * c) ≡ x * c = div-mul_cancel (y * c) (dvd_of_mod-eq-zero (y * c) e) in
+    let part : x * c / (y * c) ≡ x / y = mul-div-mul_right x y some in
+    let both : x / y * y * c ≡ x * c = mul_assoc (x / y) y c ∙ ap (λ (n : ℕ). n * (y * c)) (sym part) ∙ whole in
+    let most : x ≤ x / y * y = le_of_mul-le-mul_right {k = c} (omega (arith, both)) some in
+    omega (arith, mod-eq-sub-div-mul x y, most)
 
 -- a whole part stays one, of the same amount
 pub whole_part_kept : (f : ℕ) (ds : List ℕ) → IsWholePart f ds → IsWholePart f (significant ds)
@@ -145,4 +162,8 @@ whole_part_kept f ds h =
     (omega (arith, less, product, h.0), divides (kept_value * f) (10 ^ length (significant ds)) s.by s.positive rest)
 
 pub amount_kept : (f : ℕ) (ds : List ℕ) → decimal_value ds * f / 10 ^ length ds ≡ decimal_value (significant ds) * f / 10 ^ length (significant ds)
-amount_kept f ds = grind (arith, common_steps, (shifted ds), (ap (λ (n : ℕ). n * f) (shifted ds).value ∙ mul_right_comm (decimal_value (significant ds)) (shifted ds).by f), mul-div-mul_right)
+amount_kept f ds =
+    let s = shifted ds in
+    let kept_value = decimal_value (significant ds) in
+    let product : decimal_value ds * f ≡ kept_value * f * s.by = ap (λ (n : ℕ). n * f) s.value ∙ mul_right_comm kept_value s.by f in
+    ap₂ (λ (x y : ℕ). x / y) product s.power ∙ mul-div-mul_right (kept_value * f) (10 ^ length (significant ds)) s.positive

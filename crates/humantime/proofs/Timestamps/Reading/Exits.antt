@@ -1,22 +1,21 @@
 -- What each way out of the weak parser answers.
-use Rattle.std.proofs.Common.{◌≡◌, ◌≢◌, ℕ, suc, ◌+◌, ◌-◌, ◌*◌, ◌<◌, ◌≤◌, List, [], ◌∷◌, ◌++◌, length, get_or, take, drop, append-nil, length-append, refl, sym, ap, subst, ◌∙◌, arith}
-use Rattle.std.specs.Prelude.{Bool, true, false, ◌&&◌, ℤ, pos, Some, None, Result, Ok, Err, slice_index, slice_range, if◌then◌else◌}
-use Rattle.std.proofs.lemmas.Grind.{common_steps}
+use Rattle.std.proofs.Common.{◌≡◌, ◌≢◌, ℕ, suc, ◌+◌, ◌-◌, ◌*◌, ◌<◌, ◌≤◌, List, [], ◌∷◌, ◌++◌, length, get_or, take, drop, append-nil, length-append, refl, sym, ap, subst, ◌∙◌, arith, nat_le}
+use Rattle.std.specs.Prelude.{Bool, true, false, ◌&&◌, ◌==◌, ℤ, pos, Some, None, Result, Ok, Err, slice_index, slice_range, if◌then◌else◌}
 use Rattle.std.specs.List.{AllByRecursion}
 use Rattle.std.proofs.Math.Seq.{drop-cons}
 use Rattle.std.proofs.lemmas.Bool.{le-leb, lt-leb, eqb-true}
-use Rattle.std.proofs.lemmas.List.{drop-drop, get_or-drop, take_at}
+use Rattle.std.proofs.lemmas.List.{drop-drop, get_or-drop, take_at, take_rest}
 use Rattle.std.proofs.lemmas.List.Folds.{drop_split}
 use Rattle.humantime.specs.declared.date.error.TimestampError.{TimestampError}
 use Rattle.humantime.specs.declared.date.error.TimestampError.TheVariants.{OutOfRange, InvalidDigit, InvalidFormat}
 use Rattle.humantime.specs.References.Timestamps.Reading.{AreDigits, fraction_digits, past_digits, has_separator, shape_error, zone_length, zone_of, front_digits, fields_of, end_answer, moment_or_error, weak_answer}
-use Rattle.humantime.specs.Timestamps.Fields.{No_zone, zone_text, fraction_nanos, seconds_of}
-use Rattle.humantime.specs.Timestamps.Checks.{is_zone, has_signs, has_digits, in_range, has_point, ends_without_point, ends_after_point}
+use Rattle.humantime.specs.Timestamps.Fields.{No_zone, zone_text, fraction_nanos, seconds_of, moment_of}
+use Rattle.humantime.specs.Timestamps.Checks.{is_zone, has_signs, has_digits, in_range, has_point, ends_without_point, ends_after_point, first_failed}
 use Rattle.humantime.proofs.Timestamps.Reading.Bytes.{digits_hold}
 use Rattle.humantime.proofs.Timestamps.Reading.Checks.{zone_shown}
 use Rattle.humantime.proofs.Timestamps.Reading.Ends.{IsPlain, plain_bytes, zone_behind, zone_length_of}
 use Rattle.humantime.proofs.Timestamps.Reading.Fractions.{nanos_none, front_are_digits, front_past, all_digits}
-use Rattle.humantime.proofs.Timestamps.Reading.Passed.{begins_point, past_back, front_back}
+use Rattle.humantime.proofs.Timestamps.Reading.Passed.{begins_point, no_point, past_back, front_back}
 
 -- date and time are right
 pub record Begins (b : List ℕ) : Type 0 where
@@ -26,19 +25,36 @@ pub record Begins (b : List ℕ) : Type 0 where
   pub range : in_range b ≡ true
 
 pub false_from : (t : Bool) → (t ≡ true → false ≡ true) → t ≡ false
-false_from t h = grind (arith, common_steps)
+false_from true h = sym (h refl)
+false_from false h = refl
+
+separator_first : (b : List ℕ) → has_separator b ≡ false → has_signs b ≡ false
+unfolding has_separator has_signs
+separator_first b other = rw other (joined ((slice_index b 4 == 45) && (slice_index b 7 == 45)) (slice_index b 13 == 58) (slice_index b 16 == 58)) where
+  joined : (t u v : Bool) → (t && false && u && v) ≡ false
+  joined true u v = refl
+  joined false u v = refl
 
 pub exit_short : (b : List ℕ) → length b < 19 → Err InvalidFormat ≡ weak_answer b
 unfolding weak_answer
 exit_short b short = rw (lt-leb 19 (length b) short) refl
 
 pub exit_separator : (b : List ℕ) → has_separator b ≡ false → Err InvalidFormat ≡ weak_answer b
-unfolding has_separator has_signs weak_answer
-exit_separator b other = grind (arith, common_steps)
+unfolding weak_answer
+exit_separator b other = rw (separator_first b other) (by_test (nat_le 19 (length b))) where
+  by_test : (t : Bool) → Err InvalidFormat ≡ moment_or_error (if t then Some InvalidFormat else Some InvalidFormat) (moment_of (fields_of b))
+  by_test true = refl
+  by_test false = refl
 
 pub exit_shape : (b : List ℕ) (e : TimestampError) → 19 ≤ length b → (has_signs b && has_digits b) ≡ false → e ≡ shape_error b → Err e ≡ weak_answer b
 unfolding weak_answer
-exit_shape b e long other is = grind (arith, common_steps)
+exit_shape b e long other is = ap Err is ∙ rw (le-leb 19 (length b) long) (by_tests (has_signs b) (has_digits b) other) where
+  by_tests : (t u : Bool) → (t && u) ≡ false
+      → Err (if t then InvalidDigit else InvalidFormat)
+      ≡ moment_or_error (if t then (if u then first_failed ((in_range b, OutOfRange) ∷ (ends_without_point b, InvalidFormat) ∷ (ends_after_point b, InvalidDigit) ∷ []) else Some InvalidDigit) else Some InvalidFormat) (moment_of (fields_of b))
+  by_tests true true h = absurd (let no : ⊥ = cc in no)
+  by_tests true false h = refl
+  by_tests false u h = refl
 
 pub exit_range : (b : List ℕ) → 19 ≤ length b → has_signs b ≡ true → has_digits b ≡ true → in_range b ≡ false → Err OutOfRange ≡ weak_answer b
 unfolding weak_answer
@@ -71,15 +87,28 @@ rest_of b = take (length b - 19) (drop 19 b)
 
 pub exit_err : (b : List ℕ) (e : TimestampError) → Begins b → end_answer (rest_of b) ≡ Err e → Err e ≡ weak_answer b
 unfolding with_seconds
-exit_err b e h end = grind (arith, common_steps, begun)
+exit_err b e h end =
+    let told = rw (take_rest b 19) at end in
+    sym (begun b h ∙ ap (with_seconds (seconds_of (fields_of b))) told)
 
 pub exit_ok : (b : List ℕ) (secs nanos : ℕ) (t : ℤ) → Begins b → secs ≡ seconds_of (fields_of b) → end_answer (rest_of b) ≡ Ok nanos
     → t ≡ pos (secs * 1_000_000_000 + nanos) → Ok t ≡ weak_answer b
 unfolding with_seconds
-exit_ok b secs nanos t h seconds end moment = grind (arith, common_steps, begun)
+exit_ok b secs nanos t h seconds end moment =
+    let told = rw (take_rest b 19) at end in
+    sym (begun b h ∙ (λ i. with_seconds (sym seconds i) (told i)) ∙ ap Ok (sym moment))
+
+-- the ways out of the end
+is_end : (r : List ℕ) → is_zone r ≡ true → Ok 0 ≡ end_answer r
+is_end r zone =
+    let shown = zone_shown r zone in
+    let none : begins_point r ≡ false = ap begins_point shown ∙ no_point (zone_of r) in
+    rw (none, zone) refl
 
 pub exit_plain : (r : List ℕ) → length r - zone_length r ≡ 0 → Ok 0 ≡ end_answer r
-exit_plain r none = grind (arith, common_steps, (subst (λ (n : ℕ). is_zone (drop n r) ≡ true) none (zone_behind r)))
+exit_plain r none =
+    let zone : is_zone (drop 0 r) ≡ true = subst (λ (n : ℕ). is_zone (drop n r) ≡ true) none (zone_behind r) in
+    is_end r zone
 
 abbrev whole : Bool → Result ℕ TimestampError
 whole t = if t then Ok 0 else Err InvalidFormat
