@@ -3,7 +3,6 @@
 #![tactic(auto)]
 
 pub mod callers;
-pub mod promises;
 #[cfg(test)]
 mod tests;
 pub mod witnesses;
