@@ -1,0 +1,18 @@
+//! Public calls under their own promises: durations read.
+//!
+//! Each function is one call, and its contract follows from that of the call. So what this contract rules out, the
+//! library's own does: `must-fail/` puts a wrong body in the place of each call.
+#![tactic(auto)]
+
+ghost use Rattle.std.specs.Prelude.{◌≡◌, ◌↔◌, ℕ, chars, Ok, Err};
+ghost use Rattle.humantime.specs.Prelude.{Accepted, HasFault, Fault, told};
+
+use humantime::{DurationError, StdDuration};
+
+/// The value of a text, or its first fault.
+pub fn parse_duration(s: &str) -> Result<StdDuration, DurationError<'_>>
+    ensures value { (v : ℕ) → (told result ≡ Ok v) ↔ Accepted (chars s.now) v }
+    ensures fault { (e : Fault) → (told result ≡ Err e) ↔ HasFault (chars s.now) e }
+{
+    humantime::parse_duration(s)
+}

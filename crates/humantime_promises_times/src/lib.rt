@@ -1,0 +1,34 @@
+//! Public calls under their own promises: timestamps and days.
+//!
+//! Each function is one call, and its contract follows from that of the call. So what this contract rules out, the
+//! library's own does: `must-fail/` puts a wrong body in the place of each call.
+#![tactic(auto)]
+
+ghost use Rattle.std.specs.Prelude.{◌≡◌, ◌↔◌, ℤ, Ok, Err, IfSome, IsSome, Some};
+ghost use Rattle.humantime.specs.Prelude.{IsDate, IsPrinted, IsStrictMoment, day_of, first_failed, strict_checks};
+ghost use Rattle.humantime.specs.declared.TimestampError.{TimestampError};
+
+use humantime::{Date, SystemTime, TimestampError, Turns};
+
+/// The moment that a text in the strict form shows, or what the first of its checks answers that fails.
+pub fn parse_rfc3339(s: &str) -> Result<SystemTime, TimestampError>
+    ensures value { (t : ℤ) → (result ≡ Ok t) ↔ IsStrictMoment s.now t }
+    ensures error { (e : TimestampError) → (result ≡ Err e) ↔ (first_failed (strict_checks s.now) ≡ Some e) }
+{
+    humantime::parse_rfc3339(s)
+}
+
+/// The text of a moment with three digits after the second, where it has one.
+pub fn millis_text(moment: SystemTime, buf: &mut [u8; 30]) -> Option<&str>
+    ensures { IfSome result (λ text. IsPrinted moment 3 text.now) }
+{
+    humantime::format_rfc3339_millis(moment).text(buf)
+}
+
+/// The number of days from 1970-01-01 to a date, or `None` where no such date exists in 1970 to 9999.
+pub fn day_number(date: Date, turns: &mut Turns) -> Option<u32>
+    ensures valid { IsSome result ↔ IsDate date }
+    ensures day { IfSome result (λ n. n ≡ day_of date) }
+{
+    humantime::day_number(date, turns)
+}
