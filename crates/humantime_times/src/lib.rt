@@ -1,5 +1,5 @@
-//! Tests above the library, and nothing else: timestamps read and printed, and the calendar. What is expected comes from
-//! the crate's tests, from RFC 3339 and from counting, never from what the library answers.
+//! Above the library: tests of timestamps read and printed, and of the calendar, and public calls under promises of their
+//! own. What tests expect comes from the crate's tests, from RFC 3339 and from counting, never from what the library answers.
 #![tactic(auto)]
 
 #[cfg(test)]
@@ -8,6 +8,7 @@ mod calendar;
 mod counted_calendar;
 #[cfg(test)]
 mod plain_calendar;
+pub mod promises;
 #[cfg(test)]
 mod support;
 #[cfg(test)]

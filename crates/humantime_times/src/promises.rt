@@ -1,8 +1,7 @@
-//! Public calls under their own promises: timestamps and days.
+//! Public calls under their own promises.
 //!
 //! Each function is one call, and its contract follows from that of the call. So what this contract rules out, the
 //! library's own does: `must-fail/` puts a wrong body in the place of each call.
-#![tactic(auto)]
 
 ghost use Rattle.std.specs.Prelude.{◌≡◌, ◌↔◌, ℤ, Ok, Err, IfSome, IsSome, Some};
 ghost use Rattle.humantime.specs.Prelude.{IsDate, IsPrinted, IsStrictMoment, day_of, first_failed, strict_checks};

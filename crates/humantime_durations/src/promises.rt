@@ -1,11 +1,10 @@
-//! Public calls under their own promises: durations added and printed.
+//! Public calls under their own promises.
 //!
 //! Each function is one call, and its contract follows from that of the call. So what this contract rules out, the
 //! library's own does: `must-fail/` puts a wrong body in the place of each call.
-#![tactic(auto)]
 
 ghost use Rattle.std.specs.Prelude.{◌≡◌, ◌+◌, ◌<◌, ◌↔◌, ℕ, List, chars, Ok, Err, IfSome, IsSome};
-ghost use Rattle.humantime.specs.Prelude.{Canon, HasFault, Fault, IsCanonicalOf, duration_end, told_text};
+ghost use Rattle.humantime.specs.Prelude.{Accepted, Canon, HasFault, Fault, IsCanonicalOf, duration_end, told, told_text};
 
 use humantime::{DurationError, StdDuration};
 
@@ -15,6 +14,14 @@ pub fn checked_add(a: StdDuration, b: StdDuration) -> Option<StdDuration>
     ensures sum { IfSome result (λ d. d ≡ a + b) }
 {
     a.checked_add(b)
+}
+
+/// The value of a text, or its first fault.
+pub fn parse_duration(s: &str) -> Result<StdDuration, DurationError<'_>>
+    ensures value { (v : ℕ) → (told result ≡ Ok v) ↔ Accepted (chars s.now) v }
+    ensures fault { (e : Fault) → (told result ≡ Err e) ↔ HasFault (chars s.now) e }
+{
+    humantime::parse_duration(s)
 }
 
 /// The canonical text of a duration.
