@@ -18,15 +18,31 @@ static EXACT: [(&str, Result<(u64, u32), Fault>); 9] = [
         Err(Fault::NumberOverflow),
     ),
     ("1s\0", Err(Fault::InvalidCharacter(2))),
-    ("2", Err(no_unit(1, 1, 2))),
-    ("2h 3", Err(no_unit(4, 4, 3))),
-    ("2h 37mi", Err(no_unit(5, 7, 37))),
+    (
+        "2",
+        Err(Fault::UnknownUnit {
+            start: 1,
+            end: 1,
+            value: 2,
+        }),
+    ),
+    (
+        "2h 3",
+        Err(Fault::UnknownUnit {
+            start: 4,
+            end: 4,
+            value: 3,
+        }),
+    ),
+    (
+        "2h 37mi",
+        Err(Fault::UnknownUnit {
+            start: 5,
+            end: 7,
+            value: 37,
+        }),
+    ),
 ];
-
-/// The fault of a word that is no unit's.
-const fn no_unit(start: usize, end: usize, value: u64) -> Fault {
-    Fault::UnknownUnit { start, end, value }
-}
 
 /// Twelve seconds, with each character that is white space before, between and behind the characters.
 static SPACED: [&str; 25] = [
