@@ -43,11 +43,7 @@ fn answer(text: &str) -> Answer<'_> {
 fn assert_rows(rt: &impl Abort, alloc: Global, rows: &[Row]) -> Result<(), Fail> {
     for (front, piece, count, end, wanted) in rows {
         let text = repeated(alloc, front, piece, *count, end)?;
-        assert_eq!(rt;
-            answer(text.as_str()),
-            *wanted,
-            "at {front}, {piece} {count} times, {end}"
-        );
+        assert_eq!(rt; answer(text.as_str()), *wanted, "at {front}{piece}..{end}");
     }
     Ok(())
 }

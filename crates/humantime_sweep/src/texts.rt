@@ -52,7 +52,7 @@ pub(crate) static WORKED: [&str; 48] = [
     "1.5foo",
 ];
 
-/// Texts of the Rust crate's tests.
+/// Texts of the Rust crate's tests, texts as they are printed, and what they are printed from.
 pub(crate) static CARRIED: [&str; 131] = [
     // Numbers with each word.
     "17nsec",
