@@ -35,8 +35,10 @@ fn repeated(
 
 /// The seconds and nanoseconds of what the text is read as, or the error.
 fn answer(text: &str) -> Answer<'_> {
-    let duration = parse_duration(text)?;
-    Ok((duration.as_secs(), duration.subsec_nanos()))
+    match parse_duration(text) {
+        Ok(duration) => Ok((duration.as_secs(), duration.subsec_nanos())),
+        Err(error) => Err(error),
+    }
 }
 
 /// The text of each row is read as the row says.
