@@ -64,7 +64,9 @@ pub(crate) fn read(text: &[char]) -> Result<(u64, u32), Fault> {
             total = sum;
         }
     }
-    let secs = u64::try_from(total / SECOND).map_err(|_| Fault::NumberOverflow)?;
+    let secs = u64::try_from(total / SECOND)
+        .ok()
+        .ok_or(Fault::NumberOverflow)?;
     Ok((secs, (total % SECOND) as u32))
 }
 
@@ -78,25 +80,9 @@ fn read_span(text: &[char], start: usize, total: u128) -> Result<(usize, u128), 
     let behind = point.saturating_add(usize::from(has_point));
     let word = end_of(text, behind, &[Kind::Digit, Kind::Space]);
     let end = end_of(text, word, &[Kind::Letter]);
-    let next = kind_at(text, end);
-    // A number that is too large, or a fraction with a 20th digit before the zeros at its end.
-    let (value, _) = digits(text, start, point).ok_or(Fault::NumberOverflow)?;
-    let last = without_zeros(text, point, word);
-    let (fraction, places) = digits(text, point, last).ok_or(Fault::NumberOverflow)?;
-    if places > 19 {
-        return Err(Fault::NumberOverflow);
-    }
-    // No word, but a character that has no place there.
-    if word == end && next != Kind::End {
-        return Err(Fault::InvalidCharacter(offset(text, end)));
-    }
-    // A point without digits, and then a letter or the end.
-    if has_point && !has_digit(text, point, word) {
-        return Err(Fault::InvalidCharacter(offset(text, point)));
-    }
-    // A word, and then a character that has no place there.
-    if next == Kind::Point || next == Kind::Other {
-        return Err(Fault::InvalidCharacter(offset(text, end)));
+    let (value, fraction, places) = number(text, start, point, word).ok_or(Fault::NumberOverflow)?;
+    if let Some(place) = stray(text, point, word, end) {
+        return Err(Fault::InvalidCharacter(offset(text, place)));
     }
     // No word at the end, or one that is no unit's.
     let unit = unit_of(text, word, end).ok_or(Fault::UnknownUnit {
@@ -109,6 +95,35 @@ fn read_span(text: &[char], start: usize, total: u128) -> Result<(usize, u128), 
     Ok((end_of(text, end, &[Kind::Space]), sum))
 }
 
+/// The number from a place to its point, and the digits of its fraction to the word: none where the number is too large,
+/// or the fraction has a 20th digit before the zeros at its end.
+fn number(text: &[char], start: usize, point: usize, word: usize) -> Option<(u64, u64, u32)> {
+    let (value, _) = digits(text, start, point)?;
+    let (fraction, places) = digits(text, point, without_zeros(text, point, word))?;
+    if places > 19 {
+        return None;
+    }
+    Some((value, fraction, places))
+}
+
+/// The first place at a number's point or about its word where a character has no place.
+fn stray(text: &[char], point: usize, word: usize, end: usize) -> Option<usize> {
+    let next = kind_at(text, end);
+    // No word, but a character that has no place there.
+    if word == end && next != Kind::End {
+        return Some(end);
+    }
+    // A point without digits, and then a letter or the end.
+    if kind_at(text, point) == Kind::Point && !has_digit(text, point, word) {
+        return Some(point);
+    }
+    // A word, and then a character that has no place there.
+    if next == Kind::Point || next == Kind::Other {
+        return Some(end);
+    }
+    None
+}
+
 /// The total with a span, if that keeps the limits. Without a fraction, or with zeros alone, there are no places.
 fn add_span(total: u128, unit: &Unit, value: u64, fraction: u64, places: u32) -> Option<u128> {
     let (_, base, count, part) = *unit;
@@ -117,12 +132,17 @@ fn add_span(total: u128, unit: &Unit, value: u64, fraction: u64, places: u32) ->
         return Some(sum);
     }
     let parts = base.checked_mul(u128::from(count))?.checked_div(part?)?;
+    add(sum, part?, share(parts, fraction, places)?)
+}
+
+/// The fraction, of so many places, of so many parts, where that is a whole number.
+fn share(parts: u128, fraction: u64, places: u32) -> Option<u64> {
     let product = fraction.checked_mul(u64::try_from(parts).ok()?)?;
     let power = 10u64.checked_pow(places)?;
     if product.checked_rem(power)? != 0 {
         return None;
     }
-    add(sum, part?, product.checked_div(power)?)
+    product.checked_div(power)
 }
 
 /// The total with so many of a base. The sum's whole seconds fit 64 bits; so does a number of nanoseconds with those
@@ -150,12 +170,22 @@ fn unit_of(text: &[char], from: usize, to: usize) -> Option<&'static Unit> {
 /// The characters are one of the words of a text.
 fn is_among(word: &[char], words: &str) -> bool {
     for name in words.split(' ') {
-        let mut letters = name.chars();
-        if word.iter().all(|c| letters.next() == Some(*c)) && letters.next().is_none() {
+        if is_spelled(word, name) {
             return true;
         }
     }
     false
+}
+
+/// The characters are those of a name.
+fn is_spelled(word: &[char], name: &str) -> bool {
+    let mut letters = name.chars();
+    for c in word {
+        if letters.next() != Some(*c) {
+            return false;
+        }
+    }
+    letters.next().is_none()
 }
 
 /// The number that the digits between two places read as, if it fits 64 bits, and how many digits there are.

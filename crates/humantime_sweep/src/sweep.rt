@@ -1,14 +1,14 @@
 //! The library and the plain reader answer alike, on each text and on texts close to it.
 
 use crate::plain_reader::{Fault, read};
-use crate::texts::{FRACTIONS, LIMITS, NUMBERS, OVERFLOWS, PRINTED, REFUSED, WORKED};
+use crate::texts::{CARRIED, LIMITS, WORKED};
 use humantime::{DurationError, canonical, parse_duration};
 use std::alloc::Global;
 use std::process::Abort;
 use std::test::Fail;
 
-/// Texts at the limits, and what they give.
-static EXACT: [(&str, Result<(u64, u32), Fault>); 6] = [
+/// Texts at the limits, texts that end before a unit's word does, and what they give.
+static EXACT: [(&str, Result<(u64, u32), Fault>); 9] = [
     ("2h ", Ok((7200, 0))),
     ("00000000000000000001s", Ok((1, 0))),
     ("18446744073709551615s", Ok((u64::MAX, 0))),
@@ -18,20 +18,59 @@ static EXACT: [(&str, Result<(u64, u32), Fault>); 6] = [
         Err(Fault::NumberOverflow),
     ),
     ("1s\0", Err(Fault::InvalidCharacter(2))),
+    (
+        "2",
+        Err(Fault::UnknownUnit {
+            start: 1,
+            end: 1,
+            value: 2,
+        }),
+    ),
+    (
+        "2h 3",
+        Err(Fault::UnknownUnit {
+            start: 4,
+            end: 4,
+            value: 3,
+        }),
+    ),
+    (
+        "2h 37mi",
+        Err(Fault::UnknownUnit {
+            start: 5,
+            end: 7,
+            value: 37,
+        }),
+    ),
 ];
 
-/// Texts that end before a unit's word does: where the word begins and ends, and the number before it.
-static CUT_OFF: [(&str, usize, usize, u64); 3] = [
-    ("2", 1, 1, 2),
-    ("2h 3", 4, 4, 3),
-    ("2h 37mi", 5, 7, 37),
-];
-
-/// The characters that are white space.
-static SPACES: [char; 25] = [
-    '\u{9}', '\u{a}', '\u{b}', '\u{c}', '\u{d}', '\u{20}', '\u{85}', '\u{a0}', '\u{1680}',
-    '\u{2000}', '\u{2001}', '\u{2002}', '\u{2003}', '\u{2004}', '\u{2005}', '\u{2006}', '\u{2007}',
-    '\u{2008}', '\u{2009}', '\u{200a}', '\u{2028}', '\u{2029}', '\u{202f}', '\u{205f}', '\u{3000}',
+/// Twelve seconds, with each character that is white space before, between and behind the characters.
+static SPACED: [&str; 25] = [
+    "\u{9}1\u{9}2\u{9}s\u{9}",
+    "\u{a}1\u{a}2\u{a}s\u{a}",
+    "\u{b}1\u{b}2\u{b}s\u{b}",
+    "\u{c}1\u{c}2\u{c}s\u{c}",
+    "\u{d}1\u{d}2\u{d}s\u{d}",
+    "\u{20}1\u{20}2\u{20}s\u{20}",
+    "\u{85}1\u{85}2\u{85}s\u{85}",
+    "\u{a0}1\u{a0}2\u{a0}s\u{a0}",
+    "\u{1680}1\u{1680}2\u{1680}s\u{1680}",
+    "\u{2000}1\u{2000}2\u{2000}s\u{2000}",
+    "\u{2001}1\u{2001}2\u{2001}s\u{2001}",
+    "\u{2002}1\u{2002}2\u{2002}s\u{2002}",
+    "\u{2003}1\u{2003}2\u{2003}s\u{2003}",
+    "\u{2004}1\u{2004}2\u{2004}s\u{2004}",
+    "\u{2005}1\u{2005}2\u{2005}s\u{2005}",
+    "\u{2006}1\u{2006}2\u{2006}s\u{2006}",
+    "\u{2007}1\u{2007}2\u{2007}s\u{2007}",
+    "\u{2008}1\u{2008}2\u{2008}s\u{2008}",
+    "\u{2009}1\u{2009}2\u{2009}s\u{2009}",
+    "\u{200a}1\u{200a}2\u{200a}s\u{200a}",
+    "\u{2028}1\u{2028}2\u{2028}s\u{2028}",
+    "\u{2029}1\u{2029}2\u{2029}s\u{2029}",
+    "\u{202f}1\u{202f}2\u{202f}s\u{202f}",
+    "\u{205f}1\u{205f}2\u{205f}s\u{205f}",
+    "\u{3000}1\u{3000}2\u{3000}s\u{3000}",
 ];
 
 /// What is put in the place of each character.
@@ -88,11 +127,16 @@ fn holds_together(text: &str) -> bool {
     }
 }
 
+/// The library's answer is this one, and holds together.
+fn assert_answer(rt: &impl Abort, text: &str, wanted: Result<(u64, u32), Fault>) {
+    assert_eq!(rt; answer(text), wanted, "at {text}");
+    assert!(rt; holds_together(text), "at {text}");
+}
+
 /// Both readers answer alike.
 fn assert_alike(rt: &impl Abort, alloc: Global, text: &str) -> Result<(), Fail> {
     let characters: Vec<char> = text.chars().collect(alloc)?;
-    assert_eq!(rt; answer(text), read(characters.as_slice()), "at {text}");
-    assert!(rt; holds_together(text), "at {text}");
+    assert_answer(rt, text, read(characters.as_slice()));
     Ok(())
 }
 
@@ -142,11 +186,7 @@ fn around_worked_examples(rt: HostRuntime) -> Result<(), Fail> {
 
 #[test]
 fn around_carried_tests(rt: HostRuntime) -> Result<(), Fail> {
-    assert_all_alike(&rt, rt.alloc(), &NUMBERS)?;
-    assert_all_alike(&rt, rt.alloc(), &FRACTIONS)?;
-    assert_all_alike(&rt, rt.alloc(), &OVERFLOWS)?;
-    assert_all_alike(&rt, rt.alloc(), &REFUSED)?;
-    assert_all_alike(&rt, rt.alloc(), &PRINTED)
+    assert_all_alike(&rt, rt.alloc(), &CARRIED)
 }
 
 #[test]
@@ -156,25 +196,14 @@ fn around_texts_at_the_limits(rt: HostRuntime) -> Result<(), Fail> {
 
 #[test]
 fn texts_cut_off_and_at_the_limits(rt: HostRuntime) {
-    for (text, wanted) in EXACT {
-        assert_eq!(rt; answer(text), wanted, "at {text}");
-        assert!(rt; holds_together(text), "at {text}");
-    }
-    for (text, start, end, value) in CUT_OFF {
-        let wanted = Err(Fault::UnknownUnit { start, end, value });
-        assert_eq!(rt; answer(text), wanted, "at {text}");
-        assert!(rt; holds_together(text), "at {text}");
+    for (text, wanted) in &EXACT {
+        assert_answer(&rt, text, *wanted);
     }
 }
 
 #[test]
-fn each_white_space_stands_anywhere(rt: HostRuntime) -> Result<(), Fail> {
-    for space in SPACES {
-        let mut text = String::new(rt.alloc());
-        for c in "_1_2_s_".chars() {
-            text.push(if c == '_' { space } else { c })?;
-        }
-        assert_eq!(rt; answer(text.as_str()), Ok((12, 0)), "at {text}");
+fn each_white_space_stands_anywhere(rt: HostRuntime) {
+    for text in &SPACED {
+        assert_answer(&rt, text, Ok((12, 0)));
     }
-    Ok(())
 }

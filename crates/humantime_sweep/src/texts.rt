@@ -52,8 +52,9 @@ pub(crate) static WORKED: [&str; 48] = [
     "1.5foo",
 ];
 
-/// Texts of the Rust crate's tests: numbers with each word.
-pub(crate) static NUMBERS: [&str; 47] = [
+/// Texts of the Rust crate's tests, texts as they are printed, and what they are printed from.
+pub(crate) static CARRIED: [&str; 131] = [
+    // Numbers with each word.
     "17nsec",
     "17nanos",
     "33ns",
@@ -101,10 +102,7 @@ pub(crate) static NUMBERS: [&str; 47] = [
     "4.2s",
     "15days 2min 2s",
     "2years 2min 12us",
-];
-
-/// Texts of the Rust crate's tests: fractions.
-pub(crate) static FRACTIONS: [&str; 49] = [
+    // Fractions.
     "3.1usec",
     "3.1us",
     "3.01us",
@@ -154,10 +152,7 @@ pub(crate) static FRACTIONS: [&str; 49] = [
     "1.234567s 0.789us",
     "1.234s 1.345ms 1.678us 1ns",
     "1.234s 0.345ms 0.678us 0ns",
-];
-
-/// Texts of the Rust crate's tests that are too large or too fine.
-pub(crate) static OVERFLOWS: [&str; 21] = [
+    // Too large or too fine.
     "17.5nsec",
     "5.1nanos",
     "0.0005ns",
@@ -179,13 +174,15 @@ pub(crate) static OVERFLOWS: [&str; 21] = [
     "10000000000000000w",
     "1000000000000000M",
     "10000000000000y",
-];
-
-/// Texts of the Rust crate's tests that are refused otherwise.
-pub(crate) static REFUSED: [&str; 7] = [".1s", ".", "\0", "1~", "123", "10 months 1", "10nights"];
-
-/// Texts as they are printed, and what they are printed from.
-pub(crate) static PRINTED: [&str; 7] = [
+    // Refused otherwise.
+    ".1s",
+    ".",
+    "\0",
+    "1~",
+    "123",
+    "10 months 1",
+    "10nights",
+    // As they are printed, and what they are printed from.
     "123µs",
     "2years 2m 12µs",
     "15days 2m 2s",

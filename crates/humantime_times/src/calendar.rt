@@ -32,33 +32,78 @@ const TABLE: [(u32, u32, u32, u32); 23] = [
     (9999, 12, 31, 2932896),
 ];
 
+/// The date and the number of its day give each other.
+fn assert_day(rt: &impl Abort, turns: &mut Turns, date: Date, number: u32) {
+    assert_same(rt, day_number(date, turns), Some(number));
+    assert_same(rt, date_of_day(number, turns), Some(date));
+}
+
 #[test]
 fn days_and_dates_of_a_table(rt: HostRuntime) {
     let mut turns = Turns::new();
-    for (year, month, day, number) in TABLE {
-        let date = Date { year, month, day };
-        assert_same(&rt, day_number(date, &mut turns), Some(number));
-        assert_same(&rt, date_of_day(number, &mut turns), Some(date));
+    for (year, month, day, number) in &TABLE {
+        let date = Date {
+            year: *year,
+            month: *month,
+            day: *day,
+        };
+        assert_day(&rt, &mut turns, date, *number);
     }
 }
+
+const NONE: [Date; 9] = [
+    Date {
+        year: 1969,
+        month: 12,
+        day: 31,
+    },
+    Date {
+        year: 1970,
+        month: 0,
+        day: 1,
+    },
+    Date {
+        year: 1970,
+        month: 13,
+        day: 1,
+    },
+    Date {
+        year: 1970,
+        month: 1,
+        day: 0,
+    },
+    Date {
+        year: 1970,
+        month: 4,
+        day: 31,
+    },
+    Date {
+        year: 1970,
+        month: 2,
+        day: 29,
+    },
+    Date {
+        year: 2100,
+        month: 2,
+        day: 29,
+    },
+    Date {
+        year: 10000,
+        month: 1,
+        day: 1,
+    },
+    Date {
+        year: 4294967295,
+        month: 1,
+        day: 1,
+    },
+];
 
 #[test]
 fn dates_that_do_not_exist(rt: HostRuntime) {
     let mut turns = Turns::new();
-    let none = [
-        (1969, 12, 31),
-        (1970, 0, 1),
-        (1970, 13, 1),
-        (1970, 1, 0),
-        (1970, 4, 31),
-        (1970, 2, 29),
-        (2100, 2, 29),
-        (10000, 1, 1),
-        (4294967295, 1, 1),
-    ];
-    for (year, month, day) in none {
-        let date = Date { year, month, day };
-        assert_same(&rt, day_number(date, &mut turns), None);
+    for date in &NONE {
+        assert_same(&rt, day_number(*date, &mut turns), None);
     }
     assert_same(&rt, date_of_day(2932897, &mut turns), None);
 }
@@ -70,8 +115,7 @@ fn assert_days(rt: &impl Abort, days: Range<u32>, first: PlainDate, end: PlainDa
     for number in days {
         let PlainDate { year, month, day } = counted;
         let date = Date { year, month, day };
-        assert_same(rt, day_number(date, &mut turns), Some(number));
-        assert_same(rt, date_of_day(number, &mut turns), Some(date));
+        assert_day(rt, &mut turns, date, number);
         counted = next_day(counted);
     }
     assert_same(rt, counted, end);

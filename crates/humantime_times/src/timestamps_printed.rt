@@ -1,7 +1,7 @@
 //! Moments, and the text of each in each precision.
 
 use crate::plain_calendar::{PlainDate, next_day};
-use crate::support::{assert_same, assert_same_at};
+use crate::support::{assert_same, assert_same_at, assert_written};
 use humantime::{
     Rfc3339Timestamp, SystemTime, Timestamp, format_rfc3339, format_rfc3339_micros,
     format_rfc3339_millis, format_rfc3339_nanos, format_rfc3339_seconds, parse_rfc3339,
@@ -25,14 +25,6 @@ enum Call {
     Nanos,
 }
 
-const CALLS: [Call; 5] = [
-    Call::Shortest,
-    Call::Seconds,
-    Call::Millis,
-    Call::Micros,
-    Call::Nanos,
-];
-
 fn called(call: Call, moment: SystemTime) -> Rfc3339Timestamp {
     match call {
         Call::Shortest => format_rfc3339(moment),
@@ -43,152 +35,263 @@ fn called(call: Call, moment: SystemTime) -> Rfc3339Timestamp {
     }
 }
 
-/// The call prints each moment so, by `text` and by one request of `Display`.
-fn assert_printed(rt: &impl Abort, call: Call, rows: &[(i64, u32, &str)]) -> Result<(), Fail> {
+/// It is this text, by `text` and by one request of `Display`.
+fn assert_prints(rt: &impl Abort, printable: &Rfc3339Timestamp, text: &str) -> Result<(), Fail> {
+    assert_same_at(rt, printable.text(&mut [0; 30]), Some(text), text);
+    assert_written(rt, printable, text)
+}
+
+/// `format_rfc3339` and a `Timestamp` print each moment so, and the moment is kept.
+fn assert_printed_whole(rt: &impl Abort, rows: &[(i64, u32, &str)]) -> Result<(), Fail> {
     for (secs, nanos, text) in rows {
-        let printable = called(call, moment(*secs, *nanos)?);
-        assert_same(rt, printable.text(&mut [0; 30]), Some(*text));
-        let mut sink = Sink::open();
-        write!(sink, "{printable}")?;
-        assert_same_at(rt, sink.bytes(), text.as_bytes(), text);
-        assert_same_at(rt, sink.requests(), 1, text);
+        let moment = moment(*secs, *nanos)?;
+        let printable = format_rfc3339(moment);
+        assert_same_at(rt, *printable.get_ref(), moment, text);
+        assert_prints(rt, &printable, text)?;
+        assert_written(rt, &Timestamp::from(moment), text)?;
+    }
+    Ok(())
+}
+
+/// The calls print each moment so.
+fn assert_cut(rt: &impl Abort, rows: &[(Call, i64, u32, &str)]) -> Result<(), Fail> {
+    for (call, secs, nanos, text) in rows {
+        assert_prints(rt, &called(*call, moment(*secs, *nanos)?), text)?;
     }
     Ok(())
 }
 
 #[test]
 fn moments_are_printed_with_no_digits_or_nine(rt: HostRuntime) -> Result<(), Fail> {
-    let rows = [
-        (0, 0, "1970-01-01T00:00:00Z"),
-        (1, 0, "1970-01-01T00:00:01Z"),
-        (1325376000, 0, "2012-01-01T00:00:00Z"),
-        (1518563312, 0, "2018-02-13T23:08:32Z"),
-        (253402300799, 0, "9999-12-31T23:59:59Z"),
-        (0, 1, "1970-01-01T00:00:00.000000001Z"),
-        (0, 999, "1970-01-01T00:00:00.000000999Z"),
-        (0, 123000000, "1970-01-01T00:00:00.123000000Z"),
-        (1518563312, 456123999, "2018-02-13T23:08:32.456123999Z"),
-    ];
-    assert_printed(&rt, Call::Shortest, &rows)
+    assert_printed_whole(
+        &rt,
+        &[
+            (0, 0, "1970-01-01T00:00:00Z"),
+            (1, 0, "1970-01-01T00:00:01Z"),
+            (1325376000, 0, "2012-01-01T00:00:00Z"),
+            (1518563312, 0, "2018-02-13T23:08:32Z"),
+            (253402300799, 0, "9999-12-31T23:59:59Z"),
+            (0, 1, "1970-01-01T00:00:00.000000001Z"),
+            (0, 999, "1970-01-01T00:00:00.000000999Z"),
+            (0, 123000000, "1970-01-01T00:00:00.123000000Z"),
+            (1518563312, 456123999, "2018-02-13T23:08:32.456123999Z"),
+            // What `2016-12-31T23:59:60Z` is read as.
+            (1483228799, 0, "2016-12-31T23:59:59Z"),
+        ],
+    )
 }
 
 #[test]
-fn moments_are_cut_to_seconds_and_millis(rt: HostRuntime) -> Result<(), Fail> {
-    let seconds = [(1518563312, 456123999, "2018-02-13T23:08:32Z")];
-    assert_printed(&rt, Call::Seconds, &seconds)?;
-    let millis = [
-        (0, 0, "1970-01-01T00:00:00.000Z"),
-        (1518563312, 123000000, "2018-02-13T23:08:32.123Z"),
-        (1518563312, 456123999, "2018-02-13T23:08:32.456Z"),
-        (253402300799, 999999999, "9999-12-31T23:59:59.999Z"),
-    ];
-    assert_printed(&rt, Call::Millis, &millis)
+fn moments_are_cut_to_seconds_millis_micros_and_nanos(rt: HostRuntime) -> Result<(), Fail> {
+    assert_cut(
+        &rt,
+        &[
+            (Call::Seconds, 1518563312, 456123999, "2018-02-13T23:08:32Z"),
+            (Call::Millis, 0, 0, "1970-01-01T00:00:00.000Z"),
+            (
+                Call::Millis,
+                1518563312,
+                123000000,
+                "2018-02-13T23:08:32.123Z",
+            ),
+            (
+                Call::Millis,
+                1518563312,
+                456123999,
+                "2018-02-13T23:08:32.456Z",
+            ),
+            (
+                Call::Millis,
+                253402300799,
+                999999999,
+                "9999-12-31T23:59:59.999Z",
+            ),
+            (Call::Micros, 0, 0, "1970-01-01T00:00:00.000000Z"),
+            (
+                Call::Micros,
+                1518563312,
+                123000000,
+                "2018-02-13T23:08:32.123000Z",
+            ),
+            (
+                Call::Micros,
+                1518563312,
+                456123000,
+                "2018-02-13T23:08:32.456123Z",
+            ),
+            (
+                Call::Micros,
+                1518563312,
+                456123999,
+                "2018-02-13T23:08:32.456123Z",
+            ),
+            (Call::Nanos, 0, 0, "1970-01-01T00:00:00.000000000Z"),
+            (
+                Call::Nanos,
+                1518563312,
+                123000000,
+                "2018-02-13T23:08:32.123000000Z",
+            ),
+            (
+                Call::Nanos,
+                1518563312,
+                456123999,
+                "2018-02-13T23:08:32.456123999Z",
+            ),
+            (
+                Call::Nanos,
+                1518563312,
+                789456123,
+                "2018-02-13T23:08:32.789456123Z",
+            ),
+            (
+                Call::Nanos,
+                253402300799,
+                999999999,
+                "9999-12-31T23:59:59.999999999Z",
+            ),
+        ],
+    )
+}
+
+// The last second of February in the first year of each century, by counting the days of the years before it.
+const CENTURIES_TO_5900: [(i64, u32, &str); 40] = [
+    (951868799, 123456789, "2000-02-29T23:59:59.123456789Z"),
+    (4107542399, 123456789, "2100-02-28T23:59:59.123456789Z"),
+    (7263215999, 123456789, "2200-02-28T23:59:59.123456789Z"),
+    (10418889599, 123456789, "2300-02-28T23:59:59.123456789Z"),
+    (13574649599, 123456789, "2400-02-29T23:59:59.123456789Z"),
+    (16730323199, 123456789, "2500-02-28T23:59:59.123456789Z"),
+    (19885996799, 123456789, "2600-02-28T23:59:59.123456789Z"),
+    (23041670399, 123456789, "2700-02-28T23:59:59.123456789Z"),
+    (26197430399, 123456789, "2800-02-29T23:59:59.123456789Z"),
+    (29353103999, 123456789, "2900-02-28T23:59:59.123456789Z"),
+    (32508777599, 123456789, "3000-02-28T23:59:59.123456789Z"),
+    (35664451199, 123456789, "3100-02-28T23:59:59.123456789Z"),
+    (38820211199, 123456789, "3200-02-29T23:59:59.123456789Z"),
+    (41975884799, 123456789, "3300-02-28T23:59:59.123456789Z"),
+    (45131558399, 123456789, "3400-02-28T23:59:59.123456789Z"),
+    (48287231999, 123456789, "3500-02-28T23:59:59.123456789Z"),
+    (51442991999, 123456789, "3600-02-29T23:59:59.123456789Z"),
+    (54598665599, 123456789, "3700-02-28T23:59:59.123456789Z"),
+    (57754339199, 123456789, "3800-02-28T23:59:59.123456789Z"),
+    (60910012799, 123456789, "3900-02-28T23:59:59.123456789Z"),
+    (64065772799, 123456789, "4000-02-29T23:59:59.123456789Z"),
+    (67221446399, 123456789, "4100-02-28T23:59:59.123456789Z"),
+    (70377119999, 123456789, "4200-02-28T23:59:59.123456789Z"),
+    (73532793599, 123456789, "4300-02-28T23:59:59.123456789Z"),
+    (76688553599, 123456789, "4400-02-29T23:59:59.123456789Z"),
+    (79844227199, 123456789, "4500-02-28T23:59:59.123456789Z"),
+    (82999900799, 123456789, "4600-02-28T23:59:59.123456789Z"),
+    (86155574399, 123456789, "4700-02-28T23:59:59.123456789Z"),
+    (89311334399, 123456789, "4800-02-29T23:59:59.123456789Z"),
+    (92467007999, 123456789, "4900-02-28T23:59:59.123456789Z"),
+    (95622681599, 123456789, "5000-02-28T23:59:59.123456789Z"),
+    (98778355199, 123456789, "5100-02-28T23:59:59.123456789Z"),
+    (101934115199, 123456789, "5200-02-29T23:59:59.123456789Z"),
+    (105089788799, 123456789, "5300-02-28T23:59:59.123456789Z"),
+    (108245462399, 123456789, "5400-02-28T23:59:59.123456789Z"),
+    (111401135999, 123456789, "5500-02-28T23:59:59.123456789Z"),
+    (114556895999, 123456789, "5600-02-29T23:59:59.123456789Z"),
+    (117712569599, 123456789, "5700-02-28T23:59:59.123456789Z"),
+    (120868243199, 123456789, "5800-02-28T23:59:59.123456789Z"),
+    (124023916799, 123456789, "5900-02-28T23:59:59.123456789Z"),
+];
+
+const CENTURIES_FROM_6000: [(i64, u32, &str); 40] = [
+    (127179676799, 123456789, "6000-02-29T23:59:59.123456789Z"),
+    (130335350399, 123456789, "6100-02-28T23:59:59.123456789Z"),
+    (133491023999, 123456789, "6200-02-28T23:59:59.123456789Z"),
+    (136646697599, 123456789, "6300-02-28T23:59:59.123456789Z"),
+    (139802457599, 123456789, "6400-02-29T23:59:59.123456789Z"),
+    (142958131199, 123456789, "6500-02-28T23:59:59.123456789Z"),
+    (146113804799, 123456789, "6600-02-28T23:59:59.123456789Z"),
+    (149269478399, 123456789, "6700-02-28T23:59:59.123456789Z"),
+    (152425238399, 123456789, "6800-02-29T23:59:59.123456789Z"),
+    (155580911999, 123456789, "6900-02-28T23:59:59.123456789Z"),
+    (158736585599, 123456789, "7000-02-28T23:59:59.123456789Z"),
+    (161892259199, 123456789, "7100-02-28T23:59:59.123456789Z"),
+    (165048019199, 123456789, "7200-02-29T23:59:59.123456789Z"),
+    (168203692799, 123456789, "7300-02-28T23:59:59.123456789Z"),
+    (171359366399, 123456789, "7400-02-28T23:59:59.123456789Z"),
+    (174515039999, 123456789, "7500-02-28T23:59:59.123456789Z"),
+    (177670799999, 123456789, "7600-02-29T23:59:59.123456789Z"),
+    (180826473599, 123456789, "7700-02-28T23:59:59.123456789Z"),
+    (183982147199, 123456789, "7800-02-28T23:59:59.123456789Z"),
+    (187137820799, 123456789, "7900-02-28T23:59:59.123456789Z"),
+    (190293580799, 123456789, "8000-02-29T23:59:59.123456789Z"),
+    (193449254399, 123456789, "8100-02-28T23:59:59.123456789Z"),
+    (196604927999, 123456789, "8200-02-28T23:59:59.123456789Z"),
+    (199760601599, 123456789, "8300-02-28T23:59:59.123456789Z"),
+    (202916361599, 123456789, "8400-02-29T23:59:59.123456789Z"),
+    (206072035199, 123456789, "8500-02-28T23:59:59.123456789Z"),
+    (209227708799, 123456789, "8600-02-28T23:59:59.123456789Z"),
+    (212383382399, 123456789, "8700-02-28T23:59:59.123456789Z"),
+    (215539142399, 123456789, "8800-02-29T23:59:59.123456789Z"),
+    (218694815999, 123456789, "8900-02-28T23:59:59.123456789Z"),
+    (221850489599, 123456789, "9000-02-28T23:59:59.123456789Z"),
+    (225006163199, 123456789, "9100-02-28T23:59:59.123456789Z"),
+    (228161923199, 123456789, "9200-02-29T23:59:59.123456789Z"),
+    (231317596799, 123456789, "9300-02-28T23:59:59.123456789Z"),
+    (234473270399, 123456789, "9400-02-28T23:59:59.123456789Z"),
+    (237628943999, 123456789, "9500-02-28T23:59:59.123456789Z"),
+    (240784703999, 123456789, "9600-02-29T23:59:59.123456789Z"),
+    (243940377599, 123456789, "9700-02-28T23:59:59.123456789Z"),
+    (247096051199, 123456789, "9800-02-28T23:59:59.123456789Z"),
+    (250251724799, 123456789, "9900-02-28T23:59:59.123456789Z"),
+];
+
+#[test]
+fn a_moment_of_each_century_to_5900_is_printed(rt: HostRuntime) -> Result<(), Fail> {
+    assert_printed_whole(&rt, &CENTURIES_TO_5900)
 }
 
 #[test]
-fn moments_are_cut_to_micros_and_nanos(rt: HostRuntime) -> Result<(), Fail> {
-    let micros = [
-        (0, 0, "1970-01-01T00:00:00.000000Z"),
-        (1518563312, 123000000, "2018-02-13T23:08:32.123000Z"),
-        (1518563312, 456123000, "2018-02-13T23:08:32.456123Z"),
-        (1518563312, 456123999, "2018-02-13T23:08:32.456123Z"),
-    ];
-    assert_printed(&rt, Call::Micros, &micros)?;
-    let nanos = [
-        (0, 0, "1970-01-01T00:00:00.000000000Z"),
-        (1518563312, 123000000, "2018-02-13T23:08:32.123000000Z"),
-        (1518563312, 456123999, "2018-02-13T23:08:32.456123999Z"),
-        (1518563312, 789456123, "2018-02-13T23:08:32.789456123Z"),
-        (253402300799, 999999999, "9999-12-31T23:59:59.999999999Z"),
-    ];
-    assert_printed(&rt, Call::Nanos, &nanos)
+fn a_moment_of_each_century_from_6000_is_printed(rt: HostRuntime) -> Result<(), Fail> {
+    assert_printed_whole(&rt, &CENTURIES_FROM_6000)
 }
 
-/// `text`, `Display` of what `format_rfc3339` makes, and `Display` of a `Timestamp` give this text, each in one request.
-fn assert_printed_whole(rt: &impl Abort, moment: SystemTime, want: &str) -> Result<(), Fail> {
-    let printable = format_rfc3339(moment);
-    assert_same(rt, printable.text(&mut [0; 30]), Some(want));
-    let mut sink = Sink::open();
-    write!(sink, "{printable}")?;
-    assert_same_at(rt, sink.bytes(), want.as_bytes(), want);
-    let timestamp = Timestamp::from(moment);
-    let mut other = Sink::open();
-    write!(other, "{timestamp}")?;
-    assert_same_at(rt, other.bytes(), want.as_bytes(), want);
-    assert_same_at(rt, (sink.requests(), other.requests()), (1, 1), want);
-    Ok(())
+/// What is printed is refused after so many requests of the sink, which takes no byte.
+fn assert_unwritten(rt: &impl Abort, printable: &Rfc3339Timestamp, sink: Sink, requests: u32) {
+    let mut sink = sink;
+    assert_same(rt, write!(sink, "{printable}"), Err(fmt::Error));
+    assert_same(rt, (sink.requests(), sink.bytes().len()), (requests, 0));
 }
 
-/// The last second of February in the first year of each century, with nine digits.
-#[test]
-fn a_moment_of_each_century_is_printed(rt: HostRuntime) -> Result<(), Fail> {
-    let mut date = new_year(1970);
-    for number in 0_u32..2_932_897 {
-        let next = next_day(date);
-        if date.year % 100 == 0 && date.month == 2 && next.month == 3 {
-            let PlainDate { year, day, .. } = date;
-            let mut line = Sink::open();
-            write!(line, "{year:04}-02-{day:02}T23:59:59.123456789Z")?;
-            let want = line.text();
-            let last = moment(i64::from(number) * 86_400 + 86_399, 123456789)?;
-            assert_printed_whole(&rt, last, want)?;
-        }
-        date = next;
+/// No call prints the moment, and the buffer is left as it was.
+fn assert_not_printed(rt: &impl Abort, moment: SystemTime) {
+    for call in &[
+        Call::Shortest,
+        Call::Seconds,
+        Call::Millis,
+        Call::Micros,
+        Call::Nanos,
+    ] {
+        let printable = called(*call, moment);
+        let mut buf = [7; 30];
+        assert_same(rt, printable.text(&mut buf), None);
+        assert_same(rt, buf, [7; 30]);
+        assert_unwritten(rt, &printable, Sink::open(), 0);
     }
-    Ok(())
-}
-
-#[test]
-fn second_60_is_printed_as_59(rt: HostRuntime) -> Result<(), Fail> {
-    let read = parse_rfc3339("2016-12-31T23:59:60Z")
-        .ok()
-        .ok_or("a moment")?;
-    let printable = format_rfc3339(read);
-    let mut buf = [0; 30];
-    assert_same(&rt, printable.text(&mut buf), Some("2016-12-31T23:59:59Z"));
-    assert_same(&rt, printable.get_ref().unix_seconds(), 1483228799);
-    Ok(())
 }
 
 #[test]
 fn moments_that_are_not_printed(rt: HostRuntime) -> Result<(), Fail> {
-    let moments = [
+    for (secs, nanos) in &[
         (253402300800, 0),
         (-1, 999999999),
         (-9223372036854775808, 0),
         (9223372036854775807, 999999999),
-    ];
-    for (secs, nanos) in moments {
-        let moment = moment(secs, nanos)?;
-        for call in CALLS {
-            let printable = called(call, moment);
-            let mut buf = [7; 30];
-            assert_same(&rt, printable.text(&mut buf), None);
-            assert_same(&rt, buf, [7; 30]);
-            let mut sink = Sink::open();
-            assert_same(&rt, write!(sink, "{printable}"), Err(fmt::Error));
-            assert_same(&rt, (sink.requests(), sink.bytes().len()), (0, 0));
-        }
+    ] {
+        assert_not_printed(&rt, moment(*secs, *nanos)?);
     }
-    Ok(())
-}
-
-#[test]
-fn width_and_fill_are_ignored(rt: HostRuntime) -> Result<(), Fail> {
-    let printable = format_rfc3339_millis(moment(1518563312, 456123999)?);
-    let mut sink = Sink::open();
-    write!(sink, "{printable:*>80}")?;
-    assert_same(&rt, sink.bytes(), b"2018-02-13T23:08:32.456Z".as_slice());
-    assert_same(&rt, sink.requests(), 1);
     Ok(())
 }
 
 #[test]
 fn a_sink_that_refuses(rt: HostRuntime) -> Result<(), Fail> {
     let printable = format_rfc3339(moment(0, 0)?);
-    let mut sink = Sink::refusing();
-    assert_same(&rt, write!(sink, "{printable}"), Err(fmt::Error));
-    assert_same(&rt, (sink.requests(), sink.bytes().len()), (1, 0));
+    assert_unwritten(&rt, &printable, Sink::refusing(), 1);
     Ok(())
 }
 
@@ -201,56 +304,55 @@ fn new_year(year: u32) -> PlainDate {
     }
 }
 
-/// It is printed without a fraction as this text, which reads back.
-fn is_printed_as(moment: SystemTime, want: &str) -> bool {
+/// Writes a number in two digits at least, and what stands behind it.
+fn put(line: &mut Sink, number: u32, behind: &str) -> fmt::Result {
+    write!(line, "{number:02}{behind}")
+}
+
+/// The text of a second of a date.
+fn counted(date: PlainDate, second_of_day: u32) -> Result<Sink, fmt::Error> {
+    let mut line = Sink::open();
+    put(&mut line, date.year, "-")?;
+    put(&mut line, date.month, "-")?;
+    put(&mut line, date.day, "T")?;
+    put(&mut line, second_of_day / 3600, ":")?;
+    put(&mut line, second_of_day / 60 % 60, ":")?;
+    put(&mut line, second_of_day % 60, "Z")?;
+    Ok(line)
+}
+
+/// The moment so many seconds after 1970 is printed as this second of this date, and reads back.
+fn assert_counted(rt: &impl Abort, secs: i64, date: PlainDate, second: u32) -> Result<(), Fail> {
+    let moment = moment(secs, 0)?;
+    let line = counted(date, second)?;
+    let want = line.text();
     let mut buf = [0; 30];
-    format_rfc3339(moment).text(&mut buf) == Some(want) && parse_rfc3339(want) == Ok(moment)
+    assert_same(rt, format_rfc3339(moment).text(&mut buf), Some(want));
+    assert_same_at(rt, parse_rfc3339(want), Ok(moment), want);
+    Ok(())
 }
 
-/// How many of the 731 days from this second and date on are printed as the text that counting gives.
-fn days_as_counted(rt: &HostRuntime, first: i64, date: PlainDate) -> Result<u32, Fail> {
+/// The 731 days from this second and date on are printed as counting gives them.
+fn assert_days(rt: &impl Abort, first: u32, date: PlainDate) -> Result<(), Fail> {
     let mut date = date;
-    let mut secs = first;
-    let mut right: u32 = 0;
-    for _ in 0..731 {
-        let PlainDate { year, month, day } = date;
-        let mut line = Sink::open();
-        write!(line, "{year:04}-{month:02}-{day:02}T00:00:00Z")?;
-        let want = line.text();
-        if is_printed_as(moment(secs, 0)?, want) {
-            right = right.wrapping_add(1);
-        }
+    for day in 0_u32..731 {
+        let secs = i64::from(first) + i64::from(day) * 86_400;
+        assert_counted(rt, secs, date, 0)?;
         date = next_day(date);
-        secs = secs.wrapping_add(86_400);
     }
-    Ok(right)
-}
-
-#[test]
-fn the_first_731_days(rt: HostRuntime) -> Result<(), Fail> {
-    assert_same(&rt, days_as_counted(&rt, 0, new_year(1970))?, 731);
     Ok(())
 }
 
 #[test]
-fn the_731_days_from_2012(rt: HostRuntime) -> Result<(), Fail> {
-    assert_same(&rt, days_as_counted(&rt, 1325376000, new_year(2012))?, 731);
-    Ok(())
+fn the_first_731_days_and_those_from_2012(rt: HostRuntime) -> Result<(), Fail> {
+    assert_days(&rt, 0, new_year(1970))?;
+    assert_days(&rt, 1325376000, new_year(2012))
 }
 
 #[test]
 fn all_seconds_of_a_day(rt: HostRuntime) -> Result<(), Fail> {
-    for second in 0..86400 {
-        let hour = second / 3600;
-        let minute = second / 60 % 60;
-        let rest = second % 60;
-        let mut line = Sink::open();
-        write!(line, "2012-01-01T{hour:02}:{minute:02}:{rest:02}Z")?;
-        let want = line.text();
-        assert!(rt;
-            is_printed_as(moment(1325376000 + second, 0)?, want),
-            "{second}"
-        );
+    for second in 0_u32..86_400 {
+        assert_counted(&rt, 1325376000 + i64::from(second), new_year(2012), second)?;
     }
     Ok(())
 }
