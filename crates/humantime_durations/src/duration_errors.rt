@@ -4,49 +4,88 @@ use crate::support::assert_same;
 use humantime::DurationError;
 use humantime_sink::Sink;
 use std::fmt::Write;
+use std::process::Abort;
 use std::test::Fail;
+
+/// Each error has this message, whatever the width and the fill, and is equal to its clone.
+fn assert_messages(rt: &impl Abort, rows: &[(DurationError<'_>, &str)]) -> Result<(), Fail> {
+    for (error, message) in rows {
+        let mut line = Sink::open();
+        write!(line, "{error}")?;
+        assert_same(rt, line.text(), *message);
+        let mut line = Sink::open();
+        write!(line, "{error:*>200}")?;
+        assert_same(rt, line.text(), *message);
+        assert_same(rt, error.clone()?, *error);
+    }
+    Ok(())
+}
+
+/// Each unit that starts and ends at these offsets, after this number, has this message.
+fn assert_unit_messages(
+    rt: &impl Abort,
+    rows: &[(usize, usize, &str, u64, &str)],
+) -> Result<(), Fail> {
+    for (start, end, unit, value, message) in rows {
+        let error = unknown_unit(*start, *end, unit, *value);
+        assert_messages(rt, &[(error, *message)])?;
+    }
+    Ok(())
+}
 
 #[test]
 fn each_error_has_its_message(rt: HostRuntime) -> Result<(), Fail> {
-    let cases = [
-        (DurationError::InvalidCharacter(1), "invalid character at 1"),
-        (DurationError::NumberExpected(0), "expected number at 0"),
-        (
-            unknown_unit(3, 3, "", 123),
-            "time unit needed, for example 123sec or 123ms",
-        ),
-        (
-            unknown_unit(11, 11, "", 1),
-            "time unit needed, for example 1sec or 1ms",
-        ),
-        (
-            unknown_unit(2, 8, "nights", 10),
-            "unknown time unit \"nights\", supported units: ns, us/µs, ms, sec, min, hours, days, weeks, months, years (and few variations)",
-        ),
-        (
-            unknown_unit(1, 3, "\u{3bc}", 1),
-            "unknown time unit \"\u{3bc}\", supported units: ns, us/µs, ms, sec, min, hours, days, weeks, months, years (and few variations)",
-        ),
-        (
-            unknown_unit(1, 3, "µ", 1),
-            "unknown time unit \"µ\", supported units: ns, us/µs, ms, sec, min, hours, days, weeks, months, years (and few variations)",
-        ),
-        (
-            DurationError::NumberOverflow,
-            "number is too large or cannot be represented without a lack of precision (values below 1ns are not supported)",
-        ),
-        (DurationError::Empty, "value was empty"),
-    ];
-    for (error, message) in cases {
-        let mut line = Sink::open();
-        write!(line, "{error}")?;
-        assert_same(&rt, line.text(), message);
-        let mut line = Sink::open();
-        write!(line, "{error:*>200}")?;
-        assert_same(&rt, line.text(), message);
-        assert_same(&rt, error.clone()?, error);
-    }
-    Ok(())
+    assert_messages(
+        &rt,
+        &[
+            (DurationError::InvalidCharacter(1), "invalid character at 1"),
+            (DurationError::NumberExpected(0), "expected number at 0"),
+            (
+                DurationError::NumberOverflow,
+                "number is too large or cannot be represented without a lack of precision (values below 1ns are not supported)",
+            ),
+            (DurationError::Empty, "value was empty"),
+        ],
+    )?;
+    assert_unit_messages(
+        &rt,
+        &[
+            (
+                3,
+                3,
+                "",
+                123,
+                "time unit needed, for example 123sec or 123ms",
+            ),
+            (11, 11, "", 1, "time unit needed, for example 1sec or 1ms"),
+            (
+                2,
+                8,
+                "nights",
+                10,
+                "unknown time unit \"nights\", supported units: ns, us/µs, ms, sec, min, hours, days, weeks, months, years (and few variations)",
+            ),
+            (
+                1,
+                3,
+                "\u{3bc}",
+                1,
+                "unknown time unit \"\u{3bc}\", supported units: ns, us/µs, ms, sec, min, hours, days, weeks, months, years (and few variations)",
+            ),
+            (
+                1,
+                3,
+                "µ",
+                1,
+                "unknown time unit \"µ\", supported units: ns, us/µs, ms, sec, min, hours, days, weeks, months, years (and few variations)",
+            ),
+        ],
+    )
+}
+
+/// The two errors are different.
+fn assert_different(rt: &impl Abort, left: DurationError<'_>, right: DurationError<'_>) {
+    assert_ne!(rt; left, right);
 }
 
 #[test]
@@ -54,19 +93,14 @@ fn units_are_compared_by_their_text(rt: HostRuntime) {
     let text = "1foo 2foo 3bar";
     let first = unknown_unit(1, 4, &text[1..4], 1);
     assert_same(&rt, first, unknown_unit(1, 4, &text[6..9], 1));
-    assert_ne!(rt; first, unknown_unit(1, 4, &text[11..14], 1));
-    assert_ne!(rt; first, unknown_unit(2, 4, "foo", 1));
-    assert_ne!(rt; first, unknown_unit(1, 5, "foo", 1));
-    assert_ne!(rt; first, unknown_unit(1, 4, "foo", 2));
-    assert_ne!(rt;
-        DurationError::InvalidCharacter(1),
-        DurationError::InvalidCharacter(2)
-    );
-    assert_ne!(rt;
-        DurationError::InvalidCharacter(1),
-        DurationError::NumberExpected(1)
-    );
-    assert_ne!(rt; DurationError::NumberOverflow, DurationError::Empty);
+    assert_different(&rt, first, unknown_unit(1, 4, &text[11..14], 1));
+    assert_different(&rt, first, unknown_unit(2, 4, "foo", 1));
+    assert_different(&rt, first, unknown_unit(1, 5, "foo", 1));
+    assert_different(&rt, first, unknown_unit(1, 4, "foo", 2));
+    let character = DurationError::InvalidCharacter(1);
+    assert_different(&rt, character, DurationError::InvalidCharacter(2));
+    assert_different(&rt, character, DurationError::NumberExpected(1));
+    assert_different(&rt, DurationError::NumberOverflow, DurationError::Empty);
 }
 
 fn unknown_unit(start: usize, end: usize, unit: &str, value: u64) -> DurationError<'_> {

@@ -4,41 +4,65 @@ use crate::support::{assert_same, assert_same_at};
 use humantime::{DurationError, StdDuration, canonical, format_duration, parse_duration};
 use humantime_sink::Sink;
 use std::fmt::{self, Write};
+use std::process::Abort;
 use std::test::Fail;
 
 const LONGEST: &str = "100000000000years 11months 29days 23h 59m 59s 999ms 999µs 999ns";
 
 const GREATEST: &str = "584542046090years 7months 15days 17h 5m 3s 999ms 999µs 999ns";
 
+/// Each duration, in seconds and nanoseconds, is printed as this text, and each clone of what prints it.
+fn assert_printed(rt: &impl Abort, rows: &[(u64, u32, &str)]) -> Result<(), Fail> {
+    for (secs, nanos, text) in rows {
+        let value = StdDuration::checked_new(*secs, *nanos).ok_or("no duration")?;
+        let printed = format_duration(value);
+        assert_same(rt, printed.text(&mut [0; 64]), *text);
+        assert_same_at(rt, *printed.get_ref(), value, text);
+        assert_same(rt, printed.clone()?.text(&mut [b'x'; 64]), *text);
+        let mut sink = Sink::open();
+        assert_same(rt, write!(sink, "{printed}"), Ok(()));
+        assert_same_at(rt, sink.bytes(), text.as_bytes(), text);
+        assert_same_at(rt, sink.requests(), 1, text);
+    }
+    Ok(())
+}
+
+/// Each text is printed anew as this one.
+fn assert_canonical(rt: &impl Abort, rows: &[(&str, &str)]) {
+    for (text, printed) in rows {
+        assert_same_at(rt, canonical(text, &mut [0; 64]), Ok(*printed), text);
+    }
+}
+
+/// Each text has this error, which leaves the buffer as it was.
+fn assert_refused(rt: &impl Abort, rows: &[(&str, DurationError<'_>)]) {
+    for (text, error) in rows {
+        let mut buf = [b'-'; 64];
+        assert_same_at(rt, canonical(text, &mut buf), Err(*error), text);
+        assert_same_at(rt, buf.as_slice(), [b'-'; 64].as_slice(), text);
+    }
+}
+
 #[test]
 fn a_duration_is_printed_in_its_greatest_counts(rt: HostRuntime) -> Result<(), Fail> {
-    let cases = [
-        (31_560_192, 0, "1year 43m 12s"),
-        (u64::MAX, 999_999_999, GREATEST),
-        (0, 0, "0s"),
-        (3_155_760_000_031_522_175, 999_999_999, LONGEST),
-        (0, 1, "1ns"),
-        (0, 999, "999ns"),
-        (0, 32_000_000, "32ms"),
-        (0, 123_000, "123µs"),
-        (63_115_320, 12_000, "2years 2m 12µs"),
-        (1_296_122, 0, "15days 2m 2s"),
-        (907_200, 0, "10days 12h"),
-        (15_778_800, 0, "5months 30days 10h 12m"),
-    ];
-    for (secs, nanos, text) in cases {
-        let value = StdDuration::checked_new(secs, nanos).ok_or("no duration")?;
-        let printed = format_duration(value);
-        assert_same(&rt, printed.text(&mut [0; 64]), text);
-        assert_same_at(&rt, *printed.get_ref(), value, text);
-        assert_same(&rt, printed.clone()?.text(&mut [b'x'; 64]), text);
-        let mut sink = Sink::open();
-        assert_same(&rt, write!(sink, "{printed}"), Ok(()));
-        assert_same_at(&rt, sink.bytes(), text.as_bytes(), text);
-        assert_same_at(&rt, sink.requests(), 1, text);
-    }
     assert_same(&rt, GREATEST.len(), 61);
-    Ok(())
+    assert_printed(
+        &rt,
+        &[
+            (31_560_192, 0, "1year 43m 12s"),
+            (u64::MAX, 999_999_999, GREATEST),
+            (0, 0, "0s"),
+            (3_155_760_000_031_522_175, 999_999_999, LONGEST),
+            (0, 1, "1ns"),
+            (0, 999, "999ns"),
+            (0, 32_000_000, "32ms"),
+            (0, 123_000, "123µs"),
+            (63_115_320, 12_000, "2years 2m 12µs"),
+            (1_296_122, 0, "15days 2m 2s"),
+            (907_200, 0, "10days 12h"),
+            (15_778_800, 0, "5months 30days 10h 12m"),
+        ],
+    )
 }
 
 #[test]
@@ -60,11 +84,16 @@ fn the_longest_text_fills_its_buffer(rt: HostRuntime) -> Result<(), Fail> {
 
 #[test]
 fn microseconds_are_printed_with_the_micro_sign(rt: HostRuntime) {
-    for text in ["1us", "1usec", "1\u{b5}s", "1\u{3bc}s"] {
-        let mut buf = [0; 64];
-        let printed = canonical(text, &mut buf).map(|printed| printed.as_bytes());
-        assert_same_at(&rt, printed, Ok([0x31, 0xc2, 0xb5, 0x73].as_slice()), text);
-    }
+    assert_canonical(
+        &rt,
+        &[
+            ("1us", "1\u{b5}s"),
+            ("1usec", "1\u{b5}s"),
+            ("1\u{b5}s", "1\u{b5}s"),
+            ("1\u{3bc}s", "1\u{b5}s"),
+        ],
+    );
+    assert_same(&rt, "1\u{b5}s".as_bytes(), &[0x31, 0xc2, 0xb5, 0x73]);
     let printed = format_duration(StdDuration::from_micros(123));
     assert_same(&rt, printed.text(&mut [0; 64]), "123\u{b5}s");
 }
@@ -106,38 +135,38 @@ fn each_second_of_a_day_reads_back(rt: HostRuntime) {
 
 #[test]
 fn a_canonical_text_is_printed_anew(rt: HostRuntime) {
-    let cases = [
-        ("2h 37min", "2h 37m"),
-        ("2years 2min 12us", "2years 2m 12µs"),
-        ("12M", "1year 43m 12s"),
-        ("0", "0s"),
-        (LONGEST, LONGEST),
-    ];
-    for (text, printed) in cases {
-        assert_same(&rt, canonical(text, &mut [0; 64]), Ok(printed));
-    }
+    assert_canonical(
+        &rt,
+        &[
+            ("2h 37min", "2h 37m"),
+            ("2years 2min 12us", "2years 2m 12µs"),
+            ("12M", "1year 43m 12s"),
+            ("0", "0s"),
+            (LONGEST, LONGEST),
+        ],
+    );
 }
 
 #[test]
 fn each_error_leaves_the_buffer_as_it_was(rt: HostRuntime) {
-    let nights = DurationError::UnknownUnit {
-        start: 2,
-        end: 8,
-        unit: "nights",
-        value: 10,
-    };
-    let cases = [
-        ("1~", DurationError::InvalidCharacter(1)),
-        ("2h min", DurationError::NumberExpected(3)),
-        ("10nights", nights),
-        ("1.0000000002s", DurationError::NumberOverflow),
-        ("", DurationError::Empty),
-    ];
-    for (text, error) in cases {
-        let mut buf = [b'-'; 64];
-        assert_same_at(&rt, canonical(text, &mut buf), Err(error), text);
-        assert_same_at(&rt, buf.as_slice(), [b'-'; 64].as_slice(), text);
-    }
+    assert_refused(
+        &rt,
+        &[
+            ("1~", DurationError::InvalidCharacter(1)),
+            ("2h min", DurationError::NumberExpected(3)),
+            (
+                "10nights",
+                DurationError::UnknownUnit {
+                    start: 2,
+                    end: 8,
+                    unit: "nights",
+                    value: 10,
+                },
+            ),
+            ("1.0000000002s", DurationError::NumberOverflow),
+            ("", DurationError::Empty),
+        ],
+    );
 }
 
 #[test]
