@@ -1,52 +1,46 @@
 //! The errors of durations: their messages, and which are equal.
 
-use crate::support::assert_same;
+use crate::support::{assert_same, assert_same_at};
 use humantime::DurationError;
 use humantime_sink::Sink;
 use std::fmt::Write;
 use std::process::Abort;
-use std::test::Fail;
 
-/// Each error has this message, whatever the width and the fill, and is equal to its clone.
-fn assert_messages(rt: &impl Abort, rows: &[(DurationError<'_>, &str)]) -> Result<(), Fail> {
-    for (error, message) in rows {
-        let mut line = Sink::open();
-        write!(line, "{error}")?;
-        assert_same(rt, line.text(), *message);
-        let mut line = Sink::open();
-        write!(line, "{error:*>200}")?;
-        assert_same(rt, line.text(), *message);
-        assert_same(rt, error.clone()?, *error);
-    }
-    Ok(())
+/// The error has this message, whatever the width and the fill, and is equal to its clone.
+fn assert_message(rt: &impl Abort, error: DurationError<'_>, message: &str) {
+    let (mut line, mut wide) = (Sink::open(), Sink::open());
+    assert_same_at(rt, write!(line, "{error}").is_ok(), true, message);
+    assert_same(rt, line.text(), message);
+    assert_same_at(rt, write!(wide, "{error:*>200}").is_ok(), true, message);
+    assert_same(rt, wide.text(), message);
+    assert_same_at(rt, error.clone().ok(), Some(error), message);
 }
 
-/// Each unit that starts and ends at these offsets, after this number, has this message.
-fn assert_unit_messages(
-    rt: &impl Abort,
-    rows: &[(usize, usize, &str, u64, &str)],
-) -> Result<(), Fail> {
+/// Each word that is no unit, and each number before it, has this message.
+fn assert_unit_messages(rt: &impl Abort, rows: &[(usize, usize, &str, u64, &str)]) {
     for (start, end, unit, value, message) in rows {
-        let error = unknown_unit(*start, *end, unit, *value);
-        assert_messages(rt, &[(error, *message)])?;
+        assert_message(rt, unknown_unit(*start, *end, unit, *value), message);
     }
-    Ok(())
 }
 
 #[test]
-fn each_error_has_its_message(rt: HostRuntime) -> Result<(), Fail> {
-    assert_messages(
+fn each_error_has_its_message(rt: HostRuntime) {
+    assert_message(
         &rt,
-        &[
-            (DurationError::InvalidCharacter(1), "invalid character at 1"),
-            (DurationError::NumberExpected(0), "expected number at 0"),
-            (
-                DurationError::NumberOverflow,
-                "number is too large or cannot be represented without a lack of precision (values below 1ns are not supported)",
-            ),
-            (DurationError::Empty, "value was empty"),
-        ],
-    )?;
+        DurationError::InvalidCharacter(1),
+        "invalid character at 1",
+    );
+    assert_message(
+        &rt,
+        DurationError::NumberExpected(0),
+        "expected number at 0",
+    );
+    assert_message(
+        &rt,
+        DurationError::NumberOverflow,
+        "number is too large or cannot be represented without a lack of precision (values below 1ns are not supported)",
+    );
+    assert_message(&rt, DurationError::Empty, "value was empty");
     assert_unit_messages(
         &rt,
         &[
@@ -80,7 +74,7 @@ fn each_error_has_its_message(rt: HostRuntime) -> Result<(), Fail> {
                 "unknown time unit \"µ\", supported units: ns, us/µs, ms, sec, min, hours, days, weeks, months, years (and few variations)",
             ),
         ],
-    )
+    );
 }
 
 /// The two errors are different.

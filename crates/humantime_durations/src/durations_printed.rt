@@ -1,9 +1,11 @@
 //! Durations, and the text of each.
 
 use crate::support::{assert_same, assert_same_at};
-use humantime::{DurationError, StdDuration, canonical, format_duration, parse_duration};
+use humantime::{
+    DurationError, FormattedDuration, StdDuration, canonical, format_duration, parse_duration,
+};
 use humantime_sink::Sink;
-use std::fmt::{self, Write};
+use std::fmt::Write;
 use std::process::Abort;
 use std::test::Fail;
 
@@ -11,18 +13,29 @@ const LONGEST: &str = "100000000000years 11months 29days 23h 59m 59s 999ms 999µ
 
 const GREATEST: &str = "584542046090years 7months 15days 17h 5m 3s 999ms 999µs 999ns";
 
-/// Each duration, in seconds and nanoseconds, is printed as this text, and each clone of what prints it.
+/// A sink is given this text of the duration, at one request.
+fn assert_written(rt: &impl Abort, value: StdDuration, text: &str) {
+    let printed = format_duration(value);
+    let mut sink = Sink::open();
+    assert_same_at(rt, write!(sink, "{printed}").is_ok(), true, text);
+    assert_same_at(rt, sink.bytes(), text.as_bytes(), text);
+    assert_same_at(rt, sink.requests(), 1, text);
+}
+
+/// A buffer of these bytes is given this text.
+fn assert_text(rt: &impl Abort, printed: &FormattedDuration, byte: u8, text: &str) {
+    assert_same(rt, printed.text(&mut [byte; 64]), text);
+}
+
+/// Each duration, in seconds and nanoseconds, is printed as this text, and so is each clone.
 fn assert_printed(rt: &impl Abort, rows: &[(u64, u32, &str)]) -> Result<(), Fail> {
     for (secs, nanos, text) in rows {
         let value = StdDuration::checked_new(*secs, *nanos).ok_or("no duration")?;
         let printed = format_duration(value);
-        assert_same(rt, printed.text(&mut [0; 64]), *text);
+        assert_text(rt, &printed, 0, text);
+        assert_text(rt, &printed.clone()?, b'x', text);
         assert_same_at(rt, *printed.get_ref(), value, text);
-        assert_same(rt, printed.clone()?.text(&mut [b'x'; 64]), *text);
-        let mut sink = Sink::open();
-        assert_same(rt, write!(sink, "{printed}"), Ok(()));
-        assert_same_at(rt, sink.bytes(), text.as_bytes(), text);
-        assert_same_at(rt, sink.requests(), 1, text);
+        assert_written(rt, value, text);
     }
     Ok(())
 }
@@ -30,17 +43,15 @@ fn assert_printed(rt: &impl Abort, rows: &[(u64, u32, &str)]) -> Result<(), Fail
 /// Each text is printed anew as this one.
 fn assert_canonical(rt: &impl Abort, rows: &[(&str, &str)]) {
     for (text, printed) in rows {
-        assert_same_at(rt, canonical(text, &mut [0; 64]), Ok(*printed), text);
+        assert_same_at(rt, canonical(text, &mut [0; 64]).ok(), Some(*printed), text);
     }
 }
 
-/// Each text has this error, which leaves the buffer as it was.
-fn assert_refused(rt: &impl Abort, rows: &[(&str, DurationError<'_>)]) {
-    for (text, error) in rows {
-        let mut buf = [b'-'; 64];
-        assert_same_at(rt, canonical(text, &mut buf), Err(*error), text);
-        assert_same_at(rt, buf.as_slice(), [b'-'; 64].as_slice(), text);
-    }
+/// The text has this error, which leaves the buffer as it was.
+fn assert_refused(rt: &impl Abort, text: &str, error: DurationError<'_>) {
+    let mut buf = [b'-'; 64];
+    assert_same_at(rt, canonical(text, &mut buf).err(), Some(error), text);
+    assert_same_at(rt, buf.as_slice(), [b'-'; 64].as_slice(), text);
 }
 
 #[test]
@@ -68,17 +79,15 @@ fn a_duration_is_printed_in_its_greatest_counts(rt: HostRuntime) -> Result<(), F
 #[test]
 fn the_longest_text_fills_its_buffer(rt: HostRuntime) -> Result<(), Fail> {
     let longest = StdDuration::checked_new(3_155_760_000_031_522_175, 999_999_999);
-    let printed = format_duration(longest.ok_or("no duration")?);
+    let longest = longest.ok_or("no duration")?;
     assert_same(&rt, LONGEST.len(), 64);
     let mut buf = [b'-'; 64];
-    assert_same(&rt, printed.text(&mut buf), LONGEST);
+    assert_same(&rt, format_duration(longest).text(&mut buf), LONGEST);
     assert_same(&rt, buf.as_slice(), LONGEST.as_bytes());
     let mut again = [b'-'; 64];
-    assert_same(&rt, canonical(LONGEST, &mut again), Ok(LONGEST));
+    assert_same(&rt, canonical(LONGEST, &mut again).ok(), Some(LONGEST));
     assert_same(&rt, again.as_slice(), LONGEST.as_bytes());
-    let mut sink = Sink::open();
-    assert_same(&rt, write!(sink, "{printed}"), Ok(()));
-    assert_same(&rt, sink.bytes(), LONGEST.as_bytes());
+    assert_written(&rt, longest, LONGEST);
     Ok(())
 }
 
@@ -110,12 +119,11 @@ fn width_and_fill_change_nothing(rt: HostRuntime) {
 
 #[test]
 fn a_sink_is_asked_once(rt: HostRuntime) {
-    let printed = format_duration(StdDuration::from_secs(1_296_122));
-    let mut sink = Sink::open();
-    assert_same(&rt, write!(sink, "{printed}"), Ok(()));
-    assert_same(&rt, sink.requests(), 1);
+    let value = StdDuration::from_secs(1_296_122);
+    assert_written(&rt, value, "15days 2m 2s");
+    let printed = format_duration(value);
     let mut refusing = Sink::refusing();
-    assert_same(&rt, write!(refusing, "{printed}"), Err(fmt::Error));
+    assert_same(&rt, write!(refusing, "{printed}").is_err(), true);
     assert_same(&rt, refusing.requests(), 1);
     assert_same(&rt, refusing.bytes().len(), 0);
 }
@@ -125,11 +133,8 @@ fn each_second_of_a_day_reads_back(rt: HostRuntime) {
     let mut buf = [0; 64];
     for secs in 0..86_400 {
         let value = StdDuration::from_secs(secs);
-        assert_same(
-            &rt,
-            parse_duration(format_duration(value).text(&mut buf)),
-            Ok(value),
-        );
+        let text = format_duration(value).text(&mut buf);
+        assert_same_at(&rt, parse_duration(text).ok(), Some(value), text);
     }
 }
 
@@ -149,24 +154,17 @@ fn a_canonical_text_is_printed_anew(rt: HostRuntime) {
 
 #[test]
 fn each_error_leaves_the_buffer_as_it_was(rt: HostRuntime) {
-    assert_refused(
-        &rt,
-        &[
-            ("1~", DurationError::InvalidCharacter(1)),
-            ("2h min", DurationError::NumberExpected(3)),
-            (
-                "10nights",
-                DurationError::UnknownUnit {
-                    start: 2,
-                    end: 8,
-                    unit: "nights",
-                    value: 10,
-                },
-            ),
-            ("1.0000000002s", DurationError::NumberOverflow),
-            ("", DurationError::Empty),
-        ],
-    );
+    let nights = DurationError::UnknownUnit {
+        start: 2,
+        end: 8,
+        unit: "nights",
+        value: 10,
+    };
+    assert_refused(&rt, "1~", DurationError::InvalidCharacter(1));
+    assert_refused(&rt, "2h min", DurationError::NumberExpected(3));
+    assert_refused(&rt, "10nights", nights);
+    assert_refused(&rt, "1.0000000002s", DurationError::NumberOverflow);
+    assert_refused(&rt, "", DurationError::Empty);
 }
 
 #[test]

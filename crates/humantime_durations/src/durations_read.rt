@@ -12,30 +12,29 @@ fn assert_values(rt: &impl Abort, rows: &[(&str, u64, u32)]) {
     }
 }
 
+/// The text has this error.
+fn assert_error(rt: &impl Abort, text: &str, error: DurationError<'_>) {
+    assert_same_at(rt, parse_duration(text).err(), Some(error), text);
+}
+
 /// Each text is too large, or too fine.
 fn assert_overflows(rt: &impl Abort, texts: &[&str]) {
     for text in texts {
-        assert_same_at(
-            rt,
-            parse_duration(text),
-            Err(DurationError::NumberOverflow),
-            text,
-        );
+        assert_error(rt, text, DurationError::NumberOverflow);
     }
 }
 
-/// Each text has this error.
-fn assert_errors(rt: &impl Abort, rows: &[(&str, DurationError<'_>)]) {
-    for (text, error) in rows {
-        assert_same_at(rt, parse_duration(text), Err(*error), text);
+/// Each text has no number at this offset, where one is expected.
+fn assert_numbers_expected(rt: &impl Abort, rows: &[(&str, usize)]) {
+    for (text, at) in rows {
+        assert_error(rt, text, DurationError::NumberExpected(*at));
     }
 }
 
 /// Each text has a character out of place at this offset.
 fn assert_characters(rt: &impl Abort, rows: &[(&str, usize)]) {
     for (text, at) in rows {
-        let error = DurationError::InvalidCharacter(*at);
-        assert_same_at(rt, parse_duration(text), Err(error), text);
+        assert_error(rt, text, DurationError::InvalidCharacter(*at));
     }
 }
 
@@ -48,7 +47,7 @@ fn assert_unknown_units(rt: &impl Abort, rows: &[(&str, usize, usize, &str, u64)
             unit: *unit,
             value: *value,
         };
-        assert_same_at(rt, parse_duration(text), Err(error), text);
+        assert_error(rt, text, error);
     }
 }
 
@@ -268,19 +267,19 @@ fn what_is_too_large_overflows(rt: HostRuntime) {
 
 #[test]
 fn a_number_is_expected_where_a_span_begins(rt: HostRuntime) {
-    assert_errors(
+    assert_error(&rt, "", DurationError::Empty);
+    assert_error(&rt, "\r", DurationError::Empty);
+    assert_numbers_expected(
         &rt,
         &[
-            ("", DurationError::Empty),
-            ("\r", DurationError::Empty),
-            ("  x", DurationError::NumberExpected(2)),
-            ("2 hours  min", DurationError::NumberExpected(9)),
-            (".1s", DurationError::NumberExpected(0)),
-            (".", DurationError::NumberExpected(0)),
-            ("\0", DurationError::NumberExpected(0)),
-            ("-1s", DurationError::NumberExpected(0)),
-            ("1h -2m", DurationError::NumberExpected(3)),
-            ("1s .5s", DurationError::NumberExpected(3)),
+            ("  x", 2),
+            ("2 hours  min", 9),
+            (".1s", 0),
+            (".", 0),
+            ("\0", 0),
+            ("-1s", 0),
+            ("1h -2m", 3),
+            ("1s .5s", 3),
         ],
     );
 }

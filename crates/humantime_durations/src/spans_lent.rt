@@ -4,21 +4,40 @@ use crate::support::assert_same_at;
 use humantime::{DurationError, Span, spans};
 use std::process::Abort;
 
-/// What a span lends: its number, fraction and unit, its offsets and its value.
-type Row<'a> = (&'a str, Option<&'a str>, &'a str, usize, usize, u64);
+/// What a span lends: its number, its fraction, where it has one, its unit, its offsets and its value.
+type Row<'a> = (&'a str, &'a str, &'a str, usize, usize, u64);
 
-/// What the item lends, if it is a span.
-fn row_of<'a>(item: Option<Result<Span<'a>, DurationError<'a>>>) -> Option<Row<'a>> {
-    match item {
-        Some(Ok(span)) => Some((
-            span.number(),
-            span.fraction(),
-            span.unit(),
-            span.start(),
-            span.end(),
-            span.value(),
-        )),
-        _ => None,
+/// The item is a span that lends this.
+fn assert_span(
+    rt: &impl Abort,
+    text: &str,
+    item: Option<Result<Span<'_>, DurationError<'_>>>,
+    row: &Row<'_>,
+) {
+    let Some(Ok(span)) = item else {
+        return assert_same_at(rt, "no span", "a span", text);
+    };
+    let (number, fraction, unit, start, end, value) = row;
+    let fraction = (!fraction.is_empty()).then_some(*fraction);
+    assert_same_at(rt, span.number(), *number, text);
+    assert_same_at(rt, span.fraction(), fraction, text);
+    assert_same_at(rt, span.unit(), *unit, text);
+    assert_same_at(rt, span.start(), *start, text);
+    assert_same_at(rt, span.end(), *end, text);
+    assert_same_at(rt, span.value(), *value, text);
+}
+
+/// The text has these spans, then these errors, and then nothing for good.
+fn assert_items(rt: &impl Abort, text: &str, rows: &[Row<'_>], errors: &[DurationError<'_>]) {
+    let mut items = spans(text);
+    for row in rows {
+        assert_span(rt, text, items.next(), row);
+    }
+    for error in errors {
+        assert_same_at(rt, error_of(items.next()), Some(*error), text);
+    }
+    for _ in 0..3 {
+        assert_same_at(rt, items.next().is_none(), true, text);
     }
 }
 
@@ -30,17 +49,19 @@ fn error_of<'a>(item: Option<Result<Span<'a>, DurationError<'a>>>) -> Option<Dur
     }
 }
 
-/// The text has these spans, then these errors, and then nothing for good.
-fn assert_items(rt: &impl Abort, text: &str, rows: &[Row<'_>], errors: &[DurationError<'_>]) {
-    let mut items = spans(text);
-    for row in rows {
-        assert_same_at(rt, row_of(items.next()), Some(*row), text);
+/// Each text has these spans and nothing else.
+fn assert_spans(rt: &impl Abort, texts: &[(&str, &[Row<'_>])]) {
+    for (text, rows) in texts {
+        assert_items(rt, text, rows, &[]);
     }
-    for error in errors {
-        assert_same_at(rt, error_of(items.next()), Some(*error), text);
-    }
-    for _ in 0..3 {
-        assert_same_at(rt, items.next().is_none(), true, text);
+}
+
+fn unknown_unit(start: usize, end: usize, unit: &str, value: u64) -> DurationError<'_> {
+    DurationError::UnknownUnit {
+        start,
+        end,
+        unit,
+        value,
     }
 }
 
@@ -49,10 +70,7 @@ fn spans_lend_their_slices(rt: HostRuntime) {
     assert_items(
         &rt,
         " 1 2.5 0 h3s x",
-        &[
-            ("1 2", Some("5 0"), "h", 1, 10, 12),
-            ("3", None, "s", 10, 12, 3),
-        ],
+        &[("1 2", "5 0", "h", 1, 10, 12), ("3", "", "s", 10, 12, 3)],
         &[DurationError::NumberExpected(13)],
     );
     assert_items(
@@ -60,54 +78,35 @@ fn spans_lend_their_slices(rt: HostRuntime) {
         "100000000000000000us 1foo",
         &[(
             "100000000000000000",
-            None,
+            "",
             "us",
             0,
             20,
             100_000_000_000_000_000,
         )],
-        &[DurationError::UnknownUnit {
-            start: 22,
-            end: 25,
-            unit: "foo",
-            value: 1,
-        }],
+        &[unknown_unit(22, 25, "foo", 1)],
     );
-    assert_items(
+    assert_spans(
         &rt,
-        "1.50000000000s",
-        &[("1", Some("50000000000"), "s", 0, 14, 1)],
-        &[],
-    );
-    assert_items(
-        &rt,
-        " 1. 0 0 0 ns 2.10 0h",
         &[
-            ("1", Some("0 0 0"), "ns", 1, 12, 1),
-            ("2", Some("10 0"), "h", 13, 20, 2),
+            ("1.50000000000s", &[("1", "50000000000", "s", 0, 14, 1)]),
+            (
+                " 1. 0 0 0 ns 2.10 0h",
+                &[
+                    ("1", "0 0 0", "ns", 1, 12, 1),
+                    ("2", "10 0", "h", 13, 20, 2),
+                ],
+            ),
+            (
+                "2h 37min",
+                &[("2", "", "h", 0, 2, 2), ("37", "", "min", 3, 8, 37)],
+            ),
         ],
-        &[],
-    );
-    assert_items(
-        &rt,
-        "2h 37min",
-        &[("2", None, "h", 0, 2, 2), ("37", None, "min", 3, 8, 37)],
-        &[],
     );
 }
 
 #[test]
 fn spans_have_no_exception_for_zero(rt: HostRuntime) {
-    assert_items(
-        &rt,
-        "0",
-        &[],
-        &[DurationError::UnknownUnit {
-            start: 1,
-            end: 1,
-            unit: "",
-            value: 0,
-        }],
-    );
+    assert_items(&rt, "0", &[], &[unknown_unit(1, 1, "", 0)]);
     assert_items(&rt, "", &[], &[DurationError::Empty]);
 }
