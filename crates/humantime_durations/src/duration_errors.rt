@@ -1,6 +1,6 @@
 //! The errors of durations: their messages, and which are equal.
 
-use crate::support::{assert_same, assert_same_at};
+use crate::support::assert_same_at;
 use humantime::DurationError;
 use humantime_sink::Sink;
 use std::fmt::Write;
@@ -10,9 +10,9 @@ use std::process::Abort;
 fn assert_message(rt: &impl Abort, error: DurationError<'_>, message: &str) {
     let (mut line, mut wide) = (Sink::open(), Sink::open());
     assert_same_at(rt, write!(line, "{error}").is_ok(), true, message);
-    assert_same(rt, line.text(), message);
+    assert_same_at(rt, line.text(), message, message);
     assert_same_at(rt, write!(wide, "{error:*>200}").is_ok(), true, message);
-    assert_same(rt, wide.text(), message);
+    assert_same_at(rt, wide.text(), message, message);
     assert_same_at(rt, error.clone().ok(), Some(error), message);
 }
 
@@ -77,24 +77,26 @@ fn each_error_has_its_message(rt: HostRuntime) {
     );
 }
 
-/// The two errors are different.
-fn assert_different(rt: &impl Abort, left: DurationError<'_>, right: DurationError<'_>) {
-    assert_ne!(rt; left, right);
+/// The two errors are different, by what this says.
+fn assert_different(rt: &impl Abort, left: DurationError<'_>, right: DurationError<'_>, by: &str) {
+    assert_same_at(rt, left == right, false, by);
 }
 
 #[test]
 fn units_are_compared_by_their_text(rt: HostRuntime) {
     let text = "1foo 2foo 3bar";
-    let first = unknown_unit(1, 4, &text[1..4], 1);
-    assert_same(&rt, first, unknown_unit(1, 4, &text[6..9], 1));
-    assert_different(&rt, first, unknown_unit(1, 4, &text[11..14], 1));
-    assert_different(&rt, first, unknown_unit(2, 4, "foo", 1));
-    assert_different(&rt, first, unknown_unit(1, 5, "foo", 1));
-    assert_different(&rt, first, unknown_unit(1, 4, "foo", 2));
-    let character = DurationError::InvalidCharacter(1);
-    assert_different(&rt, character, DurationError::InvalidCharacter(2));
-    assert_different(&rt, character, DurationError::NumberExpected(1));
-    assert_different(&rt, DurationError::NumberOverflow, DurationError::Empty);
+    let (first, second) = (&text[1..4], &text[6..9]);
+    let first = unknown_unit(1, 4, first, 1);
+    assert_same_at(&rt, first, unknown_unit(1, 4, second, 1), second);
+    assert_different(&rt, first, unknown_unit(1, 4, &text[11..14], 1), "text");
+    assert_different(&rt, first, unknown_unit(2, 4, "foo", 1), "start");
+    assert_different(&rt, first, unknown_unit(1, 5, "foo", 1), "end");
+    assert_different(&rt, first, unknown_unit(1, 4, "foo", 2), "value");
+    let one = DurationError::InvalidCharacter(1);
+    assert_different(&rt, one, DurationError::InvalidCharacter(2), "offset");
+    assert_different(&rt, one, DurationError::NumberExpected(1), "variant");
+    let (overflow, empty) = (DurationError::NumberOverflow, DurationError::Empty);
+    assert_different(&rt, overflow, empty, "variant without fields");
 }
 
 fn unknown_unit(start: usize, end: usize, unit: &str, value: u64) -> DurationError<'_> {

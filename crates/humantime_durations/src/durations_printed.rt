@@ -1,6 +1,6 @@
 //! Durations, and the text of each.
 
-use crate::support::{assert_same, assert_same_at};
+use crate::support::assert_same_at;
 use humantime::{
     DurationError, FormattedDuration, StdDuration, canonical, format_duration, parse_duration,
 };
@@ -24,7 +24,7 @@ fn assert_written(rt: &impl Abort, value: StdDuration, text: &str) {
 
 /// A buffer of these bytes is given this text.
 fn assert_text(rt: &impl Abort, printed: &FormattedDuration, byte: u8, text: &str) {
-    assert_same(rt, printed.text(&mut [byte; 64]), text);
+    assert_same_at(rt, printed.text(&mut [byte; 64]), text, text);
 }
 
 /// Each duration, in seconds and nanoseconds, is printed as this text, and so is each clone.
@@ -56,7 +56,7 @@ fn assert_refused(rt: &impl Abort, text: &str, error: DurationError<'_>) {
 
 #[test]
 fn a_duration_is_printed_in_its_greatest_counts(rt: HostRuntime) -> Result<(), Fail> {
-    assert_same(&rt, GREATEST.len(), 61);
+    assert_same_at(&rt, GREATEST.len(), 61, GREATEST);
     assert_printed(
         &rt,
         &[
@@ -80,13 +80,23 @@ fn a_duration_is_printed_in_its_greatest_counts(rt: HostRuntime) -> Result<(), F
 fn the_longest_text_fills_its_buffer(rt: HostRuntime) -> Result<(), Fail> {
     let longest = StdDuration::checked_new(3_155_760_000_031_522_175, 999_999_999);
     let longest = longest.ok_or("no duration")?;
-    assert_same(&rt, LONGEST.len(), 64);
+    assert_same_at(&rt, LONGEST.len(), 64, LONGEST);
     let mut buf = [b'-'; 64];
-    assert_same(&rt, format_duration(longest).text(&mut buf), LONGEST);
-    assert_same(&rt, buf.as_slice(), LONGEST.as_bytes());
+    assert_same_at(
+        &rt,
+        format_duration(longest).text(&mut buf),
+        LONGEST,
+        LONGEST,
+    );
+    assert_same_at(&rt, buf.as_slice(), LONGEST.as_bytes(), LONGEST);
     let mut again = [b'-'; 64];
-    assert_same(&rt, canonical(LONGEST, &mut again).ok(), Some(LONGEST));
-    assert_same(&rt, again.as_slice(), LONGEST.as_bytes());
+    assert_same_at(
+        &rt,
+        canonical(LONGEST, &mut again).ok(),
+        Some(LONGEST),
+        LONGEST,
+    );
+    assert_same_at(&rt, again.as_slice(), LONGEST.as_bytes(), LONGEST);
     assert_written(&rt, longest, LONGEST);
     Ok(())
 }
@@ -102,30 +112,33 @@ fn microseconds_are_printed_with_the_micro_sign(rt: HostRuntime) {
             ("1\u{3bc}s", "1\u{b5}s"),
         ],
     );
-    assert_same(&rt, "1\u{b5}s".as_bytes(), &[0x31, 0xc2, 0xb5, 0x73]);
+    let micro = "1\u{b5}s";
+    assert_same_at(&rt, micro.as_bytes(), &[0x31, 0xc2, 0xb5, 0x73], micro);
     let printed = format_duration(StdDuration::from_micros(123));
-    assert_same(&rt, printed.text(&mut [0; 64]), "123\u{b5}s");
+    assert_text(&rt, &printed, 0, "123\u{b5}s");
 }
 
 #[test]
 fn width_and_fill_change_nothing(rt: HostRuntime) {
     let printed = format_duration(StdDuration::from_secs(1_296_122));
+    let (once, twice) = ("15days 2m 2s", "15days 2m 2s15days 2m 2s");
     let mut sink = Sink::open();
-    assert!(rt; write!(sink, "{printed:>80}").is_ok());
-    assert_same(&rt, sink.bytes(), b"15days 2m 2s".as_slice());
-    assert!(rt; write!(sink, "{printed:*<80}").is_ok());
-    assert_same(&rt, sink.bytes(), b"15days 2m 2s15days 2m 2s".as_slice());
+    assert_same_at(&rt, write!(sink, "{printed:>80}").is_ok(), true, once);
+    assert_same_at(&rt, sink.bytes(), once.as_bytes(), once);
+    assert_same_at(&rt, write!(sink, "{printed:*<80}").is_ok(), true, twice);
+    assert_same_at(&rt, sink.bytes(), twice.as_bytes(), twice);
 }
 
 #[test]
 fn a_sink_is_asked_once(rt: HostRuntime) {
     let value = StdDuration::from_secs(1_296_122);
-    assert_written(&rt, value, "15days 2m 2s");
+    let text = "15days 2m 2s";
+    assert_written(&rt, value, text);
     let printed = format_duration(value);
     let mut refusing = Sink::refusing();
-    assert_same(&rt, write!(refusing, "{printed}").is_err(), true);
-    assert_same(&rt, refusing.requests(), 1);
-    assert_same(&rt, refusing.bytes().len(), 0);
+    assert_same_at(&rt, write!(refusing, "{printed}").is_err(), true, text);
+    assert_same_at(&rt, refusing.requests(), 1, text);
+    assert_same_at(&rt, refusing.bytes().len(), 0, text);
 }
 
 #[test]
@@ -170,14 +183,20 @@ fn each_error_leaves_the_buffer_as_it_was(rt: HostRuntime) {
 #[test]
 fn an_error_outlives_the_loan_of_the_buffer(rt: HostRuntime) {
     let mut buf = [b'-'; 64];
-    let error = canonical("10 months 1", &mut buf).err();
+    let (refused, accepted) = ("10 months 1", "17nanos");
+    let error = canonical(refused, &mut buf).err();
     buf[0] = b'x';
-    assert_same(&rt, canonical("17nanos", &mut buf), Ok("17ns"));
+    assert_same_at(
+        &rt,
+        canonical(accepted, &mut buf).ok(),
+        Some("17ns"),
+        accepted,
+    );
     let no_unit = DurationError::UnknownUnit {
         start: 11,
         end: 11,
         unit: "",
         value: 1,
     };
-    assert_same(&rt, error, Some(no_unit));
+    assert_same_at(&rt, error, Some(no_unit), refused);
 }

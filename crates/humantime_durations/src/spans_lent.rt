@@ -1,7 +1,7 @@
 //! The spans of a text, and what each lends of it.
 
 use crate::support::assert_same_at;
-use humantime::{DurationError, Span, spans};
+use humantime::{DurationError, Span, SpanIter, spans};
 use std::process::Abort;
 
 /// What a span lends: its number, its fraction, where it has one, its unit, its offsets and its value.
@@ -33,6 +33,11 @@ fn assert_items(rt: &impl Abort, text: &str, rows: &[Row<'_>], errors: &[Duratio
     for row in rows {
         assert_span(rt, text, items.next(), row);
     }
+    assert_rest(rt, text, items, errors);
+}
+
+/// The rest of the items are these errors, and then nothing for good.
+fn assert_rest(rt: &impl Abort, text: &str, mut items: SpanIter<'_>, errors: &[DurationError<'_>]) {
     for error in errors {
         assert_same_at(rt, error_of(items.next()), Some(*error), text);
     }
