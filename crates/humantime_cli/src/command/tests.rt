@@ -85,7 +85,7 @@ impl Write for Limited {
 
 const USAGE: &str = "usage: humantime duration|strict|weak TEXT\n";
 
-const TOO_FINE: &str =
+const OVERFLOW: &str =
     "number is too large or cannot be represented without a lack of precision (values below 1ns are not supported)\n";
 
 /// The two are equal, after a run of these words.
@@ -172,7 +172,7 @@ fn accepted_timestamps_are_printed(rt: HostRuntime) {
     );
 }
 
-/// A fraction of ten thousand digits that begins and ends with these and has zeros between them ends with this status and line.
+/// A number of seconds has ten thousand digits behind the point. This is its first digit and its last, and all others are zeros.
 fn assert_long_fraction(rt: &impl Abort, first: u8, last: u8, status: u8, line: &str) {
     let mut bytes = [b'0'; 10_003];
     bytes[0] = first;
@@ -190,7 +190,8 @@ fn zeros_at_the_end_of_a_fraction_do_not_count(rt: HostRuntime) {
 
 #[test]
 fn a_digit_behind_zeros_counts_with_them(rt: HostRuntime) {
-    assert_long_fraction(&rt, b'0', b'1', 1, TOO_FINE);
+    assert_same(&rt, OVERFLOW.len(), 110, &[OVERFLOW]);
+    assert_long_fraction(&rt, b'0', b'1', 1, OVERFLOW);
 }
 
 #[test]
@@ -214,7 +215,7 @@ fn refused_durations_are_explained(rt: HostRuntime) {
                 "1\u{3bc}",
                 "unknown time unit \"\u{3bc}\", supported units: ns, us/µs, ms, sec, min, hours, days, weeks, months, years (and few variations)\n",
             ),
-            ("10000000000000y", TOO_FINE),
+            ("10000000000000y", OVERFLOW),
         ],
     );
 }
