@@ -1,94 +1,144 @@
 //! Durations, and the text of each.
 
-use crate::support::{assert_same, assert_same_at};
-use humantime::{DurationError, StdDuration, canonical, format_duration, parse_duration};
+use crate::support::assert_same_at;
+use humantime::{
+    DurationError, FormattedDuration, StdDuration, canonical, format_duration, parse_duration,
+};
 use humantime_sink::Sink;
-use std::fmt::{self, Write};
+use std::fmt::Write;
+use std::process::Abort;
 use std::test::Fail;
 
 const LONGEST: &str = "100000000000years 11months 29days 23h 59m 59s 999ms 999µs 999ns";
 
 const GREATEST: &str = "584542046090years 7months 15days 17h 5m 3s 999ms 999µs 999ns";
 
+/// A sink is given this text of the duration, at one request.
+fn assert_written(rt: &impl Abort, value: StdDuration, text: &str) {
+    let printed = format_duration(value);
+    let mut sink = Sink::open();
+    assert_same_at(rt, write!(sink, "{printed}").is_ok(), true, text);
+    assert_same_at(rt, sink.bytes(), text.as_bytes(), text);
+    assert_same_at(rt, sink.requests(), 1, text);
+}
+
+/// A buffer of these bytes is given this text.
+fn assert_text(rt: &impl Abort, printed: &FormattedDuration, byte: u8, text: &str) {
+    assert_same_at(rt, printed.text(&mut [byte; 64]), text, text);
+}
+
+/// Each duration, in seconds and nanoseconds, is printed as this text, and so is each clone.
+fn assert_printed(rt: &impl Abort, rows: &[(u64, u32, &str)]) -> Result<(), Fail> {
+    for (secs, nanos, text) in rows {
+        let value = StdDuration::checked_new(*secs, *nanos).ok_or("no duration")?;
+        let printed = format_duration(value);
+        assert_text(rt, &printed, 0, text);
+        assert_text(rt, &printed.clone()?, b'x', text);
+        assert_same_at(rt, *printed.get_ref(), value, text);
+        assert_written(rt, value, text);
+    }
+    Ok(())
+}
+
+/// Each text is printed anew as this one.
+fn assert_canonical(rt: &impl Abort, rows: &[(&str, &str)]) {
+    for (text, printed) in rows {
+        assert_same_at(rt, canonical(text, &mut [0; 64]).ok(), Some(*printed), text);
+    }
+}
+
+/// The text has this error, which leaves the buffer as it was.
+fn assert_refused(rt: &impl Abort, text: &str, error: DurationError<'_>) {
+    let mut buf = [b'-'; 64];
+    assert_same_at(rt, canonical(text, &mut buf).err(), Some(error), text);
+    assert_same_at(rt, buf.as_slice(), [b'-'; 64].as_slice(), text);
+}
+
 #[test]
 fn a_duration_is_printed_in_its_greatest_counts(rt: HostRuntime) -> Result<(), Fail> {
-    let cases = [
-        (31_560_192, 0, "1year 43m 12s"),
-        (u64::MAX, 999_999_999, GREATEST),
-        (0, 0, "0s"),
-        (3_155_760_000_031_522_175, 999_999_999, LONGEST),
-        (0, 1, "1ns"),
-        (0, 999, "999ns"),
-        (0, 32_000_000, "32ms"),
-        (0, 123_000, "123µs"),
-        (63_115_320, 12_000, "2years 2m 12µs"),
-        (1_296_122, 0, "15days 2m 2s"),
-        (907_200, 0, "10days 12h"),
-        (15_778_800, 0, "5months 30days 10h 12m"),
-    ];
-    for (secs, nanos, text) in cases {
-        let value = StdDuration::checked_new(secs, nanos).ok_or("no duration")?;
-        let printed = format_duration(value);
-        assert_same(&rt, printed.text(&mut [0; 64]), text);
-        assert_same_at(&rt, *printed.get_ref(), value, text);
-        assert_same(&rt, printed.clone()?.text(&mut [b'x'; 64]), text);
-        let mut sink = Sink::open();
-        assert_same(&rt, write!(sink, "{printed}"), Ok(()));
-        assert_same_at(&rt, sink.bytes(), text.as_bytes(), text);
-        assert_same_at(&rt, sink.requests(), 1, text);
-    }
-    assert_same(&rt, GREATEST.len(), 61);
-    Ok(())
+    assert_same_at(&rt, GREATEST.len(), 61, GREATEST);
+    assert_printed(
+        &rt,
+        &[
+            (31_560_192, 0, "1year 43m 12s"),
+            (u64::MAX, 999_999_999, GREATEST),
+            (0, 0, "0s"),
+            (3_155_760_000_031_522_175, 999_999_999, LONGEST),
+            (0, 1, "1ns"),
+            (0, 999, "999ns"),
+            (0, 32_000_000, "32ms"),
+            (0, 123_000, "123µs"),
+            (63_115_320, 12_000, "2years 2m 12µs"),
+            (1_296_122, 0, "15days 2m 2s"),
+            (907_200, 0, "10days 12h"),
+            (15_778_800, 0, "5months 30days 10h 12m"),
+        ],
+    )
 }
 
 #[test]
 fn the_longest_text_fills_its_buffer(rt: HostRuntime) -> Result<(), Fail> {
     let longest = StdDuration::checked_new(3_155_760_000_031_522_175, 999_999_999);
-    let printed = format_duration(longest.ok_or("no duration")?);
-    assert_same(&rt, LONGEST.len(), 64);
+    let longest = longest.ok_or("no duration")?;
+    assert_same_at(&rt, LONGEST.len(), 64, LONGEST);
     let mut buf = [b'-'; 64];
-    assert_same(&rt, printed.text(&mut buf), LONGEST);
-    assert_same(&rt, buf.as_slice(), LONGEST.as_bytes());
+    assert_same_at(
+        &rt,
+        format_duration(longest).text(&mut buf),
+        LONGEST,
+        LONGEST,
+    );
+    assert_same_at(&rt, buf.as_slice(), LONGEST.as_bytes(), LONGEST);
     let mut again = [b'-'; 64];
-    assert_same(&rt, canonical(LONGEST, &mut again), Ok(LONGEST));
-    assert_same(&rt, again.as_slice(), LONGEST.as_bytes());
-    let mut sink = Sink::open();
-    assert_same(&rt, write!(sink, "{printed}"), Ok(()));
-    assert_same(&rt, sink.bytes(), LONGEST.as_bytes());
+    assert_same_at(
+        &rt,
+        canonical(LONGEST, &mut again).ok(),
+        Some(LONGEST),
+        LONGEST,
+    );
+    assert_same_at(&rt, again.as_slice(), LONGEST.as_bytes(), LONGEST);
+    assert_written(&rt, longest, LONGEST);
     Ok(())
 }
 
 #[test]
 fn microseconds_are_printed_with_the_micro_sign(rt: HostRuntime) {
-    for text in ["1us", "1usec", "1\u{b5}s", "1\u{3bc}s"] {
-        let mut buf = [0; 64];
-        let printed = canonical(text, &mut buf).map(|printed| printed.as_bytes());
-        assert_same_at(&rt, printed, Ok([0x31, 0xc2, 0xb5, 0x73].as_slice()), text);
-    }
+    assert_canonical(
+        &rt,
+        &[
+            ("1us", "1\u{b5}s"),
+            ("1usec", "1\u{b5}s"),
+            ("1\u{b5}s", "1\u{b5}s"),
+            ("1\u{3bc}s", "1\u{b5}s"),
+        ],
+    );
+    let micro = "1\u{b5}s";
+    assert_same_at(&rt, micro.as_bytes(), &[0x31, 0xc2, 0xb5, 0x73], micro);
     let printed = format_duration(StdDuration::from_micros(123));
-    assert_same(&rt, printed.text(&mut [0; 64]), "123\u{b5}s");
+    assert_text(&rt, &printed, 0, "123\u{b5}s");
 }
 
 #[test]
 fn width_and_fill_change_nothing(rt: HostRuntime) {
     let printed = format_duration(StdDuration::from_secs(1_296_122));
+    let (once, twice) = ("15days 2m 2s", "15days 2m 2s15days 2m 2s");
     let mut sink = Sink::open();
-    assert!(rt; write!(sink, "{printed:>80}").is_ok());
-    assert_same(&rt, sink.bytes(), b"15days 2m 2s".as_slice());
-    assert!(rt; write!(sink, "{printed:*<80}").is_ok());
-    assert_same(&rt, sink.bytes(), b"15days 2m 2s15days 2m 2s".as_slice());
+    assert_same_at(&rt, write!(sink, "{printed:>80}").is_ok(), true, once);
+    assert_same_at(&rt, sink.bytes(), once.as_bytes(), once);
+    assert_same_at(&rt, write!(sink, "{printed:*<80}").is_ok(), true, twice);
+    assert_same_at(&rt, sink.bytes(), twice.as_bytes(), twice);
 }
 
 #[test]
 fn a_sink_is_asked_once(rt: HostRuntime) {
-    let printed = format_duration(StdDuration::from_secs(1_296_122));
-    let mut sink = Sink::open();
-    assert_same(&rt, write!(sink, "{printed}"), Ok(()));
-    assert_same(&rt, sink.requests(), 1);
+    let value = StdDuration::from_secs(1_296_122);
+    let text = "15days 2m 2s";
+    assert_written(&rt, value, text);
+    let printed = format_duration(value);
     let mut refusing = Sink::refusing();
-    assert_same(&rt, write!(refusing, "{printed}"), Err(fmt::Error));
-    assert_same(&rt, refusing.requests(), 1);
-    assert_same(&rt, refusing.bytes().len(), 0);
+    assert_same_at(&rt, write!(refusing, "{printed}").is_err(), true, text);
+    assert_same_at(&rt, refusing.requests(), 1, text);
+    assert_same_at(&rt, refusing.bytes().len(), 0, text);
 }
 
 #[test]
@@ -96,26 +146,23 @@ fn each_second_of_a_day_reads_back(rt: HostRuntime) {
     let mut buf = [0; 64];
     for secs in 0..86_400 {
         let value = StdDuration::from_secs(secs);
-        assert_same(
-            &rt,
-            parse_duration(format_duration(value).text(&mut buf)),
-            Ok(value),
-        );
+        let text = format_duration(value).text(&mut buf);
+        assert_same_at(&rt, parse_duration(text).ok(), Some(value), text);
     }
 }
 
 #[test]
 fn a_canonical_text_is_printed_anew(rt: HostRuntime) {
-    let cases = [
-        ("2h 37min", "2h 37m"),
-        ("2years 2min 12us", "2years 2m 12µs"),
-        ("12M", "1year 43m 12s"),
-        ("0", "0s"),
-        (LONGEST, LONGEST),
-    ];
-    for (text, printed) in cases {
-        assert_same(&rt, canonical(text, &mut [0; 64]), Ok(printed));
-    }
+    assert_canonical(
+        &rt,
+        &[
+            ("2h 37min", "2h 37m"),
+            ("2years 2min 12us", "2years 2m 12µs"),
+            ("12M", "1year 43m 12s"),
+            ("0", "0s"),
+            (LONGEST, LONGEST),
+        ],
+    );
 }
 
 #[test]
@@ -126,31 +173,30 @@ fn each_error_leaves_the_buffer_as_it_was(rt: HostRuntime) {
         unit: "nights",
         value: 10,
     };
-    let cases = [
-        ("1~", DurationError::InvalidCharacter(1)),
-        ("2h min", DurationError::NumberExpected(3)),
-        ("10nights", nights),
-        ("1.0000000002s", DurationError::NumberOverflow),
-        ("", DurationError::Empty),
-    ];
-    for (text, error) in cases {
-        let mut buf = [b'-'; 64];
-        assert_same_at(&rt, canonical(text, &mut buf), Err(error), text);
-        assert_same_at(&rt, buf.as_slice(), [b'-'; 64].as_slice(), text);
-    }
+    assert_refused(&rt, "1~", DurationError::InvalidCharacter(1));
+    assert_refused(&rt, "2h min", DurationError::NumberExpected(3));
+    assert_refused(&rt, "10nights", nights);
+    assert_refused(&rt, "1.0000000002s", DurationError::NumberOverflow);
+    assert_refused(&rt, "", DurationError::Empty);
 }
 
 #[test]
 fn an_error_outlives_the_loan_of_the_buffer(rt: HostRuntime) {
     let mut buf = [b'-'; 64];
-    let error = canonical("10 months 1", &mut buf).err();
+    let (refused, accepted) = ("10 months 1", "17nanos");
+    let error = canonical(refused, &mut buf).err();
     buf[0] = b'x';
-    assert_same(&rt, canonical("17nanos", &mut buf), Ok("17ns"));
+    assert_same_at(
+        &rt,
+        canonical(accepted, &mut buf).ok(),
+        Some("17ns"),
+        accepted,
+    );
     let no_unit = DurationError::UnknownUnit {
         start: 11,
         end: 11,
         unit: "",
         value: 1,
     };
-    assert_same(&rt, error, Some(no_unit));
+    assert_same_at(&rt, error, Some(no_unit), refused);
 }

@@ -3,11 +3,6 @@
 use std::fmt::Debug;
 use std::process::Abort;
 
-/// The two are equal.
-pub(crate) fn assert_same<T: PartialEq + Debug + Drop>(rt: &impl Abort, left: T, right: T) {
-    assert_eq!(rt; left, right);
-}
-
 /// The two are equal, for the case of this text.
 pub(crate) fn assert_same_at<T: PartialEq + Debug + Drop>(
     rt: &impl Abort,
