@@ -9,7 +9,6 @@ use crate::callers::timestamps::{
 };
 use crate::tests::support::assert_same;
 use humantime::{DurationError, StdDuration, TimestampError, UNIX_EPOCH};
-use std::test::Fail;
 
 #[test]
 fn a_limit_is_read(rt: HostRuntime) {
@@ -39,8 +38,8 @@ fn callers_answer(rt: HostRuntime) {
 }
 
 #[test]
-fn callers_of_timestamps_answer(rt: HostRuntime) -> Result<(), Fail> {
-    let start = default_start().ok().ok_or("refused")?;
+fn callers_of_timestamps_answer(rt: HostRuntime) {
+    let start = default_start().ok().expect(&rt, "refused");
     assert_same(&rt, start.unix_seconds(), 1518568087);
     assert_same(&rt, is_since("2018-02-14T00:28:06Z", start), Ok(false));
     assert_same(
@@ -59,8 +58,6 @@ fn callers_of_timestamps_answer(rt: HostRuntime) -> Result<(), Fail> {
     let stamp = "1970-01-01T00:00:00.000Z";
     assert_same(&rt, stamp_of(UNIX_EPOCH, &mut buffer), Some(stamp));
     assert_same(&rt, is_earlier(stamp, "1970-01-01T00:00:00.001Z"), true);
-    if let Ok(string) = stamp_string(rt.alloc(), UNIX_EPOCH) {
-        assert_same(&rt, string.as_str(), stamp);
-    }
-    Ok(())
+    let string = stamp_string(rt.alloc(), UNIX_EPOCH).expect(&rt, "no memory");
+    assert_same(&rt, string.as_str(), stamp);
 }

@@ -4,7 +4,6 @@ use crate::log_lines::{answers_alike, bound_text, keeps, keeps_by_bytes};
 use crate::tests::support::{assert_same_at, moment};
 use humantime::SystemTime;
 use std::process::Abort;
-use std::test::Fail;
 
 /// Each line is kept or dropped so.
 fn assert_keeps(rt: &impl Abort, from: SystemTime, to: SystemTime, rows: &[(&str, bool)]) {
@@ -20,6 +19,13 @@ fn assert_keeps_by_bytes(rt: &impl Abort, from: &str, to: &str, rows: &[(&str, b
     }
 }
 
+/// Both answer alike for each line.
+fn assert_alike(rt: &impl Abort, from: SystemTime, to: SystemTime, rows: &[(&str, bool)]) {
+    for (line, _) in rows {
+        assert_same_at(rt, answers_alike(line, from, to), true, line);
+    }
+}
+
 const LINES: &[(&str, bool)] = &[
     ("2018-02-14T00:28:06.999Z GET /early", false),
     ("2018-02-14T00:28:07.000Z GET /", true),
@@ -31,24 +37,21 @@ const LINES: &[(&str, bool)] = &[
 ];
 
 #[test]
-fn both_filters_keep_the_same_lines(rt: HostRuntime) -> Result<(), Fail> {
-    let from = moment(1_518_568_087, 0)?;
-    let to = moment(1_518_568_088, 500_000_000)?;
+fn both_filters_keep_the_same_lines(rt: HostRuntime) {
+    let from = moment(&rt, 1_518_568_087, 0);
+    let to = moment(&rt, 1_518_568_088, 500_000_000);
     let mut first = [0; 30];
     let mut second = [0; 30];
-    let first = bound_text(from, &mut first).ok_or("no text")?;
-    let second = bound_text(to, &mut second).ok_or("no text")?;
+    let first = bound_text(from, &mut first).expect(&rt, "no text");
+    let second = bound_text(to, &mut second).expect(&rt, "no text");
     assert_keeps(&rt, from, to, LINES);
     assert_keeps_by_bytes(&rt, first, second, LINES);
-    for (line, _) in LINES {
-        assert_same_at(&rt, answers_alike(line, from, to), true, line);
-    }
-    Ok(())
+    assert_alike(&rt, from, to, LINES);
 }
 
 #[test]
-fn lines_without_a_timestamp_are_dropped(rt: HostRuntime) -> Result<(), Fail> {
-    let rows = &[
+fn lines_without_a_timestamp_are_dropped(rt: HostRuntime) {
+    let rows: &[(&str, bool)] = &[
         ("", false),
         ("GET /", false),
         (" 2018-02-14T00:28:07Z GET /", false),
@@ -57,6 +60,10 @@ fn lines_without_a_timestamp_are_dropped(rt: HostRuntime) -> Result<(), Fail> {
         ("2018-02-14T00:28:07Z GET /", true),
         ("2018-02-14T00:28:07.123456789+00:00 GET /", true),
     ];
-    assert_keeps(&rt, moment(0, 0)?, moment(253_402_300_800, 0)?, rows);
-    Ok(())
+    assert_keeps(
+        &rt,
+        moment(&rt, 0, 0),
+        moment(&rt, 253_402_300_800, 0),
+        rows,
+    );
 }

@@ -5,17 +5,18 @@ use crate::tests::support::{assert_prints, assert_same_at};
 use humantime::{DurationError, StdDuration};
 use std::alloc::Global;
 use std::process::Abort;
-use std::test::Fail;
 
-/// Among these words, the last of which names the case, the option is this one.
-fn assert_timeout(rt: &impl Abort, rows: &[(&[&str], Result<Option<u64>, OptionError<'_>>)]) {
-    for (words, want) in rows {
-        let want = match want {
-            Ok(Some(secs)) => Ok(Some(StdDuration::from_secs(*secs))),
-            Ok(None) => Ok(None),
-            Err(error) => Err(*error),
+/// Among these words the option names so many seconds.
+fn assert_timeout(rt: &impl Abort, rows: &[(&[&str], Option<u64>)]) {
+    for (words, secs) in rows {
+        let want = match secs {
+            Some(secs) => Some(StdDuration::from_secs(*secs)),
+            None => None,
         };
-        assert_same_at(rt, timeout(words), want, words.last().unwrap_or(&"no word"));
+        match timeout(words) {
+            Ok(found) => assert_same_at(rt, found, want, words),
+            Err(error) => panic!(rt; "{words:?} are refused: {error}"),
+        }
     }
 }
 
@@ -24,40 +25,36 @@ fn the_first_option_counts(rt: HostRuntime) {
     assert_timeout(
         &rt,
         &[
-            (&[], Ok(None)),
-            (&["--time=1s", "timeout=1s", "--timeout", "1s"], Ok(None)),
-            (
-                &["-v", "--timeout=2h 37min", "--timeout=soon"],
-                Ok(Some(9420)),
-            ),
-            (&["--timeout=0"], Ok(Some(0))),
-            (
-                &["--timeout=2h 7mi", "--timeout=1h"],
-                Err(OptionError {
-                    text: "2h 7mi",
-                    fault: DurationError::UnknownUnit {
-                        start: 4,
-                        end: 6,
-                        unit: "mi",
-                        value: 7,
-                    },
-                }),
-            ),
+            (&[], None),
+            (&["--time=1s", "timeout=1s", "--timeout", "1s"], None),
+            (&["-v", "--timeout=2h 37min", "--timeout=soon"], Some(9420)),
+            (&["--timeout=0"], Some(0)),
         ],
     );
 }
 
 /// The word is refused, and this is told.
-fn assert_told(rt: &impl Abort, alloc: Global, rows: &[(&str, &str)]) -> Result<(), Fail> {
+fn assert_told(rt: &impl Abort, alloc: Global, rows: &[(&str, &str)]) {
     for (word, want) in rows {
-        let error = timeout(&[word]).err().ok_or("accepted")?;
-        assert_prints(rt, alloc, &error, want)?;
+        let error = timeout(&[word]).err().expect(rt, word);
+        assert_prints(rt, alloc, &error, want);
     }
-    Ok(())
 }
 
 #[test]
-fn a_text_that_is_no_duration_is_told(rt: HostRuntime) -> Result<(), Fail> {
+fn a_text_that_is_no_duration_is_told(rt: HostRuntime) {
+    let words = ["--timeout=2h 7mi", "--timeout=1h"];
+    let fault = DurationError::UnknownUnit {
+        start: 4,
+        end: 6,
+        unit: "mi",
+        value: 7,
+    };
+    let error = OptionError {
+        text: "2h 7mi",
+        fault,
+    };
+    assert_same_at(&rt, timeout(&words).err(), Some(error), &"2h 7mi");
     assert_told(
         &rt,
         rt.alloc(),
@@ -78,5 +75,5 @@ fn a_text_that_is_no_duration_is_told(rt: HostRuntime) -> Result<(), Fail> {
                 "--timeout=99999999999999999999s: number is too large or cannot be represented without a lack of precision (values below 1ns are not supported)",
             ),
         ],
-    )
+    );
 }

@@ -5,11 +5,11 @@ use crate::tests::support::{assert_prints, assert_same_at, moment};
 use humantime::{DurationError, StdDuration, TimestampError};
 use std::alloc::Global;
 use std::process::Abort;
-use std::test::Fail;
 
 /// The line sets this.
 fn assert_sets(rt: &impl Abort, line: &str, want: Setting) {
-    assert_same_at(rt, read_line(line), Ok(want), &line);
+    let setting = read_line(line).ok().expect(rt, line);
+    assert_same_at(rt, setting, want, &line);
 }
 
 /// Each line sets a timeout of so many seconds.
@@ -20,7 +20,7 @@ fn assert_timeouts(rt: &impl Abort, rows: &[(&str, u64)]) {
 }
 
 #[test]
-fn lines_set(rt: HostRuntime) -> Result<(), Fail> {
+fn lines_set(rt: HostRuntime) {
     assert_timeouts(
         &rt,
         &[
@@ -29,27 +29,27 @@ fn lines_set(rt: HostRuntime) -> Result<(), Fail> {
             ("timeout\t=\t1.5h ", 5400),
         ],
     );
-    let since = Setting::Since(moment(1_518_568_087, 0)?);
+    let since = Setting::Since(moment(&rt, 1_518_568_087, 0));
     assert_sets(&rt, "since = 2018-02-14T00:28:07Z", since);
-    Ok(())
+}
+
+/// The line is refused, with this key, at this byte, for this fault.
+fn assert_refused_at(rt: &impl Abort, line: &str, key: &str, at: usize, fault: LineFault<'_>) {
+    let error = read_line(line).err().expect(rt, line);
+    assert_same_at(rt, error.key, key, &line);
+    assert_same_at(rt, error.before.len(), at, &line);
+    assert_same_at(rt, error.fault, fault, &line);
 }
 
 /// Each line is refused, with this key, at this byte, for this fault.
-fn assert_refused(
-    rt: &impl Abort,
-    rows: &[(&str, &str, usize, LineFault<'_>)],
-) -> Result<(), Fail> {
+fn assert_refused(rt: &impl Abort, rows: &[(&str, &str, usize, LineFault<'_>)]) {
     for (line, key, at, fault) in rows {
-        let error = read_line(line).err().ok_or("accepted")?;
-        assert_same_at(rt, error.key, *key, line);
-        assert_same_at(rt, error.before.len(), *at, line);
-        assert_same_at(rt, error.fault, *fault, line);
+        assert_refused_at(rt, line, key, *at, *fault);
     }
-    Ok(())
 }
 
 #[test]
-fn a_line_that_sets_nothing_is_refused(rt: HostRuntime) -> Result<(), Fail> {
+fn a_line_that_sets_nothing_is_refused(rt: HostRuntime) {
     assert_refused(
         &rt,
         &[
@@ -58,23 +58,18 @@ fn a_line_that_sets_nothing_is_refused(rt: HostRuntime) -> Result<(), Fail> {
             ("retries = 5", "retries", 0, LineFault::UnknownKey),
             (" timeout = 1s", " timeout", 0, LineFault::UnknownKey),
         ],
-    )
+    );
 }
 
 /// Each value of a timeout is refused, at this byte, for this fault.
-fn assert_timeouts_refused(
-    rt: &impl Abort,
-    rows: &[(&str, usize, DurationError<'_>)],
-) -> Result<(), Fail> {
+fn assert_timeouts_refused(rt: &impl Abort, rows: &[(&str, usize, DurationError<'_>)]) {
     for (line, at, error) in rows {
-        let fault = LineFault::Duration(*error);
-        assert_refused(rt, &[(*line, "timeout", *at, fault)])?;
+        assert_refused_at(rt, line, "timeout", *at, LineFault::Duration(*error));
     }
-    Ok(())
 }
 
 #[test]
-fn an_error_of_a_duration_names_the_byte_of_the_line(rt: HostRuntime) -> Result<(), Fail> {
+fn an_error_of_a_duration_names_the_byte_of_the_line(rt: HostRuntime) {
     assert_timeouts_refused(
         &rt,
         &[
@@ -103,11 +98,11 @@ fn an_error_of_a_duration_names_the_byte_of_the_line(rt: HostRuntime) -> Result<
             ("timeout = 1.05ns", 10, DurationError::NumberOverflow),
             ("timeout =  ", 11, DurationError::Empty),
         ],
-    )
+    );
 }
 
 #[test]
-fn an_error_of_a_timestamp_stands_where_it_begins(rt: HostRuntime) -> Result<(), Fail> {
+fn an_error_of_a_timestamp_stands_where_it_begins(rt: HostRuntime) {
     assert_refused(
         &rt,
         &[
@@ -130,20 +125,19 @@ fn an_error_of_a_timestamp_stands_where_it_begins(rt: HostRuntime) -> Result<(),
                 LineFault::Timestamp(TimestampError::InvalidFormat),
             ),
         ],
-    )
+    );
 }
 
 /// The line is refused, and this is told.
-fn assert_told(rt: &impl Abort, alloc: Global, rows: &[(&str, &str)]) -> Result<(), Fail> {
+fn assert_told(rt: &impl Abort, alloc: Global, rows: &[(&str, &str)]) {
     for (line, want) in rows {
-        let error = read_line(line).err().ok_or("accepted")?;
-        assert_prints(rt, alloc, &error, want)?;
+        let error = read_line(line).err().expect(rt, line);
+        assert_prints(rt, alloc, &error, want);
     }
-    Ok(())
 }
 
 #[test]
-fn an_error_marks_the_character(rt: HostRuntime) -> Result<(), Fail> {
+fn an_error_marks_the_character(rt: HostRuntime) {
     assert_told(
         &rt,
         rt.alloc(),
@@ -167,5 +161,5 @@ fn an_error_marks_the_character(rt: HostRuntime) -> Result<(), Fail> {
                 "since: timestamp format is invalid\nsince = yesterday\n        ^",
             ),
         ],
-    )
+    );
 }
