@@ -13,10 +13,7 @@ fn assert_timeout(rt: &impl Abort, rows: &[(&[&str], Option<u64>)]) {
             Some(secs) => Some(StdDuration::from_secs(*secs)),
             None => None,
         };
-        match timeout(words) {
-            Ok(found) => assert_same_at(rt, found, want, words),
-            Err(error) => panic!(rt; "{words:?} are refused: {error}"),
-        }
+        assert_same_at(rt, timeout(words).ok(), Some(want), words);
     }
 }
 
@@ -33,10 +30,18 @@ fn the_first_option_counts(rt: HostRuntime) {
     );
 }
 
+/// The error of words that are refused.
+fn refused<'a>(words: &[&'a str]) -> Option<OptionError<'a>> {
+    match timeout(words) {
+        Ok(_) => None,
+        Err(error) => Some(error),
+    }
+}
+
 /// The word is refused, and this is told.
 fn assert_told(rt: &impl Abort, alloc: Global, rows: &[(&str, &str)]) {
     for (word, want) in rows {
-        let error = timeout(&[word]).err().expect(rt, word);
+        let error = refused(&[word]).expect(rt, word);
         assert_prints(rt, alloc, &error, want);
     }
 }
@@ -54,7 +59,7 @@ fn a_text_that_is_no_duration_is_told(rt: HostRuntime) {
         text: "2h 7mi",
         fault,
     };
-    assert_same_at(&rt, timeout(&words).err(), Some(error), &"2h 7mi");
+    assert_same_at(&rt, refused(&words), Some(error), &"2h 7mi");
     assert_told(
         &rt,
         rt.alloc(),

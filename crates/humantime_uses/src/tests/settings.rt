@@ -1,6 +1,6 @@
 //! Lines of a settings file.
 
-use crate::settings::{LineFault, Setting, read_line};
+use crate::settings::{LineError, LineFault, Setting, read_line};
 use crate::tests::support::{assert_prints, assert_same_at, moment};
 use humantime::{DurationError, StdDuration, TimestampError};
 use std::alloc::Global;
@@ -8,8 +8,7 @@ use std::process::Abort;
 
 /// The line sets this.
 fn assert_sets(rt: &impl Abort, line: &str, want: Setting) {
-    let setting = read_line(line).ok().expect(rt, line);
-    assert_same_at(rt, setting, want, &line);
+    assert_same_at(rt, read_line(line).ok(), Some(want), &line);
 }
 
 /// Each line sets a timeout of so many seconds.
@@ -33,9 +32,17 @@ fn lines_set(rt: HostRuntime) {
     assert_sets(&rt, "since = 2018-02-14T00:28:07Z", since);
 }
 
+/// The error of a line that is refused.
+fn refused(line: &str) -> Option<LineError<'_>> {
+    match read_line(line) {
+        Ok(_) => None,
+        Err(error) => Some(error),
+    }
+}
+
 /// The line is refused, with this key, at this byte, for this fault.
 fn assert_refused_at(rt: &impl Abort, line: &str, key: &str, at: usize, fault: LineFault<'_>) {
-    let error = read_line(line).err().expect(rt, line);
+    let error = refused(line).expect(rt, line);
     assert_same_at(rt, error.key, key, &line);
     assert_same_at(rt, error.before.len(), at, &line);
     assert_same_at(rt, error.fault, fault, &line);
@@ -131,7 +138,7 @@ fn an_error_of_a_timestamp_stands_where_it_begins(rt: HostRuntime) {
 /// The line is refused, and this is told.
 fn assert_told(rt: &impl Abort, alloc: Global, rows: &[(&str, &str)]) {
     for (line, want) in rows {
-        let error = read_line(line).err().expect(rt, line);
+        let error = refused(line).expect(rt, line);
         assert_prints(rt, alloc, &error, want);
     }
 }
