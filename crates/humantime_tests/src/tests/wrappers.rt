@@ -42,8 +42,8 @@ fn assert_reads_and_prints(rt: &impl Abort, rows: &[(&str, u64, u32, &str)]) {
 fn durations_read_and_print(rt: HostRuntime) {
     assert_same(
         &rt,
-        Duration::from_str("1foo~"),
-        Err(DurationError::InvalidCharacter(4)),
+        Duration::from_str("1foo~").err(),
+        Some(DurationError::InvalidCharacter(4)),
     );
     assert_reads_and_prints(
         &rt,
