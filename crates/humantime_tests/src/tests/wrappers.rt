@@ -33,7 +33,8 @@ fn assert_reads_and_prints(rt: &impl Abort, rows: &[(&str, u64, u32, &str)]) {
     for (text, secs, nanos, printed) in rows {
         let duration = Duration::from_str(text).ok().expect(rt, text);
         let value = duration.as_ref();
-        assert_same(rt, (value.as_secs(), value.subsec_nanos()), (*secs, *nanos));
+        let parts = (value.as_secs(), value.subsec_nanos());
+        assert_same(rt, (*text, parts), (*text, (*secs, *nanos)));
         assert_prints(rt, &duration, printed);
     }
 }
