@@ -12,7 +12,7 @@ fn assert_waits(rt: &impl Abort, rows: &[(&str, &str, u32, &str)]) {
             rt,
             wait_text(first, cap, *tries, &mut [0; 64]),
             Ok(want),
-            tries,
+            &(*first, *tries),
         );
     }
 }
@@ -60,7 +60,12 @@ fn bounds_are_exact(rt: HostRuntime) {
 /// After one try the two texts are refused so.
 fn assert_refused(rt: &impl Abort, rows: &[(&str, &str, DurationError<'_>)]) {
     for (first, cap, want) in rows {
-        assert_same_at(rt, wait_text(first, cap, 1, &mut [0; 64]), Err(*want), cap);
+        assert_same_at(
+            rt,
+            wait_text(first, cap, 1, &mut [0; 64]),
+            Err(*want),
+            &(*first, *cap),
+        );
     }
 }
 
