@@ -5,3 +5,4 @@ mod option;
 mod report;
 mod retry;
 mod settings;
+mod support;

@@ -1,50 +1,14 @@
 //! `StdDuration`: its parts, sums, order and hash.
 
-ghost use Rattle.std.specs.Prelude.{◌≡◌, ◌+◌, ◌<◌, ◌↔◌, IsTrue};
+ghost use Rattle.std.specs.Prelude.{◌≡◌, ◌+◌};
 ghost use Rattle.humantime.specs.Prelude.{duration_end};
 
-use crate::tests::support::assert_same;
+use crate::tests::support::{assert_same, fed, first_value, least};
+use crate::witnesses::{
+    copied_std_duration, is_less_std_duration, is_same_std_duration, std_durations_feed_alike,
+};
 use humantime::StdDuration;
-use std::hash::{FoldHasher, Hash, Hasher};
-use std::test::Fail;
-
-fn least<T: Ord + Copy>(a: T, b: T) -> T {
-    a.min(b)
-}
-
-fn first_value<T: Default>() -> T {
-    T::default()
-}
-
-fn fed<T: Hash>(value: &T) -> u64 {
-    let mut hasher = FoldHasher::default();
-    value.hash(&mut hasher);
-    hasher.finish()
-}
-
-/// Equal durations leave any hasher in one state.
-fn fed_alike<H: Hasher + Copy>(a: StdDuration, b: StdDuration, hasher: H) -> (H, H)
-    requires { a ≡ b }
-    ensures { result.0 ≡ result.1 }
-{
-    let mut first = hasher;
-    let mut second = hasher;
-    a.hash(&mut first);
-    b.hash(&mut second);
-    (first, second)
-}
-
-fn is_shorter(a: StdDuration, b: StdDuration) -> bool
-    ensures { IsTrue result ↔ (a < b) }
-{
-    a < b
-}
-
-fn is_same(a: StdDuration, b: StdDuration) -> bool
-    ensures { IsTrue result ↔ (a ≡ b) }
-{
-    a == b
-}
+use std::hash::{FoldHasher, Hasher};
 
 /// The constants and the default, as contracts see them.
 fn none() -> StdDuration
@@ -63,12 +27,6 @@ fn greatest() -> StdDuration
     ensures { result + 1 ≡ duration_end }
 {
     StdDuration::MAX
-}
-
-fn copied(d: &StdDuration) -> StdDuration
-    ensures { result ≡ d.now }
-{
-    *d
 }
 
 #[test]
@@ -109,17 +67,22 @@ fn sums_are_exact_or_refused(rt: HostRuntime) {
 }
 
 #[test]
-fn durations_are_ordered_and_hashed_by_their_nanoseconds(rt: HostRuntime) -> Result<(), Fail> {
+fn durations_are_ordered_and_hashed_by_their_nanoseconds(rt: HostRuntime) {
     let second = StdDuration::from_secs(1);
     let less = StdDuration::new(0, 999_999_999);
-    assert!(rt; is_shorter(less, second));
+    assert!(rt; is_less_std_duration(&less, &second));
     assert_same(&rt, least(second, less), less);
-    let sum = less.checked_add(StdDuration::new(0, 1)).ok_or("too large")?;
-    assert!(rt; is_same(sum, second));
+    let sum = less
+        .checked_add(StdDuration::new(0, 1))
+        .expect(&rt, "too large");
+    assert!(rt; is_same_std_duration(&sum, &second));
     assert_same(&rt, fed(&sum), fed(&second));
-    let (first, again) = fed_alike(sum, sum, FoldHasher::default());
+    let (first, again) = std_durations_feed_alike(&sum, &sum, FoldHasher::default());
     assert_same(&rt, first.finish(), again.finish());
     assert_same(&rt, first_value::<StdDuration>(), default());
-    assert_same(&rt, copied(&second.clone()?), second);
-    Ok(())
+    assert_same(
+        &rt,
+        copied_std_duration(&second.clone().expect(&rt, "no clone")),
+        second,
+    );
 }

@@ -1,9 +1,51 @@
-//! An assertion on values of any type.
+//! Assertions on values of any type, and what bounds answer.
 
-use std::fmt::Debug;
+use humantime::SystemTime;
+use humantime_sink::Sink;
+use std::fmt::{self, Debug, Display, Write};
+use std::hash::{FoldHasher, Hash, Hasher};
 use std::process::Abort;
 
 /// The two are equal.
 pub(crate) fn assert_same<T: PartialEq + Debug + Drop>(rt: &impl Abort, left: T, right: T) {
     assert_eq!(rt; left, right);
+}
+
+/// The value is printed so by one request, with no width and with one.
+pub(crate) fn assert_prints(rt: &impl Abort, value: &impl Display, want: &str) {
+    let mut sink = Sink::open();
+    assert_same(rt, write!(sink, "{value}"), Ok(()));
+    assert_same(rt, (sink.text(), sink.requests()), (want, 1));
+    let mut wide = Sink::open();
+    assert_same(rt, write!(wide, "{value:>80}"), Ok(()));
+    assert_same(rt, (wide.text(), wide.requests()), (want, 1));
+}
+
+/// The value is not printed, and nothing is asked of the sink.
+pub(crate) fn assert_not_printed(rt: &impl Abort, value: &impl Display) {
+    let mut sink = Sink::open();
+    assert_same(rt, write!(sink, "{value}"), Err(fmt::Error));
+    assert_same(rt, (sink.text(), sink.requests()), ("", 0));
+}
+
+/// The moment of these parts.
+pub(crate) fn moment(rt: &impl Abort, secs: i64, nanos: u32) -> SystemTime {
+    SystemTime::from_parts(secs, nanos).expect(rt, "no moment")
+}
+
+/// The lesser of two, by the bound alone.
+pub(crate) fn least<T: Ord + Copy>(a: T, b: T) -> T {
+    a.min(b)
+}
+
+/// The default, by the bound alone.
+pub(crate) fn first_value<T: Default>() -> T {
+    T::default()
+}
+
+/// What a hasher answers that the value was fed to.
+pub(crate) fn fed<T: Hash>(value: &T) -> u64 {
+    let mut hasher = FoldHasher::default();
+    value.hash(&mut hasher);
+    hasher.finish()
 }

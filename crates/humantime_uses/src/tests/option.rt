@@ -1,26 +1,54 @@
 //! The option of a command line.
 
 use crate::option::{OptionError, timeout};
+use crate::tests::support::{assert_prints, assert_same_at};
 use humantime::{DurationError, StdDuration};
-use std::test::Fail;
+use std::alloc::Global;
+use std::process::Abort;
 
-#[test]
-fn the_first_option_counts(rt: HostRuntime) {
-    let none: [&str; 0] = [];
-    assert_eq!(rt; timeout(&none), Ok(None));
-    assert_eq!(rt;
-        timeout(&["--time=1s", "timeout=1s", "--timeout", "1s"]),
-        Ok(None)
-    );
-    assert_eq!(rt;
-        timeout(&["-v", "--timeout=2h 37min", "--timeout=soon"]),
-        Ok(Some(StdDuration::from_secs(9420)))
-    );
-    assert_eq!(rt; timeout(&["--timeout=0"]), Ok(Some(StdDuration::ZERO)));
+/// Among these words the option names so many seconds.
+fn assert_timeout(rt: &impl Abort, rows: &[(&[&str], Option<u64>)]) {
+    for (words, secs) in rows {
+        let want = match secs {
+            Some(secs) => Some(StdDuration::from_secs(*secs)),
+            None => None,
+        };
+        assert_same_at(rt, timeout(words).ok(), Some(want), words);
+    }
 }
 
 #[test]
-fn a_text_that_is_no_duration_is_told(rt: HostRuntime) -> Result<(), Fail> {
+fn the_first_option_counts(rt: HostRuntime) {
+    assert_timeout(
+        &rt,
+        &[
+            (&[], None),
+            (&["--time=1s", "timeout=1s", "--timeout", "1s"], None),
+            (&["-v", "--timeout=2h 37min", "--timeout=soon"], Some(9420)),
+            (&["--timeout=0"], Some(0)),
+        ],
+    );
+}
+
+/// The error of words that are refused.
+fn refused<'a>(words: &[&'a str]) -> Option<OptionError<'a>> {
+    match timeout(words) {
+        Ok(_) => None,
+        Err(error) => Some(error),
+    }
+}
+
+/// The word is refused, and this is told.
+fn assert_told(rt: &impl Abort, alloc: Global, rows: &[(&str, &str)]) {
+    for (word, want) in rows {
+        let error = refused(&[word]).expect(rt, word);
+        assert_prints(rt, alloc, &error, want);
+    }
+}
+
+#[test]
+fn a_text_that_is_no_duration_is_told(rt: HostRuntime) {
+    let words = ["--timeout=2h 7mi", "--timeout=1h"];
     let fault = DurationError::UnknownUnit {
         start: 4,
         end: 6,
@@ -31,29 +59,26 @@ fn a_text_that_is_no_duration_is_told(rt: HostRuntime) -> Result<(), Fail> {
         text: "2h 7mi",
         fault,
     };
-    assert_eq!(rt; timeout(&["--timeout=2h 7mi", "--timeout=1h"]), Err(error));
-    for (text, want) in [
-        (
-            "--timeout=2h 7mi",
-            "--timeout=2h 7mi: unknown time unit \"mi\", supported units: ns, us/µs, ms, sec, min, hours, days, weeks, months, years (and few variations)",
-        ),
-        (
-            "--timeout=7",
-            "--timeout=7: time unit needed, for example 7sec or 7ms",
-        ),
-        ("--timeout=", "--timeout=: value was empty"),
-        ("--timeout=soon", "--timeout=soon: expected number at 0"),
-        ("--timeout=1h,", "--timeout=1h,: invalid character at 2"),
-        (
-            "--timeout=99999999999999999999s",
-            "--timeout=99999999999999999999s: number is too large or cannot be represented without a lack of precision (values below 1ns are not supported)",
-        ),
-    ] {
-        let Err(error) = timeout(&[text]) else {
-            return Err(Fail::from("accepted"));
-        };
-        let message = error.to_string(rt.alloc())?;
-        assert_eq!(rt; message.as_str(), want);
-    }
-    Ok(())
+    assert_same_at(&rt, refused(&words), Some(error), &"2h 7mi");
+    assert_told(
+        &rt,
+        rt.alloc(),
+        &[
+            (
+                "--timeout=2h 7mi",
+                "--timeout=2h 7mi: unknown time unit \"mi\", supported units: ns, us/µs, ms, sec, min, hours, days, weeks, months, years (and few variations)",
+            ),
+            (
+                "--timeout=7",
+                "--timeout=7: time unit needed, for example 7sec or 7ms",
+            ),
+            ("--timeout=", "--timeout=: value was empty"),
+            ("--timeout=soon", "--timeout=soon: expected number at 0"),
+            ("--timeout=1h,", "--timeout=1h,: invalid character at 2"),
+            (
+                "--timeout=99999999999999999999s",
+                "--timeout=99999999999999999999s: number is too large or cannot be represented without a lack of precision (values below 1ns are not supported)",
+            ),
+        ],
+    );
 }
