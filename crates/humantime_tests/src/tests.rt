@@ -1,6 +1,7 @@
-//! Values, and what CALLING.md shows, run. What is expected comes from the written rules, never from what the library answers.
+//! Values, what CALLING.md shows and the five programs, run. What is expected comes from the written rules, never from what the library answers.
 
 mod callers;
+mod programs;
 mod std_durations;
 mod support;
 mod system_times;

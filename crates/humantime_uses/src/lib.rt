@@ -6,5 +6,3 @@ pub mod option;
 pub mod report;
 pub mod retry;
 pub mod settings;
-#[cfg(test)]
-mod tests;

@@ -1,9 +1,8 @@
 //! The option of a command line.
 
-use crate::option::{OptionError, timeout};
-use crate::tests::support::{assert_prints, assert_same_at};
+use crate::tests::programs::support::{assert_prints, assert_same_at};
 use humantime::{DurationError, StdDuration};
-use std::alloc::Global;
+use humantime_uses::option::{OptionError, timeout};
 use std::process::Abort;
 
 /// Among these words the option names so many seconds.
@@ -39,10 +38,10 @@ fn refused<'a>(words: &[&'a str]) -> Option<OptionError<'a>> {
 }
 
 /// The word is refused, and this is told.
-fn assert_told(rt: &impl Abort, alloc: Global, rows: &[(&str, &str)]) {
+fn assert_told(rt: &impl Abort, rows: &[(&str, &str)]) {
     for (word, want) in rows {
         let error = refused(&[word]).expect(rt, word);
-        assert_prints(rt, alloc, &error, want);
+        assert_prints(rt, &error, want);
     }
 }
 
@@ -62,7 +61,6 @@ fn a_text_that_is_no_duration_is_told(rt: HostRuntime) {
     assert_same_at(&rt, refused(&words), Some(error), &"2h 7mi");
     assert_told(
         &rt,
-        rt.alloc(),
         &[
             (
                 "--timeout=2h 7mi",

@@ -1,8 +1,8 @@
 //! Waits that double.
 
-use crate::retry::wait_text;
-use crate::tests::support::assert_same_at;
+use crate::tests::programs::support::assert_same_at;
 use humantime::DurationError;
+use humantime_uses::retry::wait_text;
 use std::process::Abort;
 
 /// The wait after so many tries is shown so.

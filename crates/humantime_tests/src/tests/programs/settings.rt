@@ -1,9 +1,9 @@
 //! Lines of a settings file.
 
-use crate::settings::{LineError, LineFault, Setting, read_line};
-use crate::tests::support::{assert_prints, assert_same_at, moment};
+use crate::tests::programs::support::{assert_prints, assert_same_at};
+use crate::tests::support::moment;
 use humantime::{DurationError, StdDuration, TimestampError};
-use std::alloc::Global;
+use humantime_uses::settings::{LineError, LineFault, Setting, read_line};
 use std::process::Abort;
 
 /// The line sets this.
@@ -136,10 +136,10 @@ fn an_error_of_a_timestamp_stands_where_it_begins(rt: HostRuntime) {
 }
 
 /// The line is refused, and this is told.
-fn assert_told(rt: &impl Abort, alloc: Global, rows: &[(&str, &str)]) {
+fn assert_told(rt: &impl Abort, rows: &[(&str, &str)]) {
     for (line, want) in rows {
         let error = refused(line).expect(rt, line);
-        assert_prints(rt, alloc, &error, want);
+        assert_prints(rt, &error, want);
     }
 }
 
@@ -147,7 +147,6 @@ fn assert_told(rt: &impl Abort, alloc: Global, rows: &[(&str, &str)]) {
 fn an_error_marks_the_character(rt: HostRuntime) {
     assert_told(
         &rt,
-        rt.alloc(),
         &[
             ("timeout", "timeout: there is no `=`\ntimeout\n       ^"),
             ("retries = 5", "retries: no such setting\nretries = 5\n^"),

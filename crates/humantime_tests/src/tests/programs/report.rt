@@ -1,20 +1,22 @@
 //! Rows of a report, printed.
 
-use crate::report::{Row, write_row};
-use crate::tests::support::{assert_prints, assert_same_at, moment};
+use crate::tests::programs::support::{assert_prints, assert_same_at};
+use crate::tests::support::moment;
 use humantime::{StdDuration, UNIX_EPOCH};
-use std::alloc::Global;
+use humantime_sink::Sink;
+use humantime_uses::report::{Row, write_row};
+use std::fmt::Write;
 use std::process::Abort;
 
 /// The row of a start in seconds and nanoseconds, of a time in microseconds and of a limit in seconds is printed so.
-fn assert_row(rt: &impl Abort, alloc: Global, rows: &[(i64, u32, u64, u64, &str)]) {
+fn assert_row(rt: &impl Abort, rows: &[(i64, u32, u64, u64, &str)]) {
     for (secs, nanos, took, limit, want) in rows {
         let row = Row {
             start: moment(rt, *secs, *nanos),
             took: StdDuration::from_micros(*took),
             limit: StdDuration::from_secs(*limit),
         };
-        assert_prints(rt, alloc, &row, want);
+        assert_prints(rt, &row, want);
     }
 }
 
@@ -22,7 +24,6 @@ fn assert_row(rt: &impl Abort, alloc: Global, rows: &[(i64, u32, u64, u64, &str)
 fn a_row_is_printed(rt: HostRuntime) {
     assert_row(
         &rt,
-        rt.alloc(),
         &[
             (
                 1_518_568_087,
@@ -44,13 +45,14 @@ fn a_start_outside_the_years_has_no_row(rt: HostRuntime) {
             took: StdDuration::ZERO,
             limit: StdDuration::ZERO,
         };
-        assert_same_at(&rt, row.to_string(rt.alloc()).is_err(), true, second);
+        let mut sink = Sink::open();
+        assert_same_at(&rt, write!(sink, "{row}").is_err(), true, second);
     }
 }
 
 #[test]
 fn a_row_is_written(rt: HostRuntime) {
-    let mut out = String::new(rt.alloc());
+    let mut out = Sink::open();
     write_row(
         UNIX_EPOCH,
         StdDuration::from_secs(1),
@@ -58,10 +60,10 @@ fn a_row_is_written(rt: HostRuntime) {
         &mut out,
     )
     .expect(&rt, "no row");
-    assert_prints(
+    assert_same_at(
         &rt,
-        rt.alloc(),
-        &out,
+        out.text(),
         "1970-01-01T00:00:00.000Z  1s of 584542046090years 7months 15days 17h 5m 3s 999ms 999µs 999ns",
+        &out.requests(),
     );
 }
