@@ -3,7 +3,7 @@
 //! Each function is one call, and its contract follows from that of the call. So what this contract rules out, the
 //! library's own does: `must-fail/` puts a wrong body in the place of each call.
 
-ghost use Rattle.std.specs.Prelude.{◌≡◌, ◌↔◌, ℤ, Ok, Err, IfSome, IsSome, Some};
+ghost use Rattle.std.specs.Prelude.{◌≡◌, ◌+◌, ◌≤◌, ◌↔◌, ℤ, Ok, Err, IfSome, IsSome, Some};
 ghost use Rattle.humantime.specs.Prelude.{IsDate, IsPrinted, IsStrictMoment, day_of, first_failed, strict_checks};
 ghost use Rattle.humantime.specs.declared.TimestampError.{TimestampError};
 
@@ -30,4 +30,13 @@ pub fn day_number(date: Date, turns: &mut Turns) -> Option<u32>
     ensures day { IfSome result (λ n. n ≡ day_of date) }
 {
     humantime::day_number(date, turns)
+}
+
+/// The date of a day, found in at most twelve turns, or `None` past the last day of 9999.
+pub fn date_of_day(day: u32, turns: &mut Turns) -> Option<Date>
+    ensures within { IsSome result ↔ (day ≤ 2_932_896) }
+    ensures date { IfSome result (λ d. IsDate d × (day_of d ≡ day)) }
+    ensures cost { turns.new ≤ turns.old + 12 }
+{
+    humantime::date_of_day(day, turns)
 }

@@ -17,8 +17,8 @@ use Rattle.humantime.proofs.Durations.Laws.Readings.{accepted_from_spans, spans_
 pub Only-append : (p : ℕ → Bool) (xs ys : List ℕ) → Only p xs → Only p ys → Only p (xs ++ ys)
 Only-append p xs ys h k = grind (arith, common_steps)
 
-pub each-append : (P : Span → Type 0) (ss ts : List Span) → AllByRecursion P ss → AllByRecursion P ts → AllByRecursion P (ss ++ ts)
-each-append P ss ts h k = grind (arith, common_steps)
+pub each-append : {A : Type 0} (P : A → Type 0) (xs ys : List A) → AllByRecursion P xs → AllByRecursion P ys → AllByRecursion P (xs ++ ys)
+each-append P xs ys h k = grind (arith, common_steps)
 
 -- white space behind a spelling belongs to it
 spells-space : (here space : List ℕ) (s : Span) → Spells here s [] → Only is_ws space → Spells (here ++ space) s []

@@ -9,7 +9,7 @@ use Rattle.humantime.specs.Durations.Spans.{Span, Reads}
 use Rattle.humantime.specs.Durations.Accepted.{Addition, addition_nanos, total, additions, AllHaveRoom, Accepted}
 use Rattle.humantime.proofs.Durations.Reading.Rooms.{RoomFrom, total-append, room_from_all, all_have_room}
 use Rattle.humantime.proofs.Durations.Laws.Readings.{accepted_spans}
-use Rattle.humantime.proofs.Durations.Laws.JoinedTexts.{joined_sum}
+use Rattle.humantime.proofs.Durations.Laws.JoinedTexts.{each-append, joined_sum}
 
 -- an addition of nanoseconds fits a u64 together with the nanoseconds beyond any whole seconds
 abbrev pub IsSmall : Addition → Type 0
@@ -36,8 +36,6 @@ room_fits t (x ∷ xs) fits room = grind (arith, common_steps, (room_fits (t + a
 pub room_is_duration : (xs : List Addition) → AllHaveRoom xs → total xs / nanos_per_second ≤ u64_max
 room_is_duration xs room = grind (arith, common_steps, room_fits, room_from_all)
 
-pub each-append : (xs ys : List Addition) → AllByRecursion IsSmall xs → AllByRecursion IsSmall ys → AllByRecursion IsSmall (xs ++ ys)
-each-append xs ys h k = grind (arith, common_steps)
 
 -- accepted texts with small additions, one behind the other, are accepted with the sum exactly where it is a duration
 pub small_joined_sum : (a b : List ℕ) (ss ts : List Span) (u v : ℕ) → Reads a ss → Reads b ts → Accepted a u → Accepted b v
@@ -51,6 +49,6 @@ small_joined_sum a b ss ts u v h k x y small_ss small_ts =
     let IsDuration : ℕ → Type 0 = λ n. n / nanos_per_second ≤ u64_max in (
       λ accepted. subst IsDuration sum (room_is_duration (additions ss ++ additions ts) (law.0 accepted)),
       λ fits.
-          let small = each-append (additions ss) (additions ts) small_ss small_ts in
+          let small = each-append IsSmall (additions ss) (additions ts) small_ss small_ts in
           law.1 (small_have_room (additions ss ++ additions ts) small (subst IsDuration (sym sum) fits)),
     )

@@ -1,0 +1,48 @@
+//! Public calls under their own promises: sums, spans and canonical texts of durations.
+//!
+//! Each function is one call, and its contract follows from that of the call. So what this contract rules out, the
+//! library's own does: `must-fail/` puts a wrong body in the place of each call. Reading stands so in
+//! `humantime_durations`, and timestamps and days in `humantime_times`.
+#![tactic(auto)]
+
+ghost use Rattle.std.specs.Prelude.{◌≡◌, ◌+◌, ◌<◌, ◌↔◌, ℕ, List, chars, Ok, Err, IfSome, IsSome};
+ghost use Rattle.humantime.specs.Prelude.{Canon, HasFault, Fault, GivesItem, IsCanonicalOf, duration_end, lent_of, told_text};
+
+use humantime::{DurationError, Span, SpanIter, StdDuration};
+
+/// The sum, or `None` where it passes the longest duration.
+pub fn checked_add(a: StdDuration, b: StdDuration) -> Option<StdDuration>
+    ensures fits { IsSome result ↔ (a + b < duration_end) }
+    ensures sum { IfSome result (λ d. d ≡ a + b) }
+{
+    a.checked_add(b)
+}
+
+/// The next item of a text's spans.
+pub fn next_item<'a>(items: &mut SpanIter<'a>) -> Option<Result<Span<'a>, DurationError<'a>>>
+    ensures { GivesItem items.old result items.new }
+{
+    items.next()
+}
+
+/// The number of a span of the text, from its first to its last digit.
+pub fn number_in<'a>(_text: &'a str, span: &Span<'a>) -> &'a str
+    ensures { chars result.now ≡ (lent_of span.now).number }
+{
+    span.number()
+}
+
+/// The canonical text of a duration.
+pub fn duration_text(value: StdDuration, buf: &mut [u8; 64]) -> &str
+    ensures { Canon value result.now }
+{
+    humantime::format_duration(value).text(buf)
+}
+
+/// The canonical text of what a text spells, or the text's first fault.
+pub fn canonical<'a, 'b>(s: &'a str, buf: &'b mut [u8; 64]) -> Result<&'b str, DurationError<'a>>
+    ensures text { (t : List ℕ) → (told_text result ≡ Ok t) ↔ IsCanonicalOf s.now t }
+    ensures fault { (e : Fault) → (told_text result ≡ Err e) ↔ HasFault (chars s.now) e }
+{
+    humantime::canonical(s, buf)
+}
