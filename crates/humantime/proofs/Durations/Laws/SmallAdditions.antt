@@ -36,7 +36,6 @@ room_fits t (x ∷ xs) fits room = grind (arith, common_steps, (room_fits (t + a
 pub room_is_duration : (xs : List Addition) → AllHaveRoom xs → total xs / nanos_per_second ≤ u64_max
 room_is_duration xs room = grind (arith, common_steps, room_fits, room_from_all)
 
-
 -- accepted texts with small additions, one behind the other, are accepted with the sum exactly where it is a duration
 pub small_joined_sum : (a b : List ℕ) (ss ts : List Span) (u v : ℕ) → Reads a ss → Reads b ts → Accepted a u → Accepted b v
     → AllByRecursion IsSmall (additions ss) → AllByRecursion IsSmall (additions ts)
