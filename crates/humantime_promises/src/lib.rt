@@ -1,8 +1,8 @@
 //! Public calls under their own promises: sums, spans and canonical texts of durations.
 //!
-//! Each function is one call, and its contract follows from that of the call. So what this contract rules out, the
-//! library's own does: `must-fail/` puts a wrong body in the place of each call. Reading stands so in
-//! `humantime_durations`, and timestamps and days in `humantime_times`.
+//! Each function is a call or two, and its contract follows from theirs. So what this contract rules out, the library's
+//! own do: `must-fail/` puts a wrong body in the place of each call. Reading stands so in `humantime_durations`, and
+//! timestamps and days in `humantime_times`.
 #![tactic(auto)]
 
 ghost use Rattle.std.specs.Prelude.{◌≡◌, ◌+◌, ◌<◌, ◌↔◌, ℕ, List, chars, true, Ok, Err, IfSome, IsSome};
