@@ -1,4 +1,5 @@
--- What an error of a duration's text says, and its message. A text is its bytes here, for offsets count them.
+-- What an error of a duration's text says, and its message. A text that was read is its bytes here, for offsets count
+-- them; the unit of a fault is its characters.
 use Rattle.std.specs.Prelude.{◌≡◌, ℕ, ◌<◌, ◌≤◌, List, length, Result, ⊤, chars, slice_range, ◌++◌, codes, decimal, encode_utf8_all, ◌∷◌, []}
 use Rattle.std.specs.Borrow.{Bor}
 use Rattle.std.specs.Str.{IsCharBoundary}

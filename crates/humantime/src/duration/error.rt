@@ -37,8 +37,9 @@ pub enum DurationError<'a> {
         /// The number that stands before the unit.
         value: u64,
     },
-    /// A number, its product with its unit or a sum is too large, or a fraction has too many digits or is no
-    /// whole number of what its unit counts fractions in: nanoseconds up to minutes, seconds from hours up.
+    /// A limit is broken. A number, its product with its unit's size, or a sum is too large. Or a fraction, without
+    /// the zeros at its end, has more than 19 digits, has too large a product with its unit's size, or is no whole
+    /// number of what its unit counts fractions in: nanoseconds up to minutes, seconds from hours up.
     NumberOverflow,
     /// There is nothing, or only white space.
     Empty,

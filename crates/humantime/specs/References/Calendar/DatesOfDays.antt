@@ -1,5 +1,6 @@
 -- The date of a day number, found by the cycles of 400, 100, 4 and 1 years that begin on a 1 March.
--- No contract rests on it: a law says that the text of a moment is the one that is printed.
+-- `Display` of both timestamps names a text through it; nobody has to believe it, since a law says that this text is the one
+-- that is printed.
 use Rattle.std.specs.Prelude.{ℕ, ◌+◌, ◌-◌, ◌*◌, ◌/◌, ◌%◌, min, nat_lt, if◌then◌else◌}
 use Rattle.humantime.specs.declared.calendar.Date.{Date}
 use Rattle.humantime.specs.References.Calendar.March.{march_days, march_months}

@@ -1,5 +1,5 @@
 -- Years that begin on 1 March, counted from 1 March 1600: the leap day is the last day of such a year.
--- Private helpers of the calendar speak of these; no public contract does.
+-- Private helpers of the calendar speak of these, and so does `date_of`, by which a printed timestamp's date is found.
 use Rattle.std.specs.Prelude.{ℕ, ◌+◌, ◌-◌, ◌*◌, ◌/◌, [], ◌∷◌, slice_index_or}
 use Rattle.humantime.specs.Calendar.{days_in_year}
 

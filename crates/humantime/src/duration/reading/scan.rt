@@ -17,7 +17,7 @@ use crate::duration::reading::sum::power_of_ten;
 /// How many digits a fraction may have before the zeros at its end.
 const FRACTION_DIGITS: usize = 19;
 
-/// A number up to this one can take another digit.
+/// A number below this one can take any digit behind it.
 const TENTH_OF_MAX: u64 = 1_844_674_407_370_955_161;
 
 /// The first character of a text that has one.
