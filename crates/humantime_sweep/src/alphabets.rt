@@ -51,25 +51,19 @@ fn assert_words_alike(rt: &impl Abort, alloc: Global, firsts: &str) -> Result<()
     Ok(())
 }
 
-/// Both readers give the same answer with this character behind a number, and between two digits.
-fn assert_character_alike(rt: &impl Abort, text: &mut String, c: char) -> Result<(), Fail> {
-    assert_read_alike(rt, text, &['1', c, 's'])?;
-    assert_read_alike(rt, text, &['1', ' ', c, ' ', '2', 's'])
-}
-
-/// Both readers answer alike on one of a word: its front, perhaps a letter, and its rest.
-fn assert_word_alike(
+/// Both readers answer alike on a `1`, and behind it a front, perhaps a character, and a rest.
+fn assert_joined_alike(
     rt: &impl Abort,
     alloc: Global,
     front: &str,
-    new: Option<char>,
+    middle: Option<char>,
     rest: &str,
 ) -> Result<(), Fail> {
     let mut text = String::new(alloc);
     text.push('1')?;
     text.push_str(front)?;
-    if let Some(letter) = new {
-        text.push(letter)?;
+    if let Some(c) = middle {
+        text.push(c)?;
     }
     text.push_str(rest)?;
     assert_alike(rt, alloc, text.as_str())
@@ -80,10 +74,10 @@ fn assert_near_alike(rt: &impl Abort, alloc: Global, front: &str, rest: &str) ->
     let mut letters = rest.chars();
     letters.next();
     let less = letters.as_str();
-    assert_word_alike(rt, alloc, front, None, less)?;
+    assert_joined_alike(rt, alloc, front, None, less)?;
     for letter in LETTERS.chars() {
-        assert_word_alike(rt, alloc, front, Some(letter), rest)?;
-        assert_word_alike(rt, alloc, front, Some(letter), less)?;
+        assert_joined_alike(rt, alloc, front, Some(letter), rest)?;
+        assert_joined_alike(rt, alloc, front, Some(letter), less)?;
     }
     Ok(())
 }
@@ -114,10 +108,10 @@ fn words_with_a_letter_less_or_more_or_another(rt: HostRuntime) -> Result<(), Fa
 
 #[test]
 fn each_character_of_the_first_plane(rt: HostRuntime) -> Result<(), Fail> {
-    let mut text = String::new(rt.alloc());
     for code in 0..=LAST {
         if let Some(c) = char::from_u32(code) {
-            assert_character_alike(&rt, &mut text, c)?;
+            assert_joined_alike(&rt, rt.alloc(), "", Some(c), "s")?;
+            assert_joined_alike(&rt, rt.alloc(), " ", Some(c), " 2s")?;
         }
     }
     Ok(())
