@@ -127,6 +127,22 @@ fn short_durations(counts: &mut Counts) {
     all_texts(&FEWER, 7, &mut |text| read_duration(counts, text));
 }
 
+/// Words over all letters, and each character of the first plane behind a number and between two digits.
+fn letters_and_characters(counts: &mut Counts) {
+    let letters = letters();
+    counts.begin("durations read: each word of up to 3 of 54 letters");
+    all_texts(&letters, 3, &mut |word| read_duration(counts, &format!("1{word}")));
+    counts.begin("durations read: each word with a letter less, one more, or another one");
+    for (word, _) in words() {
+        variants(word, &letters, &mut |word| read_duration(counts, &format!("1{word}")));
+    }
+    counts.begin("durations read: each character of the first plane behind a number, and between two digits");
+    for character in '\0'..='\u{ffff}' {
+        read_duration(counts, &format!("1{character}s"));
+        read_duration(counts, &format!("1 {character} 2s"));
+    }
+}
+
 /// Each word with numbers at its limit, with fractions, and alone or behind a second span.
 fn words_at_their_limits(counts: &mut Counts) {
     counts.begin("durations read: each word at its limit, with fractions, alone and beside another span");
@@ -288,12 +304,22 @@ fn timestamps_printed(counts: &mut Counts) {
     }
 }
 
+/// Moments of one second.
+fn subseconds_printed(counts: &mut Counts) {
+    counts.begin("timestamps printed: 0 to 999 nanoseconds, microseconds and milliseconds, and 10,000 over the second");
+    let few = (0..1_000).flat_map(|part| [part, part * 1_000, part * 1_000_000]);
+    let spread = (0..10_000).map(|part| part * 99_991);
+    few.chain(spread)
+        .for_each(|nanos| print_moment(counts, 1_330_473_600, nanos));
+}
+
 fn main() {
     let folder = std::env::args().nth(1).expect("the crate's folder");
     std::panic::set_hook(Box::new(|_| {}));
     let mut counts = Counts::default();
     texts_of_the_crate(&mut counts, Path::new(&folder));
     short_durations(&mut counts);
+    letters_and_characters(&mut counts);
     words_at_their_limits(&mut counts);
     random_durations(&mut counts);
     durations_printed(&mut counts);
@@ -301,6 +327,7 @@ fn main() {
     timestamps_spoiled(&mut counts);
     random_timestamps(&mut counts);
     timestamps_printed(&mut counts);
+    subseconds_printed(&mut counts);
     let is_all_listed = counts.tell();
     std::process::exit(if is_all_listed { 0 } else { 1 });
 }

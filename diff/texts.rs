@@ -15,6 +15,11 @@ pub const STAMP: [char; 14] = [
     '0', '1', '6', '9', 'Z', 'z', 'T', '+', '-', ':', '.', ' ', 'é', '\u{ff11}',
 ];
 
+/// Each letter of a unit's word.
+pub fn letters() -> Vec<char> {
+    ('a'..='z').chain('A'..='Z').chain(['µ', 'μ']).collect()
+}
+
 /// Random numbers, the same in each run.
 pub struct Random(u64);
 
@@ -63,9 +68,10 @@ pub fn all_texts(alphabet: &[char], most: usize, to: &mut dyn FnMut(&str)) {
     longer(&mut String::new(), alphabet, most, to);
 }
 
-/// The text's fronts, and the text with one character taken out, replaced, or put in before it.
+/// The text's fronts, and the text with one character taken out, replaced, or put in before it or at the end.
 pub fn variants(text: &str, alphabet: &[char], to: &mut dyn FnMut(&str)) {
     to(text);
+    alphabet.iter().for_each(|other| to(&format!("{text}{other}")));
     for (at, letter) in text.char_indices() {
         let (front, rest) = (&text[..at], &text[at + letter.len_utf8()..]);
         to(front);

@@ -3,6 +3,8 @@
 #![tactic(auto)]
 
 #[cfg(test)]
+mod alphabets;
+#[cfg(test)]
 mod long_texts;
 #[cfg(test)]
 mod plain_reader;

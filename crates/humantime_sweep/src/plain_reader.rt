@@ -28,23 +28,53 @@ enum Kind {
 }
 
 /// The words of a unit, its base, how many of the base it is, and the base in which a fraction of it is counted.
-type Unit = (&'static str, u128, u64, Option<u128>);
+pub(crate) type Unit = (&'static [&'static str], u128, u64, Option<u128>);
 
 const NANO: u128 = 1;
 
 const SECOND: u128 = 1_000_000_000;
 
-static UNITS: [Unit; 10] = [
-    ("nanos nsec ns", NANO, 1, None),
-    ("usec us \u{b5}s \u{3bc}s", NANO, 1_000, Some(NANO)),
-    ("millis msec ms", NANO, 1_000_000, Some(NANO)),
-    ("seconds second secs sec s", SECOND, 1, Some(NANO)),
-    ("minutes minute min mins m", SECOND, 60, Some(NANO)),
-    ("hours hour hr hrs h", SECOND, 3_600, Some(SECOND)),
-    ("days day d", SECOND, 86_400, Some(SECOND)),
-    ("weeks week wk wks w", SECOND, 604_800, Some(SECOND)),
-    ("months month M", SECOND, 2_630_016, Some(SECOND)),
-    ("years year yr yrs y", SECOND, 31_557_600, Some(SECOND)),
+pub(crate) static UNITS: [Unit; 10] = [
+    (&["nanos", "nsec", "ns"], NANO, 1, None),
+    (
+        &["usec", "us", "\u{b5}s", "\u{3bc}s"],
+        NANO,
+        1_000,
+        Some(NANO),
+    ),
+    (&["millis", "msec", "ms"], NANO, 1_000_000, Some(NANO)),
+    (
+        &["seconds", "second", "secs", "sec", "s"],
+        SECOND,
+        1,
+        Some(NANO),
+    ),
+    (
+        &["minutes", "minute", "min", "mins", "m"],
+        SECOND,
+        60,
+        Some(NANO),
+    ),
+    (
+        &["hours", "hour", "hr", "hrs", "h"],
+        SECOND,
+        3_600,
+        Some(SECOND),
+    ),
+    (&["days", "day", "d"], SECOND, 86_400, Some(SECOND)),
+    (
+        &["weeks", "week", "wk", "wks", "w"],
+        SECOND,
+        604_800,
+        Some(SECOND),
+    ),
+    (&["months", "month", "M"], SECOND, 2_630_016, Some(SECOND)),
+    (
+        &["years", "year", "yr", "yrs", "y"],
+        SECOND,
+        31_557_600,
+        Some(SECOND),
+    ),
 ];
 
 /// The seconds and nanoseconds that a text stands for, or its first fault.
@@ -167,9 +197,9 @@ fn unit_of(text: &[char], from: usize, to: usize) -> Option<&'static Unit> {
     None
 }
 
-/// The characters are one of the words of a text.
-fn is_among(word: &[char], words: &str) -> bool {
-    for name in words.split(' ') {
+/// The characters are one of the words.
+fn is_among(word: &[char], words: &[&str]) -> bool {
+    for name in words {
         if is_spelled(word, name) {
             return true;
         }

@@ -7,8 +7,9 @@ use std::alloc::Global;
 use std::process::Abort;
 use std::test::Fail;
 
-/// Texts at the limits, texts that end before a unit's word does, and what they give.
-static EXACT: [(&str, Result<(u64, u32), Fault>); 9] = [
+/// Texts at the limits, texts that end before a unit's word does, texts with a stray character, and what they give.
+static EXACT: [(&str, Result<(u64, u32), Fault>); 14] = [
+    ("0.000000000005m", Err(Fault::NumberOverflow)),
     ("2h ", Ok((7200, 0))),
     ("00000000000000000001s", Ok((1, 0))),
     ("18446744073709551615s", Ok((u64::MAX, 0))),
@@ -18,6 +19,17 @@ static EXACT: [(&str, Result<(u64, u32), Fault>); 9] = [
         Err(Fault::NumberOverflow),
     ),
     ("1s\0", Err(Fault::InvalidCharacter(2))),
+    ("1_s", Err(Fault::InvalidCharacter(1))),
+    ("1\u{2060}2s", Err(Fault::InvalidCharacter(1))),
+    ("+1s", Err(Fault::NumberExpected(0))),
+    (
+        "1wek",
+        Err(Fault::UnknownUnit {
+            start: 1,
+            end: 4,
+            value: 1,
+        }),
+    ),
     (
         "2",
         Err(Fault::UnknownUnit {
@@ -111,7 +123,7 @@ fn points_into(error: DurationError<'_>, text: &str) -> bool {
 }
 
 /// The library's answer, as the plain reader gives it.
-fn answer(text: &str) -> Result<(u64, u32), Fault> {
+pub(crate) fn answer(text: &str) -> Result<(u64, u32), Fault> {
     match parse_duration(text) {
         Ok(duration) => Ok((duration.as_secs(), duration.subsec_nanos())),
         Err(error) => Err(fault_of(error)),
@@ -134,7 +146,7 @@ fn assert_answer(rt: &impl Abort, text: &str, wanted: Result<(u64, u32), Fault>)
 }
 
 /// Both readers answer alike.
-fn assert_alike(rt: &impl Abort, alloc: Global, text: &str) -> Result<(), Fail> {
+pub(crate) fn assert_alike(rt: &impl Abort, alloc: Global, text: &str) -> Result<(), Fail> {
     let characters: Vec<char> = text.chars().collect(alloc)?;
     assert_answer(rt, text, read(characters.as_slice()));
     Ok(())

@@ -1,2 +1,5 @@
+pub mod WorkedCharacters
+pub mod WorkedPrinted
 pub mod WorkedTexts
 pub mod WorkedTimestamps
+pub mod WorkedWords

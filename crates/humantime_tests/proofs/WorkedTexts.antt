@@ -1,7 +1,7 @@
 -- What some texts come to, by computation, and what that says of them.
 use Rattle.std.proofs.Common.{◌≡◌, ℕ, List, [], ◌∷◌, ◌++◌, Result, Ok, Err, map, refl}
 use Rattle.std.specs.Prelude.{codes}
-use Rattle.humantime.specs.Durations.Faults.{Fault, HasFault, InvalidCharacter, UnknownUnit, NumberOverflow}
+use Rattle.humantime.specs.Durations.Faults.{Fault, HasFault, InvalidCharacter, NumberExpected, UnknownUnit, NumberOverflow}
 use Rattle.humantime.specs.Prelude.{Accepted, duration_answer, canonical_answer, duration_text}
 use Rattle.humantime.proofs.OnLiterals.{humantime_on_literals}
 use Rattle.humantime.proofs.Durations.Reading.Outcomes.{accepted_from_outcome, fault_from_outcome}
@@ -21,7 +21,19 @@ rows =
     ∷ row (codes "1.234s0.345ms0.678us0ns") (Ok 1_234_345_678)
     ∷ row (codes "18446744073709551615ns 1ns") (Ok 18_446_744_073_709_551_616)
     ∷ row (codes "1ns 18446744073709551615ns") (Err NumberOverflow)
+    ∷ row (codes "18446744073709551615.999999999s") (Ok 18_446_744_073_709_551_615_999_999_999)
+    ∷ row (codes "18446744073709551615s 1000ms") (Err NumberOverflow)
+    ∷ row (codes "0") (Ok 0)
+    ∷ row (codes "00") (Err (UnknownUnit 2 2 [] 0))
+    ∷ row (codes " 0") (Err (UnknownUnit 2 2 [] 0))
+    ∷ row (codes "0 ") (Err (UnknownUnit 2 2 [] 0))
+    ∷ row (codes "  x") (Err (NumberExpected 2))
+    ∷ row (codes "2 hours  min") (Err (NumberExpected 9))
     ∷ row (codes "1.s") (Err (InvalidCharacter 1))
+    ∷ row (codes "1.") (Err (InvalidCharacter 1))
+    ∷ row (codes "1. s") (Err (InvalidCharacter 1))
+    ∷ row (codes "1..s") (Err (InvalidCharacter 2))
+    ∷ row (codes "1foo~") (Err (InvalidCharacter 4))
     ∷ row (codes "1.5") (Err (UnknownUnit 3 3 [] 1))
     ∷ row (codes "1foo ~") (Err (UnknownUnit 1 4 (codes "foo") 1))
     ∷ row (codes "222nsec221nanosmsec7s5msec572s") (Err (UnknownUnit 10 19 (codes "nanosmsec") 221))
@@ -36,6 +48,41 @@ rows_of_zeros =
     ∷ row (codes "0.00000000000000000000s") (Ok 0)
     ∷ row (codes "0.00000000000000000001s") (Err NumberOverflow)
     ∷ row (codes "1.00000000000000000000") (Err (UnknownUnit 22 22 [] 1))
+    ∷ []
+
+-- a fraction is a whole number of nanoseconds, and from hours on of seconds
+abbrev rows_of_fractions : List Row
+rows_of_fractions =
+    row (codes "0.001us") (Ok 1)
+    ∷ row (codes "0.0001us") (Err NumberOverflow)
+    ∷ row (codes "0.000001ms") (Ok 1)
+    ∷ row (codes "0.0000001ms") (Err NumberOverflow)
+    ∷ row (codes "0.000000001s") (Ok 1)
+    ∷ row (codes "0.0000000001s") (Err NumberOverflow)
+    ∷ row (codes "0.01m") (Ok 600_000_000)
+    ∷ row (codes "0.00000000005m") (Ok 3)
+    ∷ row (codes "0.000000000005m") (Err NumberOverflow)
+    ∷ row (codes "0.3074457340m") (Ok 18_446_744_040)
+    ∷ row (codes "0.3074457350m") (Err NumberOverflow)
+    ∷ row (codes "0.0025h") (Ok 9_000_000_000)
+    ∷ row (codes "0.0001h") (Err NumberOverflow)
+    ∷ row (codes "0.00125d") (Ok 108_000_000_000)
+    ∷ row (codes "0.001d") (Err NumberOverflow)
+    ∷ row (codes "0.00125w") (Ok 756_000_000_000)
+    ∷ row (codes "0.001w") (Err NumberOverflow)
+    ∷ row (codes "1.5months") (Ok 3_945_024_000_000_000)
+    ∷ row (codes "0.01M") (Err NumberOverflow)
+    ∷ row (codes "0.01y") (Ok 315_576_000_000_000)
+    ∷ row (codes "0.001y") (Err NumberOverflow)
+    ∷ []
+
+-- characters that look as if they belonged there, and a word with a letter less
+abbrev rows_of_strays : List Row
+rows_of_strays =
+    row (codes "+1s") (Err (NumberExpected 0))
+    ∷ row (codes "1_s") (Err (InvalidCharacter 1))
+    ∷ row (codes "1" ++ 0x2060 ∷ codes "2s") (Err (InvalidCharacter 1))
+    ∷ row (codes "1wek") (Err (UnknownUnit 1 4 (codes "wek") 1))
     ∷ []
 
 -- å is no letter of a unit, an ideographic space is white space, and the micro sign and the Greek letter mu take two bytes
@@ -56,6 +103,10 @@ AreAnswered xs = map (λ x. duration_answer x.text) xs ≡ map (λ x. x.answer) 
 rows_answered : AreAnswered (rows ++ rows_of_zeros ++ rows_beyond_ascii)
 unfolding humantime_on_literals
 rows_answered = refl
+
+fractions_answered : AreAnswered (rows_of_fractions ++ rows_of_strays)
+unfolding humantime_on_literals
+fractions_answered = refl
 
 -- what an answer says of its text
 hours_and_minutes : Accepted (codes "2h 37min") 9_420_000_000_000
