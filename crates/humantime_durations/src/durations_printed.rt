@@ -118,9 +118,13 @@ fn microseconds_are_printed_with_the_micro_sign(rt: HostRuntime) {
 
 #[test]
 fn no_width_and_no_precision_changes_anything(rt: HostRuntime) {
-    let printed = format_duration(StdDuration::from_secs(1_296_122));
-    let text = "15days 2m 2s";
+    let value = StdDuration::from_secs(1_296_122);
+    let (printed, text) = (format_duration(value), "15days 2m 2s");
     assert_same_at(&rt, misprinted_width(&printed, text), None, text);
+    let wrapper = Duration::from(value);
+    assert_same_at(&rt, misprinted_width(&wrapper, text), None, text);
+    let (error, message) = (DurationError::Empty, "value was empty");
+    assert_same_at(&rt, misprinted_width(&error, message), None, message);
 }
 
 #[test]

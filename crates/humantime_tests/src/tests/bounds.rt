@@ -2,11 +2,10 @@
 
 use crate::tests::support::{assert_same, fed, moment};
 use humantime::{
-    Date, Duration, DurationError, StdDuration, SystemTime, Timestamp, TimestampError, UNIX_EPOCH,
+    Date, Duration, DurationError, StdDuration, Timestamp, TimestampError, UNIX_EPOCH,
 };
 use humantime_sink::misprint;
 use std::error::Error;
-use std::hash::Hash;
 use std::process::Abort;
 
 /// By `Error` alone it has this message.
@@ -59,31 +58,35 @@ fn values_are_equal_to_themselves(rt: HostRuntime) {
     assert_equal(&rt, &leap, &next);
 }
 
-/// The values are fed to a hasher differently.
-fn assert_fed_apart<T: Hash>(rt: &impl Abort, value: &T, other: &T) {
-    assert_same(rt, fed(value) == fed(other), false);
-}
-
-const PARTS: &[(u64, u32)] = &[
+/// Seconds and nanoseconds, no two alike.
+const PARTS: &[(u32, u32)] = &[
     (0, 0),
     (0, 1),
     (0, 999_999_999),
     (1, 0),
     (1, 1),
     (9420, 0),
-    (9_223_372_036_854_775_807, 999_999_999),
+    (4_294_967_295, 999_999_999),
 ];
 
+/// The values of these parts, each as a hasher is fed with it: a duration, and a moment.
+fn fed_with(rt: &impl Abort, secs: u32, nanos: u32) -> (u64, u64) {
+    let value = StdDuration::new(u64::from(secs), nanos);
+    let moment = moment(rt, i64::from(secs), nanos);
+    assert_same(rt, fed(&Duration::from(value)), fed(&value));
+    assert_same(rt, fed(&Timestamp::from(moment)), fed(&moment));
+    (fed(&value), fed(&moment))
+}
+
 #[test]
-fn durations_that_differ_are_hashed_apart(rt: HostRuntime) {
+fn values_that_differ_are_hashed_apart(rt: HostRuntime) {
     for (secs, nanos) in PARTS {
-        let value = StdDuration::new(*secs, *nanos);
-        assert_same(&rt, fed(&Duration::from(value)), fed(&value));
-        for (more_secs, more_nanos) in PARTS {
-            let other = StdDuration::new(*more_secs, *more_nanos);
-            if value != other {
-                assert_fed_apart(&rt, &value, &other);
-            }
+        let (duration, moment) = fed_with(&rt, *secs, *nanos);
+        for (other_secs, other_nanos) in PARTS {
+            let is_same = secs == other_secs && nanos == other_nanos;
+            let (other_duration, other_moment) = fed_with(&rt, *other_secs, *other_nanos);
+            assert_same(&rt, duration == other_duration, is_same);
+            assert_same(&rt, moment == other_moment, is_same);
         }
     }
 }
