@@ -2,17 +2,14 @@
 
 use crate::support::assert_same_at;
 use humantime::DurationError;
-use humantime_sink::Sink;
+use humantime_sink::{Sink, misprint};
 use std::fmt::Write;
 use std::process::Abort;
+use std::test::Fail;
 
-/// The error has this message, whatever the width and the fill, and is equal to its clone.
+/// The error has this message, whatever format is asked for, and is equal to its clone.
 fn assert_message(rt: &impl Abort, error: DurationError<'_>, message: &str) {
-    let (mut line, mut wide) = (Sink::open(), Sink::open());
-    assert_same_at(rt, write!(line, "{error}").is_ok(), true, message);
-    assert_same_at(rt, line.text(), message, message);
-    assert_same_at(rt, write!(wide, "{error:*>200}").is_ok(), true, message);
-    assert_same_at(rt, wide.text(), message, message);
+    assert_same_at(rt, misprint(&error, message), None, message);
     assert_same_at(rt, error.clone().ok(), Some(error), message);
 }
 
@@ -75,6 +72,60 @@ fn each_error_has_its_message(rt: HostRuntime) {
             ),
         ],
     );
+}
+
+/// The errors that name this place tell it.
+fn assert_place(rt: &impl Abort, at: usize) -> Result<(), Fail> {
+    let (mut character, mut number) = (Sink::open(), Sink::open());
+    write!(character, "invalid character at {at}")?;
+    write!(number, "expected number at {at}")?;
+    assert_message(rt, DurationError::InvalidCharacter(at), character.text());
+    assert_message(rt, DurationError::NumberExpected(at), number.text());
+    Ok(())
+}
+
+/// The error of a missing unit tells the number before it.
+fn assert_number(rt: &impl Abort, value: u64) -> Result<(), Fail> {
+    let mut line = Sink::open();
+    write!(
+        line,
+        "time unit needed, for example {value}sec or {value}ms"
+    )?;
+    assert_message(rt, unknown_unit(0, 0, "", value), line.text());
+    Ok(())
+}
+
+/// Halves of this number and of those halves, down to zero, are told.
+fn assert_halves(rt: &impl Abort, number: u64) -> Result<(), Fail> {
+    let mut n = number;
+    for _ in 0..65 {
+        assert_place(rt, n as usize)?;
+        assert_number(rt, n)?;
+        n /= 2;
+    }
+    Ok(())
+}
+
+#[test]
+fn a_message_tells_places_and_numbers_of_each_length(rt: HostRuntime) -> Result<(), Fail> {
+    assert_halves(&rt, u64::MAX)?;
+    assert_halves(&rt, 10_000_000_000_000_000_000)
+}
+
+#[test]
+fn a_message_tells_units_of_each_length(rt: HostRuntime) -> Result<(), Fail> {
+    let letters = [b'x'; 300];
+    for len in 1..300 {
+        let unit = str::from_utf8(&letters[..len]).unwrap_or("");
+        let mut line = Sink::open();
+        write!(line, "unknown time unit \"{unit}\", supported units: ")?;
+        write!(
+            line,
+            "ns, us/µs, ms, sec, min, hours, days, weeks, months, years (and few variations)"
+        )?;
+        assert_message(&rt, unknown_unit(1, 1 + len, unit, 1), line.text());
+    }
+    Ok(())
 }
 
 /// The two errors are different, by what this says.

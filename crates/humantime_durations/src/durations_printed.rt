@@ -1,10 +1,11 @@
 //! Durations, and the text of each.
 
-use crate::support::assert_same_at;
+use crate::support::{assert_same_at, assert_written};
 use humantime::{
-    DurationError, FormattedDuration, StdDuration, canonical, format_duration, parse_duration,
+    Duration, DurationError, FormattedDuration, StdDuration, canonical, format_duration,
+    parse_duration,
 };
-use humantime_sink::Sink;
+use humantime_sink::{Sink, is_printed, misprinted_width};
 use std::fmt::Write;
 use std::process::Abort;
 use std::test::Fail;
@@ -13,13 +14,10 @@ const LONGEST: &str = "100000000000years 11months 29days 23h 59m 59s 999ms 999µ
 
 const GREATEST: &str = "584542046090years 7months 15days 17h 5m 3s 999ms 999µs 999ns";
 
-/// A sink is given this text of the duration, at one request.
-fn assert_written(rt: &impl Abort, value: StdDuration, text: &str) {
-    let printed = format_duration(value);
-    let mut sink = Sink::open();
-    assert_same_at(rt, write!(sink, "{printed}").is_ok(), true, text);
-    assert_same_at(rt, sink.bytes(), text.as_bytes(), text);
-    assert_same_at(rt, sink.requests(), 1, text);
+/// `Display` of the duration, and of the wrapper that holds it, writes this text.
+fn assert_displayed(rt: &impl Abort, value: StdDuration, text: &str) {
+    assert_written(rt, &format_duration(value), text);
+    assert_written(rt, &Duration::from(value), text);
 }
 
 /// A buffer of these bytes is given this text.
@@ -35,7 +33,7 @@ fn assert_printed(rt: &impl Abort, rows: &[(u64, u32, &str)]) -> Result<(), Fail
         assert_text(rt, &printed, 0, text);
         assert_text(rt, &printed.clone()?, b'x', text);
         assert_same_at(rt, *printed.get_ref(), value, text);
-        assert_written(rt, value, text);
+        assert_displayed(rt, value, text);
     }
     Ok(())
 }
@@ -97,7 +95,7 @@ fn the_longest_text_fills_its_buffer(rt: HostRuntime) -> Result<(), Fail> {
         LONGEST,
     );
     assert_same_at(&rt, again.as_slice(), LONGEST.as_bytes(), LONGEST);
-    assert_written(&rt, longest, LONGEST);
+    assert_displayed(&rt, longest, LONGEST);
     Ok(())
 }
 
@@ -119,35 +117,60 @@ fn microseconds_are_printed_with_the_micro_sign(rt: HostRuntime) {
 }
 
 #[test]
-fn width_and_fill_change_nothing(rt: HostRuntime) {
-    let printed = format_duration(StdDuration::from_secs(1_296_122));
-    let (once, twice) = ("15days 2m 2s", "15days 2m 2s15days 2m 2s");
-    let mut sink = Sink::open();
-    assert_same_at(&rt, write!(sink, "{printed:>80}").is_ok(), true, once);
-    assert_same_at(&rt, sink.bytes(), once.as_bytes(), once);
-    assert_same_at(&rt, write!(sink, "{printed:*<80}").is_ok(), true, twice);
-    assert_same_at(&rt, sink.bytes(), twice.as_bytes(), twice);
+fn no_width_and_no_precision_changes_anything(rt: HostRuntime) {
+    let value = StdDuration::from_secs(1_296_122);
+    let (printed, text) = (format_duration(value), "15days 2m 2s");
+    assert_same_at(&rt, misprinted_width(&printed, text), None, text);
+    let wrapper = Duration::from(value);
+    assert_same_at(&rt, misprinted_width(&wrapper, text), None, text);
+    let (error, message) = (DurationError::Empty, "value was empty");
+    assert_same_at(&rt, misprinted_width(&error, message), None, message);
 }
 
 #[test]
-fn a_sink_is_asked_once(rt: HostRuntime) {
-    let value = StdDuration::from_secs(1_296_122);
+fn a_sink_that_refuses_is_asked_once(rt: HostRuntime) {
+    let printed = format_duration(StdDuration::from_secs(1_296_122));
     let text = "15days 2m 2s";
-    assert_written(&rt, value, text);
-    let printed = format_duration(value);
     let mut refusing = Sink::refusing();
     assert_same_at(&rt, write!(refusing, "{printed}").is_err(), true, text);
     assert_same_at(&rt, refusing.requests(), 1, text);
     assert_same_at(&rt, refusing.bytes().len(), 0, text);
 }
 
+/// The printed text of the duration reads back, and `Display` writes it.
+fn assert_reads_back(rt: &impl Abort, value: StdDuration) {
+    let mut buf = [0; 64];
+    let text = format_duration(value).text(&mut buf);
+    assert_same_at(rt, parse_duration(text).ok(), Some(value), text);
+    assert_same_at(rt, is_printed(&Duration::from(value), text), true, text);
+}
+
 #[test]
 fn each_second_of_a_day_reads_back(rt: HostRuntime) {
-    let mut buf = [0; 64];
     for secs in 0..86_400 {
-        let value = StdDuration::from_secs(secs);
-        let text = format_duration(value).text(&mut buf);
-        assert_same_at(&rt, parse_duration(text).ok(), Some(value), text);
+        assert_reads_back(&rt, StdDuration::from_secs(secs));
+    }
+}
+
+/// Seconds of an hour, a day, a week, a month, a year and a century.
+const SPANS: &[u64] = &[3600, 86_400, 604_800, 2_630_016, 31_557_600, 3_155_760_000];
+
+#[test]
+fn whole_units_read_back(rt: HostRuntime) {
+    for count in 0..1000 {
+        for secs in SPANS {
+            assert_reads_back(&rt, StdDuration::from_secs(secs.saturating_mul(count)));
+        }
+    }
+}
+
+#[test]
+fn parts_of_a_second_read_back(rt: HostRuntime) {
+    for count in 0..1000 {
+        assert_reads_back(&rt, StdDuration::new(0, count));
+        assert_reads_back(&rt, StdDuration::new(0, count * 1_000));
+        assert_reads_back(&rt, StdDuration::new(0, count * 1_000_000));
+        assert_reads_back(&rt, StdDuration::new(9420, count * 1_001_001));
     }
 }
 
@@ -178,6 +201,30 @@ fn each_error_leaves_the_buffer_as_it_was(rt: HostRuntime) {
     assert_refused(&rt, "10nights", nights);
     assert_refused(&rt, "1.0000000002s", DurationError::NumberOverflow);
     assert_refused(&rt, "", DurationError::Empty);
+}
+
+/// The first bytes, so many of them, as a text.
+fn front(bytes: &[u8], len: usize) -> &str {
+    let (first, _) = bytes.split_at_checked(len).unwrap_or((bytes, b""));
+    str::from_utf8(first).unwrap_or("")
+}
+
+#[test]
+fn each_error_of_a_long_text_leaves_the_buffer_as_it_was(rt: HostRuntime) {
+    let (spaces, ones, zeros, letters) = ([b' '; 9000], [b'1'; 9000], [b'0'; 9000], [b's'; 9000]);
+    for step in 1..93 {
+        let len = 97 * step;
+        let no_unit = DurationError::UnknownUnit {
+            start: len,
+            end: len,
+            unit: "",
+            value: 0,
+        };
+        assert_refused(&rt, front(&spaces, len), DurationError::Empty);
+        assert_refused(&rt, front(&ones, len), DurationError::NumberOverflow);
+        assert_refused(&rt, front(&zeros, len), no_unit);
+        assert_refused(&rt, front(&letters, len), DurationError::NumberExpected(0));
+    }
 }
 
 #[test]

@@ -115,3 +115,16 @@ fn spans_have_no_exception_for_zero(rt: HostRuntime) {
     assert_items(&rt, "0", &[], &[unknown_unit(1, 1, "", 0)]);
     assert_items(&rt, "", &[], &[DurationError::Empty]);
 }
+
+/// What the first span lends of the text, when the span itself is gone.
+fn first_slices(text: &str) -> Option<(&str, Option<&str>, &str)> {
+    let span = spans(text).next()?.ok()?;
+    Some((span.number(), span.fraction(), span.unit()))
+}
+
+#[test]
+fn slices_outlive_their_span(rt: HostRuntime) {
+    let text = "2.5h 37min";
+    let slices = Some(("2", Some("5"), "h"));
+    assert_same_at(&rt, first_slices(text), slices, text);
+}

@@ -1,6 +1,7 @@
 //! Assertions on values of any type.
 
-use std::fmt::Debug;
+use humantime_sink::misprint_at_once;
+use std::fmt::{Debug, Display};
 use std::process::Abort;
 
 /// The two are equal, for the case of this text.
@@ -11,4 +12,9 @@ pub(crate) fn assert_same_at<T: PartialEq + Debug + Drop>(
     at: &str,
 ) {
     assert_eq!(rt; left, right, "at {at}");
+}
+
+/// `Display` writes the value as this text in one request, whatever format is asked for.
+pub(crate) fn assert_written(rt: &impl Abort, value: &impl Display, text: &str) {
+    assert_same_at(rt, misprint_at_once(value, text), None, text);
 }

@@ -1,39 +1,66 @@
 -- What some timestamps read as, and what some moments print as, by computation.
-use Rattle.std.proofs.Common.{◌≡◌, ◌+◌, ◌*◌, Some, None, Ok, Err, refl}
-use Rattle.std.specs.Prelude.{codes, pos, negsuc}
+use Rattle.std.proofs.Common.{◌≡◌, ℕ, ◌+◌, ◌*◌, List, [], ◌∷◌, Some, None, Result, Ok, Err, map, refl}
+use Rattle.std.specs.Prelude.{ℤ, codes, pos, negsuc}
+use Rattle.humantime.specs.declared.date.error.TimestampError.{TimestampError}
 use Rattle.humantime.specs.declared.date.error.TimestampError.TheVariants.{OutOfRange, InvalidDigit, InvalidFormat}
-use Rattle.humantime.specs.Values.{nanos_per_second}
-use Rattle.humantime.specs.References.Timestamps.Printing.{moment_text, shortest_text}
-use Rattle.humantime.specs.References.Timestamps.Reading.{weak_answer, strict_answer}
+use Rattle.humantime.specs.Prelude.{nanos_per_second, weak_answer, strict_answer, cut, moment_text, places_of, shortest_text}
 use Rattle.humantime.proofs.TimestampsOnLiterals.{timestamps_on_literals}
 
-weak_form : weak_answer (codes "2018-02-14 00:28:07") ≡ Ok (pos (1_518_568_087 * nanos_per_second))
-unfolding timestamps_on_literals
-weak_form = refl
+-- A text, and what the weak and the strict parser answer.
+record Row : Type 0 where
+  text : List ℕ
+  weak : Result ℤ TimestampError
+  strict : Result ℤ TimestampError
 
-strict_form : strict_answer (codes "2018-02-14T00:28:07Z") ≡ Ok (pos (1_518_568_087 * nanos_per_second))
-unfolding timestamps_on_literals
-strict_form = refl
+abbrev row : List ℕ → Result ℤ TimestampError → Result ℤ TimestampError → Row
+row text weak strict = record { text = text; weak = weak; strict = strict }
 
-leap_second : strict_answer (codes "2016-12-31T23:59:60Z") ≡ Ok (pos (1_483_228_799 * nanos_per_second))
-unfolding timestamps_on_literals
-leap_second = refl
+-- this second, and then so many nanoseconds
+abbrev at : ℕ → ℕ → Result ℤ TimestampError
+at second nanos = Ok (pos (second * nanos_per_second + nanos))
 
-tenth_digit_cut : strict_answer (codes "9999-12-31T23:59:59.9999999999Z") ≡ Ok (pos (253_402_300_799 * nanos_per_second + 999_999_999))
-unfolding timestamps_on_literals
-tenth_digit_cut = refl
+abbrev rows : List Row
+rows =
+    row (codes "2018-02-14 00:28:07") (at 1_518_568_087 0) (Err InvalidFormat)
+    ∷ row (codes "2018-02-14T00:28:07Z") (at 1_518_568_087 0) (at 1_518_568_087 0)
+    ∷ row (codes "2016-12-31T23:59:60Z") (at 1_483_228_799 0) (at 1_483_228_799 0)
+    ∷ row (codes "9999-12-31T23:59:59.9999999999Z") (at 253_402_300_799 999_999_999) (at 253_402_300_799 999_999_999)
+    ∷ row (codes "2018-02-14T00:28:07+02:00") (Err InvalidFormat) (Err InvalidFormat)
+    ∷ row (codes "1970-01-01 00:00:07+0000") (Err InvalidFormat) (Err InvalidFormat)
+    ∷ row (codes "1970-01-01_00:00:00") (Err InvalidFormat) (Err InvalidFormat)
+    ∷ row (codes "1970-01-01_00:00:00Z") (Err InvalidFormat) (Err InvalidFormat)
+    ∷ row (codes "2100-02-29T00:00:00Z") (Err OutOfRange) (Err OutOfRange)
+    ∷ row (codes "1970-13-01 00:00:00.5x") (Err OutOfRange) (Err InvalidFormat)
+    ∷ row (codes "1970-13-01T00:00:00.5xZ") (Err OutOfRange) (Err OutOfRange)
+    ∷ row (codes "1970-01-01 00:00:00.5+02:00") (Err InvalidDigit) (Err InvalidFormat)
+    ∷ row (codes "1970-01-01 00:00:00.1234567890x") (Err InvalidDigit) (Err InvalidFormat)
+    ∷ row (codes "1970-01-01T00:00:00.1234567890xZ") (Err InvalidDigit) (Err InvalidDigit)
+    ∷ []
 
-another_zone : strict_answer (codes "2018-02-14T00:28:07+02:00") ≡ Err InvalidFormat
+rows_weak : map (λ x. weak_answer x.text) rows ≡ map (λ x. x.weak) rows
 unfolding timestamps_on_literals
-another_zone = refl
+rows_weak = refl
 
-no_such_day : weak_answer (codes "2100-02-29T00:00:00Z") ≡ Err OutOfRange
+rows_strict : map (λ x. strict_answer x.text) rows ≡ map (λ x. x.strict) rows
 unfolding timestamps_on_literals
-no_such_day = refl
+rows_strict = refl
 
-zone_after_fraction : weak_answer (codes "1970-01-01 00:00:00.5+02:00") ≡ Err InvalidDigit
-unfolding timestamps_on_literals
-zone_after_fraction = refl
+-- how many digits `format_rfc3339` shows: none where the nanoseconds are zero, before 1970 too, and else nine
+no_digits : map places_of (pos 0 ∷ pos 1_000_000_000 ∷ pos 253_402_300_799_000_000_000 ∷ negsuc 999_999_999 ∷ []) ≡ 0 ∷ 0 ∷ 0 ∷ 0 ∷ []
+no_digits = refl
+
+nine_digits_before_1970 : map places_of (negsuc 0 ∷ negsuc 999_999_998 ∷ negsuc 1_000_000_000 ∷ []) ≡ 9 ∷ 9 ∷ 9 ∷ []
+nine_digits_before_1970 = refl
+
+nine_digits : map places_of (pos 1 ∷ pos 7 ∷ pos 999 ∷ pos 1_000 ∷ pos 1_000_000 ∷ pos 500_000_000 ∷ pos 999_999_999 ∷ pos 1_000_000_001 ∷ []) ≡ 9 ∷ 9 ∷ 9 ∷ 9 ∷ 9 ∷ 9 ∷ 9 ∷ 9 ∷ []
+nine_digits = refl
+
+-- a moment cut to none, three, six and nine digits: the digits shown stay, before 1970 too
+cut_moment : map (cut (pos 1_456_123_999)) (0 ∷ 3 ∷ 6 ∷ 9 ∷ []) ≡ pos 1_000_000_000 ∷ pos 1_456_000_000 ∷ pos 1_456_123_000 ∷ pos 1_456_123_999 ∷ []
+cut_moment = refl
+
+cut_before_1970 : map (cut (negsuc 543_876_000)) (0 ∷ 3 ∷ 6 ∷ 9 ∷ []) ≡ negsuc 999_999_999 ∷ negsuc 543_999_999 ∷ negsuc 543_876_999 ∷ negsuc 543_876_000 ∷ []
+cut_before_1970 = refl
 
 in_millis : moment_text (pos (1_518_563_312 * nanos_per_second + 456_123_999)) 3 ≡ Some (codes "2018-02-13T23:08:32.456Z")
 unfolding timestamps_on_literals
@@ -46,6 +73,10 @@ last_moment = refl
 whole_second : shortest_text (pos (951_782_400 * nanos_per_second)) ≡ Some (codes "2000-02-29T00:00:00Z")
 unfolding timestamps_on_literals
 whole_second = refl
+
+seven_nanos : shortest_text (pos 7) ≡ Some (codes "1970-01-01T00:00:00.000000007Z")
+unfolding timestamps_on_literals
+seven_nanos = refl
 
 before_1970 : moment_text (negsuc 0) 0 ≡ None
 unfolding timestamps_on_literals

@@ -1,5 +1,6 @@
 //! Values, what CALLING.md shows and the five programs, run. What is expected comes from the written rules, never from what the library answers.
 
+mod bounds;
 mod callers;
 mod programs;
 mod std_durations;

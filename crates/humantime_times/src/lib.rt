@@ -8,11 +8,15 @@ mod calendar;
 mod counted_calendar;
 #[cfg(test)]
 mod plain_calendar;
+#[cfg(test)]
+mod printers;
 pub mod promises;
 #[cfg(test)]
 mod support;
 #[cfg(test)]
 mod timestamp_errors;
+#[cfg(test)]
+mod timestamps_counted;
 #[cfg(test)]
 mod timestamps_printed;
 #[cfg(test)]

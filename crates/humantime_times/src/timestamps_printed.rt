@@ -1,45 +1,12 @@
 //! Moments, and the text of each in each precision.
 
-use crate::plain_calendar::{PlainDate, next_day};
+use crate::printers::{Call, assert_prints, called, moment};
 use crate::support::{assert_same, assert_same_at, assert_written};
-use humantime::{
-    Rfc3339Timestamp, SystemTime, Timestamp, format_rfc3339, format_rfc3339_micros,
-    format_rfc3339_millis, format_rfc3339_nanos, format_rfc3339_seconds, parse_rfc3339,
-};
-use humantime_sink::Sink;
-use std::fmt::{self, Write};
+use humantime::{SystemTime, Timestamp, TimestampError, format_rfc3339};
+use humantime_sink::{Sink, misprinted_width};
+use std::fmt::{self, Display, Write};
 use std::process::Abort;
 use std::test::Fail;
-
-fn moment(secs: i64, nanos: u32) -> Result<SystemTime, Fail> {
-    Ok(SystemTime::from_parts(secs, nanos).ok_or("a moment")?)
-}
-
-/// The five calls.
-#[derive(Clone, Copy)]
-enum Call {
-    Shortest,
-    Seconds,
-    Millis,
-    Micros,
-    Nanos,
-}
-
-fn called(call: Call, moment: SystemTime) -> Rfc3339Timestamp {
-    match call {
-        Call::Shortest => format_rfc3339(moment),
-        Call::Seconds => format_rfc3339_seconds(moment),
-        Call::Millis => format_rfc3339_millis(moment),
-        Call::Micros => format_rfc3339_micros(moment),
-        Call::Nanos => format_rfc3339_nanos(moment),
-    }
-}
-
-/// It is this text, by `text` and by one request of `Display`.
-fn assert_prints(rt: &impl Abort, printable: &Rfc3339Timestamp, text: &str) -> Result<(), Fail> {
-    assert_same_at(rt, printable.text(&mut [0; 30]), Some(text), text);
-    assert_written(rt, printable, text)
-}
 
 /// `format_rfc3339` and a `Timestamp` print each moment so, and the moment is kept.
 fn assert_printed_whole(rt: &impl Abort, rows: &[(i64, u32, &str)]) -> Result<(), Fail> {
@@ -47,8 +14,8 @@ fn assert_printed_whole(rt: &impl Abort, rows: &[(i64, u32, &str)]) -> Result<()
         let moment = moment(*secs, *nanos)?;
         let printable = format_rfc3339(moment);
         assert_same_at(rt, *printable.get_ref(), moment, text);
-        assert_prints(rt, &printable, text)?;
-        assert_written(rt, &Timestamp::from(moment), text)?;
+        assert_prints(rt, &printable, text);
+        assert_written(rt, &Timestamp::from(moment), text);
     }
     Ok(())
 }
@@ -56,7 +23,7 @@ fn assert_printed_whole(rt: &impl Abort, rows: &[(i64, u32, &str)]) -> Result<()
 /// The calls print each moment so.
 fn assert_cut(rt: &impl Abort, rows: &[(Call, i64, u32, &str)]) -> Result<(), Fail> {
     for (call, secs, nanos, text) in rows {
-        assert_prints(rt, &called(*call, moment(*secs, *nanos)?), text)?;
+        assert_prints(rt, &called(*call, moment(*secs, *nanos)?), text);
     }
     Ok(())
 }
@@ -252,7 +219,7 @@ fn a_moment_of_each_century_from_6000_is_printed(rt: HostRuntime) -> Result<(), 
 }
 
 /// What is printed is refused after so many requests of the sink, which takes no byte.
-fn assert_unwritten(rt: &impl Abort, printable: &Rfc3339Timestamp, sink: Sink, requests: u32) {
+fn assert_unwritten(rt: &impl Abort, printable: &impl Display, sink: Sink, requests: u32) {
     let mut sink = sink;
     assert_same(rt, write!(sink, "{printable}"), Err(fmt::Error));
     assert_same(rt, (sink.requests(), sink.bytes().len()), (requests, 0));
@@ -273,6 +240,7 @@ fn assert_not_printed(rt: &impl Abort, moment: SystemTime) {
         assert_same(rt, buf, [7; 30]);
         assert_unwritten(rt, &printable, Sink::open(), 0);
     }
+    assert_unwritten(rt, &Timestamp::from(moment), Sink::open(), 0);
 }
 
 #[test]
@@ -288,71 +256,47 @@ fn moments_that_are_not_printed(rt: HostRuntime) -> Result<(), Fail> {
     Ok(())
 }
 
+/// The first second after 9999.
+const END: i64 = 253_402_300_800;
+
+/// A second that no call prints, and how far it is from there to the next one.
+const NOT_PRINTED: &[(i64, i64)] = &[
+    (-1, -1),
+    (-1, -31_557_601),
+    (-1, -92_000_000_000_000_000),
+    (i64::MIN, 1),
+    (END, 1),
+    (END, 31_557_601),
+    (END, 92_000_000_000_000_000),
+    (i64::MAX, -1),
+];
+
+#[test]
+fn seconds_all_over_the_range_are_not_printed(rt: HostRuntime) -> Result<(), Fail> {
+    for (first, stride) in NOT_PRINTED {
+        let mut secs = *first;
+        for _ in 0..100 {
+            assert_not_printed(&rt, moment(secs, 0)?);
+            assert_not_printed(&rt, moment(secs, 999_999_999)?);
+            secs = secs.wrapping_add(*stride);
+        }
+    }
+    Ok(())
+}
+
+#[test]
+fn no_width_and_no_precision_changes_anything(rt: HostRuntime) -> Result<(), Fail> {
+    let (moment, text) = (moment(0, 0)?, "1970-01-01T00:00:00Z");
+    assert_same(&rt, misprinted_width(&format_rfc3339(moment), text), None);
+    assert_same(&rt, misprinted_width(&Timestamp::from(moment), text), None);
+    let (error, message) = (TimestampError::InvalidFormat, "timestamp format is invalid");
+    assert_same(&rt, misprinted_width(&error, message), None);
+    Ok(())
+}
+
 #[test]
 fn a_sink_that_refuses(rt: HostRuntime) -> Result<(), Fail> {
     let printable = format_rfc3339(moment(0, 0)?);
     assert_unwritten(&rt, &printable, Sink::refusing(), 1);
-    Ok(())
-}
-
-/// The first day of a year.
-fn new_year(year: u32) -> PlainDate {
-    PlainDate {
-        year,
-        month: 1,
-        day: 1,
-    }
-}
-
-/// Writes a number in two digits at least, and what stands behind it.
-fn put(line: &mut Sink, number: u32, behind: &str) -> fmt::Result {
-    write!(line, "{number:02}{behind}")
-}
-
-/// The text of a second of a date.
-fn counted(date: PlainDate, second_of_day: u32) -> Result<Sink, fmt::Error> {
-    let mut line = Sink::open();
-    put(&mut line, date.year, "-")?;
-    put(&mut line, date.month, "-")?;
-    put(&mut line, date.day, "T")?;
-    put(&mut line, second_of_day / 3600, ":")?;
-    put(&mut line, second_of_day / 60 % 60, ":")?;
-    put(&mut line, second_of_day % 60, "Z")?;
-    Ok(line)
-}
-
-/// The moment so many seconds after 1970 is printed as this second of this date, and reads back.
-fn assert_counted(rt: &impl Abort, secs: i64, date: PlainDate, second: u32) -> Result<(), Fail> {
-    let moment = moment(secs, 0)?;
-    let line = counted(date, second)?;
-    let want = line.text();
-    let mut buf = [0; 30];
-    assert_same(rt, format_rfc3339(moment).text(&mut buf), Some(want));
-    assert_same_at(rt, parse_rfc3339(want), Ok(moment), want);
-    Ok(())
-}
-
-/// The 731 days from this second and date on are printed as counting gives them.
-fn assert_days(rt: &impl Abort, first: u32, date: PlainDate) -> Result<(), Fail> {
-    let mut date = date;
-    for day in 0_u32..731 {
-        let secs = i64::from(first) + i64::from(day) * 86_400;
-        assert_counted(rt, secs, date, 0)?;
-        date = next_day(date);
-    }
-    Ok(())
-}
-
-#[test]
-fn the_first_731_days_and_those_from_2012(rt: HostRuntime) -> Result<(), Fail> {
-    assert_days(&rt, 0, new_year(1970))?;
-    assert_days(&rt, 1325376000, new_year(2012))
-}
-
-#[test]
-fn all_seconds_of_a_day(rt: HostRuntime) -> Result<(), Fail> {
-    for second in 0_u32..86_400 {
-        assert_counted(&rt, 1325376000 + i64::from(second), new_year(2012), second)?;
-    }
     Ok(())
 }

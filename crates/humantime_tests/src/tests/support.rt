@@ -1,7 +1,7 @@
 //! Assertions on values of any type, and what bounds answer.
 
 use humantime::SystemTime;
-use humantime_sink::Sink;
+use humantime_sink::{Sink, misprint_at_once};
 use std::fmt::{self, Debug, Display, Write};
 use std::hash::{FoldHasher, Hash, Hasher};
 use std::process::Abort;
@@ -11,14 +11,9 @@ pub(crate) fn assert_same<T: PartialEq + Debug + Drop>(rt: &impl Abort, left: T,
     assert_eq!(rt; left, right);
 }
 
-/// The value is printed so by one request, with no width and with one.
+/// The value is printed so by one request, whatever format is asked for.
 pub(crate) fn assert_prints(rt: &impl Abort, value: &impl Display, want: &str) {
-    let mut sink = Sink::open();
-    assert_same(rt, write!(sink, "{value}"), Ok(()));
-    assert_same(rt, (sink.text(), sink.requests()), (want, 1));
-    let mut wide = Sink::open();
-    assert_same(rt, write!(wide, "{value:>80}"), Ok(()));
-    assert_same(rt, (wide.text(), wide.requests()), (want, 1));
+    assert_same(rt, (want, misprint_at_once(value, want)), (want, None));
 }
 
 /// The value is not printed, and nothing is asked of the sink.
