@@ -28,24 +28,44 @@ fn assert_read_alike(rt: &impl Abort, text: &mut String, characters: &[char]) ->
     Ok(())
 }
 
+/// Both readers answer alike on these characters with each letter behind them.
+fn assert_longer_alike(
+    rt: &impl Abort,
+    text: &mut String,
+    word: &mut Vec<char>,
+) -> Result<(), Fail> {
+    for letter in LETTERS.chars() {
+        word.push(letter)?;
+        assert_read_alike(rt, text, word.as_slice())?;
+        word.pop();
+    }
+    Ok(())
+}
+
+/// And with each two letters behind them.
+fn assert_much_longer_alike(
+    rt: &impl Abort,
+    text: &mut String,
+    word: &mut Vec<char>,
+) -> Result<(), Fail> {
+    assert_longer_alike(rt, text, word)?;
+    for letter in LETTERS.chars() {
+        word.push(letter)?;
+        assert_longer_alike(rt, text, word)?;
+        word.pop();
+    }
+    Ok(())
+}
+
 /// Both readers give one of each word of up to three letters the same answer, where the first is one of these.
 fn assert_words_alike(rt: &impl Abort, alloc: Global, firsts: &str) -> Result<(), Fail> {
     let mut text = String::new(alloc);
     let mut word = Vec::new(alloc);
     word.push('1')?;
-    for a in firsts.chars() {
-        word.push(a)?;
+    for letter in firsts.chars() {
+        word.push(letter)?;
         assert_read_alike(rt, &mut text, word.as_slice())?;
-        for b in LETTERS.chars() {
-            word.push(b)?;
-            assert_read_alike(rt, &mut text, word.as_slice())?;
-            for c in LETTERS.chars() {
-                word.push(c)?;
-                assert_read_alike(rt, &mut text, word.as_slice())?;
-                word.pop();
-            }
-            word.pop();
-        }
+        assert_much_longer_alike(rt, &mut text, &mut word)?;
         word.pop();
     }
     Ok(())
