@@ -6,11 +6,13 @@ pub use Rattle.humantime.specs.Calendar.{IsDate, day_of}
 pub use Rattle.humantime.specs.Laws.Days.{OneDate}
 -- durations read: the answer as a function of the characters, and the relations that it is tied to
 pub use Rattle.humantime.specs.Durations.Characters.{bare_zero}
-pub use Rattle.humantime.specs.Durations.Errors.{told, told_text, fault_of, PointsInto, IsPlaceIn, IsPartOf, fault_message}
+pub use Rattle.humantime.specs.Durations.Errors.{told, told_text, fault_of, PointsInto, IsPlaceIn, IsPartOf, fault_message, unit_message}
 pub use Rattle.humantime.specs.References.Durations.Answers.{duration_answer, canonical_answer}
 pub use Rattle.humantime.specs.Durations.Accepted.{Accepted, Bare_zero, Sum_of, value, additions, WithinLimits, AllHaveRoom}
 pub use Rattle.humantime.specs.Durations.Spans.{Span, Reads}
 pub use Rattle.humantime.specs.Durations.Faults.{Fault, InvalidCharacter, NumberExpected, UnknownUnit, NumberOverflow, Empty, HasFault}
+-- what is said of a unit, by its bytes
+pub use Rattle.humantime.specs.References.Durations.UnitMessages.{message_of_unit}
 -- spans
 pub use Rattle.humantime.specs.Durations.Items.{Items, Lent, AreItems}
 pub use Rattle.humantime.specs.References.Durations.Lents.{lent_of, item_of}

@@ -1,13 +1,9 @@
 -- Each list of words has one answer at most.
-use Rattle.std.proofs.Common.{arith, ◌≡◌, ℕ, List, [], ◌∷◌, inl, inr, sym, ap, ◌∙◌, subst, refl}
-use Rattle.std.specs.Prelude.{ℤ, Option, Some, None, Result, Ok, Err, codes, chars}
+use Rattle.std.proofs.Common.{arith, ◌≡◌, ℕ, List, [], ◌∷◌, sym, ap, ◌∙◌, subst, refl}
+use Rattle.std.specs.Prelude.{ℤ, Option, Some, Result, Ok, Err, codes, chars}
 use Rattle.humantime.specs.declared.date.error.TimestampError.{TimestampError}
-use Rattle.humantime.specs.Prelude.{IsCanonicalOf, Canon, Fault, HasFault, fault_message, timestamp_message, Accepted, weak_checks, strict_checks, first_failed, places_of, weak_answer, strict_answer, IsWeakMoment, IsStrictMoment}
-use Rattle.humantime.specs.Laws.Outcomes.{OneOutcome}
-use Rattle.humantime.proofs.Durations.Printing.GreatestCounts.{one_canon}
-use Rattle.humantime.proofs.Durations.Reading.Outcomes.{one_outcome}
-use Rattle.humantime.proofs.Timestamps.Printing.Printed.{one_text}
-use Rattle.humantime.proofs.Theorems.{one_stamp_outcome, places_of_bound}
+use Rattle.humantime.specs.Prelude.{IsCanonicalOf, Fault, HasFault, fault_message, timestamp_message, weak_checks, strict_checks, first_failed, places_of, IsWeakMoment, IsStrictMoment, IsPrintable}
+use Rattle.humantime.proofs.Theorems.{canonical_again, one_stamp_outcome, printed_moment_reads, places_of_bound, weak_printable, strict_printable}
 use Rattle.humantime_cli.specs.Answers.{IsPrintedMoment, Prints, Printed_duration, Printed_strict, Printed_weak, Refuses, Refused_duration, Refused_strict, Refused_weak, IsNoCommand, Accepted as Accepts, Refused, Misused, OneAnswer}
 use Rattle.humantime_cli.specs.Writes.{line}
 
@@ -84,69 +80,55 @@ alike : (P Q : Command → List ℕ → List ℕ → Type 0) (R : List ℕ → L
 alike P Q R both words x y (c, t, e, p) (d, u, f, q) =
     both c t x y p (subst (λ k. Q k t y) (sym (same_command words c d t u e f)) (subst (λ v. Q d v y) (sym (same_text words c d t u e f)) q))
 
--- a text has one value or one fault
-same_value : (t : List ℕ) (v w : ℕ) → OneOutcome t → Accepted t v → Accepted t w → v ≡ w
-same_value t v w (inl (u, (a, one, never))) p q = one v p ∙ sym (one w q)
-same_value t v w (inr (e, (h, one, never))) p q = absurd (never v p)
-
-same_fault : (t : List ℕ) (e f : Fault) → OneOutcome t → HasFault t e → HasFault t f → e ≡ f
-same_fault t e f (inl (u, (a, one, never))) p q = absurd (never e p)
-same_fault t e f (inr (g, (h, one, never))) p q = one e p ∙ sym (one f q)
-
-no_value_and_fault : (t : List ℕ) (v : ℕ) (e : Fault) → OneOutcome t → Accepted t v → HasFault t e → ⊥
-no_value_and_fault t v e (inl (u, (a, one, never))) p q = never e q
-no_value_and_fault t v e (inr (g, (h, one, never))) p q = never v p
-
--- two errors that are named alike
-same_some : (e f : TimestampError) → Some e ≡ Some f → e ≡ f
-same_some e f same = ap (error_or e) same where
-  error_or : TimestampError → Option TimestampError → TimestampError
-  error_or d None = d
-  error_or d (Some x) = x
-
--- an answer is one moment or one error
-same_ok : (r : Result ℤ TimestampError) (m n : ℤ) → r ≡ Ok m → r ≡ Ok n → m ≡ n
+-- an answer is one value or one error
+same_ok : {T E : Type 0} (r : Result T E) (m n : T) → r ≡ Ok m → r ≡ Ok n → m ≡ n
 same_ok r m n p q = cc
 
-not_both : (r : Result ℤ TimestampError) (m : ℤ) (e : TimestampError) → r ≡ Ok m → r ≡ Err e → ⊥
+same_err : {T E : Type 0} (r : Result T E) (e f : E) → r ≡ Err e → r ≡ Err f → e ≡ f
+same_err r e f p q = cc
+
+not_both : {T E : Type 0} (r : Result T E) (m : T) (e : E) → r ≡ Ok m → r ≡ Err e → ⊥
 not_both r m e p q = cc
 
--- a timestamp has one moment, or an error
-same_strict : (t : List ℕ) (m n : ℤ) → IsStrictMoment t m → IsStrictMoment t n → m ≡ n
-same_strict t m n p q =
-    let one = one_stamp_outcome t in
-    same_ok (strict_answer t) m n ((one.strict_value m).1 p) ((one.strict_value n).1 q)
-
-same_weak : (t : List ℕ) (m n : ℤ) → IsWeakMoment t m → IsWeakMoment t n → m ≡ n
-same_weak t m n p q =
-    let one = one_stamp_outcome t in
-    same_ok (weak_answer t) m n ((one.weak_value m).1 p) ((one.weak_value n).1 q)
+same_some : {T : Type 0} (o : Option T) (x y : T) → o ≡ Some x → o ≡ Some y → x ≡ y
+same_some o x y p q = cc
 
 -- a moment has one printed text
-one_printed_moment : (m : ℤ) (x y : List ℕ) → IsPrintedMoment m x → IsPrintedMoment m y → x ≡ y
-one_printed_moment m x y p q = one_text m (places_of m) x y (places_of_bound m) p q
+one_printed_moment : (m : ℤ) (x y : List ℕ) → IsPrintable m → IsPrintedMoment m x → IsPrintedMoment m y → x ≡ y
+one_printed_moment m x y within p q =
+    let told = printed_moment_reads m (places_of m) (places_of_bound m) in
+    same_some _ x y ((told.displayed x).1 (within, p)) ((told.displayed y).1 (within, q))
 
 prints_once : (c : Command) (t x y : List ℕ) → PrintsOf c t x → PrintsOf c t y → x ≡ y
 prints_once Duration t x y h k =
-    one_canon h.duration x y h.canon (subst (λ d. Canon d y) (sym (same_value (chars t) h.duration k.duration (one_outcome (chars t)) h.accepted k.accepted)) k.canon)
+    let one = canonical_again t in
+    same_ok _ x y ((one.text x).1 h) ((one.text y).1 k)
 prints_once Strict t x y (m, a, p) (n, b, q) =
-    one_printed_moment m x y p (subst (λ k. IsPrintedMoment k y) (sym (same_strict t m n a b)) q)
+    let one = one_stamp_outcome t in
+    let same : n ≡ m = same_ok _ n m ((one.strict_value n).1 b) ((one.strict_value m).1 a) in
+    one_printed_moment m x y (strict_printable t m a) p (subst (λ k. IsPrintedMoment k y) same q)
 prints_once Weak t x y (m, a, p) (n, b, q) =
-    one_printed_moment m x y p (subst (λ k. IsPrintedMoment k y) (sym (same_weak t m n a b)) q)
+    let one = one_stamp_outcome t in
+    let same : n ≡ m = same_ok _ n m ((one.weak_value n).1 b) ((one.weak_value m).1 a) in
+    one_printed_moment m x y (weak_printable t m a) p (subst (λ k. IsPrintedMoment k y) same q)
 
 says_once : (c : Command) (t x y : List ℕ) → SaysOf c t x → SaysOf c t y → x ≡ y
-says_once Duration t x y (e, h, p) (f, k, q) = p ∙ ap fault_message (same_fault (chars t) e f (one_outcome (chars t)) h k) ∙ sym q
-says_once Strict t x y (e, h, p) (f, k, q) = p ∙ ap timestamp_message (same_some e f (sym h ∙ k)) ∙ sym q
-says_once Weak t x y (e, h, p) (f, k, q) = p ∙ ap timestamp_message (same_some e f (sym h ∙ k)) ∙ sym q
+says_once Duration t x y (e, h, p) (f, k, q) =
+    let one = canonical_again t in
+    p ∙ ap fault_message (same_err _ e f ((one.fault e).1 h) ((one.fault f).1 k)) ∙ sym q
+says_once Strict t x y (e, h, p) (f, k, q) = p ∙ ap timestamp_message (same_some _ e f h k) ∙ sym q
+says_once Weak t x y (e, h, p) (f, k, q) = p ∙ ap timestamp_message (same_some _ e f h k) ∙ sym q
 
 never_both : (c : Command) (t x y : List ℕ) → PrintsOf c t x → SaysOf c t y → ⊥
-never_both Duration t x y p (e, h, q) = no_value_and_fault (chars t) p.duration e (one_outcome (chars t)) p.accepted h
+never_both Duration t x y p (e, h, q) =
+    let one = canonical_again t in
+    not_both _ x e ((one.text x).1 p) ((one.fault e).1 h)
 never_both Strict t x y (m, a, p) (e, h, q) =
     let one = one_stamp_outcome t in
-    not_both (strict_answer t) m e ((one.strict_value m).1 a) ((one.strict_error e).1 h)
+    not_both _ m e ((one.strict_value m).1 a) ((one.strict_error e).1 h)
 never_both Weak t x y (m, a, p) (e, h, q) =
     let one = one_stamp_outcome t in
-    not_both (weak_answer t) m e ((one.weak_value m).1 a) ((one.weak_error e).1 h)
+    not_both _ m e ((one.weak_value m).1 a) ((one.weak_error e).1 h)
 
 -- what is no command is told nothing of a text
 never_told : (Of : Command → List ℕ → List ℕ → Type 0) (words : List (List ℕ)) (told : List ℕ) → Told Of words told → IsNoCommand words → ⊥

@@ -1,7 +1,7 @@
 -- What the program answers to its words.
-use Rattle.std.specs.Prelude.{◌≡◌, ◌≢◌, ℕ, List, [], ◌∷◌, ℤ, Option, Some, codes, chars, map}
+use Rattle.std.specs.Prelude.{◌≡◌, ◌≢◌, ◌⊎◌, ℕ, List, [], ◌∷◌, ℤ, Option, Some, codes, chars, map}
 use Rattle.std.specs.Borrow.{Bor}
-use Rattle.std.specs.Io.KnownBytes.{Appends}
+use Rattle.std.specs.Io.KnownBytes.{Appends, Keeps}
 use Rattle.humantime.specs.declared.date.error.TimestampError.{TimestampError}
 use Rattle.humantime.specs.Prelude.{Fault, HasFault, IsCanonicalOf, fault_message, timestamp_message, IsWeakMoment, IsStrictMoment, weak_checks, strict_checks, first_failed, IsPrinted, places_of}
 use Rattle.humantime_cli.specs.Writes.{AppendsFront, line}
@@ -90,7 +90,12 @@ pub data Ends (words : List (List ℕ)) (status : ℕ) (old_out new_out old_err 
   Whole : (out err : List ℕ) → Answers words status out err
       → Appends old_out new_out out → Appends old_err new_err err
       → Ends words status old_out new_out old_err new_err
-  -- a write failed: no more than a front of the answer
+  -- a write failed: one writer took a front of the answer, and not all of it, and the other took nothing
   Cut : (meant : ℕ) (out err : List ℕ) → status ≡ 3 → Answers words meant out err
-      → AppendsFront old_out new_out out → AppendsFront old_err new_err err
+      → (AppendsFront old_out new_out out × Keeps old_err new_err) ⊎ (Keeps old_out new_out × AppendsFront old_err new_err err)
       → Ends words status old_out new_out old_err new_err
+
+-- no status of its own: nothing was written, or the program ended as it has to, and then standard output could not be flushed
+abbrev pub Fails : List (List ℕ) → Option (List ℕ) → Option (List ℕ) → Option (List ℕ) → Option (List ℕ) → Type 0
+Fails words old_out new_out old_err new_err =
+    (Keeps old_out new_out × Keeps old_err new_err) ⊎ ((status : ℕ) × Ends words status old_out new_out old_err new_err)

@@ -1,5 +1,5 @@
 -- What a writer took, where its bytes are known.
-use Rattle.std.specs.Prelude.{◌≡◌, ℕ, List, [], ◌∷◌, ◌++◌, Option, Result, MatchResult, flat_map}
+use Rattle.std.specs.Prelude.{ℕ, ◌<◌, List, [], ◌∷◌, ◌++◌, length, take, Option, Result, MatchResult, flat_map}
 use Rattle.std.specs.Borrow.{Bor}
 use Rattle.std.specs.Io.KnownBytes.{Appends}
 
@@ -11,10 +11,10 @@ line text = text ++ 10 ∷ []
 abbrev pub joined : List (Bor (List ℕ)) → List ℕ
 joined texts = flat_map (λ text. text.now) texts
 
--- the writer took a front of the bytes, and no more
+-- the writer took the first n of the bytes, and not all of them
 abbrev pub AppendsFront : Option (List ℕ) → Option (List ℕ) → List ℕ → Type 0
-AppendsFront old new bytes = (front : List ℕ) × (rest : List ℕ) × (bytes ≡ front ++ rest) × Appends old new front
+AppendsFront old new bytes = (n : ℕ) × (n < length bytes) × Appends old new (take n bytes)
 
--- where all went well the writer took the bytes, and else a front of them
+-- where all went well the writer took the bytes, and else a front of them, and not all
 unfoldable pub Writes : {T E : Type 0} → Result T E → Option (List ℕ) → Option (List ℕ) → List ℕ → Type 0
 Writes result old new bytes = MatchResult result (λ _. Appends old new bytes) (λ _. AppendsFront old new bytes)

@@ -3,16 +3,19 @@
 ghost use Rattle.std.specs.Prelude.{◌≡◌, ◌∷◌, [], ℕ, List, codes, length, MatchOption, MatchResult, IfOk};
 ghost use Rattle.humantime.specs.Prelude.{IsPrintable};
 ghost use Rattle.humantime_cli.specs.Answers.{texts, Ends, OneAnswer, Prints, Refuses, IsPrintedMoment, IsNoCommand};
+ghost use Rattle.humantime_cli.specs.Attempts.{NoneFailed, Noted, NotedAs};
 ghost use Rattle.humantime_cli.specs.Commands.{words_of, Tells};
 ghost use Rattle.humantime_cli.specs.Writes.{Writes, line};
 
+use crate::command::stream::{Attempts, Stream, WriteFailed};
 use crate::message::{timestamp_message, write_message};
-use crate::writing::{WriteFailed, write_line};
+use crate::writing::write_line;
 use humantime::{
     SystemTime, TimestampError, canonical, format_rfc3339, parse_rfc3339, parse_rfc3339_weak,
 };
 use std::io::Write;
 
+pub(crate) mod stream;
 #[cfg(test)]
 mod tests;
 
@@ -23,6 +26,8 @@ const REFUSED: u8 = 1;
 const MISUSED: u8 = 2;
 
 const WRITE_FAILED: u8 = 3;
+
+const USAGE: &str = "usage: humantime duration|strict|weak TEXT";
 
 /// A command and its text.
 #[derive(Clone, Copy, PartialEq, Debug)]
@@ -49,14 +54,25 @@ pub fn run<O: Write, E: Write>(words: &[&str], out: &mut O, err: &mut E) -> u8
     ensures ends { Ends (texts words.now) result (O.contents out.old) (O.contents out.new) (E.contents err.old) (E.contents err.new) }
     ensures one { OneAnswer (texts words.now) }
 {
+    answer_words(words, out, err, &mut Attempts::new())
+}
+
+/// Answers the words, with each attempt to write noted.
+fn answer_words<O: Stream, E: Stream>(
+    words: &[&str],
+    out: &mut O,
+    err: &mut E,
+    attempts: &mut Attempts,
+) -> u8
+    requires { NoneFailed attempts.old }
+    ensures ends { Ends (texts words.now) result (O.contents out.old) (O.contents out.new) (E.contents err.old) (E.contents err.new) }
+    ensures noted { NotedAs result attempts.new }
+{
     match command_of(words) {
-        Some(Command::Duration(text)) => answer_duration(text, out, err),
-        Some(Command::Strict(text)) => answer_moment(parse_rfc3339(text), out, err),
-        Some(Command::Weak(text)) => answer_moment(parse_rfc3339_weak(text), out, err),
-        None => status_of(
-            write_line(err, &["usage: humantime duration|strict|weak TEXT"]),
-            MISUSED,
-        ),
+        Some(Command::Duration(text)) => answer_duration(text, out, err, attempts),
+        Some(Command::Strict(text)) => answer_moment(parse_rfc3339(text), out, err, attempts),
+        Some(Command::Weak(text)) => answer_moment(parse_rfc3339_weak(text), out, err, attempts),
+        None => status_of(write_line(err, &[USAGE], attempts), MISUSED),
     }
 }
 
@@ -76,31 +92,44 @@ fn command_of<'a>(words: &[&'a str]) -> Option<Command<'a>>
 }
 
 /// Prints the duration that the text stands for, or says what is wrong with it.
-fn answer_duration<O: Write, E: Write>(text: &str, out: &mut O, err: &mut E) -> u8
-    ensures { Ends (codes "duration" ∷ text.now ∷ []) result (O.contents out.old) (O.contents out.new) (E.contents err.old) (E.contents err.new) }
+fn answer_duration<O: Stream, E: Stream>(
+    text: &str,
+    out: &mut O,
+    err: &mut E,
+    attempts: &mut Attempts,
+) -> u8
+    requires { NoneFailed attempts.old }
+    ensures noted { NotedAs result attempts.new }
+    ensures ends { Ends (codes "duration" ∷ text.now ∷ []) result (O.contents out.old) (O.contents out.new) (E.contents err.old) (E.contents err.new) }
 {
     match canonical(text, &mut [0; 64]) {
-        Ok(printed) => status_of(write_line(out, &[printed]), ACCEPTED),
-        Err(error) => status_of(write_message(err, error), REFUSED),
+        Ok(printed) => status_of(write_line(out, &[printed], attempts), ACCEPTED),
+        Err(error) => status_of(write_message(err, error, attempts), REFUSED),
     }
 }
 
 /// Prints the moment that was read, or says what is wrong with its text.
-fn answer_moment<O: Write, E: Write>(
+fn answer_moment<O: Stream, E: Stream>(
     read: Result<SystemTime, TimestampError>,
     out: &mut O,
     err: &mut E,
+    attempts: &mut Attempts,
 ) -> u8
-    requires { IfOk read IsPrintable }
-    ensures { (words : List (List ℕ)) → Tells words read
+    requires printable { IfOk read IsPrintable }
+    requires going { NoneFailed attempts.old }
+    ensures noted { NotedAs result attempts.new }
+    ensures ends { (words : List (List ℕ)) → Tells words read
         → Ends words result (O.contents out.old) (O.contents out.new) (E.contents err.old) (E.contents err.new) }
 {
     match read {
         Ok(moment) => match format_rfc3339(moment).text(&mut [0; 30]) {
-            Some(printed) => status_of(write_line(out, &[printed]), ACCEPTED),
+            Some(printed) => status_of(write_line(out, &[printed], attempts), ACCEPTED),
             None => unreachable!(),
         },
-        Err(error) => status_of(write_line(err, &[timestamp_message(error)]), REFUSED),
+        Err(error) => status_of(
+            write_line(err, &[timestamp_message(error)], attempts),
+            REFUSED,
+        ),
     }
 }
 

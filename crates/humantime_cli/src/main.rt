@@ -5,11 +5,15 @@
 //! ```
 #![tactic(auto)]
 
+ghost use Rattle.std.specs.Prelude.{map, string_bytes, MatchResult};
+ghost use Rattle.humantime_cli.specs.Answers.{Ends, Fails};
+
 mod command;
 mod message;
 mod writing;
 
 pub use command::run;
+use std::alloc::Global;
 use std::io::Write;
 use std::process::ExitCode;
 use std::{env, io};
@@ -19,18 +23,31 @@ const FAILED: u8 = 3;
 
 /// Hands over the words after the program's name, standard output and standard error.
 fn main(rt: HostRuntime) -> ExitCode {
-    ExitCode::from(answer(&rt).unwrap_or(FAILED))
+    ExitCode::from(answer_system(&rt).unwrap_or(FAILED))
 }
 
-/// Answers the words and flushes standard output.
-fn answer(rt: &HostRuntime) -> io::Result<u8> {
+/// Takes the words after the program's name, and answers them on standard output and standard error.
+fn answer_system(rt: &HostRuntime) -> io::Result<u8> {
     let args: Vec<String> = env::args(rt)?.skip(1).collect(rt.alloc())?;
-    let mut words: Vec<&str> = Vec::with_capacity(rt.alloc(), args.len())?;
-    for arg in &args {
+    answer_args(rt.alloc(), &args, &mut rt.stdout(), &mut rt.stderr())
+}
+
+/// Answers the words, and flushes `out`.
+fn answer_args<O: Write, E: Write>(
+    alloc: Global,
+    args: &[String],
+    out: &mut O,
+    err: &mut E,
+) -> io::Result<u8>
+    ensures { MatchResult result
+        (λ status. Ends (map string_bytes args.now) status (O.contents out.old) (O.contents out.new) (E.contents err.old) (E.contents err.new))
+        (λ _. Fails (map string_bytes args.now) (O.contents out.old) (O.contents out.new) (E.contents err.old) (E.contents err.new)) }
+{
+    let mut words: Vec<&str> = Vec::with_capacity(alloc, args.len())?;
+    for arg in args {
         words.push(arg.as_str())?;
     }
-    let mut out = rt.stdout();
-    let status = run(words.as_slice(), &mut out, &mut rt.stderr());
+    let status = run(words.as_slice(), out, err);
     out.flush()?;
     Ok(status)
 }

@@ -1,41 +1,46 @@
 //! The messages of errors.
 
 ghost use Rattle.std.specs.Prelude.{◌≡◌, ◌++◌, decimal, chars};
-ghost use Rattle.humantime.specs.Prelude.{fault_of, fault_message};
-ghost use Rattle.humantime.specs.Durations.Errors.{unit_message};
-ghost use Rattle.humantime.specs.References.Durations.UnitMessages.{message_of_unit};
-ghost use Rattle.humantime.specs.Timestamps.Checks as timestamps;
+ghost use Rattle.humantime.specs.Prelude.{fault_of, fault_message, unit_message, message_of_unit};
+ghost use Rattle.humantime.specs.Prelude as library;
+ghost use Rattle.humantime_cli.specs.Attempts.{NoneFailed, Noted};
 ghost use Rattle.humantime_cli.specs.Writes.{Writes, line};
 
-use crate::writing::{WriteFailed, write_line};
+use crate::command::stream::{Attempts, Stream, WriteFailed};
+use crate::writing::write_line;
 use humantime::{DurationError, TimestampError};
-use std::io::Write;
 use std::str::from_utf8_unchecked;
 
 /// Writes the error's message and a line feed.
-pub(crate) fn write_message<W: Write>(
+pub(crate) fn write_message<W: Stream>(
     to: &mut W,
     error: DurationError<'_>,
+    attempts: &mut Attempts,
 ) -> Result<(), WriteFailed>
+    requires { NoneFailed attempts.old }
     ensures written { Writes result (W.contents to.old) (W.contents to.new) (line (fault_message (fault_of error.entry))) }
+    ensures noted { Noted result attempts.new }
 {
     match error {
-        DurationError::InvalidCharacter(at) => write_place(to, "invalid character at ", at),
-        DurationError::NumberExpected(at) => write_place(to, "expected number at ", at),
-        DurationError::UnknownUnit { unit, value, .. } => write_unit(to, unit, value),
+        DurationError::InvalidCharacter(at) => {
+            write_place(to, "invalid character at ", at, attempts)
+        }
+        DurationError::NumberExpected(at) => write_place(to, "expected number at ", at, attempts),
+        DurationError::UnknownUnit { unit, value, .. } => write_unit(to, unit, value, attempts),
         DurationError::NumberOverflow => write_line(
             to,
             &[
                 "number is too large or cannot be represented without a lack of precision (values below 1ns are not supported)",
             ],
+            attempts,
         ),
-        DurationError::Empty => write_line(to, &["value was empty"]),
+        DurationError::Empty => write_line(to, &["value was empty"], attempts),
     }
 }
 
 /// The message of a timestamp's error.
 pub(crate) fn timestamp_message(error: TimestampError) -> &'static str
-    ensures { result.now ≡ timestamps.timestamp_message error }
+    ensures { result.now ≡ library.timestamp_message error }
 {
     match error {
         TimestampError::OutOfRange => "numeric component is out of range",
@@ -45,17 +50,31 @@ pub(crate) fn timestamp_message(error: TimestampError) -> &'static str
 }
 
 /// Writes what is wrong, the offset where it is, and a line feed.
-fn write_place<W: Write>(to: &mut W, what: &str, at: usize) -> Result<(), WriteFailed>
-    ensures { Writes result (W.contents to.old) (W.contents to.new) (line (what.now ++ decimal at)) }
+fn write_place<W: Stream>(
+    to: &mut W,
+    what: &str,
+    at: usize,
+    attempts: &mut Attempts,
+) -> Result<(), WriteFailed>
+    requires { NoneFailed attempts.old }
+    ensures written { Writes result (W.contents to.old) (W.contents to.new) (line (what.now ++ decimal at)) }
+    ensures noted { Noted result attempts.new }
 {
     let mut buffer = [0; 20];
-    write_line(to, &[what, digits(at as u64, &mut buffer)])
+    write_line(to, &[what, digits(at as u64, &mut buffer)], attempts)
 }
 
 /// Writes what is said of a unit that is missing or no unit's word, and a line feed. `value` is the number before it.
-fn write_unit<W: Write>(to: &mut W, unit: &str, value: u64) -> Result<(), WriteFailed>
+fn write_unit<W: Stream>(
+    to: &mut W,
+    unit: &str,
+    value: u64,
+    attempts: &mut Attempts,
+) -> Result<(), WriteFailed>
+    requires { NoneFailed attempts.old }
     ensures written { Writes result (W.contents to.old) (W.contents to.new) (line (message_of_unit unit.now value)) }
     ensures characters { unit_message (chars unit.now) value ≡ message_of_unit unit.now value }
+    ensures noted { Noted result attempts.new }
 {
     if unit.is_empty() {
         let mut buffer = [0; 20];
@@ -69,6 +88,7 @@ fn write_unit<W: Write>(to: &mut W, unit: &str, value: u64) -> Result<(), WriteF
                 value,
                 "ms",
             ],
+            attempts,
         );
     }
     write_line(
@@ -78,6 +98,7 @@ fn write_unit<W: Write>(to: &mut W, unit: &str, value: u64) -> Result<(), WriteF
             unit,
             "\", supported units: ns, us/µs, ms, sec, min, hours, days, weeks, months, years (and few variations)",
         ],
+        attempts,
     )
 }
 

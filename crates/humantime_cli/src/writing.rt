@@ -1,36 +1,42 @@
-//! Writing to a writer that may take its bytes bit by bit.
+//! Writing to a stream that may take its bytes bit by bit.
 
+ghost use Rattle.humantime_cli.specs.Attempts.{NoneFailed, Noted};
 ghost use Rattle.humantime_cli.specs.Writes.{Writes, line, joined};
 
-use std::io::Write;
-
-/// A write answered an error, or took no bytes.
-#[derive(Clone, Copy, PartialEq, Eq, Debug)]
-pub(crate) struct WriteFailed;
+use crate::command::stream::{Attempts, Stream, WriteFailed};
 
 /// Writes the texts one after the other, and a line feed. Nothing more is written after a write that failed.
 #[tactic(auto, unfolding(crate::specs::Writes::Writes))]
-pub(crate) fn write_line<W: Write>(to: &mut W, texts: &[&str]) -> Result<(), WriteFailed>
-    ensures { Writes result (W.contents to.old) (W.contents to.new) (line (joined texts.now)) }
+pub(crate) fn write_line<W: Stream>(
+    to: &mut W,
+    texts: &[&str],
+    attempts: &mut Attempts,
+) -> Result<(), WriteFailed>
+    requires { NoneFailed attempts.old }
+    ensures written { Writes result (W.contents to.old) (W.contents to.new) (line (joined texts.now)) }
+    ensures noted { Noted result attempts.new }
 {
     for text in texts {
-        write_all(to, text.as_bytes())?;
+        write_all(to, text.as_bytes(), attempts)?;
     }
-    write_all(to, b"\n")
+    write_all(to, b"\n", attempts)
 }
 
 /// Writes all the bytes. A write that failed is not tried again.
 #[tactic(auto, unfolding(crate::specs::Writes::Writes))]
-fn write_all<W: Write>(to: &mut W, bytes: &[u8]) -> Result<(), WriteFailed>
-    ensures { Writes result (W.contents to.old) (W.contents to.new) bytes.now }
+fn write_all<W: Stream>(
+    to: &mut W,
+    bytes: &[u8],
+    attempts: &mut Attempts,
+) -> Result<(), WriteFailed>
+    requires { NoneFailed attempts.old }
+    ensures written { Writes result (W.contents to.old) (W.contents to.new) bytes.now }
+    ensures noted { Noted result attempts.new }
 {
     let mut done = 0;
     while done < bytes.len() {
-        match to.write(&bytes[done..]) {
-            Ok(0) => return Err(WriteFailed),
-            Ok(count) => done += count,
-            Err(_) => return Err(WriteFailed),
-        }
+        let count = to.attempt(&bytes[done..], attempts)?;
+        done += count;
     }
     Ok(())
 }

@@ -1,5 +1,9 @@
 ghost use Rattle.std.specs.Prelude.{◌≤◌, Some, take};
 
+mod callers;
+mod lengths;
+mod words;
+
 use super::run;
 use std::fmt::Debug;
 use std::io::{ErrorKind, Write};
@@ -17,6 +21,7 @@ enum Failure {
 }
 
 /// A writer over memory. It takes at most `step` bytes at a time and `limit` in all, and fails from then on.
+/// `flushed` of its bytes had been taken when it was last flushed.
 #[derive(Drop)]
 struct Limited {
     bytes: [u8; 256],
@@ -27,6 +32,8 @@ struct Limited {
     requests: u32,
     has_failed: bool,
     requests_after: u32,
+    flushed: usize,
+    can_flush: bool,
     ghost in_range: { len ≤ 256 },
 }
 
@@ -41,6 +48,8 @@ impl Limited {
             requests: 0,
             has_failed: false,
             requests_after: 0,
+            flushed: 0,
+            can_flush: true,
         }
     }
 
@@ -79,6 +88,10 @@ impl Write for Limited {
     }
 
     fn flush(&mut self) -> io::Result<()> {
+        if !self.can_flush {
+            return Err(io::Error::from(ErrorKind::Other));
+        }
+        self.flushed = self.len;
         Ok(())
     }
 }

@@ -1,17 +1,20 @@
 -- The laws of durations as theorems over plain variables, each under the name of its function in `laws`.
 use Rattle.std.proofs.lemmas.Grind.{common_steps}
 use Rattle.std.proofs.Common.{◌≡◌, ◌↔◌, ℕ, ◌<◌, List, Result, Ok, Err, IsTrue, chars, refl, arith}
+use Rattle.std.specs.Prelude.{IsUtf8}
 use Rattle.humantime.specs.declared.duration.error.DurationError.{DurationError}
 use Rattle.humantime.specs.Values.{duration_end}
-use Rattle.humantime.specs.Durations.Errors.{told}
+use Rattle.humantime.specs.Durations.Errors.{told, unit_message}
 use Rattle.humantime.specs.Durations.Accepted.{Accepted}
 use Rattle.humantime.specs.Durations.Faults.{Fault, HasFault}
+use Rattle.humantime.specs.References.Durations.UnitMessages.{message_of_unit}
 use Rattle.humantime.specs.References.Durations.FaultEqualityLemmas.{fault_eq, fault_eq-sound, fault_eq-same}
 use Rattle.humantime.specs.Laws.Outcomes.{OneOutcome, OneReading, OneListOfItems, ItemsDecideValue, ItemsDecideFault, ItemsDecideOverflow, OneListOfSlices}
 use Rattle.humantime.specs.Durations.Counts.{Canon, IsCanonicalOf}
 use Rattle.humantime.specs.References.Durations.Printing.{duration_text}
 use Rattle.humantime.specs.Laws.Printed.{HasOneText, ReadsBack, TextsTellApart, HasShortText, HasSmallCounts, HasCanonicalText, KeepsItsValue, KeepsItsText}
 use Rattle.humantime.specs.References.Durations.Answers.{duration_answer, canonical_answer}
+use Rattle.humantime.proofs.Durations.Bytes.UnitMessages as messages
 use Rattle.humantime.proofs.Durations.Printing.CanonicalTexts as canonical
 use Rattle.humantime.proofs.Durations.Printing.GreatestCounts as counts
 use Rattle.humantime.proofs.Durations.Slices.LentItems as lent
@@ -66,6 +69,10 @@ told_value r v h = grind (arith, common_steps)
 -- Two errors are equal exactly where they name the same fault.
 pub errors_equal : (e f : Fault) → IsTrue (fault_eq e f) ↔ (e ≡ f)
 errors_equal e f = (fault_eq-sound e f, fault_eq-same e f)
+
+-- What is said of a unit by its characters is what is said of it by its bytes.
+pub unit_said : (bytes : List ℕ) (value : ℕ) → IsUtf8 bytes → unit_message (chars bytes) value ≡ message_of_unit bytes value
+unit_said = messages.unit_said
 
 -- ---- printed durations
 

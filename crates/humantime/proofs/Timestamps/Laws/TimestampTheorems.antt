@@ -19,6 +19,7 @@ use Rattle.humantime.specs.References.Timestamps.Reading.{weak_answer, strict_an
 use Rattle.humantime.proofs.Dates.DaysOfDates as dates
 use Rattle.humantime.proofs.Timestamps.Laws.Order.{printed_order}
 use Rattle.humantime.proofs.Timestamps.Printing.Printed.{one_text, one_printed, text_displayed, printed_reads}
+use Rattle.humantime.proofs.Timestamps.Laws.Printable as printable
 use Rattle.humantime.proofs.Timestamps.Laws.Reading as read
 use Rattle.humantime.proofs.Timestamps.Laws.StrictForm as strict
 pub use Rattle.humantime.specs.References.Values.MomentLemmas.{parts_of_moment, nano_of_bound}
@@ -74,6 +75,13 @@ strict_failed text e failed = (read.strict_error text e).1 failed
 -- a moment in strict form is one in weak form
 pub strict_read_weak : (text : List ℕ) (t : ℤ) → IsStrictMoment text t → weak_answer text ≡ Ok t
 strict_read_weak text t shown = weak_read text t ((read.strict_moment_is_weak text t).0 shown).0
+
+-- a moment that a text shows is one of 1970 to 9999
+pub weak_printable : (text : List ℕ) (t : ℤ) → IsWeakMoment text t → IsPrintable t
+weak_printable = printable.weak_printable
+
+pub strict_printable : (text : List ℕ) (t : ℤ) → IsStrictMoment text t → IsPrintable t
+strict_printable = printable.strict_printable
 
 -- ---- Timestamps printed
 

@@ -1,4 +1,4 @@
-use Rattle.humantime.proofs.Durations.Bytes.UnitMessages.{unit_said}
+use Rattle.humantime.proofs.Theorems.{unit_said}
 use Rattle.humantime_cli.proofs.message.write_unit.Goals as goal
 
 pub returns-then-is_empty-clause-characters : goal.returns-then-is_empty-clause-characters

@@ -1,12 +1,11 @@
--- A moment that a text names is one of 1970 to 9999.
-use Rattle.std.proofs.Common.{arith, ◌≡◌, ℕ, ◌+◌, ◌-◌, ◌*◌, ◌<◌, ◌≤◌, List, suc, subst, sym, refl, ◌↔◌, []}
+-- A moment that a text shows is one of 1970 to 9999, so it is printed.
+use Rattle.std.proofs.Common.{arith, ◌≡◌, ℕ, ◌+◌, ◌-◌, ◌*◌, ◌<◌, ◌≤◌, List, suc, subst, sym, []}
 use Rattle.std.proofs.lemmas.Int.{ints}
-use Rattle.std.specs.Prelude.{ℤ, Result, Ok, Err, IfOk, unwrap_or}
-use Rattle.humantime.specs.declared.date.error.TimestampError.{TimestampError}
+use Rattle.std.specs.Prelude.{ℤ, unwrap_or}
 use Rattle.humantime.specs.declared.calendar.Date.{Date}
-use Rattle.humantime.specs.Calendar.{days_in_year, days_in_month, days_of_months}
-use Rattle.humantime.specs.Prelude.{IsDate, day_of, Fields, IsWeak, IsWeakMoment, IsStrictMoment, IsPrintable}
-use Rattle.humantime.specs.Timestamps.Fields.{moment_of}
+use Rattle.humantime.specs.Calendar.{IsDate, day_of, days_in_year, days_in_month, days_of_months}
+use Rattle.humantime.specs.Timestamps.Fields.{Fields, IsWeak, moment_of, IsWeakMoment, IsStrictMoment}
+use Rattle.humantime.specs.Timestamps.Printed.{IsPrintable}
 use Rattle.humantime.proofs.Dates.Years.{valid_told, days_of_years_within, february}
 use Rattle.humantime.proofs.Dates.Months.{below_12}
 use Rattle.humantime.proofs.Timestamps.Reading.Fractions.{nanos_bound, digits_told}
@@ -40,8 +39,3 @@ weak_printable text moment m = subst IsPrintable (sym m.2) (omega (arith, ints),
 
 pub strict_printable : (text : List ℕ) (moment : ℤ) → IsStrictMoment text moment → IsPrintable moment
 strict_printable text moment m = weak_printable text moment (m.0, m.1.weak, m.2)
-
--- so is the moment that a parser answers
-pub read_printable : (P : ℤ → Type 0) (read : Result ℤ TimestampError) → ((t : ℤ) → (read ≡ Ok t) ↔ P t) → ((t : ℤ) → P t → IsPrintable t) → IfOk read IsPrintable
-read_printable P (Ok t) value within = within t ((value t).0 refl)
-read_printable P (Err e) value within = tt
