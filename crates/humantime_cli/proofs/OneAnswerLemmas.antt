@@ -7,7 +7,7 @@ use Rattle.humantime.specs.Laws.Outcomes.{OneOutcome}
 use Rattle.humantime.proofs.Durations.Printing.GreatestCounts.{one_canon}
 use Rattle.humantime.proofs.Durations.Reading.Outcomes.{one_outcome}
 use Rattle.humantime.proofs.Timestamps.Printing.Printed.{one_text}
-use Rattle.humantime.proofs.Theorems.{one_stamp_outcome, places_of_bound}
+use Rattle.humantime.proofs.Theorems.{one_stamp_outcome}
 use Rattle.humantime_cli.specs.Answers.{IsPrintedMoment, Prints, Printed_duration, Printed_strict, Printed_weak, Refuses, Refused_duration, Refused_strict, Refused_weak, IsNoCommand, Accepted as Accepts, Refused, Misused, OneAnswer}
 use Rattle.humantime_cli.specs.Writes.{line}
 
@@ -124,7 +124,7 @@ same_weak t m n p q =
 
 -- a moment has one printed text
 one_printed_moment : (m : ℤ) (x y : List ℕ) → IsPrintedMoment m x → IsPrintedMoment m y → x ≡ y
-one_printed_moment m x y p q = one_text m (places_of m) x y (places_of_bound m) p q
+one_printed_moment m x y p q = one_text m (places_of m) x y p q
 
 prints_once : (c : Command) (t x y : List ℕ) → PrintsOf c t x → PrintsOf c t y → x ≡ y
 prints_once Duration t x y h k =

@@ -114,3 +114,11 @@ pub one_date : (day : ℕ) → day ≤ 2_932_896 → OneDate day
 one_date day few =
     let some = some_date day few in
     (some.0, some.1, λ other is. same_date other some.0 is.0 some.1.0 (is.1 ∙ sym some.1.1))
+
+-- no date has a later day
+pub day_at_most : (d : Date) → IsDate d → day_of d ≤ 2_932_896
+day_at_most d valid =
+    let within = valid_told d.year d.month d.day valid in
+    let before : day_of d < days_of_years 8030 = before_year d.year d.month d.day within 10_000 (omega (arith, within.0.1)) in
+    let all : days_of_years 8030 + 134_774 ≡ march_days 8399 = march_days_of_years 8030 in
+    omega (arith, before, all)

@@ -4,7 +4,7 @@ ghost use Rattle.std.specs.Prelude.{◌≡◌, ◌↔◌, ℕ, ℤ, List, Some, 
 ghost use Rattle.humantime.specs.declared.date.error.TimestampError.{TimestampError};
 ghost use Rattle.humantime.specs.Timestamps.Fields.{IsWeak, IsStrict, IsWeakMoment, IsStrictMoment};
 ghost use Rattle.humantime.specs.Timestamps.Checks.{weak_checks, strict_checks, first_failed};
-ghost use Rattle.humantime.specs.Laws.Timestamps.{OneTimestamp, StrictIsWeak, StrictMomentIsWeak, InOrder, OnePrinted, ReadsAs};
+ghost use Rattle.humantime.specs.Laws.Timestamps.{OneTimestamp, StrictIsWeak, StrictMomentIsWeak, StrictAnswerIsWeak, InOrder, OnePrinted, ReadsAs};
 ghost use Rattle.humantime.specs.Timestamps.Printed.{cut, IsPrintable};
 ghost use Rattle.humantime.specs.References.Timestamps.Printing.{moment_kept, places_kept, printed_text, IsTextOf};
 ghost use Rattle.humantime.specs.References.Timestamps.Reading.{weak_answer, strict_answer};
@@ -22,6 +22,7 @@ use crate::value::SystemTime;
 pub fn strict_is_weak(s: &str)
     ensures parts { StrictIsWeak s.now }
     ensures moment { StrictMomentIsWeak s.now }
+    ensures answer { StrictAnswerIsWeak s.now }
 {
     let _ = s;
 }
@@ -55,6 +56,9 @@ pub fn printed_moment_reads(x: &Rfc3339Timestamp)
     ensures one { IsPrintable (moment_kept x.now) → OnePrinted (moment_kept x.now) (places_kept x.now) }
     ensures displayed { (text : List ℕ) → (printed_text x.now ≡ Some text) ↔ (IsPrintable (moment_kept x.now) × IsTextOf x.now text) }
     ensures reads { (text : List ℕ) → IsTextOf x.now text → ReadsAs text (cut (moment_kept x.now) (places_kept x.now)) }
+    ensures strict { (text : List ℕ) → IsTextOf x.now text → strict_answer text ≡ Ok (cut (moment_kept x.now) (places_kept x.now)) }
+    ensures weak { (text : List ℕ) → IsTextOf x.now text → weak_answer text ≡ Ok (cut (moment_kept x.now) (places_kept x.now)) }
+    ensures whole { cut (moment_kept x.now) 9 ≡ moment_kept x.now }
 {
     let _ = x;
 }

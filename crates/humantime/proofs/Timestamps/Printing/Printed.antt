@@ -42,6 +42,7 @@ shown_moment x t k small h = grind (arith, common_steps, shown_nanos, cut_nanos)
 pub shown_printed : (x : DateTime) (t : ℤ) (k : ℕ) → k ≤ 9 → IsDateTimeOf x t → IsPrinted t k (fields_text (fields_shown x k))
 shown_printed x (negsuc t) k small h = absurd (let whole = h.sum in let no : ⊥ = cc in no)
 shown_printed x (pos t) k small h = record {
+  few = small;
   fields = fields_shown x k;
   weak = record {
     shown = refl;
@@ -59,8 +60,8 @@ shown_printed x (pos t) k small h = record {
 }
 
 -- a printed text is one
-pub one_text : (t : ℤ) (k : ℕ) (x y : List ℕ) → k ≤ 9 → IsPrinted t k x → IsPrinted t k y → x ≡ y
-one_text t k x y small p q = same_printed t k x y small p q
+pub one_text : (t : ℤ) (k : ℕ) (x y : List ℕ) → IsPrinted t k x → IsPrinted t k y → x ≡ y
+one_text = same_printed
 
 -- the text of a moment that is known by two equations
 pub printed_as : (x : Rfc3339Timestamp) (t : ℤ) (k : ℕ) (text : List ℕ) → moment_kept x ≡ t → places_kept x ≡ k → IsTextOf x text → IsPrinted t k text
@@ -134,7 +135,7 @@ unfolding moment_text
 text_from (negsuc t) k text small h p = absurd (omega (arith, ints, h.0))
 text_from (pos t) k text small h p =
     let within : t < 253_402_300_800 * 1_000_000_000 = omega (arith, ints, h.1) in
-    rw (lt-ltb t (253_402_300_800 * 1_000_000_000) within) (ap Some (one_text (pos t) k (fields_text (fields_at t k)) text small (found_printed t k small within) p))
+    rw (lt-ltb t (253_402_300_800 * 1_000_000_000) within) (ap Some (one_text (pos t) k (fields_text (fields_at t k)) text (found_printed t k small within) p))
 
 pub text_displayed : (t : ℤ) (k : ℕ) (text : List ℕ) → k ≤ 9 → (moment_text t k ≡ Some text) ↔ (IsPrintable t × IsPrinted t k text)
 text_displayed t k text small = (text_told t k text small, (λ p. text_from t k text small p.0 p.1))
@@ -154,6 +155,6 @@ one_printed (pos t) k small h =
     record {
       text = fields_text (fields_at t k);
       printed = printed;
-      only = λ other p. one_text (pos t) k other (fields_text (fields_at t k)) small p printed;
+      only = λ other p. one_text (pos t) k other (fields_text (fields_at t k)) p printed;
       reads = printed_reads (pos t) k (fields_text (fields_at t k)) printed;
     }
