@@ -1,5 +1,5 @@
 -- The laws of timestamps. A text is its bytes, called b.
-use Rattle.std.specs.Prelude.{◌≡◌, ◌↔◌, ℕ, ℤ, Bool, List, slice_index, None, Ok, IsTrue}
+use Rattle.std.specs.Prelude.{◌≡◌, ◌↔◌, ℕ, ℤ, Bool, List, slice_index, None, IsTrue}
 use Rattle.std.specs.Cmp.Lexicographic.{slice_cmp}
 use Rattle.std.specs.Ordering.{nat_cmp, int_cmp}
 use Rattle.std.specs.Str.{byte}
@@ -7,7 +7,6 @@ use Rattle.humantime.specs.declared.date.error.TimestampError.{TimestampError}
 use Rattle.humantime.specs.Timestamps.Fields.{Fields, IsWeak, IsStrict, IsWeakMoment, IsStrictMoment}
 use Rattle.humantime.specs.Timestamps.Printed.{cut, IsPrinted}
 use Rattle.humantime.specs.Timestamps.Checks.{ends_in_zone, first_failed}
-use Rattle.humantime.specs.References.Timestamps.Reading.{weak_answer, strict_answer}
 
 -- some parts are shown exactly where no check fails, and then no others
 abbrev pub OneTimestamp : List (Bool × TimestampError) → (Fields → Type 0) → Type 0
@@ -26,10 +25,6 @@ StrictIsWeak b = (f : Fields) → IsStrict b f ↔ (IsWeak b f × IsMarked b)
 -- and its moment is the same
 abbrev pub StrictMomentIsWeak : List ℕ → Type 0
 StrictMomentIsWeak b = (t : ℤ) → IsStrictMoment b t ↔ (IsWeakMoment b t × IsMarked b)
-
--- so the strict answer is a moment exactly where the weak one is, and there are these marks
-abbrev pub StrictAnswerIsWeak : List ℕ → Type 0
-StrictAnswerIsWeak b = (t : ℤ) → (strict_answer b ≡ Ok t) ↔ ((weak_answer b ≡ Ok t) × IsMarked b)
 
 -- two moments, printed with equally many digits: the order of the bytes is that of the moments, cut
 abbrev pub InOrder : ℤ → ℤ → Type 0

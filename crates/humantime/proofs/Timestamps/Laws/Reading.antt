@@ -8,7 +8,7 @@ use Rattle.humantime.specs.declared.date.error.TimestampError.TheVariants.{Inval
 use Rattle.humantime.specs.Timestamps.Fields.{Fields, IsWeak, IsStrict, moment_of, IsWeakMoment, IsStrictMoment}
 use Rattle.humantime.specs.Timestamps.Checks.{has_marks, weak_checks, strict_checks, first_failed}
 use Rattle.humantime.specs.References.Timestamps.Reading.{fields_of, weak_answer, strict_answer, moment_or_error}
-use Rattle.humantime.specs.Laws.Timestamps.{OneTimestamp, StrictMomentIsWeak, StrictAnswerIsWeak}
+use Rattle.humantime.specs.Laws.Timestamps.{OneTimestamp, StrictMomentIsWeak}
 use Rattle.humantime.proofs.Timestamps.Reading.Checks.{passes_from, passes_none}
 use Rattle.humantime.proofs.Timestamps.Reading.Shown.{fields_weak}
 use Rattle.humantime.proofs.Timestamps.Reading.Passed.{weak_fields}
@@ -98,11 +98,3 @@ strict_moment_is_weak b t = (
   (λ m. let p = (strict_is_weak b m.0).0 m.1 in ((m.0, p.0, m.2), p.1)),
   (λ p. (p.0.0, (strict_is_weak b p.0.0).1 (p.0.1, p.1), p.0.2)),
 )
-
-pub strict_answer_is_weak : (b : List ℕ) → StrictAnswerIsWeak b
-strict_answer_is_weak b t =
-    let law = strict_moment_is_weak b t in
-    (
-      (λ given. let p = law.0 ((strict_value b t).0 given) in ((weak_value b t).1 p.0, p.1)),
-      (λ p. (strict_value b t).1 (law.1 ((weak_value b t).0 p.0, p.1))),
-    )

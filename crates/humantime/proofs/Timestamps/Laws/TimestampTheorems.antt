@@ -14,7 +14,7 @@ use Rattle.humantime.specs.Calendar.{IsDate, day_of}
 use Rattle.humantime.specs.Laws.Days.{OneDate}
 use Rattle.humantime.specs.Timestamps.Fields.{IsWeak, IsStrict, IsWeakMoment, IsStrictMoment}
 use Rattle.humantime.specs.Timestamps.Checks.{weak_checks, strict_checks, first_failed}
-use Rattle.humantime.specs.Laws.Timestamps.{OneTimestamp, StrictIsWeak, StrictMomentIsWeak, StrictAnswerIsWeak, ReadsAs, OnePrinted}
+use Rattle.humantime.specs.Laws.Timestamps.{OneTimestamp, IsMarked, StrictIsWeak, StrictMomentIsWeak, ReadsAs, OnePrinted}
 use Rattle.humantime.specs.Timestamps.Printed.{cut, IsPrinted, IsPrintable}
 use Rattle.humantime.specs.References.Timestamps.Printing.{moment_kept, places_kept, moment_text, printed_text}
 use Rattle.humantime.specs.References.Timestamps.Reading.{weak_answer, strict_answer}
@@ -36,15 +36,6 @@ pub day_at_most : (d : Date) → IsDate d → day_of d ≤ 2_932_896
 day_at_most = dates.day_at_most
 
 -- ---- Timestamps read
-
--- the strict form is the weak one with a `T` and a zone: of the parts, of the moment, and of the answer
-pub record StrictForm (text : List ℕ) : Type 0 where
-  pub parts : StrictIsWeak text
-  pub moment : StrictMomentIsWeak text
-  pub answer : StrictAnswerIsWeak text
-
-pub strict_is_weak : (text : List ℕ) → StrictForm text
-strict_is_weak text = record { parts = strict.strict_is_weak text; moment = read.strict_moment_is_weak text; answer = read.strict_answer_is_weak text }
 
 -- a text's one outcome in each form, and that the answer as a function is this outcome
 pub record StampOutcome (text : List ℕ) : Type 0 where
@@ -82,6 +73,25 @@ strict_failed text e failed = (read.strict_error text e).1 failed
 pub strict_read_weak : (text : List ℕ) (t : ℤ) → IsStrictMoment text t → weak_answer text ≡ Ok t
 strict_read_weak text t shown = weak_read text t ((read.strict_moment_is_weak text t).0 shown).0
 
+-- the strict form is the weak one with a `T` and a zone: of the parts, of the moment, and of the answer
+pub record StrictForm (text : List ℕ) : Type 0 where
+  pub parts : StrictIsWeak text
+  pub moment : StrictMomentIsWeak text
+  pub weak : (t : ℤ) → strict_answer text ≡ Ok t → weak_answer text ≡ Ok t
+  pub marked : (t : ℤ) → strict_answer text ≡ Ok t → IsMarked text
+  pub strict : (t : ℤ) → weak_answer text ≡ Ok t → IsMarked text → strict_answer text ≡ Ok t
+
+pub strict_is_weak : (text : List ℕ) → StrictForm text
+strict_is_weak text =
+    let law = read.strict_moment_is_weak text in
+    record {
+      parts = strict.strict_is_weak text;
+      moment = law;
+      weak = λ t given. weak_read text t ((law t).0 ((read.strict_value text t).0 given)).0;
+      marked = λ t given. ((law t).0 ((read.strict_value text t).0 given)).1;
+      strict = λ t given marked. strict_read text t ((law t).1 ((read.weak_value text t).0 given, marked));
+    }
+
 -- ---- Timestamps printed
 
 -- what a printed text reads as
@@ -91,7 +101,7 @@ printed_read t k text printed = strict_read text (cut t k) (printed_reads t k te
 pub printed_read_weak : (t : ℤ) (k : ℕ) (text : List ℕ) → IsPrinted t k text → weak_answer text ≡ Ok (cut t k)
 printed_read_weak t k text printed = weak_read text (cut t k) (printed_reads t k text printed).weak
 
--- nine digits cut nothing
+-- a moment has no more than nine digits after its second
 pub cut_whole : (t : ℤ) → cut t 9 ≡ t
 cut_whole (pos n) = omega (arith, ints)
 cut_whole (negsuc n) = omega (arith, ints)
@@ -180,5 +190,9 @@ earlier_in_millis a b x y = earlier a b 3 x y
 pub earlier_in_micros : (a b : ℤ) (x y : List ℕ) → IsPrinted a 6 x → IsPrinted b 6 y → (cut a 6 <ℤ cut b 6) ↔ IsTrue (is_lt (slice_cmp nat_cmp x y))
 earlier_in_micros a b x y = earlier a b 6 x y
 
-pub earlier_in_nanos : (a b : ℤ) (x y : List ℕ) → IsPrinted a 9 x → IsPrinted b 9 y → (cut a 9 <ℤ cut b 9) ↔ IsTrue (is_lt (slice_cmp nat_cmp x y))
-earlier_in_nanos a b x y = earlier a b 9 x y
+-- nine digits cut nothing
+pub earlier_in_nanos : (a b : ℤ) (x y : List ℕ) → IsPrinted a 9 x → IsPrinted b 9 y → (a <ℤ b) ↔ IsTrue (is_lt (slice_cmp nat_cmp x y))
+earlier_in_nanos a b x y p q =
+    let same : int_cmp (cut a 9) (cut b 9) ≡ int_cmp a b = λ i. int_cmp (cut_whole a i) (cut_whole b i) in
+    let h = subst (λ (o : Ordering). IsTrue (is_lt o) ↔ (a <ℤ b)) (sym (stamps_in_order a b 9 x y p q ∙ same)) (moment_before a b) in
+    (h.1, h.0)
