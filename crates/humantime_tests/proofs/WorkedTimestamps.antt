@@ -1,8 +1,9 @@
 -- What some timestamps read as, and what some moments print as, by computation.
-use Rattle.std.proofs.Common.{◌≡◌, ◌+◌, ◌*◌, Some, None, Ok, Err, refl}
+use Rattle.std.proofs.Common.{◌≡◌, ◌+◌, ◌-◌, ◌*◌, Some, None, Ok, Err, refl}
 use Rattle.std.specs.Prelude.{codes, pos, negsuc}
 use Rattle.humantime.specs.declared.date.error.TimestampError.TheVariants.{OutOfRange, InvalidDigit, InvalidFormat}
 use Rattle.humantime.specs.Values.{nanos_per_second}
+use Rattle.humantime.specs.Timestamps.Printed.{cut}
 use Rattle.humantime.specs.References.Timestamps.Printing.{moment_text, shortest_text}
 use Rattle.humantime.specs.References.Timestamps.Reading.{weak_answer, strict_answer}
 use Rattle.humantime.proofs.TimestampsOnLiterals.{timestamps_on_literals}
@@ -50,3 +51,13 @@ whole_second = refl
 before_1970 : moment_text (negsuc 0) 0 ≡ None
 unfolding timestamps_on_literals
 before_1970 = refl
+
+one_nanosecond : shortest_text (pos 1) ≡ Some (codes "1970-01-01T00:00:00.000000001Z")
+unfolding timestamps_on_literals
+one_nanosecond = refl
+
+cut_to_millis : cut (pos (1_518_563_312 * nanos_per_second + 456_123_999)) 3 ≡ pos (1_518_563_312 * nanos_per_second + 456_000_000)
+cut_to_millis = refl
+
+cut_before_1970 : cut (negsuc 0) 0 ≡ negsuc (nanos_per_second - 1)
+cut_before_1970 = refl

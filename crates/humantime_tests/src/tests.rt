@@ -5,4 +5,5 @@ mod programs;
 mod std_durations;
 mod support;
 mod system_times;
+mod timestamp_laws;
 mod wrappers;
