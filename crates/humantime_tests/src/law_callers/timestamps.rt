@@ -1,6 +1,6 @@
 //! What the laws of timestamps come to, and what moments and their texts are. `callers::timestamps` has two more.
 
-ghost use Rattle.std.specs.Prelude.{◌≡◌, ◌<◌, ◌↔◌, ◌<ℤ◌, ◌≤ℤ◌, ◌∷◌, [], ℕ, ℤ, pos, Ok, Some, true, IsTrue, IfOk, IfSome, string_bytes};
+ghost use Rattle.std.specs.Prelude.{◌≡◌, ◌<◌, ◌↔◌, ◌<ℤ◌, ◌≤ℤ◌, ◌∷◌, [], ℕ, ℤ, pos, Ok, Some, true, length, unwrap_or, IsTrue, IfOk, IfSome, string_bytes};
 ghost use Rattle.std.specs.Ordering.{int_cmp};
 ghost use Rattle.humantime.specs.declared.TimestampError.{TimestampError};
 ghost use Rattle.humantime.specs.Prelude.{Fields, IsWeak, IsStrict, IsWeakMoment, IsStrictMoment, weak_answer, strict_answer, weak_checks, first_failed, IsPrintable, IsPrinted, IsTextOf, moment_kept, cut, nano_of};
@@ -24,12 +24,12 @@ pub fn is_marked(text: &str) -> bool
     bytes.len() > 10 && bytes[10] == b'T' && (bytes.ends_with(b"Z") || bytes.ends_with(b"+00:00"))
 }
 
-/// Whether two hours that a text shows are equal. They are.
-pub fn is_one_hour(text: &str, hour: u32, other: u32) -> bool
-    ensures { (f : Fields) (g : Fields) → IsWeak text.now f → IsWeak text.now g → f.hour ≡ hour → g.hour ≡ other → result ≡ true }
+/// Whether two fractions that a text shows have equally many digits. They have.
+pub fn is_one_fraction(text: &str, digits: usize, other: usize) -> bool
+    ensures { (f : Fields) (g : Fields) → IsWeak text.now f → IsWeak text.now g → length (unwrap_or f.fraction []) ≡ digits → length (unwrap_or g.fraction []) ≡ other → result ≡ true }
 {
     one_stamp_outcome(text);
-    hour == other
+    digits == other
 }
 
 /// Whether a text that shows some parts fails no check. It fails none.

@@ -7,7 +7,7 @@ use crate::law_callers::days::{
 };
 use crate::law_callers::timestamps::{
     fails_no_check, first_errors, first_of_1970, greatest_have_no_next, has_text, is_marked,
-    is_one_hour, is_parsed_weakly, moment_comes_back, order_of_texts, parts_come_back,
+    is_one_fraction, is_parsed_weakly, moment_comes_back, order_of_texts, parts_come_back,
     shortest_length, string_again, text_again,
 };
 use crate::tests::support::{assert_same, moment};
@@ -30,7 +30,7 @@ fn callers_of_laws_of_timestamps_answer(rt: HostRuntime) {
         assert_same(&rt, is_parsed_weakly(text), true);
     }
     let text = "2018-02-13T23:08:32.456Z";
-    assert_same(&rt, is_one_hour(text, 23, 23), true);
+    assert_same(&rt, is_one_fraction(text, 3, 3), true);
     assert_same(&rt, fails_no_check(text, None), true);
     let later = moment(&rt, 1_518_563_312, 456_123_999);
     assert_same(&rt, moment_comes_back(later), true);
