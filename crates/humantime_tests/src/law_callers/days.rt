@@ -2,7 +2,7 @@
 
 ghost use Rattle.std.specs.Prelude.{◌≡◌, ◌≤◌, ◌∷◌, [], true, Some, None};
 ghost use Rattle.humantime.specs.declared.Date.{Date};
-ghost use Rattle.humantime.specs.Prelude.{IsDate, IsDateOfDay};
+ghost use Rattle.humantime.specs.Prelude.{IsDate};
 
 use humantime::laws::one_date;
 use humantime::{Date, Turns, date_of_day, day_number};
@@ -37,14 +37,6 @@ pub fn day_comes_back(day: u32) -> Option<u32>
 {
     let mut turns = Turns::new();
     day_number(date_of_day(day, &mut turns)?, &mut turns)
-}
-
-/// Each of these days has one date.
-pub fn is_one_of_a_day(day: u32, a: Date, b: Date) -> bool
-    ensures { day ≤ 2_932_896 → IsDateOfDay day a → IsDateOfDay day b → result ≡ true }
-{
-    one_date(day);
-    a == b
 }
 
 /// A year of 1970 to 9999 has a 29 February exactly where it is a leap year.

@@ -2,7 +2,7 @@
 
 use crate::callers::timestamps::{is_read_weakly_too, is_text_before};
 use crate::law_callers::days::{
-    date_comes_back, dates_differ_by_day, day_comes_back, days_by_computation, is_one_of_a_day,
+    date_comes_back, dates_differ_by_day, day_comes_back, days_by_computation,
     leap_day_is_of_leap_years,
 };
 use crate::law_callers::timestamps::{
@@ -82,7 +82,6 @@ fn callers_of_laws_of_days_answer(rt: HostRuntime) {
     assert_same(&rt, dates_differ_by_day(leap_day, next), true);
     assert_same(&rt, date_comes_back(leap_day), Some(leap_day));
     assert_same(&rt, day_comes_back(11_016), Some(11_016));
-    assert_same(&rt, is_one_of_a_day(11_016, leap_day, leap_day), true);
     assert_same(&rt, leap_day_is_of_leap_years(2100), true);
     assert_same(
         &rt,
