@@ -81,3 +81,7 @@ seven_nanos = refl
 before_1970 : moment_text (negsuc 0) 0 ≡ None
 unfolding timestamps_on_literals
 before_1970 = refl
+
+one_nanosecond : shortest_text (pos 1) ≡ Some (codes "1970-01-01T00:00:00.000000001Z")
+unfolding timestamps_on_literals
+one_nanosecond = refl

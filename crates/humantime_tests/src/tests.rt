@@ -6,4 +6,5 @@ mod programs;
 mod std_durations;
 mod support;
 mod system_times;
+mod timestamp_laws;
 mod wrappers;

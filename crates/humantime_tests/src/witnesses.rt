@@ -3,24 +3,23 @@
 //! Each function answers what its contract says, for every value. Where a derive were replaced by a body that
 //! means something else, the function here would not be proved.
 
-ghost use Rattle.std.specs.Prelude.{◌≡◌, ◌<◌, ◌≤◌, ◌<ℤ◌, ◌≤ℤ◌, ◌↔◌, IsTrue, IsOkAnd};
+ghost use Rattle.std.specs.Prelude.{◌≡◌, ◌<◌, ◌<ℤ◌, ◌↔◌, IsTrue, IsOkAnd, Some};
+ghost use Rattle.std.specs.Ordering.{nat_cmp, int_cmp};
 
 use humantime::{
     Date, Duration, DurationError, FormattedDuration, Rfc3339Timestamp, Span, StdDuration,
     SystemTime, SystemTimeError, Timestamp, TimestampError,
 };
 use std::alloc::AllocError;
+use std::cmp::Ordering;
 use std::hash::{Hash, Hasher};
 
-/// Values that `==` finds equal leave two copies of a hasher in one state.
-pub fn feed_alike<T: Hash, H: Hasher + Copy>(a: &T, b: &T, hasher: H) -> (H, H)
-    ensures { IsTrue (T.eq a.now b.now) → result.0 ≡ result.1 }
+/// Values that `==` finds equal leave two hashers of one state in one state.
+pub fn feed_alike<T: Hash, H: Hasher>(a: &T, b: &T, first: &mut H, second: &mut H)
+    ensures { IsTrue (T.eq a.now b.now) → first.old ≡ second.old → first.new ≡ second.new }
 {
-    let mut first = hasher;
-    let mut second = hasher;
-    a.hash(&mut first);
-    b.hash(&mut second);
-    (first, second)
+    a.hash(first);
+    b.hash(second);
 }
 
 pub fn is_same_std_duration(a: &StdDuration, b: &StdDuration) -> bool
@@ -35,10 +34,10 @@ pub fn is_less_std_duration(a: &StdDuration, b: &StdDuration) -> bool
     *a < *b
 }
 
-pub fn is_at_most_std_duration(a: &StdDuration, b: &StdDuration) -> bool
-    ensures { IsTrue result ↔ (a.now ≤ b.now) }
+pub fn compared_std_duration(a: &StdDuration, b: &StdDuration) -> (Ordering, Option<Ordering>)
+    ensures { result ≡ (nat_cmp a.now b.now, Some (nat_cmp a.now b.now)) }
 {
-    *a <= *b
+    (a.cmp(b), a.partial_cmp(b))
 }
 
 pub fn cloned_std_duration(value: &StdDuration) -> Result<StdDuration, AllocError>
@@ -53,14 +52,15 @@ pub fn copied_std_duration(value: &StdDuration) -> StdDuration
     *value
 }
 
-pub fn std_durations_feed_alike<H: Hasher + Copy>(
+pub fn std_durations_feed_alike<H: Hasher>(
     a: &StdDuration,
     b: &StdDuration,
-    hasher: H,
-) -> (H, H)
-    ensures { a.now ≡ b.now → result.0 ≡ result.1 }
+    first: &mut H,
+    second: &mut H,
+)
+    ensures { a.now ≡ b.now → first.old ≡ second.old → first.new ≡ second.new }
 {
-    feed_alike(a, b, hasher)
+    feed_alike(a, b, first, second);
 }
 
 pub fn is_same_system_time(a: &SystemTime, b: &SystemTime) -> bool
@@ -75,10 +75,10 @@ pub fn is_less_system_time(a: &SystemTime, b: &SystemTime) -> bool
     *a < *b
 }
 
-pub fn is_at_most_system_time(a: &SystemTime, b: &SystemTime) -> bool
-    ensures { IsTrue result ↔ (a.now ≤ℤ b.now) }
+pub fn compared_system_time(a: &SystemTime, b: &SystemTime) -> (Ordering, Option<Ordering>)
+    ensures { result ≡ (int_cmp a.now b.now, Some (int_cmp a.now b.now)) }
 {
-    *a <= *b
+    (a.cmp(b), a.partial_cmp(b))
 }
 
 pub fn cloned_system_time(value: &SystemTime) -> Result<SystemTime, AllocError>
@@ -93,14 +93,15 @@ pub fn copied_system_time(value: &SystemTime) -> SystemTime
     *value
 }
 
-pub fn system_times_feed_alike<H: Hasher + Copy>(
+pub fn system_times_feed_alike<H: Hasher>(
     a: &SystemTime,
     b: &SystemTime,
-    hasher: H,
-) -> (H, H)
-    ensures { a.now ≡ b.now → result.0 ≡ result.1 }
+    first: &mut H,
+    second: &mut H,
+)
+    ensures { a.now ≡ b.now → first.old ≡ second.old → first.new ≡ second.new }
 {
-    feed_alike(a, b, hasher)
+    feed_alike(a, b, first, second);
 }
 
 pub fn is_same_duration(a: &Duration, b: &Duration) -> bool
@@ -115,10 +116,10 @@ pub fn is_less_duration(a: &Duration, b: &Duration) -> bool
     *a < *b
 }
 
-pub fn is_at_most_duration(a: &Duration, b: &Duration) -> bool
-    ensures { IsTrue result ↔ (a.now ≤ b.now) }
+pub fn compared_duration(a: &Duration, b: &Duration) -> (Ordering, Option<Ordering>)
+    ensures { result ≡ (nat_cmp a.now b.now, Some (nat_cmp a.now b.now)) }
 {
-    *a <= *b
+    (a.cmp(b), a.partial_cmp(b))
 }
 
 pub fn cloned_duration(value: &Duration) -> Result<Duration, AllocError>
@@ -133,10 +134,10 @@ pub fn copied_duration(value: &Duration) -> Duration
     *value
 }
 
-pub fn durations_feed_alike<H: Hasher + Copy>(a: &Duration, b: &Duration, hasher: H) -> (H, H)
-    ensures { a.now ≡ b.now → result.0 ≡ result.1 }
+pub fn durations_feed_alike<H: Hasher>(a: &Duration, b: &Duration, first: &mut H, second: &mut H)
+    ensures { a.now ≡ b.now → first.old ≡ second.old → first.new ≡ second.new }
 {
-    feed_alike(a, b, hasher)
+    feed_alike(a, b, first, second);
 }
 
 pub fn is_same_timestamp(a: &Timestamp, b: &Timestamp) -> bool
@@ -151,10 +152,10 @@ pub fn is_less_timestamp(a: &Timestamp, b: &Timestamp) -> bool
     *a < *b
 }
 
-pub fn is_at_most_timestamp(a: &Timestamp, b: &Timestamp) -> bool
-    ensures { IsTrue result ↔ (a.now ≤ℤ b.now) }
+pub fn compared_timestamp(a: &Timestamp, b: &Timestamp) -> (Ordering, Option<Ordering>)
+    ensures { result ≡ (int_cmp a.now b.now, Some (int_cmp a.now b.now)) }
 {
-    *a <= *b
+    (a.cmp(b), a.partial_cmp(b))
 }
 
 pub fn cloned_timestamp(value: &Timestamp) -> Result<Timestamp, AllocError>
@@ -169,10 +170,10 @@ pub fn copied_timestamp(value: &Timestamp) -> Timestamp
     *value
 }
 
-pub fn timestamps_feed_alike<H: Hasher + Copy>(a: &Timestamp, b: &Timestamp, hasher: H) -> (H, H)
-    ensures { a.now ≡ b.now → result.0 ≡ result.1 }
+pub fn timestamps_feed_alike<H: Hasher>(a: &Timestamp, b: &Timestamp, first: &mut H, second: &mut H)
+    ensures { a.now ≡ b.now → first.old ≡ second.old → first.new ≡ second.new }
 {
-    feed_alike(a, b, hasher)
+    feed_alike(a, b, first, second);
 }
 
 pub fn is_same_system_time_error(a: &SystemTimeError, b: &SystemTimeError) -> bool

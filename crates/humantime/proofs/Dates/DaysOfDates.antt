@@ -5,7 +5,7 @@ use Rattle.std.proofs.lemmas.Bool.{cases_order, cases_lt}
 use Rattle.humantime.specs.declared.calendar.Date.{Date}
 use Rattle.humantime.specs.Calendar.{days_in_year, days_in_month, days_of_years, days_of_months, IsDate, day_of}
 use Rattle.humantime.specs.Laws.Days.{IsDateOfDay, OneDate}
-use Rattle.humantime.proofs.Dates.Years.{AreWithin, valid_told, valid_from, days_of_years_next, days_of_no_years, days_of_no_months, days_of_months_next, twelve_months, month_end, days_of_years_more, march_days_of_years, day_count}
+use Rattle.humantime.proofs.Dates.Years.{AreWithin, valid_told, valid_from, days_of_years_next, days_of_no_years, days_of_no_months, days_of_months_next, twelve_months, month_end, days_of_years_more, days_of_years_all, march_days_of_years, day_count}
 use Rattle.humantime.specs.References.Calendar.March.{march_days}
 
 -- more years have no fewer days, nor have more months
@@ -114,3 +114,10 @@ pub one_date : (day : ℕ) → day ≤ 2_932_896 → OneDate day
 one_date day few =
     let some = some_date day few in
     (some.0, some.1, λ other is. same_date other some.0 is.0 some.1.0 (is.1 ∙ sym some.1.1))
+
+-- no date has a later day
+pub day_at_most : (d : Date) → IsDate d → day_of d ≤ 2_932_896
+day_at_most d valid =
+    let within = valid_told d.year d.month d.day valid in
+    let before : day_of d < days_of_years 8030 = before_year d.year d.month d.day within 10_000 (omega (arith, within.0.1)) in
+    omega (arith, before, days_of_years_all 10_000 refl)

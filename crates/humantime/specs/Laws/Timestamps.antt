@@ -1,5 +1,5 @@
 -- The laws of timestamps. A text is its bytes, called b.
-use Rattle.std.specs.Prelude.{◌≡◌, ◌≤◌, ◌↔◌, ℕ, ℤ, Bool, List, slice_index, None, IsTrue}
+use Rattle.std.specs.Prelude.{◌≡◌, ◌↔◌, ℕ, ℤ, Bool, List, slice_index, None, IsTrue}
 use Rattle.std.specs.Cmp.Lexicographic.{slice_cmp}
 use Rattle.std.specs.Ordering.{nat_cmp, int_cmp}
 use Rattle.std.specs.Str.{byte}
@@ -29,7 +29,7 @@ StrictMomentIsWeak b = (t : ℤ) → IsStrictMoment b t ↔ (IsWeakMoment b t ×
 -- two moments, printed with equally many digits: the order of the bytes is that of the moments, cut
 abbrev pub InOrder : ℤ → ℤ → Type 0
 InOrder a b =
-    (k : ℕ) (x y : List ℕ) → k ≤ 9 → IsPrinted a k x → IsPrinted b k y
+    (k : ℕ) (x y : List ℕ) → IsPrinted a k x → IsPrinted b k y
     → slice_cmp nat_cmp x y ≡ int_cmp (cut a k) (cut b k)
 
 -- in both forms the text reads as this moment

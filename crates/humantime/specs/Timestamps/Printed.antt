@@ -15,6 +15,7 @@ HasPlaces fraction (suc k) = (ds : List ℕ) × (fraction ≡ Some ds) × (lengt
 
 -- The text is the moment t, printed with k digits, at most nine: it shows parts with `T`, `Z` and no second 60, whose moment is t, cut.
 pub record IsPrinted (t : ℤ) (k : ℕ) (bytes : List ℕ) : Type 0 where
+  pub few : k ≤ 9
   pub fields : Fields
   pub weak : IsWeak bytes fields
   pub separator : fields.separator ≡ Letter_T

@@ -1,11 +1,13 @@
 //! Laws of timestamps.
 
-ghost use Rattle.std.specs.Prelude.{◌≡◌, ◌↔◌, ℕ, ℤ, List, Some, Ok, Err};
+ghost use Rattle.std.specs.Prelude.{◌≡◌, ◌↔◌, ◌<ℤ◌, ℕ, ℤ, List, Some, Ok, Err, IsTrue};
+ghost use Rattle.std.specs.Cmp.Lexicographic.{slice_cmp};
+ghost use Rattle.std.specs.Ordering.{is_lt, nat_cmp};
 ghost use Rattle.humantime.specs.declared.date.error.TimestampError.{TimestampError};
 ghost use Rattle.humantime.specs.Timestamps.Fields.{IsWeak, IsStrict, IsWeakMoment, IsStrictMoment};
 ghost use Rattle.humantime.specs.Timestamps.Checks.{weak_checks, strict_checks, first_failed};
-ghost use Rattle.humantime.specs.Laws.Timestamps.{OneTimestamp, StrictIsWeak, StrictMomentIsWeak, InOrder, OnePrinted, ReadsAs};
-ghost use Rattle.humantime.specs.Timestamps.Printed.{cut, IsPrintable};
+ghost use Rattle.humantime.specs.Laws.Timestamps.{OneTimestamp, StrictIsWeak, StrictMomentIsWeak, IsMarked, InOrder, OnePrinted, ReadsAs};
+ghost use Rattle.humantime.specs.Timestamps.Printed.{cut, IsPrintable, IsPrinted};
 ghost use Rattle.humantime.specs.References.Timestamps.Printing.{moment_kept, places_kept, printed_text, IsTextOf};
 ghost use Rattle.humantime.specs.References.Timestamps.Reading.{weak_answer, strict_answer};
 
@@ -22,6 +24,11 @@ use crate::value::SystemTime;
 pub fn strict_is_weak(s: &str)
     ensures parts { StrictIsWeak s.now }
     ensures moment { StrictMomentIsWeak s.now }
+
+    // And so of the answers.
+    ensures weak { (t : ℤ) → strict_answer s.now ≡ Ok t → weak_answer s.now ≡ Ok t }
+    ensures marked { (t : ℤ) → strict_answer s.now ≡ Ok t → IsMarked s.now }
+    ensures strict { (t : ℤ) → weak_answer s.now ≡ Ok t → IsMarked s.now → strict_answer s.now ≡ Ok t }
 {
     let _ = s;
 }
@@ -55,6 +62,9 @@ pub fn printed_moment_reads(x: &Rfc3339Timestamp)
     ensures one { IsPrintable (moment_kept x.now) → OnePrinted (moment_kept x.now) (places_kept x.now) }
     ensures displayed { (text : List ℕ) → (printed_text x.now ≡ Some text) ↔ (IsPrintable (moment_kept x.now) × IsTextOf x.now text) }
     ensures reads { (text : List ℕ) → IsTextOf x.now text → ReadsAs text (cut (moment_kept x.now) (places_kept x.now)) }
+    ensures strict { (text : List ℕ) → IsTextOf x.now text → strict_answer text ≡ Ok (cut (moment_kept x.now) (places_kept x.now)) }
+    ensures weak { (text : List ℕ) → IsTextOf x.now text → weak_answer text ≡ Ok (cut (moment_kept x.now) (places_kept x.now)) }
+    ensures whole { cut (moment_kept x.now) 9 ≡ moment_kept x.now }
 {
     let _ = x;
 }
@@ -65,7 +75,8 @@ pub fn printed_moment_reads(x: &Rfc3339Timestamp)
 /// stamps_in_order(earlier, later)
 /// ```
 pub fn stamps_in_order(a: SystemTime, b: SystemTime)
-    ensures { InOrder a b }
+    ensures order { InOrder a b }
+    ensures nanos { (x : List ℕ) (y : List ℕ) → IsPrinted a 9 x → IsPrinted b 9 y → (a <ℤ b) ↔ IsTrue (is_lt (slice_cmp nat_cmp x y)) }
 {
     let _ = (a, b);
 }

@@ -1,12 +1,13 @@
 //! Lines of a log: callers of what reads, prints and orders timestamps.
 
-ghost use Rattle.std.specs.Prelude.{◌≡◌, ◌*◌, ◌↔◌, ◌<ℤ◌, ◌≤ℤ◌, ℤ, pos, ◌+ℤ◌, IsTrue, IsSome, IfSome, IfOk, IsOkAnd, Ok, Err, string_bytes};
+ghost use Rattle.std.specs.Prelude.{◌≡◌, ◌*◌, ◌↔◌, ◌<ℤ◌, ◌≤ℤ◌, ℤ, pos, ◌+ℤ◌, IsTrue, IsSome, IfSome, IfOk, IsOkAnd, Ok, Err, string_bytes, true};
 ghost use Rattle.humantime.specs.declared.TimestampError.{TimestampError};
 ghost use Rattle.humantime.specs.Prelude.{weak_answer, strict_answer, IsPrinted, IsPrintable, cut, moment_end, nanos_per_second};
 
+use humantime::laws::{stamps_in_order, strict_is_weak};
 use humantime::{
-    StdDuration, SystemTime, TimestampError, format_rfc3339_millis, parse_rfc3339,
-    parse_rfc3339_weak,
+    StdDuration, SystemTime, TimestampError, format_rfc3339_millis, format_rfc3339_nanos,
+    parse_rfc3339, parse_rfc3339_weak,
 };
 use std::alloc::{AllocError, Global};
 
@@ -52,6 +53,29 @@ pub fn is_earlier(stamp: &str, other: &str) -> bool
     ensures { (a : ℤ) (b : ℤ) → IsPrinted a 3 stamp.now → IsPrinted b 3 other.now → (IsTrue result ↔ (cut a 3 <ℤ cut b 3)) }
 {
     stamp < other
+}
+
+/// Whether the weak parser gives what the strict one gives. It does.
+pub fn is_read_weakly_too(text: &str) -> bool
+    ensures { result ≡ true }
+{
+    strict_is_weak(text);
+    match parse_rfc3339(text) {
+        Ok(moment) => parse_rfc3339_weak(text) == Ok(moment),
+        Err(_) => true,
+    }
+}
+
+/// Whether a moment is before another, told by their texts with nine digits.
+pub fn is_text_before(a: SystemTime, b: SystemTime) -> bool
+    ensures { IsPrintable a → IsPrintable b → (IsTrue result ↔ (a <ℤ b)) }
+{
+    stamps_in_order(a, b);
+    let (shown, other) = (format_rfc3339_nanos(a), format_rfc3339_nanos(b));
+    match (shown.text(&mut [0; 30]), other.text(&mut [0; 30])) {
+        (Some(text), Some(later)) => text < later,
+        _ => false,
+    }
 }
 
 /// A moment as a `String`, by `Display`.

@@ -77,7 +77,8 @@ fn durations_are_ordered_and_hashed_by_their_nanoseconds(rt: HostRuntime) {
         .expect(&rt, "too large");
     assert!(rt; is_same_std_duration(&sum, &second));
     assert_same(&rt, fed(&sum), fed(&second));
-    let (first, again) = std_durations_feed_alike(&sum, &sum, FoldHasher::default());
+    let (mut first, mut again) = (FoldHasher::default(), FoldHasher::default());
+    std_durations_feed_alike(&sum, &sum, &mut first, &mut again);
     assert_same(&rt, first.finish(), again.finish());
     assert_same(&rt, first_value::<StdDuration>(), default());
     assert_same(

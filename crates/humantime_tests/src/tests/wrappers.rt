@@ -75,7 +75,8 @@ fn durations_wrap_their_value(rt: HostRuntime) {
         fed(&minute),
         fed(&Duration::new(StdDuration::new(59, 1_000_000_000))),
     );
-    let (first, second) = durations_feed_alike(&minute, &minute, FoldHasher::default());
+    let (mut first, mut second) = (FoldHasher::default(), FoldHasher::default());
+    durations_feed_alike(&minute, &minute, &mut first, &mut second);
     assert_same(&rt, first.finish(), second.finish());
 }
 
@@ -101,7 +102,8 @@ fn timestamps_wrap_their_moment(rt: HostRuntime) {
     assert!(rt; is_less_timestamp(&before, &epoch));
     assert!(rt; is_same_timestamp(&least(epoch, before), &before));
     assert_not_printed(&rt, &before);
-    let (first, second) = timestamps_feed_alike(&before, &before, FoldHasher::default());
+    let (mut first, mut second) = (FoldHasher::default(), FoldHasher::default());
+    timestamps_feed_alike(&before, &before, &mut first, &mut second);
     assert_same(&rt, first.finish(), second.finish());
     assert_same(&rt, fed(&epoch), fed(&Timestamp::from(UNIX_EPOCH)));
 }

@@ -123,10 +123,10 @@ clock_cmp : (a h i s m b j k t n : ℕ) → h ≤ 23 → i ≤ 59 → s ≤ 59 �
 clock_cmp a h i s m b j k t n h23 i59 s59 m9 j23 k59 t59 n9 = grind (arith, common_steps, then_equal, step_cmp, below, cmp_alike)
 
 pub printed_order : (a b : ℤ) → InOrder a b
-printed_order a b k x y small p q =
+printed_order a b k x y p q =
     let f = p.fields in
     let g = q.fields in
-    let fraction = fraction_cmp k f.fraction g.fraction small p.places q.places (digits_told _ p.weak.fraction) (digits_told _ q.weak.fraction) in
+    let fraction = fraction_cmp k f.fraction g.fraction p.few p.places q.places (digits_told _ p.weak.fraction) (digits_told _ q.weak.fraction) in
     let text = shape_cmp f.date.year f.date.month f.date.day f.hour f.minute f.second g.date.year g.date.month g.date.day g.hour g.minute g.second
     (fraction_text f.fraction ++ codes "Z") (fraction_text g.fraction ++ codes "Z") in
     let day = day_cmp f.date g.date (then_cmp f.hour g.hour (then_cmp f.minute g.minute (then_cmp f.second g.second (nat_cmp (fraction_nanos (fraction_digits f.fraction)) (fraction_nanos (fraction_digits g.fraction)))))) p.weak.date q.weak.date in

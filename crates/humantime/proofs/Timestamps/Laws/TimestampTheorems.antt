@@ -1,7 +1,7 @@
 -- The laws of timestamps and days as theorems over plain variables, each under the name of its function in `laws`, and what callers cite beside them.
 use Rattle.std.proofs.lemmas.Grind.{common_steps}
 use Rattle.std.proofs.Common.{◌≡◌, ◌≤◌, ℕ, List, refl, sym, subst, ◌∙◌, arith}
-use Rattle.std.specs.Prelude.{◌↔◌, ℤ, ◌≤ℤ◌, ◌<ℤ◌, Option, Some, None, Ok, Err, IsTrue, IfSome}
+use Rattle.std.specs.Prelude.{◌↔◌, ℤ, pos, negsuc, ◌≤ℤ◌, ◌<ℤ◌, Option, Some, None, Ok, Err, IsTrue, IfSome}
 use Rattle.std.specs.declared.cmp.Ordering.{Ordering}
 use Rattle.std.specs.Cmp.Lexicographic.{slice_cmp}
 use Rattle.std.specs.Ordering.{nat_cmp, int_cmp, is_le, is_lt}
@@ -9,10 +9,12 @@ use Rattle.std.proofs.lemmas.Int.{ints}
 use Rattle.std.proofs.lemmas.Option.{none-some}
 use Rattle.humantime.specs.declared.date.error.TimestampError.{TimestampError}
 use Rattle.humantime.specs.declared.date.print.Rfc3339Timestamp.{Rfc3339Timestamp}
+use Rattle.humantime.specs.declared.calendar.Date.{Date}
+use Rattle.humantime.specs.Calendar.{IsDate, day_of}
 use Rattle.humantime.specs.Laws.Days.{OneDate}
 use Rattle.humantime.specs.Timestamps.Fields.{IsWeak, IsStrict, IsWeakMoment, IsStrictMoment}
 use Rattle.humantime.specs.Timestamps.Checks.{weak_checks, strict_checks, first_failed}
-use Rattle.humantime.specs.Laws.Timestamps.{OneTimestamp, StrictIsWeak, StrictMomentIsWeak, ReadsAs, OnePrinted}
+use Rattle.humantime.specs.Laws.Timestamps.{OneTimestamp, IsMarked, StrictIsWeak, StrictMomentIsWeak, ReadsAs, OnePrinted}
 use Rattle.humantime.specs.Timestamps.Printed.{cut, IsPrinted, IsPrintable}
 use Rattle.humantime.specs.References.Timestamps.Printing.{moment_kept, places_kept, moment_text, printed_text}
 use Rattle.humantime.specs.References.Timestamps.Reading.{weak_answer, strict_answer}
@@ -30,15 +32,11 @@ pub use Rattle.humantime.proofs.Timestamps.Printing.Printed.{places_kept_bound, 
 pub one_date : (day : ℕ) → day ≤ 2_932_896 → OneDate day
 one_date = dates.one_date
 
+-- a date's day is one of these
+pub day_at_most : (d : Date) → IsDate d → day_of d ≤ 2_932_896
+day_at_most = dates.day_at_most
+
 -- ---- Timestamps read
-
--- the strict form is the weak one with a `T` and a zone: of the parts, and of the moment
-pub record StrictForm (text : List ℕ) : Type 0 where
-  pub parts : StrictIsWeak text
-  pub moment : StrictMomentIsWeak text
-
-pub strict_is_weak : (text : List ℕ) → StrictForm text
-strict_is_weak text = record { parts = strict.strict_is_weak text; moment = read.strict_moment_is_weak text }
 
 -- a text's one outcome in each form, and that the answer as a function is this outcome
 pub record StampOutcome (text : List ℕ) : Type 0 where
@@ -82,38 +80,65 @@ weak_printable = printable.weak_printable
 
 pub strict_printable : (text : List ℕ) (t : ℤ) → IsStrictMoment text t → IsPrintable t
 strict_printable = printable.strict_printable
+-- the strict form is the weak one with a `T` and a zone: of the parts, of the moment, and of the answer
+pub record StrictForm (text : List ℕ) : Type 0 where
+  pub parts : StrictIsWeak text
+  pub moment : StrictMomentIsWeak text
+  pub weak : (t : ℤ) → strict_answer text ≡ Ok t → weak_answer text ≡ Ok t
+  pub marked : (t : ℤ) → strict_answer text ≡ Ok t → IsMarked text
+  pub strict : (t : ℤ) → weak_answer text ≡ Ok t → IsMarked text → strict_answer text ≡ Ok t
+
+pub strict_is_weak : (text : List ℕ) → StrictForm text
+strict_is_weak text =
+    let law = read.strict_moment_is_weak text in
+    record {
+      parts = strict.strict_is_weak text;
+      moment = law;
+      weak = λ t given. weak_read text t ((law t).0 ((read.strict_value text t).0 given)).0;
+      marked = λ t given. ((law t).0 ((read.strict_value text t).0 given)).1;
+      strict = λ t given marked. strict_read text t ((law t).1 ((read.weak_value text t).0 given, marked));
+    }
 
 -- ---- Timestamps printed
+
+-- what a printed text reads as
+pub printed_read : (t : ℤ) (k : ℕ) (text : List ℕ) → IsPrinted t k text → strict_answer text ≡ Ok (cut t k)
+printed_read t k text printed = strict_read text (cut t k) (printed_reads t k text printed).strict
+
+pub printed_read_weak : (t : ℤ) (k : ℕ) (text : List ℕ) → IsPrinted t k text → weak_answer text ≡ Ok (cut t k)
+printed_read_weak t k text printed = weak_read text (cut t k) (printed_reads t k text printed).weak
+
+-- a moment has no more than nine digits after its second
+pub cut_whole : (t : ℤ) → cut t 9 ≡ t
+cut_whole (pos n) = omega (arith, ints)
+cut_whole (negsuc n) = omega (arith, ints)
 
 -- the one text of a moment that is printed with k digits, and what it reads as
 pub record PrintedMoment (t : ℤ) (k : ℕ) : Type 0 where
   pub one : IsPrintable t → OnePrinted t k
   pub displayed : (text : List ℕ) → (moment_text t k ≡ Some text) ↔ (IsPrintable t × IsPrinted t k text)
   pub reads : (text : List ℕ) → IsPrinted t k text → ReadsAs text (cut t k)
+  pub strict : (text : List ℕ) → IsPrinted t k text → strict_answer text ≡ Ok (cut t k)
+  pub weak : (text : List ℕ) → IsPrinted t k text → weak_answer text ≡ Ok (cut t k)
 
 pub printed_moment_reads : (t : ℤ) (k : ℕ) → k ≤ 9 → PrintedMoment t k
 printed_moment_reads t k small = record {
   one = one_printed t k small;
   displayed = λ text. text_displayed t k text small;
   reads = printed_reads t k;
+  strict = printed_read t k;
+  weak = printed_read_weak t k;
 }
 
 -- a printed text is the one that is computed
-pub printed_is : (t : ℤ) (k : ℕ) (text known : List ℕ) → k ≤ 9 → moment_text t k ≡ Some known → IsPrinted t k text → text ≡ known
-printed_is t k text known small computed printed = one_text t k text known small printed ((text_displayed t k known small).0 computed).1
+pub printed_is : (t : ℤ) (k : ℕ) (text known : List ℕ) → moment_text t k ≡ Some known → IsPrinted t k text → text ≡ known
+printed_is t k text known computed printed = one_text t k text known printed ((text_displayed t k known printed.few).0 computed).1
 
 -- a moment of 1970 to 9999 has a printed text, which is the one that is computed
 pub printed_some : (t : ℤ) (k : ℕ) → k ≤ 9 → IsPrintable t → (text : List ℕ) × (moment_text t k ≡ Some text) × IsPrinted t k text
 printed_some t k small printable =
     let one = one_printed t k small printable in
     (one.text, (text_displayed t k one.text small).1 (printable, one.printed), one.printed)
-
--- and what a printed text reads as
-pub printed_read : (t : ℤ) (k : ℕ) (text : List ℕ) → IsPrinted t k text → strict_answer text ≡ Ok (cut t k)
-printed_read t k text printed = strict_read text (cut t k) (printed_reads t k text printed).strict
-
-pub printed_read_weak : (t : ℤ) (k : ℕ) (text : List ℕ) → IsPrinted t k text → weak_answer text ≡ Ok (cut t k)
-printed_read_weak t k text printed = weak_read text (cut t k) (printed_reads t k text printed).weak
 
 -- what `Display` wrote, of a timestamp that is known by two equations
 pub displayed_as : (x : Rfc3339Timestamp) (t : ℤ) (k : ℕ) (bytes : List ℕ) → moment_kept x ≡ t → places_kept x ≡ k → IsPrintable t
@@ -131,7 +156,7 @@ displayed_as x t k bytes moment digits within written = by_text (printed_text x)
       absurd (none-some _ (sym is ∙ (text_displayed (moment_kept x) (places_kept x) one.text (places_kept_bound x)).1 (printable, one.printed)))
 
 -- the bytes of two texts stand in the order of the moments that they print, cut to their digits
-pub stamps_in_order : (a b : ℤ) (k : ℕ) (x y : List ℕ) → k ≤ 9 → IsPrinted a k x → IsPrinted b k y → slice_cmp nat_cmp x y ≡ int_cmp (cut a k) (cut b k)
+pub stamps_in_order : (a b : ℤ) (k : ℕ) (x y : List ℕ) → IsPrinted a k x → IsPrinted b k y → slice_cmp nat_cmp x y ≡ int_cmp (cut a k) (cut b k)
 stamps_in_order a b = printed_order a b
 
 -- what an order of two moments says
@@ -142,35 +167,39 @@ pub moment_before : (a b : ℤ) → IsTrue (is_lt (int_cmp a b)) ↔ (a <ℤ b)
 moment_before a b = ((λ h. grind (arith, ints)), (λ h. grind (arith, ints)))
 
 -- and what one of two printed texts says
-pub stamp_at_most : (a b : ℤ) (k : ℕ) (x y : List ℕ) → k ≤ 9 → IsPrinted a k x → IsPrinted b k y
+pub stamp_at_most : (a b : ℤ) (k : ℕ) (x y : List ℕ) → IsPrinted a k x → IsPrinted b k y
     → IsTrue (is_le (slice_cmp nat_cmp x y)) ↔ (cut a k ≤ℤ cut b k)
-stamp_at_most a b k x y small p q =
-    subst (λ (o : Ordering). IsTrue (is_le o) ↔ (cut a k ≤ℤ cut b k)) (sym (stamps_in_order a b k x y small p q)) (moment_at_most (cut a k) (cut b k))
+stamp_at_most a b k x y p q =
+    subst (λ (o : Ordering). IsTrue (is_le o) ↔ (cut a k ≤ℤ cut b k)) (sym (stamps_in_order a b k x y p q)) (moment_at_most (cut a k) (cut b k))
 
-pub stamp_before : (a b : ℤ) (k : ℕ) (x y : List ℕ) → k ≤ 9 → IsPrinted a k x → IsPrinted b k y
+pub stamp_before : (a b : ℤ) (k : ℕ) (x y : List ℕ) → IsPrinted a k x → IsPrinted b k y
     → IsTrue (is_lt (slice_cmp nat_cmp x y)) ↔ (cut a k <ℤ cut b k)
-stamp_before a b k x y small p q =
-    subst (λ (o : Ordering). IsTrue (is_lt o) ↔ (cut a k <ℤ cut b k)) (sym (stamps_in_order a b k x y small p q)) (moment_before (cut a k) (cut b k))
+stamp_before a b k x y p q =
+    subst (λ (o : Ordering). IsTrue (is_lt o) ↔ (cut a k <ℤ cut b k)) (sym (stamps_in_order a b k x y p q)) (moment_before (cut a k) (cut b k))
 
 -- the bytes of a printed text lie between two printed bounds, the first of them included, exactly where the moment that it reads as does
-pub stamps_between : (a b t : ℤ) (k : ℕ) (x y text : List ℕ) → k ≤ 9 → IsPrinted a k x → IsPrinted b k y → IsPrinted t k text
+pub stamps_between : (a b t : ℤ) (k : ℕ) (x y text : List ℕ) → IsPrinted a k x → IsPrinted b k y → IsPrinted t k text
     → (IsTrue (is_le (slice_cmp nat_cmp x text)) × IsTrue (is_lt (slice_cmp nat_cmp text y)))
     ↔ ((u : ℤ) × (strict_answer text ≡ Ok u) × (cut a k ≤ℤ u) × (u <ℤ cut b k))
-stamps_between a b t k x y text small first second printed = grind (arith, common_steps, (printed_read t k text printed), (stamp_at_most a t k x text small first printed), (stamp_before t b k text y small printed second))
+stamps_between a b t k x y text first second printed = grind (arith, common_steps, (printed_read t k text printed), (stamp_at_most a t k x text first printed), (stamp_before t b k text y printed second))
 
 -- the order of bytes for each number of digits that a printer gives; `using` one of them, a caller that compares texts is proved
 -- with no answer
-earlier : (a b : ℤ) (k : ℕ) (x y : List ℕ) → k ≤ 9 → IsPrinted a k x → IsPrinted b k y → (cut a k <ℤ cut b k) ↔ IsTrue (is_lt (slice_cmp nat_cmp x y))
-earlier a b k x y small p q = let h = stamp_before a b k x y small p q in (h.1, h.0)
+earlier : (a b : ℤ) (k : ℕ) (x y : List ℕ) → IsPrinted a k x → IsPrinted b k y → (cut a k <ℤ cut b k) ↔ IsTrue (is_lt (slice_cmp nat_cmp x y))
+earlier a b k x y p q = let h = stamp_before a b k x y p q in (h.1, h.0)
 
 pub earlier_in_seconds : (a b : ℤ) (x y : List ℕ) → IsPrinted a 0 x → IsPrinted b 0 y → (cut a 0 <ℤ cut b 0) ↔ IsTrue (is_lt (slice_cmp nat_cmp x y))
-earlier_in_seconds a b x y = earlier a b 0 x y (omega arith)
+earlier_in_seconds a b x y = earlier a b 0 x y
 
 pub earlier_in_millis : (a b : ℤ) (x y : List ℕ) → IsPrinted a 3 x → IsPrinted b 3 y → (cut a 3 <ℤ cut b 3) ↔ IsTrue (is_lt (slice_cmp nat_cmp x y))
-earlier_in_millis a b x y = earlier a b 3 x y (omega arith)
+earlier_in_millis a b x y = earlier a b 3 x y
 
 pub earlier_in_micros : (a b : ℤ) (x y : List ℕ) → IsPrinted a 6 x → IsPrinted b 6 y → (cut a 6 <ℤ cut b 6) ↔ IsTrue (is_lt (slice_cmp nat_cmp x y))
-earlier_in_micros a b x y = earlier a b 6 x y (omega arith)
+earlier_in_micros a b x y = earlier a b 6 x y
 
-pub earlier_in_nanos : (a b : ℤ) (x y : List ℕ) → IsPrinted a 9 x → IsPrinted b 9 y → (cut a 9 <ℤ cut b 9) ↔ IsTrue (is_lt (slice_cmp nat_cmp x y))
-earlier_in_nanos a b x y = earlier a b 9 x y (omega arith)
+-- nine digits cut nothing
+pub earlier_in_nanos : (a b : ℤ) (x y : List ℕ) → IsPrinted a 9 x → IsPrinted b 9 y → (a <ℤ b) ↔ IsTrue (is_lt (slice_cmp nat_cmp x y))
+earlier_in_nanos a b x y p q =
+    let same : int_cmp (cut a 9) (cut b 9) ≡ int_cmp a b = λ i. int_cmp (cut_whole a i) (cut_whole b i) in
+    let h = subst (λ (o : Ordering). IsTrue (is_lt o) ↔ (a <ℤ b)) (sym (stamps_in_order a b 9 x y p q ∙ same)) (moment_before a b) in
+    (h.1, h.0)

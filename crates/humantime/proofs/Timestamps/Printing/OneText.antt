@@ -38,8 +38,8 @@ same_clock : (a h i s m b j k t n : ℕ) → h ≤ 23 → i ≤ 59 → s ≤ 59 
     → (a ≡ b) × (h ≡ j) × (i ≡ k) × (s ≡ t) × (m ≡ n)
 same_clock a h i s m b j k t n h23 i59 s59 m9 j23 k59 t59 n9 e = grind (arith, common_steps)
 
-same_fields : (t : ℤ) (k : ℕ) (x y : List ℕ) → k ≤ 9 → (p : IsPrinted t k x) (q : IsPrinted t k y) → p.fields ≡ q.fields
-same_fields t k x y small p q =
+same_fields : (t : ℤ) (k : ℕ) (x y : List ℕ) (p : IsPrinted t k x) (q : IsPrinted t k y) → p.fields ≡ q.fields
+same_fields t k x y p q =
     let f = p.fields in
     let g = q.fields in
     let clock = same_clock (day_of f.date) f.hour f.minute f.second (fraction_nanos (fraction_digits f.fraction))
@@ -49,7 +49,7 @@ same_fields t k x y small p q =
     let date = same_date f.date g.date p.weak.date q.weak.date clock.0 in
     let separator = p.separator ∙ sym q.separator in
     let zone = p.zone ∙ sym q.zone in
-    let fraction = same_fraction k f.fraction g.fraction small p.places q.places (digits_told _ p.weak.fraction) (digits_told _ q.weak.fraction) clock.4 in
+    let fraction = same_fraction k f.fraction g.fraction p.few p.places q.places (digits_told _ p.weak.fraction) (digits_told _ q.weak.fraction) clock.4 in
     λ i. record {
       date = date i;
       separator = separator i;
@@ -60,5 +60,5 @@ same_fields t k x y small p q =
       zone = zone i;
     }
 
-pub same_printed : (t : ℤ) (k : ℕ) (x y : List ℕ) → k ≤ 9 → IsPrinted t k x → IsPrinted t k y → x ≡ y
-same_printed t k x y small p q = p.weak.shown ∙ (ap fields_text (same_fields t k x y small p q) ∙ sym q.weak.shown)
+pub same_printed : (t : ℤ) (k : ℕ) (x y : List ℕ) → IsPrinted t k x → IsPrinted t k y → x ≡ y
+same_printed t k x y p q = p.weak.shown ∙ (ap fields_text (same_fields t k x y p q) ∙ sym q.weak.shown)

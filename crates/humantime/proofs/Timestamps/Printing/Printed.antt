@@ -13,7 +13,7 @@ use Rattle.humantime.specs.declared.date.print.Precision.{Precision}
 use Rattle.humantime.specs.declared.date.print.Rfc3339Timestamp.{Rfc3339Timestamp}
 use Rattle.humantime.specs.References.Calendar.DatesOfDays.{date_of}
 use Rattle.humantime.specs.Timestamps.Fields.{fields_text, moment_of}
-use Rattle.humantime.specs.Timestamps.Printed.{cut, IsPrinted, IsPrintable}
+use Rattle.humantime.specs.Timestamps.Printed.{cut, year_10000, IsPrinted, IsPrintable}
 use Rattle.humantime.specs.Laws.Timestamps.{ReadsAs, OnePrinted}
 use Rattle.humantime.specs.References.Timestamps.Printing.{places, moment_kept, places_kept, places_of, fields_shown, fields_at, IsDateTimeOf, IsTextOf, printed_text, moment_text}
 use Rattle.humantime.proofs.Timestamps.Reading.Bytes.{HoldsOfBytes, holds_before_zone}
@@ -42,6 +42,7 @@ shown_moment x t k small h = grind (arith, common_steps, shown_nanos, cut_nanos)
 pub shown_printed : (x : DateTime) (t : ℤ) (k : ℕ) → k ≤ 9 → IsDateTimeOf x t → IsPrinted t k (fields_text (fields_shown x k))
 shown_printed x (negsuc t) k small h = absurd (let whole = h.sum in let no : ⊥ = cc in no)
 shown_printed x (pos t) k small h = record {
+  few = small;
   fields = fields_shown x k;
   weak = record {
     shown = refl;
@@ -59,8 +60,8 @@ shown_printed x (pos t) k small h = record {
 }
 
 -- a printed text is one
-pub one_text : (t : ℤ) (k : ℕ) (x y : List ℕ) → k ≤ 9 → IsPrinted t k x → IsPrinted t k y → x ≡ y
-one_text t k x y small p q = same_printed t k x y small p q
+pub one_text : (t : ℤ) (k : ℕ) (x y : List ℕ) → IsPrinted t k x → IsPrinted t k y → x ≡ y
+one_text = same_printed
 
 -- the text of a moment that is known by two equations
 pub printed_as : (x : Rfc3339Timestamp) (t : ℤ) (k : ℕ) (text : List ℕ) → moment_kept x ≡ t → places_kept x ≡ k → IsTextOf x text → IsPrinted t k text
@@ -90,7 +91,7 @@ clock_sum : (d s u n : ℕ) → d ≡ s / 86_400 → s ≡ u / 1_000_000_000 →
     → (d * 86_400 + s % 86_400 / 3_600 * 3_600 + s % 86_400 / 60 % 60 * 60 + s % 60) * 1_000_000_000 + n ≡ u
 clock_sum d s u n e f g = omega arith
 
-date_time_is : (t : ℕ) → t < 253_402_300_800 * 1_000_000_000 → IsDateTimeOf (date_time_of t) (pos t)
+date_time_is : (t : ℕ) → t < year_10000 → IsDateTimeOf (date_time_of t) (pos t)
 unfolding date_time_of
 date_time_is t h =
     let secs = t / 1_000_000_000 in
@@ -113,7 +114,7 @@ date_time_is t h =
       clock_second s = omega arith
 
 -- the text that is found for such a moment is its printed one
-found_printed : (t k : ℕ) → k ≤ 9 → t < 253_402_300_800 * 1_000_000_000 → IsPrinted (pos t) k (fields_text (fields_at t k))
+found_printed : (t k : ℕ) → k ≤ 9 → t < year_10000 → IsPrinted (pos t) k (fields_text (fields_at t k))
 unfolding date_time_of
 found_printed t k small within = shown_printed (date_time_of t) (pos t) k small (date_time_is t within)
 
@@ -121,11 +122,11 @@ found_printed t k small within = shown_printed (date_time_of t) (pos t) k small 
 text_told : (t : ℤ) (k : ℕ) (text : List ℕ) → k ≤ 9 → moment_text t k ≡ Some text → IsPrintable t × IsPrinted t k text
 unfolding moment_text
 text_told (negsuc t) k text small h = absurd (none-some _ h)
-text_told (pos t) k text small h = by_test (nat_lt t (253_402_300_800 * 1_000_000_000)) refl h where
-  by_test : (b : Bool) → nat_lt t (253_402_300_800 * 1_000_000_000) ≡ b → (if b then Some (fields_text (fields_at t k)) else None) ≡ Some text
+text_told (pos t) k text small h = by_test (nat_lt t year_10000) refl h where
+  by_test : (b : Bool) → nat_lt t year_10000 ≡ b → (if b then Some (fields_text (fields_at t k)) else None) ≡ Some text
       → IsPrintable (pos t) × IsPrinted (pos t) k text
   by_test true e s =
-      let within : t < 253_402_300_800 * 1_000_000_000 = ltb-true _ _ e in
+      let within : t < year_10000 = ltb-true _ _ e in
       ((omega (arith, ints), omega (arith, ints)), subst (IsPrinted (pos t) k) (same_Some _ _ s) (found_printed t k small within))
   by_test false e s = absurd (none-some _ s)
 
@@ -133,8 +134,8 @@ text_from : (t : ℤ) (k : ℕ) (text : List ℕ) → k ≤ 9 → IsPrintable t 
 unfolding moment_text
 text_from (negsuc t) k text small h p = absurd (omega (arith, ints, h.0))
 text_from (pos t) k text small h p =
-    let within : t < 253_402_300_800 * 1_000_000_000 = omega (arith, ints, h.1) in
-    rw (lt-ltb t (253_402_300_800 * 1_000_000_000) within) (ap Some (one_text (pos t) k (fields_text (fields_at t k)) text small (found_printed t k small within) p))
+    let within : t < year_10000 = omega (arith, ints, h.1) in
+    rw (lt-ltb t year_10000 within) (ap Some (one_text (pos t) k (fields_text (fields_at t k)) text (found_printed t k small within) p))
 
 pub text_displayed : (t : ℤ) (k : ℕ) (text : List ℕ) → k ≤ 9 → (moment_text t k ≡ Some text) ↔ (IsPrintable t × IsPrinted t k text)
 text_displayed t k text small = (text_told t k text small, (λ p. text_from t k text small p.0 p.1))
@@ -149,11 +150,11 @@ printed_reads t k text p = grind (arith, common_steps)
 pub one_printed : (t : ℤ) (k : ℕ) → k ≤ 9 → IsPrintable t → OnePrinted t k
 one_printed (negsuc t) k small h = absurd (omega (arith, ints, h.0))
 one_printed (pos t) k small h =
-    let within : t < 253_402_300_800 * 1_000_000_000 = omega (arith, ints, h.1) in
+    let within : t < year_10000 = omega (arith, ints, h.1) in
     let printed = found_printed t k small within in
     record {
       text = fields_text (fields_at t k);
       printed = printed;
-      only = λ other p. one_text (pos t) k other (fields_text (fields_at t k)) small p printed;
+      only = λ other p. one_text (pos t) k other (fields_text (fields_at t k)) p printed;
       reads = printed_reads (pos t) k (fields_text (fields_at t k)) printed;
     }

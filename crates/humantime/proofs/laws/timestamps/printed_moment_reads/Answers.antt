@@ -10,3 +10,12 @@ returns-clause-displayed c = (theorem.printed_moment_reads (moment_kept c.args.x
 
 pub returns-clause-reads : goal.returns-clause-reads
 returns-clause-reads c = (theorem.printed_moment_reads (moment_kept c.args.x.now) (places_kept c.args.x.now) (theorem.places_kept_bound c.args.x.now)).reads
+
+pub returns-clause-strict : goal.returns-clause-strict
+returns-clause-strict c = (theorem.printed_moment_reads (moment_kept c.args.x.now) (places_kept c.args.x.now) (theorem.places_kept_bound c.args.x.now)).strict
+
+pub returns-clause-weak : goal.returns-clause-weak
+returns-clause-weak c = (theorem.printed_moment_reads (moment_kept c.args.x.now) (places_kept c.args.x.now) (theorem.places_kept_bound c.args.x.now)).weak
+
+pub returns-clause-whole : goal.returns-clause-whole
+returns-clause-whole c = theorem.cut_whole (moment_kept c.args.x.now)

@@ -1,0 +1,87 @@
+//! What follows from the law of days, and from what a date and its day are.
+
+ghost use Rattle.std.specs.Prelude.{◌≡◌, ◌≤◌, ◌∷◌, [], true, Some, None};
+ghost use Rattle.humantime.specs.declared.Date.{Date};
+ghost use Rattle.humantime.specs.Prelude.{IsDate};
+
+use humantime::laws::one_date;
+use humantime::{Date, Turns, date_of_day, day_number};
+
+/// Two dates that exist are equal exactly where their days are.
+pub fn dates_differ_by_day(a: Date, b: Date) -> bool
+    ensures { result ≡ true }
+{
+    let mut turns = Turns::new();
+    match (day_number(a, &mut turns), day_number(b, &mut turns)) {
+        (Some(day), Some(other)) => {
+            one_date(day);
+            (a == b) == (day == other)
+        }
+        _ => true,
+    }
+}
+
+/// The date of a date's day, which is that date.
+pub fn date_comes_back(date: Date) -> Option<Date>
+    ensures { IsDate date → result ≡ Some date }
+{
+    let mut turns = Turns::new();
+    let day = day_number(date, &mut turns)?;
+    one_date(day);
+    date_of_day(day, &mut turns)
+}
+
+/// The day of a day's date, which is that day.
+pub fn day_comes_back(day: u32) -> Option<u32>
+    ensures { day ≤ 2_932_896 → result ≡ Some day }
+{
+    let mut turns = Turns::new();
+    day_number(date_of_day(day, &mut turns)?, &mut turns)
+}
+
+/// A year of 1970 to 9999 has a 29 February exactly where it is a leap year.
+pub fn leap_day_is_of_leap_years(year: u32) -> bool
+    ensures { 1970 ≤ year → year ≤ 9999 → result ≡ true }
+{
+    let leap_day = Date {
+        year,
+        month: 2,
+        day: 29,
+    };
+    let is_leap_year = year % 4 == 0 && (year % 100 != 0 || year % 400 == 0);
+    day_number(leap_day, &mut Turns::new()).is_some() == is_leap_year
+}
+
+/// The days of the first leap day, of a 30 February and of the last date.
+#[tactic(auto, unfolding(humantime::specs::Calendar::days_of_years, humantime::specs::Calendar::days_of_months))]
+pub fn days_by_computation() -> [Option<u32>; 3]
+    ensures { result ≡ (Some 789 ∷ None ∷ Some 2_932_896 ∷ []) }
+{
+    let mut turns = Turns::new();
+    [
+        day_number(
+            Date {
+                year: 1972,
+                month: 2,
+                day: 29,
+            },
+            &mut turns,
+        ),
+        day_number(
+            Date {
+                year: 2000,
+                month: 2,
+                day: 30,
+            },
+            &mut turns,
+        ),
+        day_number(
+            Date {
+                year: 9999,
+                month: 12,
+                day: 31,
+            },
+            &mut turns,
+        ),
+    ]
+}

@@ -1,0 +1,162 @@
+//! What the laws of timestamps come to, and what moments and their texts are. `callers::timestamps` has two more.
+
+ghost use Rattle.std.specs.Prelude.{◌≡◌, ◌<◌, ◌↔◌, ◌<ℤ◌, ◌≤ℤ◌, ◌∷◌, [], ℕ, ℤ, pos, Ok, Some, true, length, unwrap_or, IsTrue, IfOk, IfSome, string_bytes};
+ghost use Rattle.std.specs.Ordering.{int_cmp};
+ghost use Rattle.humantime.specs.declared.TimestampError.{TimestampError};
+ghost use Rattle.humantime.specs.Prelude.{Fields, IsWeak, IsStrict, IsWeakMoment, IsStrictMoment, weak_answer, strict_answer, weak_checks, first_failed, IsPrintable, IsPrinted, IsTextOf, moment_kept, cut, nano_of};
+
+use humantime::laws::{one_stamp_outcome, printed_moment_reads, stamps_in_order, strict_is_weak};
+use humantime::{
+    Rfc3339Timestamp, StdDuration, SystemTime, Timestamp, TimestampError, format_rfc3339,
+    format_rfc3339_nanos, parse_rfc3339, parse_rfc3339_weak,
+};
+use std::alloc::{AllocError, Global};
+use std::cmp::Ordering;
+
+/// Whether a text in weak form is one in strict form, told by its `T` and its zone alone.
+pub fn is_marked(text: &str) -> bool
+    ensures parts { (f : Fields) → IsWeak text.now f → (IsTrue result ↔ IsStrict text.now f) }
+    ensures moment { (t : ℤ) → IsWeakMoment text.now t → (IsTrue result ↔ IsStrictMoment text.now t) }
+    ensures answer { (t : ℤ) → weak_answer text.now ≡ Ok t → (IsTrue result ↔ (strict_answer text.now ≡ Ok t)) }
+{
+    strict_is_weak(text);
+    let bytes = text.as_bytes();
+    bytes.len() > 10 && bytes[10] == b'T' && (bytes.ends_with(b"Z") || bytes.ends_with(b"+00:00"))
+}
+
+/// Whether two fractions that a text shows have equally many digits. They have.
+pub fn is_one_fraction(text: &str, digits: usize, other: usize) -> bool
+    ensures { (f : Fields) (g : Fields) → IsWeak text.now f → IsWeak text.now g → length (unwrap_or f.fraction []) ≡ digits → length (unwrap_or g.fraction []) ≡ other → result ≡ true }
+{
+    one_stamp_outcome(text);
+    digits == other
+}
+
+/// Whether a text that shows some parts fails no check. It fails none.
+pub fn fails_no_check(text: &str, error: Option<TimestampError>) -> bool
+    ensures { (f : Fields) → IsWeak text.now f → first_failed (weak_checks text.now) ≡ error → result ≡ true }
+{
+    one_stamp_outcome(text);
+    error.is_none()
+}
+
+/// Whether both parsers read a moment back that is printed with nine digits. They do.
+pub fn moment_comes_back(moment: SystemTime) -> bool
+    ensures { result ≡ true }
+{
+    let shown = format_rfc3339_nanos(moment);
+    printed_moment_reads(&shown);
+    match shown.text(&mut [0; 30]) {
+        Some(text) => match (parse_rfc3339(text), parse_rfc3339_weak(text)) {
+            (Ok(read), Ok(same)) => read == moment && same == moment,
+            _ => false,
+        },
+        None => true,
+    }
+}
+
+/// The text of a timestamp of 1970 to 9999, which is the one that was printed before.
+pub fn text_again<'b>(
+    shown: &Rfc3339Timestamp,
+    printed: &str,
+    buffer: &'b mut [u8; 30],
+) -> Option<&'b str>
+    ensures { IsPrintable (moment_kept shown.now) → IsTextOf shown.now printed.now → IfSome result (λ text. text.now ≡ printed.now) }
+{
+    printed_moment_reads(shown);
+    shown.text(buffer)
+}
+
+/// What `Display` writes of it, which is that text.
+pub fn string_again(
+    alloc: Global,
+    shown: &Rfc3339Timestamp,
+    printed: &str,
+) -> Result<String, AllocError>
+    ensures { IsPrintable (moment_kept shown.now) → IsTextOf shown.now printed.now → IfOk result (λ s. string_bytes s ≡ printed.now) }
+{
+    printed_moment_reads(shown);
+    format!(in alloc; "{}", *shown)
+}
+
+/// How two texts with equally many digits stand: as their moments do, cut.
+pub fn order_of_texts(text: &str, other: &str, a: SystemTime, b: SystemTime) -> Ordering
+    ensures { (k : ℕ) → IsPrinted a k text.now → IsPrinted b k other.now → result ≡ int_cmp (cut a k) (cut b k) }
+{
+    stamps_in_order(a, b);
+    text.cmp(other)
+}
+
+/// The errors of the weak checks, in their order, and of the strict one. Each text fails the later checks too, where it can.
+#[tactic(auto, unfolding(humantime::proofs::TimestampsOnLiterals::timestamps_on_literals))]
+pub fn first_errors() -> [Option<TimestampError>; 7]
+    ensures { result ≡ (Some TimestampError.InvalidFormat ∷ Some TimestampError.InvalidFormat ∷ Some TimestampError.InvalidDigit ∷ Some TimestampError.OutOfRange ∷ Some TimestampError.InvalidFormat ∷ Some TimestampError.InvalidDigit ∷ Some TimestampError.InvalidFormat ∷ []) }
+{
+    [
+        parse_rfc3339_weak("1969-1x-01 00:00:0").err(),
+        parse_rfc3339_weak("1969-1x-01_00:00:00").err(),
+        parse_rfc3339_weak("1969-1x-01 00:00:00").err(),
+        parse_rfc3339_weak("1970-13-01 00:00:00junk").err(),
+        parse_rfc3339_weak("1970-01-01T00:00:00ZabZ").err(),
+        parse_rfc3339_weak("1970-01-01T00:00:00.5+abcdZ").err(),
+        parse_rfc3339("1970-13-01 00:00:00junk").err(),
+    ]
+}
+
+/// Whether `parse` of a `Timestamp` answers as the weak parser. It does.
+pub fn is_parsed_weakly(text: &str) -> bool
+    ensures { result ≡ true }
+{
+    match (text.parse::<Timestamp>(), parse_rfc3339_weak(text)) {
+        (Ok(timestamp), Ok(moment)) => SystemTime::from(timestamp) == moment,
+        (Err(error), Err(same)) => error == same,
+        _ => false,
+    }
+}
+
+/// Whether a moment has a text: from 1970 to before 10000.
+pub fn has_text(moment: SystemTime) -> bool
+    ensures { IsTrue result ↔ ((pos 0 ≤ℤ moment) × (moment <ℤ pos 253_402_300_800_000_000_000)) }
+{
+    format_rfc3339(moment).text(&mut [0; 30]).is_some()
+}
+
+/// How many bytes the shortest text of a moment has: 20 for a whole second, else 30.
+#[tactic(auto, using(std::proofs::lemmas::Bool::Decides::nat_tests))]
+pub fn shortest_length(moment: SystemTime) -> Option<usize>
+    ensures whole { nano_of moment ≡ 0 → IfSome result (λ n. n ≡ 20) }
+    ensures nanos { 0 < nano_of moment → IfSome result (λ n. n ≡ 30) }
+{
+    Some(format_rfc3339(moment).text(&mut [0; 30])?.len())
+}
+
+/// The parts of the moment of two parts, which are these.
+pub fn parts_come_back(secs: i64, nanos: u32) -> Option<(i64, u32)>
+    ensures { nanos < 1_000_000_000 → result ≡ Some (secs, nanos) }
+{
+    let moment = SystemTime::from_parts(secs, nanos)?;
+    Some((moment.unix_seconds(), moment.subsec_nanos()))
+}
+
+/// The moment one nanosecond after the last one before 1970, which is the first of 1970.
+pub fn first_of_1970() -> Option<SystemTime>
+    ensures { result ≡ Some (pos 0) }
+{
+    SystemTime::from_parts(-1, 999_999_999)?.checked_add(StdDuration::new(0, 1))
+}
+
+/// Whether nothing is after the last moment, and nothing longer than the longest duration. Nothing is.
+pub fn greatest_have_no_next() -> bool
+    ensures { result ≡ true }
+{
+    let nano = StdDuration::new(0, 1);
+    match SystemTime::from_parts(i64::MAX, 999_999_998) {
+        Some(moment) => match moment.checked_add(nano) {
+            Some(last) => {
+                last.checked_add(nano).is_none() && StdDuration::MAX.checked_add(nano).is_none()
+            }
+            None => false,
+        },
+        None => false,
+    }
+}
