@@ -27,7 +27,8 @@ pub fn printed_duration_reads(d: StdDuration)
 /// 1m and 60s are not both canonical texts
 /// ```
 pub fn printed_durations_differ(a: StdDuration, b: StdDuration)
-    ensures { TextsTellApart a b }
+    ensures canon { TextsTellApart a b }
+    ensures text { (duration_text a ≡ duration_text b) ↔ (a ≡ b) }
 {}
 
 /// A canonical text has at most 64 bytes; its months are at most 11, its days at most 30.
@@ -51,6 +52,8 @@ pub fn canonical_again(s: &str)
     ensures some { HasCanonicalText s.now }
     ensures value { KeepsItsValue s.now }
     ensures again { KeepsItsText s.now }
+    ensures answer { (t : List ℕ) → canonical_answer (chars s.now) ≡ Ok t → canonical_answer (chars t) ≡ Ok t }
+    ensures reads { (v : ℕ) (t : List ℕ) → duration_answer (chars s.now) ≡ Ok v → canonical_answer (chars s.now) ≡ Ok t → duration_answer (chars t) ≡ Ok v }
     ensures text { (t : List ℕ) → (canonical_answer (chars s.now) ≡ Ok t) ↔ IsCanonicalOf s.now t }
     ensures fault { (e : Fault) → (canonical_answer (chars s.now) ≡ Err e) ↔ HasFault (chars s.now) e }
 {}

@@ -91,9 +91,15 @@ printed_duration_reads d fits =
 pub printed_is_canon : (d : ℕ) → Canon d (duration_text d)
 printed_is_canon = counts.text_is_canon
 
--- The canonical texts of two durations are equal exactly where these are.
-pub printed_durations_differ : (a b : ℕ) → a < duration_end → b < duration_end → TextsTellApart a b
-printed_durations_differ a b fits_a fits_b = back.texts_tell_apart a b (omega arith) (omega arith)
+-- The canonical texts of two durations are equal exactly where these are, and so are the texts that are printed.
+pub record PrintApart (a b : ℕ) : Type 0 where
+  pub canon : TextsTellApart a b
+  pub text : (duration_text a ≡ duration_text b) ↔ (a ≡ b)
+
+pub printed_durations_differ : (a b : ℕ) → a < duration_end → b < duration_end → PrintApart a b
+printed_durations_differ a b fits_a fits_b =
+    let apart : TextsTellApart a b = back.texts_tell_apart a b (omega arith) (omega arith) in
+    record { canon = apart; text = apart (duration_text a) (duration_text b) (counts.text_is_canon a) (counts.text_is_canon b) }
 
 -- The canonical text of d nanoseconds is short, and its months and days are few.
 pub record IsBounded (d : ℕ) : Type 0 where
@@ -109,14 +115,20 @@ pub record IsCanonicalAgain (s : List ℕ) : Type 0 where
   pub some : HasCanonicalText s
   pub value : KeepsItsValue s
   pub again : KeepsItsText s
+  pub answer : (t : List ℕ) → canonical_answer (chars s) ≡ Ok t → canonical_answer (chars t) ≡ Ok t
+  pub reads : (v : ℕ) (t : List ℕ) → duration_answer (chars s) ≡ Ok v → canonical_answer (chars s) ≡ Ok t → duration_answer (chars t) ≡ Ok v
   pub text : (t : List ℕ) → (canonical_answer (chars s) ≡ Ok t) ↔ IsCanonicalOf s t
   pub fault : (e : Fault) → (canonical_answer (chars s) ≡ Err e) ↔ HasFault (chars s) e
 
 pub canonical_again : (s : List ℕ) → IsCanonicalAgain s
-canonical_again s = record {
-  some = back.has_canonical_text s;
-  value = back.keeps_its_value s;
-  again = back.keeps_its_text s;
-  text = canonical.answer_is_canonical s (canonical_answer (chars s)) refl;
-  fault = canonical.answer_is_fault s (canonical_answer (chars s)) refl;
-}
+canonical_again s =
+    let text = canonical.answer_is_canonical s (canonical_answer (chars s)) refl in
+    record {
+      some = back.has_canonical_text s;
+      value = back.keeps_its_value s;
+      again = back.keeps_its_text s;
+      answer = λ t h. (canonical.answer_is_canonical t (canonical_answer (chars t)) refl t).1 ((back.keeps_its_text s t t ((text t).0 h)).1 refl);
+      reads = λ v t read h. outcomes.outcome_accepted (chars t) v (back.keeps_its_value s v t ((outcomes.answer_accepts (chars s) (duration_answer (chars s)) refl v).0 read) ((text t).0 h));
+      text = text;
+      fault = canonical.answer_is_fault s (canonical_answer (chars s)) refl;
+    }
