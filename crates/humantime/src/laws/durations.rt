@@ -3,7 +3,7 @@
 ghost use Rattle.std.specs.Prelude.{◌≡◌, ◌↔◌, ℕ, chars, Ok, Err};
 ghost use Rattle.humantime.specs.Durations.Accepted.{Accepted};
 ghost use Rattle.humantime.specs.Durations.Faults.{Fault, HasFault};
-ghost use Rattle.humantime.specs.Laws.Outcomes.{OneOutcome, OneReading, OneListOfItems, ItemsDecideValue, ItemsDecideFault, ItemsDecideOverflow};
+ghost use Rattle.humantime.specs.Laws.Outcomes.{OneOutcome, OneReading, OneListOfItems, ItemsDecideValue, ItemsDecideFault, FirstErrorIsAnswer, ItemsDecideOverflow};
 ghost use Rattle.humantime.specs.References.Durations.Answers.{duration_answer};
 
 /// A text has exactly one value or exactly one first fault, and at most one list of spans.
@@ -34,5 +34,6 @@ pub fn spans_decide(s: &str)
     ensures one { OneListOfItems (chars s.now) }
     ensures accepted { ItemsDecideValue (chars s.now) }
     ensures stopped { ItemsDecideFault (chars s.now) }
+    ensures first { FirstErrorIsAnswer (chars s.now) }
     ensures too_large { ItemsDecideOverflow (chars s.now) }
 {}

@@ -17,6 +17,7 @@ use crate::value::StdDuration;
 pub fn printed_duration_reads(d: StdDuration)
     ensures one { HasOneText d }
     ensures printed { Canon d (duration_text d) }
+    ensures only { (bytes : List ℕ) → Canon d bytes → bytes ≡ duration_text d }
     ensures reads { ReadsBack d }
     ensures answer { duration_answer (chars (duration_text d)) ≡ Ok d }
 {}

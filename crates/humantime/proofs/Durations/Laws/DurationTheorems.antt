@@ -7,7 +7,7 @@ use Rattle.humantime.specs.Durations.Errors.{told}
 use Rattle.humantime.specs.Durations.Accepted.{Accepted}
 use Rattle.humantime.specs.Durations.Faults.{Fault, HasFault}
 use Rattle.humantime.specs.References.Durations.FaultEqualityLemmas.{fault_eq, fault_eq-sound, fault_eq-same}
-use Rattle.humantime.specs.Laws.Outcomes.{OneOutcome, OneReading, OneListOfItems, ItemsDecideValue, ItemsDecideFault, ItemsDecideOverflow, OneListOfSlices}
+use Rattle.humantime.specs.Laws.Outcomes.{OneOutcome, OneReading, OneListOfItems, ItemsDecideValue, ItemsDecideFault, FirstErrorIsAnswer, ItemsDecideOverflow, OneListOfSlices, SameSlices}
 use Rattle.humantime.specs.Durations.Counts.{Canon, IsCanonicalOf}
 use Rattle.humantime.specs.References.Durations.Printing.{duration_text}
 use Rattle.humantime.specs.Laws.Printed.{HasOneText, ReadsBack, TextsTellApart, HasShortText, HasSmallCounts, HasCanonicalText, KeepsItsValue, KeepsItsText}
@@ -45,6 +45,7 @@ pub record ItemsDecide (text : List ℕ) : Type 0 where
   pub one : OneListOfItems text
   pub accepted : ItemsDecideValue text
   pub stopped : ItemsDecideFault text
+  pub first : FirstErrorIsAnswer text
   pub too_large : ItemsDecideOverflow text
 
 pub spans_decide : (text : List ℕ) → ItemsDecide text
@@ -52,12 +53,17 @@ spans_decide text = record {
   one = outcomes.one_list_of_items text;
   accepted = outcomes.items_decide_value text;
   stopped = outcomes.items_decide_fault text;
+  first = lent.first_error_answers text;
   too_large = outcomes.items_decide_overflow text;
 }
 
--- A text of these characters lends one list of slices.
-pub spans_tile : (text : List ℕ) → OneListOfSlices text
-spans_tile text = lent.one_list_of_slices text
+-- A text of these characters lends one list of slices, and no other.
+pub record LendsOneList (text : List ℕ) : Type 0 where
+  pub one : OneListOfSlices text
+  pub same : SameSlices text
+
+pub spans_tile : (text : List ℕ) → LendsOneList text
+spans_tile text = record { one = lent.one_list_of_slices text; same = lent.same_slices text }
 
 -- What is told as a value was answered as that value.
 pub told_value : (r : Result ℕ DurationError) (v : ℕ) → told r ≡ Ok v → r ≡ Ok v
@@ -73,6 +79,7 @@ errors_equal e f = (fault_eq-sound e f, fault_eq-same e f)
 pub record PrintsAndReads (d : ℕ) : Type 0 where
   pub one : HasOneText d
   pub printed : Canon d (duration_text d)
+  pub only : (bytes : List ℕ) → Canon d bytes → bytes ≡ duration_text d
   pub reads : ReadsBack d
   pub answer : duration_answer (chars (duration_text d)) ≡ Ok d
 
@@ -83,6 +90,7 @@ printed_duration_reads d fits =
     record {
       one = back.one_text d;
       printed = canon;
+      only = counts.canon_is_text d;
       reads = reads;
       answer = outcomes.outcome_accepted (chars (duration_text d)) d (reads (duration_text d) canon);
     }
