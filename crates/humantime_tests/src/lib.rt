@@ -3,6 +3,7 @@
 #![tactic(auto)]
 
 pub mod callers;
+pub mod law_callers;
 #[cfg(test)]
 mod tests;
 pub mod witnesses;
