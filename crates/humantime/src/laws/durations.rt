@@ -25,7 +25,8 @@ pub fn one_outcome(s: &str)
 /// The items of a text decide its value or its fault, unless the text is exactly `0`.
 ///
 /// A text whose spans are within the limits stands for their sum, or has the fault that stops
-/// them. A text whose spans break a limit is too large, whatever stops them.
+/// them. A text whose spans break a limit is too large, whatever stops them. So an error that is the first item is
+/// the text's first fault.
 ///
 /// ```text
 /// 18446744073710ms x is too large, though a number is expected at 17

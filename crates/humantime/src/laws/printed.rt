@@ -25,7 +25,7 @@ pub fn printed_duration_reads(d: StdDuration)
 /// Two durations have equal canonical texts exactly where they are equal.
 ///
 /// ```text
-/// 1m and 60s are not both canonical texts
+/// 60 seconds are printed as 1m, and no other duration is
 /// ```
 pub fn printed_durations_differ(a: StdDuration, b: StdDuration)
     ensures canon { TextsTellApart a b }

@@ -6,7 +6,7 @@ ghost use Rattle.humantime.specs.Laws.Older.{AcceptedWithZeros, IsStillAccepted}
 ghost use Rattle.humantime.specs.Laws.Texts.{without_white_space, NeedsNoWhiteSpace, IsZeroOrSpans, JoinedHaveSum, JoinedOverflow, JoinedHaveSumOrOverflow, JoinedAnswerSumOrOverflow, ReorderedHaveOneValue, ReorderedAnswerOneValue, HasNoSpans};
 ghost use Rattle.humantime.specs.References.Durations.Answers.{duration_answer};
 
-/// An accepted text without its white space is accepted with the same value.
+/// An accepted text without its white space is accepted with the same value, so both have one answer.
 ///
 /// ```text
 /// 1 2 h 3 0 min and 12h30min are both 45000 seconds

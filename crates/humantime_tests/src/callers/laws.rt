@@ -3,10 +3,8 @@
 ghost use Rattle.std.specs.Prelude.{◌≡◌, ◌↔◌, chars, true, IsTrue};
 ghost use Rattle.humantime.specs.Prelude.{without_white_space};
 
-use humantime::laws::{
-    canonical_again, printed_duration_reads, printed_durations_differ, without_ws,
-};
-use humantime::{StdDuration, canonical, format_duration, parse_duration};
+use humantime::laws::{printed_duration_reads, printed_durations_differ, without_ws};
+use humantime::{StdDuration, format_duration, parse_duration};
 
 /// Writes a duration into a file and reads it again: it is the same.
 pub fn comes_back(duration: StdDuration) -> bool
@@ -36,20 +34,5 @@ pub fn needs_no_space(text: &str, squeezed: &str) -> bool
         (Ok(read), Ok(same)) => read == same,
         (Ok(_), Err(_)) => false,
         (Err(_), _) => true,
-    }
-}
-
-/// Whether the canonical text of a text is its own canonical text, of the same duration: it is.
-pub fn is_settled(text: &str) -> bool
-    ensures { result ≡ true }
-{
-    canonical_again(text);
-    let (mut buffer, mut other) = ([0; 64], [0; 64]);
-    match canonical(text, &mut buffer) {
-        Ok(shown) => match canonical(shown, &mut other) {
-            Ok(again) => again == shown,
-            Err(_) => false,
-        },
-        Err(_) => true,
     }
 }

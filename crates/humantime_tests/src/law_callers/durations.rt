@@ -5,20 +5,29 @@ ghost use Rattle.humantime.specs.Prelude.{Accepted, AcceptedWithZeros, AllHaveRo
 
 use crate::callers::durations::limit_seconds;
 use humantime::laws::{
-    joined, one_outcome, printed_bounds, printed_duration_reads, reordered, spans_decide,
-    spans_tile, still_accepted,
+    canonical_again, joined, one_outcome, printed_bounds, printed_duration_reads, reordered,
+    spans_decide, spans_tile, still_accepted,
 };
-use humantime::{DurationError, StdDuration, format_duration, parse_duration, spans};
+use humantime::{DurationError, StdDuration, canonical, format_duration, parse_duration, spans};
 
 type Item<'a> = Option<Result<humantime::Span<'a>, DurationError<'a>>>;
 
-/// The duration that a text spells, or its first fault: the value that it is accepted with, or the fault that it has.
+/// The whole seconds of the value that a text is accepted with, or the first fault that it has.
 pub fn whole_seconds(text: &str) -> Result<u64, DurationError<'_>>
     ensures value { (v : ℕ) → Accepted (chars text.now) v → told result ≡ Ok (v / nanos_per_second) }
     ensures fault { (e : Fault) → HasFault (chars text.now) e → told result ≡ Err e }
 {
     one_outcome(text);
     limit_seconds(text)
+}
+
+/// What a text is. It is never both a duration and a fault, and its spans stop in one way.
+pub fn outcome(text: &str) -> Result<StdDuration, DurationError<'_>>
+    ensures either { (v : ℕ) (e : Fault) → Accepted (chars text.now) v → ¬ (HasFault (chars text.now) e) }
+    ensures stop { (ss : List Span) (ts : List Span) (o : Option Fault) (p : Option Fault) → Items (chars text.now) ss o → Items (chars text.now) ts p → (ss ≡ ts) × (o ≡ p) }
+{
+    one_outcome(text);
+    parse_duration(text)
 }
 
 /// Whether two counts of the spans of one text are equal: they are.
@@ -71,6 +80,36 @@ pub fn reads_back(text: &str, duration: StdDuration) -> bool
     match parse_duration(text) {
         Ok(read) => read == duration,
         Err(_) => false,
+    }
+}
+
+/// Whether the canonical text of a text is its own canonical text: it is.
+pub fn is_settled(text: &str) -> bool
+    ensures { result ≡ true }
+{
+    canonical_again(text);
+    let (mut buffer, mut other) = ([0; 64], [0; 64]);
+    match canonical(text, &mut buffer) {
+        Ok(shown) => match canonical(shown, &mut other) {
+            Ok(again) => again == shown,
+            Err(_) => false,
+        },
+        Err(_) => true,
+    }
+}
+
+/// Whether the canonical text of a text is read as the text is: it is.
+pub fn keeps_its_value(text: &str) -> bool
+    ensures { result ≡ true }
+{
+    canonical_again(text);
+    let mut buffer = [0; 64];
+    match (parse_duration(text), canonical(text, &mut buffer)) {
+        (Ok(read), Ok(shown)) => match parse_duration(shown) {
+            Ok(same) => same == read,
+            Err(_) => false,
+        },
+        _ => true,
     }
 }
 

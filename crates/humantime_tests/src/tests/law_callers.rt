@@ -1,9 +1,10 @@
 //! The callers of laws, run.
 
-use crate::callers::laws::{comes_back, is_settled, looks_same, needs_no_space};
+use crate::callers::laws::{comes_back, looks_same, needs_no_space};
 use crate::law_callers::durations::{
     adds_up, are_small, canonical_text, decided, first_item_and_answer, first_items, is_one_count,
-    is_short, read_alike, read_as_before, reads_back, sum_of, whole_seconds,
+    is_settled, is_short, keeps_its_value, read_alike, read_as_before, reads_back, sum_of,
+    whole_seconds,
 };
 use crate::law_callers::errors::{message, place, points_into, second_points_into};
 use crate::tests::support::assert_same;
@@ -40,7 +41,7 @@ fn callers_of_laws_of_durations_answer(rt: HostRuntime) {
             (comes_back(duration), is_short(duration)),
             (true, true),
         );
-        assert_same(&rt, is_settled(text), true);
+        assert_same(&rt, (is_settled(text), keeps_its_value(text)), (true, true));
         assert_same(&rt, looks_same(duration, StdDuration::from_secs(1)), false);
     }
     for (text, at, shown) in REFUSED {
