@@ -1,4 +1,5 @@
 //! Callers that are proved: what CALLING.md shows.
 
 pub mod durations;
+pub mod laws;
 pub mod timestamps;

@@ -2,6 +2,7 @@
 
 mod bounds;
 mod callers;
+mod law_callers;
 mod programs;
 mod std_durations;
 mod support;

@@ -1,11 +1,12 @@
 -- What a text is: one value or one fault, one list of spans, one list of items, one list of slices; and what its items
 -- decide. A text is its list of characters.
-use Rattle.std.specs.Prelude.{◌≡◌, ◌≢◌, ◌↔◌, ◌⊎◌, ℕ, List, Option, Some, None, Result}
+use Rattle.std.specs.Prelude.{◌≡◌, ◌≢◌, ◌↔◌, ◌⊎◌, ℕ, List, ◌∷◌, Option, Some, None, Result, Ok, Err}
 use Rattle.humantime.specs.Durations.Spans.{Span, Reads}
 use Rattle.humantime.specs.Durations.Accepted.{value, WithinLimits, Accepted}
 use Rattle.humantime.specs.Durations.Faults.{Fault, NumberOverflow, HasFault}
 use Rattle.humantime.specs.Durations.Items.{Items, Lent, AreItems}
 use Rattle.humantime.specs.Durations.Characters.{bare_zero}
+use Rattle.humantime.specs.References.Durations.Answers.{duration_answer}
 
 -- the text has this value or fault, and no other
 abbrev pub OnlyValue : List ℕ → ℕ → Type 0
@@ -32,6 +33,10 @@ abbrev pub OneListOfSlices : List ℕ → Type 0
 OneListOfSlices text = (lent : List (Result Lent Fault)) × AreItems text lent
     × ((others : List (Result Lent Fault)) → AreItems text others → others ≡ lent)
 
+-- two lists of items of the text, with what they lend, are one
+abbrev pub SameSlices : List ℕ → Type 0
+SameSlices text = (lent others : List (Result Lent Fault)) → AreItems text lent → AreItems text others → others ≡ lent
+
 -- the items of a text that isn't exactly `0` decide its value: it is accepted exactly where nothing stops the spans and they
 -- are within the limits, with their sum
 abbrev pub ItemsDecideValue : List ℕ → Type 0
@@ -42,6 +47,11 @@ ItemsDecideValue text = (spans : List Span) (stop : Option Fault) → Items text
 abbrev pub ItemsDecideFault : List ℕ → Type 0
 ItemsDecideFault text =
     (spans : List Span) (e : Fault) → Items text spans (Some e) → text ≢ bare_zero → WithinLimits spans → HasFault text e
+
+-- so where an error is the first item, it is the answer
+abbrev pub FirstErrorIsAnswer : List ℕ → Type 0
+FirstErrorIsAnswer text = (lent others : List (Result Lent Fault)) (e : Fault) → AreItems text lent → lent ≡ Err e ∷ others
+    → text ≢ bare_zero → duration_answer text ≡ Err e
 
 -- and its fault where they aren't, whatever stops them
 abbrev pub ItemsDecideOverflow : List ℕ → Type 0

@@ -1,10 +1,11 @@
 -- Laws of accepted texts: without their white space, one behind the other, and with their spans in another order. A text
 -- is its list of characters.
-use Rattle.std.specs.Prelude.{◌≡◌, ◌≢◌, ◌↔◌, ◌⊎◌, ℕ, ◌+◌, List, ◌++◌, filter, not, IsPermutation}
+use Rattle.std.specs.Prelude.{◌≡◌, ◌≢◌, ◌↔◌, ◌⊎◌, ℕ, ◌+◌, List, ◌++◌, Ok, Err, filter, not, IsPermutation}
 use Rattle.humantime.specs.Durations.Characters.{is_ws, bare_zero}
 use Rattle.humantime.specs.Durations.Spans.{Span, Reads}
 use Rattle.humantime.specs.Durations.Accepted.{additions, AllHaveRoom, Accepted}
 use Rattle.humantime.specs.Durations.Faults.{NumberOverflow, HasFault}
+use Rattle.humantime.specs.References.Durations.Answers.{duration_answer}
 
 -- the text without its white space
 abbrev pub without_white_space : List ℕ → List ℕ
@@ -37,10 +38,20 @@ abbrev pub JoinedHaveSumOrOverflow : List ℕ → List ℕ → Type 0
 JoinedHaveSumOrOverflow a b = (u v : ℕ) → Accepted a u → Accepted b v → a ≢ bare_zero → b ≢ bare_zero
     → Accepted (a ++ b) (u + v) ⊎ HasFault (a ++ b) NumberOverflow
 
+-- the same of what is answered
+abbrev pub JoinedAnswerSumOrOverflow : List ℕ → List ℕ → Type 0
+JoinedAnswerSumOrOverflow a b = (u v : ℕ) → duration_answer a ≡ Ok u → duration_answer b ≡ Ok v → a ≢ bare_zero → b ≢ bare_zero
+    → (duration_answer (a ++ b) ≡ Ok (u + v)) ⊎ (duration_answer (a ++ b) ≡ Err NumberOverflow)
+
 -- accepted texts whose spans are reorderings of each other have equal values
 abbrev pub ReorderedHaveOneValue : List ℕ → List ℕ → Type 0
 ReorderedHaveOneValue a b = (ss ts : List Span) (u v : ℕ) → Reads a ss → Reads b ts → IsPermutation ss ts
     → Accepted a u → Accepted b v → u ≡ v
+
+-- the same of what is answered
+abbrev pub ReorderedAnswerOneValue : List ℕ → List ℕ → Type 0
+ReorderedAnswerOneValue a b = (ss ts : List Span) (u v : ℕ) → Reads a ss → Reads b ts → IsPermutation ss ts
+    → duration_answer a ≡ Ok u → duration_answer b ≡ Ok v → u ≡ v
 
 -- the text is no spans
 abbrev pub HasNoSpans : List ℕ → Type 0

@@ -3,7 +3,7 @@
 ghost use Rattle.std.specs.Prelude.{◌≡◌, ◌↔◌, ℕ, chars, Ok, Err};
 ghost use Rattle.humantime.specs.Durations.Accepted.{Accepted};
 ghost use Rattle.humantime.specs.Durations.Faults.{Fault, HasFault};
-ghost use Rattle.humantime.specs.Laws.Outcomes.{OneOutcome, OneReading, OneListOfItems, ItemsDecideValue, ItemsDecideFault, ItemsDecideOverflow};
+ghost use Rattle.humantime.specs.Laws.Outcomes.{OneOutcome, OneReading, OneListOfItems, ItemsDecideValue, ItemsDecideFault, FirstErrorIsAnswer, ItemsDecideOverflow};
 ghost use Rattle.humantime.specs.References.Durations.Answers.{duration_answer};
 
 /// A text has exactly one value or exactly one first fault, and at most one list of spans.
@@ -25,7 +25,8 @@ pub fn one_outcome(s: &str)
 /// The items of a text decide its value or its fault, unless the text is exactly `0`.
 ///
 /// A text whose spans are within the limits stands for their sum, or has the fault that stops
-/// them. A text whose spans break a limit is too large, whatever stops them.
+/// them. A text whose spans break a limit is too large, whatever stops them. So an error that is the first item is
+/// the text's first fault.
 ///
 /// ```text
 /// 18446744073710ms x is too large, though a number is expected at 17
@@ -34,5 +35,6 @@ pub fn spans_decide(s: &str)
     ensures one { OneListOfItems (chars s.now) }
     ensures accepted { ItemsDecideValue (chars s.now) }
     ensures stopped { ItemsDecideFault (chars s.now) }
+    ensures first { FirstErrorIsAnswer (chars s.now) }
     ensures too_large { ItemsDecideOverflow (chars s.now) }
 {}

@@ -17,6 +17,7 @@ use crate::value::StdDuration;
 pub fn printed_duration_reads(d: StdDuration)
     ensures one { HasOneText d }
     ensures printed { Canon d (duration_text d) }
+    ensures only { (bytes : List ℕ) → Canon d bytes → bytes ≡ duration_text d }
     ensures reads { ReadsBack d }
     ensures answer { duration_answer (chars (duration_text d)) ≡ Ok d }
 {}
@@ -24,10 +25,11 @@ pub fn printed_duration_reads(d: StdDuration)
 /// Two durations have equal canonical texts exactly where they are equal.
 ///
 /// ```text
-/// 1m and 60s are not both canonical texts
+/// 60 seconds are printed as 1m, and no other duration is
 /// ```
 pub fn printed_durations_differ(a: StdDuration, b: StdDuration)
-    ensures { TextsTellApart a b }
+    ensures canon { TextsTellApart a b }
+    ensures text { (duration_text a ≡ duration_text b) ↔ (a ≡ b) }
 {}
 
 /// A canonical text has at most 64 bytes; its months are at most 11, its days at most 30.
@@ -51,6 +53,8 @@ pub fn canonical_again(s: &str)
     ensures some { HasCanonicalText s.now }
     ensures value { KeepsItsValue s.now }
     ensures again { KeepsItsText s.now }
+    ensures answer { (t : List ℕ) → canonical_answer (chars s.now) ≡ Ok t → canonical_answer (chars t) ≡ Ok t }
+    ensures reads { (v : ℕ) (t : List ℕ) → duration_answer (chars s.now) ≡ Ok v → canonical_answer (chars s.now) ≡ Ok t → duration_answer (chars t) ≡ Ok v }
     ensures text { (t : List ℕ) → (canonical_answer (chars s.now) ≡ Ok t) ↔ IsCanonicalOf s.now t }
     ensures fault { (e : Fault) → (canonical_answer (chars s.now) ≡ Err e) ↔ HasFault (chars s.now) e }
 {}

@@ -1,17 +1,19 @@
 //! Laws of accepted texts: without white space, one behind the other, in another order, and accepted before.
 
-ghost use Rattle.std.specs.Prelude.{◌≡◌, ◌++◌, chars, codes};
+ghost use Rattle.std.specs.Prelude.{◌≡◌, ◌++◌, ℕ, chars, Ok};
 ghost use Rattle.humantime.specs.Durations.Characters.{bare_zero};
-ghost use Rattle.humantime.specs.Laws.Older.{IsStillAccepted};
-ghost use Rattle.humantime.specs.Laws.Texts.{NeedsNoWhiteSpace, IsZeroOrSpans, JoinedHaveSum, JoinedOverflow, JoinedHaveSumOrOverflow, ReorderedHaveOneValue, HasNoSpans};
+ghost use Rattle.humantime.specs.Laws.Older.{AcceptedWithZeros, IsStillAccepted};
+ghost use Rattle.humantime.specs.Laws.Texts.{without_white_space, NeedsNoWhiteSpace, IsZeroOrSpans, JoinedHaveSum, JoinedOverflow, JoinedHaveSumOrOverflow, JoinedAnswerSumOrOverflow, ReorderedHaveOneValue, ReorderedAnswerOneValue, HasNoSpans};
+ghost use Rattle.humantime.specs.References.Durations.Answers.{duration_answer};
 
-/// An accepted text without its white space is accepted with the same value.
+/// An accepted text without its white space is accepted with the same value, so both have one answer.
 ///
 /// ```text
 /// 1 2 h 3 0 min and 12h30min are both 45000 seconds
 /// ```
 pub fn without_ws(s: &str)
-    ensures { NeedsNoWhiteSpace (chars s.now) }
+    ensures value { NeedsNoWhiteSpace (chars s.now) }
+    ensures answer { (v : ℕ) → duration_answer (chars s.now) ≡ Ok v → duration_answer (without_white_space (chars s.now)) ≡ Ok v }
 {}
 
 /// Of two accepted texts, neither exactly `0`, the one behind the other is accepted with the sum of
@@ -30,6 +32,7 @@ pub fn joined(a: &str, b: &str)
     ensures sum { JoinedHaveSum (chars a.now) (chars b.now) }
     ensures overflow { JoinedOverflow (chars a.now) (chars b.now) }
     ensures one { JoinedHaveSumOrOverflow (chars a.now) (chars b.now) }
+    ensures answer { JoinedAnswerSumOrOverflow (chars a.now) (chars b.now) }
     ensures text { chars (a.now ++ b.now) ≡ chars a.now ++ chars b.now }
 {}
 
@@ -44,6 +47,7 @@ pub fn joined(a: &str, b: &str)
 /// ```
 pub fn reordered(a: &str, b: &str)
     ensures value { ReorderedHaveOneValue (chars a.now) (chars b.now) }
+    ensures answer { ReorderedAnswerOneValue (chars a.now) (chars b.now) }
     ensures zero { HasNoSpans bare_zero }
 {}
 
@@ -56,5 +60,6 @@ pub fn reordered(a: &str, b: &str)
 /// 1.5000000000s was 1.5 seconds and is; 1.50000000000s was too large and is 1.5 seconds
 /// ```
 pub fn still_accepted(s: &str)
-    ensures { IsStillAccepted (chars s.now) }
+    ensures value { IsStillAccepted (chars s.now) }
+    ensures answer { (v : ℕ) → AcceptedWithZeros (chars s.now) v → duration_answer (chars s.now) ≡ Ok v }
 {}

@@ -1,10 +1,9 @@
 //! Limits, ends and places of errors: callers of what reads and prints durations.
 
-ghost use Rattle.std.specs.Prelude.{◌≡◌, ◌+◌, ◌*◌, ◌/◌, ◌<◌, ◌≤◌, ◌↔◌, ℕ, chars, length, true, IfSome, IsSome, IsOkAnd, IsErrAnd, IsTrue, Ok, Err, Some};
+ghost use Rattle.std.specs.Prelude.{◌≡◌, ◌+◌, ◌*◌, ◌/◌, ◌<◌, ◌≤◌, ◌↔◌, ℕ, chars, length, IfSome, IsSome, IsOkAnd, IsErrAnd, IsTrue, Ok, Err, Some};
 ghost use Rattle.std.specs.Result.{result_map_both};
 ghost use Rattle.humantime.specs.Prelude.{Canon, Fault, duration_answer, duration_end, told, fault_of, nanos_per_second};
 
-use humantime::laws::printed_duration_reads;
 use humantime::{DurationError, StdDuration, format_duration, parse_duration};
 
 /// The whole seconds of a time limit in a settings file, or the first fault of its text.
@@ -66,17 +65,6 @@ pub fn shown_seconds<'b>(secs: u64, buffer: &'b mut [u8; 64]) -> &'b str
     ensures { Canon (secs * nanos_per_second) result.now }
 {
     format_duration(StdDuration::from_secs(secs)).text(buffer)
-}
-
-/// Writes a duration into a file and reads it again: it is the same.
-pub fn comes_back(duration: StdDuration) -> bool
-    ensures { result ≡ true }
-{
-    printed_duration_reads(duration);
-    match parse_duration(format_duration(duration).text(&mut [0; 64])) {
-        Ok(read) => read == duration,
-        Err(_) => false,
-    }
 }
 
 /// The limit that holds where a file names none.

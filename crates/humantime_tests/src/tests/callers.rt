@@ -1,9 +1,10 @@
 //! The callers of CALLING.md, run.
 
 use crate::callers::durations::{
-    comes_back, default_limit, end_of, is_same_error, is_within, limit_seconds, place_in_line,
-    shown_seconds, underlined,
+    default_limit, end_of, is_same_error, is_within, limit_seconds, place_in_line, shown_seconds,
+    underlined,
 };
+use crate::callers::laws::comes_back;
 use crate::callers::timestamps::{
     default_start, is_earlier, is_same_moment, is_since, later_than, stamp_of, stamp_string,
 };

@@ -9,7 +9,7 @@ use Rattle.humantime.specs.Durations.Accepted.{Accepted}
 use Rattle.humantime.specs.Durations.Faults.{Fault, HasFault}
 use Rattle.humantime.specs.References.Durations.UnitMessages.{message_of_unit}
 use Rattle.humantime.specs.References.Durations.FaultEqualityLemmas.{fault_eq, fault_eq-sound, fault_eq-same}
-use Rattle.humantime.specs.Laws.Outcomes.{OneOutcome, OneReading, OneListOfItems, ItemsDecideValue, ItemsDecideFault, ItemsDecideOverflow, OneListOfSlices}
+use Rattle.humantime.specs.Laws.Outcomes.{OneOutcome, OneReading, OneListOfItems, ItemsDecideValue, ItemsDecideFault, FirstErrorIsAnswer, ItemsDecideOverflow, OneListOfSlices, SameSlices}
 use Rattle.humantime.specs.Durations.Counts.{Canon, IsCanonicalOf}
 use Rattle.humantime.specs.References.Durations.Printing.{duration_text}
 use Rattle.humantime.specs.Laws.Printed.{HasOneText, ReadsBack, TextsTellApart, HasShortText, HasSmallCounts, HasCanonicalText, KeepsItsValue, KeepsItsText}
@@ -48,6 +48,7 @@ pub record ItemsDecide (text : List ℕ) : Type 0 where
   pub one : OneListOfItems text
   pub accepted : ItemsDecideValue text
   pub stopped : ItemsDecideFault text
+  pub first : FirstErrorIsAnswer text
   pub too_large : ItemsDecideOverflow text
 
 pub spans_decide : (text : List ℕ) → ItemsDecide text
@@ -55,12 +56,17 @@ spans_decide text = record {
   one = outcomes.one_list_of_items text;
   accepted = outcomes.items_decide_value text;
   stopped = outcomes.items_decide_fault text;
+  first = lent.first_error_answers text;
   too_large = outcomes.items_decide_overflow text;
 }
 
--- A text of these characters lends one list of slices.
-pub spans_tile : (text : List ℕ) → OneListOfSlices text
-spans_tile text = lent.one_list_of_slices text
+-- A text of these characters lends one list of slices, and no other.
+pub record LendsOneList (text : List ℕ) : Type 0 where
+  pub one : OneListOfSlices text
+  pub same : SameSlices text
+
+pub spans_tile : (text : List ℕ) → LendsOneList text
+spans_tile text = record { one = lent.one_list_of_slices text; same = lent.same_slices text }
 
 -- What is told as a value was answered as that value.
 pub told_value : (r : Result ℕ DurationError) (v : ℕ) → told r ≡ Ok v → r ≡ Ok v
@@ -80,6 +86,7 @@ unit_said = messages.unit_said
 pub record PrintsAndReads (d : ℕ) : Type 0 where
   pub one : HasOneText d
   pub printed : Canon d (duration_text d)
+  pub only : (bytes : List ℕ) → Canon d bytes → bytes ≡ duration_text d
   pub reads : ReadsBack d
   pub answer : duration_answer (chars (duration_text d)) ≡ Ok d
 
@@ -90,6 +97,7 @@ printed_duration_reads d fits =
     record {
       one = back.one_text d;
       printed = canon;
+      only = counts.canon_is_text d;
       reads = reads;
       answer = outcomes.outcome_accepted (chars (duration_text d)) d (reads (duration_text d) canon);
     }
@@ -98,9 +106,15 @@ printed_duration_reads d fits =
 pub printed_is_canon : (d : ℕ) → Canon d (duration_text d)
 printed_is_canon = counts.text_is_canon
 
--- The canonical texts of two durations are equal exactly where these are.
-pub printed_durations_differ : (a b : ℕ) → a < duration_end → b < duration_end → TextsTellApart a b
-printed_durations_differ a b fits_a fits_b = back.texts_tell_apart a b (omega arith) (omega arith)
+-- The canonical texts of two durations are equal exactly where these are, and so are the texts that are printed.
+pub record PrintApart (a b : ℕ) : Type 0 where
+  pub canon : TextsTellApart a b
+  pub text : (duration_text a ≡ duration_text b) ↔ (a ≡ b)
+
+pub printed_durations_differ : (a b : ℕ) → a < duration_end → b < duration_end → PrintApart a b
+printed_durations_differ a b fits_a fits_b =
+    let apart : TextsTellApart a b = back.texts_tell_apart a b (omega arith) (omega arith) in
+    record { canon = apart; text = apart (duration_text a) (duration_text b) (counts.text_is_canon a) (counts.text_is_canon b) }
 
 -- The canonical text of d nanoseconds is short, and its months and days are few.
 pub record IsBounded (d : ℕ) : Type 0 where
@@ -116,14 +130,20 @@ pub record IsCanonicalAgain (s : List ℕ) : Type 0 where
   pub some : HasCanonicalText s
   pub value : KeepsItsValue s
   pub again : KeepsItsText s
+  pub answer : (t : List ℕ) → canonical_answer (chars s) ≡ Ok t → canonical_answer (chars t) ≡ Ok t
+  pub reads : (v : ℕ) (t : List ℕ) → duration_answer (chars s) ≡ Ok v → canonical_answer (chars s) ≡ Ok t → duration_answer (chars t) ≡ Ok v
   pub text : (t : List ℕ) → (canonical_answer (chars s) ≡ Ok t) ↔ IsCanonicalOf s t
   pub fault : (e : Fault) → (canonical_answer (chars s) ≡ Err e) ↔ HasFault (chars s) e
 
 pub canonical_again : (s : List ℕ) → IsCanonicalAgain s
-canonical_again s = record {
-  some = back.has_canonical_text s;
-  value = back.keeps_its_value s;
-  again = back.keeps_its_text s;
-  text = canonical.answer_is_canonical s (canonical_answer (chars s)) refl;
-  fault = canonical.answer_is_fault s (canonical_answer (chars s)) refl;
-}
+canonical_again s =
+    let text = canonical.answer_is_canonical s (canonical_answer (chars s)) refl in
+    record {
+      some = back.has_canonical_text s;
+      value = back.keeps_its_value s;
+      again = back.keeps_its_text s;
+      answer = λ t h. (canonical.answer_is_canonical t (canonical_answer (chars t)) refl t).1 ((back.keeps_its_text s t t ((text t).0 h)).1 refl);
+      reads = λ v t read h. outcomes.outcome_accepted (chars t) v (back.keeps_its_value s v t ((outcomes.answer_accepts (chars s) (duration_answer (chars s)) refl v).0 read) ((text t).0 h));
+      text = text;
+      fault = canonical.answer_is_fault s (canonical_answer (chars s)) refl;
+    }

@@ -1,6 +1,6 @@
 -- What became of the texts that were accepted before.
 use Rattle.std.proofs.lemmas.Grind.{common_steps}
-use Rattle.std.proofs.Common.{◌≡◌, ℕ, ◌≤◌, Bool, true, false, List, [], ◌∷◌, ◌++◌, length, Option, refl, sym, ap, ap₂, ◌∙◌, subst, arith}
+use Rattle.std.proofs.Common.{◌≡◌, ℕ, ◌≤◌, Bool, true, false, List, [], ◌∷◌, ◌++◌, length, Option, Ok, refl, sym, ap, ap₂, ◌∙◌, subst, arith}
 use Rattle.std.specs.Prelude.{◌==◌, not}
 use Rattle.std.specs.List.{AllByRecursion}
 use Rattle.std.specs.Option.{IfSome}
@@ -11,6 +11,8 @@ use Rattle.humantime.specs.Durations.Units.{Scale, scale_of_word}
 use Rattle.humantime.specs.Durations.Spans.{Span, Only, Spells, SpellsEach}
 use Rattle.humantime.specs.Durations.Accepted.{fraction_additions, additions_at, additions, total, Formed, FitsFraction, Fits, Accepted, Bare_zero, Sum_of}
 use Rattle.humantime.specs.Laws.Older.{is_older_letter, older_scale_of_word, older_fraction_additions, older_additions_at, older_additions, OlderFormed, OlderFitsFraction, OlderFits, OlderWithinLimits, AcceptedWithZeros, Older_zero, Older_sum, AcceptedWithoutMu, Oldest_zero, Oldest_sum, IsStillAccepted, HasMu}
+use Rattle.humantime.specs.References.Durations.Answers.{duration_answer}
+use Rattle.humantime.proofs.Durations.Reading.Outcomes.{outcome_accepted}
 use Rattle.humantime.proofs.Durations.Reading.Settled.{FitsAt}
 use Rattle.humantime.proofs.Durations.Reading.SignificantDigits.{significant_shorter, whole_part_kept, amount_kept}
 
@@ -42,13 +44,20 @@ still_fit : (spans : List Span) → AllByRecursion (λ s. OlderFits (scale_of_wo
 still_fit [] f = tt
 still_fit (s ∷ ss) f = (still_fits (scale_of_word s.word) s f.0, still_fit ss f.1)
 
--- `still_accepted`: what was accepted while such zeros counted is accepted with the same value
-pub still_accepted : (text : List ℕ) → IsStillAccepted text
-still_accepted text v (Older_zero e z) = Bare_zero e z
-still_accepted text v (Older_sum spans h g sum) =
+zeros_still_accepted : (text : List ℕ) → IsStillAccepted text
+zeros_still_accepted text v (Older_zero e z) = Bare_zero e z
+zeros_still_accepted text v (Older_sum spans h g sum) =
     let same = still_add spans in
     Sum_of spans h (record { formed = still_formed spans g.formed; fit = still_fit spans g.fit; room = rw (← same) g.room })
     (ap total (sym same) ∙ sum)
+
+-- What was accepted while such zeros counted is accepted with the same value; so that is its answer.
+pub record KeepsValueWithZeros (text : List ℕ) : Type 0 where
+  pub value : IsStillAccepted text
+  pub answer : (v : ℕ) → AcceptedWithZeros text v → duration_answer text ≡ Ok v
+
+pub still_accepted : (text : List ℕ) → KeepsValueWithZeros text
+still_accepted text = record { value = zeros_still_accepted text; answer = λ v a. outcome_accepted text v (zeros_still_accepted text v a) }
 
 -- ---- the Greek letter
 
@@ -84,7 +93,7 @@ accepted_with_zeros text v (Oldest_sum spans h g sum) = Older_sum spans h.0 (old
 
 -- and it is accepted with the same value
 pub older_text_accepted : (text : List ℕ) (v : ℕ) → AcceptedWithoutMu text v → Accepted text v
-older_text_accepted text v a = still_accepted text v (accepted_with_zeros text v a)
+older_text_accepted text v a = zeros_still_accepted text v (accepted_with_zeros text v a)
 
 -- ---- it was in no text
 

@@ -8,7 +8,7 @@ use Rattle.humantime.specs.Durations.Faults.{span_of, Fault, NumberExpected}
 use Rattle.humantime.specs.References.Durations.Reading.{stop_at, read, items_from, items, with_span, settle}
 use Rattle.humantime.specs.References.Durations.Answers.{duration_answer}
 use Rattle.humantime.specs.Durations.Items.{Lent, LendsEach, items_of, AreItems}
-use Rattle.humantime.specs.Laws.Outcomes.{OneListOfSlices}
+use Rattle.humantime.specs.Laws.Outcomes.{OneListOfSlices, SameSlices, FirstErrorIsAnswer}
 use Rattle.humantime.specs.References.Durations.Lending.{lent_at, lends, left_at, lent_items, judged}
 use Rattle.humantime.proofs.Durations.Slices.LendingSteps.{Turn, No_digit, Faulty, Spanned, turn, lends-expected, lends-stopped, lends-fine}
 use Rattle.humantime.proofs.Durations.Reading.Found.{items_found_at}
@@ -139,3 +139,11 @@ one_lent text others o =
 
 pub one_list_of_slices : (text : List ℕ) → OneListOfSlices text
 one_list_of_slices text = (lent_items text, are_items text, one_lent text)
+
+pub same_slices : (text : List ℕ) → SameSlices text
+same_slices text xs ys a b = one_lent text ys b ∙ sym (one_lent text xs a)
+
+-- an error that is the first item is the answer
+pub first_error_answers : (text : List ℕ) → FirstErrorIsAnswer text
+unfolding judged
+first_error_answers text lent others e a first some = sym (judged_outcome text some) ∙ ap (judged 0) (sym (one_lent text lent a) ∙ first)

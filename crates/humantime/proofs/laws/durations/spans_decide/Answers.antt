@@ -11,5 +11,8 @@ returns-clause-accepted c = (spans_decide (chars c.args.s.now)).accepted
 pub returns-clause-stopped : goal.returns-clause-stopped
 returns-clause-stopped c = (spans_decide (chars c.args.s.now)).stopped
 
+pub returns-clause-first : goal.returns-clause-first
+returns-clause-first c = (spans_decide (chars c.args.s.now)).first
+
 pub returns-clause-too_large : goal.returns-clause-too_large
 returns-clause-too_large c = (spans_decide (chars c.args.s.now)).too_large

@@ -10,6 +10,12 @@ returns-clause-value c = (canonical_again c.args.s.now).value
 pub returns-clause-again : goal.returns-clause-again
 returns-clause-again c = (canonical_again c.args.s.now).again
 
+pub returns-clause-answer : goal.returns-clause-answer
+returns-clause-answer c = (canonical_again c.args.s.now).answer
+
+pub returns-clause-reads : goal.returns-clause-reads
+returns-clause-reads c = (canonical_again c.args.s.now).reads
+
 pub returns-clause-text : goal.returns-clause-text
 returns-clause-text c = (canonical_again c.args.s.now).text
 

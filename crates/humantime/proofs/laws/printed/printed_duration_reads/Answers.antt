@@ -8,6 +8,9 @@ returns-clause-one c = (printed_duration_reads c.args.d (omega arith)).one
 pub returns-clause-printed : goal.returns-clause-printed
 returns-clause-printed c = (printed_duration_reads c.args.d (omega arith)).printed
 
+pub returns-clause-only : goal.returns-clause-only
+returns-clause-only c = (printed_duration_reads c.args.d (omega arith)).only
+
 pub returns-clause-reads : goal.returns-clause-reads
 returns-clause-reads c = (printed_duration_reads c.args.d (omega arith)).reads
 

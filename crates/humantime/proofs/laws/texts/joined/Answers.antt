@@ -18,5 +18,8 @@ returns-clause-overflow c = (law.joined (chars c.args.a.now) (chars c.args.b.now
 pub returns-clause-one : goal.returns-clause-one
 returns-clause-one c = (law.joined (chars c.args.a.now) (chars c.args.b.now)).one
 
+pub returns-clause-answer : goal.returns-clause-answer
+returns-clause-answer c = (law.joined (chars c.args.a.now) (chars c.args.b.now)).answer
+
 pub returns-clause-text : goal.returns-clause-text
 returns-clause-text c = chars-append c.args.a.now c.args.b.now c.utf8.a

@@ -1,0 +1,38 @@
+//! Laws of durations that are called, and what follows.
+
+ghost use Rattle.std.specs.Prelude.{◌≡◌, ◌↔◌, chars, true, IsTrue};
+ghost use Rattle.humantime.specs.Prelude.{without_white_space};
+
+use humantime::laws::{printed_duration_reads, printed_durations_differ, without_ws};
+use humantime::{StdDuration, format_duration, parse_duration};
+
+/// Writes a duration into a file and reads it again: it is the same.
+pub fn comes_back(duration: StdDuration) -> bool
+    ensures { result ≡ true }
+{
+    printed_duration_reads(duration);
+    match parse_duration(format_duration(duration).text(&mut [0; 64])) {
+        Ok(read) => read == duration,
+        Err(_) => false,
+    }
+}
+
+/// Whether two durations are printed alike: only equal ones are.
+pub fn looks_same(a: StdDuration, b: StdDuration) -> bool
+    ensures { IsTrue result ↔ (a ≡ b) }
+{
+    printed_durations_differ(a, b);
+    format_duration(a).text(&mut [0; 64]) == format_duration(b).text(&mut [0; 64])
+}
+
+/// Whether a text without its white space is read as the text is, where that is read: it is.
+pub fn needs_no_space(text: &str, squeezed: &str) -> bool
+    ensures { chars squeezed.now ≡ without_white_space (chars text.now) → result ≡ true }
+{
+    without_ws(text);
+    match (parse_duration(text), parse_duration(squeezed)) {
+        (Ok(read), Ok(same)) => read == same,
+        (Ok(_), Err(_)) => false,
+        (Err(_), _) => true,
+    }
+}

@@ -1,0 +1,79 @@
+//! The callers of laws, run.
+
+use crate::callers::laws::{comes_back, looks_same, needs_no_space};
+use crate::law_callers::durations::{
+    adds_up, are_small, canonical_text, decided, first_item_and_answer, first_items, is_one_count,
+    is_settled, is_short, keeps_its_value, read_alike, read_as_before, reads_back, sum_of,
+    whole_seconds,
+};
+use crate::law_callers::errors::{message, place, points_into, second_points_into};
+use crate::tests::support::assert_same;
+use humantime::{DurationError, Span, StdDuration};
+
+/// Texts of the page, each with its whole seconds and its canonical text.
+const READ: [(&str, u64, &str); 4] = [
+    ("2h 37min", 9420, "2h 37m"),
+    ("1 2 s", 12, "12s"),
+    ("0", 0, "0s"),
+    ("1.50000000000s", 1, "1s 500ms"),
+];
+
+/// Texts of the page that are refused, each with the offset of its error and what its message begins with.
+const REFUSED: [(&str, Option<usize>, &str); 5] = [
+    ("  x", Some(2), "expected number at 2"),
+    ("2 hours  min", Some(9), "expected number at 9"),
+    ("1..s", Some(2), "invalid character at 2"),
+    ("00", Some(2), "time unit needed, for example 0sec or 0ms"),
+    ("", None, "value was empty"),
+];
+
+#[test]
+fn callers_of_laws_of_durations_answer(rt: HostRuntime) {
+    for (text, secs, canon) in READ {
+        let duration = decided(text).ok().expect(&rt, text);
+        assert_same(&rt, duration.as_secs(), secs);
+        assert_same(&rt, whole_seconds(text).ok(), Some(secs));
+        assert_same(&rt, read_as_before(text).ok(), Some(duration));
+        assert_same(&rt, canonical_text(duration, &mut [0; 64]), canon);
+        assert_same(&rt, reads_back(canon, duration), true);
+        assert_same(
+            &rt,
+            (comes_back(duration), is_short(duration)),
+            (true, true),
+        );
+        assert_same(&rt, (is_settled(text), keeps_its_value(text)), (true, true));
+        assert_same(&rt, looks_same(duration, StdDuration::from_secs(1)), false);
+    }
+    for (text, at, shown) in REFUSED {
+        assert_same(&rt, place(text), at);
+        assert_same(
+            &rt,
+            (points_into(text), second_points_into(text)),
+            (true, true),
+        );
+        let error = decided(text).err().expect(&rt, text);
+        if let Ok(string) = message(rt.alloc(), &error) {
+            assert_same(&rt, string.as_str(), shown);
+        }
+    }
+    assert_same(&rt, needs_no_space("1 2 h 3 0 min", "12h30min"), true);
+    assert_same(&rt, adds_up("1h", "30m", "1h30m"), true);
+    let sum = sum_of("1h", "30m", "1h30m").ok();
+    assert_same(&rt, sum, Some(StdDuration::from_secs(5400)));
+    let overflow = sum_of("18446744073709551615s", "1s", "18446744073709551615s1s").err();
+    assert_same(&rt, overflow, Some(DurationError::NumberOverflow));
+    assert_same(&rt, read_alike("1h 30m", "30m 1h"), true);
+    assert_same(&rt, is_one_count("1h 30m", 2, 2), true);
+    let minute = StdDuration::from_secs(60);
+    assert_same(&rt, are_small(&[0, 0, 0, 0, 1, 0, 0, 0, 0], minute), true);
+    let (item, answer) = first_item_and_answer("  x");
+    assert_same(&rt, item.and_then(Result::err), answer.err());
+    let (first, second) = first_items("2h x");
+    let starts = (first.map(start), second.map(start));
+    assert_same(&rt, starts, (Some(Some(0)), Some(Some(0))));
+}
+
+/// The offset at which a span begins.
+fn start(item: Result<Span<'_>, DurationError<'_>>) -> Option<usize> {
+    Some(item.ok()?.start())
+}
