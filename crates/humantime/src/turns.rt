@@ -28,6 +28,10 @@ pub struct Turns {
 
 const _: () = prove!(mem::size_of::<Turns>() == 0);
 
+/// One turn that was counted. Only a tick makes one, and it is not `Copy`: what takes a `Turn` is done once a tick at most.
+#[derive(Drop)]
+pub(crate) struct Turn(());
+
 impl Model for Turns {
     ghost use Rattle.std.specs.Prelude.{ℕ};
 
@@ -52,11 +56,12 @@ impl Turns {
         }
     }
 
-    /// Counts one turn.
-    pub(crate) fn tick(&mut self)
+    /// Counts one turn, and gives it.
+    pub(crate) fn tick(&mut self) -> Turn
         ensures { self.new ≡ self.old + 1 }
     {
         let before = mem::replace(&mut self.chain, Snapshot::of(&Chain::Start));
         self.chain = Snapshot::of(&Chain::Next(before));
+        Turn(())
     }
 }
