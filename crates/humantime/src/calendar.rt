@@ -4,7 +4,7 @@ ghost use Rattle.std.specs.Prelude.{◌≡◌, ◌+◌, ◌-◌, ◌<◌, ◌≤
 ghost use Rattle.humantime.specs.Calendar.{days_in_year, days_in_month, days_of_years, days_of_months, IsDate, day_of};
 ghost use Rattle.humantime.specs.References.Calendar.March.{march_days, march_year_length, march_length, march_months};
 
-use crate::turns::{Turn, Turns};
+use crate::turns::Turns;
 
 /// The first year.
 const FIRST_YEAR: u32 = 1970;
@@ -20,6 +20,11 @@ const DAYS_BEFORE_MONTH: [u32; 12] = [0, 31, 59, 90, 120, 151, 181, 212, 243, 27
 
 /// The days of each month, January first, with 28 for February.
 const MONTH_LENGTHS: [u32; 12] = [31, 28, 31, 30, 31, 30, 31, 31, 30, 31, 30, 31];
+
+/// The days before each month of a year that begins on 1 March, and of the whole year, which ends with a leap day.
+const DAYS_BEFORE_MARCH_MONTH: [u32; 13] = [
+    0, 31, 61, 92, 122, 153, 184, 214, 245, 275, 306, 337, 366,
+];
 
 /// Cycles of 400 years, 146097 days each, are counted from 1600-03-01, which is so many days before 1970-01-01.
 /// 2000-03-01, day 11017, begins the next one.
@@ -144,19 +149,6 @@ fn march_year(day: u32) -> (u32, u32)
     (100 * (4 * cycles + centuries) + 4 * fours + years, left)
 }
 
-/// The days before a month of a year that begins on 1 March, which is month 0; at 12 those of the whole year, which
-/// ends with a leap day. Each look takes a turn that was counted, and the table stands nowhere else: no loop can look
-/// without counting.
-#[inline(always)]
-#[tactic(auto, unfolding(crate::specs::References::Calendar::March::march_months))]
-fn days_before_march_month(month: u32, _turn: Turn) -> u32
-    requires { month ≤ 12 }
-    ensures { result ≡ march_months month }
-{
-    const DAYS: [u32; 13] = [0, 31, 61, 92, 122, 153, 184, 214, 245, 275, 306, 337, 366];
-    DAYS[month as usize]
-}
-
 /// The date with so many days of the month before it. March is month 0, and January and February are the last
 /// months of a year that began in the calendar's year before.
 #[inline(always)]
@@ -187,8 +179,7 @@ fn march_date(year: u32, month: u32, left: u32) -> Date
 /// The date whose day number is `day`, or `None` past 2932896, the day of 9999-12-31.
 ///
 /// The year is found by the cycles of 400, 100, 4 and 1 years from a 1 March on, and the month by a loop
-/// over the eleven months after March. Each turn of the loop counts one of `turns`, and so does the look at the
-/// month that is found.
+/// over at most 12 months that begin with March. Each turn of the loop counts one of `turns`.
 ///
 /// ```text
 /// date_of_day(11016, &mut turns) == Some(Date { year: 2000, month: 2, day: 29 })
@@ -205,12 +196,12 @@ pub fn date_of_day(day: u32, turns: &mut Turns) -> Option<Date>
     }
     let (year, left) = march_year(day);
     let mut month = 0;
-    for next in 1..12_u32 {
-        let turn = turns.tick();
-        if left >= days_before_march_month(next, turn) {
+    for next in 1..13_u32 {
+        turns.tick();
+        if left >= DAYS_BEFORE_MARCH_MONTH[next as usize] {
             month += 1;
         }
     }
-    let first = days_before_march_month(month, turns.tick());
+    let first = DAYS_BEFORE_MARCH_MONTH[month as usize];
     Some(march_date(year, month, left - first))
 }

@@ -28,10 +28,6 @@ pub struct Turns {
 
 const _: () = prove!(mem::size_of::<Turns>() == 0);
 
-/// One turn that was counted. Only a tick makes one, and it is not `Copy`: what takes a `Turn` is done once a tick at most.
-#[derive(Drop)]
-pub(crate) struct Turn(());
-
 impl Model for Turns {
     ghost use Rattle.std.specs.Prelude.{ℕ};
 
@@ -56,12 +52,11 @@ impl Turns {
         }
     }
 
-    /// Counts one turn, and gives it.
-    pub(crate) fn tick(&mut self) -> Turn
+    /// Counts one turn.
+    pub(crate) fn tick(&mut self)
         ensures { self.new ≡ self.old + 1 }
     {
         let before = mem::replace(&mut self.chain, Snapshot::of(&Chain::Start));
         self.chain = Snapshot::of(&Chain::Next(before));
-        Turn(())
     }
 }

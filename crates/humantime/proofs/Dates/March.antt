@@ -1,5 +1,6 @@
 -- Years that begin with March, beside those of the calendar.
 use Rattle.std.proofs.Common.{◌≡◌, ◌⊎◌, inl, inr, ℕ, zero, suc, ◌+◌, ◌-◌, ◌<◌, ◌≤◌, refl, ap, subst, sym, arith, IsTrue}
+use Rattle.std.proofs.lemmas.Bool.{cases_eq}
 use Rattle.humantime.specs.Calendar.{days_in_year, days_in_month, days_of_years, days_of_months, is_valid}
 use Rattle.humantime.specs.References.Calendar.March.{march_days, march_year_length, march_length, march_months}
 use Rattle.humantime.proofs.Dates.Months.{below_12, below_10, ten_or_eleven}
@@ -50,13 +51,14 @@ month_stays next day month later h = record {
 }
 
 -- of all twelve it is the one that holds the day
-pub month_found : (day month : ℕ) → day < 366 → IsMonthBefore 12 day month → (month < 12) × (day - march_months month < march_length month)
-month_found day month within h =
-    let later : day < march_months (month + 1) = elim h.last [
-      | inl same ↦ subst (λ (k : ℕ). day < march_months k) (sym same) (rw march_months_all within)
-      | inr before ↦ before
-    ] in
-    (h.some, omega (arith, h.begun, march_months_next month h.some, later))
+pub month_found : (day month : ℕ) → day < 366 → IsMonthBefore 13 day month → (month < 12) × (day - march_months month < march_length month)
+month_found day month within h = elim (cases_eq month 12) [
+  | inl whole ↦ absurd (omega (arith, march_months_all, subst (λ (k : ℕ). march_months k ≤ day) whole h.begun))
+  | inr other ↦
+      let few : month < 12 = omega (arith, h.some, other) in
+      let later : day < march_months (month + 1) = elim h.last [ inl same ↦ absurd (omega arith) | inr before ↦ before ] in
+      (few, omega (arith, h.begun, march_months_next month few))
+]
 
 -- March to December are ten months of one year, and two months stand before them
 early_months : (y : ℕ) → (k : ℕ) → k < 10 → march_months k + days_in_year y ≡ days_of_months y (k + 2) + 306
