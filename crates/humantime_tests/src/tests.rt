@@ -1,6 +1,7 @@
 //! Values, what CALLING.md shows and the five programs, run. What is expected comes from the written rules, never from what the library answers.
 
 mod callers;
+mod memory;
 mod programs;
 mod std_durations;
 mod support;
