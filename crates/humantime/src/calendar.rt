@@ -1,6 +1,6 @@
 //! Days from 1970-01-01 and the dates of 1970 to 9999.
 
-ghost use Rattle.std.specs.Prelude.{◌≡◌, ◌+◌, ◌-◌, ◌<◌, ◌≤◌, ◌↔◌, IsSome, IfSome};
+ghost use Rattle.std.specs.Prelude.{◌≡◌, ◌+◌, ◌-◌, ◌<◌, ◌≤◌, ◌↔◌, IsSome, IfSome, MatchOption};
 ghost use Rattle.humantime.specs.Calendar.{days_in_year, days_in_month, days_of_years, days_of_months, IsDate, day_of};
 ghost use Rattle.humantime.specs.References.Calendar.March.{march_days, march_year_length, march_length, march_months};
 
@@ -26,8 +26,8 @@ const DAYS_BEFORE_MARCH_MONTH: [u32; 13] = [
     0, 31, 61, 92, 122, 153, 184, 214, 245, 275, 306, 337, 366,
 ];
 
-/// Cycles of 400 years, 146097 days each, are counted from 2000-03-01, which is day 11017. Earlier days lie
-/// in the cycle before. It begins on 1600-03-01, which is so many days before 1970-01-01.
+/// Cycles of 400 years, 146097 days each, are counted from 1600-03-01, which is so many days before 1970-01-01.
+/// 2000-03-01, day 11017, begins the next one.
 const DAYS_FROM_MARCH_1600: u32 = 135_080;
 
 /// A date: year, month from 1 (January) to 12, day of the month from 1.
@@ -189,8 +189,7 @@ fn march_date(year: u32, month: u32, left: u32) -> Date
 pub fn date_of_day(day: u32, turns: &mut Turns) -> Option<Date>
     ensures within { IsSome result ↔ (day ≤ 2_932_896) }
     ensures date { IfSome result (λ d. IsDate d × (day_of d ≡ day)) }
-    ensures grows { turns.old ≤ turns.new }
-    ensures cost { turns.new ≤ turns.old + 12 }
+    ensures cost { MatchOption result (turns.new ≡ turns.old) (λ d. turns.new ≡ turns.old + 12) }
 {
     if day > LAST_DAY {
         return None;

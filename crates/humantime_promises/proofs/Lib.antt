@@ -1,2 +1,2 @@
-pub mod FirstNumbers
+pub mod LastDigits
 pub mod UsualTexts

@@ -5,11 +5,13 @@
 //! timestamps and days in `humantime_times`.
 #![tactic(auto)]
 
-ghost use Rattle.std.specs.Prelude.{◌≡◌, ◌+◌, ◌<◌, ◌↔◌, ℕ, List, chars, true, Ok, Err, IfSome, IsSome};
+ghost use Rattle.std.specs.Prelude.{◌≡◌, ◌+◌, ◌<◌, ◌↔◌, ℕ, List, chars, true, unwrap_or, Ok, Err, IfSome, IsSome};
 ghost use Rattle.humantime.specs.Prelude.{Canon, HasFault, Fault, GivesItem, IsCanonicalOf, duration_end, lent_of, told_text};
 ghost use Rattle.humantime.specs.Durations.Characters.{ends, is_digit};
 
 use humantime::{DurationError, Span, SpanIter, StdDuration};
+
+pub mod lent;
 
 /// The sum, or `None` where it passes the longest duration.
 pub fn checked_add(a: StdDuration, b: StdDuration) -> Option<StdDuration>
@@ -28,7 +30,7 @@ pub fn next_item<'a>(items: &mut SpanIter<'a>) -> Option<Result<Span<'a>, Durati
 
 /// The first span of a text.
 pub fn first_span(s: &str) -> Option<Span<'_>>
-    ensures { IfSome result (λ span. ends is_digit (lent_of span).number ≡ true) }
+    ensures { IfSome result (λ span. ends is_digit (unwrap_or (lent_of span).fraction (lent_of span).number) ≡ true) }
 {
     match humantime::spans(s).next() {
         Some(Ok(span)) => Some(span),
@@ -36,11 +38,15 @@ pub fn first_span(s: &str) -> Option<Span<'_>>
     }
 }
 
-/// The number of the first span of a text, from its first to its last digit.
-pub fn first_number(s: &str) -> Option<&str>
-    ensures { IfSome result (λ number. ends is_digit (chars number.now) ≡ true) }
+/// The last digits of the first span of a text: those of its fraction, or of its number where it has none. They end with
+/// a digit.
+pub fn last_digits(s: &str) -> Option<&str>
+    ensures { IfSome result (λ digits. ends is_digit (chars digits.now) ≡ true) }
 {
     let span = first_span(s)?;
+    if let Some(fraction) = span.fraction() {
+        return Some(fraction);
+    }
     Some(span.number())
 }
 

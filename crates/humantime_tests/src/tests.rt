@@ -3,6 +3,7 @@
 mod bounds;
 mod callers;
 mod law_callers;
+mod memory;
 mod programs;
 mod std_durations;
 mod support;

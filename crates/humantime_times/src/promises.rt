@@ -4,7 +4,7 @@
 //! library's own does: `must-fail/` puts a wrong body in the place of each call.
 
 ghost use Rattle.std.specs.Prelude.{◌≡◌, ◌+◌, ◌≤◌, ◌↔◌, ℤ, Ok, Err, IfSome, IsSome, Some};
-ghost use Rattle.humantime.specs.Prelude.{IsDate, IsPrinted, IsStrictMoment, day_of, first_failed, strict_checks};
+ghost use Rattle.humantime.specs.Prelude.{IsDate, IsPrinted, IsStrictMoment, IsWeakMoment, day_of, first_failed, strict_checks, weak_checks};
 ghost use Rattle.humantime.specs.declared.TimestampError.{TimestampError};
 
 use humantime::{Date, SystemTime, TimestampError, Turns};
@@ -15,6 +15,14 @@ pub fn parse_rfc3339(s: &str) -> Result<SystemTime, TimestampError>
     ensures error { (e : TimestampError) → (result ≡ Err e) ↔ (first_failed (strict_checks s.now) ≡ Some e) }
 {
     humantime::parse_rfc3339(s)
+}
+
+/// The moment that a text in the weak form shows, or what the first of its checks answers that fails.
+pub fn parse_rfc3339_weak(s: &str) -> Result<SystemTime, TimestampError>
+    ensures value { (t : ℤ) → (result ≡ Ok t) ↔ IsWeakMoment s.now t }
+    ensures error { (e : TimestampError) → (result ≡ Err e) ↔ (first_failed (weak_checks s.now) ≡ Some e) }
+{
+    humantime::parse_rfc3339_weak(s)
 }
 
 /// The text of a moment with three digits after the second, where it has one.

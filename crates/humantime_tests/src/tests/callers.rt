@@ -6,7 +6,7 @@ use crate::callers::durations::{
 };
 use crate::callers::laws::comes_back;
 use crate::callers::timestamps::{
-    default_start, is_earlier, is_same_moment, is_since, later_than, stamp_of, stamp_string,
+    default_start, is_earlier, is_same_moment, is_since, later_than, stamp_of,
 };
 use crate::tests::support::assert_same;
 use humantime::{DurationError, StdDuration, TimestampError, UNIX_EPOCH};
@@ -59,7 +59,4 @@ fn callers_of_timestamps_answer(rt: HostRuntime) {
     let stamp = "1970-01-01T00:00:00.000Z";
     assert_same(&rt, stamp_of(UNIX_EPOCH, &mut buffer), Some(stamp));
     assert_same(&rt, is_earlier(stamp, "1970-01-01T00:00:00.001Z"), true);
-    if let Ok(string) = stamp_string(rt.alloc(), UNIX_EPOCH) {
-        assert_same(&rt, string.as_str(), stamp);
-    }
 }
