@@ -1,2 +1,3 @@
+pub mod Kept
 pub mod WorkedTexts
 pub mod WorkedTimestamps
