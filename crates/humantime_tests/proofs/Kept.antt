@@ -1,6 +1,5 @@
 -- What a caller has of a buffer once the result that borrowed from it is gone.
 use seplogic.Ra.Ura.{Ura}
-use mathlib.Core.Option.{none}
 use base.Fml.{fres}
 use base.Logic.{ent, sep, ex, ex_e}
 use contract.Monad.{fact}
@@ -9,7 +8,7 @@ use types.Kit.{‵, ◌$◌, ◌∵◌, !, qed, show, done}
 use denote.Follow.{such_by, follows_by}
 use denote.Triple.Walked.{says}
 use Rattle.std.proofs.Common.{◌≡◌, ℕ, List, [], ◌∷◌, refl, Bor, MutBor}
-use Rattle.std.specs.Prelude.{Option, None, Some, IsSome, IfNone, ◌↔◌, ⊤, Result, Ok, Err, OnErr}
+use Rattle.std.specs.Prelude.{Option, None, Some, IsSome, IfNone, ◌↔◌, Result, Ok, Err, OnErr}
 use Rattle.std.specs.Borrow.{Array, u8}
 use Rattle.humantime.specs.Buffers.{Holds}
 use Rattle.humantime.specs.Durations.Errors.{told_text}

@@ -1,4 +1,4 @@
-use Rattle.humantime.proofs.Walks.{Val, ◌≡◌, ℕ, List, [], ◌∷◌, refl, ap, MutBor, proved, full_share, id⊢, emp, ftrue, flft, fres, named, vunit, fact, fact_i, tables, ‵, raw, ◌⊛◌, some, later, ◌$◌, ◌∵◌, !, qed, by, done, move, keep, drop, use0, use1, use2, use3, split, join, fsplit, fjoin, feq_i, pick, await, suffices, frame, group, enter, addr, stop, no_more, and_then, returns, alloc_all, pass_all, free_all, look_at, get, through, sets, of_opd, lands_as, shows, MutRef, ShrRef, mut_vals, shr_vals, mut_Tells, shr_Tells, plain, nothing, heard, peeks, calls_at, lasts, triple_of, Stays, stay_dropped, Goes-dropped, ends_at, says, yes, framed}
+use Rattle.humantime.proofs.Walks.{Val, ◌≡◌, ℕ, List, [], ◌∷◌, refl, MutBor, proved, full_share, id⊢, ftrue, flft, fres, named, vunit, fact, tables, ‵, raw, ◌⊛◌, some, later, ◌$◌, ◌∵◌, !, qed, done, move, keep, use1, use2, use3, split, join, fjoin, feq_i, pick, await, suffices, enter, addr, stop, no_more, and_then, returns, alloc_all, pass_all, free_all, look_at, get, through, sets, of_opd, lands_as, shows, MutRef, ShrRef, mut_vals, shr_vals, mut_Tells, shr_Tells, plain, nothing, heard, peeks, calls_at, lasts, triple_of, Stays, stay_dropped, Goes-dropped, ends_at, says, yes, framed}
 use types.Run.{unit_lit}
 use Rattle.std.specs.Borrow.{Array, u8}
 use Rattle.std.specs.Prelude.{Option, IfSome, IfNone, IsSome, ◌↔◌}
