@@ -1,3 +1,4 @@
+pub mod Buffers
 pub mod Calendar
 pub mod Durations
 pub mod Laws

@@ -1,3 +1,4 @@
+pub mod Kept
 pub mod WorkedCharacters
 pub mod WorkedPrinted
 pub mod WorkedTexts

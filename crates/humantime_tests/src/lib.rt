@@ -2,6 +2,7 @@
 //! what the library's derives mean, and tables of tests.
 #![tactic(auto)]
 
+pub mod buffers;
 pub mod callers;
 pub mod law_callers;
 #[cfg(test)]

@@ -1,7 +1,9 @@
 //! The printers of timestamps.
 
-ghost use Rattle.std.specs.Prelude.{◌≡◌, ◌+◌, ◌/◌, ◌%◌, ◌<◌, ◌≤◌, ◌↔◌, IsSome, IfSome, IfNone, ◌++◌, take, drop, slice_set, codes};
-ghost use Rattle.std.specs.Str.{byte};
+ghost use Rattle.std.specs.Prelude.{◌≡◌, ◌+◌, ◌/◌, ◌%◌, ◌<◌, ◌≤◌, ◌↔◌, IsSome, IfSome, IfNone, option_map, ◌++◌, take, drop, slice_set, codes};
+ghost use Rattle.std.specs.Borrow.{sem};
+ghost use Rattle.std.specs.Str.{IsUtf8, byte};
+ghost use Rattle.humantime.specs.Buffers.{KeptAtNone};
 ghost use Rattle.humantime.specs.Timestamps.Fields.{digit, two_digits, date_time_text, fields_text};
 ghost use Rattle.humantime.specs.Timestamps.Printed.{IsPrintable};
 ghost use Rattle.humantime.specs.References.Timestamps.Printing.{places, places_of, moment_kept, places_kept, IsTextOf, printed_text, shortest_text, fields_shown, IsDateTimeOf, FitsPlaces};
@@ -170,9 +172,10 @@ impl Rfc3339Timestamp {
     pub fn text<'b>(&self, buf: &'b mut [u8; 30]) -> Option<&'b str>
         ensures within { IsSome result ↔ IsPrintable (moment_kept self.now) }
         ensures text { IfSome result (λ t. IsTextOf self.now t.now) }
+        ensures* unchanged { sem 𝓛 (KeptAtNone 30 buf.entry result) }
     {
-        let len = self.write(buf)?;
-        Some(front(buf, len))
+        let len = self.write(buf);
+        shown(buf, len)
     }
 
     /// Writes the text to the front of the buffer. `None`, and the buffer as it was, outside 1970 to 9999.
@@ -210,6 +213,17 @@ impl fmt::Display for Rfc3339Timestamp {
         };
         f.write_str(text)
     }
+}
+
+/// The text in the first `len` bytes, if there is one.
+#[inline(always)]
+fn shown(buf: &[u8; 30], len: Option<usize>) -> Option<&str>
+    requires fits { IfSome len (λ n. n ≤ 30) }
+    requires utf8 { IfSome len (λ n. IsUtf8 (take n buf.now)) }
+    ensures { option_map (λ t. t.now) result ≡ option_map (λ n. take n buf.now) len }
+{
+    let len = len?;
+    Some(front(buf, len))
 }
 
 /// The date and the time of day of a moment of 1970 to 9999.

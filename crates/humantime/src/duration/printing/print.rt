@@ -1,7 +1,9 @@
 //! Durations printed.
 
 ghost use Rattle.std.specs.Prelude.{◌≡◌, ◌≤◌, ◌<◌, ◌↔◌, ℕ, List, [], length, take, chars, IfOk, IfErr, OnErr, Some};
+ghost use Rattle.std.specs.Borrow.{sem};
 ghost use Rattle.std.specs.Str.{IsUtf8};
+ghost use Rattle.humantime.specs.Buffers.{KeptAtErr};
 ghost use Rattle.humantime.specs.Values.{nanos_per_second};
 ghost use Rattle.humantime.specs.Durations.Faults.{Fault, HasFault};
 ghost use Rattle.humantime.specs.References.Durations.Answers.{canonical_answer};
@@ -123,9 +125,27 @@ pub fn canonical<'a, 'b>(s: &'a str, buf: &'b mut [u8; 64]) -> Result<&'b str, D
     ensures fault { (e : Fault) → (told_text result ≡ Err e) ↔ HasFault (chars s.now) e }
     ensures answer { told_text result ≡ canonical_answer (chars s.now) }
     ensures place { IfErr result (PointsInto s.now) }
+    ensures* unchanged { sem 𝓛 (KeptAtErr 64 buf.entry result) }
 {
-    let end = write_canonical(s, buf)?;
-    Ok(front(buf, end))
+    let end = write_canonical(s, buf);
+    shown(buf, end)
+}
+
+/// The text in the first `end` bytes, or the error.
+#[inline(always)]
+fn shown<'a, 'b>(
+    buf: &'b [u8; 64],
+    end: Result<usize, DurationError<'a>>,
+) -> Result<&'b str, DurationError<'a>>
+    requires fits { IfOk end (λ n. n ≤ 64) }
+    requires utf8 { IfOk end (λ n. IsUtf8 (take n buf.now)) }
+    ensures text { IfOk end.entry (λ n. told_text result ≡ Ok (take n buf.now)) }
+    ensures error { IfErr end.entry (λ e. result ≡ Err e) }
+{
+    match end {
+        Ok(end) => Ok(front(buf, end)),
+        Err(error) => Err(error),
+    }
 }
 
 /// Writes the text of `canonical` to the front of the buffer, and says how long it is.

@@ -1,0 +1,20 @@
+//! Buffers at a refusal: what a caller's proof has of their bytes.
+
+ghost use Rattle.std.specs.Prelude.{◌≡◌, chars};
+ghost use Rattle.humantime.specs.Prelude.{Fault, HasFault, IsPrintable, moment_kept};
+
+use humantime::{Rfc3339Timestamp, canonical};
+
+/// Prints over the text in the buffer, which stays for a moment outside 1970 to 9999.
+pub fn print_over(stamp: &Rfc3339Timestamp, buf: &mut [u8; 30])
+    ensures { ¬ (IsPrintable (moment_kept stamp.now)) → buf.new ≡ buf.old }
+{
+    let _text = stamp.text(buf);
+}
+
+/// Writes the canonical text over the one in the buffer, which stays where the text has a fault.
+pub fn canonical_over(s: &str, buf: &mut [u8; 64])
+    ensures { (e : Fault) → HasFault (chars s.now) e → buf.new ≡ buf.old }
+{
+    let _answer = canonical(s, buf);
+}
