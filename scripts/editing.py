@@ -99,16 +99,20 @@ def copied(top, to):
 
 @contextmanager
 def edited(top, crate, texts):
-    """The crate has these texts in place of its own."""
+    """The crate has these texts in place of its own, or besides them."""
     folder = os.path.join(top, "crates", crate)
-    before = {path: open(os.path.join(folder, path), encoding="utf-8").read() for path in texts}
+    paths = {path: os.path.join(folder, path) for path in texts}
+    before = {path: open(there, encoding="utf-8").read() for path, there in paths.items() if os.path.exists(there)}
     try:
         for path, text in texts.items():
-            open(os.path.join(folder, path), "w", encoding="utf-8").write(text)
+            open(paths[path], "w", encoding="utf-8").write(text)
         yield
     finally:
-        for path, text in before.items():
-            open(os.path.join(folder, path), "w", encoding="utf-8").write(text)
+        for path, there in paths.items():
+            if path in before:
+                open(there, "w", encoding="utf-8").write(before[path])
+            else:
+                os.remove(there)
 
 
 def proved(room, crates):
