@@ -1,0 +1,160 @@
+"""What `edits` and `weakenings` share: edits of the texts of a crate, copies of the repository to try them on, and what a check
+leaves open there."""
+import os
+import queue
+import re
+import shutil
+import subprocess
+from concurrent.futures import ThreadPoolExecutor
+from contextlib import contextmanager
+
+ROOT = os.path.dirname(os.path.dirname(os.path.abspath(__file__)))
+OPEN_GOAL = re.compile(r"^note: (?:\./)?(src/\S+?):(\d+):\d+: it is not proved that (.*?) \(`([^`]*)`\)", re.M)
+ANSWER = re.compile(r"^(?:\./)?(proofs/\S+?):\d+:\d+: error: (?:`([^`]*)`)?", re.M)
+TESTED = ["humantime_tests", "humantime_durations", "humantime_times", "humantime_cli"]
+
+
+class Edit:
+    def __init__(self, crate, name, text):
+        self.crate, self.name, self.text = crate, name, text
+        self.has_twin = "\nright:" in text
+
+    def texts(self, folder, kind, before=None):
+        """What the files are after the edit, by their paths below the crate's folder, and the changed lines as (path, number).
+        The kind is `new`, or `right` for the edit's twin; before it they may be as other edits left them."""
+        path, old, texts, lines = None, None, dict(before or {}), []
+        for line in self.text.split("\n"):
+            if line.startswith("file: "):
+                path = line.removeprefix("file: ").strip()
+            elif line.startswith("old: "):
+                old = line.removeprefix("old: ")
+            elif line.startswith(f"{kind}:"):
+                if path not in texts:
+                    with open(os.path.join(folder, path), encoding="utf-8") as file:
+                        texts[path] = file.read()
+                if texts[path].count(old) != 1:
+                    raise ValueError(f"{path} has {texts[path].count(old)} times: {old}")
+                lines.append((path, texts[path].partition(old)[0].count("\n") + 1))
+                texts[path] = texts[path].replace(old, line.removeprefix(f"{kind}:").removeprefix(" "))
+        if not lines:
+            raise ValueError("it changes nothing")
+        return texts, lines
+
+
+class Goal:
+    """A goal that is left open."""
+
+    def __init__(self, path, line, what, name):
+        self.path, self.line, self.name = path, int(line), name
+        if what.startswith("what the function ensures"):
+            self.word = "contract"
+        elif what.startswith(("the invariant of the loop", "the invariant that rattle tried", "the loop ends")):
+            self.word = "answer"
+        else:
+            self.word = "safety"
+
+    def __str__(self):
+        return f"{self.path}:{self.line}: {self.name}"
+
+
+def edits_in(crate, folder):
+    """The edits of a crate's folder, each with the name of its file: one in a file, or several, each below its title."""
+    path = os.path.join(ROOT, "crates", crate, folder)
+    for name in sorted(os.listdir(path)) if os.path.isdir(path) else []:
+        with open(os.path.join(path, name), encoding="utf-8") as file:
+            text = file.read()
+        if name.endswith(".edit"):
+            yield name, Edit(crate, name.removesuffix(".edit"), text)
+        for part in text.split("\n## ")[1:] if name.endswith(".edits") else []:
+            title, _, rest = part.partition("\n")
+            yield name, Edit(crate, title.strip(), rest)
+
+
+def chosen(folders, words):
+    """The edits of these folders of all crates whose name, file or crate holds one of the words, or all of them."""
+    found = []
+    for crate in sorted(os.listdir(os.path.join(ROOT, "crates"))):
+        for folder in folders:
+            for name, edit in edits_in(crate, folder):
+                if not words or any(word in text for word in words for text in (crate, name, edit.name)):
+                    found.append(edit)
+    return found
+
+
+def rt(top, crate, *words):
+    command = ["rt", *words]
+    folder = os.path.join(top, "crates", crate)
+    how = {"stdin": subprocess.DEVNULL, "stdout": subprocess.PIPE, "stderr": subprocess.STDOUT, "text": True, "errors": "replace"}
+    return subprocess.run(command, cwd=folder, **how)
+
+
+def copied(top, to):
+    """A copy of what `rt` reads of a repository, with what earlier checks of it kept."""
+    os.makedirs(to)
+    for name in ("crates.txt", "HANDLES"):
+        shutil.copy(os.path.join(top, name), to)
+    shutil.copytree(os.path.join(top, "crates"), os.path.join(to, "crates"), ignore=shutil.ignore_patterns("must-fail", "edits", "weakened"))
+    return to
+
+
+@contextmanager
+def edited(top, crate, texts):
+    """The crate has these texts in place of its own, or besides them."""
+    folder = os.path.join(top, "crates", crate)
+    paths = {path: os.path.join(folder, path) for path in texts}
+    before = {path: open(there, encoding="utf-8").read() for path, there in paths.items() if os.path.exists(there)}
+    try:
+        for path, text in texts.items():
+            open(paths[path], "w", encoding="utf-8").write(text)
+        yield
+    finally:
+        for path, there in paths.items():
+            if path in before:
+                open(there, "w", encoding="utf-8").write(before[path])
+            else:
+                os.remove(there)
+
+
+def proved(room, crates):
+    """A copy of the repository in which these crates are proved, as they stand."""
+    top = copied(ROOT, os.path.join(room, "0"))
+    for crate in crates:
+        ran = rt(top, crate, "check")
+        if ran.returncode:
+            raise SystemExit(f"{crate} is not proved without any edit:\n{ran.stdout[-2000:]}")
+    return top
+
+
+def side_by_side(top, work, tried):
+    """What `tried` answers to a copy of the repository and to each piece of work, in order, by as many copies as there are
+    processors; the first is there already."""
+    number = max(1, min(len(work), len(os.sched_getaffinity(0))))
+    free = queue.Queue()
+    free.put(top)
+    for name in range(1, number):
+        free.put(copied(top, os.path.join(os.path.dirname(top), str(name))))
+
+    def on_a_copy(each):
+        copy = free.get()
+        try:
+            return tried(copy, each)
+        finally:
+            free.put(copy)
+
+    with ThreadPoolExecutor(number) as pool:
+        yield from pool.map(on_a_copy, work)
+
+
+def left_open(said):
+    """The goals that a check left open, and the proofs that do not fit, by what it said."""
+    return [Goal(*found) for found in OPEN_GOAL.findall(said)], ANSWER.findall(said)
+
+
+def judged_by_tests(top):
+    """What the tests say, run without any proof."""
+    for crate in TESTED:
+        ran = rt(top, crate, "try", "--test")
+        if ran.returncode:
+            failed = re.search(r"^test (\S+) \.\.\. FAILED|^error.*", ran.stdout, re.M)
+            return "test", failed[0] if failed else ran.stdout[-200:]
+    return "NOTHING", "the tests pass"
