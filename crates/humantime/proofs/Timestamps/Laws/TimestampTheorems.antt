@@ -80,6 +80,7 @@ weak_printable = printable.weak_printable
 
 pub strict_printable : (text : List ℕ) (t : ℤ) → IsStrictMoment text t → IsPrintable t
 strict_printable = printable.strict_printable
+
 -- the strict form is the weak one with a `T` and a zone: of the parts, of the moment, and of the answer
 pub record StrictForm (text : List ℕ) : Type 0 where
   pub parts : StrictIsWeak text
