@@ -1,4 +1,4 @@
-use Rattle.std.proofs.Common.{ap, length, arith}
+use Rattle.std.proofs.Common.{arith}
 use Rattle.std.proofs.lemmas.Grind.{common_steps}
 use Rattle.humantime_tests.proofs.law_callers.durations.is_one_count.Goals as goal
 
