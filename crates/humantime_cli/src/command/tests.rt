@@ -2,7 +2,7 @@ ghost use Rattle.std.specs.Prelude.{◌≤◌, Some, take};
 
 mod callers;
 mod lengths;
-mod words;
+mod memory;
 
 use super::run;
 use std::fmt::Debug;
