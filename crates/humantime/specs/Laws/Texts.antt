@@ -53,6 +53,18 @@ abbrev pub ReorderedAnswerOneValue : List ℕ → List ℕ → Type 0
 ReorderedAnswerOneValue a b = (ss ts : List Span) (u v : ℕ) → Reads a ss → Reads b ts → IsPermutation ss ts
     → duration_answer a ≡ Ok u → duration_answer b ≡ Ok v → u ≡ v
 
+-- The two texts are the same spans, in some order each.
+pub record AreReordered (a b : List ℕ) : Type 0 where
+  pub spans : List Span
+  pub others : List Span
+  pub reads : Reads a spans
+  pub other_reads : Reads b others
+  pub moved : IsPermutation spans others
+
+-- so what is answered of such texts is one value
+abbrev pub ReorderedAnswerAlike : List ℕ → List ℕ → Type 0
+ReorderedAnswerAlike a b = AreReordered a b → (u v : ℕ) → duration_answer a ≡ Ok u → duration_answer b ≡ Ok v → u ≡ v
+
 -- the text is no spans
 abbrev pub HasNoSpans : List ℕ → Type 0
 HasNoSpans text = (spans : List Span) → ¬ (Reads text spans)

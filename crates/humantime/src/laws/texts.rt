@@ -3,7 +3,7 @@
 ghost use Rattle.std.specs.Prelude.{◌≡◌, ◌++◌, ℕ, chars, Ok};
 ghost use Rattle.humantime.specs.Durations.Characters.{bare_zero};
 ghost use Rattle.humantime.specs.Laws.Older.{AcceptedWithZeros, IsStillAccepted};
-ghost use Rattle.humantime.specs.Laws.Texts.{without_white_space, NeedsNoWhiteSpace, IsZeroOrSpans, JoinedHaveSum, JoinedOverflow, JoinedHaveSumOrOverflow, JoinedAnswerSumOrOverflow, ReorderedHaveOneValue, ReorderedAnswerOneValue, HasNoSpans};
+ghost use Rattle.humantime.specs.Laws.Texts.{without_white_space, NeedsNoWhiteSpace, IsZeroOrSpans, JoinedHaveSum, JoinedOverflow, JoinedHaveSumOrOverflow, JoinedAnswerSumOrOverflow, ReorderedHaveOneValue, ReorderedAnswerOneValue, ReorderedAnswerAlike, HasNoSpans};
 ghost use Rattle.humantime.specs.References.Durations.Answers.{duration_answer};
 
 /// An accepted text without its white space is accepted with the same value, so both have one answer.
@@ -48,6 +48,7 @@ pub fn joined(a: &str, b: &str)
 pub fn reordered(a: &str, b: &str)
     ensures value { ReorderedHaveOneValue (chars a.now) (chars b.now) }
     ensures answer { ReorderedAnswerOneValue (chars a.now) (chars b.now) }
+    ensures alike { ReorderedAnswerAlike (chars a.now) (chars b.now) }
     ensures zero { HasNoSpans bare_zero }
 {}
 

@@ -1,14 +1,16 @@
 //! Callers of the laws of durations.
 
 ghost use Rattle.std.specs.Prelude.{◌≡◌, ◌≢◌, ◌+◌, ◌/◌, ◌++◌, ◌↔◌, ℕ, List, Option, None, Some, Ok, Err, chars, length, option_map, true, IsPermutation};
-ghost use Rattle.humantime.specs.Prelude.{Accepted, AcceptedWithZeros, AllHaveRoom, Canon, Counts, Fault, HasFault, Items, NumberOverflow, Reads, Span, WithinLimits, additions, bare_zero, item_of, nanos_per_second, told, value};
+ghost use Rattle.humantime.specs.Prelude.{Accepted, AcceptedWithZeros, AllHaveRoom, AreReordered, Canon, Counts, Fault, HasFault, Items, NumberOverflow, Reads, Span, WithinLimits, additions, bare_zero, item_of, items_left, nanos_per_second, told, value};
 
 use crate::callers::durations::limit_seconds;
 use humantime::laws::{
     canonical_again, joined, one_outcome, printed_bounds, printed_duration_reads, reordered,
     spans_decide, spans_tile, still_accepted,
 };
-use humantime::{DurationError, StdDuration, canonical, format_duration, parse_duration, spans};
+use humantime::{
+    DurationError, SpanIter, StdDuration, canonical, format_duration, parse_duration, spans,
+};
 
 type Item<'a> = Option<Result<humantime::Span<'a>, DurationError<'a>>>;
 
@@ -167,4 +169,23 @@ pub fn read_as_before(text: &str) -> Result<StdDuration, DurationError<'_>>
 {
     still_accepted(text);
     parse_duration(text)
+}
+
+/// Two walks over one text. The same items are to come in both.
+pub fn two_walks(text: &str) -> (SpanIter<'_>, SpanIter<'_>)
+    ensures { items_left result.0 ≡ items_left result.1 }
+{
+    spans_tile(text);
+    (spans(text), spans(text))
+}
+
+/// Whether texts of the same spans in another order are one duration, where both are read: they are.
+pub fn is_one_duration(a: &str, b: &str) -> bool
+    ensures { AreReordered (chars a.now) (chars b.now) → result ≡ true }
+{
+    reordered(a, b);
+    match (parse_duration(a), parse_duration(b)) {
+        (Ok(a), Ok(b)) => a == b,
+        _ => true,
+    }
 }

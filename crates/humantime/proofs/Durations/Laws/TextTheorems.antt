@@ -8,7 +8,7 @@ use Rattle.humantime.specs.Durations.Spans.{Span, Only, SpellsAll, Reads}
 use Rattle.humantime.specs.Durations.Accepted.{additions, AllHaveRoom, Accepted}
 use Rattle.humantime.specs.Durations.Faults.{NumberOverflow, HasFault}
 use Rattle.humantime.specs.Durations.Counts.{Canon}
-use Rattle.humantime.specs.Laws.Texts.{without_white_space, NeedsNoWhiteSpace, IsZeroOrSpans, JoinedHaveSum, JoinedOverflow, JoinedHaveSumOrOverflow, JoinedAnswerSumOrOverflow, ReorderedHaveOneValue, ReorderedAnswerOneValue, HasNoSpans}
+use Rattle.humantime.specs.Laws.Texts.{without_white_space, NeedsNoWhiteSpace, IsZeroOrSpans, JoinedHaveSum, JoinedOverflow, JoinedHaveSumOrOverflow, JoinedAnswerSumOrOverflow, ReorderedHaveOneValue, ReorderedAnswerOneValue, ReorderedAnswerAlike, HasNoSpans}
 use Rattle.humantime.specs.References.Durations.Answers.{duration_answer}
 use Rattle.humantime.proofs.Durations.Reading.Outcomes.{accepted_from_outcome, outcome_accepted, outcome_fault}
 use Rattle.humantime.proofs.Durations.Laws.Readings as readings
@@ -62,14 +62,18 @@ joined a b = record {
 pub record KeepValueReordered (a b : List ℕ) : Type 0 where
   pub value : ReorderedHaveOneValue a b
   pub answer : ReorderedAnswerOneValue a b
+  pub alike : ReorderedAnswerAlike a b
   pub zero : HasNoSpans bare_zero
 
 pub reordered : (a b : List ℕ) → KeepValueReordered a b
-reordered a b = record {
-  value = readings.reordered_value a b;
-  answer = λ ss ts u v h k moved x y. readings.reordered_value a b ss ts u v h k moved (accepted_from_outcome a u x) (accepted_from_outcome b v y);
-  zero = readings.zero_has_no_spans;
-}
+reordered a b =
+    let answer : ReorderedAnswerOneValue a b = λ ss ts u v h k moved x y. readings.reordered_value a b ss ts u v h k moved (accepted_from_outcome a u x) (accepted_from_outcome b v y) in
+    record {
+      value = readings.reordered_value a b;
+      answer = answer;
+      alike = λ r u v. answer r.spans r.others u v r.reads r.other_reads r.moved;
+      zero = readings.zero_has_no_spans;
+    }
 
 -- ---- beyond the laws
 

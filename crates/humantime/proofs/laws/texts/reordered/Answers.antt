@@ -8,5 +8,8 @@ returns-clause-value c = (law.reordered (chars c.args.a.now) (chars c.args.b.now
 pub returns-clause-answer : goal.returns-clause-answer
 returns-clause-answer c = (law.reordered (chars c.args.a.now) (chars c.args.b.now)).answer
 
+pub returns-clause-alike : goal.returns-clause-alike
+returns-clause-alike c = (law.reordered (chars c.args.a.now) (chars c.args.b.now)).alike
+
 pub returns-clause-zero : goal.returns-clause-zero
 returns-clause-zero c = (law.reordered (chars c.args.a.now) (chars c.args.b.now)).zero
