@@ -12,7 +12,7 @@ pub use Rattle.humantime.specs.Durations.Accepted.{Accepted, Bare_zero, Sum_of, 
 pub use Rattle.humantime.specs.Durations.Spans.{Span, Reads}
 pub use Rattle.humantime.specs.Durations.Faults.{Fault, InvalidCharacter, NumberExpected, UnknownUnit, NumberOverflow, Empty, HasFault}
 pub use Rattle.humantime.specs.Laws.Texts.{without_white_space, AreReordered}
-pub use Rattle.humantime.specs.Laws.Older.{AcceptedWithZeros}
+pub use Rattle.humantime.specs.Laws.Older.{AcceptedWithZeros, WasAccepted}
 -- what is said of a unit, by its bytes
 pub use Rattle.humantime.specs.References.Durations.UnitMessages.{message_of_unit}
 -- spans

@@ -1,10 +1,11 @@
 -- What was accepted before: while the Greek letter mu, U+03BC, was no letter, and while zeros at the end of a fraction
 -- counted for its limits. A text is its list of characters.
-use Rattle.std.specs.Prelude.{◌≡◌, ℕ, ◌*◌, ◌/◌, ◌^◌, ◌≤◌, Bool, ◌||◌, ◌==◌, List, [], ◌∷◌, ◌++◌, length, filter, Option, Some, None, IsSome, IfSome, flat_map, bytes_eq, ⊤}
+use Rattle.std.specs.Prelude.{◌≡◌, ℕ, ◌*◌, ◌/◌, ◌^◌, ◌≤◌, Bool, ◌||◌, ◌==◌, List, [], ◌∷◌, ◌++◌, length, filter, Option, Some, None, IsSome, IfSome, IsOk, flat_map, bytes_eq, ⊤}
 use Rattle.std.specs.List.{AllByRecursion, list_all}
 use Rattle.std.specs.Char.{is_ascii_alphabetic}
 use Rattle.std.specs.Map.{lookup}
 use Rattle.humantime.specs.Durations.Characters.{micro_sign, greek_mu, decimal_value, u64_max, bare_zero}
+use Rattle.humantime.specs.References.Durations.Answers.{duration_answer}
 use Rattle.humantime.specs.Durations.Units.{Scale, words, scale_of_word}
 use Rattle.humantime.specs.Durations.Spans.{Span, Only, Reads}
 use Rattle.humantime.specs.Durations.Accepted.{Addition, total, IsWholePart, AllHaveRoom, Accepted}
@@ -85,6 +86,15 @@ pub data AcceptedWithoutMu (text : List ℕ) (v : ℕ) : Type 0 where
 -- what was accepted while such zeros counted is accepted with the same value
 abbrev pub IsStillAccepted : List ℕ → Type 0
 IsStillAccepted text = (v : ℕ) → AcceptedWithZeros text v → Accepted text v
+
+-- The text was accepted while such zeros counted.
+pub record WasAccepted (text : List ℕ) : Type 0 where
+  pub duration : ℕ
+  pub accepted : AcceptedWithZeros text duration
+
+-- then it is read
+abbrev pub IsStillRead : List ℕ → Type 0
+IsStillRead text = WasAccepted text → IsOk (duration_answer text)
 
 -- the Greek letter stands in the text
 abbrev pub HasMu : List ℕ → Type 0

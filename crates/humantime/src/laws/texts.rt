@@ -2,7 +2,7 @@
 
 ghost use Rattle.std.specs.Prelude.{◌≡◌, ◌++◌, ℕ, chars, Ok};
 ghost use Rattle.humantime.specs.Durations.Characters.{bare_zero};
-ghost use Rattle.humantime.specs.Laws.Older.{AcceptedWithZeros, IsStillAccepted};
+ghost use Rattle.humantime.specs.Laws.Older.{AcceptedWithZeros, IsStillAccepted, IsStillRead};
 ghost use Rattle.humantime.specs.Laws.Texts.{without_white_space, NeedsNoWhiteSpace, IsZeroOrSpans, JoinedHaveSum, JoinedOverflow, JoinedHaveSumOrOverflow, JoinedAnswerSumOrOverflow, ReorderedHaveOneValue, ReorderedAnswerOneValue, ReorderedAnswerAlike, HasNoSpans};
 ghost use Rattle.humantime.specs.References.Durations.Answers.{duration_answer};
 
@@ -63,4 +63,5 @@ pub fn reordered(a: &str, b: &str)
 pub fn still_accepted(s: &str)
     ensures value { IsStillAccepted (chars s.now) }
     ensures answer { (v : ℕ) → AcceptedWithZeros (chars s.now) v → duration_answer (chars s.now) ≡ Ok v }
+    ensures read { IsStillRead (chars s.now) }
 {}

@@ -1,7 +1,7 @@
 //! Callers of the laws of durations.
 
 ghost use Rattle.std.specs.Prelude.{◌≡◌, ◌≢◌, ◌+◌, ◌/◌, ◌++◌, ◌↔◌, ℕ, List, Option, None, Some, Ok, Err, chars, length, option_map, true, IsPermutation};
-ghost use Rattle.humantime.specs.Prelude.{Accepted, AcceptedWithZeros, AllHaveRoom, AreReordered, Canon, Counts, Fault, HasFault, Items, NumberOverflow, Reads, Span, WithinLimits, additions, bare_zero, item_of, items_left, nanos_per_second, told, value};
+ghost use Rattle.humantime.specs.Prelude.{Accepted, AcceptedWithZeros, AllHaveRoom, AreReordered, Canon, Counts, Fault, HasFault, Items, NumberOverflow, Reads, Span, WithinLimits, additions, bare_zero, item_of, items_left, nanos_per_second, told, value, WasAccepted};
 
 use crate::callers::durations::limit_seconds;
 use humantime::laws::{
@@ -187,5 +187,16 @@ pub fn is_one_duration(a: &str, b: &str) -> bool
     match (parse_duration(a), parse_duration(b)) {
         (Ok(a), Ok(b)) => a == b,
         _ => true,
+    }
+}
+
+/// Whether a text that was accepted before is read: it is.
+pub fn is_still_read(text: &str) -> bool
+    ensures { WasAccepted (chars text.now) → result ≡ true }
+{
+    still_accepted(text);
+    match parse_duration(text) {
+        Ok(_) => true,
+        Err(_) => false,
     }
 }

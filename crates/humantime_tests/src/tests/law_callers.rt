@@ -3,8 +3,8 @@
 use crate::callers::laws::{comes_back, looks_same, needs_no_space};
 use crate::law_callers::durations::{
     adds_up, are_small, canonical_text, decided, first_item_and_answer, first_items, is_one_count,
-    is_settled, is_short, keeps_its_value, read_alike, read_as_before, reads_back, sum_of,
-    whole_seconds,
+    is_one_duration, is_settled, is_short, is_still_read, keeps_its_value, read_alike,
+    read_as_before, reads_back, sum_of, two_walks, whole_seconds,
 };
 use crate::law_callers::errors::{message, place, points_into, second_points_into};
 use crate::tests::support::assert_same;
@@ -34,6 +34,7 @@ fn callers_of_laws_of_durations_answer(rt: HostRuntime) {
         assert_same(&rt, duration.as_secs(), secs);
         assert_same(&rt, whole_seconds(text).ok(), Some(secs));
         assert_same(&rt, read_as_before(text).ok(), Some(duration));
+        assert_same(&rt, is_still_read(text), true);
         assert_same(&rt, canonical_text(duration, &mut [0; 64]), canon);
         assert_same(&rt, reads_back(canon, duration), true);
         assert_same(
@@ -63,6 +64,7 @@ fn callers_of_laws_of_durations_answer(rt: HostRuntime) {
     let overflow = sum_of("18446744073709551615s", "1s", "18446744073709551615s1s").err();
     assert_same(&rt, overflow, Some(DurationError::NumberOverflow));
     assert_same(&rt, read_alike("1h 30m", "30m 1h"), true);
+    assert_same(&rt, is_one_duration("1h 30m", "30m 1h"), true);
     assert_same(&rt, is_one_count("1h 30m", 2, 2), true);
     let minute = StdDuration::from_secs(60);
     assert_same(&rt, are_small(&[0, 0, 0, 0, 1, 0, 0, 0, 0], minute), true);
@@ -70,6 +72,9 @@ fn callers_of_laws_of_durations_answer(rt: HostRuntime) {
     assert_same(&rt, item.and_then(Result::err), answer.err());
     let (first, second) = first_items("2h x");
     let starts = (first.map(start), second.map(start));
+    assert_same(&rt, starts, (Some(Some(0)), Some(Some(0))));
+    let (mut first, mut second) = two_walks("2h x");
+    let starts = (first.next().map(start), second.next().map(start));
     assert_same(&rt, starts, (Some(Some(0)), Some(Some(0))));
 }
 

@@ -10,7 +10,7 @@ use Rattle.humantime.specs.Durations.Characters.{greek_mu, white_spaces, is_ws, 
 use Rattle.humantime.specs.Durations.Units.{Scale, scale_of_word}
 use Rattle.humantime.specs.Durations.Spans.{Span, Only, Spells, SpellsEach}
 use Rattle.humantime.specs.Durations.Accepted.{fraction_additions, additions_at, additions, total, Formed, FitsFraction, Fits, Accepted, Bare_zero, Sum_of}
-use Rattle.humantime.specs.Laws.Older.{is_older_letter, older_scale_of_word, older_fraction_additions, older_additions_at, older_additions, OlderFormed, OlderFitsFraction, OlderFits, OlderWithinLimits, AcceptedWithZeros, Older_zero, Older_sum, AcceptedWithoutMu, Oldest_zero, Oldest_sum, IsStillAccepted, HasMu}
+use Rattle.humantime.specs.Laws.Older.{is_older_letter, older_scale_of_word, older_fraction_additions, older_additions_at, older_additions, OlderFormed, OlderFitsFraction, OlderFits, OlderWithinLimits, AcceptedWithZeros, Older_zero, Older_sum, AcceptedWithoutMu, Oldest_zero, Oldest_sum, IsStillAccepted, IsStillRead, HasMu}
 use Rattle.humantime.specs.References.Durations.Answers.{duration_answer}
 use Rattle.humantime.proofs.Durations.Reading.Outcomes.{outcome_accepted}
 use Rattle.humantime.proofs.Durations.Reading.Settled.{FitsAt}
@@ -55,9 +55,12 @@ zeros_still_accepted text v (Older_sum spans h g sum) =
 pub record KeepsValueWithZeros (text : List ℕ) : Type 0 where
   pub value : IsStillAccepted text
   pub answer : (v : ℕ) → AcceptedWithZeros text v → duration_answer text ≡ Ok v
+  pub read : IsStillRead text
 
 pub still_accepted : (text : List ℕ) → KeepsValueWithZeros text
-still_accepted text = record { value = zeros_still_accepted text; answer = λ v a. outcome_accepted text v (zeros_still_accepted text v a) }
+still_accepted text =
+    let answer = λ (v : ℕ) (a : AcceptedWithZeros text v). outcome_accepted text v (zeros_still_accepted text v a) in
+    record { value = zeros_still_accepted text; answer = answer; read = λ was. rw (answer was.duration was.accepted) refl }
 
 -- ---- the Greek letter
 

@@ -7,3 +7,6 @@ returns-clause-value c = (law.still_accepted (chars c.args.s.now)).value
 
 pub returns-clause-answer : goal.returns-clause-answer
 returns-clause-answer c = (law.still_accepted (chars c.args.s.now)).answer
+
+pub returns-clause-read : goal.returns-clause-read
+returns-clause-read c = (law.still_accepted (chars c.args.s.now)).read
