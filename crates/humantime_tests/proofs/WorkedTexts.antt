@@ -50,6 +50,13 @@ rows_of_zeros =
     ∷ row (codes "1.00000000000000000000") (Err (UnknownUnit 22 22 [] 1))
     ∷ []
 
+-- a fraction may have 19 digits: what follows them is looked at, and what follows a twentieth isn't
+abbrev rows_of_digits : List Row
+rows_of_digits =
+    row (codes "0.1234567890123456789~") (Err (InvalidCharacter 21))
+    ∷ row (codes "0.12345678901234567891~") (Err NumberOverflow)
+    ∷ []
+
 -- a fraction is a whole number of nanoseconds, and from hours on of seconds
 abbrev rows_of_fractions : List Row
 rows_of_fractions =
@@ -100,7 +107,7 @@ rows_beyond_ascii =
 abbrev AreAnswered : List Row → Type 0
 AreAnswered xs = map (λ x. duration_answer x.text) xs ≡ map (λ x. x.answer) xs
 
-rows_answered : AreAnswered (rows ++ rows_of_zeros ++ rows_beyond_ascii)
+rows_answered : AreAnswered (rows ++ rows_of_zeros ++ rows_of_digits ++ rows_beyond_ascii)
 unfolding humantime_on_literals
 rows_answered = refl
 

@@ -1,6 +1,6 @@
 //! Callers of the laws of durations.
 
-ghost use Rattle.std.specs.Prelude.{◌≡◌, ◌≢◌, ◌+◌, ◌/◌, ◌++◌, ◌↔◌, ℕ, List, Option, None, Some, Ok, Err, chars, length, option_map, true, IsPermutation};
+ghost use Rattle.std.specs.Prelude.{◌≡◌, ◌≢◌, ◌+◌, ◌/◌, ◌++◌, ◌↔◌, ℕ, List, Option, None, Some, Ok, Err, chars, option_map, true, IsPermutation};
 ghost use Rattle.humantime.specs.Prelude.{Accepted, AcceptedWithZeros, AllHaveRoom, AreReordered, Canon, Counts, Fault, HasFault, Items, NumberOverflow, Reads, Span, WithinLimits, additions, bare_zero, item_of, items_left, nanos_per_second, told, value, WasAccepted};
 
 use crate::callers::durations::limit_seconds;
@@ -32,12 +32,12 @@ pub fn outcome(text: &str) -> Result<StdDuration, DurationError<'_>>
     parse_duration(text)
 }
 
-/// Whether two counts of the spans of one text are equal: they are.
-pub fn is_one_count(text: &str, n: usize, m: usize) -> bool
-    ensures { (ss : List Span) (ts : List Span) → Reads (chars text.now) ss → Reads (chars text.now) ts → length ss ≡ n → length ts ≡ m → result ≡ true }
+/// Whether two sums of the spans of one text are equal: they are.
+pub fn is_one_value(text: &str, v: u64, w: u64) -> bool
+    ensures { (ss : List Span) (ts : List Span) → Reads (chars text.now) ss → Reads (chars text.now) ts → value ss ≡ v → value ts ≡ w → result ≡ true }
 {
     one_outcome(text);
-    n == m
+    v == w
 }
 
 /// The duration that a text spells, or its first fault: what its items and their limits decide.
