@@ -2,9 +2,9 @@
 
 use crate::callers::laws::{comes_back, looks_same, needs_no_space};
 use crate::law_callers::durations::{
-    adds_up, are_small, canonical_text, decided, first_item_and_answer, first_items, is_one_duration,
-    is_one_value, is_settled, is_short, is_still_read, keeps_its_value, read_alike,
-    read_as_before, reads_back, sum_of, two_walks, whole_seconds,
+    adds_up, are_small, canonical_text, decided, first_item_and_answer, first_items,
+    is_one_duration, is_one_value, is_settled, is_short, is_still_read, keeps_its_value,
+    read_alike, read_as_before, reads_back, sum_of, two_walks, whole_seconds,
 };
 use crate::law_callers::errors::{message, place, points_into, second_points_into};
 use crate::tests::support::assert_same;
@@ -65,7 +65,11 @@ fn callers_of_laws_of_durations_answer(rt: HostRuntime) {
     assert_same(&rt, overflow, Some(DurationError::NumberOverflow));
     assert_same(&rt, read_alike("1h 30m", "30m 1h"), true);
     assert_same(&rt, is_one_duration("1h 30m", "30m 1h"), true);
-    assert_same(&rt, is_one_value("1h 30m", 5_400_000_000_000, 5_400_000_000_000), true);
+    assert_same(
+        &rt,
+        is_one_value("1h 30m", 5_400_000_000_000, 5_400_000_000_000),
+        true,
+    );
     let minute = StdDuration::from_secs(60);
     assert_same(&rt, are_small(&[0, 0, 0, 0, 1, 0, 0, 0, 0], minute), true);
     let (item, answer) = first_item_and_answer("  x");
