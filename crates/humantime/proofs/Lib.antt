@@ -5,4 +5,5 @@ pub mod OnLiterals
 pub mod Theorems
 pub mod Timestamps
 pub mod TimestampsOnLiterals
+pub mod Values
 pub mod Walks

@@ -74,10 +74,9 @@ impl StdDuration {
         requires { secs + nanos / nanos_per_second < 2 ^ 64 }
         ensures { result ≡ secs * nanos_per_second + nanos }
     {
-        StdDuration {
-            secs: secs + (nanos / NANOS_PER_SECOND) as u64,
-            nanos: nanos % NANOS_PER_SECOND,
-        }
+        let secs = secs + (nanos / NANOS_PER_SECOND) as u64;
+        let nanos = nanos % NANOS_PER_SECOND;
+        StdDuration { secs, nanos }
     }
 
     /// The sum of the seconds and the nanoseconds, or `None` where its seconds do not fit `u64`.
@@ -90,10 +89,8 @@ impl StdDuration {
         ensures sum { IfSome result (λ d. d ≡ secs * nanos_per_second + nanos) }
     {
         let secs = secs.checked_add((nanos / NANOS_PER_SECOND) as u64)?;
-        Some(StdDuration {
-            secs,
-            nanos: nanos % NANOS_PER_SECOND,
-        })
+        let nanos = nanos % NANOS_PER_SECOND;
+        Some(StdDuration { secs, nanos })
     }
 
     /// So many whole seconds.
@@ -115,10 +112,9 @@ impl StdDuration {
     pub fn from_micros(micros: u64) -> StdDuration
         ensures { result ≡ micros * 1000 }
     {
-        StdDuration {
-            secs: micros / 1_000_000,
-            nanos: (micros % 1_000_000 * 1000) as u32,
-        }
+        let secs = micros / 1_000_000;
+        let nanos = (micros % 1_000_000 * 1000) as u32;
+        StdDuration { secs, nanos }
     }
 
     /// The whole seconds.
@@ -165,10 +161,7 @@ impl StdDuration {
         ensures sum { IfSome result (λ d. d ≡ self + secs * nanos_per_second) }
     {
         let secs = self.secs.checked_add(secs)?;
-        Some(StdDuration {
-            secs,
-            nanos: self.nanos,
-        })
+        Some(StdDuration { secs, ..self })
     }
 
     /// The sum with so many nanoseconds, or `None` where its whole seconds, or these and the nanoseconds
@@ -181,16 +174,12 @@ impl StdDuration {
         let sum = nanos.checked_add(self.nanos as u64)?;
         // Most sums carry nothing, and then nothing has to be divided.
         if sum < NANOS_PER_SECOND as u64 {
-            return Some(StdDuration {
-                secs: self.secs,
-                nanos: sum as u32,
-            });
+            let nanos = sum as u32;
+            return Some(StdDuration { nanos, ..self });
         }
         let secs = self.secs.checked_add(sum / NANOS_PER_SECOND as u64)?;
-        Some(StdDuration {
-            secs,
-            nanos: (sum % NANOS_PER_SECOND as u64) as u32,
-        })
+        let nanos = (sum % NANOS_PER_SECOND as u64) as u32;
+        Some(StdDuration { secs, nanos })
     }
 }
 

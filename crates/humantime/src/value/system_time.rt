@@ -36,9 +36,10 @@ pub struct SystemTime {
 }
 
 impl Model for SystemTime {
-    ghost use Rattle.std.specs.Prelude.{ℤ, ◌<◌};
+    ghost use Rattle.std.specs.Prelude.{◌≡◌, ℤ, ◌<◌};
+    ghost use Rattle.std.proofs.Common.{arith};
+    ghost use Rattle.std.proofs.lemmas.Int.{ints};
     ghost use Rattle.humantime.specs.Values.{moment, second_of, nano_of};
-    ghost use Rattle.humantime.specs.References.Values.MomentLemmas.{second_of-moment, nano_of-moment};
 
     ghost Value = { ℤ };
 
@@ -48,10 +49,10 @@ impl Model for SystemTime {
 
     ghost inverse = { λ z. record { secs = second_of z; nanos = nano_of z } };
 
-    ghost inverse_ok = { λ t h. λ i. record {
-      secs = second_of-moment t.secs t.nanos h i;
-      nanos = nano_of-moment t.secs t.nanos h i;
-    } };
+    ghost inverse_ok = { λ t h.
+        let secs : second_of (moment t.secs t.nanos) ≡ t.secs = Prim.grind (arith, ints) in
+        let nanos : nano_of (moment t.secs t.nanos) ≡ t.nanos = Prim.grind (arith, ints) in
+        λ i. record { secs = secs i; nanos = nanos i } };
 }
 
 /// That one moment is later than another, and by how much.
@@ -110,7 +111,7 @@ impl SystemTime {
     /// ```text
     /// UNIX_EPOCH.unix_seconds() == 0
     /// ```
-    #[tactic(auto, using(crate::specs::References::Values::MomentLemmas::parts_of_moment))]
+    #[tactic(auto, using(crate::proofs::Values::Moments::parts_of_moment))]
     pub fn unix_seconds(&self) -> i64
         ensures second { result ≡ second_of self.now }
         ensures parts { moment result (nano_of self.now) ≡ self.now }
@@ -123,7 +124,7 @@ impl SystemTime {
     /// ```text
     /// UNIX_EPOCH.subsec_nanos() == 0
     /// ```
-    #[tactic(auto, using(crate::specs::References::Values::MomentLemmas::parts_of_moment))]
+    #[tactic(auto, using(crate::proofs::Values::Moments::parts_of_moment))]
     pub fn subsec_nanos(&self) -> u32
         ensures nano { result ≡ nano_of self.now }
         ensures parts { moment (second_of self.now) result ≡ self.now }
@@ -144,10 +145,8 @@ impl SystemTime {
         let nanos = self.nanos + duration.subsec_nanos();
         let carry = nanos / NANOS_PER_SECOND;
         let secs = later_second(self.secs, duration.as_secs(), carry)?;
-        Some(SystemTime {
-            secs,
-            nanos: nanos % NANOS_PER_SECOND,
-        })
+        let nanos = nanos % NANOS_PER_SECOND;
+        Some(SystemTime { secs, nanos })
     }
 
     /// The time from `earlier` to this moment.
@@ -177,10 +176,8 @@ impl SystemTime {
         requires nanos { nanos < nanos_per_second }
         ensures { result ≡ pos (secs * nanos_per_second + nanos) }
     {
-        SystemTime {
-            secs: secs as i64,
-            nanos,
-        }
+        let secs = secs as i64;
+        SystemTime { secs, nanos }
     }
 
     /// The time from a moment that is not later.
@@ -203,11 +200,7 @@ fn later_second(second: i64, secs: u64, carry: u32) -> Option<i64>
     ensures value { IfSome result (λ s. s ≡ second +ℤ pos (secs + carry)) }
 {
     let later = second as i128 + (secs as i128 + carry as i128);
-    if later <= i64::MAX as i128 {
-        Some(later as i64)
-    } else {
-        None
-    }
+    i64::try_from(later).ok()
 }
 
 impl PartialEq for SystemTime {
@@ -215,7 +208,7 @@ impl PartialEq for SystemTime {
 
     ghost laws = { Prim.search (comparing, rules) };
 
-    #[tactic(auto, using(crate::specs::References::Values::MomentLemmas::int_eq_moment))]
+    #[tactic(auto, using(crate::proofs::Values::Moments::int_eq_moment))]
     fn eq(&self, other: &SystemTime) -> bool {
         self.secs == other.secs && self.nanos == other.nanos
     }
@@ -234,7 +227,7 @@ impl Ord for SystemTime {
 
     ghost matches_eq = { Prim.search (comparing, rules) };
 
-    #[tactic(auto, using(crate::specs::References::Values::MomentLemmas::int_cmp_moment))]
+    #[tactic(auto, using(crate::proofs::Values::Moments::int_cmp_moment))]
     fn cmp(&self, other: &SystemTime) -> Ordering {
         self.secs
             .cmp(&other.secs)

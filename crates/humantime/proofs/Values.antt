@@ -1,2 +1,2 @@
 -- Moments and their parts.
-pub mod MomentLemmas
+pub mod Moments
