@@ -10,7 +10,7 @@ use Rattle.std.proofs.lemmas.Option.{none-some, same_Some}
 use Rattle.humantime.proofs.Timestamps.Reading.Fractions.{digits_from}
 use Rattle.humantime.specs.declared.date.print.DateTime.{DateTime}
 use Rattle.humantime.specs.declared.date.print.Precision.{Precision}
-use Rattle.humantime.specs.References.Calendar.DatesOfDays.{date_of}
+use Rattle.humantime.specs.References.Calendar.March.{date_of}
 use Rattle.humantime.specs.Timestamps.Fields.{fields_text, moment_of}
 use Rattle.humantime.specs.Timestamps.Printed.{MomentToPrint, places_of, cut, year_10000, IsPrinted, IsPrintable}
 use Rattle.humantime.specs.Laws.Timestamps.{ReadsAs, OnePrinted}

@@ -4,7 +4,7 @@ use Rattle.humantime.specs.declared.date.print.DateTime.{DateTime}
 use Rattle.humantime.specs.declared.date.print.Precision.{Precision}
 use Rattle.humantime.specs.declared.date.print.Precision.TheVariants.{Seconds, Millis, Micros, Nanos}
 use Rattle.humantime.specs.Calendar.{IsDate, day_of}
-use Rattle.humantime.specs.References.Calendar.DatesOfDays.{date_of}
+use Rattle.humantime.specs.References.Calendar.March.{date_of}
 use Rattle.humantime.specs.Timestamps.Fields.{digit, Letter_T, Letter_Z, Fields, fields_text}
 use Rattle.humantime.specs.Values.{nanos_per_second}
 use Rattle.humantime.specs.Timestamps.Printed.{MomentToPrint, year_10000, places_of}
