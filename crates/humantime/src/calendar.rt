@@ -17,6 +17,9 @@ const LAST_YEAR: u32 = 9999;
 /// The day of 9999-12-31.
 const LAST_DAY: u32 = 2_932_896;
 
+/// The days before each month of a common year, January first.
+const DAYS_BEFORE_MONTH: [u32; 12] = [0, 31, 59, 90, 120, 151, 181, 212, 243, 273, 304, 334];
+
 /// The days of each month, January first, with 28 for February.
 const MONTH_LENGTHS: [u32; 12] = [31, 28, 31, 30, 31, 30, 31, 31, 30, 31, 30, 31];
 
@@ -76,32 +79,25 @@ fn month_length(year: u32, month: u32) -> u32
     }
 }
 
-/// The days before this month of a year that begins on 1 March. March is month 0.
-#[inline(always)]
-fn days_before_march_month(month: u32) -> u32
-    requires { month ≤ 12 }
-    ensures { result ≡ march_months month }
-{
-    (153 * month + 2) / 5
-}
-
 /// The days of the year's months before this one.
 #[inline(always)]
-#[tactic(auto, using(crate::proofs::Dates::Years::months_counted))]
+#[tactic(auto, using(crate::proofs::Dates::Years::days_in_table))]
 fn days_before_month(year: u32, month: u32) -> u32
     requires { IsInRange 1 12 month }
     ensures { result ≡ days_of_months year (month - 1) }
 {
+    let days = DAYS_BEFORE_MONTH[(month - 1) as usize];
     if month > 2 {
-        days_before_march_month(month - 3) + 59 + leap_days(year)
+        days + leap_days(year)
     } else {
-        31 * (month - 1)
+        days
     }
 }
 
 /// The number of days from 1970-01-01 to the date, or `None` where no such date exists in 1970 to 9999.
 ///
-/// The leap days before a year and the days before a month are counted by formulas. No loop turns.
+/// The leap days before a year are counted by a formula, and the days before a month by a table. No loop
+/// turns.
 ///
 /// ```text
 /// day_number(Date { year: 2000, month: 2, day: 29 }, &mut turns) == Some(11016)
@@ -136,6 +132,15 @@ fn march_year(day: u32) -> (u32, u32)
     let century = quarters / 146_097;
     let left = quarters % 146_097 / 4 * 4 + 3;
     (100 * century + left / 1461, left % 1461 / 4)
+}
+
+/// The days before this month of a year that begins on 1 March. March is month 0.
+#[inline(always)]
+fn days_before_march_month(month: u32) -> u32
+    requires { month ≤ 12 }
+    ensures { result ≡ march_months month }
+{
+    (153 * month + 2) / 5
 }
 
 /// The date with so many days of the month before it. March is month 0, and January and February are the last
