@@ -5,14 +5,15 @@ ghost use Rattle.std.specs.Borrow.{sem};
 ghost use Rattle.std.specs.Str.{IsUtf8, byte};
 ghost use Rattle.humantime.specs.Buffers.{KeptAtNone};
 ghost use Rattle.humantime.specs.Timestamps.Fields.{digit, two_digits, date_time_text, fields_text};
-ghost use Rattle.humantime.specs.Timestamps.Printed.{IsPrintable};
-ghost use Rattle.humantime.specs.References.Timestamps.Printing.{places, places_of, moment_kept, places_kept, IsTextOf, printed_text, shortest_text, fields_shown, IsDateTimeOf, FitsPlaces};
+ghost use Rattle.humantime.specs.Timestamps.Printed.{IsPrinted, IsPrintable, places_of};
+ghost use Rattle.humantime.specs.References.Timestamps.Printing.{places, printed_text, fields_shown, IsDateTimeOf, FitsPlaces};
 
 use crate::buffer::front;
 use crate::calendar::{Date, date_of_day};
 use crate::turns::Turns;
 use crate::value::SystemTime;
 use std::fmt;
+use std::marker::Model;
 
 /// The first second of the year 10000.
 const END: i64 = 253_402_300_800;
@@ -55,6 +56,20 @@ pub struct Rfc3339Timestamp {
     precision: Precision,
 }
 
+impl Model for Rfc3339Timestamp {
+    ghost use Rattle.humantime.specs.Timestamps.Printed.{MomentToPrint};
+    ghost use Rattle.humantime.specs.References.Timestamps.Printing.{places, precision_of};
+    ghost use Rattle.std.proofs.Common.{arith};
+
+    ghost Value = { MomentToPrint };
+
+    ghost view = { λ x. record { moment = x.moment; places = places x.precision } };
+
+    ghost inverse = { λ x. record { moment = x.moment; precision = precision_of x.places } };
+
+    ghost inverse_ok = { λ x h. Prim.grind arith };
+}
+
 /// The moment, to be printed with no fraction where its nanoseconds are zero, and else with nine digits.
 ///
 /// It never fails. RFC 3339 has the form; this choice of the digits is the crate's.
@@ -62,11 +77,8 @@ pub struct Rfc3339Timestamp {
 /// ```text
 /// format_rfc3339(UNIX_EPOCH)
 /// ```
-#[tactic(auto, unfolding(crate::specs::References::Timestamps::Printing::moment_kept, crate::specs::References::Timestamps::Printing::places_kept))]
 pub fn format_rfc3339(moment: SystemTime) -> Rfc3339Timestamp
-    ensures moment { moment_kept result ≡ moment }
-    ensures places { places_kept result ≡ places_of moment }
-    ensures text { printed_text result ≡ shortest_text moment }
+    ensures { result ≡ record { moment = moment; places = places_of moment } }
 {
     let precision = if moment.subsec_nanos() == 0 {
         Precision::Seconds
@@ -83,10 +95,8 @@ pub fn format_rfc3339(moment: SystemTime) -> Rfc3339Timestamp
 /// ```text
 /// format_rfc3339_seconds(UNIX_EPOCH)
 /// ```
-#[tactic(auto, unfolding(crate::specs::References::Timestamps::Printing::moment_kept, crate::specs::References::Timestamps::Printing::places_kept))]
 pub fn format_rfc3339_seconds(moment: SystemTime) -> Rfc3339Timestamp
-    ensures moment { moment_kept result ≡ moment }
-    ensures places { places_kept result ≡ 0 }
+    ensures { result ≡ record { moment = moment; places = 0 } }
 {
     Rfc3339Timestamp {
         moment,
@@ -101,10 +111,8 @@ pub fn format_rfc3339_seconds(moment: SystemTime) -> Rfc3339Timestamp
 /// ```text
 /// format_rfc3339_millis(UNIX_EPOCH)
 /// ```
-#[tactic(auto, unfolding(crate::specs::References::Timestamps::Printing::moment_kept, crate::specs::References::Timestamps::Printing::places_kept))]
 pub fn format_rfc3339_millis(moment: SystemTime) -> Rfc3339Timestamp
-    ensures moment { moment_kept result ≡ moment }
-    ensures places { places_kept result ≡ 3 }
+    ensures { result ≡ record { moment = moment; places = 3 } }
 {
     Rfc3339Timestamp {
         moment,
@@ -119,10 +127,8 @@ pub fn format_rfc3339_millis(moment: SystemTime) -> Rfc3339Timestamp
 /// ```text
 /// format_rfc3339_micros(UNIX_EPOCH)
 /// ```
-#[tactic(auto, unfolding(crate::specs::References::Timestamps::Printing::moment_kept, crate::specs::References::Timestamps::Printing::places_kept))]
 pub fn format_rfc3339_micros(moment: SystemTime) -> Rfc3339Timestamp
-    ensures moment { moment_kept result ≡ moment }
-    ensures places { places_kept result ≡ 6 }
+    ensures { result ≡ record { moment = moment; places = 6 } }
 {
     Rfc3339Timestamp {
         moment,
@@ -137,10 +143,8 @@ pub fn format_rfc3339_micros(moment: SystemTime) -> Rfc3339Timestamp
 /// ```text
 /// format_rfc3339_nanos(UNIX_EPOCH)
 /// ```
-#[tactic(auto, unfolding(crate::specs::References::Timestamps::Printing::moment_kept, crate::specs::References::Timestamps::Printing::places_kept))]
 pub fn format_rfc3339_nanos(moment: SystemTime) -> Rfc3339Timestamp
-    ensures moment { moment_kept result ≡ moment }
-    ensures places { places_kept result ≡ 9 }
+    ensures { result ≡ record { moment = moment; places = 9 } }
 {
     Rfc3339Timestamp {
         moment,
@@ -154,9 +158,9 @@ impl Rfc3339Timestamp {
     /// ```text
     /// *format_rfc3339(UNIX_EPOCH).get_ref() == UNIX_EPOCH
     /// ```
-    #[tactic(auto, unfolding(crate::specs::References::Timestamps::Printing::moment_kept))]
     pub fn get_ref(&self) -> &SystemTime
-        ensures { result.now ≡ moment_kept self.now }
+        ensures moment { result.now ≡ self.now.moment }
+        ensures few { self.now.places ≤ 9 }
     {
         &self.moment
     }
@@ -170,8 +174,8 @@ impl Rfc3339Timestamp {
     /// ```
     #[inline(always)]
     pub fn text<'b>(&self, buf: &'b mut [u8; 30]) -> Option<&'b str>
-        ensures within { IsSome result ↔ IsPrintable (moment_kept self.now) }
-        ensures text { IfSome result (λ t. IsTextOf self.now t.now) }
+        ensures within { IsSome result ↔ IsPrintable self.now.moment }
+        ensures text { IfSome result (λ t. IsPrinted self.now.moment self.now.places t.now) }
         ensures* unchanged { sem 𝓛 (KeptAtNone 30 buf.entry result) }
     {
         let len = self.write(buf);
@@ -180,11 +184,10 @@ impl Rfc3339Timestamp {
 
     /// Writes the text to the front of the buffer. `None`, and the buffer as it was, outside 1970 to 9999.
     #[inline(always)]
-    #[tactic(auto, unfolding(crate::specs::References::Timestamps::Printing::moment_kept))]
     pub(crate) fn write(&self, buf: &mut [u8; 30]) -> Option<usize>
-        ensures within { IsSome result ↔ IsPrintable (moment_kept self.now) }
+        ensures within { IsSome result ↔ IsPrintable self.now.moment }
         ensures fits { IfSome result (λ len. len ≤ 30) }
-        ensures text { IfSome result (λ len. IsTextOf self.now (take len buf.new)) }
+        ensures text { IfSome result (λ len. IsPrinted self.now.moment self.now.places (take len buf.new)) }
         ensures unchanged { IfNone result (buf.new ≡ buf.old) }
     {
         let date_time = date_time_of(self.moment)?;
@@ -203,9 +206,9 @@ impl fmt::Display for Rfc3339Timestamp {
     fn fmt<W: fmt::Write>(&self, f: &mut fmt::Formatter<W>) -> fmt::Result
         ensures writes { DisplaysOnOk W.write_str_gives f.old result (printed_text self.now) f.new }
         ensures styled { DisplaysStyledOnOk W.write_str_gives f.old result (printed_text self.now) f.new }
-        ensures within { IsOk result → IsPrintable (moment_kept self.now) }
-        ensures refused { ¬ (IsPrintable (moment_kept self.now)) → result ≡ Err fmt_error }
-        ensures untouched { ¬ (IsPrintable (moment_kept self.now)) → f.new ≡ f.old }
+        ensures within { IsOk result → IsPrintable self.now.moment }
+        ensures refused { ¬ (IsPrintable self.now.moment) → result ≡ Err fmt_error }
+        ensures untouched { ¬ (IsPrintable self.now.moment) → f.new ≡ f.old }
     {
         let mut buf = [0; 30];
         let Some(text) = self.text(&mut buf) else {

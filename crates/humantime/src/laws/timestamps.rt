@@ -8,7 +8,7 @@ ghost use Rattle.humantime.specs.Timestamps.Fields.{IsWeak, IsStrict, IsWeakMome
 ghost use Rattle.humantime.specs.Timestamps.Checks.{weak_checks, strict_checks, first_failed};
 ghost use Rattle.humantime.specs.Laws.Timestamps.{OneTimestamp, StrictIsWeak, StrictMomentIsWeak, IsMarked, InOrder, OnePrinted, ReadsAs, StampOutcome, StrictForm};
 ghost use Rattle.humantime.specs.Timestamps.Printed.{cut, IsPrintable, IsPrinted};
-ghost use Rattle.humantime.specs.References.Timestamps.Printing.{moment_kept, places_kept, printed_text, IsTextOf};
+ghost use Rattle.humantime.specs.References.Timestamps.Printing.{printed_text};
 ghost use Rattle.humantime.specs.References.Timestamps.Reading.{weak_answer, strict_answer};
 
 use crate::date::Rfc3339Timestamp;
@@ -46,14 +46,14 @@ pub fn one_stamp_outcome(s: &str)
 /// printed_moment_reads(&format_rfc3339(UNIX_EPOCH))
 /// ```
 pub fn printed_moment_reads(x: &Rfc3339Timestamp)
-    ensures one { IsPrintable (moment_kept x.now) → OnePrinted (moment_kept x.now) (places_kept x.now) }
-    ensures displayed { (text : List ℕ) → (printed_text x.now ≡ Some text) ↔ (IsPrintable (moment_kept x.now) × IsTextOf x.now text) }
-    ensures reads { (text : List ℕ) → IsTextOf x.now text → ReadsAs text (cut (moment_kept x.now) (places_kept x.now)) }
-    ensures strict { (text : List ℕ) → IsTextOf x.now text → strict_answer text ≡ Ok (cut (moment_kept x.now) (places_kept x.now)) }
-    ensures weak { (text : List ℕ) → IsTextOf x.now text → weak_answer text ≡ Ok (cut (moment_kept x.now) (places_kept x.now)) }
-    ensures whole { cut (moment_kept x.now) 9 ≡ moment_kept x.now }
+    ensures one { IsPrintable x.now.moment → OnePrinted x.now.moment x.now.places }
+    ensures displayed { (text : List ℕ) → (printed_text x.now ≡ Some text) ↔ (IsPrintable x.now.moment × IsPrinted x.now.moment x.now.places text) }
+    ensures reads { (text : List ℕ) → IsPrinted x.now.moment x.now.places text → ReadsAs text (cut x.now.moment x.now.places) }
+    ensures strict { (text : List ℕ) → IsPrinted x.now.moment x.now.places text → strict_answer text ≡ Ok (cut x.now.moment x.now.places) }
+    ensures weak { (text : List ℕ) → IsPrinted x.now.moment x.now.places text → weak_answer text ≡ Ok (cut x.now.moment x.now.places) }
+    ensures whole { cut x.now.moment 9 ≡ x.now.moment }
 {
-    let _ = x;
+    let _ = x.get_ref();
 }
 
 /// Printed texts with equally many digits stand, as bytes, in the order of their moments, cut to these digits.

@@ -1,22 +1,20 @@
 -- The laws of timestamps and days as theorems over plain variables, each under the name of its function in `laws`, and what callers cite beside them.
 use Rattle.std.proofs.lemmas.Grind.{common_steps}
-use Rattle.std.proofs.Common.{◌≡◌, ◌≤◌, ℕ, List, refl, sym, subst, ◌∙◌, arith}
-use Rattle.std.specs.Prelude.{◌↔◌, ℤ, pos, negsuc, ◌≤ℤ◌, ◌<ℤ◌, Option, Some, None, Ok, Err, IsTrue, IfSome}
+use Rattle.std.proofs.Common.{◌≡◌, ◌≤◌, ℕ, List, sym, subst, ◌∙◌, arith}
+use Rattle.std.specs.Prelude.{◌↔◌, ℤ, pos, negsuc, ◌≤ℤ◌, ◌<ℤ◌, Some, Ok, Err, IsTrue, IfSome}
 use Rattle.std.specs.declared.cmp.Ordering.{Ordering}
 use Rattle.std.specs.Cmp.Lexicographic.{slice_cmp}
 use Rattle.std.specs.Ordering.{nat_cmp, int_cmp, is_le, is_lt}
 use Rattle.std.proofs.lemmas.Int.{ints}
-use Rattle.std.proofs.lemmas.Option.{none-some}
 use Rattle.humantime.specs.declared.date.error.TimestampError.{TimestampError}
-use Rattle.humantime.specs.declared.date.print.Rfc3339Timestamp.{Rfc3339Timestamp}
 use Rattle.humantime.specs.declared.calendar.Date.{Date}
 use Rattle.humantime.specs.Calendar.{IsDate, day_of}
 use Rattle.humantime.specs.Laws.Days.{OneDate}
 use Rattle.humantime.specs.Timestamps.Fields.{IsWeakMoment, IsStrictMoment}
 use Rattle.humantime.specs.Timestamps.Checks.{weak_checks, strict_checks, first_failed}
 use Rattle.humantime.specs.Laws.Timestamps.{ReadsAs, OnePrinted, StampOutcome, StrictForm}
-use Rattle.humantime.specs.Timestamps.Printed.{cut, IsPrinted, IsPrintable}
-use Rattle.humantime.specs.References.Timestamps.Printing.{moment_kept, places_kept, moment_text, printed_text}
+use Rattle.humantime.specs.Timestamps.Printed.{MomentToPrint, cut, IsPrinted, IsPrintable}
+use Rattle.humantime.specs.References.Timestamps.Printing.{moment_text, printed_text}
 use Rattle.humantime.specs.References.Timestamps.Reading.{weak_answer, strict_answer}
 use Rattle.humantime.proofs.Dates.DaysOfDates as dates
 use Rattle.humantime.proofs.Timestamps.Laws.Order.{printed_order}
@@ -25,7 +23,7 @@ use Rattle.humantime.proofs.Timestamps.Laws.Printable as printable
 use Rattle.humantime.proofs.Timestamps.Laws.Reading as read
 use Rattle.humantime.proofs.Timestamps.Laws.StrictForm as strict
 pub use Rattle.humantime.proofs.Values.Moments.{parts_of_moment, nano_of_bound}
-pub use Rattle.humantime.proofs.Timestamps.Printing.Printed.{places_kept_bound, places_of_bound, printed_as}
+pub use Rattle.humantime.proofs.Timestamps.Printing.Printed.{places_of_bound}
 
 -- ---- Days
 
@@ -124,20 +122,14 @@ printed_some t k small printable =
     let one = one_printed t k small printable in
     (one.text, (text_displayed t k one.text small).1 (printable, one.printed), one.printed)
 
--- what `Display` wrote, of a timestamp that is known by two equations
-pub displayed_as : (x : Rfc3339Timestamp) (t : ℤ) (k : ℕ) (bytes : List ℕ) → moment_kept x ≡ t → places_kept x ≡ k → IsPrintable t
+-- what `Display` wrote, of a timestamp that is known
+pub displayed_as : (x : MomentToPrint) (t : ℤ) (k : ℕ) (bytes : List ℕ) → x ≡ record { moment = t; places = k } → k ≤ 9 → IsPrintable t
     → IfSome (printed_text x) (λ text. bytes ≡ text) → IsPrinted t k bytes
-displayed_as x t k bytes moment digits within written = by_text (printed_text x) refl written where
-  printable : IsPrintable (moment_kept x)
-  printable = subst IsPrintable (sym moment) within
-
-  by_text : (o : Option (List ℕ)) → printed_text x ≡ o → IfSome o (λ text. bytes ≡ text) → IsPrinted t k bytes
-  by_text (Some text) is same =
-      let told = text_displayed (moment_kept x) (places_kept x) text (places_kept_bound x) in
-      printed_as x t k bytes moment digits (subst (IsPrinted (moment_kept x) (places_kept x)) (sym same) (told.0 is).1)
-  by_text None is same =
-      let one = one_printed (moment_kept x) (places_kept x) (places_kept_bound x) printable in
-      absurd (none-some _ (sym is ∙ (text_displayed (moment_kept x) (places_kept x) one.text (places_kept_bound x)).1 (printable, one.printed)))
+displayed_as x t k bytes known small within written =
+    let one = one_printed t k small within in
+    let text : printed_text x ≡ Some one.text = rw known ((text_displayed t k one.text small).1 (within, one.printed)) in
+    let same : bytes ≡ one.text = rw text at written in
+    rw same one.printed
 
 -- the bytes of two texts stand in the order of the moments that they print, cut to their digits
 pub stamps_in_order : (a b : ℤ) (k : ℕ) (x y : List ℕ) → IsPrinted a k x → IsPrinted b k y → slice_cmp nat_cmp x y ≡ int_cmp (cut a k) (cut b k)

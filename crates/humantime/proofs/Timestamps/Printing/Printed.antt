@@ -10,12 +10,11 @@ use Rattle.std.proofs.lemmas.Option.{none-some, same_Some}
 use Rattle.humantime.proofs.Timestamps.Reading.Fractions.{digits_from}
 use Rattle.humantime.specs.declared.date.print.DateTime.{DateTime}
 use Rattle.humantime.specs.declared.date.print.Precision.{Precision}
-use Rattle.humantime.specs.declared.date.print.Rfc3339Timestamp.{Rfc3339Timestamp}
-use Rattle.humantime.specs.References.Calendar.DatesOfDays.{date_of}
+use Rattle.humantime.specs.References.Calendar.March.{date_of}
 use Rattle.humantime.specs.Timestamps.Fields.{fields_text, moment_of}
-use Rattle.humantime.specs.Timestamps.Printed.{cut, year_10000, IsPrinted, IsPrintable}
+use Rattle.humantime.specs.Timestamps.Printed.{MomentToPrint, places_of, cut, year_10000, IsPrinted, IsPrintable}
 use Rattle.humantime.specs.Laws.Timestamps.{ReadsAs, OnePrinted}
-use Rattle.humantime.specs.References.Timestamps.Printing.{places, moment_kept, places_kept, places_of, fields_shown, fields_at, IsDateTimeOf, IsTextOf, printed_text, moment_text}
+use Rattle.humantime.specs.References.Timestamps.Printing.{places, fields_shown, fields_at, IsDateTimeOf, printed_text, moment_text}
 use Rattle.humantime.proofs.Timestamps.Reading.Bytes.{HoldsOfBytes, holds_before_zone}
 use Rattle.humantime.proofs.Dates.DatesOfDays.{date_of_is}
 use Rattle.humantime.proofs.Timestamps.Printing.Digits.{shown_digits, shown_places, shown_nanos, cut_nanos}
@@ -23,11 +22,6 @@ use Rattle.humantime.proofs.Timestamps.Printing.OneText.{same_printed}
 
 pub places_most : (p : Precision) → places p ≤ 9
 places_most p = grind (arith, common_steps)
-
--- no timestamp is printed with more than nine digits
-pub places_kept_bound : (x : Rfc3339Timestamp) → places_kept x ≤ 9
-unfolding places_kept
-places_kept_bound x = places_most x.precision
 
 pub places_of_bound : (t : ℤ) → places_of t ≤ 9
 places_of_bound t = grind (arith, common_steps)
@@ -62,10 +56,6 @@ shown_printed x (pos t) k small h = record {
 -- a printed text is one
 pub one_text : (t : ℤ) (k : ℕ) (x y : List ℕ) → IsPrinted t k x → IsPrinted t k y → x ≡ y
 one_text = same_printed
-
--- the text of a moment that is known by two equations
-pub printed_as : (x : Rfc3339Timestamp) (t : ℤ) (k : ℕ) (text : List ℕ) → moment_kept x ≡ t → places_kept x ≡ k → IsTextOf x text → IsPrinted t k text
-printed_as x t k text moment digits p = subst (λ (n : ℕ). IsPrinted t n text) digits (subst (λ (z : ℤ). IsPrinted z (places_kept x) text) moment p)
 
 -- it is ASCII
 ascii_bytes : HoldsOfBytes (λ c. c < 128)
@@ -140,8 +130,8 @@ text_from (pos t) k text small h p =
 pub text_displayed : (t : ℤ) (k : ℕ) (text : List ℕ) → k ≤ 9 → (moment_text t k ≡ Some text) ↔ (IsPrintable t × IsPrinted t k text)
 text_displayed t k text small = (text_told t k text small, (λ p. text_from t k text small p.0 p.1))
 
-pub printed_text_is : (x : Rfc3339Timestamp) (text : List ℕ) → IsPrintable (moment_kept x) → IsTextOf x text → printed_text x ≡ Some text
-printed_text_is x text h p = text_from (moment_kept x) (places_kept x) text (places_kept_bound x) h p
+pub printed_text_is : (x : MomentToPrint) (text : List ℕ) → IsPrintable x.moment → IsPrinted x.moment x.places text → printed_text x ≡ Some text
+printed_text_is x text h p = text_from x.moment x.places text p.few h p
 
 -- a printed text reads back as the moment, cut
 pub printed_reads : (t : ℤ) (k : ℕ) (text : List ℕ) → IsPrinted t k text → ReadsAs text (cut t k)

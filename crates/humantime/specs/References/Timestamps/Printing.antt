@@ -1,14 +1,13 @@
 -- The parts that a printer shows, and the text of a moment as a function.
 use Rattle.std.specs.Prelude.{◌≡◌, ℕ, zero, suc, ◌+◌, ◌*◌, ◌/◌, ◌%◌, ◌<◌, ◌≤◌, ℤ, pos, negsuc, nat_lt, ◌==◌, if◌then◌else◌, List, [], ◌∷◌, take, Option, Some, None}
-use Rattle.humantime.specs.declared.date.print.Rfc3339Timestamp.{Rfc3339Timestamp}
 use Rattle.humantime.specs.declared.date.print.DateTime.{DateTime}
 use Rattle.humantime.specs.declared.date.print.Precision.{Precision}
 use Rattle.humantime.specs.declared.date.print.Precision.TheVariants.{Seconds, Millis, Micros, Nanos}
 use Rattle.humantime.specs.Calendar.{IsDate, day_of}
-use Rattle.humantime.specs.References.Calendar.DatesOfDays.{date_of}
+use Rattle.humantime.specs.References.Calendar.March.{date_of}
 use Rattle.humantime.specs.Timestamps.Fields.{digit, Letter_T, Letter_Z, Fields, fields_text}
-use Rattle.humantime.specs.Values.{nano_of, nanos_per_second}
-use Rattle.humantime.specs.Timestamps.Printed.{year_10000, IsPrinted}
+use Rattle.humantime.specs.Values.{nanos_per_second}
+use Rattle.humantime.specs.Timestamps.Printed.{MomentToPrint, year_10000, places_of}
 
 -- how many digits the fraction has
 abbrev pub places : Precision → ℕ
@@ -17,17 +16,9 @@ places Millis = 3
 places Micros = 6
 places Nanos = 9
 
--- the moment that a printable timestamp keeps, in nanoseconds from 1970
-unfoldable pub moment_kept : Rfc3339Timestamp → ℤ
-moment_kept x = x.moment
-
--- how many digits its second is printed with
-unfoldable pub places_kept : Rfc3339Timestamp → ℕ
-places_kept x = places x.precision
-
--- the text is that moment, printed with so many digits
-abbrev pub IsTextOf : Rfc3339Timestamp → List ℕ → Type 0
-IsTextOf x text = IsPrinted (moment_kept x) (places_kept x) text
+-- and the choice of so many
+abbrev pub precision_of : ℕ → Precision
+precision_of k = if k == 0 then Seconds else (if k == 3 then Millis else (if k == 6 then Micros else Nanos))
 
 -- a number below 10^9, in nine digits
 abbrev pub nine_digits : ℕ → List ℕ
@@ -90,13 +81,9 @@ moment_text (pos t) k = if nat_lt t year_10000 then Some (fields_text (fields_at
 moment_text (negsuc t) k = None
 
 -- the printed text of a timestamp
-abbrev pub printed_text : Rfc3339Timestamp → Option (List ℕ)
-printed_text x = moment_text (moment_kept x) (places_kept x)
+abbrev pub printed_text : MomentToPrint → Option (List ℕ)
+printed_text x = moment_text x.moment x.places
 
--- how many digits a moment is printed with, where no number of them is asked for
-abbrev pub places_of : ℤ → ℕ
-places_of t = if nano_of t == 0 then 0 else 9
-
--- and its text with so many
+-- the text of a moment where no number of digits is asked for
 abbrev pub shortest_text : ℤ → Option (List ℕ)
 shortest_text t = moment_text t (places_of t)
