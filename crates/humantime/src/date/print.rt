@@ -1,12 +1,14 @@
 //! The printers of timestamps.
 
-ghost use Rattle.std.specs.Prelude.{◌≡◌, ◌+◌, ◌/◌, ◌%◌, ◌<◌, ◌≤◌, ◌↔◌, IsSome, IfSome, IfNone, option_map, ◌++◌, take, drop, slice_set, codes};
+ghost use Rattle.std.specs.Prelude.{◌≡◌, ◌+◌, ◌<◌, ◌≤◌, ◌↔◌, IsSome, IfSome, IfNone, option_map, ◌++◌, take, drop, codes};
 ghost use Rattle.std.specs.Borrow.{sem};
-ghost use Rattle.std.specs.Str.{IsUtf8, byte};
+ghost use Rattle.std.specs.Str.{IsUtf8};
 ghost use Rattle.humantime.specs.Buffers.{KeptAtNone};
-ghost use Rattle.humantime.specs.Timestamps.Fields.{digit, two_digits, date_time_text, fields_text};
+ghost use Rattle.humantime.specs.Calendar.{IsDate};
+ghost use Rattle.humantime.specs.Timestamps.Fields.{two_digits, date_time_text, fields_text};
+ghost use Rattle.humantime.specs.Values.{nano_of};
 ghost use Rattle.humantime.specs.Timestamps.Printed.{IsPrinted, IsPrintable, places_of};
-ghost use Rattle.humantime.specs.References.Timestamps.Printing.{places, printed_text, fields_shown, IsDateTimeOf, FitsPlaces};
+ghost use Rattle.humantime.specs.References.Timestamps.Printing.{IsSecondOf, printed_text, fields_shown};
 
 use crate::buffer::front;
 use crate::calendar::{Date, date_of_day};
@@ -31,16 +33,6 @@ enum Precision {
     Nanos,
 }
 
-/// A date and a time of day.
-#[derive(Clone, Copy)]
-struct DateTime {
-    date: Date,
-    hour: u32,
-    minute: u32,
-    second: u32,
-    nanos: u32,
-}
-
 /// A moment that is printed as a timestamp, with a number of digits after the second.
 ///
 /// The `format_rfc3339` calls make it. `Display` writes the text that `text` lends, by one request to the
@@ -57,6 +49,7 @@ pub struct Rfc3339Timestamp {
 }
 
 impl Model for Rfc3339Timestamp {
+    ghost use Rattle.humantime.specs.Values.{nano_of};
     ghost use Rattle.humantime.specs.Timestamps.Printed.{MomentToPrint};
     ghost use Rattle.humantime.specs.References.Timestamps.Printing.{places, precision_of};
     ghost use Rattle.std.proofs.Common.{arith};
@@ -190,8 +183,39 @@ impl Rfc3339Timestamp {
         ensures text { IfSome result (λ len. IsPrinted self.now.moment self.now.places (take len buf.new)) }
         ensures unchanged { IfNone result (buf.new ≡ buf.old) }
     {
-        let date_time = date_time_of(self.moment)?;
-        Some(write_date_time(date_time, self.precision, buf))
+        let (date, time) = date_and_time(self.moment)?;
+        Some(self.write_parts(date, time, buf))
+    }
+
+    /// Writes the date, this second of the day and the fraction to the front of the buffer, and answers the
+    /// text's length.
+    #[inline(always)]
+    fn write_parts(&self, date: Date, time: u32, buf: &mut [u8; 30]) -> usize
+        requires { IsSecondOf date time self.now.moment }
+        ensures fits { result ≤ 30 }
+        ensures text { take result buf.new ≡ fields_text (fields_shown date time (nano_of self.now.moment) self.now.places) }
+    {
+        let nanos = self.moment.subsec_nanos();
+        write_time(date, time, buf);
+        if self.precision == Precision::Seconds {
+            buf[19] = b'Z';
+            return 20;
+        }
+        put_two(buf, 20, nanos / 10_000_000);
+        put_two(buf, 22, nanos / 100_000 % 100);
+        if self.precision == Precision::Millis {
+            buf[23] = b'Z';
+            return 24;
+        }
+        put_two(buf, 24, nanos / 1_000 % 100);
+        if self.precision == Precision::Micros {
+            buf[26] = b'Z';
+            return 27;
+        }
+        put_two(buf, 26, nanos / 10 % 100);
+        buf[28] = b'0' + (nanos % 10) as u8;
+        buf[29] = b'Z';
+        30
     }
 }
 
@@ -229,101 +253,48 @@ fn shown(buf: &[u8; 30], len: Option<usize>) -> Option<&str>
     Some(front(buf, len))
 }
 
-/// The date and the time of day of a moment of 1970 to 9999.
+/// The date and the second of the day of a moment of 1970 to 9999.
 #[inline(always)]
-fn date_time_of(moment: SystemTime) -> Option<DateTime>
+fn date_and_time(moment: SystemTime) -> Option<(Date, u32)>
     ensures within { IsSome result ↔ IsPrintable moment }
-    ensures value { IfSome result (λ x. IsDateTimeOf x moment) }
+    ensures value { IfSome result (λ x. IsSecondOf x.0 x.1 moment) }
 {
     let secs = moment.unix_seconds();
     if secs < 0 || secs >= END {
         return None;
     }
     let date = date_of_day((secs / 86_400) as u32, &mut Turns::new())?;
-    let time = (secs % 86_400) as u32;
-    Some(DateTime {
-        date,
-        hour: time / 3_600,
-        minute: time / 60 % 60,
-        second: time % 60,
-        nanos: moment.subsec_nanos(),
-    })
-}
-
-/// Writes date and time to the front of the buffer, and answers the text's length.
-#[inline(always)]
-fn write_date_time(x: DateTime, precision: Precision, buf: &mut [u8; 30]) -> usize
-    requires { FitsPlaces x }
-    ensures fits { result ≤ 30 }
-    ensures text { take result buf.new ≡ fields_text (fields_shown x (places precision)) }
-{
-    write_time(x, buf);
-    if precision == Precision::Seconds {
-        return end_at(buf, 19);
-    }
-    put_two(buf, 20, x.nanos / 10_000_000);
-    put_two(buf, 22, x.nanos / 100_000 % 100);
-    if precision == Precision::Millis {
-        return end_at(buf, 23);
-    }
-    put_two(buf, 24, x.nanos / 1_000 % 100);
-    if precision == Precision::Micros {
-        return end_at(buf, 26);
-    }
-    put_two(buf, 26, x.nanos / 10 % 100);
-    buf[28] = b'0' + (x.nanos % 10) as u8;
-    end_at(buf, 29)
+    Some((date, (secs % 86_400) as u32))
 }
 
 /// Writes `YYYY-MM-DDTHH:MM:SS` and a point to the front of the buffer. The signs come with the pattern, and
 /// the digits take the place of its letters.
 #[inline(always)]
-fn write_time(x: DateTime, buf: &mut [u8; 30])
-    requires { FitsPlaces x }
-    ensures { buf.new ≡ date_time_text (fields_shown x 0) ++ codes ".nnnnnnnnnz" }
+#[tactic(auto, using(crate::proofs::Dates::Years::valid_told))]
+fn write_time(date: Date, time: u32, buf: &mut [u8; 30])
+    requires date { IsDate date }
+    requires time { time < 86_400 }
+    ensures { buf.new ≡ date_time_text (fields_shown date time 0 0) ++ codes ".nnnnnnnnnz" }
 {
     *buf = *b"yyyy-mm-ddThh:mm:ss.nnnnnnnnnz";
-    put_two(buf, 0, x.date.year / 100);
-    put_two(buf, 2, x.date.year % 100);
-    put_two(buf, 5, x.date.month);
-    put_two(buf, 8, x.date.day);
-    put_two(buf, 11, x.hour);
-    put_two(buf, 14, x.minute);
-    put_two(buf, 17, x.second);
-}
-
-/// The two digits of a number below 100.
-#[inline(always)]
-#[tactic(auto, using(crate::proofs::Timestamps::Printing::Pairs::tens_at, crate::proofs::Timestamps::Printing::Pairs::ones_at))]
-fn digits_of(n: u32) -> (u8, u8)
-    requires { n < 100 }
-    ensures tens { result.0 ≡ digit (n / 10) }
-    ensures ones { result.1 ≡ digit (n % 10) }
-{
-    let pair = 2 * n as usize;
-    (PAIRS[pair], PAIRS[pair + 1])
+    put_two(buf, 0, date.year / 100);
+    put_two(buf, 2, date.year % 100);
+    put_two(buf, 5, date.month);
+    put_two(buf, 8, date.day);
+    put_two(buf, 11, time / 3_600);
+    put_two(buf, 14, time / 60 % 60);
+    put_two(buf, 17, time % 60);
 }
 
 /// Writes a number below 100 as two digits at this place. Two stores are one move, where a copied slice is a call.
 #[inline(always)]
-#[tactic(auto, using(crate::proofs::Timestamps::Printing::Pairs::two_set))]
+#[tactic(auto, using(crate::proofs::Timestamps::Printing::Pairs::two_set, crate::proofs::Timestamps::Printing::Pairs::tens_at, crate::proofs::Timestamps::Printing::Pairs::ones_at))]
 fn put_two(buf: &mut [u8; 30], at: usize, n: u32)
     requires place { at + 2 ≤ 30 }
     requires small { n < 100 }
     ensures { buf.new ≡ take at buf.old ++ two_digits n ++ drop (at + 2) buf.old }
 {
-    let (tens, ones) = digits_of(n);
-    buf[at] = tens;
-    buf[at + 1] = ones;
-}
-
-/// Writes a `Z` at this place, and answers the length of the text that it ends.
-#[inline(always)]
-fn end_at(buf: &mut [u8; 30], at: usize) -> usize
-    requires { at < 30 }
-    ensures length { result ≡ at + 1 }
-    ensures bytes { buf.new ≡ slice_set buf.old at (byte "Z") }
-{
-    buf[at] = b'Z';
-    at + 1
+    let pair = 2 * n as usize;
+    buf[at] = PAIRS[pair];
+    buf[at + 1] = PAIRS[pair + 1];
 }

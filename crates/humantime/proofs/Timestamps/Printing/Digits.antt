@@ -1,19 +1,14 @@
 -- The digits of a fraction: the first k of nine are the nanoseconds, cut to k digits.
 use Rattle.std.proofs.lemmas.Grind.{common_steps}
-use Rattle.std.proofs.Common.{◌≡◌, ℕ, zero, suc, ◌+◌, ◌-◌, ◌*◌, ◌/◌, ◌%◌, ◌^◌, ◌<◌, ◌≤◌, List, [], ◌∷◌, take, sym, ap, subst, ◌∙◌, arith}
-use Rattle.std.proofs.Math.Nat.{pow-suc, mod-le, mul-add-mod_self_right, one-le-pow, mul_assoc}
+use Rattle.std.proofs.Common.{◌≡◌, ℕ, zero, suc, ◌+◌, ◌-◌, ◌*◌, ◌/◌, ◌%◌, ◌^◌, ◌<◌, ◌≤◌, take, sym, ap, ◌∙◌, arith}
+use Rattle.std.proofs.Math.Nat.{pow-suc, one-le-pow, mod-mod_of_dvd, dvd-mul_left}
 use Rattle.std.proofs.lemmas.Nat.{pow-add, div-add-mod', mod_below, mul-add-lt, mod-mul-add}
 use Rattle.humantime.specs.References.Timestamps.Reading.{AreDigits, fraction_digits}
 use Rattle.humantime.specs.Timestamps.Fields.{fraction_nanos}
 use Rattle.humantime.specs.Timestamps.Printed.{HasPlaces}
-use Rattle.humantime.specs.References.Timestamps.Printing.{nine_digits, cut_fraction}
+use Rattle.humantime.specs.References.Timestamps.Printing.{last_digits, cut_fraction}
 use Rattle.humantime.specs.References.Timestamps.Fractions.{add_digits}
 use Rattle.humantime.proofs.Timestamps.Reading.Fractions.{nanos_added}
-
--- the last j digits of n, the highest first
-abbrev last_digits : ℕ → ℕ → List ℕ
-last_digits zero n = []
-last_digits (suc j) n = (48 + n / 10 ^ j % 10) ∷ last_digits j n
 
 power_some : (j : ℕ) → 0 < 10 ^ j
 power_some j = grind (arith, common_steps, one-le-pow)
@@ -54,9 +49,6 @@ sum_of_digits (suc k) (suc j) n a h =
       summed : (a b c m : ℕ) → m ≡ b + c → a + b + c ≡ a + m
       summed a b c m e = omega arith
 
-nine_is : (n : ℕ) → n < 1_000_000_000 → last_digits 9 n ≡ nine_digits n
-nine_is n h = grind (arith, common_steps)
-
 digit_in : (d : ℕ) → d ≤ 9 → (48 ≤ 48 + d) × (48 + d ≤ 57)
 digit_in d h = (omega arith, omega arith)
 
@@ -65,28 +57,21 @@ last_are_digits zero j n = tt
 last_are_digits (suc k) zero n = tt
 last_are_digits (suc k) (suc j) n = (digit_in (n / 10 ^ j % 10) (omega arith), last_are_digits k j n)
 
-first_are_digits : (k n : ℕ) → n < 1_000_000_000 → AreDigits (take k (nine_digits n))
-first_are_digits k n h = subst (λ (ds : List ℕ). AreDigits (take k ds)) (nine_is n h) (last_are_digits k 9 n)
-
-fraction_is : (k n : ℕ) → fraction_digits (cut_fraction n k) ≡ take k (nine_digits n)
+fraction_is : (k n : ℕ) → fraction_digits (cut_fraction n k) ≡ take k (last_digits 9 n)
 fraction_is k n = grind (arith, common_steps)
 
-pub shown_digits : (k n : ℕ) → n < 1_000_000_000 → AreDigits (fraction_digits (cut_fraction n k))
-shown_digits k n h = rw (fraction_is k n) (first_are_digits k n h)
+pub shown_digits : (k n : ℕ) → AreDigits (fraction_digits (cut_fraction n k))
+shown_digits k n = rw (fraction_is k n) (last_are_digits k 9 n)
 
 pub shown_places : (k n : ℕ) → k ≤ 9 → HasPlaces (cut_fraction n k) k
 shown_places k n h = grind (arith, common_steps)
 
 pub shown_nanos : (k n : ℕ) → k ≤ 9 → n < 1_000_000_000 → fraction_nanos (fraction_digits (cut_fraction n k)) ≡ n - n % 10 ^ (9 - k)
-shown_nanos k n small h = grind (arith, common_steps, (rw (nine_is n h) at (sum_of_digits k 9 n 0 small)), nanos_added, first_are_digits)
+shown_nanos k n small h = rw (fraction_is k n) (omega (arith, sum_of_digits k 9 n 0 small, nanos_added (take k (last_digits 9 n)) (last_are_digits k 9 n)))
 
 -- cutting a moment cuts its nanoseconds
-pub cut_nanos : (k s n : ℕ) → k ≤ 9
-    → s * 1_000_000_000 + (n - n % 10 ^ (9 - k)) ≡ s * 1_000_000_000 + n - (s * 1_000_000_000 + n) % 10 ^ (9 - k)
-cut_nanos k s n small =
-    let p = 10 ^ (9 - k) in
+pub cut_nanos : (k t : ℕ) → k ≤ 9 → t % 1_000_000_000 % 10 ^ (9 - k) ≡ t % 10 ^ (9 - k)
+cut_nanos k t small =
     let nine : k + (9 - k) ≡ 9 = omega arith in
-    let power : 1_000_000_000 ≡ 10 ^ k * p = rw nine at (pow-add 10 k (9 - k)) in
-    let units : s * 1_000_000_000 ≡ s * 10 ^ k * p = ap (λ (m : ℕ). s * m) power ∙ sym (mul_assoc s (10 ^ k) p) in
-    let rest : (s * 1_000_000_000 + n) % p ≡ n % p = ap (λ (m : ℕ). (m + n) % p) units ∙ mul-add-mod_self_right (s * 10 ^ k) p n in
-    omega (arith, rest, mod-le n p)
+    let power : 1_000_000_000 ≡ 10 ^ k * 10 ^ (9 - k) = rw nine at (pow-add 10 k (9 - k)) in
+    mod-mod_of_dvd (10 ^ (9 - k)) t (rw power (dvd-mul_left (10 ^ (9 - k)) (10 ^ k)))
