@@ -9,29 +9,27 @@ use Rattle.std.proofs.lemmas.List.Sums.{sum_by-cons}
 use Rattle.humantime.specs.Values.{nanos_per_second}
 use Rattle.humantime.specs.Durations.Characters.{u64_max, bare_zero}
 use Rattle.humantime.specs.Durations.Spans.{Span, Reads}
-use Rattle.humantime.specs.Durations.Accepted.{Addition, addition_nanos, total, additions, Accepted}
+use Rattle.humantime.specs.Durations.Units.{Addition, Nanos, Seconds}
+use Rattle.humantime.specs.Durations.Accepted.{addition_nanos, times, total, additions, Accepted}
 use Rattle.humantime.specs.References.Durations.Reading.{additions_of}
 use Rattle.humantime.specs.Durations.Counts.{weights, weighted_sum, suffixes, printed_counts, joined_by_space, Canon}
 use Rattle.humantime.specs.References.Durations.Printing.{Suffix, divided, duration_text}
 use Rattle.humantime.proofs.Durations.Printing.PrintedDigits.{decimal_number}
-use Rattle.humantime.proofs.Durations.Printing.PrintedRows.{word_for, span_for, IsWord, Table, table, most}
+use Rattle.humantime.proofs.Durations.Printing.PrintedRows.{word_for, span_for, IsOfKind, IsWord, Table, table, most}
 use Rattle.humantime.proofs.Durations.Printing.PrintedSpans.{IsCount, spans_for, adds_one, weight_positive, rows_good, counts_spell, both_empty, joined_some, canon_reads}
 use Rattle.humantime.proofs.Durations.Printing.GreatestCounts.{canon_is_text, divided_sum, length-divided, weights_reach}
 use Rattle.humantime.proofs.Durations.Laws.SmallAdditions.{IsSmall, small_joined_sum}
+
+small_times : (r m w n : ℕ) (x : Addition) → addition_nanos x ≡ w → IsOfKind m x → r < m → w * n ≤ r → IsSmall (times n x)
+small_times r m w n (Nanos k) same kind below left = grind (arith, mul_comm)
+small_times r m w n (Seconds k) same kind below left = tt
 
 -- a count is whole seconds, or nanoseconds of less than a second
 count_small : (r m w n : ℕ) (s : Suffix) → IsWord w m (word_for n s) → r < m → w * n ≤ r → n < 2 ^ 64
     → AllByRecursion IsSmall (additions_of (span_for n s))
 count_small r m w n s i below left fits =
-    let few : i.unit.base ≡ 1 → n * i.unit.factor + 999999999 ≤ u64_max = λ one. elim i.kind [
-      | inl e ↦ absurd (omega (arith, sym e ∙ one))
-      | inr e ↦
-          let weight : 1 * i.unit.factor ≡ w = rw one at i.weight in
-          let factor : i.unit.factor ≡ w = omega (arith, weight) in
-          let all : n * i.unit.factor ≡ w * n = ap (λ (k : ℕ). n * k) factor ∙ mul_comm n w in
-          omega (arith, all, e.1)
-    ] in
-    rw (adds_one n (chars (word_for n s)) i.unit i.is (decimal_number n fits).value) (few, tt)
+    rw (adds_one n (chars (word_for n s)) i.unit i.is (decimal_number n fits).value)
+    (small_times r m w n i.unit.one i.weight i.kind below left, tt)
 
 rows_small : (ws : List ℕ) (ss : List Suffix) (m r : ℕ) → Table ws ss m → r < m → AllByRecursion IsCount (divided ws r)
     → AllByRecursion IsSmall (additions (spans_for (divided ws r) ss))

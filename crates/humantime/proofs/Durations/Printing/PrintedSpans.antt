@@ -4,23 +4,23 @@ use Rattle.std.proofs.Common.{◌≡◌, ◌≢◌, ◌⊎◌, inl, inr, ℕ, ze
 use Rattle.std.specs.Prelude.{IsSome, codes, decimal, chars}
 use Rattle.std.specs.Str.{IsUtf8}
 use Rattle.std.specs.List.{AllByRecursion, join_with_byte}
-use Rattle.std.proofs.Math.Nat.{mul_assoc}
+use Rattle.std.proofs.Math.Nat.{mul_comm, mul_right_comm}
 use Rattle.std.proofs.lemmas.Nat.{mod_below}
 use Rattle.std.proofs.lemmas.List.{append_assoc, append-nil}
 use Rattle.std.proofs.lemmas.Str.{chars-append, chars-IsAscii, chars-nil, IsUtf8-append, IsUtf8-from_ascii}
 use Rattle.std.proofs.lemmas.Fmt.{IsAscii-decimal, decimal_digit}
 use Rattle.humantime.specs.Values.{nanos_per_second, seconds_per_minute}
 use Rattle.humantime.specs.Durations.Characters.{white_spaces, is_ws, decimal_value, u64_max}
-use Rattle.humantime.specs.Durations.Units.{Scale, scale_of_word}
+use Rattle.humantime.specs.Durations.Units.{Addition, Nanos, Seconds, Scale, scale_of_word}
 use Rattle.humantime.specs.Durations.Spans.{Span, Only, Spells, SpellsEach}
-use Rattle.humantime.specs.Durations.Accepted.{total, additions, Formed, Fits, HasRoom, Accepted, Sum_of}
+use Rattle.humantime.specs.Durations.Accepted.{amount, addition_nanos, times, total, additions, Formed, Fits, HasRoom, Accepted, Sum_of}
 use Rattle.humantime.specs.References.Durations.Reading.{additions_of}
 use Rattle.humantime.specs.Durations.Counts.{weights, weighted_sum, suffixes, printed_count, printed_counts, joined_by_space, Canon}
 use Rattle.humantime.specs.References.Durations.Printing.{Suffix, without_plural, divided, duration_text}
 use Rattle.humantime.proofs.Durations.Reading.Spellings.{spells-append}
 use Rattle.humantime.proofs.Durations.Reading.Rooms.{RoomFrom, RoomFrom-append, total-append, all_have_room}
 use Rattle.humantime.proofs.Durations.Printing.PrintedDigits.{decimal_number}
-use Rattle.humantime.proofs.Durations.Printing.PrintedRows.{word_for, span_for, IsWord, Table, table, most, seconds}
+use Rattle.humantime.proofs.Durations.Printing.PrintedRows.{word_for, span_for, IsOfKind, IsWord, Table, table, most, seconds}
 use Rattle.humantime.proofs.Durations.Printing.GreatestCounts.{canon_is_text, divided_sum, length-divided, weights_reach}
 
 -- the span keeps its limits after t nanoseconds, and is worth v
@@ -34,36 +34,46 @@ is_some_at : (o : Option Scale) (u : Scale) → o ≡ Some u → IsSome o
 is_some_at o u e = rw e refl
 
 pub adds_one : (n : ℕ) (word : List ℕ) (u : Scale) → scale_of_word word ≡ Some u → decimal_value (decimal n) ≡ n
-    → additions_of (record { number = decimal n; fraction = None; word = word }) ≡ record { base = u.base; amount = n * u.factor } ∷ []
+    → additions_of (record { number = decimal n; fraction = None; word = word }) ≡ times n u.one ∷ []
 adds_one n word u e v = grind (arith, common_steps)
 
-fits_one : (n : ℕ) (word : List ℕ) (u : Scale) → scale_of_word word ≡ Some u → decimal_value (decimal n) ≡ n → n * u.factor ≤ u64_max
+fits_one : (n : ℕ) (word : List ℕ) (u : Scale) → scale_of_word word ≡ Some u → decimal_value (decimal n) ≡ n → n * amount u.one ≤ u64_max
     → Fits (record { number = decimal n; fraction = None; word = word })
 fits_one n word u e v h = rw e (rw v h, tt)
 
--- y times the base is at most r, which is what is left behind t
-record IsSmall (t r m y base : ℕ) : Type 0 where
-  left : base * y ≤ r
+-- what is added is at most r, which is what is left behind t
+record IsSmall (t r m : ℕ) (x : Addition) : Type 0 where
+  left : addition_nanos x ≤ r
   below : r < m
   whole : (t + r) / nanos_per_second ≤ u64_max
-  kind : (base ≡ nanos_per_second) ⊎ ((base ≡ 1) × (m ≤ nanos_per_second))
+  kind : IsOfKind m x
 
-small_fits : (t r m y base : ℕ) → IsSmall t r m y base → y ≤ u64_max
-small_fits t r m y base h = grind (arith, common_steps)
+small_fits : (t r m : ℕ) (x : Addition) → IsSmall t r m x → amount x ≤ u64_max
+small_fits t r m x h = grind (arith, common_steps)
 
-small_room : (t r m y base : ℕ) → IsSmall t r m y base → HasRoom t (record { base = base; amount = y })
-small_room t r m y base h = grind (arith, common_steps)
+small_room : (t r m : ℕ) (x : Addition) → IsSmall t r m x → HasRoom t x
+small_room t r m x h = grind (arith, common_steps)
+
+times_nanos : (n : ℕ) (x : Addition) → addition_nanos (times n x) ≡ addition_nanos x * n
+times_nanos n (Nanos k) = mul_comm n k
+times_nanos n (Seconds k) = ap (λ (m : ℕ). m * nanos_per_second) (mul_comm n k) ∙ mul_right_comm k n nanos_per_second
+
+pub times_kind : (m n : ℕ) (x : Addition) → IsOfKind m x → IsOfKind m (times n x)
+times_kind m n x h = grind (arith, common_steps)
+
+times_amount : (n : ℕ) (x : Addition) → amount (times n x) ≡ n * amount x
+times_amount n x = grind (arith, common_steps)
 
 -- a count of n that is worth w each
 row_small : (t r m w n : ℕ) (word : List ℕ) (i : IsWord w m word) → r < m → w * n ≤ r → (t + r) / nanos_per_second ≤ u64_max
-    → IsSmall t r m (n * i.unit.factor) i.unit.base
-row_small t r m w n word i below left whole = grind (arith, common_steps, mul_assoc)
+    → IsSmall t r m (times n i.unit.one)
+row_small t r m w n word i below left whole = grind (arith, common_steps, times_nanos, times_kind)
 
 word_count : (t r m w n : ℕ) (word : List ℕ) (i : IsWord w m word) → r < m → w * n ≤ r → (t + r) / nanos_per_second ≤ u64_max → n < 2 ^ 64
 word_count t r m w n word i below left whole = grind (arith, common_steps)
 
 row_good : (t r m w n : ℕ) (s : Suffix) → IsWord w m (word_for n s) → r < m → w * n ≤ r → (t + r) / nanos_per_second ≤ u64_max → RowGood t (w * n) (span_for n s)
-row_good t r m w n s i below left whole = grind (arith, common_steps, (row_small t r m w n (word_for n s) i below left whole), (decimal_number n (word_count t r m w n (word_for n s) i below left whole)).value, (adds_one n (chars (word_for n s)) i.unit i.is ((decimal_number n (word_count t r m w n (word_for n s) i below left whole)).value)), word_count, word_for, is_some_at, fits_one, small_fits, small_room, mul_assoc)
+row_good t r m w n s i below left whole = grind (arith, common_steps, (row_small t r m w n (word_for n s) i below left whole), (decimal_number n (word_count t r m w n (word_for n s) i below left whole)).value, (adds_one n (chars (word_for n s)) i.unit i.is ((decimal_number n (word_count t r m w n (word_for n s) i below left whole)).value)), word_count, word_for, is_some_at, fits_one, small_fits, small_room, times_nanos, times_amount)
 
 -- the spans of the counts that are not zero
 abbrev pub spans_for : List ℕ → List Suffix → List Span
