@@ -22,7 +22,7 @@ use Rattle.humantime.proofs.Timestamps.Printing.Printed.{one_text, one_printed, 
 use Rattle.humantime.proofs.Timestamps.Laws.Printable as printable
 use Rattle.humantime.proofs.Timestamps.Laws.Reading as read
 use Rattle.humantime.proofs.Timestamps.Laws.StrictForm as strict
-pub use Rattle.humantime.proofs.Values.Moments.{parts_of_moment, nano_of_bound}
+pub use Rattle.humantime.proofs.Moments.{parts_of_moment, nano_of_bound}
 pub use Rattle.humantime.proofs.Timestamps.Printing.Printed.{places_of_bound}
 
 -- ---- Days
