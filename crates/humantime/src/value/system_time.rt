@@ -7,11 +7,10 @@ ghost use Rattle.std.specs.Cmp.Rules.{comparing};
 ghost use Rattle.std.specs.Ordering.{int_cmp, int_eq, as_partial_cmp};
 ghost use Rattle.humantime.specs.Values.{moment, second_of, nano_of, moment_end, nanos_per_second};
 
+use crate::unit::sizes::NANOS_PER_SECOND;
 use crate::value::std_duration::StdDuration;
 use std::cmp::Ordering;
 use std::marker::Model;
-
-const NANOS_PER_SECOND: u32 = 1_000_000_000;
 
 /// The moment 1970-01-01T00:00:00Z.
 ///
