@@ -1,5 +1,5 @@
-//! Durations read, in the order in which a text is read: the class of a character (`class`), a step over one (`scan`), a
-//! number and a fraction (`scan`), white space (`slices`), a word (`word`), a span (`reader`), the spans of a text (`iter`),
+//! Durations read, in the order in which a text is read: the class of a character (`class`); a digit more (`amount`);
+//! white space, a number and a fraction (`scan`); a word (`word`); a span (`span`, `reader`); the spans of a text (`iter`),
 //! their sum (`sum`), and the whole text (`parse`).
 
 mod amount;
@@ -8,7 +8,6 @@ mod iter;
 mod parse;
 mod reader;
 mod scan;
-mod slices;
 mod span;
 mod sum;
 mod word;

@@ -4,7 +4,9 @@ pub(crate) const NANOS_PER_MICRO: u64 = 1_000;
 
 pub(crate) const NANOS_PER_MILLI: u64 = 1_000_000;
 
-pub(crate) const NANOS_PER_MINUTE: u64 = SECONDS_PER_MINUTE * 1_000_000_000;
+pub(crate) const NANOS_PER_SECOND: u32 = 1_000_000_000;
+
+pub(crate) const NANOS_PER_MINUTE: u64 = SECONDS_PER_MINUTE * NANOS_PER_SECOND as u64;
 
 pub(crate) const SECONDS_PER_MINUTE: u64 = 60;
 

@@ -7,10 +7,9 @@ ghost use Rattle.std.specs.Cmp.Rules.{comparing};
 ghost use Rattle.std.specs.Ordering.{nat_cmp, as_partial_cmp};
 ghost use Rattle.humantime.specs.Values.{nanos_per_second, duration_end};
 
+use crate::unit::sizes::NANOS_PER_SECOND;
 use std::cmp::Ordering;
 use std::marker::Model;
-
-pub(crate) const NANOS_PER_SECOND: u32 = 1_000_000_000;
 
 /// A duration: whole seconds (`u64`) and nanoseconds below 10^9.
 ///

@@ -7,7 +7,8 @@ ghost use Rattle.std.specs.Cmp.Rules.{comparing};
 ghost use Rattle.std.specs.Ordering.{int_cmp, int_eq, as_partial_cmp};
 ghost use Rattle.humantime.specs.Values.{moment, second_of, nano_of, moment_end, nanos_per_second};
 
-use crate::value::std_duration::{NANOS_PER_SECOND, StdDuration};
+use crate::unit::sizes::NANOS_PER_SECOND;
+use crate::value::std_duration::StdDuration;
 use std::cmp::Ordering;
 use std::marker::Model;
 

@@ -1,58 +1,92 @@
--- Reading a number digit by digit.
+-- Reading the digits that begin a text, one by one.
 use Rattle.std.proofs.lemmas.Grind.{common_steps}
-use Rattle.std.proofs.Common.{◌≡◌, ◌≤◌, ◌<◌, ◌+◌, ◌-◌, ◌*◌, ℕ, List, [], ◌∷◌, ap, sym, ◌∙◌, arith, Err, false, Ok}
-use Rattle.std.specs.Char.{digit_value}
+use Rattle.std.proofs.Common.{◌≡◌, ◌≤◌, ◌<◌, ◌+◌, ◌-◌, ◌*◌, ℕ, List, [], ◌∷◌, ◌++◌, ap, sym, ◌∙◌, arith, append_assoc, append-nil, true, false, chars, take, drop, get_or, length, length-drop, IsUtf8, IsCharBoundary, ◌≢◌, inl, inr, refl, Some, None}
+use Rattle.std.specs.Char.{digit_value, is_ascii_digit}
 use Rattle.std.specs.Str.Parse.{digits_value_after}
-use Rattle.humantime.specs.declared.duration.reading.class.Class.TheVariants.{Digit, Letter, White}
-use Rattle.humantime.specs.Durations.Characters.{is_ws, is_digit, is_letter, is_numeric, begins, leading, past, digits, decimal_value, u64_max}
-use Rattle.humantime.specs.Durations.Faults.{NumberOverflow, number_of, after_number}
-use Rattle.humantime.specs.References.Durations.Classes.{class_of}
-use Rattle.humantime.specs.References.Durations.Scanning.{number_at}
-use Rattle.humantime.proofs.Durations.Bytes.Digits.{digit_counts}
-use Rattle.humantime.proofs.Durations.Reading.Classes.{is_ws-class, is_digit-class, is_letter-class, digit_is_numeric, space_is_numeric, space_not_digit}
+use Rattle.std.proofs.lemmas.Str.{digit_value_digit, IsCharBoundary-start}
+use Rattle.std.proofs.lemmas.Bool.{cases_lt, lt-ltb}
+use Rattle.std.proofs.lemmas.Bool.Decides.{nat_tests}
+use Rattle.humantime.specs.Durations.Characters.{is_ws, is_digit, is_numeric, begins, leading, decimal_value, u64_max}
+use Rattle.humantime.specs.Durations.Faults.{number_of, after_number}
+use Rattle.humantime.specs.References.Durations.Scanning.{space_width, number_at}
+use Rattle.humantime.proofs.Durations.Bytes.PlaceSteps.{digit_over, digit_at, space_over, no_space}
+use Rattle.humantime.proofs.Durations.Bytes.Tails.{no_bytes, front_is}
+use Rattle.humantime.proofs.Durations.Reading.Classes.{digit_is_numeric, space_is_numeric, space_not_digit}
+use Rattle.humantime.proofs.Durations.Reading.SignificantDigits.{value-append}
 
--- v is read so far, and the number that begins the rest, read on from v, is that of the text.
-pub record IsAt (text : List ℕ) (v : ℕ) (rest : List ℕ) : Type 0 where
-  pub value : digits_value_after 10 v (digits (leading is_numeric rest)) ≡ decimal_value (number_of text)
-  pub rest_is : past is_numeric rest ≡ after_number text
-  pub fits : v ≤ u64_max
+-- The digits are those that begin a text before a place, and others may follow.
+pub record IsRead (text : List ℕ) (at : ℕ) (ds : List ℕ) : Type 0 where
+  pub place : IsCharBoundary text at
+  pub all : number_of (chars text) ≡ ds ++ number_of (chars (drop at text))
+  pub after : after_number (chars (drop at text)) ≡ after_number (chars text)
 
--- a digit begins what is numeric
-pub digit_first : (c : ℕ) (cs rest : List ℕ) → rest ≡ c ∷ cs → class_of c ≡ Digit → digits (leading is_numeric rest) ≡ c ∷ digits (leading is_numeric cs)
-digit_first c cs rest e d = let digit = (is_digit-class c).0 d in rw (e, digit, digit)
+pub none_read : (text : List ℕ) → IsUtf8 text → IsRead text 0 []
+none_read text u = record { place = IsCharBoundary-start text u; all = refl; after = refl }
 
-pub space_first : (c : ℕ) (cs rest : List ℕ) → rest ≡ c ∷ cs → class_of c ≡ White → digits (leading is_numeric rest) ≡ digits (leading is_numeric cs)
-space_first c cs rest e d = grind (arith, common_steps, is_ws-class, space_not_digit)
+digit_read : (text ds rest cs : List ℕ) (c : ℕ) → number_of text ≡ ds ++ number_of rest → rest ≡ c ∷ cs → is_digit c ≡ true
+    → number_of text ≡ (ds ++ c ∷ []) ++ number_of cs
+digit_read text ds rest cs c h e d = grind (arith, common_steps, append_assoc {A = ℕ})
 
-pub past_digit : (c : ℕ) (cs rest : List ℕ) → rest ≡ c ∷ cs → class_of c ≡ Digit → past is_numeric rest ≡ past is_numeric cs
-past_digit c cs rest e d = rw (e, digit_is_numeric c ((is_digit-class c).0 d))
+pub read_digit : (text : List ℕ) (at : ℕ) (ds : List ℕ) → IsUtf8 text → at < length text → IsRead text at ds
+    → is_ascii_digit (get_or text at 0) ≡ true → IsRead text (at + 1) (ds ++ get_or text at 0 ∷ [])
+read_digit text at ds u some h d =
+    let c = digit_over text at u (some, h.place) d in
+    record { place = c.1.place; all = digit_read _ ds _ _ _ h.all c.1.ahead c.0; after = rw (c.1.ahead, digit_is_numeric _ c.0) at h.after }
 
-pub past_white : (c : ℕ) (cs rest : List ℕ) → rest ≡ c ∷ cs → class_of c ≡ White → past is_numeric rest ≡ past is_numeric cs
-past_white c cs rest e d = rw (e, space_is_numeric c ((is_ws-class c).0 d))
+pub read_space : (text : List ℕ) (at width : ℕ) (ds : List ℕ) → IsUtf8 text → at < length text → IsRead text at ds
+    → width ≡ space_width (chars (drop at text)) → width ≢ 0 → IsRead text (at + width) ds
+read_space text at width ds u some h w further =
+    let c = space_over text at width u (some, h.place) w further in
+    record {
+      place = c.2.place;
+      all = rw (c.2.ahead, space_is_numeric _ c.1, space_not_digit _ c.1) at h.all;
+      after = rw (c.2.ahead, space_is_numeric _ c.1) at h.after;
+    }
+
+-- all digits are read at the end, and where neither a digit nor white space stands
+pub all_read : (text : List ℕ) (at : ℕ) (ds : List ℕ) → IsUtf8 text → IsRead text at ds → (at < length text
+    → (is_ascii_digit (get_or text at 0) ≡ false) × (space_width (chars (drop at text)) ≡ 0))
+    → (number_of (chars text) ≡ ds) × (chars (take at text) ≡ leading is_numeric (chars text)) × (chars (drop at text) ≡ after_number (chars text))
+all_read text at ds u h stops =
+    let ended : begins is_numeric (chars (drop at text)) ≡ false = elim (cases_lt at (length text)) [
+      | inl some ↦ no_numeric _ (sym (digit_at text at u (some, h.place)) ∙ (stops some).0) (no_space _ (stops some).1)
+      | inr end ↦ ap (begins is_numeric) (no_bytes (drop at text) (omega (arith, length-drop at text)))
+    ] in
+    let behind = nothing_read _ ended in
+    let after : chars (drop at text) ≡ after_number (chars text) = sym behind.1 ∙ h.after in
+    (h.all ∙ ap (λ (x : List ℕ). ds ++ x) behind.0 ∙ append-nil ds, front_is is_numeric text at u h.place after, after)
+  where
+    no_numeric : (rest : List ℕ) → begins is_digit rest ≡ false → begins is_ws rest ≡ false → begins is_numeric rest ≡ false
+    no_numeric rest d w = grind (arith, common_steps)
+
+    nothing_read : (rest : List ℕ) → begins is_numeric rest ≡ false → (number_of rest ≡ []) × (after_number rest ≡ rest)
+    nothing_read rest e = grind (arith, common_steps)
+
+pub digit_range : (c : ℕ) → is_digit c ≡ true → (48 ≤ c) × (c ≤ 57)
+unfolding is_digit
+digit_range c d = grind (arith, nat_tests)
+
+pub digit_counts : (c : ℕ) → is_digit c ≡ true → digit_value c ≡ c - 48
+digit_counts c d = omega (arith, digit_value_digit c (digit_range c d), digit_range c d)
+
+pub value_more : (ds : List ℕ) (c : ℕ) → is_digit c ≡ true → decimal_value (ds ++ c ∷ []) ≡ decimal_value ds * 10 + (c - 48)
+value_more ds c d = value-append 0 ds (c ∷ []) ∙ ap (λ (n : ℕ). decimal_value ds * 10 + n) (digit_counts c d)
 
 -- digits only make a value greater
 pub value_grows : (n : ℕ) (ds : List ℕ) → n ≤ digits_value_after 10 n ds
 value_grows n [] = omega arith
 value_grows n (d ∷ ds) = omega (arith, value_grows (n * 10 + digit_value d) ds)
 
-pub at_digit : (text rest cs : List ℕ) (v w c : ℕ) → IsAt text v rest → rest ≡ c ∷ cs → class_of c ≡ Digit → w ≡ v * 10 + (c - 48) → w ≤ u64_max → IsAt text w cs
-at_digit text rest cs v w c h e d n f = grind (arith, common_steps, digit_counts, digit_first, past_digit)
+pub value_greater : (ds es : List ℕ) → decimal_value ds ≤ decimal_value (ds ++ es)
+value_greater ds es = rw (value-append 0 ds es) (value_grows (decimal_value ds) es)
 
-pub at_space : (text rest cs : List ℕ) (v c : ℕ) → IsAt text v rest → rest ≡ c ∷ cs → class_of c ≡ White → IsAt text v cs
-at_space text rest cs v c h e d = grind (arith, common_steps, space_first, past_white)
+-- the answers where the digits are read
+pub number_passes : (text : List ℕ) (at : ℕ) (ds : List ℕ) → IsRead text at ds → u64_max < decimal_value ds → None ≡ number_at (chars text)
+number_passes text at ds h over =
+    let value = number_of (chars text) in
+    rw (lt-ltb u64_max (decimal_value value) (omega (arith, over, value_greater ds (number_of (chars (drop at text))), ap decimal_value h.all))) refl
 
-pub number_passes : (text rest cs : List ℕ) (v c : ℕ) → IsAt text v rest → rest ≡ c ∷ cs → class_of c ≡ Digit → u64_max < v * 10 + (c - 48) → Err NumberOverflow ≡ number_at text
-number_passes text rest cs v c h e d over = grind (arith, common_steps, (sym (ap (digits_value_after 10 v) (digit_first c cs rest e d)) ∙ h.value), (value_grows (v * 10 + digit_value c) (digits (leading is_numeric cs))), digit_counts c d)
-
-pub past_letters : (c : ℕ) (cs rest : List ℕ) → rest ≡ c ∷ cs → class_of c ≡ Letter → past is_letter rest ≡ past is_letter cs
-past_letters c cs rest e d = rw (e, (is_letter-class c).0 d)
-
-pub past_space : (c : ℕ) (cs rest : List ℕ) → rest ≡ c ∷ cs → class_of c ≡ White → past is_ws rest ≡ past is_ws cs
-past_space c cs rest e d = rw (e, (is_ws-class c).0 d)
-
--- what is numeric ends where neither a digit nor white space follows
-pub no_numeric : (rest : List ℕ) → begins is_digit rest ≡ false → begins is_ws rest ≡ false → begins is_numeric rest ≡ false
-no_numeric rest h k = grind (arith, common_steps)
-
-pub number_end : (text rest : List ℕ) (v : ℕ) → IsAt text v rest → begins is_numeric rest ≡ false → Ok (v, rest) ≡ number_at text
-number_end text rest v h e = grind (arith, common_steps, common_steps)
+pub number_ends : (text ds front rest : List ℕ) (v : ℕ) → v ≡ decimal_value ds → v ≤ u64_max
+    → (number_of text ≡ ds) × (front ≡ leading is_numeric text) × (rest ≡ after_number text)
+    → Some (v, front, rest) ≡ number_at text
+number_ends text ds front rest v is fits a = grind (arith, common_steps)

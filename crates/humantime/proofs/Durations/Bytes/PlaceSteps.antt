@@ -1,59 +1,132 @@
--- Places in a text, at which a character begins or the text ends, and steps from one to the next.
+-- Places in a text, and the character that stands at one.
 use Rattle.std.proofs.lemmas.Grind.{common_steps}
-use Rattle.std.proofs.Common.{◌≡◌, ◌<◌, ◌≤◌, ◌+◌, ◌≢◌, ℕ, List, [], ◌∷◌, ◌++◌, length, get_or, drop, drop-drop, refl, ap, sym, ◌∙◌, arith, add-one, length-drop, IsUtf8, IsCharBoundary, chars, encode_utf8, encode_utf8_all, Bool, true, false, inl, inr}
-use Rattle.std.specs.Prelude.{◌==◌, ◌&&◌, ◌||◌}
-use Rattle.std.proofs.Math.Seq.{drop-cons}
+use Rattle.std.proofs.Common.{◌≡◌, ◌≢◌, ◌<◌, ◌≤◌, ◌+◌, ℕ, List, [], ◌∷◌, ◌++◌, length, get_or, drop, refl, ap, sym, ◌∙◌, arith, length-drop, IsUtf8, IsCharBoundary, chars, encode_utf8, encode_utf8_all, ltb, Bool, true, false, inl, inr}
+use Rattle.std.specs.Prelude.{◌==◌, ◌&&◌, ◌||◌, Some, None, option_map, slice_get, if◌then◌else◌}
+use Rattle.std.specs.Char.{is_ascii_digit, is_whitespace, len_utf8}
 use Rattle.std.proofs.Math.Utf8.{encode}
-use Rattle.std.proofs.lemmas.Bool.{or_cases, and_parts, eqb-true}
+use Rattle.std.proofs.lemmas.Bool.{cases_lt, ne_eqb, or_cases, and_parts, eqb-true}
 use Rattle.std.proofs.lemmas.Bool.Decides.{nat_tests}
-use Rattle.std.proofs.lemmas.Str.{IsUtf8-drop, IsCharBoundary-after_ascii, IsCharBoundary-from_rest, chars_past_char, encode_ascii, encodes-chars}
-use Rattle.humantime.specs.declared.duration.reading.class.Class.{Class}
-use Rattle.humantime.specs.declared.duration.reading.class.Class.TheVariants.{White, Letter}
-use Rattle.humantime.specs.Durations.Characters.{white_spaces, is_letter, is_ws, is_digit, begins, past}
-use Rattle.humantime.specs.References.Durations.Scanning.{StepsOver}
-use Rattle.humantime.specs.References.Durations.Classes.{class_of}
-use Rattle.humantime.proofs.Durations.Bytes.Numbers.{past_letters, past_space}
-use Rattle.humantime.proofs.Durations.Bytes.Tails.{past_begins, past_begins_boundary, no_bytes}
-use Rattle.humantime.proofs.Durations.Reading.Classes.{not_white, not_letter}
+use Rattle.std.proofs.lemmas.List.{get_or-drop}
+use Rattle.std.proofs.lemmas.Str.{IsUtf8-drop, IsCharBoundary-past_char, drop_past_char, chars_past_char, byte_from_char, char_from_byte, len_utf8_ascii, len_utf8_bounds, encodes-chars, encode_same, IsCharBoundary-start}
+use Rattle.humantime.specs.Durations.Errors.{IsPlaceIn}
+use Rattle.humantime.specs.Durations.Characters.{is_letter, is_ws, is_digit, is_point, begins, past}
+use Rattle.humantime.specs.References.Durations.Scanning.{space_width, digits_at, fraction_read, ends_span}
+use Rattle.humantime.proofs.Durations.Bytes.Tails.{no_bytes}
+use Rattle.humantime.proofs.Durations.Reading.Classes.{digit_is, is_point-46, wide_no_digit, white_is}
 
--- over one byte of ASCII
-pub ascii_chars : (text : List ℕ) (at : ℕ) → IsUtf8 text → IsCharBoundary text at → at < length text → get_or text at 0 < 128
-    → chars (drop at text) ≡ get_or text at 0 ∷ chars (drop (at + 1) text)
-ascii_chars text at u place some small =
-    let c = get_or text at 0 in
-    let begins : drop at text ≡ encode_utf8 c ++ drop (at + 1) text = rw (encode_ascii c small, add-one, drop-cons text at 0 some) refl in
-    chars_past_char (drop at text) (drop (at + 1) text) c (IsUtf8-drop text at u place) begins
+-- The character at a place, and what follows it.
+pub record IsCharAt (text : List ℕ) (at char next : ℕ) : Type 0 where
+  pub bytes : drop at text ≡ encode_utf8 char ++ drop next text
+  pub ahead : chars (drop at text) ≡ char ∷ chars (drop next text)
+  pub place : IsCharBoundary text next
+  pub long : next ≡ at + len_utf8 char
+  pub ascii : get_or text at 0 < 128 → char ≡ get_or text at 0
+  pub wide : 128 ≤ get_or text at 0 → 128 ≤ char
 
-pub ascii_over : (text : List ℕ) (at : ℕ) (class : Class) → IsUtf8 text → IsCharBoundary text at → at < length text → get_or text at 0 < 128
-    → class ≡ class_of (get_or text at 0) → StepsOver text at class (at + 1)
-ascii_over text at class u place some small is = grind (arith, common_steps, ascii_chars, IsCharBoundary-after_ascii)
+pub char_at : (text : List ℕ) (at : ℕ) → IsUtf8 text → IsPlaceIn text at → (char : ℕ) × IsCharAt text at char (at + len_utf8 char)
+char_at text at u here = by (chars rest) (encodes-chars rest utf8)
+  where
+    rest : List ℕ
+    rest = drop at text
 
--- over a character of so many bytes
-pub char_over : (text rest : List ℕ) (at c k : ℕ) (class : Class) → IsUtf8 text → IsCharBoundary text at → class ≡ class_of c
-    → drop at text ≡ encode_utf8 c ++ rest → k ≡ length (encode_utf8 c) → 0 < k → StepsOver text at class (at + k)
-char_over text rest at c k class u place is begins long some =
-    let utf8 = IsUtf8-drop text at u place in
-    record {
-      char = c;
-      is = is;
-      chars = chars_past_char (drop at text) (drop (at + k) text) c utf8 (past_begins (drop at text) rest (drop (at + k) text) c k begins long (sym (drop-drop k at text)));
-      place = IsCharBoundary-from_rest text at k place.0 (past_begins_boundary (drop at text) rest c k utf8 begins long);
-      further = omega arith;
-    }
+    utf8 : IsUtf8 rest
+    utf8 = IsUtf8-drop text at u here.1
 
--- a character that is no white space stands at this place
-pub no_space_at : (text rest : List ℕ) (at c : ℕ) → IsUtf8 text → IsCharBoundary text at → drop at text ≡ encode_utf8 c ++ rest → is_ws c ≡ false
-    → begins is_ws (chars (drop at text)) ≡ false
-no_space_at text rest at c u place begin other =
-    let utf8 = IsUtf8-drop text at u place in
-    ap (begins is_ws) (chars_past_char (drop at text) rest c utf8 begin) ∙ other
+    some : 0 < length rest
+    some = omega (arith, length-drop at text, here.0)
+
+    first : get_or rest 0 0 ≡ get_or text at 0
+    first = get_or-drop at text 0 0 ∙ ap (λ (k : ℕ). get_or text k 0) (omega arith)
+
+    by : (cs : List ℕ) → encode_utf8_all cs ≡ rest → (char : ℕ) × IsCharAt text at char (at + len_utf8 char)
+    by [] e = absurd (omega (arith, ap length e, some))
+    by (c ∷ cs) e =
+        let behind : drop (at + len_utf8 c) text ≡ encode_utf8_all cs = drop_past_char text (encode_utf8_all cs) at c (sym e) in
+        let bytes : rest ≡ encode_utf8 c ++ drop (at + len_utf8 c) text = sym e ∙ ap (λ (x : List ℕ). encode_utf8 c ++ x) (sym behind) in (
+          c,
+          record {
+            bytes = bytes;
+            ahead = chars_past_char rest (drop (at + len_utf8 c) text) c utf8 bytes;
+            place = IsCharBoundary-past_char text (encode_utf8_all cs) at c (omega (arith, here.0)) utf8 (sym e);
+            long = refl;
+            ascii = λ small. char_from_byte rest (encode_utf8_all cs) c (sym e) (omega (arith, first, small)) some ∙ first;
+            wide = λ large. elim (cases_lt c 128) [
+              | inl small ↦ absurd (omega (arith, byte_from_char rest (encode_utf8_all cs) c (sym e) small, first, large))
+              | inr is ↦ is
+            ];
+          },
+        )
+
+-- a byte of ASCII is a character
+pub ascii_at : (text : List ℕ) (at : ℕ) → IsUtf8 text → IsPlaceIn text at → get_or text at 0 < 128 → IsCharAt text at (get_or text at 0) (at + 1)
+ascii_at text at u here small =
+    let c = char_at text at u here in
+    let is : c.0 ≡ get_or text at 0 = c.1.ascii small in
+    let one : len_utf8 (get_or text at 0) ≡ 1 = len_utf8_ascii _ small in
+    let here : IsCharAt text at (get_or text at 0) (at + len_utf8 (get_or text at 0)) = rw is at c.1 in
+    rw one at here
+
+-- a digit stands where its byte does
+pub digit_at : (text : List ℕ) (at : ℕ) → IsUtf8 text → IsPlaceIn text at → is_ascii_digit (get_or text at 0) ≡ begins is_digit (chars (drop at text))
+digit_at text at u here =
+    let c = char_at text at u here in
+    rw (c.1.ahead, ← digit_is) (elim (cases_lt (get_or text at 0) 128) [
+      | inl small ↦ rw (c.1.ascii small)
+      | inr large ↦ wide_no_digit _ large ∙ sym (wide_no_digit _ (c.1.wide large))
+    ])
+
+-- a digit is one byte
+pub digit_over : (text : List ℕ) (at : ℕ) → IsUtf8 text → IsPlaceIn text at → is_ascii_digit (get_or text at 0) ≡ true
+    → (is_digit (get_or text at 0) ≡ true) × IsCharAt text at (get_or text at 0) (at + 1)
+digit_over text at u here d = (sym (digit_is _) ∙ d, ascii_at text at u here (grind (arith, common_steps, wide_no_digit)))
+
+-- white space at a place is a character of its width
+pub space_over : (text : List ℕ) (at width : ℕ) → IsUtf8 text → IsPlaceIn text at → width ≡ space_width (chars (drop at text)) → width ≢ 0
+    → (c : ℕ) × (is_ws c ≡ true) × IsCharAt text at c (at + width)
+space_over text at width u here w some = let c = char_at text at u here in grind (arith, common_steps)
+
+pub no_space : (cs : List ℕ) → space_width cs ≡ 0 → begins is_ws cs ≡ false
+no_space cs none = grind (arith, common_steps, len_utf8_bounds)
+
+-- the white space that begins a text is its first character, if that is white space
+pub first_width : (cs : List ℕ) (c : ℕ) (white : Bool) → Some c ≡ slice_get cs 0 → white ≡ is_whitespace c
+    → (if white then len_utf8 c else 0) ≡ space_width cs
+first_width [] c white e w = cc
+first_width (d ∷ ds) c white e w = let same : c ≡ d = cc in rw (w, white_is c, same) refl
+
+pub none_width : (cs : List ℕ) → None ≡ slice_get cs 0 → 0 ≡ space_width cs
+none_width [] e = refl
+none_width (d ∷ ds) e = cc
+
+-- what does not begin so is past what begins so
+pub ends_there : (p : ℕ → Bool) (rest : List ℕ) → begins p rest ≡ false → rest ≡ past p rest
+ends_there p rest e = grind (arith, common_steps)
+
+-- a text begins with a point where its first byte is one
+pub no_point : (text : List ℕ) → IsUtf8 text → get_or text 0 0 ≢ 46 → begins is_point (chars text) ≡ false
+unfolding is_point
+no_point text u other = elim (cases_lt 0 (length text)) [
+  | inl some ↦ let c = char_at text 0 u (some, IsCharBoundary-start text u) in rw c.1.ahead (elim (cases_lt (get_or text 0 0) 128) [
+    | inl small ↦ rw (c.1.ascii small) (ne_eqb _ 46 other)
+    | inr large ↦ ne_eqb _ 46 (λ e. omega (arith, e, c.1.wide large))
+  ])
+  | inr none ↦ rw (no_bytes text (omega arith)) refl
+]
+
+pub point_first : (text : List ℕ) → IsUtf8 text → 0 < length text → get_or text 0 0 ≡ 46 → IsCharAt text 0 46 1
+point_first text u some e = rw e at (ascii_at text 0 u (some, IsCharBoundary-start text u) (omega (arith, e)))
+
+pub no_fraction : (rest : List ℕ) → begins is_point rest ≡ false → Some (None, None, rest) ≡ fraction_read rest
+no_fraction rest e = rw e refl
+
+pub fraction_behind : (rest cs : List ℕ) → rest ≡ 46 ∷ cs → option_map (λ x. (Some x.0, Some x.1, x.2)) (digits_at cs) ≡ fraction_read rest
+fraction_behind rest cs e = rw (e, is_point-46)
+
+-- ---- letters
 
 -- a pair of bytes is that of the micro sign, or that of the Greek letter mu
 abbrev pub is_mu_pair : ℕ → ℕ → Bool
 is_mu_pair first second = (first == 0xc2 && second == 0xb5) || (first == 0xce && second == 0xbc)
-
-two_bytes : (text : List ℕ) (at : ℕ) → at + 1 < length text → drop at text ≡ get_or text at 0 ∷ get_or text (at + 1) 0 ∷ drop (at + 2) text
-two_bytes text at some = grind (arith, common_steps)
 
 micro_bytes : encode_utf8 181 ≡ 0xc2 ∷ 0xb5 ∷ []
 unfolding encode
@@ -63,67 +136,41 @@ mu_bytes : encode_utf8 956 ≡ 0xce ∷ 0xbc ∷ []
 unfolding encode
 mu_bytes = refl
 
-micro_class : Letter ≡ class_of 181
-unfolding class_of is_ws white_spaces is_digit is_letter
-micro_class = refl
+two_bytes : (text : List ℕ) (at : ℕ) → at + 1 < length text → drop at text ≡ get_or text at 0 ∷ get_or text (at + 1) 0 ∷ drop (at + 2) text
+two_bytes text at some = grind (arith, common_steps)
 
-mu_class : Letter ≡ class_of 956
-unfolding class_of is_ws white_spaces is_digit is_letter
-mu_class = refl
+-- a character of two bytes stands where they do
+two_over : (text : List ℕ) (at c x y : ℕ) → IsUtf8 text → IsCharBoundary text at → at + 1 < length text
+    → get_or text at 0 ≡ x → get_or text (at + 1) 0 ≡ y
+    → encode_utf8 c ≡ x ∷ y ∷ [] → IsCharAt text at c (at + len_utf8 c)
+two_over text at c x y u place some first second spelled =
+    let d = char_at text at u (omega arith, place) in
+    let bytes : encode_utf8 d.0 ++ drop (at + len_utf8 d.0) text ≡ encode_utf8 c ++ drop (at + 2) text =
+    sym d.1.bytes ∙ two_bytes text at some ∙ rw (first, second, spelled) refl in
+    rw (encode_same d.0 c (drop (at + len_utf8 d.0) text) (drop (at + 2) text) bytes).0 at d.1
 
--- over either of them
-pub mu_over : (text : List ℕ) (at : ℕ) → IsUtf8 text → IsCharBoundary text at → at + 1 < length text → is_mu_pair (get_or text at 0) (get_or text (at + 1) 0) ≡ true
-    → StepsOver text at Letter (at + 2)
+-- over either of the two letters beyond ASCII
+pub mu_over : (text : List ℕ) (at : ℕ) → IsUtf8 text → IsCharBoundary text at → at + 1 < length text
+    → is_mu_pair (get_or text at 0) (get_or text (at + 1) 0) ≡ true
+    → (c : ℕ) × (is_letter c ≡ true) × IsCharAt text at c (at + 2)
+unfolding is_letter
 mu_over text at u place some pair = elim (or_cases _ _ pair) [
   | inl micro ↦
       let p = and_parts _ _ micro in
-      char_over text (drop (at + 2) text) at 181 2 Letter u place micro_class
-      (two_bytes text at some ∙ ap (λ (x : List ℕ). x ++ drop (at + 2) text) (bytes _ _ _ _ p.0 p.1 ∙ sym micro_bytes)) (ap length (sym micro_bytes)) (omega arith)
+      (181, refl, two_over text at 181 0xc2 0xb5 u place some (eqb-true _ _ p.0) (eqb-true _ _ p.1) micro_bytes)
   | inr mu ↦
       let p = and_parts _ _ mu in
-      char_over text (drop (at + 2) text) at 956 2 Letter u place mu_class
-      (two_bytes text at some ∙ ap (λ (x : List ℕ). x ++ drop (at + 2) text) (bytes _ _ _ _ p.0 p.1 ∙ sym mu_bytes)) (ap length (sym mu_bytes)) (omega arith)
-] where
-  bytes : (a b x y : ℕ) → (a == x) ≡ true → (b == y) ≡ true → a ∷ b ∷ [] ≡ x ∷ y ∷ []
-  bytes a b x y e d = rw (eqb-true a x e, eqb-true b y d) refl
+      (956, refl, two_over text at 956 0xce 0xbc u place some (eqb-true _ _ p.0) (eqb-true _ _ p.1) mu_bytes)
+]
 
 -- a character beyond ASCII that has other bytes is no letter
-pub no_mu : (text rest : List ℕ) (at c : ℕ) → at < length text → 128 ≤ c → drop at text ≡ encode_utf8 c ++ rest
-    → (at + 1 < length text → is_mu_pair (get_or text at 0) (get_or text (at + 1) 0) ≡ false) → is_letter c ≡ false
-unfolding is_letter
-no_mu text rest at c some wide begins other = grind (arith, common_steps, micro_bytes, mu_bytes, two_bytes, nat_tests)
-
--- a character that does not begin with ASCII lies beyond it
-pub beyond_ascii : (text rest : List ℕ) (at c : ℕ) → at < length text → 128 ≤ get_or text at 0 → drop at text ≡ encode_utf8 c ++ rest → 128 ≤ c
-beyond_ascii text rest at c some wide begins = grind (arith, common_steps)
-
-pub no_letter : (text : List ℕ) (at : ℕ) → IsUtf8 text → IsCharBoundary text at → at < length text → 128 ≤ get_or text at 0
+pub no_letter : (text : List ℕ) (at : ℕ) → IsUtf8 text → IsPlaceIn text at → 128 ≤ get_or text at 0
     → (at + 1 < length text → is_mu_pair (get_or text at 0) (get_or text (at + 1) 0) ≡ false) → begins is_letter (chars (drop at text)) ≡ false
-no_letter text at u place some wide other = by (chars (drop at text)) (encodes-chars (drop at text) (IsUtf8-drop text at u place))
-  where
-    by : (cs : List ℕ) → encode_utf8_all cs ≡ drop at text → begins is_letter cs ≡ false
-    by [] e = refl
-    by (c ∷ cs) e = no_mu text (encode_utf8_all cs) at c some (beyond_ascii text (encode_utf8_all cs) at c some wide (sym e)) (sym e) other
+unfolding is_letter
+no_letter text at u here wide other =
+    let c = char_at text at u here in
+    rw c.1.ahead (grind (arith, common_steps, micro_bytes, mu_bytes, two_bytes, nat_tests))
 
--- the next place is behind the letters, or the white space, exactly as this one is
-pub letter_step : (text : List ℕ) (at next : ℕ) (class : Class) (all : List ℕ) → StepsOver text at class next → class ≡ Letter
-    → past is_letter (chars (drop at text)) ≡ all → past is_letter (chars (drop next text)) ≡ all
-letter_step text at next class all s is same = grind (arith, common_steps, past_letters)
-
-pub space_step : (text : List ℕ) (at next : ℕ) (all : List ℕ) → StepsOver text at White next → past is_ws (chars (drop at text)) ≡ all → past is_ws (chars (drop next text)) ≡ all
-space_step text at next all s same = sym (past_space s.char (chars (drop next text)) (chars (drop at text)) s.chars (sym s.is)) ∙ same
-
--- another character ends them
-pub letters_end : (text : List ℕ) (at next : ℕ) (class : Class) → StepsOver text at class next → (class ≡ Letter → ⊥) → chars (drop at text) ≡ past is_letter (chars (drop at text))
-letters_end text at next class s n = rw (s.chars, not_letter s.char (λ z. n (s.is ∙ z))) refl
-
-pub ends_there : (p : ℕ → Bool) (rest : List ℕ) → begins p rest ≡ false → rest ≡ past p rest
-ends_there p [] e = refl
-ends_there p (c ∷ cs) e = rw e refl
-
-pub white_stops : (text : List ℕ) (at next : ℕ) (class : Class) → StepsOver text at class next → class ≢ White → begins is_ws (chars (drop at text)) ≡ false
-white_stops text at next class s w = ap (begins is_ws) s.chars ∙ not_white s.char (λ z. w (s.is ∙ z))
-
--- no characters stand at the end
-pub no_chars_at : (text : List ℕ) (at : ℕ) → length text ≤ at → chars (drop at text) ≡ []
-no_chars_at text at end = no_bytes (drop at text) (omega (arith, length-drop at text))
+-- where no digit follows, white space ends a span
+pub ends_by_width : (cs : List ℕ) → cs ≢ [] → begins is_digit cs ≡ false → ltb 0 (space_width cs) ≡ ends_span cs
+ends_by_width cs some other = grind (arith, common_steps, len_utf8_bounds)

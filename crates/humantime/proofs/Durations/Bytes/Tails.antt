@@ -1,12 +1,14 @@
 -- Ends of a text, over its bytes.
 use Rattle.std.proofs.lemmas.Grind.{common_steps}
-use Rattle.std.proofs.Common.{◌≡◌, ◌≢◌, ◌≤◌, ◌-◌, ℕ, List, [], ◌++◌, length, take, drop, subst, ap, sym, ◌∙◌, arith, length-append, IsUtf8, IsCharBoundary, chars, encode_utf8, slice_range}
-use Rattle.std.proofs.lemmas.List.{take-append-drop}
-use Rattle.std.proofs.lemmas.Str.{IsUtf8-past_char, IsCharBoundary-at_seam, encodes-chars, chars-nil}
+use Rattle.std.proofs.Common.{◌≡◌, ◌≢◌, ◌≤◌, ◌+◌, ◌-◌, ℕ, Bool, List, [], ◌++◌, length, take, drop, ap, sym, ◌∙◌, arith, length-append, length-drop, IsUtf8, IsCharBoundary, chars, slice_range}
+use Rattle.std.proofs.lemmas.List.{take-append-drop, append_cancel_right}
+use Rattle.std.proofs.lemmas.Str.{IsUtf8-take, IsUtf8-drop, IsCharBoundary-at_seam, encodes-chars, chars-append, chars-nil}
 use Rattle.std.specs.Prelude.{bytes_eq, encode_utf8_all}
 use Rattle.std.proofs.lemmas.Slice.Eq.{bytes_eq-Decides}
-use Rattle.humantime.specs.Durations.Characters.{byte_length, offset_of}
+use Rattle.humantime.specs.Durations.Characters.{byte_length, offset_of, leading, past}
+use Rattle.std.specs.Cmp.{both_ways}
 use Rattle.humantime.specs.References.Durations.Scanning.{IsTail}
+use Rattle.humantime.proofs.Durations.Reading.Runs.{leading-past}
 
 -- what stands before the rest
 abbrev pub front_of : List ℕ → List ℕ → List ℕ
@@ -18,22 +20,23 @@ tail_whole text rest t = sym (take-append-drop (length text - length rest) text)
 pub tail_of_tail : (text rest after : List ℕ) → IsTail text rest → IsTail rest after → IsTail text after
 tail_of_tail text rest after t r = grind (arith, common_steps)
 
--- a tail behind two, and behind three others
-pub tail_behind_two : (text rest a b : List ℕ) → IsTail text rest → IsTail rest a → IsTail a b → IsTail text b
-tail_behind_two text rest a b t u v = tail_of_tail text a b (tail_of_tail text rest a t u) v
-
-pub tail_behind_three : (text rest a b c : List ℕ) → IsTail text rest → IsTail rest a → IsTail a b → IsTail b c → IsTail text c
-tail_behind_three text rest a b c t u v w = tail_of_tail text b c (tail_behind_two text rest a b t u v) w
+-- what follows a place
+pub tail_at : (text rest : List ℕ) (at : ℕ) → IsUtf8 text → IsCharBoundary text at → rest ≡ drop at text → IsTail text rest
+tail_at text rest at u place e =
+    let long : length rest + at ≡ length text = rw e (omega (arith, length-drop at text, place.0)) in
+    let same : length text - length rest ≡ at = omega (arith, long) in
+    record { shorter = omega (arith, long); ends = rw same e; utf8 = rw e (IsUtf8-drop text at u place) }
 
 pub tail_boundary : (text rest : List ℕ) → IsTail text rest → IsCharBoundary text (length text - length rest)
 tail_boundary text rest t = grind (arith, common_steps, ap length (tail_whole text rest t), length-append (front_of text rest) rest, IsCharBoundary-at_seam)
 
--- what follows the first character
-pub past_begins : (text rest part : List ℕ) (c k : ℕ) → text ≡ encode_utf8 c ++ rest → k ≡ length (encode_utf8 c) → part ≡ drop k text → text ≡ encode_utf8 c ++ part
-past_begins text rest part c k e n p = grind (arith, common_steps)
-
-pub past_begins_boundary : (text rest : List ℕ) (c k : ℕ) → IsUtf8 text → text ≡ encode_utf8 c ++ rest → k ≡ length (encode_utf8 c) → IsCharBoundary text k
-past_begins_boundary text rest c k u e n = subst (IsCharBoundary text) (sym n) (IsCharBoundary-at_seam text (encode_utf8 c) rest e (IsUtf8-past_char text rest c u e))
+-- what stands before a place, where the longest front that passes a test ends there
+pub front_is : (p : ℕ → Bool) (text : List ℕ) (at : ℕ) → IsUtf8 text → IsCharBoundary text at → chars (drop at text) ≡ past p (chars text)
+    → chars (take at text) ≡ leading p (chars text)
+front_is p text at u place after =
+    append_cancel_right (chars (take at text)) (leading p (chars text)) (past p (chars text))
+    (ap (λ (x : List ℕ). chars (take at text) ++ x) (sym after) ∙ sym (chars-append (take at text) (drop at text) (IsUtf8-take text at u place))
+    ∙ ap chars (take-append-drop at text) ∙ sym (leading-past p (chars text)))
 
 -- the number of bytes of a text's characters is the text's
 pub byte_length-chars : (bs : List ℕ) → IsUtf8 bs → byte_length (chars bs) ≡ length bs
@@ -51,6 +54,9 @@ some_chars bs u n e = n (no_chars bs u e)
 
 pub no_bytes : (bs : List ℕ) → length bs ≡ 0 → chars bs ≡ []
 no_bytes bs h = grind (arith, common_steps, chars-nil)
+
+pub no_chars_at : (text : List ℕ) (at : ℕ) → length text ≤ at → chars (drop at text) ≡ []
+no_chars_at text at end = no_bytes (drop at text) (omega (arith, length-drop at text))
 
 -- a part between two places of a text is the slice from the one offset to the other
 pub part_between : (text behind part next : List ℕ) (start end : ℕ) → IsUtf8 text → IsTail text behind → IsTail text next → behind ≡ part ++ next

@@ -1,8 +1,9 @@
 -- Slices without the white space at their ends.
-use Rattle.std.proofs.Common.{◌≡◌, ℕ, suc, Bool, true, false, ◌&&◌, cond, eqb, List, [], ◌∷◌, ◌++◌, length, Some, None, ◌⊎◌, inl, inr, refl, sym, ap, subst, ◌∙◌, append-nil, arith}
+use Rattle.std.proofs.Common.{◌≡◌, ℕ, suc, Bool, true, false, ◌&&◌, cond, eqb, List, [], ◌∷◌, ◌++◌, length, Some, None, ◌⊎◌, inl, inr, refl, sym, ap, subst, ◌∙◌, append-nil, arith, IsUtf8, chars}
 use Rattle.std.proofs.lemmas.Grind.{common_steps}
 use Rattle.std.specs.Char.{is_whitespace}
-use Rattle.std.specs.Str.{drop_trailing_whitespace}
+use Rattle.std.specs.Str.{trim_start, trim_end, skip_leading_whitespace, drop_trailing_whitespace}
+use Rattle.std.proofs.lemmas.Str.{encodes-chars, encodes_same}
 use Rattle.std.proofs.lemmas.Bool.Decides.{nat_tests}
 use Rattle.std.proofs.lemmas.List.Elements.{filter-append}
 use Rattle.humantime.specs.Durations.Characters.{is_ws, is_digit, is_letter, is_numeric, begins, ends, past, digits}
@@ -63,7 +64,8 @@ only_front p [] ys o = tt
 only_front p (x ∷ xs) ys o = (o.0, only_front p xs ys o.1)
 
 -- digits and white space from a first digit on, without the white space at the end, behind other white space
-pub digit_slice : (before cs ds : List ℕ) → Dropped cs ds → Only is_ws before → begins is_digit cs ≡ true → Only is_numeric cs → IsDigitSlice (before ++ cs) ds
+pub digit_slice : (before cs ds : List ℕ) → Dropped cs ds → Only is_ws before → begins is_digit cs ≡ true → Only is_numeric cs
+    → IsDigitSlice (before ++ cs) ds
 digit_slice before cs [] d w b o = absurd (all_white d.tail d.space (subst (λ (l : List ℕ). begins is_digit l ≡ true) d.whole b))
 digit_slice before cs (x ∷ xs) d w b o = grind (arith, common_steps, only_front, ends_digit)
 
@@ -71,5 +73,19 @@ digit_slice before cs (x ∷ xs) d w b o = grind (arith, common_steps, only_fron
 pub no_slice : (tail : List ℕ) → begins is_letter tail ≡ true → fraction_slice tail ≡ None
 no_slice tail h = grind (arith, common_steps, letter_not_point)
 
-pub slice_behind_point : (behind tail : List ℕ) → Only is_numeric behind → begins is_letter tail ≡ true → fraction_slice (46 ∷ (behind ++ tail)) ≡ Some (trimmed behind)
+pub slice_behind_point : (behind tail : List ℕ) → Only is_numeric behind → begins is_letter tail ≡ true
+    → fraction_slice (46 ∷ (behind ++ tail)) ≡ Some (trimmed behind)
 slice_behind_point behind tail only e = grind (arith, common_steps, letter_not_numeric, is_point-46, leading-append)
+
+-- what std's `trim_end` and `trim_start` give
+pub end_trimmed : (text cut : List ℕ) → IsUtf8 cut → cut ≡ trim_end text → chars cut ≡ drop_trailing_whitespace (chars text)
+unfolding trim_end
+end_trimmed text cut u e = encodes_same (chars cut) (drop_trailing_whitespace (chars text)) (encodes-chars cut u ∙ e)
+
+pub start_trimmed : (text cut : List ℕ) → IsUtf8 cut → cut ≡ trim_start text → chars cut ≡ past is_ws (chars text)
+unfolding trim_start
+start_trimmed text cut u e = encodes_same (chars cut) (skip_leading_whitespace (chars text)) (encodes-chars cut u ∙ e) ∙ skipped (chars text)
+  where
+    skipped : (cs : List ℕ) → skip_leading_whitespace cs ≡ past is_ws cs
+    skipped [] = refl
+    skipped (c ∷ cs) = grind (arith, common_steps, white_is, skipped cs)

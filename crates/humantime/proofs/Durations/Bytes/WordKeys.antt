@@ -3,6 +3,7 @@ use Rattle.std.proofs.lemmas.Grind.{common_steps}
 use Rattle.std.proofs.Common.{◌≡◌, ◌∙◌, sym, ap, refl, ℕ, zero, suc, ◌+◌, ◌*◌, ◌^◌, ◌<◌, ◌≤◌, Bool, true, ◌&&◌, List, [], ◌∷◌, length, take, get_or, ltb, chars, arith}
 use Rattle.std.specs.Prelude.{◌==◌, bytes_eq, reverse}
 use Rattle.std.specs.List.{list_all}
+use Rattle.std.specs.Cmp.{both_ways}
 use Rattle.std.specs.Map.{lookup}
 use Rattle.std.specs.Str.{IsUtf8}
 use Rattle.std.proofs.Math.Utf8.{encode, encodes, scalars}
@@ -37,7 +38,8 @@ abbrev pub IsSoFar : List ℕ → ℕ → ℕ → Type 0
 IsSoFar bs at k = at ≤ 7 → k ≡ packed (reverse (take at bs))
 
 -- and so it is with the byte at this place
-pub key_more : (bs : List ℕ) (at k m : ℕ) → HasBytes bs → at < length bs → IsSoFar bs at k → (k * 256 + get_or bs at 0 < 2 ^ 64 → m ≡ k * 256 + get_or bs at 0) → IsSoFar bs (at + 1) m
+pub key_more : (bs : List ℕ) (at k m : ℕ) → HasBytes bs → at < length bs → IsSoFar bs at k → (k * 256 + get_or bs at 0 < 2 ^ 64
+    → m ≡ k * 256 + get_or bs at 0) → IsSoFar bs (at + 1) m
 key_more bs at k m bytes some so_far next short = grind (arith, common_steps, packed_front_below)
 
 -- the key of a front
@@ -61,9 +63,6 @@ packed_same (x ∷ xs) (y ∷ ys) h k e =
 bytes_from_test : (bs : List ℕ) → list_all (λ b. ltb b 256) bs ≡ true → HasBytes bs
 bytes_from_test bs h = grind (arith, common_steps)
 
-same_tests : (a b : Bool) → (a ≡ true → b ≡ true) → (b ≡ true → a ≡ true) → a ≡ b
-same_tests a b h k = grind (arith, common_steps)
-
 -- the word is spelled by at most seven bytes
 abbrev is_spelled : List ℕ → Bool
 is_spelled w = scalars w && (bytes_eq (encodes w) (bytes_of w) && (ltb (length (bytes_of w)) 8 && list_all (λ b. ltb b 256) (bytes_of w)))
@@ -80,7 +79,7 @@ key_tells bs w text bytes spelled =
     let q = and_parts _ _ p.1 in
     let r = and_parts _ _ q.1 in
     let spelling : encodes w ≡ bytes_of w = (bytes_eq-Decides (encodes w) (bytes_of w)).0 q.0 in
-    same_tests _ _
+    both_ways _ _
     (λ e. let same : bs ≡ bytes_of w = key_same bs (bytes_of w) bytes (bytes_from_test (bytes_of w) r.1) (ltb-true _ _ r.0) (eqb-true _ _ e) in
     (bytes_eq-Decides (chars bs) w).1 (ap chars (same ∙ sym spelling) ∙ chars-encodes w p.0))
     (λ e. let same : bs ≡ bytes_of w = sym (encodes-chars bs text) ∙ ap encodes ((bytes_eq-Decides (chars bs) w).0 e) ∙ spelling in

@@ -1,10 +1,10 @@
 -- What a character is excludes the others; and what its class says.
 use Rattle.std.proofs.lemmas.Grind.{common_steps}
-use Rattle.std.proofs.Common.{◌≡◌, ◌≢◌, ◌≤◌, ◌⊎◌, ◌↔◌, ℕ, true, false, refl, sym, ◌∙◌, arith}
+use Rattle.std.proofs.Common.{◌≡◌, ◌≢◌, ◌≤◌, ◌↔◌, ℕ, true, false, refl, sym, ◌∙◌, arith}
 use Rattle.std.specs.Char.{is_whitespace, is_ascii_digit}
 use Rattle.std.proofs.lemmas.Bool.{or_left, or_right}
 use Rattle.std.proofs.lemmas.Bool.Decides.{nat_tests}
-use Rattle.humantime.specs.declared.duration.reading.class.Class.TheVariants.{White, Digit, Letter, Other}
+use Rattle.humantime.specs.declared.duration.reading.class.Class.TheVariants.{White, Letter}
 use Rattle.humantime.specs.Durations.Characters.{white_spaces, is_ws, is_digit, is_letter, is_point, is_numeric}
 use Rattle.humantime.specs.References.Durations.Classes.{class_of}
 
@@ -66,33 +66,6 @@ pub is_point-true : (c : ℕ) → is_point c ≡ true → c ≡ 46
 unfolding is_point
 is_point-true c e = grind (arith, nat_tests)
 
--- ---- classes
-
--- a character passes a test exactly where it is of the test's class
-pub is_ws-class : (c : ℕ) → (class_of c ≡ White) ↔ (is_ws c ≡ true)
-unfolding class_of
-is_ws-class c = grind (arith, common_steps)
-
-pub is_digit-class : (c : ℕ) → (class_of c ≡ Digit) ↔ (is_digit c ≡ true)
-unfolding class_of
-is_digit-class c = grind (arith, common_steps, digit_not_space)
-
-pub is_letter-class : (c : ℕ) → (class_of c ≡ Letter) ↔ (is_letter c ≡ true)
-unfolding class_of is_digit is_letter
-is_letter-class c = grind (arith, common_steps, letter_not_space, nat_tests)
-
-pub not_white : (c : ℕ) → class_of c ≢ White → is_ws c ≡ false
-not_white c = grind (arith, common_steps, is_ws-class)
-
-pub not_letter : (c : ℕ) → class_of c ≢ Letter → is_letter c ≡ false
-not_letter c = grind (arith, common_steps, is_letter-class)
-
-pub numeric_class : (c : ℕ) → (class_of c ≡ Digit) ⊎ (class_of c ≡ White) → is_numeric c ≡ true
-numeric_class c h = grind (arith, common_steps, is_digit-class, is_ws-class)
-
-pub not_numeric : (c : ℕ) → class_of c ≢ White → class_of c ≢ Digit → is_numeric c ≡ false
-not_numeric c w d = grind (arith, common_steps, not_white, is_digit-class)
-
 -- ---- by bytes
 
 -- a digit is one of ASCII
@@ -100,17 +73,13 @@ pub digit_is : (c : ℕ) → is_ascii_digit c ≡ is_digit c
 unfolding is_digit
 digit_is c = refl
 
-pub ascii_digit_class : (c : ℕ) → is_ascii_digit c ≡ true → class_of c ≡ Digit
-ascii_digit_class c e = (is_digit-class c).1 (sym (digit_is c) ∙ e)
-
 pub wide_no_digit : (c : ℕ) → 128 ≤ c → is_ascii_digit c ≡ false
 wide_no_digit c wide = grind (arith, nat_tests)
 
-wide_no_point : (c : ℕ) → 128 ≤ c → is_point c ≡ false
-unfolding is_point
-wide_no_point c wide = grind (arith, nat_tests)
-
--- a character beyond ASCII that is neither white space nor a letter is another
-pub wide_other : (c : ℕ) → 128 ≤ c → is_ws c ≡ false → is_letter c ≡ false → Other ≡ class_of c
+-- what an ASCII character is, by its class
+pub class_tests : (c : ℕ) → ((class_of c ≡ White) ↔ (is_ws c ≡ true)) × ((class_of c ≡ Letter) ↔ (is_letter c ≡ true))
 unfolding class_of
-wide_other c wide white plain = rw (white, sym (digit_is c) ∙ wide_no_digit c wide, plain, wide_no_point c wide) refl
+class_tests c = grind (arith, common_steps, letter_not_space)
+
+pub not_letter : (c : ℕ) → class_of c ≢ Letter → is_letter c ≡ false
+not_letter c = grind (arith, common_steps, class_tests)

@@ -1,15 +1,13 @@
 -- Where the error of a text points.
 use Rattle.std.proofs.lemmas.Grind.{common_steps}
-use Rattle.std.proofs.Common.{◌≡◌, ◌≢◌, ◌<◌, ◌-◌, ◌++◌, ℕ, true, false, List, [], length, Option, sym, ap, ◌∙◌, arith, IsUtf8, chars}
+use Rattle.std.proofs.Common.{◌≡◌, ◌≢◌, ◌<◌, ◌-◌, ◌++◌, ℕ, false, List, [], length, sym, ap, ◌∙◌, arith, IsUtf8, chars}
 use Rattle.std.proofs.lemmas.Bool.{false≢true}
 use Rattle.std.proofs.lemmas.Str.{chars-nil}
 use Rattle.humantime.specs.declared.duration.error.DurationError.{DurationError}
 use Rattle.humantime.specs.Durations.Characters.{offset_of}
 use Rattle.humantime.specs.Durations.Errors.{fault_of, IsPlaceIn, IsPartOf, PointsInto}
 use Rattle.humantime.specs.Durations.Faults.{NumberOverflow}
-use Rattle.humantime.specs.References.Durations.Scales.{Counted}
-use Rattle.humantime.specs.References.Durations.Scanning.{IsTail, bare, ends_span}
-use Rattle.humantime.specs.References.Durations.SpanParts.{IsSpanRead}
+use Rattle.humantime.specs.References.Durations.Scanning.{IsTail, ends_span}
 use Rattle.humantime.proofs.Durations.Bytes.Tails.{tail_boundary, part_between}
 
 -- a text that has a character has a byte
@@ -24,10 +22,6 @@ rest_place text rest at tail is some = grind (arith, common_steps, tail_boundary
 pub part_of_rests : (text behind part next : List ℕ) (start end : ℕ) → IsUtf8 text → IsTail text behind → IsTail text next → behind ≡ part ++ next
     → start ≡ offset_of (chars text) (chars behind) → end ≡ offset_of (chars text) (chars next) → IsPartOf text part start end
 part_of_rests text behind part next start end u b n e s t = grind (arith, common_steps, (part_between text behind part next start end u b n e s t))
-
--- a point without digits is there
-pub bare_some : (rest : List ℕ) (v : ℕ) (o : Option Counted) (after behind letters next : List ℕ) → IsSpanRead rest v o after behind letters next → bare o ≡ true → after ≢ []
-bare_some rest v o after behind letters next s b none = grind (arith, common_steps)
 
 -- what can't follow a word is there
 pub bad_some : (next : List ℕ) → ends_span next ≡ false → next ≢ []

@@ -1,18 +1,18 @@
 -- What the code's spans and items say.
-use Rattle.std.specs.Prelude.{Result, Ok, Err, chars}
+use Rattle.std.specs.Prelude.{Result, Ok, Err, option_map, chars}
 use Rattle.std.specs.Str.{drop_trailing_whitespace}
 use Rattle.humantime.specs.declared.duration.error.DurationError.{DurationError}
 use Rattle.humantime.specs.declared.duration.reading.span.Span.{Span as TextSpan}
 use Rattle.humantime.specs.Durations.Faults.{Fault}
 use Rattle.humantime.specs.Durations.Errors.{fault_of}
-use Rattle.humantime.specs.References.Durations.Scanning.{fraction_in}
+use Rattle.humantime.specs.References.Durations.Lending.{trimmed}
 use Rattle.humantime.specs.Durations.Items.{Lent}
 
 -- what a span lends of its text
 abbrev pub lent_of : TextSpan → Lent
 lent_of s = record {
-  number = drop_trailing_whitespace (chars s.integer.now);
-  fraction = fraction_in (chars s.middle.now);
+  number = drop_trailing_whitespace (chars s.number.now);
+  fraction = option_map (λ t. trimmed (chars t.now)) s.digits;
   unit = chars s.unit.now;
   start = s.start;
   end = s.end;

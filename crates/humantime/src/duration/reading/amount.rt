@@ -1,8 +1,39 @@
-//! What a span adds.
+//! What a span adds, and how its number and its fraction come of digits, one by one.
 
-ghost use Rattle.std.specs.Prelude.{◌≤◌, ◌<◌};
+ghost use Rattle.std.specs.Prelude.{◌≡◌, ◌++◌, [], ◌∷◌, ℕ, List, true, SomeIff, MatchOption, ◌+◌, ◌-◌, ◌*◌, ◌^◌, ◌≤◌, ◌<◌};
+ghost use Rattle.humantime.specs.Durations.Characters.{is_digit, u64_max};
 
 use crate::unit::Unit;
+
+/// How many digits a fraction may have before the zeros at its end.
+const FRACTION_DIGITS: usize = 19;
+
+/// A number below this one can take any digit behind it.
+const TENTH_OF_MAX: u64 = 1_844_674_407_370_955_161;
+
+/// The powers of ten that fit `u64`.
+static POWERS_OF_TEN: [u64; 20] = [
+    1,
+    10,
+    100,
+    1_000,
+    10_000,
+    100_000,
+    1_000_000,
+    10_000_000,
+    100_000_000,
+    1_000_000_000,
+    10_000_000_000,
+    100_000_000_000,
+    1_000_000_000_000,
+    10_000_000_000_000,
+    100_000_000_000_000,
+    1_000_000_000_000_000,
+    10_000_000_000_000_000,
+    100_000_000_000_000_000,
+    1_000_000_000_000_000_000,
+    10_000_000_000_000_000_000,
+];
 
 /// The digits after a point, without the zeros at their end: the number that they read as, and how many there are.
 #[derive(Clone, Copy, Debug)]
@@ -14,10 +45,90 @@ pub(crate) struct Fraction {
     ghost few: { count ≤ 19 },
 }
 
-/// A span's number, its fraction and its unit.
+/// What a span adds: its number, its fraction and its unit.
 #[derive(Clone, Copy, Debug)]
 pub(crate) struct Amount {
     pub value: u64,
     pub fraction: Option<Fraction>,
     pub unit: Unit,
+}
+
+/// Ten times the value and the digit, or `None` where that is too large.
+#[inline(always)]
+pub(crate) fn push_digit(value: u64, c: u8) -> Option<u64>
+    requires { is_digit c ≡ true }
+    ensures { SomeIff result (value * 10 + (c - 48) ≤ u64_max) (value * 10 + (c - 48)) }
+{
+    let digit = (c - b'0') as u64;
+    if value < TENTH_OF_MAX {
+        return Some(value * 10 + digit);
+    }
+    value.checked_mul(10)?.checked_add(digit)
+}
+
+/// Ten to this power.
+pub(crate) fn power_of_ten(exponent: usize) -> u64
+    requires { exponent ≤ 19 }
+    ensures { result ≡ 10 ^ exponent }
+{
+    POWERS_OF_TEN[exponent]
+}
+
+/// The digits of a fraction as far as they are read: those before the zeros at their end, as a number and by their
+/// count, and how many zeros follow.
+#[derive(Clone, Copy)]
+pub(crate) struct Digits {
+    value: u64,
+    count: usize,
+    zeros: usize,
+}
+
+impl Digits {
+    ghost use Rattle.humantime.specs.References.Durations.Scales.{counted, parts_of};
+    ghost use Rattle.humantime.specs.References.Durations.Scanning.{AreDigits, IsTooLong};
+
+    pub(crate) const NONE: Digits = Digits {
+        value: 0,
+        count: 0,
+        zeros: 0,
+    };
+
+    /// One digit more, or `None` where that is no zero and behind 19 others.
+    #[inline(always)]
+    pub(crate) fn push(self, c: u8) -> Option<Digits>
+        requires digit { is_digit c ≡ true }
+        requires digits { (ds : List ℕ) × AreDigits self ds }
+        requires room { self.zeros + 1 < 2 ^ 64 }
+        ensures { (ds : List ℕ) → AreDigits self ds → MatchOption result (IsTooLong ds c) (λ d. AreDigits d (ds ++ c ∷ [])) }
+    {
+        if c == b'0' {
+            return Some(Digits {
+                value: self.value,
+                count: self.count,
+                zeros: self.zeros + 1,
+            });
+        }
+        if self.zeros >= FRACTION_DIGITS - self.count {
+            return None;
+        }
+        let places = self.zeros + 1;
+        Some(Digits {
+            value: self.value * power_of_ten(places) + (c - b'0') as u64,
+            count: self.count + places,
+            zeros: 0,
+        })
+    }
+
+    /// These digits as a fraction.
+    #[inline(always)]
+    pub(crate) fn fraction(self) -> Fraction
+        requires { self.count ≤ 19 }
+        ensures { (ds : List ℕ) → AreDigits self ds → parts_of result ≡ counted ds }
+    {
+        Fraction {
+            value: self.value,
+            count: self.count,
+            any: self.count > 0 || self.zeros > 0,
+        }
+    }
 }

@@ -7,8 +7,7 @@ ghost use Rattle.humantime.specs.References.Durations.Scanning.{IsTail};
 
 use crate::duration::error::DurationError;
 use crate::duration::reading::reader::span_at;
-use crate::duration::reading::scan::begins_with_digit;
-use crate::duration::reading::slices::{offset_of, past_space};
+use crate::duration::reading::scan::{begins_with_digit, offset_of, past_space};
 use crate::duration::reading::span::Span;
 
 /// The spans of a text that are still to come, from left to right, and then the fault at which they stop.

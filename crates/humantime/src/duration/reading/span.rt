@@ -2,13 +2,10 @@
 
 ghost use Rattle.std.specs.Prelude.{◌≡◌, option_map, chars};
 ghost use Rattle.std.specs.Str.{drop_trailing_whitespace};
-ghost use Rattle.humantime.specs.References.Durations.Lending.{spelled};
+ghost use Rattle.humantime.specs.References.Durations.Lending.{spelled, trimmed};
 ghost use Rattle.humantime.specs.References.Durations.Scales.{IsAmountOf};
-ghost use Rattle.humantime.specs.References.Durations.Scanning.{fraction_in};
 
 use crate::duration::reading::amount::Amount;
-use crate::duration::reading::scan::past_point;
-use crate::duration::reading::slices::{trim, trim_end};
 
 /// A number with its fraction and its unit, lent from the text that they stand in.
 ///
@@ -20,14 +17,14 @@ use crate::duration::reading::slices::{trim, trim_end};
 #[derive(Clone, Copy, Debug)]
 pub struct Span<'a> {
     // From the first digit up to what follows the number, with the white space before that.
-    pub(crate) integer: &'a str,
-    // The point and the fraction up to the unit, or nothing.
-    pub(crate) middle: &'a str,
+    pub(crate) number: &'a str,
+    // From behind the point up to the unit, if there is a point.
+    pub(crate) digits: Option<&'a str>,
     pub(crate) unit: &'a str,
     pub(crate) start: usize,
     pub(crate) end: usize,
     pub(crate) amount: Amount,
-    ghost read: { IsAmountOf amount (spelled (drop_trailing_whitespace (chars integer.now)) (fraction_in (chars middle.now)) (chars unit.now)) },
+    ghost read: { IsAmountOf amount (spelled (drop_trailing_whitespace (chars number.now)) (option_map (λ t. trimmed (chars t.now)) digits) (chars unit.now)) },
 }
 
 impl<'a> Span<'a> {
@@ -41,7 +38,7 @@ impl<'a> Span<'a> {
     pub fn number(&self) -> &'a str
         ensures { chars result.now ≡ (lent_of self.now).number }
     {
-        trim_end(self.integer)
+        self.number.trim_end()
     }
 
     /// The fraction, from its first to its last digit, with the white space between them and the zeros at its end;
@@ -53,8 +50,7 @@ impl<'a> Span<'a> {
     pub fn fraction(&self) -> Option<&'a str>
         ensures { option_map (λ t. chars t.now) result ≡ (lent_of self.now).fraction }
     {
-        let digits = past_point(self.middle)?;
-        Some(trim(digits))
+        Some(self.digits?.trim_start().trim_end())
     }
 
     /// The unit's word, as it stands.

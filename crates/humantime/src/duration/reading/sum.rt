@@ -7,33 +7,9 @@ ghost use Rattle.humantime.specs.References.Durations.Adding.{add_times, part_of
 ghost use Rattle.humantime.specs.References.Durations.Reading.{add_span};
 ghost use Rattle.humantime.specs.References.Durations.Scales.{scale_of, IsAmountOf};
 
-use crate::duration::reading::amount::{Amount, Fraction};
+use crate::duration::reading::amount::{Amount, Fraction, power_of_ten};
 use crate::unit::{Unit, sizes};
 use crate::value::StdDuration;
-
-/// The powers of ten that fit `u64`.
-static POWERS_OF_TEN: [u64; 20] = [
-    1,
-    10,
-    100,
-    1_000,
-    10_000,
-    100_000,
-    1_000_000,
-    10_000_000,
-    100_000_000,
-    1_000_000_000,
-    10_000_000_000,
-    100_000_000_000,
-    1_000_000_000_000,
-    10_000_000_000_000,
-    100_000_000_000_000,
-    1_000_000_000_000_000,
-    10_000_000_000_000_000,
-    100_000_000_000_000_000,
-    1_000_000_000_000_000_000,
-    10_000_000_000_000_000_000,
-];
 
 /// The greatest number whose product with 10^9 fits `u64`.
 const MOST_BEFORE_NINE_ZEROS: u64 = 18_446_744_073;
@@ -64,14 +40,6 @@ fn add_whole(total: StdDuration, value: u64, unit: Unit) -> Option<StdDuration>
         Unit::Nanosecond | Unit::Microsecond | Unit::Millisecond => total.checked_add_nanos(amount),
         _ => total.checked_add_secs(amount),
     }
-}
-
-/// Ten to this power.
-pub(crate) fn power_of_ten(exponent: usize) -> u64
-    requires { exponent ≤ 19 }
-    ensures { result ≡ 10 ^ exponent }
-{
-    POWERS_OF_TEN[exponent]
 }
 
 /// The part of the factor that the fraction is, where it is whole and the product fits.

@@ -1,10 +1,10 @@
 //! The word of a unit.
 
-ghost use Rattle.std.specs.Prelude.{◌≡◌, ◌≤◌, ◌==◌, ◌&&◌, ◌||◌, ◌++◌, take, drop, reverse, chars, IsUtf8, IsCharBoundary};
+ghost use Rattle.std.specs.Prelude.{◌≡◌, ◌≤◌, ◌==◌, ◌&&◌, ◌||◌, take, drop, reverse, chars, IsCharBoundary};
 ghost use Rattle.humantime.specs.Durations.Characters.{is_letter, leading, past};
 ghost use Rattle.humantime.specs.Durations.Units.{scale_of_word};
 ghost use Rattle.humantime.specs.References.Durations.Keys.{packed, scale_of_key};
-ghost use Rattle.humantime.specs.References.Durations.Scanning.{IsTail};
+ghost use Rattle.humantime.specs.References.Durations.Scanning.{IsCut};
 
 use crate::duration::reading::class::{Class, ascii_class};
 use crate::unit::{MOST_BYTES, NO_LETTERS, TOO_LONG, key_with};
@@ -59,9 +59,7 @@ fn letters_end(text: &str) -> (usize, u64)
 pub(crate) fn read_word<'a>(text: &'a str) -> (Word<'a>, &'a str)
     ensures word { chars result.0.letters.now ≡ leading is_letter (chars text.now) }
     ensures rest { chars result.1.now ≡ past is_letter (chars text.now) }
-    ensures whole { text.now ≡ result.0.letters.now ++ result.1.now }
-    ensures utf8 { IsUtf8 result.0.letters.now }
-    ensures tail { IsTail text.now result.1.now }
+    ensures cut { IsCut text.now result.0.letters.now result.1.now }
 {
     let (end, key) = letters_end(text);
     let letters = &text[..end];

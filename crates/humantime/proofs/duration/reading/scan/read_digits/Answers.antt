@@ -1,69 +1,61 @@
 use Rattle.std.proofs.lemmas.Grind.{common_steps}
-use Rattle.std.proofs.Common.{◌≡◌, ◌+◌, ◌<◌, false, get_or, length, drop, sym, ap, chars, ◌∙◌, inl, inr, arith}
-use Rattle.std.proofs.lemmas.Bool.{cases_eq}
-use Rattle.std.proofs.lemmas.Str.{IsCharBoundary-start}
-use Rattle.humantime.specs.Durations.Characters.{is_numeric, begins}
-use Rattle.humantime.proofs.Durations.Bytes.FractionDigits.{among_none, among_space, among_digit, among_zero, digits_pass, digits_end}
-use Rattle.humantime.proofs.Durations.Bytes.Numbers.{no_numeric}
-use Rattle.humantime.proofs.Durations.Bytes.PlaceSteps.{no_chars_at}
-use Rattle.humantime.proofs.Durations.Bytes.Points.{digit_at, digit_here}
-use Rattle.humantime.proofs.Durations.Reading.Classes.{ascii_digit_class}
+use Rattle.std.proofs.Common.{◌≡◌, ◌<◌, ◌+◌, ◌++◌, ◌∷◌, [], get_or, length, sym, ◌∙◌, chars, take, drop, arith, length-append, append_assoc}
+use Rattle.humantime.specs.Durations.Faults.{number_of}
+use Rattle.humantime.proofs.Durations.Reading.Classes.{digit_is}
+use Rattle.humantime.proofs.Durations.Bytes.Numbers.{none_read, read_digit, read_space, all_read}
+use Rattle.humantime.proofs.Durations.Bytes.FractionDigits.{no_digits, digits_pass, digits_end}
 use Rattle.humantime.proofs.duration.reading.scan.read_digits.Goals as goal
-use Rattle.humantime.proofs.duration.reading.scan.read_digits.Goals.{else-loop-at-test, then-loop-at-test+else-is_ascii_digit+in-None-white_step}
+use Rattle.humantime.proofs.duration.reading.scan.read_digits.Goals.{else-loop-at-test, then-loop-at-test+else-is_ascii_digit+in-0}
 
 pub loop-at-init : goal.loop-at-init
-loop-at-init c = record { place = IsCharBoundary-start c.args.text.now c.utf8.text; read = among_none _; zeros = omega arith }
+loop-at-init c = record { taken = []; read = none_read _ c.utf8.text; digits = no_digits; few = omega arith }
 
 pub push-requires-clause-digit : goal.push-requires-clause-digit
-push-requires-clause-digit c = ascii_digit_class _ (sym c.is_ascii_digit.ensures.value ∙ c.if-is_ascii_digit.true)
+push-requires-clause-digit c = grind (arith, common_steps, digit_is)
 
-pub returns-in-None-clause-value : goal.returns-in-None-clause-value
-returns-in-None-clause-value c =
-    let text = c.args.text.now in
-    let at = c.loop-at.at in
-    let some : at < length text = omega (arith, c.loop-at-test.true, c.as_bytes-bytes.ensures.len) in
-    let d = digit_here text at c.utf8.text c.loop-at.invariant.place some (rw c.as_bytes-bytes.ensures.value at (sym c.is_ascii_digit.ensures.value ∙ c.if-is_ascii_digit.true)) in
-    let none = rw c.as_bytes-bytes.ensures.value at c.in-None.ensures.none in
-    digits_pass _ _ (chars (drop (at + 1) text)) _ _ _ (get_or text at 0) c.loop-at.invariant.read d.chars d.is none.0 none.1
+pub push-requires-clause-digits : goal.push-requires-clause-digits
+push-requires-clause-digits c = (c.loop-at.invariant.taken, c.loop-at.invariant.digits)
+
+pub push-requires-clause-room : goal.push-requires-clause-room
+push-requires-clause-room c = omega (arith, c.loop-at.invariant.digits.zeros, c.loop-at.invariant.few)
 
 pub loop-at-preserved-then-is_ascii_digit : goal.loop-at-preserved-then-is_ascii_digit
 loop-at-preserved-then-is_ascii_digit c =
-    let text = c.args.text.now in
-    let at = c.loop-at.at in
-    let some : at < length text = omega (arith, c.loop-at-test.true, c.as_bytes-bytes.ensures.len) in
-    let d = digit_here text at c.utf8.text c.loop-at.invariant.place some (rw c.as_bytes-bytes.ensures.value at (sym c.is_ascii_digit.ensures.value ∙ c.if-is_ascii_digit.true)) in
-    let before = c.loop-at.invariant.zeros in
-    elim (cases_eq (get_or text at 0) 48) [
-      | inl is_zero ↦
-          let e = (rw c.as_bytes-bytes.ensures.value at c.in-Some.ensures.zero) is_zero in
-          record {
-            place = d.place;
-            read = rw (e.0, e.1, e.2) (among_zero _ _ (chars (drop (at + 1) text)) _ _ _ (get_or text at 0) c.loop-at.invariant.read d.chars d.is is_zero);
-            zeros = omega (arith, e.2, before);
-          }
-      | inr other ↦
-          let count = (rw c.as_bytes-bytes.ensures.value at c.in-Some.ensures.count) other in
-          record {
-            place = d.place;
-            read = rw count.2 (among_digit _ _ (chars (drop (at + 1) text)) _ _ _ _ _ (get_or text at 0) c.loop-at.invariant.read d.chars d.is other
-                ((rw c.as_bytes-bytes.ensures.value at c.in-Some.ensures.value) other) count.0 count.1);
-            zeros = omega (arith, count.2);
-          }
-    ]
+    let i = c.loop-at.invariant in
+    let digit = rw c.as_bytes-bytes.ensures.value at (sym c.is_ascii_digit.ensures.value ∙ c.if-is_ascii_digit.true) in
+    record {
+      taken = i.taken ++ get_or c.args.text.now c.loop-at.at 0 ∷ [];
+      read = read_digit _ _ _ c.utf8.text (omega (arith, c.loop-at-test.true, c.as_bytes-bytes.ensures.len)) i.read digit;
+      digits = rw c.as_bytes-bytes.ensures.value at (c.in_ok-digits.ensures i.taken i.digits);
+      few = omega (arith, length-append i.taken (get_or c.args.text.now c.loop-at.at 0 ∷ []), i.few);
+    }
 
 pub loop-at-preserved : goal.loop-at-preserved
-loop-at-preserved c = grind (arith, common_steps, among_space)
+loop-at-preserved c =
+    let i = c.loop-at.invariant in
+    let some : c.loop-at.at < length c.args.text.now = omega (arith, c.loop-at-test.true, c.as_bytes-bytes.ensures.len) in
+    let read = read_space _ _ _ _ c.utf8.text some i.read c.space_at.ensures (grind (arith, common_steps)) in
+    record { taken = i.taken; read = read; digits = i.digits; few = omega (arith, i.few) }
+
+pub returns-in_err-digits-clause-value : goal.returns-in_err-digits-clause-value
+returns-in_err-digits-clause-value c =
+    let i = c.loop-at.invariant in
+    let at = c.loop-at.at in
+    let digit = rw c.as_bytes-bytes.ensures.value at (sym c.is_ascii_digit.ensures.value ∙ c.if-is_ascii_digit.true) in
+    let over = rw c.as_bytes-bytes.ensures.value at (c.in_err-digits.ensures i.taken i.digits (number_of (chars (drop (at + 1) c.args.text.now)))) in
+    let read = read_digit _ _ _ c.utf8.text (omega (arith, c.loop-at-test.true, c.as_bytes-bytes.ensures.len)) i.read digit in
+    rw c.from_residual.ensures (digits_pass _ _ (read.all ∙ append_assoc i.taken _ _) over)
 
 pub returns-clause-value : goal.returns-clause-value
 returns-clause-value c =
-    let text = c.args.text.now in
-    let at = c.loop-at.at in
-    let ended : begins is_numeric (chars (drop at text)) ≡ false = elim c.loop-at-test.branch [
-      | else-loop-at-test w ↦ ap (begins is_numeric) (no_chars_at text at (omega (arith, w.loop-at-test.false, c.as_bytes-bytes.ensures.len)))
-      | then-loop-at-test+else-is_ascii_digit+in-None-white_step w ↦
-          no_numeric (chars (drop at text))
-          (sym (digit_at text at c.utf8.text c.loop-at.invariant.place (omega (arith, w.loop-at-test.true, c.as_bytes-bytes.ensures.len)))
-          ∙ (rw c.as_bytes-bytes.ensures.value at (sym w.is_ascii_digit.ensures.value ∙ w.if-is_ascii_digit.false)))
-          w.in-None-white_step.ensures.none
-    ] in
-    rw (c.range_from.ensures.value, c.any.ensures) (digits_end _ _ _ _ _ c.loop-at.invariant.read ended)
+    let i = c.loop-at.invariant in
+    let a = all_read _ _ _ c.utf8.text i.read (elim c.loop-at-test.branch [
+      | else-loop-at-test w ↦ λ some. absurd (omega (arith, w.loop-at-test.false, c.as_bytes-bytes.ensures.len, some))
+      | then-loop-at-test+else-is_ascii_digit+in-0 w ↦ λ some.
+          (rw c.as_bytes-bytes.ensures.value at (sym w.is_ascii_digit.ensures.value ∙ w.if-is_ascii_digit.false), omega (arith, w.space_at.ensures, w.in-0.is))
+    ]) in
+    let front : c.range.result.now ≡ take c.loop-at.at c.args.text.now = grind (arith, common_steps) in
+    rw (front, c.range_from.ensures.value) (digits_end c.loop-at.digits c.fraction.result _ _ _ _ i.digits (c.fraction.ensures i.taken i.digits) a)
+
+pub fraction-requires : goal.fraction-requires
+fraction-requires c = c.loop-at.invariant.digits.few

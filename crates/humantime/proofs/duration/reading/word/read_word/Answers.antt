@@ -1,11 +1,9 @@
-use Rattle.std.proofs.Common.{◌≡◌, ◌++◌, List, ℕ, take, sym, ap, ◌∙◌, chars, arith}
+use Rattle.std.proofs.Common.{◌≡◌, take, sym, ap, ◌∙◌, arith}
 use Rattle.std.proofs.lemmas.Grind.{common_steps}
-use Rattle.std.proofs.lemmas.List.{append_cancel_right}
-use Rattle.std.proofs.lemmas.Str.{chars-append}
-use Rattle.humantime.specs.Durations.Characters.{is_letter, leading, past}
+use Rattle.humantime.specs.Durations.Characters.{is_letter}
 use Rattle.humantime.specs.References.Durations.Keys.{key, scale_of_key}
 use Rattle.humantime.proofs.Durations.Bytes.WordKeys.{HasBytes, front_bytes, key_short, key_long, scale_by_key}
-use Rattle.humantime.proofs.Durations.Reading.Runs.{leading-past}
+use Rattle.humantime.proofs.Durations.Bytes.Tails.{front_is}
 use Rattle.humantime.proofs.duration.reading.word.read_word.Goals as goal
 use Rattle.humantime.proofs.duration.reading.word.read_word.Goals.{then-end-gt-MOST_BYTES, else-end-gt-MOST_BYTES}
 
@@ -25,10 +23,5 @@ invariant_of-result c =
 
 pub returns-clause-word : goal.returns-clause-word
 returns-clause-word c =
-    let text = c.args.text.now in
-    let letters = c.range-letters.result.now in
-    let rest = c.range_from.result.now in
-    let whole : text ≡ letters ++ rest = grind (arith, common_steps) in
-    let after : chars rest ≡ past is_letter (chars text) = ap chars c.range_from.ensures.value ∙ c.letters_end-end.ensures.rest in
-    append_cancel_right (chars letters) (leading is_letter (chars text)) (past is_letter (chars text))
-    (ap (λ (x : List ℕ). chars letters ++ x) (sym after) ∙ sym (ap chars whole ∙ chars-append letters rest c.range-letters.utf8) ∙ sym (leading-past is_letter (chars text)))
+    let front : c.range-letters.result.now ≡ take c.letters_end-end.result.0 c.args.text.now = grind (arith, common_steps) in
+    rw front (front_is is_letter _ _ c.utf8.text c.letters_end-end.ensures.place c.letters_end-end.ensures.rest)

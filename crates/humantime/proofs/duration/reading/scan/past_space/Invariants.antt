@@ -1,7 +1,7 @@
 use Rattle.std.proofs.Common.{◌≡◌, ◌-◌, length, drop, IsCharBoundary}
 use Rattle.std.specs.Str.{chars}
 use Rattle.humantime.specs.Durations.Characters.{is_ws, past}
-use Rattle.humantime.proofs.duration.reading.slices.past_space.Given as goal
+use Rattle.humantime.proofs.duration.reading.scan.past_space.Given as goal
 
 abbrev pub invariant-loop-at : goal.invariant-loop-at
 invariant-loop-at l = record { place : IsCharBoundary l.text l.at; same : past is_ws (chars (drop l.at l.text)) ≡ past is_ws (chars l.text) }
