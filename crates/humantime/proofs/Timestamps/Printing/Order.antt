@@ -1,6 +1,6 @@
 -- Printed texts stand in the order of their moments.
 use Rattle.std.proofs.lemmas.Grind.{common_steps}
-use Rattle.std.proofs.Common.{◌≡◌, ℕ, zero, suc, ◌+◌, ◌*◌, ◌<◌, ◌≤◌, List, [], ◌∷◌, ◌++◌, length, take, refl, ap, ◌∙◌, arith}
+use Rattle.std.proofs.Common.{◌≡◌, ℕ, zero, suc, ◌+◌, ◌*◌, ◌/◌, ◌%◌, ◌<◌, ◌≤◌, List, [], ◌∷◌, ◌++◌, length, take, refl, ap, ◌∙◌, arith}
 use Rattle.std.specs.Prelude.{min, codes, Option, ℤ, pos}
 use Rattle.std.specs.declared.cmp.Ordering.{Ordering}
 use Rattle.std.specs.declared.cmp.Ordering.TheVariants.{Equal}
@@ -13,7 +13,7 @@ use Rattle.std.proofs.lemmas.Bool.Decides.{nat_tests}
 use Rattle.std.proofs.lemmas.Int.{ints}
 use Rattle.humantime.specs.declared.calendar.Date.{Date}
 use Rattle.humantime.specs.Calendar.{IsDate, day_of}
-use Rattle.humantime.specs.Timestamps.Fields.{two_digits, four_digits, Fields, fraction_text, fraction_nanos, moment_of}
+use Rattle.humantime.specs.Timestamps.Fields.{Letter_T, Letter_Z, Fields, fields_text, fraction_text, fraction_nanos, moment_of}
 use Rattle.humantime.specs.References.Timestamps.Reading.{AreDigits, fraction_digits}
 use Rattle.humantime.specs.Timestamps.Printed.{cut, HasPlaces, IsPrinted}
 use Rattle.humantime.specs.Laws.Timestamps.{InOrder}
@@ -21,12 +21,8 @@ use Rattle.humantime.proofs.Dates.DaysOfDates.{before_year, before_month}
 use Rattle.humantime.proofs.Dates.Years.{valid_told}
 use Rattle.humantime.proofs.Timestamps.Reading.Fractions.{nanos_bound, digits_told}
 
--- two pairs of numbers that are compared alike
-abbrev Alike : ℕ → ℕ → ℕ → ℕ → Type 0
-Alike m n x y = (m < n → x < y) × (m ≡ n → x ≡ y) × (n < m → y < x)
-
-cmp_alike : (m n x y : ℕ) → Alike m n x y → nat_cmp m n ≡ nat_cmp x y
-cmp_alike m n x y h = grind (arith, common_steps)
+cmp_alike : (m n x y : ℕ) → (m < n → x < y) → (m ≡ n → x ≡ y) → (n < m → y < x) → nat_cmp m n ≡ nat_cmp x y
+cmp_alike m n x y less same more = grind (arith, common_steps)
 
 then_equal : (o : Ordering) → ordering_then o Equal ≡ o
 then_equal o = grind (arith, common_steps)
@@ -39,13 +35,15 @@ step_cmp m n x y c o less more same = grind (arith, nat_tests)
 below : (w m n x y : ℕ) → x < w → m < n → m * w + x < n * w + y
 below w m n x y h less = grind (arith, common_steps)
 
-two_cmp : (m n : ℕ) (xs ys : List ℕ)
-    → slice_cmp nat_cmp (two_digits m ++ xs) (two_digits n ++ ys) ≡ ordering_then (nat_cmp m n) (slice_cmp nat_cmp xs ys)
-two_cmp m n xs ys = grind (arith, common_steps)
+two_digits_cmp : (m n : ℕ) (o : Ordering)
+    → ordering_then (nat_cmp (48 + m / 10) (48 + n / 10)) (ordering_then (nat_cmp (48 + m % 10) (48 + n % 10)) o) ≡ ordering_then (nat_cmp m n) o
+two_digits_cmp m n o = grind (arith, common_steps)
 
-four_cmp : (m n : ℕ) (xs ys : List ℕ)
-    → slice_cmp nat_cmp (four_digits m ++ xs) (four_digits n ++ ys) ≡ ordering_then (nat_cmp m n) (slice_cmp nat_cmp xs ys)
-four_cmp m n xs ys = grind (arith, common_steps)
+four_digits_cmp : (m n : ℕ) (o : Ordering)
+    → ordering_then (nat_cmp (48 + m / 1000) (48 + n / 1000)) (ordering_then (nat_cmp (48 + m / 100 % 10) (48 + n / 100 % 10))
+    (ordering_then (nat_cmp (48 + m / 10 % 10) (48 + n / 10 % 10)) (ordering_then (nat_cmp (48 + m % 10) (48 + n % 10)) o)))
+    ≡ ordering_then (nat_cmp m n) o
+four_digits_cmp m n o = grind (arith, common_steps)
 
 after_cmp : (ds : List ℕ) (m n : ℕ) → nat_cmp m n ≡ nat_cmp (digits_value_after 10 m ds) (digits_value_after 10 n ds)
 after_cmp [] m n = refl
@@ -83,37 +81,20 @@ day_cmp a b o va vb =
     (λ less. grind (arith, before_month a.year a.month a.day left b.month less, y)) (λ more. grind (arith, before_month b.year b.month b.day right a.month more, y))
     (λ m. step_cmp a.day b.day (day_of a) (day_of b) o o (λ less. grind (arith, left.2.0, y, m)) (λ more. grind (arith, right.2.0, y, m)) (λ d. grind (arith, nat_tests, y, m, d))))
 
--- a text with these numbers in their places, and then this end
-abbrev clock_shape : ℕ → ℕ → ℕ → List ℕ → List ℕ
-clock_shape h i s end = codes "T" ++ two_digits h ++ codes ":" ++ two_digits i ++ codes ":" ++ two_digits s ++ end
-
-abbrev shape : ℕ → ℕ → ℕ → ℕ → ℕ → ℕ → List ℕ → List ℕ
-shape y m d h i s end = four_digits y ++ codes "-" ++ two_digits m ++ codes "-" ++ two_digits d ++ clock_shape h i s end
-
 abbrev then_cmp : ℕ → ℕ → Ordering → Ordering
 then_cmp m n o = ordering_then (nat_cmp m n) o
 
-clock_shape_cmp : (h i s h' i' s' : ℕ) (end end' : List ℕ)
-    → slice_cmp nat_cmp (clock_shape h i s end) (clock_shape h' i' s' end')
-    ≡ then_cmp h h' (then_cmp i i' (then_cmp s s' (slice_cmp nat_cmp end end')))
-clock_shape_cmp h i s h' i' s' end end' = grind (arith, common_steps)
+-- the texts of parts with `T` and `Z`
+abbrev marked : Fields → List ℕ
+marked f = fields_text (record f { separator = Letter_T; zone = Letter_Z })
 
-shape_cmp : (y m d h i s y' m' d' h' i' s' : ℕ) (end end' : List ℕ)
-    → slice_cmp nat_cmp (shape y m d h i s end) (shape y' m' d' h' i' s' end')
-    ≡ then_cmp y y' (then_cmp m m' (then_cmp d d' (then_cmp h h' (then_cmp i i' (then_cmp s s' (slice_cmp nat_cmp end end'))))))
-shape_cmp y m d h i s y' m' d' h' i' s' end end' =
-    let clock = clock_shape_cmp h i s h' i' s' end end' in
-    let day = two_cmp d d' (clock_shape h i s end) (clock_shape h' i' s' end') ∙ ap (then_cmp d d') clock in
-    let month = two_cmp m m' (codes "-" ++ two_digits d ++ clock_shape h i s end) (codes "-" ++ two_digits d' ++ clock_shape h' i' s' end') ∙ ap (then_cmp m m') day in
-    four_cmp y y' (codes "-" ++ two_digits m ++ codes "-" ++ two_digits d ++ clock_shape h i s end) (codes "-" ++ two_digits m' ++ codes "-" ++ two_digits d' ++ clock_shape h' i' s' end')
-    ∙ ap (then_cmp y y') month
+marked_cmp : (f g : Fields) → slice_cmp nat_cmp (marked f) (marked g)
+    ≡ then_cmp f.date.year g.date.year (then_cmp f.date.month g.date.month (then_cmp f.date.day g.date.day (then_cmp f.hour g.hour
+    (then_cmp f.minute g.minute (then_cmp f.second g.second (slice_cmp nat_cmp (fraction_text f.fraction ++ codes "Z") (fraction_text g.fraction ++ codes "Z")))))))
+marked_cmp f g = simp (four_digits_cmp, two_digits_cmp)
 
--- a printed text has this shape
-abbrev shape_of : Fields → List ℕ
-shape_of f = shape f.date.year f.date.month f.date.day f.hour f.minute f.second (fraction_text f.fraction ++ codes "Z")
-
-shown_shape : (t : ℤ) (k : ℕ) (text : List ℕ) (p : IsPrinted t k text) → text ≡ shape_of p.fields
-shown_shape t k text p = p.weak.shown ∙ rw (p.separator, p.zone) refl
+shown_marked : (t : ℤ) (k : ℕ) (text : List ℕ) (p : IsPrinted t k text) → text ≡ marked p.fields
+shown_marked t k text p = p.weak.shown ∙ (λ i. fields_text (record p.fields { separator = p.separator i; zone = p.zone i }))
 
 pos_cmp : (m n : ℕ) → nat_cmp m n ≡ int_cmp (pos m) (pos n)
 pos_cmp m n = grind (arith, nat_tests)
@@ -129,16 +110,11 @@ stamps_in_order a b k x y p q =
     let f = p.fields in
     let g = q.fields in
     let fraction = fraction_cmp k f.fraction g.fraction p.few p.places q.places (digits_told _ p.weak.fraction) (digits_told _ q.weak.fraction) in
-    let text = shape_cmp f.date.year f.date.month f.date.day f.hour f.minute f.second g.date.year g.date.month g.date.day g.hour g.minute g.second
-    (fraction_text f.fraction ++ codes "Z") (fraction_text g.fraction ++ codes "Z") in
-    let day = day_cmp f.date g.date (then_cmp f.hour g.hour (then_cmp f.minute g.minute (then_cmp f.second g.second (nat_cmp (fraction_nanos (fraction_digits f.fraction)) (fraction_nanos (fraction_digits g.fraction)))))) p.weak.date q.weak.date in
-    let clock = clock_cmp (day_of f.date) f.hour f.minute f.second (fraction_nanos (fraction_digits f.fraction))
-    (day_of g.date) g.hour g.minute g.second (fraction_nanos (fraction_digits g.fraction))
+    let clock = day_cmp f.date g.date _ p.weak.date q.weak.date ∙ clock_cmp _ _ _ _ _ _ _ _ _ _
     p.weak.hour p.weak.minute p.second (nanos_bound _ (digits_told _ p.weak.fraction))
     q.weak.hour q.weak.minute q.second (nanos_bound _ (digits_told _ q.weak.fraction)) in
     let moments = pos_cmp (moment_of f) (moment_of g) ∙ (λ i. int_cmp (p.moment i) (q.moment i)) in
-    (λ i. slice_cmp nat_cmp (shown_shape a k x p i) (shown_shape b k y q i))
-    ∙ (text ∙ (rw fraction (day ∙ clock) ∙ moments))
+    (λ i. slice_cmp nat_cmp (shown_marked a k x p i) (shown_marked b k y q i)) ∙ (marked_cmp f g ∙ (rw fraction clock ∙ moments))
 
 same_int : (t : ℤ) → int_cmp t t ≡ Equal
 same_int t = grind (arith, ints)
