@@ -1,6 +1,7 @@
 pub mod Buffers
 pub mod Dates
 pub mod Durations
+pub mod Moments
 pub mod OnLiterals
 pub mod Theorems
 pub mod Timestamps

@@ -13,8 +13,6 @@ pub use Rattle.humantime.specs.Durations.Spans.{Span, Reads}
 pub use Rattle.humantime.specs.Durations.Faults.{Fault, InvalidCharacter, NumberExpected, UnknownUnit, NumberOverflow, Empty, HasFault}
 pub use Rattle.humantime.specs.Laws.Texts.{without_white_space, AreReordered}
 pub use Rattle.humantime.specs.Laws.Older.{AcceptedWithZeros, WasAccepted}
--- what is said of a unit, by its bytes
-pub use Rattle.humantime.specs.References.Durations.UnitMessages.{message_of_unit}
 -- spans
 pub use Rattle.humantime.specs.Durations.Items.{Items, Lent, AreItems}
 pub use Rattle.humantime.specs.References.Durations.Lents.{lent_of, item_of}
@@ -27,6 +25,6 @@ pub use Rattle.humantime.specs.Timestamps.Fields.{Fields, IsWeak, IsStrict, IsWe
 pub use Rattle.humantime.specs.Timestamps.Checks.{weak_checks, strict_checks, first_failed, timestamp_message}
 pub use Rattle.humantime.specs.References.Timestamps.Reading.{weak_answer, strict_answer, IsWeakAnswer}
 -- timestamps printed
-pub use Rattle.humantime.specs.Timestamps.Printed.{cut, IsPrinted, IsPrintable}
+pub use Rattle.humantime.specs.Timestamps.Printed.{MomentToPrint, places_of, cut, IsPrinted, IsPrintable}
 pub use Rattle.humantime.specs.Laws.Timestamps.{IsMarked, ReadsAs, OnePrinted}
-pub use Rattle.humantime.specs.References.Timestamps.Printing.{moment_kept, places_kept, IsTextOf, moment_text, printed_text, places_of, shortest_text}
+pub use Rattle.humantime.specs.References.Timestamps.Printing.{moment_text, printed_text, shortest_text}

@@ -2,4 +2,3 @@
 pub mod Calendar
 pub mod Durations
 pub mod Timestamps
-pub mod Values

@@ -1,13 +1,13 @@
 //! Buffers at a refusal: what a caller's proof has of their bytes.
 
 ghost use Rattle.std.specs.Prelude.{◌≡◌, chars};
-ghost use Rattle.humantime.specs.Prelude.{Fault, HasFault, IsPrintable, moment_kept};
+ghost use Rattle.humantime.specs.Prelude.{Fault, HasFault, IsPrintable};
 
 use humantime::{Rfc3339Timestamp, canonical};
 
 /// Prints over the text in the buffer, which stays for a moment outside 1970 to 9999.
 pub fn print_over(stamp: &Rfc3339Timestamp, buf: &mut [u8; 30])
-    ensures { ¬ (IsPrintable (moment_kept stamp.now)) → buf.new ≡ buf.old }
+    ensures { ¬ (IsPrintable stamp.now.moment) → buf.new ≡ buf.old }
 {
     let _text = stamp.text(buf);
 }

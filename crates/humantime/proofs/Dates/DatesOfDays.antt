@@ -1,70 +1,68 @@
--- The date that is found by cycles is the date of the day.
-use Rattle.std.proofs.Common.{◌≡◌, ℕ, ◌+◌, ◌-◌, ◌<◌, ◌≤◌, refl, sym, subst, arith}
-use Rattle.std.specs.Prelude.{Bool, true, false, nat_lt, if◌then◌else◌}
-use Rattle.std.proofs.lemmas.Bool.{ltb-true, ltb-false}
-use Rattle.humantime.specs.Laws.Days.{IsDateOfDay}
+-- The date that is found by years from March on is the date of the day.
 use Rattle.std.proofs.lemmas.Grind.{common_steps}
-use Rattle.humantime.specs.References.Calendar.DatesOfDays.{march_year, march_month, march_date, date_in_march_year, date_of}
-use Rattle.humantime.specs.References.Calendar.March.{march_days, march_year_length, march_length, march_months}
-use Rattle.humantime.proofs.Dates.Years.{march_days_next, days_in_year_bound}
-use Rattle.humantime.proofs.Dates.March.{early_valid, early_day, late_valid, late_day}
+use Rattle.std.proofs.Common.{◌≡◌, ℕ, ◌+◌, ◌-◌, ◌<◌, ◌≤◌, refl, arith}
+use Rattle.std.proofs.lemmas.Bool.Decides.{nat_tests}
+use Rattle.std.specs.Prelude.{min, Bool, true, false, nat_lt, if◌then◌else◌}
+use Rattle.std.proofs.lemmas.Bool.{ltb-true, ltb-false}
+use Rattle.humantime.specs.Calendar.{days_in_year, days_in_month, days_of_years, days_of_months}
+use Rattle.humantime.specs.declared.calendar.Date.{Date}
+use Rattle.humantime.specs.Laws.Days.{IsDateOfDay}
+use Rattle.humantime.specs.References.Calendar.March.{march_days, march_months, march_year, march_month, march_date, date_of}
+use Rattle.humantime.proofs.Dates.Years.{days_of_years_closed, days_in_year_bound, days_of_first_months, days_of_months_closed, march_lengths, AreWithin, valid_from, march_days_next}
 
 -- a day lies in the year that is found
-year_holds : (n : ℕ) → (march_days (march_year n) ≤ n) × (n < march_days (march_year n + 1))
-year_holds n = grind (arith, common_steps)
+year_begins : (n : ℕ) → march_days (march_year n) ≤ n
+year_begins n = omega arith
 
--- and in the month
-abbrev HoldsDay : ℕ → ℕ → Type 0
-HoldsDay k day = (march_months k ≤ day) × (day - march_months k < march_length k)
+year_ends : (n : ℕ) → n < march_days (march_year n + 1)
+year_ends n = omega arith
 
-month_holds : (day : ℕ) → day < 366 → HoldsDay (march_month day) day
-unfolding march_months march_length
-month_holds day within = grind (arith, common_steps)
+dated : (n y m d : ℕ) → AreWithin y m d → days_of_years (y - 1970) + days_of_months y (m - 1) + (d - 1) ≡ n
+    → IsDateOfDay n (record { year = y; month = m; day = d })
+dated n y m d within sum = (valid_from y m d within, sum)
 
-resum : (a b l s : ℕ) → b ≤ l → a + l ≡ s → a + b + (l - b) ≡ s
-resum a b l s h e = omega arith
+-- March to December
+early : (n y k d : ℕ) → n ≤ 2_932_896 → k < 10 → march_months k + d < march_months (k + 1) → march_days y + march_months k + d ≡ n + 135_080
+    → IsDateOfDay n (record { year = 1600 + y; month = k + 3; day = d + 1 })
+early n y k d few month within sum =
+    let length = march_lengths (1600 + y) k month in
+    let months = days_of_months_closed (1600 + y) (k + 3) (omega arith) (omega arith) in
+    dated n (1600 + y) (k + 3) (d + 1) ((omega arith, omega arith), (omega arith, omega arith), (omega arith, omega arith))
+    (grind (arith, common_steps, months, days_of_years_closed (1600 + y) (omega arith), march_days_next (1600 + y)))
 
-cancel : (a s n : ℕ) → a + 135_080 ≡ s → s ≡ n + 135_080 → a ≡ n
-cancel a s n e h = omega arith
+-- January and February
+late : (n y k d : ℕ) → n ≤ 2_932_896 → 10 ≤ k → march_months k + d < march_months (k + 1) → march_months k + d < days_in_year (1601 + y)
+    → march_days y + march_months k + d ≡ n + 135_080
+    → IsDateOfDay n (record { year = 1601 + y; month = k - 9; day = d + 1 })
+late n y k d few month within ends sum =
+    let bound = days_in_year_bound (1601 + y) in
+    let length : d < days_in_month (1601 + y) (k - 9) = grind (arith, nat_tests) in
+    dated n (1601 + y) (k - 9) (d + 1) ((omega arith, omega arith), (omega arith, omega arith), (omega arith, omega arith))
+    (grind (arith, common_steps, days_of_first_months (1601 + y) (k - 10), days_of_years_closed (1601 + y) (omega arith)))
 
-date_in_month : (n y k day : ℕ) → n ≤ 2_932_896 → k < 12 → day < march_length k → march_months k + day < march_year_length y
-    → march_days y + march_months k + day ≡ n + 135_080 → IsDateOfDay n (march_date y k day)
-date_in_month n y k day few month short within sum = by_month (nat_lt k 10) refl where
-  first : 135_080 ≤ march_days y + march_months k + day
-  first = subst (λ (m : ℕ). 135_080 ≤ m) (sym sum) (omega arith)
+-- the date of a day of month k of year y, and of a day of year y
+in_month : (n y k d : ℕ) → n ≤ 2_932_896 → march_months k + d < march_months (k + 1) → march_months k + d < days_in_year (1601 + y)
+    → march_days y + march_months k + d ≡ n + 135_080 → IsDateOfDay n (march_date y k d)
+in_month n y k d few within ends sum = by_month (nat_lt k 10) refl where
+  by_month : (b : Bool) → nat_lt k 10 ≡ b
+      → IsDateOfDay n (if b then record { year = 1600 + y; month = k + 3; day = d + 1 } else record { year = 1601 + y; month = k - 9; day = d + 1 })
+  by_month true h = early n y k d few (ltb-true k 10 h) within sum
+  by_month false h = late n y k d few (ltb-false k 10 h) within ends sum
 
-  last : march_days y + march_months k + day ≤ 3_067_976
-  last = subst (λ (m : ℕ). m ≤ 3_067_976) (sym sum) (omega arith)
+in_year : (n y k d : ℕ) → n ≤ 2_932_896 → k ≡ march_month d → d < days_in_year (1601 + y) → march_days y + d ≡ n + 135_080
+    → IsDateOfDay n (march_date y k (d - march_months k))
+in_year n y k d few found within sum = in_month n y k (d - march_months k) few (omega arith) (omega arith) (omega arith)
 
-  by_month : (t : Bool) → nat_lt k 10 ≡ t
-      → IsDateOfDay n (if t then record { year = 1600 + y; month = k + 3; day = day + 1 } else record { year = 1601 + y; month = k - 9; day = day + 1 })
-  by_month true h =
-      let early : k < 10 = ltb-true k 10 h in
-      (early_valid y k day early short first last, cancel _ _ n (early_day y k day early short first) sum)
-  by_month false h =
-      let late : 10 ≤ k = ltb-false k 10 h in
-      (late_valid y k day month late short within first last, cancel _ _ n (late_day y k day month late within first) sum)
-
-date_in_year : (n y day : ℕ) → n ≤ 2_932_896 → march_days y + day ≡ n + 135_080 → day < march_year_length y → IsDateOfDay n (date_in_march_year y day)
-date_in_year n y day few sum within =
-    let k = march_month day in
-    let short : day < 366 = omega (arith, within, days_in_year_bound (1601 + y)) in
-    let month = month_holds day short in
-    let parts : march_months k + (day - march_months k) ≡ day = omega (arith, month.0) in
-    date_in_month n y k (day - march_months k) few (omega arith) month.1 (subst (λ (m : ℕ). m < march_year_length y) (sym parts) within)
-    (resum (march_days y) (march_months k) day (n + 135_080) month.0 sum)
-
-place_within : (m next length days : ℕ) → m ≤ days → days < next → next ≡ m + length → days - m < length
-place_within m next length days low high e = omega arith
-
-place_sum : (m days : ℕ) → m ≤ days → m + (days - m) ≡ days
-place_sum m days low = omega arith
+-- the date of this day, in the year that is found
+pub date_found : (n y k d : ℕ) (x : Date) → x ≡ march_date y k (d - march_months k) → n ≤ 2_932_896 → y ≡ march_year (n + 135_080)
+    → k ≡ min (march_month d) 12 → march_days y + d ≡ n + 135_080 → IsDateOfDay n x
+date_found n y k d x is few year month sum =
+    let within : d < days_in_year (1601 + y) = omega (arith, march_days_next (1601 + y) (omega arith), year_ends (n + 135_080)) in
+    rw is (in_year n y k d few (omega (arith, days_in_year_bound (1601 + y))) within sum)
 
 pub date_of_is : (n : ℕ) → n ≤ 2_932_896 → IsDateOfDay n (date_of n)
 unfolding date_of
 date_of_is n few =
     let days = n + 135_080 in
     let y = march_year days in
-    let holds = year_holds days in
-    date_in_year n y (days - march_days y) few (place_sum (march_days y) days holds.0)
-    (place_within (march_days y) (march_days (y + 1)) (march_year_length y) days holds.0 holds.1 (march_days_next y))
+    in_year n y _ (days - march_days y) few refl (omega (arith, march_days_next (1601 + y) (omega arith), year_begins days, year_ends days)) (omega (arith, year_begins days))

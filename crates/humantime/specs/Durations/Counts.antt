@@ -1,6 +1,6 @@
 -- A duration in nine counts, its one printed text, and the canonical text of what a text spells. Texts are bytes here.
-use Rattle.std.specs.Prelude.{◌≡◌, ℕ, zero, suc, ◌+◌, ◌*◌, Bool, true, false, ◌&&◌, List, [], ◌∷◌, ◌++◌, length, codes, decimal, nat_lt, if◌then◌else◌, chars, IsTrue}
-use Rattle.std.specs.List.{join_with_byte}
+use Rattle.std.specs.Prelude.{◌≡◌, ℕ, ◌+◌, ◌*◌, Bool, true, false, ◌&&◌, List, [], ◌∷◌, ◌++◌, length, map, codes, decimal, nat_lt, if◌then◌else◌, chars, IsTrue}
+use Rattle.std.specs.List.{filter, zip, join_with_byte}
 use Rattle.std.specs.Str.{byte}
 use Rattle.std.specs.Ordering.{nat_cmp, is_le}
 use Rattle.std.specs.Cmp.Lexicographic.{slice_cmp}
@@ -31,27 +31,28 @@ pub record AreGreatest (ws : List ℕ) (d : ℕ) (counts : List ℕ) : Type 0 wh
 abbrev pub Counts : ℕ → List ℕ → Type 0
 Counts d counts = AreGreatest weights d counts
 
--- what stands behind each count, and whether it takes an s above one
-abbrev pub suffixes : List (List ℕ × Bool)
+-- what stands behind a count, and whether it takes an s above one
+abbrev pub Suffix : Type 0
+Suffix = List ℕ × Bool
+
+-- the suffixes of the nine counts
+abbrev pub suffixes : List Suffix
 suffixes =
     (codes "year", true) ∷ (codes "month", true) ∷ (codes "day", true) ∷ (codes "h", false) ∷ (codes "m", false) ∷ (codes "s", false)
     ∷ (codes "ms", false) ∷ (micro_suffix, false) ∷ (codes "ns", false) ∷ []
 
 -- a count's digits and its suffix
-abbrev pub printed_count : ℕ → List ℕ × Bool → List ℕ
+abbrev pub printed_count : ℕ → Suffix → List ℕ
 printed_count n s = decimal n ++ s.0 ++ (if s.1 && nat_lt 1 n then codes "s" else [])
 
 -- each count that isn't zero, with its suffix
-abbrev pub printed_counts : List ℕ → List (List ℕ × Bool) → List (List ℕ)
-printed_counts [] ss = []
-printed_counts (n ∷ ns) [] = []
-printed_counts (zero ∷ ns) (s ∷ ss) = printed_counts ns ss
-printed_counts (suc n ∷ ns) (s ∷ ss) = printed_count (suc n) s ∷ printed_counts ns ss
+abbrev pub printed_counts : List ℕ → List Suffix → List (List ℕ)
+printed_counts counts ends = map (λ c. printed_count c.0 c.1) (filter (λ c. nat_lt 0 c.0) (zip counts ends))
 
 -- joined by one space; nothing is zero seconds
 abbrev pub joined_by_space : List (List ℕ) → List ℕ
 joined_by_space [] = codes "0s"
-joined_by_space (p ∷ ps) = join_with_byte (byte " ") (p ∷ ps)
+joined_by_space ps = join_with_byte (byte " ") ps
 
 -- The canonical text of a duration of d nanoseconds, the one that it is printed as: its counts, each that isn't zero with its suffix.
 pub record Canon (d : ℕ) (bytes : List ℕ) : Type 0 where

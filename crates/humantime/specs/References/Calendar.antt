@@ -1,4 +1,3 @@
 -- Days and years counted without loops over years, and turns of loops.
-pub mod DatesOfDays
 pub mod March
 pub mod Turns

@@ -1,8 +1,17 @@
 -- The text of a moment, its second cut to a number of digits. A text is its bytes.
-use Rattle.std.specs.Prelude.{◌≡◌, ℕ, zero, suc, ◌-◌, ◌*◌, ◌^◌, ◌≤◌, List, length, Option, Some, None, ℤ, pos, ◌≤ℤ◌, ◌<ℤ◌, ◌-ℤ◌}
+use Rattle.std.specs.Prelude.{◌≡◌, ℕ, zero, suc, ◌-◌, ◌*◌, ◌^◌, ◌≤◌, ◌==◌, if◌then◌else◌, List, length, Option, Some, None, ℤ, pos, ◌≤ℤ◌, ◌<ℤ◌, ◌-ℤ◌}
 use Rattle.std.specs.Int.{int_rem_euclid}
-use Rattle.humantime.specs.Values.{nanos_per_second, seconds_per_day}
+use Rattle.humantime.specs.Values.{nanos_per_second, seconds_per_day, nano_of}
 use Rattle.humantime.specs.Timestamps.Fields.{Letter_T, Letter_Z, Fields, IsWeak, moment_of}
+
+-- what a timestamp prints: a moment in nanoseconds, with so many digits after its second
+pub record MomentToPrint : Type 0 where
+  pub moment : ℤ
+  pub places : ℕ
+
+-- how many digits a moment is printed with, where no number of them is asked for
+abbrev pub places_of : ℤ → ℕ
+places_of t = if nano_of t == 0 then 0 else 9
 
 -- a moment in nanoseconds, cut to k digits after its second
 abbrev pub cut : ℤ → ℕ → ℤ

@@ -1,18 +1,21 @@
 //! The printers of timestamps.
 
-ghost use Rattle.std.specs.Prelude.{◌≡◌, ◌+◌, ◌/◌, ◌%◌, ◌<◌, ◌≤◌, ◌↔◌, IsSome, IfSome, IfNone, option_map, ◌++◌, take, drop, slice_set, codes};
+ghost use Rattle.std.specs.Prelude.{◌≡◌, ◌+◌, ◌<◌, ◌≤◌, ◌↔◌, IsSome, IfSome, IfNone, option_map, ◌++◌, take, drop, codes};
 ghost use Rattle.std.specs.Borrow.{sem};
-ghost use Rattle.std.specs.Str.{IsUtf8, byte};
+ghost use Rattle.std.specs.Str.{IsUtf8};
 ghost use Rattle.humantime.specs.Buffers.{KeptAtNone};
-ghost use Rattle.humantime.specs.Timestamps.Fields.{digit, two_digits, date_time_text, fields_text};
-ghost use Rattle.humantime.specs.Timestamps.Printed.{IsPrintable};
-ghost use Rattle.humantime.specs.References.Timestamps.Printing.{places, places_of, moment_kept, places_kept, IsTextOf, printed_text, shortest_text, fields_shown, IsDateTimeOf, FitsPlaces};
+ghost use Rattle.humantime.specs.Calendar.{IsDate};
+ghost use Rattle.humantime.specs.Timestamps.Fields.{two_digits, date_time_text, fields_text};
+ghost use Rattle.humantime.specs.Values.{nano_of};
+ghost use Rattle.humantime.specs.Timestamps.Printed.{IsPrinted, IsPrintable, places_of};
+ghost use Rattle.humantime.specs.References.Timestamps.Printing.{IsSecondOf, printed_text, fields_shown};
 
 use crate::buffer::front;
 use crate::calendar::{Date, date_of_day};
 use crate::turns::Turns;
 use crate::value::SystemTime;
 use std::fmt;
+use std::marker::Model;
 
 /// The first second of the year 10000.
 const END: i64 = 253_402_300_800;
@@ -30,16 +33,6 @@ enum Precision {
     Nanos,
 }
 
-/// A date and a time of day.
-#[derive(Clone, Copy)]
-struct DateTime {
-    date: Date,
-    hour: u32,
-    minute: u32,
-    second: u32,
-    nanos: u32,
-}
-
 /// A moment that is printed as a timestamp, with a number of digits after the second.
 ///
 /// The `format_rfc3339` calls make it. `Display` writes the text that `text` lends, by one request to the
@@ -55,6 +48,21 @@ pub struct Rfc3339Timestamp {
     precision: Precision,
 }
 
+impl Model for Rfc3339Timestamp {
+    ghost use Rattle.humantime.specs.Values.{nano_of};
+    ghost use Rattle.humantime.specs.Timestamps.Printed.{MomentToPrint};
+    ghost use Rattle.humantime.specs.References.Timestamps.Printing.{places, precision_of};
+    ghost use Rattle.std.proofs.Common.{arith};
+
+    ghost Value = { MomentToPrint };
+
+    ghost view = { λ x. record { moment = x.moment; places = places x.precision } };
+
+    ghost inverse = { λ x. record { moment = x.moment; precision = precision_of x.places } };
+
+    ghost inverse_ok = { λ x h. Prim.grind arith };
+}
+
 /// The moment, to be printed with no fraction where its nanoseconds are zero, and else with nine digits.
 ///
 /// It never fails. RFC 3339 has the form; this choice of the digits is the crate's.
@@ -62,11 +70,8 @@ pub struct Rfc3339Timestamp {
 /// ```text
 /// format_rfc3339(UNIX_EPOCH)
 /// ```
-#[tactic(auto, unfolding(crate::specs::References::Timestamps::Printing::moment_kept, crate::specs::References::Timestamps::Printing::places_kept))]
 pub fn format_rfc3339(moment: SystemTime) -> Rfc3339Timestamp
-    ensures moment { moment_kept result ≡ moment }
-    ensures places { places_kept result ≡ places_of moment }
-    ensures text { printed_text result ≡ shortest_text moment }
+    ensures { result ≡ record { moment = moment; places = places_of moment } }
 {
     let precision = if moment.subsec_nanos() == 0 {
         Precision::Seconds
@@ -83,10 +88,8 @@ pub fn format_rfc3339(moment: SystemTime) -> Rfc3339Timestamp
 /// ```text
 /// format_rfc3339_seconds(UNIX_EPOCH)
 /// ```
-#[tactic(auto, unfolding(crate::specs::References::Timestamps::Printing::moment_kept, crate::specs::References::Timestamps::Printing::places_kept))]
 pub fn format_rfc3339_seconds(moment: SystemTime) -> Rfc3339Timestamp
-    ensures moment { moment_kept result ≡ moment }
-    ensures places { places_kept result ≡ 0 }
+    ensures { result ≡ record { moment = moment; places = 0 } }
 {
     Rfc3339Timestamp {
         moment,
@@ -101,10 +104,8 @@ pub fn format_rfc3339_seconds(moment: SystemTime) -> Rfc3339Timestamp
 /// ```text
 /// format_rfc3339_millis(UNIX_EPOCH)
 /// ```
-#[tactic(auto, unfolding(crate::specs::References::Timestamps::Printing::moment_kept, crate::specs::References::Timestamps::Printing::places_kept))]
 pub fn format_rfc3339_millis(moment: SystemTime) -> Rfc3339Timestamp
-    ensures moment { moment_kept result ≡ moment }
-    ensures places { places_kept result ≡ 3 }
+    ensures { result ≡ record { moment = moment; places = 3 } }
 {
     Rfc3339Timestamp {
         moment,
@@ -119,10 +120,8 @@ pub fn format_rfc3339_millis(moment: SystemTime) -> Rfc3339Timestamp
 /// ```text
 /// format_rfc3339_micros(UNIX_EPOCH)
 /// ```
-#[tactic(auto, unfolding(crate::specs::References::Timestamps::Printing::moment_kept, crate::specs::References::Timestamps::Printing::places_kept))]
 pub fn format_rfc3339_micros(moment: SystemTime) -> Rfc3339Timestamp
-    ensures moment { moment_kept result ≡ moment }
-    ensures places { places_kept result ≡ 6 }
+    ensures { result ≡ record { moment = moment; places = 6 } }
 {
     Rfc3339Timestamp {
         moment,
@@ -137,10 +136,8 @@ pub fn format_rfc3339_micros(moment: SystemTime) -> Rfc3339Timestamp
 /// ```text
 /// format_rfc3339_nanos(UNIX_EPOCH)
 /// ```
-#[tactic(auto, unfolding(crate::specs::References::Timestamps::Printing::moment_kept, crate::specs::References::Timestamps::Printing::places_kept))]
 pub fn format_rfc3339_nanos(moment: SystemTime) -> Rfc3339Timestamp
-    ensures moment { moment_kept result ≡ moment }
-    ensures places { places_kept result ≡ 9 }
+    ensures { result ≡ record { moment = moment; places = 9 } }
 {
     Rfc3339Timestamp {
         moment,
@@ -154,9 +151,9 @@ impl Rfc3339Timestamp {
     /// ```text
     /// *format_rfc3339(UNIX_EPOCH).get_ref() == UNIX_EPOCH
     /// ```
-    #[tactic(auto, unfolding(crate::specs::References::Timestamps::Printing::moment_kept))]
     pub fn get_ref(&self) -> &SystemTime
-        ensures { result.now ≡ moment_kept self.now }
+        ensures moment { result.now ≡ self.now.moment }
+        ensures few { self.now.places ≤ 9 }
     {
         &self.moment
     }
@@ -170,8 +167,8 @@ impl Rfc3339Timestamp {
     /// ```
     #[inline(always)]
     pub fn text<'b>(&self, buf: &'b mut [u8; 30]) -> Option<&'b str>
-        ensures within { IsSome result ↔ IsPrintable (moment_kept self.now) }
-        ensures text { IfSome result (λ t. IsTextOf self.now t.now) }
+        ensures within { IsSome result ↔ IsPrintable self.now.moment }
+        ensures text { IfSome result (λ t. IsPrinted self.now.moment self.now.places t.now) }
         ensures* unchanged { sem 𝓛 (KeptAtNone 30 buf.entry result) }
     {
         let len = self.write(buf);
@@ -180,15 +177,45 @@ impl Rfc3339Timestamp {
 
     /// Writes the text to the front of the buffer. `None`, and the buffer as it was, outside 1970 to 9999.
     #[inline(always)]
-    #[tactic(auto, unfolding(crate::specs::References::Timestamps::Printing::moment_kept))]
     pub(crate) fn write(&self, buf: &mut [u8; 30]) -> Option<usize>
-        ensures within { IsSome result ↔ IsPrintable (moment_kept self.now) }
+        ensures within { IsSome result ↔ IsPrintable self.now.moment }
         ensures fits { IfSome result (λ len. len ≤ 30) }
-        ensures text { IfSome result (λ len. IsTextOf self.now (take len buf.new)) }
+        ensures text { IfSome result (λ len. IsPrinted self.now.moment self.now.places (take len buf.new)) }
         ensures unchanged { IfNone result (buf.new ≡ buf.old) }
     {
-        let date_time = date_time_of(self.moment)?;
-        Some(write_date_time(date_time, self.precision, buf))
+        let (date, time) = date_and_time(self.moment)?;
+        Some(self.write_parts(date, time, buf))
+    }
+
+    /// Writes the date, this second of the day and the fraction to the front of the buffer, and answers the
+    /// text's length.
+    #[inline(always)]
+    fn write_parts(&self, date: Date, time: u32, buf: &mut [u8; 30]) -> usize
+        requires { IsSecondOf date time self.now.moment }
+        ensures fits { result ≤ 30 }
+        ensures text { take result buf.new ≡ fields_text (fields_shown date time (nano_of self.now.moment) self.now.places) }
+    {
+        let nanos = self.moment.subsec_nanos();
+        write_time(date, time, buf);
+        if self.precision == Precision::Seconds {
+            buf[19] = b'Z';
+            return 20;
+        }
+        put_two(buf, 20, nanos / 10_000_000);
+        put_two(buf, 22, nanos / 100_000 % 100);
+        if self.precision == Precision::Millis {
+            buf[23] = b'Z';
+            return 24;
+        }
+        put_two(buf, 24, nanos / 1_000 % 100);
+        if self.precision == Precision::Micros {
+            buf[26] = b'Z';
+            return 27;
+        }
+        put_two(buf, 26, nanos / 10 % 100);
+        buf[28] = b'0' + (nanos % 10) as u8;
+        buf[29] = b'Z';
+        30
     }
 }
 
@@ -203,9 +230,9 @@ impl fmt::Display for Rfc3339Timestamp {
     fn fmt<W: fmt::Write>(&self, f: &mut fmt::Formatter<W>) -> fmt::Result
         ensures writes { DisplaysOnOk W.write_str_gives f.old result (printed_text self.now) f.new }
         ensures styled { DisplaysStyledOnOk W.write_str_gives f.old result (printed_text self.now) f.new }
-        ensures within { IsOk result → IsPrintable (moment_kept self.now) }
-        ensures refused { ¬ (IsPrintable (moment_kept self.now)) → result ≡ Err fmt_error }
-        ensures untouched { ¬ (IsPrintable (moment_kept self.now)) → f.new ≡ f.old }
+        ensures within { IsOk result → IsPrintable self.now.moment }
+        ensures refused { ¬ (IsPrintable self.now.moment) → result ≡ Err fmt_error }
+        ensures untouched { ¬ (IsPrintable self.now.moment) → f.new ≡ f.old }
     {
         let mut buf = [0; 30];
         let Some(text) = self.text(&mut buf) else {
@@ -226,101 +253,48 @@ fn shown(buf: &[u8; 30], len: Option<usize>) -> Option<&str>
     Some(front(buf, len))
 }
 
-/// The date and the time of day of a moment of 1970 to 9999.
+/// The date and the second of the day of a moment of 1970 to 9999.
 #[inline(always)]
-fn date_time_of(moment: SystemTime) -> Option<DateTime>
+fn date_and_time(moment: SystemTime) -> Option<(Date, u32)>
     ensures within { IsSome result ↔ IsPrintable moment }
-    ensures value { IfSome result (λ x. IsDateTimeOf x moment) }
+    ensures value { IfSome result (λ x. IsSecondOf x.0 x.1 moment) }
 {
     let secs = moment.unix_seconds();
     if secs < 0 || secs >= END {
         return None;
     }
     let date = date_of_day((secs / 86_400) as u32, &mut Turns::new())?;
-    let time = (secs % 86_400) as u32;
-    Some(DateTime {
-        date,
-        hour: time / 3_600,
-        minute: time / 60 % 60,
-        second: time % 60,
-        nanos: moment.subsec_nanos(),
-    })
-}
-
-/// Writes date and time to the front of the buffer, and answers the text's length.
-#[inline(always)]
-fn write_date_time(x: DateTime, precision: Precision, buf: &mut [u8; 30]) -> usize
-    requires { FitsPlaces x }
-    ensures fits { result ≤ 30 }
-    ensures text { take result buf.new ≡ fields_text (fields_shown x (places precision)) }
-{
-    write_time(x, buf);
-    if precision == Precision::Seconds {
-        return end_at(buf, 19);
-    }
-    put_two(buf, 20, x.nanos / 10_000_000);
-    put_two(buf, 22, x.nanos / 100_000 % 100);
-    if precision == Precision::Millis {
-        return end_at(buf, 23);
-    }
-    put_two(buf, 24, x.nanos / 1_000 % 100);
-    if precision == Precision::Micros {
-        return end_at(buf, 26);
-    }
-    put_two(buf, 26, x.nanos / 10 % 100);
-    buf[28] = b'0' + (x.nanos % 10) as u8;
-    end_at(buf, 29)
+    Some((date, (secs % 86_400) as u32))
 }
 
 /// Writes `YYYY-MM-DDTHH:MM:SS` and a point to the front of the buffer. The signs come with the pattern, and
 /// the digits take the place of its letters.
 #[inline(always)]
-fn write_time(x: DateTime, buf: &mut [u8; 30])
-    requires { FitsPlaces x }
-    ensures { buf.new ≡ date_time_text (fields_shown x 0) ++ codes ".nnnnnnnnnz" }
+#[tactic(auto, using(crate::proofs::Dates::Years::valid_told))]
+fn write_time(date: Date, time: u32, buf: &mut [u8; 30])
+    requires date { IsDate date }
+    requires time { time < 86_400 }
+    ensures { buf.new ≡ date_time_text (fields_shown date time 0 0) ++ codes ".nnnnnnnnnz" }
 {
     *buf = *b"yyyy-mm-ddThh:mm:ss.nnnnnnnnnz";
-    put_two(buf, 0, x.date.year / 100);
-    put_two(buf, 2, x.date.year % 100);
-    put_two(buf, 5, x.date.month);
-    put_two(buf, 8, x.date.day);
-    put_two(buf, 11, x.hour);
-    put_two(buf, 14, x.minute);
-    put_two(buf, 17, x.second);
-}
-
-/// The two digits of a number below 100.
-#[inline(always)]
-#[tactic(auto, using(crate::proofs::Timestamps::Printing::Pairs::tens_at, crate::proofs::Timestamps::Printing::Pairs::ones_at))]
-fn digits_of(n: u32) -> (u8, u8)
-    requires { n < 100 }
-    ensures tens { result.0 ≡ digit (n / 10) }
-    ensures ones { result.1 ≡ digit (n % 10) }
-{
-    let pair = 2 * n as usize;
-    (PAIRS[pair], PAIRS[pair + 1])
+    put_two(buf, 0, date.year / 100);
+    put_two(buf, 2, date.year % 100);
+    put_two(buf, 5, date.month);
+    put_two(buf, 8, date.day);
+    put_two(buf, 11, time / 3_600);
+    put_two(buf, 14, time / 60 % 60);
+    put_two(buf, 17, time % 60);
 }
 
 /// Writes a number below 100 as two digits at this place. Two stores are one move, where a copied slice is a call.
 #[inline(always)]
-#[tactic(auto, using(crate::proofs::Timestamps::Printing::Pairs::two_set))]
+#[tactic(auto, using(crate::proofs::Timestamps::Printing::Pairs::two_set, crate::proofs::Timestamps::Printing::Pairs::tens_at, crate::proofs::Timestamps::Printing::Pairs::ones_at))]
 fn put_two(buf: &mut [u8; 30], at: usize, n: u32)
     requires place { at + 2 ≤ 30 }
     requires small { n < 100 }
     ensures { buf.new ≡ take at buf.old ++ two_digits n ++ drop (at + 2) buf.old }
 {
-    let (tens, ones) = digits_of(n);
-    buf[at] = tens;
-    buf[at + 1] = ones;
-}
-
-/// Writes a `Z` at this place, and answers the length of the text that it ends.
-#[inline(always)]
-fn end_at(buf: &mut [u8; 30], at: usize) -> usize
-    requires { at < 30 }
-    ensures length { result ≡ at + 1 }
-    ensures bytes { buf.new ≡ slice_set buf.old at (byte "Z") }
-{
-    buf[at] = b'Z';
-    at + 1
+    let pair = 2 * n as usize;
+    buf[at] = PAIRS[pair];
+    buf[at + 1] = PAIRS[pair + 1];
 }

@@ -1,15 +1,10 @@
 //! Laws of timestamps.
 
-ghost use Rattle.std.specs.Prelude.{◌≡◌, ◌↔◌, ◌<ℤ◌, ℕ, ℤ, List, Some, Ok, Err, IsTrue};
+ghost use Rattle.std.specs.Prelude.{◌↔◌, ◌<ℤ◌, ℕ, List, IsTrue};
 ghost use Rattle.std.specs.Cmp.Lexicographic.{slice_cmp};
 ghost use Rattle.std.specs.Ordering.{is_lt, nat_cmp};
-ghost use Rattle.humantime.specs.declared.date.error.TimestampError.{TimestampError};
-ghost use Rattle.humantime.specs.Timestamps.Fields.{IsWeak, IsStrict, IsWeakMoment, IsStrictMoment};
-ghost use Rattle.humantime.specs.Timestamps.Checks.{weak_checks, strict_checks, first_failed};
-ghost use Rattle.humantime.specs.Laws.Timestamps.{OneTimestamp, StrictIsWeak, StrictMomentIsWeak, IsMarked, InOrder, OnePrinted, ReadsAs, StampOutcome, StrictForm};
-ghost use Rattle.humantime.specs.Timestamps.Printed.{cut, IsPrintable, IsPrinted};
-ghost use Rattle.humantime.specs.References.Timestamps.Printing.{moment_kept, places_kept, printed_text, IsTextOf};
-ghost use Rattle.humantime.specs.References.Timestamps.Reading.{weak_answer, strict_answer};
+ghost use Rattle.humantime.specs.Laws.Timestamps.{InOrder, PrintedMoment, StampOutcome, StrictForm};
+ghost use Rattle.humantime.specs.Timestamps.Printed.{IsPrinted};
 
 use crate::date::Rfc3339Timestamp;
 use crate::value::SystemTime;
@@ -46,14 +41,9 @@ pub fn one_stamp_outcome(s: &str)
 /// printed_moment_reads(&format_rfc3339(UNIX_EPOCH))
 /// ```
 pub fn printed_moment_reads(x: &Rfc3339Timestamp)
-    ensures one { IsPrintable (moment_kept x.now) → OnePrinted (moment_kept x.now) (places_kept x.now) }
-    ensures displayed { (text : List ℕ) → (printed_text x.now ≡ Some text) ↔ (IsPrintable (moment_kept x.now) × IsTextOf x.now text) }
-    ensures reads { (text : List ℕ) → IsTextOf x.now text → ReadsAs text (cut (moment_kept x.now) (places_kept x.now)) }
-    ensures strict { (text : List ℕ) → IsTextOf x.now text → strict_answer text ≡ Ok (cut (moment_kept x.now) (places_kept x.now)) }
-    ensures weak { (text : List ℕ) → IsTextOf x.now text → weak_answer text ≡ Ok (cut (moment_kept x.now) (places_kept x.now)) }
-    ensures whole { cut (moment_kept x.now) 9 ≡ moment_kept x.now }
+    ensures { PrintedMoment x.now.moment x.now.places }
 {
-    let _ = x;
+    let _ = x.get_ref();
 }
 
 /// Printed texts with equally many digits stand, as bytes, in the order of their moments, cut to these digits.

@@ -3,7 +3,7 @@
 ghost use Rattle.std.specs.Prelude.{◌≡◌, ◌<◌, ◌↔◌, ◌<ℤ◌, ◌≤ℤ◌, ◌∷◌, [], ℕ, ℤ, pos, Ok, Some, true, length, unwrap_or, IsTrue, IfOk, IfSome, string_bytes};
 ghost use Rattle.std.specs.Ordering.{int_cmp};
 ghost use Rattle.humantime.specs.declared.TimestampError.{TimestampError};
-ghost use Rattle.humantime.specs.Prelude.{Fields, IsWeak, IsStrict, IsWeakMoment, IsStrictMoment, weak_answer, strict_answer, weak_checks, first_failed, IsPrintable, IsPrinted, IsTextOf, moment_kept, cut, nano_of};
+ghost use Rattle.humantime.specs.Prelude.{Fields, IsWeak, IsStrict, IsWeakMoment, IsStrictMoment, weak_answer, strict_answer, weak_checks, first_failed, IsPrintable, IsPrinted, cut, nano_of};
 
 use humantime::laws::{one_stamp_outcome, printed_moment_reads, stamps_in_order, strict_is_weak};
 use humantime::{
@@ -61,7 +61,7 @@ pub fn text_again<'b>(
     printed: &str,
     buffer: &'b mut [u8; 30],
 ) -> Option<&'b str>
-    ensures { IsPrintable (moment_kept shown.now) → IsTextOf shown.now printed.now → IfSome result (λ text. text.now ≡ printed.now) }
+    ensures { IsPrintable shown.now.moment → IsPrinted shown.now.moment shown.now.places printed.now → IfSome result (λ text. text.now ≡ printed.now) }
 {
     printed_moment_reads(shown);
     shown.text(buffer)
@@ -73,7 +73,7 @@ pub fn string_again(
     shown: &Rfc3339Timestamp,
     printed: &str,
 ) -> Result<String, AllocError>
-    ensures { IsPrintable (moment_kept shown.now) → IsTextOf shown.now printed.now → IfOk result (λ s. string_bytes s ≡ printed.now) }
+    ensures { IsPrintable shown.now.moment → IsPrinted shown.now.moment shown.now.places printed.now → IfOk result (λ s. string_bytes s ≡ printed.now) }
 {
     printed_moment_reads(shown);
     format!(in alloc; "{}", *shown)

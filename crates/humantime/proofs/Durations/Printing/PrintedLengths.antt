@@ -1,17 +1,18 @@
 -- How long a printed text is, and how large its counts are.
 use Rattle.std.proofs.lemmas.Grind.{common_steps}
-use Rattle.std.proofs.Common.{◌≡◌, ℕ, ◌+◌, ◌*◌, ◌/◌, ◌%◌, ◌^◌, ◌<◌, ◌≤◌, Bool, cond, List, [], ◌∷◌, length, refl, sym, ap, subst, arith}
-use Rattle.std.specs.Prelude.{◌&&◌, codes, slice_index, ⊤}
+use Rattle.std.proofs.Common.{◌≡◌, ℕ, ◌+◌, ◌*◌, ◌/◌, ◌%◌, ◌^◌, ◌<◌, ◌≤◌, Bool, cond, List, [], ◌∷◌, length, inl, inr, refl, sym, ap, subst, arith}
+use Rattle.std.specs.Prelude.{◌&&◌, codes, nat_lt, slice_index, ⊤}
 use Rattle.std.specs.List.{AllByRecursion, join_with_byte}
 use Rattle.std.proofs.lemmas.Nat.{div_below, mod_below}
+use Rattle.std.proofs.lemmas.Bool.{cases_Bool}
 use Rattle.std.proofs.lemmas.List.{length-append}
 use Rattle.std.proofs.lemmas.Fmt.{length-decimal-le}
 use Rattle.humantime.specs.Values.{nanos_per_second}
 use Rattle.humantime.specs.Durations.Characters.{u64_max}
-use Rattle.humantime.specs.Durations.Counts.{weights, suffixes, printed_count, printed_counts, joined_by_space, Counts, Canon}
-use Rattle.humantime.specs.References.Durations.Printing.{Suffix, divided, duration_text}
-use Rattle.humantime.proofs.Durations.Printing.PrintedRows.{table, most}
-use Rattle.humantime.proofs.Durations.Printing.PrintedSpans.{IsCount, rows_good}
+use Rattle.humantime.specs.Durations.Counts.{Suffix, weights, suffixes, printed_count, printed_counts, joined_by_space, Counts, Canon}
+use Rattle.humantime.specs.References.Durations.Printing.{divided, duration_text}
+use Rattle.humantime.proofs.Durations.Printing.PrintedRows.{space, table, most}
+use Rattle.humantime.proofs.Durations.Printing.PrintedSpans.{IsCount, rows}
 use Rattle.humantime.proofs.Durations.Printing.GreatestCounts.{canon_is_text, counts_divided}
 
 abbrev suffix_length : Suffix → ℕ
@@ -33,9 +34,9 @@ abbrev spaced_length : List (List ℕ) → ℕ
 spaced_length [] = 0
 spaced_length (p ∷ ps) = length p + 1 + spaced_length ps
 
-join_length : (p : List ℕ) (ps : List (List ℕ)) → length (join_with_byte 32 (p ∷ ps)) + 1 ≡ spaced_length (p ∷ ps)
+join_length : (p : List ℕ) (ps : List (List ℕ)) → length (join_with_byte space (p ∷ ps)) + 1 ≡ spaced_length (p ∷ ps)
 join_length p [] = omega arith
-join_length p (q ∷ ps) = omega (arith, length-append p (32 ∷ join_with_byte 32 (q ∷ ps)), join_length q ps)
+join_length p (q ∷ ps) = omega (arith, length-append p (space ∷ join_with_byte space (q ∷ ps)), join_length q ps)
 
 plural_length : (p b : Bool) → length (cond (p && b) (codes "s") []) ≤ cond p 1 0
 plural_length p b = grind (arith, common_steps)
@@ -45,7 +46,7 @@ count_length n k s some below fits = grind (arith, common_steps, length-append, 
 
 counts_cons : (n x : ℕ) (ns : List ℕ) (s : Suffix) (ss : List Suffix) → length (printed_count n s) + 1 ≤ x
     → spaced_length (printed_counts (n ∷ ns) (s ∷ ss)) ≤ x + spaced_length (printed_counts ns ss)
-counts_cons n x ns s ss h = grind (arith, common_steps)
+counts_cons n x ns s ss h = elim (cases_Bool (nat_lt 0 n)) [ inl some ↦ rw some (omega arith) | inr zero ↦ rw zero (omega arith) ]
 
 counts_length : (ws ks : List ℕ) (ss : List Suffix) (m r : ℕ) → length ks ≡ length ws → Sizes ws ks ss m → r < m → AllByRecursion IsCount (divided ws r)
     → spaced_length (printed_counts (divided ws r) ss) ≤ length_for ks ss
@@ -75,8 +76,8 @@ joined_length ps h = grind (arith, common_steps, join_length)
 pub canon_length : (d : ℕ) → d / nanos_per_second ≤ u64_max → (text : List ℕ) → Canon d text → length text ≤ 64
 unfolding duration_text
 canon_length d h text canon =
-    let rows = rows_good weights suffixes most d 0 table (omega arith) (omega arith) in
-    let all = counts_length weights sizes suffixes most d as_many sizes_hold (omega arith) rows.small in
+    let all_rows = rows weights suffixes most d table (omega arith) (omega arith) in
+    let all = counts_length weights sizes suffixes most d as_many sizes_hold (omega arith) all_rows.small in
     let short : length (duration_text d) ≤ 64 = joined_length (printed_counts (divided weights d) suffixes) (omega (arith, length_is)) in
     omega (arith, ap length (canon_is_text d text canon))
 

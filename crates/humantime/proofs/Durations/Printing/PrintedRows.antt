@@ -1,98 +1,114 @@
 -- The rows of printed counts: what each unit's word stands for.
 use Rattle.std.proofs.lemmas.Grind.{common_steps}
-use Rattle.std.proofs.Common.{◌≡◌, ◌⊎◌, inl, inr, ℕ, ◌*◌, ◌^◌, ◌<◌, ◌≤◌, Bool, true, false, cond, List, [], ◌∷◌, ◌++◌, refl, arith}
-use Rattle.std.specs.Prelude.{◌&&◌, Some, None, codes, decimal, nat_lt}
+use Rattle.std.proofs.Common.{◌≡◌, ℕ, ◌*◌, ◌^◌, ◌<◌, ◌≤◌, Bool, true, false, cond, List, [], ◌∷◌, ◌++◌, refl, arith}
+use Rattle.std.specs.Prelude.{⊤, ◌&&◌, ◌==◌, Option, Some, None, codes, decimal, nat_lt, nat_le}
 use Rattle.std.specs.Str.{IsUtf8, is_utf8, chars}
+use Rattle.std.specs.List.{list_all}
 use lib.Utf8.{encode}
 use Rattle.std.proofs.lemmas.Str.{IsUtf8-from_is_utf8}
-use Rattle.humantime.specs.Values.{nanos_per_micro, nanos_per_milli, nanos_per_second, seconds_per_minute, seconds_per_hour, seconds_per_day, seconds_per_month, seconds_per_year}
-use Rattle.humantime.specs.Durations.Characters.{is_letter, leading, begins, micro_suffix}
-use Rattle.humantime.specs.Durations.Units.{Scale, whole_nanos, in_nanos, in_seconds, in_seconds_and_nanos, scale_of_word}
+use Rattle.std.proofs.lemmas.Bool.Decides.{nat_tests}
+use Rattle.humantime.specs.Values.{nanos_per_second}
+use Rattle.humantime.specs.Durations.Characters.{is_letter, begins}
+use Rattle.humantime.specs.Durations.Units.{Addition, Nanos, Seconds, Scale, scale_of_word}
+use Rattle.humantime.specs.Durations.Accepted.{addition_nanos, amount}
 use Rattle.humantime.specs.Durations.Spans.{Span, Only}
-use Rattle.humantime.specs.Durations.Counts.{weights, suffixes}
-use Rattle.humantime.specs.References.Durations.Printing.{Suffix}
+use Rattle.humantime.specs.Durations.Counts.{Suffix, weights, suffixes}
+
+-- what stands between two counts
+abbrev pub space : ℕ
+space = 32
+
+-- a suffix's word, with an s or without
+abbrev word_of : Suffix → Bool → List ℕ
+word_of s many = s.0 ++ cond (s.1 && many) (codes "s") []
 
 -- the word behind a count of n, and the span of that count
 abbrev pub word_for : ℕ → Suffix → List ℕ
-word_for n s = s.0 ++ cond (s.1 && nat_lt 1 n) (codes "s") []
+word_for n s = word_of s (nat_lt 1 n)
 
 abbrev pub span_for : ℕ → Suffix → Span
 span_for n s = record { number = decimal n; fraction = None; word = chars (word_for n s) }
 
--- The word stands for w nanoseconds each: whole seconds, or nanoseconds where no more than a second m is left.
+-- what is added is seconds, or nanoseconds where no more than a second m is left
+abbrev pub IsOfKind : ℕ → Addition → Type 0
+IsOfKind m (Nanos n) = m ≤ nanos_per_second
+IsOfKind m (Seconds n) = ⊤
+
+-- The unit counts w nanoseconds each.
+pub record Counts (w m : ℕ) (unit : Scale) : Type 0 where
+  pub weight : addition_nanos unit.one ≡ w
+  pub some : 0 < amount unit.one
+  pub kind : IsOfKind m unit.one
+
+-- The word is letters, and stands for such a unit.
 pub record IsWord (w m : ℕ) (word : List ℕ) : Type 0 where
   pub utf8 : IsUtf8 word
   pub unit : Scale
   pub is : scale_of_word (chars word) ≡ Some unit
-  pub weight : unit.base * unit.factor ≡ w
-  pub some : 0 < unit.factor
-  pub kind : (unit.base ≡ nanos_per_second) ⊎ ((unit.base ≡ 1) × (m ≤ nanos_per_second))
+  pub counts : Counts w m unit
   pub letters : Only is_letter (chars word)
   pub first : begins is_letter (chars word) ≡ true
 
-leading_only : (p : ℕ → Bool) (cs : List ℕ) → leading p cs ≡ cs → Only p cs
-leading_only p [] e = tt
-leading_only p (c ∷ cs) e = grind (arith, common_steps, (leading_only p cs))
+abbrev is_of_kind : ℕ → Addition → Bool
+is_of_kind m (Nanos n) = nat_le m nanos_per_second
+is_of_kind m (Seconds n) = true
 
-known : (w m : ℕ) (word : List ℕ) (u : Scale) → is_utf8 word ≡ true → scale_of_word (chars word) ≡ Some u → u.base * u.factor ≡ w → 0 < u.factor
-    → (u.base ≡ nanos_per_second) ⊎ ((u.base ≡ 1) × (m ≤ nanos_per_second)) → leading is_letter (chars word) ≡ chars word → begins is_letter (chars word) ≡ true → IsWord w m word
-known w m word u utf8 is weight some kind letters first = grind (arith, common_steps, IsUtf8-from_is_utf8, leading_only)
+abbrev counts : ℕ → ℕ → Option Scale → Bool
+counts w m None = false
+counts w m (Some u) = (addition_nanos u.one == w) && nat_lt 0 (amount u.one) && is_of_kind m u.one
 
-abbrev year : ℕ
-year = seconds_per_year * nanos_per_second
+abbrev is_word : ℕ → ℕ → List ℕ → Bool
+is_word w m word = is_utf8 word && counts w m (scale_of_word (chars word)) && list_all is_letter (chars word) && begins is_letter (chars word)
 
-abbrev month : ℕ
-month = seconds_per_month * nanos_per_second
+of_kind-true : (m : ℕ) (x : Addition) → is_of_kind m x ≡ true → IsOfKind m x
+of_kind-true m (Nanos n) h = grind (arith, nat_tests)
+of_kind-true m (Seconds n) h = tt
+
+counts_unit : (w m : ℕ) (o : Option Scale) → counts w m o ≡ true → (u : Scale) × (o ≡ Some u) × Counts w m u
+counts_unit w m o h = grind (arith, common_steps, nat_tests, of_kind-true)
+
+only_from : (p : ℕ → Bool) (cs : List ℕ) → list_all p cs ≡ true → Only p cs
+only_from p [] h = tt
+only_from p (c ∷ cs) h = grind (arith, common_steps, (only_from p cs))
+
+is_word-true : (w m : ℕ) (word : List ℕ) → is_word w m word ≡ true → IsWord w m word
+is_word-true w m word h = grind (arith, common_steps, IsUtf8-from_is_utf8, counts_unit, only_from)
+
+word_either : (w m : ℕ) (s : Suffix) (many : Bool) → is_word w m (word_of s true) ≡ true → is_word w m (word_of s false) ≡ true → IsWord w m (word_of s many)
+word_either w m s true h k = is_word-true w m (word_of s true) h
+word_either w m s false h k = is_word-true w m (word_of s false) k
+
+-- each suffix gives words of its weight, where less than m is left
+abbrev pub Table : List ℕ → List Suffix → ℕ → Type 0
+Table [] [] m = m ≡ 1
+Table (w ∷ ws) (s ∷ ss) m = ((many : Bool) → IsWord w m (word_of s many)) × Table ws ss w
+Table [] (s ∷ ss) m = ⊥
+Table (w ∷ ws) [] m = ⊥
+
+abbrev is_table : List ℕ → List Suffix → ℕ → Bool
+is_table [] [] m = m == 1
+is_table (w ∷ ws) (s ∷ ss) m = is_word w m (word_of s true) && is_word w m (word_of s false) && is_table ws ss w
+is_table [] (s ∷ ss) m = false
+is_table (w ∷ ws) [] m = false
+
+three : (a b c : Bool) → (a && b && c) ≡ true → (a ≡ true) × (b ≡ true) × (c ≡ true)
+three a b c h = grind (arith, common_steps)
+
+is_table-true : (ws : List ℕ) (ss : List Suffix) (m : ℕ) → is_table ws ss m ≡ true → Table ws ss m
+is_table-true [] [] m h = grind (arith, common_steps, nat_tests)
+is_table-true [] (s ∷ ss) m h = absurd (cc)
+is_table-true (w ∷ ws) [] m h = absurd (cc)
+is_table-true (w ∷ ws) (s ∷ ss) m h =
+    let parts = three (is_word w m (word_of s true)) (is_word w m (word_of s false)) (is_table ws ss w) h in
+    (λ many. word_either w m s many parts.0 parts.1, is_table-true ws ss w parts.2)
 
 -- a bound of all durations
 abbrev pub most : ℕ
 most = 2 ^ 64 * nanos_per_second
 
-years : (b : Bool) → IsWord year most (codes "year" ++ cond b (codes "s") [])
+is_so : is_table weights suffixes most ≡ true
 unfolding is_letter scale_of_word is_utf8 chars encode
-years true = known _ _ (codes "years") (in_seconds seconds_per_year) refl refl refl (omega arith) (inl refl) refl refl
-years false = known _ _ (codes "year") (in_seconds seconds_per_year) refl refl refl (omega arith) (inl refl) refl refl
-
-months : (b : Bool) → IsWord month year (codes "month" ++ cond b (codes "s") [])
-unfolding is_letter scale_of_word is_utf8 chars encode
-months true = known _ _ (codes "months") (in_seconds seconds_per_month) refl refl refl (omega arith) (inl refl) refl refl
-months false = known _ _ (codes "month") (in_seconds seconds_per_month) refl refl refl (omega arith) (inl refl) refl refl
-
-days : (b : Bool) → IsWord (seconds_per_day * nanos_per_second) month (codes "day" ++ cond b (codes "s") [])
-unfolding is_letter scale_of_word is_utf8 chars encode
-days true = known _ _ (codes "days") (in_seconds seconds_per_day) refl refl refl (omega arith) (inl refl) refl refl
-days false = known _ _ (codes "day") (in_seconds seconds_per_day) refl refl refl (omega arith) (inl refl) refl refl
-
-hours : IsWord (seconds_per_hour * nanos_per_second) (seconds_per_day * nanos_per_second) (codes "h")
-unfolding is_letter scale_of_word is_utf8 chars encode
-hours = known _ _ (codes "h") (in_seconds seconds_per_hour) refl refl refl (omega arith) (inl refl) refl refl
-
-minutes : IsWord (seconds_per_minute * nanos_per_second) (seconds_per_hour * nanos_per_second) (codes "m")
-unfolding is_letter scale_of_word is_utf8 chars encode
-minutes = known _ _ (codes "m") (in_seconds_and_nanos seconds_per_minute) refl refl refl (omega arith) (inl refl) refl refl
-
-pub seconds : IsWord nanos_per_second (seconds_per_minute * nanos_per_second) (codes "s")
-unfolding is_letter scale_of_word is_utf8 chars encode
-seconds = known _ _ (codes "s") (in_seconds_and_nanos 1) refl refl refl (omega arith) (inl refl) refl refl
-
-millis : IsWord nanos_per_milli nanos_per_second (codes "ms")
-unfolding is_letter scale_of_word is_utf8 chars encode
-millis = known _ _ (codes "ms") (in_nanos nanos_per_milli) refl refl refl (omega arith) (inr (refl, omega arith)) refl refl
-
-micros_word : IsWord nanos_per_micro nanos_per_milli micro_suffix
-unfolding is_letter scale_of_word is_utf8 chars encode
-micros_word = known _ _ micro_suffix (in_nanos nanos_per_micro) refl refl refl (omega arith) (inr (refl, omega arith)) refl refl
-
-nanos : IsWord 1 nanos_per_micro (codes "ns")
-unfolding is_letter scale_of_word is_utf8 chars encode
-nanos = known _ _ (codes "ns") whole_nanos refl refl refl (omega arith) (inr (refl, omega arith)) refl refl
-
--- each suffix gives words of its weight, where less than m is left
-abbrev pub Table : List ℕ → List Suffix → ℕ → Type 0
-Table [] [] m = m ≡ 1
-Table (w ∷ ws) (s ∷ ss) m = ((n : ℕ) → IsWord w m (word_for n s)) × Table ws ss w
-Table [] (s ∷ ss) m = ⊥
-Table (w ∷ ws) [] m = ⊥
+is_so = refl
 
 pub table : Table weights suffixes most
-table = grind (arith, common_steps, years, months, days, hours, minutes, seconds, millis, micros_word, nanos)
+table = is_table-true weights suffixes most is_so

@@ -1,111 +1,73 @@
 -- A printed text is spans within all limits, which add up to its duration.
 use Rattle.std.proofs.lemmas.Grind.{common_steps}
-use Rattle.std.proofs.Common.{◌≡◌, ◌≢◌, ◌⊎◌, inl, inr, ℕ, zero, suc, ◌+◌, ◌*◌, ◌/◌, ◌%◌, ◌^◌, ◌<◌, ◌≤◌, List, [], ◌∷◌, ◌++◌, length, Option, Some, None, refl, sym, ap, subst, ◌∙◌, arith, rules}
-use Rattle.std.specs.Prelude.{IsSome, codes, decimal, chars}
+use Rattle.std.proofs.Common.{◌≡◌, ◌≢◌, ◌⊎◌, inl, inr, ℕ, ◌+◌, ◌*◌, ◌/◌, ◌%◌, ◌^◌, ◌<◌, ◌≤◌, true, false, List, [], ◌∷◌, ◌++◌, length, None, Some, refl, sym, ap, subst, ◌∙◌, arith, rules}
+use Rattle.std.specs.Prelude.{IsAscii, codes, decimal, chars, map, nat_lt}
 use Rattle.std.specs.Str.{IsUtf8}
-use Rattle.std.specs.List.{AllByRecursion, join_with_byte}
-use Rattle.std.proofs.Math.Nat.{mul_assoc}
+use Rattle.std.specs.List.{AllByRecursion, filter, zip, join_with_byte}
+use Rattle.std.proofs.Math.Nat.{mul_assoc, mul_comm}
 use Rattle.std.proofs.lemmas.Nat.{mod_below}
+use Rattle.std.proofs.lemmas.Bool.{cases_Bool}
+use Rattle.std.proofs.lemmas.Bool.Decides.{nat_tests}
 use Rattle.std.proofs.lemmas.List.{append_assoc, append-nil}
 use Rattle.std.proofs.lemmas.Str.{chars-append, chars-IsAscii, chars-nil, IsUtf8-append, IsUtf8-from_ascii}
 use Rattle.std.proofs.lemmas.Fmt.{IsAscii-decimal, decimal_digit}
 use Rattle.humantime.specs.Values.{nanos_per_second, seconds_per_minute}
 use Rattle.humantime.specs.Durations.Characters.{white_spaces, is_ws, decimal_value, u64_max}
-use Rattle.humantime.specs.Durations.Units.{Scale, scale_of_word}
-use Rattle.humantime.specs.Durations.Spans.{Span, Only, Spells, SpellsEach}
-use Rattle.humantime.specs.Durations.Accepted.{total, additions, Formed, Fits, HasRoom, Accepted, Sum_of}
+use Rattle.humantime.specs.Durations.Units.{Addition, Nanos, Seconds, Scale, scale_of_word}
+use Rattle.humantime.specs.Durations.Spans.{Span, Only, Spells, SpellsEach, Reads}
+use Rattle.humantime.specs.Durations.Accepted.{addition_nanos, amount, times, total, additions, value, Formed, Fits, Accepted, Sum_of}
 use Rattle.humantime.specs.References.Durations.Reading.{additions_of}
-use Rattle.humantime.specs.Durations.Counts.{weights, weighted_sum, suffixes, printed_count, printed_counts, joined_by_space, Canon}
-use Rattle.humantime.specs.References.Durations.Printing.{Suffix, without_plural, divided, duration_text}
+use Rattle.humantime.specs.Durations.Counts.{Suffix, weights, suffixes, printed_count, printed_counts, joined_by_space, Canon}
+use Rattle.humantime.specs.References.Durations.Printing.{without_plural, divided, duration_text}
 use Rattle.humantime.proofs.Durations.Reading.Spellings.{spells-append}
-use Rattle.humantime.proofs.Durations.Reading.Rooms.{RoomFrom, RoomFrom-append, total-append, all_have_room}
+use Rattle.humantime.proofs.Durations.Reading.Settled.{value-cons}
+use Rattle.humantime.proofs.Durations.Laws.JoinedTexts.{each-append}
+use Rattle.humantime.proofs.Durations.Laws.SmallAdditions.{IsSmall, small_have_room}
 use Rattle.humantime.proofs.Durations.Printing.PrintedDigits.{decimal_number}
-use Rattle.humantime.proofs.Durations.Printing.PrintedRows.{word_for, span_for, IsWord, Table, table, most, seconds}
-use Rattle.humantime.proofs.Durations.Printing.GreatestCounts.{canon_is_text, divided_sum, length-divided, weights_reach}
+use Rattle.humantime.proofs.Durations.Printing.PrintedRows.{space, word_for, span_for, IsOfKind, IsWord, Counts, Table, table, most}
+use Rattle.humantime.proofs.Durations.Printing.GreatestCounts.{canon_is_text}
 
--- the span keeps its limits after t nanoseconds, and is worth v
-pub record RowGood (t v : ℕ) (s : Span) : Type 0 where
-  pub formed : Formed s
-  pub fits : Fits s
-  pub room : RoomFrom t (additions_of s)
-  pub worth : total (additions_of s) ≡ v
+-- The count is printed as the text of its span, which keeps all limits.
+pub record IsRow (n : ℕ) (s : Suffix) : Type 0 where
+  pub utf8 : IsUtf8 (printed_count n s)
+  pub spells : (white : List ℕ) → Only is_ws white → Spells (chars (printed_count n s) ++ white) (span_for n s) []
+  pub formed : Formed (span_for n s)
+  pub fits : Fits (span_for n s)
+  pub small : AllByRecursion IsSmall (additions_of (span_for n s))
 
-is_some_at : (o : Option Scale) (u : Scale) → o ≡ Some u → IsSome o
-is_some_at o u e = rw e refl
-
-pub adds_one : (n : ℕ) (word : List ℕ) (u : Scale) → scale_of_word word ≡ Some u → decimal_value (decimal n) ≡ n
-    → additions_of (record { number = decimal n; fraction = None; word = word }) ≡ record { base = u.base; amount = n * u.factor } ∷ []
+adds_one : (n : ℕ) (word : List ℕ) (u : Scale) → scale_of_word word ≡ Some u → decimal_value (decimal n) ≡ n
+    → additions_of (record { number = decimal n; fraction = None; word = word }) ≡ times n u.one ∷ []
 adds_one n word u e v = grind (arith, common_steps)
 
-fits_one : (n : ℕ) (word : List ℕ) (u : Scale) → scale_of_word word ≡ Some u → decimal_value (decimal n) ≡ n → n * u.factor ≤ u64_max
+fits_one : (n : ℕ) (word : List ℕ) (u : Scale) → scale_of_word word ≡ Some u → decimal_value (decimal n) ≡ n → n * amount u.one ≤ u64_max
     → Fits (record { number = decimal n; fraction = None; word = word })
 fits_one n word u e v h = rw e (rw v h, tt)
 
--- y times the base is at most r, which is what is left behind t
-record IsSmall (t r m y base : ℕ) : Type 0 where
-  left : base * y ≤ r
-  below : r < m
-  whole : (t + r) / nanos_per_second ≤ u64_max
-  kind : (base ≡ nanos_per_second) ⊎ ((base ≡ 1) × (m ≤ nanos_per_second))
+-- the count and what it adds, where less than m is left
+record IsFew (w m n : ℕ) (u : Scale) : Type 0 where
+  nanos : addition_nanos (times n u.one) ≡ w * n
+  count : n < 2 ^ 64
+  amount : n * amount u.one ≤ u64_max
+  small : IsSmall (times n u.one)
 
-small_fits : (t r m y base : ℕ) → IsSmall t r m y base → y ≤ u64_max
-small_fits t r m y base h = grind (arith, common_steps)
+times_nanos : (n : ℕ) (x : Addition) → addition_nanos (times n x) ≡ addition_nanos x * n
+times_nanos n (Nanos k) = mul_comm n k
+times_nanos n (Seconds k) = grind (arith, mul_comm, mul_assoc)
 
-small_room : (t r m y base : ℕ) → IsSmall t r m y base → HasRoom t (record { base = base; amount = y })
-small_room t r m y base h = grind (arith, common_steps)
+-- an addition of less than m and of less than all durations
+few_of : (m n : ℕ) (x : Addition) → IsOfKind m x → addition_nanos (times n x) < m → addition_nanos (times n x) < most
+    → (n * amount x ≤ u64_max) × IsSmall (times n x)
+few_of m n (Nanos k) kind below whole = (omega arith, omega arith)
+few_of m n (Seconds k) kind below whole = (omega arith, tt)
 
--- a count of n that is worth w each
-row_small : (t r m w n : ℕ) (word : List ℕ) (i : IsWord w m word) → r < m → w * n ≤ r → (t + r) / nanos_per_second ≤ u64_max
-    → IsSmall t r m (n * i.unit.factor) i.unit.base
-row_small t r m w n word i below left whole = grind (arith, common_steps, mul_assoc)
+mul_positive : (n k : ℕ) → 0 < k → n ≤ n * k
+mul_positive n k h = grind arith
 
-word_count : (t r m w n : ℕ) (word : List ℕ) (i : IsWord w m word) → r < m → w * n ≤ r → (t + r) / nanos_per_second ≤ u64_max → n < 2 ^ 64
-word_count t r m w n word i below left whole = grind (arith, common_steps)
-
-row_good : (t r m w n : ℕ) (s : Suffix) → IsWord w m (word_for n s) → r < m → w * n ≤ r → (t + r) / nanos_per_second ≤ u64_max → RowGood t (w * n) (span_for n s)
-row_good t r m w n s i below left whole = grind (arith, common_steps, (row_small t r m w n (word_for n s) i below left whole), (decimal_number n (word_count t r m w n (word_for n s) i below left whole)).value, (adds_one n (chars (word_for n s)) i.unit i.is ((decimal_number n (word_count t r m w n (word_for n s) i below left whole)).value)), word_count, word_for, is_some_at, fits_one, small_fits, small_room, mul_assoc)
-
--- the spans of the counts that are not zero
-abbrev pub spans_for : List ℕ → List Suffix → List Span
-spans_for [] ss = []
-spans_for (n ∷ ns) [] = []
-spans_for (zero ∷ ns) (s ∷ ss) = spans_for ns ss
-spans_for (suc n ∷ ns) (s ∷ ss) = span_for (suc n) s ∷ spans_for ns ss
-
-abbrev pub IsCount : ℕ → Type 0
-IsCount n = n < 2 ^ 64
-
--- the spans keep their limits after t nanoseconds, and add up to the counts' sum
-pub record RowsGood (t : ℕ) (ws ns : List ℕ) (ss : List Suffix) : Type 0 where
-  pub formed : AllByRecursion Formed (spans_for ns ss)
-  pub fit : AllByRecursion Fits (spans_for ns ss)
-  pub room : RoomFrom t (additions (spans_for ns ss))
-  pub sum : total (additions (spans_for ns ss)) ≡ weighted_sum ws ns
-  pub small : AllByRecursion IsCount ns
-
-rows_cons : (t w q : ℕ) (ws ns : List ℕ) (s : Suffix) (ss : List Suffix) → RowGood t (w * q) (span_for q s) → RowsGood (t + w * q) ws ns ss → q < 2 ^ 64
-    → RowsGood t (w ∷ ws) (q ∷ ns) (s ∷ ss)
-rows_cons t w q ws ns s ss h k e = grind (arith, common_steps)
-
-pub weight_positive : (w m : ℕ) (word : List ℕ) → IsWord w m word → 0 < w
-weight_positive w m word i = grind (arith, common_steps)
-
-pub rows_good : (ws : List ℕ) (ss : List Suffix) (m r t : ℕ) → Table ws ss m → r < m → (t + r) / nanos_per_second ≤ u64_max → RowsGood t ws (divided ws r) ss
-rows_good [] [] m r t h below whole = record { formed = tt; fit = tt; room = tt; sum = refl; small = tt }
-rows_good [] (s ∷ ss) m r t h below whole = absurd h
-rows_good (w ∷ ws) [] m r t h below whole = absurd h
-rows_good (w ∷ ws) (s ∷ ss) m r t h below whole =
-    let q = r / w in
-    let word = h.0 q in
-    let positive : 0 < w = weight_positive w m (word_for q s) word in
-    let least : w * q ≤ r = omega (arith) in
-    let total_same : (t + w * q) + r % w ≡ t + r = omega (arith) in
-    rows_cons t w q ws (divided ws (r % w)) s ss
-    (row_good t r m w q s word below least whole)
-    (rows_good ws ss w (r % w) (t + w * q) h.1 (mod_below r w positive) (subst (λ k. k / nanos_per_second ≤ u64_max) (sym total_same) whole))
-    (word_count t r m w q (word_for q s) word below least whole)
-
--- ---- the text of these spans
+row_few : (w m n : ℕ) (u : Scale) → Counts w m u → w * n < m → w * n < most → IsFew w m n u
+row_few w m n u c below whole =
+    let nanos = times_nanos n u.one ∙ ap (λ (k : ℕ). k * n) c.weight in
+    let few = few_of m n u.one c.kind (omega (arith, nanos)) (omega (arith, nanos)) in
+    record { nanos = nanos; count = omega (arith, mul_positive n (amount u.one) c.some, few.0); amount = few.0; small = few.1 }
 
 decimal_utf8 : (n : ℕ) → n < 2 ^ 64 → IsUtf8 (decimal n)
 decimal_utf8 n h = IsUtf8-from_ascii (decimal n) (IsAscii-decimal n h)
@@ -116,85 +78,153 @@ count_utf8 n s h word = rw append_assoc (IsUtf8-append (decimal n) (word_for n s
 count_chars : (n : ℕ) (s : Suffix) → n < 2 ^ 64 → chars (printed_count n s) ≡ decimal n ++ chars (word_for n s)
 count_chars n s h = grind (arith, common_steps, chars-append, decimal_utf8, chars-IsAscii, IsAscii-decimal)
 
-count_spells : (n w m : ℕ) (s : Suffix) (space : List ℕ) → n < 2 ^ 64 → IsWord w m (word_for n s) → Only is_ws space → Spells (chars (printed_count n s) ++ space) (span_for n s) []
-count_spells n w m s space h i only = grind (arith, common_steps, (decimal_number n h), count_chars)
+row_worth : (w m n : ℕ) (s : Suffix) → IsWord w m (word_for n s) → w * n < m → w * n < most → total (additions_of (span_for n s)) ≡ w * n
+row_worth w m n s i below whole =
+    let few = row_few w m n i.unit i.counts below whole in
+    rw (adds_one n (chars (word_for n s)) i.unit i.is (decimal_number n few.count).value) (omega (arith, few.nanos))
 
-space_is : Only is_ws (32 ∷ [])
+count_spells : (n w m : ℕ) (s : Suffix) (white : List ℕ) → n < 2 ^ 64 → IsWord w m (word_for n s) → Only is_ws white
+    → Spells (chars (printed_count n s) ++ white) (span_for n s) []
+count_spells n w m s white h i only = grind (arith, common_steps, (decimal_number n h), count_chars)
+
+row : (w m n : ℕ) (s : Suffix) → IsWord w m (word_for n s) → w * n < m → w * n < most → IsRow n s
+row w m n s i below whole =
+    let few = row_few w m n i.unit i.counts below whole in
+    let number = decimal_number n few.count in
+    record {
+      utf8 = count_utf8 n s few.count i.utf8;
+      spells = λ white only. count_spells n w m s white few.count i only;
+      formed = record { numbers = record { number = omega (arith, number.value); fraction = tt }; word = rw i.is refl };
+      fits = fits_one n (chars (word_for n s)) i.unit i.is number.value few.amount;
+      small = rw (adds_one n (chars (word_for n s)) i.unit i.is number.value) (few.small, tt);
+    }
+
+-- the counts that are not zero, each with its suffix, and their spans
+abbrev pub shown : List ℕ → List Suffix → List (ℕ × Suffix)
+shown ns ss = filter (λ c. nat_lt 0 c.0) (zip ns ss)
+
+abbrev pub spans_of : List (ℕ × Suffix) → List Span
+spans_of rows = map (λ c. span_for c.0 c.1) rows
+
+abbrev pub IsCount : ℕ → Type 0
+IsCount n = n < 2 ^ 64
+
+-- The counts of d are rows, and their spans add up to it.
+pub record AreRows (d : ℕ) (ns : List ℕ) (ss : List Suffix) : Type 0 where
+  pub each : AllByRecursion (λ c. IsRow c.0 c.1) (shown ns ss)
+  pub sum : value (spans_of (shown ns ss)) ≡ d
+  pub small : AllByRecursion IsCount ns
+
+weight_positive : (w m : ℕ) (u : Scale) → Counts w m u → 0 < w
+weight_positive w m u c = grind (arith, common_steps)
+
+rows_cons : (w q r d : ℕ) (ns : List ℕ) (s : Suffix) (ss : List Suffix) → w * q + r ≡ d → q < 2 ^ 64
+    → IsRow q s → total (additions_of (span_for q s)) ≡ w * q → AreRows r ns ss → AreRows d (q ∷ ns) (s ∷ ss)
+rows_cons w q r d ns s ss e count row worth rest = elim (cases_Bool (nat_lt 0 q)) [
+  | inl some ↦ record { each = rw some (row, rest.each); sum = rw some (value-cons (span_for q s) (spans_of (shown ns ss)) ∙ omega (arith, worth, rest.sum)); small = (count, rest.small) }
+  | inr zero ↦ record { each = rw zero rest.each; sum = rw zero (grind (arith, nat_tests, rest.sum)); small = (count, rest.small) }
+]
+
+pub rows : (ws : List ℕ) (ss : List Suffix) (m d : ℕ) → Table ws ss m → d < m → d < most → AreRows d (divided ws d) ss
+rows [] [] m d h below whole = record { each = tt; sum = omega arith; small = tt }
+rows [] (s ∷ ss) m d h below whole = absurd h
+rows (w ∷ ws) [] m d h below whole = absurd h
+rows (w ∷ ws) (s ∷ ss) m d h below whole =
+    let q = d / w in
+    let word = h.0 (nat_lt 1 q) in
+    let positive : 0 < w = weight_positive w m word.unit word.counts in
+    let least : w * q ≤ d = omega arith in
+    let few = row_few w m q word.unit word.counts (omega arith) (omega arith) in
+    rows_cons w q (d % w) d (divided ws (d % w)) s ss (omega arith) few.count
+    (row w m q s word (omega arith) (omega arith)) (row_worth w m q s word (omega arith) (omega arith))
+    (rows ws ss w (d % w) h.1 (mod_below d w positive) (omega arith))
+
+-- ---- the text of these spans
+
+space_is : Only is_ws (space ∷ [])
 unfolding is_ws white_spaces
 space_is = (refl, tt)
 
-chars_space : (bs : List ℕ) → chars (32 ∷ bs) ≡ 32 ∷ chars bs
-chars_space bs = chars-append (32 ∷ []) bs (IsUtf8-from_ascii (32 ∷ []) (search rules)) ∙ ap (λ l. l ++ chars bs) (chars-IsAscii (32 ∷ []) (search rules))
+chars_space : (p q : List ℕ) → IsUtf8 p → chars (p ++ space ∷ q) ≡ (chars p ++ space ∷ []) ++ chars q
+chars_space p q utf8 =
+    let ascii : IsAscii (space ∷ []) = search rules in
+    grind (arith, common_steps, (chars-append p (space ∷ q) utf8), (chars-append (space ∷ []) q (IsUtf8-from_ascii (space ∷ []) ascii)), (chars-IsAscii (space ∷ []) ascii), append_assoc)
 
--- a count, and a space and others behind it
-join_spells : (p : List ℕ) (ps : List (List ℕ)) (s : Span) (spans : List Span) → IsUtf8 p → ((space : List ℕ) → Only is_ws space → Spells (chars p ++ space) s [])
-    → SpellsEach (chars (join_with_byte 32 ps)) spans → SpellsEach (chars (join_with_byte 32 (p ∷ ps))) (s ∷ spans)
-join_spells p [] s spans utf8 spells each =
-    let whole = sym (append-nil (chars p)) ∙ sym (ap (λ l. (chars p ++ []) ++ l) chars-nil ∙ append-nil (chars p ++ [])) in
-    (chars [], subst (λ l. Spells l s (chars [])) (sym whole) (spells-append (chars p ++ []) [] (chars []) s (spells [] tt)), each)
-join_spells p (q ∷ qs) s spans utf8 spells each = grind (arith, common_steps, (chars-append p (32 ∷ (join_with_byte 32 (q ∷ qs))) utf8 ∙ ap (λ l. chars p ++ l) (chars_space (join_with_byte 32 (q ∷ qs))) ∙ sym (append_assoc (chars p) (32 ∷ []) (chars (join_with_byte 32 (q ∷ qs))))), space_is)
+-- the rows' text, with a space between each two
+abbrev pub rows_text : List (ℕ × Suffix) → List ℕ
+rows_text rows = join_with_byte space (map (λ c. printed_count c.0 c.1) rows)
 
-pub counts_spell : (ws ns : List ℕ) (ss : List Suffix) (m : ℕ) → Table ws ss m → length ns ≡ length ws → AllByRecursion IsCount ns
-    → SpellsEach (chars (join_with_byte 32 (printed_counts ns ss))) (spans_for ns ss)
-counts_spell [] [] [] m h l small = chars-nil
-counts_spell [] [] (s ∷ ss) m h l small = absurd h
-counts_spell [] (n ∷ ns) ss m h l small = absurd (omega arith)
-counts_spell (w ∷ ws) [] ss m h l small = absurd (omega arith)
-counts_spell (w ∷ ws) (n ∷ ns) [] m h l small = absurd h
-counts_spell (w ∷ ws) (zero ∷ ns) (s ∷ ss) m h l small = counts_spell ws ns ss w h.1 (omega arith) small.1
-counts_spell (w ∷ ws) (suc n ∷ ns) (s ∷ ss) m h l small =
-    let i = h.0 (suc n) in
-    join_spells (printed_count (suc n) s) (printed_counts ns ss) (span_for (suc n) s) (spans_for ns ss)
-    (count_utf8 (suc n) s small.0 i.utf8)
-    (λ space only. count_spells (suc n) w m s space small.0 i only)
-    (counts_spell ws ns ss w h.1 (omega arith) small.1)
+abbrev pub AllRows : List (ℕ × Suffix) → Type 0
+AllRows rows = AllByRecursion (λ c. IsRow c.0 c.1) rows
 
-pub both_empty : (ns : List ℕ) (ss : List Suffix) → ((printed_counts ns ss ≡ []) × (spans_for ns ss ≡ [])) ⊎ ((printed_counts ns ss ≢ []) × (spans_for ns ss ≢ []))
-both_empty [] ss = inl (refl, refl)
-both_empty (n ∷ ns) [] = inl (refl, refl)
-both_empty (zero ∷ ns) (s ∷ ss) = both_empty ns ss
-both_empty (suc n ∷ ns) (s ∷ ss) = inr ((λ e. cc), (λ e. cc))
+rows_spell : (rows : List (ℕ × Suffix)) → AllRows rows → SpellsEach (chars (rows_text rows)) (spans_of rows)
+rows_spell [] h = chars-nil
+rows_spell (c ∷ []) h = ([], subst (λ l. Spells l (span_for c.0 c.1) []) (append-nil (chars (printed_count c.0 c.1))) (h.0.spells [] tt), refl)
+rows_spell (c ∷ d ∷ rows) h =
+    let rest = chars (rows_text (d ∷ rows)) in
+    let here = spells-append (chars (printed_count c.0 c.1) ++ space ∷ []) [] rest (span_for c.0 c.1) (h.0.spells (space ∷ []) space_is) in
+    (rest, rw (chars_space (printed_count c.0 c.1) (rows_text (d ∷ rows)) h.0.utf8) here, rows_spell (d ∷ rows) h.1)
 
-pub joined_some : (ps : List (List ℕ)) → ps ≢ [] → joined_by_space ps ≡ join_with_byte 32 ps
-joined_some ps h = grind (arith, common_steps)
+record AreWithin (spans : List Span) : Type 0 where
+  formed : AllByRecursion Formed spans
+  fit : AllByRecursion Fits spans
+  small : AllByRecursion IsSmall (additions spans)
 
--- spans within the limits are accepted
-accepted_spans : (text : List ℕ) (spans : List Span) (v : ℕ) → SpellsEach text spans → spans ≢ [] → AllByRecursion Formed spans → AllByRecursion Fits spans
-    → RoomFrom 0 (additions spans) → total (additions spans) ≡ v → Accepted text v
-accepted_spans text spans v each some formed fit room sum =
-    Sum_of spans (record { space = []; body = text; whole = refl; only_space = tt; each = each }, some)
-    (record { formed = formed; fit = fit; room = all_have_room (additions spans) room }) sum
+rows_within : (rows : List (ℕ × Suffix)) → AllRows rows → AreWithin (spans_of rows)
+rows_within [] h = record { formed = tt; fit = tt; small = tt }
+rows_within (c ∷ rows) h = grind (arith, common_steps, (rows_within rows h.1), each-append)
 
--- zero seconds
+-- The bytes are spans within the limits that add up to d, of small additions.
+pub record IsPrinted (bytes : List ℕ) (d : ℕ) : Type 0 where
+  pub spans : List Span
+  pub reads : Reads (chars bytes) spans
+  pub formed : AllByRecursion Formed spans
+  pub fit : AllByRecursion Fits spans
+  pub small : AllByRecursion IsSmall (additions spans)
+  pub sum : value spans ≡ d
+
+rows_printed : (c : ℕ × Suffix) (rows : List (ℕ × Suffix)) (d : ℕ) → AllRows (c ∷ rows) → value (spans_of (c ∷ rows)) ≡ d
+    → IsPrinted (rows_text (c ∷ rows)) d
+rows_printed c rows d h sum =
+    let within = rows_within (c ∷ rows) h in
+    record {
+      spans = spans_of (c ∷ rows);
+      reads = (record { space = []; body = _; whole = refl; only_space = tt; each = rows_spell (c ∷ rows) h }, λ e. cc);
+      formed = within.formed;
+      fit = within.fit;
+      small = within.small;
+      sum = sum;
+    }
+
+-- where no count is left, there are zero seconds
 zero_text : codes "0s" ≡ printed_count 0 (without_plural (codes "s"))
 zero_text = rw (decimal_digit 0 (omega arith)) refl
 
-zero_reads : Accepted (chars (codes "0s")) 0
-zero_reads =
+zero_printed : IsPrinted (codes "0s") 0
+zero_printed =
     let s = without_plural (codes "s") in
-    let row = row_good 0 0 (seconds_per_minute * nanos_per_second) nanos_per_second 0 s seconds (omega arith) (omega arith) (omega arith) in
-    let spells = count_spells 0 nanos_per_second (seconds_per_minute * nanos_per_second) s [] (omega arith) seconds tt in
-    let here = chars (printed_count 0 s) in
-    let each : SpellsEach here (span_for 0 s ∷ []) = ([], subst (λ l. Spells l (span_for 0 s) []) (append-nil here) spells, refl) in
-    let adds = additions_of (span_for 0 s) in
-    subst (λ l. Accepted (chars l) 0) (sym zero_text)
-    (accepted_spans here (span_for 0 s ∷ []) 0 each (λ e. cc) (row.formed, tt) (row.fits, tt) (RoomFrom-append 0 adds [] row.room tt) (omega (arith, total-append adds [], row.worth)))
+    let minute = seconds_per_minute * nanos_per_second in
+    let second = table.1.1.1.1.1.0 false in
+    let worth = row_worth nanos_per_second minute 0 s second (omega arith) (omega arith) in
+    let here = row nanos_per_second minute 0 s second (omega arith) (omega arith) in
+    rw zero_text (rows_printed (0, s) [] 0 (here, tt) (value-cons (span_for 0 s) [] ∙ omega (arith, worth)))
 
-divided_reads : (d : ℕ) → d / nanos_per_second ≤ u64_max → Accepted (chars (joined_by_space (printed_counts (divided weights d) suffixes))) d
-divided_reads d h =
-    let ns = divided weights d in
-    let rows = rows_good weights suffixes most d 0 table (omega arith) (omega arith) in
-    let sum : total (additions (spans_for ns suffixes)) ≡ d = rows.sum ∙ divided_sum weights (suc d) d (weights_reach (suc d)) (omega arith) in
-    elim (both_empty ns suffixes) [
-      | inl e ↦
-          let zero : 0 ≡ d = subst (λ l. total (additions l) ≡ d) e.1 sum in
-          subst (λ l. Accepted (chars (joined_by_space l)) d) (sym e.0) (subst (λ v. Accepted (chars (codes "0s")) v) zero zero_reads)
-      | inr e ↦
-          subst (λ l. Accepted (chars l) d) (sym (joined_some (printed_counts ns suffixes) e.0))
-          (accepted_spans _ (spans_for ns suffixes) d (counts_spell weights ns suffixes most table (length-divided weights d) rows.small) e.1 rows.formed rows.fit rows.room sum)
-    ]
+all_printed : (rows : List (ℕ × Suffix)) (d : ℕ) → AllRows rows → value (spans_of rows) ≡ d
+    → IsPrinted (joined_by_space (map (λ c. printed_count c.0 c.1) rows)) d
+all_printed [] d h sum = subst (IsPrinted (codes "0s")) sum zero_printed
+all_printed (c ∷ rows) d h sum = rows_printed c rows d h sum
+
+text_printed : (d : ℕ) → d / nanos_per_second ≤ u64_max → IsPrinted (duration_text d) d
+unfolding duration_text
+text_printed d h =
+    let all = rows weights suffixes most d table (omega arith) (omega arith) in
+    all_printed (shown (divided weights d) suffixes) d all.each all.sum
 
 -- the canonical text of a duration is accepted with it
+pub canon_printed : (d : ℕ) → d / nanos_per_second ≤ u64_max → (text : List ℕ) → Canon d text → IsPrinted text d
+canon_printed d h text canon = rw (canon_is_text d text canon) (text_printed d h)
+
 pub canon_reads : (d : ℕ) → d / nanos_per_second ≤ u64_max → (text : List ℕ) → Canon d text → Accepted (chars text) d
-unfolding duration_text
-canon_reads d h text canon = subst (λ l. Accepted (chars l) d) (sym (canon_is_text d text canon)) (divided_reads d h)
+canon_reads d h text canon =
+    let is = canon_printed d h text canon in
+    Sum_of is.spans is.reads (record { formed = is.formed; fit = is.fit; room = small_have_room (additions is.spans) is.small (rw is.sum h) }) is.sum

@@ -1,33 +1,25 @@
 -- What holds of printed texts, for every duration and every text.
 use Rattle.std.proofs.lemmas.Grind.{common_steps}
 use Rattle.std.proofs.Common.{◌≡◌, ℕ, ◌+◌, ◌/◌, ◌≤◌, List, [], ◌∷◌, sym, subst, ◌∙◌, arith}
-use Rattle.std.specs.Prelude.{chars, Result, Ok}
+use Rattle.std.specs.Prelude.{chars}
 use Rattle.humantime.specs.Values.{nanos_per_second}
 use Rattle.humantime.specs.Durations.Characters.{u64_max}
-use Rattle.humantime.specs.Durations.Accepted.{Addition, addition_nanos, total, Accepted}
-use Rattle.humantime.specs.Durations.Faults.{Fault}
+use Rattle.humantime.specs.Durations.Accepted.{Accepted}
 use Rattle.humantime.specs.Durations.Counts.{Canon, IsCanonicalOf}
 use Rattle.humantime.specs.References.Durations.Printing.{duration_text}
 use Rattle.humantime.specs.Laws.Printed.{HasOneText, TextsTellApart, HasCanonicalText, KeepsItsValue, KeepsItsText}
-use Rattle.humantime.proofs.Durations.Reading.Rooms.{RoomFrom, room_from_all}
+use Rattle.humantime.proofs.Durations.Reading.Rooms.{room_is_duration}
 use Rattle.humantime.proofs.Durations.Reading.Outcomes.{outcome_accepted}
 use Rattle.humantime.proofs.Durations.Printing.GreatestCounts.{text_is_canon, canon_is_text, one_canon}
 use Rattle.humantime.proofs.Durations.Printing.PrintedSpans.{canon_reads}
 
-ok_same : (v w : ℕ) → ◌≡◌ {A = Result ℕ Fault} (Ok v) (Ok w) → v ≡ w
-ok_same v w e = cc
-
 -- a text is accepted with at most one value
 same_read : (text : List ℕ) (u v : ℕ) → Accepted text u → Accepted text v → u ≡ v
-same_read text u v a b = ok_same u v (sym (outcome_accepted text u a) ∙ outcome_accepted text v b)
-
-room_fits : (t : ℕ) (xs : List Addition) → t / nanos_per_second ≤ u64_max → RoomFrom t xs → (t + total xs) / nanos_per_second ≤ u64_max
-room_fits t [] h room = omega arith
-room_fits t (x ∷ xs) h room = grind (arith, common_steps, (room_fits (t + addition_nanos x) xs room.0.1 room.1))
+same_read text u v a b = let one = sym (outcome_accepted text u a) ∙ outcome_accepted text v b in cc
 
 -- what is accepted is a duration
 accepted_fits : (text : List ℕ) (v : ℕ) → Accepted text v → v / nanos_per_second ≤ u64_max
-accepted_fits text v h = grind (arith, common_steps, room_fits, room_from_all)
+accepted_fits text v h = grind (arith, common_steps, room_is_duration)
 
 pub one_text : (d : ℕ) → HasOneText d
 one_text d = (duration_text d, text_is_canon d, canon_is_text d)

@@ -1,33 +1,28 @@
 -- What the printer shows is the printed text of the moment, and the only one.
 use Rattle.std.proofs.lemmas.Grind.{common_steps}
 use Rattle.std.proofs.Common.{◌≡◌, ℕ, ◌+◌, ◌-◌, ◌*◌, ◌/◌, ◌%◌, ◌^◌, ◌<◌, ◌≤◌, List, refl, ap, subst, ◌∙◌, arith}
-use Rattle.std.specs.Prelude.{◌↔◌, Bool, true, false, Some, None, ℤ, pos, negsuc, nat_lt, IsAscii, if◌then◌else◌}
+use Rattle.std.specs.Prelude.{◌↔◌, Bool, true, false, Some, None, ℤ, [], unwrap_or, min, pos, negsuc, nat_abs, nat_lt, IsAscii, if◌then◌else◌}
 use Rattle.std.specs.List.{AllByRecursion}
 use Rattle.std.proofs.Math.Nat.{mod-le}
 use Rattle.std.proofs.lemmas.Bool.{ltb-true, lt-ltb}
 use Rattle.std.proofs.lemmas.Int.{ints}
 use Rattle.std.proofs.lemmas.Option.{none-some, same_Some}
 use Rattle.humantime.proofs.Timestamps.Reading.Fractions.{digits_from}
-use Rattle.humantime.specs.declared.date.print.DateTime.{DateTime}
+use Rattle.humantime.specs.declared.calendar.Date.{Date}
+use Rattle.humantime.specs.Calendar.{day_of}
+use Rattle.humantime.specs.Values.{nano_of}
 use Rattle.humantime.specs.declared.date.print.Precision.{Precision}
-use Rattle.humantime.specs.declared.date.print.Rfc3339Timestamp.{Rfc3339Timestamp}
-use Rattle.humantime.specs.References.Calendar.DatesOfDays.{date_of}
-use Rattle.humantime.specs.Timestamps.Fields.{fields_text, moment_of}
-use Rattle.humantime.specs.Timestamps.Printed.{cut, year_10000, IsPrinted, IsPrintable}
+use Rattle.humantime.specs.Timestamps.Fields.{fields_text, fraction_nanos, moment_of}
+use Rattle.humantime.specs.Timestamps.Printed.{MomentToPrint, places_of, cut, year_10000, IsPrinted, IsPrintable}
 use Rattle.humantime.specs.Laws.Timestamps.{ReadsAs, OnePrinted}
-use Rattle.humantime.specs.References.Timestamps.Printing.{places, moment_kept, places_kept, places_of, fields_shown, fields_at, IsDateTimeOf, IsTextOf, printed_text, moment_text}
+use Rattle.humantime.specs.References.Timestamps.Printing.{places, IsSecondOf, cut_fraction, fields_shown, fields_at, printed_text, moment_text}
 use Rattle.humantime.proofs.Timestamps.Reading.Bytes.{HoldsOfBytes, holds_before_zone}
 use Rattle.humantime.proofs.Dates.DatesOfDays.{date_of_is}
 use Rattle.humantime.proofs.Timestamps.Printing.Digits.{shown_digits, shown_places, shown_nanos, cut_nanos}
-use Rattle.humantime.proofs.Timestamps.Printing.OneText.{same_printed}
+use Rattle.humantime.proofs.Timestamps.Printing.Order.{one_text}
 
 pub places_most : (p : Precision) → places p ≤ 9
 places_most p = grind (arith, common_steps)
-
--- no timestamp is printed with more than nine digits
-pub places_kept_bound : (x : Rfc3339Timestamp) → places_kept x ≤ 9
-unfolding places_kept
-places_kept_bound x = places_most x.precision
 
 pub places_of_bound : (t : ℤ) → places_of t ≤ 9
 places_of_bound t = grind (arith, common_steps)
@@ -35,37 +30,34 @@ places_of_bound t = grind (arith, common_steps)
 cut_pos : (t k : ℕ) → pos (t - t % 10 ^ (9 - k)) ≡ cut (pos t) k
 cut_pos t k = omega (arith, ints, mod-le t (10 ^ (9 - k)))
 
--- the parts of a moment's date and time show it, printed
-shown_moment : (x : DateTime) (t k : ℕ) → k ≤ 9 → IsDateTimeOf x (pos t) → moment_of (fields_shown x k) ≡ t - t % 10 ^ (9 - k)
-shown_moment x t k small h = grind (arith, common_steps, shown_nanos, cut_nanos)
+shown_moment : (t k time : ℕ) (date : Date) → k ≤ 9 → day_of date * 86_400 + time ≡ t / 1_000_000_000 → time < 86_400
+    → moment_of (fields_shown date time (t % 1_000_000_000) k) ≡ t - t % 10 ^ (9 - k)
+shown_moment t k time date small e within =
+    let n = t % 1_000_000_000 in
+    let clock : time / 3_600 * 3_600 + time / 60 % 60 * 60 + min (time % 60) 59 ≡ time = omega arith in
+    let nanos : fraction_nanos (unwrap_or (cut_fraction n k) []) ≡ n - n % 10 ^ (9 - k) = shown_nanos k n small (omega arith) in
+    rw nanos (omega (arith, cut_nanos k t small, mod-le n (10 ^ (9 - k))))
 
-pub shown_printed : (x : DateTime) (t : ℤ) (k : ℕ) → k ≤ 9 → IsDateTimeOf x t → IsPrinted t k (fields_text (fields_shown x k))
-shown_printed x (negsuc t) k small h = absurd (let whole = h.sum in let no : ⊥ = cc in no)
-shown_printed x (pos t) k small h = record {
+-- the parts of a moment show it, printed
+pub shown_printed : (t : ℤ) (k time : ℕ) (date : Date) → k ≤ 9 → IsSecondOf date time t → IsPrinted t k (fields_text (fields_shown date time (nano_of t) k))
+shown_printed (negsuc t) k time date small is = absurd (let whole = is.sum in let no : ⊥ = cc in no)
+shown_printed (pos t) k time date small is = record {
   few = small;
-  fields = fields_shown x k;
+  fields = fields_shown date time (t % 1_000_000_000) k;
   weak = record {
     shown = refl;
-    date = h.date;
-    hour = h.hour;
-    minute = h.minute;
-    second = omega (arith, h.second);
-    fraction = digits_from _ (shown_digits k x.nanos h.nanos);
+    date = is.date_exists;
+    hour = omega (arith, is.within_day);
+    minute = omega arith;
+    second = omega arith;
+    fraction = digits_from _ (shown_digits k (t % 1_000_000_000));
   };
   separator = refl;
   zone = refl;
-  second = h.second;
-  places = shown_places k x.nanos small;
-  moment = ap pos (shown_moment x t k small h) ∙ cut_pos t k;
+  second = omega arith;
+  places = shown_places k (t % 1_000_000_000) small;
+  moment = ap pos (shown_moment t k time date small (ap nat_abs is.sum) is.within_day) ∙ cut_pos t k;
 }
-
--- a printed text is one
-pub one_text : (t : ℤ) (k : ℕ) (x y : List ℕ) → IsPrinted t k x → IsPrinted t k y → x ≡ y
-one_text = same_printed
-
--- the text of a moment that is known by two equations
-pub printed_as : (x : Rfc3339Timestamp) (t : ℤ) (k : ℕ) (text : List ℕ) → moment_kept x ≡ t → places_kept x ≡ k → IsTextOf x text → IsPrinted t k text
-printed_as x t k text moment digits p = subst (λ (n : ℕ). IsPrinted t n text) digits (subst (λ (z : ℤ). IsPrinted z (places_kept x) text) moment p)
 
 -- it is ASCII
 ascii_bytes : HoldsOfBytes (λ c. c < 128)
@@ -77,46 +69,11 @@ ascii_from bs h = grind (arith, common_steps)
 pub printed_ascii : (t : ℤ) (k : ℕ) (text : List ℕ) → IsPrinted t k text → IsAscii text
 printed_ascii t k text p = grind (arith, common_steps, (holds_before_zone (λ c. c < 128) ascii_bytes text p.fields p.weak), ascii_from)
 
--- the date and the time of a moment of 1970 to 9999
-date_time_of : ℕ → DateTime
-date_time_of t = record {
-  date = date_of (t / 1_000_000_000 / 86_400);
-  hour = t / 1_000_000_000 % 86_400 / 3_600;
-  minute = t / 1_000_000_000 % 86_400 / 60 % 60;
-  second = t / 1_000_000_000 % 60;
-  nanos = t % 1_000_000_000;
-}
-
-clock_sum : (d s u n : ℕ) → d ≡ s / 86_400 → s ≡ u / 1_000_000_000 → n ≡ u % 1_000_000_000
-    → (d * 86_400 + s % 86_400 / 3_600 * 3_600 + s % 86_400 / 60 % 60 * 60 + s % 60) * 1_000_000_000 + n ≡ u
-clock_sum d s u n e f g = omega arith
-
-date_time_is : (t : ℕ) → t < year_10000 → IsDateTimeOf (date_time_of t) (pos t)
-unfolding date_time_of
-date_time_is t h =
-    let secs = t / 1_000_000_000 in
-    let date = date_of_is (secs / 86_400) (omega arith) in
-    record {
-      date = date.0;
-      hour = clock_hour secs;
-      minute = clock_minute secs;
-      second = clock_second secs;
-      nanos = omega arith;
-      sum = ap pos (clock_sum _ secs t (t % 1_000_000_000) date.1 refl refl);
-    } where
-      clock_hour : (s : ℕ) → s % 86_400 / 3_600 ≤ 23
-      clock_hour s = omega arith
-
-      clock_minute : (s : ℕ) → s % 86_400 / 60 % 60 ≤ 59
-      clock_minute s = omega arith
-
-      clock_second : (s : ℕ) → s % 60 ≤ 59
-      clock_second s = omega arith
-
--- the text that is found for such a moment is its printed one
+-- the text that is found for a moment of 1970 to 9999 is its printed one
 found_printed : (t k : ℕ) → k ≤ 9 → t < year_10000 → IsPrinted (pos t) k (fields_text (fields_at t k))
-unfolding date_time_of
-found_printed t k small within = shown_printed (date_time_of t) (pos t) k small (date_time_is t within)
+found_printed t k small within =
+    let date = date_of_is (t / 1_000_000_000 / 86_400) (omega arith) in
+    shown_printed (pos t) k _ _ small (record { date_exists = date.0; within_day = omega arith; sum = ap pos (omega (arith, date.1)) })
 
 -- the text that `Display` names is the printed one
 text_told : (t : ℤ) (k : ℕ) (text : List ℕ) → k ≤ 9 → moment_text t k ≡ Some text → IsPrintable t × IsPrinted t k text
@@ -140,8 +97,8 @@ text_from (pos t) k text small h p =
 pub text_displayed : (t : ℤ) (k : ℕ) (text : List ℕ) → k ≤ 9 → (moment_text t k ≡ Some text) ↔ (IsPrintable t × IsPrinted t k text)
 text_displayed t k text small = (text_told t k text small, (λ p. text_from t k text small p.0 p.1))
 
-pub printed_text_is : (x : Rfc3339Timestamp) (text : List ℕ) → IsPrintable (moment_kept x) → IsTextOf x text → printed_text x ≡ Some text
-printed_text_is x text h p = text_from (moment_kept x) (places_kept x) text (places_kept_bound x) h p
+pub printed_text_is : (x : MomentToPrint) (text : List ℕ) → IsPrintable x.moment → IsPrinted x.moment x.places text → printed_text x ≡ Some text
+printed_text_is x text h p = text_from x.moment x.places text p.few h p
 
 -- a printed text reads back as the moment, cut
 pub printed_reads : (t : ℤ) (k : ℕ) (text : List ℕ) → IsPrinted t k text → ReadsAs text (cut t k)

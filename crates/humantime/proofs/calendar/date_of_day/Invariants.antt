@@ -1,8 +1,9 @@
-use Rattle.std.proofs.Common.{◌≡◌, ◌+◌}
-use Rattle.humantime.proofs.Dates.March.{IsMonthBefore}
+use Rattle.std.proofs.Common.{◌≡◌, ◌+◌, ◌-◌}
+use Rattle.std.specs.Prelude.{min}
+use Rattle.humantime.specs.References.Calendar.March.{march_month}
 use Rattle.humantime.proofs.calendar.date_of_day.Given as goal
 
--- the month is the one so far, and each month was a turn
+-- so many months have begun before this day, and each was a turn
 abbrev pub invariant-loop-next : goal.invariant-loop-next
 invariant-loop-next l =
-    IsMonthBefore l.next l.left l.month × (l.turns + 1 ≡ l.initial.turns + l.next)
+    (l.month ≡ min (march_month l.left) (l.next - 1)) × (l.turns + 1 ≡ l.initial.turns + l.next)

@@ -1,21 +1,40 @@
--- Years that begin on 1 March, counted from 1 March 1600: the leap day is the last day of such a year.
--- Private helpers of the calendar speak of these, and so does `date_of`, by which a printed timestamp's date is found.
-use Rattle.std.specs.Prelude.{ℕ, ◌+◌, ◌-◌, ◌*◌, ◌/◌, [], ◌∷◌, slice_index_or}
-use Rattle.humantime.specs.Calendar.{days_in_year}
+-- The date of a day number, by years that begin on 1 March, counted from 1600-03-01: the leap day is the last day of such a year.
+-- `Display` of both timestamps names a text through it; nobody has to believe it, since a law says that this text is the one
+-- that is printed.
+use Rattle.std.specs.Prelude.{ℕ, ◌+◌, ◌-◌, ◌*◌, ◌/◌, ◌%◌, nat_lt, if◌then◌else◌}
+use Rattle.humantime.specs.declared.calendar.Date.{Date}
 
--- how many days lie before year n
+-- how many days lie before year n, and in a year before month k; March is month 0
 abbrev pub march_days : ℕ → ℕ
 march_days n = n * 365 + n / 4 - n / 100 + n / 400
 
--- how many days year n has: it ends with the February of the year 1601 + n
-abbrev pub march_year_length : ℕ → ℕ
-march_year_length n = days_in_year (1601 + n)
+abbrev pub march_months : ℕ → ℕ
+march_months k = (153 * k + 2) / 5
 
--- how many days month k has at most; March is month 0
-unfoldable pub march_length : ℕ → ℕ
-march_length k = slice_index_or (31 ∷ 30 ∷ 31 ∷ 30 ∷ 31 ∷ 31 ∷ 30 ∷ 31 ∷ 30 ∷ 31 ∷ 31 ∷ 29 ∷ []) k 0
+-- the year that holds the day n days after 1600-03-01: four centuries have 146097 days, and four years of a century 1461
+abbrev pub march_year : ℕ → ℕ
+march_year n =
+    let century = (4 * n + 3) / 146_097 in
+    let day = (4 * n + 3) % 146_097 / 4 in
+    100 * century + (4 * day + 3) / 1461
 
--- how many days lie before month k
-unfoldable pub march_months : ℕ → ℕ
-march_months k =
-    slice_index_or (0 ∷ 31 ∷ 61 ∷ 92 ∷ 122 ∷ 153 ∷ 184 ∷ 214 ∷ 245 ∷ 275 ∷ 306 ∷ 337 ∷ 366 ∷ []) k 0
+-- the month that holds a day of a year
+abbrev pub march_month : ℕ → ℕ
+march_month day = (5 * day + 2) / 153
+
+-- the date of a day of month k of year n
+abbrev pub march_date : ℕ → ℕ → ℕ → Date
+march_date n k day =
+    if nat_lt k 10
+    then record { year = 1600 + n; month = k + 3; day = day + 1 }
+    else record { year = 1601 + n; month = k - 9; day = day + 1 }
+
+-- the date of a day of year n
+abbrev pub date_in_march_year : ℕ → ℕ → Date
+date_in_march_year n day = march_date n (march_month day) (day - march_months (march_month day))
+
+-- the date n days after 1970-01-01
+unfoldable pub date_of : ℕ → Date
+date_of n =
+    let days = n + 135_080 in
+    date_in_march_year (march_year days) (days - march_days (march_year days))

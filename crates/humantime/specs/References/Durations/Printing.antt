@@ -1,12 +1,8 @@
 -- How a duration's text is put together.
-use Rattle.std.specs.Prelude.{ℕ, ◌/◌, ◌%◌, ◌==◌, List, [], ◌∷◌, ◌++◌, if◌then◌else◌, codes, Bool, true, false}
+use Rattle.std.specs.Prelude.{ℕ, ◌/◌, ◌%◌, ◌==◌, List, [], ◌∷◌, ◌++◌, if◌then◌else◌, codes, true, false}
 use Rattle.humantime.specs.Values.{nanos_per_micro, nanos_per_milli, nanos_per_second, seconds_per_minute, seconds_per_hour, seconds_per_day, seconds_per_month, seconds_per_year}
-use Rattle.humantime.specs.Durations.Counts.{weights, suffixes, printed_count, printed_counts, joined_by_space}
+use Rattle.humantime.specs.Durations.Counts.{Suffix, weights, suffixes, printed_count, printed_counts, joined_by_space}
 use Rattle.humantime.specs.Durations.Characters.{micro_suffix}
-
--- what stands behind a count, and whether it takes an s above one
-abbrev pub Suffix : Type 0
-Suffix = List ℕ × Bool
 
 abbrev pub with_plural : List ℕ → Suffix
 with_plural text = (text, true)

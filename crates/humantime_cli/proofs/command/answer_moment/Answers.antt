@@ -1,6 +1,4 @@
 use Rattle.std.proofs.Common.{subst, sym}
-use Rattle.humantime.specs.Prelude.{places_of}
-use Rattle.humantime.proofs.Theorems.{printed_as}
 use Rattle.humantime_cli.specs.Answers.{Refuses}
 use Rattle.humantime_cli.specs.Commands.{Tells}
 use Rattle.humantime_cli.proofs.EndsLemmas.{accepted, refused, one_text}
@@ -9,7 +7,7 @@ use Rattle.humantime_cli.proofs.command.answer_moment.Goals as goal
 pub returns-in-Some-clause-ends : goal.returns-in-Some-clause-ends
 returns-in-Some-clause-ends g c words tells =
     let printed = c.in-Some.printed.now in
-    let whole = printed_as c.format_rfc3339.result c.in-Ok.moment (places_of c.in-Ok.moment) printed c.format_rfc3339.ensures.moment c.format_rfc3339.ensures.places c.in-Some.ensures.text in
+    let whole = rw c.format_rfc3339.ensures at c.in-Some.ensures.text in
     accepted _ words _ _ _ _ printed (subst (Tells words) c.in-Ok.is tells printed whole) (one_text _ _ _ printed c.write_line.ensures.written) c.status_of.ensures
 
 pub returns-in-Err-clause-ends : goal.returns-in-Err-clause-ends

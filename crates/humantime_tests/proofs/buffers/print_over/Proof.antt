@@ -12,7 +12,7 @@ use denote.Triple.Clauses.{Lasts}
 use denote.Triple.Walked.{stay_ref, Goes-ref}
 use types.Tokens.{lft_new, lft_end}
 use Rattle.humantime.specs.Buffers.{KeptAtNone}
-use Rattle.humantime.specs.Prelude.{IsPrintable, moment_kept, IsTextOf}
+use Rattle.humantime.specs.Prelude.{IsPrintable, IsPrinted}
 use Rattle.humantime_tests.proofs.Kept.{last_held, kept_unless}
 use Rattle.humantime.specs.contracts.date.print.Rfc3339Timestamp.{the_row as Self}
 use Rattle.humantime.specs.contracts.date.print.Rfc3339Timestamp.text as g
@@ -57,7 +57,7 @@ print_over_spec {M} 𝓤 𝓛 𝓜 𝓡 wired =
     calls_at ! (framed 𝓤 𝓛.H 𝓜 (tables 𝓤 𝓛.H 𝓜 𝓡 𝓡.env)) G (g-met.met 𝓤 𝓛 𝓜 𝓡 (code.calls-humantime::date::print::Rfc3339Timestamp::text 𝓡.env wired)) z
     (and_then ! (get ! refl) (and_then ! (get ! refl) (no_more !))) (λ v.
     use1 𝓛 (later (some (λ (t : Option (Bor (List ℕ))). ((‵ (flft κ₀ q₀) ⊛ ‵ (flft (α ∷ []) full_share) ⊛ ‵ ftrue) ⊛ ‵ (Res.own_val t (v ∷ []))) ⊛
-    some (λ (ws : Lasts g.ended z.0.0 z.0.3). ‵ (lasts g.ended z.0.0 z.0.3 ws) ⊛ raw (fact 𝓤 (IsSome t ↔ IsPrintable (moment_kept x.now))) ⊛ raw (fact 𝓤 (IfSome t (λ u. IsTextOf x.now u.now))) ⊛ ‵ (KeptAtNone 30 r' t))))) (id⊢ 𝓤 _) $
+    some (λ (ws : Lasts g.ended z.0.0 z.0.3). ‵ (lasts g.ended z.0.0 z.0.3 ws) ⊛ raw (fact 𝓤 (IsSome t ↔ IsPrintable x.now.moment)) ⊛ raw (fact 𝓤 (IfSome t (λ u. IsPrinted x.now.moment x.now.places u.now))) ⊛ ‵ (KeptAtNone 30 r' t))))) (id⊢ 𝓤 _) $
     await ! tt $ pick ! (λ t. split ! $ split ! $ split ! $ move ! (1 ∷ []) $ split ! $ lft_end ! tt $
     -- [α is over; nothing; that of κ₀; the result; what is said; what the lender keeps]
     move ! (3 ∷ []) $ peeks ! Res _ (shows 𝓛 Res) t (v ∷ []) (λ is.

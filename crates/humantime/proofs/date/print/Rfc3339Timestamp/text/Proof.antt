@@ -1,9 +1,7 @@
 use Rattle.std.proofs.lemmas.Str.{IsUtf8-from_ascii}
 use Rattle.std.specs.Str.{IsUtf8}
 use Rattle.humantime.proofs.Timestamps.Printing.Printed.{printed_ascii}
-use Rattle.humantime.specs.Timestamps.Printed.{IsPrintable}
-use Rattle.humantime.specs.declared.date.print.Rfc3339Timestamp.{Rfc3339Timestamp}
-use Rattle.humantime.specs.References.Timestamps.Printing.{moment_kept, IsTextOf}
+use Rattle.humantime.specs.Timestamps.Printed.{MomentToPrint, IsPrinted, IsPrintable}
 use Rattle.humantime.proofs.Walks.{Val, ◌≡◌, ℕ, ◌≤◌, List, [], ◌∷◌, refl, MutBor, proved, full_share, id⊢, emp, ftrue, flft, fres, named, fact, fact_i, tables, ‵, raw, ◌⊛◌, some, later, ◌$◌, ◌∵◌, !, qed, by, move, keep, drop, use0, use1, use2, use3, split, join, fsplit, fjoin, feq_i, feq_l, pick, await, suffices, frame, enter, addr, stop, no_more, and_then, returns, alloc_all, pass_all, free_all, look_at, get, through, sets, lands_as, shows, MutRef, ShrRef, mut_vals, shr_vals, mut_Tells, shr_Tells, plain, nothing, heard, peeks, calls_at, lasts, triple_of, Stays, stay_dropped, Goes-dropped, Goes-spent_ref, ends_at, yes, no, framed}
 use mir.Syntax.{w8, erased}
 use Rattle.std.specs.Borrow.{Array, u8, usize}
@@ -39,7 +37,7 @@ stayed = (stay_dropped _ yes, (stay_dropped _ no, tt))
 abbrev A : RattleType
 A = Array u8 30
 
-text_utf8 : (x : Rfc3339Timestamp) (m : Option ℕ) (y : List ℕ) → IfSome m (λ n. IsTextOf x (take n y)) → IfSome m (λ n. IsUtf8 (take n y))
+text_utf8 : (x : MomentToPrint) (m : Option ℕ) (y : List ℕ) → IfSome m (λ n. IsPrinted x.moment x.places (take n y)) → IfSome m (λ n. IsUtf8 (take n y))
 text_utf8 x None y p = tt
 text_utf8 x (Some n) y p = IsUtf8-from_ascii _ (printed_ascii _ _ _ p)
 
@@ -71,7 +69,7 @@ text_spec {M} 𝓤 𝓛 𝓜 𝓡 wired =
     calls_at ! (framed 𝓤 𝓛.H 𝓜 (tables 𝓤 𝓛.H 𝓜 𝓡 𝓡.env)) G (g-met.met 𝓤 𝓛 𝓜 𝓡 (code.calls-humantime::date::print::Rfc3339Timestamp::write 𝓡.env wired)) z
     (and_then ! (get ! refl) (and_then ! (get ! refl) (no_more !))) (λ v.
     use1 𝓛 (later (some (λ (m : Option ℕ). ((‵ (flft κ₀ q₀) ⊛ ‵ (flft (α ∷ []) full_share) ⊛ ‵ ftrue) ⊛ ‵ ((OptionOf usize).own_val m (v ∷ []))) ⊛
-    some (λ (ws : Unit {0} × (List ℕ × Unit {0})). ‵ (lasts g.ended z.0.0 z.0.3 ws) ⊛ raw (fact 𝓤 (IsSome m ↔ IsPrintable (moment_kept x.now))) ⊛ raw (fact 𝓤 (IfSome m (λ n. n ≤ 30))) ⊛ raw (fact 𝓤 (IfSome m (λ n. IsTextOf x.now (take n ws.1.0)))) ⊛ raw (fact 𝓤 (IfNone m (ws.1.0 ≡ r.now))))))) (id⊢ 𝓤 _) $
+    some (λ (ws : Unit {0} × (List ℕ × Unit {0})). ‵ (lasts g.ended z.0.0 z.0.3 ws) ⊛ raw (fact 𝓤 (IsSome m ↔ IsPrintable x.now.moment)) ⊛ raw (fact 𝓤 (IfSome m (λ n. n ≤ 30))) ⊛ raw (fact 𝓤 (IfSome m (λ n. IsPrinted x.now.moment x.now.places (take n ws.1.0)))) ⊛ raw (fact 𝓤 (IfNone m (ws.1.0 ≡ r.now))))))) (id⊢ 𝓤 _) $
     await ! tt $ pick ! (λ m. split ! $ split ! $ split ! $ move ! (1 ∷ []) $ split ! $ lft_end ! tt $
     -- [α is over; nothing; that of κ₀; the length; what is said; what the lender keeps]
     move ! (3 ∷ []) $ peeks ! (OptionOf usize) _ (shows 𝓛 (OptionOf usize)) m (v ∷ []) (λ is.
@@ -111,6 +109,6 @@ text_spec {M} 𝓤 𝓛 𝓜 𝓡 wired =
     suffices ! _ (ends_at 𝓛 f.ended stayed c ((κs, qs, bounds, a, (shr_vals x, (vs, tt))), tt) w t (tt, (tt, tt)) (tt, (tt, tt))) $
     nothing ! $ nothing ! $ fjoin ! $ nothing ! $ fjoin ! $ move ! (0 ∷ 3 ∷ []) $ join ! $
     nothing ! $ move ! (3 ∷ 0 ∷ []) $ join ! $ move ! (2 ∷ 0 ∷ []) $ join ! $ join ! $ frame ! $
-    use0 𝓛 (raw (fact 𝓤 (IsSome t ↔ IsPrintable (moment_kept x.now)))) (fact_i 𝓤 _ (emp 𝓤) (some_shown t m (λ n. take n y) _ shown within)) $ frame ! $
-    use0 𝓛 (raw (fact 𝓤 (IfSome t (λ u. IsTextOf x.now u.now)))) (fact_i 𝓤 _ (emp 𝓤) (text_shown t m (λ n. take n y) (IsTextOf x.now) shown text)) $ frame ! $
+    use0 𝓛 (raw (fact 𝓤 (IsSome t ↔ IsPrintable x.now.moment))) (fact_i 𝓤 _ (emp 𝓤) (some_shown t m (λ n. take n y) _ shown within)) $ frame ! $
+    use0 𝓛 (raw (fact 𝓤 (IfSome t (λ u. IsPrinted x.now.moment x.now.places u.now)))) (fact_i 𝓤 _ (emp 𝓤) (text_shown t m (λ n. take n y) (IsPrinted x.now.moment x.now.places) shown text)) $ frame ! $
     by ! (holds 𝓛 30 r y (λ last. IfNone t (last ≡ r.now)) (none_shown t m (λ n. take n y) _ shown same))))))))))))))))))))

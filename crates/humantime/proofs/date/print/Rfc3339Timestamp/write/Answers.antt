@@ -1,10 +1,10 @@
+use Rattle.std.proofs.Common.{◌≤◌, ap}
+use Rattle.humantime.specs.Timestamps.Printed.{MomentToPrint}
 use Rattle.humantime.proofs.Timestamps.Printing.Printed.{shown_printed, places_most}
-use Rattle.humantime.specs.References.Timestamps.Printing.{places, moment_kept, places_kept}
 use Rattle.humantime.proofs.date.print.Rfc3339Timestamp.write.Goals as goal
 
 pub returns-clause-text : goal.returns-clause-text
-unfolding moment_kept places_kept
 returns-clause-text c =
-    let precision = c.args.self.now.precision in
-    rw c.write_date_time.ensures.text
-    (shown_printed c.in_ok-date_time.date_time c.args.self.now.moment (places precision) (places_most precision) c.in_ok-date_time.ensures.value)
+    let few : c.args.self.now.places ≤ 9 = rw (← c.self.view_is) (places_most c.self.inside.precision) in
+    let is = rw (ap (λ (x : MomentToPrint). x.moment) c.self.view_is) at c.in_ok-date.ensures.value in
+    rw c.write_parts.ensures.text (shown_printed _ _ _ _ few is)
