@@ -25,12 +25,6 @@ pub use Rattle.humantime.proofs.Durations.Reading.Found.{items_found}
 pub use Rattle.humantime.proofs.Durations.Reading.Told.{items_told}
 pub use Rattle.humantime.proofs.Durations.Reading.OneReading.{one_reading}
 
-ok_same : (v w : ℕ) → ◌≡◌ {A = Result ℕ Fault} (Ok v) (Ok w) → v ≡ w
-ok_same v w e = cc
-
-err_same : (e f : Fault) → ◌≡◌ {A = Result ℕ Fault} (Err e) (Err f) → e ≡ f
-err_same e f h = cc
-
 -- the text 0, and every other
 duration_answer-zero : duration_answer bare_zero ≡ Ok 0
 unfolding duration_answer
@@ -99,7 +93,7 @@ items_decide_fault text spans e h some g = record { not_zero = some; front = h.f
 
 pub accepted_from_outcome : (text : List ℕ) (v : ℕ) → duration_answer text ≡ Ok v → Accepted text v
 accepted_from_outcome text v h = elim (zero_or_not text) [
-  | inl z ↦ Bare_zero z (ok_same v 0 (sym h ∙ ap duration_answer z ∙ duration_answer-zero))
+  | inl z ↦ Bare_zero z (let p = duration_answer-zero in cc)
   | inr n ↦ let i = items_found text in sum_accepted text (items text).0 (items text).1 v i (value_only text (items text).0 (items text).1 v n i h)
 ]
 
@@ -128,10 +122,10 @@ pub answer_faults : (text : List ℕ) (r : Result ℕ Fault) → r ≡ duration_
 answer_faults text r e f = (λ h. fault_from_outcome text f (sym e ∙ h), λ a. e ∙ outcome_fault text f a)
 
 one_value : (text : List ℕ) (v : ℕ) → duration_answer text ≡ Ok v → OnlyValue text v
-one_value text v h = (accepted_from_outcome text v h, λ w a. ok_same w v (sym (outcome_accepted text w a) ∙ h), λ e f. let p = outcome_fault text e f in cc)
+one_value text v h = (accepted_from_outcome text v h, λ w a. let p = outcome_accepted text w a in cc, λ e f. let p = outcome_fault text e f in cc)
 
 one_fault : (text : List ℕ) (e : Fault) → duration_answer text ≡ Err e → OnlyFault text e
-one_fault text e h = (fault_from_outcome text e h, λ f k. err_same f e (sym (outcome_fault text f k) ∙ h), λ w a. let p = outcome_accepted text w a in cc)
+one_fault text e h = (fault_from_outcome text e h, λ f k. let p = outcome_fault text f k in cc, λ w a. let p = outcome_accepted text w a in cc)
 
 one_of : (text : List ℕ) (r : Result ℕ Fault) → duration_answer text ≡ r → OneOutcome text
 one_of text (Ok v) h = inl (v, one_value text v h)
