@@ -10,8 +10,8 @@ use Rattle.humantime.specs.Durations.Faults.{NumberOverflow, HasFault}
 use Rattle.humantime.specs.Laws.Texts.{JoinedHaveSum, JoinedOverflow, JoinedHaveSumOrOverflow}
 use Rattle.humantime.proofs.Durations.Reading.OneReading.{not_zero}
 use Rattle.humantime.proofs.Durations.Reading.Spellings.{spells-append}
-use Rattle.humantime.proofs.Durations.Reading.Settled.{additions-append, value-append}
-use Rattle.humantime.proofs.Durations.Reading.Outcomes.{items_whole, within_or_beyond, items_decide_overflow}
+use Rattle.humantime.proofs.Durations.Reading.Settled.{additions-append, value-append, within_or_beyond}
+use Rattle.humantime.proofs.Durations.Reading.Outcomes.{items_whole, items_decide_overflow}
 use Rattle.humantime.proofs.Durations.Laws.Readings.{accepted_from_spans, spans_of_accepted, accepted_spans, no_value_and_fault}
 
 pub Only-append : (p : ℕ → Bool) (xs ys : List ℕ) → Only p xs → Only p ys → Only p (xs ++ ys)

@@ -19,7 +19,7 @@ one_each body [] (t ∷ ts) h k = absurd (begins_not_nil is_digit body (each_sta
 one_each body (s ∷ ss) [] h k = absurd (begins_not_nil is_digit body (each_starts body s ss h) k)
 one_each body (s ∷ ss) (t ∷ ts) h k = grind (arith, common_steps, (first_here body [] s ss h (inl (inl refl)) refl), (first_here body [] t ts k (inl (inl refl)) refl), (one_each h.0 ss ts h.2 (subst (λ x. SpellsEach x ts) (sym (append-nil k.0) ∙ sym (first_here body [] t ts k (inl (inl refl)) refl).next_is ∙ (first_here body [] s ss h (inl (inl refl)) refl).next_is ∙ append-nil h.0) k.2)))
 
-pub one_front : (text : List ℕ) (ss ts : List Span) → SpellsAll text ss → SpellsAll text ts → ss ≡ ts
+one_front : (text : List ℕ) (ss ts : List Span) → SpellsAll text ss → SpellsAll text ts → ss ≡ ts
 unfolding split_whole
 one_front text ss ts h k = grind (arith, common_steps, (front_begins text text [] ss (split_whole text ss h)), (front_begins text text [] ts (split_whole text ts k)), one_each)
 
@@ -31,7 +31,7 @@ each_long : (body : List ℕ) (spans : List Span) → SpellsEach body spans → 
 each_long body [] h some = absurd (some refl)
 each_long body (s ∷ ss) h some = spelling_some body h.0 s h.1
 
-pub reads_long : (text : List ℕ) (spans : List Span) → Reads text spans → 1 < length text
+reads_long : (text : List ℕ) (spans : List Span) → Reads text spans → 1 < length text
 reads_long text spans h = omega (arith, ap length h.0.whole, length-append h.0.space h.0.body, each_long h.0.body spans h.0.each h.1)
 
 pub not_zero : (text : List ℕ) (spans : List Span) → Reads text spans → text ≢ bare_zero

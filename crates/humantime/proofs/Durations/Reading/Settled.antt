@@ -27,18 +27,18 @@ abbrev pub FitsAt : Option Scale → Span → Type 0
 FitsAt o s = IfSome o (λ u. (decimal_value s.number * amount u.one ≤ u64_max) × FitsFraction u.fraction s.fraction)
 
 -- the sum after a span that keeps the limits, and none after another
-pub add_span-added : (t : ℕ) (s : Span) → Formed s → IsAddedTo t s → add_span t s ≡ Some (t + total (additions_of s))
+add_span-added : (t : ℕ) (s : Span) → Formed s → IsAddedTo t s → add_span t s ≡ Some (t + total (additions_of s))
 unfolding add_span
 add_span-added t s f h = grind (arith, common_steps, add_all-room, common_steps)
 
-pub add_span-over : (t : ℕ) (s : Span) → ¬ (IsAddedTo t s) → add_span t s ≡ None
+add_span-over : (t : ℕ) (s : Span) → ¬ (IsAddedTo t s) → add_span t s ≡ None
 unfolding add_span
 add_span-over t s h = grind (arith, common_steps, add_all-full)
 
 pub added_or_not : (t : ℕ) (s : Span) → Formed s → IsAddedTo t s ⊎ ¬ (IsAddedTo t s)
 added_or_not t s f = grind (arith, common_steps)
 
-pub within_or_not : (t : ℕ) (spans : List Span) → AllByRecursion Formed spans → WithinLimitsFrom t spans ⊎ ¬ (WithinLimitsFrom t spans)
+within_or_not : (t : ℕ) (spans : List Span) → AllByRecursion Formed spans → WithinLimitsFrom t spans ⊎ ¬ (WithinLimitsFrom t spans)
 within_or_not t [] f = inl tt
 within_or_not t (s ∷ ss) f = grind (arith, common_steps, (within_or_not (t + total (additions_of s)) ss f.1))
 
@@ -57,17 +57,8 @@ unfolding settle
 settle_fine t [] items f h = ap (λ (n : ℕ). settle n items) (omega arith)
 settle_fine t (s ∷ ss) items f h = grind (arith, common_steps, (settle_fine (t + total (additions_of s)) ss items f.1 h.1), add_span-added)
 
--- the value, or else the fault at which they stop
-abbrev pub ended : ℕ → Option Fault → Result ℕ Fault
-ended v None = Ok v
-ended v (Some e) = Err e
-
-pub settle_within : (t : ℕ) (spans : List Span) (stop : Option Fault) → AllByRecursion Formed spans → WithinLimitsFrom t spans → settle t (items_of spans stop) ≡ ended (t + value spans) stop
-unfolding settle
-settle_within t spans stop f h = grind (arith, common_steps, settle_fine)
-
--- and over others it says that they are too large
-pub settle_beyond : (t : ℕ) (spans : List Span) (items : List (Result Span Fault)) → AllByRecursion Formed spans → ¬ (WithinLimitsFrom t spans) → settle t (map Ok spans ++ items) ≡ Err NumberOverflow
+-- over others it says that they are too large
+settle_beyond : (t : ℕ) (spans : List Span) (items : List (Result Span Fault)) → AllByRecursion Formed spans → ¬ (WithinLimitsFrom t spans) → settle t (map Ok spans ++ items) ≡ Err NumberOverflow
 unfolding settle
 settle_beyond t [] items f h = absurd (h tt)
 settle_beyond t (s ∷ ss) items f h = elim (added_or_not t s f.0) [
@@ -92,6 +83,27 @@ WithinLimits_from spans f h = record { formed = f; fit = fit_each 0 spans h; roo
 
 pub from_WithinLimits : (spans : List Span) → WithinLimits spans → WithinLimitsFrom 0 spans
 from_WithinLimits spans h = each_within 0 spans h.fit (room_from_all (additions spans) h.room)
+
+-- what spans and a stop add up to: the value, or else the fault
+pub settle_within : (spans : List Span) (stop : Option Fault) → WithinLimits spans → settle 0 (items_of spans stop) ≡ settle (value spans) (items_of [] stop)
+settle_within spans stop g =
+    settle_fine 0 spans (items_of [] stop) g.formed (from_WithinLimits spans g) ∙ ap (λ (n : ℕ). settle n (items_of [] stop)) (omega arith)
+
+pub within_or_beyond : (spans : List Span) → AllByRecursion Formed spans → WithinLimits spans ⊎ ¬ (WithinLimits spans)
+within_or_beyond spans f = grind (arith, common_steps, (within_or_not 0 spans f), (WithinLimits_from spans f), (from_WithinLimits spans))
+
+pub too_large : (spans : List Span) (stop : Option Fault) → AllByRecursion Formed spans → ¬ (WithinLimits spans) → settle 0 (items_of spans stop) ≡ Err NumberOverflow
+too_large spans stop f bad = settle_beyond 0 spans (items_of [] stop) f (λ g. bad (WithinLimits_from spans f g))
+
+-- and the other way round
+pub settled_value : (spans : List Span) (stop : Option Fault) (v : ℕ) → AllByRecursion Formed spans → settle 0 (items_of spans stop) ≡ Ok v → (stop ≡ None) × WithinLimits spans × (value spans ≡ v)
+unfolding settle
+settled_value spans stop v f h = grind (arith, common_steps, (within_or_beyond spans f), (settle_within spans stop), (too_large spans stop f))
+
+pub settled_fault : (spans : List Span) (stop : Option Fault) (e : Fault) → AllByRecursion Formed spans → settle 0 (items_of spans stop) ≡ Err e
+    → (WithinLimits spans × (stop ≡ Some e)) ⊎ (¬ (WithinLimits spans) × (NumberOverflow ≡ e))
+unfolding settle
+settled_fault spans stop e f h = grind (arith, common_steps, (within_or_beyond spans f), (settle_within spans stop), (too_large spans stop f))
 
 -- the spans without those at the end
 pub WithinLimitsFrom-front : (t : ℕ) (ss ts : List Span) → WithinLimitsFrom t (ss ++ ts) → WithinLimitsFrom t ss

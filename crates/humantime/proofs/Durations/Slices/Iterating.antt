@@ -1,11 +1,11 @@
--- One step over the items of a text, and their sum so far.
+-- One step over the items of a text.
 use Rattle.std.proofs.lemmas.Grind.{common_steps}
-use Rattle.std.proofs.Common.{◌≡◌, ◌≢◌, ℕ, Bool, true, false, List, [], ◌∷◌, Some, None, Result, Ok, Err, if◌then◌else◌, sym, ap, ◌∙◌, arith}
+use Rattle.std.proofs.Common.{◌≡◌, ◌≢◌, ℕ, Bool, true, false, List, [], ◌∷◌, Some, None, Result, Ok, Err, if◌then◌else◌, ap, arith}
 use Rattle.humantime.specs.Durations.Characters.{is_ws, is_digit, begins, past, offset_of}
-use Rattle.humantime.specs.Durations.Faults.{Fault, NumberExpected, NumberOverflow, Empty, after_word}
-use Rattle.humantime.specs.References.Durations.Reading.{stop_at, fault_at, add_span, settle}
+use Rattle.humantime.specs.Durations.Faults.{Fault, NumberExpected, Empty, after_word}
+use Rattle.humantime.specs.References.Durations.Reading.{stop_at, fault_at}
 use Rattle.humantime.specs.Durations.Items.{Lent}
-use Rattle.humantime.specs.References.Durations.Lending.{lent_at, lent_on, left_at, spelled, judged}
+use Rattle.humantime.specs.References.Durations.Lending.{lent_at, lent_on, left_at}
 use Rattle.humantime.proofs.Durations.Reading.Runs.{begins_not_nil}
 use Rattle.humantime.proofs.Durations.Reading.SpanWalks.{walk-end, walk-wrong, walk-right}
 use Rattle.humantime.proofs.Durations.Reading.Spelled.{next_of}
@@ -34,22 +34,3 @@ step_expected ended first text before rest n e r s d p = rw (e, ← r) (left_wro
 
 pub step_end : (ended first : Bool) (text before : List ℕ) → ended ≡ false → past is_ws before ≡ [] → left ended first text before ≡ (if first then Err Empty ∷ [] else [])
 step_end ended first text before e r = grind (arith, common_steps, walk-end)
-
--- what the items so far add up to, with the next item
-pub loop_done : (t : ℕ) (xs : List (Result Lent Fault)) (g : Result ℕ Fault) → judged t xs ≡ g → xs ≡ [] → Ok t ≡ g
-unfolding settle
-loop_done t xs g h e = sym (ap (judged t) e) ∙ h
-
-pub loop_err : (t : ℕ) (xs more : List (Result Lent Fault)) (item : Result Lent Fault) (e : Fault) (g : Result ℕ Fault) → judged t xs ≡ g → xs ≡ item ∷ more → item ≡ Err e → Err e ≡ g
-unfolding settle
-loop_err t xs more item e g h s i = sym (ap (λ (y : Result Lent Fault). judged t (y ∷ more)) i) ∙ sym (ap (judged t) s) ∙ h
-
-pub loop_over : (t : ℕ) (xs more : List (Result Lent Fault)) (item : Result Lent Fault) (x : Lent) (g : Result ℕ Fault) → judged t xs ≡ g → xs ≡ item ∷ more → item ≡ Ok x
-    → None ≡ add_span t (spelled x.number x.fraction x.unit) → Err NumberOverflow ≡ g
-unfolding settle
-loop_over t xs more item x g h s i a = grind (arith, common_steps)
-
-pub loop_on : (t u : ℕ) (xs more : List (Result Lent Fault)) (item : Result Lent Fault) (x : Lent) (g : Result ℕ Fault) → judged t xs ≡ g → xs ≡ item ∷ more → item ≡ Ok x
-    → Some u ≡ add_span t (spelled x.number x.fraction x.unit) → judged u more ≡ g
-unfolding settle
-loop_on t u xs more item x g h s i a = grind (arith, common_steps)

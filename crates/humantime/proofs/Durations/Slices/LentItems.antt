@@ -25,7 +25,7 @@ spans_lent text [] stop = grind (arith, common_steps)
 spans_lent text (rest ∷ starts) stop = ap₂ (λ (s : Span) (items : List (Result Span Fault)). Ok s ∷ items) (spelled_at text rest) (spans_lent text starts stop)
 
 -- unless the text is `0`, what its items add up to is its outcome
-pub judged_outcome : (text : List ℕ) → text ≢ bare_zero → judged 0 (lent_items text) ≡ duration_answer text
+judged_outcome : (text : List ℕ) → text ≢ bare_zero → judged 0 (lent_items text) ≡ duration_answer text
 unfolding items
 judged_outcome text some = ap (settle 0) (spans_lent text (walk_of text).starts (walk_of text).stop) ∙ sym (duration_answer-items text some)
 

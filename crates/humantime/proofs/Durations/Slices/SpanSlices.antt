@@ -1,6 +1,6 @@
 -- What the span at a rest lends of the text.
 use Rattle.std.proofs.lemmas.Grind.{common_steps}
-use Rattle.std.proofs.Common.{◌≡◌, ◌≢◌, ℕ, Bool, true, false, if◌then◌else◌, List, [], ◌∷◌, ◌++◌, Option, refl, sym, ap, subst, ◌∙◌, ◌<◌, length, append_assoc, length-append, arith}
+use Rattle.std.proofs.Common.{◌≡◌, ◌≢◌, ℕ, Bool, true, false, if◌then◌else◌, List, [], ◌∷◌, ◌++◌, Option, refl, sym, ap, subst, ◌∙◌, ◌<◌, arith}
 use Rattle.std.proofs.lemmas.List.{append_cancel_left}
 use Rattle.std.proofs.lemmas.Str.{encodes-append, length-le-encodes}
 use Rattle.humantime.specs.Durations.Characters.{is_ws, is_digit, is_letter, is_numeric, is_point, begins, leading, past, digits, byte_length, offset_of}
@@ -46,19 +46,10 @@ fraction_is_lent b tail o h k = grind (arith, common_steps, no_slice, slice_behi
 begins_leading : (p q : ℕ → Bool) (cs : List ℕ) → begins p cs ≡ true → ((c : ℕ) → p c ≡ true → q c ≡ true) → begins p (leading q cs) ≡ true
 begins_leading p q cs h k = grind (arith, common_steps)
 
--- what stands up to the end of a word, from a first digit on, isn't empty
-word_front : (rest : List ℕ) → begins is_digit rest ≡ true → (front : List ℕ) × (rest ≡ front ++ after_word rest) × (0 < length front)
-word_front rest b =
-    let number = leading is_numeric rest in
-    let middle = fraction_text (after_number rest) in
-    let word : after_fraction rest ≡ word_of rest ++ after_word rest = sym (leading-past is_letter (after_fraction rest)) in
-    let point : after_number rest ≡ middle ++ (word_of rest ++ after_word rest) = fraction_text-past (after_number rest) ∙ ap (λ (xs : List ℕ). middle ++ xs) word in
-    let whole : rest ≡ number ++ (middle ++ (word_of rest ++ after_word rest)) = sym (leading-past is_numeric rest) ∙ ap (λ (xs : List ℕ). number ++ xs) point in
-    let some = begins_some is_digit number (begins_leading is_digit is_numeric rest b digit_is_numeric) in
-    (number ++ (middle ++ word_of rest), whole ∙ simp (← append_assoc), omega (arith, length-append number (middle ++ word_of rest)))
-
 pub next_bytes : (rest : List ℕ) → begins is_digit rest ≡ true → byte_length (after_word rest) < byte_length rest
-next_bytes rest b = grind (arith, common_steps, word_front, encodes-append, length-le-encodes)
+next_bytes rest b =
+    let some = begins_some is_digit (leading is_numeric rest) (begins_leading is_digit is_numeric rest b digit_is_numeric) in
+    grind (arith, common_steps, (leading-past is_numeric rest), (fraction_text-past (after_number rest)), (leading-past is_letter (after_fraction rest)), encodes-append, length-le-encodes)
 
 -- the slices of a well formed span that begins a rest tile it up to the next number
 pub is_lent : (text rest : List ℕ) → Fine rest → IsLent text rest (span_of rest) (lent_at text rest) (next_of rest)
