@@ -3,8 +3,6 @@ use Rattle.std.proofs.lemmas.Grind.{common_steps}
 use Rattle.std.proofs.Common.{◌≡◌, ◌≢◌, ◌≤◌, ◌-◌, ℕ, List, [], ◌++◌, length, take, drop, subst, ap, sym, ◌∙◌, arith, length-append, IsUtf8, IsCharBoundary, chars, encode_utf8, slice_range}
 use Rattle.std.proofs.lemmas.List.{take-append-drop}
 use Rattle.std.proofs.lemmas.Str.{IsUtf8-past_char, IsCharBoundary-at_seam, encodes-chars, chars-nil}
-use Rattle.std.specs.Prelude.{bytes_eq, encode_utf8_all}
-use Rattle.std.proofs.lemmas.Slice.Eq.{bytes_eq-Decides}
 use Rattle.humantime.specs.Durations.Characters.{byte_length, offset_of}
 use Rattle.humantime.specs.References.Durations.Scanning.{IsTail}
 
