@@ -1,14 +1,12 @@
 -- The laws of durations as theorems over plain variables, each under the name of its function in `laws`.
 use Rattle.std.proofs.lemmas.Grind.{common_steps}
 use Rattle.std.proofs.Common.{Bool, ◌≡◌, ◌↔◌, ℕ, ◌<◌, List, Result, Ok, IsTrue, chars, refl, arith}
-use Rattle.std.specs.Prelude.{IsUtf8}
 use Rattle.humantime.specs.declared.duration.error.DurationError.{DurationError}
 use Rattle.humantime.specs.contracts.duration.error.DurationErrorPartialEq.TheImpl as errors
 use Rattle.std.proofs.lemmas.Bool.Decides.{nat_tests}
 use Rattle.std.proofs.lemmas.Slice.Eq.{bytes_eq-Decides}
 use Rattle.humantime.specs.Values.{duration_end}
 use Rattle.humantime.specs.Durations.Errors.{told, fault_of}
-use Rattle.humantime.specs.Durations.Faults.{Fault}
 use Rattle.humantime.specs.Laws.Outcomes.{HasOneOutcome, ItemsDecide, LendsOneList}
 use Rattle.humantime.specs.Durations.Counts.{Canon}
 use Rattle.humantime.specs.References.Durations.Printing.{duration_text}

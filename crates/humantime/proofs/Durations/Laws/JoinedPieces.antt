@@ -1,13 +1,12 @@
 -- Any number of texts one behind the other.
 use Rattle.std.proofs.Common.{arith}
 use Rattle.std.proofs.lemmas.Grind.{common_steps}
-use Rattle.std.proofs.Common.{◌≡◌, ◌↔◌, ℕ, List, [], ◌∷◌, flat_map, sum_by, refl, subst}
+use Rattle.std.proofs.Common.{◌≢◌, ◌↔◌, ℕ, List, [], ◌∷◌, flat_map, sum_by, refl}
 use Rattle.std.specs.List.{AllByRecursion}
-use Rattle.humantime.specs.Durations.Spans.{Span, SpellsAll, Reads}
-use Rattle.humantime.specs.Durations.Accepted.{additions, value, Formed, Fits, AllHaveRoom, Accepted}
+use Rattle.humantime.specs.Durations.Spans.{Span, Reads}
+use Rattle.humantime.specs.Durations.Accepted.{additions, AllHaveRoom, Accepted}
 use Rattle.humantime.specs.Durations.Faults.{NumberOverflow, HasFault}
-use Rattle.humantime.proofs.Durations.Laws.Readings.{accepted_spans}
-use Rattle.humantime.proofs.Durations.Laws.JoinedTexts.{front-append, some-append, room_accepts, no_room_overflows}
+use Rattle.humantime.proofs.Durations.Laws.JoinedTexts.{AreSpans, spans-append, some-append, room_accepts, no_room_overflows}
 
 -- A text, its spans and its value.
 pub record Piece : Type 0 where
@@ -29,33 +28,19 @@ joined_spans ps = flat_map (λ (p : Piece). p.spans) ps
 abbrev pub joined_value : List Piece → ℕ
 joined_value ps = sum_by (λ (p : Piece). p.value) ps
 
-nothing_read : SpellsAll [] []
-nothing_read = record { space = []; body = []; whole = refl; only_space = tt; each = refl }
+are_joined : (ps : List Piece) → AllByRecursion IsAcceptedPiece ps → AreSpans (joined_text ps) (joined_spans ps) (joined_value ps)
+are_joined [] h = record { front = record { space = []; body = []; whole = refl; only_space = tt; each = refl }; formed = tt; fit = tt; sum = refl }
+are_joined (p ∷ ps) h = grind (arith, common_steps, (spans-append p.text (joined_text ps) p.spans (joined_spans ps) p.value (joined_value ps) h.0.0 h.0.1 (are_joined ps h.1)))
 
-record AreJoined (ps : List Piece) : Type 0 where
-  front : SpellsAll (joined_text ps) (joined_spans ps)
-  formed : AllByRecursion Formed (joined_spans ps)
-  fit : AllByRecursion Fits (joined_spans ps)
-  sum : value (joined_spans ps) ≡ joined_value ps
-
-are_joined : (ps : List Piece) → AllByRecursion IsAcceptedPiece ps → AreJoined ps
-are_joined [] h = record { front = nothing_read; formed = tt; fit = tt; sum = refl }
-are_joined (p ∷ ps) h = grind (arith, common_steps, (are_joined ps h.1), (accepted_spans p.text p.spans p.value h.0.0 h.0.1), front-append)
-
-joined_reads : (p : Piece) (ps : List Piece) → AllByRecursion IsAcceptedPiece (p ∷ ps) → Reads (joined_text (p ∷ ps)) (joined_spans (p ∷ ps))
-joined_reads p ps h = ((are_joined (p ∷ ps) h).front, some-append p.spans (joined_spans ps) h.0.0.1)
+some_joined : (p : Piece) (ps : List Piece) → AllByRecursion IsAcceptedPiece (p ∷ ps) → joined_spans (p ∷ ps) ≢ []
+some_joined p ps h = some-append p.spans (joined_spans ps) h.0.0.1
 
 -- accepted texts that are spans, one or more, are accepted with their sum exactly where all additions have room
 pub pieces_sum : (p : Piece) (ps : List Piece) → AllByRecursion IsAcceptedPiece (p ∷ ps)
     → Accepted (joined_text (p ∷ ps)) (joined_value (p ∷ ps)) ↔ AllHaveRoom (additions (joined_spans (p ∷ ps)))
-pieces_sum p ps h =
-    let all = are_joined (p ∷ ps) h in
-    subst (λ (n : ℕ). Accepted (joined_text (p ∷ ps)) n ↔ AllHaveRoom (additions (joined_spans (p ∷ ps)))) all.sum
-    (room_accepts (joined_text (p ∷ ps)) (joined_spans (p ∷ ps)) (joined_reads p ps h) all.formed all.fit)
+pieces_sum p ps h = room_accepts _ _ _ (some_joined p ps h) (are_joined (p ∷ ps) h)
 
 -- and are too large exactly where they haven't
 pub pieces_overflow : (p : Piece) (ps : List Piece) → AllByRecursion IsAcceptedPiece (p ∷ ps)
     → HasFault (joined_text (p ∷ ps)) NumberOverflow ↔ ¬ (AllHaveRoom (additions (joined_spans (p ∷ ps))))
-pieces_overflow p ps h =
-    let all = are_joined (p ∷ ps) h in
-    no_room_overflows (joined_text (p ∷ ps)) (joined_spans (p ∷ ps)) (joined_reads p ps h) all.formed all.fit
+pieces_overflow p ps h = no_room_overflows _ _ _ (some_joined p ps h) (are_joined (p ∷ ps) h)

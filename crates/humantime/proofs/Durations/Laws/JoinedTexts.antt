@@ -1,11 +1,11 @@
 -- Texts one behind the other.
 use Rattle.std.proofs.Common.{arith}
 use Rattle.std.proofs.lemmas.Grind.{common_steps}
-use Rattle.std.proofs.Common.{◌≡◌, ◌≢◌, ◌↔◌, ℕ, ◌+◌, Bool, List, [], ◌∷◌, ◌++◌, None, refl, sym, ap, ap₂, ◌∙◌, inl, inr, subst, append_assoc}
+use Rattle.std.proofs.Common.{◌≡◌, ◌≢◌, ◌↔◌, ℕ, ◌+◌, true, List, [], ◌∷◌, ◌++◌, None, refl, sym, ap, ap₂, ◌∙◌, inl, inr, subst, append_assoc}
 use Rattle.std.specs.List.{AllByRecursion}
 use Rattle.humantime.specs.Durations.Characters.{is_ws}
 use Rattle.humantime.specs.Durations.Spans.{Span, Only, Spells, SpellsEach, SpellsAll, Reads}
-use Rattle.humantime.specs.Durations.Accepted.{additions, value, Formed, Fits, AllHaveRoom, WithinLimits, Accepted}
+use Rattle.humantime.specs.Durations.Accepted.{additions, value, Formed, Fits, AllHaveRoom, Accepted}
 use Rattle.humantime.specs.Durations.Faults.{NumberOverflow, HasFault}
 use Rattle.humantime.specs.Laws.Texts.{JoinedHaveSum, JoinedOverflow, JoinedHaveSumOrOverflow}
 use Rattle.humantime.proofs.Durations.Reading.OneReading.{not_zero}
@@ -14,9 +14,7 @@ use Rattle.humantime.proofs.Durations.Reading.Settled.{additions-append, value-a
 use Rattle.humantime.proofs.Durations.Reading.Outcomes.{items_whole, items_decide_overflow}
 use Rattle.humantime.proofs.Durations.Laws.Readings.{accepted_from_spans, spans_of_accepted, accepted_spans, no_value_and_fault}
 
-pub Only-append : (p : ℕ → Bool) (xs ys : List ℕ) → Only p xs → Only p ys → Only p (xs ++ ys)
-Only-append p xs ys h k = grind (arith, common_steps)
-
+-- what holds of the elements of two lists holds of those of both together
 pub each-append : {A : Type 0} (P : A → Type 0) (xs ys : List A) → AllByRecursion P xs → AllByRecursion P ys → AllByRecursion P (xs ++ ys)
 each-append P xs ys h k = grind (arith, common_steps)
 
@@ -52,69 +50,55 @@ some-append (s ∷ ss) ts some e = cc
 pub reads-append : (a b : List ℕ) (ss ts : List Span) → Reads a ss → SpellsAll b ts → Reads (a ++ b) (ss ++ ts)
 reads-append a b ss ts h k = (front-append a b ss ts h k, some-append ss ts h.1)
 
--- a text of spans that are within the limits one by one is accepted exactly where their additions have room
-pub room_accepts : (text : List ℕ) (spans : List Span) → Reads text spans → AllByRecursion Formed spans → AllByRecursion Fits spans
-    → Accepted text (value spans) ↔ AllHaveRoom (additions spans)
-room_accepts text spans h formed fit = (
-  λ a. (accepted_spans text spans (value spans) h a).0.room,
-  λ room. accepted_from_spans text spans h (record { formed = formed; fit = fit; room = room }),
+-- The text is white space, or none, and then spans of this value that keep all limits but that of room.
+pub record AreSpans (text : List ℕ) (spans : List Span) (v : ℕ) : Type 0 where
+  pub front : SpellsAll text spans
+  pub formed : AllByRecursion Formed spans
+  pub fit : AllByRecursion Fits spans
+  pub sum : value spans ≡ v
+
+pub are_spans : (text : List ℕ) (spans : List Span) (v : ℕ) → Reads text spans → Accepted text v → AreSpans text spans v
+are_spans text spans v h a = grind (arith, (accepted_spans text spans v h a))
+
+pub spans-append : (a b : List ℕ) (ss ts : List Span) (u v : ℕ) → Reads a ss → Accepted a u → AreSpans b ts v → AreSpans (a ++ b) (ss ++ ts) (u + v)
+spans-append a b ss ts u v h x k = grind (arith, (are_spans a ss u h x), front-append, each-append, value-append)
+
+-- such a text is accepted exactly where its additions have room
+pub room_accepts : (text : List ℕ) (spans : List Span) (v : ℕ) → spans ≢ [] → AreSpans text spans v → Accepted text v ↔ AllHaveRoom (additions spans)
+room_accepts text spans v some h = (
+  λ a. (accepted_spans text spans v (h.front, some) a).0.room,
+  λ room. subst (Accepted text) h.sum (accepted_from_spans text spans (h.front, some) (record { formed = h.formed; fit = h.fit; room = room })),
 )
 
 -- and is too large exactly where they haven't
-too_large : (text : List ℕ) (spans : List Span) → Reads text spans → AllByRecursion Formed spans → ¬ (WithinLimits spans) → HasFault text NumberOverflow
-too_large text spans h formed bad = items_decide_overflow text spans None (items_whole text spans h formed) (not_zero text spans h) bad
-
-pub no_room_overflows : (text : List ℕ) (spans : List Span) → Reads text spans → AllByRecursion Formed spans → AllByRecursion Fits spans
+pub no_room_overflows : (text : List ℕ) (spans : List Span) (v : ℕ) → spans ≢ [] → AreSpans text spans v
     → HasFault text NumberOverflow ↔ ¬ (AllHaveRoom (additions spans))
-no_room_overflows text spans h formed fit = (
-  λ f room. no_value_and_fault text (value spans) NumberOverflow ((room_accepts text spans h formed fit).1 room) f,
-  λ none. too_large text spans h formed (λ g. none g.room),
-)
+no_room_overflows text spans v some h =
+    let reads : Reads text spans = (h.front, some) in (
+      λ f room. no_value_and_fault text v NumberOverflow ((room_accepts text spans v some h).1 room) f,
+      λ none. items_decide_overflow text spans None (items_whole text spans reads h.formed) (not_zero text spans reads) (λ g. none g.room),
+    )
 
--- What two accepted texts are, one behind the other.
-record AreJoined (a b : List ℕ) (ss ts : List Span) (u v : ℕ) : Type 0 where
-  reads : Reads (a ++ b) (ss ++ ts)
-  formed : AllByRecursion Formed (ss ++ ts)
-  fit : AllByRecursion Fits (ss ++ ts)
-  sum : value (ss ++ ts) ≡ u + v
-
-are_joined : (a b : List ℕ) (ss ts : List Span) (u v : ℕ) → Reads a ss → Reads b ts → Accepted a u → Accepted b v → AreJoined a b ss ts u v
-are_joined a b ss ts u v h k x y =
-    let g = accepted_spans a ss u h x in
-    let j = accepted_spans b ts v k y in
-    record {
-      reads = reads-append a b ss ts h k.0;
-      formed = each-append Formed ss ts g.0.formed j.0.formed;
-      fit = each-append Fits ss ts g.0.fit j.0.fit;
-      sum = value-append ss ts ∙ ap₂ (λ (m n : ℕ). m + n) g.1 j.1;
-    }
+both_spans : (a b : List ℕ) (ss ts : List Span) (u v : ℕ) → Reads a ss → Reads b ts → Accepted a u → Accepted b v → AreSpans (a ++ b) (ss ++ ts) (u + v)
+both_spans a b ss ts u v h k x y = spans-append a b ss ts u v h x (are_spans b ts v k y)
 
 pub joined_sum : (a b : List ℕ) → JoinedHaveSum a b
 joined_sum a b ss ts u v h k x y =
-    let j = are_joined a b ss ts u v h k x y in
-    let both = room_accepts (a ++ b) (ss ++ ts) j.reads j.formed j.fit in
-    let adds = additions-append ss ts in (
-      λ z. subst AllHaveRoom adds (both.0 (subst (Accepted (a ++ b)) (sym j.sum) z)),
-      λ room. subst (Accepted (a ++ b)) j.sum (both.1 (subst AllHaveRoom (sym adds) room)),
-    )
+    rw (← additions-append ss ts) (room_accepts (a ++ b) (ss ++ ts) (u + v) (some-append ss ts h.1) (both_spans a b ss ts u v h k x y))
 
 pub joined_overflow : (a b : List ℕ) → JoinedOverflow a b
 joined_overflow a b ss ts u v h k x y =
-    let j = are_joined a b ss ts u v h k x y in
-    let both = no_room_overflows (a ++ b) (ss ++ ts) j.reads j.formed j.fit in
-    let adds = additions-append ss ts in (
-      λ f room. both.0 f (subst AllHaveRoom (sym adds) room),
-      λ none. both.1 (λ room. none (subst AllHaveRoom adds room)),
-    )
+    rw (← additions-append ss ts) (no_room_overflows (a ++ b) (ss ++ ts) (u + v) (some-append ss ts h.1) (both_spans a b ss ts u v h k x y))
 
 pub joined_sum_or_overflow : (a b : List ℕ) → JoinedHaveSumOrOverflow a b
 joined_sum_or_overflow a b u v x y some_a some_b =
     let s = spans_of_accepted a u some_a x in
     let t = spans_of_accepted b v some_b y in
-    let j = are_joined a b s.spans t.spans u v s.reads t.reads x y in
-    elim (within_or_beyond (s.spans ++ t.spans) j.formed) [
-      | inl g ↦ inl (subst (Accepted (a ++ b)) j.sum (accepted_from_spans (a ++ b) (s.spans ++ t.spans) j.reads g))
-      | inr bad ↦ inr (too_large (a ++ b) (s.spans ++ t.spans) j.reads j.formed bad)
+    let some = some-append s.spans t.spans s.reads.1 in
+    let both = both_spans a b s.spans t.spans u v s.reads t.reads x y in
+    elim (within_or_beyond (s.spans ++ t.spans) both.formed) [
+      | inl g ↦ inl ((room_accepts (a ++ b) (s.spans ++ t.spans) (u + v) some both).1 g.room)
+      | inr bad ↦ inr ((no_room_overflows (a ++ b) (s.spans ++ t.spans) (u + v) some both).1 (λ room. bad (record { formed = both.formed; fit = both.fit; room = room })))
     ]
 
 -- white space may stand wherever a span ends
@@ -124,6 +108,6 @@ reads-space before space after ss ts h k only = reads-append before (space ++ af
   space = space ++ k.space;
   body = k.body;
   whole = ap (λ (l : List ℕ). space ++ l) k.whole ∙ sym (append_assoc space k.space k.body);
-  only_space = Only-append is_ws space k.space only k.only_space;
+  only_space = each-append (λ c. is_ws c ≡ true) space k.space only k.only_space;
   each = k.each;
 })

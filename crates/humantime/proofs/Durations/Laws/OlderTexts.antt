@@ -1,52 +1,43 @@
 -- What became of the texts that were accepted before.
 use Rattle.std.proofs.lemmas.Grind.{common_steps}
-use Rattle.std.proofs.Common.{◌≡◌, ℕ, ◌≤◌, Bool, true, false, List, [], ◌∷◌, ◌++◌, length, Option, refl, sym, ap, ◌∙◌, subst, arith}
+use Rattle.std.proofs.Common.{◌≡◌, ℕ, Bool, true, false, List, [], ◌∷◌, ◌++◌, Option, refl, sym, ap, ◌∙◌, subst, arith}
 use Rattle.std.specs.Prelude.{◌==◌, not}
 use Rattle.std.specs.List.{AllByRecursion}
-use Rattle.std.specs.Option.{IfSome}
 use Rattle.std.proofs.lemmas.Bool.{false≢true}
-use Rattle.humantime.specs.Durations.Characters.{greek_mu, white_spaces, is_ws, is_digit, is_numeric, significant}
-use Rattle.humantime.specs.Durations.Units.{Addition, Scale}
+use Rattle.humantime.specs.Durations.Characters.{greek_mu, white_spaces, is_ws, is_digit, is_numeric}
+use Rattle.humantime.specs.Durations.Units.{Scale}
 use Rattle.humantime.specs.Durations.Spans.{Span, Only, Spells, SpellsEach}
-use Rattle.humantime.specs.Durations.Accepted.{fraction_additions, additions_at, additions, total, Formed, FitsFraction, Fits, Accepted, Bare_zero, Sum_of}
-use Rattle.humantime.specs.Laws.Older.{is_older_letter, older_fraction_additions, older_additions_at, older_additions, OlderFormed, OlderFitsFraction, OlderFits, AcceptedWithZeros, Older_zero, Older_sum, AcceptedWithoutMu, Oldest_zero, Oldest_sum, IsStillAccepted, HasMu, KeepsValueWithZeros}
+use Rattle.humantime.specs.Durations.Accepted.{additions_at, additions, total, Formed, Fits, Accepted, Bare_zero, Sum_of}
+use Rattle.humantime.specs.Laws.Older.{is_older_letter, older_additions_at, older_additions, OlderFormed, OlderFits, AcceptedWithZeros, Older_zero, Older_sum, AcceptedWithoutMu, Oldest_zero, Oldest_sum, IsStillAccepted, HasMu, KeepsValueWithZeros}
 use Rattle.humantime.proofs.Durations.Reading.Outcomes.{outcome_accepted}
 use Rattle.humantime.proofs.Durations.Reading.SignificantDigits.{significant_shorter, whole_part_kept, amount_kept}
 
+-- what follows from what holds of each element holds of each
+each_then : {A : Type 0} (P Q : A → Type 0) → ((x : A) → P x → Q x) → (xs : List A) → AllByRecursion P xs → AllByRecursion Q xs
+each_then P Q then [] h = tt
+each_then P Q then (x ∷ xs) h = (then x h.0, each_then P Q then xs h.1)
+
 -- ---- zeros at the end of a fraction
 
-fraction_still_adds : (f : Option Addition) (o : Option (List ℕ)) → older_fraction_additions f o ≡ fraction_additions f o
-fraction_still_adds f o = grind (arith, common_steps, amount_kept)
-
 span_still_adds : (o : Option Scale) (s : Span) → older_additions_at o s ≡ additions_at o s
-span_still_adds o s = grind (arith, common_steps, fraction_still_adds)
+span_still_adds o s = grind (arith, common_steps, amount_kept)
 
 still_add : (spans : List Span) → older_additions spans ≡ additions spans
 still_add spans = grind (arith, common_steps, span_still_adds)
 
-still_short : (o : Option (List ℕ)) → IfSome o (λ ds. length ds ≤ 19) → IfSome o (λ ds. length (significant ds) ≤ 19)
-still_short o h = grind (arith, common_steps, significant_shorter)
-
-still_formed : (spans : List Span) → AllByRecursion OlderFormed spans → AllByRecursion Formed spans
-still_formed [] f = tt
-still_formed (s ∷ ss) f = (record { numbers = record { number = f.0.number; fraction = still_short s.fraction f.0.fraction }; word = f.0.word }, still_formed ss f.1)
-
-fraction_still_fits : (f : Option Addition) (o : Option (List ℕ)) → OlderFitsFraction f o → FitsFraction f o
-fraction_still_fits f o h = grind (arith, common_steps, whole_part_kept)
+still_formed : (s : Span) → OlderFormed s → Formed s
+still_formed s f = grind (arith, common_steps, significant_shorter)
 
 still_fits : (s : Span) → OlderFits s → Fits s
-still_fits s h = grind (arith, common_steps, fraction_still_fits)
-
-still_fit : (spans : List Span) → AllByRecursion OlderFits spans → AllByRecursion Fits spans
-still_fit [] f = tt
-still_fit (s ∷ ss) f = (still_fits s f.0, still_fit ss f.1)
+still_fits s h = grind (arith, common_steps, whole_part_kept)
 
 zeros_still_accepted : (text : List ℕ) → IsStillAccepted text
 zeros_still_accepted text v (Older_zero e z) = Bare_zero e z
 zeros_still_accepted text v (Older_sum spans h g sum) =
     let same = still_add spans in
-    Sum_of spans h (record { formed = still_formed spans g.formed; fit = still_fit spans g.fit; room = rw (← same) g.room })
-    (ap total (sym same) ∙ sum)
+    let formed = each_then OlderFormed Formed still_formed spans g.formed in
+    let fit = each_then OlderFits Fits still_fits spans g.fit in
+    Sum_of spans h (record { formed = formed; fit = fit; room = rw (← same) g.room }) (ap total (sym same) ∙ sum)
 
 pub still_accepted : (text : List ℕ) → KeepsValueWithZeros text
 still_accepted text =
@@ -77,8 +68,7 @@ not_mu : (p : ℕ → Bool) → p greek_mu ≡ false → (c : ℕ) → p c ≡ t
 not_mu p fails c passes = grind (arith, common_steps)
 
 none_is_mu : (p : ℕ → Bool) → p greek_mu ≡ false → (cs : List ℕ) → Only p cs → Only is_not_mu cs
-none_is_mu p fails [] h = tt
-none_is_mu p fails (c ∷ cs) h = (not_mu p fails c h.0, none_is_mu p fails cs h.1)
+none_is_mu p fails = each_then (λ c. p c ≡ true) (λ c. is_not_mu c ≡ true) (not_mu p fails)
 
 no_mu_in_space : (cs : List ℕ) → Only is_ws cs → Only is_not_mu cs
 unfolding is_ws white_spaces

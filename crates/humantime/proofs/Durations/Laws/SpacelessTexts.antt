@@ -1,22 +1,22 @@
 -- A text without its white space spells the same spans.
 use Rattle.std.proofs.lemmas.Grind.{common_steps}
-use Rattle.std.proofs.Common.{◌≡◌, ℕ, Bool, true, false, cond, not, List, [], ◌∷◌, ◌++◌, Option, refl, sym, ap, ◌∙◌, inl, inr, subst, arith, rules}
+use Rattle.std.proofs.Common.{◌≡◌, ℕ, Bool, true, false, List, [], ◌∷◌, ◌++◌, Option, refl, sym, ap, ◌∙◌, inl, inr, subst, arith, rules}
 use Rattle.std.proofs.lemmas.Bool.{cases_Bool, or_parts}
 use Rattle.humantime.specs.Durations.Characters.{is_ws, is_digit, is_letter, begins, digits, bare_zero}
 use Rattle.humantime.specs.Durations.Spans.{Span, Only, SpellsFraction, Spells, SpellsEach, SpellsAll, Reads}
 use Rattle.humantime.specs.Durations.Accepted.{Accepted}
 use Rattle.humantime.specs.Laws.Texts.{without_white_space, NeedsNoWhiteSpace}
-use Rattle.humantime.proofs.Durations.Reading.Classes.{digit_not_space, letter_not_space, point_not_numeric, is_point-46}
+use Rattle.humantime.proofs.Durations.Reading.Classes.{digit_not_space, space_not_digit, letter_not_space, point_not_numeric, is_point-46}
 use Rattle.humantime.proofs.Durations.Reading.Outcomes.{zero_or_not}
 use Rattle.humantime.proofs.Durations.Printing.PrintedDigits.{some_digit}
 use Rattle.humantime.proofs.Durations.Laws.Readings.{spans_of_accepted, same_spans}
 
 -- white space goes, and each other character stays
 spaceless-space : (c : ℕ) (cs : List ℕ) → is_ws c ≡ true → without_white_space (c ∷ cs) ≡ without_white_space cs
-spaceless-space c cs e = ap (λ (b : Bool). cond (not b) (c ∷ without_white_space cs) (without_white_space cs)) e
+spaceless-space c cs e = rw e refl
 
 spaceless-other : (c : ℕ) (cs : List ℕ) → is_ws c ≡ false → without_white_space (c ∷ cs) ≡ c ∷ without_white_space cs
-spaceless-other c cs e = ap (λ (b : Bool). cond (not b) (c ∷ without_white_space cs) (without_white_space cs)) e
+spaceless-other c cs e = rw e refl
 
 only_space : (cs : List ℕ) → Only is_ws cs → without_white_space cs ≡ []
 only_space [] h = refl
@@ -29,9 +29,6 @@ only_letters (c ∷ cs) h = spaceless-other c cs (letter_not_space c h.0) ∙ ap
 still_only : (p : ℕ → Bool) (cs : List ℕ) → Only p cs → Only p (without_white_space cs)
 still_only p [] h = tt
 still_only p (c ∷ cs) h = grind (arith, common_steps, (still_only p cs h.1), (still_only p cs h.1), cases_Bool, spaceless-space)
-
-space_not_digit : (c : ℕ) → is_ws c ≡ true → is_digit c ≡ false
-space_not_digit c e = elim (cases_Bool (is_digit c)) [ inl d ↦ let n = digit_not_space c d in cc | inr d ↦ d ]
 
 same_digits : (cs : List ℕ) → digits (without_white_space cs) ≡ digits cs
 same_digits [] = refl
@@ -57,12 +54,11 @@ spells_each : (body : List ℕ) (spans : List Span) → SpellsEach body spans �
 spells_each body [] h = ap without_white_space h
 spells_each body (s ∷ ss) h = (without_white_space h.0, spells_span body h.0 s h.1, spells_each h.0 ss h.2)
 
-front_read : (text : List ℕ) (spans : List Span) → SpellsAll text spans → SpellsAll (without_white_space text) spans
-front_read text spans h = grind (arith, common_steps, only_space, spells_each)
-
 -- the text without its white space is read as the same spans
 pub spaceless_reads : (text : List ℕ) (spans : List Span) → Reads text spans → Reads (without_white_space text) spans
-spaceless_reads text spans h = (front_read text spans h.0, h.1)
+spaceless_reads text spans h =
+    let front : SpellsAll (without_white_space text) spans = grind (arith, common_steps, only_space, spells_each) in
+    (front, h.1)
 
 spaceless_zero : without_white_space bare_zero ≡ bare_zero
 spaceless_zero = spaceless-other 48 [] (digit_not_space 48 (some_digit bare_zero (search rules) (omega arith)))

@@ -1,23 +1,18 @@
 -- The laws of accepted texts as theorems over plain variables, each under the name of its function in `laws`, and some
 -- theorems beyond them.
-use Rattle.std.proofs.Common.{◌↔◌, ℕ, ◌+◌, ◌/◌, ◌≤◌, List, ◌∷◌, ◌++◌, inl, inr, chars}
-use Rattle.std.specs.List.{AllByRecursion}
-use Rattle.humantime.specs.Values.{nanos_per_second}
-use Rattle.humantime.specs.Durations.Characters.{is_ws, u64_max}
+use Rattle.std.proofs.Common.{◌↔◌, ℕ, ◌+◌, List, ◌++◌, inl, inr}
+use Rattle.humantime.specs.Durations.Characters.{is_ws}
 use Rattle.humantime.specs.Durations.Spans.{Span, Only, SpellsAll, Reads}
-use Rattle.humantime.specs.Durations.Accepted.{additions, AllHaveRoom, Accepted}
-use Rattle.humantime.specs.Durations.Faults.{NumberOverflow, HasFault}
-use Rattle.humantime.specs.Durations.Counts.{Canon}
+use Rattle.humantime.specs.Durations.Accepted.{Accepted}
+use Rattle.humantime.specs.Durations.Faults.{NumberOverflow}
 use Rattle.humantime.specs.Laws.Texts.{without_white_space, JoinedAnswerSumOrOverflow, ReorderedAnswerOneValue, KeepsValueWithoutSpace, AddWhenJoined, KeepValueReordered}
 use Rattle.humantime.proofs.Durations.Reading.Outcomes.{accepted_from_outcome, outcome_accepted, outcome_fault}
 use Rattle.humantime.proofs.Durations.Laws.Readings as readings
 use Rattle.humantime.proofs.Durations.Laws.SpacelessTexts as spaceless
 use Rattle.humantime.proofs.Durations.Laws.JoinedTexts as texts
-use Rattle.humantime.proofs.Durations.Laws.SmallAdditions as small
-use Rattle.humantime.proofs.Durations.Laws.SmallAdditions.{IsSmall}
-use Rattle.humantime.proofs.Durations.Laws.PrintedTogether as printed
-use Rattle.humantime.proofs.Durations.Laws.JoinedPieces as pieces
-use Rattle.humantime.proofs.Durations.Laws.JoinedPieces.{Piece, IsAcceptedPiece, joined_text, joined_spans, joined_value}
+pub use Rattle.humantime.proofs.Durations.Laws.SmallAdditions.{small_joined_sum}
+pub use Rattle.humantime.proofs.Durations.Laws.PrintedTogether.{printed_joined_sum}
+pub use Rattle.humantime.proofs.Durations.Laws.JoinedPieces.{pieces_sum, pieces_overflow}
 
 pub without_ws : (text : List ℕ) → KeepsValueWithoutSpace text
 without_ws text = record {
@@ -64,24 +59,3 @@ pub space_between : (before space after : List ℕ) (ss ts : List Span) (v : ℕ
 space_between before space after ss ts v h k only =
     same_spans (before ++ after) (before ++ (space ++ after)) (ss ++ ts) v
     (texts.reads-append before after ss ts h k) (texts.reads-space before space after ss ts h k only)
-
--- two texts of small additions, one behind the other, with the sum exactly where it is a duration
-pub small_joined_sum : (a b : List ℕ) (ss ts : List Span) (u v : ℕ) → Reads a ss → Reads b ts → Accepted a u → Accepted b v
-    → AllByRecursion IsSmall (additions ss) → AllByRecursion IsSmall (additions ts)
-    → Accepted (a ++ b) (u + v) ↔ ((u + v) / nanos_per_second ≤ u64_max)
-small_joined_sum = small.small_joined_sum
-
--- the printed texts of two durations, one behind the other, with the sum exactly where it is a duration
-pub printed_joined_sum : (d e : ℕ) (s t : List ℕ) → d / nanos_per_second ≤ u64_max → e / nanos_per_second ≤ u64_max → Canon d s → Canon e t
-    → Accepted (chars s ++ chars t) (d + e) ↔ ((d + e) / nanos_per_second ≤ u64_max)
-printed_joined_sum = printed.printed_joined_sum
-
--- any number of texts, one behind the other: with the sum exactly where there is room
-pub pieces_sum : (p : Piece) (ps : List Piece) → AllByRecursion IsAcceptedPiece (p ∷ ps)
-    → Accepted (joined_text (p ∷ ps)) (joined_value (p ∷ ps)) ↔ AllHaveRoom (additions (joined_spans (p ∷ ps)))
-pieces_sum = pieces.pieces_sum
-
--- and too large exactly where there is none
-pub pieces_overflow : (p : Piece) (ps : List Piece) → AllByRecursion IsAcceptedPiece (p ∷ ps)
-    → HasFault (joined_text (p ∷ ps)) NumberOverflow ↔ ¬ (AllHaveRoom (additions (joined_spans (p ∷ ps))))
-pieces_overflow = pieces.pieces_overflow

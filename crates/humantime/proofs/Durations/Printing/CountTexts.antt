@@ -1,7 +1,7 @@
 -- A text written count by count is the counts' text.
 use Rattle.std.proofs.lemmas.Grind.{common_steps}
 use Rattle.std.proofs.Common.{◌≡◌, inl, inr, true, false, ℕ, ◌/◌, ◌%◌, ◌<◌, ◌^◌, List, [], ◌∷◌, ◌++◌, length, refl, ap, sym, ◌∙◌, arith}
-use Rattle.std.specs.Prelude.{codes, map, nat_lt}
+use Rattle.std.specs.Prelude.{map, nat_lt}
 use Rattle.std.specs.List.{AllByRecursion, filter, zip, join_with_byte}
 use Rattle.std.proofs.lemmas.Bool.{cases_Bool}
 use Rattle.std.proofs.lemmas.Bool.Decides.{nat_tests}
@@ -9,7 +9,7 @@ use Rattle.std.proofs.lemmas.List.{append_assoc, append-nil, length-append}
 use Rattle.std.proofs.lemmas.Fmt.{decimal_nonempty}
 use Rattle.humantime.specs.Values.{nanos_per_micro, nanos_per_milli, nanos_per_second, seconds_per_minute, seconds_per_hour, seconds_per_day, seconds_per_month, seconds_per_year}
 use Rattle.humantime.specs.References.Durations.Printing.{divided, duration_text, separated, with_count, with_seconds, with_nanos, or_zero, written_text}
-use Rattle.humantime.specs.Durations.Counts.{Suffix, weights, suffixes, printed_count, printed_counts, joined_by_space}
+use Rattle.humantime.specs.Durations.Counts.{Suffix, weights, suffixes, printed_count, joined_by_space}
 use Rattle.humantime.proofs.Durations.Printing.PrintedRows.{space, table, most}
 use Rattle.humantime.proofs.Durations.Printing.PrintedSpans.{IsCount, rows}
 
