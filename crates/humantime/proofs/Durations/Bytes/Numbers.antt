@@ -1,16 +1,16 @@
 -- Reading the digits that begin a text, one by one.
 use Rattle.std.proofs.lemmas.Grind.{common_steps}
-use Rattle.std.proofs.Common.{◌≡◌, ◌≤◌, ◌<◌, ◌+◌, ◌-◌, ◌*◌, ℕ, List, [], ◌∷◌, ◌++◌, ap, sym, ◌∙◌, arith, append_assoc, append-nil, true, false, chars, take, drop, get_or, length, length-drop, IsUtf8, IsCharBoundary, ◌≢◌, inl, inr, refl, Some, None}
+use Rattle.std.proofs.Common.{◌≡◌, ◌≤◌, ◌<◌, ◌+◌, ◌-◌, ◌*◌, ℕ, List, [], ◌∷◌, ◌++◌, ap, sym, ◌∙◌, arith, append_assoc, append-nil, true, false, chars, take, drop, get_or, length, IsUtf8, IsCharBoundary, ◌≢◌, refl, Some, None}
 use Rattle.std.specs.Char.{digit_value, is_ascii_digit}
 use Rattle.std.specs.Str.Parse.{digits_value_after}
 use Rattle.std.proofs.lemmas.Str.{digit_value_digit, IsCharBoundary-start}
-use Rattle.std.proofs.lemmas.Bool.{cases_lt, lt-ltb}
+use Rattle.std.proofs.lemmas.Bool.{lt-ltb}
 use Rattle.std.proofs.lemmas.Bool.Decides.{nat_tests}
 use Rattle.humantime.specs.Durations.Characters.{is_ws, is_digit, is_numeric, begins, leading, decimal_value, u64_max}
 use Rattle.humantime.specs.Durations.Faults.{number_of, after_number}
 use Rattle.humantime.specs.References.Durations.Scanning.{space_width, number_at}
 use Rattle.humantime.proofs.Durations.Bytes.PlaceSteps.{digit_over, digit_at, space_over, no_space}
-use Rattle.humantime.proofs.Durations.Bytes.Tails.{no_bytes, front_is}
+use Rattle.humantime.proofs.Durations.Bytes.Tails.{front_is}
 use Rattle.humantime.proofs.Durations.Reading.Classes.{digit_is_numeric, space_is_numeric, space_not_digit}
 use Rattle.humantime.proofs.Durations.Reading.SignificantDigits.{value-append}
 
@@ -27,40 +27,42 @@ digit_read : (text ds rest cs : List ℕ) (c : ℕ) → number_of text ≡ ds ++
     → number_of text ≡ (ds ++ c ∷ []) ++ number_of cs
 digit_read text ds rest cs c h e d = grind (arith, common_steps, append_assoc {A = ℕ})
 
-pub read_digit : (text : List ℕ) (at : ℕ) (ds : List ℕ) → IsUtf8 text → at < length text → IsRead text at ds
-    → is_ascii_digit (get_or text at 0) ≡ true → IsRead text (at + 1) (ds ++ get_or text at 0 ∷ [])
-read_digit text at ds u some h d =
-    let c = digit_over text at u (some, h.place) d in
-    record { place = c.1.place; all = digit_read _ ds _ _ _ h.all c.1.ahead c.0; after = rw (c.1.ahead, digit_is_numeric _ c.0) at h.after }
+pub read_digit : (text bytes : List ℕ) (at : ℕ) (ds : List ℕ) → IsUtf8 text → bytes ≡ text → at < length bytes → IsRead text at ds
+    → is_ascii_digit (get_or bytes at 0) ≡ true → IsRead text (at + 1) (ds ++ get_or bytes at 0 ∷ [])
+read_digit text bytes at ds u same some h d =
+    let c = digit_over text at u (rw same at some, h.place) (rw same at d) in
+    rw same
+    (record { place = c.1.place; all = digit_read _ ds _ _ _ h.all c.1.ahead c.0; after = rw (c.1.ahead, digit_is_numeric _ c.0) at h.after })
 
-pub read_space : (text : List ℕ) (at width : ℕ) (ds : List ℕ) → IsUtf8 text → at < length text → IsRead text at ds
+pub read_space : (text bytes : List ℕ) (at width : ℕ) (ds : List ℕ) → IsUtf8 text → bytes ≡ text → at < length bytes → IsRead text at ds
     → width ≡ space_width (chars (drop at text)) → width ≢ 0 → IsRead text (at + width) ds
-read_space text at width ds u some h w further =
-    let c = space_over text at width u (some, h.place) w further in
+read_space text bytes at width ds u same some h w further =
+    let c = space_over text at width u (rw same at some, h.place) w further in
     record {
       place = c.2.place;
       all = rw (c.2.ahead, space_is_numeric _ c.1, space_not_digit _ c.1) at h.all;
       after = rw (c.2.ahead, space_is_numeric _ c.1) at h.after;
     }
 
--- all digits are read at the end, and where neither a digit nor white space stands
-pub all_read : (text : List ℕ) (at : ℕ) (ds : List ℕ) → IsUtf8 text → IsRead text at ds → (at < length text
-    → (is_ascii_digit (get_or text at 0) ≡ false) × (space_width (chars (drop at text)) ≡ 0))
+no_numeric : (rest : List ℕ) → begins is_digit rest ≡ false → begins is_ws rest ≡ false → begins is_numeric rest ≡ false
+no_numeric rest d w = grind (arith, common_steps)
+
+none_there : (rest : List ℕ) → begins is_numeric rest ≡ false → (number_of rest ≡ []) × (after_number rest ≡ rest)
+none_there rest e = grind (arith, common_steps)
+
+-- no digit and no white space stands at this place
+pub stops_here : (text bytes : List ℕ) (at : ℕ) → IsUtf8 text → bytes ≡ text → at < length bytes → IsCharBoundary text at → is_ascii_digit (get_or bytes at 0) ≡ false
+    → 0 ≡ space_width (chars (drop at text)) → begins is_numeric (chars (drop at text)) ≡ false
+stops_here text bytes at u same some place d w =
+    no_numeric _ (sym (digit_at text at u (rw same at some, place)) ∙ rw same at d) (no_space _ (sym w))
+
+-- all digits are read where none follows, and no white space
+pub all_read : (text : List ℕ) (at : ℕ) (ds : List ℕ) → IsUtf8 text → IsRead text at ds → begins is_numeric (chars (drop at text)) ≡ false
     → (number_of (chars text) ≡ ds) × (chars (take at text) ≡ leading is_numeric (chars text)) × (chars (drop at text) ≡ after_number (chars text))
-all_read text at ds u h stops =
-    let ended : begins is_numeric (chars (drop at text)) ≡ false = elim (cases_lt at (length text)) [
-      | inl some ↦ no_numeric _ (sym (digit_at text at u (some, h.place)) ∙ (stops some).0) (no_space _ (stops some).1)
-      | inr end ↦ ap (begins is_numeric) (no_bytes (drop at text) (omega (arith, length-drop at text)))
-    ] in
-    let behind = nothing_read _ ended in
+all_read text at ds u h ended =
+    let behind = none_there _ ended in
     let after : chars (drop at text) ≡ after_number (chars text) = sym behind.1 ∙ h.after in
     (h.all ∙ ap (λ (x : List ℕ). ds ++ x) behind.0 ∙ append-nil ds, front_is is_numeric text at u h.place after, after)
-  where
-    no_numeric : (rest : List ℕ) → begins is_digit rest ≡ false → begins is_ws rest ≡ false → begins is_numeric rest ≡ false
-    no_numeric rest d w = grind (arith, common_steps)
-
-    nothing_read : (rest : List ℕ) → begins is_numeric rest ≡ false → (number_of rest ≡ []) × (after_number rest ≡ rest)
-    nothing_read rest e = grind (arith, common_steps)
 
 pub digit_range : (c : ℕ) → is_digit c ≡ true → (48 ≤ c) × (c ≤ 57)
 unfolding is_digit

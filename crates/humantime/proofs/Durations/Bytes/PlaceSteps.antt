@@ -171,6 +171,7 @@ no_letter text at u here wide other =
     let c = char_at text at u here in
     rw c.1.ahead (grind (arith, common_steps, micro_bytes, mu_bytes, two_bytes, nat_tests))
 
--- where no digit follows, white space ends a span
-pub ends_by_width : (cs : List ℕ) → cs ≢ [] → begins is_digit cs ≡ false → ltb 0 (space_width cs) ≡ ends_span cs
-ends_by_width cs some other = grind (arith, common_steps, len_utf8_bounds)
+-- white space ends a span, and so does a digit
+pub ends_by_width : (cs : List ℕ) → cs ≢ [] → (ltb 0 (space_width cs) ≡ true → ends_span cs ≡ true) × (ltb 0 (space_width cs) ≡ false → begins is_digit cs ≡ ends_span cs)
+ends_by_width [] some = absurd (some refl)
+ends_by_width (c ∷ cs) some = grind (arith, common_steps, len_utf8_bounds)

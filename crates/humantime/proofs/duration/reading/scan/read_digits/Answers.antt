@@ -1,9 +1,11 @@
 use Rattle.std.proofs.lemmas.Grind.{common_steps}
-use Rattle.std.proofs.Common.{◌≡◌, ◌<◌, ◌+◌, ◌++◌, ◌∷◌, [], get_or, length, sym, ◌∙◌, chars, take, drop, arith, length-append, append_assoc}
+use Rattle.std.proofs.Common.{◌≡◌, ◌+◌, ◌++◌, ◌∷◌, [], get_or, sym, ap, ◌∙◌, chars, take, drop, false, arith, length-append, append_assoc}
+use Rattle.humantime.specs.Durations.Characters.{is_numeric, begins}
 use Rattle.humantime.specs.Durations.Faults.{number_of}
 use Rattle.humantime.proofs.Durations.Reading.Classes.{digit_is}
-use Rattle.humantime.proofs.Durations.Bytes.Numbers.{none_read, read_digit, read_space, all_read}
+use Rattle.humantime.proofs.Durations.Bytes.Numbers.{none_read, read_digit, read_space, stops_here, all_read}
 use Rattle.humantime.proofs.Durations.Bytes.FractionDigits.{no_digits, digits_pass, digits_end}
+use Rattle.humantime.proofs.Durations.Bytes.Tails.{no_chars_at}
 use Rattle.humantime.proofs.duration.reading.scan.read_digits.Goals as goal
 use Rattle.humantime.proofs.duration.reading.scan.read_digits.Goals.{else-loop-at-test, then-loop-at-test+else-is_ascii_digit+in-0}
 
@@ -22,40 +24,39 @@ push-requires-clause-room c = omega (arith, c.loop-at.invariant.digits.zeros, c.
 pub loop-at-preserved-then-is_ascii_digit : goal.loop-at-preserved-then-is_ascii_digit
 loop-at-preserved-then-is_ascii_digit c =
     let i = c.loop-at.invariant in
-    let digit = rw c.as_bytes-bytes.ensures.value at (sym c.is_ascii_digit.ensures.value ∙ c.if-is_ascii_digit.true) in
+    let digit = sym c.is_ascii_digit.ensures.value ∙ c.if-is_ascii_digit.true in
     record {
-      taken = i.taken ++ get_or c.args.text.now c.loop-at.at 0 ∷ [];
-      read = read_digit _ _ _ c.utf8.text (omega (arith, c.loop-at-test.true, c.as_bytes-bytes.ensures.len)) i.read digit;
-      digits = rw c.as_bytes-bytes.ensures.value at (c.in_ok-digits.ensures i.taken i.digits);
-      few = omega (arith, length-append i.taken (get_or c.args.text.now c.loop-at.at 0 ∷ []), i.few);
+      taken = i.taken ++ get_or c.as_bytes-bytes.result.now c.loop-at.at 0 ∷ [];
+      read = read_digit _ _ _ _ c.utf8.text c.as_bytes-bytes.ensures.value c.loop-at-test.true i.read digit;
+      digits = c.in_ok-digits.ensures i.taken i.digits;
+      few = omega (arith, length-append i.taken (get_or c.as_bytes-bytes.result.now c.loop-at.at 0 ∷ []), i.few);
     }
 
 pub loop-at-preserved : goal.loop-at-preserved
 loop-at-preserved c =
     let i = c.loop-at.invariant in
-    let some : c.loop-at.at < length c.args.text.now = omega (arith, c.loop-at-test.true, c.as_bytes-bytes.ensures.len) in
-    let read = read_space _ _ _ _ c.utf8.text some i.read c.space_at.ensures (grind (arith, common_steps)) in
+    let read = read_space _ _ _ _ _ c.utf8.text c.as_bytes-bytes.ensures.value c.loop-at-test.true i.read c.space_at.ensures (grind (arith, common_steps)) in
     record { taken = i.taken; read = read; digits = i.digits; few = omega (arith, i.few) }
 
 pub returns-in_err-digits-clause-value : goal.returns-in_err-digits-clause-value
 returns-in_err-digits-clause-value c =
     let i = c.loop-at.invariant in
-    let at = c.loop-at.at in
-    let digit = rw c.as_bytes-bytes.ensures.value at (sym c.is_ascii_digit.ensures.value ∙ c.if-is_ascii_digit.true) in
-    let over = rw c.as_bytes-bytes.ensures.value at (c.in_err-digits.ensures i.taken i.digits (number_of (chars (drop (at + 1) c.args.text.now)))) in
-    let read = read_digit _ _ _ c.utf8.text (omega (arith, c.loop-at-test.true, c.as_bytes-bytes.ensures.len)) i.read digit in
+    let digit = sym c.is_ascii_digit.ensures.value ∙ c.if-is_ascii_digit.true in
+    let read = read_digit _ _ _ _ c.utf8.text c.as_bytes-bytes.ensures.value c.loop-at-test.true i.read digit in
+    let over = c.in_err-digits.ensures i.taken i.digits (number_of (chars (drop (c.loop-at.at + 1) c.args.text.now))) in
     rw c.from_residual.ensures (digits_pass _ _ (read.all ∙ append_assoc i.taken _ _) over)
+
+pub fraction-requires : goal.fraction-requires
+fraction-requires c = c.loop-at.invariant.digits.few
 
 pub returns-clause-value : goal.returns-clause-value
 returns-clause-value c =
     let i = c.loop-at.invariant in
-    let a = all_read _ _ _ c.utf8.text i.read (elim c.loop-at-test.branch [
-      | else-loop-at-test w ↦ λ some. absurd (omega (arith, w.loop-at-test.false, c.as_bytes-bytes.ensures.len, some))
-      | then-loop-at-test+else-is_ascii_digit+in-0 w ↦ λ some.
-          (rw c.as_bytes-bytes.ensures.value at (sym w.is_ascii_digit.ensures.value ∙ w.if-is_ascii_digit.false), omega (arith, w.space_at.ensures, w.in-0.is))
-    ]) in
+    let ended : begins is_numeric (chars (drop c.loop-at.at c.args.text.now)) ≡ false = elim c.loop-at-test.branch [
+      | else-loop-at-test w ↦ ap (begins is_numeric) (no_chars_at c.args.text.now c.loop-at.at (omega (arith, w.loop-at-test.false, c.as_bytes-bytes.ensures.len)))
+      | then-loop-at-test+else-is_ascii_digit+in-0 w ↦
+          stops_here _ _ _ c.utf8.text c.as_bytes-bytes.ensures.value w.loop-at-test.true i.read.place
+          (sym w.is_ascii_digit.ensures.value ∙ w.if-is_ascii_digit.false) (sym w.in-0.is ∙ w.space_at.ensures)
+    ] in
     let front : c.range.result.now ≡ take c.loop-at.at c.args.text.now = grind (arith, common_steps) in
-    rw (front, c.range_from.ensures.value) (digits_end c.loop-at.digits c.fraction.result _ _ _ _ i.digits (c.fraction.ensures i.taken i.digits) a)
-
-pub fraction-requires : goal.fraction-requires
-fraction-requires c = c.loop-at.invariant.digits.few
+    rw (front, c.range_from.ensures.value) (digits_end c.loop-at.digits c.fraction.result _ _ _ _ i.digits (c.fraction.ensures i.taken i.digits) (all_read _ _ _ c.utf8.text i.read ended))
