@@ -1,9 +1,9 @@
 pub mod Buffers
 pub mod Dates
 pub mod Durations
+pub mod Moments
 pub mod OnLiterals
 pub mod Theorems
 pub mod Timestamps
 pub mod TimestampsOnLiterals
-pub mod Values
 pub mod Walks

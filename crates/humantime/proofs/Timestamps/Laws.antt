@@ -1,5 +1,4 @@
--- What callers cite of timestamps, under the names of `laws`, and the order of printed texts.
-pub mod Order
+-- What callers cite of timestamps, under the names of `laws`.
 pub mod Printable
 pub mod Reading
 pub mod StrictForm

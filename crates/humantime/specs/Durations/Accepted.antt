@@ -2,34 +2,44 @@
 use Rattle.std.specs.Prelude.{ℕ, ◌*◌, ◌/◌, ◌^◌, List, [], ◌∷◌, length, Option, Some, None, sum_by, flat_map, ◌≡◌, ◌+◌, ◌%◌, ◌≤◌, ◌++◌, IsSome, IfSome, ⊤}
 use Rattle.std.specs.List.{AllByRecursion}
 use Rattle.humantime.specs.Durations.Characters.{decimal_value, significant, u64_max, bare_zero}
-use Rattle.humantime.specs.Durations.Units.{Scale, scale_of_word}
+use Rattle.humantime.specs.Durations.Units.{Addition, Nanos, Seconds, Scale, scale_of_word}
 use Rattle.humantime.specs.Durations.Spans.{Span, Reads}
 use Rattle.humantime.specs.Values.{nanos_per_second}
 
--- An amount that is added: so many times its base, which is one nanosecond or one second.
-pub record Addition : Type 0 where
-  pub base : ℕ
-  pub amount : ℕ
+-- how much is added: the number alone, and in nanoseconds; and the sum of some additions
+abbrev pub amount : Addition → ℕ
+amount (Nanos n) = n
+amount (Seconds n) = n
 
--- an addition in nanoseconds, and the sum of some
 abbrev pub addition_nanos : Addition → ℕ
-addition_nanos x = x.base * x.amount
+addition_nanos (Nanos n) = n
+addition_nanos (Seconds n) = n * nanos_per_second
 
 abbrev pub total : List Addition → ℕ
 total xs = sum_by addition_nanos xs
 
+-- an addition of the same kind with so much in place of its amount
+abbrev pub of_kind : Addition → ℕ → Addition
+of_kind (Nanos _) n = Nanos n
+of_kind (Seconds _) n = Seconds n
+
+-- so many times an addition
+abbrev pub times : ℕ → Addition → Addition
+times n x = of_kind x (n * amount x)
+
+-- the part of an addition that these digits behind a point are
+abbrev pub part : List ℕ → Addition → Addition
+part ds x = of_kind x (decimal_value ds * amount x / 10 ^ length ds)
+
 -- what a fraction adds, where there is one and its unit has fractions; zeros at its end are left out
-abbrev pub fraction_additions : ℕ → Option ℕ → Option (List ℕ) → List Addition
-fraction_additions base (Some factor) (Some ds) =
-    record { base = base; amount = decimal_value (significant ds) * factor / 10 ^ length (significant ds) } ∷ []
-fraction_additions base _ _ = []
+abbrev pub fraction_additions : Option Addition → Option (List ℕ) → List Addition
+fraction_additions (Some x) (Some ds) = part (significant ds) x ∷ []
+fraction_additions _ _ = []
 
 -- what a span adds where its word is this unit's: its number first, and then its fraction
 abbrev pub additions_at : Option Scale → Span → List Addition
 additions_at None s = []
-additions_at (Some u) s =
-    record { base = u.base; amount = decimal_value s.number * u.factor }
-    ∷ fraction_additions u.fraction_base u.fraction_factor s.fraction
+additions_at (Some u) s = times (decimal_value s.number) u.one ∷ fraction_additions u.fraction s.fraction
 
 -- what spans add, in order, and their value: the plain sum of all additions, in nanoseconds
 abbrev pub additions : List Span → List Addition
@@ -48,24 +58,25 @@ pub record Formed (s : Span) : Type 0 where
   pub numbers : NumbersFit s
   pub word : IsSome (scale_of_word s.word)
 
--- these digits are a whole number of parts, and their product with the factor fits a u64
+-- the part that these digits are of so many is a whole number, and the product before the division fits a u64
 abbrev pub IsWholePart : ℕ → List ℕ → Type 0
-IsWholePart factor ds = (decimal_value ds * factor ≤ u64_max) × (decimal_value ds * factor % 10 ^ length ds ≡ 0)
+IsWholePart n ds = (decimal_value ds * n ≤ u64_max) × (decimal_value ds * n % 10 ^ length ds ≡ 0)
 
--- a fraction is a whole number of its base; where its unit has no fractions, it is nothing but zeros
-abbrev pub FitsFraction : Option ℕ → Option (List ℕ) → Type 0
+-- a fraction is a whole number of nanoseconds or of seconds; where its unit has no fractions, it is nothing but zeros
+abbrev pub FitsFraction : Option Addition → Option (List ℕ) → Type 0
 FitsFraction _ None = ⊤
 FitsFraction None (Some ds) = significant ds ≡ []
-FitsFraction (Some factor) (Some ds) = IsWholePart factor (significant ds)
+FitsFraction (Some x) (Some ds) = IsWholePart (amount x) (significant ds)
 
 -- the number's product with its unit fits a u64, and the fraction fits its unit
 abbrev pub Fits : Span → Type 0
-Fits s = IfSome (scale_of_word s.word) (λ u. (decimal_value s.number * u.factor ≤ u64_max) × FitsFraction u.fraction_factor s.fraction)
+Fits s = IfSome (scale_of_word s.word) (λ u. (decimal_value s.number * amount u.one ≤ u64_max) × FitsFraction u.fraction s.fraction)
 
--- x may be added to t nanoseconds: where x counts nanoseconds, its amount and the nanoseconds beyond the whole seconds of t are
--- together at most the greatest u64; and so are the whole seconds of the new sum
+-- what may be added to t nanoseconds: the whole seconds of the new sum are at most the greatest u64; and where nanoseconds are
+-- added, so are these and the nanoseconds beyond the whole seconds of t, together
 abbrev pub HasRoom : ℕ → Addition → Type 0
-HasRoom t x = (x.base ≡ 1 → t % nanos_per_second + x.amount ≤ u64_max) × ((t + addition_nanos x) / nanos_per_second ≤ u64_max)
+HasRoom t (Nanos n) = (t % nanos_per_second + n ≤ u64_max) × ((t + n) / nanos_per_second ≤ u64_max)
+HasRoom t (Seconds n) = t / nanos_per_second + n ≤ u64_max
 
 -- each addition may be added to those before it
 abbrev pub AllHaveRoom : List Addition → Type 0

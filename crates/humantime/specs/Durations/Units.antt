@@ -4,31 +4,31 @@ use Rattle.std.specs.Map.{lookup}
 use Rattle.humantime.specs.Values.{nanos_per_micro, nanos_per_milli, nanos_per_second, seconds_per_minute, seconds_per_hour, seconds_per_day, seconds_per_week, seconds_per_month, seconds_per_year}
 use Rattle.humantime.specs.Durations.Characters.{micro_sign, greek_mu}
 
--- What a word stands for. A number before it counts `factor` times `base` nanoseconds. A fraction of one counts
--- `fraction_factor` times `fraction_base` nanoseconds, where there may be a fraction.
+-- An amount that is added: so many nanoseconds, or so many seconds.
+pub data Addition : Type 0 where
+  Nanos : ℕ → Addition
+  Seconds : ℕ → Addition
+
+-- What a word stands for: what one of it adds, and what its fractions are parts of, where it has fractions.
 pub record Scale : Type 0 where
-  pub base : ℕ
-  pub factor : ℕ
-  pub fraction_base : ℕ
-  pub fraction_factor : Option ℕ
+  pub one : Addition
+  pub fraction : Option Addition
 
 -- one nanosecond, of which there is no fraction
 abbrev pub whole_nanos : Scale
-whole_nanos = record { base = 1; factor = 1; fraction_base = 1; fraction_factor = None }
+whole_nanos = record { one = Nanos 1; fraction = None }
 
 -- counted in nanoseconds, as the fraction is
 abbrev pub in_nanos : ℕ → Scale
-in_nanos factor = record { base = 1; factor = factor; fraction_base = 1; fraction_factor = Some factor }
+in_nanos size = record { one = Nanos size; fraction = Some (Nanos size) }
 
 -- counted in seconds, and the fraction in nanoseconds
 abbrev pub in_seconds_and_nanos : ℕ → Scale
-in_seconds_and_nanos factor =
-    record { base = nanos_per_second; factor = factor; fraction_base = 1; fraction_factor = Some (factor * nanos_per_second) }
+in_seconds_and_nanos size = record { one = Seconds size; fraction = Some (Nanos (size * nanos_per_second)) }
 
 -- counted in seconds, as the fraction is
 abbrev pub in_seconds : ℕ → Scale
-in_seconds factor =
-    record { base = nanos_per_second; factor = factor; fraction_base = nanos_per_second; fraction_factor = Some factor }
+in_seconds size = record { one = Seconds size; fraction = Some (Seconds size) }
 
 -- these words, each with what it stands for
 abbrev unit_words : List (List ℕ) → Scale → List (List ℕ × Scale)

@@ -5,9 +5,10 @@ use Rattle.std.specs.Ordering.{nat_cmp, int_cmp}
 use Rattle.std.specs.Str.{byte}
 use Rattle.humantime.specs.declared.date.error.TimestampError.{TimestampError}
 use Rattle.humantime.specs.Timestamps.Fields.{Fields, IsWeak, IsStrict, IsWeakMoment, IsStrictMoment}
-use Rattle.humantime.specs.Timestamps.Printed.{cut, IsPrinted}
+use Rattle.humantime.specs.Timestamps.Printed.{cut, IsPrinted, IsPrintable}
 use Rattle.humantime.specs.Timestamps.Checks.{ends_in_zone, first_failed, weak_checks, strict_checks}
 use Rattle.humantime.specs.References.Timestamps.Reading.{strict_answer, weak_answer}
+use Rattle.humantime.specs.References.Timestamps.Printing.{moment_text}
 
 -- some parts are shown exactly where no check fails, and then no others
 abbrev pub OneTimestamp : List (Bool × TimestampError) → (Fields → Type 0) → Type 0
@@ -61,3 +62,12 @@ pub record StrictForm (text : List ℕ) : Type 0 where
   pub weak : (t : ℤ) → strict_answer text ≡ Ok t → weak_answer text ≡ Ok t
   pub marked : (t : ℤ) → strict_answer text ≡ Ok t → IsMarked text
   pub strict : (t : ℤ) → weak_answer text ≡ Ok t → IsMarked text → strict_answer text ≡ Ok t
+
+-- the one text of the moment t, printed with k digits, which `Display` writes, and what both parsers read it as
+pub record PrintedMoment (t : ℤ) (k : ℕ) : Type 0 where
+  pub one : IsPrintable t → OnePrinted t k
+  pub displayed : (text : List ℕ) → (moment_text t k ≡ Some text) ↔ (IsPrintable t × IsPrinted t k text)
+  pub reads : (text : List ℕ) → IsPrinted t k text → ReadsAs text (cut t k)
+  pub strict : (text : List ℕ) → IsPrinted t k text → strict_answer text ≡ Ok (cut t k)
+  pub weak : (text : List ℕ) → IsPrinted t k text → weak_answer text ≡ Ok (cut t k)
+  pub whole : cut t 9 ≡ t

@@ -1,15 +1,10 @@
 //! Laws of timestamps.
 
-ghost use Rattle.std.specs.Prelude.{◌≡◌, ◌↔◌, ◌<ℤ◌, ℕ, ℤ, List, Some, Ok, Err, IsTrue};
+ghost use Rattle.std.specs.Prelude.{◌↔◌, ◌<ℤ◌, ℕ, List, IsTrue};
 ghost use Rattle.std.specs.Cmp.Lexicographic.{slice_cmp};
 ghost use Rattle.std.specs.Ordering.{is_lt, nat_cmp};
-ghost use Rattle.humantime.specs.declared.date.error.TimestampError.{TimestampError};
-ghost use Rattle.humantime.specs.Timestamps.Fields.{IsWeak, IsStrict, IsWeakMoment, IsStrictMoment};
-ghost use Rattle.humantime.specs.Timestamps.Checks.{weak_checks, strict_checks, first_failed};
-ghost use Rattle.humantime.specs.Laws.Timestamps.{OneTimestamp, StrictIsWeak, StrictMomentIsWeak, IsMarked, InOrder, OnePrinted, ReadsAs, StampOutcome, StrictForm};
-ghost use Rattle.humantime.specs.Timestamps.Printed.{cut, IsPrintable, IsPrinted};
-ghost use Rattle.humantime.specs.References.Timestamps.Printing.{printed_text};
-ghost use Rattle.humantime.specs.References.Timestamps.Reading.{weak_answer, strict_answer};
+ghost use Rattle.humantime.specs.Laws.Timestamps.{InOrder, PrintedMoment, StampOutcome, StrictForm};
+ghost use Rattle.humantime.specs.Timestamps.Printed.{IsPrinted};
 
 use crate::date::Rfc3339Timestamp;
 use crate::value::SystemTime;
@@ -46,12 +41,7 @@ pub fn one_stamp_outcome(s: &str)
 /// printed_moment_reads(&format_rfc3339(UNIX_EPOCH))
 /// ```
 pub fn printed_moment_reads(x: &Rfc3339Timestamp)
-    ensures one { IsPrintable x.now.moment → OnePrinted x.now.moment x.now.places }
-    ensures displayed { (text : List ℕ) → (printed_text x.now ≡ Some text) ↔ (IsPrintable x.now.moment × IsPrinted x.now.moment x.now.places text) }
-    ensures reads { (text : List ℕ) → IsPrinted x.now.moment x.now.places text → ReadsAs text (cut x.now.moment x.now.places) }
-    ensures strict { (text : List ℕ) → IsPrinted x.now.moment x.now.places text → strict_answer text ≡ Ok (cut x.now.moment x.now.places) }
-    ensures weak { (text : List ℕ) → IsPrinted x.now.moment x.now.places text → weak_answer text ≡ Ok (cut x.now.moment x.now.places) }
-    ensures whole { cut x.now.moment 9 ≡ x.now.moment }
+    ensures { PrintedMoment x.now.moment x.now.places }
 {
     let _ = x.get_ref();
 }

@@ -1,6 +1,6 @@
 //! A duration of whole nanoseconds.
 
-ghost use Rattle.std.specs.Prelude.{◌≡◌, ◌==◌, ◌+◌, ◌*◌, ◌/◌, ◌%◌, ◌^◌, ◌<◌, ◌↔◌, IsSome, IfSome};
+ghost use Rattle.std.specs.Prelude.{◌≡◌, ◌==◌, ◌+◌, ◌*◌, ◌/◌, ◌%◌, ◌^◌, ◌<◌, SomeIff};
 ghost use Rattle.std.proofs.Common.{rules};
 ghost use Rattle.std.specs.Cmp.{partial_order_from_own_ties};
 ghost use Rattle.std.specs.Cmp.Rules.{comparing};
@@ -10,7 +10,7 @@ ghost use Rattle.humantime.specs.Values.{nanos_per_second, duration_end};
 use std::cmp::Ordering;
 use std::marker::Model;
 
-const NANOS_PER_SECOND: u32 = 1_000_000_000;
+pub(crate) const NANOS_PER_SECOND: u32 = 1_000_000_000;
 
 /// A duration: whole seconds (`u64`) and nanoseconds below 10^9.
 ///
@@ -85,8 +85,7 @@ impl StdDuration {
     /// StdDuration::checked_new(u64::MAX, 1_000_000_000) == None
     /// ```
     pub fn checked_new(secs: u64, nanos: u32) -> Option<StdDuration>
-        ensures fits { IsSome result ↔ (secs + nanos / nanos_per_second < 2 ^ 64) }
-        ensures sum { IfSome result (λ d. d ≡ secs * nanos_per_second + nanos) }
+        ensures { SomeIff result (secs + nanos / nanos_per_second < 2 ^ 64) (secs * nanos_per_second + nanos) }
     {
         let secs = secs.checked_add((nanos / NANOS_PER_SECOND) as u64)?;
         let nanos = nanos % NANOS_PER_SECOND;
@@ -147,8 +146,7 @@ impl StdDuration {
     /// StdDuration::MAX.checked_add(StdDuration::ZERO) == Some(StdDuration::MAX)
     /// ```
     pub fn checked_add(self, other: StdDuration) -> Option<StdDuration>
-        ensures fits { IsSome result ↔ (self + other < duration_end) }
-        ensures sum { IfSome result (λ d. d ≡ self + other) }
+        ensures { SomeIff result (self + other < duration_end) (self + other) }
     {
         let secs = self.secs.checked_add(other.secs)?;
         StdDuration::checked_new(secs, self.nanos + other.nanos)
@@ -157,8 +155,7 @@ impl StdDuration {
     /// The sum with so many seconds, or `None` where its whole seconds do not fit `u64`.
     #[inline]
     pub(crate) fn checked_add_secs(self, secs: u64) -> Option<StdDuration>
-        ensures fits { IsSome result ↔ (self / nanos_per_second + secs < 2 ^ 64) }
-        ensures sum { IfSome result (λ d. d ≡ self + secs * nanos_per_second) }
+        ensures { SomeIff result (self / nanos_per_second + secs < 2 ^ 64) (self + secs * nanos_per_second) }
     {
         let secs = self.secs.checked_add(secs)?;
         Some(StdDuration { secs, ..self })
@@ -168,8 +165,7 @@ impl StdDuration {
     /// beyond the whole seconds, do not fit `u64`.
     #[inline]
     pub(crate) fn checked_add_nanos(self, nanos: u64) -> Option<StdDuration>
-        ensures fits { IsSome result ↔ ((self % nanos_per_second + nanos < 2 ^ 64) × ((self + nanos) / nanos_per_second < 2 ^ 64)) }
-        ensures sum { IfSome result (λ d. d ≡ self + nanos) }
+        ensures { SomeIff result ((self % nanos_per_second + nanos < 2 ^ 64) × ((self + nanos) / nanos_per_second < 2 ^ 64)) (self + nanos) }
     {
         let sum = nanos.checked_add(self.nanos as u64)?;
         // Most sums carry nothing, and then nothing has to be divided.

@@ -1,17 +1,15 @@
 //! A moment in time.
 
-ghost use Rattle.std.specs.Prelude.{◌≡◌, ℕ, ℤ, pos, ◌+◌, ◌*◌, ◌^◌, ◌<◌, ◌↔◌, ◌+ℤ◌, ◌≤ℤ◌, ◌<ℤ◌, IsSome, IfSome, IsOk, IfOk, IfErr};
+ghost use Rattle.std.specs.Prelude.{◌≡◌, ℕ, ℤ, pos, ◌+◌, ◌*◌, ◌^◌, ◌<◌, ◌↔◌, ◌+ℤ◌, ◌≤ℤ◌, ◌<ℤ◌, SomeIff, IsOk, IfOk, IfErr};
 ghost use Rattle.std.proofs.Common.{rules};
 ghost use Rattle.std.specs.Cmp.{partial_order_from_own_ties};
 ghost use Rattle.std.specs.Cmp.Rules.{comparing};
 ghost use Rattle.std.specs.Ordering.{int_cmp, int_eq, as_partial_cmp};
 ghost use Rattle.humantime.specs.Values.{moment, second_of, nano_of, moment_end, nanos_per_second};
 
-use crate::value::std_duration::StdDuration;
+use crate::value::std_duration::{NANOS_PER_SECOND, StdDuration};
 use std::cmp::Ordering;
 use std::marker::Model;
-
-const NANOS_PER_SECOND: u32 = 1_000_000_000;
 
 /// The moment 1970-01-01T00:00:00Z.
 ///
@@ -37,9 +35,9 @@ pub struct SystemTime {
 
 impl Model for SystemTime {
     ghost use Rattle.std.specs.Prelude.{◌≡◌, ℤ, ◌<◌};
+    ghost use Rattle.humantime.specs.Values.{moment, second_of, nano_of};
     ghost use Rattle.std.proofs.Common.{arith};
     ghost use Rattle.std.proofs.lemmas.Int.{ints};
-    ghost use Rattle.humantime.specs.Values.{moment, second_of, nano_of};
 
     ghost Value = { ℤ };
 
@@ -96,8 +94,7 @@ impl SystemTime {
     /// SystemTime::from_parts(0, 1_000_000_000) == None
     /// ```
     pub fn from_parts(secs: i64, nanos: u32) -> Option<SystemTime>
-        ensures fits { IsSome result ↔ (nanos < nanos_per_second) }
-        ensures value { IfSome result (λ t. t ≡ moment secs nanos) }
+        ensures { SomeIff result (nanos < nanos_per_second) (moment secs nanos) }
     {
         if nanos < NANOS_PER_SECOND {
             Some(SystemTime { secs, nanos })
@@ -111,7 +108,7 @@ impl SystemTime {
     /// ```text
     /// UNIX_EPOCH.unix_seconds() == 0
     /// ```
-    #[tactic(auto, using(crate::proofs::Values::Moments::parts_of_moment))]
+    #[tactic(auto, using(crate::proofs::Moments::parts_of_moment))]
     pub fn unix_seconds(&self) -> i64
         ensures second { result ≡ second_of self.now }
         ensures parts { moment result (nano_of self.now) ≡ self.now }
@@ -124,7 +121,7 @@ impl SystemTime {
     /// ```text
     /// UNIX_EPOCH.subsec_nanos() == 0
     /// ```
-    #[tactic(auto, using(crate::proofs::Values::Moments::parts_of_moment))]
+    #[tactic(auto, using(crate::proofs::Moments::parts_of_moment))]
     pub fn subsec_nanos(&self) -> u32
         ensures nano { result ≡ nano_of self.now }
         ensures parts { moment (second_of self.now) result ≡ self.now }
@@ -139,14 +136,15 @@ impl SystemTime {
     /// UNIX_EPOCH.checked_add(StdDuration::from_secs(9_223_372_036_854_775_808)) == None
     /// ```
     pub fn checked_add(self, duration: StdDuration) -> Option<SystemTime>
-        ensures fits { IsSome result ↔ ((self +ℤ pos duration) <ℤ moment_end) }
-        ensures sum { IfSome result (λ t. t ≡ self +ℤ pos duration) }
+        ensures { SomeIff result ((self +ℤ pos duration) <ℤ moment_end) (self +ℤ pos duration) }
     {
         let nanos = self.nanos + duration.subsec_nanos();
-        let carry = nanos / NANOS_PER_SECOND;
-        let secs = later_second(self.secs, duration.as_secs(), carry)?;
-        let nanos = nanos % NANOS_PER_SECOND;
-        Some(SystemTime { secs, nanos })
+        let carry = (nanos / NANOS_PER_SECOND) as i64;
+        let secs = self.secs.checked_add_unsigned(duration.as_secs())?;
+        Some(SystemTime {
+            secs: secs.checked_add(carry)?,
+            nanos: nanos % NANOS_PER_SECOND,
+        })
     }
 
     /// The time from `earlier` to this moment.
@@ -194,21 +192,12 @@ impl SystemTime {
     }
 }
 
-/// The second that is later by so many seconds and a carry, where it fits.
-fn later_second(second: i64, secs: u64, carry: u32) -> Option<i64>
-    ensures fits { IsSome result ↔ ((second +ℤ pos (secs + carry)) <ℤ pos (2 ^ 63)) }
-    ensures value { IfSome result (λ s. s ≡ second +ℤ pos (secs + carry)) }
-{
-    let later = second as i128 + (secs as i128 + carry as i128);
-    i64::try_from(later).ok()
-}
-
 impl PartialEq for SystemTime {
     ghost eq = { int_eq };
 
     ghost laws = { Prim.search (comparing, rules) };
 
-    #[tactic(auto, using(crate::proofs::Values::Moments::int_eq_moment))]
+    #[tactic(auto, using(std::proofs::lemmas::Int::ints))]
     fn eq(&self, other: &SystemTime) -> bool {
         self.secs == other.secs && self.nanos == other.nanos
     }
@@ -227,7 +216,7 @@ impl Ord for SystemTime {
 
     ghost matches_eq = { Prim.search (comparing, rules) };
 
-    #[tactic(auto, using(crate::proofs::Values::Moments::int_cmp_moment))]
+    #[tactic(auto, using(crate::proofs::Moments::int_cmp_moment))]
     fn cmp(&self, other: &SystemTime) -> Ordering {
         self.secs
             .cmp(&other.secs)

@@ -6,21 +6,21 @@ use Rattle.std.proofs.lemmas.Bool.{le-leb}
 use Rattle.std.proofs.lemmas.Nat.{pow-add}
 use Rattle.std.proofs.Math.Nat.{one-le-pow, pow-le-pow_right, mul-le-mul, mul-mod_left, mul-div_cancel}
 use Rattle.humantime.specs.Durations.Characters.{decimal_value, u64_max}
-use Rattle.humantime.specs.Durations.Units.{Scale, scale_of_word}
+use Rattle.humantime.specs.Durations.Units.{Addition, Scale, scale_of_word}
 use Rattle.humantime.specs.Durations.Spans.{Span}
 use Rattle.humantime.specs.References.Durations.Reading.{add_all, add_span}
 use Rattle.humantime.specs.References.Durations.Scales.{Counted, counted}
 use Rattle.humantime.specs.References.Durations.Adding.{add_times, part_of, add_part}
 
 -- the sum with a fraction after an addition, if there is a fraction
-abbrev pub then_add : Option ℕ → ℕ → Option ℕ → Option Counted → Option ℕ
-then_add None base factor fraction = None
-then_add (Some t) base factor None = Some t
-then_add (Some t) base factor (Some p) = add_part t base factor p.0 p.1
+abbrev pub then_add : Option ℕ → Option Addition → Option Counted → Option ℕ
+then_add None x fraction = None
+then_add (Some t) x None = Some t
+then_add (Some t) x (Some p) = add_part t x p.0 p.1
 
 pub span_adds : (t : ℕ) (s : Span) (u : Scale) (number : ℕ) (fraction : Option Counted)
     → scale_of_word s.word ≡ Some u → number ≡ decimal_value s.number → fraction ≡ option_map counted s.fraction
-    → then_add (add_times t u.base u.factor number) u.fraction_base u.fraction_factor fraction ≡ add_span t s
+    → then_add (add_times t u.one number) u.fraction fraction ≡ add_span t s
 unfolding add_all add_span
 span_adds t s u number fraction word value parts = grind (arith, common_steps)
 

@@ -1,47 +1,45 @@
 -- What became of the texts that were accepted before.
 use Rattle.std.proofs.lemmas.Grind.{common_steps}
-use Rattle.std.proofs.Common.{◌≡◌, ℕ, ◌≤◌, Bool, true, false, List, [], ◌∷◌, ◌++◌, length, Option, refl, sym, ap, ap₂, ◌∙◌, subst, arith}
+use Rattle.std.proofs.Common.{◌≡◌, ℕ, ◌≤◌, Bool, true, false, List, [], ◌∷◌, ◌++◌, length, Option, refl, sym, ap, ◌∙◌, subst, arith}
 use Rattle.std.specs.Prelude.{◌==◌, not}
 use Rattle.std.specs.List.{AllByRecursion}
 use Rattle.std.specs.Option.{IfSome}
 use Rattle.std.proofs.lemmas.Bool.{false≢true}
-use Rattle.std.proofs.lemmas.Slice.Eq.{bytes_eq-Decides}
 use Rattle.humantime.specs.Durations.Characters.{greek_mu, white_spaces, is_ws, is_digit, is_numeric, significant}
-use Rattle.humantime.specs.Durations.Units.{Scale, scale_of_word}
+use Rattle.humantime.specs.Durations.Units.{Addition, Scale}
 use Rattle.humantime.specs.Durations.Spans.{Span, Only, Spells, SpellsEach}
 use Rattle.humantime.specs.Durations.Accepted.{fraction_additions, additions_at, additions, total, Formed, FitsFraction, Fits, Accepted, Bare_zero, Sum_of}
-use Rattle.humantime.specs.Laws.Older.{is_older_letter, older_scale_of_word, older_fraction_additions, older_additions_at, older_additions, OlderFormed, OlderFitsFraction, OlderFits, OlderWithinLimits, AcceptedWithZeros, Older_zero, Older_sum, AcceptedWithoutMu, Oldest_zero, Oldest_sum, IsStillAccepted, HasMu, KeepsValueWithZeros}
+use Rattle.humantime.specs.Laws.Older.{is_older_letter, older_fraction_additions, older_additions_at, older_additions, OlderFormed, OlderFitsFraction, OlderFits, AcceptedWithZeros, Older_zero, Older_sum, AcceptedWithoutMu, Oldest_zero, Oldest_sum, IsStillAccepted, HasMu, KeepsValueWithZeros}
 use Rattle.humantime.proofs.Durations.Reading.Outcomes.{outcome_accepted}
-use Rattle.humantime.proofs.Durations.Reading.Settled.{FitsAt}
 use Rattle.humantime.proofs.Durations.Reading.SignificantDigits.{significant_shorter, whole_part_kept, amount_kept}
 
 -- ---- zeros at the end of a fraction
 
-fraction_still_adds : (base : ℕ) (f : Option ℕ) (o : Option (List ℕ)) → older_fraction_additions base f o ≡ fraction_additions base f o
-fraction_still_adds base f o = grind (arith, common_steps, amount_kept)
+fraction_still_adds : (f : Option Addition) (o : Option (List ℕ)) → older_fraction_additions f o ≡ fraction_additions f o
+fraction_still_adds f o = grind (arith, common_steps, amount_kept)
 
 span_still_adds : (o : Option Scale) (s : Span) → older_additions_at o s ≡ additions_at o s
 span_still_adds o s = grind (arith, common_steps, fraction_still_adds)
 
-still_add : (spans : List Span) → older_additions scale_of_word spans ≡ additions spans
+still_add : (spans : List Span) → older_additions spans ≡ additions spans
 still_add spans = grind (arith, common_steps, span_still_adds)
 
 still_short : (o : Option (List ℕ)) → IfSome o (λ ds. length ds ≤ 19) → IfSome o (λ ds. length (significant ds) ≤ 19)
 still_short o h = grind (arith, common_steps, significant_shorter)
 
-still_formed : (spans : List Span) → AllByRecursion (λ s. OlderFormed (scale_of_word s.word) s) spans → AllByRecursion Formed spans
+still_formed : (spans : List Span) → AllByRecursion OlderFormed spans → AllByRecursion Formed spans
 still_formed [] f = tt
 still_formed (s ∷ ss) f = (record { numbers = record { number = f.0.number; fraction = still_short s.fraction f.0.fraction }; word = f.0.word }, still_formed ss f.1)
 
-fraction_still_fits : (f : Option ℕ) (o : Option (List ℕ)) → OlderFitsFraction f o → FitsFraction f o
+fraction_still_fits : (f : Option Addition) (o : Option (List ℕ)) → OlderFitsFraction f o → FitsFraction f o
 fraction_still_fits f o h = grind (arith, common_steps, whole_part_kept)
 
-still_fits : (o : Option Scale) (s : Span) → OlderFits o s → FitsAt o s
-still_fits o s h = grind (arith, common_steps, fraction_still_fits)
+still_fits : (s : Span) → OlderFits s → Fits s
+still_fits s h = grind (arith, common_steps, fraction_still_fits)
 
-still_fit : (spans : List Span) → AllByRecursion (λ s. OlderFits (scale_of_word s.word) s) spans → AllByRecursion Fits spans
+still_fit : (spans : List Span) → AllByRecursion OlderFits spans → AllByRecursion Fits spans
 still_fit [] f = tt
-still_fit (s ∷ ss) f = (still_fits (scale_of_word s.word) s f.0, still_fit ss f.1)
+still_fit (s ∷ ss) f = (still_fits s f.0, still_fit ss f.1)
 
 zeros_still_accepted : (text : List ℕ) → IsStillAccepted text
 zeros_still_accepted text v (Older_zero e z) = Bare_zero e z
@@ -60,32 +58,10 @@ still_accepted text =
 abbrev OfOlderLetters : Span → Type 0
 OfOlderLetters s = Only is_older_letter s.word
 
--- a word of older letters stands for what it stood for
-same_scale : (word : List ℕ) → Only is_older_letter word → older_scale_of_word word ≡ scale_of_word word
-unfolding older_scale_of_word scale_of_word
-same_scale word h = grind (arith, common_steps, bytes_eq-Decides)
-
-same_additions : (spans : List Span) → AllByRecursion OfOlderLetters spans → older_additions older_scale_of_word spans ≡ older_additions scale_of_word spans
-same_additions [] h = refl
-same_additions (s ∷ ss) h = ap₂ (λ x y. x ++ y) (ap (λ o. older_additions_at o s) (same_scale s.word h.0)) (same_additions ss h.1)
-
--- what holds of each span and what its word stood for holds with what the word stands for
-each_same : (P : Option Scale → Span → Type 0) (spans : List Span) → AllByRecursion OfOlderLetters spans
-    → AllByRecursion (λ s. P (older_scale_of_word s.word) s) spans → AllByRecursion (λ s. P (scale_of_word s.word) s) spans
-each_same P [] h f = tt
-each_same P (s ∷ ss) h f = (subst (λ o. P o s) (same_scale s.word h.0) f.0, each_same P ss h.1 f.1)
-
-older_within_limits : (spans : List Span) → AllByRecursion OfOlderLetters spans → OlderWithinLimits older_scale_of_word spans → OlderWithinLimits scale_of_word spans
-older_within_limits spans h g = record {
-  formed = each_same OlderFormed spans h g.formed;
-  fit = each_same OlderFits spans h g.fit;
-  room = rw (← same_additions spans h) g.room;
-}
-
 -- what was accepted while the letter was none was accepted with the same value when it was one
 pub accepted_with_zeros : (text : List ℕ) (v : ℕ) → AcceptedWithoutMu text v → AcceptedWithZeros text v
 accepted_with_zeros text v (Oldest_zero e z) = Older_zero e z
-accepted_with_zeros text v (Oldest_sum spans h g sum) = Older_sum spans h.0 (older_within_limits spans h.1 g) (ap total (sym (same_additions spans h.1)) ∙ sum)
+accepted_with_zeros text v (Oldest_sum spans h g sum) = Older_sum spans h.0 g sum
 
 -- and it is accepted with the same value
 pub older_text_accepted : (text : List ℕ) (v : ℕ) → AcceptedWithoutMu text v → Accepted text v

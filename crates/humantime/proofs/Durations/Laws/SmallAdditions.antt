@@ -1,40 +1,38 @@
 -- Additions that find room wherever the whole sum is a duration.
-use Rattle.std.proofs.lemmas.Grind.{common_steps}
 use Rattle.std.proofs.Common.{◌≡◌, ◌↔◌, ℕ, ◌+◌, ◌/◌, ◌≤◌, List, [], ◌∷◌, ◌++◌, sym, ap₂, ◌∙◌, subst, arith}
+use Rattle.std.specs.Prelude.{⊤}
 use Rattle.std.specs.List.{AllByRecursion}
 use Rattle.std.proofs.lemmas.List.Sums.{sum_by-cons}
 use Rattle.humantime.specs.Values.{nanos_per_second}
 use Rattle.humantime.specs.Durations.Characters.{u64_max}
+use Rattle.humantime.specs.Durations.Units.{Addition, Nanos, Seconds}
 use Rattle.humantime.specs.Durations.Spans.{Span, Reads}
-use Rattle.humantime.specs.Durations.Accepted.{Addition, addition_nanos, total, additions, AllHaveRoom, Accepted}
-use Rattle.humantime.proofs.Durations.Reading.Rooms.{RoomFrom, total-append, room_from_all, all_have_room}
+use Rattle.humantime.specs.Durations.Accepted.{addition_nanos, total, additions, HasRoom, AllHaveRoom, Accepted}
+use Rattle.humantime.proofs.Durations.Reading.Rooms.{RoomFrom, total-append, all_have_room, room_is_duration}
 use Rattle.humantime.proofs.Durations.Laws.Readings.{accepted_spans}
 use Rattle.humantime.proofs.Durations.Laws.JoinedTexts.{each-append, joined_sum}
 
 -- an addition of nanoseconds fits a u64 together with the nanoseconds beyond any whole seconds
 abbrev pub IsSmall : Addition → Type 0
-IsSmall x = x.base ≡ 1 → x.amount + 999999999 ≤ u64_max
+IsSmall (Nanos n) = n + 999999999 ≤ u64_max
+IsSmall (Seconds n) = ⊤
+
+small_room : (t : ℕ) (x : Addition) (sum : ℕ) → IsSmall x → t + addition_nanos x ≤ sum → sum / nanos_per_second ≤ u64_max → HasRoom t x
+small_room t (Nanos n) sum small below fits = (omega arith, omega arith)
+small_room t (Seconds n) sum small below fits = omega arith
 
 room_from_small : (t : ℕ) (xs : List Addition) → AllByRecursion IsSmall xs → (t + total xs) / nanos_per_second ≤ u64_max → RoomFrom t xs
 room_from_small t [] small fits = tt
 room_from_small t (x ∷ xs) small fits =
     let sum : t + total (x ∷ xs) ≡ (t + addition_nanos x) + total xs = omega (arith, sum_by-cons addition_nanos x xs) in
     let rest : ((t + addition_nanos x) + total xs) / nanos_per_second ≤ u64_max = rw sum at fits in
-    (((λ one. let s = small.0 one in omega arith), omega arith), room_from_small (t + addition_nanos x) xs small.1 rest)
+    (small_room t x (t + total (x ∷ xs)) small.0 (omega (arith, sum)) fits, room_from_small (t + addition_nanos x) xs small.1 rest)
 
 -- small additions have room where their sum is a duration
 pub small_have_room : (xs : List Addition) → AllByRecursion IsSmall xs → total xs / nanos_per_second ≤ u64_max → AllHaveRoom xs
 small_have_room xs small fits =
     let sum : 0 + total xs ≡ total xs = omega arith in
     all_have_room xs (room_from_small 0 xs small (rw sum fits))
-
-room_fits : (t : ℕ) (xs : List Addition) → t / nanos_per_second ≤ u64_max → RoomFrom t xs → (t + total xs) / nanos_per_second ≤ u64_max
-room_fits t [] fits room = omega arith
-room_fits t (x ∷ xs) fits room = grind (arith, common_steps, (room_fits (t + addition_nanos x) xs room.0.1 room.1))
-
--- where additions have room, their sum is a duration
-pub room_is_duration : (xs : List Addition) → AllHaveRoom xs → total xs / nanos_per_second ≤ u64_max
-room_is_duration xs room = grind (arith, common_steps, room_fits, room_from_all)
 
 -- accepted texts with small additions, one behind the other, are accepted with the sum exactly where it is a duration
 pub small_joined_sum : (a b : List ℕ) (ss ts : List Span) (u v : ℕ) → Reads a ss → Reads b ts → Accepted a u → Accepted b v

@@ -1,7 +1,7 @@
 -- The rows of printed counts: what each unit's word stands for.
 use Rattle.std.proofs.lemmas.Grind.{common_steps}
-use Rattle.std.proofs.Common.{◌≡◌, ◌⊎◌, ℕ, ◌*◌, ◌/◌, ◌%◌, ◌^◌, ◌<◌, ◌≤◌, Bool, true, false, cond, List, [], ◌∷◌, ◌++◌, refl, arith}
-use Rattle.std.specs.Prelude.{◌&&◌, ◌||◌, ◌==◌, Option, Some, None, codes, decimal, nat_lt, nat_le}
+use Rattle.std.proofs.Common.{◌≡◌, ℕ, ◌*◌, ◌/◌, ◌%◌, ◌^◌, ◌<◌, ◌≤◌, Bool, true, false, cond, List, [], ◌∷◌, ◌++◌, refl, arith}
+use Rattle.std.specs.Prelude.{⊤, ◌&&◌, ◌==◌, Option, Some, None, codes, decimal, nat_lt, nat_le}
 use Rattle.std.specs.Str.{IsUtf8, is_utf8, chars}
 use Rattle.std.specs.List.{list_all, zip}
 use lib.Utf8.{encode}
@@ -9,7 +9,8 @@ use Rattle.std.proofs.lemmas.Str.{IsUtf8-from_is_utf8}
 use Rattle.std.proofs.lemmas.Bool.Decides.{nat_tests}
 use Rattle.humantime.specs.Values.{nanos_per_second}
 use Rattle.humantime.specs.Durations.Characters.{is_letter, begins}
-use Rattle.humantime.specs.Durations.Units.{Scale, scale_of_word}
+use Rattle.humantime.specs.Durations.Units.{Addition, Nanos, Seconds, Scale, scale_of_word}
+use Rattle.humantime.specs.Durations.Accepted.{addition_nanos, amount}
 use Rattle.humantime.specs.Durations.Spans.{Span, Only}
 use Rattle.humantime.specs.Durations.Counts.{Suffix, weights, suffixes}
 
@@ -28,11 +29,16 @@ word_for n s = word_of s (nat_lt 1 n)
 abbrev pub span_for : ℕ → Suffix → Span
 span_for n s = record { number = decimal n; fraction = None; word = chars (word_for n s) }
 
--- The unit counts w nanoseconds each: whole seconds, or nanoseconds where no more than a second m is left.
+-- what is added is seconds, or nanoseconds where no more than a second m is left
+abbrev pub IsOfKind : ℕ → Addition → Type 0
+IsOfKind m (Nanos n) = m ≤ nanos_per_second
+IsOfKind m (Seconds n) = ⊤
+
+-- The unit counts w nanoseconds each.
 pub record Counts (w m : ℕ) (unit : Scale) : Type 0 where
-  pub weight : unit.base * unit.factor ≡ w
-  pub some : 0 < unit.factor
-  pub kind : (unit.base ≡ nanos_per_second) ⊎ ((unit.base ≡ 1) × (m ≤ nanos_per_second))
+  pub weight : addition_nanos unit.one ≡ w
+  pub some : 0 < amount unit.one
+  pub kind : IsOfKind m unit.one
 
 -- The word is letters, and stands for such a unit.
 pub record IsWord (w m : ℕ) (word : List ℕ) : Type 0 where
@@ -43,16 +49,23 @@ pub record IsWord (w m : ℕ) (word : List ℕ) : Type 0 where
   pub letters : Only is_letter (chars word)
   pub first : begins is_letter (chars word) ≡ true
 
+abbrev is_of_kind : ℕ → Addition → Bool
+is_of_kind m (Nanos n) = nat_le m nanos_per_second
+is_of_kind m (Seconds n) = true
+
 abbrev counts : ℕ → ℕ → Option Scale → Bool
 counts w m None = false
-counts w m (Some u) =
-    (u.base * u.factor == w) && nat_lt 0 u.factor && ((u.base == nanos_per_second) || ((u.base == 1) && nat_le m nanos_per_second))
+counts w m (Some u) = (addition_nanos u.one == w) && nat_lt 0 (amount u.one) && is_of_kind m u.one
 
 abbrev is_word : ℕ → ℕ → List ℕ → Bool
 is_word w m word = is_utf8 word && counts w m (scale_of_word (chars word)) && list_all is_letter (chars word) && begins is_letter (chars word)
 
+of_kind-true : (m : ℕ) (x : Addition) → is_of_kind m x ≡ true → IsOfKind m x
+of_kind-true m (Nanos n) h = grind (arith, nat_tests)
+of_kind-true m (Seconds n) h = tt
+
 counts_unit : (w m : ℕ) (o : Option Scale) → counts w m o ≡ true → (u : Scale) × (o ≡ Some u) × Counts w m u
-counts_unit w m o h = grind (arith, common_steps, nat_tests)
+counts_unit w m o h = grind (arith, common_steps, nat_tests, of_kind-true)
 
 only_from : (p : ℕ → Bool) (cs : List ℕ) → list_all p cs ≡ true → Only p cs
 only_from p [] h = tt

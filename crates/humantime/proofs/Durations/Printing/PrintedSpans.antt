@@ -1,10 +1,10 @@
 -- A printed text is spans within all limits, which add up to its duration.
 use Rattle.std.proofs.lemmas.Grind.{common_steps}
-use Rattle.std.proofs.Common.{◌≡◌, inl, inr, ℕ, ◌+◌, ◌*◌, ◌/◌, ◌%◌, ◌^◌, ◌<◌, ◌≤◌, false, List, [], ◌∷◌, ◌++◌, None, Some, refl, subst, ◌∙◌, arith, rules}
+use Rattle.std.proofs.Common.{◌≡◌, inl, inr, ℕ, ◌+◌, ◌*◌, ◌/◌, ◌%◌, ◌^◌, ◌<◌, ◌≤◌, false, List, [], ◌∷◌, ◌++◌, None, Some, ap, refl, subst, ◌∙◌, arith, rules}
 use Rattle.std.specs.Prelude.{IsAscii, codes, decimal, chars, map, nat_lt}
 use Rattle.std.specs.Str.{IsUtf8}
 use Rattle.std.specs.List.{AllByRecursion, filter, join_with_byte}
-use Rattle.std.proofs.Math.Nat.{mul_assoc}
+use Rattle.std.proofs.Math.Nat.{mul_assoc, mul_comm}
 use Rattle.std.proofs.lemmas.Nat.{mod_below}
 use Rattle.std.proofs.lemmas.Bool.{cases_Bool}
 use Rattle.std.proofs.lemmas.Bool.Decides.{nat_tests}
@@ -13,9 +13,9 @@ use Rattle.std.proofs.lemmas.Str.{chars-append, chars-IsAscii, chars-nil, IsUtf8
 use Rattle.std.proofs.lemmas.Fmt.{IsAscii-decimal, decimal_digit}
 use Rattle.humantime.specs.Values.{nanos_per_second, seconds_per_minute}
 use Rattle.humantime.specs.Durations.Characters.{white_spaces, is_ws, decimal_value, u64_max}
-use Rattle.humantime.specs.Durations.Units.{Scale, scale_of_word}
+use Rattle.humantime.specs.Durations.Units.{Addition, Nanos, Seconds, Scale, scale_of_word}
 use Rattle.humantime.specs.Durations.Spans.{Span, Only, Spells, SpellsEach, Reads}
-use Rattle.humantime.specs.Durations.Accepted.{total, additions, value, Formed, Fits, Accepted, Sum_of}
+use Rattle.humantime.specs.Durations.Accepted.{addition_nanos, amount, times, total, additions, value, Formed, Fits, Accepted, Sum_of}
 use Rattle.humantime.specs.References.Durations.Reading.{additions_of}
 use Rattle.humantime.specs.Durations.Counts.{Suffix, printed_count, joined_by_space, Canon}
 use Rattle.humantime.specs.References.Durations.Printing.{without_plural, duration_text}
@@ -24,7 +24,7 @@ use Rattle.humantime.proofs.Durations.Reading.Settled.{value-cons}
 use Rattle.humantime.proofs.Durations.Laws.JoinedTexts.{each-append}
 use Rattle.humantime.proofs.Durations.Laws.SmallAdditions.{IsSmall, small_have_room}
 use Rattle.humantime.proofs.Durations.Printing.PrintedDigits.{decimal_number}
-use Rattle.humantime.proofs.Durations.Printing.PrintedRows.{space, word_for, span_for, IsWord, Counts, units, counted, Table, table, most}
+use Rattle.humantime.proofs.Durations.Printing.PrintedRows.{space, word_for, span_for, IsOfKind, IsWord, Counts, units, counted, Table, table, most}
 use Rattle.humantime.proofs.Durations.Printing.GreatestCounts.{canon_is_text}
 
 -- The count is printed as the text of its span, which keeps all limits.
@@ -37,21 +37,32 @@ pub record IsRow (n : ℕ) (s : Suffix) : Type 0 where
 
 -- the count and what it adds, where less than m is left
 record IsFew (w m n : ℕ) (u : Scale) : Type 0 where
-  nanos : u.base * (n * u.factor) ≡ w * n
+  nanos : addition_nanos (times n u.one) ≡ w * n
   count : n < 2 ^ 64
-  amount : n * u.factor ≤ u64_max
-  small : u.base ≡ 1 → n * u.factor + 999999999 ≤ u64_max
+  amount : n * amount u.one ≤ u64_max
+  small : IsSmall (times n u.one)
+
+times_nanos : (n : ℕ) (x : Addition) → addition_nanos (times n x) ≡ addition_nanos x * n
+times_nanos n (Nanos k) = mul_comm n k
+times_nanos n (Seconds k) = grind (arith, mul_comm, mul_assoc)
+
+-- an addition of less than m and of less than all durations
+few_of : (m n : ℕ) (x : Addition) → IsOfKind m x → addition_nanos (times n x) < m → addition_nanos (times n x) < most
+    → (n * amount x ≤ u64_max) × IsSmall (times n x)
+few_of m n (Nanos k) kind below whole = (omega arith, omega arith)
+few_of m n (Seconds k) kind below whole = (omega arith, tt)
 
 mul_positive : (n k : ℕ) → 0 < k → n ≤ n * k
 mul_positive n k h = grind arith
 
 row_few : (w m n : ℕ) (u : Scale) → Counts w m u → w * n < m → w * n < most → IsFew w m n u
 row_few w m n u c below whole =
-    let nanos : u.base * (n * u.factor) ≡ w * n = grind (arith, common_steps, mul_assoc) in
-    grind (arith, common_steps, mul_positive)
+    let nanos = times_nanos n u.one ∙ ap (λ (k : ℕ). k * n) c.weight in
+    let few = few_of m n u.one c.kind (omega (arith, nanos)) (omega (arith, nanos)) in
+    record { nanos = nanos; count = omega (arith, mul_positive n (amount u.one) c.some, few.0); amount = few.0; small = few.1 }
 
 adds_one : (n : ℕ) (word : List ℕ) (u : Scale) → scale_of_word word ≡ Some u → decimal_value (decimal n) ≡ n
-    → additions_of (record { number = decimal n; fraction = None; word = word }) ≡ record { base = u.base; amount = n * u.factor } ∷ []
+    → additions_of (record { number = decimal n; fraction = None; word = word }) ≡ times n u.one ∷ []
 adds_one n word u e v = grind (arith, common_steps)
 
 count_chars : (n : ℕ) (s : Suffix) → n < 2 ^ 64 → chars (printed_count n s) ≡ decimal n ++ chars (word_for n s)

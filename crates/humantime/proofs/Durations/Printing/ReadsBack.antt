@@ -8,7 +8,7 @@ use Rattle.humantime.specs.Durations.Accepted.{Accepted}
 use Rattle.humantime.specs.Durations.Counts.{Canon, IsCanonicalOf}
 use Rattle.humantime.specs.References.Durations.Printing.{duration_text}
 use Rattle.humantime.specs.Laws.Printed.{HasOneText, TextsTellApart, HasCanonicalText, KeepsItsValue, KeepsItsText}
-use Rattle.humantime.proofs.Durations.Laws.SmallAdditions.{room_is_duration}
+use Rattle.humantime.proofs.Durations.Reading.Rooms.{room_is_duration}
 use Rattle.humantime.proofs.Durations.Reading.Outcomes.{outcome_accepted}
 use Rattle.humantime.proofs.Durations.Printing.GreatestCounts.{text_is_canon, canon_is_text, one_canon}
 use Rattle.humantime.proofs.Durations.Printing.PrintedSpans.{canon_reads}

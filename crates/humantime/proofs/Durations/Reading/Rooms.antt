@@ -1,10 +1,13 @@
 -- Room for additions, one after the other.
 use Rattle.std.proofs.lemmas.Grind.{common_steps}
-use Rattle.std.proofs.Common.{◌≡◌, ℕ, ◌+◌, true, List, [], ◌∷◌, ◌++◌, Some, None, refl, ap, ◌∙◌, inl, inr, arith}
+use Rattle.std.proofs.Common.{◌≡◌, ℕ, ◌+◌, ◌/◌, ◌≤◌, true, List, [], ◌∷◌, ◌++◌, Some, None, refl, ap, ◌∙◌, inl, inr, arith}
 use Rattle.std.specs.Prelude.{⊤}
 use Rattle.std.proofs.lemmas.Bool.{cases_Bool}
 use Rattle.std.proofs.lemmas.List.Sums.{sum_by-append, sum_by-cons}
-use Rattle.humantime.specs.Durations.Accepted.{Addition, addition_nanos, total, HasRoom, AllHaveRoom}
+use Rattle.humantime.specs.Values.{nanos_per_second}
+use Rattle.humantime.specs.Durations.Characters.{u64_max}
+use Rattle.humantime.specs.Durations.Units.{Addition, Nanos, Seconds}
+use Rattle.humantime.specs.Durations.Accepted.{addition_nanos, total, HasRoom, AllHaveRoom}
 use Rattle.humantime.specs.References.Durations.Reading.{room, add_all}
 
 -- each addition has room, where t nanoseconds stand before them all
@@ -66,3 +69,16 @@ room_from_all xs h = from_each 0 xs (λ before after x e. let p : 0 + total befo
 
 pub all_have_room : (xs : List Addition) → RoomFrom 0 xs → AllHaveRoom xs
 all_have_room xs h before after x e = grind (arith, common_steps, RoomFrom-back)
+
+-- what has room leaves whole seconds that fit
+room_stays : (t : ℕ) (x : Addition) → HasRoom t x → (t + addition_nanos x) / nanos_per_second ≤ u64_max
+room_stays t (Nanos n) h = h.1
+room_stays t (Seconds n) h = omega arith
+
+room_fits : (t : ℕ) (xs : List Addition) → t / nanos_per_second ≤ u64_max → RoomFrom t xs → (t + total xs) / nanos_per_second ≤ u64_max
+room_fits t [] fits h = omega arith
+room_fits t (x ∷ xs) fits h = grind (arith, common_steps, (room_fits (t + addition_nanos x) xs (room_stays t x h.0) h.1))
+
+-- where additions have room, their sum is a duration
+pub room_is_duration : (xs : List Addition) → AllHaveRoom xs → total xs / nanos_per_second ≤ u64_max
+room_is_duration xs h = grind (arith, common_steps, room_fits, room_from_all)

@@ -8,7 +8,7 @@ use Rattle.std.proofs.lemmas.Grind.{flat_map-append}
 use Rattle.humantime.specs.Durations.Characters.{decimal_value, u64_max}
 use Rattle.humantime.specs.Durations.Units.{Scale}
 use Rattle.humantime.specs.Durations.Spans.{Span}
-use Rattle.humantime.specs.Durations.Accepted.{total, additions, value, Formed, FitsFraction, Fits, WithinLimits}
+use Rattle.humantime.specs.Durations.Accepted.{amount, total, additions, value, Formed, FitsFraction, Fits, WithinLimits}
 use Rattle.humantime.specs.References.Durations.Reading.{additions_of, add_span, settle}
 use Rattle.humantime.specs.Durations.Faults.{Fault, NumberOverflow}
 use Rattle.humantime.specs.Durations.Items.{items_of}
@@ -24,7 +24,7 @@ WithinLimitsFrom t [] = ⊤
 WithinLimitsFrom t (s ∷ ss) = IsAddedTo t s × WithinLimitsFrom (t + total (additions_of s)) ss
 
 abbrev pub FitsAt : Option Scale → Span → Type 0
-FitsAt o s = IfSome o (λ u. (decimal_value s.number * u.factor ≤ u64_max) × FitsFraction u.fraction_factor s.fraction)
+FitsAt o s = IfSome o (λ u. (decimal_value s.number * amount u.one ≤ u64_max) × FitsFraction u.fraction s.fraction)
 
 -- the sum after a span that keeps the limits, and none after another
 pub add_span-added : (t : ℕ) (s : Span) → Formed s → IsAddedTo t s → add_span t s ≡ Some (t + total (additions_of s))

@@ -7,32 +7,21 @@ use Rattle.std.specs.Cmp.Lexicographic.{slice_cmp}
 use Rattle.std.specs.Ordering.{nat_cmp, int_cmp, is_le, is_lt}
 use Rattle.std.proofs.lemmas.Int.{ints}
 use Rattle.humantime.specs.declared.date.error.TimestampError.{TimestampError}
-use Rattle.humantime.specs.declared.calendar.Date.{Date}
-use Rattle.humantime.specs.Calendar.{IsDate, day_of}
-use Rattle.humantime.specs.Laws.Days.{OneDate}
 use Rattle.humantime.specs.Timestamps.Fields.{IsWeakMoment, IsStrictMoment}
 use Rattle.humantime.specs.Timestamps.Checks.{weak_checks, strict_checks, first_failed}
-use Rattle.humantime.specs.Laws.Timestamps.{ReadsAs, OnePrinted, StampOutcome, StrictForm}
+use Rattle.humantime.specs.Laws.Timestamps.{StampOutcome, StrictForm, PrintedMoment}
 use Rattle.humantime.specs.Timestamps.Printed.{MomentToPrint, cut, IsPrinted, IsPrintable}
 use Rattle.humantime.specs.References.Timestamps.Printing.{moment_text, printed_text}
 use Rattle.humantime.specs.References.Timestamps.Reading.{weak_answer, strict_answer}
-use Rattle.humantime.proofs.Dates.DaysOfDates as dates
-use Rattle.humantime.proofs.Timestamps.Laws.Order.{printed_order}
-use Rattle.humantime.proofs.Timestamps.Printing.Printed.{one_text, one_printed, text_displayed, printed_reads}
-use Rattle.humantime.proofs.Timestamps.Laws.Printable as printable
+use Rattle.humantime.proofs.Timestamps.Printing.Printed.{one_printed, text_displayed, printed_reads}
+use Rattle.humantime.proofs.Timestamps.Printing.Order.{stamps_in_order, one_text}
 use Rattle.humantime.proofs.Timestamps.Laws.Reading as read
 use Rattle.humantime.proofs.Timestamps.Laws.StrictForm as strict
-pub use Rattle.humantime.proofs.Values.Moments.{parts_of_moment, nano_of_bound}
+pub use Rattle.humantime.proofs.Moments.{parts_of_moment, nano_of_bound}
+pub use Rattle.humantime.proofs.Dates.DaysOfDates.{one_date, day_at_most}
+pub use Rattle.humantime.proofs.Timestamps.Laws.Printable.{weak_printable, strict_printable}
+pub use Rattle.humantime.proofs.Timestamps.Printing.Order.{stamps_in_order}
 pub use Rattle.humantime.proofs.Timestamps.Printing.Printed.{places_of_bound}
-
--- ---- Days
-
-pub one_date : (day : ℕ) → day ≤ 2_932_896 → OneDate day
-one_date = dates.one_date
-
--- a date's day is one of these
-pub day_at_most : (d : Date) → IsDate d → day_of d ≤ 2_932_896
-day_at_most = dates.day_at_most
 
 -- ---- Timestamps read
 
@@ -63,13 +52,6 @@ strict_failed text e failed = (read.strict_error text e).1 failed
 pub strict_read_weak : (text : List ℕ) (t : ℤ) → IsStrictMoment text t → weak_answer text ≡ Ok t
 strict_read_weak text t shown = weak_read text t ((read.strict_moment_is_weak text t).0 shown).0
 
--- a moment that a text shows is one of 1970 to 9999
-pub weak_printable : (text : List ℕ) (t : ℤ) → IsWeakMoment text t → IsPrintable t
-weak_printable = printable.weak_printable
-
-pub strict_printable : (text : List ℕ) (t : ℤ) → IsStrictMoment text t → IsPrintable t
-strict_printable = printable.strict_printable
-
 pub strict_is_weak : (text : List ℕ) → StrictForm text
 strict_is_weak text =
     let law = read.strict_moment_is_weak text in
@@ -95,14 +77,6 @@ pub cut_whole : (t : ℤ) → cut t 9 ≡ t
 cut_whole (pos n) = omega (arith, ints)
 cut_whole (negsuc n) = omega (arith, ints)
 
--- the one text of a moment that is printed with k digits, and what it reads as
-pub record PrintedMoment (t : ℤ) (k : ℕ) : Type 0 where
-  pub one : IsPrintable t → OnePrinted t k
-  pub displayed : (text : List ℕ) → (moment_text t k ≡ Some text) ↔ (IsPrintable t × IsPrinted t k text)
-  pub reads : (text : List ℕ) → IsPrinted t k text → ReadsAs text (cut t k)
-  pub strict : (text : List ℕ) → IsPrinted t k text → strict_answer text ≡ Ok (cut t k)
-  pub weak : (text : List ℕ) → IsPrinted t k text → weak_answer text ≡ Ok (cut t k)
-
 pub printed_moment_reads : (t : ℤ) (k : ℕ) → k ≤ 9 → PrintedMoment t k
 printed_moment_reads t k small = record {
   one = one_printed t k small;
@@ -110,6 +84,7 @@ printed_moment_reads t k small = record {
   reads = printed_reads t k;
   strict = printed_read t k;
   weak = printed_read_weak t k;
+  whole = cut_whole t;
 }
 
 -- a printed text is the one that is computed
@@ -130,10 +105,6 @@ displayed_as x t k bytes known small within written =
     let text : printed_text x ≡ Some one.text = rw known ((text_displayed t k one.text small).1 (within, one.printed)) in
     let same : bytes ≡ one.text = rw text at written in
     rw same one.printed
-
--- the bytes of two texts stand in the order of the moments that they print, cut to their digits
-pub stamps_in_order : (a b : ℤ) (k : ℕ) (x y : List ℕ) → IsPrinted a k x → IsPrinted b k y → slice_cmp nat_cmp x y ≡ int_cmp (cut a k) (cut b k)
-stamps_in_order a b = printed_order a b
 
 -- what an order of two moments says
 pub moment_at_most : (a b : ℤ) → IsTrue (is_le (int_cmp a b)) ↔ (a ≤ℤ b)

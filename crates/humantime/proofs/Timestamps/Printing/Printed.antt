@@ -19,7 +19,7 @@ use Rattle.humantime.specs.References.Timestamps.Printing.{places, IsSecondOf, c
 use Rattle.humantime.proofs.Timestamps.Reading.Bytes.{HoldsOfBytes, holds_before_zone}
 use Rattle.humantime.proofs.Dates.DatesOfDays.{date_of_is}
 use Rattle.humantime.proofs.Timestamps.Printing.Digits.{shown_digits, shown_places, shown_nanos, cut_nanos}
-use Rattle.humantime.proofs.Timestamps.Printing.OneText.{same_printed}
+use Rattle.humantime.proofs.Timestamps.Printing.Order.{one_text}
 
 pub places_most : (p : Precision) → places p ≤ 9
 places_most p = grind (arith, common_steps)
@@ -58,10 +58,6 @@ shown_printed (pos t) k time date small is = record {
   places = shown_places k (t % 1_000_000_000) small;
   moment = ap pos (shown_moment t k time date small (ap nat_abs is.sum) is.within_day) ∙ cut_pos t k;
 }
-
--- a printed text is one
-pub one_text : (t : ℤ) (k : ℕ) (x y : List ℕ) → IsPrinted t k x → IsPrinted t k y → x ≡ y
-one_text = same_printed
 
 -- it is ASCII
 ascii_bytes : HoldsOfBytes (λ c. c < 128)

@@ -3,9 +3,9 @@
 use Rattle.std.specs.Prelude.{ℕ, zero, suc, ◌+◌, ◌*◌, ◌/◌, ◌%◌, ◌^◌, ◌||◌, ◌&&◌, ◌==◌, Bool, true, false, List, [], ◌∷◌, length, Option, Some, None, Result, Ok, Err, nat_lt, nat_le, if◌then◌else◌, encode_utf8_all, map}
 use Rattle.humantime.specs.Values.{nanos_per_second}
 use Rattle.humantime.specs.Durations.Characters.{is_ws, is_digit, is_numeric, begins, past, decimal_value, significant, offset_of, byte_length, u64_max}
-use Rattle.humantime.specs.Durations.Units.{Scale, scale_of_word}
+use Rattle.humantime.specs.Durations.Units.{Scale, scale_of_word, Addition, Nanos, Seconds}
 use Rattle.humantime.specs.Durations.Spans.{Span}
-use Rattle.humantime.specs.Durations.Accepted.{Addition, addition_nanos, additions_at}
+use Rattle.humantime.specs.Durations.Accepted.{amount, addition_nanos, additions_at}
 use Rattle.humantime.specs.Durations.Faults.{number_of, after_number, fraction_of, after_fraction, word_of, after_word, span_of, Fault, InvalidCharacter, NumberExpected, UnknownUnit, NumberOverflow, Empty}
 
 -- what a span adds
@@ -83,25 +83,24 @@ items text = spans_on (walk_of text)
 
 -- whether there is room for an addition, and the sum after some, if there is
 abbrev pub room : ℕ → Addition → Bool
-room t x =
-    (if x.base == 1 then nat_le (t % nanos_per_second + x.amount) u64_max else true)
-    && nat_le ((t + addition_nanos x) / nanos_per_second) u64_max
+room t (Nanos n) = nat_le (t % nanos_per_second + n) u64_max && nat_le ((t + n) / nanos_per_second) u64_max
+room t (Seconds n) = nat_le (t / nanos_per_second + n) u64_max
 
 unfoldable pub add_all : ℕ → List Addition → Option ℕ
 add_all t [] = Some t
 add_all t (x ∷ xs) = if room t x then add_all (t + addition_nanos x) xs else None
 
 abbrev pub is_whole_part : ℕ → List ℕ → Bool
-is_whole_part factor ds = nat_le (decimal_value ds * factor) u64_max && (decimal_value ds * factor % 10 ^ length ds == 0)
+is_whole_part n ds = nat_le (decimal_value ds * n) u64_max && (decimal_value ds * n % 10 ^ length ds == 0)
 
-abbrev pub fraction_fits : Option ℕ → Option (List ℕ) → Bool
-fraction_fits factor None = true
+abbrev pub fraction_fits : Option Addition → Option (List ℕ) → Bool
+fraction_fits _ None = true
 fraction_fits None (Some ds) = length (significant ds) == 0
-fraction_fits (Some factor) (Some ds) = is_whole_part factor (significant ds)
+fraction_fits (Some x) (Some ds) = is_whole_part (amount x) (significant ds)
 
 abbrev pub fits_at : Option Scale → Span → Bool
 fits_at None s = false
-fits_at (Some u) s = nat_le (decimal_value s.number * u.factor) u64_max && fraction_fits u.fraction_factor s.fraction
+fits_at (Some u) s = nat_le (decimal_value s.number * amount u.one) u64_max && fraction_fits u.fraction s.fraction
 
 -- the sum after t and a span, if the span keeps the limits
 unfoldable pub add_span : ℕ → Span → Option ℕ

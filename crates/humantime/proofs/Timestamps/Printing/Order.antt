@@ -8,12 +8,14 @@ use Rattle.std.specs.Char.{digit_value}
 use Rattle.std.specs.Cmp.Lexicographic.{slice_cmp}
 use Rattle.std.specs.Ordering.{nat_cmp, int_cmp, ordering_then}
 use Rattle.std.specs.Str.Parse.{digits_value_after}
+use Rattle.std.specs.FinMap.{slice_cmp-IsAntisymmetric, nat_cmp-IsAntisymmetric}
 use Rattle.std.proofs.lemmas.Bool.Decides.{nat_tests}
+use Rattle.std.proofs.lemmas.Int.{ints}
 use Rattle.humantime.specs.declared.calendar.Date.{Date}
 use Rattle.humantime.specs.Calendar.{IsDate, day_of}
 use Rattle.humantime.specs.Timestamps.Fields.{two_digits, four_digits, Fields, fraction_text, fraction_nanos, moment_of}
 use Rattle.humantime.specs.References.Timestamps.Reading.{AreDigits, fraction_digits}
-use Rattle.humantime.specs.Timestamps.Printed.{HasPlaces, IsPrinted}
+use Rattle.humantime.specs.Timestamps.Printed.{cut, HasPlaces, IsPrinted}
 use Rattle.humantime.specs.Laws.Timestamps.{InOrder}
 use Rattle.humantime.proofs.Dates.DaysOfDates.{before_year, before_month}
 use Rattle.humantime.proofs.Dates.Years.{valid_told}
@@ -122,8 +124,8 @@ clock_cmp : (a h i s m b j k t n : ℕ) → h ≤ 23 → i ≤ 59 → s ≤ 59 �
     ≡ nat_cmp ((a * 86_400 + h * 3_600 + i * 60 + min s 59) * 1_000_000_000 + m) ((b * 86_400 + j * 3_600 + k * 60 + min t 59) * 1_000_000_000 + n)
 clock_cmp a h i s m b j k t n h23 i59 s59 m9 j23 k59 t59 n9 = grind (arith, common_steps, then_equal, step_cmp, below, cmp_alike)
 
-pub printed_order : (a b : ℤ) → InOrder a b
-printed_order a b k x y p q =
+pub stamps_in_order : (a b : ℤ) → InOrder a b
+stamps_in_order a b k x y p q =
     let f = p.fields in
     let g = q.fields in
     let fraction = fraction_cmp k f.fraction g.fraction p.few p.places q.places (digits_told _ p.weak.fraction) (digits_told _ q.weak.fraction) in
@@ -137,3 +139,10 @@ printed_order a b k x y p q =
     let moments = pos_cmp (moment_of f) (moment_of g) ∙ (λ i. int_cmp (p.moment i) (q.moment i)) in
     (λ i. slice_cmp nat_cmp (shown_shape a k x p i) (shown_shape b k y q i))
     ∙ (text ∙ (rw fraction (day ∙ clock) ∙ moments))
+
+same_int : (t : ℤ) → int_cmp t t ≡ Equal
+same_int t = grind (arith, ints)
+
+-- so a moment has one printed text
+pub one_text : (t : ℤ) (k : ℕ) (x y : List ℕ) → IsPrinted t k x → IsPrinted t k y → x ≡ y
+one_text t k x y p q = slice_cmp-IsAntisymmetric nat_cmp-IsAntisymmetric x y (stamps_in_order t t k x y p q ∙ same_int (cut t k))

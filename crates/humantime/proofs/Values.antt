@@ -1,2 +1,0 @@
--- Moments and their parts.
-pub mod Moments
