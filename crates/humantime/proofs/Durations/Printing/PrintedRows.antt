@@ -1,9 +1,9 @@
 -- The rows of printed counts: what each unit's word stands for.
 use Rattle.std.proofs.lemmas.Grind.{common_steps}
-use Rattle.std.proofs.Common.{◌≡◌, ℕ, ◌*◌, ◌^◌, ◌<◌, ◌≤◌, Bool, true, false, cond, List, [], ◌∷◌, ◌++◌, refl, arith}
+use Rattle.std.proofs.Common.{◌≡◌, ℕ, ◌*◌, ◌/◌, ◌%◌, ◌^◌, ◌<◌, ◌≤◌, Bool, true, false, cond, List, [], ◌∷◌, ◌++◌, refl, arith}
 use Rattle.std.specs.Prelude.{⊤, ◌&&◌, ◌==◌, Option, Some, None, codes, decimal, nat_lt, nat_le}
 use Rattle.std.specs.Str.{IsUtf8, is_utf8, chars}
-use Rattle.std.specs.List.{list_all}
+use Rattle.std.specs.List.{list_all, zip}
 use lib.Utf8.{encode}
 use Rattle.std.proofs.lemmas.Str.{IsUtf8-from_is_utf8}
 use Rattle.std.proofs.lemmas.Bool.Decides.{nat_tests}
@@ -78,37 +78,40 @@ word_either : (w m : ℕ) (s : Suffix) (many : Bool) → is_word w m (word_of s 
 word_either w m s true h k = is_word-true w m (word_of s true) h
 word_either w m s false h k = is_word-true w m (word_of s false) k
 
--- each suffix gives words of its weight, where less than m is left
-abbrev pub Table : List ℕ → List Suffix → ℕ → Type 0
-Table [] [] m = m ≡ 1
-Table (w ∷ ws) (s ∷ ss) m = ((many : Bool) → IsWord w m (word_of s many)) × Table ws ss w
-Table [] (s ∷ ss) m = ⊥
-Table (w ∷ ws) [] m = ⊥
+-- the units, each a weight and its suffix
+abbrev pub units : List (ℕ × Suffix)
+units = zip weights suffixes
 
-abbrev is_table : List ℕ → List Suffix → ℕ → Bool
-is_table [] [] m = m == 1
-is_table (w ∷ ws) (s ∷ ss) m = is_word w m (word_of s true) && is_word w m (word_of s false) && is_table ws ss w
-is_table [] (s ∷ ss) m = false
-is_table (w ∷ ws) [] m = false
+-- the counts of d by division, each with its suffix
+abbrev pub counted : List (ℕ × Suffix) → ℕ → List (ℕ × Suffix)
+counted [] d = []
+counted (u ∷ us) d = (d / u.0, u.1) ∷ counted us (d % u.0)
+
+-- each suffix gives words of its weight, where less than m is left
+abbrev pub Table : List (ℕ × Suffix) → ℕ → Type 0
+Table [] m = m ≡ 1
+Table (u ∷ us) m = ((many : Bool) → IsWord u.0 m (word_of u.1 many)) × Table us u.0
+
+abbrev is_table : List (ℕ × Suffix) → ℕ → Bool
+is_table [] m = m == 1
+is_table (u ∷ us) m = is_word u.0 m (word_of u.1 true) && is_word u.0 m (word_of u.1 false) && is_table us u.0
 
 three : (a b c : Bool) → (a && b && c) ≡ true → (a ≡ true) × (b ≡ true) × (c ≡ true)
 three a b c h = grind (arith, common_steps)
 
-is_table-true : (ws : List ℕ) (ss : List Suffix) (m : ℕ) → is_table ws ss m ≡ true → Table ws ss m
-is_table-true [] [] m h = grind (arith, common_steps, nat_tests)
-is_table-true [] (s ∷ ss) m h = absurd (cc)
-is_table-true (w ∷ ws) [] m h = absurd (cc)
-is_table-true (w ∷ ws) (s ∷ ss) m h =
-    let parts = three (is_word w m (word_of s true)) (is_word w m (word_of s false)) (is_table ws ss w) h in
-    (λ many. word_either w m s many parts.0 parts.1, is_table-true ws ss w parts.2)
+is_table-true : (us : List (ℕ × Suffix)) (m : ℕ) → is_table us m ≡ true → Table us m
+is_table-true [] m h = grind (arith, common_steps, nat_tests)
+is_table-true (u ∷ us) m h =
+    let parts = three (is_word u.0 m (word_of u.1 true)) (is_word u.0 m (word_of u.1 false)) (is_table us u.0) h in
+    (λ many. word_either u.0 m u.1 many parts.0 parts.1, is_table-true us u.0 parts.2)
 
 -- a bound of all durations
 abbrev pub most : ℕ
 most = 2 ^ 64 * nanos_per_second
 
-is_so : is_table weights suffixes most ≡ true
+is_so : is_table units most ≡ true
 unfolding is_letter scale_of_word is_utf8 chars encode
 is_so = refl
 
-pub table : Table weights suffixes most
-table = is_table-true weights suffixes most is_so
+pub table : Table units most
+table = is_table-true units most is_so

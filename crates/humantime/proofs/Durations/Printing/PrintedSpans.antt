@@ -3,7 +3,7 @@ use Rattle.std.proofs.lemmas.Grind.{common_steps}
 use Rattle.std.proofs.Common.{◌≡◌, inl, inr, ℕ, ◌+◌, ◌*◌, ◌/◌, ◌%◌, ◌^◌, ◌<◌, ◌≤◌, false, List, [], ◌∷◌, ◌++◌, None, Some, refl, ap, subst, ◌∙◌, arith, rules}
 use Rattle.std.specs.Prelude.{IsAscii, codes, decimal, chars, map, nat_lt}
 use Rattle.std.specs.Str.{IsUtf8}
-use Rattle.std.specs.List.{AllByRecursion, filter, zip, join_with_byte}
+use Rattle.std.specs.List.{AllByRecursion, filter, join_with_byte}
 use Rattle.std.proofs.Math.Nat.{mul_assoc, mul_comm}
 use Rattle.std.proofs.lemmas.Nat.{mod_below}
 use Rattle.std.proofs.lemmas.Bool.{cases_Bool}
@@ -24,7 +24,7 @@ use Rattle.humantime.proofs.Durations.Reading.Settled.{value-cons}
 use Rattle.humantime.proofs.Durations.Laws.JoinedTexts.{each-append}
 use Rattle.humantime.proofs.Durations.Laws.SmallAdditions.{IsSmall, small_have_room}
 use Rattle.humantime.proofs.Durations.Printing.PrintedDigits.{decimal_number}
-use Rattle.humantime.proofs.Durations.Printing.PrintedRows.{space, word_for, span_for, IsOfKind, IsWord, Counts, Table, table, most}
+use Rattle.humantime.proofs.Durations.Printing.PrintedRows.{space, word_for, span_for, IsOfKind, IsWord, Counts, units, counted, Table, table, most}
 use Rattle.humantime.proofs.Durations.Printing.GreatestCounts.{canon_is_text}
 
 -- The count is printed as the text of its span, which keeps all limits.
@@ -34,14 +34,6 @@ pub record IsRow (n : ℕ) (s : Suffix) : Type 0 where
   pub formed : Formed (span_for n s)
   pub fits : Fits (span_for n s)
   pub small : AllByRecursion IsSmall (additions_of (span_for n s))
-
-adds_one : (n : ℕ) (word : List ℕ) (u : Scale) → scale_of_word word ≡ Some u → decimal_value (decimal n) ≡ n
-    → additions_of (record { number = decimal n; fraction = None; word = word }) ≡ times n u.one ∷ []
-adds_one n word u e v = grind (arith, common_steps)
-
-fits_one : (n : ℕ) (word : List ℕ) (u : Scale) → scale_of_word word ≡ Some u → decimal_value (decimal n) ≡ n → n * amount u.one ≤ u64_max
-    → Fits (record { number = decimal n; fraction = None; word = word })
-fits_one n word u e v h = rw e (rw v h, tt)
 
 -- the count and what it adds, where less than m is left
 record IsFew (w m n : ℕ) (u : Scale) : Type 0 where
@@ -69,75 +61,67 @@ row_few w m n u c below whole =
     let few = few_of m n u.one c.kind (omega (arith, nanos)) (omega (arith, nanos)) in
     record { nanos = nanos; count = omega (arith, mul_positive n (amount u.one) c.some, few.0); amount = few.0; small = few.1 }
 
-decimal_utf8 : (n : ℕ) → n < 2 ^ 64 → IsUtf8 (decimal n)
-decimal_utf8 n h = IsUtf8-from_ascii (decimal n) (IsAscii-decimal n h)
-
-count_utf8 : (n : ℕ) (s : Suffix) → n < 2 ^ 64 → IsUtf8 (word_for n s) → IsUtf8 (printed_count n s)
-count_utf8 n s h word = rw append_assoc (IsUtf8-append (decimal n) (word_for n s) (decimal_utf8 n h) word)
+adds_one : (n : ℕ) (word : List ℕ) (u : Scale) → scale_of_word word ≡ Some u → decimal_value (decimal n) ≡ n
+    → additions_of (record { number = decimal n; fraction = None; word = word }) ≡ times n u.one ∷ []
+adds_one n word u e v = grind (arith, common_steps)
 
 count_chars : (n : ℕ) (s : Suffix) → n < 2 ^ 64 → chars (printed_count n s) ≡ decimal n ++ chars (word_for n s)
-count_chars n s h = grind (arith, common_steps, chars-append, decimal_utf8, chars-IsAscii, IsAscii-decimal)
-
-row_worth : (w m n : ℕ) (s : Suffix) → IsWord w m (word_for n s) → w * n < m → w * n < most → total (additions_of (span_for n s)) ≡ w * n
-row_worth w m n s i below whole =
-    let few = row_few w m n i.unit i.counts below whole in
-    rw (adds_one n (chars (word_for n s)) i.unit i.is (decimal_number n few.count).value) (omega (arith, few.nanos))
+count_chars n s h = grind (arith, common_steps, chars-append, IsUtf8-from_ascii, chars-IsAscii, IsAscii-decimal)
 
 count_spells : (n w m : ℕ) (s : Suffix) (white : List ℕ) → n < 2 ^ 64 → IsWord w m (word_for n s) → Only is_ws white
     → Spells (chars (printed_count n s) ++ white) (span_for n s) []
 count_spells n w m s white h i only = grind (arith, common_steps, (decimal_number n h), count_chars)
 
-row : (w m n : ℕ) (s : Suffix) → IsWord w m (word_for n s) → w * n < m → w * n < most → IsRow n s
+row : (w m n : ℕ) (s : Suffix) → IsWord w m (word_for n s) → w * n < m → w * n < most → IsRow n s × (total (additions_of (span_for n s)) ≡ w * n)
 row w m n s i below whole =
     let few = row_few w m n i.unit i.counts below whole in
     let number = decimal_number n few.count in
-    record {
-      utf8 = count_utf8 n s few.count i.utf8;
+    let adds = adds_one n (chars (word_for n s)) i.unit i.is number.value in
+    let row : IsRow n s = record {
+      utf8 = rw append_assoc (IsUtf8-append (decimal n) (word_for n s) (IsUtf8-from_ascii (decimal n) (IsAscii-decimal n few.count)) i.utf8);
       spells = λ white only. count_spells n w m s white few.count i only;
       formed = record { numbers = record { number = omega (arith, number.value); fraction = tt }; word = rw i.is refl };
-      fits = fits_one n (chars (word_for n s)) i.unit i.is number.value few.amount;
-      small = rw (adds_one n (chars (word_for n s)) i.unit i.is number.value) (few.small, tt);
-    }
+      fits = rw i.is (rw number.value (few.amount, tt));
+      small = rw adds (few.small, tt);
+    } in
+    (row, rw adds (omega (arith, few.nanos)))
 
--- the counts that are not zero, each with its suffix, and their spans
-abbrev pub shown : List ℕ → List Suffix → List (ℕ × Suffix)
-shown ns ss = filter (λ c. nat_lt 0 c.0) (zip ns ss)
+-- those counts that are not zero, and their spans
+abbrev pub shown : List (ℕ × Suffix) → List (ℕ × Suffix)
+shown cs = filter (λ c. nat_lt 0 c.0) cs
 
 abbrev pub spans_of : List (ℕ × Suffix) → List Span
-spans_of rows = map (λ c. span_for c.0 c.1) rows
+spans_of cs = map (λ c. span_for c.0 c.1) cs
 
-abbrev pub IsCount : ℕ → Type 0
-IsCount n = n < 2 ^ 64
+abbrev pub AllRows : List (ℕ × Suffix) → Type 0
+AllRows cs = AllByRecursion (λ c. IsRow c.0 c.1) cs
 
--- The counts of d are rows, and their spans add up to it.
-pub record AreRows (d : ℕ) (ns : List ℕ) (ss : List Suffix) : Type 0 where
-  pub each : AllByRecursion (λ c. IsRow c.0 c.1) (shown ns ss)
-  pub sum : value (spans_of (shown ns ss)) ≡ d
-  pub small : AllByRecursion IsCount ns
+-- The counts that are shown are rows, and their spans add up to d.
+record AreRows (d : ℕ) (cs : List (ℕ × Suffix)) : Type 0 where
+  each : AllRows (shown cs)
+  sum : value (spans_of (shown cs)) ≡ d
 
 weight_positive : (w m : ℕ) (u : Scale) → Counts w m u → 0 < w
 weight_positive w m u c = grind (arith, common_steps)
 
-rows_cons : (w q r d : ℕ) (ns : List ℕ) (s : Suffix) (ss : List Suffix) → w * q + r ≡ d → q < 2 ^ 64
-    → IsRow q s → total (additions_of (span_for q s)) ≡ w * q → AreRows r ns ss → AreRows d (q ∷ ns) (s ∷ ss)
-rows_cons w q r d ns s ss e count row worth rest = elim (cases_Bool (nat_lt 0 q)) [
-  | inl some ↦ record { each = rw some (row, rest.each); sum = rw some (value-cons (span_for q s) (spans_of (shown ns ss)) ∙ omega (arith, worth, rest.sum)); small = (count, rest.small) }
-  | inr zero ↦ record { each = rw zero rest.each; sum = rw zero (grind (arith, nat_tests, rest.sum)); small = (count, rest.small) }
+rows_cons : (w q r d : ℕ) (s : Suffix) (cs : List (ℕ × Suffix)) → w * q + r ≡ d
+    → IsRow q s × (total (additions_of (span_for q s)) ≡ w * q) → AreRows r cs → AreRows d ((q, s) ∷ cs)
+rows_cons w q r d s cs e row rest = elim (cases_Bool (nat_lt 0 q)) [
+  | inl some ↦ record { each = rw some (row.0, rest.each); sum = rw some (value-cons (span_for q s) (spans_of (shown cs)) ∙ omega (arith, row.1, rest.sum)) }
+  | inr none ↦ record { each = rw none rest.each; sum = rw none (grind (arith, nat_tests, rest.sum)) }
 ]
 
-pub rows : (ws : List ℕ) (ss : List Suffix) (m d : ℕ) → Table ws ss m → d < m → d < most → AreRows d (divided ws d) ss
-rows [] [] m d h below whole = record { each = tt; sum = omega arith; small = tt }
-rows [] (s ∷ ss) m d h below whole = absurd h
-rows (w ∷ ws) [] m d h below whole = absurd h
-rows (w ∷ ws) (s ∷ ss) m d h below whole =
+rows : (us : List (ℕ × Suffix)) (m d : ℕ) → Table us m → d < m → d < most → AreRows d (counted us d)
+rows [] m d h below whole = record { each = tt; sum = omega arith }
+rows (u ∷ us) m d h below whole =
+    let w = u.0 in
     let q = d / w in
     let word = h.0 (nat_lt 1 q) in
     let positive : 0 < w = weight_positive w m word.unit word.counts in
     let least : w * q ≤ d = omega arith in
-    let few = row_few w m q word.unit word.counts (omega arith) (omega arith) in
-    rows_cons w q (d % w) d (divided ws (d % w)) s ss (omega arith) few.count
-    (row w m q s word (omega arith) (omega arith)) (row_worth w m q s word (omega arith) (omega arith))
-    (rows ws ss w (d % w) h.1 (mod_below d w positive) (omega arith))
+    rows_cons w q (d % w) d u.1 (counted us (d % w)) (omega arith)
+    (row w m q u.1 word (omega arith) (omega arith))
+    (rows us w (d % w) h.1 (mod_below d w positive) (omega arith))
 
 -- ---- the text of these spans
 
@@ -154,9 +138,6 @@ chars_space p q utf8 =
 abbrev pub rows_text : List (ℕ × Suffix) → List ℕ
 rows_text rows = join_with_byte space (map (λ c. printed_count c.0 c.1) rows)
 
-abbrev pub AllRows : List (ℕ × Suffix) → Type 0
-AllRows rows = AllByRecursion (λ c. IsRow c.0 c.1) rows
-
 rows_spell : (rows : List (ℕ × Suffix)) → AllRows rows → SpellsEach (chars (rows_text rows)) (spans_of rows)
 rows_spell [] h = chars-nil
 rows_spell (c ∷ []) h = ([], subst (λ l. Spells l (span_for c.0 c.1) []) (append-nil (chars (printed_count c.0 c.1))) (h.0.spells [] tt), refl)
@@ -165,36 +146,31 @@ rows_spell (c ∷ d ∷ rows) h =
     let here = spells-append (chars (printed_count c.0 c.1) ++ space ∷ []) [] rest (span_for c.0 c.1) (h.0.spells (space ∷ []) space_is) in
     (rest, rw (chars_space (printed_count c.0 c.1) (rows_text (d ∷ rows)) h.0.utf8) here, rows_spell (d ∷ rows) h.1)
 
-record AreWithin (spans : List Span) : Type 0 where
-  formed : AllByRecursion Formed spans
-  fit : AllByRecursion Fits spans
-  small : AllByRecursion IsSmall (additions spans)
+-- The spans keep their limits, and add little each.
+pub record AreWithin (spans : List Span) : Type 0 where
+  pub formed : AllByRecursion Formed spans
+  pub fit : AllByRecursion Fits spans
+  pub small : AllByRecursion IsSmall (additions spans)
 
 rows_within : (rows : List (ℕ × Suffix)) → AllRows rows → AreWithin (spans_of rows)
 rows_within [] h = record { formed = tt; fit = tt; small = tt }
 rows_within (c ∷ rows) h = grind (arith, common_steps, (rows_within rows h.1), each-append)
 
--- The bytes are spans within the limits that add up to d, of small additions.
+-- The bytes are such spans, which add up to d.
 pub record IsPrinted (bytes : List ℕ) (d : ℕ) : Type 0 where
   pub spans : List Span
   pub reads : Reads (chars bytes) spans
-  pub formed : AllByRecursion Formed spans
-  pub fit : AllByRecursion Fits spans
-  pub small : AllByRecursion IsSmall (additions spans)
+  pub within : AreWithin spans
   pub sum : value spans ≡ d
 
 rows_printed : (c : ℕ × Suffix) (rows : List (ℕ × Suffix)) (d : ℕ) → AllRows (c ∷ rows) → value (spans_of (c ∷ rows)) ≡ d
     → IsPrinted (rows_text (c ∷ rows)) d
-rows_printed c rows d h sum =
-    let within = rows_within (c ∷ rows) h in
-    record {
-      spans = spans_of (c ∷ rows);
-      reads = (record { space = []; body = _; whole = refl; only_space = tt; each = rows_spell (c ∷ rows) h }, λ e. cc);
-      formed = within.formed;
-      fit = within.fit;
-      small = within.small;
-      sum = sum;
-    }
+rows_printed c rows d h sum = record {
+  spans = spans_of (c ∷ rows);
+  reads = (record { space = []; body = _; whole = refl; only_space = tt; each = rows_spell (c ∷ rows) h }, λ e. cc);
+  within = rows_within (c ∷ rows) h;
+  sum = sum;
+}
 
 -- where no count is left, there are zero seconds
 zero_text : codes "0s" ≡ printed_count 0 (without_plural (codes "s"))
@@ -204,10 +180,8 @@ zero_printed : IsPrinted (codes "0s") 0
 zero_printed =
     let s = without_plural (codes "s") in
     let minute = seconds_per_minute * nanos_per_second in
-    let second = table.1.1.1.1.1.0 false in
-    let worth = row_worth nanos_per_second minute 0 s second (omega arith) (omega arith) in
-    let here = row nanos_per_second minute 0 s second (omega arith) (omega arith) in
-    rw zero_text (rows_printed (0, s) [] 0 (here, tt) (value-cons (span_for 0 s) [] ∙ omega (arith, worth)))
+    let second = row nanos_per_second minute 0 s (table.1.1.1.1.1.0 false) (omega arith) (omega arith) in
+    rw zero_text (rows_printed (0, s) [] 0 (second.0, tt) (value-cons (span_for 0 s) [] ∙ omega (arith, second.1)))
 
 all_printed : (rows : List (ℕ × Suffix)) (d : ℕ) → AllRows rows → value (spans_of rows) ≡ d
     → IsPrinted (joined_by_space (map (λ c. printed_count c.0 c.1) rows)) d
@@ -217,8 +191,8 @@ all_printed (c ∷ rows) d h sum = rows_printed c rows d h sum
 text_printed : (d : ℕ) → d / nanos_per_second ≤ u64_max → IsPrinted (duration_text d) d
 unfolding duration_text
 text_printed d h =
-    let all = rows weights suffixes most d table (omega arith) (omega arith) in
-    all_printed (shown (divided weights d) suffixes) d all.each all.sum
+    let all = rows units most d table (omega arith) (omega arith) in
+    all_printed (shown (counted units d)) d all.each all.sum
 
 -- the canonical text of a duration is accepted with it
 pub canon_printed : (d : ℕ) → d / nanos_per_second ≤ u64_max → (text : List ℕ) → Canon d text → IsPrinted text d
@@ -227,4 +201,5 @@ canon_printed d h text canon = rw (canon_is_text d text canon) (text_printed d h
 pub canon_reads : (d : ℕ) → d / nanos_per_second ≤ u64_max → (text : List ℕ) → Canon d text → Accepted (chars text) d
 canon_reads d h text canon =
     let is = canon_printed d h text canon in
-    Sum_of is.spans is.reads (record { formed = is.formed; fit = is.fit; room = small_have_room (additions is.spans) is.small (rw is.sum h) }) is.sum
+    let room = small_have_room (additions is.spans) is.within.small (rw is.sum h) in
+    Sum_of is.spans is.reads (record { formed = is.within.formed; fit = is.within.fit; room = room }) is.sum
