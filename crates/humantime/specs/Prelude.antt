@@ -13,8 +13,6 @@ pub use Rattle.humantime.specs.Durations.Spans.{Span, Reads}
 pub use Rattle.humantime.specs.Durations.Faults.{Fault, InvalidCharacter, NumberExpected, UnknownUnit, NumberOverflow, Empty, HasFault}
 pub use Rattle.humantime.specs.Laws.Texts.{without_white_space, AreReordered}
 pub use Rattle.humantime.specs.Laws.Older.{AcceptedWithZeros, WasAccepted}
--- what is said of a unit, by its bytes
-pub use Rattle.humantime.specs.References.Durations.UnitMessages.{message_of_unit}
 -- spans
 pub use Rattle.humantime.specs.Durations.Items.{Items, Lent, AreItems}
 pub use Rattle.humantime.specs.References.Durations.Lents.{lent_of, item_of}

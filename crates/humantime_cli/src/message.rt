@@ -1,7 +1,7 @@
 //! The messages of errors.
 
-ghost use Rattle.std.specs.Prelude.{◌≡◌, ◌++◌, decimal, chars};
-ghost use Rattle.humantime.specs.Prelude.{fault_of, fault_message, unit_message, message_of_unit};
+ghost use Rattle.std.specs.Prelude.{◌≡◌, ◌++◌, decimal};
+ghost use Rattle.humantime.specs.Prelude.{fault_of, fault_message, unit_message};
 ghost use Rattle.humantime.specs.Prelude as library;
 ghost use Rattle.humantime_cli.specs.Attempts.{NoneFailed, Noted};
 ghost use Rattle.humantime_cli.specs.Writes.{Writes, line};
@@ -72,8 +72,7 @@ fn write_unit<W: Stream>(
     attempts: &mut Attempts,
 ) -> Result<(), WriteFailed>
     requires { NoneFailed attempts.old }
-    ensures written { Writes result (W.contents to.old) (W.contents to.new) (line (message_of_unit unit.now value)) }
-    ensures characters { unit_message (chars unit.now) value ≡ message_of_unit unit.now value }
+    ensures written { Writes result (W.contents to.old) (W.contents to.new) (line (unit_message unit.now value)) }
     ensures noted { Noted result attempts.new }
 {
     if unit.is_empty() {

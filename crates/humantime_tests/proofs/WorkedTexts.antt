@@ -98,9 +98,9 @@ rows_beyond_ascii =
     row (codes "1N" ++ 0xe5 ∷ []) (Err (InvalidCharacter 2))
     ∷ row (codes "12" ++ 0x3000 ∷ codes "s") (Ok 12_000_000_000)
     ∷ row (codes "163" ++ 0xb5 ∷ codes "s") (Ok 163_000)
-    ∷ row (codes "1" ++ 0xb5 ∷ []) (Err (UnknownUnit 1 3 (0xb5 ∷ []) 1))
+    ∷ row (codes "1" ++ 0xb5 ∷ []) (Err (UnknownUnit 1 3 (0xc2 ∷ 0xb5 ∷ []) 1))
     ∷ row (codes "1" ++ 0x3bc ∷ codes "s") (Ok 1_000)
-    ∷ row (codes "1" ++ 0x3bc ∷ []) (Err (UnknownUnit 1 3 (0x3bc ∷ []) 1))
+    ∷ row (codes "1" ++ 0x3bc ∷ []) (Err (UnknownUnit 1 3 (0xce ∷ 0xbc ∷ []) 1))
     ∷ []
 
 -- each text of the rows has its answer

@@ -8,6 +8,5 @@ pub mod Points
 pub mod SpanEnds
 pub mod SpanExits
 pub mod Tails
-pub mod UnitMessages
 pub mod Trimming
 pub mod WordKeys

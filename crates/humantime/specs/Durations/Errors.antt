@@ -1,6 +1,5 @@
--- What an error of a duration's text says, and its message. A text that was read is its bytes here, for offsets count
--- them; the unit of a fault is its characters.
-use Rattle.std.specs.Prelude.{◌≡◌, ℕ, ◌<◌, ◌≤◌, List, length, Result, ⊤, chars, slice_range, ◌++◌, codes, decimal, encode_utf8_all, ◌∷◌, []}
+-- What an error of a duration's text says, and its message. A text is its bytes here.
+use Rattle.std.specs.Prelude.{◌≡◌, ℕ, ◌<◌, ◌≤◌, List, length, Result, ⊤, slice_range, ◌++◌, codes, decimal, ◌∷◌, []}
 use Rattle.std.specs.Borrow.{Bor}
 use Rattle.std.specs.Str.{IsCharBoundary}
 use Rattle.std.specs.Result.{result_map_both}
@@ -9,11 +8,11 @@ use Rattle.humantime.specs.declared.duration.error.DurationError.{DurationError}
 use Rattle.humantime.specs.Durations.Faults.{Fault, InvalidCharacter, NumberExpected, UnknownUnit, NumberOverflow, Empty}
 use Rattle.humantime.specs.declared.duration.error.DurationError.TheVariants as errors
 
--- the fault that an error names; a unit is named by its characters, not by its place in memory
+-- the fault that an error names; a unit is named by its bytes, not by its place in memory
 abbrev pub fault_of : DurationError → Fault
 fault_of (errors.InvalidCharacter at) = InvalidCharacter at
 fault_of (errors.NumberExpected at) = NumberExpected at
-fault_of (errors.UnknownUnit start end unit value) = UnknownUnit start end (chars unit.now) value
+fault_of (errors.UnknownUnit start end unit value) = UnknownUnit start end unit.now value
 fault_of errors.NumberOverflow = NumberOverflow
 fault_of errors.Empty = Empty
 
@@ -44,8 +43,8 @@ PointsInto bytes errors.Empty = ⊤
 -- what is said of a number with no unit, and of a unit that is no unit's word
 abbrev pub unit_message : List ℕ → ℕ → List ℕ
 unit_message [] value = codes "time unit needed, for example " ++ decimal value ++ codes "sec or " ++ decimal value ++ codes "ms"
-unit_message (c ∷ cs) value =
-    codes "unknown time unit \"" ++ encode_utf8_all (c ∷ cs)
+unit_message (b ∷ bs) value =
+    codes "unknown time unit \"" ++ (b ∷ bs)
     ++ (codes "\", supported units: ns, us/" ++ micro_suffix
     ++ codes ", ms, sec, min, hours, days, weeks, months, years (and few variations)")
 

@@ -1,5 +1,6 @@
--- The first fault of a text that is not accepted. A text is its list of characters; offsets count its bytes.
-use Rattle.std.specs.Prelude.{ℕ, List, [], ◌∷◌, Option, Some, None, if◌then◌else◌, ◌≡◌, ◌≢◌, ◌⊎◌, true, false, ◌++◌, IsSome, drop}
+-- The first fault of a text that is not accepted. A text is its list of characters; offsets count its bytes, and a fault
+-- holds the bytes of its unit.
+use Rattle.std.specs.Prelude.{ℕ, List, [], ◌∷◌, Option, Some, None, if◌then◌else◌, ◌≡◌, ◌≢◌, ◌⊎◌, true, false, ◌++◌, IsSome, drop, encode_utf8_all}
 use Rattle.humantime.specs.Durations.Characters.{is_letter, is_numeric, is_point, leading, past, digits, is_ws, is_digit, begins, ends, decimal_value, offset_of, byte_length, bare_zero}
 use Rattle.humantime.specs.Durations.Spans.{Span, SpellsAll}
 use Rattle.humantime.specs.Durations.Units.{scale_of_word}
@@ -76,7 +77,7 @@ pub data Stops (text front : List ℕ) (spans : List Span) (rest : List ℕ) (e 
   -- letters that are no unit's word
   Wrong_word : StartsNumber rest → fraction_of rest ≢ Some [] → word_of rest ≢ [] → scale_of_word (word_of rest) ≡ None
       → MayFollowWord (after_word rest)
-      → e ≡ UnknownUnit (offset_of text (after_fraction rest)) (offset_of text (after_word rest)) (word_of rest)
+      → e ≡ UnknownUnit (offset_of text (after_fraction rest)) (offset_of text (after_word rest)) (encode_utf8_all (word_of rest))
       (decimal_value (number_of rest))
       → Stops text front spans rest e
 

@@ -2,7 +2,6 @@
 pub mod Adding
 pub mod Answers
 pub mod Classes
-pub mod FaultEqualityLemmas
 pub mod Keys
 pub mod Lending
 pub mod Lents
@@ -13,5 +12,4 @@ pub mod Scales
 pub mod Scanning
 pub mod Seen
 pub mod SpanParts
-pub mod UnitMessages
 pub mod Writing

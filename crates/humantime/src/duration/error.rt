@@ -1,12 +1,8 @@
 //! What is wrong with a text that is no duration.
 
-ghost use Rattle.std.specs.Prelude.{◌≡◌, ◌++◌, Some, chars, decimal, bytes_eq};
-ghost use Rattle.std.specs.Cmp.{on_per};
-ghost use Rattle.std.specs.Ordering.{on};
+ghost use Rattle.std.specs.Prelude.{◌++◌, Some, [], decimal};
 ghost use Rattle.std.specs.Fmt.{WritesOnOk, WritesStyledOnOk};
 ghost use Rattle.humantime.specs.Durations.Errors.{fault_of, fault_message, unit_message};
-ghost use Rattle.humantime.specs.References.Durations.FaultEqualityLemmas.{fault_eq, fault_eq_laws};
-ghost use Rattle.humantime.specs.References.Durations.UnitMessages.{unit_needed, message_of_unit};
 
 use itoa::Buffer;
 use std::error::Error;
@@ -20,7 +16,7 @@ use std::fmt;
 /// ```text
 /// DurationError::NumberExpected(13) is printed as `expected number at 13`
 /// ```
-#[derive(Clone, Copy, Debug)]
+#[derive(Clone, Copy, PartialEq, Eq, Debug)]
 pub enum DurationError<'a> {
     /// At this offset stands a character that has no place in a span.
     InvalidCharacter(usize),
@@ -43,53 +39,6 @@ pub enum DurationError<'a> {
     NumberOverflow,
     /// There is nothing, or only white space.
     Empty,
-}
-
-/// Two errors are equal exactly where they name the same fault.
-impl PartialEq for DurationError<'_> {
-    ghost eq = { on fault_of fault_eq };
-
-    ghost laws = { on_per fault_of fault_eq_laws };
-
-    fn eq(&self, other: &DurationError<'_>) -> bool {
-        match (*self, *other) {
-            (DurationError::InvalidCharacter(at), DurationError::InvalidCharacter(other_at)) => {
-                at == other_at
-            }
-            (DurationError::NumberExpected(at), DurationError::NumberExpected(other_at)) => {
-                at == other_at
-            }
-            (
-                DurationError::UnknownUnit {
-                    start,
-                    end,
-                    unit,
-                    value,
-                },
-                DurationError::UnknownUnit {
-                    start: other_start,
-                    end: other_end,
-                    unit: other_unit,
-                    value: other_value,
-                },
-            ) => {
-                start == other_start
-                    && end == other_end
-                    && is_same_text(unit, other_unit)
-                    && value == other_value
-            }
-            (DurationError::NumberOverflow, DurationError::NumberOverflow)
-            | (DurationError::Empty, DurationError::Empty) => true,
-            _ => false,
-        }
-    }
-}
-
-/// Whether two texts have the same characters.
-fn is_same_text(a: &str, b: &str) -> bool
-    ensures { result ≡ bytes_eq (chars a.now) (chars b.now) }
-{
-    a == b
 }
 
 /// Writes the message. Width and fill change nothing.
@@ -125,9 +74,8 @@ fn write_place<W: fmt::Write>(what: &str, at: usize, f: &mut fmt::Formatter<W>) 
 
 /// Writes what is said of a unit that is missing or no unit's word. `value` is the number before it.
 fn write_unit<W: fmt::Write>(unit: &str, value: u64, f: &mut fmt::Formatter<W>) -> fmt::Result
-    ensures writes { WritesOnOk W.write_str_gives f.old result (message_of_unit unit.now value) f.new }
-    ensures styled { WritesStyledOnOk W.write_str_gives f.old result (message_of_unit unit.now value) f.new }
-    ensures characters { unit_message (chars unit.now) value ≡ message_of_unit unit.now value }
+    ensures writes { WritesOnOk W.write_str_gives f.old result (unit_message unit.now value) f.new }
+    ensures styled { WritesStyledOnOk W.write_str_gives f.old result (unit_message unit.now value) f.new }
 {
     if unit.is_empty() {
         return write_unit_needed(value, f);
@@ -141,8 +89,8 @@ fn write_unit<W: fmt::Write>(unit: &str, value: u64, f: &mut fmt::Formatter<W>) 
 
 /// Writes what is said of a number with no unit.
 fn write_unit_needed<W: fmt::Write>(value: u64, f: &mut fmt::Formatter<W>) -> fmt::Result
-    ensures writes { WritesOnOk W.write_str_gives f.old result (unit_needed value) f.new }
-    ensures styled { WritesStyledOnOk W.write_str_gives f.old result (unit_needed value) f.new }
+    ensures writes { WritesOnOk W.write_str_gives f.old result (unit_message [] value) f.new }
+    ensures styled { WritesStyledOnOk W.write_str_gives f.old result (unit_message [] value) f.new }
 {
     let mut buffer = Buffer::new();
     let value = buffer.format(value);

@@ -1,7 +1,7 @@
 -- What is known of a rest once its number, its fraction and its word are read, and how each exit answers.
 use Rattle.std.proofs.Common.{arith}
 use Rattle.std.proofs.lemmas.Grind.{common_steps}
-use Rattle.std.proofs.Common.{◌≡◌, ◌≢◌, ◌++◌, ℕ, Bool, true, false, List, [], ◌∷◌, Option, Some, None, option_map, if◌then◌else◌, refl, sym, ap, ◌∙◌}
+use Rattle.std.proofs.Common.{◌≡◌, ◌≢◌, ◌++◌, ℕ, Bool, true, false, List, [], ◌∷◌, Option, Some, None, option_map, if◌then◌else◌, encode_utf8_all, refl, sym, ap, ◌∙◌}
 use Rattle.std.proofs.lemmas.List.{append_cancel_right}
 use Rattle.std.specs.Str.{drop_trailing_whitespace}
 use Rattle.humantime.specs.declared.duration.reading.amount.Amount.{Amount}
@@ -40,7 +40,7 @@ exit_after text rest v o after behind letters next s b n e = grind (arith, commo
 
 pub exit_unit : (text rest : List ℕ) (v : ℕ) (o : Option Counted) (after behind letters next : List ℕ) → IsSpanRead rest v o after behind letters next
     → bare o ≡ false → letters ≢ [] → ends_span next ≡ true → scale_of_word letters ≡ None
-    → stop_at text rest ≡ Some (UnknownUnit (offset_of text behind) (offset_of text next) letters v)
+    → stop_at text rest ≡ Some (UnknownUnit (offset_of text behind) (offset_of text next) (encode_utf8_all letters) v)
 exit_unit text rest v o after behind letters next s b n e u = grind (arith, common_steps, stop_short)
 
 pub exit_fine : (text rest : List ℕ) (v : ℕ) (o : Option Counted) (after behind letters next : List ℕ) (u : Scale) → IsSpanRead rest v o after behind letters next

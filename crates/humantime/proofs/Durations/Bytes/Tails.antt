@@ -3,9 +3,6 @@ use Rattle.std.proofs.lemmas.Grind.{common_steps}
 use Rattle.std.proofs.Common.{◌≡◌, ◌≢◌, ◌≤◌, ◌-◌, ℕ, List, [], ◌++◌, length, take, drop, subst, ap, sym, ◌∙◌, arith, length-append, IsUtf8, IsCharBoundary, chars, encode_utf8, slice_range}
 use Rattle.std.proofs.lemmas.List.{take-append-drop}
 use Rattle.std.proofs.lemmas.Str.{IsUtf8-past_char, IsCharBoundary-at_seam, encodes-chars, chars-nil}
-use Rattle.std.specs.Prelude.{bytes_eq, encode_utf8_all}
-use Rattle.std.proofs.lemmas.Slice.Eq.{bytes_eq-Decides}
-use Rattle.humantime.specs.References.Durations.FaultEqualityLemmas.{both_ways}
 use Rattle.humantime.specs.Durations.Characters.{byte_length, offset_of}
 use Rattle.humantime.specs.References.Durations.Scanning.{IsTail}
 
@@ -58,9 +55,3 @@ pub part_between : (text behind part next : List ℕ) (start end : ℕ) → IsUt
     → start ≡ offset_of (chars text) (chars behind) → end ≡ offset_of (chars text) (chars next)
     → (start ≤ end) × IsCharBoundary text start × IsCharBoundary text end × (part ≡ slice_range text start end)
 part_between text behind part next start end u b n e s t = grind (arith, common_steps, tail_offset, tail_boundary)
-
--- two texts have the same bytes exactly where they have the same characters
-pub same_chars : (a b : List ℕ) → IsUtf8 a → IsUtf8 b → bytes_eq a b ≡ bytes_eq (chars a) (chars b)
-same_chars a b u v = both_ways (bytes_eq a b) (bytes_eq (chars a) (chars b))
-    (λ h. (bytes_eq-Decides (chars a) (chars b)).1 (ap chars ((bytes_eq-Decides a b).0 h)))
-    (λ h. (bytes_eq-Decides a b).1 (sym (encodes-chars a u) ∙ ap encode_utf8_all ((bytes_eq-Decides (chars a) (chars b)).0 h) ∙ encodes-chars b v))

@@ -1,20 +1,19 @@
 -- The laws of durations as theorems over plain variables, each under the name of its function in `laws`.
+use Rattle.std.proofs.lemmas.Bool.Decides.{nat_tests}
 use Rattle.std.proofs.lemmas.Grind.{common_steps}
-use Rattle.std.proofs.Common.{◌≡◌, ◌↔◌, ℕ, ◌<◌, List, Result, Ok, Err, IsTrue, chars, refl, arith}
-use Rattle.std.specs.Prelude.{IsUtf8}
+use Rattle.std.proofs.lemmas.Slice.Eq.{bytes_eq-Decides}
+use Rattle.std.proofs.Common.{◌≡◌, ◌↔◌, ℕ, ◌<◌, Bool, List, Result, Ok, Err, IsTrue, chars, refl, arith}
 use Rattle.humantime.specs.declared.duration.error.DurationError.{DurationError}
 use Rattle.humantime.specs.Values.{duration_end}
-use Rattle.humantime.specs.Durations.Errors.{told, unit_message}
+use Rattle.humantime.specs.Durations.Errors.{told, fault_of}
 use Rattle.humantime.specs.Durations.Accepted.{Accepted}
 use Rattle.humantime.specs.Durations.Faults.{Fault, HasFault}
-use Rattle.humantime.specs.References.Durations.UnitMessages.{message_of_unit}
-use Rattle.humantime.specs.References.Durations.FaultEqualityLemmas.{fault_eq, fault_eq-sound, fault_eq-same}
+use Rattle.humantime.specs.contracts.duration.error.DurationErrorPartialEq.TheImpl as errors
 use Rattle.humantime.specs.Laws.Outcomes.{OneOutcome, OneReading, OneListOfItems, ItemsDecideValue, ItemsDecideFault, FirstErrorIsAnswer, ItemsDecideOverflow, OneListOfSlices, SameSlices}
 use Rattle.humantime.specs.Durations.Counts.{Canon, IsCanonicalOf}
 use Rattle.humantime.specs.References.Durations.Printing.{duration_text}
 use Rattle.humantime.specs.Laws.Printed.{HasOneText, ReadsBack, TextsTellApart, HasShortText, HasSmallCounts, HasCanonicalText, KeepsItsValue, KeepsItsText}
 use Rattle.humantime.specs.References.Durations.Answers.{duration_answer, canonical_answer}
-use Rattle.humantime.proofs.Durations.Bytes.UnitMessages as messages
 use Rattle.humantime.proofs.Durations.Printing.CanonicalTexts as canonical
 use Rattle.humantime.proofs.Durations.Printing.GreatestCounts as counts
 use Rattle.humantime.proofs.Durations.Slices.LentItems as lent
@@ -72,13 +71,13 @@ spans_tile text = record { one = lent.one_list_of_slices text; same = lent.same_
 pub told_value : (r : Result ℕ DurationError) (v : ℕ) → told r ≡ Ok v → r ≡ Ok v
 told_value r v h = grind (arith, common_steps)
 
--- Two errors are equal exactly where they name the same fault.
-pub errors_equal : (e f : Fault) → IsTrue (fault_eq e f) ↔ (e ≡ f)
-errors_equal e f = (fault_eq-sound e f, fault_eq-same e f)
+-- whether two errors are equal, as `==` says
+abbrev pub error_eq : DurationError → DurationError → Bool
+error_eq = (errors.ghosts).eq
 
--- What is said of a unit by its characters is what is said of it by its bytes.
-pub unit_said : (bytes : List ℕ) (value : ℕ) → IsUtf8 bytes → unit_message (chars bytes) value ≡ message_of_unit bytes value
-unit_said = messages.unit_said
+-- Two errors are equal exactly where they name the same fault.
+pub errors_equal : (e f : DurationError) → IsTrue (error_eq e f) ↔ (fault_of e ≡ fault_of f)
+errors_equal e f = grind (arith, common_steps, nat_tests, bytes_eq-Decides)
 
 -- ---- printed durations
 

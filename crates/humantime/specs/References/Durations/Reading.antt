@@ -1,6 +1,6 @@
 -- Reading from left to right: the plain reference, which private functions meet. Theorems of proofs/ tie it to the
 -- definitions of Spans and Faults.
-use Rattle.std.specs.Prelude.{ℕ, zero, suc, ◌+◌, ◌*◌, ◌/◌, ◌%◌, ◌^◌, ◌||◌, ◌&&◌, ◌==◌, Bool, true, false, List, [], ◌∷◌, length, Option, Some, None, Result, Ok, Err, nat_lt, nat_le, if◌then◌else◌}
+use Rattle.std.specs.Prelude.{ℕ, zero, suc, ◌+◌, ◌*◌, ◌/◌, ◌%◌, ◌^◌, ◌||◌, ◌&&◌, ◌==◌, Bool, true, false, List, [], ◌∷◌, length, Option, Some, None, Result, Ok, Err, nat_lt, nat_le, if◌then◌else◌, encode_utf8_all}
 use Rattle.humantime.specs.Values.{nanos_per_second}
 use Rattle.humantime.specs.Durations.Characters.{is_ws, is_digit, is_numeric, past, decimal_value, significant, offset_of, byte_length, u64_max}
 use Rattle.humantime.specs.Durations.Units.{Scale, scale_of_word}
@@ -23,7 +23,7 @@ too_long s = nat_lt u64_max (decimal_value s.number) || long_fraction s.fraction
 -- what is wrong with a word of which this is known
 abbrev pub stop_word : List ℕ → List ℕ → Option Scale → Option Fault
 stop_word text rest (Some u) = None
-stop_word text rest None = Some (UnknownUnit (offset_of text (after_fraction rest)) (offset_of text (after_word rest)) (word_of rest) (decimal_value (number_of rest)))
+stop_word text rest None = Some (UnknownUnit (offset_of text (after_fraction rest)) (offset_of text (after_word rest)) (encode_utf8_all (word_of rest)) (decimal_value (number_of rest)))
 
 -- what is wrong with the span that begins the rest, by its fraction, its word and what follows them
 abbrev pub stop_by : List ℕ → List ℕ → Option (List ℕ) → List ℕ → List ℕ → Option Fault

@@ -1,5 +1,6 @@
 use Rattle.std.proofs.Common.{◌≡◌, ◌≢◌, ℕ, length, chars, Some, sym, ap, ◌∙◌, arith}
 use Rattle.std.proofs.lemmas.Grind.{common_steps}
+use Rattle.std.proofs.lemmas.Str.{encodes-chars}
 use Rattle.humantime.specs.Durations.Faults.{Fault, InvalidCharacter}
 use Rattle.humantime.specs.References.Durations.Scales.{scale_of}
 use Rattle.humantime.proofs.Durations.Slices.Places.{some_bytes, rest_place, part_of_rests, bare_some, bad_some}
@@ -32,7 +33,7 @@ pub returns-in-None-clause-stop : goal.returns-in-None-clause-stop
 returns-in-None-clause-stop c =
     let parts = c.requires.parts in
     let some : length c.args.parts.word.letters.now ≢ 0 = grind (arith, common_steps) in
-    rw (c.offset_of.ensures.value, c.offset_of-in-None.ensures.value)
+    rw (c.offset_of.ensures.value, c.offset_of-in-None.ensures.value, ← encodes-chars c.args.parts.word.letters.now parts.word_utf8)
     (exit_unit (chars c.args.text.now) _ _ _ _ _ _ _ parts.read (sym c.is_bare.ensures ∙ c.if-is_bare.false) (some_chars _ parts.word_utf8 some)
     (sym c.ends_span.ensures ∙ c.if-not-ends_span.false) (sym (c.in-None.ensures ∙ c.args.parts.word.told)))
 
