@@ -5,10 +5,10 @@ use Rattle.std.specs.Str.{chars, is_utf8}
 use lib.Utf8.{encode}
 use Rattle.humantime.specs.Durations.Characters.{white_spaces, is_ws, is_digit, is_letter, is_point, significant}
 use Rattle.humantime.specs.Durations.Units.{scale_of_word}
-use Rattle.humantime.specs.References.Durations.Reading.{stop_at, read, items, add_all, add_span, settle}
+use Rattle.humantime.specs.References.Durations.Reading.{stop_at, walk, items, add_all, add_span, settle}
 use Rattle.humantime.specs.References.Durations.Printing.{duration_text}
 use Rattle.humantime.specs.References.Durations.Answers.{duration_answer, canonical_answer}
 
 unfoldable pub humantime_on_literals : ⊤
-unfolding duration_answer canonical_answer settle items read stop_at add_span add_all is_ws white_spaces is_digit is_letter is_point significant scale_of_word duration_text digits chars is_utf8 encode
+unfolding duration_answer canonical_answer settle items walk stop_at add_span add_all is_ws white_spaces is_digit is_letter is_point significant scale_of_word duration_text digits chars is_utf8 encode
 humantime_on_literals = tt

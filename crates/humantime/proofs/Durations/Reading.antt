@@ -3,7 +3,7 @@ pub mod Classes
 pub mod Found
 pub mod OneReading
 pub mod Outcomes
-pub mod ReadSteps
+pub mod SpanWalks
 pub mod Rooms
 pub mod Runs
 pub mod Settled
@@ -12,5 +12,4 @@ pub mod Spelled
 pub mod Spellings
 pub mod Stopping
 pub mod Told
-pub mod Unread
 pub mod Written

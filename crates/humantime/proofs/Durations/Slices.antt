@@ -1,6 +1,5 @@
 -- What spans and errors lend of their text.
 pub mod Iterating
-pub mod LendingSteps
 pub mod LentItems
 pub mod Places
 pub mod SlicesTold

@@ -1,19 +1,24 @@
 -- The items of a text, and what each lends of it. A text is its list of characters.
-use Rattle.std.specs.Prelude.{◌≡◌, ◌≢◌, ◌⊎◌, List, ℕ, [], Option, Some, None, true, ◌∷◌, ◌++◌, Result, Ok, Err, map, option_to_list, option_map}
+use Rattle.std.specs.Prelude.{◌≡◌, ◌≢◌, List, ℕ, [], Option, Some, None, true, ◌∷◌, ◌++◌, Result, Ok, Err, map, option_to_list, option_map}
 use Rattle.std.specs.List.{AllByRecursion}
 use Rattle.std.specs.Str.{byte}
 use Rattle.humantime.specs.Durations.Spans.{Span, Only, Spells}
 use Rattle.humantime.specs.Durations.Accepted.{Formed}
 use Rattle.humantime.specs.Durations.Faults.{Fault, Split, Stops}
-use Rattle.humantime.specs.Durations.Characters.{is_ws, is_digit, begins, ends, decimal_value, offset_of}
+use Rattle.humantime.specs.Durations.Characters.{is_ws, is_digit, begins, ends, past, decimal_value, offset_of}
 
--- The front of the text is these spans, each well formed, and behind it the text ends, or stops at this fault.
+-- behind these spans the text ends, or stops at this fault
+abbrev pub Ends : List ℕ → List ℕ → List Span → List ℕ → Option Fault → Type 0
+Ends text front spans rest None = (rest ≡ []) × (spans ≢ [])
+Ends text front spans rest (Some e) = Stops text front spans rest e
+
+-- The front of the text is these spans, each well formed, and there they end.
 pub record Items (text : List ℕ) (spans : List Span) (stop : Option Fault) : Type 0 where
   pub front : List ℕ
   pub rest : List ℕ
   pub split : Split text front spans rest
   pub formed : AllByRecursion Formed spans
-  pub ends : ((rest ≡ []) × (spans ≢ []) × (stop ≡ None)) ⊎ ((e : Fault) × (stop ≡ Some e) × Stops text front spans rest e)
+  pub ends : Ends text front spans rest stop
 
 -- The slices of the number, the fraction and the word, the offsets where the number begins and the word ends, and the number.
 pub record Lent : Type 0 where
@@ -55,9 +60,9 @@ LendsEach text here [] [] end = here ≡ end
 LendsEach text here (s ∷ ss) (x ∷ xs) end = (next : List ℕ) × IsLent text here s x next × LendsEach text next ss xs end
 LendsEach text here _ _ end = ⊥
 
--- what a caller gets: what each span lends, and then the fault, if there is one
-abbrev pub items_of : List Lent → Option Fault → List (Result Lent Fault)
-items_of slices stop = map Ok slices ++ option_to_list (option_map Err stop)
+-- spans or what they lend, and then the fault, if there is one
+abbrev pub items_of : {A : Type 0} → List A → Option Fault → List (Result A Fault)
+items_of found stop = map Ok found ++ option_to_list (option_map Err stop)
 
 -- These are the items of the text, with what they lend, from behind the white space at its start to the rest behind its spans.
 pub record AreItems (text : List ℕ) (lent : List (Result Lent Fault)) : Type 0 where
@@ -66,4 +71,4 @@ pub record AreItems (text : List ℕ) (lent : List (Result Lent Fault)) : Type 0
   pub slices : List Lent
   pub items : Items text spans stop
   pub are : lent ≡ items_of slices stop
-  pub each : LendsEach text (items.split.spelled.body ++ items.rest) spans slices items.rest
+  pub each : LendsEach text (past is_ws text) spans slices items.rest

@@ -1,6 +1,6 @@
 -- What was accepted before: while the Greek letter mu, U+03BC, was no letter, and while zeros at the end of a fraction
 -- counted for its limits. A text is its list of characters.
-use Rattle.std.specs.Prelude.{◌≡◌, ℕ, ◌*◌, ◌/◌, ◌^◌, ◌≤◌, Bool, ◌||◌, ◌==◌, List, [], ◌∷◌, ◌++◌, length, filter, Option, Some, None, IsSome, IfSome, IsOk, flat_map, bytes_eq, ⊤}
+use Rattle.std.specs.Prelude.{◌≡◌, ℕ, ◌*◌, ◌/◌, ◌^◌, ◌≤◌, Bool, ◌||◌, ◌==◌, List, [], ◌∷◌, ◌++◌, length, filter, Option, Some, None, IsSome, IfSome, IsOk, flat_map, bytes_eq, ⊤, Ok}
 use Rattle.std.specs.List.{AllByRecursion, list_all}
 use Rattle.std.specs.Char.{is_ascii_alphabetic}
 use Rattle.std.specs.Map.{lookup}
@@ -99,3 +99,9 @@ IsStillRead text = WasAccepted text → IsOk (duration_answer text)
 -- the Greek letter stands in the text
 abbrev pub HasMu : List ℕ → Type 0
 HasMu text = (before : List ℕ) × (after : List ℕ) × (text ≡ before ++ greek_mu ∷ after)
+
+-- What was accepted while such zeros counted is accepted with the same value; so that is its answer.
+pub record KeepsValueWithZeros (text : List ℕ) : Type 0 where
+  pub value : IsStillAccepted text
+  pub answer : (v : ℕ) → AcceptedWithZeros text v → duration_answer text ≡ Ok v
+  pub read : IsStillRead text

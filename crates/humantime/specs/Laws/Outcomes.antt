@@ -57,3 +57,25 @@ FirstErrorIsAnswer text = (lent others : List (Result Lent Fault)) (e : Fault) �
 abbrev pub ItemsDecideOverflow : List ℕ → Type 0
 ItemsDecideOverflow text = (spans : List Span) (stop : Option Fault) → Items text spans stop → text ≢ bare_zero
     → ¬ (WithinLimits spans) → HasFault text NumberOverflow
+
+-- A text of these characters has one value or one first fault, one list of spans at most and one list of items; what is
+-- answered is that value or fault.
+pub record HasOneOutcome (text : List ℕ) : Type 0 where
+  pub outcome : OneOutcome text
+  pub reading : OneReading text
+  pub items : OneListOfItems text
+  pub value : (v : ℕ) → (duration_answer text ≡ Ok v) ↔ Accepted text v
+  pub fault : (e : Fault) → (duration_answer text ≡ Err e) ↔ HasFault text e
+
+-- The items of a text of these characters decide its value or its fault, unless it is exactly `0`.
+pub record ItemsDecide (text : List ℕ) : Type 0 where
+  pub one : OneListOfItems text
+  pub accepted : ItemsDecideValue text
+  pub stopped : ItemsDecideFault text
+  pub first : FirstErrorIsAnswer text
+  pub too_large : ItemsDecideOverflow text
+
+-- A text of these characters lends one list of slices, and no other.
+pub record LendsOneList (text : List ℕ) : Type 0 where
+  pub one : OneListOfSlices text
+  pub same : SameSlices text

@@ -68,3 +68,25 @@ ReorderedAnswerAlike a b = AreReordered a b → (u v : ℕ) → duration_answer 
 -- the text is no spans
 abbrev pub HasNoSpans : List ℕ → Type 0
 HasNoSpans text = (spans : List Span) → ¬ (Reads text spans)
+
+-- What is accepted is accepted without its white space, with the same value; so its answer is the same.
+pub record KeepsValueWithoutSpace (text : List ℕ) : Type 0 where
+  pub value : NeedsNoWhiteSpace text
+  pub answer : (v : ℕ) → duration_answer text ≡ Ok v → duration_answer (without_white_space text) ≡ Ok v
+
+-- Two accepted texts, neither exactly `0`, are accepted one behind the other with the sum exactly where their additions
+-- have room, and are too large exactly where they haven't.
+pub record AddWhenJoined (a b : List ℕ) : Type 0 where
+  pub first : IsZeroOrSpans a
+  pub second : IsZeroOrSpans b
+  pub sum : JoinedHaveSum a b
+  pub overflow : JoinedOverflow a b
+  pub one : JoinedHaveSumOrOverflow a b
+  pub answer : JoinedAnswerSumOrOverflow a b
+
+-- Accepted texts whose spans are reorderings of each other have equal values; the text `0` has no spans.
+pub record KeepValueReordered (a b : List ℕ) : Type 0 where
+  pub value : ReorderedHaveOneValue a b
+  pub answer : ReorderedAnswerOneValue a b
+  pub alike : ReorderedAnswerAlike a b
+  pub zero : HasNoSpans bare_zero

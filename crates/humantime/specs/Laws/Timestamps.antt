@@ -1,12 +1,13 @@
 -- The laws of timestamps. A text is its bytes, called b.
-use Rattle.std.specs.Prelude.{◌≡◌, ◌↔◌, ℕ, ℤ, Bool, List, slice_index, None, IsTrue}
+use Rattle.std.specs.Prelude.{◌≡◌, ◌↔◌, ℕ, ℤ, Bool, List, slice_index, None, IsTrue, Ok, Err, Some}
 use Rattle.std.specs.Cmp.Lexicographic.{slice_cmp}
 use Rattle.std.specs.Ordering.{nat_cmp, int_cmp}
 use Rattle.std.specs.Str.{byte}
 use Rattle.humantime.specs.declared.date.error.TimestampError.{TimestampError}
 use Rattle.humantime.specs.Timestamps.Fields.{Fields, IsWeak, IsStrict, IsWeakMoment, IsStrictMoment}
 use Rattle.humantime.specs.Timestamps.Printed.{cut, IsPrinted}
-use Rattle.humantime.specs.Timestamps.Checks.{ends_in_zone, first_failed}
+use Rattle.humantime.specs.Timestamps.Checks.{ends_in_zone, first_failed, weak_checks, strict_checks}
+use Rattle.humantime.specs.References.Timestamps.Reading.{strict_answer, weak_answer}
 
 -- some parts are shown exactly where no check fails, and then no others
 abbrev pub OneTimestamp : List (Bool × TimestampError) → (Fields → Type 0) → Type 0
@@ -43,3 +44,20 @@ pub record OnePrinted (t : ℤ) (k : ℕ) : Type 0 where
   pub printed : IsPrinted t k text
   pub only : (other : List ℕ) → IsPrinted t k other → other ≡ text
   pub reads : ReadsAs text (cut t k)
+
+-- a text's one outcome in each form, and that the answer as a function is this outcome
+pub record StampOutcome (text : List ℕ) : Type 0 where
+  pub weak : OneTimestamp (weak_checks text) (IsWeak text)
+  pub strict : OneTimestamp (strict_checks text) (IsStrict text)
+  pub weak_value : (t : ℤ) → (weak_answer text ≡ Ok t) ↔ IsWeakMoment text t
+  pub weak_error : (e : TimestampError) → (weak_answer text ≡ Err e) ↔ (first_failed (weak_checks text) ≡ Some e)
+  pub strict_value : (t : ℤ) → (strict_answer text ≡ Ok t) ↔ IsStrictMoment text t
+  pub strict_error : (e : TimestampError) → (strict_answer text ≡ Err e) ↔ (first_failed (strict_checks text) ≡ Some e)
+
+-- the strict form is the weak one with a `T` and a zone: of the parts, of the moment, and of the answer
+pub record StrictForm (text : List ℕ) : Type 0 where
+  pub parts : StrictIsWeak text
+  pub moment : StrictMomentIsWeak text
+  pub weak : (t : ℤ) → strict_answer text ≡ Ok t → weak_answer text ≡ Ok t
+  pub marked : (t : ℤ) → strict_answer text ≡ Ok t → IsMarked text
+  pub strict : (t : ℤ) → weak_answer text ≡ Ok t → IsMarked text → strict_answer text ≡ Ok t

@@ -1,10 +1,7 @@
 //! Laws of the texts of durations.
 
-ghost use Rattle.std.specs.Prelude.{◌≡◌, ◌↔◌, ℕ, chars, Ok, Err};
-ghost use Rattle.humantime.specs.Durations.Accepted.{Accepted};
-ghost use Rattle.humantime.specs.Durations.Faults.{Fault, HasFault};
-ghost use Rattle.humantime.specs.Laws.Outcomes.{OneOutcome, OneReading, OneListOfItems, ItemsDecideValue, ItemsDecideFault, FirstErrorIsAnswer, ItemsDecideOverflow};
-ghost use Rattle.humantime.specs.References.Durations.Answers.{duration_answer};
+ghost use Rattle.std.specs.Prelude.{chars};
+ghost use Rattle.humantime.specs.Laws.Outcomes.{HasOneOutcome, ItemsDecide};
 
 /// A text has exactly one value or exactly one first fault, and at most one list of spans.
 ///
@@ -15,11 +12,7 @@ ghost use Rattle.humantime.specs.References.Durations.Answers.{duration_answer};
 /// 1h 30m is 5400 seconds and nothing else; 1h x has the one fault that a number is expected at 3
 /// ```
 pub fn one_outcome(s: &str)
-    ensures outcome { OneOutcome (chars s.now) }
-    ensures reading { OneReading (chars s.now) }
-    ensures items { OneListOfItems (chars s.now) }
-    ensures value { (v : ℕ) → (duration_answer (chars s.now) ≡ Ok v) ↔ Accepted (chars s.now) v }
-    ensures fault { (e : Fault) → (duration_answer (chars s.now) ≡ Err e) ↔ HasFault (chars s.now) e }
+    ensures { HasOneOutcome (chars s.now) }
 {}
 
 /// The items of a text decide its value or its fault, unless the text is exactly `0`.
@@ -32,9 +25,5 @@ pub fn one_outcome(s: &str)
 /// 18446744073710ms x is too large, though a number is expected at 17
 /// ```
 pub fn spans_decide(s: &str)
-    ensures one { OneListOfItems (chars s.now) }
-    ensures accepted { ItemsDecideValue (chars s.now) }
-    ensures stopped { ItemsDecideFault (chars s.now) }
-    ensures first { FirstErrorIsAnswer (chars s.now) }
-    ensures too_large { ItemsDecideOverflow (chars s.now) }
+    ensures { ItemsDecide (chars s.now) }
 {}

@@ -5,7 +5,7 @@ ghost use Rattle.humantime.specs.Durations.Counts.{IsCanonicalOf, Canon};
 ghost use Rattle.humantime.specs.References.Durations.Answers.{duration_answer, canonical_answer};
 ghost use Rattle.humantime.specs.Durations.Faults.{Fault, HasFault};
 ghost use Rattle.humantime.specs.References.Durations.Printing.{duration_text};
-ghost use Rattle.humantime.specs.Laws.Printed.{HasOneText, ReadsBack, TextsTellApart, HasShortText, HasSmallCounts, HasCanonicalText, KeepsItsValue, KeepsItsText};
+ghost use Rattle.humantime.specs.Laws.Printed.{HasOneText, ReadsBack, TextsTellApart, HasShortText, HasSmallCounts, HasCanonicalText, KeepsItsValue, KeepsItsText, IsCanonicalAgain, IsBounded, PrintsAndReads, PrintApart};
 
 use crate::value::StdDuration;
 
@@ -15,11 +15,7 @@ use crate::value::StdDuration;
 /// 2h 37m is the one text of 9420 seconds, and is read as 9420 seconds
 /// ```
 pub fn printed_duration_reads(d: StdDuration)
-    ensures one { HasOneText d }
-    ensures printed { Canon d (duration_text d) }
-    ensures only { (bytes : List ℕ) → Canon d bytes → bytes ≡ duration_text d }
-    ensures reads { ReadsBack d }
-    ensures answer { duration_answer (chars (duration_text d)) ≡ Ok d }
+    ensures { PrintsAndReads d }
 {}
 
 /// Two durations have equal canonical texts exactly where they are equal.
@@ -28,8 +24,7 @@ pub fn printed_duration_reads(d: StdDuration)
 /// 60 seconds are printed as 1m, and no other duration is
 /// ```
 pub fn printed_durations_differ(a: StdDuration, b: StdDuration)
-    ensures canon { TextsTellApart a b }
-    ensures text { (duration_text a ≡ duration_text b) ↔ (a ≡ b) }
+    ensures { PrintApart a b }
 {}
 
 /// A canonical text has at most 64 bytes; its months are at most 11, its days at most 30.
@@ -38,8 +33,7 @@ pub fn printed_durations_differ(a: StdDuration, b: StdDuration)
 /// 100000000000years 11months 29days 23h 59m 59s 999ms 999µs 999ns has 64 bytes
 /// ```
 pub fn printed_bounds(d: StdDuration)
-    ensures length { HasShortText d }
-    ensures counts { HasSmallCounts d }
+    ensures { IsBounded d }
 {}
 
 /// What is accepted has a canonical text, which is accepted with the same duration, and is its own canonical text.
@@ -50,11 +44,5 @@ pub fn printed_bounds(d: StdDuration)
 /// the canonical text of 120min is 2h, and the canonical text of 2h is 2h
 /// ```
 pub fn canonical_again(s: &str)
-    ensures some { HasCanonicalText s.now }
-    ensures value { KeepsItsValue s.now }
-    ensures again { KeepsItsText s.now }
-    ensures answer { (t : List ℕ) → canonical_answer (chars s.now) ≡ Ok t → canonical_answer (chars t) ≡ Ok t }
-    ensures reads { (v : ℕ) (t : List ℕ) → duration_answer (chars s.now) ≡ Ok v → canonical_answer (chars s.now) ≡ Ok t → duration_answer (chars t) ≡ Ok v }
-    ensures text { (t : List ℕ) → (canonical_answer (chars s.now) ≡ Ok t) ↔ IsCanonicalOf s.now t }
-    ensures fault { (e : Fault) → (canonical_answer (chars s.now) ≡ Err e) ↔ HasFault (chars s.now) e }
+    ensures { IsCanonicalAgain s.now }
 {}

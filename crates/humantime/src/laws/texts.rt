@@ -2,8 +2,8 @@
 
 ghost use Rattle.std.specs.Prelude.{◌≡◌, ◌++◌, ℕ, chars, Ok};
 ghost use Rattle.humantime.specs.Durations.Characters.{bare_zero};
-ghost use Rattle.humantime.specs.Laws.Older.{AcceptedWithZeros, IsStillAccepted, IsStillRead};
-ghost use Rattle.humantime.specs.Laws.Texts.{without_white_space, NeedsNoWhiteSpace, IsZeroOrSpans, JoinedHaveSum, JoinedOverflow, JoinedHaveSumOrOverflow, JoinedAnswerSumOrOverflow, ReorderedHaveOneValue, ReorderedAnswerOneValue, ReorderedAnswerAlike, HasNoSpans};
+ghost use Rattle.humantime.specs.Laws.Older.{AcceptedWithZeros, IsStillAccepted, IsStillRead, KeepsValueWithZeros};
+ghost use Rattle.humantime.specs.Laws.Texts.{without_white_space, NeedsNoWhiteSpace, IsZeroOrSpans, JoinedHaveSum, JoinedOverflow, JoinedHaveSumOrOverflow, JoinedAnswerSumOrOverflow, ReorderedHaveOneValue, ReorderedAnswerOneValue, ReorderedAnswerAlike, HasNoSpans, AddWhenJoined, KeepValueReordered, KeepsValueWithoutSpace};
 ghost use Rattle.humantime.specs.References.Durations.Answers.{duration_answer};
 
 /// An accepted text without its white space is accepted with the same value, so both have one answer.
@@ -12,8 +12,7 @@ ghost use Rattle.humantime.specs.References.Durations.Answers.{duration_answer};
 /// 1 2 h 3 0 min and 12h30min are both 45000 seconds
 /// ```
 pub fn without_ws(s: &str)
-    ensures value { NeedsNoWhiteSpace (chars s.now) }
-    ensures answer { (v : ℕ) → duration_answer (chars s.now) ≡ Ok v → duration_answer (without_white_space (chars s.now)) ≡ Ok v }
+    ensures { KeepsValueWithoutSpace (chars s.now) }
 {}
 
 /// Of two accepted texts, neither exactly `0`, the one behind the other is accepted with the sum of
@@ -27,12 +26,7 @@ pub fn without_ws(s: &str)
 /// 1h and 30m are 5400 seconds as 1h30m; 18446744073709551615s and 1s are too large together
 /// ```
 pub fn joined(a: &str, b: &str)
-    ensures first { IsZeroOrSpans (chars a.now) }
-    ensures second { IsZeroOrSpans (chars b.now) }
-    ensures sum { JoinedHaveSum (chars a.now) (chars b.now) }
-    ensures overflow { JoinedOverflow (chars a.now) (chars b.now) }
-    ensures one { JoinedHaveSumOrOverflow (chars a.now) (chars b.now) }
-    ensures answer { JoinedAnswerSumOrOverflow (chars a.now) (chars b.now) }
+    ensures law { AddWhenJoined (chars a.now) (chars b.now) }
     ensures text { chars (a.now ++ b.now) ≡ chars a.now ++ chars b.now }
 {}
 
@@ -46,10 +40,7 @@ pub fn joined(a: &str, b: &str)
 /// 18446744073709551615ns is too large
 /// ```
 pub fn reordered(a: &str, b: &str)
-    ensures value { ReorderedHaveOneValue (chars a.now) (chars b.now) }
-    ensures answer { ReorderedAnswerOneValue (chars a.now) (chars b.now) }
-    ensures alike { ReorderedAnswerAlike (chars a.now) (chars b.now) }
-    ensures zero { HasNoSpans bare_zero }
+    ensures { KeepValueReordered (chars a.now) (chars b.now) }
 {}
 
 /// A text that was accepted while zeros at the end of a fraction counted is accepted with the same value.
@@ -61,7 +52,5 @@ pub fn reordered(a: &str, b: &str)
 /// 1.5000000000s was 1.5 seconds and is; 1.50000000000s was too large and is 1.5 seconds
 /// ```
 pub fn still_accepted(s: &str)
-    ensures value { IsStillAccepted (chars s.now) }
-    ensures answer { (v : ℕ) → AcceptedWithZeros (chars s.now) v → duration_answer (chars s.now) ≡ Ok v }
-    ensures read { IsStillRead (chars s.now) }
+    ensures { KeepsValueWithZeros (chars s.now) }
 {}

@@ -6,7 +6,7 @@ ghost use Rattle.std.specs.Ordering.{is_lt, nat_cmp};
 ghost use Rattle.humantime.specs.declared.date.error.TimestampError.{TimestampError};
 ghost use Rattle.humantime.specs.Timestamps.Fields.{IsWeak, IsStrict, IsWeakMoment, IsStrictMoment};
 ghost use Rattle.humantime.specs.Timestamps.Checks.{weak_checks, strict_checks, first_failed};
-ghost use Rattle.humantime.specs.Laws.Timestamps.{OneTimestamp, StrictIsWeak, StrictMomentIsWeak, IsMarked, InOrder, OnePrinted, ReadsAs};
+ghost use Rattle.humantime.specs.Laws.Timestamps.{OneTimestamp, StrictIsWeak, StrictMomentIsWeak, IsMarked, InOrder, OnePrinted, ReadsAs, StampOutcome, StrictForm};
 ghost use Rattle.humantime.specs.Timestamps.Printed.{cut, IsPrintable, IsPrinted};
 ghost use Rattle.humantime.specs.References.Timestamps.Printing.{moment_kept, places_kept, printed_text, IsTextOf};
 ghost use Rattle.humantime.specs.References.Timestamps.Reading.{weak_answer, strict_answer};
@@ -22,13 +22,7 @@ use crate::value::SystemTime;
 /// strict_is_weak("2018-02-14T00:28:07Z")
 /// ```
 pub fn strict_is_weak(s: &str)
-    ensures parts { StrictIsWeak s.now }
-    ensures moment { StrictMomentIsWeak s.now }
-
-    // And so of the answers.
-    ensures weak { (t : ℤ) → strict_answer s.now ≡ Ok t → weak_answer s.now ≡ Ok t }
-    ensures marked { (t : ℤ) → strict_answer s.now ≡ Ok t → IsMarked s.now }
-    ensures strict { (t : ℤ) → weak_answer s.now ≡ Ok t → IsMarked s.now → strict_answer s.now ≡ Ok t }
+    ensures { StrictForm s.now }
 {
     let _ = s;
 }
@@ -40,14 +34,7 @@ pub fn strict_is_weak(s: &str)
 /// one_stamp_outcome("2018-02-30 00:28:07")
 /// ```
 pub fn one_stamp_outcome(s: &str)
-    ensures weak { OneTimestamp (weak_checks s.now) (IsWeak s.now) }
-    ensures strict { OneTimestamp (strict_checks s.now) (IsStrict s.now) }
-
-    // The answer as a function is the one of the relations.
-    ensures weak_value { (t : ℤ) → (weak_answer s.now ≡ Ok t) ↔ IsWeakMoment s.now t }
-    ensures weak_error { (e : TimestampError) → (weak_answer s.now ≡ Err e) ↔ (first_failed (weak_checks s.now) ≡ Some e) }
-    ensures strict_value { (t : ℤ) → (strict_answer s.now ≡ Ok t) ↔ IsStrictMoment s.now t }
-    ensures strict_error { (e : TimestampError) → (strict_answer s.now ≡ Err e) ↔ (first_failed (strict_checks s.now) ≡ Some e) }
+    ensures { StampOutcome s.now }
 {
     let _ = s;
 }

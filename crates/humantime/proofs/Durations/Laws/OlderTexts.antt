@@ -1,6 +1,6 @@
 -- What became of the texts that were accepted before.
 use Rattle.std.proofs.lemmas.Grind.{common_steps}
-use Rattle.std.proofs.Common.{◌≡◌, ℕ, ◌≤◌, Bool, true, false, List, [], ◌∷◌, ◌++◌, length, Option, Ok, refl, sym, ap, ap₂, ◌∙◌, subst, arith}
+use Rattle.std.proofs.Common.{◌≡◌, ℕ, ◌≤◌, Bool, true, false, List, [], ◌∷◌, ◌++◌, length, Option, refl, sym, ap, ap₂, ◌∙◌, subst, arith}
 use Rattle.std.specs.Prelude.{◌==◌, not}
 use Rattle.std.specs.List.{AllByRecursion}
 use Rattle.std.specs.Option.{IfSome}
@@ -10,8 +10,7 @@ use Rattle.humantime.specs.Durations.Characters.{greek_mu, white_spaces, is_ws, 
 use Rattle.humantime.specs.Durations.Units.{Scale, scale_of_word}
 use Rattle.humantime.specs.Durations.Spans.{Span, Only, Spells, SpellsEach}
 use Rattle.humantime.specs.Durations.Accepted.{fraction_additions, additions_at, additions, total, Formed, FitsFraction, Fits, Accepted, Bare_zero, Sum_of}
-use Rattle.humantime.specs.Laws.Older.{is_older_letter, older_scale_of_word, older_fraction_additions, older_additions_at, older_additions, OlderFormed, OlderFitsFraction, OlderFits, OlderWithinLimits, AcceptedWithZeros, Older_zero, Older_sum, AcceptedWithoutMu, Oldest_zero, Oldest_sum, IsStillAccepted, IsStillRead, HasMu}
-use Rattle.humantime.specs.References.Durations.Answers.{duration_answer}
+use Rattle.humantime.specs.Laws.Older.{is_older_letter, older_scale_of_word, older_fraction_additions, older_additions_at, older_additions, OlderFormed, OlderFitsFraction, OlderFits, OlderWithinLimits, AcceptedWithZeros, Older_zero, Older_sum, AcceptedWithoutMu, Oldest_zero, Oldest_sum, IsStillAccepted, HasMu, KeepsValueWithZeros}
 use Rattle.humantime.proofs.Durations.Reading.Outcomes.{outcome_accepted}
 use Rattle.humantime.proofs.Durations.Reading.Settled.{FitsAt}
 use Rattle.humantime.proofs.Durations.Reading.SignificantDigits.{significant_shorter, whole_part_kept, amount_kept}
@@ -50,12 +49,6 @@ zeros_still_accepted text v (Older_sum spans h g sum) =
     let same = still_add spans in
     Sum_of spans h (record { formed = still_formed spans g.formed; fit = still_fit spans g.fit; room = rw (← same) g.room })
     (ap total (sym same) ∙ sum)
-
--- What was accepted while such zeros counted is accepted with the same value; so that is its answer.
-pub record KeepsValueWithZeros (text : List ℕ) : Type 0 where
-  pub value : IsStillAccepted text
-  pub answer : (v : ℕ) → AcceptedWithZeros text v → duration_answer text ≡ Ok v
-  pub read : IsStillRead text
 
 pub still_accepted : (text : List ℕ) → KeepsValueWithZeros text
 still_accepted text =

@@ -1,15 +1,14 @@
 -- The laws of accepted texts as theorems over plain variables, each under the name of its function in `laws`, and some
 -- theorems beyond them.
-use Rattle.std.proofs.Common.{◌≡◌, ◌↔◌, ℕ, ◌+◌, ◌/◌, ◌≤◌, List, ◌∷◌, ◌++◌, Ok, inl, inr, chars}
+use Rattle.std.proofs.Common.{◌↔◌, ℕ, ◌+◌, ◌/◌, ◌≤◌, List, ◌∷◌, ◌++◌, inl, inr, chars}
 use Rattle.std.specs.List.{AllByRecursion}
 use Rattle.humantime.specs.Values.{nanos_per_second}
-use Rattle.humantime.specs.Durations.Characters.{is_ws, u64_max, bare_zero}
+use Rattle.humantime.specs.Durations.Characters.{is_ws, u64_max}
 use Rattle.humantime.specs.Durations.Spans.{Span, Only, SpellsAll, Reads}
 use Rattle.humantime.specs.Durations.Accepted.{additions, AllHaveRoom, Accepted}
 use Rattle.humantime.specs.Durations.Faults.{NumberOverflow, HasFault}
 use Rattle.humantime.specs.Durations.Counts.{Canon}
-use Rattle.humantime.specs.Laws.Texts.{without_white_space, NeedsNoWhiteSpace, IsZeroOrSpans, JoinedHaveSum, JoinedOverflow, JoinedHaveSumOrOverflow, JoinedAnswerSumOrOverflow, ReorderedHaveOneValue, ReorderedAnswerOneValue, ReorderedAnswerAlike, HasNoSpans}
-use Rattle.humantime.specs.References.Durations.Answers.{duration_answer}
+use Rattle.humantime.specs.Laws.Texts.{without_white_space, JoinedAnswerSumOrOverflow, ReorderedAnswerOneValue, KeepsValueWithoutSpace, AddWhenJoined, KeepValueReordered}
 use Rattle.humantime.proofs.Durations.Reading.Outcomes.{accepted_from_outcome, outcome_accepted, outcome_fault}
 use Rattle.humantime.proofs.Durations.Laws.Readings as readings
 use Rattle.humantime.proofs.Durations.Laws.SpacelessTexts as spaceless
@@ -20,26 +19,11 @@ use Rattle.humantime.proofs.Durations.Laws.PrintedTogether as printed
 use Rattle.humantime.proofs.Durations.Laws.JoinedPieces as pieces
 use Rattle.humantime.proofs.Durations.Laws.JoinedPieces.{Piece, IsAcceptedPiece, joined_text, joined_spans, joined_value}
 
--- What is accepted is accepted without its white space, with the same value; so its answer is the same.
-pub record KeepsValueWithoutSpace (text : List ℕ) : Type 0 where
-  pub value : NeedsNoWhiteSpace text
-  pub answer : (v : ℕ) → duration_answer text ≡ Ok v → duration_answer (without_white_space text) ≡ Ok v
-
 pub without_ws : (text : List ℕ) → KeepsValueWithoutSpace text
 without_ws text = record {
   value = spaceless.spaceless_accepted text;
   answer = λ v h. outcome_accepted (without_white_space text) v (spaceless.spaceless_accepted text v (accepted_from_outcome text v h));
 }
-
--- Two accepted texts, neither exactly `0`, are accepted one behind the other with the sum exactly where their additions
--- have room, and are too large exactly where they haven't.
-pub record AddWhenJoined (a b : List ℕ) : Type 0 where
-  pub first : IsZeroOrSpans a
-  pub second : IsZeroOrSpans b
-  pub sum : JoinedHaveSum a b
-  pub overflow : JoinedOverflow a b
-  pub one : JoinedHaveSumOrOverflow a b
-  pub answer : JoinedAnswerSumOrOverflow a b
 
 joined_answer : (a b : List ℕ) → JoinedAnswerSumOrOverflow a b
 joined_answer a b u v x y some_a some_b =
@@ -57,13 +41,6 @@ joined a b = record {
   one = texts.joined_sum_or_overflow a b;
   answer = joined_answer a b;
 }
-
--- Accepted texts whose spans are reorderings of each other have equal values; the text `0` has no spans.
-pub record KeepValueReordered (a b : List ℕ) : Type 0 where
-  pub value : ReorderedHaveOneValue a b
-  pub answer : ReorderedAnswerOneValue a b
-  pub alike : ReorderedAnswerAlike a b
-  pub zero : HasNoSpans bare_zero
 
 pub reordered : (a b : List ℕ) → KeepValueReordered a b
 reordered a b =

@@ -1,26 +1,25 @@
 -- The outcome by the plain reading is the value or the fault of the text, and these are one.
 use Rattle.std.proofs.lemmas.Grind.{common_steps}
-use Rattle.std.proofs.Common.{◌≡◌, ◌≢◌, ◌⊎◌, ◌↔◌, ℕ, ◌≤◌, ◌+◌, List, [], ◌∷◌, ◌++◌, length, Option, Some, None, Result, Ok, Err, refl, sym, ap, ◌∙◌, inl, inr, arith, subst}
+use Rattle.std.proofs.Common.{◌≡◌, ◌≢◌, ◌⊎◌, ◌↔◌, ℕ, true, false, List, [], ◌∷◌, ◌++◌, map, Option, Some, None, Result, Ok, Err, refl, sym, ap, ◌∙◌, inl, inr, arith, subst, append_assoc}
 use Rattle.std.specs.List.{AllByRecursion}
 use Rattle.std.specs.Str.{bytes_eq}
 use Rattle.std.proofs.lemmas.Bool.{cases_Bool, false≢true}
 use Rattle.std.proofs.lemmas.Slice.Eq.{bytes_eq-Decides}
-use Rattle.humantime.specs.Durations.Characters.{is_digit, bare_zero}
+use Rattle.humantime.specs.Durations.Characters.{bare_zero}
 use Rattle.humantime.specs.Durations.Spans.{Span, Reads}
 use Rattle.humantime.specs.Durations.Accepted.{value, Formed, WithinLimits, Accepted, Bare_zero, Sum_of}
 use Rattle.humantime.specs.Durations.Faults.{span_of, Fault, NumberOverflow, Stops, Overflows, HasFault}
-use Rattle.humantime.specs.Durations.Items.{Items}
+use Rattle.humantime.specs.Durations.Items.{Items, items_of}
 use Rattle.humantime.specs.Laws.Outcomes.{OneOutcome, OnlyValue, OnlyFault, OneListOfItems, ItemsDecideValue, ItemsDecideFault, ItemsDecideOverflow}
-use Rattle.humantime.specs.References.Durations.Reading.{with_span, read, items, settle}
+use Rattle.humantime.specs.References.Durations.Reading.{walk_from, items, settle}
 use Rattle.humantime.specs.References.Durations.Answers.{duration_answer}
-use Rattle.humantime.proofs.Durations.Reading.Runs.{begins_not_nil}
-use Rattle.humantime.proofs.Durations.Reading.Settled.{WithinLimitsFrom, IsAddedTo, add_span-over, within_or_not, settle_over, settle-append, ended, settle_within, settle_beyond, WithinLimits_from, from_WithinLimits, WithinLimitsFrom-push}
+use Rattle.humantime.proofs.Durations.Reading.Settled.{within_or_not, ended, settle_within, settle_beyond, WithinLimits_from, from_WithinLimits, WithinLimitsFrom-front}
 use Rattle.humantime.proofs.Durations.Reading.Spelled.{next_of}
 use Rattle.humantime.proofs.Durations.Reading.Stopping.{Fine, fine_goes}
 use Rattle.humantime.proofs.Durations.Reading.Written.{formed_here}
-use Rattle.humantime.proofs.Durations.Reading.ReadSteps.{steps, read-fine}
+use Rattle.humantime.proofs.Durations.Reading.SpanWalks.{walk-right}
 use Rattle.humantime.proofs.Durations.Reading.Found.{all_push, too_large_found}
-use Rattle.humantime.proofs.Durations.Reading.Told.{front_told, closes_digit}
+use Rattle.humantime.proofs.Durations.Reading.Told.{first_after, followed_by, front_told, closes_digit}
 use Rattle.humantime.proofs.Durations.Reading.OneReading.{split_whole, not_zero}
 pub use Rattle.humantime.proofs.Durations.Reading.Found.{items_found}
 pub use Rattle.humantime.proofs.Durations.Reading.Told.{items_told}
@@ -37,7 +36,7 @@ pub duration_answer-zero : duration_answer bare_zero ≡ Ok 0
 unfolding duration_answer
 duration_answer-zero = refl
 
-pub duration_answer-items : (text : List ℕ) → text ≢ bare_zero → duration_answer text ≡ settle 0 (items text).0 (items text).1
+pub duration_answer-items : (text : List ℕ) → text ≢ bare_zero → duration_answer text ≡ settle 0 (items_of (items text).0 (items text).1)
 unfolding duration_answer
 duration_answer-items text some = grind (arith, common_steps, bytes_eq-Decides)
 
@@ -48,19 +47,19 @@ zero_or_not text = elim (cases_Bool (bytes_eq text bare_zero)) [
 ]
 
 -- whatever the items are, they settle the outcome
-pub outcome_settled : (text : List ℕ) (spans : List Span) (stop : Option Fault) → text ≢ bare_zero → Items text spans stop → duration_answer text ≡ settle 0 spans stop
-outcome_settled text spans stop some h = duration_answer-items text some ∙ ap (λ (r : List Span × Option Fault). settle 0 r.0 r.1) (items_told text spans stop h)
+pub outcome_settled : (text : List ℕ) (spans : List Span) (stop : Option Fault) → text ≢ bare_zero → Items text spans stop → duration_answer text ≡ settle 0 (items_of spans stop)
+outcome_settled text spans stop some h = duration_answer-items text some ∙ ap (λ (r : List Span × Option Fault). settle 0 (items_of r.0 r.1)) (items_told text spans stop h)
 
 pub outcome_within : (text : List ℕ) (spans : List Span) (stop : Option Fault) → text ≢ bare_zero → Items text spans stop → WithinLimits spans → duration_answer text ≡ ended (value spans) stop
 outcome_within text spans stop some h g =
     outcome_settled text spans stop some h ∙ settle_within 0 spans stop g.formed (from_WithinLimits spans g) ∙ ap (λ (n : ℕ). ended n stop) (omega arith)
 
 pub outcome_beyond : (text : List ℕ) (spans : List Span) (stop : Option Fault) → text ≢ bare_zero → Items text spans stop → ¬ (WithinLimits spans) → duration_answer text ≡ Err NumberOverflow
-outcome_beyond text spans stop some h bad = outcome_settled text spans stop some h ∙ settle_beyond 0 spans stop h.formed (λ g. bad (WithinLimits_from spans h.formed g))
+outcome_beyond text spans stop some h bad = outcome_settled text spans stop some h ∙ settle_beyond 0 spans _ h.formed (λ g. bad (WithinLimits_from spans h.formed g))
 
 -- a text that is read whole stops nowhere
 pub items_whole : (text : List ℕ) (spans : List Span) → Reads text spans → AllByRecursion Formed spans → Items text spans None
-items_whole text spans h f = record { front = text; rest = []; split = split_whole text spans h.0; formed = f; ends = inl (refl, h.1, refl) }
+items_whole text spans h f = record { front = text; rest = []; split = split_whole text spans h.0; formed = f; ends = (refl, h.1) }
 
 pub reads_whole : (text : List ℕ) (spans : List Span) → Items text spans None → Reads text spans
 reads_whole text spans h = grind (arith, common_steps)
@@ -72,24 +71,19 @@ outcome_accepted text v (Sum_of spans reads within sum) =
 
 stop_outcome : (text : List ℕ) (e : Fault) (h : HasFault text e) → Stops text h.front h.spans h.rest e → duration_answer text ≡ Err e
 stop_outcome text e h s =
-    outcome_within text h.spans (Some e) h.not_zero (record { front = h.front; rest = h.rest; split = h.split; formed = h.within.formed; ends = inr (e, refl, s) }) h.within
+    outcome_within text h.spans (Some e) h.not_zero (record { front = h.front; rest = h.rest; split = h.split; formed = h.within.formed; ends = s }) h.within
 
--- the spans before the rest are within the limits, and not with the one that begins it
-over_settled : (n : ℕ) (text rest : List ℕ) (spans : List Span) → WithinLimits spans → Overflows spans rest → length rest ≤ n
-    → settle 0 (spans ++ (read n text rest).0) (read n text rest).1 ≡ Err NumberOverflow
-over_settled n text rest spans within o h =
-    let m = steps n rest (begins_not_nil is_digit rest o.number.0) h in
-    let f : Fine rest = record { numbers = o.number.1; point = o.not_bare; word = o.word; ends = o.follows } in
-    let g : WithinLimitsFrom 0 spans = from_WithinLimits spans within in
-    let r = read m.0 text (next_of rest) in
-    let e : read n text rest ≡ with_span (span_of rest) r = ap (λ (k : ℕ). read k text rest) m.1 ∙ read-fine m.0 text rest o.number.0 (fine_goes text rest f) in
-    let bad : ¬ (IsAddedTo (0 + value spans) (span_of rest)) = λ a.
-    o.beyond (WithinLimits_from (spans ++ span_of rest ∷ []) (all_push Formed spans (span_of rest) within.formed (formed_here rest f)) (WithinLimitsFrom-push 0 spans (span_of rest) g a)) in
-    ap (λ (x : List Span × Option Fault). settle 0 (spans ++ x.0) x.1) e ∙ settle-append 0 spans (span_of rest ∷ r.0) r.1 within.formed g
-    ∙ settle_over (0 + value spans) (span_of rest) r.0 r.1 (add_span-over (0 + value spans) (span_of rest) bad)
-
+-- where the span that begins the rest breaks a limit, the text's items do
 over_outcome : (text : List ℕ) (e : Fault) (h : HasFault text e) → Overflows h.spans h.rest → duration_answer text ≡ Err NumberOverflow
-over_outcome text e h o = grind (arith, common_steps, (front_told text h.front h.rest h.spans h.split h.within.formed (inr (closes_digit h.front h.rest o.number.0)) (λ n. absurd (begins_not_nil is_digit h.rest o.number.0 n))), duration_answer-items, over_settled)
+over_outcome text e h o =
+    let f : Fine h.rest = record { starts = o.number.0; numbers = o.number.1; point = o.not_bare; word = o.word; ends = o.follows } in
+    let more = walk_from false text (next_of h.rest) in
+    let spans = (h.spans ++ span_of h.rest ∷ map span_of more.starts) in
+    let told : items text ≡ (spans, more.stop) = front_told text h.front h.rest h.spans h.split h.within.formed (inr (closes_digit h.front h.rest f.starts))
+    ∙ ap (followed_by h.spans) (walk-right (first_after true h.spans) text h.rest (fine_goes text h.rest f)) in
+    let formed = all_push Formed h.spans (span_of h.rest) h.within.formed (formed_here h.rest f) in
+    let i : Items text spans more.stop = subst (λ (r : List Span × Option Fault). Items text r.0 r.1) told (items_found text) in
+    outcome_beyond text spans more.stop h.not_zero i (λ g. o.beyond (WithinLimits_from (h.spans ++ span_of h.rest ∷ []) formed (WithinLimitsFrom-front 0 _ (map span_of more.starts) (rw append_assoc (from_WithinLimits spans g)))))
 
 pub outcome_fault : (text : List ℕ) (e : Fault) → HasFault text e → duration_answer text ≡ Err e
 outcome_fault text e h = elim h.fault [
@@ -102,13 +96,8 @@ within_value : (text : List ℕ) (spans : List Span) (stop : Option Fault) (v : 
 within_value text spans None v h g e = (refl, Sum_of spans (reads_whole text spans h) g (ok_same (value spans) v e))
 within_value text spans (Some f) v h g e = cc
 
-pub within_fault : (text : List ℕ) (spans : List Span) (stop : Option Fault) (e : Fault) → text ≢ bare_zero → Items text spans stop → WithinLimits spans → stop ≡ Some e → HasFault text e
-within_fault text spans stop e some h g is = elim h.ends [
-  | inl o ↦ let n = o.2 in cc
-  | inr o ↦
-      let same : o.0 ≡ e = let p = o.1 in cc in
-      record { not_zero = some; front = h.front; rest = h.rest; spans = spans; split = h.split; within = g; fault = inl (subst (λ x. Stops text h.front spans h.rest x) same o.2) }
-]
+pub within_fault : (text : List ℕ) (spans : List Span) (e : Fault) → text ≢ bare_zero → Items text spans (Some e) → WithinLimits spans → HasFault text e
+within_fault text spans e some h g = record { not_zero = some; front = h.front; rest = h.rest; spans = spans; split = h.split; within = g; fault = inl h.ends }
 
 ended_value : (v : ℕ) (stop : Option Fault) (w : ℕ) → ended v stop ≡ Ok w → v ≡ w
 ended_value v stop w h = grind (arith, common_steps)
@@ -138,7 +127,9 @@ fault_read : (text : List ℕ) (e : Fault) → text ≢ bare_zero → duration_a
 fault_read text e some h =
     let i = items_found text in
     elim (within_or_beyond (items text).0 i.formed) [
-      | inl g ↦ within_fault text (items text).0 (items text).1 e some i g (ended_fault (value (items text).0) (items text).1 e (sym (outcome_within text (items text).0 (items text).1 some i g) ∙ h))
+      | inl g ↦
+          let stop : (items text).1 ≡ Some e = ended_fault (value (items text).0) (items text).1 e (sym (outcome_within text (items text).0 (items text).1 some i g) ∙ h) in
+          within_fault text (items text).0 e some (rw stop at i) g
       | inr b ↦
           let is : NumberOverflow ≡ e = err_same NumberOverflow e (sym (outcome_beyond text (items text).0 (items text).1 some i b) ∙ h) in
           subst (HasFault text) is (too_large_found text some (λ g. b (WithinLimits_from (items text).0 i.formed g)))
@@ -186,7 +177,7 @@ items_decide_value text spans stop h some v = (
 )
 
 pub items_decide_fault : (text : List ℕ) → ItemsDecideFault text
-items_decide_fault text spans e h some g = within_fault text spans (Some e) e some h g refl
+items_decide_fault text spans e h some g = within_fault text spans e some h g
 
 pub items_decide_overflow : (text : List ℕ) → ItemsDecideOverflow text
 items_decide_overflow text spans stop h some b = fault_from_outcome text NumberOverflow (outcome_beyond text spans stop some h b)

@@ -1,6 +1,6 @@
 -- What spans add up to by the reference, and whether they are within the limits.
 use Rattle.std.proofs.lemmas.Grind.{common_steps}
-use Rattle.std.proofs.Common.{◌≡◌, ◌⊎◌, ℕ, ◌≤◌, ◌+◌, ◌*◌, List, [], ◌∷◌, ◌++◌, Option, Some, None, Result, Ok, Err, sym, ap, ◌∙◌, inl, inr, arith, append-nil}
+use Rattle.std.proofs.Common.{◌≡◌, ◌⊎◌, ℕ, ◌≤◌, ◌+◌, ◌*◌, List, [], ◌∷◌, ◌++◌, Option, Some, None, Result, Ok, Err, map, ap, ◌∙◌, inl, inr, arith}
 use Rattle.std.specs.Prelude.{⊤}
 use Rattle.std.specs.List.{AllByRecursion}
 use Rattle.std.specs.Option.{IfSome}
@@ -11,6 +11,7 @@ use Rattle.humantime.specs.Durations.Spans.{Span}
 use Rattle.humantime.specs.Durations.Accepted.{total, additions, value, Formed, FitsFraction, Fits, WithinLimits}
 use Rattle.humantime.specs.References.Durations.Reading.{additions_of, add_span, settle}
 use Rattle.humantime.specs.Durations.Faults.{Fault, NumberOverflow}
+use Rattle.humantime.specs.Durations.Items.{items_of}
 use Rattle.humantime.proofs.Durations.Reading.Rooms.{RoomFrom, total-append, add_all-room, add_all-full, RoomFrom-append, RoomFrom-front, RoomFrom-back, room_from_all, all_have_room}
 
 -- the span keeps the limits after t nanoseconds
@@ -50,38 +51,28 @@ additions-append ss ts = flat_map-append additions_of ss ts
 pub value-append : (ss ts : List Span) → value (ss ++ ts) ≡ value ss + value ts
 value-append ss ts = ap total (additions-append ss ts) ∙ total-append (additions ss) (additions ts)
 
--- the reference over spans within the limits goes on with their sum
-pub settle_on : (t u : ℕ) (s : Span) (ss : List Span) (stop : Option Fault) → add_span t s ≡ Some u → settle t (s ∷ ss) stop ≡ settle u ss stop
+-- the sum goes on over spans within the limits
+settle_fine : (t : ℕ) (ss : List Span) (items : List (Result Span Fault)) → AllByRecursion Formed ss → WithinLimitsFrom t ss → settle t (map Ok ss ++ items) ≡ settle (t + value ss) items
 unfolding settle
-settle_on t u s ss stop e = rw (e, settle)
-
-pub settle_over : (t : ℕ) (s : Span) (ss : List Span) (stop : Option Fault) → add_span t s ≡ None → settle t (s ∷ ss) stop ≡ Err NumberOverflow
-unfolding settle
-settle_over t s ss stop e = rw (e, settle)
-
-pub settle-append : (t : ℕ) (ss ts : List Span) (stop : Option Fault) → AllByRecursion Formed ss → WithinLimitsFrom t ss → settle t (ss ++ ts) stop ≡ settle (t + value ss) ts stop
-settle-append t [] ts stop f h = ap (λ (n : ℕ). settle n ts stop) (omega arith)
-settle-append t (s ∷ ss) ts stop f h = grind (arith, common_steps, (settle-append (t + total (additions_of s)) ss ts stop f.1 h.1), settle_on, add_span-added)
+settle_fine t [] items f h = ap (λ (n : ℕ). settle n items) (omega arith)
+settle_fine t (s ∷ ss) items f h = grind (arith, common_steps, (settle_fine (t + total (additions_of s)) ss items f.1 h.1), add_span-added)
 
 -- the value, or else the fault at which they stop
 abbrev pub ended : ℕ → Option Fault → Result ℕ Fault
 ended v None = Ok v
 ended v (Some e) = Err e
 
-settle-nil : (t : ℕ) (stop : Option Fault) → settle t [] stop ≡ ended t stop
+pub settle_within : (t : ℕ) (spans : List Span) (stop : Option Fault) → AllByRecursion Formed spans → WithinLimitsFrom t spans → settle t (items_of spans stop) ≡ ended (t + value spans) stop
 unfolding settle
-settle-nil t stop = grind (arith, common_steps)
-
-pub settle_within : (t : ℕ) (spans : List Span) (stop : Option Fault) → AllByRecursion Formed spans → WithinLimitsFrom t spans → settle t spans stop ≡ ended (t + value spans) stop
-settle_within t spans stop f h =
-    ap (λ (l : List Span). settle t l stop) (sym (append-nil spans)) ∙ settle-append t spans [] stop f h ∙ settle-nil (t + value spans) stop
+settle_within t spans stop f h = grind (arith, common_steps, settle_fine)
 
 -- and over others it says that they are too large
-pub settle_beyond : (t : ℕ) (spans : List Span) (stop : Option Fault) → AllByRecursion Formed spans → ¬ (WithinLimitsFrom t spans) → settle t spans stop ≡ Err NumberOverflow
-settle_beyond t [] stop f h = absurd (h tt)
-settle_beyond t (s ∷ ss) stop f h = elim (added_or_not t s f.0) [
-  | inl a ↦ settle_on t _ s ss stop (add_span-added t s f.0 a) ∙ settle_beyond (t + total (additions_of s)) ss stop f.1 (λ r. h (a, r))
-  | inr a ↦ settle_over t s ss stop (add_span-over t s a)
+pub settle_beyond : (t : ℕ) (spans : List Span) (items : List (Result Span Fault)) → AllByRecursion Formed spans → ¬ (WithinLimitsFrom t spans) → settle t (map Ok spans ++ items) ≡ Err NumberOverflow
+unfolding settle
+settle_beyond t [] items f h = absurd (h tt)
+settle_beyond t (s ∷ ss) items f h = elim (added_or_not t s f.0) [
+  | inl a ↦ rw (add_span-added t s f.0 a, settle) (settle_beyond (t + total (additions_of s)) ss items f.1 (λ r. h (a, r)))
+  | inr a ↦ rw (add_span-over t s a, settle)
 ]
 
 room_each : (t : ℕ) (spans : List Span) → WithinLimitsFrom t spans → RoomFrom t (additions spans)
@@ -101,6 +92,11 @@ WithinLimits_from spans f h = record { formed = f; fit = fit_each 0 spans h; roo
 
 pub from_WithinLimits : (spans : List Span) → WithinLimits spans → WithinLimitsFrom 0 spans
 from_WithinLimits spans h = each_within 0 spans h.fit (room_from_all (additions spans) h.room)
+
+-- the spans without those at the end
+pub WithinLimitsFrom-front : (t : ℕ) (ss ts : List Span) → WithinLimitsFrom t (ss ++ ts) → WithinLimitsFrom t ss
+WithinLimitsFrom-front t [] ts h = tt
+WithinLimitsFrom-front t (s ∷ ss) ts h = (h.0, WithinLimitsFrom-front (t + total (additions_of s)) ss ts h.1)
 
 -- spans within the limits and one more
 pub WithinLimitsFrom-push : (t : ℕ) (ss : List Span) (s : Span) → WithinLimitsFrom t ss → IsAddedTo (t + value ss) s → WithinLimitsFrom t (ss ++ s ∷ [])

@@ -1,21 +1,20 @@
--- The plain reading tells the spans that a text is read as, whatever reads it.
+-- The walk over a text tells the spans that it is read as, whatever reads it.
 use Rattle.std.proofs.lemmas.Grind.{common_steps}
-use Rattle.std.proofs.Common.{◌≡◌, ◌≢◌, ◌⊎◌, ℕ, ◌≤◌, true, false, List, [], ◌∷◌, ◌++◌, length, Option, Some, None, refl, sym, ap, ◌∙◌, inl, inr, arith, subst, append-nil}
+use Rattle.std.proofs.Common.{◌≡◌, ◌⊎◌, ℕ, Bool, true, false, List, [], ◌∷◌, ◌++◌, map, Option, Some, None, refl, sym, ap, ◌∙◌, inl, inr, arith, subst, append-nil}
 use Rattle.std.specs.List.{AllByRecursion}
-use Rattle.std.proofs.lemmas.Bool.{cases_Bool}
-use Rattle.humantime.specs.Durations.Characters.{is_ws, is_digit, is_numeric, begins, ends, past, offset_of}
+use Rattle.humantime.specs.Durations.Characters.{is_ws, is_digit, is_numeric, begins, ends, past}
 use Rattle.humantime.specs.Durations.Spans.{Span, SpellsEach}
 use Rattle.humantime.specs.Durations.Accepted.{Formed}
-use Rattle.humantime.specs.Durations.Faults.{Fault, NumberExpected, Empty, Split, Stops, MayFollowWord}
-use Rattle.humantime.specs.Durations.Items.{Items}
-use Rattle.humantime.specs.References.Durations.Reading.{with_span, read, items}
+use Rattle.humantime.specs.Durations.Faults.{Fault, Split, MayFollowWord, span_of}
+use Rattle.humantime.specs.Durations.Items.{Items, Ends}
+use Rattle.humantime.specs.References.Durations.Reading.{Walk, no_more, walk_from, spans_on, items}
 use Rattle.humantime.proofs.Durations.Reading.Classes.{digit_is_numeric, digit_not_space}
 use Rattle.humantime.proofs.Durations.Reading.Runs.{past-append, begins-append, begins_other, begins_also, begins_not_nil, ends-append}
-use Rattle.humantime.proofs.Durations.Reading.Spelled.{next_of, next_smaller, IsSpanAt, spelled_here}
+use Rattle.humantime.proofs.Durations.Reading.Spelled.{IsSpanAt, spelled_here}
 use Rattle.humantime.proofs.Durations.Reading.Spellings.{apart}
+use Rattle.humantime.proofs.Durations.Reading.SpanWalks.{walk-end, walk-wrong, walk-right}
 use Rattle.humantime.proofs.Durations.Reading.Stopping.{fine_goes, stops_at}
 use Rattle.humantime.proofs.Durations.Reading.Written.{fine_here}
-use Rattle.humantime.proofs.Durations.Reading.ReadSteps.{steps, read-end, read-expected, read-stopped, read-fine, items-nothing, items-read}
 
 -- what stands before the rest ends there: in white space, or by what the rest begins with
 abbrev pub Closes : List ℕ → List ℕ → Type 0
@@ -49,102 +48,62 @@ closes_more here more rest (s ∷ ss) h (inr e) = inr (inr (sym (ends-append is_
 pub first_here : (body rest : List ℕ) (s : Span) (ss : List Span) (h : SpellsEach body (s ∷ ss)) → Closes body rest → begins is_ws rest ≡ false → IsSpanAt (body ++ rest) s (h.0 ++ rest)
 first_here body rest s ss h o e = grind (arith, common_steps, (spelled_here (apart body h.0 s h.1).here (h.0 ++ rest) s (apart body h.0 s h.1).spells (closes_here (apart body h.0 s h.1).here h.0 rest ss h.2 (subst (λ b. Closes b rest) (apart body h.0 s h.1).whole o)) (no_space_before h.0 rest ss h.2 e)))
 
--- the reading goes through these spans, and on from the rest
-pub record GoesThrough (r : List Span × Option Fault) (text : List ℕ) (spans : List Span) (rest : List ℕ) : Type 0 where
-  pub n : ℕ
-  pub enough : length rest ≤ n
-  pub is : r ≡ (spans ++ (read n text rest).0, (read n text rest).1)
+-- whether none was before, behind these spans
+abbrev pub first_after : Bool → List Span → Bool
+first_after first [] = first
+first_after first (s ∷ ss) = false
 
-through_step : (n : ℕ) (text whole next rest : List ℕ) (s : Span) (ss : List Span) → IsSpanAt whole s next → Formed s → length whole ≤ n
-    → ((m : ℕ) → length next ≤ m → GoesThrough (read m text next) text ss rest) → GoesThrough (read n text whole) text (s ∷ ss) rest
-through_step n text whole next rest s ss i f h more =
-    let m = steps n whole (begins_not_nil is_digit whole i.starts) h in
-    let smaller : length next ≤ m.0 = omega (arith, ap length i.next_is, next_smaller whole i.starts, m.1) in
-    let g = more m.0 smaller in
-    record {
-      n = g.n;
-      enough = g.enough;
-      is = ap (λ (k : ℕ). read k text whole) m.1 ∙ read-fine m.0 text whole i.starts (fine_goes text whole (fine_here whole next s i f))
-          ∙ ap (λ (x : Span). with_span x (read m.0 text (next_of whole))) i.span
-          ∙ ap (λ (x : List ℕ). with_span s (read m.0 text x)) i.next_is
-          ∙ ap (with_span s) g.is;
-    }
+none_first : (spans : List Span) → first_after false spans ≡ false
+none_first [] = refl
+none_first (s ∷ ss) = refl
 
-through : (n : ℕ) (text body rest : List ℕ) (spans : List Span) → SpellsEach body spans → AllByRecursion Formed spans → (spans ≡ []) ⊎ Closes body rest → begins is_ws rest ≡ false
-    → length (body ++ rest) ≤ n → GoesThrough (read n text (body ++ rest)) text spans rest
-through n text body rest [] h f o e l = grind (arith, common_steps)
-through n text body rest (s ∷ ss) h f (inl o) e l = cc
-through n text body rest (s ∷ ss) h f (inr o) e l =
+-- these spans, and then those of a walk
+abbrev pub followed_by : List Span → Walk → List Span × Option Fault
+followed_by spans w = (spans ++ map span_of w.starts, w.stop)
+
+through_step : (text whole next : List ℕ) (first : Bool) (s : Span) (ss : List Span) (w : Walk) → IsSpanAt whole s next → Formed s
+    → spans_on (walk_from false text next) ≡ followed_by ss w → spans_on (walk_from first text whole) ≡ followed_by (s ∷ ss) w
+through_step text whole next first s ss w i f h = grind (arith, common_steps, (walk-right first text whole (fine_goes text whole (fine_here whole next s i f))))
+
+-- the walk goes through these spans, and on from the rest
+through : (text body rest : List ℕ) (first : Bool) (spans : List Span) → SpellsEach body spans → AllByRecursion Formed spans → (spans ≡ []) ⊎ Closes body rest → begins is_ws rest ≡ false
+    → spans_on (walk_from first text (body ++ rest)) ≡ followed_by spans (walk_from (first_after first spans) text rest)
+through text body rest first [] h f o e = rw h refl
+through text body rest first (s ∷ ss) h f (inl o) e = cc
+through text body rest first (s ∷ ss) h f (inr o) e =
     let p = apart body h.0 s h.1 in
-    through_step n text (body ++ rest) (h.0 ++ rest) rest s ss (first_here body rest s ss h o e) f.0 l
-    (λ m k. through m text h.0 rest ss h.2 f.1 (closes_more p.here h.0 rest ss h.2 (subst (λ b. Closes b rest) p.whole o)) e k)
+    let more = rw (none_first ss) at (through text h.0 rest false ss h.2 f.1 (closes_more p.here h.0 rest ss h.2 (subst (λ b. Closes b rest) p.whole o)) e) in
+    through_step text (body ++ rest) (h.0 ++ rest) first s ss (walk_from false text rest) (first_here body rest s ss h o e) f.0 more
 
 -- the front of a split begins where the white space ends
 pub front_begins : (text front rest : List ℕ) (spans : List Span) (h : Split text front spans rest) → past is_ws text ≡ h.spelled.body ++ rest
 front_begins text front rest spans h = grind (arith, common_steps, past-append, no_space_before)
 
-some_left : (body rest : List ℕ) (spans : List Span) → SpellsEach body spans → (rest ≡ [] → spans ≢ []) → body ++ rest ≢ []
-some_left body rest [] h some e = let k : rest ≡ [] = rw h at e in some k refl
-some_left body rest (s ∷ ss) h some e = begins_not_nil is_digit (body ++ rest) (starts_before body rest s ss h) e
-
 closes_body : (space body rest : List ℕ) (spans : List Span) → SpellsEach body spans → (spans ≡ []) ⊎ Closes (space ++ body) rest → (spans ≡ []) ⊎ Closes body rest
 closes_body space body rest spans h k = grind (arith, common_steps, closes_more)
 
-pub front_told : (text front rest : List ℕ) (spans : List Span) → Split text front spans rest → AllByRecursion Formed spans → (spans ≡ []) ⊎ Closes front rest → (rest ≡ [] → spans ≢ [])
-    → GoesThrough (items text) text spans rest
-front_told text front rest spans h f o some =
+pub front_told : (text front rest : List ℕ) (spans : List Span) → Split text front spans rest → AllByRecursion Formed spans → (spans ≡ []) ⊎ Closes front rest
+    → items text ≡ followed_by spans (walk_from (first_after true spans) text rest)
+unfolding items
+front_told text front rest spans h f o =
     let body = h.spelled.body in
-    let left : body ++ rest ≢ [] = some_left body rest spans h.spelled.each some in
     let c : (spans ≡ []) ⊎ Closes (h.spelled.space ++ body) rest = subst (λ x. (spans ≡ []) ⊎ Closes x rest) h.spelled.whole o in
-    let g : GoesThrough (read (length (body ++ rest)) text (body ++ rest)) text spans rest =
-    through (length (body ++ rest)) text body rest spans h.spelled.each f (closes_body h.spelled.space body rest spans h.spelled.each c) h.no_space (omega arith) in
-    record { n = g.n; enough = g.enough; is = items-read text (body ++ rest) (front_begins text front rest spans h) left ∙ g.is }
+    ap (λ (x : List ℕ). spans_on (walk_from true text x)) (front_begins text front rest spans h)
+    ∙ through text body rest true spans h.spelled.each f (closes_body h.spelled.space body rest spans h.spelled.each c) h.no_space
 
--- at the end only an empty text stops; where no number begins, that is the fault
-record IsStart (text : List ℕ) (spans : List Span) (rest : List ℕ) (e : Fault) : Type 0 where
-  at_end : rest ≡ [] → (spans ≡ []) × (e ≡ Empty)
-  no_digit : begins is_digit rest ≡ false → rest ≢ [] → e ≡ NumberExpected (offset_of text rest)
-
-is_start : (text front : List ℕ) (spans : List Span) (rest : List ℕ) (e : Fault) → Stops text front spans rest e → IsStart text spans rest e
-is_start text front spans rest e h = grind (arith, common_steps)
-
--- the reading stops where the text does
-stop_told : (n : ℕ) (text front rest : List ℕ) (spans : List Span) (e : Fault) → rest ≢ [] → length rest ≤ n → Stops text front spans rest e → read n text rest ≡ ([], Some e)
-stop_told n text front rest spans e some h st =
-    let m = steps n rest some h in
-    rw (m.1) (elim (cases_Bool (begins is_digit rest)) [
-      | inl d ↦ read-stopped m.0 text rest e d (stops_at text front spans rest e d st)
-      | inr d ↦ read-expected m.0 text rest some d ∙ ap (λ (x : Fault). ([], Some x)) (sym ((is_start text front spans rest e st).no_digit d some))
-    ])
-
--- the ways in which items end
-abbrev Ends : List ℕ → List ℕ → List Span → List ℕ → Option Fault → Type 0
-Ends text front spans rest stop = ((rest ≡ []) × (spans ≢ []) × (stop ≡ None)) ⊎ ((e : Fault) × (stop ≡ Some e) × Stops text front spans rest e)
-
-rest_told : (n : ℕ) (text front rest : List ℕ) (spans : List Span) (stop : Option Fault) → (rest ≡ [] → spans ≢ []) → length rest ≤ n → Ends text front spans rest stop
-    → read n text rest ≡ ([], stop)
-rest_told n text front rest spans stop some h (inl o) = rw (o.0, o.2) (read-end n text)
-rest_told n text front [] spans stop some h (inr o) = absurd (some refl ((is_start text front spans [] o.0 o.2).at_end refl).0)
-rest_told n text front (c ∷ cs) spans stop some h (inr o) = stop_told n text front (c ∷ cs) spans o.0 (λ e. cc) h o.2 ∙ ap (λ (x : Option Fault). ([], x)) (sym o.1)
+-- the walk ends where the items do
+ends_told : (text front rest : List ℕ) (spans : List Span) (stop : Option Fault) → Ends text front spans rest stop → walk_from (first_after true spans) text rest ≡ no_more rest stop
+ends_told text front rest [] None h = absurd (h.1 refl)
+ends_told text front rest (s ∷ ss) None h = rw (h.0) (walk-end false text)
+ends_told text front [] [] (Some e) h = grind (arith, common_steps, walk-end)
+ends_told text front [] (s ∷ ss) (Some e) h = grind (arith, common_steps)
+ends_told text front (c ∷ cs) spans (Some e) h = walk-wrong (first_after true spans) text (c ∷ cs) e (λ n. cc) (stops_at text front spans (c ∷ cs) e (λ n. cc) h)
 
 ends_closes : (text front rest : List ℕ) (spans : List Span) (stop : Option Fault) → Ends text front spans rest stop → (spans ≡ []) ⊎ Closes front rest
 ends_closes text front rest spans stop h = grind (arith, common_steps)
 
-told_some : (text front rest : List ℕ) (spans : List Span) (stop : Option Fault) → (rest ≡ [] → spans ≢ []) → Split text front spans rest → AllByRecursion Formed spans
-    → Ends text front spans rest stop → items text ≡ (spans, stop)
-told_some text front rest spans stop some h f o =
-    let g = front_told text front rest spans h f (ends_closes text front rest spans stop o) some in
-    g.is ∙ ap (λ (r : List Span × Option Fault). (spans ++ r.0, r.1)) (rest_told g.n text front rest spans stop some g.enough o) ∙ ap (λ (x : List Span). (x, stop)) (append-nil spans)
-
-told_none : (text front : List ℕ) (stop : Option Fault) → Split text front [] [] → Ends text front [] [] stop → items text ≡ ([], stop)
-told_none text front stop h (inl o) = absurd (o.1 refl)
-told_none text front stop h (inr o) = grind (arith, common_steps, (front_begins text front [] [] h ∙ ap (λ (x : List ℕ). x ++ []) h.spelled.each), items-nothing)
-
-told_at : (text front rest : List ℕ) (spans : List Span) (stop : Option Fault) → Split text front spans rest → AllByRecursion Formed spans → Ends text front spans rest stop → items text ≡ (spans, stop)
-told_at text front [] [] stop h f o = told_none text front stop h o
-told_at text front [] (s ∷ ss) stop h f o = told_some text front [] (s ∷ ss) stop (λ n e. cc) h f o
-told_at text front (c ∷ cs) spans stop h f o = told_some text front (c ∷ cs) spans stop (λ n. cc) h f o
-
 -- whatever the items of a text are, the reading gives these
 pub items_told : (text : List ℕ) (spans : List Span) (stop : Option Fault) → Items text spans stop → items text ≡ (spans, stop)
-items_told text spans stop h = told_at text h.front h.rest spans stop h.split h.formed h.ends
+items_told text spans stop h =
+    front_told text h.front h.rest spans h.split h.formed (ends_closes text h.front h.rest spans stop h.ends)
+    ∙ ap (followed_by spans) (ends_told text h.front h.rest spans stop h.ends) ∙ ap (λ (x : List Span). (x, stop)) (append-nil spans)

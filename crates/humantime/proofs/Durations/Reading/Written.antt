@@ -53,8 +53,8 @@ space_last a b w c some h = grind (arith, common_steps, ends-append, ends_Only)
 pub spelling_some : (text rest : List ℕ) (s : Span) → Spells text s rest → 1 < length text
 spelling_some text rest s h = grind (arith, common_steps)
 
-pub written_here : (rest : List ℕ) → begins is_digit rest ≡ true → Fine rest → (here : List ℕ) × IsWritten rest here
-written_here rest d h =
+pub written_here : (rest : List ℕ) → Fine rest → (here : List ℕ) × IsWritten rest here
+written_here rest h =
     let a = leading is_numeric rest in
     let f = fraction_text (after_number rest) h.point in
     let w = word_of rest in
@@ -68,7 +68,7 @@ written_here rest d h =
           fraction_text = f.0;
           space = c;
           whole = sym (simp append-nil);
-          starts = digit_begins rest d;
+          starts = digit_begins rest h.starts;
           number = (Only-leading is_numeric rest, refl);
           fraction = f.2;
           word = (Only-leading is_letter (after_fraction rest), letters);

@@ -1,21 +1,19 @@
 -- What the span at a rest lends of the text.
 use Rattle.std.proofs.lemmas.Grind.{common_steps}
-use Rattle.std.proofs.Common.{◌≡◌, ◌≢◌, ℕ, Bool, true, false, if◌then◌else◌, List, [], ◌∷◌, ◌++◌, Option, None, refl, sym, ap, subst, ◌∙◌, ◌<◌, length, append_assoc, length-append, arith}
+use Rattle.std.proofs.Common.{◌≡◌, ◌≢◌, ℕ, Bool, true, false, if◌then◌else◌, List, [], ◌∷◌, ◌++◌, Option, refl, sym, ap, subst, ◌∙◌, ◌<◌, length, append_assoc, length-append, arith}
 use Rattle.std.proofs.lemmas.List.{append_cancel_left}
 use Rattle.std.proofs.lemmas.Str.{encodes-append, length-le-encodes}
 use Rattle.humantime.specs.Durations.Characters.{is_ws, is_digit, is_letter, is_numeric, is_point, begins, leading, past, digits, byte_length, offset_of}
 use Rattle.humantime.specs.Durations.Spans.{Only, SpellsFraction, Spells}
 use Rattle.humantime.specs.Durations.Faults.{after_number, fraction_of, after_fraction, word_of, after_word, span_of}
 use Rattle.humantime.specs.References.Durations.Lending.{past_fraction, trimmed, number_slice, fraction_slice, lent_at}
-use Rattle.humantime.specs.References.Durations.Reading.{stop_at}
 use Rattle.humantime.specs.Durations.Items.{IsDigitSlice, LendsFraction, IsLent}
 use Rattle.humantime.proofs.Durations.Reading.Classes.{digit_is_numeric}
-use Rattle.humantime.specs.References.Durations.Lending.{trimmed, number_slice, fraction_slice, lent_at}
 use Rattle.humantime.proofs.Durations.Reading.Runs.{leading-past, Only-leading, begins-past, letters_begin, begins_some}
 use Rattle.humantime.proofs.Durations.Reading.Spelled.{next_of, begins_word, read_spelled}
 use Rattle.humantime.proofs.Durations.Reading.Spellings.{spells-append}
 use Rattle.humantime.proofs.Durations.Reading.Written.{written_here}
-use Rattle.humantime.proofs.Durations.Reading.Stopping.{Fine, Says, stop_says}
+use Rattle.humantime.proofs.Durations.Reading.Stopping.{Fine}
 use Rattle.humantime.proofs.Durations.Bytes.Trimming.{dropped, digits_past, digit_slice, no_slice, slice_behind_point}
 
 -- the point with what follows it up to the word, if a point begins the text
@@ -62,14 +60,10 @@ word_front rest b =
 pub next_bytes : (rest : List ℕ) → begins is_digit rest ≡ true → byte_length (after_word rest) < byte_length rest
 next_bytes rest b = grind (arith, common_steps, word_front, encodes-append, length-le-encodes)
 
--- where nothing stops, the span is well formed
-fine_at : (text rest : List ℕ) → begins is_digit rest ≡ true → stop_at text rest ≡ None → Fine rest
-fine_at text rest b s = subst (Says text [] [] rest) s (stop_says text [] [] rest b)
-
--- where nothing stops, the slices of the span that begins a rest tile it up to the next number
-pub is_lent : (text rest : List ℕ) → begins is_digit rest ≡ true → stop_at text rest ≡ None → IsLent text rest (span_of rest) (lent_at text rest) (next_of rest)
-is_lent text rest b s =
-    let w = written_here rest b (fine_at text rest b s) in
+-- the slices of a well formed span that begins a rest tile it up to the next number
+pub is_lent : (text rest : List ℕ) → Fine rest → IsLent text rest (span_of rest) (lent_at text rest) (next_of rest)
+is_lent text rest f =
+    let w = written_here rest f in
     let h : Spells rest (span_of rest) (next_of rest) =
     subst (λ (l : List ℕ). Spells l (span_of rest) (next_of rest)) (sym w.1.whole) (spells-append w.0 [] (next_of rest) (span_of rest) w.1.spells) in
     let tail = word_of rest ++ (h.space ++ next_of rest) in
@@ -77,7 +71,7 @@ is_lent text rest b s =
     let r = read_spelled rest (next_of rest) (span_of rest) h in
     let number = leading is_numeric rest in
     let number_is : IsDigitSlice number (number_slice rest) =
-    digit_slice [] number (number_slice rest) (dropped number) tt (begins_leading is_digit is_numeric rest b digit_is_numeric) (Only-leading is_numeric rest) in
+    digit_slice [] number (number_slice rest) (dropped number) tt (begins_leading is_digit is_numeric rest f.starts digit_is_numeric) (Only-leading is_numeric rest) in
     let left : after_word rest ≡ h.space ++ next_of rest =
     append_cancel_left (word_of rest) (after_word rest) (h.space ++ next_of rest) (leading-past is_letter (after_fraction rest) ∙ r.tail_is) in
     record {

@@ -12,9 +12,9 @@ use Rattle.humantime.specs.declared.date.print.Rfc3339Timestamp.{Rfc3339Timestam
 use Rattle.humantime.specs.declared.calendar.Date.{Date}
 use Rattle.humantime.specs.Calendar.{IsDate, day_of}
 use Rattle.humantime.specs.Laws.Days.{OneDate}
-use Rattle.humantime.specs.Timestamps.Fields.{IsWeak, IsStrict, IsWeakMoment, IsStrictMoment}
+use Rattle.humantime.specs.Timestamps.Fields.{IsWeakMoment, IsStrictMoment}
 use Rattle.humantime.specs.Timestamps.Checks.{weak_checks, strict_checks, first_failed}
-use Rattle.humantime.specs.Laws.Timestamps.{OneTimestamp, IsMarked, StrictIsWeak, StrictMomentIsWeak, ReadsAs, OnePrinted}
+use Rattle.humantime.specs.Laws.Timestamps.{ReadsAs, OnePrinted, StampOutcome, StrictForm}
 use Rattle.humantime.specs.Timestamps.Printed.{cut, IsPrinted, IsPrintable}
 use Rattle.humantime.specs.References.Timestamps.Printing.{moment_kept, places_kept, moment_text, printed_text}
 use Rattle.humantime.specs.References.Timestamps.Reading.{weak_answer, strict_answer}
@@ -37,15 +37,6 @@ pub day_at_most : (d : Date) → IsDate d → day_of d ≤ 2_932_896
 day_at_most = dates.day_at_most
 
 -- ---- Timestamps read
-
--- a text's one outcome in each form, and that the answer as a function is this outcome
-pub record StampOutcome (text : List ℕ) : Type 0 where
-  pub weak : OneTimestamp (weak_checks text) (IsWeak text)
-  pub strict : OneTimestamp (strict_checks text) (IsStrict text)
-  pub weak_value : (t : ℤ) → (weak_answer text ≡ Ok t) ↔ IsWeakMoment text t
-  pub weak_error : (e : TimestampError) → (weak_answer text ≡ Err e) ↔ (first_failed (weak_checks text) ≡ Some e)
-  pub strict_value : (t : ℤ) → (strict_answer text ≡ Ok t) ↔ IsStrictMoment text t
-  pub strict_error : (e : TimestampError) → (strict_answer text ≡ Err e) ↔ (first_failed (strict_checks text) ≡ Some e)
 
 pub one_stamp_outcome : (text : List ℕ) → StampOutcome text
 one_stamp_outcome text = record {
@@ -80,14 +71,6 @@ weak_printable = printable.weak_printable
 
 pub strict_printable : (text : List ℕ) (t : ℤ) → IsStrictMoment text t → IsPrintable t
 strict_printable = printable.strict_printable
-
--- the strict form is the weak one with a `T` and a zone: of the parts, of the moment, and of the answer
-pub record StrictForm (text : List ℕ) : Type 0 where
-  pub parts : StrictIsWeak text
-  pub moment : StrictMomentIsWeak text
-  pub weak : (t : ℤ) → strict_answer text ≡ Ok t → weak_answer text ≡ Ok t
-  pub marked : (t : ℤ) → strict_answer text ≡ Ok t → IsMarked text
-  pub strict : (t : ℤ) → weak_answer text ≡ Ok t → IsMarked text → strict_answer text ≡ Ok t
 
 pub strict_is_weak : (text : List ℕ) → StrictForm text
 strict_is_weak text =

@@ -1,11 +1,11 @@
 -- What spans lend, read from left to right: the plain reference for the iterator over them.
-use Rattle.std.specs.Prelude.{ℕ, zero, suc, Bool, true, List, [], ◌∷◌, length, Option, Some, None, option_map, Result, Ok, Err, if◌then◌else◌, drop}
+use Rattle.std.specs.Prelude.{ℕ, Bool, List, Option, Some, None, map, option_map, Result, Ok, Err, if◌then◌else◌, drop}
 use Rattle.std.specs.Str.{drop_trailing_whitespace}
-use Rattle.humantime.specs.Durations.Characters.{is_ws, is_digit, is_numeric, leading, past, digits, decimal_value, offset_of, begins, is_point, is_point}
+use Rattle.humantime.specs.Durations.Characters.{is_ws, is_numeric, leading, past, digits, decimal_value, offset_of, begins, is_point}
 use Rattle.humantime.specs.Durations.Spans.{Span}
-use Rattle.humantime.specs.Durations.Faults.{number_of, after_number, word_of, after_word, Fault, NumberExpected, NumberOverflow, Empty}
-use Rattle.humantime.specs.References.Durations.Reading.{stop_at, add_span}
-use Rattle.humantime.specs.Durations.Items.{Lent}
+use Rattle.humantime.specs.Durations.Faults.{number_of, after_number, word_of, after_word, Fault}
+use Rattle.humantime.specs.References.Durations.Reading.{Walk, walk_from, walk_of, settle}
+use Rattle.humantime.specs.Durations.Items.{Lent, items_of}
 
 -- the digits of the fraction that begins what follows a number, if a point does, and what follows it
 abbrev pub fraction_at : List ℕ → Option (List ℕ)
@@ -36,33 +36,25 @@ lent_at text rest = record {
   value = decimal_value (number_of rest);
 }
 
--- the items from a rest on, at most n of them
-unfoldable pub lends : ℕ → List ℕ → List ℕ → List (Result Lent Fault)
-lends zero text rest = []
-lends (suc n) text [] = []
-lends (suc n) text (c ∷ cs) =
-    if is_digit c
-    then elim (stop_at text (c ∷ cs)) [
-      | None ↦ Ok (lent_at text (c ∷ cs)) ∷ lends n text (past is_ws (after_word (c ∷ cs)))
-      | Some e ↦ Err e ∷ []
-    ]
-    else Err (NumberExpected (offset_of text (c ∷ cs))) ∷ []
+-- what the spans of a walk lend of a text, and then the fault that stops them
+abbrev pub lent_on : List ℕ → Walk → List (Result Lent Fault)
+lent_on text w = items_of (map (lent_at text) w.starts) w.stop
 
--- the items that are left at a rest, where none was before it or where some was
+-- the items that are left at a rest, where none was before it or where some was, and all items of a text
 abbrev pub left_at : Bool → List ℕ → List ℕ → List (Result Lent Fault)
-left_at first text [] = if first then Err Empty ∷ [] else []
-left_at first text (c ∷ cs) = lends (length (c ∷ cs)) text (c ∷ cs)
+left_at first text rest = lent_on text (walk_from first text rest)
 
--- all items of a text
 abbrev pub lent_items : List ℕ → List (Result Lent Fault)
-lent_items text = left_at true text (past is_ws text)
+lent_items text = lent_on text (walk_of text)
 
--- the span of these slices
+-- the span of these slices, and of an item
 abbrev pub spelled : List ℕ → Option (List ℕ) → List ℕ → Span
 spelled number fraction unit = record { number = digits number; fraction = option_map digits fraction; word = unit }
 
+abbrev pub span_in : Result Lent Fault → Result Span Fault
+span_in (Ok x) = Ok (spelled x.number x.fraction x.unit)
+span_in (Err e) = Err e
+
 -- what the items add up to after t
-unfoldable pub judged : ℕ → List (Result Lent Fault) → Result ℕ Fault
-judged t [] = Ok t
-judged t (Err e ∷ items) = Err e
-judged t (Ok x ∷ items) = elim (add_span t (spelled x.number x.fraction x.unit)) [ None ↦ Err NumberOverflow | Some u ↦ judged u items ]
+abbrev pub judged : ℕ → List (Result Lent Fault) → Result ℕ Fault
+judged t items = settle t (map span_in items)

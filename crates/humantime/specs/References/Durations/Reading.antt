@@ -1,8 +1,8 @@
 -- Reading from left to right: the plain reference, which private functions meet. Theorems of proofs/ tie it to the
 -- definitions of Spans and Faults.
-use Rattle.std.specs.Prelude.{ℕ, zero, suc, ◌+◌, ◌*◌, ◌/◌, ◌%◌, ◌^◌, ◌||◌, ◌&&◌, ◌==◌, Bool, true, false, List, [], ◌∷◌, length, Option, Some, None, Result, Ok, Err, nat_lt, nat_le, if◌then◌else◌, encode_utf8_all}
+use Rattle.std.specs.Prelude.{ℕ, zero, suc, ◌+◌, ◌*◌, ◌/◌, ◌%◌, ◌^◌, ◌||◌, ◌&&◌, ◌==◌, Bool, true, false, List, [], ◌∷◌, length, Option, Some, None, Result, Ok, Err, map, nat_lt, nat_le, if◌then◌else◌, encode_utf8_all}
 use Rattle.humantime.specs.Values.{nanos_per_second}
-use Rattle.humantime.specs.Durations.Characters.{is_ws, is_digit, is_numeric, past, decimal_value, significant, offset_of, byte_length, u64_max}
+use Rattle.humantime.specs.Durations.Characters.{is_ws, is_digit, is_numeric, begins, past, decimal_value, significant, offset_of, byte_length, u64_max}
 use Rattle.humantime.specs.Durations.Units.{Scale, scale_of_word}
 use Rattle.humantime.specs.Durations.Spans.{Span}
 use Rattle.humantime.specs.Durations.Accepted.{Addition, addition_nanos, additions_at}
@@ -41,29 +41,45 @@ stop_at text rest =
     if too_long (span_of rest) then Some NumberOverflow
     else stop_by text rest (fraction_of rest) (word_of rest) (after_word rest)
 
--- a span before what was read after it
-abbrev pub with_span : Span → List Span × Option Fault → List Span × Option Fault
-with_span s r = (s ∷ r.0, r.1)
+-- what is wrong at a rest: no digit begins it, or its span stops
+abbrev pub fault_at : List ℕ → List ℕ → Option Fault
+fault_at text rest = if begins is_digit rest then stop_at text rest else Some (NumberExpected (offset_of text rest))
 
--- the spans from a rest on, at most n of them, and where they stop
-unfoldable pub read : ℕ → List ℕ → List ℕ → List Span × Option Fault
-read zero text rest = ([], None)
-read (suc n) text [] = ([], None)
-read (suc n) text (c ∷ cs) =
-    if is_digit c
-    then elim (stop_at text (c ∷ cs)) [
-      | None ↦ with_span (span_of (c ∷ cs)) (read n text (past is_ws (after_word (c ∷ cs))))
-      | Some e ↦ ([], Some e)
-    ]
-    else ([], Some (NumberExpected (offset_of text (c ∷ cs))))
+-- Where the spans of a text begin, the fault that stops them, if one does, and the rest behind them.
+pub record Walk : Type 0 where
+  pub starts : List (List ℕ)
+  pub stop : Option Fault
+  pub unread : List ℕ
 
--- the spans of a text, and where they stop
-abbrev pub items_from : List ℕ → List ℕ → List Span × Option Fault
-items_from text [] = ([], Some Empty)
-items_from text (c ∷ cs) = read (length (c ∷ cs)) text (c ∷ cs)
+-- no span at a rest, and a span before those that follow it
+abbrev pub no_more : List ℕ → Option Fault → Walk
+no_more rest stop = record { starts = []; stop = stop; unread = rest }
+
+abbrev pub one_more : List ℕ → Walk → Walk
+one_more rest w = record { starts = rest ∷ w.starts; stop = w.stop; unread = w.unread }
+
+-- the spans from a rest on, at most n of them; at the end a text without a span stops
+unfoldable pub walk : ℕ → Bool → List ℕ → List ℕ → Walk
+walk n first text [] = no_more [] (if first then Some Empty else None)
+walk zero first text (c ∷ cs) = no_more (c ∷ cs) None
+walk (suc n) first text (c ∷ cs) = elim (fault_at text (c ∷ cs)) [
+  | None ↦ one_more (c ∷ cs) (walk n false text (past is_ws (after_word (c ∷ cs))))
+  | Some e ↦ no_more (c ∷ cs) (Some e)
+]
+
+-- all spans from a rest on, where none was before it or where some was, and all spans of a text
+abbrev pub walk_from : Bool → List ℕ → List ℕ → Walk
+walk_from first text rest = walk (length rest) first text rest
+
+abbrev pub walk_of : List ℕ → Walk
+walk_of text = walk_from true text (past is_ws text)
+
+-- the spans of a walk and where they stop, and those of a text
+abbrev pub spans_on : Walk → List Span × Option Fault
+spans_on w = (map span_of w.starts, w.stop)
 
 unfoldable pub items : List ℕ → List Span × Option Fault
-items text = items_from text (past is_ws text)
+items text = spans_on (walk_of text)
 
 -- whether there is room for an addition, and the sum after some, if there is
 abbrev pub room : ℕ → Addition → Bool
@@ -91,8 +107,8 @@ fits_at (Some u) s = nat_le (decimal_value s.number * u.factor) u64_max && fract
 unfoldable pub add_span : ℕ → Span → Option ℕ
 add_span t s = if fits_at (scale_of_word s.word) s then add_all t (additions_of s) else None
 
--- what the spans add up to after t, unless they break a limit, and then the fault at which they stop
-unfoldable pub settle : ℕ → List Span → Option Fault → Result ℕ Fault
-settle t [] None = Ok t
-settle t [] (Some e) = Err e
-settle t (s ∷ spans) stop = elim (add_span t s) [ None ↦ Err NumberOverflow | Some u ↦ settle u spans stop ]
+-- what spans add up to after t, unless they break a limit, or else the fault that stops them
+unfoldable pub settle : ℕ → List (Result Span Fault) → Result ℕ Fault
+settle t [] = Ok t
+settle t (Err e ∷ items) = Err e
+settle t (Ok s ∷ items) = elim (add_span t s) [ None ↦ Err NumberOverflow | Some u ↦ settle u items ]

@@ -11,7 +11,7 @@ ghost use Rattle.humantime.specs.Durations.Errors.{told_text, PointsInto};
 ghost use Rattle.humantime.specs.References.Durations.Seen.{seen};
 ghost use Rattle.humantime.specs.Durations.Counts.{Canon, IsCanonicalOf};
 ghost use Rattle.humantime.specs.References.Durations.Printing.{with_seconds, with_nanos, duration_text};
-ghost use Rattle.humantime.specs.References.Durations.Writing.{written};
+ghost use Rattle.humantime.specs.References.Durations.Writing.{written, HasWritten};
 
 use crate::buffer::front;
 use crate::duration::error::DurationError;
@@ -85,13 +85,16 @@ impl FormattedDuration {
 
     /// Writes the printed text to the front of the buffer, and says how long it is.
     #[inline(never)]
+    #[tactic(auto, unfolding(crate::specs::References::Durations::Printing::written_text), using(crate::proofs::Durations::Printing::CountTexts::written_is_text))]
     fn write(&self, buf: &mut [u8; 64]) -> usize
         ensures fits { result ≤ 64 }
         ensures text { take result buf.new ≡ duration_text self.now }
         ensures utf8 { IsUtf8 (take result buf.new) }
     {
         let mut writer = Writer::new(buf);
-        write_duration(&mut writer, self.value);
+        write_seconds(&mut writer, self.value.as_secs());
+        write_nanos(&mut writer, self.value.subsec_nanos());
+        writer.push_zero_if_empty();
         writer.finish()
     }
 }
@@ -160,36 +163,14 @@ fn write_canonical<'a>(s: &'a str, buf: &mut [u8; 64]) -> Result<usize, Duration
     Ok(format_duration(duration).write(buf))
 }
 
-/// Writes a duration's text.
-#[inline(always)]
-fn write_duration(writer: &mut Writer<'_>, duration: StdDuration)
-    requires empty { written writer.old ≡ [] }
-    requires end { writer.old.end ≡ 0 }
-    requires room { length writer.old.bytes.now ≡ 64 }
-    requires utf8 { IsUtf8 (written writer.old) }
-    ensures same_reference { writer.new.bytes.ghost_name ≡ writer.old.bytes.ghost_name }
-    ensures room { length writer.new.bytes.now ≡ 64 }
-    ensures end { writer.new.end ≤ 64 }
-    ensures written { written writer.new ≡ duration_text duration }
-    ensures utf8 { IsUtf8 (written writer.new) }
-{
-    write_seconds(writer, duration.as_secs());
-    write_nanos(writer, duration.subsec_nanos());
-    writer.push_zero_if_empty();
-}
-
 /// Writes the counts of whole seconds.
 #[inline(always)]
 #[tactic(auto, unfolding(crate::specs::References::Durations::Printing::with_seconds), using(crate::proofs::Durations::Printing::DecimalLengths::decimal_twelve, crate::proofs::Durations::Printing::DecimalLengths::decimal_two))]
 fn write_seconds(writer: &mut Writer<'_>, secs: u64)
     requires end { writer.old.end ≡ 0 }
     requires room { length writer.old.bytes.now ≡ 64 }
-    requires utf8 { IsUtf8 (written writer.old) }
-    ensures same_reference { writer.new.bytes.ghost_name ≡ writer.old.bytes.ghost_name }
-    ensures room { length writer.new.bytes.now ≡ 64 }
+    ensures written { HasWritten writer.old writer.new (with_seconds (written writer.old) secs) }
     ensures end { writer.new.end ≤ 45 }
-    ensures written { written writer.new ≡ with_seconds (written writer.old) secs }
-    ensures utf8 { IsUtf8 (written writer.new) }
 {
     let of_year = secs % sizes::SECONDS_PER_YEAR;
     let of_month = of_year % sizes::SECONDS_PER_MONTH;
@@ -210,12 +191,7 @@ fn write_nanos(writer: &mut Writer<'_>, nanos: u32)
     requires nanos { nanos < nanos_per_second }
     requires end { writer.old.end ≤ 45 }
     requires room { length writer.old.bytes.now ≡ 64 }
-    requires utf8 { IsUtf8 (written writer.old) }
-    ensures same_reference { writer.new.bytes.ghost_name ≡ writer.old.bytes.ghost_name }
-    ensures room { length writer.new.bytes.now ≡ 64 }
-    ensures end { writer.new.end ≤ 64 }
-    ensures written { written writer.new ≡ with_nanos (written writer.old) nanos }
-    ensures utf8 { IsUtf8 (written writer.new) }
+    ensures { HasWritten writer.old writer.new (with_nanos (written writer.old) nanos) }
 {
     let nanos = nanos as u64;
     let of_milli = nanos % sizes::NANOS_PER_MILLI;

@@ -1,20 +1,24 @@
 //! A text written to the front of a caller's buffer.
 
-ghost use Rattle.std.specs.Prelude.{◌≡◌, ◌<◌, ◌≤◌, ◌+◌, ◌∷◌, ◌++◌, [], length, take, decimal};
+ghost use Rattle.std.specs.Prelude.{◌≡◌, ◌<◌, ◌≤◌, ◌+◌, [], length, take, decimal};
 ghost use Rattle.std.specs.Str.{IsUtf8};
-ghost use Rattle.humantime.specs.References.Durations.Printing.{with_plural, without_plural, separated, with_count, or_zero};
-ghost use Rattle.humantime.specs.References.Durations.Writing.{written};
+ghost use Rattle.std.proofs.Props.{props};
 
 use itoa::Buffer;
 
-/// A buffer, and how many of its bytes are written.
+/// A buffer, and how many of its bytes are written: a text.
 #[derive(Drop)]
 pub(crate) struct Writer<'b> {
     bytes: &'b mut [u8],
     end: usize,
+    ghost within: { end ≤ length bytes.now },
+    ghost utf8: { IsUtf8 (take end bytes.now) } by { Prim.hlevel props },
 }
 
 impl<'b> Writer<'b> {
+    ghost use Rattle.humantime.specs.References.Durations.Printing.{with_plural, without_plural, with_count, or_zero};
+    ghost use Rattle.humantime.specs.References.Durations.Writing.{written, Appends, HasWritten};
+
     /// Nothing written yet.
     #[inline(always)]
     pub(crate) fn new(bytes: &'b mut [u8]) -> Writer<'b>
@@ -22,7 +26,6 @@ impl<'b> Writer<'b> {
         ensures room { length result.bytes.now ≡ length bytes.old }
         ensures end { result.end ≡ 0 }
         ensures empty { written result ≡ [] }
-        ensures utf8 { IsUtf8 (written result) }
     {
         Writer { bytes, end: 0 }
     }
@@ -31,12 +34,7 @@ impl<'b> Writer<'b> {
     #[inline(always)]
     fn push(&mut self, text: &str)
         requires fits { self.old.end + length text.now ≤ length self.old.bytes.now }
-        requires utf8 { IsUtf8 (written self.old) }
-        ensures same_reference { self.new.bytes.ghost_name ≡ self.old.bytes.ghost_name }
-        ensures room { length self.new.bytes.now ≡ length self.old.bytes.now }
-        ensures end { self.new.end ≡ self.old.end + length text.now }
-        ensures written { written self.new ≡ written self.old ++ text.now }
-        ensures utf8 { IsUtf8 (written self.new) }
+        ensures { Appends self.old self.new text.now }
     {
         let end = self.end + text.len();
         let bytes = &mut *self.bytes;
@@ -49,12 +47,7 @@ impl<'b> Writer<'b> {
     fn push_digit(&mut self, number: u32)
         requires small { number < 10 }
         requires fits { self.old.end < length self.old.bytes.now }
-        requires utf8 { IsUtf8 (written self.old) }
-        ensures same_reference { self.new.bytes.ghost_name ≡ self.old.bytes.ghost_name }
-        ensures room { length self.new.bytes.now ≡ length self.old.bytes.now }
-        ensures end { self.new.end ≡ self.old.end + 1 }
-        ensures written { written self.new ≡ written self.old ++ (48 + number) ∷ [] }
-        ensures utf8 { IsUtf8 (written self.new) }
+        ensures { Appends self.old self.new (decimal number) }
     {
         let bytes = &mut *self.bytes;
         bytes[self.end] = b'0' + number as u8;
@@ -63,16 +56,11 @@ impl<'b> Writer<'b> {
 
     /// Writes the digits of a number below 100.
     #[inline(always)]
-    #[tactic(auto, using(crate::proofs::Durations::Printing::DecimalLengths::length_one, crate::proofs::Durations::Printing::DecimalLengths::length_more, crate::proofs::Durations::Printing::DecimalLengths::written_one, crate::proofs::Durations::Printing::DecimalLengths::written_more))]
+    #[tactic(auto, using(crate::proofs::Durations::Printing::DecimalLengths::length_one, crate::proofs::Durations::Printing::DecimalLengths::length_more, crate::proofs::Durations::Printing::DecimalLengths::decimal_more, crate::proofs::Durations::Printing::DecimalLengths::appends_both))]
     fn push_below_100(&mut self, number: u32)
         requires small { number < 100 }
         requires fits { self.old.end + length (decimal number) ≤ length self.old.bytes.now }
-        requires utf8 { IsUtf8 (written self.old) }
-        ensures same_reference { self.new.bytes.ghost_name ≡ self.old.bytes.ghost_name }
-        ensures room { length self.new.bytes.now ≡ length self.old.bytes.now }
-        ensures end { self.new.end ≡ self.old.end + length (decimal number) }
-        ensures written { written self.new ≡ written self.old ++ decimal number }
-        ensures utf8 { IsUtf8 (written self.new) }
+        ensures { Appends self.old self.new (decimal number) }
     {
         if number < 10 {
             return self.push_digit(number);
@@ -83,16 +71,11 @@ impl<'b> Writer<'b> {
 
     /// Writes the digits of a number below 1000.
     #[inline(always)]
-    #[tactic(auto, using(crate::proofs::Durations::Printing::DecimalLengths::length_one, crate::proofs::Durations::Printing::DecimalLengths::length_more, crate::proofs::Durations::Printing::DecimalLengths::written_one, crate::proofs::Durations::Printing::DecimalLengths::written_more))]
+    #[tactic(auto, using(crate::proofs::Durations::Printing::DecimalLengths::length_one, crate::proofs::Durations::Printing::DecimalLengths::length_more, crate::proofs::Durations::Printing::DecimalLengths::decimal_more, crate::proofs::Durations::Printing::DecimalLengths::appends_both))]
     fn push_below_1000(&mut self, number: u32)
         requires small { number < 1000 }
         requires fits { self.old.end + length (decimal number) ≤ length self.old.bytes.now }
-        requires utf8 { IsUtf8 (written self.old) }
-        ensures same_reference { self.new.bytes.ghost_name ≡ self.old.bytes.ghost_name }
-        ensures room { length self.new.bytes.now ≡ length self.old.bytes.now }
-        ensures end { self.new.end ≡ self.old.end + length (decimal number) }
-        ensures written { written self.new ≡ written self.old ++ decimal number }
-        ensures utf8 { IsUtf8 (written self.new) }
+        ensures { Appends self.old self.new (decimal number) }
     {
         if number < 10 {
             return self.push_digit(number);
@@ -105,12 +88,7 @@ impl<'b> Writer<'b> {
     #[inline(never)]
     fn push_long(&mut self, number: u64)
         requires fits { self.old.end + length (decimal number) ≤ length self.old.bytes.now }
-        requires utf8 { IsUtf8 (written self.old) }
-        ensures same_reference { self.new.bytes.ghost_name ≡ self.old.bytes.ghost_name }
-        ensures room { length self.new.bytes.now ≡ length self.old.bytes.now }
-        ensures end { self.new.end ≡ self.old.end + length (decimal number) }
-        ensures written { written self.new ≡ written self.old ++ decimal number }
-        ensures utf8 { IsUtf8 (written self.new) }
+        ensures { Appends self.old self.new (decimal number) }
     {
         let mut buffer = Buffer::new();
         self.push(buffer.format(number));
@@ -120,12 +98,7 @@ impl<'b> Writer<'b> {
     #[inline(always)]
     fn push_number(&mut self, number: u64)
         requires fits { self.old.end + length (decimal number) ≤ length self.old.bytes.now }
-        requires utf8 { IsUtf8 (written self.old) }
-        ensures same_reference { self.new.bytes.ghost_name ≡ self.old.bytes.ghost_name }
-        ensures room { length self.new.bytes.now ≡ length self.old.bytes.now }
-        ensures end { self.new.end ≡ self.old.end + length (decimal number) }
-        ensures written { written self.new ≡ written self.old ++ decimal number }
-        ensures utf8 { IsUtf8 (written self.new) }
+        ensures { Appends self.old self.new (decimal number) }
     {
         if number < 1000 {
             self.push_below_1000(number as u32);
@@ -134,40 +107,21 @@ impl<'b> Writer<'b> {
         }
     }
 
-    /// Writes a space, unless nothing is written.
-    #[inline(always)]
-    fn separate(&mut self)
-        requires fits { self.old.end + 1 ≤ length self.old.bytes.now }
-        requires utf8 { IsUtf8 (written self.old) }
-        ensures same_reference { self.new.bytes.ghost_name ≡ self.old.bytes.ghost_name }
-        ensures room { length self.new.bytes.now ≡ length self.old.bytes.now }
-        ensures end { self.new.end ≤ self.old.end + 1 }
-        ensures first { self.old.end ≡ 0 → self.new.end ≡ 0 }
-        ensures written { written self.new ≡ separated (written self.old) }
-        ensures utf8 { IsUtf8 (written self.new) }
-    {
-        if self.end > 0 {
-            self.push(" ");
-        }
-    }
-
     /// Writes a count and its unit, with a space before it where it is not the first; a count of zero is left out.
     #[inline(always)]
     #[tactic(auto, unfolding(crate::specs::References::Durations::Printing::with_count))]
     pub(crate) fn push_count(&mut self, count: u64, unit: &str)
         requires fits { self.old.end + 1 + length (decimal count) + length unit.now ≤ length self.old.bytes.now }
-        requires utf8 { IsUtf8 (written self.old) }
-        ensures same_reference { self.new.bytes.ghost_name ≡ self.old.bytes.ghost_name }
-        ensures room { length self.new.bytes.now ≡ length self.old.bytes.now }
+        ensures written { HasWritten self.old self.new (with_count (written self.old) count (without_plural unit.now)) }
         ensures end { self.new.end ≤ self.old.end + 1 + length (decimal count) + length unit.now }
         ensures first { self.old.end ≡ 0 → self.new.end ≤ length (decimal count) + length unit.now }
-        ensures written { written self.new ≡ with_count (written self.old) count (without_plural unit.now) }
-        ensures utf8 { IsUtf8 (written self.new) }
     {
         if count == 0 {
             return;
         }
-        self.separate();
+        if self.end > 0 {
+            self.push(" ");
+        }
         self.push_number(count);
         self.push(unit);
     }
@@ -177,13 +131,9 @@ impl<'b> Writer<'b> {
     #[tactic(auto, unfolding(crate::specs::References::Durations::Printing::with_count))]
     pub(crate) fn push_plural(&mut self, count: u64, unit: &str)
         requires fits { self.old.end + 2 + length (decimal count) + length unit.now ≤ length self.old.bytes.now }
-        requires utf8 { IsUtf8 (written self.old) }
-        ensures same_reference { self.new.bytes.ghost_name ≡ self.old.bytes.ghost_name }
-        ensures room { length self.new.bytes.now ≡ length self.old.bytes.now }
+        ensures written { HasWritten self.old self.new (with_count (written self.old) count (with_plural unit.now)) }
         ensures end { self.new.end ≤ self.old.end + 2 + length (decimal count) + length unit.now }
         ensures first { self.old.end ≡ 0 → self.new.end ≤ 1 + length (decimal count) + length unit.now }
-        ensures written { written self.new ≡ with_count (written self.old) count (with_plural unit.now) }
-        ensures utf8 { IsUtf8 (written self.new) }
     {
         self.push_count(count, unit);
         if count > 1 {
@@ -194,14 +144,8 @@ impl<'b> Writer<'b> {
     /// Writes zero seconds where nothing is written.
     #[inline(always)]
     pub(crate) fn push_zero_if_empty(&mut self)
-        requires fits { self.old.end ≤ length self.old.bytes.now }
-        requires room { 2 ≤ length self.old.bytes.now }
-        requires utf8 { IsUtf8 (written self.old) }
-        ensures same_reference { self.new.bytes.ghost_name ≡ self.old.bytes.ghost_name }
-        ensures room { length self.new.bytes.now ≡ length self.old.bytes.now }
-        ensures end { self.new.end ≤ length self.old.bytes.now }
-        ensures written { written self.new ≡ or_zero (written self.old) }
-        ensures utf8 { IsUtf8 (written self.new) }
+        requires { 2 ≤ length self.old.bytes.now }
+        ensures { HasWritten self.old self.new (or_zero (written self.old)) }
     {
         if self.end == 0 {
             self.push("0s");
@@ -211,8 +155,6 @@ impl<'b> Writer<'b> {
     /// How many bytes are written.
     #[inline(always)]
     pub(crate) fn finish(self) -> usize
-        requires fits { self.end ≤ length self.bytes.now }
-        requires utf8 { IsUtf8 (written self) }
         ensures most { result ≤ length self.entry.bytes.now }
         ensures text { take result self.exit.0.now ≡ written self.entry }
         ensures utf8 { IsUtf8 (take result self.exit.0.now) }

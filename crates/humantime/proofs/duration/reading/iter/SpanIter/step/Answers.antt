@@ -1,6 +1,6 @@
 use Rattle.std.proofs.Common.{◌<◌, length, ne_eqb, arith}
 use Rattle.std.proofs.lemmas.Grind.{common_steps}
-use Rattle.humantime.proofs.Durations.Slices.Iterating.{step_fine, step_stopped, step_expected}
+use Rattle.humantime.proofs.Durations.Slices.Iterating.{step_fine, step_stopped, step_expected, step_end}
 use Rattle.humantime.proofs.Durations.Slices.SpanSlices.{next_bytes}
 use Rattle.humantime.proofs.Durations.Slices.Places.{rest_place}
 use Rattle.humantime.proofs.Durations.Bytes.Tails.{byte_length-chars, no_bytes, some_chars, tail_of_tail}
@@ -24,7 +24,7 @@ returns-then-not-begins_with_digit-clause-place c =
     rest_place s.text.now rest _ tail c.offset_of.ensures.bytes some
 
 pub returns-then-self-text-clause-items : goal.returns-then-self-text-clause-items
-returns-then-self-text-clause-items c = grind (arith, common_steps, no_bytes, common_steps)
+returns-then-self-text-clause-items c = grind (arith, common_steps, no_bytes, step_end)
 
 pub returns-then-is_empty-clause-items : goal.returns-then-is_empty-clause-items
-returns-then-is_empty-clause-items c = grind (arith, common_steps, no_bytes, common_steps)
+returns-then-is_empty-clause-items c = grind (arith, common_steps, no_bytes, step_end)

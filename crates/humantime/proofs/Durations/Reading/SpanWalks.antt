@@ -1,0 +1,58 @@
+-- The walk over the spans of a text, one span at a time, whatever the number of its steps.
+use Rattle.std.proofs.lemmas.Grind.{common_steps}
+use Rattle.std.proofs.Common.{◌≡◌, ◌≢◌, ℕ, zero, suc, ◌≤◌, Bool, true, false, List, [], ◌∷◌, length, Option, Some, None, if◌then◌else◌, refl, ap, arith}
+use Rattle.humantime.specs.Durations.Characters.{is_digit, begins}
+use Rattle.humantime.specs.Durations.Faults.{Fault, Empty}
+use Rattle.humantime.specs.References.Durations.Reading.{fault_at, Walk, no_more, one_more, walk, walk_from}
+use Rattle.humantime.proofs.Durations.Reading.Spelled.{next_of, next_smaller}
+
+-- What is shown of each rest and of the walk from there: at the end, where a span is wrong, and where one is right.
+pub record Steps (text : List ℕ) (P : Bool → List ℕ → Walk → Type 0) : Type 0 where
+  pub end : (first : Bool) → P first [] (no_more [] (if first then Some Empty else None))
+  pub wrong : (first : Bool) (rest : List ℕ) (e : Fault) → rest ≢ [] → fault_at text rest ≡ Some e → P first rest (no_more rest (Some e))
+  pub right : (first : Bool) (rest : List ℕ) (w : Walk) → fault_at text rest ≡ None → P false (next_of rest) w → P first rest (one_more rest w)
+
+pub right_begins : (text rest : List ℕ) → fault_at text rest ≡ None → begins is_digit rest ≡ true
+right_begins text rest s = grind (arith, common_steps)
+
+by_count : (n : ℕ) (text : List ℕ) (P : Bool → List ℕ → Walk → Type 0) → Steps text P → (first : Bool) (rest : List ℕ) → length rest ≤ n → P first rest (walk n first text rest)
+unfolding walk
+by_count n text P s first [] h = s.end first
+by_count zero text P s first (c ∷ cs) h = absurd (omega arith)
+by_count (suc n) text P s first (c ∷ cs) h = by (fault_at text (c ∷ cs)) refl (λ d. let k = next_smaller (c ∷ cs) d in by_count n text P s false (next_of (c ∷ cs)) (omega arith))
+  where
+    by : (o : Option Fault) → fault_at text (c ∷ cs) ≡ o → (begins is_digit (c ∷ cs) ≡ true → P false (next_of (c ∷ cs)) (walk n false text (next_of (c ∷ cs))))
+        → P first (c ∷ cs) (elim o [ None ↦ one_more (c ∷ cs) (walk n false text (next_of (c ∷ cs))) | Some e ↦ no_more (c ∷ cs) (Some e) ])
+    by None e more = s.right first (c ∷ cs) _ e (more (right_begins text (c ∷ cs) e))
+    by (Some f) e more = s.wrong first (c ∷ cs) f (λ n. cc) e
+
+pub by_walk : (text : List ℕ) (P : Bool → List ℕ → Walk → Type 0) → Steps text P → (first : Bool) (rest : List ℕ) → P first rest (walk_from first text rest)
+by_walk text P s first rest = by_count (length rest) text P s first rest (omega arith)
+
+-- as many steps as the rest has characters are enough
+enough : (n m : ℕ) (first : Bool) (text rest : List ℕ) → length rest ≤ n → length rest ≤ m → walk n first text rest ≡ walk m first text rest
+unfolding walk
+enough n m first text [] h k = refl
+enough zero m first text (c ∷ cs) h k = absurd (omega arith)
+enough (suc n) zero first text (c ∷ cs) h k = absurd (omega arith)
+enough (suc n) (suc m) first text (c ∷ cs) h k = by (fault_at text (c ∷ cs)) refl (λ d. let s = next_smaller (c ∷ cs) d in enough n m false text (next_of (c ∷ cs)) (omega arith) (omega arith))
+  where
+    by : (o : Option Fault) → fault_at text (c ∷ cs) ≡ o → (begins is_digit (c ∷ cs) ≡ true → walk n false text (next_of (c ∷ cs)) ≡ walk m false text (next_of (c ∷ cs)))
+        → ◌≡◌ {A = Walk} (elim o [ None ↦ one_more (c ∷ cs) (walk n false text (next_of (c ∷ cs))) | Some e ↦ no_more (c ∷ cs) (Some e) ])
+        (elim o [ None ↦ one_more (c ∷ cs) (walk m false text (next_of (c ∷ cs))) | Some e ↦ no_more (c ∷ cs) (Some e) ])
+    by None e same = ap (one_more (c ∷ cs)) (same (right_begins text (c ∷ cs) e))
+    by (Some f) e same = refl
+
+pub walk-end : (first : Bool) (text : List ℕ) → walk_from first text [] ≡ no_more [] (if first then Some Empty else None)
+unfolding walk
+walk-end first text = refl
+
+pub walk-wrong : (first : Bool) (text rest : List ℕ) (e : Fault) → rest ≢ [] → fault_at text rest ≡ Some e → walk_from first text rest ≡ no_more rest (Some e)
+unfolding walk
+walk-wrong first text [] e some h = absurd (some refl)
+walk-wrong first text (c ∷ cs) e some h = grind (arith, common_steps)
+
+pub walk-right : (first : Bool) (text rest : List ℕ) → fault_at text rest ≡ None → walk_from first text rest ≡ one_more rest (walk_from false text (next_of rest))
+unfolding walk
+walk-right first text [] h = cc
+walk-right first text (c ∷ cs) h = grind (arith, common_steps, enough, (next_smaller (c ∷ cs) (right_begins text (c ∷ cs) h)))
