@@ -1,7 +1,7 @@
 -- What is known of a rest once its number, its fraction and its word are read, and how each exit answers.
 use Rattle.std.proofs.Common.{arith}
 use Rattle.std.proofs.lemmas.Grind.{common_steps}
-use Rattle.std.proofs.Common.{◌≡◌, ◌≢◌, ◌++◌, ℕ, Bool, true, false, List, [], ◌∷◌, Option, Some, None, option_map, if◌then◌else◌, encode_utf8_all, refl, sym, ap, ◌∙◌}
+use Rattle.std.proofs.Common.{◌≡◌, ◌≢◌, ◌++◌, ℕ, Bool, true, false, List, [], ◌∷◌, Option, Some, None, option_map, unwrap_or, if◌then◌else◌, encode_utf8_all, refl, sym, ap, ◌∙◌}
 use Rattle.std.proofs.lemmas.List.{append_cancel_right}
 use Rattle.std.specs.Str.{drop_trailing_whitespace}
 use Rattle.humantime.specs.declared.duration.reading.amount.Amount.{Amount}
@@ -58,7 +58,8 @@ middle_is [] [] behind e b = refl
 middle_is [] (m ∷ ms) behind e b = cc
 middle_is (c ∷ cs) middle behind e b = by (is_point c) refl e b
   where
-    by : (p : Bool) → is_point c ≡ p → c ∷ cs ≡ middle ++ behind → behind ≡ (if p then past is_numeric cs else c ∷ cs) → fraction_in middle ≡ (if p then Some (trimmed (leading is_numeric cs)) else None)
+    by : (p : Bool) → is_point c ≡ p → c ∷ cs ≡ middle ++ behind → behind ≡ unwrap_or (option_map after_number (if p then Some cs else None)) (c ∷ cs)
+        → fraction_in middle ≡ option_map (λ digits. trimmed (leading is_numeric digits)) (if p then Some cs else None)
     by true h e b =
         ap fraction_in
         (append_cancel_right middle (c ∷ leading is_numeric cs) behind

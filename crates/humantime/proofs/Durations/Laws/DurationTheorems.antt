@@ -6,7 +6,6 @@ use Rattle.std.proofs.Common.{◌≡◌, ◌↔◌, ℕ, ◌<◌, Bool, List, Re
 use Rattle.humantime.specs.declared.duration.error.DurationError.{DurationError}
 use Rattle.humantime.specs.Values.{duration_end}
 use Rattle.humantime.specs.Durations.Errors.{told, fault_of}
-use Rattle.humantime.specs.Durations.Faults.{Fault}
 use Rattle.humantime.specs.contracts.duration.error.DurationErrorPartialEq.TheImpl as errors
 use Rattle.humantime.specs.Laws.Outcomes.{HasOneOutcome, ItemsDecide, LendsOneList}
 use Rattle.humantime.specs.Durations.Counts.{Canon}
