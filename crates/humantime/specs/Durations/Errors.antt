@@ -1,4 +1,4 @@
--- What an error of a duration's text says, and its message. A text that was read, and a unit, are bytes here.
+-- What an error of a duration's text says, and its message. A text is its bytes here.
 use Rattle.std.specs.Prelude.{◌≡◌, ℕ, ◌<◌, ◌≤◌, List, length, Result, ⊤, slice_range, ◌++◌, codes, decimal, ◌∷◌, []}
 use Rattle.std.specs.Borrow.{Bor}
 use Rattle.std.specs.Str.{IsCharBoundary}

@@ -1,5 +1,6 @@
--- The first fault of a text that is not accepted. A text is its list of characters; offsets count its bytes.
-use Rattle.std.specs.Prelude.{ℕ, List, [], ◌∷◌, Option, Some, None, if◌then◌else◌, ◌≡◌, ◌≢◌, ◌⊎◌, true, false, ◌++◌, IsSome, drop, encode_utf8_all}
+-- The first fault of a text that is not accepted. A text is its list of characters; offsets count its bytes, and a fault
+-- holds the bytes of its unit.
+use Rattle.std.specs.Prelude.{ℕ, List, [], ◌∷◌, Option, Some, None, if◌then◌else◌, ◌≡◌, ◌≢◌, ◌⊎◌, true, false, ◌++◌, IsSome, drop, option_map, unwrap_or, encode_utf8_all}
 use Rattle.humantime.specs.Durations.Characters.{is_letter, is_numeric, is_point, leading, past, digits, is_ws, is_digit, begins, ends, decimal_value, offset_of, byte_length, bare_zero}
 use Rattle.humantime.specs.Durations.Spans.{Span, SpellsAll}
 use Rattle.humantime.specs.Durations.Units.{scale_of_word}
@@ -12,12 +13,16 @@ number_of rest = digits (leading is_numeric rest)
 abbrev pub after_number : List ℕ → List ℕ
 after_number rest = past is_numeric rest
 
+-- what follows the point, if one begins a text
+abbrev pub behind_point : List ℕ → Option (List ℕ)
+behind_point text = if begins is_point text then Some (drop 1 text) else None
+
 -- the fraction, if a point follows the number: its digits, and what follows both
 abbrev pub fraction_of : List ℕ → Option (List ℕ)
-fraction_of rest = if begins is_point (after_number rest) then Some (number_of (drop 1 (after_number rest))) else None
+fraction_of rest = option_map number_of (behind_point (after_number rest))
 
 abbrev pub after_fraction : List ℕ → List ℕ
-after_fraction rest = if begins is_point (after_number rest) then after_number (drop 1 (after_number rest)) else after_number rest
+after_fraction rest = unwrap_or (option_map after_number (behind_point (after_number rest))) (after_number rest)
 
 -- the word: the letters that follow both, and what follows them
 abbrev pub word_of : List ℕ → List ℕ
@@ -48,6 +53,11 @@ pub record Split (text front : List ℕ) (spans : List Span) (rest : List ℕ) :
 abbrev pub StartsNumber : List ℕ → Type 0
 StartsNumber rest = (begins is_digit rest ≡ true) × NumbersFit (span_of rest)
 
+-- and if there is a point, digits follow it
+pub record StartsSpan (rest : List ℕ) : Type 0 where
+  pub number : StartsNumber rest
+  pub not_bare : fraction_of rest ≢ Some []
+
 -- a digit, white space or the end follows
 abbrev pub MayFollowWord : List ℕ → Type 0
 MayFollowWord next = (next ≡ []) ⊎ (begins is_numeric next ≡ true)
@@ -68,22 +78,20 @@ pub data Stops (text front : List ℕ) (spans : List Span) (rest : List ℕ) (e 
   No_letter : StartsNumber rest → word_of rest ≡ [] → after_word rest ≢ []
       → e ≡ InvalidCharacter (offset_of text (after_word rest)) → Stops text front spans rest e
   -- after the letters a character that is no letter, digit or white space; the letters are not looked at
-  Bad_after_word : StartsNumber rest → fraction_of rest ≢ Some [] → word_of rest ≢ [] → ¬ (MayFollowWord (after_word rest))
+  Bad_after_word : StartsSpan rest → word_of rest ≢ [] → ¬ (MayFollowWord (after_word rest))
       → e ≡ InvalidCharacter (offset_of text (after_word rest)) → Stops text front spans rest e
   -- where a word has to begin, the end
-  No_word : StartsNumber rest → fraction_of rest ≢ Some [] → word_of rest ≡ [] → after_word rest ≡ []
+  No_word : StartsSpan rest → word_of rest ≡ [] → after_word rest ≡ []
       → e ≡ UnknownUnit (byte_length text) (byte_length text) [] (decimal_value (number_of rest)) → Stops text front spans rest e
   -- letters that are no unit's word
-  Wrong_word : StartsNumber rest → fraction_of rest ≢ Some [] → word_of rest ≢ [] → scale_of_word (word_of rest) ≡ None
-      → MayFollowWord (after_word rest)
+  Wrong_word : StartsSpan rest → word_of rest ≢ [] → scale_of_word (word_of rest) ≡ None → MayFollowWord (after_word rest)
       → e ≡ UnknownUnit (offset_of text (after_fraction rest)) (offset_of text (after_word rest)) (encode_utf8_all (word_of rest))
       (decimal_value (number_of rest))
       → Stops text front spans rest e
 
 -- A whole span begins the rest, but with it the spans break a limit.
 pub record Overflows (spans : List Span) (rest : List ℕ) : Type 0 where
-  pub number : StartsNumber rest
-  pub not_bare : fraction_of rest ≢ Some []
+  pub starts : StartsSpan rest
   pub word : IsSome (scale_of_word (word_of rest))
   pub follows : MayFollowWord (after_word rest)
   pub beyond : ¬ (WithinLimits (spans ++ span_of rest ∷ []))

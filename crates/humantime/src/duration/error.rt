@@ -1,6 +1,6 @@
 //! What is wrong with a text that is no duration.
 
-ghost use Rattle.std.specs.Prelude.{◌++◌, [], Some, decimal};
+ghost use Rattle.std.specs.Prelude.{◌++◌, Some, [], decimal};
 ghost use Rattle.std.specs.Fmt.{WritesOnOk, WritesStyledOnOk};
 ghost use Rattle.humantime.specs.Durations.Errors.{fault_of, fault_message, unit_message};
 
@@ -16,7 +16,7 @@ use std::fmt;
 /// ```text
 /// DurationError::NumberExpected(13) is printed as `expected number at 13`
 /// ```
-#[derive(Clone, Copy, PartialEq, Debug)]
+#[derive(Clone, Copy, PartialEq, Eq, Debug)]
 pub enum DurationError<'a> {
     /// At this offset stands a character that has no place in a span.
     InvalidCharacter(usize),

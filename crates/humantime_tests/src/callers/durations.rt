@@ -54,6 +54,7 @@ pub fn place_in_line(text: &str, before: u32) -> Option<u64>
 }
 
 /// Whether a second look at a text finds the same error.
+#[tactic(auto, using(humantime::proofs::Theorems::errors_equal))]
 pub fn is_same_error(a: &DurationError<'_>, b: &DurationError<'_>) -> bool
     ensures { IsTrue result ↔ (fault_of a.now ≡ fault_of b.now) }
 {

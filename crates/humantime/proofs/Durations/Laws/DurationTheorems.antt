@@ -1,12 +1,15 @@
 -- The laws of durations as theorems over plain variables, each under the name of its function in `laws`.
+use Rattle.std.proofs.lemmas.Bool.Decides.{nat_tests}
 use Rattle.std.proofs.lemmas.Grind.{common_steps}
 use Rattle.std.proofs.Common.{Bool, ◌≡◌, ◌↔◌, ℕ, ◌<◌, List, Result, Ok, IsTrue, chars, refl, arith}
+use Rattle.std.proofs.lemmas.Slice.Eq.{bytes_eq-Decides}
 use Rattle.humantime.specs.declared.duration.error.DurationError.{DurationError}
 use Rattle.humantime.specs.contracts.duration.error.DurationErrorPartialEq.TheImpl as errors
 use Rattle.std.proofs.lemmas.Bool.Decides.{nat_tests}
 use Rattle.std.proofs.lemmas.Slice.Eq.{bytes_eq-Decides}
 use Rattle.humantime.specs.Values.{duration_end}
 use Rattle.humantime.specs.Durations.Errors.{told, fault_of}
+use Rattle.humantime.specs.contracts.duration.error.DurationErrorPartialEq.TheImpl as errors
 use Rattle.humantime.specs.Laws.Outcomes.{HasOneOutcome, ItemsDecide, LendsOneList}
 use Rattle.humantime.specs.Durations.Counts.{Canon}
 use Rattle.humantime.specs.References.Durations.Printing.{duration_text}
@@ -19,10 +22,6 @@ use Rattle.humantime.proofs.Durations.Reading.Outcomes as outcomes
 use Rattle.humantime.proofs.Durations.Printing.PrintedLengths as lengths
 use Rattle.humantime.proofs.Durations.Printing.PrintedSpans as printed
 use Rattle.humantime.proofs.Durations.Printing.ReadsBack as back
-
--- the test of errors that is derived
-abbrev error_eq : DurationError → DurationError → Bool
-error_eq = (errors.ghosts).eq
 
 -- ---- texts of durations
 
@@ -50,6 +49,10 @@ spans_tile text = record { one = lent.one_list_of_slices text; same = lent.same_
 -- What is told as a value was answered as that value.
 pub told_value : (r : Result ℕ DurationError) (v : ℕ) → told r ≡ Ok v → r ≡ Ok v
 told_value r v h = grind (arith, common_steps)
+
+-- whether two errors are equal, as `==` says
+abbrev pub error_eq : DurationError → DurationError → Bool
+error_eq = (errors.ghosts).eq
 
 -- Two errors are equal exactly where they name the same fault.
 pub errors_equal : (e f : DurationError) → IsTrue (error_eq e f) ↔ (fault_of e ≡ fault_of f)

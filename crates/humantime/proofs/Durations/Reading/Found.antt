@@ -118,8 +118,7 @@ over_at text front rest first spans not_zero r within f over = record {
   within = WithinLimits_from spans r.formed within;
   fault = inr (
     record {
-      number = (f.starts, f.numbers);
-      not_bare = f.point;
+      starts = record { number = (f.starts, f.numbers); not_bare = f.point };
       word = f.word;
       follows = f.ends;
       beyond = λ g. over (WithinLimitsFrom-last 0 spans (span_of rest) (from_WithinLimits (spans ++ span_of rest ∷ []) g));

@@ -66,7 +66,7 @@ stop_outcome text e h s =
 -- where the span that begins the rest breaks a limit, the text's items do
 over_outcome : (text : List ℕ) (e : Fault) (h : HasFault text e) → Overflows h.spans h.rest → duration_answer text ≡ Err NumberOverflow
 over_outcome text e h o =
-    let f : Fine h.rest = record { starts = o.number.0; numbers = o.number.1; point = o.not_bare; word = o.word; ends = o.follows } in
+    let f : Fine h.rest = record { starts = o.starts.number.0; numbers = o.starts.number.1; point = o.starts.not_bare; word = o.word; ends = o.follows } in
     let more = walk_from false text (next_of h.rest) in
     let spans = (h.spans ++ span_of h.rest ∷ map span_of more.starts) in
     let told : items text ≡ (spans, more.stop) = front_told text h.front h.rest h.spans h.split h.within.formed (inr (closes_digit h.front h.rest f.starts))

@@ -1,18 +1,18 @@
 -- What spans lend, read from left to right: the plain reference for the iterator over them.
-use Rattle.std.specs.Prelude.{ℕ, Bool, List, Option, Some, None, map, option_map, Result, Ok, Err, if◌then◌else◌, drop}
+use Rattle.std.specs.Prelude.{ℕ, Bool, List, Option, map, option_map, unwrap_or, Result, Ok, Err}
 use Rattle.std.specs.Str.{drop_trailing_whitespace}
-use Rattle.humantime.specs.Durations.Characters.{is_ws, is_numeric, leading, past, digits, decimal_value, offset_of, begins, is_point}
+use Rattle.humantime.specs.Durations.Characters.{is_ws, is_numeric, leading, past, digits, decimal_value, offset_of}
 use Rattle.humantime.specs.Durations.Spans.{Span}
-use Rattle.humantime.specs.Durations.Faults.{number_of, after_number, word_of, after_word, Fault}
+use Rattle.humantime.specs.Durations.Faults.{number_of, after_number, behind_point, word_of, after_word, Fault}
 use Rattle.humantime.specs.References.Durations.Reading.{Walk, walk_from, walk_of, settle}
 use Rattle.humantime.specs.Durations.Items.{Lent, items_of}
 
 -- the digits of the fraction that begins what follows a number, if a point does, and what follows it
 abbrev pub fraction_at : List ℕ → Option (List ℕ)
-fraction_at after = if begins is_point after then Some (number_of (drop 1 after)) else None
+fraction_at after = option_map number_of (behind_point after)
 
 abbrev pub past_fraction : List ℕ → List ℕ
-past_fraction after = if begins is_point after then after_number (drop 1 after) else after
+past_fraction after = unwrap_or (option_map after_number (behind_point after)) after
 
 -- without the white space at both ends
 abbrev pub trimmed : List ℕ → List ℕ
@@ -23,7 +23,7 @@ abbrev pub number_slice : List ℕ → List ℕ
 number_slice rest = drop_trailing_whitespace (leading is_numeric rest)
 
 abbrev pub fraction_slice : List ℕ → Option (List ℕ)
-fraction_slice after = if begins is_point after then Some (trimmed (leading is_numeric (drop 1 after))) else None
+fraction_slice after = option_map (λ digits. trimmed (leading is_numeric digits)) (behind_point after)
 
 -- what the span at a rest lends
 abbrev pub lent_at : List ℕ → List ℕ → Lent
