@@ -1,7 +1,7 @@
 -- How the program ends, from what one write took.
 use Rattle.std.proofs.Common.{arith, ◌≡◌, ◌≢◌, ℕ, List, take, subst, inl, inr, ◌∙◌}
 use Rattle.std.proofs.KnownBytes.{Appends-nil, Appends-kept, Keeps-refl, Keeps-trans}
-use Rattle.std.specs.Prelude.{Option, None, Some, Result, Ok, Err, MatchResult}
+use Rattle.std.specs.Prelude.{Bool, Option, None, Some, Result, Ok, Err, MatchResult}
 use Rattle.std.specs.Io.KnownBytes.{Appends, Keeps}
 use Rattle.humantime_cli.specs.declared.command.Answer as code
 use Rattle.humantime_cli.specs.Answers.{Answer, EndsWith, Whole, Cut}
@@ -9,25 +9,25 @@ use Rattle.humantime_cli.specs.Says.{Says}
 use Rattle.humantime_cli.specs.Writes.{Writes, AppendsFront, joined, line}
 
 -- the line of an answer was written to standard output
-pub to_out : {T E : Type 0} (written : Result T E) (answer : code.Answer) (told : Answer) (status : ℕ) (old new err : Option (List ℕ)) → Says answer told → answer.status ≡ 0
-    → Writes written old new (line (joined answer.pieces)) → MatchResult written (λ _. status ≡ answer.status) (λ _. status ≡ 3)
+pub to_out : {T E : Type 0} (written : Result T E) (answer : code.Answer) (told : Answer) (status : ℕ) (old new err : Option (List ℕ)) (attempts : List Bool) → Says answer told → answer.status ≡ 0
+    → Writes written old new (line (joined answer.pieces)) attempts → MatchResult written (λ _. status ≡ answer.status) (λ _. status ≡ 3)
     → EndsWith told status old new err err
 unfolding Writes
-to_out (Ok x) answer (Some (Ok printed)) status old new err said zero wrote same = Whole (same ∙ said.status) (subst (λ t. Appends old new (line t)) said.text wrote) (Appends-nil err)
-to_out (Err e) answer (Some (Ok printed)) status old new err said zero wrote three = Cut three (inl (subst (λ t. AppendsFront old new (line t)) said.text wrote, Keeps-refl err))
-to_out written answer (Some (Err message)) status old new err said zero wrote ended = absurd (omega (arith, zero, said.status))
-to_out written answer None status old new err said zero wrote ended = absurd (omega (arith, zero, said.status))
+to_out (Ok x) answer (Some (Ok printed)) status old new err attempts said zero (wrote, ended) same = Whole (same ∙ said.status) (subst (λ t. Appends old new (line t)) said.text wrote) (Appends-nil err)
+to_out (Err e) answer (Some (Ok printed)) status old new err attempts said zero (wrote, ended) three = Cut three (inl (subst (λ t. AppendsFront old new (line t)) said.text wrote, Keeps-refl err))
+to_out written answer (Some (Err message)) status old new err attempts said zero wrote ended = absurd (omega (arith, zero, said.status))
+to_out written answer None status old new err attempts said zero wrote ended = absurd (omega (arith, zero, said.status))
 
 -- or to standard error
-pub to_err : {T E : Type 0} (written : Result T E) (answer : code.Answer) (told : Answer) (status : ℕ) (out old new : Option (List ℕ)) → Says answer told → answer.status ≢ 0
-    → Writes written old new (line (joined answer.pieces)) → MatchResult written (λ _. status ≡ answer.status) (λ _. status ≡ 3)
+pub to_err : {T E : Type 0} (written : Result T E) (answer : code.Answer) (told : Answer) (status : ℕ) (out old new : Option (List ℕ)) (attempts : List Bool) → Says answer told → answer.status ≢ 0
+    → Writes written old new (line (joined answer.pieces)) attempts → MatchResult written (λ _. status ≡ answer.status) (λ _. status ≡ 3)
     → EndsWith told status out out old new
 unfolding Writes
-to_err written answer (Some (Ok printed)) status out old new said other wrote ended = absurd (other said.status)
-to_err (Ok x) answer (Some (Err message)) status out old new said other wrote same = Whole (same ∙ said.status) (Appends-nil out) (subst (λ t. Appends old new (line t)) said.text wrote)
-to_err (Err e) answer (Some (Err message)) status out old new said other wrote three = Cut three (inr (Keeps-refl out, subst (λ t. AppendsFront old new (line t)) said.text wrote))
-to_err (Ok x) answer None status out old new said other wrote same = Whole (same ∙ said.status) (Appends-nil out) (subst (λ t. Appends old new (line t)) said.text wrote)
-to_err (Err e) answer None status out old new said other wrote three = Cut three (inr (Keeps-refl out, subst (λ t. AppendsFront old new (line t)) said.text wrote))
+to_err written answer (Some (Ok printed)) status out old new attempts said other wrote ended = absurd (other said.status)
+to_err (Ok x) answer (Some (Err message)) status out old new attempts said other (wrote, ended) same = Whole (same ∙ said.status) (Appends-nil out) (subst (λ t. Appends old new (line t)) said.text wrote)
+to_err (Err e) answer (Some (Err message)) status out old new attempts said other (wrote, ended) three = Cut three (inr (Keeps-refl out, subst (λ t. AppendsFront old new (line t)) said.text wrote))
+to_err (Ok x) answer None status out old new attempts said other (wrote, ended) same = Whole (same ∙ said.status) (Appends-nil out) (subst (λ t. Appends old new (line t)) said.text wrote)
+to_err (Err e) answer None status out old new attempts said other (wrote, ended) three = Cut three (inr (Keeps-refl out, subst (λ t. AppendsFront old new (line t)) said.text wrote))
 
 -- what was written to standard output stays where it is flushed
 pub flushed : {answer : Answer} {status : ℕ} {old_out mid_out new_out old_err new_err : Option (List ℕ)}

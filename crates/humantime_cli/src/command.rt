@@ -110,6 +110,7 @@ fn answer_words<O: Stream, E: Stream>(
 }
 
 /// Writes the answer, and gives its status, or the one of a write that failed.
+#[tactic(auto, unfolding(crate::specs::Writes::Writes))]
 fn write_answer<O: Stream, E: Stream>(
     answer: &Answer<'_>,
     out: &mut O,
