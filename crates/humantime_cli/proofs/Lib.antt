@@ -1,6 +1,4 @@
+pub mod AnswerLemmas
 pub mod CallerLemmas
-pub mod DigitLemmas
 pub mod EndsLemmas
-pub mod OneAnswerLemmas
-pub mod TellsLemmas
 pub mod WritesLemmas

@@ -1,24 +1,28 @@
 -- Writing one text after another.
-use Rattle.std.proofs.Common.{arith, ◌≡◌, ℕ, List, [], ◌∷◌, ◌++◌, ◌<◌, ◌+◌, sym, ap, ◌∙◌, take, drop, take-append-drop, subst, length, length-append, get_or}
+use Rattle.std.proofs.Common.{arith, append_assoc, append-nil, ◌≡◌, ℕ, List, [], ◌∷◌, ◌++◌, ◌<◌, ◌+◌, ◌-◌, sym, ap, ◌∙◌, take, drop, take-append-drop, subst, length, length-append, get_or}
 use Rattle.std.proofs.KnownBytes.{Appends-trans}
-use Rattle.std.proofs.Math.Seq.{take-append-add}
-use Rattle.std.proofs.lemmas.List.{drop_more, take-append-le}
+use Rattle.std.proofs.Math.Seq.{take-append-add, take-add}
+use Rattle.std.proofs.lemmas.List.{drop_more, take-append-le, take_rest}
 use Rattle.std.proofs.lemmas.Grind.{flat_map-append}
-use Rattle.std.specs.Prelude.{Option, Result, Ok, Err}
+use Rattle.std.specs.Prelude.{Bool, Option, Result, Ok, Err}
 use Rattle.std.specs.Borrow.{Bor}
 use Rattle.std.specs.Io.KnownBytes.{Appends}
 use Rattle.humantime_cli.specs.Writes.{AppendsFront, Writes, joined, line}
 
--- a front of the first text is a front of both
-pub front_of_first : (old new : Option (List ℕ)) (first second : List ℕ) → AppendsFront old new first → AppendsFront old new (first ++ second)
-front_of_first old new first second (n, before, taken) =
-    (n, omega (arith, before, length-append first second), subst (Appends old new) (sym (take-append-le n first second (omega (arith, before)))) taken)
+-- the first bytes of a text, and then the first of its rest
+pub more_written : (old mid new : Option (List ℕ)) (bytes : List ℕ) (done count : ℕ) → Appends old mid (take done bytes)
+    → Appends mid new (take count (take (length bytes - done) (drop done bytes))) → Appends old new (take (done + count) bytes)
+more_written old mid new bytes done count taken more =
+    let further = ap (λ rest. take done bytes ++ take count rest) (take_rest bytes done) ∙ sym (take-add done count bytes) in
+    subst (Appends old new) further (Appends-trans old mid new _ _ taken more)
 
--- the first text and a front of the second are a front of both
-pub front_of_second : (old mid new : Option (List ℕ)) (first second : List ℕ) → Appends old mid first → AppendsFront mid new second → AppendsFront old new (first ++ second)
-front_of_second old mid new first second taken (n, before, more) =
-    let both : length first + n < length (first ++ second) = omega (arith, before, length-append first second) in
-    (length first + n, both, subst (Appends old new) (sym (take-append-add first second n)) (Appends-trans old mid new first (take n second) taken more))
+-- one text, and a front of the next, are a front of all
+pub front_written : (old mid new : Option (List ℕ)) (first next rest : List ℕ) → Appends old mid first → AppendsFront mid new next
+    → AppendsFront old new (first ++ (next ++ rest))
+front_written old mid new first next rest taken (n, before, more) =
+    let within : n < length (next ++ rest) = omega (arith, before, length-append next rest) in
+    let same = take-append-add first (next ++ rest) n ∙ ap (λ t. first ++ t) (take-append-le n next rest (omega (arith, before))) in
+    (length first + n, omega (arith, within, length-append first (next ++ rest)), subst (Appends old new) (sym same) (Appends-trans old mid new first (take n next) taken more))
 
 -- the first i texts and a front of the next are a front of the line
 pub front_of_line : (old mid new : Option (List ℕ)) (texts : List (Bor (List ℕ))) (i : ℕ) (d : Bor (List ℕ)) → i < length texts
@@ -27,12 +31,12 @@ front_of_line old mid new texts i d within taken more =
     let whole : joined texts ≡ joined (take i texts) ++ ((get_or texts i d).now ++ joined (drop (i + 1) texts)) =
     ap joined (sym (take-append-drop i texts)) ∙ flat_map-append (λ text. text.now) (take i texts) (drop i texts)
     ∙ ap (λ rest. joined (take i texts) ++ joined rest) (drop_more texts i d within) in
-    front_of_first old new (joined texts) (10 ∷ []) (subst (AppendsFront old new) (sym whole)
-    (front_of_second old mid new _ _ taken (front_of_first mid new _ _ more)))
+    rw whole (rw (append_assoc, append_assoc) (front_written old mid new _ _ (joined (drop (i + 1) texts) ++ 10 ∷ []) taken more))
 
 -- a text that is written after another
-pub both_written : {T E : Type 0} (result : Result T E) (old mid new : Option (List ℕ)) (first second : List ℕ)
-    → Appends old mid first → Writes result mid new second → Writes result old new (first ++ second)
+pub both_written : {T E : Type 0} (result : Result T E) (old mid new : Option (List ℕ)) (first second : List ℕ) (attempts : List Bool)
+    → Appends old mid first → Writes result mid new second attempts → Writes result old new (first ++ second) attempts
 unfolding Writes
-both_written (Ok x) old mid new first second taken more = Appends-trans old mid new first second taken more
-both_written (Err e) old mid new first second taken more = front_of_second old mid new first second taken more
+both_written (Ok x) old mid new first second attempts taken (more, ended) = (Appends-trans old mid new first second taken more, ended)
+both_written (Err e) old mid new first second attempts taken (front, ended) =
+    (subst (λ text. AppendsFront old new (first ++ text)) (append-nil second) (front_written old mid new first second [] taken front), ended)

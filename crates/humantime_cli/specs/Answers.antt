@@ -1,5 +1,5 @@
 -- What the program answers to its words.
-use Rattle.std.specs.Prelude.{◌≡◌, ◌≢◌, ◌⊎◌, ℕ, List, [], ◌∷◌, ℤ, Option, Some, codes, chars, map}
+use Rattle.std.specs.Prelude.{◌≡◌, ◌≢◌, ◌⊎◌, ℕ, List, [], ◌∷◌, ℤ, Option, Some, None, Result, Ok, Err, codes, chars, map, if◌then◌else◌, ◌==◌}
 use Rattle.std.specs.Borrow.{Bor}
 use Rattle.std.specs.Io.KnownBytes.{Appends, Keeps}
 use Rattle.humantime.specs.declared.date.error.TimestampError.{TimestampError}
@@ -10,90 +10,80 @@ use Rattle.humantime_cli.specs.Writes.{AppendsFront, line}
 abbrev pub texts : List (Bor (List ℕ)) → List (List ℕ)
 texts words = map (λ word. word.now) words
 
+-- The commands.
+pub data Command : Type 0 where
+  Duration : Command
+  Strict : Command
+  Weak : Command
+
+-- the words that are this command and its text
+abbrev pub words_of : Command → List ℕ → List (List ℕ)
+words_of Duration text = codes "duration" ∷ text ∷ []
+words_of Strict text = codes "strict" ∷ text ∷ []
+words_of Weak text = codes "weak" ∷ text ∷ []
+
+-- what is told of a text's moment: it is printed, with no fraction where its second is whole and else with nine digits,
+-- or else the error's message
+abbrev pub TellsMoment : (ℤ → Type 0) → (TimestampError → Type 0) → Result (List ℕ) (List ℕ) → Type 0
+TellsMoment IsMoment IsError (Ok printed) = (moment : ℤ) × IsMoment moment × IsPrinted moment (places_of moment) printed
+TellsMoment IsMoment IsError (Err message) = (error : TimestampError) × IsError error × (message ≡ timestamp_message error)
+
+-- what a command tells of its text: what it prints, or the message of the first thing that is wrong
+abbrev pub Tells : Command → List ℕ → Result (List ℕ) (List ℕ) → Type 0
+Tells Duration text (Ok printed) = IsCanonicalOf text printed
+Tells Duration text (Err message) = (fault : Fault) × HasFault (chars text) fault × (message ≡ fault_message fault)
+Tells Strict text told = TellsMoment (IsStrictMoment text) (λ error. first_failed (strict_checks text) ≡ Some error) told
+Tells Weak text told = TellsMoment (IsWeakMoment text) (λ error. first_failed (weak_checks text) ≡ Some error) told
+
+-- an answer: what a command tells, or how the program is called
+abbrev pub Answer : Type 0
+Answer = Option (Result (List ℕ) (List ℕ))
+
+-- the answer to the words
+abbrev pub Answers : List (List ℕ) → Answer → Type 0
+Answers words (Some told) = (command : Command) × (text : List ℕ) × (words ≡ words_of command text) × Tells command text told
+Answers words None = (command : Command) (text : List ℕ) → words ≢ words_of command text
+
 -- the line that tells how the program is called
 abbrev pub usage : List ℕ
 usage = codes "usage: humantime duration|strict|weak TEXT"
 
--- the text is this moment, printed with no fraction where its second is whole, and else with nine digits
-abbrev pub IsPrintedMoment : ℤ → List ℕ → Type 0
-IsPrintedMoment moment printed = IsPrinted moment (places_of moment) printed
+-- its status, and its text
+abbrev pub status_of : Answer → ℕ
+status_of (Some (Ok printed)) = 0
+status_of (Some (Err message)) = 1
+status_of None = 2
 
--- What is printed where the text is accepted.
-pub data Prints (words : List (List ℕ)) (printed : List ℕ) : Type 0 where
-  -- the canonical text of a duration
-  Printed_duration : (text : List ℕ)
-      → words ≡ codes "duration" ∷ text ∷ []
-      → IsCanonicalOf text printed
-      → Prints words printed
-  -- the moment that a text in strict form names
-  Printed_strict : (text : List ℕ) (moment : ℤ)
-      → words ≡ codes "strict" ∷ text ∷ []
-      → IsStrictMoment text moment
-      → IsPrintedMoment moment printed
-      → Prints words printed
-  -- and the one that a text in weak form names
-  Printed_weak : (text : List ℕ) (moment : ℤ)
-      → words ≡ codes "weak" ∷ text ∷ []
-      → IsWeakMoment text moment
-      → IsPrintedMoment moment printed
-      → Prints words printed
+abbrev pub text_of : Answer → List ℕ
+text_of (Some (Ok printed)) = printed
+text_of (Some (Err message)) = message
+text_of None = usage
 
--- What is said where the text is refused.
-pub data Refuses (words : List (List ℕ)) (message : List ℕ) : Type 0 where
-  -- the message of a duration's first fault
-  Refused_duration : (text : List ℕ) (fault : Fault)
-      → words ≡ codes "duration" ∷ text ∷ []
-      → HasFault (chars text) fault
-      → message ≡ fault_message fault
-      → Refuses words message
-  -- the message of the first check of the strict form that a text fails
-  Refused_strict : (text : List ℕ) (error : TimestampError)
-      → words ≡ codes "strict" ∷ text ∷ []
-      → first_failed (strict_checks text) ≡ Some error
-      → message ≡ timestamp_message error
-      → Refuses words message
-  -- and of the weak form
-  Refused_weak : (text : List ℕ) (error : TimestampError)
-      → words ≡ codes "weak" ∷ text ∷ []
-      → first_failed (weak_checks text) ≡ Some error
-      → message ≡ timestamp_message error
-      → Refuses words message
+-- the bytes for standard output, and for standard error
+abbrev pub for_out : Answer → List ℕ
+for_out answer = if status_of answer == 0 then line (text_of answer) else []
 
--- the words are no command and its one text
-abbrev pub IsNoCommand : List (List ℕ) → Type 0
-IsNoCommand words =
-    (text : List ℕ)
-    → (words ≢ codes "duration" ∷ text ∷ []) × (words ≢ codes "strict" ∷ text ∷ []) × (words ≢ codes "weak" ∷ text ∷ [])
-
--- The status, and the bytes for standard output and for standard error.
-pub data Answers (words : List (List ℕ)) (status : ℕ) (out err : List ℕ) : Type 0 where
-  -- accepted: the printed text
-  Accepted : (printed : List ℕ) → Prints words printed
-      → status ≡ 0 → out ≡ line printed → err ≡ [] → Answers words status out err
-  -- refused: the message
-  Refused : (message : List ℕ) → Refuses words message
-      → status ≡ 1 → out ≡ [] → err ≡ line message → Answers words status out err
-  -- any other words: how the program is called
-  Misused : IsNoCommand words
-      → status ≡ 2 → out ≡ [] → err ≡ line usage → Answers words status out err
+abbrev pub for_err : Answer → List ℕ
+for_err answer = if status_of answer == 0 then [] else line (text_of answer)
 
 -- no other answer to the words
 abbrev pub OneAnswer : List (List ℕ) → Type 0
-OneAnswer words =
-    (status other : ℕ) (out err out' err' : List ℕ)
-    → Answers words status out err → Answers words other out' err'
-    → (other ≡ status) × (out' ≡ out) × (err' ≡ err)
+OneAnswer words = (answer other : Answer) → Answers words answer → Answers words other → other ≡ answer
 
--- The program's end, and what the two writers took: from old_out to new_out, and from old_err to new_err.
-pub data Ends (words : List (List ℕ)) (status : ℕ) (old_out new_out old_err new_err : Option (List ℕ)) : Type 0 where
+-- How the program ends with an answer, and what the two writers took: from old_out to new_out, and from old_err to new_err.
+pub data EndsWith (answer : Answer) (status : ℕ) (old_out new_out old_err new_err : Option (List ℕ)) : Type 0 where
   -- just the answer
-  Whole : (out err : List ℕ) → Answers words status out err
-      → Appends old_out new_out out → Appends old_err new_err err
-      → Ends words status old_out new_out old_err new_err
+  Whole : status ≡ status_of answer → Appends old_out new_out (for_out answer) → Appends old_err new_err (for_err answer)
+      → EndsWith answer status old_out new_out old_err new_err
   -- a write failed: one writer took a front of the answer, and not all of it, and the other took nothing
-  Cut : (meant : ℕ) (out err : List ℕ) → status ≡ 3 → Answers words meant out err
-      → (AppendsFront old_out new_out out × Keeps old_err new_err) ⊎ (Keeps old_out new_out × AppendsFront old_err new_err err)
-      → Ends words status old_out new_out old_err new_err
+  Cut : status ≡ 3
+      → (AppendsFront old_out new_out (for_out answer) × Keeps old_err new_err) ⊎ (Keeps old_out new_out × AppendsFront old_err new_err (for_err answer))
+      → EndsWith answer status old_out new_out old_err new_err
+
+-- it ends with the answer to the words
+abbrev pub Ends : List (List ℕ) → ℕ → Option (List ℕ) → Option (List ℕ) → Option (List ℕ) → Option (List ℕ) → Type 0
+Ends words status old_out new_out old_err new_err =
+    (answer : Answer) × Answers words answer × EndsWith answer status old_out new_out old_err new_err
 
 -- no status of its own: nothing was written, or the program ended as it has to, and then standard output could not be flushed
 abbrev pub Fails : List (List ℕ) → Option (List ℕ) → Option (List ℕ) → Option (List ℕ) → Option (List ℕ) → Type 0

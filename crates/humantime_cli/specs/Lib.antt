@@ -1,5 +1,5 @@
 pub mod Answers
 pub mod Attempts
 pub mod Chains
-pub mod Commands
+pub mod Says
 pub mod Writes

@@ -1,18 +1,22 @@
 //! What the program does with its words.
 
-ghost use Rattle.std.specs.Prelude.{◌≡◌, ◌∷◌, [], ℕ, List, codes, length, MatchOption, MatchResult, IfOk};
-ghost use Rattle.humantime.specs.Prelude.{IsPrintable};
-ghost use Rattle.humantime_cli.specs.Answers.{texts, Ends, OneAnswer, Prints, Refuses, IsPrintedMoment, IsNoCommand};
-ghost use Rattle.humantime_cli.specs.Attempts.{NoneFailed, Noted, NotedAs};
-ghost use Rattle.humantime_cli.specs.Commands.{words_of, Tells};
-ghost use Rattle.humantime_cli.specs.Writes.{Writes, line};
+ghost use Rattle.std.specs.Prelude.{◌≡◌, ◌≢◌, Some, IfOk, MatchResult};
+ghost use Rattle.std.specs.Result.{result_map_both};
+ghost use Rattle.humantime.specs.Prelude.{IsPrintable, told_text, fault_message};
+ghost use Rattle.humantime_cli.specs.Answers.{texts, Ends, EndsWith, OneAnswer};
+ghost use Rattle.humantime_cli.specs.Answers as program;
+ghost use Rattle.humantime_cli.specs.Says.{Says, SaysMoment};
+ghost use Rattle.humantime_cli.specs.Writes.{joined};
+ghost use Rattle.humantime_cli.specs.Attempts.{NoneFailed, NotedAs};
 
 use crate::command::stream::{Attempts, Stream, WriteFailed};
-use crate::message::{timestamp_message, write_message};
+use crate::message::{alone, message_of_moment, message_of_text};
 use crate::writing::write_line;
 use humantime::{
-    SystemTime, TimestampError, canonical, format_rfc3339, parse_rfc3339, parse_rfc3339_weak,
+    DurationError, SystemTime, TimestampError, canonical, format_rfc3339, parse_rfc3339,
+    parse_rfc3339_weak,
 };
+use itoa::Buffer;
 use std::io::Write;
 
 pub(crate) mod stream;
@@ -29,12 +33,21 @@ const WRITE_FAILED: u8 = 3;
 
 const USAGE: &str = "usage: humantime duration|strict|weak TEXT";
 
-/// A command and its text.
-#[derive(Clone, Copy, PartialEq, Debug)]
-enum Command<'a> {
-    Duration(&'a str),
-    Strict(&'a str),
-    Weak(&'a str),
+/// An answer: its status, and its line in pieces, which is for `out` with status 0 and else for `err`.
+#[derive(Clone, Copy)]
+struct Answer<'a> {
+    status: u8,
+    pieces: [&'a str; 5],
+}
+
+impl<'a> Answer<'a> {
+    fn new(status: u8, text: &'a str) -> Answer<'a>
+        ensures status { result.status ≡ status }
+        ensures text { joined result.pieces ≡ text.now }
+    {
+        let pieces = alone(text);
+        Answer { status, pieces }
+    }
 }
 
 /// Answers the words after the program's name, and gives the status with which the program ends.
@@ -68,69 +81,51 @@ fn answer_words<O: Stream, E: Stream>(
     ensures ends { Ends (texts words.now) result (O.contents out.old) (O.contents out.new) (E.contents err.old) (E.contents err.new) }
     ensures noted { NotedAs result attempts.new }
 {
-    match command_of(words) {
-        Some(Command::Duration(text)) => answer_duration(text, out, err, attempts),
-        Some(Command::Strict(text)) => answer_moment(parse_rfc3339(text), out, err, attempts),
-        Some(Command::Weak(text)) => answer_moment(parse_rfc3339_weak(text), out, err, attempts),
-        None => status_of(write_line(err, &[USAGE], attempts), MISUSED),
+    match words {
+        ["duration", text] => {
+            let (mut room, mut digits) = ([0; 64], Buffer::new());
+            let answer = duration_answer(canonical(text, &mut room), &mut digits);
+            write_answer(&answer, out, err, attempts)
+        }
+        ["strict", text] => {
+            let mut room = [0; 30];
+            write_answer(
+                &moment_answer(parse_rfc3339(text), &mut room),
+                out,
+                err,
+                attempts,
+            )
+        }
+        ["weak", text] => {
+            let mut room = [0; 30];
+            write_answer(
+                &moment_answer(parse_rfc3339_weak(text), &mut room),
+                out,
+                err,
+                attempts,
+            )
+        }
+        _ => write_answer(&Answer::new(MISUSED, USAGE), out, err, attempts),
     }
 }
 
-/// The command that the words are, if they are one.
-fn command_of<'a>(words: &[&'a str]) -> Option<Command<'a>>
-    ensures { MatchOption result (IsNoCommand (texts words.now)) (λ command. texts words.now ≡ words_of command) }
-{
-    let [name, text] = words else {
-        return None;
-    };
-    match *name {
-        "duration" => Some(Command::Duration(text)),
-        "strict" => Some(Command::Strict(text)),
-        "weak" => Some(Command::Weak(text)),
-        _ => None,
-    }
-}
-
-/// Prints the duration that the text stands for, or says what is wrong with it.
-fn answer_duration<O: Stream, E: Stream>(
-    text: &str,
+/// Writes the answer, and gives its status, or the one of a write that failed.
+#[tactic(auto, unfolding(crate::specs::Writes::Writes))]
+fn write_answer<O: Stream, E: Stream>(
+    answer: &Answer<'_>,
     out: &mut O,
     err: &mut E,
     attempts: &mut Attempts,
 ) -> u8
     requires { NoneFailed attempts.old }
-    ensures noted { NotedAs result attempts.new }
-    ensures ends { Ends (codes "duration" ∷ text.now ∷ []) result (O.contents out.old) (O.contents out.new) (E.contents err.old) (E.contents err.new) }
+    ensures ends { (told : program.Answer) → Says answer.now told
+        → EndsWith told result (O.contents out.old) (O.contents out.new) (E.contents err.old) (E.contents err.new) }
+    ensures noted { answer.now.status ≢ 3 → NotedAs result attempts.new }
 {
-    match canonical(text, &mut [0; 64]) {
-        Ok(printed) => status_of(write_line(out, &[printed], attempts), ACCEPTED),
-        Err(error) => status_of(write_message(err, error, attempts), REFUSED),
+    if answer.status == ACCEPTED {
+        return status_of(write_line(out, &answer.pieces, attempts), answer.status);
     }
-}
-
-/// Prints the moment that was read, or says what is wrong with its text.
-fn answer_moment<O: Stream, E: Stream>(
-    read: Result<SystemTime, TimestampError>,
-    out: &mut O,
-    err: &mut E,
-    attempts: &mut Attempts,
-) -> u8
-    requires printable { IfOk read IsPrintable }
-    requires going { NoneFailed attempts.old }
-    ensures noted { NotedAs result attempts.new }
-    ensures ends { (words : List (List ℕ)) → Tells words read
-        → Ends words result (O.contents out.old) (O.contents out.new) (E.contents err.old) (E.contents err.new) }
-{
-    match read {
-        Ok(moment) => match format_rfc3339(moment).text(&mut [0; 30]) {
-            Some(printed) => status_of(write_line(out, &[printed], attempts), ACCEPTED),
-            None => unreachable!(),
-        },
-        Err(error) => status_of(
-            write_line(err, &[timestamp_message(error)], attempts),
-            REFUSED,
-        ),
-    }
+    status_of(write_line(err, &answer.pieces, attempts), answer.status)
 }
 
 /// The status, if all was written.
@@ -140,5 +135,35 @@ fn status_of(written: Result<(), WriteFailed>, status: u8) -> u8
     match written {
         Ok(()) => status,
         Err(WriteFailed) => WRITE_FAILED,
+    }
+}
+
+/// The answer to a duration that was read: it is printed, or what is wrong with its text is said.
+fn duration_answer<'t: 'a, 'a>(
+    read: Result<&'a str, DurationError<'t>>,
+    digits: &'a mut Buffer,
+) -> Answer<'a>
+    ensures { Says result (Some (result_map_both (λ text. text) fault_message (told_text read.entry))) }
+{
+    match read {
+        Ok(printed) => Answer::new(ACCEPTED, printed),
+        Err(error) => Answer {
+            status: REFUSED,
+            pieces: message_of_text(error, digits),
+        },
+    }
+}
+
+/// The answer to a moment that was read: it is printed, or what is wrong with its text is said.
+fn moment_answer<'a>(read: Result<SystemTime, TimestampError>, room: &'a mut [u8; 30]) -> Answer<'a>
+    requires { IfOk read IsPrintable }
+    ensures { SaysMoment read result }
+{
+    match read {
+        Ok(moment) => match format_rfc3339(moment).text(room) {
+            Some(printed) => Answer::new(ACCEPTED, printed),
+            None => unreachable!(),
+        },
+        Err(error) => Answer::new(REFUSED, message_of_moment(error)),
     }
 }

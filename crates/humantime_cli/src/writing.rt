@@ -1,6 +1,6 @@
 //! Writing to a stream that may take its bytes bit by bit.
 
-ghost use Rattle.humantime_cli.specs.Attempts.{NoneFailed, Noted};
+ghost use Rattle.humantime_cli.specs.Attempts.{NoneFailed};
 ghost use Rattle.humantime_cli.specs.Writes.{Writes, line, joined};
 
 use crate::command::stream::{Attempts, Stream, WriteFailed};
@@ -13,8 +13,7 @@ pub(crate) fn write_line<W: Stream>(
     attempts: &mut Attempts,
 ) -> Result<(), WriteFailed>
     requires { NoneFailed attempts.old }
-    ensures written { Writes result (W.contents to.old) (W.contents to.new) (line (joined texts.now)) }
-    ensures noted { Noted result attempts.new }
+    ensures { Writes result (W.contents to.old) (W.contents to.new) (line (joined texts.now)) attempts.new }
 {
     for text in texts {
         write_all(to, text.as_bytes(), attempts)?;
@@ -30,8 +29,7 @@ fn write_all<W: Stream>(
     attempts: &mut Attempts,
 ) -> Result<(), WriteFailed>
     requires { NoneFailed attempts.old }
-    ensures written { Writes result (W.contents to.old) (W.contents to.new) bytes.now }
-    ensures noted { Noted result attempts.new }
+    ensures { Writes result (W.contents to.old) (W.contents to.new) bytes.now attempts.new }
 {
     let mut done = 0;
     while done < bytes.len() {

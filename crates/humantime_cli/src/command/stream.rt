@@ -1,9 +1,8 @@
 //! Streams that are written to one attempt at a time, and what was attempted.
 
-ghost use Rattle.std.specs.Prelude.{◌≡◌, ◌<◌, [], ◌∷◌, ℕ, List, Option, IfOk};
-ghost use Rattle.std.specs.Io.{WritesAtMost};
-ghost use Rattle.std.specs.Io.KnownBytes.{WriteAppends};
-ghost use Rattle.humantime_cli.specs.Attempts.{NoneFailed, Noted};
+ghost use Rattle.std.specs.Prelude.{◌≡◌, [], ◌∷◌, ℕ, List, Option};
+ghost use Rattle.humantime_cli.specs.Attempts.{NoneFailed};
+ghost use Rattle.humantime_cli.specs.Writes.{Takes};
 
 use std::io::Write;
 use std::marker::Model;
@@ -67,10 +66,7 @@ pub(crate) trait Stream {
     /// Writes some of the bytes, once, and gives their number, which is not 0.
     fn attempt(&mut self, bytes: &[u8], attempts: &mut Attempts) -> Result<usize, WriteFailed>
         requires { NoneFailed attempts.old }
-        ensures bound { WritesAtMost result bytes.now }
-        ensures bytes { WriteAppends (contents self.old) (contents self.new) result bytes.now }
-        ensures some { IfOk result (λ count. 0 < count) }
-        ensures noted { Noted result attempts.new };
+        ensures { Takes result (contents self.old) (contents self.new) bytes.now attempts.new };
 }
 
 impl<W: Write> Stream for W {

@@ -1,31 +1,40 @@
-use Rattle.std.proofs.Common.{ap, ◌∙◌}
-use Rattle.humantime.specs.Prelude.{IsWeakMoment, IsStrictMoment}
+use Rattle.std.proofs.Common.{arith, rules}
+use Rattle.std.proofs.lemmas.Grind.{common_steps}
+use Rattle.std.specs.Prelude.{Some, None}
 use Rattle.humantime.proofs.Theorems.{weak_printable, strict_printable}
-use Rattle.humantime_cli.specs.Commands.{words_of}
-use Rattle.humantime_cli.proofs.EndsLemmas.{misused, same_words}
-use Rattle.humantime_cli.proofs.TellsLemmas.{strict_tells, weak_tells, read_printable}
+use Rattle.humantime_cli.specs.Answers.{Duration, Strict, Weak, Answers, texts}
+use Rattle.humantime_cli.proofs.AnswerLemmas.{tells_duration, tells_moment, each_read, not_two, unnamed}
 use Rattle.humantime_cli.proofs.command.answer_words.Goals as goal
+use Rattle.humantime_cli.proofs.command.answer_words.Goals.{in_default-via-then-words-lt2, in_default-via-else-words-lt2+then-words-lt3+in_default, in_default-via-else-words-lt2+else-words-lt3}
 
-pub answer_moment-requires-clause-printable : goal.answer_moment-requires-clause-printable
-answer_moment-requires-clause-printable g c = read_printable (IsStrictMoment c.in-Some-Strict.text.now) _ c.parse_rfc3339.ensures.value (strict_printable c.in-Some-Strict.text.now)
+pub moment_answer-requires : goal.moment_answer-requires
+moment_answer-requires g c = each_read _ c.parse_rfc3339.ensures.value (strict_printable _)
 
-pub answer_moment-requires-in-Some-Weak-clause-printable : goal.answer_moment-requires-in-Some-Weak-clause-printable
-answer_moment-requires-in-Some-Weak-clause-printable g c = read_printable (IsWeakMoment c.in-Some-Weak.text.now) _ c.parse_rfc3339_weak.ensures.value (weak_printable c.in-Some-Weak.text.now)
+pub moment_answer-requires-in-weak : goal.moment_answer-requires-in-weak
+moment_answer-requires-in-weak g c = each_read _ c.parse_rfc3339_weak.ensures.value (weak_printable _)
 
-pub returns-in-Some-Duration-clause-ends : goal.returns-in-Some-Duration-clause-ends
-returns-in-Some-Duration-clause-ends g c =
-    let words = c.in-Some-Duration.ensures ∙ ap words_of c.in-Some-Duration.field-0-is in
-    same_words _ _ _ _ _ _ _ words c.answer_duration.ensures.ends
+pub returns-in-duration-clause-ends : goal.returns-in-duration-clause-ends
+returns-in-duration-clause-ends g c =
+    let tells = tells_duration _ _ c.canonical.ensures.text c.canonical.ensures.fault in
+    (_, (Duration, _, grind (arith, common_steps), tells), c.write_answer.ensures.ends _ c.duration_answer-answer.ensures)
 
-pub returns-in-Some-Strict-clause-ends : goal.returns-in-Some-Strict-clause-ends
-returns-in-Some-Strict-clause-ends g c =
-    let words = c.in-Some-Strict.ensures ∙ ap words_of c.in-Some-Strict.field-0-is in
-    c.answer_moment.ensures.ends _ (strict_tells _ c.in-Some-Strict.text.now _ words c.parse_rfc3339.ensures.value c.parse_rfc3339.ensures.error)
+pub returns-in-strict-clause-ends : goal.returns-in-strict-clause-ends
+returns-in-strict-clause-ends g c =
+    let said = c.moment_answer.ensures in
+    let tells = tells_moment said.0 (λ t. (c.parse_rfc3339.ensures.value t).0) (λ e. (c.parse_rfc3339.ensures.error e).0) said.2 in
+    (Some said.0, (Strict, _, grind (arith, common_steps), tells), c.write_answer-in-strict.ensures.ends (Some said.0) said.1)
 
-pub returns-in-Some-Weak-clause-ends : goal.returns-in-Some-Weak-clause-ends
-returns-in-Some-Weak-clause-ends g c =
-    let words = c.in-Some-Weak.ensures ∙ ap words_of c.in-Some-Weak.field-0-is in
-    c.answer_moment-in-Some-Weak.ensures.ends _ (weak_tells _ c.in-Some-Weak.text.now _ words c.parse_rfc3339_weak.ensures.value c.parse_rfc3339_weak.ensures.error)
+pub returns-in-weak-clause-ends : goal.returns-in-weak-clause-ends
+returns-in-weak-clause-ends g c =
+    let said = c.moment_answer-in-weak.ensures in
+    let tells = tells_moment said.0 (λ t. (c.parse_rfc3339_weak.ensures.value t).0) (λ e. (c.parse_rfc3339_weak.ensures.error e).0) said.2 in
+    (Some said.0, (Weak, _, grind (arith, common_steps), tells), c.write_answer-in-weak.ensures.ends (Some said.0) said.1)
 
-pub returns-in-None-clause-ends : goal.returns-in-None-clause-ends
-returns-in-None-clause-ends g c = misused _ _ _ _ _ _ c.in-None.ensures c.write_line.ensures.written c.status_of.ensures
+pub returns-in_default-clause-ends : goal.returns-in_default-clause-ends
+returns-in_default-clause-ends g c =
+    let none : Answers (texts c.args.words.now) None = elim c.in_default.branch [
+      | in_default-via-then-words-lt2 w ↦ not_two (texts c.args.words.now) (grind (arith, common_steps))
+      | in_default-via-else-words-lt2+then-words-lt3+in_default w ↦ grind (arith, common_steps, unnamed)
+      | in_default-via-else-words-lt2+else-words-lt3 w ↦ not_two (texts c.args.words.now) (grind (arith, common_steps, w))
+    ] in
+    (None, none, c.write_answer-in_default.ensures.ends None (search rules))

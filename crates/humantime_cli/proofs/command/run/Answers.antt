@@ -1,4 +1,4 @@
-use Rattle.humantime_cli.proofs.OneAnswerLemmas.{one_answer}
+use Rattle.humantime_cli.proofs.AnswerLemmas.{one_answer}
 use Rattle.humantime_cli.proofs.command.run.Goals as goal
 
 pub returns-clause-one : goal.returns-clause-one

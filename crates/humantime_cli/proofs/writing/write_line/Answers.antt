@@ -6,13 +6,14 @@ use Rattle.humantime_cli.specs.Writes.{Writes, AppendsFront, joined}
 use Rattle.humantime_cli.proofs.WritesLemmas.{front_of_line, both_written}
 use Rattle.humantime_cli.proofs.writing.write_line.Goals as goal
 
-pub returns-in_err-write_all-clause-written : goal.returns-in_err-write_all-clause-written
+pub returns-in_err-write_all : goal.returns-in_err-write_all
 unfolding Writes
-returns-in_err-write_all-clause-written g c =
-    let front = subst (AppendsFront _ _) c.as_bytes.ensures.value c.in_err-write_all.ensures.written in
-    MatchResult-from_err _ _ _ c.from_residual.ensures.0 (λ _. (front_of_line _ _ _ c.args.texts.now c.loop-text.text-index _ c.loop-text-test.true c.loop-text.invariant.0 front))
+returns-in_err-write_all g c =
+    let front = subst (AppendsFront _ _) c.as_bytes.ensures.value c.in_err-write_all.ensures.0 in
+    let line = front_of_line _ _ _ c.args.texts.now c.loop-text.text-index _ c.loop-text-test.true c.loop-text.invariant.0 front in
+    MatchResult-from_err _ _ _ c.from_residual.ensures.0 (λ _. (line, c.in_err-write_all.ensures.1))
 
-pub returns-clause-written : goal.returns-clause-written
-returns-clause-written g c =
+pub returns : goal.returns
+returns g c =
     let all = ap joined (take_all c.loop-text.text-index c.args.texts.now c.loop-text-test.false) in
-    both_written _ _ _ _ _ _ (subst (Appends _ _) all c.loop-text.invariant.0) c.write_all-2.ensures.written
+    both_written _ _ _ _ _ _ _ (subst (Appends _ _) all c.loop-text.invariant.0) c.write_all-2.ensures

@@ -1,0 +1,75 @@
+-- What the library's answers tell, and that the words have one answer.
+use Rattle.std.proofs.Common.{◌≡◌, ◌≢◌, ◌↔◌, ℕ, List, [], ◌∷◌, length, ap, sym, ◌∙◌, refl}
+use Rattle.std.specs.Prelude.{ℤ, Option, None, Some, Result, Ok, Err, chars, codes, IfOk, unwrap_or, if◌then◌else◌, ◌==◌}
+use Rattle.std.specs.Result.{result_map_both}
+use Rattle.humantime.specs.declared.date.error.TimestampError.{TimestampError}
+use Rattle.humantime.specs.Prelude.{Fault, HasFault, IsCanonicalOf, IsPrintable, fault_message, timestamp_message, canonical_answer, strict_answer, weak_answer, places_of, shortest_text}
+use Rattle.humantime.proofs.Theorems.{canonical_again, one_stamp_outcome, printed_moment_reads, places_of_bound, strict_printable, weak_printable}
+use Rattle.humantime_cli.specs.Answers.{Answers, OneAnswer, Tells, TellsMoment, Command, Duration, Strict, Weak, words_of}
+
+-- a canonical text or a fault, as the command for durations tells it
+pub tells_duration : (text : List ℕ) (read : Result (List ℕ) Fault) → ((t : List ℕ) → (read ≡ Ok t) ↔ IsCanonicalOf text t)
+    → ((e : Fault) → (read ≡ Err e) ↔ HasFault (chars text) e) → Tells Duration text (result_map_both (λ t. t) fault_message read)
+tells_duration text (Ok printed) canonical fault = (canonical printed).0 refl
+tells_duration text (Err e) canonical fault = (e, (fault e).0 refl, refl)
+
+-- what is told of one moment or error is told of each that is implied
+pub tells_moment : {P Q : ℤ → Type 0} {F G : TimestampError → Type 0} (told : Result (List ℕ) (List ℕ)) → ((t : ℤ) → P t → Q t) → ((e : TimestampError) → F e → G e)
+    → TellsMoment P F told → TellsMoment Q G told
+tells_moment (Ok printed) value error (t, is, whole) = (t, value t is, whole)
+tells_moment (Err message) value error (e, is, whole) = (e, error e is, whole)
+
+-- what was read is one of what may be read
+pub each_read : {T E : Type 0} {P Q : T → Type 0} (read : Result T E) → ((t : T) → (read ≡ Ok t) ↔ P t) → ((t : T) → P t → Q t) → IfOk read Q
+each_read (Ok t) value all = all t ((value t).0 refl)
+each_read (Err e) value all = tt
+
+-- what is no two words is no command and its text
+pub not_two : (words : List (List ℕ)) → length words ≢ 2 → Answers words None
+not_two words other Duration text same = other (ap length same)
+not_two words other Strict text same = other (ap length same)
+not_two words other Weak text same = other (ap length same)
+
+-- nor are two of which the first is no command's name
+pub unnamed : (name : List ℕ) {text : List ℕ} → name ≢ codes "duration" → name ≢ codes "strict" → name ≢ codes "weak" → Answers (name ∷ text ∷ []) None
+unnamed name duration strict weak Duration text same = duration (cc)
+unnamed name duration strict weak Strict text same = strict (cc)
+unnamed name duration strict weak Weak text same = weak (cc)
+
+-- what is told of a moment that was read, as a function
+abbrev moment_told : Result ℤ TimestampError → Result (List ℕ) (List ℕ)
+moment_told read = result_map_both (λ t. unwrap_or (shortest_text t) []) timestamp_message read
+
+one_moment : (read : Result ℤ TimestampError) (told : Result (List ℕ) (List ℕ))
+    → TellsMoment (λ t. (read ≡ Ok t) × IsPrintable t) (λ e. read ≡ Err e) told → told ≡ moment_told read
+one_moment read (Ok printed) (t, (is, within), whole) =
+    let shown = ((printed_moment_reads t (places_of t) (places_of_bound t)).displayed printed).1 (within, whole) in
+    ap (λ o. Ok (unwrap_or o [])) (sym shown) ∙ ap moment_told (sym is)
+one_moment read (Err message) (e, is, same) = ap Err same ∙ ap moment_told (sym is)
+
+-- and of words, by the first byte of their command
+abbrev words_told : List (List ℕ) → Result (List ℕ) (List ℕ)
+words_told ((b ∷ name) ∷ text ∷ words) =
+    if b == 100 then result_map_both (λ t. t) fault_message (canonical_answer (chars text))
+    else (if b == 115 then moment_told (strict_answer text) else moment_told (weak_answer text))
+words_told words = Err []
+
+one_told : (command : Command) (text : List ℕ) (told : Result (List ℕ) (List ℕ)) → Tells command text told → told ≡ words_told (words_of command text)
+one_told Duration text (Ok printed) is = ap (result_map_both (λ t. t) fault_message) (sym (((canonical_again text).text printed).1 is))
+one_told Duration text (Err message) (fault, has, same) =
+    ap Err same ∙ ap (result_map_both (λ t. t) fault_message) (sym (((canonical_again text).fault fault).1 has))
+one_told Strict text told tells =
+    let one = one_stamp_outcome text in
+    one_moment (strict_answer text) told (tells_moment told (λ t is. ((one.strict_value t).1 is, strict_printable text t is)) (λ e. (one.strict_error e).1) tells)
+one_told Weak text told tells =
+    let one = one_stamp_outcome text in
+    one_moment (weak_answer text) told (tells_moment told (λ t is. ((one.weak_value t).1 is, weak_printable text t is)) (λ e. (one.weak_error e).1) tells)
+
+told_of : (words : List (List ℕ)) (told : Result (List ℕ) (List ℕ)) → Answers words (Some told) → told ≡ words_told words
+told_of words told (command, text, same, tells) = one_told command text told tells ∙ ap words_told (sym same)
+
+pub one_answer : (words : List (List ℕ)) → OneAnswer words
+one_answer words (Some told) (Some other) answers also = ap Some (told_of words other also ∙ sym (told_of words told answers))
+one_answer words (Some told) None (command, text, same, tells) none = absurd (none command text same)
+one_answer words None (Some told) none (command, text, same, tells) = absurd (none command text same)
+one_answer words None None none also = refl
