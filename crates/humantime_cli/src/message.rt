@@ -19,7 +19,7 @@ pub(crate) fn message_of_text<'t: 'a, 'a>(
             ["invalid character at ", digits.format(at), "", "", ""]
         }
         DurationError::NumberExpected(at) => ["expected number at ", digits.format(at), "", "", ""],
-        DurationError::UnknownUnit { unit, value, .. } => unit_message(unit, value, digits),
+        DurationError::UnknownUnit { unit, value, .. } => message_of_unit(unit, value, digits),
         DurationError::NumberOverflow => alone(
             "number is too large or cannot be represented without a lack of precision (values below 1ns are not supported)",
         ),
@@ -28,7 +28,7 @@ pub(crate) fn message_of_text<'t: 'a, 'a>(
 }
 
 /// What is said of a unit that is missing or no unit's word. `value` is the number before it.
-fn unit_message<'a>(unit: &'a str, value: u64, digits: &'a mut Buffer) -> [&'a str; 5]
+fn message_of_unit<'a>(unit: &'a str, value: u64, digits: &'a mut Buffer) -> [&'a str; 5]
     ensures { joined result ≡ unit_message unit.now value }
 {
     if unit.is_empty() {

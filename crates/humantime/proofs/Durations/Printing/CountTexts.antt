@@ -1,6 +1,6 @@
 -- A text written count by count is the counts' text.
 use Rattle.std.proofs.lemmas.Grind.{common_steps}
-use Rattle.std.proofs.Common.{◌≡◌, inl, inr, true, false, ℕ, ◌/◌, ◌%◌, ◌<◌, ◌^◌, List, [], ◌∷◌, ◌++◌, length, refl, ap, sym, ◌∙◌, arith, cond, rules}
+use Rattle.std.proofs.Common.{◌≡◌, inl, inr, cond, ℕ, ◌/◌, ◌%◌, ◌<◌, List, [], ◌∷◌, ◌++◌, length, refl, ap, sym, ◌∙◌, arith, rules}
 use Rattle.std.specs.Prelude.{map, nat_lt}
 use Rattle.std.specs.List.{AllByRecursion, filter, zip, join_with_byte}
 use Rattle.std.proofs.lemmas.Bool.{cases_Bool}
@@ -9,8 +9,7 @@ use Rattle.std.proofs.lemmas.List.{append_assoc, length-append}
 use Rattle.humantime.specs.Values.{nanos_per_micro, nanos_per_milli, nanos_per_second, seconds_per_minute, seconds_per_hour, seconds_per_day, seconds_per_month, seconds_per_year}
 use Rattle.humantime.specs.References.Durations.Printing.{divided, duration_text, separated, with_count, with_seconds, with_nanos, or_zero, written_text}
 use Rattle.humantime.specs.Durations.Counts.{Suffix, weights, suffixes, printed_count, joined_by_space}
-use Rattle.humantime.proofs.Durations.Printing.PrintedRows.{space, table, most}
-use Rattle.humantime.proofs.Durations.Printing.PrintedSpans.{IsCount, rows}
+use Rattle.humantime.proofs.Durations.Printing.PrintedRows.{space}
 
 -- counts behind a text, one by one
 abbrev with_counts : List ℕ → List (ℕ × Suffix) → List ℕ

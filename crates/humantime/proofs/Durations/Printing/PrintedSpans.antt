@@ -1,6 +1,6 @@
 -- A printed text is spans within all limits, which add up to its duration.
 use Rattle.std.proofs.lemmas.Grind.{common_steps}
-use Rattle.std.proofs.Common.{◌≡◌, inl, inr, ℕ, ◌+◌, ◌*◌, ◌/◌, ◌%◌, ◌^◌, ◌<◌, ◌≤◌, false, List, [], ◌∷◌, ◌++◌, None, Some, refl, ap, subst, ◌∙◌, arith, rules}
+use Rattle.std.proofs.Common.{◌≡◌, inl, inr, ℕ, ◌+◌, ◌*◌, ◌/◌, ◌%◌, ◌^◌, ◌<◌, ◌≤◌, false, List, [], ◌∷◌, ◌++◌, None, Some, ap, refl, subst, ◌∙◌, arith, rules}
 use Rattle.std.specs.Prelude.{IsAscii, codes, decimal, chars, map, nat_lt}
 use Rattle.std.specs.Str.{IsUtf8}
 use Rattle.std.specs.List.{AllByRecursion, filter, join_with_byte}
@@ -17,8 +17,8 @@ use Rattle.humantime.specs.Durations.Units.{Addition, Nanos, Seconds, Scale, sca
 use Rattle.humantime.specs.Durations.Spans.{Span, Only, Spells, SpellsEach, Reads}
 use Rattle.humantime.specs.Durations.Accepted.{addition_nanos, amount, times, total, additions, value, Formed, Fits, Accepted, Sum_of}
 use Rattle.humantime.specs.References.Durations.Reading.{additions_of}
-use Rattle.humantime.specs.Durations.Counts.{Suffix, weights, suffixes, printed_count, joined_by_space, Canon}
-use Rattle.humantime.specs.References.Durations.Printing.{without_plural, divided, duration_text}
+use Rattle.humantime.specs.Durations.Counts.{Suffix, printed_count, joined_by_space, Canon}
+use Rattle.humantime.specs.References.Durations.Printing.{without_plural, duration_text}
 use Rattle.humantime.proofs.Durations.Reading.Spellings.{spells-append}
 use Rattle.humantime.proofs.Durations.Reading.Settled.{value-cons}
 use Rattle.humantime.proofs.Durations.Laws.JoinedTexts.{each-append}
