@@ -2,7 +2,6 @@
 
 ghost use Rattle.std.specs.Prelude.{◌≡◌, ◌≤◌, ◌^◌};
 ghost use Rattle.humantime.specs.Durations.Spans.{Span};
-ghost use Rattle.humantime.specs.Durations.Accepted.{amount};
 ghost use Rattle.humantime.specs.References.Durations.Adding.{add_times, part_of, add_part};
 ghost use Rattle.humantime.specs.References.Durations.Reading.{add_span};
 ghost use Rattle.humantime.specs.References.Durations.Scales.{scale_of, IsAmountOf};
@@ -14,31 +13,21 @@ use crate::value::StdDuration;
 /// The greatest number whose product with 10^9 fits `u64`.
 const MOST_BEFORE_NINE_ZEROS: u64 = 18_446_744_073;
 
-/// How much one of the unit is: nanoseconds up to the millisecond, and seconds from the second on.
-fn size_of(unit: Unit) -> u64
-    ensures { result ≡ amount (scale_of unit).one }
-{
-    match unit {
-        Unit::Nanosecond | Unit::Second => 1,
-        Unit::Microsecond => sizes::NANOS_PER_MICRO,
-        Unit::Millisecond => sizes::NANOS_PER_MILLI,
-        Unit::Minute => sizes::SECONDS_PER_MINUTE,
-        Unit::Hour => sizes::SECONDS_PER_HOUR,
-        Unit::Day => sizes::SECONDS_PER_DAY,
-        Unit::Week => sizes::SECONDS_PER_WEEK,
-        Unit::Month => sizes::SECONDS_PER_MONTH,
-        Unit::Year => sizes::SECONDS_PER_YEAR,
-    }
-}
-
 /// The duration and so many of the unit.
 fn add_whole(total: StdDuration, value: u64, unit: Unit) -> Option<StdDuration>
     ensures { result ≡ add_times total (scale_of unit).one value }
 {
-    let amount = value.checked_mul(size_of(unit))?;
     match unit {
-        Unit::Nanosecond | Unit::Microsecond | Unit::Millisecond => total.checked_add_nanos(amount),
-        _ => total.checked_add_secs(amount),
+        Unit::Nanosecond => total.checked_add_nanos(value),
+        Unit::Microsecond => total.checked_add_nanos(value.checked_mul(sizes::NANOS_PER_MICRO)?),
+        Unit::Millisecond => total.checked_add_nanos(value.checked_mul(sizes::NANOS_PER_MILLI)?),
+        Unit::Second => total.checked_add_secs(value),
+        Unit::Minute => total.checked_add_secs(value.checked_mul(sizes::SECONDS_PER_MINUTE)?),
+        Unit::Hour => total.checked_add_secs(value.checked_mul(sizes::SECONDS_PER_HOUR)?),
+        Unit::Day => total.checked_add_secs(value.checked_mul(sizes::SECONDS_PER_DAY)?),
+        Unit::Week => total.checked_add_secs(value.checked_mul(sizes::SECONDS_PER_WEEK)?),
+        Unit::Month => total.checked_add_secs(value.checked_mul(sizes::SECONDS_PER_MONTH)?),
+        Unit::Year => total.checked_add_secs(value.checked_mul(sizes::SECONDS_PER_YEAR)?),
     }
 }
 
@@ -77,7 +66,11 @@ fn add_fraction(total: StdDuration, fraction: Fraction, unit: Unit) -> Option<St
         Unit::Millisecond => total.checked_add_nanos(part_of_power(fraction, 6)?),
         Unit::Second => total.checked_add_nanos(part_of_power(fraction, 9)?),
         Unit::Minute => total.checked_add_nanos(part_of(fraction, sizes::NANOS_PER_MINUTE)?),
-        _ => total.checked_add_secs(part_of(fraction, size_of(unit))?),
+        Unit::Hour => total.checked_add_secs(part_of(fraction, sizes::SECONDS_PER_HOUR)?),
+        Unit::Day => total.checked_add_secs(part_of(fraction, sizes::SECONDS_PER_DAY)?),
+        Unit::Week => total.checked_add_secs(part_of(fraction, sizes::SECONDS_PER_WEEK)?),
+        Unit::Month => total.checked_add_secs(part_of(fraction, sizes::SECONDS_PER_MONTH)?),
+        Unit::Year => total.checked_add_secs(part_of(fraction, sizes::SECONDS_PER_YEAR)?),
     }
 }
 
