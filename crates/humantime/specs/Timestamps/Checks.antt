@@ -1,30 +1,43 @@
 -- The checks on a timestamp's bytes, in their order, each with the error of a text that fails it; and the errors' messages.
-use Rattle.std.specs.Prelude.{ℕ, Bool, ◌&&◌, ◌||◌, ◌==◌, nat_le, nat_eq, if◌then◌else◌, Option, Some, None, List, [], ◌∷◌, length, drop, slice_index, slice_range, codes, true}
+use Rattle.std.specs.Prelude.{ℕ, ◌-◌, Bool, ◌&&◌, ◌||◌, ◌==◌, nat_le, nat_eq, if◌then◌else◌, Option, Some, None, List, [], ◌∷◌, length, take, drop, slice_index, slice_range, codes}
 use Rattle.std.specs.Char.{is_ascii_digit}
 use Rattle.std.specs.List.{list_all, ends_with}
-use Rattle.std.specs.Str.{byte, bytes_eq}
-use Rattle.humantime.specs.Durations.Characters.{decimal_value, past}
+use Rattle.std.specs.Str.{byte, all_ascii_digits}
+use Rattle.humantime.specs.Durations.Characters.{decimal_value}
 use Rattle.humantime.specs.declared.date.error.TimestampError.{TimestampError}
 use Rattle.humantime.specs.declared.date.error.TimestampError.TheVariants.{OutOfRange, InvalidDigit, InvalidFormat}
+use Rattle.humantime.specs.declared.date.parse.Numbers.{Numbers}
 use Rattle.humantime.specs.Calendar.{is_valid}
+use Rattle.humantime.specs.Timestamps.Fields.{Zone, No_zone, Letter_Z, Zero_offset, zone_text}
 
--- nothing, `Z` or `+00:00`
-abbrev pub is_zone : List ℕ → Bool
-is_zone b = bytes_eq b [] || bytes_eq b (codes "Z") || bytes_eq b (codes "+00:00")
+-- whether this zone stands at the end
+abbrev pub ends_in : Zone → List ℕ → Bool
+ends_in z b = ends_with nat_eq b (zone_text z)
 
 -- `Z` or `+00:00` at the end
 abbrev pub ends_in_zone : List ℕ → Bool
-ends_in_zone b = ends_with nat_eq b (codes "Z") || ends_with nat_eq b (codes "+00:00")
+ends_in_zone b = ends_in Letter_Z b || ends_in Zero_offset b
+
+-- the zone at the end
+unfoldable pub zone_of : List ℕ → Zone
+zone_of b = if ends_in Letter_Z b then Letter_Z else (if ends_in Zero_offset b then Zero_offset else No_zone)
+
+-- what stands before the zone
+abbrev pub before_zone : List ℕ → List ℕ
+before_zone b = take (length b - length (zone_text (zone_of b))) b
 
 -- at least 20 bytes, a `T` between date and time, and `Z` or `+00:00` at the end
 unfoldable pub has_marks : List ℕ → Bool
 has_marks b = nat_le 20 (length b) && (slice_index b 10 == byte "T") && ends_in_zone b
 
--- `-`, `-`, `T` or a space, `:` and `:` in their places
+-- `T` or a space between date and time
+unfoldable pub has_separator : List ℕ → Bool
+has_separator b = (slice_index b 10 == byte "T") || (slice_index b 10 == byte " ")
+
+-- this, `-`, `-`, `:` and `:` in their places
 unfoldable pub has_signs : List ℕ → Bool
 has_signs b =
-    (slice_index b 4 == byte "-") && (slice_index b 7 == byte "-")
-    && ((slice_index b 10 == byte "T") || (slice_index b 10 == byte " "))
+    (slice_index b 4 == byte "-") && (slice_index b 7 == byte "-") && has_separator b
     && (slice_index b 13 == byte ":") && (slice_index b 16 == byte ":")
 
 -- the places between the signs
@@ -39,23 +52,35 @@ has_digits b = list_all (λ k. is_ascii_digit (slice_index b k)) digit_places
 unfoldable pub number_between : List ℕ → ℕ → ℕ → ℕ
 number_between b from to = decimal_value (slice_range b from to)
 
+-- the numbers in the first nineteen bytes
+abbrev pub numbers_of : List ℕ → Numbers
+numbers_of b = record {
+  date = record { year = number_between b 0 4; month = number_between b 5 7; day = number_between b 8 10 };
+  hour = number_between b 11 13;
+  minute = number_between b 14 16;
+  second = number_between b 17 19;
+}
+
 -- a date of 1970 to 9999 that exists, and a time of day, perhaps with a second 60
+abbrev pub are_in_range : Numbers → Bool
+are_in_range x =
+    is_valid x.date.year x.date.month x.date.day && nat_le x.hour 23 && nat_le x.minute 59 && nat_le x.second 60
+
+-- the numbers that the text shows are such
 unfoldable pub in_range : List ℕ → Bool
-in_range b =
-    is_valid (number_between b 0 4) (number_between b 5 7) (number_between b 8 10)
-    && nat_le (number_between b 11 13) 23 && nat_le (number_between b 14 16) 59 && nat_le (number_between b 17 19) 60
+in_range b = are_in_range (numbers_of b)
 
--- a point after date and time
-abbrev pub has_point : List ℕ → Bool
-has_point b = slice_index b 19 == byte "."
+-- what stands between the seconds and the zone
+abbrev pub fraction_part : List ℕ → List ℕ
+fraction_part b = before_zone (drop 19 b)
 
--- where no point follows: nothing, `Z` or `+00:00`
-unfoldable pub ends_without_point : List ℕ → Bool
-ends_without_point b = if has_point b then true else is_zone (drop 19 b)
+-- nothing stands there, or a point comes first
+unfoldable pub has_point : List ℕ → Bool
+has_point part = (length part == 0) || (slice_index part 0 == byte ".")
 
--- where a point follows: digits, and then nothing, `Z` or `+00:00`
-unfoldable pub ends_after_point : List ℕ → Bool
-ends_after_point b = if has_point b then is_zone (past is_ascii_digit (drop 20 b)) else true
+-- behind the point there are digits alone
+unfoldable pub are_digits_behind_point : List ℕ → Bool
+are_digits_behind_point part = all_ascii_digits (drop 1 part)
 
 -- the checks of the weak form: each with the error of a text that fails it
 abbrev pub weak_checks : List ℕ → List (Bool × TimestampError)
@@ -64,8 +89,8 @@ weak_checks b =
     ∷ (has_signs b, InvalidFormat)
     ∷ (has_digits b, InvalidDigit)
     ∷ (in_range b, OutOfRange)
-    ∷ (ends_without_point b, InvalidFormat)
-    ∷ (ends_after_point b, InvalidDigit)
+    ∷ (has_point (fraction_part b), InvalidFormat)
+    ∷ (are_digits_behind_point (fraction_part b), InvalidDigit)
     ∷ []
 
 -- the checks of the strict form: one more, and it comes first

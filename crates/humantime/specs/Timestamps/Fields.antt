@@ -61,6 +61,10 @@ date_time_text f =
 abbrev pub fields_text : Fields → List ℕ
 fields_text f = date_time_text f ++ fraction_text f.fraction ++ zone_text f.zone
 
+-- the digits of a fraction, none where there is none
+abbrev pub fraction_digits : Option (List ℕ) → List ℕ
+fraction_digits fraction = unwrap_or fraction []
+
 -- the nanoseconds of these digits: the first nine, filled with zeros
 unfoldable pub fraction_nanos : List ℕ → ℕ
 fraction_nanos ds = decimal_value (take 9 (ds ++ codes "000000000"))
@@ -72,7 +76,7 @@ pub record IsWeak (bytes : List ℕ) (f : Fields) : Type 0 where
   pub hour : f.hour ≤ 23
   pub minute : f.minute ≤ 59
   pub second : f.second ≤ 60
-  pub fraction : IsTrue (all_ascii_digits (unwrap_or f.fraction []))
+  pub fraction : IsTrue (all_ascii_digits (fraction_digits f.fraction))
 
 -- in strict form the text shows these parts: it does in weak form, with the letter `T` and a zone
 pub record IsStrict (bytes : List ℕ) (f : Fields) : Type 0 where
@@ -86,7 +90,7 @@ seconds_of f = day_of f.date * seconds_per_day + f.hour * seconds_per_hour + f.m
 
 -- nanoseconds from 1970-01-01T00:00:00Z
 abbrev pub moment_of : Fields → ℕ
-moment_of f = seconds_of f * nanos_per_second + fraction_nanos (unwrap_or f.fraction [])
+moment_of f = seconds_of f * nanos_per_second + fraction_nanos (fraction_digits f.fraction)
 
 -- the text shows some parts of this moment: in weak form, and in strict form
 abbrev pub IsWeakMoment : List ℕ → ℤ → Type 0

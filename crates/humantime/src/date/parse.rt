@@ -1,15 +1,13 @@
 //! The parsers of timestamps.
 
-ghost use Rattle.std.specs.Prelude.{◌≡◌, ◌≢◌, ◌+◌, ◌/◌, ◌^◌, ◌<◌, ◌≤◌, ◌↔◌, ◌&&◌, nat_eq, [], length, IsTrue, IsFalse, IsSome, IfSome, IfNone, IfOk, Ok, Err, Some, ℤ, codes};
-ghost use Rattle.std.specs.List.{ends_with};
-ghost use Rattle.std.specs.Str.{bytes_eq};
+ghost use Rattle.std.specs.Prelude.{◌≡◌, ◌+◌, ◌/◌, ◌^◌, ◌<◌, ◌≤◌, ◌↔◌, ◌&&◌, if◌then◌else◌, length, IsTrue, IsFalse, IfSome, IfNone, Ok, Err, Some, None, ℤ, codes};
+ghost use Rattle.std.specs.Str.{bytes_eq, all_ascii_digits};
 ghost use Rattle.humantime.specs.declared.date.error.TimestampError.{TimestampError};
-ghost use Rattle.humantime.specs.Values.{nanos_per_second};
-ghost use Rattle.humantime.specs.Timestamps.Fields.{fraction_nanos, IsWeakMoment, IsStrictMoment};
-ghost use Rattle.humantime.specs.Timestamps.Checks.{number_between, first_failed, weak_checks, strict_checks};
-ghost use Rattle.humantime.specs.References.Timestamps.Reading.{past_digits, weak_answer, strict_answer, numbers_of, seconds_to, AreInRange};
+ghost use Rattle.humantime.specs.Timestamps.Fields.{zone_text, fraction_nanos, IsWeakMoment, IsStrictMoment};
+ghost use Rattle.humantime.specs.Timestamps.Checks.{zone_of, number_between, numbers_of, are_in_range, first_failed, weak_checks, strict_checks};
+ghost use Rattle.humantime.specs.References.Timestamps.Reading.{weak_answer, strict_answer, seconds_to, fraction_answer};
 ghost use Rattle.humantime.specs.Timestamps.Checks as TimestampChecks;
-ghost use Rattle.humantime.specs.References.Timestamps.Fractions.{weight, has_three, AreThreeAt, IsRead};
+ghost use Rattle.humantime.specs.References.Timestamps.Fractions.{weight, has_three, IsRead};
 ghost use Rattle.humantime.specs.References.Timestamps.Reading as TimestampReading;
 
 use crate::calendar::{Date, day_number};
@@ -101,59 +99,40 @@ pub fn parse_rfc3339(s: &str) -> Result<SystemTime, TimestampError>
 
 /// At least 20 bytes, a `T` and a zone.
 #[inline(always)]
-#[tactic(auto, unfolding(crate::specs::Timestamps::Checks::has_marks))]
+#[tactic(auto, using(crate::proofs::Timestamps::Reading::Ends::some_zone), unfolding(crate::specs::Timestamps::Checks::has_marks))]
 fn has_marks(b: &[u8]) -> bool
     ensures { result ≡ TimestampChecks.has_marks b.now }
 {
-    b.len() >= 20 && b[10] == b'T' && ends_in_zone(b)
-}
-
-/// `Z` or `+00:00` at the end.
-#[inline(always)]
-#[tactic(auto, using(crate::proofs::Timestamps::Reading::Ends::some_zone))]
-fn ends_in_zone(b: &[u8]) -> bool
-    ensures { result ≡ TimestampChecks.ends_in_zone b.now }
-{
-    zone_length(b) > 0
+    b.len() >= 20 && b[10] == b'T' && zone_length(b) > 0
 }
 
 /// How many bytes the zone at the end has: one for `Z`, six for `+00:00`, and none without a zone.
 #[inline(always)]
-#[tactic(auto, using(crate::proofs::Timestamps::Reading::Ends::zone_fits), unfolding(crate::specs::References::Timestamps::Reading::zone_length))]
+#[tactic(auto, using(crate::proofs::Timestamps::Reading::Ends::last_letter, crate::proofs::Timestamps::Reading::Ends::no_letter, crate::proofs::Timestamps::Reading::Ends::last_offset, crate::proofs::Timestamps::Reading::Ends::no_offset), unfolding(crate::specs::Timestamps::Checks::zone_of))]
 fn zone_length(b: &[u8]) -> usize
-    ensures value { result ≡ TimestampReading.zone_length b.now }
-    ensures fits { result ≤ length b.now }
+    ensures { result ≡ length (zone_text (zone_of b.now)) }
 {
-    if ends_in_letter(b) {
+    if b.len() >= 1 && b[b.len() - 1] == b'Z' {
         1
-    } else if ends_in_offset(b) {
+    } else if b.len() >= 6 && is_offset(&b[b.len() - 6..]) {
         6
     } else {
         0
     }
 }
 
-/// `Z` at the end.
+/// What stands before the zone at the end.
 #[inline(always)]
-#[tactic(auto, using(crate::proofs::Timestamps::Reading::Ends::last_letter, crate::proofs::Timestamps::Reading::Ends::no_letter))]
-fn ends_in_letter(b: &[u8]) -> bool
-    ensures { result ≡ ends_with nat_eq b.now (codes "Z") }
+#[tactic(auto, using(crate::proofs::Timestamps::Reading::Ends::zone_fits))]
+fn before_zone(b: &[u8]) -> &[u8]
+    ensures { result.now ≡ TimestampChecks.before_zone b.now }
 {
-    b.len() >= 1 && b[b.len() - 1] == b'Z'
-}
-
-/// `+00:00` at the end.
-#[inline(always)]
-#[tactic(auto, using(crate::proofs::Timestamps::Reading::Ends::last_offset, crate::proofs::Timestamps::Reading::Ends::no_offset))]
-fn ends_in_offset(b: &[u8]) -> bool
-    ensures { result ≡ ends_with nat_eq b.now (codes "+00:00") }
-{
-    b.len() >= 6 && is_offset(&b[b.len() - 6..])
+    &b[..b.len() - zone_length(b)]
 }
 
 /// The moment, or the error of the first check that fails.
 #[inline(always)]
-#[tactic(auto, unfolding(crate::specs::References::Timestamps::Reading::weak_answer))]
+#[tactic(auto, using(crate::proofs::Timestamps::Reading::Exits::fraction_bound, crate::proofs::Timestamps::Reading::Exits::exit_digits, crate::proofs::Timestamps::Reading::Exits::exit_signs))]
 fn read_timestamp(b: &[u8]) -> Result<SystemTime, TimestampError>
     ensures { result ≡ weak_answer b.now }
 {
@@ -163,36 +142,27 @@ fn read_timestamp(b: &[u8]) -> Result<SystemTime, TimestampError>
     // Read before the bytes are tested: behind the test they would be taken out of its vector, one by one.
     let numbers = numbers_at(b);
     if !is_shaped(b) {
-        return Err(shape_error(b));
+        // The signs are looked at first.
+        if has_signs(b) {
+            return Err(TimestampError::InvalidDigit);
+        }
+        return Err(TimestampError::InvalidFormat);
     }
     let Some(secs) = seconds_of(numbers) else {
         return Err(TimestampError::OutOfRange);
     };
-    let nanos = read_end(&b[19..])?;
+    let nanos = read_fraction(before_zone(&b[19..]))?;
     Ok(SystemTime::since_epoch(secs, nanos))
 }
 
 /// `T` or a space between date and time.
 #[inline(always)]
-#[tactic(auto, unfolding(crate::specs::References::Timestamps::Reading::has_separator))]
+#[tactic(auto, unfolding(crate::specs::Timestamps::Checks::has_separator))]
 fn has_separator(b: &[u8]) -> bool
     requires { 19 ≤ length b.now }
-    ensures { result ≡ TimestampReading.has_separator b.now }
+    ensures { result ≡ TimestampChecks.has_separator b.now }
 {
     b[10] == b'T' || b[10] == b' '
-}
-
-/// The error of a text in which signs or digits are not in their places: the signs are looked at first.
-#[inline(always)]
-fn shape_error(b: &[u8]) -> TimestampError
-    requires { 19 ≤ length b.now }
-    ensures { result ≡ TimestampReading.shape_error b.now }
-{
-    if has_signs(b) {
-        TimestampError::InvalidDigit
-    } else {
-        TimestampError::InvalidFormat
-    }
 }
 
 /// The signs between the numbers.
@@ -202,11 +172,7 @@ fn has_signs(b: &[u8]) -> bool
     requires { 19 ≤ length b.now }
     ensures { result ≡ TimestampChecks.has_signs b.now }
 {
-    b[4] == b'-'
-        && b[7] == b'-'
-        && (b[10] == b'T' || b[10] == b' ')
-        && b[13] == b':'
-        && b[16] == b':'
+    b[4] == b'-' && b[7] == b'-' && has_separator(b) && b[13] == b':' && b[16] == b':'
 }
 
 /// Signs and digits in their places.
@@ -214,7 +180,7 @@ fn has_signs(b: &[u8]) -> bool
 #[tactic(auto, using(crate::proofs::Timestamps::Reading::Lanes::shape_of_parts))]
 fn is_shaped(b: &[u8]) -> bool
     requires long { 19 ≤ length b.now }
-    requires separator { IsTrue (TimestampReading.has_separator b.now) }
+    requires separator { IsTrue (TimestampChecks.has_separator b.now) }
     ensures { result ≡ (TimestampChecks.has_signs b.now && TimestampChecks.has_digits b.now) }
 {
     is_shaped_front(b) && has_seconds(b)
@@ -254,7 +220,7 @@ fn has_two(b: &[u8], at: usize) -> bool
 
 /// The number that two digits show. Where there are others, it is some number.
 #[inline(always)]
-#[tactic(auto, using(crate::proofs::Timestamps::Reading::Numbers::two_read))]
+#[tactic(auto, using(crate::proofs::Timestamps::Reading::Places::two_read))]
 fn two_at(b: &[u8], at: usize) -> u32
     requires { at + 2 ≤ length b.now }
     ensures { IsTrue (TimestampReading.has_two b.now at) → result ≡ number_between b.now at (at + 2) }
@@ -264,7 +230,7 @@ fn two_at(b: &[u8], at: usize) -> u32
 
 /// The number that four digits at the front show. Where there are others, it is some number.
 #[inline(always)]
-#[tactic(auto, using(crate::proofs::Timestamps::Reading::Numbers::year_read))]
+#[tactic(auto, using(crate::proofs::Timestamps::Reading::Places::year_read))]
 fn year_at_front(b: &[u8]) -> u32
     requires { 4 ≤ length b.now }
     ensures { IsTrue (TimestampReading.has_two b.now 0) → IsTrue (TimestampReading.has_two b.now 2) → result ≡ number_between b.now 0 4 }
@@ -295,8 +261,7 @@ fn numbers_at(b: &[u8]) -> Numbers
 /// The seconds from 1970 to this date and time, where there are such.
 #[inline(always)]
 fn seconds_of(x: Numbers) -> Option<u64>
-    ensures range { IsSome result ↔ AreInRange x }
-    ensures value { IfSome result (λ n. n ≡ seconds_to x) }
+    ensures value { result ≡ (if are_in_range x then Some (seconds_to x) else None) }
     ensures bound { IfSome result (λ n. n < 2 ^ 63) }
 {
     let days = day_number(x.date, &mut Turns::new())?;
@@ -307,23 +272,19 @@ fn seconds_of(x: Numbers) -> Option<u64>
     Some(days as u64 * 86_400 + time as u64)
 }
 
-/// The nanoseconds of what stands behind date and time, where it is right.
+/// The nanoseconds of what stands between the seconds and the zone, where it is right.
 #[inline(always)]
-fn read_end(rest: &[u8]) -> Result<u32, TimestampError>
-    ensures value { result ≡ TimestampReading.end_answer rest.now }
-    ensures bound { IfOk result (λ n. n < nanos_per_second) }
+#[tactic(auto, using(crate::proofs::Timestamps::Reading::Steps::nothing_read), unfolding(crate::specs::Timestamps::Checks::has_point, crate::specs::Timestamps::Checks::are_digits_behind_point))]
+fn read_fraction(part: &[u8]) -> Result<u32, TimestampError>
+    ensures { result ≡ fraction_answer part.now }
 {
-    let end = rest.len() - zone_length(rest);
-    if end == 0 {
+    if part.is_empty() {
         return Ok(0);
     }
-    if rest[0] != b'.' {
+    if part[0] != b'.' {
         return Err(TimestampError::InvalidFormat);
     }
-    match read_digits(&rest[1..end]) {
-        Some(nanos) => Ok(nanos),
-        None => Err(TimestampError::InvalidDigit),
-    }
+    read_digits(&part[1..]).ok_or(TimestampError::InvalidDigit)
 }
 
 /// `+00:00`, of six bytes. The first four are compared as one number, and the last two as another.
@@ -339,10 +300,10 @@ fn is_offset(b: &[u8]) -> bool
 
 /// The number that three digits from this place on show, where they are digits.
 #[inline(always)]
+#[tactic(auto, using(crate::proofs::Timestamps::Reading::Places::has_three_told, crate::proofs::Timestamps::Reading::Places::number_of_three))]
 fn three_at(ds: &[u8], at: usize) -> Option<u32>
     requires { at + 3 ≤ length ds.now }
-    ensures some { IfSome result (AreThreeAt ds.now at) }
-    ensures none { IfNone result (IsFalse (has_three ds.now at)) }
+    ensures { result ≡ (if has_three ds.now at then Some (number_between ds.now at (at + 3)) else None) }
 {
     let (a, b, c) = (ds[at], ds[at + 1], ds[at + 2]);
     if !a.is_ascii_digit() || !b.is_ascii_digit() || !c.is_ascii_digit() {
@@ -354,10 +315,10 @@ fn three_at(ds: &[u8], at: usize) -> Option<u32>
 /// How many digits stand in whole groups of three, and their nanoseconds, cut to nine digits; nothing where one of
 /// them is no digit.
 #[inline(always)]
-#[tactic(auto, using(crate::proofs::Timestamps::Reading::Fractions::read_none, crate::proofs::Timestamps::Reading::Fractions::read_no_three))]
+#[tactic(auto, using(crate::proofs::Timestamps::Reading::Steps::steps_of_three))]
 fn read_threes(ds: &[u8]) -> Option<(usize, u32)>
     ensures some { IfSome result (λ read. IsRead ds.now read.0 read.1) }
-    ensures none { IfNone result (past_digits ds.now ≢ []) }
+    ensures none { IfNone result (IsFalse (all_ascii_digits ds.now)) }
 {
     let mut at = 0;
     let mut nanos = 0;
@@ -372,11 +333,9 @@ fn read_threes(ds: &[u8]) -> Option<(usize, u32)>
 /// The nanoseconds of these digits, cut to nine of them, where they are digits. It stands out of line: inlined, it takes
 /// the registers in which date and time are kept.
 #[inline(never)]
-#[tactic(auto, using(crate::proofs::Timestamps::Reading::Fractions::read_stop, crate::proofs::Timestamps::Reading::Fractions::read_all))]
+#[tactic(auto, using(crate::proofs::Timestamps::Reading::Steps::steps_of_one))]
 fn read_digits(ds: &[u8]) -> Option<u32>
-    ensures some { IfSome result (λ n. (past_digits ds.now ≡ []) × (n ≡ fraction_nanos ds.now)) }
-    ensures none { IfNone result (past_digits ds.now ≢ []) }
-    ensures bound { IfSome result (λ n. n < nanos_per_second) }
+    ensures { result ≡ (if all_ascii_digits ds.now then Some (fraction_nanos ds.now) else None) }
 {
     let (mut at, mut nanos) = read_threes(ds)?;
     while at < ds.len() {

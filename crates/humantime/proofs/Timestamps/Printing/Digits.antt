@@ -4,11 +4,10 @@ use Rattle.std.proofs.Common.{◌≡◌, ℕ, zero, suc, ◌+◌, ◌-◌, ◌*�
 use Rattle.std.proofs.Math.Nat.{pow-suc, one-le-pow, mod-mod_of_dvd, dvd-mul_left}
 use Rattle.std.proofs.Math.Arith.{mod-mul}
 use Rattle.std.proofs.lemmas.Nat.{pow-add}
-use Rattle.humantime.specs.References.Timestamps.Reading.{AreDigits, fraction_digits}
-use Rattle.humantime.specs.Timestamps.Fields.{fraction_nanos}
+use Rattle.humantime.specs.Timestamps.Fields.{fraction_nanos, fraction_digits}
 use Rattle.humantime.specs.Timestamps.Printed.{HasPlaces}
 use Rattle.humantime.specs.References.Timestamps.Printing.{last_digits, cut_fraction}
-use Rattle.humantime.specs.References.Timestamps.Fractions.{add_digits}
+use Rattle.humantime.specs.References.Timestamps.Fractions.{AreDigits, add_digits}
 use Rattle.humantime.proofs.Timestamps.Reading.Fractions.{nanos_added}
 
 power_more : (j : ℕ) → (10 ^ suc j / 10 ≡ 10 ^ j) × (10 ^ suc j ≡ 10 * 10 ^ j)

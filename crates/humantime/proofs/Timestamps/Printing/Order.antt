@@ -13,8 +13,8 @@ use Rattle.std.proofs.lemmas.Bool.Decides.{nat_tests}
 use Rattle.std.proofs.lemmas.Int.{ints}
 use Rattle.humantime.specs.declared.calendar.Date.{Date}
 use Rattle.humantime.specs.Calendar.{IsDate, day_of}
-use Rattle.humantime.specs.Timestamps.Fields.{Letter_T, Letter_Z, Fields, fields_text, fraction_text, fraction_nanos, moment_of}
-use Rattle.humantime.specs.References.Timestamps.Reading.{AreDigits, fraction_digits}
+use Rattle.humantime.specs.Timestamps.Fields.{Letter_T, Letter_Z, Fields, fields_text, fraction_text, fraction_nanos, moment_of, fraction_digits}
+use Rattle.humantime.specs.References.Timestamps.Fractions.{AreDigits}
 use Rattle.humantime.specs.Timestamps.Printed.{cut, HasPlaces, IsPrinted}
 use Rattle.humantime.specs.Laws.Timestamps.{InOrder}
 use Rattle.humantime.proofs.Dates.DaysOfDates.{before_year, before_month}

@@ -1,13 +1,19 @@
 -- What holds of digits and signs holds of each byte of a timestamp.
 use Rattle.std.proofs.lemmas.Grind.{common_steps}
-use Rattle.std.proofs.Common.{ℕ, List, [], ◌∷◌, ◌++◌, arith}
+use Rattle.std.proofs.Common.{ℕ, ◌≤◌, List, [], ◌∷◌, ◌++◌, arith}
 use Rattle.std.specs.Int.{IsInRange}
 use Rattle.std.specs.List.{AllByRecursion}
 use Rattle.humantime.proofs.Timestamps.Reading.Fractions.{digits_told}
-use Rattle.humantime.specs.References.Timestamps.Reading.{AreDigits}
-use Rattle.humantime.specs.Timestamps.Fields.{Fields, fraction_text, date_time_text, IsWeak}
+use Rattle.humantime.specs.References.Timestamps.Fractions.{AreDigits}
+use Rattle.std.specs.Prelude.{Option, IsTrue}
+use Rattle.std.specs.Str.{all_ascii_digits}
+use Rattle.humantime.specs.Timestamps.Fields.{Fields, fraction_text, fraction_digits, date_time_text, IsWeak}
+use Rattle.std.proofs.lemmas.Bool.Decides.{nat_tests}
+use Rattle.humantime.specs.Calendar.{days_in_month}
 use Rattle.humantime.proofs.Dates.Years.{valid_told}
-use Rattle.humantime.proofs.Timestamps.Reading.Passed.{month_most}
+
+pub month_most : (y m : ℕ) → days_in_month y m ≤ 31
+month_most y m = grind (arith, nat_tests)
 
 pub all_append : (P : ℕ → Type 0) (xs ys : List ℕ) → AllByRecursion P xs → AllByRecursion P ys → AllByRecursion P (xs ++ ys)
 all_append P xs ys h k = grind (arith, common_steps)
@@ -24,6 +30,10 @@ pub record HoldsOfBytes (P : ℕ → Type 0) : Type 0 where
 pub digits_hold : (P : ℕ → Type 0) → HoldsOfBytes P → (ds : List ℕ) → AreDigits ds → AllByRecursion P ds
 digits_hold P h [] digits = tt
 digits_hold P h (c ∷ cs) digits = (h.digit c digits.0, digits_hold P h cs digits.1)
+
+pub holds_of_fraction : (P : ℕ → Type 0) → HoldsOfBytes P → (fraction : Option (List ℕ)) → IsTrue (all_ascii_digits (fraction_digits fraction))
+    → AllByRecursion P (fraction_text fraction)
+holds_of_fraction P p fraction h = grind (arith, common_steps, digits_hold, digits_told)
 
 -- of all bytes before the zone
 pub holds_before_zone : (P : ℕ → Type 0) → HoldsOfBytes P → (text : List ℕ) (f : Fields) → IsWeak text f

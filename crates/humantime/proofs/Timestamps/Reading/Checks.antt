@@ -1,13 +1,11 @@
 -- What the checks on a timestamp say, one by one.
-use Rattle.std.proofs.Common.{◌≡◌, ℕ, ◌≤◌, List, ◌∷◌, ◌++◌, length, get_or, drop, refl, arith, nat_le}
-use Rattle.std.specs.Prelude.{true, ◌||◌, ◌==◌, slice_index, None, if◌then◌else◌}
-use Rattle.std.proofs.lemmas.Bool.{and_parts}
-use Rattle.std.proofs.lemmas.Slice.Eq.{bytes_eq-Decides}
-use Rattle.humantime.specs.References.Timestamps.Reading.{AreDigits, fraction_digits, has_two, zone_of, fraction_read, zone_at}
-use Rattle.humantime.specs.Timestamps.Fields.{Letter_T, Space, separator_byte, fraction_text, zone_text}
-use Rattle.humantime.specs.Timestamps.Checks.{is_zone, has_signs, has_digits, in_range, ends_without_point, ends_after_point, weak_checks, first_failed}
 use Rattle.std.proofs.lemmas.Grind.{common_steps}
-use Rattle.humantime.proofs.Timestamps.Reading.Fractions.{front_are_digits, front_past}
+use Rattle.std.proofs.Common.{◌≡◌, ℕ, ◌≤◌, List, [], ◌∷◌, length, get_or, drop, refl, arith, nat_le}
+use Rattle.std.specs.Prelude.{true, slice_index, None}
+use Rattle.std.proofs.lemmas.Bool.{and_parts}
+use Rattle.humantime.specs.References.Timestamps.Reading.{has_two, separator_of, fraction_of}
+use Rattle.humantime.specs.Timestamps.Fields.{separator_byte, fraction_text, fraction_digits}
+use Rattle.humantime.specs.Timestamps.Checks.{has_separator, has_signs, has_digits, in_range, fraction_part, has_point, are_digits_behind_point, weak_checks, first_failed}
 
 -- no check of the weak form fails
 pub record Passes (b : List ℕ) : Type 0 where
@@ -15,25 +13,25 @@ pub record Passes (b : List ℕ) : Type 0 where
   pub signs : has_signs b ≡ true
   pub digits : has_digits b ≡ true
   pub range : in_range b ≡ true
-  pub whole : ends_without_point b ≡ true
-  pub fraction : ends_after_point b ≡ true
+  pub point : has_point (fraction_part b) ≡ true
+  pub fraction : are_digits_behind_point (fraction_part b) ≡ true
 
 pub passes_from : (b : List ℕ) → first_failed (weak_checks b) ≡ None → Passes b
 passes_from b h = grind (arith, common_steps)
 
 pub passes_none : (b : List ℕ) → Passes b → first_failed (weak_checks b) ≡ None
-passes_none b p = rw (p.long, p.signs, p.digits, p.range, p.whole, p.fraction) refl
+passes_none b p = rw (p.long, p.signs, p.digits, p.range, p.point, p.fraction) refl
 
 -- the signs in their places
 pub record Signs (b : List ℕ) : Type 0 where
   pub dash4 : slice_index b 4 ≡ 45
   pub dash7 : slice_index b 7 ≡ 45
-  pub separator : ((slice_index b 10 == 84) || (slice_index b 10 == 32)) ≡ true
+  pub separator : slice_index b 10 ≡ separator_byte (separator_of b)
   pub colon13 : slice_index b 13 ≡ 58
   pub colon16 : slice_index b 16 ≡ 58
 
 pub signs_told : (b : List ℕ) → has_signs b ≡ true → Signs b
-unfolding has_signs
+unfolding has_signs has_separator
 signs_told b h = grind (arith, common_steps)
 
 -- the pairs of digits in their places
@@ -54,19 +52,15 @@ pub pairs_from : (b : List ℕ) → Pairs b → has_digits b ≡ true
 unfolding has_digits has_two
 pairs_from b p = grind (arith, common_steps)
 
-pub separator_shown : (c : ℕ) → ((c == 84) || (c == 32)) ≡ true → c ≡ separator_byte (if c == 84 then Letter_T else Space)
-separator_shown c h = grind (arith, common_steps)
+-- what stands between the seconds and the zone
+pub part_shown : (part : List ℕ) → has_point part ≡ true → part ≡ fraction_text (fraction_of part)
+unfolding has_point
+part_shown [] h = refl
+part_shown (c ∷ ds) h = grind (arith, common_steps)
 
-pub zone_shown : (z : List ℕ) → is_zone z ≡ true → z ≡ zone_text (zone_of z)
-zone_shown z h = grind (arith, common_steps, bytes_eq-Decides, common_steps)
-
--- what stands after date and time
-pub end_shown : (b : List ℕ) → ends_without_point b ≡ true → ends_after_point b ≡ true → drop 19 b ≡ fraction_text (fraction_read b) ++ zone_text (zone_at b)
-unfolding ends_after_point ends_without_point
-end_shown b whole fraction = grind (arith, common_steps, front_past, zone_shown)
-
-pub fraction_at_digits : (b : List ℕ) → AreDigits (fraction_digits (fraction_read b))
-fraction_at_digits b = grind (arith, common_steps, front_are_digits)
+pub part_digits : (part : List ℕ) → fraction_digits (fraction_of part) ≡ drop 1 part
+part_digits [] = refl
+part_digits (c ∷ ds) = refl
 
 -- the first 19 bytes and the rest
 pub nineteen : (b : List ℕ) → 19 ≤ length b

@@ -1,13 +1,14 @@
 -- The zone at the end of a text.
 use Rattle.std.proofs.lemmas.Grind.{common_steps}
-use Rattle.std.proofs.Common.{◌≡◌, ◌≢◌, ℕ, ◌+◌, ◌-◌, ◌*◌, ◌<◌, ◌≤◌, List, [], ◌∷◌, ◌++◌, length, get_or, take, drop, sym, append_assoc, Fits, w8, arith}
+use Rattle.std.proofs.Common.{◌≡◌, ◌≢◌, ℕ, ◌+◌, ◌-◌, ◌*◌, ◌<◌, ◌≤◌, List, [], ◌∷◌, ◌++◌, length, get_or, take, drop, sym, ap, ◌∙◌, append_assoc, length-append, Fits, w8, arith}
 use Rattle.std.specs.Prelude.{true, false, ◌&&◌, ◌==◌, codes, nat_eq, nat_lt, slice_index}
 use Rattle.std.specs.List.{AllByRecursion, ends_with}
 use Rattle.std.specs.Str.{bytes_eq}
+use Rattle.std.proofs.Math.Seq.{take-append_seam}
+use Rattle.std.proofs.lemmas.List.{take-append-drop}
 use Rattle.std.proofs.lemmas.Bool.Decides.{nat_tests}
 use Rattle.humantime.specs.Timestamps.Fields.{Zone, zone_text}
-use Rattle.humantime.specs.Timestamps.Checks.{is_zone, ends_in_zone}
-use Rattle.humantime.specs.References.Timestamps.Reading.{zone_length}
+use Rattle.humantime.specs.Timestamps.Checks.{ends_in_zone, zone_of, before_zone}
 use Rattle.humantime.proofs.Timestamps.Reading.Bytes.{HoldsOfBytes}
 
 -- ---- `Z` and `+00:00`
@@ -24,20 +25,22 @@ last_offset b = grind (arith, common_steps)
 pub no_offset : (b : List ℕ) → length b < 6 → false ≡ ends_with nat_eq b (codes "+00:00")
 no_offset b short = grind (arith, common_steps)
 
--- ---- How long the zone is
+-- ---- The zone that stands at the end
 
-pub some_zone : (b : List ℕ) → nat_lt 0 (zone_length b) ≡ ends_in_zone b
-unfolding zone_length
+pub some_zone : (b : List ℕ) → nat_lt 0 (length (zone_text (zone_of b))) ≡ ends_in_zone b
+unfolding zone_of
 some_zone b = grind (arith, common_steps)
 
-pub zone_fits : (b : List ℕ) → zone_length b ≤ length b
-unfolding zone_length
+pub zone_fits : (b : List ℕ) → length (zone_text (zone_of b)) ≤ length b
+unfolding zone_of
 zone_fits b = grind (arith, common_steps)
 
--- so many bytes are a zone
-pub zone_behind : (b : List ℕ) → is_zone (drop (length b - zone_length b) b) ≡ true
-unfolding zone_length
+zone_behind : (b : List ℕ) → drop (length b - length (zone_text (zone_of b))) b ≡ zone_text (zone_of b)
+unfolding zone_of
 zone_behind b = grind (arith, common_steps)
+
+pub zone_shown : (b : List ℕ) → b ≡ before_zone b ++ zone_text (zone_of b)
+zone_shown b = sym (ap (λ (z : List ℕ). before_zone b ++ z) (sym (zone_behind b)) ∙ take-append-drop (length b - length (zone_text (zone_of b))) b)
 
 -- ---- Bytes that are no zone
 
@@ -48,18 +51,19 @@ IsPlain c = (c ≢ 43) × (c ≢ 90)
 pub plain_bytes : HoldsOfBytes IsPlain
 plain_bytes = grind (arith, common_steps)
 
--- without a zone there is no `Z` and no `+`, so no zone at the end
-pub plain_end : (b : List ℕ) → AllByRecursion IsPlain b → ends_in_zone b ≡ true → ⊥
-plain_end b plain h = grind (arith, common_steps)
-
 -- an offset has no `Z` at its end
 offset_end : (xs : List ℕ) → ends_with nat_eq (xs ++ codes "+00:00") (codes "Z") ≡ true → ⊥
 offset_end xs z = grind (arith, common_steps, (sym (append_assoc xs (codes "+00:0") (codes "0"))))
 
 -- behind plain bytes the zone is found
-pub zone_length_of : (xs : List ℕ) (z : Zone) → AllByRecursion IsPlain xs → zone_length (xs ++ zone_text z) ≡ length (zone_text z)
-unfolding zone_length
-zone_length_of xs z h = grind (arith, common_steps, common_steps, offset_end)
+pub zone_found : (xs : List ℕ) (z : Zone) → AllByRecursion IsPlain xs → zone_of (xs ++ zone_text z) ≡ z
+unfolding zone_of
+zone_found xs z h = grind (arith, common_steps, common_steps, offset_end)
+
+pub before_zone_found : (xs : List ℕ) (z : Zone) → AllByRecursion IsPlain xs → before_zone (xs ++ zone_text z) ≡ xs
+before_zone_found xs z h =
+    let size : length (xs ++ zone_text z) - length (zone_text z) ≡ length xs = omega (arith, length-append xs (zone_text z)) in
+    rw (zone_found xs z h, size) (take-append_seam xs (zone_text z))
 
 -- ---- `+00:00` as two numbers
 

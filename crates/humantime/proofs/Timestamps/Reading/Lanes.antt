@@ -7,8 +7,8 @@ use Rattle.std.specs.Prelude.{◌==◌, codes, slice_index}
 use Rattle.std.proofs.Math.Bool.{and_assoc}
 use Rattle.std.proofs.lemmas.Bool.{agree_below_at}
 use lib.Lanes.{zip2, mask_l, top}
-use Rattle.humantime.specs.Timestamps.Checks.{has_signs, has_digits}
-use Rattle.humantime.specs.References.Timestamps.Reading.{has_two, has_front_digits, is_shaped_front, has_seconds, has_separator}
+use Rattle.humantime.specs.Timestamps.Checks.{has_separator, has_signs, has_digits}
+use Rattle.humantime.specs.References.Timestamps.Reading.{has_two, has_front_digits, is_shaped_front, has_seconds}
 use Rattle.humantime.proofs.Timestamps.Reading.Checks.{nineteen}
 
 -- the least byte of each place, and how far a byte may be above it

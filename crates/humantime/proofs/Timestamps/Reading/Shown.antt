@@ -1,14 +1,14 @@
 -- A text that fails no check shows the parts at its places.
 use Rattle.std.proofs.lemmas.Grind.{common_steps}
-use Rattle.std.proofs.Common.{◌≡◌, ℕ, ◌+◌, ◌/◌, ◌%◌, ◌≤◌, List, ◌∷◌, length, ◌∙◌, arith}
+use Rattle.std.proofs.Common.{◌≡◌, ℕ, ◌+◌, ◌/◌, ◌%◌, ◌≤◌, List, ◌∷◌, ◌++◌, length, drop, ap, ◌∙◌, arith}
 use Rattle.std.specs.Prelude.{true, slice_index}
 use Rattle.std.proofs.lemmas.Bool.{leb-true}
-use Rattle.humantime.proofs.Timestamps.Reading.Fractions.{digits_from}
-use Rattle.humantime.specs.Timestamps.Fields.{fields_text, IsWeak}
-use Rattle.humantime.specs.Timestamps.Checks.{number_between}
-use Rattle.humantime.specs.References.Timestamps.Reading.{has_two, fields_of}
-use Rattle.humantime.proofs.Timestamps.Reading.Checks.{Passes, signs_told, pairs_told, separator_shown, end_shown, fraction_at_digits, nineteen}
-use Rattle.humantime.proofs.Timestamps.Reading.Places.{has_two_told, number_of_two, number_of_four, in_range_told}
+use Rattle.humantime.specs.Timestamps.Fields.{fraction_text, zone_text, fields_text, IsWeak}
+use Rattle.humantime.specs.Timestamps.Checks.{zone_of, number_between, in_range, fraction_part, are_digits_behind_point}
+use Rattle.humantime.specs.References.Timestamps.Reading.{has_two, fraction_of, fields_of}
+use Rattle.humantime.proofs.Timestamps.Reading.Checks.{Passes, signs_told, pairs_told, part_shown, part_digits, nineteen}
+use Rattle.humantime.proofs.Timestamps.Reading.Ends.{zone_shown}
+use Rattle.humantime.proofs.Timestamps.Reading.Places.{has_two_told, number_of_two, number_of_four, bounds}
 
 pair_shown : (b : List ℕ) (k : ℕ) → k + 2 ≤ length b → has_two b k ≡ true
     → (slice_index b k ≡ 48 + number_between b k (k + 2) / 10) × (slice_index b (k + 1) ≡ 48 + number_between b k (k + 2) % 10)
@@ -27,15 +27,25 @@ written_shown b p =
     let year = year_shown b (omega arith) pairs.century pairs.year in
     let month = pair_shown b 5 (omega arith) pairs.month in
     let day = pair_shown b 8 (omega arith) pairs.day in
-    let separator = separator_shown (slice_index b 10) signs.separator in
     let hour = pair_shown b 11 (omega arith) pairs.hour in
     let minute = pair_shown b 14 (omega arith) pairs.minute in
     let second = pair_shown b 17 (omega arith) pairs.second in
-    let end = end_shown b p.whole p.fraction in
+    let end : drop 19 b ≡ fraction_text (fraction_of (fraction_part b)) ++ zone_text (zone_of (drop 19 b)) =
+    zone_shown (drop 19 b) ∙ ap (λ (part : List ℕ). part ++ zone_text (zone_of (drop 19 b))) (part_shown (fraction_part b) p.point) in
     nineteen b long
     ∙ (λ i. year.0 i ∷ year.1 i ∷ year.2 i ∷ year.3 i
-    ∷ signs.dash4 i ∷ month.0 i ∷ month.1 i ∷ signs.dash7 i ∷ day.0 i ∷ day.1 i ∷ separator i
+    ∷ signs.dash4 i ∷ month.0 i ∷ month.1 i ∷ signs.dash7 i ∷ day.0 i ∷ day.1 i ∷ signs.separator i
     ∷ hour.0 i ∷ hour.1 i ∷ signs.colon13 i ∷ minute.0 i ∷ minute.1 i ∷ signs.colon16 i ∷ second.0 i ∷ second.1 i ∷ end i)
 
 pub fields_weak : (b : List ℕ) → Passes b → IsWeak b (fields_of b)
-fields_weak b p = grind (arith, common_steps, (in_range_told b p.range), written_shown, digits_from, fraction_at_digits)
+unfolding in_range are_digits_behind_point
+fields_weak b p =
+    let range = (bounds _ _ _ _).0 p.range in
+    record {
+      shown = written_shown b p;
+      date = range.0;
+      hour = range.1;
+      minute = range.2;
+      second = range.3;
+      fraction = rw (part_digits (fraction_part b)) p.fraction;
+    }

@@ -1,8 +1,13 @@
 -- The digits of a fraction, read from left to right.
-use Rattle.std.specs.Prelude.{◌≡◌, ℕ, ◌+◌, ◌-◌, ◌*◌, ◌/◌, ◌^◌, ◌<◌, ◌≤◌, Bool, ◌&&◌, IsTrue, List, [], ◌∷◌, length, drop, slice_index}
-use Rattle.std.specs.Char.{is_ascii_digit}
+use Rattle.std.specs.Prelude.{◌≡◌, ℕ, ◌+◌, ◌-◌, ◌*◌, ◌/◌, ◌^◌, ◌≤◌, Bool, IsTrue, List, [], ◌∷◌, length, take, slice_range}
+use Rattle.std.specs.Int.{IsInRange}
+use Rattle.std.specs.List.{AllByRecursion}
+use Rattle.std.specs.Str.{all_ascii_digits}
 use Rattle.humantime.specs.Timestamps.Fields.{fraction_nanos}
-use Rattle.humantime.specs.References.Timestamps.Reading.{past_digits, front_digits}
+
+-- each byte is a digit
+abbrev pub AreDigits : List ℕ → Type 0
+AreDigits ds = AllByRecursion (λ c. IsInRange 48 57 c) ds
 
 -- n and these digits, of which the first counts u, and each further one a tenth of the one before
 abbrev pub add_digits : ℕ → ℕ → List ℕ → ℕ
@@ -14,21 +19,11 @@ abbrev pub weight : ℕ → ℕ
 weight i = 100_000_000 / 10 ^ i
 
 -- three digits from place k on
-abbrev pub has_three : List ℕ → ℕ → Bool
-has_three b k =
-    is_ascii_digit (slice_index b k) && is_ascii_digit (slice_index b (k + 1)) && is_ascii_digit (slice_index b (k + 2))
+unfoldable pub has_three : List ℕ → ℕ → Bool
+has_three b k = all_ascii_digits (slice_range b k (k + 3))
 
--- three digits stand from a place on, and they show this number
-pub record AreThreeAt (text : List ℕ) (at n : ℕ) : Type 0 where
-  pub first : IsTrue (is_ascii_digit (slice_index text at))
-  pub second : IsTrue (is_ascii_digit (slice_index text (at + 1)))
-  pub third : IsTrue (is_ascii_digit (slice_index text (at + 2)))
-  pub value : n ≡ (slice_index text at - 48) * 100 + (slice_index text (at + 1) - 48) * 10 + (slice_index text (at + 2) - 48)
-
--- the first i digits are read: what they add up to, and where the digits end
+-- the first i bytes are digits, and they are read
 pub record IsRead (text : List ℕ) (i nanos : ℕ) : Type 0 where
   pub within : i ≤ length text
-  pub value : add_digits nanos (weight i) (front_digits (drop i text)) ≡ fraction_nanos (front_digits text)
-  pub rest : past_digits (drop i text) ≡ past_digits text
-  pub low : nanos < 1_000_000_000
-  pub room : nanos + 10 * weight i ≤ 1_000_000_000
+  pub digits : IsTrue (all_ascii_digits (take i text))
+  pub value : nanos ≡ fraction_nanos (take i text)

@@ -1,5 +1,5 @@
 use Rattle.std.proofs.Common.{sym, ◌∙◌}
-use Rattle.humantime.proofs.Timestamps.Reading.Fractions.{read_more}
+use Rattle.humantime.proofs.Timestamps.Reading.Steps.{read_more}
 use Rattle.humantime.proofs.date.parse.read_digits.Goals as goal
 
 pub loop-at-preserved : goal.loop-at-preserved
