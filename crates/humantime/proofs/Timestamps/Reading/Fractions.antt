@@ -13,7 +13,6 @@ use Rattle.std.proofs.lemmas.Str.{digit_value_digit}
 use Rattle.std.proofs.lemmas.Bool.{and_parts, and_from}
 use Rattle.humantime.specs.Timestamps.Fields.{fraction_nanos}
 use Rattle.humantime.specs.References.Timestamps.Fractions.{AreDigits, add_digits, weight}
-use Rattle.humantime.proofs.Durations.Reading.SignificantDigits.{zeros, value-zeros}
 
 -- ---- Digits
 
@@ -54,17 +53,24 @@ weights m d p q e =
     let tenth : q / 10 ≡ p = omega arith in
     rw tenth (rw e (grind arith))
 
-few_zeros : (k n : ℕ) → k ≤ n → take k (zeros n) ≡ zeros k
-few_zeros zero n h = refl
-few_zeros (suc k) zero h = absurd (omega arith)
-few_zeros (suc k) (suc n) h = ap (λ (ds : List ℕ). 48 ∷ ds) (few_zeros k n (omega arith))
+abbrev zeros : ℕ → List ℕ
+zeros zero = []
+zeros (suc n) = 48 ∷ zeros n
+
+-- k of n zeros after the number m
+zeros_read : (k n m : ℕ) → k ≤ n → digits_value_after 10 m (take k (zeros n)) ≡ m * 10 ^ k
+zeros_read zero n m h = omega arith
+zeros_read (suc k) zero m h = absurd (omega arith)
+zeros_read (suc k) (suc n) m h =
+    let rest : digits_value_after 10 (m * 10 + 0) (take k (zeros n)) ≡ (m * 10 + 0) * 10 ^ k = zeros_read k n (m * 10 + 0) (omega arith) in
+    rest ∙ (weights m 0 (10 ^ k) (10 ^ suc k) (pow-suc 10 k) ∙ omega arith)
 
 -- the first k digits, filled with zeros
 filled : (k n m : ℕ) (ds : List ℕ) → AreDigits ds → k ≤ n → digits_value_after 10 m (take k (ds ++ zeros n)) ≡ add_digits (m * 10 ^ k) (10 ^ k / 10) ds
 filled zero n m ds digits h =
     let same : m * 10 ^ 0 ≡ m = omega arith in
     rw same (sym (add_nothing m ds))
-filled (suc k) n m [] digits h = rw (few_zeros (suc k) n h) (value-zeros m (suc k))
+filled (suc k) n m [] digits h = zeros_read (suc k) n m h
 filled (suc k) n m (c ∷ cs) digits h =
     let value : digit_value c ≡ c - 48 = omega (arith, digit_value_digit c digits.0) in
     let power : 10 ^ suc k ≡ 10 ^ k * 10 = pow-suc 10 k in
