@@ -54,7 +54,7 @@ def exports(top):
     shutil.rmtree(os.path.join(place, "proofs", "answer_args"))
     shutil.copy(os.path.join(HERE, "exports.rt.txt"), os.path.join(place, "src", "lib.rt"))
     with open(os.path.join(top, "crates.txt"), "w") as file:
-        file.write(f"humantime: itoa\n{EXPORTS} staticlib: humantime\n")
+        file.write(f"humantime: itoa\n{EXPORTS} staticlib: humantime itoa\n")
     if not os.path.exists(os.path.join(top, ".git")):
         run(["git", "init", "-q", top], ROOT)
 
