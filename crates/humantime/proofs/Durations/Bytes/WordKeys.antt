@@ -71,7 +71,7 @@ reverse_same : (xs ys : List ℕ) → reverse xs ≡ reverse ys → xs ≡ ys
 reverse_same xs ys e = sym (reverse-reverse xs) ∙ ap reverse e ∙ reverse-reverse ys
 
 key_same : (xs ys : List ℕ) → HasBytes xs → HasBytes ys → length ys < 8 → key xs ≡ key ys → xs ≡ ys
-key_same xs ys h k short e = grind (arith, common_steps, packed_positive, reverse_same, packed_same, common_steps, get_or-reverse)
+key_same xs ys h k short e = grind (arith, common_steps, packed_positive, reverse_same, packed_same, get_or-reverse)
 
 key_tells : (bs w : List ℕ) → IsUtf8 bs → HasBytes bs → is_spelled w ≡ true → (key bs == key (bytes_of w)) ≡ bytes_eq (chars bs) w
 key_tells bs w text bytes spelled =

@@ -5,8 +5,6 @@ use Rattle.std.proofs.Common.{Bool, ◌≡◌, ◌↔◌, ℕ, ◌<◌, List, Re
 use Rattle.std.proofs.lemmas.Slice.Eq.{bytes_eq-Decides}
 use Rattle.humantime.specs.declared.duration.error.DurationError.{DurationError}
 use Rattle.humantime.specs.contracts.duration.error.DurationErrorPartialEq.TheImpl as errors
-use Rattle.std.proofs.lemmas.Bool.Decides.{nat_tests}
-use Rattle.std.proofs.lemmas.Slice.Eq.{bytes_eq-Decides}
 use Rattle.humantime.specs.Values.{duration_end}
 use Rattle.humantime.specs.Durations.Errors.{told, fault_of}
 use Rattle.humantime.specs.contracts.duration.error.DurationErrorPartialEq.TheImpl as errors
@@ -63,7 +61,7 @@ errors_equal e f = grind (arith, common_steps, nat_tests, bytes_eq-Decides)
 pub printed_duration_reads : (d : ℕ) → d < duration_end → PrintsAndReads d
 printed_duration_reads d fits =
     let reads : ReadsBack d = printed.canon_reads d (omega arith) in
-    let canon = counts.text_is_canon d in
+    let canon = counts.printed_is_canon d in
     record {
       one = back.one_text d;
       printed = canon;
@@ -72,14 +70,10 @@ printed_duration_reads d fits =
       answer = outcomes.outcome_accepted (chars (duration_text d)) d (reads (duration_text d) canon);
     }
 
--- The text that is printed is the canonical one, of any number of nanoseconds.
-pub printed_is_canon : (d : ℕ) → Canon d (duration_text d)
-printed_is_canon = counts.text_is_canon
-
 pub printed_durations_differ : (a b : ℕ) → a < duration_end → b < duration_end → PrintApart a b
 printed_durations_differ a b fits_a fits_b =
     let apart : TextsTellApart a b = back.texts_tell_apart a b (omega arith) (omega arith) in
-    record { canon = apart; text = apart (duration_text a) (duration_text b) (counts.text_is_canon a) (counts.text_is_canon b) }
+    record { canon = apart; text = apart (duration_text a) (duration_text b) (counts.printed_is_canon a) (counts.printed_is_canon b) }
 
 pub printed_bounds : (d : ℕ) → d < duration_end → IsBounded d
 printed_bounds d fits = record { length = lengths.canon_length d (omega arith); counts = lengths.counts_small d }

@@ -1,7 +1,6 @@
 -- Any number of texts one behind the other.
-use Rattle.std.proofs.Common.{arith}
+use Rattle.std.proofs.Common.{arith, ◌≢◌, ◌↔◌, ℕ, List, [], ◌∷◌, flat_map, sum_by, refl}
 use Rattle.std.proofs.lemmas.Grind.{common_steps}
-use Rattle.std.proofs.Common.{◌≢◌, ◌↔◌, ℕ, List, [], ◌∷◌, flat_map, sum_by, refl}
 use Rattle.std.specs.List.{AllByRecursion}
 use Rattle.humantime.specs.Durations.Spans.{Span, Reads}
 use Rattle.humantime.specs.Durations.Accepted.{additions, AllHaveRoom, Accepted}

@@ -1,7 +1,6 @@
 -- Texts one behind the other.
-use Rattle.std.proofs.Common.{arith}
+use Rattle.std.proofs.Common.{arith, ◌≡◌, ◌≢◌, ◌↔◌, ℕ, ◌+◌, true, List, [], ◌∷◌, ◌++◌, None, refl, sym, ap, ap₂, ◌∙◌, inl, inr, subst, append_assoc}
 use Rattle.std.proofs.lemmas.Grind.{common_steps}
-use Rattle.std.proofs.Common.{◌≡◌, ◌≢◌, ◌↔◌, ℕ, ◌+◌, true, List, [], ◌∷◌, ◌++◌, None, refl, sym, ap, ap₂, ◌∙◌, inl, inr, subst, append_assoc}
 use Rattle.std.specs.List.{AllByRecursion}
 use Rattle.humantime.specs.Durations.Characters.{is_ws}
 use Rattle.humantime.specs.Durations.Spans.{Span, Only, Spells, SpellsEach, SpellsAll, Reads}

@@ -1,13 +1,12 @@
 -- The canonical text of a text that was read, or not read.
-use Rattle.std.proofs.Common.{arith}
+use Rattle.std.proofs.Common.{arith, ◌≡◌, ◌↔◌, ℕ, List, Result, Ok, Err, refl, sym, ap, subst, ◌∙◌}
 use Rattle.std.proofs.lemmas.Grind.{common_steps}
-use Rattle.std.proofs.Common.{◌≡◌, ◌↔◌, ℕ, List, Result, Ok, Err, refl, sym, ap, subst, ◌∙◌}
 use Rattle.std.specs.Prelude.{chars}
 use Rattle.humantime.specs.Durations.Faults.{Fault, HasFault}
 use Rattle.humantime.specs.Durations.Counts.{Canon, IsCanonicalOf}
 use Rattle.humantime.specs.References.Durations.Printing.{duration_text}
 use Rattle.humantime.specs.References.Durations.Answers.{duration_answer, printed_answer, canonical_answer}
-use Rattle.humantime.proofs.Durations.Printing.GreatestCounts.{text_is_canon, canon_is_text}
+use Rattle.humantime.proofs.Durations.Printing.GreatestCounts.{printed_is_canon, canon_is_text}
 use Rattle.humantime.proofs.Durations.Reading.Outcomes.{answer_accepts, answer_faults}
 
 -- the canonical answer to a text that was read, and to one that was refused
@@ -29,7 +28,7 @@ unfolding canonical_answer
 answer_is_canonical s r e t = (
   (λ h.
       let p = printed_value (duration_answer (chars s)) t (sym e ∙ h) in
-      record { duration = p.0; accepted = (answer_accepts (chars s) _ refl p.0).0 p.1; canon = subst (Canon p.0) p.2 (text_is_canon p.0) }),
+      record { duration = p.0; accepted = (answer_accepts (chars s) _ refl p.0).0 p.1; canon = subst (Canon p.0) p.2 (printed_is_canon p.0) }),
   (λ h. e ∙ ap printed_answer ((answer_accepts (chars s) _ refl h.duration).1 h.accepted) ∙ ap (λ (u : List ℕ). Ok u) (sym (canon_is_text h.duration t h.canon))),
 )
 

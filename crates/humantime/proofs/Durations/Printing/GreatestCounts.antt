@@ -65,9 +65,9 @@ counts_divided d counts g =
     (both_ways _ (other.greatest counts g.as_many g.sum) (rw (nat_list_cmp_total.antisymm by_division counts) at (g.greatest by_division other.as_many other.sum)))
 
 -- the text by division is a canonical text, and there is no other
-pub text_is_canon : (d : ℕ) → Canon d (duration_text d)
+pub printed_is_canon : (d : ℕ) → Canon d (duration_text d)
 unfolding duration_text
-text_is_canon d = record { counts = divided weights d; are = divided_greatest d; shown = refl }
+printed_is_canon d = record { counts = divided weights d; are = divided_greatest d; shown = refl }
 
 pub canon_is_text : (d : ℕ) (text : List ℕ) → Canon d text → text ≡ duration_text d
 unfolding duration_text

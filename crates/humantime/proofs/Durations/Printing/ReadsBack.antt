@@ -10,7 +10,7 @@ use Rattle.humantime.specs.References.Durations.Printing.{duration_text}
 use Rattle.humantime.specs.Laws.Printed.{HasOneText, TextsTellApart, HasCanonicalText, KeepsItsValue, KeepsItsText}
 use Rattle.humantime.proofs.Durations.Reading.Rooms.{room_is_duration}
 use Rattle.humantime.proofs.Durations.Reading.Outcomes.{outcome_accepted}
-use Rattle.humantime.proofs.Durations.Printing.GreatestCounts.{text_is_canon, canon_is_text, one_canon}
+use Rattle.humantime.proofs.Durations.Printing.GreatestCounts.{printed_is_canon, canon_is_text, one_canon}
 use Rattle.humantime.proofs.Durations.Printing.PrintedSpans.{canon_reads}
 
 -- a text is accepted with at most one value
@@ -22,7 +22,7 @@ accepted_fits : (text : List ℕ) (v : ℕ) → Accepted text v → v / nanos_pe
 accepted_fits text v h = grind (arith, common_steps, room_is_duration)
 
 pub one_text : (d : ℕ) → HasOneText d
-one_text d = (duration_text d, text_is_canon d, canon_is_text d)
+one_text d = (duration_text d, printed_is_canon d, canon_is_text d)
 
 pub texts_tell_apart : (a b : ℕ) → a / nanos_per_second ≤ u64_max → b / nanos_per_second ≤ u64_max → TextsTellApart a b
 texts_tell_apart a b ha hb s t left right = (
@@ -31,7 +31,7 @@ texts_tell_apart a b ha hb s t left right = (
 )
 
 pub has_canonical_text : (s : List ℕ) → HasCanonicalText s
-has_canonical_text s v accepted = (duration_text v, record { duration = v; accepted = accepted; canon = text_is_canon v })
+has_canonical_text s v accepted = (duration_text v, record { duration = v; accepted = accepted; canon = printed_is_canon v })
 
 -- the canonical text of what is accepted is accepted with the same value
 canonical_read : (s t : List ℕ) (h : IsCanonicalOf s t) → Accepted (chars t) h.duration

@@ -22,7 +22,7 @@ room-true : (t : ℕ) (x : Addition) → room t x ≡ true → HasRoom t x
 room-true t x h = grind (arith, common_steps)
 
 room_from : (t : ℕ) (x : Addition) → HasRoom t x → room t x ≡ true
-room_from t x h = grind (arith, common_steps, common_steps)
+room_from t x h = grind (arith, common_steps)
 
 -- the sum where there is room, and none else
 pub add_all-room : (t : ℕ) (xs : List Addition) → RoomFrom t xs → add_all t xs ≡ Some (t + total xs)

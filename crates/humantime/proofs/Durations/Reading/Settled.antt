@@ -1,10 +1,9 @@
 -- What spans add up to by the reference, and whether they are within the limits.
-use Rattle.std.proofs.lemmas.Grind.{common_steps}
+use Rattle.std.proofs.lemmas.Grind.{common_steps, flat_map-append}
 use Rattle.std.proofs.Common.{◌≡◌, ◌⊎◌, ℕ, ◌≤◌, ◌+◌, ◌*◌, List, [], ◌∷◌, ◌++◌, Option, Some, None, Result, Ok, Err, map, ap, ◌∙◌, inl, inr, arith}
 use Rattle.std.specs.Prelude.{⊤}
 use Rattle.std.specs.List.{AllByRecursion}
 use Rattle.std.specs.Option.{IfSome}
-use Rattle.std.proofs.lemmas.Grind.{flat_map-append}
 use Rattle.humantime.specs.Durations.Characters.{decimal_value, u64_max}
 use Rattle.humantime.specs.Durations.Units.{Scale}
 use Rattle.humantime.specs.Durations.Spans.{Span}
@@ -23,13 +22,10 @@ abbrev pub WithinLimitsFrom : ℕ → List Span → Type 0
 WithinLimitsFrom t [] = ⊤
 WithinLimitsFrom t (s ∷ ss) = IsAddedTo t s × WithinLimitsFrom (t + total (additions_of s)) ss
 
-abbrev pub FitsAt : Option Scale → Span → Type 0
-FitsAt o s = IfSome o (λ u. (decimal_value s.number * amount u.one ≤ u64_max) × FitsFraction u.fraction s.fraction)
-
 -- the sum after a span that keeps the limits, and none after another
 add_span-added : (t : ℕ) (s : Span) → Formed s → IsAddedTo t s → add_span t s ≡ Some (t + total (additions_of s))
 unfolding add_span
-add_span-added t s f h = grind (arith, common_steps, add_all-room, common_steps)
+add_span-added t s f h = grind (arith, common_steps, add_all-room)
 
 add_span-over : (t : ℕ) (s : Span) → ¬ (IsAddedTo t s) → add_span t s ≡ None
 unfolding add_span

@@ -64,7 +64,7 @@ record IsRead (rest : List ℕ) (s : Span) (after : List ℕ) : Type 0 where
 
 parts_read : (a b word after : List ℕ) (o : Option (List ℕ)) → Only is_numeric a → SpellsFraction b o → Only is_letter word → begins is_letter word ≡ true
     → begins is_letter after ≡ false → IsRead (a ++ (b ++ (word ++ after))) (record { number = digits a; fraction = o; word = word }) after
-parts_read a b word after o only f letters some stops = grind (arith, common_steps, leading-append, past-append, common_steps, fraction_read)
+parts_read a b word after o only f letters some stops = grind (arith, common_steps, leading-append, past-append, fraction_read)
 
 spelling_parts : (here next : List ℕ) (s : Span) (h : Spells here s []) → here ++ next ≡ h.number_text ++ (h.fraction_text ++ (s.word ++ (h.space ++ next)))
 spelling_parts here next s h = ap (λ (x : List ℕ). x ++ next) (spells_alone here s h) ∙ simp append_assoc
@@ -72,7 +72,7 @@ spelling_parts here next s h = ap (λ (x : List ℕ). x ++ next) (spells_alone h
 -- a rest that spells a span is read as its number and fraction up to its word
 pub read_spelled : (rest next : List ℕ) (s : Span) (h : Spells rest s next)
     → IsReadToWord rest h.number_text h.fraction_text (s.word ++ (h.space ++ next)) s.fraction
-read_spelled rest next s h = grind (arith, common_steps, begins_word, common_steps, fraction_read, past-append, leading-append)
+read_spelled rest next s h = grind (arith, common_steps, begins_word, fraction_read, past-append, leading-append)
 
 pub no_letter_follows : (cs : List ℕ) → MayFollowWord cs → begins is_letter cs ≡ false
 no_letter_follows cs h = grind (arith, common_steps, numeric_not_letter)

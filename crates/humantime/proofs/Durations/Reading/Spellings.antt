@@ -1,7 +1,6 @@
 -- A spelling as a text of its own, and with more behind it.
-use Rattle.std.proofs.Common.{arith}
+use Rattle.std.proofs.Common.{arith, ◌≡◌, ℕ, List, [], ◌++◌, sym, ◌∙◌, append_assoc, append-nil}
 use Rattle.std.proofs.lemmas.Grind.{common_steps}
-use Rattle.std.proofs.Common.{◌≡◌, ℕ, List, [], ◌++◌, sym, ◌∙◌, append_assoc, append-nil}
 use Rattle.humantime.specs.Durations.Spans.{Span, Spells}
 
 -- The text is one that spells the span alone, and then the rest.

@@ -26,7 +26,3 @@ part_of_rests text behind part next start end u b n e s t = grind (arith, common
 -- what can't follow a word is there
 pub bad_some : (next : List ℕ) → ends_span next ≡ false → next ≢ []
 bad_some next e none = false≢true (sym e ∙ ap ends_span none)
-
--- an overflow has no place
-pub overflow_points : (s : List ℕ) (e : DurationError) → fault_of e ≡ NumberOverflow → PointsInto s e
-overflow_points s e h = grind (arith, common_steps)

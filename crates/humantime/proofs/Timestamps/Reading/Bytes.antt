@@ -15,9 +15,6 @@ use Rattle.humantime.proofs.Dates.Years.{valid_told}
 pub month_most : (y m : ℕ) → days_in_month y m ≤ 31
 month_most y m = grind (arith, nat_tests)
 
-pub all_append : (P : ℕ → Type 0) (xs ys : List ℕ) → AllByRecursion P xs → AllByRecursion P ys → AllByRecursion P (xs ++ ys)
-all_append P xs ys h k = grind (arith, common_steps)
-
 -- a property of the digits, the signs and the separators
 pub record HoldsOfBytes (P : ℕ → Type 0) : Type 0 where
   pub digit : (c : ℕ) → IsInRange 48 57 c → P c

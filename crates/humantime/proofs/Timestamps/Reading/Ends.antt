@@ -58,7 +58,7 @@ offset_end xs z = grind (arith, common_steps, (sym (append_assoc xs (codes "+00:
 -- behind plain bytes the zone is found
 pub zone_found : (xs : List ℕ) (z : Zone) → AllByRecursion IsPlain xs → zone_of (xs ++ zone_text z) ≡ z
 unfolding zone_of
-zone_found xs z h = grind (arith, common_steps, common_steps, offset_end)
+zone_found xs z h = grind (arith, common_steps, offset_end)
 
 pub before_zone_found : (xs : List ℕ) (z : Zone) → AllByRecursion IsPlain xs → before_zone (xs ++ zone_text z) ≡ xs
 before_zone_found xs z h =

@@ -1,6 +1,5 @@
-use Rattle.std.proofs.Common.{arith}
+use Rattle.std.proofs.Common.{arith, rules, refl}
 use Rattle.std.proofs.lemmas.Grind.{common_steps}
-use Rattle.std.proofs.Common.{rules, refl}
 use Rattle.humantime.proofs.Timestamps.Printing.Printed.{printed_text_is}
 use Rattle.humantime.proofs.date.print.Rfc3339TimestampDisplay.fmt.Goals as goal
 

@@ -1,6 +1,5 @@
-use Rattle.std.proofs.Common.{arith}
+use Rattle.std.proofs.Common.{arith, ap, chars, ◌∙◌}
 use Rattle.std.proofs.lemmas.Grind.{common_steps}
-use Rattle.std.proofs.Common.{ap, chars, ◌∙◌}
 use Rattle.std.proofs.lemmas.Result.{err_from_is_err_and}
 use Rattle.humantime.specs.References.Durations.Printing.{duration_text}
 use Rattle.humantime.proofs.Durations.Printing.CanonicalTexts.{canonical_if_read, canonical_if_refused}
