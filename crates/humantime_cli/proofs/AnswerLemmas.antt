@@ -1,6 +1,6 @@
 -- What the library's answers tell, and that the words have one answer.
 use Rattle.std.proofs.Common.{◌≡◌, ◌≢◌, ◌↔◌, ℕ, List, [], ◌∷◌, length, ap, sym, ◌∙◌, refl}
-use Rattle.std.specs.Prelude.{ℤ, Option, None, Some, Result, Ok, Err, chars, codes, IfOk, unwrap_or, if◌then◌else◌, ◌==◌}
+use Rattle.std.specs.Prelude.{ℤ, None, Some, Result, Ok, Err, chars, codes, IfOk, unwrap_or, if◌then◌else◌, ◌==◌}
 use Rattle.std.specs.Result.{result_map_both}
 use Rattle.humantime.specs.declared.date.error.TimestampError.{TimestampError}
 use Rattle.humantime.specs.Prelude.{Fault, HasFault, IsCanonicalOf, IsPrintable, fault_message, timestamp_message, canonical_answer, strict_answer, weak_answer, places_of, shortest_text}

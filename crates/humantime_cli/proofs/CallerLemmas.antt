@@ -1,6 +1,6 @@
 -- What a caller concludes of a run at words that it knows, where the bytes of both writers are known.
-use Rattle.std.proofs.Common.{arith, ◌≡◌, ◌≢◌, ◌<◌, ℕ, List, [], ◌∷◌, ◌++◌, length, take, sym, ◌∙◌, subst, inl, inr, refl}
-use Rattle.std.specs.Prelude.{Option, None, Some, Ok, Err, codes}
+use Rattle.std.proofs.Common.{arith, ◌≡◌, ◌≢◌, ◌<◌, ℕ, List, [], ◌∷◌, ◌++◌, length, take, subst, inl, inr, refl}
+use Rattle.std.specs.Prelude.{Option, Some, Ok, Err, codes}
 use Rattle.humantime.specs.Prelude.{InvalidCharacter}
 use Rattle.humantime.proofs.OnLiterals.{humantime_on_literals}
 use Rattle.humantime.proofs.Theorems.{canonical_again}

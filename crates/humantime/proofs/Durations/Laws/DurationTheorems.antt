@@ -9,7 +9,6 @@ use Rattle.humantime.specs.Values.{duration_end}
 use Rattle.humantime.specs.Durations.Errors.{told, fault_of}
 use Rattle.humantime.specs.contracts.duration.error.DurationErrorPartialEq.TheImpl as errors
 use Rattle.humantime.specs.Laws.Outcomes.{HasOneOutcome, ItemsDecide, LendsOneList}
-use Rattle.humantime.specs.Durations.Counts.{Canon}
 use Rattle.humantime.specs.References.Durations.Printing.{duration_text}
 use Rattle.humantime.specs.Laws.Printed.{ReadsBack, TextsTellApart, PrintsAndReads, PrintApart, IsBounded, IsCanonicalAgain}
 use Rattle.humantime.specs.References.Durations.Answers.{duration_answer, canonical_answer}

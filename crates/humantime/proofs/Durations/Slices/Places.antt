@@ -3,10 +3,8 @@ use Rattle.std.proofs.lemmas.Grind.{common_steps}
 use Rattle.std.proofs.Common.{◌≡◌, ◌≢◌, ◌<◌, ◌-◌, ◌++◌, ℕ, false, List, [], length, sym, ap, ◌∙◌, arith, IsUtf8, chars}
 use Rattle.std.proofs.lemmas.Bool.{false≢true}
 use Rattle.std.proofs.lemmas.Str.{chars-nil}
-use Rattle.humantime.specs.declared.duration.error.DurationError.{DurationError}
 use Rattle.humantime.specs.Durations.Characters.{offset_of}
-use Rattle.humantime.specs.Durations.Errors.{fault_of, IsPlaceIn, IsPartOf, PointsInto}
-use Rattle.humantime.specs.Durations.Faults.{NumberOverflow}
+use Rattle.humantime.specs.Durations.Errors.{IsPlaceIn, IsPartOf}
 use Rattle.humantime.specs.References.Durations.Scanning.{IsTail, ends_span}
 use Rattle.humantime.proofs.Durations.Bytes.Tails.{tail_boundary, part_between}
 
