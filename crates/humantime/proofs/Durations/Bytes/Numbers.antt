@@ -34,10 +34,10 @@ read_digit text bytes at ds u same some h d =
     rw same
     (record { place = c.1.place; all = digit_read _ ds _ _ _ h.all c.1.ahead c.0; after = rw (c.1.ahead, digit_is_numeric _ c.0) at h.after })
 
-pub read_space : (text bytes : List ℕ) (at width : ℕ) (ds : List ℕ) → IsUtf8 text → bytes ≡ text → at < length bytes → IsRead text at ds
-    → width ≡ space_width (chars (drop at text)) → width ≢ 0 → IsRead text (at + width) ds
-read_space text bytes at width ds u same some h w further =
-    let c = space_over text at width u (rw same at some, h.place) w further in
+pub read_space : (text bytes : List ℕ) (at next : ℕ) (ds : List ℕ) → IsUtf8 text → bytes ≡ text → at < length bytes → IsRead text at ds
+    → 0 < space_width (chars (drop at text)) → next ≡ at + space_width (chars (drop at text)) → IsRead text next ds
+read_space text bytes at next ds u same some h further n =
+    let c = space_over text at next u (rw same at some, h.place) further n in
     record {
       place = c.2.place;
       all = rw (c.2.ahead, space_is_numeric _ c.1, space_not_digit _ c.1) at h.all;
@@ -52,9 +52,9 @@ none_there rest e = grind (arith, common_steps)
 
 -- no digit and no white space stands at this place
 pub stops_here : (text bytes : List ℕ) (at : ℕ) → IsUtf8 text → bytes ≡ text → at < length bytes → IsCharBoundary text at → is_ascii_digit (get_or bytes at 0) ≡ false
-    → 0 ≡ space_width (chars (drop at text)) → begins is_numeric (chars (drop at text)) ≡ false
+    → ¬ (0 < space_width (chars (drop at text))) → begins is_numeric (chars (drop at text)) ≡ false
 stops_here text bytes at u same some place d w =
-    no_numeric _ (sym (digit_at text at u (rw same at some, place)) ∙ rw same at d) (no_space _ (sym w))
+    no_numeric _ (sym (digit_at text at u (rw same at some, place)) ∙ rw same at d) (no_space _ w)
 
 -- all digits are read where none follows, and no white space
 pub all_read : (text : List ℕ) (at : ℕ) (ds : List ℕ) → IsUtf8 text → IsRead text at ds → begins is_numeric (chars (drop at text)) ≡ false

@@ -81,11 +81,11 @@ pub digit_over : (text : List ℕ) (at : ℕ) → IsUtf8 text → IsPlaceIn text
 digit_over text at u here d = (sym (digit_is _) ∙ d, ascii_at text at u here (grind (arith, common_steps, wide_no_digit)))
 
 -- white space at a place is a character of its width
-pub space_over : (text : List ℕ) (at width : ℕ) → IsUtf8 text → IsPlaceIn text at → width ≡ space_width (chars (drop at text)) → width ≢ 0
-    → (c : ℕ) × (is_ws c ≡ true) × IsCharAt text at c (at + width)
-space_over text at width u here w some = let c = char_at text at u here in grind (arith, common_steps)
+pub space_over : (text : List ℕ) (at next : ℕ) → IsUtf8 text → IsPlaceIn text at → 0 < space_width (chars (drop at text))
+    → next ≡ at + space_width (chars (drop at text)) → (c : ℕ) × (is_ws c ≡ true) × IsCharAt text at c next
+space_over text at next u here some n = let c = char_at text at u here in grind (arith, common_steps)
 
-pub no_space : (cs : List ℕ) → space_width cs ≡ 0 → begins is_ws cs ≡ false
+pub no_space : (cs : List ℕ) → ¬ (0 < space_width cs) → begins is_ws cs ≡ false
 no_space cs none = grind (arith, common_steps, len_utf8_bounds)
 
 -- the white space that begins a text is its first character, if that is white space
@@ -172,6 +172,6 @@ no_letter text at u here wide other =
     rw c.1.ahead (grind (arith, common_steps, micro_bytes, mu_bytes, two_bytes, nat_tests))
 
 -- white space ends a span, and so does a digit
-pub ends_by_width : (cs : List ℕ) → cs ≢ [] → (ltb 0 (space_width cs) ≡ true → ends_span cs ≡ true) × (ltb 0 (space_width cs) ≡ false → begins is_digit cs ≡ ends_span cs)
+pub ends_by_width : (cs : List ℕ) → cs ≢ [] → (0 < space_width cs → ends_span cs ≡ true) × (¬ (0 < space_width cs) → begins is_digit cs ≡ ends_span cs)
 ends_by_width [] some = absurd (some refl)
 ends_by_width (c ∷ cs) some = grind (arith, common_steps, len_utf8_bounds)

@@ -36,7 +36,7 @@ fn is_bare(fraction: Option<Fraction>) -> bool
 fn ends_span(next: &str) -> bool
     ensures { result ≡ ends_span (chars next.now) }
 {
-    next.is_empty() || space_at(next, 0) > 0 || begins_with_digit(next)
+    next.is_empty() || space_at(next, 0).is_some() || begins_with_digit(next)
 }
 
 /// The number, the fraction and the word that begin a rest, and what follows each of them.

@@ -1,6 +1,6 @@
 //! Steps over a text: white space, a number, a fraction.
 
-ghost use Rattle.std.specs.Prelude.{◌≡◌, ◌-◌, drop, length, chars, option_map, IfSome};
+ghost use Rattle.std.specs.Prelude.{◌≡◌, ◌-◌, ◌+◌, ◌<◌, SomeIff, drop, length, chars, option_map, IfSome};
 ghost use Rattle.humantime.specs.Durations.Characters.{is_digit, is_ws, begins, past, offset_of};
 ghost use Rattle.humantime.specs.Durations.Errors.{IsPlaceIn};
 ghost use Rattle.humantime.specs.References.Durations.Scales.{parts_of};
@@ -24,19 +24,24 @@ fn wide_space(text: &str) -> usize
     }
 }
 
-/// How many bytes the white space at this place has: those of one character, or none.
+/// The place after the white space at this place, if a character of white space stands there.
+///
+/// It gives a place, not a width: the next place then waits for no table.
 #[inline(always)]
-pub(crate) fn space_at(text: &str, at: usize) -> usize
+pub(crate) fn space_at(text: &str, at: usize) -> Option<usize>
     requires { IsPlaceIn text.now at }
-    ensures { result ≡ space_width (chars (drop at text.now)) }
+    ensures { SomeIff result (0 < space_width (chars (drop at text.now))) (at + space_width (chars (drop at text.now))) }
 {
     let bytes = text.as_bytes();
     if bytes[at] >= 0x80 {
-        return wide_space(&text[at..]);
+        return match wide_space(&text[at..]) {
+            0 => None,
+            width => Some(at + width),
+        };
     }
     match ascii_class(bytes[at]) {
-        Class::White => 1,
-        Class::Letter | Class::Other => 0,
+        Class::White => Some(at + 1),
+        Class::Letter | Class::Other => None,
     }
 }
 
@@ -50,8 +55,8 @@ pub(crate) fn past_space<'a>(text: &'a str) -> &'a str
     let mut at = 0;
     while at < bytes.len() {
         match space_at(text, at) {
-            0 => break,
-            width => at += width,
+            Some(next) => at = next,
+            None => break,
         }
     }
     &text[at..]
@@ -91,8 +96,8 @@ pub(crate) fn read_number<'a>(text: &'a str) -> Option<(u64, &'a str, &'a str)>
             at += 1;
         } else {
             match space_at(text, at) {
-                0 => break,
-                width => at += width,
+                Some(next) => at = next,
+                None => break,
             }
         }
     }
@@ -115,8 +120,8 @@ fn read_digits<'a>(text: &'a str) -> Option<(Fraction, &'a str, &'a str)>
             at += 1;
         } else {
             match space_at(text, at) {
-                0 => break,
-                width => at += width,
+                Some(next) => at = next,
+                None => break,
             }
         }
     }

@@ -7,7 +7,7 @@ use Rattle.humantime.proofs.Durations.Bytes.Numbers.{none_read, read_digit, read
 use Rattle.humantime.proofs.Durations.Bytes.FractionDigits.{no_digits, digits_pass, digits_end}
 use Rattle.humantime.proofs.Durations.Bytes.Tails.{no_chars_at}
 use Rattle.humantime.proofs.duration.reading.scan.read_digits.Goals as goal
-use Rattle.humantime.proofs.duration.reading.scan.read_digits.Goals.{else-loop-at-test, then-loop-at-test+else-is_ascii_digit+in-0}
+use Rattle.humantime.proofs.duration.reading.scan.read_digits.Goals.{else-loop-at-test, then-loop-at-test+else-is_ascii_digit+in-None}
 
 pub loop-at-init : goal.loop-at-init
 loop-at-init c = record { taken = []; read = none_read _ c.utf8.text; digits = no_digits; few = omega arith }
@@ -35,7 +35,7 @@ loop-at-preserved-then-is_ascii_digit c =
 pub loop-at-preserved : goal.loop-at-preserved
 loop-at-preserved c =
     let i = c.loop-at.invariant in
-    let read = read_space _ _ _ _ _ c.utf8.text c.as_bytes-bytes.ensures.value c.loop-at-test.true i.read c.space_at.ensures (grind (arith, common_steps)) in
+    let read = read_space _ _ _ _ _ c.utf8.text c.as_bytes-bytes.ensures.value c.loop-at-test.true i.read c.in-Some.ensures.0 c.in-Some.ensures.1 in
     record { taken = i.taken; read = read; digits = i.digits; few = omega (arith, i.few) }
 
 pub returns-in_err-digits-clause-value : goal.returns-in_err-digits-clause-value
@@ -54,9 +54,9 @@ returns-clause-value c =
     let i = c.loop-at.invariant in
     let ended : begins is_numeric (chars (drop c.loop-at.at c.args.text.now)) ≡ false = elim c.loop-at-test.branch [
       | else-loop-at-test w ↦ ap (begins is_numeric) (no_chars_at c.args.text.now c.loop-at.at (omega (arith, w.loop-at-test.false, c.as_bytes-bytes.ensures.len)))
-      | then-loop-at-test+else-is_ascii_digit+in-0 w ↦
+      | then-loop-at-test+else-is_ascii_digit+in-None w ↦
           stops_here _ _ _ c.utf8.text c.as_bytes-bytes.ensures.value w.loop-at-test.true i.read.place
-          (sym w.is_ascii_digit.ensures.value ∙ w.if-is_ascii_digit.false) (sym w.in-0.is ∙ w.space_at.ensures)
+          (sym w.is_ascii_digit.ensures.value ∙ w.if-is_ascii_digit.false) w.in-None.ensures
     ] in
     let front : c.range.result.now ≡ take c.loop-at.at c.args.text.now = grind (arith, common_steps) in
     rw (front, c.range_from.ensures.value) (digits_end c.loop-at.digits c.fraction.result _ _ _ _ i.digits (c.fraction.ensures i.taken i.digits) (all_read _ _ _ c.utf8.text i.read ended))
