@@ -30,7 +30,7 @@ fn length_of_month(year: u32, month: u32) -> u32
     }
 }
 
-#[tactic(auto, using(humantime::proofs::Dates::Years::days_of_years_more, humantime::proofs::Dates::Years::days_of_years_bound, humantime::proofs::Dates::Years::days_of_no_years))]
+#[tactic(auto, using(crate::proofs::CountedDays::days_of_years_more, crate::proofs::CountedDays::days_of_years_bound, crate::proofs::CountedDays::days_of_no_years))]
 fn counted_years(year: u32) -> u32
     requires low { 1970 ≤ year }
     requires high { year ≤ 9999 }
@@ -43,7 +43,7 @@ fn counted_years(year: u32) -> u32
     days
 }
 
-#[tactic(auto, using(humantime::proofs::Dates::Years::days_of_months_more, humantime::proofs::Dates::Years::days_of_months_bound, humantime::proofs::Dates::Years::days_of_no_months))]
+#[tactic(auto, using(crate::proofs::CountedDays::days_of_months_more, crate::proofs::CountedDays::days_of_months_bound, crate::proofs::CountedDays::days_of_no_months))]
 fn counted_months(year: u32, month: u32) -> u32
     requires low { 1 ≤ month }
     requires high { month ≤ 12 }
@@ -56,7 +56,7 @@ fn counted_months(year: u32, month: u32) -> u32
     days
 }
 
-#[tactic(auto, using(humantime::proofs::Dates::Years::days_of_years_bound, humantime::proofs::Dates::Years::days_of_months_bound))]
+#[tactic(auto, using(crate::proofs::CountedDays::days_of_years_bound, crate::proofs::CountedDays::days_of_months_bound))]
 fn counted_day(date: Date) -> Option<u32>
     ensures valid { IsSome result ↔ IsDate date }
     ensures day { IfSome result (λ n. n ≡ day_of date) }
@@ -70,7 +70,7 @@ fn counted_day(date: Date) -> Option<u32>
     Some(counted_years(date.year) + counted_months(date.year, date.month) + date.day - 1)
 }
 
-#[tactic(auto, using(humantime::proofs::Dates::Years::days_of_months_more, humantime::proofs::Dates::Years::days_of_months_all, humantime::proofs::Dates::Years::days_of_no_months))]
+#[tactic(auto, using(crate::proofs::CountedDays::days_of_months_more, crate::proofs::CountedDays::days_of_months_all, crate::proofs::CountedDays::days_of_no_months))]
 fn date_in_year(year: u32, day: u32) -> Date
     requires low { 1970 ≤ year }
     requires high { year ≤ 9999 }
@@ -90,7 +90,7 @@ fn date_in_year(year: u32, day: u32) -> Date
     unreachable!()
 }
 
-#[tactic(auto, using(humantime::proofs::Dates::Years::days_of_years_more, humantime::proofs::Dates::Years::days_of_no_years, humantime::proofs::Dates::Years::days_of_years_within, humantime::proofs::Dates::Years::days_of_years_all))]
+#[tactic(auto, using(crate::proofs::CountedDays::days_of_years_more, crate::proofs::CountedDays::days_of_no_years, crate::proofs::CountedDays::days_of_years_within, crate::proofs::CountedDays::days_of_years_all))]
 fn counted_date(day: u32) -> Option<Date>
     ensures within { IsSome result ↔ (day ≤ 2_932_896) }
     ensures date { IfSome result (λ d. IsDate d × (day_of d ≡ day)) }
