@@ -1,8 +1,6 @@
 //! The spans of a text, one at a time.
 
-ghost use Rattle.std.specs.Prelude.{◌≡◌, chars, IfSome, IfErr};
 ghost use Rattle.std.proofs.Props.{props};
-ghost use Rattle.humantime.specs.Durations.Errors.{PointsInto};
 ghost use Rattle.humantime.specs.References.Durations.Scanning.{IsTail};
 
 use crate::duration::error::DurationError;
@@ -20,38 +18,24 @@ use crate::duration::reading::span::Span;
 /// ```
 #[derive(Drop)]
 pub struct SpanIter<'a> {
-    text: &'a str,
-    rest: &'a str,
-    ended: bool,
+    pub(crate) text: &'a str,
+    pub(crate) rest: &'a str,
+    pub(crate) ended: bool,
     ghost tail: { IsTail text.now rest.now } by { Prim.hlevel props },
 }
 
-impl<'a> SpanIter<'a> {
-    ghost use Rattle.std.specs.Iterator.{YieldsFirstBy};
-    ghost use Rattle.humantime.specs.References.Durations.Lending.{lent_items};
-    ghost use Rattle.humantime.specs.References.Durations.Lents.{item_of};
-    ghost use Rattle.humantime.specs.References.Durations.Remaining.{items_left, text_of};
+impl<'a> Iterator for SpanIter<'a> {
+    type Item = Result<Span<'a>, DurationError<'a>>;
 
-    /// All items of a text.
-    #[inline(always)]
-    pub(crate) fn new(text: &'a str) -> SpanIter<'a>
-        ensures items { items_left result ≡ lent_items (chars text.now) }
-        ensures text { text_of result ≡ text.now }
-    {
-        SpanIter {
-            text,
-            rest: text,
-            ended: false,
-        }
-    }
+    ghost use Rattle.std.specs.Iterator.{item_count};
+    ghost use Rattle.humantime.specs.References.Durations.Remaining.{items_left, GivesItem};
 
-    /// The next item, whose error points into the text.
+    ghost next_gives = { GivesItem };
+
+    ghost remaining = { item_count items_left };
+
     #[inline(always)]
-    pub(crate) fn step(&mut self) -> Option<Result<Span<'a>, DurationError<'a>>>
-        ensures items { YieldsFirstBy item_of items_left self.old result self.new }
-        ensures place { IfSome result (λ item. IfErr item (PointsInto (text_of self.old))) }
-        ensures text { text_of self.new ≡ text_of self.old }
-    {
+    fn next(&mut self) -> Option<Result<Span<'a>, DurationError<'a>>> {
         if self.ended {
             return None;
         }
@@ -78,21 +62,5 @@ impl<'a> SpanIter<'a> {
                 Some(Err(e))
             }
         }
-    }
-}
-
-impl<'a> Iterator for SpanIter<'a> {
-    type Item = Result<Span<'a>, DurationError<'a>>;
-
-    ghost use Rattle.std.specs.Iterator.{item_count};
-    ghost use Rattle.humantime.specs.References.Durations.Remaining.{items_left, GivesItem};
-
-    ghost next_gives = { GivesItem };
-
-    ghost remaining = { item_count items_left };
-
-    #[inline(always)]
-    fn next(&mut self) -> Option<Result<Span<'a>, DurationError<'a>>> {
-        self.step()
     }
 }

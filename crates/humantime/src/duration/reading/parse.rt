@@ -5,9 +5,9 @@ ghost use Rattle.humantime.specs.References.Durations.Answers.{duration_answer};
 ghost use Rattle.humantime.specs.Durations.Errors.{told, PointsInto};
 ghost use Rattle.humantime.specs.Durations.Accepted.{Accepted};
 ghost use Rattle.humantime.specs.Durations.Faults.{Fault, HasFault};
+ghost use Rattle.humantime.specs.Durations.Items.{AreItems};
 ghost use Rattle.humantime.specs.References.Durations.Lending.{judged, lent_items};
 ghost use Rattle.humantime.specs.References.Durations.Remaining.{items_left, text_of};
-ghost use Rattle.humantime.specs.Durations.Items.{AreItems};
 
 use crate::duration::error::DurationError;
 use crate::duration::reading::iter::SpanIter;
@@ -29,7 +29,11 @@ pub fn spans(s: &str) -> SpanIter<'_>
     ensures items { AreItems (chars s.now) (items_left result) }
     ensures text { text_of result ≡ s.now }
 {
-    SpanIter::new(s)
+    SpanIter {
+        text: s,
+        rest: s,
+        ended: false,
+    }
 }
 
 /// The sum of the spans of a text. It stands out of line, so that the text `0` is answered at once.
@@ -40,7 +44,7 @@ fn sum_of<'a>(text: &'a str) -> Result<StdDuration, DurationError<'a>>
 {
     let mut total = StdDuration::ZERO;
     let mut items = spans(text);
-    while let Some(item) = items.step() {
+    while let Some(item) = items.next() {
         let span = item?;
         match add_amount(total, span.amount) {
             Some(sum) => total = sum,
@@ -48,19 +52,6 @@ fn sum_of<'a>(text: &'a str) -> Result<StdDuration, DurationError<'a>>
         }
     }
     Ok(total)
-}
-
-/// The value of a text, or its first fault.
-#[inline(always)]
-#[tactic(auto, using(crate::proofs::Durations::Slices::LentItems::sum_answers))]
-fn outcome_of<'a>(text: &'a str) -> Result<StdDuration, DurationError<'a>>
-    ensures answer { told result ≡ duration_answer (chars text.now) }
-    ensures place { IfErr result (PointsInto text.now) }
-{
-    if text.len() == 1 && text == "0" {
-        return Ok(StdDuration::ZERO);
-    }
-    sum_of(text)
 }
 
 /// The duration that a text spells, or else its first fault.
@@ -79,5 +70,8 @@ pub fn parse_duration(s: &str) -> Result<StdDuration, DurationError<'_>>
     ensures answer { told result ≡ duration_answer (chars s.now) }
     ensures place { IfErr result (PointsInto s.now) }
 {
-    outcome_of(s)
+    if s.len() == 1 && s == "0" {
+        return Ok(StdDuration::ZERO);
+    }
+    sum_of(s)
 }

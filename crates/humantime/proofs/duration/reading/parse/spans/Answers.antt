@@ -1,6 +1,9 @@
-use Rattle.std.proofs.Common.{chars}
+use Rattle.std.proofs.Common.{◌≡◌, ◌==◌, true, length, chars, arith}
+use Rattle.std.proofs.lemmas.Grind.{common_steps}
 use Rattle.humantime.proofs.Durations.Slices.LentItems.{are_items}
 use Rattle.humantime.proofs.duration.reading.parse.spans.Goals as goal
 
 pub returns-clause-items : goal.returns-clause-items
-returns-clause-items c = rw c.new.ensures.items (are_items (chars c.args.s.now))
+returns-clause-items c =
+    let first : (length c.args.s.now == length c.args.s.now) ≡ true = grind (arith, common_steps) in
+    rw first (are_items (chars c.args.s.now))

@@ -25,7 +25,7 @@ unfolding settle
 loop-item-preserved c =
     let x = lent_of c.in_ok-span.span in
     let a = c.in-Some-add_amount.ensures (spelled x.number x.fraction x.unit) c.in_ok-span.span.read in
-    record { so_far = grind (arith, common_steps); text = c.step.ensures.text ∙ c.loop-item.invariant.text }
+    record { so_far = grind (arith, common_steps); text = c.next.ensures.steps.1 ∙ c.loop-item.invariant.text }
 
 pub returns-in-None-clause-value : goal.returns-in-None-clause-value
 unfolding settle

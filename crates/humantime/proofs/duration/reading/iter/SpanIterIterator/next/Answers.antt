@@ -1,0 +1,47 @@
+use Rattle.std.proofs.Common.{◌<◌, length, ne_eqb, refl, arith, rules}
+use Rattle.std.proofs.lemmas.Grind.{common_steps}
+use Rattle.humantime.proofs.Durations.Slices.Iterating.{step_fine, step_stopped, step_expected, step_end}
+use Rattle.humantime.proofs.Durations.Slices.SpanSlices.{next_bytes}
+use Rattle.humantime.proofs.Durations.Slices.Places.{rest_place}
+use Rattle.humantime.proofs.Durations.Bytes.Tails.{byte_length-chars, no_bytes, some_chars, tail_of_tail}
+use Rattle.humantime.proofs.duration.reading.iter.SpanIterIterator.next.Goals as goal
+
+pub returns-then-self-text-clause-steps : goal.returns-then-self-text-clause-steps
+returns-then-self-text-clause-steps c = (grind (arith, common_steps, no_bytes, step_end), refl, tt)
+
+pub returns-then-self-text-clause-goes : goal.returns-then-self-text-clause-goes
+returns-then-self-text-clause-goes c =
+    let s = returns-then-self-text-clause-steps c in
+    search rules
+
+pub returns-then-is_empty-clause-steps : goal.returns-then-is_empty-clause-steps
+returns-then-is_empty-clause-steps c = (grind (arith, common_steps, no_bytes, step_end), refl, tt)
+
+pub returns-then-not-begins_with_digit-clause-steps : goal.returns-then-not-begins_with_digit-clause-steps
+returns-then-not-begins_with_digit-clause-steps c =
+    let s = c.args.self.now in
+    let rest = c.past_space-rest.result.now in
+    let some : 0 < length rest = grind (arith, common_steps) in
+    let tail = tail_of_tail s.text.now s.rest.now rest s.tail c.past_space-rest.ensures.tail in
+    (grind (arith, common_steps, step_expected, some_chars), refl, rest_place s.text.now rest _ tail c.offset_of.ensures.bytes some)
+
+pub returns-then-not-begins_with_digit-clause-goes : goal.returns-then-not-begins_with_digit-clause-goes
+returns-then-not-begins_with_digit-clause-goes c =
+    let s = returns-then-not-begins_with_digit-clause-steps c in
+    grind (arith, common_steps)
+
+pub returns-in-Ok-clause-steps : goal.returns-in-Ok-clause-steps
+returns-in-Ok-clause-steps c = (grind (arith, common_steps, next_bytes, byte_length-chars, ne_eqb, step_fine), refl, tt)
+
+pub returns-in-Ok-clause-goes : goal.returns-in-Ok-clause-goes
+returns-in-Ok-clause-goes c =
+    let s = (returns-in-Ok-clause-steps c).0 in
+    search rules
+
+pub returns-in-Err-clause-steps : goal.returns-in-Err-clause-steps
+returns-in-Err-clause-steps c = (grind (arith, common_steps, step_stopped), refl, c.in-Err.ensures.place)
+
+pub returns-in-Err-clause-goes : goal.returns-in-Err-clause-goes
+returns-in-Err-clause-goes c =
+    let s = (returns-in-Err-clause-steps c).0 in
+    grind (arith, common_steps)
