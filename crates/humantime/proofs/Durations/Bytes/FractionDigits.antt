@@ -4,7 +4,6 @@ use Rattle.std.proofs.lemmas.Grind.{common_steps}
 use Rattle.std.proofs.lemmas.Bool.{lt-ltb, ne_eqb}
 use Rattle.std.proofs.lemmas.Nat.{pow-add}
 use Rattle.std.proofs.Math.Nat.{pow-le-pow_right, mul-le-mul_right}
-use Rattle.humantime.specs.declared.duration.reading.amount.Digits.{Digits}
 use Rattle.humantime.specs.declared.duration.reading.amount.Fraction.{Fraction}
 use Rattle.humantime.specs.Durations.Characters.{is_digit, is_numeric, leading, decimal_value, significant}
 use Rattle.humantime.specs.Durations.Faults.{number_of, after_number}
@@ -36,7 +35,7 @@ pub zero_more : (ds : List ℕ) (c : ℕ) → c ≡ 48 → significant (ds ++ c 
 zero_more ds c e = rw e (significant_zero ds)
 
 -- another digit follows the zeros
-pub digit_more : (d : Digits) (ds : List ℕ) (c p : ℕ) → AreDigits d ds → is_digit c ≡ true → c ≢ 48 → p ≡ 10 ^ (d.zeros + 1)
+pub digit_more : (d : Fraction) (ds : List ℕ) (c p : ℕ) → AreDigits d ds → is_digit c ≡ true → c ≢ 48 → p ≡ 10 ^ (d.zeros + 1)
     → (decimal_value (significant (ds ++ c ∷ [])) ≡ d.value * p + (c - 48)) × (significant (ds ++ c ∷ []) ≡ ds ++ c ∷ [])
     × (length (ds ++ c ∷ []) ≡ d.count + (d.zeros + 1))
 digit_more d ds c p h is some power =
@@ -54,7 +53,7 @@ one_too_many ds es c some full = omega (arith, full, significant_long ds es c (n
 pub digits_pass : (text es : List ℕ) → number_of text ≡ es → 19 < length (significant es) → None ≡ digits_at text
 digits_pass text es e over = rw (e, lt-ltb 19 (length (significant es)) over) refl
 
-pub digits_end : (d : Digits) (f : Fraction) (text ds front rest : List ℕ) → AreDigits d ds → parts_of f ≡ counted ds
+pub digits_end : (f : Fraction) (text ds front rest : List ℕ) → AreDigits f ds
     → (number_of text ≡ ds) × (front ≡ leading is_numeric text) × (rest ≡ after_number text)
     → Some (parts_of f, front, rest) ≡ digits_at text
-digits_end d f text ds front rest h parts a = grind (arith, common_steps)
+digits_end f text ds front rest h a = grind (arith, common_steps)

@@ -1,5 +1,5 @@
 -- What the code's units stand for.
-use Rattle.std.specs.Prelude.{◌≡◌, ℕ, Bool, true, false, List, [], ◌∷◌, length, Some, option_map}
+use Rattle.std.specs.Prelude.{◌≡◌, ◌+◌, ℕ, List, length, Some, option_map}
 use Rattle.humantime.specs.declared.unit.Unit.{Unit}
 use Rattle.humantime.specs.declared.unit.Unit.TheVariants.{Nanosecond, Microsecond, Millisecond, Second, Minute, Hour, Day, Week, Month, Year}
 use Rattle.humantime.specs.declared.duration.reading.amount.Fraction.{Fraction}
@@ -21,20 +21,16 @@ scale_of Week = in_seconds seconds_per_week
 scale_of Month = in_seconds seconds_per_month
 scale_of Year = in_seconds seconds_per_year
 
--- a fraction as the number that its digits before the zeros at their end read as, how many these are, and whether there is
--- a digit at all
+-- a fraction as the number that its digits before the zeros at their end read as, how many these are, and how many digits
+-- there are in all
 abbrev pub Counted : Type 0
-Counted = ℕ × ℕ × Bool
-
-abbrev pub has_digits : List ℕ → Bool
-has_digits [] = false
-has_digits (d ∷ ds) = true
+Counted = ℕ × ℕ × ℕ
 
 abbrev pub counted : List ℕ → Counted
-counted ds = (decimal_value (significant ds), length (significant ds), has_digits ds)
+counted ds = (decimal_value (significant ds), length (significant ds), length ds)
 
 abbrev pub parts_of : Fraction → Counted
-parts_of f = (f.value, f.count, f.any)
+parts_of f = (f.value, f.count, f.count + f.zeros)
 
 -- The amount is the one that the span stands for.
 pub record IsAmountOf (a : Amount) (s : Span) : Type 0 where

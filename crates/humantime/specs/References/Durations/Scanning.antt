@@ -1,7 +1,7 @@
 -- The steps by which one span is read, over what is left of a text: the plain reference of the private functions.
-use Rattle.std.specs.Prelude.{◌≡◌, ◌≤◌, ◌<◌, ◌+◌, ◌^◌, ℕ, ◌-◌, ◌++◌, Bool, true, false, List, [], ◌∷◌, length, drop, Option, Some, None, option_map, nat_lt, not, if◌then◌else◌, IsUtf8}
+use Rattle.std.specs.Prelude.{◌≡◌, ◌==◌, ◌≤◌, ◌<◌, ◌+◌, ◌^◌, ℕ, ◌-◌, ◌++◌, Bool, true, false, List, [], ◌∷◌, length, drop, Option, Some, None, option_map, nat_lt, if◌then◌else◌, IsUtf8}
 use Rattle.std.specs.Char.{len_utf8}
-use Rattle.humantime.specs.declared.duration.reading.amount.Digits.{Digits}
+use Rattle.humantime.specs.declared.duration.reading.amount.Fraction.{Fraction}
 use Rattle.humantime.specs.Durations.Characters.{is_ws, is_numeric, is_point, begins, leading, decimal_value, significant, u64_max}
 use Rattle.humantime.specs.Durations.Faults.{number_of, after_number}
 use Rattle.humantime.specs.References.Durations.Scales.{Counted, counted}
@@ -30,12 +30,12 @@ number_at rest =
     else Some (decimal_value (number_of rest), leading is_numeric rest, after_number rest)
 
 -- The digits before the zeros at the end, at most 19, read as the value; count and zeros say how many there are of both.
-pub record AreDigits (d : Digits) (ds : List ℕ) : Type 0 where
-  pub value : decimal_value (significant ds) ≡ d.value
-  pub count : length (significant ds) ≡ d.count
-  pub zeros : length ds ≡ d.count + d.zeros
-  pub few : d.count ≤ 19
-  pub fits : d.value < 10 ^ d.count
+pub record AreDigits (f : Fraction) (ds : List ℕ) : Type 0 where
+  pub value : decimal_value (significant ds) ≡ f.value
+  pub count : length (significant ds) ≡ f.count
+  pub zeros : length ds ≡ f.count + f.zeros
+  pub few : f.count ≤ 19
+  pub fits : f.value < 10 ^ f.count
 
 -- a digit too many, whatever follows it
 abbrev pub IsTooLong : List ℕ → ℕ → Type 0
@@ -57,7 +57,7 @@ fraction_read rest =
 -- whether there is a point without digits
 abbrev pub bare : Option Counted → Bool
 bare None = false
-bare (Some p) = not p.2
+bare (Some p) = p.2 == 0
 
 -- whether a digit, white space or the end follows
 abbrev pub ends_span : List ℕ → Bool

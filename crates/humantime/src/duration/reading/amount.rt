@@ -1,6 +1,7 @@
 //! What a span adds, and how its number and its fraction come of digits, one by one.
 
 ghost use Rattle.std.specs.Prelude.{◌≡◌, ◌++◌, [], ◌∷◌, ℕ, List, true, SomeIff, MatchOption, ◌+◌, ◌-◌, ◌*◌, ◌^◌, ◌≤◌, ◌<◌};
+ghost use Rattle.std.specs.Option.{ForSome};
 ghost use Rattle.humantime.specs.Durations.Characters.{is_digit, u64_max};
 
 use crate::unit::Unit;
@@ -35,14 +36,13 @@ static POWERS_OF_TEN: [u64; 20] = [
     10_000_000_000_000_000_000,
 ];
 
-/// The digits after a point, without the zeros at their end: the number that they read as, and how many there are.
+/// The digits after a point: those before the zeros at their end, as a number and by their count, and how many zeros
+/// follow.
 #[derive(Clone, Copy, Debug)]
 pub(crate) struct Fraction {
     pub value: u64,
     pub count: usize,
-    /// Whether there is a digit, be it a zero.
-    pub any: bool,
-    ghost few: { count ≤ 19 },
+    pub zeros: usize,
 }
 
 /// What a span adds: its number, its fraction and its unit.
@@ -51,6 +51,7 @@ pub(crate) struct Amount {
     pub value: u64,
     pub fraction: Option<Fraction>,
     pub unit: Unit,
+    ghost few: { ForSome fraction (λ f. f.count ≤ 19) },
 }
 
 /// Ten times the value and the digit, or `None` where that is too large.
@@ -74,20 +75,11 @@ pub(crate) fn power_of_ten(exponent: usize) -> u64
     POWERS_OF_TEN[exponent]
 }
 
-/// The digits of a fraction as far as they are read: those before the zeros at their end, as a number and by their
-/// count, and how many zeros follow.
-#[derive(Clone, Copy)]
-pub(crate) struct Digits {
-    value: u64,
-    count: usize,
-    zeros: usize,
-}
-
-impl Digits {
-    ghost use Rattle.humantime.specs.References.Durations.Scales.{counted, parts_of};
+impl Fraction {
     ghost use Rattle.humantime.specs.References.Durations.Scanning.{AreDigits, IsTooLong};
 
-    pub(crate) const NONE: Digits = Digits {
+    /// No digits.
+    pub(crate) const NONE: Fraction = Fraction {
         value: 0,
         count: 0,
         zeros: 0,
@@ -95,14 +87,14 @@ impl Digits {
 
     /// One digit more, or `None` where that is no zero and behind 19 others.
     #[inline(always)]
-    pub(crate) fn push(self, c: u8) -> Option<Digits>
+    pub(crate) fn push(self, c: u8) -> Option<Fraction>
         requires digit { is_digit c ≡ true }
         requires digits { (ds : List ℕ) × AreDigits self ds }
         requires room { self.zeros + 1 < 2 ^ 64 }
         ensures { (ds : List ℕ) → AreDigits self ds → MatchOption result (IsTooLong ds c) (λ d. AreDigits d (ds ++ c ∷ [])) }
     {
         if c == b'0' {
-            return Some(Digits {
+            return Some(Fraction {
                 value: self.value,
                 count: self.count,
                 zeros: self.zeros + 1,
@@ -112,23 +104,10 @@ impl Digits {
             return None;
         }
         let places = self.zeros + 1;
-        Some(Digits {
+        Some(Fraction {
             value: self.value * power_of_ten(places) + (c - b'0') as u64,
             count: self.count + places,
             zeros: 0,
         })
-    }
-
-    /// These digits as a fraction.
-    #[inline(always)]
-    pub(crate) fn fraction(self) -> Fraction
-        requires { self.count ≤ 19 }
-        ensures { (ds : List ℕ) → AreDigits self ds → parts_of result ≡ counted ds }
-    {
-        Fraction {
-            value: self.value,
-            count: self.count,
-            any: self.count > 0 || self.zeros > 0,
-        }
     }
 }

@@ -26,7 +26,7 @@ fn is_bare(fraction: Option<Fraction>) -> bool
     ensures { result ≡ bare (option_map parts_of fraction) }
 {
     match fraction {
-        Some(digits) => !digits.any,
+        Some(digits) => digits.count == 0 && digits.zeros == 0,
         None => false,
     }
 }

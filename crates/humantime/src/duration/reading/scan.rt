@@ -6,7 +6,7 @@ ghost use Rattle.humantime.specs.Durations.Errors.{IsPlaceIn};
 ghost use Rattle.humantime.specs.References.Durations.Scales.{parts_of};
 ghost use Rattle.humantime.specs.References.Durations.Scanning.{IsTail, space_width, number_at, digits_at, fraction_read};
 
-use crate::duration::reading::amount::{Digits, Fraction, push_digit};
+use crate::duration::reading::amount::{Fraction, push_digit};
 use crate::duration::reading::class::{Class, ascii_class};
 
 /// How many bytes the white space at the front of the text has: those of one character, or none.
@@ -112,11 +112,11 @@ fn read_digits<'a>(text: &'a str) -> Option<(Fraction, &'a str, &'a str)>
     ensures tail { IfSome result (λ x. IsTail text.now x.2.now) }
 {
     let bytes = text.as_bytes();
-    let mut digits = Digits::NONE;
+    let mut fraction = Fraction::NONE;
     let mut at = 0;
     while at < bytes.len() {
         if bytes[at].is_ascii_digit() {
-            digits = digits.push(bytes[at])?;
+            fraction = fraction.push(bytes[at])?;
             at += 1;
         } else {
             match space_at(text, at) {
@@ -125,7 +125,7 @@ fn read_digits<'a>(text: &'a str) -> Option<(Fraction, &'a str, &'a str)>
             }
         }
     }
-    Some((digits.fraction(), &text[..at], &text[at..]))
+    Some((fraction, &text[..at], &text[at..]))
 }
 
 /// The fraction at the front of the text and what its digits stand in, if there is one, and what follows it; `None` where it

@@ -34,6 +34,7 @@ fn add_whole(total: StdDuration, value: u64, unit: Unit) -> Option<StdDuration>
 /// The part of the factor that the fraction is, where it is whole and the product fits.
 #[tactic(auto, using(crate::proofs::Durations::Bytes::Additions::power_positive))]
 fn part_of(fraction: Fraction, factor: u64) -> Option<u64>
+    requires { fraction.count ≤ 19 }
     ensures { result ≡ part_of fraction.value fraction.count factor }
 {
     let product = fraction.value.checked_mul(factor)?;
@@ -47,7 +48,8 @@ fn part_of(fraction: Fraction, factor: u64) -> Option<u64>
 /// The part of a power of ten that the fraction is, without a division where its digits are few.
 #[tactic(auto, using(crate::proofs::Durations::Bytes::Additions::few_digits))]
 fn part_of_power(fraction: Fraction, exponent: usize) -> Option<u64>
-    requires { exponent ≤ 9 }
+    requires few { fraction.count ≤ 19 }
+    requires exponent { exponent ≤ 9 }
     ensures { result ≡ part_of fraction.value fraction.count (10 ^ exponent) }
 {
     if fraction.count <= exponent && fraction.value <= MOST_BEFORE_NINE_ZEROS {
@@ -58,6 +60,7 @@ fn part_of_power(fraction: Fraction, exponent: usize) -> Option<u64>
 
 /// The duration and a fraction of one unit.
 fn add_fraction(total: StdDuration, fraction: Fraction, unit: Unit) -> Option<StdDuration>
+    requires { fraction.count ≤ 19 }
     ensures { result ≡ add_part total (scale_of unit).fraction fraction.value fraction.count }
 {
     match unit {

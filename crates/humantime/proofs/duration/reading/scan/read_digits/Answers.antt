@@ -28,7 +28,7 @@ loop-at-preserved-then-is_ascii_digit c =
     record {
       taken = i.taken ++ get_or c.as_bytes-bytes.result.now c.loop-at.at 0 ∷ [];
       read = read_digit _ _ _ _ c.utf8.text c.as_bytes-bytes.ensures.value c.loop-at-test.true i.read digit;
-      digits = c.in_ok-digits.ensures i.taken i.digits;
+      digits = c.in_ok-fraction.ensures i.taken i.digits;
       few = omega (arith, length-append i.taken (get_or c.as_bytes-bytes.result.now c.loop-at.at 0 ∷ []), i.few);
     }
 
@@ -38,16 +38,13 @@ loop-at-preserved c =
     let read = read_space _ _ _ _ _ c.utf8.text c.as_bytes-bytes.ensures.value c.loop-at-test.true i.read c.in-Some.ensures.0 c.in-Some.ensures.1 in
     record { taken = i.taken; read = read; digits = i.digits; few = omega (arith, i.few) }
 
-pub returns-in_err-digits-clause-value : goal.returns-in_err-digits-clause-value
-returns-in_err-digits-clause-value c =
+pub returns-in_err-fraction-clause-value : goal.returns-in_err-fraction-clause-value
+returns-in_err-fraction-clause-value c =
     let i = c.loop-at.invariant in
     let digit = sym c.is_ascii_digit.ensures.value ∙ c.if-is_ascii_digit.true in
     let read = read_digit _ _ _ _ c.utf8.text c.as_bytes-bytes.ensures.value c.loop-at-test.true i.read digit in
-    let over = c.in_err-digits.ensures i.taken i.digits (number_of (chars (drop (c.loop-at.at + 1) c.args.text.now))) in
+    let over = c.in_err-fraction.ensures i.taken i.digits (number_of (chars (drop (c.loop-at.at + 1) c.args.text.now))) in
     rw c.from_residual.ensures (digits_pass _ _ (read.all ∙ append_assoc i.taken _ _) over)
-
-pub fraction-requires : goal.fraction-requires
-fraction-requires c = c.loop-at.invariant.digits.few
 
 pub returns-clause-value : goal.returns-clause-value
 returns-clause-value c =
@@ -59,4 +56,4 @@ returns-clause-value c =
           (sym w.is_ascii_digit.ensures.value ∙ w.if-is_ascii_digit.false) w.in-None.ensures
     ] in
     let front : c.range.result.now ≡ take c.loop-at.at c.args.text.now = grind (arith, common_steps) in
-    rw (front, c.range_from.ensures.value) (digits_end c.loop-at.digits c.fraction.result _ _ _ _ i.digits (c.fraction.ensures i.taken i.digits) (all_read _ _ _ c.utf8.text i.read ended))
+    rw (front, c.range_from.ensures.value) (digits_end c.loop-at.fraction _ _ _ _ i.digits (all_read _ _ _ c.utf8.text i.read ended))

@@ -7,7 +7,7 @@ abbrev pub invariant-loop-at : goal.invariant-loop-at
 invariant-loop-at l = record {
   taken : List ℕ;
   read : IsRead l.text l.at taken;
-  digits : AreDigits l.digits taken;
+  digits : AreDigits l.fraction taken;
   few : length taken ≤ l.at;
 }
 

@@ -2,7 +2,7 @@ use Rattle.std.proofs.lemmas.Grind.{common_steps}
 use Rattle.std.proofs.Common.{arith, ap, ◌∙◌, length}
 use Rattle.humantime.proofs.Durations.Bytes.Numbers.{digit_range}
 use Rattle.humantime.proofs.Durations.Bytes.FractionDigits.{push_fits, shifted_fits, zero_more, digit_more, one_too_many}
-use Rattle.humantime.proofs.duration.reading.amount.Digits.push.Goals as goal
+use Rattle.humantime.proofs.duration.reading.amount.Fraction.push.Goals as goal
 
 pub overflow_mul-result : goal.overflow_mul-result
 overflow_mul-result c = grind (arith, common_steps, push_fits)
