@@ -4,14 +4,26 @@ use Rattle.std.proofs.lemmas.Grind.{common_steps}
 use Rattle.std.specs.Str.{drop_trailing_whitespace}
 use Rattle.humantime.specs.Durations.Characters.{is_letter, is_numeric, leading, decimal_value, offset_of}
 use Rattle.humantime.specs.Durations.Units.{Scale, scale_of_word}
-use Rattle.humantime.specs.Durations.Faults.{number_of, after_number, fraction_of, after_fraction, word_of, after_word, span_of, InvalidCharacter, UnknownUnit, NumberOverflow}
+use Rattle.humantime.specs.Durations.Faults.{number_of, after_number, behind_point, fraction_of, after_fraction, word_of, after_word, span_of, InvalidCharacter, UnknownUnit, NumberOverflow}
 use Rattle.humantime.specs.References.Durations.Lending.{spelled, trimmed}
 use Rattle.humantime.specs.References.Durations.Reading.{too_long, stop_by, stop_at}
-use Rattle.humantime.specs.References.Durations.Scales.{counted}
-use Rattle.humantime.specs.References.Durations.Scanning.{bare, ends_span}
-use Rattle.humantime.specs.References.Durations.SpanParts.{digits_behind}
+use Rattle.humantime.specs.References.Durations.Scales.{Counted, counted}
+use Rattle.humantime.specs.References.Durations.Scanning.{bare, ends_span, number_at, fraction_read}
 use Rattle.humantime.proofs.Durations.Bytes.Trimming.{spelled_at}
 use Rattle.humantime.proofs.Durations.Reading.Runs.{leading-past}
+
+-- the number and the fraction that begin a rest, neither too long, what each stands in, and what follows each
+pub are_read : (rest : List ℕ) (v : ℕ) (n a : List ℕ) (f : Option Counted) (d : Option (List ℕ)) (b : List ℕ)
+    → Some (v, n, a) ≡ number_at rest → Some (f, d, b) ≡ fraction_read a
+    → (too_long (span_of rest) ≡ false) × (v ≡ decimal_value (number_of rest)) × (n ≡ leading is_numeric rest) × (a ≡ after_number rest)
+    × (f ≡ option_map counted (fraction_of rest)) × (d ≡ option_map (leading is_numeric) (behind_point (after_number rest))) × (b ≡ after_fraction rest)
+are_read rest v n a f d b x y = grind (arith, common_steps)
+
+pub long_number : (rest : List ℕ) → None ≡ number_at rest → too_long (span_of rest) ≡ true
+long_number rest n = grind (arith, common_steps)
+
+pub long_fraction : (rest : List ℕ) (x : ℕ × List ℕ × List ℕ) → Some x ≡ number_at rest → None ≡ fraction_read x.2 → too_long (span_of rest) ≡ true
+long_fraction rest x n f = grind (arith, common_steps)
 
 pub exit_long : (text rest : List ℕ) → too_long (span_of rest) ≡ true → stop_at text rest ≡ Some NumberOverflow
 unfolding stop_at
@@ -61,6 +73,6 @@ exit_fine text rest u s w b e k = grind (arith, common_steps, stop_short, no_emp
 
 -- the slices that were read spell the span
 pub spelled_read : (rest number letters : List ℕ) (digits : Option (Bor (List ℕ))) → number ≡ leading is_numeric rest → letters ≡ word_of rest
-    → option_map (λ t. chars t.now) digits ≡ digits_behind (after_number rest)
+    → option_map (λ t. chars t.now) digits ≡ option_map (leading is_numeric) (behind_point (after_number rest))
     → spelled (drop_trailing_whitespace number) (option_map (λ t. trimmed (chars t.now)) digits) letters ≡ span_of rest
 spelled_read rest number letters digits n l d = grind (arith, common_steps, (spelled_at [] rest))

@@ -1,15 +1,11 @@
 //! Reading one span.
 
-ghost use Rattle.std.specs.Prelude.{◌≡◌, chars, true, option_map, IfNone, IfSome, IfOk, IfErr, Some};
+ghost use Rattle.std.specs.Prelude.{◌≡◌, chars, option_map, IfOk, IfErr};
 ghost use Rattle.humantime.specs.Durations.Errors.{PointsInto};
-ghost use Rattle.humantime.specs.Durations.Faults.{span_of};
-ghost use Rattle.humantime.specs.References.Durations.Lending.{lent_at};
-ghost use Rattle.humantime.specs.References.Durations.Lents.{lent_of};
-ghost use Rattle.humantime.specs.References.Durations.Reading.{stop_at, too_long};
-ghost use Rattle.humantime.specs.References.Durations.Scales.{scale_of, parts_of};
+ghost use Rattle.humantime.specs.References.Durations.Reading.{stop_at};
+ghost use Rattle.humantime.specs.References.Durations.Scales.{parts_of};
 ghost use Rattle.humantime.specs.References.Durations.Scanning.{IsTail, bare, ends_span};
-ghost use Rattle.humantime.specs.References.Durations.SpanParts.{ArePartsOf, IsSpanAt, stop_of};
-ghost use Rattle.humantime.specs.Durations.Units.{scale_of_word};
+ghost use Rattle.humantime.specs.References.Durations.SpanParts.{IsSpanAt, stop_of};
 
 use crate::duration::error::DurationError;
 use crate::duration::reading::amount::{Amount, Fraction};
@@ -17,8 +13,8 @@ use crate::duration::reading::scan::{
     begins_with_digit, offset_of, read_fraction, read_number, space_at,
 };
 use crate::duration::reading::span::Span;
-use crate::duration::reading::word::{Word, read_word};
-use crate::unit::{Unit, unit_of};
+use crate::duration::reading::word::read_word;
+use crate::unit::unit_of;
 
 /// Whether a point has no digits behind it.
 #[inline(always)]
@@ -39,72 +35,6 @@ fn ends_span(next: &str) -> bool
     next.is_empty() || space_at(next, 0).is_some() || begins_with_digit(next)
 }
 
-/// The number, the fraction and the word that begin a rest, and what follows each of them.
-#[derive(Clone, Copy)]
-struct Parts<'a> {
-    value: u64,
-    number: &'a str,
-    after_number: &'a str,
-    fraction: Option<Fraction>,
-    digits: Option<&'a str>,
-    after_fraction: &'a str,
-    word: Word<'a>,
-    after_word: &'a str,
-}
-
-/// The parts that begin a rest, or `None` where its number or its fraction is too long.
-#[inline(always)]
-fn parts_at<'a>(rest: &'a str) -> Option<Parts<'a>>
-    ensures long { IfNone result (too_long (span_of (chars rest.now)) ≡ true) }
-    ensures parts { IfSome result (ArePartsOf rest.now) }
-{
-    let (value, number, after_number) = read_number(rest)?;
-    let (fraction, digits, after_fraction) = read_fraction(after_number)?;
-    let (word, after_word) = read_word(after_fraction);
-    Some(Parts {
-        value,
-        number,
-        after_number,
-        fraction,
-        digits,
-        after_fraction,
-        word,
-        after_word,
-    })
-}
-
-/// The unit of the parts that begin a rest, or what is wrong with them.
-#[inline(always)]
-fn unit_at<'a>(text: &'a str, rest: &'a str, parts: Parts<'a>) -> Result<Unit, DurationError<'a>>
-    requires tail { IsTail text.now rest.now }
-    requires parts { ArePartsOf rest.now parts }
-    ensures stop { stop_of result ≡ stop_at (chars text.now) (chars rest.now) }
-    ensures place { IfErr result (PointsInto text.now) }
-    ensures unit { IfOk result (λ unit. scale_of_word (chars parts.entry.word.letters.now) ≡ Some (scale_of unit)) }
-{
-    let letters = parts.word.letters;
-    let next = offset_of(text, parts.after_word);
-    if letters.is_empty() && !parts.after_word.is_empty() {
-        return Err(DurationError::InvalidCharacter(next));
-    }
-    if is_bare(parts.fraction) {
-        let point = offset_of(text, parts.after_number);
-        return Err(DurationError::InvalidCharacter(point));
-    }
-    if !ends_span(parts.after_word) {
-        return Err(DurationError::InvalidCharacter(next));
-    }
-    match unit_of(parts.word.key) {
-        Some(unit) => Ok(unit),
-        None => Err(DurationError::UnknownUnit {
-            start: offset_of(text, parts.after_fraction),
-            end: next,
-            unit: letters,
-            value: parts.value,
-        }),
-    }
-}
-
 /// The span that begins the rest of a text, and what follows its word.
 #[inline(always)]
 pub(crate) fn span_at<'a>(
@@ -116,21 +46,47 @@ pub(crate) fn span_at<'a>(
     ensures place { IfErr result (PointsInto text.now) }
     ensures fine { IfOk result (λ x. IsSpanAt text.now rest.now x.0 x.1.now) }
 {
-    let Some(parts) = parts_at(rest) else {
+    let Some((value, number, after_number)) = read_number(rest) else {
         return Err(DurationError::NumberOverflow);
     };
-    let unit = unit_at(text, rest, parts)?;
-    let span = Span {
-        number: parts.number,
-        digits: parts.digits,
-        unit: parts.word.letters,
-        start: offset_of(text, rest),
-        end: offset_of(text, parts.after_word),
-        amount: Amount {
-            value: parts.value,
-            fraction: parts.fraction,
-            unit,
-        },
+    let Some((fraction, digits, after_fraction)) = read_fraction(after_number) else {
+        return Err(DurationError::NumberOverflow);
     };
-    Ok((span, parts.after_word))
+    let (word, after_word) = read_word(after_fraction);
+    let (start, end) = (offset_of(text, rest), offset_of(text, after_word));
+    if word.letters.is_empty() && !after_word.is_empty() {
+        return Err(DurationError::InvalidCharacter(end));
+    }
+    if is_bare(fraction) {
+        return Err(DurationError::InvalidCharacter(offset_of(text, after_number)));
+    }
+    if !ends_span(after_word) {
+        return Err(DurationError::InvalidCharacter(end));
+    }
+    let unit = word.letters;
+    let Some(known) = unit_of(word.key) else {
+        let start = offset_of(text, after_fraction);
+        return Err(DurationError::UnknownUnit {
+            start,
+            end,
+            unit,
+            value,
+        });
+    };
+    let amount = Amount {
+        value,
+        fraction,
+        unit: known,
+    };
+    Ok((
+        Span {
+            number,
+            digits,
+            unit,
+            start,
+            end,
+            amount,
+        },
+        after_word,
+    ))
 }

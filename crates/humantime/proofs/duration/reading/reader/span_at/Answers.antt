@@ -1,21 +1,84 @@
-use Rattle.std.proofs.Common.{sym, ap, ◌∙◌, arith}
+use Rattle.std.proofs.Common.{◌≢◌, [], sym, ap, ◌∙◌, chars, arith}
 use Rattle.std.proofs.lemmas.Grind.{common_steps}
+use Rattle.std.proofs.lemmas.Str.{encodes-chars}
+use Rattle.humantime.specs.Durations.Characters.{is_letter, leading}
 use Rattle.humantime.specs.Durations.Units.{scale_of_word}
-use Rattle.humantime.proofs.Durations.Bytes.SpanExits.{exit_long, spelled_read}
+use Rattle.humantime.specs.References.Durations.Scales.{scale_of}
+use Rattle.humantime.proofs.Durations.Slices.Places.{some_bytes, rest_place, part_of_rests, bad_some}
+use Rattle.humantime.proofs.Durations.Bytes.SpanExits.{are_read, long_number, long_fraction, bare_some, exit_long, exit_no_letter, exit_bare, exit_after, exit_unit, exit_fine, spelled_read}
+use Rattle.humantime.proofs.Durations.Bytes.Tails.{no_bytes, some_chars, tail_of_tail}
 use Rattle.humantime.proofs.duration.reading.reader.span_at.Goals as goal
 
 pub returns-in_default-clause-stop : goal.returns-in_default-clause-stop
-returns-in_default-clause-stop c = grind (arith, common_steps, exit_long)
+returns-in_default-clause-stop c = grind (arith, common_steps, exit_long, long_number)
 
-pub invariant_of-span : goal.invariant_of-span
-invariant_of-span c =
-    let p = c.in-Some.ensures.parts in
-    record { few = λ f e. grind (arith, common_steps) }
+pub returns-in_default-read_fraction-clause-stop : goal.returns-in_default-read_fraction-clause-stop
+returns-in_default-read_fraction-clause-stop c = sym (exit_long _ _ (long_fraction _ _ c.in-Some.ensures.value c.in_default-read_fraction.ensures.value))
 
-pub invariant_of-span-2 : goal.invariant_of-span-2
-invariant_of-span-2 c =
-    let p = c.in-Some.ensures.parts in
+pub returns-then-not-is_empty-clause-stop : goal.returns-then-not-is_empty-clause-stop
+returns-then-not-is_empty-clause-stop c =
+    let p = are_read _ _ _ _ _ _ _ c.in-Some.ensures.value c.in-Some-read_fraction.ensures.value in
+    grind (arith, common_steps, exit_no_letter, no_bytes, some_chars)
+
+pub returns-then-not-is_empty-clause-place : goal.returns-then-not-is_empty-clause-place
+returns-then-not-is_empty-clause-place c =
+    let behind = tail_of_tail _ _ _ c.requires (tail_of_tail _ _ _ c.in-Some.ensures.tail c.in-Some-read_fraction.ensures.tail) in
+    rest_place _ _ _ (tail_of_tail _ _ _ behind c.read_word.ensures.cut.tail) c.offset_of-end.ensures.bytes (grind (arith, common_steps))
+
+pub returns-then-is_bare-clause-stop : goal.returns-then-is_bare-clause-stop
+returns-then-is_bare-clause-stop c =
+    let p = are_read _ _ _ _ _ _ _ c.in-Some.ensures.value c.in-Some-read_fraction.ensures.value in
+    grind (arith, common_steps, exit_bare, no_bytes, some_chars)
+
+pub returns-then-is_bare-clause-place : goal.returns-then-is_bare-clause-place
+returns-then-is_bare-clause-place c =
+    let p = are_read _ _ _ _ _ _ _ c.in-Some.ensures.value c.in-Some-read_fraction.ensures.value in
+    let some : chars c.in-Some.after_number.now ≢ [] = grind (arith, common_steps, bare_some) in
+    rest_place _ _ _ (tail_of_tail _ _ _ c.requires c.in-Some.ensures.tail) c.offset_of.ensures.bytes (some_bytes _ some)
+
+pub returns-then-not-ends_span-clause-stop : goal.returns-then-not-ends_span-clause-stop
+returns-then-not-ends_span-clause-stop c =
+    let p = are_read _ _ _ _ _ _ _ c.in-Some.ensures.value c.in-Some-read_fraction.ensures.value in
+    grind (arith, common_steps, exit_after, no_bytes, some_chars)
+
+pub returns-then-not-ends_span-clause-place : goal.returns-then-not-ends_span-clause-place
+returns-then-not-ends_span-clause-place c =
+    let behind = tail_of_tail _ _ _ c.requires (tail_of_tail _ _ _ c.in-Some.ensures.tail c.in-Some-read_fraction.ensures.tail) in
+    let some = bad_some _ (sym c.ends_span.ensures ∙ c.if-not-ends_span.true) in
+    rest_place _ _ _ (tail_of_tail _ _ _ behind c.read_word.ensures.cut.tail) c.offset_of-end.ensures.bytes (some_bytes _ some)
+
+pub returns-in_default-unit_of-clause-stop : goal.returns-in_default-unit_of-clause-stop
+returns-in_default-unit_of-clause-stop c =
+    let p = are_read _ _ _ _ _ _ _ c.in-Some.ensures.value c.in-Some-read_fraction.ensures.value in
+    grind (arith, common_steps, exit_unit, no_bytes, some_chars, encodes-chars)
+
+pub returns-in_default-unit_of-clause-place : goal.returns-in_default-unit_of-clause-place
+returns-in_default-unit_of-clause-place c =
+    let behind = tail_of_tail _ _ _ c.requires (tail_of_tail _ _ _ c.in-Some.ensures.tail c.in-Some-read_fraction.ensures.tail) in
+    let cut = c.read_word.ensures.cut in
+    part_of_rests _ _ _ _ _ _ c.utf8.text behind (tail_of_tail _ _ _ behind cut.tail) cut.whole c.offset_of-start-in_default-unit_of.ensures.value c.offset_of-end.ensures.value
+
+pub returns-clause-stop : goal.returns-clause-stop
+returns-clause-stop c =
+    let p = are_read _ _ _ _ _ _ _ c.in-Some.ensures.value c.in-Some-read_fraction.ensures.value in
+    let key = c.read_word.result.0.told in
+    grind (arith, common_steps, (exit_fine (chars c.args.text.now) (chars c.args.rest.now) (scale_of c.in-Some-unit_of.known)), no_bytes, some_chars)
+
+pub returns-clause-fine : goal.returns-clause-fine
+returns-clause-fine c =
+    let p = are_read _ _ _ _ _ _ _ c.in-Some.ensures.value c.in-Some-read_fraction.ensures.value in
+    let behind = tail_of_tail _ _ _ c.requires (tail_of_tail _ _ _ c.in-Some.ensures.tail c.in-Some-read_fraction.ensures.tail) in
     record {
-      read = rw (spelled_read _ _ _ c.in-Some.parts.digits p.number p.letters p.digits)
-          (record { unit = sym (ap scale_of_word p.letters) ∙ c.in_ok-unit.ensures.unit; value = p.value; fraction = p.fraction });
+      lent = grind (arith, common_steps);
+      follows = grind (arith, common_steps);
+      tail = tail_of_tail _ _ _ behind c.read_word.ensures.cut.tail;
+    }
+
+pub invariant_of-result : goal.invariant_of-result
+invariant_of-result c =
+    let p = are_read _ _ _ _ _ _ _ c.in-Some.ensures.value c.in-Some-read_fraction.ensures.value in
+    let letters = c.read_word.ensures.word ∙ ap (leading is_letter) p.6 in
+    record {
+      read = rw (spelled_read _ _ _ c.in-Some-read_fraction.digits p.2 letters p.5)
+          (record { unit = sym (c.in-Some-unit_of.ensures ∙ c.read_word.result.0.told ∙ ap scale_of_word letters); value = p.1; fraction = p.4 });
     }
