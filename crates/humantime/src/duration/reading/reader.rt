@@ -32,7 +32,7 @@ fn is_bare(fraction: Option<Fraction>) -> bool
 fn ends_span(next: &str) -> bool
     ensures { result ≡ ends_span (chars next.now) }
 {
-    next.is_empty() || space_at(next, 0).is_some() || begins_with_digit(next)
+    next.is_empty() || begins_with_digit(next) || space_at(next, 0).is_some()
 }
 
 /// The span that begins the rest of a text, and what follows its word.

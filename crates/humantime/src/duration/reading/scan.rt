@@ -25,23 +25,21 @@ fn wide_space(text: &str) -> usize
 }
 
 /// The place after the white space at this place, if a character of white space stands there.
-///
-/// It gives a place, not a width: the next place then waits for no table.
 #[inline(always)]
 pub(crate) fn space_at(text: &str, at: usize) -> Option<usize>
     requires { IsPlaceIn text.now at }
     ensures { SomeIff result (0 < space_width (chars (drop at text.now))) (at + space_width (chars (drop at text.now))) }
 {
     let bytes = text.as_bytes();
-    if bytes[at] >= 0x80 {
-        return match wide_space(&text[at..]) {
-            0 => None,
-            width => Some(at + width),
+    if bytes[at] < 0x80 {
+        return match ascii_class(bytes[at]) {
+            Class::White => Some(at + 1),
+            Class::Letter | Class::Other => None,
         };
     }
-    match ascii_class(bytes[at]) {
-        Class::White => Some(at + 1),
-        Class::Letter | Class::Other => None,
+    match wide_space(&text[at..]) {
+        0 => None,
+        width => Some(at + width),
     }
 }
 

@@ -8,8 +8,8 @@ use Rattle.humantime.proofs.duration.reading.reader.ends_span.Goals as goal
 pub space_at-requires : goal.space_at-requires
 space_at-requires c = (grind (arith, common_steps), IsCharBoundary-start c.args.next.now c.utf8.next)
 
-pub returns-then-is_some : goal.returns-then-is_some
-returns-then-is_some c = grind (arith, common_steps, ends_by_width, no_bytes, some_chars)
+pub returns-then-begins_with_digit : goal.returns-then-begins_with_digit
+returns-then-begins_with_digit c = grind (arith, common_steps, ends_by_width, no_bytes, some_chars)
 
-pub returns-else-is_some : goal.returns-else-is_some
-returns-else-is_some c = grind (arith, common_steps, ends_by_width, some_chars)
+pub returns-else-begins_with_digit : goal.returns-else-begins_with_digit
+returns-else-begins_with_digit c = grind (arith, common_steps, ends_by_width, some_chars)
