@@ -52,12 +52,13 @@ pub(crate) fn span_at<'a>(
     let Some((fraction, digits, after_fraction)) = read_fraction(after_number) else {
         return Err(DurationError::NumberOverflow);
     };
+    let bare = is_bare(fraction);
     let (word, after_word) = read_word(after_fraction);
     let (start, end) = (offset_of(text, rest), offset_of(text, after_word));
     if word.letters.is_empty() && !after_word.is_empty() {
         return Err(DurationError::InvalidCharacter(end));
     }
-    if is_bare(fraction) {
+    if bare {
         return Err(DurationError::InvalidCharacter(offset_of(text, after_number)));
     }
     if !ends_span(after_word) {

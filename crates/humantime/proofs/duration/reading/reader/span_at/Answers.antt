@@ -25,13 +25,13 @@ returns-then-not-is_empty-clause-place c =
     let behind = tail_of_tail _ _ _ c.requires (tail_of_tail _ _ _ c.in-Some.ensures.tail c.in-Some-read_fraction.ensures.tail) in
     rest_place _ _ _ (tail_of_tail _ _ _ behind c.read_word.ensures.cut.tail) c.offset_of-end.ensures.bytes (grind (arith, common_steps))
 
-pub returns-then-is_bare-clause-stop : goal.returns-then-is_bare-clause-stop
-returns-then-is_bare-clause-stop c =
+pub returns-then-bare-clause-stop : goal.returns-then-bare-clause-stop
+returns-then-bare-clause-stop c =
     let p = are_read _ _ _ _ _ _ _ c.in-Some.ensures.value c.in-Some-read_fraction.ensures.value in
     grind (arith, common_steps, exit_bare, no_bytes, some_chars)
 
-pub returns-then-is_bare-clause-place : goal.returns-then-is_bare-clause-place
-returns-then-is_bare-clause-place c =
+pub returns-then-bare-clause-place : goal.returns-then-bare-clause-place
+returns-then-bare-clause-place c =
     let p = are_read _ _ _ _ _ _ _ c.in-Some.ensures.value c.in-Some-read_fraction.ensures.value in
     let some : chars c.in-Some.after_number.now ≢ [] = grind (arith, common_steps, bare_some) in
     rest_place _ _ _ (tail_of_tail _ _ _ c.requires c.in-Some.ensures.tail) c.offset_of.ensures.bytes (some_bytes _ some)
