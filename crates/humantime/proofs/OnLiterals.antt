@@ -4,8 +4,9 @@ use Rattle.std.specs.Fmt.{digits}
 use Rattle.std.specs.Str.{chars, is_utf8}
 use lib.Utf8.{encode}
 use Rattle.humantime.specs.Durations.Characters.{white_spaces, is_ws, is_digit, is_letter, is_point, significant}
+use Rattle.humantime.specs.Durations.Faults.{stop_at}
 use Rattle.humantime.specs.Durations.Units.{scale_of_word}
-use Rattle.humantime.specs.References.Durations.Reading.{stop_at, walk, items, add_all, add_span, settle}
+use Rattle.humantime.specs.References.Durations.Reading.{walk, items, add_all, add_span, settle}
 use Rattle.humantime.specs.References.Durations.Printing.{duration_text}
 use Rattle.humantime.specs.References.Durations.Answers.{duration_answer, canonical_answer}
 

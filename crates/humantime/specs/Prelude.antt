@@ -1,9 +1,11 @@
 -- The words that a caller's contracts need, in one place. docs/MODEL.md says each.
 
+-- exactly one
+pub use Rattle.humantime.specs.Laws.ExactlyOne.{ExactlyOne}
 -- amounts of time, moments and dates
 pub use Rattle.humantime.specs.Values.{nanos_per_second, duration_end, moment, second_of, nano_of, moment_end}
 pub use Rattle.humantime.specs.Calendar.{IsDate, day_of}
-pub use Rattle.humantime.specs.Laws.Days.{IsDateOfDay, OneDate}
+pub use Rattle.humantime.specs.Laws.Days.{IsDateOfDay}
 -- durations read: the answer as a function of the characters, and the relations that it is tied to
 pub use Rattle.humantime.specs.Durations.Characters.{bare_zero}
 pub use Rattle.humantime.specs.Durations.Errors.{told, told_text, fault_of, PointsInto, IsPlaceIn, IsPartOf, fault_message, unit_message}
@@ -26,5 +28,5 @@ pub use Rattle.humantime.specs.Timestamps.Checks.{weak_checks, strict_checks, fi
 pub use Rattle.humantime.specs.References.Timestamps.Reading.{weak_answer, strict_answer, IsWeakAnswer}
 -- timestamps printed
 pub use Rattle.humantime.specs.Timestamps.Printed.{MomentToPrint, places_of, cut, IsPrinted, IsPrintable}
-pub use Rattle.humantime.specs.Laws.Timestamps.{IsMarked, ReadsAs, OnePrinted}
+pub use Rattle.humantime.specs.Laws.Timestamps.{IsMarked, ReadsAs}
 pub use Rattle.humantime.specs.References.Timestamps.Printing.{moment_text, printed_text, shortest_text}

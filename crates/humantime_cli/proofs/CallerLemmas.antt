@@ -4,7 +4,7 @@ use Rattle.std.specs.Prelude.{Option, Some, Ok, Err, codes}
 use Rattle.humantime.specs.Prelude.{InvalidCharacter}
 use Rattle.humantime.proofs.OnLiterals.{humantime_on_literals}
 use Rattle.humantime.proofs.Theorems.{canonical_again}
-use Rattle.humantime_cli.specs.Answers.{Answer, Answers, OneAnswer, Ends, EndsWith, Whole, Cut, Duration, status_of, for_out, for_err}
+use Rattle.humantime_cli.specs.Answers.{Answer, Answers, OneAnswer, Ends, EndsWith, Whole, Cut, Duration, outcome}
 use Rattle.humantime_cli.specs.Writes.{line}
 
 -- words whose answer is known end with it
@@ -16,7 +16,7 @@ ends_with words answer {status = s} {old_out = o} {new_out = n} {old_err = e} {n
 -- all was written, unless the status is 3
 pub all_written : {answer : Answer} {status : ℕ} {old_out new_out old_err new_err : List ℕ}
     → EndsWith answer status (Some old_out) (Some new_out) (Some old_err) (Some new_err) → status ≢ 3
-    → (status ≡ status_of answer) × (new_out ≡ old_out ++ for_out answer) × (new_err ≡ old_err ++ for_err answer)
+    → (status ≡ (outcome answer).0) × (new_out ≡ old_out ++ (outcome answer).1) × (new_err ≡ old_err ++ (outcome answer).2)
 all_written (Whole same taken told) other = (same, taken, told)
 all_written (Cut three fronts) other = absurd (other three)
 

@@ -1,33 +1,25 @@
 -- How the program ends, from what one write took.
-use Rattle.std.proofs.Common.{arith, ◌≡◌, ◌≢◌, ℕ, List, subst, inl, inr, ◌∙◌}
+use Rattle.std.proofs.Common.{◌≡◌, ℕ, List, [], subst, inl, inr, refl}
 use Rattle.std.proofs.KnownBytes.{Appends-nil, Appends-kept, Keeps-refl, Keeps-trans}
-use Rattle.std.specs.Prelude.{Bool, Option, None, Some, Result, Ok, Err, MatchResult}
+use Rattle.std.specs.Prelude.{Option, Some, Result, Ok, Err, IfOk}
+use Rattle.std.specs.Result.{result_unwrap_or}
 use Rattle.std.specs.Io.KnownBytes.{Appends, Keeps}
-use Rattle.humantime_cli.specs.declared.command.Answer as code
-use Rattle.humantime_cli.specs.Answers.{Answer, EndsWith, Whole, Cut}
-use Rattle.humantime_cli.specs.Says.{Says}
-use Rattle.humantime_cli.specs.Writes.{Writes, AppendsFront, joined, line}
+use Rattle.humantime_cli.specs.Answers.{Answer, EndsWith, Whole, Cut, outcome}
+use Rattle.humantime_cli.specs.Writes.{Writes, AppendsFront, line}
 
--- the line of an answer was written to standard output
-pub to_out : {T E : Type 0} (written : Result T E) (answer : code.Answer) (told : Answer) (status : ℕ) (old new err : Option (List ℕ)) (attempts : List Bool) → Says answer told → answer.status ≡ 0
-    → Writes written old new (line (joined answer.pieces)) attempts → MatchResult written (λ _. status ≡ answer.status) (λ _. status ≡ 3)
-    → EndsWith told status old new err err
+-- a line was written to standard output
+pub to_out : {E : Type 0} (written : Result ℕ E) (text printed : List ℕ) (old new err : Option (List ℕ)) → text ≡ printed → Writes written old new (line text)
+    → IfOk written (λ status. status ≡ 0) → EndsWith (Some (Ok printed)) (result_unwrap_or written 3) old new err err
 unfolding Writes
-to_out (Ok x) answer (Some (Ok printed)) status old new err attempts said zero (wrote, ended) same = Whole (same ∙ said.status) (subst (λ t. Appends old new (line t)) said.text wrote) (Appends-nil err)
-to_out (Err e) answer (Some (Ok printed)) status old new err attempts said zero (wrote, ended) three = Cut three (inl (subst (λ t. AppendsFront old new (line t)) said.text wrote, Keeps-refl err))
-to_out written answer (Some (Err message)) status old new err attempts said zero wrote ended = absurd (omega (arith, zero, said.status))
-to_out written answer None status old new err attempts said zero wrote ended = absurd (omega (arith, zero, said.status))
+to_out (Ok status) text printed old new err same wrote zero = Whole zero (subst (λ t. Appends old new (line t)) same wrote) (Appends-nil err)
+to_out (Err e) text printed old new err same wrote ended = Cut refl (inl (subst (λ t. AppendsFront old new (line t)) same wrote, Keeps-refl err))
 
 -- or to standard error
-pub to_err : {T E : Type 0} (written : Result T E) (answer : code.Answer) (told : Answer) (status : ℕ) (out old new : Option (List ℕ)) (attempts : List Bool) → Says answer told → answer.status ≢ 0
-    → Writes written old new (line (joined answer.pieces)) attempts → MatchResult written (λ _. status ≡ answer.status) (λ _. status ≡ 3)
-    → EndsWith told status out out old new
+pub to_err : {E : Type 0} (written : Result ℕ E) (text : List ℕ) (answer : Answer) (out old new : Option (List ℕ)) → line text ≡ (outcome answer).2 → [] ≡ (outcome answer).1
+    → Writes written old new (line text) → IfOk written (λ status. status ≡ (outcome answer).0) → EndsWith answer (result_unwrap_or written 3) out out old new
 unfolding Writes
-to_err written answer (Some (Ok printed)) status out old new attempts said other wrote ended = absurd (other said.status)
-to_err (Ok x) answer (Some (Err message)) status out old new attempts said other (wrote, ended) same = Whole (same ∙ said.status) (Appends-nil out) (subst (λ t. Appends old new (line t)) said.text wrote)
-to_err (Err e) answer (Some (Err message)) status out old new attempts said other (wrote, ended) three = Cut three (inr (Keeps-refl out, subst (λ t. AppendsFront old new (line t)) said.text wrote))
-to_err (Ok x) answer None status out old new attempts said other (wrote, ended) same = Whole (same ∙ said.status) (Appends-nil out) (subst (λ t. Appends old new (line t)) said.text wrote)
-to_err (Err e) answer None status out old new attempts said other (wrote, ended) three = Cut three (inr (Keeps-refl out, subst (λ t. AppendsFront old new (line t)) said.text wrote))
+to_err (Ok status) text answer out old new same none wrote ended = Whole ended (subst (Appends out out) none (Appends-nil out)) (subst (Appends old new) same wrote)
+to_err (Err e) text answer out old new same none wrote ended = Cut refl (inr (Keeps-refl out, subst (AppendsFront old new) same wrote))
 
 -- what was written to standard output stays where it is flushed
 pub flushed : {answer : Answer} {status : ℕ} {old_out mid_out new_out old_err new_err : Option (List ℕ)}

@@ -1,13 +1,13 @@
 -- Writing one text after another.
-use Rattle.std.proofs.Common.{arith, append_assoc, append-nil, ◌≡◌, ℕ, List, [], ◌∷◌, ◌++◌, ◌<◌, ◌+◌, ◌-◌, sym, ap, ◌∙◌, take, drop, take-append-drop, subst, length, length-append, get_or}
+use Rattle.std.proofs.Common.{arith, append_assoc, ◌≡◌, ℕ, List, [], ◌∷◌, ◌++◌, ◌<◌, ◌+◌, ◌-◌, sym, ap, ◌∙◌, take, drop, take-append-drop, subst, length, length-append, get_or}
 use Rattle.std.proofs.KnownBytes.{Appends-trans}
 use Rattle.std.proofs.Math.Seq.{take-append-add, take-add}
 use Rattle.std.proofs.lemmas.List.{drop_more, take-append-le, take_rest}
 use Rattle.std.proofs.lemmas.Grind.{flat_map-append}
-use Rattle.std.specs.Prelude.{Bool, Option, Result, Ok, Err}
+use Rattle.std.specs.Prelude.{Option}
 use Rattle.std.specs.Borrow.{Bor}
 use Rattle.std.specs.Io.KnownBytes.{Appends}
-use Rattle.humantime_cli.specs.Writes.{AppendsFront, Writes, joined, line}
+use Rattle.humantime_cli.specs.Writes.{AppendsFront, joined, line}
 
 -- the first bytes of a text, and then the first of its rest
 pub more_written : (old mid new : Option (List ℕ)) (bytes : List ℕ) (done count : ℕ) → Appends old mid (take done bytes)
@@ -32,11 +32,3 @@ front_of_line old mid new texts i d within taken more =
     ap joined (sym (take-append-drop i texts)) ∙ flat_map-append (λ text. text.now) (take i texts) (drop i texts)
     ∙ ap (λ rest. joined (take i texts) ++ joined rest) (drop_more texts i d within) in
     rw whole (rw (append_assoc, append_assoc) (front_written old mid new _ _ (joined (drop (i + 1) texts) ++ 10 ∷ []) taken more))
-
--- a text that is written after another
-pub both_written : {T E : Type 0} (result : Result T E) (old mid new : Option (List ℕ)) (first second : List ℕ) (attempts : List Bool)
-    → Appends old mid first → Writes result mid new second attempts → Writes result old new (first ++ second) attempts
-unfolding Writes
-both_written (Ok x) old mid new first second attempts taken (more, ended) = (Appends-trans old mid new first second taken more, ended)
-both_written (Err e) old mid new first second attempts taken (front, ended) =
-    (subst (λ text. AppendsFront old new (first ++ text)) (append-nil second) (front_written old mid new first second [] taken front), ended)

@@ -1,5 +1,5 @@
 -- What the program answers to its words.
-use Rattle.std.specs.Prelude.{◌≡◌, ◌≢◌, ◌⊎◌, ℕ, List, [], ◌∷◌, ℤ, Option, Some, None, Result, Ok, Err, codes, chars, map, if◌then◌else◌, ◌==◌}
+use Rattle.std.specs.Prelude.{◌≡◌, ◌≢◌, ◌⊎◌, ℕ, List, [], ◌∷◌, ℤ, Option, Some, None, Result, Ok, Err, codes, chars, map}
 use Rattle.std.specs.Borrow.{Bor}
 use Rattle.std.specs.Io.KnownBytes.{Appends, Keeps}
 use Rattle.humantime.specs.declared.date.error.TimestampError.{TimestampError}
@@ -44,27 +44,11 @@ abbrev pub Answers : List (List ℕ) → Answer → Type 0
 Answers words (Some told) = (command : Command) × (text : List ℕ) × (words ≡ words_of command text) × Tells command text told
 Answers words None = (command : Command) (text : List ℕ) → words ≢ words_of command text
 
--- the line that tells how the program is called
-abbrev pub usage : List ℕ
-usage = codes "usage: humantime duration|strict|weak TEXT"
-
--- its status, and its text
-abbrev pub status_of : Answer → ℕ
-status_of (Some (Ok printed)) = 0
-status_of (Some (Err message)) = 1
-status_of None = 2
-
-abbrev pub text_of : Answer → List ℕ
-text_of (Some (Ok printed)) = printed
-text_of (Some (Err message)) = message
-text_of None = usage
-
--- the bytes for standard output, and for standard error
-abbrev pub for_out : Answer → List ℕ
-for_out answer = if status_of answer == 0 then line (text_of answer) else []
-
-abbrev pub for_err : Answer → List ℕ
-for_err answer = if status_of answer == 0 then [] else line (text_of answer)
+-- its status, and its bytes for standard output and for standard error
+abbrev pub outcome : Answer → ℕ × List ℕ × List ℕ
+outcome (Some (Ok printed)) = (0, line printed, [])
+outcome (Some (Err message)) = (1, [], line message)
+outcome None = (2, [], line (codes "usage: humantime duration|strict|weak TEXT"))
 
 -- no other answer to the words
 abbrev pub OneAnswer : List (List ℕ) → Type 0
@@ -73,11 +57,11 @@ OneAnswer words = (answer other : Answer) → Answers words answer → Answers w
 -- How the program ends with an answer, and what the two writers took: from old_out to new_out, and from old_err to new_err.
 pub data EndsWith (answer : Answer) (status : ℕ) (old_out new_out old_err new_err : Option (List ℕ)) : Type 0 where
   -- just the answer
-  Whole : status ≡ status_of answer → Appends old_out new_out (for_out answer) → Appends old_err new_err (for_err answer)
+  Whole : status ≡ (outcome answer).0 → Appends old_out new_out (outcome answer).1 → Appends old_err new_err (outcome answer).2
       → EndsWith answer status old_out new_out old_err new_err
   -- a write failed: one writer took a front of the answer, and not all of it, and the other took nothing
   Cut : status ≡ 3
-      → (AppendsFront old_out new_out (for_out answer) × Keeps old_err new_err) ⊎ (Keeps old_out new_out × AppendsFront old_err new_err (for_err answer))
+      → (AppendsFront old_out new_out (outcome answer).1 × Keeps old_err new_err) ⊎ (Keeps old_out new_out × AppendsFront old_err new_err (outcome answer).2)
       → EndsWith answer status old_out new_out old_err new_err
 
 -- it ends with the answer to the words

@@ -21,15 +21,16 @@ use std::{env, io};
 /// The status where the words could not be taken or standard output could not be flushed.
 const FAILED: u8 = 3;
 
-/// Hands over the words after the program's name, standard output and standard error.
+/// Answers the words after the program's name on standard output and standard error.
 fn main(rt: HostRuntime) -> ExitCode {
-    ExitCode::from(answer_system(&rt).unwrap_or(FAILED))
-}
-
-/// Takes the words after the program's name, and answers them on standard output and standard error.
-fn answer_system(rt: &HostRuntime) -> io::Result<u8> {
-    let args: Vec<String> = env::args(rt)?.skip(1).collect(rt.alloc())?;
-    answer_args(rt.alloc(), &args, &mut rt.stdout(), &mut rt.stderr())
+    let Ok(named) = env::args(&rt) else {
+        return ExitCode::from(FAILED);
+    };
+    let Ok(args) = named.skip(1).collect::<Vec<String>>(rt.alloc()) else {
+        return ExitCode::from(FAILED);
+    };
+    let answered = answer_args(rt.alloc(), &args, &mut rt.stdout(), &mut rt.stderr());
+    ExitCode::from(answered.unwrap_or(FAILED))
 }
 
 /// Answers the words, and flushes `out`.

@@ -20,10 +20,14 @@ pub(crate) fn message_of_text<'t: 'a, 'a>(
         }
         DurationError::NumberExpected(at) => ["expected number at ", digits.format(at), "", "", ""],
         DurationError::UnknownUnit { unit, value, .. } => message_of_unit(unit, value, digits),
-        DurationError::NumberOverflow => alone(
+        DurationError::NumberOverflow => [
             "number is too large or cannot be represented without a lack of precision (values below 1ns are not supported)",
-        ),
-        DurationError::Empty => alone("value was empty"),
+            "",
+            "",
+            "",
+            "",
+        ],
+        DurationError::Empty => ["value was empty", "", "", "", ""],
     }
 }
 
@@ -48,13 +52,6 @@ fn message_of_unit<'a>(unit: &'a str, value: u64, digits: &'a mut Buffer) -> [&'
         "",
         "",
     ]
-}
-
-/// The one text, in pieces.
-pub(crate) fn alone<'a>(text: &'a str) -> [&'a str; 5]
-    ensures { joined result ≡ text.now }
-{
-    [text, "", "", "", ""]
 }
 
 /// The message of a timestamp's error.

@@ -4,7 +4,8 @@ use Rattle.std.proofs.Common.{◌≡◌, ◌∙◌, ℕ, zero, suc, ◌+◌, ◌
 use Rattle.std.proofs.lemmas.Bool.{cases_eq}
 use Rattle.humantime.specs.declared.calendar.Date.{Date}
 use Rattle.humantime.specs.Calendar.{days_in_month, days_of_years, days_of_months, IsDate, day_of}
-use Rattle.humantime.specs.Laws.Days.{OneDate}
+use Rattle.humantime.specs.Laws.Days.{IsDateOfDay}
+use Rattle.humantime.specs.Laws.ExactlyOne.{ExactlyOne}
 use Rattle.humantime.specs.References.Calendar.March.{date_of}
 use Rattle.humantime.proofs.Dates.Years.{AreWithin, valid_told, days_of_years_closed, march_days_next, days_of_months_closed}
 use Rattle.humantime.proofs.Dates.DatesOfDays.{date_of_is}
@@ -55,7 +56,7 @@ same_month y m d m' d' valid valid' same = grind (arith, before_month y m d vali
 pub same_date : (a b : Date) → IsDate a → IsDate b → day_of a ≡ day_of b → a ≡ b
 same_date a b valid valid' same = grind (arith, common_steps, valid_told, same_year, same_month)
 
-pub one_date : (day : ℕ) → day ≤ 2_932_896 → OneDate day
+pub one_date : (day : ℕ) → day ≤ 2_932_896 → ExactlyOne (IsDateOfDay day)
 one_date day few =
     let found = date_of_is day few in
     (date_of day, found, λ other is. same_date other (date_of day) is.0 found.0 (is.1 ∙ sym found.1))

@@ -1,5 +1,5 @@
 -- What spans add up to, their limits, and the texts that are accepted. A text is its list of characters.
-use Rattle.std.specs.Prelude.{ℕ, ◌*◌, ◌/◌, ◌^◌, List, [], ◌∷◌, length, Option, Some, None, sum_by, flat_map, ◌≡◌, ◌+◌, ◌%◌, ◌≤◌, ◌++◌, IsSome, IfSome, ⊤}
+use Rattle.std.specs.Prelude.{ℕ, ◌*◌, ◌/◌, ◌^◌, List, [], ◌∷◌, length, Bool, true, false, ◌||◌, ◌&&◌, ◌==◌, nat_lt, nat_le, Option, Some, None, sum_by, flat_map, ◌≡◌, ◌+◌, ◌%◌, ◌++◌, IsSome}
 use Rattle.std.specs.List.{AllByRecursion}
 use Rattle.humantime.specs.Durations.Characters.{decimal_value, significant, u64_max, bare_zero}
 use Rattle.humantime.specs.Durations.Units.{Addition, Nanos, Seconds, Scale, scale_of_word}
@@ -31,9 +31,9 @@ times n x = of_kind x (n * amount x)
 abbrev pub part : List ℕ → Addition → Addition
 part ds x = of_kind x (decimal_value ds * amount x / 10 ^ length ds)
 
--- what a fraction adds, where there is one and its unit has fractions; zeros at its end are left out
+-- what a fraction adds, where there is one and its unit has fractions
 abbrev pub fraction_additions : Option Addition → Option (List ℕ) → List Addition
-fraction_additions (Some x) (Some ds) = part (significant ds) x ∷ []
+fraction_additions (Some x) (Some ds) = part ds x ∷ []
 fraction_additions _ _ = []
 
 -- what a span adds where its word is this unit's: its number first, and then its fraction
@@ -41,51 +41,59 @@ abbrev pub additions_at : Option Scale → Span → List Addition
 additions_at None s = []
 additions_at (Some u) s = times (decimal_value s.number) u.one ∷ fraction_additions u.fraction s.fraction
 
+abbrev pub additions_of : Span → List Addition
+additions_of s = additions_at (scale_of_word s.word) s
+
 -- what spans add, in order, and their value: the plain sum of all additions, in nanoseconds
 abbrev pub additions : List Span → List Addition
-additions spans = flat_map (λ s. additions_at (scale_of_word s.word) s) spans
+additions spans = flat_map additions_of spans
 
 abbrev pub value : List Span → ℕ
 value spans = total (additions spans)
 
--- The number is at most the greatest u64, and the fraction has at most 19 digits before the zeros at its end.
-pub record NumbersFit (s : Span) : Type 0 where
-  pub number : decimal_value s.number ≤ u64_max
-  pub fraction : IfSome s.fraction (λ ds. length (significant ds) ≤ 19)
+-- whether there is one, and it passes the test
+abbrev pub is_some_and : {A : Type 0} → (A → Bool) → Option A → Bool
+is_some_and passes None = false
+is_some_and passes (Some x) = passes x
 
--- Its number and its fraction fit, and its word is one of the units'.
+-- whether the number is above the greatest u64, or the fraction has more than 19 digits before the zeros at its end
+abbrev pub too_long : Span → Bool
+too_long s = nat_lt u64_max (decimal_value s.number) || is_some_and (λ ds. nat_lt 19 (length (significant ds))) s.fraction
+
+-- The span isn't too long, and its word is one of the units'.
 pub record Formed (s : Span) : Type 0 where
-  pub numbers : NumbersFit s
+  pub short : too_long s ≡ false
   pub word : IsSome (scale_of_word s.word)
 
--- the part that these digits are of so many is a whole number, and the product before the division fits a u64
-abbrev pub IsWholePart : ℕ → List ℕ → Type 0
-IsWholePart n ds = (decimal_value ds * n ≤ u64_max) × (decimal_value ds * n % 10 ^ length ds ≡ 0)
+-- whether the part that these digits are of so many is a whole number, and the product before the division fits a u64
+abbrev pub is_whole_part : ℕ → List ℕ → Bool
+is_whole_part n ds = nat_le (decimal_value ds * n) u64_max && (decimal_value ds * n % 10 ^ length ds == 0)
 
--- a fraction is a whole number of nanoseconds or of seconds; where its unit has no fractions, it is nothing but zeros
-abbrev pub FitsFraction : Option Addition → Option (List ℕ) → Type 0
-FitsFraction _ None = ⊤
-FitsFraction None (Some ds) = significant ds ≡ []
-FitsFraction (Some x) (Some ds) = IsWholePart (amount x) (significant ds)
+-- whether a fraction is a whole number of nanoseconds or of seconds; where its unit has no fractions, nothing but zeros
+abbrev pub fraction_fits : Option Addition → Option (List ℕ) → Bool
+fraction_fits _ None = true
+fraction_fits None (Some ds) = length (significant ds) == 0
+fraction_fits (Some x) (Some ds) = is_whole_part (amount x) (significant ds)
 
--- the number's product with its unit fits a u64, and the fraction fits its unit
-abbrev pub Fits : Span → Type 0
-Fits s = IfSome (scale_of_word s.word) (λ u. (decimal_value s.number * amount u.one ≤ u64_max) × FitsFraction u.fraction s.fraction)
+-- whether the word is a unit's, the number's product with the unit fits a u64, and the fraction fits the unit
+abbrev pub fits : Span → Bool
+fits s = is_some_and (λ u. nat_le (decimal_value s.number * amount u.one) u64_max && fraction_fits u.fraction s.fraction)
+    (scale_of_word s.word)
 
--- what may be added to t nanoseconds: the whole seconds of the new sum are at most the greatest u64; and where nanoseconds are
--- added, so are these and the nanoseconds beyond the whole seconds of t, together
-abbrev pub HasRoom : ℕ → Addition → Type 0
-HasRoom t (Nanos n) = (t % nanos_per_second + n ≤ u64_max) × ((t + n) / nanos_per_second ≤ u64_max)
-HasRoom t (Seconds n) = t / nanos_per_second + n ≤ u64_max
+-- whether so much may be added to t nanoseconds: the whole seconds of the new sum are at most the greatest u64; and where
+-- nanoseconds are added, so are these and the nanoseconds beyond the whole seconds of t, together
+abbrev pub room : ℕ → Addition → Bool
+room t (Nanos n) = nat_le (t % nanos_per_second + n) u64_max && nat_le ((t + n) / nanos_per_second) u64_max
+room t (Seconds n) = nat_le (t / nanos_per_second + n) u64_max
 
 -- each addition may be added to those before it
 abbrev pub AllHaveRoom : List Addition → Type 0
-AllHaveRoom xs = (before after : List Addition) (x : Addition) → xs ≡ before ++ x ∷ after → HasRoom (total before) x
+AllHaveRoom xs = (before after : List Addition) (x : Addition) → xs ≡ before ++ x ∷ after → room (total before) x ≡ true
 
 -- The spans keep all limits.
 pub record WithinLimits (spans : List Span) : Type 0 where
   pub formed : AllByRecursion Formed spans
-  pub fit : AllByRecursion Fits spans
+  pub fit : AllByRecursion (λ s. fits s ≡ true) spans
   pub room : AllHaveRoom (additions spans)
 
 -- The text stands for d nanoseconds.

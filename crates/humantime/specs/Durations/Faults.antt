@@ -1,10 +1,10 @@
 -- The first fault of a text that is not accepted. A text is its list of characters; offsets count its bytes, and a fault
 -- holds the bytes of its unit.
-use Rattle.std.specs.Prelude.{ℕ, List, [], ◌∷◌, Option, Some, None, if◌then◌else◌, ◌≡◌, ◌≢◌, ◌⊎◌, true, false, ◌++◌, IsSome, drop, option_map, unwrap_or, encode_utf8_all}
-use Rattle.humantime.specs.Durations.Characters.{is_letter, is_numeric, is_point, leading, past, digits, is_ws, is_digit, begins, ends, decimal_value, offset_of, byte_length, bare_zero}
+use Rattle.std.specs.Prelude.{ℕ, Bool, true, false, not, ◌==◌, List, [], ◌∷◌, length, Option, Some, None, is_some, if◌then◌else◌, ◌≡◌, ◌≢◌, ◌⊎◌, ◌++◌, drop, option_map, unwrap_or, encode_utf8_all}
+use Rattle.humantime.specs.Durations.Characters.{is_letter, is_numeric, is_point, leading, past, digits, is_ws, is_digit, begins, ends, decimal_value, offset_of, bare_zero}
 use Rattle.humantime.specs.Durations.Spans.{Span, SpellsAll}
 use Rattle.humantime.specs.Durations.Units.{scale_of_word}
-use Rattle.humantime.specs.Durations.Accepted.{NumbersFit, WithinLimits}
+use Rattle.humantime.specs.Durations.Accepted.{is_some_and, too_long, WithinLimits}
 
 -- the number that begins a rest: its digits, and what follows it
 abbrev pub number_of : List ℕ → List ℕ
@@ -49,54 +49,39 @@ pub record Split (text front : List ℕ) (spans : List Span) (rest : List ℕ) :
   pub spelled : SpellsAll front spans
   pub no_space : begins is_ws rest ≡ false
 
--- a digit begins the rest, and its number and its fraction fit
-abbrev pub StartsNumber : List ℕ → Type 0
-StartsNumber rest = (begins is_digit rest ≡ true) × NumbersFit (span_of rest)
+-- whether a digit, white space or the end follows a word
+abbrev pub ends_span : List ℕ → Bool
+ends_span [] = true
+ends_span (c ∷ cs) = is_numeric c
 
--- and if there is a point, digits follow it
-pub record StartsSpan (rest : List ℕ) : Type 0 where
-  pub number : StartsNumber rest
-  pub not_bare : fraction_of rest ≢ Some []
+-- What is wrong with the span that begins a rest, the first of these: its number is above the greatest or its fraction too
+-- long, whatever follows; where a word has to begin stands a character that is no letter; a point has no digits, and the fault is
+-- at the point; behind the letters stands a character that is no letter, digit or white space, and the letters are not looked at;
+-- the letters are no unit's word, or the text ends where a word has to begin.
+unfoldable pub stop_at : List ℕ → List ℕ → Option Fault
+stop_at text rest =
+    if too_long (span_of rest) then Some NumberOverflow
+    else if begins (λ c. not (is_letter c)) (after_fraction rest) then Some (InvalidCharacter (offset_of text (after_word rest)))
+    else if is_some_and (λ ds. length ds == 0) (fraction_of rest) then Some (InvalidCharacter (offset_of text (after_number rest)))
+    else if not (ends_span (after_word rest)) then Some (InvalidCharacter (offset_of text (after_word rest)))
+    else if is_some (scale_of_word (word_of rest)) then None
+    else Some (UnknownUnit (offset_of text (after_fraction rest)) (offset_of text (after_word rest))
+    (encode_utf8_all (word_of rest)) (decimal_value (number_of rest)))
 
--- a digit, white space or the end follows
-abbrev pub MayFollowWord : List ℕ → Type 0
-MayFollowWord next = (next ≡ []) ⊎ (begins is_numeric next ≡ true)
+-- what is wrong at a rest: no digit begins it, or its span stops
+abbrev pub fault_at : List ℕ → List ℕ → Option Fault
+fault_at text rest = if begins is_digit rest then stop_at text rest else Some (NumberExpected (offset_of text rest))
 
 -- How a text goes wrong at a rest, after spans that stand before it, whatever these add up to.
 pub data Stops (text front : List ℕ) (spans : List Span) (rest : List ℕ) (e : Fault) : Type 0 where
   -- there is nothing, or only white space
   Nothing_there : spans ≡ [] → rest ≡ [] → e ≡ Empty → Stops text front spans rest e
-  -- no digit where a number has to begin: at the start, or after a span that ends in white space
-  No_number : begins is_digit rest ≡ false → rest ≢ [] → (spans ≡ []) ⊎ (ends is_ws front ≡ true)
-      → e ≡ NumberExpected (offset_of text rest) → Stops text front spans rest e
-  -- the number is above the greatest or its fraction too long, whatever follows
-  Too_great : begins is_digit rest ≡ true → ¬ (NumbersFit (span_of rest)) → e ≡ NumberOverflow → Stops text front spans rest e
-  -- a point without digits, and then a letter or the end; the fault is at the point
-  Bare_point : StartsNumber rest → fraction_of rest ≡ Some [] → (word_of rest ≢ []) ⊎ (after_word rest ≡ [])
-      → e ≡ InvalidCharacter (offset_of text (after_number rest)) → Stops text front spans rest e
-  -- where a word has to begin, a character that is no letter
-  No_letter : StartsNumber rest → word_of rest ≡ [] → after_word rest ≢ []
-      → e ≡ InvalidCharacter (offset_of text (after_word rest)) → Stops text front spans rest e
-  -- after the letters a character that is no letter, digit or white space; the letters are not looked at
-  Bad_after_word : StartsSpan rest → word_of rest ≢ [] → ¬ (MayFollowWord (after_word rest))
-      → e ≡ InvalidCharacter (offset_of text (after_word rest)) → Stops text front spans rest e
-  -- where a word has to begin, the end
-  No_word : StartsSpan rest → word_of rest ≡ [] → after_word rest ≡ []
-      → e ≡ UnknownUnit (byte_length text) (byte_length text) [] (decimal_value (number_of rest)) → Stops text front spans rest e
-  -- letters that are no unit's word
-  Wrong_word : StartsSpan rest → word_of rest ≢ [] → scale_of_word (word_of rest) ≡ None → MayFollowWord (after_word rest)
-      → e ≡ UnknownUnit (offset_of text (after_fraction rest)) (offset_of text (after_word rest)) (encode_utf8_all (word_of rest))
-      (decimal_value (number_of rest))
-      → Stops text front spans rest e
+  -- where a number has to begin, at the start or after a span that ends in white space, or where a digit stands
+  Wrong_there : rest ≢ [] → (spans ≡ []) ⊎ ((ends is_ws front ≡ true) ⊎ (begins is_digit rest ≡ true))
+      → fault_at text rest ≡ Some e → Stops text front spans rest e
 
--- A whole span begins the rest, but with it the spans break a limit.
-pub record Overflows (spans : List Span) (rest : List ℕ) : Type 0 where
-  pub starts : StartsSpan rest
-  pub word : IsSome (scale_of_word (word_of rest))
-  pub follows : MayFollowWord (after_word rest)
-  pub beyond : ¬ (WithinLimits (spans ++ span_of rest ∷ []))
-
--- The text isn't exactly `0`; it is a front of spans within the limits, and then a rest at which the fault stands.
+-- The text isn't exactly `0`; it is a front of spans within the limits, and then a rest that stops with the fault, or that
+-- begins with a whole span with which the spans break a limit.
 pub record HasFault (text : List ℕ) (e : Fault) : Type 0 where
   pub not_zero : text ≢ bare_zero
   pub front : List ℕ
@@ -104,4 +89,5 @@ pub record HasFault (text : List ℕ) (e : Fault) : Type 0 where
   pub spans : List Span
   pub split : Split text front spans rest
   pub within : WithinLimits spans
-  pub fault : Stops text front spans rest e ⊎ (Overflows spans rest × (e ≡ NumberOverflow))
+  pub fault : Stops text front spans rest e
+      ⊎ ((fault_at text rest ≡ None) × ¬ (WithinLimits (spans ++ span_of rest ∷ [])) × (e ≡ NumberOverflow))

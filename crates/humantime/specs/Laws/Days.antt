@@ -6,7 +6,3 @@ use Rattle.humantime.specs.declared.calendar.Date.{Date}
 -- the date exists and has this day number
 abbrev pub IsDateOfDay : ℕ → Date → Type 0
 IsDateOfDay n d = IsDate d × (day_of d ≡ n)
-
--- one date has this day number, and no other
-abbrev pub OneDate : ℕ → Type 0
-OneDate n = (d : Date) × IsDateOfDay n d × ((other : Date) → IsDateOfDay n other → other ≡ d)

@@ -9,6 +9,7 @@ use Rattle.humantime.specs.Timestamps.Printed.{cut, IsPrinted, IsPrintable}
 use Rattle.humantime.specs.Timestamps.Checks.{ends_in_zone, first_failed, weak_checks, strict_checks}
 use Rattle.humantime.specs.References.Timestamps.Reading.{strict_answer, weak_answer}
 use Rattle.humantime.specs.References.Timestamps.Printing.{moment_text}
+use Rattle.humantime.specs.Laws.ExactlyOne.{ExactlyOne}
 
 -- some parts are shown exactly where no check fails, and then no others
 abbrev pub OneTimestamp : List (Bool × TimestampError) → (Fields → Type 0) → Type 0
@@ -19,14 +20,6 @@ OneTimestamp checks IsShown =
 -- a `T` between date and time, and `Z` or `+00:00` at the end
 abbrev pub IsMarked : List ℕ → Type 0
 IsMarked b = (slice_index b 10 ≡ byte "T") × IsTrue (ends_in_zone b)
-
--- a text in strict form is one in weak form with these marks
-abbrev pub StrictIsWeak : List ℕ → Type 0
-StrictIsWeak b = (f : Fields) → IsStrict b f ↔ (IsWeak b f × IsMarked b)
-
--- and its moment is the same
-abbrev pub StrictMomentIsWeak : List ℕ → Type 0
-StrictMomentIsWeak b = (t : ℤ) → IsStrictMoment b t ↔ (IsWeakMoment b t × IsMarked b)
 
 -- two moments, printed with equally many digits: the order of the bytes is that of the moments, cut
 abbrev pub InOrder : ℤ → ℤ → Type 0
@@ -39,13 +32,6 @@ pub record ReadsAs (bytes : List ℕ) (t : ℤ) : Type 0 where
   pub strict : IsStrictMoment bytes t
   pub weak : IsWeakMoment bytes t
 
--- one text is this moment, printed, and it reads back as the moment, cut
-pub record OnePrinted (t : ℤ) (k : ℕ) : Type 0 where
-  pub text : List ℕ
-  pub printed : IsPrinted t k text
-  pub only : (other : List ℕ) → IsPrinted t k other → other ≡ text
-  pub reads : ReadsAs text (cut t k)
-
 -- a text's one outcome in each form, and that the answer as a function is this outcome
 pub record StampOutcome (text : List ℕ) : Type 0 where
   pub weak : OneTimestamp (weak_checks text) (IsWeak text)
@@ -57,15 +43,19 @@ pub record StampOutcome (text : List ℕ) : Type 0 where
 
 -- the strict form is the weak one with a `T` and a zone: of the parts, of the moment, and of the answer
 pub record StrictForm (text : List ℕ) : Type 0 where
-  pub parts : StrictIsWeak text
-  pub moment : StrictMomentIsWeak text
+  -- a text in strict form is one in weak form with these marks
+  pub parts : (f : Fields) → IsStrict text f ↔ (IsWeak text f × IsMarked text)
+  -- and its moment is the same
+  pub moment : (t : ℤ) → IsStrictMoment text t ↔ (IsWeakMoment text t × IsMarked text)
+  -- so are the answers
   pub weak : (t : ℤ) → strict_answer text ≡ Ok t → weak_answer text ≡ Ok t
   pub marked : (t : ℤ) → strict_answer text ≡ Ok t → IsMarked text
   pub strict : (t : ℤ) → weak_answer text ≡ Ok t → IsMarked text → strict_answer text ≡ Ok t
 
 -- the one text of the moment t, printed with k digits, which `Display` writes, and what both parsers read it as
 pub record PrintedMoment (t : ℤ) (k : ℕ) : Type 0 where
-  pub one : IsPrintable t → OnePrinted t k
+  -- one text is this moment, printed, and no other
+  pub one : IsPrintable t → ExactlyOne (IsPrinted t k)
   pub displayed : (text : List ℕ) → (moment_text t k ≡ Some text) ↔ (IsPrintable t × IsPrinted t k text)
   pub reads : (text : List ℕ) → IsPrinted t k text → ReadsAs text (cut t k)
   pub strict : (text : List ℕ) → IsPrinted t k text → strict_answer text ≡ Ok (cut t k)

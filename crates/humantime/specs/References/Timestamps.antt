@@ -1,4 +1,3 @@
 -- Reading and printing timestamps place by place, as private functions do.
-pub mod Fractions
 pub mod Printing
 pub mod Reading

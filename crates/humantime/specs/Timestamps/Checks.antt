@@ -1,5 +1,5 @@
 -- The checks on a timestamp's bytes, in their order, each with the error of a text that fails it; and the errors' messages.
-use Rattle.std.specs.Prelude.{ℕ, ◌-◌, Bool, ◌&&◌, ◌||◌, ◌==◌, nat_le, nat_eq, if◌then◌else◌, Option, Some, None, List, [], ◌∷◌, length, take, drop, slice_index, slice_range, codes}
+use Rattle.std.specs.Prelude.{ℕ, ◌+◌, ◌-◌, Bool, ◌&&◌, ◌||◌, ◌==◌, nat_le, nat_eq, if◌then◌else◌, Option, Some, None, List, [], ◌∷◌, length, take, drop, slice_index, slice_range, codes}
 use Rattle.std.specs.Char.{is_ascii_digit}
 use Rattle.std.specs.List.{list_all, ends_with}
 use Rattle.std.specs.Str.{byte, all_ascii_digits}
@@ -40,13 +40,13 @@ has_signs b =
     (slice_index b 4 == byte "-") && (slice_index b 7 == byte "-") && has_separator b
     && (slice_index b 13 == byte ":") && (slice_index b 16 == byte ":")
 
--- the places between the signs
-abbrev pub digit_places : List ℕ
-digit_places = 0 ∷ 1 ∷ 2 ∷ 3 ∷ 5 ∷ 6 ∷ 8 ∷ 9 ∷ 11 ∷ 12 ∷ 14 ∷ 15 ∷ 17 ∷ 18 ∷ []
+-- two digits from place k on
+unfoldable pub has_two : List ℕ → ℕ → Bool
+has_two b k = is_ascii_digit (slice_index b k) && is_ascii_digit (slice_index b (k + 1))
 
--- digits in all these places
+-- digits in all places between the signs
 unfoldable pub has_digits : List ℕ → Bool
-has_digits b = list_all (λ k. is_ascii_digit (slice_index b k)) digit_places
+has_digits b = list_all (λ k. has_two b k) (0 ∷ 2 ∷ 5 ∷ 8 ∷ 11 ∷ 14 ∷ 17 ∷ [])
 
 -- the number that the bytes from one place up to another show
 unfoldable pub number_between : List ℕ → ℕ → ℕ → ℕ
@@ -62,13 +62,9 @@ numbers_of b = record {
 }
 
 -- a date of 1970 to 9999 that exists, and a time of day, perhaps with a second 60
-abbrev pub are_in_range : Numbers → Bool
+unfoldable pub are_in_range : Numbers → Bool
 are_in_range x =
     is_valid x.date.year x.date.month x.date.day && nat_le x.hour 23 && nat_le x.minute 59 && nat_le x.second 60
-
--- the numbers that the text shows are such
-unfoldable pub in_range : List ℕ → Bool
-in_range b = are_in_range (numbers_of b)
 
 -- what stands between the seconds and the zone
 abbrev pub fraction_part : List ℕ → List ℕ
@@ -78,19 +74,15 @@ fraction_part b = before_zone (drop 19 b)
 unfoldable pub has_point : List ℕ → Bool
 has_point part = (length part == 0) || (slice_index part 0 == byte ".")
 
--- behind the point there are digits alone
-unfoldable pub are_digits_behind_point : List ℕ → Bool
-are_digits_behind_point part = all_ascii_digits (drop 1 part)
-
 -- the checks of the weak form: each with the error of a text that fails it
 abbrev pub weak_checks : List ℕ → List (Bool × TimestampError)
 weak_checks b =
     (nat_le 19 (length b), InvalidFormat)
     ∷ (has_signs b, InvalidFormat)
     ∷ (has_digits b, InvalidDigit)
-    ∷ (in_range b, OutOfRange)
+    ∷ (are_in_range (numbers_of b), OutOfRange)
     ∷ (has_point (fraction_part b), InvalidFormat)
-    ∷ (are_digits_behind_point (fraction_part b), InvalidDigit)
+    ∷ (all_ascii_digits (drop 1 (fraction_part b)), InvalidDigit)
     ∷ []
 
 -- the checks of the strict form: one more, and it comes first

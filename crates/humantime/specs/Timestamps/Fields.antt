@@ -84,13 +84,14 @@ pub record IsStrict (bytes : List ℕ) (f : Fields) : Type 0 where
   pub separator : f.separator ≡ Letter_T
   pub zone : f.zone ≢ No_zone
 
--- whole seconds from 1970-01-01T00:00:00Z; second 60 is read as 59
-abbrev pub seconds_of : Fields → ℕ
-seconds_of f = day_of f.date * seconds_per_day + f.hour * seconds_per_hour + f.minute * seconds_per_minute + min f.second 59
+-- whole seconds from 1970-01-01T00:00:00Z to this date, hour, minute and second; second 60 is read as 59
+abbrev pub seconds_of : Date → ℕ → ℕ → ℕ → ℕ
+seconds_of date hour minute second =
+    day_of date * seconds_per_day + hour * seconds_per_hour + minute * seconds_per_minute + min second 59
 
 -- nanoseconds from 1970-01-01T00:00:00Z
 abbrev pub moment_of : Fields → ℕ
-moment_of f = seconds_of f * nanos_per_second + fraction_nanos (fraction_digits f.fraction)
+moment_of f = seconds_of f.date f.hour f.minute f.second * nanos_per_second + fraction_nanos (fraction_digits f.fraction)
 
 -- the text shows some parts of this moment: in weak form, and in strict form
 abbrev pub IsWeakMoment : List ℕ → ℤ → Type 0

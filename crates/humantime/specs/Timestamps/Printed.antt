@@ -1,5 +1,5 @@
 -- The text of a moment, its second cut to a number of digits. A text is its bytes.
-use Rattle.std.specs.Prelude.{◌≡◌, ℕ, zero, suc, ◌-◌, ◌*◌, ◌^◌, ◌≤◌, ◌==◌, if◌then◌else◌, List, length, Option, Some, None, ℤ, pos, ◌≤ℤ◌, ◌<ℤ◌, ◌-ℤ◌}
+use Rattle.std.specs.Prelude.{◌≡◌, ℕ, ◌-◌, ◌*◌, ◌^◌, ◌≤◌, ◌==◌, if◌then◌else◌, List, length, Some, None, option_map, ℤ, pos, ◌≤ℤ◌, ◌<ℤ◌, ◌-ℤ◌}
 use Rattle.std.specs.Int.{int_rem_euclid}
 use Rattle.humantime.specs.Values.{nanos_per_second, seconds_per_day, nano_of}
 use Rattle.humantime.specs.Timestamps.Fields.{Letter_T, Letter_Z, Fields, IsWeak, moment_of}
@@ -17,11 +17,6 @@ places_of t = if nano_of t == 0 then 0 else 9
 abbrev pub cut : ℤ → ℕ → ℤ
 cut t k = t -ℤ int_rem_euclid t (pos (10 ^ (9 - k)))
 
--- no fraction for no digits, and else so many digits
-abbrev pub HasPlaces : Option (List ℕ) → ℕ → Type 0
-HasPlaces fraction zero = fraction ≡ None
-HasPlaces fraction (suc k) = (ds : List ℕ) × (fraction ≡ Some ds) × (length ds ≡ suc k)
-
 -- The text is the moment t, printed with k digits, at most nine: it shows parts with `T`, `Z` and no second 60, whose moment is t, cut.
 pub record IsPrinted (t : ℤ) (k : ℕ) (bytes : List ℕ) : Type 0 where
   pub few : k ≤ 9
@@ -30,7 +25,7 @@ pub record IsPrinted (t : ℤ) (k : ℕ) (bytes : List ℕ) : Type 0 where
   pub separator : fields.separator ≡ Letter_T
   pub zone : fields.zone ≡ Letter_Z
   pub second : fields.second ≤ 59
-  pub places : HasPlaces fields.fraction k
+  pub places : option_map length fields.fraction ≡ (if k == 0 then None else Some k)
   pub moment : pos (moment_of fields) ≡ cut t k
 
 -- the first moment of the year 10000, which begins 2932897 days after 1970-01-01

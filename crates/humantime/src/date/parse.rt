@@ -1,14 +1,13 @@
 //! The parsers of timestamps.
 
-ghost use Rattle.std.specs.Prelude.{◌≡◌, ◌+◌, ◌/◌, ◌^◌, ◌<◌, ◌≤◌, ◌↔◌, ◌&&◌, if◌then◌else◌, length, IsTrue, IsFalse, IfSome, IfNone, Ok, Err, Some, None, ℤ, codes};
+ghost use Rattle.std.specs.Prelude.{◌≡◌, ◌+◌, ◌/◌, ◌^◌, ◌<◌, ◌≤◌, ◌↔◌, ◌&&◌, if◌then◌else◌, length, slice_range, IsTrue, IsFalse, IsSome, IfSome, IfNone, Ok, Err, Some, None, ℤ, codes};
 ghost use Rattle.std.specs.Str.{bytes_eq, all_ascii_digits};
 ghost use Rattle.humantime.specs.declared.date.error.TimestampError.{TimestampError};
-ghost use Rattle.humantime.specs.Timestamps.Fields.{zone_text, fraction_nanos, IsWeakMoment, IsStrictMoment};
+ghost use Rattle.humantime.specs.Timestamps.Fields.{zone_text, fraction_nanos, seconds_of, IsWeakMoment, IsStrictMoment};
 ghost use Rattle.humantime.specs.Timestamps.Checks.{zone_of, number_between, numbers_of, are_in_range, first_failed, weak_checks, strict_checks};
-ghost use Rattle.humantime.specs.References.Timestamps.Reading.{weak_answer, strict_answer, seconds_to, fraction_answer};
-ghost use Rattle.humantime.specs.Timestamps.Checks as TimestampChecks;
-ghost use Rattle.humantime.specs.References.Timestamps.Fractions.{weight, has_three, IsRead};
-ghost use Rattle.humantime.specs.References.Timestamps.Reading as TimestampReading;
+ghost use Rattle.humantime.specs.References.Timestamps.Reading.{weak_answer, strict_answer, fraction_answer, IsRead};
+ghost use Rattle.humantime.specs.Timestamps.Checks;
+ghost use Rattle.humantime.specs.References.Timestamps.Reading as Reading;
 
 use crate::calendar::{Date, day_number};
 use crate::date::error::TimestampError;
@@ -101,7 +100,7 @@ pub fn parse_rfc3339(s: &str) -> Result<SystemTime, TimestampError>
 #[inline(always)]
 #[tactic(auto, using(crate::proofs::Timestamps::Reading::Ends::some_zone), unfolding(crate::specs::Timestamps::Checks::has_marks))]
 fn has_marks(b: &[u8]) -> bool
-    ensures { result ≡ TimestampChecks.has_marks b.now }
+    ensures { result ≡ Checks.has_marks b.now }
 {
     b.len() >= 20 && b[10] == b'T' && zone_length(b) > 0
 }
@@ -125,7 +124,7 @@ fn zone_length(b: &[u8]) -> usize
 #[inline(always)]
 #[tactic(auto, using(crate::proofs::Timestamps::Reading::Ends::zone_fits))]
 fn before_zone(b: &[u8]) -> &[u8]
-    ensures { result.now ≡ TimestampChecks.before_zone b.now }
+    ensures { result.now ≡ Checks.before_zone b.now }
 {
     &b[..b.len() - zone_length(b)]
 }
@@ -160,7 +159,7 @@ fn read_timestamp(b: &[u8]) -> Result<SystemTime, TimestampError>
 #[tactic(auto, unfolding(crate::specs::Timestamps::Checks::has_separator))]
 fn has_separator(b: &[u8]) -> bool
     requires { 19 ≤ length b.now }
-    ensures { result ≡ TimestampChecks.has_separator b.now }
+    ensures { result ≡ Checks.has_separator b.now }
 {
     b[10] == b'T' || b[10] == b' '
 }
@@ -170,18 +169,17 @@ fn has_separator(b: &[u8]) -> bool
 #[tactic(auto, unfolding(crate::specs::Timestamps::Checks::has_signs))]
 fn has_signs(b: &[u8]) -> bool
     requires { 19 ≤ length b.now }
-    ensures { result ≡ TimestampChecks.has_signs b.now }
+    ensures { result ≡ Checks.has_signs b.now }
 {
     b[4] == b'-' && b[7] == b'-' && has_separator(b) && b[13] == b':' && b[16] == b':'
 }
 
 /// Signs and digits in their places.
 #[inline(always)]
-#[tactic(auto, using(crate::proofs::Timestamps::Reading::Lanes::shape_of_parts))]
 fn is_shaped(b: &[u8]) -> bool
     requires long { 19 ≤ length b.now }
-    requires separator { IsTrue (TimestampChecks.has_separator b.now) }
-    ensures { result ≡ (TimestampChecks.has_signs b.now && TimestampChecks.has_digits b.now) }
+    requires separator { IsTrue (Checks.has_separator b.now) }
+    ensures { result ≡ (Checks.has_signs b.now && Checks.has_digits b.now) }
 {
     is_shaped_front(b) && has_seconds(b)
 }
@@ -191,7 +189,7 @@ fn is_shaped(b: &[u8]) -> bool
 #[tactic(auto, unfolding(crate::specs::References::Timestamps::Reading::has_seconds))]
 fn has_seconds(b: &[u8]) -> bool
     requires { 19 ≤ length b.now }
-    ensures { result ≡ TimestampReading.has_seconds b.now }
+    ensures { result ≡ Reading.has_seconds b.now }
 {
     b[16] == b':' && has_two(b, 17)
 }
@@ -200,8 +198,9 @@ fn has_seconds(b: &[u8]) -> bool
 /// lane of the vector is how far a byte is above the least one, and a byte below that wraps around to far above.
 #[inline(always)]
 fn is_shaped_front(b: &[u8]) -> bool
-    requires { 19 ≤ length b.now }
-    ensures { result ≡ TimestampReading.is_shaped_front b.now }
+    requires long { 19 ≤ length b.now }
+    requires separator { IsTrue (Checks.has_separator b.now) }
+    ensures { (result && Reading.has_seconds b.now) ≡ (Checks.has_signs b.now && Checks.has_digits b.now) }
 {
     let above = u8x16::from_slice(b) - u8x16::from_array(LEAST);
     let other = above.simd_gt(u8x16::from_array(MOST_ABOVE));
@@ -210,10 +209,10 @@ fn is_shaped_front(b: &[u8]) -> bool
 
 /// Two digits from this place on.
 #[inline(always)]
-#[tactic(auto, unfolding(crate::specs::References::Timestamps::Reading::has_two))]
+#[tactic(auto, unfolding(crate::specs::Timestamps::Checks::has_two))]
 fn has_two(b: &[u8], at: usize) -> bool
     requires { at + 2 ≤ length b.now }
-    ensures { result ≡ TimestampReading.has_two b.now at }
+    ensures { result ≡ Checks.has_two b.now at }
 {
     b[at].is_ascii_digit() && b[at + 1].is_ascii_digit()
 }
@@ -223,7 +222,7 @@ fn has_two(b: &[u8], at: usize) -> bool
 #[tactic(auto, using(crate::proofs::Timestamps::Reading::Places::two_read))]
 fn two_at(b: &[u8], at: usize) -> u32
     requires { at + 2 ≤ length b.now }
-    ensures { IsTrue (TimestampReading.has_two b.now at) → result ≡ number_between b.now at (at + 2) }
+    ensures { IsTrue (Checks.has_two b.now at) → result ≡ number_between b.now at (at + 2) }
 {
     (b[at] as u32 * 10 + b[at + 1] as u32).wrapping_sub(TWO_ZEROS)
 }
@@ -233,7 +232,7 @@ fn two_at(b: &[u8], at: usize) -> u32
 #[tactic(auto, using(crate::proofs::Timestamps::Reading::Places::year_read))]
 fn year_at_front(b: &[u8]) -> u32
     requires { 4 ≤ length b.now }
-    ensures { IsTrue (TimestampReading.has_two b.now 0) → IsTrue (TimestampReading.has_two b.now 2) → result ≡ number_between b.now 0 4 }
+    ensures { IsTrue (Checks.has_two b.now 0) → IsTrue (Checks.has_two b.now 2) → result ≡ number_between b.now 0 4 }
 {
     (b[0] as u32 * 1_000 + b[1] as u32 * 100 + b[2] as u32 * 10 + b[3] as u32).wrapping_sub(
         FOUR_ZEROS,
@@ -244,7 +243,7 @@ fn year_at_front(b: &[u8]) -> u32
 #[inline(always)]
 fn numbers_at(b: &[u8]) -> Numbers
     requires { 19 ≤ length b.now }
-    ensures { IsTrue (TimestampChecks.has_digits b.now) → result ≡ numbers_of b.now }
+    ensures { IsTrue (Checks.has_digits b.now) → result ≡ numbers_of b.now }
 {
     Numbers {
         date: Date {
@@ -260,8 +259,9 @@ fn numbers_at(b: &[u8]) -> Numbers
 
 /// The seconds from 1970 to this date and time, where there are such.
 #[inline(always)]
+#[tactic(auto, unfolding(crate::specs::Timestamps::Checks::are_in_range))]
 fn seconds_of(x: Numbers) -> Option<u64>
-    ensures value { result ≡ (if are_in_range x then Some (seconds_to x) else None) }
+    ensures value { result ≡ (if are_in_range x then Some (seconds_of x.date x.hour x.minute x.second) else None) }
     ensures bound { IfSome result (λ n. n < 2 ^ 63) }
 {
     let days = day_number(x.date, &mut Turns::new())?;
@@ -274,7 +274,7 @@ fn seconds_of(x: Numbers) -> Option<u64>
 
 /// The nanoseconds of what stands between the seconds and the zone, where it is right.
 #[inline(always)]
-#[tactic(auto, using(crate::proofs::Timestamps::Reading::Steps::nothing_read), unfolding(crate::specs::Timestamps::Checks::has_point, crate::specs::Timestamps::Checks::are_digits_behind_point))]
+#[tactic(auto, using(crate::proofs::Timestamps::Reading::Steps::nothing_read), unfolding(crate::specs::Timestamps::Checks::has_point))]
 fn read_fraction(part: &[u8]) -> Result<u32, TimestampError>
     ensures { result ≡ fraction_answer part.now }
 {
@@ -303,7 +303,8 @@ fn is_offset(b: &[u8]) -> bool
 #[tactic(auto, using(crate::proofs::Timestamps::Reading::Places::has_three_told, crate::proofs::Timestamps::Reading::Places::number_of_three))]
 fn three_at(ds: &[u8], at: usize) -> Option<u32>
     requires { at + 3 ≤ length ds.now }
-    ensures { result ≡ (if has_three ds.now at then Some (number_between ds.now at (at + 3)) else None) }
+    ensures digits { IsSome result ↔ IsTrue (all_ascii_digits (slice_range ds.now at (at + 3))) }
+    ensures value { IfSome result (λ n. n ≡ number_between ds.now at (at + 3)) }
 {
     let (a, b, c) = (ds[at], ds[at + 1], ds[at + 2]);
     if !a.is_ascii_digit() || !b.is_ascii_digit() || !c.is_ascii_digit() {
@@ -352,7 +353,7 @@ fn read_digits(ds: &[u8]) -> Option<u32>
 #[inline(always)]
 #[tactic(auto, using(crate::proofs::Timestamps::Reading::Fractions::no_weight))]
 fn weight_of(at: usize) -> u32
-    ensures { result ≡ weight at }
+    ensures { result ≡ 100_000_000 / 10 ^ at }
 {
     if at < 9 { WEIGHTS[at] } else { 0 }
 }

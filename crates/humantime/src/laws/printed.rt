@@ -1,11 +1,6 @@
 //! Laws of printed durations.
 
-ghost use Rattle.std.specs.Prelude.{◌≡◌, ◌↔◌, ℕ, List, chars, Ok, Err};
-ghost use Rattle.humantime.specs.Durations.Counts.{IsCanonicalOf, Canon};
-ghost use Rattle.humantime.specs.References.Durations.Answers.{duration_answer, canonical_answer};
-ghost use Rattle.humantime.specs.Durations.Faults.{Fault, HasFault};
-ghost use Rattle.humantime.specs.References.Durations.Printing.{duration_text};
-ghost use Rattle.humantime.specs.Laws.Printed.{HasOneText, ReadsBack, TextsTellApart, HasShortText, HasSmallCounts, HasCanonicalText, KeepsItsValue, KeepsItsText, IsCanonicalAgain, IsBounded, PrintsAndReads, PrintApart};
+ghost use Rattle.humantime.specs.Laws.Printed.{IsBounded, IsCanonicalAgain, PrintApart, PrintsAndReads};
 
 use crate::value::StdDuration;
 

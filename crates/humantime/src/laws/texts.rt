@@ -1,10 +1,8 @@
 //! Laws of accepted texts: without white space, one behind the other, in another order, and accepted before.
 
-ghost use Rattle.std.specs.Prelude.{◌≡◌, ◌++◌, ℕ, chars, Ok};
-ghost use Rattle.humantime.specs.Durations.Characters.{bare_zero};
-ghost use Rattle.humantime.specs.Laws.Older.{AcceptedWithZeros, IsStillAccepted, IsStillRead, KeepsValueWithZeros};
-ghost use Rattle.humantime.specs.Laws.Texts.{without_white_space, NeedsNoWhiteSpace, IsZeroOrSpans, JoinedHaveSum, JoinedOverflow, JoinedHaveSumOrOverflow, JoinedAnswerSumOrOverflow, ReorderedHaveOneValue, ReorderedAnswerOneValue, ReorderedAnswerAlike, HasNoSpans, AddWhenJoined, KeepValueReordered, KeepsValueWithoutSpace};
-ghost use Rattle.humantime.specs.References.Durations.Answers.{duration_answer};
+ghost use Rattle.std.specs.Prelude.{◌≡◌, ◌++◌, chars};
+ghost use Rattle.humantime.specs.Laws.Older.{KeepsValueWithZeros};
+ghost use Rattle.humantime.specs.Laws.Texts.{AddWhenJoined, KeepValueReordered, KeepsValueWithoutSpace};
 
 /// An accepted text without its white space is accepted with the same value, so both have one answer.
 ///

@@ -1,8 +1,9 @@
-//! Streams that are written to one attempt at a time, and what was attempted.
+//! Streams that are written to one attempt at a time, and no more after one has failed.
 
-ghost use Rattle.std.specs.Prelude.{◌≡◌, [], ◌∷◌, ℕ, List, Option};
-ghost use Rattle.humantime_cli.specs.Attempts.{NoneFailed};
-ghost use Rattle.humantime_cli.specs.Writes.{Takes};
+ghost use Rattle.std.specs.Prelude.{◌≡◌, ◌<◌, ℕ, List, Option, IfOk, false};
+ghost use Rattle.std.specs.Result.{is_err};
+ghost use Rattle.std.specs.Io.{WritesAtMost};
+ghost use Rattle.std.specs.Io.KnownBytes.{WriteAppends};
 
 use std::io::Write;
 use std::marker::Model;
@@ -13,73 +14,55 @@ use std::snapshot::Snapshot;
 #[derive(Clone, Copy, PartialEq, Eq, Debug)]
 pub(crate) struct WriteFailed;
 
-/// One `Next` for each attempt. At run time a chain is never kept: a snapshot has no bytes.
-#[derive(Drop)]
-enum Chain {
-    Start,
-    Next(bool, Snapshot<Chain>),
-}
-
-/// The attempts to write, the last one first: whether each took bytes.
+/// Whether a write has failed.
 ///
-/// Contracts alone see them: at run time they have no bytes, and noting one costs nothing.
+/// Contracts alone see it: at run time it has no bytes, and noting it costs nothing.
 #[derive(Drop)]
-pub(crate) struct Attempts {
-    chain: Snapshot<Chain>,
+pub(crate) struct Failed {
+    noted: Snapshot<bool>,
 }
 
-const _: () = prove!(mem::size_of::<Attempts>() == 0);
+const _: () = prove!(mem::size_of::<Failed>() == 0);
 
-impl Model for Attempts {
-    ghost use Rattle.std.specs.Prelude.{List, Bool};
+impl Model for Failed {
+    ghost use Rattle.std.specs.Prelude.{Bool};
 
-    ghost Value = { List Bool };
+    ghost Value = { Bool };
 
-    ghost use Rattle.humantime_cli.specs.Chains.{attempts_of};
-
-    ghost view = { λ a. attempts_of a.chain.value };
+    ghost view = { λ f. f.noted.value };
 }
 
-impl Attempts {
-    /// No attempts yet.
-    pub(super) fn new() -> Attempts
-        ensures { result ≡ [] }
+impl Failed {
+    pub(super) fn new(noted: bool) -> Failed
+        ensures { result ≡ noted }
     {
-        Attempts {
-            chain: Snapshot::of(&Chain::Start),
+        Failed {
+            noted: Snapshot::of(&noted),
         }
     }
-
-    /// Notes one more attempt.
-    fn note(&mut self, took: bool)
-        ensures { self.new ≡ took ∷ self.old }
-    {
-        let before = mem::replace(&mut self.chain, Snapshot::of(&Chain::Start));
-        self.chain = Snapshot::of(&Chain::Next(took, before));
-    }
 }
 
-/// A stream that is written to while no attempt has failed. Each `Write` is one.
+/// A stream that is written to while no write has failed. Each `Write` is one.
 pub(crate) trait Stream {
     ghost contents: { Self → Option (List ℕ) };
 
     /// Writes some of the bytes, once, and gives their number, which is not 0.
-    fn attempt(&mut self, bytes: &[u8], attempts: &mut Attempts) -> Result<usize, WriteFailed>
-        requires { NoneFailed attempts.old }
-        ensures { Takes result (contents self.old) (contents self.new) bytes.now attempts.new };
+    fn attempt(&mut self, bytes: &[u8], failed: &mut Failed) -> Result<usize, WriteFailed>
+        requires { failed.old ≡ false }
+        ensures bound { WritesAtMost result bytes.now }
+        ensures bytes { WriteAppends (contents self.old) (contents self.new) result bytes.now }
+        ensures some { IfOk result (λ count. 0 < count) }
+        ensures noted { failed.new ≡ is_err result };
 }
 
 impl<W: Write> Stream for W {
     ghost contents = { λ w. W.contents w };
 
-    fn attempt(&mut self, bytes: &[u8], attempts: &mut Attempts) -> Result<usize, WriteFailed> {
+    fn attempt(&mut self, bytes: &[u8], failed: &mut Failed) -> Result<usize, WriteFailed> {
         match self.write(bytes) {
-            Ok(count) if count > 0 => {
-                attempts.note(true);
-                Ok(count)
-            }
+            Ok(count) if count > 0 => Ok(count),
             _ => {
-                attempts.note(false);
+                *failed = Failed::new(true);
                 Err(WriteFailed)
             }
         }

@@ -11,6 +11,7 @@ use Rattle.humantime.specs.Durations.Spans.{Span}
 use Rattle.humantime.specs.References.Durations.Reading.{add_all, add_span}
 use Rattle.humantime.specs.References.Durations.Scales.{Counted, counted}
 use Rattle.humantime.specs.References.Durations.Adding.{add_times, part_of, add_part}
+use Rattle.humantime.proofs.Durations.Reading.SignificantDigits.{amount_kept}
 
 -- the sum with a fraction after an addition, if there is a fraction
 abbrev pub then_add : Option ℕ → Option Addition → Option Counted → Option ℕ
@@ -22,7 +23,7 @@ pub span_adds : (t : ℕ) (s : Span) (u : Scale) (number : ℕ) (fraction : Opti
     → scale_of_word s.word ≡ Some u → number ≡ decimal_value s.number → fraction ≡ option_map counted s.fraction
     → then_add (add_times t u.one number) u.fraction fraction ≡ add_span t s
 unfolding add_all add_span
-span_adds t s u number fraction word value parts = grind (arith, common_steps)
+span_adds t s u number fraction word value parts = grind (arith, common_steps, amount_kept)
 
 pub power_positive : (n : ℕ) → 0 < 10 ^ n
 power_positive n = one-le-pow n 10 (omega arith)

@@ -1,14 +1,16 @@
 -- How reading stops at a rest, by its parts.
-use Rattle.std.proofs.Common.{arith, ◌≡◌, ◌≢◌, ℕ, true, false, List, [], Option, Some, None, option_map, refl, chars, Bor, ap, encode_utf8_all}
+use Rattle.std.specs.Prelude.{not, unwrap_or, length, ◌==◌, Bool, ◌∷◌}
+use Rattle.std.proofs.Common.{arith, ◌≡◌, ◌≢◌, ℕ, true, false, List, [], Option, Some, None, option_map, refl, sym, ◌∙◌, chars, Bor, ap, encode_utf8_all}
 use Rattle.std.proofs.lemmas.Grind.{common_steps}
 use Rattle.std.specs.Str.{drop_trailing_whitespace}
-use Rattle.humantime.specs.Durations.Characters.{is_letter, is_numeric, leading, decimal_value, offset_of}
+use Rattle.humantime.specs.Durations.Characters.{begins, past, is_letter, is_numeric, leading, decimal_value, offset_of}
 use Rattle.humantime.specs.Durations.Units.{Scale, scale_of_word}
-use Rattle.humantime.specs.Durations.Faults.{number_of, after_number, behind_point, fraction_of, after_fraction, word_of, after_word, span_of, InvalidCharacter, UnknownUnit, NumberOverflow}
+use Rattle.humantime.specs.Durations.Faults.{number_of, after_number, behind_point, fraction_of, after_fraction, word_of, after_word, span_of, InvalidCharacter, UnknownUnit, NumberOverflow, stop_at, ends_span}
 use Rattle.humantime.specs.References.Durations.Lending.{spelled, trimmed}
-use Rattle.humantime.specs.References.Durations.Reading.{too_long, stop_by, stop_at}
+use Rattle.humantime.specs.References.Durations.Reading.{too_long, stop_at}
 use Rattle.humantime.specs.References.Durations.Scales.{Counted, counted}
 use Rattle.humantime.specs.References.Durations.Scanning.{bare, ends_span, number_at, fraction_read}
+use Rattle.humantime.specs.Durations.Accepted.{is_some_and, too_long}
 use Rattle.humantime.proofs.Durations.Bytes.Trimming.{spelled_at}
 use Rattle.humantime.proofs.Durations.Reading.Runs.{leading-past}
 
@@ -29,20 +31,32 @@ pub exit_long : (text rest : List ℕ) → too_long (span_of rest) ≡ true → 
 unfolding stop_at
 exit_long text rest e = rw e
 
--- a span that is not too long stops by its fraction, its word and what follows
-stop_short : (text rest : List ℕ) → too_long (span_of rest) ≡ false
-    → stop_at text rest ≡ stop_by text rest (fraction_of rest) (word_of rest) (after_word rest)
-unfolding stop_at
-stop_short text rest e = rw e
+-- where no letter begins a text, another character does
+no_letter_begins : (cs : List ℕ) → leading is_letter cs ≡ [] → past is_letter cs ≢ [] → begins (λ c. not (is_letter c)) cs ≡ true
+no_letter_begins cs none some = grind (arith, common_steps)
 
 pub exit_no_letter : (text rest : List ℕ) → too_long (span_of rest) ≡ false → word_of rest ≡ [] → after_word rest ≢ []
     → stop_at text rest ≡ Some (InvalidCharacter (offset_of text (after_word rest)))
-exit_no_letter text rest s w n = grind (arith, common_steps, stop_short)
+unfolding stop_at
+exit_no_letter text rest s w n = rw (s, no_letter_begins (after_fraction rest) w n)
+
+-- a letter begins what may be a word
+may_be_word : (rest : List ℕ) → (word_of rest ≡ [] → after_word rest ≡ []) → begins (λ c. not (is_letter c)) (after_fraction rest) ≡ false
+may_be_word rest w = grind (arith, common_steps)
+
+same_bare : (fraction : Option (List ℕ)) → is_some_and (λ ds. length ds == 0) fraction ≡ bare (option_map counted fraction)
+same_bare None = refl
+same_bare (Some []) = refl
+same_bare (Some (d ∷ ds)) = grind (arith, common_steps)
+
+bare_as : (rest : List ℕ) (b : Bool) → bare (option_map counted (fraction_of rest)) ≡ b → is_some_and (λ ds. length ds == 0) (fraction_of rest) ≡ b
+bare_as rest b e = same_bare (fraction_of rest) ∙ e
 
 pub exit_bare : (text rest : List ℕ) → too_long (span_of rest) ≡ false → (word_of rest ≡ [] → after_word rest ≡ [])
     → bare (option_map counted (fraction_of rest)) ≡ true
     → stop_at text rest ≡ Some (InvalidCharacter (offset_of text (after_number rest)))
-exit_bare text rest s w b = grind (arith, common_steps, stop_short)
+unfolding stop_at
+exit_bare text rest s w b = rw (s, may_be_word rest w, bare_as rest true b)
 
 -- a point without digits is there
 pub bare_some : (rest : List ℕ) → bare (option_map counted (fraction_of rest)) ≡ true → after_number rest ≢ []
@@ -51,25 +65,21 @@ bare_some rest b none = grind (arith, common_steps)
 pub exit_after : (text rest : List ℕ) → too_long (span_of rest) ≡ false → (word_of rest ≡ [] → after_word rest ≡ [])
     → bare (option_map counted (fraction_of rest)) ≡ false → ends_span (after_word rest) ≡ false
     → stop_at text rest ≡ Some (InvalidCharacter (offset_of text (after_word rest)))
-exit_after text rest s w b e = grind (arith, common_steps, stop_short)
-
-no_empty_word : scale_of_word [] ≡ None
-unfolding scale_of_word
-no_empty_word = refl
+unfolding stop_at
+exit_after text rest s w b e = rw (s, may_be_word rest w, bare_as rest false b, e)
 
 pub exit_unit : (text rest : List ℕ) → too_long (span_of rest) ≡ false → (word_of rest ≡ [] → after_word rest ≡ [])
     → bare (option_map counted (fraction_of rest)) ≡ false → ends_span (after_word rest) ≡ true
     → scale_of_word (word_of rest) ≡ None
     → stop_at text rest ≡ Some (UnknownUnit (offset_of text (after_fraction rest)) (offset_of text (after_word rest)) (encode_utf8_all (word_of rest)) (decimal_value (number_of rest)))
-exit_unit text rest s w b e u =
-    let whole = leading-past is_letter (after_fraction rest) in
-    let empty : word_of rest ≡ [] → encode_utf8_all (word_of rest) ≡ [] = λ none. ap encode_utf8_all none in
-    grind (arith, common_steps, stop_short)
+unfolding stop_at
+exit_unit text rest s w b e u = rw (s, may_be_word rest w, bare_as rest false b, e, u)
 
 pub exit_fine : (text rest : List ℕ) (u : Scale) → too_long (span_of rest) ≡ false → (word_of rest ≡ [] → after_word rest ≡ [])
     → bare (option_map counted (fraction_of rest)) ≡ false → ends_span (after_word rest) ≡ true
     → scale_of_word (word_of rest) ≡ Some u → stop_at text rest ≡ None
-exit_fine text rest u s w b e k = grind (arith, common_steps, stop_short, no_empty_word)
+unfolding stop_at
+exit_fine text rest u s w b e k = rw (s, may_be_word rest w, bare_as rest false b, e, k)
 
 -- the slices that were read spell the span
 pub spelled_read : (rest number letters : List ℕ) (digits : Option (Bor (List ℕ))) → number ≡ leading is_numeric rest → letters ≡ word_of rest

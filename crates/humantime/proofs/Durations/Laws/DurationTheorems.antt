@@ -1,7 +1,7 @@
 -- The laws of durations as theorems over plain variables, each under the name of its function in `laws`.
 use Rattle.std.proofs.lemmas.Bool.Decides.{nat_tests}
 use Rattle.std.proofs.lemmas.Grind.{common_steps}
-use Rattle.std.proofs.Common.{Bool, ◌≡◌, ◌↔◌, ℕ, ◌<◌, List, Result, Ok, IsTrue, chars, refl, arith}
+use Rattle.std.proofs.Common.{Bool, ◌≡◌, ◌↔◌, ℕ, ◌<◌, List, Result, Ok, IsTrue, chars, refl, sym, ◌∙◌, arith}
 use Rattle.std.proofs.lemmas.Slice.Eq.{bytes_eq-Decides}
 use Rattle.humantime.specs.declared.duration.error.DurationError.{DurationError}
 use Rattle.humantime.specs.contracts.duration.error.DurationErrorPartialEq.TheImpl as errors
@@ -9,8 +9,9 @@ use Rattle.humantime.specs.Values.{duration_end}
 use Rattle.humantime.specs.Durations.Errors.{told, fault_of}
 use Rattle.humantime.specs.contracts.duration.error.DurationErrorPartialEq.TheImpl as errors
 use Rattle.humantime.specs.Laws.Outcomes.{HasOneOutcome, ItemsDecide, LendsOneList}
+use Rattle.humantime.specs.References.Durations.Lending.{lent_items}
 use Rattle.humantime.specs.References.Durations.Printing.{duration_text}
-use Rattle.humantime.specs.Laws.Printed.{ReadsBack, TextsTellApart, PrintsAndReads, PrintApart, IsBounded, IsCanonicalAgain}
+use Rattle.humantime.specs.Laws.Printed.{PrintsAndReads, PrintApart, IsBounded, IsCanonicalAgain}
 use Rattle.humantime.specs.References.Durations.Answers.{duration_answer, canonical_answer}
 use Rattle.humantime.proofs.Durations.Printing.CanonicalTexts as canonical
 use Rattle.humantime.proofs.Durations.Printing.GreatestCounts as counts
@@ -41,7 +42,9 @@ spans_decide text = record {
 }
 
 pub spans_tile : (text : List ℕ) → LendsOneList text
-spans_tile text = record { one = lent.one_list_of_slices text; same = lent.same_slices text }
+spans_tile text =
+    let only = lent.one_lent text in
+    record { one = (lent_items text, lent.are_items text, only); same = λ xs ys a b. only ys b ∙ sym (only xs a) }
 
 -- What is told as a value was answered as that value.
 pub told_value : (r : Result ℕ DurationError) (v : ℕ) → told r ≡ Ok v → r ≡ Ok v
@@ -59,10 +62,10 @@ errors_equal e f = grind (arith, common_steps, nat_tests, bytes_eq-Decides)
 
 pub printed_duration_reads : (d : ℕ) → d < duration_end → PrintsAndReads d
 printed_duration_reads d fits =
-    let reads : ReadsBack d = printed.canon_reads d (omega arith) in
+    let reads = printed.canon_reads d (omega arith) in
     let canon = counts.printed_is_canon d in
     record {
-      one = back.one_text d;
+      one = (duration_text d, canon, counts.canon_is_text d);
       printed = canon;
       only = counts.canon_is_text d;
       reads = reads;
@@ -71,7 +74,7 @@ printed_duration_reads d fits =
 
 pub printed_durations_differ : (a b : ℕ) → a < duration_end → b < duration_end → PrintApart a b
 printed_durations_differ a b fits_a fits_b =
-    let apart : TextsTellApart a b = back.texts_tell_apart a b (omega arith) (omega arith) in
+    let apart = back.texts_tell_apart a b (omega arith) (omega arith) in
     record { canon = apart; text = apart (duration_text a) (duration_text b) (counts.printed_is_canon a) (counts.printed_is_canon b) }
 
 pub printed_bounds : (d : ℕ) → d < duration_end → IsBounded d
@@ -81,7 +84,7 @@ pub canonical_again : (s : List ℕ) → IsCanonicalAgain s
 canonical_again s =
     let text = canonical.answer_is_canonical s (canonical_answer (chars s)) refl in
     record {
-      some = back.has_canonical_text s;
+      some = λ v accepted. (duration_text v, record { duration = v; accepted = accepted; canon = counts.printed_is_canon v });
       value = back.keeps_its_value s;
       again = back.keeps_its_text s;
       answer = λ t h. (canonical.answer_is_canonical t (canonical_answer (chars t)) refl t).1 ((back.keeps_its_text s t t ((text t).0 h)).1 refl);

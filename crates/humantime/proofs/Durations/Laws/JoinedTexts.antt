@@ -1,12 +1,11 @@
 -- Texts one behind the other.
-use Rattle.std.proofs.Common.{arith, ◌≡◌, ◌≢◌, ◌↔◌, ℕ, ◌+◌, true, List, [], ◌∷◌, ◌++◌, None, refl, sym, ap, ap₂, ◌∙◌, inl, inr, subst, append_assoc}
+use Rattle.std.proofs.Common.{arith, ◌≡◌, ◌≢◌, ◌↔◌, ◌⊎◌, ℕ, ◌+◌, true, List, [], ◌∷◌, ◌++◌, None, refl, sym, ap, ap₂, ◌∙◌, inl, inr, subst, append_assoc}
 use Rattle.std.proofs.lemmas.Grind.{common_steps}
 use Rattle.std.specs.List.{AllByRecursion}
-use Rattle.humantime.specs.Durations.Characters.{is_ws}
+use Rattle.humantime.specs.Durations.Characters.{is_ws, bare_zero}
 use Rattle.humantime.specs.Durations.Spans.{Span, Only, Spells, SpellsEach, SpellsAll, Reads}
-use Rattle.humantime.specs.Durations.Accepted.{additions, value, Formed, Fits, AllHaveRoom, Accepted}
+use Rattle.humantime.specs.Durations.Accepted.{additions, value, Formed, fits, AllHaveRoom, Accepted}
 use Rattle.humantime.specs.Durations.Faults.{NumberOverflow, HasFault}
-use Rattle.humantime.specs.Laws.Texts.{JoinedHaveSum, JoinedOverflow, JoinedHaveSumOrOverflow}
 use Rattle.humantime.proofs.Durations.Reading.OneReading.{not_zero}
 use Rattle.humantime.proofs.Durations.Reading.Spellings.{spells-append}
 use Rattle.humantime.proofs.Durations.Reading.Settled.{additions-append, value-append, within_or_beyond}
@@ -53,7 +52,7 @@ reads-append a b ss ts h k = (front-append a b ss ts h k, some-append ss ts h.1)
 pub record AreSpans (text : List ℕ) (spans : List Span) (v : ℕ) : Type 0 where
   pub front : SpellsAll text spans
   pub formed : AllByRecursion Formed spans
-  pub fit : AllByRecursion Fits spans
+  pub fit : AllByRecursion (λ s. fits s ≡ true) spans
   pub sum : value spans ≡ v
 
 pub are_spans : (text : List ℕ) (spans : List Span) (v : ℕ) → Reads text spans → Accepted text v → AreSpans text spans v
@@ -81,15 +80,18 @@ no_room_overflows text spans v some h =
 both_spans : (a b : List ℕ) (ss ts : List Span) (u v : ℕ) → Reads a ss → Reads b ts → Accepted a u → Accepted b v → AreSpans (a ++ b) (ss ++ ts) (u + v)
 both_spans a b ss ts u v h k x y = spans-append a b ss ts u v h x (are_spans b ts v k y)
 
-pub joined_sum : (a b : List ℕ) → JoinedHaveSum a b
+pub joined_sum : (a b : List ℕ) (ss ts : List Span) (u v : ℕ) → Reads a ss → Reads b ts → Accepted a u → Accepted b v
+    → Accepted (a ++ b) (u + v) ↔ AllHaveRoom (additions ss ++ additions ts)
 joined_sum a b ss ts u v h k x y =
     rw (← additions-append ss ts) (room_accepts (a ++ b) (ss ++ ts) (u + v) (some-append ss ts h.1) (both_spans a b ss ts u v h k x y))
 
-pub joined_overflow : (a b : List ℕ) → JoinedOverflow a b
+pub joined_overflow : (a b : List ℕ) (ss ts : List Span) (u v : ℕ) → Reads a ss → Reads b ts → Accepted a u → Accepted b v
+    → HasFault (a ++ b) NumberOverflow ↔ ¬ (AllHaveRoom (additions ss ++ additions ts))
 joined_overflow a b ss ts u v h k x y =
     rw (← additions-append ss ts) (no_room_overflows (a ++ b) (ss ++ ts) (u + v) (some-append ss ts h.1) (both_spans a b ss ts u v h k x y))
 
-pub joined_sum_or_overflow : (a b : List ℕ) → JoinedHaveSumOrOverflow a b
+pub joined_sum_or_overflow : (a b : List ℕ) (u v : ℕ) → Accepted a u → Accepted b v → a ≢ bare_zero → b ≢ bare_zero
+    → Accepted (a ++ b) (u + v) ⊎ HasFault (a ++ b) NumberOverflow
 joined_sum_or_overflow a b u v x y some_a some_b =
     let s = spans_of_accepted a u some_a x in
     let t = spans_of_accepted b v some_b y in

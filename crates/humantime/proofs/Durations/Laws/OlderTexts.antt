@@ -7,10 +7,10 @@ use Rattle.std.proofs.lemmas.Bool.{false≢true}
 use Rattle.humantime.specs.Durations.Characters.{greek_mu, white_spaces, is_ws, is_digit, is_numeric}
 use Rattle.humantime.specs.Durations.Units.{Scale}
 use Rattle.humantime.specs.Durations.Spans.{Span, Only, Spells, SpellsEach}
-use Rattle.humantime.specs.Durations.Accepted.{additions_at, additions, total, Formed, Fits, Accepted, Bare_zero, Sum_of}
-use Rattle.humantime.specs.Laws.Older.{is_older_letter, older_additions_at, older_additions, OlderFormed, OlderFits, AcceptedWithZeros, Older_zero, Older_sum, AcceptedWithoutMu, Oldest_zero, Oldest_sum, IsStillAccepted, HasMu, KeepsValueWithZeros}
+use Rattle.humantime.specs.Durations.Accepted.{Formed, fits, Accepted, Bare_zero, Sum_of}
+use Rattle.humantime.specs.Laws.Older.{is_older_letter, OlderFormed, AcceptedWithZeros, Older_zero, Older_sum, AcceptedWithoutMu, HasMu, KeepsValueWithZeros}
 use Rattle.humantime.proofs.Durations.Reading.Outcomes.{outcome_accepted}
-use Rattle.humantime.proofs.Durations.Reading.SignificantDigits.{significant_shorter, whole_part_kept, amount_kept}
+use Rattle.humantime.proofs.Durations.Reading.SignificantDigits.{significant_shorter, whole_part_kept}
 
 -- what follows from what holds of each element holds of each
 each_then : {A : Type 0} (P Q : A → Type 0) → ((x : A) → P x → Q x) → (xs : List A) → AllByRecursion P xs → AllByRecursion Q xs
@@ -19,30 +19,23 @@ each_then P Q then (x ∷ xs) h = (then x h.0, each_then P Q then xs h.1)
 
 -- ---- zeros at the end of a fraction
 
-span_still_adds : (o : Option Scale) (s : Span) → older_additions_at o s ≡ additions_at o s
-span_still_adds o s = grind (arith, common_steps, amount_kept)
-
-still_add : (spans : List Span) → older_additions spans ≡ additions spans
-still_add spans = grind (arith, common_steps, span_still_adds)
-
 still_formed : (s : Span) → OlderFormed s → Formed s
 still_formed s f = grind (arith, common_steps, significant_shorter)
 
-still_fits : (s : Span) → OlderFits s → Fits s
-still_fits s h = grind (arith, common_steps, whole_part_kept)
+still_fits : (s : Span) → OlderFormed s → fits s ≡ true
+still_fits s f = grind (arith, common_steps, whole_part_kept)
 
-zeros_still_accepted : (text : List ℕ) → IsStillAccepted text
+zeros_still_accepted : (text : List ℕ) (v : ℕ) → AcceptedWithZeros text v → Accepted text v
 zeros_still_accepted text v (Older_zero e z) = Bare_zero e z
-zeros_still_accepted text v (Older_sum spans h g sum) =
-    let same = still_add spans in
-    let formed = each_then OlderFormed Formed still_formed spans g.formed in
-    let fit = each_then OlderFits Fits still_fits spans g.fit in
-    Sum_of spans h (record { formed = formed; fit = fit; room = rw (← same) g.room }) (ap total (sym same) ∙ sum)
+zeros_still_accepted text v (Older_sum spans h older room sum) =
+    let formed = each_then OlderFormed Formed still_formed spans older in
+    let fit = each_then OlderFormed (λ s. fits s ≡ true) still_fits spans older in
+    Sum_of spans h (record { formed = formed; fit = fit; room = room }) sum
 
 pub still_accepted : (text : List ℕ) → KeepsValueWithZeros text
 still_accepted text =
     let answer = λ (v : ℕ) (a : AcceptedWithZeros text v). outcome_accepted text v (zeros_still_accepted text v a) in
-    record { value = zeros_still_accepted text; answer = answer; read = λ was. rw (answer was.duration was.accepted) refl }
+    record { value = zeros_still_accepted text; answer = answer; read = λ was. rw (answer was.0 was.1) refl }
 
 -- ---- the Greek letter
 
@@ -51,12 +44,11 @@ OfOlderLetters s = Only is_older_letter s.word
 
 -- what was accepted while the letter was none was accepted with the same value when it was one
 pub accepted_with_zeros : (text : List ℕ) (v : ℕ) → AcceptedWithoutMu text v → AcceptedWithZeros text v
-accepted_with_zeros text v (Oldest_zero e z) = Older_zero e z
-accepted_with_zeros text v (Oldest_sum spans h g sum) = Older_sum spans h.0 g sum
+accepted_with_zeros text v a = a.0
 
 -- and it is accepted with the same value
 pub older_text_accepted : (text : List ℕ) (v : ℕ) → AcceptedWithoutMu text v → Accepted text v
-older_text_accepted text v a = zeros_still_accepted text v (accepted_with_zeros text v a)
+older_text_accepted text v a = zeros_still_accepted text v a.0
 
 -- ---- it was in no text
 

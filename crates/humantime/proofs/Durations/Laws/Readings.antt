@@ -1,17 +1,16 @@
 -- Accepted texts and their spans.
-use Rattle.std.proofs.Common.{arith, ◌≡◌, ◌≢◌, ℕ, ◌+◌, List, [], ◌∷◌, None, refl, sym, ap, ◌∙◌, sum_by, IsPermutation, subst}
+use Rattle.std.proofs.Common.{arith, ◌≡◌, ◌≢◌, ℕ, ◌+◌, List, [], ◌∷◌, refl, sym, ap, ◌∙◌, sum_by, IsPermutation, subst}
 use Rattle.std.proofs.lemmas.Grind.{common_steps}
 use Rattle.std.proofs.lemmas.List.Sorted.{sum_by-IsPermutation}
 use Rattle.std.proofs.lemmas.List.Sums.{sum_by-cons}
 use Rattle.humantime.specs.Durations.Characters.{bare_zero}
 use Rattle.humantime.specs.Durations.Spans.{Span, Reads}
 use Rattle.humantime.specs.Durations.Faults.{Fault, HasFault}
-use Rattle.humantime.specs.Durations.Accepted.{total, value, WithinLimits, Accepted}
-use Rattle.humantime.specs.References.Durations.Reading.{additions_of}
-use Rattle.humantime.specs.Laws.Texts.{IsZeroOrSpans, HasNoSpans, ReorderedHaveOneValue}
+use Rattle.humantime.specs.Durations.Accepted.{total, value, WithinLimits, Accepted, Sum_of, additions_of}
+use Rattle.humantime.specs.Laws.Texts.{IsZeroOrSpans}
 use Rattle.humantime.proofs.Durations.Reading.OneReading.{not_zero}
 use Rattle.humantime.proofs.Durations.Reading.Settled.{value-cons}
-use Rattle.humantime.proofs.Durations.Reading.Outcomes.{items_whole, one_reading, outcome_accepted, outcome_fault, items_decide_value}
+use Rattle.humantime.proofs.Durations.Reading.Outcomes.{one_reading, outcome_accepted, outcome_fault}
 
 -- The text is spans within the limits that add up to v.
 pub record IsSumOfSpans (text : List ℕ) (v : ℕ) : Type 0 where
@@ -22,8 +21,7 @@ pub record IsSumOfSpans (text : List ℕ) (v : ℕ) : Type 0 where
 
 -- a text of spans within the limits is accepted with their sum
 pub accepted_from_spans : (text : List ℕ) (spans : List Span) → Reads text spans → WithinLimits spans → Accepted text (value spans)
-accepted_from_spans text spans h g =
-    (items_decide_value text spans None (items_whole text spans h g.formed) (not_zero text spans h) (value spans)).1 (refl, g, refl)
+accepted_from_spans text spans h g = Sum_of spans h g refl
 
 -- and what is accepted is such a text, unless it is exactly `0`
 pub spans_of_accepted : (text : List ℕ) (v : ℕ) → text ≢ bare_zero → Accepted text v → IsSumOfSpans text v
@@ -46,10 +44,6 @@ same_spans a b spans v h k x =
 pub no_value_and_fault : (text : List ℕ) (v : ℕ) (e : Fault) → Accepted text v → HasFault text e → ⊥
 no_value_and_fault text v e a f = grind (arith, common_steps, (outcome_accepted text v a), (outcome_fault text e f))
 
--- the text `0` is no spans
-pub zero_has_no_spans : HasNoSpans bare_zero
-zero_has_no_spans spans h = not_zero bare_zero spans h refl
-
 -- the value of spans is the sum of what each adds, so their order doesn't matter
 abbrev worth : Span → ℕ
 worth span = total (additions_of span)
@@ -61,6 +55,7 @@ value-sum (s ∷ ss) = value-cons s ss ∙ ap (λ (n : ℕ). worth s + n) (value
 pub value-permutation : (ss ts : List Span) → IsPermutation ss ts → value ss ≡ value ts
 value-permutation ss ts h = value-sum ss ∙ sym (sum_by-IsPermutation worth ss ts h) ∙ sym (value-sum ts)
 
-pub reordered_value : (a b : List ℕ) → ReorderedHaveOneValue a b
+pub reordered_value : (a b : List ℕ) (ss ts : List Span) (u v : ℕ) → Reads a ss → Reads b ts → IsPermutation ss ts
+    → Accepted a u → Accepted b v → u ≡ v
 reordered_value a b ss ts u v h k moved x y =
     sym (accepted_spans a ss u h x).1 ∙ value-permutation ss ts moved ∙ (accepted_spans b ts v k y).1

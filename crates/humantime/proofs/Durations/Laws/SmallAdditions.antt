@@ -1,5 +1,6 @@
 -- Additions that find room wherever the whole sum is a duration.
-use Rattle.std.proofs.Common.{◌≡◌, ◌↔◌, ℕ, ◌+◌, ◌/◌, ◌≤◌, List, [], ◌∷◌, ◌++◌, sym, ap₂, ◌∙◌, subst, arith}
+use Rattle.std.proofs.lemmas.Grind.{common_steps}
+use Rattle.std.proofs.Common.{true, ◌≡◌, ◌↔◌, ℕ, ◌+◌, ◌/◌, ◌≤◌, List, [], ◌∷◌, ◌++◌, sym, ap₂, ◌∙◌, subst, arith}
 use Rattle.std.specs.Prelude.{⊤}
 use Rattle.std.specs.List.{AllByRecursion}
 use Rattle.std.proofs.lemmas.List.Sums.{sum_by-cons}
@@ -7,7 +8,7 @@ use Rattle.humantime.specs.Values.{nanos_per_second}
 use Rattle.humantime.specs.Durations.Characters.{u64_max}
 use Rattle.humantime.specs.Durations.Units.{Addition, Nanos, Seconds}
 use Rattle.humantime.specs.Durations.Spans.{Span, Reads}
-use Rattle.humantime.specs.Durations.Accepted.{addition_nanos, total, additions, HasRoom, AllHaveRoom, Accepted}
+use Rattle.humantime.specs.Durations.Accepted.{addition_nanos, total, additions, room, AllHaveRoom, Accepted}
 use Rattle.humantime.proofs.Durations.Reading.Rooms.{RoomFrom, total-append, all_have_room, room_is_duration}
 use Rattle.humantime.proofs.Durations.Laws.Readings.{accepted_spans}
 use Rattle.humantime.proofs.Durations.Laws.JoinedTexts.{each-append, joined_sum}
@@ -17,9 +18,8 @@ abbrev pub IsSmall : Addition → Type 0
 IsSmall (Nanos n) = n + 999999999 ≤ u64_max
 IsSmall (Seconds n) = ⊤
 
-small_room : (t : ℕ) (x : Addition) (sum : ℕ) → IsSmall x → t + addition_nanos x ≤ sum → sum / nanos_per_second ≤ u64_max → HasRoom t x
-small_room t (Nanos n) sum small below fits = (omega arith, omega arith)
-small_room t (Seconds n) sum small below fits = omega arith
+small_room : (t : ℕ) (x : Addition) (sum : ℕ) → IsSmall x → t + addition_nanos x ≤ sum → sum / nanos_per_second ≤ u64_max → room t x ≡ true
+small_room t x sum small below fits = grind (arith, common_steps)
 
 room_from_small : (t : ℕ) (xs : List Addition) → AllByRecursion IsSmall xs → (t + total xs) / nanos_per_second ≤ u64_max → RoomFrom t xs
 room_from_small t [] small fits = tt

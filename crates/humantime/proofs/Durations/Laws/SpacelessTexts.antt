@@ -5,7 +5,7 @@ use Rattle.std.proofs.lemmas.Bool.{cases_Bool, or_parts}
 use Rattle.humantime.specs.Durations.Characters.{is_ws, is_digit, is_letter, begins, digits, bare_zero}
 use Rattle.humantime.specs.Durations.Spans.{Span, Only, SpellsFraction, Spells, SpellsEach, SpellsAll, Reads}
 use Rattle.humantime.specs.Durations.Accepted.{Accepted}
-use Rattle.humantime.specs.Laws.Texts.{without_white_space, NeedsNoWhiteSpace}
+use Rattle.humantime.specs.Laws.Texts.{without_white_space}
 use Rattle.humantime.proofs.Durations.Reading.Classes.{digit_not_space, space_not_digit, letter_not_space, point_not_numeric, is_point-46}
 use Rattle.humantime.proofs.Durations.Reading.Outcomes.{zero_or_not}
 use Rattle.humantime.proofs.Durations.Printing.PrintedDigits.{some_digit}
@@ -63,7 +63,7 @@ spaceless_reads text spans h =
 spaceless_zero : without_white_space bare_zero ≡ bare_zero
 spaceless_zero = spaceless-other 48 [] (digit_not_space 48 (some_digit bare_zero (search rules) (omega arith)))
 
-pub spaceless_accepted : (text : List ℕ) → NeedsNoWhiteSpace text
+pub spaceless_accepted : (text : List ℕ) (v : ℕ) → Accepted text v → Accepted (without_white_space text) v
 spaceless_accepted text v a = elim (zero_or_not text) [
   | inl e ↦
       let same : without_white_space text ≡ text = ap without_white_space e ∙ spaceless_zero ∙ sym e in

@@ -1,12 +1,13 @@
 -- The laws of accepted texts as theorems over plain variables, each under the name of its function in `laws`, and some
 -- theorems beyond them.
-use Rattle.std.proofs.Common.{◌↔◌, ℕ, ◌+◌, List, ◌++◌, inl, inr}
-use Rattle.humantime.specs.Durations.Characters.{is_ws}
+use Rattle.std.proofs.Common.{◌↔◌, ℕ, ◌+◌, List, ◌++◌, inl, inr, refl}
+use Rattle.humantime.specs.Durations.Characters.{is_ws, bare_zero}
 use Rattle.humantime.specs.Durations.Spans.{Span, Only, SpellsAll, Reads}
 use Rattle.humantime.specs.Durations.Accepted.{Accepted}
 use Rattle.humantime.specs.Durations.Faults.{NumberOverflow}
-use Rattle.humantime.specs.Laws.Texts.{without_white_space, JoinedAnswerSumOrOverflow, ReorderedAnswerOneValue, KeepsValueWithoutSpace, AddWhenJoined, KeepValueReordered}
+use Rattle.humantime.specs.Laws.Texts.{without_white_space, KeepsValueWithoutSpace, AddWhenJoined, KeepValueReordered}
 use Rattle.humantime.proofs.Durations.Reading.Outcomes.{accepted_from_outcome, outcome_accepted, outcome_fault}
+use Rattle.humantime.proofs.Durations.Reading.OneReading.{not_zero}
 use Rattle.humantime.proofs.Durations.Laws.Readings as readings
 use Rattle.humantime.proofs.Durations.Laws.SpacelessTexts as spaceless
 use Rattle.humantime.proofs.Durations.Laws.JoinedTexts as texts
@@ -20,13 +21,6 @@ without_ws text = record {
   answer = λ v h. outcome_accepted (without_white_space text) v (spaceless.spaceless_accepted text v (accepted_from_outcome text v h));
 }
 
-joined_answer : (a b : List ℕ) → JoinedAnswerSumOrOverflow a b
-joined_answer a b u v x y some_a some_b =
-    elim (texts.joined_sum_or_overflow a b u v (accepted_from_outcome a u x) (accepted_from_outcome b v y) some_a some_b) [
-      | inl sum ↦ inl (outcome_accepted (a ++ b) (u + v) sum)
-      | inr f ↦ inr (outcome_fault (a ++ b) NumberOverflow f)
-    ]
-
 pub joined : (a b : List ℕ) → AddWhenJoined a b
 joined a b = record {
   first = readings.zero_or_spans a;
@@ -34,17 +28,20 @@ joined a b = record {
   sum = texts.joined_sum a b;
   overflow = texts.joined_overflow a b;
   one = texts.joined_sum_or_overflow a b;
-  answer = joined_answer a b;
+  answer = λ u v x y some_a some_b. elim (texts.joined_sum_or_overflow a b u v (accepted_from_outcome a u x) (accepted_from_outcome b v y) some_a some_b) [
+    | inl sum ↦ inl (outcome_accepted (a ++ b) (u + v) sum)
+    | inr f ↦ inr (outcome_fault (a ++ b) NumberOverflow f)
+  ];
 }
 
 pub reordered : (a b : List ℕ) → KeepValueReordered a b
 reordered a b =
-    let answer : ReorderedAnswerOneValue a b = λ ss ts u v h k moved x y. readings.reordered_value a b ss ts u v h k moved (accepted_from_outcome a u x) (accepted_from_outcome b v y) in
+    let value = readings.reordered_value a b in
     record {
-      value = readings.reordered_value a b;
-      answer = answer;
-      alike = λ r u v. answer r.spans r.others u v r.reads r.other_reads r.moved;
-      zero = readings.zero_has_no_spans;
+      value = value;
+      answer = λ ss ts u v h k moved x y. value ss ts u v h k moved (accepted_from_outcome a u x) (accepted_from_outcome b v y);
+      alike = λ r u v x y. value r.spans r.others u v r.reads r.other_reads r.moved (accepted_from_outcome a u x) (accepted_from_outcome b v y);
+      zero = λ spans h. not_zero bare_zero spans h refl;
     }
 
 -- ---- beyond the laws

@@ -1,67 +1,60 @@
 -- A text written count by count is the counts' text.
 use Rattle.std.proofs.lemmas.Grind.{common_steps}
-use Rattle.std.proofs.Common.{◌≡◌, inl, inr, cond, ℕ, ◌/◌, ◌%◌, ◌<◌, List, [], ◌∷◌, ◌++◌, length, refl, ap, sym, ◌∙◌, arith, rules}
-use Rattle.std.specs.Prelude.{map, nat_lt}
-use Rattle.std.specs.List.{AllByRecursion, filter, zip, join_with_byte}
+use Rattle.std.proofs.Common.{◌≡◌, inl, inr, ℕ, ◌/◌, ◌%◌, ◌<◌, List, [], ◌∷◌, ◌++◌, length, refl, ap, sym, ◌∙◌, arith, rules}
+use Rattle.std.specs.Prelude.{◌==◌, if◌then◌else◌, codes, nat_lt}
+use Rattle.std.specs.List.{AllByRecursion, join_with_byte}
 use Rattle.std.proofs.lemmas.Bool.{cases_Bool}
 use Rattle.std.proofs.lemmas.Bool.Decides.{nat_tests}
 use Rattle.std.proofs.lemmas.List.{append_assoc, length-append}
 use Rattle.humantime.specs.Values.{nanos_per_micro, nanos_per_milli, nanos_per_second, seconds_per_minute, seconds_per_hour, seconds_per_day, seconds_per_month, seconds_per_year}
-use Rattle.humantime.specs.References.Durations.Printing.{divided, duration_text, separated, with_count, with_seconds, with_nanos, or_zero, written_text}
-use Rattle.humantime.specs.Durations.Counts.{Suffix, weights, suffixes, printed_count, joined_by_space}
+use Rattle.humantime.specs.References.Durations.Printing.{divided, duration_text, behind}
+use Rattle.humantime.specs.Durations.Counts.{Suffix, weights, suffixes, printed_count, printed_counts, joined_by_space}
 use Rattle.humantime.proofs.Durations.Printing.PrintedRows.{space}
 
 -- counts behind a text, one by one
-abbrev with_counts : List ℕ → List (ℕ × Suffix) → List ℕ
-with_counts text [] = text
-with_counts text (c ∷ cs) = with_counts (with_count text c.0 c.1) cs
-
--- those that are not zero, as they are printed
-abbrev printed : List (ℕ × Suffix) → List (List ℕ)
-printed cs = map (λ c. printed_count c.0 c.1) (filter (λ c. nat_lt 0 c.0) cs)
-
-count_is : (text : List ℕ) (n : ℕ) (s : Suffix) → with_count text n s ≡ cond (nat_lt 0 n) (separated text ++ printed_count n s) text
-unfolding with_count
-count_is text n s = grind (arith, common_steps, nat_tests)
+abbrev pub with_counts : List ℕ → List ℕ → List Suffix → List ℕ
+with_counts text (n ∷ ns) (s ∷ ss) = with_counts (behind text (printed_counts (n ∷ []) (s ∷ []))) ns ss
+with_counts text _ _ = text
 
 -- two texts that are joined already
-join_front : (t p : List ℕ) (ps : List (List ℕ)) → join_with_byte space ((t ++ space ∷ [] ++ p) ∷ ps) ≡ join_with_byte space (t ∷ p ∷ ps)
-join_front t p [] = append_assoc t (space ∷ []) p
-join_front t p (q ∷ qs) =
-    let rest = space ∷ join_with_byte space (q ∷ qs) in
-    append_assoc (t ++ space ∷ []) p rest ∙ append_assoc t (space ∷ []) (p ++ rest)
+join_front : (t p : List ℕ) (ps : List (List ℕ)) → join_with_byte space ((t ++ space ∷ p) ∷ ps) ≡ join_with_byte space (t ∷ p ∷ ps)
+join_front t p [] = refl
+join_front t p (q ∷ qs) = append_assoc t (space ∷ p) (space ∷ join_with_byte space (q ∷ qs))
 
-behind : (b : ℕ) (bs : List ℕ) (cs : List (ℕ × Suffix)) → with_counts (b ∷ bs) cs ≡ join_with_byte space ((b ∷ bs) ∷ printed cs)
-behind b bs [] = refl
-behind b bs (c ∷ cs) = elim (cases_Bool (nat_lt 0 c.0)) [
-  | inl some ↦
-      let here = printed_count c.0 c.1 in
-      rw (count_is (b ∷ bs) c.0 c.1, some) (behind b (bs ++ space ∷ [] ++ here) cs ∙ join_front (b ∷ bs) here (printed cs))
-  | inr none ↦ rw (count_is (b ∷ bs) c.0 c.1, none) (behind b bs cs)
-]
+behind_more : (t p : List ℕ) (ps : List (List ℕ)) → 0 < length p → behind (behind t (p ∷ [])) ps ≡ behind t (p ∷ ps)
+behind_more t [] ps h = absurd (omega arith)
+behind_more [] (c ∷ cs) ps h = refl
+behind_more (b ∷ bs) (c ∷ cs) ps h = join_front (b ∷ bs) (c ∷ cs) ps
 
-not_zero : (text : List ℕ) (ps : List (List ℕ)) → 0 < length text → or_zero (join_with_byte space (text ∷ ps)) ≡ join_with_byte space (text ∷ ps)
-not_zero [] ps h = absurd (omega arith)
-not_zero (b ∷ bs) [] h = refl
-not_zero (b ∷ bs) (p ∷ ps) h = refl
+behind_none : (t : List ℕ) → t ≡ behind t []
+behind_none [] = refl
+behind_none (b ∷ bs) = refl
 
 -- each suffix has a letter
-abbrev Lettered : List (ℕ × Suffix) → Type 0
-Lettered cs = AllByRecursion (λ c. 0 < length c.1.0) cs
+abbrev Lettered : List Suffix → Type 0
+Lettered ss = AllByRecursion (λ s. 0 < length s.0) ss
 
-behind_some : (text : List ℕ) (cs : List (ℕ × Suffix)) → 0 < length text → with_counts text cs ≡ join_with_byte space (text ∷ printed cs)
-behind_some [] cs h = absurd (omega arith)
-behind_some (b ∷ bs) cs h = behind b bs cs
+some_letter : (n : ℕ) (s : Suffix) → 0 < length s.0 → 0 < length (printed_count n s)
+some_letter n s h = simp length-append (omega (arith, h))
 
-one_by_one : (cs : List (ℕ × Suffix)) → Lettered cs → or_zero (with_counts [] cs) ≡ joined_by_space (printed cs)
-one_by_one [] h = refl
-one_by_one (c ∷ cs) h = elim (cases_Bool (nat_lt 0 c.0)) [
+one_by_one : (t ns : List ℕ) (ss : List Suffix) → Lettered ss → with_counts t ns ss ≡ behind t (printed_counts ns ss)
+one_by_one t [] ss h = behind_none t
+one_by_one t (n ∷ ns) [] h = behind_none t
+one_by_one t (n ∷ ns) (s ∷ ss) h = elim (cases_Bool (nat_lt 0 n)) [
   | inl some ↦
-      let here = printed_count c.0 c.1 in
-      let lettered : 0 < length here = simp length-append (omega (arith, h.0)) in
-      rw (count_is [] c.0 c.1, some) (ap or_zero (behind_some here cs lettered) ∙ not_zero here (printed cs) lettered)
-  | inr none ↦ rw (count_is [] c.0 c.1, none) (one_by_one cs h.1)
+      let here = printed_count n s in
+      rw some (one_by_one (behind t (here ∷ [])) ns ss h.1 ∙ behind_more t here (printed_counts ns ss) (some_letter n s h.0))
+  | inr none ↦ rw none (one_by_one (behind t []) ns ss h.1 ∙ ap (λ u. behind u (printed_counts ns ss)) (sym (behind_none t)))
 ]
+
+-- zero seconds where there is no text
+abbrev pub or_zero : List ℕ → List ℕ
+or_zero text = if length text == 0 then codes "0s" else text
+
+or_zero_joined : (ns : List ℕ) (ss : List Suffix) → Lettered ss → or_zero (behind [] (printed_counts ns ss)) ≡ joined_by_space (printed_counts ns ss)
+or_zero_joined [] ss h = refl
+or_zero_joined (n ∷ ns) [] h = refl
+or_zero_joined (n ∷ ns) (s ∷ ss) h = grind (arith, common_steps, nat_tests, (some_letter n s h.0), length-append, (or_zero_joined ns ss h.1))
 
 -- the nine counts of s seconds and n nanoseconds
 abbrev counts_of : ℕ → ℕ → List ℕ
@@ -75,11 +68,11 @@ counts_of s n =
 divided_counts : (d : ℕ) → divided weights d ≡ counts_of (d / nanos_per_second) (d % nanos_per_second)
 divided_counts d = grind (arith, common_steps)
 
-lettered : (d : ℕ) → Lettered (zip (divided weights d) suffixes)
-lettered d = search rules
+lettered : Lettered suffixes
+lettered = search rules
 
-pub written_is_text : (d : ℕ) → written_text d ≡ duration_text d
-unfolding written_text duration_text with_seconds with_nanos
+pub written_is_text : (d : ℕ) → or_zero (with_counts [] (counts_of (d / nanos_per_second) (d % nanos_per_second)) suffixes) ≡ duration_text d
+unfolding duration_text
 written_is_text d =
-    ap (λ ns. or_zero (with_counts [] (zip ns suffixes))) (sym (divided_counts d))
-    ∙ one_by_one (zip (divided weights d) suffixes) (lettered d)
+    ap or_zero (ap (λ ns. with_counts [] ns suffixes) (sym (divided_counts d)) ∙ one_by_one [] (divided weights d) suffixes lettered)
+    ∙ or_zero_joined (divided weights d) suffixes lettered

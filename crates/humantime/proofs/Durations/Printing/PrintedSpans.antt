@@ -1,6 +1,6 @@
 -- A printed text is spans within all limits, which add up to its duration.
 use Rattle.std.proofs.lemmas.Grind.{common_steps}
-use Rattle.std.proofs.Common.{◌≡◌, inl, inr, ℕ, ◌+◌, ◌*◌, ◌/◌, ◌%◌, ◌^◌, ◌<◌, ◌≤◌, false, List, [], ◌∷◌, ◌++◌, None, Some, ap, refl, subst, ◌∙◌, arith, rules}
+use Rattle.std.proofs.Common.{true, ◌≡◌, inl, inr, ℕ, ◌+◌, ◌*◌, ◌/◌, ◌%◌, ◌^◌, ◌<◌, ◌≤◌, false, List, [], ◌∷◌, ◌++◌, None, Some, ap, refl, subst, ◌∙◌, arith, rules}
 use Rattle.std.specs.Prelude.{IsAscii, codes, decimal, chars, map, nat_lt}
 use Rattle.std.specs.Str.{IsUtf8}
 use Rattle.std.specs.List.{AllByRecursion, filter, join_with_byte}
@@ -15,10 +15,9 @@ use Rattle.humantime.specs.Values.{nanos_per_second, seconds_per_minute}
 use Rattle.humantime.specs.Durations.Characters.{white_spaces, is_ws, decimal_value, u64_max}
 use Rattle.humantime.specs.Durations.Units.{Addition, Nanos, Seconds, Scale, scale_of_word}
 use Rattle.humantime.specs.Durations.Spans.{Span, Only, Spells, SpellsEach, Reads}
-use Rattle.humantime.specs.Durations.Accepted.{addition_nanos, amount, times, total, additions, value, Formed, Fits, Accepted, Sum_of}
-use Rattle.humantime.specs.References.Durations.Reading.{additions_of}
+use Rattle.humantime.specs.Durations.Accepted.{addition_nanos, amount, times, total, additions_of, additions, value, Formed, fits, Accepted, Sum_of}
 use Rattle.humantime.specs.Durations.Counts.{Suffix, printed_count, joined_by_space, Canon}
-use Rattle.humantime.specs.References.Durations.Printing.{without_plural, duration_text}
+use Rattle.humantime.specs.References.Durations.Printing.{duration_text}
 use Rattle.humantime.proofs.Durations.Reading.Spellings.{spells-append}
 use Rattle.humantime.proofs.Durations.Reading.Settled.{value-cons}
 use Rattle.humantime.proofs.Durations.Laws.JoinedTexts.{each-append}
@@ -32,7 +31,7 @@ pub record IsRow (n : ℕ) (s : Suffix) : Type 0 where
   pub utf8 : IsUtf8 (printed_count n s)
   pub spells : (white : List ℕ) → Only is_ws white → Spells (chars (printed_count n s) ++ white) (span_for n s) []
   pub formed : Formed (span_for n s)
-  pub fits : Fits (span_for n s)
+  pub fits : fits (span_for n s) ≡ true
   pub small : AllByRecursion IsSmall (additions_of (span_for n s))
 
 -- the count and what it adds, where less than m is left
@@ -80,8 +79,8 @@ row w m n s i below whole =
     let row : IsRow n s = record {
       utf8 = rw append_assoc (IsUtf8-append (decimal n) (word_for n s) (IsUtf8-from_ascii (decimal n) (IsAscii-decimal n few.count)) i.utf8);
       spells = λ white only. count_spells n w m s white few.count i only;
-      formed = record { numbers = record { number = omega (arith, number.value); fraction = tt }; word = rw i.is refl };
-      fits = rw i.is (rw number.value (few.amount, tt));
+      formed = record { short = grind (arith, common_steps, number.value); word = rw i.is refl };
+      fits = rw i.is (grind (arith, common_steps, number.value, few.amount));
       small = rw adds (few.small, tt);
     } in
     (row, rw adds (omega (arith, few.nanos)))
@@ -149,7 +148,7 @@ rows_spell (c ∷ d ∷ rows) h =
 -- The spans keep their limits, and add little each.
 pub record AreWithin (spans : List Span) : Type 0 where
   pub formed : AllByRecursion Formed spans
-  pub fit : AllByRecursion Fits spans
+  pub fit : AllByRecursion (λ s. fits s ≡ true) spans
   pub small : AllByRecursion IsSmall (additions spans)
 
 rows_within : (rows : List (ℕ × Suffix)) → AllRows rows → AreWithin (spans_of rows)
@@ -173,12 +172,12 @@ rows_printed c rows d h sum = record {
 }
 
 -- where no count is left, there are zero seconds
-zero_text : codes "0s" ≡ printed_count 0 (without_plural (codes "s"))
+zero_text : codes "0s" ≡ printed_count 0 (codes "s", false)
 zero_text = rw (decimal_digit 0 (omega arith)) refl
 
 zero_printed : IsPrinted (codes "0s") 0
 zero_printed =
-    let s = without_plural (codes "s") in
+    let s : Suffix = (codes "s", false) in
     let minute = seconds_per_minute * nanos_per_second in
     let second = row nanos_per_second minute 0 s (table.1.1.1.1.1.0 false) (omega arith) (omega arith) in
     rw zero_text (rows_printed (0, s) [] 0 (second.0, tt) (value-cons (span_for 0 s) [] ∙ omega (arith, second.1)))

@@ -1,16 +1,14 @@
 -- What holds of printed texts, for every duration and every text.
 use Rattle.std.proofs.lemmas.Grind.{common_steps}
-use Rattle.std.proofs.Common.{◌≡◌, ℕ, ◌/◌, ◌≤◌, List, sym, subst, ◌∙◌, arith}
+use Rattle.std.proofs.Common.{◌≡◌, ◌↔◌, ℕ, ◌/◌, ◌≤◌, List, sym, subst, ◌∙◌, arith}
 use Rattle.std.specs.Prelude.{chars}
 use Rattle.humantime.specs.Values.{nanos_per_second}
 use Rattle.humantime.specs.Durations.Characters.{u64_max}
 use Rattle.humantime.specs.Durations.Accepted.{Accepted}
 use Rattle.humantime.specs.Durations.Counts.{Canon, IsCanonicalOf}
-use Rattle.humantime.specs.References.Durations.Printing.{duration_text}
-use Rattle.humantime.specs.Laws.Printed.{HasOneText, TextsTellApart, HasCanonicalText, KeepsItsValue, KeepsItsText}
 use Rattle.humantime.proofs.Durations.Reading.Rooms.{room_is_duration}
 use Rattle.humantime.proofs.Durations.Reading.Outcomes.{outcome_accepted}
-use Rattle.humantime.proofs.Durations.Printing.GreatestCounts.{printed_is_canon, canon_is_text, one_canon}
+use Rattle.humantime.proofs.Durations.Printing.GreatestCounts.{one_canon}
 use Rattle.humantime.proofs.Durations.Printing.PrintedSpans.{canon_reads}
 
 -- a text is accepted with at most one value
@@ -21,26 +19,21 @@ same_read text u v a b = let one = sym (outcome_accepted text u a) ∙ outcome_a
 accepted_fits : (text : List ℕ) (v : ℕ) → Accepted text v → v / nanos_per_second ≤ u64_max
 accepted_fits text v h = grind (arith, common_steps, room_is_duration)
 
-pub one_text : (d : ℕ) → HasOneText d
-one_text d = (duration_text d, printed_is_canon d, canon_is_text d)
-
-pub texts_tell_apart : (a b : ℕ) → a / nanos_per_second ≤ u64_max → b / nanos_per_second ≤ u64_max → TextsTellApart a b
+pub texts_tell_apart : (a b : ℕ) → a / nanos_per_second ≤ u64_max → b / nanos_per_second ≤ u64_max
+    → (s t : List ℕ) → Canon a s → Canon b t → ((s ≡ t) ↔ (a ≡ b))
 texts_tell_apart a b ha hb s t left right = (
   (λ same. same_read (chars t) a b (subst (λ l. Accepted (chars l) a) same (canon_reads a ha s left)) (canon_reads b hb t right)),
   (λ same. one_canon b s t (subst (λ d. Canon d s) same left) right),
 )
 
-pub has_canonical_text : (s : List ℕ) → HasCanonicalText s
-has_canonical_text s v accepted = (duration_text v, record { duration = v; accepted = accepted; canon = printed_is_canon v })
-
 -- the canonical text of what is accepted is accepted with the same value
 canonical_read : (s t : List ℕ) (h : IsCanonicalOf s t) → Accepted (chars t) h.duration
 canonical_read s t h = canon_reads h.duration (accepted_fits (chars s) h.duration h.accepted) t h.canon
 
-pub keeps_its_value : (s : List ℕ) → KeepsItsValue s
+pub keeps_its_value : (s : List ℕ) (v : ℕ) (t : List ℕ) → Accepted (chars s) v → IsCanonicalOf s t → Accepted (chars t) v
 keeps_its_value s v t accepted h = subst (λ d. Accepted (chars t) d) (same_read (chars s) h.duration v h.accepted accepted) (canonical_read s t h)
 
-pub keeps_its_text : (s : List ℕ) → KeepsItsText s
+pub keeps_its_text : (s t u : List ℕ) → IsCanonicalOf s t → (IsCanonicalOf t u ↔ (u ≡ t))
 keeps_its_text s t u h = (
   (λ k. one_canon h.duration u t (subst (λ d. Canon d u) (same_read (chars t) k.duration h.duration k.accepted (canonical_read s t h)) k.canon) h.canon),
   (λ same. record { duration = h.duration; accepted = canonical_read s t h; canon = subst (Canon h.duration) (sym same) h.canon }),

@@ -4,9 +4,9 @@ use Rattle.std.proofs.Common.{◌≡◌, ◌≢◌, ◌⊎◌, ℕ, ◌+◌, Boo
 use Rattle.std.specs.List.{AllByRecursion}
 use Rattle.humantime.specs.Durations.Characters.{is_ws, is_digit, begins, past, leading, bare_zero, ends}
 use Rattle.humantime.specs.Durations.Spans.{Span, Spells, SpellsEach, SpellsAll}
-use Rattle.humantime.specs.Durations.Faults.{Fault, NumberOverflow, Split, HasFault, Empty, Nothing_there, after_word, span_of}
-use Rattle.humantime.specs.Durations.Accepted.{total, value, Formed}
-use Rattle.humantime.specs.References.Durations.Reading.{additions_of, Walk, no_more, walk_of, items}
+use Rattle.humantime.specs.Durations.Faults.{fault_at, Fault, NumberOverflow, Split, HasFault, Empty, Nothing_there, after_word, span_of}
+use Rattle.humantime.specs.Durations.Accepted.{total, additions_of, value, Formed}
+use Rattle.humantime.specs.References.Durations.Reading.{Walk, no_more, walk_of, items}
 use Rattle.humantime.specs.Durations.Items.{Items, Ends}
 use Rattle.humantime.proofs.Durations.Reading.Runs.{ends-append, leading-past, Only-leading, begins-past}
 use Rattle.humantime.proofs.Durations.Reading.Spelled.{next_of}
@@ -107,9 +107,9 @@ abbrev IsTooLarge : List ℕ → Bool → List ℕ → Walk → Type 0
 IsTooLarge text first rest w = (front : List ℕ) (spans : List Span) → IsReadTo text first front spans rest → WithinLimitsFrom 0 spans
     → ¬ (WithinLimitsFrom (0 + value spans) (map span_of w.starts)) → HasFault text NumberOverflow
 
-over_at : (text front rest : List ℕ) (first : Bool) (spans : List Span) → text ≢ bare_zero → IsReadTo text first front spans rest → WithinLimitsFrom 0 spans → Fine rest
+over_at : (text front rest : List ℕ) (first : Bool) (spans : List Span) → text ≢ bare_zero → IsReadTo text first front spans rest → WithinLimitsFrom 0 spans → fault_at text rest ≡ None
     → ¬ (IsAddedTo (0 + value spans) (span_of rest)) → HasFault text NumberOverflow
-over_at text front rest first spans not_zero r within f over = record {
+over_at text front rest first spans not_zero r within right over = record {
   not_zero = not_zero;
   front = front;
   rest = rest;
@@ -117,12 +117,8 @@ over_at text front rest first spans not_zero r within f over = record {
   split = r.split;
   within = WithinLimits_from spans r.formed within;
   fault = inr (
-    record {
-      starts = record { number = (f.starts, f.numbers); not_bare = f.point };
-      word = f.word;
-      follows = f.ends;
-      beyond = λ g. over (WithinLimitsFrom-last 0 spans (span_of rest) (from_WithinLimits (spans ++ span_of rest ∷ []) g));
-    },
+    right,
+    λ g. over (WithinLimitsFrom-last 0 spans (span_of rest) (from_WithinLimits (spans ++ span_of rest ∷ []) g)),
     refl,
   );
 }
@@ -133,12 +129,12 @@ too_large text not_zero = record {
   wrong = λ first rest e some s front spans r within big. absurd (big tt);
   right = λ first rest w s more front spans r within big.
       let f = fine_at text rest s in
-      elim (added_or_not (0 + value spans) (span_of rest) (formed_here rest f)) [
+      elim (added_or_not (0 + value spans) (span_of rest)) [
         | inl a ↦
             let k = read_on text front rest first spans r f in
             let sum : 0 + value (spans ++ span_of rest ∷ []) ≡ (0 + value spans) + total (additions_of (span_of rest)) = sum_push spans (span_of rest) in
             more (front ++ k.0) (spans ++ span_of rest ∷ []) k.1 (WithinLimitsFrom-push 0 spans (span_of rest) within a) (λ g. big (a, rw sum at g))
-        | inr a ↦ over_at text front rest first spans not_zero r within f a
+        | inr a ↦ over_at text front rest first spans not_zero r within s a
       ];
 }
 

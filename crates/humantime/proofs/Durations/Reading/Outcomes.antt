@@ -8,14 +8,15 @@ use Rattle.std.proofs.lemmas.Slice.Eq.{bytes_eq-Decides}
 use Rattle.humantime.specs.Durations.Characters.{bare_zero}
 use Rattle.humantime.specs.Durations.Spans.{Span, Reads}
 use Rattle.humantime.specs.Durations.Accepted.{value, Formed, WithinLimits, Accepted, Bare_zero, Sum_of}
-use Rattle.humantime.specs.Durations.Faults.{span_of, Fault, NumberOverflow, Stops, Overflows, HasFault}
+use Rattle.humantime.specs.Durations.Faults.{fault_at, span_of, Fault, NumberOverflow, Stops, HasFault}
 use Rattle.humantime.specs.Durations.Items.{Items, items_of}
-use Rattle.humantime.specs.Laws.Outcomes.{OneOutcome, OnlyValue, OnlyFault, OneListOfItems, ItemsDecideValue, ItemsDecideFault, ItemsDecideOverflow}
+use Rattle.humantime.specs.Laws.ExactlyOne.{ExactlyOne}
+use Rattle.humantime.specs.Laws.Outcomes.{IsOutcome}
 use Rattle.humantime.specs.References.Durations.Reading.{walk_from, items, settle}
 use Rattle.humantime.specs.References.Durations.Answers.{duration_answer}
 use Rattle.humantime.proofs.Durations.Reading.Settled.{settle_within, too_large, settled_value, settled_fault, WithinLimits_from, from_WithinLimits, WithinLimitsFrom-front}
 use Rattle.humantime.proofs.Durations.Reading.Spelled.{next_of}
-use Rattle.humantime.proofs.Durations.Reading.Stopping.{Fine, fine_goes}
+use Rattle.humantime.proofs.Durations.Reading.Stopping.{fine_at}
 use Rattle.humantime.proofs.Durations.Reading.Written.{formed_here}
 use Rattle.humantime.proofs.Durations.Reading.SpanWalks.{walk-right}
 use Rattle.humantime.proofs.Durations.Reading.Found.{all_push, too_large_found}
@@ -64,21 +65,21 @@ stop_outcome text e h s =
     ∙ settle_within h.spans (Some e) h.within
 
 -- where the span that begins the rest breaks a limit, the text's items do
-over_outcome : (text : List ℕ) (e : Fault) (h : HasFault text e) → Overflows h.spans h.rest → duration_answer text ≡ Err NumberOverflow
-over_outcome text e h o =
-    let f : Fine h.rest = record { starts = o.starts.number.0; numbers = o.starts.number.1; point = o.starts.not_bare; word = o.word; ends = o.follows } in
+over_outcome : (text : List ℕ) (e : Fault) (h : HasFault text e) → fault_at text h.rest ≡ None → ¬ (WithinLimits (h.spans ++ span_of h.rest ∷ [])) → duration_answer text ≡ Err NumberOverflow
+over_outcome text e h right beyond =
+    let f = fine_at text h.rest right in
     let more = walk_from false text (next_of h.rest) in
     let spans = (h.spans ++ span_of h.rest ∷ map span_of more.starts) in
     let told : items text ≡ (spans, more.stop) = front_told text h.front h.rest h.spans h.split h.within.formed (inr (closes_digit h.front h.rest f.starts))
-    ∙ ap (followed_by h.spans) (walk-right (first_after true h.spans) text h.rest (fine_goes text h.rest f)) in
+    ∙ ap (followed_by h.spans) (walk-right (first_after true h.spans) text h.rest right) in
     let formed = all_push Formed h.spans (span_of h.rest) h.within.formed (formed_here h.rest f) in
     let i : Items text spans more.stop = subst (λ (r : List Span × Option Fault). Items text r.0 r.1) told (items_found text) in
-    outcome_settled text spans more.stop h.not_zero i ∙ too_large spans more.stop i.formed (λ g. o.beyond (WithinLimits_from (h.spans ++ span_of h.rest ∷ []) formed (WithinLimitsFrom-front 0 _ (map span_of more.starts) (rw append_assoc (from_WithinLimits spans g)))))
+    outcome_settled text spans more.stop h.not_zero i ∙ too_large spans more.stop i.formed (λ g. beyond (WithinLimits_from (h.spans ++ span_of h.rest ∷ []) formed (WithinLimitsFrom-front 0 _ (map span_of more.starts) (rw append_assoc (from_WithinLimits spans g)))))
 
 pub outcome_fault : (text : List ℕ) (e : Fault) → HasFault text e → duration_answer text ≡ Err e
 outcome_fault text e h = elim h.fault [
   | inl s ↦ stop_outcome text e h s
-  | inr o ↦ over_outcome text e h o.0 ∙ ap (λ (x : Fault). Err x) (sym o.1)
+  | inr o ↦ over_outcome text e h o.0 o.1 ∙ ap (λ (x : Fault). Err x) (sym o.2)
 ]
 
 -- the items decide the value, the fault, and that they are too large
@@ -88,7 +89,8 @@ value_only text spans stop v some h o = settled_value spans stop v h.formed (sym
 sum_accepted : (text : List ℕ) (spans : List Span) (stop : Option Fault) (v : ℕ) → Items text spans stop → (stop ≡ None) × WithinLimits spans × (value spans ≡ v) → Accepted text v
 sum_accepted text spans stop v h d = Sum_of spans (reads_whole text spans (rw d.0 at h)) d.1 d.2
 
-pub items_decide_fault : (text : List ℕ) → ItemsDecideFault text
+pub items_decide_fault : (text : List ℕ) (spans : List Span) (e : Fault) → Items text spans (Some e) → text ≢ bare_zero
+    → WithinLimits spans → HasFault text e
 items_decide_fault text spans e h some g = record { not_zero = some; front = h.front; rest = h.rest; spans = spans; split = h.split; within = g; fault = inl h.ends }
 
 pub accepted_from_outcome : (text : List ℕ) (v : ℕ) → duration_answer text ≡ Ok v → Accepted text v
@@ -108,10 +110,12 @@ fault_read text e some h =
 pub fault_from_outcome : (text : List ℕ) (e : Fault) → duration_answer text ≡ Err e → HasFault text e
 fault_from_outcome text e h = grind (arith, common_steps, duration_answer-zero, fault_read)
 
-pub items_decide_value : (text : List ℕ) → ItemsDecideValue text
+pub items_decide_value : (text : List ℕ) (spans : List Span) (stop : Option Fault) → Items text spans stop → text ≢ bare_zero
+    → (v : ℕ) → Accepted text v ↔ ((stop ≡ None) × WithinLimits spans × (value spans ≡ v))
 items_decide_value text spans stop h some v = (λ a. value_only text spans stop v some h (outcome_accepted text v a), sum_accepted text spans stop v h)
 
-pub items_decide_overflow : (text : List ℕ) → ItemsDecideOverflow text
+pub items_decide_overflow : (text : List ℕ) (spans : List Span) (stop : Option Fault) → Items text spans stop → text ≢ bare_zero
+    → ¬ (WithinLimits spans) → HasFault text NumberOverflow
 items_decide_overflow text spans stop h some b = fault_from_outcome text NumberOverflow (outcome_settled text spans stop some h ∙ too_large spans stop h.formed b)
 
 -- so what was answered as the function says is the value or the fault
@@ -121,18 +125,16 @@ answer_accepts text r e v = (λ h. accepted_from_outcome text v (sym e ∙ h), �
 pub answer_faults : (text : List ℕ) (r : Result ℕ Fault) → r ≡ duration_answer text → (f : Fault) → (r ≡ Err f) ↔ HasFault text f
 answer_faults text r e f = (λ h. fault_from_outcome text f (sym e ∙ h), λ a. e ∙ outcome_fault text f a)
 
-one_value : (text : List ℕ) (v : ℕ) → duration_answer text ≡ Ok v → OnlyValue text v
-one_value text v h = (accepted_from_outcome text v h, λ w a. let p = outcome_accepted text w a in cc, λ e f. let p = outcome_fault text e f in cc)
+outcome_answered : (text : List ℕ) (r : Result ℕ Fault) → IsOutcome text r → r ≡ duration_answer text
+outcome_answered text (Ok v) a = sym (outcome_accepted text v a)
+outcome_answered text (Err e) f = sym (outcome_fault text e f)
 
-one_fault : (text : List ℕ) (e : Fault) → duration_answer text ≡ Err e → OnlyFault text e
-one_fault text e h = (fault_from_outcome text e h, λ f k. let p = outcome_fault text f k in cc, λ w a. let p = outcome_accepted text w a in cc)
+answered_outcome : (text : List ℕ) (r : Result ℕ Fault) → duration_answer text ≡ r → IsOutcome text r
+answered_outcome text (Ok v) h = accepted_from_outcome text v h
+answered_outcome text (Err e) h = fault_from_outcome text e h
 
-one_of : (text : List ℕ) (r : Result ℕ Fault) → duration_answer text ≡ r → OneOutcome text
-one_of text (Ok v) h = inl (v, one_value text v h)
-one_of text (Err e) h = inr (e, one_fault text e h)
+pub one_outcome : (text : List ℕ) → ExactlyOne (IsOutcome text)
+one_outcome text = (duration_answer text, answered_outcome text (duration_answer text) refl, outcome_answered text)
 
-pub one_outcome : (text : List ℕ) → OneOutcome text
-one_outcome text = one_of text (duration_answer text) refl
-
-pub one_list_of_items : (text : List ℕ) → OneListOfItems text
-one_list_of_items text = ((items text).0, (items text).1, items_found text, λ ss o h. let e = items_told text ss o h in (sym (ap (λ (r : List Span × Option Fault). r.0) e), sym (ap (λ (r : List Span × Option Fault). r.1) e)))
+pub one_list_of_items : (text : List ℕ) → ExactlyOne (λ (list : List Span × Option Fault). Items text list.0 list.1)
+one_list_of_items text = (items text, items_found text, λ list h. sym (items_told text list.0 list.1 h))

@@ -7,34 +7,28 @@ use Rattle.std.proofs.lemmas.List.Sums.{sum_by-append, sum_by-cons}
 use Rattle.humantime.specs.Values.{nanos_per_second}
 use Rattle.humantime.specs.Durations.Characters.{u64_max}
 use Rattle.humantime.specs.Durations.Units.{Addition, Nanos, Seconds}
-use Rattle.humantime.specs.Durations.Accepted.{addition_nanos, total, HasRoom, AllHaveRoom}
-use Rattle.humantime.specs.References.Durations.Reading.{room, add_all}
+use Rattle.humantime.specs.Durations.Accepted.{addition_nanos, total, room, AllHaveRoom}
+use Rattle.humantime.specs.References.Durations.Reading.{add_all}
 
 -- each addition has room, where t nanoseconds stand before them all
 abbrev pub RoomFrom : ℕ → List Addition → Type 0
 RoomFrom t [] = ⊤
-RoomFrom t (x ∷ xs) = HasRoom t x × RoomFrom (t + addition_nanos x) xs
+RoomFrom t (x ∷ xs) = (room t x ≡ true) × RoomFrom (t + addition_nanos x) xs
 
 pub total-append : (xs ys : List Addition) → total (xs ++ ys) ≡ total xs + total ys
 total-append xs ys = sum_by-append addition_nanos xs ys
-
-room-true : (t : ℕ) (x : Addition) → room t x ≡ true → HasRoom t x
-room-true t x h = grind (arith, common_steps)
-
-room_from : (t : ℕ) (x : Addition) → HasRoom t x → room t x ≡ true
-room_from t x h = grind (arith, common_steps)
 
 -- the sum where there is room, and none else
 pub add_all-room : (t : ℕ) (xs : List Addition) → RoomFrom t xs → add_all t xs ≡ Some (t + total xs)
 unfolding add_all
 add_all-room t [] h = ap Some (omega arith)
-add_all-room t (x ∷ xs) h = rw (room_from t x h.0) (add_all-room (t + addition_nanos x) xs h.1 ∙ ap Some (omega (arith, sum_by-cons addition_nanos x xs)))
+add_all-room t (x ∷ xs) h = rw h.0 (add_all-room (t + addition_nanos x) xs h.1 ∙ ap Some (omega (arith, sum_by-cons addition_nanos x xs)))
 
 pub add_all-full : (t : ℕ) (xs : List Addition) → ¬ (RoomFrom t xs) → add_all t xs ≡ None
 unfolding add_all
 add_all-full t [] h = absurd (h tt)
 add_all-full t (x ∷ xs) h = elim (cases_Bool (room t x)) [
-  | inl e ↦ rw e (add_all-full (t + addition_nanos x) xs (λ r. h (room-true t x e, r)))
+  | inl e ↦ rw e (add_all-full (t + addition_nanos x) xs (λ r. h (e, r)))
   | inr e ↦ rw e
 ]
 
@@ -54,7 +48,7 @@ RoomFrom-back t [] ys h = let e : t + total [] ≡ t = omega arith in rw e h
 RoomFrom-back t (x ∷ xs) ys h = grind (arith, common_steps, (RoomFrom-back (t + addition_nanos x) xs ys h.1))
 
 -- room one by one is room after each front
-from_each : (t : ℕ) (xs : List Addition) → ((before after : List Addition) (x : Addition) → xs ≡ before ++ x ∷ after → HasRoom (t + total before) x) → RoomFrom t xs
+from_each : (t : ℕ) (xs : List Addition) → ((before after : List Addition) (x : Addition) → xs ≡ before ++ x ∷ after → room (t + total before) x ≡ true) → RoomFrom t xs
 from_each t [] h = tt
 from_each t (y ∷ ys) h =
     let zero : t + total [] ≡ t = omega arith in (
@@ -71,9 +65,8 @@ pub all_have_room : (xs : List Addition) → RoomFrom 0 xs → AllHaveRoom xs
 all_have_room xs h before after x e = grind (arith, common_steps, RoomFrom-back)
 
 -- what has room leaves whole seconds that fit
-room_stays : (t : ℕ) (x : Addition) → HasRoom t x → (t + addition_nanos x) / nanos_per_second ≤ u64_max
-room_stays t (Nanos n) h = h.1
-room_stays t (Seconds n) h = omega arith
+room_stays : (t : ℕ) (x : Addition) → room t x ≡ true → (t + addition_nanos x) / nanos_per_second ≤ u64_max
+room_stays t x h = grind (arith, common_steps)
 
 room_fits : (t : ℕ) (xs : List Addition) → t / nanos_per_second ≤ u64_max → RoomFrom t xs → (t + total xs) / nanos_per_second ≤ u64_max
 room_fits t [] fits h = omega arith

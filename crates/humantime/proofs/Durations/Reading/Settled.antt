@@ -1,18 +1,18 @@
 -- What spans add up to by the reference, and whether they are within the limits.
 use Rattle.std.proofs.lemmas.Grind.{common_steps, flat_map-append}
-use Rattle.std.proofs.Common.{◌≡◌, ◌⊎◌, ℕ, ◌+◌, List, [], ◌∷◌, ◌++◌, Option, Some, None, Result, Ok, Err, map, ap, ◌∙◌, inl, inr, arith}
+use Rattle.std.proofs.Common.{true, ◌≡◌, ◌⊎◌, ℕ, ◌+◌, List, [], ◌∷◌, ◌++◌, Option, Some, None, Result, Ok, Err, map, ap, ◌∙◌, inl, inr, arith}
 use Rattle.std.specs.Prelude.{⊤}
 use Rattle.std.specs.List.{AllByRecursion}
 use Rattle.humantime.specs.Durations.Spans.{Span}
-use Rattle.humantime.specs.Durations.Accepted.{total, additions, value, Formed, Fits, WithinLimits}
-use Rattle.humantime.specs.References.Durations.Reading.{additions_of, add_span, settle}
+use Rattle.humantime.specs.Durations.Accepted.{total, additions_of, additions, value, Formed, fits, WithinLimits}
+use Rattle.humantime.specs.References.Durations.Reading.{add_span, settle}
 use Rattle.humantime.specs.Durations.Faults.{Fault, NumberOverflow}
 use Rattle.humantime.specs.Durations.Items.{items_of}
 use Rattle.humantime.proofs.Durations.Reading.Rooms.{RoomFrom, total-append, add_all-room, add_all-full, RoomFrom-append, RoomFrom-front, RoomFrom-back, room_from_all, all_have_room}
 
 -- the span keeps the limits after t nanoseconds
 abbrev pub IsAddedTo : ℕ → Span → Type 0
-IsAddedTo t s = Fits s × RoomFrom t (additions_of s)
+IsAddedTo t s = (fits s ≡ true) × RoomFrom t (additions_of s)
 
 -- each span does, after those before it
 abbrev pub WithinLimitsFrom : ℕ → List Span → Type 0
@@ -20,16 +20,16 @@ WithinLimitsFrom t [] = ⊤
 WithinLimitsFrom t (s ∷ ss) = IsAddedTo t s × WithinLimitsFrom (t + total (additions_of s)) ss
 
 -- the sum after a span that keeps the limits, and none after another
-add_span-added : (t : ℕ) (s : Span) → Formed s → IsAddedTo t s → add_span t s ≡ Some (t + total (additions_of s))
+add_span-added : (t : ℕ) (s : Span) → IsAddedTo t s → add_span t s ≡ Some (t + total (additions_of s))
 unfolding add_span
-add_span-added t s f h = grind (arith, common_steps, add_all-room)
+add_span-added t s h = grind (arith, common_steps, add_all-room)
 
 add_span-over : (t : ℕ) (s : Span) → ¬ (IsAddedTo t s) → add_span t s ≡ None
 unfolding add_span
 add_span-over t s h = grind (arith, common_steps, add_all-full)
 
-pub added_or_not : (t : ℕ) (s : Span) → Formed s → IsAddedTo t s ⊎ ¬ (IsAddedTo t s)
-added_or_not t s f = grind (arith, common_steps)
+pub added_or_not : (t : ℕ) (s : Span) → IsAddedTo t s ⊎ ¬ (IsAddedTo t s)
+added_or_not t s = grind (arith, common_steps)
 
 within_or_not : (t : ℕ) (spans : List Span) → AllByRecursion Formed spans → WithinLimitsFrom t spans ⊎ ¬ (WithinLimitsFrom t spans)
 within_or_not t [] f = inl tt
@@ -54,8 +54,8 @@ settle_fine t (s ∷ ss) items f h = grind (arith, common_steps, (settle_fine (t
 settle_beyond : (t : ℕ) (spans : List Span) (items : List (Result Span Fault)) → AllByRecursion Formed spans → ¬ (WithinLimitsFrom t spans) → settle t (map Ok spans ++ items) ≡ Err NumberOverflow
 unfolding settle
 settle_beyond t [] items f h = absurd (h tt)
-settle_beyond t (s ∷ ss) items f h = elim (added_or_not t s f.0) [
-  | inl a ↦ rw (add_span-added t s f.0 a, settle) (settle_beyond (t + total (additions_of s)) ss items f.1 (λ r. h (a, r)))
+settle_beyond t (s ∷ ss) items f h = elim (added_or_not t s) [
+  | inl a ↦ rw (add_span-added t s a, settle) (settle_beyond (t + total (additions_of s)) ss items f.1 (λ r. h (a, r)))
   | inr a ↦ rw (add_span-over t s a, settle)
 ]
 
@@ -63,11 +63,11 @@ room_each : (t : ℕ) (spans : List Span) → WithinLimitsFrom t spans → RoomF
 room_each t [] h = tt
 room_each t (s ∷ ss) h = RoomFrom-append t (additions_of s) (additions ss) h.0.1 (room_each (t + total (additions_of s)) ss h.1)
 
-fit_each : (t : ℕ) (spans : List Span) → WithinLimitsFrom t spans → AllByRecursion Fits spans
+fit_each : (t : ℕ) (spans : List Span) → WithinLimitsFrom t spans → AllByRecursion (λ s. fits s ≡ true) spans
 fit_each t [] h = tt
 fit_each t (s ∷ ss) h = (h.0.0, fit_each (t + total (additions_of s)) ss h.1)
 
-each_within : (t : ℕ) (spans : List Span) → AllByRecursion Fits spans → RoomFrom t (additions spans) → WithinLimitsFrom t spans
+each_within : (t : ℕ) (spans : List Span) → AllByRecursion (λ s. fits s ≡ true) spans → RoomFrom t (additions spans) → WithinLimitsFrom t spans
 each_within t [] f r = tt
 each_within t (s ∷ ss) f r = ((f.0, RoomFrom-front t (additions_of s) (additions ss) r), each_within (t + total (additions_of s)) ss f.1 (RoomFrom-back t (additions_of s) (additions ss) r))
 

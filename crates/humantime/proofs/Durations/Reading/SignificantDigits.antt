@@ -1,15 +1,16 @@
 -- The digits of a fraction without the zeros at their end.
-use Rattle.std.proofs.Common.{◌≡◌, ◌≤◌, ◌<◌, ◌+◌, ◌*◌, ◌/◌, ◌%◌, ◌^◌, ℕ, Bool, false, List, [], ◌∷◌, ◌++◌, length, refl, sym, ap, ap₂, ◌∙◌, inl, inr, arith, length-append, append_assoc, reverse}
+use Rattle.std.proofs.Common.{◌≡◌, ◌≤◌, ◌<◌, ◌+◌, ◌*◌, ◌/◌, ◌%◌, ◌^◌, ℕ, Bool, true, false, List, [], ◌∷◌, ◌++◌, length, refl, sym, ap, ap₂, ◌∙◌, inl, inr, arith, length-append, append_assoc, reverse}
 use Rattle.std.specs.Prelude.{◌==◌}
 use Rattle.std.specs.Char.{digit_value}
 use Rattle.std.specs.Str.Parse.{digits_value_after}
 use Rattle.std.proofs.lemmas.Bool.{cases_Bool, eqb-true}
+use Rattle.std.proofs.lemmas.Grind.{common_steps}
 use Rattle.std.proofs.lemmas.Nat.{pow-add}
 use Rattle.std.proofs.lemmas.Nat.Gcd.{dvd_of_mod-eq-zero}
 use Rattle.std.proofs.Math.Nat.{pow-suc, one-le-pow, mul_assoc, mul_right_comm, mul-div-mul_right, div-mul_cancel, le_of_mul-le-mul_right, le-mul_of_pos_right, mod-eq-sub-div-mul}
 use Rattle.std.proofs.lemmas.List.{length-reverse, reverse-append, reverse-reverse}
 use Rattle.humantime.specs.Durations.Characters.{leading, past, decimal_value, significant}
-use Rattle.humantime.specs.Durations.Accepted.{IsWholePart}
+use Rattle.humantime.specs.Durations.Accepted.{is_whole_part}
 use Rattle.humantime.specs.Durations.Spans.{Only}
 use Rattle.humantime.proofs.Durations.Reading.Runs.{leading-past, Only-leading, past_shorter}
 
@@ -102,14 +103,17 @@ divides x y c some e =
     omega (arith, mod-eq-sub-div-mul x y, most)
 
 -- a whole part stays one, of the same amount
-pub whole_part_kept : (f : ℕ) (ds : List ℕ) → IsWholePart f ds → IsWholePart f (significant ds)
+pub whole_part_kept : (f : ℕ) (ds : List ℕ) → is_whole_part f ds ≡ true → is_whole_part f (significant ds) ≡ true
 whole_part_kept f ds h =
     let s = shifted ds in
     let kept_value = decimal_value (significant ds) in
     let product : decimal_value ds * f ≡ kept_value * f * s.by = ap (λ (n : ℕ). n * f) s.value ∙ mul_right_comm kept_value s.by f in
     let less : kept_value * f ≤ kept_value * f * s.by = le-mul_of_pos_right (kept_value * f) s.positive in
-    let rest : kept_value * f * s.by % (10 ^ length (significant ds) * s.by) ≡ 0 = rw (← product, ← s.power) h.1 in
-    (omega (arith, less, product, h.0), divides (kept_value * f) (10 ^ length (significant ds)) s.by s.positive rest)
+    let parts : (decimal_value ds * f ≤ 18446744073709551615) × (decimal_value ds * f % 10 ^ length ds ≡ 0) = grind (arith, common_steps) in
+    let rest : kept_value * f * s.by % (10 ^ length (significant ds) * s.by) ≡ 0 = rw (← product, ← s.power) parts.1 in
+    let whole = divides (kept_value * f) (10 ^ length (significant ds)) s.by s.positive rest in
+    let fits : kept_value * f ≤ 18446744073709551615 = omega (arith, less, product, parts.0) in
+    grind (arith, common_steps)
 
 pub amount_kept : (f : ℕ) (ds : List ℕ) → decimal_value ds * f / 10 ^ length ds ≡ decimal_value (significant ds) * f / 10 ^ length (significant ds)
 amount_kept f ds =

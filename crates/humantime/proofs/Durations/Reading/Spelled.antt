@@ -3,7 +3,7 @@ use Rattle.std.proofs.Common.{◌≡◌, ◌≢◌, ◌⊎◌, ℕ, ◌≤◌, �
 use Rattle.std.proofs.lemmas.Bool.{false≢true}
 use Rattle.humantime.specs.Durations.Characters.{is_ws, is_digit, is_letter, is_numeric, leading, past, begins, ends, digits}
 use Rattle.humantime.specs.Durations.Spans.{Span, Only, SpellsFraction, Spells}
-use Rattle.humantime.specs.Durations.Faults.{after_number, fraction_of, after_fraction, after_word, span_of, MayFollowWord}
+use Rattle.humantime.specs.Durations.Faults.{after_number, fraction_of, after_fraction, after_word, span_of, ends_span}
 use Rattle.humantime.specs.References.Durations.Lending.{fraction_at, past_fraction}
 use Rattle.humantime.proofs.Durations.Reading.Classes.{numeric_not_letter, letter_not_numeric, letter_not_point, letter_not_space, space_is_numeric, point_not_numeric, is_point-46}
 use Rattle.std.proofs.lemmas.Grind.{common_steps}
@@ -19,7 +19,7 @@ pub record IsSpanAt (rest : List ℕ) (s : Span) (next : List ℕ) : Type 0 wher
   pub starts : begins is_digit rest ≡ true
   pub span : span_of rest ≡ s
   pub point : fraction_of rest ≢ Some []
-  pub ends : MayFollowWord (after_word rest)
+  pub ends : ends_span (after_word rest) ≡ true
   pub next_is : next_of rest ≡ next
 
 pub begins_word : (w t : List ℕ) → begins is_letter w ≡ true → begins is_letter (w ++ t) ≡ true
@@ -74,7 +74,7 @@ pub read_spelled : (rest next : List ℕ) (s : Span) (h : Spells rest s next)
     → IsReadToWord rest h.number_text h.fraction_text (s.word ++ (h.space ++ next)) s.fraction
 read_spelled rest next s h = grind (arith, common_steps, begins_word, fraction_read, past-append, leading-append)
 
-pub no_letter_follows : (cs : List ℕ) → MayFollowWord cs → begins is_letter cs ≡ false
+pub no_letter_follows : (cs : List ℕ) → ends_span cs ≡ true → begins is_letter cs ≡ false
 no_letter_follows cs h = grind (arith, common_steps, numeric_not_letter)
 
 -- where a spelling ends with its word, it doesn't end in white space
@@ -85,18 +85,18 @@ ends_in_word a b word only some =
     (ends_other is_letter is_ws letter_not_space word (ends_Only is_letter word only n))
 
 followed : (a b word c here next : List ℕ) → here ≡ a ++ (b ++ (word ++ c)) → Only is_letter word → begins is_letter word ≡ true → Only is_ws c
-    → (MayFollowWord next ⊎ (ends is_ws here ≡ true)) → MayFollowWord (c ++ next)
+    → (ends_span next ≡ true) ⊎ (ends is_ws here ≡ true) → ends_span (c ++ next) ≡ true
 followed a b word [] here next whole only some space (inl e) = e
 followed a b word [] here next whole only some space (inr e) = absurd (false≢true (sym (ends_in_word a b word only some) ∙ ap (ends is_ws) (sym whole) ∙ e))
-followed a b word (x ∷ xs) here next whole only some space o = inr (space_is_numeric x (space.0))
+followed a b word (x ∷ xs) here next whole only some space o = space_is_numeric x (space.0)
 
 -- a spelling is the span that begins it, where its word ends with it
-pub spelled_here : (here next : List ℕ) (s : Span) → Spells here s [] → (MayFollowWord next ⊎ (ends is_ws here ≡ true)) → begins is_ws next ≡ false → IsSpanAt (here ++ next) s next
+pub spelled_here : (here next : List ℕ) (s : Span) → Spells here s [] → (ends_span next ≡ true) ⊎ (ends is_ws here ≡ true) → begins is_ws next ≡ false → IsSpanAt (here ++ next) s next
 spelled_here here next s h o no_space =
     let a = h.number_text in
     let b = h.fraction_text in
     let letter = letters_begin s.word h.word in
-    let f : MayFollowWord (h.space ++ next) = followed a b s.word h.space here next (spells_alone here s h) h.word.0 letter h.only_space o in
+    let f : ends_span (h.space ++ next) ≡ true = followed a b s.word h.space here next (spells_alone here s h) h.word.0 letter h.only_space o in
     let r : IsRead (a ++ (b ++ (s.word ++ (h.space ++ next)))) (record { number = digits a; fraction = s.fraction; word = s.word }) (h.space ++ next) =
     parts_read a b s.word (h.space ++ next) s.fraction h.number.0 h.fraction h.word.0 letter (no_letter_follows (h.space ++ next) f) in
     rw (spelling_parts here next s h) (record {

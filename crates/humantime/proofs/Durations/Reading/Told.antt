@@ -5,7 +5,7 @@ use Rattle.std.specs.List.{AllByRecursion}
 use Rattle.humantime.specs.Durations.Characters.{is_ws, is_digit, is_numeric, begins, ends, past}
 use Rattle.humantime.specs.Durations.Spans.{Span, SpellsEach}
 use Rattle.humantime.specs.Durations.Accepted.{Formed}
-use Rattle.humantime.specs.Durations.Faults.{Fault, Split, MayFollowWord, span_of}
+use Rattle.humantime.specs.Durations.Faults.{Fault, Split, ends_span, span_of}
 use Rattle.humantime.specs.Durations.Items.{Items, Ends}
 use Rattle.humantime.specs.References.Durations.Reading.{Walk, no_more, walk_from, spans_on, items}
 use Rattle.humantime.proofs.Durations.Reading.Classes.{digit_is_numeric, digit_not_space}
@@ -18,10 +18,14 @@ use Rattle.humantime.proofs.Durations.Reading.Written.{fine_here}
 
 -- what stands before the rest ends there: in white space, or by what the rest begins with
 abbrev pub Closes : List ℕ → List ℕ → Type 0
-Closes front rest = MayFollowWord rest ⊎ (ends is_ws front ≡ true)
+Closes front rest = (ends_span rest ≡ true) ⊎ (ends is_ws front ≡ true)
+
+ends_before_digit : (rest : List ℕ) → begins is_digit rest ≡ true → ends_span rest ≡ true
+ends_before_digit [] d = refl
+ends_before_digit (c ∷ cs) d = digit_is_numeric c d
 
 pub closes_digit : (front rest : List ℕ) → begins is_digit rest ≡ true → Closes front rest
-closes_digit front rest d = inl (inr (begins_also is_digit is_numeric digit_is_numeric rest d))
+closes_digit front rest d = inl (ends_before_digit rest d)
 
 pub each_starts : (body : List ℕ) (s : Span) (ss : List Span) → SpellsEach body (s ∷ ss) → begins is_digit body ≡ true
 each_starts body s ss h = grind (arith, common_steps)
@@ -37,7 +41,7 @@ no_space_before body rest (s ∷ ss) h e = begins_other is_digit is_ws digit_not
 closes_here : (here more rest : List ℕ) (ss : List Span) → SpellsEach more ss → Closes (here ++ more) rest → Closes here (more ++ rest)
 closes_here here more rest [] h (inl o) = rw h (inl o)
 closes_here here more rest [] h (inr e) = inr (ap (ends is_ws) (sym (append-nil here)) ∙ ap (λ (x : List ℕ). ends is_ws (here ++ x)) (sym h) ∙ e)
-closes_here here more rest (s ∷ ss) h o = inl (inr (begins_also is_digit is_numeric digit_is_numeric (more ++ rest) (starts_before more rest s ss h)))
+closes_here here more rest (s ∷ ss) h o = closes_digit here (more ++ rest) (starts_before more rest s ss h)
 
 closes_more : (here more rest : List ℕ) (ss : List Span) → SpellsEach more ss → Closes (here ++ more) rest → (ss ≡ []) ⊎ Closes more rest
 closes_more here more rest [] h o = inl refl

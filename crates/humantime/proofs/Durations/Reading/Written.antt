@@ -4,7 +4,7 @@ use Rattle.std.proofs.lemmas.Bool.{cases_Bool}
 use Rattle.humantime.specs.Durations.Characters.{is_ws, is_digit, is_letter, is_point, is_numeric, leading, past, begins, ends, digits}
 use Rattle.humantime.specs.Durations.Spans.{Span, Only, SpellsFraction, Spells}
 use Rattle.humantime.specs.Durations.Accepted.{Formed}
-use Rattle.humantime.specs.Durations.Faults.{after_number, after_fraction, word_of, after_word, span_of, MayFollowWord}
+use Rattle.humantime.specs.Durations.Faults.{after_number, after_fraction, word_of, after_word, span_of, ends_span}
 use Rattle.humantime.specs.References.Durations.Lending.{fraction_at, past_fraction}
 use Rattle.humantime.proofs.Durations.Reading.Classes.{digit_is_numeric, is_point-true}
 use Rattle.humantime.proofs.Durations.Reading.Runs.{leading-past, Only-leading, ends_Only, ends-append}
@@ -40,7 +40,7 @@ digit_begins [] e = cc
 digit_begins (c ∷ cs) e = rw (digit_is_numeric c e) e
 
 -- white space stands behind the word, where what follows the word is neither the end nor a digit
-space_there : (n : List ℕ) → MayFollowWord n → past is_ws n ≢ [] → begins is_digit (past is_ws n) ≡ false → leading is_ws n ≢ []
+space_there : (n : List ℕ) → ends_span n ≡ true → past is_ws n ≢ [] → begins is_digit (past is_ws n) ≡ false → leading is_ws n ≢ []
 space_there n h k e = grind (arith, common_steps)
 
 together : (rest a m b tail w n c next : List ℕ) → rest ≡ a ++ m → m ≡ b ++ tail → tail ≡ w ++ n → n ≡ c ++ next → rest ≡ (a ++ (b ++ (w ++ c))) ++ next
@@ -80,7 +80,7 @@ written_here rest h =
 
 -- the span that begins the rest is well formed
 pub formed_here : (rest : List ℕ) → Fine rest → Formed (span_of rest)
-formed_here rest h = record { numbers = h.numbers; word = h.word }
+formed_here rest h = record { short = h.short; word = h.word }
 
 pub fine_here : (rest next : List ℕ) (s : Span) → IsSpanAt rest s next → Formed s → Fine rest
 fine_here rest next s h f = grind (arith, common_steps)

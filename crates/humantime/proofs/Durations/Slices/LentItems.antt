@@ -1,6 +1,6 @@
 -- The list of what the items of a text lend.
 use Rattle.std.proofs.lemmas.Grind.{common_steps}
-use Rattle.std.proofs.Common.{◌≡◌, ◌≢◌, ◌++◌, IsUtf8, chars, encode_utf8_all, arith, ℕ, Bool, true, List, [], ◌∷◌, map, Option, Result, Ok, refl, sym, ap, ap₂, ◌∙◌}
+use Rattle.std.proofs.Common.{◌≡◌, ◌≢◌, ◌++◌, IsUtf8, chars, encode_utf8_all, arith, ℕ, Bool, true, List, [], ◌∷◌, map, Option, Result, Ok, Err, refl, sym, ap, ap₂, ◌∙◌}
 use Rattle.std.proofs.lemmas.Str.{encodes-chars, encode_ascii}
 use Rattle.humantime.specs.Durations.Characters.{is_ws, past, bare_zero}
 use Rattle.humantime.specs.Durations.Spans.{Span}
@@ -8,7 +8,6 @@ use Rattle.humantime.specs.Durations.Faults.{span_of, Fault}
 use Rattle.humantime.specs.References.Durations.Reading.{Walk, walk_of, items, settle}
 use Rattle.humantime.specs.References.Durations.Answers.{duration_answer}
 use Rattle.humantime.specs.Durations.Items.{Lent, LendsEach, items_of, AreItems}
-use Rattle.humantime.specs.Laws.Outcomes.{OneListOfSlices, SameSlices, FirstErrorIsAnswer}
 use Rattle.humantime.specs.References.Durations.Lending.{lent_at, lent_items, span_in, judged}
 use Rattle.humantime.proofs.Durations.Reading.Found.{items_found_at}
 use Rattle.humantime.proofs.Durations.Reading.Outcomes.{items_told, duration_answer-items}
@@ -74,13 +73,8 @@ one_lent text others o =
     let both : ◌≡◌ {A = List Span × Option Fault} (o.spans, o.stop) (a.spans, a.stop) = sym (told_items text others o) ∙ told_items text (lent_items text) a in
     same_lent text others (lent_items text) o a (ap (λ (p : List Span × Option Fault). p.0) both) (ap (λ (p : List Span × Option Fault). p.1) both)
 
-pub one_list_of_slices : (text : List ℕ) → OneListOfSlices text
-one_list_of_slices text = (lent_items text, are_items text, one_lent text)
-
-pub same_slices : (text : List ℕ) → SameSlices text
-same_slices text xs ys a b = one_lent text ys b ∙ sym (one_lent text xs a)
-
 -- an error that is the first item is the answer
-pub first_error_answers : (text : List ℕ) → FirstErrorIsAnswer text
+pub first_error_answers : (text : List ℕ) (lent others : List (Result Lent Fault)) (e : Fault) → AreItems text lent
+    → lent ≡ Err e ∷ others → text ≢ bare_zero → duration_answer text ≡ Err e
 unfolding settle
 first_error_answers text lent others e a first some = sym (judged_outcome text some) ∙ ap (judged 0) (sym (one_lent text lent a) ∙ first)

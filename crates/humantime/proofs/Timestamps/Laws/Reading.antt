@@ -6,9 +6,9 @@ use Rattle.humantime.specs.declared.date.error.TimestampError.{TimestampError}
 use Rattle.humantime.specs.declared.date.error.TimestampError.TheVariants.{InvalidFormat}
 use Rattle.humantime.specs.Timestamps.Fields.{Fields, IsWeak, IsStrict, moment_of, IsWeakMoment, IsStrictMoment}
 use Rattle.humantime.specs.Timestamps.Checks.{has_marks, weak_checks, strict_checks, first_failed}
-use Rattle.humantime.specs.References.Timestamps.Reading.{fields_of, weak_answer, strict_answer, moment_or_error}
-use Rattle.humantime.specs.Laws.Timestamps.{OneTimestamp, StrictMomentIsWeak}
-use Rattle.humantime.proofs.Timestamps.Reading.Checks.{passes_from, passes_none}
+use Rattle.humantime.specs.References.Timestamps.Reading.{moment_at, weak_answer, strict_answer, moment_or_error}
+use Rattle.humantime.specs.Laws.Timestamps.{OneTimestamp, IsMarked}
+use Rattle.humantime.proofs.Timestamps.Reading.Checks.{passes_from, passes_none, fields_of, moment_of_fields}
 use Rattle.humantime.proofs.Timestamps.Reading.Shown.{fields_weak}
 use Rattle.humantime.proofs.Timestamps.Reading.Passed.{weak_fields}
 use Rattle.humantime.proofs.Timestamps.Laws.StrictForm.{strict_is_weak, strict_complete, complete_strict}
@@ -50,11 +50,14 @@ one_of b checks IsShown told = (
 )
 
 value_of : (b : List ℕ) (checks : List (Bool × TimestampError)) (IsShown : Fields → Type 0) → AreTold b checks IsShown → (t : ℤ)
-    → (moment_or_error (first_failed checks) (moment_of (fields_of b)) ≡ Ok t) ↔ ((f : Fields) × IsShown f × (t ≡ pos (moment_of f)))
+    → (moment_or_error (first_failed checks) (moment_at b) ≡ Ok t) ↔ ((f : Fields) × IsShown f × (t ≡ pos (moment_of f)))
 value_of b checks IsShown told t =
-    let answer = moment_told (first_failed checks) (moment_of (fields_of b)) t in (
-      (λ h. (fields_of b, told.shown (answer.0 h).0, (answer.0 h).1)),
-      (λ m. answer.1 (told.passes m.0 m.1, m.2 ∙ ap (λ (f : Fields). pos (moment_of f)) (told.same m.0 m.1))),
+    let answer = moment_told (first_failed checks) (moment_at b) t in (
+      (λ h. (fields_of b, told.shown (answer.0 h).0, (answer.0 h).1 ∙ ap pos (sym (moment_of_fields b)))),
+      (λ m. answer.1 (
+        told.passes m.0 m.1,
+        m.2 ∙ ap (λ (f : Fields). pos (moment_of f)) (told.same m.0 m.1) ∙ ap pos (moment_of_fields b),
+      )),
     )
 
 pub one_weak : (b : List ℕ) → OneTimestamp (weak_checks b) (IsWeak b)
@@ -69,7 +72,7 @@ weak_value b = value_of b (weak_checks b) (IsWeak b) (weak_told b)
 
 pub weak_error : (b : List ℕ) (e : TimestampError) → (weak_answer b ≡ Err e) ↔ (first_failed (weak_checks b) ≡ Some e)
 unfolding weak_answer
-weak_error b = failed_told (first_failed (weak_checks b)) (moment_of (fields_of b))
+weak_error b = failed_told (first_failed (weak_checks b)) (moment_at b)
 
 pub strict_value : (b : List ℕ) (t : ℤ) → (strict_answer b ≡ Ok t) ↔ IsStrictMoment b t
 unfolding strict_answer
@@ -77,7 +80,7 @@ strict_value b = value_of b (strict_checks b) (IsStrict b) (strict_told b)
 
 pub strict_error : (b : List ℕ) (e : TimestampError) → (strict_answer b ≡ Err e) ↔ (first_failed (strict_checks b) ≡ Some e)
 unfolding strict_answer
-strict_error b = failed_told (first_failed (strict_checks b)) (moment_of (fields_of b))
+strict_error b = failed_told (first_failed (strict_checks b)) (moment_at b)
 
 -- the answer of the strict form, where its own check fails and where it does not
 pub strict_refused : (b : List ℕ) → has_marks b ≡ false → Err InvalidFormat ≡ strict_answer b
@@ -88,7 +91,7 @@ pub strict_as_weak : (b : List ℕ) → has_marks b ≡ true → weak_answer b �
 unfolding weak_answer strict_answer
 strict_as_weak b whole = rw whole refl
 
-pub strict_moment_is_weak : (b : List ℕ) → StrictMomentIsWeak b
+pub strict_moment_is_weak : (b : List ℕ) (t : ℤ) → IsStrictMoment b t ↔ (IsWeakMoment b t × IsMarked b)
 strict_moment_is_weak b t = (
   (λ m. let p = (strict_is_weak b m.0).0 m.1 in ((m.0, p.0, m.2), p.1)),
   (λ p. (p.0.0, (strict_is_weak b p.0.0).1 (p.0.1, p.1), p.0.2)),

@@ -1,10 +1,10 @@
 -- A text in strict form is one in weak form with a `T` and a zone at its end.
 use Rattle.std.proofs.lemmas.Grind.{common_steps}
 use Rattle.std.proofs.Common.{◌≡◌, ◌≢◌, ℕ, List, ◌++◌, ap, ◌∙◌, arith}
-use Rattle.std.specs.Prelude.{true, slice_index}
+use Rattle.std.specs.Prelude.{◌↔◌, true, slice_index}
 use Rattle.humantime.specs.Timestamps.Fields.{Separator, Letter_T, No_zone, Fields, separator_byte, fraction_text, date_time_text, IsWeak, IsStrict}
 use Rattle.humantime.specs.Timestamps.Checks.{ends_in_zone, zone_of, has_marks}
-use Rattle.humantime.specs.Laws.Timestamps.{StrictIsWeak}
+use Rattle.humantime.specs.Laws.Timestamps.{IsMarked}
 use Rattle.humantime.proofs.Timestamps.Reading.Bytes.{holds_before_zone}
 use Rattle.humantime.proofs.Timestamps.Reading.Ends.{IsPlain, plain_bytes, zone_found}
 
@@ -25,7 +25,7 @@ some_zone_from : (b : List ℕ) → zone_of b ≢ No_zone → ends_in_zone b ≡
 unfolding zone_of
 some_zone_from b h = grind (arith, common_steps)
 
-pub strict_is_weak : (b : List ℕ) → StrictIsWeak b
+pub strict_is_weak : (b : List ℕ) (f : Fields) → IsStrict b f ↔ (IsWeak b f × IsMarked b)
 strict_is_weak b f = (
   (λ s. grind (arith, common_steps, separator_told, zone_told, some_zone_from)),
   (λ p. grind (arith, common_steps, separator_told, letter_told, zone_told, some_zone_told)),

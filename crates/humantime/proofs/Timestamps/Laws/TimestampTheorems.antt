@@ -95,16 +95,16 @@ printed_is t k text known computed printed = one_text t k text known printed ((t
 pub printed_some : (t : ℤ) (k : ℕ) → k ≤ 9 → IsPrintable t → (text : List ℕ) × (moment_text t k ≡ Some text) × IsPrinted t k text
 printed_some t k small printable =
     let one = one_printed t k small printable in
-    (one.text, (text_displayed t k one.text small).1 (printable, one.printed), one.printed)
+    (one.0, (text_displayed t k one.0 small).1 (printable, one.1), one.1)
 
 -- what `Display` wrote, of a timestamp that is known
 pub displayed_as : (x : MomentToPrint) (t : ℤ) (k : ℕ) (bytes : List ℕ) → x ≡ record { moment = t; places = k } → k ≤ 9 → IsPrintable t
     → IfSome (printed_text x) (λ text. bytes ≡ text) → IsPrinted t k bytes
 displayed_as x t k bytes known small within written =
     let one = one_printed t k small within in
-    let text : printed_text x ≡ Some one.text = rw known ((text_displayed t k one.text small).1 (within, one.printed)) in
-    let same : bytes ≡ one.text = rw text at written in
-    rw same one.printed
+    let text : printed_text x ≡ Some one.0 = rw known ((text_displayed t k one.0 small).1 (within, one.1)) in
+    let same : bytes ≡ one.0 = rw text at written in
+    rw same one.1
 
 -- what an order of two moments says
 pub moment_at_most : (a b : ℤ) → IsTrue (is_le (int_cmp a b)) ↔ (a ≤ℤ b)

@@ -1,14 +1,13 @@
 -- The digits of a fraction: the first k of nine are the nanoseconds, cut to k digits.
 use Rattle.std.proofs.lemmas.Grind.{common_steps}
 use Rattle.std.proofs.Common.{◌≡◌, ℕ, zero, suc, ◌+◌, ◌-◌, ◌*◌, ◌/◌, ◌%◌, ◌^◌, ◌<◌, ◌≤◌, take, arith}
+use Rattle.std.specs.Prelude.{List, length, Option, Some, None, option_map, ◌==◌, if◌then◌else◌}
 use Rattle.std.proofs.Math.Nat.{pow-suc, one-le-pow, mod-mod_of_dvd, dvd-mul_left}
 use Rattle.std.proofs.Math.Arith.{mod-mul}
 use Rattle.std.proofs.lemmas.Nat.{pow-add}
 use Rattle.humantime.specs.Timestamps.Fields.{fraction_nanos, fraction_digits}
-use Rattle.humantime.specs.Timestamps.Printed.{HasPlaces}
-use Rattle.humantime.specs.References.Timestamps.Printing.{last_digits, cut_fraction}
-use Rattle.humantime.specs.References.Timestamps.Fractions.{AreDigits, add_digits}
-use Rattle.humantime.proofs.Timestamps.Reading.Fractions.{nanos_added}
+use Rattle.humantime.specs.References.Timestamps.Printing.{last_digits}
+use Rattle.humantime.proofs.Timestamps.Reading.Fractions.{AreDigits, add_digits, nanos_added}
 
 power_more : (j : ℕ) → (10 ^ suc j / 10 ≡ 10 ^ j) × (10 ^ suc j ≡ 10 * 10 ^ j)
 power_more j = let power : 10 ^ suc j ≡ 10 ^ j * 10 = pow-suc 10 j in (omega arith, omega arith)
@@ -30,13 +29,17 @@ last_are_digits zero j n = tt
 last_are_digits (suc k) zero n = tt
 last_are_digits (suc k) (suc j) n = ((omega arith, omega arith), last_are_digits k j n)
 
+-- the fraction that is shown of n nanoseconds, with k digits
+abbrev pub cut_fraction : ℕ → ℕ → Option (List ℕ)
+cut_fraction n k = if k == 0 then None else Some (take k (last_digits 9 n))
+
 fraction_is : (k n : ℕ) → fraction_digits (cut_fraction n k) ≡ take k (last_digits 9 n)
 fraction_is k n = grind (arith, common_steps)
 
 pub shown_digits : (k n : ℕ) → AreDigits (fraction_digits (cut_fraction n k))
 shown_digits k n = rw (fraction_is k n) (last_are_digits k 9 n)
 
-pub shown_places : (k n : ℕ) → k ≤ 9 → HasPlaces (cut_fraction n k) k
+pub shown_places : (k n : ℕ) → k ≤ 9 → option_map length (cut_fraction n k) ≡ (if k == 0 then None else Some k)
 shown_places k n h = grind (arith, common_steps)
 
 pub shown_nanos : (k n : ℕ) → k ≤ 9 → n < 1_000_000_000 → fraction_nanos (fraction_digits (cut_fraction n k)) ≡ n - n % 10 ^ (9 - k)

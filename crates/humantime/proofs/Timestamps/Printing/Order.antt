@@ -1,7 +1,7 @@
 -- Printed texts stand in the order of their moments.
 use Rattle.std.proofs.lemmas.Grind.{common_steps}
 use Rattle.std.proofs.Common.{◌≡◌, ℕ, zero, suc, ◌+◌, ◌*◌, ◌/◌, ◌%◌, ◌<◌, ◌≤◌, List, [], ◌∷◌, ◌++◌, length, take, refl, ap, ◌∙◌, arith}
-use Rattle.std.specs.Prelude.{min, codes, Option, ℤ, pos}
+use Rattle.std.specs.Prelude.{min, codes, Option, Some, None, option_map, ◌==◌, if◌then◌else◌, ℤ, pos}
 use Rattle.std.specs.declared.cmp.Ordering.{Ordering}
 use Rattle.std.specs.declared.cmp.Ordering.TheVariants.{Equal}
 use Rattle.std.specs.Char.{digit_value}
@@ -14,12 +14,11 @@ use Rattle.std.proofs.lemmas.Int.{ints}
 use Rattle.humantime.specs.declared.calendar.Date.{Date}
 use Rattle.humantime.specs.Calendar.{IsDate, day_of}
 use Rattle.humantime.specs.Timestamps.Fields.{Letter_T, Letter_Z, Fields, fields_text, fraction_text, fraction_nanos, moment_of, fraction_digits}
-use Rattle.humantime.specs.References.Timestamps.Fractions.{AreDigits}
-use Rattle.humantime.specs.Timestamps.Printed.{cut, HasPlaces, IsPrinted}
+use Rattle.humantime.specs.Timestamps.Printed.{cut, IsPrinted}
 use Rattle.humantime.specs.Laws.Timestamps.{InOrder}
 use Rattle.humantime.proofs.Dates.DaysOfDates.{before_year, before_month}
 use Rattle.humantime.proofs.Dates.Years.{valid_told}
-use Rattle.humantime.proofs.Timestamps.Reading.Fractions.{nanos_bound, digits_told}
+use Rattle.humantime.proofs.Timestamps.Reading.Fractions.{AreDigits, nanos_bound, digits_told}
 
 cmp_alike : (m n x y : ℕ) → (m < n → x < y) → (m ≡ n → x ≡ y) → (n < m → y < x) → nat_cmp m n ≡ nat_cmp x y
 cmp_alike m n x y less same more = grind (arith, common_steps)
@@ -64,7 +63,9 @@ nanos_cmp : (ds es ws : List ℕ) → AreDigits ds → AreDigits es → length d
 unfolding fraction_nanos
 nanos_cmp ds es ws d e long room = filled_cmp 9 ds es (codes "000000000") ws 0 0 d e long room
 
-fraction_cmp : (k : ℕ) (p q : Option (List ℕ)) → k ≤ 9 → HasPlaces p k → HasPlaces q k → AreDigits (fraction_digits p) → AreDigits (fraction_digits q)
+fraction_cmp : (k : ℕ) (p q : Option (List ℕ)) → k ≤ 9
+    → option_map length p ≡ (if k == 0 then None else Some k) → option_map length q ≡ (if k == 0 then None else Some k)
+    → AreDigits (fraction_digits p) → AreDigits (fraction_digits q)
     → slice_cmp nat_cmp (fraction_text p ++ codes "Z") (fraction_text q ++ codes "Z") ≡ nat_cmp (fraction_nanos (fraction_digits p)) (fraction_nanos (fraction_digits q))
 fraction_cmp k p q h e f g i = grind (arith, common_steps, nanos_cmp)
 

@@ -14,11 +14,12 @@ use Rattle.humantime.specs.Values.{nano_of}
 use Rattle.humantime.specs.declared.date.print.Precision.{Precision}
 use Rattle.humantime.specs.Timestamps.Fields.{fields_text, fraction_nanos, moment_of}
 use Rattle.humantime.specs.Timestamps.Printed.{MomentToPrint, places_of, cut, year_10000, IsPrinted, IsPrintable}
-use Rattle.humantime.specs.Laws.Timestamps.{ReadsAs, OnePrinted}
-use Rattle.humantime.specs.References.Timestamps.Printing.{places, IsSecondOf, cut_fraction, fields_shown, fields_at, printed_text, moment_text}
+use Rattle.humantime.specs.Laws.Timestamps.{ReadsAs}
+use Rattle.humantime.specs.References.Timestamps.Printing.{places, IsSecondOf, fields_shown, fields_at, printed_text, moment_text}
+use Rattle.humantime.specs.Laws.ExactlyOne.{ExactlyOne}
 use Rattle.humantime.proofs.Timestamps.Reading.Bytes.{HoldsOfBytes, holds_before_zone}
 use Rattle.humantime.proofs.Dates.DatesOfDays.{date_of_is}
-use Rattle.humantime.proofs.Timestamps.Printing.Digits.{shown_digits, shown_places, shown_nanos, cut_nanos}
+use Rattle.humantime.proofs.Timestamps.Printing.Digits.{cut_fraction, shown_digits, shown_places, shown_nanos, cut_nanos}
 use Rattle.humantime.proofs.Timestamps.Printing.Order.{one_text}
 
 pub places_most : (p : Precision) → places p ≤ 9
@@ -104,14 +105,9 @@ printed_text_is x text h p = text_from x.moment x.places text p.few h p
 pub printed_reads : (t : ℤ) (k : ℕ) (text : List ℕ) → IsPrinted t k text → ReadsAs text (cut t k)
 printed_reads t k text p = grind (arith, common_steps)
 
-pub one_printed : (t : ℤ) (k : ℕ) → k ≤ 9 → IsPrintable t → OnePrinted t k
+pub one_printed : (t : ℤ) (k : ℕ) → k ≤ 9 → IsPrintable t → ExactlyOne (IsPrinted t k)
 one_printed (negsuc t) k small h = absurd (omega (arith, ints, h.0))
 one_printed (pos t) k small h =
     let within : t < year_10000 = omega (arith, ints, h.1) in
     let printed = found_printed t k small within in
-    record {
-      text = fields_text (fields_at t k);
-      printed = printed;
-      only = λ other p. one_text (pos t) k other (fields_text (fields_at t k)) p printed;
-      reads = printed_reads (pos t) k (fields_text (fields_at t k)) printed;
-    }
+    (fields_text (fields_at t k), printed, λ other p. one_text (pos t) k other (fields_text (fields_at t k)) p printed)

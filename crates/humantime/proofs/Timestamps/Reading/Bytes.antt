@@ -3,8 +3,7 @@ use Rattle.std.proofs.lemmas.Grind.{common_steps}
 use Rattle.std.proofs.Common.{ℕ, ◌≤◌, List, [], ◌∷◌, ◌++◌, arith}
 use Rattle.std.specs.Int.{IsInRange}
 use Rattle.std.specs.List.{AllByRecursion}
-use Rattle.humantime.proofs.Timestamps.Reading.Fractions.{digits_told}
-use Rattle.humantime.specs.References.Timestamps.Fractions.{AreDigits}
+use Rattle.humantime.proofs.Timestamps.Reading.Fractions.{AreDigits, digits_told}
 use Rattle.std.specs.Prelude.{Option, IsTrue}
 use Rattle.std.specs.Str.{all_ascii_digits}
 use Rattle.humantime.specs.Timestamps.Fields.{Fields, fraction_text, fraction_digits, date_time_text, IsWeak}

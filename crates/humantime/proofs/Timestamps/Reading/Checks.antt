@@ -1,26 +1,48 @@
 -- What the checks on a timestamp say, one by one.
 use Rattle.std.proofs.lemmas.Grind.{common_steps}
 use Rattle.std.proofs.Common.{◌≡◌, ℕ, ◌≤◌, List, [], ◌∷◌, length, get_or, drop, refl, arith, nat_le}
-use Rattle.std.specs.Prelude.{true, slice_index, None}
+use Rattle.std.specs.Prelude.{true, slice_index, Option, Some, None, ◌==◌, if◌then◌else◌}
+use Rattle.std.specs.Str.{byte, all_ascii_digits}
 use Rattle.std.proofs.lemmas.Bool.{and_parts}
-use Rattle.humantime.specs.References.Timestamps.Reading.{has_two, separator_of, fraction_of}
-use Rattle.humantime.specs.Timestamps.Fields.{separator_byte, fraction_text, fraction_digits}
-use Rattle.humantime.specs.Timestamps.Checks.{has_separator, has_signs, has_digits, in_range, fraction_part, has_point, are_digits_behind_point, weak_checks, first_failed}
+use Rattle.humantime.specs.References.Timestamps.Reading.{moment_at}
+use Rattle.humantime.specs.Timestamps.Fields.{Separator, Letter_T, Space, Fields, separator_byte, fraction_text, fraction_digits, moment_of}
+use Rattle.humantime.specs.Timestamps.Checks.{has_two, has_separator, has_signs, has_digits, numbers_of, are_in_range, zone_of, fraction_part, has_point, weak_checks, first_failed}
 
 -- no check of the weak form fails
 pub record Passes (b : List ℕ) : Type 0 where
   pub long : nat_le 19 (length b) ≡ true
   pub signs : has_signs b ≡ true
   pub digits : has_digits b ≡ true
-  pub range : in_range b ≡ true
+  pub range : are_in_range (numbers_of b) ≡ true
   pub point : has_point (fraction_part b) ≡ true
-  pub fraction : are_digits_behind_point (fraction_part b) ≡ true
+  pub fraction : all_ascii_digits (drop 1 (fraction_part b)) ≡ true
 
 pub passes_from : (b : List ℕ) → first_failed (weak_checks b) ≡ None → Passes b
 passes_from b h = grind (arith, common_steps)
 
 pub passes_none : (b : List ℕ) → Passes b → first_failed (weak_checks b) ≡ None
 passes_none b p = rw (p.long, p.signs, p.digits, p.range, p.point, p.fraction) refl
+
+-- what stands between date and time
+abbrev pub separator_of : List ℕ → Separator
+separator_of b = if slice_index b 10 == byte "T" then Letter_T else Space
+
+-- the digits behind the point, where there is one
+abbrev pub fraction_of : List ℕ → Option (List ℕ)
+fraction_of [] = None
+fraction_of (_ ∷ ds) = Some ds
+
+-- the parts at their places
+abbrev pub fields_of : List ℕ → Fields
+fields_of b = record {
+  date = (numbers_of b).date;
+  separator = separator_of b;
+  hour = (numbers_of b).hour;
+  minute = (numbers_of b).minute;
+  second = (numbers_of b).second;
+  fraction = fraction_of (fraction_part b);
+  zone = zone_of (drop 19 b);
+}
 
 -- the signs in their places
 pub record Signs (b : List ℕ) : Type 0 where
@@ -45,12 +67,8 @@ pub record Pairs (b : List ℕ) : Type 0 where
   pub second : has_two b 17 ≡ true
 
 pub pairs_told : (b : List ℕ) → has_digits b ≡ true → Pairs b
-unfolding has_digits has_two
+unfolding has_digits
 pairs_told b h = grind (arith, common_steps, and_parts)
-
-pub pairs_from : (b : List ℕ) → Pairs b → has_digits b ≡ true
-unfolding has_digits has_two
-pairs_from b p = grind (arith, common_steps)
 
 -- what stands between the seconds and the zone
 pub part_shown : (part : List ℕ) → has_point part ≡ true → part ≡ fraction_text (fraction_of part)
@@ -61,6 +79,9 @@ part_shown (c ∷ ds) h = grind (arith, common_steps)
 pub part_digits : (part : List ℕ) → fraction_digits (fraction_of part) ≡ drop 1 part
 part_digits [] = refl
 part_digits (c ∷ ds) = refl
+
+pub moment_of_fields : (b : List ℕ) → moment_of (fields_of b) ≡ moment_at b
+moment_of_fields b = rw (part_digits (fraction_part b)) refl
 
 -- the first 19 bytes and the rest
 pub nineteen : (b : List ℕ) → 19 ≤ length b

@@ -4,7 +4,7 @@ use Rattle.std.proofs.Common.{◌≡◌, ℕ, zero, suc, ◌+◌, ◌-◌, ◌*�
 use Rattle.std.specs.Prelude.{true, ◌&&◌}
 use Rattle.std.specs.Char.{is_ascii_digit, digit_value}
 use Rattle.std.specs.Int.{IsInRange}
-use Rattle.std.specs.List.{list_all}
+use Rattle.std.specs.List.{list_all, AllByRecursion}
 use Rattle.std.specs.Str.{all_ascii_digits}
 use Rattle.std.specs.Str.Parse.{digits_value_after}
 use Rattle.std.proofs.Math.Nat.{pow-suc, mul-le-mul_left, div-div-eq-div-mul, pow-le-pow_right, div-eq_of_lt}
@@ -12,9 +12,12 @@ use Rattle.std.proofs.lemmas.Bool.Decides.{nat_tests}
 use Rattle.std.proofs.lemmas.Str.{digit_value_digit}
 use Rattle.std.proofs.lemmas.Bool.{and_parts, and_from}
 use Rattle.humantime.specs.Timestamps.Fields.{fraction_nanos}
-use Rattle.humantime.specs.References.Timestamps.Fractions.{AreDigits, add_digits, weight}
 
 -- ---- Digits
+
+-- each byte is a digit
+abbrev pub AreDigits : List ℕ → Type 0
+AreDigits ds = AllByRecursion (λ c. IsInRange 48 57 c) ds
 
 pub is_digit_told : (c : ℕ) → is_ascii_digit c ≡ true → IsInRange 48 57 c
 is_digit_told c h = grind (arith, nat_tests)
@@ -41,6 +44,15 @@ digits_append [] es = refl
 digits_append (d ∷ ds) es = grind (arith, common_steps, (digits_append ds es))
 
 -- ---- The nanoseconds are the sum of the digits with their weights
+
+-- n and these digits, of which the first counts u, and each further one a tenth of the one before
+abbrev pub add_digits : ℕ → ℕ → List ℕ → ℕ
+add_digits n u [] = n
+add_digits n u (c ∷ cs) = add_digits (n + u * (c - 48)) (u / 10) cs
+
+-- how many nanoseconds a 1 at a place counts: none past the ninth
+abbrev pub weight : ℕ → ℕ
+weight i = 100_000_000 / 10 ^ i
 
 add_nothing : (n : ℕ) (ds : List ℕ) → add_digits n 0 ds ≡ n
 add_nothing n [] = refl

@@ -4,11 +4,10 @@ use Rattle.std.proofs.Common.{◌≡◌, ℕ, ◌+◌, ◌-◌, ◌%◌, ◌^◌
 use Rattle.std.specs.Char.{is_ascii_digit}
 use Rattle.std.specs.List.{list_all}
 use Rattle.std.specs.Prelude.{◌==◌, codes, slice_index}
-use Rattle.std.proofs.Math.Bool.{and_assoc}
 use Rattle.std.proofs.lemmas.Bool.{agree_below_at}
 use lib.Lanes.{zip2, mask_l, top}
-use Rattle.humantime.specs.Timestamps.Checks.{has_separator, has_signs, has_digits}
-use Rattle.humantime.specs.References.Timestamps.Reading.{has_two, has_front_digits, is_shaped_front, has_seconds}
+use Rattle.humantime.specs.Timestamps.Checks.{has_two, has_separator, has_signs, has_digits}
+use Rattle.humantime.specs.References.Timestamps.Reading.{has_seconds}
 use Rattle.humantime.proofs.Timestamps.Reading.Checks.{nineteen}
 
 -- the least byte of each place, and how far a byte may be above it
@@ -40,34 +39,31 @@ colon_lane a h = agree_below_at (λ c. not (top 7 (beyond 0 (above c 58)))) (λ 
 any_lane : (a : ℕ) → a < 256 → not (top 7 (beyond 255 (above a 32))) ≡ true
 any_lane a h = agree_below_at (λ c. not (top 7 (beyond 255 (above c 32)))) (λ _. true) 256 a refl h
 
--- the signs may be tested behind the digits
-signs_last : (s t u a b c d e f g h i j k l : Bool)
-    → (a && (b && (c && (d && (s && (e && (f && (t && (g && (h && (true && (i && (j && (u && (k && (l && true))))))))))))))))
-    ≡ ((a && (b && (c && (d && (e && (f && (g && (h && (i && (j && (k && (l && true)))))))))))) && s && t && u)
-signs_last s t u a b c d e f g h i j k l = grind (arith, common_steps)
+-- the signs may be tested first, and the seconds among the others
+signs_first : (s t u v w a b c d e f g h i j k l : Bool)
+    → ((a && (b && (c && (d && (s && (e && (f && (t && (g && (h && (true && (i && (j && (u && (k && (l && true)))))))))))))))) && (v && w))
+    ≡ ((s && t && true && u && v) && ((a && b) && ((c && d) && ((e && f) && ((g && h) && ((i && j) && ((k && l) && (w && true))))))))
+signs_first s t u v w a b c d e f g h i j k l = grind (arith, common_steps)
 
-lanes_are : (b : List ℕ) → 19 ≤ length b → ((k : ℕ) → Fits w8 (get_or b k 0)) → list_all not (lanes b) ≡ is_shaped_front b
-unfolding has_front_digits is_shaped_front
-lanes_are b long fits =
+lanes_are : (b : List ℕ) → 19 ≤ length b → ((k : ℕ) → Fits w8 (get_or b k 0)) → has_separator b ≡ true
+    → (list_all not (lanes b) && has_seconds b) ≡ (has_signs b && has_digits b)
+unfolding has_signs has_digits has_seconds has_two
+lanes_are b long fits separator =
     let shown = λ (k : ℕ). is_ascii_digit (slice_index b k) in
     let digit = λ (k : ℕ). digit_lane (get_or b k 0) (fits k).fits in
     let dash = λ (k : ℕ). dash_lane (get_or b k 0) (fits k).fits in
+    let lanes_shown : list_all not (lanes b) ≡ _ =
     ap (λ (bytes : List ℕ). list_all not (lanes bytes)) (nineteen b long)
     ∙ (λ i. list_all (λ (x : Bool). x) (
     digit 0 i ∷ digit 1 i ∷ digit 2 i ∷ digit 3 i ∷ dash 4 i ∷ digit 5 i ∷ digit 6 i ∷ dash 7 i
     ∷ digit 8 i ∷ digit 9 i ∷ any_lane (get_or b 10 0) (fits 10).fits i ∷ digit 11 i ∷ digit 12 i
     ∷ colon_lane (get_or b 13 0) (fits 13).fits i ∷ digit 14 i ∷ digit 15 i ∷ []
-    ))
-    ∙ signs_last (slice_index b 4 == 45) (slice_index b 7 == 45) (slice_index b 13 == 58) (shown 0) (shown 1) (shown 2) (shown 3)
-    (shown 5) (shown 6) (shown 8) (shown 9) (shown 11) (shown 12) (shown 14) (shown 15)
+    )) in
+    rw separator (
+    ap (λ front. front && has_seconds b) lanes_shown
+    ∙ signs_first (slice_index b 4 == 45) (slice_index b 7 == 45) (slice_index b 13 == 58) (slice_index b 16 == 58) (has_two b 17)
+    (shown 0) (shown 1) (shown 2) (shown 3) (shown 5) (shown 6) (shown 8) (shown 9) (shown 11) (shown 12) (shown 14) (shown 15))
 
-pub front_tested : (b : List ℕ) → 19 ≤ length b → ((k : ℕ) → Fits w8 (get_or b k 0)) → eqb (mask_l (lanes b) % 2 ^ 64) 0 ≡ is_shaped_front b
-front_tested b long fits = grind (arith, common_steps, lanes_are)
-
--- the tests of the parts are those of the signs and of the digits
-joined : (digits p q r s two : Bool) → ((digits && p && q && r) && (s && two)) ≡ ((p && q && true && r && s) && (digits && two))
-joined digits p q r s two = grind (arith, common_steps, and_assoc)
-
-pub shape_of_parts : (b : List ℕ) → has_separator b ≡ true → (is_shaped_front b && has_seconds b) ≡ (has_signs b && has_digits b)
-unfolding has_digits has_front_digits has_seconds has_separator has_signs has_two is_shaped_front
-shape_of_parts b separator = grind (arith, common_steps, joined)
+pub shape_of_parts : (b : List ℕ) → 19 ≤ length b → ((k : ℕ) → Fits w8 (get_or b k 0)) → has_separator b ≡ true
+    → (eqb (mask_l (lanes b) % 2 ^ 64) 0 && has_seconds b) ≡ (has_signs b && has_digits b)
+shape_of_parts b long fits separator = grind (arith, common_steps, (lanes_are b long fits separator))

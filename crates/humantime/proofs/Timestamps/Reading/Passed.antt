@@ -1,16 +1,15 @@
 -- A text that shows parts passes the checks, and the parts at its places are these.
 use Rattle.std.proofs.lemmas.Grind.{common_steps}
-use Rattle.std.proofs.Common.{◌≡◌, ℕ, ◌+◌, ◌/◌, ◌%◌, ◌≤◌, List, length, refl, sym, subst, arith}
+use Rattle.std.proofs.Common.{◌≡◌, ℕ, ◌+◌, ◌/◌, ◌%◌, ◌≤◌, List, length, drop, refl, sym, subst, arith}
 use Rattle.std.specs.Prelude.{true, slice_index, Option, Some, None, IsTrue}
 use Rattle.std.specs.Str.{all_ascii_digits}
 use Rattle.std.proofs.lemmas.Bool.{le-leb}
 use Rattle.humantime.specs.Calendar.{IsDate}
-use Rattle.humantime.specs.References.Timestamps.Reading.{has_two, separator_of, fraction_of, fields_of}
 use Rattle.humantime.specs.Timestamps.Fields.{Fields, fraction_text, fraction_digits, fields_text, IsWeak}
-use Rattle.humantime.specs.Timestamps.Checks.{number_between, numbers_of, has_separator, has_signs, in_range, fraction_part, has_point, are_digits_behind_point}
+use Rattle.humantime.specs.Timestamps.Checks.{has_two, has_digits, number_between, numbers_of, has_separator, has_signs, are_in_range, fraction_part, has_point}
 use Rattle.humantime.proofs.Dates.Years.{valid_told}
 use Rattle.humantime.proofs.Timestamps.Reading.Bytes.{month_most, holds_of_fraction}
-use Rattle.humantime.proofs.Timestamps.Reading.Checks.{Passes, Pairs, pairs_from}
+use Rattle.humantime.proofs.Timestamps.Reading.Checks.{Passes, separator_of, fraction_of, fields_of}
 use Rattle.humantime.proofs.Timestamps.Reading.Ends.{IsPlain, plain_bytes, before_zone_found, zone_found}
 use Rattle.humantime.proofs.Timestamps.Reading.Places.{number_of_two, number_of_four, bounds}
 
@@ -29,11 +28,11 @@ year_back b n long h first second third fourth = grind (arith, common_steps, num
 -- what stands between the seconds and the zone
 record Ending (part : List ℕ) (fraction : Option (List ℕ)) : Type 0 where
   point : has_point part ≡ true
-  digits : are_digits_behind_point part ≡ true
+  digits : all_ascii_digits (drop 1 part) ≡ true
   read : fraction ≡ fraction_of part
 
 ending : (fraction : Option (List ℕ)) → IsTrue (all_ascii_digits (fraction_digits fraction)) → Ending (fraction_text fraction) fraction
-unfolding has_point are_digits_behind_point
+unfolding has_point
 ending None digits = record { point = refl; digits = refl; read = refl }
 ending (Some ds) digits = record { point = grind (arith, common_steps); digits = digits; read = refl }
 
@@ -42,7 +41,7 @@ unfolding has_signs has_separator
 separator_back f = grind (arith, common_steps)
 
 written_passes : (f : Fields) → IsWeak (fields_text f) f → Passes (fields_text f) × (f ≡ fields_of (fields_text f))
-unfolding in_range
+unfolding are_in_range has_digits
 written_passes f w =
     let b = fields_text f in
     let long : 19 ≤ length b = omega arith in
@@ -58,19 +57,10 @@ written_passes f w =
     let date_is : f.date ≡ (numbers_of b).date = λ j. record { year = year.2 j; month = month.1 j; day = day.1 j } in
     let plain = holds_of_fraction IsPlain plain_bytes f.fraction w.fraction in
     let end : Ending (fraction_part b) f.fraction = subst (λ (part : List ℕ). Ending part f.fraction) (sym (before_zone_found (fraction_text f.fraction) f.zone plain)) (ending f.fraction w.fraction) in
-    let pairs : Pairs b = record {
-      century = year.0;
-      year = year.1;
-      month = month.0;
-      day = day.0;
-      hour = hour.0;
-      minute = minute.0;
-      second = second.0;
-    } in
     let passes : Passes b = record {
       long = le-leb 19 (length b) long;
       signs = separator.0;
-      digits = pairs_from b pairs;
+      digits = rw (year.0, year.1, month.0, day.0, hour.0, minute.0, second.0) refl;
       range = (bounds _ _ _ _).1 (subst IsDate date_is w.date, omega (arith, hour.1, w.hour), omega (arith, minute.1, w.minute), omega (arith, second.1, w.second));
       point = end.point;
       fraction = end.digits;

@@ -4,12 +4,11 @@ use Rattle.std.proofs.Common.{◌≡◌, ℕ, suc, ◌+◌, ◌-◌, ◌*◌, �
 use Rattle.std.specs.Prelude.{◌↔◌, Bool, true, IsTrue, ◌&&◌, nat_le, slice_index, slice_range}
 use Rattle.std.specs.Char.{is_ascii_digit}
 use Rattle.std.specs.Int.{IsInRange}
+use Rattle.std.specs.Str.{all_ascii_digits}
 use Rattle.std.proofs.Math.Seq.{drop-cons}
 use Rattle.std.proofs.lemmas.Bool.Decides.{nat_tests}
 use Rattle.std.proofs.lemmas.Str.{digit_value_digit}
-use Rattle.humantime.specs.Timestamps.Checks.{number_between}
-use Rattle.humantime.specs.References.Timestamps.Reading.{has_two}
-use Rattle.humantime.specs.References.Timestamps.Fractions.{has_three}
+use Rattle.humantime.specs.Timestamps.Checks.{has_two, number_between}
 use Rattle.humantime.proofs.Timestamps.Reading.Fractions.{is_digit_told, digits_told}
 
 -- the two digits at place k
@@ -52,13 +51,13 @@ three_bytes b k long =
     rw (next_byte b k (k + 3) (omega arith) long, last_two b (k + 1) (k + 3) (omega arith) long, third) refl
 
 pub has_three_told : (b : List ℕ) (k : ℕ) → k + 3 ≤ length b
-    → has_three b k ≡ (is_ascii_digit (slice_index b k) && is_ascii_digit (slice_index b (k + 1)) && is_ascii_digit (slice_index b (k + 2)))
-unfolding has_three
+    → all_ascii_digits (slice_range b k (k + 3))
+    ≡ (is_ascii_digit (slice_index b k) && is_ascii_digit (slice_index b (k + 1)) && is_ascii_digit (slice_index b (k + 2)))
 has_three_told b k long = rw (three_bytes b k long) (grind (arith, common_steps))
 
-pub number_of_three : (b : List ℕ) (k : ℕ) → k + 3 ≤ length b → has_three b k ≡ true
+pub number_of_three : (b : List ℕ) (k : ℕ) → k + 3 ≤ length b → all_ascii_digits (slice_range b k (k + 3)) ≡ true
     → number_between b k (k + 3) ≡ (slice_index b k - 48) * 100 + (slice_index b (k + 1) - 48) * 10 + (slice_index b (k + 2) - 48)
-unfolding has_three number_between
+unfolding number_between
 number_of_three b k long h =
     let p = digits_told (slice_index b k ∷ slice_index b (k + 1) ∷ slice_index b (k + 2) ∷ []) (rw (three_bytes b k long) at h) in
     rw (three_bytes b k long)

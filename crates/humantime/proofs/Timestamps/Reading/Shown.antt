@@ -4,9 +4,8 @@ use Rattle.std.proofs.Common.{◌≡◌, ℕ, ◌+◌, ◌/◌, ◌%◌, ◌≤�
 use Rattle.std.specs.Prelude.{true, slice_index}
 use Rattle.std.proofs.lemmas.Bool.{leb-true}
 use Rattle.humantime.specs.Timestamps.Fields.{fraction_text, zone_text, fields_text, IsWeak}
-use Rattle.humantime.specs.Timestamps.Checks.{zone_of, number_between, in_range, fraction_part, are_digits_behind_point}
-use Rattle.humantime.specs.References.Timestamps.Reading.{has_two, fraction_of, fields_of}
-use Rattle.humantime.proofs.Timestamps.Reading.Checks.{Passes, signs_told, pairs_told, part_shown, part_digits, nineteen}
+use Rattle.humantime.specs.Timestamps.Checks.{has_two, zone_of, number_between, are_in_range, fraction_part}
+use Rattle.humantime.proofs.Timestamps.Reading.Checks.{Passes, fraction_of, fields_of, signs_told, pairs_told, part_shown, part_digits, nineteen}
 use Rattle.humantime.proofs.Timestamps.Reading.Ends.{zone_shown}
 use Rattle.humantime.proofs.Timestamps.Reading.Places.{has_two_told, number_of_two, number_of_four, bounds}
 
@@ -38,7 +37,7 @@ written_shown b p =
     ∷ hour.0 i ∷ hour.1 i ∷ signs.colon13 i ∷ minute.0 i ∷ minute.1 i ∷ signs.colon16 i ∷ second.0 i ∷ second.1 i ∷ end i)
 
 pub fields_weak : (b : List ℕ) → Passes b → IsWeak b (fields_of b)
-unfolding in_range are_digits_behind_point
+unfolding are_in_range
 fields_weak b p =
     let range = (bounds _ _ _ _).0 p.range in
     record {

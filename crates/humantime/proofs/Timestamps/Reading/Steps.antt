@@ -1,7 +1,7 @@
 -- The digits of a fraction, read from left to right: one by one, and in groups of three.
 use Rattle.std.proofs.lemmas.Grind.{common_steps}
 use Rattle.std.proofs.Common.{◌≡◌, ℕ, zero, suc, ◌+◌, ◌-◌, ◌*◌, ◌/◌, ◌%◌, ◌^◌, ◌<◌, ◌≤◌, List, [], ◌∷◌, ◌++◌, length, get_or, take, refl, sym, ◌∙◌, arith}
-use Rattle.std.specs.Prelude.{Bool, true, false, Some, None, if◌then◌else◌, slice_range}
+use Rattle.std.specs.Prelude.{true, false, slice_range}
 use Rattle.std.specs.Char.{is_ascii_digit}
 use Rattle.std.specs.Str.{all_ascii_digits}
 use Rattle.std.proofs.Math.Seq.{take-add}
@@ -9,8 +9,8 @@ use Rattle.std.proofs.lemmas.List.{take_all, length-take-le}
 use Rattle.std.proofs.lemmas.List.Folds.{list_all_at}
 use Rattle.humantime.specs.Timestamps.Fields.{fraction_nanos}
 use Rattle.humantime.specs.Timestamps.Checks.{number_between}
-use Rattle.humantime.specs.References.Timestamps.Fractions.{add_digits, weight, has_three, IsRead}
-use Rattle.humantime.proofs.Timestamps.Reading.Fractions.{digits_told, digits_listed, digits_append, nanos_added, nanos_bound, add_append, no_weight}
+use Rattle.humantime.specs.References.Timestamps.Reading.{IsRead}
+use Rattle.humantime.proofs.Timestamps.Reading.Fractions.{add_digits, weight, digits_told, digits_listed, digits_append, nanos_added, nanos_bound, add_append, no_weight}
 use Rattle.humantime.proofs.Timestamps.Reading.Places.{next_byte, no_byte, three_bytes, has_three_told, number_of_three}
 
 pub nothing_read : fraction_nanos [] ≡ 0
@@ -65,27 +65,26 @@ three_places n u v a b c e =
     let ones : u / 10 / 10 ≡ v = omega arith in
     rw (ones, tens, e) (grind arith)
 
-some_told : (t : Bool) (n m : ℕ) → Some n ≡ (if t then Some m else None) → (t ≡ true) × (n ≡ m)
-some_told t n m h = grind (arith, common_steps)
-
 pub read_three : (text : List ℕ) (i nanos n : ℕ) → i % 3 ≡ 0 → IsRead text i nanos → i + 3 ≤ length text
-    → Some n ≡ (if has_three text i then Some (number_between text i (i + 3)) else None) → IsRead text (i + 3) (nanos + weight (i + 2) * n)
-unfolding has_three
-read_three text i nanos n group so_far within three =
-    let told = some_told (has_three text i) n (number_between text i (i + 3)) three in
+    → all_ascii_digits (slice_range text i (i + 3)) ≡ true → n ≡ number_between text i (i + 3)
+    → IsRead text (i + 3) (nanos + weight (i + 2) * n)
+read_three text i nanos n group so_far within digits is =
     let a = get_or text i 0 in
     let b = get_or text (i + 1) 0 in
     let c = get_or text (i + 2) 0 in
     let bytes = three_bytes text i within in
-    let value : n ≡ (a - 48) * 100 + (b - 48) * 10 + (c - 48) = told.1 ∙ number_of_three text i within told.0 in
+    let value : n ≡ (a - 48) * 100 + (b - 48) * 10 + (c - 48) = is ∙ number_of_three text i within digits in
     let sum = three_places nanos (weight i) (weight (i + 2)) (a - 48) (b - 48) (c - 48) (group_counts (i / 3) i (omega arith)) in
-    rw (value, ← sum) (read_next text (a ∷ b ∷ c ∷ []) i (i + 3) nanos so_far (omega arith) within bytes (rw bytes at told.0))
+    rw (value, ← sum) (read_next text (a ∷ b ∷ c ∷ []) i (i + 3) nanos so_far (omega arith) within bytes (rw bytes at digits))
 
 pub three_bound : (text : List ℕ) (i nanos n : ℕ) → i % 3 ≡ 0 → IsRead text i nanos → i + 3 ≤ length text
-    → Some n ≡ (if has_three text i then Some (number_between text i (i + 3)) else None) → nanos + weight (i + 2) * n < 1_000_000_000
-three_bound text i nanos n group so_far within three = read_bound text (i + 3) (nanos + weight (i + 2) * n) (read_three text i nanos n group so_far within three)
+    → all_ascii_digits (slice_range text i (i + 3)) ≡ true → n ≡ number_between text i (i + 3)
+    → nanos + weight (i + 2) * n < 1_000_000_000
+three_bound text i nanos n group so_far within digits is =
+    read_bound text (i + 3) (nanos + weight (i + 2) * n) (read_three text i nanos n group so_far within digits is)
 
-pub read_no_three : (text : List ℕ) (i : ℕ) → i + 3 ≤ length text → has_three text i ≡ false → all_ascii_digits text ≡ false
+pub read_no_three : (text : List ℕ) (i : ℕ) → i + 3 ≤ length text
+    → all_ascii_digits (slice_range text i (i + 3)) ≡ false → all_ascii_digits text ≡ false
 read_no_three text i within other = grind (arith, common_steps, (has_three_told text i within), read_stop)
 
 pub ruleset steps_of_one = (read_none, read_more, read_bound, read_stop, read_all)

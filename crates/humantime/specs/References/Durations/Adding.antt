@@ -2,8 +2,7 @@
 use Rattle.std.specs.Prelude.{ℕ, ◌+◌, ◌*◌, ◌/◌, ◌%◌, ◌^◌, ◌&&◌, ◌==◌, nat_le, Option, Some, None, if◌then◌else◌}
 use Rattle.humantime.specs.Durations.Characters.{u64_max}
 use Rattle.humantime.specs.Durations.Units.{Addition}
-use Rattle.humantime.specs.Durations.Accepted.{amount, addition_nanos, of_kind, times}
-use Rattle.humantime.specs.References.Durations.Reading.{room}
+use Rattle.humantime.specs.Durations.Accepted.{amount, addition_nanos, of_kind, times, room}
 
 -- the sum with one addition, where there is room for it
 abbrev pub add_one : ℕ → Addition → Option ℕ

@@ -4,6 +4,7 @@ use Rattle.std.specs.Char.{len_utf8}
 use Rattle.humantime.specs.declared.duration.reading.amount.Fraction.{Fraction}
 use Rattle.humantime.specs.Durations.Characters.{is_ws, is_numeric, is_point, begins, leading, decimal_value, significant, u64_max}
 use Rattle.humantime.specs.Durations.Faults.{number_of, after_number}
+pub use Rattle.humantime.specs.Durations.Faults.{ends_span}
 use Rattle.humantime.specs.References.Durations.Scales.{Counted, counted}
 
 -- The bytes of a text end with those of the rest, which is a text of its own.
@@ -58,8 +59,3 @@ fraction_read rest =
 abbrev pub bare : Option Counted → Bool
 bare None = false
 bare (Some p) = p.2 == 0
-
--- whether a digit, white space or the end follows
-abbrev pub ends_span : List ℕ → Bool
-ends_span [] = true
-ends_span (c ∷ cs) = is_numeric c

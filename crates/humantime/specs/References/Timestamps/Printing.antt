@@ -25,11 +25,6 @@ abbrev pub last_digits : ℕ → ℕ → List ℕ
 last_digits zero n = []
 last_digits (suc k) n = digit (n / 10 ^ k % 10) ∷ last_digits k n
 
--- nothing for no digits, and else the first k of nine
-abbrev pub cut_fraction : ℕ → ℕ → Option (List ℕ)
-cut_fraction n zero = None
-cut_fraction n (suc k) = Some (take (suc k) (last_digits 9 n))
-
 -- the second of the moment t is this one of this date
 pub record IsSecondOf (date : Date) (time : ℕ) (t : ℤ) : Type 0 where
   pub date_exists : IsDate date
@@ -44,7 +39,7 @@ fields_shown date time nanos k = record {
   hour = time / 3_600;
   minute = time / 60 % 60;
   second = time % 60;
-  fraction = cut_fraction nanos k;
+  fraction = if k == 0 then None else Some (take k (last_digits 9 nanos));
   zone = Letter_Z;
 }
 

@@ -1,17 +1,15 @@
 //! Durations printed.
 
-ghost use Rattle.std.specs.Prelude.{◌≡◌, ◌≤◌, ◌<◌, ◌↔◌, ℕ, List, [], length, take, chars, IfOk, IfErr, OnErr, Some};
+ghost use Rattle.std.specs.Prelude.{◌≡◌, ◌≤◌, ◌↔◌, ℕ, List, take, chars, IfOk, IfErr, OnErr, Some};
 ghost use Rattle.std.specs.Borrow.{sem};
 ghost use Rattle.std.specs.Str.{IsUtf8};
 ghost use Rattle.humantime.specs.Buffers.{KeptAtErr};
-ghost use Rattle.humantime.specs.Values.{nanos_per_second};
 ghost use Rattle.humantime.specs.Durations.Faults.{Fault, HasFault};
 ghost use Rattle.humantime.specs.References.Durations.Answers.{canonical_answer};
 ghost use Rattle.humantime.specs.Durations.Errors.{told_text, PointsInto};
 ghost use Rattle.humantime.specs.References.Durations.Seen.{seen};
 ghost use Rattle.humantime.specs.Durations.Counts.{Canon, IsCanonicalOf};
-ghost use Rattle.humantime.specs.References.Durations.Printing.{with_seconds, with_nanos, duration_text};
-ghost use Rattle.humantime.specs.References.Durations.Writing.{written, HasWritten};
+ghost use Rattle.humantime.specs.References.Durations.Printing.{duration_text};
 
 use crate::buffer::front;
 use crate::duration::error::DurationError;
@@ -85,15 +83,29 @@ impl FormattedDuration {
 
     /// Writes the printed text to the front of the buffer, and says how long it is.
     #[inline(never)]
-    #[tactic(auto, unfolding(crate::specs::References::Durations::Printing::written_text), using(crate::proofs::Durations::Printing::CountTexts::written_is_text))]
+    #[tactic(auto, using(crate::proofs::Durations::Printing::CountTexts::written_is_text, crate::proofs::Durations::Printing::DecimalLengths::decimal_twelve, crate::proofs::Durations::Printing::DecimalLengths::decimal_two, crate::proofs::Durations::Printing::DecimalLengths::decimal_three))]
     fn write(&self, buf: &mut [u8; 64]) -> usize
         ensures fits { result ≤ 64 }
         ensures text { take result buf.new ≡ duration_text self.now }
         ensures utf8 { IsUtf8 (take result buf.new) }
     {
         let mut writer = Writer::new(buf);
-        write_seconds(&mut writer, self.value.as_secs());
-        write_nanos(&mut writer, self.value.subsec_nanos());
+        let secs = self.value.as_secs();
+        let of_year = secs % sizes::SECONDS_PER_YEAR;
+        let of_month = of_year % sizes::SECONDS_PER_MONTH;
+        let of_day = of_month % sizes::SECONDS_PER_DAY;
+        let of_hour = of_day % sizes::SECONDS_PER_HOUR;
+        writer.push_plural(secs / sizes::SECONDS_PER_YEAR, "year");
+        writer.push_plural(of_year / sizes::SECONDS_PER_MONTH, "month");
+        writer.push_plural(of_month / sizes::SECONDS_PER_DAY, "day");
+        writer.push_count(of_day / sizes::SECONDS_PER_HOUR, "h");
+        writer.push_count(of_hour / sizes::SECONDS_PER_MINUTE, "m");
+        writer.push_count(of_hour % sizes::SECONDS_PER_MINUTE, "s");
+        let nanos = self.value.subsec_nanos() as u64;
+        let of_milli = nanos % sizes::NANOS_PER_MILLI;
+        writer.push_count(nanos / sizes::NANOS_PER_MILLI, "ms");
+        writer.push_count(of_milli / sizes::NANOS_PER_MICRO, "µs");
+        writer.push_count(of_milli % sizes::NANOS_PER_MICRO, "ns");
         writer.push_zero_if_empty();
         writer.finish()
     }
@@ -161,41 +173,4 @@ fn write_canonical<'a>(s: &'a str, buf: &mut [u8; 64]) -> Result<usize, Duration
 {
     let duration = parse_duration(s)?;
     Ok(format_duration(duration).write(buf))
-}
-
-/// Writes the counts of whole seconds.
-#[inline(always)]
-#[tactic(auto, unfolding(crate::specs::References::Durations::Printing::with_seconds), using(crate::proofs::Durations::Printing::DecimalLengths::decimal_twelve, crate::proofs::Durations::Printing::DecimalLengths::decimal_two))]
-fn write_seconds(writer: &mut Writer<'_>, secs: u64)
-    requires end { writer.old.end ≡ 0 }
-    requires room { length writer.old.bytes.now ≡ 64 }
-    ensures written { HasWritten writer.old writer.new (with_seconds (written writer.old) secs) }
-    ensures end { writer.new.end ≤ 45 }
-{
-    let of_year = secs % sizes::SECONDS_PER_YEAR;
-    let of_month = of_year % sizes::SECONDS_PER_MONTH;
-    let of_day = of_month % sizes::SECONDS_PER_DAY;
-    let of_hour = of_day % sizes::SECONDS_PER_HOUR;
-    writer.push_plural(secs / sizes::SECONDS_PER_YEAR, "year");
-    writer.push_plural(of_year / sizes::SECONDS_PER_MONTH, "month");
-    writer.push_plural(of_month / sizes::SECONDS_PER_DAY, "day");
-    writer.push_count(of_day / sizes::SECONDS_PER_HOUR, "h");
-    writer.push_count(of_hour / sizes::SECONDS_PER_MINUTE, "m");
-    writer.push_count(of_hour % sizes::SECONDS_PER_MINUTE, "s");
-}
-
-/// Writes the counts of less than a second.
-#[inline(always)]
-#[tactic(auto, unfolding(crate::specs::References::Durations::Printing::with_nanos), using(crate::proofs::Durations::Printing::DecimalLengths::decimal_three))]
-fn write_nanos(writer: &mut Writer<'_>, nanos: u32)
-    requires nanos { nanos < nanos_per_second }
-    requires end { writer.old.end ≤ 45 }
-    requires room { length writer.old.bytes.now ≡ 64 }
-    ensures { HasWritten writer.old writer.new (with_nanos (written writer.old) nanos) }
-{
-    let nanos = nanos as u64;
-    let of_milli = nanos % sizes::NANOS_PER_MILLI;
-    writer.push_count(nanos / sizes::NANOS_PER_MILLI, "ms");
-    writer.push_count(of_milli / sizes::NANOS_PER_MICRO, "µs");
-    writer.push_count(of_milli % sizes::NANOS_PER_MICRO, "ns");
 }

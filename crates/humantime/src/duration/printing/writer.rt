@@ -1,6 +1,6 @@
 //! A text written to the front of a caller's buffer.
 
-ghost use Rattle.std.specs.Prelude.{◌≡◌, ◌<◌, ◌≤◌, ◌+◌, [], length, take, decimal};
+ghost use Rattle.std.specs.Prelude.{◌≡◌, ◌<◌, ◌≤◌, ◌+◌, ◌==◌, if◌then◌else◌, true, false, codes, [], ◌∷◌, length, take, decimal};
 ghost use Rattle.std.specs.Str.{IsUtf8};
 ghost use Rattle.std.proofs.Props.{props};
 
@@ -16,7 +16,8 @@ pub(crate) struct Writer<'b> {
 }
 
 impl<'b> Writer<'b> {
-    ghost use Rattle.humantime.specs.References.Durations.Printing.{with_plural, without_plural, with_count, or_zero};
+    ghost use Rattle.humantime.specs.Durations.Counts.{printed_counts};
+    ghost use Rattle.humantime.specs.References.Durations.Printing.{behind};
     ghost use Rattle.humantime.specs.References.Durations.Writing.{written, Appends, HasWritten};
 
     /// Nothing written yet.
@@ -109,10 +110,9 @@ impl<'b> Writer<'b> {
 
     /// Writes a count and its unit, with a space before it where it is not the first; a count of zero is left out.
     #[inline(always)]
-    #[tactic(auto, unfolding(crate::specs::References::Durations::Printing::with_count))]
     pub(crate) fn push_count(&mut self, count: u64, unit: &str)
         requires fits { self.old.end + 1 + length (decimal count) + length unit.now ≤ length self.old.bytes.now }
-        ensures written { HasWritten self.old self.new (with_count (written self.old) count (without_plural unit.now)) }
+        ensures written { HasWritten self.old self.new (behind (written self.old) (printed_counts (count ∷ []) ((unit.now, false) ∷ []))) }
         ensures end { self.new.end ≤ self.old.end + 1 + length (decimal count) + length unit.now }
         ensures first { self.old.end ≡ 0 → self.new.end ≤ length (decimal count) + length unit.now }
     {
@@ -128,10 +128,9 @@ impl<'b> Writer<'b> {
 
     /// Writes a count and its unit as `push_count` does, with an `s` behind the unit of more than one.
     #[inline(always)]
-    #[tactic(auto, unfolding(crate::specs::References::Durations::Printing::with_count))]
     pub(crate) fn push_plural(&mut self, count: u64, unit: &str)
         requires fits { self.old.end + 2 + length (decimal count) + length unit.now ≤ length self.old.bytes.now }
-        ensures written { HasWritten self.old self.new (with_count (written self.old) count (with_plural unit.now)) }
+        ensures written { HasWritten self.old self.new (behind (written self.old) (printed_counts (count ∷ []) ((unit.now, true) ∷ []))) }
         ensures end { self.new.end ≤ self.old.end + 2 + length (decimal count) + length unit.now }
         ensures first { self.old.end ≡ 0 → self.new.end ≤ 1 + length (decimal count) + length unit.now }
     {
@@ -145,7 +144,7 @@ impl<'b> Writer<'b> {
     #[inline(always)]
     pub(crate) fn push_zero_if_empty(&mut self)
         requires { 2 ≤ length self.old.bytes.now }
-        ensures { HasWritten self.old self.new (or_zero (written self.old)) }
+        ensures { HasWritten self.old self.new (if length (written self.old) == 0 then codes "0s" else written self.old) }
     {
         if self.end == 0 {
             self.push("0s");

@@ -1,19 +1,20 @@
-use Rattle.std.proofs.Common.{ap, subst}
+use Rattle.std.proofs.Common.{[], ap, subst}
 use Rattle.std.proofs.lemmas.List.{take_all}
 use Rattle.std.proofs.lemmas.Result.{MatchResult-from_err}
 use Rattle.std.specs.Io.KnownBytes.{Appends}
 use Rattle.humantime_cli.specs.Writes.{Writes, AppendsFront, joined}
-use Rattle.humantime_cli.proofs.WritesLemmas.{front_of_line, both_written}
+use Rattle.humantime_cli.proofs.WritesLemmas.{front_of_line, front_written}
 use Rattle.humantime_cli.proofs.writing.write_line.Goals as goal
 
-pub returns-in_err-write_all : goal.returns-in_err-write_all
+pub returns-in_err-write_all-clause-written : goal.returns-in_err-write_all-clause-written
 unfolding Writes
-returns-in_err-write_all g c =
-    let front = subst (AppendsFront _ _) c.as_bytes.ensures.value c.in_err-write_all.ensures.0 in
-    let line = front_of_line _ _ _ c.args.texts.now c.loop-text.text-index _ c.loop-text-test.true c.loop-text.invariant.0 front in
-    MatchResult-from_err _ _ _ c.from_residual.ensures.0 (λ _. (line, c.in_err-write_all.ensures.1))
+returns-in_err-write_all-clause-written g c =
+    let front = subst (AppendsFront _ _) c.as_bytes.ensures.value c.in_err-write_all.ensures.written in
+    MatchResult-from_err _ _ _ c.from_residual.ensures.0 (λ _. (front_of_line _ _ _ c.args.texts.now c.loop-text.text-index _ c.loop-text-test.true c.loop-text.invariant.0 front))
 
-pub returns : goal.returns
-returns g c =
+pub returns-in_err-write_all-2-clause-written : goal.returns-in_err-write_all-2-clause-written
+unfolding Writes
+returns-in_err-write_all-2-clause-written g c =
     let all = ap joined (take_all c.loop-text.text-index c.args.texts.now c.loop-text-test.false) in
-    both_written _ _ _ _ _ _ _ (subst (Appends _ _) all c.loop-text.invariant.0) c.write_all-2.ensures
+    let taken = subst (Appends _ _) all c.loop-text.invariant.0 in
+    MatchResult-from_err _ _ _ c.from_residual-in_err-write_all-2.ensures.0 (λ _. front_written _ _ _ _ _ [] taken c.in_err-write_all-2.ensures.written)

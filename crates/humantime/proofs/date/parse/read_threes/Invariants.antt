@@ -1,5 +1,5 @@
 use Rattle.std.proofs.Common.{◌≡◌, ◌-◌, ◌%◌, length}
-use Rattle.humantime.specs.References.Timestamps.Fractions.{IsRead}
+use Rattle.humantime.specs.References.Timestamps.Reading.{IsRead}
 use Rattle.humantime.proofs.date.parse.read_threes.Given as goal
 
 abbrev pub invariant-loop-at : goal.invariant-loop-at
