@@ -5,7 +5,7 @@ use Rattle.std.specs.Result.{result_map_both}
 use Rattle.humantime.specs.declared.date.error.TimestampError.{TimestampError}
 use Rattle.humantime.specs.Prelude.{Fault, HasFault, IsCanonicalOf, IsPrintable, fault_message, timestamp_message, canonical_answer, strict_answer, weak_answer, places_of, shortest_text}
 use Rattle.humantime.proofs.Theorems.{canonical_again, one_stamp_outcome, printed_moment_reads, places_of_bound, strict_printable, weak_printable}
-use Rattle.humantime_cli.specs.Answers.{Answers, OneAnswer, Tells, TellsMoment, Command, Duration, Strict, Weak, words_of}
+use Rattle.humantime_cli.specs.Answers.{Answers, OneAnswer, Tells, TellsMoment, Command, Duration, Strict, Weak}
 
 -- a canonical text or a fault, as the command for durations tells it
 pub tells_duration : (text : List ℕ) (read : Result (List ℕ) Fault) → ((t : List ℕ) → (read ≡ Ok t) ↔ IsCanonicalOf text t)
@@ -26,15 +26,13 @@ each_read (Err e) value all = tt
 
 -- what is no two words is no command and its text
 pub not_two : (words : List (List ℕ)) → length words ≢ 2 → Answers words None
-not_two words other Duration text same = other (ap length same)
-not_two words other Strict text same = other (ap length same)
-not_two words other Weak text same = other (ap length same)
+not_two words other name command text same = other (ap length same)
 
 -- nor are two of which the first is no command's name
 pub unnamed : (name : List ℕ) {text : List ℕ} → name ≢ codes "duration" → name ≢ codes "strict" → name ≢ codes "weak" → Answers (name ∷ text ∷ []) None
-unnamed name duration strict weak Duration text same = duration (cc)
-unnamed name duration strict weak Strict text same = strict (cc)
-unnamed name duration strict weak Weak text same = weak (cc)
+unnamed name duration strict weak _ Duration text same = duration (cc)
+unnamed name duration strict weak _ Strict text same = strict (cc)
+unnamed name duration strict weak _ Weak text same = weak (cc)
 
 -- what is told of a moment that was read, as a function
 abbrev moment_told : Result ℤ TimestampError → Result (List ℕ) (List ℕ)
@@ -54,22 +52,22 @@ words_told ((b ∷ name) ∷ text ∷ words) =
     else (if b == 115 then moment_told (strict_answer text) else moment_told (weak_answer text))
 words_told words = Err []
 
-one_told : (command : Command) (text : List ℕ) (told : Result (List ℕ) (List ℕ)) → Tells command text told → told ≡ words_told (words_of command text)
+one_told : {name : List ℕ} (command : Command name) (text : List ℕ) (told : Result (List ℕ) (List ℕ)) → Tells command text told → told ≡ words_told (name ∷ text ∷ [])
 one_told Duration text (Ok printed) is = ap (result_map_both (λ t. t) fault_message) (sym (((canonical_again text).text printed).1 is))
 one_told Duration text (Err message) (fault, has, same) =
     ap Err same ∙ ap (result_map_both (λ t. t) fault_message) (sym (((canonical_again text).fault fault).1 has))
 one_told Strict text told tells =
     let one = one_stamp_outcome text in
-    one_moment (strict_answer text) told (tells_moment told (λ t is. ((one.strict_value t).1 is, strict_printable text t is)) (λ e. (one.strict_error e).1) tells)
+    one_moment (strict_answer text) told (tells_moment told (λ t is. ((one.1.value t).1 is, strict_printable text t is)) (λ e. (one.1.error e).1) tells)
 one_told Weak text told tells =
     let one = one_stamp_outcome text in
-    one_moment (weak_answer text) told (tells_moment told (λ t is. ((one.weak_value t).1 is, weak_printable text t is)) (λ e. (one.weak_error e).1) tells)
+    one_moment (weak_answer text) told (tells_moment told (λ t is. ((one.0.value t).1 is, weak_printable text t is)) (λ e. (one.0.error e).1) tells)
 
 told_of : (words : List (List ℕ)) (told : Result (List ℕ) (List ℕ)) → Answers words (Some told) → told ≡ words_told words
-told_of words told (command, text, same, tells) = one_told command text told tells ∙ ap words_told (sym same)
+told_of words told (name, command, text, same, tells) = one_told command text told tells ∙ ap words_told (sym same)
 
 pub one_answer : (words : List (List ℕ)) → OneAnswer words
 one_answer words (Some told) (Some other) answers also = ap Some (told_of words other also ∙ sym (told_of words told answers))
-one_answer words (Some told) None (command, text, same, tells) none = absurd (none command text same)
-one_answer words None (Some told) none (command, text, same, tells) = absurd (none command text same)
+one_answer words (Some told) None (name, command, text, same, tells) none = absurd (none name command text same)
+one_answer words None (Some told) none (name, command, text, same, tells) = absurd (none name command text same)
 one_answer words None None none also = refl

@@ -40,8 +40,8 @@ help = codes "--help" ∷ []
 
 pub duration_printed : Answers hours (Some (Ok (codes "2h 37m")))
 unfolding humantime_on_literals
-duration_printed = (Duration, codes "2h 37min", refl, ((canonical_again (codes "2h 37min")).text (codes "2h 37m")).0 refl)
+duration_printed = (codes "duration", Duration, codes "2h 37min", refl, ((canonical_again (codes "2h 37min")).text (codes "2h 37m")).0 refl)
 
 pub fault_explained : Answers fault (Some (Err (codes "invalid character at 1")))
 unfolding humantime_on_literals
-fault_explained = (Duration, codes "1~", refl, (InvalidCharacter 1, ((canonical_again (codes "1~")).fault (InvalidCharacter 1)).0 refl, refl))
+fault_explained = (codes "duration", Duration, codes "1~", refl, (InvalidCharacter 1, ((canonical_again (codes "1~")).fault (InvalidCharacter 1)).0 refl, refl))

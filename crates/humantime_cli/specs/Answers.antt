@@ -10,17 +10,11 @@ use Rattle.humantime_cli.specs.Writes.{AppendsFront, line}
 abbrev pub texts : List (Bor (List ℕ)) → List (List ℕ)
 texts words = map (λ word. word.now) words
 
--- The commands.
-pub data Command : Type 0 where
-  Duration : Command
-  Strict : Command
-  Weak : Command
-
--- the words that are this command and its text
-abbrev pub words_of : Command → List ℕ → List (List ℕ)
-words_of Duration text = codes "duration" ∷ text ∷ []
-words_of Strict text = codes "strict" ∷ text ∷ []
-words_of Weak text = codes "weak" ∷ text ∷ []
+-- The commands, by their names.
+pub data Command : List ℕ → Type 0 where
+  Duration : Command (codes "duration")
+  Strict : Command (codes "strict")
+  Weak : Command (codes "weak")
 
 -- what is told of a text's moment: it is printed, with no fraction where its second is whole and else with nine digits,
 -- or else the error's message
@@ -29,7 +23,7 @@ TellsMoment IsMoment IsError (Ok printed) = (moment : ℤ) × IsMoment moment ×
 TellsMoment IsMoment IsError (Err message) = (error : TimestampError) × IsError error × (message ≡ timestamp_message error)
 
 -- what a command tells of its text: what it prints, or the message of the first thing that is wrong
-abbrev pub Tells : Command → List ℕ → Result (List ℕ) (List ℕ) → Type 0
+abbrev pub Tells : {name : List ℕ} → Command name → List ℕ → Result (List ℕ) (List ℕ) → Type 0
 Tells Duration text (Ok printed) = IsCanonicalOf text printed
 Tells Duration text (Err message) = (fault : Fault) × HasFault (chars text) fault × (message ≡ fault_message fault)
 Tells Strict text told = TellsMoment (IsStrictMoment text) (λ error. first_failed (strict_checks text) ≡ Some error) told
@@ -41,8 +35,9 @@ Answer = Option (Result (List ℕ) (List ℕ))
 
 -- the answer to the words
 abbrev pub Answers : List (List ℕ) → Answer → Type 0
-Answers words (Some told) = (command : Command) × (text : List ℕ) × (words ≡ words_of command text) × Tells command text told
-Answers words None = (command : Command) (text : List ℕ) → words ≢ words_of command text
+Answers words (Some told) =
+    (name : List ℕ) × (command : Command name) × (text : List ℕ) × (words ≡ name ∷ text ∷ []) × Tells command text told
+Answers words None = (name : List ℕ) → Command name → (text : List ℕ) → words ≢ name ∷ text ∷ []
 
 -- its status, and its bytes for standard output and for standard error
 abbrev pub outcome : Answer → ℕ × List ℕ × List ℕ
@@ -61,7 +56,8 @@ pub data EndsWith (answer : Answer) (status : ℕ) (old_out new_out old_err new_
       → EndsWith answer status old_out new_out old_err new_err
   -- a write failed: one writer took a front of the answer, and not all of it, and the other took nothing
   Cut : status ≡ 3
-      → (AppendsFront old_out new_out (outcome answer).1 × Keeps old_err new_err) ⊎ (Keeps old_out new_out × AppendsFront old_err new_err (outcome answer).2)
+      → (AppendsFront old_out new_out (outcome answer).1 × Keeps old_err new_err)
+      ⊎ (Keeps old_out new_out × AppendsFront old_err new_err (outcome answer).2)
       → EndsWith answer status old_out new_out old_err new_err
 
 -- it ends with the answer to the words

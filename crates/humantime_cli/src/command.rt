@@ -46,7 +46,7 @@ pub fn run<O: Write, E: Write>(words: &[&str], out: &mut O, err: &mut E) -> u8
     ensures ends { Ends (texts words.now) result (O.contents out.old) (O.contents out.new) (E.contents err.old) (E.contents err.new) }
     ensures one { OneAnswer (texts words.now) }
 {
-    answer_words(words, out, err, &mut Failed::new(false)).unwrap_or(WRITE_FAILED)
+    answer_words(words, out, err, &mut Failed::none()).unwrap_or(WRITE_FAILED)
 }
 
 /// Answers the words, and gives the answer's status.
@@ -76,7 +76,8 @@ fn answer_duration<O: Stream, E: Stream>(
     failed: &mut Failed,
 ) -> Result<u8, WriteFailed>
     requires { failed.old ≡ false }
-    ensures ends { EndsWith (Some (result_map_both (λ text. text) fault_message (told_text read.entry))) (result_unwrap_or result 3) (O.contents out.old) (O.contents out.new) (E.contents err.old) (E.contents err.new) }
+    ensures ends { EndsWith (Some (result_map_both (λ text. text) fault_message (told_text read.entry))) (result_unwrap_or result 3)
+        (O.contents out.old) (O.contents out.new) (E.contents err.old) (E.contents err.new) }
     ensures noted { failed.new ≡ is_err result }
 {
     match read {

@@ -6,7 +6,8 @@ ghost use Rattle.humantime_cli.specs.Writes.{Writes, line, joined};
 
 use crate::command::stream::{Failed, Stream, WriteFailed};
 
-/// Writes the texts one after the other, and a line feed, and gives the status. Nothing more is written after a write that failed.
+/// Writes the texts one after the other, and a line feed, and gives the status. Nothing more is written after a write that
+/// failed.
 #[tactic(auto, unfolding(crate::specs::Writes::Writes))]
 pub(crate) fn write_line<W: Stream>(
     to: &mut W,

@@ -36,7 +36,8 @@ pub record ItemsDecide (text : List ℕ) : Type 0 where
   pub accepted : (spans : List Span) (stop : Option Fault) → Items text spans stop → text ≢ bare_zero
       → (v : ℕ) → Accepted text v ↔ ((stop ≡ None) × WithinLimits spans × (value spans ≡ v))
   -- its fault, where the spans are within the limits, is the one that stops them
-  pub stopped : (spans : List Span) (e : Fault) → Items text spans (Some e) → text ≢ bare_zero → WithinLimits spans → HasFault text e
+  pub stopped : (spans : List Span) (e : Fault) → Items text spans (Some e) → text ≢ bare_zero
+      → WithinLimits spans → HasFault text e
   -- so where an error is the first item, it is the answer
   pub first : (lent others : List (Result Lent Fault)) (e : Fault) → AreItems text lent → lent ≡ Err e ∷ others
       → text ≢ bare_zero → duration_answer text ≡ Err e

@@ -1,21 +1,15 @@
 -- The laws of timestamps. A text is its bytes, called b.
-use Rattle.std.specs.Prelude.{◌≡◌, ◌↔◌, ℕ, ℤ, Bool, List, slice_index, None, IsTrue, Ok, Err, Some}
+use Rattle.std.specs.Prelude.{◌≡◌, ◌↔◌, ℕ, ℤ, pos, Bool, List, slice_index, None, IsTrue, Result, Ok, Err, Some}
 use Rattle.std.specs.Cmp.Lexicographic.{slice_cmp}
 use Rattle.std.specs.Ordering.{nat_cmp, int_cmp}
 use Rattle.std.specs.Str.{byte}
 use Rattle.humantime.specs.declared.date.error.TimestampError.{TimestampError}
-use Rattle.humantime.specs.Timestamps.Fields.{Fields, IsWeak, IsStrict, IsWeakMoment, IsStrictMoment}
+use Rattle.humantime.specs.Timestamps.Fields.{Fields, IsWeak, IsStrict, moment_of, IsWeakMoment, IsStrictMoment}
 use Rattle.humantime.specs.Timestamps.Printed.{cut, IsPrinted, IsPrintable}
-use Rattle.humantime.specs.Timestamps.Checks.{ends_in_zone, first_failed, weak_checks, strict_checks}
+use Rattle.humantime.specs.Timestamps.Checks.{ends_in_zone, first_failed}
 use Rattle.humantime.specs.References.Timestamps.Reading.{strict_answer, weak_answer}
 use Rattle.humantime.specs.References.Timestamps.Printing.{moment_text}
 use Rattle.humantime.specs.Laws.ExactlyOne.{ExactlyOne}
-
--- some parts are shown exactly where no check fails, and then no others
-abbrev pub OneTimestamp : List (Bool × TimestampError) → (Fields → Type 0) → Type 0
-OneTimestamp checks IsShown =
-    (((f : Fields) × IsShown f) ↔ (first_failed checks ≡ None))
-    × ((f g : Fields) → IsShown f → IsShown g → f ≡ g)
 
 -- a `T` between date and time, and `Z` or `+00:00` at the end
 abbrev pub IsMarked : List ℕ → Type 0
@@ -32,14 +26,17 @@ pub record ReadsAs (bytes : List ℕ) (t : ℤ) : Type 0 where
   pub strict : IsStrictMoment bytes t
   pub weak : IsWeakMoment bytes t
 
--- a text's one outcome in each form, and that the answer as a function is this outcome
-pub record StampOutcome (text : List ℕ) : Type 0 where
-  pub weak : OneTimestamp (weak_checks text) (IsWeak text)
-  pub strict : OneTimestamp (strict_checks text) (IsStrict text)
-  pub weak_value : (t : ℤ) → (weak_answer text ≡ Ok t) ↔ IsWeakMoment text t
-  pub weak_error : (e : TimestampError) → (weak_answer text ≡ Err e) ↔ (first_failed (weak_checks text) ≡ Some e)
-  pub strict_value : (t : ℤ) → (strict_answer text ≡ Ok t) ↔ IsStrictMoment text t
-  pub strict_error : (e : TimestampError) → (strict_answer text ≡ Err e) ↔ (first_failed (strict_checks text) ≡ Some e)
+-- A text's one outcome in one form: its checks, the parts that it shows, and the answer as a function.
+pub record OneTimestamp (checks : List (Bool × TimestampError)) (IsShown : Fields → Type 0)
+    (answer : Result ℤ TimestampError) : Type 0 where
+  -- some parts are shown exactly where no check fails
+  pub some : ((f : Fields) × IsShown f) ↔ (first_failed checks ≡ None)
+  -- and then no others
+  pub only : (f g : Fields) → IsShown f → IsShown g → f ≡ g
+  -- the answer is their moment
+  pub value : (t : ℤ) → (answer ≡ Ok t) ↔ ((f : Fields) × IsShown f × (t ≡ pos (moment_of f)))
+  -- or the error of the first check that fails
+  pub error : (e : TimestampError) → (answer ≡ Err e) ↔ (first_failed checks ≡ Some e)
 
 -- the strict form is the weak one with a `T` and a zone: of the parts, of the moment, and of the answer
 pub record StrictForm (text : List ℕ) : Type 0 where
@@ -47,17 +44,22 @@ pub record StrictForm (text : List ℕ) : Type 0 where
   pub parts : (f : Fields) → IsStrict text f ↔ (IsWeak text f × IsMarked text)
   -- and its moment is the same
   pub moment : (t : ℤ) → IsStrictMoment text t ↔ (IsWeakMoment text t × IsMarked text)
-  -- so are the answers
+  -- so what is answered in strict form is answered in weak form, and the text has the marks
   pub weak : (t : ℤ) → strict_answer text ≡ Ok t → weak_answer text ≡ Ok t
   pub marked : (t : ℤ) → strict_answer text ≡ Ok t → IsMarked text
+  -- and what is answered in weak form, of a text with these marks, is answered in strict form
   pub strict : (t : ℤ) → weak_answer text ≡ Ok t → IsMarked text → strict_answer text ≡ Ok t
 
 -- the one text of the moment t, printed with k digits, which `Display` writes, and what both parsers read it as
 pub record PrintedMoment (t : ℤ) (k : ℕ) : Type 0 where
   -- one text is this moment, printed, and no other
   pub one : IsPrintable t → ExactlyOne (IsPrinted t k)
+  -- it is the text that `Display` writes
   pub displayed : (text : List ℕ) → (moment_text t k ≡ Some text) ↔ (IsPrintable t × IsPrinted t k text)
+  -- in both forms it reads as the moment, cut
   pub reads : (text : List ℕ) → IsPrinted t k text → ReadsAs text (cut t k)
+  -- and so both parsers answer
   pub strict : (text : List ℕ) → IsPrinted t k text → strict_answer text ≡ Ok (cut t k)
   pub weak : (text : List ℕ) → IsPrinted t k text → weak_answer text ≡ Ok (cut t k)
+  -- with nine digits nothing is cut
   pub whole : cut t 9 ≡ t

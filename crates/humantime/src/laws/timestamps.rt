@@ -3,7 +3,10 @@
 ghost use Rattle.std.specs.Prelude.{◌↔◌, ◌<ℤ◌, ℕ, List, IsTrue};
 ghost use Rattle.std.specs.Cmp.Lexicographic.{slice_cmp};
 ghost use Rattle.std.specs.Ordering.{is_lt, nat_cmp};
-ghost use Rattle.humantime.specs.Laws.Timestamps.{InOrder, PrintedMoment, StampOutcome, StrictForm};
+ghost use Rattle.humantime.specs.Laws.Timestamps.{InOrder, OneTimestamp, PrintedMoment, StrictForm};
+ghost use Rattle.humantime.specs.References.Timestamps.Reading.{strict_answer, weak_answer};
+ghost use Rattle.humantime.specs.Timestamps.Checks.{strict_checks, weak_checks};
+ghost use Rattle.humantime.specs.Timestamps.Fields.{IsStrict, IsWeak};
 ghost use Rattle.humantime.specs.Timestamps.Printed.{IsPrinted};
 
 use crate::date::Rfc3339Timestamp;
@@ -29,7 +32,8 @@ pub fn strict_is_weak(s: &str)
 /// one_stamp_outcome("2018-02-30 00:28:07")
 /// ```
 pub fn one_stamp_outcome(s: &str)
-    ensures { StampOutcome s.now }
+    ensures weak { OneTimestamp (weak_checks s.now) (IsWeak s.now) (weak_answer s.now) }
+    ensures strict { OneTimestamp (strict_checks s.now) (IsStrict s.now) (strict_answer s.now) }
 {
     let _ = s;
 }

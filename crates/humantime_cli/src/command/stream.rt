@@ -33,11 +33,12 @@ impl Model for Failed {
 }
 
 impl Failed {
-    pub(super) fn new(noted: bool) -> Failed
-        ensures { result ≡ noted }
+    /// No write has failed yet. Nothing but [`Stream::attempt`] can note that one has.
+    pub(super) fn none() -> Failed
+        ensures { result ≡ false }
     {
         Failed {
-            noted: Snapshot::of(&noted),
+            noted: Snapshot::of(&false),
         }
     }
 }
@@ -62,7 +63,7 @@ impl<W: Write> Stream for W {
         match self.write(bytes) {
             Ok(count) if count > 0 => Ok(count),
             _ => {
-                *failed = Failed::new(true);
+                failed.noted = Snapshot::of(&true);
                 Err(WriteFailed)
             }
         }

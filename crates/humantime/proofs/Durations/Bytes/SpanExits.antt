@@ -46,8 +46,7 @@ may_be_word rest w = grind (arith, common_steps)
 
 same_bare : (fraction : Option (List ℕ)) → is_some_and (λ ds. length ds == 0) fraction ≡ bare (option_map counted fraction)
 same_bare None = refl
-same_bare (Some []) = refl
-same_bare (Some (d ∷ ds)) = grind (arith, common_steps)
+same_bare (Some ds) = refl
 
 bare_as : (rest : List ℕ) (b : Bool) → bare (option_map counted (fraction_of rest)) ≡ b → is_some_and (λ ds. length ds == 0) (fraction_of rest) ≡ b
 bare_as rest b e = same_bare (fraction_of rest) ∙ e

@@ -28,10 +28,11 @@ joined a b = record {
   sum = texts.joined_sum a b;
   overflow = texts.joined_overflow a b;
   one = texts.joined_sum_or_overflow a b;
-  answer = λ u v x y some_a some_b. elim (texts.joined_sum_or_overflow a b u v (accepted_from_outcome a u x) (accepted_from_outcome b v y) some_a some_b) [
-    | inl sum ↦ inl (outcome_accepted (a ++ b) (u + v) sum)
-    | inr f ↦ inr (outcome_fault (a ++ b) NumberOverflow f)
-  ];
+  answer = λ u v x y some_a some_b.
+      elim (texts.joined_sum_or_overflow a b u v (accepted_from_outcome a u x) (accepted_from_outcome b v y) some_a some_b) [
+        | inl sum ↦ inl (outcome_accepted (a ++ b) (u + v) sum)
+        | inr f ↦ inr (outcome_fault (a ++ b) NumberOverflow f)
+      ];
 }
 
 pub reordered : (a b : List ℕ) → KeepValueReordered a b
@@ -40,7 +41,8 @@ reordered a b =
     record {
       value = value;
       answer = λ ss ts u v h k moved x y. value ss ts u v h k moved (accepted_from_outcome a u x) (accepted_from_outcome b v y);
-      alike = λ r u v x y. value r.spans r.others u v r.reads r.other_reads r.moved (accepted_from_outcome a u x) (accepted_from_outcome b v y);
+      alike = λ r u v x y.
+          value r.spans r.others u v r.reads r.other_reads r.moved (accepted_from_outcome a u x) (accepted_from_outcome b v y);
       zero = λ spans h. not_zero bare_zero spans h refl;
     }
 

@@ -43,44 +43,31 @@ strict_told b = record {
   same = λ f s. (weak_told b).same f s.weak;
 }
 
-one_of : (b : List ℕ) (checks : List (Bool × TimestampError)) (IsShown : Fields → Type 0) → AreTold b checks IsShown → OneTimestamp checks IsShown
-one_of b checks IsShown told = (
-  ((λ m. told.passes m.0 m.1), (λ h. (fields_of b, told.shown h))),
-  (λ f g v w. told.same f v ∙ sym (told.same g w)),
-)
+-- so the answer by the checks is the one outcome
+told_outcome : (b : List ℕ) (checks : List (Bool × TimestampError)) (IsShown : Fields → Type 0) → AreTold b checks IsShown
+    → OneTimestamp checks IsShown (moment_or_error (first_failed checks) (moment_at b))
+told_outcome b checks IsShown told =
+    let answer = moment_told (first_failed checks) (moment_at b) in
+    record {
+      some = ((λ m. told.passes m.0 m.1), (λ h. (fields_of b, told.shown h)));
+      only = λ f g v w. told.same f v ∙ sym (told.same g w);
+      value = λ t. (
+        (λ h. (fields_of b, told.shown ((answer t).0 h).0, ((answer t).0 h).1 ∙ ap pos (sym (moment_of_fields b)))),
+        (λ m. (answer t).1 (
+           told.passes m.0 m.1,
+           m.2 ∙ ap (λ (f : Fields). pos (moment_of f)) (told.same m.0 m.1) ∙ ap pos (moment_of_fields b),
+         )),
+      );
+      error = failed_told (first_failed checks) (moment_at b);
+    }
 
-value_of : (b : List ℕ) (checks : List (Bool × TimestampError)) (IsShown : Fields → Type 0) → AreTold b checks IsShown → (t : ℤ)
-    → (moment_or_error (first_failed checks) (moment_at b) ≡ Ok t) ↔ ((f : Fields) × IsShown f × (t ≡ pos (moment_of f)))
-value_of b checks IsShown told t =
-    let answer = moment_told (first_failed checks) (moment_at b) t in (
-      (λ h. (fields_of b, told.shown (answer.0 h).0, (answer.0 h).1 ∙ ap pos (sym (moment_of_fields b)))),
-      (λ m. answer.1 (
-        told.passes m.0 m.1,
-        m.2 ∙ ap (λ (f : Fields). pos (moment_of f)) (told.same m.0 m.1) ∙ ap pos (moment_of_fields b),
-      )),
-    )
-
-pub one_weak : (b : List ℕ) → OneTimestamp (weak_checks b) (IsWeak b)
-one_weak b = one_of b (weak_checks b) (IsWeak b) (weak_told b)
-
-pub one_strict : (b : List ℕ) → OneTimestamp (strict_checks b) (IsStrict b)
-one_strict b = one_of b (strict_checks b) (IsStrict b) (strict_told b)
-
-pub weak_value : (b : List ℕ) (t : ℤ) → (weak_answer b ≡ Ok t) ↔ IsWeakMoment b t
+pub weak_outcome : (b : List ℕ) → OneTimestamp (weak_checks b) (IsWeak b) (weak_answer b)
 unfolding weak_answer
-weak_value b = value_of b (weak_checks b) (IsWeak b) (weak_told b)
+weak_outcome b = told_outcome b (weak_checks b) (IsWeak b) (weak_told b)
 
-pub weak_error : (b : List ℕ) (e : TimestampError) → (weak_answer b ≡ Err e) ↔ (first_failed (weak_checks b) ≡ Some e)
-unfolding weak_answer
-weak_error b = failed_told (first_failed (weak_checks b)) (moment_at b)
-
-pub strict_value : (b : List ℕ) (t : ℤ) → (strict_answer b ≡ Ok t) ↔ IsStrictMoment b t
+pub strict_outcome : (b : List ℕ) → OneTimestamp (strict_checks b) (IsStrict b) (strict_answer b)
 unfolding strict_answer
-strict_value b = value_of b (strict_checks b) (IsStrict b) (strict_told b)
-
-pub strict_error : (b : List ℕ) (e : TimestampError) → (strict_answer b ≡ Err e) ↔ (first_failed (strict_checks b) ≡ Some e)
-unfolding strict_answer
-strict_error b = failed_told (first_failed (strict_checks b)) (moment_at b)
+strict_outcome b = told_outcome b (strict_checks b) (IsStrict b) (strict_told b)
 
 -- the answer of the strict form, where its own check fails and where it does not
 pub strict_refused : (b : List ℕ) → has_marks b ≡ false → Err InvalidFormat ≡ strict_answer b

@@ -7,9 +7,9 @@ use Rattle.std.specs.Cmp.Lexicographic.{slice_cmp}
 use Rattle.std.specs.Ordering.{nat_cmp, int_cmp, is_le, is_lt}
 use Rattle.std.proofs.lemmas.Int.{ints}
 use Rattle.humantime.specs.declared.date.error.TimestampError.{TimestampError}
-use Rattle.humantime.specs.Timestamps.Fields.{IsWeakMoment, IsStrictMoment}
+use Rattle.humantime.specs.Timestamps.Fields.{IsWeak, IsStrict, IsWeakMoment, IsStrictMoment}
 use Rattle.humantime.specs.Timestamps.Checks.{weak_checks, strict_checks, first_failed}
-use Rattle.humantime.specs.Laws.Timestamps.{StampOutcome, StrictForm, PrintedMoment}
+use Rattle.humantime.specs.Laws.Timestamps.{OneTimestamp, StrictForm, PrintedMoment}
 use Rattle.humantime.specs.Timestamps.Printed.{MomentToPrint, cut, IsPrinted, IsPrintable}
 use Rattle.humantime.specs.References.Timestamps.Printing.{moment_text, printed_text}
 use Rattle.humantime.specs.References.Timestamps.Reading.{weak_answer, strict_answer}
@@ -25,28 +25,23 @@ pub use Rattle.humantime.proofs.Timestamps.Printing.Printed.{places_of_bound}
 
 -- ---- Timestamps read
 
-pub one_stamp_outcome : (text : List ℕ) → StampOutcome text
-one_stamp_outcome text = record {
-  weak = read.one_weak text;
-  strict = read.one_strict text;
-  weak_value = read.weak_value text;
-  weak_error = read.weak_error text;
-  strict_value = read.strict_value text;
-  strict_error = read.strict_error text;
-}
+pub one_stamp_outcome : (text : List ℕ)
+    → OneTimestamp (weak_checks text) (IsWeak text) (weak_answer text)
+    × OneTimestamp (strict_checks text) (IsStrict text) (strict_answer text)
+one_stamp_outcome text = (read.weak_outcome text, read.strict_outcome text)
 
 -- what a text reads as, from what it shows
 pub weak_read : (text : List ℕ) (t : ℤ) → IsWeakMoment text t → weak_answer text ≡ Ok t
-weak_read text t shown = (read.weak_value text t).1 shown
+weak_read text t shown = ((read.weak_outcome text).value t).1 shown
 
 pub weak_failed : (text : List ℕ) (e : TimestampError) → first_failed (weak_checks text) ≡ Some e → weak_answer text ≡ Err e
-weak_failed text e failed = (read.weak_error text e).1 failed
+weak_failed text e failed = ((read.weak_outcome text).error e).1 failed
 
 pub strict_read : (text : List ℕ) (t : ℤ) → IsStrictMoment text t → strict_answer text ≡ Ok t
-strict_read text t shown = (read.strict_value text t).1 shown
+strict_read text t shown = ((read.strict_outcome text).value t).1 shown
 
 pub strict_failed : (text : List ℕ) (e : TimestampError) → first_failed (strict_checks text) ≡ Some e → strict_answer text ≡ Err e
-strict_failed text e failed = (read.strict_error text e).1 failed
+strict_failed text e failed = ((read.strict_outcome text).error e).1 failed
 
 -- a moment in strict form is one in weak form
 pub strict_read_weak : (text : List ℕ) (t : ℤ) → IsStrictMoment text t → weak_answer text ≡ Ok t
@@ -58,9 +53,9 @@ strict_is_weak text =
     record {
       parts = strict.strict_is_weak text;
       moment = law;
-      weak = λ t given. weak_read text t ((law t).0 ((read.strict_value text t).0 given)).0;
-      marked = λ t given. ((law t).0 ((read.strict_value text t).0 given)).1;
-      strict = λ t given marked. strict_read text t ((law t).1 ((read.weak_value text t).0 given, marked));
+      weak = λ t given. weak_read text t ((law t).0 (((read.strict_outcome text).value t).0 given)).0;
+      marked = λ t given. ((law t).0 (((read.strict_outcome text).value t).0 given)).1;
+      strict = λ t given marked. strict_read text t ((law t).1 (((read.weak_outcome text).value t).0 given, marked));
     }
 
 -- ---- Timestamps printed

@@ -5,6 +5,7 @@ use Rattle.humantime.specs.declared.duration.reading.amount.Fraction.{Fraction}
 use Rattle.humantime.specs.Durations.Characters.{is_ws, is_numeric, is_point, begins, leading, decimal_value, significant, u64_max}
 use Rattle.humantime.specs.Durations.Faults.{number_of, after_number}
 pub use Rattle.humantime.specs.Durations.Faults.{ends_span}
+use Rattle.humantime.specs.Durations.Accepted.{is_some_and}
 use Rattle.humantime.specs.References.Durations.Scales.{Counted, counted}
 
 -- The bytes of a text end with those of the rest, which is a text of its own.
@@ -57,5 +58,4 @@ fraction_read rest =
 
 -- whether there is a point without digits
 abbrev pub bare : Option Counted → Bool
-bare None = false
-bare (Some p) = p.2 == 0
+bare fraction = is_some_and (λ p. p.2 == 0) fraction

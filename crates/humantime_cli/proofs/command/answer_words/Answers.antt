@@ -17,19 +17,19 @@ answer_moment-requires-in-weak-clause-printable g c = each_read _ c.parse_rfc333
 pub returns-in-duration-clause-ends : goal.returns-in-duration-clause-ends
 returns-in-duration-clause-ends g c =
     let tells = tells_duration _ _ c.canonical.ensures.text c.canonical.ensures.fault in
-    (_, (Duration, _, grind (arith, common_steps), tells), c.answer_duration.ensures.ends)
+    (_, (_, Duration, _, grind (arith, common_steps), tells), c.answer_duration.ensures.ends)
 
 pub returns-in-strict-clause-ends : goal.returns-in-strict-clause-ends
 returns-in-strict-clause-ends g c =
     let ends = c.answer_moment.ensures.ends in
     let tells = tells_moment ends.0 (λ t. (c.parse_rfc3339.ensures.value t).0) (λ e. (c.parse_rfc3339.ensures.error e).0) ends.1 in
-    (_, (Strict, _, grind (arith, common_steps), tells), ends.2)
+    (_, (_, Strict, _, grind (arith, common_steps), tells), ends.2)
 
 pub returns-in-weak-clause-ends : goal.returns-in-weak-clause-ends
 returns-in-weak-clause-ends g c =
     let ends = c.answer_moment-in-weak.ensures.ends in
     let tells = tells_moment ends.0 (λ t. (c.parse_rfc3339_weak.ensures.value t).0) (λ e. (c.parse_rfc3339_weak.ensures.error e).0) ends.1 in
-    (_, (Weak, _, grind (arith, common_steps), tells), ends.2)
+    (_, (_, Weak, _, grind (arith, common_steps), tells), ends.2)
 
 pub returns-in_default-clause-ends : goal.returns-in_default-clause-ends
 returns-in_default-clause-ends g c =

@@ -1,7 +1,8 @@
-use Rattle.humantime.proofs.Timestamps.Laws.Reading.{weak_value, weak_error}
+use Rattle.humantime.proofs.Timestamps.Laws.Reading.{weak_outcome}
 use Rattle.humantime.proofs.date.parse.parse_rfc3339_weak.Goals as goal
 
 pub returns : goal.returns
 returns c =
     let is = rw c.as_bytes.ensures.value at c.read_timestamp.ensures in
-    record { value = λ t. rw is (weak_value c.args.s.now t); error = λ e. rw is (weak_error c.args.s.now e); answer = is }
+    let one = weak_outcome c.args.s.now in
+    record { value = λ t. rw is (one.value t); error = λ e. rw is (one.error e); answer = is }

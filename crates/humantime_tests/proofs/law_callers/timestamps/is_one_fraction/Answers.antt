@@ -9,5 +9,5 @@ equal_test m n same = grind (arith, nat_tests)
 
 pub returns : goal.returns
 returns c f g first second digits other =
-    let same = c.one_stamp_outcome.ensures.weak.1 f g first second in
+    let same = c.one_stamp_outcome.ensures.weak.only f g first second in
     equal_test _ _ (sym digits ∙ (ap (λ (h : Fields). length (unwrap_or h.fraction [])) same ∙ other))
