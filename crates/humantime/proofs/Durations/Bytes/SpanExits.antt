@@ -9,7 +9,7 @@ use Rattle.humantime.specs.Durations.Faults.{number_of, after_number, behind_poi
 use Rattle.humantime.specs.References.Durations.Lending.{spelled, trimmed}
 use Rattle.humantime.specs.References.Durations.Reading.{too_long, stop_at}
 use Rattle.humantime.specs.References.Durations.Scales.{Counted, counted}
-use Rattle.humantime.specs.References.Durations.Scanning.{bare, ends_span, number_at, fraction_read}
+use Rattle.humantime.specs.References.Durations.Scanning.{ends_span, number_at, fraction_read}
 use Rattle.humantime.specs.Durations.Accepted.{is_some_and, too_long}
 use Rattle.humantime.proofs.Durations.Bytes.Trimming.{spelled_at}
 use Rattle.humantime.proofs.Durations.Reading.Runs.{leading-past}
@@ -43,6 +43,10 @@ exit_no_letter text rest s w n = rw (s, no_letter_begins (after_fraction rest) w
 -- a letter begins what may be a word
 may_be_word : (rest : List ℕ) → (word_of rest ≡ [] → after_word rest ≡ []) → begins (λ c. not (is_letter c)) (after_fraction rest) ≡ false
 may_be_word rest w = grind (arith, common_steps)
+
+-- a point without digits, as the code tells it
+abbrev pub bare : Option Counted → Bool
+bare fraction = is_some_and (λ p. p.2 == 0) fraction
 
 same_bare : (fraction : Option (List ℕ)) → is_some_and (λ ds. length ds == 0) fraction ≡ bare (option_map counted fraction)
 same_bare None = refl

@@ -4,7 +4,7 @@ use Rattle.std.proofs.Common.{◌≡◌, ◌≢◌, ◌≤◌, ◌↔◌, ℕ, t
 use Rattle.std.specs.Char.{is_whitespace, is_ascii_digit}
 use Rattle.std.proofs.lemmas.Bool.{or_left, or_right}
 use Rattle.std.proofs.lemmas.Bool.Decides.{nat_tests}
-use Rattle.humantime.specs.declared.duration.reading.class.Class.TheVariants.{White, Letter}
+use Rattle.humantime.specs.declared.duration.reading.scan.Class.TheVariants.{White, Letter}
 use Rattle.humantime.specs.Durations.Characters.{white_spaces, is_ws, is_digit, is_letter, is_point, is_numeric}
 use Rattle.humantime.specs.References.Durations.Classes.{class_of}
 

@@ -54,9 +54,9 @@ told_outcome b checks IsShown told =
       value = λ t. (
         (λ h. (fields_of b, told.shown ((answer t).0 h).0, ((answer t).0 h).1 ∙ ap pos (sym (moment_of_fields b)))),
         (λ m. (answer t).1 (
-           told.passes m.0 m.1,
-           m.2 ∙ ap (λ (f : Fields). pos (moment_of f)) (told.same m.0 m.1) ∙ ap pos (moment_of_fields b),
-         )),
+          told.passes m.0 m.1,
+          m.2 ∙ ap (λ (f : Fields). pos (moment_of f)) (told.same m.0 m.1) ∙ ap pos (moment_of_fields b),
+        )),
       );
       error = failed_told (first_failed checks) (moment_at b);
     }

@@ -55,7 +55,3 @@ abbrev pub fraction_read : List ℕ → Option (Option Counted × Option (List �
 fraction_read rest =
     if begins is_point rest then option_map (λ x. (Some x.0, Some x.1, x.2)) (digits_at (drop 1 rest))
     else Some (None, None, rest)
-
--- whether there is a point without digits
-abbrev pub bare : Option Counted → Bool
-bare fraction = is_some_and (λ p. p.2 == 0) fraction

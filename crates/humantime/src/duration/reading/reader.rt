@@ -1,31 +1,18 @@
 //! Reading one span.
 
-ghost use Rattle.std.specs.Prelude.{◌≡◌, chars, option_map, IfOk, IfErr};
+ghost use Rattle.std.specs.Prelude.{◌≡◌, chars, IfOk, IfErr};
 ghost use Rattle.humantime.specs.Durations.Errors.{PointsInto};
 ghost use Rattle.humantime.specs.References.Durations.Reading.{stop_at};
-ghost use Rattle.humantime.specs.References.Durations.Scales.{parts_of};
-ghost use Rattle.humantime.specs.References.Durations.Scanning.{IsTail, bare, ends_span};
+ghost use Rattle.humantime.specs.References.Durations.Scanning.{IsTail, ends_span};
 ghost use Rattle.humantime.specs.References.Durations.SpanParts.{IsSpanAt, stop_of};
 
 use crate::duration::error::DurationError;
-use crate::duration::reading::amount::{Amount, Fraction};
+use crate::duration::reading::amount::Amount;
 use crate::duration::reading::scan::{
-    begins_with_digit, offset_of, read_fraction, read_number, space_at,
+    begins_with_digit, offset_of, read_fraction, read_number, read_word, space_at,
 };
 use crate::duration::reading::span::Span;
-use crate::duration::reading::word::read_word;
 use crate::unit::unit_of;
-
-/// Whether a point has no digits behind it.
-#[inline(always)]
-fn is_bare(fraction: Option<Fraction>) -> bool
-    ensures { result ≡ bare (option_map parts_of fraction) }
-{
-    match fraction {
-        Some(digits) => digits.count == 0 && digits.zeros == 0,
-        None => false,
-    }
-}
 
 /// Whether a digit, white space or the end follows.
 #[inline(always)]
@@ -52,7 +39,7 @@ pub(crate) fn span_at<'a>(
     let Some((fraction, digits, after_fraction)) = read_fraction(after_number) else {
         return Err(DurationError::NumberOverflow);
     };
-    let bare = is_bare(fraction);
+    let bare = matches!(fraction, Some(digits) if digits.count == 0 && digits.zeros == 0);
     let (word, after_word) = read_word(after_fraction);
     let (start, end) = (offset_of(text, rest), offset_of(text, after_word));
     if word.letters.is_empty() && !after_word.is_empty() {

@@ -1,13 +1,51 @@
-//! Steps over a text: white space, a number, a fraction.
+//! Steps over a text: the class of a character, white space, a number, a fraction, a word.
 
-ghost use Rattle.std.specs.Prelude.{◌≡◌, ◌-◌, ◌+◌, ◌<◌, SomeIff, drop, length, chars, option_map, IfSome};
-ghost use Rattle.humantime.specs.Durations.Characters.{is_digit, is_ws, begins, past, offset_of};
+ghost use Rattle.std.specs.Prelude.{◌≡◌, ◌-◌, ◌+◌, ◌<◌, SomeIff, drop, length, chars, option_map, IfSome, ◌≤◌, ◌==◌, ◌&&◌, ◌||◌, take, reverse, IsCharBoundary};
+ghost use Rattle.humantime.specs.Durations.Characters.{is_digit, is_ws, begins, past, offset_of, is_letter, leading};
 ghost use Rattle.humantime.specs.Durations.Errors.{IsPlaceIn};
 ghost use Rattle.humantime.specs.References.Durations.Scales.{parts_of};
-ghost use Rattle.humantime.specs.References.Durations.Scanning.{IsTail, space_width, number_at, digits_at, fraction_read};
+ghost use Rattle.humantime.specs.References.Durations.Scanning.{IsTail, space_width, number_at, digits_at, fraction_read, IsCut};
+ghost use Rattle.humantime.specs.References.Durations.Classes.{class_of};
+ghost use Rattle.humantime.specs.Durations.Units.{scale_of_word};
+ghost use Rattle.humantime.specs.References.Durations.Keys.{packed, scale_of_key};
 
 use crate::duration::reading::amount::{Fraction, push_digit};
-use crate::duration::reading::class::{Class, ascii_class};
+use crate::unit::{MOST_BYTES, NO_LETTERS, TOO_LONG, key_with};
+
+/// What a character is in a duration's text, where it is no digit.
+#[derive(Clone, Copy)]
+pub(crate) enum Class {
+    White,
+    Letter,
+    Other,
+}
+
+const W: Class = Class::White;
+
+const L: Class = Class::Letter;
+
+const O: Class = Class::Other;
+
+/// The class of each ASCII character, sixteen characters a row.
+static ASCII_CLASSES: [Class; 128] = [
+    O, O, O, O, O, O, O, O, O, W, W, W, W, W, O, O, // 0x00 to 0x0f
+    O, O, O, O, O, O, O, O, O, O, O, O, O, O, O, O, // 0x10 to 0x1f
+    W, O, O, O, O, O, O, O, O, O, O, O, O, O, O, O, // space to '/'
+    O, O, O, O, O, O, O, O, O, O, O, O, O, O, O, O, // '0' to '?'
+    O, L, L, L, L, L, L, L, L, L, L, L, L, L, L, L, // '@' to 'O'
+    L, L, L, L, L, L, L, L, L, L, L, O, O, O, O, O, // 'P' to '_'
+    O, L, L, L, L, L, L, L, L, L, L, L, L, L, L, L, // '`' to 'o'
+    L, L, L, L, L, L, L, L, L, L, L, O, O, O, O, O, // 'p' to 0x7f
+];
+
+/// The class of an ASCII character.
+#[inline(always)]
+pub(crate) fn ascii_class(c: u8) -> Class
+    requires { c < 128 }
+    ensures { result ≡ class_of c }
+{
+    ASCII_CLASSES[c as usize]
+}
 
 /// How many bytes the white space at the front of the text has: those of one character, or none.
 ///
@@ -141,4 +179,62 @@ pub(crate) fn read_fraction<'a>(
     }
     let (fraction, digits, rest) = read_digits(&text[1..])?;
     Some((Some(fraction), Some(digits), rest))
+}
+
+/// The letters of a word, and the key by which its unit is found.
+#[derive(Clone, Copy)]
+pub(crate) struct Word<'a> {
+    pub letters: &'a str,
+    pub key: u64,
+    ghost told: { scale_of_key key ≡ scale_of_word (chars letters.now) },
+}
+
+/// Whether these are the two bytes of the micro sign, or those of the Greek letter mu: the letters beyond ASCII.
+#[inline(always)]
+fn is_mu(first: u8, second: u8) -> bool
+    ensures { result ≡ ((first == 0xc2 && second == 0xb5) || (first == 0xce && second == 0xbc)) }
+{
+    first == 0xc2 && second == 0xb5 || first == 0xce && second == 0xbc
+}
+
+/// The place after the letters at the front of the text, and the key of the bytes before it, where they are few.
+#[inline(always)]
+fn letters_end(text: &str) -> (usize, u64)
+    ensures place { IsCharBoundary text.now result.0 }
+    ensures rest { chars (drop result.0 text.now) ≡ past is_letter (chars text.now) }
+    ensures key { result.0 ≤ 7 → result.1 ≡ packed (reverse (take result.0 text.now)) }
+{
+    let bytes = text.as_bytes();
+    let mut key = NO_LETTERS;
+    let mut at = 0;
+    while at < bytes.len() {
+        if bytes[at] < 0x80 {
+            match ascii_class(bytes[at]) {
+                Class::Letter => {
+                    key = key_with(key, bytes[at]);
+                    at += 1;
+                }
+                _ => break,
+            }
+        } else if at + 1 < bytes.len() && is_mu(bytes[at], bytes[at + 1]) {
+            key = key_with(key_with(key, bytes[at]), bytes[at + 1]);
+            at += 2;
+        } else {
+            break;
+        }
+    }
+    (at, key)
+}
+
+/// The word at the front of the text, and what follows it.
+#[inline(always)]
+pub(crate) fn read_word<'a>(text: &'a str) -> (Word<'a>, &'a str)
+    ensures word { chars result.0.letters.now ≡ leading is_letter (chars text.now) }
+    ensures rest { chars result.1.now ≡ past is_letter (chars text.now) }
+    ensures cut { IsCut text.now result.0.letters.now result.1.now }
+{
+    let (end, key) = letters_end(text);
+    let letters = &text[..end];
+    let key = if end > MOST_BYTES { TOO_LONG } else { key };
+    (Word { letters, key }, &text[end..])
 }

@@ -80,5 +80,5 @@ invariant_of-result c =
     let letters = c.read_word.ensures.word ∙ ap (leading is_letter) p.6 in
     record {
       read = rw (spelled_read _ _ _ c.in-Some-read_fraction.digits p.2 letters p.5)
-          (record { unit = sym (c.in-Some-unit_of.ensures ∙ c.read_word.result.0.told ∙ ap scale_of_word letters); value = p.1; fraction = p.4 });
+          (record { unit = sym (c.in-Some-unit_of.ensures ∙ c.read_word.result.0.told ∙ ap scale_of_word letters); value = p.1; fraction = grind (arith, common_steps) });
     }

@@ -4,8 +4,8 @@ use Rattle.humantime.specs.Durations.Characters.{is_letter}
 use Rattle.humantime.specs.References.Durations.Keys.{key, scale_of_key}
 use Rattle.humantime.proofs.Durations.Bytes.WordKeys.{HasBytes, front_bytes, key_short, key_long, scale_by_key}
 use Rattle.humantime.proofs.Durations.Bytes.Tails.{front_is}
-use Rattle.humantime.proofs.duration.reading.word.read_word.Goals as goal
-use Rattle.humantime.proofs.duration.reading.word.read_word.Goals.{then-end-gt-MOST_BYTES, else-end-gt-MOST_BYTES}
+use Rattle.humantime.proofs.duration.reading.scan.read_word.Goals as goal
+use Rattle.humantime.proofs.duration.reading.scan.read_word.Goals.{then-end-gt-MOST_BYTES, else-end-gt-MOST_BYTES}
 
 pub invariant_of-result : goal.invariant_of-result
 invariant_of-result c =

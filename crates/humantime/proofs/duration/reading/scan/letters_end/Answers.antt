@@ -6,8 +6,8 @@ use Rattle.humantime.proofs.Durations.Bytes.PlaceSteps.{ascii_at, mu_over, no_le
 use Rattle.humantime.proofs.Durations.Bytes.Tails.{no_chars_at}
 use Rattle.humantime.proofs.Durations.Bytes.WordKeys.{IsSoFar, key_more}
 use Rattle.humantime.proofs.Durations.Reading.Classes.{class_tests, not_letter}
-use Rattle.humantime.proofs.duration.reading.word.letters_end.Goals as goal
-use Rattle.humantime.proofs.duration.reading.word.letters_end.Goals.{else-at-bytes-via-then-at-bytes+else-is_mu, else-at-bytes-via-else-at-bytes}
+use Rattle.humantime.proofs.duration.reading.scan.letters_end.Goals as goal
+use Rattle.humantime.proofs.duration.reading.scan.letters_end.Goals.{else-at-bytes-via-then-at-bytes+else-is_mu, else-at-bytes-via-else-at-bytes}
 
 pub loop-at-init : goal.loop-at-init
 loop-at-init c = record { place = IsCharBoundary-start c.args.text.now c.utf8.text; same = refl; key = λ _. refl }

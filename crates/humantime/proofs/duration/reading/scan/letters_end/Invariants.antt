@@ -2,7 +2,7 @@ use Rattle.std.proofs.Common.{◌≡◌, ◌-◌, length, drop, IsCharBoundary}
 use Rattle.std.specs.Str.{chars}
 use Rattle.humantime.specs.Durations.Characters.{is_letter, past}
 use Rattle.humantime.proofs.Durations.Bytes.WordKeys.{IsSoFar}
-use Rattle.humantime.proofs.duration.reading.word.letters_end.Given as goal
+use Rattle.humantime.proofs.duration.reading.scan.letters_end.Given as goal
 
 abbrev pub invariant-loop-at : goal.invariant-loop-at
 invariant-loop-at l = record {
