@@ -4,8 +4,9 @@ use base.Logic.{ent, ex_i}
 use types.Logic.{Logic, sem}
 use mathlib.Core.Option.{none}
 use denote.Follow.{such_by, follows_by}
-use Rattle.std.proofs.Common.{◌≡◌, ℕ, List, subst, ap, ◌∙◌, Bor, MutBor}
-use Rattle.std.specs.Prelude.{Option, None, Some, IsSome, IfSome, IfNone, option_map, ◌↔◌, ⊤, Result, Ok, Err, IfOk, IfErr, OnErr}
+use Rattle.std.proofs.lemmas.Grind.{common_steps}
+use Rattle.std.proofs.Common.{arith, ◌≡◌, ℕ, List, Bor, MutBor}
+use Rattle.std.specs.Prelude.{Option, IsSome, IfSome, IfNone, option_map, ◌↔◌, ⊤, Result, Ok, Err, IfOk, IfErr, OnErr}
 use Rattle.std.specs.Borrow.{Array, u8}
 use Rattle.humantime.specs.Buffers.{Holds}
 use Rattle.humantime.specs.declared.duration.error.DurationError.{DurationError}
@@ -25,37 +26,25 @@ holds {𝓤 = 𝓤} 𝓛 n buf last P p =
 -- an answer t that shows f of m is there where m is, and has the properties of f of m
 pub some_shown : (t : Option (Bor (List ℕ))) (m : Option ℕ) (f : ℕ → List ℕ) (P : Type 0)
     → option_map (λ x. x.now) t ≡ option_map f m → (IsSome m ↔ P) → IsSome t ↔ P
-some_shown None None f P e p = p
-some_shown (Some x) (Some n) f P e p = p
-some_shown None (Some n) f P e p = absurd (cc)
-some_shown (Some x) None f P e p = absurd (cc)
+some_shown t m f P e p = grind (arith, common_steps)
 
 pub text_shown : (t : Option (Bor (List ℕ))) (m : Option ℕ) (f : ℕ → List ℕ) (Q : List ℕ → Type 0)
     → option_map (λ x. x.now) t ≡ option_map f m → IfSome m (λ n. Q (f n)) → IfSome t (λ x. Q x.now)
-text_shown None m f Q e p = tt
-text_shown (Some x) None f Q e p = absurd (cc)
-text_shown (Some x) (Some n) f Q e p = let same : f n ≡ x.now = cc in subst Q same p
+text_shown t m f Q e p = grind (arith, common_steps)
 
 pub none_shown : (t : Option (Bor (List ℕ))) (m : Option ℕ) (f : ℕ → List ℕ) (P : Type 0)
     → option_map (λ x. x.now) t ≡ option_map f m → IfNone m P → IfNone t P
-none_shown (Some x) m f P e p = tt
-none_shown None None f P e p = p
-none_shown None (Some n) f P e p = absurd (cc)
+none_shown t m f P e p = grind (arith, common_steps)
 
 -- the same of an answer with an error, which is passed on as it is
 pub answer_shown : (t : Result (Bor (List ℕ)) DurationError) (m : Result ℕ DurationError) (f : ℕ → List ℕ) (answer : Result (List ℕ) Fault)
     → IfOk m (λ n. told_text t ≡ Ok (f n)) → IfErr m (λ e. t ≡ Err e) → seen f m ≡ answer → told_text t ≡ answer
-answer_shown t (Ok n) f answer p q e = p ∙ e
-answer_shown t (Err x) f answer p q e = ap told_text q ∙ e
+answer_shown t m f answer p q e = grind (arith, common_steps)
 
 pub error_shown : (t : Result (Bor (List ℕ)) DurationError) (m : Result ℕ DurationError) (f : ℕ → List ℕ) (Q : DurationError → Type 0)
     → IfOk m (λ n. told_text t ≡ Ok (f n)) → IfErr m (λ e. t ≡ Err e) → IfErr m Q → IfErr t Q
-error_shown (Ok y) m f Q p q e = tt
-error_shown (Err x) (Ok n) f Q p q e = absurd (cc)
-error_shown (Err x) (Err y) f Q p q e = let same : y ≡ x = cc in subst Q same e
+error_shown t m f Q p q e = grind (arith, common_steps)
 
 pub err_shown : (t : Result (Bor (List ℕ)) DurationError) (m : Result ℕ DurationError) (f : ℕ → List ℕ) (P : Type 0)
     → IfOk m (λ n. told_text t ≡ Ok (f n)) → IfErr m (λ e. t ≡ Err e) → OnErr m P → OnErr t P
-err_shown (Ok y) m f P p q e = tt
-err_shown (Err x) (Ok n) f P p q e = absurd (cc)
-err_shown (Err x) (Err y) f P p q e = e
+err_shown t m f P p q e = grind (arith, common_steps)

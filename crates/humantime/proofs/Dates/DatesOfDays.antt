@@ -1,25 +1,18 @@
 -- The date that is found by years from March on is the date of the day.
 use Rattle.std.proofs.lemmas.Grind.{common_steps}
-use Rattle.std.proofs.Common.{◌≡◌, ℕ, ◌+◌, ◌-◌, ◌<◌, ◌≤◌, refl, arith}
+use Rattle.std.proofs.Common.{◌≡◌, inl, inr, ℕ, ◌+◌, ◌-◌, ◌<◌, ◌≤◌, refl, arith}
 use Rattle.std.proofs.lemmas.Bool.Decides.{nat_tests}
-use Rattle.std.specs.Prelude.{min, Bool, true, false, nat_lt, if◌then◌else◌}
-use Rattle.std.proofs.lemmas.Bool.{ltb-true, ltb-false}
+use Rattle.std.specs.Prelude.{min, nat_lt}
+use Rattle.std.proofs.lemmas.Bool.{cases_Bool, ltb-true, ltb-false}
 use Rattle.humantime.specs.Calendar.{days_in_year, days_in_month, days_of_years, days_of_months}
 use Rattle.humantime.specs.declared.calendar.Date.{Date}
 use Rattle.humantime.specs.Laws.Days.{IsDateOfDay}
 use Rattle.humantime.specs.References.Calendar.March.{march_days, march_months, march_year, march_month, march_date, date_of}
-use Rattle.humantime.proofs.Dates.Years.{days_of_years_closed, days_in_year_bound, days_of_first_months, days_of_months_closed, march_lengths, AreWithin, valid_from, march_days_next}
-
--- a day lies in the year that is found
-year_begins : (n : ℕ) → march_days (march_year n) ≤ n
-year_begins n = omega arith
-
-year_ends : (n : ℕ) → n < march_days (march_year n + 1)
-year_ends n = omega arith
+use Rattle.humantime.proofs.Dates.Years.{days_of_years_closed, days_in_year_bound, days_of_first_months, days_of_months_closed, march_lengths, AreWithin, within_ranges, march_days_next}
 
 dated : (n y m d : ℕ) → AreWithin y m d → days_of_years (y - 1970) + days_of_months y (m - 1) + (d - 1) ≡ n
     → IsDateOfDay n (record { year = y; month = m; day = d })
-dated n y m d within sum = (valid_from y m d within, sum)
+dated n y m d within sum = ((within_ranges y m (days_in_month y m) d).1 within, sum)
 
 -- March to December
 early : (n y k d : ℕ) → n ≤ 2_932_896 → k < 10 → march_months k + d < march_months (k + 1) → march_days y + march_months k + d ≡ n + 135_080
@@ -43,26 +36,22 @@ late n y k d few month within ends sum =
 -- the date of a day of month k of year y, and of a day of year y
 in_month : (n y k d : ℕ) → n ≤ 2_932_896 → march_months k + d < march_months (k + 1) → march_months k + d < days_in_year (1601 + y)
     → march_days y + march_months k + d ≡ n + 135_080 → IsDateOfDay n (march_date y k d)
-in_month n y k d few within ends sum = by_month (nat_lt k 10) refl where
-  by_month : (b : Bool) → nat_lt k 10 ≡ b
-      → IsDateOfDay n (if b then record { year = 1600 + y; month = k + 3; day = d + 1 } else record { year = 1601 + y; month = k - 9; day = d + 1 })
-  by_month true h = early n y k d few (ltb-true k 10 h) within sum
-  by_month false h = late n y k d few (ltb-false k 10 h) within ends sum
-
-in_year : (n y k d : ℕ) → n ≤ 2_932_896 → k ≡ march_month d → d < days_in_year (1601 + y) → march_days y + d ≡ n + 135_080
-    → IsDateOfDay n (march_date y k (d - march_months k))
-in_year n y k d few found within sum = in_month n y k (d - march_months k) few (omega arith) (omega arith) (omega arith)
+in_month n y k d few within ends sum = elim (cases_Bool (nat_lt k 10)) [
+  | inl h ↦ rw h (early n y k d few (ltb-true k 10 h) within sum)
+  | inr h ↦ rw h (late n y k d few (ltb-false k 10 h) within ends sum)
+]
 
 -- the date of this day, in the year that is found
 pub date_found : (n y k d : ℕ) (x : Date) → x ≡ march_date y k (d - march_months k) → n ≤ 2_932_896 → y ≡ march_year (n + 135_080)
     → k ≡ min (march_month d) 12 → march_days y + d ≡ n + 135_080 → IsDateOfDay n x
 date_found n y k d x is few year month sum =
-    let within : d < days_in_year (1601 + y) = omega (arith, march_days_next (1601 + y) (omega arith), year_ends (n + 135_080)) in
-    rw is (in_year n y k d few (omega (arith, days_in_year_bound (1601 + y))) within sum)
+    let within : d < days_in_year (1601 + y) = omega (arith, march_days_next (1601 + y) (omega arith)) in
+    let found : k ≡ march_month d = omega (arith, days_in_year_bound (1601 + y)) in
+    rw is (in_month n y k (d - march_months k) few (omega arith) (omega arith) (omega arith))
 
 pub date_of_is : (n : ℕ) → n ≤ 2_932_896 → IsDateOfDay n (date_of n)
 unfolding date_of
 date_of_is n few =
-    let days = n + 135_080 in
-    let y = march_year days in
-    in_year n y _ (days - march_days y) few refl (omega (arith, march_days_next (1601 + y) (omega arith), year_begins days, year_ends days)) (omega (arith, year_begins days))
+    let y = march_year (n + 135_080) in
+    let bound = days_in_year_bound (1601 + y) in
+    date_found n y _ (n + 135_080 - march_days y) _ refl few refl (omega (arith, march_days_next (1601 + y) (omega arith))) (omega arith)

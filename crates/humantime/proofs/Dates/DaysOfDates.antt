@@ -1,6 +1,6 @@
 -- Each day number has one date.
 use Rattle.std.proofs.lemmas.Grind.{common_steps}
-use Rattle.std.proofs.Common.{◌≡◌, ◌∙◌, ℕ, zero, suc, ◌+◌, ◌-◌, ◌<◌, ◌≤◌, sym, inl, inr, arith}
+use Rattle.std.proofs.Common.{◌≡◌, ◌∙◌, ℕ, zero, suc, ◌+◌, ◌-◌, ◌<◌, ◌≤◌, sym, arith}
 use Rattle.std.proofs.lemmas.Bool.{cases_eq}
 use Rattle.humantime.specs.declared.calendar.Date.{Date}
 use Rattle.humantime.specs.Calendar.{days_in_month, days_of_years, days_of_months, IsDate, day_of}
@@ -18,15 +18,11 @@ day_count y m d = days_of_years (y - 1970) + days_of_months y (m - 1) + (d - 1)
 months_grow : (y m n : ℕ) → m ≤ n → days_of_months y m ≤ days_of_months y n
 unfolding days_of_months
 months_grow y m zero few = grind (arith, common_steps)
-months_grow y m (suc n) few = elim (cases_eq m (suc n)) [
-  | inl same ↦ rw same (omega arith)
-  | inr other ↦ omega (arith, months_grow y m n (omega arith))
-]
+months_grow y m (suc n) few = grind (arith, common_steps, (months_grow y m n), (cases_eq m (suc n)))
 
 month_end : (y m : ℕ) → 1 ≤ m → days_of_months y m ≡ days_of_months y (m - 1) + days_in_month y m
 unfolding days_of_months
-month_end y zero some = absurd (omega arith)
-month_end y (suc m) some = grind (arith, common_steps)
+month_end y m some = grind (arith, common_steps)
 
 -- a date's day lies before the days of each later month and of each later year
 pub before_month : (y m d : ℕ) → AreWithin y m d → (later : ℕ) → m < later → days_of_months y (m - 1) + (d - 1) < days_of_months y (later - 1)
@@ -36,16 +32,7 @@ before_month y m d valid later less =
 pub before_year : (y m d : ℕ) → AreWithin y m d → (later : ℕ) → y < later
     → day_count y m d < days_of_years (later - 1970)
 before_year y m d valid later less =
-    omega (
-      arith,
-      valid.0.0,
-      valid.1.1,
-      before_month y m d valid 13 (omega (arith, valid.1.1)),
-      days_of_months_closed y 13 (omega arith) (omega arith),
-      days_of_years_closed y valid.0.0,
-      days_of_years_closed later (omega (arith, valid.0.0)),
-      march_days_next y (omega (arith, valid.0.0)),
-    )
+    grind (arith, (before_month y m d valid 13), (days_of_months_closed y 13), days_of_years_closed, (march_days_next y))
 
 same_year : (y m d y' m' d' : ℕ) → AreWithin y m d → AreWithin y' m' d' → day_count y m d ≡ day_count y' m' d' → y ≡ y'
 same_year y m d y' m' d' valid valid' same = grind (arith, before_year y m d valid y', before_year y' m' d' valid' y)

@@ -10,40 +10,45 @@ use Rattle.humantime.specs.Durations.Faults.{number_of, after_number}
 use Rattle.humantime.specs.References.Durations.Scales.{counted, parts_of}
 use Rattle.humantime.specs.References.Durations.Scanning.{AreDigits, digits_at}
 use Rattle.humantime.proofs.Durations.Bytes.Numbers.{value_more}
-use Rattle.humantime.proofs.Durations.Reading.SignificantDigits.{significant_zero, significant_long, significant_last, value_shifted}
+use Rattle.humantime.proofs.Durations.Reading.SignificantDigits.{significant_shorter, significant_zero, significant_long, significant_last, value_shifted}
 
--- the zeros and one digit more fit where they are at most 19
-pub shifted_fits : (v n z d p : ℕ) → v < 10 ^ n → d ≤ 9 → p ≡ 10 ^ (z + 1) → v * p + d < 10 ^ (n + (z + 1))
-shifted_fits v n z d p fits digit power =
-    let longer : 10 ^ (n + (z + 1)) ≡ 10 ^ n * 10 ^ (z + 1) = pow-add 10 n (z + 1) in
-    let some : 10 ≤ 10 ^ (z + 1) = pow-le-pow_right {n = 10} (omega arith) {i = 1} {j = z + 1} (omega arith) in
-    let next : v + 1 ≤ 10 ^ n = omega arith in
-    let below : (v + 1) * 10 ^ (z + 1) ≤ 10 ^ n * 10 ^ (z + 1) = mul-le-mul_right (10 ^ (z + 1)) next in
+-- a number of so many digits fits, shifted by some places and with a digit more, where all are at most 19
+pub shifted_fits : (v n k d p : ℕ) → v < 10 ^ n → d ≤ 9 → 1 ≤ k → p ≡ 10 ^ k → v * p + d < 10 ^ (n + k)
+shifted_fits v n k d p fits digit more power =
+    let longer : 10 ^ (n + k) ≡ 10 ^ n * 10 ^ k = pow-add 10 n k in
+    let some : 10 ≤ 10 ^ k = pow-le-pow_right {n = 10} (omega arith) {i = 1} {j = k} more in
+    let below : (v + 1) * 10 ^ k ≤ 10 ^ n * 10 ^ k = mul-le-mul_right (10 ^ k) (omega (arith, fits)) in
     rw power (omega (arith, longer, some, below))
 
-pub push_fits : (v n z d p : ℕ) → v < 10 ^ n → d ≤ 9 → p ≡ 10 ^ (z + 1) → n + (z + 1) ≤ 19 → v * p + d < 2 ^ 64
-push_fits v n z d p fits digit power few =
-    omega (arith, shifted_fits v n z d p fits digit power, pow-le-pow_right {n = 10} (omega arith) {i = n + (z + 1)} {j = 19} few)
+pub push_fits : (v n k d p : ℕ) → v < 10 ^ n → d ≤ 9 → 1 ≤ k → p ≡ 10 ^ k → n + k ≤ 19 → v * p + d < 2 ^ 64
+push_fits v n k d p fits digit more power few =
+    omega (arith, shifted_fits v n k d p fits digit more power, pow-le-pow_right {n = 10} (omega arith) {i = n + k} {j = 19} few)
+
+-- the digits before the zeros are no more than all
+pub fewer : (f : Fraction) (ds : List ℕ) → AreDigits f ds → f.count ≤ f.all
+fewer f ds h = omega (arith, h.count, h.all, significant_shorter ds)
 
 -- where none is read
-pub no_digits : AreDigits (record { value = 0; count = 0; zeros = 0 }) []
+pub no_digits : AreDigits (record { value = 0; count = 0; all = 0 }) []
 unfolding significant
-no_digits = record { value = refl; count = refl; zeros = refl; few = omega arith; fits = omega arith }
+no_digits = record { value = refl; count = refl; all = refl; few = omega arith; fits = omega arith }
 
 -- a zero is one zero more
 pub zero_more : (ds : List ℕ) (c : ℕ) → c ≡ 48 → significant (ds ++ c ∷ []) ≡ significant ds
 zero_more ds c e = rw e (significant_zero ds)
 
 -- another digit follows the zeros
-pub digit_more : (d : Fraction) (ds : List ℕ) (c p : ℕ) → AreDigits d ds → is_digit c ≡ true → c ≢ 48 → p ≡ 10 ^ (d.zeros + 1)
-    → (decimal_value (significant (ds ++ c ∷ [])) ≡ d.value * p + (c - 48)) × (significant (ds ++ c ∷ []) ≡ ds ++ c ∷ [])
-    × (length (ds ++ c ∷ []) ≡ d.count + (d.zeros + 1))
-digit_more d ds c p h is some power =
+pub digit_more : (f : Fraction) (ds : List ℕ) (c p : ℕ) → AreDigits f ds → is_digit c ≡ true → c ≢ 48 → p ≡ 10 ^ (f.all + 1 - f.count)
+    → (decimal_value (significant (ds ++ c ∷ [])) ≡ f.value * p + (c - 48)) × (significant (ds ++ c ∷ []) ≡ ds ++ c ∷ [])
+    × (length (ds ++ c ∷ []) ≡ f.all + 1)
+digit_more f ds c p h is some power =
+    let zeros = f.all - f.count in
+    let within = fewer f ds h in
     let kept : significant (ds ++ c ∷ []) ≡ ds ++ c ∷ [] = significant_last ds c (ne_eqb c 48 some) in
-    let value : decimal_value ds ≡ d.value * 10 ^ d.zeros = rw (← h.value) (value_shifted ds d.zeros (omega (arith, h.zeros, h.count))) in
-    let tens : p ≡ 10 ^ d.zeros * 10 = power ∙ pow-add 10 d.zeros 1 in
-    let more : decimal_value (ds ++ c ∷ []) ≡ d.value * p + (c - 48) = omega (arith, value_more ds c is, value, ap (λ (n : ℕ). d.value * n) tens) in
-    (ap decimal_value kept ∙ more, kept, omega (arith, length-append ds (c ∷ []), h.zeros))
+    let value : decimal_value ds ≡ f.value * 10 ^ zeros = rw (← h.value) (value_shifted ds zeros (omega (arith, within, h.all, h.count))) in
+    let tens : p ≡ 10 ^ zeros * 10 = power ∙ ap (λ (n : ℕ). 10 ^ n) (omega (arith, within)) ∙ pow-add 10 zeros 1 in
+    let more : decimal_value (ds ++ c ∷ []) ≡ f.value * p + (c - 48) = omega (arith, value_more ds c is, value, ap (λ (n : ℕ). f.value * n) tens) in
+    (ap decimal_value kept ∙ more, kept, omega (arith, length-append ds (c ∷ []), h.all))
 
 -- behind 19 digits it is one too many
 pub one_too_many : (ds es : List ℕ) (c : ℕ) → c ≢ 48 → 19 ≤ length ds → 19 < length (significant (ds ++ c ∷ es))

@@ -4,17 +4,14 @@ use Rattle.std.proofs.lemmas.Grind.{common_steps}
 use Rattle.std.specs.List.{AllByRecursion}
 use Rattle.humantime.specs.Durations.Characters.{is_ws, bare_zero}
 use Rattle.humantime.specs.Durations.Spans.{Span, Only, Spells, SpellsEach, SpellsAll, Reads}
-use Rattle.humantime.specs.Durations.Accepted.{additions, value, Formed, fits, AllHaveRoom, Accepted}
+use Rattle.humantime.specs.Durations.Accepted.{additions, value, Formed, fits, AllHaveRoom, Accepted, Bare_zero, Sum_of}
 use Rattle.humantime.specs.Durations.Faults.{NumberOverflow, HasFault}
 use Rattle.humantime.proofs.Durations.Reading.OneReading.{not_zero}
 use Rattle.humantime.proofs.Durations.Reading.Spellings.{spells-append}
 use Rattle.humantime.proofs.Durations.Reading.Settled.{additions-append, value-append, within_or_beyond}
 use Rattle.humantime.proofs.Durations.Reading.Outcomes.{items_whole, items_decide_overflow}
-use Rattle.humantime.proofs.Durations.Laws.Readings.{accepted_from_spans, spans_of_accepted, accepted_spans, no_value_and_fault}
-
--- what holds of the elements of two lists holds of those of both together
-pub each-append : {A : Type 0} (P : A → Type 0) (xs ys : List A) → AllByRecursion P xs → AllByRecursion P ys → AllByRecursion P (xs ++ ys)
-each-append P xs ys h k = grind (arith, common_steps)
+pub use Rattle.humantime.proofs.Durations.Reading.Spellings.{each-append, spells_each-append}
+use Rattle.humantime.proofs.Durations.Laws.Readings.{accepted_spans, no_value_and_fault}
 
 -- white space behind a spelling belongs to it
 spells-space : (here space : List ℕ) (s : Span) → Spells here s [] → Only is_ws space → Spells (here ++ space) s []
@@ -23,10 +20,6 @@ spells-space here space s h only = grind (arith, common_steps)
 spells_each-space : (body space : List ℕ) (s : Span) (ss : List Span) → SpellsEach body (s ∷ ss) → Only is_ws space → SpellsEach (body ++ space) (s ∷ ss)
 spells_each-space body space s [] h only = ([], spells-space body space s (subst (Spells body s) h.2 h.1) only, refl)
 spells_each-space body space s (t ∷ ts) h only = (h.0 ++ space, spells-append body h.0 space s h.1, spells_each-space h.0 space t ts h.2 only)
-
-spells_each-append : (a b : List ℕ) (ss ts : List Span) → SpellsEach a ss → SpellsEach b ts → SpellsEach (a ++ b) (ss ++ ts)
-spells_each-append a b [] ts h k = subst (λ (l : List ℕ). SpellsEach (l ++ b) ts) (sym h) k
-spells_each-append a b (s ∷ ss) ts h k = (h.0 ++ b, spells-append a h.0 b s h.1, spells_each-append h.0 b ss ts h.2 k)
 
 -- spans behind spans
 pub front-append : (a b : List ℕ) (ss ts : List Span) → Reads a ss → SpellsAll b ts → SpellsAll (a ++ b) (ss ++ ts)
@@ -65,7 +58,7 @@ spans-append a b ss ts u v h x k = grind (arith, (are_spans a ss u h x), front-a
 pub room_accepts : (text : List ℕ) (spans : List Span) (v : ℕ) → spans ≢ [] → AreSpans text spans v → Accepted text v ↔ AllHaveRoom (additions spans)
 room_accepts text spans v some h = (
   λ a. (accepted_spans text spans v (h.front, some) a).0.room,
-  λ room. subst (Accepted text) h.sum (accepted_from_spans text spans (h.front, some) (record { formed = h.formed; fit = h.fit; room = room })),
+  λ room. Sum_of spans (h.front, some) (record { formed = h.formed; fit = h.fit; room = room }) h.sum,
 )
 
 -- and is too large exactly where they haven't
@@ -92,14 +85,14 @@ joined_overflow a b ss ts u v h k x y =
 
 pub joined_sum_or_overflow : (a b : List ℕ) (u v : ℕ) → Accepted a u → Accepted b v → a ≢ bare_zero → b ≢ bare_zero
     → Accepted (a ++ b) (u + v) ⊎ HasFault (a ++ b) NumberOverflow
-joined_sum_or_overflow a b u v x y some_a some_b =
-    let s = spans_of_accepted a u some_a x in
-    let t = spans_of_accepted b v some_b y in
-    let some = some-append s.spans t.spans s.reads.1 in
-    let both = both_spans a b s.spans t.spans u v s.reads t.reads x y in
-    elim (within_or_beyond (s.spans ++ t.spans) both.formed) [
-      | inl g ↦ inl ((room_accepts (a ++ b) (s.spans ++ t.spans) (u + v) some both).1 g.room)
-      | inr bad ↦ inr ((no_room_overflows (a ++ b) (s.spans ++ t.spans) (u + v) some both).1 (λ room. bad (record { formed = both.formed; fit = both.fit; room = room })))
+joined_sum_or_overflow a b u v (Bare_zero z none) y some_a some_b = absurd (some_a z)
+joined_sum_or_overflow a b u v (Sum_of ss h g p) (Bare_zero z none) some_a some_b = absurd (some_b z)
+joined_sum_or_overflow a b u v (Sum_of ss h g p) (Sum_of ts k l q) some_a some_b =
+    let some = some-append ss ts h.1 in
+    let both = both_spans a b ss ts u v h k (Sum_of ss h g p) (Sum_of ts k l q) in
+    elim (within_or_beyond (ss ++ ts) both.formed) [
+      | inl g ↦ inl ((room_accepts (a ++ b) (ss ++ ts) (u + v) some both).1 g.room)
+      | inr bad ↦ inr ((no_room_overflows (a ++ b) (ss ++ ts) (u + v) some both).1 (λ room. bad (record { formed = both.formed; fit = both.fit; room = room })))
     ]
 
 -- white space may stand wherever a span ends

@@ -19,17 +19,11 @@ each_then P Q then (x ∷ xs) h = (then x h.0, each_then P Q then xs h.1)
 
 -- ---- zeros at the end of a fraction
 
-still_formed : (s : Span) → OlderFormed s → Formed s
-still_formed s f = grind (arith, common_steps, significant_shorter)
-
-still_fits : (s : Span) → OlderFormed s → fits s ≡ true
-still_fits s f = grind (arith, common_steps, whole_part_kept)
-
 zeros_still_accepted : (text : List ℕ) (v : ℕ) → AcceptedWithZeros text v → Accepted text v
 zeros_still_accepted text v (Older_zero e z) = Bare_zero e z
 zeros_still_accepted text v (Older_sum spans h older room sum) =
-    let formed = each_then OlderFormed Formed still_formed spans older in
-    let fit = each_then OlderFormed (λ s. fits s ≡ true) still_fits spans older in
+    let formed = each_then OlderFormed Formed (λ s f. grind (arith, common_steps, significant_shorter)) spans older in
+    let fit = each_then OlderFormed (λ s. fits s ≡ true) (λ s f. grind (arith, common_steps, whole_part_kept)) spans older in
     Sum_of spans h (record { formed = formed; fit = fit; room = room }) sum
 
 pub still_accepted : (text : List ℕ) → KeepsValueWithZeros text
@@ -56,11 +50,8 @@ abbrev is_not_mu : ℕ → Bool
 is_not_mu c = not (c == greek_mu)
 
 -- what passes a test that the letter fails is another character
-not_mu : (p : ℕ → Bool) → p greek_mu ≡ false → (c : ℕ) → p c ≡ true → is_not_mu c ≡ true
-not_mu p fails c passes = grind (arith, common_steps)
-
 none_is_mu : (p : ℕ → Bool) → p greek_mu ≡ false → (cs : List ℕ) → Only p cs → Only is_not_mu cs
-none_is_mu p fails = each_then (λ c. p c ≡ true) (λ c. is_not_mu c ≡ true) (not_mu p fails)
+none_is_mu p fails = each_then (λ c. p c ≡ true) (λ c. is_not_mu c ≡ true) (λ c passes. grind (arith, common_steps))
 
 no_mu_in_space : (cs : List ℕ) → Only is_ws cs → Only is_not_mu cs
 unfolding is_ws white_spaces

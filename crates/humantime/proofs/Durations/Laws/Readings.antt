@@ -6,39 +6,26 @@ use Rattle.std.proofs.lemmas.List.Sums.{sum_by-cons}
 use Rattle.humantime.specs.Durations.Characters.{bare_zero}
 use Rattle.humantime.specs.Durations.Spans.{Span, Reads}
 use Rattle.humantime.specs.Durations.Faults.{Fault, HasFault}
-use Rattle.humantime.specs.Durations.Accepted.{total, value, WithinLimits, Accepted, Sum_of, additions_of}
+use Rattle.humantime.specs.Durations.Accepted.{total, value, WithinLimits, Accepted, Bare_zero, Sum_of, additions_of}
 use Rattle.humantime.specs.Laws.Texts.{IsZeroOrSpans}
 use Rattle.humantime.proofs.Durations.Reading.OneReading.{not_zero}
 use Rattle.humantime.proofs.Durations.Reading.Settled.{value-cons}
 use Rattle.humantime.proofs.Durations.Reading.Outcomes.{one_reading, outcome_accepted, outcome_fault}
 
--- The text is spans within the limits that add up to v.
-pub record IsSumOfSpans (text : List ℕ) (v : ℕ) : Type 0 where
-  pub spans : List Span
-  pub reads : Reads text spans
-  pub within : WithinLimits spans
-  pub sum : value spans ≡ v
-
--- a text of spans within the limits is accepted with their sum
-pub accepted_from_spans : (text : List ℕ) (spans : List Span) → Reads text spans → WithinLimits spans → Accepted text (value spans)
-accepted_from_spans text spans h g = Sum_of spans h g refl
-
--- and what is accepted is such a text, unless it is exactly `0`
-pub spans_of_accepted : (text : List ℕ) (v : ℕ) → text ≢ bare_zero → Accepted text v → IsSumOfSpans text v
-spans_of_accepted text v some a = grind (arith, common_steps)
-
+-- what is accepted is exactly `0`, or it is spans
 pub zero_or_spans : (text : List ℕ) → IsZeroOrSpans text
 zero_or_spans text v a = grind (arith, common_steps)
 
 -- an accepted text that reads as some spans is their sum, and they are within the limits
 pub accepted_spans : (text : List ℕ) (spans : List Span) (v : ℕ) → Reads text spans → Accepted text v → WithinLimits spans × (value spans ≡ v)
-accepted_spans text spans v h a = grind (arith, common_steps, (one_reading text (spans_of_accepted text v (not_zero text spans h) a).spans spans (spans_of_accepted text v (not_zero text spans h) a).reads h))
+accepted_spans text spans v h (Bare_zero z none) = absurd (not_zero text spans h z)
+accepted_spans text spans v h (Sum_of others k within sum) = rw (one_reading text spans others h k) (within, sum)
 
 -- texts that are the same spans are accepted alike
 pub same_spans : (a b : List ℕ) (spans : List Span) (v : ℕ) → Reads a spans → Reads b spans → Accepted a v → Accepted b v
 same_spans a b spans v h k x =
     let g = accepted_spans a spans v h x in
-    subst (Accepted b) g.1 (accepted_from_spans b spans k g.0)
+    Sum_of spans k g.0 g.1
 
 -- no text has a value and a fault
 pub no_value_and_fault : (text : List ℕ) (v : ℕ) (e : Fault) → Accepted text v → HasFault text e → ⊥

@@ -23,16 +23,11 @@ small_room t x sum small below fits = grind (arith, common_steps)
 
 room_from_small : (t : ℕ) (xs : List Addition) → AllByRecursion IsSmall xs → (t + total xs) / nanos_per_second ≤ u64_max → RoomFrom t xs
 room_from_small t [] small fits = tt
-room_from_small t (x ∷ xs) small fits =
-    let sum : t + total (x ∷ xs) ≡ (t + addition_nanos x) + total xs = omega (arith, sum_by-cons addition_nanos x xs) in
-    let rest : ((t + addition_nanos x) + total xs) / nanos_per_second ≤ u64_max = rw sum at fits in
-    (small_room t x (t + total (x ∷ xs)) small.0 (omega (arith, sum)) fits, room_from_small (t + addition_nanos x) xs small.1 rest)
+room_from_small t (x ∷ xs) small fits = grind (arith, common_steps, small_room, (room_from_small (t + addition_nanos x) xs small.1))
 
 -- small additions have room where their sum is a duration
 pub small_have_room : (xs : List Addition) → AllByRecursion IsSmall xs → total xs / nanos_per_second ≤ u64_max → AllHaveRoom xs
-small_have_room xs small fits =
-    let sum : 0 + total xs ≡ total xs = omega arith in
-    all_have_room xs (room_from_small 0 xs small (rw sum fits))
+small_have_room xs small fits = all_have_room xs (room_from_small 0 xs small (grind (arith, common_steps)))
 
 -- accepted texts with small additions, one behind the other, are accepted with the sum exactly where it is a duration
 pub small_joined_sum : (a b : List ℕ) (ss ts : List Span) (u v : ℕ) → Reads a ss → Reads b ts → Accepted a u → Accepted b v
@@ -40,12 +35,8 @@ pub small_joined_sum : (a b : List ℕ) (ss ts : List Span) (u v : ℕ) → Read
     → Accepted (a ++ b) (u + v) ↔ ((u + v) / nanos_per_second ≤ u64_max)
 small_joined_sum a b ss ts u v h k x y small_ss small_ts =
     let law = joined_sum a b ss ts u v h k x y in
-    let sum : total (additions ss ++ additions ts) ≡ u + v =
-    total-append (additions ss) (additions ts)
-    ∙ ap₂ (λ (m n : ℕ). m + n) (accepted_spans a ss u h x).1 (accepted_spans b ts v k y).1 in
-    let IsDuration : ℕ → Type 0 = λ n. n / nanos_per_second ≤ u64_max in (
-      λ accepted. subst IsDuration sum (room_is_duration (additions ss ++ additions ts) (law.0 accepted)),
-      λ fits.
-          let small = each-append IsSmall (additions ss) (additions ts) small_ss small_ts in
-          law.1 (small_have_room (additions ss ++ additions ts) small (subst IsDuration (sym sum) fits)),
-    )
+    let all = additions ss ++ additions ts in
+    let small = each-append IsSmall (additions ss) (additions ts) small_ss small_ts in
+    let sum : total all ≡ u + v =
+    omega (arith, total-append (additions ss) (additions ts), (accepted_spans a ss u h x).1, (accepted_spans b ts v k y).1) in
+    (λ accepted. rw sum at (room_is_duration all (law.0 accepted)), λ fits. law.1 (small_have_room all small (rw sum fits)))

@@ -4,35 +4,27 @@ use Rattle.std.proofs.Common.{◌≡◌, ℕ, Bool, true, false, List, [], ◌�
 use Rattle.std.proofs.lemmas.Bool.{cases_Bool, or_parts}
 use Rattle.humantime.specs.Durations.Characters.{is_ws, is_digit, is_letter, begins, digits, bare_zero}
 use Rattle.humantime.specs.Durations.Spans.{Span, Only, SpellsFraction, Spells, SpellsEach, SpellsAll, Reads}
-use Rattle.humantime.specs.Durations.Accepted.{Accepted}
+use Rattle.humantime.specs.Durations.Accepted.{Accepted, Bare_zero, Sum_of}
 use Rattle.humantime.specs.Laws.Texts.{without_white_space}
 use Rattle.humantime.proofs.Durations.Reading.Classes.{digit_not_space, space_not_digit, letter_not_space, point_not_numeric, is_point-46}
-use Rattle.humantime.proofs.Durations.Reading.Outcomes.{zero_or_not}
 use Rattle.humantime.proofs.Durations.Printing.PrintedDigits.{some_digit}
-use Rattle.humantime.proofs.Durations.Laws.Readings.{spans_of_accepted, same_spans}
 
 -- white space goes, and each other character stays
-spaceless-space : (c : ℕ) (cs : List ℕ) → is_ws c ≡ true → without_white_space (c ∷ cs) ≡ without_white_space cs
-spaceless-space c cs e = rw e refl
-
-spaceless-other : (c : ℕ) (cs : List ℕ) → is_ws c ≡ false → without_white_space (c ∷ cs) ≡ c ∷ without_white_space cs
-spaceless-other c cs e = rw e refl
-
 only_space : (cs : List ℕ) → Only is_ws cs → without_white_space cs ≡ []
 only_space [] h = refl
-only_space (c ∷ cs) h = spaceless-space c cs h.0 ∙ only_space cs h.1
+only_space (c ∷ cs) h = rw h.0 (only_space cs h.1)
 
 only_letters : (cs : List ℕ) → Only is_letter cs → without_white_space cs ≡ cs
 only_letters [] h = refl
-only_letters (c ∷ cs) h = spaceless-other c cs (letter_not_space c h.0) ∙ ap (λ (l : List ℕ). c ∷ l) (only_letters cs h.1)
+only_letters (c ∷ cs) h = rw (letter_not_space c h.0) (ap (λ (l : List ℕ). c ∷ l) (only_letters cs h.1))
 
 still_only : (p : ℕ → Bool) (cs : List ℕ) → Only p cs → Only p (without_white_space cs)
 still_only p [] h = tt
-still_only p (c ∷ cs) h = grind (arith, common_steps, (still_only p cs h.1), (still_only p cs h.1), cases_Bool, spaceless-space)
+still_only p (c ∷ cs) h = grind (arith, common_steps, (still_only p cs h.1), (cases_Bool (is_ws c)))
 
 same_digits : (cs : List ℕ) → digits (without_white_space cs) ≡ digits cs
 same_digits [] = refl
-same_digits (c ∷ cs) = grind (arith, common_steps, (same_digits cs), (same_digits cs), cases_Bool, space_not_digit, spaceless-space)
+same_digits (c ∷ cs) = grind (arith, common_steps, (same_digits cs), (cases_Bool (is_ws c)), (space_not_digit c))
 
 still_begins : (cs : List ℕ) → begins is_digit cs ≡ true → begins is_digit (without_white_space cs) ≡ true
 still_begins cs h = grind (arith, common_steps, digit_not_space)
@@ -61,12 +53,8 @@ spaceless_reads text spans h =
     (front, h.1)
 
 spaceless_zero : without_white_space bare_zero ≡ bare_zero
-spaceless_zero = spaceless-other 48 [] (digit_not_space 48 (some_digit bare_zero (search rules) (omega arith)))
+spaceless_zero = rw (digit_not_space 48 (some_digit bare_zero (search rules) (omega arith))) refl
 
 pub spaceless_accepted : (text : List ℕ) (v : ℕ) → Accepted text v → Accepted (without_white_space text) v
-spaceless_accepted text v a = elim (zero_or_not text) [
-  | inl e ↦
-      let same : without_white_space text ≡ text = ap without_white_space e ∙ spaceless_zero ∙ sym e in
-      subst (λ (l : List ℕ). Accepted l v) (sym same) a
-  | inr e ↦ let s = spans_of_accepted text v e a in same_spans text (without_white_space text) s.spans v s.reads (spaceless_reads text s.spans s.reads) a
-]
+spaceless_accepted text v (Bare_zero z none) = Bare_zero (ap without_white_space z ∙ spaceless_zero) none
+spaceless_accepted text v (Sum_of spans reads within sum) = Sum_of spans (spaceless_reads text spans reads) within sum

@@ -1,34 +1,21 @@
 -- A text written count by count is the counts' text.
 use Rattle.std.proofs.lemmas.Grind.{common_steps}
-use Rattle.std.proofs.Common.{◌≡◌, inl, inr, ℕ, ◌/◌, ◌%◌, ◌<◌, List, [], ◌∷◌, ◌++◌, length, refl, ap, sym, ◌∙◌, arith, rules}
-use Rattle.std.specs.Prelude.{◌==◌, if◌then◌else◌, codes, nat_lt}
-use Rattle.std.specs.List.{AllByRecursion, join_with_byte}
-use Rattle.std.proofs.lemmas.Bool.{cases_Bool}
+use Rattle.std.proofs.Common.{◌≡◌, ℕ, ◌/◌, ◌%◌, ◌<◌, List, [], ◌∷◌, length, refl, ap, sym, ◌∙◌, arith, rules}
+use Rattle.std.specs.Prelude.{◌==◌, if◌then◌else◌, codes}
+use Rattle.std.specs.List.{AllByRecursion}
 use Rattle.std.proofs.lemmas.Bool.Decides.{nat_tests}
 use Rattle.std.proofs.lemmas.List.{append_assoc, length-append}
 use Rattle.humantime.specs.Values.{nanos_per_micro, nanos_per_milli, nanos_per_second, seconds_per_minute, seconds_per_hour, seconds_per_day, seconds_per_month, seconds_per_year}
 use Rattle.humantime.specs.References.Durations.Printing.{divided, duration_text, behind}
 use Rattle.humantime.specs.Durations.Counts.{Suffix, weights, suffixes, printed_count, printed_counts, joined_by_space}
-use Rattle.humantime.proofs.Durations.Printing.PrintedRows.{space}
 
 -- counts behind a text, one by one
 abbrev pub with_counts : List ℕ → List ℕ → List Suffix → List ℕ
 with_counts text (n ∷ ns) (s ∷ ss) = with_counts (behind text (printed_counts (n ∷ []) (s ∷ []))) ns ss
 with_counts text _ _ = text
 
--- two texts that are joined already
-join_front : (t p : List ℕ) (ps : List (List ℕ)) → join_with_byte space ((t ++ space ∷ p) ∷ ps) ≡ join_with_byte space (t ∷ p ∷ ps)
-join_front t p [] = refl
-join_front t p (q ∷ qs) = append_assoc t (space ∷ p) (space ∷ join_with_byte space (q ∷ qs))
-
 behind_more : (t p : List ℕ) (ps : List (List ℕ)) → 0 < length p → behind (behind t (p ∷ [])) ps ≡ behind t (p ∷ ps)
-behind_more t [] ps h = absurd (omega arith)
-behind_more [] (c ∷ cs) ps h = refl
-behind_more (b ∷ bs) (c ∷ cs) ps h = join_front (b ∷ bs) (c ∷ cs) ps
-
-behind_none : (t : List ℕ) → t ≡ behind t []
-behind_none [] = refl
-behind_none (b ∷ bs) = refl
+behind_more t p ps h = grind (arith, common_steps, append_assoc)
 
 -- each suffix has a letter
 abbrev Lettered : List Suffix → Type 0
@@ -38,14 +25,11 @@ some_letter : (n : ℕ) (s : Suffix) → 0 < length s.0 → 0 < length (printed_
 some_letter n s h = simp length-append (omega (arith, h))
 
 one_by_one : (t ns : List ℕ) (ss : List Suffix) → Lettered ss → with_counts t ns ss ≡ behind t (printed_counts ns ss)
-one_by_one t [] ss h = behind_none t
-one_by_one t (n ∷ ns) [] h = behind_none t
-one_by_one t (n ∷ ns) (s ∷ ss) h = elim (cases_Bool (nat_lt 0 n)) [
-  | inl some ↦
-      let here = printed_count n s in
-      rw some (one_by_one (behind t (here ∷ [])) ns ss h.1 ∙ behind_more t here (printed_counts ns ss) (some_letter n s h.0))
-  | inr none ↦ rw none (one_by_one (behind t []) ns ss h.1 ∙ ap (λ u. behind u (printed_counts ns ss)) (sym (behind_none t)))
-]
+one_by_one t [] ss h = grind (arith, common_steps)
+one_by_one t (n ∷ ns) [] h = grind (arith, common_steps)
+one_by_one t (n ∷ ns) (s ∷ ss) h =
+    let some = one_by_one (behind t (printed_count n s ∷ [])) ns ss h.1 in
+    grind (arith, common_steps, behind_more, some_letter, some, (one_by_one t ns ss h.1))
 
 -- zero seconds where there is no text
 abbrev pub or_zero : List ℕ → List ℕ

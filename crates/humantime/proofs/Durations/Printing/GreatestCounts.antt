@@ -1,5 +1,5 @@
 -- The counts by division are the greatest, and no others are.
-use Rattle.std.proofs.Common.{◌≡◌, ◌⊎◌, inl, inr, ℕ, suc, ◌+◌, ◌*◌, ◌/◌, ◌%◌, ◌<◌, ◌≤◌, List, [], ◌∷◌, length, refl, ap, sym, ◌∙◌, arith, rules, Ordering, nat_cmp, IsTrue, Less, Equal}
+use Rattle.std.proofs.Common.{◌≡◌, ◌⊎◌, ℕ, suc, ◌+◌, ◌*◌, ◌/◌, ◌%◌, ◌<◌, List, [], ◌∷◌, length, refl, ap, sym, ◌∙◌, arith, rules, Ordering, nat_cmp, IsTrue, Equal}
 use Rattle.std.proofs.Math.Nat.{mul_comm, div-add-mod}
 use Rattle.std.proofs.lemmas.Nat.{le-div, mod_below}
 use Rattle.std.proofs.lemmas.Bool.{cases_lt}
@@ -17,9 +17,6 @@ abbrev Reaches : List ℕ → ℕ → Type 0
 Reaches [] m = m ≡ 1
 Reaches (w ∷ ws) m = (0 < w) × Reaches ws w
 
-weights_reach : (m : ℕ) → Reaches weights m
-weights_reach m = search rules
-
 length-divided : (ws : List ℕ) (d : ℕ) → length (divided ws d) ≡ length ws
 length-divided [] d = refl
 length-divided (w ∷ ws) d = ap suc (length-divided ws (d % w))
@@ -30,27 +27,20 @@ divided_sum (w ∷ ws) m d r h = grind (arith, common_steps, (divided_sum ws w (
 
 -- a first count is less than by division, or it is that and the others make up what is left
 first_count : (w c s d : ℕ) → 0 < w → w * c + s ≡ d → (c < d / w) ⊎ ((c ≡ d / w) × (s ≡ d % w))
-first_count w c s d h e =
-    let most : c ≤ d / w = le-div c d w h (omega (arith, mul_comm w c)) in
-    elim (cases_lt c (d / w)) [
-      | inl less ↦ inl less
-      | inr least ↦ let same : c ≡ d / w = omega arith in inr (same, omega (arith, div-add-mod d w, ap (λ n. w * n) same))
-    ]
+first_count w c s d h e = grind (arith, common_steps, (le-div c d w h), (mul_comm w c), (div-add-mod d w), (cases_lt c (d / w)))
 
 divided_last : (ws : List ℕ) (m d : ℕ) → Reaches ws m → (others : List ℕ) → length others ≡ length ws → weighted_sum ws others ≡ d
     → IsTrue (is_le (slice_cmp nat_cmp others (divided ws d)))
 divided_last [] m d r [] l e = refl
-divided_last (w ∷ ws) m d r (c ∷ cs) l e = elim (first_count w c (weighted_sum ws cs) d r.0 e) [
-  | inl less ↦ rw (← (nat_cmp_is c (d / w) Less less)) refl
-  | inr same ↦ rw (← (nat_cmp_is c (d / w) Equal same.0)) (divided_last ws w (d % w) r.1 cs (omega arith) same.1)
-]
+divided_last (w ∷ ws) m d r (c ∷ cs) l e =
+    grind (arith, common_steps, nat_cmp_is, (first_count w c (weighted_sum ws cs) d r.0 e), (divided_last ws w (d % w) r.1 cs))
 divided_last _ m d r _ l e = absurd (omega (arith, l))
 
 divided_greatest : (d : ℕ) → Counts d (divided weights d)
 divided_greatest d = record {
   as_many = length-divided weights d;
-  sum = divided_sum weights (suc d) d (weights_reach (suc d)) (omega arith);
-  greatest = divided_last weights (suc d) d (weights_reach (suc d));
+  sum = divided_sum weights (suc d) d (search rules) (omega arith);
+  greatest = divided_last weights (suc d) d (search rules);
 }
 
 both_ways : (o : Ordering) → IsTrue (is_le o) → IsTrue (is_le (ordering_reverse o)) → o ≡ Equal
@@ -59,10 +49,9 @@ both_ways o h k = grind (arith, common_steps)
 -- no other counts are the greatest
 pub counts_divided : (d : ℕ) (counts : List ℕ) → Counts d counts → counts ≡ divided weights d
 counts_divided d counts g =
-    let by_division = divided weights d in
     let other = divided_greatest d in
-    exact_bytes counts by_division
-    (both_ways _ (other.greatest counts g.as_many g.sum) (rw (nat_list_cmp_total.antisymm by_division counts) at (g.greatest by_division other.as_many other.sum)))
+    let least = rw (nat_list_cmp_total.antisymm (divided weights d) counts) at (g.greatest (divided weights d) other.as_many other.sum) in
+    exact_bytes counts (divided weights d) (both_ways _ (other.greatest counts g.as_many g.sum) least)
 
 -- the text by division is a canonical text, and there is no other
 pub printed_is_canon : (d : ℕ) → Canon d (duration_text d)

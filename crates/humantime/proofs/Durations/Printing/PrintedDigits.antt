@@ -1,6 +1,6 @@
 -- The digits of a printed count, as a number of a text.
 use Rattle.std.proofs.lemmas.Grind.{common_steps}
-use Rattle.std.proofs.Common.{◌≡◌, ℕ, ◌<◌, ◌^◌, true, List, [], ◌∷◌, length, refl, ap, arith}
+use Rattle.std.proofs.Common.{◌≡◌, ℕ, ◌<◌, ◌^◌, true, List, [], ◌∷◌, length, refl, arith}
 use Rattle.std.specs.Prelude.{decimal}
 use Rattle.std.specs.Int.{IsInRange}
 use Rattle.std.specs.Str.Parse.{AllDigits}
@@ -15,13 +15,9 @@ digit_here : (c : ℕ) → IsInRange 48 57 c → is_digit c ≡ true
 unfolding is_digit
 digit_here c h = grind (arith, nat_tests)
 
-pub all_numeric : (ds : List ℕ) → AllDigits 10 ds → Only is_numeric ds
-all_numeric [] h = h
-all_numeric (c ∷ cs) h = (digit_is_numeric c (digit_here c (digit_from_value c h.0)), all_numeric cs h.1)
-
-pub all_digits : (ds : List ℕ) → AllDigits 10 ds → digits ds ≡ ds
-all_digits [] h = refl
-all_digits (c ∷ cs) h = rw (digit_here c (digit_from_value c h.0)) (ap (λ l. c ∷ l) (all_digits cs h.1))
+all_digits : (ds : List ℕ) → AllDigits 10 ds → Only is_numeric ds × (digits ds ≡ ds)
+all_digits [] h = (h, refl)
+all_digits (c ∷ cs) h = grind (arith, common_steps, digit_is_numeric, digit_here, digit_from_value, (all_digits cs h.1))
 
 pub some_digit : (ds : List ℕ) → AllDigits 10 ds → 0 < length ds → begins is_digit ds ≡ true
 some_digit ds h k = grind (arith, common_steps, digit_here)
@@ -34,4 +30,4 @@ pub record IsNumber (ds : List ℕ) (n : ℕ) : Type 0 where
   pub value : decimal_value ds ≡ n
 
 pub decimal_number : (n : ℕ) → n < 2 ^ 64 → IsNumber (decimal n) n
-decimal_number n h = grind (arith, common_steps, (decimal_is_IsNumeral n h), some_digit, all_numeric, all_digits)
+decimal_number n h = grind (arith, common_steps, (decimal_is_IsNumeral n h), some_digit, all_digits)

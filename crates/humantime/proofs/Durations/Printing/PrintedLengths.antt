@@ -1,7 +1,7 @@
 -- How long a printed text is, and how large its counts are.
 use Rattle.std.proofs.lemmas.Grind.{common_steps}
-use Rattle.std.proofs.Common.{◌≡◌, ℕ, ◌+◌, ◌*◌, ◌/◌, ◌%◌, ◌^◌, ◌<◌, ◌≤◌, Bool, cond, List, [], ◌∷◌, length, inl, inr, refl, sym, ap, subst, arith}
-use Rattle.std.specs.Prelude.{◌&&◌, codes, map, nat_lt, slice_index, ⊤}
+use Rattle.std.proofs.Common.{◌≡◌, ℕ, ◌+◌, ◌*◌, ◌/◌, ◌%◌, ◌^◌, ◌<◌, ◌≤◌, cond, List, [], ◌∷◌, length, inl, inr, ap, arith}
+use Rattle.std.specs.Prelude.{map, nat_lt, slice_index, ⊤}
 use Rattle.std.specs.List.{filter, join_with_byte}
 use Rattle.std.proofs.lemmas.Nat.{div_below, mod_below}
 use Rattle.std.proofs.lemmas.Bool.{cases_Bool}
@@ -37,11 +37,8 @@ join_length : (p : List ℕ) (ps : List (List ℕ)) → length (join_with_byte s
 join_length p [] = omega arith
 join_length p (q ∷ ps) = omega (arith, length-append p (space ∷ join_with_byte space (q ∷ ps)), join_length q ps)
 
-plural_length : (p b : Bool) → length (cond (p && b) (codes "s") []) ≤ cond p 1 0
-plural_length p b = grind (arith, common_steps)
-
 count_length : (n k : ℕ) (s : Suffix) → 0 < k → n < 10 ^ k → n < 2 ^ 64 → length (printed_count n s) ≤ k + suffix_length s
-count_length n k s some below fits = grind (arith, common_steps, length-append, plural_length, length-decimal-le)
+count_length n k s some below fits = grind (arith, common_steps, length-append, length-decimal-le)
 
 -- the length of the counts that are not zero
 abbrev shown_length : List (ℕ × Suffix) → ℕ
@@ -54,20 +51,13 @@ counts_length : (us : List (ℕ × Suffix)) (ks : List ℕ) (m r : ℕ) → Size
 counts_length [] ks m r h below = omega arith
 counts_length (u ∷ us) [] m r h below = absurd h
 counts_length (u ∷ us) (k ∷ ks) m r h below =
-    let below_all = div_below r u.0 (10 ^ k) h.2 (omega (arith, h.3)) in
-    let here = count_length (r / u.0) k u.1 h.0 below_all (omega (arith, h.1)) in
-    grind (arith, counts_cons, (counts_length us ks u.0 (r % u.0) h.4 (mod_below r u.0 h.2)))
+    grind (arith, (div_below r u.0 (10 ^ k)), (count_length (r / u.0) k), counts_cons, mod_below, (counts_length us ks u.0 (r % u.0) h.4))
 
-sizes : List ℕ
+abbrev sizes : List ℕ
 sizes = 12 ∷ 2 ∷ 2 ∷ 2 ∷ 2 ∷ 2 ∷ 3 ∷ 3 ∷ 3 ∷ []
 
 sizes_hold : Sizes units sizes most
-unfolding sizes
 sizes_hold = grind (arith, common_steps)
-
-length_is : length_for units sizes ≡ 65
-unfolding sizes
-length_is = refl
 
 joined_length : (ps : List (List ℕ)) → spaced_length ps ≤ 65 → length (joined_by_space ps) ≤ 64
 joined_length ps h = grind (arith, common_steps, join_length)
@@ -76,10 +66,9 @@ pub canon_length : (d : ℕ) → d / nanos_per_second ≤ u64_max → (text : Li
 unfolding duration_text
 canon_length d h text canon =
     let all = counts_length units sizes most d sizes_hold (omega arith) in
-    let short = joined_length (printed_counts (divided weights d) suffixes) (omega (arith, length_is)) in
+    let short = joined_length (printed_counts (divided weights d) suffixes) (omega arith) in
     omega (arith, ap length (canon_is_text d text canon))
 
 pub counts_small : (d : ℕ) (counts : List ℕ) → Counts d counts → (slice_index counts 1 ≤ 11) × (slice_index counts 2 ≤ 30)
 counts_small d counts greatest =
-    let P : List ℕ → Type 0 = λ ns. (slice_index ns 1 ≤ 11) × (slice_index ns 2 ≤ 30) in
-    subst P (sym (counts_divided d counts greatest)) (omega arith, omega arith)
+    rw (counts_divided d counts greatest) (omega arith, omega arith)

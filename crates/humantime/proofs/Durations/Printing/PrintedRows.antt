@@ -1,7 +1,7 @@
 -- The rows of printed counts: what each unit's word stands for.
 use Rattle.std.proofs.lemmas.Grind.{common_steps}
-use Rattle.std.proofs.Common.{◌≡◌, ℕ, ◌*◌, ◌/◌, ◌%◌, ◌^◌, ◌<◌, ◌≤◌, Bool, true, false, cond, List, [], ◌∷◌, ◌++◌, refl, arith}
-use Rattle.std.specs.Prelude.{⊤, ◌&&◌, ◌==◌, Option, Some, None, codes, decimal, nat_lt, nat_le}
+use Rattle.std.proofs.Common.{◌≡◌, ℕ, ◌*◌, ◌/◌, ◌%◌, ◌^◌, ◌<◌, Bool, true, false, cond, List, [], ◌∷◌, ◌++◌, refl, arith}
+use Rattle.std.specs.Prelude.{◌&&◌, ◌==◌, Option, Some, None, codes, decimal, nat_lt, nat_le}
 use Rattle.std.specs.Str.{IsUtf8, is_utf8, chars}
 use Rattle.std.specs.List.{list_all, zip}
 use lib.Utf8.{encode}
@@ -10,7 +10,7 @@ use Rattle.std.proofs.lemmas.Bool.Decides.{nat_tests}
 use Rattle.humantime.specs.Values.{nanos_per_second}
 use Rattle.humantime.specs.Durations.Characters.{is_letter, begins}
 use Rattle.humantime.specs.Durations.Units.{Addition, Nanos, Seconds, Scale, scale_of_word}
-use Rattle.humantime.specs.Durations.Accepted.{addition_nanos, amount}
+use Rattle.humantime.specs.Durations.Accepted.{addition_nanos, amount, is_some_and}
 use Rattle.humantime.specs.Durations.Spans.{Span, Only}
 use Rattle.humantime.specs.Durations.Counts.{Suffix, weights, suffixes}
 
@@ -30,49 +30,33 @@ abbrev pub span_for : ℕ → Suffix → Span
 span_for n s = record { number = decimal n; fraction = None; word = chars (word_for n s) }
 
 -- what is added is seconds, or nanoseconds where no more than a second m is left
-abbrev pub IsOfKind : ℕ → Addition → Type 0
-IsOfKind m (Nanos n) = m ≤ nanos_per_second
-IsOfKind m (Seconds n) = ⊤
+abbrev pub is_of_kind : ℕ → Addition → Bool
+is_of_kind m (Nanos n) = nat_le m nanos_per_second
+is_of_kind m (Seconds n) = true
 
--- The unit counts w nanoseconds each.
-pub record Counts (w m : ℕ) (unit : Scale) : Type 0 where
-  pub weight : addition_nanos unit.one ≡ w
-  pub some : 0 < amount unit.one
-  pub kind : IsOfKind m unit.one
-
--- The word is letters, and stands for such a unit.
+-- The word is letters, and stands for such a unit, which counts w nanoseconds.
 pub record IsWord (w m : ℕ) (word : List ℕ) : Type 0 where
   pub utf8 : IsUtf8 word
   pub unit : Scale
   pub is : scale_of_word (chars word) ≡ Some unit
-  pub counts : Counts w m unit
+  pub weight : addition_nanos unit.one ≡ w
+  pub some : 0 < amount unit.one
+  pub kind : is_of_kind m unit.one ≡ true
   pub letters : Only is_letter (chars word)
   pub first : begins is_letter (chars word) ≡ true
 
-abbrev is_of_kind : ℕ → Addition → Bool
-is_of_kind m (Nanos n) = nat_le m nanos_per_second
-is_of_kind m (Seconds n) = true
-
 abbrev counts : ℕ → ℕ → Option Scale → Bool
-counts w m None = false
-counts w m (Some u) = (addition_nanos u.one == w) && nat_lt 0 (amount u.one) && is_of_kind m u.one
+counts w m o = is_some_and (λ u. (addition_nanos u.one == w) && nat_lt 0 (amount u.one) && is_of_kind m u.one) o
 
 abbrev is_word : ℕ → ℕ → List ℕ → Bool
 is_word w m word = is_utf8 word && counts w m (scale_of_word (chars word)) && list_all is_letter (chars word) && begins is_letter (chars word)
-
-of_kind-true : (m : ℕ) (x : Addition) → is_of_kind m x ≡ true → IsOfKind m x
-of_kind-true m (Nanos n) h = grind (arith, nat_tests)
-of_kind-true m (Seconds n) h = tt
-
-counts_unit : (w m : ℕ) (o : Option Scale) → counts w m o ≡ true → (u : Scale) × (o ≡ Some u) × Counts w m u
-counts_unit w m o h = grind (arith, common_steps, nat_tests, of_kind-true)
 
 only_from : (p : ℕ → Bool) (cs : List ℕ) → list_all p cs ≡ true → Only p cs
 only_from p [] h = tt
 only_from p (c ∷ cs) h = grind (arith, common_steps, (only_from p cs))
 
-is_word-true : (w m : ℕ) (word : List ℕ) → is_word w m word ≡ true → IsWord w m word
-is_word-true w m word h = grind (arith, common_steps, IsUtf8-from_is_utf8, counts_unit, only_from)
+pub is_word-true : (w m : ℕ) (word : List ℕ) → is_word w m word ≡ true → IsWord w m word
+is_word-true w m word h = grind (arith, common_steps, nat_tests, IsUtf8-from_is_utf8, only_from)
 
 word_either : (w m : ℕ) (s : Suffix) (many : Bool) → is_word w m (word_of s true) ≡ true → is_word w m (word_of s false) ≡ true → IsWord w m (word_of s many)
 word_either w m s true h k = is_word-true w m (word_of s true) h
@@ -88,30 +72,22 @@ counted [] d = []
 counted (u ∷ us) d = (d / u.0, u.1) ∷ counted us (d % u.0)
 
 -- each suffix gives words of its weight, where less than m is left
-abbrev pub Table : List (ℕ × Suffix) → ℕ → Type 0
-Table [] m = m ≡ 1
-Table (u ∷ us) m = ((many : Bool) → IsWord u.0 m (word_of u.1 many)) × Table us u.0
-
-abbrev is_table : List (ℕ × Suffix) → ℕ → Bool
+abbrev pub is_table : List (ℕ × Suffix) → ℕ → Bool
 is_table [] m = m == 1
 is_table (u ∷ us) m = is_word u.0 m (word_of u.1 true) && is_word u.0 m (word_of u.1 false) && is_table us u.0
 
 three : (a b c : Bool) → (a && b && c) ≡ true → (a ≡ true) × (b ≡ true) × (c ≡ true)
 three a b c h = grind (arith, common_steps)
 
-is_table-true : (us : List (ℕ × Suffix)) (m : ℕ) → is_table us m ≡ true → Table us m
-is_table-true [] m h = grind (arith, common_steps, nat_tests)
-is_table-true (u ∷ us) m h =
-    let parts = three (is_word u.0 m (word_of u.1 true)) (is_word u.0 m (word_of u.1 false)) (is_table us u.0) h in
-    (λ many. word_either u.0 m u.1 many parts.0 parts.1, is_table-true us u.0 parts.2)
+pub table_row : (u : ℕ × Suffix) (us : List (ℕ × Suffix)) (m : ℕ) (many : Bool) → is_table (u ∷ us) m ≡ true
+    → IsWord u.0 m (word_of u.1 many) × (is_table us u.0 ≡ true)
+table_row u us m many h =
+    grind (arith, word_either, (three (is_word u.0 m (word_of u.1 true)) (is_word u.0 m (word_of u.1 false)) (is_table us u.0) h))
 
 -- a bound of all durations
 abbrev pub most : ℕ
 most = 2 ^ 64 * nanos_per_second
 
-is_so : is_table units most ≡ true
+pub table : is_table units most ≡ true
 unfolding is_letter scale_of_word is_utf8 chars encode
-is_so = refl
-
-pub table : Table units most
-table = is_table-true units most is_so
+table = refl

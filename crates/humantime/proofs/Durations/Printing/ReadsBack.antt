@@ -15,10 +15,6 @@ use Rattle.humantime.proofs.Durations.Printing.PrintedSpans.{canon_reads}
 same_read : (text : List ℕ) (u v : ℕ) → Accepted text u → Accepted text v → u ≡ v
 same_read text u v a b = let one = sym (outcome_accepted text u a) ∙ outcome_accepted text v b in cc
 
--- what is accepted is a duration
-accepted_fits : (text : List ℕ) (v : ℕ) → Accepted text v → v / nanos_per_second ≤ u64_max
-accepted_fits text v h = grind (arith, common_steps, room_is_duration)
-
 pub texts_tell_apart : (a b : ℕ) → a / nanos_per_second ≤ u64_max → b / nanos_per_second ≤ u64_max
     → (s t : List ℕ) → Canon a s → Canon b t → ((s ≡ t) ↔ (a ≡ b))
 texts_tell_apart a b ha hb s t left right = (
@@ -28,10 +24,10 @@ texts_tell_apart a b ha hb s t left right = (
 
 -- the canonical text of what is accepted is accepted with the same value
 canonical_read : (s t : List ℕ) (h : IsCanonicalOf s t) → Accepted (chars t) h.duration
-canonical_read s t h = canon_reads h.duration (accepted_fits (chars s) h.duration h.accepted) t h.canon
+canonical_read s t h = canon_reads h.duration (grind (arith, common_steps, h.accepted, room_is_duration)) t h.canon
 
 pub keeps_its_value : (s : List ℕ) (v : ℕ) (t : List ℕ) → Accepted (chars s) v → IsCanonicalOf s t → Accepted (chars t) v
-keeps_its_value s v t accepted h = subst (λ d. Accepted (chars t) d) (same_read (chars s) h.duration v h.accepted accepted) (canonical_read s t h)
+keeps_its_value s v t accepted h = rw (same_read (chars s) v h.duration accepted h.accepted) (canonical_read s t h)
 
 pub keeps_its_text : (s t u : List ℕ) → IsCanonicalOf s t → (IsCanonicalOf t u ↔ (u ≡ t))
 keeps_its_text s t u h = (

@@ -23,10 +23,6 @@ pub letter_not_space : (c : ℕ) → is_letter c ≡ true → is_ws c ≡ false
 unfolding is_letter
 letter_not_space c e = let other : is_whitespace c ≡ false = grind (arith, nat_tests) in sym (white_is c) ∙ other
 
-point_not_space : (c : ℕ) → is_point c ≡ true → is_ws c ≡ false
-unfolding is_point
-point_not_space c e = let other : is_whitespace c ≡ false = grind (arith, nat_tests) in sym (white_is c) ∙ other
-
 pub letter_not_point : (c : ℕ) → is_letter c ≡ true → is_point c ≡ false
 unfolding is_letter is_point
 letter_not_point c e = grind (arith, nat_tests)
@@ -40,7 +36,7 @@ letter_not_numeric c e = grind (arith, common_steps, letter_not_space, nat_tests
 
 pub point_not_numeric : (c : ℕ) → is_point c ≡ true → is_numeric c ≡ false
 unfolding is_digit is_point
-point_not_numeric c e = grind (arith, common_steps, point_not_space, nat_tests)
+point_not_numeric c e = grind (arith, common_steps, (white_is c), nat_tests)
 
 pub numeric_not_letter : (c : ℕ) → is_numeric c ≡ true → is_letter c ≡ false
 numeric_not_letter c = grind (arith, common_steps, letter_not_numeric)

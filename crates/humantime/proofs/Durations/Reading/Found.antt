@@ -5,13 +5,13 @@ use Rattle.std.specs.List.{AllByRecursion}
 use Rattle.humantime.specs.Durations.Characters.{is_ws, is_digit, begins, past, leading, bare_zero, ends}
 use Rattle.humantime.specs.Durations.Spans.{Span, Spells, SpellsEach, SpellsAll}
 use Rattle.humantime.specs.Durations.Faults.{fault_at, Fault, NumberOverflow, Split, HasFault, Empty, Nothing_there, after_word, span_of}
-use Rattle.humantime.specs.Durations.Accepted.{total, additions_of, value, Formed}
+use Rattle.humantime.specs.Durations.Accepted.{Formed, WithinLimits}
 use Rattle.humantime.specs.References.Durations.Reading.{Walk, no_more, walk_of, items}
 use Rattle.humantime.specs.Durations.Items.{Items, Ends}
 use Rattle.humantime.proofs.Durations.Reading.Runs.{ends-append, leading-past, Only-leading, begins-past}
 use Rattle.humantime.proofs.Durations.Reading.Spelled.{next_of}
-use Rattle.humantime.proofs.Durations.Reading.Spellings.{spells-append}
-use Rattle.humantime.proofs.Durations.Reading.Settled.{WithinLimitsFrom, IsAddedTo, added_or_not, value-cons, value-append, WithinLimits_from, from_WithinLimits, WithinLimitsFrom-push, WithinLimitsFrom-last}
+use Rattle.humantime.proofs.Durations.Reading.Spellings.{each-append, spells_each-append}
+use Rattle.humantime.proofs.Durations.Reading.Settled.{WithinLimits_from, within_or_beyond}
 use Rattle.humantime.proofs.Durations.Reading.SpanWalks.{Steps, by_walk}
 use Rattle.humantime.proofs.Durations.Reading.Stopping.{Fine, fine_at, wrong_stops}
 use Rattle.humantime.proofs.Durations.Reading.Written.{written_here, formed_here, spelling_some}
@@ -28,27 +28,15 @@ pub record IsReadTo (text : List ℕ) (first : Bool) (front : List ℕ) (spans :
   pub follows : rest ≢ [] → begins is_digit rest ≡ false → (spans ≡ []) ⊎ (ends is_ws front ≡ true)
   pub before : IsFirst first spans
 
-pub all_push : (P : Span → Type 0) (ss : List Span) (s : Span) → AllByRecursion P ss → P s → AllByRecursion P (ss ++ s ∷ [])
-all_push P ss s h k = grind (arith, common_steps)
-
-each_push : (body here : List ℕ) (ss : List Span) (s : Span) → SpellsEach body ss → Spells here s [] → SpellsEach (body ++ here) (ss ++ s ∷ [])
-each_push body here [] s h p = ([], rw h p, refl)
-each_push body here (x ∷ ss) s h p = (h.0 ++ here, spells-append body h.0 here x h.1, each_push h.0 here ss s h.2 p)
-
 front_push : (front here : List ℕ) (ss : List Span) (s : Span) → SpellsAll front ss → Spells here s [] → SpellsAll (front ++ here) (ss ++ s ∷ [])
-front_push front here ss s h p = grind (arith, common_steps, each_push)
-
-spelling_not_nil : (here : List ℕ) (s : Span) → Spells here s [] → here ≢ []
-spelling_not_nil here s h e = omega (arith, ap length e, spelling_some here [] s h)
-
-push_not_nil : (ss : List Span) (s : Span) → ss ++ s ∷ [] ≢ []
-push_not_nil ss s = grind (arith, common_steps)
+front_push front here ss s h p = grind (arith, common_steps, (spells_each-append h.body here ss (s ∷ []) h.each ([], p, refl)))
 
 -- one span further
 read_on : (text front rest : List ℕ) (first : Bool) (spans : List Span) → IsReadTo text first front spans rest → Fine rest
     → (here : List ℕ) × IsReadTo text false (front ++ here) (spans ++ span_of rest ∷ []) (next_of rest)
 read_on text front rest first spans r f =
-    let w = written_here rest f in (
+    let w = written_here rest f in
+    let some_text : w.0 ≢ [] = λ n. omega (arith, ap length n, spelling_some w.0 [] (span_of rest) w.1.spells) in (
       w.0,
       record {
         split = record {
@@ -56,14 +44,11 @@ read_on text front rest first spans r f =
           spelled = front_push front w.0 spans (span_of rest) r.split.spelled w.1.spells;
           no_space = begins-past is_ws (after_word rest);
         };
-        formed = all_push Formed spans (span_of rest) r.formed (formed_here rest f);
-        follows = λ some e. inr (ends-append is_ws front w.0 (spelling_not_nil w.0 (span_of rest) w.1.spells) ∙ w.1.closes some e);
-        before = push_not_nil spans (span_of rest);
+        formed = each-append Formed spans (span_of rest ∷ []) r.formed (formed_here rest f, tt);
+        follows = λ some e. inr (ends-append is_ws front w.0 some_text ∙ w.1.closes some e);
+        before = grind (arith, common_steps);
       },
     )
-
-sum_push : (ss : List Span) (s : Span) → 0 + value (ss ++ s ∷ []) ≡ (0 + value ss) + total (additions_of s)
-sum_push ss s = omega (arith, value-append ss (s ∷ []), value-cons s [])
 
 -- a text is read past the white space at its start, with no span yet
 begun : (text : List ℕ) → IsReadTo text true (leading is_ws text) [] (past is_ws text)
@@ -104,43 +89,24 @@ items_found text = (items_found_at text).0
 
 -- these spans are within the limits, and not with those of a walk
 abbrev IsTooLarge : List ℕ → Bool → List ℕ → Walk → Type 0
-IsTooLarge text first rest w = (front : List ℕ) (spans : List Span) → IsReadTo text first front spans rest → WithinLimitsFrom 0 spans
-    → ¬ (WithinLimitsFrom (0 + value spans) (map span_of w.starts)) → HasFault text NumberOverflow
-
-over_at : (text front rest : List ℕ) (first : Bool) (spans : List Span) → text ≢ bare_zero → IsReadTo text first front spans rest → WithinLimitsFrom 0 spans → fault_at text rest ≡ None
-    → ¬ (IsAddedTo (0 + value spans) (span_of rest)) → HasFault text NumberOverflow
-over_at text front rest first spans not_zero r within right over = record {
-  not_zero = not_zero;
-  front = front;
-  rest = rest;
-  spans = spans;
-  split = r.split;
-  within = WithinLimits_from spans r.formed within;
-  fault = inr (
-    right,
-    λ g. over (WithinLimitsFrom-last 0 spans (span_of rest) (from_WithinLimits (spans ++ span_of rest ∷ []) g)),
-    refl,
-  );
-}
+IsTooLarge text first rest w = (front : List ℕ) (spans : List Span) → IsReadTo text first front spans rest → WithinLimits spans
+    → ¬ (WithinLimits (spans ++ map span_of w.starts)) → HasFault text NumberOverflow
 
 too_large : (text : List ℕ) → text ≢ bare_zero → Steps text (IsTooLarge text)
-too_large text not_zero = record {
-  end = λ first front spans r within big. absurd (big tt);
-  wrong = λ first rest e some s front spans r within big. absurd (big tt);
-  right = λ first rest w s more front spans r within big.
-      let f = fine_at text rest s in
-      elim (added_or_not (0 + value spans) (span_of rest)) [
-        | inl a ↦
-            let k = read_on text front rest first spans r f in
-            let sum : 0 + value (spans ++ span_of rest ∷ []) ≡ (0 + value spans) + total (additions_of (span_of rest)) = sum_push spans (span_of rest) in
-            more (front ++ k.0) (spans ++ span_of rest ∷ []) k.1 (WithinLimitsFrom-push 0 spans (span_of rest) within a) (λ g. big (a, rw sum at g))
-        | inr a ↦ over_at text front rest first spans not_zero r within s a
+too_large text some = record {
+  end = λ first front spans r within big. absurd (big (rw append-nil within));
+  wrong = λ first rest e more s front spans r within big. absurd (big (rw append-nil within));
+  right = λ first rest w s more front ss r g big.
+      let k = read_on text front rest first ss r (fine_at text rest s) in
+      elim (within_or_beyond (ss ++ span_of rest ∷ []) k.1.formed) [
+        | inl h ↦ more (front ++ k.0) (ss ++ span_of rest ∷ []) k.1 h (λ all. big (rw append_assoc at all))
+        | inr o ↦ record { not_zero = some; front = front; rest = rest; spans = ss; split = r.split; within = g; fault = inr (s, o, refl) }
       ];
 }
 
 -- where the items of a text are too large, it has that fault
-pub too_large_found : (text : List ℕ) → text ≢ bare_zero → ¬ (WithinLimitsFrom 0 (items text).0) → HasFault text NumberOverflow
+pub too_large_found : (text : List ℕ) → text ≢ bare_zero → ¬ (WithinLimits (items text).0) → HasFault text NumberOverflow
 unfolding items
 too_large_found text not_zero bad =
-    by_walk text (IsTooLarge text) (too_large text not_zero) true (past is_ws text) (leading is_ws text) [] (begun text) tt
-    (λ g. let e : 0 + value [] ≡ 0 = omega arith in bad (rw e at g))
+    by_walk text (IsTooLarge text) (too_large text not_zero) true (past is_ws text) (leading is_ws text) [] (begun text)
+    (WithinLimits_from [] tt tt) bad

@@ -18,20 +18,13 @@ one_each body [] (t ∷ ts) h k = absurd (begins_not_nil is_digit body (each_sta
 one_each body (s ∷ ss) [] h k = absurd (begins_not_nil is_digit body (each_starts body s ss h) k)
 one_each body (s ∷ ss) (t ∷ ts) h k = grind (arith, common_steps, (first_here body [] s ss h (inl refl) refl), (first_here body [] t ts k (inl refl) refl), (one_each h.0 ss ts h.2 (subst (λ x. SpellsEach x ts) (sym (append-nil k.0) ∙ sym (first_here body [] t ts k (inl refl) refl).next_is ∙ (first_here body [] s ss h (inl refl) refl).next_is ∙ append-nil h.0) k.2)))
 
-one_front : (text : List ℕ) (ss ts : List Span) → SpellsAll text ss → SpellsAll text ts → ss ≡ ts
-unfolding split_whole
-one_front text ss ts h k = grind (arith, common_steps, (front_begins text text [] ss (split_whole text ss h)), (front_begins text text [] ts (split_whole text ts k)), one_each)
-
 pub one_reading : (text : List ℕ) (ss ts : List Span) → Reads text ss → Reads text ts → ss ≡ ts
-one_reading text ss ts h k = one_front text ss ts h.0 k.0
+unfolding split_whole
+one_reading text ss ts h k =
+    grind (arith, common_steps, (front_begins _ _ _ _ (split_whole _ _ h.0)), (front_begins _ _ _ _ (split_whole _ _ k.0)), one_each)
 
 -- a text that is read has a digit and a letter
-each_long : (body : List ℕ) (spans : List Span) → SpellsEach body spans → spans ≢ [] → 1 < length body
-each_long body [] h some = absurd (some refl)
-each_long body (s ∷ ss) h some = spelling_some body h.0 s h.1
-
-reads_long : (text : List ℕ) (spans : List Span) → Reads text spans → 1 < length text
-reads_long text spans h = omega (arith, ap length h.0.whole, length-append h.0.space h.0.body, each_long h.0.body spans h.0.each h.1)
-
 pub not_zero : (text : List ℕ) (spans : List Span) → Reads text spans → text ≢ bare_zero
-not_zero text spans h e = omega (arith, ap length e, reads_long text spans h)
+not_zero text [] h e = absurd (h.1 refl)
+not_zero text (s ∷ ss) h e =
+    omega (arith, ap length e, ap length h.0.whole, length-append h.0.space h.0.body, spelling_some h.0.body h.0.each.0 s h.0.each.1)

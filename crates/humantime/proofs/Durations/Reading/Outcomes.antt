@@ -19,7 +19,8 @@ use Rattle.humantime.proofs.Durations.Reading.Spelled.{next_of}
 use Rattle.humantime.proofs.Durations.Reading.Stopping.{fine_at}
 use Rattle.humantime.proofs.Durations.Reading.Written.{formed_here}
 use Rattle.humantime.proofs.Durations.Reading.SpanWalks.{walk-right}
-use Rattle.humantime.proofs.Durations.Reading.Found.{all_push, too_large_found}
+use Rattle.humantime.proofs.Durations.Reading.Found.{too_large_found}
+use Rattle.humantime.proofs.Durations.Reading.Spellings.{each-append}
 use Rattle.humantime.proofs.Durations.Reading.Told.{first_after, followed_by, front_told, closes_digit}
 use Rattle.humantime.proofs.Durations.Reading.OneReading.{split_whole, not_zero}
 pub use Rattle.humantime.proofs.Durations.Reading.Found.{items_found}
@@ -36,10 +37,7 @@ unfolding duration_answer
 duration_answer-items text some = grind (arith, common_steps, bytes_eq-Decides)
 
 pub zero_or_not : (text : List ℕ) → (text ≡ bare_zero) ⊎ (text ≢ bare_zero)
-zero_or_not text = elim (cases_Bool (bytes_eq text bare_zero)) [
-  | inl e ↦ inl ((bytes_eq-Decides text bare_zero).0 e)
-  | inr e ↦ inr (λ h. false≢true (sym e ∙ (bytes_eq-Decides text bare_zero).1 h))
-]
+zero_or_not text = grind (arith, common_steps, (bytes_eq-Decides text bare_zero), (cases_Bool (bytes_eq text bare_zero)))
 
 -- whatever the items are, they settle the outcome
 outcome_settled : (text : List ℕ) (spans : List Span) (stop : Option Fault) → text ≢ bare_zero → Items text spans stop → duration_answer text ≡ settle 0 (items_of spans stop)
@@ -72,7 +70,7 @@ over_outcome text e h right beyond =
     let spans = (h.spans ++ span_of h.rest ∷ map span_of more.starts) in
     let told : items text ≡ (spans, more.stop) = front_told text h.front h.rest h.spans h.split h.within.formed (inr (closes_digit h.front h.rest f.starts))
     ∙ ap (followed_by h.spans) (walk-right (first_after true h.spans) text h.rest right) in
-    let formed = all_push Formed h.spans (span_of h.rest) h.within.formed (formed_here h.rest f) in
+    let formed = each-append Formed h.spans (span_of h.rest ∷ []) h.within.formed (formed_here h.rest f, tt) in
     let i : Items text spans more.stop = subst (λ (r : List Span × Option Fault). Items text r.0 r.1) told (items_found text) in
     outcome_settled text spans more.stop h.not_zero i ∙ too_large spans more.stop i.formed (λ g. beyond (WithinLimits_from (h.spans ++ span_of h.rest ∷ []) formed (WithinLimitsFrom-front 0 _ (map span_of more.starts) (rw append_assoc (from_WithinLimits spans g)))))
 
@@ -104,7 +102,7 @@ fault_read text e some h =
     let i = items_found text in
     elim (settled_fault (items text).0 (items text).1 e i.formed (sym (duration_answer-items text some) ∙ h)) [
       | inl d ↦ items_decide_fault text (items text).0 e (rw d.1 at i) some d.0
-      | inr d ↦ subst (HasFault text) d.1 (too_large_found text some (λ g. d.0 (WithinLimits_from (items text).0 i.formed g)))
+      | inr d ↦ subst (HasFault text) d.1 (too_large_found text some d.0)
     ]
 
 pub fault_from_outcome : (text : List ℕ) (e : Fault) → duration_answer text ≡ Err e → HasFault text e

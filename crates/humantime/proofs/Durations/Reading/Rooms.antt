@@ -1,9 +1,9 @@
 -- Room for additions, one after the other.
 use Rattle.std.proofs.lemmas.Grind.{common_steps}
-use Rattle.std.proofs.Common.{◌≡◌, ℕ, ◌+◌, ◌/◌, ◌≤◌, true, List, [], ◌∷◌, ◌++◌, Some, None, refl, ap, ◌∙◌, inl, inr, arith}
+use Rattle.std.proofs.Common.{◌≡◌, ℕ, ◌+◌, ◌/◌, ◌≤◌, true, List, [], ◌∷◌, ◌++◌, Some, None, refl, ap, ◌∙◌, inl, inr, arith, append_assoc}
 use Rattle.std.specs.Prelude.{⊤}
 use Rattle.std.proofs.lemmas.Bool.{cases_Bool}
-use Rattle.std.proofs.lemmas.List.Sums.{sum_by-append, sum_by-cons}
+use Rattle.std.proofs.lemmas.List.Sums.{sum_by-append, sum_by-cons, sum_by_push}
 use Rattle.humantime.specs.Values.{nanos_per_second}
 use Rattle.humantime.specs.Durations.Characters.{u64_max}
 use Rattle.humantime.specs.Durations.Units.{Addition, Nanos, Seconds}
@@ -27,17 +27,12 @@ add_all-room t (x ∷ xs) h = rw h.0 (add_all-room (t + addition_nanos x) xs h.1
 pub add_all-full : (t : ℕ) (xs : List Addition) → ¬ (RoomFrom t xs) → add_all t xs ≡ None
 unfolding add_all
 add_all-full t [] h = absurd (h tt)
-add_all-full t (x ∷ xs) h = elim (cases_Bool (room t x)) [
-  | inl e ↦ rw e (add_all-full (t + addition_nanos x) xs (λ r. h (e, r)))
-  | inr e ↦ rw e
-]
+add_all-full t (x ∷ xs) h = grind (arith, common_steps, (add_all-full (t + addition_nanos x) xs))
 
 -- room one by one, for lists joined end to end
 pub RoomFrom-append : (t : ℕ) (xs ys : List Addition) → RoomFrom t xs → RoomFrom (t + total xs) ys → RoomFrom t (xs ++ ys)
 RoomFrom-append t [] ys h k = let e : t + total [] ≡ t = omega arith in rw e at k
-RoomFrom-append t (x ∷ xs) ys h k =
-    let e : t + total (x ∷ xs) ≡ (t + addition_nanos x) + total xs = omega (arith, sum_by-cons addition_nanos x xs) in
-    (h.0, RoomFrom-append (t + addition_nanos x) xs ys h.1 (rw e at k))
+RoomFrom-append t (x ∷ xs) ys h k = grind (arith, common_steps, (RoomFrom-append (t + addition_nanos x) xs ys h.1))
 
 pub RoomFrom-front : (t : ℕ) (xs ys : List Addition) → RoomFrom t (xs ++ ys) → RoomFrom t xs
 RoomFrom-front t [] ys h = tt
@@ -47,19 +42,15 @@ pub RoomFrom-back : (t : ℕ) (xs ys : List Addition) → RoomFrom t (xs ++ ys) 
 RoomFrom-back t [] ys h = let e : t + total [] ≡ t = omega arith in rw e h
 RoomFrom-back t (x ∷ xs) ys h = grind (arith, common_steps, (RoomFrom-back (t + addition_nanos x) xs ys h.1))
 
--- room one by one is room after each front
-from_each : (t : ℕ) (xs : List Addition) → ((before after : List Addition) (x : Addition) → xs ≡ before ++ x ∷ after → room (t + total before) x ≡ true) → RoomFrom t xs
-from_each t [] h = tt
-from_each t (y ∷ ys) h =
-    let zero : t + total [] ≡ t = omega arith in (
-      rw zero at (h [] ys y refl),
-      from_each (t + addition_nanos y) ys (λ before after x e.
-          let p : t + total (y ∷ before) ≡ (t + addition_nanos y) + total before = omega (arith, sum_by-cons addition_nanos y before) in
-          rw p at (h (y ∷ before) after x (ap (λ (l : List Addition). y ∷ l) e))),
-    )
+-- room after each front is room one by one
+from_each : (before xs : List Addition) → AllHaveRoom (before ++ xs) → RoomFrom (total before) xs
+from_each before [] h = tt
+from_each before (x ∷ xs) h =
+    let sum : total (before ++ x ∷ []) ≡ total before + addition_nanos x = sum_by_push addition_nanos before x in
+    (h before xs x refl, rw sum at (from_each (before ++ x ∷ []) xs (rw append_assoc h)))
 
 pub room_from_all : (xs : List Addition) → AllHaveRoom xs → RoomFrom 0 xs
-room_from_all xs h = from_each 0 xs (λ before after x e. let p : 0 + total before ≡ total before = omega arith in rw p (h before after x e))
+room_from_all xs h = from_each [] xs h
 
 pub all_have_room : (xs : List Addition) → RoomFrom 0 xs → AllHaveRoom xs
 all_have_room xs h before after x e = grind (arith, common_steps, RoomFrom-back)

@@ -54,9 +54,6 @@ ends_other p q other [] e = refl
 ends_other p q other (c ∷ []) e = other c e
 ends_other p q other (c ∷ d ∷ cs) e = ends_other p q other (d ∷ cs) e
 
-pub begins_also : (p q : ℕ → Bool) → ((c : ℕ) → p c ≡ true → q c ≡ true) → (cs : List ℕ) → begins p cs ≡ true → begins q cs ≡ true
-begins_also p q h cs k = grind (arith, common_steps)
-
 -- a text begins as its first part does, and ends as its last part does
 pub begins-append : (p : ℕ → Bool) (xs ys : List ℕ) → xs ≢ [] → begins p (xs ++ ys) ≡ begins p xs
 begins-append p xs ys h = grind (arith, common_steps)

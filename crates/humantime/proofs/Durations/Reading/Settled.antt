@@ -28,9 +28,6 @@ add_span-over : (t : ℕ) (s : Span) → ¬ (IsAddedTo t s) → add_span t s ≡
 unfolding add_span
 add_span-over t s h = grind (arith, common_steps, add_all-full)
 
-pub added_or_not : (t : ℕ) (s : Span) → IsAddedTo t s ⊎ ¬ (IsAddedTo t s)
-added_or_not t s = grind (arith, common_steps)
-
 within_or_not : (t : ℕ) (spans : List Span) → AllByRecursion Formed spans → WithinLimitsFrom t spans ⊎ ¬ (WithinLimitsFrom t spans)
 within_or_not t [] f = inl tt
 within_or_not t (s ∷ ss) f = grind (arith, common_steps, (within_or_not (t + total (additions_of s)) ss f.1))
@@ -54,25 +51,19 @@ settle_fine t (s ∷ ss) items f h = grind (arith, common_steps, (settle_fine (t
 settle_beyond : (t : ℕ) (spans : List Span) (items : List (Result Span Fault)) → AllByRecursion Formed spans → ¬ (WithinLimitsFrom t spans) → settle t (map Ok spans ++ items) ≡ Err NumberOverflow
 unfolding settle
 settle_beyond t [] items f h = absurd (h tt)
-settle_beyond t (s ∷ ss) items f h = elim (added_or_not t s) [
-  | inl a ↦ rw (add_span-added t s a, settle) (settle_beyond (t + total (additions_of s)) ss items f.1 (λ r. h (a, r)))
-  | inr a ↦ rw (add_span-over t s a, settle)
-]
+settle_beyond t (s ∷ ss) items f h =
+    grind (arith, common_steps, (settle_beyond (t + total (additions_of s)) ss items f.1), add_span-added, add_span-over)
 
-room_each : (t : ℕ) (spans : List Span) → WithinLimitsFrom t spans → RoomFrom t (additions spans)
-room_each t [] h = tt
-room_each t (s ∷ ss) h = RoomFrom-append t (additions_of s) (additions ss) h.0.1 (room_each (t + total (additions_of s)) ss h.1)
-
-fit_each : (t : ℕ) (spans : List Span) → WithinLimitsFrom t spans → AllByRecursion (λ s. fits s ≡ true) spans
-fit_each t [] h = tt
-fit_each t (s ∷ ss) h = (h.0.0, fit_each (t + total (additions_of s)) ss h.1)
+each_fits : (t : ℕ) (ss : List Span) → WithinLimitsFrom t ss → AllByRecursion (λ s. fits s ≡ true) ss × RoomFrom t (additions ss)
+each_fits t [] h = (tt, tt)
+each_fits t (s ∷ ss) h = grind (arith, common_steps, (each_fits (t + total (additions_of s)) ss h.1), RoomFrom-append)
 
 each_within : (t : ℕ) (spans : List Span) → AllByRecursion (λ s. fits s ≡ true) spans → RoomFrom t (additions spans) → WithinLimitsFrom t spans
 each_within t [] f r = tt
 each_within t (s ∷ ss) f r = ((f.0, RoomFrom-front t (additions_of s) (additions ss) r), each_within (t + total (additions_of s)) ss f.1 (RoomFrom-back t (additions_of s) (additions ss) r))
 
-pub WithinLimits_from : (spans : List Span) → AllByRecursion Formed spans → WithinLimitsFrom 0 spans → WithinLimits spans
-WithinLimits_from spans f h = record { formed = f; fit = fit_each 0 spans h; room = all_have_room (additions spans) (room_each 0 spans h) }
+pub WithinLimits_from : (ss : List Span) → AllByRecursion Formed ss → WithinLimitsFrom 0 ss → WithinLimits ss
+WithinLimits_from ss f h = let each = each_fits 0 ss h in record { formed = f; fit = each.0; room = all_have_room (additions ss) each.1 }
 
 pub from_WithinLimits : (spans : List Span) → WithinLimits spans → WithinLimitsFrom 0 spans
 from_WithinLimits spans h = each_within 0 spans h.fit (room_from_all (additions spans) h.room)
@@ -102,14 +93,3 @@ settled_fault spans stop e f h = grind (arith, common_steps, (within_or_beyond s
 pub WithinLimitsFrom-front : (t : ℕ) (ss ts : List Span) → WithinLimitsFrom t (ss ++ ts) → WithinLimitsFrom t ss
 WithinLimitsFrom-front t [] ts h = tt
 WithinLimitsFrom-front t (s ∷ ss) ts h = (h.0, WithinLimitsFrom-front (t + total (additions_of s)) ss ts h.1)
-
--- spans within the limits and one more
-pub WithinLimitsFrom-push : (t : ℕ) (ss : List Span) (s : Span) → WithinLimitsFrom t ss → IsAddedTo (t + value ss) s → WithinLimitsFrom t (ss ++ s ∷ [])
-WithinLimitsFrom-push t [] s h a = let e : t + value [] ≡ t = omega arith in (rw e at a, tt)
-WithinLimitsFrom-push t (x ∷ ss) s h a =
-    let e : t + value (x ∷ ss) ≡ (t + total (additions_of x)) + value ss = omega (arith, value-cons x ss) in
-    (h.0, WithinLimitsFrom-push (t + total (additions_of x)) ss s h.1 (rw e at a))
-
-pub WithinLimitsFrom-last : (t : ℕ) (ss : List Span) (s : Span) → WithinLimitsFrom t (ss ++ s ∷ []) → IsAddedTo (t + value ss) s
-WithinLimitsFrom-last t [] s h = let e : t + value [] ≡ t = omega arith in rw e (h.0)
-WithinLimitsFrom-last t (x ∷ ss) s h = grind (arith, common_steps, (WithinLimitsFrom-last (t + total (additions_of x)) ss s h.1))

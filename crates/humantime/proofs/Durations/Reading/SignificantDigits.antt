@@ -37,10 +37,7 @@ significant_zero ds = rw (reverse-append ds (48 ∷ []))
 
 past_long : (p : ℕ → Bool) (xs ys : List ℕ) (d : ℕ) → p d ≡ false → length ys < length (past p (xs ++ d ∷ ys))
 past_long p [] ys d e = rw e (omega arith)
-past_long p (x ∷ xs) ys d e = elim (cases_Bool (p x)) [
-  | inl here ↦ rw here (past_long p xs ys d e)
-  | inr other ↦ rw other (omega (arith, length-append xs (d ∷ ys)))
-]
+past_long p (x ∷ xs) ys d e = grind (arith, common_steps, (past_long p xs ys d e), (length-append xs (d ∷ ys)))
 
 pub significant_long : (ds es : List ℕ) (d : ℕ) → (d == 48) ≡ false → length ds < length (significant (ds ++ d ∷ es))
 unfolding significant
@@ -77,22 +74,13 @@ value_shifted ds z count =
     (ap decimal_value (significant_and_zeros ds) ∙ value-append 0 (significant ds) (reverse (zeros_of ds))
     ∙ zeros_value (decimal_value (significant ds)) (zeros_of ds) (Only-leading is_zero (reverse ds)))
 
--- Digits with zeros at their end are the digits before these, and a power of ten.
-record IsShifted (ds : List ℕ) : Type 0 where
-  by : ℕ
-  positive : 0 < by
-  value : decimal_value ds ≡ decimal_value (significant ds) * by
-  power : 10 ^ length ds ≡ 10 ^ length (significant ds) * by
+product_shifted : (f : ℕ) (ds : List ℕ) → decimal_value ds * f ≡ decimal_value (significant ds) * f * 10 ^ length (zeros_of ds)
+product_shifted f ds =
+    ap (λ (n : ℕ). n * f) (value_shifted ds (length (zeros_of ds)) (zeros_count ds))
+    ∙ mul_right_comm (decimal_value (significant ds)) (10 ^ length (zeros_of ds)) f
 
-shifted : (ds : List ℕ) → IsShifted ds
-shifted ds =
-    let zeros = length (zeros_of ds) in
-    record {
-      by = 10 ^ zeros;
-      positive = one-le-pow zeros 10 (omega arith);
-      value = value_shifted ds zeros (zeros_count ds);
-      power = ap (λ (n : ℕ). 10 ^ n) (zeros_count ds) ∙ pow-add 10 (length (significant ds)) zeros;
-    }
+power_shifted : (ds : List ℕ) → 10 ^ length ds ≡ 10 ^ length (significant ds) * 10 ^ length (zeros_of ds)
+power_shifted ds = ap (λ (n : ℕ). 10 ^ n) (zeros_count ds) ∙ pow-add 10 (length (significant ds)) (length (zeros_of ds))
 
 divides : (x y c : ℕ) → 0 < c → x * c % (y * c) ≡ 0 → x % y ≡ 0
 divides x y c some e =
@@ -105,19 +93,16 @@ divides x y c some e =
 -- a whole part stays one, of the same amount
 pub whole_part_kept : (f : ℕ) (ds : List ℕ) → is_whole_part f ds ≡ true → is_whole_part f (significant ds) ≡ true
 whole_part_kept f ds h =
-    let s = shifted ds in
-    let kept_value = decimal_value (significant ds) in
-    let product : decimal_value ds * f ≡ kept_value * f * s.by = ap (λ (n : ℕ). n * f) s.value ∙ mul_right_comm kept_value s.by f in
-    let less : kept_value * f ≤ kept_value * f * s.by = le-mul_of_pos_right (kept_value * f) s.positive in
+    let by = 10 ^ length (zeros_of ds) in
+    let some : 0 < by = one-le-pow (length (zeros_of ds)) 10 (omega arith) in
+    let kept = decimal_value (significant ds) * f in
     let parts : (decimal_value ds * f ≤ 18446744073709551615) × (decimal_value ds * f % 10 ^ length ds ≡ 0) = grind (arith, common_steps) in
-    let rest : kept_value * f * s.by % (10 ^ length (significant ds) * s.by) ≡ 0 = rw (← product, ← s.power) parts.1 in
-    let whole = divides (kept_value * f) (10 ^ length (significant ds)) s.by s.positive rest in
-    let fits : kept_value * f ≤ 18446744073709551615 = omega (arith, less, product, parts.0) in
+    let rest : kept * by % (10 ^ length (significant ds) * by) ≡ 0 = rw (← product_shifted f ds, ← power_shifted ds) parts.1 in
+    let whole = divides kept (10 ^ length (significant ds)) by some rest in
+    let fits : kept ≤ 18446744073709551615 = omega (arith, le-mul_of_pos_right kept some, product_shifted f ds, parts.0) in
     grind (arith, common_steps)
 
 pub amount_kept : (f : ℕ) (ds : List ℕ) → decimal_value ds * f / 10 ^ length ds ≡ decimal_value (significant ds) * f / 10 ^ length (significant ds)
 amount_kept f ds =
-    let s = shifted ds in
-    let kept_value = decimal_value (significant ds) in
-    let product : decimal_value ds * f ≡ kept_value * f * s.by = ap (λ (n : ℕ). n * f) s.value ∙ mul_right_comm kept_value s.by f in
-    ap₂ (λ (x y : ℕ). x / y) product s.power ∙ mul-div-mul_right (kept_value * f) (10 ^ length (significant ds)) s.positive
+    ap₂ (λ (x y : ℕ). x / y) (product_shifted f ds) (power_shifted ds)
+    ∙ mul-div-mul_right (decimal_value (significant ds) * f) (10 ^ length (significant ds)) (one-le-pow _ 10 (omega arith))

@@ -35,13 +35,8 @@ unfolding walk
 enough n m first text [] h k = refl
 enough zero m first text (c ∷ cs) h k = absurd (omega arith)
 enough (suc n) zero first text (c ∷ cs) h k = absurd (omega arith)
-enough (suc n) (suc m) first text (c ∷ cs) h k = by (fault_at text (c ∷ cs)) refl (λ d. let s = next_smaller (c ∷ cs) d in enough n m false text (next_of (c ∷ cs)) (omega arith) (omega arith))
-  where
-    by : (o : Option Fault) → fault_at text (c ∷ cs) ≡ o → (begins is_digit (c ∷ cs) ≡ true → walk n false text (next_of (c ∷ cs)) ≡ walk m false text (next_of (c ∷ cs)))
-        → ◌≡◌ {A = Walk} (elim o [ None ↦ one_more (c ∷ cs) (walk n false text (next_of (c ∷ cs))) | Some e ↦ no_more (c ∷ cs) (Some e) ])
-        (elim o [ None ↦ one_more (c ∷ cs) (walk m false text (next_of (c ∷ cs))) | Some e ↦ no_more (c ∷ cs) (Some e) ])
-    by None e same = ap (one_more (c ∷ cs)) (same (right_begins text (c ∷ cs) e))
-    by (Some f) e same = refl
+enough (suc n) (suc m) first text (c ∷ cs) h k =
+    grind (arith, common_steps, (enough n m false text (next_of (c ∷ cs))), (next_smaller (c ∷ cs)), (right_begins text (c ∷ cs)))
 
 pub walk-end : (first : Bool) (text : List ℕ) → walk_from first text [] ≡ no_more [] (if first then Some Empty else None)
 unfolding walk

@@ -86,8 +86,7 @@ ends_in_word a b word only some =
 
 followed : (a b word c here next : List ℕ) → here ≡ a ++ (b ++ (word ++ c)) → Only is_letter word → begins is_letter word ≡ true → Only is_ws c
     → (ends_span next ≡ true) ⊎ (ends is_ws here ≡ true) → ends_span (c ++ next) ≡ true
-followed a b word [] here next whole only some space (inl e) = e
-followed a b word [] here next whole only some space (inr e) = absurd (false≢true (sym (ends_in_word a b word only some) ∙ ap (ends is_ws) (sym whole) ∙ e))
+followed a b word [] here next whole only some space o = grind (arith, common_steps, (ends_in_word a b word only some))
 followed a b word (x ∷ xs) here next whole only some space o = space_is_numeric x (space.0)
 
 -- a spelling is the span that begins it, where its word ends with it

@@ -1,7 +1,8 @@
 -- A spelling as a text of its own, and with more behind it.
-use Rattle.std.proofs.Common.{arith, ◌≡◌, ℕ, List, [], ◌++◌, sym, ◌∙◌, append_assoc, append-nil}
+use Rattle.std.proofs.Common.{arith, ◌≡◌, ℕ, List, [], ◌∷◌, ◌++◌, sym, ◌∙◌, append_assoc, append-nil, subst}
+use Rattle.std.specs.List.{AllByRecursion}
 use Rattle.std.proofs.lemmas.Grind.{common_steps}
-use Rattle.humantime.specs.Durations.Spans.{Span, Spells}
+use Rattle.humantime.specs.Durations.Spans.{Span, Spells, SpellsEach}
 
 -- The text is one that spells the span alone, and then the rest.
 pub record IsApart (text : List ℕ) (span : Span) (rest : List ℕ) : Type 0 where
@@ -28,6 +29,14 @@ apart text rest s h = record {
 
 pub spells-append : (text rest more : List ℕ) (s : Span) → Spells text s rest → Spells (text ++ more) s (rest ++ more)
 spells-append text rest more s h = grind (arith, common_steps)
+
+pub spells_each-append : (a b : List ℕ) (ss ts : List Span) → SpellsEach a ss → SpellsEach b ts → SpellsEach (a ++ b) (ss ++ ts)
+spells_each-append a b [] ts h k = subst (λ (l : List ℕ). SpellsEach (l ++ b) ts) (sym h) k
+spells_each-append a b (s ∷ ss) ts h k = (h.0 ++ b, spells-append a h.0 b s h.1, spells_each-append h.0 b ss ts h.2 k)
+
+-- what holds of the elements of two lists holds of those of both together
+pub each-append : {A : Type 0} (P : A → Type 0) (xs ys : List A) → AllByRecursion P xs → AllByRecursion P ys → AllByRecursion P (xs ++ ys)
+each-append P xs ys h k = grind (arith, common_steps)
 
 -- a spelling alone has nothing behind its white space
 pub spells_alone : (here : List ℕ) (s : Span) (h : Spells here s []) → here ≡ h.number_text ++ (h.fraction_text ++ (s.word ++ h.space))

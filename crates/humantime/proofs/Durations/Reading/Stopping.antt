@@ -37,5 +37,4 @@ fine_goes text rest h = grind (arith, common_steps, some_letters)
 
 -- what stops at a rest is wrong there
 pub stops_at : (text front : List ℕ) (spans : List Span) (rest : List ℕ) (e : Fault) → rest ≢ [] → Stops text front spans rest e → fault_at text rest ≡ Some e
-stops_at text front spans rest e some (Nothing_there none end q) = absurd (some end)
-stops_at text front spans rest e some (Wrong_there there where_it q) = q
+stops_at text front spans rest e some h = grind (arith, common_steps)

@@ -9,7 +9,7 @@ use Rattle.humantime.specs.Durations.Faults.{Fault, Split, ends_span, span_of}
 use Rattle.humantime.specs.Durations.Items.{Items, Ends}
 use Rattle.humantime.specs.References.Durations.Reading.{Walk, no_more, walk_from, spans_on, items}
 use Rattle.humantime.proofs.Durations.Reading.Classes.{digit_is_numeric, digit_not_space}
-use Rattle.humantime.proofs.Durations.Reading.Runs.{past-append, begins-append, begins_other, begins_also, begins_not_nil, ends-append}
+use Rattle.humantime.proofs.Durations.Reading.Runs.{past-append, begins-append, begins_other, begins_not_nil, ends-append}
 use Rattle.humantime.proofs.Durations.Reading.Spelled.{IsSpanAt, spelled_here}
 use Rattle.humantime.proofs.Durations.Reading.Spellings.{apart}
 use Rattle.humantime.proofs.Durations.Reading.SpanWalks.{walk-end, walk-wrong, walk-right}
@@ -20,12 +20,8 @@ use Rattle.humantime.proofs.Durations.Reading.Written.{fine_here}
 abbrev pub Closes : List ℕ → List ℕ → Type 0
 Closes front rest = (ends_span rest ≡ true) ⊎ (ends is_ws front ≡ true)
 
-ends_before_digit : (rest : List ℕ) → begins is_digit rest ≡ true → ends_span rest ≡ true
-ends_before_digit [] d = refl
-ends_before_digit (c ∷ cs) d = digit_is_numeric c d
-
 pub closes_digit : (front rest : List ℕ) → begins is_digit rest ≡ true → Closes front rest
-closes_digit front rest d = inl (ends_before_digit rest d)
+closes_digit front rest d = grind (arith, common_steps, digit_is_numeric)
 
 pub each_starts : (body : List ℕ) (s : Span) (ss : List Span) → SpellsEach body (s ∷ ss) → begins is_digit body ≡ true
 each_starts body s ss h = grind (arith, common_steps)
@@ -39,14 +35,12 @@ no_space_before body rest (s ∷ ss) h e = begins_other is_digit is_ws digit_not
 
 -- each spelling but the last ends before a digit
 closes_here : (here more rest : List ℕ) (ss : List Span) → SpellsEach more ss → Closes (here ++ more) rest → Closes here (more ++ rest)
-closes_here here more rest [] h (inl o) = rw h (inl o)
-closes_here here more rest [] h (inr e) = inr (ap (ends is_ws) (sym (append-nil here)) ∙ ap (λ (x : List ℕ). ends is_ws (here ++ x)) (sym h) ∙ e)
+closes_here here more rest [] h o = grind (arith, common_steps, append-nil)
 closes_here here more rest (s ∷ ss) h o = closes_digit here (more ++ rest) (starts_before more rest s ss h)
 
-closes_more : (here more rest : List ℕ) (ss : List Span) → SpellsEach more ss → Closes (here ++ more) rest → (ss ≡ []) ⊎ Closes more rest
-closes_more here more rest [] h o = inl refl
-closes_more here more rest (s ∷ ss) h (inl o) = inr (inl o)
-closes_more here more rest (s ∷ ss) h (inr e) = inr (inr (sym (ends-append is_ws here more (begins_not_nil is_digit more (each_starts more s ss h))) ∙ e))
+closes_more : (xs ys rest : List ℕ) (ss : List Span) → SpellsEach ys ss → (ss ≡ []) ⊎ Closes (xs ++ ys) rest → (ss ≡ []) ⊎ Closes ys rest
+closes_more xs ys rest [] h o = inl refl
+closes_more xs ys rest (s ∷ ss) h o = rw (ends-append is_ws xs ys (begins_not_nil is_digit ys (each_starts ys s ss h))) at o
 
 -- the first of these spans is the span that begins the text
 pub first_here : (body rest : List ℕ) (s : Span) (ss : List Span) (h : SpellsEach body (s ∷ ss)) → Closes body rest → begins is_ws rest ≡ false → IsSpanAt (body ++ rest) s (h.0 ++ rest)
@@ -58,8 +52,7 @@ first_after first [] = first
 first_after first (s ∷ ss) = false
 
 none_first : (spans : List Span) → first_after false spans ≡ false
-none_first [] = refl
-none_first (s ∷ ss) = refl
+none_first spans = grind (arith, common_steps)
 
 -- these spans, and then those of a walk
 abbrev pub followed_by : List Span → Walk → List Span × Option Fault
@@ -76,15 +69,12 @@ through text body rest first [] h f o e = rw h refl
 through text body rest first (s ∷ ss) h f (inl o) e = cc
 through text body rest first (s ∷ ss) h f (inr o) e =
     let p = apart body h.0 s h.1 in
-    let more = rw (none_first ss) at (through text h.0 rest false ss h.2 f.1 (closes_more p.here h.0 rest ss h.2 (subst (λ b. Closes b rest) p.whole o)) e) in
+    let more = rw (none_first ss) at (through text h.0 rest false ss h.2 f.1 (closes_more p.here h.0 rest ss h.2 (inr (rw p.whole at o))) e) in
     through_step text (body ++ rest) (h.0 ++ rest) first s ss (walk_from false text rest) (first_here body rest s ss h o e) f.0 more
 
 -- the front of a split begins where the white space ends
 pub front_begins : (text front rest : List ℕ) (spans : List Span) (h : Split text front spans rest) → past is_ws text ≡ h.spelled.body ++ rest
 front_begins text front rest spans h = grind (arith, common_steps, past-append, no_space_before)
-
-closes_body : (space body rest : List ℕ) (spans : List Span) → SpellsEach body spans → (spans ≡ []) ⊎ Closes (space ++ body) rest → (spans ≡ []) ⊎ Closes body rest
-closes_body space body rest spans h k = grind (arith, common_steps, closes_more)
 
 pub front_told : (text front rest : List ℕ) (spans : List Span) → Split text front spans rest → AllByRecursion Formed spans → (spans ≡ []) ⊎ Closes front rest
     → items text ≡ followed_by spans (walk_from (first_after true spans) text rest)
@@ -93,14 +83,12 @@ front_told text front rest spans h f o =
     let body = h.spelled.body in
     let c : (spans ≡ []) ⊎ Closes (h.spelled.space ++ body) rest = subst (λ x. (spans ≡ []) ⊎ Closes x rest) h.spelled.whole o in
     ap (λ (x : List ℕ). spans_on (walk_from true text x)) (front_begins text front rest spans h)
-    ∙ through text body rest true spans h.spelled.each f (closes_body h.spelled.space body rest spans h.spelled.each c) h.no_space
+    ∙ through text body rest true spans h.spelled.each f (closes_more h.spelled.space body rest spans h.spelled.each c) h.no_space
 
 -- the walk ends where the items do
 ends_told : (text front rest : List ℕ) (spans : List Span) (stop : Option Fault) → Ends text front spans rest stop → walk_from (first_after true spans) text rest ≡ no_more rest stop
-ends_told text front rest [] None h = absurd (h.1 refl)
-ends_told text front rest (s ∷ ss) None h = rw (h.0) (walk-end false text)
-ends_told text front [] [] (Some e) h = grind (arith, common_steps, walk-end)
-ends_told text front [] (s ∷ ss) (Some e) h = grind (arith, common_steps)
+ends_told text front [] spans stop h = grind (arith, common_steps, walk-end)
+ends_told text front (c ∷ cs) spans None h = cc
 ends_told text front (c ∷ cs) spans (Some e) h = walk-wrong (first_after true spans) text (c ∷ cs) e (λ n. cc) (stops_at text front spans (c ∷ cs) e (λ n. cc) h)
 
 ends_closes : (text front rest : List ℕ) (spans : List Span) (stop : Option Fault) → Ends text front spans rest stop → (spans ≡ []) ⊎ Closes front rest

@@ -2,19 +2,11 @@
 use Rattle.std.proofs.lemmas.Grind.{common_steps}
 use Rattle.std.proofs.Common.{◌≡◌, ◌≢◌, ℕ, Bool, true, false, List, [], ◌∷◌, Some, None, Result, Ok, Err, if◌then◌else◌, ap, arith}
 use Rattle.humantime.specs.Durations.Characters.{is_ws, is_digit, begins, past, offset_of}
-use Rattle.humantime.specs.Durations.Faults.{stop_at, fault_at, Fault, NumberExpected, Empty, after_word}
+use Rattle.humantime.specs.Durations.Faults.{stop_at, Fault, NumberExpected, Empty, after_word}
 use Rattle.humantime.specs.Durations.Items.{Lent}
 use Rattle.humantime.specs.References.Durations.Lending.{lent_at, lent_on, left_at}
 use Rattle.humantime.proofs.Durations.Reading.Runs.{begins_not_nil}
 use Rattle.humantime.proofs.Durations.Reading.SpanWalks.{walk-end, walk-wrong, walk-right}
-use Rattle.humantime.proofs.Durations.Reading.Spelled.{next_of}
-
--- what is left at a rest: its span and what is left after it, or the fault at which it stops
-left_right : (first : Bool) (text rest : List ℕ) → fault_at text rest ≡ None → left_at first text rest ≡ Ok (lent_at text rest) ∷ left_at false text (next_of rest)
-left_right first text rest s = ap (lent_on text) (walk-right first text rest s)
-
-left_wrong : (first : Bool) (text rest : List ℕ) (e : Fault) → rest ≢ [] → fault_at text rest ≡ Some e → left_at first text rest ≡ Err e ∷ []
-left_wrong first text rest e some s = ap (lent_on text) (walk-wrong first text rest e some s)
 
 -- the items that are left before a text whose white space is still to be passed, unless they have ended
 abbrev pub left : Bool → Bool → List ℕ → List ℕ → List (Result Lent Fault)
@@ -23,13 +15,15 @@ left ended first text before = if ended then [] else left_at first text (past is
 pub step_fine : (ended first first' : Bool) (text before rest next : List ℕ) (x : Lent)
     → ended ≡ false → rest ≡ past is_ws before → begins is_digit rest ≡ true → stop_at text rest ≡ None → x ≡ lent_at text rest → next ≡ after_word rest → first' ≡ false
     → left ended first text before ≡ Ok x ∷ left ended first' text next
-step_fine ended first first' text before rest next x e r d s i n f = grind (arith, common_steps, left_right)
+step_fine ended first first' text before rest next x e r d s i n f = grind (arith, common_steps, walk-right)
 
 pub step_stopped : (ended first : Bool) (text before rest : List ℕ) (f : Fault) → ended ≡ false → rest ≡ past is_ws before → begins is_digit rest ≡ true → stop_at text rest ≡ Some f → left ended first text before ≡ Err f ∷ []
-step_stopped ended first text before rest f e r d s = rw (e, ← r) (left_wrong first text rest f (begins_not_nil is_digit rest d) (rw d s))
+step_stopped ended first text before rest f e r d s =
+    rw (e, ← r) (ap (lent_on text) (walk-wrong first text rest f (begins_not_nil is_digit rest d) (rw d s)))
 
 pub step_expected : (ended first : Bool) (text before rest : List ℕ) (n : ℕ) → ended ≡ false → rest ≡ past is_ws before → rest ≢ [] → begins is_digit rest ≡ false → n ≡ offset_of text rest → left ended first text before ≡ Err (NumberExpected n) ∷ []
-step_expected ended first text before rest n e r s d p = rw (e, ← r) (left_wrong first text rest (NumberExpected n) s (rw (d, p)))
+step_expected ended first text before rest n e r s d p =
+    rw (e, ← r) (ap (lent_on text) (walk-wrong first text rest (NumberExpected n) s (rw (d, p))))
 
 pub step_end : (ended first : Bool) (text before : List ℕ) → ended ≡ false → past is_ws before ≡ [] → left ended first text before ≡ (if first then Err Empty ∷ [] else [])
 step_end ended first text before e r = grind (arith, common_steps, walk-end)

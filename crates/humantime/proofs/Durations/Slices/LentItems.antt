@@ -70,8 +70,7 @@ told_items text xs a = items_told text a.spans a.stop a.items
 pub one_lent : (text : List ℕ) (others : List (Result Lent Fault)) → AreItems text others → others ≡ lent_items text
 one_lent text others o =
     let a = are_items text in
-    let both : ◌≡◌ {A = List Span × Option Fault} (o.spans, o.stop) (a.spans, a.stop) = sym (told_items text others o) ∙ told_items text (lent_items text) a in
-    same_lent text others (lent_items text) o a (ap (λ (p : List Span × Option Fault). p.0) both) (ap (λ (p : List Span × Option Fault). p.1) both)
+    grind (arith, (told_items text others o), (told_items text (lent_items text) a), (same_lent text others (lent_items text) o a))
 
 -- an error that is the first item is the answer
 pub first_error_answers : (text : List ℕ) (lent others : List (Result Lent Fault)) (e : Fault) → AreItems text lent

@@ -16,7 +16,7 @@ use Rattle.humantime.proofs.Durations.Bytes.Trimming.{suc_not_zero, no_slice, sl
 
 drop_white : (cs : List ℕ) → Only is_ws cs → drop_trailing_whitespace cs ≡ []
 drop_white [] o = refl
-drop_white (c ∷ cs) o = ap₂ (λ (b : Bool) (l : List ℕ). cond (b && eqb (length l) 0) [] (c ∷ l)) (white_is c ∙ o.0) (drop_white cs o.1)
+drop_white (c ∷ cs) o = rw (drop_white cs o.1, white_is c, o.0)
 
 -- white space behind a digit is all that is dropped
 drop_tail : (xs tail : List ℕ) → Only is_ws tail → ends is_digit xs ≡ true → drop_trailing_whitespace (xs ++ tail) ≡ xs
@@ -32,13 +32,11 @@ trimmed_is : (text slice : List ℕ) → IsDigitSlice text slice → trimmed tex
 trimmed_is text slice h = grind (arith, common_steps, digit_not_space, past-append, drop_tail)
 
 fraction_told : (b tail : List ℕ) (o f : Option (List ℕ)) → SpellsFraction b o → LendsFraction b f → begins is_letter tail ≡ true → f ≡ fraction_slice (b ++ tail)
-fraction_told b tail None None h k e = sym (ap (λ (l : List ℕ). fraction_slice (l ++ tail)) h ∙ no_slice tail e)
-fraction_told b tail None (Some slice) h k e = let p = sym h ∙ k.1 in cc
+fraction_told b tail None f h k e = grind (arith, common_steps, no_slice)
 fraction_told b tail (Some ds) None h k e = let p = sym k ∙ h.1 in cc
 fraction_told b tail (Some ds) (Some slice) h k e =
     let same : h.0 ≡ k.0 = cc in
-    let behind : fraction_slice (b ++ tail) ≡ Some (trimmed h.0) = ap (λ (l : List ℕ). fraction_slice (l ++ tail)) h.1 ∙ slice_behind_point h.0 tail h.2.0 e in
-    sym (behind ∙ ap (λ (l : List ℕ). Some (trimmed l)) same ∙ ap (λ (l : List ℕ). Some l) (trimmed_is k.0 slice k.2))
+    grind (arith, common_steps, (slice_behind_point h.0 tail h.2.0 e), (trimmed_is k.0 slice k.2), same)
 
 -- What a span lends, told by the rest that it begins.
 record Told (rest : List ℕ) (x : Lent) (t : List ℕ) : Type 0 where
@@ -53,12 +51,8 @@ told text rest s x next h =
     let r = read_spelled rest next s h.spelled in
     let letter = begins_word s.word (k.space ++ next) (letters_begin s.word k.word) in
     let no_space : past is_ws k.number_text ≡ k.number_text = past-append is_ws [] k.number_text tt (begins_other is_digit is_ws digit_not_space k.number_text k.starts) in
-    record {
-      number = sym (trimmed_is k.number_text x.number h.number) ∙ ap drop_trailing_whitespace (no_space ∙ sym r.number_is);
-      fraction = fraction_told k.fraction_text (s.word ++ (k.space ++ next)) s.fraction x.fraction k.fraction h.fraction letter ∙ ap fraction_slice (sym r.behind_is);
-      left = r.tail_is ∙ ap (λ (w : List ℕ). w ++ (k.space ++ next)) (sym h.unit);
-      starts = ap (begins is_digit) k.whole ∙ begins_first is_digit k.number_text (k.fraction_text ++ (s.word ++ (k.space ++ next))) k.starts;
-    }
+    let fraction = fraction_told k.fraction_text (s.word ++ (k.space ++ next)) s.fraction x.fraction k.fraction h.fraction letter in
+    grind (arith, r, no_space, fraction, (trimmed_is k.number_text x.number h.number), h.unit, k.whole, k.starts, begins_first)
 
 each_starts : (text rest : List ℕ) (s : Span) (ss : List Span) (xs : List Lent) (end : List ℕ) → LendsEach text rest (s ∷ ss) xs end → begins is_digit rest ≡ true
 each_starts text rest s ss xs end h = grind (arith, common_steps)
@@ -74,14 +68,8 @@ record SameLent (x y : Lent) (t u : List ℕ) : Type 0 where
 one_span : (text rest : List ℕ) (s : Span) (x y : Lent) (m n : List ℕ) (h : IsLent text rest s x m) (k : IsLent text rest s y n) → SameLent x y (h.spelled.space ++ m) (k.spelled.space ++ n)
 one_span text rest s x y m n h k = grind (arith, common_steps, (told text rest s x m h), (told text rest s y n k), (append_cancel_left x.unit (h.spelled.space ++ m) (k.spelled.space ++ n) (sym (told text rest s x m h).left ∙ (told text rest s y n k).left ∙ ap (λ (w : List ℕ). w ++ (k.spelled.space ++ n)) (sym (h.unit ∙ sym k.unit)))))
 
-no_spans : (text m n : List ℕ) (xs ys : List Lent) (d e : List ℕ) → LendsEach text m [] xs d → LendsEach text n [] ys e → xs ≡ ys
-no_spans text m n xs ys d e h k = grind (arith, common_steps)
-
 -- one list of spans lends one list of slices, wherever in white space the rest of the text begins
 pub one_each : (text p q m n : List ℕ) (spans : List Span) (xs ys : List Lent) (d e : List ℕ) → Only is_ws p → Only is_ws q → p ++ m ≡ q ++ n → LendsEach text m spans xs d → LendsEach text n spans ys e → xs ≡ ys
-one_each text p q m n [] xs ys d e o u w h k = no_spans text m n xs ys d e h k
-one_each text p q m n (s ∷ ss) [] ys d e o u w h k = absurd h
-one_each text p q m n (s ∷ ss) (x ∷ xs) [] d e o u w h k = absurd k
 one_each text p q m n (s ∷ ss) (x ∷ xs) (y ∷ ys) d e o u w h k =
     let r : m ≡ n = sym (next_is p m o (each_starts text m s ss (x ∷ xs) d h)) ∙ ap (past is_ws) w ∙ next_is q n u (each_starts text n s ss (y ∷ ys) e k) in
     let l : IsLent text m s y k.0 = subst (λ (z : List ℕ). IsLent text z s y k.0) (sym r) k.1 in
@@ -89,3 +77,4 @@ one_each text p q m n (s ∷ ss) (x ∷ xs) (y ∷ ys) d e o u w h k =
     let p = h.1.spelled in
     let q = l.spelled in
     ap₂ (λ (z : Lent) (zs : List Lent). z ∷ zs) one.same (one_each text p.space q.space h.0 k.0 ss xs ys d e p.only_space q.only_space one.left h.2 k.2)
+one_each text p q m n spans xs ys d e o u w h k = grind (arith, common_steps)

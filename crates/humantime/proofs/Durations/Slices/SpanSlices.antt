@@ -1,9 +1,9 @@
 -- What the span at a rest lends of the text.
 use Rattle.std.proofs.lemmas.Grind.{common_steps}
-use Rattle.std.proofs.Common.{◌≡◌, ◌≢◌, ℕ, Bool, true, false, if◌then◌else◌, List, [], ◌∷◌, ◌++◌, Option, refl, sym, ap, subst, ◌∙◌, ◌<◌, arith}
+use Rattle.std.proofs.Common.{◌≡◌, ◌≢◌, ℕ, Bool, true, false, List, [], ◌∷◌, ◌++◌, Option, refl, sym, ap, subst, ◌∙◌, ◌<◌, ◌≤◌, arith}
 use Rattle.std.proofs.lemmas.List.{append_cancel_left}
 use Rattle.std.proofs.lemmas.Str.{encodes-append, length-le-encodes}
-use Rattle.humantime.specs.Durations.Characters.{is_ws, is_digit, is_letter, is_numeric, is_point, begins, leading, past, digits, byte_length, offset_of}
+use Rattle.humantime.specs.Durations.Characters.{is_ws, is_digit, is_letter, is_numeric, begins, leading, past, digits, byte_length, offset_of}
 use Rattle.humantime.specs.Durations.Spans.{Only, SpellsFraction, Spells}
 use Rattle.humantime.specs.Durations.Faults.{after_number, fraction_of, after_fraction, word_of, after_word, span_of}
 use Rattle.humantime.specs.References.Durations.Lending.{past_fraction, trimmed, number_slice, fraction_slice, lent_at}
@@ -16,13 +16,8 @@ use Rattle.humantime.proofs.Durations.Reading.Written.{written_here}
 use Rattle.humantime.proofs.Durations.Reading.Stopping.{Fine}
 use Rattle.humantime.proofs.Durations.Bytes.Trimming.{dropped, digits_past, digit_slice, no_slice, slice_behind_point}
 
--- the point with what follows it up to the word, if a point begins the text
-abbrev fraction_text : List ℕ → List ℕ
-fraction_text [] = []
-fraction_text (c ∷ cs) = if is_point c then c ∷ leading is_numeric cs else []
-
-fraction_text-past : (cs : List ℕ) → cs ≡ fraction_text cs ++ past_fraction cs
-fraction_text-past cs = grind (arith, common_steps, leading-past)
+fewer_bytes : (cs : List ℕ) → byte_length (past_fraction cs) ≤ byte_length cs
+fewer_bytes cs = grind (arith, common_steps, (leading-past is_numeric), encodes-append)
 
 Only-past : (p q : ℕ → Bool) (cs : List ℕ) → Only p cs → Only p (past q cs)
 Only-past p q [] o = tt
@@ -49,7 +44,7 @@ begins_leading p q cs h k = grind (arith, common_steps)
 pub next_bytes : (rest : List ℕ) → begins is_digit rest ≡ true → byte_length (after_word rest) < byte_length rest
 next_bytes rest b =
     let some = begins_some is_digit (leading is_numeric rest) (begins_leading is_digit is_numeric rest b digit_is_numeric) in
-    grind (arith, common_steps, (leading-past is_numeric rest), (fraction_text-past (after_number rest)), (leading-past is_letter (after_fraction rest)), encodes-append, length-le-encodes)
+    grind (arith, common_steps, (leading-past is_numeric rest), (fewer_bytes (after_number rest)), (leading-past is_letter (after_fraction rest)), encodes-append, length-le-encodes)
 
 -- the slices of a well formed span that begins a rest tile it up to the next number
 pub is_lent : (text rest : List ℕ) → Fine rest → IsLent text rest (span_of rest) (lent_at text rest) (next_of rest)

@@ -8,10 +8,10 @@ use Rattle.humantime.specs.Timestamps.Fields.{Fields, IsWeak, IsStrict, moment_o
 use Rattle.humantime.specs.Timestamps.Checks.{has_marks, weak_checks, strict_checks, first_failed}
 use Rattle.humantime.specs.References.Timestamps.Reading.{moment_at, weak_answer, strict_answer, moment_or_error}
 use Rattle.humantime.specs.Laws.Timestamps.{OneTimestamp, IsMarked}
-use Rattle.humantime.proofs.Timestamps.Reading.Checks.{passes_from, passes_none, fields_of, moment_of_fields}
+use Rattle.humantime.proofs.Timestamps.Reading.Checks.{fields_of, moment_of_fields}
 use Rattle.humantime.proofs.Timestamps.Reading.Shown.{fields_weak}
 use Rattle.humantime.proofs.Timestamps.Reading.Passed.{weak_fields}
-use Rattle.humantime.proofs.Timestamps.Laws.StrictForm.{strict_is_weak, strict_complete, complete_strict}
+use Rattle.humantime.proofs.Timestamps.Laws.StrictForm.{strict_is_weak, strict_checked}
 
 -- an answer is a moment exactly where no check failed
 moment_told : (o : Option TimestampError) (n : ℕ) (t : ℤ) → (moment_or_error o n ≡ Ok t) ↔ ((o ≡ None) × (t ≡ pos n))
@@ -20,28 +20,23 @@ moment_told o n t = grind (arith, common_steps)
 failed_told : (o : Option TimestampError) (n : ℕ) (e : TimestampError) → (moment_or_error o n ≡ Err e) ↔ (o ≡ Some e)
 failed_told o n e = grind (arith, common_steps)
 
--- the checks tell which parts are shown
-record AreTold (b : List ℕ) (checks : List (Bool × TimestampError)) (IsShown : Fields → Type 0) : Type 0 where
-  passes : (f : Fields) → IsShown f → first_failed checks ≡ None
-  shown : first_failed checks ≡ None → IsShown (fields_of b)
-  same : (f : Fields) → IsShown f → f ≡ fields_of b
+-- the checks tell which parts are shown: those at their places, where none fails
+abbrev AreTold : List ℕ → List (Bool × TimestampError) → (Fields → Type 0) → Type 0
+AreTold b checks IsShown = (f : Fields) → IsShown f ↔ ((first_failed checks ≡ None) × (f ≡ fields_of b))
 
 weak_told : (b : List ℕ) → AreTold b (weak_checks b) (IsWeak b)
-weak_told b = record {
-  passes = λ f w. passes_none b (weak_fields b f w).0;
-  shown = λ h. fields_weak b (passes_from b h);
-  same = λ f w. (weak_fields b f w).1;
-}
+weak_told b f = (weak_fields b f, λ h. rw h.1 (fields_weak b h.0))
 
-marked_first : (t : Bool) (e : TimestampError) (rest : Option TimestampError) → (if t then rest else Some e) ≡ None → (t ≡ true) × (rest ≡ None)
-marked_first t e rest h = grind (arith, common_steps)
+passed_first : (t : Bool) (e : TimestampError) (o : Option TimestampError) → ((if t then o else Some e) ≡ None) ↔ ((t ≡ true) × (o ≡ None))
+passed_first t e o = grind (arith, common_steps)
 
 strict_told : (b : List ℕ) → AreTold b (strict_checks b) (IsStrict b)
-strict_told b = record {
-  passes = λ f s. rw (strict_complete b f s) ((weak_told b).passes f s.weak);
-  shown = λ h. let p = marked_first (has_marks b) _ _ h in complete_strict b (fields_of b) p.0 ((weak_told b).shown p.1);
-  same = λ f s. (weak_told b).same f s.weak;
-}
+strict_told b f =
+    let first = passed_first (has_marks b) InvalidFormat (first_failed (weak_checks b)) in
+    let marked = strict_checked b f in (
+      (λ s. let p = (weak_told b f).0 s.weak in (first.1 ((marked.0 s).0, p.0), p.1)),
+      (λ h. let p = first.0 h.0 in marked.1 (p.0, (weak_told b f).1 (p.1, h.1))),
+    )
 
 -- so the answer by the checks is the one outcome
 told_outcome : (b : List ℕ) (checks : List (Bool × TimestampError)) (IsShown : Fields → Type 0) → AreTold b checks IsShown
@@ -49,14 +44,11 @@ told_outcome : (b : List ℕ) (checks : List (Bool × TimestampError)) (IsShown 
 told_outcome b checks IsShown told =
     let answer = moment_told (first_failed checks) (moment_at b) in
     record {
-      some = ((λ m. told.passes m.0 m.1), (λ h. (fields_of b, told.shown h)));
-      only = λ f g v w. told.same f v ∙ sym (told.same g w);
+      some = ((λ m. ((told m.0).0 m.1).0), (λ h. (fields_of b, (told (fields_of b)).1 (h, refl))));
+      only = λ f g v w. ((told f).0 v).1 ∙ sym ((told g).0 w).1;
       value = λ t. (
-        (λ h. (fields_of b, told.shown ((answer t).0 h).0, ((answer t).0 h).1 ∙ ap pos (sym (moment_of_fields b)))),
-        (λ m. (answer t).1 (
-          told.passes m.0 m.1,
-          m.2 ∙ ap (λ (f : Fields). pos (moment_of f)) (told.same m.0 m.1) ∙ ap pos (moment_of_fields b),
-        )),
+        (λ h. let a = (answer t).0 h in (fields_of b, (told (fields_of b)).1 (a.0, refl), rw (moment_of_fields b) a.1)),
+        (λ m. let p = (told m.0).0 m.1 in (answer t).1 (p.0, m.2 ∙ ap pos (ap moment_of p.1 ∙ moment_of_fields b))),
       );
       error = failed_told (first_failed checks) (moment_at b);
     }

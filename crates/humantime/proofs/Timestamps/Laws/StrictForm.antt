@@ -1,41 +1,34 @@
 -- A text in strict form is one in weak form with a `T` and a zone at its end.
 use Rattle.std.proofs.lemmas.Grind.{common_steps}
 use Rattle.std.proofs.Common.{◌≡◌, ◌≢◌, ℕ, List, ◌++◌, ap, ◌∙◌, arith}
-use Rattle.std.specs.Prelude.{◌↔◌, true, slice_index}
-use Rattle.humantime.specs.Timestamps.Fields.{Separator, Letter_T, No_zone, Fields, separator_byte, fraction_text, date_time_text, IsWeak, IsStrict}
+use Rattle.std.specs.Prelude.{◌↔◌, true, length, nat_lt, slice_index}
+use Rattle.humantime.specs.Timestamps.Fields.{Separator, Letter_T, Zone, No_zone, zone_text, Fields, separator_byte, fraction_text, date_time_text, IsWeak, IsStrict}
 use Rattle.humantime.specs.Timestamps.Checks.{ends_in_zone, zone_of, has_marks}
 use Rattle.humantime.specs.Laws.Timestamps.{IsMarked}
 use Rattle.humantime.proofs.Timestamps.Reading.Bytes.{holds_before_zone}
-use Rattle.humantime.proofs.Timestamps.Reading.Ends.{IsPlain, plain_bytes, zone_found}
+use Rattle.humantime.proofs.Timestamps.Reading.Ends.{IsPlain, plain_bytes, zone_found, some_zone}
 
-separator_told : (b : List ℕ) (f : Fields) → IsWeak b f → slice_index b 10 ≡ separator_byte f.separator
-separator_told b f w = ap (λ (t : List ℕ). slice_index t 10) w.shown
+letter_told : (s : Separator) → (s ≡ Letter_T) ↔ (separator_byte s ≡ 84)
+letter_told s = grind (arith, common_steps)
 
-letter_told : (s : Separator) → separator_byte s ≡ 84 → s ≡ Letter_T
-letter_told s h = grind (arith, common_steps)
+separator_told : (b : List ℕ) (f : Fields) → IsWeak b f → (f.separator ≡ Letter_T) ↔ (slice_index b 10 ≡ 84)
+separator_told b f w = rw w.shown (letter_told f.separator)
 
-zone_told : (b : List ℕ) (f : Fields) → IsWeak b f → zone_of b ≡ f.zone
-zone_told b f w = ap zone_of w.shown ∙ zone_found (date_time_text f ++ fraction_text f.fraction) f.zone (holds_before_zone IsPlain plain_bytes b f w)
+zone_there : (z : Zone) → (z ≢ No_zone) ↔ (nat_lt 0 (length (zone_text z)) ≡ true)
+zone_there z = grind (arith, common_steps)
 
-some_zone_told : (b : List ℕ) → ends_in_zone b ≡ true → zone_of b ≢ No_zone
-unfolding zone_of
-some_zone_told b h = grind (arith, common_steps)
-
-some_zone_from : (b : List ℕ) → zone_of b ≢ No_zone → ends_in_zone b ≡ true
-unfolding zone_of
-some_zone_from b h = grind (arith, common_steps)
+zone_told : (b : List ℕ) (f : Fields) → IsWeak b f → (f.zone ≢ No_zone) ↔ (ends_in_zone b ≡ true)
+zone_told b f w =
+    let found = zone_found (date_time_text f ++ fraction_text f.fraction) f.zone (holds_before_zone IsPlain plain_bytes b f w) in
+    rw (← some_zone b, ap zone_of w.shown ∙ found) (zone_there f.zone)
 
 pub strict_is_weak : (b : List ℕ) (f : Fields) → IsStrict b f ↔ (IsWeak b f × IsMarked b)
 strict_is_weak b f = (
-  (λ s. grind (arith, common_steps, separator_told, zone_told, some_zone_from)),
-  (λ p. grind (arith, common_steps, separator_told, letter_told, zone_told, some_zone_told)),
+  (λ s. (s.weak, ((separator_told b f s.weak).0 s.separator, (zone_told b f s.weak).0 s.zone))),
+  (λ p. record { weak = p.0; separator = (separator_told b f p.0).1 p.1.0; zone = (zone_told b f p.0).1 p.1.1 }),
 )
 
 -- the check of the strict form
-pub strict_complete : (b : List ℕ) (f : Fields) → IsStrict b f → has_marks b ≡ true
+pub strict_checked : (b : List ℕ) (f : Fields) → IsStrict b f ↔ ((has_marks b ≡ true) × IsWeak b f)
 unfolding has_marks
-strict_complete b f s = grind (arith, common_steps, strict_is_weak)
-
-pub complete_strict : (b : List ℕ) (f : Fields) → has_marks b ≡ true → IsWeak b f → IsStrict b f
-unfolding has_marks
-complete_strict b f h w = grind (arith, common_steps, strict_is_weak)
+strict_checked b f = grind (arith, common_steps, strict_is_weak)

@@ -1,8 +1,7 @@
 -- The laws of timestamps and days as theorems over plain variables, each under the name of its function in `laws`, and what callers cite beside them.
 use Rattle.std.proofs.lemmas.Grind.{common_steps}
-use Rattle.std.proofs.Common.{◌≡◌, ◌≤◌, ℕ, List, sym, subst, ◌∙◌, arith}
+use Rattle.std.proofs.Common.{◌≡◌, ◌≤◌, ℕ, List, arith}
 use Rattle.std.specs.Prelude.{◌↔◌, ℤ, pos, negsuc, ◌≤ℤ◌, ◌<ℤ◌, Some, Ok, Err, IsTrue, IfSome}
-use Rattle.std.specs.declared.cmp.Ordering.{Ordering}
 use Rattle.std.specs.Cmp.Lexicographic.{slice_cmp}
 use Rattle.std.specs.Ordering.{nat_cmp, int_cmp, is_le, is_lt}
 use Rattle.std.proofs.lemmas.Int.{ints}
@@ -13,7 +12,7 @@ use Rattle.humantime.specs.Laws.Timestamps.{OneTimestamp, StrictForm, PrintedMom
 use Rattle.humantime.specs.Timestamps.Printed.{MomentToPrint, cut, IsPrinted, IsPrintable}
 use Rattle.humantime.specs.References.Timestamps.Printing.{moment_text, printed_text}
 use Rattle.humantime.specs.References.Timestamps.Reading.{weak_answer, strict_answer}
-use Rattle.humantime.proofs.Timestamps.Printing.Printed.{one_printed, text_displayed, printed_reads}
+use Rattle.humantime.proofs.Timestamps.Printing.Printed.{one_printed, printed_some, text_displayed, printed_reads}
 use Rattle.humantime.proofs.Timestamps.Printing.Order.{stamps_in_order, one_text}
 use Rattle.humantime.proofs.Timestamps.Laws.Reading as read
 use Rattle.humantime.proofs.Timestamps.Laws.StrictForm as strict
@@ -21,7 +20,7 @@ pub use Rattle.humantime.proofs.Moments.{parts_of_moment, nano_of_bound}
 pub use Rattle.humantime.proofs.Dates.DaysOfDates.{one_date, day_at_most}
 pub use Rattle.humantime.proofs.Timestamps.Laws.Printable.{weak_printable, strict_printable}
 pub use Rattle.humantime.proofs.Timestamps.Printing.Order.{stamps_in_order}
-pub use Rattle.humantime.proofs.Timestamps.Printing.Printed.{places_of_bound}
+pub use Rattle.humantime.proofs.Timestamps.Printing.Printed.{places_of_bound, printed_some}
 
 -- ---- Timestamps read
 
@@ -86,38 +85,29 @@ printed_moment_reads t k small = record {
 pub printed_is : (t : ℤ) (k : ℕ) (text known : List ℕ) → moment_text t k ≡ Some known → IsPrinted t k text → text ≡ known
 printed_is t k text known computed printed = one_text t k text known printed ((text_displayed t k known printed.few).0 computed).1
 
--- a moment of 1970 to 9999 has a printed text, which is the one that is computed
-pub printed_some : (t : ℤ) (k : ℕ) → k ≤ 9 → IsPrintable t → (text : List ℕ) × (moment_text t k ≡ Some text) × IsPrinted t k text
-printed_some t k small printable =
-    let one = one_printed t k small printable in
-    (one.0, (text_displayed t k one.0 small).1 (printable, one.1), one.1)
-
 -- what `Display` wrote, of a timestamp that is known
 pub displayed_as : (x : MomentToPrint) (t : ℤ) (k : ℕ) (bytes : List ℕ) → x ≡ record { moment = t; places = k } → k ≤ 9 → IsPrintable t
     → IfSome (printed_text x) (λ text. bytes ≡ text) → IsPrinted t k bytes
 displayed_as x t k bytes known small within written =
-    let one = one_printed t k small within in
-    let text : printed_text x ≡ Some one.0 = rw known ((text_displayed t k one.0 small).1 (within, one.1)) in
-    let same : bytes ≡ one.0 = rw text at written in
-    rw same one.1
+    let some = printed_some t k small within in
+    let same : bytes ≡ some.0 = rw (known, some.1) at written in
+    rw same some.2
 
 -- what an order of two moments says
 pub moment_at_most : (a b : ℤ) → IsTrue (is_le (int_cmp a b)) ↔ (a ≤ℤ b)
-moment_at_most a b = ((λ h. grind (arith, ints)), (λ h. grind (arith, ints)))
+moment_at_most a b = grind (arith, ints)
 
 pub moment_before : (a b : ℤ) → IsTrue (is_lt (int_cmp a b)) ↔ (a <ℤ b)
-moment_before a b = ((λ h. grind (arith, ints)), (λ h. grind (arith, ints)))
+moment_before a b = grind (arith, ints)
 
 -- and what one of two printed texts says
 pub stamp_at_most : (a b : ℤ) (k : ℕ) (x y : List ℕ) → IsPrinted a k x → IsPrinted b k y
     → IsTrue (is_le (slice_cmp nat_cmp x y)) ↔ (cut a k ≤ℤ cut b k)
-stamp_at_most a b k x y p q =
-    subst (λ (o : Ordering). IsTrue (is_le o) ↔ (cut a k ≤ℤ cut b k)) (sym (stamps_in_order a b k x y p q)) (moment_at_most (cut a k) (cut b k))
+stamp_at_most a b k x y p q = rw (stamps_in_order a b k x y p q) (moment_at_most (cut a k) (cut b k))
 
 pub stamp_before : (a b : ℤ) (k : ℕ) (x y : List ℕ) → IsPrinted a k x → IsPrinted b k y
     → IsTrue (is_lt (slice_cmp nat_cmp x y)) ↔ (cut a k <ℤ cut b k)
-stamp_before a b k x y p q =
-    subst (λ (o : Ordering). IsTrue (is_lt o) ↔ (cut a k <ℤ cut b k)) (sym (stamps_in_order a b k x y p q)) (moment_before (cut a k) (cut b k))
+stamp_before a b k x y p q = rw (stamps_in_order a b k x y p q) (moment_before (cut a k) (cut b k))
 
 -- the bytes of a printed text lie between two printed bounds, the first of them included, exactly where the moment that it reads as does
 pub stamps_between : (a b t : ℤ) (k : ℕ) (x y text : List ℕ) → IsPrinted a k x → IsPrinted b k y → IsPrinted t k text
@@ -141,7 +131,4 @@ earlier_in_micros a b x y = earlier a b 6 x y
 
 -- nine digits cut nothing
 pub earlier_in_nanos : (a b : ℤ) (x y : List ℕ) → IsPrinted a 9 x → IsPrinted b 9 y → (a <ℤ b) ↔ IsTrue (is_lt (slice_cmp nat_cmp x y))
-earlier_in_nanos a b x y p q =
-    let same : int_cmp (cut a 9) (cut b 9) ≡ int_cmp a b = λ i. int_cmp (cut_whole a i) (cut_whole b i) in
-    let h = subst (λ (o : Ordering). IsTrue (is_lt o) ↔ (a <ℤ b)) (sym (stamps_in_order a b 9 x y p q ∙ same)) (moment_before a b) in
-    (h.1, h.0)
+earlier_in_nanos a b x y p q = rw (cut_whole a, cut_whole b) at (earlier a b 9 x y p q)

@@ -1,9 +1,8 @@
 -- Printed texts stand in the order of their moments.
 use Rattle.std.proofs.lemmas.Grind.{common_steps}
-use Rattle.std.proofs.Common.{◌≡◌, ℕ, zero, suc, ◌+◌, ◌*◌, ◌/◌, ◌%◌, ◌<◌, ◌≤◌, List, [], ◌∷◌, ◌++◌, length, take, refl, ap, ◌∙◌, arith}
+use Rattle.std.proofs.Common.{◌≡◌, ℕ, suc, ◌+◌, ◌*◌, ◌/◌, ◌%◌, ◌<◌, ◌≤◌, List, [], ◌∷◌, ◌++◌, length, take, refl, ap, ◌∙◌, arith}
 use Rattle.std.specs.Prelude.{min, codes, Option, Some, None, option_map, ◌==◌, if◌then◌else◌, ℤ, pos}
 use Rattle.std.specs.declared.cmp.Ordering.{Ordering}
-use Rattle.std.specs.declared.cmp.Ordering.TheVariants.{Equal}
 use Rattle.std.specs.Char.{digit_value}
 use Rattle.std.specs.Cmp.Lexicographic.{slice_cmp}
 use Rattle.std.specs.Ordering.{nat_cmp, int_cmp, ordering_then}
@@ -14,7 +13,7 @@ use Rattle.std.proofs.lemmas.Int.{ints}
 use Rattle.humantime.specs.declared.calendar.Date.{Date}
 use Rattle.humantime.specs.Calendar.{IsDate, day_of}
 use Rattle.humantime.specs.Timestamps.Fields.{Letter_T, Letter_Z, Fields, fields_text, fraction_text, fraction_nanos, moment_of, fraction_digits}
-use Rattle.humantime.specs.Timestamps.Printed.{cut, IsPrinted}
+use Rattle.humantime.specs.Timestamps.Printed.{IsPrinted}
 use Rattle.humantime.specs.Laws.Timestamps.{InOrder}
 use Rattle.humantime.proofs.Dates.DaysOfDates.{before_year, before_month}
 use Rattle.humantime.proofs.Dates.Years.{valid_told}
@@ -22,9 +21,6 @@ use Rattle.humantime.proofs.Timestamps.Reading.Fractions.{AreDigits, nanos_bound
 
 cmp_alike : (m n x y : ℕ) → (m < n → x < y) → (m ≡ n → x ≡ y) → (n < m → y < x) → nat_cmp m n ≡ nat_cmp x y
 cmp_alike m n x y less same more = grind (arith, common_steps)
-
-then_equal : (o : Ordering) → ordering_then o Equal ≡ o
-then_equal o = grind (arith, common_steps)
 
 -- what is compared first decides, unless it is equal
 step_cmp : (m n x y : ℕ) (c o : Ordering) → (m < n → x < y) → (n < m → y < x) → (m ≡ n → c ≡ ordering_then (nat_cmp x y) o)
@@ -34,14 +30,15 @@ step_cmp m n x y c o less more same = grind (arith, nat_tests)
 below : (w m n x y : ℕ) → x < w → m < n → m * w + x < n * w + y
 below w m n x y h less = grind (arith, common_steps)
 
-two_digits_cmp : (m n : ℕ) (o : Ordering)
-    → ordering_then (nat_cmp (48 + m / 10) (48 + n / 10)) (ordering_then (nat_cmp (48 + m % 10) (48 + n % 10)) o) ≡ ordering_then (nat_cmp m n) o
+abbrev then_cmp : ℕ → ℕ → Ordering → Ordering
+then_cmp m n o = ordering_then (nat_cmp m n) o
+
+two_digits_cmp : (m n : ℕ) (o : Ordering) → then_cmp (48 + m / 10) (48 + n / 10) (then_cmp (48 + m % 10) (48 + n % 10) o) ≡ then_cmp m n o
 two_digits_cmp m n o = grind (arith, common_steps)
 
 four_digits_cmp : (m n : ℕ) (o : Ordering)
-    → ordering_then (nat_cmp (48 + m / 1000) (48 + n / 1000)) (ordering_then (nat_cmp (48 + m / 100 % 10) (48 + n / 100 % 10))
-    (ordering_then (nat_cmp (48 + m / 10 % 10) (48 + n / 10 % 10)) (ordering_then (nat_cmp (48 + m % 10) (48 + n % 10)) o)))
-    ≡ ordering_then (nat_cmp m n) o
+    → then_cmp (48 + m / 1000) (48 + n / 1000) (then_cmp (48 + m / 100 % 10) (48 + n / 100 % 10)
+    (then_cmp (48 + m / 10 % 10) (48 + n / 10 % 10) (then_cmp (48 + m % 10) (48 + n % 10) o))) ≡ then_cmp m n o
 four_digits_cmp m n o = grind (arith, common_steps)
 
 after_cmp : (ds : List ℕ) (m n : ℕ) → nat_cmp m n ≡ nat_cmp (digits_value_after 10 m ds) (digits_value_after 10 n ds)
@@ -53,10 +50,8 @@ filled_cmp : (k : ℕ) (ds es zs ws : List ℕ) (m n : ℕ) → AreDigits ds →
     → ordering_then (nat_cmp m n) (slice_cmp nat_cmp (ds ++ ws) (es ++ ws))
     ≡ ordering_then (nat_cmp (digits_value_after 10 m (take k (ds ++ zs))) (digits_value_after 10 n (take k (es ++ zs)))) (slice_cmp nat_cmp ws ws)
 filled_cmp k [] [] zs ws m n d e long room = ap (λ (c : Ordering). ordering_then c (slice_cmp nat_cmp ws ws)) (after_cmp (take k zs) m n)
-filled_cmp k [] (y ∷ ys) zs ws m n d e long room = absurd (omega arith)
-filled_cmp k (x ∷ xs) [] zs ws m n d e long room = absurd (omega arith)
-filled_cmp zero (x ∷ xs) (y ∷ ys) zs ws m n d e long room = absurd (omega arith)
 filled_cmp (suc k) (x ∷ xs) (y ∷ ys) zs ws m n d e long room = grind (arith, common_steps, (filled_cmp k xs ys zs ws (m * 10 + digit_value x) (n * 10 + digit_value y) d.1 e.1 (omega arith) (omega arith)))
+filled_cmp k ds es zs ws m n d e long room = absurd (omega arith)
 
 nanos_cmp : (ds es ws : List ℕ) → AreDigits ds → AreDigits es → length ds ≡ length es → length ds ≤ 9
     → slice_cmp nat_cmp (ds ++ ws) (es ++ ws) ≡ ordering_then (nat_cmp (fraction_nanos ds) (fraction_nanos es)) (slice_cmp nat_cmp ws ws)
@@ -71,8 +66,7 @@ fraction_cmp k p q h e f g i = grind (arith, common_steps, nanos_cmp)
 
 -- dates and their days
 day_cmp : (a b : Date) (o : Ordering) → IsDate a → IsDate b
-    → ordering_then (nat_cmp a.year b.year) (ordering_then (nat_cmp a.month b.month) (ordering_then (nat_cmp a.day b.day) o))
-    ≡ ordering_then (nat_cmp (day_of a) (day_of b)) o
+    → then_cmp a.year b.year (then_cmp a.month b.month (then_cmp a.day b.day o)) ≡ then_cmp (day_of a) (day_of b) o
 day_cmp a b o va vb =
     let left = valid_told a.year a.month a.day va in
     let right = valid_told b.year b.month b.day vb in
@@ -81,9 +75,6 @@ day_cmp a b o va vb =
     step_cmp a.month b.month (day_of a) (day_of b) _ o
     (λ less. grind (arith, before_month a.year a.month a.day left b.month less, y)) (λ more. grind (arith, before_month b.year b.month b.day right a.month more, y))
     (λ m. step_cmp a.day b.day (day_of a) (day_of b) o o (λ less. grind (arith, left.2.0, y, m)) (λ more. grind (arith, right.2.0, y, m)) (λ d. grind (arith, nat_tests, y, m, d))))
-
-abbrev then_cmp : ℕ → ℕ → Ordering → Ordering
-then_cmp m n o = ordering_then (nat_cmp m n) o
 
 -- the texts of parts with `T` and `Z`
 abbrev marked : Fields → List ℕ
@@ -104,7 +95,7 @@ pos_cmp m n = grind (arith, nat_tests)
 clock_cmp : (a h i s m b j k t n : ℕ) → h ≤ 23 → i ≤ 59 → s ≤ 59 → m < 1_000_000_000 → j ≤ 23 → k ≤ 59 → t ≤ 59 → n < 1_000_000_000
     → then_cmp a b (then_cmp h j (then_cmp i k (then_cmp s t (nat_cmp m n))))
     ≡ nat_cmp ((a * 86_400 + h * 3_600 + i * 60 + min s 59) * 1_000_000_000 + m) ((b * 86_400 + j * 3_600 + k * 60 + min t 59) * 1_000_000_000 + n)
-clock_cmp a h i s m b j k t n h23 i59 s59 m9 j23 k59 t59 n9 = grind (arith, common_steps, then_equal, step_cmp, below, cmp_alike)
+clock_cmp a h i s m b j k t n h23 i59 s59 m9 j23 k59 t59 n9 = grind (arith, common_steps, step_cmp, below, cmp_alike)
 
 pub stamps_in_order : (a b : ℤ) → InOrder a b
 stamps_in_order a b k x y p q =
@@ -117,9 +108,6 @@ stamps_in_order a b k x y p q =
     let moments = pos_cmp (moment_of f) (moment_of g) ∙ (λ i. int_cmp (p.moment i) (q.moment i)) in
     (λ i. slice_cmp nat_cmp (shown_marked a k x p i) (shown_marked b k y q i)) ∙ (marked_cmp f g ∙ (rw fraction clock ∙ moments))
 
-same_int : (t : ℤ) → int_cmp t t ≡ Equal
-same_int t = grind (arith, ints)
-
 -- so a moment has one printed text
 pub one_text : (t : ℤ) (k : ℕ) (x y : List ℕ) → IsPrinted t k x → IsPrinted t k y → x ≡ y
-one_text t k x y p q = slice_cmp-IsAntisymmetric nat_cmp-IsAntisymmetric x y (stamps_in_order t t k x y p q ∙ same_int (cut t k))
+one_text t k x y p q = slice_cmp-IsAntisymmetric nat_cmp-IsAntisymmetric x y (stamps_in_order t t k x y p q ∙ grind (arith, ints))

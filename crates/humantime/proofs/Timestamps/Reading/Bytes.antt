@@ -5,7 +5,7 @@ use Rattle.std.specs.Int.{IsInRange}
 use Rattle.std.specs.List.{AllByRecursion}
 use Rattle.humantime.proofs.Timestamps.Reading.Fractions.{AreDigits, digits_told}
 use Rattle.std.specs.Prelude.{Option, IsTrue}
-use Rattle.std.specs.Str.{all_ascii_digits}
+use Rattle.std.specs.Str.{byte, all_ascii_digits}
 use Rattle.humantime.specs.Timestamps.Fields.{Fields, fraction_text, fraction_digits, date_time_text, IsWeak}
 use Rattle.std.proofs.lemmas.Bool.Decides.{nat_tests}
 use Rattle.humantime.specs.Calendar.{days_in_month}
@@ -15,17 +15,12 @@ pub month_most : (y m : ℕ) → days_in_month y m ≤ 31
 month_most y m = grind (arith, nat_tests)
 
 -- a property of the digits, the signs and the separators
-pub record HoldsOfBytes (P : ℕ → Type 0) : Type 0 where
-  pub digit : (c : ℕ) → IsInRange 48 57 c → P c
-  pub dash : P 45
-  pub colon : P 58
-  pub point : P 46
-  pub letter : P 84
-  pub space : P 32
+abbrev pub HoldsOfBytes : (ℕ → Type 0) → Type 0
+HoldsOfBytes P = ((c : ℕ) → IsInRange 48 57 c → P c) × P (byte "-") × P (byte ":") × P (byte ".") × P (byte "T") × P (byte " ")
 
 pub digits_hold : (P : ℕ → Type 0) → HoldsOfBytes P → (ds : List ℕ) → AreDigits ds → AllByRecursion P ds
 digits_hold P h [] digits = tt
-digits_hold P h (c ∷ cs) digits = (h.digit c digits.0, digits_hold P h cs digits.1)
+digits_hold P h (c ∷ cs) digits = (h.0 c digits.0, digits_hold P h cs digits.1)
 
 pub holds_of_fraction : (P : ℕ → Type 0) → HoldsOfBytes P → (fraction : Option (List ℕ)) → IsTrue (all_ascii_digits (fraction_digits fraction))
     → AllByRecursion P (fraction_text fraction)

@@ -1,27 +1,19 @@
 -- What the checks on a timestamp say, one by one.
 use Rattle.std.proofs.lemmas.Grind.{common_steps}
-use Rattle.std.proofs.Common.{◌≡◌, ℕ, ◌≤◌, List, [], ◌∷◌, length, get_or, drop, refl, arith, nat_le}
+use Rattle.std.proofs.Common.{◌≡◌, ℕ, ◌≤◌, List, [], ◌∷◌, length, get_or, drop, refl, arith}
 use Rattle.std.specs.Prelude.{true, slice_index, Option, Some, None, ◌==◌, if◌then◌else◌}
 use Rattle.std.specs.Str.{byte, all_ascii_digits}
 use Rattle.std.proofs.lemmas.Bool.{and_parts}
+use Rattle.std.proofs.lemmas.Bool.Decides.{nat_tests}
 use Rattle.humantime.specs.References.Timestamps.Reading.{moment_at}
 use Rattle.humantime.specs.Timestamps.Fields.{Separator, Letter_T, Space, Fields, separator_byte, fraction_text, fraction_digits, moment_of}
 use Rattle.humantime.specs.Timestamps.Checks.{has_two, has_separator, has_signs, has_digits, numbers_of, are_in_range, zone_of, fraction_part, has_point, weak_checks, first_failed}
 
 -- no check of the weak form fails
-pub record Passes (b : List ℕ) : Type 0 where
-  pub long : nat_le 19 (length b) ≡ true
-  pub signs : has_signs b ≡ true
-  pub digits : has_digits b ≡ true
-  pub range : are_in_range (numbers_of b) ≡ true
-  pub point : has_point (fraction_part b) ≡ true
-  pub fraction : all_ascii_digits (drop 1 (fraction_part b)) ≡ true
-
-pub passes_from : (b : List ℕ) → first_failed (weak_checks b) ≡ None → Passes b
-passes_from b h = grind (arith, common_steps)
-
-pub passes_none : (b : List ℕ) → Passes b → first_failed (weak_checks b) ≡ None
-passes_none b p = rw (p.long, p.signs, p.digits, p.range, p.point, p.fraction) refl
+pub all_passed : (b : List ℕ) → first_failed (weak_checks b) ≡ None
+    → (19 ≤ length b) × (has_signs b ≡ true) × (has_digits b ≡ true) × (are_in_range (numbers_of b) ≡ true)
+    × (has_point (fraction_part b) ≡ true) × (all_ascii_digits (drop 1 (fraction_part b)) ≡ true)
+all_passed b h = grind (arith, common_steps, nat_tests)
 
 -- what stands between date and time
 abbrev pub separator_of : List ℕ → Separator
@@ -45,28 +37,16 @@ fields_of b = record {
 }
 
 -- the signs in their places
-pub record Signs (b : List ℕ) : Type 0 where
-  pub dash4 : slice_index b 4 ≡ 45
-  pub dash7 : slice_index b 7 ≡ 45
-  pub separator : slice_index b 10 ≡ separator_byte (separator_of b)
-  pub colon13 : slice_index b 13 ≡ 58
-  pub colon16 : slice_index b 16 ≡ 58
-
-pub signs_told : (b : List ℕ) → has_signs b ≡ true → Signs b
+pub signs_told : (b : List ℕ) → has_signs b ≡ true
+    → (slice_index b 4 ≡ 45) × (slice_index b 7 ≡ 45) × (slice_index b 10 ≡ separator_byte (separator_of b))
+    × (slice_index b 13 ≡ 58) × (slice_index b 16 ≡ 58)
 unfolding has_signs has_separator
 signs_told b h = grind (arith, common_steps)
 
 -- the pairs of digits in their places
-pub record Pairs (b : List ℕ) : Type 0 where
-  pub century : has_two b 0 ≡ true
-  pub year : has_two b 2 ≡ true
-  pub month : has_two b 5 ≡ true
-  pub day : has_two b 8 ≡ true
-  pub hour : has_two b 11 ≡ true
-  pub minute : has_two b 14 ≡ true
-  pub second : has_two b 17 ≡ true
-
-pub pairs_told : (b : List ℕ) → has_digits b ≡ true → Pairs b
+pub pairs_told : (b : List ℕ) → has_digits b ≡ true
+    → (has_two b 0 ≡ true) × (has_two b 2 ≡ true) × (has_two b 5 ≡ true) × (has_two b 8 ≡ true)
+    × (has_two b 11 ≡ true) × (has_two b 14 ≡ true) × (has_two b 17 ≡ true)
 unfolding has_digits
 pairs_told b h = grind (arith, common_steps, and_parts)
 

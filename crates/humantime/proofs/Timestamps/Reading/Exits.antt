@@ -1,17 +1,16 @@
 -- What each way out of the weak parser answers.
 use Rattle.std.proofs.lemmas.Grind.{common_steps}
-use Rattle.std.proofs.Common.{◌≡◌, ℕ, ◌*◌, ◌+◌, ◌-◌, ◌<◌, ◌≤◌, List, length, take, drop, refl, arith}
-use Rattle.std.specs.Prelude.{Bool, true, false, ◌&&◌, if◌then◌else◌, ℤ, pos, Option, Some, None, Result, Ok, Err}
-use Rattle.std.specs.Str.{all_ascii_digits}
+use Rattle.std.proofs.Common.{◌≡◌, ℕ, ◌*◌, ◌+◌, ◌-◌, ◌<◌, ◌≤◌, List, length, take, drop, arith}
+use Rattle.std.specs.Prelude.{true, false, ◌&&◌, if◌then◌else◌, ℤ, pos, Option, Some, None, Result, Ok, Err}
 use Rattle.std.proofs.lemmas.Bool.{and_parts, le-leb}
 use Rattle.std.proofs.lemmas.List.{take_rest}
 use Rattle.std.proofs.lemmas.Bool.Decides.{nat_tests}
 use Rattle.humantime.specs.declared.date.error.TimestampError.{TimestampError}
 use Rattle.humantime.specs.declared.date.error.TimestampError.TheVariants.{OutOfRange, InvalidDigit, InvalidFormat}
-use Rattle.humantime.specs.References.Timestamps.Reading.{fraction_answer, moment_or_error, weak_answer}
-use Rattle.humantime.specs.Timestamps.Fields.{fraction_nanos, seconds_of}
+use Rattle.humantime.specs.References.Timestamps.Reading.{fraction_answer, weak_answer}
+use Rattle.humantime.specs.Timestamps.Fields.{seconds_of}
 use Rattle.humantime.specs.declared.date.parse.Numbers.{Numbers}
-use Rattle.humantime.specs.Timestamps.Checks.{has_separator, has_signs, has_digits, numbers_of, are_in_range, before_zone, fraction_part, has_point}
+use Rattle.humantime.specs.Timestamps.Checks.{has_separator, has_signs, has_digits, numbers_of, are_in_range, before_zone, fraction_part}
 use Rattle.humantime.proofs.Timestamps.Reading.Fractions.{digits_told, nanos_bound}
 
 pub exit_short : (b : List ℕ) → length b < 19 → weak_answer b ≡ Err InvalidFormat
@@ -39,14 +38,6 @@ with_seconds None fraction = Err OutOfRange
 with_seconds (Some seconds) (Ok nanos) = Ok (pos (seconds * 1_000_000_000 + nanos))
 with_seconds (Some seconds) (Err e) = Err e
 
-joined : (range point digits : Bool) (seconds nanos : ℕ)
-    → moment_or_error (if range then (if point then (if digits then None else Some InvalidDigit) else Some InvalidFormat) else Some OutOfRange) (seconds * 1_000_000_000 + nanos)
-    ≡ with_seconds (if range then Some seconds else None) (if point then (if digits then Ok nanos else Err InvalidDigit) else Err InvalidFormat)
-joined true true true seconds nanos = refl
-joined true true false seconds nanos = refl
-joined true false digits seconds nanos = refl
-joined false point digits seconds nanos = refl
-
 -- the seconds of a date and a time of day, where they are in range
 abbrev pub seconds_found : Numbers → Option ℕ
 seconds_found x = if are_in_range x then Some (seconds_of x.date x.hour x.minute x.second) else None
@@ -56,16 +47,11 @@ pub exit_shaped : (b : List ℕ) (x : Numbers) → 19 ≤ length b → (has_sign
 unfolding weak_answer
 exit_shaped b x long shaped is =
     let both = and_parts (has_signs b) (has_digits b) shaped in
-    let part = fraction_part b in
-    let n = numbers_of b in
-    rw (is, le-leb 19 (length b) long, both.0, both.1)
-    (joined (are_in_range n) (has_point part) (all_ascii_digits (drop 1 part)) (seconds_of n.date n.hour n.minute n.second)
-    (fraction_nanos (drop 1 part)))
+    rw (is, le-leb 19 (length b) long, both.0, both.1) (grind (arith, common_steps))
 
 -- with what was read
 pub exit_read : (b : List ℕ) (x : Numbers) (seconds : Option ℕ) (part : List ℕ) (fraction : Result ℕ TimestampError) → 19 ≤ length b
     → (has_signs b && has_digits b) ≡ true → x ≡ numbers_of b → seconds ≡ (seconds_found x)
     → part ≡ before_zone (take (length b - 19) (drop 19 b)) → fraction ≡ fraction_answer part → weak_answer b ≡ with_seconds seconds fraction
 exit_read b x seconds part fraction long shaped is read before value =
-    let rest = take_rest b 19 in
-    rw (value, before, rest, read) (exit_shaped b x long shaped is)
+    rw (value, before, take_rest b 19, read) (exit_shaped b x long shaped is)

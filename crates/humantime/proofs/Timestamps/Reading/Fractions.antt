@@ -10,7 +10,7 @@ use Rattle.std.specs.Str.Parse.{digits_value_after}
 use Rattle.std.proofs.Math.Nat.{pow-suc, mul-le-mul_left, div-div-eq-div-mul, pow-le-pow_right, div-eq_of_lt}
 use Rattle.std.proofs.lemmas.Bool.Decides.{nat_tests}
 use Rattle.std.proofs.lemmas.Str.{digit_value_digit}
-use Rattle.std.proofs.lemmas.Bool.{and_parts, and_from}
+use Rattle.std.proofs.lemmas.List.Folds.{list_all-append}
 use Rattle.humantime.specs.Timestamps.Fields.{fraction_nanos}
 
 -- ---- Digits
@@ -22,26 +22,20 @@ AreDigits ds = AllByRecursion (λ c. IsInRange 48 57 c) ds
 pub is_digit_told : (c : ℕ) → is_ascii_digit c ≡ true → IsInRange 48 57 c
 is_digit_told c h = grind (arith, nat_tests)
 
-pub is_digit_from : (c : ℕ) → IsInRange 48 57 c → is_ascii_digit c ≡ true
-is_digit_from c h = grind (arith, nat_tests)
-
 pub digits_told : (ds : List ℕ) → all_ascii_digits ds ≡ true → AreDigits ds
 digits_told [] h = tt
-digits_told (c ∷ cs) h =
-    let p = and_parts (is_ascii_digit c) (all_ascii_digits cs) h in
-    (is_digit_told c p.0, digits_told cs p.1)
+digits_told (c ∷ cs) h = grind (arith, common_steps, is_digit_told, digits_told cs)
 
 pub digits_from : (ds : List ℕ) → AreDigits ds → all_ascii_digits ds ≡ true
 digits_from [] d = refl
-digits_from (c ∷ cs) d = and_from (is_ascii_digit c) (all_ascii_digits cs) (is_digit_from c d.0) (digits_from cs d.1)
+digits_from (c ∷ cs) d = grind (arith, nat_tests, (digits_from cs d.1))
 
 pub digits_listed : (ds : List ℕ) → all_ascii_digits ds ≡ list_all is_ascii_digit ds
 digits_listed [] = refl
 digits_listed (c ∷ cs) = grind (arith, common_steps, digits_listed cs)
 
 pub digits_append : (ds es : List ℕ) → all_ascii_digits (ds ++ es) ≡ (all_ascii_digits ds && all_ascii_digits es)
-digits_append [] es = refl
-digits_append (d ∷ ds) es = grind (arith, common_steps, (digits_append ds es))
+digits_append ds es = simp (digits_listed, list_all-append)
 
 -- ---- The nanoseconds are the sum of the digits with their weights
 
@@ -56,14 +50,10 @@ weight i = 100_000_000 / 10 ^ i
 
 add_nothing : (n : ℕ) (ds : List ℕ) → add_digits n 0 ds ≡ n
 add_nothing n [] = refl
-add_nothing n (c ∷ cs) =
-    let same : n + 0 * (c - 48) ≡ n = omega arith in
-    rw same (add_nothing n cs)
+add_nothing n (c ∷ cs) = grind (arith, common_steps, (add_nothing n cs))
 
 weights : (m d p q : ℕ) → q ≡ p * 10 → (m * 10 + d) * p ≡ m * q + q / 10 * d
-weights m d p q e =
-    let tenth : q / 10 ≡ p = omega arith in
-    rw tenth (rw e (grind arith))
+weights m d p q e = let tenth : q / 10 ≡ p = omega arith in rw (tenth, e) (grind arith)
 
 abbrev zeros : ℕ → List ℕ
 zeros zero = []
@@ -74,14 +64,11 @@ zeros_read : (k n m : ℕ) → k ≤ n → digits_value_after 10 m (take k (zero
 zeros_read zero n m h = omega arith
 zeros_read (suc k) zero m h = absurd (omega arith)
 zeros_read (suc k) (suc n) m h =
-    let rest : digits_value_after 10 (m * 10 + 0) (take k (zeros n)) ≡ (m * 10 + 0) * 10 ^ k = zeros_read k n (m * 10 + 0) (omega arith) in
-    rest ∙ (weights m 0 (10 ^ k) (10 ^ suc k) (pow-suc 10 k) ∙ omega arith)
+    zeros_read k n (m * 10 + 0) (omega arith) ∙ weights m 0 (10 ^ k) (10 ^ suc k) (pow-suc 10 k) ∙ omega arith
 
 -- the first k digits, filled with zeros
 filled : (k n m : ℕ) (ds : List ℕ) → AreDigits ds → k ≤ n → digits_value_after 10 m (take k (ds ++ zeros n)) ≡ add_digits (m * 10 ^ k) (10 ^ k / 10) ds
-filled zero n m ds digits h =
-    let same : m * 10 ^ 0 ≡ m = omega arith in
-    rw same (sym (add_nothing m ds))
+filled zero n m ds digits h = grind (arith, common_steps, (add_nothing m ds))
 filled (suc k) n m [] digits h = zeros_read (suc k) n m h
 filled (suc k) n m (c ∷ cs) digits h =
     let value : digit_value c ≡ c - 48 = omega (arith, digit_value_digit c digits.0) in

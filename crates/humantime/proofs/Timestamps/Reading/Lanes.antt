@@ -1,6 +1,6 @@
 -- Sixteen bytes tested at once are tested one by one.
 use Rattle.std.proofs.lemmas.Grind.{common_steps}
-use Rattle.std.proofs.Common.{◌≡◌, ℕ, ◌+◌, ◌-◌, ◌%◌, ◌^◌, ◌<◌, ◌≤◌, Bool, true, not, cond, eqb, ltb, ◌&&◌, List, [], ◌∷◌, map, length, get_or, take, Fits, w8, refl, ap, ◌∙◌, arith}
+use Rattle.std.proofs.Common.{◌≡◌, ℕ, ◌+◌, ◌-◌, ◌%◌, ◌^◌, ◌≤◌, Bool, true, not, cond, eqb, ltb, ◌&&◌, List, [], ◌∷◌, map, length, get_or, take, Fits, w8, refl, ap, ◌∙◌, arith}
 use Rattle.std.specs.Char.{is_ascii_digit}
 use Rattle.std.specs.List.{list_all}
 use Rattle.std.specs.Prelude.{◌==◌, codes, slice_index}
@@ -27,18 +27,6 @@ beyond m a = cond (ltb m a) 255 0
 abbrev lanes : List ℕ → List Bool
 lanes b = map (top 7) (zip2 beyond most (zip2 above (take 16 b) least))
 
-digit_lane : (a : ℕ) → a < 256 → not (top 7 (beyond 9 (above a 48))) ≡ is_ascii_digit a
-digit_lane a h = agree_below_at (λ c. not (top 7 (beyond 9 (above c 48)))) is_ascii_digit 256 a refl h
-
-dash_lane : (a : ℕ) → a < 256 → not (top 7 (beyond 0 (above a 45))) ≡ (a == 45)
-dash_lane a h = agree_below_at (λ c. not (top 7 (beyond 0 (above c 45)))) (λ c. c == 45) 256 a refl h
-
-colon_lane : (a : ℕ) → a < 256 → not (top 7 (beyond 0 (above a 58))) ≡ (a == 58)
-colon_lane a h = agree_below_at (λ c. not (top 7 (beyond 0 (above c 58)))) (λ c. c == 58) 256 a refl h
-
-any_lane : (a : ℕ) → a < 256 → not (top 7 (beyond 255 (above a 32))) ≡ true
-any_lane a h = agree_below_at (λ c. not (top 7 (beyond 255 (above c 32)))) (λ _. true) 256 a refl h
-
 -- the signs may be tested first, and the seconds among the others
 signs_first : (s t u v w a b c d e f g h i j k l : Bool)
     → ((a && (b && (c && (d && (s && (e && (f && (t && (g && (h && (true && (i && (j && (u && (k && (l && true)))))))))))))))) && (v && w))
@@ -50,18 +38,19 @@ lanes_are : (b : List ℕ) → 19 ≤ length b → ((k : ℕ) → Fits w8 (get_o
 unfolding has_signs has_digits has_seconds has_two
 lanes_are b long fits separator =
     let shown = λ (k : ℕ). is_ascii_digit (slice_index b k) in
-    let digit = λ (k : ℕ). digit_lane (get_or b k 0) (fits k).fits in
-    let dash = λ (k : ℕ). dash_lane (get_or b k 0) (fits k).fits in
+    let digit = λ (k : ℕ). agree_below_at (λ c. not (top 7 (beyond 9 (above c 48)))) is_ascii_digit 256 (get_or b k 0) refl (fits k).fits in
+    let dash = λ (k : ℕ). agree_below_at (λ c. not (top 7 (beyond 0 (above c 45)))) (λ c. c == 45) 256 (get_or b k 0) refl (fits k).fits in
+    let any = λ (k : ℕ). agree_below_at (λ c. not (top 7 (beyond 255 (above c 32)))) (λ _. true) 256 (get_or b k 0) refl (fits k).fits in
+    let colon = λ (k : ℕ). agree_below_at (λ c. not (top 7 (beyond 0 (above c 58)))) (λ c. c == 58) 256 (get_or b k 0) refl (fits k).fits in
     let lanes_shown : list_all not (lanes b) ≡ _ =
     ap (λ (bytes : List ℕ). list_all not (lanes bytes)) (nineteen b long)
     ∙ (λ i. list_all (λ (x : Bool). x) (
     digit 0 i ∷ digit 1 i ∷ digit 2 i ∷ digit 3 i ∷ dash 4 i ∷ digit 5 i ∷ digit 6 i ∷ dash 7 i
-    ∷ digit 8 i ∷ digit 9 i ∷ any_lane (get_or b 10 0) (fits 10).fits i ∷ digit 11 i ∷ digit 12 i
-    ∷ colon_lane (get_or b 13 0) (fits 13).fits i ∷ digit 14 i ∷ digit 15 i ∷ []
+    ∷ digit 8 i ∷ digit 9 i ∷ any 10 i ∷ digit 11 i ∷ digit 12 i
+    ∷ colon 13 i ∷ digit 14 i ∷ digit 15 i ∷ []
     )) in
-    rw separator (
-    ap (λ front. front && has_seconds b) lanes_shown
-    ∙ signs_first (slice_index b 4 == 45) (slice_index b 7 == 45) (slice_index b 13 == 58) (slice_index b 16 == 58) (has_two b 17)
+    rw (separator, lanes_shown)
+    (signs_first (slice_index b 4 == 45) (slice_index b 7 == 45) (slice_index b 13 == 58) (slice_index b 16 == 58) (has_two b 17)
     (shown 0) (shown 1) (shown 2) (shown 3) (shown 5) (shown 6) (shown 8) (shown 9) (shown 11) (shown 12) (shown 14) (shown 15))
 
 pub shape_of_parts : (b : List ℕ) → 19 ≤ length b → ((k : ℕ) → Fits w8 (get_or b k 0)) → has_separator b ≡ true

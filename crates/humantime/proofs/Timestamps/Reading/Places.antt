@@ -32,17 +32,14 @@ pub number_of_two : (b : List ℕ) (k : ℕ) → k + 2 ≤ length b → has_two 
     → number_between b k (k + 2) ≡ (slice_index b k - 48) * 10 + (slice_index b (k + 1) - 48)
 unfolding number_between
 number_of_two b k long h =
-    let p = has_two_told b k h in
-    rw (last_two b k (k + 2) refl long) (omega (arith, digit_value_digit _ p.0, digit_value_digit _ p.1))
+    rw (last_two b k (k + 2) refl long) (grind (arith, common_steps, has_two_told, digit_value_digit))
 
 pub number_of_four : (b : List ℕ) → 4 ≤ length b → has_two b 0 ≡ true → has_two b 2 ≡ true
     → number_between b 0 4 ≡ (slice_index b 0 - 48) * 1000 + (slice_index b 1 - 48) * 100 + (slice_index b 2 - 48) * 10 + (slice_index b 3 - 48)
 unfolding number_between
 number_of_four b long century decade =
-    let p = has_two_told b 0 century in
-    let q = has_two_told b 2 decade in
     rw (next_byte b 0 4 (omega arith) long, next_byte b 1 4 (omega arith) long, last_two b 2 4 refl long)
-    (omega (arith, digit_value_digit _ p.0, digit_value_digit _ p.1, digit_value_digit _ q.0, digit_value_digit _ q.1))
+    (grind (arith, common_steps, has_two_told, digit_value_digit))
 
 -- three digits
 pub three_bytes : (b : List ℕ) (k : ℕ) → k + 3 ≤ length b → slice_range b k (k + 3) ≡ slice_index b k ∷ slice_index b (k + 1) ∷ slice_index b (k + 2) ∷ []
@@ -59,9 +56,8 @@ pub number_of_three : (b : List ℕ) (k : ℕ) → k + 3 ≤ length b → all_as
     → number_between b k (k + 3) ≡ (slice_index b k - 48) * 100 + (slice_index b (k + 1) - 48) * 10 + (slice_index b (k + 2) - 48)
 unfolding number_between
 number_of_three b k long h =
-    let p = digits_told (slice_index b k ∷ slice_index b (k + 1) ∷ slice_index b (k + 2) ∷ []) (rw (three_bytes b k long) at h) in
-    rw (three_bytes b k long)
-    (omega (arith, digit_value_digit (slice_index b k) p.0, digit_value_digit (slice_index b (k + 1)) p.1.0, digit_value_digit (slice_index b (k + 2)) p.1.1.0))
+    let digits = rw (three_bytes b k long) at h in
+    rw (three_bytes b k long) (grind (arith, common_steps, digits, digits_told, digit_value_digit))
 
 -- the numbers that are read are those that stand there
 pub two_read : (b : List ℕ) (k : ℕ) → k + 2 ≤ length b → has_two b k ≡ true

@@ -1,11 +1,10 @@
 -- A text that fails no check shows the parts at its places.
 use Rattle.std.proofs.lemmas.Grind.{common_steps}
 use Rattle.std.proofs.Common.{◌≡◌, ℕ, ◌+◌, ◌/◌, ◌%◌, ◌≤◌, List, ◌∷◌, ◌++◌, length, drop, ap, ◌∙◌, arith}
-use Rattle.std.specs.Prelude.{true, slice_index}
-use Rattle.std.proofs.lemmas.Bool.{leb-true}
+use Rattle.std.specs.Prelude.{true, slice_index, None}
 use Rattle.humantime.specs.Timestamps.Fields.{fraction_text, zone_text, fields_text, IsWeak}
-use Rattle.humantime.specs.Timestamps.Checks.{has_two, zone_of, number_between, are_in_range, fraction_part}
-use Rattle.humantime.proofs.Timestamps.Reading.Checks.{Passes, fraction_of, fields_of, signs_told, pairs_told, part_shown, part_digits, nineteen}
+use Rattle.humantime.specs.Timestamps.Checks.{has_two, zone_of, number_between, are_in_range, fraction_part, weak_checks, first_failed}
+use Rattle.humantime.proofs.Timestamps.Reading.Checks.{all_passed, fraction_of, fields_of, signs_told, pairs_told, part_shown, part_digits, nineteen}
 use Rattle.humantime.proofs.Timestamps.Reading.Ends.{zone_shown}
 use Rattle.humantime.proofs.Timestamps.Reading.Places.{has_two_told, number_of_two, number_of_four, bounds}
 
@@ -18,33 +17,35 @@ year_shown : (b : List ℕ) → 4 ≤ length b → has_two b 0 ≡ true → has_
     × (slice_index b 2 ≡ 48 + number_between b 0 4 / 10 % 10) × (slice_index b 3 ≡ 48 + number_between b 0 4 % 10)
 year_shown b long century decade = grind (arith, common_steps, has_two_told, number_of_four)
 
-written_shown : (b : List ℕ) → Passes b → b ≡ fields_text (fields_of b)
-written_shown b p =
-    let signs = signs_told b p.signs in
-    let pairs = pairs_told b p.digits in
-    let long = leb-true 19 (length b) p.long in
-    let year = year_shown b (omega arith) pairs.century pairs.year in
-    let month = pair_shown b 5 (omega arith) pairs.month in
-    let day = pair_shown b 8 (omega arith) pairs.day in
-    let hour = pair_shown b 11 (omega arith) pairs.hour in
-    let minute = pair_shown b 14 (omega arith) pairs.minute in
-    let second = pair_shown b 17 (omega arith) pairs.second in
+written_shown : (b : List ℕ) → first_failed (weak_checks b) ≡ None → b ≡ fields_text (fields_of b)
+written_shown b passed =
+    let p = all_passed b passed in
+    let long = p.0 in
+    let signs = signs_told b p.1 in
+    let pairs = pairs_told b p.2 in
+    let year = year_shown b (omega arith) pairs.0 pairs.1 in
+    let month = pair_shown b 5 (omega arith) pairs.2 in
+    let day = pair_shown b 8 (omega arith) pairs.3 in
+    let hour = pair_shown b 11 (omega arith) pairs.4 in
+    let minute = pair_shown b 14 (omega arith) pairs.5 in
+    let second = pair_shown b 17 (omega arith) pairs.6 in
     let end : drop 19 b ≡ fraction_text (fraction_of (fraction_part b)) ++ zone_text (zone_of (drop 19 b)) =
-    zone_shown (drop 19 b) ∙ ap (λ (part : List ℕ). part ++ zone_text (zone_of (drop 19 b))) (part_shown (fraction_part b) p.point) in
+    zone_shown (drop 19 b) ∙ ap (λ (part : List ℕ). part ++ zone_text (zone_of (drop 19 b))) (part_shown (fraction_part b) p.4) in
     nineteen b long
     ∙ (λ i. year.0 i ∷ year.1 i ∷ year.2 i ∷ year.3 i
-    ∷ signs.dash4 i ∷ month.0 i ∷ month.1 i ∷ signs.dash7 i ∷ day.0 i ∷ day.1 i ∷ signs.separator i
-    ∷ hour.0 i ∷ hour.1 i ∷ signs.colon13 i ∷ minute.0 i ∷ minute.1 i ∷ signs.colon16 i ∷ second.0 i ∷ second.1 i ∷ end i)
+    ∷ signs.0 i ∷ month.0 i ∷ month.1 i ∷ signs.1 i ∷ day.0 i ∷ day.1 i ∷ signs.2 i
+    ∷ hour.0 i ∷ hour.1 i ∷ signs.3 i ∷ minute.0 i ∷ minute.1 i ∷ signs.4 i ∷ second.0 i ∷ second.1 i ∷ end i)
 
-pub fields_weak : (b : List ℕ) → Passes b → IsWeak b (fields_of b)
+pub fields_weak : (b : List ℕ) → first_failed (weak_checks b) ≡ None → IsWeak b (fields_of b)
 unfolding are_in_range
-fields_weak b p =
-    let range = (bounds _ _ _ _).0 p.range in
+fields_weak b passed =
+    let p = all_passed b passed in
+    let range = (bounds _ _ _ _).0 p.3 in
     record {
-      shown = written_shown b p;
+      shown = written_shown b passed;
       date = range.0;
       hour = range.1;
       minute = range.2;
       second = range.3;
-      fraction = rw (part_digits (fraction_part b)) p.fraction;
+      fraction = rw (part_digits (fraction_part b)) p.5;
     }

@@ -30,7 +30,7 @@ abbrev pub counted : List ℕ → Counted
 counted ds = (decimal_value (significant ds), length (significant ds), length ds)
 
 abbrev pub parts_of : Fraction → Counted
-parts_of f = (f.value, f.count, f.count + f.zeros)
+parts_of f = (f.value, f.count, f.all)
 
 -- The amount is the one that the span stands for.
 pub record IsAmountOf (a : Amount) (s : Span) : Type 0 where

@@ -31,11 +31,11 @@ number_at rest =
     if nat_lt u64_max (decimal_value (number_of rest)) then None
     else Some (decimal_value (number_of rest), leading is_numeric rest, after_number rest)
 
--- The digits before the zeros at the end, at most 19, read as the value; count and zeros say how many there are of both.
+-- The digits before the zeros at the end, at most 19, read as the value; the counts are theirs, and of all digits.
 pub record AreDigits (f : Fraction) (ds : List ℕ) : Type 0 where
   pub value : decimal_value (significant ds) ≡ f.value
   pub count : length (significant ds) ≡ f.count
-  pub zeros : length ds ≡ f.count + f.zeros
+  pub all : length ds ≡ f.all
   pub few : f.count ≤ 19
   pub fits : f.value < 10 ^ f.count
 

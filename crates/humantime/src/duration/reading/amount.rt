@@ -36,13 +36,13 @@ static POWERS_OF_TEN: [u64; 20] = [
     10_000_000_000_000_000_000,
 ];
 
-/// The digits after a point: those before the zeros at their end, as a number and by their count, and how many zeros
-/// follow.
+/// The digits after a point: those before the zeros at their end, as a number and by their count, and how many there are
+/// in all.
 #[derive(Clone, Copy, Debug)]
 pub(crate) struct Fraction {
     pub value: u64,
     pub count: usize,
-    pub zeros: usize,
+    pub all: usize,
 }
 
 /// What a span adds: its number, its fraction and its unit.
@@ -82,7 +82,7 @@ impl Fraction {
     pub(crate) const NONE: Fraction = Fraction {
         value: 0,
         count: 0,
-        zeros: 0,
+        all: 0,
     };
 
     /// One digit more, or `None` where that is no zero and behind 19 others.
@@ -90,24 +90,19 @@ impl Fraction {
     pub(crate) fn push(self, c: u8) -> Option<Fraction>
         requires digit { is_digit c ≡ true }
         requires digits { (ds : List ℕ) × AreDigits self ds }
-        requires room { self.zeros + 1 < 2 ^ 64 }
+        requires room { self.all + 1 < 2 ^ 64 }
         ensures { (ds : List ℕ) → AreDigits self ds → MatchOption result (IsTooLong ds c) (λ d. AreDigits d (ds ++ c ∷ [])) }
     {
+        let all = self.all + 1;
         if c == b'0' {
-            return Some(Fraction {
-                value: self.value,
-                count: self.count,
-                zeros: self.zeros + 1,
-            });
+            return Some(Fraction { all, ..self });
         }
-        if self.zeros >= FRACTION_DIGITS - self.count {
+        if all > FRACTION_DIGITS {
             return None;
         }
-        let places = self.zeros + 1;
-        Some(Fraction {
-            value: self.value * power_of_ten(places) + (c - b'0') as u64,
-            count: self.count + places,
-            zeros: 0,
-        })
+        let power = power_of_ten(all - self.count);
+        let value = self.value * power + (c - b'0') as u64;
+        let count = all;
+        Some(Fraction { value, count, all })
     }
 }

@@ -39,7 +39,7 @@ pub(crate) fn span_at<'a>(
     let Some((fraction, digits, after_fraction)) = read_fraction(after_number) else {
         return Err(DurationError::NumberOverflow);
     };
-    let bare = matches!(fraction, Some(digits) if digits.count == 0 && digits.zeros == 0);
+    let bare = matches!(fraction, Some(digits) if digits.all == 0);
     let (word, after_word) = read_word(after_fraction);
     let (start, end) = (offset_of(text, rest), offset_of(text, after_word));
     if word.letters.is_empty() && !after_word.is_empty() {

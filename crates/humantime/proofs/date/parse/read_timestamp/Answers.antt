@@ -1,6 +1,5 @@
 use Rattle.std.proofs.lemmas.Grind.{common_steps}
-use Rattle.std.proofs.Common.{sym, ap, ◌∙◌, arith}
-use Rattle.std.specs.Prelude.{Some, Ok, Err}
+use Rattle.std.proofs.Common.{arith}
 use Rattle.std.proofs.lemmas.Bool.{and_parts}
 use Rattle.std.proofs.lemmas.Result.{err_from_is_err_and}
 use Rattle.humantime.proofs.Timestamps.Reading.Exits.{exit_short, exit_separator, exit_shaped, exit_read}
@@ -15,14 +14,8 @@ returns-in_default c = grind (arith, common_steps, and_parts, exit_shaped)
 
 pub returns-in_err-nanos : goal.returns-in_err-nanos
 returns-in_err-nanos c =
-    let shape = sym c.is_shaped.ensures ∙ c.if-not-is_shaped.false in
-    let numbers = c.numbers_at-numbers.ensures (and_parts _ _ shape).1 in
     let p = err_from_is_err_and c.from_residual.result c.from_residual.ensures.1 in
-    rw (p.1, p.2) (sym (exit_read c.args.b.now _ (Some c.in-Some.secs) _ (Err _) c.if-b-lt19.false shape numbers c.in-Some.ensures.value c.before_zone.ensures c.in_err-nanos.ensures))
+    rw (p.1, p.2) (grind (arith, common_steps, and_parts, exit_read))
 
 pub returns : goal.returns
-returns c =
-    let shape = sym c.is_shaped.ensures ∙ c.if-not-is_shaped.false in
-    let numbers = c.numbers_at-numbers.ensures (and_parts _ _ shape).1 in
-    ap Ok c.since_epoch.ensures
-    ∙ sym (exit_read c.args.b.now _ (Some c.in-Some.secs) _ (Ok c.in_ok-nanos.nanos) c.if-b-lt19.false shape numbers c.in-Some.ensures.value c.before_zone.ensures c.in_ok-nanos.ensures)
+returns c = grind (arith, common_steps, and_parts, exit_read)

@@ -1,11 +1,12 @@
+use Rattle.std.proofs.lemmas.Grind.{common_steps}
 use Rattle.std.proofs.lemmas.Str.{IsUtf8-from_ascii}
 use Rattle.std.specs.Str.{IsUtf8}
 use Rattle.humantime.proofs.Timestamps.Printing.Printed.{printed_ascii}
 use Rattle.humantime.specs.Timestamps.Printed.{MomentToPrint, IsPrinted, IsPrintable}
-use Rattle.humantime.proofs.Walks.{Val, ◌≡◌, ℕ, ◌≤◌, List, [], ◌∷◌, refl, MutBor, proved, full_share, id⊢, emp, ftrue, flft, fres, named, fact, fact_i, tables, ‵, raw, ◌⊛◌, some, later, ◌$◌, ◌∵◌, !, qed, by, move, keep, drop, use0, use1, use2, use3, split, join, fsplit, fjoin, feq_i, feq_l, pick, await, suffices, frame, enter, addr, stop, no_more, and_then, returns, alloc_all, pass_all, free_all, look_at, get, through, sets, lands_as, shows, MutRef, ShrRef, mut_vals, shr_vals, mut_Tells, shr_Tells, plain, nothing, heard, peeks, calls_at, lasts, triple_of, Stays, stay_dropped, Goes-dropped, Goes-spent_ref, ends_at, yes, no, framed}
+use Rattle.humantime.proofs.Walks.{Val, ◌≡◌, ℕ, ◌≤◌, List, [], ◌∷◌, refl, MutBor, proved, full_share, id⊢, emp, ftrue, flft, fres, named, arith, fact, fact_i, tables, ‵, raw, ◌⊛◌, some, later, ◌$◌, ◌∵◌, !, qed, by, move, keep, drop, use0, use1, use2, use3, split, join, fsplit, fjoin, feq_i, feq_l, pick, await, suffices, frame, enter, addr, stop, no_more, and_then, returns, alloc_all, pass_all, free_all, look_at, get, through, sets, lands_as, shows, MutRef, ShrRef, mut_vals, shr_vals, mut_Tells, shr_Tells, plain, nothing, heard, peeks, calls_at, lasts, triple_of, Stays, stay_dropped, Goes-dropped, Goes-spent_ref, ends_at, yes, no, framed}
 use mir.Syntax.{w8, erased}
 use Rattle.std.specs.Borrow.{Array, u8, usize}
-use Rattle.std.specs.Prelude.{Option, None, Some, IfNone, IfSome, IsSome, ◌↔◌, option_map, take}
+use Rattle.std.specs.Prelude.{Option, IfNone, IfSome, IsSome, ◌↔◌, option_map, take}
 use denote.Ref.{Bor}
 use denote.Builtin.{RefOf}
 use denote.Memory.{lone}
@@ -38,8 +39,7 @@ abbrev A : RattleType
 A = Array u8 30
 
 text_utf8 : (x : MomentToPrint) (m : Option ℕ) (y : List ℕ) → IfSome m (λ n. IsPrinted x.moment x.places (take n y)) → IfSome m (λ n. IsUtf8 (take n y))
-text_utf8 x None y p = tt
-text_utf8 x (Some n) y p = IsUtf8-from_ascii _ (printed_ascii _ _ _ p)
+text_utf8 x m y p = grind (arith, common_steps, printed_ascii, IsUtf8-from_ascii)
 
 pub text_spec : {M : Type 1} → statement M
 text_spec {M} 𝓤 𝓛 𝓜 𝓡 wired =

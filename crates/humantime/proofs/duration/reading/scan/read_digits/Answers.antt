@@ -19,7 +19,7 @@ pub push-requires-clause-digits : goal.push-requires-clause-digits
 push-requires-clause-digits c = (c.loop-at.invariant.taken, c.loop-at.invariant.digits)
 
 pub push-requires-clause-room : goal.push-requires-clause-room
-push-requires-clause-room c = omega (arith, c.loop-at.invariant.digits.zeros, c.loop-at.invariant.few)
+push-requires-clause-room c = omega (arith, c.loop-at.invariant.digits.all, c.loop-at.invariant.few)
 
 pub loop-at-preserved-then-is_ascii_digit : goal.loop-at-preserved-then-is_ascii_digit
 loop-at-preserved-then-is_ascii_digit c =
