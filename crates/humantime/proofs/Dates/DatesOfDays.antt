@@ -33,21 +33,16 @@ late n y k d few month within ends sum =
     dated n (1601 + y) (k - 9) (d + 1) ((omega arith, omega arith), (omega arith, omega arith), (omega arith, omega arith))
     (grind (arith, common_steps, days_of_first_months (1601 + y) (k - 10), days_of_years_closed (1601 + y) (omega arith)))
 
--- the date of a day of month k of year y, and of a day of year y
-in_month : (n y k d : ℕ) → n ≤ 2_932_896 → march_months k + d < march_months (k + 1) → march_months k + d < days_in_year (1601 + y)
-    → march_days y + march_months k + d ≡ n + 135_080 → IsDateOfDay n (march_date y k d)
-in_month n y k d few within ends sum = elim (cases_Bool (nat_lt k 10)) [
-  | inl h ↦ rw h (early n y k d few (ltb-true k 10 h) within sum)
-  | inr h ↦ rw h (late n y k d few (ltb-false k 10 h) within ends sum)
-]
-
 -- the date of this day, in the year that is found
 pub date_found : (n y k d : ℕ) (x : Date) → x ≡ march_date y k (d - march_months k) → n ≤ 2_932_896 → y ≡ march_year (n + 135_080)
     → k ≡ min (march_month d) 12 → march_days y + d ≡ n + 135_080 → IsDateOfDay n x
 date_found n y k d x is few year month sum =
     let within : d < days_in_year (1601 + y) = omega (arith, march_days_next (1601 + y) (omega arith)) in
     let found : k ≡ march_month d = omega (arith, days_in_year_bound (1601 + y)) in
-    rw is (in_month n y k (d - march_months k) few (omega arith) (omega arith) (omega arith))
+    elim (cases_Bool (nat_lt k 10)) [
+      | inl h ↦ rw (is, h) (early n y k (d - march_months k) few (ltb-true k 10 h) (omega arith) (omega arith))
+      | inr h ↦ rw (is, h) (late n y k (d - march_months k) few (ltb-false k 10 h) (omega arith) (omega arith) (omega arith))
+    ]
 
 pub date_of_is : (n : ℕ) → n ≤ 2_932_896 → IsDateOfDay n (date_of n)
 unfolding date_of

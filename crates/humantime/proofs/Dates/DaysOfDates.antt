@@ -26,11 +26,9 @@ month_end y m some = grind (arith, common_steps)
 
 -- a date's day lies before the days of each later month and of each later year
 pub before_month : (y m d : ℕ) → AreWithin y m d → (later : ℕ) → m < later → days_of_months y (m - 1) + (d - 1) < days_of_months y (later - 1)
-before_month y m d valid later less =
-    omega (arith, valid.1.0, valid.2.0, valid.2.1, month_end y m valid.1.0, months_grow y m (later - 1) (omega arith))
+before_month y m d valid later less = omega (arith, month_end y m valid.1.0, months_grow y m (later - 1) (omega arith))
 
-pub before_year : (y m d : ℕ) → AreWithin y m d → (later : ℕ) → y < later
-    → day_count y m d < days_of_years (later - 1970)
+pub before_year : (y m d : ℕ) → AreWithin y m d → (later : ℕ) → y < later → day_count y m d < days_of_years (later - 1970)
 before_year y m d valid later less =
     grind (arith, (before_month y m d valid 13), (days_of_months_closed y 13), days_of_years_closed, (march_days_next y))
 

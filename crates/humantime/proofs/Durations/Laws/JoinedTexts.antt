@@ -14,11 +14,8 @@ pub use Rattle.humantime.proofs.Durations.Reading.Spellings.{each-append, spells
 use Rattle.humantime.proofs.Durations.Laws.Readings.{accepted_spans, no_value_and_fault}
 
 -- white space behind a spelling belongs to it
-spells-space : (here space : List ℕ) (s : Span) → Spells here s [] → Only is_ws space → Spells (here ++ space) s []
-spells-space here space s h only = grind (arith, common_steps)
-
 spells_each-space : (body space : List ℕ) (s : Span) (ss : List Span) → SpellsEach body (s ∷ ss) → Only is_ws space → SpellsEach (body ++ space) (s ∷ ss)
-spells_each-space body space s [] h only = ([], spells-space body space s (subst (Spells body s) h.2 h.1) only, refl)
+spells_each-space body space s [] h only = ([], (grind (arith, common_steps, each-append)), refl)
 spells_each-space body space s (t ∷ ts) h only = (h.0 ++ space, spells-append body h.0 space s h.1, spells_each-space h.0 space t ts h.2 only)
 
 -- spans behind spans
@@ -26,13 +23,8 @@ pub front-append : (a b : List ℕ) (ss ts : List Span) → Reads a ss → Spell
 front-append a b [] ts h k = absurd (h.1 refl)
 front-append a b (s ∷ ss) ts h k =
     let f = h.0 in
-    record {
-      space = f.space;
-      body = (f.body ++ k.space) ++ k.body;
-      whole = ap₂ (λ (x y : List ℕ). x ++ y) f.whole k.whole ∙ simp append_assoc;
-      only_space = f.only_space;
-      each = spells_each-append (f.body ++ k.space) k.body (s ∷ ss) ts (spells_each-space f.body k.space s ss f.each k.only_space) k.each;
-    }
+    let each = spells_each-append (f.body ++ k.space) k.body (s ∷ ss) ts (spells_each-space f.body _ s ss f.each k.only_space) k.each in
+    grind (arith, common_steps, (f), (each))
 
 pub some-append : (ss ts : List Span) → ss ≢ [] → ss ++ ts ≢ []
 some-append [] ts some e = some refl
@@ -98,10 +90,5 @@ joined_sum_or_overflow a b u v (Sum_of ss h g p) (Sum_of ts k l q) some_a some_b
 -- white space may stand wherever a span ends
 pub reads-space : (before space after : List ℕ) (ss ts : List Span) → Reads before ss → SpellsAll after ts → Only is_ws space
     → Reads (before ++ (space ++ after)) (ss ++ ts)
-reads-space before space after ss ts h k only = reads-append before (space ++ after) ss ts h (record {
-  space = space ++ k.space;
-  body = k.body;
-  whole = ap (λ (l : List ℕ). space ++ l) k.whole ∙ sym (append_assoc space k.space k.body);
-  only_space = each-append (λ c. is_ws c ≡ true) space k.space only k.only_space;
-  each = k.each;
-})
+reads-space before space after ss ts h k only =
+    reads-append before (space ++ after) ss ts h (grind (arith, common_steps, (each-append _ space k.space only k.only_space)))

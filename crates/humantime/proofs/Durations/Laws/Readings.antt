@@ -32,15 +32,12 @@ pub no_value_and_fault : (text : List ℕ) (v : ℕ) (e : Fault) → Accepted te
 no_value_and_fault text v e a f = grind (arith, common_steps, (outcome_accepted text v a), (outcome_fault text e f))
 
 -- the value of spans is the sum of what each adds, so their order doesn't matter
-abbrev worth : Span → ℕ
-worth span = total (additions_of span)
-
-value-sum : (spans : List Span) → value spans ≡ sum_by worth spans
+value-sum : (spans : List Span) → value spans ≡ sum_by (λ s. total (additions_of s)) spans
 value-sum [] = refl
-value-sum (s ∷ ss) = value-cons s ss ∙ ap (λ (n : ℕ). worth s + n) (value-sum ss) ∙ sym (sum_by-cons worth s ss)
+value-sum (s ∷ ss) = grind (arith, common_steps, (value-cons s ss), (value-sum ss))
 
 pub value-permutation : (ss ts : List Span) → IsPermutation ss ts → value ss ≡ value ts
-value-permutation ss ts h = value-sum ss ∙ sym (sum_by-IsPermutation worth ss ts h) ∙ sym (value-sum ts)
+value-permutation ss ts h = value-sum ss ∙ sym (sum_by-IsPermutation _ ss ts h) ∙ sym (value-sum ts)
 
 pub reordered_value : (a b : List ℕ) (ss ts : List Span) (u v : ℕ) → Reads a ss → Reads b ts → IsPermutation ss ts
     → Accepted a u → Accepted b v → u ≡ v

@@ -3,13 +3,13 @@ use Rattle.std.proofs.lemmas.Grind.{common_steps}
 use Rattle.std.proofs.Common.{true, ◌≡◌, ◌↔◌, ℕ, ◌+◌, ◌/◌, ◌≤◌, List, [], ◌∷◌, ◌++◌, sym, ap₂, ◌∙◌, subst, arith}
 use Rattle.std.specs.Prelude.{⊤}
 use Rattle.std.specs.List.{AllByRecursion}
-use Rattle.std.proofs.lemmas.List.Sums.{sum_by-cons}
+use Rattle.std.proofs.lemmas.List.Sums.{sum_by-cons, sum_by-append}
 use Rattle.humantime.specs.Values.{nanos_per_second}
 use Rattle.humantime.specs.Durations.Characters.{u64_max}
 use Rattle.humantime.specs.Durations.Units.{Addition, Nanos, Seconds}
 use Rattle.humantime.specs.Durations.Spans.{Span, Reads}
 use Rattle.humantime.specs.Durations.Accepted.{addition_nanos, total, additions, room, AllHaveRoom, Accepted}
-use Rattle.humantime.proofs.Durations.Reading.Rooms.{RoomFrom, total-append, all_have_room, room_is_duration}
+use Rattle.humantime.proofs.Durations.Reading.Rooms.{RoomFrom, all_have_room, room_is_duration}
 use Rattle.humantime.proofs.Durations.Laws.Readings.{accepted_spans}
 use Rattle.humantime.proofs.Durations.Laws.JoinedTexts.{each-append, joined_sum}
 
@@ -37,6 +37,6 @@ small_joined_sum a b ss ts u v h k x y small_ss small_ts =
     let law = joined_sum a b ss ts u v h k x y in
     let all = additions ss ++ additions ts in
     let small = each-append IsSmall (additions ss) (additions ts) small_ss small_ts in
-    let sum : total all ≡ u + v =
-    omega (arith, total-append (additions ss) (additions ts), (accepted_spans a ss u h x).1, (accepted_spans b ts v k y).1) in
+    let parts = sum_by-append addition_nanos (additions ss) (additions ts) in
+    let sum : total all ≡ u + v = omega (arith, parts, (accepted_spans a ss u h x).1, (accepted_spans b ts v k y).1) in
     (λ accepted. rw sum at (room_is_duration all (law.0 accepted)), λ fits. law.1 (small_have_room all small (rw sum fits)))

@@ -32,15 +32,8 @@ still_begins cs h = grind (arith, common_steps, digit_not_space)
 point_stays : is_ws 46 ≡ false
 point_stays = (or_parts (is_digit 46) (is_ws 46) (point_not_numeric 46 is_point-46)).1
 
-spells_fraction : (text : List ℕ) (fraction : Option (List ℕ)) → SpellsFraction text fraction → SpellsFraction (without_white_space text) fraction
-spells_fraction text fraction h = grind (arith, common_steps, point_stays, still_only, same_digits)
-
-spelling_parts : (a b word c rest : List ℕ) → Only is_letter word → Only is_ws c
-    → without_white_space (a ++ (b ++ (word ++ (c ++ rest)))) ≡ without_white_space a ++ (without_white_space b ++ (word ++ without_white_space rest))
-spelling_parts a b word c rest letters space = grind (arith, common_steps, only_letters, only_space)
-
 spells_span : (text rest : List ℕ) (span : Span) → Spells text span rest → Spells (without_white_space text) span (without_white_space rest)
-spells_span text rest span h = grind (arith, common_steps, spelling_parts, only_space, still_begins, still_only, same_digits, spells_fraction)
+spells_span text rest span h = grind (arith, common_steps, only_letters, only_space, still_begins, still_only, same_digits, point_stays)
 
 spells_each : (body : List ℕ) (spans : List Span) → SpellsEach body spans → SpellsEach (without_white_space body) spans
 spells_each body [] h = ap without_white_space h
@@ -48,9 +41,7 @@ spells_each body (s ∷ ss) h = (without_white_space h.0, spells_span body h.0 s
 
 -- the text without its white space is read as the same spans
 pub spaceless_reads : (text : List ℕ) (spans : List Span) → Reads text spans → Reads (without_white_space text) spans
-spaceless_reads text spans h =
-    let front : SpellsAll (without_white_space text) spans = grind (arith, common_steps, only_space, spells_each) in
-    (front, h.1)
+spaceless_reads text spans h = grind (arith, common_steps, only_space, spells_each)
 
 spaceless_zero : without_white_space bare_zero ≡ bare_zero
 spaceless_zero = rw (digit_not_space 48 (some_digit bare_zero (search rules) (omega arith))) refl

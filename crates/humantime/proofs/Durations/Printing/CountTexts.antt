@@ -1,6 +1,6 @@
 -- A text written count by count is the counts' text.
 use Rattle.std.proofs.lemmas.Grind.{common_steps}
-use Rattle.std.proofs.Common.{◌≡◌, ℕ, ◌/◌, ◌%◌, ◌<◌, List, [], ◌∷◌, length, refl, ap, sym, ◌∙◌, arith, rules}
+use Rattle.std.proofs.Common.{◌≡◌, ℕ, ◌/◌, ◌%◌, ◌<◌, List, [], ◌∷◌, length, refl, ap, ◌∙◌, arith, rules}
 use Rattle.std.specs.Prelude.{◌==◌, if◌then◌else◌, codes}
 use Rattle.std.specs.List.{AllByRecursion}
 use Rattle.std.proofs.lemmas.Bool.Decides.{nat_tests}
@@ -21,24 +21,19 @@ behind_more t p ps h = grind (arith, common_steps, append_assoc)
 abbrev Lettered : List Suffix → Type 0
 Lettered ss = AllByRecursion (λ s. 0 < length s.0) ss
 
-some_letter : (n : ℕ) (s : Suffix) → 0 < length s.0 → 0 < length (printed_count n s)
-some_letter n s h = simp length-append (omega (arith, h))
-
 one_by_one : (t ns : List ℕ) (ss : List Suffix) → Lettered ss → with_counts t ns ss ≡ behind t (printed_counts ns ss)
-one_by_one t [] ss h = grind (arith, common_steps)
-one_by_one t (n ∷ ns) [] h = grind (arith, common_steps)
 one_by_one t (n ∷ ns) (s ∷ ss) h =
     let some = one_by_one (behind t (printed_count n s ∷ [])) ns ss h.1 in
-    grind (arith, common_steps, behind_more, some_letter, some, (one_by_one t ns ss h.1))
+    grind (arith, common_steps, behind_more, length-append, some, (one_by_one t ns ss h.1))
+one_by_one t _ _ h = grind (arith, common_steps)
 
 -- zero seconds where there is no text
 abbrev pub or_zero : List ℕ → List ℕ
 or_zero text = if length text == 0 then codes "0s" else text
 
 or_zero_joined : (ns : List ℕ) (ss : List Suffix) → Lettered ss → or_zero (behind [] (printed_counts ns ss)) ≡ joined_by_space (printed_counts ns ss)
-or_zero_joined [] ss h = refl
-or_zero_joined (n ∷ ns) [] h = refl
-or_zero_joined (n ∷ ns) (s ∷ ss) h = grind (arith, common_steps, nat_tests, (some_letter n s h.0), length-append, (or_zero_joined ns ss h.1))
+or_zero_joined (n ∷ ns) (s ∷ ss) h = grind (arith, common_steps, nat_tests, length-append, (or_zero_joined ns ss h.1))
+or_zero_joined _ _ h = refl
 
 -- the nine counts of s seconds and n nanoseconds
 abbrev counts_of : ℕ → ℕ → List ℕ
@@ -49,14 +44,9 @@ counts_of s n =
     ∷ s % seconds_per_year % seconds_per_month % seconds_per_day % seconds_per_hour % seconds_per_minute
     ∷ n / nanos_per_milli ∷ n % nanos_per_milli / nanos_per_micro ∷ n % nanos_per_milli % nanos_per_micro ∷ []
 
-divided_counts : (d : ℕ) → divided weights d ≡ counts_of (d / nanos_per_second) (d % nanos_per_second)
-divided_counts d = grind (arith, common_steps)
-
-lettered : Lettered suffixes
-lettered = search rules
-
 pub written_is_text : (d : ℕ) → or_zero (with_counts [] (counts_of (d / nanos_per_second) (d % nanos_per_second)) suffixes) ≡ duration_text d
 unfolding duration_text
 written_is_text d =
-    ap or_zero (ap (λ ns. with_counts [] ns suffixes) (sym (divided_counts d)) ∙ one_by_one [] (divided weights d) suffixes lettered)
-    ∙ or_zero_joined (divided weights d) suffixes lettered
+    let counts : counts_of (d / nanos_per_second) (d % nanos_per_second) ≡ divided weights d = grind (arith, common_steps) in
+    ap or_zero (ap (λ ns. with_counts [] ns suffixes) counts ∙ one_by_one [] (divided weights d) suffixes (search rules))
+    ∙ or_zero_joined (divided weights d) suffixes (search rules)

@@ -1,9 +1,9 @@
 -- The counts by division are the greatest, and no others are.
-use Rattle.std.proofs.Common.{◌≡◌, ◌⊎◌, ℕ, suc, ◌+◌, ◌*◌, ◌/◌, ◌%◌, ◌<◌, List, [], ◌∷◌, length, refl, ap, sym, ◌∙◌, arith, rules, Ordering, nat_cmp, IsTrue, Equal}
+use Rattle.std.proofs.Common.{◌≡◌, ◌⊎◌, ℕ, suc, ◌+◌, ◌*◌, ◌/◌, ◌%◌, ◌<◌, List, [], ◌∷◌, length, refl, ap, sym, ◌∙◌, arith, rules, nat_cmp, IsTrue}
 use Rattle.std.proofs.Math.Nat.{mul_comm, div-add-mod}
 use Rattle.std.proofs.lemmas.Nat.{le-div, mod_below}
 use Rattle.std.proofs.lemmas.Bool.{cases_lt}
-use Rattle.std.specs.Ordering.{is_le, ordering_reverse}
+use Rattle.std.specs.Ordering.{is_le}
 use Rattle.std.proofs.lemmas.Cmp.{nat_list_cmp_total}
 use Rattle.std.proofs.lemmas.Map.Lookups.{exact_bytes}
 use Rattle.std.specs.Cmp.Lexicographic.{slice_cmp}
@@ -43,15 +43,12 @@ divided_greatest d = record {
   greatest = divided_last weights (suc d) d (search rules);
 }
 
-both_ways : (o : Ordering) → IsTrue (is_le o) → IsTrue (is_le (ordering_reverse o)) → o ≡ Equal
-both_ways o h k = grind (arith, common_steps)
-
 -- no other counts are the greatest
 pub counts_divided : (d : ℕ) (counts : List ℕ) → Counts d counts → counts ≡ divided weights d
 counts_divided d counts g =
     let other = divided_greatest d in
     let least = rw (nat_list_cmp_total.antisymm (divided weights d) counts) at (g.greatest (divided weights d) other.as_many other.sum) in
-    exact_bytes counts (divided weights d) (both_ways _ (other.greatest counts g.as_many g.sum) least)
+    grind (arith, common_steps, (exact_bytes counts (divided weights d)), (other.greatest counts g.as_many g.sum), least)
 
 -- the text by division is a canonical text, and there is no other
 pub printed_is_canon : (d : ℕ) → Canon d (duration_text d)

@@ -1,10 +1,9 @@
 -- How long a printed text is, and how large its counts are.
 use Rattle.std.proofs.lemmas.Grind.{common_steps}
-use Rattle.std.proofs.Common.{◌≡◌, ℕ, ◌+◌, ◌*◌, ◌/◌, ◌%◌, ◌^◌, ◌<◌, ◌≤◌, cond, List, [], ◌∷◌, length, inl, inr, ap, arith}
+use Rattle.std.proofs.Common.{◌≡◌, ℕ, ◌+◌, ◌*◌, ◌/◌, ◌%◌, ◌^◌, ◌<◌, ◌≤◌, cond, List, [], ◌∷◌, length, ap, arith}
 use Rattle.std.specs.Prelude.{map, nat_lt, slice_index, ⊤}
 use Rattle.std.specs.List.{filter, join_with_byte}
 use Rattle.std.proofs.lemmas.Nat.{div_below, mod_below}
-use Rattle.std.proofs.lemmas.Bool.{cases_Bool}
 use Rattle.std.proofs.lemmas.List.{length-append}
 use Rattle.std.proofs.lemmas.Fmt.{length-decimal-le}
 use Rattle.humantime.specs.Values.{nanos_per_second}
@@ -44,20 +43,13 @@ count_length n k s some below fits = grind (arith, common_steps, length-append, 
 abbrev shown_length : List (ℕ × Suffix) → ℕ
 shown_length cs = spaced_length (map (λ c. printed_count c.0 c.1) (filter (λ c. nat_lt 0 c.0) cs))
 
-counts_cons : (n x : ℕ) (s : Suffix) (cs : List (ℕ × Suffix)) → length (printed_count n s) + 1 ≤ x → shown_length ((n, s) ∷ cs) ≤ x + shown_length cs
-counts_cons n x s cs h = elim (cases_Bool (nat_lt 0 n)) [ inl some ↦ rw some (omega arith) | inr none ↦ rw none (omega arith) ]
-
 counts_length : (us : List (ℕ × Suffix)) (ks : List ℕ) (m r : ℕ) → Sizes us ks m → r < m → shown_length (counted us r) ≤ length_for us ks
-counts_length [] ks m r h below = omega arith
-counts_length (u ∷ us) [] m r h below = absurd h
 counts_length (u ∷ us) (k ∷ ks) m r h below =
-    grind (arith, (div_below r u.0 (10 ^ k)), (count_length (r / u.0) k), counts_cons, mod_below, (counts_length us ks u.0 (r % u.0) h.4))
+    grind (arith, common_steps, (div_below r u.0 (10 ^ k)), (count_length (r / u.0) k), mod_below, (counts_length us ks u.0 (r % u.0) h.4))
+counts_length _ _ m r h below = grind (arith, common_steps)
 
 abbrev sizes : List ℕ
 sizes = 12 ∷ 2 ∷ 2 ∷ 2 ∷ 2 ∷ 2 ∷ 3 ∷ 3 ∷ 3 ∷ []
-
-sizes_hold : Sizes units sizes most
-sizes_hold = grind (arith, common_steps)
 
 joined_length : (ps : List (List ℕ)) → spaced_length ps ≤ 65 → length (joined_by_space ps) ≤ 64
 joined_length ps h = grind (arith, common_steps, join_length)
@@ -65,7 +57,7 @@ joined_length ps h = grind (arith, common_steps, join_length)
 pub canon_length : (d : ℕ) → d / nanos_per_second ≤ u64_max → (text : List ℕ) → Canon d text → length text ≤ 64
 unfolding duration_text
 canon_length d h text canon =
-    let all = counts_length units sizes most d sizes_hold (omega arith) in
+    let all = counts_length units sizes most d (grind (arith, common_steps)) (omega arith) in
     let short = joined_length (printed_counts (divided weights d) suffixes) (omega arith) in
     omega (arith, ap length (canon_is_text d text canon))
 

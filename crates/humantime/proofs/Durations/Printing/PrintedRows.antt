@@ -58,10 +58,6 @@ only_from p (c ∷ cs) h = grind (arith, common_steps, (only_from p cs))
 pub is_word-true : (w m : ℕ) (word : List ℕ) → is_word w m word ≡ true → IsWord w m word
 is_word-true w m word h = grind (arith, common_steps, nat_tests, IsUtf8-from_is_utf8, only_from)
 
-word_either : (w m : ℕ) (s : Suffix) (many : Bool) → is_word w m (word_of s true) ≡ true → is_word w m (word_of s false) ≡ true → IsWord w m (word_of s many)
-word_either w m s true h k = is_word-true w m (word_of s true) h
-word_either w m s false h k = is_word-true w m (word_of s false) k
-
 -- the units, each a weight and its suffix
 abbrev pub units : List (ℕ × Suffix)
 units = zip weights suffixes
@@ -82,7 +78,7 @@ three a b c h = grind (arith, common_steps)
 pub table_row : (u : ℕ × Suffix) (us : List (ℕ × Suffix)) (m : ℕ) (many : Bool) → is_table (u ∷ us) m ≡ true
     → IsWord u.0 m (word_of u.1 many) × (is_table us u.0 ≡ true)
 table_row u us m many h =
-    grind (arith, word_either, (three (is_word u.0 m (word_of u.1 true)) (is_word u.0 m (word_of u.1 false)) (is_table us u.0) h))
+    grind (arith, is_word-true, (three (is_word u.0 m (word_of u.1 true)) (is_word u.0 m (word_of u.1 false)) (is_table us u.0) h))
 
 -- a bound of all durations
 abbrev pub most : ℕ

@@ -81,13 +81,12 @@ rows_cons w q r d s cs e row rest = grind (arith, common_steps, nat_tests, value
 rows : (us : List (ℕ × Suffix)) (m d : ℕ) → is_table us m ≡ true → d < m → d < most → AreRows d (counted us d)
 rows [] m d h below whole = (tt, grind (arith, nat_tests))
 rows (u ∷ us) m d h below whole =
-    let w = u.0 in
-    let q = d / w in
+    let q = d / u.0 in
     let here = table_row u us m (nat_lt 1 q) h in
-    let positive : 0 < w = grind (arith, common_steps, here.0.weight, here.0.some) in
-    rows_cons w q (d % w) d u.1 (counted us (d % w)) (omega arith)
-    (row w m q u.1 here.0 (omega arith) (omega arith))
-    (rows us w (d % w) here.1 (mod_below d w positive) (omega arith))
+    let positive : 0 < u.0 = grind (arith, common_steps, here.0.weight, here.0.some) in
+    rows_cons u.0 q (d % u.0) d u.1 (counted us (d % u.0)) (omega arith)
+    (row u.0 m q u.1 here.0 (omega arith) (omega arith))
+    (rows us u.0 (d % u.0) here.1 (mod_below d u.0 positive) (omega arith))
 
 -- ---- the text of these spans
 
@@ -136,14 +135,11 @@ rows_printed c rows d h sum = record {
 }
 
 -- where no count is left, there are zero seconds
-seconds : IsWord nanos_per_second most (codes "s")
-unfolding is_letter scale_of_word is_utf8 chars encode
-seconds = is_word-true nanos_per_second most (codes "s") refl
-
 zero_printed : IsPrinted (codes "0s") 0
+unfolding is_letter scale_of_word is_utf8 chars encode
 zero_printed =
     let s : Suffix = (codes "s", false) in
-    let second = row nanos_per_second most 0 s seconds (omega arith) (omega arith) in
+    let second = row nanos_per_second most 0 s (is_word-true nanos_per_second most (codes "s") refl) (omega arith) (omega arith) in
     let zero : codes "0s" ≡ printed_count 0 s = rw (decimal_digit 0 (omega arith)) refl in
     rw zero (rows_printed (0, s) [] 0 (second.0, tt) (value-cons (span_for 0 s) [] ∙ omega (arith, second.1)))
 

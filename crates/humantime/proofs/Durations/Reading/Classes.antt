@@ -38,9 +38,6 @@ pub point_not_numeric : (c : ℕ) → is_point c ≡ true → is_numeric c ≡ f
 unfolding is_digit is_point
 point_not_numeric c e = grind (arith, common_steps, (white_is c), nat_tests)
 
-pub numeric_not_letter : (c : ℕ) → is_numeric c ≡ true → is_letter c ≡ false
-numeric_not_letter c = grind (arith, common_steps, letter_not_numeric)
-
 -- ---- what a number holds
 
 pub digit_is_numeric : (c : ℕ) → is_digit c ≡ true → is_numeric c ≡ true

@@ -36,19 +36,10 @@ read_on : (text front rest : List ℕ) (first : Bool) (spans : List Span) → Is
     → (here : List ℕ) × IsReadTo text false (front ++ here) (spans ++ span_of rest ∷ []) (next_of rest)
 read_on text front rest first spans r f =
     let w = written_here rest f in
-    let some_text : w.0 ≢ [] = λ n. omega (arith, ap length n, spelling_some w.0 [] (span_of rest) w.1.spells) in (
-      w.0,
-      record {
-        split = record {
-          whole = r.split.whole ∙ ap (λ (x : List ℕ). front ++ x) w.1.whole ∙ sym (append_assoc front w.0 (next_of rest));
-          spelled = front_push front w.0 spans (span_of rest) r.split.spelled w.1.spells;
-          no_space = begins-past is_ws (after_word rest);
-        };
-        formed = each-append Formed spans (span_of rest ∷ []) r.formed (formed_here rest f, tt);
-        follows = λ some e. inr (ends-append is_ws front w.0 some_text ∙ w.1.closes some e);
-        before = grind (arith, common_steps);
-      },
-    )
+    let spelled = front_push front w.0 spans (span_of rest) r.split.spelled w.1.spells in
+    let some_text : w.0 ≢ [] = λ n. omega (arith, ap length n, spelling_some w.0 [] (span_of rest) w.1.spells) in
+    let formed = each-append Formed spans (span_of rest ∷ []) r.formed (formed_here rest f, tt) in
+    (w.0, (grind (arith, common_steps, (r.split.whole), (w.1), (spelled), (formed), begins-past, (ends-append is_ws front w.0 some_text))))
 
 -- a text is read past the white space at its start, with no span yet
 begun : (text : List ℕ) → IsReadTo text true (leading is_ws text) [] (past is_ws text)
@@ -67,17 +58,14 @@ Found text first rest w = (front : List ℕ) (spans : List Span) → IsReadTo te
 
 found : (text : List ℕ) → Steps text (Found text)
 found text = record {
-  end = λ first. by first;
+  end = λ first front spans r.
+      items_end text front [] first spans (if first then Some Empty else None) r (grind (arith, common_steps, (r.before)));
   wrong = λ first rest e some s front spans r. items_end text front rest first spans (Some e) r (wrong_stops text front spans rest e some (r.follows some) s);
   right = λ first rest w s more front spans r.
       let k = read_on text front rest first spans r (fine_at text rest s) in
       subst (λ (ss : List Span). (i : Items text ss w.stop) × (i.rest ≡ w.unread)) (append_assoc spans (span_of rest ∷ []) (map span_of w.starts))
       (more (front ++ k.0) (spans ++ span_of rest ∷ []) k.1);
 }
-  where
-    by : (first : Bool) → Found text first [] (no_more [] (if first then Some Empty else None))
-    by true front spans r = items_end text front [] true spans (Some Empty) r (Nothing_there r.before refl refl)
-    by false front spans r = items_end text front [] false spans None r (refl, r.before)
 
 -- the items of a text, and the rest behind them
 pub items_found_at : (text : List ℕ) → ItemsAfter text [] (walk_of text)

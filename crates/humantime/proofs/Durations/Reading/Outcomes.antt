@@ -47,9 +47,6 @@ outcome_settled text spans stop some h = duration_answer-items text some ∙ ap 
 pub items_whole : (text : List ℕ) (spans : List Span) → Reads text spans → AllByRecursion Formed spans → Items text spans None
 items_whole text spans h f = record { front = text; rest = []; split = split_whole text spans h.0; formed = f; ends = (refl, h.1) }
 
-reads_whole : (text : List ℕ) (spans : List Span) → Items text spans None → Reads text spans
-reads_whole text spans h = grind (arith, common_steps)
-
 pub outcome_accepted : (text : List ℕ) (v : ℕ) → Accepted text v → duration_answer text ≡ Ok v
 unfolding settle
 outcome_accepted text v (Bare_zero zero none) = rw (zero, none) duration_answer-zero
@@ -67,25 +64,23 @@ over_outcome : (text : List ℕ) (e : Fault) (h : HasFault text e) → fault_at 
 over_outcome text e h right beyond =
     let f = fine_at text h.rest right in
     let more = walk_from false text (next_of h.rest) in
-    let spans = (h.spans ++ span_of h.rest ∷ map span_of more.starts) in
-    let told : items text ≡ (spans, more.stop) = front_told text h.front h.rest h.spans h.split h.within.formed (inr (closes_digit h.front h.rest f.starts))
+    let told : items text ≡ (h.spans ++ span_of h.rest ∷ map span_of more.starts, more.stop) =
+    front_told text h.front h.rest h.spans h.split h.within.formed (inr (closes_digit h.front h.rest f.starts))
     ∙ ap (followed_by h.spans) (walk-right (first_after true h.spans) text h.rest right) in
+    let all = rw told at (items_found text).formed in
     let formed = each-append Formed h.spans (span_of h.rest ∷ []) h.within.formed (formed_here h.rest f, tt) in
-    let i : Items text spans more.stop = subst (λ (r : List Span × Option Fault). Items text r.0 r.1) told (items_found text) in
-    outcome_settled text spans more.stop h.not_zero i ∙ too_large spans more.stop i.formed (λ g. beyond (WithinLimits_from (h.spans ++ span_of h.rest ∷ []) formed (WithinLimitsFrom-front 0 _ (map span_of more.starts) (rw append_assoc (from_WithinLimits spans g)))))
+    duration_answer-items text h.not_zero ∙ rw told (too_large _ more.stop all (λ g. beyond (WithinLimits_from _ formed
+    (WithinLimitsFrom-front 0 _ (map span_of more.starts) (rw append_assoc (from_WithinLimits _ g))))))
 
 pub outcome_fault : (text : List ℕ) (e : Fault) → HasFault text e → duration_answer text ≡ Err e
-outcome_fault text e h = elim h.fault [
-  | inl s ↦ stop_outcome text e h s
-  | inr o ↦ over_outcome text e h o.0 o.1 ∙ ap (λ (x : Fault). Err x) (sym o.2)
-]
+outcome_fault text e h = grind (arith, common_steps, (stop_outcome text e h), (over_outcome text e h))
 
 -- the items decide the value, the fault, and that they are too large
 value_only : (text : List ℕ) (spans : List Span) (stop : Option Fault) (v : ℕ) → text ≢ bare_zero → Items text spans stop → duration_answer text ≡ Ok v → (stop ≡ None) × WithinLimits spans × (value spans ≡ v)
 value_only text spans stop v some h o = settled_value spans stop v h.formed (sym (outcome_settled text spans stop some h) ∙ o)
 
 sum_accepted : (text : List ℕ) (spans : List Span) (stop : Option Fault) (v : ℕ) → Items text spans stop → (stop ≡ None) × WithinLimits spans × (value spans ≡ v) → Accepted text v
-sum_accepted text spans stop v h d = Sum_of spans (reads_whole text spans (rw d.0 at h)) d.1 d.2
+sum_accepted text spans stop v h d = let i = rw d.0 at h in Sum_of spans (grind (arith, common_steps, (i))) d.1 d.2
 
 pub items_decide_fault : (text : List ℕ) (spans : List Span) (e : Fault) → Items text spans (Some e) → text ≢ bare_zero
     → WithinLimits spans → HasFault text e
@@ -100,10 +95,8 @@ accepted_from_outcome text v h = elim (zero_or_not text) [
 fault_read : (text : List ℕ) (e : Fault) → text ≢ bare_zero → duration_answer text ≡ Err e → HasFault text e
 fault_read text e some h =
     let i = items_found text in
-    elim (settled_fault (items text).0 (items text).1 e i.formed (sym (duration_answer-items text some) ∙ h)) [
-      | inl d ↦ items_decide_fault text (items text).0 e (rw d.1 at i) some d.0
-      | inr d ↦ subst (HasFault text) d.1 (too_large_found text some d.0)
-    ]
+    let d = settled_fault (items text).0 (items text).1 e i.formed (sym (duration_answer-items text some) ∙ h) in
+    grind (arith, common_steps, (d), (i), too_large_found, items_decide_fault)
 
 pub fault_from_outcome : (text : List ℕ) (e : Fault) → duration_answer text ≡ Err e → HasFault text e
 fault_from_outcome text e h = grind (arith, common_steps, duration_answer-zero, fault_read)

@@ -15,9 +15,6 @@ abbrev pub RoomFrom : ℕ → List Addition → Type 0
 RoomFrom t [] = ⊤
 RoomFrom t (x ∷ xs) = (room t x ≡ true) × RoomFrom (t + addition_nanos x) xs
 
-pub total-append : (xs ys : List Addition) → total (xs ++ ys) ≡ total xs + total ys
-total-append xs ys = sum_by-append addition_nanos xs ys
-
 -- the sum where there is room, and none else
 pub add_all-room : (t : ℕ) (xs : List Addition) → RoomFrom t xs → add_all t xs ≡ Some (t + total xs)
 unfolding add_all
@@ -55,13 +52,9 @@ room_from_all xs h = from_each [] xs h
 pub all_have_room : (xs : List Addition) → RoomFrom 0 xs → AllHaveRoom xs
 all_have_room xs h before after x e = grind (arith, common_steps, RoomFrom-back)
 
--- what has room leaves whole seconds that fit
-room_stays : (t : ℕ) (x : Addition) → room t x ≡ true → (t + addition_nanos x) / nanos_per_second ≤ u64_max
-room_stays t x h = grind (arith, common_steps)
-
 room_fits : (t : ℕ) (xs : List Addition) → t / nanos_per_second ≤ u64_max → RoomFrom t xs → (t + total xs) / nanos_per_second ≤ u64_max
 room_fits t [] fits h = omega arith
-room_fits t (x ∷ xs) fits h = grind (arith, common_steps, (room_fits (t + addition_nanos x) xs (room_stays t x h.0) h.1))
+room_fits t (x ∷ xs) fits h = grind (arith, common_steps, (room_fits (t + addition_nanos x) xs (grind (arith, common_steps)) h.1))
 
 -- where additions have room, their sum is a duration
 pub room_is_duration : (xs : List Addition) → AllHaveRoom xs → total xs / nanos_per_second ≤ u64_max

@@ -17,6 +17,10 @@ pub begins-past : (p : ℕ → Bool) (cs : List ℕ) → begins p (past p cs) �
 begins-past p [] = refl
 begins-past p (c ∷ cs) = elim (cases_Bool (p c)) [ inl e ↦ rw e (begins-past p cs) | inr e ↦ rw e e ]
 
+pub begins_leading : (p q : ℕ → Bool) (cs : List ℕ) → begins p cs ≡ true → ((c : ℕ) → p c ≡ true → q c ≡ true)
+    → begins p (leading q cs) ≡ true
+begins_leading p q cs h k = grind (arith, common_steps)
+
 -- a front that passes, and then what doesn't begin so
 pub leading-append : (p : ℕ → Bool) (xs ys : List ℕ) → Only p xs → begins p ys ≡ false → leading p (xs ++ ys) ≡ xs
 leading-append p [] [] h e = refl

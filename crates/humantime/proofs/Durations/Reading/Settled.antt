@@ -3,12 +3,13 @@ use Rattle.std.proofs.lemmas.Grind.{common_steps, flat_map-append}
 use Rattle.std.proofs.Common.{true, ◌≡◌, ◌⊎◌, ℕ, ◌+◌, List, [], ◌∷◌, ◌++◌, Option, Some, None, Result, Ok, Err, map, ap, ◌∙◌, inl, inr, arith}
 use Rattle.std.specs.Prelude.{⊤}
 use Rattle.std.specs.List.{AllByRecursion}
+use Rattle.std.proofs.lemmas.List.Sums.{sum_by-append}
 use Rattle.humantime.specs.Durations.Spans.{Span}
-use Rattle.humantime.specs.Durations.Accepted.{total, additions_of, additions, value, Formed, fits, WithinLimits}
+use Rattle.humantime.specs.Durations.Accepted.{addition_nanos, total, additions_of, additions, value, Formed, fits, WithinLimits}
 use Rattle.humantime.specs.References.Durations.Reading.{add_span, settle}
 use Rattle.humantime.specs.Durations.Faults.{Fault, NumberOverflow}
 use Rattle.humantime.specs.Durations.Items.{items_of}
-use Rattle.humantime.proofs.Durations.Reading.Rooms.{RoomFrom, total-append, add_all-room, add_all-full, RoomFrom-append, RoomFrom-front, RoomFrom-back, room_from_all, all_have_room}
+use Rattle.humantime.proofs.Durations.Reading.Rooms.{RoomFrom, add_all-room, add_all-full, RoomFrom-append, RoomFrom-front, RoomFrom-back, room_from_all, all_have_room}
 
 -- the span keeps the limits after t nanoseconds
 abbrev pub IsAddedTo : ℕ → Span → Type 0
@@ -19,40 +20,31 @@ abbrev pub WithinLimitsFrom : ℕ → List Span → Type 0
 WithinLimitsFrom t [] = ⊤
 WithinLimitsFrom t (s ∷ ss) = IsAddedTo t s × WithinLimitsFrom (t + total (additions_of s)) ss
 
--- the sum after a span that keeps the limits, and none after another
-add_span-added : (t : ℕ) (s : Span) → IsAddedTo t s → add_span t s ≡ Some (t + total (additions_of s))
-unfolding add_span
-add_span-added t s h = grind (arith, common_steps, add_all-room)
-
-add_span-over : (t : ℕ) (s : Span) → ¬ (IsAddedTo t s) → add_span t s ≡ None
-unfolding add_span
-add_span-over t s h = grind (arith, common_steps, add_all-full)
-
 within_or_not : (t : ℕ) (spans : List Span) → AllByRecursion Formed spans → WithinLimitsFrom t spans ⊎ ¬ (WithinLimitsFrom t spans)
 within_or_not t [] f = inl tt
 within_or_not t (s ∷ ss) f = grind (arith, common_steps, (within_or_not (t + total (additions_of s)) ss f.1))
 
 pub value-cons : (s : Span) (ss : List Span) → value (s ∷ ss) ≡ total (additions_of s) + value ss
-value-cons s ss = total-append (additions_of s) (additions ss)
+value-cons s ss = sum_by-append addition_nanos (additions_of s) (additions ss)
 
 pub additions-append : (ss ts : List Span) → additions (ss ++ ts) ≡ additions ss ++ additions ts
 additions-append ss ts = flat_map-append additions_of ss ts
 
 pub value-append : (ss ts : List Span) → value (ss ++ ts) ≡ value ss + value ts
-value-append ss ts = ap total (additions-append ss ts) ∙ total-append (additions ss) (additions ts)
+value-append ss ts = ap total (additions-append ss ts) ∙ sum_by-append addition_nanos (additions ss) (additions ts)
 
 -- the sum goes on over spans within the limits
 settle_fine : (t : ℕ) (ss : List Span) (items : List (Result Span Fault)) → AllByRecursion Formed ss → WithinLimitsFrom t ss → settle t (map Ok ss ++ items) ≡ settle (t + value ss) items
-unfolding settle
+unfolding settle add_span
 settle_fine t [] items f h = ap (λ (n : ℕ). settle n items) (omega arith)
-settle_fine t (s ∷ ss) items f h = grind (arith, common_steps, (settle_fine (t + total (additions_of s)) ss items f.1 h.1), add_span-added)
+settle_fine t (s ∷ ss) items f h = grind (arith, common_steps, (settle_fine (t + total (additions_of s)) ss items f.1 h.1), add_all-room)
 
 -- over others it says that they are too large
 settle_beyond : (t : ℕ) (spans : List Span) (items : List (Result Span Fault)) → AllByRecursion Formed spans → ¬ (WithinLimitsFrom t spans) → settle t (map Ok spans ++ items) ≡ Err NumberOverflow
-unfolding settle
+unfolding settle add_span
 settle_beyond t [] items f h = absurd (h tt)
 settle_beyond t (s ∷ ss) items f h =
-    grind (arith, common_steps, (settle_beyond (t + total (additions_of s)) ss items f.1), add_span-added, add_span-over)
+    grind (arith, common_steps, (settle_beyond (t + total (additions_of s)) ss items f.1), add_all-room, add_all-full)
 
 each_fits : (t : ℕ) (ss : List Span) → WithinLimitsFrom t ss → AllByRecursion (λ s. fits s ≡ true) ss × RoomFrom t (additions ss)
 each_fits t [] h = (tt, tt)

@@ -6,8 +6,8 @@ use Rattle.std.specs.Str.Parse.{digits_value_after}
 use Rattle.std.proofs.lemmas.Bool.{cases_Bool, eqb-true}
 use Rattle.std.proofs.lemmas.Grind.{common_steps}
 use Rattle.std.proofs.lemmas.Nat.{pow-add}
-use Rattle.std.proofs.lemmas.Nat.Gcd.{dvd_of_mod-eq-zero}
-use Rattle.std.proofs.Math.Nat.{pow-suc, one-le-pow, mul_assoc, mul_right_comm, mul-div-mul_right, div-mul_cancel, le_of_mul-le-mul_right, le-mul_of_pos_right, mod-eq-sub-div-mul}
+use Rattle.std.proofs.lemmas.Nat.Gcd.{dvd_of_mod-eq-zero, mod-eq-zero_of_dvd}
+use Rattle.std.proofs.Math.Nat.{pow-suc, one-le-pow, mul_assoc, mul_right_comm, mul-div-mul_right, dvd_of_mul-dvd-mul_right, le-mul_of_pos_right}
 use Rattle.std.proofs.lemmas.List.{length-reverse, reverse-append, reverse-reverse}
 use Rattle.humantime.specs.Durations.Characters.{leading, past, decimal_value, significant}
 use Rattle.humantime.specs.Durations.Accepted.{is_whole_part}
@@ -59,8 +59,7 @@ zeros_value : (v : ℕ) (zs : List ℕ) → Only is_zero zs → digits_value_aft
 zeros_value v [] only = omega arith
 zeros_value v (z ∷ zs) only =
     let turned : reverse (z ∷ zs) ≡ reverse zs ++ z ∷ [] = reverse-append (z ∷ []) zs in
-    let more : 10 ^ length (z ∷ zs) ≡ 10 ^ length zs * 10 = pow-suc 10 (length zs) in
-    rw (turned, value-append v (reverse zs) (z ∷ []), zeros_value v zs only.1, eqb-true z 48 only.0, more)
+    rw (turned, value-append v (reverse zs) (z ∷ []), zeros_value v zs only.1, eqb-true z 48 only.0, pow-suc 10 (length zs))
     (omega (arith, mul_assoc v (10 ^ length zs) 10))
 
 zeros_count : (ds : List ℕ) → length ds ≡ length (significant ds) + length (zeros_of ds)
@@ -82,14 +81,6 @@ product_shifted f ds =
 power_shifted : (ds : List ℕ) → 10 ^ length ds ≡ 10 ^ length (significant ds) * 10 ^ length (zeros_of ds)
 power_shifted ds = ap (λ (n : ℕ). 10 ^ n) (zeros_count ds) ∙ pow-add 10 (length (significant ds)) (length (zeros_of ds))
 
-divides : (x y c : ℕ) → 0 < c → x * c % (y * c) ≡ 0 → x % y ≡ 0
-divides x y c some e =
-    let whole : x * c / (y * c) * (y * c) ≡ x * c = div-mul_cancel (y * c) (dvd_of_mod-eq-zero (y * c) e) in
-    let part : x * c / (y * c) ≡ x / y = mul-div-mul_right x y some in
-    let both : x / y * y * c ≡ x * c = mul_assoc (x / y) y c ∙ ap (λ (n : ℕ). n * (y * c)) (sym part) ∙ whole in
-    let most : x ≤ x / y * y = le_of_mul-le-mul_right {k = c} (omega (arith, both)) some in
-    omega (arith, mod-eq-sub-div-mul x y, most)
-
 -- a whole part stays one, of the same amount
 pub whole_part_kept : (f : ℕ) (ds : List ℕ) → is_whole_part f ds ≡ true → is_whole_part f (significant ds) ≡ true
 whole_part_kept f ds h =
@@ -98,7 +89,7 @@ whole_part_kept f ds h =
     let kept = decimal_value (significant ds) * f in
     let parts : (decimal_value ds * f ≤ 18446744073709551615) × (decimal_value ds * f % 10 ^ length ds ≡ 0) = grind (arith, common_steps) in
     let rest : kept * by % (10 ^ length (significant ds) * by) ≡ 0 = rw (← product_shifted f ds, ← power_shifted ds) parts.1 in
-    let whole = divides kept (10 ^ length (significant ds)) by some rest in
+    let whole = mod-eq-zero_of_dvd _ (dvd_of_mul-dvd-mul_right (10 ^ length (significant ds)) some (dvd_of_mod-eq-zero _ rest)) in
     let fits : kept ≤ 18446744073709551615 = omega (arith, le-mul_of_pos_right kept some, product_shifted f ds, parts.0) in
     grind (arith, common_steps)
 

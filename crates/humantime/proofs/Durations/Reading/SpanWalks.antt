@@ -44,10 +44,8 @@ walk-end first text = refl
 
 pub walk-wrong : (first : Bool) (text rest : List ℕ) (e : Fault) → rest ≢ [] → fault_at text rest ≡ Some e → walk_from first text rest ≡ no_more rest (Some e)
 unfolding walk
-walk-wrong first text [] e some h = absurd (some refl)
-walk-wrong first text (c ∷ cs) e some h = grind (arith, common_steps)
+walk-wrong first text rest e some h = grind (arith, common_steps)
 
 pub walk-right : (first : Bool) (text rest : List ℕ) → fault_at text rest ≡ None → walk_from first text rest ≡ one_more rest (walk_from false text (next_of rest))
 unfolding walk
-walk-right first text [] h = cc
-walk-right first text (c ∷ cs) h = grind (arith, common_steps, enough, (next_smaller (c ∷ cs) (right_begins text (c ∷ cs) h)))
+walk-right first text rest h = grind (arith, common_steps, enough, (next_smaller rest (right_begins text rest h)))

@@ -2,10 +2,10 @@
 use Rattle.std.proofs.Common.{◌≡◌, ◌≢◌, ◌⊎◌, ℕ, ◌≤◌, ◌<◌, true, false, List, [], ◌∷◌, ◌++◌, length, Option, Some, None, refl, sym, ap, ◌∙◌, inl, inr, arith, append_assoc, append-nil}
 use Rattle.std.proofs.lemmas.Bool.{false≢true}
 use Rattle.humantime.specs.Durations.Characters.{is_ws, is_digit, is_letter, is_numeric, leading, past, begins, ends, digits}
-use Rattle.humantime.specs.Durations.Spans.{Span, Only, SpellsFraction, Spells}
+use Rattle.humantime.specs.Durations.Spans.{Span, Only, HoldsDigits, IsLetters, SpellsFraction, Spells}
 use Rattle.humantime.specs.Durations.Faults.{after_number, fraction_of, after_fraction, after_word, span_of, ends_span}
 use Rattle.humantime.specs.References.Durations.Lending.{fraction_at, past_fraction}
-use Rattle.humantime.proofs.Durations.Reading.Classes.{numeric_not_letter, letter_not_numeric, letter_not_point, letter_not_space, space_is_numeric, point_not_numeric, is_point-46}
+use Rattle.humantime.proofs.Durations.Reading.Classes.{letter_not_numeric, letter_not_point, letter_not_space, space_is_numeric, point_not_numeric, is_point-46}
 use Rattle.std.proofs.lemmas.Grind.{common_steps}
 use Rattle.humantime.proofs.Durations.Reading.Spellings.{spells_alone}
 use Rattle.humantime.proofs.Durations.Reading.Runs.{leading-append, past-append, past_shorter, begins-append, begins_other, begins_not_nil, letters_begin, ends_Only, ends_other, ends-append, append_not_nil}
@@ -25,27 +25,12 @@ pub record IsSpanAt (rest : List ℕ) (s : Span) (next : List ℕ) : Type 0 wher
 pub begins_word : (w t : List ℕ) → begins is_letter w ≡ true → begins is_letter (w ++ t) ≡ true
 begins_word w t e = begins-append is_letter w t (begins_not_nil is_letter w e) ∙ e
 
-span_same : {s t : Span} → s.number ≡ t.number → s.fraction ≡ t.fraction → s.word ≡ t.word → s ≡ t
-span_same p q r = λ i. record { number = p i; fraction = q i; word = r i }
-
--- what stands behind the number, where it is a spelled fraction and then a word
-record IsFraction (m tail : List ℕ) (o : Option (List ℕ)) : Type 0 where
-  stops : begins is_numeric m ≡ false
-  is_read : fraction_at m ≡ o
-  past_it : past_fraction m ≡ tail
-  some : o ≢ Some []
-
 no_point : (tail : List ℕ) → begins is_letter tail ≡ true → (fraction_at tail ≡ None) × (past_fraction tail ≡ tail)
-no_point [] e = cc
-no_point (c ∷ cs) e = rw (letter_not_point c e) (refl, refl)
+no_point tail e = grind (arith, common_steps, letter_not_point)
 
-fraction_read : (b tail : List ℕ) (o : Option (List ℕ)) → SpellsFraction b o → begins is_letter tail ≡ true → IsFraction (b ++ tail) tail o
-fraction_read b tail None h e = rw h (record {
-  stops = begins_other is_letter is_numeric letter_not_numeric tail e;
-  is_read = (no_point tail e).0;
-  past_it = (no_point tail e).1;
-  some = λ p. cc;
-})
+fraction_read : (b tail : List ℕ) (o : Option (List ℕ)) → SpellsFraction b o → begins is_letter tail ≡ true
+    → (begins is_numeric (b ++ tail) ≡ false) × (fraction_at (b ++ tail) ≡ o) × (past_fraction (b ++ tail) ≡ tail) × (o ≢ Some [])
+fraction_read b tail None h e = grind (arith, common_steps, (no_point tail e), letter_not_numeric)
 fraction_read b tail (Some ds) h e = grind (arith, common_steps, letter_not_numeric, point_not_numeric, is_point-46, leading-append, past-append)
 
 -- a spelled number and fraction before a word are read as these
@@ -56,16 +41,6 @@ pub record IsReadToWord (rest number_text fraction_text tail : List ℕ) (fracti
   pub tail_is : after_fraction rest ≡ tail
   pub some : fraction ≢ Some []
 
--- a spelling before what begins with no letter
-record IsRead (rest : List ℕ) (s : Span) (after : List ℕ) : Type 0 where
-  span : span_of rest ≡ s
-  point : fraction_of rest ≢ Some []
-  after_is : after_word rest ≡ after
-
-parts_read : (a b word after : List ℕ) (o : Option (List ℕ)) → Only is_numeric a → SpellsFraction b o → Only is_letter word → begins is_letter word ≡ true
-    → begins is_letter after ≡ false → IsRead (a ++ (b ++ (word ++ after))) (record { number = digits a; fraction = o; word = word }) after
-parts_read a b word after o only f letters some stops = grind (arith, common_steps, leading-append, past-append, fraction_read)
-
 spelling_parts : (here next : List ℕ) (s : Span) (h : Spells here s []) → here ++ next ≡ h.number_text ++ (h.fraction_text ++ (s.word ++ (h.space ++ next)))
 spelling_parts here next s h = ap (λ (x : List ℕ). x ++ next) (spells_alone here s h) ∙ simp append_assoc
 
@@ -75,7 +50,7 @@ pub read_spelled : (rest next : List ℕ) (s : Span) (h : Spells rest s next)
 read_spelled rest next s h = grind (arith, common_steps, begins_word, fraction_read, past-append, leading-append)
 
 pub no_letter_follows : (cs : List ℕ) → ends_span cs ≡ true → begins is_letter cs ≡ false
-no_letter_follows cs h = grind (arith, common_steps, numeric_not_letter)
+no_letter_follows cs h = grind (arith, common_steps, letter_not_numeric)
 
 -- where a spelling ends with its word, it doesn't end in white space
 ends_in_word : (a b word : List ℕ) → Only is_letter word → begins is_letter word ≡ true → ends is_ws (a ++ (b ++ (word ++ []))) ≡ false
@@ -96,15 +71,10 @@ spelled_here here next s h o no_space =
     let b = h.fraction_text in
     let letter = letters_begin s.word h.word in
     let f : ends_span (h.space ++ next) ≡ true = followed a b s.word h.space here next (spells_alone here s h) h.word.0 letter h.only_space o in
-    let r : IsRead (a ++ (b ++ (s.word ++ (h.space ++ next)))) (record { number = digits a; fraction = s.fraction; word = s.word }) (h.space ++ next) =
-    parts_read a b s.word (h.space ++ next) s.fraction h.number.0 h.fraction h.word.0 letter (no_letter_follows (h.space ++ next) f) in
-    rw (spelling_parts here next s h) (record {
-      starts = begins-append is_digit a (b ++ (s.word ++ (h.space ++ next))) (begins_not_nil is_digit a h.starts) ∙ h.starts;
-      span = r.span ∙ span_same h.number.1 refl refl;
-      point = r.point;
-      ends = rw (r.after_is) f;
-      next_is = ap (past is_ws) r.after_is ∙ past-append is_ws h.space next h.only_space no_space;
-    })
+    let stops = no_letter_follows (h.space ++ next) f in
+    let cut = past-append is_ws h.space next h.only_space no_space in
+    rw (spelling_parts here next s h)
+    (grind (arith, common_steps, (f), (stops), (letter), (cut), begins-append, begins_not_nil, leading-append, past-append, fraction_read))
 
 past_fraction_shorter : (cs : List ℕ) → length (past_fraction cs) ≤ length cs
 past_fraction_shorter cs = grind (arith, common_steps, past_shorter)

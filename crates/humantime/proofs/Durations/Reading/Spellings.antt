@@ -14,17 +14,7 @@ pub apart : (text rest : List ℕ) (s : Span) → Spells text s rest → IsApart
 apart text rest s h = record {
   here = h.number_text ++ (h.fraction_text ++ (s.word ++ h.space));
   whole = h.whole ∙ sym (simp append_assoc);
-  spells = record {
-    number_text = h.number_text;
-    fraction_text = h.fraction_text;
-    space = h.space;
-    whole = sym (simp append-nil);
-    starts = h.starts;
-    number = h.number;
-    fraction = h.fraction;
-    word = h.word;
-    only_space = h.only_space;
-  };
+  spells = (grind (arith, common_steps, append-nil));
 }
 
 pub spells-append : (text rest more : List ℕ) (s : Span) → Spells text s rest → Spells (text ++ more) s (rest ++ more)

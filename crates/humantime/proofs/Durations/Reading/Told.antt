@@ -58,10 +58,6 @@ none_first spans = grind (arith, common_steps)
 abbrev pub followed_by : List Span → Walk → List Span × Option Fault
 followed_by spans w = (spans ++ map span_of w.starts, w.stop)
 
-through_step : (text whole next : List ℕ) (first : Bool) (s : Span) (ss : List Span) (w : Walk) → IsSpanAt whole s next → Formed s
-    → spans_on (walk_from false text next) ≡ followed_by ss w → spans_on (walk_from first text whole) ≡ followed_by (s ∷ ss) w
-through_step text whole next first s ss w i f h = grind (arith, common_steps, (walk-right first text whole (fine_goes text whole (fine_here whole next s i f))))
-
 -- the walk goes through these spans, and on from the rest
 through : (text body rest : List ℕ) (first : Bool) (spans : List Span) → SpellsEach body spans → AllByRecursion Formed spans → (spans ≡ []) ⊎ Closes body rest → begins is_ws rest ≡ false
     → spans_on (walk_from first text (body ++ rest)) ≡ followed_by spans (walk_from (first_after first spans) text rest)
@@ -70,7 +66,8 @@ through text body rest first (s ∷ ss) h f (inl o) e = cc
 through text body rest first (s ∷ ss) h f (inr o) e =
     let p = apart body h.0 s h.1 in
     let more = rw (none_first ss) at (through text h.0 rest false ss h.2 f.1 (closes_more p.here h.0 rest ss h.2 (inr (rw p.whole at o))) e) in
-    through_step text (body ++ rest) (h.0 ++ rest) first s ss (walk_from false text rest) (first_here body rest s ss h o e) f.0 more
+    let i = first_here body rest s ss h o e in
+    grind (arith, common_steps, (i), (more), (walk-right first text _ (fine_goes text _ (fine_here (body ++ rest) _ s i f.0))))
 
 -- the front of a split begins where the white space ends
 pub front_begins : (text front rest : List ℕ) (spans : List Span) (h : Split text front spans rest) → past is_ws text ≡ h.spelled.body ++ rest
@@ -91,11 +88,8 @@ ends_told text front [] spans stop h = grind (arith, common_steps, walk-end)
 ends_told text front (c ∷ cs) spans None h = cc
 ends_told text front (c ∷ cs) spans (Some e) h = walk-wrong (first_after true spans) text (c ∷ cs) e (λ n. cc) (stops_at text front spans (c ∷ cs) e (λ n. cc) h)
 
-ends_closes : (text front rest : List ℕ) (spans : List Span) (stop : Option Fault) → Ends text front spans rest stop → (spans ≡ []) ⊎ Closes front rest
-ends_closes text front rest spans stop h = grind (arith, common_steps)
-
 -- whatever the items of a text are, the reading gives these
 pub items_told : (text : List ℕ) (spans : List Span) (stop : Option Fault) → Items text spans stop → items text ≡ (spans, stop)
 items_told text spans stop h =
-    front_told text h.front h.rest spans h.split h.formed (ends_closes text h.front h.rest spans stop h.ends)
+    front_told text h.front h.rest spans h.split h.formed (grind (arith, common_steps, (h.ends)))
     ∙ ap (followed_by spans) (ends_told text h.front h.rest spans stop h.ends) ∙ ap (λ (x : List Span). (x, stop)) (append-nil spans)

@@ -28,13 +28,10 @@ judged_outcome : (text : List ℕ) → text ≢ bare_zero → judged 0 (lent_ite
 unfolding items
 judged_outcome text some = ap (settle 0) (spans_lent text (walk_of text).starts (walk_of text).stop) ∙ sym (duration_answer-items text some)
 
--- a text whose one character is `0` is that one byte
-not_zero_chars : (bs : List ℕ) → IsUtf8 bs → (bs ≡ bare_zero → ⊥) → chars bs ≢ bare_zero
-not_zero_chars bs u n e = n (sym (encodes-chars bs u) ∙ ap encode_utf8_all e ∙ ap (λ (l : List ℕ). l ++ []) (encode_ascii 48 (omega arith)))
-
--- the same of the text's bytes
+-- the same of the text's bytes, since a text whose one character is `0` is that one byte
 pub sum_answers : (bs : List ℕ) → IsUtf8 bs → bs ≢ bare_zero → judged 0 (lent_items (chars bs)) ≡ duration_answer (chars bs)
-sum_answers bs u n = judged_outcome (chars bs) (not_zero_chars bs u n)
+sum_answers bs u n =
+    judged_outcome (chars bs) (λ e. n (sym (encodes-chars bs u) ∙ ap encode_utf8_all e ∙ ap (◌++ []) (encode_ascii 48 (omega arith))))
 
 -- each span of a walk lends its part, up to what the walk leaves
 abbrev Lends : List ℕ → Bool → List ℕ → Walk → Type 0
@@ -63,14 +60,10 @@ are_items text =
 same_lent : (text : List ℕ) (xs ys : List (Result Lent Fault)) (a : AreItems text xs) (b : AreItems text ys) → a.spans ≡ b.spans → a.stop ≡ b.stop → xs ≡ ys
 same_lent text xs ys a b p q = grind (arith, common_steps, one_each)
 
--- the spans and the stop are those that are read
-told_items : (text : List ℕ) (xs : List (Result Lent Fault)) (a : AreItems text xs) → items text ≡ (a.spans, a.stop)
-told_items text xs a = items_told text a.spans a.stop a.items
-
 pub one_lent : (text : List ℕ) (others : List (Result Lent Fault)) → AreItems text others → others ≡ lent_items text
 one_lent text others o =
     let a = are_items text in
-    grind (arith, (told_items text others o), (told_items text (lent_items text) a), (same_lent text others (lent_items text) o a))
+    grind (arith, (items_told text o.spans o.stop o.items), (items_told text a.spans a.stop a.items), (same_lent text others _ o a))
 
 -- an error that is the first item is the answer
 pub first_error_answers : (text : List ℕ) (lent others : List (Result Lent Fault)) (e : Fault) → AreItems text lent

@@ -1,5 +1,5 @@
 -- What a span lends of the text is told by the text and the span.
-use Rattle.std.proofs.Common.{arith, ◌≡◌, ℕ, Bool, true, ◌&&◌, cond, eqb, List, [], ◌∷◌, ◌++◌, length, Option, Some, None, refl, sym, ap, ap₂, subst, ◌∙◌}
+use Rattle.std.proofs.Common.{arith, ◌≡◌, ℕ, Bool, true, ◌&&◌, cond, eqb, List, [], ◌∷◌, ◌++◌, length, Option, Some, refl, sym, ap, ap₂, subst, ◌∙◌}
 use Rattle.std.proofs.Math.Bool.{and-false}
 use Rattle.std.proofs.lemmas.Grind.{common_steps}
 use Rattle.std.specs.Str.{drop_trailing_whitespace}
@@ -24,19 +24,15 @@ drop_tail [] tail o e = cc
 drop_tail (x ∷ []) tail o e = ap₂ (λ (b : Bool) (l : List ℕ). cond (b && eqb (length l) 0) [] (x ∷ l)) (white_is x ∙ digit_not_space x e) (drop_white tail o)
 drop_tail (x ∷ y ∷ xs) tail o e = rw (drop_tail (y ∷ xs) tail o e, suc_not_zero (length xs), and-false)
 
-begins_first : (p : ℕ → Bool) (xs ys : List ℕ) → begins p xs ≡ true → begins p (xs ++ ys) ≡ true
-begins_first p xs ys e = begins-append p xs ys (begins_not_nil p xs e) ∙ e
-
 -- a text without the white space at its ends goes from its first digit to its last
 trimmed_is : (text slice : List ℕ) → IsDigitSlice text slice → trimmed text ≡ slice
 trimmed_is text slice h = grind (arith, common_steps, digit_not_space, past-append, drop_tail)
 
 fraction_told : (b tail : List ℕ) (o f : Option (List ℕ)) → SpellsFraction b o → LendsFraction b f → begins is_letter tail ≡ true → f ≡ fraction_slice (b ++ tail)
-fraction_told b tail None f h k e = grind (arith, common_steps, no_slice)
-fraction_told b tail (Some ds) None h k e = let p = sym k ∙ h.1 in cc
 fraction_told b tail (Some ds) (Some slice) h k e =
     let same : h.0 ≡ k.0 = cc in
     grind (arith, common_steps, (slice_behind_point h.0 tail h.2.0 e), (trimmed_is k.0 slice k.2), same)
+fraction_told b tail _ _ h k e = grind (arith, common_steps, no_slice)
 
 -- What a span lends, told by the rest that it begins.
 record Told (rest : List ℕ) (x : Lent) (t : List ℕ) : Type 0 where
@@ -52,7 +48,7 @@ told text rest s x next h =
     let letter = begins_word s.word (k.space ++ next) (letters_begin s.word k.word) in
     let no_space : past is_ws k.number_text ≡ k.number_text = past-append is_ws [] k.number_text tt (begins_other is_digit is_ws digit_not_space k.number_text k.starts) in
     let fraction = fraction_told k.fraction_text (s.word ++ (k.space ++ next)) s.fraction x.fraction k.fraction h.fraction letter in
-    grind (arith, r, no_space, fraction, (trimmed_is k.number_text x.number h.number), h.unit, k.whole, k.starts, begins_first)
+    grind (arith, r, no_space, fraction, (trimmed_is k.number_text x.number h.number), begins-append, begins_not_nil)
 
 each_starts : (text rest : List ℕ) (s : Span) (ss : List Span) (xs : List Lent) (end : List ℕ) → LendsEach text rest (s ∷ ss) xs end → begins is_digit rest ≡ true
 each_starts text rest s ss xs end h = grind (arith, common_steps)
@@ -61,11 +57,8 @@ next_is : (space next : List ℕ) → Only is_ws space → begins is_digit next 
 next_is space next o b = past-append is_ws space next o (begins_other is_digit is_ws digit_not_space next b)
 
 -- two lendings of one span are the same, and leave the same
-record SameLent (x y : Lent) (t u : List ℕ) : Type 0 where
-  same : x ≡ y
-  left : t ≡ u
-
-one_span : (text rest : List ℕ) (s : Span) (x y : Lent) (m n : List ℕ) (h : IsLent text rest s x m) (k : IsLent text rest s y n) → SameLent x y (h.spelled.space ++ m) (k.spelled.space ++ n)
+one_span : (text rest : List ℕ) (s : Span) (x y : Lent) (m n : List ℕ) (h : IsLent text rest s x m) (k : IsLent text rest s y n)
+    → (x ≡ y) × (h.spelled.space ++ m ≡ k.spelled.space ++ n)
 one_span text rest s x y m n h k = grind (arith, common_steps, (told text rest s x m h), (told text rest s y n k), (append_cancel_left x.unit (h.spelled.space ++ m) (k.spelled.space ++ n) (sym (told text rest s x m h).left ∙ (told text rest s y n k).left ∙ ap (λ (w : List ℕ). w ++ (k.spelled.space ++ n)) (sym (h.unit ∙ sym k.unit)))))
 
 -- one list of spans lends one list of slices, wherever in white space the rest of the text begins
@@ -76,5 +69,5 @@ one_each text p q m n (s ∷ ss) (x ∷ xs) (y ∷ ys) d e o u w h k =
     let one = one_span text m s x y h.0 k.0 h.1 l in
     let p = h.1.spelled in
     let q = l.spelled in
-    ap₂ (λ (z : Lent) (zs : List Lent). z ∷ zs) one.same (one_each text p.space q.space h.0 k.0 ss xs ys d e p.only_space q.only_space one.left h.2 k.2)
+    ap₂ (λ (z : Lent) (zs : List Lent). z ∷ zs) one.0 (one_each text p.space q.space h.0 k.0 ss xs ys d e p.only_space q.only_space one.1 h.2 k.2)
 one_each text p q m n spans xs ys d e o u w h k = grind (arith, common_steps)

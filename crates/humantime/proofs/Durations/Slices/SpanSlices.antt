@@ -9,10 +9,10 @@ use Rattle.humantime.specs.Durations.Faults.{after_number, fraction_of, after_fr
 use Rattle.humantime.specs.References.Durations.Lending.{past_fraction, trimmed, number_slice, fraction_slice, lent_at}
 use Rattle.humantime.specs.Durations.Items.{IsDigitSlice, LendsFraction, IsLent}
 use Rattle.humantime.proofs.Durations.Reading.Classes.{digit_is_numeric}
-use Rattle.humantime.proofs.Durations.Reading.Runs.{leading-past, Only-leading, begins-past, letters_begin, begins_some}
+use Rattle.humantime.proofs.Durations.Reading.Runs.{leading-past, Only-leading, begins-past, begins_leading, letters_begin, begins_some}
 use Rattle.humantime.proofs.Durations.Reading.Spelled.{next_of, begins_word, read_spelled}
 use Rattle.humantime.proofs.Durations.Reading.Spellings.{spells-append}
-use Rattle.humantime.proofs.Durations.Reading.Written.{written_here}
+use Rattle.humantime.proofs.Durations.Reading.Written.{written_here, fraction_text, fraction_text-past}
 use Rattle.humantime.proofs.Durations.Reading.Stopping.{Fine}
 use Rattle.humantime.proofs.Durations.Bytes.Trimming.{dropped, digits_past, digit_slice, no_slice, slice_behind_point}
 
@@ -30,16 +30,11 @@ begins_digit_or_end cs h k e = grind (arith, common_steps)
 -- digits and white space, not without a digit, with the slice from the first digit to the last
 trimmed_slice : (cs : List ℕ) → Only is_numeric cs → digits cs ≢ [] → IsDigitSlice cs (trimmed cs)
 trimmed_slice cs o n =
-    let numeric = Only-past is_numeric is_ws cs o in
-    let starts = begins_digit_or_end (past is_ws cs) numeric (begins-past is_ws cs) (λ z. n (sym (digits_past cs) ∙ z)) in
-    subst (λ (l : List ℕ). IsDigitSlice l (trimmed cs)) (leading-past is_ws cs)
-    (digit_slice (leading is_ws cs) (past is_ws cs) (trimmed cs) (dropped (past is_ws cs)) (Only-leading is_ws cs) starts numeric)
+    let slice = digit_slice (leading is_ws cs) (past is_ws cs) (trimmed cs) (dropped (past is_ws cs)) (Only-leading is_ws cs) in
+    grind (arith, slice, (Only-past is_numeric is_ws cs o), begins_digit_or_end, begins-past, digits_past, (leading-past is_ws cs))
 
 fraction_is_lent : (b tail : List ℕ) (o : Option (List ℕ)) → SpellsFraction b o → begins is_letter tail ≡ true → LendsFraction b (fraction_slice (b ++ tail))
 fraction_is_lent b tail o h k = grind (arith, common_steps, no_slice, slice_behind_point, trimmed_slice)
-
-begins_leading : (p q : ℕ → Bool) (cs : List ℕ) → begins p cs ≡ true → ((c : ℕ) → p c ≡ true → q c ≡ true) → begins p (leading q cs) ≡ true
-begins_leading p q cs h k = grind (arith, common_steps)
 
 pub next_bytes : (rest : List ℕ) → begins is_digit rest ≡ true → byte_length (after_word rest) < byte_length rest
 next_bytes rest b =

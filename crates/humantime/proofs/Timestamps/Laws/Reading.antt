@@ -1,7 +1,7 @@
 -- The two sides of each parser's answer, and the laws of reading.
 use Rattle.std.proofs.Common.{arith, ◌≡◌, ℕ, List, refl, sym, ap, ◌∙◌}
 use Rattle.std.proofs.lemmas.Grind.{common_steps}
-use Rattle.std.specs.Prelude.{◌↔◌, ℤ, pos, Bool, true, false, Option, Some, None, Ok, Err, if◌then◌else◌}
+use Rattle.std.specs.Prelude.{◌↔◌, ℤ, pos, Bool, true, Option, Some, None, Ok, Err, if◌then◌else◌}
 use Rattle.humantime.specs.declared.date.error.TimestampError.{TimestampError}
 use Rattle.humantime.specs.declared.date.error.TimestampError.TheVariants.{InvalidFormat}
 use Rattle.humantime.specs.Timestamps.Fields.{Fields, IsWeak, IsStrict, moment_of, IsWeakMoment, IsStrictMoment}
@@ -61,14 +61,10 @@ pub strict_outcome : (b : List ℕ) → OneTimestamp (strict_checks b) (IsStrict
 unfolding strict_answer
 strict_outcome b = told_outcome b (strict_checks b) (IsStrict b) (strict_told b)
 
--- the answer of the strict form, where its own check fails and where it does not
-pub strict_refused : (b : List ℕ) → has_marks b ≡ false → Err InvalidFormat ≡ strict_answer b
-unfolding strict_answer
-strict_refused b other = rw other refl
-
-pub strict_as_weak : (b : List ℕ) → has_marks b ≡ true → weak_answer b ≡ strict_answer b
+-- the answer of the strict form, by its own check
+pub strict_by_marks : (b : List ℕ) → (if has_marks b then weak_answer b else Err InvalidFormat) ≡ strict_answer b
 unfolding weak_answer strict_answer
-strict_as_weak b whole = rw whole refl
+strict_by_marks b = grind (arith, common_steps)
 
 pub strict_moment_is_weak : (b : List ℕ) (t : ℤ) → IsStrictMoment b t ↔ (IsWeakMoment b t × IsMarked b)
 strict_moment_is_weak b t = (

@@ -25,9 +25,8 @@ sum_of_digits (suc k) (suc j) n a h =
     rw ((power_more j).0, left, digit) (rw (power_more j).1 (omega (arith, more, sum_of_digits k j n (a + 10 ^ j * d) (omega arith))))
 
 last_are_digits : (k j n : ℕ) → AreDigits (take k (last_digits j n))
-last_are_digits zero j n = tt
-last_are_digits (suc k) zero n = tt
 last_are_digits (suc k) (suc j) n = ((omega arith, omega arith), last_are_digits k j n)
+last_are_digits k j n = tt
 
 -- the fraction that is shown of n nanoseconds, with k digits
 abbrev pub cut_fraction : ℕ → ℕ → Option (List ℕ)

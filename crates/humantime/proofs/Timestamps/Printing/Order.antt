@@ -19,9 +19,6 @@ use Rattle.humantime.proofs.Dates.DaysOfDates.{before_year, before_month}
 use Rattle.humantime.proofs.Dates.Years.{valid_told}
 use Rattle.humantime.proofs.Timestamps.Reading.Fractions.{AreDigits, nanos_bound, digits_told}
 
-cmp_alike : (m n x y : ℕ) → (m < n → x < y) → (m ≡ n → x ≡ y) → (n < m → y < x) → nat_cmp m n ≡ nat_cmp x y
-cmp_alike m n x y less same more = grind (arith, common_steps)
-
 -- what is compared first decides, unless it is equal
 step_cmp : (m n x y : ℕ) (c o : Ordering) → (m < n → x < y) → (n < m → y < x) → (m ≡ n → c ≡ ordering_then (nat_cmp x y) o)
     → ordering_then (nat_cmp m n) c ≡ ordering_then (nat_cmp x y) o
@@ -95,7 +92,7 @@ pos_cmp m n = grind (arith, nat_tests)
 clock_cmp : (a h i s m b j k t n : ℕ) → h ≤ 23 → i ≤ 59 → s ≤ 59 → m < 1_000_000_000 → j ≤ 23 → k ≤ 59 → t ≤ 59 → n < 1_000_000_000
     → then_cmp a b (then_cmp h j (then_cmp i k (then_cmp s t (nat_cmp m n))))
     ≡ nat_cmp ((a * 86_400 + h * 3_600 + i * 60 + min s 59) * 1_000_000_000 + m) ((b * 86_400 + j * 3_600 + k * 60 + min t 59) * 1_000_000_000 + n)
-clock_cmp a h i s m b j k t n h23 i59 s59 m9 j23 k59 t59 n9 = grind (arith, common_steps, step_cmp, below, cmp_alike)
+clock_cmp a h i s m b j k t n h23 i59 s59 m9 j23 k59 t59 n9 = grind (arith, common_steps, step_cmp, below)
 
 pub stamps_in_order : (a b : ℤ) → InOrder a b
 stamps_in_order a b k x y p q =

@@ -53,12 +53,10 @@ pairs_told b h = grind (arith, common_steps, and_parts)
 -- what stands between the seconds and the zone
 pub part_shown : (part : List ℕ) → has_point part ≡ true → part ≡ fraction_text (fraction_of part)
 unfolding has_point
-part_shown [] h = refl
-part_shown (c ∷ ds) h = grind (arith, common_steps)
+part_shown part h = grind (arith, common_steps)
 
 pub part_digits : (part : List ℕ) → fraction_digits (fraction_of part) ≡ drop 1 part
-part_digits [] = refl
-part_digits (c ∷ ds) = refl
+part_digits part = grind (arith, common_steps)
 
 pub moment_of_fields : (b : List ℕ) → moment_of (fields_of b) ≡ moment_at b
 moment_of_fields b = rw (part_digits (fraction_part b)) refl

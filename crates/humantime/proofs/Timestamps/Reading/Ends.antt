@@ -1,10 +1,9 @@
 -- The zone at the end of a text.
 use Rattle.std.proofs.lemmas.Grind.{common_steps}
-use Rattle.std.proofs.Common.{◌≡◌, ◌≢◌, ℕ, ◌+◌, ◌-◌, ◌*◌, ◌<◌, ◌≤◌, List, [], ◌∷◌, ◌++◌, length, get_or, take, drop, sym, ap, ◌∙◌, append_assoc, length-append, Fits, w8, arith}
+use Rattle.std.proofs.Common.{◌≡◌, ◌≢◌, ℕ, ◌+◌, ◌-◌, ◌*◌, ◌<◌, ◌≤◌, List, [], ◌∷◌, ◌++◌, length, get_or, take, drop, sym, ap, ◌∙◌, append_assoc, Fits, w8, arith}
 use Rattle.std.specs.Prelude.{true, false, ◌&&◌, ◌==◌, codes, nat_eq, nat_lt, slice_index}
 use Rattle.std.specs.List.{AllByRecursion, ends_with}
 use Rattle.std.specs.Str.{bytes_eq}
-use Rattle.std.proofs.Math.Seq.{take-append_seam}
 use Rattle.std.proofs.lemmas.List.{take-append-drop}
 use Rattle.std.proofs.lemmas.Bool.Decides.{nat_tests}
 use Rattle.humantime.specs.Timestamps.Fields.{Zone, zone_text}
@@ -61,9 +60,7 @@ unfolding zone_of
 zone_found xs z h = grind (arith, common_steps, offset_end)
 
 pub before_zone_found : (xs : List ℕ) (z : Zone) → AllByRecursion IsPlain xs → before_zone (xs ++ zone_text z) ≡ xs
-before_zone_found xs z h =
-    let size : length (xs ++ zone_text z) - length (zone_text z) ≡ length xs = omega (arith, length-append xs (zone_text z)) in
-    rw (zone_found xs z h, size) (take-append_seam xs (zone_text z))
+before_zone_found xs z h = rw (zone_found xs z h) (grind (arith, common_steps))
 
 -- ---- `+00:00` as two numbers
 

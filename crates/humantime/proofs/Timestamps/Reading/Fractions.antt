@@ -4,7 +4,7 @@ use Rattle.std.proofs.Common.{◌≡◌, ℕ, zero, suc, ◌+◌, ◌-◌, ◌*�
 use Rattle.std.specs.Prelude.{true, ◌&&◌}
 use Rattle.std.specs.Char.{is_ascii_digit, digit_value}
 use Rattle.std.specs.Int.{IsInRange}
-use Rattle.std.specs.List.{list_all, AllByRecursion}
+use Rattle.std.specs.List.{AllByRecursion}
 use Rattle.std.specs.Str.{all_ascii_digits}
 use Rattle.std.specs.Str.Parse.{digits_value_after}
 use Rattle.std.proofs.Math.Nat.{pow-suc, mul-le-mul_left, div-div-eq-div-mul, pow-le-pow_right, div-eq_of_lt}
@@ -30,12 +30,8 @@ pub digits_from : (ds : List ℕ) → AreDigits ds → all_ascii_digits ds ≡ t
 digits_from [] d = refl
 digits_from (c ∷ cs) d = grind (arith, nat_tests, (digits_from cs d.1))
 
-pub digits_listed : (ds : List ℕ) → all_ascii_digits ds ≡ list_all is_ascii_digit ds
-digits_listed [] = refl
-digits_listed (c ∷ cs) = grind (arith, common_steps, digits_listed cs)
-
 pub digits_append : (ds es : List ℕ) → all_ascii_digits (ds ++ es) ≡ (all_ascii_digits ds && all_ascii_digits es)
-digits_append ds es = simp (digits_listed, list_all-append)
+digits_append ds es = list_all-append is_ascii_digit ds es
 
 -- ---- The nanoseconds are the sum of the digits with their weights
 

@@ -1,6 +1,6 @@
 -- A text that shows parts passes the checks, and the parts at its places are these.
 use Rattle.std.proofs.lemmas.Grind.{common_steps}
-use Rattle.std.proofs.Common.{◌≡◌, ℕ, ◌+◌, ◌/◌, ◌%◌, ◌≤◌, List, length, drop, refl, nat_le, arith}
+use Rattle.std.proofs.Common.{◌≡◌, ℕ, ◌+◌, ◌/◌, ◌%◌, ◌≤◌, List, length, drop, refl, arith}
 use Rattle.std.specs.Prelude.{true, slice_index, Option, None}
 use Rattle.std.proofs.lemmas.Bool.{le-leb}
 use Rattle.humantime.specs.Timestamps.Fields.{Fields, fraction_text, fraction_digits, fields_text, IsWeak}
@@ -47,17 +47,15 @@ written_passes f w =
     let hour = two_back b 11 f.hour (omega (arith, long)) refl refl (omega (arith, w.hour)) in
     let minute = two_back b 14 f.minute (omega (arith, long)) refl refl (omega (arith, w.minute)) in
     let second = two_back b 17 f.second (omega (arith, long)) refl refl (omega (arith, w.second)) in
-    let separator = separator_back f in
     let plain = holds_of_fraction IsPlain plain_bytes f.fraction w.fraction in
     let part : fraction_part b ≡ fraction_text f.fraction = before_zone_found (fraction_text f.fraction) f.zone plain in
     let end = ending f.fraction in
-    let size : nat_le 19 (length b) ≡ true = le-leb 19 (length b) long in
     let digits : has_digits b ≡ true = rw (year.0, year.1, month.0, day.0, hour.0, minute.0, second.0) refl in
     let range : are_in_range (numbers_of b) ≡ true =
     rw (year.2, month.1, day.1, hour.1, minute.1, second.1) ((bounds _ _ _ _).1 (w.date, w.hour, w.minute, w.second)) in
     let zone = zone_found (fraction_text f.fraction) f.zone plain in (
-      rw (size, separator.0, digits, range, part, end.0, end.1, w.fraction) refl,
-      rw (year.2, month.1, day.1, separator.1, hour.1, minute.1, second.1, part, end.2, zone) refl,
+      rw (le-leb 19 (length b) long, (separator_back f).0, digits, range, part, end.0, end.1, w.fraction) refl,
+      rw (year.2, month.1, day.1, (separator_back f).1, hour.1, minute.1, second.1, part, end.2, zone) refl,
     )
 
 pub weak_fields : (b : List ℕ) (f : Fields) → IsWeak b f → (first_failed (weak_checks b) ≡ None) × (f ≡ fields_of b)

@@ -10,7 +10,7 @@ use Rattle.std.proofs.lemmas.List.Folds.{list_all_at}
 use Rattle.humantime.specs.Timestamps.Fields.{fraction_nanos}
 use Rattle.humantime.specs.Timestamps.Checks.{number_between}
 use Rattle.humantime.specs.References.Timestamps.Reading.{IsRead}
-use Rattle.humantime.proofs.Timestamps.Reading.Fractions.{add_digits, weight, digits_told, digits_listed, digits_append, nanos_added, nanos_bound, add_append, no_weight}
+use Rattle.humantime.proofs.Timestamps.Reading.Fractions.{add_digits, weight, digits_told, digits_append, nanos_added, nanos_bound, add_append, no_weight}
 use Rattle.humantime.proofs.Timestamps.Reading.Places.{next_byte, no_byte, three_bytes, has_three_told, number_of_three}
 
 pub nothing_read : fraction_nanos [] ≡ 0
@@ -46,7 +46,7 @@ read_bound text i nanos so_far = rw so_far.value (nanos_bound (take i text) (dig
 
 -- a byte that is no digit
 pub read_stop : (text : List ℕ) (i : ℕ) → i < length text → is_ascii_digit (get_or text i 0) ≡ false → all_ascii_digits text ≡ false
-read_stop text i within other = digits_listed text ∙ list_all_at is_ascii_digit text i 0 within other
+read_stop text i within other = list_all_at is_ascii_digit text i 0 within other
 
 pub read_all : (text : List ℕ) (i nanos : ℕ) → IsRead text i nanos → length text ≤ i
     → (all_ascii_digits text ≡ true) × (nanos ≡ fraction_nanos text)
@@ -61,9 +61,7 @@ group_counts (suc (suc (suc q))) i h = omega (arith, no_weight i (omega arith), 
 
 three_places : (n u v a b c : ℕ) → u ≡ 100 * v → n + u * a + u / 10 * b + u / 10 / 10 * c ≡ n + v * (a * 100 + b * 10 + c)
 three_places n u v a b c e =
-    let tens : u / 10 ≡ 10 * v = omega arith in
-    let ones : u / 10 / 10 ≡ v = omega arith in
-    rw (ones, tens, e) (grind arith)
+    let tens : u / 10 ≡ 10 * v = omega arith in rw (tens, e) (grind arith)
 
 pub read_three : (text : List ℕ) (i nanos n : ℕ) → i % 3 ≡ 0 → IsRead text i nanos → i + 3 ≤ length text
     → all_ascii_digits (slice_range text i (i + 3)) ≡ true → n ≡ number_between text i (i + 3)
@@ -89,4 +87,4 @@ read_no_three text i within other = grind (arith, common_steps, (has_three_told 
 
 pub ruleset steps_of_one = (read_none, read_more, read_bound, read_stop, read_all)
 
-pub ruleset steps_of_three = (read_none, read_three, three_bound, read_no_three)
+pub ruleset steps_of_three = (read_none, read_three, three_bound, read_no_three, common_steps)

@@ -1,17 +1,17 @@
 use Rattle.std.proofs.Common.{sym, ◌∙◌}
-use Rattle.humantime.proofs.Timestamps.Laws.Reading.{strict_outcome, strict_refused, strict_as_weak}
+use Rattle.humantime.proofs.Timestamps.Laws.Reading.{strict_outcome, strict_by_marks}
 use Rattle.humantime.proofs.date.parse.parse_rfc3339.Goals as goal
 
 pub returns-then-not-has_marks : goal.returns-then-not-has_marks
 returns-then-not-has_marks c =
     let other = sym (rw c.as_bytes.ensures.value at c.has_marks.ensures) ∙ c.if-not-has_marks.true in
-    let is = strict_refused c.args.s.now other in
+    let is = rw other at (strict_by_marks c.args.s.now) in
     let one = strict_outcome c.args.s.now in
     record { value = λ t. rw is (one.value t); error = λ e. rw is (one.error e); answer = is }
 
 pub returns : goal.returns
 returns c =
     let marked = sym (rw c.as_bytes.ensures.value at c.has_marks.ensures) ∙ c.if-not-has_marks.false in
-    let is = c.parse_rfc3339_weak.ensures.answer ∙ strict_as_weak c.args.s.now marked in
+    let is = c.parse_rfc3339_weak.ensures.answer ∙ (rw marked at (strict_by_marks c.args.s.now)) in
     let one = strict_outcome c.args.s.now in
     record { value = λ t. rw is (one.value t); error = λ e. rw is (one.error e); answer = is }
