@@ -4,5 +4,6 @@ pub mod Durations
 pub mod Laws
 pub mod Prelude
 pub mod References
+pub mod Texts
 pub mod Timestamps
 pub mod Values

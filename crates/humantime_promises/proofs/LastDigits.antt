@@ -3,7 +3,8 @@ use Rattle.std.proofs.Common.{◌≡◌, ℕ, List, [], ◌∷◌, true, Option,
 use Rattle.std.proofs.lemmas.Grind.{common_steps}
 use Rattle.humantime.specs.declared.DurationError.{DurationError}
 use Rattle.humantime.specs.declared.Span.{Span as TextSpan}
-use Rattle.humantime.specs.Durations.Characters.{ends, is_digit}
+use Rattle.humantime.specs.Texts.{ends}
+use Rattle.humantime.specs.Durations.Characters.{is_digit}
 use Rattle.humantime.specs.Durations.Spans.{Span}
 use Rattle.humantime.specs.Durations.Faults.{Fault}
 use Rattle.humantime.specs.Durations.Items.{Lent, LendsEach, LendsFraction, IsLent, AreItems, items_of}

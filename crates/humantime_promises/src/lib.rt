@@ -7,7 +7,8 @@
 
 ghost use Rattle.std.specs.Prelude.{◌≡◌, ◌+◌, ◌<◌, ◌↔◌, ℕ, List, chars, true, unwrap_or, Ok, Err, IfSome, IsSome};
 ghost use Rattle.humantime.specs.Prelude.{Canon, HasFault, Fault, GivesItem, IsCanonicalOf, duration_end, lent_of, told_text};
-ghost use Rattle.humantime.specs.Durations.Characters.{ends, is_digit};
+ghost use Rattle.humantime.specs.Texts.{ends};
+ghost use Rattle.humantime.specs.Durations.Characters.{is_digit};
 
 use humantime::{DurationError, Span, SpanIter, StdDuration};
 

@@ -1,7 +1,8 @@
 -- What spans add up to, their limits, and the texts that are accepted. A text is its list of characters.
 use Rattle.std.specs.Prelude.{ℕ, ◌*◌, ◌/◌, ◌^◌, List, [], ◌∷◌, length, Bool, true, false, ◌||◌, ◌&&◌, ◌==◌, nat_lt, nat_le, Option, Some, None, sum_by, flat_map, ◌≡◌, ◌+◌, ◌%◌, ◌++◌, IsSome}
 use Rattle.std.specs.List.{AllByRecursion}
-use Rattle.humantime.specs.Durations.Characters.{decimal_value, significant, u64_max, bare_zero}
+use Rattle.humantime.specs.Texts.{decimal_value}
+use Rattle.humantime.specs.Durations.Characters.{significant, u64_max, bare_zero}
 use Rattle.humantime.specs.Durations.Units.{Addition, Nanos, Seconds, Scale, scale_of_word}
 use Rattle.humantime.specs.Durations.Spans.{Span, Reads}
 use Rattle.humantime.specs.Values.{nanos_per_second}

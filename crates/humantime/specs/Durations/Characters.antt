@@ -1,8 +1,8 @@
--- The characters of a duration's text, and what timestamps share: the front of a list, and the number that digits show.
-use Rattle.std.specs.Prelude.{ℕ, ◌-◌, Bool, false, ◌||◌, ◌==◌, List, [], ◌∷◌, length, if◌then◌else◌, encode_utf8_all, filter, codes, reverse}
+-- The characters of a duration's text.
+use Rattle.std.specs.Prelude.{ℕ, ◌-◌, Bool, ◌||◌, ◌==◌, List, [], ◌∷◌, length, encode_utf8_all, filter, codes, reverse}
 use Rattle.std.specs.Char.{char_set_contains, is_ascii_digit, is_ascii_alphabetic}
 use Rattle.std.specs.Str.{byte}
-use Rattle.std.specs.Str.Parse.{digits_value}
+use Rattle.humantime.specs.Texts.{past}
 
 -- the characters of white space, one by one: those that Unicode calls so
 unfoldable pub white_spaces : List ℕ
@@ -42,31 +42,9 @@ bare_zero = codes "0"
 abbrev pub is_numeric : ℕ → Bool
 is_numeric c = is_digit c || is_ws c
 
--- the longest front of a text whose characters pass a test, and the text past it
-abbrev pub leading : (ℕ → Bool) → List ℕ → List ℕ
-leading p [] = []
-leading p (c ∷ cs) = if p c then c ∷ leading p cs else []
-
-abbrev pub past : (ℕ → Bool) → List ℕ → List ℕ
-past p [] = []
-past p (c ∷ cs) = if p c then past p cs else c ∷ cs
-
--- whether a text begins, and whether it ends, with a character that passes
-abbrev pub begins : (ℕ → Bool) → List ℕ → Bool
-begins p [] = false
-begins p (c ∷ cs) = p c
-
-abbrev pub ends : (ℕ → Bool) → List ℕ → Bool
-ends p [] = false
-ends p (c ∷ []) = p c
-ends p (c ∷ d ∷ cs) = ends p (d ∷ cs)
-
--- the digits of a text, and the number that a list of digits reads as
+-- the digits of a text
 abbrev pub digits : List ℕ → List ℕ
 digits cs = filter is_digit cs
-
-abbrev pub decimal_value : List ℕ → ℕ
-decimal_value ds = digits_value 10 ds
 
 -- the digits without the zeros at their end
 unfoldable pub significant : List ℕ → List ℕ

@@ -1,7 +1,8 @@
 -- The first fault of a text that is not accepted. A text is its list of characters; offsets count its bytes, and a fault
 -- holds the bytes of its unit.
 use Rattle.std.specs.Prelude.{ℕ, Bool, true, false, not, ◌==◌, List, [], ◌∷◌, length, Option, Some, None, is_some, if◌then◌else◌, ◌≡◌, ◌≢◌, ◌⊎◌, ◌++◌, drop, option_map, unwrap_or, encode_utf8_all}
-use Rattle.humantime.specs.Durations.Characters.{is_letter, is_numeric, is_point, leading, past, digits, is_ws, is_digit, begins, ends, decimal_value, offset_of, bare_zero}
+use Rattle.humantime.specs.Texts.{leading, past, begins, ends, decimal_value}
+use Rattle.humantime.specs.Durations.Characters.{is_letter, is_numeric, is_point, digits, is_ws, is_digit, offset_of, bare_zero}
 use Rattle.humantime.specs.Durations.Spans.{Span, SpellsAll}
 use Rattle.humantime.specs.Durations.Units.{scale_of_word}
 use Rattle.humantime.specs.Durations.Accepted.{is_some_and, too_long, WithinLimits}

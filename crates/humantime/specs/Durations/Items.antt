@@ -5,7 +5,8 @@ use Rattle.std.specs.Str.{byte}
 use Rattle.humantime.specs.Durations.Spans.{Span, Only, Spells}
 use Rattle.humantime.specs.Durations.Accepted.{Formed}
 use Rattle.humantime.specs.Durations.Faults.{Fault, Split, Stops}
-use Rattle.humantime.specs.Durations.Characters.{is_ws, is_digit, begins, ends, past, decimal_value, offset_of}
+use Rattle.humantime.specs.Texts.{begins, ends, past, decimal_value}
+use Rattle.humantime.specs.Durations.Characters.{is_ws, is_digit, offset_of}
 
 -- behind these spans the text ends, or stops at this fault
 abbrev pub Ends : List ℕ → List ℕ → List Span → List ℕ → Option Fault → Type 0

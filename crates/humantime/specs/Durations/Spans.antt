@@ -2,7 +2,8 @@
 use Rattle.std.specs.Prelude.{◌≡◌, ◌≢◌, ℕ, Bool, true, List, [], ◌∷◌, ◌++◌, Option, Some, None}
 use Rattle.std.specs.List.{AllByRecursion}
 use Rattle.std.specs.Str.{byte}
-use Rattle.humantime.specs.Durations.Characters.{is_ws, is_letter, is_numeric, is_digit, begins, digits}
+use Rattle.humantime.specs.Texts.{begins}
+use Rattle.humantime.specs.Durations.Characters.{is_ws, is_letter, is_numeric, is_digit, digits}
 
 -- What a span says: the digits of its number, those of its fraction if it has one, and its word.
 pub record Span : Type 0 where

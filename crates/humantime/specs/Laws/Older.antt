@@ -3,7 +3,8 @@
 use Rattle.std.specs.Prelude.{◌≡◌, ℕ, ◌*◌, ◌≤◌, Bool, true, ◌||◌, ◌==◌, List, [], ◌∷◌, ◌++◌, length, Option, Some, None, IsOk, ⊤, Ok}
 use Rattle.std.specs.List.{AllByRecursion}
 use Rattle.std.specs.Char.{is_ascii_alphabetic}
-use Rattle.humantime.specs.Durations.Characters.{micro_sign, greek_mu, decimal_value, u64_max, bare_zero}
+use Rattle.humantime.specs.Texts.{decimal_value}
+use Rattle.humantime.specs.Durations.Characters.{micro_sign, greek_mu, u64_max, bare_zero}
 use Rattle.humantime.specs.References.Durations.Answers.{duration_answer}
 use Rattle.humantime.specs.Durations.Units.{Addition, Scale, scale_of_word}
 use Rattle.humantime.specs.Durations.Spans.{Span, Only, Reads}

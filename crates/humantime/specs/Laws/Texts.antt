@@ -15,6 +15,10 @@ without_white_space text = filter (λ c. not (is_ws c)) text
 abbrev pub IsZeroOrSpans : List ℕ → Type 0
 IsZeroOrSpans text = (v : ℕ) → Accepted text v → (text ≡ bare_zero) ⊎ ((spans : List Span) × Reads text spans)
 
+-- the text is these spans, and is accepted with this value
+abbrev pub AcceptedAs : List ℕ → List Span → ℕ → Type 0
+AcceptedAs text spans v = Reads text spans × Accepted text v
+
 -- The two texts are the same spans, in some order each.
 pub record AreReordered (a b : List ℕ) : Type 0 where
   pub spans : List Span
@@ -37,10 +41,10 @@ pub record AddWhenJoined (a b : List ℕ) : Type 0 where
   pub first : IsZeroOrSpans a
   pub second : IsZeroOrSpans b
   -- texts of spans are accepted with the sum exactly where the additions of the ones and then of the others have room
-  pub sum : (ss ts : List Span) (u v : ℕ) → Reads a ss → Reads b ts → Accepted a u → Accepted b v
+  pub sum : (ss ts : List Span) (u v : ℕ) → AcceptedAs a ss u → AcceptedAs b ts v
       → Accepted (a ++ b) (u + v) ↔ AllHaveRoom (additions ss ++ additions ts)
   -- and they are too large exactly where these haven't
-  pub overflow : (ss ts : List Span) (u v : ℕ) → Reads a ss → Reads b ts → Accepted a u → Accepted b v
+  pub overflow : (ss ts : List Span) (u v : ℕ) → AcceptedAs a ss u → AcceptedAs b ts v
       → HasFault (a ++ b) NumberOverflow ↔ ¬ (AllHaveRoom (additions ss ++ additions ts))
   -- so they are accepted with the sum, or too large
   pub one : (u v : ℕ) → Accepted a u → Accepted b v → a ≢ bare_zero → b ≢ bare_zero

@@ -3,7 +3,7 @@ use Rattle.std.specs.Prelude.{ℕ, ◌+◌, ◌-◌, Bool, ◌&&◌, ◌||◌, �
 use Rattle.std.specs.Char.{is_ascii_digit}
 use Rattle.std.specs.List.{list_all, ends_with}
 use Rattle.std.specs.Str.{byte, all_ascii_digits}
-use Rattle.humantime.specs.Durations.Characters.{decimal_value}
+use Rattle.humantime.specs.Texts.{decimal_value}
 use Rattle.humantime.specs.declared.date.error.TimestampError.{TimestampError}
 use Rattle.humantime.specs.declared.date.error.TimestampError.TheVariants.{OutOfRange, InvalidDigit, InvalidFormat}
 use Rattle.humantime.specs.declared.date.parse.Numbers.{Numbers}

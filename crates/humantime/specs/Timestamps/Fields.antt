@@ -1,7 +1,7 @@
 -- The parts of a timestamp, the text that shows them, and the moment that they name. A text is its bytes.
 use Rattle.std.specs.Prelude.{ℕ, ◌+◌, ◌/◌, ◌%◌, List, [], ◌∷◌, ◌≡◌, ◌≢◌, ◌*◌, ◌≤◌, min, ◌++◌, take, codes, Option, Some, None, ℤ, pos, unwrap_or, IsTrue}
 use Rattle.std.specs.Str.{byte, all_ascii_digits}
-use Rattle.humantime.specs.Durations.Characters.{decimal_value}
+use Rattle.humantime.specs.Texts.{decimal_value}
 use Rattle.humantime.specs.declared.calendar.Date.{Date}
 use Rattle.humantime.specs.Calendar.{IsDate, day_of}
 use Rattle.humantime.specs.Values.{nanos_per_second, seconds_per_day, seconds_per_hour, seconds_per_minute}

@@ -5,7 +5,8 @@ use Rattle.std.proofs.lemmas.Grind.{common_steps}
 use Rattle.std.proofs.lemmas.Bool.{le-leb}
 use Rattle.std.proofs.lemmas.Nat.{pow-add}
 use Rattle.std.proofs.Math.Nat.{one-le-pow, pow-le-pow_right, mul-le-mul, mul-mod_left, mul-div_cancel}
-use Rattle.humantime.specs.Durations.Characters.{decimal_value, u64_max}
+use Rattle.humantime.specs.Texts.{decimal_value}
+use Rattle.humantime.specs.Durations.Characters.{u64_max}
 use Rattle.humantime.specs.Durations.Units.{Addition, Scale, scale_of_word}
 use Rattle.humantime.specs.Durations.Spans.{Span}
 use Rattle.humantime.specs.References.Durations.Reading.{add_all, add_span}

@@ -5,7 +5,8 @@ use Rattle.std.proofs.lemmas.Bool.{lt-ltb, ne_eqb}
 use Rattle.std.proofs.lemmas.Nat.{pow-add}
 use Rattle.std.proofs.Math.Nat.{pow-le-pow_right, mul-le-mul_right}
 use Rattle.humantime.specs.declared.duration.reading.amount.Fraction.{Fraction}
-use Rattle.humantime.specs.Durations.Characters.{is_digit, is_numeric, leading, decimal_value, significant}
+use Rattle.humantime.specs.Texts.{leading, decimal_value}
+use Rattle.humantime.specs.Durations.Characters.{is_digit, is_numeric, significant}
 use Rattle.humantime.specs.Durations.Faults.{number_of, after_number}
 use Rattle.humantime.specs.References.Durations.Scales.{counted, parts_of}
 use Rattle.humantime.specs.References.Durations.Scanning.{AreDigits, digits_at}

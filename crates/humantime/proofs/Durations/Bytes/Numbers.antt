@@ -6,7 +6,8 @@ use Rattle.std.specs.Str.Parse.{digits_value_after}
 use Rattle.std.proofs.lemmas.Str.{digit_value_digit, IsCharBoundary-start}
 use Rattle.std.proofs.lemmas.Bool.{lt-ltb}
 use Rattle.std.proofs.lemmas.Bool.Decides.{nat_tests}
-use Rattle.humantime.specs.Durations.Characters.{is_ws, is_digit, is_numeric, begins, leading, decimal_value, u64_max}
+use Rattle.humantime.specs.Texts.{begins, leading, decimal_value}
+use Rattle.humantime.specs.Durations.Characters.{is_ws, is_digit, is_numeric, u64_max}
 use Rattle.humantime.specs.Durations.Faults.{number_of, after_number}
 use Rattle.humantime.specs.References.Durations.Scanning.{space_width, number_at}
 use Rattle.humantime.proofs.Durations.Bytes.PlaceSteps.{digit_over, digit_at, space_over, no_space}

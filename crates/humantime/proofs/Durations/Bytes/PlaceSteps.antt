@@ -9,7 +9,8 @@ use Rattle.std.proofs.lemmas.Bool.Decides.{nat_tests}
 use Rattle.std.proofs.lemmas.List.{get_or-drop}
 use Rattle.std.proofs.lemmas.Str.{IsUtf8-drop, IsCharBoundary-past_char, drop_past_char, chars_past_char, byte_from_char, char_from_byte, len_utf8_ascii, len_utf8_bounds, encodes-chars, encode_same, IsCharBoundary-start}
 use Rattle.humantime.specs.Durations.Errors.{IsPlaceIn}
-use Rattle.humantime.specs.Durations.Characters.{is_letter, is_ws, is_digit, is_point, begins, past}
+use Rattle.humantime.specs.Texts.{begins, past}
+use Rattle.humantime.specs.Durations.Characters.{is_letter, is_ws, is_digit, is_point}
 use Rattle.humantime.specs.References.Durations.Scanning.{space_width, digits_at, fraction_read, ends_span}
 use Rattle.humantime.proofs.Durations.Bytes.Tails.{no_bytes}
 use Rattle.humantime.proofs.Durations.Reading.Classes.{digit_is, is_point-46, wide_no_digit, white_is}

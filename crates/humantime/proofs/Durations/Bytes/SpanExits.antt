@@ -3,7 +3,8 @@ use Rattle.std.specs.Prelude.{not, unwrap_or, length, ◌==◌, Bool, ◌∷◌}
 use Rattle.std.proofs.Common.{arith, ◌≡◌, ◌≢◌, ℕ, true, false, List, [], Option, Some, None, option_map, refl, sym, ◌∙◌, chars, Bor, ap, encode_utf8_all}
 use Rattle.std.proofs.lemmas.Grind.{common_steps}
 use Rattle.std.specs.Str.{drop_trailing_whitespace}
-use Rattle.humantime.specs.Durations.Characters.{begins, past, is_letter, is_numeric, leading, decimal_value, offset_of}
+use Rattle.humantime.specs.Texts.{begins, past, leading, decimal_value}
+use Rattle.humantime.specs.Durations.Characters.{is_letter, is_numeric, offset_of}
 use Rattle.humantime.specs.Durations.Units.{Scale, scale_of_word}
 use Rattle.humantime.specs.Durations.Faults.{number_of, after_number, behind_point, fraction_of, after_fraction, word_of, after_word, span_of, InvalidCharacter, UnknownUnit, NumberOverflow, stop_at, ends_span}
 use Rattle.humantime.specs.References.Durations.Lending.{spelled, trimmed}

@@ -3,7 +3,8 @@ use Rattle.std.proofs.lemmas.Grind.{common_steps}
 use Rattle.std.proofs.Common.{◌≡◌, ◌≢◌, ◌≤◌, ◌+◌, ◌-◌, ℕ, Bool, List, [], ◌++◌, length, take, drop, ap, sym, ◌∙◌, arith, length-append, length-drop, IsUtf8, IsCharBoundary, chars, slice_range}
 use Rattle.std.proofs.lemmas.List.{take-append-drop, append_cancel_right}
 use Rattle.std.proofs.lemmas.Str.{IsUtf8-take, IsUtf8-drop, IsCharBoundary-at_seam, encodes-chars, chars-append, chars-nil}
-use Rattle.humantime.specs.Durations.Characters.{byte_length, offset_of, leading, past}
+use Rattle.humantime.specs.Texts.{leading, past}
+use Rattle.humantime.specs.Durations.Characters.{byte_length, offset_of}
 use Rattle.humantime.specs.References.Durations.Scanning.{IsTail}
 use Rattle.humantime.proofs.Durations.Reading.Runs.{leading-past}
 

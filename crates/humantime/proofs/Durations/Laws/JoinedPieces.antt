@@ -2,9 +2,10 @@
 use Rattle.std.proofs.Common.{arith, ◌≢◌, ◌↔◌, ℕ, List, [], ◌∷◌, flat_map, sum_by, refl}
 use Rattle.std.proofs.lemmas.Grind.{common_steps}
 use Rattle.std.specs.List.{AllByRecursion}
-use Rattle.humantime.specs.Durations.Spans.{Span, Reads}
+use Rattle.humantime.specs.Durations.Spans.{Span}
 use Rattle.humantime.specs.Durations.Accepted.{additions, AllHaveRoom, Accepted}
 use Rattle.humantime.specs.Durations.Faults.{NumberOverflow, HasFault}
+use Rattle.humantime.specs.Laws.Texts.{AcceptedAs}
 use Rattle.humantime.proofs.Durations.Laws.JoinedTexts.{AreSpans, spans-append, some-append, room_accepts, no_room_overflows}
 
 -- A text, its spans and its value.
@@ -13,9 +14,8 @@ pub record Piece : Type 0 where
   pub spans : List Span
   pub value : ℕ
 
--- the text is these spans, and is accepted with this value
 abbrev pub IsAcceptedPiece : Piece → Type 0
-IsAcceptedPiece p = Reads p.text p.spans × Accepted p.text p.value
+IsAcceptedPiece p = AcceptedAs p.text p.spans p.value
 
 -- what pieces are, one behind the other
 abbrev pub joined_text : List Piece → List ℕ
@@ -29,7 +29,7 @@ joined_value ps = sum_by (λ (p : Piece). p.value) ps
 
 are_joined : (ps : List Piece) → AllByRecursion IsAcceptedPiece ps → AreSpans (joined_text ps) (joined_spans ps) (joined_value ps)
 are_joined [] h = record { front = record { space = []; body = []; whole = refl; only_space = tt; each = refl }; formed = tt; fit = tt; sum = refl }
-are_joined (p ∷ ps) h = grind (arith, common_steps, (spans-append p.text (joined_text ps) p.spans (joined_spans ps) p.value (joined_value ps) h.0.0 h.0.1 (are_joined ps h.1)))
+are_joined (p ∷ ps) h = grind (arith, common_steps, (spans-append p.text (joined_text ps) p.spans (joined_spans ps) p.value (joined_value ps) h.0 (are_joined ps h.1)))
 
 some_joined : (p : Piece) (ps : List Piece) → AllByRecursion IsAcceptedPiece (p ∷ ps) → joined_spans (p ∷ ps) ≢ []
 some_joined p ps h = some-append p.spans (joined_spans ps) h.0.0.1

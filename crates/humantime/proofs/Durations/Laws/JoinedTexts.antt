@@ -6,6 +6,7 @@ use Rattle.humantime.specs.Durations.Characters.{is_ws, bare_zero}
 use Rattle.humantime.specs.Durations.Spans.{Span, Only, Spells, SpellsEach, SpellsAll, Reads}
 use Rattle.humantime.specs.Durations.Accepted.{additions, value, Formed, fits, AllHaveRoom, Accepted, Bare_zero, Sum_of}
 use Rattle.humantime.specs.Durations.Faults.{NumberOverflow, HasFault}
+use Rattle.humantime.specs.Laws.Texts.{AcceptedAs}
 use Rattle.humantime.proofs.Durations.Reading.OneReading.{not_zero}
 use Rattle.humantime.proofs.Durations.Reading.Spellings.{spells-append}
 use Rattle.humantime.proofs.Durations.Reading.Settled.{additions-append, value-append, within_or_beyond}
@@ -40,11 +41,11 @@ pub record AreSpans (text : List ℕ) (spans : List Span) (v : ℕ) : Type 0 whe
   pub fit : AllByRecursion (λ s. fits s ≡ true) spans
   pub sum : value spans ≡ v
 
-pub are_spans : (text : List ℕ) (spans : List Span) (v : ℕ) → Reads text spans → Accepted text v → AreSpans text spans v
-are_spans text spans v h a = grind (arith, (accepted_spans text spans v h a))
+pub are_spans : (text : List ℕ) (spans : List Span) (v : ℕ) → AcceptedAs text spans v → AreSpans text spans v
+are_spans text spans v h = grind (arith, (accepted_spans text spans v h.0 h.1))
 
-pub spans-append : (a b : List ℕ) (ss ts : List Span) (u v : ℕ) → Reads a ss → Accepted a u → AreSpans b ts v → AreSpans (a ++ b) (ss ++ ts) (u + v)
-spans-append a b ss ts u v h x k = grind (arith, (are_spans a ss u h x), front-append, each-append, value-append)
+pub spans-append : (a b : List ℕ) (ss ts : List Span) (u v : ℕ) → AcceptedAs a ss u → AreSpans b ts v → AreSpans (a ++ b) (ss ++ ts) (u + v)
+spans-append a b ss ts u v h k = grind (arith, (are_spans a ss u h), front-append, each-append, value-append)
 
 -- such a text is accepted exactly where its additions have room
 pub room_accepts : (text : List ℕ) (spans : List Span) (v : ℕ) → spans ≢ [] → AreSpans text spans v → Accepted text v ↔ AllHaveRoom (additions spans)
@@ -62,18 +63,18 @@ no_room_overflows text spans v some h =
       λ none. items_decide_overflow text spans None (items_whole text spans reads h.formed) (not_zero text spans reads) (λ g. none g.room),
     )
 
-both_spans : (a b : List ℕ) (ss ts : List Span) (u v : ℕ) → Reads a ss → Reads b ts → Accepted a u → Accepted b v → AreSpans (a ++ b) (ss ++ ts) (u + v)
-both_spans a b ss ts u v h k x y = spans-append a b ss ts u v h x (are_spans b ts v k y)
+both_spans : (a b : List ℕ) (ss ts : List Span) (u v : ℕ) → AcceptedAs a ss u → AcceptedAs b ts v → AreSpans (a ++ b) (ss ++ ts) (u + v)
+both_spans a b ss ts u v h k = spans-append a b ss ts u v h (are_spans b ts v k)
 
-pub joined_sum : (a b : List ℕ) (ss ts : List Span) (u v : ℕ) → Reads a ss → Reads b ts → Accepted a u → Accepted b v
+pub joined_sum : (a b : List ℕ) (ss ts : List Span) (u v : ℕ) → AcceptedAs a ss u → AcceptedAs b ts v
     → Accepted (a ++ b) (u + v) ↔ AllHaveRoom (additions ss ++ additions ts)
-joined_sum a b ss ts u v h k x y =
-    rw (← additions-append ss ts) (room_accepts (a ++ b) (ss ++ ts) (u + v) (some-append ss ts h.1) (both_spans a b ss ts u v h k x y))
+joined_sum a b ss ts u v h k =
+    rw (← additions-append ss ts) (room_accepts (a ++ b) (ss ++ ts) (u + v) (some-append ss ts h.0.1) (both_spans a b ss ts u v h k))
 
-pub joined_overflow : (a b : List ℕ) (ss ts : List Span) (u v : ℕ) → Reads a ss → Reads b ts → Accepted a u → Accepted b v
+pub joined_overflow : (a b : List ℕ) (ss ts : List Span) (u v : ℕ) → AcceptedAs a ss u → AcceptedAs b ts v
     → HasFault (a ++ b) NumberOverflow ↔ ¬ (AllHaveRoom (additions ss ++ additions ts))
-joined_overflow a b ss ts u v h k x y =
-    rw (← additions-append ss ts) (no_room_overflows (a ++ b) (ss ++ ts) (u + v) (some-append ss ts h.1) (both_spans a b ss ts u v h k x y))
+joined_overflow a b ss ts u v h k =
+    rw (← additions-append ss ts) (no_room_overflows (a ++ b) (ss ++ ts) (u + v) (some-append ss ts h.0.1) (both_spans a b ss ts u v h k))
 
 pub joined_sum_or_overflow : (a b : List ℕ) (u v : ℕ) → Accepted a u → Accepted b v → a ≢ bare_zero → b ≢ bare_zero
     → Accepted (a ++ b) (u + v) ⊎ HasFault (a ++ b) NumberOverflow
@@ -81,7 +82,7 @@ joined_sum_or_overflow a b u v (Bare_zero z none) y some_a some_b = absurd (some
 joined_sum_or_overflow a b u v (Sum_of ss h g p) (Bare_zero z none) some_a some_b = absurd (some_b z)
 joined_sum_or_overflow a b u v (Sum_of ss h g p) (Sum_of ts k l q) some_a some_b =
     let some = some-append ss ts h.1 in
-    let both = both_spans a b ss ts u v h k (Sum_of ss h g p) (Sum_of ts k l q) in
+    let both = both_spans a b ss ts u v (h, Sum_of ss h g p) (k, Sum_of ts k l q) in
     elim (within_or_beyond (ss ++ ts) both.formed) [
       | inl g ↦ inl ((room_accepts (a ++ b) (ss ++ ts) (u + v) some both).1 g.room)
       | inr bad ↦ inr ((no_room_overflows (a ++ b) (ss ++ ts) (u + v) some both).1 (λ room. bad (record { formed = both.formed; fit = both.fit; room = room })))

@@ -13,5 +13,5 @@ pub printed_joined_sum : (d e : ℕ) (s t : List ℕ) → d / nanos_per_second �
 printed_joined_sum d e s t fits_d fits_e first second =
     let a = canon_printed d fits_d s first in
     let b = canon_printed e fits_e t second in
-    small_joined_sum (chars s) (chars t) a.spans b.spans d e a.reads b.reads
-    (canon_reads d fits_d s first) (canon_reads e fits_e t second) a.within.small b.within.small
+    small_joined_sum (chars s) (chars t) a.spans b.spans d e
+    (a.reads, canon_reads d fits_d s first) (b.reads, canon_reads e fits_e t second) a.within.small b.within.small

@@ -7,8 +7,9 @@ use Rattle.std.proofs.lemmas.List.Sums.{sum_by-cons, sum_by-append}
 use Rattle.humantime.specs.Values.{nanos_per_second}
 use Rattle.humantime.specs.Durations.Characters.{u64_max}
 use Rattle.humantime.specs.Durations.Units.{Addition, Nanos, Seconds}
-use Rattle.humantime.specs.Durations.Spans.{Span, Reads}
+use Rattle.humantime.specs.Durations.Spans.{Span}
 use Rattle.humantime.specs.Durations.Accepted.{addition_nanos, total, additions, room, AllHaveRoom, Accepted}
+use Rattle.humantime.specs.Laws.Texts.{AcceptedAs}
 use Rattle.humantime.proofs.Durations.Reading.Rooms.{RoomFrom, all_have_room, room_is_duration}
 use Rattle.humantime.proofs.Durations.Laws.Readings.{accepted_spans}
 use Rattle.humantime.proofs.Durations.Laws.JoinedTexts.{each-append, joined_sum}
@@ -30,13 +31,13 @@ pub small_have_room : (xs : List Addition) → AllByRecursion IsSmall xs → tot
 small_have_room xs small fits = all_have_room xs (room_from_small 0 xs small (grind (arith, common_steps)))
 
 -- accepted texts with small additions, one behind the other, are accepted with the sum exactly where it is a duration
-pub small_joined_sum : (a b : List ℕ) (ss ts : List Span) (u v : ℕ) → Reads a ss → Reads b ts → Accepted a u → Accepted b v
+pub small_joined_sum : (a b : List ℕ) (ss ts : List Span) (u v : ℕ) → AcceptedAs a ss u → AcceptedAs b ts v
     → AllByRecursion IsSmall (additions ss) → AllByRecursion IsSmall (additions ts)
     → Accepted (a ++ b) (u + v) ↔ ((u + v) / nanos_per_second ≤ u64_max)
-small_joined_sum a b ss ts u v h k x y small_ss small_ts =
-    let law = joined_sum a b ss ts u v h k x y in
+small_joined_sum a b ss ts u v h k small_ss small_ts =
+    let law = joined_sum a b ss ts u v h k in
     let all = additions ss ++ additions ts in
     let small = each-append IsSmall (additions ss) (additions ts) small_ss small_ts in
     let parts = sum_by-append addition_nanos (additions ss) (additions ts) in
-    let sum : total all ≡ u + v = omega (arith, parts, (accepted_spans a ss u h x).1, (accepted_spans b ts v k y).1) in
+    let sum : total all ≡ u + v = omega (arith, parts, (accepted_spans a ss u h.0 h.1).1, (accepted_spans b ts v k.0 k.1).1) in
     (λ accepted. rw sum at (room_is_duration all (law.0 accepted)), λ fits. law.1 (small_have_room all small (rw sum fits)))

@@ -7,7 +7,8 @@ use Rattle.std.specs.Str.Parse.{AllDigits}
 use Rattle.std.proofs.lemmas.Str.Parse.{digit_from_value}
 use Rattle.std.proofs.lemmas.Fmt.{decimal_is_IsNumeral}
 use Rattle.std.proofs.lemmas.Bool.Decides.{nat_tests}
-use Rattle.humantime.specs.Durations.Characters.{is_digit, is_numeric, begins, digits, decimal_value}
+use Rattle.humantime.specs.Texts.{begins, decimal_value}
+use Rattle.humantime.specs.Durations.Characters.{is_digit, is_numeric, digits}
 use Rattle.humantime.specs.Durations.Spans.{Only}
 use Rattle.humantime.proofs.Durations.Reading.Classes.{digit_is_numeric}
 

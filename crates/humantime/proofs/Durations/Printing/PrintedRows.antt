@@ -8,7 +8,8 @@ use lib.Utf8.{encode}
 use Rattle.std.proofs.lemmas.Str.{IsUtf8-from_is_utf8}
 use Rattle.std.proofs.lemmas.Bool.Decides.{nat_tests}
 use Rattle.humantime.specs.Values.{nanos_per_second}
-use Rattle.humantime.specs.Durations.Characters.{is_letter, begins}
+use Rattle.humantime.specs.Texts.{begins}
+use Rattle.humantime.specs.Durations.Characters.{is_letter}
 use Rattle.humantime.specs.Durations.Units.{Addition, Nanos, Seconds, Scale, scale_of_word}
 use Rattle.humantime.specs.Durations.Accepted.{addition_nanos, amount, is_some_and}
 use Rattle.humantime.specs.Durations.Spans.{Span, Only}

@@ -2,7 +2,8 @@
 use Rattle.std.proofs.lemmas.Grind.{common_steps}
 use Rattle.std.proofs.Common.{◌≡◌, ◌≢◌, ℕ, ◌≤◌, ◌<◌, Bool, true, false, List, [], ◌∷◌, ◌++◌, length, refl, ap, inl, inr, arith, length-append}
 use Rattle.std.proofs.lemmas.Bool.{cases_Bool}
-use Rattle.humantime.specs.Durations.Characters.{is_letter, leading, past, begins, ends}
+use Rattle.humantime.specs.Texts.{leading, past, begins, ends}
+use Rattle.humantime.specs.Durations.Characters.{is_letter}
 use Rattle.humantime.specs.Durations.Spans.{Only, IsLetters}
 
 pub leading-past : (p : ℕ → Bool) (cs : List ℕ) → leading p cs ++ past p cs ≡ cs

@@ -9,7 +9,8 @@ use Rattle.std.proofs.lemmas.Nat.{pow-add}
 use Rattle.std.proofs.lemmas.Nat.Gcd.{dvd_of_mod-eq-zero, mod-eq-zero_of_dvd}
 use Rattle.std.proofs.Math.Nat.{pow-suc, one-le-pow, mul_assoc, mul_right_comm, mul-div-mul_right, dvd_of_mul-dvd-mul_right, le-mul_of_pos_right}
 use Rattle.std.proofs.lemmas.List.{length-reverse, reverse-append, reverse-reverse}
-use Rattle.humantime.specs.Durations.Characters.{leading, past, decimal_value, significant}
+use Rattle.humantime.specs.Texts.{leading, past, decimal_value}
+use Rattle.humantime.specs.Durations.Characters.{significant}
 use Rattle.humantime.specs.Durations.Accepted.{is_whole_part}
 use Rattle.humantime.specs.Durations.Spans.{Only}
 use Rattle.humantime.proofs.Durations.Reading.Runs.{leading-past, Only-leading, past_shorter}

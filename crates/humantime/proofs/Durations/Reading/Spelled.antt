@@ -1,7 +1,8 @@
 -- What a spelling is read as: the longest runs of characters give back the span that it spells.
 use Rattle.std.proofs.Common.{◌≡◌, ◌≢◌, ◌⊎◌, ℕ, ◌≤◌, ◌<◌, true, false, List, [], ◌∷◌, ◌++◌, length, Option, Some, None, refl, sym, ap, ◌∙◌, inl, inr, arith, append_assoc, append-nil}
 use Rattle.std.proofs.lemmas.Bool.{false≢true}
-use Rattle.humantime.specs.Durations.Characters.{is_ws, is_digit, is_letter, is_numeric, leading, past, begins, ends, digits}
+use Rattle.humantime.specs.Texts.{leading, past, begins, ends}
+use Rattle.humantime.specs.Durations.Characters.{is_ws, is_digit, is_letter, is_numeric, digits}
 use Rattle.humantime.specs.Durations.Spans.{Span, Only, HoldsDigits, IsLetters, SpellsFraction, Spells}
 use Rattle.humantime.specs.Durations.Faults.{after_number, fraction_of, after_fraction, after_word, span_of, ends_span}
 use Rattle.humantime.specs.References.Durations.Lending.{fraction_at, past_fraction}

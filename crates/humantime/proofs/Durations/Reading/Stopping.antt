@@ -2,7 +2,8 @@
 use Rattle.std.proofs.lemmas.Grind.{common_steps}
 use Rattle.std.proofs.Common.{◌≡◌, ◌≢◌, ◌⊎◌, ℕ, true, false, List, [], Some, None, arith}
 use Rattle.std.specs.Option.{IsSome}
-use Rattle.humantime.specs.Durations.Characters.{is_ws, is_digit, begins, ends}
+use Rattle.humantime.specs.Texts.{begins, ends}
+use Rattle.humantime.specs.Durations.Characters.{is_ws, is_digit}
 use Rattle.humantime.specs.Durations.Units.{scale_of_word}
 use Rattle.humantime.specs.Durations.Spans.{Span}
 use Rattle.humantime.specs.Durations.Accepted.{too_long}

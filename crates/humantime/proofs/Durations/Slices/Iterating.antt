@@ -1,7 +1,8 @@
 -- One step over the items of a text.
 use Rattle.std.proofs.lemmas.Grind.{common_steps}
 use Rattle.std.proofs.Common.{◌≡◌, ◌≢◌, ℕ, Bool, true, false, List, [], ◌∷◌, Some, None, Result, Ok, Err, if◌then◌else◌, ap, arith}
-use Rattle.humantime.specs.Durations.Characters.{is_ws, is_digit, begins, past, offset_of}
+use Rattle.humantime.specs.Texts.{begins, past}
+use Rattle.humantime.specs.Durations.Characters.{is_ws, is_digit, offset_of}
 use Rattle.humantime.specs.Durations.Faults.{stop_at, Fault, NumberExpected, Empty, after_word}
 use Rattle.humantime.specs.Durations.Items.{Lent}
 use Rattle.humantime.specs.References.Durations.Lending.{lent_at, lent_on, left_at}

@@ -2,7 +2,8 @@
 use Rattle.std.proofs.lemmas.Grind.{common_steps}
 use Rattle.std.proofs.Common.{◌≡◌, ◌≢◌, ◌++◌, IsUtf8, chars, encode_utf8_all, arith, ℕ, Bool, true, List, [], ◌∷◌, map, Option, Result, Ok, Err, refl, sym, ap, ap₂, ◌∙◌}
 use Rattle.std.proofs.lemmas.Str.{encodes-chars, encode_ascii}
-use Rattle.humantime.specs.Durations.Characters.{is_ws, past, bare_zero}
+use Rattle.humantime.specs.Texts.{past}
+use Rattle.humantime.specs.Durations.Characters.{is_ws, bare_zero}
 use Rattle.humantime.specs.Durations.Spans.{Span}
 use Rattle.humantime.specs.Durations.Faults.{span_of, Fault}
 use Rattle.humantime.specs.References.Durations.Reading.{Walk, walk_of, items, settle}

@@ -4,7 +4,8 @@ use Rattle.std.proofs.Math.Bool.{and-false}
 use Rattle.std.proofs.lemmas.Grind.{common_steps}
 use Rattle.std.specs.Str.{drop_trailing_whitespace}
 use Rattle.std.proofs.lemmas.List.{append_cancel_left}
-use Rattle.humantime.specs.Durations.Characters.{is_ws, is_digit, is_letter, begins, ends, past}
+use Rattle.humantime.specs.Texts.{begins, ends, past}
+use Rattle.humantime.specs.Durations.Characters.{is_ws, is_digit, is_letter}
 use Rattle.humantime.specs.Durations.Spans.{Span, Only, SpellsFraction}
 use Rattle.humantime.specs.Durations.Faults.{after_number, after_fraction}
 use Rattle.humantime.specs.Durations.Items.{Lent, IsDigitSlice, LendsFraction, IsLent, LendsEach}

@@ -1,7 +1,8 @@
 -- What spans lend, read from left to right: the plain reference for the iterator over them.
 use Rattle.std.specs.Prelude.{ℕ, Bool, List, Option, map, option_map, unwrap_or, Result, Ok, Err}
 use Rattle.std.specs.Str.{drop_trailing_whitespace}
-use Rattle.humantime.specs.Durations.Characters.{is_ws, is_numeric, leading, past, digits, decimal_value, offset_of}
+use Rattle.humantime.specs.Texts.{leading, past, decimal_value}
+use Rattle.humantime.specs.Durations.Characters.{is_ws, is_numeric, digits, offset_of}
 use Rattle.humantime.specs.Durations.Spans.{Span}
 use Rattle.humantime.specs.Durations.Faults.{number_of, after_number, behind_point, word_of, after_word, Fault}
 use Rattle.humantime.specs.References.Durations.Reading.{Walk, walk_from, walk_of, settle}

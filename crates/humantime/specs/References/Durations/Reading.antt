@@ -1,7 +1,8 @@
 -- Reading from left to right: the plain reference, which private functions meet. Theorems of proofs/ tie it to the
 -- definitions of Spans and Faults.
 use Rattle.std.specs.Prelude.{ℕ, zero, suc, ◌+◌, Bool, true, false, List, [], ◌∷◌, length, Option, Some, None, Result, Ok, Err, if◌then◌else◌, map}
-use Rattle.humantime.specs.Durations.Characters.{is_ws, past}
+use Rattle.humantime.specs.Texts.{past}
+use Rattle.humantime.specs.Durations.Characters.{is_ws}
 use Rattle.humantime.specs.Durations.Units.{Addition}
 use Rattle.humantime.specs.Durations.Spans.{Span}
 use Rattle.humantime.specs.Durations.Accepted.{addition_nanos, additions_of, fits, room}

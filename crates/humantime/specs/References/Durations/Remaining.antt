@@ -4,7 +4,8 @@ use Rattle.std.specs.Iterator.{YieldsFirstBy}
 use Rattle.humantime.specs.declared.duration.error.DurationError.{DurationError}
 use Rattle.humantime.specs.declared.duration.reading.span.Span.{Span}
 use Rattle.humantime.specs.declared.duration.reading.iter.SpanIter.{SpanIter}
-use Rattle.humantime.specs.Durations.Characters.{is_ws, past}
+use Rattle.humantime.specs.Texts.{past}
+use Rattle.humantime.specs.Durations.Characters.{is_ws}
 use Rattle.humantime.specs.Durations.Faults.{Fault}
 use Rattle.humantime.specs.Durations.Items.{Lent}
 use Rattle.humantime.specs.References.Durations.Lending.{left_at}

@@ -5,7 +5,8 @@ use Rattle.humantime.specs.declared.unit.Unit.TheVariants.{Nanosecond, Microseco
 use Rattle.humantime.specs.declared.duration.reading.amount.Fraction.{Fraction}
 use Rattle.humantime.specs.declared.duration.reading.amount.Amount.{Amount}
 use Rattle.humantime.specs.Values.{nanos_per_micro, nanos_per_milli, seconds_per_minute, seconds_per_hour, seconds_per_day, seconds_per_week, seconds_per_month, seconds_per_year}
-use Rattle.humantime.specs.Durations.Characters.{decimal_value, significant}
+use Rattle.humantime.specs.Texts.{decimal_value}
+use Rattle.humantime.specs.Durations.Characters.{significant}
 use Rattle.humantime.specs.Durations.Units.{Scale, whole_nanos, in_nanos, in_seconds_and_nanos, in_seconds, scale_of_word}
 use Rattle.humantime.specs.Durations.Spans.{Span}
 

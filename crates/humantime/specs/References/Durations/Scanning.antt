@@ -2,7 +2,8 @@
 use Rattle.std.specs.Prelude.{◌≡◌, ◌==◌, ◌≤◌, ◌<◌, ◌+◌, ◌^◌, ℕ, ◌-◌, ◌++◌, Bool, true, false, List, [], ◌∷◌, length, drop, Option, Some, None, option_map, nat_lt, if◌then◌else◌, IsUtf8}
 use Rattle.std.specs.Char.{len_utf8}
 use Rattle.humantime.specs.declared.duration.reading.amount.Fraction.{Fraction}
-use Rattle.humantime.specs.Durations.Characters.{is_ws, is_numeric, is_point, begins, leading, decimal_value, significant, u64_max}
+use Rattle.humantime.specs.Texts.{begins, leading, decimal_value}
+use Rattle.humantime.specs.Durations.Characters.{is_ws, is_numeric, is_point, significant, u64_max}
 use Rattle.humantime.specs.Durations.Faults.{number_of, after_number}
 pub use Rattle.humantime.specs.Durations.Faults.{ends_span}
 use Rattle.humantime.specs.Durations.Accepted.{is_some_and}

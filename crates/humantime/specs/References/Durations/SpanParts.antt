@@ -2,7 +2,8 @@
 use Rattle.std.specs.Prelude.{◌≡◌, ℕ, false, List, Option, Some, None, Result, Ok, Err, option_map, chars, if◌then◌else◌, drop}
 use Rattle.humantime.specs.declared.duration.error.DurationError.{DurationError}
 use Rattle.humantime.specs.declared.duration.reading.span.Span.{Span}
-use Rattle.humantime.specs.Durations.Characters.{is_numeric, is_point, begins, leading, decimal_value}
+use Rattle.humantime.specs.Texts.{begins, leading, decimal_value}
+use Rattle.humantime.specs.Durations.Characters.{is_numeric, is_point}
 use Rattle.humantime.specs.Durations.Faults.{number_of, after_number, fraction_of, after_fraction, word_of, after_word, span_of, Fault}
 use Rattle.humantime.specs.Durations.Errors.{fault_of}
 use Rattle.humantime.specs.References.Durations.Lending.{lent_at}

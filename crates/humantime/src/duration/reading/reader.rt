@@ -39,6 +39,7 @@ pub(crate) fn span_at<'a>(
     let Some((fraction, digits, after_fraction)) = read_fraction(after_number) else {
         return Err(DurationError::NumberOverflow);
     };
+    // Told before the word is read, so that the numbers it comes from need not be kept until then.
     let bare = matches!(fraction, Some(digits) if digits.all == 0);
     let (word, after_word) = read_word(after_fraction);
     let (start, end) = (offset_of(text, rest), offset_of(text, after_word));

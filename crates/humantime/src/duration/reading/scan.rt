@@ -1,7 +1,8 @@
 //! Steps over a text: the class of a character, white space, a number, a fraction, a word.
 
 ghost use Rattle.std.specs.Prelude.{◌≡◌, ◌-◌, ◌+◌, ◌<◌, SomeIff, drop, length, chars, option_map, IfSome, ◌≤◌, ◌==◌, ◌&&◌, ◌||◌, take, reverse, IsCharBoundary};
-ghost use Rattle.humantime.specs.Durations.Characters.{is_digit, is_ws, begins, past, offset_of, is_letter, leading};
+ghost use Rattle.humantime.specs.Texts.{begins, past, leading};
+ghost use Rattle.humantime.specs.Durations.Characters.{is_digit, is_ws, offset_of, is_letter};
 ghost use Rattle.humantime.specs.Durations.Errors.{IsPlaceIn};
 ghost use Rattle.humantime.specs.References.Durations.Scales.{parts_of};
 ghost use Rattle.humantime.specs.References.Durations.Scanning.{IsTail, space_width, number_at, digits_at, fraction_read, IsCut};

@@ -1,7 +1,8 @@
 use Rattle.std.proofs.Common.{◌≢◌, [], sym, ap, ◌∙◌, chars, arith}
 use Rattle.std.proofs.lemmas.Grind.{common_steps}
 use Rattle.std.proofs.lemmas.Str.{encodes-chars}
-use Rattle.humantime.specs.Durations.Characters.{is_letter, leading}
+use Rattle.humantime.specs.Texts.{leading}
+use Rattle.humantime.specs.Durations.Characters.{is_letter}
 use Rattle.humantime.specs.Durations.Units.{scale_of_word}
 use Rattle.humantime.specs.References.Durations.Scales.{scale_of}
 use Rattle.humantime.proofs.Durations.Slices.Places.{some_bytes, rest_place, part_of_rests, bad_some}

@@ -1,6 +1,7 @@
 use Rattle.std.proofs.Common.{◌≡◌, ◌-◌, length, drop, IsCharBoundary}
 use Rattle.std.specs.Str.{chars}
-use Rattle.humantime.specs.Durations.Characters.{is_letter, past}
+use Rattle.humantime.specs.Texts.{past}
+use Rattle.humantime.specs.Durations.Characters.{is_letter}
 use Rattle.humantime.proofs.Durations.Bytes.WordKeys.{IsSoFar}
 use Rattle.humantime.proofs.duration.reading.scan.letters_end.Given as goal
 

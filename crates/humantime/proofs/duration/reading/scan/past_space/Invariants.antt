@@ -1,6 +1,7 @@
 use Rattle.std.proofs.Common.{◌≡◌, ◌-◌, length, drop, IsCharBoundary}
 use Rattle.std.specs.Str.{chars}
-use Rattle.humantime.specs.Durations.Characters.{is_ws, past}
+use Rattle.humantime.specs.Texts.{past}
+use Rattle.humantime.specs.Durations.Characters.{is_ws}
 use Rattle.humantime.proofs.duration.reading.scan.past_space.Given as goal
 
 abbrev pub invariant-loop-at : goal.invariant-loop-at

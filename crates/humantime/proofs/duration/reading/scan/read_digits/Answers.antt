@@ -1,6 +1,7 @@
 use Rattle.std.proofs.lemmas.Grind.{common_steps}
 use Rattle.std.proofs.Common.{◌≡◌, ◌+◌, ◌++◌, ◌∷◌, [], get_or, sym, ap, ◌∙◌, chars, take, drop, false, arith, length-append, append_assoc}
-use Rattle.humantime.specs.Durations.Characters.{is_numeric, begins}
+use Rattle.humantime.specs.Texts.{begins}
+use Rattle.humantime.specs.Durations.Characters.{is_numeric}
 use Rattle.humantime.specs.Durations.Faults.{number_of}
 use Rattle.humantime.proofs.Durations.Reading.Classes.{digit_is}
 use Rattle.humantime.proofs.Durations.Bytes.Numbers.{none_read, read_digit, read_space, stops_here, all_read}

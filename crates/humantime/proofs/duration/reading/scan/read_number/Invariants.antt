@@ -1,5 +1,6 @@
 use Rattle.std.proofs.Common.{◌≡◌, ◌≤◌, ◌-◌, ℕ, List, length}
-use Rattle.humantime.specs.Durations.Characters.{decimal_value, u64_max}
+use Rattle.humantime.specs.Texts.{decimal_value}
+use Rattle.humantime.specs.Durations.Characters.{u64_max}
 use Rattle.humantime.proofs.Durations.Bytes.Numbers.{IsRead}
 use Rattle.humantime.proofs.duration.reading.scan.read_number.Given as goal
 
