@@ -1,3 +1,4 @@
+pub mod FirstFaults
 pub mod Kept
 pub mod WorkedCharacters
 pub mod WorkedPrinted

@@ -1,9 +1,10 @@
 //! Callers that use what an error says of its text: its offsets, its unit, its fault and its message.
 
-ghost use Rattle.std.specs.Prelude.{◌≡◌, ◌++◌, ℕ, List, [], None, Some, Err, chars, codes, decimal, true, IfOk, string_bytes};
-ghost use Rattle.humantime.specs.Prelude.{Empty, InvalidCharacter, NumberExpected, NumberOverflow, UnknownUnit, duration_answer, fault_of};
+ghost use Rattle.std.specs.Prelude.{◌≡◌, ◌↔◌, ◌++◌, ℕ, List, [], None, Some, Err, chars, codes, decimal, true, IfOk, string_bytes};
+ghost use Rattle.humantime.specs.Prelude.{Empty, Fault, InvalidCharacter, NumberExpected, NumberOverflow, UnknownUnit, duration_answer, fault_of, told};
+ghost use Rattle.humantime_tests.specs.FirstFaults.{IsFirstFault};
 
-use humantime::{DurationError, parse_duration, spans};
+use humantime::{DurationError, StdDuration, parse_duration, spans};
 use std::alloc::{AllocError, Global};
 
 /// Whether the error of a text points into it: its unit is the slice between its offsets.
@@ -63,6 +64,13 @@ pub fn place(text: &str) -> Option<usize>
         Err(DurationError::UnknownUnit { start, .. }) => Some(start),
         _ => None,
     }
+}
+
+/// The duration that a text spells, or else its fault by the table of first faults.
+pub fn read_by_rows(text: &str) -> Result<StdDuration, DurationError<'_>>
+    ensures { (e : Fault) → (told result ≡ Err e) ↔ IsFirstFault (chars text.now) e }
+{
+    parse_duration(text)
 }
 
 /// The message of an error.

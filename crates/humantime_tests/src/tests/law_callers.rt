@@ -6,7 +6,7 @@ use crate::law_callers::durations::{
     is_one_duration, is_one_value, is_settled, is_short, is_still_read, keeps_its_value,
     read_alike, read_as_before, reads_back, sum_of, two_walks, whole_seconds,
 };
-use crate::law_callers::errors::{message, place, points_into, second_points_into};
+use crate::law_callers::errors::{message, place, points_into, read_by_rows, second_points_into};
 use crate::tests::support::assert_same;
 use humantime::{DurationError, Span, StdDuration};
 
@@ -35,6 +35,7 @@ fn callers_of_laws_of_durations_answer(rt: HostRuntime) {
         assert_same(&rt, whole_seconds(text).ok(), Some(secs));
         assert_same(&rt, read_as_before(text).ok(), Some(duration));
         assert_same(&rt, is_still_read(text), true);
+        assert_same(&rt, read_by_rows(text).ok(), Some(duration));
         assert_same(&rt, canonical_text(duration, &mut [0; 64]), canon);
         assert_same(&rt, reads_back(canon, duration), true);
         assert_same(
@@ -53,6 +54,7 @@ fn callers_of_laws_of_durations_answer(rt: HostRuntime) {
             (true, true),
         );
         let error = decided(text).err().expect(&rt, text);
+        assert_same(&rt, read_by_rows(text).err(), Some(error));
         if let Ok(string) = message(rt.alloc(), &error) {
             assert_same(&rt, string.as_str(), shown);
         }
