@@ -33,6 +33,7 @@ rows =
     ∷ row (codes "1.") (Err (InvalidCharacter 1))
     ∷ row (codes "1. s") (Err (InvalidCharacter 1))
     ∷ row (codes "1..s") (Err (InvalidCharacter 2))
+    ∷ row (codes "1.foo~") (Err (InvalidCharacter 1))
     ∷ row (codes "1foo~") (Err (InvalidCharacter 4))
     ∷ row (codes "1.5") (Err (UnknownUnit 3 3 [] 1))
     ∷ row (codes "1foo ~") (Err (UnknownUnit 1 4 (codes "foo") 1))
