@@ -136,10 +136,10 @@ fn assert_unit_named(rt: &impl Abort, text: &str, unit: &str) {
 
 #[test]
 fn units_of_each_length_are_named(rt: HostRuntime) {
-    let letters = [b'x'; 64];
-    let mut spelled = [b'x'; 65];
+    let letters = [b'x'; 120];
+    let mut spelled = [b'x'; 121];
     spelled[0] = b'1';
-    for length in 1..65 {
+    for length in 1..121 {
         let unit = str::from_utf8(&letters[..length]).unwrap_or("");
         let text = str::from_utf8(&spelled[..length + 1]).unwrap_or("");
         assert_unit_named(&rt, text, unit);
