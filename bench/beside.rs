@@ -214,6 +214,73 @@ macro_rules! read_duration {
     }};
 }
 
+/// Numbers that look random, the same in each run.
+struct Numbers(u64);
+
+impl Numbers {
+    fn below(&mut self, end: u64) -> u64 {
+        self.0 ^= self.0 << 13;
+        self.0 ^= self.0 >> 7;
+        self.0 ^= self.0 << 17;
+        (self.0 >> 8) % end
+    }
+}
+
+const TEXTS: usize = 1_000;
+
+/// Texts of durations below 2^34 seconds, as the crate prints them: half of them whole seconds, short ones as often as long ones.
+fn texts_of_durations() -> Vec<String> {
+    let mut numbers = Numbers(0x9E37_79B9_7F4A_7C15);
+    let mut text = || {
+        let most = 1 << (1 + numbers.below(34));
+        let secs = numbers.below(most);
+        let nanos = numbers.below(2) * numbers.below(1_000_000_000);
+        humantime::format_duration(Duration::new(secs, nanos as u32)).to_string()
+    };
+    (0..TEXTS).map(|_| text()).collect()
+}
+
+/// Texts of moments of 1970 to 9999, as the crate prints them, with 0, 3, 6 or 9 digits after the second.
+fn texts_of_moments() -> Vec<String> {
+    let mut numbers = Numbers(0x9E37_79B9_7F4A_7C15);
+    let mut text = || {
+        let secs = numbers.below(253_402_300_800);
+        let moment = UNIX_EPOCH + Duration::new(secs, numbers.below(1_000_000_000) as u32);
+        match numbers.below(4) {
+            0 => humantime::format_rfc3339_seconds(moment).to_string(),
+            1 => humantime::format_rfc3339_millis(moment).to_string(),
+            2 => humantime::format_rfc3339_micros(moment).to_string(),
+            _ => humantime::format_rfc3339_nanos(moment).to_string(),
+        }
+    };
+    (0..TEXTS).map(|_| text()).collect()
+}
+
+/// One text after the other, by each side in turn.
+macro_rules! read_texts {
+    ($name:expr, $texts:expr, $zero:expr, $by_crate:ident, $by_library:ident) => {{
+        let texts: &[String] = $texts;
+        let (mut place, mut crate_place) = (Answer::default(), $zero);
+        let (mut of_crate, mut of_library) = (texts.iter().cycle(), texts.iter().cycle());
+        race(
+            $name,
+            || {
+                if let Some(text) = of_crate.next() {
+                    $by_crate(black_box(text), &mut crate_place);
+                }
+                black_box(&crate_place);
+            },
+            || {
+                if let Some(text) = of_library.next() {
+                    let text = black_box(text);
+                    unsafe { $by_library(text.as_ptr(), text.len(), &mut place) };
+                }
+                black_box(&place);
+            },
+        );
+    }};
+}
+
 /// `spans` has no match in the crate; it stands beside the crate's reading of the same text.
 macro_rules! walk_spans {
     ($name:expr, $text:expr) => {{
@@ -367,6 +434,13 @@ fn durations() {
     read_duration!("refuse `12 34`", "12 34");
     read_duration!("refuse `1h x`", "1h x");
     read_duration!("refuse `20000000000000000000s`", "20000000000000000000s");
+    let texts = texts_of_durations();
+    for text in &texts {
+        let mut place = Answer::default();
+        unsafe { library_read_duration(text.as_ptr(), text.len(), &mut place) };
+        assert_eq!((place.kind, place.value, place.nanos, place.start, place.end), duration_answer(text));
+    }
+    read_texts!("read random durations", &texts, Ok(Duration::ZERO), crate_read_duration, library_read_duration);
     for (size, spans, others) in [("a tenth of a megabyte", 34_952, 104_856), ("a megabyte", 349_525, 1_048_575)] {
         read_duration!(&format!("read {size} of `1h `"), &"1h ".repeat(spans));
         read_duration!(&format!("refuse {size} of `1h `, and `~`"), &format!("{}~", "1h ".repeat(spans)));
@@ -418,6 +492,14 @@ fn timestamps() {
     read_both!("refuse", "`2018-02-1xT00:28:07Z`", "2018-02-1xT00:28:07Z");
     read_both!("refuse", "`2018-02-30T00:28:07Z`", "2018-02-30T00:28:07Z");
     read_both!("refuse", "`2018-02-14T00:28:07.13x3Z`", "2018-02-14T00:28:07.13x3Z");
+    let texts = texts_of_moments();
+    for text in &texts {
+        let mut place = Answer::default();
+        unsafe { library_read_strict(text.as_ptr(), text.len(), &mut place) };
+        assert_eq!((place.kind, place.secs, place.nanos), moment_answer(humantime::parse_rfc3339(text)));
+    }
+    read_texts!("read random moments, strict", &texts, Ok(UNIX_EPOCH), crate_read_strict, library_read_strict);
+    read_texts!("read random moments, weak", &texts, Ok(UNIX_EPOCH), crate_read_weak, library_read_weak);
     let long = format!("2018-02-14T00:28:07.{}Z", "1".repeat(1_000_000));
     read_both!("read", "a megabyte of fraction", &long);
     let (secs, nanos) = (1_518_563_287, 123_456_789);
