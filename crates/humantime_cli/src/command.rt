@@ -1,6 +1,6 @@
 //! What the program does with its words.
 
-ghost use Rattle.std.specs.Prelude.{◌≡◌, ℕ, List, Result, Some, Ok, Err, IfOk, false};
+ghost use Rattle.std.specs.Prelude.{◌≡◌, ◌<◌, ℕ, List, Result, Some, Ok, Err, IfOk, false};
 ghost use Rattle.std.specs.Result.{is_err, result_map_both, result_unwrap_or};
 ghost use Rattle.humantime.specs.Prelude.{IsPrintable, told_text, fault_message};
 ghost use Rattle.humantime_cli.specs.Answers.{texts, Ends, EndsWith, OneAnswer, TellsMoment};
@@ -59,6 +59,7 @@ fn answer_words<O: Stream, E: Stream>(
     requires { failed.old ≡ false }
     ensures ends { Ends (texts words.now) (result_unwrap_or result 3) (O.contents out.old) (O.contents out.new) (E.contents err.old) (E.contents err.new) }
     ensures noted { failed.new ≡ is_err result }
+    ensures status { IfOk result (λ status. status < 3) }
 {
     match words {
         ["duration", text] => answer_duration(canonical(text, &mut [0; 64]), out, err, failed),
@@ -79,6 +80,7 @@ fn answer_duration<O: Stream, E: Stream>(
     ensures ends { EndsWith (Some (result_map_both (λ text. text) fault_message (told_text read.entry))) (result_unwrap_or result 3)
         (O.contents out.old) (O.contents out.new) (E.contents err.old) (E.contents err.new) }
     ensures noted { failed.new ≡ is_err result }
+    ensures status { IfOk result (λ status. status < 3) }
 {
     match read {
         Ok(printed) => write_line(out, &[printed], ACCEPTED, failed),
@@ -101,6 +103,7 @@ fn answer_moment<O: Stream, E: Stream>(
     ensures ends { (told : Result (List ℕ) (List ℕ)) × TellsMoment (λ moment. read ≡ Ok moment) (λ error. read ≡ Err error) told
         × EndsWith (Some told) (result_unwrap_or result 3) (O.contents out.old) (O.contents out.new) (E.contents err.old) (E.contents err.new) }
     ensures noted { failed.new ≡ is_err result }
+    ensures status { IfOk result (λ status. status < 3) }
 {
     match read {
         Ok(moment) => match format_rfc3339(moment).text(&mut [0; 30]) {
