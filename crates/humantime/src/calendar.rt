@@ -94,6 +94,17 @@ fn days_before_month(year: u32, month: u32) -> u32
     }
 }
 
+/// The days from 1970-01-01 to the first of this month.
+#[inline(always)]
+#[tactic(auto, using(crate::proofs::Dates::Years::days_counted))]
+pub(crate) fn days_before(year: u32, month: u32) -> u32
+    requires year { IsInRange 1970 9999 year }
+    requires month { IsInRange 1 12 month }
+    ensures { result ≡ days_of_years (year - 1970) + days_of_months year (month - 1) }
+{
+    days_before_year(year) + days_before_month(year, month)
+}
+
 /// The number of days from 1970-01-01 to the date, or `None` where no such date exists in 1970 to 9999.
 ///
 /// The leap days before a year are counted by a formula, and the days before a month by a table. No loop
@@ -117,7 +128,7 @@ pub fn day_number(date: Date, turns: &mut Turns) -> Option<u32>
     if date.day < 1 || date.day > month_length(date.year, date.month) {
         return None;
     }
-    Some(days_before_year(date.year) + days_before_month(date.year, date.month) + date.day - 1)
+    Some(days_before(date.year, date.month) + date.day - 1)
 }
 
 /// The year that holds this day, of the years that begin on 1 March, from 1600 on, and the day's place in it.

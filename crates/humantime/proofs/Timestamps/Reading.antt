@@ -5,7 +5,9 @@ pub mod Ends
 pub mod Exits
 pub mod Fractions
 pub mod Lanes
+pub mod Numbers
 pub mod Passed
 pub mod Places
 pub mod Shown
-pub mod Steps
+pub mod Threes
+pub mod Usual

@@ -1,32 +1,21 @@
 //! The parsers of timestamps.
 
-ghost use Rattle.std.specs.Prelude.{◌≡◌, ◌+◌, ◌/◌, ◌^◌, ◌<◌, ◌≤◌, ◌↔◌, ◌&&◌, if◌then◌else◌, length, slice_range, IsTrue, IsFalse, IsSome, IfSome, IfNone, Ok, Err, Some, None, ℤ, codes};
-ghost use Rattle.std.specs.Str.{bytes_eq, all_ascii_digits};
+ghost use Rattle.std.specs.Prelude.{◌≡◌, ◌+◌, ◌-◌, ◌*◌, ◌^◌, ◌<◌, ◌≤◌, ◌↔◌, ◌&&◌, length, drop, min, IsTrue, IfSome, Ok, Err, Some, ℤ, codes};
+ghost use Rattle.std.specs.Char.{is_ascii_digit};
+ghost use Rattle.std.specs.List.{list_all};
+ghost use Rattle.std.specs.Str.{bytes_eq};
 ghost use Rattle.humantime.specs.declared.date.error.TimestampError.{TimestampError};
-ghost use Rattle.humantime.specs.Timestamps.Fields.{zone_text, fraction_nanos, seconds_of, IsWeakMoment, IsStrictMoment};
-ghost use Rattle.humantime.specs.Timestamps.Checks.{zone_of, number_between, numbers_of, are_in_range, first_failed, weak_checks, strict_checks};
-ghost use Rattle.humantime.specs.References.Timestamps.Reading.{weak_answer, strict_answer, fraction_answer, IsRead};
+ghost use Rattle.humantime.specs.Timestamps.Fields.{zone_text, IsWeakMoment, IsStrictMoment};
+ghost use Rattle.humantime.specs.Timestamps.Checks.{zone_of, numbers_of, are_in_range, fraction_part, first_failed, weak_checks, strict_checks};
+ghost use Rattle.humantime.specs.References.Timestamps.Reading.{weak_answer, strict_answer, fraction_answer, numbers_in, seconds_found, nanos_found, in_threes, AreShort};
 ghost use Rattle.humantime.specs.Timestamps.Checks;
 ghost use Rattle.humantime.specs.References.Timestamps.Reading as Reading;
 
-use crate::calendar::{Date, day_number};
+use crate::calendar::{Date, day_number, days_before};
 use crate::date::error::TimestampError;
 use crate::turns::Turns;
 use crate::value::SystemTime;
 use std::simd::prelude::*;
-
-/// How many nanoseconds a 1 at each of the nine places of a fraction counts.
-static WEIGHTS: [u32; 9] = [
-    100_000_000,
-    10_000_000,
-    1_000_000,
-    100_000,
-    10_000,
-    1_000,
-    100,
-    10,
-    1,
-];
 
 /// The least byte at each of the first sixteen places, where a space stands for any byte.
 const LEAST: [u8; 16] = *b"0000-00-00 00:00";
@@ -34,14 +23,78 @@ const LEAST: [u8; 16] = *b"0000-00-00 00:00";
 /// How far a byte may be above it: a digit up to nine, and a sign not at all.
 const MOST_ABOVE: [u8; 16] = [9, 9, 9, 9, 0, 9, 9, 0, 9, 9, 255, 9, 9, 0, 9, 9];
 
-/// What `0` adds to a number of two digits, where each byte counts as it stands.
-const TWO_ZEROS: u32 = 11 * b'0' as u32;
+/// The least byte at each of the sixteen places from the fourth on.
+const LEAST_BACK: [u8; 16] = *b"0-00-00 00:00:00";
 
-/// And to one of three.
-const THREE_ZEROS: u32 = 111 * b'0' as u32;
+/// How far a byte may be above it: any byte may stand where the first sixteen places have tested it.
+const MOST_ABOVE_BACK: [u8; 16] = [
+    255, 255, 255, 255, 255, 255, 255, 255, 255, 255, 255, 255, 255, 0, 9, 9,
+];
 
-/// And to one of four.
-const FOUR_ZEROS: u32 = 1_111 * b'0' as u32;
+/// What each of the first sixteen bytes counts in the number of its four: a tenth of the year, month, day and minute.
+const WEIGHTS_FRONT: [u8; 16] = [100, 10, 1, 0, 0, 10, 1, 0, 10, 1, 0, 0, 0, 0, 10, 1];
+
+/// And each of those from the fourth on: the year's last digit, nothing, hour and second.
+const WEIGHTS_BACK: [u8; 16] = [1, 0, 0, 0, 0, 0, 0, 0, 10, 1, 0, 0, 0, 0, 10, 1];
+
+/// The least of the numbers at the front in a usual date and time.
+const FIRST: [u32; 4] = [197, 1, 1, 0];
+
+/// How far each may be above it: each month has 28 days.
+const MOST_AFTER: [u32; 4] = [802, 11, 27, 59];
+
+/// The greatest of the numbers at the back.
+const MOST_BACK: [u32; 4] = [9, 0, 23, 60];
+
+/// The same, where second 60 is read as 59.
+const MOST_READ: [u32; 4] = [9, 0, 23, 59];
+
+/// How many seconds a 1 counts in each of the numbers at the front, year and month apart.
+const SECONDS: [u32; 4] = [0, 0, 86_400, 60];
+
+/// And in each of those at the back.
+const SECONDS_BACK: [u32; 4] = [0, 0, 3_600, 1];
+
+/// Which of sixteen numbers stand at the places of nine digits, three to four lanes, by how many of the last ones are
+/// digits. At the other places 255 stands for a 0.
+static PLACES: [[u8; 16]; 10] = [
+    [
+        255, 255, 255, 255, 255, 255, 255, 255, 255, 255, 255, 255, 255, 255, 255, 255,
+    ],
+    [
+        15, 255, 255, 255, 255, 255, 255, 255, 255, 255, 255, 255, 255, 255, 255, 255,
+    ],
+    [
+        14, 15, 255, 255, 255, 255, 255, 255, 255, 255, 255, 255, 255, 255, 255, 255,
+    ],
+    [
+        13, 14, 15, 255, 255, 255, 255, 255, 255, 255, 255, 255, 255, 255, 255, 255,
+    ],
+    [
+        12, 13, 14, 255, 15, 255, 255, 255, 255, 255, 255, 255, 255, 255, 255, 255,
+    ],
+    [
+        11, 12, 13, 255, 14, 15, 255, 255, 255, 255, 255, 255, 255, 255, 255, 255,
+    ],
+    [
+        10, 11, 12, 255, 13, 14, 15, 255, 255, 255, 255, 255, 255, 255, 255, 255,
+    ],
+    [
+        9, 10, 11, 255, 12, 13, 14, 255, 15, 255, 255, 255, 255, 255, 255, 255,
+    ],
+    [
+        8, 9, 10, 255, 11, 12, 13, 255, 14, 15, 255, 255, 255, 255, 255, 255,
+    ],
+    [
+        7, 8, 9, 255, 10, 11, 12, 255, 13, 14, 15, 255, 255, 255, 255, 255,
+    ],
+];
+
+/// What each digit counts in the number of its three.
+const WEIGHTS_THREE: [u8; 16] = [100, 10, 1, 0, 100, 10, 1, 0, 100, 10, 1, 0, 0, 0, 0, 0];
+
+/// How many nanoseconds a 1 counts in each of the three numbers.
+const NANOS: [u32; 4] = [1_000_000, 1_000, 1, 0];
 
 /// The numbers of a date and a time of day.
 #[derive(Clone, Copy)]
@@ -50,6 +103,14 @@ struct Numbers {
     hour: u32,
     minute: u32,
     second: u32,
+}
+
+/// The same numbers, four in each vector: a tenth of the year, month, day and minute; and the year's last digit, nothing,
+/// hour and second.
+#[derive(Clone, Copy)]
+struct Lanes {
+    front: u32x4,
+    back: u32x4,
 }
 
 /// The moment that the text shows, in the weak form of a timestamp.
@@ -138,8 +199,6 @@ fn read_timestamp(b: &[u8]) -> Result<SystemTime, TimestampError>
     if b.len() < 19 || !has_separator(b) {
         return Err(TimestampError::InvalidFormat);
     }
-    // Read before the bytes are tested: behind the test they would be taken out of its vector, one by one.
-    let numbers = numbers_at(b);
     if !is_shaped(b) {
         // The signs are looked at first.
         if has_signs(b) {
@@ -147,10 +206,10 @@ fn read_timestamp(b: &[u8]) -> Result<SystemTime, TimestampError>
         }
         return Err(TimestampError::InvalidFormat);
     }
-    let Some(secs) = seconds_of(numbers) else {
+    let Some(secs) = seconds_in(lanes_at(b)) else {
         return Err(TimestampError::OutOfRange);
     };
-    let nanos = read_fraction(before_zone(&b[19..]))?;
+    let nanos = read_fraction(b, before_zone(&b[19..]))?;
     Ok(SystemTime::since_epoch(secs, nanos))
 }
 
@@ -186,12 +245,13 @@ fn is_shaped(b: &[u8]) -> bool
 
 /// The sign before the seconds, and their digits.
 #[inline(always)]
-#[tactic(auto, unfolding(crate::specs::References::Timestamps::Reading::has_seconds))]
 fn has_seconds(b: &[u8]) -> bool
     requires { 19 ≤ length b.now }
     ensures { result ≡ Reading.has_seconds b.now }
 {
-    b[16] == b':' && has_two(b, 17)
+    let above = u8x16::from_slice(&b[3..]) - u8x16::from_array(LEAST_BACK);
+    let other = above.simd_gt(u8x16::from_array(MOST_ABOVE_BACK));
+    other.to_bitmask() == 0
 }
 
 /// Signs and digits in the first sixteen bytes, but for the sign between date and time. All are tested at once: a
@@ -207,75 +267,109 @@ fn is_shaped_front(b: &[u8]) -> bool
     other.to_bitmask() == 0
 }
 
-/// Two digits from this place on.
-#[inline(always)]
-#[tactic(auto, unfolding(crate::specs::Timestamps::Checks::has_two))]
-fn has_two(b: &[u8], at: usize) -> bool
-    requires { at + 2 ≤ length b.now }
-    ensures { result ≡ Checks.has_two b.now at }
-{
-    b[at].is_ascii_digit() && b[at + 1].is_ascii_digit()
-}
-
-/// The number that two digits show. Where there are others, it is some number.
-#[inline(always)]
-#[tactic(auto, using(crate::proofs::Timestamps::Reading::Places::two_read))]
-fn two_at(b: &[u8], at: usize) -> u32
-    requires { at + 2 ≤ length b.now }
-    ensures { IsTrue (Checks.has_two b.now at) → result ≡ number_between b.now at (at + 2) }
-{
-    (b[at] as u32 * 10 + b[at + 1] as u32).wrapping_sub(TWO_ZEROS)
-}
-
-/// The number that four digits at the front show. Where there are others, it is some number.
-#[inline(always)]
-#[tactic(auto, using(crate::proofs::Timestamps::Reading::Places::year_read))]
-fn year_at_front(b: &[u8]) -> u32
-    requires { 4 ≤ length b.now }
-    ensures { IsTrue (Checks.has_two b.now 0) → IsTrue (Checks.has_two b.now 2) → result ≡ number_between b.now 0 4 }
-{
-    (b[0] as u32 * 1_000 + b[1] as u32 * 100 + b[2] as u32 * 10 + b[3] as u32).wrapping_sub(
-        FOUR_ZEROS,
-    )
-}
-
 /// The numbers that date and time show, where there are digits in all places.
 #[inline(always)]
-fn numbers_at(b: &[u8]) -> Numbers
-    requires { 19 ≤ length b.now }
-    ensures { IsTrue (Checks.has_digits b.now) → result ≡ numbers_of b.now }
+fn lanes_at(b: &[u8]) -> Lanes
+    requires long { 19 ≤ length b.now }
+    requires digits { IsTrue (Checks.has_digits b.now) }
+    ensures numbers { numbers_in result ≡ numbers_of b.now }
+    ensures short { AreShort result.front × AreShort result.back }
 {
+    let front = u8x16::from_slice(b) - u8x16::from_array(LEAST);
+    let back = u8x16::from_slice(&b[3..]) - u8x16::from_array(LEAST_BACK);
+    Lanes {
+        front: front.dot4(u8x16::from_array(WEIGHTS_FRONT)),
+        back: back.dot4(u8x16::from_array(WEIGHTS_BACK)),
+    }
+}
+
+/// The numbers one by one.
+#[inline(always)]
+fn numbers_in(lanes: Lanes) -> Numbers
+    requires { AreShort lanes.front × AreShort lanes.back }
+    ensures { result ≡ numbers_in lanes }
+{
+    let front = lanes.front.to_array();
+    let back = lanes.back.to_array();
     Numbers {
         date: Date {
-            year: year_at_front(b),
-            month: two_at(b, 5),
-            day: two_at(b, 8),
+            year: front[0] * 10 + back[0],
+            month: front[1],
+            day: front[2],
         },
-        hour: two_at(b, 11),
-        minute: two_at(b, 14),
-        second: two_at(b, 17),
+        hour: back[2],
+        minute: front[3],
+        second: back[3],
     }
 }
 
 /// The seconds from 1970 to this date and time, where there are such.
 #[inline(always)]
-#[tactic(auto, unfolding(crate::specs::Timestamps::Checks::are_in_range))]
-fn seconds_of(x: Numbers) -> Option<u64>
-    ensures value { result ≡ (if are_in_range x then Some (seconds_of x.date x.hour x.minute x.second) else None) }
+#[tactic(auto, using(crate::proofs::Timestamps::Reading::Usual::range_told))]
+fn seconds_in(lanes: Lanes) -> Option<u64>
+    requires { AreShort lanes.front × AreShort lanes.back }
+    ensures value { result ≡ seconds_found (numbers_in lanes) }
     ensures bound { IfSome result (λ n. n < 2 ^ 63) }
 {
-    let days = day_number(x.date, &mut Turns::new())?;
-    if x.hour > 23 || x.minute > 59 || x.second > 60 {
+    if !is_in_range(lanes) {
         return None;
     }
-    let time = x.hour * 3_600 + x.minute * 60 + x.second.min(59);
-    Some(days as u64 * 86_400 + time as u64)
+    let numbers = numbers_in(lanes);
+    let days = days_before(numbers.date.year, numbers.date.month);
+    Some(days as u64 * 86_400 + seconds_of_month(lanes) as u64)
 }
 
-/// The nanoseconds of what stands between the seconds and the zone, where it is right.
+/// A date of 1970 to 9999 that exists, and a time of day, perhaps with a second 60.
 #[inline(always)]
-#[tactic(auto, using(crate::proofs::Timestamps::Reading::Steps::nothing_read), unfolding(crate::specs::Timestamps::Checks::has_point))]
-fn read_fraction(part: &[u8]) -> Result<u32, TimestampError>
+fn is_in_range(lanes: Lanes) -> bool
+    requires { AreShort lanes.front × AreShort lanes.back }
+    ensures { result ≡ are_in_range (numbers_in lanes) }
+{
+    is_usual(lanes) || are_in_range(numbers_in(lanes))
+}
+
+/// The same, and the day is one that each month has: all ranges are tested at once.
+#[inline(always)]
+fn is_usual(lanes: Lanes) -> bool
+    requires { AreShort lanes.front × AreShort lanes.back }
+    ensures { IsTrue result → IsTrue (are_in_range (numbers_in lanes)) }
+{
+    let after = lanes.front - u32x4::from_array(FIRST);
+    let other = after.simd_gt(u32x4::from_array(MOST_AFTER));
+    let other_back = lanes.back.simd_gt(u32x4::from_array(MOST_BACK));
+    other.to_bitmask() == 0 && other_back.to_bitmask() == 0
+}
+
+/// The ranges one by one.
+#[inline(always)]
+#[tactic(auto, unfolding(crate::specs::Timestamps::Checks::are_in_range))]
+fn are_in_range(x: Numbers) -> bool
+    ensures { result ≡ are_in_range x }
+{
+    day_number(x.date, &mut Turns::new()).is_some()
+        && x.hour <= 23
+        && x.minute <= 59
+        && x.second <= 60
+}
+
+/// The seconds of the days before this one in its month, and of this day.
+#[inline(always)]
+fn seconds_of_month(lanes: Lanes) -> u32
+    requires short { AreShort lanes.front × AreShort lanes.back }
+    requires range { IsTrue (are_in_range (numbers_in lanes)) }
+    ensures { let x = numbers_in lanes in
+        result + 86_400 ≡ x.date.day * 86_400 + x.hour * 3_600 + x.minute * 60 + min x.second 59 }
+{
+    let front = (lanes.front - u32x4::from_array(FIRST)) * u32x4::from_array(SECONDS);
+    let back = lanes.back.simd_min(u32x4::from_array(MOST_READ)) * u32x4::from_array(SECONDS_BACK);
+    (front + back).reduce_sum()
+}
+
+/// The nanoseconds of what stands between the seconds and the zone of this text, where it is right.
+#[inline(always)]
+#[tactic(auto, using(crate::proofs::Timestamps::Reading::Threes::nothing_read), unfolding(crate::specs::Timestamps::Checks::has_point))]
+fn read_fraction(b: &[u8], part: &[u8]) -> Result<u32, TimestampError>
+    requires { part.now ≡ fraction_part b.now }
     ensures { result ≡ fraction_answer part.now }
 {
     if part.is_empty() {
@@ -284,7 +378,12 @@ fn read_fraction(part: &[u8]) -> Result<u32, TimestampError>
     if part[0] != b'.' {
         return Err(TimestampError::InvalidFormat);
     }
-    read_digits(&part[1..]).ok_or(TimestampError::InvalidDigit)
+    // A point and nine digits count.
+    let end = part.len().min(10);
+    match last_digits(&b[3 + end..19 + end], end - 1) {
+        Some(nanos) if are_digits(&part[end..]) => Ok(nanos),
+        _ => Err(TimestampError::InvalidDigit),
+    }
 }
 
 /// `+00:00`, of six bytes. The first four are compared as one number, and the last two as another.
@@ -298,62 +397,35 @@ fn is_offset(b: &[u8]) -> bool
     front == u32::from_le_bytes(*b"+00:") && back == u16::from_le_bytes(*b"00")
 }
 
-/// The number that three digits from this place on show, where they are digits.
+/// Digits alone.
 #[inline(always)]
-#[tactic(auto, using(crate::proofs::Timestamps::Reading::Places::has_three_told, crate::proofs::Timestamps::Reading::Places::number_of_three))]
-fn three_at(ds: &[u8], at: usize) -> Option<u32>
-    requires { at + 3 ≤ length ds.now }
-    ensures digits { IsSome result ↔ IsTrue (all_ascii_digits (slice_range ds.now at (at + 3))) }
-    ensures value { IfSome result (λ n. n ≡ number_between ds.now at (at + 3)) }
+fn are_digits(bytes: &[u8]) -> bool
+    ensures { result ≡ list_all is_ascii_digit bytes.now }
 {
-    let (a, b, c) = (ds[at], ds[at + 1], ds[at + 2]);
-    if !a.is_ascii_digit() || !b.is_ascii_digit() || !c.is_ascii_digit() {
+    bytes.iter().all(|b| b.is_ascii_digit())
+}
+
+/// The nanoseconds of the last digits of sixteen bytes, at most nine, where they are digits.
+#[inline(always)]
+fn last_digits(bytes: &[u8], count: usize) -> Option<u32>
+    requires long { length bytes.now ≡ 16 }
+    requires few { count ≤ 9 }
+    ensures { result ≡ nanos_found (drop (16 - count) bytes.now) }
+{
+    let numbers = in_threes(u8x16::from_slice(bytes) - u8x16::splat(b'0'), count);
+    if numbers.simd_gt(u8x16::splat(9)).to_bitmask() != 0 {
         return None;
     }
-    Some(a as u32 * 100 + b as u32 * 10 + c as u32 - THREE_ZEROS)
+    let threes = numbers.dot4(u8x16::from_array(WEIGHTS_THREE));
+    Some((threes * u32x4::from_array(NANOS)).reduce_sum())
 }
 
-/// How many digits stand in whole groups of three, and their nanoseconds, cut to nine digits; nothing where one of
-/// them is no digit.
+/// The last of sixteen numbers, at most nine, three to four lanes. Where there are fewer, zeros stand behind them.
 #[inline(always)]
-#[tactic(auto, using(crate::proofs::Timestamps::Reading::Steps::steps_of_three))]
-fn read_threes(ds: &[u8]) -> Option<(usize, u32)>
-    ensures some { IfSome result (λ read. IsRead ds.now read.0 read.1) }
-    ensures none { IfNone result (IsFalse (all_ascii_digits ds.now)) }
+fn in_threes(numbers: u8x16, count: usize) -> u8x16
+    requires long { length numbers ≡ 16 }
+    requires few { count ≤ 9 }
+    ensures { result ≡ in_threes (drop (16 - count) numbers) }
 {
-    let mut at = 0;
-    let mut nanos = 0;
-    while ds.len() - at >= 3 {
-        let three = three_at(ds, at)?;
-        nanos += weight_of(at + 2) * three;
-        at += 3;
-    }
-    Some((at, nanos))
-}
-
-/// The nanoseconds of these digits, cut to nine of them, where they are digits. It stands out of line: inlined, it takes
-/// the registers in which date and time are kept.
-#[inline(never)]
-#[tactic(auto, using(crate::proofs::Timestamps::Reading::Steps::steps_of_one))]
-fn read_digits(ds: &[u8]) -> Option<u32>
-    ensures { result ≡ (if all_ascii_digits ds.now then Some (fraction_nanos ds.now) else None) }
-{
-    let (mut at, mut nanos) = read_threes(ds)?;
-    while at < ds.len() {
-        if !ds[at].is_ascii_digit() {
-            return None;
-        }
-        nanos += weight_of(at) * (ds[at] - b'0') as u32;
-        at += 1;
-    }
-    Some(nanos)
-}
-
-/// How many nanoseconds a 1 at this place of a fraction counts: none past the ninth.
-#[inline(always)]
-#[tactic(auto, using(crate::proofs::Timestamps::Reading::Fractions::no_weight))]
-fn weight_of(at: usize) -> u32
-    ensures { result ≡ 100_000_000 / 10 ^ at }
-{
-    if at < 9 { WEIGHTS[at] } else { 0 }
+    numbers.swizzle_dyn(u8x16::from_array(PLACES[count]))
 }

@@ -1,16 +1,15 @@
 -- What each way out of the weak parser answers.
 use Rattle.std.proofs.lemmas.Grind.{common_steps}
 use Rattle.std.proofs.Common.{◌≡◌, ℕ, ◌*◌, ◌+◌, ◌-◌, ◌<◌, ◌≤◌, List, length, take, drop, arith}
-use Rattle.std.specs.Prelude.{true, false, ◌&&◌, if◌then◌else◌, ℤ, pos, Option, Some, None, Result, Ok, Err}
+use Rattle.std.specs.Prelude.{true, false, ◌&&◌, ℤ, pos, Option, Some, None, Result, Ok, Err}
 use Rattle.std.proofs.lemmas.Bool.{and_parts, le-leb}
 use Rattle.std.proofs.lemmas.List.{take_rest}
 use Rattle.std.proofs.lemmas.Bool.Decides.{nat_tests}
 use Rattle.humantime.specs.declared.date.error.TimestampError.{TimestampError}
 use Rattle.humantime.specs.declared.date.error.TimestampError.TheVariants.{OutOfRange, InvalidDigit, InvalidFormat}
-use Rattle.humantime.specs.References.Timestamps.Reading.{fraction_answer, weak_answer}
-use Rattle.humantime.specs.Timestamps.Fields.{seconds_of}
+use Rattle.humantime.specs.References.Timestamps.Reading.{fraction_answer, seconds_found, weak_answer}
 use Rattle.humantime.specs.declared.date.parse.Numbers.{Numbers}
-use Rattle.humantime.specs.Timestamps.Checks.{has_separator, has_signs, has_digits, numbers_of, are_in_range, before_zone, fraction_part}
+use Rattle.humantime.specs.Timestamps.Checks.{has_separator, has_signs, has_digits, numbers_of, before_zone, fraction_part}
 use Rattle.humantime.proofs.Timestamps.Reading.Fractions.{digits_told, nanos_bound}
 
 pub exit_short : (b : List ℕ) → length b < 19 → weak_answer b ≡ Err InvalidFormat
@@ -37,10 +36,6 @@ abbrev pub with_seconds : Option ℕ → Result ℕ TimestampError → Result �
 with_seconds None fraction = Err OutOfRange
 with_seconds (Some seconds) (Ok nanos) = Ok (pos (seconds * 1_000_000_000 + nanos))
 with_seconds (Some seconds) (Err e) = Err e
-
--- the seconds of a date and a time of day, where they are in range
-abbrev pub seconds_found : Numbers → Option ℕ
-seconds_found x = if are_in_range x then Some (seconds_of x.date x.hour x.minute x.second) else None
 
 pub exit_shaped : (b : List ℕ) (x : Numbers) → 19 ≤ length b → (has_signs b && has_digits b) ≡ true → x ≡ numbers_of b
     → weak_answer b ≡ with_seconds (seconds_found x) (fraction_answer (fraction_part b))

@@ -1,13 +1,13 @@
 -- The digits of a fraction, read one by one, are its nanoseconds.
 use Rattle.std.proofs.lemmas.Grind.{common_steps}
-use Rattle.std.proofs.Common.{◌≡◌, ℕ, zero, suc, ◌+◌, ◌-◌, ◌*◌, ◌/◌, ◌^◌, ◌<◌, ◌≤◌, List, [], ◌∷◌, ◌++◌, length, take, refl, sym, ap, ◌∙◌, arith}
+use Rattle.std.proofs.Common.{◌≡◌, ℕ, zero, suc, ◌+◌, ◌-◌, ◌*◌, ◌/◌, ◌^◌, ◌<◌, ◌≤◌, List, [], ◌∷◌, ◌++◌, take, refl, ◌∙◌, arith}
 use Rattle.std.specs.Prelude.{true, ◌&&◌}
 use Rattle.std.specs.Char.{is_ascii_digit, digit_value}
 use Rattle.std.specs.Int.{IsInRange}
 use Rattle.std.specs.List.{AllByRecursion}
 use Rattle.std.specs.Str.{all_ascii_digits}
 use Rattle.std.specs.Str.Parse.{digits_value_after}
-use Rattle.std.proofs.Math.Nat.{pow-suc, mul-le-mul_left, div-div-eq-div-mul, pow-le-pow_right, div-eq_of_lt}
+use Rattle.std.proofs.Math.Nat.{pow-suc, mul-le-mul_left}
 use Rattle.std.proofs.lemmas.Bool.Decides.{nat_tests}
 use Rattle.std.proofs.lemmas.Str.{digit_value_digit}
 use Rattle.std.proofs.lemmas.List.Folds.{list_all-append}
@@ -39,10 +39,6 @@ digits_append ds es = list_all-append is_ascii_digit ds es
 abbrev pub add_digits : ℕ → ℕ → List ℕ → ℕ
 add_digits n u [] = n
 add_digits n u (c ∷ cs) = add_digits (n + u * (c - 48)) (u / 10) cs
-
--- how many nanoseconds a 1 at a place counts: none past the ninth
-abbrev pub weight : ℕ → ℕ
-weight i = 100_000_000 / 10 ^ i
 
 add_nothing : (n : ℕ) (ds : List ℕ) → add_digits n 0 ds ≡ n
 add_nothing n [] = refl
@@ -85,17 +81,3 @@ add_bound (c ∷ cs) n u digits low room =
 
 pub nanos_bound : (ds : List ℕ) → AreDigits ds → fraction_nanos ds < 1_000_000_000
 nanos_bound ds digits = rw (nanos_added ds digits) (add_bound ds 0 100_000_000 digits (omega arith) (omega arith))
-
--- more digits behind these
-tenth_of : (u n : ℕ) → u / 10 / 10 ^ n ≡ u / 10 ^ suc n
-tenth_of u n = div-div-eq-div-mul u 10 (10 ^ n) ∙ ap (λ (p : ℕ). u / p) (omega (arith, pow-suc 10 n))
-
-pub add_append : (ds es : List ℕ) (n u : ℕ) → add_digits n u (ds ++ es) ≡ add_digits (add_digits n u ds) (u / 10 ^ length ds) es
-add_append [] es n u = let whole : u / 1 ≡ u = omega arith in rw whole refl
-add_append (d ∷ ds) es n u = rw (← tenth_of u (length ds)) (add_append ds es (n + u * (d - 48)) (u / 10))
-
--- past the ninth place nothing counts
-pub no_weight : (i : ℕ) → 9 ≤ i → 0 ≡ weight i
-no_weight i h =
-    let grows : 10 ^ 9 ≤ 10 ^ i = pow-le-pow_right (omega arith) h in
-    sym (div-eq_of_lt (omega (arith, grows)))

@@ -1,31 +1,73 @@
--- Sixteen bytes tested at once are tested one by one.
+-- Bytes and numbers that are tested at once are tested one by one.
 use Rattle.std.proofs.lemmas.Grind.{common_steps}
-use Rattle.std.proofs.Common.{◌≡◌, ℕ, ◌+◌, ◌-◌, ◌%◌, ◌^◌, ◌≤◌, Bool, true, not, cond, eqb, ltb, ◌&&◌, List, [], ◌∷◌, map, length, get_or, take, Fits, w8, refl, ap, ◌∙◌, arith}
+use Rattle.std.proofs.Common.{◌≡◌, ℕ, ◌+◌, ◌-◌, ◌%◌, ◌^◌, ◌<◌, ◌≤◌, Bool, true, false, not, cond, eqb, ltb, ◌&&◌, List, [], ◌∷◌, map, length, get_or, take, drop, Fits, w8, refl, ap, ◌∙◌, arith}
 use Rattle.std.specs.Char.{is_ascii_digit}
 use Rattle.std.specs.List.{list_all}
 use Rattle.std.specs.Prelude.{◌==◌, codes, slice_index}
 use Rattle.std.proofs.lemmas.Bool.{agree_below_at}
+use Rattle.std.proofs.lemmas.Bool.Decides.{nat_tests}
+use Rattle.std.proofs.lemmas.Simd.{mask_l-mod, tops_compared}
 use lib.Lanes.{zip2, mask_l, top}
+use mir.Syntax.{Width}
+use mir.Val.{bits, hbits}
 use Rattle.humantime.specs.Timestamps.Checks.{has_two, has_separator, has_signs, has_digits}
 use Rattle.humantime.specs.References.Timestamps.Reading.{has_seconds}
 use Rattle.humantime.proofs.Timestamps.Reading.Checks.{nineteen}
 
--- the least byte of each place, and how far a byte may be above it
-abbrev least : List ℕ
-least = codes "0000-00-00 00:00"
+-- ---- A test of all lanes
 
-abbrev most : List ℕ
-most = 9 ∷ 9 ∷ 9 ∷ 9 ∷ 0 ∷ 9 ∷ 9 ∷ 0 ∷ 9 ∷ 9 ∷ 255 ∷ 9 ∷ 9 ∷ 0 ∷ 9 ∷ 9 ∷ []
+no_bits : (ms : List Bool) → eqb (mask_l ms) 0 ≡ list_all not ms
+no_bits [] = refl
+no_bits (true ∷ ms) = grind (arith, nat_tests)
+no_bits (false ∷ ms) = grind (arith, nat_tests, (no_bits ms))
 
--- how far a byte is above another, wrapped around, and a lane of all ones where that is beyond a most
-abbrev above : ℕ → ℕ → ℕ
+tests_few : (most xs : List ℕ) → length (zip2 ltb most xs) ≤ length most
+tests_few [] xs = omega arith
+tests_few (m ∷ most) [] = omega arith
+tests_few (m ∷ most) (x ∷ xs) = omega (arith, tests_few most xs)
+
+-- where no bit is set, no lane is beyond its most
+pub none_beyond : (w : Width) (most xs : List ℕ) → length most ≤ 64
+    → eqb (mask_l (map (top (hbits w)) (zip2 (λ m a. cond (ltb m a) (2 ^ bits w - 1) 0) most xs)) % 2 ^ 64) 0 ≡ list_all not (zip2 ltb most xs)
+none_beyond w most xs few =
+    ap (λ (ms : List Bool). eqb (mask_l ms % 2 ^ 64) 0) (tops_compared w ltb most xs)
+    ∙ ap (λ (n : ℕ). eqb n 0) (mask_l-mod (zip2 ltb most xs) 64 (omega (arith, tests_few most xs)))
+    ∙ no_bits (zip2 ltb most xs)
+
+-- ---- Date and time
+
+-- how far a byte is above another, wrapped around
+abbrev pub above : ℕ → ℕ → ℕ
 above a b = (a + (2 ^ 8 - b)) % 2 ^ 8
 
-abbrev beyond : ℕ → ℕ → ℕ
-beyond m a = cond (ltb m a) 255 0
+-- no byte is beyond its most above its least
+abbrev are_near : List ℕ → List ℕ → List ℕ → Bool
+are_near most bytes least = list_all not (zip2 ltb most (zip2 above (take 16 bytes) least))
 
-abbrev lanes : List ℕ → List Bool
-lanes b = map (top 7) (zip2 beyond most (zip2 above (take 16 b) least))
+pub digit_near : (c : ℕ) → c < 256 → not (ltb 9 (above c 48)) ≡ is_ascii_digit c
+digit_near c h = agree_below_at (λ c. not (ltb 9 (above c 48))) is_ascii_digit 256 c refl h
+
+dash_near : (c : ℕ) → c < 256 → not (ltb 0 (above c 45)) ≡ (c == 45)
+dash_near c h = agree_below_at (λ c. not (ltb 0 (above c 45))) (λ c. c == 45) 256 c refl h
+
+colon_near : (c : ℕ) → c < 256 → not (ltb 0 (above c 58)) ≡ (c == 58)
+colon_near c h = agree_below_at (λ c. not (ltb 0 (above c 58))) (λ c. c == 58) 256 c refl h
+
+any_near : (c least : ℕ) → not (ltb 255 (above c least)) ≡ true
+any_near c least = grind (arith, nat_tests)
+
+-- the least byte of each place, and how far a byte may be above it; and the same from the fourth place on
+abbrev pub least : List ℕ
+least = codes "0000-00-00 00:00"
+
+abbrev pub most : List ℕ
+most = 9 ∷ 9 ∷ 9 ∷ 9 ∷ 0 ∷ 9 ∷ 9 ∷ 0 ∷ 9 ∷ 9 ∷ 255 ∷ 9 ∷ 9 ∷ 0 ∷ 9 ∷ 9 ∷ []
+
+abbrev pub least_back : List ℕ
+least_back = codes "0-00-00 00:00:00"
+
+abbrev pub most_back : List ℕ
+most_back = 255 ∷ 255 ∷ 255 ∷ 255 ∷ 255 ∷ 255 ∷ 255 ∷ 255 ∷ 255 ∷ 255 ∷ 255 ∷ 255 ∷ 255 ∷ 0 ∷ 9 ∷ 9 ∷ []
 
 -- the signs may be tested first, and the seconds among the others
 signs_first : (s t u v w a b c d e f g h i j k l : Bool)
@@ -33,26 +75,34 @@ signs_first : (s t u v w a b c d e f g h i j k l : Bool)
     ≡ ((s && t && true && u && v) && ((a && b) && ((c && d) && ((e && f) && ((g && h) && ((i && j) && ((k && l) && (w && true))))))))
 signs_first s t u v w a b c d e f g h i j k l = grind (arith, common_steps)
 
-lanes_are : (b : List ℕ) → 19 ≤ length b → ((k : ℕ) → Fits w8 (get_or b k 0)) → has_separator b ≡ true
-    → (list_all not (lanes b) && has_seconds b) ≡ (has_signs b && has_digits b)
+pub shape_of_parts : (b : List ℕ) → 19 ≤ length b → ((k : ℕ) → Fits w8 (get_or b k 0)) → has_separator b ≡ true
+    → (are_near most b least && has_seconds b) ≡ (has_signs b && has_digits b)
 unfolding has_signs has_digits has_seconds has_two
-lanes_are b long fits separator =
+shape_of_parts b long fits separator =
     let shown = λ (k : ℕ). is_ascii_digit (slice_index b k) in
-    let digit = λ (k : ℕ). agree_below_at (λ c. not (top 7 (beyond 9 (above c 48)))) is_ascii_digit 256 (get_or b k 0) refl (fits k).fits in
-    let dash = λ (k : ℕ). agree_below_at (λ c. not (top 7 (beyond 0 (above c 45)))) (λ c. c == 45) 256 (get_or b k 0) refl (fits k).fits in
-    let any = λ (k : ℕ). agree_below_at (λ c. not (top 7 (beyond 255 (above c 32)))) (λ _. true) 256 (get_or b k 0) refl (fits k).fits in
-    let colon = λ (k : ℕ). agree_below_at (λ c. not (top 7 (beyond 0 (above c 58)))) (λ c. c == 58) 256 (get_or b k 0) refl (fits k).fits in
-    let lanes_shown : list_all not (lanes b) ≡ _ =
-    ap (λ (bytes : List ℕ). list_all not (lanes bytes)) (nineteen b long)
+    let digit = λ (k : ℕ). digit_near (get_or b k 0) (fits k).fits in
+    let dash = λ (k : ℕ). dash_near (get_or b k 0) (fits k).fits in
+    let colon = λ (k : ℕ). colon_near (get_or b k 0) (fits k).fits in
+    let near : are_near most b least ≡ _ =
+    ap (λ (bytes : List ℕ). are_near most bytes least) (nineteen b long)
     ∙ (λ i. list_all (λ (x : Bool). x) (
     digit 0 i ∷ digit 1 i ∷ digit 2 i ∷ digit 3 i ∷ dash 4 i ∷ digit 5 i ∷ digit 6 i ∷ dash 7 i
-    ∷ digit 8 i ∷ digit 9 i ∷ any 10 i ∷ digit 11 i ∷ digit 12 i
+    ∷ digit 8 i ∷ digit 9 i ∷ any_near (get_or b 10 0) 32 i ∷ digit 11 i ∷ digit 12 i
     ∷ colon 13 i ∷ digit 14 i ∷ digit 15 i ∷ []
     )) in
-    rw (separator, lanes_shown)
+    rw (separator, near)
     (signs_first (slice_index b 4 == 45) (slice_index b 7 == 45) (slice_index b 13 == 58) (slice_index b 16 == 58) (has_two b 17)
     (shown 0) (shown 1) (shown 2) (shown 3) (shown 5) (shown 6) (shown 8) (shown 9) (shown 11) (shown 12) (shown 14) (shown 15))
 
-pub shape_of_parts : (b : List ℕ) → 19 ≤ length b → ((k : ℕ) → Fits w8 (get_or b k 0)) → has_separator b ≡ true
-    → (eqb (mask_l (lanes b) % 2 ^ 64) 0 && has_seconds b) ≡ (has_signs b && has_digits b)
-shape_of_parts b long fits separator = grind (arith, common_steps, (lanes_are b long fits separator))
+pub seconds_of_lanes : (b : List ℕ) → 19 ≤ length b → ((k : ℕ) → Fits w8 (get_or b k 0)) → are_near most_back (drop 3 b) least_back ≡ has_seconds b
+unfolding has_seconds has_two
+seconds_of_lanes b long fits =
+    let any = λ (k least : ℕ). any_near (get_or b k 0) least in
+    let digit = λ (k : ℕ). digit_near (get_or b k 0) (fits k).fits in
+    ap (λ (bytes : List ℕ). are_near most_back (drop 3 bytes) least_back) (nineteen b long)
+    ∙ (λ i. list_all (λ (x : Bool). x) (
+    any 3 48 i ∷ any 4 45 i ∷ any 5 48 i ∷ any 6 48 i ∷ any 7 45 i ∷ any 8 48 i ∷ any 9 48 i ∷ any 10 32 i
+    ∷ any 11 48 i ∷ any 12 48 i ∷ any 13 58 i ∷ any 14 48 i ∷ any 15 48 i
+    ∷ colon_near (get_or b 16 0) (fits 16).fits i ∷ digit 17 i ∷ digit 18 i ∷ []
+    ))
+    ∙ grind (arith, common_steps)

@@ -1,15 +1,13 @@
 -- Numbers at their places: what digits show, and when date and time are in range.
 use Rattle.std.proofs.lemmas.Grind.{common_steps}
-use Rattle.std.proofs.Common.{◌≡◌, ℕ, suc, ◌+◌, ◌-◌, ◌*◌, ◌%◌, ◌^◌, ◌<◌, ◌≤◌, List, [], ◌∷◌, length, refl, add-one, arith}
+use Rattle.std.proofs.Common.{◌≡◌, ℕ, suc, ◌+◌, ◌-◌, ◌*◌, ◌<◌, ◌≤◌, List, [], ◌∷◌, length, refl, add-one, arith}
 use Rattle.std.specs.Prelude.{◌↔◌, Bool, true, IsTrue, ◌&&◌, nat_le, slice_index, slice_range}
-use Rattle.std.specs.Char.{is_ascii_digit}
 use Rattle.std.specs.Int.{IsInRange}
-use Rattle.std.specs.Str.{all_ascii_digits}
 use Rattle.std.proofs.Math.Seq.{drop-cons}
 use Rattle.std.proofs.lemmas.Bool.Decides.{nat_tests}
 use Rattle.std.proofs.lemmas.Str.{digit_value_digit}
 use Rattle.humantime.specs.Timestamps.Checks.{has_two, number_between}
-use Rattle.humantime.proofs.Timestamps.Reading.Fractions.{is_digit_told, digits_told}
+use Rattle.humantime.proofs.Timestamps.Reading.Fractions.{is_digit_told}
 
 -- the two digits at place k
 pub has_two_told : (b : List ℕ) (k : ℕ) → has_two b k ≡ true → IsInRange 48 57 (slice_index b k) × IsInRange 48 57 (slice_index b (k + 1))
@@ -40,33 +38,6 @@ unfolding number_between
 number_of_four b long century decade =
     rw (next_byte b 0 4 (omega arith) long, next_byte b 1 4 (omega arith) long, last_two b 2 4 refl long)
     (grind (arith, common_steps, has_two_told, digit_value_digit))
-
--- three digits
-pub three_bytes : (b : List ℕ) (k : ℕ) → k + 3 ≤ length b → slice_range b k (k + 3) ≡ slice_index b k ∷ slice_index b (k + 1) ∷ slice_index b (k + 2) ∷ []
-three_bytes b k long =
-    let third : k + 1 + 1 ≡ k + 2 = omega arith in
-    rw (next_byte b k (k + 3) (omega arith) long, last_two b (k + 1) (k + 3) (omega arith) long, third) refl
-
-pub has_three_told : (b : List ℕ) (k : ℕ) → k + 3 ≤ length b
-    → all_ascii_digits (slice_range b k (k + 3))
-    ≡ (is_ascii_digit (slice_index b k) && is_ascii_digit (slice_index b (k + 1)) && is_ascii_digit (slice_index b (k + 2)))
-has_three_told b k long = rw (three_bytes b k long) (grind (arith, common_steps))
-
-pub number_of_three : (b : List ℕ) (k : ℕ) → k + 3 ≤ length b → all_ascii_digits (slice_range b k (k + 3)) ≡ true
-    → number_between b k (k + 3) ≡ (slice_index b k - 48) * 100 + (slice_index b (k + 1) - 48) * 10 + (slice_index b (k + 2) - 48)
-unfolding number_between
-number_of_three b k long h =
-    let digits = rw (three_bytes b k long) at h in
-    rw (three_bytes b k long) (grind (arith, common_steps, digits, digits_told, digit_value_digit))
-
--- the numbers that are read are those that stand there
-pub two_read : (b : List ℕ) (k : ℕ) → k + 2 ≤ length b → has_two b k ≡ true
-    → (slice_index b k * 10 + slice_index b (k + 1) + (2 ^ 32 - 528)) % 2 ^ 32 ≡ number_between b k (k + 2)
-two_read b k long h = grind (arith, common_steps, has_two_told, number_of_two)
-
-pub year_read : (b : List ℕ) → 4 ≤ length b → has_two b 0 ≡ true → has_two b 2 ≡ true
-    → (slice_index b 0 * 1_000 + slice_index b 1 * 100 + slice_index b 2 * 10 + slice_index b 3 + (2 ^ 32 - 53_328)) % 2 ^ 32 ≡ number_between b 0 4
-year_read b long century decade = grind (arith, common_steps, has_two_told, number_of_four)
 
 -- the tests of a date and a time of day
 pub bounds : (date : Bool) (h i s : ℕ)

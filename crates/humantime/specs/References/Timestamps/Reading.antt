@@ -1,21 +1,44 @@
 -- What the parsers answer, and what their parts find at the places of a text.
-use Rattle.std.specs.Prelude.{ℕ, ◌+◌, ◌*◌, ◌≤◌, Bool, ◌&&◌, ◌==◌, if◌then◌else◌, ℤ, pos, Option, Some, None, Result, Ok, Err, List, length, take, drop, slice_index, ◌≡◌, ◌↔◌, IsTrue}
+use Rattle.std.specs.Prelude.{ℕ, ◌+◌, ◌*◌, ◌≤◌, Bool, ◌&&◌, ◌==◌, if◌then◌else◌, ℤ, pos, Option, Some, None, Result, Ok, Err, List, [], ◌∷◌, length, drop, slice_index, ◌≡◌, ◌↔◌}
 use Rattle.std.specs.Str.{byte, all_ascii_digits}
 use Rattle.humantime.specs.declared.date.error.TimestampError.{TimestampError}
 use Rattle.humantime.specs.declared.date.error.TimestampError.TheVariants.{InvalidDigit, InvalidFormat}
+use Rattle.humantime.specs.declared.date.parse.Numbers.{Numbers}
+use Rattle.humantime.specs.declared.date.parse.Lanes.{Lanes}
 use Rattle.humantime.specs.Values.{nanos_per_second}
 use Rattle.humantime.specs.Timestamps.Fields.{fraction_nanos, seconds_of, IsWeakMoment}
-use Rattle.humantime.specs.Timestamps.Checks.{has_two, numbers_of, fraction_part, has_point, weak_checks, strict_checks, first_failed}
+use Rattle.humantime.specs.Timestamps.Checks.{has_two, numbers_of, are_in_range, fraction_part, has_point, weak_checks, strict_checks, first_failed}
 
 -- the sign before the seconds, and their digits
 unfoldable pub has_seconds : List ℕ → Bool
 has_seconds b = (slice_index b 16 == byte ":") && has_two b 17
 
--- the first i bytes are digits, and they are read
-pub record IsRead (text : List ℕ) (i nanos : ℕ) : Type 0 where
-  pub within : i ≤ length text
-  pub digits : IsTrue (all_ascii_digits (take i text))
-  pub value : nanos ≡ fraction_nanos (take i text)
+-- the numbers that stand in these lanes: a tenth of the year, month, day and minute, and the year's last digit, hour and second
+abbrev pub numbers_in : Lanes → Numbers
+numbers_in l = record {
+  date = record { year = slice_index l.front 0 * 10 + slice_index l.back 0; month = slice_index l.front 1; day = slice_index l.front 2 };
+  hour = slice_index l.back 2;
+  minute = slice_index l.front 3;
+  second = slice_index l.back 3;
+}
+
+-- four numbers of at most three digits
+abbrev pub AreShort : List ℕ → Type 0
+AreShort ns = (length ns ≡ 4) × ((k : ℕ) → slice_index ns k ≤ 999)
+
+-- the seconds of a date and a time of day, where they are in range
+abbrev pub seconds_found : Numbers → Option ℕ
+seconds_found x = if are_in_range x then Some (seconds_of x.date x.hour x.minute x.second) else None
+
+-- the nanoseconds of these digits, where they are digits
+abbrev pub nanos_found : List ℕ → Option ℕ
+nanos_found ds = if all_ascii_digits ds then Some (fraction_nanos ds) else None
+
+-- nine numbers, three to four lanes, with zeros in the other lanes
+abbrev pub in_threes : List ℕ → List ℕ
+in_threes ns =
+    let n = slice_index ns in
+    n 0 ∷ n 1 ∷ n 2 ∷ 0 ∷ n 3 ∷ n 4 ∷ n 5 ∷ 0 ∷ n 6 ∷ n 7 ∷ n 8 ∷ 0 ∷ 0 ∷ 0 ∷ 0 ∷ 0 ∷ []
 
 -- the nanoseconds of what stands between the seconds and the zone, or its error
 abbrev pub fraction_answer : List ℕ → Result ℕ TimestampError

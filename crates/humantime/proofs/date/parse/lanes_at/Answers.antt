@@ -1,0 +1,8 @@
+use Rattle.humantime.proofs.Timestamps.Reading.Numbers.{numbers_shown}
+use Rattle.humantime.proofs.date.parse.lanes_at.Goals as goal
+
+pub returns-clause-numbers : goal.returns-clause-numbers
+returns-clause-numbers c = (numbers_shown c.args.b.now c.requires.long c.requires.digits).0
+
+pub returns-clause-short : goal.returns-clause-short
+returns-clause-short c = let shown = numbers_shown c.args.b.now c.requires.long c.requires.digits in (shown.1, shown.2)

@@ -1,9 +1,0 @@
-use Rattle.std.proofs.Common.{◌≡◌, ◌-◌, ◌%◌, length}
-use Rattle.humantime.specs.References.Timestamps.Reading.{IsRead}
-use Rattle.humantime.proofs.date.parse.read_threes.Given as goal
-
-abbrev pub invariant-loop-at : goal.invariant-loop-at
-invariant-loop-at l = (l.at % 3 ≡ 0) × IsRead l.ds l.at l.nanos
-
-abbrev pub decreases-loop-at : goal.decreases-loop-at
-decreases-loop-at l = length l.ds - l.at
