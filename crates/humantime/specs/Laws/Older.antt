@@ -1,6 +1,6 @@
 -- What was accepted before: while the Greek letter mu, U+03BC, was no letter, and while zeros at the end of a fraction
 -- counted for its limits. A text is its list of characters.
-use Rattle.std.specs.Prelude.{◌≡◌, ℕ, ◌*◌, ◌≤◌, Bool, true, ◌||◌, ◌==◌, List, [], ◌∷◌, ◌++◌, length, Option, Some, None, IsOk, ⊤, Ok}
+use Rattle.std.specs.Prelude.{◌≡◌, ℕ, ◌*◌, ◌≤◌, Bool, true, ◌||◌, ◌==◌, List, ◌∷◌, ◌++◌, length, Option, Some, None, IsOk, ⊤, Ok}
 use Rattle.std.specs.List.{AllByRecursion}
 use Rattle.std.specs.Char.{is_ascii_alphabetic}
 use Rattle.humantime.specs.Texts.{decimal_value}

@@ -8,7 +8,7 @@ use Rattle.humantime.specs.declared.duration.reading.amount.Fraction.{Fraction}
 use Rattle.humantime.specs.Texts.{leading, decimal_value}
 use Rattle.humantime.specs.Durations.Characters.{is_digit, is_numeric, significant}
 use Rattle.humantime.specs.Durations.Faults.{number_of, after_number}
-use Rattle.humantime.specs.References.Durations.Scales.{counted, parts_of}
+use Rattle.humantime.specs.References.Durations.Scales.{parts_of}
 use Rattle.humantime.specs.References.Durations.Scanning.{AreDigits, digits_at}
 use Rattle.humantime.proofs.Durations.Bytes.Numbers.{value_more}
 use Rattle.humantime.proofs.Durations.Reading.SignificantDigits.{significant_shorter, significant_zero, significant_long, significant_last, value_shifted}

@@ -1,9 +1,9 @@
 -- Texts one behind the other.
-use Rattle.std.proofs.Common.{arith, ◌≡◌, ◌≢◌, ◌↔◌, ◌⊎◌, ℕ, ◌+◌, true, List, [], ◌∷◌, ◌++◌, None, refl, sym, ap, ap₂, ◌∙◌, inl, inr, subst, append_assoc}
+use Rattle.std.proofs.Common.{arith, ◌≡◌, ◌≢◌, ◌↔◌, ◌⊎◌, ℕ, ◌+◌, true, List, [], ◌∷◌, ◌++◌, None, refl, inl, inr}
 use Rattle.std.proofs.lemmas.Grind.{common_steps}
 use Rattle.std.specs.List.{AllByRecursion}
 use Rattle.humantime.specs.Durations.Characters.{is_ws, bare_zero}
-use Rattle.humantime.specs.Durations.Spans.{Span, Only, Spells, SpellsEach, SpellsAll, Reads}
+use Rattle.humantime.specs.Durations.Spans.{Span, Only, SpellsEach, SpellsAll, Reads}
 use Rattle.humantime.specs.Durations.Accepted.{additions, value, Formed, fits, AllHaveRoom, Accepted, Bare_zero, Sum_of}
 use Rattle.humantime.specs.Durations.Faults.{NumberOverflow, HasFault}
 use Rattle.humantime.specs.Laws.Texts.{AcceptedAs}

@@ -1,10 +1,10 @@
 -- A text without its white space spells the same spans.
 use Rattle.std.proofs.lemmas.Grind.{common_steps}
-use Rattle.std.proofs.Common.{◌≡◌, ℕ, Bool, true, false, List, [], ◌∷◌, ◌++◌, Option, refl, sym, ap, ◌∙◌, inl, inr, subst, arith, rules}
+use Rattle.std.proofs.Common.{◌≡◌, ℕ, Bool, true, false, List, [], ◌∷◌, refl, ap, ◌∙◌, arith, rules}
 use Rattle.std.proofs.lemmas.Bool.{cases_Bool, or_parts}
 use Rattle.humantime.specs.Texts.{begins}
 use Rattle.humantime.specs.Durations.Characters.{is_ws, is_digit, is_letter, digits, bare_zero}
-use Rattle.humantime.specs.Durations.Spans.{Span, Only, SpellsFraction, Spells, SpellsEach, SpellsAll, Reads}
+use Rattle.humantime.specs.Durations.Spans.{Span, Only, Spells, SpellsEach, Reads}
 use Rattle.humantime.specs.Durations.Accepted.{Accepted, Bare_zero, Sum_of}
 use Rattle.humantime.specs.Laws.Texts.{without_white_space}
 use Rattle.humantime.proofs.Durations.Reading.Classes.{digit_not_space, space_not_digit, letter_not_space, point_not_numeric, is_point-46}

@@ -1,11 +1,11 @@
 -- What the walk over a text finds: its items, and the place where its spans are too large.
 use Rattle.std.proofs.lemmas.Grind.{common_steps}
-use Rattle.std.proofs.Common.{◌≡◌, ◌≢◌, ◌⊎◌, ℕ, ◌+◌, Bool, true, false, List, [], ◌∷◌, ◌++◌, map, length, Option, Some, None, if◌then◌else◌, refl, sym, ap, ◌∙◌, inl, inr, arith, subst, append_assoc, append-nil}
+use Rattle.std.proofs.Common.{◌≡◌, ◌≢◌, ◌⊎◌, ℕ, Bool, true, false, List, [], ◌∷◌, ◌++◌, map, length, Option, Some, None, if◌then◌else◌, refl, ap, inl, inr, arith, subst, append_assoc, append-nil}
 use Rattle.std.specs.List.{AllByRecursion}
 use Rattle.humantime.specs.Texts.{begins, past, leading, ends}
 use Rattle.humantime.specs.Durations.Characters.{is_ws, is_digit, bare_zero}
-use Rattle.humantime.specs.Durations.Spans.{Span, Spells, SpellsEach, SpellsAll}
-use Rattle.humantime.specs.Durations.Faults.{fault_at, Fault, NumberOverflow, Split, HasFault, Empty, Nothing_there, after_word, span_of}
+use Rattle.humantime.specs.Durations.Spans.{Span, Spells, SpellsAll}
+use Rattle.humantime.specs.Durations.Faults.{Fault, NumberOverflow, Split, HasFault, Empty, span_of}
 use Rattle.humantime.specs.Durations.Accepted.{Formed, WithinLimits}
 use Rattle.humantime.specs.References.Durations.Reading.{Walk, no_more, walk_of, items}
 use Rattle.humantime.specs.Durations.Items.{Items, Ends}

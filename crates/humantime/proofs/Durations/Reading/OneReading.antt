@@ -1,5 +1,5 @@
 -- A text is read as one list of spans at most, and the text 0 as none.
-use Rattle.std.proofs.Common.{◌≡◌, ◌≢◌, ℕ, ◌<◌, List, [], ◌∷◌, length, refl, sym, ap, ◌∙◌, inl, arith, subst, append-nil, length-append}
+use Rattle.std.proofs.Common.{◌≡◌, ◌≢◌, ℕ, List, [], ◌∷◌, length, refl, sym, ap, ◌∙◌, inl, arith, subst, append-nil, length-append}
 use Rattle.humantime.specs.Durations.Characters.{is_digit, bare_zero}
 use Rattle.humantime.specs.Durations.Spans.{Span, SpellsEach, SpellsAll, Reads}
 use Rattle.std.proofs.lemmas.Grind.{common_steps}

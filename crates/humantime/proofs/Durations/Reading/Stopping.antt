@@ -7,7 +7,7 @@ use Rattle.humantime.specs.Durations.Characters.{is_ws, is_digit}
 use Rattle.humantime.specs.Durations.Units.{scale_of_word}
 use Rattle.humantime.specs.Durations.Spans.{Span}
 use Rattle.humantime.specs.Durations.Accepted.{too_long}
-use Rattle.humantime.specs.Durations.Faults.{stop_at, fault_at, fraction_of, word_of, after_word, span_of, Fault, Stops, Nothing_there, Wrong_there, ends_span}
+use Rattle.humantime.specs.Durations.Faults.{stop_at, fault_at, fraction_of, word_of, after_word, span_of, Fault, Stops, ends_span}
 
 -- a span that is well formed begins the rest
 pub record Fine (rest : List ℕ) : Type 0 where

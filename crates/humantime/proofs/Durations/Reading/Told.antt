@@ -1,9 +1,9 @@
 -- The walk over a text tells the spans that it is read as, whatever reads it.
 use Rattle.std.proofs.lemmas.Grind.{common_steps}
-use Rattle.std.proofs.Common.{◌≡◌, ◌⊎◌, ℕ, Bool, true, false, List, [], ◌∷◌, ◌++◌, map, Option, Some, None, refl, sym, ap, ◌∙◌, inl, inr, arith, subst, append-nil}
+use Rattle.std.proofs.Common.{◌≡◌, ◌⊎◌, ℕ, Bool, true, false, List, [], ◌∷◌, ◌++◌, map, Option, Some, None, refl, ap, ◌∙◌, inl, inr, arith, subst, append-nil}
 use Rattle.std.specs.List.{AllByRecursion}
 use Rattle.humantime.specs.Texts.{begins, ends, past}
-use Rattle.humantime.specs.Durations.Characters.{is_ws, is_digit, is_numeric}
+use Rattle.humantime.specs.Durations.Characters.{is_ws, is_digit}
 use Rattle.humantime.specs.Durations.Spans.{Span, SpellsEach}
 use Rattle.humantime.specs.Durations.Accepted.{Formed}
 use Rattle.humantime.specs.Durations.Faults.{Fault, Split, ends_span, span_of}

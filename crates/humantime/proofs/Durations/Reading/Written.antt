@@ -1,11 +1,10 @@
 -- A rest that a well formed span begins is a spelling of that span, and then the rest behind it.
-use Rattle.std.proofs.Common.{◌≡◌, ◌≢◌, ℕ, ◌<◌, true, false, List, [], ◌∷◌, ◌++◌, length, Option, Some, if◌then◌else◌, refl, sym, ap, ◌∙◌, inl, inr, arith, append_assoc, append-nil}
-use Rattle.std.proofs.lemmas.Bool.{cases_Bool}
-use Rattle.humantime.specs.Texts.{leading, past, begins, ends}
-use Rattle.humantime.specs.Durations.Characters.{is_ws, is_digit, is_letter, is_point, is_numeric, digits}
-use Rattle.humantime.specs.Durations.Spans.{Span, Only, SpellsFraction, Spells}
+use Rattle.std.proofs.Common.{◌≡◌, ◌≢◌, ℕ, ◌<◌, true, false, List, [], ◌∷◌, ◌++◌, length, Some, if◌then◌else◌, refl, arith, append-nil}
+use Rattle.humantime.specs.Texts.{leading, begins, ends}
+use Rattle.humantime.specs.Durations.Characters.{is_ws, is_digit, is_point, is_numeric}
+use Rattle.humantime.specs.Durations.Spans.{Span, SpellsFraction, Spells}
 use Rattle.humantime.specs.Durations.Accepted.{Formed}
-use Rattle.humantime.specs.Durations.Faults.{after_number, after_fraction, word_of, after_word, span_of, ends_span}
+use Rattle.humantime.specs.Durations.Faults.{after_number, word_of, after_word, span_of}
 use Rattle.humantime.specs.References.Durations.Lending.{fraction_at, past_fraction}
 use Rattle.humantime.proofs.Durations.Reading.Classes.{digit_is_numeric, is_point-true}
 use Rattle.humantime.proofs.Durations.Reading.Runs.{leading-past, Only-leading, begins_leading, ends_Only, ends-append}

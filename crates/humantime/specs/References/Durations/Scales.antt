@@ -1,5 +1,5 @@
 -- What the code's units stand for.
-use Rattle.std.specs.Prelude.{◌≡◌, ◌+◌, ℕ, List, length, Some, option_map}
+use Rattle.std.specs.Prelude.{◌≡◌, ℕ, List, length, Some, option_map}
 use Rattle.humantime.specs.declared.unit.Unit.{Unit}
 use Rattle.humantime.specs.declared.unit.Unit.TheVariants.{Nanosecond, Microsecond, Millisecond, Second, Minute, Hour, Day, Week, Month, Year}
 use Rattle.humantime.specs.declared.duration.reading.amount.Fraction.{Fraction}
