@@ -31,32 +31,32 @@ const MOST_ABOVE_BACK: [u8; 16] = [
     255, 255, 255, 255, 255, 255, 255, 255, 255, 255, 255, 255, 255, 0, 9, 9,
 ];
 
-/// What each of the first sixteen bytes counts in the number of its four: a tenth of the year, month, day and minute.
+/// What each of the first sixteen bytes counts in the number of its four: a tenth of the year, month, day, minute.
 const WEIGHTS_FRONT: [u8; 16] = [100, 10, 1, 0, 0, 10, 1, 0, 10, 1, 0, 0, 0, 0, 10, 1];
 
-/// And each of those from the fourth on: the year's last digit, nothing, hour and second.
+/// And each of those from the fourth on: the year's last digit, nothing, hour, second.
 const WEIGHTS_BACK: [u8; 16] = [1, 0, 0, 0, 0, 0, 0, 0, 10, 1, 0, 0, 0, 0, 10, 1];
 
-/// The least of the numbers at the front in a usual date and time.
+/// The least numbers at the front of a usual date and time: year 1970, month 1, day 1, minute 0.
 const FIRST: [u32; 4] = [197, 1, 1, 0];
 
-/// How far each may be above it: each month has 28 days.
+/// How far a number may be above it: up to year 9999, month 12, day 28, which each month has, minute 59.
 const MOST_AFTER: [u32; 4] = [802, 11, 27, 59];
 
-/// The greatest of the numbers at the back.
+/// The greatest numbers at the back: a digit, nothing, hour 23, second 60.
 const MOST_BACK: [u32; 4] = [9, 0, 23, 60];
 
-/// The same, where second 60 is read as 59.
+/// The same, with second 59, as which second 60 is read.
 const MOST_READ: [u32; 4] = [9, 0, 23, 59];
 
-/// How many seconds a 1 counts in each of the numbers at the front, year and month apart.
+/// How many seconds a 1 counts in each number at the front: none in year and month, and those of a day and of a minute.
 const SECONDS: [u32; 4] = [0, 0, 86_400, 60];
 
-/// And in each of those at the back.
+/// And in each number at the back: none in the first two, and those of an hour and of a second.
 const SECONDS_BACK: [u32; 4] = [0, 0, 3_600, 1];
 
-/// Which of sixteen numbers stand at the places of nine digits, three to four lanes, by how many of the last ones are
-/// digits. At the other places 255 stands for a 0.
+/// Which of sixteen numbers stand at the places of nine digits, three to four lanes: a row for each number of digits from
+/// none on, which are the last of the sixteen. For a place without a digit 255 gives 0.
 static PLACES: [[u8; 16]; 10] = [
     [
         255, 255, 255, 255, 255, 255, 255, 255, 255, 255, 255, 255, 255, 255, 255, 255,
@@ -90,10 +90,10 @@ static PLACES: [[u8; 16]; 10] = [
     ],
 ];
 
-/// What each digit counts in the number of its three.
+/// What each of these digits counts in the number of its three.
 const WEIGHTS_THREE: [u8; 16] = [100, 10, 1, 0, 100, 10, 1, 0, 100, 10, 1, 0, 0, 0, 0, 0];
 
-/// How many nanoseconds a 1 counts in each of the three numbers.
+/// How many nanoseconds a 1 counts in each of the three numbers, and nothing behind them.
 const NANOS: [u32; 4] = [1_000_000, 1_000, 1, 0];
 
 /// The numbers of a date and a time of day.
@@ -267,7 +267,7 @@ fn is_shaped_front(b: &[u8]) -> bool
     other.to_bitmask() == 0
 }
 
-/// The numbers that date and time show, where there are digits in all places.
+/// The numbers that date and time show, where all places have digits: `dot4` sums up four bytes, each by its weight.
 #[inline(always)]
 fn lanes_at(b: &[u8]) -> Lanes
     requires long { 19 ≤ length b.now }
@@ -319,7 +319,8 @@ fn seconds_in(lanes: Lanes) -> Option<u64>
     Some(days as u64 * 86_400 + seconds_of_month(lanes) as u64)
 }
 
-/// A date of 1970 to 9999 that exists, and a time of day, perhaps with a second 60.
+/// A date of 1970 to 9999 that exists, and a time of day, perhaps with a second 60. Only where it is not a usual one are
+/// the ranges asked one by one.
 #[inline(always)]
 fn is_in_range(lanes: Lanes) -> bool
     requires { AreShort lanes.front × AreShort lanes.back }
@@ -328,7 +329,8 @@ fn is_in_range(lanes: Lanes) -> bool
     is_usual(lanes) || are_in_range(numbers_in(lanes))
 }
 
-/// The same, and the day is one that each month has: all ranges are tested at once.
+/// The same of a day that each month has: all ranges are tested at once. A number below the least one wraps around to far
+/// above.
 #[inline(always)]
 fn is_usual(lanes: Lanes) -> bool
     requires { AreShort lanes.front × AreShort lanes.back }
@@ -352,7 +354,7 @@ fn are_in_range(x: Numbers) -> bool
         && x.second <= 60
 }
 
-/// The seconds of the days before this one in its month, and of this day.
+/// The seconds of the days before this one in its month, and of this day, summed in lanes.
 #[inline(always)]
 fn seconds_of_month(lanes: Lanes) -> u32
     requires short { AreShort lanes.front × AreShort lanes.back }
@@ -378,7 +380,7 @@ fn read_fraction(b: &[u8], part: &[u8]) -> Result<u32, TimestampError>
     if part[0] != b'.' {
         return Err(TimestampError::InvalidFormat);
     }
-    // A point and nine digits count.
+    // A point and nine digits count. At least 19 bytes stand before them, so that sixteen end where they do.
     let end = part.len().min(10);
     match last_digits(&b[3 + end..19 + end], end - 1) {
         Some(nanos) if are_digits(&part[end..]) => Ok(nanos),
@@ -420,7 +422,7 @@ fn last_digits(bytes: &[u8], count: usize) -> Option<u32>
     Some((threes * u32x4::from_array(NANOS)).reduce_sum())
 }
 
-/// The last of sixteen numbers, at most nine, three to four lanes. Where there are fewer, zeros stand behind them.
+/// The last of sixteen numbers, at most nine, three to four lanes; the other lanes are 0.
 #[inline(always)]
 fn in_threes(numbers: u8x16, count: usize) -> u8x16
     requires long { length numbers ≡ 16 }
