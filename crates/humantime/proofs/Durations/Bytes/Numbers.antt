@@ -1,6 +1,6 @@
 -- Reading the digits that begin a text, one by one.
 use Rattle.std.proofs.lemmas.Grind.{common_steps}
-use Rattle.std.proofs.Common.{◌≡◌, ◌≤◌, ◌<◌, ◌+◌, ◌-◌, ◌*◌, ℕ, List, [], ◌∷◌, ◌++◌, ap, sym, ◌∙◌, arith, append_assoc, append-nil, true, false, chars, take, drop, get_or, length, IsUtf8, IsCharBoundary, ◌≢◌, refl, Some, None}
+use Rattle.std.proofs.Common.{◌≡◌, ◌≤◌, ◌<◌, ◌+◌, ◌-◌, ◌*◌, ℕ, List, [], ◌∷◌, ◌++◌, ap, sym, ◌∙◌, arith, append_assoc, append-nil, true, false, chars, take, drop, get_or, length, IsUtf8, IsCharBoundary, refl, Some, None}
 use Rattle.std.specs.Char.{digit_value, is_ascii_digit}
 use Rattle.std.specs.Str.Parse.{digits_value_after}
 use Rattle.std.proofs.lemmas.Str.{digit_value_digit, IsCharBoundary-start}
@@ -9,10 +9,10 @@ use Rattle.std.proofs.lemmas.Bool.Decides.{nat_tests}
 use Rattle.humantime.specs.Texts.{begins, leading, decimal_value}
 use Rattle.humantime.specs.Durations.Characters.{is_ws, is_digit, is_numeric, u64_max}
 use Rattle.humantime.specs.Durations.Faults.{number_of, after_number}
-use Rattle.humantime.specs.References.Durations.Scanning.{space_width, number_at}
+use Rattle.humantime.specs.References.Durations.Scanning.{BeginsWithDigit, space_width, number_at}
 use Rattle.humantime.proofs.Durations.Bytes.PlaceSteps.{digit_over, digit_at, space_over, no_space}
-use Rattle.humantime.proofs.Durations.Bytes.Tails.{front_is}
-use Rattle.humantime.proofs.Durations.Reading.Classes.{digit_is_numeric, space_is_numeric, space_not_digit}
+use Rattle.humantime.proofs.Durations.Bytes.Tails.{front_is, no_bytes}
+use Rattle.humantime.proofs.Durations.Reading.Classes.{digit_is, digit_is_numeric, space_is_numeric, space_not_digit}
 use Rattle.humantime.proofs.Durations.Reading.SignificantDigits.{value-append}
 
 -- The digits are those that begin a text before a place, and others may follow.
@@ -65,9 +65,19 @@ all_read text at ds u h ended =
     let after : chars (drop at text) ≡ after_number (chars text) = sym behind.1 ∙ h.after in
     (h.all ∙ ap (λ (x : List ℕ). ds ++ x) behind.0 ∙ append-nil ds, front_is is_numeric text at u h.place after, after)
 
+-- the first byte of a text that begins with a digit
 pub digit_range : (c : ℕ) → is_digit c ≡ true → (48 ≤ c) × (c ≤ 57)
 unfolding is_digit
 digit_range c d = grind (arith, nat_tests)
+
+-- the first byte of a text that begins with a digit
+pub first_digit : (text bytes : List ℕ) → IsUtf8 text → bytes ≡ text → BeginsWithDigit text
+    → (0 < length bytes) × (48 ≤ get_or bytes 0 0) × (is_ascii_digit (get_or bytes 0 0) ≡ true)
+unfolding BeginsWithDigit
+first_digit text bytes u same d =
+    let some : 0 < length text = grind (arith, common_steps, no_bytes) in
+    let digit = digit_at text 0 u (some, IsCharBoundary-start text u) ∙ d in
+    rw same (some, (digit_range _ (sym (digit_is _) ∙ digit)).0, digit)
 
 pub digit_counts : (c : ℕ) → is_digit c ≡ true → digit_value c ≡ c - 48
 digit_counts c d = omega (arith, digit_value_digit c (digit_range c d), digit_range c d)

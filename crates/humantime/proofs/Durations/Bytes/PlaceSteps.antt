@@ -1,6 +1,6 @@
 -- Places in a text, and the character that stands at one.
 use Rattle.std.proofs.lemmas.Grind.{common_steps}
-use Rattle.std.proofs.Common.{◌≡◌, ◌≢◌, ◌<◌, ◌≤◌, ◌+◌, ℕ, List, [], ◌∷◌, ◌++◌, length, get_or, drop, refl, ap, sym, ◌∙◌, arith, length-drop, IsUtf8, IsCharBoundary, chars, encode_utf8, encode_utf8_all, ltb, Bool, true, false, inl, inr}
+use Rattle.std.proofs.Common.{◌≡◌, ◌≢◌, ◌<◌, ◌≤◌, ◌+◌, ℕ, List, [], ◌∷◌, ◌++◌, length, get_or, drop, refl, ap, sym, ◌∙◌, arith, length-drop, IsUtf8, IsCharBoundary, chars, encode_utf8, encode_utf8_all, Bool, true, false, inl, inr}
 use Rattle.std.specs.Prelude.{◌==◌, ◌&&◌, ◌||◌, Some, None, option_map, slice_get, if◌then◌else◌}
 use Rattle.std.specs.Char.{is_ascii_digit, is_whitespace, len_utf8}
 use Rattle.std.proofs.Math.Utf8.{encode}
@@ -12,8 +12,9 @@ use Rattle.humantime.specs.Durations.Errors.{IsPlaceIn}
 use Rattle.humantime.specs.Texts.{begins, past}
 use Rattle.humantime.specs.Durations.Characters.{is_letter, is_ws, is_digit, is_point}
 use Rattle.humantime.specs.References.Durations.Scanning.{space_width, digits_at, fraction_read, ends_span}
-use Rattle.humantime.proofs.Durations.Bytes.Tails.{no_bytes}
-use Rattle.humantime.proofs.Durations.Reading.Classes.{digit_is, is_point-46, wide_no_digit, white_is}
+use Rattle.humantime.specs.References.Durations.SpanParts.{IsBehindWord}
+use Rattle.humantime.proofs.Durations.Bytes.Tails.{no_bytes, tail_at}
+use Rattle.humantime.proofs.Durations.Reading.Classes.{digit_is, digit_is_numeric, space_is_numeric, is_point-46, letter_not_space, wide_no_digit, white_is}
 
 -- The character at a place, and what follows it.
 pub record IsCharAt (text : List ℕ) (at char next : ℕ) : Type 0 where
@@ -164,6 +165,13 @@ mu_over text at u place some pair = elim (or_cases _ _ pair) [
       (956, refl, two_over text at 956 0xce 0xbc u place some (eqb-true _ _ p.0) (eqb-true _ _ p.1) mu_bytes)
 ]
 
+-- and that is no white space
+pub no_space_at_mu : (text : List ℕ) (at : ℕ) → IsUtf8 text → IsCharBoundary text at → at + 1 < length text
+    → is_mu_pair (get_or text at 0) (get_or text (at + 1) 0) ≡ true → space_width (chars (drop at text)) ≡ 0
+no_space_at_mu text at u place some pair =
+    let c = mu_over text at u place some pair in
+    rw (c.2.ahead, letter_not_space _ c.1) refl
+
 -- a character beyond ASCII that has other bytes is no letter
 pub no_letter : (text : List ℕ) (at : ℕ) → IsUtf8 text → IsPlaceIn text at → 128 ≤ get_or text at 0
     → (at + 1 < length text → is_mu_pair (get_or text at 0) (get_or text (at + 1) 0) ≡ false) → begins is_letter (chars (drop at text)) ≡ false
@@ -172,7 +180,21 @@ no_letter text at u here wide other =
     let c = char_at text at u here in
     rw c.1.ahead (grind (arith, common_steps, micro_bytes, mu_bytes, two_bytes, nat_tests))
 
--- white space ends a span, and so does a digit
-pub ends_by_width : (cs : List ℕ) → cs ≢ [] → (0 < space_width cs → ends_span cs ≡ true) × (¬ (0 < space_width cs) → begins is_digit cs ≡ ends_span cs)
-ends_by_width [] some = absurd (some refl)
-ends_by_width (c ∷ cs) some = grind (arith, common_steps, len_utf8_bounds)
+-- ---- what ends a span
+
+pub digit_ends : (cs : List ℕ) → begins is_digit cs ≡ true → ends_span cs ≡ true
+digit_ends [] d = refl
+digit_ends (c ∷ cs) d = digit_is_numeric c d
+
+pub other_goes_on : (cs : List ℕ) → cs ≢ [] → begins is_digit cs ≡ false → ¬ (0 < space_width cs) → ends_span cs ≡ false
+other_goes_on [] some d w = absurd (some refl)
+other_goes_on (c ∷ cs) some d w = grind (arith, common_steps, len_utf8_bounds)
+
+pub kept_behind : (text : List ℕ) → IsUtf8 text → ends_span (chars text) ≡ true → IsBehindWord text text
+kept_behind text u e = record { ends = e; same = refl; tail = tail_at text text 0 u (IsCharBoundary-start text u) refl }
+
+pub space_behind : (text : List ℕ) (at : ℕ) → IsUtf8 text → 0 < length text → 0 < space_width (chars text) → at ≡ 0 + space_width (chars text)
+    → IsCharBoundary text at × IsBehindWord text (drop at text)
+space_behind text at u some white n =
+    let c = space_over text 0 at u (some, IsCharBoundary-start text u) white n in
+    (c.2.place, record { ends = rw c.2.ahead (space_is_numeric _ c.1); same = rw (c.2.ahead, c.1) refl; tail = tail_at text _ at u c.2.place refl })

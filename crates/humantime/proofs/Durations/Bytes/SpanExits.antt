@@ -1,6 +1,6 @@
 -- How reading stops at a rest, by its parts.
-use Rattle.std.specs.Prelude.{not, unwrap_or, length, ◌==◌, Bool, ◌∷◌}
-use Rattle.std.proofs.Common.{arith, ◌≡◌, ◌≢◌, ℕ, true, false, List, [], Option, Some, None, option_map, refl, sym, ◌∙◌, chars, Bor, ap, encode_utf8_all}
+use Rattle.std.specs.Prelude.{not, length, ◌==◌, Bool}
+use Rattle.std.proofs.Common.{arith, ◌≡◌, ◌≢◌, ℕ, true, false, List, [], Option, Some, None, option_map, refl, ◌∙◌, chars, Bor, encode_utf8_all}
 use Rattle.std.proofs.lemmas.Grind.{common_steps}
 use Rattle.std.specs.Str.{drop_trailing_whitespace}
 use Rattle.humantime.specs.Texts.{begins, past, leading, decimal_value}
@@ -13,7 +13,6 @@ use Rattle.humantime.specs.References.Durations.Scales.{Counted, counted}
 use Rattle.humantime.specs.References.Durations.Scanning.{ends_span, number_at, fraction_read}
 use Rattle.humantime.specs.Durations.Accepted.{is_some_and, too_long}
 use Rattle.humantime.proofs.Durations.Bytes.Trimming.{spelled_at}
-use Rattle.humantime.proofs.Durations.Reading.Runs.{leading-past}
 
 -- the number and the fraction that begin a rest, neither too long, what each stands in, and what follows each
 pub are_read : (rest : List ℕ) (v : ℕ) (n a : List ℕ) (f : Option Counted) (d : Option (List ℕ)) (b : List ℕ)

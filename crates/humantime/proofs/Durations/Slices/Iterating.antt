@@ -14,7 +14,7 @@ abbrev pub left : Bool → Bool → List ℕ → List ℕ → List (Result Lent 
 left ended first text before = if ended then [] else left_at first text (past is_ws before)
 
 pub step_fine : (ended first first' : Bool) (text before rest next : List ℕ) (x : Lent)
-    → ended ≡ false → rest ≡ past is_ws before → begins is_digit rest ≡ true → stop_at text rest ≡ None → x ≡ lent_at text rest → next ≡ after_word rest → first' ≡ false
+    → ended ≡ false → rest ≡ past is_ws before → begins is_digit rest ≡ true → stop_at text rest ≡ None → x ≡ lent_at text rest → past is_ws next ≡ past is_ws (after_word rest) → first' ≡ false
     → left ended first text before ≡ Ok x ∷ left ended first' text next
 step_fine ended first first' text before rest next x e r d s i n f = grind (arith, common_steps, walk-right)
 

@@ -1,12 +1,11 @@
 -- The steps by which one span is read, over what is left of a text: the plain reference of the private functions.
-use Rattle.std.specs.Prelude.{◌≡◌, ◌==◌, ◌≤◌, ◌<◌, ◌+◌, ◌^◌, ℕ, ◌-◌, ◌++◌, Bool, true, false, List, [], ◌∷◌, length, drop, Option, Some, None, option_map, nat_lt, if◌then◌else◌, IsUtf8}
+use Rattle.std.specs.Prelude.{◌≡◌, ◌≤◌, ◌<◌, ◌^◌, ℕ, ◌-◌, ◌++◌, true, List, [], ◌∷◌, length, drop, Option, Some, None, option_map, nat_lt, if◌then◌else◌, IsUtf8, chars}
 use Rattle.std.specs.Char.{len_utf8}
 use Rattle.humantime.specs.declared.duration.reading.amount.Fraction.{Fraction}
 use Rattle.humantime.specs.Texts.{begins, leading, decimal_value}
-use Rattle.humantime.specs.Durations.Characters.{is_ws, is_numeric, is_point, significant, u64_max}
+use Rattle.humantime.specs.Durations.Characters.{is_ws, is_digit, is_numeric, is_point, significant, u64_max}
 use Rattle.humantime.specs.Durations.Faults.{number_of, after_number}
 pub use Rattle.humantime.specs.Durations.Faults.{ends_span}
-use Rattle.humantime.specs.Durations.Accepted.{is_some_and}
 use Rattle.humantime.specs.References.Durations.Scales.{Counted, counted}
 
 -- The bytes of a text end with those of the rest, which is a text of its own.
@@ -20,6 +19,10 @@ pub record IsCut (text front rest : List ℕ) : Type 0 where
   pub whole : text ≡ front ++ rest
   pub front_utf8 : IsUtf8 front
   pub tail : IsTail text rest
+
+-- a digit begins the text
+unfoldable pub BeginsWithDigit : List ℕ → Type 0
+BeginsWithDigit text = begins is_digit (chars text) ≡ true
 
 -- how many bytes the white space has that begins a rest: those of one character, or none
 abbrev pub space_width : List ℕ → ℕ

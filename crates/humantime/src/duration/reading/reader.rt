@@ -1,10 +1,10 @@
 //! Reading one span.
 
-ghost use Rattle.std.specs.Prelude.{◌≡◌, chars, IfOk, IfErr};
+ghost use Rattle.std.specs.Prelude.{◌≡◌, false, chars, IfOk, IfErr, MatchOption};
 ghost use Rattle.humantime.specs.Durations.Errors.{PointsInto};
 ghost use Rattle.humantime.specs.References.Durations.Reading.{stop_at};
-ghost use Rattle.humantime.specs.References.Durations.Scanning.{IsTail, ends_span};
-ghost use Rattle.humantime.specs.References.Durations.SpanParts.{IsSpanAt, stop_of};
+ghost use Rattle.humantime.specs.References.Durations.Scanning.{IsTail, BeginsWithDigit, ends_span};
+ghost use Rattle.humantime.specs.References.Durations.SpanParts.{IsBehindWord, IsSpanAt, stop_of};
 
 use crate::duration::error::DurationError;
 use crate::duration::reading::amount::Amount;
@@ -14,21 +14,27 @@ use crate::duration::reading::scan::{
 use crate::duration::reading::span::Span;
 use crate::unit::unit_of;
 
-/// Whether a digit, white space or the end follows.
+/// What follows a word, without the character of white space behind it, which is not looked at again; `None` where what
+/// follows is no digit, white space or the end.
 #[inline(always)]
-fn ends_span(next: &str) -> bool
-    ensures { result ≡ ends_span (chars next.now) }
+fn behind_word<'a>(after_word: &'a str) -> Option<&'a str>
+    ensures { MatchOption result (ends_span (chars after_word.now) ≡ false) (λ next. IsBehindWord after_word.now next.now) }
 {
-    next.is_empty() || begins_with_digit(next) || space_at(next, 0).is_some()
+    if after_word.is_empty() || begins_with_digit(after_word) {
+        return Some(after_word);
+    }
+    let at = space_at(after_word, 0)?;
+    Some(&after_word[at..])
 }
 
-/// The span that begins the rest of a text, and what follows its word.
+/// The span that begins the rest of a text, and what follows its word, without white space that was seen.
 #[inline(always)]
 pub(crate) fn span_at<'a>(
     text: &'a str,
     rest: &'a str,
 ) -> Result<(Span<'a>, &'a str), DurationError<'a>>
-    requires { IsTail text.now rest.now }
+    requires tail { IsTail text.now rest.now }
+    requires digit { BeginsWithDigit rest.now }
     ensures stop { stop_of result ≡ stop_at (chars text.now) (chars rest.now) }
     ensures place { IfErr result (PointsInto text.now) }
     ensures fine { IfOk result (λ x. IsSpanAt text.now rest.now x.0 x.1.now) }
@@ -49,9 +55,9 @@ pub(crate) fn span_at<'a>(
     if bare {
         return Err(DurationError::InvalidCharacter(offset_of(text, after_number)));
     }
-    if !ends_span(after_word) {
+    let Some(next) = behind_word(after_word) else {
         return Err(DurationError::InvalidCharacter(end));
-    }
+    };
     let unit = word.letters;
     let Some(known) = unit_of(word.key) else {
         let start = offset_of(text, after_fraction);
@@ -76,6 +82,6 @@ pub(crate) fn span_at<'a>(
             end,
             amount,
         },
-        after_word,
+        next,
     ))
 }

@@ -5,7 +5,7 @@ ghost use Rattle.humantime.specs.Texts.{begins, past, leading};
 ghost use Rattle.humantime.specs.Durations.Characters.{is_digit, is_ws, offset_of, is_letter};
 ghost use Rattle.humantime.specs.Durations.Errors.{IsPlaceIn};
 ghost use Rattle.humantime.specs.References.Durations.Scales.{parts_of};
-ghost use Rattle.humantime.specs.References.Durations.Scanning.{IsTail, space_width, number_at, digits_at, fraction_read, IsCut};
+ghost use Rattle.humantime.specs.References.Durations.Scanning.{IsTail, BeginsWithDigit, space_width, number_at, digits_at, fraction_read, IsCut};
 ghost use Rattle.humantime.specs.References.Durations.Classes.{class_of};
 ghost use Rattle.humantime.specs.Durations.Units.{scale_of_word};
 ghost use Rattle.humantime.specs.References.Durations.Keys.{packed, scale_of_key};
@@ -48,6 +48,14 @@ pub(crate) fn ascii_class(c: u8) -> Class
     ASCII_CLASSES[c as usize]
 }
 
+/// Whether these are the two bytes of the micro sign, or those of the Greek letter mu: the letters beyond ASCII.
+#[inline(always)]
+fn is_mu(first: u8, second: u8) -> bool
+    ensures { result ≡ ((first == 0xc2 && second == 0xb5) || (first == 0xce && second == 0xbc)) }
+{
+    first == 0xc2 && second == 0xb5 || first == 0xce && second == 0xbc
+}
+
 /// How many bytes the white space at the front of the text has: those of one character, or none.
 ///
 /// It stands out of line, marked as rarely called, so that loops over ASCII keep what they hold in registers, and
@@ -75,6 +83,10 @@ pub(crate) fn space_at(text: &str, at: usize) -> Option<usize>
             Class::White => Some(at + 1),
             Class::Letter | Class::Other => None,
         };
+    }
+    // A letter is told by its bytes, and is not decoded.
+    if at + 1 < bytes.len() && is_mu(bytes[at], bytes[at + 1]) {
+        return None;
     }
     match wide_space(&text[at..]) {
         0 => None,
@@ -118,15 +130,18 @@ pub(crate) fn begins_with_digit(text: &str) -> bool
     !bytes.is_empty() && bytes[0].is_ascii_digit()
 }
 
-/// The number at the front of the text, what it stands in, and what follows it; `None` where it is too large.
+/// The number at the front of the text, what it stands in, and what follows it; `None` where it is too large. The first
+/// digit is known to be one.
 #[inline(always)]
+#[tactic(auto, using(crate::proofs::Durations::Bytes::Numbers::first_digit))]
 pub(crate) fn read_number<'a>(text: &'a str) -> Option<(u64, &'a str, &'a str)>
+    requires { BeginsWithDigit text.now }
     ensures value { option_map (λ x. (x.0, chars x.1.now, chars x.2.now)) result ≡ number_at (chars text.now) }
     ensures tail { IfSome result (λ x. IsTail text.now x.2.now) }
 {
     let bytes = text.as_bytes();
-    let mut value = 0;
-    let mut at = 0;
+    let mut value = (bytes[0] - b'0') as u64;
+    let mut at = 1;
     while at < bytes.len() {
         if bytes[at].is_ascii_digit() {
             value = push_digit(value, bytes[at])?;
@@ -188,14 +203,6 @@ pub(crate) struct Word<'a> {
     pub letters: &'a str,
     pub key: u64,
     ghost told: { scale_of_key key ≡ scale_of_word (chars letters.now) },
-}
-
-/// Whether these are the two bytes of the micro sign, or those of the Greek letter mu: the letters beyond ASCII.
-#[inline(always)]
-fn is_mu(first: u8, second: u8) -> bool
-    ensures { result ≡ ((first == 0xc2 && second == 0xb5) || (first == 0xce && second == 0xbc)) }
-{
-    first == 0xc2 && second == 0xb5 || first == 0xce && second == 0xbc
 }
 
 /// The place after the letters at the front of the text, and the key of the bytes before it, where they are few.

@@ -14,21 +14,22 @@ use crate::value::StdDuration;
 const MOST_BEFORE_NINE_ZEROS: u64 = 18_446_744_073;
 
 /// The duration and so many of the unit.
-fn add_whole(total: StdDuration, value: u64, unit: Unit) -> Option<StdDuration>
-    ensures { result ≡ add_times total (scale_of unit).one value }
+fn add_whole(sum: StdDuration, value: u64, unit: Unit) -> Option<StdDuration>
+    ensures { result ≡ add_times sum (scale_of unit).one value }
 {
-    match unit {
-        Unit::Nanosecond => total.checked_add_nanos(value),
-        Unit::Microsecond => total.checked_add_nanos(value.checked_mul(sizes::NANOS_PER_MICRO)?),
-        Unit::Millisecond => total.checked_add_nanos(value.checked_mul(sizes::NANOS_PER_MILLI)?),
-        Unit::Second => total.checked_add_secs(value),
-        Unit::Minute => total.checked_add_secs(value.checked_mul(sizes::SECONDS_PER_MINUTE)?),
-        Unit::Hour => total.checked_add_secs(value.checked_mul(sizes::SECONDS_PER_HOUR)?),
-        Unit::Day => total.checked_add_secs(value.checked_mul(sizes::SECONDS_PER_DAY)?),
-        Unit::Week => total.checked_add_secs(value.checked_mul(sizes::SECONDS_PER_WEEK)?),
-        Unit::Month => total.checked_add_secs(value.checked_mul(sizes::SECONDS_PER_MONTH)?),
-        Unit::Year => total.checked_add_secs(value.checked_mul(sizes::SECONDS_PER_YEAR)?),
-    }
+    let nanos = match unit {
+        Unit::Nanosecond => value,
+        Unit::Microsecond => value.checked_mul(sizes::NANOS_PER_MICRO)?,
+        Unit::Millisecond => value.checked_mul(sizes::NANOS_PER_MILLI)?,
+        Unit::Second => return sum.checked_add_secs(value),
+        Unit::Minute => return sum.checked_add_secs(value.checked_mul(sizes::SECONDS_PER_MINUTE)?),
+        Unit::Hour => return sum.checked_add_secs(value.checked_mul(sizes::SECONDS_PER_HOUR)?),
+        Unit::Day => return sum.checked_add_secs(value.checked_mul(sizes::SECONDS_PER_DAY)?),
+        Unit::Week => return sum.checked_add_secs(value.checked_mul(sizes::SECONDS_PER_WEEK)?),
+        Unit::Month => return sum.checked_add_secs(value.checked_mul(sizes::SECONDS_PER_MONTH)?),
+        Unit::Year => return sum.checked_add_secs(value.checked_mul(sizes::SECONDS_PER_YEAR)?),
+    };
+    sum.checked_add_nanos(nanos)
 }
 
 /// The part of the factor that the fraction is, where it is whole and the product fits.
@@ -63,18 +64,19 @@ fn add_fraction(total: StdDuration, fraction: Fraction, unit: Unit) -> Option<St
     requires { fraction.count ≤ 19 }
     ensures { result ≡ add_part total (scale_of unit).fraction fraction.value fraction.count }
 {
-    match unit {
-        Unit::Nanosecond => (fraction.count == 0).then_some(total),
-        Unit::Microsecond => total.checked_add_nanos(part_of_power(fraction, 3)?),
-        Unit::Millisecond => total.checked_add_nanos(part_of_power(fraction, 6)?),
-        Unit::Second => total.checked_add_nanos(part_of_power(fraction, 9)?),
-        Unit::Minute => total.checked_add_nanos(part_of(fraction, sizes::NANOS_PER_MINUTE)?),
-        Unit::Hour => total.checked_add_secs(part_of(fraction, sizes::SECONDS_PER_HOUR)?),
-        Unit::Day => total.checked_add_secs(part_of(fraction, sizes::SECONDS_PER_DAY)?),
-        Unit::Week => total.checked_add_secs(part_of(fraction, sizes::SECONDS_PER_WEEK)?),
-        Unit::Month => total.checked_add_secs(part_of(fraction, sizes::SECONDS_PER_MONTH)?),
-        Unit::Year => total.checked_add_secs(part_of(fraction, sizes::SECONDS_PER_YEAR)?),
-    }
+    let nanos = match unit {
+        Unit::Nanosecond => return (fraction.count == 0).then_some(total),
+        Unit::Microsecond => part_of_power(fraction, 3)?,
+        Unit::Millisecond => part_of_power(fraction, 6)?,
+        Unit::Second => part_of_power(fraction, 9)?,
+        Unit::Minute => part_of(fraction, sizes::NANOS_PER_MINUTE)?,
+        Unit::Hour => return total.checked_add_secs(part_of(fraction, sizes::SECONDS_PER_HOUR)?),
+        Unit::Day => return total.checked_add_secs(part_of(fraction, sizes::SECONDS_PER_DAY)?),
+        Unit::Week => return total.checked_add_secs(part_of(fraction, sizes::SECONDS_PER_WEEK)?),
+        Unit::Month => return total.checked_add_secs(part_of(fraction, sizes::SECONDS_PER_MONTH)?),
+        Unit::Year => return total.checked_add_secs(part_of(fraction, sizes::SECONDS_PER_YEAR)?),
+    };
+    total.checked_add_nanos(nanos)
 }
 
 /// The duration and a span: first its number, then its fraction.

@@ -1,15 +1,24 @@
 use Rattle.std.proofs.lemmas.Grind.{common_steps}
-use Rattle.std.proofs.Common.{◌≡◌, ◌++◌, ◌∷◌, [], get_or, refl, sym, ap, ◌∙◌, chars, take, drop, false, arith}
+use Rattle.std.proofs.Common.{◌≡◌, ◌++◌, ◌∷◌, [], get_or, sym, ap, ◌∙◌, chars, take, drop, false, arith}
 use Rattle.humantime.specs.Texts.{begins}
 use Rattle.humantime.specs.Durations.Characters.{is_numeric}
 use Rattle.humantime.proofs.Durations.Reading.Classes.{digit_is}
-use Rattle.humantime.proofs.Durations.Bytes.Numbers.{none_read, read_digit, read_space, stops_here, all_read, value_more, number_passes, number_ends}
+use Rattle.humantime.proofs.Durations.Bytes.Numbers.{first_digit, digit_range, none_read, read_digit, read_space, stops_here, all_read, value_more, number_passes, number_ends}
 use Rattle.humantime.proofs.Durations.Bytes.Tails.{no_chars_at}
 use Rattle.humantime.proofs.duration.reading.scan.read_number.Goals as goal
 use Rattle.humantime.proofs.duration.reading.scan.read_number.Goals.{else-loop-at-test, then-loop-at-test+else-is_ascii_digit+in-None}
 
 pub loop-at-init : goal.loop-at-init
-loop-at-init c = record { taken = []; read = none_read _ c.utf8.text; value = refl; fits = omega arith }
+loop-at-init c =
+    let first = first_digit _ _ c.utf8.text c.as_bytes-bytes.ensures.value c.requires in
+    let c0 = get_or c.as_bytes-bytes.result.now 0 0 in
+    let digit = sym (digit_is c0) ∙ first.2 in
+    record {
+      taken = c0 ∷ [];
+      read = read_digit _ _ 0 [] c.utf8.text c.as_bytes-bytes.ensures.value first.0 (none_read _ c.utf8.text) first.2;
+      value = omega (arith, value_more [] c0 digit);
+      fits = omega (arith, digit_range c0 digit);
+    }
 
 pub push_digit-requires : goal.push_digit-requires
 push_digit-requires c = grind (arith, common_steps, digit_is)

@@ -1,7 +1,7 @@
-use Rattle.std.proofs.Common.{arith}
+use Rattle.std.proofs.Common.{sym, ◌∙◌, ◌+◌, ◌<◌, length, arith}
 use Rattle.std.proofs.lemmas.Grind.{common_steps}
 use Rattle.humantime.proofs.Durations.Reading.Classes.{class_tests}
-use Rattle.humantime.proofs.Durations.Bytes.PlaceSteps.{ascii_at}
+use Rattle.humantime.proofs.Durations.Bytes.PlaceSteps.{ascii_at, no_space_at_mu}
 use Rattle.humantime.proofs.duration.reading.scan.space_at.Goals as goal
 
 pub returns-in-White : goal.returns-in-White
@@ -9,3 +9,9 @@ returns-in-White c = grind (arith, common_steps, ascii_at, class_tests)
 
 pub returns-in-Letter : goal.returns-in-Letter
 returns-in-Letter c = grind (arith, common_steps, ascii_at, class_tests)
+
+pub returns-then-is_mu : goal.returns-then-is_mu
+returns-then-is_mu c =
+    let within : c.args.at + 1 < length c.args.text.now = omega (arith, c.if-at-bytes.true, c.as_bytes-bytes.ensures.len) in
+    let mu = rw c.as_bytes-bytes.ensures.value at (sym c.is_mu.ensures ∙ c.if-is_mu.true) in
+    λ white. omega (arith, white, no_space_at_mu c.args.text.now c.args.at c.utf8.text c.requires.1 within mu)

@@ -1,10 +1,14 @@
-use Rattle.std.proofs.Common.{◌<◌, length, ne_eqb, refl, arith, rules}
+use Rattle.std.proofs.Common.{◌<◌, length, ne_eqb, refl, sym, ◌∙◌, arith, rules}
 use Rattle.std.proofs.lemmas.Grind.{common_steps}
+use Rattle.humantime.specs.References.Durations.Scanning.{BeginsWithDigit}
 use Rattle.humantime.proofs.Durations.Slices.Iterating.{step_fine, step_stopped, step_expected, step_end}
-use Rattle.humantime.proofs.Durations.Slices.SpanSlices.{next_bytes}
 use Rattle.humantime.proofs.Durations.Slices.Places.{rest_place}
-use Rattle.humantime.proofs.Durations.Bytes.Tails.{byte_length-chars, no_bytes, some_chars, tail_of_tail}
+use Rattle.humantime.proofs.Durations.Bytes.Tails.{no_bytes, some_chars, tail_of_tail}
 use Rattle.humantime.proofs.duration.reading.iter.SpanIterIterator.next.Goals as goal
+
+pub span_at-requires-clause-digit : goal.span_at-requires-clause-digit
+unfolding BeginsWithDigit
+span_at-requires-clause-digit c = sym c.begins_with_digit.ensures ∙ c.if-not-begins_with_digit.false
 
 pub returns-then-self-text-clause-steps : goal.returns-then-self-text-clause-steps
 returns-then-self-text-clause-steps c = (grind (arith, common_steps, no_bytes, step_end), refl, tt)
@@ -31,7 +35,7 @@ returns-then-not-begins_with_digit-clause-goes c =
     grind (arith, common_steps)
 
 pub returns-in-Ok-clause-steps : goal.returns-in-Ok-clause-steps
-returns-in-Ok-clause-steps c = (grind (arith, common_steps, next_bytes, byte_length-chars, ne_eqb, step_fine), refl, tt)
+returns-in-Ok-clause-steps c = (grind (arith, common_steps, ne_eqb, step_fine), refl, tt)
 
 pub returns-in-Ok-clause-goes : goal.returns-in-Ok-clause-goes
 returns-in-Ok-clause-goes c =

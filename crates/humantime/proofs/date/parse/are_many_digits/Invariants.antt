@@ -1,7 +1,7 @@
 use Rattle.std.proofs.Common.{◌≡◌, length}
 use Rattle.std.specs.Char.{is_ascii_digit}
 use Rattle.std.specs.List.{list_all}
-use Rattle.humantime.proofs.date.parse.are_digits.Given as goal
+use Rattle.humantime.proofs.date.parse.are_many_digits.Given as goal
 
 -- what is left is digits exactly where all is
 abbrev pub invariant-loop-rest : goal.invariant-loop-rest
