@@ -399,12 +399,38 @@ fn is_offset(b: &[u8]) -> bool
     front == u32::from_le_bytes(*b"+00:") && back == u16::from_le_bytes(*b"00")
 }
 
-/// Digits alone.
+/// Digits alone: sixteen at once, and then the rest.
 #[inline(always)]
+#[tactic(auto, using(crate::proofs::Timestamps::Reading::Threes::front_and_rest))]
 fn are_digits(bytes: &[u8]) -> bool
     ensures { result ≡ list_all is_ascii_digit bytes.now }
 {
+    let mut rest = bytes;
+    while rest.len() >= 16 {
+        if !are_sixteen_digits(&rest[..16]) {
+            return false;
+        }
+        rest = &rest[16..];
+    }
+    are_few_digits(rest)
+}
+
+/// Digits alone, one by one.
+#[inline(always)]
+fn are_few_digits(bytes: &[u8]) -> bool
+    ensures { result ≡ list_all is_ascii_digit bytes.now }
+{
     bytes.iter().all(|b| b.is_ascii_digit())
+}
+
+/// Sixteen digits.
+#[inline(always)]
+fn are_sixteen_digits(bytes: &[u8]) -> bool
+    requires { length bytes.now ≡ 16 }
+    ensures { result ≡ list_all is_ascii_digit bytes.now }
+{
+    let numbers = u8x16::from_slice(bytes) - u8x16::splat(b'0');
+    numbers.simd_gt(u8x16::splat(9)).to_bitmask() == 0
 }
 
 /// The nanoseconds of the last digits of sixteen bytes, at most nine, where they are digits.

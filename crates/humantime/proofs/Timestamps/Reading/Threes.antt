@@ -1,7 +1,9 @@
 -- The digits of a fraction, of which nine are read at once.
 use Rattle.std.proofs.Common.{◌≡◌, inl, inr, ℕ, zero, suc, ◌+◌, ◌-◌, ◌*◌, ◌/◌, ◌%◌, ◌^◌, ◌≤◌, Bool, true, not, ltb, List, [], ◌∷◌, map, replicate, length, get_or, take, drop, Fits, w8, refl, sym, ap, subst, ◌∙◌, length-drop, T, arith}
 use Rattle.std.specs.Prelude.{◌&&◌, min, slice_range, codes}
+use Rattle.std.specs.Char.{is_ascii_digit}
 use Rattle.std.specs.List.{list_all}
+use Rattle.std.proofs.lemmas.List.Folds.{list_all-append}
 use Rattle.std.specs.Str.{all_ascii_digits}
 use Rattle.std.proofs.lemmas.Bool.{cases_lt}
 use Rattle.std.proofs.lemmas.Bool.Decides.{nat_tests}
@@ -149,6 +151,21 @@ last_tested bytes n long fits few =
     let each : Each1 (Fits w8) ds = subst (λ (xs : List ℕ). Each1 (Fits w8) xs) (take_all n ds size) (chunk-fits w8 (16 - n) n bytes fits) in
     ap (λ (ns : List ℕ). are_low (in_threes ns)) (last_above bytes n long)
     ∙ low_in_threes (aboves ds) (omega (arith, length-map ds (λ d. above d 48))) ∙ digits_near ds each
+
+-- ---- Sixteen bytes
+
+low_all : (ns : List ℕ) → length ns ≡ 16 → are_low ns ≡ list_all (λ n. not (ltb 9 n)) ns
+low_all (a ∷ b ∷ c ∷ d ∷ e ∷ f ∷ g ∷ h ∷ i ∷ j ∷ k ∷ l ∷ m ∷ o ∷ p ∷ q ∷ []) long = refl
+low_all _ long = absurd (omega arith)
+
+pub all_tested : (bytes : List ℕ) → length bytes ≡ 16 → ((k : ℕ) → Fits w8 (get_or bytes k 0))
+    → are_low (zip2 above (take 16 bytes) (replicate 16 48)) ≡ list_all is_ascii_digit bytes
+all_tested bytes long fits =
+    let each : Each1 (Fits w8) bytes = subst (λ (xs : List ℕ). Each1 (Fits w8) xs) (take_all 16 bytes (omega arith)) (chunk-fits w8 0 16 bytes fits) in
+    ap are_low (last_above bytes 16 long) ∙ low_all (aboves bytes) (omega (arith, long, length-map bytes (λ d. above d 48))) ∙ digits_near bytes each
+
+pub front_and_rest : (bytes : List ℕ) (n : ℕ) → list_all is_ascii_digit bytes ≡ (list_all is_ascii_digit (take n bytes) && list_all is_ascii_digit (drop n bytes))
+front_and_rest bytes n = ap (list_all is_ascii_digit) (sym (take-append-drop n bytes)) ∙ list_all-append is_ascii_digit (take n bytes) (drop n bytes)
 
 pub last_value : (bytes : List ℕ) (n : ℕ) → length bytes ≡ 16 → n ≤ 9 → all_ascii_digits (drop (16 - n) bytes) ≡ true
     → threes_sum (in_threes (numbers bytes n)) ≡ fraction_nanos (drop (16 - n) bytes)
