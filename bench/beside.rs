@@ -39,7 +39,7 @@ type DurationRead = Result<Duration, humantime::DurationError>;
 type MomentRead = Result<SystemTime, humantime::TimestampError>;
 
 /// Where the crate's text goes, with room for it.
-type Text = String;
+type Written = String;
 
 /// The text with the micro sign written as `u`, which the crate prints unless its feature `mu` is chosen.
 fn plain(text: &[u8]) -> String {
@@ -56,7 +56,7 @@ fn crate_read_duration(text: &str, place: &mut DurationRead) {
 }
 
 #[inline(never)]
-fn crate_canonical(text: &str, place: &mut Text) {
+fn crate_canonical(text: &str, place: &mut Written) {
     place.clear();
     if let Ok(duration) = humantime::parse_duration(text) {
         let _ = write!(place, "{}", humantime::format_duration(duration));
@@ -64,7 +64,7 @@ fn crate_canonical(text: &str, place: &mut Text) {
 }
 
 #[inline(never)]
-fn crate_print_duration(duration: Duration, place: &mut Text) {
+fn crate_print_duration(duration: Duration, place: &mut Written) {
     place.clear();
     let _ = write!(place, "{}", humantime::format_duration(duration));
 }
@@ -80,32 +80,32 @@ fn crate_read_weak(text: &str, place: &mut MomentRead) {
 }
 
 #[inline(never)]
-fn crate_print_seconds(moment: SystemTime, place: &mut Text) {
+fn crate_print_seconds(moment: SystemTime, place: &mut Written) {
     place.clear();
     let _ = write!(place, "{}", humantime::format_rfc3339_seconds(moment));
 }
 
 #[inline(never)]
-fn crate_print_millis(moment: SystemTime, place: &mut Text) {
+fn crate_print_millis(moment: SystemTime, place: &mut Written) {
     place.clear();
     let _ = write!(place, "{}", humantime::format_rfc3339_millis(moment));
 }
 
 #[inline(never)]
-fn crate_print_micros(moment: SystemTime, place: &mut Text) {
+fn crate_print_micros(moment: SystemTime, place: &mut Written) {
     place.clear();
     let _ = write!(place, "{}", humantime::format_rfc3339_micros(moment));
 }
 
 #[inline(never)]
-fn crate_print_nanos(moment: SystemTime, place: &mut Text) {
+fn crate_print_nanos(moment: SystemTime, place: &mut Written) {
     place.clear();
     let _ = write!(place, "{}", humantime::format_rfc3339_nanos(moment));
 }
 
 /// What a program over the crate does with a command and its text: it reads, and prints what it read as a line.
 #[inline(never)]
-fn crate_run(command: &str, text: &str, place: &mut Text) {
+fn crate_run(command: &str, text: &str, place: &mut Written) {
     place.clear();
     let _ = match command {
         "duration" => match humantime::parse_duration(text) {
@@ -191,7 +191,8 @@ macro_rules! read_duration {
     ($name:expr, $text:expr) => {{
         let text: &str = $text;
         let mut place = Answer::default();
-        unsafe { library_read_duration(text.as_ptr(), text.len(), &mut place) };
+        let given = Text::of(text);
+        unsafe { library_read_duration(&given, &mut place) };
         assert_eq!(
             (place.kind, place.value, place.nanos, place.start, place.end),
             duration_answer(text),
@@ -206,8 +207,7 @@ macro_rules! read_duration {
                 black_box(&crate_place);
             },
             || {
-                let text = black_box(text);
-                unsafe { library_read_duration(text.as_ptr(), text.len(), &mut place) };
+                unsafe { library_read_duration(black_box(&given), &mut place) };
                 black_box(&place);
             },
         );
@@ -260,8 +260,9 @@ fn texts_of_moments() -> Vec<String> {
 macro_rules! read_texts {
     ($name:expr, $texts:expr, $zero:expr, $by_crate:ident, $by_library:ident) => {{
         let texts: &[String] = $texts;
+        let given: Vec<Text> = texts.iter().map(|text| Text::of(text)).collect();
         let (mut place, mut crate_place) = (Answer::default(), $zero);
-        let (mut of_crate, mut of_library) = (texts.iter().cycle(), texts.iter().cycle());
+        let (mut of_crate, mut of_library) = (texts.iter().cycle(), given.iter().cycle());
         race(
             $name,
             || {
@@ -272,8 +273,7 @@ macro_rules! read_texts {
             },
             || {
                 if let Some(text) = of_library.next() {
-                    let text = black_box(text);
-                    unsafe { $by_library(text.as_ptr(), text.len(), &mut place) };
+                    unsafe { $by_library(black_box(text), &mut place) };
                 }
                 black_box(&place);
             },
@@ -286,6 +286,7 @@ macro_rules! walk_spans {
     ($name:expr, $text:expr) => {{
         let text: &str = $text;
         let mut place = Answer::default();
+        let given = Text::of(text);
         let mut crate_place = Ok(Duration::ZERO);
         race(
             $name,
@@ -294,8 +295,7 @@ macro_rules! walk_spans {
                 black_box(&crate_place);
             },
             || {
-                let text = black_box(text);
-                unsafe { library_walk_spans(text.as_ptr(), text.len(), &mut place) };
+                unsafe { library_walk_spans(black_box(&given), &mut place) };
                 black_box(&place);
             },
         );
@@ -306,9 +306,10 @@ macro_rules! canonical {
     ($name:expr, $text:expr) => {{
         let text: &str = $text;
         let mut place = [0; 64];
-        let mut crate_place = Text::with_capacity(64);
+        let mut crate_place = Written::with_capacity(64);
         crate_canonical(text, &mut crate_place);
-        let length = unsafe { library_canonical(text.as_ptr(), text.len(), &mut place) };
+        let given = Text::of(text);
+        let length = unsafe { library_canonical(&given, &mut place) };
         assert_eq!(plain(&place[..length]), plain(crate_place.as_bytes()));
         race(
             $name,
@@ -317,8 +318,7 @@ macro_rules! canonical {
                 black_box(&crate_place);
             },
             || {
-                let text = black_box(text);
-                let length = unsafe { library_canonical(text.as_ptr(), text.len(), &mut place) };
+                let length = unsafe { library_canonical(black_box(&given), &mut place) };
                 black_box((length, &place));
             },
         );
@@ -330,7 +330,7 @@ macro_rules! print_duration {
         let (secs, nanos): (u64, u32) = ($secs, $nanos);
         let duration = Duration::new(secs, nanos);
         let mut place = [0; 64];
-        let mut crate_place = Text::with_capacity(64);
+        let mut crate_place = Written::with_capacity(64);
         crate_print_duration(duration, &mut crate_place);
         let length = unsafe { library_print_duration(secs, nanos, &mut place) };
         assert_eq!(plain(&place[..length]), plain(crate_place.as_bytes()));
@@ -371,7 +371,8 @@ macro_rules! read_moment {
         let mut crate_place = Ok(UNIX_EPOCH);
         $by_crate(text, &mut crate_place);
         let by_library: ReadByLibrary = $by_library;
-        unsafe { by_library(text.as_ptr(), text.len(), &mut place) };
+        let given = Text::of(text);
+        unsafe { by_library(&given, &mut place) };
         assert_eq!(
             (place.kind, place.secs, place.nanos),
             moment_answer(crate_place),
@@ -386,8 +387,7 @@ macro_rules! read_moment {
                 black_box(&crate_place);
             },
             || {
-                let text = black_box(text);
-                unsafe { $by_library(text.as_ptr(), text.len(), &mut place) };
+                unsafe { $by_library(black_box(&given), &mut place) };
                 black_box(&place);
             },
         );
@@ -399,7 +399,7 @@ macro_rules! print_moment {
         let (secs, nanos): (i64, u32) = ($secs, $nanos);
         let moment = UNIX_EPOCH + Duration::new(secs as u64, nanos);
         let mut place = [0; 30];
-        let mut crate_place = Text::with_capacity(64);
+        let mut crate_place = Written::with_capacity(64);
         $by_crate(moment, &mut crate_place);
         let by_library: StampByLibrary = $by_library;
         let length = unsafe { by_library(secs, nanos, &mut place) };
@@ -437,7 +437,8 @@ fn durations() {
     let texts = texts_of_durations();
     for text in &texts {
         let mut place = Answer::default();
-        unsafe { library_read_duration(text.as_ptr(), text.len(), &mut place) };
+        let given = Text::of(text);
+        unsafe { library_read_duration(&given, &mut place) };
         assert_eq!((place.kind, place.value, place.nanos, place.start, place.end), duration_answer(text));
     }
     read_texts!("read random durations", &texts, Ok(Duration::ZERO), crate_read_duration, library_read_duration);
@@ -495,7 +496,7 @@ fn timestamps() {
     let texts = texts_of_moments();
     for text in &texts {
         let mut place = Answer::default();
-        unsafe { library_read_strict(text.as_ptr(), text.len(), &mut place) };
+        unsafe { library_read_strict(&Text::of(text), &mut place) };
         assert_eq!((place.kind, place.secs, place.nanos), moment_answer(humantime::parse_rfc3339(text)));
     }
     read_texts!("read random moments, strict", &texts, Ok(UNIX_EPOCH), crate_read_strict, library_read_strict);
@@ -538,7 +539,7 @@ macro_rules! run {
     ($command:expr, $text:expr) => {{
         let (command, text): (&str, &str) = ($command, $text);
         let (mut out, mut err) = (Sink::new(), Sink::new());
-        let mut crate_place = Text::with_capacity(256);
+        let mut crate_place = Written::with_capacity(256);
         crate_run(command, text, &mut crate_place);
         unsafe { library_run(command.as_ptr(), command.len(), text.as_ptr(), text.len(), &mut out, &mut err) };
         let told = [&out.bytes[..out.length], &err.bytes[..err.length]].concat();

@@ -14,6 +14,20 @@ pub struct Answer {
     pub value: u64,
 }
 
+/// A text, by a reference to its pointer and length.
+#[repr(C)]
+pub struct Text {
+    pointer: *const u8,
+    length: usize,
+}
+
+impl Text {
+    #[inline(always)]
+    pub fn of(text: &str) -> Text {
+        Text { pointer: text.as_ptr(), length: text.len() }
+    }
+}
+
 /// What the program wrote to one of its outputs.
 #[repr(C)]
 pub struct Sink {
@@ -30,15 +44,15 @@ impl Sink {
 #[allow(improper_ctypes)]
 unsafe extern "C" {
     pub fn library_run(command: *const u8, command_length: usize, text: *const u8, text_length: usize, out: &mut Sink, err: &mut Sink) -> u8;
-    pub fn library_read_duration(text: *const u8, length: usize, place: &mut Answer);
+    pub fn library_read_duration(text: &Text, place: &mut Answer);
     pub fn library_unit(text: *const u8, length: usize, place: &mut [u8; 64]) -> usize;
     pub fn library_duration_message(text: *const u8, length: usize, place: &mut [u8; 256]) -> usize;
     pub fn library_moment_message(text: *const u8, length: usize, place: &mut [u8; 256]) -> usize;
-    pub fn library_walk_spans(text: *const u8, length: usize, place: &mut Answer);
-    pub fn library_canonical(text: *const u8, length: usize, place: &mut [u8; 64]) -> usize;
+    pub fn library_walk_spans(text: &Text, place: &mut Answer);
+    pub fn library_canonical(text: &Text, place: &mut [u8; 64]) -> usize;
     pub fn library_print_duration(secs: u64, nanos: u32, place: &mut [u8; 64]) -> usize;
-    pub fn library_read_strict(text: *const u8, length: usize, place: &mut Answer);
-    pub fn library_read_weak(text: *const u8, length: usize, place: &mut Answer);
+    pub fn library_read_strict(text: &Text, place: &mut Answer);
+    pub fn library_read_weak(text: &Text, place: &mut Answer);
     pub fn library_print_smart(secs: i64, nanos: u32, place: &mut [u8; 30]) -> usize;
     pub fn library_print_seconds(secs: i64, nanos: u32, place: &mut [u8; 30]) -> usize;
     pub fn library_print_millis(secs: i64, nanos: u32, place: &mut [u8; 30]) -> usize;
@@ -46,7 +60,7 @@ unsafe extern "C" {
     pub fn library_print_nanos(secs: i64, nanos: u32, place: &mut [u8; 30]) -> usize;
 }
 
-pub type ReadByLibrary = unsafe extern "C" fn(*const u8, usize, &mut Answer);
+pub type ReadByLibrary = unsafe extern "C" fn(&Text, &mut Answer);
 
 pub type StampByLibrary = unsafe extern "C" fn(i64, u32, &mut [u8; 30]) -> usize;
 

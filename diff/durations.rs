@@ -1,6 +1,6 @@
 //! Durations read: what each side answers, and which differences are listed.
 
-use crate::library::{Answer, library_duration_message, library_read_duration, library_unit, text_of};
+use crate::library::{Answer, Text, library_duration_message, library_read_duration, library_unit, text_of};
 use crate::rows::{Row, caught};
 use std::time::Duration;
 
@@ -48,7 +48,7 @@ fn value(duration: Duration) -> Read {
 /// The library's answer. A unit that is not the text between its offsets is no answer.
 pub fn read_by_library(text: &str) -> Option<Read> {
     let mut place = Answer::default();
-    unsafe { library_read_duration(text.as_ptr(), text.len(), &mut place) };
+    unsafe { library_read_duration(&Text::of(text), &mut place) };
     Some(match place.kind {
         0 => Read::Value(place.value, place.nanos),
         1 => Read::InvalidCharacter(place.start),

@@ -53,7 +53,7 @@ impl Parser {
 
     pub fn read_by_library(&self, text: &str) -> Read {
         let mut place = Answer::default();
-        unsafe { (self.by_library)(text.as_ptr(), text.len(), &mut place) };
+        unsafe { (self.by_library)(&Text::of(text), &mut place) };
         match place.kind {
             0 => Read::Moment(place.secs, place.nanos),
             1 => Read::OutOfRange,

@@ -1,5 +1,5 @@
 -- Texts one behind the other.
-use Rattle.std.proofs.Common.{arith, ◌≡◌, ◌≢◌, ◌↔◌, ◌⊎◌, ℕ, ◌+◌, true, List, [], ◌∷◌, ◌++◌, None, refl, inl, inr}
+use Rattle.std.proofs.Common.{arith, ◌≡◌, ◌≢◌, ◌↔◌, ◌⊎◌, ℕ, ◌+◌, true, List, [], ◌∷◌, ◌++◌, None, refl, ◌∙◌, inl, inr}
 use Rattle.std.proofs.lemmas.Grind.{common_steps}
 use Rattle.std.specs.List.{AllByRecursion}
 use Rattle.humantime.specs.Durations.Characters.{is_ws, bare_zero}
@@ -42,10 +42,19 @@ pub record AreSpans (text : List ℕ) (spans : List Span) (v : ℕ) : Type 0 whe
   pub sum : value spans ≡ v
 
 pub are_spans : (text : List ℕ) (spans : List Span) (v : ℕ) → AcceptedAs text spans v → AreSpans text spans v
-are_spans text spans v h = grind (arith, (accepted_spans text spans v h.0 h.1))
+are_spans text spans v h =
+    let a = accepted_spans text spans v h.0 h.1 in
+    record { front = h.0.0; formed = a.0.formed; fit = a.0.fit; sum = a.1 }
 
 pub spans-append : (a b : List ℕ) (ss ts : List Span) (u v : ℕ) → AcceptedAs a ss u → AreSpans b ts v → AreSpans (a ++ b) (ss ++ ts) (u + v)
-spans-append a b ss ts u v h k = grind (arith, (are_spans a ss u h), front-append, each-append, value-append)
+spans-append a b ss ts u v h k =
+    let x = are_spans a ss u h in
+    record {
+      front = front-append a b ss ts h.0 k.front;
+      formed = each-append Formed ss ts x.formed k.formed;
+      fit = each-append (λ s. fits s ≡ true) ss ts x.fit k.fit;
+      sum = value-append ss ts ∙ (λ i. x.sum i + k.sum i);
+    }
 
 -- such a text is accepted exactly where its additions have room
 pub room_accepts : (text : List ℕ) (spans : List Span) (v : ℕ) → spans ≢ [] → AreSpans text spans v → Accepted text v ↔ AllHaveRoom (additions spans)

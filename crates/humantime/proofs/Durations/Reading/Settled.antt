@@ -1,6 +1,6 @@
 -- What spans add up to by the reference, and whether they are within the limits.
 use Rattle.std.proofs.lemmas.Grind.{common_steps, flat_map-append}
-use Rattle.std.proofs.Common.{true, ◌≡◌, ◌⊎◌, ℕ, ◌+◌, List, [], ◌∷◌, ◌++◌, Option, Some, None, Result, Ok, Err, map, ap, ◌∙◌, inl, arith}
+use Rattle.std.proofs.Common.{true, ◌≡◌, ◌⊎◌, ℕ, ◌+◌, List, [], ◌∷◌, ◌++◌, Option, Some, None, Result, Ok, Err, map, refl, ap, ◌∙◌, inl, inr, arith}
 use Rattle.std.specs.Prelude.{⊤}
 use Rattle.std.specs.List.{AllByRecursion}
 use Rattle.std.proofs.lemmas.List.Sums.{sum_by-append}
@@ -20,9 +20,21 @@ abbrev pub WithinLimitsFrom : ℕ → List Span → Type 0
 WithinLimitsFrom t [] = ⊤
 WithinLimitsFrom t (s ∷ ss) = IsAddedTo t s × WithinLimitsFrom (t + total (additions_of s)) ss
 
-within_or_not : (t : ℕ) (spans : List Span) → AllByRecursion Formed spans → WithinLimitsFrom t spans ⊎ ¬ (WithinLimitsFrom t spans)
-within_or_not t [] f = inl tt
-within_or_not t (s ∷ ss) f = grind (arith, common_steps, (within_or_not (t + total (additions_of s)) ss f.1))
+-- the sum after a span that keeps the limits, and none after another
+add_span-added : (t : ℕ) (s : Span) → IsAddedTo t s → add_span t s ≡ Some (t + total (additions_of s))
+unfolding add_span
+add_span-added t s h = rw h.0 (add_all-room t (additions_of s) h.1)
+
+added_or_not : (t : ℕ) (s : Span) → IsAddedTo t s ⊎ (¬ (IsAddedTo t s) × (add_span t s ≡ None))
+unfolding add_span
+added_or_not t s = grind (arith, common_steps, (add_all-full t (additions_of s)))
+
+within_or_not : (t : ℕ) (spans : List Span) → WithinLimitsFrom t spans ⊎ ¬ (WithinLimitsFrom t spans)
+within_or_not t [] = inl tt
+within_or_not t (s ∷ ss) = elim (added_or_not t s) [
+  | inl a ↦ elim (within_or_not (t + total (additions_of s)) ss) [ inl w ↦ inl (a, w) | inr n ↦ inr (λ h. n h.1) ]
+  | inr n ↦ inr (λ h. n.0 h.0)
+]
 
 pub value-cons : (s : Span) (ss : List Span) → value (s ∷ ss) ≡ total (additions_of s) + value ss
 value-cons s ss = sum_by-append addition_nanos (additions_of s) (additions ss)
@@ -34,21 +46,27 @@ pub value-append : (ss ts : List Span) → value (ss ++ ts) ≡ value ss + value
 value-append ss ts = ap total (additions-append ss ts) ∙ sum_by-append addition_nanos (additions ss) (additions ts)
 
 -- the sum goes on over spans within the limits
-settle_fine : (t : ℕ) (ss : List Span) (items : List (Result Span Fault)) → AllByRecursion Formed ss → WithinLimitsFrom t ss → settle t (map Ok ss ++ items) ≡ settle (t + value ss) items
-unfolding settle add_span
-settle_fine t [] items f h = ap (λ (n : ℕ). settle n items) (omega arith)
-settle_fine t (s ∷ ss) items f h = grind (arith, common_steps, (settle_fine (t + total (additions_of s)) ss items f.1 h.1), add_all-room)
+settle_fine : (t : ℕ) (ss : List Span) (items : List (Result Span Fault)) → WithinLimitsFrom t ss → settle t (map Ok ss ++ items) ≡ settle (t + value ss) items
+unfolding settle
+settle_fine t [] items h = ap (λ (n : ℕ). settle n items) (omega arith)
+settle_fine t (s ∷ ss) items h =
+    let sum : (t + total (additions_of s)) + value ss ≡ t + value (s ∷ ss) = omega (arith, value-cons s ss) in
+    rw (add_span-added t s h.0, settle) (settle_fine (t + total (additions_of s)) ss items h.1 ∙ ap (λ (n : ℕ). settle n items) sum)
 
 -- over others it says that they are too large
-settle_beyond : (t : ℕ) (spans : List Span) (items : List (Result Span Fault)) → AllByRecursion Formed spans → ¬ (WithinLimitsFrom t spans) → settle t (map Ok spans ++ items) ≡ Err NumberOverflow
-unfolding settle add_span
-settle_beyond t [] items f h = absurd (h tt)
-settle_beyond t (s ∷ ss) items f h =
-    grind (arith, common_steps, (settle_beyond (t + total (additions_of s)) ss items f.1), add_all-room, add_all-full)
+settle_beyond : (t : ℕ) (spans : List Span) (items : List (Result Span Fault)) → ¬ (WithinLimitsFrom t spans) → settle t (map Ok spans ++ items) ≡ Err NumberOverflow
+unfolding settle
+settle_beyond t [] items h = absurd (h tt)
+settle_beyond t (s ∷ ss) items h = elim (added_or_not t s) [
+  | inl a ↦ rw (add_span-added t s a, settle) (settle_beyond (t + total (additions_of s)) ss items (λ w. h (a, w)))
+  | inr n ↦ rw (n.1, settle) refl
+]
 
 each_fits : (t : ℕ) (ss : List Span) → WithinLimitsFrom t ss → AllByRecursion (λ s. fits s ≡ true) ss × RoomFrom t (additions ss)
 each_fits t [] h = (tt, tt)
-each_fits t (s ∷ ss) h = grind (arith, common_steps, (each_fits (t + total (additions_of s)) ss h.1), RoomFrom-append)
+each_fits t (s ∷ ss) h =
+    let each = each_fits (t + total (additions_of s)) ss h.1 in
+    ((h.0.0, each.0), RoomFrom-append t (additions_of s) (additions ss) h.0.1 each.1)
 
 each_within : (t : ℕ) (spans : List Span) → AllByRecursion (λ s. fits s ≡ true) spans → RoomFrom t (additions spans) → WithinLimitsFrom t spans
 each_within t [] f r = tt
@@ -63,13 +81,16 @@ from_WithinLimits spans h = each_within 0 spans h.fit (room_from_all (additions 
 -- what spans and a stop add up to: the value, or else the fault
 pub settle_within : (spans : List Span) (stop : Option Fault) → WithinLimits spans → settle 0 (items_of spans stop) ≡ settle (value spans) (items_of [] stop)
 settle_within spans stop g =
-    settle_fine 0 spans (items_of [] stop) g.formed (from_WithinLimits spans g) ∙ ap (λ (n : ℕ). settle n (items_of [] stop)) (omega arith)
+    settle_fine 0 spans (items_of [] stop) (from_WithinLimits spans g) ∙ ap (λ (n : ℕ). settle n (items_of [] stop)) (omega arith)
 
 pub within_or_beyond : (spans : List Span) → AllByRecursion Formed spans → WithinLimits spans ⊎ ¬ (WithinLimits spans)
-within_or_beyond spans f = grind (arith, common_steps, (within_or_not 0 spans f), (WithinLimits_from spans f), (from_WithinLimits spans))
+within_or_beyond spans f = elim (within_or_not 0 spans) [
+  | inl w ↦ inl (WithinLimits_from spans f w)
+  | inr n ↦ inr (λ g. n (from_WithinLimits spans g))
+]
 
 pub too_large : (spans : List Span) (stop : Option Fault) → AllByRecursion Formed spans → ¬ (WithinLimits spans) → settle 0 (items_of spans stop) ≡ Err NumberOverflow
-too_large spans stop f bad = settle_beyond 0 spans (items_of [] stop) f (λ g. bad (WithinLimits_from spans f g))
+too_large spans stop f bad = settle_beyond 0 spans (items_of [] stop) (λ g. bad (WithinLimits_from spans f g))
 
 -- and the other way round
 pub settled_value : (spans : List Span) (stop : Option Fault) (v : ℕ) → AllByRecursion Formed spans → settle 0 (items_of spans stop) ≡ Ok v → (stop ≡ None) × WithinLimits spans × (value spans ≡ v)

@@ -1,5 +1,5 @@
 -- A spelling as a text of its own, and with more behind it.
-use Rattle.std.proofs.Common.{arith, ◌≡◌, ℕ, List, [], ◌∷◌, ◌++◌, sym, ◌∙◌, append_assoc, append-nil, subst}
+use Rattle.std.proofs.Common.{arith, ◌≡◌, ℕ, List, [], ◌∷◌, ◌++◌, ap, sym, ◌∙◌, append_assoc, append-nil, subst}
 use Rattle.std.specs.List.{AllByRecursion}
 use Rattle.std.proofs.lemmas.Grind.{common_steps}
 use Rattle.humantime.specs.Durations.Spans.{Span, Spells, SpellsEach}
@@ -14,11 +14,31 @@ pub apart : (text rest : List ℕ) (s : Span) → Spells text s rest → IsApart
 apart text rest s h = record {
   here = h.number_text ++ (h.fraction_text ++ (s.word ++ h.space));
   whole = h.whole ∙ sym (simp append_assoc);
-  spells = (grind (arith, common_steps, append-nil));
+  spells = record {
+    number_text = h.number_text;
+    fraction_text = h.fraction_text;
+    space = h.space;
+    whole = sym (simp append-nil);
+    starts = h.starts;
+    number = h.number;
+    fraction = h.fraction;
+    word = h.word;
+    only_space = h.only_space;
+  };
 }
 
 pub spells-append : (text rest more : List ℕ) (s : Span) → Spells text s rest → Spells (text ++ more) s (rest ++ more)
-spells-append text rest more s h = grind (arith, common_steps)
+spells-append text rest more s h = record {
+  number_text = h.number_text;
+  fraction_text = h.fraction_text;
+  space = h.space;
+  whole = ap (λ (t : List ℕ). t ++ more) h.whole ∙ simp append_assoc;
+  starts = h.starts;
+  number = h.number;
+  fraction = h.fraction;
+  word = h.word;
+  only_space = h.only_space;
+}
 
 pub spells_each-append : (a b : List ℕ) (ss ts : List Span) → SpellsEach a ss → SpellsEach b ts → SpellsEach (a ++ b) (ss ++ ts)
 spells_each-append a b [] ts h k = subst (λ (l : List ℕ). SpellsEach (l ++ b) ts) (sym h) k
