@@ -117,7 +117,7 @@ struct Lanes {
 ///
 /// A `T` or a space stands between date and time. The zone may be left out: nothing, `Z` and `+00:00` all mean the zone
 /// of Greenwich. A fraction of a second may have any number of digits, none too; those past the ninth are cut. Second 60
-/// is read as 59. The text is looked at as bytes. The rule is the crate's, after RFC 3339.
+/// is read as 59. The text is looked at as bytes, counted from 0. The rule is the crate's, after RFC 3339.
 ///
 /// # Errors
 ///
@@ -125,7 +125,7 @@ struct Lanes {
 ///
 /// - [`InvalidFormat`](TimestampError::InvalidFormat) if there are fewer than 19 bytes;
 /// - `InvalidFormat` if a sign of date and time is not in its place;
-/// - [`InvalidDigit`](TimestampError::InvalidDigit) if a byte between these signs is no digit;
+/// - [`InvalidDigit`](TimestampError::InvalidDigit) if another byte, up to byte 18, is no digit;
 /// - [`OutOfRange`](TimestampError::OutOfRange) if 1970 to 9999 has no such date, the hour is above 23, the minute above
 ///   59 or the second above 60;
 /// - `InvalidFormat` if byte 19 is not a point, and what stands from there on is not nothing, `Z` or `+00:00`;
@@ -158,8 +158,8 @@ pub fn parse_rfc3339_weak(s: &str) -> Result<SystemTime, TimestampError>
 ///
 /// # Errors
 ///
-/// Returns [`InvalidFormat`](TimestampError::InvalidFormat) if the text has fewer than 20 bytes, no `T` at byte 10, or no
-/// zone at its end. Of any other text it returns the error that [`parse_rfc3339_weak`] returns.
+/// Returns [`InvalidFormat`](TimestampError::InvalidFormat) if the text has fewer than 20 bytes, no `T` at byte 10 (counted
+/// from 0), or no zone at its end. Of any other text it returns the error that [`parse_rfc3339_weak`] returns.
 ///
 /// # Examples
 ///

@@ -57,7 +57,7 @@ pub fn printed_bounds(d: StdDuration)
     ensures { IsBounded d }
 {}
 
-/// States that an accepted text has a canonical text, accepted with the same duration and its own canonical text.
+/// States that an accepted text has a canonical text, which reads as the same duration and is its own canonical text.
 ///
 /// The answer, as a function of the text, is that canonical text or the first fault.
 ///
