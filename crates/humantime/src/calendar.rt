@@ -26,18 +26,26 @@ const MONTH_LENGTHS: [u32; 12] = [31, 28, 31, 30, 31, 30, 31, 31, 30, 31, 30, 31
 /// Years that begin on 1 March are counted from 1600-03-01, which is so many days before 1970-01-01.
 const DAYS_FROM_MARCH_1600: u32 = 135_080;
 
-/// A date: year, month from 1 (January) to 12, day of the month from 1.
+/// A date: a year, a month from 1 (January) to 12, and a day of the month from 1.
 ///
-/// It is a plain value and may hold a date that does not exist; `day_number` tells.
+/// It is a plain value and may hold a date that does not exist; [`day_number`] tells.
 ///
-/// ```text
-/// Date { year: 2000, month: 2, day: 29 }
+/// # Examples
+///
+/// ```
+/// use humantime::{Date, Turns, day_number};
+///
+/// let leap_day = Date { year: 2000, month: 2, day: 29 };
+/// let no_date = Date { year: 2100, month: 2, day: 29 };
+/// let mut turns = Turns::new();
+/// assert!(rt; day_number(leap_day, &mut turns).is_some());
+/// assert!(rt; day_number(no_date, &mut turns).is_none());
 /// ```
 #[derive(Clone, Copy, PartialEq, Eq, Debug)]
 pub struct Date {
-    /// The year; 1970 to 9999 where the date exists.
+    /// The year: 1970 to 9999 where the date exists.
     pub year: u32,
-    /// The month; 1 is January.
+    /// The month: 1 (January) to 12 where the date exists.
     pub month: u32,
     /// The day of the month, from 1.
     pub day: u32,
@@ -105,13 +113,21 @@ pub(crate) fn days_before(year: u32, month: u32) -> u32
     days_before_year(year) + days_before_month(year, month)
 }
 
-/// The number of days from 1970-01-01 to the date, or `None` where no such date exists in 1970 to 9999.
+/// Returns the number of days from 1970-01-01 to `date`, or `None` if no such date exists in 1970 to 9999.
 ///
-/// The leap days before a year are counted by a formula, and the days before a month by a table. No loop
-/// turns.
+/// The leap days before a year are counted by a formula, and the days before a month by a table. There is no loop, and
+/// `turns` stays as it is.
 ///
-/// ```text
-/// day_number(Date { year: 2000, month: 2, day: 29 }, &mut turns) == Some(11016)
+/// # Examples
+///
+/// ```
+/// use humantime::{Date, Turns, day_number};
+///
+/// let mut turns = Turns::new();
+/// let leap_day = Date { year: 2000, month: 2, day: 29 };
+/// assert_eq!(rt; day_number(leap_day, &mut turns), Some(11016));
+/// let no_date = Date { year: 1970, month: 2, day: 30 };
+/// assert_eq!(rt; day_number(no_date, &mut turns), None);
 /// ```
 #[inline(always)]
 #[tactic(auto, using(crate::proofs::Dates::Years::days_counted))]
@@ -177,13 +193,22 @@ fn march_date(year: u32, month: u32, left: u32) -> Date
     }
 }
 
-/// The date whose day number is `day`, or `None` past 2932896, the day of 9999-12-31.
+/// Returns the date whose day number is `day`, or `None` if `day` is above 2932896, the day of 9999-12-31.
 ///
-/// The year is found by a formula, of the years that begin on 1 March, and the month by a loop over the 12
-/// months from March on. Each turn of the loop counts one of `turns`.
+/// The year is found by a formula, of the years that begin on 1 March, and the month by a loop over the 12 months from
+/// March on. Each iteration counts one of `turns`, which grows by 12 for a date and stays as it is for `None`.
 ///
-/// ```text
-/// date_of_day(11016, &mut turns) == Some(Date { year: 2000, month: 2, day: 29 })
+/// # Examples
+///
+/// ```
+/// use humantime::{Date, Turns, date_of_day};
+///
+/// let mut turns = Turns::new();
+/// let leap_day = Date { year: 2000, month: 2, day: 29 };
+/// assert_eq!(rt; date_of_day(11016, &mut turns), Some(leap_day));
+/// let last = Date { year: 9999, month: 12, day: 31 };
+/// assert_eq!(rt; date_of_day(2_932_896, &mut turns), Some(last));
+/// assert_eq!(rt; date_of_day(2_932_897, &mut turns), None);
 /// ```
 #[inline(always)]
 pub fn date_of_day(day: u32, turns: &mut Turns) -> Option<Date>

@@ -1,4 +1,6 @@
-//! Laws of the definitions. Each function answers nothing; its contract is the law, for every argument.
+//! Laws of the definitions. Each function does nothing when it runs; its contract is the law, for every argument.
+//!
+//! A caller of a law has it for these arguments in its own proof.
 
 mod days;
 mod durations;

@@ -1,6 +1,21 @@
 //! Durations such as `2h 37m` and timestamps such as `2018-02-14T00:28:07Z`, read and printed.
 //!
 //! The contracts cite the definitions in `specs/`, which docs/MODEL.md says in plain words.
+//!
+//! # Examples
+//!
+//! Each example of this crate is the body of a test: `rt` is the test's `HostRuntime`, and `?` ends it with an error.
+//!
+//! ```
+//! use humantime::{StdDuration, format_rfc3339, parse_duration, parse_rfc3339};
+//!
+//! let duration = parse_duration("2h 37min")?;
+//! assert_eq!(rt; duration, StdDuration::from_secs(9420));
+//! let moment = parse_rfc3339("2018-02-14T00:28:07Z")?;
+//! let later = moment.checked_add(duration).ok_or("out of range")?;
+//! let mut buffer = [0; 30];
+//! assert_eq!(rt; format_rfc3339(later).text(&mut buffer), Some("2018-02-14T03:05:07Z"));
+//! ```
 #![tactic(auto)]
 
 mod buffer;

@@ -1,4 +1,4 @@
-//! A count of loop turns that contracts see and that takes no bytes at run time.
+//! A count of loop iterations that contracts see and that takes no bytes at run time.
 
 ghost use Rattle.std.specs.Prelude.{◌≡◌, ◌+◌};
 
@@ -13,13 +13,20 @@ enum Chain {
     Next(Snapshot<Chain>),
 }
 
-/// A count of loop turns, a whole number from 0 without a greatest value.
+/// A count of loop iterations: a whole number from 0, without a greatest value.
 ///
-/// Contracts alone see it: at run time it has no bytes, and counting costs nothing. A loop of the calendar
-/// begins each turn by counting one, so a contract can say how many turns a call takes at most.
+/// Contracts alone see it: at run time it has no bytes, and counting costs nothing. A loop of the calendar begins each
+/// iteration by counting one, so a contract can say how many iterations a call takes.
 ///
-/// ```text
-/// date_of_day(11016, &mut Turns::new())
+/// # Examples
+///
+/// ```
+/// use humantime::{Turns, date_of_day};
+/// use std::mem;
+///
+/// let mut turns = Turns::new();
+/// assert!(rt; date_of_day(11016, &mut turns).is_some());
+/// assert_eq!(rt; mem::size_of::<Turns>(), 0);
 /// ```
 #[derive(Drop)]
 pub struct Turns {
@@ -39,10 +46,15 @@ impl Model for Turns {
 }
 
 impl Turns {
-    /// No turns yet.
+    /// Creates a count of 0.
     ///
-    /// ```text
-    /// let mut turns = Turns::new();
+    /// # Examples
+    ///
+    /// ```
+    /// use humantime::{Date, Turns, date_of_day};
+    ///
+    /// let first = date_of_day(0, &mut Turns::new());
+    /// assert_eq!(rt; first, Some(Date { year: 1970, month: 1, day: 1 }));
     /// ```
     pub fn new() -> Turns
         ensures { result ≡ 0 }

@@ -13,12 +13,19 @@ use std::fmt;
 use std::marker::Model;
 use std::str::FromStr;
 
-/// A duration that is read by `from_str` and printed by `Display`, for a settings field or an option.
+/// A duration that [`from_str`](Self::from_str) reads and `Display` prints, for a settings field or an option.
 ///
-/// Order, equality and hashing are those of the duration that it holds; the default is zero.
+/// Order, equality and hashing are those of the [`StdDuration`] that it holds; the default is zero.
 ///
-/// ```text
-/// Duration::from_str("12h 5min 2ns") prints `12h 5m 2ns`
+/// # Examples
+///
+/// ```
+/// use humantime::{Duration, StdDuration};
+///
+/// let duration = Duration::from_str("12h 5min 2ns")?;
+/// assert_eq!(rt; *duration.as_ref(), StdDuration::new(43_500, 2));
+/// assert_eq!(rt; duration.to_string(rt.alloc())?.as_str(), "12h 5m 2ns");
+/// assert!(rt; duration > Duration::default());
 /// ```
 #[derive(Clone, Copy, PartialEq, Eq, PartialOrd, Ord, Hash, Default, Debug)]
 pub struct Duration(StdDuration);
@@ -34,10 +41,15 @@ impl Model for Duration {
 }
 
 impl Duration {
-    /// Holds this duration.
+    /// Creates a `Duration` that holds `value`.
     ///
-    /// ```text
-    /// Duration::new(StdDuration::from_secs(60)) prints `1m`
+    /// # Examples
+    ///
+    /// ```
+    /// use humantime::{Duration, StdDuration};
+    ///
+    /// let minute = Duration::new(StdDuration::from_secs(60));
+    /// assert_eq!(rt; minute.to_string(rt.alloc())?.as_str(), "1m");
     /// ```
     pub fn new(value: StdDuration) -> Duration
         ensures { result ≡ value }
@@ -45,10 +57,21 @@ impl Duration {
         Duration(value)
     }
 
-    /// The duration that the text spells, or its first fault, as `parse_duration` answers.
+    /// The duration that the text spells, or its first fault, as [`parse_duration`] answers.
     ///
-    /// ```text
-    /// Duration::from_str("1foo~") == Err(DurationError::InvalidCharacter(4))
+    /// This is no method of the trait `FromStr`, since the error borrows from `s`.
+    ///
+    /// # Errors
+    ///
+    /// Returns the error that [`parse_duration`] returns for `s`.
+    ///
+    /// # Examples
+    ///
+    /// ```
+    /// use humantime::{Duration, DurationError, StdDuration};
+    ///
+    /// assert_eq!(rt; Duration::from_str("2h 37min"), Ok(Duration::new(StdDuration::from_secs(9420))));
+    /// assert_eq!(rt; Duration::from_str("1foo~"), Err(DurationError::InvalidCharacter(4)));
     /// ```
     pub fn from_str(s: &str) -> Result<Duration, DurationError<'_>>
         ensures value { (v : ℕ) → (told result ≡ Ok v) ↔ Accepted (chars s.now) v }
@@ -62,10 +85,15 @@ impl Duration {
         }
     }
 
-    /// The duration that it holds.
+    /// Returns the duration that this wrapper holds.
     ///
-    /// ```text
-    /// Duration::default().as_ref().as_secs() == 0
+    /// # Examples
+    ///
+    /// ```
+    /// use humantime::{Duration, StdDuration};
+    ///
+    /// assert_eq!(rt; *Duration::from_str("1m")?.as_ref(), StdDuration::from_secs(60));
+    /// assert_eq!(rt; *Duration::default().as_ref(), StdDuration::ZERO);
     /// ```
     pub fn as_ref(&self) -> &StdDuration
         ensures { result.now ≡ self.now }
@@ -90,7 +118,7 @@ impl From<Duration> for StdDuration {
     }
 }
 
-/// As `Display` of what `format_duration` makes.
+/// Writes what `Display` writes of the value that [`format_duration`] returns.
 impl fmt::Display for Duration {
     ghost use Rattle.std.specs.Prelude.{Some};
     ghost use Rattle.humantime.specs.References.Durations.Printing.{duration_text};
@@ -104,12 +132,19 @@ impl fmt::Display for Duration {
     }
 }
 
-/// A moment that is read by `parse` and printed by `Display`, for a settings field or an option.
+/// A moment that `parse` reads and `Display` prints, for a settings field or an option.
 ///
-/// Order, equality and hashing are those of the moment that it holds.
+/// Order, equality and hashing are those of the [`SystemTime`] that it holds.
 ///
-/// ```text
-/// "2018-02-16T00:31:37Z".parse::<Timestamp>() prints `2018-02-16T00:31:37Z`
+/// # Examples
+///
+/// ```
+/// use humantime::{Timestamp, UNIX_EPOCH};
+///
+/// let timestamp: Timestamp = "2018-02-14T00:28:07Z".parse()?;
+/// assert_eq!(rt; timestamp.as_ref().unix_seconds(), 1_518_568_087);
+/// assert_eq!(rt; timestamp.to_string(rt.alloc())?.as_str(), "2018-02-14T00:28:07Z");
+/// assert!(rt; timestamp > Timestamp::from(UNIX_EPOCH));
 /// ```
 #[derive(Clone, Copy, PartialEq, Eq, PartialOrd, Ord, Hash, Debug)]
 pub struct Timestamp(SystemTime);
@@ -125,10 +160,14 @@ impl Model for Timestamp {
 }
 
 impl Timestamp {
-    /// The moment that it holds.
+    /// Returns the moment that this wrapper holds.
     ///
-    /// ```text
-    /// Timestamp::from(UNIX_EPOCH).as_ref().unix_seconds() == 0
+    /// # Examples
+    ///
+    /// ```
+    /// use humantime::{Timestamp, UNIX_EPOCH};
+    ///
+    /// assert_eq!(rt; *Timestamp::from(UNIX_EPOCH).as_ref(), UNIX_EPOCH);
     /// ```
     pub fn as_ref(&self) -> &SystemTime
         ensures { result.now ≡ self.now }
@@ -137,7 +176,16 @@ impl Timestamp {
     }
 }
 
-/// Reads what `parse_rfc3339_weak` reads, with its errors.
+/// Reads what [`parse_rfc3339_weak`] reads, with its errors.
+///
+/// # Examples
+///
+/// ```
+/// use humantime::{Timestamp, TimestampError, UNIX_EPOCH};
+///
+/// assert_eq!(rt; "1970-01-01 00:00:00".parse::<Timestamp>(), Ok(Timestamp::from(UNIX_EPOCH)));
+/// assert_eq!(rt; "1970-02-30T00:00:00Z".parse::<Timestamp>(), Err(TimestampError::OutOfRange));
+/// ```
 impl FromStr for Timestamp {
     ghost use Rattle.humantime.specs.References.Timestamps.Reading.{IsWeakAnswer};
 
@@ -169,7 +217,9 @@ impl From<Timestamp> for SystemTime {
     }
 }
 
-/// As `Display` of what `format_rfc3339` makes: outside 1970 to 9999 it answers `fmt::Error`.
+/// Writes what `Display` writes of the value that [`format_rfc3339`] returns.
+///
+/// Outside 1970 to 9999 it answers `fmt::Error`.
 impl fmt::Display for Timestamp {
     ghost use Rattle.std.specs.Prelude.{◌≡◌, IsOk, Err};
     ghost use Rattle.std.specs.Fmt.{DisplaysOnOk, DisplaysStyledOnOk, fmt_error};

@@ -29,18 +29,26 @@ const WRITE_FAILED: u8 = 3;
 
 const USAGE: &str = "usage: humantime duration|strict|weak TEXT";
 
-/// Answers the words after the program's name, and gives the status with which the program ends.
+/// Answers the words after the program's name, and returns the status with which the program ends.
 ///
 /// - `duration TEXT`: the canonical text of the duration goes to `out`, with status 0.
 /// - `strict TEXT` and `weak TEXT`: the moment, printed by `format_rfc3339`, goes to `out`, with status 0.
 /// - Of these three, where the text is refused: the error's message goes to `err`, with status 1.
 /// - Any other words: the line that tells how the program is called goes to `err`, with status 2.
 ///
-/// A line feed ends each. A write that answers an error or takes no bytes has failed: it is not tried again,
-/// nothing more is written, and the status is 3. No memory is taken.
+/// A line feed ends each. A write that answers an error or takes no bytes has failed: it is not tried again, nothing
+/// more is written, and the status is 3. No memory is taken.
 ///
-/// ```text
-/// run(&["duration", "2h 37min"], &mut out, &mut err) == 0
+/// # Examples
+///
+/// ```
+/// use humantime_cli::run;
+///
+/// let (mut out, mut err) = (Vec::new(rt.alloc()), Vec::new(rt.alloc()));
+/// assert_eq!(rt; run(&["duration", "2h 37min"], &mut out, &mut err), 0);
+/// assert_eq!(rt; out.as_slice(), b"2h 37m\n".as_slice());
+/// assert_eq!(rt; run(&["duration", "2 hours  min"], &mut out, &mut err), 1);
+/// assert_eq!(rt; err.as_slice(), b"expected number at 9\n".as_slice());
 /// ```
 pub fn run<O: Write, E: Write>(words: &[&str], out: &mut O, err: &mut E) -> u8
     ensures ends { Ends (texts words.now) result (O.contents out.old) (O.contents out.new) (E.contents err.old) (E.contents err.new) }

@@ -1,8 +1,6 @@
 //! A command line over the library: it prints a duration or a timestamp in its one form.
 //!
-//! ```text
-//! humantime duration "2h 37min"
-//! ```
+//! `humantime duration "2h 37min"` prints `2h 37m`.
 #![tactic(auto)]
 
 ghost use Rattle.std.specs.Prelude.{map, string_bytes, MatchResult};

@@ -3,18 +3,26 @@
 use std::error::Error;
 use std::fmt;
 
-/// What is wrong with a text that should be a timestamp.
+/// Why a text is no timestamp.
 ///
-/// The parsers answer the error of the first check that the text fails; the crate has these three.
+/// The parsers answer the error of the first check that the text fails; the crate has these three. `Display` writes the
+/// message.
 ///
-/// ```text
-/// parse_rfc3339("1970-02-30T00:00:00Z") == Err(TimestampError::OutOfRange)
+/// # Examples
+///
+/// ```
+/// use humantime::{TimestampError, parse_rfc3339};
+///
+/// let error = parse_rfc3339("1970-02-30T00:00:00Z").expect_err(&rt, "no such date");
+/// assert_eq!(rt; error, TimestampError::OutOfRange);
+/// let message = format!(in rt.alloc(); "date: {error}")?;
+/// assert_eq!(rt; message.as_str(), "date: numeric component is out of range");
 /// ```
 #[derive(Clone, Copy, PartialEq, Eq, Debug)]
 pub enum TimestampError {
-    /// A number is out of its range, as a month 13 or a year before 1970.
+    /// A number is out of its range, as month 13 or a year before 1970, or the month has no such day.
     OutOfRange,
-    /// Some other byte stands where a digit is expected.
+    /// Another byte stands where a digit is expected.
     InvalidDigit,
     /// The text has another shape.
     InvalidFormat,

@@ -113,19 +113,34 @@ struct Lanes {
     back: u32x4,
 }
 
-/// The moment that the text shows, in the weak form of a timestamp.
+/// Returns the moment that `s` shows, in the weak form of a timestamp, such as `2018-02-14 00:28:07`.
 ///
-/// Date and time stand apart by `T` or a space, and the zone may be left out: nothing, `Z` and `+00:00` all
-/// mean the zone of Greenwich. A fraction of a second may have any number of digits, none too; those past the
-/// ninth are cut. Second 60 is read as 59. The text is looked at as bytes.
+/// A `T` or a space stands between date and time. The zone may be left out: nothing, `Z` and `+00:00` all mean the zone
+/// of Greenwich. A fraction of a second may have any number of digits, none too; those past the ninth are cut. Second 60
+/// is read as 59. The text is looked at as bytes, counted from 0. The rule is the crate's, after RFC 3339.
 ///
-/// The error is that of the first check that fails: at least 19 bytes, then the signs in their places
-/// (`InvalidFormat`), the digits between them (`InvalidDigit`), a date of 1970 to 9999 and a time of day
-/// (`OutOfRange`), and the end (`InvalidFormat`, and after a point `InvalidDigit`). The rule is the crate's,
-/// after RFC 3339.
+/// # Errors
 ///
-/// ```text
-/// parse_rfc3339_weak("2018-02-14 00:28:07")
+/// Makes these checks in this order, and returns the error of the first that fails:
+///
+/// - [`InvalidFormat`](TimestampError::InvalidFormat) if there are fewer than 19 bytes;
+/// - `InvalidFormat` if a sign of date and time is not in its place;
+/// - [`InvalidDigit`](TimestampError::InvalidDigit) if another byte, up to byte 18, is no digit;
+/// - [`OutOfRange`](TimestampError::OutOfRange) if 1970 to 9999 has no such date, the hour is above 23, the minute above
+///   59 or the second above 60;
+/// - `InvalidFormat` if byte 19 is not a point, and what stands from there on is not nothing, `Z` or `+00:00`;
+/// - `InvalidDigit` if byte 19 is a point, and what stands after it is not digits, and then nothing, `Z` or `+00:00`.
+///
+/// # Examples
+///
+/// ```
+/// use humantime::{SystemTime, TimestampError, parse_rfc3339_weak};
+///
+/// let moment = SystemTime::from_parts(1_514_811_180, 0).ok_or("too many nanoseconds")?;
+/// assert_eq!(rt; parse_rfc3339_weak("2018-01-01 12:53:00"), Ok(moment));
+/// assert_eq!(rt; parse_rfc3339_weak("2018-01-01T12:53:00.+00:00"), Ok(moment));
+/// assert_eq!(rt; parse_rfc3339_weak("1970-02-30T00:00:00Z"), Err(TimestampError::OutOfRange));
+/// assert_eq!(rt; parse_rfc3339_weak("1970-01-01 00:00:00.5+02:00"), Err(TimestampError::InvalidDigit));
 /// ```
 #[inline(always)]
 pub fn parse_rfc3339_weak(s: &str) -> Result<SystemTime, TimestampError>
@@ -136,14 +151,25 @@ pub fn parse_rfc3339_weak(s: &str) -> Result<SystemTime, TimestampError>
     read_timestamp(s.as_bytes())
 }
 
-/// The moment that the text shows, in the strict form of a timestamp.
+/// Returns the moment that `s` shows, in the strict form of a timestamp, such as `2018-02-14T00:28:07Z`.
 ///
-/// It is the weak form with a `T` between date and time, and with `Z` or `+00:00` at the end. A text without
-/// these, or of less than 20 bytes, is `InvalidFormat`; any other text is answered as by the weak parser.
-/// RFC 3339 has this form; the crate takes no other zone, and no small letters.
+/// It is the weak form with a `T` between date and time, and with `Z` or `+00:00` at the end. RFC 3339 has this form;
+/// the crate takes no other zone, and no small letters.
 ///
-/// ```text
-/// parse_rfc3339("2018-02-14T00:28:07Z")
+/// # Errors
+///
+/// Returns [`InvalidFormat`](TimestampError::InvalidFormat) if the text has fewer than 20 bytes, no `T` at byte 10 (counted
+/// from 0), or no zone at its end. Of any other text it returns the error that [`parse_rfc3339_weak`] returns.
+///
+/// # Examples
+///
+/// ```
+/// use humantime::{SystemTime, TimestampError, parse_rfc3339};
+///
+/// let moment = SystemTime::from_parts(1_518_568_087, 0).ok_or("too many nanoseconds")?;
+/// assert_eq!(rt; parse_rfc3339("2018-02-14T00:28:07Z"), Ok(moment));
+/// assert_eq!(rt; parse_rfc3339("2018-02-14 00:28:07"), Err(TimestampError::InvalidFormat));
+/// assert_eq!(rt; parse_rfc3339("2100-02-29T00:00:00Z"), Err(TimestampError::OutOfRange));
 /// ```
 #[inline(always)]
 pub fn parse_rfc3339(s: &str) -> Result<SystemTime, TimestampError>

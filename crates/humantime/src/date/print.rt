@@ -33,14 +33,20 @@ enum Precision {
     Nanos,
 }
 
-/// A moment that is printed as a timestamp, with a number of digits after the second.
+/// A moment that [`text`](Self::text) and `Display` print as a timestamp, with 0, 3, 6 or 9 digits after the second.
 ///
-/// The `format_rfc3339` calls make it. `Display` writes the text that `text` lends, by one request to the
-/// sink; width and fill are ignored. Outside 1970 to 9999 `Display` answers `fmt::Error` and asks nothing of
-/// the sink.
+/// The `format_rfc3339` functions make it. `Display` writes the text that `text` gives, by one call of the sink; width
+/// and fill are ignored. Outside 1970 to 9999 `Display` answers `fmt::Error` and does not call the sink.
 ///
-/// ```text
-/// format_rfc3339_millis(moment).text(&mut [0; 30])
+/// # Examples
+///
+/// ```
+/// use humantime::{UNIX_EPOCH, format_rfc3339_millis};
+///
+/// let printable = format_rfc3339_millis(UNIX_EPOCH);
+/// let mut buffer = [0; 30];
+/// assert_eq!(rt; printable.text(&mut buffer), Some("1970-01-01T00:00:00.000Z"));
+/// assert_eq!(rt; printable.to_string(rt.alloc())?.as_str(), "1970-01-01T00:00:00.000Z");
 /// ```
 #[derive(Clone, Copy, Debug)]
 pub struct Rfc3339Timestamp {
@@ -63,12 +69,20 @@ impl Model for Rfc3339Timestamp {
     ghost inverse_ok = { λ x h. Prim.grind arith };
 }
 
-/// The moment, to be printed with no fraction where its nanoseconds are zero, and else with nine digits.
+/// Returns a value that prints `moment` with no fraction if its nanoseconds are zero, and with nine digits otherwise.
 ///
 /// It never fails. RFC 3339 has the form; this choice of the digits is the crate's.
 ///
-/// ```text
-/// format_rfc3339(UNIX_EPOCH)
+/// # Examples
+///
+/// ```
+/// use humantime::{SystemTime, format_rfc3339};
+///
+/// let mut buffer = [0; 30];
+/// let whole = SystemTime::from_parts(1_518_563_312, 0).ok_or("too many nanoseconds")?;
+/// assert_eq!(rt; format_rfc3339(whole).text(&mut buffer), Some("2018-02-13T23:08:32Z"));
+/// let moment = SystemTime::from_parts(1_518_563_312, 456_123_999).ok_or("too many nanoseconds")?;
+/// assert_eq!(rt; format_rfc3339(moment).text(&mut buffer), Some("2018-02-13T23:08:32.456123999Z"));
 /// ```
 pub fn format_rfc3339(moment: SystemTime) -> Rfc3339Timestamp
     ensures { result ≡ record { moment = moment; places = places_of moment } }
@@ -81,12 +95,18 @@ pub fn format_rfc3339(moment: SystemTime) -> Rfc3339Timestamp
     Rfc3339Timestamp { moment, precision }
 }
 
-/// The moment, to be printed with no fraction; its nanoseconds are cut.
+/// Returns a value that prints `moment` with no fraction; its nanoseconds are cut, not rounded.
 ///
 /// It never fails.
 ///
-/// ```text
-/// format_rfc3339_seconds(UNIX_EPOCH)
+/// # Examples
+///
+/// ```
+/// use humantime::{SystemTime, format_rfc3339_seconds};
+///
+/// let moment = SystemTime::from_parts(1_518_563_312, 456_123_999).ok_or("too many nanoseconds")?;
+/// let mut buffer = [0; 30];
+/// assert_eq!(rt; format_rfc3339_seconds(moment).text(&mut buffer), Some("2018-02-13T23:08:32Z"));
 /// ```
 pub fn format_rfc3339_seconds(moment: SystemTime) -> Rfc3339Timestamp
     ensures { result ≡ record { moment = moment; places = 0 } }
@@ -97,12 +117,18 @@ pub fn format_rfc3339_seconds(moment: SystemTime) -> Rfc3339Timestamp
     }
 }
 
-/// The moment, to be printed with three digits after the second; further ones are cut, not rounded.
+/// Returns a value that prints `moment` with three digits after the second; further ones are cut, not rounded.
 ///
 /// It never fails.
 ///
-/// ```text
-/// format_rfc3339_millis(UNIX_EPOCH)
+/// # Examples
+///
+/// ```
+/// use humantime::{SystemTime, format_rfc3339_millis};
+///
+/// let moment = SystemTime::from_parts(1_518_563_312, 456_123_999).ok_or("too many nanoseconds")?;
+/// let mut buffer = [0; 30];
+/// assert_eq!(rt; format_rfc3339_millis(moment).text(&mut buffer), Some("2018-02-13T23:08:32.456Z"));
 /// ```
 pub fn format_rfc3339_millis(moment: SystemTime) -> Rfc3339Timestamp
     ensures { result ≡ record { moment = moment; places = 3 } }
@@ -113,12 +139,18 @@ pub fn format_rfc3339_millis(moment: SystemTime) -> Rfc3339Timestamp
     }
 }
 
-/// The moment, to be printed with six digits after the second; further ones are cut, not rounded.
+/// Returns a value that prints `moment` with six digits after the second; further ones are cut, not rounded.
 ///
 /// It never fails.
 ///
-/// ```text
-/// format_rfc3339_micros(UNIX_EPOCH)
+/// # Examples
+///
+/// ```
+/// use humantime::{SystemTime, format_rfc3339_micros};
+///
+/// let moment = SystemTime::from_parts(1_518_563_312, 456_123_999).ok_or("too many nanoseconds")?;
+/// let mut buffer = [0; 30];
+/// assert_eq!(rt; format_rfc3339_micros(moment).text(&mut buffer), Some("2018-02-13T23:08:32.456123Z"));
 /// ```
 pub fn format_rfc3339_micros(moment: SystemTime) -> Rfc3339Timestamp
     ensures { result ≡ record { moment = moment; places = 6 } }
@@ -129,12 +161,18 @@ pub fn format_rfc3339_micros(moment: SystemTime) -> Rfc3339Timestamp
     }
 }
 
-/// The moment, to be printed with nine digits after the second.
+/// Returns a value that prints `moment` with nine digits after the second.
 ///
 /// It never fails.
 ///
-/// ```text
-/// format_rfc3339_nanos(UNIX_EPOCH)
+/// # Examples
+///
+/// ```
+/// use humantime::{SystemTime, format_rfc3339_nanos};
+///
+/// let moment = SystemTime::from_parts(1_518_563_312, 456_123_999).ok_or("too many nanoseconds")?;
+/// let mut buffer = [0; 30];
+/// assert_eq!(rt; format_rfc3339_nanos(moment).text(&mut buffer), Some("2018-02-13T23:08:32.456123999Z"));
 /// ```
 pub fn format_rfc3339_nanos(moment: SystemTime) -> Rfc3339Timestamp
     ensures { result ≡ record { moment = moment; places = 9 } }
@@ -146,10 +184,15 @@ pub fn format_rfc3339_nanos(moment: SystemTime) -> Rfc3339Timestamp
 }
 
 impl Rfc3339Timestamp {
-    /// The moment that is printed.
+    /// Returns the moment, with all its nanoseconds.
     ///
-    /// ```text
-    /// *format_rfc3339(UNIX_EPOCH).get_ref() == UNIX_EPOCH
+    /// # Examples
+    ///
+    /// ```
+    /// use humantime::{SystemTime, format_rfc3339_seconds};
+    ///
+    /// let moment = SystemTime::from_parts(1_518_563_312, 456_123_999).ok_or("too many nanoseconds")?;
+    /// assert_eq!(rt; *format_rfc3339_seconds(moment).get_ref(), moment);
     /// ```
     pub fn get_ref(&self) -> &SystemTime
         ensures moment { result.now ≡ self.now.moment }
@@ -158,12 +201,21 @@ impl Rfc3339Timestamp {
         &self.moment
     }
 
-    /// The printed text, lent from the front of the buffer, or `None` for a moment outside 1970 to 9999.
+    /// Returns the printed text, borrowed from the front of `buf`, or `None` for a moment outside 1970 to 9999.
     ///
-    /// At `None` the buffer is unchanged; else its bytes after the text may hold anything.
+    /// The text has 20, 24, 27 or 30 bytes; the bytes of `buf` after it may hold anything. At `None` `buf` is unchanged.
     ///
-    /// ```text
-    /// format_rfc3339(UNIX_EPOCH).text(&mut buf) == Some("1970-01-01T00:00:00Z")
+    /// # Examples
+    ///
+    /// ```
+    /// use humantime::{SystemTime, UNIX_EPOCH, format_rfc3339};
+    ///
+    /// let mut buffer = [0; 30];
+    /// assert_eq!(rt; format_rfc3339(UNIX_EPOCH).text(&mut buffer), Some("1970-01-01T00:00:00Z"));
+    /// let before = SystemTime::from_parts(-1, 0).ok_or("too many nanoseconds")?;
+    /// let mut other = [7; 30];
+    /// assert_eq!(rt; format_rfc3339(before).text(&mut other), None);
+    /// assert_eq!(rt; other, [7; 30]);
     /// ```
     #[inline(always)]
     pub fn text<'b>(&self, buf: &'b mut [u8; 30]) -> Option<&'b str>

@@ -10,34 +10,41 @@ use std::fmt;
 
 /// Why a text is no duration. Offsets are in bytes.
 ///
-/// Its message is the crate's, with the unit as it stands. Two errors are equal where their variants and
-/// fields are; two units are equal where their texts are.
+/// `Display` writes the crate's message, with the unit as it stands in the text. Two errors are equal if their variants
+/// and fields are; two units are equal if their texts are.
 ///
-/// ```text
-/// DurationError::NumberExpected(13) is printed as `expected number at 13`
+/// # Examples
+///
+/// ```
+/// use humantime::{DurationError, parse_duration};
+///
+/// let error = parse_duration("10nights").expect_err(&rt, "no such unit");
+/// assert_eq!(rt; error, DurationError::UnknownUnit { start: 2, end: 8, unit: "nights", value: 10 });
+/// let error = parse_duration("2 hours  min").expect_err(&rt, "no number");
+/// assert_eq!(rt; error.to_string(rt.alloc())?.as_str(), "expected number at 9");
 /// ```
 #[derive(Clone, Copy, PartialEq, Eq, Debug)]
 pub enum DurationError<'a> {
-    /// At this offset stands a character that has no place in a span.
+    /// A character at this offset has no place in a span.
     InvalidCharacter(usize),
-    /// At this offset stands a character where a number has to begin.
+    /// A number has to begin at this offset, and another character stands there.
     NumberExpected(usize),
-    /// The unit is no unit's word, or there is none.
+    /// The letters after a number are no unit's word, or there are none.
     UnknownUnit {
         /// The offset where the unit begins.
         start: usize,
         /// The offset after the unit.
         end: usize,
-        /// The unit, lent from the text.
+        /// The unit, borrowed from the text; empty if it is missing.
         unit: &'a str,
-        /// The number that stands before the unit.
+        /// The number before the unit.
         value: u64,
     },
     /// A limit is broken. A number, its product with its unit's size, or a sum is too large. Or a fraction, without
     /// the zeros at its end, has more than 19 digits, has too large a product with its unit's size, or is no whole
     /// number of what its unit counts fractions in: nanoseconds up to minutes, seconds from hours up.
     NumberOverflow,
-    /// There is nothing, or only white space.
+    /// The text is empty or has only white space.
     Empty,
 }
 

@@ -5,10 +5,18 @@ ghost use Rattle.humantime.specs.declared.calendar.Date.{Date};
 ghost use Rattle.humantime.specs.Laws.Days.{IsDateOfDay};
 ghost use Rattle.humantime.specs.Laws.ExactlyOne.{ExactlyOne};
 
-/// Each day from 1970-01-01 to 9999-12-31 is the day of one date, and of no other; no other day has a date.
+/// States that each day from 1970-01-01 to 9999-12-31 is the day of exactly one date; no other day has a date.
 ///
-/// ```text
-/// one_date(11016)
+/// # Examples
+///
+/// ```
+/// use humantime::{Date, Turns, date_of_day, day_number, laws};
+///
+/// laws::one_date(11016);
+/// let mut turns = Turns::new();
+/// let date = Date { year: 2000, month: 2, day: 29 };
+/// assert_eq!(rt; date_of_day(11016, &mut turns), Some(date));
+/// assert_eq!(rt; day_number(date, &mut turns), Some(11016));
 /// ```
 #[tactic(auto, using(crate::proofs::Theorems::one_date, crate::proofs::Theorems::day_at_most))]
 pub fn one_date(day: u32)

@@ -4,39 +4,72 @@ ghost use Rattle.humantime.specs.Laws.Printed.{IsBounded, IsCanonicalAgain, Prin
 
 use crate::value::StdDuration;
 
-/// A duration has one canonical text, which is the text that is printed, and which is accepted with the duration.
+/// States that a duration has one canonical text, which is the text that is printed and is accepted with the duration.
 ///
-/// ```text
-/// 2h 37m is the one text of 9420 seconds, and is read as 9420 seconds
+/// # Examples
+///
+/// ```
+/// use humantime::{StdDuration, format_duration, laws, parse_duration};
+///
+/// let duration = StdDuration::from_secs(9420);
+/// laws::printed_duration_reads(duration);
+/// let mut buffer = [0; 64];
+/// let text = format_duration(duration).text(&mut buffer);
+/// assert_eq!(rt; text, "2h 37m");
+/// assert_eq!(rt; parse_duration(text), Ok(duration));
 /// ```
 pub fn printed_duration_reads(d: StdDuration)
     ensures { PrintsAndReads d }
 {}
 
-/// Two durations have equal canonical texts exactly where they are equal.
+/// States that two durations have equal canonical texts exactly if they are equal.
 ///
-/// ```text
-/// 60 seconds are printed as 1m, and no other duration is
+/// # Examples
+///
+/// ```
+/// use humantime::{StdDuration, format_duration, laws};
+///
+/// let (minute, longer) = (StdDuration::from_secs(60), StdDuration::new(60, 1));
+/// laws::printed_durations_differ(minute, longer);
+/// let (mut buffer, mut other) = ([0; 64], [0; 64]);
+/// assert_eq!(rt; format_duration(minute).text(&mut buffer), "1m");
+/// assert_eq!(rt; format_duration(longer).text(&mut other), "1m 1ns");
 /// ```
 pub fn printed_durations_differ(a: StdDuration, b: StdDuration)
     ensures { PrintApart a b }
 {}
 
-/// A canonical text has at most 64 bytes; its months are at most 11, its days at most 30.
+/// States that a canonical text has at most 64 bytes; its months are at most 11, its days at most 30.
 ///
-/// ```text
-/// 100000000000years 11months 29days 23h 59m 59s 999ms 999µs 999ns has 64 bytes
+/// # Examples
+///
+/// ```
+/// use humantime::{StdDuration, format_duration, laws};
+///
+/// let duration = StdDuration::new(3_155_760_000_031_522_175, 999_999_999);
+/// laws::printed_bounds(duration);
+/// let mut buffer = [0; 64];
+/// let text = format_duration(duration).text(&mut buffer);
+/// assert_eq!(rt; text, "100000000000years 11months 29days 23h 59m 59s 999ms 999µs 999ns");
+/// assert_eq!(rt; text.len(), 64);
 /// ```
 pub fn printed_bounds(d: StdDuration)
     ensures { IsBounded d }
 {}
 
-/// What is accepted has a canonical text, which is accepted with the same duration, and is its own canonical text.
+/// States that an accepted text has a canonical text, which reads as the same duration and is its own canonical text.
 ///
 /// The answer, as a function of the text, is that canonical text or the first fault.
 ///
-/// ```text
-/// the canonical text of 120min is 2h, and the canonical text of 2h is 2h
+/// # Examples
+///
+/// ```
+/// use humantime::{canonical, laws};
+///
+/// laws::canonical_again("120min");
+/// let (mut buffer, mut other) = ([0; 64], [0; 64]);
+/// assert_eq!(rt; canonical("120min", &mut buffer), Ok("2h"));
+/// assert_eq!(rt; canonical("2h", &mut other), Ok("2h"));
 /// ```
 pub fn canonical_again(s: &str)
     ensures { IsCanonicalAgain s.now }

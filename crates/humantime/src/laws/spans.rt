@@ -3,11 +3,21 @@
 ghost use Rattle.std.specs.Prelude.{chars};
 ghost use Rattle.humantime.specs.Laws.Outcomes.{LendsOneList};
 
-/// A text has exactly one list of items that lend it slice by slice, in order. What lies in no slice is white space, or
-/// the point before a fraction. So two walks over a text lend the same.
+/// States that a text has exactly one list of items that gives it slice by slice, in order.
 ///
-/// ```text
-/// " 1 2.5 h x" lends "1 2", "5" and "h", and then the error that no number begins at the x
+/// What lies in no slice is white space, or the point before a fraction. So two walks over a text give the same slices.
+///
+/// # Examples
+///
+/// ```
+/// use humantime::{DurationError, laws, spans};
+///
+/// let text = " 1 2.5 h x";
+/// laws::spans_tile(text);
+/// let mut items = spans(text);
+/// let span = items.next().ok_or("no span")??;
+/// assert_eq!(rt; (span.number(), span.fraction(), span.unit()), ("1 2", Some("5"), "h"));
+/// assert!(rt; matches!(items.next(), Some(Err(DurationError::NumberExpected(9)))));
 /// ```
 pub fn spans_tile(s: &str)
     ensures { LendsOneList (chars s.now) }

@@ -12,12 +12,22 @@ ghost use Rattle.humantime.specs.Timestamps.Printed.{IsPrinted};
 use crate::date::Rfc3339Timestamp;
 use crate::value::SystemTime;
 
-/// A text in strict form is one in weak form with a `T` between date and time and a zone at its end.
+/// States that a text in strict form is one in weak form with a `T` between date and time and a zone at its end.
 ///
-/// So the strict parser gives a moment exactly where the weak one gives it and the text has these marks.
+/// So the strict parser gives a moment exactly if the weak one gives it and the text has these marks.
 ///
-/// ```text
-/// strict_is_weak("2018-02-14T00:28:07Z")
+/// # Examples
+///
+/// ```
+/// use humantime::{TimestampError, laws, parse_rfc3339, parse_rfc3339_weak};
+///
+/// laws::strict_is_weak("2018-02-14T00:28:07Z");
+/// assert_eq!(rt; parse_rfc3339("2018-02-14T00:28:07Z")?.unix_seconds(), 1_518_568_087);
+/// assert_eq!(rt; parse_rfc3339_weak("2018-02-14T00:28:07Z")?.unix_seconds(), 1_518_568_087);
+///
+/// laws::strict_is_weak("2018-02-14 00:28:07");
+/// assert_eq!(rt; parse_rfc3339("2018-02-14 00:28:07"), Err(TimestampError::InvalidFormat));
+/// assert_eq!(rt; parse_rfc3339_weak("2018-02-14 00:28:07")?.unix_seconds(), 1_518_568_087);
 /// ```
 pub fn strict_is_weak(s: &str)
     ensures { StrictForm s.now }
@@ -25,11 +35,18 @@ pub fn strict_is_weak(s: &str)
     let _ = s;
 }
 
-/// Each text has one outcome for each parser: it shows date and time exactly where no check fails, and then
-/// no others. The parsers' answer as a function of the text has that outcome.
+/// States that each text has one outcome for each parser, which is the parser's answer as a function of the text.
 ///
-/// ```text
-/// one_stamp_outcome("2018-02-30 00:28:07")
+/// The text shows date and time exactly if no check fails, and then no others.
+///
+/// # Examples
+///
+/// ```
+/// use humantime::{TimestampError, laws, parse_rfc3339, parse_rfc3339_weak};
+///
+/// laws::one_stamp_outcome("1970-13-01 00:00:00junk");
+/// assert_eq!(rt; parse_rfc3339_weak("1970-13-01 00:00:00junk"), Err(TimestampError::OutOfRange));
+/// assert_eq!(rt; parse_rfc3339("1970-13-01 00:00:00junk"), Err(TimestampError::InvalidFormat));
 /// ```
 pub fn one_stamp_outcome(s: &str)
     ensures weak { OneTimestamp (weak_checks s.now) (IsWeak s.now) (weak_answer s.now) }
@@ -38,11 +55,24 @@ pub fn one_stamp_outcome(s: &str)
     let _ = s;
 }
 
-/// A moment of 1970 to 9999 has one printed text, which `Display` writes, and both parsers read it back as the
-/// moment, cut to the digits that are printed.
+/// States that a moment of 1970 to 9999 has one printed text, from which both parsers read the moment.
 ///
-/// ```text
-/// printed_moment_reads(&format_rfc3339(UNIX_EPOCH))
+/// They read it cut to the digits that are printed. `Display` writes that text.
+///
+/// # Examples
+///
+/// ```
+/// use humantime::{SystemTime, format_rfc3339_millis, laws, parse_rfc3339, parse_rfc3339_weak};
+///
+/// let moment = SystemTime::from_parts(1_518_563_312, 456_123_999).ok_or("too many nanoseconds")?;
+/// let cut = SystemTime::from_parts(1_518_563_312, 456_000_000).ok_or("too many nanoseconds")?;
+/// let printable = format_rfc3339_millis(moment);
+/// laws::printed_moment_reads(&printable);
+/// let mut buffer = [0; 30];
+/// let text = printable.text(&mut buffer).ok_or("out of range")?;
+/// assert_eq!(rt; text, "2018-02-13T23:08:32.456Z");
+/// assert_eq!(rt; parse_rfc3339(text), Ok(cut));
+/// assert_eq!(rt; parse_rfc3339_weak(text), Ok(cut));
 /// ```
 pub fn printed_moment_reads(x: &Rfc3339Timestamp)
     ensures { PrintedMoment x.now.moment x.now.places }
@@ -50,10 +80,19 @@ pub fn printed_moment_reads(x: &Rfc3339Timestamp)
     let _ = x.get_ref();
 }
 
-/// Printed texts with equally many digits stand, as bytes, in the order of their moments, cut to these digits.
+/// States that printed texts with equally many digits sort, as bytes, as their moments do, cut to these digits.
 ///
-/// ```text
-/// stamps_in_order(earlier, later)
+/// # Examples
+///
+/// ```
+/// use humantime::{SystemTime, UNIX_EPOCH, format_rfc3339_nanos, laws};
+///
+/// let later = SystemTime::from_parts(0, 1).ok_or("too many nanoseconds")?;
+/// laws::stamps_in_order(UNIX_EPOCH, later);
+/// let (mut buffer, mut other) = ([0; 30], [0; 30]);
+/// let first = format_rfc3339_nanos(UNIX_EPOCH).text(&mut buffer).ok_or("out of range")?;
+/// let second = format_rfc3339_nanos(later).text(&mut other).ok_or("out of range")?;
+/// assert!(rt; first.as_bytes() < second.as_bytes());
 /// ```
 pub fn stamps_in_order(a: SystemTime, b: SystemTime)
     ensures order { InOrder a b }

@@ -11,14 +11,21 @@ use crate::unit::sizes::NANOS_PER_SECOND;
 use std::cmp::Ordering;
 use std::marker::Model;
 
-/// A duration: whole seconds (`u64`) and nanoseconds below 10^9.
+/// A length of time: whole seconds (`u64`) and nanoseconds below 10^9.
 ///
-/// It has the calls of the `Duration` of Rust's standard library that a reader and a printer need.
-/// Contracts see it as its number of nanoseconds; order and equality are those of that number, and the
-/// default is zero.
+/// It has the methods of the `Duration` of Rust's standard library that a reader and a printer need. Contracts see
+/// it as its number of nanoseconds. Order and equality are those of that number, and the default is zero.
 ///
-/// ```text
-/// StdDuration::from_secs(9420) > StdDuration::ZERO
+/// # Examples
+///
+/// ```
+/// use humantime::StdDuration;
+///
+/// let duration = StdDuration::from_micros(2_500_000);
+/// assert_eq!(rt; duration.as_secs(), 2);
+/// assert_eq!(rt; duration.subsec_nanos(), 500_000_000);
+/// assert!(rt; duration > StdDuration::ZERO);
+/// assert_eq!(rt; StdDuration::default(), StdDuration::ZERO);
 /// ```
 #[derive(Clone, Copy, Hash, Default, Debug)]
 pub struct StdDuration {
@@ -45,29 +52,46 @@ impl Model for StdDuration {
 }
 
 impl StdDuration {
-    /// No time at all: (0, 0).
+    /// The duration of 0 seconds and 0 nanoseconds.
     ///
-    /// ```text
-    /// StdDuration::ZERO.as_secs() == 0
+    /// # Examples
+    ///
+    /// ```
+    /// use humantime::StdDuration;
+    ///
+    /// assert_eq!(rt; StdDuration::ZERO.as_secs(), 0);
+    /// assert_eq!(rt; StdDuration::ZERO.subsec_nanos(), 0);
     /// ```
     pub const ZERO: StdDuration = StdDuration { secs: 0, nanos: 0 };
 
-    /// The longest duration: (18446744073709551615, 999999999).
+    /// The longest duration: 18446744073709551615 seconds and 999999999 nanoseconds.
     ///
-    /// ```text
-    /// StdDuration::MAX.as_secs() == u64::MAX
+    /// # Examples
+    ///
+    /// ```
+    /// use humantime::StdDuration;
+    ///
+    /// assert_eq!(rt; StdDuration::MAX.as_secs(), u64::MAX);
+    /// assert_eq!(rt; StdDuration::MAX.subsec_nanos(), 999_999_999);
     /// ```
     pub const MAX: StdDuration = StdDuration {
         secs: u64::MAX,
         nanos: NANOS_PER_SECOND - 1,
     };
 
-    /// The sum of the seconds and the nanoseconds; 10^9 nanoseconds and more are carried into seconds.
+    /// Creates a duration of `secs` seconds and `nanos` nanoseconds.
     ///
-    /// The caller shows that the carried seconds fit `u64`; `checked_new` makes that test at run time.
+    /// Each 10^9 nanoseconds are carried into one second. The caller has to prove that the seconds with this carry fit
+    /// `u64`; [`checked_new`](Self::checked_new) makes that test at run time.
     ///
-    /// ```text
-    /// StdDuration::new(1, 1_500_000_000).as_secs() == 2
+    /// # Examples
+    ///
+    /// ```
+    /// use humantime::StdDuration;
+    ///
+    /// let duration = StdDuration::new(1, 1_500_000_000);
+    /// assert_eq!(rt; duration.as_secs(), 2);
+    /// assert_eq!(rt; duration.subsec_nanos(), 500_000_000);
     /// ```
     pub fn new(secs: u64, nanos: u32) -> StdDuration
         requires { secs + nanos / nanos_per_second < 2 ^ 64 }
@@ -78,10 +102,17 @@ impl StdDuration {
         StdDuration { secs, nanos }
     }
 
-    /// The sum of the seconds and the nanoseconds, or `None` where its seconds do not fit `u64`.
+    /// Creates a duration of `secs` seconds and `nanos` nanoseconds, or returns `None` if its seconds do not fit `u64`.
     ///
-    /// ```text
-    /// StdDuration::checked_new(u64::MAX, 1_000_000_000) == None
+    /// Each 10^9 nanoseconds are carried into one second.
+    ///
+    /// # Examples
+    ///
+    /// ```
+    /// use humantime::StdDuration;
+    ///
+    /// assert_eq!(rt; StdDuration::checked_new(u64::MAX, 999_999_999), Some(StdDuration::MAX));
+    /// assert_eq!(rt; StdDuration::checked_new(u64::MAX, 1_000_000_000), None);
     /// ```
     pub fn checked_new(secs: u64, nanos: u32) -> Option<StdDuration>
         ensures { SomeIff result (secs + nanos / nanos_per_second < 2 ^ 64) (secs * nanos_per_second + nanos) }
@@ -91,10 +122,16 @@ impl StdDuration {
         Some(StdDuration { secs, nanos })
     }
 
-    /// So many whole seconds.
+    /// Creates a duration of `secs` whole seconds.
     ///
-    /// ```text
-    /// StdDuration::from_secs(60).subsec_nanos() == 0
+    /// # Examples
+    ///
+    /// ```
+    /// use humantime::StdDuration;
+    ///
+    /// let minute = StdDuration::from_secs(60);
+    /// assert_eq!(rt; minute.as_secs(), 60);
+    /// assert_eq!(rt; minute.subsec_nanos(), 0);
     /// ```
     pub fn from_secs(secs: u64) -> StdDuration
         ensures { result ≡ secs * nanos_per_second }
@@ -102,10 +139,16 @@ impl StdDuration {
         StdDuration { secs, nanos: 0 }
     }
 
-    /// So many microseconds.
+    /// Creates a duration of `micros` microseconds.
     ///
-    /// ```text
-    /// StdDuration::from_micros(123).subsec_nanos() == 123_000
+    /// # Examples
+    ///
+    /// ```
+    /// use humantime::StdDuration;
+    ///
+    /// let duration = StdDuration::from_micros(1_000_123);
+    /// assert_eq!(rt; duration.as_secs(), 1);
+    /// assert_eq!(rt; duration.subsec_nanos(), 123_000);
     /// ```
     pub fn from_micros(micros: u64) -> StdDuration
         ensures { result ≡ micros * 1000 }
@@ -115,10 +158,14 @@ impl StdDuration {
         StdDuration { secs, nanos }
     }
 
-    /// The whole seconds.
+    /// Returns the whole seconds, without the nanoseconds beyond them.
     ///
-    /// ```text
-    /// StdDuration::from_micros(2_500_000).as_secs() == 2
+    /// # Examples
+    ///
+    /// ```
+    /// use humantime::StdDuration;
+    ///
+    /// assert_eq!(rt; StdDuration::from_micros(2_500_000).as_secs(), 2);
     /// ```
     pub fn as_secs(&self) -> u64
         ensures secs { result ≡ self.now / nanos_per_second }
@@ -129,8 +176,12 @@ impl StdDuration {
 
     /// The nanoseconds beyond the whole seconds, below 10^9.
     ///
-    /// ```text
-    /// StdDuration::from_micros(2_500_000).subsec_nanos() == 500_000_000
+    /// # Examples
+    ///
+    /// ```
+    /// use humantime::StdDuration;
+    ///
+    /// assert_eq!(rt; StdDuration::from_micros(2_500_000).subsec_nanos(), 500_000_000);
     /// ```
     pub fn subsec_nanos(&self) -> u32
         ensures nanos { result ≡ self.now % nanos_per_second }
@@ -139,10 +190,17 @@ impl StdDuration {
         self.nanos
     }
 
-    /// The sum, or `None` where it passes `MAX`.
+    /// Returns the sum, or `None` if it is longer than [`MAX`](Self::MAX).
     ///
-    /// ```text
-    /// StdDuration::MAX.checked_add(StdDuration::ZERO) == Some(StdDuration::MAX)
+    /// # Examples
+    ///
+    /// ```
+    /// use humantime::StdDuration;
+    ///
+    /// let minute = StdDuration::from_secs(60);
+    /// assert_eq!(rt; minute.checked_add(minute), Some(StdDuration::from_secs(120)));
+    /// assert_eq!(rt; StdDuration::MAX.checked_add(StdDuration::ZERO), Some(StdDuration::MAX));
+    /// assert_eq!(rt; StdDuration::MAX.checked_add(StdDuration::new(0, 1)), None);
     /// ```
     pub fn checked_add(self, other: StdDuration) -> Option<StdDuration>
         ensures { SomeIff result (self + other < duration_end) (self + other) }

@@ -14,19 +14,29 @@ use std::marker::Model;
 
 /// The moment 1970-01-01T00:00:00Z.
 ///
-/// ```text
-/// UNIX_EPOCH.unix_seconds() == 0
+/// # Examples
+///
+/// ```
+/// use humantime::UNIX_EPOCH;
+///
+/// assert_eq!(rt; UNIX_EPOCH.unix_seconds(), 0);
+/// assert_eq!(rt; UNIX_EPOCH.subsec_nanos(), 0);
 /// ```
 pub const UNIX_EPOCH: SystemTime = SystemTime { secs: 0, nanos: 0 };
 
 /// A moment: seconds from 1970-01-01T00:00:00Z (`i64`) and nanoseconds below 10^9 after them.
 ///
-/// It has the calls of the `SystemTime` of Rust's standard library that a reader and a printer need.
-/// Contracts see it as its number of nanoseconds from 1970, which is negative before; order and equality
-/// are those of that number.
+/// It has the methods of the `SystemTime` of Rust's standard library that a reader and a printer need. Contracts see
+/// it as its number of nanoseconds from 1970, which is negative before. Order and equality are those of that number.
 ///
-/// ```text
-/// SystemTime::from_parts(-1, 999_999_999) < Some(UNIX_EPOCH)
+/// # Examples
+///
+/// ```
+/// use humantime::{StdDuration, SystemTime, UNIX_EPOCH};
+///
+/// assert!(rt; SystemTime::from_parts(-1, 999_999_999) < Some(UNIX_EPOCH));
+/// let later = UNIX_EPOCH.checked_add(StdDuration::from_secs(5));
+/// assert_eq!(rt; later, SystemTime::from_parts(5, 0));
 /// ```
 #[derive(Clone, Copy, Hash, Debug)]
 pub struct SystemTime {
@@ -54,13 +64,20 @@ impl Model for SystemTime {
         λ i. record { secs = secs i; nanos = nanos i } };
 }
 
-/// That one moment is later than another, and by how much.
+/// The error of [`SystemTime::duration_since`]: `earlier` is later than the moment.
 ///
-/// `SystemTime::duration_since` answers it. Contracts see it as the nanoseconds between the two moments;
-/// equality is that of this difference.
+/// It holds the difference of the two. Contracts see it as the nanoseconds between them; equality is that of this
+/// difference.
 ///
-/// ```text
-/// UNIX_EPOCH.duration_since(later).unwrap_err().duration()
+/// # Examples
+///
+/// ```
+/// use humantime::{StdDuration, UNIX_EPOCH};
+///
+/// let five = StdDuration::from_secs(5);
+/// let later = UNIX_EPOCH.checked_add(five).ok_or("out of range")?;
+/// let error = UNIX_EPOCH.duration_since(later).expect_err(&rt, "not later");
+/// assert_eq!(rt; error.duration(), five);
 /// ```
 #[derive(Clone, Copy, PartialEq, Eq, Debug)]
 pub struct SystemTimeError(StdDuration);
@@ -76,10 +93,17 @@ impl Model for SystemTimeError {
 }
 
 impl SystemTimeError {
-    /// How much later the moment is that was taken as the earlier one.
+    /// Returns how much later the moment is that was taken as the earlier one.
     ///
-    /// ```text
-    /// UNIX_EPOCH.duration_since(later).unwrap_err().duration().as_secs()
+    /// # Examples
+    ///
+    /// ```
+    /// use humantime::{StdDuration, UNIX_EPOCH};
+    ///
+    /// let five = StdDuration::from_secs(5);
+    /// let later = UNIX_EPOCH.checked_add(five).ok_or("out of range")?;
+    /// let error = UNIX_EPOCH.duration_since(later).expect_err(&rt, "not later");
+    /// assert_eq!(rt; error.duration(), five);
     /// ```
     pub fn duration(&self) -> StdDuration
         ensures { result ≡ self.now }
@@ -89,10 +113,18 @@ impl SystemTimeError {
 }
 
 impl SystemTime {
-    /// The moment so many seconds and nanoseconds from 1970, or `None` for nanoseconds of 10^9 and more.
+    /// Creates the moment `secs` seconds from 1970-01-01T00:00:00Z and `nanos` nanoseconds after that.
     ///
-    /// ```text
-    /// SystemTime::from_parts(0, 1_000_000_000) == None
+    /// Negative seconds are before 1970. Returns `None` if `nanos` is 10^9 or more.
+    ///
+    /// # Examples
+    ///
+    /// ```
+    /// use humantime::{SystemTime, UNIX_EPOCH};
+    ///
+    /// assert_eq!(rt; SystemTime::from_parts(0, 0), Some(UNIX_EPOCH));
+    /// assert!(rt; SystemTime::from_parts(-1, 999_999_999) < Some(UNIX_EPOCH));
+    /// assert_eq!(rt; SystemTime::from_parts(0, 1_000_000_000), None);
     /// ```
     pub fn from_parts(secs: i64, nanos: u32) -> Option<SystemTime>
         ensures { SomeIff result (nanos < nanos_per_second) (moment secs nanos) }
@@ -104,10 +136,16 @@ impl SystemTime {
         }
     }
 
-    /// The whole seconds from 1970, rounded down; negative before 1970.
+    /// Returns the whole seconds from 1970-01-01T00:00:00Z, rounded down; they are negative before it.
     ///
-    /// ```text
-    /// UNIX_EPOCH.unix_seconds() == 0
+    /// # Examples
+    ///
+    /// ```
+    /// use humantime::{SystemTime, UNIX_EPOCH};
+    ///
+    /// assert_eq!(rt; UNIX_EPOCH.unix_seconds(), 0);
+    /// let before = SystemTime::from_parts(-1, 999_999_999).ok_or("too many nanoseconds")?;
+    /// assert_eq!(rt; before.unix_seconds(), -1);
     /// ```
     #[tactic(auto, using(crate::proofs::Moments::parts_of_moment))]
     pub fn unix_seconds(&self) -> i64
@@ -119,8 +157,15 @@ impl SystemTime {
 
     /// The nanoseconds after that second, below 10^9.
     ///
-    /// ```text
-    /// UNIX_EPOCH.subsec_nanos() == 0
+    /// That second is the one of [`unix_seconds`](Self::unix_seconds), so before 1970 too they count forwards.
+    ///
+    /// # Examples
+    ///
+    /// ```
+    /// use humantime::SystemTime;
+    ///
+    /// let before = SystemTime::from_parts(-1, 999_999_999).ok_or("too many nanoseconds")?;
+    /// assert_eq!(rt; before.subsec_nanos(), 999_999_999);
     /// ```
     #[tactic(auto, using(crate::proofs::Moments::parts_of_moment))]
     pub fn subsec_nanos(&self) -> u32
@@ -131,10 +176,18 @@ impl SystemTime {
         self.nanos
     }
 
-    /// The moment that is later by `duration`, or `None` where its seconds do not fit `i64`.
+    /// Returns the moment that is later by `duration`, or `None` if its seconds do not fit `i64`.
     ///
-    /// ```text
-    /// UNIX_EPOCH.checked_add(StdDuration::from_secs(9_223_372_036_854_775_808)) == None
+    /// # Examples
+    ///
+    /// ```
+    /// use humantime::{StdDuration, SystemTime, UNIX_EPOCH};
+    ///
+    /// let later = UNIX_EPOCH.checked_add(StdDuration::new(5, 7));
+    /// assert_eq!(rt; later, SystemTime::from_parts(5, 7));
+    /// let last = UNIX_EPOCH.checked_add(StdDuration::from_secs(9_223_372_036_854_775_807));
+    /// assert_eq!(rt; last, SystemTime::from_parts(i64::MAX, 0));
+    /// assert_eq!(rt; UNIX_EPOCH.checked_add(StdDuration::from_secs(9_223_372_036_854_775_808)), None);
     /// ```
     pub fn checked_add(self, duration: StdDuration) -> Option<SystemTime>
         ensures { SomeIff result ((self +ℤ pos duration) <ℤ moment_end) (self +ℤ pos duration) }
@@ -148,12 +201,22 @@ impl SystemTime {
         })
     }
 
-    /// The time from `earlier` to this moment.
+    /// Returns the time from `earlier` to this moment.
     ///
-    /// Where `earlier` is the later one, the error has the time from this moment to `earlier`.
+    /// # Errors
     ///
-    /// ```text
-    /// later.duration_since(UNIX_EPOCH) == Ok(StdDuration::from_secs(5))
+    /// Returns [`SystemTimeError`] if `earlier` is the later one; it holds the time from this moment to `earlier`.
+    ///
+    /// # Examples
+    ///
+    /// ```
+    /// use humantime::{StdDuration, UNIX_EPOCH};
+    ///
+    /// let five = StdDuration::from_secs(5);
+    /// let later = UNIX_EPOCH.checked_add(five).ok_or("out of range")?;
+    /// assert_eq!(rt; later.duration_since(UNIX_EPOCH), Ok(five));
+    /// assert_eq!(rt; later.duration_since(later), Ok(StdDuration::ZERO));
+    /// assert!(rt; UNIX_EPOCH.duration_since(later).is_err());
     /// ```
     pub fn duration_since(&self, earlier: SystemTime) -> Result<StdDuration, SystemTimeError>
         ensures order { IsOk result ↔ (earlier ≤ℤ self.now) }

@@ -20,12 +20,18 @@ use crate::value::StdDuration;
 use std::fmt;
 use std::marker::Model;
 
-/// A duration that is to be printed.
+/// A duration that [`text`](Self::text) and `Display` print.
 ///
-/// Contracts see it as its number of nanoseconds.
+/// [`format_duration`] makes it. Contracts see it as its number of nanoseconds.
 ///
-/// ```text
-/// format_duration(StdDuration::from_secs(9420)).get_ref().as_secs() == 9420
+/// # Examples
+///
+/// ```
+/// use humantime::{StdDuration, format_duration};
+///
+/// let printable = format_duration(StdDuration::from_secs(9420));
+/// assert_eq!(rt; printable.get_ref().as_secs(), 9420);
+/// assert_eq!(rt; printable.to_string(rt.alloc())?.as_str(), "2h 37m");
 /// ```
 #[derive(Clone, Debug, Drop)]
 pub struct FormattedDuration {
@@ -40,15 +46,23 @@ impl Model for FormattedDuration {
     ghost view = { λ d. d.value };
 }
 
-/// Keeps the duration to print it.
+/// Returns a value that prints `val`, such as `2h 37m`.
 ///
 /// The text is that of the crate: years of 365.25 days, months of 30.44 days, days, hours, minutes, seconds,
-/// milliseconds, microseconds and nanoseconds, each as many as there is room for. Counts of zero are left out,
-/// and years, months and days take an `s` above one. Microseconds are `µs`, with the micro sign U+00B5. No time at
-/// all is `0s`, and no text is longer than 64 bytes.
+/// milliseconds, microseconds and nanoseconds, each as many as there is room for. Counts of zero are left out, and
+/// years, months and days take an `s` above one. Microseconds are `µs`, with the micro sign U+00B5. A duration of zero is
+/// `0s`, and no text is longer than 64 bytes.
 ///
-/// ```text
-/// format_duration(StdDuration::from_secs(9420)) prints 2h 37m
+/// # Examples
+///
+/// ```
+/// use humantime::{StdDuration, format_duration};
+///
+/// let mut buffer = [0; 64];
+/// assert_eq!(rt; format_duration(StdDuration::from_secs(9420)).text(&mut buffer), "2h 37m");
+/// assert_eq!(rt; format_duration(StdDuration::from_secs(31_560_192)).text(&mut buffer), "1year 43m 12s");
+/// assert_eq!(rt; format_duration(StdDuration::from_micros(1)).text(&mut buffer), "1µs");
+/// assert_eq!(rt; format_duration(StdDuration::ZERO).text(&mut buffer), "0s");
 /// ```
 pub fn format_duration(val: StdDuration) -> FormattedDuration
     ensures { result ≡ val }
@@ -57,10 +71,14 @@ pub fn format_duration(val: StdDuration) -> FormattedDuration
 }
 
 impl FormattedDuration {
-    /// The duration.
+    /// Returns the duration.
     ///
-    /// ```text
-    /// format_duration(StdDuration::ZERO).get_ref() == &StdDuration::ZERO
+    /// # Examples
+    ///
+    /// ```
+    /// use humantime::{StdDuration, format_duration};
+    ///
+    /// assert_eq!(rt; *format_duration(StdDuration::ZERO).get_ref(), StdDuration::ZERO);
     /// ```
     pub fn get_ref(&self) -> &StdDuration
         ensures { result.now ≡ self.now }
@@ -68,10 +86,15 @@ impl FormattedDuration {
         &self.value
     }
 
-    /// The printed text, lent from the front of the buffer. What the buffer holds after the text may be anything.
+    /// Returns the printed text, borrowed from the front of `buf`; the bytes of `buf` after it may hold anything.
     ///
-    /// ```text
-    /// format_duration(StdDuration::from_secs(90)).text(&mut [0; 64]) == "1m 30s"
+    /// # Examples
+    ///
+    /// ```
+    /// use humantime::{StdDuration, format_duration};
+    ///
+    /// let mut buffer = [0; 64];
+    /// assert_eq!(rt; format_duration(StdDuration::from_secs(90)).text(&mut buffer), "1m 30s");
     /// ```
     pub fn text<'b>(&self, buf: &'b mut [u8; 64]) -> &'b str
         ensures canon { Canon self.now result.now }
@@ -111,10 +134,15 @@ impl FormattedDuration {
     }
 }
 
-/// Asks the sink once, for the whole text, and answers what the sink answers. Width and fill change nothing.
+/// Calls the sink once, with the whole text, and answers what the sink answers. Width and fill change nothing.
 ///
-/// ```text
-/// format!("{:>80}", format_duration(StdDuration::from_secs(90))) == "1m 30s"
+/// # Examples
+///
+/// ```
+/// use humantime::{StdDuration, format_duration};
+///
+/// let printable = format_duration(StdDuration::from_secs(90));
+/// assert_eq!(rt; format!(in rt.alloc(); "{printable:>80}")?.as_str(), "1m 30s");
 /// ```
 impl fmt::Display for FormattedDuration {
     ghost output = { λ d. Some (duration_text d) };
@@ -127,13 +155,24 @@ impl fmt::Display for FormattedDuration {
     }
 }
 
-/// The printed text of the duration that a text spells, lent from the front of the buffer, or else the text's
-/// first fault. At a fault nothing is written to the buffer.
+/// Returns the printed text of the duration that `s` spells, borrowed from the front of `buf`.
 ///
-/// The error lends from the text alone, so it may be kept while the buffer is written again.
+/// # Errors
 ///
-/// ```text
-/// canonical("2h 37min", &mut [0; 64]) == Ok("2h 37m")
+/// Returns the first fault of `s`, which [`parse_duration`] returns for it; then `buf` is unchanged. The error borrows
+/// from `s` alone, so it may be kept while the buffer is written again.
+///
+/// # Examples
+///
+/// ```
+/// use humantime::{DurationError, canonical};
+///
+/// let mut buffer = [0; 64];
+/// assert_eq!(rt; canonical("2h 37min", &mut buffer), Ok("2h 37m"));
+/// assert_eq!(rt; canonical("12us", &mut buffer), Ok("12µs"));
+/// let mut other = [7; 64];
+/// assert_eq!(rt; canonical("2 hours  min", &mut other), Err(DurationError::NumberExpected(9)));
+/// assert_eq!(rt; other, [7; 64]);
 /// ```
 pub fn canonical<'a, 'b>(s: &'a str, buf: &'b mut [u8; 64]) -> Result<&'b str, DurationError<'a>>
     ensures text { (t : List ℕ) → (told_text result ≡ Ok t) ↔ IsCanonicalOf s.now t }

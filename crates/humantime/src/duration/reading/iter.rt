@@ -8,13 +8,21 @@ use crate::duration::reading::reader::span_at;
 use crate::duration::reading::scan::{begins_with_digit, offset_of, past_space};
 use crate::duration::reading::span::Span;
 
-/// The spans of a text that are still to come, from left to right, and then the fault at which they stop.
+/// An iterator over the spans of a text, from left to right, and then the fault at which they stop.
 ///
-/// After an error, and after the end, it gives `None` for good. An error points into the text, which may be
-/// cut at its offsets.
+/// [`spans`](crate::spans) makes it. After an error, and after the end, it returns `None` for good. An error points into
+/// the text, which may be cut at its offsets.
 ///
-/// ```text
-/// for item in spans("2h 37min") { .. }
+/// # Examples
+///
+/// ```
+/// use humantime::{DurationError, spans};
+///
+/// let mut items = spans("2h 37min x");
+/// assert_eq!(rt; items.next().ok_or("no span")??.unit(), "h");
+/// assert_eq!(rt; items.next().ok_or("no span")??.unit(), "min");
+/// assert!(rt; matches!(items.next(), Some(Err(DurationError::NumberExpected(9)))));
+/// assert!(rt; items.next().is_none());
 /// ```
 #[derive(Drop)]
 pub struct SpanIter<'a> {

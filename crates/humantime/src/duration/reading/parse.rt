@@ -14,15 +14,29 @@ use crate::duration::reading::iter::SpanIter;
 use crate::duration::reading::sum::add_amount;
 use crate::value::StdDuration;
 
-/// The spans of a text from left to right, and then the fault at which they stop, if there is one.
+/// Returns an iterator over the spans of `s` from left to right, and then the fault at which they stop, if there is one.
 ///
-/// Its errors are those of [`parse_duration`], but the limits on values and sums are not asked: a number
-/// above `u64::MAX` and a fraction of 20 digits or more before the zeros at its end are too large here, and a
-/// value that is too large or too fine in its unit is not. The text `0` has no unit here. After an error, and after the end, it
-/// gives `None` for good.
+/// After an error, and after the end, the iterator returns `None` for good.
 ///
-/// ```text
-/// spans("2h 37min x") gives the span of "2h", that of "37min", and NumberExpected(9)
+/// # Errors
+///
+/// The errors are those of [`parse_duration`], but the limits on values and sums are not checked. A number above
+/// `u64::MAX`, and a fraction of 20 digits or more before the zeros at its end, are too large here; a value that is too
+/// large or too fine in its unit is not. The text `0` is no exception here: it has no unit.
+///
+/// # Examples
+///
+/// ```
+/// use humantime::{DurationError, spans};
+///
+/// for item in spans("2h 3h 45h") {
+///     assert_eq!(rt; item?.unit(), "h");
+/// }
+/// let mut items = spans("37min x");
+/// let span = items.next().ok_or("no span")??;
+/// assert_eq!(rt; (span.value(), span.unit(), span.start(), span.end()), (37, "min", 0, 5));
+/// assert!(rt; matches!(items.next(), Some(Err(DurationError::NumberExpected(6)))));
+/// assert!(rt; items.next().is_none());
 /// ```
 #[inline(always)]
 pub fn spans(s: &str) -> SpanIter<'_>
@@ -56,13 +70,37 @@ fn sum_of<'a>(text: &'a str) -> Result<StdDuration, DurationError<'a>>
 
 /// The duration that a text spells, or else its first fault.
 ///
-/// A text is one span or more: a number, perhaps a fraction, and a unit, as in `2h 37min` or `1.5d`. White
-/// space may stand between digits and before and after each part. Zeros at the end of a fraction change nothing.
-/// The spans are added up; `0` alone is zero. The error says what stands where the text goes wrong first, with offsets in bytes, at which the
-/// text may be cut; the unit that it names is lent from the text.
+/// A text is one span or more: a number, perhaps a fraction, and a unit, as in `2h 37min` or `1.5d`. White space may
+/// stand between digits and before and after each part. Zeros at the end of a fraction change nothing. The spans are
+/// added up; `0` alone is zero.
 ///
-/// ```text
-/// parse_duration("2h 37min") == Ok(StdDuration::from_secs(9420))
+/// # Errors
+///
+/// The error says what stands where the text goes wrong first. Offsets are in bytes, and the text may be cut at them.
+///
+/// - [`Empty`](DurationError::Empty): the text is empty or has only white space.
+/// - [`NumberExpected`](DurationError::NumberExpected): at the start, or after a span and white space, stands a character
+///   that is neither a digit nor white space.
+/// - [`InvalidCharacter`](DurationError::InvalidCharacter): a character has no place in a span, or a point has no digit
+///   after it.
+/// - [`UnknownUnit`](DurationError::UnknownUnit): the letters after a number are no unit, or the text ends without one.
+///   The unit that it names is borrowed from `s`.
+/// - [`NumberOverflow`](DurationError::NumberOverflow): a number, a fraction, a span or a sum breaks a limit.
+///
+/// # Examples
+///
+/// ```
+/// use humantime::{DurationError, StdDuration, parse_duration};
+///
+/// assert_eq!(rt; parse_duration("2h 37min"), Ok(StdDuration::from_secs(9420)));
+/// assert_eq!(rt; parse_duration("1.5months"), Ok(StdDuration::from_secs(3_945_024)));
+/// assert_eq!(rt; parse_duration("0"), Ok(StdDuration::ZERO));
+/// assert_eq!(rt; parse_duration(""), Err(DurationError::Empty));
+/// assert_eq!(rt; parse_duration("1foo~"), Err(DurationError::InvalidCharacter(4)));
+/// assert_eq!(
+///     rt; parse_duration("1wek"),
+///     Err(DurationError::UnknownUnit { start: 1, end: 4, unit: "wek", value: 1 })
+/// );
 /// ```
 pub fn parse_duration(s: &str) -> Result<StdDuration, DurationError<'_>>
     ensures value { (v : ℕ) → (told result ≡ Ok v) ↔ Accepted (chars s.now) v }

@@ -7,12 +7,21 @@ ghost use Rattle.humantime.specs.References.Durations.Scales.{IsAmountOf};
 
 use crate::duration::reading::amount::Amount;
 
-/// A number with its fraction and its unit, lent from the text that they stand in.
+/// A number with its fraction and its unit, borrowed from the text that they stand in.
 ///
 /// [`spans`](crate::spans) gives the spans of a text.
 ///
-/// ```text
-/// spans(" 1 2.5 0 h3s").next() is a span: number "1 2", fraction "5 0", unit "h", bytes 1 to 10, value 12
+/// # Examples
+///
+/// ```
+/// use humantime::spans;
+///
+/// let span = spans(" 1 2.5 0 h3s").next().ok_or("no span")??;
+/// assert_eq!(rt; span.number(), "1 2");
+/// assert_eq!(rt; span.fraction(), Some("5 0"));
+/// assert_eq!(rt; span.unit(), "h");
+/// assert_eq!(rt; (span.start(), span.end()), (1, 10));
+/// assert_eq!(rt; span.value(), 12);
 /// ```
 #[derive(Clone, Copy, Debug)]
 pub struct Span<'a> {
@@ -30,10 +39,15 @@ pub struct Span<'a> {
 impl<'a> Span<'a> {
     ghost use Rattle.humantime.specs.References.Durations.Lents.{lent_of};
 
-    /// The integer part, from its first to its last digit, with the white space between them.
+    /// Returns the integer part, from its first to its last digit, with the white space between them.
     ///
-    /// ```text
-    /// "1 2" of "1 2 .5h"
+    /// # Examples
+    ///
+    /// ```
+    /// use humantime::spans;
+    ///
+    /// let span = spans("1 2 .5h").next().ok_or("no span")??;
+    /// assert_eq!(rt; span.number(), "1 2");
     /// ```
     pub fn number(&self) -> &'a str
         ensures { chars result.now ≡ (lent_of self.now).number }
@@ -41,11 +55,18 @@ impl<'a> Span<'a> {
         self.number.trim_end()
     }
 
-    /// The fraction, from its first to its last digit, with the white space between them and the zeros at its end;
-    /// `None` where there is no point.
+    /// Returns the fraction, from its first to its last digit, or `None` if there is no point.
     ///
-    /// ```text
-    /// Some("5 0") of "1. 5 0 h"
+    /// The white space between the digits and the zeros at their end are part of it.
+    ///
+    /// # Examples
+    ///
+    /// ```
+    /// use humantime::spans;
+    ///
+    /// let mut items = spans("1. 5 0 h 30m");
+    /// assert_eq!(rt; items.next().ok_or("no span")??.fraction(), Some("5 0"));
+    /// assert_eq!(rt; items.next().ok_or("no span")??.fraction(), None);
     /// ```
     pub fn fraction(&self) -> Option<&'a str>
         ensures { option_map (λ t. chars t.now) result ≡ (lent_of self.now).fraction }
@@ -53,10 +74,15 @@ impl<'a> Span<'a> {
         Some(self.digits?.trim_start().trim_end())
     }
 
-    /// The unit's word, as it stands.
+    /// Returns the unit's word, as it stands in the text.
     ///
-    /// ```text
-    /// "min" of "37min"
+    /// # Examples
+    ///
+    /// ```
+    /// use humantime::spans;
+    ///
+    /// let span = spans("37min").next().ok_or("no span")??;
+    /// assert_eq!(rt; span.unit(), "min");
     /// ```
     pub fn unit(&self) -> &'a str
         ensures { chars result.now ≡ (lent_of self.now).unit }
@@ -64,10 +90,15 @@ impl<'a> Span<'a> {
         self.unit
     }
 
-    /// The offset of the first digit in the text, in bytes.
+    /// Returns the offset of the first digit in the text, in bytes.
     ///
-    /// ```text
-    /// 1 in " 2h"
+    /// # Examples
+    ///
+    /// ```
+    /// use humantime::spans;
+    ///
+    /// let span = spans(" 2h").next().ok_or("no span")??;
+    /// assert_eq!(rt; span.start(), 1);
     /// ```
     pub fn start(&self) -> usize
         ensures { result ≡ (lent_of self.now).start }
@@ -75,10 +106,15 @@ impl<'a> Span<'a> {
         self.start
     }
 
-    /// The offset after the last letter of the unit, in bytes.
+    /// Returns the offset after the last letter of the unit, in bytes.
     ///
-    /// ```text
-    /// 3 in " 2h 37min"
+    /// # Examples
+    ///
+    /// ```
+    /// use humantime::spans;
+    ///
+    /// let span = spans(" 2h 37min").next().ok_or("no span")??;
+    /// assert_eq!(rt; span.end(), 3);
     /// ```
     pub fn end(&self) -> usize
         ensures { result ≡ (lent_of self.now).end }
@@ -86,10 +122,15 @@ impl<'a> Span<'a> {
         self.end
     }
 
-    /// The integer part as a number.
+    /// Returns the integer part as a number.
     ///
-    /// ```text
-    /// 12 of "1 2.5h"
+    /// # Examples
+    ///
+    /// ```
+    /// use humantime::spans;
+    ///
+    /// let span = spans("1 2.5h").next().ok_or("no span")??;
+    /// assert_eq!(rt; span.value(), 12);
     /// ```
     pub fn value(&self) -> u64
         ensures { result ≡ (lent_of self.now).value }
