@@ -57,7 +57,7 @@ impl Duration {
         Duration(value)
     }
 
-    /// The duration that the text spells, or its first fault, as [`parse_duration`] answers.
+    /// Returns the duration that the text spells, or its first fault, as [`parse_duration`] answers.
     ///
     /// This is no method of the trait `FromStr`, since the error borrows from `s`.
     ///

@@ -174,7 +174,7 @@ impl StdDuration {
         self.secs
     }
 
-    /// The nanoseconds beyond the whole seconds, below 10^9.
+    /// Returns the nanoseconds beyond the whole seconds, below 10^9.
     ///
     /// # Examples
     ///

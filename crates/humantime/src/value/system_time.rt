@@ -155,7 +155,7 @@ impl SystemTime {
         self.secs
     }
 
-    /// The nanoseconds after that second, below 10^9.
+    /// Returns the nanoseconds after that second, below 10^9.
     ///
     /// That second is the one of [`unix_seconds`](Self::unix_seconds), so before 1970 too they count forwards.
     ///

@@ -68,7 +68,7 @@ fn sum_of<'a>(text: &'a str) -> Result<StdDuration, DurationError<'a>>
     Ok(total)
 }
 
-/// The duration that a text spells, or else its first fault.
+/// Returns the duration that a text spells, or else its first fault.
 ///
 /// A text is one span or more: a number, perhaps a fraction, and a unit, as in `2h 37min` or `1.5d`. White space may
 /// stand between digits and before and after each part. Zeros at the end of a fraction change nothing. The spans are
