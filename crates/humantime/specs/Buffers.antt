@@ -3,14 +3,14 @@ use Rattle.std.specs.Prelude.{◌≡◌, ℕ, List, Option, Result, IfNone, OnEr
 use Rattle.std.specs.Borrow.{follows_so, Fml, MutBor, Array, u8}
 use mathlib.Core.Option.{none}
 
--- the buffer of n bytes holds bytes of which P is said
+-- Once nothing borrows from the buffer of `n` bytes, `P` holds of its bytes.
 abbrev pub Holds : ℕ → MutBor (List ℕ) → (List ℕ → Type 0) → Fml
 Holds n buf P = follows_so (Array u8 n) (Array u8 n) buf.ghost_name none (λ _ _. ⊤) P
 
--- at `None` it holds what it held
+-- At `None` the buffer of `n` bytes holds what it held, once nothing borrows from it.
 abbrev pub KeptAtNone : {A : Type 0} → ℕ → MutBor (List ℕ) → Option A → Fml
 KeptAtNone n buf answer = Holds n buf (λ last. IfNone answer (last ≡ buf.now))
 
--- at `Err` it holds what it held
+-- At `Err` the buffer of `n` bytes holds what it held, once nothing borrows from it.
 abbrev pub KeptAtErr : {A E : Type 0} → ℕ → MutBor (List ℕ) → Result A E → Fml
 KeptAtErr n buf answer = Holds n buf (λ last. OnErr answer (last ≡ buf.now))

@@ -1,4 +1,4 @@
--- The words that a caller's contracts need, in one place. docs/MODEL.md says each.
+-- The words that a caller's contracts need, in one place. The comment above each definition says it.
 
 -- exactly one
 pub use Rattle.humantime.specs.Laws.ExactlyOne.{ExactlyOne}

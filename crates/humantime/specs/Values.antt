@@ -2,51 +2,58 @@
 use Rattle.std.specs.Prelude.{ℕ, ◌^◌, ◌*◌, ℤ, pos, nat_abs, ◌+ℤ◌, ◌*ℤ◌}
 use Rattle.std.specs.Int.{int_div_euclid, int_rem_euclid}
 
--- how many nanoseconds a microsecond, a millisecond and a second have
+-- A microsecond has 1,000 nanoseconds.
 abbrev pub nanos_per_micro : ℕ
 nanos_per_micro = 1_000
 
+-- A millisecond has 1,000,000 nanoseconds.
 abbrev pub nanos_per_milli : ℕ
 nanos_per_milli = 1_000_000
 
+-- A second has 1,000,000,000 nanoseconds.
 abbrev pub nanos_per_second : ℕ
 nanos_per_second = 1_000_000_000
 
--- how many seconds the longer units have: a month is 30.44 days, and a year 365.25
+-- A minute has 60 seconds.
 abbrev pub seconds_per_minute : ℕ
 seconds_per_minute = 60
 
+-- An hour has 3,600 seconds.
 abbrev pub seconds_per_hour : ℕ
 seconds_per_hour = 3_600
 
+-- A day has 86,400 seconds.
 abbrev pub seconds_per_day : ℕ
 seconds_per_day = 86_400
 
+-- A week has 604,800 seconds.
 abbrev pub seconds_per_week : ℕ
 seconds_per_week = 604_800
 
+-- A month has 2,630,016 seconds, which is 30.44 days.
 abbrev pub seconds_per_month : ℕ
 seconds_per_month = 2_630_016
 
+-- A year has 31,557,600 seconds, which is 365.25 days.
 abbrev pub seconds_per_year : ℕ
 seconds_per_year = 31_557_600
 
--- the durations are the numbers of nanoseconds below this one: 2^64 seconds
+-- Durations are the numbers of nanoseconds below this one, 2^64 seconds.
 abbrev pub duration_end : ℕ
 duration_end = 2 ^ 64 * nanos_per_second
 
--- the moment so many seconds and then nanoseconds from 1970
+-- Gives the moment so many seconds, perhaps negative, and then so many nanoseconds after 1970-01-01T00:00:00Z.
 abbrev pub moment : ℤ → ℕ → ℤ
 moment secs nanos = secs *ℤ pos nanos_per_second +ℤ pos nanos
 
--- the second that holds a moment: the last whole second that is not after it
+-- Gives the seconds of a moment, rounded down.
 abbrev pub second_of : ℤ → ℤ
 second_of t = int_div_euclid t (pos nanos_per_second)
 
--- how many nanoseconds after the start of that second the moment is
+-- Gives how many nanoseconds a moment is after its second, from 0 to 999,999,999.
 abbrev pub nano_of : ℤ → ℕ
 nano_of t = nat_abs (int_rem_euclid t (pos nanos_per_second))
 
--- the moments are those whose second fits 64 signed bits; this is the first moment after them
+-- This is the first moment after those whose second fits an `i64`: 2^63 seconds.
 abbrev pub moment_end : ℤ
 moment_end = pos (2 ^ 63 * nanos_per_second)

@@ -1,4 +1,5 @@
--- What the program answers to its words.
+-- What the program answers to its words. `old_out` and `new_out` are the bytes of the writer of answers before and
+-- after, `old_err` and `new_err` those of the writer of messages.
 use Rattle.std.specs.Prelude.{◌≡◌, ◌≢◌, ◌⊎◌, ℕ, List, [], ◌∷◌, ℤ, Option, Some, None, Result, Ok, Err, codes, chars, map}
 use Rattle.std.specs.Borrow.{Bor}
 use Rattle.std.specs.Io.KnownBytes.{Appends, Keeps}
@@ -6,50 +7,51 @@ use Rattle.humantime.specs.declared.date.error.TimestampError.{TimestampError}
 use Rattle.humantime.specs.Prelude.{Fault, HasFault, IsCanonicalOf, fault_message, timestamp_message, IsWeakMoment, IsStrictMoment, weak_checks, strict_checks, first_failed, IsPrinted, places_of}
 use Rattle.humantime_cli.specs.Writes.{AppendsFront, line}
 
--- the words after the program's name, as texts
+-- Gives the words after the program's name as texts.
 abbrev pub texts : List (Bor (List ℕ)) → List (List ℕ)
 texts words = map (λ word. word.now) words
 
--- The commands, by their names.
+-- The commands are `duration`, `strict` and `weak`.
 pub data Command : List ℕ → Type 0 where
   Duration : Command (codes "duration")
   Strict : Command (codes "strict")
   Weak : Command (codes "weak")
 
--- what is told of a text's moment: it is printed, with no fraction where its second is whole and else with nine digits,
--- or else the error's message
+-- Of a text's moment this is told: its printed text, with no fraction where the second is whole and else nine digits, or the error's
+-- message.
 abbrev pub TellsMoment : (ℤ → Type 0) → (TimestampError → Type 0) → Result (List ℕ) (List ℕ) → Type 0
 TellsMoment IsMoment IsError (Ok printed) = (moment : ℤ) × IsMoment moment × IsPrinted moment (places_of moment) printed
 TellsMoment IsMoment IsError (Err message) = (error : TimestampError) × IsError error × (message ≡ timestamp_message error)
 
--- what a command tells of its text: what it prints, or the message of the first thing that is wrong
+-- Of a text a command tells this: what it prints, or the message of the first thing that is wrong.
 abbrev pub Tells : {name : List ℕ} → Command name → List ℕ → Result (List ℕ) (List ℕ) → Type 0
 Tells Duration text (Ok printed) = IsCanonicalOf text printed
 Tells Duration text (Err message) = (fault : Fault) × HasFault (chars text) fault × (message ≡ fault_message fault)
 Tells Strict text told = TellsMoment (IsStrictMoment text) (λ error. first_failed (strict_checks text) ≡ Some error) told
 Tells Weak text told = TellsMoment (IsWeakMoment text) (λ error. first_failed (weak_checks text) ≡ Some error) told
 
--- an answer: what a command tells, or how the program is called
+-- An answer is what a command tells, or how the program is called.
 abbrev pub Answer : Type 0
 Answer = Option (Result (List ℕ) (List ℕ))
 
--- the answer to the words
+-- The words have this answer: what a command tells of its text, or how the program is called where they are no command and its text.
 abbrev pub Answers : List (List ℕ) → Answer → Type 0
 Answers words (Some told) =
     (name : List ℕ) × (command : Command name) × (text : List ℕ) × (words ≡ name ∷ text ∷ []) × Tells command text told
 Answers words None = (name : List ℕ) → Command name → (text : List ℕ) → words ≢ name ∷ text ∷ []
 
--- its status, and its bytes for standard output and for standard error
+-- Gives the status of an answer, 0 to 2, and its bytes for standard output and for standard error.
 abbrev pub outcome : Answer → ℕ × List ℕ × List ℕ
 outcome (Some (Ok printed)) = (0, line printed, [])
 outcome (Some (Err message)) = (1, [], line message)
 outcome None = (2, [], line (codes "usage: humantime duration|strict|weak TEXT"))
 
--- no other answer to the words
+-- The words have no two answers.
 abbrev pub OneAnswer : List (List ℕ) → Type 0
 OneAnswer words = (answer other : Answer) → Answers words answer → Answers words other → other ≡ answer
 
--- How the program ends with an answer, and what the two writers took: from old_out to new_out, and from old_err to new_err.
+-- The program ends with an answer: the writers took just that, or the status is 3, one writer took a prefix of it and not all, and the
+-- other nothing.
 pub data EndsWith (answer : Answer) (status : ℕ) (old_out new_out old_err new_err : Option (List ℕ)) : Type 0 where
   -- just the answer
   Whole : status ≡ (outcome answer).0 → Appends old_out new_out (outcome answer).1 → Appends old_err new_err (outcome answer).2
@@ -60,12 +62,12 @@ pub data EndsWith (answer : Answer) (status : ℕ) (old_out new_out old_err new_
       ⊎ (Keeps old_out new_out × AppendsFront old_err new_err (outcome answer).2)
       → EndsWith answer status old_out new_out old_err new_err
 
--- it ends with the answer to the words
+-- The words have an answer, and the program ends with it.
 abbrev pub Ends : List (List ℕ) → ℕ → Option (List ℕ) → Option (List ℕ) → Option (List ℕ) → Option (List ℕ) → Type 0
 Ends words status old_out new_out old_err new_err =
     (answer : Answer) × Answers words answer × EndsWith answer status old_out new_out old_err new_err
 
--- no status of its own: nothing was written, or the program ended as it has to, and then standard output could not be flushed
+-- The program has no status of its own: nothing was written, or it ended as `Ends` says, and then standard output could not be flushed.
 abbrev pub Fails : List (List ℕ) → Option (List ℕ) → Option (List ℕ) → Option (List ℕ) → Option (List ℕ) → Type 0
 Fails words old_out new_out old_err new_err =
     (Keeps old_out new_out × Keeps old_err new_err) ⊎ ((status : ℕ) × Ends words status old_out new_out old_err new_err)

@@ -3,18 +3,18 @@ use Rattle.std.specs.Prelude.{ℕ, ◌<◌, List, [], ◌∷◌, ◌++◌, lengt
 use Rattle.std.specs.Borrow.{Bor}
 use Rattle.std.specs.Io.KnownBytes.{Appends}
 
--- a text, and the end of its line
+-- Adds a line feed to a text.
 abbrev pub line : List ℕ → List ℕ
 line text = text ++ 10 ∷ []
 
--- the texts one after the other
+-- Puts texts one after the other.
 abbrev pub joined : List (Bor (List ℕ)) → List ℕ
 joined texts = flat_map (λ text. text.now) texts
 
--- the writer took the first n of the bytes, and not all of them
+-- The writer took a prefix of the bytes, and not all of them.
 abbrev pub AppendsFront : Option (List ℕ) → Option (List ℕ) → List ℕ → Type 0
 AppendsFront old new bytes = (n : ℕ) × (n < length bytes) × Appends old new (take n bytes)
 
--- where all went well the writer took the bytes, and else a front of them, and not all
+-- The writer took the bytes where the result is `Ok`, else a prefix of them, and not all.
 unfoldable pub Writes : {T E : Type 0} → Result T E → Option (List ℕ) → Option (List ℕ) → List ℕ → Type 0
 Writes result old new bytes = MatchResult result (λ _. Appends old new bytes) (λ _. AppendsFront old new bytes)

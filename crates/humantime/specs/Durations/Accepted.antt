@@ -7,97 +7,102 @@ use Rattle.humantime.specs.Durations.Units.{Addition, Nanos, Seconds, Scale, sca
 use Rattle.humantime.specs.Durations.Spans.{Span, Reads}
 use Rattle.humantime.specs.Values.{nanos_per_second}
 
--- how much is added: the number alone, and in nanoseconds; and the sum of some additions
+-- Gives the number of an addition, whatever it counts.
 abbrev pub amount : Addition → ℕ
 amount (Nanos n) = n
 amount (Seconds n) = n
 
+-- Gives an addition in nanoseconds.
 abbrev pub addition_nanos : Addition → ℕ
 addition_nanos (Nanos n) = n
 addition_nanos (Seconds n) = n * nanos_per_second
 
+-- Sums additions, in nanoseconds.
 abbrev pub total : List Addition → ℕ
 total xs = sum_by addition_nanos xs
 
--- an addition of the same kind with so much in place of its amount
+-- Puts another number into an addition.
 abbrev pub of_kind : Addition → ℕ → Addition
 of_kind (Nanos _) n = Nanos n
 of_kind (Seconds _) n = Seconds n
 
--- so many times an addition
+-- Multiplies an addition by `n`.
 abbrev pub times : ℕ → Addition → Addition
 times n x = of_kind x (n * amount x)
 
--- the part of an addition that these digits behind a point are
+-- Gives the part of an addition that the digits behind a point stand for, rounded down.
 abbrev pub part : List ℕ → Addition → Addition
 part ds x = of_kind x (decimal_value ds * amount x / 10 ^ length ds)
 
--- what a fraction adds, where there is one and its unit has fractions
+-- Gives what a fraction adds, where there is one and its unit has fractions.
 abbrev pub fraction_additions : Option Addition → Option (List ℕ) → List Addition
 fraction_additions (Some x) (Some ds) = part ds x ∷ []
 fraction_additions _ _ = []
 
--- what a span adds where its word is this unit's: its number first, and then its fraction
+-- Gives what a span adds where its word has this scale: its number first, and then its fraction.
 abbrev pub additions_at : Option Scale → Span → List Addition
 additions_at None s = []
 additions_at (Some u) s = times (decimal_value s.number) u.one ∷ fraction_additions u.fraction s.fraction
 
+-- Gives what a span adds.
 abbrev pub additions_of : Span → List Addition
 additions_of s = additions_at (scale_of_word s.word) s
 
--- what spans add, in order, and their value: the plain sum of all additions, in nanoseconds
+-- Lists what the spans add, in order: each its number times its unit, and then its fraction.
 abbrev pub additions : List Span → List Addition
 additions spans = flat_map additions_of spans
 
+-- Sums what the spans add, in nanoseconds.
 abbrev pub value : List Span → ℕ
 value spans = total (additions spans)
 
--- whether there is one, and it passes the test
+-- Tells whether there is something and it passes a test.
 abbrev pub is_some_and : {A : Type 0} → (A → Bool) → Option A → Bool
 is_some_and passes None = false
 is_some_and passes (Some x) = passes x
 
--- whether the number is above the greatest u64, or the fraction has more than 19 digits before the zeros at its end
+-- Tells whether the span's number is above the greatest `u64`, or its fraction has more than 19 digits before the zeros at its end.
 abbrev pub too_long : Span → Bool
 too_long s = nat_lt u64_max (decimal_value s.number) || is_some_and (λ ds. nat_lt 19 (length (significant ds))) s.fraction
 
--- The span isn't too long, and its word is one of the units'.
+-- The span is not too long, and its word is a unit's.
 pub record Formed (s : Span) : Type 0 where
   pub short : too_long s ≡ false
   pub word : IsSome (scale_of_word s.word)
 
--- whether the part that these digits are of so many is a whole number, and the product before the division fits a u64
+-- Tells whether these digits behind a point are a whole part of `n`, and the product before the division fits a `u64`.
 abbrev pub is_whole_part : ℕ → List ℕ → Bool
 is_whole_part n ds = nat_le (decimal_value ds * n) u64_max && (decimal_value ds * n % 10 ^ length ds == 0)
 
--- whether a fraction is a whole number of nanoseconds or of seconds; where its unit has no fractions, nothing but zeros
+-- Tells whether a fraction, if there is one, passes `is_whole_part` without the zeros at its end; where its unit has no fractions, it may
+-- be zeros alone.
 abbrev pub fraction_fits : Option Addition → Option (List ℕ) → Bool
 fraction_fits _ None = true
 fraction_fits None (Some ds) = length (significant ds) == 0
 fraction_fits (Some x) (Some ds) = is_whole_part (amount x) (significant ds)
 
--- whether the word is a unit's, the number's product with the unit fits a u64, and the fraction fits the unit
+-- Tells whether the span's word is a unit's, the product of its number with the unit fits a `u64`, and its fraction fits the unit.
 abbrev pub fits : Span → Bool
 fits s = is_some_and (λ u. nat_le (decimal_value s.number * amount u.one) u64_max && fraction_fits u.fraction s.fraction)
     (scale_of_word s.word)
 
--- whether so much may be added to t nanoseconds: the whole seconds of the new sum are at most the greatest u64; and where
--- nanoseconds are added, so are these and the nanoseconds beyond the whole seconds of t, together
+-- Tells whether an addition may follow `t` nanoseconds: the whole seconds of the sum fit a `u64`, and where nanoseconds are added, so do
+-- these and the nanoseconds of `t` beyond its whole seconds, together.
 abbrev pub room : ℕ → Addition → Bool
 room t (Nanos n) = nat_le (t % nanos_per_second + n) u64_max && nat_le ((t + n) / nanos_per_second) u64_max
 room t (Seconds n) = nat_le (t / nanos_per_second + n) u64_max
 
--- each addition may be added to those before it
+-- Each addition has room after the sum of those before it.
 abbrev pub AllHaveRoom : List Addition → Type 0
 AllHaveRoom xs = (before after : List Addition) (x : Addition) → xs ≡ before ++ x ∷ after → room (total before) x ≡ true
 
--- The spans keep all limits.
+-- The spans keep all limits: each is formed and fits, and each addition has room.
 pub record WithinLimits (spans : List Span) : Type 0 where
   pub formed : AllByRecursion Formed spans
   pub fit : AllByRecursion (λ s. fits s ≡ true) spans
   pub room : AllHaveRoom (additions spans)
 
--- The text stands for d nanoseconds.
+-- The text stands for `d` nanoseconds: it is exactly `0` and `d` is 0, or it is spans within the limits with the value `d`.
 pub data Accepted (text : List ℕ) (d : ℕ) : Type 0 where
   -- it is exactly `0`
   Bare_zero : text ≡ bare_zero → d ≡ 0 → Accepted text d

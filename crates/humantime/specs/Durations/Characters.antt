@@ -4,60 +4,64 @@ use Rattle.std.specs.Char.{char_set_contains, is_ascii_digit, is_ascii_alphabeti
 use Rattle.std.specs.Str.{byte}
 use Rattle.humantime.specs.Texts.{past}
 
--- the characters of white space, one by one: those that Unicode calls so
+-- Lists the 25 characters that Unicode calls white space.
 unfoldable pub white_spaces : List ℕ
 white_spaces =
     0x9 ∷ 0xa ∷ 0xb ∷ 0xc ∷ 0xd ∷ 0x20 ∷ 0x85 ∷ 0xa0 ∷ 0x1680 ∷ 0x2000 ∷ 0x2001 ∷ 0x2002 ∷ 0x2003 ∷ 0x2004 ∷ 0x2005 ∷ 0x2006
     ∷ 0x2007 ∷ 0x2008 ∷ 0x2009 ∷ 0x200a ∷ 0x2028 ∷ 0x2029 ∷ 0x202f ∷ 0x205f ∷ 0x3000 ∷ []
 
--- the two letters beyond ASCII
+-- The micro sign is U+00B5.
 abbrev pub micro_sign : ℕ
 micro_sign = 0xb5
 
+-- The Greek letter mu is U+03BC.
 abbrev pub greek_mu : ℕ
 greek_mu = 0x3bc
 
--- the bytes of `µs`, spelled with the micro sign
+-- These are the UTF-8 bytes of `µs`, with the micro sign.
 abbrev pub micro_suffix : List ℕ
 micro_suffix = 0xc2 ∷ 0xb5 ∷ codes "s"
 
--- what a character is: white space, a digit 0 to 9, a letter, or a point
+-- Tells whether a character is white space.
 unfoldable pub is_ws : ℕ → Bool
 is_ws c = char_set_contains white_spaces c
 
+-- Tells whether a character is one of `0` to `9`.
 unfoldable pub is_digit : ℕ → Bool
 is_digit c = is_ascii_digit c
 
+-- Tells whether a character is an ASCII letter, the micro sign or the Greek letter mu.
 unfoldable pub is_letter : ℕ → Bool
 is_letter c = is_ascii_alphabetic c || c == micro_sign || c == greek_mu
 
+-- Tells whether a character is `.`.
 unfoldable pub is_point : ℕ → Bool
 is_point c = c == byte "."
 
--- the text that is exactly `0`
+-- This is the text that is exactly `0`.
 abbrev pub bare_zero : List ℕ
 bare_zero = codes "0"
 
--- what a number holds: digits, and white space between and after them
+-- Tells whether a character is a digit or white space, as in a number.
 abbrev pub is_numeric : ℕ → Bool
 is_numeric c = is_digit c || is_ws c
 
--- the digits of a text
+-- Keeps the digits of a text.
 abbrev pub digits : List ℕ → List ℕ
 digits cs = filter is_digit cs
 
--- the digits without the zeros at their end
+-- Drops the zeros at the end of a list of digits.
 unfoldable pub significant : List ℕ → List ℕ
 significant ds = reverse (past (λ d. d == byte "0") (reverse ds))
 
--- the greatest number that a u64 holds
+-- This is the greatest `u64`, 2^64 - 1.
 abbrev pub u64_max : ℕ
 u64_max = 18446744073709551615
 
--- how many bytes a text takes in UTF-8
+-- Counts the bytes of a text in UTF-8.
 abbrev pub byte_length : List ℕ → ℕ
 byte_length cs = length (encode_utf8_all cs)
 
--- the offset in bytes at which the last part of a text begins: the length of what stands before it
+-- Gives the offset in bytes at which the last part of a text begins.
 abbrev pub offset_of : List ℕ → List ℕ → ℕ
 offset_of text rest = byte_length text - byte_length rest

@@ -8,53 +8,55 @@ use Rattle.humantime.specs.Durations.Characters.{micro_suffix}
 use Rattle.humantime.specs.Values.{nanos_per_micro, nanos_per_milli, nanos_per_second, seconds_per_minute, seconds_per_hour, seconds_per_day, seconds_per_month, seconds_per_year}
 use Rattle.humantime.specs.Durations.Accepted.{Accepted}
 
--- the weights of the nine counts in nanoseconds, from years to nanoseconds
+-- Lists the weights of the nine counts in nanoseconds: of years, months, days, hours, minutes, seconds, milliseconds, microseconds and
+-- nanoseconds.
 abbrev pub weights : List ℕ
 weights =
     seconds_per_year * nanos_per_second ∷ seconds_per_month * nanos_per_second ∷ seconds_per_day * nanos_per_second
     ∷ seconds_per_hour * nanos_per_second ∷ seconds_per_minute * nanos_per_second ∷ nanos_per_second
     ∷ nanos_per_milli ∷ nanos_per_micro ∷ 1 ∷ []
 
+-- Sums the counts, each times its weight.
 abbrev pub weighted_sum : List ℕ → List ℕ → ℕ
 weighted_sum [] counts = 0
 weighted_sum (w ∷ ws) [] = 0
 weighted_sum (w ∷ ws) (c ∷ cs) = w * c + weighted_sum ws cs
 
--- The counts have this sum, and all others with it are lexicographically at most these.
+-- The counts, one for each weight, have the sum `d`, and all others that have it are lexicographically at most these.
 pub record AreGreatest (ws : List ℕ) (d : ℕ) (counts : List ℕ) : Type 0 where
   pub as_many : length counts ≡ length ws
   pub sum : weighted_sum ws counts ≡ d
   pub greatest : (others : List ℕ) → length others ≡ length ws → weighted_sum ws others ≡ d
       → IsTrue (is_le (slice_cmp nat_cmp others counts))
 
--- the nine counts of d nanoseconds
+-- The nine counts, each times its weight, have the sum `d`, and all others that have it are lexicographically at most these.
 abbrev pub Counts : ℕ → List ℕ → Type 0
 Counts d counts = AreGreatest weights d counts
 
--- what stands behind a count, and whether it takes an s above one
+-- A suffix is what stands behind a count, and whether it takes an `s` above one.
 abbrev pub Suffix : Type 0
 Suffix = List ℕ × Bool
 
--- the suffixes of the nine counts
+-- Lists the suffixes of the nine counts.
 abbrev pub suffixes : List Suffix
 suffixes =
     (codes "year", true) ∷ (codes "month", true) ∷ (codes "day", true) ∷ (codes "h", false) ∷ (codes "m", false) ∷ (codes "s", false)
     ∷ (codes "ms", false) ∷ (micro_suffix, false) ∷ (codes "ns", false) ∷ []
 
--- a count's digits and its suffix
+-- Writes a count's digits and its suffix.
 abbrev pub printed_count : ℕ → Suffix → List ℕ
 printed_count n s = decimal n ++ s.0 ++ (if s.1 && nat_lt 1 n then codes "s" else [])
 
--- each count that isn't zero, with its suffix
+-- Writes each count that is not zero, with its suffix.
 abbrev pub printed_counts : List ℕ → List Suffix → List (List ℕ)
 printed_counts counts ends = map (λ c. printed_count c.0 c.1) (filter (λ c. nat_lt 0 c.0) (zip counts ends))
 
--- joined by one space; nothing is zero seconds
+-- Joins texts by one space; where there are none, it gives `0s`.
 abbrev pub joined_by_space : List (List ℕ) → List ℕ
 joined_by_space [] = codes "0s"
 joined_by_space ps = join_with_byte (byte " ") ps
 
--- The canonical text of a duration of d nanoseconds, the one that it is printed as: its counts, each that isn't zero with its suffix.
+-- The bytes are the canonical text of `d` nanoseconds: its counts that are not zero, each with its suffix, joined by one space, or `0s`.
 pub record Canon (d : ℕ) (bytes : List ℕ) : Type 0 where
   pub counts : List ℕ
   pub are : Counts d counts

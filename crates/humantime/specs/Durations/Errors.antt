@@ -8,7 +8,7 @@ use Rattle.humantime.specs.declared.duration.error.DurationError.{DurationError}
 use Rattle.humantime.specs.Durations.Faults.{Fault, InvalidCharacter, NumberExpected, UnknownUnit, NumberOverflow, Empty}
 use Rattle.humantime.specs.declared.duration.error.DurationError.TheVariants as errors
 
--- the fault that an error names; a unit is named by its bytes, not by its place in memory
+-- Gives the fault that an error names, a unit by its bytes.
 abbrev pub fault_of : DurationError → Fault
 fault_of (errors.InvalidCharacter at) = InvalidCharacter at
 fault_of (errors.NumberExpected at) = NumberExpected at
@@ -16,23 +16,24 @@ fault_of (errors.UnknownUnit start end unit value) = UnknownUnit start end unit.
 fault_of errors.NumberOverflow = NumberOverflow
 fault_of errors.Empty = Empty
 
--- what was answered, its error as the fault that it names: a duration in nanoseconds, or a text
+-- Gives a result in nanoseconds, its error as the fault that it names.
 abbrev pub told : Result ℕ DurationError → Result ℕ Fault
 told r = result_map_both (λ d. d) fault_of r
 
+-- Gives a result as the bytes of its text, its error as the fault that it names.
 abbrev pub told_text : Result (Bor (List ℕ)) DurationError → Result (List ℕ) Fault
 told_text r = result_map_both (λ t. t.now) fault_of r
 
--- at this offset a character of the text begins
+-- A character of the text begins at this offset.
 abbrev pub IsPlaceIn : List ℕ → ℕ → Type 0
 IsPlaceIn bytes at = (at < length bytes) × IsCharBoundary bytes at
 
--- the part is that of the text from the one offset to the other, both between characters
+-- The part is the text's slice between two offsets, both at character boundaries.
 abbrev pub IsPartOf : List ℕ → List ℕ → ℕ → ℕ → Type 0
 IsPartOf bytes part start end =
     (start ≤ end) × IsCharBoundary bytes start × IsCharBoundary bytes end × (part ≡ slice_range bytes start end)
 
--- the error points into the text: its offset is a character's, and its unit is the part between its offsets
+-- The error's offset is that of a character of the text, and its unit is the text's slice between its offsets.
 abbrev pub PointsInto : List ℕ → DurationError → Type 0
 PointsInto bytes (errors.InvalidCharacter at) = IsPlaceIn bytes at
 PointsInto bytes (errors.NumberExpected at) = IsPlaceIn bytes at
@@ -40,7 +41,7 @@ PointsInto bytes (errors.UnknownUnit start end unit value) = IsPartOf bytes unit
 PointsInto bytes errors.NumberOverflow = ⊤
 PointsInto bytes errors.Empty = ⊤
 
--- what is said of a number with no unit, and of a unit that is no unit's word
+-- Gives the message of a number with no unit, or of a unit that is no unit's word.
 abbrev pub unit_message : List ℕ → ℕ → List ℕ
 unit_message [] value = codes "time unit needed, for example " ++ decimal value ++ codes "sec or " ++ decimal value ++ codes "ms"
 unit_message (b ∷ bs) value =
@@ -48,7 +49,7 @@ unit_message (b ∷ bs) value =
     ++ (codes "\", supported units: ns, us/" ++ micro_suffix
     ++ codes ", ms, sec, min, hours, days, weeks, months, years (and few variations)")
 
--- the message of each fault
+-- Gives the message of a fault.
 abbrev pub fault_message : Fault → List ℕ
 fault_message (InvalidCharacter at) = codes "invalid character at " ++ decimal at
 fault_message (NumberExpected at) = codes "expected number at " ++ decimal at

@@ -7,36 +7,39 @@ use Rattle.humantime.specs.Durations.Spans.{Span, SpellsAll}
 use Rattle.humantime.specs.Durations.Units.{scale_of_word}
 use Rattle.humantime.specs.Durations.Accepted.{is_some_and, too_long, WithinLimits}
 
--- the number that begins a rest: its digits, and what follows it
+-- Gives the digits of the number that begins a rest.
 abbrev pub number_of : List ℕ → List ℕ
 number_of rest = digits (leading is_numeric rest)
 
+-- Gives what follows the number that begins a rest.
 abbrev pub after_number : List ℕ → List ℕ
 after_number rest = past is_numeric rest
 
--- what follows the point, if one begins a text
+-- Gives what follows the point that begins a text, if one does.
 abbrev pub behind_point : List ℕ → Option (List ℕ)
 behind_point text = if begins is_point text then Some (drop 1 text) else None
 
--- the fraction, if a point follows the number: its digits, and what follows both
+-- Gives the digits of the fraction behind the number that begins a rest, if a point follows that number.
 abbrev pub fraction_of : List ℕ → Option (List ℕ)
 fraction_of rest = option_map number_of (behind_point (after_number rest))
 
+-- Gives what follows the number and the fraction that begin a rest.
 abbrev pub after_fraction : List ℕ → List ℕ
 after_fraction rest = unwrap_or (option_map after_number (behind_point (after_number rest))) (after_number rest)
 
--- the word: the letters that follow both, and what follows them
+-- Gives the letters behind the number and the fraction that begin a rest.
 abbrev pub word_of : List ℕ → List ℕ
 word_of rest = leading is_letter (after_fraction rest)
 
+-- Gives what follows the number, the fraction and the letters that begin a rest.
 abbrev pub after_word : List ℕ → List ℕ
 after_word rest = past is_letter (after_fraction rest)
 
--- the span that begins the rest
+-- Gives the span that begins a rest: number, fraction and word, each the longest that stands there.
 abbrev pub span_of : List ℕ → Span
 span_of rest = record { number = number_of rest; fraction = fraction_of rest; word = word_of rest }
 
--- What is wrong with a text, with offsets in bytes, and the bytes of a unit.
+-- A fault is what is wrong with a text, with offsets in bytes, and the bytes of a unit.
 pub data Fault : Type 0 where
   InvalidCharacter : (at : ℕ) → Fault
   NumberExpected : (at : ℕ) → Fault
@@ -44,21 +47,20 @@ pub data Fault : Type 0 where
   NumberOverflow : Fault
   Empty : Fault
 
--- The text is a front that spells the spans, and then a rest that doesn't begin with white space.
+-- The text is a prefix that spells the spans, and then a rest that does not begin with white space.
 pub record Split (text front : List ℕ) (spans : List Span) (rest : List ℕ) : Type 0 where
   pub whole : text ≡ front ++ rest
   pub spelled : SpellsAll front spans
   pub no_space : begins is_ws rest ≡ false
 
--- whether a digit, white space or the end follows a word
+-- Tells whether a digit, white space or the end follows a word.
 abbrev pub ends_span : List ℕ → Bool
 ends_span [] = true
 ends_span (c ∷ cs) = is_numeric c
 
--- What is wrong with the span that begins a rest, the first of these: its number is above the greatest or its fraction too
--- long, whatever follows; where a word has to begin stands a character that is no letter; a point has no digits, and the fault is
--- at the point; behind the letters stands a character that is no letter, digit or white space, and the letters are not looked at;
--- the letters are no unit's word, or the text ends where a word has to begin.
+-- Finds the fault of the span that begins a rest, the first of these: it is too long; a character that is no letter stands where the word
+-- begins; a point has no digits; behind the letters stands neither a digit nor white space nor the end; the letters are no unit's word, or
+-- the text ends where the word begins.
 unfoldable pub stop_at : List ℕ → List ℕ → Option Fault
 stop_at text rest =
     if too_long (span_of rest) then Some NumberOverflow
@@ -69,11 +71,12 @@ stop_at text rest =
     else Some (UnknownUnit (offset_of text (after_fraction rest)) (offset_of text (after_word rest))
     (encode_utf8_all (word_of rest)) (decimal_value (number_of rest)))
 
--- what is wrong at a rest: no digit begins it, or its span stops
+-- Finds the fault at a rest: no digit begins it, or its span has a fault.
 abbrev pub fault_at : List ℕ → List ℕ → Option Fault
 fault_at text rest = if begins is_digit rest then stop_at text rest else Some (NumberExpected (offset_of text rest))
 
--- How a text goes wrong at a rest, after spans that stand before it, whatever these add up to.
+-- Behind the spans the rest goes wrong with the fault `e`, whatever the spans add up to: there are no spans and no rest, or the rest has
+-- that fault.
 pub data Stops (text front : List ℕ) (spans : List Span) (rest : List ℕ) (e : Fault) : Type 0 where
   -- there is nothing, or only white space
   Nothing_there : spans ≡ [] → rest ≡ [] → e ≡ Empty → Stops text front spans rest e
@@ -81,8 +84,8 @@ pub data Stops (text front : List ℕ) (spans : List Span) (rest : List ℕ) (e 
   Wrong_there : rest ≢ [] → (spans ≡ []) ⊎ ((ends is_ws front ≡ true) ⊎ (begins is_digit rest ≡ true))
       → fault_at text rest ≡ Some e → Stops text front spans rest e
 
--- The text isn't exactly `0`; it is a front of spans within the limits, and then a rest that stops with the fault, or that
--- begins with a whole span with which the spans break a limit.
+-- The text is not exactly `0`. It is spans within the limits and then a rest that stops with `e`, or that begins with a whole span with
+-- which they break a limit, where `e` is `NumberOverflow`.
 pub record HasFault (text : List ℕ) (e : Fault) : Type 0 where
   pub not_zero : text ≢ bare_zero
   pub front : List ℕ

@@ -8,12 +8,12 @@ use Rattle.humantime.specs.Durations.Faults.{Fault, Split, Stops}
 use Rattle.humantime.specs.Texts.{begins, ends, past, decimal_value}
 use Rattle.humantime.specs.Durations.Characters.{is_ws, is_digit, offset_of}
 
--- behind these spans the text ends, or stops at this fault
+-- The text ends after the spans, at least one; or it stops there with the fault.
 abbrev pub Ends : List ℕ → List ℕ → List Span → List ℕ → Option Fault → Type 0
 Ends text front spans rest None = (rest ≡ []) × (spans ≢ [])
 Ends text front spans rest (Some e) = Stops text front spans rest e
 
--- The front of the text is these spans, each well formed, and there they end.
+-- The text begins with these spans, each formed, and ends after them, or stops there with the fault.
 pub record Items (text : List ℕ) (spans : List Span) (stop : Option Fault) : Type 0 where
   pub front : List ℕ
   pub rest : List ℕ
@@ -21,7 +21,7 @@ pub record Items (text : List ℕ) (spans : List Span) (stop : Option Fault) : T
   pub formed : AllByRecursion Formed spans
   pub ends : Ends text front spans rest stop
 
--- The slices of the number, the fraction and the word, the offsets where the number begins and the word ends, and the number.
+-- A span lends the slices of its number, fraction and word, the offsets where its number begins and its word ends, and its number.
 pub record Lent : Type 0 where
   pub number : List ℕ
   pub fraction : Option (List ℕ)
@@ -30,7 +30,7 @@ pub record Lent : Type 0 where
   pub end : ℕ
   pub value : ℕ
 
--- The slice goes from the first digit of the text to the last: only white space stands around it.
+-- The slice goes from the first digit of the text to the last, and only white space stands around it.
 pub record IsDigitSlice (text slice : List ℕ) : Type 0 where
   pub before : List ℕ
   pub after : List ℕ
@@ -40,12 +40,12 @@ pub record IsDigitSlice (text slice : List ℕ) : Type 0 where
   pub first_digit : begins is_digit slice ≡ true
   pub last_digit : ends is_digit slice ≡ true
 
--- no slice where there is no fraction, else the one behind the point
+-- There is no slice and no text; or the text begins with a point, and the slice goes from the first digit behind it to the last.
 abbrev pub LendsFraction : List ℕ → Option (List ℕ) → Type 0
 LendsFraction text None = text ≡ []
 LendsFraction text (Some slice) = (behind : List ℕ) × (text ≡ byte "." ∷ behind) × IsDigitSlice behind slice
 
--- From here on the text spells the span, then goes on with `next`, and x is what the span lends of the text.
+-- From `here` on the text spells the span and goes on with `next`, and `x` is what the span lends.
 pub record IsLent (text here : List ℕ) (s : Span) (x : Lent) (next : List ℕ) : Type 0 where
   pub spelled : Spells here s next
   pub number : IsDigitSlice spelled.number_text x.number
@@ -55,17 +55,17 @@ pub record IsLent (text here : List ℕ) (s : Span) (x : Lent) (next : List ℕ)
   pub end : x.end ≡ offset_of text (spelled.space ++ next)
   pub value : x.value ≡ decimal_value s.number
 
--- each span lends its part, from here on, up to an end
+-- From `here` to `end` the text spells the spans, and each lends its part.
 abbrev pub LendsEach : List ℕ → List ℕ → List Span → List Lent → List ℕ → Type 0
 LendsEach text here [] [] end = here ≡ end
 LendsEach text here (s ∷ ss) (x ∷ xs) end = (next : List ℕ) × IsLent text here s x next × LendsEach text next ss xs end
 LendsEach text here _ _ end = ⊥
 
--- spans or what they lend, and then the fault, if there is one
+-- Lists what was found, and then the fault, if there is one.
 abbrev pub items_of : {A : Type 0} → List A → Option Fault → List (Result A Fault)
 items_of found stop = map Ok found ++ option_to_list (option_map Err stop)
 
--- These are the items of the text, with what they lend, from behind the white space at its start to the rest behind its spans.
+-- The text's items are what each of its spans lends, and then the fault that stops them, if there is one.
 pub record AreItems (text : List ℕ) (lent : List (Result Lent Fault)) : Type 0 where
   pub spans : List Span
   pub stop : Option Fault

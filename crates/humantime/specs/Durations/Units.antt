@@ -4,37 +4,37 @@ use Rattle.std.specs.Map.{lookup}
 use Rattle.humantime.specs.Values.{nanos_per_micro, nanos_per_milli, nanos_per_second, seconds_per_minute, seconds_per_hour, seconds_per_day, seconds_per_week, seconds_per_month, seconds_per_year}
 use Rattle.humantime.specs.Durations.Characters.{micro_sign, greek_mu}
 
--- An amount that is added: so many nanoseconds, or so many seconds.
+-- An addition is so many nanoseconds, or so many seconds.
 pub data Addition : Type 0 where
   Nanos : ℕ → Addition
   Seconds : ℕ → Addition
 
--- What a word stands for: what one of it adds, and what its fractions are parts of, where it has fractions.
+-- A scale says what one of a unit adds, and what its fractions are parts of, if it has any.
 pub record Scale : Type 0 where
   pub one : Addition
   pub fraction : Option Addition
 
--- one nanosecond, of which there is no fraction
+-- One nanosecond is added, and has no fractions.
 abbrev pub whole_nanos : Scale
 whole_nanos = record { one = Nanos 1; fraction = None }
 
--- counted in nanoseconds, as the fraction is
+-- The unit adds `size` nanoseconds, and its fractions count in nanoseconds.
 abbrev pub in_nanos : ℕ → Scale
 in_nanos size = record { one = Nanos size; fraction = Some (Nanos size) }
 
--- counted in seconds, and the fraction in nanoseconds
+-- The unit adds `size` seconds, and its fractions count in nanoseconds.
 abbrev pub in_seconds_and_nanos : ℕ → Scale
 in_seconds_and_nanos size = record { one = Seconds size; fraction = Some (Nanos (size * nanos_per_second)) }
 
--- counted in seconds, as the fraction is
+-- The unit adds `size` seconds, and its fractions count in seconds.
 abbrev pub in_seconds : ℕ → Scale
 in_seconds size = record { one = Seconds size; fraction = Some (Seconds size) }
 
--- these words, each with what it stands for
+-- Pairs each of these words with the scale.
 abbrev unit_words : List (List ℕ) → Scale → List (List ℕ × Scale)
 unit_words spellings scale = map (λ word. (word, scale)) spellings
 
--- the words of the ten units
+-- Lists the words of the ten units, each with its scale.
 abbrev pub words : List (List ℕ × Scale)
 words =
     unit_words (codes "nanos" ∷ codes "nsec" ∷ codes "ns" ∷ []) whole_nanos
@@ -48,6 +48,6 @@ words =
     ++ unit_words (codes "months" ∷ codes "month" ∷ codes "M" ∷ []) (in_seconds seconds_per_month)
     ++ unit_words (codes "years" ∷ codes "year" ∷ codes "yr" ∷ codes "yrs" ∷ codes "y" ∷ []) (in_seconds seconds_per_year)
 
--- what a word stands for, if it is one of these
+-- Looks up the scale of a word, if it is a unit's.
 unfoldable pub scale_of_word : List ℕ → Option Scale
 scale_of_word word = lookup (bytes_eq word) words

@@ -10,18 +10,19 @@ use Rattle.humantime.specs.Durations.Units.{Addition, Scale, scale_of_word}
 use Rattle.humantime.specs.Durations.Spans.{Span, Only, Reads}
 use Rattle.humantime.specs.Durations.Accepted.{amount, additions, value, is_whole_part, AllHaveRoom, Accepted}
 
--- the letters were a to z, A to Z and the micro sign
+-- Tells whether a character was a letter while the Greek letter mu was none: a to z, A to Z or the micro sign.
 abbrev pub is_older_letter : ℕ → Bool
 is_older_letter c = is_ascii_alphabetic c || c == micro_sign
 
--- a fraction had at most 19 digits and was a whole number of nanoseconds or of seconds; nanoseconds had none
+-- While zeros at its end counted, a fraction had at most 19 digits and was a whole number of nanoseconds or of seconds; nanoseconds had
+-- none.
 abbrev pub OlderFraction : Option Addition → Option (List ℕ) → Type 0
 OlderFraction _ None = ⊤
 OlderFraction None (Some ds) = ⊥
 OlderFraction (Some x) (Some ds) = (length ds ≤ 19) × (is_whole_part (amount x) ds ≡ true)
 
--- The word was one of the units', the number and its product with the unit were at most the greatest u64, and the fraction
--- kept its limits with each of its digits.
+-- The word was a unit's, the number and its product with the unit were at most the greatest `u64`, and the fraction kept its limits with
+-- each of its digits.
 pub record OlderFormed (s : Span) : Type 0 where
   pub unit : Scale
   pub word : scale_of_word s.word ≡ Some unit
@@ -29,7 +30,7 @@ pub record OlderFormed (s : Span) : Type 0 where
   pub product : decimal_value s.number * amount unit.one ≤ u64_max
   pub fraction : OlderFraction unit.fraction s.fraction
 
--- While zeros at the end of a fraction counted, the text stood for v nanoseconds.
+-- While zeros at the end of a fraction counted, the text stood for `v` nanoseconds.
 pub data AcceptedWithZeros (text : List ℕ) (v : ℕ) : Type 0 where
   -- it was exactly `0`
   Older_zero : text ≡ bare_zero → v ≡ 0 → AcceptedWithZeros text v
@@ -37,20 +38,20 @@ pub data AcceptedWithZeros (text : List ℕ) (v : ℕ) : Type 0 where
   Older_sum : (spans : List Span) → Reads text spans → AllByRecursion OlderFormed spans → AllHaveRoom (additions spans)
       → value spans ≡ v → AcceptedWithZeros text v
 
--- While the Greek letter was no letter besides, it did: each word that is read now is of the older letters.
+-- While besides the Greek letter mu was no letter, the text stood for `v` nanoseconds: each word that is read now is of the older letters.
 abbrev pub AcceptedWithoutMu : List ℕ → ℕ → Type 0
 AcceptedWithoutMu text v = AcceptedWithZeros text v
     × ((spans : List Span) → Reads text spans → AllByRecursion (λ s. Only is_older_letter s.word) spans)
 
--- the text was accepted while such zeros counted
+-- The text was accepted while zeros at the end of a fraction counted.
 abbrev pub WasAccepted : List ℕ → Type 0
 WasAccepted text = (v : ℕ) × AcceptedWithZeros text v
 
--- the Greek letter stands in the text
+-- The Greek letter mu stands in the text.
 abbrev pub HasMu : List ℕ → Type 0
 HasMu text = (before : List ℕ) × (after : List ℕ) × (text ≡ before ++ greek_mu ∷ after)
 
--- What was accepted while such zeros counted is accepted with the same value; so that is its answer.
+-- What was accepted while zeros at the end of a fraction counted is accepted with the same value; so that is its answer.
 pub record KeepsValueWithZeros (text : List ℕ) : Type 0 where
   pub value : (v : ℕ) → AcceptedWithZeros text v → Accepted text v
   pub answer : (v : ℕ) → AcceptedWithZeros text v → duration_answer text ≡ Ok v

@@ -9,13 +9,12 @@ use Rattle.humantime.specs.Durations.Characters.{bare_zero}
 use Rattle.humantime.specs.References.Durations.Answers.{duration_answer}
 use Rattle.humantime.specs.Laws.ExactlyOne.{ExactlyOne}
 
--- a text's outcome is a value or a fault
+-- A text's outcome is the value with which it is accepted, or its fault.
 abbrev pub IsOutcome : List ℕ → Result ℕ Fault → Type 0
 IsOutcome text (Ok v) = Accepted text v
 IsOutcome text (Err e) = HasFault text e
 
--- A text of these characters has one value or one first fault, one list of spans at most and one list of items; what is
--- answered is that value or fault.
+-- A text has one value or one first fault, at most one list of spans, and one list of items; what is answered is that value or fault.
 pub record HasOneOutcome (text : List ℕ) : Type 0 where
   -- it has exactly one value and no fault, or exactly one fault and no value
   pub outcome : ExactlyOne (IsOutcome text)
@@ -28,7 +27,7 @@ pub record HasOneOutcome (text : List ℕ) : Type 0 where
   -- and so is a fault
   pub fault : (e : Fault) → (duration_answer text ≡ Err e) ↔ HasFault text e
 
--- The items of a text of these characters decide its value or its fault, unless it is exactly `0`.
+-- The items of a text decide its value or its fault, unless it is exactly `0`.
 pub record ItemsDecide (text : List ℕ) : Type 0 where
   -- it has exactly one list of spans with what stops them
   pub one : ExactlyOne (λ (list : List Span × Option Fault). Items text list.0 list.1)
@@ -45,7 +44,7 @@ pub record ItemsDecide (text : List ℕ) : Type 0 where
   pub too_large : (spans : List Span) (stop : Option Fault) → Items text spans stop → text ≢ bare_zero
       → ¬ (WithinLimits spans) → HasFault text NumberOverflow
 
--- A text of these characters lends one list of slices, and no other.
+-- A text lends one list of slices, and no other.
 pub record LendsOneList (text : List ℕ) : Type 0 where
   -- it has exactly one list of items with what they lend
   pub one : ExactlyOne (AreItems text)

@@ -7,7 +7,7 @@ use Rattle.humantime.specs.References.Durations.Answers.{canonical_answer, durat
 use Rattle.humantime.specs.Durations.Faults.{Fault, HasFault}
 use Rattle.humantime.specs.Laws.ExactlyOne.{ExactlyOne}
 
--- d nanoseconds have one canonical text, which is printed, and which is accepted with them.
+-- A duration of `d` nanoseconds has one canonical text, which is printed and is accepted with `d`.
 pub record PrintsAndReads (d : ℕ) : Type 0 where
   -- they have one canonical text, and no other
   pub one : ExactlyOne (Canon d)
@@ -26,15 +26,15 @@ pub record PrintApart (a b : ℕ) : Type 0 where
   -- and so are the texts that are printed
   pub text : (duration_text a ≡ duration_text b) ↔ (a ≡ b)
 
--- The canonical text of d nanoseconds is short, and its months and days are few.
+-- The canonical text of `d` nanoseconds has at most 64 bytes, and its counts at most 11 months and 30 days.
 pub record IsBounded (d : ℕ) : Type 0 where
   -- the text has at most 64 bytes
   pub length : (bytes : List ℕ) → Canon d bytes → length bytes ≤ 64
   -- its counts are at most 11 months and at most 30 days
   pub counts : (counts : List ℕ) → Counts d counts → ((slice_index counts 1 ≤ 11) × (slice_index counts 2 ≤ 30))
 
--- What a text of these bytes spells has a canonical text, which keeps the value and is its own canonical text; what is
--- answered is that text or the first fault.
+-- What a text spells has a canonical text, which keeps the value and is its own canonical text; what is answered is that text or the first
+-- fault.
 pub record IsCanonicalAgain (s : List ℕ) : Type 0 where
   -- a text that is accepted has a canonical text
   pub some : (v : ℕ) → Accepted (chars s) v → (printed : List ℕ) × IsCanonicalOf s printed

@@ -7,15 +7,15 @@ use Rattle.humantime.specs.Durations.Accepted.{additions, AllHaveRoom, Accepted}
 use Rattle.humantime.specs.Durations.Faults.{NumberOverflow, HasFault}
 use Rattle.humantime.specs.References.Durations.Answers.{duration_answer}
 
--- the text without its white space
+-- Drops the white space of a text.
 abbrev pub without_white_space : List ℕ → List ℕ
 without_white_space text = filter (λ c. not (is_ws c)) text
 
--- what is accepted is exactly `0`, or it is spans
+-- Where the text is accepted, it is exactly `0` or it is spans.
 abbrev pub IsZeroOrSpans : List ℕ → Type 0
 IsZeroOrSpans text = (v : ℕ) → Accepted text v → (text ≡ bare_zero) ⊎ ((spans : List Span) × Reads text spans)
 
--- the text is these spans, and is accepted with this value
+-- The text is these spans, and is accepted with this value.
 abbrev pub AcceptedAs : List ℕ → List Span → ℕ → Type 0
 AcceptedAs text spans v = Reads text spans × Accepted text v
 
@@ -34,8 +34,8 @@ pub record KeepsValueWithoutSpace (text : List ℕ) : Type 0 where
   -- and so is what is answered
   pub answer : (v : ℕ) → duration_answer text ≡ Ok v → duration_answer (without_white_space text) ≡ Ok v
 
--- Two accepted texts, neither exactly `0`, are accepted one behind the other with the sum exactly where their additions
--- have room, and are too large exactly where they haven't.
+-- Two accepted texts, neither exactly `0`, are accepted one behind the other with the sum exactly where their additions have room, and are
+-- else too large.
 pub record AddWhenJoined (a b : List ℕ) : Type 0 where
   -- each that is accepted is exactly `0`, or it is spans
   pub first : IsZeroOrSpans a

@@ -11,22 +11,23 @@ use Rattle.humantime.specs.References.Timestamps.Reading.{strict_answer, weak_an
 use Rattle.humantime.specs.References.Timestamps.Printing.{moment_text}
 use Rattle.humantime.specs.Laws.ExactlyOne.{ExactlyOne}
 
--- a `T` between date and time, and `Z` or `+00:00` at the end
+-- A `T` stands between date and time, and `Z` or `+00:00` at the end.
 abbrev pub IsMarked : List ℕ → Type 0
 IsMarked b = (slice_index b 10 ≡ byte "T") × IsTrue (ends_in_zone b)
 
--- two moments, printed with equally many digits: the order of the bytes is that of the moments, cut
+-- Two moments, printed with equally many digits, have texts whose bytes are in the order of the moments, cut.
 abbrev pub InOrder : ℤ → ℤ → Type 0
 InOrder a b =
     (k : ℕ) (x y : List ℕ) → IsPrinted a k x → IsPrinted b k y
     → slice_cmp nat_cmp x y ≡ int_cmp (cut a k) (cut b k)
 
--- in both forms the text reads as this moment
+-- In both forms the text reads as this moment.
 pub record ReadsAs (bytes : List ℕ) (t : ℤ) : Type 0 where
   pub strict : IsStrictMoment bytes t
   pub weak : IsWeakMoment bytes t
 
--- A text's one outcome in one form: its checks, the parts that it shows, and the answer as a function.
+-- In one form a text shows some parts exactly where no check fails, and then no others; the answer is their moment, or the error of the
+-- first check that fails.
 pub record OneTimestamp (checks : List (Bool × TimestampError)) (IsShown : Fields → Type 0)
     (answer : Result ℤ TimestampError) : Type 0 where
   -- some parts are shown exactly where no check fails
@@ -38,7 +39,7 @@ pub record OneTimestamp (checks : List (Bool × TimestampError)) (IsShown : Fiel
   -- or the error of the first check that fails
   pub error : (e : TimestampError) → (answer ≡ Err e) ↔ (first_failed checks ≡ Some e)
 
--- the strict form is the weak one with a `T` and a zone: of the parts, of the moment, and of the answer
+-- The strict form is the weak one with a `T` and a zone: of the parts, of the moment, and of the answer.
 pub record StrictForm (text : List ℕ) : Type 0 where
   -- a text in strict form is one in weak form with these marks
   pub parts : (f : Fields) → IsStrict text f ↔ (IsWeak text f × IsMarked text)
@@ -50,7 +51,7 @@ pub record StrictForm (text : List ℕ) : Type 0 where
   -- and what is answered in weak form, of a text with these marks, is answered in strict form
   pub strict : (t : ℤ) → weak_answer text ≡ Ok t → IsMarked text → strict_answer text ≡ Ok t
 
--- the one text of the moment t, printed with k digits, which `Display` writes, and what both parsers read it as
+-- A moment of 1970 to 9999 has one text with `k` digits, which `Display` writes and both parsers read as the moment, cut.
 pub record PrintedMoment (t : ℤ) (k : ℕ) : Type 0 where
   -- one text is this moment, printed, and no other
   pub one : IsPrintable t → ExactlyOne (IsPrinted t k)

@@ -10,49 +10,49 @@ use Rattle.humantime.specs.declared.date.parse.Numbers.{Numbers}
 use Rattle.humantime.specs.Calendar.{is_valid}
 use Rattle.humantime.specs.Timestamps.Fields.{Zone, No_zone, Letter_Z, Zero_offset, zone_text}
 
--- whether this zone stands at the end
+-- Tells whether the text ends in this zone.
 abbrev pub ends_in : Zone → List ℕ → Bool
 ends_in z b = ends_with nat_eq b (zone_text z)
 
--- `Z` or `+00:00` at the end
+-- Tells whether the text ends in `Z` or `+00:00`.
 abbrev pub ends_in_zone : List ℕ → Bool
 ends_in_zone b = ends_in Letter_Z b || ends_in Zero_offset b
 
--- the zone at the end
+-- Gives the zone at the end of the text.
 unfoldable pub zone_of : List ℕ → Zone
 zone_of b = if ends_in Letter_Z b then Letter_Z else (if ends_in Zero_offset b then Zero_offset else No_zone)
 
--- what stands before the zone
+-- Gives what stands before the zone.
 abbrev pub before_zone : List ℕ → List ℕ
 before_zone b = take (length b - length (zone_text (zone_of b))) b
 
--- at least 20 bytes, a `T` between date and time, and `Z` or `+00:00` at the end
+-- Tells whether the text has at least 20 bytes, a `T` between date and time, and `Z` or `+00:00` at its end.
 unfoldable pub has_marks : List ℕ → Bool
 has_marks b = nat_le 20 (length b) && (slice_index b 10 == byte "T") && ends_in_zone b
 
--- `T` or a space between date and time
+-- Tells whether `T` or a space stands between date and time.
 unfoldable pub has_separator : List ℕ → Bool
 has_separator b = (slice_index b 10 == byte "T") || (slice_index b 10 == byte " ")
 
--- this, `-`, `-`, `:` and `:` in their places
+-- Tells whether `-`, `-`, a separator, `:` and `:` stand in their places.
 unfoldable pub has_signs : List ℕ → Bool
 has_signs b =
     (slice_index b 4 == byte "-") && (slice_index b 7 == byte "-") && has_separator b
     && (slice_index b 13 == byte ":") && (slice_index b 16 == byte ":")
 
--- two digits from place k on
+-- Tells whether two digits stand from place `k` on.
 unfoldable pub has_two : List ℕ → ℕ → Bool
 has_two b k = is_ascii_digit (slice_index b k) && is_ascii_digit (slice_index b (k + 1))
 
--- digits in all places between the signs
+-- Tells whether digits stand in all places between the signs.
 unfoldable pub has_digits : List ℕ → Bool
 has_digits b = list_all (λ k. has_two b k) (0 ∷ 2 ∷ 5 ∷ 8 ∷ 11 ∷ 14 ∷ 17 ∷ [])
 
--- the number that the bytes from one place up to another show
+-- Reads the number that the bytes from one place up to another show.
 unfoldable pub number_between : List ℕ → ℕ → ℕ → ℕ
 number_between b from to = decimal_value (slice_range b from to)
 
--- the numbers in the first nineteen bytes
+-- Reads the numbers of date and time in the first 19 bytes.
 abbrev pub numbers_of : List ℕ → Numbers
 numbers_of b = record {
   date = record { year = number_between b 0 4; month = number_between b 5 7; day = number_between b 8 10 };
@@ -61,20 +61,20 @@ numbers_of b = record {
   second = number_between b 17 19;
 }
 
--- a date of 1970 to 9999 that exists, and a time of day, perhaps with a second 60
+-- Tells whether the numbers are a date of 1970 to 9999 that exists, and a time of day, perhaps with a second 60.
 unfoldable pub are_in_range : Numbers → Bool
 are_in_range x =
     is_valid x.date.year x.date.month x.date.day && nat_le x.hour 23 && nat_le x.minute 59 && nat_le x.second 60
 
--- what stands between the seconds and the zone
+-- Gives what stands between the seconds and the zone.
 abbrev pub fraction_part : List ℕ → List ℕ
 fraction_part b = before_zone (drop 19 b)
 
--- nothing stands there, or a point comes first
+-- Tells whether what stands between the seconds and the zone is nothing or begins with a point.
 unfoldable pub has_point : List ℕ → Bool
 has_point part = (length part == 0) || (slice_index part 0 == byte ".")
 
--- the checks of the weak form: each with the error of a text that fails it
+-- Lists the checks of the weak form in their order, each with the error of a text that fails it.
 abbrev pub weak_checks : List ℕ → List (Bool × TimestampError)
 weak_checks b =
     (nat_le 19 (length b), InvalidFormat)
@@ -85,16 +85,16 @@ weak_checks b =
     ∷ (all_ascii_digits (drop 1 (fraction_part b)), InvalidDigit)
     ∷ []
 
--- the checks of the strict form: one more, and it comes first
+-- Lists the checks of the strict form: `has_marks` first, and then those of the weak form.
 abbrev pub strict_checks : List ℕ → List (Bool × TimestampError)
 strict_checks b = (has_marks b, InvalidFormat) ∷ weak_checks b
 
--- the error of the first check that fails
+-- Gives the error of the first check that fails, if one does.
 abbrev pub first_failed : List (Bool × TimestampError) → Option TimestampError
 first_failed [] = None
 first_failed (check ∷ checks) = if check.0 then first_failed checks else Some check.1
 
--- the message of an error
+-- Gives the message of an error.
 abbrev pub timestamp_message : TimestampError → List ℕ
 timestamp_message OutOfRange = codes "numeric component is out of range"
 timestamp_message InvalidDigit = codes "bad character where digit is expected"

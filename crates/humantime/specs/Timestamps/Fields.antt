@@ -6,28 +6,31 @@ use Rattle.humantime.specs.declared.calendar.Date.{Date}
 use Rattle.humantime.specs.Calendar.{IsDate, day_of}
 use Rattle.humantime.specs.Values.{nanos_per_second, seconds_per_day, seconds_per_hour, seconds_per_minute}
 
--- the digit of a number below ten; a number below 100 in two digits, and one below 10000 in four
+-- Gives the digit of a number below 10, as a byte.
 abbrev pub digit : ℕ → ℕ
 digit n = byte "0" + n
 
+-- Writes a number below 100 in two digits.
 abbrev pub two_digits : ℕ → List ℕ
 two_digits n = digit (n / 10) ∷ digit (n % 10) ∷ []
 
+-- Writes a number below 10,000 in four digits.
 abbrev pub four_digits : ℕ → List ℕ
 four_digits n = digit (n / 1000) ∷ digit (n / 100 % 10) ∷ digit (n / 10 % 10) ∷ digit (n % 10) ∷ []
 
--- what stands between the date and the time
+-- The separator is a `T` or a space, between the date and the time.
 pub data Separator : Type 0 where
   Letter_T : Separator
   Space : Separator
 
--- what stands at the end: always the zone of Greenwich
+-- The zone at the end is always UTC: nothing, `Z` or `+00:00`.
 pub data Zone : Type 0 where
   No_zone : Zone
   Letter_Z : Zone
   Zero_offset : Zone
 
--- the parts; a fraction is the digits after the point, perhaps none
+-- The parts are date, separator (`T` or a space), hour, minute, second, fraction and zone (none, `Z` or `+00:00`). A fraction is the digits
+-- after the point, perhaps none.
 pub record Fields : Type 0 where
   pub date : Date
   pub separator : Separator
@@ -37,39 +40,42 @@ pub record Fields : Type 0 where
   pub fraction : Option (List ℕ)
   pub zone : Zone
 
--- the byte of a separator, and how a fraction and a zone are written
+-- Gives the byte of a separator.
 abbrev pub separator_byte : Separator → ℕ
 separator_byte Letter_T = byte "T"
 separator_byte Space = byte " "
 
+-- Writes a fraction, if there is one: a point and its digits.
 abbrev pub fraction_text : Option (List ℕ) → List ℕ
 fraction_text None = []
 fraction_text (Some ds) = codes "." ++ ds
 
+-- Writes a zone.
 abbrev pub zone_text : Zone → List ℕ
 zone_text No_zone = []
 zone_text Letter_Z = codes "Z"
 zone_text Zero_offset = codes "+00:00"
 
--- `YYYY-MM-DD`, the separator, and `HH:MM:SS`
+-- Writes `YYYY-MM-DD`, the separator and `HH:MM:SS`.
 abbrev pub date_time_text : Fields → List ℕ
 date_time_text f =
     four_digits f.date.year ++ codes "-" ++ two_digits f.date.month ++ codes "-" ++ two_digits f.date.day
     ++ separator_byte f.separator ∷ two_digits f.hour ++ codes ":" ++ two_digits f.minute ++ codes ":" ++ two_digits f.second
 
--- the whole text: date and time, and then the fraction and the zone
+-- Writes the date and the time, and then the fraction and the zone.
 abbrev pub fields_text : Fields → List ℕ
 fields_text f = date_time_text f ++ fraction_text f.fraction ++ zone_text f.zone
 
--- the digits of a fraction, none where there is none
+-- Gives the digits of a fraction, and none where there is no fraction.
 abbrev pub fraction_digits : Option (List ℕ) → List ℕ
 fraction_digits fraction = unwrap_or fraction []
 
--- the nanoseconds of these digits: the first nine, filled with zeros
+-- Gives the nanoseconds of a fraction's digits: the first nine, filled with zeros.
 unfoldable pub fraction_nanos : List ℕ → ℕ
 fraction_nanos ds = decimal_value (take 9 (ds ++ codes "000000000"))
 
--- in weak form the text shows these parts: a date of 1970 to 9999 that exists, and a time of day, perhaps with a second 60
+-- The text shows these parts in weak form: a date of 1970 to 9999 that exists, an hour, a minute and a second of at most 23, 59 and 60, and
+-- digits alone in the fraction.
 pub record IsWeak (bytes : List ℕ) (f : Fields) : Type 0 where
   pub shown : bytes ≡ fields_text f
   pub date : IsDate f.date
@@ -78,24 +84,25 @@ pub record IsWeak (bytes : List ℕ) (f : Fields) : Type 0 where
   pub second : f.second ≤ 60
   pub fraction : IsTrue (all_ascii_digits (fraction_digits f.fraction))
 
--- in strict form the text shows these parts: it does in weak form, with the letter `T` and a zone
+-- The text shows these parts in strict form: as in weak form, with `T` and a zone.
 pub record IsStrict (bytes : List ℕ) (f : Fields) : Type 0 where
   pub weak : IsWeak bytes f
   pub separator : f.separator ≡ Letter_T
   pub zone : f.zone ≢ No_zone
 
--- whole seconds from 1970-01-01T00:00:00Z to this date, hour, minute and second; second 60 is read as 59
+-- Counts the seconds from 1970-01-01T00:00:00Z to this date and time of day; second 60 is read as 59.
 abbrev pub seconds_of : Date → ℕ → ℕ → ℕ → ℕ
 seconds_of date hour minute second =
     day_of date * seconds_per_day + hour * seconds_per_hour + minute * seconds_per_minute + min second 59
 
--- nanoseconds from 1970-01-01T00:00:00Z
+-- Counts the nanoseconds from 1970-01-01T00:00:00Z to the moment of the parts.
 abbrev pub moment_of : Fields → ℕ
 moment_of f = seconds_of f.date f.hour f.minute f.second * nanos_per_second + fraction_nanos (fraction_digits f.fraction)
 
--- the text shows some parts of this moment: in weak form, and in strict form
+-- The text shows some parts of the moment `t` in weak form.
 abbrev pub IsWeakMoment : List ℕ → ℤ → Type 0
 IsWeakMoment bytes t = (f : Fields) × IsWeak bytes f × (t ≡ pos (moment_of f))
 
+-- The text shows some parts of the moment `t` in strict form.
 abbrev pub IsStrictMoment : List ℕ → ℤ → Type 0
 IsStrictMoment bytes t = (f : Fields) × IsStrict bytes f × (t ≡ pos (moment_of f))

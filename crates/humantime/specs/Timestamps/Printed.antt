@@ -4,20 +4,21 @@ use Rattle.std.specs.Int.{int_rem_euclid}
 use Rattle.humantime.specs.Values.{nanos_per_second, seconds_per_day, nano_of}
 use Rattle.humantime.specs.Timestamps.Fields.{Letter_T, Letter_Z, Fields, IsWeak, moment_of}
 
--- what a timestamp prints: a moment in nanoseconds, with so many digits after its second
+-- A timestamp to print is a moment in nanoseconds, with so many digits after its second.
 pub record MomentToPrint : Type 0 where
   pub moment : ℤ
   pub places : ℕ
 
--- how many digits a moment is printed with, where no number of them is asked for
+-- Gives how many digits a moment is printed with where no number is asked for: none at a whole second, else nine.
 abbrev pub places_of : ℤ → ℕ
 places_of t = if nano_of t == 0 then 0 else 9
 
--- a moment in nanoseconds, cut to k digits after its second
+-- Rounds a moment down to `k` digits after its second.
 abbrev pub cut : ℤ → ℕ → ℤ
 cut t k = t -ℤ int_rem_euclid t (pos (10 ^ (9 - k)))
 
--- The text is the moment t, printed with k digits, at most nine: it shows parts with `T`, `Z` and no second 60, whose moment is t, cut.
+-- The text is the moment `t`, printed with `k` digits, at most nine: it shows parts with `T`, `Z`, no second 60, and a fraction of `k`
+-- digits, or none for zero, whose moment is `t`, cut.
 pub record IsPrinted (t : ℤ) (k : ℕ) (bytes : List ℕ) : Type 0 where
   pub few : k ≤ 9
   pub fields : Fields
@@ -28,10 +29,10 @@ pub record IsPrinted (t : ℤ) (k : ℕ) (bytes : List ℕ) : Type 0 where
   pub places : option_map length fields.fraction ≡ (if k == 0 then None else Some k)
   pub moment : pos (moment_of fields) ≡ cut t k
 
--- the first moment of the year 10000, which begins 2932897 days after 1970-01-01
+-- This is the first moment of the year 10000, which begins 2,932,897 days after 1970-01-01.
 abbrev pub year_10000 : ℕ
 year_10000 = 2_932_897 * seconds_per_day * nanos_per_second
 
--- a moment of 1970 to 9999
+-- The moment is one of 1970 to 9999.
 abbrev pub IsPrintable : ℤ → Type 0
 IsPrintable t = (pos 0 ≤ℤ t) × (t <ℤ pos year_10000)
