@@ -137,10 +137,17 @@ fn batch(calls: usize, mut call: impl FnMut()) -> f64 {
 /// Prints a row: its name, the least time of each side, the median of the ratios, the allocations of a call of the crate.
 #[inline(always)]
 fn race(name: &str, mut of_crate: impl FnMut(), mut of_library: impl FnMut()) {
-    if let Ok(only) = std::env::var("BENCH_ONLY") {
-        if !name.contains(&only) {
-            return;
+    let only = std::env::var("BENCH_ONLY").unwrap_or_default();
+    // So many calls of one row, to be counted by valgrind, which looks into the functions of one side.
+    if let Ok(calls) = std::env::var("BENCH_COUNT") {
+        for _ in 0..if name == only { calls.parse().expect("a number of calls") } else { 0 } {
+            of_crate();
+            of_library();
         }
+        return;
+    }
+    if !name.contains(&only) {
+        return;
     }
     let taken = TAKEN.load(Relaxed);
     of_crate();
