@@ -75,7 +75,7 @@ fn leap_days(year: u32) -> u32
 
 /// The days of a month.
 #[inline(always)]
-fn month_length(year: u32, month: u32) -> u32
+pub(crate) fn month_length(year: u32, month: u32) -> u32
     requires { IsInRange 1 12 month }
     ensures { result ≡ days_in_month year month }
 {

@@ -7,13 +7,12 @@ ghost use Rattle.std.specs.Str.{bytes_eq};
 ghost use Rattle.humantime.specs.declared.date.error.TimestampError.{TimestampError};
 ghost use Rattle.humantime.specs.Timestamps.Fields.{zone_text, IsWeakMoment, IsStrictMoment};
 ghost use Rattle.humantime.specs.Timestamps.Checks.{zone_of, numbers_of, are_in_range, fraction_part, first_failed, weak_checks, strict_checks};
-ghost use Rattle.humantime.specs.References.Timestamps.Reading.{weak_answer, strict_answer, fraction_answer, numbers_in, seconds_found, nanos_found, in_threes, AreShort};
+ghost use Rattle.humantime.specs.References.Timestamps.Reading.{weak_answer, strict_answer, fraction_answer, numbers_in, seconds_found, nanos_found, in_threes, AreShort, AreWithin};
 ghost use Rattle.humantime.specs.Timestamps.Checks;
 ghost use Rattle.humantime.specs.References.Timestamps.Reading as Reading;
 
-use crate::calendar::{Date, day_number, days_before};
+use crate::calendar::{Date, days_before, month_length};
 use crate::date::error::TimestampError;
-use crate::turns::Turns;
 use crate::value::SystemTime;
 use std::simd::prelude::*;
 
@@ -37,11 +36,11 @@ const WEIGHTS_FRONT: [u8; 16] = [100, 10, 1, 0, 0, 10, 1, 0, 10, 1, 0, 0, 0, 0, 
 /// And each of those from the fourth on: the year's last digit, nothing, hour, second.
 const WEIGHTS_BACK: [u8; 16] = [1, 0, 0, 0, 0, 0, 0, 0, 10, 1, 0, 0, 0, 0, 10, 1];
 
-/// The least numbers at the front of a usual date and time: year 1970, month 1, day 1, minute 0.
+/// The least numbers at the front: year 1970, month 1, day 1, minute 0.
 const FIRST: [u32; 4] = [197, 1, 1, 0];
 
-/// How far a number may be above it: up to year 9999, month 12, day 28, which each month has, minute 59.
-const MOST_AFTER: [u32; 4] = [802, 11, 27, 59];
+/// How far a number may be above it: up to year 9999, month 12, day 31, minute 59.
+const MOST_AFTER: [u32; 4] = [802, 11, 30, 59];
 
 /// The greatest numbers at the back: a digit, nothing, hour 23, second 60.
 const MOST_BACK: [u32; 4] = [9, 0, 23, 60];
@@ -299,7 +298,7 @@ fn lanes_at(b: &[u8]) -> Lanes
     requires long { 19 ≤ length b.now }
     requires digits { IsTrue (Checks.has_digits b.now) }
     ensures numbers { numbers_in result ≡ numbers_of b.now }
-    ensures short { AreShort result.front × AreShort result.back }
+    ensures short { AreShort result }
 {
     let front = u8x16::from_slice(b) - u8x16::from_array(LEAST);
     let back = u8x16::from_slice(&b[3..]) - u8x16::from_array(LEAST_BACK);
@@ -312,7 +311,7 @@ fn lanes_at(b: &[u8]) -> Lanes
 /// The numbers one by one.
 #[inline(always)]
 fn numbers_in(lanes: Lanes) -> Numbers
-    requires { AreShort lanes.front × AreShort lanes.back }
+    requires { AreShort lanes }
     ensures { result ≡ numbers_in lanes }
 {
     let front = lanes.front.to_array();
@@ -331,9 +330,9 @@ fn numbers_in(lanes: Lanes) -> Numbers
 
 /// The seconds from 1970 to this date and time, where there are such.
 #[inline(always)]
-#[tactic(auto, using(crate::proofs::Timestamps::Reading::Usual::range_told))]
+#[tactic(auto, using(crate::proofs::Timestamps::Reading::Usual::within_told))]
 fn seconds_in(lanes: Lanes) -> Option<u64>
-    requires { AreShort lanes.front × AreShort lanes.back }
+    requires { AreShort lanes }
     ensures value { result ≡ seconds_found (numbers_in lanes) }
     ensures bound { IfSome result (λ n. n < 2 ^ 63) }
 {
@@ -345,22 +344,26 @@ fn seconds_in(lanes: Lanes) -> Option<u64>
     Some(days as u64 * 86_400 + seconds_of_month(lanes) as u64)
 }
 
-/// A date of 1970 to 9999 that exists, and a time of day, perhaps with a second 60. Only where it is not a usual one are
-/// the ranges asked one by one.
+/// A date of 1970 to 9999 that exists, and a time of day, perhaps with a second 60. Each month has 28 days; of a later day the
+/// calendar is asked.
 #[inline(always)]
 fn is_in_range(lanes: Lanes) -> bool
-    requires { AreShort lanes.front × AreShort lanes.back }
+    requires { AreShort lanes }
     ensures { result ≡ are_in_range (numbers_in lanes) }
 {
-    is_usual(lanes) || are_in_range(numbers_in(lanes))
+    if !are_within(lanes) {
+        return false;
+    }
+    let date = numbers_in(lanes).date;
+    date.day <= 28 || date.day <= month_length(date.year, date.month)
 }
 
-/// The same of a day that each month has: all ranges are tested at once. A number below the least one wraps around to far
+/// The numbers in their ranges, with days up to 31: all are tested at once. A number below the least one wraps around to far
 /// above.
 #[inline(always)]
-fn is_usual(lanes: Lanes) -> bool
-    requires { AreShort lanes.front × AreShort lanes.back }
-    ensures { IsTrue result → IsTrue (are_in_range (numbers_in lanes)) }
+fn are_within(lanes: Lanes) -> bool
+    requires { AreShort lanes }
+    ensures { IsTrue result ↔ AreWithin (numbers_in lanes) }
 {
     let after = lanes.front - u32x4::from_array(FIRST);
     let other = after.simd_gt(u32x4::from_array(MOST_AFTER));
@@ -368,22 +371,10 @@ fn is_usual(lanes: Lanes) -> bool
     other.to_bitmask() == 0 && other_back.to_bitmask() == 0
 }
 
-/// The ranges one by one.
-#[inline(always)]
-#[tactic(auto, unfolding(crate::specs::Timestamps::Checks::are_in_range))]
-fn are_in_range(x: Numbers) -> bool
-    ensures { result ≡ are_in_range x }
-{
-    day_number(x.date, &mut Turns::new()).is_some()
-        && x.hour <= 23
-        && x.minute <= 59
-        && x.second <= 60
-}
-
 /// The seconds of the days before this one in its month, and of this day, summed in lanes.
 #[inline(always)]
 fn seconds_of_month(lanes: Lanes) -> u32
-    requires short { AreShort lanes.front × AreShort lanes.back }
+    requires short { AreShort lanes }
     requires range { IsTrue (are_in_range (numbers_in lanes)) }
     ensures { let x = numbers_in lanes in
         result + 86_400 ≡ x.date.day * 86_400 + x.hour * 3_600 + x.minute * 60 + min x.second 59 }

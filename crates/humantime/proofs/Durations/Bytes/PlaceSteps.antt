@@ -14,7 +14,7 @@ use Rattle.humantime.specs.Durations.Characters.{is_letter, is_ws, is_digit, is_
 use Rattle.humantime.specs.References.Durations.Scanning.{space_width, digits_at, fraction_read, ends_span}
 use Rattle.humantime.specs.References.Durations.SpanParts.{IsBehindWord}
 use Rattle.humantime.proofs.Durations.Bytes.Tails.{no_bytes, tail_at}
-use Rattle.humantime.proofs.Durations.Reading.Classes.{digit_is, digit_is_numeric, space_is_numeric, is_point-46, letter_not_space, wide_no_digit, white_is}
+use Rattle.humantime.proofs.Durations.Reading.Classes.{digit_is, digit_not_space, digit_is_numeric, space_is_numeric, is_point-46, letter_not_space, wide_no_digit, white_is}
 
 -- The character at a place, and what follows it.
 pub record IsCharAt (text : List ℕ) (at char next : ℕ) : Type 0 where
@@ -103,6 +103,11 @@ none_width (d ∷ ds) e = cc
 -- what does not begin so is past what begins so
 pub ends_there : (p : ℕ → Bool) (rest : List ℕ) → begins p rest ≡ false → rest ≡ past p rest
 ends_there p rest e = grind (arith, common_steps)
+
+-- white space does not begin with a digit
+pub digit_stays : (cs : List ℕ) → begins is_digit cs ≡ true → cs ≡ past is_ws cs
+digit_stays [] d = refl
+digit_stays (c ∷ cs) d = ends_there is_ws (c ∷ cs) (digit_not_space c d)
 
 -- a text begins with a point where its first byte is one
 pub no_point : (text : List ℕ) → IsUtf8 text → get_or text 0 0 ≢ 46 → begins is_point (chars text) ≡ false

@@ -61,11 +61,12 @@ lanes_placed : (b : List ℕ) → 19 ≤ length b → lanes_of b ≡ places_of b
 lanes_placed (b0 ∷ b1 ∷ b2 ∷ b3 ∷ b4 ∷ b5 ∷ b6 ∷ b7 ∷ b8 ∷ b9 ∷ b10 ∷ b11 ∷ b12 ∷ b13 ∷ b14 ∷ b15 ∷ b16 ∷ b17 ∷ b18 ∷ r) long = grind (arith, common_steps)
 lanes_placed _ h = absurd (omega arith)
 
-all_of_four : (a b c d : ℕ) → a ≤ 999 → b ≤ 999 → c ≤ 999 → d ≤ 999 → AreShort (a ∷ b ∷ c ∷ d ∷ [])
+all_of_four : (a b c d : ℕ) → a ≤ 999 → b ≤ 999 → c ≤ 999 → d ≤ 999
+    → (length (a ∷ b ∷ c ∷ d ∷ []) ≡ 4) × ((k : ℕ) → slice_index (a ∷ b ∷ c ∷ d ∷ []) k ≤ 999)
 all_of_four a b c d ha hb hc hd = grind (arith, common_steps)
 
 pub numbers_shown : (b : List ℕ) → 19 ≤ length b → has_digits b ≡ true
-    → (numbers_in (lanes_of b) ≡ numbers_of b) × AreShort (lanes_of b).front × AreShort (lanes_of b).back
+    → (numbers_in (lanes_of b) ≡ numbers_of b) × AreShort (lanes_of b)
 numbers_shown b long digits =
     let pairs = pairs_told b digits in
     let year = year_told b (omega arith) pairs.0 pairs.1 in
@@ -74,13 +75,12 @@ numbers_shown b long digits =
     let hour = pair_told b 11 (omega arith) pairs.4 in
     let minute = pair_told b 14 (omega arith) pairs.5 in
     let second = pair_told b 17 (omega arith) pairs.6 in
-    subst (λ (l : Lanes). (numbers_in l ≡ numbers_of b) × AreShort l.front × AreShort l.back) (sym (lanes_placed b long)) (
+    subst (λ (l : Lanes). (numbers_in l ≡ numbers_of b) × AreShort l) (sym (lanes_placed b long)) (
       (λ i. record {
         date = record { year = year.0 i; month = month.0 i; day = day.0 i };
         hour = hour.0 i;
         minute = minute.0 i;
         second = second.0 i;
       }),
-      all_of_four _ _ _ _ year.1 month.1 day.1 minute.1,
-      all_of_four _ _ _ _ (omega (arith, year.2)) (omega arith) hour.1 second.1,
+      (all_of_four _ _ _ _ year.1 month.1 day.1 minute.1, all_of_four _ _ _ _ (omega (arith, year.2)) (omega arith) hour.1 second.1, year.2, λ i. 0),
     )

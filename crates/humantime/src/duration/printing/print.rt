@@ -100,38 +100,38 @@ impl FormattedDuration {
         ensures canon { Canon self.now result.now }
         ensures text { result.now ≡ duration_text self.now }
     {
-        let end = self.write(buf);
+        let end = write_duration(self.value, buf);
         front(buf, end)
     }
+}
 
-    /// Writes the printed text to the front of the buffer, and says how long it is.
-    #[inline(never)]
-    #[tactic(auto, using(crate::proofs::Durations::Printing::CountTexts::written_is_text, crate::proofs::Durations::Printing::DecimalLengths::decimal_twelve, crate::proofs::Durations::Printing::DecimalLengths::decimal_two, crate::proofs::Durations::Printing::DecimalLengths::decimal_three))]
-    fn write(&self, buf: &mut [u8; 64]) -> usize
-        ensures fits { result ≤ 64 }
-        ensures text { take result buf.new ≡ duration_text self.now }
-        ensures utf8 { IsUtf8 (take result buf.new) }
-    {
-        let mut writer = Writer::new(buf);
-        let secs = self.value.as_secs();
-        let of_year = secs % sizes::SECONDS_PER_YEAR;
-        let of_month = of_year % sizes::SECONDS_PER_MONTH;
-        let of_day = of_month % sizes::SECONDS_PER_DAY;
-        let of_hour = of_day % sizes::SECONDS_PER_HOUR;
-        writer.push_plural(secs / sizes::SECONDS_PER_YEAR, "year");
-        writer.push_plural(of_year / sizes::SECONDS_PER_MONTH, "month");
-        writer.push_plural(of_month / sizes::SECONDS_PER_DAY, "day");
-        writer.push_count(of_day / sizes::SECONDS_PER_HOUR, "h");
-        writer.push_count(of_hour / sizes::SECONDS_PER_MINUTE, "m");
-        writer.push_count(of_hour % sizes::SECONDS_PER_MINUTE, "s");
-        let nanos = self.value.subsec_nanos() as u64;
-        let of_milli = nanos % sizes::NANOS_PER_MILLI;
-        writer.push_count(nanos / sizes::NANOS_PER_MILLI, "ms");
-        writer.push_count(of_milli / sizes::NANOS_PER_MICRO, "µs");
-        writer.push_count(of_milli % sizes::NANOS_PER_MICRO, "ns");
-        writer.push_zero_if_empty();
-        writer.finish()
-    }
+/// Writes the printed text to the front of the buffer, and says how long it is.
+#[inline(never)]
+#[tactic(auto, using(crate::proofs::Durations::Printing::CountTexts::written_is_text, crate::proofs::Durations::Printing::DecimalLengths::decimal_twelve, crate::proofs::Durations::Printing::DecimalLengths::decimal_two, crate::proofs::Durations::Printing::DecimalLengths::decimal_three))]
+fn write_duration(duration: StdDuration, buf: &mut [u8; 64]) -> usize
+    ensures fits { result ≤ 64 }
+    ensures text { take result buf.new ≡ duration_text duration }
+    ensures utf8 { IsUtf8 (take result buf.new) }
+{
+    let mut writer = Writer::new(buf);
+    let secs = duration.as_secs();
+    let of_year = secs % sizes::SECONDS_PER_YEAR;
+    let of_month = of_year % sizes::SECONDS_PER_MONTH;
+    let of_day = of_month % sizes::SECONDS_PER_DAY;
+    let of_hour = of_day % sizes::SECONDS_PER_HOUR;
+    writer.push_plural(secs / sizes::SECONDS_PER_YEAR, "year");
+    writer.push_plural(of_year / sizes::SECONDS_PER_MONTH, "month");
+    writer.push_plural(of_month / sizes::SECONDS_PER_DAY, "day");
+    writer.push_count(of_day / sizes::SECONDS_PER_HOUR, "h");
+    writer.push_count(of_hour / sizes::SECONDS_PER_MINUTE, "m");
+    writer.push_count(of_hour % sizes::SECONDS_PER_MINUTE, "s");
+    let nanos = duration.subsec_nanos() as u64;
+    let of_milli = nanos % sizes::NANOS_PER_MILLI;
+    writer.push_count(nanos / sizes::NANOS_PER_MILLI, "ms");
+    writer.push_count(of_milli / sizes::NANOS_PER_MICRO, "µs");
+    writer.push_count(of_milli % sizes::NANOS_PER_MICRO, "ns");
+    writer.push_zero_if_empty();
+    writer.finish()
 }
 
 /// Calls the sink once, with the whole text, and answers what the sink answers. Width and fill change nothing.
@@ -211,5 +211,5 @@ fn write_canonical<'a>(s: &'a str, buf: &mut [u8; 64]) -> Result<usize, Duration
     ensures place { IfErr result (PointsInto s.now) }
 {
     let duration = parse_duration(s)?;
-    Ok(format_duration(duration).write(buf))
+    Ok(write_duration(duration, buf))
 }

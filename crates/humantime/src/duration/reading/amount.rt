@@ -56,11 +56,10 @@ pub(crate) struct Amount {
 
 /// Ten times the value and the digit, or `None` where that is too large.
 #[inline(always)]
-pub(crate) fn push_digit(value: u64, c: u8) -> Option<u64>
-    requires { is_digit c ≡ true }
-    ensures { SomeIff result (value * 10 + (c - 48) ≤ u64_max) (value * 10 + (c - 48)) }
+pub(crate) fn push_digit(value: u64, digit: u64) -> Option<u64>
+    requires { digit ≤ 9 }
+    ensures { SomeIff result (value * 10 + digit ≤ u64_max) (value * 10 + digit) }
 {
-    let digit = (c - b'0') as u64;
     if value < TENTH_OF_MAX {
         return Some(value * 10 + digit);
     }

@@ -1,6 +1,7 @@
 //! Steps over a text: the class of a character, white space, a number, a fraction, a word.
 
-ghost use Rattle.std.specs.Prelude.{◌≡◌, ◌-◌, ◌+◌, ◌<◌, SomeIff, drop, length, chars, option_map, IfSome, ◌≤◌, ◌==◌, ◌&&◌, ◌||◌, take, reverse, IsCharBoundary};
+ghost use Rattle.std.specs.Char.{is_ascii_digit};
+ghost use Rattle.std.specs.Prelude.{◌≡◌, ◌↔◌, true, ◌-◌, ◌+◌, ◌<◌, SomeIff, drop, length, chars, option_map, IfSome, ◌≤◌, ◌==◌, ◌&&◌, ◌||◌, take, reverse, IsCharBoundary};
 ghost use Rattle.humantime.specs.Texts.{begins, past, leading};
 ghost use Rattle.humantime.specs.Durations.Characters.{is_digit, is_ws, offset_of, is_letter};
 ghost use Rattle.humantime.specs.Durations.Errors.{IsPlaceIn};
@@ -94,17 +95,35 @@ pub(crate) fn space_at(text: &str, at: usize) -> Option<usize>
     }
 }
 
-/// What follows the white space at the front of the text.
+/// The place after the blanks, U+0020, at this place.
+#[inline(always)]
+fn past_blanks(text: &str, from: usize) -> usize
+    requires { IsCharBoundary text.now from }
+    ensures order { from ≤ result }
+    ensures place { IsCharBoundary text.now result }
+    ensures rest { past is_ws (chars (drop result text.now)) ≡ past is_ws (chars (drop from text.now)) }
+{
+    let bytes = text.as_bytes();
+    let mut at = from;
+    while at < bytes.len() && bytes[at] == b' ' {
+        at += 1;
+    }
+    at
+}
+
+/// What follows the white space at the front of the text. A digit is looked for first, since most texts have one there.
 #[inline(always)]
 pub(crate) fn past_space<'a>(text: &'a str) -> &'a str
     ensures rest { chars result.now ≡ past is_ws (chars text.now) }
     ensures tail { IsTail text.now result.now }
 {
-    let bytes = text.as_bytes();
+    if begins_with_digit(text) {
+        return text;
+    }
     let mut at = 0;
-    while at < bytes.len() {
+    while at < text.len() {
         match space_at(text, at) {
-            Some(next) => at = next,
+            Some(next) => at = past_blanks(text, next),
             None => break,
         }
     }
@@ -130,6 +149,15 @@ pub(crate) fn begins_with_digit(text: &str) -> bool
     !bytes.is_empty() && bytes[0].is_ascii_digit()
 }
 
+/// What a digit of ASCII counts, and above nine for any other byte. It is as wide as a register, so that no digit is widened.
+#[inline(always)]
+fn digit_of(c: u8) -> u64
+    ensures digit { (result ≤ 9) ↔ (is_ascii_digit c ≡ true) }
+    ensures value { is_ascii_digit c ≡ true → result + 48 ≡ c }
+{
+    (c as u64).wrapping_sub(48)
+}
+
 /// The number at the front of the text, what it stands in, and what follows it; `None` where it is too large. The first
 /// digit is known to be one.
 #[inline(always)]
@@ -143,8 +171,9 @@ pub(crate) fn read_number<'a>(text: &'a str) -> Option<(u64, &'a str, &'a str)>
     let mut value = (bytes[0] - b'0') as u64;
     let mut at = 1;
     while at < bytes.len() {
-        if bytes[at].is_ascii_digit() {
-            value = push_digit(value, bytes[at])?;
+        let digit = digit_of(bytes[at]);
+        if digit <= 9 {
+            value = push_digit(value, digit)?;
             at += 1;
         } else {
             match space_at(text, at) {

@@ -5,4 +5,4 @@ pub returns-clause-numbers : goal.returns-clause-numbers
 returns-clause-numbers c = (numbers_shown c.args.b.now c.requires.long c.requires.digits).0
 
 pub returns-clause-short : goal.returns-clause-short
-returns-clause-short c = let shown = numbers_shown c.args.b.now c.requires.long c.requires.digits in (shown.1, shown.2)
+returns-clause-short c = (numbers_shown c.args.b.now c.requires.long c.requires.digits).1

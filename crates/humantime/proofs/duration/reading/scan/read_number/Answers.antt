@@ -1,3 +1,4 @@
+use Rattle.std.proofs.lemmas.Bool.{false_from_ne_true}
 use Rattle.std.proofs.lemmas.Grind.{common_steps}
 use Rattle.std.proofs.Common.{◌≡◌, ◌++◌, ◌∷◌, [], get_or, sym, ap, ◌∙◌, chars, take, drop, false, arith}
 use Rattle.humantime.specs.Texts.{begins}
@@ -6,7 +7,7 @@ use Rattle.humantime.proofs.Durations.Reading.Classes.{digit_is}
 use Rattle.humantime.proofs.Durations.Bytes.Numbers.{first_digit, digit_range, none_read, read_digit, read_space, stops_here, all_read, value_more, number_passes, number_ends}
 use Rattle.humantime.proofs.Durations.Bytes.Tails.{no_chars_at}
 use Rattle.humantime.proofs.duration.reading.scan.read_number.Goals as goal
-use Rattle.humantime.proofs.duration.reading.scan.read_number.Goals.{else-loop-at-test, then-loop-at-test+else-is_ascii_digit+in-None}
+use Rattle.humantime.proofs.duration.reading.scan.read_number.Goals.{else-loop-at-test, then-loop-at-test+else-digit-le9+in-None}
 
 pub loop-at-init : goal.loop-at-init
 loop-at-init c =
@@ -20,18 +21,16 @@ loop-at-init c =
       fits = omega (arith, digit_range c0 digit);
     }
 
-pub push_digit-requires : goal.push_digit-requires
-push_digit-requires c = grind (arith, common_steps, digit_is)
-
-pub loop-at-preserved-then-is_ascii_digit : goal.loop-at-preserved-then-is_ascii_digit
-loop-at-preserved-then-is_ascii_digit c =
+pub loop-at-preserved-then-digit-le9 : goal.loop-at-preserved-then-digit-le9
+loop-at-preserved-then-digit-le9 c =
     let i = c.loop-at.invariant in
-    let digit = sym c.is_ascii_digit.ensures.value ∙ c.if-is_ascii_digit.true in
+    let digit = c.digit_of-digit.ensures.digit.0 c.if-digit-le9.true in
+    let counts = c.digit_of-digit.ensures.value digit in
     let more = value_more i.taken (get_or c.as_bytes-bytes.result.now c.loop-at.at 0) (sym (digit_is _) ∙ digit) in
     record {
       taken = i.taken ++ get_or c.as_bytes-bytes.result.now c.loop-at.at 0 ∷ [];
       read = read_digit _ _ _ _ c.utf8.text c.as_bytes-bytes.ensures.value c.loop-at-test.true i.read digit;
-      value = omega (arith, c.in_ok-value.ensures.1, more, i.value);
+      value = omega (arith, c.in_ok-value.ensures.1, more, i.value, counts);
       fits = omega (arith, c.in_ok-value.ensures);
     }
 
@@ -44,19 +43,20 @@ loop-at-preserved c =
 pub returns-in_err-value-clause-value : goal.returns-in_err-value-clause-value
 returns-in_err-value-clause-value c =
     let i = c.loop-at.invariant in
-    let digit = sym c.is_ascii_digit.ensures.value ∙ c.if-is_ascii_digit.true in
+    let digit = c.digit_of-digit.ensures.digit.0 c.if-digit-le9.true in
+    let counts = c.digit_of-digit.ensures.value digit in
     let read = read_digit _ _ _ _ c.utf8.text c.as_bytes-bytes.ensures.value c.loop-at-test.true i.read digit in
     let more = value_more i.taken (get_or c.as_bytes-bytes.result.now c.loop-at.at 0) (sym (digit_is _) ∙ digit) in
-    rw c.from_residual.ensures (number_passes _ _ _ read (omega (arith, c.in_err-value.ensures, more, i.value)))
+    rw c.from_residual.ensures (number_passes _ _ _ read (omega (arith, c.in_err-value.ensures, more, i.value, counts)))
 
 pub returns-clause-value : goal.returns-clause-value
 returns-clause-value c =
     let i = c.loop-at.invariant in
     let ended : begins is_numeric (chars (drop c.loop-at.at c.args.text.now)) ≡ false = elim c.loop-at-test.branch [
       | else-loop-at-test w ↦ ap (begins is_numeric) (no_chars_at c.args.text.now c.loop-at.at (omega (arith, w.loop-at-test.false, c.as_bytes-bytes.ensures.len)))
-      | then-loop-at-test+else-is_ascii_digit+in-None w ↦
+      | then-loop-at-test+else-digit-le9+in-None w ↦
           stops_here _ _ _ c.utf8.text c.as_bytes-bytes.ensures.value w.loop-at-test.true i.read.place
-          (sym w.is_ascii_digit.ensures.value ∙ w.if-is_ascii_digit.false) w.in-None.ensures
+          (false_from_ne_true _ (λ d. omega (arith, w.if-digit-le9.false, w.digit_of-digit.ensures.digit.1 d))) w.in-None.ensures
     ] in
     let front : c.range.result.now ≡ take c.loop-at.at c.args.text.now = grind (arith, common_steps) in
     rw (front, c.range_from.ensures.value) (number_ends _ _ _ _ _ i.value i.fits (all_read _ _ _ c.utf8.text i.read ended))
