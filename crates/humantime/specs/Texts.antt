@@ -12,17 +12,17 @@ abbrev pub past : (ℕ → Bool) → List ℕ → List ℕ
 past p [] = []
 past p (c ∷ cs) = if p c then past p cs else c ∷ cs
 
--- Tells whether a text begins with a character that passes a test.
+-- Tests whether a text begins with a character that passes a test.
 abbrev pub begins : (ℕ → Bool) → List ℕ → Bool
 begins p [] = false
 begins p (c ∷ cs) = p c
 
--- Tells whether a text ends with a character that passes a test.
+-- Tests whether a text ends with a character that passes a test.
 abbrev pub ends : (ℕ → Bool) → List ℕ → Bool
 ends p [] = false
 ends p (c ∷ []) = p c
 ends p (c ∷ d ∷ cs) = ends p (d ∷ cs)
 
--- Reads decimal digits as a number; no digits are 0.
+-- Reads decimal digits; no digits are 0.
 abbrev pub decimal_value : List ℕ → ℕ
 decimal_value ds = digits_value 10 ds

@@ -38,22 +38,22 @@ seconds_per_month = 2_630_016
 abbrev pub seconds_per_year : ℕ
 seconds_per_year = 31_557_600
 
--- Durations are the numbers of nanoseconds below this one, 2^64 seconds.
+-- Durations are below this, 2^64 seconds in nanoseconds.
 abbrev pub duration_end : ℕ
 duration_end = 2 ^ 64 * nanos_per_second
 
--- Gives the moment so many seconds, perhaps negative, and then so many nanoseconds after 1970-01-01T00:00:00Z.
+-- Gives a moment in nanoseconds, of seconds from 1970-01-01T00:00:00Z, perhaps negative, and nanoseconds.
 abbrev pub moment : ℤ → ℕ → ℤ
 moment secs nanos = secs *ℤ pos nanos_per_second +ℤ pos nanos
 
--- Gives the seconds of a moment, rounded down.
+-- Gives a moment's seconds, rounded down.
 abbrev pub second_of : ℤ → ℤ
 second_of t = int_div_euclid t (pos nanos_per_second)
 
--- Gives how many nanoseconds a moment is after its second, from 0 to 999,999,999.
+-- Gives a moment's nanoseconds after its second.
 abbrev pub nano_of : ℤ → ℕ
 nano_of t = nat_abs (int_rem_euclid t (pos nanos_per_second))
 
--- This is the first moment after those whose second fits an `i64`: 2^63 seconds.
+-- Moments are below this, 2^63 seconds in nanoseconds.
 abbrev pub moment_end : ℤ
 moment_end = pos (2 ^ 63 * nanos_per_second)

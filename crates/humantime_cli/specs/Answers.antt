@@ -23,7 +23,7 @@ abbrev pub TellsMoment : (ℤ → Type 0) → (TimestampError → Type 0) → Re
 TellsMoment IsMoment IsError (Ok printed) = (moment : ℤ) × IsMoment moment × IsPrinted moment (places_of moment) printed
 TellsMoment IsMoment IsError (Err message) = (error : TimestampError) × IsError error × (message ≡ timestamp_message error)
 
--- Of a text a command tells this: what it prints, or the message of the first thing that is wrong.
+-- A command tells this of a text: what it prints, or the first fault's message.
 abbrev pub Tells : {name : List ℕ} → Command name → List ℕ → Result (List ℕ) (List ℕ) → Type 0
 Tells Duration text (Ok printed) = IsCanonicalOf text printed
 Tells Duration text (Err message) = (fault : Fault) × HasFault (chars text) fault × (message ≡ fault_message fault)
@@ -34,13 +34,13 @@ Tells Weak text told = TellsMoment (IsWeakMoment text) (λ error. first_failed (
 abbrev pub Answer : Type 0
 Answer = Option (Result (List ℕ) (List ℕ))
 
--- The words have this answer: what a command tells of its text, or how the program is called where they are no command and its text.
+-- The words have this answer: what a command tells of its text, else the usage.
 abbrev pub Answers : List (List ℕ) → Answer → Type 0
 Answers words (Some told) =
     (name : List ℕ) × (command : Command name) × (text : List ℕ) × (words ≡ name ∷ text ∷ []) × Tells command text told
 Answers words None = (name : List ℕ) → Command name → (text : List ℕ) → words ≢ name ∷ text ∷ []
 
--- Gives the status of an answer, 0 to 2, and its bytes for standard output and for standard error.
+-- Gives an answer's status, 0 to 2, and its bytes for both streams.
 abbrev pub outcome : Answer → ℕ × List ℕ × List ℕ
 outcome (Some (Ok printed)) = (0, line printed, [])
 outcome (Some (Err message)) = (1, [], line message)
@@ -50,8 +50,7 @@ outcome None = (2, [], line (codes "usage: humantime duration|strict|weak TEXT")
 abbrev pub OneAnswer : List (List ℕ) → Type 0
 OneAnswer words = (answer other : Answer) → Answers words answer → Answers words other → other ≡ answer
 
--- The program ends with an answer: the writers took just that, or the status is 3, one writer took a prefix of it and not all, and the
--- other nothing.
+-- The writers took just the answer, with its status; or the status is 3, one took a prefix, not all, the other nothing.
 pub data EndsWith (answer : Answer) (status : ℕ) (old_out new_out old_err new_err : Option (List ℕ)) : Type 0 where
   -- just the answer
   Whole : status ≡ (outcome answer).0 → Appends old_out new_out (outcome answer).1 → Appends old_err new_err (outcome answer).2

@@ -11,7 +11,7 @@ line text = text ++ 10 ∷ []
 abbrev pub joined : List (Bor (List ℕ)) → List ℕ
 joined texts = flat_map (λ text. text.now) texts
 
--- The writer took a prefix of the bytes, and not all of them.
+-- The writer took a prefix of the bytes, not all.
 abbrev pub AppendsFront : Option (List ℕ) → Option (List ℕ) → List ℕ → Type 0
 AppendsFront old new bytes = (n : ℕ) × (n < length bytes) × Appends old new (take n bytes)
 

@@ -48,7 +48,7 @@ additions_at (Some u) s = times (decimal_value s.number) u.one ∷ fraction_addi
 abbrev pub additions_of : Span → List Addition
 additions_of s = additions_at (scale_of_word s.word) s
 
--- Lists what the spans add, in order: each its number times its unit, and then its fraction.
+-- Lists what the spans add, each number before its fraction.
 abbrev pub additions : List Span → List Addition
 additions spans = flat_map additions_of spans
 
@@ -56,53 +56,51 @@ additions spans = flat_map additions_of spans
 abbrev pub value : List Span → ℕ
 value spans = total (additions spans)
 
--- Tells whether there is something and it passes a test.
+-- Tests whether there is something and it passes a test.
 abbrev pub is_some_and : {A : Type 0} → (A → Bool) → Option A → Bool
 is_some_and passes None = false
 is_some_and passes (Some x) = passes x
 
--- Tells whether the span's number is above the greatest `u64`, or its fraction has more than 19 digits before the zeros at its end.
+-- Tests whether the number exceeds a `u64`, or the fraction 19 digits without trailing zeros.
 abbrev pub too_long : Span → Bool
 too_long s = nat_lt u64_max (decimal_value s.number) || is_some_and (λ ds. nat_lt 19 (length (significant ds))) s.fraction
 
--- The span is not too long, and its word is a unit's.
+-- The span is not `too_long`, and its word a unit's.
 pub record Formed (s : Span) : Type 0 where
   pub short : too_long s ≡ false
   pub word : IsSome (scale_of_word s.word)
 
--- Tells whether these digits behind a point are a whole part of `n`, and the product before the division fits a `u64`.
+-- Tests whether `0.ds` times `n` is whole, and `ds` times `n` fits a `u64`.
 abbrev pub is_whole_part : ℕ → List ℕ → Bool
 is_whole_part n ds = nat_le (decimal_value ds * n) u64_max && (decimal_value ds * n % 10 ^ length ds == 0)
 
--- Tells whether a fraction, if there is one, passes `is_whole_part` without the zeros at its end; where its unit has no fractions, it may
--- be zeros alone.
+-- Tests a fraction, if any, without trailing zeros: `is_whole_part`, or empty where its unit has no fractions.
 abbrev pub fraction_fits : Option Addition → Option (List ℕ) → Bool
 fraction_fits _ None = true
 fraction_fits None (Some ds) = length (significant ds) == 0
 fraction_fits (Some x) (Some ds) = is_whole_part (amount x) (significant ds)
 
--- Tells whether the span's word is a unit's, the product of its number with the unit fits a `u64`, and its fraction fits the unit.
+-- Tests for a unit's word, number times unit within a `u64`, and a fraction that fits.
 abbrev pub fits : Span → Bool
 fits s = is_some_and (λ u. nat_le (decimal_value s.number * amount u.one) u64_max && fraction_fits u.fraction s.fraction)
     (scale_of_word s.word)
 
--- Tells whether an addition may follow `t` nanoseconds: the whole seconds of the sum fit a `u64`, and where nanoseconds are added, so do
--- these and the nanoseconds of `t` beyond its whole seconds, together.
+-- Tests whether the sum's whole seconds fit a `u64`, as do nanoseconds added to those of `t` below a second.
 abbrev pub room : ℕ → Addition → Bool
 room t (Nanos n) = nat_le (t % nanos_per_second + n) u64_max && nat_le ((t + n) / nanos_per_second) u64_max
 room t (Seconds n) = nat_le (t / nanos_per_second + n) u64_max
 
--- Each addition has room after the sum of those before it.
+-- Each addition has room after those before it.
 abbrev pub AllHaveRoom : List Addition → Type 0
 AllHaveRoom xs = (before after : List Addition) (x : Addition) → xs ≡ before ++ x ∷ after → room (total before) x ≡ true
 
--- The spans keep all limits: each is formed and fits, and each addition has room.
+-- Each span is formed and fits, and each addition has room.
 pub record WithinLimits (spans : List Span) : Type 0 where
   pub formed : AllByRecursion Formed spans
   pub fit : AllByRecursion (λ s. fits s ≡ true) spans
   pub room : AllHaveRoom (additions spans)
 
--- The text stands for `d` nanoseconds: it is exactly `0` and `d` is 0, or it is spans within the limits with the value `d`.
+-- The text is exactly `0` and `d` is 0, or spans within the limits with value `d`.
 pub data Accepted (text : List ℕ) (d : ℕ) : Type 0 where
   -- it is exactly `0`
   Bare_zero : text ≡ bare_zero → d ≡ 0 → Accepted text d

@@ -4,7 +4,7 @@ use Rattle.std.specs.Char.{char_set_contains, is_ascii_digit, is_ascii_alphabeti
 use Rattle.std.specs.Str.{byte}
 use Rattle.humantime.specs.Texts.{past}
 
--- Lists the 25 characters that Unicode calls white space.
+-- Lists Unicode's 25 white-space characters.
 unfoldable pub white_spaces : List ℕ
 white_spaces =
     0x9 ∷ 0xa ∷ 0xb ∷ 0xc ∷ 0xd ∷ 0x20 ∷ 0x85 ∷ 0xa0 ∷ 0x1680 ∷ 0x2000 ∷ 0x2001 ∷ 0x2002 ∷ 0x2003 ∷ 0x2004 ∷ 0x2005 ∷ 0x2006
@@ -22,19 +22,19 @@ greek_mu = 0x3bc
 abbrev pub micro_suffix : List ℕ
 micro_suffix = 0xc2 ∷ 0xb5 ∷ codes "s"
 
--- Tells whether a character is white space.
+-- Tests whether a character is white space.
 unfoldable pub is_ws : ℕ → Bool
 is_ws c = char_set_contains white_spaces c
 
--- Tells whether a character is one of `0` to `9`.
+-- Tests whether a character is one of `0` to `9`.
 unfoldable pub is_digit : ℕ → Bool
 is_digit c = is_ascii_digit c
 
--- Tells whether a character is an ASCII letter, the micro sign or the Greek letter mu.
+-- Tests for an ASCII letter, the micro sign or Greek mu.
 unfoldable pub is_letter : ℕ → Bool
 is_letter c = is_ascii_alphabetic c || c == micro_sign || c == greek_mu
 
--- Tells whether a character is `.`.
+-- Tests whether a character is `.`.
 unfoldable pub is_point : ℕ → Bool
 is_point c = c == byte "."
 
@@ -42,7 +42,7 @@ is_point c = c == byte "."
 abbrev pub bare_zero : List ℕ
 bare_zero = codes "0"
 
--- Tells whether a character is a digit or white space, as in a number.
+-- Tests whether a character is a digit or white space, as in a number.
 abbrev pub is_numeric : ℕ → Bool
 is_numeric c = is_digit c || is_ws c
 
@@ -62,6 +62,6 @@ u64_max = 18446744073709551615
 abbrev pub byte_length : List ℕ → ℕ
 byte_length cs = length (encode_utf8_all cs)
 
--- Gives the offset in bytes at which the last part of a text begins.
+-- Gives the byte offset of a text's last part.
 abbrev pub offset_of : List ℕ → List ℕ → ℕ
 offset_of text rest = byte_length text - byte_length rest

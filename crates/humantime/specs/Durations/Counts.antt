@@ -8,8 +8,7 @@ use Rattle.humantime.specs.Durations.Characters.{micro_suffix}
 use Rattle.humantime.specs.Values.{nanos_per_micro, nanos_per_milli, nanos_per_second, seconds_per_minute, seconds_per_hour, seconds_per_day, seconds_per_month, seconds_per_year}
 use Rattle.humantime.specs.Durations.Accepted.{Accepted}
 
--- Lists the weights of the nine counts in nanoseconds: of years, months, days, hours, minutes, seconds, milliseconds, microseconds and
--- nanoseconds.
+-- Lists year, month, day, hour, minute, second, millisecond, microsecond and nanosecond, in nanoseconds.
 abbrev pub weights : List ℕ
 weights =
     seconds_per_year * nanos_per_second ∷ seconds_per_month * nanos_per_second ∷ seconds_per_day * nanos_per_second
@@ -29,7 +28,7 @@ pub record AreGreatest (ws : List ℕ) (d : ℕ) (counts : List ℕ) : Type 0 wh
   pub greatest : (others : List ℕ) → length others ≡ length ws → weighted_sum ws others ≡ d
       → IsTrue (is_le (slice_cmp nat_cmp others counts))
 
--- The nine counts, each times its weight, have the sum `d`, and all others that have it are lexicographically at most these.
+-- Of nine counts whose weighted sum is `d`, these are lexicographically greatest.
 abbrev pub Counts : ℕ → List ℕ → Type 0
 Counts d counts = AreGreatest weights d counts
 
@@ -56,13 +55,13 @@ abbrev pub joined_by_space : List (List ℕ) → List ℕ
 joined_by_space [] = codes "0s"
 joined_by_space ps = join_with_byte (byte " ") ps
 
--- The bytes are the canonical text of `d` nanoseconds: its counts that are not zero, each with its suffix, joined by one space, or `0s`.
+-- The canonical text of `d` nanoseconds is its nonzero counts with suffixes, joined by one space, or `0s`.
 pub record Canon (d : ℕ) (bytes : List ℕ) : Type 0 where
   pub counts : List ℕ
   pub are : Counts d counts
   pub shown : bytes ≡ joined_by_space (printed_counts counts suffixes)
 
--- The first text is accepted, and the second is the canonical text of its duration.
+-- The first text is accepted; the second is its duration's canonical text.
 pub record IsCanonicalOf (bytes printed : List ℕ) : Type 0 where
   pub duration : ℕ
   pub accepted : Accepted (chars bytes) duration

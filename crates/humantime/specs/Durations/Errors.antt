@@ -8,7 +8,7 @@ use Rattle.humantime.specs.declared.duration.error.DurationError.{DurationError}
 use Rattle.humantime.specs.Durations.Faults.{Fault, InvalidCharacter, NumberExpected, UnknownUnit, NumberOverflow, Empty}
 use Rattle.humantime.specs.declared.duration.error.DurationError.TheVariants as errors
 
--- Gives the fault that an error names, a unit by its bytes.
+-- Gives the fault that an error names.
 abbrev pub fault_of : DurationError → Fault
 fault_of (errors.InvalidCharacter at) = InvalidCharacter at
 fault_of (errors.NumberExpected at) = NumberExpected at
@@ -16,11 +16,11 @@ fault_of (errors.UnknownUnit start end unit value) = UnknownUnit start end unit.
 fault_of errors.NumberOverflow = NumberOverflow
 fault_of errors.Empty = Empty
 
--- Gives a result in nanoseconds, its error as the fault that it names.
+-- Turns a result's error into its fault.
 abbrev pub told : Result ℕ DurationError → Result ℕ Fault
 told r = result_map_both (λ d. d) fault_of r
 
--- Gives a result as the bytes of its text, its error as the fault that it names.
+-- Turns a result into its text's bytes or its fault.
 abbrev pub told_text : Result (Bor (List ℕ)) DurationError → Result (List ℕ) Fault
 told_text r = result_map_both (λ t. t.now) fault_of r
 
@@ -33,7 +33,7 @@ abbrev pub IsPartOf : List ℕ → List ℕ → ℕ → ℕ → Type 0
 IsPartOf bytes part start end =
     (start ≤ end) × IsCharBoundary bytes start × IsCharBoundary bytes end × (part ≡ slice_range bytes start end)
 
--- The error's offset is that of a character of the text, and its unit is the text's slice between its offsets.
+-- The error's offset is a character's, its unit the slice between its offsets.
 abbrev pub PointsInto : List ℕ → DurationError → Type 0
 PointsInto bytes (errors.InvalidCharacter at) = IsPlaceIn bytes at
 PointsInto bytes (errors.NumberExpected at) = IsPlaceIn bytes at
@@ -49,7 +49,7 @@ unit_message (b ∷ bs) value =
     ++ (codes "\", supported units: ns, us/" ++ micro_suffix
     ++ codes ", ms, sec, min, hours, days, weeks, months, years (and few variations)")
 
--- Gives the message of a fault.
+-- Gives a fault's message.
 abbrev pub fault_message : Fault → List ℕ
 fault_message (InvalidCharacter at) = codes "invalid character at " ++ decimal at
 fault_message (NumberExpected at) = codes "expected number at " ++ decimal at

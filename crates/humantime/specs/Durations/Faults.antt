@@ -39,7 +39,7 @@ after_word rest = past is_letter (after_fraction rest)
 abbrev pub span_of : List ℕ → Span
 span_of rest = record { number = number_of rest; fraction = fraction_of rest; word = word_of rest }
 
--- A fault is what is wrong with a text, with offsets in bytes, and the bytes of a unit.
+-- A fault is an error with byte offsets and its unit's bytes.
 pub data Fault : Type 0 where
   InvalidCharacter : (at : ℕ) → Fault
   NumberExpected : (at : ℕ) → Fault
@@ -53,14 +53,13 @@ pub record Split (text front : List ℕ) (spans : List Span) (rest : List ℕ) :
   pub spelled : SpellsAll front spans
   pub no_space : begins is_ws rest ≡ false
 
--- Tells whether a digit, white space or the end follows a word.
+-- Tests whether a digit, white space or the end follows a word.
 abbrev pub ends_span : List ℕ → Bool
 ends_span [] = true
 ends_span (c ∷ cs) = is_numeric c
 
--- Finds the fault of the span that begins a rest, the first of these: it is too long; a character that is no letter stands where the word
--- begins; a point has no digits; behind the letters stands neither a digit nor white space nor the end; the letters are no unit's word, or
--- the text ends where the word begins.
+-- Finds the first fault of a rest's first span: too long; no letter or end where the word begins; a point without digits; no digit, white
+-- space or end after the word; a word, perhaps empty, of no unit.
 unfoldable pub stop_at : List ℕ → List ℕ → Option Fault
 stop_at text rest =
     if too_long (span_of rest) then Some NumberOverflow
@@ -71,12 +70,11 @@ stop_at text rest =
     else Some (UnknownUnit (offset_of text (after_fraction rest)) (offset_of text (after_word rest))
     (encode_utf8_all (word_of rest)) (decimal_value (number_of rest)))
 
--- Finds the fault at a rest: no digit begins it, or its span has a fault.
+-- Gives `NumberExpected` where no digit begins the rest, else `stop_at`.
 abbrev pub fault_at : List ℕ → List ℕ → Option Fault
 fault_at text rest = if begins is_digit rest then stop_at text rest else Some (NumberExpected (offset_of text rest))
 
--- Behind the spans the rest goes wrong with the fault `e`, whatever the spans add up to: there are no spans and no rest, or the rest has
--- that fault.
+-- After the spans comes the fault `e`: the rest's, or `Empty` with neither spans nor rest.
 pub data Stops (text front : List ℕ) (spans : List Span) (rest : List ℕ) (e : Fault) : Type 0 where
   -- there is nothing, or only white space
   Nothing_there : spans ≡ [] → rest ≡ [] → e ≡ Empty → Stops text front spans rest e
@@ -84,8 +82,7 @@ pub data Stops (text front : List ℕ) (spans : List Span) (rest : List ℕ) (e 
   Wrong_there : rest ≢ [] → (spans ≡ []) ⊎ ((ends is_ws front ≡ true) ⊎ (begins is_digit rest ≡ true))
       → fault_at text rest ≡ Some e → Stops text front spans rest e
 
--- The text is not exactly `0`. It is spans within the limits and then a rest that stops with `e`, or that begins with a whole span with
--- which they break a limit, where `e` is `NumberOverflow`.
+-- The text, not exactly `0`, is spans within the limits, then the fault `e`, or a span that breaks a limit: `NumberOverflow`.
 pub record HasFault (text : List ℕ) (e : Fault) : Type 0 where
   pub not_zero : text ≢ bare_zero
   pub front : List ℕ

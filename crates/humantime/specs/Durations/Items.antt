@@ -13,7 +13,7 @@ abbrev pub Ends : List ℕ → List ℕ → List Span → List ℕ → Option Fa
 Ends text front spans rest None = (rest ≡ []) × (spans ≢ [])
 Ends text front spans rest (Some e) = Stops text front spans rest e
 
--- The text begins with these spans, each formed, and ends after them, or stops there with the fault.
+-- The text is these spans, each formed, then the end or the fault.
 pub record Items (text : List ℕ) (spans : List Span) (stop : Option Fault) : Type 0 where
   pub front : List ℕ
   pub rest : List ℕ
@@ -21,7 +21,7 @@ pub record Items (text : List ℕ) (spans : List Span) (stop : Option Fault) : T
   pub formed : AllByRecursion Formed spans
   pub ends : Ends text front spans rest stop
 
--- A span lends the slices of its number, fraction and word, the offsets where its number begins and its word ends, and its number.
+-- A span lends slices, the offsets of its start and its word's end, and its number.
 pub record Lent : Type 0 where
   pub number : List ℕ
   pub fraction : Option (List ℕ)
@@ -30,7 +30,7 @@ pub record Lent : Type 0 where
   pub end : ℕ
   pub value : ℕ
 
--- The slice goes from the first digit of the text to the last, and only white space stands around it.
+-- The slice is the text without outer white space, from digit to digit.
 pub record IsDigitSlice (text slice : List ℕ) : Type 0 where
   pub before : List ℕ
   pub after : List ℕ
@@ -45,7 +45,7 @@ abbrev pub LendsFraction : List ℕ → Option (List ℕ) → Type 0
 LendsFraction text None = text ≡ []
 LendsFraction text (Some slice) = (behind : List ℕ) × (text ≡ byte "." ∷ behind) × IsDigitSlice behind slice
 
--- From `here` on the text spells the span and goes on with `next`, and `x` is what the span lends.
+-- From `here` stand the span and then `next`; the span lends `x`.
 pub record IsLent (text here : List ℕ) (s : Span) (x : Lent) (next : List ℕ) : Type 0 where
   pub spelled : Spells here s next
   pub number : IsDigitSlice spelled.number_text x.number
@@ -65,7 +65,7 @@ LendsEach text here _ _ end = ⊥
 abbrev pub items_of : {A : Type 0} → List A → Option Fault → List (Result A Fault)
 items_of found stop = map Ok found ++ option_to_list (option_map Err stop)
 
--- The text's items are what each of its spans lends, and then the fault that stops them, if there is one.
+-- The items are what each span lends, then the fault, if any.
 pub record AreItems (text : List ℕ) (lent : List (Result Lent Fault)) : Type 0 where
   pub spans : List Span
   pub stop : Option Fault

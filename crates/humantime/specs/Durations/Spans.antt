@@ -6,7 +6,7 @@ use Rattle.std.specs.Str.{byte}
 use Rattle.humantime.specs.Texts.{begins}
 use Rattle.humantime.specs.Durations.Characters.{is_ws, is_letter, is_numeric, is_digit, digits}
 
--- A span is the digits of its number, those of its fraction if it has one, and its word.
+-- A span has a number's digits, perhaps a fraction's, and a word.
 pub record Span : Type 0 where
   pub number : List ℕ
   pub fraction : Option (List ℕ)
@@ -24,14 +24,12 @@ HoldsDigits text ds = Only is_numeric text × (digits text ≡ ds)
 abbrev pub IsLetters : List ℕ → Type 0
 IsLetters text = Only is_letter text × (text ≢ [])
 
--- The text is empty, and there is no fraction; or it is a point and the fraction's digits, at least one, with white space anywhere after
--- the point.
+-- Without a fraction the text is empty, else a point, then digits, at least one, among any white space.
 abbrev pub SpellsFraction : List ℕ → Option (List ℕ) → Type 0
 SpellsFraction text None = text ≡ []
 SpellsFraction text (Some ds) = (behind : List ℕ) × (text ≡ byte "." ∷ behind) × HoldsDigits behind ds × (ds ≢ [])
 
--- The text spells the span and goes on with `rest`. The span is its number, which begins with a digit, its fraction, its word and white
--- space.
+-- The text is the span's number, from a digit on, fraction, word and any white space, then `rest`.
 pub record Spells (text : List ℕ) (span : Span) (rest : List ℕ) : Type 0 where
   pub number_text : List ℕ
   pub fraction_text : List ℕ
@@ -56,6 +54,6 @@ pub record SpellsAll (text : List ℕ) (spans : List Span) : Type 0 where
   pub only_space : Only is_ws space
   pub each : SpellsEach body spans
 
--- The text spells these spans, at least one, perhaps after white space.
+-- The text is these spans, at least one, after any white space.
 abbrev pub Reads : List ℕ → List Span → Type 0
 Reads text spans = SpellsAll text spans × (spans ≢ [])

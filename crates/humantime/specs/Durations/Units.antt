@@ -4,12 +4,12 @@ use Rattle.std.specs.Map.{lookup}
 use Rattle.humantime.specs.Values.{nanos_per_micro, nanos_per_milli, nanos_per_second, seconds_per_minute, seconds_per_hour, seconds_per_day, seconds_per_week, seconds_per_month, seconds_per_year}
 use Rattle.humantime.specs.Durations.Characters.{micro_sign, greek_mu}
 
--- An addition is so many nanoseconds, or so many seconds.
+-- An addition is nanoseconds or seconds.
 pub data Addition : Type 0 where
   Nanos : ℕ → Addition
   Seconds : ℕ → Addition
 
--- A scale says what one of a unit adds, and what its fractions are parts of, if it has any.
+-- A scale has a unit's addition, and perhaps one for its fractions.
 pub record Scale : Type 0 where
   pub one : Addition
   pub fraction : Option Addition
@@ -34,7 +34,7 @@ in_seconds size = record { one = Seconds size; fraction = Some (Seconds size) }
 abbrev unit_words : List (List ℕ) → Scale → List (List ℕ × Scale)
 unit_words spellings scale = map (λ word. (word, scale)) spellings
 
--- Lists the words of the ten units, each with its scale.
+-- Lists the ten units' words with their scales.
 abbrev pub words : List (List ℕ × Scale)
 words =
     unit_words (codes "nanos" ∷ codes "nsec" ∷ codes "ns" ∷ []) whole_nanos

@@ -10,7 +10,7 @@ use Rattle.humantime.specs.Durations.Units.{Addition, Scale, scale_of_word}
 use Rattle.humantime.specs.Durations.Spans.{Span, Only, Reads}
 use Rattle.humantime.specs.Durations.Accepted.{amount, additions, value, is_whole_part, AllHaveRoom, Accepted}
 
--- Tells whether a character was a letter while the Greek letter mu was none: a to z, A to Z or the micro sign.
+-- Tests whether a character was a letter while the Greek letter mu was none: a to z, A to Z or the micro sign.
 abbrev pub is_older_letter : ℕ → Bool
 is_older_letter c = is_ascii_alphabetic c || c == micro_sign
 
@@ -51,7 +51,7 @@ WasAccepted text = (v : ℕ) × AcceptedWithZeros text v
 abbrev pub HasMu : List ℕ → Type 0
 HasMu text = (before : List ℕ) × (after : List ℕ) × (text ≡ before ++ greek_mu ∷ after)
 
--- What was accepted while zeros at the end of a fraction counted is accepted with the same value; so that is its answer.
+-- What was accepted while trailing zeros of fractions counted keeps its value.
 pub record KeepsValueWithZeros (text : List ℕ) : Type 0 where
   pub value : (v : ℕ) → AcceptedWithZeros text v → Accepted text v
   pub answer : (v : ℕ) → AcceptedWithZeros text v → duration_answer text ≡ Ok v

@@ -14,7 +14,7 @@ abbrev pub IsOutcome : List ℕ → Result ℕ Fault → Type 0
 IsOutcome text (Ok v) = Accepted text v
 IsOutcome text (Err e) = HasFault text e
 
--- A text has one value or one first fault, at most one list of spans, and one list of items; what is answered is that value or fault.
+-- A text has one value or fault, which is answered, one list of items, at most one of spans.
 pub record HasOneOutcome (text : List ℕ) : Type 0 where
   -- it has exactly one value and no fault, or exactly one fault and no value
   pub outcome : ExactlyOne (IsOutcome text)
@@ -27,7 +27,7 @@ pub record HasOneOutcome (text : List ℕ) : Type 0 where
   -- and so is a fault
   pub fault : (e : Fault) → (duration_answer text ≡ Err e) ↔ HasFault text e
 
--- The items of a text decide its value or its fault, unless it is exactly `0`.
+-- Items decide a text's value or fault, unless it is exactly `0`.
 pub record ItemsDecide (text : List ℕ) : Type 0 where
   -- it has exactly one list of spans with what stops them
   pub one : ExactlyOne (λ (list : List Span × Option Fault). Items text list.0 list.1)
@@ -44,7 +44,7 @@ pub record ItemsDecide (text : List ℕ) : Type 0 where
   pub too_large : (spans : List Span) (stop : Option Fault) → Items text spans stop → text ≢ bare_zero
       → ¬ (WithinLimits spans) → HasFault text NumberOverflow
 
--- A text lends one list of slices, and no other.
+-- A text lends exactly one list of items.
 pub record LendsOneList (text : List ℕ) : Type 0 where
   -- it has exactly one list of items with what they lend
   pub one : ExactlyOne (AreItems text)

@@ -7,7 +7,7 @@ use Rattle.humantime.specs.References.Durations.Answers.{canonical_answer, durat
 use Rattle.humantime.specs.Durations.Faults.{Fault, HasFault}
 use Rattle.humantime.specs.Laws.ExactlyOne.{ExactlyOne}
 
--- A duration of `d` nanoseconds has one canonical text, which is printed and is accepted with `d`.
+-- A duration's one canonical text is printed, and accepted with that duration.
 pub record PrintsAndReads (d : ℕ) : Type 0 where
   -- they have one canonical text, and no other
   pub one : ExactlyOne (Canon d)
@@ -19,22 +19,21 @@ pub record PrintsAndReads (d : ℕ) : Type 0 where
   -- and so it is answered
   pub answer : duration_answer (chars (duration_text d)) ≡ Ok d
 
--- The canonical texts of two durations are equal exactly where these are, and so are the texts that are printed.
+-- Two durations' canonical and printed texts are equal exactly where the durations are.
 pub record PrintApart (a b : ℕ) : Type 0 where
   -- the canonical texts of a and of b nanoseconds are equal exactly where a and b are
   pub canon : (bytes other : List ℕ) → Canon a bytes → Canon b other → ((bytes ≡ other) ↔ (a ≡ b))
   -- and so are the texts that are printed
   pub text : (duration_text a ≡ duration_text b) ↔ (a ≡ b)
 
--- The canonical text of `d` nanoseconds has at most 64 bytes, and its counts at most 11 months and 30 days.
+-- A canonical text has at most 64 bytes, 11 months and 30 days.
 pub record IsBounded (d : ℕ) : Type 0 where
   -- the text has at most 64 bytes
   pub length : (bytes : List ℕ) → Canon d bytes → length bytes ≤ 64
   -- its counts are at most 11 months and at most 30 days
   pub counts : (counts : List ℕ) → Counts d counts → ((slice_index counts 1 ≤ 11) × (slice_index counts 2 ≤ 30))
 
--- What a text spells has a canonical text, which keeps the value and is its own canonical text; what is answered is that text or the first
--- fault.
+-- An accepted text's canonical text keeps the value and is canonical again; it is answered, or the fault.
 pub record IsCanonicalAgain (s : List ℕ) : Type 0 where
   -- a text that is accepted has a canonical text
   pub some : (v : ℕ) → Accepted (chars s) v → (printed : List ℕ) × IsCanonicalOf s printed

@@ -27,15 +27,14 @@ pub record AreReordered (a b : List ℕ) : Type 0 where
   pub other_reads : Reads b others
   pub moved : IsPermutation spans others
 
--- What is accepted is accepted without its white space, with the same value; so its answer is the same.
+-- An accepted text keeps its value without its white space.
 pub record KeepsValueWithoutSpace (text : List ℕ) : Type 0 where
   -- what is accepted is accepted without it, with the same value
   pub value : (v : ℕ) → Accepted text v → Accepted (without_white_space text) v
   -- and so is what is answered
   pub answer : (v : ℕ) → duration_answer text ≡ Ok v → duration_answer (without_white_space text) ≡ Ok v
 
--- Two accepted texts, neither exactly `0`, are accepted one behind the other with the sum exactly where their additions have room, and are
--- else too large.
+-- Two accepted texts, neither `0`, joined have the sum exactly where their additions have room, else are too large.
 pub record AddWhenJoined (a b : List ℕ) : Type 0 where
   -- each that is accepted is exactly `0`, or it is spans
   pub first : IsZeroOrSpans a
@@ -53,7 +52,7 @@ pub record AddWhenJoined (a b : List ℕ) : Type 0 where
   pub answer : (u v : ℕ) → duration_answer a ≡ Ok u → duration_answer b ≡ Ok v → a ≢ bare_zero → b ≢ bare_zero
       → (duration_answer (a ++ b) ≡ Ok (u + v)) ⊎ (duration_answer (a ++ b) ≡ Err NumberOverflow)
 
--- Accepted texts whose spans are reorderings of each other have equal values; the text `0` has no spans.
+-- Accepted texts with reordered spans have equal values; `0` has no spans.
 pub record KeepValueReordered (a b : List ℕ) : Type 0 where
   -- texts whose spans are reorderings of each other are accepted with equal values
   pub value : (ss ts : List Span) (u v : ℕ) → Reads a ss → Reads b ts → IsPermutation ss ts

@@ -15,7 +15,7 @@ use Rattle.humantime.specs.Laws.ExactlyOne.{ExactlyOne}
 abbrev pub IsMarked : List ℕ → Type 0
 IsMarked b = (slice_index b 10 ≡ byte "T") × IsTrue (ends_in_zone b)
 
--- Two moments, printed with equally many digits, have texts whose bytes are in the order of the moments, cut.
+-- Two moments' texts with equally many digits sort, as bytes, as the moments, cut.
 abbrev pub InOrder : ℤ → ℤ → Type 0
 InOrder a b =
     (k : ℕ) (x y : List ℕ) → IsPrinted a k x → IsPrinted b k y
@@ -26,8 +26,7 @@ pub record ReadsAs (bytes : List ℕ) (t : ℤ) : Type 0 where
   pub strict : IsStrictMoment bytes t
   pub weak : IsWeakMoment bytes t
 
--- In one form a text shows some parts exactly where no check fails, and then no others; the answer is their moment, or the error of the
--- first check that fails.
+-- A text shows one set of parts exactly where no check fails; the answer is their moment, else `first_failed`.
 pub record OneTimestamp (checks : List (Bool × TimestampError)) (IsShown : Fields → Type 0)
     (answer : Result ℤ TimestampError) : Type 0 where
   -- some parts are shown exactly where no check fails
@@ -39,7 +38,7 @@ pub record OneTimestamp (checks : List (Bool × TimestampError)) (IsShown : Fiel
   -- or the error of the first check that fails
   pub error : (e : TimestampError) → (answer ≡ Err e) ↔ (first_failed checks ≡ Some e)
 
--- The strict form is the weak one with a `T` and a zone: of the parts, of the moment, and of the answer.
+-- The strict form is the weak one with `T` and a zone: parts, moment, answer.
 pub record StrictForm (text : List ℕ) : Type 0 where
   -- a text in strict form is one in weak form with these marks
   pub parts : (f : Fields) → IsStrict text f ↔ (IsWeak text f × IsMarked text)
@@ -51,7 +50,7 @@ pub record StrictForm (text : List ℕ) : Type 0 where
   -- and what is answered in weak form, of a text with these marks, is answered in strict form
   pub strict : (t : ℤ) → weak_answer text ≡ Ok t → IsMarked text → strict_answer text ≡ Ok t
 
--- A moment of 1970 to 9999 has one text with `k` digits, which `Display` writes and both parsers read as the moment, cut.
+-- A printable moment has one `k`-digit text, which `Display` writes, and both parsers read as the moment, cut.
 pub record PrintedMoment (t : ℤ) (k : ℕ) : Type 0 where
   -- one text is this moment, printed, and no other
   pub one : IsPrintable t → ExactlyOne (IsPrinted t k)

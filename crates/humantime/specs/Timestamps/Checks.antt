@@ -10,11 +10,11 @@ use Rattle.humantime.specs.declared.date.parse.Numbers.{Numbers}
 use Rattle.humantime.specs.Calendar.{is_valid}
 use Rattle.humantime.specs.Timestamps.Fields.{Zone, No_zone, Letter_Z, Zero_offset, zone_text}
 
--- Tells whether the text ends in this zone.
+-- Tests whether the text ends in this zone.
 abbrev pub ends_in : Zone → List ℕ → Bool
 ends_in z b = ends_with nat_eq b (zone_text z)
 
--- Tells whether the text ends in `Z` or `+00:00`.
+-- Tests whether the text ends in `Z` or `+00:00`.
 abbrev pub ends_in_zone : List ℕ → Bool
 ends_in_zone b = ends_in Letter_Z b || ends_in Zero_offset b
 
@@ -26,25 +26,25 @@ zone_of b = if ends_in Letter_Z b then Letter_Z else (if ends_in Zero_offset b t
 abbrev pub before_zone : List ℕ → List ℕ
 before_zone b = take (length b - length (zone_text (zone_of b))) b
 
--- Tells whether the text has at least 20 bytes, a `T` between date and time, and `Z` or `+00:00` at its end.
+-- Tests for at least 20 bytes, `T` at byte 10, and `Z` or `+00:00` last.
 unfoldable pub has_marks : List ℕ → Bool
 has_marks b = nat_le 20 (length b) && (slice_index b 10 == byte "T") && ends_in_zone b
 
--- Tells whether `T` or a space stands between date and time.
+-- Tests whether `T` or a space stands between date and time.
 unfoldable pub has_separator : List ℕ → Bool
 has_separator b = (slice_index b 10 == byte "T") || (slice_index b 10 == byte " ")
 
--- Tells whether `-`, `-`, a separator, `:` and `:` stand in their places.
+-- Tests for `-`, `-`, a separator, `:` and `:` in their places.
 unfoldable pub has_signs : List ℕ → Bool
 has_signs b =
     (slice_index b 4 == byte "-") && (slice_index b 7 == byte "-") && has_separator b
     && (slice_index b 13 == byte ":") && (slice_index b 16 == byte ":")
 
--- Tells whether two digits stand from place `k` on.
+-- Tests whether two digits stand from place `k` on.
 unfoldable pub has_two : List ℕ → ℕ → Bool
 has_two b k = is_ascii_digit (slice_index b k) && is_ascii_digit (slice_index b (k + 1))
 
--- Tells whether digits stand in all places between the signs.
+-- Tests the other 14 of the first 19 bytes for digits.
 unfoldable pub has_digits : List ℕ → Bool
 has_digits b = list_all (λ k. has_two b k) (0 ∷ 2 ∷ 5 ∷ 8 ∷ 11 ∷ 14 ∷ 17 ∷ [])
 
@@ -61,7 +61,7 @@ numbers_of b = record {
   second = number_between b 17 19;
 }
 
--- Tells whether the numbers are a date of 1970 to 9999 that exists, and a time of day, perhaps with a second 60.
+-- Tests for a valid date, and hour, minute, second up to 23, 59, 60.
 unfoldable pub are_in_range : Numbers → Bool
 are_in_range x =
     is_valid x.date.year x.date.month x.date.day && nat_le x.hour 23 && nat_le x.minute 59 && nat_le x.second 60
@@ -70,11 +70,11 @@ are_in_range x =
 abbrev pub fraction_part : List ℕ → List ℕ
 fraction_part b = before_zone (drop 19 b)
 
--- Tells whether what stands between the seconds and the zone is nothing or begins with a point.
+-- Tests whether a fraction part is empty or begins with a point.
 unfoldable pub has_point : List ℕ → Bool
 has_point part = (length part == 0) || (slice_index part 0 == byte ".")
 
--- Lists the checks of the weak form in their order, each with the error of a text that fails it.
+-- Lists the weak form's checks in order, with their errors.
 abbrev pub weak_checks : List ℕ → List (Bool × TimestampError)
 weak_checks b =
     (nat_le 19 (length b), InvalidFormat)
@@ -85,16 +85,16 @@ weak_checks b =
     ∷ (all_ascii_digits (drop 1 (fraction_part b)), InvalidDigit)
     ∷ []
 
--- Lists the checks of the strict form: `has_marks` first, and then those of the weak form.
+-- Puts `has_marks` before the weak form's checks.
 abbrev pub strict_checks : List ℕ → List (Bool × TimestampError)
 strict_checks b = (has_marks b, InvalidFormat) ∷ weak_checks b
 
--- Gives the error of the first check that fails, if one does.
+-- Gives the first failed check's error, if any.
 abbrev pub first_failed : List (Bool × TimestampError) → Option TimestampError
 first_failed [] = None
 first_failed (check ∷ checks) = if check.0 then first_failed checks else Some check.1
 
--- Gives the message of an error.
+-- Gives an error's message.
 abbrev pub timestamp_message : TimestampError → List ℕ
 timestamp_message OutOfRange = codes "numeric component is out of range"
 timestamp_message InvalidDigit = codes "bad character where digit is expected"

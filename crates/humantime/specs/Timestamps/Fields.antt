@@ -29,8 +29,7 @@ pub data Zone : Type 0 where
   Letter_Z : Zone
   Zero_offset : Zone
 
--- The parts are date, separator (`T` or a space), hour, minute, second, fraction and zone (none, `Z` or `+00:00`). A fraction is the digits
--- after the point, perhaps none.
+-- The parts are date, separator (`T` or space), time, fraction (none, or any digits) and zone (none, `Z` or `+00:00`).
 pub record Fields : Type 0 where
   pub date : Date
   pub separator : Separator
@@ -70,12 +69,11 @@ fields_text f = date_time_text f ++ fraction_text f.fraction ++ zone_text f.zone
 abbrev pub fraction_digits : Option (List ℕ) → List ℕ
 fraction_digits fraction = unwrap_or fraction []
 
--- Gives the nanoseconds of a fraction's digits: the first nine, filled with zeros.
+-- Reads a fraction's first nine digits, zero-filled, as nanoseconds.
 unfoldable pub fraction_nanos : List ℕ → ℕ
 fraction_nanos ds = decimal_value (take 9 (ds ++ codes "000000000"))
 
--- The text shows these parts in weak form: a date of 1970 to 9999 that exists, an hour, a minute and a second of at most 23, 59 and 60, and
--- digits alone in the fraction.
+-- The text shows these parts: a valid date, hour, minute, second up to 23, 59, 60, and only digits in a fraction.
 pub record IsWeak (bytes : List ℕ) (f : Fields) : Type 0 where
   pub shown : bytes ≡ fields_text f
   pub date : IsDate f.date
@@ -84,25 +82,25 @@ pub record IsWeak (bytes : List ℕ) (f : Fields) : Type 0 where
   pub second : f.second ≤ 60
   pub fraction : IsTrue (all_ascii_digits (fraction_digits f.fraction))
 
--- The text shows these parts in strict form: as in weak form, with `T` and a zone.
+-- The text shows these parts in weak form, with `T` and a zone.
 pub record IsStrict (bytes : List ℕ) (f : Fields) : Type 0 where
   pub weak : IsWeak bytes f
   pub separator : f.separator ≡ Letter_T
   pub zone : f.zone ≢ No_zone
 
--- Counts the seconds from 1970-01-01T00:00:00Z to this date and time of day; second 60 is read as 59.
+-- Counts the seconds from 1970-01-01T00:00:00Z to date and time, second 60 as 59.
 abbrev pub seconds_of : Date → ℕ → ℕ → ℕ → ℕ
 seconds_of date hour minute second =
     day_of date * seconds_per_day + hour * seconds_per_hour + minute * seconds_per_minute + min second 59
 
--- Counts the nanoseconds from 1970-01-01T00:00:00Z to the moment of the parts.
+-- Counts the nanoseconds from 1970-01-01T00:00:00Z to the parts' moment.
 abbrev pub moment_of : Fields → ℕ
 moment_of f = seconds_of f.date f.hour f.minute f.second * nanos_per_second + fraction_nanos (fraction_digits f.fraction)
 
--- The text shows some parts of the moment `t` in weak form.
+-- The text shows the moment `t` in weak form.
 abbrev pub IsWeakMoment : List ℕ → ℤ → Type 0
 IsWeakMoment bytes t = (f : Fields) × IsWeak bytes f × (t ≡ pos (moment_of f))
 
--- The text shows some parts of the moment `t` in strict form.
+-- The text shows the moment `t` in strict form.
 abbrev pub IsStrictMoment : List ℕ → ℤ → Type 0
 IsStrictMoment bytes t = (f : Fields) × IsStrict bytes f × (t ≡ pos (moment_of f))

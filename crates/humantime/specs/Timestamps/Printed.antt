@@ -9,16 +9,15 @@ pub record MomentToPrint : Type 0 where
   pub moment : ℤ
   pub places : ℕ
 
--- Gives how many digits a moment is printed with where no number is asked for: none at a whole second, else nine.
+-- Gives the default digits: none at a whole second, else nine.
 abbrev pub places_of : ℤ → ℕ
 places_of t = if nano_of t == 0 then 0 else 9
 
--- Rounds a moment down to `k` digits after its second.
+-- Rounds a moment down to `k` fraction digits.
 abbrev pub cut : ℤ → ℕ → ℤ
 cut t k = t -ℤ int_rem_euclid t (pos (10 ^ (9 - k)))
 
--- The text is the moment `t`, printed with `k` digits, at most nine: it shows parts with `T`, `Z`, no second 60, and a fraction of `k`
--- digits, or none for zero, whose moment is `t`, cut.
+-- The text shows `t`, cut, with `T`, `Z`, no second 60, and `k` digits, at most nine; for 0, no point.
 pub record IsPrinted (t : ℤ) (k : ℕ) (bytes : List ℕ) : Type 0 where
   pub few : k ≤ 9
   pub fields : Fields
@@ -33,6 +32,6 @@ pub record IsPrinted (t : ℤ) (k : ℕ) (bytes : List ℕ) : Type 0 where
 abbrev pub year_10000 : ℕ
 year_10000 = 2_932_897 * seconds_per_day * nanos_per_second
 
--- The moment is one of 1970 to 9999.
+-- The moment is in 1970 to 9999.
 abbrev pub IsPrintable : ℤ → Type 0
 IsPrintable t = (pos 0 ≤ℤ t) × (t <ℤ pos year_10000)
