@@ -56,15 +56,15 @@ none_beyond_within (a ∷ m ∷ d ∷ i ∷ []) (e ∷ z ∷ h ∷ s ∷ []) sho
     let front = four_within (above a 197) (above m 1) (above d 1) (above i 0) 802 11 30 59 in
     let back = four_within e z h s 9 0 23 60 in (
       λ none.
-        let f : (above a 197 ≤ 802) × (above m 1 ≤ 11) × (above d 1 ≤ 30) × (above i 0 ≤ 59) = front.0 none.0 in
-        let b : (e ≤ 9) × (z ≤ 0) × (h ≤ 23) × (s ≤ 60) = back.0 none.1 in
-        ((omega arith, omega arith), (omega arith, omega arith), (omega arith, omega arith), b.2, omega arith, b.3),
+          let f : (above a 197 ≤ 802) × (above m 1 ≤ 11) × (above d 1 ≤ 30) × (above i 0 ≤ 59) = front.0 none.0 in
+          let b : (e ≤ 9) × (z ≤ 0) × (h ≤ 23) × (s ≤ 60) = back.0 none.1 in
+          ((omega arith, omega arith), (omega arith, omega arith), (omega arith, omega arith), b.2, omega arith, b.3),
       λ within.
-        let year : IsInRange 1970 9999 (a * 10 + e) = within.0 in
-        let month : IsInRange 1 12 m = within.1 in
-        let day : IsInRange 1 31 d = within.2 in
-        let minute : i ≤ 59 = within.4 in
-        (front.1 (omega arith, omega arith, omega arith, omega arith), back.1 (he, omega arith, within.3, within.5)),
+          let year : IsInRange 1970 9999 (a * 10 + e) = within.0 in
+          let month : IsInRange 1 12 m = within.1 in
+          let day : IsInRange 1 31 d = within.2 in
+          let minute : i ≤ 59 = within.4 in
+          (front.1 (omega arith, omega arith, omega arith, omega arith), back.1 (he, omega arith, within.3, within.5)),
     )
 none_beyond_within _ _ short = absurd (omega (arith, short.0.0, short.1.0))
 

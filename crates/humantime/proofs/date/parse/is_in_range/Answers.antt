@@ -1,5 +1,4 @@
 use Rattle.std.proofs.Common.{arith}
-use Rattle.std.proofs.lemmas.Grind.{common_steps}
 use Rattle.std.proofs.lemmas.Bool.Decides.{nat_tests}
 use Rattle.humantime.proofs.Timestamps.Reading.Usual.{within_told, day_told, in_range, days_at_least}
 use Rattle.humantime.proofs.date.parse.is_in_range.Goals as goal

@@ -1,5 +1,4 @@
-use Rattle.std.proofs.Common.{◌<◌, length, refl, arith}
-use Rattle.std.proofs.lemmas.Grind.{common_steps}
+use Rattle.std.proofs.Common.{◌<◌, length, arith}
 use Rattle.humantime.specs.Durations.Characters.{is_ws, white_spaces}
 use Rattle.humantime.proofs.Durations.Bytes.PlaceSteps.{ascii_at}
 use Rattle.humantime.proofs.duration.reading.scan.past_blanks.Goals as goal
