@@ -1,7 +1,6 @@
 -- Reading, adding and printing durations step by step, as private functions do.
 pub mod Adding
 pub mod Answers
-pub mod Classes
 pub mod Keys
 pub mod Lending
 pub mod Lents

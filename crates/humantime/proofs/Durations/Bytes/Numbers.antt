@@ -1,6 +1,6 @@
 -- Reading the digits that begin a text, one by one.
 use Rattle.std.proofs.lemmas.Grind.{common_steps}
-use Rattle.std.proofs.Common.{◌≡◌, ◌≤◌, ◌<◌, ◌+◌, ◌-◌, ◌*◌, ℕ, List, [], ◌∷◌, ◌++◌, ap, sym, ◌∙◌, arith, append_assoc, append-nil, true, false, chars, take, drop, get_or, length, IsUtf8, IsCharBoundary, refl, Some, None}
+use Rattle.std.proofs.Common.{◌≡◌, ◌≤◌, ◌<◌, ◌+◌, ◌-◌, ◌*◌, ◌%◌, ℕ, List, [], ◌∷◌, ◌++◌, ap, sym, ◌∙◌, arith, append_assoc, append-nil, true, false, chars, take, drop, get_or, length, IsUtf8, IsCharBoundary, refl, Some, None}
 use Rattle.std.specs.Char.{digit_value, is_ascii_digit}
 use Rattle.std.specs.Str.Parse.{digits_value_after}
 use Rattle.std.proofs.lemmas.Str.{digit_value_digit, IsCharBoundary-start}
@@ -64,6 +64,17 @@ all_read text at ds u h ended =
     let behind = none_there _ ended in
     let after : chars (drop at text) ≡ after_number (chars text) = sym behind.1 ∙ h.after in
     (h.all ∙ ap (λ (x : List ℕ). ds ++ x) behind.0 ∙ append-nil ds, front_is is_numeric text at u h.place after, after)
+
+-- a digit is what leaves at most nine where 48 is taken from it, in 64 bits
+pub digit_left : (c : ℕ) → c < 256 → (c + 18446744073709551568) % 18446744073709551616 ≤ 9
+    → (is_ascii_digit c ≡ true) × ((c + 18446744073709551568) % 18446744073709551616 + 48 ≡ c)
+digit_left c fits few =
+    let low : 48 ≤ c = omega (arith, fits, few) in
+    let high : c ≤ 57 = omega (arith, fits, few) in
+    (grind (arith, nat_tests), omega (arith, fits, few))
+
+pub other_left : (c : ℕ) → c < 256 → 9 < (c + 18446744073709551568) % 18446744073709551616 → is_ascii_digit c ≡ false
+other_left c fits many = let other : ¬ ((48 ≤ c) × (c ≤ 57)) = λ d. omega (arith, fits, many, d.0, d.1) in grind (arith, nat_tests)
 
 -- the first byte of a text that begins with a digit
 pub digit_range : (c : ℕ) → is_digit c ≡ true → (48 ≤ c) × (c ≤ 57)

@@ -2,7 +2,7 @@
 use Rattle.std.proofs.lemmas.Grind.{common_steps}
 use Rattle.std.proofs.Common.{◌≡◌, ◌≢◌, ◌<◌, ◌≤◌, ◌+◌, ℕ, List, [], ◌∷◌, ◌++◌, length, get_or, drop, refl, ap, sym, ◌∙◌, arith, length-drop, IsUtf8, IsCharBoundary, chars, encode_utf8, encode_utf8_all, Bool, true, false, inl, inr}
 use Rattle.std.specs.Prelude.{◌==◌, ◌&&◌, ◌||◌, Some, None, option_map, slice_get, if◌then◌else◌}
-use Rattle.std.specs.Char.{is_ascii_digit, is_whitespace, len_utf8}
+use Rattle.std.specs.Char.{is_ascii_digit, is_ascii_alphabetic, is_whitespace, len_utf8}
 use Rattle.std.proofs.Math.Utf8.{encode}
 use Rattle.std.proofs.lemmas.Bool.{cases_lt, ne_eqb, or_cases, and_parts, eqb-true}
 use Rattle.std.proofs.lemmas.Bool.Decides.{nat_tests}
@@ -14,7 +14,7 @@ use Rattle.humantime.specs.Durations.Characters.{is_letter, is_ws, is_digit, is_
 use Rattle.humantime.specs.References.Durations.Scanning.{space_width, digits_at, fraction_read, ends_span}
 use Rattle.humantime.specs.References.Durations.SpanParts.{IsBehindWord}
 use Rattle.humantime.proofs.Durations.Bytes.Tails.{no_bytes, tail_at}
-use Rattle.humantime.proofs.Durations.Reading.Classes.{digit_is, digit_not_space, digit_is_numeric, space_is_numeric, is_point-46, letter_not_space, wide_no_digit, white_is}
+use Rattle.humantime.proofs.Durations.Reading.Classes.{digit_is, digit_not_space, digit_is_numeric, space_is_numeric, is_point-46, letter_not_space, wide_no_digit, white_is, ascii_letter, alphabetic_is_ascii}
 
 -- The character at a place, and what follows it.
 pub record IsCharAt (text : List ℕ) (at char next : ℕ) : Type 0 where
@@ -177,13 +177,24 @@ no_space_at_mu text at u place some pair =
     let c = mu_over text at u place some pair in
     rw (c.2.ahead, letter_not_space _ c.1) refl
 
--- a character beyond ASCII that has other bytes is no letter
-pub no_letter : (text : List ℕ) (at : ℕ) → IsUtf8 text → IsPlaceIn text at → 128 ≤ get_or text at 0
-    → (at + 1 < length text → is_mu_pair (get_or text at 0) (get_or text (at + 1) 0) ≡ false) → begins is_letter (chars (drop at text)) ≡ false
+-- a letter of ASCII is one byte
+pub letter_over : (text : List ℕ) (at : ℕ) → IsUtf8 text → IsPlaceIn text at → is_ascii_alphabetic (get_or text at 0) ≡ true
+    → (is_letter (get_or text at 0) ≡ true) × IsCharAt text at (get_or text at 0) (at + 1)
+letter_over text at u here e =
+    let small = alphabetic_is_ascii _ e in
+    (sym (ascii_letter _ small) ∙ e, ascii_at text at u here small)
+
+-- a character that is no letter of ASCII, and beyond it has other bytes than a mu, is no letter
+pub no_letter : (text : List ℕ) (at : ℕ) → IsUtf8 text → IsPlaceIn text at → is_ascii_alphabetic (get_or text at 0) ≡ false
+    → (128 ≤ get_or text at 0 → at + 1 < length text → is_mu_pair (get_or text at 0) (get_or text (at + 1) 0) ≡ false)
+    → begins is_letter (chars (drop at text)) ≡ false
 unfolding is_letter
-no_letter text at u here wide other =
+no_letter text at u here none other =
     let c = char_at text at u here in
-    rw c.1.ahead (grind (arith, common_steps, micro_bytes, mu_bytes, two_bytes, nat_tests))
+    elim (cases_lt (get_or text at 0) 128) [
+      | inl small ↦ rw (ascii_at text at u here small).ahead (sym (ascii_letter _ small) ∙ none)
+      | inr wide ↦ let no_mu = other wide in rw c.1.ahead (grind (arith, common_steps, micro_bytes, mu_bytes, two_bytes, nat_tests))
+    ]
 
 -- ---- what ends a span
 

@@ -1,16 +1,18 @@
 -- How reading stops at a rest, by its parts.
-use Rattle.std.specs.Prelude.{not, length, ◌==◌, Bool}
-use Rattle.std.proofs.Common.{arith, ◌≡◌, ◌≢◌, ℕ, true, false, List, [], Option, Some, None, option_map, refl, ◌∙◌, chars, Bor, encode_utf8_all}
+use Rattle.std.specs.Prelude.{length, ◌==◌}
+use Rattle.std.proofs.Common.{arith, ◌≡◌, ◌≢◌, ℕ, true, false, List, [], ◌∷◌, Option, Some, None, option_map, refl, sym, ◌∙◌, chars, Bor, IsUtf8}
 use Rattle.std.proofs.lemmas.Grind.{common_steps}
+use Rattle.std.proofs.lemmas.Str.{encodes-chars}
 use Rattle.std.specs.Str.{drop_trailing_whitespace}
-use Rattle.humantime.specs.Texts.{begins, past, leading, decimal_value}
+use Rattle.humantime.specs.declared.duration.reading.amount.Fraction.{Fraction}
+use Rattle.humantime.specs.Texts.{past, leading, decimal_value}
 use Rattle.humantime.specs.Durations.Characters.{is_letter, is_numeric, offset_of}
 use Rattle.humantime.specs.Durations.Units.{Scale, scale_of_word}
 use Rattle.humantime.specs.Durations.Faults.{number_of, after_number, behind_point, fraction_of, after_fraction, word_of, after_word, span_of, InvalidCharacter, UnknownUnit, NumberOverflow, stop_at, ends_span}
-use Rattle.humantime.specs.References.Durations.Lending.{spelled, trimmed}
+use Rattle.humantime.specs.References.Durations.Lending.{spelled, trimmed, lent_at}
 use Rattle.humantime.specs.References.Durations.Reading.{too_long, stop_at}
-use Rattle.humantime.specs.References.Durations.Scales.{Counted, counted}
-use Rattle.humantime.specs.References.Durations.Scanning.{ends_span, number_at, fraction_read}
+use Rattle.humantime.specs.References.Durations.Scales.{Counted, counted, parts_of}
+use Rattle.humantime.specs.References.Durations.Scanning.{ends_span, number_at, fraction_read, begins_no_word}
 use Rattle.humantime.specs.Durations.Accepted.{is_some_and, too_long}
 use Rattle.humantime.proofs.Durations.Bytes.Trimming.{spelled_at}
 
@@ -27,62 +29,65 @@ long_number rest n = grind (arith, common_steps)
 pub long_fraction : (rest : List ℕ) (x : ℕ × List ℕ × List ℕ) → Some x ≡ number_at rest → None ≡ fraction_read x.2 → too_long (span_of rest) ≡ true
 long_fraction rest x n f = grind (arith, common_steps)
 
-pub exit_long : (text rest : List ℕ) → too_long (span_of rest) ≡ true → stop_at text rest ≡ Some NumberOverflow
+pub exit_long : (text rest : List ℕ) → too_long (span_of rest) ≡ true → Some NumberOverflow ≡ stop_at text rest
 unfolding stop_at
-exit_long text rest e = rw e
+exit_long text rest e = rw e refl
 
--- where no letter begins a text, another character does
-no_letter_begins : (cs : List ℕ) → leading is_letter cs ≡ [] → past is_letter cs ≢ [] → begins (λ c. not (is_letter c)) cs ≡ true
-no_letter_begins cs none some = grind (arith, common_steps)
+-- what no letter begins has no letters at its front
+no_letters : (cs : List ℕ) → begins_no_word cs ≡ true → past is_letter cs ≡ cs
+no_letters [] h = refl
+no_letters (c ∷ cs) h = grind (arith, common_steps)
 
-pub exit_no_letter : (text rest : List ℕ) → too_long (span_of rest) ≡ false → word_of rest ≡ [] → after_word rest ≢ []
-    → stop_at text rest ≡ Some (InvalidCharacter (offset_of text (after_word rest)))
+pub exit_no_letter : (text rest after : List ℕ) (at : ℕ) → too_long (span_of rest) ≡ false → after ≡ after_fraction rest
+    → begins_no_word after ≡ true → at ≡ offset_of text after → Some (InvalidCharacter at) ≡ stop_at text rest
 unfolding stop_at
-exit_no_letter text rest s w n = rw (s, no_letter_begins (after_fraction rest) w n)
+exit_no_letter text rest after at s a n p = rw (s, sym a, n, no_letters after n, p) refl
 
--- a letter begins what may be a word
-may_be_word : (rest : List ℕ) → (word_of rest ≡ [] → after_word rest ≡ []) → begins (λ c. not (is_letter c)) (after_fraction rest) ≡ false
-may_be_word rest w = grind (arith, common_steps)
+-- whether a point without digits stands there, told by the digits that were read
+same_bare : (fraction : Option Fraction) (digits : Option (List ℕ)) → option_map parts_of fraction ≡ option_map counted digits
+    → is_some_and (λ ds. length ds == 0) digits ≡ is_some_and (λ f. f.all == 0) fraction
+same_bare fraction digits f = grind (arith, common_steps)
 
--- a point without digits, as the code tells it
-abbrev pub bare : Option Counted → Bool
-bare fraction = is_some_and (λ p. p.2 == 0) fraction
-
-same_bare : (fraction : Option (List ℕ)) → is_some_and (λ ds. length ds == 0) fraction ≡ bare (option_map counted fraction)
-same_bare None = refl
-same_bare (Some ds) = refl
-
-bare_as : (rest : List ℕ) (b : Bool) → bare (option_map counted (fraction_of rest)) ≡ b → is_some_and (λ ds. length ds == 0) (fraction_of rest) ≡ b
-bare_as rest b e = same_bare (fraction_of rest) ∙ e
-
-pub exit_bare : (text rest : List ℕ) → too_long (span_of rest) ≡ false → (word_of rest ≡ [] → after_word rest ≡ [])
-    → bare (option_map counted (fraction_of rest)) ≡ true
-    → stop_at text rest ≡ Some (InvalidCharacter (offset_of text (after_number rest)))
+pub exit_bare : (text rest behind after : List ℕ) (fraction : Option Fraction) (at : ℕ) → too_long (span_of rest) ≡ false
+    → behind ≡ after_fraction rest → begins_no_word behind ≡ false → option_map parts_of fraction ≡ option_map counted (fraction_of rest) → is_some_and (λ f. f.all == 0) fraction ≡ true
+    → after ≡ after_number rest → at ≡ offset_of text after → Some (InvalidCharacter at) ≡ stop_at text rest
 unfolding stop_at
-exit_bare text rest s w b = rw (s, may_be_word rest w, bare_as rest true b)
+exit_bare text rest behind after fraction at s h w f b a p = rw (s, sym h, w, same_bare fraction (fraction_of rest) f ∙ b, sym a, p) refl
 
 -- a point without digits is there
-pub bare_some : (rest : List ℕ) → bare (option_map counted (fraction_of rest)) ≡ true → after_number rest ≢ []
-bare_some rest b none = grind (arith, common_steps)
+pub bare_some : (rest after : List ℕ) (fraction : Option Fraction) → option_map parts_of fraction ≡ option_map counted (fraction_of rest)
+    → is_some_and (λ f. f.all == 0) fraction ≡ true → after ≡ after_number rest → after ≢ []
+bare_some rest after fraction f b a none = grind (arith, common_steps)
 
-pub exit_after : (text rest : List ℕ) → too_long (span_of rest) ≡ false → (word_of rest ≡ [] → after_word rest ≡ [])
-    → bare (option_map counted (fraction_of rest)) ≡ false → ends_span (after_word rest) ≡ false
-    → stop_at text rest ≡ Some (InvalidCharacter (offset_of text (after_word rest)))
+pub exit_after : (text rest behind after : List ℕ) (fraction : Option Fraction) (at : ℕ) → too_long (span_of rest) ≡ false
+    → behind ≡ after_fraction rest → begins_no_word behind ≡ false → option_map parts_of fraction ≡ option_map counted (fraction_of rest) → is_some_and (λ f. f.all == 0) fraction ≡ false
+    → after ≡ past is_letter behind → ends_span after ≡ false → at ≡ offset_of text after → Some (InvalidCharacter at) ≡ stop_at text rest
 unfolding stop_at
-exit_after text rest s w b e = rw (s, may_be_word rest w, bare_as rest false b, e)
+exit_after text rest behind after fraction at s h w f b a e p = rw (s, sym h, w, same_bare fraction (fraction_of rest) f ∙ b, sym a, e, p) refl
 
-pub exit_unit : (text rest : List ℕ) → too_long (span_of rest) ≡ false → (word_of rest ≡ [] → after_word rest ≡ [])
-    → bare (option_map counted (fraction_of rest)) ≡ false → ends_span (after_word rest) ≡ true
-    → scale_of_word (word_of rest) ≡ None
-    → stop_at text rest ≡ Some (UnknownUnit (offset_of text (after_fraction rest)) (offset_of text (after_word rest)) (encode_utf8_all (word_of rest)) (decimal_value (number_of rest)))
+pub exit_unit : (text rest behind unit after : List ℕ) (fraction : Option Fraction) (start end value : ℕ) → too_long (span_of rest) ≡ false
+    → behind ≡ after_fraction rest → begins_no_word behind ≡ false → option_map parts_of fraction ≡ option_map counted (fraction_of rest)
+    → is_some_and (λ f. f.all == 0) fraction ≡ false → after ≡ past is_letter behind → ends_span after ≡ true
+    → IsUtf8 unit → chars unit ≡ leading is_letter behind → scale_of_word (chars unit) ≡ None
+    → start ≡ offset_of text behind → end ≡ offset_of text after → value ≡ decimal_value (number_of rest)
+    → Some (UnknownUnit start end unit value) ≡ stop_at text rest
 unfolding stop_at
-exit_unit text rest s w b e u = rw (s, may_be_word rest w, bare_as rest false b, e, u)
+exit_unit text rest behind unit after fraction start end value s h w f b a e u l k p q v =
+    rw (s, sym h, w, same_bare fraction (fraction_of rest) f ∙ b, sym a, e, sym l, k, encodes-chars unit u, p, q, v) refl
 
-pub exit_fine : (text rest : List ℕ) (u : Scale) → too_long (span_of rest) ≡ false → (word_of rest ≡ [] → after_word rest ≡ [])
-    → bare (option_map counted (fraction_of rest)) ≡ false → ends_span (after_word rest) ≡ true
-    → scale_of_word (word_of rest) ≡ Some u → stop_at text rest ≡ None
+pub exit_fine : (text rest behind word after : List ℕ) (fraction : Option Fraction) (u : Scale) → too_long (span_of rest) ≡ false
+    → behind ≡ after_fraction rest → begins_no_word behind ≡ false → option_map parts_of fraction ≡ option_map counted (fraction_of rest) → is_some_and (λ f. f.all == 0) fraction ≡ false
+    → after ≡ past is_letter behind → ends_span after ≡ true → word ≡ leading is_letter behind → scale_of_word word ≡ Some u
+    → None ≡ stop_at text rest
 unfolding stop_at
-exit_fine text rest u s w b e k = rw (s, may_be_word rest w, bare_as rest false b, e, k)
+exit_fine text rest behind word after fraction u s h w f b a e l k = rw (s, sym h, w, same_bare fraction (fraction_of rest) f ∙ b, sym a, e, sym l, k) refl
+
+-- the slices that were read are those that the span lends
+pub lent_read : (text rest number word : List ℕ) (digits : Option (Bor (List ℕ))) (start end value : ℕ)
+    → number ≡ leading is_numeric rest → option_map (λ t. chars t.now) digits ≡ option_map (leading is_numeric) (behind_point (after_number rest))
+    → word ≡ word_of rest → start ≡ offset_of text rest → end ≡ offset_of text (after_word rest) → value ≡ decimal_value (number_of rest)
+    → record { number = drop_trailing_whitespace number; fraction = option_map (λ t. trimmed (chars t.now)) digits; unit = word; start = start; end = end; value = value } ≡ lent_at text rest
+lent_read text rest number word digits start end value n d w p q v = grind (arith, common_steps)
 
 -- the slices that were read spell the span
 pub spelled_read : (rest number letters : List ℕ) (digits : Option (Bor (List ℕ))) → number ≡ leading is_numeric rest → letters ≡ word_of rest

@@ -1,12 +1,10 @@
--- What a character is excludes the others; and what its class says.
+-- What a character is excludes the others.
 use Rattle.std.proofs.lemmas.Grind.{common_steps}
-use Rattle.std.proofs.Common.{◌≡◌, ◌≢◌, ◌≤◌, ◌↔◌, ℕ, true, false, refl, sym, ◌∙◌, arith}
-use Rattle.std.specs.Char.{is_whitespace, is_ascii_digit}
+use Rattle.std.proofs.Common.{◌≡◌, ◌≤◌, ◌<◌, ℕ, true, false, refl, sym, ◌∙◌, arith}
+use Rattle.std.specs.Char.{is_whitespace, is_ascii_digit, is_ascii_alphabetic}
 use Rattle.std.proofs.lemmas.Bool.{or_left, or_right}
 use Rattle.std.proofs.lemmas.Bool.Decides.{nat_tests}
-use Rattle.humantime.specs.declared.duration.reading.scan.Class.TheVariants.{White, Letter}
 use Rattle.humantime.specs.Durations.Characters.{white_spaces, is_ws, is_digit, is_letter, is_point, is_numeric}
-use Rattle.humantime.specs.References.Durations.Classes.{class_of}
 
 -- the white space listed is that of std
 pub white_is : (c : ℕ) → is_whitespace c ≡ is_ws c
@@ -69,10 +67,11 @@ digit_is c = refl
 pub wide_no_digit : (c : ℕ) → 128 ≤ c → is_ascii_digit c ≡ false
 wide_no_digit c wide = grind (arith, nat_tests)
 
--- what an ASCII character is, by its class
-pub class_tests : (c : ℕ) → ((class_of c ≡ White) ↔ (is_ws c ≡ true)) × ((class_of c ≡ Letter) ↔ (is_letter c ≡ true))
-unfolding class_of
-class_tests c = grind (arith, common_steps, letter_not_space)
+-- ---- letters of ASCII
 
-pub not_letter : (c : ℕ) → class_of c ≢ Letter → is_letter c ≡ false
-not_letter c = grind (arith, common_steps, class_tests)
+pub ascii_letter : (c : ℕ) → c < 128 → is_ascii_alphabetic c ≡ is_letter c
+unfolding is_letter
+ascii_letter c ascii = grind (arith, nat_tests)
+
+pub alphabetic_is_ascii : (c : ℕ) → is_ascii_alphabetic c ≡ true → c < 128
+alphabetic_is_ascii c e = grind (arith, nat_tests)

@@ -1,9 +1,9 @@
 -- The steps by which one span is read, over what is left of a text: the plain reference of the private functions.
-use Rattle.std.specs.Prelude.{◌≡◌, ◌≤◌, ◌<◌, ◌^◌, ℕ, ◌-◌, ◌++◌, true, List, [], ◌∷◌, length, drop, Option, Some, None, option_map, nat_lt, if◌then◌else◌, IsUtf8, chars}
+use Rattle.std.specs.Prelude.{◌≡◌, ◌≤◌, ◌<◌, ◌^◌, ℕ, ◌-◌, ◌++◌, Bool, true, false, not, List, [], ◌∷◌, length, drop, Option, Some, None, option_map, nat_lt, if◌then◌else◌, IsUtf8, chars}
 use Rattle.std.specs.Char.{len_utf8}
 use Rattle.humantime.specs.declared.duration.reading.amount.Fraction.{Fraction}
-use Rattle.humantime.specs.Texts.{begins, leading, decimal_value}
-use Rattle.humantime.specs.Durations.Characters.{is_ws, is_digit, is_numeric, is_point, significant, u64_max}
+use Rattle.humantime.specs.Texts.{begins, leading, past, decimal_value}
+use Rattle.humantime.specs.Durations.Characters.{is_ws, is_digit, is_letter, is_numeric, is_point, significant, u64_max}
 use Rattle.humantime.specs.Durations.Faults.{number_of, after_number}
 pub use Rattle.humantime.specs.Durations.Faults.{ends_span}
 use Rattle.humantime.specs.References.Durations.Scales.{Counted, counted}
@@ -14,10 +14,17 @@ pub record IsTail (text rest : List ℕ) : Type 0 where
   pub ends : rest ≡ drop (length text - length rest) text
   pub utf8 : IsUtf8 rest
 
--- A text is a front and the rest behind it, each a text of its own.
-pub record IsCut (text front rest : List ℕ) : Type 0 where
-  pub whole : text ≡ front ++ rest
-  pub front_utf8 : IsUtf8 front
+-- another character than a letter begins a text
+abbrev pub begins_no_word : List ℕ → Bool
+begins_no_word text = begins (λ c. not (is_letter c)) text
+
+-- The word is the letters that begin the text, which no other character begins, and rest is what follows them.
+pub record IsWordOf (text word rest : List ℕ) : Type 0 where
+  pub begun : begins_no_word (chars text) ≡ false
+  pub letters : chars word ≡ leading is_letter (chars text)
+  pub after : chars rest ≡ past is_letter (chars text)
+  pub whole : text ≡ word ++ rest
+  pub utf8 : IsUtf8 word
   pub tail : IsTail text rest
 
 -- a digit begins the text

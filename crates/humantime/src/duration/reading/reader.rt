@@ -1,18 +1,27 @@
 //! Reading one span.
 
-ghost use Rattle.std.specs.Prelude.{◌≡◌, false, chars, IfOk, IfErr, MatchOption};
+ghost use Rattle.std.specs.Prelude.{◌≡◌, ◌==◌, false, chars, IfOk, IfErr, MatchOption};
+ghost use Rattle.humantime.specs.Durations.Accepted.{is_some_and};
 ghost use Rattle.humantime.specs.Durations.Errors.{PointsInto};
 ghost use Rattle.humantime.specs.References.Durations.Reading.{stop_at};
 ghost use Rattle.humantime.specs.References.Durations.Scanning.{IsTail, BeginsWithDigit, ends_span};
 ghost use Rattle.humantime.specs.References.Durations.SpanParts.{IsBehindWord, IsSpanAt, stop_of};
 
 use crate::duration::error::DurationError;
-use crate::duration::reading::amount::Amount;
+use crate::duration::reading::amount::{Amount, Fraction};
 use crate::duration::reading::scan::{
     begins_with_digit, offset_of, read_fraction, read_number, read_word, space_at,
 };
 use crate::duration::reading::span::Span;
 use crate::unit::unit_of;
+
+/// Whether this is a point without digits.
+#[inline(always)]
+fn is_bare(fraction: Option<Fraction>) -> bool
+    ensures { result ≡ is_some_and (λ f. f.all == 0) fraction }
+{
+    matches!(fraction, Some(digits) if digits.all == 0)
+}
 
 /// What follows a word, without the character of white space behind it, which is not looked at again; `None` where what
 /// follows is no digit, white space or the end.
@@ -46,38 +55,35 @@ pub(crate) fn span_at<'a>(
         return Err(DurationError::NumberOverflow);
     };
     // Told before the word is read, so that the numbers it comes from need not be kept until then.
-    let bare = matches!(fraction, Some(digits) if digits.all == 0);
-    let (word, after_word) = read_word(after_fraction);
-    let (start, end) = (offset_of(text, rest), offset_of(text, after_word));
-    if word.letters.is_empty() && !after_word.is_empty() {
-        return Err(DurationError::InvalidCharacter(end));
-    }
+    let bare = is_bare(fraction);
+    let Some((word, after_word)) = read_word(after_fraction) else {
+        return Err(DurationError::InvalidCharacter(offset_of(text, after_fraction)));
+    };
     if bare {
         return Err(DurationError::InvalidCharacter(offset_of(text, after_number)));
     }
+    let (start, end) = (offset_of(text, rest), offset_of(text, after_word));
     let Some(next) = behind_word(after_word) else {
         return Err(DurationError::InvalidCharacter(end));
     };
-    let unit = word.letters;
-    let Some(known) = unit_of(word.key) else {
-        let start = offset_of(text, after_fraction);
+    let Some(unit) = unit_of(word.key) else {
         return Err(DurationError::UnknownUnit {
-            start,
+            start: offset_of(text, after_fraction),
             end,
-            unit,
+            unit: word.letters,
             value,
         });
     };
     let amount = Amount {
         value,
         fraction,
-        unit: known,
+        unit,
     };
     Ok((
         Span {
             number,
             digits,
-            unit,
+            unit: word.letters,
             start,
             end,
             amount,

@@ -1,52 +1,41 @@
-//! Steps over a text: the class of a character, white space, a number, a fraction, a word.
+//! Steps over a text: white space, a number, a fraction, a word.
 
 ghost use Rattle.std.specs.Char.{is_ascii_digit};
-ghost use Rattle.std.specs.Prelude.{◌≡◌, ◌↔◌, true, ◌-◌, ◌+◌, ◌<◌, SomeIff, drop, length, chars, option_map, IfSome, ◌≤◌, ◌==◌, ◌&&◌, ◌||◌, take, reverse, IsCharBoundary};
+ghost use Rattle.std.specs.Prelude.{◌≡◌, ◌↔◌, true, ◌-◌, ◌+◌, ◌<◌, SomeIff, drop, length, chars, option_map, IfSome, MatchOption, ◌≤◌, ◌==◌, ◌&&◌, ◌||◌, take, reverse, IsCharBoundary};
 ghost use Rattle.humantime.specs.Texts.{begins, past, leading};
 ghost use Rattle.humantime.specs.Durations.Characters.{is_digit, is_ws, offset_of, is_letter};
 ghost use Rattle.humantime.specs.Durations.Errors.{IsPlaceIn};
 ghost use Rattle.humantime.specs.References.Durations.Scales.{parts_of};
-ghost use Rattle.humantime.specs.References.Durations.Scanning.{IsTail, BeginsWithDigit, space_width, number_at, digits_at, fraction_read, IsCut};
-ghost use Rattle.humantime.specs.References.Durations.Classes.{class_of};
+ghost use Rattle.humantime.specs.References.Durations.Scanning.{IsTail, BeginsWithDigit, space_width, number_at, digits_at, fraction_read, begins_no_word, IsWordOf};
 ghost use Rattle.humantime.specs.Durations.Units.{scale_of_word};
 ghost use Rattle.humantime.specs.References.Durations.Keys.{packed, scale_of_key};
 
 use crate::duration::reading::amount::{Fraction, push_digit};
 use crate::unit::{MOST_BYTES, NO_LETTERS, TOO_LONG, key_with};
 
-/// What a character is in a duration's text, where it is no digit.
-#[derive(Clone, Copy)]
-pub(crate) enum Class {
-    White,
-    Letter,
-    Other,
-}
+const W: bool = true;
 
-const W: Class = Class::White;
+const O: bool = false;
 
-const L: Class = Class::Letter;
-
-const O: Class = Class::Other;
-
-/// The class of each ASCII character, sixteen characters a row.
-static ASCII_CLASSES: [Class; 128] = [
+/// Which ASCII characters are white space, sixteen a row.
+static ASCII_WHITE: [bool; 128] = [
     O, O, O, O, O, O, O, O, O, W, W, W, W, W, O, O, // 0x00 to 0x0f
     O, O, O, O, O, O, O, O, O, O, O, O, O, O, O, O, // 0x10 to 0x1f
     W, O, O, O, O, O, O, O, O, O, O, O, O, O, O, O, // space to '/'
     O, O, O, O, O, O, O, O, O, O, O, O, O, O, O, O, // '0' to '?'
-    O, L, L, L, L, L, L, L, L, L, L, L, L, L, L, L, // '@' to 'O'
-    L, L, L, L, L, L, L, L, L, L, L, O, O, O, O, O, // 'P' to '_'
-    O, L, L, L, L, L, L, L, L, L, L, L, L, L, L, L, // '`' to 'o'
-    L, L, L, L, L, L, L, L, L, L, L, O, O, O, O, O, // 'p' to 0x7f
+    O, O, O, O, O, O, O, O, O, O, O, O, O, O, O, O, // '@' to 'O'
+    O, O, O, O, O, O, O, O, O, O, O, O, O, O, O, O, // 'P' to '_'
+    O, O, O, O, O, O, O, O, O, O, O, O, O, O, O, O, // '`' to 'o'
+    O, O, O, O, O, O, O, O, O, O, O, O, O, O, O, O, // 'p' to 0x7f
 ];
 
-/// The class of an ASCII character.
+/// Whether an ASCII character is white space.
 #[inline(always)]
-pub(crate) fn ascii_class(c: u8) -> Class
+fn is_ascii_white(c: u8) -> bool
     requires { c < 128 }
-    ensures { result ≡ class_of c }
+    ensures { result ≡ is_ws c }
 {
-    ASCII_CLASSES[c as usize]
+    ASCII_WHITE[c as usize]
 }
 
 /// Whether these are the two bytes of the micro sign, or those of the Greek letter mu: the letters beyond ASCII.
@@ -80,9 +69,10 @@ pub(crate) fn space_at(text: &str, at: usize) -> Option<usize>
 {
     let bytes = text.as_bytes();
     if bytes[at] < 0x80 {
-        return match ascii_class(bytes[at]) {
-            Class::White => Some(at + 1),
-            Class::Letter | Class::Other => None,
+        return if is_ascii_white(bytes[at]) {
+            Some(at + 1)
+        } else {
+            None
         };
     }
     // A letter is told by its bytes, and is not decoded.
@@ -149,15 +139,6 @@ pub(crate) fn begins_with_digit(text: &str) -> bool
     !bytes.is_empty() && bytes[0].is_ascii_digit()
 }
 
-/// What a digit of ASCII counts, and above nine for any other byte. It is as wide as a register, so that no digit is widened.
-#[inline(always)]
-fn digit_of(c: u8) -> u64
-    ensures digit { (result ≤ 9) ↔ (is_ascii_digit c ≡ true) }
-    ensures value { is_ascii_digit c ≡ true → result + 48 ≡ c }
-{
-    (c as u64).wrapping_sub(48)
-}
-
 /// The number at the front of the text, what it stands in, and what follows it; `None` where it is too large. The first
 /// digit is known to be one.
 #[inline(always)]
@@ -171,7 +152,8 @@ pub(crate) fn read_number<'a>(text: &'a str) -> Option<(u64, &'a str, &'a str)>
     let mut value = (bytes[0] - b'0') as u64;
     let mut at = 1;
     while at < bytes.len() {
-        let digit = digit_of(bytes[at]);
+        // Above nine for any byte but a digit, and as wide as the value, so that no digit is widened.
+        let digit = (bytes[at] as u64).wrapping_sub(48);
         if digit <= 9 {
             value = push_digit(value, digit)?;
             at += 1;
@@ -245,15 +227,10 @@ fn letters_end(text: &str) -> (usize, u64)
     let mut key = NO_LETTERS;
     let mut at = 0;
     while at < bytes.len() {
-        if bytes[at] < 0x80 {
-            match ascii_class(bytes[at]) {
-                Class::Letter => {
-                    key = key_with(key, bytes[at]);
-                    at += 1;
-                }
-                _ => break,
-            }
-        } else if at + 1 < bytes.len() && is_mu(bytes[at], bytes[at + 1]) {
+        if bytes[at].is_ascii_alphabetic() {
+            key = key_with(key, bytes[at]);
+            at += 1;
+        } else if bytes[at] >= 0x80 && at + 1 < bytes.len() && is_mu(bytes[at], bytes[at + 1]) {
             key = key_with(key_with(key, bytes[at]), bytes[at + 1]);
             at += 2;
         } else {
@@ -263,15 +240,17 @@ fn letters_end(text: &str) -> (usize, u64)
     (at, key)
 }
 
-/// The word at the front of the text, and what follows it.
+/// The word at the front of the text, empty only where nothing follows it, and what follows it; `None` where no letter begins
+/// what stands there.
 #[inline(always)]
-pub(crate) fn read_word<'a>(text: &'a str) -> (Word<'a>, &'a str)
-    ensures word { chars result.0.letters.now ≡ leading is_letter (chars text.now) }
-    ensures rest { chars result.1.now ≡ past is_letter (chars text.now) }
-    ensures cut { IsCut text.now result.0.letters.now result.1.now }
+pub(crate) fn read_word<'a>(text: &'a str) -> Option<(Word<'a>, &'a str)>
+    ensures { MatchOption result (begins_no_word (chars text.now) ≡ true) (λ x. IsWordOf text.now x.0.letters.now x.1.now) }
 {
     let (end, key) = letters_end(text);
+    if end == 0 && !text.is_empty() {
+        return None;
+    }
     let letters = &text[..end];
     let key = if end > MOST_BYTES { TOO_LONG } else { key };
-    (Word { letters, key }, &text[end..])
+    Some((Word { letters, key }, &text[end..]))
 }

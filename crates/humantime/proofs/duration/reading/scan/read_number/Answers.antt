@@ -1,10 +1,9 @@
-use Rattle.std.proofs.lemmas.Bool.{false_from_ne_true}
 use Rattle.std.proofs.lemmas.Grind.{common_steps}
 use Rattle.std.proofs.Common.{◌≡◌, ◌++◌, ◌∷◌, [], get_or, sym, ap, ◌∙◌, chars, take, drop, false, arith}
 use Rattle.humantime.specs.Texts.{begins}
 use Rattle.humantime.specs.Durations.Characters.{is_numeric}
 use Rattle.humantime.proofs.Durations.Reading.Classes.{digit_is}
-use Rattle.humantime.proofs.Durations.Bytes.Numbers.{first_digit, digit_range, none_read, read_digit, read_space, stops_here, all_read, value_more, number_passes, number_ends}
+use Rattle.humantime.proofs.Durations.Bytes.Numbers.{digit_left, other_left, first_digit, digit_range, none_read, read_digit, read_space, stops_here, all_read, value_more, number_passes, number_ends}
 use Rattle.humantime.proofs.Durations.Bytes.Tails.{no_chars_at}
 use Rattle.humantime.proofs.duration.reading.scan.read_number.Goals as goal
 use Rattle.humantime.proofs.duration.reading.scan.read_number.Goals.{else-loop-at-test, then-loop-at-test+else-digit-le9+in-None}
@@ -24,13 +23,12 @@ loop-at-init c =
 pub loop-at-preserved-then-digit-le9 : goal.loop-at-preserved-then-digit-le9
 loop-at-preserved-then-digit-le9 c =
     let i = c.loop-at.invariant in
-    let digit = c.digit_of-digit.ensures.digit.0 c.if-digit-le9.true in
-    let counts = c.digit_of-digit.ensures.value digit in
-    let more = value_more i.taken (get_or c.as_bytes-bytes.result.now c.loop-at.at 0) (sym (digit_is _) ∙ digit) in
+    let left = digit_left _ (rw c.as_bytes-bytes.ensures.value (c.type_inv.text c.loop-at.at).fits) c.if-digit-le9.true in
+    let more = value_more i.taken (get_or c.as_bytes-bytes.result.now c.loop-at.at 0) (sym (digit_is _) ∙ left.0) in
     record {
       taken = i.taken ++ get_or c.as_bytes-bytes.result.now c.loop-at.at 0 ∷ [];
-      read = read_digit _ _ _ _ c.utf8.text c.as_bytes-bytes.ensures.value c.loop-at-test.true i.read digit;
-      value = omega (arith, c.in_ok-value.ensures.1, more, i.value, counts);
+      read = read_digit _ _ _ _ c.utf8.text c.as_bytes-bytes.ensures.value c.loop-at-test.true i.read left.0;
+      value = omega (arith, c.in_ok-value.ensures.1, more, i.value, left.1);
       fits = omega (arith, c.in_ok-value.ensures);
     }
 
@@ -43,11 +41,10 @@ loop-at-preserved c =
 pub returns-in_err-value-clause-value : goal.returns-in_err-value-clause-value
 returns-in_err-value-clause-value c =
     let i = c.loop-at.invariant in
-    let digit = c.digit_of-digit.ensures.digit.0 c.if-digit-le9.true in
-    let counts = c.digit_of-digit.ensures.value digit in
-    let read = read_digit _ _ _ _ c.utf8.text c.as_bytes-bytes.ensures.value c.loop-at-test.true i.read digit in
-    let more = value_more i.taken (get_or c.as_bytes-bytes.result.now c.loop-at.at 0) (sym (digit_is _) ∙ digit) in
-    rw c.from_residual.ensures (number_passes _ _ _ read (omega (arith, c.in_err-value.ensures, more, i.value, counts)))
+    let left = digit_left _ (rw c.as_bytes-bytes.ensures.value (c.type_inv.text c.loop-at.at).fits) c.if-digit-le9.true in
+    let read = read_digit _ _ _ _ c.utf8.text c.as_bytes-bytes.ensures.value c.loop-at-test.true i.read left.0 in
+    let more = value_more i.taken (get_or c.as_bytes-bytes.result.now c.loop-at.at 0) (sym (digit_is _) ∙ left.0) in
+    rw c.from_residual.ensures (number_passes _ _ _ read (omega (arith, c.in_err-value.ensures, more, i.value, left.1)))
 
 pub returns-clause-value : goal.returns-clause-value
 returns-clause-value c =
@@ -56,7 +53,7 @@ returns-clause-value c =
       | else-loop-at-test w ↦ ap (begins is_numeric) (no_chars_at c.args.text.now c.loop-at.at (omega (arith, w.loop-at-test.false, c.as_bytes-bytes.ensures.len)))
       | then-loop-at-test+else-digit-le9+in-None w ↦
           stops_here _ _ _ c.utf8.text c.as_bytes-bytes.ensures.value w.loop-at-test.true i.read.place
-          (false_from_ne_true _ (λ d. omega (arith, w.if-digit-le9.false, w.digit_of-digit.ensures.digit.1 d))) w.in-None.ensures
+          (other_left _ (rw c.as_bytes-bytes.ensures.value (c.type_inv.text c.loop-at.at).fits) w.if-digit-le9.false) w.in-None.ensures
     ] in
     let front : c.range.result.now ≡ take c.loop-at.at c.args.text.now = grind (arith, common_steps) in
     rw (front, c.range_from.ensures.value) (number_ends _ _ _ _ _ i.value i.fits (all_read _ _ _ c.utf8.text i.read ended))

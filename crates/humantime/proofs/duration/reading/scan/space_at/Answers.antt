@@ -1,14 +1,13 @@
 use Rattle.std.proofs.Common.{sym, ◌∙◌, ◌+◌, ◌<◌, length, arith}
 use Rattle.std.proofs.lemmas.Grind.{common_steps}
-use Rattle.humantime.proofs.Durations.Reading.Classes.{class_tests}
 use Rattle.humantime.proofs.Durations.Bytes.PlaceSteps.{ascii_at, no_space_at_mu}
 use Rattle.humantime.proofs.duration.reading.scan.space_at.Goals as goal
 
-pub returns-in-White : goal.returns-in-White
-returns-in-White c = grind (arith, common_steps, ascii_at, class_tests)
+pub returns-then-is_ascii_white : goal.returns-then-is_ascii_white
+returns-then-is_ascii_white c = grind (arith, common_steps, ascii_at)
 
-pub returns-in-Letter : goal.returns-in-Letter
-returns-in-Letter c = grind (arith, common_steps, ascii_at, class_tests)
+pub returns-else-is_ascii_white : goal.returns-else-is_ascii_white
+returns-else-is_ascii_white c = grind (arith, common_steps, ascii_at)
 
 pub returns-then-is_mu : goal.returns-then-is_mu
 returns-then-is_mu c =
