@@ -452,7 +452,7 @@ fn durations() {
     for (size, spans, others) in [("a tenth of a megabyte", 34_952, 104_856), ("a megabyte", 349_525, 1_048_575)] {
         read_duration!(&format!("read {size} of `1h `"), &"1h ".repeat(spans));
         read_duration!(&format!("refuse {size} of `1h `, and `~`"), &format!("{}~", "1h ".repeat(spans)));
-        read_duration!(&format!("refuse {size} of white space"), &" ".repeat(others));
+        read_duration!(&format!("refuse {size} of whitespace"), &" ".repeat(others));
         read_duration!(&format!("refuse {size} of `0`"), &"0".repeat(others));
         read_duration!(&format!("refuse `1` and {size} of `s`"), &format!("1{}", "s".repeat(others)));
     }

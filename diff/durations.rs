@@ -152,7 +152,7 @@ fn goes_on(letter: char) -> bool {
     letter.is_ascii_digit() || letter.is_whitespace()
 }
 
-/// Whether a number of the text ends before this point: digits and white space back to the start or to a letter.
+/// Whether a number of the text ends before this point: digits and whitespace back to the start or to a letter.
 fn follows_number(text: &str, point: usize) -> bool {
     let before = text[..point].trim_end_matches(goes_on);
     let number = &text[before.len()..point];
@@ -208,7 +208,7 @@ fn put_right(text: &str, answer: Read) -> (Read, Option<Row>) {
     }
 }
 
-/// Whether a number's point stands here, and right after it a character that is no digit, white space or letter.
+/// Whether a number's point stands here, and right after it a character that is no digit, whitespace or letter.
 fn is_point_before_bad_character(text: &str, at: usize) -> bool {
     let next = text[at..].chars().nth(1);
     text[at..].starts_with('.')
@@ -216,7 +216,7 @@ fn is_point_before_bad_character(text: &str, at: usize) -> bool {
         && next.is_some_and(|letter| !goes_on(letter) && !is_letter(letter))
 }
 
-/// The number's point from which white space alone leads to this letter, or to this end.
+/// The number's point from which whitespace alone leads to this letter, or to this end.
 fn point_before_space(text: &str, at: usize) -> Option<usize> {
     let before = text[..at].trim_end();
     let point = before.len().checked_sub(1)?;

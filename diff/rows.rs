@@ -33,12 +33,12 @@ pub const ROWS: [(Row, &str); 10] = [
     (Row::CarryTooLarge, "spans whose carry passes the greatest second"),
     (
         Row::NoDigitAfterSpace,
-        "a character that is no digit, after white space at the start or after a span",
+        "a character that is no digit, after whitespace at the start or after a span",
     ),
     (Row::BadAfterPoint, "a bad character right after a point"),
     (
         Row::SpaceAfterPoint,
-        "white space after a point without digits, and then a letter or the end",
+        "whitespace after a point without digits, and then a letter or the end",
     ),
     (
         Row::TailAfterPlus,

@@ -1,4 +1,4 @@
-"""What `edits` and `weakenings` share: edits of the texts of a crate, copies of the repository to try them on, and what a check
+"""What `mutants` and `weakenings` share: edits of the texts of a crate, copies of the repository to try them on, and what a check
 leaves open there."""
 import os
 import queue
@@ -12,18 +12,18 @@ ROOT = os.path.dirname(os.path.dirname(os.path.abspath(__file__)))
 OPEN_GOAL = re.compile(r"^note: (?:\./)?(src/\S+?):(\d+):\d+: it is not proved that (.*?) \(`([^`]*)`\)", re.M)
 ANSWER = re.compile(r"^(?:\./)?(proofs/\S+?):\d+:\d+: error: (?:`([^`]*)`)?", re.M)
 # What crates.txt names for the gate's order alone: a copy is checked without it.
-ORDER_ALONE = [("humantime_sink:", " humantime"), ("humantime_tests:", " humantime_promises")]
-TESTED = ["humantime_tests", "humantime_durations", "humantime_times", "humantime_cli"]
+ORDER_ALONE = [("humantime_tests_sinks:", " humantime"), ("humantime_tests:", " humantime_tests_contracts")]
+TESTED = ["humantime_tests", "humantime_tests_durations", "humantime_tests_timestamps", "humantime_cli"]
 
 
 class Edit:
     def __init__(self, crate, name, text):
         self.crate, self.name, self.text = crate, name, text
-        self.has_twin = "\nright:" in text
+        self.has_equivalent = "\nequivalent:" in text
 
     def texts(self, folder, kind, before=None):
         """What the files are after the edit, by their paths below the crate's folder, and the changed lines as (path, number).
-        The kind is `new`, or `right` for the edit's twin; before it they may be as other edits left them."""
+        The kind is `new`, or `equivalent` for the equivalent mutant; before it they may be as other edits left them."""
         path, old, texts, lines = None, None, dict(before or {}), []
         for line in self.text.split("\n"):
             if line.startswith("file: "):
@@ -100,7 +100,7 @@ def copied(top, to):
         text = re.sub(rf"^({crate}.*?){name}\b", r"\1", text, flags=re.M)
     with open(os.path.join(to, "crates.txt"), "w", encoding="utf-8") as file:
         file.write(text)
-    shutil.copytree(os.path.join(top, "crates"), os.path.join(to, "crates"), ignore=shutil.ignore_patterns("must-fail", "edits", "weakened"))
+    shutil.copytree(os.path.join(top, "crates"), os.path.join(to, "crates"), ignore=shutil.ignore_patterns("must-fail", "mutants", "weakened"))
     return to
 
 

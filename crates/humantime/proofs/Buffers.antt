@@ -10,9 +10,9 @@ use Rattle.std.specs.Prelude.{Option, IsSome, IfSome, IfNone, option_map, ◌↔
 use Rattle.std.specs.Borrow.{Array, u8}
 use Rattle.humantime.specs.Buffers.{Holds}
 use Rattle.humantime.specs.declared.duration.error.DurationError.{DurationError}
-use Rattle.humantime.specs.Durations.Errors.{told_text}
+use Rattle.humantime.specs.Durations.Errors.{text_result_view}
 use Rattle.humantime.specs.Durations.Faults.{Fault}
-use Rattle.humantime.specs.References.Durations.Seen.{seen}
+use Rattle.humantime.specs.References.Durations.ResultViews.{result_view_by}
 
 -- a buffer whose last bytes are known holds them
 pub holds : {M : Type 1} {𝓤 : Ura M} (𝓛 : Logic 𝓤) (n : ℕ) (buf : MutBor (List ℕ)) (last : List ℕ) (P : List ℕ → Type 0) → P last
@@ -38,13 +38,13 @@ none_shown t m f P e p = grind (arith, common_steps)
 
 -- the same of an answer with an error, which is passed on as it is
 pub answer_shown : (t : Result (Bor (List ℕ)) DurationError) (m : Result ℕ DurationError) (f : ℕ → List ℕ) (answer : Result (List ℕ) Fault)
-    → IfOk m (λ n. told_text t ≡ Ok (f n)) → IfErr m (λ e. t ≡ Err e) → seen f m ≡ answer → told_text t ≡ answer
+    → IfOk m (λ n. text_result_view t ≡ Ok (f n)) → IfErr m (λ e. t ≡ Err e) → result_view_by f m ≡ answer → text_result_view t ≡ answer
 answer_shown t m f answer p q e = grind (arith, common_steps)
 
 pub error_shown : (t : Result (Bor (List ℕ)) DurationError) (m : Result ℕ DurationError) (f : ℕ → List ℕ) (Q : DurationError → Type 0)
-    → IfOk m (λ n. told_text t ≡ Ok (f n)) → IfErr m (λ e. t ≡ Err e) → IfErr m Q → IfErr t Q
+    → IfOk m (λ n. text_result_view t ≡ Ok (f n)) → IfErr m (λ e. t ≡ Err e) → IfErr m Q → IfErr t Q
 error_shown t m f Q p q e = grind (arith, common_steps)
 
 pub err_shown : (t : Result (Bor (List ℕ)) DurationError) (m : Result ℕ DurationError) (f : ℕ → List ℕ) (P : Type 0)
-    → IfOk m (λ n. told_text t ≡ Ok (f n)) → IfErr m (λ e. t ≡ Err e) → OnErr m P → OnErr t P
+    → IfOk m (λ n. text_result_view t ≡ Ok (f n)) → IfErr m (λ e. t ≡ Err e) → OnErr m P → OnErr t P
 err_shown t m f P p q e = grind (arith, common_steps)

@@ -8,16 +8,16 @@ pub use Rattle.humantime.specs.Calendar.{IsDate, day_of}
 pub use Rattle.humantime.specs.Laws.Days.{IsDateOfDay}
 -- durations read: the answer as a function of the characters, and the relations that it is tied to
 pub use Rattle.humantime.specs.Durations.Characters.{bare_zero}
-pub use Rattle.humantime.specs.Durations.Errors.{told, told_text, fault_of, PointsInto, IsPlaceIn, IsPartOf, fault_message, unit_message}
+pub use Rattle.humantime.specs.Durations.Errors.{result_view, text_result_view, fault_of, PointsInto, IsPlaceIn, IsPartOf, fault_message, unit_message}
 pub use Rattle.humantime.specs.References.Durations.Answers.{duration_answer, canonical_answer}
 pub use Rattle.humantime.specs.Durations.Accepted.{Accepted, Bare_zero, Sum_of, value, additions, WithinLimits, AllHaveRoom}
 pub use Rattle.humantime.specs.Durations.Spans.{Span, Reads}
 pub use Rattle.humantime.specs.Durations.Faults.{Fault, InvalidCharacter, NumberExpected, UnknownUnit, NumberOverflow, Empty, HasFault}
-pub use Rattle.humantime.specs.Laws.Texts.{without_white_space, AreReordered}
+pub use Rattle.humantime.specs.Laws.Texts.{without_whitespace, AreReordered}
 pub use Rattle.humantime.specs.Laws.Older.{AcceptedWithZeros, WasAccepted}
 -- spans
-pub use Rattle.humantime.specs.Durations.Items.{Items, Lent, AreItems}
-pub use Rattle.humantime.specs.References.Durations.Lents.{lent_of, item_of}
+pub use Rattle.humantime.specs.Durations.Items.{Items, SpanView, AreItems}
+pub use Rattle.humantime.specs.References.Durations.SpanViews.{span_view, item_of}
 pub use Rattle.humantime.specs.References.Durations.Remaining.{items_left, text_of, GivesItem}
 -- durations printed
 pub use Rattle.humantime.specs.Durations.Counts.{Counts, Canon, IsCanonicalOf}

@@ -3,14 +3,14 @@ use Rattle.std.specs.Prelude.{ℕ, Bool, false, List, [], ◌∷◌, if◌then�
 use Rattle.std.specs.Str.Parse.{digits_value}
 
 -- Takes the longest prefix of a text whose characters all pass a test.
-abbrev pub leading : (ℕ → Bool) → List ℕ → List ℕ
-leading p [] = []
-leading p (c ∷ cs) = if p c then c ∷ leading p cs else []
+abbrev pub take_while : (ℕ → Bool) → List ℕ → List ℕ
+take_while p [] = []
+take_while p (c ∷ cs) = if p c then c ∷ take_while p cs else []
 
 -- Drops the longest prefix of a text whose characters all pass a test.
-abbrev pub past : (ℕ → Bool) → List ℕ → List ℕ
-past p [] = []
-past p (c ∷ cs) = if p c then past p cs else c ∷ cs
+abbrev pub drop_while : (ℕ → Bool) → List ℕ → List ℕ
+drop_while p [] = []
+drop_while p (c ∷ cs) = if p c then drop_while p cs else c ∷ cs
 
 -- Tests whether a text begins with a character that passes a test.
 abbrev pub begins : (ℕ → Bool) → List ℕ → Bool

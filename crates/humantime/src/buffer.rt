@@ -7,7 +7,7 @@ use std::str::from_utf8_unchecked;
 
 /// The text in the first `end` bytes.
 #[inline(always)]
-pub(crate) fn front(buf: &[u8], end: usize) -> &str
+pub(crate) fn str_prefix(buf: &[u8], end: usize) -> &str
     requires fits { end ≤ length buf.now }
     requires utf8 { IsUtf8 (take end buf.now) }
     ensures { result.now ≡ take end buf.now }

@@ -25,17 +25,17 @@ pub(crate) enum Unit {
 /// The key of a word without letters.
 ///
 /// A word's key is one number: its bytes are the digits to base 256, the first the highest, behind a leading 1.
-pub(crate) const NO_LETTERS: u64 = 1;
+pub(crate) const EMPTY_KEY: u64 = 1;
 
 /// The key of each word of more bytes than a unit's word has.
-pub(crate) const TOO_LONG: u64 = 0;
+pub(crate) const NO_UNIT: u64 = 0;
 
 /// How many bytes the longest word of a unit has.
 pub(crate) const MOST_BYTES: usize = 7;
 
 /// The key of a word with one byte more, where it fits.
 #[inline(always)]
-pub(crate) fn key_with(key: u64, byte: u8) -> u64
+pub(crate) fn push_byte(key: u64, byte: u8) -> u64
     ensures { key * 256 + byte < 2 ^ 64 → result ≡ key * 256 + byte }
 {
     key.wrapping_mul(256).wrapping_add(byte as u64)

@@ -4,7 +4,7 @@ ghost use Rattle.std.specs.Prelude.{◌≡◌, ◌↔◌, ℕ, chars, IfErr, Som
 ghost use Rattle.humantime.specs.Durations.Accepted.{Accepted};
 ghost use Rattle.humantime.specs.Durations.Faults.{Fault, HasFault};
 ghost use Rattle.humantime.specs.References.Durations.Answers.{duration_answer};
-ghost use Rattle.humantime.specs.Durations.Errors.{told, PointsInto};
+ghost use Rattle.humantime.specs.Durations.Errors.{result_view, PointsInto};
 
 use crate::date::{TimestampError, format_rfc3339, parse_rfc3339_weak};
 use crate::duration::{DurationError, format_duration, parse_duration};
@@ -74,9 +74,9 @@ impl Duration {
     /// assert_eq!(rt; Duration::from_str("1foo~"), Err(DurationError::InvalidCharacter(4)));
     /// ```
     pub fn from_str(s: &str) -> Result<Duration, DurationError<'_>>
-        ensures value { (v : ℕ) → (told result ≡ Ok v) ↔ Accepted (chars s.now) v }
-        ensures fault { (e : Fault) → (told result ≡ Err e) ↔ HasFault (chars s.now) e }
-        ensures answer { told result ≡ duration_answer (chars s.now) }
+        ensures value { (v : ℕ) → (result_view result ≡ Ok v) ↔ Accepted (chars s.now) v }
+        ensures fault { (e : Fault) → (result_view result ≡ Err e) ↔ HasFault (chars s.now) e }
+        ensures answer { result_view result ≡ duration_answer (chars s.now) }
         ensures place { IfErr result (PointsInto s.now) }
     {
         match parse_duration(s) {

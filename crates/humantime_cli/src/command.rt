@@ -2,7 +2,7 @@
 
 ghost use Rattle.std.specs.Prelude.{◌≡◌, ◌<◌, ℕ, List, Result, Some, Ok, Err, IfOk, false};
 ghost use Rattle.std.specs.Result.{is_err, result_map_both, result_unwrap_or};
-ghost use Rattle.humantime.specs.Prelude.{IsPrintable, told_text, fault_message};
+ghost use Rattle.humantime.specs.Prelude.{IsPrintable, text_result_view, fault_message};
 ghost use Rattle.humantime_cli.specs.Answers.{texts, Ends, EndsWith, OneAnswer, TellsMoment};
 
 use crate::command::stream::{Failed, Stream, WriteFailed};
@@ -85,7 +85,7 @@ fn answer_duration<O: Stream, E: Stream>(
     failed: &mut Failed,
 ) -> Result<u8, WriteFailed>
     requires { failed.old ≡ false }
-    ensures ends { EndsWith (Some (result_map_both (λ text. text) fault_message (told_text read.entry))) (result_unwrap_or result 3)
+    ensures ends { EndsWith (Some (result_map_both (λ text. text) fault_message (text_result_view read.entry))) (result_unwrap_or result 3)
         (O.contents out.old) (O.contents out.new) (E.contents err.old) (E.contents err.new) }
     ensures noted { failed.new ≡ is_err result }
     ensures status { IfOk result (λ status. status < 3) }

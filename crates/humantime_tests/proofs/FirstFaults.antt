@@ -6,13 +6,13 @@ use Rattle.std.specs.Bool.{Decides}
 use Rattle.std.proofs.lemmas.Bool.{cases_Bool}
 use Rattle.std.proofs.lemmas.Bool.Decides.{nat_tests, Decides-or, Decides-ltb, not_from_Decides}
 use Rattle.std.proofs.lemmas.List.{length-reverse, reverse-append, reverse-reverse}
-use Rattle.humantime.specs.Texts.{begins, leading, past, decimal_value}
+use Rattle.humantime.specs.Texts.{begins, take_while, drop_while, decimal_value}
 use Rattle.humantime.specs.Durations.Characters.{is_letter, is_digit, significant, byte_length, offset_of}
 use Rattle.humantime.specs.Durations.Spans.{Span}
 use Rattle.humantime.specs.Durations.Units.{scale_of_word}
 use Rattle.humantime.specs.Durations.Accepted.{is_some_and, too_long, WithinLimits}
 use Rattle.humantime.specs.Durations.Faults.{Fault, InvalidCharacter, UnknownUnit, NumberOverflow, Stops, Nothing_there, Wrong_there, HasFault, ends_span, fault_at, stop_at, number_of, after_number, fraction_of, word_of, after_fraction, after_word, span_of}
-use Rattle.humantime.proofs.Durations.Reading.Runs.{leading-past, begins-past, begins_not_nil}
+use Rattle.humantime.proofs.Durations.Reading.Runs.{take_while-drop_while, begins-drop_while, begins_not_nil}
 use Rattle.humantime.proofs.Durations.Reading.Stopping.{some_letters, fine_at}
 use Rattle.humantime.proofs.Durations.Reading.SignificantDigits.{significant_long}
 use Rattle.humantime_tests.specs.FirstFaults.{IsLong, IsTooLarge, MayFollow, IsStray, BeginsSpan, HasNumbers, Row, Nothing, No_digit, Too_large, Stray_behind_number, Bare_point, Stray_behind_point, Stray_behind_letters, No_word, Unknown_word, Broken_limit, IsFirstFault}
@@ -34,10 +34,10 @@ last_counts zeros (d ∷ kept) e n = record {
 long_digits : (ds : List ℕ) → 19 < length (significant ds) → IsLong (Some ds)
 unfolding significant
 long_digits ds n =
-    let zeros = leading (λ d. d == 48) (reverse ds) in
-    let kept = past (λ d. d == 48) (reverse ds) in
-    rw (leading-past (λ d. d == 48) (reverse ds), reverse-reverse) at
-    (last_counts zeros kept (begins-past (λ d. d == 48) (reverse ds)) (omega (arith, length-reverse kept)))
+    let zeros = take_while (λ d. d == 48) (reverse ds) in
+    let kept = drop_while (λ d. d == 48) (reverse ds) in
+    rw (take_while-drop_while (λ d. d == 48) (reverse ds), reverse-reverse) at
+    (last_counts zeros kept (begins-drop_while (λ d. d == 48) (reverse ds)) (omega (arith, length-reverse kept)))
 
 fraction_tells : (fraction : Option (List ℕ)) → Decides (is_some_and (λ ds. nat_lt 19 (length (significant ds))) fraction) (IsLong fraction)
 fraction_tells None = (λ e. cc, λ h. absurd (let e = h.whole in cc))
@@ -47,7 +47,7 @@ too_large_tells : (rest : List ℕ) → Decides (too_long (span_of rest)) (IsToo
 too_large_tells rest = Decides-or _ _ (Decides-ltb _ _) (fraction_tells (fraction_of rest))
 
 -- where no letter stands, and the text goes on
-stray_tells : (cs : List ℕ) → Decides (begins (λ c. not (is_letter c)) cs) ((leading is_letter cs ≡ []) × (past is_letter cs ≢ []))
+stray_tells : (cs : List ℕ) → Decides (begins (λ c. not (is_letter c)) cs) ((take_while is_letter cs ≡ []) × (drop_while is_letter cs ≢ []))
 stray_tells cs = grind (arith, common_steps)
 
 bare_tells : (fraction : Option (List ℕ)) → Decides (is_some_and (λ ds. length ds == 0) fraction) (fraction ≡ Some [])
@@ -59,8 +59,8 @@ follows_tells next = grind (arith, common_steps)
 stray_next : (next : List ℕ) → (ends_span next ≡ false) ↔ IsStray next
 stray_next next = grind (arith, common_steps)
 
-ends_there : (cs : List ℕ) → leading is_letter cs ≡ [] → past is_letter cs ≡ [] → cs ≡ []
-ends_there cs none end = sym (rw (none, end) at (leading-past is_letter cs))
+ends_there : (cs : List ℕ) → take_while is_letter cs ≡ [] → drop_while is_letter cs ≡ [] → cs ≡ []
+ends_there cs none end = sym (rw (none, end) at (take_while-drop_while is_letter cs))
 
 is_false : {P : Type 0} (test : Bool) → Decides test P → ¬ P → test ≡ false
 is_false true tells not = absurd (not (tells.0 refl))
@@ -72,8 +72,8 @@ is_false false tells not = refl
 abbrev is_stray : List ℕ → Bool
 is_stray rest = begins (λ c. not (is_letter c)) (after_fraction rest)
 
-abbrev is_bare : List ℕ → Bool
-is_bare rest = is_some_and (λ ds. length ds == 0) (fraction_of rest)
+abbrev has_no_digits : List ℕ → Bool
+has_no_digits rest = is_some_and (λ ds. length ds == 0) (fraction_of rest)
 
 -- letters, or the end
 abbrev IsWordOrEnd : List ℕ → Type 0
@@ -85,7 +85,7 @@ short rest b = is_false _ (too_large_tells rest) b.fits
 no_stray : (rest : List ℕ) → IsWordOrEnd rest → is_stray rest ≡ false
 no_stray rest w = is_false _ (stray_tells (after_fraction rest)) (λ h. elim w [ inl some ↦ some h.0 | inr end ↦ h.1 end ])
 
-not_bare : (rest : List ℕ) → HasNumbers rest → is_bare rest ≡ false
+not_bare : (rest : List ℕ) → HasNumbers rest → has_no_digits rest ≡ false
 not_bare rest n = is_false _ (bare_tells (fraction_of rest)) n.digits
 
 stop_long : (text rest : List ℕ) → too_long (span_of rest) ≡ true → stop_at text rest ≡ Some NumberOverflow
@@ -96,7 +96,7 @@ stop_stray : (text rest : List ℕ) → BeginsSpan rest → is_stray rest ≡ tr
 unfolding stop_at
 stop_stray text rest b stray = rw (short rest b, stray)
 
-stop_bare : (text rest : List ℕ) → BeginsSpan rest → IsWordOrEnd rest → is_bare rest ≡ true → stop_at text rest ≡ Some (InvalidCharacter (offset_of text (after_number rest)))
+stop_bare : (text rest : List ℕ) → BeginsSpan rest → IsWordOrEnd rest → has_no_digits rest ≡ true → stop_at text rest ≡ Some (InvalidCharacter (offset_of text (after_number rest)))
 unfolding stop_at
 stop_bare text rest b w bare = rw (short rest b, no_stray rest w, bare)
 
@@ -209,7 +209,7 @@ short_row text front spans rest e b s = elim (cases_Bool (is_stray rest)) [
       let is = stop_stray text rest b stray in
       let tells = (stray_tells (after_fraction rest)).0 stray in
       point_row text front spans rest e b tells.0 tells.1 (cc)
-  | inr goes ↦ elim (cases_Bool (is_bare rest)) [
+  | inr goes ↦ elim (cases_Bool (has_no_digits rest)) [
     | inl bare ↦ Bare_point b ((bare_tells (fraction_of rest)).0 bare) (word_or_end rest goes) (let is = stop_bare text rest b (word_or_end rest goes) bare in cc)
     | inr some ↦ numbers_row text front spans rest e (record { span = b; digits = not_from_Decides _ (bare_tells (fraction_of rest)) some }) (word_or_end rest goes) s
   ]

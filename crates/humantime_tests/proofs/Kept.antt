@@ -11,7 +11,7 @@ use Rattle.std.proofs.Common.{◌≡◌, ℕ, List, [], ◌∷◌, refl, Bor, Mu
 use Rattle.std.specs.Prelude.{Option, None, Some, IsSome, IfNone, ◌↔◌, Result, Ok, Err, OnErr}
 use Rattle.std.specs.Borrow.{Array, u8}
 use Rattle.humantime.specs.Buffers.{Holds}
-use Rattle.humantime.specs.Durations.Errors.{told_text}
+use Rattle.humantime.specs.Durations.Errors.{text_result_view}
 use Rattle.humantime.specs.Durations.Faults.{Fault}
 use Rattle.humantime.specs.declared.duration.error.DurationError.{DurationError}
 
@@ -26,6 +26,6 @@ pub kept_unless : {A P Q : Type 0} (t : Option A) → (IsSome t ↔ P) → IfNon
 kept_unless None e q refused = q
 kept_unless (Some x) e q refused = absurd (refused (e.0 refl))
 
-pub kept_at_fault : {Q : Type 0} (t : Result (Bor (List ℕ)) DurationError) (e : Fault) → told_text t ≡ Err e → OnErr t Q → Q
+pub kept_at_fault : {Q : Type 0} (t : Result (Bor (List ℕ)) DurationError) (e : Fault) → text_result_view t ≡ Err e → OnErr t Q → Q
 kept_at_fault (Ok text) e told q = absurd (cc)
 kept_at_fault (Err error) e told q = q

@@ -1,20 +1,20 @@
--- Which characters are white space, digits, letters and points, by computation.
+-- Which characters are whitespace, digits, letters and points, by computation.
 use Rattle.std.proofs.Common.{◌≡◌, ℕ, List, [], ◌∷◌, filter, refl}
 use Rattle.std.specs.Prelude.{codes}
 use Rattle.std.specs.List.{range_with_len}
-use Rattle.humantime.specs.Durations.Characters.{is_ws, is_digit, is_letter, is_point}
+use Rattle.humantime.specs.Durations.Characters.{is_whitespace, is_digit, is_letter, is_point}
 use Rattle.humantime.proofs.OnLiterals.{humantime_on_literals}
 
--- all characters of ASCII, and those beyond it up to the last of white space
+-- all characters of ASCII, and those beyond it up to the last of whitespace
 abbrev ascii : List ℕ
 ascii = range_with_len 0 128
 
 abbrev beyond : List ℕ
 beyond = range_with_len 128 12_161
 
-white_space : filter is_ws ascii ≡ 0x9 ∷ 0xa ∷ 0xb ∷ 0xc ∷ 0xd ∷ 0x20 ∷ []
+whitespace : filter is_whitespace ascii ≡ 0x9 ∷ 0xa ∷ 0xb ∷ 0xc ∷ 0xd ∷ 0x20 ∷ []
 unfolding humantime_on_literals
-white_space = refl
+whitespace = refl
 
 digits : filter is_digit ascii ≡ codes "0123456789"
 unfolding humantime_on_literals
@@ -28,12 +28,12 @@ points : filter is_point ascii ≡ codes "."
 unfolding humantime_on_literals
 points = refl
 
-wide_white_space :
-    filter is_ws beyond
+wide_whitespace :
+    filter is_whitespace beyond
     ≡ 0x85 ∷ 0xa0 ∷ 0x1680 ∷ 0x2000 ∷ 0x2001 ∷ 0x2002 ∷ 0x2003 ∷ 0x2004 ∷ 0x2005 ∷ 0x2006 ∷ 0x2007 ∷ 0x2008 ∷ 0x2009 ∷ 0x200a
     ∷ 0x2028 ∷ 0x2029 ∷ 0x202f ∷ 0x205f ∷ 0x3000 ∷ []
 unfolding humantime_on_literals
-wide_white_space = refl
+wide_whitespace = refl
 
 wide_digits : filter is_digit beyond ≡ []
 unfolding humantime_on_literals

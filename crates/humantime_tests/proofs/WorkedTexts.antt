@@ -93,7 +93,7 @@ rows_of_strays =
     ∷ row (codes "1wek") (Err (UnknownUnit 1 4 (codes "wek") 1))
     ∷ []
 
--- å is no letter of a unit, an ideographic space is white space, and the micro sign and the Greek letter mu take two bytes
+-- å is no letter of a unit, an ideographic space is whitespace, and the micro sign and the Greek letter mu take two bytes
 abbrev rows_beyond_ascii : List Row
 rows_beyond_ascii =
     row (codes "1N" ++ 0xe5 ∷ []) (Err (InvalidCharacter 2))

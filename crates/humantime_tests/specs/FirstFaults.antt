@@ -5,7 +5,7 @@
 use Rattle.std.specs.Prelude.{◌≡◌, ◌≢◌, ◌⊎◌, ◌<◌, ◌≤◌, ℕ, true, false, List, [], ◌∷◌, ◌++◌, length, Option, Some, None, IsSome, encode_utf8_all}
 use Rattle.std.specs.Str.{byte}
 use Rattle.humantime.specs.Texts.{begins, ends, decimal_value}
-use Rattle.humantime.specs.Durations.Characters.{is_ws, is_digit, u64_max, byte_length, offset_of, bare_zero}
+use Rattle.humantime.specs.Durations.Characters.{is_whitespace, is_digit, u64_max, byte_length, offset_of, bare_zero}
 use Rattle.humantime.specs.Durations.Spans.{Span}
 use Rattle.humantime.specs.Durations.Units.{scale_of_word}
 use Rattle.humantime.specs.Durations.Accepted.{WithinLimits}
@@ -34,22 +34,22 @@ pub record HasNumbers (rest : List ℕ) : Type 0 where
   pub span : BeginsSpan rest
   pub digits : fraction_of rest ≢ Some []
 
--- the end, white space or a digit
+-- the end, whitespace or a digit
 abbrev pub MayFollow : List ℕ → Type 0
-MayFollow next = (next ≡ []) ⊎ ((begins is_ws next ≡ true) ⊎ (begins is_digit next ≡ true))
+MayFollow next = (next ≡ []) ⊎ ((begins is_whitespace next ≡ true) ⊎ (begins is_digit next ≡ true))
 
--- a character that is neither white space nor a digit
+-- a character that is neither whitespace nor a digit
 pub record IsStray (next : List ℕ) : Type 0 where
   pub some : next ≢ []
-  pub no_space : begins is_ws next ≡ false
+  pub no_whitespace : begins is_whitespace next ≡ false
   pub no_digit : begins is_digit next ≡ false
 
 -- What is wrong with a text at a rest of it. Before the rest stands the front, which spells these spans.
 pub data Row (text front : List ℕ) (spans : List Span) (rest : List ℕ) (e : Fault) : Type 0 where
-  -- nothing at all, or white space alone
+  -- nothing at all, or whitespace alone
   Nothing : spans ≡ [] → rest ≡ [] → e ≡ Empty → Row text front spans rest e
-  -- no digit where a number begins: at the start, or behind white space
-  No_digit : begins is_digit rest ≡ false → rest ≢ [] → (spans ≡ []) ⊎ (ends is_ws front ≡ true)
+  -- no digit where a number begins: at the start, or behind whitespace
+  No_digit : begins is_digit rest ≡ false → rest ≢ [] → (spans ≡ []) ⊎ (ends is_whitespace front ≡ true)
       → e ≡ NumberExpected (offset_of text rest) → Row text front spans rest e
   -- a number or a fraction that is too large, whatever follows it
   Too_large : begins is_digit rest ≡ true → IsTooLarge rest → e ≡ NumberOverflow → Row text front spans rest e

@@ -6,5 +6,5 @@ pub mod OlderTexts
 pub mod PrintedTogether
 pub mod Readings
 pub mod SmallAdditions
-pub mod SpacelessTexts
+pub mod TextsWithoutWhitespace
 pub mod TextTheorems

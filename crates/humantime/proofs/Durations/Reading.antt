@@ -6,7 +6,7 @@ pub mod Outcomes
 pub mod SpanWalks
 pub mod Rooms
 pub mod Runs
-pub mod Settled
+pub mod Summed
 pub mod SignificantDigits
 pub mod Spelled
 pub mod Spellings

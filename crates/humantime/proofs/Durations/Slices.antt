@@ -1,6 +1,6 @@
 -- What spans and errors lend of their text.
 pub mod Iterating
-pub mod LentItems
+pub mod ItemViews
 pub mod Places
 pub mod SlicesTold
 pub mod SpanSlices

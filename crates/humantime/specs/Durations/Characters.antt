@@ -2,11 +2,11 @@
 use Rattle.std.specs.Prelude.{ℕ, ◌-◌, Bool, ◌||◌, ◌==◌, List, [], ◌∷◌, length, encode_utf8_all, filter, codes, reverse}
 use Rattle.std.specs.Char.{char_set_contains, is_ascii_digit, is_ascii_alphabetic}
 use Rattle.std.specs.Str.{byte}
-use Rattle.humantime.specs.Texts.{past}
+use Rattle.humantime.specs.Texts.{drop_while}
 
--- Lists Unicode's 25 white-space characters.
-unfoldable pub white_spaces : List ℕ
-white_spaces =
+-- Lists Unicode's 25 whitespace characters.
+unfoldable pub whitespace_chars : List ℕ
+whitespace_chars =
     0x9 ∷ 0xa ∷ 0xb ∷ 0xc ∷ 0xd ∷ 0x20 ∷ 0x85 ∷ 0xa0 ∷ 0x1680 ∷ 0x2000 ∷ 0x2001 ∷ 0x2002 ∷ 0x2003 ∷ 0x2004 ∷ 0x2005 ∷ 0x2006
     ∷ 0x2007 ∷ 0x2008 ∷ 0x2009 ∷ 0x200a ∷ 0x2028 ∷ 0x2029 ∷ 0x202f ∷ 0x205f ∷ 0x3000 ∷ []
 
@@ -22,9 +22,9 @@ greek_mu = 0x3bc
 abbrev pub micro_suffix : List ℕ
 micro_suffix = 0xc2 ∷ 0xb5 ∷ codes "s"
 
--- Tests whether a character is white space.
-unfoldable pub is_ws : ℕ → Bool
-is_ws c = char_set_contains white_spaces c
+-- Tests whether a character is whitespace.
+unfoldable pub is_whitespace : ℕ → Bool
+is_whitespace c = char_set_contains whitespace_chars c
 
 -- Tests whether a character is one of `0` to `9`.
 unfoldable pub is_digit : ℕ → Bool
@@ -42,9 +42,9 @@ is_point c = c == byte "."
 abbrev pub bare_zero : List ℕ
 bare_zero = codes "0"
 
--- Tests whether a character is a digit or white space, as in a number.
+-- Tests whether a character is a digit or whitespace, as in a number.
 abbrev pub is_numeric : ℕ → Bool
-is_numeric c = is_digit c || is_ws c
+is_numeric c = is_digit c || is_whitespace c
 
 -- Keeps the digits of a text.
 abbrev pub digits : List ℕ → List ℕ
@@ -52,7 +52,7 @@ digits cs = filter is_digit cs
 
 -- Drops the zeros at the end of a list of digits.
 unfoldable pub significant : List ℕ → List ℕ
-significant ds = reverse (past (λ d. d == byte "0") (reverse ds))
+significant ds = reverse (drop_while (λ d. d == byte "0") (reverse ds))
 
 -- This is the greatest `u64`, 2^64 - 1.
 abbrev pub u64_max : ℕ

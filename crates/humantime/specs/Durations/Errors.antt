@@ -17,12 +17,12 @@ fault_of errors.NumberOverflow = NumberOverflow
 fault_of errors.Empty = Empty
 
 -- Turns a result's error into its fault.
-abbrev pub told : Result ℕ DurationError → Result ℕ Fault
-told r = result_map_both (λ d. d) fault_of r
+abbrev pub result_view : Result ℕ DurationError → Result ℕ Fault
+result_view r = result_map_both (λ d. d) fault_of r
 
 -- Turns a result into its text's bytes or its fault.
-abbrev pub told_text : Result (Bor (List ℕ)) DurationError → Result (List ℕ) Fault
-told_text r = result_map_both (λ t. t.now) fault_of r
+abbrev pub text_result_view : Result (Bor (List ℕ)) DurationError → Result (List ℕ) Fault
+text_result_view r = result_map_both (λ t. t.now) fault_of r
 
 -- A character of the text begins at this offset.
 abbrev pub IsPlaceIn : List ℕ → ℕ → Type 0

@@ -1,19 +1,19 @@
 -- The first fault of a text that is not accepted. A text is its list of characters; offsets count its bytes, and a fault
 -- holds the bytes of its unit.
 use Rattle.std.specs.Prelude.{ℕ, Bool, true, false, not, ◌==◌, List, [], ◌∷◌, length, Option, Some, None, is_some, if◌then◌else◌, ◌≡◌, ◌≢◌, ◌⊎◌, ◌++◌, drop, option_map, unwrap_or, encode_utf8_all}
-use Rattle.humantime.specs.Texts.{leading, past, begins, ends, decimal_value}
-use Rattle.humantime.specs.Durations.Characters.{is_letter, is_numeric, is_point, digits, is_ws, is_digit, offset_of, bare_zero}
+use Rattle.humantime.specs.Texts.{take_while, drop_while, begins, ends, decimal_value}
+use Rattle.humantime.specs.Durations.Characters.{is_letter, is_numeric, is_point, digits, is_whitespace, is_digit, offset_of, bare_zero}
 use Rattle.humantime.specs.Durations.Spans.{Span, SpellsAll}
 use Rattle.humantime.specs.Durations.Units.{scale_of_word}
 use Rattle.humantime.specs.Durations.Accepted.{is_some_and, too_long, WithinLimits}
 
 -- Gives the digits of the number that begins a rest.
 abbrev pub number_of : List ℕ → List ℕ
-number_of rest = digits (leading is_numeric rest)
+number_of rest = digits (take_while is_numeric rest)
 
 -- Gives what follows the number that begins a rest.
 abbrev pub after_number : List ℕ → List ℕ
-after_number rest = past is_numeric rest
+after_number rest = drop_while is_numeric rest
 
 -- Gives what follows the point that begins a text, if one does.
 abbrev pub behind_point : List ℕ → Option (List ℕ)
@@ -29,11 +29,11 @@ after_fraction rest = unwrap_or (option_map after_number (behind_point (after_nu
 
 -- Gives the letters behind the number and the fraction that begin a rest.
 abbrev pub word_of : List ℕ → List ℕ
-word_of rest = leading is_letter (after_fraction rest)
+word_of rest = take_while is_letter (after_fraction rest)
 
 -- Gives what follows the number, the fraction and the letters that begin a rest.
 abbrev pub after_word : List ℕ → List ℕ
-after_word rest = past is_letter (after_fraction rest)
+after_word rest = drop_while is_letter (after_fraction rest)
 
 -- Gives the span that begins a rest: number, fraction and word, each the longest that stands there.
 abbrev pub span_of : List ℕ → Span
@@ -47,19 +47,19 @@ pub data Fault : Type 0 where
   NumberOverflow : Fault
   Empty : Fault
 
--- The text is a prefix that spells the spans, and then a rest that does not begin with white space.
+-- The text is a prefix that spells the spans, and then a rest that does not begin with whitespace.
 pub record Split (text front : List ℕ) (spans : List Span) (rest : List ℕ) : Type 0 where
   pub whole : text ≡ front ++ rest
   pub spelled : SpellsAll front spans
-  pub no_space : begins is_ws rest ≡ false
+  pub no_whitespace : begins is_whitespace rest ≡ false
 
--- Tests whether a digit, white space or the end follows a word.
+-- Tests whether a digit, whitespace or the end follows a word.
 abbrev pub ends_span : List ℕ → Bool
 ends_span [] = true
 ends_span (c ∷ cs) = is_numeric c
 
--- Finds the first fault of a rest's first span: too long; no letter or end where the word begins; a point without digits; no digit, white
--- space or end after the word; a word, perhaps empty, of no unit.
+-- Finds the first fault of a rest's first span: too long; no letter or end where the word begins; a point without digits; no digit, whitespace
+-- or end after the word; a word, perhaps empty, of no unit.
 unfoldable pub stop_at : List ℕ → List ℕ → Option Fault
 stop_at text rest =
     if too_long (span_of rest) then Some NumberOverflow
@@ -76,10 +76,10 @@ fault_at text rest = if begins is_digit rest then stop_at text rest else Some (N
 
 -- After the spans comes the fault `e`: the rest's, or `Empty` with neither spans nor rest.
 pub data Stops (text front : List ℕ) (spans : List Span) (rest : List ℕ) (e : Fault) : Type 0 where
-  -- there is nothing, or only white space
+  -- there is nothing, or only whitespace
   Nothing_there : spans ≡ [] → rest ≡ [] → e ≡ Empty → Stops text front spans rest e
-  -- where a number has to begin, at the start or after a span that ends in white space, or where a digit stands
-  Wrong_there : rest ≢ [] → (spans ≡ []) ⊎ ((ends is_ws front ≡ true) ⊎ (begins is_digit rest ≡ true))
+  -- where a number has to begin, at the start or after a span that ends in whitespace, or where a digit stands
+  Wrong_there : rest ≢ [] → (spans ≡ []) ⊎ ((ends is_whitespace front ≡ true) ⊎ (begins is_digit rest ≡ true))
       → fault_at text rest ≡ Some e → Stops text front spans rest e
 
 -- The text, not exactly `0`, is spans within the limits, then the fault `e`, or a span that breaks a limit: `NumberOverflow`.

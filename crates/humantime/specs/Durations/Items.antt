@@ -5,8 +5,8 @@ use Rattle.std.specs.Str.{byte}
 use Rattle.humantime.specs.Durations.Spans.{Span, Only, Spells}
 use Rattle.humantime.specs.Durations.Accepted.{Formed}
 use Rattle.humantime.specs.Durations.Faults.{Fault, Split, Stops}
-use Rattle.humantime.specs.Texts.{begins, ends, past, decimal_value}
-use Rattle.humantime.specs.Durations.Characters.{is_ws, is_digit, offset_of}
+use Rattle.humantime.specs.Texts.{begins, ends, drop_while, decimal_value}
+use Rattle.humantime.specs.Durations.Characters.{is_whitespace, is_digit, offset_of}
 
 -- The text ends after the spans, at least one; or it stops there with the fault.
 abbrev pub Ends : List ℕ → List ℕ → List Span → List ℕ → Option Fault → Type 0
@@ -22,7 +22,7 @@ pub record Items (text : List ℕ) (spans : List Span) (stop : Option Fault) : T
   pub ends : Ends text front spans rest stop
 
 -- A span lends slices, the offsets of its start and its word's end, and its number.
-pub record Lent : Type 0 where
+pub record SpanView : Type 0 where
   pub number : List ℕ
   pub fraction : Option (List ℕ)
   pub unit : List ℕ
@@ -30,46 +30,46 @@ pub record Lent : Type 0 where
   pub end : ℕ
   pub value : ℕ
 
--- The slice is the text without outer white space, from digit to digit.
+-- The slice is the text without outer whitespace, from digit to digit.
 pub record IsDigitSlice (text slice : List ℕ) : Type 0 where
   pub before : List ℕ
   pub after : List ℕ
   pub whole : text ≡ before ++ (slice ++ after)
-  pub only_before : Only is_ws before
-  pub only_after : Only is_ws after
+  pub only_before : Only is_whitespace before
+  pub only_after : Only is_whitespace after
   pub first_digit : begins is_digit slice ≡ true
   pub last_digit : ends is_digit slice ≡ true
 
 -- There is no slice and no text; or the text begins with a point, and the slice goes from the first digit behind it to the last.
-abbrev pub LendsFraction : List ℕ → Option (List ℕ) → Type 0
-LendsFraction text None = text ≡ []
-LendsFraction text (Some slice) = (behind : List ℕ) × (text ≡ byte "." ∷ behind) × IsDigitSlice behind slice
+abbrev pub IsFractionView : List ℕ → Option (List ℕ) → Type 0
+IsFractionView text None = text ≡ []
+IsFractionView text (Some slice) = (behind : List ℕ) × (text ≡ byte "." ∷ behind) × IsDigitSlice behind slice
 
 -- From `here` stand the span and then `next`; the span lends `x`.
-pub record IsLent (text here : List ℕ) (s : Span) (x : Lent) (next : List ℕ) : Type 0 where
+pub record IsSpanView (text here : List ℕ) (s : Span) (x : SpanView) (next : List ℕ) : Type 0 where
   pub spelled : Spells here s next
   pub number : IsDigitSlice spelled.number_text x.number
-  pub fraction : LendsFraction spelled.fraction_text x.fraction
+  pub fraction : IsFractionView spelled.fraction_text x.fraction
   pub unit : x.unit ≡ s.word
   pub start : x.start ≡ offset_of text here
-  pub end : x.end ≡ offset_of text (spelled.space ++ next)
+  pub end : x.end ≡ offset_of text (spelled.whitespace ++ next)
   pub value : x.value ≡ decimal_value s.number
 
 -- From `here` to `end` the text spells the spans, and each lends its part.
-abbrev pub LendsEach : List ℕ → List ℕ → List Span → List Lent → List ℕ → Type 0
-LendsEach text here [] [] end = here ≡ end
-LendsEach text here (s ∷ ss) (x ∷ xs) end = (next : List ℕ) × IsLent text here s x next × LendsEach text next ss xs end
-LendsEach text here _ _ end = ⊥
+abbrev pub AreSpanViews : List ℕ → List ℕ → List Span → List SpanView → List ℕ → Type 0
+AreSpanViews text here [] [] end = here ≡ end
+AreSpanViews text here (s ∷ ss) (x ∷ xs) end = (next : List ℕ) × IsSpanView text here s x next × AreSpanViews text next ss xs end
+AreSpanViews text here _ _ end = ⊥
 
 -- Lists what was found, and then the fault, if there is one.
 abbrev pub items_of : {A : Type 0} → List A → Option Fault → List (Result A Fault)
 items_of found stop = map Ok found ++ option_to_list (option_map Err stop)
 
 -- The items are what each span lends, then the fault, if any.
-pub record AreItems (text : List ℕ) (lent : List (Result Lent Fault)) : Type 0 where
+pub record AreItems (text : List ℕ) (lent : List (Result SpanView Fault)) : Type 0 where
   pub spans : List Span
   pub stop : Option Fault
-  pub slices : List Lent
+  pub slices : List SpanView
   pub items : Items text spans stop
   pub are : lent ≡ items_of slices stop
-  pub each : LendsEach text (past is_ws text) spans slices items.rest
+  pub each : AreSpanViews text (drop_while is_whitespace text) spans slices items.rest

@@ -4,7 +4,7 @@ use Rattle.std.specs.Prelude.{◌≡◌, ◌≢◌, ℕ, Bool, true, List, [], �
 use Rattle.std.specs.List.{AllByRecursion}
 use Rattle.std.specs.Str.{byte}
 use Rattle.humantime.specs.Texts.{begins}
-use Rattle.humantime.specs.Durations.Characters.{is_ws, is_letter, is_numeric, is_digit, digits}
+use Rattle.humantime.specs.Durations.Characters.{is_whitespace, is_letter, is_numeric, is_digit, digits}
 
 -- A span has a number's digits, perhaps a fraction's, and a word.
 pub record Span : Type 0 where
@@ -16,7 +16,7 @@ pub record Span : Type 0 where
 abbrev pub Only : (ℕ → Bool) → List ℕ → Type 0
 Only passes text = AllByRecursion (λ c. passes c ≡ true) text
 
--- The text is digits and white space, and `ds` are its digits.
+-- The text is digits and whitespace, and `ds` are its digits.
 abbrev pub HoldsDigits : List ℕ → List ℕ → Type 0
 HoldsDigits text ds = Only is_numeric text × (digits text ≡ ds)
 
@@ -24,36 +24,36 @@ HoldsDigits text ds = Only is_numeric text × (digits text ≡ ds)
 abbrev pub IsLetters : List ℕ → Type 0
 IsLetters text = Only is_letter text × (text ≢ [])
 
--- Without a fraction the text is empty, else a point, then digits, at least one, among any white space.
+-- Without a fraction the text is empty, else a point, then digits, at least one, among any whitespace.
 abbrev pub SpellsFraction : List ℕ → Option (List ℕ) → Type 0
 SpellsFraction text None = text ≡ []
 SpellsFraction text (Some ds) = (behind : List ℕ) × (text ≡ byte "." ∷ behind) × HoldsDigits behind ds × (ds ≢ [])
 
--- The text is the span's number, from a digit on, fraction, word and any white space, then `rest`.
+-- The text is the span's number, from a digit on, fraction, word and any whitespace, then `rest`.
 pub record Spells (text : List ℕ) (span : Span) (rest : List ℕ) : Type 0 where
   pub number_text : List ℕ
   pub fraction_text : List ℕ
-  pub space : List ℕ
-  pub whole : text ≡ number_text ++ (fraction_text ++ (span.word ++ (space ++ rest)))
+  pub whitespace : List ℕ
+  pub whole : text ≡ number_text ++ (fraction_text ++ (span.word ++ (whitespace ++ rest)))
   pub starts : begins is_digit number_text ≡ true
   pub number : HoldsDigits number_text span.number
   pub fraction : SpellsFraction fraction_text span.fraction
   pub word : IsLetters span.word
-  pub only_space : Only is_ws space
+  pub only_whitespace : Only is_whitespace whitespace
 
 -- The text spells the spans, one after the other.
 abbrev pub SpellsEach : List ℕ → List Span → Type 0
 SpellsEach text [] = text ≡ []
 SpellsEach text (span ∷ spans) = (rest : List ℕ) × Spells text span rest × SpellsEach rest spans
 
--- The text is white space, or none, and then spells the spans.
+-- The text is whitespace, or none, and then spells the spans.
 pub record SpellsAll (text : List ℕ) (spans : List Span) : Type 0 where
-  pub space : List ℕ
+  pub whitespace : List ℕ
   pub body : List ℕ
-  pub whole : text ≡ space ++ body
-  pub only_space : Only is_ws space
+  pub whole : text ≡ whitespace ++ body
+  pub only_whitespace : Only is_whitespace whitespace
   pub each : SpellsEach body spans
 
--- The text is these spans, at least one, after any white space.
+-- The text is these spans, at least one, after any whitespace.
 abbrev pub Reads : List ℕ → List Span → Type 0
 Reads text spans = SpellsAll text spans × (spans ≢ [])

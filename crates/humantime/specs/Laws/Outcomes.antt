@@ -4,7 +4,7 @@ use Rattle.std.specs.Prelude.{◌≡◌, ◌≢◌, ◌↔◌, ℕ, List, ◌∷
 use Rattle.humantime.specs.Durations.Spans.{Span, Reads}
 use Rattle.humantime.specs.Durations.Accepted.{value, WithinLimits, Accepted}
 use Rattle.humantime.specs.Durations.Faults.{Fault, NumberOverflow, HasFault}
-use Rattle.humantime.specs.Durations.Items.{Items, Lent, AreItems}
+use Rattle.humantime.specs.Durations.Items.{Items, SpanView, AreItems}
 use Rattle.humantime.specs.Durations.Characters.{bare_zero}
 use Rattle.humantime.specs.References.Durations.Answers.{duration_answer}
 use Rattle.humantime.specs.Laws.ExactlyOne.{ExactlyOne}
@@ -38,15 +38,15 @@ pub record ItemsDecide (text : List ℕ) : Type 0 where
   pub stopped : (spans : List Span) (e : Fault) → Items text spans (Some e) → text ≢ bare_zero
       → WithinLimits spans → HasFault text e
   -- so where an error is the first item, it is the answer
-  pub first : (lent others : List (Result Lent Fault)) (e : Fault) → AreItems text lent → lent ≡ Err e ∷ others
+  pub first : (lent others : List (Result SpanView Fault)) (e : Fault) → AreItems text lent → lent ≡ Err e ∷ others
       → text ≢ bare_zero → duration_answer text ≡ Err e
   -- and where they aren't within the limits, it is too large, whatever stops them
   pub too_large : (spans : List Span) (stop : Option Fault) → Items text spans stop → text ≢ bare_zero
       → ¬ (WithinLimits spans) → HasFault text NumberOverflow
 
 -- A text lends exactly one list of items.
-pub record LendsOneList (text : List ℕ) : Type 0 where
+pub record HasOneItemList (text : List ℕ) : Type 0 where
   -- it has exactly one list of items with what they lend
   pub one : ExactlyOne (AreItems text)
   -- so two such lists are one
-  pub same : (lent others : List (Result Lent Fault)) → AreItems text lent → AreItems text others → others ≡ lent
+  pub same : (lent others : List (Result SpanView Fault)) → AreItems text lent → AreItems text others → others ≡ lent

@@ -1,15 +1,15 @@
--- Laws of accepted texts: without their white space, one behind the other, and with their spans in another order. A text
+-- Laws of accepted texts: without their whitespace, one behind the other, and with their spans in another order. A text
 -- is its list of characters.
 use Rattle.std.specs.Prelude.{◌≡◌, ◌≢◌, ◌↔◌, ◌⊎◌, ℕ, ◌+◌, List, ◌++◌, Ok, Err, filter, not, IsPermutation}
-use Rattle.humantime.specs.Durations.Characters.{is_ws, bare_zero}
+use Rattle.humantime.specs.Durations.Characters.{is_whitespace, bare_zero}
 use Rattle.humantime.specs.Durations.Spans.{Span, Reads}
 use Rattle.humantime.specs.Durations.Accepted.{additions, AllHaveRoom, Accepted}
 use Rattle.humantime.specs.Durations.Faults.{NumberOverflow, HasFault}
 use Rattle.humantime.specs.References.Durations.Answers.{duration_answer}
 
--- Drops the white space of a text.
-abbrev pub without_white_space : List ℕ → List ℕ
-without_white_space text = filter (λ c. not (is_ws c)) text
+-- Drops the whitespace of a text.
+abbrev pub without_whitespace : List ℕ → List ℕ
+without_whitespace text = filter (λ c. not (is_whitespace c)) text
 
 -- Where the text is accepted, it is exactly `0` or it is spans.
 abbrev pub IsZeroOrSpans : List ℕ → Type 0
@@ -27,12 +27,12 @@ pub record AreReordered (a b : List ℕ) : Type 0 where
   pub other_reads : Reads b others
   pub moved : IsPermutation spans others
 
--- An accepted text keeps its value without its white space.
-pub record KeepsValueWithoutSpace (text : List ℕ) : Type 0 where
+-- An accepted text keeps its value without its whitespace.
+pub record KeepsValueWithoutWhitespace (text : List ℕ) : Type 0 where
   -- what is accepted is accepted without it, with the same value
-  pub value : (v : ℕ) → Accepted text v → Accepted (without_white_space text) v
+  pub value : (v : ℕ) → Accepted text v → Accepted (without_whitespace text) v
   -- and so is what is answered
-  pub answer : (v : ℕ) → duration_answer text ≡ Ok v → duration_answer (without_white_space text) ≡ Ok v
+  pub answer : (v : ℕ) → duration_answer text ≡ Ok v → duration_answer (without_whitespace text) ≡ Ok v
 
 -- Two accepted texts, neither `0`, joined have the sum exactly where their additions have room, else are too large.
 pub record AddWhenJoined (a b : List ℕ) : Type 0 where

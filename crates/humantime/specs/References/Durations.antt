@@ -2,13 +2,13 @@
 pub mod Adding
 pub mod Answers
 pub mod Keys
-pub mod Lending
-pub mod Lents
+pub mod TextViews
+pub mod SpanViews
 pub mod Printing
 pub mod Reading
 pub mod Remaining
 pub mod Scales
 pub mod Scanning
-pub mod Seen
+pub mod ResultViews
 pub mod SpanParts
 pub mod Writing

@@ -12,19 +12,19 @@ use Rattle.humantime.specs.Timestamps.Fields.{Zone, No_zone, Letter_Z, Zero_offs
 
 -- Tests whether the text ends in this zone.
 abbrev pub ends_in : Zone → List ℕ → Bool
-ends_in z b = ends_with nat_eq b (zone_text z)
+ends_in z bytes = ends_with nat_eq bytes (zone_text z)
 
 -- Tests whether the text ends in `Z` or `+00:00`.
 abbrev pub ends_in_zone : List ℕ → Bool
-ends_in_zone b = ends_in Letter_Z b || ends_in Zero_offset b
+ends_in_zone bytes = ends_in Letter_Z bytes || ends_in Zero_offset bytes
 
 -- Gives the zone at the end of the text.
 unfoldable pub zone_of : List ℕ → Zone
-zone_of b = if ends_in Letter_Z b then Letter_Z else (if ends_in Zero_offset b then Zero_offset else No_zone)
+zone_of bytes = if ends_in Letter_Z bytes then Letter_Z else (if ends_in Zero_offset bytes then Zero_offset else No_zone)
 
 -- Gives what stands before the zone.
 abbrev pub before_zone : List ℕ → List ℕ
-before_zone b = take (length b - length (zone_text (zone_of b))) b
+before_zone bytes = take (length bytes - length (zone_text (zone_of bytes))) bytes
 
 -- Tests for at least 20 bytes, `T` at byte 10, and `Z` or `+00:00` last.
 unfoldable pub has_marks : List ℕ → Bool
@@ -32,17 +32,17 @@ has_marks b = nat_le 20 (length b) && (slice_index b 10 == byte "T") && ends_in_
 
 -- Tests whether `T` or a space stands between date and time.
 unfoldable pub has_separator : List ℕ → Bool
-has_separator b = (slice_index b 10 == byte "T") || (slice_index b 10 == byte " ")
+has_separator bytes = (slice_index bytes 10 == byte "T") || (slice_index bytes 10 == byte " ")
 
 -- Tests for `-`, `-`, a separator, `:` and `:` in their places.
-unfoldable pub has_signs : List ℕ → Bool
-has_signs b =
-    (slice_index b 4 == byte "-") && (slice_index b 7 == byte "-") && has_separator b
-    && (slice_index b 13 == byte ":") && (slice_index b 16 == byte ":")
+unfoldable pub has_punctuation : List ℕ → Bool
+has_punctuation bytes =
+    (slice_index bytes 4 == byte "-") && (slice_index bytes 7 == byte "-") && has_separator bytes
+    && (slice_index bytes 13 == byte ":") && (slice_index bytes 16 == byte ":")
 
 -- Tests whether two digits stand from place `k` on.
 unfoldable pub has_two : List ℕ → ℕ → Bool
-has_two b k = is_ascii_digit (slice_index b k) && is_ascii_digit (slice_index b (k + 1))
+has_two bytes k = is_ascii_digit (slice_index bytes k) && is_ascii_digit (slice_index bytes (k + 1))
 
 -- Tests the other 14 of the first 19 bytes for digits.
 unfoldable pub has_digits : List ℕ → Bool
@@ -68,7 +68,7 @@ are_in_range x =
 
 -- Gives what stands between the seconds and the zone.
 abbrev pub fraction_part : List ℕ → List ℕ
-fraction_part b = before_zone (drop 19 b)
+fraction_part bytes = before_zone (drop 19 bytes)
 
 -- Tests whether a fraction part is empty or begins with a point.
 unfoldable pub has_point : List ℕ → Bool
@@ -76,18 +76,18 @@ has_point part = (length part == 0) || (slice_index part 0 == byte ".")
 
 -- Lists the weak form's checks in order, with their errors.
 abbrev pub weak_checks : List ℕ → List (Bool × TimestampError)
-weak_checks b =
-    (nat_le 19 (length b), InvalidFormat)
-    ∷ (has_signs b, InvalidFormat)
-    ∷ (has_digits b, InvalidDigit)
-    ∷ (are_in_range (numbers_of b), OutOfRange)
-    ∷ (has_point (fraction_part b), InvalidFormat)
-    ∷ (all_ascii_digits (drop 1 (fraction_part b)), InvalidDigit)
+weak_checks bytes =
+    (nat_le 19 (length bytes), InvalidFormat)
+    ∷ (has_punctuation bytes, InvalidFormat)
+    ∷ (has_digits bytes, InvalidDigit)
+    ∷ (are_in_range (numbers_of bytes), OutOfRange)
+    ∷ (has_point (fraction_part bytes), InvalidFormat)
+    ∷ (all_ascii_digits (drop 1 (fraction_part bytes)), InvalidDigit)
     ∷ []
 
 -- Puts `has_marks` before the weak form's checks.
 abbrev pub strict_checks : List ℕ → List (Bool × TimestampError)
-strict_checks b = (has_marks b, InvalidFormat) ∷ weak_checks b
+strict_checks bytes = (has_marks bytes, InvalidFormat) ∷ weak_checks bytes
 
 -- Gives the first failed check's error, if any.
 abbrev pub first_failed : List (Bool × TimestampError) → Option TimestampError

@@ -185,21 +185,21 @@ pub fn parse_rfc3339(s: &str) -> Result<SystemTime, TimestampError>
 /// At least 20 bytes, a `T` and a zone.
 #[inline(always)]
 #[tactic(auto, using(crate::proofs::Timestamps::Reading::Ends::some_zone), unfolding(crate::specs::Timestamps::Checks::has_marks))]
-fn has_marks(b: &[u8]) -> bool
-    ensures { result ≡ Checks.has_marks b.now }
+fn has_marks(bytes: &[u8]) -> bool
+    ensures { result ≡ Checks.has_marks bytes.now }
 {
-    b.len() >= 20 && b[10] == b'T' && zone_length(b) > 0
+    bytes.len() >= 20 && bytes[10] == b'T' && zone_length(bytes) > 0
 }
 
 /// How many bytes the zone at the end has: one for `Z`, six for `+00:00`, and none without a zone.
 #[inline(always)]
 #[tactic(auto, using(crate::proofs::Timestamps::Reading::Ends::last_letter, crate::proofs::Timestamps::Reading::Ends::no_letter, crate::proofs::Timestamps::Reading::Ends::last_offset, crate::proofs::Timestamps::Reading::Ends::no_offset), unfolding(crate::specs::Timestamps::Checks::zone_of))]
-fn zone_length(b: &[u8]) -> usize
-    ensures { result ≡ length (zone_text (zone_of b.now)) }
+fn zone_length(bytes: &[u8]) -> usize
+    ensures { result ≡ length (zone_text (zone_of bytes.now)) }
 {
-    if b.len() >= 1 && b[b.len() - 1] == b'Z' {
+    if bytes.len() >= 1 && bytes[bytes.len() - 1] == b'Z' {
         1
-    } else if b.len() >= 6 && is_offset(&b[b.len() - 6..]) {
+    } else if bytes.len() >= 6 && is_offset(&bytes[bytes.len() - 6..]) {
         6
     } else {
         0
@@ -209,72 +209,76 @@ fn zone_length(b: &[u8]) -> usize
 /// What stands before the zone at the end.
 #[inline(always)]
 #[tactic(auto, using(crate::proofs::Timestamps::Reading::Ends::zone_fits))]
-fn before_zone(b: &[u8]) -> &[u8]
-    ensures { result.now ≡ Checks.before_zone b.now }
+fn before_zone(bytes: &[u8]) -> &[u8]
+    ensures { result.now ≡ Checks.before_zone bytes.now }
 {
-    &b[..b.len() - zone_length(b)]
+    &bytes[..bytes.len() - zone_length(bytes)]
 }
 
 /// The moment, or the error of the first check that fails.
 #[inline(always)]
 #[tactic(auto, using(crate::proofs::Timestamps::Reading::Exits::fraction_bound, crate::proofs::Timestamps::Reading::Exits::exit_digits, crate::proofs::Timestamps::Reading::Exits::exit_signs))]
-fn read_timestamp(b: &[u8]) -> Result<SystemTime, TimestampError>
-    ensures { result ≡ weak_answer b.now }
+fn read_timestamp(bytes: &[u8]) -> Result<SystemTime, TimestampError>
+    ensures { result ≡ weak_answer bytes.now }
 {
-    if b.len() < 19 || !has_separator(b) {
+    if bytes.len() < 19 || !has_separator(bytes) {
         return Err(TimestampError::InvalidFormat);
     }
-    if !is_shaped(b) {
+    if !matches_layout(bytes) {
         // The signs are looked at first.
-        if has_signs(b) {
+        if has_punctuation(bytes) {
             return Err(TimestampError::InvalidDigit);
         }
         return Err(TimestampError::InvalidFormat);
     }
-    let Some(secs) = seconds_in(lanes_at(b)) else {
+    let Some(secs) = seconds_in(lanes_at(bytes)) else {
         return Err(TimestampError::OutOfRange);
     };
-    let nanos = read_fraction(b, before_zone(&b[19..]))?;
+    let nanos = read_fraction(bytes, before_zone(&bytes[19..]))?;
     Ok(SystemTime::since_epoch(secs, nanos))
 }
 
 /// `T` or a space between date and time.
 #[inline(always)]
 #[tactic(auto, unfolding(crate::specs::Timestamps::Checks::has_separator))]
-fn has_separator(b: &[u8]) -> bool
-    requires { 19 ≤ length b.now }
-    ensures { result ≡ Checks.has_separator b.now }
+fn has_separator(bytes: &[u8]) -> bool
+    requires { 19 ≤ length bytes.now }
+    ensures { result ≡ Checks.has_separator bytes.now }
 {
-    b[10] == b'T' || b[10] == b' '
+    bytes[10] == b'T' || bytes[10] == b' '
 }
 
 /// The signs between the numbers.
 #[inline(always)]
-#[tactic(auto, unfolding(crate::specs::Timestamps::Checks::has_signs))]
-fn has_signs(b: &[u8]) -> bool
-    requires { 19 ≤ length b.now }
-    ensures { result ≡ Checks.has_signs b.now }
+#[tactic(auto, unfolding(crate::specs::Timestamps::Checks::has_punctuation))]
+fn has_punctuation(bytes: &[u8]) -> bool
+    requires { 19 ≤ length bytes.now }
+    ensures { result ≡ Checks.has_punctuation bytes.now }
 {
-    b[4] == b'-' && b[7] == b'-' && has_separator(b) && b[13] == b':' && b[16] == b':'
+    bytes[4] == b'-'
+        && bytes[7] == b'-'
+        && has_separator(bytes)
+        && bytes[13] == b':'
+        && bytes[16] == b':'
 }
 
 /// Signs and digits in their places.
 #[inline(always)]
-fn is_shaped(b: &[u8]) -> bool
-    requires long { 19 ≤ length b.now }
-    requires separator { IsTrue (Checks.has_separator b.now) }
-    ensures { result ≡ (Checks.has_signs b.now && Checks.has_digits b.now) }
+fn matches_layout(bytes: &[u8]) -> bool
+    requires long { 19 ≤ length bytes.now }
+    requires separator { IsTrue (Checks.has_separator bytes.now) }
+    ensures { result ≡ (Checks.has_punctuation bytes.now && Checks.has_digits bytes.now) }
 {
-    is_shaped_front(b) && has_seconds(b)
+    matches_layout_front(bytes) && has_seconds(bytes)
 }
 
 /// The sign before the seconds, and their digits.
 #[inline(always)]
-fn has_seconds(b: &[u8]) -> bool
-    requires { 19 ≤ length b.now }
-    ensures { result ≡ Reading.has_seconds b.now }
+fn has_seconds(bytes: &[u8]) -> bool
+    requires { 19 ≤ length bytes.now }
+    ensures { result ≡ Reading.has_seconds bytes.now }
 {
-    let above = u8x16::from_slice(&b[3..]) - u8x16::from_array(LEAST_BACK);
+    let above = u8x16::from_slice(&bytes[3..]) - u8x16::from_array(LEAST_BACK);
     let other = above.simd_gt(u8x16::from_array(MOST_ABOVE_BACK));
     other.to_bitmask() == 0
 }
@@ -282,26 +286,26 @@ fn has_seconds(b: &[u8]) -> bool
 /// Signs and digits in the first sixteen bytes, but for the sign between date and time. All are tested at once: a
 /// lane of the vector is how far a byte is above the least one, and a byte below that wraps around to far above.
 #[inline(always)]
-fn is_shaped_front(b: &[u8]) -> bool
-    requires long { 19 ≤ length b.now }
-    requires separator { IsTrue (Checks.has_separator b.now) }
-    ensures { (result && Reading.has_seconds b.now) ≡ (Checks.has_signs b.now && Checks.has_digits b.now) }
+fn matches_layout_front(bytes: &[u8]) -> bool
+    requires long { 19 ≤ length bytes.now }
+    requires separator { IsTrue (Checks.has_separator bytes.now) }
+    ensures { (result && Reading.has_seconds bytes.now) ≡ (Checks.has_punctuation bytes.now && Checks.has_digits bytes.now) }
 {
-    let above = u8x16::from_slice(b) - u8x16::from_array(LEAST);
+    let above = u8x16::from_slice(bytes) - u8x16::from_array(LEAST);
     let other = above.simd_gt(u8x16::from_array(MOST_ABOVE));
     other.to_bitmask() == 0
 }
 
 /// The numbers that date and time show, where all places have digits: `dot4` sums up four bytes, each by its weight.
 #[inline(always)]
-fn lanes_at(b: &[u8]) -> Lanes
-    requires long { 19 ≤ length b.now }
-    requires digits { IsTrue (Checks.has_digits b.now) }
-    ensures numbers { numbers_in result ≡ numbers_of b.now }
+fn lanes_at(bytes: &[u8]) -> Lanes
+    requires long { 19 ≤ length bytes.now }
+    requires digits { IsTrue (Checks.has_digits bytes.now) }
+    ensures numbers { numbers_in result ≡ numbers_of bytes.now }
     ensures short { AreShort result }
 {
-    let front = u8x16::from_slice(b) - u8x16::from_array(LEAST);
-    let back = u8x16::from_slice(&b[3..]) - u8x16::from_array(LEAST_BACK);
+    let front = u8x16::from_slice(bytes) - u8x16::from_array(LEAST);
+    let back = u8x16::from_slice(&bytes[3..]) - u8x16::from_array(LEAST_BACK);
     Lanes {
         front: front.dot4(u8x16::from_array(WEIGHTS_FRONT)),
         back: back.dot4(u8x16::from_array(WEIGHTS_BACK)),
@@ -387,8 +391,8 @@ fn seconds_of_month(lanes: Lanes) -> u32
 /// The nanoseconds of what stands between the seconds and the zone of this text, where it is right.
 #[inline(always)]
 #[tactic(auto, using(crate::proofs::Timestamps::Reading::Threes::nothing_read), unfolding(crate::specs::Timestamps::Checks::has_point))]
-fn read_fraction(b: &[u8], part: &[u8]) -> Result<u32, TimestampError>
-    requires { part.now ≡ fraction_part b.now }
+fn read_fraction(bytes: &[u8], part: &[u8]) -> Result<u32, TimestampError>
+    requires { part.now ≡ fraction_part bytes.now }
     ensures { result ≡ fraction_answer part.now }
 {
     if part.is_empty() {
@@ -399,7 +403,7 @@ fn read_fraction(b: &[u8], part: &[u8]) -> Result<u32, TimestampError>
     }
     // A point and nine digits count. At least 19 bytes stand before them, so that sixteen end where they do.
     let end = part.len().min(10);
-    match last_digits(&b[3 + end..19 + end], end - 1) {
+    match last_digits(&bytes[3 + end..19 + end], end - 1) {
         Some(nanos) if are_digits(&part[end..]) => Ok(nanos),
         _ => Err(TimestampError::InvalidDigit),
     }
@@ -407,12 +411,12 @@ fn read_fraction(b: &[u8], part: &[u8]) -> Result<u32, TimestampError>
 
 /// `+00:00`, of six bytes. The first four are compared as one number, and the last two as another.
 #[inline(always)]
-fn is_offset(b: &[u8]) -> bool
-    requires { length b.now ≡ 6 }
-    ensures { result ≡ bytes_eq b.now (codes "+00:00") }
+fn is_offset(bytes: &[u8]) -> bool
+    requires { length bytes.now ≡ 6 }
+    ensures { result ≡ bytes_eq bytes.now (codes "+00:00") }
 {
-    let front = u32::from_le_bytes([b[0], b[1], b[2], b[3]]);
-    let back = u16::from_le_bytes([b[4], b[5]]);
+    let front = u32::from_le_bytes([bytes[0], bytes[1], bytes[2], bytes[3]]);
+    let back = u16::from_le_bytes([bytes[4], bytes[5]]);
     front == u32::from_le_bytes(*b"+00:") && back == u16::from_le_bytes(*b"00")
 }
 

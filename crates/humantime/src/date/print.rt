@@ -10,7 +10,7 @@ ghost use Rattle.humantime.specs.Values.{nano_of};
 ghost use Rattle.humantime.specs.Timestamps.Printed.{IsPrinted, IsPrintable, places_of};
 ghost use Rattle.humantime.specs.References.Timestamps.Printing.{IsSecondOf, printed_text, fields_shown};
 
-use crate::buffer::front;
+use crate::buffer::str_prefix;
 use crate::calendar::{Date, date_of_day};
 use crate::turns::Turns;
 use crate::value::SystemTime;
@@ -44,8 +44,8 @@ enum Precision {
 /// use humantime::{UNIX_EPOCH, format_rfc3339_millis};
 ///
 /// let printable = format_rfc3339_millis(UNIX_EPOCH);
-/// let mut buffer = [0; 30];
-/// assert_eq!(rt; printable.text(&mut buffer), Some("1970-01-01T00:00:00.000Z"));
+/// let mut buf = [0; 30];
+/// assert_eq!(rt; printable.text(&mut buf), Some("1970-01-01T00:00:00.000Z"));
 /// assert_eq!(rt; printable.to_string(rt.alloc())?.as_str(), "1970-01-01T00:00:00.000Z");
 /// ```
 #[derive(Clone, Copy, Debug)]
@@ -78,11 +78,11 @@ impl Model for Rfc3339Timestamp {
 /// ```
 /// use humantime::{SystemTime, format_rfc3339};
 ///
-/// let mut buffer = [0; 30];
+/// let mut buf = [0; 30];
 /// let whole = SystemTime::from_parts(1_518_563_312, 0).ok_or("too many nanoseconds")?;
-/// assert_eq!(rt; format_rfc3339(whole).text(&mut buffer), Some("2018-02-13T23:08:32Z"));
+/// assert_eq!(rt; format_rfc3339(whole).text(&mut buf), Some("2018-02-13T23:08:32Z"));
 /// let moment = SystemTime::from_parts(1_518_563_312, 456_123_999).ok_or("too many nanoseconds")?;
-/// assert_eq!(rt; format_rfc3339(moment).text(&mut buffer), Some("2018-02-13T23:08:32.456123999Z"));
+/// assert_eq!(rt; format_rfc3339(moment).text(&mut buf), Some("2018-02-13T23:08:32.456123999Z"));
 /// ```
 pub fn format_rfc3339(moment: SystemTime) -> Rfc3339Timestamp
     ensures { result ≡ record { moment = moment; places = places_of moment } }
@@ -105,8 +105,8 @@ pub fn format_rfc3339(moment: SystemTime) -> Rfc3339Timestamp
 /// use humantime::{SystemTime, format_rfc3339_seconds};
 ///
 /// let moment = SystemTime::from_parts(1_518_563_312, 456_123_999).ok_or("too many nanoseconds")?;
-/// let mut buffer = [0; 30];
-/// assert_eq!(rt; format_rfc3339_seconds(moment).text(&mut buffer), Some("2018-02-13T23:08:32Z"));
+/// let mut buf = [0; 30];
+/// assert_eq!(rt; format_rfc3339_seconds(moment).text(&mut buf), Some("2018-02-13T23:08:32Z"));
 /// ```
 pub fn format_rfc3339_seconds(moment: SystemTime) -> Rfc3339Timestamp
     ensures { result ≡ record { moment = moment; places = 0 } }
@@ -127,8 +127,8 @@ pub fn format_rfc3339_seconds(moment: SystemTime) -> Rfc3339Timestamp
 /// use humantime::{SystemTime, format_rfc3339_millis};
 ///
 /// let moment = SystemTime::from_parts(1_518_563_312, 456_123_999).ok_or("too many nanoseconds")?;
-/// let mut buffer = [0; 30];
-/// assert_eq!(rt; format_rfc3339_millis(moment).text(&mut buffer), Some("2018-02-13T23:08:32.456Z"));
+/// let mut buf = [0; 30];
+/// assert_eq!(rt; format_rfc3339_millis(moment).text(&mut buf), Some("2018-02-13T23:08:32.456Z"));
 /// ```
 pub fn format_rfc3339_millis(moment: SystemTime) -> Rfc3339Timestamp
     ensures { result ≡ record { moment = moment; places = 3 } }
@@ -149,8 +149,8 @@ pub fn format_rfc3339_millis(moment: SystemTime) -> Rfc3339Timestamp
 /// use humantime::{SystemTime, format_rfc3339_micros};
 ///
 /// let moment = SystemTime::from_parts(1_518_563_312, 456_123_999).ok_or("too many nanoseconds")?;
-/// let mut buffer = [0; 30];
-/// assert_eq!(rt; format_rfc3339_micros(moment).text(&mut buffer), Some("2018-02-13T23:08:32.456123Z"));
+/// let mut buf = [0; 30];
+/// assert_eq!(rt; format_rfc3339_micros(moment).text(&mut buf), Some("2018-02-13T23:08:32.456123Z"));
 /// ```
 pub fn format_rfc3339_micros(moment: SystemTime) -> Rfc3339Timestamp
     ensures { result ≡ record { moment = moment; places = 6 } }
@@ -171,8 +171,8 @@ pub fn format_rfc3339_micros(moment: SystemTime) -> Rfc3339Timestamp
 /// use humantime::{SystemTime, format_rfc3339_nanos};
 ///
 /// let moment = SystemTime::from_parts(1_518_563_312, 456_123_999).ok_or("too many nanoseconds")?;
-/// let mut buffer = [0; 30];
-/// assert_eq!(rt; format_rfc3339_nanos(moment).text(&mut buffer), Some("2018-02-13T23:08:32.456123999Z"));
+/// let mut buf = [0; 30];
+/// assert_eq!(rt; format_rfc3339_nanos(moment).text(&mut buf), Some("2018-02-13T23:08:32.456123999Z"));
 /// ```
 pub fn format_rfc3339_nanos(moment: SystemTime) -> Rfc3339Timestamp
     ensures { result ≡ record { moment = moment; places = 9 } }
@@ -210,8 +210,8 @@ impl Rfc3339Timestamp {
     /// ```
     /// use humantime::{SystemTime, UNIX_EPOCH, format_rfc3339};
     ///
-    /// let mut buffer = [0; 30];
-    /// assert_eq!(rt; format_rfc3339(UNIX_EPOCH).text(&mut buffer), Some("1970-01-01T00:00:00Z"));
+    /// let mut buf = [0; 30];
+    /// assert_eq!(rt; format_rfc3339(UNIX_EPOCH).text(&mut buf), Some("1970-01-01T00:00:00Z"));
     /// let before = SystemTime::from_parts(-1, 0).ok_or("too many nanoseconds")?;
     /// let mut other = [7; 30];
     /// assert_eq!(rt; format_rfc3339(before).text(&mut other), None);
@@ -302,7 +302,7 @@ fn shown(buf: &[u8; 30], len: Option<usize>) -> Option<&str>
     ensures { option_map (λ t. t.now) result ≡ option_map (λ n. take n buf.now) len }
 {
     let len = len?;
-    Some(front(buf, len))
+    Some(str_prefix(buf, len))
 }
 
 /// The date and the second of the day of a moment of 1970 to 9999.

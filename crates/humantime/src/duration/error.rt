@@ -44,7 +44,7 @@ pub enum DurationError<'a> {
     /// the zeros at its end, has more than 19 digits, has too large a product with its unit's size, or is no whole
     /// number of what its unit counts fractions in: nanoseconds up to minutes, seconds from hours up.
     NumberOverflow,
-    /// The text is empty or has only white space.
+    /// The text is empty or has only whitespace.
     Empty,
 }
 
@@ -74,9 +74,9 @@ fn write_place<W: fmt::Write>(what: &str, at: usize, f: &mut fmt::Formatter<W>) 
     ensures writes { WritesOnOk W.write_str_gives f.old result (what.now ++ decimal at) f.new }
     ensures styled { WritesStyledOnOk W.write_str_gives f.old result (what.now ++ decimal at) f.new }
 {
-    let mut buffer = Buffer::new();
+    let mut buf = Buffer::new();
     f.write_str(what)?;
-    f.write_str(buffer.format(at))
+    f.write_str(buf.format(at))
 }
 
 /// Writes what is said of a unit that is missing or no unit's word. `value` is the number before it.
@@ -99,8 +99,8 @@ fn write_unit_needed<W: fmt::Write>(value: u64, f: &mut fmt::Formatter<W>) -> fm
     ensures writes { WritesOnOk W.write_str_gives f.old result (unit_message [] value) f.new }
     ensures styled { WritesStyledOnOk W.write_str_gives f.old result (unit_message [] value) f.new }
 {
-    let mut buffer = Buffer::new();
-    let value = buffer.format(value);
+    let mut buf = Buffer::new();
+    let value = buf.format(value);
     f.write_str("time unit needed, for example ")?;
     f.write_str(value)?;
     f.write_str("sec or ")?;

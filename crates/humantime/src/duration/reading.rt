@@ -1,4 +1,4 @@
-//! Durations read, in the order in which a text is read: a digit more (`amount`); the class of a character, white space, a number,
+//! Durations read, in the order in which a text is read: a digit more (`amount`); the class of a character, whitespace, a number,
 //! a fraction and a word (`scan`); a span (`span`, `reader`); the spans of a text (`iter`), their sum (`sum`), and the whole
 //! text (`parse`).
 

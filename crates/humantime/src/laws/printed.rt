@@ -13,8 +13,8 @@ use crate::value::StdDuration;
 ///
 /// let duration = StdDuration::from_secs(9420);
 /// laws::printed_duration_reads(duration);
-/// let mut buffer = [0; 64];
-/// let text = format_duration(duration).text(&mut buffer);
+/// let mut buf = [0; 64];
+/// let text = format_duration(duration).text(&mut buf);
 /// assert_eq!(rt; text, "2h 37m");
 /// assert_eq!(rt; parse_duration(text), Ok(duration));
 /// ```
@@ -31,8 +31,8 @@ pub fn printed_duration_reads(d: StdDuration)
 ///
 /// let (minute, longer) = (StdDuration::from_secs(60), StdDuration::new(60, 1));
 /// laws::printed_durations_differ(minute, longer);
-/// let (mut buffer, mut other) = ([0; 64], [0; 64]);
-/// assert_eq!(rt; format_duration(minute).text(&mut buffer), "1m");
+/// let (mut buf, mut other) = ([0; 64], [0; 64]);
+/// assert_eq!(rt; format_duration(minute).text(&mut buf), "1m");
 /// assert_eq!(rt; format_duration(longer).text(&mut other), "1m 1ns");
 /// ```
 pub fn printed_durations_differ(a: StdDuration, b: StdDuration)
@@ -48,8 +48,8 @@ pub fn printed_durations_differ(a: StdDuration, b: StdDuration)
 ///
 /// let duration = StdDuration::new(3_155_760_000_031_522_175, 999_999_999);
 /// laws::printed_bounds(duration);
-/// let mut buffer = [0; 64];
-/// let text = format_duration(duration).text(&mut buffer);
+/// let mut buf = [0; 64];
+/// let text = format_duration(duration).text(&mut buf);
 /// assert_eq!(rt; text, "100000000000years 11months 29days 23h 59m 59s 999ms 999µs 999ns");
 /// assert_eq!(rt; text.len(), 64);
 /// ```
@@ -67,8 +67,8 @@ pub fn printed_bounds(d: StdDuration)
 /// use humantime::{canonical, laws};
 ///
 /// laws::canonical_again("120min");
-/// let (mut buffer, mut other) = ([0; 64], [0; 64]);
-/// assert_eq!(rt; canonical("120min", &mut buffer), Ok("2h"));
+/// let (mut buf, mut other) = ([0; 64], [0; 64]);
+/// assert_eq!(rt; canonical("120min", &mut buf), Ok("2h"));
 /// assert_eq!(rt; canonical("2h", &mut other), Ok("2h"));
 /// ```
 pub fn canonical_again(s: &str)

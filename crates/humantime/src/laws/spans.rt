@@ -1,11 +1,11 @@
 //! What the spans of a text lend of it.
 
 ghost use Rattle.std.specs.Prelude.{chars};
-ghost use Rattle.humantime.specs.Laws.Outcomes.{LendsOneList};
+ghost use Rattle.humantime.specs.Laws.Outcomes.{HasOneItemList};
 
 /// States that a text has exactly one list of items that gives it slice by slice, in order.
 ///
-/// What lies in no slice is white space, or the point before a fraction. So two walks over a text give the same slices.
+/// What lies in no slice is whitespace, or the point before a fraction. So two walks over a text give the same slices.
 ///
 /// # Examples
 ///
@@ -20,5 +20,5 @@ ghost use Rattle.humantime.specs.Laws.Outcomes.{LendsOneList};
 /// assert!(rt; matches!(items.next(), Some(Err(DurationError::NumberExpected(9)))));
 /// ```
 pub fn spans_tile(s: &str)
-    ensures { LendsOneList (chars s.now) }
+    ensures { HasOneItemList (chars s.now) }
 {}

@@ -1,10 +1,10 @@
-//! Laws of accepted texts: without white space, one behind the other, in another order, and accepted before.
+//! Laws of accepted texts: without whitespace, one behind the other, in another order, and accepted before.
 
 ghost use Rattle.std.specs.Prelude.{◌≡◌, ◌++◌, chars};
 ghost use Rattle.humantime.specs.Laws.Older.{KeepsValueWithZeros};
-ghost use Rattle.humantime.specs.Laws.Texts.{AddWhenJoined, KeepValueReordered, KeepsValueWithoutSpace};
+ghost use Rattle.humantime.specs.Laws.Texts.{AddWhenJoined, KeepValueReordered, KeepsValueWithoutWhitespace};
 
-/// States that an accepted text without its white space is accepted with the same value, so both have one answer.
+/// States that an accepted text without its whitespace is accepted with the same value, so both have one answer.
 ///
 /// # Examples
 ///
@@ -16,7 +16,7 @@ ghost use Rattle.humantime.specs.Laws.Texts.{AddWhenJoined, KeepValueReordered, 
 /// assert_eq!(rt; parse_duration("12h30min"), Ok(StdDuration::from_secs(45_000)));
 /// ```
 pub fn without_ws(s: &str)
-    ensures { KeepsValueWithoutSpace (chars s.now) }
+    ensures { KeepsValueWithoutWhitespace (chars s.now) }
 {}
 
 /// States that of two accepted texts, neither exactly `0`, the one behind the other is accepted with their sum, or too large.

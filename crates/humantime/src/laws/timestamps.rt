@@ -68,8 +68,8 @@ pub fn one_stamp_outcome(s: &str)
 /// let cut = SystemTime::from_parts(1_518_563_312, 456_000_000).ok_or("too many nanoseconds")?;
 /// let printable = format_rfc3339_millis(moment);
 /// laws::printed_moment_reads(&printable);
-/// let mut buffer = [0; 30];
-/// let text = printable.text(&mut buffer).ok_or("out of range")?;
+/// let mut buf = [0; 30];
+/// let text = printable.text(&mut buf).ok_or("out of range")?;
 /// assert_eq!(rt; text, "2018-02-13T23:08:32.456Z");
 /// assert_eq!(rt; parse_rfc3339(text), Ok(cut));
 /// assert_eq!(rt; parse_rfc3339_weak(text), Ok(cut));
@@ -89,8 +89,8 @@ pub fn printed_moment_reads(x: &Rfc3339Timestamp)
 ///
 /// let later = SystemTime::from_parts(0, 1).ok_or("too many nanoseconds")?;
 /// laws::stamps_in_order(UNIX_EPOCH, later);
-/// let (mut buffer, mut other) = ([0; 30], [0; 30]);
-/// let first = format_rfc3339_nanos(UNIX_EPOCH).text(&mut buffer).ok_or("out of range")?;
+/// let (mut buf, mut other) = ([0; 30], [0; 30]);
+/// let first = format_rfc3339_nanos(UNIX_EPOCH).text(&mut buf).ok_or("out of range")?;
 /// let second = format_rfc3339_nanos(later).text(&mut other).ok_or("out of range")?;
 /// assert!(rt; first.as_bytes() < second.as_bytes());
 /// ```

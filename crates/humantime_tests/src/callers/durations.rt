@@ -2,13 +2,13 @@
 
 ghost use Rattle.std.specs.Prelude.{◌≡◌, ◌+◌, ◌*◌, ◌/◌, ◌<◌, ◌≤◌, ◌↔◌, ℕ, chars, length, IfSome, IsSome, IsOkAnd, IsErrAnd, IsTrue, Ok, Err, Some};
 ghost use Rattle.std.specs.Result.{result_map_both};
-ghost use Rattle.humantime.specs.Prelude.{Canon, Fault, duration_answer, duration_end, told, fault_of, nanos_per_second};
+ghost use Rattle.humantime.specs.Prelude.{Canon, Fault, duration_answer, duration_end, result_view, fault_of, nanos_per_second};
 
 use humantime::{DurationError, StdDuration, format_duration, parse_duration};
 
 /// The whole seconds of a time limit in a settings file, or the first fault of its text.
 pub fn limit_seconds(text: &str) -> Result<u64, DurationError<'_>>
-    ensures { told result ≡ result_map_both (λ v. v / nanos_per_second) (λ e. e) (duration_answer (chars text.now)) }
+    ensures { result_view result ≡ result_map_both (λ v. v / nanos_per_second) (λ e. e) (duration_answer (chars text.now)) }
 {
     Ok(parse_duration(text)?.as_secs())
 }
@@ -62,10 +62,10 @@ pub fn is_same_error(a: &DurationError<'_>, b: &DurationError<'_>) -> bool
 }
 
 /// A count of seconds as the text of a duration.
-pub fn shown_seconds<'b>(secs: u64, buffer: &'b mut [u8; 64]) -> &'b str
+pub fn shown_seconds<'b>(secs: u64, buf: &'b mut [u8; 64]) -> &'b str
     ensures { Canon (secs * nanos_per_second) result.now }
 {
-    format_duration(StdDuration::from_secs(secs)).text(buffer)
+    format_duration(StdDuration::from_secs(secs)).text(buf)
 }
 
 /// The limit that holds where a file names none.

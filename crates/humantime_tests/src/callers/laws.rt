@@ -1,7 +1,7 @@
 //! Laws of durations that are called, and what follows.
 
 ghost use Rattle.std.specs.Prelude.{◌≡◌, ◌↔◌, chars, true, IsTrue};
-ghost use Rattle.humantime.specs.Prelude.{without_white_space};
+ghost use Rattle.humantime.specs.Prelude.{without_whitespace};
 
 use humantime::laws::{printed_duration_reads, printed_durations_differ, without_ws};
 use humantime::{StdDuration, format_duration, parse_duration};
@@ -25,9 +25,9 @@ pub fn looks_same(a: StdDuration, b: StdDuration) -> bool
     format_duration(a).text(&mut [0; 64]) == format_duration(b).text(&mut [0; 64])
 }
 
-/// Whether a text without its white space is read as the text is, where that is read: it is.
+/// Whether a text without its whitespace is read as the text is, where that is read: it is.
 pub fn needs_no_space(text: &str, squeezed: &str) -> bool
-    ensures { chars squeezed.now ≡ without_white_space (chars text.now) → result ≡ true }
+    ensures { chars squeezed.now ≡ without_whitespace (chars text.now) → result ≡ true }
 {
     without_ws(text);
     match (parse_duration(text), parse_duration(squeezed)) {

@@ -40,11 +40,11 @@ pub fn is_same_moment(text: &str, other: &str) -> bool
 }
 
 /// A moment as it stands in front of a line, with milliseconds; none outside 1970 to 9999.
-pub fn stamp_of<'b>(moment: SystemTime, buffer: &'b mut [u8; 30]) -> Option<&'b str>
+pub fn stamp_of<'b>(moment: SystemTime, buf: &'b mut [u8; 30]) -> Option<&'b str>
     ensures within { IsSome result ↔ IsPrintable moment }
     ensures text { IfSome result (λ text. IsPrinted moment 3 text.now) }
 {
-    format_rfc3339_millis(moment).text(buffer)
+    format_rfc3339_millis(moment).text(buf)
 }
 
 /// Whether one stamp is that of an earlier moment, told by their bytes alone.

@@ -1,7 +1,7 @@
 //! Callers of the laws of durations.
 
 ghost use Rattle.std.specs.Prelude.{◌≡◌, ◌≢◌, ◌+◌, ◌/◌, ◌++◌, ◌↔◌, ℕ, List, Option, None, Some, Ok, Err, chars, option_map, true, IsPermutation};
-ghost use Rattle.humantime.specs.Prelude.{Accepted, AcceptedWithZeros, AllHaveRoom, AreReordered, Canon, Counts, Fault, HasFault, Items, NumberOverflow, Reads, Span, WithinLimits, additions, bare_zero, item_of, items_left, nanos_per_second, told, value, WasAccepted};
+ghost use Rattle.humantime.specs.Prelude.{Accepted, AcceptedWithZeros, AllHaveRoom, AreReordered, Canon, Counts, Fault, HasFault, Items, NumberOverflow, Reads, Span, WithinLimits, additions, bare_zero, item_of, items_left, nanos_per_second, result_view, value, WasAccepted};
 
 use crate::callers::durations::limit_seconds;
 use humantime::laws::{
@@ -16,8 +16,8 @@ type Item<'a> = Option<Result<humantime::Span<'a>, DurationError<'a>>>;
 
 /// The whole seconds of the value that a text is accepted with, or the first fault that it has.
 pub fn whole_seconds(text: &str) -> Result<u64, DurationError<'_>>
-    ensures value { (v : ℕ) → Accepted (chars text.now) v → told result ≡ Ok (v / nanos_per_second) }
-    ensures fault { (e : Fault) → HasFault (chars text.now) e → told result ≡ Err e }
+    ensures value { (v : ℕ) → Accepted (chars text.now) v → result_view result ≡ Ok (v / nanos_per_second) }
+    ensures fault { (e : Fault) → HasFault (chars text.now) e → result_view result ≡ Err e }
 {
     one_outcome(text);
     limit_seconds(text)
@@ -42,9 +42,9 @@ pub fn is_one_value(text: &str, v: u64, w: u64) -> bool
 
 /// The duration that a text spells, or its first fault: what its items and their limits decide.
 pub fn decided(text: &str) -> Result<StdDuration, DurationError<'_>>
-    ensures accepted { (ss : List Span) (stop : Option Fault) → Items (chars text.now) ss stop → chars text.now ≢ bare_zero → (v : ℕ) → (told result ≡ Ok v) ↔ ((stop ≡ None) × WithinLimits ss × (value ss ≡ v)) }
-    ensures stopped { (ss : List Span) (e : Fault) → Items (chars text.now) ss (Some e) → chars text.now ≢ bare_zero → WithinLimits ss → told result ≡ Err e }
-    ensures too_large { (ss : List Span) (stop : Option Fault) → Items (chars text.now) ss stop → chars text.now ≢ bare_zero → ¬ (WithinLimits ss) → told result ≡ Err NumberOverflow }
+    ensures accepted { (ss : List Span) (stop : Option Fault) → Items (chars text.now) ss stop → chars text.now ≢ bare_zero → (v : ℕ) → (result_view result ≡ Ok v) ↔ ((stop ≡ None) × WithinLimits ss × (value ss ≡ v)) }
+    ensures stopped { (ss : List Span) (e : Fault) → Items (chars text.now) ss (Some e) → chars text.now ≢ bare_zero → WithinLimits ss → result_view result ≡ Err e }
+    ensures too_large { (ss : List Span) (stop : Option Fault) → Items (chars text.now) ss stop → chars text.now ≢ bare_zero → ¬ (WithinLimits ss) → result_view result ≡ Err NumberOverflow }
 {
     spans_decide(text);
     parse_duration(text)
@@ -52,7 +52,7 @@ pub fn decided(text: &str) -> Result<StdDuration, DurationError<'_>>
 
 /// The first item of a text, and what the text is read as: where the item is an error, that error.
 pub fn first_item_and_answer(text: &str) -> (Item<'_>, Result<StdDuration, DurationError<'_>>)
-    ensures { (e : Fault) → option_map item_of result.0 ≡ Some (Err e) → chars text.now ≢ bare_zero → told result.1 ≡ Err e }
+    ensures { (e : Fault) → option_map item_of result.0 ≡ Some (Err e) → chars text.now ≢ bare_zero → result_view result.1 ≡ Err e }
 {
     spans_decide(text);
     (spans(text).next(), parse_duration(text))
@@ -67,11 +67,11 @@ pub fn first_items<'a>(text: &'a str) -> (Item<'a>, Item<'a>)
 }
 
 /// The canonical text of a duration: there is no other.
-pub fn canonical_text<'b>(duration: StdDuration, buffer: &'b mut [u8; 64]) -> &'b str
+pub fn canonical_text<'b>(duration: StdDuration, buf: &'b mut [u8; 64]) -> &'b str
     ensures { (bytes : List ℕ) → Canon duration bytes → result.now ≡ bytes }
 {
     printed_duration_reads(duration);
-    format_duration(duration).text(buffer)
+    format_duration(duration).text(buf)
 }
 
 /// Whether a canonical text is read as its duration: it is.
@@ -90,8 +90,8 @@ pub fn is_settled(text: &str) -> bool
     ensures { result ≡ true }
 {
     canonical_again(text);
-    let (mut buffer, mut other) = ([0; 64], [0; 64]);
-    match canonical(text, &mut buffer) {
+    let (mut buf, mut other) = ([0; 64], [0; 64]);
+    match canonical(text, &mut buf) {
         Ok(shown) => match canonical(shown, &mut other) {
             Ok(again) => again == shown,
             Err(_) => false,
@@ -105,8 +105,8 @@ pub fn keeps_its_value(text: &str) -> bool
     ensures { result ≡ true }
 {
     canonical_again(text);
-    let mut buffer = [0; 64];
-    match (parse_duration(text), canonical(text, &mut buffer)) {
+    let mut buf = [0; 64];
+    match (parse_duration(text), canonical(text, &mut buf)) {
         (Ok(read), Ok(shown)) => match parse_duration(shown) {
             Ok(same) => same == read,
             Err(_) => false,
@@ -145,8 +145,8 @@ pub fn adds_up(a: &str, b: &str, both: &str) -> bool
 
 /// The sum of two accepted texts, read from the one behind the other: it is read exactly where the additions have room.
 pub fn sum_of<'a>(a: &str, b: &str, both: &'a str) -> Result<StdDuration, DurationError<'a>>
-    ensures sum { (ss : List Span) (ts : List Span) (u : ℕ) (v : ℕ) → Reads (chars a.now) ss → Reads (chars b.now) ts → Accepted (chars a.now) u → Accepted (chars b.now) v → both.now ≡ a.now ++ b.now → (told result ≡ Ok (u + v)) ↔ AllHaveRoom (additions ss ++ additions ts) }
-    ensures overflow { (ss : List Span) (ts : List Span) (u : ℕ) (v : ℕ) → Reads (chars a.now) ss → Reads (chars b.now) ts → Accepted (chars a.now) u → Accepted (chars b.now) v → both.now ≡ a.now ++ b.now → (told result ≡ Err NumberOverflow) ↔ ¬ (AllHaveRoom (additions ss ++ additions ts)) }
+    ensures sum { (ss : List Span) (ts : List Span) (u : ℕ) (v : ℕ) → Reads (chars a.now) ss → Reads (chars b.now) ts → Accepted (chars a.now) u → Accepted (chars b.now) v → both.now ≡ a.now ++ b.now → (result_view result ≡ Ok (u + v)) ↔ AllHaveRoom (additions ss ++ additions ts) }
+    ensures overflow { (ss : List Span) (ts : List Span) (u : ℕ) (v : ℕ) → Reads (chars a.now) ss → Reads (chars b.now) ts → Accepted (chars a.now) u → Accepted (chars b.now) v → both.now ≡ a.now ++ b.now → (result_view result ≡ Err NumberOverflow) ↔ ¬ (AllHaveRoom (additions ss ++ additions ts)) }
 {
     joined(a, b);
     parse_duration(both)
@@ -165,7 +165,7 @@ pub fn read_alike(a: &str, b: &str) -> bool
 
 /// The duration that a text spells: the one that the older rules gave it, where they gave it one.
 pub fn read_as_before(text: &str) -> Result<StdDuration, DurationError<'_>>
-    ensures { (v : ℕ) → AcceptedWithZeros (chars text.now) v → told result ≡ Ok v }
+    ensures { (v : ℕ) → AcceptedWithZeros (chars text.now) v → result_view result ≡ Ok v }
 {
     still_accepted(text);
     parse_duration(text)

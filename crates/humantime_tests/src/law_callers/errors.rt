@@ -1,7 +1,7 @@
 //! Callers that use what an error says of its text: its offsets, its unit, its fault and its message.
 
 ghost use Rattle.std.specs.Prelude.{◌≡◌, ◌↔◌, ◌++◌, ℕ, List, [], None, Some, Err, chars, codes, decimal, true, IfOk, string_bytes};
-ghost use Rattle.humantime.specs.Prelude.{Empty, Fault, InvalidCharacter, NumberExpected, NumberOverflow, UnknownUnit, duration_answer, fault_of, told};
+ghost use Rattle.humantime.specs.Prelude.{Empty, Fault, InvalidCharacter, NumberExpected, NumberOverflow, UnknownUnit, duration_answer, fault_of, result_view};
 ghost use Rattle.humantime_tests.specs.FirstFaults.{IsFirstFault};
 
 use humantime::{DurationError, StdDuration, parse_duration, spans};
@@ -68,7 +68,7 @@ pub fn place(text: &str) -> Option<usize>
 
 /// The duration that a text spells, or else its fault by the table of first faults.
 pub fn read_by_rows(text: &str) -> Result<StdDuration, DurationError<'_>>
-    ensures { (e : Fault) → (told result ≡ Err e) ↔ IsFirstFault (chars text.now) e }
+    ensures { (e : Fault) → (result_view result ≡ Err e) ↔ IsFirstFault (chars text.now) e }
 {
     parse_duration(text)
 }

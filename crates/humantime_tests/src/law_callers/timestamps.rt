@@ -59,12 +59,12 @@ pub fn moment_comes_back(moment: SystemTime) -> bool
 pub fn text_again<'b>(
     shown: &Rfc3339Timestamp,
     printed: &str,
-    buffer: &'b mut [u8; 30],
+    buf: &'b mut [u8; 30],
 ) -> Option<&'b str>
     ensures { IsPrintable shown.now.moment → IsPrinted shown.now.moment shown.now.places printed.now → IfSome result (λ text. text.now ≡ printed.now) }
 {
     printed_moment_reads(shown);
-    shown.text(buffer)
+    shown.text(buf)
 }
 
 /// What `Display` writes of it, which is that text.

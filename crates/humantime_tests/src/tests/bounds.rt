@@ -4,7 +4,7 @@ use crate::tests::support::{assert_same, fed, moment};
 use humantime::{
     Date, Duration, DurationError, StdDuration, Timestamp, TimestampError, UNIX_EPOCH,
 };
-use humantime_sink::misprint;
+use humantime_tests_sinks::misprint;
 use std::error::Error;
 use std::process::Abort;
 

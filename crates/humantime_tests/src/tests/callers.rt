@@ -55,8 +55,8 @@ fn callers_of_timestamps_answer(rt: HostRuntime) {
         is_same_moment("2016-12-31T23:59:60Z", "2016-12-31 23:59:59"),
         true,
     );
-    let mut buffer = [0; 30];
+    let mut buf = [0; 30];
     let stamp = "1970-01-01T00:00:00.000Z";
-    assert_same(&rt, stamp_of(UNIX_EPOCH, &mut buffer), Some(stamp));
+    assert_same(&rt, stamp_of(UNIX_EPOCH, &mut buf), Some(stamp));
     assert_same(&rt, is_earlier(stamp, "1970-01-01T00:00:00.001Z"), true);
 }

@@ -1,7 +1,7 @@
 //! Assertions on values of any type, and what bounds answer.
 
 use humantime::SystemTime;
-use humantime_sink::{Sink, misprint_at_once};
+use humantime_tests_sinks::{Sink, misprint_at_once};
 use std::fmt::{self, Debug, Display, Write};
 use std::hash::{FoldHasher, Hash, Hasher};
 use std::process::Abort;

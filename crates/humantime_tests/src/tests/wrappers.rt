@@ -12,7 +12,7 @@ use crate::witnesses::{
 use humantime::{
     Duration, DurationError, StdDuration, SystemTime, Timestamp, TimestampError, UNIX_EPOCH,
 };
-use humantime_sink::Sink;
+use humantime_tests_sinks::Sink;
 use std::fmt::{self, Write};
 use std::hash::{FoldHasher, Hasher};
 use std::process::Abort;

@@ -5,7 +5,7 @@ use Rattle.std.proofs.lemmas.Bool.{lt-ltb, ne_eqb}
 use Rattle.std.proofs.lemmas.Nat.{pow-add}
 use Rattle.std.proofs.Math.Nat.{pow-le-pow_right, mul-le-mul_right}
 use Rattle.humantime.specs.declared.duration.reading.amount.Fraction.{Fraction}
-use Rattle.humantime.specs.Texts.{leading, decimal_value}
+use Rattle.humantime.specs.Texts.{take_while, decimal_value}
 use Rattle.humantime.specs.Durations.Characters.{is_digit, is_numeric, significant}
 use Rattle.humantime.specs.Durations.Faults.{number_of, after_number}
 use Rattle.humantime.specs.References.Durations.Scales.{parts_of}
@@ -60,6 +60,6 @@ pub digits_pass : (text es : List ℕ) → number_of text ≡ es → 19 < length
 digits_pass text es e over = rw (e, lt-ltb 19 (length (significant es)) over) refl
 
 pub digits_end : (f : Fraction) (text ds front rest : List ℕ) → AreDigits f ds
-    → (number_of text ≡ ds) × (front ≡ leading is_numeric text) × (rest ≡ after_number text)
+    → (number_of text ≡ ds) × (front ≡ take_while is_numeric text) × (rest ≡ after_number text)
     → Some (parts_of f, front, rest) ≡ digits_at text
 digits_end f text ds front rest h a = grind (arith, common_steps)

@@ -6,13 +6,13 @@ use Rattle.std.specs.Str.Parse.{digits_value_after}
 use Rattle.std.proofs.lemmas.Str.{digit_value_digit, IsCharBoundary-start}
 use Rattle.std.proofs.lemmas.Bool.{lt-ltb}
 use Rattle.std.proofs.lemmas.Bool.Decides.{nat_tests}
-use Rattle.humantime.specs.Texts.{begins, leading, decimal_value}
-use Rattle.humantime.specs.Durations.Characters.{is_ws, is_digit, is_numeric, u64_max}
+use Rattle.humantime.specs.Texts.{begins, take_while, decimal_value}
+use Rattle.humantime.specs.Durations.Characters.{is_whitespace, is_digit, is_numeric, u64_max}
 use Rattle.humantime.specs.Durations.Faults.{number_of, after_number}
-use Rattle.humantime.specs.References.Durations.Scanning.{BeginsWithDigit, space_width, number_at}
-use Rattle.humantime.proofs.Durations.Bytes.PlaceSteps.{digit_over, digit_at, space_over, no_space}
+use Rattle.humantime.specs.References.Durations.Scanning.{BeginsWithDigit, whitespace_len, number_at}
+use Rattle.humantime.proofs.Durations.Bytes.PlaceSteps.{digit_over, digit_at, whitespace_over, no_whitespace}
 use Rattle.humantime.proofs.Durations.Bytes.Tails.{front_is, no_bytes}
-use Rattle.humantime.proofs.Durations.Reading.Classes.{digit_is, digit_is_numeric, space_is_numeric, space_not_digit}
+use Rattle.humantime.proofs.Durations.Reading.Classes.{digit_is, digit_is_numeric, whitespace_is_numeric, whitespace_not_digit}
 use Rattle.humantime.proofs.Durations.Reading.SignificantDigits.{value-append}
 
 -- The digits are those that begin a text before a place, and others may follow.
@@ -35,31 +35,31 @@ read_digit text bytes at ds u same some h d =
     rw same
     (record { place = c.1.place; all = digit_read _ ds _ _ _ h.all c.1.ahead c.0; after = rw (c.1.ahead, digit_is_numeric _ c.0) at h.after })
 
-pub read_space : (text bytes : List ℕ) (at next : ℕ) (ds : List ℕ) → IsUtf8 text → bytes ≡ text → at < length bytes → IsRead text at ds
-    → 0 < space_width (chars (drop at text)) → next ≡ at + space_width (chars (drop at text)) → IsRead text next ds
-read_space text bytes at next ds u same some h further n =
-    let c = space_over text at next u (rw same at some, h.place) further n in
+pub read_whitespace : (text bytes : List ℕ) (at next : ℕ) (ds : List ℕ) → IsUtf8 text → bytes ≡ text → at < length bytes → IsRead text at ds
+    → 0 < whitespace_len (chars (drop at text)) → next ≡ at + whitespace_len (chars (drop at text)) → IsRead text next ds
+read_whitespace text bytes at next ds u same some h further n =
+    let c = whitespace_over text at next u (rw same at some, h.place) further n in
     record {
       place = c.2.place;
-      all = rw (c.2.ahead, space_is_numeric _ c.1, space_not_digit _ c.1) at h.all;
-      after = rw (c.2.ahead, space_is_numeric _ c.1) at h.after;
+      all = rw (c.2.ahead, whitespace_is_numeric _ c.1, whitespace_not_digit _ c.1) at h.all;
+      after = rw (c.2.ahead, whitespace_is_numeric _ c.1) at h.after;
     }
 
-no_numeric : (rest : List ℕ) → begins is_digit rest ≡ false → begins is_ws rest ≡ false → begins is_numeric rest ≡ false
+no_numeric : (rest : List ℕ) → begins is_digit rest ≡ false → begins is_whitespace rest ≡ false → begins is_numeric rest ≡ false
 no_numeric rest d w = grind (arith, common_steps)
 
 none_there : (rest : List ℕ) → begins is_numeric rest ≡ false → (number_of rest ≡ []) × (after_number rest ≡ rest)
 none_there rest e = grind (arith, common_steps)
 
--- no digit and no white space stands at this place
+-- no digit and no whitespace stands at this place
 pub stops_here : (text bytes : List ℕ) (at : ℕ) → IsUtf8 text → bytes ≡ text → at < length bytes → IsCharBoundary text at → is_ascii_digit (get_or bytes at 0) ≡ false
-    → ¬ (0 < space_width (chars (drop at text))) → begins is_numeric (chars (drop at text)) ≡ false
+    → ¬ (0 < whitespace_len (chars (drop at text))) → begins is_numeric (chars (drop at text)) ≡ false
 stops_here text bytes at u same some place d w =
-    no_numeric _ (sym (digit_at text at u (rw same at some, place)) ∙ rw same at d) (no_space _ w)
+    no_numeric _ (sym (digit_at text at u (rw same at some, place)) ∙ rw same at d) (no_whitespace _ w)
 
--- all digits are read where none follows, and no white space
+-- all digits are read where none follows, and no whitespace
 pub all_read : (text : List ℕ) (at : ℕ) (ds : List ℕ) → IsUtf8 text → IsRead text at ds → begins is_numeric (chars (drop at text)) ≡ false
-    → (number_of (chars text) ≡ ds) × (chars (take at text) ≡ leading is_numeric (chars text)) × (chars (drop at text) ≡ after_number (chars text))
+    → (number_of (chars text) ≡ ds) × (chars (take at text) ≡ take_while is_numeric (chars text)) × (chars (drop at text) ≡ after_number (chars text))
 all_read text at ds u h ended =
     let behind = none_there _ ended in
     let after : chars (drop at text) ≡ after_number (chars text) = sym behind.1 ∙ h.after in
@@ -111,6 +111,6 @@ number_passes text at ds h over =
     rw (lt-ltb u64_max (decimal_value value) (omega (arith, over, value_greater ds (number_of (chars (drop at text))), ap decimal_value h.all))) refl
 
 pub number_ends : (text ds front rest : List ℕ) (v : ℕ) → v ≡ decimal_value ds → v ≤ u64_max
-    → (number_of text ≡ ds) × (front ≡ leading is_numeric text) × (rest ≡ after_number text)
+    → (number_of text ≡ ds) × (front ≡ take_while is_numeric text) × (rest ≡ after_number text)
     → Some (v, front, rest) ≡ number_at text
 number_ends text ds front rest v is fits a = grind (arith, common_steps)

@@ -2,19 +2,19 @@
 use Rattle.std.proofs.lemmas.Grind.{common_steps}
 use Rattle.std.proofs.Common.{◌≡◌, ◌≢◌, ◌<◌, ◌≤◌, ◌+◌, ℕ, List, [], ◌∷◌, ◌++◌, length, get_or, drop, refl, ap, sym, ◌∙◌, arith, length-drop, IsUtf8, IsCharBoundary, chars, encode_utf8, encode_utf8_all, Bool, true, false, inl, inr}
 use Rattle.std.specs.Prelude.{◌==◌, ◌&&◌, ◌||◌, Some, None, option_map, slice_get, if◌then◌else◌}
-use Rattle.std.specs.Char.{is_ascii_digit, is_ascii_alphabetic, is_whitespace, len_utf8}
+use Rattle.std.specs.Char.{is_ascii_digit, is_ascii_alphabetic, is_whitespace as std_is_whitespace, len_utf8}
 use Rattle.std.proofs.Math.Utf8.{encode}
 use Rattle.std.proofs.lemmas.Bool.{cases_lt, ne_eqb, or_cases, and_parts, eqb-true}
 use Rattle.std.proofs.lemmas.Bool.Decides.{nat_tests}
 use Rattle.std.proofs.lemmas.List.{get_or-drop}
 use Rattle.std.proofs.lemmas.Str.{IsUtf8-drop, IsCharBoundary-past_char, drop_past_char, chars_past_char, byte_from_char, char_from_byte, len_utf8_ascii, len_utf8_bounds, encodes-chars, encode_same, IsCharBoundary-start}
 use Rattle.humantime.specs.Durations.Errors.{IsPlaceIn}
-use Rattle.humantime.specs.Texts.{begins, past}
-use Rattle.humantime.specs.Durations.Characters.{is_letter, is_ws, is_digit, is_point}
-use Rattle.humantime.specs.References.Durations.Scanning.{space_width, digits_at, fraction_read, ends_span}
+use Rattle.humantime.specs.Texts.{begins, drop_while}
+use Rattle.humantime.specs.Durations.Characters.{is_letter, is_whitespace, is_digit, is_point}
+use Rattle.humantime.specs.References.Durations.Scanning.{whitespace_len, digits_at, fraction_read, ends_span}
 use Rattle.humantime.specs.References.Durations.SpanParts.{IsBehindWord}
 use Rattle.humantime.proofs.Durations.Bytes.Tails.{no_bytes, tail_at}
-use Rattle.humantime.proofs.Durations.Reading.Classes.{digit_is, digit_not_space, digit_is_numeric, space_is_numeric, is_point-46, letter_not_space, wide_no_digit, white_is, ascii_letter, alphabetic_is_ascii}
+use Rattle.humantime.proofs.Durations.Reading.Classes.{digit_is, digit_not_whitespace, digit_is_numeric, whitespace_is_numeric, is_point-46, letter_not_whitespace, wide_no_digit, whitespace_is, ascii_letter, alphabetic_is_ascii}
 
 -- The character at a place, and what follows it.
 pub record IsCharAt (text : List ℕ) (at char next : ℕ) : Type 0 where
@@ -82,32 +82,32 @@ pub digit_over : (text : List ℕ) (at : ℕ) → IsUtf8 text → IsPlaceIn text
     → (is_digit (get_or text at 0) ≡ true) × IsCharAt text at (get_or text at 0) (at + 1)
 digit_over text at u here d = (sym (digit_is _) ∙ d, ascii_at text at u here (grind (arith, common_steps, wide_no_digit)))
 
--- white space at a place is a character of its width
-pub space_over : (text : List ℕ) (at next : ℕ) → IsUtf8 text → IsPlaceIn text at → 0 < space_width (chars (drop at text))
-    → next ≡ at + space_width (chars (drop at text)) → (c : ℕ) × (is_ws c ≡ true) × IsCharAt text at c next
-space_over text at next u here some n = let c = char_at text at u here in grind (arith, common_steps)
+-- whitespace at a place is a character of its width
+pub whitespace_over : (text : List ℕ) (at next : ℕ) → IsUtf8 text → IsPlaceIn text at → 0 < whitespace_len (chars (drop at text))
+    → next ≡ at + whitespace_len (chars (drop at text)) → (c : ℕ) × (is_whitespace c ≡ true) × IsCharAt text at c next
+whitespace_over text at next u here some n = let c = char_at text at u here in grind (arith, common_steps)
 
-pub no_space : (cs : List ℕ) → ¬ (0 < space_width cs) → begins is_ws cs ≡ false
-no_space cs none = grind (arith, common_steps, len_utf8_bounds)
+pub no_whitespace : (cs : List ℕ) → ¬ (0 < whitespace_len cs) → begins is_whitespace cs ≡ false
+no_whitespace cs none = grind (arith, common_steps, len_utf8_bounds)
 
--- the white space that begins a text is its first character, if that is white space
-pub first_width : (cs : List ℕ) (c : ℕ) (white : Bool) → Some c ≡ slice_get cs 0 → white ≡ is_whitespace c
-    → (if white then len_utf8 c else 0) ≡ space_width cs
+-- the whitespace that begins a text is its first character, if that is whitespace
+pub first_width : (cs : List ℕ) (c : ℕ) (white : Bool) → Some c ≡ slice_get cs 0 → white ≡ std_is_whitespace c
+    → (if white then len_utf8 c else 0) ≡ whitespace_len cs
 first_width [] c white e w = cc
-first_width (d ∷ ds) c white e w = let same : c ≡ d = cc in rw (w, white_is c, same) refl
+first_width (d ∷ ds) c white e w = let same : c ≡ d = cc in rw (w, whitespace_is c, same) refl
 
-pub none_width : (cs : List ℕ) → None ≡ slice_get cs 0 → 0 ≡ space_width cs
+pub none_width : (cs : List ℕ) → None ≡ slice_get cs 0 → 0 ≡ whitespace_len cs
 none_width [] e = refl
 none_width (d ∷ ds) e = cc
 
 -- what does not begin so is past what begins so
-pub ends_there : (p : ℕ → Bool) (rest : List ℕ) → begins p rest ≡ false → rest ≡ past p rest
+pub ends_there : (p : ℕ → Bool) (rest : List ℕ) → begins p rest ≡ false → rest ≡ drop_while p rest
 ends_there p rest e = grind (arith, common_steps)
 
--- white space does not begin with a digit
-pub digit_stays : (cs : List ℕ) → begins is_digit cs ≡ true → cs ≡ past is_ws cs
+-- whitespace does not begin with a digit
+pub digit_stays : (cs : List ℕ) → begins is_digit cs ≡ true → cs ≡ drop_while is_whitespace cs
 digit_stays [] d = refl
-digit_stays (c ∷ cs) d = ends_there is_ws (c ∷ cs) (digit_not_space c d)
+digit_stays (c ∷ cs) d = ends_there is_whitespace (c ∷ cs) (digit_not_whitespace c d)
 
 -- a text begins with a point where its first byte is one
 pub no_point : (text : List ℕ) → IsUtf8 text → get_or text 0 0 ≢ 46 → begins is_point (chars text) ≡ false
@@ -170,12 +170,12 @@ mu_over text at u place some pair = elim (or_cases _ _ pair) [
       (956, refl, two_over text at 956 0xce 0xbc u place some (eqb-true _ _ p.0) (eqb-true _ _ p.1) mu_bytes)
 ]
 
--- and that is no white space
-pub no_space_at_mu : (text : List ℕ) (at : ℕ) → IsUtf8 text → IsCharBoundary text at → at + 1 < length text
-    → is_mu_pair (get_or text at 0) (get_or text (at + 1) 0) ≡ true → space_width (chars (drop at text)) ≡ 0
-no_space_at_mu text at u place some pair =
+-- and that is no whitespace
+pub no_whitespace_at_mu : (text : List ℕ) (at : ℕ) → IsUtf8 text → IsCharBoundary text at → at + 1 < length text
+    → is_mu_pair (get_or text at 0) (get_or text (at + 1) 0) ≡ true → whitespace_len (chars (drop at text)) ≡ 0
+no_whitespace_at_mu text at u place some pair =
     let c = mu_over text at u place some pair in
-    rw (c.2.ahead, letter_not_space _ c.1) refl
+    rw (c.2.ahead, letter_not_whitespace _ c.1) refl
 
 -- a letter of ASCII is one byte
 pub letter_over : (text : List ℕ) (at : ℕ) → IsUtf8 text → IsPlaceIn text at → is_ascii_alphabetic (get_or text at 0) ≡ true
@@ -202,15 +202,15 @@ pub digit_ends : (cs : List ℕ) → begins is_digit cs ≡ true → ends_span c
 digit_ends [] d = refl
 digit_ends (c ∷ cs) d = digit_is_numeric c d
 
-pub other_goes_on : (cs : List ℕ) → cs ≢ [] → begins is_digit cs ≡ false → ¬ (0 < space_width cs) → ends_span cs ≡ false
+pub other_goes_on : (cs : List ℕ) → cs ≢ [] → begins is_digit cs ≡ false → ¬ (0 < whitespace_len cs) → ends_span cs ≡ false
 other_goes_on [] some d w = absurd (some refl)
 other_goes_on (c ∷ cs) some d w = grind (arith, common_steps, len_utf8_bounds)
 
 pub kept_behind : (text : List ℕ) → IsUtf8 text → ends_span (chars text) ≡ true → IsBehindWord text text
 kept_behind text u e = record { ends = e; same = refl; tail = tail_at text text 0 u (IsCharBoundary-start text u) refl }
 
-pub space_behind : (text : List ℕ) (at : ℕ) → IsUtf8 text → 0 < length text → 0 < space_width (chars text) → at ≡ 0 + space_width (chars text)
+pub whitespace_behind : (text : List ℕ) (at : ℕ) → IsUtf8 text → 0 < length text → 0 < whitespace_len (chars text) → at ≡ 0 + whitespace_len (chars text)
     → IsCharBoundary text at × IsBehindWord text (drop at text)
-space_behind text at u some white n =
-    let c = space_over text 0 at u (some, IsCharBoundary-start text u) white n in
-    (c.2.place, record { ends = rw c.2.ahead (space_is_numeric _ c.1); same = rw (c.2.ahead, c.1) refl; tail = tail_at text _ at u c.2.place refl })
+whitespace_behind text at u some white n =
+    let c = whitespace_over text 0 at u (some, IsCharBoundary-start text u) white n in
+    (c.2.place, record { ends = rw c.2.ahead (whitespace_is_numeric _ c.1); same = rw (c.2.ahead, c.1) refl; tail = tail_at text _ at u c.2.place refl })

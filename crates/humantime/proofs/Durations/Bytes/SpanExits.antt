@@ -5,11 +5,11 @@ use Rattle.std.proofs.lemmas.Grind.{common_steps}
 use Rattle.std.proofs.lemmas.Str.{encodes-chars}
 use Rattle.std.specs.Str.{drop_trailing_whitespace}
 use Rattle.humantime.specs.declared.duration.reading.amount.Fraction.{Fraction}
-use Rattle.humantime.specs.Texts.{past, leading, decimal_value}
+use Rattle.humantime.specs.Texts.{drop_while, take_while, decimal_value}
 use Rattle.humantime.specs.Durations.Characters.{is_letter, is_numeric, offset_of}
 use Rattle.humantime.specs.Durations.Units.{Scale, scale_of_word}
 use Rattle.humantime.specs.Durations.Faults.{number_of, after_number, behind_point, fraction_of, after_fraction, word_of, after_word, span_of, InvalidCharacter, UnknownUnit, NumberOverflow, stop_at, ends_span}
-use Rattle.humantime.specs.References.Durations.Lending.{spelled, trimmed, lent_at}
+use Rattle.humantime.specs.References.Durations.TextViews.{spelled, trimmed, view_at}
 use Rattle.humantime.specs.References.Durations.Reading.{too_long, stop_at}
 use Rattle.humantime.specs.References.Durations.Scales.{Counted, counted, parts_of}
 use Rattle.humantime.specs.References.Durations.Scanning.{ends_span, number_at, fraction_read, begins_no_word}
@@ -19,8 +19,8 @@ use Rattle.humantime.proofs.Durations.Bytes.Trimming.{spelled_at}
 -- the number and the fraction that begin a rest, neither too long, what each stands in, and what follows each
 pub are_read : (rest : List ℕ) (v : ℕ) (n a : List ℕ) (f : Option Counted) (d : Option (List ℕ)) (b : List ℕ)
     → Some (v, n, a) ≡ number_at rest → Some (f, d, b) ≡ fraction_read a
-    → (too_long (span_of rest) ≡ false) × (v ≡ decimal_value (number_of rest)) × (n ≡ leading is_numeric rest) × (a ≡ after_number rest)
-    × (f ≡ option_map counted (fraction_of rest)) × (d ≡ option_map (leading is_numeric) (behind_point (after_number rest))) × (b ≡ after_fraction rest)
+    → (too_long (span_of rest) ≡ false) × (v ≡ decimal_value (number_of rest)) × (n ≡ take_while is_numeric rest) × (a ≡ after_number rest)
+    × (f ≡ option_map counted (fraction_of rest)) × (d ≡ option_map (take_while is_numeric) (behind_point (after_number rest))) × (b ≡ after_fraction rest)
 are_read rest v n a f d b x y = grind (arith, common_steps)
 
 pub long_number : (rest : List ℕ) → None ≡ number_at rest → too_long (span_of rest) ≡ true
@@ -34,7 +34,7 @@ unfolding stop_at
 exit_long text rest e = rw e refl
 
 -- what no letter begins has no letters at its front
-no_letters : (cs : List ℕ) → begins_no_word cs ≡ true → past is_letter cs ≡ cs
+no_letters : (cs : List ℕ) → begins_no_word cs ≡ true → drop_while is_letter cs ≡ cs
 no_letters [] h = refl
 no_letters (c ∷ cs) h = grind (arith, common_steps)
 
@@ -61,14 +61,14 @@ bare_some rest after fraction f b a none = grind (arith, common_steps)
 
 pub exit_after : (text rest behind after : List ℕ) (fraction : Option Fraction) (at : ℕ) → too_long (span_of rest) ≡ false
     → behind ≡ after_fraction rest → begins_no_word behind ≡ false → option_map parts_of fraction ≡ option_map counted (fraction_of rest) → is_some_and (λ f. f.all == 0) fraction ≡ false
-    → after ≡ past is_letter behind → ends_span after ≡ false → at ≡ offset_of text after → Some (InvalidCharacter at) ≡ stop_at text rest
+    → after ≡ drop_while is_letter behind → ends_span after ≡ false → at ≡ offset_of text after → Some (InvalidCharacter at) ≡ stop_at text rest
 unfolding stop_at
 exit_after text rest behind after fraction at s h w f b a e p = rw (s, sym h, w, same_bare fraction (fraction_of rest) f ∙ b, sym a, e, p) refl
 
 pub exit_unit : (text rest behind unit after : List ℕ) (fraction : Option Fraction) (start end value : ℕ) → too_long (span_of rest) ≡ false
     → behind ≡ after_fraction rest → begins_no_word behind ≡ false → option_map parts_of fraction ≡ option_map counted (fraction_of rest)
-    → is_some_and (λ f. f.all == 0) fraction ≡ false → after ≡ past is_letter behind → ends_span after ≡ true
-    → IsUtf8 unit → chars unit ≡ leading is_letter behind → scale_of_word (chars unit) ≡ None
+    → is_some_and (λ f. f.all == 0) fraction ≡ false → after ≡ drop_while is_letter behind → ends_span after ≡ true
+    → IsUtf8 unit → chars unit ≡ take_while is_letter behind → scale_of_word (chars unit) ≡ None
     → start ≡ offset_of text behind → end ≡ offset_of text after → value ≡ decimal_value (number_of rest)
     → Some (UnknownUnit start end unit value) ≡ stop_at text rest
 unfolding stop_at
@@ -77,20 +77,20 @@ exit_unit text rest behind unit after fraction start end value s h w f b a e u l
 
 pub exit_fine : (text rest behind word after : List ℕ) (fraction : Option Fraction) (u : Scale) → too_long (span_of rest) ≡ false
     → behind ≡ after_fraction rest → begins_no_word behind ≡ false → option_map parts_of fraction ≡ option_map counted (fraction_of rest) → is_some_and (λ f. f.all == 0) fraction ≡ false
-    → after ≡ past is_letter behind → ends_span after ≡ true → word ≡ leading is_letter behind → scale_of_word word ≡ Some u
+    → after ≡ drop_while is_letter behind → ends_span after ≡ true → word ≡ take_while is_letter behind → scale_of_word word ≡ Some u
     → None ≡ stop_at text rest
 unfolding stop_at
 exit_fine text rest behind word after fraction u s h w f b a e l k = rw (s, sym h, w, same_bare fraction (fraction_of rest) f ∙ b, sym a, e, sym l, k) refl
 
 -- the slices that were read are those that the span lends
 pub lent_read : (text rest number word : List ℕ) (digits : Option (Bor (List ℕ))) (start end value : ℕ)
-    → number ≡ leading is_numeric rest → option_map (λ t. chars t.now) digits ≡ option_map (leading is_numeric) (behind_point (after_number rest))
+    → number ≡ take_while is_numeric rest → option_map (λ t. chars t.now) digits ≡ option_map (take_while is_numeric) (behind_point (after_number rest))
     → word ≡ word_of rest → start ≡ offset_of text rest → end ≡ offset_of text (after_word rest) → value ≡ decimal_value (number_of rest)
-    → record { number = drop_trailing_whitespace number; fraction = option_map (λ t. trimmed (chars t.now)) digits; unit = word; start = start; end = end; value = value } ≡ lent_at text rest
+    → record { number = drop_trailing_whitespace number; fraction = option_map (λ t. trimmed (chars t.now)) digits; unit = word; start = start; end = end; value = value } ≡ view_at text rest
 lent_read text rest number word digits start end value n d w p q v = grind (arith, common_steps)
 
 -- the slices that were read spell the span
-pub spelled_read : (rest number letters : List ℕ) (digits : Option (Bor (List ℕ))) → number ≡ leading is_numeric rest → letters ≡ word_of rest
-    → option_map (λ t. chars t.now) digits ≡ option_map (leading is_numeric) (behind_point (after_number rest))
+pub spelled_read : (rest number letters : List ℕ) (digits : Option (Bor (List ℕ))) → number ≡ take_while is_numeric rest → letters ≡ word_of rest
+    → option_map (λ t. chars t.now) digits ≡ option_map (take_while is_numeric) (behind_point (after_number rest))
     → spelled (drop_trailing_whitespace number) (option_map (λ t. trimmed (chars t.now)) digits) letters ≡ span_of rest
 spelled_read rest number letters digits n l d = grind (arith, common_steps, (spelled_at [] rest))

@@ -3,10 +3,10 @@ use Rattle.std.proofs.lemmas.Grind.{common_steps}
 use Rattle.std.proofs.Common.{◌≡◌, ◌≢◌, ◌≤◌, ◌+◌, ◌-◌, ℕ, Bool, true, false, List, [], ◌++◌, length, take, drop, refl, ap, sym, ◌∙◌, arith, length-append, length-drop, length-take, IsUtf8, IsCharBoundary, chars, slice_range}
 use Rattle.std.proofs.lemmas.List.{take-append-drop, append_cancel_right}
 use Rattle.std.proofs.lemmas.Str.{IsUtf8-take, IsUtf8-drop, IsCharBoundary-at_seam, encodes-chars, chars-append, chars-nil}
-use Rattle.humantime.specs.Texts.{leading, past}
+use Rattle.humantime.specs.Texts.{take_while, drop_while}
 use Rattle.humantime.specs.Durations.Characters.{is_letter, byte_length, offset_of}
 use Rattle.humantime.specs.References.Durations.Scanning.{IsTail, begins_no_word}
-use Rattle.humantime.proofs.Durations.Reading.Runs.{leading-past}
+use Rattle.humantime.proofs.Durations.Reading.Runs.{take_while-drop_while}
 
 -- what stands before the rest
 abbrev pub front_of : List ℕ → List ℕ → List ℕ
@@ -29,17 +29,17 @@ pub tail_boundary : (text rest : List ℕ) → IsTail text rest → IsCharBounda
 tail_boundary text rest t = grind (arith, common_steps, ap length (tail_whole text rest t), length-append (front_of text rest) rest, IsCharBoundary-at_seam)
 
 -- what stands before a place, where the longest front that passes a test ends there
-pub front_is : (p : ℕ → Bool) (text : List ℕ) (at : ℕ) → IsUtf8 text → IsCharBoundary text at → chars (drop at text) ≡ past p (chars text)
-    → chars (take at text) ≡ leading p (chars text)
+pub front_is : (p : ℕ → Bool) (text : List ℕ) (at : ℕ) → IsUtf8 text → IsCharBoundary text at → chars (drop at text) ≡ drop_while p (chars text)
+    → chars (take at text) ≡ take_while p (chars text)
 front_is p text at u place after =
-    append_cancel_right (chars (take at text)) (leading p (chars text)) (past p (chars text))
+    append_cancel_right (chars (take at text)) (take_while p (chars text)) (drop_while p (chars text))
     (ap (λ (x : List ℕ). chars (take at text) ++ x) (sym after) ∙ sym (chars-append (take at text) (drop at text) (IsUtf8-take text at u place))
-    ∙ ap chars (take-append-drop at text) ∙ sym (leading-past p (chars text)))
+    ∙ ap chars (take-append-drop at text) ∙ sym (take_while-drop_while p (chars text)))
 
-letter_begins : (cs : List ℕ) → leading is_letter cs ≢ [] → begins_no_word cs ≡ false
+letter_begins : (cs : List ℕ) → take_while is_letter cs ≢ [] → begins_no_word cs ≡ false
 letter_begins cs some = grind (arith, common_steps)
 
-no_letter_begins : (cs : List ℕ) → leading is_letter cs ≡ [] → cs ≢ [] → begins_no_word cs ≡ true
+no_letter_begins : (cs : List ℕ) → take_while is_letter cs ≡ [] → cs ≢ [] → begins_no_word cs ≡ true
 no_letter_begins cs none some = grind (arith, common_steps)
 
 -- the number of bytes of a text's characters is the text's
@@ -69,13 +69,13 @@ pub part_between : (text behind part next : List ℕ) (start end : ℕ) → IsUt
 part_between text behind part next start end u b n e s t = grind (arith, common_steps, tail_offset, tail_boundary)
 
 -- whether a word begins a text is whether its letters end behind its start
-pub a_word : (text : List ℕ) (at : ℕ) → IsUtf8 text → IsCharBoundary text at → chars (drop at text) ≡ past is_letter (chars text) → at ≢ 0
+pub a_word : (text : List ℕ) (at : ℕ) → IsUtf8 text → IsCharBoundary text at → chars (drop at text) ≡ drop_while is_letter (chars text) → at ≢ 0
     → begins_no_word (chars text) ≡ false
 a_word text at u place rest some =
     let front : length (take at text) ≢ 0 = omega (arith, length-take at text, place.0, some) in
     letter_begins (chars text) (λ none. some_chars (take at text) (IsUtf8-take text at u place) front (front_is is_letter text at u place rest ∙ none))
 
-pub no_word : (text : List ℕ) (at : ℕ) → IsUtf8 text → IsCharBoundary text at → chars (drop at text) ≡ past is_letter (chars text) → at ≡ 0
+pub no_word : (text : List ℕ) (at : ℕ) → IsUtf8 text → IsCharBoundary text at → chars (drop at text) ≡ drop_while is_letter (chars text) → at ≡ 0
     → length text ≢ 0 → begins_no_word (chars text) ≡ true
 no_word text at u place rest zero some =
     no_letter_begins (chars text) (sym (front_is is_letter text at u place rest) ∙ no_bytes (take at text) (rw zero refl)) (some_chars text u some)

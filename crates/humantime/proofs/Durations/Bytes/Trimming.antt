@@ -1,73 +1,73 @@
--- Slices without the white space at their ends.
+-- Slices without the whitespace at their ends.
 use Rattle.std.proofs.Common.{◌≡◌, ℕ, suc, Bool, true, false, ◌&&◌, cond, eqb, List, [], ◌∷◌, ◌++◌, length, Some, None, ◌⊎◌, inl, inr, refl, sym, ap, subst, ◌∙◌, append-nil, arith, IsUtf8, chars}
 use Rattle.std.proofs.lemmas.Grind.{common_steps}
-use Rattle.std.specs.Char.{is_whitespace}
+use Rattle.std.specs.Char.{is_whitespace as std_is_whitespace}
 use Rattle.std.specs.Str.{trim_start, trim_end, skip_leading_whitespace, drop_trailing_whitespace}
 use Rattle.std.proofs.lemmas.Str.{encodes-chars, encodes_same}
 use Rattle.std.proofs.lemmas.Bool.Decides.{nat_tests}
 use Rattle.std.proofs.lemmas.List.Elements.{filter-append}
-use Rattle.humantime.specs.Texts.{begins, ends, past}
-use Rattle.humantime.specs.Durations.Characters.{is_ws, is_digit, is_letter, is_numeric, digits}
+use Rattle.humantime.specs.Texts.{begins, ends, drop_while}
+use Rattle.humantime.specs.Durations.Characters.{is_whitespace, is_digit, is_letter, is_numeric, digits}
 use Rattle.humantime.specs.Durations.Spans.{Only}
 use Rattle.humantime.specs.Durations.Faults.{span_of}
-use Rattle.humantime.specs.References.Durations.Lending.{trimmed, fraction_slice, lent_at, spelled}
+use Rattle.humantime.specs.References.Durations.TextViews.{trimmed, fraction_slice, view_at, spelled}
 use Rattle.humantime.specs.Durations.Items.{IsDigitSlice}
-use Rattle.humantime.proofs.Durations.Reading.Classes.{white_is, letter_not_numeric, letter_not_point, is_point-46, space_not_digit, digit_from_numeric}
-use Rattle.humantime.proofs.Durations.Reading.Runs.{leading-append}
+use Rattle.humantime.proofs.Durations.Reading.Classes.{whitespace_is, letter_not_numeric, letter_not_point, is_point-46, whitespace_not_digit, digit_from_numeric}
+use Rattle.humantime.proofs.Durations.Reading.Runs.{take_while-append}
 
 pub suc_not_zero : (n : ℕ) → eqb (suc n) 0 ≡ false
 suc_not_zero n = grind (arith, nat_tests)
 
--- ds is cs without the white space at its end
+-- ds is cs without the whitespace at its end
 pub record Dropped (cs ds : List ℕ) : Type 0 where
   pub tail : List ℕ
   pub whole : cs ≡ ds ++ tail
-  pub space : Only is_ws tail
-  pub last : (ds ≡ []) ⊎ (ends is_ws ds ≡ false)
+  pub whitespace : Only is_whitespace tail
+  pub last : (ds ≡ []) ⊎ (ends is_whitespace ds ≡ false)
 
-last_of : (x : ℕ) (xs : List ℕ) → (x ∷ xs ≡ []) ⊎ (ends is_ws (x ∷ xs) ≡ false) → ends is_ws (x ∷ xs) ≡ false
+last_of : (x : ℕ) (xs : List ℕ) → (x ∷ xs ≡ []) ⊎ (ends is_whitespace (x ∷ xs) ≡ false) → ends is_whitespace (x ∷ xs) ≡ false
 last_of x xs h = grind (arith, common_steps)
 
 pub dropped : (cs : List ℕ) → Dropped cs (drop_trailing_whitespace cs)
-dropped [] = record { tail = []; whole = refl; space = tt; last = inl refl }
-dropped (c ∷ cs) = by (is_whitespace c) (drop_trailing_whitespace cs) refl (dropped cs)
+dropped [] = record { tail = []; whole = refl; whitespace = tt; last = inl refl }
+dropped (c ∷ cs) = by (std_is_whitespace c) (drop_trailing_whitespace cs) refl (dropped cs)
   where
-    by : (w : Bool) (ds : List ℕ) → is_whitespace c ≡ w → Dropped cs ds → Dropped (c ∷ cs) (cond (w && eqb (length ds) 0) [] (c ∷ ds))
-    by true [] e d = record { tail = c ∷ d.tail; whole = ap (c ∷◌) d.whole; space = (sym (white_is c) ∙ e, d.space); last = inl refl }
-    by true (x ∷ xs) e d = rw (suc_not_zero (length xs)) (record { tail = d.tail; whole = ap (c ∷◌) d.whole; space = d.space; last = inr (last_of x xs d.last) })
-    by false [] e d = record { tail = d.tail; whole = ap (c ∷◌) d.whole; space = d.space; last = inr (sym (white_is c) ∙ e) }
-    by false (x ∷ xs) e d = record { tail = d.tail; whole = ap (c ∷◌) d.whole; space = d.space; last = inr (last_of x xs d.last) }
+    by : (w : Bool) (ds : List ℕ) → std_is_whitespace c ≡ w → Dropped cs ds → Dropped (c ∷ cs) (cond (w && eqb (length ds) 0) [] (c ∷ ds))
+    by true [] e d = record { tail = c ∷ d.tail; whole = ap (c ∷◌) d.whole; whitespace = (sym (whitespace_is c) ∙ e, d.whitespace); last = inl refl }
+    by true (x ∷ xs) e d = rw (suc_not_zero (length xs)) (record { tail = d.tail; whole = ap (c ∷◌) d.whole; whitespace = d.whitespace; last = inr (last_of x xs d.last) })
+    by false [] e d = record { tail = d.tail; whole = ap (c ∷◌) d.whole; whitespace = d.whitespace; last = inr (sym (whitespace_is c) ∙ e) }
+    by false (x ∷ xs) e d = record { tail = d.tail; whole = ap (c ∷◌) d.whole; whitespace = d.whitespace; last = inr (last_of x xs d.last) }
 
-no_digits : (cs : List ℕ) → Only is_ws cs → digits cs ≡ []
+no_digits : (cs : List ℕ) → Only is_whitespace cs → digits cs ≡ []
 no_digits [] o = refl
-no_digits (c ∷ cs) o = rw (space_not_digit c o.0) (no_digits cs o.1)
+no_digits (c ∷ cs) o = rw (whitespace_not_digit c o.0) (no_digits cs o.1)
 
 digits_dropped : (cs ds : List ℕ) → Dropped cs ds → digits ds ≡ digits cs
-digits_dropped cs ds d = sym (ap digits d.whole ∙ filter-append is_digit ds d.tail ∙ ap (digits ds ++◌) (no_digits d.tail d.space) ∙ append-nil (digits ds))
+digits_dropped cs ds d = sym (ap digits d.whole ∙ filter-append is_digit ds d.tail ∙ ap (digits ds ++◌) (no_digits d.tail d.whitespace) ∙ append-nil (digits ds))
 
-pub digits_past : (cs : List ℕ) → digits (past is_ws cs) ≡ digits cs
-digits_past [] = refl
-digits_past (c ∷ cs) = grind (arith, common_steps, (digits_past cs), space_not_digit)
+pub digits_drop_while : (cs : List ℕ) → digits (drop_while is_whitespace cs) ≡ digits cs
+digits_drop_while [] = refl
+digits_drop_while (c ∷ cs) = grind (arith, common_steps, (digits_drop_while cs), whitespace_not_digit)
 
 -- the slices spell the span that they are taken from
-pub spelled_at : (text rest : List ℕ) → spelled (lent_at text rest).number (lent_at text rest).fraction (lent_at text rest).unit ≡ span_of rest
-spelled_at text rest = grind (arith, common_steps, digits_dropped, dropped, digits_past)
+pub spelled_at : (text rest : List ℕ) → spelled (view_at text rest).number (view_at text rest).fraction (view_at text rest).unit ≡ span_of rest
+spelled_at text rest = grind (arith, common_steps, digits_dropped, dropped, digits_drop_while)
 
-ends_digit : (x : ℕ) (xs : List ℕ) → Only is_numeric (x ∷ xs) → ends is_ws (x ∷ xs) ≡ false → ends is_digit (x ∷ xs) ≡ true
+ends_digit : (x : ℕ) (xs : List ℕ) → Only is_numeric (x ∷ xs) → ends is_whitespace (x ∷ xs) ≡ false → ends is_digit (x ∷ xs) ≡ true
 ends_digit x [] o e = digit_from_numeric x o.0 e
 ends_digit x (y ∷ ys) o e = ends_digit y ys o.1 e
 
-all_white : (cs : List ℕ) → Only is_ws cs → begins is_digit cs ≡ true → ⊥
-all_white cs h k = grind (arith, common_steps, space_not_digit)
+all_whitespace : (cs : List ℕ) → Only is_whitespace cs → begins is_digit cs ≡ true → ⊥
+all_whitespace cs h k = grind (arith, common_steps, whitespace_not_digit)
 
 only_front : (p : ℕ → Bool) (xs ys : List ℕ) → Only p (xs ++ ys) → Only p xs
 only_front p [] ys o = tt
 only_front p (x ∷ xs) ys o = (o.0, only_front p xs ys o.1)
 
--- digits and white space from a first digit on, without the white space at the end, behind other white space
-pub digit_slice : (before cs ds : List ℕ) → Dropped cs ds → Only is_ws before → begins is_digit cs ≡ true → Only is_numeric cs
+-- digits and whitespace from a first digit on, without the whitespace at the end, behind other whitespace
+pub digit_slice : (before cs ds : List ℕ) → Dropped cs ds → Only is_whitespace before → begins is_digit cs ≡ true → Only is_numeric cs
     → IsDigitSlice (before ++ cs) ds
-digit_slice before cs [] d w b o = absurd (all_white d.tail d.space (subst (λ (l : List ℕ). begins is_digit l ≡ true) d.whole b))
+digit_slice before cs [] d w b o = absurd (all_whitespace d.tail d.whitespace (subst (λ (l : List ℕ). begins is_digit l ≡ true) d.whole b))
 digit_slice before cs (x ∷ xs) d w b o = grind (arith, common_steps, only_front, ends_digit)
 
 -- the slice of the fraction behind a number, before a word
@@ -76,17 +76,17 @@ no_slice tail h = grind (arith, common_steps, letter_not_point)
 
 pub slice_behind_point : (behind tail : List ℕ) → Only is_numeric behind → begins is_letter tail ≡ true
     → fraction_slice (46 ∷ (behind ++ tail)) ≡ Some (trimmed behind)
-slice_behind_point behind tail only e = grind (arith, common_steps, letter_not_numeric, is_point-46, leading-append)
+slice_behind_point behind tail only e = grind (arith, common_steps, letter_not_numeric, is_point-46, take_while-append)
 
 -- what std's `trim_end` and `trim_start` give
 pub end_trimmed : (text cut : List ℕ) → IsUtf8 cut → cut ≡ trim_end text → chars cut ≡ drop_trailing_whitespace (chars text)
 unfolding trim_end
 end_trimmed text cut u e = encodes_same (chars cut) (drop_trailing_whitespace (chars text)) (encodes-chars cut u ∙ e)
 
-pub start_trimmed : (text cut : List ℕ) → IsUtf8 cut → cut ≡ trim_start text → chars cut ≡ past is_ws (chars text)
+pub start_trimmed : (text cut : List ℕ) → IsUtf8 cut → cut ≡ trim_start text → chars cut ≡ drop_while is_whitespace (chars text)
 unfolding trim_start
 start_trimmed text cut u e = encodes_same (chars cut) (skip_leading_whitespace (chars text)) (encodes-chars cut u ∙ e) ∙ skipped (chars text)
   where
-    skipped : (cs : List ℕ) → skip_leading_whitespace cs ≡ past is_ws cs
+    skipped : (cs : List ℕ) → skip_leading_whitespace cs ≡ drop_while is_whitespace cs
     skipped [] = refl
-    skipped (c ∷ cs) = grind (arith, common_steps, white_is, skipped cs)
+    skipped (c ∷ cs) = grind (arith, common_steps, whitespace_is, skipped cs)

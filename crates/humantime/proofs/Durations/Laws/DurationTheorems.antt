@@ -6,16 +6,16 @@ use Rattle.std.proofs.lemmas.Slice.Eq.{bytes_eq-Decides}
 use Rattle.humantime.specs.declared.duration.error.DurationError.{DurationError}
 use Rattle.humantime.specs.contracts.duration.error.DurationErrorPartialEq.TheImpl as errors
 use Rattle.humantime.specs.Values.{duration_end}
-use Rattle.humantime.specs.Durations.Errors.{told, fault_of}
+use Rattle.humantime.specs.Durations.Errors.{result_view, fault_of}
 use Rattle.humantime.specs.contracts.duration.error.DurationErrorPartialEq.TheImpl as errors
-use Rattle.humantime.specs.Laws.Outcomes.{HasOneOutcome, ItemsDecide, LendsOneList}
-use Rattle.humantime.specs.References.Durations.Lending.{lent_items}
+use Rattle.humantime.specs.Laws.Outcomes.{HasOneOutcome, ItemsDecide, HasOneItemList}
+use Rattle.humantime.specs.References.Durations.TextViews.{item_views}
 use Rattle.humantime.specs.References.Durations.Printing.{duration_text}
 use Rattle.humantime.specs.Laws.Printed.{PrintsAndReads, PrintApart, IsBounded, IsCanonicalAgain}
 use Rattle.humantime.specs.References.Durations.Answers.{duration_answer, canonical_answer}
 use Rattle.humantime.proofs.Durations.Printing.CanonicalTexts as canonical
 use Rattle.humantime.proofs.Durations.Printing.GreatestCounts as counts
-use Rattle.humantime.proofs.Durations.Slices.LentItems as lent
+use Rattle.humantime.proofs.Durations.Slices.ItemViews as lent
 use Rattle.humantime.proofs.Durations.Reading.Outcomes as outcomes
 use Rattle.humantime.proofs.Durations.Printing.PrintedLengths as lengths
 use Rattle.humantime.proofs.Durations.Printing.PrintedSpans as printed
@@ -41,13 +41,13 @@ spans_decide text = record {
   too_large = outcomes.items_decide_overflow text;
 }
 
-pub spans_tile : (text : List ℕ) → LendsOneList text
+pub spans_tile : (text : List ℕ) → HasOneItemList text
 spans_tile text =
-    let only = lent.one_lent text in
-    record { one = (lent_items text, lent.are_items text, only); same = λ xs ys a b. only ys b ∙ sym (only xs a) }
+    let only = lent.one_span_view text in
+    record { one = (item_views text, lent.are_items text, only); same = λ xs ys a b. only ys b ∙ sym (only xs a) }
 
 -- What is told as a value was answered as that value.
-pub told_value : (r : Result ℕ DurationError) (v : ℕ) → told r ≡ Ok v → r ≡ Ok v
+pub told_value : (r : Result ℕ DurationError) (v : ℕ) → result_view r ≡ Ok v → r ≡ Ok v
 told_value r v h = grind (arith, common_steps)
 
 -- whether two errors are equal, as `==` says

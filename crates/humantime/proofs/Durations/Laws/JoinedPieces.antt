@@ -28,7 +28,7 @@ abbrev pub joined_value : List Piece → ℕ
 joined_value ps = sum_by (λ (p : Piece). p.value) ps
 
 are_joined : (ps : List Piece) → AllByRecursion IsAcceptedPiece ps → AreSpans (joined_text ps) (joined_spans ps) (joined_value ps)
-are_joined [] h = record { front = record { space = []; body = []; whole = refl; only_space = tt; each = refl }; formed = tt; fit = tt; sum = refl }
+are_joined [] h = record { front = record { whitespace = []; body = []; whole = refl; only_whitespace = tt; each = refl }; formed = tt; fit = tt; sum = refl }
 are_joined (p ∷ ps) h = grind (arith, common_steps, (spans-append p.text (joined_text ps) p.spans (joined_spans ps) p.value (joined_value ps) h.0 (are_joined ps h.1)))
 
 some_joined : (p : Piece) (ps : List Piece) → AllByRecursion IsAcceptedPiece (p ∷ ps) → joined_spans (p ∷ ps) ≢ []

@@ -2,29 +2,29 @@
 use Rattle.std.proofs.Common.{arith, ◌≡◌, ◌≢◌, ◌↔◌, ◌⊎◌, ℕ, ◌+◌, true, List, [], ◌∷◌, ◌++◌, None, refl, ◌∙◌, inl, inr}
 use Rattle.std.proofs.lemmas.Grind.{common_steps}
 use Rattle.std.specs.List.{AllByRecursion}
-use Rattle.humantime.specs.Durations.Characters.{is_ws, bare_zero}
+use Rattle.humantime.specs.Durations.Characters.{is_whitespace, bare_zero}
 use Rattle.humantime.specs.Durations.Spans.{Span, Only, SpellsEach, SpellsAll, Reads}
 use Rattle.humantime.specs.Durations.Accepted.{additions, value, Formed, fits, AllHaveRoom, Accepted, Bare_zero, Sum_of}
 use Rattle.humantime.specs.Durations.Faults.{NumberOverflow, HasFault}
 use Rattle.humantime.specs.Laws.Texts.{AcceptedAs}
 use Rattle.humantime.proofs.Durations.Reading.OneReading.{not_zero}
 use Rattle.humantime.proofs.Durations.Reading.Spellings.{spells-append}
-use Rattle.humantime.proofs.Durations.Reading.Settled.{additions-append, value-append, within_or_beyond}
+use Rattle.humantime.proofs.Durations.Reading.Summed.{additions-append, value-append, within_or_beyond}
 use Rattle.humantime.proofs.Durations.Reading.Outcomes.{items_whole, items_decide_overflow}
 pub use Rattle.humantime.proofs.Durations.Reading.Spellings.{each-append, spells_each-append}
 use Rattle.humantime.proofs.Durations.Laws.Readings.{accepted_spans, no_value_and_fault}
 
--- white space behind a spelling belongs to it
-spells_each-space : (body space : List ℕ) (s : Span) (ss : List Span) → SpellsEach body (s ∷ ss) → Only is_ws space → SpellsEach (body ++ space) (s ∷ ss)
-spells_each-space body space s [] h only = ([], (grind (arith, common_steps, each-append)), refl)
-spells_each-space body space s (t ∷ ts) h only = (h.0 ++ space, spells-append body h.0 space s h.1, spells_each-space h.0 space t ts h.2 only)
+-- whitespace behind a spelling belongs to it
+spells_each-whitespace : (body whitespace : List ℕ) (s : Span) (ss : List Span) → SpellsEach body (s ∷ ss) → Only is_whitespace whitespace → SpellsEach (body ++ whitespace) (s ∷ ss)
+spells_each-whitespace body whitespace s [] h only = ([], (grind (arith, common_steps, each-append)), refl)
+spells_each-whitespace body whitespace s (t ∷ ts) h only = (h.0 ++ whitespace, spells-append body h.0 whitespace s h.1, spells_each-whitespace h.0 whitespace t ts h.2 only)
 
 -- spans behind spans
 pub front-append : (a b : List ℕ) (ss ts : List Span) → Reads a ss → SpellsAll b ts → SpellsAll (a ++ b) (ss ++ ts)
 front-append a b [] ts h k = absurd (h.1 refl)
 front-append a b (s ∷ ss) ts h k =
     let f = h.0 in
-    let each = spells_each-append (f.body ++ k.space) k.body (s ∷ ss) ts (spells_each-space f.body _ s ss f.each k.only_space) k.each in
+    let each = spells_each-append (f.body ++ k.whitespace) k.body (s ∷ ss) ts (spells_each-whitespace f.body _ s ss f.each k.only_whitespace) k.each in
     grind (arith, common_steps, (f), (each))
 
 pub some-append : (ss ts : List Span) → ss ≢ [] → ss ++ ts ≢ []
@@ -34,7 +34,7 @@ some-append (s ∷ ss) ts some e = cc
 pub reads-append : (a b : List ℕ) (ss ts : List Span) → Reads a ss → SpellsAll b ts → Reads (a ++ b) (ss ++ ts)
 reads-append a b ss ts h k = (front-append a b ss ts h k, some-append ss ts h.1)
 
--- The text is white space, or none, and then spans of this value that keep all limits but that of room.
+-- The text is whitespace, or none, and then spans of this value that keep all limits but that of room.
 pub record AreSpans (text : List ℕ) (spans : List Span) (v : ℕ) : Type 0 where
   pub front : SpellsAll text spans
   pub formed : AllByRecursion Formed spans
@@ -97,8 +97,8 @@ joined_sum_or_overflow a b u v (Sum_of ss h g p) (Sum_of ts k l q) some_a some_b
       | inr bad ↦ inr ((no_room_overflows (a ++ b) (ss ++ ts) (u + v) some both).1 (λ room. bad (record { formed = both.formed; fit = both.fit; room = room })))
     ]
 
--- white space may stand wherever a span ends
-pub reads-space : (before space after : List ℕ) (ss ts : List Span) → Reads before ss → SpellsAll after ts → Only is_ws space
-    → Reads (before ++ (space ++ after)) (ss ++ ts)
-reads-space before space after ss ts h k only =
-    reads-append before (space ++ after) ss ts h (grind (arith, common_steps, (each-append _ space k.space only k.only_space)))
+-- whitespace may stand wherever a span ends
+pub reads-whitespace : (before whitespace after : List ℕ) (ss ts : List Span) → Reads before ss → SpellsAll after ts → Only is_whitespace whitespace
+    → Reads (before ++ (whitespace ++ after)) (ss ++ ts)
+reads-whitespace before whitespace after ss ts h k only =
+    reads-append before (whitespace ++ after) ss ts h (grind (arith, common_steps, (each-append _ whitespace k.whitespace only k.only_whitespace)))

@@ -4,7 +4,7 @@ use Rattle.std.proofs.Common.{◌≡◌, ℕ, Bool, true, false, List, [], ◌�
 use Rattle.std.specs.Prelude.{◌==◌, not}
 use Rattle.std.specs.List.{AllByRecursion}
 use Rattle.std.proofs.lemmas.Bool.{false≢true}
-use Rattle.humantime.specs.Durations.Characters.{greek_mu, white_spaces, is_ws, is_digit, is_numeric}
+use Rattle.humantime.specs.Durations.Characters.{greek_mu, whitespace_chars, is_whitespace, is_digit, is_numeric}
 use Rattle.humantime.specs.Durations.Spans.{Span, Only, Spells, SpellsEach}
 use Rattle.humantime.specs.Durations.Accepted.{Formed, fits, Accepted, Bare_zero, Sum_of}
 use Rattle.humantime.specs.Laws.Older.{is_older_letter, OlderFormed, AcceptedWithZeros, Older_zero, Older_sum, AcceptedWithoutMu, HasMu, KeepsValueWithZeros}
@@ -52,23 +52,23 @@ is_not_mu c = not (c == greek_mu)
 none_is_mu : (p : ℕ → Bool) → p greek_mu ≡ false → (cs : List ℕ) → Only p cs → Only is_not_mu cs
 none_is_mu p fails = each_then (λ c. p c ≡ true) (λ c. is_not_mu c ≡ true) (λ c passes. grind (arith, common_steps))
 
-no_mu_in_space : (cs : List ℕ) → Only is_ws cs → Only is_not_mu cs
-unfolding is_ws white_spaces
-no_mu_in_space = none_is_mu is_ws refl
+no_mu_in_whitespace : (cs : List ℕ) → Only is_whitespace cs → Only is_not_mu cs
+unfolding is_whitespace whitespace_chars
+no_mu_in_whitespace = none_is_mu is_whitespace refl
 
 no_mu_in_number : (cs : List ℕ) → Only is_numeric cs → Only is_not_mu cs
-unfolding is_digit is_ws white_spaces
+unfolding is_digit is_whitespace whitespace_chars
 no_mu_in_number = none_is_mu is_numeric refl
 
 no_mu_in_span : (text rest : List ℕ) (s : Span) → Spells text s rest → OfOlderLetters s → Only is_not_mu rest → Only is_not_mu text
-no_mu_in_span text rest s h letters none = grind (arith, common_steps, no_mu_in_number, none_is_mu, no_mu_in_space)
+no_mu_in_span text rest s h letters none = grind (arith, common_steps, no_mu_in_number, none_is_mu, no_mu_in_whitespace)
 
 no_mu_in_spans : (text : List ℕ) (spans : List Span) → SpellsEach text spans → AllByRecursion OfOlderLetters spans → Only is_not_mu text
 no_mu_in_spans text [] e letters = rw e tt
 no_mu_in_spans text (s ∷ ss) h letters = no_mu_in_span text h.0 s h.1 letters.0 (no_mu_in_spans h.0 ss h.2 letters.1)
 
 no_mu_accepted : (text : List ℕ) (v : ℕ) → AcceptedWithoutMu text v → Only is_not_mu text
-no_mu_accepted text v h = grind (arith, common_steps, no_mu_in_space, no_mu_in_spans)
+no_mu_accepted text v h = grind (arith, common_steps, no_mu_in_whitespace, no_mu_in_spans)
 
 not_among : (before after : List ℕ) → ¬ (Only is_not_mu (before ++ greek_mu ∷ after))
 not_among [] after h = false≢true (h.0)

@@ -7,7 +7,7 @@ use Rattle.humantime.specs.Durations.Faults.{Fault, HasFault}
 use Rattle.humantime.specs.Durations.Accepted.{total, value, WithinLimits, Accepted, Bare_zero, Sum_of, additions_of}
 use Rattle.humantime.specs.Laws.Texts.{IsZeroOrSpans}
 use Rattle.humantime.proofs.Durations.Reading.OneReading.{not_zero}
-use Rattle.humantime.proofs.Durations.Reading.Settled.{value-cons}
+use Rattle.humantime.proofs.Durations.Reading.Summed.{value-cons}
 use Rattle.humantime.proofs.Durations.Reading.Outcomes.{one_reading, outcome_accepted, outcome_fault}
 
 -- what is accepted is exactly `0`, or it is spans

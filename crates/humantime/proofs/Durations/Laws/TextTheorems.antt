@@ -1,24 +1,24 @@
 -- The laws of accepted texts as theorems over plain variables, each under the name of its function in `laws`, and some
 -- theorems beyond them.
 use Rattle.std.proofs.Common.{◌↔◌, ℕ, ◌+◌, List, ◌++◌, inl, inr, refl}
-use Rattle.humantime.specs.Durations.Characters.{is_ws, bare_zero}
+use Rattle.humantime.specs.Durations.Characters.{is_whitespace, bare_zero}
 use Rattle.humantime.specs.Durations.Spans.{Span, Only, SpellsAll, Reads}
 use Rattle.humantime.specs.Durations.Accepted.{Accepted}
 use Rattle.humantime.specs.Durations.Faults.{NumberOverflow}
-use Rattle.humantime.specs.Laws.Texts.{without_white_space, KeepsValueWithoutSpace, AddWhenJoined, KeepValueReordered}
+use Rattle.humantime.specs.Laws.Texts.{without_whitespace, KeepsValueWithoutWhitespace, AddWhenJoined, KeepValueReordered}
 use Rattle.humantime.proofs.Durations.Reading.Outcomes.{accepted_from_outcome, outcome_accepted, outcome_fault}
 use Rattle.humantime.proofs.Durations.Reading.OneReading.{not_zero}
 use Rattle.humantime.proofs.Durations.Laws.Readings as readings
-use Rattle.humantime.proofs.Durations.Laws.SpacelessTexts as spaceless
+use Rattle.humantime.proofs.Durations.Laws.TextsWithoutWhitespace as drops_whitespace
 use Rattle.humantime.proofs.Durations.Laws.JoinedTexts as texts
 pub use Rattle.humantime.proofs.Durations.Laws.SmallAdditions.{small_joined_sum}
 pub use Rattle.humantime.proofs.Durations.Laws.PrintedTogether.{printed_joined_sum}
 pub use Rattle.humantime.proofs.Durations.Laws.JoinedPieces.{pieces_sum, pieces_overflow}
 
-pub without_ws : (text : List ℕ) → KeepsValueWithoutSpace text
+pub without_ws : (text : List ℕ) → KeepsValueWithoutWhitespace text
 without_ws text = record {
-  value = spaceless.spaceless_accepted text;
-  answer = λ v h. outcome_accepted (without_white_space text) v (spaceless.spaceless_accepted text v (accepted_from_outcome text v h));
+  value = drops_whitespace.accepted_without_whitespace text;
+  answer = λ v h. outcome_accepted (without_whitespace text) v (drops_whitespace.accepted_without_whitespace text v (accepted_from_outcome text v h));
 }
 
 pub joined : (a b : List ℕ) → AddWhenJoined a b
@@ -52,9 +52,9 @@ reordered a b =
 pub same_spans : (a b : List ℕ) (spans : List Span) (v : ℕ) → Reads a spans → Reads b spans → Accepted a v ↔ Accepted b v
 same_spans a b spans v h k = (readings.same_spans a b spans v h k, readings.same_spans b a spans v k h)
 
--- white space may stand wherever a span ends, with the same value
-pub space_between : (before space after : List ℕ) (ss ts : List Span) (v : ℕ) → Reads before ss → SpellsAll after ts → Only is_ws space
-    → Accepted (before ++ after) v ↔ Accepted (before ++ (space ++ after)) v
-space_between before space after ss ts v h k only =
-    same_spans (before ++ after) (before ++ (space ++ after)) (ss ++ ts) v
-    (texts.reads-append before after ss ts h k) (texts.reads-space before space after ss ts h k only)
+-- whitespace may stand wherever a span ends, with the same value
+pub whitespace_between : (before whitespace after : List ℕ) (ss ts : List Span) (v : ℕ) → Reads before ss → SpellsAll after ts → Only is_whitespace whitespace
+    → Accepted (before ++ after) v ↔ Accepted (before ++ (whitespace ++ after)) v
+whitespace_between before whitespace after ss ts v h k only =
+    same_spans (before ++ after) (before ++ (whitespace ++ after)) (ss ++ ts) v
+    (texts.reads-append before after ss ts h k) (texts.reads-whitespace before whitespace after ss ts h k only)

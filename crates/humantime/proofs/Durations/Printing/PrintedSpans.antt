@@ -12,14 +12,14 @@ use Rattle.std.proofs.lemmas.List.{append_assoc, append-nil}
 use Rattle.std.proofs.lemmas.Str.{chars-append, chars-IsAscii, chars-nil, IsUtf8-append, IsUtf8-from_ascii}
 use Rattle.std.proofs.lemmas.Fmt.{IsAscii-decimal, decimal_digit}
 use Rattle.humantime.specs.Values.{nanos_per_second}
-use Rattle.humantime.specs.Durations.Characters.{white_spaces, is_letter, is_ws, u64_max}
+use Rattle.humantime.specs.Durations.Characters.{whitespace_chars, is_letter, is_whitespace, u64_max}
 use Rattle.humantime.specs.Durations.Units.{Addition, Nanos, Seconds, scale_of_word}
 use Rattle.humantime.specs.Durations.Spans.{Span, Only, Spells, SpellsEach, Reads}
 use Rattle.humantime.specs.Durations.Accepted.{addition_nanos, amount, times, total, additions_of, additions, value, Formed, fits, Accepted, Sum_of}
 use Rattle.humantime.specs.Durations.Counts.{Suffix, printed_count, joined_by_space, Canon}
 use Rattle.humantime.specs.References.Durations.Printing.{duration_text}
 use Rattle.humantime.proofs.Durations.Reading.Spellings.{spells-append}
-use Rattle.humantime.proofs.Durations.Reading.Settled.{value-cons}
+use Rattle.humantime.proofs.Durations.Reading.Summed.{value-cons}
 use Rattle.humantime.proofs.Durations.Laws.JoinedTexts.{each-append}
 use Rattle.humantime.proofs.Durations.Laws.SmallAdditions.{IsSmall, small_have_room}
 use Rattle.humantime.proofs.Durations.Printing.PrintedDigits.{decimal_number}
@@ -29,7 +29,7 @@ use Rattle.humantime.proofs.Durations.Printing.GreatestCounts.{canon_is_text}
 -- The count is printed as the text of its span, which keeps all limits.
 pub record IsRow (n : ℕ) (s : Suffix) : Type 0 where
   pub utf8 : IsUtf8 (printed_count n s)
-  pub spells : (white : List ℕ) → Only is_ws white → Spells (chars (printed_count n s) ++ white) (span_for n s) []
+  pub spells : (white : List ℕ) → Only is_whitespace white → Spells (chars (printed_count n s) ++ white) (span_for n s) []
   pub formed : Formed (span_for n s)
   pub fits : fits (span_for n s) ≡ true
   pub small : AllByRecursion IsSmall (additions_of (span_for n s))
@@ -100,7 +100,7 @@ abbrev pub rows_text : List (ℕ × Suffix) → List ℕ
 rows_text rows = join_with_byte space (map (λ c. printed_count c.0 c.1) rows)
 
 rows_spell : (rows : List (ℕ × Suffix)) → AllRows rows → SpellsEach (chars (rows_text rows)) (spans_of rows)
-unfolding is_ws white_spaces
+unfolding is_whitespace whitespace_chars
 rows_spell [] h = chars-nil
 rows_spell (c ∷ []) h = ([], subst (λ l. Spells l (span_for c.0 c.1) []) (append-nil (chars (printed_count c.0 c.1))) (h.0.spells [] tt), refl)
 rows_spell (c ∷ d ∷ rows) h =
@@ -129,7 +129,7 @@ rows_printed : (c : ℕ × Suffix) (rows : List (ℕ × Suffix)) (d : ℕ) → A
     → IsPrinted (rows_text (c ∷ rows)) d
 rows_printed c rows d h sum = record {
   spans = spans_of (c ∷ rows);
-  reads = (record { space = []; body = _; whole = refl; only_space = tt; each = rows_spell (c ∷ rows) h }, λ e. cc);
+  reads = (record { whitespace = []; body = _; whole = refl; only_whitespace = tt; each = rows_spell (c ∷ rows) h }, λ e. cc);
   within = rows_within (c ∷ rows) h;
   sum = sum;
 }

@@ -1,50 +1,50 @@
 -- What a character is excludes the others.
 use Rattle.std.proofs.lemmas.Grind.{common_steps}
 use Rattle.std.proofs.Common.{◌≡◌, ◌≤◌, ◌<◌, ℕ, true, false, refl, sym, ◌∙◌, arith}
-use Rattle.std.specs.Char.{is_whitespace, is_ascii_digit, is_ascii_alphabetic}
+use Rattle.std.specs.Char.{is_whitespace as std_is_whitespace, is_ascii_digit, is_ascii_alphabetic}
 use Rattle.std.proofs.lemmas.Bool.{or_left, or_right}
 use Rattle.std.proofs.lemmas.Bool.Decides.{nat_tests}
-use Rattle.humantime.specs.Durations.Characters.{white_spaces, is_ws, is_digit, is_letter, is_point, is_numeric}
+use Rattle.humantime.specs.Durations.Characters.{whitespace_chars, is_whitespace, is_digit, is_letter, is_point, is_numeric}
 
--- the white space listed is that of std
-pub white_is : (c : ℕ) → is_whitespace c ≡ is_ws c
-unfolding is_ws white_spaces
-white_is c = grind (arith, nat_tests)
+-- the whitespace listed is that of std
+pub whitespace_is : (c : ℕ) → std_is_whitespace c ≡ is_whitespace c
+unfolding is_whitespace whitespace_chars
+whitespace_is c = grind (arith, nat_tests)
 
 -- ---- one test excludes the others
 
-pub digit_not_space : (c : ℕ) → is_digit c ≡ true → is_ws c ≡ false
+pub digit_not_whitespace : (c : ℕ) → is_digit c ≡ true → is_whitespace c ≡ false
 unfolding is_digit
-digit_not_space c e = let other : is_whitespace c ≡ false = grind (arith, nat_tests) in sym (white_is c) ∙ other
+digit_not_whitespace c e = let other : std_is_whitespace c ≡ false = grind (arith, nat_tests) in sym (whitespace_is c) ∙ other
 
-pub letter_not_space : (c : ℕ) → is_letter c ≡ true → is_ws c ≡ false
+pub letter_not_whitespace : (c : ℕ) → is_letter c ≡ true → is_whitespace c ≡ false
 unfolding is_letter
-letter_not_space c e = let other : is_whitespace c ≡ false = grind (arith, nat_tests) in sym (white_is c) ∙ other
+letter_not_whitespace c e = let other : std_is_whitespace c ≡ false = grind (arith, nat_tests) in sym (whitespace_is c) ∙ other
 
 pub letter_not_point : (c : ℕ) → is_letter c ≡ true → is_point c ≡ false
 unfolding is_letter is_point
 letter_not_point c e = grind (arith, nat_tests)
 
-pub space_not_digit : (c : ℕ) → is_ws c ≡ true → is_digit c ≡ false
-space_not_digit c = grind (arith, common_steps, digit_not_space)
+pub whitespace_not_digit : (c : ℕ) → is_whitespace c ≡ true → is_digit c ≡ false
+whitespace_not_digit c = grind (arith, common_steps, digit_not_whitespace)
 
 pub letter_not_numeric : (c : ℕ) → is_letter c ≡ true → is_numeric c ≡ false
 unfolding is_digit is_letter
-letter_not_numeric c e = grind (arith, common_steps, letter_not_space, nat_tests)
+letter_not_numeric c e = grind (arith, common_steps, letter_not_whitespace, nat_tests)
 
 pub point_not_numeric : (c : ℕ) → is_point c ≡ true → is_numeric c ≡ false
 unfolding is_digit is_point
-point_not_numeric c e = grind (arith, common_steps, (white_is c), nat_tests)
+point_not_numeric c e = grind (arith, common_steps, (whitespace_is c), nat_tests)
 
 -- ---- what a number holds
 
 pub digit_is_numeric : (c : ℕ) → is_digit c ≡ true → is_numeric c ≡ true
-digit_is_numeric c = or_left (is_digit c) (is_ws c)
+digit_is_numeric c = or_left (is_digit c) (is_whitespace c)
 
-pub space_is_numeric : (c : ℕ) → is_ws c ≡ true → is_numeric c ≡ true
-space_is_numeric c = or_right (is_digit c) (is_ws c)
+pub whitespace_is_numeric : (c : ℕ) → is_whitespace c ≡ true → is_numeric c ≡ true
+whitespace_is_numeric c = or_right (is_digit c) (is_whitespace c)
 
-pub digit_from_numeric : (c : ℕ) → is_numeric c ≡ true → is_ws c ≡ false → is_digit c ≡ true
+pub digit_from_numeric : (c : ℕ) → is_numeric c ≡ true → is_whitespace c ≡ false → is_digit c ≡ true
 digit_from_numeric c n w = grind (arith, common_steps)
 
 -- ---- the point is one character

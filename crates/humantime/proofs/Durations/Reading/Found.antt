@@ -2,17 +2,17 @@
 use Rattle.std.proofs.lemmas.Grind.{common_steps}
 use Rattle.std.proofs.Common.{◌≡◌, ◌≢◌, ◌⊎◌, ℕ, Bool, true, false, List, [], ◌∷◌, ◌++◌, map, length, Option, Some, None, if◌then◌else◌, refl, ap, inl, inr, arith, subst, append_assoc, append-nil}
 use Rattle.std.specs.List.{AllByRecursion}
-use Rattle.humantime.specs.Texts.{begins, past, leading, ends}
-use Rattle.humantime.specs.Durations.Characters.{is_ws, is_digit, bare_zero}
+use Rattle.humantime.specs.Texts.{begins, drop_while, take_while, ends}
+use Rattle.humantime.specs.Durations.Characters.{is_whitespace, is_digit, bare_zero}
 use Rattle.humantime.specs.Durations.Spans.{Span, Spells, SpellsAll}
 use Rattle.humantime.specs.Durations.Faults.{Fault, NumberOverflow, Split, HasFault, Empty, span_of}
 use Rattle.humantime.specs.Durations.Accepted.{Formed, WithinLimits}
 use Rattle.humantime.specs.References.Durations.Reading.{Walk, no_more, walk_of, items}
 use Rattle.humantime.specs.Durations.Items.{Items, Ends}
-use Rattle.humantime.proofs.Durations.Reading.Runs.{ends-append, leading-past, Only-leading, begins-past}
+use Rattle.humantime.proofs.Durations.Reading.Runs.{ends-append, take_while-drop_while, Only-take_while, begins-drop_while}
 use Rattle.humantime.proofs.Durations.Reading.Spelled.{next_of}
 use Rattle.humantime.proofs.Durations.Reading.Spellings.{each-append, spells_each-append}
-use Rattle.humantime.proofs.Durations.Reading.Settled.{WithinLimits_from, within_or_beyond}
+use Rattle.humantime.proofs.Durations.Reading.Summed.{WithinLimits_from, within_or_beyond}
 use Rattle.humantime.proofs.Durations.Reading.SpanWalks.{Steps, by_walk}
 use Rattle.humantime.proofs.Durations.Reading.Stopping.{Fine, fine_at, wrong_stops}
 use Rattle.humantime.proofs.Durations.Reading.Written.{written_here, formed_here, spelling_some}
@@ -26,7 +26,7 @@ IsFirst false spans = spans ≢ []
 pub record IsReadTo (text : List ℕ) (first : Bool) (front : List ℕ) (spans : List Span) (rest : List ℕ) : Type 0 where
   pub split : Split text front spans rest
   pub formed : AllByRecursion Formed spans
-  pub follows : rest ≢ [] → begins is_digit rest ≡ false → (spans ≡ []) ⊎ (ends is_ws front ≡ true)
+  pub follows : rest ≢ [] → begins is_digit rest ≡ false → (spans ≡ []) ⊎ (ends is_whitespace front ≡ true)
   pub before : IsFirst first spans
 
 front_push : (front here : List ℕ) (ss : List Span) (s : Span) → SpellsAll front ss → Spells here s [] → SpellsAll (front ++ here) (ss ++ s ∷ [])
@@ -40,11 +40,11 @@ read_on text front rest first spans r f =
     let spelled = front_push front w.0 spans (span_of rest) r.split.spelled w.1.spells in
     let some_text : w.0 ≢ [] = λ n. omega (arith, ap length n, spelling_some w.0 [] (span_of rest) w.1.spells) in
     let formed = each-append Formed spans (span_of rest ∷ []) r.formed (formed_here rest f, tt) in
-    (w.0, (grind (arith, common_steps, (r.split.whole), (w.1), (spelled), (formed), begins-past, (ends-append is_ws front w.0 some_text))))
+    (w.0, (grind (arith, common_steps, (r.split.whole), (w.1), (spelled), (formed), begins-drop_while, (ends-append is_whitespace front w.0 some_text))))
 
--- a text is read past the white space at its start, with no span yet
-begun : (text : List ℕ) → IsReadTo text true (leading is_ws text) [] (past is_ws text)
-begun text = grind (arith, common_steps, leading-past, Only-leading, begins-past)
+-- a text is read past the whitespace at its start, with no span yet
+begun : (text : List ℕ) → IsReadTo text true (take_while is_whitespace text) [] (drop_while is_whitespace text)
+begun text = grind (arith, common_steps, take_while-drop_while, Only-take_while, begins-drop_while)
 
 -- items of a text: these spans and then those of a walk, up to its end
 abbrev ItemsAfter : List ℕ → List Span → Walk → Type 0
@@ -70,7 +70,7 @@ found text = record {
 
 -- the items of a text, and the rest behind them
 pub items_found_at : (text : List ℕ) → ItemsAfter text [] (walk_of text)
-items_found_at text = by_walk text (Found text) (found text) true (past is_ws text) (leading is_ws text) [] (begun text)
+items_found_at text = by_walk text (Found text) (found text) true (drop_while is_whitespace text) (take_while is_whitespace text) [] (begun text)
 
 pub items_found : (text : List ℕ) → Items text (items text).0 (items text).1
 unfolding items
@@ -97,5 +97,5 @@ too_large text some = record {
 pub too_large_found : (text : List ℕ) → text ≢ bare_zero → ¬ (WithinLimits (items text).0) → HasFault text NumberOverflow
 unfolding items
 too_large_found text not_zero bad =
-    by_walk text (IsTooLarge text) (too_large text not_zero) true (past is_ws text) (leading is_ws text) [] (begun text)
+    by_walk text (IsTooLarge text) (too_large text not_zero) true (drop_while is_whitespace text) (take_while is_whitespace text) [] (begun text)
     (WithinLimits_from [] tt tt) bad

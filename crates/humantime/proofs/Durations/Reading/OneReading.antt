@@ -10,7 +10,7 @@ use Rattle.humantime.proofs.Durations.Reading.Told.{each_starts, first_here, fro
 
 -- a whole text as a front with nothing behind it
 pub split_whole : (text : List ℕ) (spans : List Span) → SpellsAll text spans → Split text text spans []
-split_whole text spans h = record { whole = sym (append-nil text); spelled = h; no_space = refl }
+split_whole text spans h = record { whole = sym (append-nil text); spelled = h; no_whitespace = refl }
 
 one_each : (body : List ℕ) (ss ts : List Span) → SpellsEach body ss → SpellsEach body ts → ss ≡ ts
 one_each body [] [] h k = refl
@@ -27,4 +27,4 @@ one_reading text ss ts h k =
 pub not_zero : (text : List ℕ) (spans : List Span) → Reads text spans → text ≢ bare_zero
 not_zero text [] h e = absurd (h.1 refl)
 not_zero text (s ∷ ss) h e =
-    omega (arith, ap length e, ap length h.0.whole, length-append h.0.space h.0.body, spelling_some h.0.body h.0.each.0 s h.0.each.1)
+    omega (arith, ap length e, ap length h.0.whole, length-append h.0.whitespace h.0.body, spelling_some h.0.body h.0.each.0 s h.0.each.1)

@@ -12,9 +12,9 @@ use Rattle.humantime.specs.Durations.Faults.{fault_at, span_of, Fault, NumberOve
 use Rattle.humantime.specs.Durations.Items.{Items, items_of}
 use Rattle.humantime.specs.Laws.ExactlyOne.{ExactlyOne}
 use Rattle.humantime.specs.Laws.Outcomes.{IsOutcome}
-use Rattle.humantime.specs.References.Durations.Reading.{walk_from, items, settle}
+use Rattle.humantime.specs.References.Durations.Reading.{walk_from, items, sum_spans}
 use Rattle.humantime.specs.References.Durations.Answers.{duration_answer}
-use Rattle.humantime.proofs.Durations.Reading.Settled.{settle_within, too_large, settled_value, settled_fault, WithinLimits_from, from_WithinLimits, WithinLimitsFrom-front}
+use Rattle.humantime.proofs.Durations.Reading.Summed.{sum_spans_within, too_large, summed_value, summed_fault, WithinLimits_from, from_WithinLimits, WithinLimitsFrom-front}
 use Rattle.humantime.proofs.Durations.Reading.Spelled.{next_of}
 use Rattle.humantime.proofs.Durations.Reading.Stopping.{fine_at}
 use Rattle.humantime.proofs.Durations.Reading.Written.{formed_here}
@@ -32,7 +32,7 @@ duration_answer-zero : duration_answer bare_zero ≡ Ok 0
 unfolding duration_answer
 duration_answer-zero = refl
 
-pub duration_answer-items : (text : List ℕ) → text ≢ bare_zero → duration_answer text ≡ settle 0 (items_of (items text).0 (items text).1)
+pub duration_answer-items : (text : List ℕ) → text ≢ bare_zero → duration_answer text ≡ sum_spans 0 (items_of (items text).0 (items text).1)
 unfolding duration_answer
 duration_answer-items text some = grind (arith, common_steps, bytes_eq-Decides)
 
@@ -40,24 +40,24 @@ pub zero_or_not : (text : List ℕ) → (text ≡ bare_zero) ⊎ (text ≢ bare_
 zero_or_not text = grind (arith, common_steps, (bytes_eq-Decides text bare_zero), (cases_Bool (bytes_eq text bare_zero)))
 
 -- whatever the items are, they settle the outcome
-outcome_settled : (text : List ℕ) (spans : List Span) (stop : Option Fault) → text ≢ bare_zero → Items text spans stop → duration_answer text ≡ settle 0 (items_of spans stop)
-outcome_settled text spans stop some h = duration_answer-items text some ∙ ap (λ (r : List Span × Option Fault). settle 0 (items_of r.0 r.1)) (items_told text spans stop h)
+outcome_summed : (text : List ℕ) (spans : List Span) (stop : Option Fault) → text ≢ bare_zero → Items text spans stop → duration_answer text ≡ sum_spans 0 (items_of spans stop)
+outcome_summed text spans stop some h = duration_answer-items text some ∙ ap (λ (r : List Span × Option Fault). sum_spans 0 (items_of r.0 r.1)) (items_told text spans stop h)
 
 -- a text that is read whole stops nowhere
 pub items_whole : (text : List ℕ) (spans : List Span) → Reads text spans → AllByRecursion Formed spans → Items text spans None
 items_whole text spans h f = record { front = text; rest = []; split = split_whole text spans h.0; formed = f; ends = (refl, h.1) }
 
 pub outcome_accepted : (text : List ℕ) (v : ℕ) → Accepted text v → duration_answer text ≡ Ok v
-unfolding settle
+unfolding sum_spans
 outcome_accepted text v (Bare_zero zero none) = rw (zero, none) duration_answer-zero
 outcome_accepted text v (Sum_of spans reads within sum) =
-    outcome_settled text spans None (not_zero text spans reads) (items_whole text spans reads within.formed) ∙ settle_within spans None within ∙ ap (λ (n : ℕ). Ok n) sum
+    outcome_summed text spans None (not_zero text spans reads) (items_whole text spans reads within.formed) ∙ sum_spans_within spans None within ∙ ap (λ (n : ℕ). Ok n) sum
 
 stop_outcome : (text : List ℕ) (e : Fault) (h : HasFault text e) → Stops text h.front h.spans h.rest e → duration_answer text ≡ Err e
-unfolding settle
+unfolding sum_spans
 stop_outcome text e h s =
-    outcome_settled text h.spans (Some e) h.not_zero (record { front = h.front; rest = h.rest; split = h.split; formed = h.within.formed; ends = s })
-    ∙ settle_within h.spans (Some e) h.within
+    outcome_summed text h.spans (Some e) h.not_zero (record { front = h.front; rest = h.rest; split = h.split; formed = h.within.formed; ends = s })
+    ∙ sum_spans_within h.spans (Some e) h.within
 
 -- where the span that begins the rest breaks a limit, the text's items do
 over_outcome : (text : List ℕ) (e : Fault) (h : HasFault text e) → fault_at text h.rest ≡ None → ¬ (WithinLimits (h.spans ++ span_of h.rest ∷ [])) → duration_answer text ≡ Err NumberOverflow
@@ -77,7 +77,7 @@ outcome_fault text e h = grind (arith, common_steps, (stop_outcome text e h), (o
 
 -- the items decide the value, the fault, and that they are too large
 value_only : (text : List ℕ) (spans : List Span) (stop : Option Fault) (v : ℕ) → text ≢ bare_zero → Items text spans stop → duration_answer text ≡ Ok v → (stop ≡ None) × WithinLimits spans × (value spans ≡ v)
-value_only text spans stop v some h o = settled_value spans stop v h.formed (sym (outcome_settled text spans stop some h) ∙ o)
+value_only text spans stop v some h o = summed_value spans stop v h.formed (sym (outcome_summed text spans stop some h) ∙ o)
 
 sum_accepted : (text : List ℕ) (spans : List Span) (stop : Option Fault) (v : ℕ) → Items text spans stop → (stop ≡ None) × WithinLimits spans × (value spans ≡ v) → Accepted text v
 sum_accepted text spans stop v h d = let i = rw d.0 at h in Sum_of spans (grind (arith, common_steps, (i))) d.1 d.2
@@ -95,7 +95,7 @@ accepted_from_outcome text v h = elim (zero_or_not text) [
 fault_read : (text : List ℕ) (e : Fault) → text ≢ bare_zero → duration_answer text ≡ Err e → HasFault text e
 fault_read text e some h =
     let i = items_found text in
-    let d = settled_fault (items text).0 (items text).1 e i.formed (sym (duration_answer-items text some) ∙ h) in
+    let d = summed_fault (items text).0 (items text).1 e i.formed (sym (duration_answer-items text some) ∙ h) in
     grind (arith, common_steps, (d), (i), too_large_found, items_decide_fault)
 
 pub fault_from_outcome : (text : List ℕ) (e : Fault) → duration_answer text ≡ Err e → HasFault text e
@@ -107,7 +107,7 @@ items_decide_value text spans stop h some v = (λ a. value_only text spans stop 
 
 pub items_decide_overflow : (text : List ℕ) (spans : List Span) (stop : Option Fault) → Items text spans stop → text ≢ bare_zero
     → ¬ (WithinLimits spans) → HasFault text NumberOverflow
-items_decide_overflow text spans stop h some b = fault_from_outcome text NumberOverflow (outcome_settled text spans stop some h ∙ too_large spans stop h.formed b)
+items_decide_overflow text spans stop h some b = fault_from_outcome text NumberOverflow (outcome_summed text spans stop some h ∙ too_large spans stop h.formed b)
 
 -- so what was answered as the function says is the value or the fault
 pub answer_accepts : (text : List ℕ) (r : Result ℕ Fault) → r ≡ duration_answer text → (v : ℕ) → (r ≡ Ok v) ↔ Accepted text v

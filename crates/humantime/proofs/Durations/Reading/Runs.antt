@@ -2,39 +2,39 @@
 use Rattle.std.proofs.lemmas.Grind.{common_steps}
 use Rattle.std.proofs.Common.{◌≡◌, ◌≢◌, ℕ, ◌≤◌, ◌<◌, Bool, true, false, List, [], ◌∷◌, ◌++◌, length, refl, ap, inl, inr, arith, length-append}
 use Rattle.std.proofs.lemmas.Bool.{cases_Bool}
-use Rattle.humantime.specs.Texts.{leading, past, begins, ends}
+use Rattle.humantime.specs.Texts.{take_while, drop_while, begins, ends}
 use Rattle.humantime.specs.Durations.Characters.{is_letter}
 use Rattle.humantime.specs.Durations.Spans.{Only, IsLetters}
 
-pub leading-past : (p : ℕ → Bool) (cs : List ℕ) → leading p cs ++ past p cs ≡ cs
-leading-past p [] = refl
-leading-past p (c ∷ cs) = elim (cases_Bool (p c)) [ inl e ↦ rw e (ap (λ (x : List ℕ). c ∷ x) (leading-past p cs)) | inr e ↦ rw e ]
+pub take_while-drop_while : (p : ℕ → Bool) (cs : List ℕ) → take_while p cs ++ drop_while p cs ≡ cs
+take_while-drop_while p [] = refl
+take_while-drop_while p (c ∷ cs) = elim (cases_Bool (p c)) [ inl e ↦ rw e (ap (λ (x : List ℕ). c ∷ x) (take_while-drop_while p cs)) | inr e ↦ rw e ]
 
-pub Only-leading : (p : ℕ → Bool) (cs : List ℕ) → Only p (leading p cs)
-Only-leading p [] = tt
-Only-leading p (c ∷ cs) = elim (cases_Bool (p c)) [ inl e ↦ rw e (e, Only-leading p cs) | inr e ↦ rw e tt ]
+pub Only-take_while : (p : ℕ → Bool) (cs : List ℕ) → Only p (take_while p cs)
+Only-take_while p [] = tt
+Only-take_while p (c ∷ cs) = elim (cases_Bool (p c)) [ inl e ↦ rw e (e, Only-take_while p cs) | inr e ↦ rw e tt ]
 
-pub begins-past : (p : ℕ → Bool) (cs : List ℕ) → begins p (past p cs) ≡ false
-begins-past p [] = refl
-begins-past p (c ∷ cs) = elim (cases_Bool (p c)) [ inl e ↦ rw e (begins-past p cs) | inr e ↦ rw e e ]
+pub begins-drop_while : (p : ℕ → Bool) (cs : List ℕ) → begins p (drop_while p cs) ≡ false
+begins-drop_while p [] = refl
+begins-drop_while p (c ∷ cs) = elim (cases_Bool (p c)) [ inl e ↦ rw e (begins-drop_while p cs) | inr e ↦ rw e e ]
 
-pub begins_leading : (p q : ℕ → Bool) (cs : List ℕ) → begins p cs ≡ true → ((c : ℕ) → p c ≡ true → q c ≡ true)
-    → begins p (leading q cs) ≡ true
-begins_leading p q cs h k = grind (arith, common_steps)
+pub begins_take_while : (p q : ℕ → Bool) (cs : List ℕ) → begins p cs ≡ true → ((c : ℕ) → p c ≡ true → q c ≡ true)
+    → begins p (take_while q cs) ≡ true
+begins_take_while p q cs h k = grind (arith, common_steps)
 
 -- a front that passes, and then what doesn't begin so
-pub leading-append : (p : ℕ → Bool) (xs ys : List ℕ) → Only p xs → begins p ys ≡ false → leading p (xs ++ ys) ≡ xs
-leading-append p [] [] h e = refl
-leading-append p [] (y ∷ ys) h e = rw e
-leading-append p (x ∷ xs) ys h e = rw (h.0) (ap (λ (l : List ℕ). x ∷ l) (leading-append p xs ys h.1 e))
+pub take_while-append : (p : ℕ → Bool) (xs ys : List ℕ) → Only p xs → begins p ys ≡ false → take_while p (xs ++ ys) ≡ xs
+take_while-append p [] [] h e = refl
+take_while-append p [] (y ∷ ys) h e = rw e
+take_while-append p (x ∷ xs) ys h e = rw (h.0) (ap (λ (l : List ℕ). x ∷ l) (take_while-append p xs ys h.1 e))
 
-pub past-append : (p : ℕ → Bool) (xs ys : List ℕ) → Only p xs → begins p ys ≡ false → past p (xs ++ ys) ≡ ys
-past-append p [] [] h e = refl
-past-append p [] (y ∷ ys) h e = rw e
-past-append p (x ∷ xs) ys h e = rw (h.0) (past-append p xs ys h.1 e)
+pub drop_while-append : (p : ℕ → Bool) (xs ys : List ℕ) → Only p xs → begins p ys ≡ false → drop_while p (xs ++ ys) ≡ ys
+drop_while-append p [] [] h e = refl
+drop_while-append p [] (y ∷ ys) h e = rw e
+drop_while-append p (x ∷ xs) ys h e = rw (h.0) (drop_while-append p xs ys h.1 e)
 
-pub past_shorter : (p : ℕ → Bool) (cs : List ℕ) → length (past p cs) ≤ length cs
-past_shorter p cs = omega (arith, ap length (leading-past p cs), length-append (leading p cs) (past p cs))
+pub drop_while_shorter : (p : ℕ → Bool) (cs : List ℕ) → length (drop_while p cs) ≤ length cs
+drop_while_shorter p cs = omega (arith, ap length (take_while-drop_while p cs), length-append (take_while p cs) (drop_while p cs))
 
 pub begins_some : (p : ℕ → Bool) (cs : List ℕ) → begins p cs ≡ true → 0 < length cs
 begins_some p cs h = grind (arith, common_steps)

@@ -9,23 +9,23 @@ use Rattle.std.proofs.lemmas.Nat.{pow-add}
 use Rattle.std.proofs.lemmas.Nat.Gcd.{dvd_of_mod-eq-zero, mod-eq-zero_of_dvd}
 use Rattle.std.proofs.Math.Nat.{pow-suc, one-le-pow, mul_assoc, mul_right_comm, mul-div-mul_right, dvd_of_mul-dvd-mul_right, le-mul_of_pos_right}
 use Rattle.std.proofs.lemmas.List.{length-reverse, reverse-append, reverse-reverse}
-use Rattle.humantime.specs.Texts.{leading, past, decimal_value}
+use Rattle.humantime.specs.Texts.{take_while, drop_while, decimal_value}
 use Rattle.humantime.specs.Durations.Characters.{significant}
 use Rattle.humantime.specs.Durations.Accepted.{is_whole_part}
 use Rattle.humantime.specs.Durations.Spans.{Only}
-use Rattle.humantime.proofs.Durations.Reading.Runs.{leading-past, Only-leading, past_shorter}
+use Rattle.humantime.proofs.Durations.Reading.Runs.{take_while-drop_while, Only-take_while, drop_while_shorter}
 
 abbrev is_zero : ℕ → Bool
 is_zero d = d == 48
 
 -- the zeros at the end
 abbrev zeros_of : List ℕ → List ℕ
-zeros_of ds = leading is_zero (reverse ds)
+zeros_of ds = take_while is_zero (reverse ds)
 
 significant_and_zeros : (ds : List ℕ) → ds ≡ significant ds ++ reverse (zeros_of ds)
 unfolding significant
 significant_and_zeros ds =
-    sym (reverse-reverse ds) ∙ ap reverse (sym (leading-past is_zero (reverse ds))) ∙ reverse-append (zeros_of ds) (past is_zero (reverse ds))
+    sym (reverse-reverse ds) ∙ ap reverse (sym (take_while-drop_while is_zero (reverse ds))) ∙ reverse-append (zeros_of ds) (drop_while is_zero (reverse ds))
 
 -- a digit behind others stays and keeps them, unless it is a zero
 pub significant_last : (ds : List ℕ) (d : ℕ) → (d == 48) ≡ false → significant (ds ++ d ∷ []) ≡ ds ++ d ∷ []
@@ -36,19 +36,19 @@ pub significant_zero : (ds : List ℕ) → significant (ds ++ 48 ∷ []) ≡ sig
 unfolding significant
 significant_zero ds = rw (reverse-append ds (48 ∷ []))
 
-past_long : (p : ℕ → Bool) (xs ys : List ℕ) (d : ℕ) → p d ≡ false → length ys < length (past p (xs ++ d ∷ ys))
-past_long p [] ys d e = rw e (omega arith)
-past_long p (x ∷ xs) ys d e = grind (arith, common_steps, (past_long p xs ys d e), (length-append xs (d ∷ ys)))
+drop_while_long : (p : ℕ → Bool) (xs ys : List ℕ) (d : ℕ) → p d ≡ false → length ys < length (drop_while p (xs ++ d ∷ ys))
+drop_while_long p [] ys d e = rw e (omega arith)
+drop_while_long p (x ∷ xs) ys d e = grind (arith, common_steps, (drop_while_long p xs ys d e), (length-append xs (d ∷ ys)))
 
 pub significant_long : (ds es : List ℕ) (d : ℕ) → (d == 48) ≡ false → length ds < length (significant (ds ++ d ∷ es))
 unfolding significant
 significant_long ds es d e =
     let turned : reverse (ds ++ d ∷ es) ≡ reverse es ++ d ∷ reverse ds = rw (reverse-append ds (d ∷ es), reverse-append (d ∷ []) es) (append_assoc (reverse es) (d ∷ []) (reverse ds)) in
-    rw (length-reverse, turned) (omega (arith, past_long is_zero (reverse es) (reverse ds) d e, length-reverse ds))
+    rw (length-reverse, turned) (omega (arith, drop_while_long is_zero (reverse es) (reverse ds) d e, length-reverse ds))
 
 pub significant_shorter : (ds : List ℕ) → length (significant ds) ≤ length ds
 unfolding significant
-significant_shorter ds = omega (arith, length-reverse (past is_zero (reverse ds)), past_shorter is_zero (reverse ds), length-reverse ds)
+significant_shorter ds = omega (arith, length-reverse (drop_while is_zero (reverse ds)), drop_while_shorter is_zero (reverse ds), length-reverse ds)
 
 -- ---- what zeros at the end change: nothing but a power of ten
 
@@ -72,7 +72,7 @@ value_shifted ds z count =
     let same : length (zeros_of ds) ≡ z = omega (arith, zeros_count ds) in
     rw (← same)
     (ap decimal_value (significant_and_zeros ds) ∙ value-append 0 (significant ds) (reverse (zeros_of ds))
-    ∙ zeros_value (decimal_value (significant ds)) (zeros_of ds) (Only-leading is_zero (reverse ds)))
+    ∙ zeros_value (decimal_value (significant ds)) (zeros_of ds) (Only-take_while is_zero (reverse ds)))
 
 product_shifted : (f : ℕ) (ds : List ℕ) → decimal_value ds * f ≡ decimal_value (significant ds) * f * 10 ^ length (zeros_of ds)
 product_shifted f ds =

@@ -1,18 +1,18 @@
 -- What a spelling is read as: the longest runs of characters give back the span that it spells.
 use Rattle.std.proofs.Common.{◌≡◌, ◌≢◌, ◌⊎◌, ℕ, ◌≤◌, ◌<◌, true, false, List, [], ◌∷◌, ◌++◌, length, Option, Some, None, ap, ◌∙◌, arith, append_assoc, append-nil}
-use Rattle.humantime.specs.Texts.{leading, past, begins, ends}
-use Rattle.humantime.specs.Durations.Characters.{is_ws, is_digit, is_letter, is_numeric}
+use Rattle.humantime.specs.Texts.{take_while, drop_while, begins, ends}
+use Rattle.humantime.specs.Durations.Characters.{is_whitespace, is_digit, is_letter, is_numeric}
 use Rattle.humantime.specs.Durations.Spans.{Span, Only, SpellsFraction, Spells}
 use Rattle.humantime.specs.Durations.Faults.{after_number, fraction_of, after_fraction, after_word, span_of, ends_span}
-use Rattle.humantime.specs.References.Durations.Lending.{fraction_at, past_fraction}
-use Rattle.humantime.proofs.Durations.Reading.Classes.{letter_not_numeric, letter_not_point, letter_not_space, space_is_numeric, point_not_numeric, is_point-46}
+use Rattle.humantime.specs.References.Durations.TextViews.{fraction_at, drop_fraction}
+use Rattle.humantime.proofs.Durations.Reading.Classes.{letter_not_numeric, letter_not_point, letter_not_whitespace, whitespace_is_numeric, point_not_numeric, is_point-46}
 use Rattle.std.proofs.lemmas.Grind.{common_steps}
 use Rattle.humantime.proofs.Durations.Reading.Spellings.{spells_alone}
-use Rattle.humantime.proofs.Durations.Reading.Runs.{leading-append, past-append, past_shorter, begins-append, begins_not_nil, letters_begin, ends_Only, ends_other, ends-append, append_not_nil}
+use Rattle.humantime.proofs.Durations.Reading.Runs.{take_while-append, drop_while-append, drop_while_shorter, begins-append, begins_not_nil, letters_begin, ends_Only, ends_other, ends-append, append_not_nil}
 
--- what follows a span: the text past its word and past the white space behind it
+-- what follows a span: the text past its word and past the whitespace behind it
 abbrev pub next_of : List ℕ → List ℕ
-next_of rest = past is_ws (after_word rest)
+next_of rest = drop_while is_whitespace (after_word rest)
 
 -- the rest begins with a digit, and its span and the text behind it are these
 pub record IsSpanAt (rest : List ℕ) (s : Span) (next : List ℕ) : Type 0 where
@@ -25,60 +25,60 @@ pub record IsSpanAt (rest : List ℕ) (s : Span) (next : List ℕ) : Type 0 wher
 pub begins_word : (w t : List ℕ) → begins is_letter w ≡ true → begins is_letter (w ++ t) ≡ true
 begins_word w t e = begins-append is_letter w t (begins_not_nil is_letter w e) ∙ e
 
-no_point : (tail : List ℕ) → begins is_letter tail ≡ true → (fraction_at tail ≡ None) × (past_fraction tail ≡ tail)
+no_point : (tail : List ℕ) → begins is_letter tail ≡ true → (fraction_at tail ≡ None) × (drop_fraction tail ≡ tail)
 no_point tail e = grind (arith, common_steps, letter_not_point)
 
 fraction_read : (b tail : List ℕ) (o : Option (List ℕ)) → SpellsFraction b o → begins is_letter tail ≡ true
-    → (begins is_numeric (b ++ tail) ≡ false) × (fraction_at (b ++ tail) ≡ o) × (past_fraction (b ++ tail) ≡ tail) × (o ≢ Some [])
+    → (begins is_numeric (b ++ tail) ≡ false) × (fraction_at (b ++ tail) ≡ o) × (drop_fraction (b ++ tail) ≡ tail) × (o ≢ Some [])
 fraction_read b tail None h e = grind (arith, common_steps, (no_point tail e), letter_not_numeric)
-fraction_read b tail (Some ds) h e = grind (arith, common_steps, letter_not_numeric, point_not_numeric, is_point-46, leading-append, past-append)
+fraction_read b tail (Some ds) h e = grind (arith, common_steps, letter_not_numeric, point_not_numeric, is_point-46, take_while-append, drop_while-append)
 
 -- a spelled number and fraction before a word are read as these
 pub record IsReadToWord (rest number_text fraction_text tail : List ℕ) (fraction : Option (List ℕ)) : Type 0 where
-  pub number_is : leading is_numeric rest ≡ number_text
+  pub number_is : take_while is_numeric rest ≡ number_text
   pub behind_is : after_number rest ≡ fraction_text ++ tail
   pub fraction_is : fraction_of rest ≡ fraction
   pub tail_is : after_fraction rest ≡ tail
   pub some : fraction ≢ Some []
 
-spelling_parts : (here next : List ℕ) (s : Span) (h : Spells here s []) → here ++ next ≡ h.number_text ++ (h.fraction_text ++ (s.word ++ (h.space ++ next)))
+spelling_parts : (here next : List ℕ) (s : Span) (h : Spells here s []) → here ++ next ≡ h.number_text ++ (h.fraction_text ++ (s.word ++ (h.whitespace ++ next)))
 spelling_parts here next s h = ap (λ (x : List ℕ). x ++ next) (spells_alone here s h) ∙ simp append_assoc
 
 -- a rest that spells a span is read as its number and fraction up to its word
 pub read_spelled : (rest next : List ℕ) (s : Span) (h : Spells rest s next)
-    → IsReadToWord rest h.number_text h.fraction_text (s.word ++ (h.space ++ next)) s.fraction
-read_spelled rest next s h = grind (arith, common_steps, begins_word, fraction_read, past-append, leading-append)
+    → IsReadToWord rest h.number_text h.fraction_text (s.word ++ (h.whitespace ++ next)) s.fraction
+read_spelled rest next s h = grind (arith, common_steps, begins_word, fraction_read, drop_while-append, take_while-append)
 
 pub no_letter_follows : (cs : List ℕ) → ends_span cs ≡ true → begins is_letter cs ≡ false
 no_letter_follows cs h = grind (arith, common_steps, letter_not_numeric)
 
--- where a spelling ends with its word, it doesn't end in white space
-ends_in_word : (a b word : List ℕ) → Only is_letter word → begins is_letter word ≡ true → ends is_ws (a ++ (b ++ (word ++ []))) ≡ false
+-- where a spelling ends with its word, it doesn't end in whitespace
+ends_in_word : (a b word : List ℕ) → Only is_letter word → begins is_letter word ≡ true → ends is_whitespace (a ++ (b ++ (word ++ []))) ≡ false
 ends_in_word a b word only some =
     let n : word ≢ [] = begins_not_nil is_letter word some in
-    rw (append-nil word, ends-append is_ws a (b ++ word) (append_not_nil b word n), ends-append is_ws b word n)
-    (ends_other is_letter is_ws letter_not_space word (ends_Only is_letter word only n))
+    rw (append-nil word, ends-append is_whitespace a (b ++ word) (append_not_nil b word n), ends-append is_whitespace b word n)
+    (ends_other is_letter is_whitespace letter_not_whitespace word (ends_Only is_letter word only n))
 
-followed : (a b word c here next : List ℕ) → here ≡ a ++ (b ++ (word ++ c)) → Only is_letter word → begins is_letter word ≡ true → Only is_ws c
-    → (ends_span next ≡ true) ⊎ (ends is_ws here ≡ true) → ends_span (c ++ next) ≡ true
-followed a b word [] here next whole only some space o = grind (arith, common_steps, (ends_in_word a b word only some))
-followed a b word (x ∷ xs) here next whole only some space o = space_is_numeric x (space.0)
+followed : (a b word c here next : List ℕ) → here ≡ a ++ (b ++ (word ++ c)) → Only is_letter word → begins is_letter word ≡ true → Only is_whitespace c
+    → (ends_span next ≡ true) ⊎ (ends is_whitespace here ≡ true) → ends_span (c ++ next) ≡ true
+followed a b word [] here next whole only some whitespace o = grind (arith, common_steps, (ends_in_word a b word only some))
+followed a b word (x ∷ xs) here next whole only some whitespace o = whitespace_is_numeric x (whitespace.0)
 
 -- a spelling is the span that begins it, where its word ends with it
-pub spelled_here : (here next : List ℕ) (s : Span) → Spells here s [] → (ends_span next ≡ true) ⊎ (ends is_ws here ≡ true) → begins is_ws next ≡ false → IsSpanAt (here ++ next) s next
-spelled_here here next s h o no_space =
+pub spelled_here : (here next : List ℕ) (s : Span) → Spells here s [] → (ends_span next ≡ true) ⊎ (ends is_whitespace here ≡ true) → begins is_whitespace next ≡ false → IsSpanAt (here ++ next) s next
+spelled_here here next s h o no_whitespace =
     let a = h.number_text in
     let b = h.fraction_text in
     let letter = letters_begin s.word h.word in
-    let f : ends_span (h.space ++ next) ≡ true = followed a b s.word h.space here next (spells_alone here s h) h.word.0 letter h.only_space o in
-    let stops = no_letter_follows (h.space ++ next) f in
-    let cut = past-append is_ws h.space next h.only_space no_space in
+    let f : ends_span (h.whitespace ++ next) ≡ true = followed a b s.word h.whitespace here next (spells_alone here s h) h.word.0 letter h.only_whitespace o in
+    let stops = no_letter_follows (h.whitespace ++ next) f in
+    let cut = drop_while-append is_whitespace h.whitespace next h.only_whitespace no_whitespace in
     rw (spelling_parts here next s h)
-    (grind (arith, common_steps, (f), (stops), (letter), (cut), begins-append, begins_not_nil, leading-append, past-append, fraction_read))
+    (grind (arith, common_steps, (f), (stops), (letter), (cut), begins-append, begins_not_nil, take_while-append, drop_while-append, fraction_read))
 
-past_fraction_shorter : (cs : List ℕ) → length (past_fraction cs) ≤ length cs
-past_fraction_shorter cs = grind (arith, common_steps, past_shorter)
+drop_fraction_shorter : (cs : List ℕ) → length (drop_fraction cs) ≤ length cs
+drop_fraction_shorter cs = grind (arith, common_steps, drop_while_shorter)
 
 -- what follows a span is shorter than what it begins
 pub next_smaller : (rest : List ℕ) → begins is_digit rest ≡ true → length (next_of rest) < length rest
-next_smaller rest e = grind (arith, common_steps, past_fraction_shorter, past_shorter)
+next_smaller rest e = grind (arith, common_steps, drop_fraction_shorter, drop_while_shorter)

@@ -12,18 +12,18 @@ pub record IsApart (text : List ℕ) (span : Span) (rest : List ℕ) : Type 0 wh
 
 pub apart : (text rest : List ℕ) (s : Span) → Spells text s rest → IsApart text s rest
 apart text rest s h = record {
-  here = h.number_text ++ (h.fraction_text ++ (s.word ++ h.space));
+  here = h.number_text ++ (h.fraction_text ++ (s.word ++ h.whitespace));
   whole = h.whole ∙ sym (simp append_assoc);
   spells = record {
     number_text = h.number_text;
     fraction_text = h.fraction_text;
-    space = h.space;
+    whitespace = h.whitespace;
     whole = sym (simp append-nil);
     starts = h.starts;
     number = h.number;
     fraction = h.fraction;
     word = h.word;
-    only_space = h.only_space;
+    only_whitespace = h.only_whitespace;
   };
 }
 
@@ -31,13 +31,13 @@ pub spells-append : (text rest more : List ℕ) (s : Span) → Spells text s res
 spells-append text rest more s h = record {
   number_text = h.number_text;
   fraction_text = h.fraction_text;
-  space = h.space;
+  whitespace = h.whitespace;
   whole = ap (λ (t : List ℕ). t ++ more) h.whole ∙ simp append_assoc;
   starts = h.starts;
   number = h.number;
   fraction = h.fraction;
   word = h.word;
-  only_space = h.only_space;
+  only_whitespace = h.only_whitespace;
 }
 
 pub spells_each-append : (a b : List ℕ) (ss ts : List Span) → SpellsEach a ss → SpellsEach b ts → SpellsEach (a ++ b) (ss ++ ts)
@@ -48,6 +48,6 @@ spells_each-append a b (s ∷ ss) ts h k = (h.0 ++ b, spells-append a h.0 b s h.
 pub each-append : {A : Type 0} (P : A → Type 0) (xs ys : List A) → AllByRecursion P xs → AllByRecursion P ys → AllByRecursion P (xs ++ ys)
 each-append P xs ys h k = grind (arith, common_steps)
 
--- a spelling alone has nothing behind its white space
-pub spells_alone : (here : List ℕ) (s : Span) (h : Spells here s []) → here ≡ h.number_text ++ (h.fraction_text ++ (s.word ++ h.space))
+-- a spelling alone has nothing behind its whitespace
+pub spells_alone : (here : List ℕ) (s : Span) (h : Spells here s []) → here ≡ h.number_text ++ (h.fraction_text ++ (s.word ++ h.whitespace))
 spells_alone here s h = h.whole ∙ simp append-nil

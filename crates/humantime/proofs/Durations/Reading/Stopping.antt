@@ -3,7 +3,7 @@ use Rattle.std.proofs.lemmas.Grind.{common_steps}
 use Rattle.std.proofs.Common.{◌≡◌, ◌≢◌, ◌⊎◌, ℕ, true, false, List, [], Some, None, arith}
 use Rattle.std.specs.Option.{IsSome}
 use Rattle.humantime.specs.Texts.{begins, ends}
-use Rattle.humantime.specs.Durations.Characters.{is_ws, is_digit}
+use Rattle.humantime.specs.Durations.Characters.{is_whitespace, is_digit}
 use Rattle.humantime.specs.Durations.Units.{scale_of_word}
 use Rattle.humantime.specs.Durations.Spans.{Span}
 use Rattle.humantime.specs.Durations.Accepted.{too_long}
@@ -23,7 +23,7 @@ unfolding stop_at
 fine_at text rest s = grind (arith, common_steps)
 
 -- where something is, it stops there
-pub wrong_stops : (text front : List ℕ) (spans : List Span) (rest : List ℕ) (e : Fault) → rest ≢ [] → (begins is_digit rest ≡ false → (spans ≡ []) ⊎ (ends is_ws front ≡ true))
+pub wrong_stops : (text front : List ℕ) (spans : List Span) (rest : List ℕ) (e : Fault) → rest ≢ [] → (begins is_digit rest ≡ false → (spans ≡ []) ⊎ (ends is_whitespace front ≡ true))
     → fault_at text rest ≡ Some e → Stops text front spans rest e
 wrong_stops text front spans rest e some follows s = grind (arith, common_steps)
 

@@ -1,34 +1,34 @@
 -- A rest that a well formed span begins is a spelling of that span, and then the rest behind it.
 use Rattle.std.proofs.Common.{◌≡◌, ◌≢◌, ℕ, ◌<◌, true, false, List, [], ◌∷◌, ◌++◌, length, Some, if◌then◌else◌, refl, arith, append-nil}
-use Rattle.humantime.specs.Texts.{leading, begins, ends}
-use Rattle.humantime.specs.Durations.Characters.{is_ws, is_digit, is_point, is_numeric}
+use Rattle.humantime.specs.Texts.{take_while, begins, ends}
+use Rattle.humantime.specs.Durations.Characters.{is_whitespace, is_digit, is_point, is_numeric}
 use Rattle.humantime.specs.Durations.Spans.{Span, SpellsFraction, Spells}
 use Rattle.humantime.specs.Durations.Accepted.{Formed}
 use Rattle.humantime.specs.Durations.Faults.{after_number, word_of, after_word, span_of}
-use Rattle.humantime.specs.References.Durations.Lending.{fraction_at, past_fraction}
+use Rattle.humantime.specs.References.Durations.TextViews.{fraction_at, drop_fraction}
 use Rattle.humantime.proofs.Durations.Reading.Classes.{digit_is_numeric, is_point-true}
-use Rattle.humantime.proofs.Durations.Reading.Runs.{leading-past, Only-leading, begins_leading, ends_Only, ends-append}
+use Rattle.humantime.proofs.Durations.Reading.Runs.{take_while-drop_while, Only-take_while, begins_take_while, ends_Only, ends-append}
 use Rattle.std.proofs.lemmas.Grind.{common_steps}
 use Rattle.humantime.proofs.Durations.Reading.Spelled.{next_of, IsSpanAt}
 use Rattle.humantime.proofs.Durations.Reading.Stopping.{Fine, some_letters}
 
--- a spelling of the span that begins the rest, in white space where no digit follows it
+-- a spelling of the span that begins the rest, in whitespace where no digit follows it
 pub record IsWritten (rest here : List ℕ) : Type 0 where
   pub whole : rest ≡ here ++ next_of rest
   pub spells : Spells here (span_of rest) []
-  pub closes : next_of rest ≢ [] → begins is_digit (next_of rest) ≡ false → ends is_ws here ≡ true
+  pub closes : next_of rest ≢ [] → begins is_digit (next_of rest) ≡ false → ends is_whitespace here ≡ true
 
 -- the point with what follows it up to the word, if a point begins the text
 abbrev pub fraction_text : List ℕ → List ℕ
 fraction_text [] = []
-fraction_text (c ∷ cs) = if is_point c then c ∷ leading is_numeric cs else []
+fraction_text (c ∷ cs) = if is_point c then c ∷ take_while is_numeric cs else []
 
-pub fraction_text-past : (cs : List ℕ) → cs ≡ fraction_text cs ++ past_fraction cs
-fraction_text-past cs = grind (arith, common_steps, leading-past)
+pub fraction_text-drop_while : (cs : List ℕ) → cs ≡ fraction_text cs ++ drop_fraction cs
+fraction_text-drop_while cs = grind (arith, common_steps, take_while-drop_while)
 
 fraction_spelled : (m : List ℕ) → fraction_at m ≢ Some [] → SpellsFraction (fraction_text m) (fraction_at m)
 fraction_spelled [] some = refl
-fraction_spelled (c ∷ cs) some = grind (arith, common_steps, (Only-leading is_numeric cs), (is_point-true c))
+fraction_spelled (c ∷ cs) some = grind (arith, common_steps, (Only-take_while is_numeric cs), (is_point-true c))
 
 -- a spelling has a digit and a letter
 pub spelling_some : (text rest : List ℕ) (s : Span) → Spells text s rest → 1 < length text
@@ -37,11 +37,11 @@ spelling_some text rest s h = grind (arith, common_steps)
 pub written_here : (rest : List ℕ) → Fine rest → (here : List ℕ) × IsWritten rest here
 written_here rest h =
     let some = some_letters (word_of rest) h.word in (
-      leading is_numeric rest ++ (fraction_text (after_number rest) ++ (word_of rest ++ leading is_ws (after_word rest))),
+      take_while is_numeric rest ++ (fraction_text (after_number rest) ++ (word_of rest ++ take_while is_whitespace (after_word rest))),
       record {
-        whole = (grind (arith, common_steps, leading-past, fraction_text-past));
-        spells = (grind (arith, common_steps, append-nil, Only-leading, begins_leading, digit_is_numeric, fraction_spelled, (some), (h)));
-        closes = λ more e. (grind (arith, common_steps, ends-append, ends_Only, Only-leading, (h.ends), (more), (e)));
+        whole = (grind (arith, common_steps, take_while-drop_while, fraction_text-drop_while));
+        spells = (grind (arith, common_steps, append-nil, Only-take_while, begins_take_while, digit_is_numeric, fraction_spelled, (some), (h)));
+        closes = λ more e. (grind (arith, common_steps, ends-append, ends_Only, Only-take_while, (h.ends), (more), (e)));
       },
     )
 

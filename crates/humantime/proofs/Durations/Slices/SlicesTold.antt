@@ -4,71 +4,71 @@ use Rattle.std.proofs.Math.Bool.{and-false}
 use Rattle.std.proofs.lemmas.Grind.{common_steps}
 use Rattle.std.specs.Str.{drop_trailing_whitespace}
 use Rattle.std.proofs.lemmas.List.{append_cancel_left}
-use Rattle.humantime.specs.Texts.{begins, ends, past}
-use Rattle.humantime.specs.Durations.Characters.{is_ws, is_digit, is_letter}
+use Rattle.humantime.specs.Texts.{begins, ends, drop_while}
+use Rattle.humantime.specs.Durations.Characters.{is_whitespace, is_digit, is_letter}
 use Rattle.humantime.specs.Durations.Spans.{Span, Only, SpellsFraction}
 use Rattle.humantime.specs.Durations.Faults.{after_number, after_fraction}
-use Rattle.humantime.specs.Durations.Items.{Lent, IsDigitSlice, LendsFraction, IsLent, LendsEach}
-use Rattle.humantime.specs.References.Durations.Lending.{trimmed, number_slice, fraction_slice}
-use Rattle.humantime.proofs.Durations.Reading.Classes.{white_is, digit_not_space}
-use Rattle.humantime.proofs.Durations.Reading.Runs.{past-append, begins-append, begins_not_nil, begins_other, letters_begin}
+use Rattle.humantime.specs.Durations.Items.{SpanView, IsDigitSlice, IsFractionView, IsSpanView, AreSpanViews}
+use Rattle.humantime.specs.References.Durations.TextViews.{trimmed, number_slice, fraction_slice}
+use Rattle.humantime.proofs.Durations.Reading.Classes.{whitespace_is, digit_not_whitespace}
+use Rattle.humantime.proofs.Durations.Reading.Runs.{drop_while-append, begins-append, begins_not_nil, begins_other, letters_begin}
 use Rattle.humantime.proofs.Durations.Reading.Spelled.{begins_word, read_spelled}
 use Rattle.humantime.proofs.Durations.Bytes.Trimming.{suc_not_zero, no_slice, slice_behind_point}
 
-drop_white : (cs : List ℕ) → Only is_ws cs → drop_trailing_whitespace cs ≡ []
-drop_white [] o = refl
-drop_white (c ∷ cs) o = rw (drop_white cs o.1, white_is c, o.0)
+drop_whitespace : (cs : List ℕ) → Only is_whitespace cs → drop_trailing_whitespace cs ≡ []
+drop_whitespace [] o = refl
+drop_whitespace (c ∷ cs) o = rw (drop_whitespace cs o.1, whitespace_is c, o.0)
 
--- white space behind a digit is all that is dropped
-drop_tail : (xs tail : List ℕ) → Only is_ws tail → ends is_digit xs ≡ true → drop_trailing_whitespace (xs ++ tail) ≡ xs
+-- whitespace behind a digit is all that is dropped
+drop_tail : (xs tail : List ℕ) → Only is_whitespace tail → ends is_digit xs ≡ true → drop_trailing_whitespace (xs ++ tail) ≡ xs
 drop_tail [] tail o e = cc
-drop_tail (x ∷ []) tail o e = ap₂ (λ (b : Bool) (l : List ℕ). cond (b && eqb (length l) 0) [] (x ∷ l)) (white_is x ∙ digit_not_space x e) (drop_white tail o)
+drop_tail (x ∷ []) tail o e = ap₂ (λ (b : Bool) (l : List ℕ). cond (b && eqb (length l) 0) [] (x ∷ l)) (whitespace_is x ∙ digit_not_whitespace x e) (drop_whitespace tail o)
 drop_tail (x ∷ y ∷ xs) tail o e = rw (drop_tail (y ∷ xs) tail o e, suc_not_zero (length xs), and-false)
 
--- a text without the white space at its ends goes from its first digit to its last
+-- a text without the whitespace at its ends goes from its first digit to its last
 trimmed_is : (text slice : List ℕ) → IsDigitSlice text slice → trimmed text ≡ slice
-trimmed_is text slice h = grind (arith, common_steps, digit_not_space, past-append, drop_tail)
+trimmed_is text slice h = grind (arith, common_steps, digit_not_whitespace, drop_while-append, drop_tail)
 
-fraction_told : (b tail : List ℕ) (o f : Option (List ℕ)) → SpellsFraction b o → LendsFraction b f → begins is_letter tail ≡ true → f ≡ fraction_slice (b ++ tail)
+fraction_told : (b tail : List ℕ) (o f : Option (List ℕ)) → SpellsFraction b o → IsFractionView b f → begins is_letter tail ≡ true → f ≡ fraction_slice (b ++ tail)
 fraction_told b tail (Some ds) (Some slice) h k e =
     let same : h.0 ≡ k.0 = cc in
     grind (arith, common_steps, (slice_behind_point h.0 tail h.2.0 e), (trimmed_is k.0 slice k.2), same)
 fraction_told b tail _ _ h k e = grind (arith, common_steps, no_slice)
 
 -- What a span lends, told by the rest that it begins.
-record Told (rest : List ℕ) (x : Lent) (t : List ℕ) : Type 0 where
+record Told (rest : List ℕ) (x : SpanView) (t : List ℕ) : Type 0 where
   number : x.number ≡ number_slice rest
   fraction : x.fraction ≡ fraction_slice (after_number rest)
   left : after_fraction rest ≡ x.unit ++ t
   starts : begins is_digit rest ≡ true
 
-told : (text rest : List ℕ) (s : Span) (x : Lent) (next : List ℕ) (h : IsLent text rest s x next) → Told rest x (h.spelled.space ++ next)
+told : (text rest : List ℕ) (s : Span) (x : SpanView) (next : List ℕ) (h : IsSpanView text rest s x next) → Told rest x (h.spelled.whitespace ++ next)
 told text rest s x next h =
     let k = h.spelled in
     let r = read_spelled rest next s h.spelled in
-    let letter = begins_word s.word (k.space ++ next) (letters_begin s.word k.word) in
-    let no_space : past is_ws k.number_text ≡ k.number_text = past-append is_ws [] k.number_text tt (begins_other is_digit is_ws digit_not_space k.number_text k.starts) in
-    let fraction = fraction_told k.fraction_text (s.word ++ (k.space ++ next)) s.fraction x.fraction k.fraction h.fraction letter in
-    grind (arith, r, no_space, fraction, (trimmed_is k.number_text x.number h.number), begins-append, begins_not_nil)
+    let letter = begins_word s.word (k.whitespace ++ next) (letters_begin s.word k.word) in
+    let no_whitespace : drop_while is_whitespace k.number_text ≡ k.number_text = drop_while-append is_whitespace [] k.number_text tt (begins_other is_digit is_whitespace digit_not_whitespace k.number_text k.starts) in
+    let fraction = fraction_told k.fraction_text (s.word ++ (k.whitespace ++ next)) s.fraction x.fraction k.fraction h.fraction letter in
+    grind (arith, r, no_whitespace, fraction, (trimmed_is k.number_text x.number h.number), begins-append, begins_not_nil)
 
-each_starts : (text rest : List ℕ) (s : Span) (ss : List Span) (xs : List Lent) (end : List ℕ) → LendsEach text rest (s ∷ ss) xs end → begins is_digit rest ≡ true
+each_starts : (text rest : List ℕ) (s : Span) (ss : List Span) (xs : List SpanView) (end : List ℕ) → AreSpanViews text rest (s ∷ ss) xs end → begins is_digit rest ≡ true
 each_starts text rest s ss xs end h = grind (arith, common_steps)
 
-next_is : (space next : List ℕ) → Only is_ws space → begins is_digit next ≡ true → past is_ws (space ++ next) ≡ next
-next_is space next o b = past-append is_ws space next o (begins_other is_digit is_ws digit_not_space next b)
+next_is : (whitespace next : List ℕ) → Only is_whitespace whitespace → begins is_digit next ≡ true → drop_while is_whitespace (whitespace ++ next) ≡ next
+next_is whitespace next o b = drop_while-append is_whitespace whitespace next o (begins_other is_digit is_whitespace digit_not_whitespace next b)
 
 -- two lendings of one span are the same, and leave the same
-one_span : (text rest : List ℕ) (s : Span) (x y : Lent) (m n : List ℕ) (h : IsLent text rest s x m) (k : IsLent text rest s y n)
-    → (x ≡ y) × (h.spelled.space ++ m ≡ k.spelled.space ++ n)
-one_span text rest s x y m n h k = grind (arith, common_steps, (told text rest s x m h), (told text rest s y n k), (append_cancel_left x.unit (h.spelled.space ++ m) (k.spelled.space ++ n) (sym (told text rest s x m h).left ∙ (told text rest s y n k).left ∙ ap (λ (w : List ℕ). w ++ (k.spelled.space ++ n)) (sym (h.unit ∙ sym k.unit)))))
+one_span : (text rest : List ℕ) (s : Span) (x y : SpanView) (m n : List ℕ) (h : IsSpanView text rest s x m) (k : IsSpanView text rest s y n)
+    → (x ≡ y) × (h.spelled.whitespace ++ m ≡ k.spelled.whitespace ++ n)
+one_span text rest s x y m n h k = grind (arith, common_steps, (told text rest s x m h), (told text rest s y n k), (append_cancel_left x.unit (h.spelled.whitespace ++ m) (k.spelled.whitespace ++ n) (sym (told text rest s x m h).left ∙ (told text rest s y n k).left ∙ ap (λ (w : List ℕ). w ++ (k.spelled.whitespace ++ n)) (sym (h.unit ∙ sym k.unit)))))
 
--- one list of spans lends one list of slices, wherever in white space the rest of the text begins
-pub one_each : (text p q m n : List ℕ) (spans : List Span) (xs ys : List Lent) (d e : List ℕ) → Only is_ws p → Only is_ws q → p ++ m ≡ q ++ n → LendsEach text m spans xs d → LendsEach text n spans ys e → xs ≡ ys
+-- one list of spans lends one list of slices, wherever in whitespace the rest of the text begins
+pub one_each : (text p q m n : List ℕ) (spans : List Span) (xs ys : List SpanView) (d e : List ℕ) → Only is_whitespace p → Only is_whitespace q → p ++ m ≡ q ++ n → AreSpanViews text m spans xs d → AreSpanViews text n spans ys e → xs ≡ ys
 one_each text p q m n (s ∷ ss) (x ∷ xs) (y ∷ ys) d e o u w h k =
-    let r : m ≡ n = sym (next_is p m o (each_starts text m s ss (x ∷ xs) d h)) ∙ ap (past is_ws) w ∙ next_is q n u (each_starts text n s ss (y ∷ ys) e k) in
-    let l : IsLent text m s y k.0 = subst (λ (z : List ℕ). IsLent text z s y k.0) (sym r) k.1 in
+    let r : m ≡ n = sym (next_is p m o (each_starts text m s ss (x ∷ xs) d h)) ∙ ap (drop_while is_whitespace) w ∙ next_is q n u (each_starts text n s ss (y ∷ ys) e k) in
+    let l : IsSpanView text m s y k.0 = subst (λ (z : List ℕ). IsSpanView text z s y k.0) (sym r) k.1 in
     let one = one_span text m s x y h.0 k.0 h.1 l in
     let p = h.1.spelled in
     let q = l.spelled in
-    ap₂ (λ (z : Lent) (zs : List Lent). z ∷ zs) one.0 (one_each text p.space q.space h.0 k.0 ss xs ys d e p.only_space q.only_space one.1 h.2 k.2)
+    ap₂ (λ (z : SpanView) (zs : List SpanView). z ∷ zs) one.0 (one_each text p.whitespace q.whitespace h.0 k.0 ss xs ys d e p.only_whitespace q.only_whitespace one.1 h.2 k.2)
 one_each text p q m n spans xs ys d e o u w h k = grind (arith, common_steps)

@@ -3,63 +3,63 @@ use Rattle.std.proofs.lemmas.Grind.{common_steps}
 use Rattle.std.proofs.Common.{◌≡◌, ◌≢◌, ℕ, Bool, true, false, List, [], ◌∷◌, ◌++◌, Option, refl, sym, ap, subst, ◌∙◌, ◌<◌, ◌≤◌, arith}
 use Rattle.std.proofs.lemmas.List.{append_cancel_left}
 use Rattle.std.proofs.lemmas.Str.{encodes-append, length-le-encodes}
-use Rattle.humantime.specs.Texts.{begins, leading, past}
-use Rattle.humantime.specs.Durations.Characters.{is_ws, is_digit, is_letter, is_numeric, digits, byte_length, offset_of}
+use Rattle.humantime.specs.Texts.{begins, take_while, drop_while}
+use Rattle.humantime.specs.Durations.Characters.{is_whitespace, is_digit, is_letter, is_numeric, digits, byte_length, offset_of}
 use Rattle.humantime.specs.Durations.Spans.{Only, SpellsFraction, Spells}
 use Rattle.humantime.specs.Durations.Faults.{after_number, fraction_of, after_fraction, word_of, after_word, span_of}
-use Rattle.humantime.specs.References.Durations.Lending.{past_fraction, trimmed, number_slice, fraction_slice, lent_at}
-use Rattle.humantime.specs.Durations.Items.{IsDigitSlice, LendsFraction, IsLent}
+use Rattle.humantime.specs.References.Durations.TextViews.{drop_fraction, trimmed, number_slice, fraction_slice, view_at}
+use Rattle.humantime.specs.Durations.Items.{IsDigitSlice, IsFractionView, IsSpanView}
 use Rattle.humantime.proofs.Durations.Reading.Classes.{digit_is_numeric}
-use Rattle.humantime.proofs.Durations.Reading.Runs.{leading-past, Only-leading, begins-past, begins_leading, letters_begin, begins_some}
+use Rattle.humantime.proofs.Durations.Reading.Runs.{take_while-drop_while, Only-take_while, begins-drop_while, begins_take_while, letters_begin, begins_some}
 use Rattle.humantime.proofs.Durations.Reading.Spelled.{next_of, begins_word, read_spelled}
 use Rattle.humantime.proofs.Durations.Reading.Spellings.{spells-append}
 use Rattle.humantime.proofs.Durations.Reading.Written.{written_here}
 use Rattle.humantime.proofs.Durations.Reading.Stopping.{Fine}
-use Rattle.humantime.proofs.Durations.Bytes.Trimming.{dropped, digits_past, digit_slice, no_slice, slice_behind_point}
+use Rattle.humantime.proofs.Durations.Bytes.Trimming.{dropped, digits_drop_while, digit_slice, no_slice, slice_behind_point}
 
-fewer_bytes : (cs : List ℕ) → byte_length (past_fraction cs) ≤ byte_length cs
-fewer_bytes cs = grind (arith, common_steps, (leading-past is_numeric), encodes-append)
+fewer_bytes : (cs : List ℕ) → byte_length (drop_fraction cs) ≤ byte_length cs
+fewer_bytes cs = grind (arith, common_steps, (take_while-drop_while is_numeric), encodes-append)
 
-Only-past : (p q : ℕ → Bool) (cs : List ℕ) → Only p cs → Only p (past q cs)
-Only-past p q [] o = tt
-Only-past p q (c ∷ cs) o = grind (arith, common_steps, (Only-past p q cs o.1))
+Only-drop_while : (p q : ℕ → Bool) (cs : List ℕ) → Only p cs → Only p (drop_while q cs)
+Only-drop_while p q [] o = tt
+Only-drop_while p q (c ∷ cs) o = grind (arith, common_steps, (Only-drop_while p q cs o.1))
 
--- digits and white space that don't begin with white space begin with a digit
-begins_digit_or_end : (cs : List ℕ) → Only is_numeric cs → begins is_ws cs ≡ false → digits cs ≢ [] → begins is_digit cs ≡ true
+-- digits and whitespace that don't begin with whitespace begin with a digit
+begins_digit_or_end : (cs : List ℕ) → Only is_numeric cs → begins is_whitespace cs ≡ false → digits cs ≢ [] → begins is_digit cs ≡ true
 begins_digit_or_end cs h k e = grind (arith, common_steps)
 
--- digits and white space, not without a digit, with the slice from the first digit to the last
+-- digits and whitespace, not without a digit, with the slice from the first digit to the last
 trimmed_slice : (cs : List ℕ) → Only is_numeric cs → digits cs ≢ [] → IsDigitSlice cs (trimmed cs)
 trimmed_slice cs o n =
-    let slice = digit_slice (leading is_ws cs) (past is_ws cs) (trimmed cs) (dropped (past is_ws cs)) (Only-leading is_ws cs) in
-    grind (arith, slice, (Only-past is_numeric is_ws cs o), begins_digit_or_end, begins-past, digits_past, (leading-past is_ws cs))
+    let slice = digit_slice (take_while is_whitespace cs) (drop_while is_whitespace cs) (trimmed cs) (dropped (drop_while is_whitespace cs)) (Only-take_while is_whitespace cs) in
+    grind (arith, slice, (Only-drop_while is_numeric is_whitespace cs o), begins_digit_or_end, begins-drop_while, digits_drop_while, (take_while-drop_while is_whitespace cs))
 
-fraction_is_lent : (b tail : List ℕ) (o : Option (List ℕ)) → SpellsFraction b o → begins is_letter tail ≡ true → LendsFraction b (fraction_slice (b ++ tail))
-fraction_is_lent b tail o h k = grind (arith, common_steps, no_slice, slice_behind_point, trimmed_slice)
+fraction_is_viewed : (b tail : List ℕ) (o : Option (List ℕ)) → SpellsFraction b o → begins is_letter tail ≡ true → IsFractionView b (fraction_slice (b ++ tail))
+fraction_is_viewed b tail o h k = grind (arith, common_steps, no_slice, slice_behind_point, trimmed_slice)
 
 pub next_bytes : (rest : List ℕ) → begins is_digit rest ≡ true → byte_length (after_word rest) < byte_length rest
 next_bytes rest b =
-    let some = begins_some is_digit (leading is_numeric rest) (begins_leading is_digit is_numeric rest b digit_is_numeric) in
-    grind (arith, common_steps, (leading-past is_numeric rest), (fewer_bytes (after_number rest)), (leading-past is_letter (after_fraction rest)), encodes-append, length-le-encodes)
+    let some = begins_some is_digit (take_while is_numeric rest) (begins_take_while is_digit is_numeric rest b digit_is_numeric) in
+    grind (arith, common_steps, (take_while-drop_while is_numeric rest), (fewer_bytes (after_number rest)), (take_while-drop_while is_letter (after_fraction rest)), encodes-append, length-le-encodes)
 
 -- the slices of a well formed span that begins a rest tile it up to the next number
-pub is_lent : (text rest : List ℕ) → Fine rest → IsLent text rest (span_of rest) (lent_at text rest) (next_of rest)
-is_lent text rest f =
+pub is_span_view : (text rest : List ℕ) → Fine rest → IsSpanView text rest (span_of rest) (view_at text rest) (next_of rest)
+is_span_view text rest f =
     let w = written_here rest f in
     let h : Spells rest (span_of rest) (next_of rest) =
     subst (λ (l : List ℕ). Spells l (span_of rest) (next_of rest)) (sym w.1.whole) (spells-append w.0 [] (next_of rest) (span_of rest) w.1.spells) in
-    let tail = word_of rest ++ (h.space ++ next_of rest) in
-    let letter : begins is_letter tail ≡ true = begins_word (word_of rest) (h.space ++ next_of rest) (letters_begin (word_of rest) h.word) in
+    let tail = word_of rest ++ (h.whitespace ++ next_of rest) in
+    let letter : begins is_letter tail ≡ true = begins_word (word_of rest) (h.whitespace ++ next_of rest) (letters_begin (word_of rest) h.word) in
     let r = read_spelled rest (next_of rest) (span_of rest) h in
-    let number = leading is_numeric rest in
+    let number = take_while is_numeric rest in
     let number_is : IsDigitSlice number (number_slice rest) =
-    digit_slice [] number (number_slice rest) (dropped number) tt (begins_leading is_digit is_numeric rest f.starts digit_is_numeric) (Only-leading is_numeric rest) in
-    let left : after_word rest ≡ h.space ++ next_of rest =
-    append_cancel_left (word_of rest) (after_word rest) (h.space ++ next_of rest) (leading-past is_letter (after_fraction rest) ∙ r.tail_is) in
+    digit_slice [] number (number_slice rest) (dropped number) tt (begins_take_while is_digit is_numeric rest f.starts digit_is_numeric) (Only-take_while is_numeric rest) in
+    let left : after_word rest ≡ h.whitespace ++ next_of rest =
+    append_cancel_left (word_of rest) (after_word rest) (h.whitespace ++ next_of rest) (take_while-drop_while is_letter (after_fraction rest) ∙ r.tail_is) in
     record {
       spelled = h;
       number = subst (λ (l : List ℕ). IsDigitSlice l (number_slice rest)) r.number_is number_is;
-      fraction = subst (λ (l : List ℕ). LendsFraction h.fraction_text (fraction_slice l)) (sym r.behind_is) (fraction_is_lent h.fraction_text tail (fraction_of rest) h.fraction letter);
+      fraction = subst (λ (l : List ℕ). IsFractionView h.fraction_text (fraction_slice l)) (sym r.behind_is) (fraction_is_viewed h.fraction_text tail (fraction_of rest) h.fraction letter);
       unit = refl;
       start = refl;
       end = ap (offset_of text) left;

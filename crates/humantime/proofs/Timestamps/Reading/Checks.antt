@@ -7,11 +7,11 @@ use Rattle.std.proofs.lemmas.Bool.{and_parts}
 use Rattle.std.proofs.lemmas.Bool.Decides.{nat_tests}
 use Rattle.humantime.specs.References.Timestamps.Reading.{moment_at}
 use Rattle.humantime.specs.Timestamps.Fields.{Separator, Letter_T, Space, Fields, separator_byte, fraction_text, fraction_digits, moment_of}
-use Rattle.humantime.specs.Timestamps.Checks.{has_two, has_separator, has_signs, has_digits, numbers_of, are_in_range, zone_of, fraction_part, has_point, weak_checks, first_failed}
+use Rattle.humantime.specs.Timestamps.Checks.{has_two, has_separator, has_punctuation, has_digits, numbers_of, are_in_range, zone_of, fraction_part, has_point, weak_checks, first_failed}
 
 -- no check of the weak form fails
 pub all_passed : (b : List ℕ) → first_failed (weak_checks b) ≡ None
-    → (19 ≤ length b) × (has_signs b ≡ true) × (has_digits b ≡ true) × (are_in_range (numbers_of b) ≡ true)
+    → (19 ≤ length b) × (has_punctuation b ≡ true) × (has_digits b ≡ true) × (are_in_range (numbers_of b) ≡ true)
     × (has_point (fraction_part b) ≡ true) × (all_ascii_digits (drop 1 (fraction_part b)) ≡ true)
 all_passed b h = grind (arith, common_steps, nat_tests)
 
@@ -37,10 +37,10 @@ fields_of b = record {
 }
 
 -- the signs in their places
-pub signs_told : (b : List ℕ) → has_signs b ≡ true
+pub signs_told : (b : List ℕ) → has_punctuation b ≡ true
     → (slice_index b 4 ≡ 45) × (slice_index b 7 ≡ 45) × (slice_index b 10 ≡ separator_byte (separator_of b))
     × (slice_index b 13 ≡ 58) × (slice_index b 16 ≡ 58)
-unfolding has_signs has_separator
+unfolding has_punctuation has_separator
 signs_told b h = grind (arith, common_steps)
 
 -- the pairs of digits in their places

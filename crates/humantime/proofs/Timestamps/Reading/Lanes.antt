@@ -10,7 +10,7 @@ use Rattle.std.proofs.lemmas.Simd.{mask_l-mod, tops_compared}
 use lib.Lanes.{zip2, mask_l, top}
 use mir.Syntax.{Width}
 use mir.Val.{bits, hbits}
-use Rattle.humantime.specs.Timestamps.Checks.{has_two, has_separator, has_signs, has_digits}
+use Rattle.humantime.specs.Timestamps.Checks.{has_two, has_separator, has_punctuation, has_digits}
 use Rattle.humantime.specs.References.Timestamps.Reading.{has_seconds}
 use Rattle.humantime.proofs.Timestamps.Reading.Checks.{nineteen}
 
@@ -76,8 +76,8 @@ signs_first : (s t u v w a b c d e f g h i j k l : Bool)
 signs_first s t u v w a b c d e f g h i j k l = grind (arith, common_steps)
 
 pub shape_of_parts : (b : List ℕ) → 19 ≤ length b → ((k : ℕ) → Fits w8 (get_or b k 0)) → has_separator b ≡ true
-    → (are_near most b least && has_seconds b) ≡ (has_signs b && has_digits b)
-unfolding has_signs has_digits has_seconds has_two
+    → (are_near most b least && has_seconds b) ≡ (has_punctuation b && has_digits b)
+unfolding has_punctuation has_digits has_seconds has_two
 shape_of_parts b long fits separator =
     let shown = λ (k : ℕ). is_ascii_digit (slice_index b k) in
     let digit = λ (k : ℕ). digit_near (get_or b k 0) (fits k).fits in

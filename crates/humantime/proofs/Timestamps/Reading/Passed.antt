@@ -4,7 +4,7 @@ use Rattle.std.proofs.Common.{◌≡◌, ℕ, ◌+◌, ◌/◌, ◌%◌, ◌≤�
 use Rattle.std.specs.Prelude.{true, slice_index, Option, None}
 use Rattle.std.proofs.lemmas.Bool.{le-leb}
 use Rattle.humantime.specs.Timestamps.Fields.{Fields, fraction_text, fraction_digits, fields_text, IsWeak}
-use Rattle.humantime.specs.Timestamps.Checks.{has_two, has_digits, number_between, numbers_of, has_separator, has_signs, are_in_range, fraction_part, has_point, weak_checks, first_failed}
+use Rattle.humantime.specs.Timestamps.Checks.{has_two, has_digits, number_between, numbers_of, has_separator, has_punctuation, are_in_range, fraction_part, has_point, weak_checks, first_failed}
 use Rattle.humantime.proofs.Dates.Years.{valid_told}
 use Rattle.humantime.proofs.Timestamps.Reading.Bytes.{month_most, holds_of_fraction}
 use Rattle.humantime.proofs.Timestamps.Reading.Checks.{separator_of, fraction_of, fields_of}
@@ -29,8 +29,8 @@ ending : (fraction : Option (List ℕ)) → (has_point (fraction_text fraction) 
 unfolding has_point
 ending fraction = grind (arith, common_steps)
 
-separator_back : (f : Fields) → (has_signs (fields_text f) ≡ true) × (separator_of (fields_text f) ≡ f.separator)
-unfolding has_signs has_separator
+separator_back : (f : Fields) → (has_punctuation (fields_text f) ≡ true) × (separator_of (fields_text f) ≡ f.separator)
+unfolding has_punctuation has_separator
 separator_back f = grind (arith, common_steps)
 
 written_passes : (f : Fields) → IsWeak (fields_text f) f

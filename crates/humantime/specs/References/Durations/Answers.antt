@@ -5,11 +5,11 @@ use Rattle.humantime.specs.Durations.Characters.{bare_zero}
 use Rattle.humantime.specs.Durations.Faults.{Fault}
 use Rattle.humantime.specs.Durations.Items.{items_of}
 use Rattle.humantime.specs.References.Durations.Printing.{duration_text}
-use Rattle.humantime.specs.References.Durations.Reading.{items, settle}
+use Rattle.humantime.specs.References.Durations.Reading.{items, sum_spans}
 
 -- the value of a text in nanoseconds, or its first fault
 unfoldable pub duration_answer : List ℕ → Result ℕ Fault
-duration_answer text = if bytes_eq text bare_zero then Ok 0 else settle 0 (items_of (items text).0 (items text).1)
+duration_answer text = if bytes_eq text bare_zero then Ok 0 else sum_spans 0 (items_of (items text).0 (items text).1)
 
 -- the printed text of a value, or the same fault
 abbrev pub printed_answer : Result ℕ Fault → Result (List ℕ) Fault

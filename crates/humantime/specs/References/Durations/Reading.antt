@@ -1,8 +1,8 @@
 -- Reading from left to right: the plain reference, which private functions meet. Theorems of proofs/ tie it to the
 -- definitions of Spans and Faults.
 use Rattle.std.specs.Prelude.{ℕ, zero, suc, ◌+◌, Bool, true, false, List, [], ◌∷◌, length, Option, Some, None, Result, Ok, Err, if◌then◌else◌, map}
-use Rattle.humantime.specs.Texts.{past}
-use Rattle.humantime.specs.Durations.Characters.{is_ws}
+use Rattle.humantime.specs.Texts.{drop_while}
+use Rattle.humantime.specs.Durations.Characters.{is_whitespace}
 use Rattle.humantime.specs.Durations.Units.{Addition}
 use Rattle.humantime.specs.Durations.Spans.{Span}
 use Rattle.humantime.specs.Durations.Accepted.{addition_nanos, additions_of, fits, room}
@@ -28,7 +28,7 @@ unfoldable pub walk : ℕ → Bool → List ℕ → List ℕ → Walk
 walk n first text [] = no_more [] (if first then Some Empty else None)
 walk zero first text (c ∷ cs) = no_more (c ∷ cs) None
 walk (suc n) first text (c ∷ cs) = elim (fault_at text (c ∷ cs)) [
-  | None ↦ one_more (c ∷ cs) (walk n false text (past is_ws (after_word (c ∷ cs))))
+  | None ↦ one_more (c ∷ cs) (walk n false text (drop_while is_whitespace (after_word (c ∷ cs))))
   | Some e ↦ no_more (c ∷ cs) (Some e)
 ]
 
@@ -37,7 +37,7 @@ abbrev pub walk_from : Bool → List ℕ → List ℕ → Walk
 walk_from first text rest = walk (length rest) first text rest
 
 abbrev pub walk_of : List ℕ → Walk
-walk_of text = walk_from true text (past is_ws text)
+walk_of text = walk_from true text (drop_while is_whitespace text)
 
 -- the spans of a walk and where they stop, and those of a text
 abbrev pub spans_on : Walk → List Span × Option Fault
@@ -56,7 +56,7 @@ unfoldable pub add_span : ℕ → Span → Option ℕ
 add_span t s = if fits s then add_all t (additions_of s) else None
 
 -- what spans add up to after t, unless they break a limit, or else the fault that stops them
-unfoldable pub settle : ℕ → List (Result Span Fault) → Result ℕ Fault
-settle t [] = Ok t
-settle t (Err e ∷ items) = Err e
-settle t (Ok s ∷ items) = elim (add_span t s) [ None ↦ Err NumberOverflow | Some u ↦ settle u items ]
+unfoldable pub sum_spans : ℕ → List (Result Span Fault) → Result ℕ Fault
+sum_spans t [] = Ok t
+sum_spans t (Err e ∷ items) = Err e
+sum_spans t (Ok s ∷ items) = elim (add_span t s) [ None ↦ Err NumberOverflow | Some u ↦ sum_spans u items ]

@@ -4,19 +4,19 @@ use Rattle.std.specs.Iterator.{YieldsFirstBy}
 use Rattle.humantime.specs.declared.duration.error.DurationError.{DurationError}
 use Rattle.humantime.specs.declared.duration.reading.span.Span.{Span}
 use Rattle.humantime.specs.declared.duration.reading.iter.SpanIter.{SpanIter}
-use Rattle.humantime.specs.Texts.{past}
-use Rattle.humantime.specs.Durations.Characters.{is_ws}
+use Rattle.humantime.specs.Texts.{drop_while}
+use Rattle.humantime.specs.Durations.Characters.{is_whitespace}
 use Rattle.humantime.specs.Durations.Faults.{Fault}
-use Rattle.humantime.specs.Durations.Items.{Lent}
-use Rattle.humantime.specs.References.Durations.Lending.{left_at}
+use Rattle.humantime.specs.Durations.Items.{SpanView}
+use Rattle.humantime.specs.References.Durations.TextViews.{left_at}
 use Rattle.humantime.specs.Durations.Errors.{PointsInto}
-use Rattle.humantime.specs.References.Durations.Lents.{item_of}
+use Rattle.humantime.specs.References.Durations.SpanViews.{item_of}
 
 -- the items to come: none after an error or the end, else those from the offset on that it has reached
-abbrev pub items_left : SpanIter → List (Result Lent Fault)
+abbrev pub items_left : SpanIter → List (Result SpanView Fault)
 items_left i =
     if i.ended then []
-    else left_at (length i.rest.now == length i.text.now) (chars i.text.now) (past is_ws (chars i.rest.now))
+    else left_at (length i.rest.now == length i.text.now) (chars i.text.now) (drop_while is_whitespace (chars i.rest.now))
 
 -- the text whose items they are
 abbrev pub text_of : SpanIter → List ℕ

@@ -2,24 +2,24 @@
 use Rattle.std.specs.Prelude.{◌≡◌, ℕ, ◌<◌, true, List, length, Option, Some, None, Result, Ok, Err, chars}
 use Rattle.humantime.specs.declared.duration.error.DurationError.{DurationError}
 use Rattle.humantime.specs.declared.duration.reading.span.Span.{Span}
-use Rattle.humantime.specs.Texts.{past}
-use Rattle.humantime.specs.Durations.Characters.{is_ws}
+use Rattle.humantime.specs.Texts.{drop_while}
+use Rattle.humantime.specs.Durations.Characters.{is_whitespace}
 use Rattle.humantime.specs.Durations.Faults.{after_word, Fault}
 use Rattle.humantime.specs.Durations.Errors.{fault_of}
-use Rattle.humantime.specs.References.Durations.Lending.{lent_at}
-use Rattle.humantime.specs.References.Durations.Lents.{lent_of}
+use Rattle.humantime.specs.References.Durations.TextViews.{view_at}
+use Rattle.humantime.specs.References.Durations.SpanViews.{span_view}
 use Rattle.humantime.specs.References.Durations.Scanning.{IsTail, ends_span}
 
--- What follows a word may end a span, and next is what follows, perhaps without some of its white space.
+-- What follows a word may end a span, and next is what follows, perhaps without some of its whitespace.
 pub record IsBehindWord (after next : List ℕ) : Type 0 where
   pub ends : ends_span (chars after) ≡ true
-  pub same : past is_ws (chars next) ≡ past is_ws (chars after)
+  pub same : drop_while is_whitespace (chars next) ≡ drop_while is_whitespace (chars after)
   pub tail : IsTail after next
 
--- The span is the one that begins the rest of the text, and next is what follows its word, perhaps without some white space.
+-- The span is the one that begins the rest of the text, and next is what follows its word, perhaps without some whitespace.
 pub record IsSpanAt (text rest : List ℕ) (s : Span) (next : List ℕ) : Type 0 where
-  pub lent : lent_of s ≡ lent_at (chars text) (chars rest)
-  pub follows : past is_ws (chars next) ≡ past is_ws (after_word (chars rest))
+  pub lent : span_view s ≡ view_at (chars text) (chars rest)
+  pub follows : drop_while is_whitespace (chars next) ≡ drop_while is_whitespace (after_word (chars rest))
   pub shorter : length next < length rest
   pub tail : IsTail text next
 

@@ -12,7 +12,7 @@ use Rattle.humantime.specs.Timestamps.Checks.{has_two, numbers_of, are_in_range,
 
 -- the sign before the seconds, and their digits
 unfoldable pub has_seconds : List ℕ → Bool
-has_seconds b = (slice_index b 16 == byte ":") && has_two b 17
+has_seconds bytes = (slice_index bytes 16 == byte ":") && has_two bytes 17
 
 -- the numbers that stand in these lanes: a tenth of the year, month, day and minute, and the year's last digit, hour and second
 abbrev pub numbers_in : Lanes → Numbers
@@ -56,9 +56,9 @@ fraction_answer part =
 
 -- the moment of the numbers and of the fraction at their places
 abbrev pub moment_at : List ℕ → ℕ
-moment_at b =
-    let x = numbers_of b in
-    seconds_of x.date x.hour x.minute x.second * nanos_per_second + fraction_nanos (drop 1 (fraction_part b))
+moment_at bytes =
+    let x = numbers_of bytes in
+    seconds_of x.date x.hour x.minute x.second * nanos_per_second + fraction_nanos (drop 1 (fraction_part bytes))
 
 -- the moment t where no check failed, else the error
 abbrev pub moment_or_error : Option TimestampError → ℕ → Result ℤ TimestampError
@@ -67,11 +67,11 @@ moment_or_error (Some e) t = Err e
 
 -- what a text in weak form reads as: the moment, or the error of the first check that fails
 unfoldable pub weak_answer : List ℕ → Result ℤ TimestampError
-weak_answer b = moment_or_error (first_failed (weak_checks b)) (moment_at b)
+weak_answer bytes = moment_or_error (first_failed (weak_checks bytes)) (moment_at bytes)
 
 -- and in strict form
 unfoldable pub strict_answer : List ℕ → Result ℤ TimestampError
-strict_answer b = moment_or_error (first_failed (strict_checks b)) (moment_at b)
+strict_answer bytes = moment_or_error (first_failed (strict_checks bytes)) (moment_at bytes)
 
 -- a moment exactly where the text shows parts of it in weak form, and else the error of the first check that fails
 pub record IsWeakAnswer (bytes : List ℕ) (r : Result ℤ TimestampError) : Type 0 where

@@ -6,12 +6,12 @@ ghost use Rattle.std.specs.Str.{IsUtf8};
 ghost use Rattle.humantime.specs.Buffers.{KeptAtErr};
 ghost use Rattle.humantime.specs.Durations.Faults.{Fault, HasFault};
 ghost use Rattle.humantime.specs.References.Durations.Answers.{canonical_answer};
-ghost use Rattle.humantime.specs.Durations.Errors.{told_text, PointsInto};
-ghost use Rattle.humantime.specs.References.Durations.Seen.{seen};
+ghost use Rattle.humantime.specs.Durations.Errors.{text_result_view, PointsInto};
+ghost use Rattle.humantime.specs.References.Durations.ResultViews.{result_view_by};
 ghost use Rattle.humantime.specs.Durations.Counts.{Canon, IsCanonicalOf};
 ghost use Rattle.humantime.specs.References.Durations.Printing.{duration_text};
 
-use crate::buffer::front;
+use crate::buffer::str_prefix;
 use crate::duration::error::DurationError;
 use crate::duration::printing::writer::Writer;
 use crate::duration::reading::parse_duration;
@@ -58,11 +58,11 @@ impl Model for FormattedDuration {
 /// ```
 /// use humantime::{StdDuration, format_duration};
 ///
-/// let mut buffer = [0; 64];
-/// assert_eq!(rt; format_duration(StdDuration::from_secs(9420)).text(&mut buffer), "2h 37m");
-/// assert_eq!(rt; format_duration(StdDuration::from_secs(31_560_192)).text(&mut buffer), "1year 43m 12s");
-/// assert_eq!(rt; format_duration(StdDuration::from_micros(1)).text(&mut buffer), "1µs");
-/// assert_eq!(rt; format_duration(StdDuration::ZERO).text(&mut buffer), "0s");
+/// let mut buf = [0; 64];
+/// assert_eq!(rt; format_duration(StdDuration::from_secs(9420)).text(&mut buf), "2h 37m");
+/// assert_eq!(rt; format_duration(StdDuration::from_secs(31_560_192)).text(&mut buf), "1year 43m 12s");
+/// assert_eq!(rt; format_duration(StdDuration::from_micros(1)).text(&mut buf), "1µs");
+/// assert_eq!(rt; format_duration(StdDuration::ZERO).text(&mut buf), "0s");
 /// ```
 pub fn format_duration(val: StdDuration) -> FormattedDuration
     ensures { result ≡ val }
@@ -93,15 +93,15 @@ impl FormattedDuration {
     /// ```
     /// use humantime::{StdDuration, format_duration};
     ///
-    /// let mut buffer = [0; 64];
-    /// assert_eq!(rt; format_duration(StdDuration::from_secs(90)).text(&mut buffer), "1m 30s");
+    /// let mut buf = [0; 64];
+    /// assert_eq!(rt; format_duration(StdDuration::from_secs(90)).text(&mut buf), "1m 30s");
     /// ```
     pub fn text<'b>(&self, buf: &'b mut [u8; 64]) -> &'b str
         ensures canon { Canon self.now result.now }
         ensures text { result.now ≡ duration_text self.now }
     {
         let end = write_duration(self.value, buf);
-        front(buf, end)
+        str_prefix(buf, end)
     }
 }
 
@@ -150,8 +150,8 @@ impl fmt::Display for FormattedDuration {
     ghost styled_output = { λ d _. Some (duration_text d) };
 
     fn fmt<W: fmt::Write>(&self, f: &mut fmt::Formatter<W>) -> fmt::Result {
-        let mut buffer = [0; 64];
-        f.write_str(self.text(&mut buffer))
+        let mut buf = [0; 64];
+        f.write_str(self.text(&mut buf))
     }
 }
 
@@ -167,17 +167,17 @@ impl fmt::Display for FormattedDuration {
 /// ```
 /// use humantime::{DurationError, canonical};
 ///
-/// let mut buffer = [0; 64];
-/// assert_eq!(rt; canonical("2h 37min", &mut buffer), Ok("2h 37m"));
-/// assert_eq!(rt; canonical("12us", &mut buffer), Ok("12µs"));
+/// let mut buf = [0; 64];
+/// assert_eq!(rt; canonical("2h 37min", &mut buf), Ok("2h 37m"));
+/// assert_eq!(rt; canonical("12us", &mut buf), Ok("12µs"));
 /// let mut other = [7; 64];
 /// assert_eq!(rt; canonical("2 hours  min", &mut other), Err(DurationError::NumberExpected(9)));
 /// assert_eq!(rt; other, [7; 64]);
 /// ```
 pub fn canonical<'a, 'b>(s: &'a str, buf: &'b mut [u8; 64]) -> Result<&'b str, DurationError<'a>>
-    ensures text { (t : List ℕ) → (told_text result ≡ Ok t) ↔ IsCanonicalOf s.now t }
-    ensures fault { (e : Fault) → (told_text result ≡ Err e) ↔ HasFault (chars s.now) e }
-    ensures answer { told_text result ≡ canonical_answer (chars s.now) }
+    ensures text { (t : List ℕ) → (text_result_view result ≡ Ok t) ↔ IsCanonicalOf s.now t }
+    ensures fault { (e : Fault) → (text_result_view result ≡ Err e) ↔ HasFault (chars s.now) e }
+    ensures answer { text_result_view result ≡ canonical_answer (chars s.now) }
     ensures place { IfErr result (PointsInto s.now) }
     ensures* unchanged { sem 𝓛 (KeptAtErr 64 buf.entry result) }
 {
@@ -193,11 +193,11 @@ fn shown<'a, 'b>(
 ) -> Result<&'b str, DurationError<'a>>
     requires fits { IfOk end (λ n. n ≤ 64) }
     requires utf8 { IfOk end (λ n. IsUtf8 (take n buf.now)) }
-    ensures text { IfOk end.entry (λ n. told_text result ≡ Ok (take n buf.now)) }
+    ensures text { IfOk end.entry (λ n. text_result_view result ≡ Ok (take n buf.now)) }
     ensures error { IfErr end.entry (λ e. result ≡ Err e) }
 {
     match end {
-        Ok(end) => Ok(front(buf, end)),
+        Ok(end) => Ok(str_prefix(buf, end)),
         Err(error) => Err(error),
     }
 }
@@ -207,7 +207,7 @@ fn write_canonical<'a>(s: &'a str, buf: &mut [u8; 64]) -> Result<usize, Duration
     ensures unchanged { OnErr result (buf.new ≡ buf.old) }
     ensures fits { IfOk result (λ end. end ≤ 64) }
     ensures utf8 { IfOk result (λ end. IsUtf8 (take end buf.new)) }
-    ensures answer { seen (λ end. take end buf.new) result ≡ canonical_answer (chars s.now) }
+    ensures answer { result_view_by (λ end. take end buf.new) result ≡ canonical_answer (chars s.now) }
     ensures place { IfErr result (PointsInto s.now) }
 {
     let duration = parse_duration(s)?;

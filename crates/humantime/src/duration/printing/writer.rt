@@ -91,8 +91,8 @@ impl<'b> Writer<'b> {
         requires fits { self.old.end + length (decimal number) ≤ length self.old.bytes.now }
         ensures { Appends self.old self.new (decimal number) }
     {
-        let mut buffer = Buffer::new();
-        self.push(buffer.format(number));
+        let mut buf = Buffer::new();
+        self.push(buf.format(number));
     }
 
     /// Writes the number's decimal digits. Most counts are below 1000, and then no digits are copied.

@@ -2,11 +2,11 @@
 
 ghost use Rattle.std.specs.Prelude.{◌≡◌, ◌↔◌, ℕ, chars, IfErr};
 ghost use Rattle.humantime.specs.References.Durations.Answers.{duration_answer};
-ghost use Rattle.humantime.specs.Durations.Errors.{told, PointsInto};
+ghost use Rattle.humantime.specs.Durations.Errors.{result_view, PointsInto};
 ghost use Rattle.humantime.specs.Durations.Accepted.{Accepted};
 ghost use Rattle.humantime.specs.Durations.Faults.{Fault, HasFault};
 ghost use Rattle.humantime.specs.Durations.Items.{AreItems};
-ghost use Rattle.humantime.specs.References.Durations.Lending.{judged, lent_items};
+ghost use Rattle.humantime.specs.References.Durations.TextViews.{sum_items, item_views};
 ghost use Rattle.humantime.specs.References.Durations.Remaining.{items_left, text_of};
 
 use crate::duration::error::DurationError;
@@ -53,7 +53,7 @@ pub fn spans(s: &str) -> SpanIter<'_>
 /// The sum of the spans of a text. It stands out of line, so that the text `0` is answered at once.
 #[inline(never)]
 fn sum_of<'a>(text: &'a str) -> Result<StdDuration, DurationError<'a>>
-    ensures value { told result ≡ judged 0 (lent_items (chars text.now)) }
+    ensures value { result_view result ≡ sum_items 0 (item_views (chars text.now)) }
     ensures place { IfErr result (PointsInto text.now) }
 {
     let mut total = StdDuration::ZERO;
@@ -70,7 +70,7 @@ fn sum_of<'a>(text: &'a str) -> Result<StdDuration, DurationError<'a>>
 
 /// Returns the duration that a text spells, or else its first fault.
 ///
-/// A text is one span or more: a number, perhaps a fraction, and a unit, as in `2h 37min` or `1.5d`. White space may
+/// A text is one span or more: a number, perhaps a fraction, and a unit, as in `2h 37min` or `1.5d`. Whitespace may
 /// stand between digits and before and after each part. Zeros at the end of a fraction change nothing. The spans are
 /// added up; `0` alone is zero.
 ///
@@ -78,9 +78,9 @@ fn sum_of<'a>(text: &'a str) -> Result<StdDuration, DurationError<'a>>
 ///
 /// The error says what stands where the text goes wrong first. Offsets are in bytes, and the text may be cut at them.
 ///
-/// - [`Empty`](DurationError::Empty): the text is empty or has only white space.
-/// - [`NumberExpected`](DurationError::NumberExpected): at the start, or after a span and white space, stands a character
-///   that is neither a digit nor white space.
+/// - [`Empty`](DurationError::Empty): the text is empty or has only whitespace.
+/// - [`NumberExpected`](DurationError::NumberExpected): at the start, or after a span and whitespace, stands a character
+///   that is neither a digit nor whitespace.
 /// - [`InvalidCharacter`](DurationError::InvalidCharacter): a character has no place in a span, or a point has no digit
 ///   after it.
 /// - [`UnknownUnit`](DurationError::UnknownUnit): the letters after a number are no unit, or the text ends without one.
@@ -103,9 +103,9 @@ fn sum_of<'a>(text: &'a str) -> Result<StdDuration, DurationError<'a>>
 /// );
 /// ```
 pub fn parse_duration(s: &str) -> Result<StdDuration, DurationError<'_>>
-    ensures value { (v : ℕ) → (told result ≡ Ok v) ↔ Accepted (chars s.now) v }
-    ensures fault { (e : Fault) → (told result ≡ Err e) ↔ HasFault (chars s.now) e }
-    ensures answer { told result ≡ duration_answer (chars s.now) }
+    ensures value { (v : ℕ) → (result_view result ≡ Ok v) ↔ Accepted (chars s.now) v }
+    ensures fault { (e : Fault) → (result_view result ≡ Err e) ↔ HasFault (chars s.now) e }
+    ensures answer { result_view result ≡ duration_answer (chars s.now) }
     ensures place { IfErr result (PointsInto s.now) }
 {
     if s.len() == 1 && s == "0" {

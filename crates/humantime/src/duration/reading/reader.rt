@@ -10,21 +10,21 @@ ghost use Rattle.humantime.specs.References.Durations.SpanParts.{IsBehindWord, I
 use crate::duration::error::DurationError;
 use crate::duration::reading::amount::{Amount, Fraction};
 use crate::duration::reading::scan::{
-    begins_with_digit, offset_of, read_fraction, read_number, read_word, space_at,
+    begins_with_digit, offset_of, read_fraction, read_number, read_word, skip_whitespace_char,
 };
 use crate::duration::reading::span::Span;
 use crate::unit::unit_of;
 
 /// Whether this is a point without digits.
 #[inline(always)]
-fn is_bare(fraction: Option<Fraction>) -> bool
+fn has_no_digits(fraction: Option<Fraction>) -> bool
     ensures { result ≡ is_some_and (λ f. f.all == 0) fraction }
 {
     matches!(fraction, Some(digits) if digits.all == 0)
 }
 
-/// What follows a word, without the character of white space behind it, which is not looked at again; `None` where what
-/// follows is no digit, white space or the end.
+/// What follows a word, without the character of whitespace behind it, which is not looked at again; `None` where what
+/// follows is no digit, whitespace or the end.
 #[inline(always)]
 fn behind_word<'a>(after_word: &'a str) -> Option<&'a str>
     ensures { MatchOption result (ends_span (chars after_word.now) ≡ false) (λ next. IsBehindWord after_word.now next.now) }
@@ -32,11 +32,11 @@ fn behind_word<'a>(after_word: &'a str) -> Option<&'a str>
     if after_word.is_empty() || begins_with_digit(after_word) {
         return Some(after_word);
     }
-    let at = space_at(after_word, 0)?;
+    let at = skip_whitespace_char(after_word, 0)?;
     Some(&after_word[at..])
 }
 
-/// The span that begins the rest of a text, and what follows its word, without white space that was seen.
+/// The span that begins the rest of a text, and what follows its word, without whitespace that was seen.
 #[inline(always)]
 pub(crate) fn span_at<'a>(
     text: &'a str,
@@ -55,7 +55,7 @@ pub(crate) fn span_at<'a>(
         return Err(DurationError::NumberOverflow);
     };
     // Told before the word is read, so that the numbers it comes from need not be kept until then.
-    let bare = is_bare(fraction);
+    let bare = has_no_digits(fraction);
     let Some((word, after_word)) = read_word(after_fraction) else {
         return Err(DurationError::InvalidCharacter(offset_of(text, after_fraction)));
     };

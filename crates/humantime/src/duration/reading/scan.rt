@@ -1,23 +1,23 @@
-//! Steps over a text: white space, a number, a fraction, a word.
+//! Steps over a text: whitespace, a number, a fraction, a word.
 
 ghost use Rattle.std.specs.Char.{is_ascii_digit};
 ghost use Rattle.std.specs.Prelude.{◌≡◌, ◌↔◌, true, ◌-◌, ◌+◌, ◌<◌, SomeIff, drop, length, chars, option_map, IfSome, MatchOption, ◌≤◌, ◌==◌, ◌&&◌, ◌||◌, take, reverse, IsCharBoundary};
-ghost use Rattle.humantime.specs.Texts.{begins, past, leading};
-ghost use Rattle.humantime.specs.Durations.Characters.{is_digit, is_ws, offset_of, is_letter};
+ghost use Rattle.humantime.specs.Texts.{begins, drop_while, take_while};
+ghost use Rattle.humantime.specs.Durations.Characters.{is_digit, is_whitespace, offset_of, is_letter};
 ghost use Rattle.humantime.specs.Durations.Errors.{IsPlaceIn};
 ghost use Rattle.humantime.specs.References.Durations.Scales.{parts_of};
-ghost use Rattle.humantime.specs.References.Durations.Scanning.{IsTail, BeginsWithDigit, space_width, number_at, digits_at, fraction_read, begins_no_word, IsWordOf};
+ghost use Rattle.humantime.specs.References.Durations.Scanning.{IsTail, BeginsWithDigit, whitespace_len, number_at, digits_at, fraction_read, begins_no_word, IsWordOf};
 ghost use Rattle.humantime.specs.Durations.Units.{scale_of_word};
 ghost use Rattle.humantime.specs.References.Durations.Keys.{packed, scale_of_key};
 
 use crate::duration::reading::amount::{Fraction, push_digit};
-use crate::unit::{MOST_BYTES, NO_LETTERS, TOO_LONG, key_with};
+use crate::unit::{EMPTY_KEY, MOST_BYTES, NO_UNIT, push_byte};
 
 const W: bool = true;
 
 const O: bool = false;
 
-/// Which ASCII characters are white space, sixteen a row.
+/// Which ASCII characters are whitespace, sixteen a row.
 static ASCII_WHITE: [bool; 128] = [
     O, O, O, O, O, O, O, O, O, W, W, W, W, W, O, O, // 0x00 to 0x0f
     O, O, O, O, O, O, O, O, O, O, O, O, O, O, O, O, // 0x10 to 0x1f
@@ -29,11 +29,11 @@ static ASCII_WHITE: [bool; 128] = [
     O, O, O, O, O, O, O, O, O, O, O, O, O, O, O, O, // 'p' to 0x7f
 ];
 
-/// Whether an ASCII character is white space.
+/// Whether an ASCII character is whitespace.
 #[inline(always)]
 fn is_ascii_white(c: u8) -> bool
     requires { c < 128 }
-    ensures { result ≡ is_ws c }
+    ensures { result ≡ is_whitespace c }
 {
     ASCII_WHITE[c as usize]
 }
@@ -46,14 +46,14 @@ fn is_mu(first: u8, second: u8) -> bool
     first == 0xc2 && second == 0xb5 || first == 0xce && second == 0xbc
 }
 
-/// How many bytes the white space at the front of the text has: those of one character, or none.
+/// How many bytes the whitespace at the front of the text has: those of one character, or none.
 ///
 /// It stands out of line, marked as rarely called, so that loops over ASCII keep what they hold in registers, and
 /// answers a number alone.
 #[cold]
 #[inline(never)]
-fn wide_space(text: &str) -> usize
-    ensures { result ≡ space_width (chars text.now) }
+fn non_ascii_whitespace_len(text: &str) -> usize
+    ensures { result ≡ whitespace_len (chars text.now) }
 {
     match text.chars().next() {
         Some(c) if c.is_whitespace() => c.len_utf8(),
@@ -61,11 +61,11 @@ fn wide_space(text: &str) -> usize
     }
 }
 
-/// The place after the white space at this place, if a character of white space stands there.
+/// The place after the whitespace at this place, if a character of whitespace stands there.
 #[inline(always)]
-pub(crate) fn space_at(text: &str, at: usize) -> Option<usize>
+pub(crate) fn skip_whitespace_char(text: &str, at: usize) -> Option<usize>
     requires { IsPlaceIn text.now at }
-    ensures { SomeIff result (0 < space_width (chars (drop at text.now))) (at + space_width (chars (drop at text.now))) }
+    ensures { SomeIff result (0 < whitespace_len (chars (drop at text.now))) (at + whitespace_len (chars (drop at text.now))) }
 {
     let bytes = text.as_bytes();
     if bytes[at] < 0x80 {
@@ -79,7 +79,7 @@ pub(crate) fn space_at(text: &str, at: usize) -> Option<usize>
     if at + 1 < bytes.len() && is_mu(bytes[at], bytes[at + 1]) {
         return None;
     }
-    match wide_space(&text[at..]) {
+    match non_ascii_whitespace_len(&text[at..]) {
         0 => None,
         width => Some(at + width),
     }
@@ -87,11 +87,11 @@ pub(crate) fn space_at(text: &str, at: usize) -> Option<usize>
 
 /// The place after the blanks, U+0020, at this place.
 #[inline(always)]
-fn past_blanks(text: &str, from: usize) -> usize
+fn skip_spaces(text: &str, from: usize) -> usize
     requires { IsCharBoundary text.now from }
     ensures order { from ≤ result }
     ensures place { IsCharBoundary text.now result }
-    ensures rest { past is_ws (chars (drop result text.now)) ≡ past is_ws (chars (drop from text.now)) }
+    ensures rest { drop_while is_whitespace (chars (drop result text.now)) ≡ drop_while is_whitespace (chars (drop from text.now)) }
 {
     let bytes = text.as_bytes();
     let mut at = from;
@@ -101,10 +101,10 @@ fn past_blanks(text: &str, from: usize) -> usize
     at
 }
 
-/// What follows the white space at the front of the text. A digit is looked for first, since most texts have one there.
+/// What follows the whitespace at the front of the text. A digit is looked for first, since most texts have one there.
 #[inline(always)]
-pub(crate) fn past_space<'a>(text: &'a str) -> &'a str
-    ensures rest { chars result.now ≡ past is_ws (chars text.now) }
+pub(crate) fn skip_whitespace<'a>(text: &'a str) -> &'a str
+    ensures rest { chars result.now ≡ drop_while is_whitespace (chars text.now) }
     ensures tail { IsTail text.now result.now }
 {
     if begins_with_digit(text) {
@@ -112,8 +112,8 @@ pub(crate) fn past_space<'a>(text: &'a str) -> &'a str
     }
     let mut at = 0;
     while at < text.len() {
-        match space_at(text, at) {
-            Some(next) => at = past_blanks(text, next),
+        match skip_whitespace_char(text, at) {
+            Some(next) => at = skip_spaces(text, next),
             None => break,
         }
     }
@@ -158,7 +158,7 @@ pub(crate) fn read_number<'a>(text: &'a str) -> Option<(u64, &'a str, &'a str)>
             value = push_digit(value, digit)?;
             at += 1;
         } else {
-            match space_at(text, at) {
+            match skip_whitespace_char(text, at) {
                 Some(next) => at = next,
                 None => break,
             }
@@ -182,7 +182,7 @@ fn read_digits<'a>(text: &'a str) -> Option<(Fraction, &'a str, &'a str)>
             fraction = fraction.push(bytes[at])?;
             at += 1;
         } else {
-            match space_at(text, at) {
+            match skip_whitespace_char(text, at) {
                 Some(next) => at = next,
                 None => break,
             }
@@ -220,18 +220,18 @@ pub(crate) struct Word<'a> {
 #[inline(always)]
 fn letters_end(text: &str) -> (usize, u64)
     ensures place { IsCharBoundary text.now result.0 }
-    ensures rest { chars (drop result.0 text.now) ≡ past is_letter (chars text.now) }
+    ensures rest { chars (drop result.0 text.now) ≡ drop_while is_letter (chars text.now) }
     ensures key { result.0 ≤ 7 → result.1 ≡ packed (reverse (take result.0 text.now)) }
 {
     let bytes = text.as_bytes();
-    let mut key = NO_LETTERS;
+    let mut key = EMPTY_KEY;
     let mut at = 0;
     while at < bytes.len() {
         if bytes[at].is_ascii_alphabetic() {
-            key = key_with(key, bytes[at]);
+            key = push_byte(key, bytes[at]);
             at += 1;
         } else if bytes[at] >= 0x80 && at + 1 < bytes.len() && is_mu(bytes[at], bytes[at + 1]) {
-            key = key_with(key_with(key, bytes[at]), bytes[at + 1]);
+            key = push_byte(push_byte(key, bytes[at]), bytes[at + 1]);
             at += 2;
         } else {
             break;
@@ -251,6 +251,6 @@ pub(crate) fn read_word<'a>(text: &'a str) -> Option<(Word<'a>, &'a str)>
         return None;
     }
     let letters = &text[..end];
-    let key = if end > MOST_BYTES { TOO_LONG } else { key };
+    let key = if end > MOST_BYTES { NO_UNIT } else { key };
     Some((Word { letters, key }, &text[end..]))
 }

@@ -2,7 +2,7 @@
 
 ghost use Rattle.std.specs.Prelude.{◌≡◌, option_map, chars};
 ghost use Rattle.std.specs.Str.{drop_trailing_whitespace};
-ghost use Rattle.humantime.specs.References.Durations.Lending.{spelled, trimmed};
+ghost use Rattle.humantime.specs.References.Durations.TextViews.{spelled, trimmed};
 ghost use Rattle.humantime.specs.References.Durations.Scales.{IsAmountOf};
 
 use crate::duration::reading::amount::Amount;
@@ -25,7 +25,7 @@ use crate::duration::reading::amount::Amount;
 /// ```
 #[derive(Clone, Copy, Debug)]
 pub struct Span<'a> {
-    // From the first digit up to what follows the number, with the white space before that.
+    // From the first digit up to what follows the number, with the whitespace before that.
     pub(crate) number: &'a str,
     // From behind the point up to the unit, if there is a point.
     pub(crate) digits: Option<&'a str>,
@@ -37,9 +37,9 @@ pub struct Span<'a> {
 }
 
 impl<'a> Span<'a> {
-    ghost use Rattle.humantime.specs.References.Durations.Lents.{lent_of};
+    ghost use Rattle.humantime.specs.References.Durations.SpanViews.{span_view};
 
-    /// Returns the integer part, from its first to its last digit, with the white space between them.
+    /// Returns the integer part, from its first to its last digit, with the whitespace between them.
     ///
     /// # Examples
     ///
@@ -50,14 +50,14 @@ impl<'a> Span<'a> {
     /// assert_eq!(rt; span.number(), "1 2");
     /// ```
     pub fn number(&self) -> &'a str
-        ensures { chars result.now ≡ (lent_of self.now).number }
+        ensures { chars result.now ≡ (span_view self.now).number }
     {
         self.number.trim_end()
     }
 
     /// Returns the fraction, from its first to its last digit, or `None` if there is no point.
     ///
-    /// The white space between the digits and the zeros at their end are part of it.
+    /// The whitespace between the digits and the zeros at their end are part of it.
     ///
     /// # Examples
     ///
@@ -69,7 +69,7 @@ impl<'a> Span<'a> {
     /// assert_eq!(rt; items.next().ok_or("no span")??.fraction(), None);
     /// ```
     pub fn fraction(&self) -> Option<&'a str>
-        ensures { option_map (λ t. chars t.now) result ≡ (lent_of self.now).fraction }
+        ensures { option_map (λ t. chars t.now) result ≡ (span_view self.now).fraction }
     {
         Some(self.digits?.trim_start().trim_end())
     }
@@ -85,7 +85,7 @@ impl<'a> Span<'a> {
     /// assert_eq!(rt; span.unit(), "min");
     /// ```
     pub fn unit(&self) -> &'a str
-        ensures { chars result.now ≡ (lent_of self.now).unit }
+        ensures { chars result.now ≡ (span_view self.now).unit }
     {
         self.unit
     }
@@ -101,7 +101,7 @@ impl<'a> Span<'a> {
     /// assert_eq!(rt; span.start(), 1);
     /// ```
     pub fn start(&self) -> usize
-        ensures { result ≡ (lent_of self.now).start }
+        ensures { result ≡ (span_view self.now).start }
     {
         self.start
     }
@@ -117,7 +117,7 @@ impl<'a> Span<'a> {
     /// assert_eq!(rt; span.end(), 3);
     /// ```
     pub fn end(&self) -> usize
-        ensures { result ≡ (lent_of self.now).end }
+        ensures { result ≡ (span_view self.now).end }
     {
         self.end
     }
@@ -133,7 +133,7 @@ impl<'a> Span<'a> {
     /// assert_eq!(rt; span.value(), 12);
     /// ```
     pub fn value(&self) -> u64
-        ensures { result ≡ (lent_of self.now).value }
+        ensures { result ≡ (span_view self.now).value }
     {
         self.amount.value
     }

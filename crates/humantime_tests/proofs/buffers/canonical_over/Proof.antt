@@ -15,7 +15,7 @@ use types.Tokens.{lft_new, lft_end}
 use Rattle.humantime.specs.Buffers.{KeptAtErr}
 use Rattle.humantime.specs.declared.duration.error.DurationError.{DurationError}
 use Rattle.humantime.specs.Durations.Counts.{IsCanonicalOf}
-use Rattle.humantime.specs.Durations.Errors.{told_text, PointsInto}
+use Rattle.humantime.specs.Durations.Errors.{text_result_view, PointsInto}
 use Rattle.humantime.specs.Durations.Faults.{Fault, HasFault}
 use Rattle.humantime.specs.References.Durations.Answers.{canonical_answer}
 use Rattle.humantime_tests.proofs.Kept.{last_held, kept_at_fault}
@@ -64,8 +64,8 @@ canonical_over_spec {M} 𝓤 𝓛 𝓜 𝓡 wired =
     calls_at ! (framed 𝓤 𝓛.H 𝓜 (tables 𝓤 𝓛.H 𝓜 𝓡 𝓡.env)) G (g-met.met 𝓤 𝓛 𝓜 𝓡 (code.calls-humantime::canonical 𝓡.env wired)) z
     (and_then ! (get ! refl) (and_then ! (get ! refl) (no_more !))) (λ v.
     use1 𝓛 (later (some (λ (t : Result (Bor (List ℕ)) DurationError). ((‵ (flft κ₀ q₀) ⊛ ‵ (flft (α ∷ []) full_share) ⊛ ‵ ftrue) ⊛ ‵ (Res.own_val t (v ∷ []))) ⊛
-    some (λ (ws : Lasts g.ended z.0.0 z.0.3). ‵ (lasts g.ended z.0.0 z.0.3 ws) ⊛ raw (fact 𝓤 ((u : List ℕ) → (told_text t ≡ Ok u) ↔ IsCanonicalOf x.now u)) ⊛
-    raw (fact 𝓤 ((e : Fault) → (told_text t ≡ Err e) ↔ HasFault (chars x.now) e)) ⊛ raw (fact 𝓤 (told_text t ≡ canonical_answer (chars x.now))) ⊛ raw (fact 𝓤 (IfErr t (PointsInto x.now))) ⊛ ‵ (KeptAtErr 64 r' t))))) (id⊢ 𝓤 _) $
+    some (λ (ws : Lasts g.ended z.0.0 z.0.3). ‵ (lasts g.ended z.0.0 z.0.3 ws) ⊛ raw (fact 𝓤 ((u : List ℕ) → (text_result_view t ≡ Ok u) ↔ IsCanonicalOf x.now u)) ⊛
+    raw (fact 𝓤 ((e : Fault) → (text_result_view t ≡ Err e) ↔ HasFault (chars x.now) e)) ⊛ raw (fact 𝓤 (text_result_view t ≡ canonical_answer (chars x.now))) ⊛ raw (fact 𝓤 (IfErr t (PointsInto x.now))) ⊛ ‵ (KeptAtErr 64 r' t))))) (id⊢ 𝓤 _) $
     await ! tt $ pick ! (λ t. split ! $ split ! $ split ! $ move ! (1 ∷ []) $ split ! $ lft_end ! tt $
     -- [α is over; nothing; that of κ₀; the result; what is said; what the lender keeps]
     move ! (3 ∷ []) $ peeks ! Res _ (shows 𝓛 Res) t (v ∷ []) (λ is.

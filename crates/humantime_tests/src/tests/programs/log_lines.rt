@@ -3,7 +3,7 @@
 use crate::tests::programs::support::assert_same_at;
 use crate::tests::support::moment;
 use humantime::SystemTime;
-use humantime_uses::log_lines::{answers_alike, bound_text, keeps, keeps_by_bytes};
+use humantime_examples::log_lines::{answers_alike, bound_text, keeps, keeps_by_bytes};
 use std::process::Abort;
 
 /// Each line is kept or dropped so.

@@ -2,7 +2,7 @@
 
 use crate::tests::programs::support::{assert_prints, assert_same_at};
 use humantime::{DurationError, StdDuration};
-use humantime_uses::option::{OptionError, timeout};
+use humantime_examples::option::{OptionError, timeout};
 use std::process::Abort;
 
 /// Among these words the option names so many seconds.

@@ -3,8 +3,8 @@
 use crate::tests::programs::support::{assert_prints, assert_same_at};
 use crate::tests::support::moment;
 use humantime::{StdDuration, UNIX_EPOCH};
-use humantime_sink::Sink;
-use humantime_uses::report::{Row, write_row};
+use humantime_examples::report::{Row, write_row};
+use humantime_tests_sinks::Sink;
 use std::fmt::Write;
 use std::process::Abort;
 

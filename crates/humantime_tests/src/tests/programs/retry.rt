@@ -2,7 +2,7 @@
 
 use crate::tests::programs::support::assert_same_at;
 use humantime::DurationError;
-use humantime_uses::retry::wait_text;
+use humantime_examples::retry::wait_text;
 use std::process::Abort;
 
 /// The wait after so many tries is shown so.

@@ -3,7 +3,7 @@
 use crate::tests::programs::support::{assert_prints, assert_same_at};
 use crate::tests::support::moment;
 use humantime::{DurationError, StdDuration, TimestampError};
-use humantime_uses::settings::{LineError, LineFault, Setting, read_line};
+use humantime_examples::settings::{LineError, LineFault, Setting, read_line};
 use std::process::Abort;
 
 /// The line sets this.

@@ -1,6 +1,6 @@
 //! Assertions on values of any type.
 
-use humantime_sink::Sink;
+use humantime_tests_sinks::Sink;
 use std::fmt::{Debug, Display, Write};
 use std::process::Abort;
 

@@ -5,5 +5,5 @@ use Rattle.humantime.proofs.date.parse.has_seconds.Goals as goal
 
 pub returns : goal.returns
 returns c =
-    none_beyond w8 most_back (zip2 above (take 16 (drop 3 c.args.b.now)) least_back) (omega arith)
-    ∙ seconds_of_lanes c.args.b.now c.requires c.type_inv.b
+    none_beyond w8 most_back (zip2 above (take 16 (drop 3 c.args.bytes.now)) least_back) (omega arith)
+    ∙ seconds_of_lanes c.args.bytes.now c.requires c.type_inv.bytes

@@ -4,10 +4,10 @@ use Rattle.std.proofs.lemmas.Bool.{and_parts}
 use Rattle.std.proofs.lemmas.Result.{err_from_is_err_and}
 use Rattle.humantime.proofs.Timestamps.Reading.Exits.{exit_short, exit_separator, exit_shaped, exit_read}
 use Rattle.humantime.proofs.date.parse.read_timestamp.Goals as goal
-use Rattle.humantime.proofs.date.parse.read_timestamp.Goals.{then-b-lt19-via-then-b-lt19, then-b-lt19-via-else-b-lt19+then-not-has_separator}
+use Rattle.humantime.proofs.date.parse.read_timestamp.Goals.{then-bytes-lt19-via-then-bytes-lt19, then-bytes-lt19-via-else-bytes-lt19+then-not-has_separator}
 
-pub returns-then-b-lt19 : goal.returns-then-b-lt19
-returns-then-b-lt19 c = grind (arith, common_steps, then-b-lt19-via-then-b-lt19, exit_short, then-b-lt19-via-else-b-lt19+then-not-has_separator, exit_separator)
+pub returns-then-bytes-lt19 : goal.returns-then-bytes-lt19
+returns-then-bytes-lt19 c = grind (arith, common_steps, then-bytes-lt19-via-then-bytes-lt19, exit_short, then-bytes-lt19-via-else-bytes-lt19+then-not-has_separator, exit_separator)
 
 pub returns-in_default : goal.returns-in_default
 returns-in_default c = grind (arith, common_steps, and_parts, exit_shaped)

@@ -22,10 +22,10 @@ use Rattle.humantime.proofs.Buffers.{holds, answer_shown, error_shown, err_shown
 use Rattle.humantime.proofs.Durations.Printing.CanonicalTexts.{answer_is_canonical, answer_is_fault}
 use Rattle.humantime.specs.declared.duration.error.DurationError.{DurationError}
 use Rattle.humantime.specs.Durations.Counts.{IsCanonicalOf}
-use Rattle.humantime.specs.Durations.Errors.{told_text, PointsInto}
+use Rattle.humantime.specs.Durations.Errors.{text_result_view, PointsInto}
 use Rattle.humantime.specs.Durations.Faults.{Fault, HasFault}
 use Rattle.humantime.specs.References.Durations.Answers.{canonical_answer}
-use Rattle.humantime.specs.References.Durations.Seen.{seen}
+use Rattle.humantime.specs.References.Durations.ResultViews.{result_view_by}
 use Rattle.humantime.specs.contracts.duration.printing.print.canonical as f
 use Rattle.humantime.proofs.duration.printing.print.canonical.Statement.{statement}
 use Rattle.humantime.proofs.duration.printing.print.canonical.Code as code
@@ -74,7 +74,7 @@ canonical_spec {M} 𝓤 𝓛 𝓜 𝓡 wired =
     (and_then ! (get ! refl) (and_then ! (get ! refl) (no_more !))) (λ v.
     use1 𝓛 (later (some (λ (m : Result ℕ DurationError). ((‵ (flft κ₀ q₀) ⊛ ‵ (flft (α ∷ []) full_share) ⊛ ‵ ftrue) ⊛ ‵ (Len.own_val m (v ∷ []))) ⊛
     some (λ (ws : Unit {0} × (List ℕ × Unit {0})). ‵ (lasts g.ended z.0.0 z.0.3 ws) ⊛ raw (fact 𝓤 (OnErr m (ws.1.0 ≡ r.now))) ⊛ raw (fact 𝓤 (IfOk m (λ n. n ≤ 64))) ⊛ raw (fact 𝓤 (IfOk m (λ n. IsUtf8 (take n ws.1.0)))) ⊛
-    raw (fact 𝓤 (seen (λ n. take n ws.1.0) m ≡ canonical_answer (chars x.now))) ⊛ raw (fact 𝓤 (IfErr m (PointsInto x.now))))))) (id⊢ 𝓤 _) $
+    raw (fact 𝓤 (result_view_by (λ n. take n ws.1.0) m ≡ canonical_answer (chars x.now))) ⊛ raw (fact 𝓤 (IfErr m (PointsInto x.now))))))) (id⊢ 𝓤 _) $
     await ! tt $ pick ! (λ m. split ! $ split ! $ split ! $ move ! (1 ∷ []) $ split ! $ lft_end ! tt $
     -- [α is over; nothing; that of κ₀; the length; what is said; what the lender keeps]
     move ! (3 ∷ []) $ peeks ! Len _ (shows 𝓛 Len) m (v ∷ []) (λ is.
@@ -107,7 +107,7 @@ canonical_spec {M} 𝓤 𝓛 𝓜 𝓡 wired =
     calls_at ! (framed 𝓤 𝓛.H 𝓜 (tables 𝓤 𝓛.H 𝓜 𝓡 𝓡.env)) H (h-met.met 𝓤 𝓛 𝓜 𝓡 (code.calls-humantime::duration::printing::print::shown 𝓡.env wired)) z'
     (and_then ! (get ! refl) (and_then ! (get ! refl) (no_more !))) (λ w.
     use1 𝓛 (later (some (λ (t : Result (Bor (List ℕ)) DurationError). ((‵ (flft κ q) ⊛ ‵ (flft κ₀ q₀) ⊛ ‵ ftrue) ⊛ ‵ (Res.own_val t (w ∷ []))) ⊛
-    some (λ (ws' : Lasts h.ended z'.0.0 z'.0.3). ‵ (lasts h.ended z'.0.0 z'.0.3 ws') ⊛ raw (fact 𝓤 (IfOk m (λ n. told_text t ≡ Ok (take n y)))) ⊛ raw (fact 𝓤 (IfErr m (λ e. t ≡ Err e))))))) (id⊢ 𝓤 _) $
+    some (λ (ws' : Lasts h.ended z'.0.0 z'.0.3). ‵ (lasts h.ended z'.0.0 z'.0.3 ws') ⊛ raw (fact 𝓤 (IfOk m (λ n. text_result_view t ≡ Ok (take n y)))) ⊛ raw (fact 𝓤 (IfErr m (λ e. t ≡ Err e))))))) (id⊢ 𝓤 _) $
     await ! tt $ pick ! (λ t. split ! $ split ! $ move ! (1 ∷ []) $ peeks ! Res _ (shows 𝓛 Res) t (w ∷ []) (λ is'.
     lands_as ! refl refl ((lts.r-1.laws M 𝓤 𝓛).typed z'.0.0 t w is' [] (lone Res.mir) (λ _. refl)) $
     -- [the result; the tokens; what is said; buf's last value]
@@ -119,8 +119,8 @@ canonical_spec {M} 𝓤 𝓛 𝓜 𝓡 wired =
     nothing ! $ nothing ! $ fjoin ! $ nothing ! $ fjoin ! $ move ! (0 ∷ 3 ∷ []) $ join ! $
     nothing ! $ move ! (3 ∷ 0 ∷ []) $ join ! $ move ! (2 ∷ 0 ∷ []) $ join ! $ join ! $ frame ! $
     let told = answer_shown t m (λ n. take n y) _ shown error answer in
-    use0 𝓛 (raw (fact 𝓤 ((u : List ℕ) → (told_text t ≡ Ok u) ↔ IsCanonicalOf x.now u))) (fact_i 𝓤 _ (emp 𝓤) (answer_is_canonical x.now _ told)) $ frame ! $
-    use0 𝓛 (raw (fact 𝓤 ((e : Fault) → (told_text t ≡ Err e) ↔ HasFault (chars x.now) e))) (fact_i 𝓤 _ (emp 𝓤) (answer_is_fault x.now _ told)) $ frame ! $
-    use0 𝓛 (raw (fact 𝓤 (told_text t ≡ canonical_answer (chars x.now)))) (fact_i 𝓤 _ (emp 𝓤) told) $ frame ! $
+    use0 𝓛 (raw (fact 𝓤 ((u : List ℕ) → (text_result_view t ≡ Ok u) ↔ IsCanonicalOf x.now u))) (fact_i 𝓤 _ (emp 𝓤) (answer_is_canonical x.now _ told)) $ frame ! $
+    use0 𝓛 (raw (fact 𝓤 ((e : Fault) → (text_result_view t ≡ Err e) ↔ HasFault (chars x.now) e))) (fact_i 𝓤 _ (emp 𝓤) (answer_is_fault x.now _ told)) $ frame ! $
+    use0 𝓛 (raw (fact 𝓤 (text_result_view t ≡ canonical_answer (chars x.now)))) (fact_i 𝓤 _ (emp 𝓤) told) $ frame ! $
     use0 𝓛 (raw (fact 𝓤 (IfErr t (PointsInto x.now)))) (fact_i 𝓤 _ (emp 𝓤) (error_shown t m (λ n. take n y) _ shown error place)) $ frame ! $
     by ! (holds 𝓛 64 r y (λ last. OnErr t (last ≡ r.now)) (err_shown t m (λ n. take n y) _ shown error same))))))))))))))))))))))

@@ -3,7 +3,7 @@ use Rattle.std.proofs.lemmas.Grind.{common_steps}
 use Rattle.std.specs.Str.{chars}
 use Rattle.humantime.specs.References.Durations.Answers.{duration_answer}
 use Rattle.humantime.proofs.Durations.Reading.Outcomes.{answer_accepts, answer_faults}
-use Rattle.humantime.proofs.Durations.Slices.LentItems.{sum_answers}
+use Rattle.humantime.proofs.Durations.Slices.ItemViews.{sum_answers}
 use Rattle.humantime.proofs.duration.reading.parse.parse_duration.Goals as goal
 
 pub returns-then-eq-clause-answer : goal.returns-then-eq-clause-answer

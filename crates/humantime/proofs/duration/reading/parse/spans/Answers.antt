@@ -1,6 +1,6 @@
 use Rattle.std.proofs.Common.{◌≡◌, ◌==◌, true, length, chars, arith}
 use Rattle.std.proofs.lemmas.Grind.{common_steps}
-use Rattle.humantime.proofs.Durations.Slices.LentItems.{are_items}
+use Rattle.humantime.proofs.Durations.Slices.ItemViews.{are_items}
 use Rattle.humantime.proofs.duration.reading.parse.spans.Goals as goal
 
 pub returns-clause-items : goal.returns-clause-items

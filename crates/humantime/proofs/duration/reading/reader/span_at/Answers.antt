@@ -1,6 +1,6 @@
 use Rattle.std.proofs.Common.{sym, ap, ◌∙◌, arith}
-use Rattle.humantime.specs.Texts.{leading, past}
-use Rattle.humantime.specs.Durations.Characters.{is_letter, is_ws, byte_length, offset_of}
+use Rattle.humantime.specs.Texts.{take_while, drop_while}
+use Rattle.humantime.specs.Durations.Characters.{is_letter, is_whitespace, byte_length, offset_of}
 use Rattle.humantime.specs.Durations.Units.{scale_of_word}
 use Rattle.humantime.specs.References.Durations.Scanning.{BeginsWithDigit}
 use Rattle.humantime.proofs.Durations.Reading.Runs.{begins_not_nil}
@@ -29,19 +29,19 @@ returns-in_default-read_word-clause-place c =
 pub returns-then-bare-clause-stop : goal.returns-then-bare-clause-stop
 returns-then-bare-clause-stop c =
     let p = are_read _ _ _ _ _ _ _ c.in-Some.ensures.value c.in-Some-read_fraction.ensures.value in
-    exit_bare _ _ _ _ _ _ p.0 p.6 c.in-Some-read_word.ensures.begun p.4 (sym c.is_bare-bare.ensures ∙ c.if-bare.true) p.3 c.offset_of-then-bare.ensures.value
+    exit_bare _ _ _ _ _ _ p.0 p.6 c.in-Some-read_word.ensures.begun p.4 (sym c.has_no_digits-bare.ensures ∙ c.if-bare.true) p.3 c.offset_of-then-bare.ensures.value
 
 pub returns-then-bare-clause-place : goal.returns-then-bare-clause-place
 returns-then-bare-clause-place c =
     let p = are_read _ _ _ _ _ _ _ c.in-Some.ensures.value c.in-Some-read_fraction.ensures.value in
-    let some = bare_some _ _ _ p.4 (sym c.is_bare-bare.ensures ∙ c.if-bare.true) p.3 in
+    let some = bare_some _ _ _ p.4 (sym c.has_no_digits-bare.ensures ∙ c.if-bare.true) p.3 in
     rest_place _ _ _ (tail_of_tail _ _ _ c.requires.tail c.in-Some.ensures.tail) c.offset_of-then-bare.ensures.bytes (some_bytes _ some)
 
 pub returns-in_default-behind_word-clause-stop : goal.returns-in_default-behind_word-clause-stop
 returns-in_default-behind_word-clause-stop c =
     let p = are_read _ _ _ _ _ _ _ c.in-Some.ensures.value c.in-Some-read_fraction.ensures.value in
     let word = c.in-Some-read_word.ensures in
-    exit_after _ _ _ _ _ _ p.0 p.6 word.begun p.4 (sym c.is_bare-bare.ensures ∙ c.if-bare.false) word.after c.in_default-behind_word.ensures c.offset_of-end.ensures.value
+    exit_after _ _ _ _ _ _ p.0 p.6 word.begun p.4 (sym c.has_no_digits-bare.ensures ∙ c.if-bare.false) word.after c.in_default-behind_word.ensures c.offset_of-end.ensures.value
 
 pub returns-in_default-behind_word-clause-place : goal.returns-in_default-behind_word-clause-place
 returns-in_default-behind_word-clause-place c =
@@ -53,7 +53,7 @@ pub returns-in_default-unit_of-clause-stop : goal.returns-in_default-unit_of-cla
 returns-in_default-unit_of-clause-stop c =
     let p = are_read _ _ _ _ _ _ _ c.in-Some.ensures.value c.in-Some-read_fraction.ensures.value in
     let word = c.in-Some-read_word.ensures in
-    exit_unit _ _ _ _ _ _ _ _ _ p.0 p.6 word.begun p.4 (sym c.is_bare-bare.ensures ∙ c.if-bare.false) word.after c.in-Some-behind_word.ensures.ends
+    exit_unit _ _ _ _ _ _ _ _ _ p.0 p.6 word.begun p.4 (sym c.has_no_digits-bare.ensures ∙ c.if-bare.false) word.after c.in-Some-behind_word.ensures.ends
     word.utf8 word.letters (sym (c.in_default-unit_of.ensures ∙ c.in-Some-read_word.word.told)) c.offset_of-in_default-unit_of.ensures.value c.offset_of-end.ensures.value p.1
 
 pub returns-in_default-unit_of-clause-place : goal.returns-in_default-unit_of-clause-place
@@ -66,7 +66,7 @@ pub returns-clause-stop : goal.returns-clause-stop
 returns-clause-stop c =
     let p = are_read _ _ _ _ _ _ _ c.in-Some.ensures.value c.in-Some-read_fraction.ensures.value in
     let word = c.in-Some-read_word.ensures in
-    exit_fine _ _ _ _ _ _ _ p.0 p.6 word.begun p.4 (sym c.is_bare-bare.ensures ∙ c.if-bare.false) word.after c.in-Some-behind_word.ensures.ends
+    exit_fine _ _ _ _ _ _ _ p.0 p.6 word.begun p.4 (sym c.has_no_digits-bare.ensures ∙ c.if-bare.false) word.after c.in-Some-behind_word.ensures.ends
     word.letters (sym (c.in-Some-unit_of.ensures ∙ c.in-Some-read_word.word.told))
 
 pub returns-clause-fine : goal.returns-clause-fine
@@ -76,10 +76,10 @@ returns-clause-fine c =
     let behind = tail_of_tail _ _ _ c.requires.tail (tail_of_tail _ _ _ c.in-Some.ensures.tail c.in-Some-read_fraction.ensures.tail) in
     let left = c.in-Some-behind_word.ensures in
     let word = c.in-Some-read_word.ensures in
-    let after = word.after ∙ ap (past is_letter) p.6 in
+    let after = word.after ∙ ap (drop_while is_letter) p.6 in
     record {
-      lent = lent_read _ _ _ _ _ _ _ _ p.2 p.5 (word.letters ∙ ap (leading is_letter) p.6) c.offset_of-start.ensures.value (c.offset_of-end.ensures.value ∙ ap (offset_of _) after) p.1;
-      follows = left.same ∙ ap (past is_ws) after;
+      lent = lent_read _ _ _ _ _ _ _ _ p.2 p.5 (word.letters ∙ ap (take_while is_letter) p.6) c.offset_of-start.ensures.value (c.offset_of-end.ensures.value ∙ ap (offset_of _) after) p.1;
+      follows = left.same ∙ ap (drop_while is_whitespace) after;
       shorter = omega (arith, left.tail.shorter, next_bytes _ c.requires.digit, byte_length-chars _ c.utf8.rest, byte_length-chars _ word.tail.utf8, ap byte_length after);
       tail = tail_of_tail _ _ _ (tail_of_tail _ _ _ behind word.tail) left.tail;
     }
@@ -87,7 +87,7 @@ returns-clause-fine c =
 pub invariant_of-result : goal.invariant_of-result
 invariant_of-result c =
     let p = are_read _ _ _ _ _ _ _ c.in-Some.ensures.value c.in-Some-read_fraction.ensures.value in
-    let letters = c.in-Some-read_word.ensures.letters ∙ ap (leading is_letter) p.6 in
+    let letters = c.in-Some-read_word.ensures.letters ∙ ap (take_while is_letter) p.6 in
     record {
       read = rw (spelled_read _ _ _ c.in-Some-read_fraction.digits p.2 letters p.5)
           (record { unit = sym (c.in-Some-unit_of.ensures ∙ c.in-Some-read_word.word.told ∙ ap scale_of_word letters); value = p.1; fraction = p.4 });

@@ -21,8 +21,8 @@ loop-at-preserved-then-is_ascii_alphabetic c =
     record {
       place = s.1.place;
       same = rw (s.1.ahead, s.0) at c.loop-at.invariant.same;
-      key = key_more text at c.loop-at.key c.key_with-key.result (λ k. (c.type_inv.text k).fits) some c.loop-at.invariant.key
-          (rw c.as_bytes-bytes.ensures.value at c.key_with-key.ensures);
+      key = key_more text at c.loop-at.key c.push_byte-key.result (λ k. (c.type_inv.text k).fits) some c.loop-at.invariant.key
+          (rw c.as_bytes-bytes.ensures.value at c.push_byte-key.ensures);
     }
 
 pub loop-at-preserved : goal.loop-at-preserved
@@ -33,14 +33,14 @@ loop-at-preserved c =
     let within : at + 1 < length text = omega (arith, c.if-at-bytes.true, c.as_bytes-bytes.ensures.len) in
     let s = mu_over text at c.utf8.text c.loop-at.invariant.place within (rw c.as_bytes-bytes.ensures.value at (sym c.is_mu.ensures ∙ c.if-is_mu.true)) in
     let bytes = λ (k : ℕ). (c.type_inv.text k).fits in
-    let one = rw c.as_bytes-bytes.ensures.value at c.key_with.ensures in
-    let other = rw c.as_bytes-bytes.ensures.value at c.key_with-key-then-is_mu.ensures in
-    let first = key_more text at c.loop-at.key c.key_with.result bytes (omega arith) c.loop-at.invariant.key one in
-    let second = key_more text (at + 1) c.key_with.result c.key_with-key-then-is_mu.result bytes within first other in
+    let one = rw c.as_bytes-bytes.ensures.value at c.push_byte.ensures in
+    let other = rw c.as_bytes-bytes.ensures.value at c.push_byte-key-then-is_mu.ensures in
+    let first = key_more text at c.loop-at.key c.push_byte.result bytes (omega arith) c.loop-at.invariant.key one in
+    let second = key_more text (at + 1) c.push_byte.result c.push_byte-key-then-is_mu.result bytes within first other in
     record {
       place = s.2.place;
       same = rw (s.2.ahead, s.1) at c.loop-at.invariant.same;
-      key = subst (λ (n : ℕ). IsSoFar text n c.key_with-key-then-is_mu.result) two second;
+      key = subst (λ (n : ℕ). IsSoFar text n c.push_byte-key-then-is_mu.result) two second;
     }
 
 pub returns-else-bytes-at-ge128-clause-rest : goal.returns-else-bytes-at-ge128-clause-rest

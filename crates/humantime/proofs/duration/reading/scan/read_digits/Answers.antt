@@ -4,7 +4,7 @@ use Rattle.humantime.specs.Texts.{begins}
 use Rattle.humantime.specs.Durations.Characters.{is_numeric}
 use Rattle.humantime.specs.Durations.Faults.{number_of}
 use Rattle.humantime.proofs.Durations.Reading.Classes.{digit_is}
-use Rattle.humantime.proofs.Durations.Bytes.Numbers.{none_read, read_digit, read_space, stops_here, all_read}
+use Rattle.humantime.proofs.Durations.Bytes.Numbers.{none_read, read_digit, read_whitespace, stops_here, all_read}
 use Rattle.humantime.proofs.Durations.Bytes.FractionDigits.{no_digits, digits_pass, digits_end}
 use Rattle.humantime.proofs.Durations.Bytes.Tails.{no_chars_at}
 use Rattle.humantime.proofs.duration.reading.scan.read_digits.Goals as goal
@@ -36,7 +36,7 @@ loop-at-preserved-then-is_ascii_digit c =
 pub loop-at-preserved : goal.loop-at-preserved
 loop-at-preserved c =
     let i = c.loop-at.invariant in
-    let read = read_space _ _ _ _ _ c.utf8.text c.as_bytes-bytes.ensures.value c.loop-at-test.true i.read c.in-Some.ensures.0 c.in-Some.ensures.1 in
+    let read = read_whitespace _ _ _ _ _ c.utf8.text c.as_bytes-bytes.ensures.value c.loop-at-test.true i.read c.in-Some.ensures.0 c.in-Some.ensures.1 in
     record { taken = i.taken; read = read; digits = i.digits; few = omega (arith, i.few) }
 
 pub returns-in_err-fraction-clause-value : goal.returns-in_err-fraction-clause-value

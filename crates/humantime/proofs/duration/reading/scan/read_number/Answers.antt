@@ -3,7 +3,7 @@ use Rattle.std.proofs.Common.{◌≡◌, ◌++◌, ◌∷◌, [], get_or, sym, a
 use Rattle.humantime.specs.Texts.{begins}
 use Rattle.humantime.specs.Durations.Characters.{is_numeric}
 use Rattle.humantime.proofs.Durations.Reading.Classes.{digit_is}
-use Rattle.humantime.proofs.Durations.Bytes.Numbers.{digit_left, other_left, first_digit, digit_range, none_read, read_digit, read_space, stops_here, all_read, value_more, number_passes, number_ends}
+use Rattle.humantime.proofs.Durations.Bytes.Numbers.{digit_left, other_left, first_digit, digit_range, none_read, read_digit, read_whitespace, stops_here, all_read, value_more, number_passes, number_ends}
 use Rattle.humantime.proofs.Durations.Bytes.Tails.{no_chars_at}
 use Rattle.humantime.proofs.duration.reading.scan.read_number.Goals as goal
 use Rattle.humantime.proofs.duration.reading.scan.read_number.Goals.{else-loop-at-test, then-loop-at-test+else-digit-le9+in-None}
@@ -35,7 +35,7 @@ loop-at-preserved-then-digit-le9 c =
 pub loop-at-preserved : goal.loop-at-preserved
 loop-at-preserved c =
     let i = c.loop-at.invariant in
-    let read = read_space _ _ _ _ _ c.utf8.text c.as_bytes-bytes.ensures.value c.loop-at-test.true i.read c.in-Some.ensures.0 c.in-Some.ensures.1 in
+    let read = read_whitespace _ _ _ _ _ c.utf8.text c.as_bytes-bytes.ensures.value c.loop-at-test.true i.read c.in-Some.ensures.0 c.in-Some.ensures.1 in
     record { taken = i.taken; read = read; value = i.value; fits = i.fits }
 
 pub returns-in_err-value-clause-value : goal.returns-in_err-value-clause-value

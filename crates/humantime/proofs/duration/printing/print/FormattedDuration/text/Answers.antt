@@ -6,5 +6,5 @@ use Rattle.humantime.proofs.duration.printing.print.FormattedDuration.text.Goals
 
 pub returns-clause-canon : goal.returns-clause-canon
 returns-clause-canon c =
-    let text = c.front.ensures ∙ c.write_duration-end.ensures.text ∙ ap duration_text c.self.view_is in
+    let text = c.str_prefix.ensures ∙ c.write_duration-end.ensures.text ∙ ap duration_text c.self.view_is in
     subst (Canon c.args.self.now) (sym text) (printed_is_canon c.args.self.now)

@@ -24,9 +24,9 @@ returns-then-is_empty-clause-steps c = (grind (arith, common_steps, no_bytes, st
 pub returns-then-not-begins_with_digit-clause-steps : goal.returns-then-not-begins_with_digit-clause-steps
 returns-then-not-begins_with_digit-clause-steps c =
     let s = c.args.self.now in
-    let rest = c.past_space-rest.result.now in
+    let rest = c.skip_whitespace-rest.result.now in
     let some : 0 < length rest = grind (arith, common_steps) in
-    let tail = tail_of_tail s.text.now s.rest.now rest s.tail c.past_space-rest.ensures.tail in
+    let tail = tail_of_tail s.text.now s.rest.now rest s.tail c.skip_whitespace-rest.ensures.tail in
     (grind (arith, common_steps, step_expected, some_chars), refl, rest_place s.text.now rest _ tail c.offset_of.ensures.bytes some)
 
 pub returns-then-not-begins_with_digit-clause-goes : goal.returns-then-not-begins_with_digit-clause-goes

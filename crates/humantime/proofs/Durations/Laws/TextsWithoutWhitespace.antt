@@ -1,0 +1,52 @@
+-- A text without its whitespace spells the same spans.
+use Rattle.std.proofs.lemmas.Grind.{common_steps}
+use Rattle.std.proofs.Common.{◌≡◌, ℕ, Bool, true, false, List, [], ◌∷◌, refl, ap, ◌∙◌, arith, rules}
+use Rattle.std.proofs.lemmas.Bool.{cases_Bool, or_parts}
+use Rattle.humantime.specs.Texts.{begins}
+use Rattle.humantime.specs.Durations.Characters.{is_whitespace, is_digit, is_letter, digits, bare_zero}
+use Rattle.humantime.specs.Durations.Spans.{Span, Only, Spells, SpellsEach, Reads}
+use Rattle.humantime.specs.Durations.Accepted.{Accepted, Bare_zero, Sum_of}
+use Rattle.humantime.specs.Laws.Texts.{without_whitespace}
+use Rattle.humantime.proofs.Durations.Reading.Classes.{digit_not_whitespace, whitespace_not_digit, letter_not_whitespace, point_not_numeric, is_point-46}
+use Rattle.humantime.proofs.Durations.Printing.PrintedDigits.{some_digit}
+
+-- whitespace goes, and each other character stays
+only_whitespace : (cs : List ℕ) → Only is_whitespace cs → without_whitespace cs ≡ []
+only_whitespace [] h = refl
+only_whitespace (c ∷ cs) h = rw h.0 (only_whitespace cs h.1)
+
+only_letters : (cs : List ℕ) → Only is_letter cs → without_whitespace cs ≡ cs
+only_letters [] h = refl
+only_letters (c ∷ cs) h = rw (letter_not_whitespace c h.0) (ap (λ (l : List ℕ). c ∷ l) (only_letters cs h.1))
+
+still_only : (p : ℕ → Bool) (cs : List ℕ) → Only p cs → Only p (without_whitespace cs)
+still_only p [] h = tt
+still_only p (c ∷ cs) h = grind (arith, common_steps, (still_only p cs h.1), (cases_Bool (is_whitespace c)))
+
+same_digits : (cs : List ℕ) → digits (without_whitespace cs) ≡ digits cs
+same_digits [] = refl
+same_digits (c ∷ cs) = grind (arith, common_steps, (same_digits cs), (cases_Bool (is_whitespace c)), (whitespace_not_digit c))
+
+still_begins : (cs : List ℕ) → begins is_digit cs ≡ true → begins is_digit (without_whitespace cs) ≡ true
+still_begins cs h = grind (arith, common_steps, digit_not_whitespace)
+
+point_stays : is_whitespace 46 ≡ false
+point_stays = (or_parts (is_digit 46) (is_whitespace 46) (point_not_numeric 46 is_point-46)).1
+
+spells_span : (text rest : List ℕ) (span : Span) → Spells text span rest → Spells (without_whitespace text) span (without_whitespace rest)
+spells_span text rest span h = grind (arith, common_steps, only_letters, only_whitespace, still_begins, still_only, same_digits, point_stays)
+
+spells_each : (body : List ℕ) (spans : List Span) → SpellsEach body spans → SpellsEach (without_whitespace body) spans
+spells_each body [] h = ap without_whitespace h
+spells_each body (s ∷ ss) h = (without_whitespace h.0, spells_span body h.0 s h.1, spells_each h.0 ss h.2)
+
+-- the text without its whitespace is read as the same spans
+pub reads_without_whitespace : (text : List ℕ) (spans : List Span) → Reads text spans → Reads (without_whitespace text) spans
+reads_without_whitespace text spans h = grind (arith, common_steps, only_whitespace, spells_each)
+
+zero_without_whitespace : without_whitespace bare_zero ≡ bare_zero
+zero_without_whitespace = rw (digit_not_whitespace 48 (some_digit bare_zero (search rules) (omega arith))) refl
+
+pub accepted_without_whitespace : (text : List ℕ) (v : ℕ) → Accepted text v → Accepted (without_whitespace text) v
+accepted_without_whitespace text v (Bare_zero z none) = Bare_zero (ap without_whitespace z ∙ zero_without_whitespace) none
+accepted_without_whitespace text v (Sum_of spans reads within sum) = Sum_of spans (reads_without_whitespace text spans reads) within sum

@@ -1,0 +1,73 @@
+-- The list of what the items of a text lend.
+use Rattle.std.proofs.lemmas.Grind.{common_steps}
+use Rattle.std.proofs.Common.{◌≡◌, ◌≢◌, ◌++◌, IsUtf8, chars, encode_utf8_all, arith, ℕ, Bool, true, List, [], ◌∷◌, map, Option, Result, Ok, Err, refl, sym, ap, ap₂, ◌∙◌}
+use Rattle.std.proofs.lemmas.Str.{encodes-chars, encode_ascii}
+use Rattle.humantime.specs.Texts.{drop_while}
+use Rattle.humantime.specs.Durations.Characters.{is_whitespace, bare_zero}
+use Rattle.humantime.specs.Durations.Spans.{Span}
+use Rattle.humantime.specs.Durations.Faults.{span_of, Fault}
+use Rattle.humantime.specs.References.Durations.Reading.{Walk, walk_of, items, sum_spans}
+use Rattle.humantime.specs.References.Durations.Answers.{duration_answer}
+use Rattle.humantime.specs.Durations.Items.{SpanView, AreSpanViews, items_of, AreItems}
+use Rattle.humantime.specs.References.Durations.TextViews.{view_at, item_views, span_in, sum_items}
+use Rattle.humantime.proofs.Durations.Reading.Found.{items_found_at}
+use Rattle.humantime.proofs.Durations.Reading.Outcomes.{items_told, duration_answer-items}
+use Rattle.humantime.proofs.Durations.Reading.SpanWalks.{Steps, by_walk}
+use Rattle.humantime.proofs.Durations.Reading.Stopping.{fine_at}
+use Rattle.humantime.proofs.Durations.Slices.SlicesTold.{one_each}
+use Rattle.humantime.proofs.Durations.Slices.SpanSlices.{is_span_view}
+use Rattle.humantime.proofs.Durations.Reading.Spelled.{next_of}
+use Rattle.humantime.proofs.Durations.Bytes.Trimming.{spelled_at}
+
+-- what is lent on a walk spells the spans of the walk
+spans_read : (text : List ℕ) (starts : List (List ℕ)) (stop : Option Fault) → map span_in (items_of (map (view_at text) starts) stop) ≡ items_of (map span_of starts) stop
+spans_read text [] stop = grind (arith, common_steps)
+spans_read text (rest ∷ starts) stop = ap₂ (λ (s : Span) (items : List (Result Span Fault)). Ok s ∷ items) (spelled_at text rest) (spans_read text starts stop)
+
+-- unless the text is `0`, what its items add up to is its outcome
+sum_items_outcome : (text : List ℕ) → text ≢ bare_zero → sum_items 0 (item_views text) ≡ duration_answer text
+unfolding items
+sum_items_outcome text some = ap (sum_spans 0) (spans_read text (walk_of text).starts (walk_of text).stop) ∙ sym (duration_answer-items text some)
+
+-- the same of the text's bytes, since a text whose one character is `0` is that one byte
+pub sum_answers : (bs : List ℕ) → IsUtf8 bs → bs ≢ bare_zero → sum_items 0 (item_views (chars bs)) ≡ duration_answer (chars bs)
+sum_answers bs u n =
+    sum_items_outcome (chars bs) (λ e. n (sym (encodes-chars bs u) ∙ ap encode_utf8_all e ∙ ap (◌++ []) (encode_ascii 48 (omega arith))))
+
+-- each span of a walk lends its part, up to what the walk leaves
+abbrev Lends : List ℕ → Bool → List ℕ → Walk → Type 0
+Lends text first rest w = AreSpanViews text rest (map span_of w.starts) (map (view_at text) w.starts) w.unread
+
+lends : (text : List ℕ) → Steps text (Lends text)
+lends text = record {
+  end = λ first. refl;
+  wrong = λ first rest e some s. refl;
+  right = λ first rest w s more. (next_of rest, is_span_view text rest (fine_at text rest s), more);
+}
+
+pub are_items : (text : List ℕ) → AreItems text (item_views text)
+are_items text =
+    let i = items_found_at text in
+    record {
+      spans = map span_of (walk_of text).starts;
+      stop = (walk_of text).stop;
+      slices = map (view_at text) (walk_of text).starts;
+      items = i.0;
+      are = refl;
+      each = rw i.1 (by_walk text (Lends text) (lends text) true (drop_while is_whitespace text));
+    }
+
+-- two lists that lend the same spans and stop alike are one
+same_span_view : (text : List ℕ) (xs ys : List (Result SpanView Fault)) (a : AreItems text xs) (b : AreItems text ys) → a.spans ≡ b.spans → a.stop ≡ b.stop → xs ≡ ys
+same_span_view text xs ys a b p q = grind (arith, common_steps, one_each)
+
+pub one_span_view : (text : List ℕ) (others : List (Result SpanView Fault)) → AreItems text others → others ≡ item_views text
+one_span_view text others o =
+    let a = are_items text in
+    grind (arith, (items_told text o.spans o.stop o.items), (items_told text a.spans a.stop a.items), (same_span_view text others _ o a))
+
+-- an error that is the first item is the answer
+pub first_error_answers : (text : List ℕ) (lent others : List (Result SpanView Fault)) (e : Fault) → AreItems text lent
+    → lent ≡ Err e ∷ others → text ≢ bare_zero → duration_answer text ≡ Err e
+unfolding sum_spans
+first_error_answers text lent others e a first some = sym (sum_items_outcome text some) ∙ ap (sum_items 0) (sym (one_span_view text lent a) ∙ first)

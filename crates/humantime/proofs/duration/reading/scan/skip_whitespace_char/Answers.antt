@@ -1,0 +1,16 @@
+use Rattle.std.proofs.Common.{sym, ◌∙◌, ◌+◌, ◌<◌, length, arith}
+use Rattle.std.proofs.lemmas.Grind.{common_steps}
+use Rattle.humantime.proofs.Durations.Bytes.PlaceSteps.{ascii_at, no_whitespace_at_mu}
+use Rattle.humantime.proofs.duration.reading.scan.skip_whitespace_char.Goals as goal
+
+pub returns-then-is_ascii_white : goal.returns-then-is_ascii_white
+returns-then-is_ascii_white c = grind (arith, common_steps, ascii_at)
+
+pub returns-else-is_ascii_white : goal.returns-else-is_ascii_white
+returns-else-is_ascii_white c = grind (arith, common_steps, ascii_at)
+
+pub returns-then-is_mu : goal.returns-then-is_mu
+returns-then-is_mu c =
+    let within : c.args.at + 1 < length c.args.text.now = omega (arith, c.if-at-bytes.true, c.as_bytes-bytes.ensures.len) in
+    let mu = rw c.as_bytes-bytes.ensures.value at (sym c.is_mu.ensures ∙ c.if-is_mu.true) in
+    λ white. omega (arith, white, no_whitespace_at_mu c.args.text.now c.args.at c.utf8.text c.requires.1 within mu)

@@ -1,0 +1,103 @@
+-- Lines of a settings file.
+use Rattle.std.specs.Prelude.{ℕ, ◌+◌, ◌-◌, ◌==◌, Bool, ℤ, List, length, codes, chars, bytes_eq, nat_lt, Result, Ok, Err, ⊤, if◌then◌else◌}
+use Rattle.std.specs.List.{before_first, after_first, position_or_len}
+use Rattle.std.specs.Str.{byte, trim_start, trim_end}
+use Rattle.humantime.specs.declared.TimestampError.{TimestampError}
+use Rattle.humantime_examples.specs.declared.settings.Setting.{Setting}
+use Rattle.humantime_examples.specs.declared.settings.Setting.TheVariants.{Timeout, Since}
+use Rattle.humantime_examples.specs.declared.settings.LineFault.{LineFault}
+use Rattle.humantime_examples.specs.declared.settings.LineFault.TheVariants.{NoValue, UnknownKey, Duration, Timestamp}
+use Rattle.humantime_examples.specs.declared.settings.LineError.{LineError}
+use Rattle.humantime.specs.Durations.Faults.{InvalidCharacter, NumberExpected, UnknownUnit, NumberOverflow, Empty}
+use Rattle.humantime.specs.Prelude.{Fault, PointsInto, duration_answer, strict_answer, fault_of}
+
+abbrev pub is_equals : ℕ → Bool
+is_equals b = b == byte "="
+
+-- there is a `=` in the line
+abbrev pub has_value : List ℕ → Bool
+has_value line = nat_lt (position_or_len is_equals line) (length line)
+
+-- what stands before the first `=`, and behind it, without the whitespace around the `=`
+abbrev pub key_of : List ℕ → List ℕ
+key_of line = trim_end (before_first is_equals line)
+
+abbrev pub value_of : List ℕ → List ℕ
+value_of line = trim_start (after_first is_equals line)
+
+-- the byte of the line at which the value begins
+abbrev pub value_at : List ℕ → ℕ
+value_at line = length line - length (value_of line)
+
+-- the fault of a text, its offsets counted from so many bytes before the text
+abbrev pub moved : ℕ → Fault → Fault
+moved by (InvalidCharacter at) = InvalidCharacter (by + at)
+moved by (NumberExpected at) = NumberExpected (by + at)
+moved by (UnknownUnit start end unit value) = UnknownUnit (by + start) (by + end) unit value
+moved by NumberOverflow = NumberOverflow
+moved by Empty = Empty
+
+-- the byte at which a fault stands, or this one where it has no place
+abbrev pub fault_place : ℕ → Fault → ℕ
+fault_place at (InvalidCharacter place) = place
+fault_place at (NumberExpected place) = place
+fault_place at (UnknownUnit start end unit value) = start
+fault_place at NumberOverflow = at
+fault_place at Empty = at
+
+-- What is wrong with a line, its offsets counted in the line and a unit named by its characters.
+pub data Wrong : Type 0 where
+  No_value : Wrong
+  Unknown_key : Wrong
+  No_duration : Fault → Wrong
+  No_timestamp : TimestampError → Wrong
+
+abbrev pub wrong_of : LineFault → Wrong
+wrong_of NoValue = No_value
+wrong_of UnknownKey = Unknown_key
+wrong_of (Duration error) = No_duration (fault_of error)
+wrong_of (Timestamp error) = No_timestamp error
+
+-- the error of a duration points into the line
+abbrev pub FaultPointsInto : List ℕ → LineFault → Type 0
+FaultPointsInto line NoValue = ⊤
+FaultPointsInto line UnknownKey = ⊤
+FaultPointsInto line (Duration error) = PointsInto line error
+FaultPointsInto line (Timestamp error) = ⊤
+
+-- What is told of an error: the key, the byte of the line at which the fault stands, and what is wrong.
+pub record Refusal : Type 0 where
+  pub key : List ℕ
+  pub at : ℕ
+  pub wrong : Wrong
+
+abbrev pub told_line : Result Setting LineError → Result Setting Refusal
+told_line (Ok setting) = Ok setting
+told_line (Err error) = Err (record { key = error.key.now; at = length error.before.now; wrong = wrong_of error.fault })
+
+-- the line with this key is refused, for a fault at this byte
+abbrev pub refused : List ℕ → ℕ → Wrong → Result Setting Refusal
+refused key at wrong = Err (record { key = key; at = at; wrong = wrong })
+
+-- what a value at the end of a line sets, or that the line is refused: a duration, or its fault
+abbrev pub timeout_answer : List ℕ → ℕ → Result ℕ Fault → Result Setting Refusal
+timeout_answer key at (Ok timeout) = Ok (Timeout timeout)
+timeout_answer key at (Err fault) = refused key (fault_place at (moved at fault)) (No_duration (moved at fault))
+
+-- a timestamp, or its error
+abbrev pub since_answer : List ℕ → ℕ → Result ℤ TimestampError → Result Setting Refusal
+since_answer key at (Ok since) = Ok (Since since)
+since_answer key at (Err error) = refused key at (No_timestamp error)
+
+-- what a value that begins at this byte says behind this key
+abbrev pub keyed_answer : List ℕ → ℕ → List ℕ → Result Setting Refusal
+keyed_answer key at value =
+    if bytes_eq key (codes "timeout") then timeout_answer key at (duration_answer (chars value))
+    else (if bytes_eq key (codes "since") then since_answer key at (strict_answer value)
+    else refused key 0 Unknown_key)
+
+-- what a line says
+abbrev pub line_answer : List ℕ → Result Setting Refusal
+line_answer line =
+    if has_value line then keyed_answer (key_of line) (value_at line) (value_of line)
+    else refused (key_of line) (length line) No_value

@@ -1,0 +1,186 @@
+//! A line of a settings file, `timeout = DURATION` or `since = TIMESTAMP`.
+//!
+//! An error names the key, the byte of the line at which the fault stands and the unit that is no unit's word, all lent from
+//! the line. It prints the line with a mark under the fault.
+//!
+//! ```text
+//! timeout: unknown time unit "mi", supported units: ns, us/µs, ms, ..
+//! timeout = 2h 37mi
+//!                ^
+//! ```
+
+mod marked;
+
+ghost use Rattle.std.specs.Prelude.{◌≡◌, ◌↔◌, ◌++◌, chars, drop, length, IfErr, IfSome, IsSome, IsTrue};
+ghost use Rattle.std.specs.Str.{IsCharBoundary};
+ghost use Rattle.humantime.specs.Prelude.{PointsInto, duration_answer, fault_of, strict_answer};
+ghost use Rattle.humantime_examples.specs.Settings.{FaultPointsInto, fault_place, has_value, key_of, line_answer, moved, since_answer, timeout_answer, told_line, value_at, value_of};
+
+use humantime::{
+    DurationError, StdDuration, SystemTime, TimestampError, parse_duration, parse_rfc3339,
+};
+
+/// What a line sets.
+#[derive(Clone, Copy, PartialEq, Debug)]
+pub enum Setting {
+    /// How long to wait.
+    Timeout(StdDuration),
+    /// From which moment on.
+    Since(SystemTime),
+}
+
+/// What is wrong with a line.
+#[derive(Clone, Copy, PartialEq, Debug)]
+pub enum LineFault<'a> {
+    /// There is no `=`.
+    NoValue,
+    /// No setting has this key.
+    UnknownKey,
+    /// The value is no duration. Its offsets are those in the line.
+    Duration(DurationError<'a>),
+    /// The value is no timestamp.
+    Timestamp(TimestampError),
+}
+
+/// A line that sets nothing, cut in two where its fault stands.
+///
+/// Without a place of its own a fault stands where the value begins, an unknown key at the line's start, and a missing `=` at
+/// its end.
+#[derive(Clone, Copy, PartialEq, Debug)]
+pub struct LineError<'a> {
+    /// What stands before the `=`, or the whole line, without the whitespace at its end.
+    pub key: &'a str,
+    /// The line up to the fault.
+    pub before: &'a str,
+    /// The line from the fault on.
+    pub after: &'a str,
+    /// What is wrong.
+    pub fault: LineFault<'a>,
+}
+
+/// What the line sets, or what is wrong with it.
+pub fn read_line(line: &str) -> Result<Setting, LineError<'_>>
+    ensures answer { told_line result ≡ line_answer line.now }
+    ensures line { IfErr result (λ error. error.before.now ++ error.after.now ≡ line.now) }
+    ensures place { IfErr result (λ error. FaultPointsInto line.now error.fault) }
+{
+    let Some((key, at)) = parts_of(line) else {
+        return Err(LineError {
+            key: line.trim_end(),
+            before: line,
+            after: "",
+            fault: LineFault::NoValue,
+        });
+    };
+    match key {
+        "timeout" => read_timeout(line, key, at),
+        "since" => read_since(line, key, at),
+        _ => Err(LineError {
+            key,
+            before: "",
+            after: line,
+            fault: LineFault::UnknownKey,
+        }),
+    }
+}
+
+/// The key, and the byte at which the value begins, if there is a `=`.
+fn parts_of(line: &str) -> Option<(&str, usize)>
+    ensures some { IsSome result ↔ IsTrue (has_value line.now) }
+    ensures key { IfSome result (λ parts. parts.0.now ≡ key_of line.now) }
+    ensures at { IfSome result (λ parts. parts.1 ≡ value_at line.now) }
+    ensures value { IfSome result (λ parts. drop parts.1 line.now ≡ value_of line.now) }
+    ensures boundary { IfSome result (λ parts. IsCharBoundary line.now parts.1) }
+{
+    match line.split_once('=') {
+        Some((key, value)) => Some((key.trim_end(), line.len() - value.trim_start().len())),
+        None => None,
+    }
+}
+
+/// The duration that begins at a byte of a line, or what is wrong with it.
+fn read_timeout<'a>(line: &'a str, key: &'a str, at: usize) -> Result<Setting, LineError<'a>>
+    requires { IsCharBoundary line.now at }
+    ensures answer { told_line result ≡ timeout_answer key.now at (duration_answer (chars (drop at line.now))) }
+    ensures line { IfErr result (λ error. error.before.now ++ error.after.now ≡ line.now) }
+    ensures place { IfErr result (λ error. FaultPointsInto line.now error.fault) }
+{
+    match parse_duration(&line[at..]) {
+        Ok(timeout) => Ok(Setting::Timeout(timeout)),
+        Err(error) => {
+            let error = in_line(line, at, error);
+            let place = place_or(line, at, error);
+            Err(cut(line, key, place, LineFault::Duration(error)))
+        }
+    }
+}
+
+/// The moment that begins at a byte of a line, or what is wrong with it.
+fn read_since<'a>(line: &'a str, key: &'a str, at: usize) -> Result<Setting, LineError<'a>>
+    requires { IsCharBoundary line.now at }
+    ensures answer { told_line result ≡ since_answer key.now at (strict_answer (drop at line.now)) }
+    ensures line { IfErr result (λ error. error.before.now ++ error.after.now ≡ line.now) }
+    ensures place { IfErr result (λ error. FaultPointsInto line.now error.fault) }
+{
+    match parse_rfc3339(&line[at..]) {
+        Ok(since) => Ok(Setting::Since(since)),
+        Err(error) => Err(cut(line, key, at, LineFault::Timestamp(error))),
+    }
+}
+
+/// The error of the value that begins at a byte of a line, with its offsets in the line.
+fn in_line<'a>(line: &str, at: usize, error: DurationError<'a>) -> DurationError<'a>
+    requires boundary { IsCharBoundary line.now at }
+    requires place { PointsInto (drop at line.now) error }
+    ensures fault { fault_of result ≡ moved at (fault_of error.entry) }
+    ensures place { PointsInto line.now result }
+{
+    match error {
+        DurationError::InvalidCharacter(place) => DurationError::InvalidCharacter(at + place),
+        DurationError::NumberExpected(place) => DurationError::NumberExpected(at + place),
+        DurationError::UnknownUnit {
+            start,
+            end,
+            unit,
+            value,
+        } => DurationError::UnknownUnit {
+            start: at + start,
+            end: at + end,
+            unit,
+            value,
+        },
+        DurationError::NumberOverflow => DurationError::NumberOverflow,
+        DurationError::Empty => DurationError::Empty,
+    }
+}
+
+/// The byte of a line at which an error stands, or this one where it has no place.
+fn place_or(line: &str, at: usize, error: DurationError<'_>) -> usize
+    requires boundary { IsCharBoundary line.now at }
+    requires place { PointsInto line.now error }
+    ensures place { result ≡ fault_place at (fault_of error.entry) }
+    ensures boundary { IsCharBoundary line.now result }
+{
+    match error {
+        DurationError::InvalidCharacter(place) | DurationError::NumberExpected(place) => place,
+        DurationError::UnknownUnit { start, .. } => start,
+        DurationError::NumberOverflow | DurationError::Empty => at,
+    }
+}
+
+/// The error of a line whose fault stands at a byte.
+fn cut<'a>(line: &'a str, key: &'a str, at: usize, fault: LineFault<'a>) -> LineError<'a>
+    requires { IsCharBoundary line.now at }
+    ensures key { result.key.now ≡ key.now }
+    ensures at { length result.before.now ≡ at }
+    ensures line { result.before.now ++ result.after.now ≡ line.now }
+    ensures fault { result.fault ≡ fault.entry }
+{
+    let (before, after) = line.split_at(at);
+    LineError {
+        key,
+        before,
+        after,
+        fault,
+    }
+}

@@ -1,0 +1,71 @@
+//! What a user is told of a settings line that is refused: what is wrong, and the line with a mark under the fault.
+
+ghost use Rattle.std.specs.Prelude.{◌≡◌, [], ◌∷◌};
+ghost use Rattle.std.specs.Fmt.{WritesOnOk};
+ghost use Rattle.humantime_examples.specs.Marks.{blank, blank_for, marked};
+
+use super::{LineError, LineFault};
+use std::fmt;
+
+/// Writes what is wrong with which key, the line, and a mark under the fault, with no line feed behind it.
+///
+/// The mark stands under the character at the fault, not so many columns to the right as bytes stand before it: a terminal
+/// shows characters. A tab before the fault is a tab before the mark. Characters of two columns or of none move the mark.
+impl fmt::Display for LineError<'_> {
+    ghost use Rattle.std.specs.Prelude.{Some};
+    ghost use Rattle.humantime_examples.specs.SettingErrors.{error_text};
+
+    ghost output = { λ error. Some (error_text error) };
+
+    fn fmt<W: fmt::Write>(&self, f: &mut fmt::Formatter<W>) -> fmt::Result {
+        f.write_str(self.key)?;
+        f.write_str(": ")?;
+        self.fault.fmt(f)?;
+        f.write_str("\n")?;
+        write_marked(self.before, self.after, f)
+    }
+}
+
+impl fmt::Display for LineFault<'_> {
+    ghost use Rattle.std.specs.Prelude.{Some};
+    ghost use Rattle.humantime_examples.specs.SettingErrors.{fault_text};
+
+    ghost output = { λ fault. Some (fault_text fault) };
+
+    fn fmt<W: fmt::Write>(&self, f: &mut fmt::Formatter<W>) -> fmt::Result {
+        match self {
+            LineFault::NoValue => f.write_str("there is no `=`"),
+            LineFault::UnknownKey => f.write_str("no such setting"),
+            LineFault::Duration(error) => error.fmt(f),
+            LineFault::Timestamp(error) => error.fmt(f),
+        }
+    }
+}
+
+/// Writes a line, which is cut in two, and below it a mark under the cut.
+fn write_marked<W: fmt::Write>(before: &str, after: &str, f: &mut fmt::Formatter<W>) -> fmt::Result
+    ensures { WritesOnOk W.write_str_gives f.old result (marked before.now after.now) f.new }
+{
+    f.write_str(before)?;
+    f.write_str(after)?;
+    f.write_str("\n")?;
+    write_blank(before, f)?;
+    f.write_str("^")
+}
+
+/// Writes a tab for each tab, and a space for each other character.
+fn write_blank<W: fmt::Write>(text: &str, f: &mut fmt::Formatter<W>) -> fmt::Result
+    ensures { WritesOnOk W.write_str_gives f.old result (blank text.now) f.new }
+{
+    for c in text.chars() {
+        f.write_str(blank_of(c))?;
+    }
+    Ok(())
+}
+
+/// A tab for a tab, and a space for another character.
+fn blank_of(c: char) -> &'static str
+    ensures { result.now ≡ blank_for c ∷ [] }
+{
+    if c == '\t' { "\t" } else { " " }
+}
