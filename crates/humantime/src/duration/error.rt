@@ -56,8 +56,12 @@ impl fmt::Display for DurationError<'_> {
 
     fn fmt<W: fmt::Write>(&self, f: &mut fmt::Formatter<W>) -> fmt::Result {
         match self {
-            DurationError::InvalidCharacter(at) => write_place("invalid character at ", *at, f),
-            DurationError::NumberExpected(at) => write_place("expected number at ", *at, f),
+            DurationError::InvalidCharacter(at) => write_number(
+                "invalid character at ",
+                *at as u64,
+                f,
+            ),
+            DurationError::NumberExpected(at) => write_number("expected number at ", *at as u64, f),
             DurationError::UnknownUnit { unit, value, .. } => write_unit(unit, *value, f),
             DurationError::NumberOverflow => f.write_str(
                 "number is too large or cannot be represented without a lack of precision (values below 1ns are not supported)",
@@ -69,14 +73,13 @@ impl fmt::Display for DurationError<'_> {
 
 impl Error for DurationError<'_> {}
 
-/// Writes what is wrong, and the offset where it is.
-fn write_place<W: fmt::Write>(what: &str, at: usize, f: &mut fmt::Formatter<W>) -> fmt::Result
-    ensures writes { WritesOnOk W.write_str_gives f.old result (what.now ++ decimal at) f.new }
-    ensures styled { WritesStyledOnOk W.write_str_gives f.old result (what.now ++ decimal at) f.new }
+/// Writes the text and the number behind it.
+fn write_number<W: fmt::Write>(text: &str, number: u64, f: &mut fmt::Formatter<W>) -> fmt::Result
+    ensures writes { WritesOnOk W.write_str_gives f.old result (text.now ++ decimal number) f.new }
+    ensures styled { WritesStyledOnOk W.write_str_gives f.old result (text.now ++ decimal number) f.new }
 {
-    let mut buf = Buffer::new();
-    f.write_str(what)?;
-    f.write_str(buf.format(at))
+    f.write_str(text)?;
+    f.write_str(Buffer::new().format(number))
 }
 
 /// Writes what is said of a unit that is missing or no unit's word. `value` is the number before it.
@@ -99,11 +102,7 @@ fn write_unit_needed<W: fmt::Write>(value: u64, f: &mut fmt::Formatter<W>) -> fm
     ensures writes { WritesOnOk W.write_str_gives f.old result (unit_message [] value) f.new }
     ensures styled { WritesStyledOnOk W.write_str_gives f.old result (unit_message [] value) f.new }
 {
-    let mut buf = Buffer::new();
-    let value = buf.format(value);
-    f.write_str("time unit needed, for example ")?;
-    f.write_str(value)?;
-    f.write_str("sec or ")?;
-    f.write_str(value)?;
+    write_number("time unit needed, for example ", value, f)?;
+    write_number("sec or ", value, f)?;
     f.write_str("ms")
 }

@@ -1,8 +1,9 @@
 //! Additions to a duration, each refused where it breaks a limit.
 
-ghost use Rattle.std.specs.Prelude.{◌≡◌, ◌≤◌, ◌^◌};
+ghost use Rattle.std.specs.Prelude.{◌≡◌, ◌≤◌, ◌^◌, Some};
 ghost use Rattle.humantime.specs.Durations.Spans.{Span};
 ghost use Rattle.humantime.specs.References.Durations.Adding.{add_times, part_of, add_part};
+ghost use Rattle.humantime.specs.Durations.Units.{Seconds};
 ghost use Rattle.humantime.specs.References.Durations.Reading.{add_span};
 ghost use Rattle.humantime.specs.References.Durations.Scales.{scale_of, IsAmountOf};
 
@@ -13,6 +14,13 @@ use crate::value::StdDuration;
 /// The greatest number whose product with 10^9 fits `u64`.
 const MOST_BEFORE_NINE_ZEROS: u64 = 18_446_744_073;
 
+/// The duration and so many times these seconds.
+fn add_secs(sum: StdDuration, count: u64, secs: u64) -> Option<StdDuration>
+    ensures { result ≡ add_times sum (Seconds secs) count }
+{
+    sum.checked_add_secs(count.checked_mul(secs)?)
+}
+
 /// The duration and so many of the unit.
 fn add_whole(sum: StdDuration, value: u64, unit: Unit) -> Option<StdDuration>
     ensures { result ≡ add_times sum (scale_of unit).one value }
@@ -22,12 +30,12 @@ fn add_whole(sum: StdDuration, value: u64, unit: Unit) -> Option<StdDuration>
         Unit::Microsecond => value.checked_mul(sizes::NANOS_PER_MICRO)?,
         Unit::Millisecond => value.checked_mul(sizes::NANOS_PER_MILLI)?,
         Unit::Second => return sum.checked_add_secs(value),
-        Unit::Minute => return sum.checked_add_secs(value.checked_mul(sizes::SECONDS_PER_MINUTE)?),
-        Unit::Hour => return sum.checked_add_secs(value.checked_mul(sizes::SECONDS_PER_HOUR)?),
-        Unit::Day => return sum.checked_add_secs(value.checked_mul(sizes::SECONDS_PER_DAY)?),
-        Unit::Week => return sum.checked_add_secs(value.checked_mul(sizes::SECONDS_PER_WEEK)?),
-        Unit::Month => return sum.checked_add_secs(value.checked_mul(sizes::SECONDS_PER_MONTH)?),
-        Unit::Year => return sum.checked_add_secs(value.checked_mul(sizes::SECONDS_PER_YEAR)?),
+        Unit::Minute => return add_secs(sum, value, sizes::SECONDS_PER_MINUTE),
+        Unit::Hour => return add_secs(sum, value, sizes::SECONDS_PER_HOUR),
+        Unit::Day => return add_secs(sum, value, sizes::SECONDS_PER_DAY),
+        Unit::Week => return add_secs(sum, value, sizes::SECONDS_PER_WEEK),
+        Unit::Month => return add_secs(sum, value, sizes::SECONDS_PER_MONTH),
+        Unit::Year => return add_secs(sum, value, sizes::SECONDS_PER_YEAR),
     };
     sum.checked_add_nanos(nanos)
 }
@@ -59,6 +67,14 @@ fn part_of_power(fraction: Fraction, exponent: usize) -> Option<u64>
     part_of(fraction, power_of_ten(exponent))
 }
 
+/// The duration and the part of these seconds that the fraction is.
+fn add_part_of_secs(total: StdDuration, fraction: Fraction, secs: u64) -> Option<StdDuration>
+    requires { fraction.count ≤ 19 }
+    ensures { result ≡ add_part total (Some (Seconds secs)) fraction.value fraction.count }
+{
+    total.checked_add_secs(part_of(fraction, secs)?)
+}
+
 /// The duration and a fraction of one unit.
 fn add_fraction(total: StdDuration, fraction: Fraction, unit: Unit) -> Option<StdDuration>
     requires { fraction.count ≤ 19 }
@@ -66,17 +82,17 @@ fn add_fraction(total: StdDuration, fraction: Fraction, unit: Unit) -> Option<St
 {
     let nanos = match unit {
         Unit::Nanosecond => return (fraction.count == 0).then_some(total),
-        Unit::Microsecond => part_of_power(fraction, 3)?,
-        Unit::Millisecond => part_of_power(fraction, 6)?,
-        Unit::Second => part_of_power(fraction, 9)?,
-        Unit::Minute => part_of(fraction, sizes::NANOS_PER_MINUTE)?,
-        Unit::Hour => return total.checked_add_secs(part_of(fraction, sizes::SECONDS_PER_HOUR)?),
-        Unit::Day => return total.checked_add_secs(part_of(fraction, sizes::SECONDS_PER_DAY)?),
-        Unit::Week => return total.checked_add_secs(part_of(fraction, sizes::SECONDS_PER_WEEK)?),
-        Unit::Month => return total.checked_add_secs(part_of(fraction, sizes::SECONDS_PER_MONTH)?),
-        Unit::Year => return total.checked_add_secs(part_of(fraction, sizes::SECONDS_PER_YEAR)?),
+        Unit::Microsecond => part_of_power(fraction, 3),
+        Unit::Millisecond => part_of_power(fraction, 6),
+        Unit::Second => part_of_power(fraction, 9),
+        Unit::Minute => part_of(fraction, sizes::NANOS_PER_MINUTE),
+        Unit::Hour => return add_part_of_secs(total, fraction, sizes::SECONDS_PER_HOUR),
+        Unit::Day => return add_part_of_secs(total, fraction, sizes::SECONDS_PER_DAY),
+        Unit::Week => return add_part_of_secs(total, fraction, sizes::SECONDS_PER_WEEK),
+        Unit::Month => return add_part_of_secs(total, fraction, sizes::SECONDS_PER_MONTH),
+        Unit::Year => return add_part_of_secs(total, fraction, sizes::SECONDS_PER_YEAR),
     };
-    total.checked_add_nanos(nanos)
+    total.checked_add_nanos(nanos?)
 }
 
 /// The duration and a span: first its number, then its fraction.
