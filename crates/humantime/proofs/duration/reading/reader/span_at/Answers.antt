@@ -92,3 +92,17 @@ invariant_of-result c =
       read = rw (spelled_read _ _ _ c.in-Some-read_fraction.digits p.2 letters p.5)
           (record { unit = sym (c.in-Some-unit_of.ensures ∙ c.in-Some-read_word.word.told ∙ ap scale_of_word letters); value = p.1; fraction = p.4 });
     }
+
+pub offset_of-requires : goal.offset_of-requires
+offset_of-requires c = tail_of_tail _ _ _ c.requires.tail (tail_of_tail _ _ _ c.in-Some.ensures.tail c.in-Some-read_fraction.ensures.tail)
+
+pub offset_of-requires-then-bare : goal.offset_of-requires-then-bare
+offset_of-requires-then-bare c = tail_of_tail _ _ _ c.requires.tail c.in-Some.ensures.tail
+
+pub offset_of-end-requires : goal.offset_of-end-requires
+offset_of-end-requires c =
+    let behind = tail_of_tail _ _ _ c.requires.tail (tail_of_tail _ _ _ c.in-Some.ensures.tail c.in-Some-read_fraction.ensures.tail) in
+    tail_of_tail _ _ _ behind c.in-Some-read_word.ensures.tail
+
+pub offset_of-requires-in_default-unit_of : goal.offset_of-requires-in_default-unit_of
+offset_of-requires-in_default-unit_of c = tail_of_tail _ _ _ c.requires.tail (tail_of_tail _ _ _ c.in-Some.ensures.tail c.in-Some-read_fraction.ensures.tail)
