@@ -20,6 +20,39 @@ fn assert_unit_messages(rt: &impl Abort, rows: &[(usize, usize, &str, u64, &str)
     }
 }
 
+/// Where a unit that is none starts and ends, it, the number before it, and the message.
+const UNIT_MESSAGES: [(usize, usize, &str, u64, &str); 5] = [
+    (
+        3,
+        3,
+        "",
+        123,
+        "time unit needed, for example 123sec or 123ms",
+    ),
+    (11, 11, "", 1, "time unit needed, for example 1sec or 1ms"),
+    (
+        2,
+        8,
+        "nights",
+        10,
+        "unknown time unit \"nights\", supported units: ns, us/µs, ms, sec, min, hours, days, weeks, months, years (and few variations)",
+    ),
+    (
+        1,
+        3,
+        "\u{3bc}",
+        1,
+        "unknown time unit \"\u{3bc}\", supported units: ns, us/µs, ms, sec, min, hours, days, weeks, months, years (and few variations)",
+    ),
+    (
+        1,
+        3,
+        "µ",
+        1,
+        "unknown time unit \"µ\", supported units: ns, us/µs, ms, sec, min, hours, days, weeks, months, years (and few variations)",
+    ),
+];
+
 #[test]
 fn each_error_has_its_message(rt: HostRuntime) {
     assert_message(
@@ -38,40 +71,7 @@ fn each_error_has_its_message(rt: HostRuntime) {
         "number is too large or cannot be represented without a lack of precision (values below 1ns are not supported)",
     );
     assert_message(&rt, DurationError::Empty, "value was empty");
-    assert_unit_messages(
-        &rt,
-        &[
-            (
-                3,
-                3,
-                "",
-                123,
-                "time unit needed, for example 123sec or 123ms",
-            ),
-            (11, 11, "", 1, "time unit needed, for example 1sec or 1ms"),
-            (
-                2,
-                8,
-                "nights",
-                10,
-                "unknown time unit \"nights\", supported units: ns, us/µs, ms, sec, min, hours, days, weeks, months, years (and few variations)",
-            ),
-            (
-                1,
-                3,
-                "\u{3bc}",
-                1,
-                "unknown time unit \"\u{3bc}\", supported units: ns, us/µs, ms, sec, min, hours, days, weeks, months, years (and few variations)",
-            ),
-            (
-                1,
-                3,
-                "µ",
-                1,
-                "unknown time unit \"µ\", supported units: ns, us/µs, ms, sec, min, hours, days, weeks, months, years (and few variations)",
-            ),
-        ],
-    );
+    assert_unit_messages(&rt, &UNIT_MESSAGES);
 }
 
 /// The errors that name this place tell it.

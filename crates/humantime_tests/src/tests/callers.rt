@@ -1,15 +1,21 @@
 //! The callers of CALLING.md, run.
 
+use crate::callers::calendar::{days_after, weekday};
+use crate::callers::clock::{from_std, from_std_duration};
 use crate::callers::durations::{
     default_limit, end_of, is_same_error, is_within, limit_seconds, place_in_line, shown_seconds,
     underlined,
 };
+use crate::callers::errors::{deadline, message};
 use crate::callers::laws::comes_back;
+use crate::callers::spans::split_at_fault;
 use crate::callers::timestamps::{
     default_start, is_earlier, is_same_moment, is_since, later_than, stamp_of,
 };
 use crate::tests::support::assert_same;
-use humantime::{DurationError, StdDuration, TimestampError, UNIX_EPOCH};
+use humantime::{Date, DurationError, StdDuration, TimestampError, UNIX_EPOCH};
+use std::alloc::AllocError;
+use std::{io, time};
 
 #[test]
 fn a_limit_is_read(rt: HostRuntime) {
@@ -59,4 +65,70 @@ fn callers_of_timestamps_answer(rt: HostRuntime) {
     let stamp = "1970-01-01T00:00:00.000Z";
     assert_same(&rt, stamp_of(UNIX_EPOCH, &mut buf), Some(stamp));
     assert_same(&rt, is_earlier(stamp, "1970-01-01T00:00:00.001Z"), true);
+}
+
+#[test]
+fn callers_of_std_answer(rt: HostRuntime) -> io::Result<()> {
+    let second = time::Duration::new(1518568087, 5);
+    assert_same(
+        &rt,
+        from_std_duration(second),
+        StdDuration::new(1518568087, 5),
+    );
+    let time = time::UNIX_EPOCH.checked_add(second).expect(&rt, "no time");
+    let moment = from_std(time).expect(&rt, "no moment");
+    assert_same(&rt, moment.unix_seconds(), 1518568087);
+    assert_same(&rt, moment.subsec_nanos(), 5);
+    let now = from_std(time::SystemTime::now(&rt)?).expect(&rt, "no moment");
+    assert_same(&rt, UNIX_EPOCH < now, true);
+    Ok(())
+}
+
+#[test]
+fn callers_of_spans_answer(rt: HostRuntime) {
+    let rows = [
+        ("2h 37min", "2h 37min", ""),
+        ("2h 37mi", "2h 37", "mi"),
+        ("1,5s", "1", ",5s"),
+        ("2h x", "2h ", "x"),
+        ("", "", ""),
+    ];
+    for (text, before, after) in rows {
+        assert_same(&rt, split_at_fault(text), (before, after));
+    }
+}
+
+#[test]
+fn errors_convert_and_print(rt: HostRuntime) -> Result<(), AllocError> {
+    let alloc = rt.alloc();
+    let start = "2018-02-14T00:28:07Z";
+    let end = deadline(start, "2h 37min").ok().flatten();
+    assert_same(&rt, end.map(|end| end.unix_seconds()), Some(1518577507));
+    let error = deadline("2018-02-14", "1h").err().expect(&rt, "accepted");
+    let shown = format!(in alloc; "{error}")?;
+    assert_same(&rt, shown.as_str(), "start: timestamp format is invalid");
+    let error = deadline(start, "1h x").err().expect(&rt, "accepted");
+    let shown = format!(in alloc; "{error}")?;
+    assert_same(&rt, shown.as_str(), "limit: expected number at 3");
+    let shown = message(alloc, "2h x", &DurationError::NumberExpected(3))?;
+    assert_same(&rt, shown.as_str(), "2h x: expected number at 3");
+    Ok(())
+}
+
+#[test]
+fn callers_of_the_calendar_answer(rt: HostRuntime) {
+    assert_same(&rt, weekday(date(1970, 1, 1)), Some(3));
+    assert_same(&rt, weekday(date(2018, 2, 14)), Some(2));
+    assert_same(&rt, weekday(date(1970, 2, 30)), None);
+    assert_same(
+        &rt,
+        days_after(date(2000, 2, 28), 2),
+        Some(date(2000, 3, 1)),
+    );
+    assert_same(&rt, days_after(date(9999, 12, 31), 1), None);
+    assert_same(&rt, days_after(date(1970, 1, 2), u32::MAX), None);
+}
+
+fn date(year: u32, month: u32, day: u32) -> Date {
+    Date { year, month, day }
 }

@@ -28,7 +28,7 @@ const REFUSED: [(&str, Option<usize>, &str); 5] = [
 ];
 
 #[test]
-fn callers_of_laws_of_durations_answer(rt: HostRuntime) {
+fn callers_answer_for_texts_that_are_read(rt: HostRuntime) {
     for (text, secs, canon) in READ {
         let duration = decided(text).ok().expect(&rt, text);
         assert_same(&rt, duration.as_secs(), secs);
@@ -46,6 +46,10 @@ fn callers_of_laws_of_durations_answer(rt: HostRuntime) {
         assert_same(&rt, (is_settled(text), keeps_its_value(text)), (true, true));
         assert_same(&rt, looks_same(duration, StdDuration::from_secs(1)), false);
     }
+}
+
+#[test]
+fn callers_answer_for_texts_that_are_refused(rt: HostRuntime) {
     for (text, at, shown) in REFUSED {
         assert_same(&rt, place(text), at);
         assert_same(
@@ -59,6 +63,10 @@ fn callers_of_laws_of_durations_answer(rt: HostRuntime) {
             assert_same(&rt, string.as_str(), shown);
         }
     }
+}
+
+#[test]
+fn callers_of_laws_of_texts_answer(rt: HostRuntime) {
     assert_same(&rt, needs_no_space("1 2 h 3 0 min", "12h30min"), true);
     assert_same(&rt, adds_up("1h", "30m", "1h30m"), true);
     let sum = sum_of("1h", "30m", "1h30m").ok();
@@ -72,6 +80,10 @@ fn callers_of_laws_of_durations_answer(rt: HostRuntime) {
         is_one_value("1h 30m", 5_400_000_000_000, 5_400_000_000_000),
         true,
     );
+}
+
+#[test]
+fn callers_of_laws_of_counts_and_spans_answer(rt: HostRuntime) {
     let minute = StdDuration::from_secs(60);
     assert_same(&rt, are_small(&[0, 0, 0, 0, 1, 0, 0, 0, 0], minute), true);
     let (item, answer) = first_item_and_answer("  x");

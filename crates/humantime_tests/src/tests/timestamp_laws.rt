@@ -16,7 +16,7 @@ use humantime::{Date, UNIX_EPOCH, format_rfc3339_millis};
 use std::cmp::Ordering;
 
 #[test]
-fn callers_of_laws_of_timestamps_answer(rt: HostRuntime) {
+fn callers_answer_for_both_forms(rt: HostRuntime) {
     let texts = [
         ("1970-01-01T00:00:00.+00:00", true),
         ("2016-12-31T23:59:60Z", true),
@@ -29,6 +29,20 @@ fn callers_of_laws_of_timestamps_answer(rt: HostRuntime) {
         assert_same(&rt, is_read_weakly_too(text), true);
         assert_same(&rt, is_parsed_weakly(text), true);
     }
+    let errors = [
+        Some(InvalidFormat),
+        Some(InvalidFormat),
+        Some(InvalidDigit),
+        Some(OutOfRange),
+        Some(InvalidFormat),
+        Some(InvalidDigit),
+        Some(InvalidFormat),
+    ];
+    assert_same(&rt, first_errors(), errors);
+}
+
+#[test]
+fn callers_answer_for_a_printed_moment(rt: HostRuntime) {
     let text = "2018-02-13T23:08:32.456Z";
     assert_same(&rt, is_one_fraction(text, 3, 3), true);
     assert_same(&rt, fails_no_check(text, None), true);
@@ -46,18 +60,12 @@ fn callers_of_laws_of_timestamps_answer(rt: HostRuntime) {
         order_of_texts(text, first, later, UNIX_EPOCH),
         Ordering::Greater,
     );
-    let errors = [
-        Some(InvalidFormat),
-        Some(InvalidFormat),
-        Some(InvalidDigit),
-        Some(OutOfRange),
-        Some(InvalidFormat),
-        Some(InvalidDigit),
-        Some(InvalidFormat),
-    ];
-    assert_same(&rt, first_errors(), errors);
     assert_same(&rt, has_text(later), true);
     assert_same(&rt, shortest_length(later), Some(30));
+}
+
+#[test]
+fn callers_answer_for_parts_of_moments(rt: HostRuntime) {
     assert_same(
         &rt,
         parts_come_back(-1, 999_999_999),

@@ -1,0 +1,64 @@
+//! Errors in an error of one's own, and in a message.
+
+ghost use Rattle.std.specs.Prelude.{◌≡◌, ◌++◌, ◌+ℤ◌, ◌<ℤ◌, ℕ, ℤ, pos, chars, codes, string_bytes, IfOk, IsOkAnd, SomeIff, Ok, Err};
+ghost use Rattle.humantime.specs.declared.TimestampError.{TimestampError};
+ghost use Rattle.humantime.specs.declared.DurationError.{DurationError};
+ghost use Rattle.humantime.specs.Prelude.{Fault, duration_answer, fault_message, fault_of, moment_end, strict_answer};
+ghost use Rattle.humantime_tests.specs.declared.callers.errors.LineError.TheVariants.{Start, Limit};
+
+use humantime::{DurationError, SystemTime, TimestampError, parse_duration, parse_rfc3339};
+use std::alloc::{AllocError, Global};
+use std::fmt;
+
+/// What is wrong with a start or a time limit.
+#[derive(Clone, Copy, Debug)]
+pub enum LineError<'a> {
+    /// The start is no timestamp.
+    Start(TimestampError),
+    /// The limit is no duration.
+    Limit(DurationError<'a>),
+}
+
+impl fmt::Display for LineError<'_> {
+    fn fmt<W: fmt::Write>(&self, f: &mut fmt::Formatter<W>) -> fmt::Result {
+        match self {
+            LineError::Start(error) => write!(f, "start: {error}"),
+            LineError::Limit(error) => write!(f, "limit: {error}"),
+        }
+    }
+}
+
+impl std::error::Error for LineError<'_> {}
+
+impl From<TimestampError> for LineError<'_> {
+    ghost from_gives = { λ error e. e ≡ Start error };
+
+    fn from(error: TimestampError) -> Self {
+        LineError::Start(error)
+    }
+}
+
+impl<'a> From<DurationError<'a>> for LineError<'a> {
+    ghost from_gives = { λ error e. e ≡ Limit error };
+
+    fn from(error: DurationError<'a>) -> Self {
+        LineError::Limit(error)
+    }
+}
+
+/// Returns the moment a time limit after a start, if there is one.
+pub fn deadline<'a>(start: &str, limit: &'a str) -> Result<Option<SystemTime>, LineError<'a>>
+    ensures end { (t : ℤ) (v : ℕ) → strict_answer start.now ≡ Ok t → duration_answer (chars limit.now) ≡ Ok v → IsOkAnd result (λ end. SomeIff end ((t +ℤ pos v) <ℤ moment_end) (t +ℤ pos v)) }
+    ensures start { (e : TimestampError) → strict_answer start.now ≡ Err e → result ≡ Err (Start e) }
+    ensures limit { (t : ℤ) (e : Fault) → strict_answer start.now ≡ Ok t → duration_answer (chars limit.now) ≡ Err e → (error : DurationError) × (result ≡ Err (Limit error)) × (fault_of error ≡ e) }
+{
+    let start = parse_rfc3339(start)?;
+    Ok(start.checked_add(parse_duration(limit)?))
+}
+
+/// Returns what a user is told of a text that is no duration.
+pub fn message(alloc: Global, text: &str, error: &DurationError<'_>) -> Result<String, AllocError>
+    ensures { IfOk result (λ s. string_bytes s ≡ text.now ++ codes ": " ++ fault_message (fault_of error.now)) }
+{
+    format!(in alloc; "{text}: {error}")
+}
