@@ -2,4 +2,5 @@
 
 pub mod durations;
 pub mod laws;
+pub mod spans;
 pub mod timestamps;
