@@ -8,7 +8,7 @@ pub use Rattle.humantime.specs.Calendar.{IsDate, day_of}
 pub use Rattle.humantime.specs.Laws.Days.{IsDateOfDay}
 -- durations read: the answer as a function of the characters, and the relations that it is tied to
 pub use Rattle.humantime.specs.Durations.Characters.{bare_zero}
-pub use Rattle.humantime.specs.Durations.Errors.{result_view, text_result_view, fault_of, PointsInto, IsPlaceIn, IsPartOf, fault_message, unit_message}
+pub use Rattle.humantime.specs.Durations.Errors.{result_view, text_result_view, fault_of, PointsInto, IsPlaceIn, IsRangeIn, IsPartOf, fault_message, unit_message}
 pub use Rattle.humantime.specs.References.Durations.Answers.{duration_answer, canonical_answer}
 pub use Rattle.humantime.specs.Durations.Accepted.{Accepted, Bare_zero, Sum_of, value, additions, WithinLimits, AllHaveRoom}
 pub use Rattle.humantime.specs.Durations.Spans.{Span, Reads}

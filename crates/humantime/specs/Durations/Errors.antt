@@ -28,10 +28,13 @@ text_result_view r = result_map_both (λ t. t.now) fault_of r
 abbrev pub IsPlaceIn : List ℕ → ℕ → Type 0
 IsPlaceIn bytes at = (at < length bytes) × IsCharBoundary bytes at
 
+-- The offsets are in order and at character boundaries of the text.
+abbrev pub IsRangeIn : List ℕ → ℕ → ℕ → Type 0
+IsRangeIn bytes start end = (start ≤ end) × IsCharBoundary bytes start × IsCharBoundary bytes end
+
 -- The part is the text's slice between two offsets, both at character boundaries.
 abbrev pub IsPartOf : List ℕ → List ℕ → ℕ → ℕ → Type 0
-IsPartOf bytes part start end =
-    (start ≤ end) × IsCharBoundary bytes start × IsCharBoundary bytes end × (part ≡ slice_range bytes start end)
+IsPartOf bytes part start end = IsRangeIn bytes start end × (part ≡ slice_range bytes start end)
 
 -- The error's offset is a character's, its unit the slice between its offsets.
 abbrev pub PointsInto : List ℕ → DurationError → Type 0

@@ -8,7 +8,7 @@ use crate::callers::durations::{
 };
 use crate::callers::errors::{deadline, message};
 use crate::callers::laws::comes_back;
-use crate::callers::spans::split_at_fault;
+use crate::callers::spans::{longest_span, split_at_fault};
 use crate::callers::timestamps::{
     default_start, is_earlier, is_same_moment, is_since, later_than, stamp_of,
 };
@@ -42,6 +42,20 @@ fn callers_answer(rt: HostRuntime) {
     assert_same(&rt, shown_seconds(90, &mut [0; 64]), "1m 30s");
     assert_same(&rt, comes_back(StdDuration::from_secs(9420)), true);
     assert_same(&rt, default_limit(), Some(StdDuration::from_secs(9420)));
+}
+
+#[test]
+fn the_longest_span_is_found(rt: HostRuntime) {
+    assert_same(
+        &rt,
+        longest_span("1h 7 0.50 min\u{3000}12µs").ok(),
+        Some(StdDuration::from_secs(4230)),
+    );
+    assert_same(
+        &rt,
+        longest_span("1h 2 weeks later").err(),
+        Some(DurationError::NumberExpected(11)),
+    );
 }
 
 #[test]

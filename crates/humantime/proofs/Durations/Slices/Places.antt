@@ -4,9 +4,9 @@ use Rattle.std.proofs.Common.{◌≡◌, ◌≢◌, ◌<◌, ◌-◌, ◌++◌, 
 use Rattle.std.proofs.lemmas.Bool.{false≢true}
 use Rattle.std.proofs.lemmas.Str.{chars-nil}
 use Rattle.humantime.specs.Durations.Characters.{offset_of}
-use Rattle.humantime.specs.Durations.Errors.{IsPlaceIn, IsPartOf}
+use Rattle.humantime.specs.Durations.Errors.{IsPlaceIn, IsRangeIn, IsPartOf}
 use Rattle.humantime.specs.References.Durations.Scanning.{IsTail, ends_span}
-use Rattle.humantime.proofs.Durations.Bytes.Tails.{tail_boundary, part_between}
+use Rattle.humantime.proofs.Durations.Bytes.Tails.{tail_boundary, tail_of_tail, part_between}
 
 -- a text that has a character has a byte
 pub some_bytes : (bs : List ℕ) → chars bs ≢ [] → 0 < length bs
@@ -15,6 +15,11 @@ some_bytes bs h = grind (arith, common_steps, chars-nil)
 -- a rest that has a byte begins at a character's offset
 pub rest_place : (text rest : List ℕ) (at : ℕ) → IsTail text rest → at ≡ length text - length rest → 0 < length rest → IsPlaceIn text at
 rest_place text rest at tail is some = grind (arith, common_steps, tail_boundary)
+
+-- a text may be cut where a rest begins and where a rest of that rest does
+pub range_of_rests : (text behind next : List ℕ) (start end : ℕ) → IsTail text behind → IsTail behind next → start ≡ length text - length behind
+    → end ≡ length text - length next → IsRangeIn text start end
+range_of_rests text behind next start end b n s e = grind (arith, common_steps, tail_boundary, (tail_of_tail text behind next b n))
 
 -- what stands between two rests is a part of the text
 pub part_of_rests : (text behind part next : List ℕ) (start end : ℕ) → IsUtf8 text → IsTail text behind → IsTail text next → behind ≡ part ++ next

@@ -1,5 +1,5 @@
 -- What an iterator over spans has left.
-use Rattle.std.specs.Prelude.{◌≡◌, ℕ, ◌==◌, List, [], Option, Result, IfSome, IfErr, length, if◌then◌else◌, chars}
+use Rattle.std.specs.Prelude.{◌≡◌, ℕ, ◌==◌, List, [], Option, Result, IfSome, MatchResult, length, if◌then◌else◌, chars}
 use Rattle.std.specs.Iterator.{YieldsFirstBy}
 use Rattle.humantime.specs.declared.duration.error.DurationError.{DurationError}
 use Rattle.humantime.specs.declared.duration.reading.span.Span.{Span}
@@ -9,7 +9,7 @@ use Rattle.humantime.specs.Durations.Characters.{is_whitespace}
 use Rattle.humantime.specs.Durations.Faults.{Fault}
 use Rattle.humantime.specs.Durations.Items.{SpanView}
 use Rattle.humantime.specs.References.Durations.TextViews.{left_at}
-use Rattle.humantime.specs.Durations.Errors.{PointsInto}
+use Rattle.humantime.specs.Durations.Errors.{IsRangeIn, PointsInto}
 use Rattle.humantime.specs.References.Durations.SpanViews.{item_of}
 
 -- the items to come: none after an error or the end, else those from the offset on that it has reached
@@ -23,9 +23,9 @@ abbrev pub text_of : SpanIter → List ℕ
 text_of i = i.text.now
 
 -- a call gave the first of the items to come and left the others, or nothing where none was to come; the text stayed, and
--- an error points into it
+-- a span lies in it, or an error points into it
 abbrev pub GivesItem : SpanIter → Option (Result Span DurationError) → SpanIter → Type 0
 GivesItem old result new =
     YieldsFirstBy item_of items_left old result new
     × (text_of new ≡ text_of old)
-    × IfSome result (λ item. IfErr item (PointsInto (text_of old)))
+    × IfSome result (λ item. MatchResult item (λ s. IsRangeIn (text_of old) s.start s.end) (PointsInto (text_of old)))

@@ -5,7 +5,7 @@ use Rattle.humantime.specs.declared.duration.reading.span.Span.{Span}
 use Rattle.humantime.specs.Texts.{drop_while}
 use Rattle.humantime.specs.Durations.Characters.{is_whitespace}
 use Rattle.humantime.specs.Durations.Faults.{after_word, Fault}
-use Rattle.humantime.specs.Durations.Errors.{fault_of}
+use Rattle.humantime.specs.Durations.Errors.{IsRangeIn, fault_of}
 use Rattle.humantime.specs.References.Durations.TextViews.{view_at}
 use Rattle.humantime.specs.References.Durations.SpanViews.{span_view}
 use Rattle.humantime.specs.References.Durations.Scanning.{IsTail, ends_span}
@@ -16,12 +16,14 @@ pub record IsBehindWord (after next : List ℕ) : Type 0 where
   pub same : drop_while is_whitespace (chars next) ≡ drop_while is_whitespace (chars after)
   pub tail : IsTail after next
 
--- The span is the one that begins the rest of the text, and next is what follows its word, perhaps without some whitespace.
+-- The span is the one that begins the rest of the text, which may be cut at its offsets, and next is what follows its word,
+-- perhaps without some whitespace.
 pub record IsSpanAt (text rest : List ℕ) (s : Span) (next : List ℕ) : Type 0 where
   pub lent : span_view s ≡ view_at (chars text) (chars rest)
   pub follows : drop_while is_whitespace (chars next) ≡ drop_while is_whitespace (after_word (chars rest))
   pub shorter : length next < length rest
   pub tail : IsTail text next
+  pub place : IsRangeIn text s.start s.end
 
 -- the fault at which a function stopped, if it did
 abbrev pub stop_of : {X : Type 0} → Result X DurationError → Option Fault

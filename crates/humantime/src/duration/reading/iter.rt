@@ -10,8 +10,8 @@ use crate::duration::reading::span::Span;
 
 /// An iterator over the spans of a text, from left to right, and then the fault at which they stop.
 ///
-/// [`spans`](crate::spans) makes it. After an error, and after the end, it returns `None` for good. An error points into
-/// the text, which may be cut at its offsets.
+/// [`spans`](crate::spans) makes it. After an error, and after the end, it returns `None` for good. The text may be cut
+/// at the offsets of a span or an error.
 ///
 /// # Examples
 ///

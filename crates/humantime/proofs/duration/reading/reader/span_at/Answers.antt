@@ -5,7 +5,7 @@ use Rattle.humantime.specs.Durations.Units.{scale_of_word}
 use Rattle.humantime.specs.References.Durations.Scanning.{BeginsWithDigit}
 use Rattle.humantime.proofs.Durations.Reading.Runs.{begins_not_nil}
 use Rattle.humantime.proofs.Durations.Slices.SpanSlices.{next_bytes}
-use Rattle.humantime.proofs.Durations.Slices.Places.{some_bytes, rest_place, part_of_rests, bad_some}
+use Rattle.humantime.proofs.Durations.Slices.Places.{some_bytes, rest_place, range_of_rests, part_of_rests, bad_some}
 use Rattle.humantime.proofs.Durations.Bytes.SpanExits.{are_read, long_number, long_fraction, bare_some, exit_long, exit_no_letter, exit_bare, exit_after, exit_unit, exit_fine, lent_read, spelled_read}
 use Rattle.humantime.proofs.Durations.Bytes.Tails.{byte_length-chars, tail_of_tail}
 use Rattle.humantime.proofs.duration.reading.reader.span_at.Goals as goal
@@ -73,15 +73,16 @@ pub returns-clause-fine : goal.returns-clause-fine
 unfolding BeginsWithDigit
 returns-clause-fine c =
     let p = are_read _ _ _ _ _ _ _ c.in-Some.ensures.value c.in-Some-read_fraction.ensures.value in
-    let behind = tail_of_tail _ _ _ c.requires.tail (tail_of_tail _ _ _ c.in-Some.ensures.tail c.in-Some-read_fraction.ensures.tail) in
-    let left = c.in-Some-behind_word.ensures in
     let word = c.in-Some-read_word.ensures in
+    let behind = tail_of_tail _ _ _ (tail_of_tail _ _ _ c.in-Some.ensures.tail c.in-Some-read_fraction.ensures.tail) word.tail in
+    let left = c.in-Some-behind_word.ensures in
     let after = word.after ∙ ap (drop_while is_letter) p.6 in
     record {
       lent = lent_read _ _ _ _ _ _ _ _ p.2 p.5 (word.letters ∙ ap (take_while is_letter) p.6) c.offset_of-start.ensures.value (c.offset_of-end.ensures.value ∙ ap (offset_of _) after) p.1;
       follows = left.same ∙ ap (drop_while is_whitespace) after;
       shorter = omega (arith, left.tail.shorter, next_bytes _ c.requires.digit, byte_length-chars _ c.utf8.rest, byte_length-chars _ word.tail.utf8, ap byte_length after);
-      tail = tail_of_tail _ _ _ (tail_of_tail _ _ _ behind word.tail) left.tail;
+      tail = tail_of_tail _ _ _ (tail_of_tail _ _ _ c.requires.tail behind) left.tail;
+      place = range_of_rests _ _ _ _ _ c.requires.tail behind c.offset_of-start.ensures.bytes c.offset_of-end.ensures.bytes;
     }
 
 pub invariant_of-result : goal.invariant_of-result

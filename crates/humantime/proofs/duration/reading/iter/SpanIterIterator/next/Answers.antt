@@ -35,7 +35,7 @@ returns-then-not-begins_with_digit-clause-goes c =
     grind (arith, common_steps)
 
 pub returns-in-Ok-clause-steps : goal.returns-in-Ok-clause-steps
-returns-in-Ok-clause-steps c = (grind (arith, common_steps, ne_eqb, step_fine), refl, tt)
+returns-in-Ok-clause-steps c = (grind (arith, common_steps, ne_eqb, step_fine), refl, grind (arith, common_steps))
 
 pub returns-in-Ok-clause-goes : goal.returns-in-Ok-clause-goes
 returns-in-Ok-clause-goes c =
