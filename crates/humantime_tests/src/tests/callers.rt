@@ -8,7 +8,7 @@ use crate::callers::durations::{
 };
 use crate::callers::errors::{deadline, message};
 use crate::callers::laws::comes_back;
-use crate::callers::spans::{longest_span, split_at_fault};
+use crate::callers::spans::longest_span;
 use crate::callers::timestamps::{
     default_start, is_earlier, is_same_moment, is_since, later_than, stamp_of,
 };
@@ -96,20 +96,6 @@ fn callers_of_std_answer(rt: HostRuntime) -> io::Result<()> {
     let now = from_std(time::SystemTime::now(&rt)?).expect(&rt, "no moment");
     assert_same(&rt, UNIX_EPOCH < now, true);
     Ok(())
-}
-
-#[test]
-fn callers_of_spans_answer(rt: HostRuntime) {
-    let rows = [
-        ("2h 37min", "2h 37min", ""),
-        ("2h 37mi", "2h 37", "mi"),
-        ("1,5s", "1", ",5s"),
-        ("2h x", "2h ", "x"),
-        ("", "", ""),
-    ];
-    for (text, before, after) in rows {
-        assert_same(&rt, split_at_fault(text), (before, after));
-    }
 }
 
 #[test]

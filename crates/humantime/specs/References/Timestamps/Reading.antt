@@ -69,7 +69,7 @@ moment_or_error (Some e) t = Err e
 unfoldable pub weak_answer : List ℕ → Result ℤ TimestampError
 weak_answer bytes = moment_or_error (first_failed (weak_checks bytes)) (moment_at bytes)
 
--- what a text in strict form reads as: the moment, or the error of the first check that fails
+-- the same in strict form
 unfoldable pub strict_answer : List ℕ → Result ℤ TimestampError
 strict_answer bytes = moment_or_error (first_failed (strict_checks bytes)) (moment_at bytes)
 
