@@ -35,39 +35,39 @@ unnamed name duration strict weak _ Strict text same = strict (cc)
 unnamed name duration strict weak _ Weak text same = weak (cc)
 
 -- what is told of a moment that was read, as a function
-abbrev moment_told : Result ℤ TimestampError → Result (List ℕ) (List ℕ)
-moment_told read = result_map_both (λ t. unwrap_or (shortest_text t) []) timestamp_message read
+abbrev moment_written : Result ℤ TimestampError → Result (List ℕ) (List ℕ)
+moment_written read = result_map_both (λ t. unwrap_or (shortest_text t) []) timestamp_message read
 
 one_moment : (read : Result ℤ TimestampError) (told : Result (List ℕ) (List ℕ))
-    → TellsMoment (λ t. (read ≡ Ok t) × IsPrintable t) (λ e. read ≡ Err e) told → told ≡ moment_told read
+    → TellsMoment (λ t. (read ≡ Ok t) × IsPrintable t) (λ e. read ≡ Err e) told → told ≡ moment_written read
 one_moment read (Ok printed) (t, (is, within), whole) =
     let shown = ((printed_moment_reads t (places_of t) (places_of_bound t)).displayed printed).1 (within, whole) in
-    ap (λ o. Ok (unwrap_or o [])) (sym shown) ∙ ap moment_told (sym is)
-one_moment read (Err message) (e, is, same) = ap Err same ∙ ap moment_told (sym is)
+    ap (λ o. Ok (unwrap_or o [])) (sym shown) ∙ ap moment_written (sym is)
+one_moment read (Err message) (e, is, same) = ap Err same ∙ ap moment_written (sym is)
 
 -- and of words, by the first byte of their command
-abbrev words_told : List (List ℕ) → Result (List ℕ) (List ℕ)
-words_told ((b ∷ name) ∷ text ∷ words) =
+abbrev words_answer : List (List ℕ) → Result (List ℕ) (List ℕ)
+words_answer ((b ∷ name) ∷ text ∷ words) =
     if b == 100 then result_map_both (λ t. t) fault_message (canonical_answer (chars text))
-    else (if b == 115 then moment_told (strict_answer text) else moment_told (weak_answer text))
-words_told words = Err []
+    else (if b == 115 then moment_written (strict_answer text) else moment_written (weak_answer text))
+words_answer words = Err []
 
-one_told : {name : List ℕ} (command : Command name) (text : List ℕ) (told : Result (List ℕ) (List ℕ)) → Tells command text told → told ≡ words_told (name ∷ text ∷ [])
-one_told Duration text (Ok printed) is = ap (result_map_both (λ t. t) fault_message) (sym (((canonical_again text).text printed).1 is))
-one_told Duration text (Err message) (fault, has, same) =
+one_command_answer : {name : List ℕ} (command : Command name) (text : List ℕ) (told : Result (List ℕ) (List ℕ)) → Tells command text told → told ≡ words_answer (name ∷ text ∷ [])
+one_command_answer Duration text (Ok printed) is = ap (result_map_both (λ t. t) fault_message) (sym (((canonical_again text).text printed).1 is))
+one_command_answer Duration text (Err message) (fault, has, same) =
     ap Err same ∙ ap (result_map_both (λ t. t) fault_message) (sym (((canonical_again text).fault fault).1 has))
-one_told Strict text told tells =
+one_command_answer Strict text told tells =
     let one = one_stamp_outcome text in
     one_moment (strict_answer text) told (tells_moment told (λ t is. ((one.1.value t).1 is, strict_printable text t is)) (λ e. (one.1.error e).1) tells)
-one_told Weak text told tells =
+one_command_answer Weak text told tells =
     let one = one_stamp_outcome text in
     one_moment (weak_answer text) told (tells_moment told (λ t is. ((one.0.value t).1 is, weak_printable text t is)) (λ e. (one.0.error e).1) tells)
 
-told_of : (words : List (List ℕ)) (told : Result (List ℕ) (List ℕ)) → Answers words (Some told) → told ≡ words_told words
-told_of words told (name, command, text, same, tells) = one_told command text told tells ∙ ap words_told (sym same)
+answer_of_words : (words : List (List ℕ)) (told : Result (List ℕ) (List ℕ)) → Answers words (Some told) → told ≡ words_answer words
+answer_of_words words told (name, command, text, same, tells) = one_command_answer command text told tells ∙ ap words_answer (sym same)
 
 pub one_answer : (words : List (List ℕ)) → OneAnswer words
-one_answer words (Some told) (Some other) answers also = ap Some (told_of words other also ∙ sym (told_of words told answers))
+one_answer words (Some told) (Some other) answers also = ap Some (answer_of_words words other also ∙ sym (answer_of_words words told answers))
 one_answer words (Some told) None (name, command, text, same, tells) none = absurd (none name command text same)
 one_answer words None (Some told) none (name, command, text, same, tells) = absurd (none name command text same)
 one_answer words None None none also = refl

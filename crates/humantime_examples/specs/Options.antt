@@ -23,9 +23,9 @@ first_given [] = None
 first_given (word ∷ words) = or_first (given word.now) (first_given words)
 
 -- what is told of an error: the option's text, and its fault
-abbrev pub told_option : Result (Option ℕ) OptionError → Result (Option ℕ) (List ℕ × Fault)
-told_option (Ok timeout) = Ok timeout
-told_option (Err error) = Err (error.text.now, fault_of error.fault)
+abbrev pub option_view : Result (Option ℕ) OptionError → Result (Option ℕ) (List ℕ × Fault)
+option_view (Ok timeout) = Ok timeout
+option_view (Err error) = Err (error.text.now, fault_of error.fault)
 
 -- what a text reads as
 abbrev pub read_answer : List ℕ → Result ℕ Fault → Result (Option ℕ) (List ℕ × Fault)

@@ -71,9 +71,9 @@ pub record Refusal : Type 0 where
   pub at : ℕ
   pub wrong : Wrong
 
-abbrev pub told_line : Result Setting LineError → Result Setting Refusal
-told_line (Ok setting) = Ok setting
-told_line (Err error) = Err (record { key = error.key.now; at = length error.before.now; wrong = wrong_of error.fault })
+abbrev pub line_view : Result Setting LineError → Result Setting Refusal
+line_view (Ok setting) = Ok setting
+line_view (Err error) = Err (record { key = error.key.now; at = length error.before.now; wrong = wrong_of error.fault })
 
 -- the line with this key is refused, for a fault at this byte
 abbrev pub refused : List ℕ → ℕ → Wrong → Result Setting Refusal

@@ -8,7 +8,7 @@
 
 ghost use Rattle.std.specs.Prelude.{◌≡◌};
 ghost use Rattle.std.specs.Option.{option_map};
-ghost use Rattle.humantime_examples.specs.Options.{given, first_given, told_option, option_answer};
+ghost use Rattle.humantime_examples.specs.Options.{given, first_given, option_view, option_answer};
 
 use humantime::{DurationError, StdDuration, parse_duration};
 use std::fmt;
@@ -43,7 +43,7 @@ impl fmt::Display for OptionError<'_> {
 
 /// The duration that the first `--timeout=TEXT` names, if there is one, or what is wrong with it.
 pub fn timeout<'a>(words: &[&'a str]) -> Result<Option<StdDuration>, OptionError<'a>>
-    ensures { told_option result ≡ option_answer (first_given words.now) }
+    ensures { option_view result ≡ option_answer (first_given words.now) }
 {
     let Some(text) = first_text(words) else {
         return Ok(None);

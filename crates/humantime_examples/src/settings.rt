@@ -14,7 +14,7 @@ mod marked;
 ghost use Rattle.std.specs.Prelude.{◌≡◌, ◌↔◌, ◌++◌, chars, drop, length, IfErr, IfSome, IsSome, IsTrue};
 ghost use Rattle.std.specs.Str.{IsCharBoundary};
 ghost use Rattle.humantime.specs.Prelude.{PointsInto, duration_answer, fault_of, strict_answer};
-ghost use Rattle.humantime_examples.specs.Settings.{FaultPointsInto, fault_place, has_value, key_of, line_answer, moved, since_answer, timeout_answer, told_line, value_at, value_of};
+ghost use Rattle.humantime_examples.specs.Settings.{FaultPointsInto, fault_place, has_value, key_of, line_answer, moved, since_answer, timeout_answer, line_view, value_at, value_of};
 
 use humantime::{
     DurationError, StdDuration, SystemTime, TimestampError, parse_duration, parse_rfc3339,
@@ -60,7 +60,7 @@ pub struct LineError<'a> {
 
 /// What the line sets, or what is wrong with it.
 pub fn read_line(line: &str) -> Result<Setting, LineError<'_>>
-    ensures answer { told_line result ≡ line_answer line.now }
+    ensures answer { line_view result ≡ line_answer line.now }
     ensures line { IfErr result (λ error. error.before.now ++ error.after.now ≡ line.now) }
     ensures place { IfErr result (λ error. FaultPointsInto line.now error.fault) }
 {
@@ -101,7 +101,7 @@ fn parts_of(line: &str) -> Option<(&str, usize)>
 /// The duration that begins at a byte of a line, or what is wrong with it.
 fn read_timeout<'a>(line: &'a str, key: &'a str, at: usize) -> Result<Setting, LineError<'a>>
     requires { IsCharBoundary line.now at }
-    ensures answer { told_line result ≡ timeout_answer key.now at (duration_answer (chars (drop at line.now))) }
+    ensures answer { line_view result ≡ timeout_answer key.now at (duration_answer (chars (drop at line.now))) }
     ensures line { IfErr result (λ error. error.before.now ++ error.after.now ≡ line.now) }
     ensures place { IfErr result (λ error. FaultPointsInto line.now error.fault) }
 {
@@ -118,7 +118,7 @@ fn read_timeout<'a>(line: &'a str, key: &'a str, at: usize) -> Result<Setting, L
 /// The moment that begins at a byte of a line, or what is wrong with it.
 fn read_since<'a>(line: &'a str, key: &'a str, at: usize) -> Result<Setting, LineError<'a>>
     requires { IsCharBoundary line.now at }
-    ensures answer { told_line result ≡ since_answer key.now at (strict_answer (drop at line.now)) }
+    ensures answer { line_view result ≡ since_answer key.now at (strict_answer (drop at line.now)) }
     ensures line { IfErr result (λ error. error.before.now ++ error.after.now ≡ line.now) }
     ensures place { IfErr result (λ error. FaultPointsInto line.now error.fault) }
 {

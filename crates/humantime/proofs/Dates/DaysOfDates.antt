@@ -7,7 +7,7 @@ use Rattle.humantime.specs.Calendar.{days_in_month, days_of_years, days_of_month
 use Rattle.humantime.specs.Laws.Days.{IsDateOfDay}
 use Rattle.humantime.specs.Laws.ExactlyOne.{ExactlyOne}
 use Rattle.humantime.specs.References.Calendar.March.{date_of}
-use Rattle.humantime.proofs.Dates.Years.{AreWithin, valid_told, days_of_years_closed, march_days_next, days_of_months_closed}
+use Rattle.humantime.proofs.Dates.Years.{AreWithin, valid_from_test, days_of_years_closed, march_days_next, days_of_months_closed}
 use Rattle.humantime.proofs.Dates.DatesOfDays.{date_of_is}
 
 -- how many days lie between 1970-01-01 and day d of month m of year y
@@ -39,7 +39,7 @@ same_month : (y m d m' d' : ℕ) → AreWithin y m d → AreWithin y m' d' → d
 same_month y m d m' d' valid valid' same = grind (arith, before_month y m d valid m', before_month y m' d' valid' m)
 
 pub same_date : (a b : Date) → IsDate a → IsDate b → day_of a ≡ day_of b → a ≡ b
-same_date a b valid valid' same = grind (arith, common_steps, valid_told, same_year, same_month)
+same_date a b valid valid' same = grind (arith, common_steps, valid_from_test, same_year, same_month)
 
 pub one_date : (day : ℕ) → day ≤ 2_932_896 → ExactlyOne (IsDateOfDay day)
 one_date day few =
@@ -49,5 +49,5 @@ one_date day few =
 -- no date has a later day
 pub day_at_most : (d : Date) → IsDate d → day_of d ≤ 2_932_896
 day_at_most d valid =
-    let within = valid_told d.year d.month d.day valid in
+    let within = valid_from_test d.year d.month d.day valid in
     omega (arith, before_year d.year d.month d.day within 10_000 (omega (arith, within.0.1)), days_of_years_closed 10_000 (omega arith))

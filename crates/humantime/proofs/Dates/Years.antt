@@ -15,8 +15,8 @@ pub within_ranges : (y m n d : ℕ) → IsTrue (is_in_range 1970 9999 y && is_in
     ↔ (IsInRange 1970 9999 y × IsInRange 1 12 m × IsInRange 1 n d)
 within_ranges y m n d = grind (arith, nat_tests)
 
-pub valid_told : (y m d : ℕ) → IsTrue (is_valid y m d) → AreWithin y m d
-valid_told y m d = (within_ranges y m (days_in_month y m) d).0
+pub valid_from_test : (y m d : ℕ) → IsTrue (is_valid y m d) → AreWithin y m d
+valid_from_test y m d = (within_ranges y m (days_in_month y m) d).0
 
 pub days_in_year_bound : (y : ℕ) → days_in_year y ≤ 366
 days_in_year_bound y = grind (arith, nat_tests)

@@ -11,5 +11,5 @@ pub mod SignificantDigits
 pub mod Spelled
 pub mod Spellings
 pub mod Stopping
-pub mod Told
+pub mod Walked
 pub mod Written

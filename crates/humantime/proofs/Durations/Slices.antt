@@ -2,5 +2,5 @@
 pub mod Iterating
 pub mod ItemViews
 pub mod Places
-pub mod SlicesTold
+pub mod SlicesFound
 pub mod SpanSlices

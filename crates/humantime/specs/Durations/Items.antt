@@ -66,10 +66,10 @@ abbrev pub items_of : {A : Type 0} → List A → Option Fault → List (Result 
 items_of found stop = map Ok found ++ option_to_list (option_map Err stop)
 
 -- The items are what each span lends, then the fault, if any.
-pub record AreItems (text : List ℕ) (lent : List (Result SpanView Fault)) : Type 0 where
+pub record AreItems (text : List ℕ) (listed : List (Result SpanView Fault)) : Type 0 where
   pub spans : List Span
   pub stop : Option Fault
   pub slices : List SpanView
   pub items : Items text spans stop
-  pub are : lent ≡ items_of slices stop
+  pub are : listed ≡ items_of slices stop
   pub each : AreSpanViews text (drop_while is_whitespace text) spans slices items.rest

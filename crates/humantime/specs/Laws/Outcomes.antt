@@ -38,7 +38,7 @@ pub record ItemsDecide (text : List ℕ) : Type 0 where
   pub stopped : (spans : List Span) (e : Fault) → Items text spans (Some e) → text ≢ bare_zero
       → WithinLimits spans → HasFault text e
   -- so where an error is the first item, it is the answer
-  pub first : (lent others : List (Result SpanView Fault)) (e : Fault) → AreItems text lent → lent ≡ Err e ∷ others
+  pub first : (listed others : List (Result SpanView Fault)) (e : Fault) → AreItems text listed → listed ≡ Err e ∷ others
       → text ≢ bare_zero → duration_answer text ≡ Err e
   -- and where they aren't within the limits, it is too large, whatever stops them
   pub too_large : (spans : List Span) (stop : Option Fault) → Items text spans stop → text ≢ bare_zero
@@ -49,4 +49,4 @@ pub record HasOneItemList (text : List ℕ) : Type 0 where
   -- it has exactly one list of items with what they lend
   pub one : ExactlyOne (AreItems text)
   -- so two such lists are one
-  pub same : (lent others : List (Result SpanView Fault)) → AreItems text lent → AreItems text others → others ≡ lent
+  pub same : (listed others : List (Result SpanView Fault)) → AreItems text listed → AreItems text others → others ≡ listed

@@ -334,7 +334,7 @@ fn numbers_in(lanes: Lanes) -> Numbers
 
 /// The seconds from 1970 to this date and time, where there are such.
 #[inline(always)]
-#[tactic(auto, using(crate::proofs::Timestamps::Reading::Usual::within_told))]
+#[tactic(auto, using(crate::proofs::Timestamps::Reading::Usual::within_from_test))]
 fn seconds_in(lanes: Lanes) -> Option<u64>
     requires { AreShort lanes }
     ensures value { result ≡ seconds_found (numbers_in lanes) }

@@ -322,7 +322,7 @@ fn date_and_time(moment: SystemTime) -> Option<(Date, u32)>
 /// Writes `YYYY-MM-DDTHH:MM:SS` and a point to the front of the buffer. The signs come with the pattern, and
 /// the digits take the place of its letters.
 #[inline(always)]
-#[tactic(auto, using(crate::proofs::Dates::Years::valid_told))]
+#[tactic(auto, using(crate::proofs::Dates::Years::valid_from_test))]
 fn write_time(date: Date, time: u32, buf: &mut [u8; 30])
     requires date { IsDate date }
     requires time { time < 86_400 }

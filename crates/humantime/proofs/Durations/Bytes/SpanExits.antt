@@ -43,7 +43,7 @@ pub exit_no_letter : (text rest after : List ℕ) (at : ℕ) → too_long (span_
 unfolding stop_at
 exit_no_letter text rest after at s a n p = rw (s, sym a, n, no_letters after n, p) refl
 
--- whether a point without digits stands there, told by the digits that were read
+-- whether a point without digits stands there, seen in the digits that were read
 same_bare : (fraction : Option Fraction) (digits : Option (List ℕ)) → option_map parts_of fraction ≡ option_map counted digits
     → is_some_and (λ ds. length ds == 0) digits ≡ is_some_and (λ f. f.all == 0) fraction
 same_bare fraction digits f = grind (arith, common_steps)
@@ -83,11 +83,11 @@ unfolding stop_at
 exit_fine text rest behind word after fraction u s h w f b a e l k = rw (s, sym h, w, same_bare fraction (fraction_of rest) f ∙ b, sym a, e, sym l, k) refl
 
 -- the slices that were read are those that the span lends
-pub lent_read : (text rest number word : List ℕ) (digits : Option (Bor (List ℕ))) (start end value : ℕ)
+pub view_read : (text rest number word : List ℕ) (digits : Option (Bor (List ℕ))) (start end value : ℕ)
     → number ≡ take_while is_numeric rest → option_map (λ t. chars t.now) digits ≡ option_map (take_while is_numeric) (behind_point (after_number rest))
     → word ≡ word_of rest → start ≡ offset_of text rest → end ≡ offset_of text (after_word rest) → value ≡ decimal_value (number_of rest)
     → record { number = drop_trailing_whitespace number; fraction = option_map (λ t. trimmed (chars t.now)) digits; unit = word; start = start; end = end; value = value } ≡ view_at text rest
-lent_read text rest number word digits start end value n d w p q v = grind (arith, common_steps)
+view_read text rest number word digits start end value n d w p q v = grind (arith, common_steps)
 
 -- the slices that were read spell the span
 pub spelled_read : (rest number letters : List ℕ) (digits : Option (Bor (List ℕ))) → number ≡ take_while is_numeric rest → letters ≡ word_of rest

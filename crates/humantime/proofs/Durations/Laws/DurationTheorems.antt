@@ -15,7 +15,7 @@ use Rattle.humantime.specs.Laws.Printed.{PrintsAndReads, PrintApart, IsBounded, 
 use Rattle.humantime.specs.References.Durations.Answers.{duration_answer, canonical_answer}
 use Rattle.humantime.proofs.Durations.Printing.CanonicalTexts as canonical
 use Rattle.humantime.proofs.Durations.Printing.GreatestCounts as counts
-use Rattle.humantime.proofs.Durations.Slices.ItemViews as lent
+use Rattle.humantime.proofs.Durations.Slices.ItemViews as views
 use Rattle.humantime.proofs.Durations.Reading.Outcomes as outcomes
 use Rattle.humantime.proofs.Durations.Printing.PrintedLengths as lengths
 use Rattle.humantime.proofs.Durations.Printing.PrintedSpans as printed
@@ -37,18 +37,18 @@ spans_decide text = record {
   one = outcomes.one_list_of_items text;
   accepted = outcomes.items_decide_value text;
   stopped = outcomes.items_decide_fault text;
-  first = lent.first_error_answers text;
+  first = views.first_error_answers text;
   too_large = outcomes.items_decide_overflow text;
 }
 
 pub spans_tile : (text : List ℕ) → HasOneItemList text
 spans_tile text =
-    let only = lent.one_span_view text in
-    record { one = (item_views text, lent.are_items text, only); same = λ xs ys a b. only ys b ∙ sym (only xs a) }
+    let only = views.one_span_view text in
+    record { one = (item_views text, views.are_items text, only); same = λ xs ys a b. only ys b ∙ sym (only xs a) }
 
--- What is told as a value was answered as that value.
-pub told_value : (r : Result ℕ DurationError) (v : ℕ) → result_view r ≡ Ok v → r ≡ Ok v
-told_value r v h = grind (arith, common_steps)
+-- What is viewed as a value was answered as that value.
+pub value_of_view : (r : Result ℕ DurationError) (v : ℕ) → result_view r ≡ Ok v → r ≡ Ok v
+value_of_view r v h = grind (arith, common_steps)
 
 -- whether two errors are equal, as `==` says
 abbrev pub error_eq : DurationError → DurationError → Bool

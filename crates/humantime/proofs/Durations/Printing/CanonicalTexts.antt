@@ -13,11 +13,11 @@ use Rattle.humantime.proofs.Durations.Reading.Outcomes.{answer_accepts, answer_f
 pub answer_is_canonical : (s : List ℕ) (r : Result (List ℕ) Fault) → r ≡ canonical_answer (chars s) → (t : List ℕ) → (r ≡ Ok t) ↔ IsCanonicalOf s t
 unfolding canonical_answer
 answer_is_canonical s r e t =
-    let told = answer_accepts (chars s) (duration_answer (chars s)) refl in (
+    let decided = answer_accepts (chars s) (duration_answer (chars s)) refl in (
       λ h.
           let p : (v : ℕ) × (duration_answer (chars s) ≡ Ok v) × (duration_text v ≡ t) = grind (arith, common_steps) in
-          record { duration = p.0; accepted = (told p.0).0 p.1; canon = rw (← p.2) (printed_is_canon p.0) },
-      λ h. rw (canon_is_text h.duration t h.canon) (e ∙ ap printed_answer ((told h.duration).1 h.accepted)),
+          record { duration = p.0; accepted = (decided p.0).0 p.1; canon = rw (← p.2) (printed_is_canon p.0) },
+      λ h. rw (canon_is_text h.duration t h.canon) (e ∙ ap printed_answer ((decided h.duration).1 h.accepted)),
     )
 
 pub answer_is_fault : (s : List ℕ) (r : Result (List ℕ) Fault) → r ≡ canonical_answer (chars s) → (f : Fault) → (r ≡ Err f) ↔ HasFault (chars s) f

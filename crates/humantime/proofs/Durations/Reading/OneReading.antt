@@ -6,7 +6,7 @@ use Rattle.std.proofs.lemmas.Grind.{common_steps}
 use Rattle.humantime.specs.Durations.Faults.{Split}
 use Rattle.humantime.proofs.Durations.Reading.Runs.{begins_not_nil}
 use Rattle.humantime.proofs.Durations.Reading.Written.{spelling_some}
-use Rattle.humantime.proofs.Durations.Reading.Told.{each_starts, first_here, front_begins}
+use Rattle.humantime.proofs.Durations.Reading.Walked.{each_starts, first_here, front_begins}
 
 -- a whole text as a front with nothing behind it
 pub split_whole : (text : List ℕ) (spans : List Span) → SpellsAll text spans → Split text text spans []

@@ -21,10 +21,10 @@ use Rattle.humantime.proofs.Durations.Reading.Written.{formed_here}
 use Rattle.humantime.proofs.Durations.Reading.SpanWalks.{walk-right}
 use Rattle.humantime.proofs.Durations.Reading.Found.{too_large_found}
 use Rattle.humantime.proofs.Durations.Reading.Spellings.{each-append}
-use Rattle.humantime.proofs.Durations.Reading.Told.{first_after, followed_by, front_told, closes_digit}
+use Rattle.humantime.proofs.Durations.Reading.Walked.{first_after, followed_by, front_walked, closes_digit}
 use Rattle.humantime.proofs.Durations.Reading.OneReading.{split_whole, not_zero}
 pub use Rattle.humantime.proofs.Durations.Reading.Found.{items_found}
-pub use Rattle.humantime.proofs.Durations.Reading.Told.{items_told}
+pub use Rattle.humantime.proofs.Durations.Reading.Walked.{items_walked}
 pub use Rattle.humantime.proofs.Durations.Reading.OneReading.{one_reading}
 
 -- the text 0, and every other
@@ -41,7 +41,7 @@ zero_or_not text = grind (arith, common_steps, (bytes_eq-Decides text bare_zero)
 
 -- whatever the items are, they settle the outcome
 outcome_summed : (text : List ℕ) (spans : List Span) (stop : Option Fault) → text ≢ bare_zero → Items text spans stop → duration_answer text ≡ sum_spans 0 (items_of spans stop)
-outcome_summed text spans stop some h = duration_answer-items text some ∙ ap (λ (r : List Span × Option Fault). sum_spans 0 (items_of r.0 r.1)) (items_told text spans stop h)
+outcome_summed text spans stop some h = duration_answer-items text some ∙ ap (λ (r : List Span × Option Fault). sum_spans 0 (items_of r.0 r.1)) (items_walked text spans stop h)
 
 -- a text that is read whole stops nowhere
 pub items_whole : (text : List ℕ) (spans : List Span) → Reads text spans → AllByRecursion Formed spans → Items text spans None
@@ -64,12 +64,12 @@ over_outcome : (text : List ℕ) (e : Fault) (h : HasFault text e) → fault_at 
 over_outcome text e h right beyond =
     let f = fine_at text h.rest right in
     let more = walk_from false text (next_of h.rest) in
-    let told : items text ≡ (h.spans ++ span_of h.rest ∷ map span_of more.starts, more.stop) =
-    front_told text h.front h.rest h.spans h.split h.within.formed (inr (closes_digit h.front h.rest f.starts))
+    let walk : items text ≡ (h.spans ++ span_of h.rest ∷ map span_of more.starts, more.stop) =
+    front_walked text h.front h.rest h.spans h.split h.within.formed (inr (closes_digit h.front h.rest f.starts))
     ∙ ap (followed_by h.spans) (walk-right (first_after true h.spans) text h.rest right) in
-    let all = rw told at (items_found text).formed in
+    let all = rw walk at (items_found text).formed in
     let formed = each-append Formed h.spans (span_of h.rest ∷ []) h.within.formed (formed_here h.rest f, tt) in
-    duration_answer-items text h.not_zero ∙ rw told (too_large _ more.stop all (λ g. beyond (WithinLimits_from _ formed
+    duration_answer-items text h.not_zero ∙ rw walk (too_large _ more.stop all (λ g. beyond (WithinLimits_from _ formed
     (WithinLimitsFrom-front 0 _ (map span_of more.starts) (rw append_assoc (from_WithinLimits _ g))))))
 
 pub outcome_fault : (text : List ℕ) (e : Fault) → HasFault text e → duration_answer text ≡ Err e
@@ -128,4 +128,4 @@ pub one_outcome : (text : List ℕ) → ExactlyOne (IsOutcome text)
 one_outcome text = (duration_answer text, answered_outcome text (duration_answer text) refl, outcome_answered text)
 
 pub one_list_of_items : (text : List ℕ) → ExactlyOne (λ (list : List Span × Option Fault). Items text list.0 list.1)
-one_list_of_items text = (items text, items_found text, λ list h. sym (items_told text list.0 list.1 h))
+one_list_of_items text = (items text, items_found text, λ list h. sym (items_walked text list.0 list.1 h))

@@ -11,10 +11,10 @@ use Rattle.humantime.specs.References.Durations.Answers.{duration_answer}
 use Rattle.humantime.specs.Durations.Items.{SpanView, AreSpanViews, items_of, AreItems}
 use Rattle.humantime.specs.References.Durations.TextViews.{view_at, item_views, span_in, sum_items}
 use Rattle.humantime.proofs.Durations.Reading.Found.{items_found_at}
-use Rattle.humantime.proofs.Durations.Reading.Outcomes.{items_told, duration_answer-items}
+use Rattle.humantime.proofs.Durations.Reading.Outcomes.{items_walked, duration_answer-items}
 use Rattle.humantime.proofs.Durations.Reading.SpanWalks.{Steps, by_walk}
 use Rattle.humantime.proofs.Durations.Reading.Stopping.{fine_at}
-use Rattle.humantime.proofs.Durations.Slices.SlicesTold.{one_each}
+use Rattle.humantime.proofs.Durations.Slices.SlicesFound.{one_each}
 use Rattle.humantime.proofs.Durations.Slices.SpanSlices.{is_span_view}
 use Rattle.humantime.proofs.Durations.Reading.Spelled.{next_of}
 use Rattle.humantime.proofs.Durations.Bytes.Trimming.{spelled_at}
@@ -64,10 +64,10 @@ same_span_view text xs ys a b p q = grind (arith, common_steps, one_each)
 pub one_span_view : (text : List ℕ) (others : List (Result SpanView Fault)) → AreItems text others → others ≡ item_views text
 one_span_view text others o =
     let a = are_items text in
-    grind (arith, (items_told text o.spans o.stop o.items), (items_told text a.spans a.stop a.items), (same_span_view text others _ o a))
+    grind (arith, (items_walked text o.spans o.stop o.items), (items_walked text a.spans a.stop a.items), (same_span_view text others _ o a))
 
 -- an error that is the first item is the answer
-pub first_error_answers : (text : List ℕ) (lent others : List (Result SpanView Fault)) (e : Fault) → AreItems text lent
-    → lent ≡ Err e ∷ others → text ≢ bare_zero → duration_answer text ≡ Err e
+pub first_error_answers : (text : List ℕ) (listed others : List (Result SpanView Fault)) (e : Fault) → AreItems text listed
+    → listed ≡ Err e ∷ others → text ≢ bare_zero → duration_answer text ≡ Err e
 unfolding sum_spans
-first_error_answers text lent others e a first some = sym (sum_items_outcome text some) ∙ ap (sum_items 0) (sym (one_span_view text lent a) ∙ first)
+first_error_answers text listed others e a first some = sym (sum_items_outcome text some) ∙ ap (sum_items 0) (sym (one_span_view text listed a) ∙ first)

@@ -14,52 +14,52 @@ use Rattle.humantime.proofs.Timestamps.Reading.Passed.{weak_fields}
 use Rattle.humantime.proofs.Timestamps.Laws.StrictForm.{strict_is_weak, strict_checked}
 
 -- an answer is a moment exactly where no check failed
-moment_told : (o : Option TimestampError) (n : ℕ) (t : ℤ) → (moment_or_error o n ≡ Ok t) ↔ ((o ≡ None) × (t ≡ pos n))
-moment_told o n t = grind (arith, common_steps)
+or_error_ok : (o : Option TimestampError) (n : ℕ) (t : ℤ) → (moment_or_error o n ≡ Ok t) ↔ ((o ≡ None) × (t ≡ pos n))
+or_error_ok o n t = grind (arith, common_steps)
 
-failed_told : (o : Option TimestampError) (n : ℕ) (e : TimestampError) → (moment_or_error o n ≡ Err e) ↔ (o ≡ Some e)
-failed_told o n e = grind (arith, common_steps)
+or_error_err : (o : Option TimestampError) (n : ℕ) (e : TimestampError) → (moment_or_error o n ≡ Err e) ↔ (o ≡ Some e)
+or_error_err o n e = grind (arith, common_steps)
 
 -- the checks tell which parts are shown: those at their places, where none fails
-abbrev AreTold : List ℕ → List (Bool × TimestampError) → (Fields → Type 0) → Type 0
-AreTold b checks IsShown = (f : Fields) → IsShown f ↔ ((first_failed checks ≡ None) × (f ≡ fields_of b))
+abbrev AreDecided : List ℕ → List (Bool × TimestampError) → (Fields → Type 0) → Type 0
+AreDecided b checks IsShown = (f : Fields) → IsShown f ↔ ((first_failed checks ≡ None) × (f ≡ fields_of b))
 
-weak_told : (b : List ℕ) → AreTold b (weak_checks b) (IsWeak b)
-weak_told b f = (weak_fields b f, λ h. rw h.1 (fields_weak b h.0))
+weak_checks_decide : (b : List ℕ) → AreDecided b (weak_checks b) (IsWeak b)
+weak_checks_decide b f = (weak_fields b f, λ h. rw h.1 (fields_weak b h.0))
 
 passed_first : (t : Bool) (e : TimestampError) (o : Option TimestampError) → ((if t then o else Some e) ≡ None) ↔ ((t ≡ true) × (o ≡ None))
 passed_first t e o = grind (arith, common_steps)
 
-strict_told : (b : List ℕ) → AreTold b (strict_checks b) (IsStrict b)
-strict_told b f =
+strict_checks_decide : (b : List ℕ) → AreDecided b (strict_checks b) (IsStrict b)
+strict_checks_decide b f =
     let first = passed_first (has_marks b) InvalidFormat (first_failed (weak_checks b)) in
     let marked = strict_checked b f in (
-      (λ s. let p = (weak_told b f).0 s.weak in (first.1 ((marked.0 s).0, p.0), p.1)),
-      (λ h. let p = first.0 h.0 in marked.1 (p.0, (weak_told b f).1 (p.1, h.1))),
+      (λ s. let p = (weak_checks_decide b f).0 s.weak in (first.1 ((marked.0 s).0, p.0), p.1)),
+      (λ h. let p = first.0 h.0 in marked.1 (p.0, (weak_checks_decide b f).1 (p.1, h.1))),
     )
 
 -- so the answer by the checks is the one outcome
-told_outcome : (b : List ℕ) (checks : List (Bool × TimestampError)) (IsShown : Fields → Type 0) → AreTold b checks IsShown
+outcome_of_checks : (b : List ℕ) (checks : List (Bool × TimestampError)) (IsShown : Fields → Type 0) → AreDecided b checks IsShown
     → OneTimestamp checks IsShown (moment_or_error (first_failed checks) (moment_at b))
-told_outcome b checks IsShown told =
-    let answer = moment_told (first_failed checks) (moment_at b) in
+outcome_of_checks b checks IsShown decided =
+    let answer = or_error_ok (first_failed checks) (moment_at b) in
     record {
-      some = ((λ m. ((told m.0).0 m.1).0), (λ h. (fields_of b, (told (fields_of b)).1 (h, refl))));
-      only = λ f g v w. ((told f).0 v).1 ∙ sym ((told g).0 w).1;
+      some = ((λ m. ((decided m.0).0 m.1).0), (λ h. (fields_of b, (decided (fields_of b)).1 (h, refl))));
+      only = λ f g v w. ((decided f).0 v).1 ∙ sym ((decided g).0 w).1;
       value = λ t. (
-        (λ h. let a = (answer t).0 h in (fields_of b, (told (fields_of b)).1 (a.0, refl), rw (moment_of_fields b) a.1)),
-        (λ m. let p = (told m.0).0 m.1 in (answer t).1 (p.0, m.2 ∙ ap pos (ap moment_of p.1 ∙ moment_of_fields b))),
+        (λ h. let a = (answer t).0 h in (fields_of b, (decided (fields_of b)).1 (a.0, refl), rw (moment_of_fields b) a.1)),
+        (λ m. let p = (decided m.0).0 m.1 in (answer t).1 (p.0, m.2 ∙ ap pos (ap moment_of p.1 ∙ moment_of_fields b))),
       );
-      error = failed_told (first_failed checks) (moment_at b);
+      error = or_error_err (first_failed checks) (moment_at b);
     }
 
 pub weak_outcome : (b : List ℕ) → OneTimestamp (weak_checks b) (IsWeak b) (weak_answer b)
 unfolding weak_answer
-weak_outcome b = told_outcome b (weak_checks b) (IsWeak b) (weak_told b)
+weak_outcome b = outcome_of_checks b (weak_checks b) (IsWeak b) (weak_checks_decide b)
 
 pub strict_outcome : (b : List ℕ) → OneTimestamp (strict_checks b) (IsStrict b) (strict_answer b)
 unfolding strict_answer
-strict_outcome b = told_outcome b (strict_checks b) (IsStrict b) (strict_told b)
+strict_outcome b = outcome_of_checks b (strict_checks b) (IsStrict b) (strict_checks_decide b)
 
 -- the answer of the strict form, by its own check
 pub strict_by_marks : (b : List ℕ) → (if has_marks b then weak_answer b else Err InvalidFormat) ≡ strict_answer b

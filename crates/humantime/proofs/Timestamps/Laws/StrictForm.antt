@@ -8,24 +8,24 @@ use Rattle.humantime.specs.Laws.Timestamps.{IsMarked}
 use Rattle.humantime.proofs.Timestamps.Reading.Bytes.{holds_before_zone}
 use Rattle.humantime.proofs.Timestamps.Reading.Ends.{IsPlain, plain_bytes, zone_found, some_zone}
 
-letter_told : (s : Separator) → (s ≡ Letter_T) ↔ (separator_byte s ≡ 84)
-letter_told s = grind (arith, common_steps)
+letter_by_byte : (s : Separator) → (s ≡ Letter_T) ↔ (separator_byte s ≡ 84)
+letter_by_byte s = grind (arith, common_steps)
 
-separator_told : (b : List ℕ) (f : Fields) → IsWeak b f → (f.separator ≡ Letter_T) ↔ (slice_index b 10 ≡ 84)
-separator_told b f w = rw w.shown (letter_told f.separator)
+separator_by_byte : (b : List ℕ) (f : Fields) → IsWeak b f → (f.separator ≡ Letter_T) ↔ (slice_index b 10 ≡ 84)
+separator_by_byte b f w = rw w.shown (letter_by_byte f.separator)
 
 zone_there : (z : Zone) → (z ≢ No_zone) ↔ (nat_lt 0 (length (zone_text z)) ≡ true)
 zone_there z = grind (arith, common_steps)
 
-zone_told : (b : List ℕ) (f : Fields) → IsWeak b f → (f.zone ≢ No_zone) ↔ (ends_in_zone b ≡ true)
-zone_told b f w =
+zone_by_end : (b : List ℕ) (f : Fields) → IsWeak b f → (f.zone ≢ No_zone) ↔ (ends_in_zone b ≡ true)
+zone_by_end b f w =
     let found = zone_found (date_time_text f ++ fraction_text f.fraction) f.zone (holds_before_zone IsPlain plain_bytes b f w) in
     rw (← some_zone b, ap zone_of w.shown ∙ found) (zone_there f.zone)
 
 pub strict_is_weak : (b : List ℕ) (f : Fields) → IsStrict b f ↔ (IsWeak b f × IsMarked b)
 strict_is_weak b f = (
-  (λ s. (s.weak, ((separator_told b f s.weak).0 s.separator, (zone_told b f s.weak).0 s.zone))),
-  (λ p. record { weak = p.0; separator = (separator_told b f p.0).1 p.1.0; zone = (zone_told b f p.0).1 p.1.1 }),
+  (λ s. (s.weak, ((separator_by_byte b f s.weak).0 s.separator, (zone_by_end b f s.weak).0 s.zone))),
+  (λ p. record { weak = p.0; separator = (separator_by_byte b f p.0).1 p.1.0; zone = (zone_by_end b f p.0).1 p.1.1 }),
 )
 
 -- the check of the strict form

@@ -16,8 +16,8 @@ use Rattle.humantime.specs.Timestamps.Fields.{Letter_T, Letter_Z, Fields, fields
 use Rattle.humantime.specs.Timestamps.Printed.{IsPrinted}
 use Rattle.humantime.specs.Laws.Timestamps.{InOrder}
 use Rattle.humantime.proofs.Dates.DaysOfDates.{before_year, before_month}
-use Rattle.humantime.proofs.Dates.Years.{valid_told}
-use Rattle.humantime.proofs.Timestamps.Reading.Fractions.{AreDigits, nanos_bound, digits_told}
+use Rattle.humantime.proofs.Dates.Years.{valid_from_test}
+use Rattle.humantime.proofs.Timestamps.Reading.Fractions.{AreDigits, nanos_bound, digits_from_test}
 
 -- what is compared first decides, unless it is equal
 step_cmp : (m n x y : ℕ) (c o : Ordering) → (m < n → x < y) → (n < m → y < x) → (m ≡ n → c ≡ ordering_then (nat_cmp x y) o)
@@ -65,8 +65,8 @@ fraction_cmp k p q h e f g i = grind (arith, common_steps, nanos_cmp)
 day_cmp : (a b : Date) (o : Ordering) → IsDate a → IsDate b
     → then_cmp a.year b.year (then_cmp a.month b.month (then_cmp a.day b.day o)) ≡ then_cmp (day_of a) (day_of b) o
 day_cmp a b o va vb =
-    let left = valid_told a.year a.month a.day va in
-    let right = valid_told b.year b.month b.day vb in
+    let left = valid_from_test a.year a.month a.day va in
+    let right = valid_from_test b.year b.month b.day vb in
     step_cmp a.year b.year (day_of a) (day_of b) _ o
     (λ less. omega (arith, before_year a.year a.month a.day left b.year less)) (λ more. omega (arith, before_year b.year b.month b.day right a.year more)) (λ y.
     step_cmp a.month b.month (day_of a) (day_of b) _ o
@@ -98,10 +98,10 @@ pub stamps_in_order : (a b : ℤ) → InOrder a b
 stamps_in_order a b k x y p q =
     let f = p.fields in
     let g = q.fields in
-    let fraction = fraction_cmp k f.fraction g.fraction p.few p.places q.places (digits_told _ p.weak.fraction) (digits_told _ q.weak.fraction) in
+    let fraction = fraction_cmp k f.fraction g.fraction p.few p.places q.places (digits_from_test _ p.weak.fraction) (digits_from_test _ q.weak.fraction) in
     let clock = day_cmp f.date g.date _ p.weak.date q.weak.date ∙ clock_cmp _ _ _ _ _ _ _ _ _ _
-    p.weak.hour p.weak.minute p.second (nanos_bound _ (digits_told _ p.weak.fraction))
-    q.weak.hour q.weak.minute q.second (nanos_bound _ (digits_told _ q.weak.fraction)) in
+    p.weak.hour p.weak.minute p.second (nanos_bound _ (digits_from_test _ p.weak.fraction))
+    q.weak.hour q.weak.minute q.second (nanos_bound _ (digits_from_test _ q.weak.fraction)) in
     let moments = pos_cmp (moment_of f) (moment_of g) ∙ (λ i. int_cmp (p.moment i) (q.moment i)) in
     (λ i. slice_cmp nat_cmp (shown_marked a k x p i) (shown_marked b k y q i)) ∙ (marked_cmp f g ∙ (rw fraction clock ∙ moments))
 

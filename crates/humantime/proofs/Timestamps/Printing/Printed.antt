@@ -76,14 +76,14 @@ printed_some (pos t) k small h =
     (fields_text (fields_at t k), rw (lt-ltb t year_10000 within) refl, shown_printed (pos t) k _ _ small is)
 
 -- and no other has one
-printable_told : (t : ℤ) (k : ℕ) (text : List ℕ) → moment_text t k ≡ Some text → IsPrintable t
+printable_from_text : (t : ℤ) (k : ℕ) (text : List ℕ) → moment_text t k ≡ Some text → IsPrintable t
 unfolding moment_text
-printable_told t k text h = grind (arith, common_steps, ints)
+printable_from_text t k text h = grind (arith, common_steps, ints)
 
 -- the text that `Display` names is the printed one
 pub text_displayed : (t : ℤ) (k : ℕ) (text : List ℕ) → k ≤ 9 → (moment_text t k ≡ Some text) ↔ (IsPrintable t × IsPrinted t k text)
 text_displayed t k text small = (
-  (λ h. let is = printable_told t k text h in let some = printed_some t k small is in (is, rw (same_Some _ _ (sym h ∙ some.1)) some.2)),
+  (λ h. let is = printable_from_text t k text h in let some = printed_some t k small is in (is, rw (same_Some _ _ (sym h ∙ some.1)) some.2)),
   (λ p. let some = printed_some t k small p.0 in some.1 ∙ ap Some (one_text t k some.0 text some.2 p.1)),
 )
 

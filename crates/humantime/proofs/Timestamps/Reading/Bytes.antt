@@ -3,13 +3,13 @@ use Rattle.std.proofs.lemmas.Grind.{common_steps}
 use Rattle.std.proofs.Common.{ℕ, ◌≤◌, List, [], ◌∷◌, ◌++◌, arith}
 use Rattle.std.specs.Int.{IsInRange}
 use Rattle.std.specs.List.{AllByRecursion}
-use Rattle.humantime.proofs.Timestamps.Reading.Fractions.{AreDigits, digits_told}
+use Rattle.humantime.proofs.Timestamps.Reading.Fractions.{AreDigits, digits_from_test}
 use Rattle.std.specs.Prelude.{Option, IsTrue}
 use Rattle.std.specs.Str.{byte, all_ascii_digits}
 use Rattle.humantime.specs.Timestamps.Fields.{Fields, fraction_text, fraction_digits, date_time_text, IsWeak}
 use Rattle.std.proofs.lemmas.Bool.Decides.{nat_tests}
 use Rattle.humantime.specs.Calendar.{days_in_month}
-use Rattle.humantime.proofs.Dates.Years.{valid_told}
+use Rattle.humantime.proofs.Dates.Years.{valid_from_test}
 
 pub month_most : (y m : ℕ) → days_in_month y m ≤ 31
 month_most y m = grind (arith, nat_tests)
@@ -24,9 +24,9 @@ digits_hold P h (c ∷ cs) digits = (h.0 c digits.0, digits_hold P h cs digits.1
 
 pub holds_of_fraction : (P : ℕ → Type 0) → HoldsOfBytes P → (fraction : Option (List ℕ)) → IsTrue (all_ascii_digits (fraction_digits fraction))
     → AllByRecursion P (fraction_text fraction)
-holds_of_fraction P p fraction h = grind (arith, common_steps, digits_hold, digits_told)
+holds_of_fraction P p fraction h = grind (arith, common_steps, digits_hold, digits_from_test)
 
 -- of all bytes before the zone
 pub holds_before_zone : (P : ℕ → Type 0) → HoldsOfBytes P → (text : List ℕ) (f : Fields) → IsWeak text f
     → AllByRecursion P (date_time_text f ++ fraction_text f.fraction)
-holds_before_zone P p text f w = grind (arith, common_steps, month_most, valid_told, digits_hold, digits_told)
+holds_before_zone P p text f w = grind (arith, common_steps, month_most, valid_from_test, digits_hold, digits_from_test)

@@ -37,18 +37,18 @@ fields_of b = record {
 }
 
 -- the signs in their places
-pub signs_told : (b : List ℕ) → has_punctuation b ≡ true
+pub punctuation_from_test : (b : List ℕ) → has_punctuation b ≡ true
     → (slice_index b 4 ≡ 45) × (slice_index b 7 ≡ 45) × (slice_index b 10 ≡ separator_byte (separator_of b))
     × (slice_index b 13 ≡ 58) × (slice_index b 16 ≡ 58)
 unfolding has_punctuation has_separator
-signs_told b h = grind (arith, common_steps)
+punctuation_from_test b h = grind (arith, common_steps)
 
 -- the pairs of digits in their places
-pub pairs_told : (b : List ℕ) → has_digits b ≡ true
+pub pairs_from_test : (b : List ℕ) → has_digits b ≡ true
     → (has_two b 0 ≡ true) × (has_two b 2 ≡ true) × (has_two b 5 ≡ true) × (has_two b 8 ≡ true)
     × (has_two b 11 ≡ true) × (has_two b 14 ≡ true) × (has_two b 17 ≡ true)
 unfolding has_digits
-pairs_told b h = grind (arith, common_steps, and_parts)
+pairs_from_test b h = grind (arith, common_steps, and_parts)
 
 -- what stands between the seconds and the zone
 pub part_shown : (part : List ℕ) → has_point part ≡ true → part ≡ fraction_text (fraction_of part)

@@ -69,11 +69,11 @@ six : (b : List ℕ) → length b ≡ 6
     → b ≡ get_or b 0 0 ∷ get_or b 1 0 ∷ get_or b 2 0 ∷ get_or b 3 0 ∷ get_or b 4 0 ∷ get_or b 5 0 ∷ []
 six b h = grind (arith, common_steps)
 
--- two bytes are told by their number
+-- two bytes are known by their number
 two_tested : (a b n m : ℕ) → a < 256 → b < 256 → n ≡ a + b * 256 → m ≡ 12_336 → (n == m) ≡ ((a == 48) && ((b == 48) && true))
 two_tested a b n m ha hb e f = grind (arith, nat_tests)
 
-pub offset_told : (b : List ℕ) (n m : ℕ) → length b ≡ 6 → ((k : ℕ) → Fits w8 (get_or b k 0))
+pub offset_from_test : (b : List ℕ) (n m : ℕ) → length b ≡ 6 → ((k : ℕ) → Fits w8 (get_or b k 0))
     → get_or b 0 0 + get_or b 1 0 * 256 + get_or b 2 0 * 65_536 + get_or b 3 0 * 16_777_216 ≡ 976_236_587
     → n ≡ get_or b 4 0 + get_or b 5 0 * 256 → m ≡ 12_336 → (n == m) ≡ bytes_eq b (codes "+00:00")
-offset_told b n m h fits front back known = grind (arith, nat_tests, six, two_tested)
+offset_from_test b n m h fits front back known = grind (arith, nat_tests, six, two_tested)

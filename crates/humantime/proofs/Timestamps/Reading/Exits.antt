@@ -10,7 +10,7 @@ use Rattle.humantime.specs.declared.date.error.TimestampError.TheVariants.{OutOf
 use Rattle.humantime.specs.References.Timestamps.Reading.{fraction_answer, seconds_found, weak_answer}
 use Rattle.humantime.specs.declared.date.parse.Numbers.{Numbers}
 use Rattle.humantime.specs.Timestamps.Checks.{has_separator, has_punctuation, has_digits, numbers_of, before_zone, fraction_part}
-use Rattle.humantime.proofs.Timestamps.Reading.Fractions.{digits_told, nanos_bound}
+use Rattle.humantime.proofs.Timestamps.Reading.Fractions.{digits_from_test, nanos_bound}
 
 pub exit_short : (b : List ℕ) → length b < 19 → weak_answer b ≡ Err InvalidFormat
 unfolding weak_answer
@@ -29,7 +29,7 @@ unfolding weak_answer
 exit_signs b long other = grind (arith, common_steps, nat_tests)
 
 pub fraction_bound : (part : List ℕ) (n : ℕ) → Ok n ≡ fraction_answer part → n < 1_000_000_000
-fraction_bound part n h = grind (arith, common_steps, nanos_bound, digits_told)
+fraction_bound part n h = grind (arith, common_steps, nanos_bound, digits_from_test)
 
 -- the answer where signs and digits are right: from the seconds, where there are such, and the fraction's nanoseconds
 abbrev pub with_seconds : Option ℕ → Result ℕ TimestampError → Result ℤ TimestampError

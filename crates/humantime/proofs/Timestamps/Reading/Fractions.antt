@@ -19,12 +19,12 @@ use Rattle.humantime.specs.Timestamps.Fields.{fraction_nanos}
 abbrev pub AreDigits : List ℕ → Type 0
 AreDigits ds = AllByRecursion (λ c. IsInRange 48 57 c) ds
 
-pub is_digit_told : (c : ℕ) → is_ascii_digit c ≡ true → IsInRange 48 57 c
-is_digit_told c h = grind (arith, nat_tests)
+pub is_digit_from_test : (c : ℕ) → is_ascii_digit c ≡ true → IsInRange 48 57 c
+is_digit_from_test c h = grind (arith, nat_tests)
 
-pub digits_told : (ds : List ℕ) → all_ascii_digits ds ≡ true → AreDigits ds
-digits_told [] h = tt
-digits_told (c ∷ cs) h = grind (arith, common_steps, is_digit_told, digits_told cs)
+pub digits_from_test : (ds : List ℕ) → all_ascii_digits ds ≡ true → AreDigits ds
+digits_from_test [] h = tt
+digits_from_test (c ∷ cs) h = grind (arith, common_steps, is_digit_from_test, digits_from_test cs)
 
 pub digits_from : (ds : List ℕ) → AreDigits ds → all_ascii_digits ds ≡ true
 digits_from [] d = refl

@@ -7,9 +7,9 @@ use lib.Lanes.{zip2, dots}
 use Rattle.humantime.specs.declared.date.parse.Lanes.{Lanes}
 use Rattle.humantime.specs.Timestamps.Checks.{has_two, has_digits, number_between, numbers_of}
 use Rattle.humantime.specs.References.Timestamps.Reading.{numbers_in, AreShort}
-use Rattle.humantime.proofs.Timestamps.Reading.Checks.{pairs_told}
+use Rattle.humantime.proofs.Timestamps.Reading.Checks.{pairs_from_test}
 use Rattle.humantime.proofs.Timestamps.Reading.Lanes.{above, least, least_back}
-use Rattle.humantime.proofs.Timestamps.Reading.Places.{has_two_told, number_of_two, number_of_four}
+use Rattle.humantime.proofs.Timestamps.Reading.Places.{has_two_from_test, number_of_two, number_of_four}
 
 -- the numbers of the bytes from the first on, and from the fourth
 abbrev lanes_of : List ℕ → Lanes
@@ -24,22 +24,22 @@ digit_above : (c : ℕ) → IsInRange 48 57 c → above c 48 ≡ c - 48
 digit_above c h = omega (arith, h)
 
 -- digits at two places, and the number that they show
-pair_told : (b : List ℕ) (k : ℕ) → k + 2 ≤ length b → has_two b k ≡ true
+pair_from_test : (b : List ℕ) (k : ℕ) → k + 2 ≤ length b → has_two b k ≡ true
     → let n = above (slice_index b k) 48 * 10 + above (slice_index b (k + 1)) 48 in (n ≡ number_between b k (k + 2)) × (n ≤ 999)
-pair_told b k long h =
-    let two = has_two_told b k h in
+pair_from_test b k long h =
+    let two = has_two_from_test b k h in
     let number = number_of_two b k long h in
     let first : above (slice_index b k) 48 ≡ slice_index b k - 48 = digit_above _ two.0 in
     let second : above (slice_index b (k + 1)) 48 ≡ slice_index b (k + 1) - 48 = digit_above _ two.1 in
     rw (first, second) (omega arith, omega arith)
 
 -- what four digits show: a tenth, and the last one
-year_told : (b : List ℕ) → 4 ≤ length b → has_two b 0 ≡ true → has_two b 2 ≡ true
+year_from_test : (b : List ℕ) → 4 ≤ length b → has_two b 0 ≡ true → has_two b 2 ≡ true
     → let tenth = above (slice_index b 0) 48 * 100 + above (slice_index b 1) 48 * 10 + above (slice_index b 2) 48 in
     let last = above (slice_index b 3) 48 in (tenth * 10 + last ≡ number_between b 0 4) × (tenth ≤ 999) × (last ≤ 9)
-year_told b long century decade =
-    let front = has_two_told b 0 century in
-    let back = has_two_told b 2 decade in
+year_from_test b long century decade =
+    let front = has_two_from_test b 0 century in
+    let back = has_two_from_test b 2 decade in
     let number = number_of_four b long century decade in
     let first : above (slice_index b 0) 48 ≡ slice_index b 0 - 48 = digit_above _ front.0 in
     let second : above (slice_index b 1) 48 ≡ slice_index b 1 - 48 = digit_above _ front.1 in
@@ -68,13 +68,13 @@ all_of_four a b c d ha hb hc hd = grind (arith, common_steps)
 pub numbers_shown : (b : List ℕ) → 19 ≤ length b → has_digits b ≡ true
     → (numbers_in (lanes_of b) ≡ numbers_of b) × AreShort (lanes_of b)
 numbers_shown b long digits =
-    let pairs = pairs_told b digits in
-    let year = year_told b (omega arith) pairs.0 pairs.1 in
-    let month = pair_told b 5 (omega arith) pairs.2 in
-    let day = pair_told b 8 (omega arith) pairs.3 in
-    let hour = pair_told b 11 (omega arith) pairs.4 in
-    let minute = pair_told b 14 (omega arith) pairs.5 in
-    let second = pair_told b 17 (omega arith) pairs.6 in
+    let pairs = pairs_from_test b digits in
+    let year = year_from_test b (omega arith) pairs.0 pairs.1 in
+    let month = pair_from_test b 5 (omega arith) pairs.2 in
+    let day = pair_from_test b 8 (omega arith) pairs.3 in
+    let hour = pair_from_test b 11 (omega arith) pairs.4 in
+    let minute = pair_from_test b 14 (omega arith) pairs.5 in
+    let second = pair_from_test b 17 (omega arith) pairs.6 in
     subst (λ (l : Lanes). (numbers_in l ≡ numbers_of b) × AreShort l) (sym (lanes_placed b long)) (
       (λ i. record {
         date = record { year = year.0 i; month = month.0 i; day = day.0 i };

@@ -5,7 +5,7 @@ use Rattle.std.specs.Prelude.{true, slice_index, Option, None}
 use Rattle.std.proofs.lemmas.Bool.{le-leb}
 use Rattle.humantime.specs.Timestamps.Fields.{Fields, fraction_text, fraction_digits, fields_text, IsWeak}
 use Rattle.humantime.specs.Timestamps.Checks.{has_two, has_digits, number_between, numbers_of, has_separator, has_punctuation, are_in_range, fraction_part, has_point, weak_checks, first_failed}
-use Rattle.humantime.proofs.Dates.Years.{valid_told}
+use Rattle.humantime.proofs.Dates.Years.{valid_from_test}
 use Rattle.humantime.proofs.Timestamps.Reading.Bytes.{month_most, holds_of_fraction}
 use Rattle.humantime.proofs.Timestamps.Reading.Checks.{separator_of, fraction_of, fields_of}
 use Rattle.humantime.proofs.Timestamps.Reading.Ends.{IsPlain, plain_bytes, before_zone_found, zone_found}
@@ -40,7 +40,7 @@ written_passes f w =
     let b = fields_text f in
     let long : 19 ≤ length b = omega arith in
     let most = month_most f.date.year f.date.month in
-    let within = valid_told f.date.year f.date.month f.date.day w.date in
+    let within = valid_from_test f.date.year f.date.month f.date.day w.date in
     let year = year_back b f.date.year (omega (arith, long)) within.0.1 refl refl refl refl in
     let month = two_back b 5 f.date.month (omega (arith, long)) refl refl (omega (arith, within.1.1)) in
     let day = two_back b 8 f.date.day (omega (arith, long)) refl refl (omega (arith, within.2.1, most)) in

@@ -7,12 +7,12 @@ use Rattle.std.proofs.Math.Seq.{drop-cons}
 use Rattle.std.proofs.lemmas.Bool.Decides.{nat_tests}
 use Rattle.std.proofs.lemmas.Str.{digit_value_digit}
 use Rattle.humantime.specs.Timestamps.Checks.{has_two, number_between}
-use Rattle.humantime.proofs.Timestamps.Reading.Fractions.{is_digit_told}
+use Rattle.humantime.proofs.Timestamps.Reading.Fractions.{is_digit_from_test}
 
 -- the two digits at place k
-pub has_two_told : (b : List ℕ) (k : ℕ) → has_two b k ≡ true → IsInRange 48 57 (slice_index b k) × IsInRange 48 57 (slice_index b (k + 1))
+pub has_two_from_test : (b : List ℕ) (k : ℕ) → has_two b k ≡ true → IsInRange 48 57 (slice_index b k) × IsInRange 48 57 (slice_index b (k + 1))
 unfolding has_two
-has_two_told b k h = grind (arith, common_steps, is_digit_told)
+has_two_from_test b k h = grind (arith, common_steps, is_digit_from_test)
 
 -- the bytes from one place on, one after the other
 pub next_byte : (b : List ℕ) (k to : ℕ) → k < to → to ≤ length b → slice_range b k to ≡ slice_index b k ∷ slice_range b (k + 1) to
@@ -30,14 +30,14 @@ pub number_of_two : (b : List ℕ) (k : ℕ) → k + 2 ≤ length b → has_two 
     → number_between b k (k + 2) ≡ (slice_index b k - 48) * 10 + (slice_index b (k + 1) - 48)
 unfolding number_between
 number_of_two b k long h =
-    rw (last_two b k (k + 2) refl long) (grind (arith, common_steps, has_two_told, digit_value_digit))
+    rw (last_two b k (k + 2) refl long) (grind (arith, common_steps, has_two_from_test, digit_value_digit))
 
 pub number_of_four : (b : List ℕ) → 4 ≤ length b → has_two b 0 ≡ true → has_two b 2 ≡ true
     → number_between b 0 4 ≡ (slice_index b 0 - 48) * 1000 + (slice_index b 1 - 48) * 100 + (slice_index b 2 - 48) * 10 + (slice_index b 3 - 48)
 unfolding number_between
 number_of_four b long century decade =
     rw (next_byte b 0 4 (omega arith) long, next_byte b 1 4 (omega arith) long, last_two b 2 4 refl long)
-    (grind (arith, common_steps, has_two_told, digit_value_digit))
+    (grind (arith, common_steps, has_two_from_test, digit_value_digit))
 
 -- the tests of a date and a time of day
 pub bounds : (date : Bool) (h i s : ℕ)

@@ -4,25 +4,25 @@ use Rattle.std.proofs.Common.{◌≡◌, ℕ, ◌+◌, ◌/◌, ◌%◌, ◌≤�
 use Rattle.std.specs.Prelude.{true, slice_index, None}
 use Rattle.humantime.specs.Timestamps.Fields.{fraction_text, zone_text, fields_text, IsWeak}
 use Rattle.humantime.specs.Timestamps.Checks.{has_two, zone_of, number_between, are_in_range, fraction_part, weak_checks, first_failed}
-use Rattle.humantime.proofs.Timestamps.Reading.Checks.{all_passed, fraction_of, fields_of, signs_told, pairs_told, part_shown, part_digits, nineteen}
+use Rattle.humantime.proofs.Timestamps.Reading.Checks.{all_passed, fraction_of, fields_of, punctuation_from_test, pairs_from_test, part_shown, part_digits, nineteen}
 use Rattle.humantime.proofs.Timestamps.Reading.Ends.{zone_shown}
-use Rattle.humantime.proofs.Timestamps.Reading.Places.{has_two_told, number_of_two, number_of_four, bounds}
+use Rattle.humantime.proofs.Timestamps.Reading.Places.{has_two_from_test, number_of_two, number_of_four, bounds}
 
 pair_shown : (b : List ℕ) (k : ℕ) → k + 2 ≤ length b → has_two b k ≡ true
     → (slice_index b k ≡ 48 + number_between b k (k + 2) / 10) × (slice_index b (k + 1) ≡ 48 + number_between b k (k + 2) % 10)
-pair_shown b k long h = grind (arith, common_steps, has_two_told, number_of_two)
+pair_shown b k long h = grind (arith, common_steps, has_two_from_test, number_of_two)
 
 year_shown : (b : List ℕ) → 4 ≤ length b → has_two b 0 ≡ true → has_two b 2 ≡ true
     → (slice_index b 0 ≡ 48 + number_between b 0 4 / 1000) × (slice_index b 1 ≡ 48 + number_between b 0 4 / 100 % 10)
     × (slice_index b 2 ≡ 48 + number_between b 0 4 / 10 % 10) × (slice_index b 3 ≡ 48 + number_between b 0 4 % 10)
-year_shown b long century decade = grind (arith, common_steps, has_two_told, number_of_four)
+year_shown b long century decade = grind (arith, common_steps, has_two_from_test, number_of_four)
 
 written_shown : (b : List ℕ) → first_failed (weak_checks b) ≡ None → b ≡ fields_text (fields_of b)
 written_shown b passed =
     let p = all_passed b passed in
     let long = p.0 in
-    let signs = signs_told b p.1 in
-    let pairs = pairs_told b p.2 in
+    let signs = punctuation_from_test b p.1 in
+    let pairs = pairs_from_test b p.2 in
     let year = year_shown b (omega arith) pairs.0 pairs.1 in
     let month = pair_shown b 5 (omega arith) pairs.2 in
     let day = pair_shown b 8 (omega arith) pairs.3 in

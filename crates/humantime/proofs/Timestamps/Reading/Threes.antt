@@ -15,7 +15,7 @@ use Rattle.humantime.specs.Texts.{decimal_value}
 use Rattle.humantime.specs.Timestamps.Fields.{fraction_nanos, zone_text}
 use Rattle.humantime.specs.Timestamps.Checks.{zone_of, fraction_part}
 use Rattle.humantime.specs.References.Timestamps.Reading.{in_threes}
-use Rattle.humantime.proofs.Timestamps.Reading.Fractions.{AreDigits, add_digits, digits_append, digits_told, nanos_added}
+use Rattle.humantime.proofs.Timestamps.Reading.Fractions.{AreDigits, add_digits, digits_append, digits_from_test, nanos_added}
 use Rattle.humantime.proofs.Timestamps.Reading.Lanes.{above, digit_near}
 
 -- ---- The table of places
@@ -171,7 +171,7 @@ pub last_value : (bytes : List ℕ) (n : ℕ) → length bytes ≡ 16 → n ≤ 
     → threes_sum (in_threes (numbers bytes n)) ≡ fraction_nanos (drop (16 - n) bytes)
 last_value bytes n long few digits =
     let ds = drop (16 - n) bytes in
-    let each = digits_told ds digits in
+    let each = digits_from_test ds digits in
     let size : length (values ds) ≤ 9 = omega (arith, length-map ds (λ d. d - 48), length-drop (16 - n) bytes) in
     ap (λ (ns : List ℕ). threes_sum (in_threes ns)) (last_above bytes n long ∙ digits_above ds each)
     ∙ summed (values ds) (low_values ds each) ∙ linear_added (values ds) size ∙ values_added ds 0 100_000_000 ∙ sym (nanos_added ds each)

@@ -10,7 +10,7 @@ use Rattle.humantime.specs.declared.date.parse.Numbers.{Numbers}
 use Rattle.humantime.specs.declared.date.parse.Lanes.{Lanes}
 use Rattle.humantime.specs.Timestamps.Checks.{are_in_range}
 use Rattle.humantime.specs.References.Timestamps.Reading.{numbers_in, AreShort, AreWithin}
-use Rattle.humantime.proofs.Dates.Years.{valid_told, within_ranges}
+use Rattle.humantime.proofs.Dates.Years.{valid_from_test, within_ranges}
 use Rattle.humantime.proofs.Timestamps.Reading.Bytes.{month_most}
 use Rattle.humantime.proofs.Timestamps.Reading.Places.{bounds}
 
@@ -32,9 +32,9 @@ abbrev pub NoneBeyond : List ℕ → List ℕ → Type 0
 NoneBeyond front back =
     (list_all not (zip2 ltb (802 ∷ 11 ∷ 30 ∷ 59 ∷ []) (after front)) ≡ true) × (list_all not (zip2 ltb (9 ∷ 0 ∷ 23 ∷ 60 ∷ []) back) ≡ true)
 
-sum_told : (a m d i e z h s : ℕ) → IsInRange 1 31 d → i ≤ 59 → h ≤ 23 → s ≤ 60
+sum_from_test : (a m d i e z h s : ℕ) → IsInRange 1 31 d → i ≤ 59 → h ≤ 23 → s ≤ 60
     → sum_of (a ∷ m ∷ d ∷ i ∷ []) (e ∷ z ∷ h ∷ s ∷ []) + 86_400 ≡ d * 86_400 + h * 3_600 + i * 60 + min s 59
-sum_told a m d i e z h s day minute hour second = grind (arith, nat_tests)
+sum_from_test a m d i e z h s day minute hour second = grind (arith, nat_tests)
 
 pub days_at_least : (y m : ℕ) → 28 ≤ days_in_month y m
 days_at_least y m = grind (arith, nat_tests)
@@ -77,25 +77,25 @@ in_range x within day =
     (bounds _ x.hour x.minute x.second).1 (valid, within.3, within.4, within.5)
 
 -- the ranges of numbers that are in range
-pub within_told : (x : Numbers) → are_in_range x ≡ true → AreWithin x
+pub within_from_test : (x : Numbers) → are_in_range x ≡ true → AreWithin x
 unfolding are_in_range
-within_told x range =
+within_from_test x range =
     let parts = (bounds _ x.hour x.minute x.second).0 range in
-    let valid = valid_told x.date.year x.date.month x.date.day parts.0 in
+    let valid = valid_from_test x.date.year x.date.month x.date.day parts.0 in
     (valid.0, valid.1, (valid.2.0, omega (arith, valid.2.1, month_most x.date.year x.date.month)), parts.1, parts.2, parts.3)
 
-pub day_told : (x : Numbers) → are_in_range x ≡ true → x.date.day ≤ days_in_month x.date.year x.date.month
+pub day_from_test : (x : Numbers) → are_in_range x ≡ true → x.date.day ≤ days_in_month x.date.year x.date.month
 unfolding are_in_range
-day_told x range = (valid_told x.date.year x.date.month x.date.day ((bounds _ x.hour x.minute x.second).0 range).0).2.1
+day_from_test x range = (valid_from_test x.date.year x.date.month x.date.day ((bounds _ x.hour x.minute x.second).0 range).0).2.1
 
 pub month_summed : (front back : List ℕ) → let l : Lanes = record { front = front; back = back } in let x = numbers_in l in
     AreShort l → are_in_range x ≡ true → sum_of front back + 86_400 ≡ x.date.day * 86_400 + x.hour * 3_600 + x.minute * 60 + min x.second 59
 month_summed (a ∷ m ∷ d ∷ i ∷ []) (e ∷ z ∷ h ∷ s ∷ []) short range =
     let x : Numbers = numbers_in (record { front = a ∷ m ∷ d ∷ i ∷ []; back = e ∷ z ∷ h ∷ s ∷ [] }) in
-    let within = within_told x range in
+    let within = within_from_test x range in
     let day : IsInRange 1 31 d = within.2 in
     let hour : h ≤ 23 = within.3 in
     let minute : i ≤ 59 = within.4 in
     let second : s ≤ 60 = within.5 in
-    sum_told a m d i e z h s day minute hour second
+    sum_from_test a m d i e z h s day minute hour second
 month_summed _ _ short range = absurd (omega (arith, short.0.0, short.1.0))

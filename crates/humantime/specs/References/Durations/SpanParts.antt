@@ -19,7 +19,7 @@ pub record IsBehindWord (after next : List ℕ) : Type 0 where
 -- The span is the one that begins the rest of the text, which may be cut at its offsets, and next is what follows its word,
 -- perhaps without some whitespace.
 pub record IsSpanAt (text rest : List ℕ) (s : Span) (next : List ℕ) : Type 0 where
-  pub lent : span_view s ≡ view_at (chars text) (chars rest)
+  pub view : span_view s ≡ view_at (chars text) (chars rest)
   pub follows : drop_while is_whitespace (chars next) ≡ drop_while is_whitespace (after_word (chars rest))
   pub shorter : length next < length rest
   pub tail : IsTail text next

@@ -213,7 +213,7 @@ pub(crate) fn read_fraction<'a>(
 pub(crate) struct Word<'a> {
     pub letters: &'a str,
     pub key: u64,
-    ghost told: { scale_of_key key ≡ scale_of_word (chars letters.now) },
+    ghost scale: { scale_of_key key ≡ scale_of_word (chars letters.now) },
 }
 
 /// The place after the letters at the front of the text, and the key of the bytes before it, where they are few.

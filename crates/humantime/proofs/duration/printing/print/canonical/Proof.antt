@@ -118,9 +118,9 @@ canonical_spec {M} 𝓤 𝓛 𝓜 𝓡 wired =
     suffices ! _ (ends_at 𝓛 f.ended stayed c ((κs, qs, bounds, a, (text_vals x, (vs, tt))), tt) w t (tt, (tt, tt)) (tt, (tt, tt))) $
     nothing ! $ nothing ! $ fjoin ! $ nothing ! $ fjoin ! $ move ! (0 ∷ 3 ∷ []) $ join ! $
     nothing ! $ move ! (3 ∷ 0 ∷ []) $ join ! $ move ! (2 ∷ 0 ∷ []) $ join ! $ join ! $ frame ! $
-    let told = answer_shown t m (λ n. take n y) _ shown error answer in
-    use0 𝓛 (raw (fact 𝓤 ((u : List ℕ) → (text_result_view t ≡ Ok u) ↔ IsCanonicalOf x.now u))) (fact_i 𝓤 _ (emp 𝓤) (answer_is_canonical x.now _ told)) $ frame ! $
-    use0 𝓛 (raw (fact 𝓤 ((e : Fault) → (text_result_view t ≡ Err e) ↔ HasFault (chars x.now) e))) (fact_i 𝓤 _ (emp 𝓤) (answer_is_fault x.now _ told)) $ frame ! $
-    use0 𝓛 (raw (fact 𝓤 (text_result_view t ≡ canonical_answer (chars x.now)))) (fact_i 𝓤 _ (emp 𝓤) told) $ frame ! $
+    let answered = answer_shown t m (λ n. take n y) _ shown error answer in
+    use0 𝓛 (raw (fact 𝓤 ((u : List ℕ) → (text_result_view t ≡ Ok u) ↔ IsCanonicalOf x.now u))) (fact_i 𝓤 _ (emp 𝓤) (answer_is_canonical x.now _ answered)) $ frame ! $
+    use0 𝓛 (raw (fact 𝓤 ((e : Fault) → (text_result_view t ≡ Err e) ↔ HasFault (chars x.now) e))) (fact_i 𝓤 _ (emp 𝓤) (answer_is_fault x.now _ answered)) $ frame ! $
+    use0 𝓛 (raw (fact 𝓤 (text_result_view t ≡ canonical_answer (chars x.now)))) (fact_i 𝓤 _ (emp 𝓤) answered) $ frame ! $
     use0 𝓛 (raw (fact 𝓤 (IfErr t (PointsInto x.now)))) (fact_i 𝓤 _ (emp 𝓤) (error_shown t m (λ n. take n y) _ shown error place)) $ frame ! $
     by ! (holds 𝓛 64 r y (λ last. OnErr t (last ≡ r.now)) (err_shown t m (λ n. take n y) _ shown error same))))))))))))))))))))))

@@ -6,7 +6,7 @@ use Rattle.humantime.specs.References.Durations.Scanning.{BeginsWithDigit}
 use Rattle.humantime.proofs.Durations.Reading.Runs.{begins_not_nil}
 use Rattle.humantime.proofs.Durations.Slices.SpanSlices.{next_bytes}
 use Rattle.humantime.proofs.Durations.Slices.Places.{some_bytes, rest_place, range_of_rests, part_of_rests, bad_some}
-use Rattle.humantime.proofs.Durations.Bytes.SpanExits.{are_read, long_number, long_fraction, bare_some, exit_long, exit_no_letter, exit_bare, exit_after, exit_unit, exit_fine, lent_read, spelled_read}
+use Rattle.humantime.proofs.Durations.Bytes.SpanExits.{are_read, long_number, long_fraction, bare_some, exit_long, exit_no_letter, exit_bare, exit_after, exit_unit, exit_fine, view_read, spelled_read}
 use Rattle.humantime.proofs.Durations.Bytes.Tails.{byte_length-chars, tail_of_tail}
 use Rattle.humantime.proofs.duration.reading.reader.span_at.Goals as goal
 
@@ -54,7 +54,7 @@ returns-in_default-unit_of-clause-stop c =
     let p = are_read _ _ _ _ _ _ _ c.in-Some.ensures.value c.in-Some-read_fraction.ensures.value in
     let word = c.in-Some-read_word.ensures in
     exit_unit _ _ _ _ _ _ _ _ _ p.0 p.6 word.begun p.4 (sym c.has_no_digits-bare.ensures ∙ c.if-bare.false) word.after c.in-Some-behind_word.ensures.ends
-    word.utf8 word.letters (sym (c.in_default-unit_of.ensures ∙ c.in-Some-read_word.word.told)) c.offset_of-in_default-unit_of.ensures.value c.offset_of-end.ensures.value p.1
+    word.utf8 word.letters (sym (c.in_default-unit_of.ensures ∙ c.in-Some-read_word.word.scale)) c.offset_of-in_default-unit_of.ensures.value c.offset_of-end.ensures.value p.1
 
 pub returns-in_default-unit_of-clause-place : goal.returns-in_default-unit_of-clause-place
 returns-in_default-unit_of-clause-place c =
@@ -67,7 +67,7 @@ returns-clause-stop c =
     let p = are_read _ _ _ _ _ _ _ c.in-Some.ensures.value c.in-Some-read_fraction.ensures.value in
     let word = c.in-Some-read_word.ensures in
     exit_fine _ _ _ _ _ _ _ p.0 p.6 word.begun p.4 (sym c.has_no_digits-bare.ensures ∙ c.if-bare.false) word.after c.in-Some-behind_word.ensures.ends
-    word.letters (sym (c.in-Some-unit_of.ensures ∙ c.in-Some-read_word.word.told))
+    word.letters (sym (c.in-Some-unit_of.ensures ∙ c.in-Some-read_word.word.scale))
 
 pub returns-clause-fine : goal.returns-clause-fine
 unfolding BeginsWithDigit
@@ -78,7 +78,7 @@ returns-clause-fine c =
     let left = c.in-Some-behind_word.ensures in
     let after = word.after ∙ ap (drop_while is_letter) p.6 in
     record {
-      lent = lent_read _ _ _ _ _ _ _ _ p.2 p.5 (word.letters ∙ ap (take_while is_letter) p.6) c.offset_of-start.ensures.value (c.offset_of-end.ensures.value ∙ ap (offset_of _) after) p.1;
+      view = view_read _ _ _ _ _ _ _ _ p.2 p.5 (word.letters ∙ ap (take_while is_letter) p.6) c.offset_of-start.ensures.value (c.offset_of-end.ensures.value ∙ ap (offset_of _) after) p.1;
       follows = left.same ∙ ap (drop_while is_whitespace) after;
       shorter = omega (arith, left.tail.shorter, next_bytes _ c.requires.digit, byte_length-chars _ c.utf8.rest, byte_length-chars _ word.tail.utf8, ap byte_length after);
       tail = tail_of_tail _ _ _ (tail_of_tail _ _ _ c.requires.tail behind) left.tail;
@@ -91,7 +91,7 @@ invariant_of-result c =
     let letters = c.in-Some-read_word.ensures.letters ∙ ap (take_while is_letter) p.6 in
     record {
       read = rw (spelled_read _ _ _ c.in-Some-read_fraction.digits p.2 letters p.5)
-          (record { unit = sym (c.in-Some-unit_of.ensures ∙ c.in-Some-read_word.word.told ∙ ap scale_of_word letters); value = p.1; fraction = p.4 });
+          (record { unit = sym (c.in-Some-unit_of.ensures ∙ c.in-Some-read_word.word.scale ∙ ap scale_of_word letters); value = p.1; fraction = p.4 });
     }
 
 pub offset_of-requires : goal.offset_of-requires

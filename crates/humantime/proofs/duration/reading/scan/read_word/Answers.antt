@@ -20,7 +20,7 @@ invariant_of-result c =
       | else-end-gt-MOST_BYTES w ↦ w.key-is ∙ key_short text end c.letters_end-end.result.1 within w.if-end-gt-MOST_BYTES.false c.letters_end-end.ensures.key
     ] in
     let bytes : HasBytes letters = rw front (front_bytes text end (λ k. (c.type_inv.text k).fits)) in
-    record { told = ap scale_of_key (made ∙ ap key (sym front)) ∙ scale_by_key letters c.range-letters.utf8 bytes }
+    record { scale = ap scale_of_key (made ∙ ap key (sym front)) ∙ scale_by_key letters c.range-letters.utf8 bytes }
 
 pub returns-then-not-is_empty : goal.returns-then-not-is_empty
 returns-then-not-is_empty c = no_word _ _ c.utf8.text c.letters_end-end.ensures.place c.letters_end-end.ensures.rest c.if-end-eq0.true (grind (arith, common_steps))

@@ -1,4 +1,4 @@
--- What a span lends of the text is told by the text and the span.
+-- What a span lends of the text is found in the text, once its span is known.
 use Rattle.std.proofs.Common.{arith, ◌≡◌, ℕ, Bool, true, ◌&&◌, cond, eqb, List, [], ◌∷◌, ◌++◌, length, Option, Some, refl, sym, ap, ap₂, subst, ◌∙◌}
 use Rattle.std.proofs.Math.Bool.{and-false}
 use Rattle.std.proofs.lemmas.Grind.{common_steps}
@@ -29,26 +29,26 @@ drop_tail (x ∷ y ∷ xs) tail o e = rw (drop_tail (y ∷ xs) tail o e, suc_not
 trimmed_is : (text slice : List ℕ) → IsDigitSlice text slice → trimmed text ≡ slice
 trimmed_is text slice h = grind (arith, common_steps, digit_not_whitespace, drop_while-append, drop_tail)
 
-fraction_told : (b tail : List ℕ) (o f : Option (List ℕ)) → SpellsFraction b o → IsFractionView b f → begins is_letter tail ≡ true → f ≡ fraction_slice (b ++ tail)
-fraction_told b tail (Some ds) (Some slice) h k e =
+fraction_found : (b tail : List ℕ) (o f : Option (List ℕ)) → SpellsFraction b o → IsFractionView b f → begins is_letter tail ≡ true → f ≡ fraction_slice (b ++ tail)
+fraction_found b tail (Some ds) (Some slice) h k e =
     let same : h.0 ≡ k.0 = cc in
     grind (arith, common_steps, (slice_behind_point h.0 tail h.2.0 e), (trimmed_is k.0 slice k.2), same)
-fraction_told b tail _ _ h k e = grind (arith, common_steps, no_slice)
+fraction_found b tail _ _ h k e = grind (arith, common_steps, no_slice)
 
--- What a span lends, told by the rest that it begins.
-record Told (rest : List ℕ) (x : SpanView) (t : List ℕ) : Type 0 where
+-- What a span lends is found at the rest that it begins.
+record SlicesAt (rest : List ℕ) (x : SpanView) (t : List ℕ) : Type 0 where
   number : x.number ≡ number_slice rest
   fraction : x.fraction ≡ fraction_slice (after_number rest)
   left : after_fraction rest ≡ x.unit ++ t
   starts : begins is_digit rest ≡ true
 
-told : (text rest : List ℕ) (s : Span) (x : SpanView) (next : List ℕ) (h : IsSpanView text rest s x next) → Told rest x (h.spelled.whitespace ++ next)
-told text rest s x next h =
+slices_found : (text rest : List ℕ) (s : Span) (x : SpanView) (next : List ℕ) (h : IsSpanView text rest s x next) → SlicesAt rest x (h.spelled.whitespace ++ next)
+slices_found text rest s x next h =
     let k = h.spelled in
     let r = read_spelled rest next s h.spelled in
     let letter = begins_word s.word (k.whitespace ++ next) (letters_begin s.word k.word) in
     let no_whitespace : drop_while is_whitespace k.number_text ≡ k.number_text = drop_while-append is_whitespace [] k.number_text tt (begins_other is_digit is_whitespace digit_not_whitespace k.number_text k.starts) in
-    let fraction = fraction_told k.fraction_text (s.word ++ (k.whitespace ++ next)) s.fraction x.fraction k.fraction h.fraction letter in
+    let fraction = fraction_found k.fraction_text (s.word ++ (k.whitespace ++ next)) s.fraction x.fraction k.fraction h.fraction letter in
     grind (arith, r, no_whitespace, fraction, (trimmed_is k.number_text x.number h.number), begins-append, begins_not_nil)
 
 each_starts : (text rest : List ℕ) (s : Span) (ss : List Span) (xs : List SpanView) (end : List ℕ) → AreSpanViews text rest (s ∷ ss) xs end → begins is_digit rest ≡ true
@@ -60,7 +60,7 @@ next_is whitespace next o b = drop_while-append is_whitespace whitespace next o 
 -- two lendings of one span are the same, and leave the same
 one_span : (text rest : List ℕ) (s : Span) (x y : SpanView) (m n : List ℕ) (h : IsSpanView text rest s x m) (k : IsSpanView text rest s y n)
     → (x ≡ y) × (h.spelled.whitespace ++ m ≡ k.spelled.whitespace ++ n)
-one_span text rest s x y m n h k = grind (arith, common_steps, (told text rest s x m h), (told text rest s y n k), (append_cancel_left x.unit (h.spelled.whitespace ++ m) (k.spelled.whitespace ++ n) (sym (told text rest s x m h).left ∙ (told text rest s y n k).left ∙ ap (λ (w : List ℕ). w ++ (k.spelled.whitespace ++ n)) (sym (h.unit ∙ sym k.unit)))))
+one_span text rest s x y m n h k = grind (arith, common_steps, (slices_found text rest s x m h), (slices_found text rest s y n k), (append_cancel_left x.unit (h.spelled.whitespace ++ m) (k.spelled.whitespace ++ n) (sym (slices_found text rest s x m h).left ∙ (slices_found text rest s y n k).left ∙ ap (λ (w : List ℕ). w ++ (k.spelled.whitespace ++ n)) (sym (h.unit ∙ sym k.unit)))))
 
 -- one list of spans lends one list of slices, wherever in whitespace the rest of the text begins
 pub one_each : (text p q m n : List ℕ) (spans : List Span) (xs ys : List SpanView) (d e : List ℕ) → Only is_whitespace p → Only is_whitespace q → p ++ m ≡ q ++ n → AreSpanViews text m spans xs d → AreSpanViews text n spans ys e → xs ≡ ys

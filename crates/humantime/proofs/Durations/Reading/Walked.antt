@@ -74,23 +74,23 @@ through text body rest first (s ∷ ss) h f (inr o) e =
 pub front_begins : (text front rest : List ℕ) (spans : List Span) (h : Split text front spans rest) → drop_while is_whitespace text ≡ h.spelled.body ++ rest
 front_begins text front rest spans h = grind (arith, common_steps, drop_while-append, no_whitespace_before)
 
-pub front_told : (text front rest : List ℕ) (spans : List Span) → Split text front spans rest → AllByRecursion Formed spans → (spans ≡ []) ⊎ Closes front rest
+pub front_walked : (text front rest : List ℕ) (spans : List Span) → Split text front spans rest → AllByRecursion Formed spans → (spans ≡ []) ⊎ Closes front rest
     → items text ≡ followed_by spans (walk_from (first_after true spans) text rest)
 unfolding items
-front_told text front rest spans h f o =
+front_walked text front rest spans h f o =
     let body = h.spelled.body in
     let c : (spans ≡ []) ⊎ Closes (h.spelled.whitespace ++ body) rest = subst (λ x. (spans ≡ []) ⊎ Closes x rest) h.spelled.whole o in
     ap (λ (x : List ℕ). spans_on (walk_from true text x)) (front_begins text front rest spans h)
     ∙ through text body rest true spans h.spelled.each f (closes_more h.spelled.whitespace body rest spans h.spelled.each c) h.no_whitespace
 
 -- the walk ends where the items do
-ends_told : (text front rest : List ℕ) (spans : List Span) (stop : Option Fault) → Ends text front spans rest stop → walk_from (first_after true spans) text rest ≡ no_more rest stop
-ends_told text front [] spans stop h = grind (arith, common_steps, walk-end)
-ends_told text front (c ∷ cs) spans None h = cc
-ends_told text front (c ∷ cs) spans (Some e) h = walk-wrong (first_after true spans) text (c ∷ cs) e (λ n. cc) (stops_at text front spans (c ∷ cs) e (λ n. cc) h)
+ends_walked : (text front rest : List ℕ) (spans : List Span) (stop : Option Fault) → Ends text front spans rest stop → walk_from (first_after true spans) text rest ≡ no_more rest stop
+ends_walked text front [] spans stop h = grind (arith, common_steps, walk-end)
+ends_walked text front (c ∷ cs) spans None h = cc
+ends_walked text front (c ∷ cs) spans (Some e) h = walk-wrong (first_after true spans) text (c ∷ cs) e (λ n. cc) (stops_at text front spans (c ∷ cs) e (λ n. cc) h)
 
 -- whatever the items of a text are, the reading gives these
-pub items_told : (text : List ℕ) (spans : List Span) (stop : Option Fault) → Items text spans stop → items text ≡ (spans, stop)
-items_told text spans stop h =
-    front_told text h.front h.rest spans h.split h.formed (grind (arith, common_steps, (h.ends)))
-    ∙ ap (followed_by spans) (ends_told text h.front h.rest spans stop h.ends) ∙ ap (λ (x : List Span). (x, stop)) (append-nil spans)
+pub items_walked : (text : List ℕ) (spans : List Span) (stop : Option Fault) → Items text spans stop → items text ≡ (spans, stop)
+items_walked text spans stop h =
+    front_walked text h.front h.rest spans h.split h.formed (grind (arith, common_steps, (h.ends)))
+    ∙ ap (followed_by spans) (ends_walked text h.front h.rest spans stop h.ends) ∙ ap (λ (x : List Span). (x, stop)) (append-nil spans)
