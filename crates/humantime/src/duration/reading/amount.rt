@@ -60,10 +60,10 @@ pub(crate) fn push_digit(value: u64, digit: u64) -> Option<u64>
     requires { digit ≤ 9 }
     ensures { SomeIff result (value * 10 + digit ≤ u64_max) (value * 10 + digit) }
 {
-    if value >= TENTH_OF_MAX {
-        return value.checked_mul(10)?.checked_add(digit);
+    if value < TENTH_OF_MAX {
+        return Some(value * 10 + digit);
     }
-    Some(value * 10 + digit)
+    value.checked_mul(10)?.checked_add(digit)
 }
 
 /// Ten to this power.
