@@ -14,13 +14,6 @@ use crate::value::StdDuration;
 /// The greatest number whose product with 10^9 fits `u64`.
 const MOST_BEFORE_NINE_ZEROS: u64 = 18_446_744_073;
 
-/// The duration and so many times these seconds.
-fn add_secs(sum: StdDuration, count: u64, secs: u64) -> Option<StdDuration>
-    ensures { result ≡ add_times sum (Seconds secs) count }
-{
-    sum.checked_add_secs(count.checked_mul(secs)?)
-}
-
 /// The duration and so many of the unit.
 fn add_whole(sum: StdDuration, value: u64, unit: Unit) -> Option<StdDuration>
     ensures { result ≡ add_times sum (scale_of unit).one value }
@@ -30,12 +23,12 @@ fn add_whole(sum: StdDuration, value: u64, unit: Unit) -> Option<StdDuration>
         Unit::Microsecond => value.checked_mul(sizes::NANOS_PER_MICRO)?,
         Unit::Millisecond => value.checked_mul(sizes::NANOS_PER_MILLI)?,
         Unit::Second => return sum.checked_add_secs(value),
-        Unit::Minute => return add_secs(sum, value, sizes::SECONDS_PER_MINUTE),
-        Unit::Hour => return add_secs(sum, value, sizes::SECONDS_PER_HOUR),
-        Unit::Day => return add_secs(sum, value, sizes::SECONDS_PER_DAY),
-        Unit::Week => return add_secs(sum, value, sizes::SECONDS_PER_WEEK),
-        Unit::Month => return add_secs(sum, value, sizes::SECONDS_PER_MONTH),
-        Unit::Year => return add_secs(sum, value, sizes::SECONDS_PER_YEAR),
+        Unit::Minute => return sum.checked_add_secs(value.checked_mul(sizes::SECONDS_PER_MINUTE)?),
+        Unit::Hour => return sum.checked_add_secs(value.checked_mul(sizes::SECONDS_PER_HOUR)?),
+        Unit::Day => return sum.checked_add_secs(value.checked_mul(sizes::SECONDS_PER_DAY)?),
+        Unit::Week => return sum.checked_add_secs(value.checked_mul(sizes::SECONDS_PER_WEEK)?),
+        Unit::Month => return sum.checked_add_secs(value.checked_mul(sizes::SECONDS_PER_MONTH)?),
+        Unit::Year => return sum.checked_add_secs(value.checked_mul(sizes::SECONDS_PER_YEAR)?),
     };
     sum.checked_add_nanos(nanos)
 }
