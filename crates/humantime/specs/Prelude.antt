@@ -30,3 +30,5 @@ pub use Rattle.humantime.specs.References.Timestamps.Reading.{weak_answer, stric
 pub use Rattle.humantime.specs.Timestamps.Printed.{MomentToPrint, places_of, cut, IsPrinted, IsPrintable}
 pub use Rattle.humantime.specs.Laws.Timestamps.{IsMarked, ReadsAs}
 pub use Rattle.humantime.specs.References.Timestamps.Printing.{moment_text, printed_text, shortest_text}
+-- what a buffer holds after a refusal
+pub use Rattle.humantime.specs.Buffers.{KeptAtNone, KeptAtErr}

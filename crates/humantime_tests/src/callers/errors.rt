@@ -11,7 +11,7 @@ use std::alloc::{AllocError, Global};
 use std::fmt;
 
 /// What is wrong with a start or a time limit.
-#[derive(Clone, Copy, Debug)]
+#[derive(Clone, Copy, Debug, PartialEq, Eq)]
 pub enum LineError<'a> {
     /// The start is no timestamp.
     Start(TimestampError),
@@ -58,7 +58,7 @@ pub fn deadline<'a>(start: &str, limit: &'a str) -> Result<Option<SystemTime>, L
 
 /// Returns what a user is told of a text that is no duration.
 pub fn message(alloc: Global, text: &str, error: &DurationError<'_>) -> Result<String, AllocError>
-    ensures { IfOk result (λ s. string_bytes s ≡ text.now ++ codes ": " ++ fault_message (fault_of error.now)) }
+    ensures { IfOk result (λ s. string_bytes s ≡ text.now ++ (codes ": " ++ fault_message (fault_of error.now))) }
 {
     format!(in alloc; "{text}: {error}")
 }

@@ -1,13 +1,13 @@
 //! Lines of a log: callers of what reads, prints and orders timestamps.
 
-ghost use Rattle.std.specs.Prelude.{◌≡◌, ◌*◌, ◌↔◌, ◌<ℤ◌, ◌≤ℤ◌, ℤ, pos, ◌+ℤ◌, IsTrue, IsSome, IfSome, IfOk, IsOkAnd, Ok, Err, string_bytes, true};
+ghost use Rattle.std.specs.Prelude.{◌≡◌, ◌*◌, ◌++◌, ◌↔◌, ◌<ℤ◌, ◌≤ℤ◌, ℕ, ℤ, List, pos, ◌+ℤ◌, codes, IsTrue, IsSome, IfSome, IfOk, IsOkAnd, Ok, Err, string_bytes, true};
 ghost use Rattle.humantime.specs.declared.TimestampError.{TimestampError};
-ghost use Rattle.humantime.specs.Prelude.{weak_answer, strict_answer, IsPrinted, IsPrintable, cut, moment_end, nanos_per_second};
+ghost use Rattle.humantime.specs.Prelude.{weak_answer, strict_answer, IsPrinted, IsPrintable, cut, duration_text, moment_end, nanos_per_second};
 
 use humantime::laws::{stamps_in_order, strict_is_weak};
 use humantime::{
-    StdDuration, SystemTime, TimestampError, format_rfc3339_millis, format_rfc3339_nanos,
-    parse_rfc3339, parse_rfc3339_weak,
+    StdDuration, SystemTime, TimestampError, format_duration, format_rfc3339_millis,
+    format_rfc3339_nanos, format_rfc3339_seconds, parse_rfc3339, parse_rfc3339_weak,
 };
 use std::alloc::{AllocError, Global};
 
@@ -78,7 +78,21 @@ pub fn is_text_before(a: SystemTime, b: SystemTime) -> bool
     }
 }
 
-/// A moment as a `String`, by `Display`.
+/// A line that says how long a file was kept and since when; none outside 1970 to 9999.
+pub fn age_line(
+    alloc: Global,
+    kept: StdDuration,
+    since: SystemTime,
+) -> Result<Option<String>, AllocError>
+    ensures { IfOk result (λ line. (IsSome line ↔ IsPrintable since) × IfSome line (λ s. (stamp : List ℕ) × IsPrinted since 0 stamp × (string_bytes s ≡ codes "kept " ++ (duration_text kept ++ (codes " since " ++ stamp))))) }
+{
+    match format_rfc3339_seconds(since).text(&mut [0; 30]) {
+        Some(stamp) => Ok(Some(format!(in alloc; "kept {} since {stamp}", format_duration(kept))?)),
+        None => Ok(None),
+    }
+}
+
+/// A moment as a `String`, by `Display`. Outside 1970 to 9999 it is an error.
 pub fn stamp_string(alloc: Global, moment: SystemTime) -> Result<String, AllocError>
     ensures { IsPrintable moment → IfOk result (λ s. IsPrinted moment 3 (string_bytes s)) }
 {

@@ -10,10 +10,10 @@ use crate::callers::errors::{deadline, message};
 use crate::callers::laws::comes_back;
 use crate::callers::spans::longest_span;
 use crate::callers::timestamps::{
-    default_start, is_earlier, is_same_moment, is_since, later_than, stamp_of,
+    age_line, default_start, is_earlier, is_same_moment, is_since, later_than, stamp_of,
 };
 use crate::tests::support::assert_same;
-use humantime::{Date, DurationError, StdDuration, TimestampError, UNIX_EPOCH};
+use humantime::{Date, DurationError, StdDuration, TimestampError, UNIX_EPOCH, parse_rfc3339};
 use std::alloc::AllocError;
 use std::{io, time};
 
@@ -95,6 +95,15 @@ fn callers_of_std_answer(rt: HostRuntime) -> io::Result<()> {
     assert_same(&rt, moment.subsec_nanos(), 5);
     let now = from_std(time::SystemTime::now(&rt)?).expect(&rt, "no moment");
     assert_same(&rt, UNIX_EPOCH < now, true);
+    Ok(())
+}
+
+#[test]
+fn a_line_says_how_long_and_since_when(rt: HostRuntime) -> Result<(), AllocError> {
+    let since = parse_rfc3339("2018-02-14T00:28:07Z").expect(&rt, "a moment");
+    let line = age_line(rt.alloc(), StdDuration::from_secs(9420), since)?;
+    let wanted = Some("kept 2h 37m since 2018-02-14T00:28:07Z");
+    assert_same(&rt, line.as_ref().map(|line| line.as_str()), wanted);
     Ok(())
 }
 

@@ -54,7 +54,7 @@ unfoldable pub moment_text : ℤ → ℕ → Option (List ℕ)
 moment_text (pos t) k = if nat_lt t year_10000 then Some (fields_text (fields_at t k)) else None
 moment_text (negsuc t) k = None
 
--- the printed text of a timestamp
+-- the printed text of a timestamp: `moment_text` of its moment and number of digits, none outside 1970 to 9999
 abbrev pub printed_text : MomentToPrint → Option (List ℕ)
 printed_text x = moment_text x.moment x.places
 
