@@ -17,11 +17,11 @@ use Rattle.humantime.specs.Durations.Accepted.{is_some_and, too_long}
 use Rattle.humantime.proofs.Durations.Bytes.Trimming.{spelled_at}
 
 -- the number and the fraction that begin a rest, neither too long, what each stands in, and what follows each
-pub are_read : (rest : List ℕ) (v : ℕ) (n a : List ℕ) (f : Option Counted) (d : Option (List ℕ)) (b : List ℕ)
-    → Some (v, n, a) ≡ number_at rest → Some (f, d, b) ≡ fraction_read a
+pub are_read : (rest : List ℕ) (v : ℕ) (n a : List ℕ) (f : Option Counted) (d : Option (List ℕ)) (bytes : List ℕ)
+    → Some (v, n, a) ≡ number_at rest → Some (f, d, bytes) ≡ fraction_read a
     → (too_long (span_of rest) ≡ false) × (v ≡ decimal_value (number_of rest)) × (n ≡ take_while is_numeric rest) × (a ≡ after_number rest)
-    × (f ≡ option_map counted (fraction_of rest)) × (d ≡ option_map (take_while is_numeric) (behind_point (after_number rest))) × (b ≡ after_fraction rest)
-are_read rest v n a f d b x y = grind (arith, common_steps)
+    × (f ≡ option_map counted (fraction_of rest)) × (d ≡ option_map (take_while is_numeric) (behind_point (after_number rest))) × (bytes ≡ after_fraction rest)
+are_read rest v n a f d bytes x y = grind (arith, common_steps)
 
 pub long_number : (rest : List ℕ) → None ≡ number_at rest → too_long (span_of rest) ≡ true
 long_number rest n = grind (arith, common_steps)
@@ -52,18 +52,18 @@ pub exit_bare : (text rest behind after : List ℕ) (fraction : Option Fraction)
     → behind ≡ after_fraction rest → begins_no_word behind ≡ false → option_map parts_of fraction ≡ option_map counted (fraction_of rest) → is_some_and (λ f. f.all == 0) fraction ≡ true
     → after ≡ after_number rest → at ≡ offset_of text after → Some (InvalidCharacter at) ≡ stop_at text rest
 unfolding stop_at
-exit_bare text rest behind after fraction at s h w f b a p = rw (s, sym h, w, same_bare fraction (fraction_of rest) f ∙ b, sym a, p) refl
+exit_bare text rest behind after fraction at s h w f bytes a p = rw (s, sym h, w, same_bare fraction (fraction_of rest) f ∙ bytes, sym a, p) refl
 
 -- a point without digits is there
 pub bare_some : (rest after : List ℕ) (fraction : Option Fraction) → option_map parts_of fraction ≡ option_map counted (fraction_of rest)
     → is_some_and (λ f. f.all == 0) fraction ≡ true → after ≡ after_number rest → after ≢ []
-bare_some rest after fraction f b a none = grind (arith, common_steps)
+bare_some rest after fraction f bytes a none = grind (arith, common_steps)
 
 pub exit_after : (text rest behind after : List ℕ) (fraction : Option Fraction) (at : ℕ) → too_long (span_of rest) ≡ false
     → behind ≡ after_fraction rest → begins_no_word behind ≡ false → option_map parts_of fraction ≡ option_map counted (fraction_of rest) → is_some_and (λ f. f.all == 0) fraction ≡ false
     → after ≡ drop_while is_letter behind → ends_span after ≡ false → at ≡ offset_of text after → Some (InvalidCharacter at) ≡ stop_at text rest
 unfolding stop_at
-exit_after text rest behind after fraction at s h w f b a e p = rw (s, sym h, w, same_bare fraction (fraction_of rest) f ∙ b, sym a, e, p) refl
+exit_after text rest behind after fraction at s h w f bytes a e p = rw (s, sym h, w, same_bare fraction (fraction_of rest) f ∙ bytes, sym a, e, p) refl
 
 pub exit_unit : (text rest behind unit after : List ℕ) (fraction : Option Fraction) (start end value : ℕ) → too_long (span_of rest) ≡ false
     → behind ≡ after_fraction rest → begins_no_word behind ≡ false → option_map parts_of fraction ≡ option_map counted (fraction_of rest)
@@ -72,15 +72,15 @@ pub exit_unit : (text rest behind unit after : List ℕ) (fraction : Option Frac
     → start ≡ offset_of text behind → end ≡ offset_of text after → value ≡ decimal_value (number_of rest)
     → Some (UnknownUnit start end unit value) ≡ stop_at text rest
 unfolding stop_at
-exit_unit text rest behind unit after fraction start end value s h w f b a e u l k p q v =
-    rw (s, sym h, w, same_bare fraction (fraction_of rest) f ∙ b, sym a, e, sym l, k, encodes-chars unit u, p, q, v) refl
+exit_unit text rest behind unit after fraction start end value s h w f bytes a e u l k p q v =
+    rw (s, sym h, w, same_bare fraction (fraction_of rest) f ∙ bytes, sym a, e, sym l, k, encodes-chars unit u, p, q, v) refl
 
 pub exit_fine : (text rest behind word after : List ℕ) (fraction : Option Fraction) (u : Scale) → too_long (span_of rest) ≡ false
     → behind ≡ after_fraction rest → begins_no_word behind ≡ false → option_map parts_of fraction ≡ option_map counted (fraction_of rest) → is_some_and (λ f. f.all == 0) fraction ≡ false
     → after ≡ drop_while is_letter behind → ends_span after ≡ true → word ≡ take_while is_letter behind → scale_of_word word ≡ Some u
     → None ≡ stop_at text rest
 unfolding stop_at
-exit_fine text rest behind word after fraction u s h w f b a e l k = rw (s, sym h, w, same_bare fraction (fraction_of rest) f ∙ b, sym a, e, sym l, k) refl
+exit_fine text rest behind word after fraction u s h w f bytes a e l k = rw (s, sym h, w, same_bare fraction (fraction_of rest) f ∙ bytes, sym a, e, sym l, k) refl
 
 -- the slices that were read are those that the span lends
 pub view_read : (text rest number word : List ℕ) (digits : Option (Bor (List ℕ))) (start end value : ℕ)

@@ -22,52 +22,52 @@ or_error_err o n e = grind (arith, common_steps)
 
 -- the checks tell which parts are shown: those at their places, where none fails
 abbrev AreDecided : List ℕ → List (Bool × TimestampError) → (Fields → Type 0) → Type 0
-AreDecided b checks IsShown = (f : Fields) → IsShown f ↔ ((first_failed checks ≡ None) × (f ≡ fields_of b))
+AreDecided bytes checks IsShown = (f : Fields) → IsShown f ↔ ((first_failed checks ≡ None) × (f ≡ fields_of bytes))
 
-weak_checks_decide : (b : List ℕ) → AreDecided b (weak_checks b) (IsWeak b)
-weak_checks_decide b f = (weak_fields b f, λ h. rw h.1 (fields_weak b h.0))
+weak_checks_decide : (bytes : List ℕ) → AreDecided bytes (weak_checks bytes) (IsWeak bytes)
+weak_checks_decide bytes f = (weak_fields bytes f, λ h. rw h.1 (fields_weak bytes h.0))
 
 passed_first : (t : Bool) (e : TimestampError) (o : Option TimestampError) → ((if t then o else Some e) ≡ None) ↔ ((t ≡ true) × (o ≡ None))
 passed_first t e o = grind (arith, common_steps)
 
-strict_checks_decide : (b : List ℕ) → AreDecided b (strict_checks b) (IsStrict b)
-strict_checks_decide b f =
-    let first = passed_first (has_marks b) InvalidFormat (first_failed (weak_checks b)) in
-    let marked = strict_checked b f in (
-      (λ s. let p = (weak_checks_decide b f).0 s.weak in (first.1 ((marked.0 s).0, p.0), p.1)),
-      (λ h. let p = first.0 h.0 in marked.1 (p.0, (weak_checks_decide b f).1 (p.1, h.1))),
+strict_checks_decide : (bytes : List ℕ) → AreDecided bytes (strict_checks bytes) (IsStrict bytes)
+strict_checks_decide bytes f =
+    let first = passed_first (has_marks bytes) InvalidFormat (first_failed (weak_checks bytes)) in
+    let marked = strict_checked bytes f in (
+      (λ s. let p = (weak_checks_decide bytes f).0 s.weak in (first.1 ((marked.0 s).0, p.0), p.1)),
+      (λ h. let p = first.0 h.0 in marked.1 (p.0, (weak_checks_decide bytes f).1 (p.1, h.1))),
     )
 
 -- so the answer by the checks is the one outcome
-outcome_of_checks : (b : List ℕ) (checks : List (Bool × TimestampError)) (IsShown : Fields → Type 0) → AreDecided b checks IsShown
-    → OneTimestamp checks IsShown (moment_or_error (first_failed checks) (moment_at b))
-outcome_of_checks b checks IsShown decided =
-    let answer = or_error_ok (first_failed checks) (moment_at b) in
+outcome_of_checks : (bytes : List ℕ) (checks : List (Bool × TimestampError)) (IsShown : Fields → Type 0) → AreDecided bytes checks IsShown
+    → OneTimestamp checks IsShown (moment_or_error (first_failed checks) (moment_at bytes))
+outcome_of_checks bytes checks IsShown decided =
+    let answer = or_error_ok (first_failed checks) (moment_at bytes) in
     record {
-      some = ((λ m. ((decided m.0).0 m.1).0), (λ h. (fields_of b, (decided (fields_of b)).1 (h, refl))));
+      some = ((λ m. ((decided m.0).0 m.1).0), (λ h. (fields_of bytes, (decided (fields_of bytes)).1 (h, refl))));
       only = λ f g v w. ((decided f).0 v).1 ∙ sym ((decided g).0 w).1;
       value = λ t. (
-        (λ h. let a = (answer t).0 h in (fields_of b, (decided (fields_of b)).1 (a.0, refl), rw (moment_of_fields b) a.1)),
-        (λ m. let p = (decided m.0).0 m.1 in (answer t).1 (p.0, m.2 ∙ ap pos (ap moment_of p.1 ∙ moment_of_fields b))),
+        (λ h. let a = (answer t).0 h in (fields_of bytes, (decided (fields_of bytes)).1 (a.0, refl), rw (moment_of_fields bytes) a.1)),
+        (λ m. let p = (decided m.0).0 m.1 in (answer t).1 (p.0, m.2 ∙ ap pos (ap moment_of p.1 ∙ moment_of_fields bytes))),
       );
-      error = or_error_err (first_failed checks) (moment_at b);
+      error = or_error_err (first_failed checks) (moment_at bytes);
     }
 
-pub weak_outcome : (b : List ℕ) → OneTimestamp (weak_checks b) (IsWeak b) (weak_answer b)
+pub weak_outcome : (bytes : List ℕ) → OneTimestamp (weak_checks bytes) (IsWeak bytes) (weak_answer bytes)
 unfolding weak_answer
-weak_outcome b = outcome_of_checks b (weak_checks b) (IsWeak b) (weak_checks_decide b)
+weak_outcome bytes = outcome_of_checks bytes (weak_checks bytes) (IsWeak bytes) (weak_checks_decide bytes)
 
-pub strict_outcome : (b : List ℕ) → OneTimestamp (strict_checks b) (IsStrict b) (strict_answer b)
+pub strict_outcome : (bytes : List ℕ) → OneTimestamp (strict_checks bytes) (IsStrict bytes) (strict_answer bytes)
 unfolding strict_answer
-strict_outcome b = outcome_of_checks b (strict_checks b) (IsStrict b) (strict_checks_decide b)
+strict_outcome bytes = outcome_of_checks bytes (strict_checks bytes) (IsStrict bytes) (strict_checks_decide bytes)
 
 -- the answer of the strict form, by its own check
-pub strict_by_marks : (b : List ℕ) → (if has_marks b then weak_answer b else Err InvalidFormat) ≡ strict_answer b
+pub strict_by_marks : (bytes : List ℕ) → (if has_marks bytes then weak_answer bytes else Err InvalidFormat) ≡ strict_answer bytes
 unfolding weak_answer strict_answer
-strict_by_marks b = grind (arith, common_steps)
+strict_by_marks bytes = grind (arith, common_steps)
 
-pub strict_moment_is_weak : (b : List ℕ) (t : ℤ) → IsStrictMoment b t ↔ (IsWeakMoment b t × IsMarked b)
-strict_moment_is_weak b t = (
-  (λ m. let p = (strict_is_weak b m.0).0 m.1 in ((m.0, p.0, m.2), p.1)),
-  (λ p. (p.0.0, (strict_is_weak b p.0.0).1 (p.0.1, p.1), p.0.2)),
+pub strict_moment_is_weak : (bytes : List ℕ) (t : ℤ) → IsStrictMoment bytes t ↔ (IsWeakMoment bytes t × IsMarked bytes)
+strict_moment_is_weak bytes t = (
+  (λ m. let p = (strict_is_weak bytes m.0).0 m.1 in ((m.0, p.0, m.2), p.1)),
+  (λ p. (p.0.0, (strict_is_weak bytes p.0.0).1 (p.0.1, p.1), p.0.2)),
 )

@@ -11,24 +11,24 @@ use Rattle.humantime.proofs.Timestamps.Reading.Ends.{IsPlain, plain_bytes, zone_
 letter_by_byte : (s : Separator) → (s ≡ Letter_T) ↔ (separator_byte s ≡ 84)
 letter_by_byte s = grind (arith, common_steps)
 
-separator_by_byte : (b : List ℕ) (f : Fields) → IsWeak b f → (f.separator ≡ Letter_T) ↔ (slice_index b 10 ≡ 84)
-separator_by_byte b f w = rw w.shown (letter_by_byte f.separator)
+separator_by_byte : (bytes : List ℕ) (f : Fields) → IsWeak bytes f → (f.separator ≡ Letter_T) ↔ (slice_index bytes 10 ≡ 84)
+separator_by_byte bytes f w = rw w.shown (letter_by_byte f.separator)
 
 zone_there : (z : Zone) → (z ≢ No_zone) ↔ (nat_lt 0 (length (zone_text z)) ≡ true)
 zone_there z = grind (arith, common_steps)
 
-zone_by_end : (b : List ℕ) (f : Fields) → IsWeak b f → (f.zone ≢ No_zone) ↔ (ends_in_zone b ≡ true)
-zone_by_end b f w =
-    let found = zone_found (date_time_text f ++ fraction_text f.fraction) f.zone (holds_before_zone IsPlain plain_bytes b f w) in
-    rw (← some_zone b, ap zone_of w.shown ∙ found) (zone_there f.zone)
+zone_by_end : (bytes : List ℕ) (f : Fields) → IsWeak bytes f → (f.zone ≢ No_zone) ↔ (ends_in_zone bytes ≡ true)
+zone_by_end bytes f w =
+    let found = zone_found (date_time_text f ++ fraction_text f.fraction) f.zone (holds_before_zone IsPlain plain_bytes bytes f w) in
+    rw (← some_zone bytes, ap zone_of w.shown ∙ found) (zone_there f.zone)
 
-pub strict_is_weak : (b : List ℕ) (f : Fields) → IsStrict b f ↔ (IsWeak b f × IsMarked b)
-strict_is_weak b f = (
-  (λ s. (s.weak, ((separator_by_byte b f s.weak).0 s.separator, (zone_by_end b f s.weak).0 s.zone))),
-  (λ p. record { weak = p.0; separator = (separator_by_byte b f p.0).1 p.1.0; zone = (zone_by_end b f p.0).1 p.1.1 }),
+pub strict_is_weak : (bytes : List ℕ) (f : Fields) → IsStrict bytes f ↔ (IsWeak bytes f × IsMarked bytes)
+strict_is_weak bytes f = (
+  (λ s. (s.weak, ((separator_by_byte bytes f s.weak).0 s.separator, (zone_by_end bytes f s.weak).0 s.zone))),
+  (λ p. record { weak = p.0; separator = (separator_by_byte bytes f p.0).1 p.1.0; zone = (zone_by_end bytes f p.0).1 p.1.1 }),
 )
 
 -- the check of the strict form
-pub strict_checked : (b : List ℕ) (f : Fields) → IsStrict b f ↔ ((has_marks b ≡ true) × IsWeak b f)
+pub strict_checked : (bytes : List ℕ) (f : Fields) → IsStrict bytes f ↔ ((has_marks bytes ≡ true) × IsWeak bytes f)
 unfolding has_marks
-strict_checked b f = grind (arith, common_steps, strict_is_weak)
+strict_checked bytes f = grind (arith, common_steps, strict_is_weak)

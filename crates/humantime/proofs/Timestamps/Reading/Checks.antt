@@ -10,14 +10,14 @@ use Rattle.humantime.specs.Timestamps.Fields.{Separator, Letter_T, Space, Fields
 use Rattle.humantime.specs.Timestamps.Checks.{has_two, has_separator, has_punctuation, has_digits, numbers_of, are_in_range, zone_of, fraction_part, has_point, weak_checks, first_failed}
 
 -- no check of the weak form fails
-pub all_passed : (b : List ℕ) → first_failed (weak_checks b) ≡ None
-    → (19 ≤ length b) × (has_punctuation b ≡ true) × (has_digits b ≡ true) × (are_in_range (numbers_of b) ≡ true)
-    × (has_point (fraction_part b) ≡ true) × (all_ascii_digits (drop 1 (fraction_part b)) ≡ true)
-all_passed b h = grind (arith, common_steps, nat_tests)
+pub all_passed : (bytes : List ℕ) → first_failed (weak_checks bytes) ≡ None
+    → (19 ≤ length bytes) × (has_punctuation bytes ≡ true) × (has_digits bytes ≡ true) × (are_in_range (numbers_of bytes) ≡ true)
+    × (has_point (fraction_part bytes) ≡ true) × (all_ascii_digits (drop 1 (fraction_part bytes)) ≡ true)
+all_passed bytes h = grind (arith, common_steps, nat_tests)
 
 -- what stands between date and time
 abbrev pub separator_of : List ℕ → Separator
-separator_of b = if slice_index b 10 == byte "T" then Letter_T else Space
+separator_of bytes = if slice_index bytes 10 == byte "T" then Letter_T else Space
 
 -- the digits behind the point, where there is one
 abbrev pub fraction_of : List ℕ → Option (List ℕ)
@@ -26,29 +26,29 @@ fraction_of (_ ∷ ds) = Some ds
 
 -- the parts at their places
 abbrev pub fields_of : List ℕ → Fields
-fields_of b = record {
-  date = (numbers_of b).date;
-  separator = separator_of b;
-  hour = (numbers_of b).hour;
-  minute = (numbers_of b).minute;
-  second = (numbers_of b).second;
-  fraction = fraction_of (fraction_part b);
-  zone = zone_of (drop 19 b);
+fields_of bytes = record {
+  date = (numbers_of bytes).date;
+  separator = separator_of bytes;
+  hour = (numbers_of bytes).hour;
+  minute = (numbers_of bytes).minute;
+  second = (numbers_of bytes).second;
+  fraction = fraction_of (fraction_part bytes);
+  zone = zone_of (drop 19 bytes);
 }
 
 -- the signs in their places
-pub punctuation_from_test : (b : List ℕ) → has_punctuation b ≡ true
-    → (slice_index b 4 ≡ 45) × (slice_index b 7 ≡ 45) × (slice_index b 10 ≡ separator_byte (separator_of b))
-    × (slice_index b 13 ≡ 58) × (slice_index b 16 ≡ 58)
+pub punctuation_from_test : (bytes : List ℕ) → has_punctuation bytes ≡ true
+    → (slice_index bytes 4 ≡ 45) × (slice_index bytes 7 ≡ 45) × (slice_index bytes 10 ≡ separator_byte (separator_of bytes))
+    × (slice_index bytes 13 ≡ 58) × (slice_index bytes 16 ≡ 58)
 unfolding has_punctuation has_separator
-punctuation_from_test b h = grind (arith, common_steps)
+punctuation_from_test bytes h = grind (arith, common_steps)
 
 -- the pairs of digits in their places
-pub pairs_from_test : (b : List ℕ) → has_digits b ≡ true
-    → (has_two b 0 ≡ true) × (has_two b 2 ≡ true) × (has_two b 5 ≡ true) × (has_two b 8 ≡ true)
-    × (has_two b 11 ≡ true) × (has_two b 14 ≡ true) × (has_two b 17 ≡ true)
+pub pairs_from_test : (bytes : List ℕ) → has_digits bytes ≡ true
+    → (has_two bytes 0 ≡ true) × (has_two bytes 2 ≡ true) × (has_two bytes 5 ≡ true) × (has_two bytes 8 ≡ true)
+    × (has_two bytes 11 ≡ true) × (has_two bytes 14 ≡ true) × (has_two bytes 17 ≡ true)
 unfolding has_digits
-pairs_from_test b h = grind (arith, common_steps, and_parts)
+pairs_from_test bytes h = grind (arith, common_steps, and_parts)
 
 -- what stands between the seconds and the zone
 pub part_shown : (part : List ℕ) → has_point part ≡ true → part ≡ fraction_text (fraction_of part)
@@ -58,12 +58,12 @@ part_shown part h = grind (arith, common_steps)
 pub part_digits : (part : List ℕ) → fraction_digits (fraction_of part) ≡ drop 1 part
 part_digits part = grind (arith, common_steps)
 
-pub moment_of_fields : (b : List ℕ) → moment_of (fields_of b) ≡ moment_at b
-moment_of_fields b = rw (part_digits (fraction_part b)) refl
+pub moment_of_fields : (bytes : List ℕ) → moment_of (fields_of bytes) ≡ moment_at bytes
+moment_of_fields bytes = rw (part_digits (fraction_part bytes)) refl
 
 -- the first 19 bytes and the rest
-pub nineteen : (b : List ℕ) → 19 ≤ length b
-    → b ≡ get_or b 0 0 ∷ get_or b 1 0 ∷ get_or b 2 0 ∷ get_or b 3 0 ∷ get_or b 4 0 ∷ get_or b 5 0 ∷ get_or b 6 0 ∷ get_or b 7 0 ∷ get_or b 8 0 ∷ get_or b 9 0
-    ∷ get_or b 10 0 ∷ get_or b 11 0 ∷ get_or b 12 0 ∷ get_or b 13 0 ∷ get_or b 14 0 ∷ get_or b 15 0 ∷ get_or b 16 0 ∷ get_or b 17 0 ∷ get_or b 18 0 ∷ drop 19 b
+pub nineteen : (bytes : List ℕ) → 19 ≤ length bytes
+    → bytes ≡ get_or bytes 0 0 ∷ get_or bytes 1 0 ∷ get_or bytes 2 0 ∷ get_or bytes 3 0 ∷ get_or bytes 4 0 ∷ get_or bytes 5 0 ∷ get_or bytes 6 0 ∷ get_or bytes 7 0 ∷ get_or bytes 8 0 ∷ get_or bytes 9 0
+    ∷ get_or bytes 10 0 ∷ get_or bytes 11 0 ∷ get_or bytes 12 0 ∷ get_or bytes 13 0 ∷ get_or bytes 14 0 ∷ get_or bytes 15 0 ∷ get_or bytes 16 0 ∷ get_or bytes 17 0 ∷ get_or bytes 18 0 ∷ drop 19 bytes
 nineteen (b0 ∷ b1 ∷ b2 ∷ b3 ∷ b4 ∷ b5 ∷ b6 ∷ b7 ∷ b8 ∷ b9 ∷ b10 ∷ b11 ∷ b12 ∷ b13 ∷ b14 ∷ b15 ∷ b16 ∷ b17 ∷ b18 ∷ r) h = refl
 nineteen _ h = absurd (omega arith)

@@ -12,34 +12,34 @@ use Rattle.humantime.proofs.Timestamps.Reading.Bytes.{HoldsOfBytes}
 
 -- ---- `Z` and `+00:00`
 
-pub last_letter : (b : List ℕ) → 1 ≤ length b → (slice_index b (length b - 1) == 90) ≡ ends_with nat_eq b (codes "Z")
-last_letter b some = grind (arith, common_steps)
+pub last_letter : (bytes : List ℕ) → 1 ≤ length bytes → (slice_index bytes (length bytes - 1) == 90) ≡ ends_with nat_eq bytes (codes "Z")
+last_letter bytes some = grind (arith, common_steps)
 
-pub no_letter : (b : List ℕ) → length b < 1 → false ≡ ends_with nat_eq b (codes "Z")
-no_letter b short = grind (arith, common_steps)
+pub no_letter : (bytes : List ℕ) → length bytes < 1 → false ≡ ends_with nat_eq bytes (codes "Z")
+no_letter bytes short = grind (arith, common_steps)
 
-pub last_offset : (b : List ℕ) → bytes_eq (take (length b - (length b - 6)) (drop (length b - 6) b)) (codes "+00:00") ≡ ends_with nat_eq b (codes "+00:00")
-last_offset b = grind (arith, common_steps)
+pub last_offset : (bytes : List ℕ) → bytes_eq (take (length bytes - (length bytes - 6)) (drop (length bytes - 6) bytes)) (codes "+00:00") ≡ ends_with nat_eq bytes (codes "+00:00")
+last_offset bytes = grind (arith, common_steps)
 
-pub no_offset : (b : List ℕ) → length b < 6 → false ≡ ends_with nat_eq b (codes "+00:00")
-no_offset b short = grind (arith, common_steps)
+pub no_offset : (bytes : List ℕ) → length bytes < 6 → false ≡ ends_with nat_eq bytes (codes "+00:00")
+no_offset bytes short = grind (arith, common_steps)
 
 -- ---- The zone that stands at the end
 
-pub some_zone : (b : List ℕ) → nat_lt 0 (length (zone_text (zone_of b))) ≡ ends_in_zone b
+pub some_zone : (bytes : List ℕ) → nat_lt 0 (length (zone_text (zone_of bytes))) ≡ ends_in_zone bytes
 unfolding zone_of
-some_zone b = grind (arith, common_steps)
+some_zone bytes = grind (arith, common_steps)
 
-pub zone_fits : (b : List ℕ) → length (zone_text (zone_of b)) ≤ length b
+pub zone_fits : (bytes : List ℕ) → length (zone_text (zone_of bytes)) ≤ length bytes
 unfolding zone_of
-zone_fits b = grind (arith, common_steps)
+zone_fits bytes = grind (arith, common_steps)
 
-zone_behind : (b : List ℕ) → drop (length b - length (zone_text (zone_of b))) b ≡ zone_text (zone_of b)
+zone_behind : (bytes : List ℕ) → drop (length bytes - length (zone_text (zone_of bytes))) bytes ≡ zone_text (zone_of bytes)
 unfolding zone_of
-zone_behind b = grind (arith, common_steps)
+zone_behind bytes = grind (arith, common_steps)
 
-pub zone_shown : (b : List ℕ) → b ≡ before_zone b ++ zone_text (zone_of b)
-zone_shown b = sym (ap (λ (z : List ℕ). before_zone b ++ z) (sym (zone_behind b)) ∙ take-append-drop (length b - length (zone_text (zone_of b))) b)
+pub zone_shown : (bytes : List ℕ) → bytes ≡ before_zone bytes ++ zone_text (zone_of bytes)
+zone_shown bytes = sym (ap (λ (z : List ℕ). before_zone bytes ++ z) (sym (zone_behind bytes)) ∙ take-append-drop (length bytes - length (zone_text (zone_of bytes))) bytes)
 
 -- ---- Bytes that are no zone
 
@@ -65,15 +65,15 @@ before_zone_found xs z h = rw (zone_found xs z h) (grind (arith, common_steps))
 -- ---- `+00:00` as two numbers
 
 -- a list of six bytes
-six : (b : List ℕ) → length b ≡ 6
-    → b ≡ get_or b 0 0 ∷ get_or b 1 0 ∷ get_or b 2 0 ∷ get_or b 3 0 ∷ get_or b 4 0 ∷ get_or b 5 0 ∷ []
-six b h = grind (arith, common_steps)
+six : (bytes : List ℕ) → length bytes ≡ 6
+    → bytes ≡ get_or bytes 0 0 ∷ get_or bytes 1 0 ∷ get_or bytes 2 0 ∷ get_or bytes 3 0 ∷ get_or bytes 4 0 ∷ get_or bytes 5 0 ∷ []
+six bytes h = grind (arith, common_steps)
 
 -- two bytes are known by their number
 two_tested : (a b n m : ℕ) → a < 256 → b < 256 → n ≡ a + b * 256 → m ≡ 12_336 → (n == m) ≡ ((a == 48) && ((b == 48) && true))
 two_tested a b n m ha hb e f = grind (arith, nat_tests)
 
-pub offset_from_test : (b : List ℕ) (n m : ℕ) → length b ≡ 6 → ((k : ℕ) → Fits w8 (get_or b k 0))
-    → get_or b 0 0 + get_or b 1 0 * 256 + get_or b 2 0 * 65_536 + get_or b 3 0 * 16_777_216 ≡ 976_236_587
-    → n ≡ get_or b 4 0 + get_or b 5 0 * 256 → m ≡ 12_336 → (n == m) ≡ bytes_eq b (codes "+00:00")
-offset_from_test b n m h fits front back known = grind (arith, nat_tests, six, two_tested)
+pub offset_from_test : (bytes : List ℕ) (n m : ℕ) → length bytes ≡ 6 → ((k : ℕ) → Fits w8 (get_or bytes k 0))
+    → get_or bytes 0 0 + get_or bytes 1 0 * 256 + get_or bytes 2 0 * 65_536 + get_or bytes 3 0 * 16_777_216 ≡ 976_236_587
+    → n ≡ get_or bytes 4 0 + get_or bytes 5 0 * 256 → m ≡ 12_336 → (n == m) ≡ bytes_eq bytes (codes "+00:00")
+offset_from_test bytes n m h fits front back known = grind (arith, nat_tests, six, two_tested)

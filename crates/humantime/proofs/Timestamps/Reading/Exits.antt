@@ -12,21 +12,21 @@ use Rattle.humantime.specs.declared.date.parse.Numbers.{Numbers}
 use Rattle.humantime.specs.Timestamps.Checks.{has_separator, has_punctuation, has_digits, numbers_of, before_zone, fraction_part}
 use Rattle.humantime.proofs.Timestamps.Reading.Fractions.{digits_from_test, nanos_bound}
 
-pub exit_short : (b : List ℕ) → length b < 19 → weak_answer b ≡ Err InvalidFormat
+pub exit_short : (bytes : List ℕ) → length bytes < 19 → weak_answer bytes ≡ Err InvalidFormat
 unfolding weak_answer
-exit_short b short = grind (arith, common_steps, nat_tests)
+exit_short bytes short = grind (arith, common_steps, nat_tests)
 
-pub exit_separator : (b : List ℕ) → has_separator b ≡ false → weak_answer b ≡ Err InvalidFormat
+pub exit_separator : (bytes : List ℕ) → has_separator bytes ≡ false → weak_answer bytes ≡ Err InvalidFormat
 unfolding weak_answer has_punctuation
-exit_separator b other = grind (arith, common_steps, nat_tests)
+exit_separator bytes other = grind (arith, common_steps, nat_tests)
 
-pub exit_digits : (b : List ℕ) → 19 ≤ length b → (has_punctuation b && has_digits b) ≡ false → has_punctuation b ≡ true → weak_answer b ≡ Err InvalidDigit
+pub exit_digits : (bytes : List ℕ) → 19 ≤ length bytes → (has_punctuation bytes && has_digits bytes) ≡ false → has_punctuation bytes ≡ true → weak_answer bytes ≡ Err InvalidDigit
 unfolding weak_answer
-exit_digits b long other signs = grind (arith, common_steps, nat_tests)
+exit_digits bytes long other signs = grind (arith, common_steps, nat_tests)
 
-pub exit_signs : (b : List ℕ) → 19 ≤ length b → has_punctuation b ≡ false → weak_answer b ≡ Err InvalidFormat
+pub exit_signs : (bytes : List ℕ) → 19 ≤ length bytes → has_punctuation bytes ≡ false → weak_answer bytes ≡ Err InvalidFormat
 unfolding weak_answer
-exit_signs b long other = grind (arith, common_steps, nat_tests)
+exit_signs bytes long other = grind (arith, common_steps, nat_tests)
 
 pub fraction_bound : (part : List ℕ) (n : ℕ) → Ok n ≡ fraction_answer part → n < 1_000_000_000
 fraction_bound part n h = grind (arith, common_steps, nanos_bound, digits_from_test)
@@ -37,16 +37,16 @@ with_seconds None fraction = Err OutOfRange
 with_seconds (Some seconds) (Ok nanos) = Ok (pos (seconds * 1_000_000_000 + nanos))
 with_seconds (Some seconds) (Err e) = Err e
 
-pub exit_shaped : (b : List ℕ) (x : Numbers) → 19 ≤ length b → (has_punctuation b && has_digits b) ≡ true → x ≡ numbers_of b
-    → weak_answer b ≡ with_seconds (seconds_found x) (fraction_answer (fraction_part b))
+pub exit_shaped : (bytes : List ℕ) (x : Numbers) → 19 ≤ length bytes → (has_punctuation bytes && has_digits bytes) ≡ true → x ≡ numbers_of bytes
+    → weak_answer bytes ≡ with_seconds (seconds_found x) (fraction_answer (fraction_part bytes))
 unfolding weak_answer
-exit_shaped b x long shaped is =
-    let both = and_parts (has_punctuation b) (has_digits b) shaped in
-    rw (is, le-leb 19 (length b) long, both.0, both.1) (grind (arith, common_steps))
+exit_shaped bytes x long shaped is =
+    let both = and_parts (has_punctuation bytes) (has_digits bytes) shaped in
+    rw (is, le-leb 19 (length bytes) long, both.0, both.1) (grind (arith, common_steps))
 
 -- with what was read
-pub exit_read : (b : List ℕ) (x : Numbers) (seconds : Option ℕ) (part : List ℕ) (fraction : Result ℕ TimestampError) → 19 ≤ length b
-    → (has_punctuation b && has_digits b) ≡ true → x ≡ numbers_of b → seconds ≡ (seconds_found x)
-    → part ≡ before_zone (take (length b - 19) (drop 19 b)) → fraction ≡ fraction_answer part → weak_answer b ≡ with_seconds seconds fraction
-exit_read b x seconds part fraction long shaped is read before value =
-    rw (value, before, take_rest b 19, read) (exit_shaped b x long shaped is)
+pub exit_read : (bytes : List ℕ) (x : Numbers) (seconds : Option ℕ) (part : List ℕ) (fraction : Result ℕ TimestampError) → 19 ≤ length bytes
+    → (has_punctuation bytes && has_digits bytes) ≡ true → x ≡ numbers_of bytes → seconds ≡ (seconds_found x)
+    → part ≡ before_zone (take (length bytes - 19) (drop 19 bytes)) → fraction ≡ fraction_answer part → weak_answer bytes ≡ with_seconds seconds fraction
+exit_read bytes x seconds part fraction long shaped is read before value =
+    rw (value, before, take_rest bytes 19, read) (exit_shaped bytes x long shaped is)

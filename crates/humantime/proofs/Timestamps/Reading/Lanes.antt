@@ -38,7 +38,7 @@ none_beyond w most xs few =
 
 -- how far a byte is above another, wrapped around
 abbrev pub above : ℕ → ℕ → ℕ
-above a b = (a + (2 ^ 8 - b)) % 2 ^ 8
+above a bytes = (a + (2 ^ 8 - bytes)) % 2 ^ 8
 
 -- no byte is beyond its most above its least
 abbrev are_near : List ℕ → List ℕ → List ℕ → Bool
@@ -70,39 +70,39 @@ abbrev pub most_back : List ℕ
 most_back = 255 ∷ 255 ∷ 255 ∷ 255 ∷ 255 ∷ 255 ∷ 255 ∷ 255 ∷ 255 ∷ 255 ∷ 255 ∷ 255 ∷ 255 ∷ 0 ∷ 9 ∷ 9 ∷ []
 
 -- the signs may be tested first, and the seconds among the others
-signs_first : (s t u v w a b c d e f g h i j k l : Bool)
-    → ((a && (b && (c && (d && (s && (e && (f && (t && (g && (h && (true && (i && (j && (u && (k && (l && true)))))))))))))))) && (v && w))
-    ≡ ((s && t && true && u && v) && ((a && b) && ((c && d) && ((e && f) && ((g && h) && ((i && j) && ((k && l) && (w && true))))))))
-signs_first s t u v w a b c d e f g h i j k l = grind (arith, common_steps)
+signs_first : (s t u v w a bytes c d e f g h i j k l : Bool)
+    → ((a && (bytes && (c && (d && (s && (e && (f && (t && (g && (h && (true && (i && (j && (u && (k && (l && true)))))))))))))))) && (v && w))
+    ≡ ((s && t && true && u && v) && ((a && bytes) && ((c && d) && ((e && f) && ((g && h) && ((i && j) && ((k && l) && (w && true))))))))
+signs_first s t u v w a bytes c d e f g h i j k l = grind (arith, common_steps)
 
-pub shape_of_parts : (b : List ℕ) → 19 ≤ length b → ((k : ℕ) → Fits w8 (get_or b k 0)) → has_separator b ≡ true
-    → (are_near most b least && has_seconds b) ≡ (has_punctuation b && has_digits b)
+pub shape_of_parts : (bytes : List ℕ) → 19 ≤ length bytes → ((k : ℕ) → Fits w8 (get_or bytes k 0)) → has_separator bytes ≡ true
+    → (are_near most bytes least && has_seconds bytes) ≡ (has_punctuation bytes && has_digits bytes)
 unfolding has_punctuation has_digits has_seconds has_two
-shape_of_parts b long fits separator =
-    let shown = λ (k : ℕ). is_ascii_digit (slice_index b k) in
-    let digit = λ (k : ℕ). digit_near (get_or b k 0) (fits k).fits in
-    let dash = λ (k : ℕ). dash_near (get_or b k 0) (fits k).fits in
-    let colon = λ (k : ℕ). colon_near (get_or b k 0) (fits k).fits in
-    let near : are_near most b least ≡ _ =
-    ap (λ (bytes : List ℕ). are_near most bytes least) (nineteen b long)
+shape_of_parts bytes long fits separator =
+    let shown = λ (k : ℕ). is_ascii_digit (slice_index bytes k) in
+    let digit = λ (k : ℕ). digit_near (get_or bytes k 0) (fits k).fits in
+    let dash = λ (k : ℕ). dash_near (get_or bytes k 0) (fits k).fits in
+    let colon = λ (k : ℕ). colon_near (get_or bytes k 0) (fits k).fits in
+    let near : are_near most bytes least ≡ _ =
+    ap (λ (bytes : List ℕ). are_near most bytes least) (nineteen bytes long)
     ∙ (λ i. list_all (λ (x : Bool). x) (
     digit 0 i ∷ digit 1 i ∷ digit 2 i ∷ digit 3 i ∷ dash 4 i ∷ digit 5 i ∷ digit 6 i ∷ dash 7 i
-    ∷ digit 8 i ∷ digit 9 i ∷ any_near (get_or b 10 0) 32 i ∷ digit 11 i ∷ digit 12 i
+    ∷ digit 8 i ∷ digit 9 i ∷ any_near (get_or bytes 10 0) 32 i ∷ digit 11 i ∷ digit 12 i
     ∷ colon 13 i ∷ digit 14 i ∷ digit 15 i ∷ []
     )) in
     rw (separator, near)
-    (signs_first (slice_index b 4 == 45) (slice_index b 7 == 45) (slice_index b 13 == 58) (slice_index b 16 == 58) (has_two b 17)
+    (signs_first (slice_index bytes 4 == 45) (slice_index bytes 7 == 45) (slice_index bytes 13 == 58) (slice_index bytes 16 == 58) (has_two bytes 17)
     (shown 0) (shown 1) (shown 2) (shown 3) (shown 5) (shown 6) (shown 8) (shown 9) (shown 11) (shown 12) (shown 14) (shown 15))
 
-pub seconds_of_lanes : (b : List ℕ) → 19 ≤ length b → ((k : ℕ) → Fits w8 (get_or b k 0)) → are_near most_back (drop 3 b) least_back ≡ has_seconds b
+pub seconds_of_lanes : (bytes : List ℕ) → 19 ≤ length bytes → ((k : ℕ) → Fits w8 (get_or bytes k 0)) → are_near most_back (drop 3 bytes) least_back ≡ has_seconds bytes
 unfolding has_seconds has_two
-seconds_of_lanes b long fits =
-    let any = λ (k least : ℕ). any_near (get_or b k 0) least in
-    let digit = λ (k : ℕ). digit_near (get_or b k 0) (fits k).fits in
-    ap (λ (bytes : List ℕ). are_near most_back (drop 3 bytes) least_back) (nineteen b long)
+seconds_of_lanes bytes long fits =
+    let any = λ (k least : ℕ). any_near (get_or bytes k 0) least in
+    let digit = λ (k : ℕ). digit_near (get_or bytes k 0) (fits k).fits in
+    ap (λ (bytes : List ℕ). are_near most_back (drop 3 bytes) least_back) (nineteen bytes long)
     ∙ (λ i. list_all (λ (x : Bool). x) (
     any 3 48 i ∷ any 4 45 i ∷ any 5 48 i ∷ any 6 48 i ∷ any 7 45 i ∷ any 8 48 i ∷ any 9 48 i ∷ any 10 32 i
     ∷ any 11 48 i ∷ any 12 48 i ∷ any 13 58 i ∷ any 14 48 i ∷ any 15 48 i
-    ∷ colon_near (get_or b 16 0) (fits 16).fits i ∷ digit 17 i ∷ digit 18 i ∷ []
+    ∷ colon_near (get_or bytes 16 0) (fits 16).fits i ∷ digit 17 i ∷ digit 18 i ∷ []
     ))
     ∙ grind (arith, common_steps)

@@ -13,10 +13,10 @@ use Rattle.humantime.proofs.Timestamps.Reading.Places.{has_two_from_test, number
 
 -- the numbers of the bytes from the first on, and from the fourth
 abbrev lanes_of : List ℕ → Lanes
-lanes_of b = record {
-  front = dots (zip2 above (take 16 b) least)
+lanes_of bytes = record {
+  front = dots (zip2 above (take 16 bytes) least)
       (100 ∷ 10 ∷ 1 ∷ 0 ∷ 0 ∷ 10 ∷ 1 ∷ 0 ∷ 10 ∷ 1 ∷ 0 ∷ 0 ∷ 0 ∷ 0 ∷ 10 ∷ 1 ∷ []);
-  back = dots (zip2 above (take 16 (drop 3 b)) least_back)
+  back = dots (zip2 above (take 16 (drop 3 bytes)) least_back)
       (1 ∷ 0 ∷ 0 ∷ 0 ∷ 0 ∷ 0 ∷ 0 ∷ 0 ∷ 10 ∷ 1 ∷ 0 ∷ 0 ∷ 0 ∷ 0 ∷ 10 ∷ 1 ∷ []);
 }
 
@@ -24,40 +24,40 @@ digit_above : (c : ℕ) → IsInRange 48 57 c → above c 48 ≡ c - 48
 digit_above c h = omega (arith, h)
 
 -- digits at two places, and the number that they show
-pair_from_test : (b : List ℕ) (k : ℕ) → k + 2 ≤ length b → has_two b k ≡ true
-    → let n = above (slice_index b k) 48 * 10 + above (slice_index b (k + 1)) 48 in (n ≡ number_between b k (k + 2)) × (n ≤ 999)
-pair_from_test b k long h =
-    let two = has_two_from_test b k h in
-    let number = number_of_two b k long h in
-    let first : above (slice_index b k) 48 ≡ slice_index b k - 48 = digit_above _ two.0 in
-    let second : above (slice_index b (k + 1)) 48 ≡ slice_index b (k + 1) - 48 = digit_above _ two.1 in
+pair_from_test : (bytes : List ℕ) (k : ℕ) → k + 2 ≤ length bytes → has_two bytes k ≡ true
+    → let n = above (slice_index bytes k) 48 * 10 + above (slice_index bytes (k + 1)) 48 in (n ≡ number_between bytes k (k + 2)) × (n ≤ 999)
+pair_from_test bytes k long h =
+    let two = has_two_from_test bytes k h in
+    let number = number_of_two bytes k long h in
+    let first : above (slice_index bytes k) 48 ≡ slice_index bytes k - 48 = digit_above _ two.0 in
+    let second : above (slice_index bytes (k + 1)) 48 ≡ slice_index bytes (k + 1) - 48 = digit_above _ two.1 in
     rw (first, second) (omega arith, omega arith)
 
 -- what four digits show: a tenth, and the last one
-year_from_test : (b : List ℕ) → 4 ≤ length b → has_two b 0 ≡ true → has_two b 2 ≡ true
-    → let tenth = above (slice_index b 0) 48 * 100 + above (slice_index b 1) 48 * 10 + above (slice_index b 2) 48 in
-    let last = above (slice_index b 3) 48 in (tenth * 10 + last ≡ number_between b 0 4) × (tenth ≤ 999) × (last ≤ 9)
-year_from_test b long century decade =
-    let front = has_two_from_test b 0 century in
-    let back = has_two_from_test b 2 decade in
-    let number = number_of_four b long century decade in
-    let first : above (slice_index b 0) 48 ≡ slice_index b 0 - 48 = digit_above _ front.0 in
-    let second : above (slice_index b 1) 48 ≡ slice_index b 1 - 48 = digit_above _ front.1 in
-    let third : above (slice_index b 2) 48 ≡ slice_index b 2 - 48 = digit_above _ back.0 in
-    let fourth : above (slice_index b 3) 48 ≡ slice_index b 3 - 48 = digit_above _ back.1 in
+year_from_test : (bytes : List ℕ) → 4 ≤ length bytes → has_two bytes 0 ≡ true → has_two bytes 2 ≡ true
+    → let tenth = above (slice_index bytes 0) 48 * 100 + above (slice_index bytes 1) 48 * 10 + above (slice_index bytes 2) 48 in
+    let last = above (slice_index bytes 3) 48 in (tenth * 10 + last ≡ number_between bytes 0 4) × (tenth ≤ 999) × (last ≤ 9)
+year_from_test bytes long century decade =
+    let front = has_two_from_test bytes 0 century in
+    let back = has_two_from_test bytes 2 decade in
+    let number = number_of_four bytes long century decade in
+    let first : above (slice_index bytes 0) 48 ≡ slice_index bytes 0 - 48 = digit_above _ front.0 in
+    let second : above (slice_index bytes 1) 48 ≡ slice_index bytes 1 - 48 = digit_above _ front.1 in
+    let third : above (slice_index bytes 2) 48 ≡ slice_index bytes 2 - 48 = digit_above _ back.0 in
+    let fourth : above (slice_index bytes 3) 48 ≡ slice_index bytes 3 - 48 = digit_above _ back.1 in
     rw (first, second, third, fourth) (omega arith, omega arith, omega arith)
 
 -- four numbers by their places
 abbrev places_of : List ℕ → Lanes
-places_of b = record {
-  front = (above (slice_index b 0) 48 * 100 + above (slice_index b 1) 48 * 10 + above (slice_index b 2) 48)
-      ∷ (above (slice_index b 5) 48 * 10 + above (slice_index b 6) 48) ∷ (above (slice_index b 8) 48 * 10 + above (slice_index b 9) 48)
-      ∷ (above (slice_index b 14) 48 * 10 + above (slice_index b 15) 48) ∷ [];
-  back = above (slice_index b 3) 48 ∷ 0 ∷ (above (slice_index b 11) 48 * 10 + above (slice_index b 12) 48)
-      ∷ (above (slice_index b 17) 48 * 10 + above (slice_index b 18) 48) ∷ [];
+places_of bytes = record {
+  front = (above (slice_index bytes 0) 48 * 100 + above (slice_index bytes 1) 48 * 10 + above (slice_index bytes 2) 48)
+      ∷ (above (slice_index bytes 5) 48 * 10 + above (slice_index bytes 6) 48) ∷ (above (slice_index bytes 8) 48 * 10 + above (slice_index bytes 9) 48)
+      ∷ (above (slice_index bytes 14) 48 * 10 + above (slice_index bytes 15) 48) ∷ [];
+  back = above (slice_index bytes 3) 48 ∷ 0 ∷ (above (slice_index bytes 11) 48 * 10 + above (slice_index bytes 12) 48)
+      ∷ (above (slice_index bytes 17) 48 * 10 + above (slice_index bytes 18) 48) ∷ [];
 }
 
-lanes_placed : (b : List ℕ) → 19 ≤ length b → lanes_of b ≡ places_of b
+lanes_placed : (bytes : List ℕ) → 19 ≤ length bytes → lanes_of bytes ≡ places_of bytes
 lanes_placed (b0 ∷ b1 ∷ b2 ∷ b3 ∷ b4 ∷ b5 ∷ b6 ∷ b7 ∷ b8 ∷ b9 ∷ b10 ∷ b11 ∷ b12 ∷ b13 ∷ b14 ∷ b15 ∷ b16 ∷ b17 ∷ b18 ∷ r) long = grind (arith, common_steps)
 lanes_placed _ h = absurd (omega arith)
 
@@ -65,17 +65,17 @@ all_of_four : (a b c d : ℕ) → a ≤ 999 → b ≤ 999 → c ≤ 999 → d �
     → (length (a ∷ b ∷ c ∷ d ∷ []) ≡ 4) × ((k : ℕ) → slice_index (a ∷ b ∷ c ∷ d ∷ []) k ≤ 999)
 all_of_four a b c d ha hb hc hd = grind (arith, common_steps)
 
-pub numbers_shown : (b : List ℕ) → 19 ≤ length b → has_digits b ≡ true
-    → (numbers_in (lanes_of b) ≡ numbers_of b) × AreShort (lanes_of b)
-numbers_shown b long digits =
-    let pairs = pairs_from_test b digits in
-    let year = year_from_test b (omega arith) pairs.0 pairs.1 in
-    let month = pair_from_test b 5 (omega arith) pairs.2 in
-    let day = pair_from_test b 8 (omega arith) pairs.3 in
-    let hour = pair_from_test b 11 (omega arith) pairs.4 in
-    let minute = pair_from_test b 14 (omega arith) pairs.5 in
-    let second = pair_from_test b 17 (omega arith) pairs.6 in
-    subst (λ (l : Lanes). (numbers_in l ≡ numbers_of b) × AreShort l) (sym (lanes_placed b long)) (
+pub numbers_shown : (bytes : List ℕ) → 19 ≤ length bytes → has_digits bytes ≡ true
+    → (numbers_in (lanes_of bytes) ≡ numbers_of bytes) × AreShort (lanes_of bytes)
+numbers_shown bytes long digits =
+    let pairs = pairs_from_test bytes digits in
+    let year = year_from_test bytes (omega arith) pairs.0 pairs.1 in
+    let month = pair_from_test bytes 5 (omega arith) pairs.2 in
+    let day = pair_from_test bytes 8 (omega arith) pairs.3 in
+    let hour = pair_from_test bytes 11 (omega arith) pairs.4 in
+    let minute = pair_from_test bytes 14 (omega arith) pairs.5 in
+    let second = pair_from_test bytes 17 (omega arith) pairs.6 in
+    subst (λ (l : Lanes). (numbers_in l ≡ numbers_of bytes) × AreShort l) (sym (lanes_placed bytes long)) (
       (λ i. record {
         date = record { year = year.0 i; month = month.0 i; day = day.0 i };
         hour = hour.0 i;

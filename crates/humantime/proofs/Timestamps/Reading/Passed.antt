@@ -12,16 +12,16 @@ use Rattle.humantime.proofs.Timestamps.Reading.Ends.{IsPlain, plain_bytes, befor
 use Rattle.humantime.proofs.Timestamps.Reading.Places.{number_of_two, number_of_four, bounds}
 
 -- the digits of a number at its place, read back
-two_back : (b : List ℕ) (k n : ℕ) → k + 2 ≤ length b → slice_index b k ≡ 48 + n / 10 → slice_index b (k + 1) ≡ 48 + n % 10 → n ≤ 99
-    → (has_two b k ≡ true) × (number_between b k (k + 2) ≡ n)
+two_back : (bytes : List ℕ) (k n : ℕ) → k + 2 ≤ length bytes → slice_index bytes k ≡ 48 + n / 10 → slice_index bytes (k + 1) ≡ 48 + n % 10 → n ≤ 99
+    → (has_two bytes k ≡ true) × (number_between bytes k (k + 2) ≡ n)
 unfolding has_two
-two_back b k n long first second h = grind (arith, common_steps, number_of_two)
+two_back bytes k n long first second h = grind (arith, common_steps, number_of_two)
 
-year_back : (b : List ℕ) (n : ℕ) → 4 ≤ length b → n ≤ 9999
-    → slice_index b 0 ≡ 48 + n / 1000 → slice_index b 1 ≡ 48 + n / 100 % 10 → slice_index b 2 ≡ 48 + n / 10 % 10 → slice_index b 3 ≡ 48 + n % 10
-    → (has_two b 0 ≡ true) × (has_two b 2 ≡ true) × (number_between b 0 4 ≡ n)
+year_back : (bytes : List ℕ) (n : ℕ) → 4 ≤ length bytes → n ≤ 9999
+    → slice_index bytes 0 ≡ 48 + n / 1000 → slice_index bytes 1 ≡ 48 + n / 100 % 10 → slice_index bytes 2 ≡ 48 + n / 10 % 10 → slice_index bytes 3 ≡ 48 + n % 10
+    → (has_two bytes 0 ≡ true) × (has_two bytes 2 ≡ true) × (number_between bytes 0 4 ≡ n)
 unfolding has_two
-year_back b n long h first second third fourth = grind (arith, common_steps, number_of_four)
+year_back bytes n long h first second third fourth = grind (arith, common_steps, number_of_four)
 
 -- what stands between the seconds and the zone
 ending : (fraction : Option (List ℕ)) → (has_point (fraction_text fraction) ≡ true)
@@ -37,26 +37,26 @@ written_passes : (f : Fields) → IsWeak (fields_text f) f
     → (first_failed (weak_checks (fields_text f)) ≡ None) × (f ≡ fields_of (fields_text f))
 unfolding are_in_range has_digits
 written_passes f w =
-    let b = fields_text f in
-    let long : 19 ≤ length b = omega arith in
+    let bytes = fields_text f in
+    let long : 19 ≤ length bytes = omega arith in
     let most = month_most f.date.year f.date.month in
     let within = valid_from_test f.date.year f.date.month f.date.day w.date in
-    let year = year_back b f.date.year (omega (arith, long)) within.0.1 refl refl refl refl in
-    let month = two_back b 5 f.date.month (omega (arith, long)) refl refl (omega (arith, within.1.1)) in
-    let day = two_back b 8 f.date.day (omega (arith, long)) refl refl (omega (arith, within.2.1, most)) in
-    let hour = two_back b 11 f.hour (omega (arith, long)) refl refl (omega (arith, w.hour)) in
-    let minute = two_back b 14 f.minute (omega (arith, long)) refl refl (omega (arith, w.minute)) in
-    let second = two_back b 17 f.second (omega (arith, long)) refl refl (omega (arith, w.second)) in
+    let year = year_back bytes f.date.year (omega (arith, long)) within.0.1 refl refl refl refl in
+    let month = two_back bytes 5 f.date.month (omega (arith, long)) refl refl (omega (arith, within.1.1)) in
+    let day = two_back bytes 8 f.date.day (omega (arith, long)) refl refl (omega (arith, within.2.1, most)) in
+    let hour = two_back bytes 11 f.hour (omega (arith, long)) refl refl (omega (arith, w.hour)) in
+    let minute = two_back bytes 14 f.minute (omega (arith, long)) refl refl (omega (arith, w.minute)) in
+    let second = two_back bytes 17 f.second (omega (arith, long)) refl refl (omega (arith, w.second)) in
     let plain = holds_of_fraction IsPlain plain_bytes f.fraction w.fraction in
-    let part : fraction_part b ≡ fraction_text f.fraction = before_zone_found (fraction_text f.fraction) f.zone plain in
+    let part : fraction_part bytes ≡ fraction_text f.fraction = before_zone_found (fraction_text f.fraction) f.zone plain in
     let end = ending f.fraction in
-    let digits : has_digits b ≡ true = rw (year.0, year.1, month.0, day.0, hour.0, minute.0, second.0) refl in
-    let range : are_in_range (numbers_of b) ≡ true =
+    let digits : has_digits bytes ≡ true = rw (year.0, year.1, month.0, day.0, hour.0, minute.0, second.0) refl in
+    let range : are_in_range (numbers_of bytes) ≡ true =
     rw (year.2, month.1, day.1, hour.1, minute.1, second.1) ((bounds _ _ _ _).1 (w.date, w.hour, w.minute, w.second)) in
     let zone = zone_found (fraction_text f.fraction) f.zone plain in (
-      rw (le-leb 19 (length b) long, (separator_back f).0, digits, range, part, end.0, end.1, w.fraction) refl,
+      rw (le-leb 19 (length bytes) long, (separator_back f).0, digits, range, part, end.0, end.1, w.fraction) refl,
       rw (year.2, month.1, day.1, (separator_back f).1, hour.1, minute.1, second.1, part, end.2, zone) refl,
     )
 
-pub weak_fields : (b : List ℕ) (f : Fields) → IsWeak b f → (first_failed (weak_checks b) ≡ None) × (f ≡ fields_of b)
-weak_fields b f w = rw w.shown (written_passes f (rw w.shown at w))
+pub weak_fields : (bytes : List ℕ) (f : Fields) → IsWeak bytes f → (first_failed (weak_checks bytes) ≡ None) × (f ≡ fields_of bytes)
+weak_fields bytes f w = rw w.shown (written_passes f (rw w.shown at w))

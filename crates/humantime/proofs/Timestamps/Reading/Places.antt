@@ -10,33 +10,33 @@ use Rattle.humantime.specs.Timestamps.Checks.{has_two, number_between}
 use Rattle.humantime.proofs.Timestamps.Reading.Fractions.{is_digit_from_test}
 
 -- the two digits at place k
-pub has_two_from_test : (b : List ℕ) (k : ℕ) → has_two b k ≡ true → IsInRange 48 57 (slice_index b k) × IsInRange 48 57 (slice_index b (k + 1))
+pub has_two_from_test : (bytes : List ℕ) (k : ℕ) → has_two bytes k ≡ true → IsInRange 48 57 (slice_index bytes k) × IsInRange 48 57 (slice_index bytes (k + 1))
 unfolding has_two
-has_two_from_test b k h = grind (arith, common_steps, is_digit_from_test)
+has_two_from_test bytes k h = grind (arith, common_steps, is_digit_from_test)
 
 -- the bytes from one place on, one after the other
-pub next_byte : (b : List ℕ) (k to : ℕ) → k < to → to ≤ length b → slice_range b k to ≡ slice_index b k ∷ slice_range b (k + 1) to
-next_byte b k to some long =
+pub next_byte : (bytes : List ℕ) (k to : ℕ) → k < to → to ≤ length bytes → slice_range bytes k to ≡ slice_index bytes k ∷ slice_range bytes (k + 1) to
+next_byte bytes k to some long =
     let size : to - k ≡ suc (to - (k + 1)) = omega arith in
-    rw (size, drop-cons b k 0 (omega arith), add-one k) refl
+    rw (size, drop-cons bytes k 0 (omega arith), add-one k) refl
 
-pub no_byte : (b : List ℕ) (k to : ℕ) → to ≤ k → slice_range b k to ≡ []
-no_byte b k to none = let size : to - k ≡ 0 = omega arith in rw size refl
+pub no_byte : (bytes : List ℕ) (k to : ℕ) → to ≤ k → slice_range bytes k to ≡ []
+no_byte bytes k to none = let size : to - k ≡ 0 = omega arith in rw size refl
 
-last_two : (b : List ℕ) (k to : ℕ) → to ≡ k + 2 → to ≤ length b → slice_range b k to ≡ slice_index b k ∷ slice_index b (k + 1) ∷ []
-last_two b k to two long = simp (next_byte b k to (omega arith), next_byte b (k + 1) to (omega arith), no_byte b (k + 1 + 1) to (omega arith))
+last_two : (bytes : List ℕ) (k to : ℕ) → to ≡ k + 2 → to ≤ length bytes → slice_range bytes k to ≡ slice_index bytes k ∷ slice_index bytes (k + 1) ∷ []
+last_two bytes k to two long = simp (next_byte bytes k to (omega arith), next_byte bytes (k + 1) to (omega arith), no_byte bytes (k + 1 + 1) to (omega arith))
 
-pub number_of_two : (b : List ℕ) (k : ℕ) → k + 2 ≤ length b → has_two b k ≡ true
-    → number_between b k (k + 2) ≡ (slice_index b k - 48) * 10 + (slice_index b (k + 1) - 48)
+pub number_of_two : (bytes : List ℕ) (k : ℕ) → k + 2 ≤ length bytes → has_two bytes k ≡ true
+    → number_between bytes k (k + 2) ≡ (slice_index bytes k - 48) * 10 + (slice_index bytes (k + 1) - 48)
 unfolding number_between
-number_of_two b k long h =
-    rw (last_two b k (k + 2) refl long) (grind (arith, common_steps, has_two_from_test, digit_value_digit))
+number_of_two bytes k long h =
+    rw (last_two bytes k (k + 2) refl long) (grind (arith, common_steps, has_two_from_test, digit_value_digit))
 
-pub number_of_four : (b : List ℕ) → 4 ≤ length b → has_two b 0 ≡ true → has_two b 2 ≡ true
-    → number_between b 0 4 ≡ (slice_index b 0 - 48) * 1000 + (slice_index b 1 - 48) * 100 + (slice_index b 2 - 48) * 10 + (slice_index b 3 - 48)
+pub number_of_four : (bytes : List ℕ) → 4 ≤ length bytes → has_two bytes 0 ≡ true → has_two bytes 2 ≡ true
+    → number_between bytes 0 4 ≡ (slice_index bytes 0 - 48) * 1000 + (slice_index bytes 1 - 48) * 100 + (slice_index bytes 2 - 48) * 10 + (slice_index bytes 3 - 48)
 unfolding number_between
-number_of_four b long century decade =
-    rw (next_byte b 0 4 (omega arith) long, next_byte b 1 4 (omega arith) long, last_two b 2 4 refl long)
+number_of_four bytes long century decade =
+    rw (next_byte bytes 0 4 (omega arith) long, next_byte bytes 1 4 (omega arith) long, last_two bytes 2 4 refl long)
     (grind (arith, common_steps, has_two_from_test, digit_value_digit))
 
 -- the tests of a date and a time of day

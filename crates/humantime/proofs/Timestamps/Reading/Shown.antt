@@ -8,44 +8,44 @@ use Rattle.humantime.proofs.Timestamps.Reading.Checks.{all_passed, fraction_of, 
 use Rattle.humantime.proofs.Timestamps.Reading.Ends.{zone_shown}
 use Rattle.humantime.proofs.Timestamps.Reading.Places.{has_two_from_test, number_of_two, number_of_four, bounds}
 
-pair_shown : (b : List ℕ) (k : ℕ) → k + 2 ≤ length b → has_two b k ≡ true
-    → (slice_index b k ≡ 48 + number_between b k (k + 2) / 10) × (slice_index b (k + 1) ≡ 48 + number_between b k (k + 2) % 10)
-pair_shown b k long h = grind (arith, common_steps, has_two_from_test, number_of_two)
+pair_shown : (bytes : List ℕ) (k : ℕ) → k + 2 ≤ length bytes → has_two bytes k ≡ true
+    → (slice_index bytes k ≡ 48 + number_between bytes k (k + 2) / 10) × (slice_index bytes (k + 1) ≡ 48 + number_between bytes k (k + 2) % 10)
+pair_shown bytes k long h = grind (arith, common_steps, has_two_from_test, number_of_two)
 
-year_shown : (b : List ℕ) → 4 ≤ length b → has_two b 0 ≡ true → has_two b 2 ≡ true
-    → (slice_index b 0 ≡ 48 + number_between b 0 4 / 1000) × (slice_index b 1 ≡ 48 + number_between b 0 4 / 100 % 10)
-    × (slice_index b 2 ≡ 48 + number_between b 0 4 / 10 % 10) × (slice_index b 3 ≡ 48 + number_between b 0 4 % 10)
-year_shown b long century decade = grind (arith, common_steps, has_two_from_test, number_of_four)
+year_shown : (bytes : List ℕ) → 4 ≤ length bytes → has_two bytes 0 ≡ true → has_two bytes 2 ≡ true
+    → (slice_index bytes 0 ≡ 48 + number_between bytes 0 4 / 1000) × (slice_index bytes 1 ≡ 48 + number_between bytes 0 4 / 100 % 10)
+    × (slice_index bytes 2 ≡ 48 + number_between bytes 0 4 / 10 % 10) × (slice_index bytes 3 ≡ 48 + number_between bytes 0 4 % 10)
+year_shown bytes long century decade = grind (arith, common_steps, has_two_from_test, number_of_four)
 
-written_shown : (b : List ℕ) → first_failed (weak_checks b) ≡ None → b ≡ fields_text (fields_of b)
-written_shown b passed =
-    let p = all_passed b passed in
+written_shown : (bytes : List ℕ) → first_failed (weak_checks bytes) ≡ None → bytes ≡ fields_text (fields_of bytes)
+written_shown bytes passed =
+    let p = all_passed bytes passed in
     let long = p.0 in
-    let signs = punctuation_from_test b p.1 in
-    let pairs = pairs_from_test b p.2 in
-    let year = year_shown b (omega arith) pairs.0 pairs.1 in
-    let month = pair_shown b 5 (omega arith) pairs.2 in
-    let day = pair_shown b 8 (omega arith) pairs.3 in
-    let hour = pair_shown b 11 (omega arith) pairs.4 in
-    let minute = pair_shown b 14 (omega arith) pairs.5 in
-    let second = pair_shown b 17 (omega arith) pairs.6 in
-    let end : drop 19 b ≡ fraction_text (fraction_of (fraction_part b)) ++ zone_text (zone_of (drop 19 b)) =
-    zone_shown (drop 19 b) ∙ ap (λ (part : List ℕ). part ++ zone_text (zone_of (drop 19 b))) (part_shown (fraction_part b) p.4) in
-    nineteen b long
+    let signs = punctuation_from_test bytes p.1 in
+    let pairs = pairs_from_test bytes p.2 in
+    let year = year_shown bytes (omega arith) pairs.0 pairs.1 in
+    let month = pair_shown bytes 5 (omega arith) pairs.2 in
+    let day = pair_shown bytes 8 (omega arith) pairs.3 in
+    let hour = pair_shown bytes 11 (omega arith) pairs.4 in
+    let minute = pair_shown bytes 14 (omega arith) pairs.5 in
+    let second = pair_shown bytes 17 (omega arith) pairs.6 in
+    let end : drop 19 bytes ≡ fraction_text (fraction_of (fraction_part bytes)) ++ zone_text (zone_of (drop 19 bytes)) =
+    zone_shown (drop 19 bytes) ∙ ap (λ (part : List ℕ). part ++ zone_text (zone_of (drop 19 bytes))) (part_shown (fraction_part bytes) p.4) in
+    nineteen bytes long
     ∙ (λ i. year.0 i ∷ year.1 i ∷ year.2 i ∷ year.3 i
     ∷ signs.0 i ∷ month.0 i ∷ month.1 i ∷ signs.1 i ∷ day.0 i ∷ day.1 i ∷ signs.2 i
     ∷ hour.0 i ∷ hour.1 i ∷ signs.3 i ∷ minute.0 i ∷ minute.1 i ∷ signs.4 i ∷ second.0 i ∷ second.1 i ∷ end i)
 
-pub fields_weak : (b : List ℕ) → first_failed (weak_checks b) ≡ None → IsWeak b (fields_of b)
+pub fields_weak : (bytes : List ℕ) → first_failed (weak_checks bytes) ≡ None → IsWeak bytes (fields_of bytes)
 unfolding are_in_range
-fields_weak b passed =
-    let p = all_passed b passed in
+fields_weak bytes passed =
+    let p = all_passed bytes passed in
     let range = (bounds _ _ _ _).0 p.3 in
     record {
-      shown = written_shown b passed;
+      shown = written_shown bytes passed;
       date = range.0;
       hour = range.1;
       minute = range.2;
       second = range.3;
-      fraction = rw (part_digits (fraction_part b)) p.5;
+      fraction = rw (part_digits (fraction_part bytes)) p.5;
     }
