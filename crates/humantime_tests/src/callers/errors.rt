@@ -1,9 +1,9 @@
 //! Errors in an error of one's own, and in a message.
 
-ghost use Rattle.std.specs.Prelude.{◌≡◌, ◌++◌, ◌+ℤ◌, ◌<ℤ◌, ℕ, ℤ, pos, chars, codes, string_bytes, IfOk, IsOkAnd, SomeIff, Ok, Err};
+ghost use Rattle.std.specs.Prelude.{◌≡◌, ◌++◌, ◌+ℤ◌, ◌<ℤ◌, ℕ, ℤ, pos, chars, codes, string_bytes, IfOk, IsOkAnd, List, Some, SomeIff, Ok, Err};
 ghost use Rattle.humantime.specs.declared.TimestampError.{TimestampError};
 ghost use Rattle.humantime.specs.declared.DurationError.{DurationError};
-ghost use Rattle.humantime.specs.Prelude.{Fault, duration_answer, fault_message, fault_of, moment_end, strict_answer};
+ghost use Rattle.humantime.specs.Prelude.{Fault, duration_answer, fault_message, fault_of, moment_end, strict_answer, timestamp_message};
 ghost use Rattle.humantime_tests.specs.declared.callers.errors.LineError.TheVariants.{Start, Limit};
 
 use humantime::{DurationError, SystemTime, TimestampError, parse_duration, parse_rfc3339};
@@ -20,6 +20,8 @@ pub enum LineError<'a> {
 }
 
 impl fmt::Display for LineError<'_> {
+    ghost output = { λ e. Some (elim e as (λ _. List ℕ) [ Start error ↦ codes "start: " ++ timestamp_message error | Limit error ↦ codes "limit: " ++ fault_message (fault_of error) ]) };
+
     fn fmt<W: fmt::Write>(&self, f: &mut fmt::Formatter<W>) -> fmt::Result {
         match self {
             LineError::Start(error) => write!(f, "start: {error}"),
