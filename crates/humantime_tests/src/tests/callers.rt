@@ -6,15 +6,13 @@ use crate::callers::durations::{
     default_limit, end_of, is_same_error, is_within, limit_seconds, place_in_line, shown_seconds,
     underlined,
 };
-use crate::callers::errors::{deadline, message};
 use crate::callers::laws::comes_back;
 use crate::callers::spans::longest_span;
 use crate::callers::timestamps::{
-    age_line, default_start, is_earlier, is_same_moment, is_since, later_than, stamp_of,
+    default_start, is_earlier, is_same_moment, is_since, later_than, stamp_of,
 };
 use crate::tests::support::assert_same;
-use humantime::{Date, DurationError, StdDuration, TimestampError, UNIX_EPOCH, parse_rfc3339};
-use std::alloc::AllocError;
+use humantime::{Date, DurationError, StdDuration, TimestampError, UNIX_EPOCH};
 use std::{io, time};
 
 #[test]
@@ -95,32 +93,6 @@ fn callers_of_std_answer(rt: HostRuntime) -> io::Result<()> {
     assert_same(&rt, moment.subsec_nanos(), 5);
     let now = from_std(time::SystemTime::now(&rt)?).expect(&rt, "no moment");
     assert_same(&rt, UNIX_EPOCH < now, true);
-    Ok(())
-}
-
-#[test]
-fn a_line_says_how_long_and_since_when(rt: HostRuntime) -> Result<(), AllocError> {
-    let since = parse_rfc3339("2018-02-14T00:28:07Z").expect(&rt, "a moment");
-    let line = age_line(rt.alloc(), StdDuration::from_secs(9420), since)?;
-    let wanted = Some("kept 2h 37m since 2018-02-14T00:28:07Z");
-    assert_same(&rt, line.as_ref().map(|line| line.as_str()), wanted);
-    Ok(())
-}
-
-#[test]
-fn errors_convert_and_print(rt: HostRuntime) -> Result<(), AllocError> {
-    let alloc = rt.alloc();
-    let start = "2018-02-14T00:28:07Z";
-    let end = deadline(start, "2h 37min").ok().flatten();
-    assert_same(&rt, end.map(|end| end.unix_seconds()), Some(1518577507));
-    let error = deadline("2018-02-14", "1h").err().expect(&rt, "accepted");
-    let shown = format!(in alloc; "{error}")?;
-    assert_same(&rt, shown.as_str(), "start: timestamp format is invalid");
-    let error = deadline(start, "1h x").err().expect(&rt, "accepted");
-    let shown = format!(in alloc; "{error}")?;
-    assert_same(&rt, shown.as_str(), "limit: expected number at 3");
-    let shown = message(alloc, "2h x", &DurationError::NumberExpected(3))?;
-    assert_same(&rt, shown.as_str(), "2h x: expected number at 3");
     Ok(())
 }
 
