@@ -279,8 +279,7 @@ fn has_seconds(bytes: &[u8]) -> bool
     ensures { result ≡ Reading.has_seconds bytes.now }
 {
     let above = u8x16::from_slice(&bytes[3..]) - u8x16::from_array(LEAST_BACK);
-    let other = above.simd_gt(u8x16::from_array(MOST_ABOVE_BACK));
-    other.to_bitmask() == 0
+    above.simd_le(u8x16::from_array(MOST_ABOVE_BACK)).all()
 }
 
 /// Signs and digits in the first sixteen bytes, but for the sign between date and time. All are tested at once: a
@@ -292,8 +291,7 @@ fn matches_layout_front(bytes: &[u8]) -> bool
     ensures { (result && Reading.has_seconds bytes.now) ≡ (Checks.has_punctuation bytes.now && Checks.has_digits bytes.now) }
 {
     let above = u8x16::from_slice(bytes) - u8x16::from_array(LEAST);
-    let other = above.simd_gt(u8x16::from_array(MOST_ABOVE));
-    other.to_bitmask() == 0
+    above.simd_le(u8x16::from_array(MOST_ABOVE)).all()
 }
 
 /// The numbers that date and time show, where all places have digits: `dot4` sums up four bytes, each by its weight.
@@ -370,9 +368,8 @@ fn are_within(lanes: Lanes) -> bool
     ensures { IsTrue result ↔ AreWithin (numbers_in lanes) }
 {
     let after = lanes.front - u32x4::from_array(FIRST);
-    let other = after.simd_gt(u32x4::from_array(MOST_AFTER));
-    let other_back = lanes.back.simd_gt(u32x4::from_array(MOST_BACK));
-    other.to_bitmask() == 0 && other_back.to_bitmask() == 0
+    after.simd_le(u32x4::from_array(MOST_AFTER)).all()
+        && lanes.back.simd_le(u32x4::from_array(MOST_BACK)).all()
 }
 
 /// The seconds of the days before this one in its month, and of this day, summed in lanes.
@@ -451,7 +448,7 @@ fn are_sixteen_digits(bytes: &[u8]) -> bool
     ensures { result ≡ list_all is_ascii_digit bytes.now }
 {
     let numbers = u8x16::from_slice(bytes) - u8x16::splat(b'0');
-    numbers.simd_gt(u8x16::splat(9)).to_bitmask() == 0
+    numbers.simd_le(u8x16::splat(9)).all()
 }
 
 /// The nanoseconds of the last digits of sixteen bytes, at most nine, where they are digits.
@@ -462,7 +459,7 @@ fn last_digits(bytes: &[u8], count: usize) -> Option<u32>
     ensures { result ≡ nanos_found (drop (16 - count) bytes.now) }
 {
     let numbers = in_threes(u8x16::from_slice(bytes) - u8x16::splat(b'0'), count);
-    if numbers.simd_gt(u8x16::splat(9)).to_bitmask() != 0 {
+    if !numbers.simd_le(u8x16::splat(9)).all() {
         return None;
     }
     let threes = numbers.dot4(u8x16::from_array(WEIGHTS_THREE));

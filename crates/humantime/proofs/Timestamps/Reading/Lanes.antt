@@ -1,12 +1,14 @@
 -- Bytes and numbers that are tested at once are tested one by one.
 use Rattle.std.proofs.lemmas.Grind.{common_steps}
-use Rattle.std.proofs.Common.{◌≡◌, ℕ, ◌+◌, ◌-◌, ◌%◌, ◌^◌, ◌<◌, ◌≤◌, Bool, true, false, not, cond, eqb, ltb, ◌&&◌, List, [], ◌∷◌, map, length, get_or, take, drop, Fits, w8, refl, ap, ◌∙◌, arith}
+use Rattle.std.proofs.Common.{◌≡◌, ℕ, ◌+◌, ◌-◌, ◌%◌, ◌^◌, ◌<◌, ◌≤◌, Bool, true, false, not, cond, eqb, leb, ltb, ◌&&◌, List, [], ◌∷◌, map, length, get_or, take, drop, Fits, w8, refl, ap, sym, ◌∙◌, arith}
 use Rattle.std.specs.Char.{is_ascii_digit}
 use Rattle.std.specs.List.{list_all}
 use Rattle.std.specs.Prelude.{◌==◌, codes, slice_index}
 use Rattle.std.proofs.lemmas.Bool.{agree_below_at}
 use Rattle.std.proofs.lemmas.Bool.Decides.{nat_tests}
-use Rattle.std.proofs.lemmas.Simd.{mask_l-mod, tops_compared}
+use Rattle.std.proofs.lemmas.List.{length-take-le}
+use Rattle.std.proofs.lemmas.Simd.{mask_l-mod, tops_compared, length-zip2}
+use native.Mathlib.Nat.{two-pow-succ, one-le-pow}
 use lib.Lanes.{zip2, mask_l, top}
 use mir.Syntax.{Width}
 use mir.Val.{bits, hbits}
@@ -16,29 +18,38 @@ use Rattle.humantime.proofs.Timestamps.Reading.Checks.{nineteen}
 
 -- ---- A test of all lanes
 
-no_bits : (ms : List Bool) → eqb (mask_l ms) 0 ≡ list_all not ms
-no_bits [] = refl
-no_bits (true ∷ ms) = grind (arith, nat_tests)
-no_bits (false ∷ ms) = grind (arith, nat_tests, (no_bits ms))
+all_bits : (ms : List Bool) → eqb (mask_l (map not ms)) (2 ^ length ms - 1) ≡ list_all not ms
+all_bits [] = refl
+all_bits (true ∷ ms) = grind (arith, nat_tests, two-pow-succ (length ms), one-le-pow (length ms) 2 (omega arith))
+all_bits (false ∷ ms) = grind (arith, nat_tests, (all_bits ms), two-pow-succ (length ms), one-le-pow (length ms) 2 (omega arith))
 
-tests_few : (most xs : List ℕ) → length (zip2 ltb most xs) ≤ length most
-tests_few [] xs = omega arith
-tests_few (m ∷ most) [] = omega arith
-tests_few (m ∷ most) (x ∷ xs) = omega (arith, tests_few most xs)
+at_most : (a m : ℕ) → leb a m ≡ not (ltb m a)
+at_most a m = grind (arith, nat_tests)
 
--- where no bit is set, no lane is beyond its most
-pub none_beyond : (w : Width) (most xs : List ℕ) → length most ≤ 64
-    → eqb (mask_l (map (top (hbits w)) (zip2 (λ m a. cond (ltb m a) (2 ^ bits w - 1) 0) most xs)) % 2 ^ 64) 0 ≡ list_all not (zip2 ltb most xs)
-none_beyond w most xs few =
-    ap (λ (ms : List Bool). eqb (mask_l ms % 2 ^ 64) 0) (tops_compared w ltb most xs)
-    ∙ ap (λ (n : ℕ). eqb n 0) (mask_l-mod (zip2 ltb most xs) 64 (omega (arith, tests_few most xs)))
-    ∙ no_bits (zip2 ltb most xs)
+tests_turned : (most xs : List ℕ) → zip2 leb xs most ≡ map not (zip2 ltb most xs)
+tests_turned [] [] = refl
+tests_turned [] (x ∷ xs) = refl
+tests_turned (m ∷ most) [] = refl
+tests_turned (m ∷ most) (x ∷ xs) = (λ i. at_most x m i ∷ tests_turned most xs i)
+
+-- where all bits are set, no lane is beyond its most
+pub none_beyond : (w : Width) (most xs : List ℕ) → length xs ≡ length most → length most ≤ 64
+    → eqb (mask_l (map (top (hbits w)) (zip2 (λ a m. cond (leb a m) (2 ^ bits w - 1) 0) xs most)) % 2 ^ 64) (2 ^ length most - 1) ≡ list_all not (zip2 ltb most xs)
+none_beyond w most xs long few =
+    ap (λ (ms : List Bool). eqb (mask_l ms % 2 ^ 64) (2 ^ length most - 1)) (tops_compared w leb xs most)
+    ∙ ap (λ (n : ℕ). eqb n (2 ^ length most - 1)) (mask_l-mod (zip2 leb xs most) 64 (omega (arith, length-zip2 leb xs most long)))
+    ∙ ap (λ (ms : List Bool). eqb (mask_l ms) (2 ^ length most - 1)) (tests_turned most xs)
+    ∙ ap (λ (n : ℕ). eqb (mask_l (map not (zip2 ltb most xs))) (2 ^ n - 1)) (sym (length-zip2 ltb most xs (sym long)))
+    ∙ all_bits (zip2 ltb most xs)
 
 -- ---- Date and time
 
 -- how far a byte is above another, wrapped around
 abbrev pub above : ℕ → ℕ → ℕ
 above a bytes = (a + (2 ^ 8 - bytes)) % 2 ^ 8
+
+pub length-above : (bytes least : List ℕ) → length least ≤ length bytes → length (zip2 above (take (length least) bytes) least) ≡ length least
+length-above bytes least few = length-zip2 above (take (length least) bytes) least (length-take-le (length least) bytes few) ∙ length-take-le (length least) bytes few
 
 -- no byte is beyond its most above its least
 abbrev are_near : List ℕ → List ℕ → List ℕ → Bool

@@ -1,9 +1,10 @@
 -- The ranges of a date and time, tested at once, and its seconds, summed at once.
-use Rattle.std.proofs.Common.{◌≡◌, ℕ, ◌+◌, ◌-◌, ◌*◌, ◌%◌, ◌^◌, ◌≤◌, true, not, cond, ltb, List, [], ◌∷◌, map, arith}
+use Rattle.std.proofs.Common.{◌≡◌, ℕ, ◌+◌, ◌-◌, ◌*◌, ◌%◌, ◌^◌, ◌≤◌, true, not, cond, ltb, List, [], ◌∷◌, map, length, ◌∙◌, arith}
 use Rattle.std.specs.Prelude.{◌↔◌, min}
 use Rattle.std.specs.Int.{IsInRange}
 use Rattle.std.specs.List.{list_all}
 use Rattle.std.proofs.lemmas.Bool.Decides.{nat_tests}
+use Rattle.std.proofs.lemmas.Simd.{length-zip2}
 use lib.Lanes.{zip2, top, sel_l, fold_l}
 use Rattle.humantime.specs.Calendar.{days_in_month}
 use Rattle.humantime.specs.declared.date.parse.Numbers.{Numbers}
@@ -17,6 +18,9 @@ use Rattle.humantime.proofs.Timestamps.Reading.Places.{bounds}
 -- the numbers at the front, above the first ones
 abbrev pub after : List ℕ → List ℕ
 after front = zip2 (λ a b. (a + (2 ^ 32 - b)) % 2 ^ 32) front (197 ∷ 1 ∷ 1 ∷ 0 ∷ [])
+
+pub length-after : (front : List ℕ) → length front ≡ 4 → length (after front) ≡ 4
+length-after front long = length-zip2 (λ a b. (a + (2 ^ 32 - b)) % 2 ^ 32) front (197 ∷ 1 ∷ 1 ∷ 0 ∷ []) long ∙ long
 
 -- the seconds in the month, summed in vectors
 abbrev pub sum_of : List ℕ → List ℕ → ℕ

@@ -1,18 +1,18 @@
 use Rattle.std.proofs.Common.{sym, ◌∙◌, eq-eqb, w32, [], ◌∷◌, arith}
 use Rattle.std.proofs.lemmas.Bool.{eqb-true}
 use Rattle.humantime.proofs.Timestamps.Reading.Lanes.{none_beyond}
-use Rattle.humantime.proofs.Timestamps.Reading.Usual.{after, none_beyond_within}
+use Rattle.humantime.proofs.Timestamps.Reading.Usual.{after, length-after, none_beyond_within}
 use Rattle.humantime.proofs.date.parse.are_within.Goals as goal
 
-pub returns-then-other-eq0 : goal.returns-then-other-eq0
-returns-then-other-eq0 c =
+pub returns-then-after-eq15 : goal.returns-then-after-eq15
+returns-then-after-eq15 c =
     let within = none_beyond_within c.args.lanes.front c.args.lanes.back c.requires in
-    let front = none_beyond w32 (802 ∷ 11 ∷ 30 ∷ 59 ∷ []) (after c.args.lanes.front) (omega arith) in
-    let back = none_beyond w32 (9 ∷ 0 ∷ 23 ∷ 60 ∷ []) c.args.lanes.back (omega arith) in
-    (λ low. within.0 (sym front ∙ eq-eqb _ 0 c.if-other-eq0.true, sym back ∙ low), λ x. back ∙ (within.1 x).1)
+    let front = none_beyond w32 (802 ∷ 11 ∷ 30 ∷ 59 ∷ []) (after c.args.lanes.front) (length-after c.args.lanes.front c.requires.0.0) (omega arith) in
+    let back = none_beyond w32 (9 ∷ 0 ∷ 23 ∷ 60 ∷ []) c.args.lanes.back c.requires.1.0 (omega arith) in
+    (λ low. within.0 (sym front ∙ eq-eqb _ 15 c.if-after-eq15.true, sym back ∙ low), λ x. back ∙ (within.1 x).1)
 
-pub returns-else-other-eq0 : goal.returns-else-other-eq0
-returns-else-other-eq0 c =
+pub returns-else-after-eq15 : goal.returns-else-after-eq15
+returns-else-after-eq15 c =
     let within = none_beyond_within c.args.lanes.front c.args.lanes.back c.requires in
-    let front = none_beyond w32 (802 ∷ 11 ∷ 30 ∷ 59 ∷ []) (after c.args.lanes.front) (omega arith) in
-    (λ low. absurd (c.if-other-eq0.false (eqb-true _ 0 low)), λ x. front ∙ (within.1 x).0)
+    let front = none_beyond w32 (802 ∷ 11 ∷ 30 ∷ 59 ∷ []) (after c.args.lanes.front) (length-after c.args.lanes.front c.requires.0.0) (omega arith) in
+    (λ low. absurd (c.if-after-eq15.false (eqb-true _ 15 low)), λ x. front ∙ (within.1 x).0)
