@@ -12,8 +12,8 @@ ROOT = os.path.dirname(os.path.dirname(os.path.abspath(__file__)))
 OPEN_GOAL = re.compile(r"^note: (?:\./)?(src/\S+?):(\d+):\d+: it is not proved that (.*?) \(`([^`]*)`\)", re.M)
 ANSWER = re.compile(r"^(?:\./)?(proofs/\S+?):\d+:\d+: error: (?:`([^`]*)`)?", re.M)
 # What crates.txt names for the gate's order alone: a copy is checked without it.
-ORDER_ALONE = [("humantime_tests_sinks:", " humantime"), ("humantime_tests:", " humantime_tests_contracts")]
-TESTED = ["humantime_tests", "humantime_tests_durations", "humantime_tests_timestamps", "humantime_cli"]
+ORDER_ALONE = [("humantime_tests_sinks:", " humantime"), ("humantime_tests_values:", " humantime_tests_contracts")]
+TESTED = ["humantime_tests_values", "humantime_tests_durations", "humantime_tests_timestamps", "humantime_cli"]
 
 
 class Edit:

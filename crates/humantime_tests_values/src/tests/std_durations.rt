@@ -4,10 +4,10 @@ ghost use Rattle.std.specs.Prelude.{◌≡◌, ◌+◌};
 ghost use Rattle.humantime.specs.Prelude.{duration_end};
 
 use crate::tests::support::{assert_same, fed, first_value, least};
-use crate::witnesses::{
+use humantime::StdDuration;
+use humantime_tests::witnesses::{
     copied_std_duration, is_less_std_duration, is_same_std_duration, std_durations_feed_alike,
 };
-use humantime::StdDuration;
 use std::hash::{FoldHasher, Hasher};
 
 /// The constants and the default, as contracts see them.

@@ -3,8 +3,10 @@
 ghost use Rattle.std.specs.Prelude.{◌≡◌, pos};
 
 use crate::tests::support::{assert_same, fed, least, moment};
-use crate::witnesses::{is_less_system_time, is_same_system_time, is_same_system_time_error};
 use humantime::{StdDuration, SystemTime, UNIX_EPOCH};
+use humantime_tests::witnesses::{
+    is_less_system_time, is_same_system_time, is_same_system_time_error,
+};
 use std::process::Abort;
 
 /// The epoch's contract: it is the moment 0.

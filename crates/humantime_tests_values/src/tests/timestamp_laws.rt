@@ -1,18 +1,18 @@
 //! The callers of the laws of timestamps and days, run.
 
-use crate::callers::timestamps::{is_read_weakly_too, is_text_before};
-use crate::law_callers::days::{
+use crate::tests::support::{assert_same, moment};
+use humantime::TimestampError::{InvalidDigit, InvalidFormat, OutOfRange};
+use humantime::{Date, UNIX_EPOCH, format_rfc3339_millis};
+use humantime_tests::callers::timestamps::{is_read_weakly_too, is_text_before};
+use humantime_tests::law_callers::days::{
     date_comes_back, dates_differ_by_day, day_comes_back, days_by_computation,
     leap_day_is_of_leap_years,
 };
-use crate::law_callers::timestamps::{
+use humantime_tests::law_callers::timestamps::{
     fails_no_check, first_errors, first_of_1970, greatest_have_no_next, has_text, is_marked,
     is_one_fraction, is_parsed_weakly, moment_comes_back, order_of_texts, parts_come_back,
     shortest_length, string_again, text_again,
 };
-use crate::tests::support::{assert_same, moment};
-use humantime::TimestampError::{InvalidDigit, InvalidFormat, OutOfRange};
-use humantime::{Date, UNIX_EPOCH, format_rfc3339_millis};
 use std::cmp::Ordering;
 
 #[test]

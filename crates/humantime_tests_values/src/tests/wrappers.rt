@@ -5,12 +5,12 @@ ghost use Rattle.std.specs.Prelude.{◌≡◌};
 use crate::tests::support::{
     assert_not_printed, assert_prints, assert_same, fed, first_value, least, moment,
 };
-use crate::witnesses::{
-    durations_feed_alike, is_less_duration, is_less_timestamp, is_same_duration, is_same_timestamp,
-    timestamps_feed_alike,
-};
 use humantime::{
     Duration, DurationError, StdDuration, SystemTime, Timestamp, TimestampError, UNIX_EPOCH,
+};
+use humantime_tests::witnesses::{
+    durations_feed_alike, is_less_duration, is_less_timestamp, is_same_duration, is_same_timestamp,
+    timestamps_feed_alike,
 };
 use humantime_tests_sinks::Sink;
 use std::fmt::{self, Write};

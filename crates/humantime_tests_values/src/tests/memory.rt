@@ -1,10 +1,10 @@
 //! The only tests that take memory: a caller's own. `scripts/allocations` refuses each of their allocations in turn, and each
 //! time they end with the error.
 
-use crate::callers::errors::{deadline, message};
-use crate::callers::timestamps::{age_line, stamp_string};
 use crate::tests::support::assert_same;
 use humantime::{DurationError, StdDuration, UNIX_EPOCH, parse_duration, parse_rfc3339};
+use humantime_tests::callers::errors::{deadline, message};
+use humantime_tests::callers::timestamps::{age_line, stamp_string};
 use std::test::Fail;
 
 #[test]

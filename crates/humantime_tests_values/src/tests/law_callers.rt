@@ -1,14 +1,16 @@
 //! The callers of laws, run.
 
-use crate::callers::laws::{comes_back, looks_same, needs_no_space};
-use crate::law_callers::durations::{
+use crate::tests::support::assert_same;
+use humantime::{DurationError, Span, StdDuration};
+use humantime_tests::callers::laws::{comes_back, looks_same, needs_no_space};
+use humantime_tests::law_callers::durations::{
     adds_up, are_small, canonical_text, decided, first_item_and_answer, first_items,
     is_one_duration, is_one_value, is_settled, is_short, is_still_read, keeps_its_value,
     read_alike, read_as_before, reads_back, sum_of, two_walks, whole_seconds,
 };
-use crate::law_callers::errors::{message, place, points_into, read_by_rows, second_points_into};
-use crate::tests::support::assert_same;
-use humantime::{DurationError, Span, StdDuration};
+use humantime_tests::law_callers::errors::{
+    message, place, points_into, read_by_rows, second_points_into,
+};
 
 /// Texts of the page, each with its whole seconds and its canonical text.
 const READ: [(&str, u64, &str); 4] = [

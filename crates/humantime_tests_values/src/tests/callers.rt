@@ -1,18 +1,18 @@
 //! The callers of CALLING.md, run.
 
-use crate::callers::calendar::{days_after, weekday};
-use crate::callers::clock::{from_std, from_std_duration};
-use crate::callers::durations::{
+use crate::tests::support::assert_same;
+use humantime::{Date, DurationError, StdDuration, TimestampError, UNIX_EPOCH};
+use humantime_tests::callers::calendar::{days_after, weekday};
+use humantime_tests::callers::clock::{from_std, from_std_duration};
+use humantime_tests::callers::durations::{
     default_limit, end_of, is_same_error, is_within, limit_seconds, place_in_line, shown_seconds,
     underlined,
 };
-use crate::callers::laws::comes_back;
-use crate::callers::spans::longest_span;
-use crate::callers::timestamps::{
+use humantime_tests::callers::laws::comes_back;
+use humantime_tests::callers::spans::longest_span;
+use humantime_tests::callers::timestamps::{
     default_start, is_earlier, is_same_moment, is_since, later_than, stamp_of,
 };
-use crate::tests::support::assert_same;
-use humantime::{Date, DurationError, StdDuration, TimestampError, UNIX_EPOCH};
 use std::{io, time};
 
 #[test]

@@ -1,0 +1,6 @@
+//! Tests of values, of what `humantime_tests` shows and of the five programs. They stand in a crate of their own, since a crate is
+//! proved once with its tests and once without.
+#![tactic(auto)]
+
+#[cfg(test)]
+mod tests;
