@@ -12,7 +12,11 @@ ROOT = os.path.dirname(os.path.dirname(os.path.abspath(__file__)))
 OPEN_GOAL = re.compile(r"^note: (?:\./)?(src/\S+?):(\d+):\d+: it is not proved that (.*?) \(`([^`]*)`\)", re.M)
 ANSWER = re.compile(r"^(?:\./)?(proofs/\S+?):\d+:\d+: error: (?:`([^`]*)`)?", re.M)
 # What crates.txt names for the gate's order alone: a copy is checked without it.
-ORDER_ALONE = [("humantime_tests_sinks:", " humantime"), ("humantime_tests_values:", " humantime_tests_contracts")]
+ORDER_ALONE = [
+    ("humantime_tests_sinks:", " humantime"),
+    ("humantime_tests:", " humantime_examples"),
+    ("humantime_tests:", " humantime_tests_contracts"),
+]
 TESTED = ["humantime_tests_values", "humantime_tests_durations", "humantime_tests_timestamps", "humantime_cli"]
 
 
@@ -162,6 +166,6 @@ def judged_by_tests(top):
     for crate in TESTED:
         ran = rt(top, crate, "try", "--test")
         if ran.returncode:
-            failed = re.search(r"^test (\S+) \.\.\. FAILED|^error.*", ran.stdout, re.M)
-            return "test", failed[0] if failed else ran.stdout[-200:]
+            failed = re.search(r"^test (\S+) \.\.\. FAILED", ran.stdout, re.M)
+            return ("test", failed[0]) if failed else ("UNREADABLE", ran.stdout[-200:])
     return "NOTHING", "the tests pass"

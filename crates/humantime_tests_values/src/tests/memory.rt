@@ -34,18 +34,27 @@ fn a_line_says_how_long_and_since_when(rt: HostRuntime) -> Result<(), Fail> {
 }
 
 #[test]
-fn errors_convert_and_print(rt: HostRuntime) -> Result<(), Fail> {
-    let alloc = rt.alloc();
+fn the_error_of_a_start_prints(rt: HostRuntime) -> Result<(), Fail> {
+    let error = deadline("2018-02-14", "1h").err().expect(&rt, "accepted");
+    let shown = format!(in rt.alloc(); "{error}")?;
+    assert_same(&rt, shown.as_str(), "start: timestamp format is invalid");
+    Ok(())
+}
+
+#[test]
+fn the_error_of_a_limit_prints(rt: HostRuntime) -> Result<(), Fail> {
     let start = "2018-02-14T00:28:07Z";
     let end = deadline(start, "2h 37min").ok().flatten();
     assert_same(&rt, end.map(|end| end.unix_seconds()), Some(1518577507));
-    let error = deadline("2018-02-14", "1h").err().expect(&rt, "accepted");
-    let shown = format!(in alloc; "{error}")?;
-    assert_same(&rt, shown.as_str(), "start: timestamp format is invalid");
     let error = deadline(start, "1h x").err().expect(&rt, "accepted");
-    let shown = format!(in alloc; "{error}")?;
+    let shown = format!(in rt.alloc(); "{error}")?;
     assert_same(&rt, shown.as_str(), "limit: expected number at 3");
-    let shown = message(alloc, "2h x", &DurationError::NumberExpected(3))?;
+    Ok(())
+}
+
+#[test]
+fn an_error_prints_behind_its_text(rt: HostRuntime) -> Result<(), Fail> {
+    let shown = message(rt.alloc(), "2h x", &DurationError::NumberExpected(3))?;
     assert_same(&rt, shown.as_str(), "2h x: expected number at 3");
     Ok(())
 }
