@@ -33,14 +33,6 @@ pub(crate) const NO_UNIT: u64 = 0;
 /// How many bytes the longest word of a unit has.
 pub(crate) const MOST_BYTES: usize = 7;
 
-/// The key of a word with one byte more, where it fits.
-#[inline(always)]
-pub(crate) fn push_byte(key: u64, byte: u8) -> u64
-    ensures { key * 256 + byte < 2 ^ 64 → result ≡ key * 256 + byte }
-{
-    key.wrapping_mul(256).wrapping_add(byte as u64)
-}
-
 /// The unit whose word has this key, if there is one.
 #[inline(always)]
 #[tactic(auto, unfolding(crate::specs::References::Durations::Keys::scale_of_key))]

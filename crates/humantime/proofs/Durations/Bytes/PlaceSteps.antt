@@ -10,7 +10,7 @@ use Rattle.std.proofs.lemmas.List.{get_or-drop}
 use Rattle.std.proofs.lemmas.Str.{IsUtf8-drop, IsCharBoundary-past_char, drop_past_char, chars_past_char, byte_from_char, char_from_byte, len_utf8_ascii, len_utf8_bounds, encodes-chars, encode_same, IsCharBoundary-start}
 use Rattle.humantime.specs.Durations.Errors.{IsPlaceIn}
 use Rattle.humantime.specs.Texts.{begins, drop_while}
-use Rattle.humantime.specs.Durations.Characters.{is_letter, is_whitespace, is_digit, is_point}
+use Rattle.humantime.specs.Durations.Characters.{is_letter, is_whitespace, whitespace_chars, is_digit, is_point}
 use Rattle.humantime.specs.References.Durations.Scanning.{whitespace_len, digits_at, fraction_read, ends_span}
 use Rattle.humantime.specs.References.Durations.SpanParts.{IsBehindWord}
 use Rattle.humantime.proofs.Durations.Bytes.Tails.{no_bytes, tail_at}
@@ -214,3 +214,10 @@ pub whitespace_behind : (text : List ℕ) (at : ℕ) → IsUtf8 text → 0 < len
 whitespace_behind text at u some white n =
     let c = whitespace_over text 0 at u (some, IsCharBoundary-start text u) white n in
     (c.2.place, record { ends = rw c.2.ahead (whitespace_is_numeric _ c.1); same = rw (c.2.ahead, c.1) refl; tail = tail_at text _ at u c.2.place refl })
+
+-- a blank ends a span, and is one byte
+pub blank_behind : (text : List ℕ) → IsUtf8 text → 0 < length text → get_or text 0 0 ≡ 32 → IsCharBoundary text 1 × IsBehindWord text (drop 1 text)
+unfolding is_whitespace whitespace_chars
+blank_behind text u some e =
+    let c = rw e at (ascii_at text 0 u (some, IsCharBoundary-start text u) (omega (arith, e))) in
+    (c.place, record { ends = rw c.ahead (whitespace_is_numeric 32 refl); same = rw c.ahead refl; tail = tail_at text _ 1 u c.place refl })

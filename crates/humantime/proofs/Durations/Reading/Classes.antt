@@ -1,5 +1,6 @@
 -- What a character is excludes the others.
 use Rattle.std.proofs.lemmas.Grind.{common_steps}
+use Rattle.std.specs.Prelude.{◌&&◌, ◌||◌, ◌==◌, nat_le}
 use Rattle.std.proofs.Common.{◌≡◌, ◌≤◌, ◌<◌, ℕ, true, false, refl, sym, ◌∙◌, arith}
 use Rattle.std.specs.Char.{is_whitespace as std_is_whitespace, is_ascii_digit, is_ascii_alphabetic}
 use Rattle.std.proofs.lemmas.Bool.{or_left, or_right}
@@ -20,6 +21,13 @@ digit_not_whitespace c e = let other : std_is_whitespace c ≡ false = grind (ar
 pub letter_not_whitespace : (c : ℕ) → is_letter c ≡ true → is_whitespace c ≡ false
 unfolding is_letter
 letter_not_whitespace c e = let other : std_is_whitespace c ≡ false = grind (arith, nat_tests) in sym (whitespace_is c) ∙ other
+
+-- up to U+007F whitespace is the tab and the four characters behind it, and the blank
+pub low_whitespace : (c : ℕ) → c ≤ 32 → is_whitespace c ≡ (c == 32 || (nat_le 9 c && nat_le c 13))
+low_whitespace c low = let same : std_is_whitespace c ≡ (c == 32 || (nat_le 9 c && nat_le c 13)) = grind (arith, nat_tests) in sym (whitespace_is c) ∙ same
+
+pub no_whitespace_between : (c : ℕ) → 32 < c → c < 128 → is_whitespace c ≡ false
+no_whitespace_between c low high = let other : std_is_whitespace c ≡ false = grind (arith, nat_tests) in sym (whitespace_is c) ∙ other
 
 pub letter_not_point : (c : ℕ) → is_letter c ≡ true → is_point c ≡ false
 unfolding is_letter is_point

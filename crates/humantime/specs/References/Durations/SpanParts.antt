@@ -1,13 +1,15 @@
 -- The span that is read at a rest.
-use Rattle.std.specs.Prelude.{◌≡◌, ℕ, ◌<◌, true, List, length, Option, Some, None, Result, Ok, Err, chars}
+use Rattle.std.specs.Prelude.{◌≡◌, ℕ, ◌<◌, true, List, length, Option, Some, None, Result, Ok, Err, IfOk, IfErr, chars}
+use Rattle.std.specs.Borrow.{Bor}
 use Rattle.humantime.specs.declared.duration.error.DurationError.{DurationError}
 use Rattle.humantime.specs.declared.duration.reading.span.Span.{Span}
 use Rattle.humantime.specs.Texts.{drop_while}
 use Rattle.humantime.specs.Durations.Characters.{is_whitespace}
 use Rattle.humantime.specs.Durations.Faults.{after_word, Fault}
-use Rattle.humantime.specs.Durations.Errors.{IsRangeIn, fault_of}
+use Rattle.humantime.specs.Durations.Errors.{IsRangeIn, PointsInto, fault_of}
 use Rattle.humantime.specs.References.Durations.TextViews.{view_at}
 use Rattle.humantime.specs.References.Durations.SpanViews.{span_view}
+use Rattle.humantime.specs.References.Durations.Reading.{stop_at}
 use Rattle.humantime.specs.References.Durations.Scanning.{IsTail, ends_span}
 
 -- What follows a word may end a span, and next is what follows, perhaps without some of its whitespace.
@@ -29,3 +31,9 @@ pub record IsSpanAt (text rest : List ℕ) (s : Span) (next : List ℕ) : Type 0
 abbrev pub stop_of : {X : Type 0} → Result X DurationError → Option Fault
 stop_of (Ok x) = None
 stop_of (Err e) = Some (fault_of e)
+
+-- What reading the span at a rest of the text gives: the span and what follows it, or its fault, which points into the text.
+pub record ReadsSpan (text rest : List ℕ) (result : Result (Span × Bor (List ℕ)) DurationError) : Type 0 where
+  pub stop : stop_of result ≡ stop_at (chars text) (chars rest)
+  pub place : IfErr result (PointsInto text)
+  pub fine : IfOk result (λ x. IsSpanAt text rest x.0 x.1.now)

@@ -5,7 +5,7 @@ ghost use Rattle.humantime.specs.References.Durations.Scanning.{IsTail};
 
 use crate::duration::error::DurationError;
 use crate::duration::reading::reader::span_at;
-use crate::duration::reading::scan::{begins_with_digit, offset_of, skip_whitespace};
+use crate::duration::reading::scan::{offset_of, skip_whitespace};
 use crate::duration::reading::span::Span;
 
 /// An iterator over the spans of a text, from left to right, and then the fault at which they stop.
@@ -48,7 +48,7 @@ impl<'a> Iterator for SpanIter<'a> {
             return None;
         }
         let text = self.text;
-        let rest = skip_whitespace(self.rest);
+        let (rest, has_digit) = skip_whitespace(self.rest);
         if rest.is_empty() {
             self.ended = true;
             if self.rest.len() == text.len() {
@@ -56,7 +56,7 @@ impl<'a> Iterator for SpanIter<'a> {
             }
             return None;
         }
-        if !begins_with_digit(rest) {
+        if !has_digit {
             self.ended = true;
             return Some(Err(DurationError::NumberExpected(offset_of(text, rest))));
         }

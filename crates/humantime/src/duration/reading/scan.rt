@@ -11,32 +11,7 @@ ghost use Rattle.humantime.specs.Durations.Units.{scale_of_word};
 ghost use Rattle.humantime.specs.References.Durations.Keys.{packed, scale_of_key};
 
 use crate::duration::reading::amount::{Fraction, push_digit};
-use crate::unit::{EMPTY_KEY, MOST_BYTES, NO_UNIT, push_byte};
-
-const W: bool = true;
-
-const O: bool = false;
-
-/// Which ASCII characters are whitespace, sixteen a row.
-static ASCII_WHITE: [bool; 128] = [
-    O, O, O, O, O, O, O, O, O, W, W, W, W, W, O, O, // 0x00 to 0x0f
-    O, O, O, O, O, O, O, O, O, O, O, O, O, O, O, O, // 0x10 to 0x1f
-    W, O, O, O, O, O, O, O, O, O, O, O, O, O, O, O, // space to '/'
-    O, O, O, O, O, O, O, O, O, O, O, O, O, O, O, O, // '0' to '?'
-    O, O, O, O, O, O, O, O, O, O, O, O, O, O, O, O, // '@' to 'O'
-    O, O, O, O, O, O, O, O, O, O, O, O, O, O, O, O, // 'P' to '_'
-    O, O, O, O, O, O, O, O, O, O, O, O, O, O, O, O, // '`' to 'o'
-    O, O, O, O, O, O, O, O, O, O, O, O, O, O, O, O, // 'p' to 0x7f
-];
-
-/// Whether an ASCII character is whitespace.
-#[inline(always)]
-fn is_ascii_white(c: u8) -> bool
-    requires { c < 128 }
-    ensures { result ≡ is_whitespace c }
-{
-    ASCII_WHITE[c as usize]
-}
+use crate::unit::{EMPTY_KEY, MOST_BYTES, NO_UNIT};
 
 /// Whether these are the two bytes of the micro sign, or those of the Greek letter mu: the letters beyond ASCII.
 #[inline(always)]
@@ -68,8 +43,15 @@ pub(crate) fn skip_whitespace_char(text: &str, at: usize) -> Option<usize>
     ensures { SomeIff result (0 < whitespace_len (chars (drop at text.now))) (at + whitespace_len (chars (drop at text.now))) }
 {
     let bytes = text.as_bytes();
-    if bytes[at] < 0x80 {
-        return if is_ascii_white(bytes[at]) {
+    // Most bytes that stand here are letters of ASCII, which one test tells from whitespace.
+    if bytes[at] > b' ' && bytes[at] < 0x80 {
+        return None;
+    }
+    if bytes[at] <= b' ' {
+        if bytes[at] == b' ' {
+            return Some(at + 1);
+        }
+        return if bytes[at] >= b'\t' && bytes[at] <= b'\r' {
             Some(at + 1)
         } else {
             None
@@ -101,14 +83,16 @@ fn skip_spaces(text: &str, from: usize) -> usize
     at
 }
 
-/// What follows the whitespace at the front of the text. A digit is looked for first, since most texts have one there.
+/// What follows the whitespace at the front of the text, and whether a digit begins it. A digit is looked for first, since most
+/// texts have one there.
 #[inline(always)]
-pub(crate) fn skip_whitespace<'a>(text: &'a str) -> &'a str
-    ensures rest { chars result.now ≡ drop_while is_whitespace (chars text.now) }
-    ensures tail { IsTail text.now result.now }
+pub(crate) fn skip_whitespace<'a>(text: &'a str) -> (&'a str, bool)
+    ensures rest { chars result.0.now ≡ drop_while is_whitespace (chars text.now) }
+    ensures tail { IsTail text.now result.0.now }
+    ensures digit { result.1 ≡ begins is_digit (chars result.0.now) }
 {
     if begins_with_digit(text) {
-        return text;
+        return (text, true);
     }
     let mut at = 0;
     while at < text.len() {
@@ -117,7 +101,8 @@ pub(crate) fn skip_whitespace<'a>(text: &'a str) -> &'a str
             None => break,
         }
     }
-    &text[at..]
+    let rest = &text[at..];
+    (rest, begins_with_digit(rest))
 }
 
 /// The offset at which a part begins that goes on to the end of the text.
@@ -228,10 +213,11 @@ fn letters_end(text: &str) -> (usize, u64)
     let mut at = 0;
     while at < bytes.len() {
         if bytes[at].is_ascii_alphabetic() {
-            key = push_byte(key, bytes[at]);
+            key = key.wrapping_mul(256).wrapping_add(bytes[at] as u64);
             at += 1;
         } else if bytes[at] >= 0x80 && at + 1 < bytes.len() && is_mu(bytes[at], bytes[at + 1]) {
-            key = push_byte(push_byte(key, bytes[at]), bytes[at + 1]);
+            let first = key.wrapping_mul(256).wrapping_add(bytes[at] as u64);
+            key = first.wrapping_mul(256).wrapping_add(bytes[at + 1] as u64);
             at += 2;
         } else {
             break;
@@ -246,8 +232,12 @@ fn letters_end(text: &str) -> (usize, u64)
 pub(crate) fn read_word<'a>(text: &'a str) -> Option<(Word<'a>, &'a str)>
     ensures { MatchOption result (begins_no_word (chars text.now) ≡ true) (λ x. IsWordOf text.now x.0.letters.now x.1.now) }
 {
+    if text.is_empty() {
+        let key = EMPTY_KEY;
+        return Some((Word { letters: text, key }, text));
+    }
     let (end, key) = letters_end(text);
-    if end == 0 && !text.is_empty() {
+    if end == 0 {
         return None;
     }
     let letters = &text[..end];

@@ -15,6 +15,7 @@ use crate::value::StdDuration;
 const MOST_BEFORE_NINE_ZEROS: u64 = 18_446_744_073;
 
 /// The duration and so many of the unit.
+#[inline(always)]
 fn add_whole(sum: StdDuration, value: u64, unit: Unit) -> Option<StdDuration>
     ensures { result ≡ add_times sum (scale_of unit).one value }
 {
@@ -89,12 +90,13 @@ fn add_fraction(total: StdDuration, fraction: Fraction, unit: Unit) -> Option<St
 }
 
 /// The duration and a span: first its number, then its fraction.
+#[inline(always)]
 pub(crate) fn add_amount(total: StdDuration, amount: Amount) -> Option<StdDuration>
     ensures { (s : Span) → IsAmountOf amount s → result ≡ add_span total s }
 {
-    let whole = add_whole(total, amount.value, amount.unit)?;
+    let (value, unit) = (amount.value, amount.unit);
     match amount.fraction {
-        None => Some(whole),
-        Some(fraction) => add_fraction(whole, fraction, amount.unit),
+        None => add_whole(total, value, unit),
+        Some(fraction) => add_fraction(add_whole(total, value, unit)?, fraction, unit),
     }
 }

@@ -1,4 +1,4 @@
-use Rattle.std.proofs.Common.{◌≡◌, ◌<◌, ◌+◌, ℕ, length, refl, sym, chars, drop, subst, ◌∙◌, arith}
+use Rattle.std.proofs.Common.{◌≡◌, ◌<◌, ◌+◌, ◌*◌, ◌%◌, ◌^◌, ℕ, List, length, get_or, refl, sym, ap, chars, drop, subst, ◌∙◌, arith}
 use Rattle.std.proofs.lemmas.Grind.{common_steps}
 use Rattle.std.proofs.lemmas.Str.{IsCharBoundary-start}
 use Rattle.humantime.specs.Durations.Characters.{is_letter}
@@ -17,12 +17,12 @@ loop-at-preserved-then-is_ascii_alphabetic c =
     let at = c.loop-at.at in
     let some : at < length text = omega (arith, c.loop-at-test.true, c.as_bytes-bytes.ensures.len) in
     let alphabetic = rw c.as_bytes-bytes.ensures.value at (sym c.is_ascii_alphabetic.ensures.value ∙ c.if-is_ascii_alphabetic.true) in
+    let seen = ap (λ (x : List ℕ). get_or x at 0) c.as_bytes-bytes.ensures.value in
     let s = letter_over text at c.utf8.text (some, c.loop-at.invariant.place) alphabetic in
     record {
       place = s.1.place;
       same = rw (s.1.ahead, s.0) at c.loop-at.invariant.same;
-      key = key_more text at c.loop-at.key c.push_byte-key.result (λ k. (c.type_inv.text k).fits) some c.loop-at.invariant.key
-          (rw c.as_bytes-bytes.ensures.value at c.push_byte-key.ensures);
+      key = key_more text at c.loop-at.key _ (λ k. (c.type_inv.text k).fits) some c.loop-at.invariant.key (λ fits. omega (arith, seen));
     }
 
 pub loop-at-preserved : goal.loop-at-preserved
@@ -33,14 +33,15 @@ loop-at-preserved c =
     let within : at + 1 < length text = omega (arith, c.if-at-bytes.true, c.as_bytes-bytes.ensures.len) in
     let s = mu_over text at c.utf8.text c.loop-at.invariant.place within (rw c.as_bytes-bytes.ensures.value at (sym c.is_mu.ensures ∙ c.if-is_mu.true)) in
     let bytes = λ (k : ℕ). (c.type_inv.text k).fits in
-    let one = rw c.as_bytes-bytes.ensures.value at c.push_byte.ensures in
-    let other = rw c.as_bytes-bytes.ensures.value at c.push_byte-key-then-is_mu.ensures in
-    let first = key_more text at c.loop-at.key c.push_byte.result bytes (omega arith) c.loop-at.invariant.key one in
-    let second = key_more text (at + 1) c.push_byte.result c.push_byte-key-then-is_mu.result bytes within first other in
+    let seen = λ (k : ℕ). ap (λ (x : List ℕ). get_or x k 0) c.as_bytes-bytes.ensures.value in
+    let low = (c.loop-at.key * 256 % 2 ^ 64 + get_or c.as_bytes-bytes.result.now at 0) % 2 ^ 64 in
+    let high = (low * 256 % 2 ^ 64 + get_or c.as_bytes-bytes.result.now (at + 1) 0) % 2 ^ 64 in
+    let first = key_more text at c.loop-at.key low bytes (omega arith) c.loop-at.invariant.key (λ fits. omega (arith, seen at)) in
+    let second = key_more text (at + 1) low high bytes within first (λ fits. omega (arith, seen (at + 1))) in
     record {
       place = s.2.place;
       same = rw (s.2.ahead, s.1) at c.loop-at.invariant.same;
-      key = subst (λ (n : ℕ). IsSoFar text n c.push_byte-key-then-is_mu.result) two second;
+      key = subst (λ (n : ℕ). IsSoFar text n high) two second;
     }
 
 pub returns-else-bytes-at-ge128-clause-rest : goal.returns-else-bytes-at-ge128-clause-rest

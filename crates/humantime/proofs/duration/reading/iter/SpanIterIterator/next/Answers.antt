@@ -8,7 +8,7 @@ use Rattle.humantime.proofs.duration.reading.iter.SpanIterIterator.next.Goals as
 
 pub span_at-requires-clause-digit : goal.span_at-requires-clause-digit
 unfolding BeginsWithDigit
-span_at-requires-clause-digit c = sym c.begins_with_digit.ensures ∙ c.if-not-begins_with_digit.false
+span_at-requires-clause-digit c = sym c.skip_whitespace-has_digit.ensures.digit ∙ c.if-not-has_digit.false
 
 pub returns-then-self-text-clause-steps : goal.returns-then-self-text-clause-steps
 returns-then-self-text-clause-steps c = (grind (arith, common_steps, no_bytes, step_end), refl, tt)
@@ -21,17 +21,17 @@ returns-then-self-text-clause-goes c =
 pub returns-then-is_empty-clause-steps : goal.returns-then-is_empty-clause-steps
 returns-then-is_empty-clause-steps c = (grind (arith, common_steps, no_bytes, step_end), refl, tt)
 
-pub returns-then-not-begins_with_digit-clause-steps : goal.returns-then-not-begins_with_digit-clause-steps
-returns-then-not-begins_with_digit-clause-steps c =
+pub returns-then-not-has_digit-clause-steps : goal.returns-then-not-has_digit-clause-steps
+returns-then-not-has_digit-clause-steps c =
     let s = c.args.self.now in
-    let rest = c.skip_whitespace-rest.result.now in
+    let rest = c.skip_whitespace-has_digit.result.0.now in
     let some : 0 < length rest = grind (arith, common_steps) in
-    let tail = tail_of_tail s.text.now s.rest.now rest s.tail c.skip_whitespace-rest.ensures.tail in
+    let tail = tail_of_tail s.text.now s.rest.now rest s.tail c.skip_whitespace-has_digit.ensures.tail in
     (grind (arith, common_steps, step_expected, some_chars), refl, rest_place s.text.now rest _ tail c.offset_of.ensures.bytes some)
 
-pub returns-then-not-begins_with_digit-clause-goes : goal.returns-then-not-begins_with_digit-clause-goes
-returns-then-not-begins_with_digit-clause-goes c =
-    let s = returns-then-not-begins_with_digit-clause-steps c in
+pub returns-then-not-has_digit-clause-goes : goal.returns-then-not-has_digit-clause-goes
+returns-then-not-has_digit-clause-goes c =
+    let s = returns-then-not-has_digit-clause-steps c in
     grind (arith, common_steps)
 
 pub returns-in-Ok-clause-steps : goal.returns-in-Ok-clause-steps
