@@ -85,8 +85,8 @@ impl<'b> Writer<'b> {
         self.push_digit(number % 10);
     }
 
-    /// Writes the digits of any number.
-    #[inline(never)]
+    /// Writes the digits of any number. It is inlined, since a call would have the writer in memory at each step.
+    #[inline(always)]
     fn push_long(&mut self, number: u64)
         requires fits { self.old.end + length (decimal number) ≤ length self.old.bytes.now }
         ensures { Appends self.old self.new (decimal number) }
