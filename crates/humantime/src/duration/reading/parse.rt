@@ -50,7 +50,8 @@ pub fn spans(s: &str) -> SpanIter<'_>
     }
 }
 
-/// The sum of the spans of a text. It stands out of line, so that the text `0` is answered at once.
+/// The sum of the spans of a text. It stands out of line, so that the text `0` is answered at once. An error is matched, as `?`
+/// would copy it by a call where the kit's own compiler builds it.
 #[inline(never)]
 fn sum_of<'a>(text: &'a str) -> Result<StdDuration, DurationError<'a>>
     ensures value { result_view result ≡ sum_items 0 (item_views (chars text.now)) }
@@ -59,10 +60,12 @@ fn sum_of<'a>(text: &'a str) -> Result<StdDuration, DurationError<'a>>
     let mut total = StdDuration::ZERO;
     let mut items = spans(text);
     while let Some(item) = items.next() {
-        let span = item?;
-        match add_amount(total, span.amount) {
-            Some(sum) => total = sum,
-            None => return Err(DurationError::NumberOverflow),
+        match item {
+            Ok(span) => match add_amount(total, span.amount) {
+                Some(sum) => total = sum,
+                None => return Err(DurationError::NumberOverflow),
+            },
+            Err(error) => return Err(error),
         }
     }
     Ok(total)

@@ -48,14 +48,10 @@ pub(crate) fn skip_whitespace_char(text: &str, at: usize) -> Option<usize>
         return None;
     }
     if bytes[at] <= b' ' {
-        if bytes[at] == b' ' {
+        if bytes[at] == b' ' || bytes[at] >= b'\t' && bytes[at] <= b'\r' {
             return Some(at + 1);
         }
-        return if bytes[at] >= b'\t' && bytes[at] <= b'\r' {
-            Some(at + 1)
-        } else {
-            None
-        };
+        return None;
     }
     // A letter is told by its bytes, and is not decoded.
     if at + 1 < bytes.len() && is_mu(bytes[at], bytes[at + 1]) {

@@ -1,6 +1,5 @@
 use Rattle.std.proofs.Common.{◌∙◌, ap, arith, chars}
 use Rattle.std.proofs.lemmas.Grind.{common_steps}
-use Rattle.std.proofs.lemmas.Result.{err_from_is_err_and}
 use Rattle.humantime.specs.References.Durations.TextViews.{sum_items, spelled}
 use Rattle.humantime.specs.References.Durations.SpanViews.{span_view}
 use Rattle.humantime.specs.References.Durations.Reading.{sum_spans}
@@ -14,24 +13,22 @@ loop-item-init c = record {
   text = c.spans-items.ensures.text;
 }
 
-pub returns-in_err-span-clause-value : goal.returns-in_err-span-clause-value
+pub returns-in-Err-clause-value : goal.returns-in-Err-clause-value
 unfolding sum_spans
-returns-in_err-span-clause-value c =
-    let p = err_from_is_err_and c.from_residual.result c.from_residual.ensures.1 in
-    grind (arith, common_steps)
+returns-in-Err-clause-value c = grind (arith, common_steps)
 
 pub loop-item-preserved : goal.loop-item-preserved
 unfolding sum_spans
 loop-item-preserved c =
-    let x = span_view c.in_ok-span.span in
-    let a = c.in-Some-add_amount.ensures (spelled x.number x.fraction x.unit) c.in_ok-span.span.read in
+    let x = span_view c.in-Ok.span in
+    let a = c.in-Some-add_amount.ensures (spelled x.number x.fraction x.unit) c.in-Ok.span.read in
     record { so_far = grind (arith, common_steps); text = c.next.ensures.steps.1 ∙ c.loop-item.invariant.text }
 
 pub returns-in-None-clause-value : goal.returns-in-None-clause-value
 unfolding sum_spans
 returns-in-None-clause-value c =
-    let x = span_view c.in_ok-span.span in
-    let a = c.in-None.ensures (spelled x.number x.fraction x.unit) c.in_ok-span.span.read in
+    let x = span_view c.in-Ok.span in
+    let a = c.in-None.ensures (spelled x.number x.fraction x.unit) c.in-Ok.span.read in
     grind (arith, common_steps)
 
 pub returns-clause-value : goal.returns-clause-value

@@ -11,11 +11,8 @@ returns-then-bytes-at-lt128 c = grind (arith, common_steps, ascii_at, no_whitesp
 pub returns-then-bytes-at-eq32 : goal.returns-then-bytes-at-eq32
 returns-then-bytes-at-eq32 c = grind (arith, common_steps, ascii_at, low_whitespace, nat_tests)
 
-pub returns-then-bytes-at-le13 : goal.returns-then-bytes-at-le13
-returns-then-bytes-at-le13 c = grind (arith, common_steps, ascii_at, low_whitespace, nat_tests)
-
-pub returns-else-bytes-at-ge9 : goal.returns-else-bytes-at-ge9
-returns-else-bytes-at-ge9 c = grind (arith, common_steps, ascii_at, low_whitespace, nat_tests)
+pub returns-then-bytes-at-le32 : goal.returns-then-bytes-at-le32
+returns-then-bytes-at-le32 c = grind (arith, common_steps, ascii_at, low_whitespace, nat_tests)
 
 pub returns-then-is_mu : goal.returns-then-is_mu
 returns-then-is_mu c =
