@@ -14,10 +14,9 @@ ANSWER = re.compile(r"^(?:\./)?(proofs/\S+?):\d+:\d+: error: (?:`([^`]*)`)?", re
 # What crates.txt names for the gate's order alone: a copy is checked without it.
 ORDER_ALONE = [
     ("humantime_tests_sinks:", " humantime"),
-    ("humantime_tests:", " humantime_examples"),
-    ("humantime_tests:", " humantime_tests_contracts"),
+    ("humantime_tests_values:", " humantime_tests_contracts"),
 ]
-TESTED = ["humantime_tests_values", "humantime_tests_durations", "humantime_tests_timestamps", "humantime_cli"]
+TESTED = ["humantime_tests_values", "humantime_tests_programs", "humantime_tests_durations", "humantime_tests_timestamps", "humantime_cli"]
 
 
 class Edit:

@@ -5,7 +5,6 @@ use humantime::DurationError;
 use humantime_tests_sinks::{Sink, misprint};
 use std::fmt::Write;
 use std::process::Abort;
-use std::test::Fail;
 
 /// The error has this message, whatever format is asked for, and is equal to its clone.
 fn assert_message(rt: &impl Abort, error: DurationError<'_>, message: &str) {
@@ -75,57 +74,55 @@ fn each_error_has_its_message(rt: HostRuntime) {
 }
 
 /// The errors that name this place tell it.
-fn assert_place(rt: &impl Abort, at: usize) -> Result<(), Fail> {
+fn assert_place(rt: &impl Abort, at: usize) {
     let (mut character, mut number) = (Sink::open(), Sink::open());
-    write!(character, "invalid character at {at}")?;
-    write!(number, "expected number at {at}")?;
+    write!(character, "invalid character at {at}").expect(rt, "no line");
+    write!(number, "expected number at {at}").expect(rt, "no line");
     assert_message(rt, DurationError::InvalidCharacter(at), character.text());
     assert_message(rt, DurationError::NumberExpected(at), number.text());
-    Ok(())
 }
 
 /// The error of a missing unit tells the number before it.
-fn assert_number(rt: &impl Abort, value: u64) -> Result<(), Fail> {
+fn assert_number(rt: &impl Abort, value: u64) {
     let mut line = Sink::open();
     write!(
         line,
         "time unit needed, for example {value}sec or {value}ms"
-    )?;
+    )
+    .expect(rt, "no line");
     assert_message(rt, unknown_unit(0, 0, "", value), line.text());
-    Ok(())
 }
 
 /// Halves of this number and of those halves, down to zero, are told.
-fn assert_halves(rt: &impl Abort, number: u64) -> Result<(), Fail> {
+fn assert_halves(rt: &impl Abort, number: u64) {
     let mut n = number;
     for _ in 0..65 {
-        assert_place(rt, n as usize)?;
-        assert_number(rt, n)?;
+        assert_place(rt, n as usize);
+        assert_number(rt, n);
         n /= 2;
     }
-    Ok(())
 }
 
 #[test]
-fn a_message_tells_places_and_numbers_of_each_length(rt: HostRuntime) -> Result<(), Fail> {
-    assert_halves(&rt, u64::MAX)?;
-    assert_halves(&rt, 10_000_000_000_000_000_000)
+fn a_message_tells_places_and_numbers_of_each_length(rt: HostRuntime) {
+    assert_halves(&rt, u64::MAX);
+    assert_halves(&rt, 10_000_000_000_000_000_000);
 }
 
 #[test]
-fn a_message_tells_units_of_each_length(rt: HostRuntime) -> Result<(), Fail> {
+fn a_message_tells_units_of_each_length(rt: HostRuntime) {
     let letters = [b'x'; 300];
     for len in 1..300 {
         let unit = str::from_utf8(&letters[..len]).unwrap_or("");
         let mut line = Sink::open();
-        write!(line, "unknown time unit \"{unit}\", supported units: ")?;
+        write!(line, "unknown time unit \"{unit}\", supported units: ").expect(&rt, unit);
         write!(
             line,
             "ns, us/µs, ms, sec, min, hours, days, weeks, months, years (and few variations)"
-        )?;
+        )
+        .expect(&rt, unit);
         assert_message(&rt, unknown_unit(1, 1 + len, unit, 1), line.text());
     }
-    Ok(())
 }
 
 /// The two errors are different, by what this says.

@@ -8,7 +8,6 @@ use humantime::{
 use humantime_tests_sinks::{Sink, is_printed, misprinted_width};
 use std::fmt::Write;
 use std::process::Abort;
-use std::test::Fail;
 
 const LONGEST: &str = "100000000000years 11months 29days 23h 59m 59s 999ms 999µs 999ns";
 
@@ -26,16 +25,15 @@ fn assert_text(rt: &impl Abort, printed: &FormattedDuration, byte: u8, text: &st
 }
 
 /// Each duration, in seconds and nanoseconds, is printed as this text, and so is each clone.
-fn assert_printed(rt: &impl Abort, rows: &[(u64, u32, &str)]) -> Result<(), Fail> {
+fn assert_printed(rt: &impl Abort, rows: &[(u64, u32, &str)]) {
     for (secs, nanos, text) in rows {
-        let value = StdDuration::checked_new(*secs, *nanos).ok_or("no duration")?;
+        let value = StdDuration::checked_new(*secs, *nanos).expect(rt, "no duration");
         let printed = format_duration(value);
         assert_text(rt, &printed, 0, text);
-        assert_text(rt, &printed.clone()?, b'x', text);
+        assert_text(rt, &printed.clone().expect(rt, "no clone"), b'x', text);
         assert_same_at(rt, *printed.get_ref(), value, text);
         assert_displayed(rt, value, text);
     }
-    Ok(())
 }
 
 /// Each text is printed anew as this one.
@@ -53,7 +51,7 @@ fn assert_refused(rt: &impl Abort, text: &str, error: DurationError<'_>) {
 }
 
 #[test]
-fn a_duration_is_printed_in_its_greatest_counts(rt: HostRuntime) -> Result<(), Fail> {
+fn a_duration_is_printed_in_its_greatest_counts(rt: HostRuntime) {
     assert_same_at(&rt, GREATEST.len(), 61, GREATEST);
     assert_printed(
         &rt,
@@ -71,13 +69,13 @@ fn a_duration_is_printed_in_its_greatest_counts(rt: HostRuntime) -> Result<(), F
             (907_200, 0, "10days 12h"),
             (15_778_800, 0, "5months 30days 10h 12m"),
         ],
-    )
+    );
 }
 
 #[test]
-fn the_longest_text_fills_its_buffer(rt: HostRuntime) -> Result<(), Fail> {
+fn the_longest_text_fills_its_buffer(rt: HostRuntime) {
     let longest = StdDuration::checked_new(3_155_760_000_031_522_175, 999_999_999);
-    let longest = longest.ok_or("no duration")?;
+    let longest = longest.expect(&rt, "no duration");
     assert_same_at(&rt, LONGEST.len(), 64, LONGEST);
     let mut buf = [b'-'; 64];
     assert_same_at(
@@ -96,7 +94,6 @@ fn the_longest_text_fills_its_buffer(rt: HostRuntime) -> Result<(), Fail> {
     );
     assert_same_at(&rt, again.as_slice(), LONGEST.as_bytes(), LONGEST);
     assert_displayed(&rt, longest, LONGEST);
-    Ok(())
 }
 
 #[test]

@@ -1,7 +1,7 @@
 //! Texts of thousands of bytes, and of a megabyte.
 
 use humantime::{DurationError, parse_duration};
-use std::alloc::Global;
+use std::alloc::{AllocError, Global};
 use std::process::Abort;
 use std::test::Fail;
 
@@ -23,7 +23,7 @@ fn repeated(
     piece: &str,
     count: u32,
     end: &str,
-) -> Result<String, Fail> {
+) -> Result<String, AllocError> {
     let mut text = String::new(alloc);
     text.push_str(front)?;
     for _ in 0..count {
@@ -42,7 +42,7 @@ fn answer(text: &str) -> Answer<'_> {
 }
 
 /// The text of each row is read as the row says.
-fn assert_rows(rt: &impl Abort, alloc: Global, rows: &[Row]) -> Result<(), Fail> {
+fn assert_rows(rt: &impl Abort, alloc: Global, rows: &[Row]) -> Result<(), AllocError> {
     for (front, piece, count, end, wanted) in rows {
         let text = repeated(alloc, front, piece, *count, end)?;
         assert_eq!(rt; answer(text.as_str()), *wanted, "at {front}{piece}..{end}");
@@ -50,7 +50,7 @@ fn assert_rows(rt: &impl Abort, alloc: Global, rows: &[Row]) -> Result<(), Fail>
     Ok(())
 }
 
-static ZEROS: [Row; 15] = [
+const ZEROS: &[Row] = &[
     ("0.", "0", 10_000, "s", Ok((0, 0))),
     ("0.", "0 ", 10_000, "s", Ok((0, 0))),
     ("0.", "\u{3000}0", 10_000, "s", Ok((0, 0))),
@@ -94,10 +94,10 @@ static ZEROS: [Row; 15] = [
 
 #[test]
 fn a_fraction_may_end_in_any_number_of_zeros(rt: HostRuntime) -> Result<(), Fail> {
-    assert_rows(&rt, rt.alloc(), &ZEROS)
+    Ok(assert_rows(&rt, rt.alloc(), ZEROS)?)
 }
 
-static MEGABYTES: [Row; 7] = [
+const MEGABYTES: &[Row] = &[
     ("", "1s ", 350_000, "", Ok((350_000, 0))),
     (
         "",
@@ -138,5 +138,5 @@ static MEGABYTES: [Row; 7] = [
 
 #[test]
 fn a_megabyte_is_read_to_its_end(rt: HostRuntime) -> Result<(), Fail> {
-    assert_rows(&rt, rt.alloc(), &MEGABYTES)
+    Ok(assert_rows(&rt, rt.alloc(), MEGABYTES)?)
 }

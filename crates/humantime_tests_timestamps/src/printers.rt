@@ -6,11 +6,10 @@ use humantime::{
     format_rfc3339_nanos, format_rfc3339_seconds,
 };
 use std::process::Abort;
-use std::test::Fail;
 
 /// The moment of these parts.
-pub(crate) fn moment(secs: i64, nanos: u32) -> Result<SystemTime, Fail> {
-    Ok(SystemTime::from_parts(secs, nanos).ok_or("a moment")?)
+pub(crate) fn moment(rt: &impl Abort, secs: i64, nanos: u32) -> SystemTime {
+    SystemTime::from_parts(secs, nanos).expect(rt, "no moment")
 }
 
 /// The five calls.

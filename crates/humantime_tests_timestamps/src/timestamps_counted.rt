@@ -7,7 +7,6 @@ use humantime::{Rfc3339Timestamp, Timestamp, format_rfc3339, parse_rfc3339};
 use humantime_tests_sinks::{Sink, is_printed};
 use std::fmt::{self, Write};
 use std::process::Abort;
-use std::test::Fail;
 
 /// The first of the nine digits of so many nanoseconds, behind the text of a second; no point where none is asked for.
 fn with_digits(second: &str, nanos: u32, places: usize) -> Result<Sink, fmt::Error> {
@@ -31,8 +30,8 @@ fn assert_shows(rt: &impl Abort, printable: &Rfc3339Timestamp, text: &str) {
 }
 
 /// Each call prints the moment with its own number of digits.
-fn assert_each_call(rt: &impl Abort, secs: i64, nanos: u32, second: &str) -> Result<(), Fail> {
-    let moment = moment(secs, nanos)?;
+fn assert_each_call(rt: &impl Abort, secs: i64, nanos: u32, second: &str) {
+    let moment = moment(rt, secs, nanos);
     let shortest = if nanos == 0 { 0 } else { 9 };
     for (call, places) in &[
         (Call::Shortest, shortest),
@@ -41,30 +40,27 @@ fn assert_each_call(rt: &impl Abort, secs: i64, nanos: u32, second: &str) -> Res
         (Call::Micros, 6),
         (Call::Nanos, 9),
     ] {
-        let line = with_digits(second, nanos, *places)?;
+        let line = with_digits(second, nanos, *places).expect(rt, "no line");
         assert_shows(rt, &called(*call, moment), line.text());
     }
-    Ok(())
 }
 
 #[test]
-fn each_number_of_nanoseconds_below_1000(rt: HostRuntime) -> Result<(), Fail> {
+fn each_number_of_nanoseconds_below_1000(rt: HostRuntime) {
     for nanos in 0..1000 {
-        assert_each_call(&rt, 1518563312, nanos, "2018-02-13T23:08:32")?;
+        assert_each_call(&rt, 1518563312, nanos, "2018-02-13T23:08:32");
     }
-    Ok(())
 }
 
 #[test]
-fn numbers_of_nanoseconds_all_over_the_second(rt: HostRuntime) -> Result<(), Fail> {
+fn numbers_of_nanoseconds_all_over_the_second(rt: HostRuntime) {
     for step in 1_u32..1000 {
         let (first, last) = ("1970-01-01T00:00:00", "9999-12-31T23:59:59");
-        assert_each_call(&rt, 0, step * 1_000, first)?;
-        assert_each_call(&rt, 0, step * 1_000_000, first)?;
-        assert_each_call(&rt, 253402300799, step * 1_001_001, last)?;
-        assert_each_call(&rt, 253402300799, step * 1_000_999, last)?;
+        assert_each_call(&rt, 0, step * 1_000, first);
+        assert_each_call(&rt, 0, step * 1_000_000, first);
+        assert_each_call(&rt, 253402300799, step * 1_001_001, last);
+        assert_each_call(&rt, 253402300799, step * 1_000_999, last);
     }
-    Ok(())
 }
 
 /// Writes a number in two digits at least, and what stands behind it.
@@ -85,9 +81,9 @@ fn counted(date: PlainDate, second_of_day: u32) -> Result<Sink, fmt::Error> {
 }
 
 /// The moment so many seconds after the start of a day is printed as this second of this date, and reads back.
-fn assert_counted(rt: &impl Abort, day: u32, date: PlainDate, second: u32) -> Result<(), Fail> {
-    let moment = moment(i64::from(day) * 86_400 + i64::from(second), 0)?;
-    let line = counted(date, second)?;
+fn assert_counted(rt: &impl Abort, day: u32, date: PlainDate, second: u32) {
+    let moment = moment(rt, i64::from(day) * 86_400 + i64::from(second), 0);
+    let line = counted(date, second).expect(rt, "no line");
     let text = line.text();
     assert_same_at(
         rt,
@@ -97,7 +93,6 @@ fn assert_counted(rt: &impl Abort, day: u32, date: PlainDate, second: u32) -> Re
     );
     assert_same_at(rt, is_printed(&Timestamp::from(moment), text), true, text);
     assert_same_at(rt, parse_rfc3339(text), Ok(moment), text);
-    Ok(())
 }
 
 /// The first two years, two from 2012 on, and one of each 181 days.
@@ -106,7 +101,7 @@ fn is_tried(day: u32) -> bool {
 }
 
 #[test]
-fn days_of_all_years(rt: HostRuntime) -> Result<(), Fail> {
+fn days_of_all_years(rt: HostRuntime) {
     let mut date = PlainDate {
         year: 1970,
         month: 1,
@@ -114,22 +109,20 @@ fn days_of_all_years(rt: HostRuntime) -> Result<(), Fail> {
     };
     for day in 0..2_932_897 {
         if is_tried(day) {
-            assert_counted(&rt, day, date, 0)?;
+            assert_counted(&rt, day, date, 0);
         }
         date = next_day(date);
     }
-    Ok(())
 }
 
 #[test]
-fn all_seconds_of_a_day(rt: HostRuntime) -> Result<(), Fail> {
+fn all_seconds_of_a_day(rt: HostRuntime) {
     let date = PlainDate {
         year: 2012,
         month: 1,
         day: 1,
     };
     for second in 0..86_400 {
-        assert_counted(&rt, 15_340, date, second)?;
+        assert_counted(&rt, 15_340, date, second);
     }
-    Ok(())
 }

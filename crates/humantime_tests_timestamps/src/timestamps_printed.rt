@@ -6,30 +6,27 @@ use humantime::{SystemTime, Timestamp, TimestampError, format_rfc3339};
 use humantime_tests_sinks::{Sink, misprinted_width};
 use std::fmt::{self, Display, Write};
 use std::process::Abort;
-use std::test::Fail;
 
 /// `format_rfc3339` and a `Timestamp` print each moment so, and the moment is kept.
-fn assert_printed_whole(rt: &impl Abort, rows: &[(i64, u32, &str)]) -> Result<(), Fail> {
+fn assert_printed_whole(rt: &impl Abort, rows: &[(i64, u32, &str)]) {
     for (secs, nanos, text) in rows {
-        let moment = moment(*secs, *nanos)?;
+        let moment = moment(rt, *secs, *nanos);
         let printable = format_rfc3339(moment);
         assert_same_at(rt, *printable.get_ref(), moment, text);
         assert_prints(rt, &printable, text);
         assert_written(rt, &Timestamp::from(moment), text);
     }
-    Ok(())
 }
 
 /// The calls print each moment so.
-fn assert_cut(rt: &impl Abort, rows: &[(Call, i64, u32, &str)]) -> Result<(), Fail> {
+fn assert_cut(rt: &impl Abort, rows: &[(Call, i64, u32, &str)]) {
     for (call, secs, nanos, text) in rows {
-        assert_prints(rt, &called(*call, moment(*secs, *nanos)?), text);
+        assert_prints(rt, &called(*call, moment(rt, *secs, *nanos)), text);
     }
-    Ok(())
 }
 
 #[test]
-fn moments_are_printed_with_no_digits_or_nine(rt: HostRuntime) -> Result<(), Fail> {
+fn moments_are_printed_with_no_digits_or_nine(rt: HostRuntime) {
     assert_printed_whole(
         &rt,
         &[
@@ -45,7 +42,7 @@ fn moments_are_printed_with_no_digits_or_nine(rt: HostRuntime) -> Result<(), Fai
             // What `2016-12-31T23:59:60Z` is read as.
             (1483228799, 0, "2016-12-31T23:59:59Z"),
         ],
-    )
+    );
 }
 
 /// Moments cut to each precision.
@@ -117,8 +114,8 @@ const CUT: [(Call, i64, u32, &str); 14] = [
 ];
 
 #[test]
-fn moments_are_cut_to_seconds_millis_micros_and_nanos(rt: HostRuntime) -> Result<(), Fail> {
-    assert_cut(&rt, &CUT)
+fn moments_are_cut_to_seconds_millis_micros_and_nanos(rt: HostRuntime) {
+    assert_cut(&rt, &CUT);
 }
 
 // The last second of February in the first year of each century, by counting the days of the years before it.
@@ -209,13 +206,13 @@ const CENTURIES_FROM_6000: [(i64, u32, &str); 40] = [
 ];
 
 #[test]
-fn a_moment_of_each_century_to_5900_is_printed(rt: HostRuntime) -> Result<(), Fail> {
-    assert_printed_whole(&rt, &CENTURIES_TO_5900)
+fn a_moment_of_each_century_to_5900_is_printed(rt: HostRuntime) {
+    assert_printed_whole(&rt, &CENTURIES_TO_5900);
 }
 
 #[test]
-fn a_moment_of_each_century_from_6000_is_printed(rt: HostRuntime) -> Result<(), Fail> {
-    assert_printed_whole(&rt, &CENTURIES_FROM_6000)
+fn a_moment_of_each_century_from_6000_is_printed(rt: HostRuntime) {
+    assert_printed_whole(&rt, &CENTURIES_FROM_6000);
 }
 
 /// What is printed is refused after so many requests of the sink, which takes no byte.
@@ -244,16 +241,15 @@ fn assert_not_printed(rt: &impl Abort, moment: SystemTime) {
 }
 
 #[test]
-fn moments_that_are_not_printed(rt: HostRuntime) -> Result<(), Fail> {
+fn moments_that_are_not_printed(rt: HostRuntime) {
     for (secs, nanos) in &[
         (253402300800, 0),
         (-1, 999999999),
         (-9223372036854775808, 0),
         (9223372036854775807, 999999999),
     ] {
-        assert_not_printed(&rt, moment(*secs, *nanos)?);
+        assert_not_printed(&rt, moment(&rt, *secs, *nanos));
     }
-    Ok(())
 }
 
 /// The first second after 9999.
@@ -272,31 +268,28 @@ const NOT_PRINTED: &[(i64, i64)] = &[
 ];
 
 #[test]
-fn seconds_all_over_the_range_are_not_printed(rt: HostRuntime) -> Result<(), Fail> {
+fn seconds_all_over_the_range_are_not_printed(rt: HostRuntime) {
     for (first, stride) in NOT_PRINTED {
         let mut secs = *first;
         for _ in 0..100 {
-            assert_not_printed(&rt, moment(secs, 0)?);
-            assert_not_printed(&rt, moment(secs, 999_999_999)?);
+            assert_not_printed(&rt, moment(&rt, secs, 0));
+            assert_not_printed(&rt, moment(&rt, secs, 999_999_999));
             secs = secs.wrapping_add(*stride);
         }
     }
-    Ok(())
 }
 
 #[test]
-fn no_width_and_no_precision_changes_anything(rt: HostRuntime) -> Result<(), Fail> {
-    let (moment, text) = (moment(0, 0)?, "1970-01-01T00:00:00Z");
+fn no_width_and_no_precision_changes_anything(rt: HostRuntime) {
+    let (moment, text) = (moment(&rt, 0, 0), "1970-01-01T00:00:00Z");
     assert_same(&rt, misprinted_width(&format_rfc3339(moment), text), None);
     assert_same(&rt, misprinted_width(&Timestamp::from(moment), text), None);
     let (error, message) = (TimestampError::InvalidFormat, "timestamp format is invalid");
     assert_same(&rt, misprinted_width(&error, message), None);
-    Ok(())
 }
 
 #[test]
-fn a_sink_that_refuses(rt: HostRuntime) -> Result<(), Fail> {
-    let printable = format_rfc3339(moment(0, 0)?);
+fn a_sink_that_refuses(rt: HostRuntime) {
+    let printable = format_rfc3339(moment(&rt, 0, 0));
     assert_unwritten(&rt, &printable, Sink::refusing(), 1);
-    Ok(())
 }

@@ -1,10 +1,9 @@
-//! Values, what CALLING.md shows and the five programs, run. What is expected comes from the written rules, never from what the library answers.
+//! Values, and what CALLING.md shows, run. What is expected comes from the written rules, never from what the library answers.
 
 mod bounds;
 mod callers;
 mod law_callers;
 mod memory;
-mod programs;
 mod std_durations;
 mod support;
 mod system_times;

@@ -2,7 +2,7 @@
 
 use crate::tests::support::{assert_same, moment};
 use humantime::TimestampError::{InvalidDigit, InvalidFormat, OutOfRange};
-use humantime::{Date, UNIX_EPOCH, format_rfc3339_millis};
+use humantime::{Date, Rfc3339Timestamp, UNIX_EPOCH, format_rfc3339_millis};
 use humantime_tests::callers::timestamps::{is_read_weakly_too, is_text_before};
 use humantime_tests::law_callers::days::{
     date_comes_back, dates_differ_by_day, day_comes_back, days_by_computation,
@@ -13,7 +13,9 @@ use humantime_tests::law_callers::timestamps::{
     is_one_fraction, is_parsed_weakly, moment_comes_back, order_of_texts, parts_come_back,
     shortest_length, string_again, text_again,
 };
+use std::alloc::Global;
 use std::cmp::Ordering;
+use std::process::Abort;
 
 #[test]
 fn callers_answer_for_both_forms(rt: HostRuntime) {
@@ -41,6 +43,13 @@ fn callers_answer_for_both_forms(rt: HostRuntime) {
     assert_same(&rt, first_errors(), errors);
 }
 
+/// As a `String`, where memory is left for one, it is the same text.
+fn assert_same_string(rt: &impl Abort, alloc: Global, shown: &Rfc3339Timestamp, text: &str) {
+    if let Ok(string) = string_again(alloc, shown, text) {
+        assert_same(rt, string.as_str(), text);
+    }
+}
+
 #[test]
 fn callers_answer_for_a_printed_moment(rt: HostRuntime) {
     let text = "2018-02-13T23:08:32.456Z";
@@ -50,9 +59,7 @@ fn callers_answer_for_a_printed_moment(rt: HostRuntime) {
     assert_same(&rt, moment_comes_back(later), true);
     let shown = format_rfc3339_millis(later);
     assert_same(&rt, text_again(&shown, text, &mut [0; 30]), Some(text));
-    if let Ok(string) = string_again(rt.alloc(), &shown, text) {
-        assert_same(&rt, string.as_str(), text);
-    }
+    assert_same_string(&rt, rt.alloc(), &shown, text);
     assert_same(&rt, is_text_before(UNIX_EPOCH, later), true);
     let first = "1970-01-01T00:00:00.000Z";
     assert_same(

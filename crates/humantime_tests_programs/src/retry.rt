@@ -1,6 +1,6 @@
 //! Waits that double.
 
-use crate::tests::programs::support::assert_same_at;
+use crate::support::assert_same_at;
 use humantime::DurationError;
 use humantime_examples::retry::wait_text;
 use std::process::Abort;

@@ -1,6 +1,6 @@
 //! The option of a command line.
 
-use crate::tests::programs::support::{assert_prints, assert_same_at};
+use crate::support::{assert_prints, assert_same_at};
 use humantime::{DurationError, StdDuration};
 use humantime_examples::option::{OptionError, timeout};
 use std::process::Abort;

@@ -1,7 +1,6 @@
 //! Lines of a settings file.
 
-use crate::tests::programs::support::{assert_prints, assert_same_at};
-use crate::tests::support::moment;
+use crate::support::{assert_prints, assert_same_at, moment};
 use humantime::{DurationError, StdDuration, TimestampError};
 use humantime_examples::settings::{LineError, LineFault, Setting, read_line};
 use std::process::Abort;

@@ -1,5 +1,6 @@
-//! Assertions on values of any type.
+//! Assertions on values of any type, and moments.
 
+use humantime::SystemTime;
 use humantime_tests_sinks::Sink;
 use std::fmt::{Debug, Display, Write};
 use std::process::Abort;
@@ -19,4 +20,9 @@ pub(crate) fn assert_prints(rt: &impl Abort, value: &impl Display, want: &str) {
     let mut sink = Sink::open();
     write!(sink, "{value}").expect(rt, want);
     assert_eq!(rt; sink.text(), want);
+}
+
+/// The moment of these parts.
+pub(crate) fn moment(rt: &impl Abort, secs: i64, nanos: u32) -> SystemTime {
+    SystemTime::from_parts(secs, nanos).expect(rt, "no moment")
 }

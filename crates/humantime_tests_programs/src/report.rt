@@ -1,7 +1,6 @@
 //! Rows of a report, printed.
 
-use crate::tests::programs::support::{assert_prints, assert_same_at};
-use crate::tests::support::moment;
+use crate::support::{assert_prints, assert_same_at, moment};
 use humantime::{StdDuration, UNIX_EPOCH};
 use humantime_examples::report::{Row, write_row};
 use humantime_tests_sinks::Sink;

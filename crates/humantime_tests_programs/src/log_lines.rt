@@ -1,7 +1,6 @@
 //! Lines of a log, filtered both ways.
 
-use crate::tests::programs::support::assert_same_at;
-use crate::tests::support::moment;
+use crate::support::{assert_same_at, moment};
 use humantime::SystemTime;
 use humantime_examples::log_lines::{answers_alike, bound_text, keeps, keeps_by_bytes};
 use std::process::Abort;
