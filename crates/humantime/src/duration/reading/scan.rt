@@ -135,14 +135,14 @@ pub(crate) fn read_number<'a>(text: &'a str) -> Option<(u64, &'a str, &'a str)>
     while at < bytes.len() {
         // Above nine for any byte but a digit, and as wide as the value, so that no digit is widened.
         let digit = (bytes[at] as u64).wrapping_sub(48);
-        if digit <= 9 {
-            value = push_digit(value, digit)?;
-            at += 1;
-        } else {
+        if digit > 9 {
             match skip_whitespace_char(text, at) {
                 Some(next) => at = next,
                 None => break,
             }
+        } else {
+            value = push_digit(value, digit)?;
+            at += 1;
         }
     }
     Some((value, &text[..at], &text[at..]))
