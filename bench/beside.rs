@@ -12,8 +12,16 @@ use std::hint::black_box;
 use std::sync::atomic::{AtomicUsize, Ordering::Relaxed};
 use std::time::{Duration, Instant, SystemTime, UNIX_EPOCH};
 
-// Moves the code by so many bytes, so that several builds differ in their layout.
-std::arch::global_asm!(concat!(".text\n.space ", env!("BENCH_PADDING"), ", 0x90"));
+// Moves the code behind it by so many bytes, so that several builds differ in their layout. The linker keeps it, as `main` names it.
+std::arch::global_asm!(concat!(
+    ".text\n.globl bench_padding\nbench_padding:\n.space ",
+    env!("BENCH_PADDING"),
+    ", 0x90"
+));
+
+unsafe extern "C" {
+    fn bench_padding();
+}
 
 /// Counts the crate's allocations.
 struct Counting;
@@ -576,6 +584,7 @@ fn program() {
 }
 
 fn main() {
+    black_box(bench_padding as *const ());
     durations();
     timestamps();
     program();
