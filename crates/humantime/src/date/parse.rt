@@ -5,9 +5,9 @@ ghost use Rattle.std.specs.Char.{is_ascii_digit};
 ghost use Rattle.std.specs.List.{list_all};
 ghost use Rattle.std.specs.Str.{bytes_eq};
 ghost use Rattle.humantime.specs.declared.date.error.TimestampError.{TimestampError};
-ghost use Rattle.humantime.specs.Timestamps.Fields.{zone_text, IsWeakMoment, IsStrictMoment};
+ghost use Rattle.humantime.specs.Timestamps.Fields.{zone_text, seconds_of, IsWeakMoment, IsStrictMoment};
 ghost use Rattle.humantime.specs.Timestamps.Checks.{zone_of, numbers_of, are_in_range, fraction_part, first_failed, weak_checks, strict_checks};
-ghost use Rattle.humantime.specs.References.Timestamps.Reading.{weak_answer, strict_answer, fraction_answer, numbers_in, seconds_found, nanos_found, in_threes, AreShort, AreWithin};
+ghost use Rattle.humantime.specs.References.Timestamps.Reading.{weak_answer, strict_answer, fraction_answer, numbers_in, nanos_found, in_threes, AreShort, AreWithin};
 ghost use Rattle.humantime.specs.Timestamps.Checks;
 ghost use Rattle.humantime.specs.References.Timestamps.Reading as Reading;
 
@@ -208,10 +208,14 @@ fn zone_length(bytes: &[u8]) -> usize
 
 /// What stands before the zone at the end.
 #[inline(always)]
-#[tactic(auto, using(crate::proofs::Timestamps::Reading::Ends::zone_fits))]
+#[tactic(auto, using(crate::proofs::Timestamps::Reading::Ends::zone_fits, crate::proofs::Timestamps::Reading::Ends::letter_alone))]
 fn before_zone(bytes: &[u8]) -> &[u8]
     ensures { result.now ≡ Checks.before_zone bytes.now }
 {
+    // Nothing but a `Z` follows most seconds.
+    if bytes.len() == 1 && bytes[0] == b'Z' {
+        return &bytes[..0];
+    }
     &bytes[..bytes.len() - zone_length(bytes)]
 }
 
@@ -231,11 +235,13 @@ fn read_timestamp(bytes: &[u8]) -> Result<SystemTime, TimestampError>
         }
         return Err(TimestampError::InvalidFormat);
     }
-    let Some(secs) = seconds_in(lanes_at(bytes)) else {
+    let lanes = lanes_at(bytes);
+    if !is_in_range(lanes) {
         return Err(TimestampError::OutOfRange);
-    };
+    }
     let nanos = read_fraction(bytes, before_zone(&bytes[19..]))?;
-    Ok(SystemTime::since_epoch(secs, nanos))
+    // Summed last, so that nothing but the lanes is kept while the fraction is read.
+    Ok(SystemTime::since_epoch(seconds_of(lanes), nanos))
 }
 
 /// `T` or a space between date and time.
@@ -269,7 +275,8 @@ fn matches_layout(bytes: &[u8]) -> bool
     requires separator { IsTrue (Checks.has_separator bytes.now) }
     ensures { result ≡ (Checks.has_punctuation bytes.now && Checks.has_digits bytes.now) }
 {
-    matches_layout_front(bytes) && has_seconds(bytes)
+    // Not `&&`, which would test and branch twice.
+    matches_layout_front(bytes) & has_seconds(bytes)
 }
 
 /// The sign before the seconds, and their digits.
@@ -330,20 +337,18 @@ fn numbers_in(lanes: Lanes) -> Numbers
     }
 }
 
-/// The seconds from 1970 to this date and time, where there are such.
+/// The seconds from 1970 to this date and time. Second 60 is read as 59.
 #[inline(always)]
 #[tactic(auto, using(crate::proofs::Timestamps::Reading::Usual::within_from_test))]
-fn seconds_in(lanes: Lanes) -> Option<u64>
-    requires { AreShort lanes }
-    ensures value { result ≡ seconds_found (numbers_in lanes) }
-    ensures bound { IfSome result (λ n. n < 2 ^ 63) }
+fn seconds_of(lanes: Lanes) -> u64
+    requires short { AreShort lanes }
+    requires range { IsTrue (are_in_range (numbers_in lanes)) }
+    ensures value { let x = numbers_in lanes in result ≡ seconds_of x.date x.hour x.minute x.second }
+    ensures bound { result < 2 ^ 63 }
 {
-    if !is_in_range(lanes) {
-        return None;
-    }
-    let numbers = numbers_in(lanes);
-    let days = days_before(numbers.date.year, numbers.date.month);
-    Some(days as u64 * 86_400 + seconds_of_month(lanes) as u64)
+    let date = numbers_in(lanes).date;
+    let days = days_before(date.year, date.month);
+    days as u64 * 86_400 + seconds_of_month(lanes) as u64
 }
 
 /// A date of 1970 to 9999 that exists, and a time of day, perhaps with a second 60. Each month has 28 days; of a later day the

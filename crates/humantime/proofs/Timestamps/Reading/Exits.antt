@@ -1,15 +1,16 @@
 -- What each way out of the weak parser answers.
 use Rattle.std.proofs.lemmas.Grind.{common_steps}
 use Rattle.std.proofs.Common.{◌≡◌, ℕ, ◌*◌, ◌+◌, ◌-◌, ◌<◌, ◌≤◌, List, length, take, drop, arith}
-use Rattle.std.specs.Prelude.{true, false, ◌&&◌, ℤ, pos, Option, Some, None, Result, Ok, Err}
-use Rattle.std.proofs.lemmas.Bool.{and_parts, le-leb}
+use Rattle.std.specs.Prelude.{true, false, ◌&&◌, ℤ, pos, Result, Ok, Err}
+use Rattle.std.proofs.lemmas.Bool.{le-leb}
 use Rattle.std.proofs.lemmas.List.{take_rest}
 use Rattle.std.proofs.lemmas.Bool.Decides.{nat_tests}
 use Rattle.humantime.specs.declared.date.error.TimestampError.{TimestampError}
 use Rattle.humantime.specs.declared.date.error.TimestampError.TheVariants.{OutOfRange, InvalidDigit, InvalidFormat}
-use Rattle.humantime.specs.References.Timestamps.Reading.{fraction_answer, seconds_found, weak_answer}
+use Rattle.humantime.specs.Timestamps.Fields.{seconds_of}
+use Rattle.humantime.specs.References.Timestamps.Reading.{fraction_answer, weak_answer}
 use Rattle.humantime.specs.declared.date.parse.Numbers.{Numbers}
-use Rattle.humantime.specs.Timestamps.Checks.{has_separator, has_punctuation, has_digits, numbers_of, before_zone, fraction_part}
+use Rattle.humantime.specs.Timestamps.Checks.{has_separator, has_punctuation, has_digits, numbers_of, are_in_range, before_zone, fraction_part}
 use Rattle.humantime.proofs.Timestamps.Reading.Fractions.{digits_from_test, nanos_bound}
 
 pub exit_short : (bytes : List ℕ) → length bytes < 19 → weak_answer bytes ≡ Err InvalidFormat
@@ -31,22 +32,25 @@ exit_signs bytes long other = grind (arith, common_steps, nat_tests)
 pub fraction_bound : (part : List ℕ) (n : ℕ) → Ok n ≡ fraction_answer part → n < 1_000_000_000
 fraction_bound part n h = grind (arith, common_steps, nanos_bound, digits_from_test)
 
--- the answer where signs and digits are right: from the seconds, where there are such, and the fraction's nanoseconds
-abbrev pub with_seconds : Option ℕ → Result ℕ TimestampError → Result ℤ TimestampError
-with_seconds None fraction = Err OutOfRange
-with_seconds (Some seconds) (Ok nanos) = Ok (pos (seconds * 1_000_000_000 + nanos))
-with_seconds (Some seconds) (Err e) = Err e
-
-pub exit_shaped : (bytes : List ℕ) (x : Numbers) → 19 ≤ length bytes → (has_punctuation bytes && has_digits bytes) ≡ true → x ≡ numbers_of bytes
-    → weak_answer bytes ≡ with_seconds (seconds_found x) (fraction_answer (fraction_part bytes))
+pub exit_range : (bytes : List ℕ) → 19 ≤ length bytes → has_punctuation bytes ≡ true → has_digits bytes ≡ true → are_in_range (numbers_of bytes) ≡ false
+    → weak_answer bytes ≡ Err OutOfRange
 unfolding weak_answer
-exit_shaped bytes x long shaped is =
-    let both = and_parts (has_punctuation bytes) (has_digits bytes) shaped in
-    rw (is, le-leb 19 (length bytes) long, both.0, both.1) (grind (arith, common_steps))
+exit_range bytes long signs digits other = grind (arith, common_steps, nat_tests)
+
+-- the answer where all before the fraction is right
+abbrev pub with_seconds : ℕ → Result ℕ TimestampError → Result ℤ TimestampError
+with_seconds seconds (Ok nanos) = Ok (pos (seconds * 1_000_000_000 + nanos))
+with_seconds seconds (Err e) = Err e
+
+exit_fraction : (bytes : List ℕ) → 19 ≤ length bytes → has_punctuation bytes ≡ true → has_digits bytes ≡ true → are_in_range (numbers_of bytes) ≡ true
+    → let x = numbers_of bytes in weak_answer bytes ≡ with_seconds (seconds_of x.date x.hour x.minute x.second) (fraction_answer (fraction_part bytes))
+unfolding weak_answer
+exit_fraction bytes long signs digits range = rw (le-leb 19 (length bytes) long, signs, digits, range) (grind (arith, common_steps))
 
 -- with what was read
-pub exit_read : (bytes : List ℕ) (x : Numbers) (seconds : Option ℕ) (part : List ℕ) (fraction : Result ℕ TimestampError) → 19 ≤ length bytes
-    → (has_punctuation bytes && has_digits bytes) ≡ true → x ≡ numbers_of bytes → seconds ≡ (seconds_found x)
-    → part ≡ before_zone (take (length bytes - 19) (drop 19 bytes)) → fraction ≡ fraction_answer part → weak_answer bytes ≡ with_seconds seconds fraction
-exit_read bytes x seconds part fraction long shaped is read before value =
-    rw (value, before, take_rest bytes 19, read) (exit_shaped bytes x long shaped is)
+pub exit_read : (bytes : List ℕ) (x : Numbers) (part : List ℕ) (fraction : Result ℕ TimestampError) → 19 ≤ length bytes
+    → has_punctuation bytes ≡ true → has_digits bytes ≡ true → x ≡ numbers_of bytes → are_in_range x ≡ true
+    → part ≡ before_zone (take (length bytes - 19) (drop 19 bytes)) → fraction ≡ fraction_answer part
+    → weak_answer bytes ≡ with_seconds (seconds_of x.date x.hour x.minute x.second) fraction
+exit_read bytes x part fraction long signs digits is range before value =
+    rw (value, before, take_rest bytes 19, is) (exit_fraction bytes long signs digits (rw is at range))

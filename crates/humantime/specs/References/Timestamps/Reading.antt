@@ -8,7 +8,7 @@ use Rattle.humantime.specs.declared.date.parse.Numbers.{Numbers}
 use Rattle.humantime.specs.declared.date.parse.Lanes.{Lanes}
 use Rattle.humantime.specs.Values.{nanos_per_second}
 use Rattle.humantime.specs.Timestamps.Fields.{fraction_nanos, seconds_of, IsWeakMoment}
-use Rattle.humantime.specs.Timestamps.Checks.{has_two, numbers_of, are_in_range, fraction_part, has_point, weak_checks, strict_checks, first_failed}
+use Rattle.humantime.specs.Timestamps.Checks.{has_two, numbers_of, fraction_part, has_point, weak_checks, strict_checks, first_failed}
 
 -- the sign before the seconds, and their digits
 unfoldable pub has_seconds : List ℕ → Bool
@@ -33,10 +33,6 @@ AreShort l =
 abbrev pub AreWithin : Numbers → Type 0
 AreWithin x = IsInRange 1970 9999 x.date.year × IsInRange 1 12 x.date.month × IsInRange 1 31 x.date.day
     × (x.hour ≤ 23) × (x.minute ≤ 59) × (x.second ≤ 60)
-
--- the seconds of a date and a time of day, where they are in range
-abbrev pub seconds_found : Numbers → Option ℕ
-seconds_found x = if are_in_range x then Some (seconds_of x.date x.hour x.minute x.second) else None
 
 -- the nanoseconds of these digits, where they are digits
 abbrev pub nanos_found : List ℕ → Option ℕ

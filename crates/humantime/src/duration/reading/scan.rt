@@ -197,7 +197,8 @@ pub(crate) struct Word<'a> {
     ghost scale: { scale_of_key key ≡ scale_of_word (chars letters.now) },
 }
 
-/// The place after the letters at the front of the text, and the key of the bytes before it, where they are few.
+/// The place after the letters at the front of the text, and the key of the bytes before it, where they are few. The key of more
+/// than seven bytes wraps around, and says nothing.
 #[inline(always)]
 fn letters_end(text: &str) -> (usize, u64)
     ensures place { IsCharBoundary text.now result.0 }

@@ -1,4 +1,4 @@
-use Rattle.std.proofs.Common.{◌≡◌, ◌≢◌, length, refl, sym, ◌∙◌, arith}
+use Rattle.std.proofs.Common.{◌≢◌, length, refl, sym, ◌∙◌, arith}
 use Rattle.std.proofs.lemmas.Grind.{common_steps}
 use Rattle.std.proofs.lemmas.Str.{IsCharBoundary-start}
 use Rattle.humantime.proofs.Durations.Bytes.PlaceSteps.{blank_behind, digit_ends, other_goes_on, kept_behind, whitespace_behind}
