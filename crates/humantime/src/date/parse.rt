@@ -16,43 +16,45 @@ use crate::date::error::TimestampError;
 use crate::value::SystemTime;
 use std::simd::prelude::*;
 
+// Vectors are statics and read as slices, since Rattle's own compiler loads such a one, and builds another in five instructions.
+
 /// The least byte at each of the first sixteen places, where a space stands for any byte.
-const LEAST: [u8; 16] = *b"0000-00-00 00:00";
+static LEAST: [u8; 16] = *b"0000-00-00 00:00";
 
 /// How far a byte may be above it: a digit up to nine, and a sign not at all.
-const MOST_ABOVE: [u8; 16] = [9, 9, 9, 9, 0, 9, 9, 0, 9, 9, 255, 9, 9, 0, 9, 9];
+static MOST_ABOVE: [u8; 16] = [9, 9, 9, 9, 0, 9, 9, 0, 9, 9, 255, 9, 9, 0, 9, 9];
 
 /// The least byte at each of the sixteen places from the fourth on.
-const LEAST_BACK: [u8; 16] = *b"0-00-00 00:00:00";
+static LEAST_BACK: [u8; 16] = *b"0-00-00 00:00:00";
 
 /// How far a byte may be above it: any byte may stand where the first sixteen places have tested it.
-const MOST_ABOVE_BACK: [u8; 16] = [
+static MOST_ABOVE_BACK: [u8; 16] = [
     255, 255, 255, 255, 255, 255, 255, 255, 255, 255, 255, 255, 255, 0, 9, 9,
 ];
 
 /// What each of the first sixteen bytes counts in the number of its four: a tenth of the year, month, day, minute.
-const WEIGHTS_FRONT: [u8; 16] = [100, 10, 1, 0, 0, 10, 1, 0, 10, 1, 0, 0, 0, 0, 10, 1];
+static WEIGHTS_FRONT: [u8; 16] = [100, 10, 1, 0, 0, 10, 1, 0, 10, 1, 0, 0, 0, 0, 10, 1];
 
 /// And each of those from the fourth on: the year's last digit, nothing, hour, second.
-const WEIGHTS_BACK: [u8; 16] = [1, 0, 0, 0, 0, 0, 0, 0, 10, 1, 0, 0, 0, 0, 10, 1];
+static WEIGHTS_BACK: [u8; 16] = [1, 0, 0, 0, 0, 0, 0, 0, 10, 1, 0, 0, 0, 0, 10, 1];
 
 /// The least numbers at the front: year 1970, month 1, day 1, minute 0.
-const FIRST: [u32; 4] = [197, 1, 1, 0];
+static FIRST: [u32; 4] = [197, 1, 1, 0];
 
 /// How far a number may be above it: up to year 9999, month 12, day 31, minute 59.
-const MOST_AFTER: [u32; 4] = [802, 11, 30, 59];
+static MOST_AFTER: [u32; 4] = [802, 11, 30, 59];
 
 /// The greatest numbers at the back: a digit, nothing, hour 23, second 60.
-const MOST_BACK: [u32; 4] = [9, 0, 23, 60];
+static MOST_BACK: [u32; 4] = [9, 0, 23, 60];
 
 /// The same, with second 59, as which second 60 is read.
-const MOST_READ: [u32; 4] = [9, 0, 23, 59];
+static MOST_READ: [u32; 4] = [9, 0, 23, 59];
 
 /// How many seconds a 1 counts in each number at the front: none in year and month, and those of a day and of a minute.
-const SECONDS: [u32; 4] = [0, 0, 86_400, 60];
+static SECONDS: [u32; 4] = [0, 0, 86_400, 60];
 
 /// And in each number at the back: none in the first two, and those of an hour and of a second.
-const SECONDS_BACK: [u32; 4] = [0, 0, 3_600, 1];
+static SECONDS_BACK: [u32; 4] = [0, 0, 3_600, 1];
 
 /// Which of sixteen numbers stand at the places of nine digits, three to four lanes: a row for each number of digits from
 /// none on, which are the last of the sixteen. For a place without a digit 255 gives 0.
@@ -90,10 +92,10 @@ static PLACES: [[u8; 16]; 10] = [
 ];
 
 /// What each of these digits counts in the number of its three.
-const WEIGHTS_THREE: [u8; 16] = [100, 10, 1, 0, 100, 10, 1, 0, 100, 10, 1, 0, 0, 0, 0, 0];
+static WEIGHTS_THREE: [u8; 16] = [100, 10, 1, 0, 100, 10, 1, 0, 100, 10, 1, 0, 0, 0, 0, 0];
 
 /// How many nanoseconds a 1 counts in each of the three numbers, and nothing behind them.
-const NANOS: [u32; 4] = [1_000_000, 1_000, 1, 0];
+static NANOS: [u32; 4] = [1_000_000, 1_000, 1, 0];
 
 /// The numbers of a date and a time of day.
 #[derive(Clone, Copy)]
@@ -285,8 +287,8 @@ fn has_seconds(bytes: &[u8]) -> bool
     requires { 19 ≤ length bytes.now }
     ensures { result ≡ Reading.has_seconds bytes.now }
 {
-    let above = u8x16::from_slice(&bytes[3..]) - u8x16::from_array(LEAST_BACK);
-    above.simd_le(u8x16::from_array(MOST_ABOVE_BACK)).all()
+    let above = u8x16::from_slice(&bytes[3..]) - u8x16::from_slice(&LEAST_BACK);
+    above.simd_le(u8x16::from_slice(&MOST_ABOVE_BACK)).all()
 }
 
 /// Signs and digits in the first sixteen bytes, but for the sign between date and time. All are tested at once: a
@@ -297,8 +299,8 @@ fn matches_layout_front(bytes: &[u8]) -> bool
     requires separator { IsTrue (Checks.has_separator bytes.now) }
     ensures { (result && Reading.has_seconds bytes.now) ≡ (Checks.has_punctuation bytes.now && Checks.has_digits bytes.now) }
 {
-    let above = u8x16::from_slice(bytes) - u8x16::from_array(LEAST);
-    above.simd_le(u8x16::from_array(MOST_ABOVE)).all()
+    let above = u8x16::from_slice(bytes) - u8x16::from_slice(&LEAST);
+    above.simd_le(u8x16::from_slice(&MOST_ABOVE)).all()
 }
 
 /// The numbers that date and time show, where all places have digits: `dot4` sums up four bytes, each by its weight.
@@ -309,11 +311,11 @@ fn lanes_at(bytes: &[u8]) -> Lanes
     ensures numbers { numbers_in result ≡ numbers_of bytes.now }
     ensures short { AreShort result }
 {
-    let front = u8x16::from_slice(bytes) - u8x16::from_array(LEAST);
-    let back = u8x16::from_slice(&bytes[3..]) - u8x16::from_array(LEAST_BACK);
+    let front = u8x16::from_slice(bytes) - u8x16::from_slice(&LEAST);
+    let back = u8x16::from_slice(&bytes[3..]) - u8x16::from_slice(&LEAST_BACK);
     Lanes {
-        front: front.dot4(u8x16::from_array(WEIGHTS_FRONT)),
-        back: back.dot4(u8x16::from_array(WEIGHTS_BACK)),
+        front: front.dot4(u8x16::from_slice(&WEIGHTS_FRONT)),
+        back: back.dot4(u8x16::from_slice(&WEIGHTS_BACK)),
     }
 }
 
@@ -372,9 +374,9 @@ fn are_within(lanes: Lanes) -> bool
     requires { AreShort lanes }
     ensures { IsTrue result ↔ AreWithin (numbers_in lanes) }
 {
-    let after = lanes.front - u32x4::from_array(FIRST);
-    after.simd_le(u32x4::from_array(MOST_AFTER)).all()
-        && lanes.back.simd_le(u32x4::from_array(MOST_BACK)).all()
+    let after = lanes.front - u32x4::from_slice(&FIRST);
+    after.simd_le(u32x4::from_slice(&MOST_AFTER)).all()
+        && lanes.back.simd_le(u32x4::from_slice(&MOST_BACK)).all()
 }
 
 /// The seconds of the days before this one in its month, and of this day, summed in lanes.
@@ -385,8 +387,8 @@ fn seconds_of_month(lanes: Lanes) -> u32
     ensures { let x = numbers_in lanes in
         result + 86_400 ≡ x.date.day * 86_400 + x.hour * 3_600 + x.minute * 60 + min x.second 59 }
 {
-    let front = (lanes.front - u32x4::from_array(FIRST)) * u32x4::from_array(SECONDS);
-    let back = lanes.back.simd_min(u32x4::from_array(MOST_READ)) * u32x4::from_array(SECONDS_BACK);
+    let front = (lanes.front - u32x4::from_slice(&FIRST)) * u32x4::from_slice(&SECONDS);
+    let back = lanes.back.simd_min(u32x4::from_slice(&MOST_READ)) * u32x4::from_slice(&SECONDS_BACK);
     (front + back).reduce_sum()
 }
 
@@ -467,8 +469,8 @@ fn last_digits(bytes: &[u8], count: usize) -> Option<u32>
     if !numbers.simd_le(u8x16::splat(9)).all() {
         return None;
     }
-    let threes = numbers.dot4(u8x16::from_array(WEIGHTS_THREE));
-    Some((threes * u32x4::from_array(NANOS)).reduce_sum())
+    let threes = numbers.dot4(u8x16::from_slice(&WEIGHTS_THREE));
+    Some((threes * u32x4::from_slice(&NANOS)).reduce_sum())
 }
 
 /// The last of sixteen numbers, at most nine, three to four lanes; the other lanes are 0.
