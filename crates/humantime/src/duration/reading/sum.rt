@@ -1,9 +1,9 @@
 //! Additions to a duration, each refused where it breaks a limit.
 
-ghost use Rattle.std.specs.Prelude.{◌≡◌, ◌≤◌, ◌^◌, Some};
+ghost use Rattle.std.specs.Prelude.{◌≡◌, ◌≤◌, ◌^◌, ◌*◌, SomeIff};
+ghost use Rattle.humantime.specs.Durations.Characters.{u64_max};
 ghost use Rattle.humantime.specs.Durations.Spans.{Span};
 ghost use Rattle.humantime.specs.References.Durations.Adding.{add_times, part_of, add_part};
-ghost use Rattle.humantime.specs.Durations.Units.{Seconds};
 ghost use Rattle.humantime.specs.References.Durations.Reading.{add_span};
 ghost use Rattle.humantime.specs.References.Durations.Scales.{scale_of, IsAmountOf};
 
@@ -14,6 +14,15 @@ use crate::value::StdDuration;
 /// The greatest number whose product with 10^9 fits `u64`.
 const MOST_BEFORE_NINE_ZEROS: u64 = 18_446_744_073;
 
+/// The product, where it fits. It is made in 128 bits, as `checked_mul` has a limit for each factor, which Rattle's own compiler
+/// puts on the stack before the loop over spans.
+#[inline(always)]
+fn product(value: u64, factor: u64) -> Option<u64>
+    ensures { SomeIff result (value * factor ≤ u64_max) (value * factor) }
+{
+    u64::try_from(value as u128 * factor as u128).ok()
+}
+
 /// The duration and so many of the unit.
 #[inline(always)]
 fn add_whole(sum: StdDuration, value: u64, unit: Unit) -> Option<StdDuration>
@@ -21,15 +30,15 @@ fn add_whole(sum: StdDuration, value: u64, unit: Unit) -> Option<StdDuration>
 {
     let nanos = match unit {
         Unit::Nanosecond => value,
-        Unit::Microsecond => value.checked_mul(sizes::NANOS_PER_MICRO)?,
-        Unit::Millisecond => value.checked_mul(sizes::NANOS_PER_MILLI)?,
+        Unit::Microsecond => product(value, sizes::NANOS_PER_MICRO)?,
+        Unit::Millisecond => product(value, sizes::NANOS_PER_MILLI)?,
         Unit::Second => return sum.checked_add_secs(value),
-        Unit::Minute => return sum.checked_add_secs(value.checked_mul(sizes::SECONDS_PER_MINUTE)?),
-        Unit::Hour => return sum.checked_add_secs(value.checked_mul(sizes::SECONDS_PER_HOUR)?),
-        Unit::Day => return sum.checked_add_secs(value.checked_mul(sizes::SECONDS_PER_DAY)?),
-        Unit::Week => return sum.checked_add_secs(value.checked_mul(sizes::SECONDS_PER_WEEK)?),
-        Unit::Month => return sum.checked_add_secs(value.checked_mul(sizes::SECONDS_PER_MONTH)?),
-        Unit::Year => return sum.checked_add_secs(value.checked_mul(sizes::SECONDS_PER_YEAR)?),
+        Unit::Minute => return sum.checked_add_secs(product(value, sizes::SECONDS_PER_MINUTE)?),
+        Unit::Hour => return sum.checked_add_secs(product(value, sizes::SECONDS_PER_HOUR)?),
+        Unit::Day => return sum.checked_add_secs(product(value, sizes::SECONDS_PER_DAY)?),
+        Unit::Week => return sum.checked_add_secs(product(value, sizes::SECONDS_PER_WEEK)?),
+        Unit::Month => return sum.checked_add_secs(product(value, sizes::SECONDS_PER_MONTH)?),
+        Unit::Year => return sum.checked_add_secs(product(value, sizes::SECONDS_PER_YEAR)?),
     };
     sum.checked_add_nanos(nanos)
 }
@@ -40,7 +49,7 @@ fn part_of(fraction: Fraction, factor: u64) -> Option<u64>
     requires { fraction.count ≤ 19 }
     ensures { result ≡ part_of fraction.value fraction.count factor }
 {
-    let product = fraction.value.checked_mul(factor)?;
+    let product = product(fraction.value, factor)?;
     let power = power_of_ten(fraction.count);
     if product % power != 0 {
         return None;
@@ -61,14 +70,6 @@ fn part_of_power(fraction: Fraction, exponent: usize) -> Option<u64>
     part_of(fraction, power_of_ten(exponent))
 }
 
-/// The duration and the part of these seconds that the fraction is.
-fn add_part_of_secs(total: StdDuration, fraction: Fraction, secs: u64) -> Option<StdDuration>
-    requires { fraction.count ≤ 19 }
-    ensures { result ≡ add_part total (Some (Seconds secs)) fraction.value fraction.count }
-{
-    total.checked_add_secs(part_of(fraction, secs)?)
-}
-
 /// The duration and a fraction of one unit.
 fn add_fraction(total: StdDuration, fraction: Fraction, unit: Unit) -> Option<StdDuration>
     requires { fraction.count ≤ 19 }
@@ -80,11 +81,11 @@ fn add_fraction(total: StdDuration, fraction: Fraction, unit: Unit) -> Option<St
         Unit::Millisecond => part_of_power(fraction, 6),
         Unit::Second => part_of_power(fraction, 9),
         Unit::Minute => part_of(fraction, sizes::NANOS_PER_MINUTE),
-        Unit::Hour => return add_part_of_secs(total, fraction, sizes::SECONDS_PER_HOUR),
-        Unit::Day => return add_part_of_secs(total, fraction, sizes::SECONDS_PER_DAY),
-        Unit::Week => return add_part_of_secs(total, fraction, sizes::SECONDS_PER_WEEK),
-        Unit::Month => return add_part_of_secs(total, fraction, sizes::SECONDS_PER_MONTH),
-        Unit::Year => return add_part_of_secs(total, fraction, sizes::SECONDS_PER_YEAR),
+        Unit::Hour => return total.checked_add_secs(part_of(fraction, sizes::SECONDS_PER_HOUR)?),
+        Unit::Day => return total.checked_add_secs(part_of(fraction, sizes::SECONDS_PER_DAY)?),
+        Unit::Week => return total.checked_add_secs(part_of(fraction, sizes::SECONDS_PER_WEEK)?),
+        Unit::Month => return total.checked_add_secs(part_of(fraction, sizes::SECONDS_PER_MONTH)?),
+        Unit::Year => return total.checked_add_secs(part_of(fraction, sizes::SECONDS_PER_YEAR)?),
     };
     total.checked_add_nanos(nanos?)
 }
