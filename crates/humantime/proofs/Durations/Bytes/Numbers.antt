@@ -65,14 +65,7 @@ all_read text at ds u h ended =
     let after : chars (drop at text) ≡ after_number (chars text) = sym behind.1 ∙ h.after in
     (h.all ∙ ap (λ (x : List ℕ). ds ++ x) behind.0 ∙ append-nil ds, front_is is_numeric text at u h.place after, after)
 
--- a digit is what leaves at most nine where 48 is taken from it, in 64 bits
-pub digit_left : (c : ℕ) → c < 256 → (c + 18446744073709551568) % 18446744073709551616 ≤ 9
-    → (is_ascii_digit c ≡ true) × ((c + 18446744073709551568) % 18446744073709551616 + 48 ≡ c)
-digit_left c fits few =
-    let low : 48 ≤ c = omega (arith, fits, few) in
-    let high : c ≤ 57 = omega (arith, fits, few) in
-    (grind (arith, nat_tests), omega (arith, fits, few))
-
+-- a byte that is no digit leaves more than nine where 48 is taken from it, in 64 bits
 pub other_left : (c : ℕ) → c < 256 → 9 < (c + 18446744073709551568) % 18446744073709551616 → is_ascii_digit c ≡ false
 other_left c fits many = let other : ¬ ((48 ≤ c) × (c ≤ 57)) = λ d. omega (arith, fits, many, d.0, d.1) in grind (arith, nat_tests)
 
@@ -95,6 +88,17 @@ digit_counts c d = omega (arith, digit_value_digit c (digit_range c d), digit_ra
 
 pub value_more : (ds : List ℕ) (c : ℕ) → is_digit c ≡ true → decimal_value (ds ++ c ∷ []) ≡ decimal_value ds * 10 + (c - 48)
 value_more ds c d = value-append 0 ds (c ∷ []) ∙ ap (λ (n : ℕ). decimal_value ds * 10 + n) (digit_counts c d)
+
+-- one digit more is read
+pub digit_more : (text bytes : List ℕ) (at : ℕ) (ds : List ℕ) → IsUtf8 text → bytes ≡ text → at < length bytes → IsRead text at ds
+    → get_or bytes at 0 < 256 → (get_or bytes at 0 + 18446744073709551568) % 18446744073709551616 ≤ 9
+    → let more = ds ++ get_or bytes at 0 ∷ [] in
+      IsRead text (at + 1) more × (decimal_value more ≡ decimal_value ds * 10 + (get_or bytes at 0 + 18446744073709551568) % 18446744073709551616)
+digit_more text bytes at ds u same some h fits few =
+    let c = get_or bytes at 0 in
+    let range : (48 ≤ c) × (c ≤ 57) = (omega (arith, fits, few), omega (arith, fits, few)) in
+    let digit : is_ascii_digit c ≡ true = grind (arith, nat_tests) in
+    (read_digit text bytes at ds u same some h digit, omega (arith, value_more ds c (sym (digit_is c) ∙ digit), range, fits, few))
 
 -- digits only make a value greater
 pub value_grows : (n : ℕ) (ds : List ℕ) → n ≤ digits_value_after 10 n ds

@@ -9,9 +9,6 @@ use crate::unit::Unit;
 /// How many digits a fraction may have before the zeros at its end.
 const FRACTION_DIGITS: usize = 19;
 
-/// A number below this one can take any digit behind it.
-const TENTH_OF_MAX: u64 = 1_844_674_407_370_955_161;
-
 /// The powers of ten that fit `u64`.
 static POWERS_OF_TEN: [u64; 20] = [
     1,
@@ -60,9 +57,6 @@ pub(crate) fn push_digit(value: u64, digit: u64) -> Option<u64>
     requires { digit ≤ 9 }
     ensures { SomeIff result (value * 10 + digit ≤ u64_max) (value * 10 + digit) }
 {
-    if value < TENTH_OF_MAX {
-        return Some(value * 10 + digit);
-    }
     value.checked_mul(10)?.checked_add(digit)
 }
 

@@ -13,6 +13,9 @@ ghost use Rattle.humantime.specs.References.Durations.Keys.{packed, scale_of_key
 use crate::duration::reading::amount::{Fraction, push_digit};
 use crate::unit::{EMPTY_KEY, MOST_BYTES, NO_UNIT};
 
+/// A number below this one can take any digit behind it.
+const TENTH_OF_MAX: u64 = 1_844_674_407_370_955_161;
+
 /// Whether these are the two bytes of the micro sign, or those of the Greek letter mu: the letters beyond ASCII.
 #[inline(always)]
 fn is_mu(first: u8, second: u8) -> bool
@@ -135,14 +138,18 @@ pub(crate) fn read_number<'a>(text: &'a str) -> Option<(u64, &'a str, &'a str)>
     while at < bytes.len() {
         // Above nine for any byte but a digit, and as wide as the value, so that no digit is widened.
         let digit = (bytes[at] as u64).wrapping_sub(48);
-        if digit > 9 {
+        if digit <= 9 {
+            at += 1;
+            value = if value >= TENTH_OF_MAX {
+                push_digit(value, digit)?
+            } else {
+                value * 10 + digit
+            };
+        } else {
             match skip_whitespace_char(text, at) {
                 Some(next) => at = next,
                 None => break,
             }
-        } else {
-            value = push_digit(value, digit)?;
-            at += 1;
         }
     }
     Some((value, &text[..at], &text[at..]))
