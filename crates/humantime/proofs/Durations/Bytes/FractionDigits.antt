@@ -1,6 +1,5 @@
 -- Reading a fraction digit by digit.
 use Rattle.std.proofs.Common.{◌≡◌, ◌≢◌, ◌≤◌, ◌<◌, ◌+◌, ◌-◌, ◌*◌, ◌^◌, ℕ, List, [], ◌∷◌, ◌++◌, length, ap, ◌∙◌, arith, length-append, true, refl, Some, None}
-use Rattle.std.proofs.lemmas.Grind.{common_steps}
 use Rattle.std.proofs.lemmas.Bool.{lt-ltb, ne_eqb}
 use Rattle.std.proofs.lemmas.Nat.{pow-add}
 use Rattle.std.proofs.Math.Nat.{pow-le-pow_right, mul-le-mul_right}
@@ -62,4 +61,4 @@ digits_pass text es e over = rw (e, lt-ltb 19 (length (significant es)) over) re
 pub digits_end : (f : Fraction) (text ds front rest : List ℕ) → AreDigits f ds
     → (number_of text ≡ ds) × (front ≡ take_while is_numeric text) × (rest ≡ after_number text)
     → Some (parts_of f, front, rest) ≡ digits_at text
-digits_end f text ds front rest h a = grind (arith, common_steps)
+digits_end f text ds front rest h a = grind arith

@@ -40,7 +40,7 @@ IsSoFar bs at k = at ≤ 7 → k ≡ packed (reverse (take at bs))
 -- and so it is with the byte at this place
 pub key_more : (bs : List ℕ) (at k m : ℕ) → HasBytes bs → at < length bs → IsSoFar bs at k → (k * 256 + get_or bs at 0 < 2 ^ 64
     → m ≡ k * 256 + get_or bs at 0) → IsSoFar bs (at + 1) m
-key_more bs at k m bytes some so_far next short = grind (arith, common_steps, packed_front_below)
+key_more bs at k m bytes some so_far next short = grind (arith, packed_front_below)
 
 -- the key of a front
 pub key_short : (bs : List ℕ) (at k : ℕ) → at ≤ length bs → at ≤ 7 → IsSoFar bs at k → k ≡ key (take at bs)

@@ -32,4 +32,4 @@ length_more n low h = ap length (decimal_step n low h) ∙ length-append (decima
 
 -- texts that are written one behind the other
 pub appends_both : (old mid new : Writer) (first second : List ℕ) → Appends old mid first → Appends mid new second → Appends old new (first ++ second)
-appends_both old mid new first second f s = grind (arith, common_steps, append_assoc, length-append)
+appends_both old mid new first second f s = grind (arith, append_assoc, length-append)

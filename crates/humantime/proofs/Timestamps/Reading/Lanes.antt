@@ -1,5 +1,4 @@
 -- Bytes and numbers that are tested at once are tested one by one.
-use Rattle.std.proofs.lemmas.Grind.{common_steps}
 use Rattle.std.proofs.Common.{◌≡◌, ℕ, ◌+◌, ◌-◌, ◌%◌, ◌^◌, ◌<◌, ◌≤◌, Bool, true, false, not, cond, eqb, leb, ltb, ◌&&◌, List, [], ◌∷◌, map, length, get_or, take, drop, Fits, w8, refl, ap, sym, ◌∙◌, arith}
 use Rattle.std.specs.Char.{is_ascii_digit}
 use Rattle.std.specs.List.{list_all}
@@ -84,7 +83,7 @@ most_back = 255 ∷ 255 ∷ 255 ∷ 255 ∷ 255 ∷ 255 ∷ 255 ∷ 255 ∷ 255 
 signs_first : (s t u v w a bytes c d e f g h i j k l : Bool)
     → ((a && (bytes && (c && (d && (s && (e && (f && (t && (g && (h && (true && (i && (j && (u && (k && (l && true)))))))))))))))) && (v && w))
     ≡ ((s && t && true && u && v) && ((a && bytes) && ((c && d) && ((e && f) && ((g && h) && ((i && j) && ((k && l) && (w && true))))))))
-signs_first s t u v w a bytes c d e f g h i j k l = grind (arith, common_steps)
+signs_first s t u v w a bytes c d e f g h i j k l = grind arith
 
 pub shape_of_parts : (bytes : List ℕ) → 19 ≤ length bytes → ((k : ℕ) → Fits w8 (get_or bytes k 0)) → has_separator bytes ≡ true
     → (are_near most bytes least && has_seconds bytes) ≡ (has_punctuation bytes && has_digits bytes)
@@ -116,4 +115,4 @@ seconds_of_lanes bytes long fits =
     ∷ any 11 48 i ∷ any 12 48 i ∷ any 13 58 i ∷ any 14 48 i ∷ any 15 48 i
     ∷ colon_near (get_or bytes 16 0) (fits 16).fits i ∷ digit 17 i ∷ digit 18 i ∷ []
     ))
-    ∙ grind (arith, common_steps)
+    ∙ grind arith

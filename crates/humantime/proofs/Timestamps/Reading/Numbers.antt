@@ -1,5 +1,4 @@
 -- The numbers of date and time, four to a vector.
-use Rattle.std.proofs.lemmas.Grind.{common_steps}
 use Rattle.std.proofs.Common.{◌≡◌, ℕ, ◌+◌, ◌-◌, ◌*◌, ◌≤◌, List, [], ◌∷◌, length, take, drop, sym, subst, arith}
 use Rattle.std.specs.Prelude.{true, slice_index}
 use Rattle.std.specs.Int.{IsInRange}
@@ -58,12 +57,12 @@ places_of bytes = record {
 }
 
 lanes_placed : (bytes : List ℕ) → 19 ≤ length bytes → lanes_of bytes ≡ places_of bytes
-lanes_placed (b0 ∷ b1 ∷ b2 ∷ b3 ∷ b4 ∷ b5 ∷ b6 ∷ b7 ∷ b8 ∷ b9 ∷ b10 ∷ b11 ∷ b12 ∷ b13 ∷ b14 ∷ b15 ∷ b16 ∷ b17 ∷ b18 ∷ r) long = grind (arith, common_steps)
+lanes_placed (b0 ∷ b1 ∷ b2 ∷ b3 ∷ b4 ∷ b5 ∷ b6 ∷ b7 ∷ b8 ∷ b9 ∷ b10 ∷ b11 ∷ b12 ∷ b13 ∷ b14 ∷ b15 ∷ b16 ∷ b17 ∷ b18 ∷ r) long = grind arith
 lanes_placed _ h = absurd (omega arith)
 
 all_of_four : (a b c d : ℕ) → a ≤ 999 → b ≤ 999 → c ≤ 999 → d ≤ 999
     → (length (a ∷ b ∷ c ∷ d ∷ []) ≡ 4) × ((k : ℕ) → slice_index (a ∷ b ∷ c ∷ d ∷ []) k ≤ 999)
-all_of_four a b c d ha hb hc hd = grind (arith, common_steps)
+all_of_four a b c d ha hb hc hd = grind arith
 
 pub numbers_shown : (bytes : List ℕ) → 19 ≤ length bytes → has_digits bytes ≡ true
     → (numbers_in (lanes_of bytes) ≡ numbers_of bytes) × AreShort (lanes_of bytes)

@@ -1,5 +1,4 @@
 use Rattle.std.proofs.Common.{◌≡◌, ◌<◌, ◌+◌, ◌*◌, ◌%◌, ◌^◌, ℕ, List, length, get_or, refl, sym, ap, chars, drop, subst, ◌∙◌, arith}
-use Rattle.std.proofs.lemmas.Grind.{common_steps}
 use Rattle.std.proofs.lemmas.Str.{IsCharBoundary-start}
 use Rattle.humantime.specs.Durations.Characters.{is_letter}
 use Rattle.humantime.proofs.Durations.Bytes.PlaceSteps.{letter_over, mu_over, no_letter, ends_there}
@@ -58,4 +57,4 @@ returns-else-bytes-at-ge128-clause-rest c =
     ])) ∙ c.loop-at.invariant.same
 
 pub returns-after-loop-at-clause-rest : goal.returns-after-loop-at-clause-rest
-returns-after-loop-at-clause-rest c = grind (arith, common_steps, no_chars_at)
+returns-after-loop-at-clause-rest c = grind (arith, no_chars_at)

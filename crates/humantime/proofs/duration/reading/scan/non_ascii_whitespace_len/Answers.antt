@@ -1,5 +1,4 @@
 use Rattle.std.proofs.Common.{arith, chars, ◌∙◌, sym, true, false}
-use Rattle.std.proofs.lemmas.Grind.{common_steps}
 use Rattle.humantime.proofs.Durations.Bytes.PlaceSteps.{first_width, none_width}
 use Rattle.humantime.proofs.duration.reading.scan.non_ascii_whitespace_len.Goals as goal
 
@@ -14,4 +13,4 @@ returns-in-Some-2 c =
     first_width (chars c.args.text.now) c.in-Some.c false e.2 (sym c.if-is_whitespace.false ∙ c.is_whitespace.ensures)
 
 pub returns-in-Some-2-2 : goal.returns-in-Some-2-2
-returns-in-Some-2-2 c = grind (arith, common_steps, none_width)
+returns-in-Some-2-2 c = grind (arith, none_width)

@@ -1,4 +1,3 @@
-use Rattle.std.proofs.lemmas.Grind.{common_steps}
 use Rattle.std.proofs.Common.{◌≡◌, ◌+◌, ◌++◌, ◌∷◌, [], get_or, sym, ap, ◌∙◌, chars, take, drop, false, arith, length-append, append_assoc}
 use Rattle.humantime.specs.Texts.{begins}
 use Rattle.humantime.specs.Durations.Characters.{is_numeric}
@@ -14,7 +13,7 @@ pub loop-at-init : goal.loop-at-init
 loop-at-init c = record { taken = []; read = none_read _ c.utf8.text; digits = no_digits; few = omega arith }
 
 pub push-requires-clause-digit : goal.push-requires-clause-digit
-push-requires-clause-digit c = grind (arith, common_steps, digit_is)
+push-requires-clause-digit c = grind (arith, digit_is)
 
 pub push-requires-clause-digits : goal.push-requires-clause-digits
 push-requires-clause-digits c = (c.loop-at.invariant.taken, c.loop-at.invariant.digits)
@@ -56,5 +55,5 @@ returns-clause-value c =
           stops_here _ _ _ c.utf8.text c.as_bytes-bytes.ensures.value w.loop-at-test.true i.read.place
           (sym w.is_ascii_digit.ensures.value ∙ w.if-is_ascii_digit.false) w.in-None.ensures
     ] in
-    let front : c.range.result.now ≡ take c.loop-at.at c.args.text.now = grind (arith, common_steps) in
+    let front : c.range.result.now ≡ take c.loop-at.at c.args.text.now = grind arith in
     rw (front, c.range_from.ensures.value) (digits_end c.loop-at.fraction _ _ _ _ i.digits (all_read _ _ _ c.utf8.text i.read ended))

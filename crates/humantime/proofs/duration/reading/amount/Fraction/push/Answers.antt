@@ -27,7 +27,7 @@ pub returns-then-c-eq48 : goal.returns-then-c-eq48
 returns-then-c-eq48 c ds h = grind (arith, common_steps, zero_more)
 
 pub returns-then-all-gt-FRACTION_DIGITS : goal.returns-then-all-gt-FRACTION_DIGITS
-returns-then-all-gt-FRACTION_DIGITS c ds h es = grind (arith, common_steps, one_too_many)
+returns-then-all-gt-FRACTION_DIGITS c ds h es = grind (arith, one_too_many)
 
 pub returns : goal.returns
 returns c ds h =
