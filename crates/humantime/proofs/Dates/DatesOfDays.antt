@@ -18,9 +18,8 @@ early : (n y k d : ℕ) → n ≤ 2_932_896 → k < 10 → march_months k + d < 
     → IsDateOfDay n (record { year = 1600 + y; month = k + 3; day = d + 1 })
 early n y k d few month within sum =
     let length = march_lengths (1600 + y) k month in
-    let months = days_of_months_closed (1600 + y) (k + 3) (omega arith) (omega arith) in
     dated n (1600 + y) (k + 3) (d + 1) ((omega arith, omega arith), (omega arith, omega arith), (omega arith, omega arith))
-    (grind (arith, months, days_of_years_closed (1600 + y) (omega arith), march_days_next (1600 + y)))
+    (grind (arith, (days_of_months_closed (1600 + y) (k + 3) (omega arith) (omega arith)), days_of_years_closed (1600 + y) (omega arith), march_days_next (1600 + y)))
 
 -- January and February
 late : (n y k d : ℕ) → n ≤ 2_932_896 → 10 ≤ k → march_months k + d < march_months (k + 1) → march_months k + d < days_in_year (1601 + y)

@@ -106,8 +106,7 @@ value_greater ds es = rw (value-append 0 ds es) (value_grows (decimal_value ds) 
 -- the answers where the digits are read
 pub number_passes : (text : List ℕ) (at : ℕ) (ds : List ℕ) → IsRead text at ds → u64_max < decimal_value ds → None ≡ number_at (chars text)
 number_passes text at ds h over =
-    let value = number_of (chars text) in
-    rw (lt-ltb u64_max (decimal_value value) (omega (arith, over, value_greater ds (number_of (chars (drop at text))), ap decimal_value h.all))) refl
+    rw (lt-ltb u64_max (decimal_value (number_of (chars text))) (omega (arith, over, value_greater ds (number_of (chars (drop at text))), ap decimal_value h.all))) refl
 
 pub number_ends : (text ds front rest : List ℕ) (v : ℕ) → v ≡ decimal_value ds → v ≤ u64_max
     → (number_of text ≡ ds) × (front ≡ take_while is_numeric text) × (rest ≡ after_number text)

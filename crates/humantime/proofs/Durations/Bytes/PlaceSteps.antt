@@ -63,10 +63,8 @@ char_at text at u here = by (chars rest) (encodes-chars rest utf8)
 pub ascii_at : (text : List ℕ) (at : ℕ) → IsUtf8 text → IsPlaceIn text at → get_or text at 0 < 128 → IsCharAt text at (get_or text at 0) (at + 1)
 ascii_at text at u here small =
     let c = char_at text at u here in
-    let is : c.0 ≡ get_or text at 0 = c.1.ascii small in
-    let one : len_utf8 (get_or text at 0) ≡ 1 = len_utf8_ascii _ small in
-    let here : IsCharAt text at (get_or text at 0) (at + len_utf8 (get_or text at 0)) = rw is at c.1 in
-    rw one at here
+    let here : IsCharAt text at (get_or text at 0) (at + len_utf8 (get_or text at 0)) = rw (c.1.ascii small) at c.1 in
+    rw (len_utf8_ascii (get_or text at 0) small) at here
 
 -- a digit stands where its byte does
 pub digit_at : (text : List ℕ) (at : ℕ) → IsUtf8 text → IsPlaceIn text at → is_ascii_digit (get_or text at 0) ≡ begins is_digit (chars (drop at text))

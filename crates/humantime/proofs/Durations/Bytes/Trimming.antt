@@ -54,11 +54,7 @@ fraction_digits (Some ds) = ap Some (digits_dropped _ _ (dropped (drop_while is_
 
 -- the slices spell the span that they are taken from
 pub spelled_at : (text rest : List ℕ) → spelled (view_at text rest).number (view_at text rest).fraction (view_at text rest).unit ≡ span_of rest
-spelled_at text rest = λ i. record {
-  number = digits_dropped _ _ (dropped (take_while is_numeric rest)) i;
-  fraction = fraction_digits (behind_point (after_number rest)) i;
-  word = word_of rest;
-}
+spelled_at text rest = grind (arith, (digits_dropped _ _ (dropped (take_while is_numeric rest))), (fraction_digits (behind_point (after_number rest))))
 
 ends_digit : (x : ℕ) (xs : List ℕ) → Only is_numeric (x ∷ xs) → ends is_whitespace (x ∷ xs) ≡ false → ends is_digit (x ∷ xs) ≡ true
 ends_digit x [] o e = digit_from_numeric x o.0 e

@@ -54,9 +54,7 @@ packed_same [] [] h k e = refl
 packed_same [] (y ∷ ys) h k e = absurd (omega (arith, e, packed_positive ys))
 packed_same (x ∷ xs) [] h k e = absurd (omega (arith, e, packed_positive xs))
 packed_same (x ∷ xs) (y ∷ ys) h k e =
-    let x_fits : x < 256 = h 0 in
-    let y_fits : y < 256 = k 0 in
-    let rest : packed xs ≡ packed ys = omega (arith, e, x_fits, y_fits) in
+    let rest : packed xs ≡ packed ys = omega (arith, e, h 0, k 0) in
     let first : x ≡ y = omega (arith, e, rest) in
     rw first (ap (λ zs. y ∷ zs) (packed_same xs ys (λ i. h (suc i)) (λ i. k (suc i)) rest))
 

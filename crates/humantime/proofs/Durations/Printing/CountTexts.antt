@@ -23,8 +23,7 @@ Lettered ss = AllByRecursion (λ s. 0 < length s.0) ss
 
 one_by_one : (t ns : List ℕ) (ss : List Suffix) → Lettered ss → with_counts t ns ss ≡ behind t (printed_counts ns ss)
 one_by_one t (n ∷ ns) (s ∷ ss) h =
-    let some = one_by_one (behind t (printed_count n s ∷ [])) ns ss h.1 in
-    grind (arith, behind_more, length-append, some, (one_by_one t ns ss h.1))
+    grind (arith, behind_more, length-append, (one_by_one (behind t (printed_count n s ∷ [])) ns ss h.1), (one_by_one t ns ss h.1))
 one_by_one t _ _ h = grind arith
 
 -- zero seconds where there is no text

@@ -67,9 +67,8 @@ over_outcome text e h right beyond =
     let walk : items text ≡ (h.spans ++ span_of h.rest ∷ map span_of more.starts, more.stop) =
     front_walked text h.front h.rest h.spans h.split h.within.formed (inr (closes_digit h.front h.rest f.starts))
     ∙ ap (followed_by h.spans) (walk-right (first_after true h.spans) text h.rest right) in
-    let all = rw walk at (items_found text).formed in
     let formed = each-append Formed h.spans (span_of h.rest ∷ []) h.within.formed (formed_here h.rest f, tt) in
-    duration_answer-items text h.not_zero ∙ rw walk (too_large _ more.stop all (λ g. beyond (WithinLimits_from _ formed
+    duration_answer-items text h.not_zero ∙ rw walk (too_large _ more.stop (rw walk at (items_found text).formed) (λ g. beyond (WithinLimits_from _ formed
     (WithinLimitsFrom-front 0 _ (map span_of more.starts) (rw append_assoc (from_WithinLimits _ g))))))
 
 pub outcome_fault : (text : List ℕ) (e : Fault) → HasFault text e → duration_answer text ≡ Err e

@@ -42,8 +42,7 @@ RoomFrom-back t (x ∷ xs) ys h = grind (arith, common_steps, (RoomFrom-back (t 
 from_each : (before xs : List Addition) → AllHaveRoom (before ++ xs) → RoomFrom (total before) xs
 from_each before [] h = tt
 from_each before (x ∷ xs) h =
-    let sum : total (before ++ x ∷ []) ≡ total before + addition_nanos x = sum_by_push addition_nanos before x in
-    (h before xs x refl, rw sum at (from_each (before ++ x ∷ []) xs (rw append_assoc h)))
+    (h before xs x refl, rw (sum_by_push addition_nanos before x) at (from_each (before ++ x ∷ []) xs (rw append_assoc h)))
 
 pub room_from_all : (xs : List Addition) → AllHaveRoom xs → RoomFrom 0 xs
 room_from_all xs h = from_each [] xs h

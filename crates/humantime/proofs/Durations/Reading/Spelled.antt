@@ -66,10 +66,8 @@ followed a b word (x ∷ xs) here next whole only some whitespace o = whitespace
 -- a spelling is the span that begins it, where its word ends with it
 pub spelled_here : (here next : List ℕ) (s : Span) → Spells here s [] → (ends_span next ≡ true) ⊎ (ends is_whitespace here ≡ true) → begins is_whitespace next ≡ false → IsSpanAt (here ++ next) s next
 spelled_here here next s h o no_whitespace =
-    let a = h.number_text in
-    let b = h.fraction_text in
     let letter = letters_begin s.word h.word in
-    let f : ends_span (h.whitespace ++ next) ≡ true = followed a b s.word h.whitespace here next (spells_alone here s h) h.word.0 letter h.only_whitespace o in
+    let f : ends_span (h.whitespace ++ next) ≡ true = followed h.number_text h.fraction_text s.word h.whitespace here next (spells_alone here s h) h.word.0 letter h.only_whitespace o in
     let stops = no_letter_follows (h.whitespace ++ next) f in
     let cut = drop_while-append is_whitespace h.whitespace next h.only_whitespace no_whitespace in
     rw (spelling_parts here next s h)

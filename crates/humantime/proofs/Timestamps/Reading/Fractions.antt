@@ -63,9 +63,8 @@ filled zero n m ds digits h = grind (arith, (add_nothing m ds))
 filled (suc k) n m [] digits h = zeros_read (suc k) n m h
 filled (suc k) n m (c ∷ cs) digits h =
     let value : digit_value c ≡ c - 48 = omega (arith, digit_value_digit c digits.0) in
-    let power : 10 ^ suc k ≡ 10 ^ k * 10 = pow-suc 10 k in
-    let tenth : 10 ^ k ≡ 10 ^ suc k / 10 = omega arith in
-    let first : (m * 10 + digit_value c) * 10 ^ k ≡ m * 10 ^ suc k + 10 ^ suc k / 10 * (c - 48) = rw value (weights m (c - 48) (10 ^ k) (10 ^ suc k) power) in
+    let tenth : 10 ^ k ≡ 10 ^ suc k / 10 = omega (arith, pow-suc 10 k) in
+    let first : (m * 10 + digit_value c) * 10 ^ k ≡ m * 10 ^ suc k + 10 ^ suc k / 10 * (c - 48) = rw value (weights m (c - 48) (10 ^ k) (10 ^ suc k) (pow-suc 10 k)) in
     filled k n (m * 10 + digit_value c) cs digits.1 (omega arith) ∙ (λ i. add_digits (first i) (tenth i / 10) cs)
 
 pub nanos_added : (ds : List ℕ) → AreDigits ds → fraction_nanos ds ≡ add_digits 0 100_000_000 ds

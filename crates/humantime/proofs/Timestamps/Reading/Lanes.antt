@@ -92,13 +92,12 @@ shape_of_parts bytes long fits separator =
     let shown = λ (k : ℕ). is_ascii_digit (slice_index bytes k) in
     let digit = λ (k : ℕ). digit_near (get_or bytes k 0) (fits k).fits in
     let dash = λ (k : ℕ). dash_near (get_or bytes k 0) (fits k).fits in
-    let colon = λ (k : ℕ). colon_near (get_or bytes k 0) (fits k).fits in
     let near : are_near most bytes least ≡ _ =
     ap (λ (bytes : List ℕ). are_near most bytes least) (nineteen bytes long)
     ∙ (λ i. list_all (λ (x : Bool). x) (
     digit 0 i ∷ digit 1 i ∷ digit 2 i ∷ digit 3 i ∷ dash 4 i ∷ digit 5 i ∷ digit 6 i ∷ dash 7 i
     ∷ digit 8 i ∷ digit 9 i ∷ any_near (get_or bytes 10 0) 32 i ∷ digit 11 i ∷ digit 12 i
-    ∷ colon 13 i ∷ digit 14 i ∷ digit 15 i ∷ []
+    ∷ colon_near (get_or bytes 13 0) (fits 13).fits i ∷ digit 14 i ∷ digit 15 i ∷ []
     )) in
     rw (separator, near)
     (signs_first (slice_index bytes 4 == 45) (slice_index bytes 7 == 45) (slice_index bytes 13 == 58) (slice_index bytes 16 == 58) (has_two bytes 17)

@@ -39,11 +39,10 @@ unfolding are_in_range has_digits
 written_passes f w =
     let bytes = fields_text f in
     let long : 19 ≤ length bytes = omega arith in
-    let most = month_most f.date.year f.date.month in
     let within = valid_from_test f.date.year f.date.month f.date.day w.date in
     let year = year_back bytes f.date.year (omega (arith, long)) within.0.1 refl refl refl refl in
     let month = two_back bytes 5 f.date.month (omega (arith, long)) refl refl (omega (arith, within.1.1)) in
-    let day = two_back bytes 8 f.date.day (omega (arith, long)) refl refl (omega (arith, within.2.1, most)) in
+    let day = two_back bytes 8 f.date.day (omega (arith, long)) refl refl (omega (arith, within.2.1, month_most f.date.year f.date.month)) in
     let hour = two_back bytes 11 f.hour (omega (arith, long)) refl refl (omega (arith, w.hour)) in
     let minute = two_back bytes 14 f.minute (omega (arith, long)) refl refl (omega (arith, w.minute)) in
     let second = two_back bytes 17 f.second (omega (arith, long)) refl refl (omega (arith, w.second)) in

@@ -19,7 +19,6 @@ year_shown bytes long century decade = search (rules, has_two_from_test, number_
 written_shown : (bytes : List ℕ) → first_failed (weak_checks bytes) ≡ None → bytes ≡ fields_text (fields_of bytes)
 written_shown bytes passed =
     let p = all_passed bytes passed in
-    let long = p.0 in
     let signs = punctuation_from_test bytes p.1 in
     let pairs = pairs_from_test bytes p.2 in
     let year = year_shown bytes (omega arith) pairs.0 pairs.1 in
@@ -30,7 +29,7 @@ written_shown bytes passed =
     let second = pair_shown bytes 17 (omega arith) pairs.6 in
     let end : drop 19 bytes ≡ fraction_text (fraction_of (fraction_part bytes)) ++ zone_text (zone_of (drop 19 bytes)) =
     zone_shown (drop 19 bytes) ∙ ap (λ (part : List ℕ). part ++ zone_text (zone_of (drop 19 bytes))) (part_shown (fraction_part bytes) p.4) in
-    nineteen bytes long
+    nineteen bytes p.0
     ∙ (λ i. year.0 i ∷ year.1 i ∷ year.2 i ∷ year.3 i
     ∷ signs.0 i ∷ month.0 i ∷ month.1 i ∷ signs.1 i ∷ day.0 i ∷ day.1 i ∷ signs.2 i
     ∷ hour.0 i ∷ hour.1 i ∷ signs.3 i ∷ minute.0 i ∷ minute.1 i ∷ signs.4 i ∷ second.0 i ∷ second.1 i ∷ end i)

@@ -1,5 +1,6 @@
 use Rattle.std.proofs.Common.{arith}
 use Rattle.std.proofs.lemmas.Bool.{and_parts}
+use Rattle.std.proofs.lemmas.Grind.{elements}
 use Rattle.std.proofs.lemmas.Result.{err_from_is_err_and}
 use Rattle.humantime.proofs.Timestamps.Reading.Exits.{exit_short, exit_separator, exit_range, exit_read}
 use Rattle.humantime.proofs.date.parse.read_timestamp.Goals as goal
@@ -18,3 +19,6 @@ returns-in_err-nanos c =
 
 pub returns : goal.returns
 returns c = grind (arith, and_parts, exit_read)
+
+pub read_fraction-requires : goal.read_fraction-requires
+read_fraction-requires c = grind (arith, elements)

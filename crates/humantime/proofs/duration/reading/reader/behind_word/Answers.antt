@@ -25,8 +25,7 @@ returns-then-begins_with_digit c = kept_behind _ c.utf8.after_word (digit_ends _
 pub returns-in_err-at : goal.returns-in_err-at
 returns-in_err-at c =
     let some : length c.args.after_word.now ≢ 0 = grind arith in
-    let other = sym c.begins_with_digit.ensures ∙ c.if-begins_with_digit.false in
-    rw c.from_residual.ensures (other_goes_on _ (some_chars _ c.utf8.after_word some) other c.in_err-at.ensures)
+    rw c.from_residual.ensures (other_goes_on _ (some_chars _ c.utf8.after_word some) (sym c.begins_with_digit.ensures ∙ c.if-begins_with_digit.false) c.in_err-at.ensures)
 
 pub returns : goal.returns
 returns c = rw c.range_from-2.ensures.value (whitespace_behind _ _ c.utf8.after_word (grind arith) c.in_ok-at.ensures.0 c.in_ok-at.ensures.1).1

@@ -24,10 +24,9 @@ push-requires-clause-room c = omega (arith, c.loop-at.invariant.digits.all, c.lo
 pub loop-at-preserved-then-is_ascii_digit : goal.loop-at-preserved-then-is_ascii_digit
 loop-at-preserved-then-is_ascii_digit c =
     let i = c.loop-at.invariant in
-    let digit = sym c.is_ascii_digit.ensures.value ∙ c.if-is_ascii_digit.true in
     record {
       taken = i.taken ++ get_or c.as_bytes-bytes.result.now c.loop-at.at 0 ∷ [];
-      read = read_digit _ _ _ _ c.utf8.text c.as_bytes-bytes.ensures.value c.loop-at-test.true i.read digit;
+      read = read_digit _ _ _ _ c.utf8.text c.as_bytes-bytes.ensures.value c.loop-at-test.true i.read (sym c.is_ascii_digit.ensures.value ∙ c.if-is_ascii_digit.true);
       digits = c.in_ok-fraction.ensures i.taken i.digits;
       few = omega (arith, length-append i.taken (get_or c.as_bytes-bytes.result.now c.loop-at.at 0 ∷ []), i.few);
     }
@@ -41,8 +40,7 @@ loop-at-preserved c =
 pub returns-in_err-fraction-clause-value : goal.returns-in_err-fraction-clause-value
 returns-in_err-fraction-clause-value c =
     let i = c.loop-at.invariant in
-    let digit = sym c.is_ascii_digit.ensures.value ∙ c.if-is_ascii_digit.true in
-    let read = read_digit _ _ _ _ c.utf8.text c.as_bytes-bytes.ensures.value c.loop-at-test.true i.read digit in
+    let read = read_digit _ _ _ _ c.utf8.text c.as_bytes-bytes.ensures.value c.loop-at-test.true i.read (sym c.is_ascii_digit.ensures.value ∙ c.if-is_ascii_digit.true) in
     let over = c.in_err-fraction.ensures i.taken i.digits (number_of (chars (drop (c.loop-at.at + 1) c.args.text.now))) in
     rw c.from_residual.ensures (digits_pass _ _ (read.all ∙ append_assoc i.taken _ _) over)
 
@@ -57,3 +55,6 @@ returns-clause-value c =
     ] in
     let front : c.range.result.now ≡ take c.loop-at.at c.args.text.now = grind arith in
     rw (front, c.range_from.ensures.value) (digits_end c.loop-at.fraction _ _ _ _ i.digits (all_read _ _ _ c.utf8.text i.read ended))
+
+pub returns-clause-tail : goal.returns-clause-tail
+returns-clause-tail c = grind arith

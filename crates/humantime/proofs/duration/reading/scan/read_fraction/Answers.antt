@@ -12,16 +12,17 @@ range_from-requires c = λ _. (point_first c.args.text.now c.utf8.text (grind ar
 pub returns-in_err-fraction-clause-value : goal.returns-in_err-fraction-clause-value
 returns-in_err-fraction-clause-value c =
     let p = point_first c.args.text.now c.utf8.text (grind arith) (grind arith) in
-    let behind = p.ahead ∙ ap (λ (x : List ℕ). 46 ∷ chars x) (sym c.range_from.ensures.value) in
-    rw c.from_residual.ensures (ap (option_map (λ x. (Some x.0, Some x.1, x.2))) c.in_err-fraction.ensures.value ∙ fraction_behind _ _ behind)
+    rw c.from_residual.ensures (ap (option_map (λ x. (Some x.0, Some x.1, x.2))) c.in_err-fraction.ensures.value ∙ fraction_behind _ _ (p.ahead ∙ ap (λ (x : List ℕ). 46 ∷ chars x) (sym c.range_from.ensures.value)))
 
 pub returns-clause-value : goal.returns-clause-value
 returns-clause-value c =
     let p = point_first c.args.text.now c.utf8.text (grind arith) (grind arith) in
-    let behind = p.ahead ∙ ap (λ (x : List ℕ). 46 ∷ chars x) (sym c.range_from.ensures.value) in
-    ap (option_map (λ x. (Some x.0, Some x.1, x.2))) c.in_ok-fraction.ensures.value ∙ fraction_behind _ _ behind
+    ap (option_map (λ x. (Some x.0, Some x.1, x.2))) c.in_ok-fraction.ensures.value ∙ fraction_behind _ _ (p.ahead ∙ ap (λ (x : List ℕ). 46 ∷ chars x) (sym c.range_from.ensures.value))
 
 pub returns-clause-tail : goal.returns-clause-tail
 returns-clause-tail c =
     let p = point_first c.args.text.now c.utf8.text (grind arith) (grind arith) in
     tail_of_tail _ c.range_from.result.now _ (tail_at c.args.text.now _ 1 c.utf8.text p.place c.range_from.ensures.value) c.in_ok-fraction.ensures.tail
+
+pub returns-then-is_empty-clause-tail : goal.returns-then-is_empty-clause-tail
+returns-then-is_empty-clause-tail c = grind arith

@@ -56,3 +56,6 @@ returns-clause-value c =
     ] in
     let front : c.range.result.now ≡ take c.loop-at.at c.args.text.now = grind arith in
     rw (front, c.range_from.ensures.value) (number_ends _ _ _ _ _ i.value i.fits (all_read _ _ _ c.utf8.text i.read ended))
+
+pub returns-clause-tail : goal.returns-clause-tail
+returns-clause-tail c = grind arith
