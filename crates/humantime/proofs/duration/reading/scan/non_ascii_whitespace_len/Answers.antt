@@ -1,4 +1,4 @@
-use Rattle.std.proofs.Common.{arith, chars, ◌∙◌, sym, true, false}
+use Rattle.std.proofs.Common.{chars, ◌∙◌, sym, true, false}
 use Rattle.humantime.proofs.Durations.Bytes.PlaceSteps.{first_width}
 use Rattle.humantime.proofs.duration.reading.scan.non_ascii_whitespace_len.Goals as goal
 
