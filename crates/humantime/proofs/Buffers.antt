@@ -30,21 +30,21 @@ some_shown t m f P e p = grind (arith, common_steps)
 
 pub text_shown : (t : Option (Bor (List ℕ))) (m : Option ℕ) (f : ℕ → List ℕ) (Q : List ℕ → Type 0)
     → option_map (λ x. x.now) t ≡ option_map f m → IfSome m (λ n. Q (f n)) → IfSome t (λ x. Q x.now)
-text_shown t m f Q e p = grind (arith, common_steps)
+text_shown t m f Q e p = grind arith
 
 pub none_shown : (t : Option (Bor (List ℕ))) (m : Option ℕ) (f : ℕ → List ℕ) (P : Type 0)
     → option_map (λ x. x.now) t ≡ option_map f m → IfNone m P → IfNone t P
-none_shown t m f P e p = grind (arith, common_steps)
+none_shown t m f P e p = grind arith
 
 -- the same of an answer with an error, which is passed on as it is
 pub answer_shown : (t : Result (Bor (List ℕ)) DurationError) (m : Result ℕ DurationError) (f : ℕ → List ℕ) (answer : Result (List ℕ) Fault)
     → IfOk m (λ n. text_result_view t ≡ Ok (f n)) → IfErr m (λ e. t ≡ Err e) → result_view_by f m ≡ answer → text_result_view t ≡ answer
-answer_shown t m f answer p q e = grind (arith, common_steps)
+answer_shown t m f answer p q e = grind arith
 
 pub error_shown : (t : Result (Bor (List ℕ)) DurationError) (m : Result ℕ DurationError) (f : ℕ → List ℕ) (Q : DurationError → Type 0)
     → IfOk m (λ n. text_result_view t ≡ Ok (f n)) → IfErr m (λ e. t ≡ Err e) → IfErr m Q → IfErr t Q
-error_shown t m f Q p q e = grind (arith, common_steps)
+error_shown t m f Q p q e = grind arith
 
 pub err_shown : (t : Result (Bor (List ℕ)) DurationError) (m : Result ℕ DurationError) (f : ℕ → List ℕ) (P : Type 0)
     → IfOk m (λ n. text_result_view t ≡ Ok (f n)) → IfErr m (λ e. t ≡ Err e) → OnErr m P → OnErr t P
-err_shown t m f P p q e = grind (arith, common_steps)
+err_shown t m f P p q e = grind arith

@@ -1,5 +1,5 @@
 -- A moment and its parts: they make it up, and moments stand in their order.
-use Rattle.std.proofs.Common.{◌≡◌, ℕ, ◌<◌, arith}
+use Rattle.std.proofs.Common.{◌≡◌, ℕ, ◌<◌, arith, rules}
 use Rattle.std.specs.Prelude.{ℤ, pos, negsuc}
 use Rattle.std.specs.Ordering.{nat_cmp, int_cmp, ordering_then}
 use Rattle.std.proofs.lemmas.Int.{ints}
@@ -17,4 +17,4 @@ nano_of_bound (negsuc n) = omega arith
 -- a later second is a later moment, and in one second the nanoseconds decide
 pub int_cmp_moment : (s t : ℤ) (m n : ℕ) → m < 1_000_000_000 → n < 1_000_000_000
     → int_cmp (moment s m) (moment t n) ≡ ordering_then (int_cmp s t) (nat_cmp m n)
-int_cmp_moment s t m n small small' = grind (arith, ints)
+int_cmp_moment s t m n small small' = search (rules, ints)

@@ -1,5 +1,4 @@
 -- Each day number has one date.
-use Rattle.std.proofs.lemmas.Grind.{common_steps}
 use Rattle.std.proofs.Common.{◌≡◌, ◌∙◌, ℕ, zero, suc, ◌+◌, ◌-◌, ◌<◌, ◌≤◌, sym, arith}
 use Rattle.std.proofs.lemmas.Bool.{cases_eq}
 use Rattle.humantime.specs.declared.calendar.Date.{Date}
@@ -17,12 +16,12 @@ day_count y m d = days_of_years (y - 1970) + days_of_months y (m - 1) + (d - 1)
 -- more months have no fewer days
 months_grow : (y m n : ℕ) → m ≤ n → days_of_months y m ≤ days_of_months y n
 unfolding days_of_months
-months_grow y m zero few = grind (arith, common_steps)
-months_grow y m (suc n) few = grind (arith, common_steps, (months_grow y m n), (cases_eq m (suc n)))
+months_grow y m zero few = grind arith
+months_grow y m (suc n) few = grind (arith, (months_grow y m n), (cases_eq m (suc n)))
 
 month_end : (y m : ℕ) → 1 ≤ m → days_of_months y m ≡ days_of_months y (m - 1) + days_in_month y m
 unfolding days_of_months
-month_end y m some = grind (arith, common_steps)
+month_end y m some = grind arith
 
 -- a date's day lies before the days of each later month and of each later year
 pub before_month : (y m d : ℕ) → AreWithin y m d → (later : ℕ) → m < later → days_of_months y (m - 1) + (d - 1) < days_of_months y (later - 1)
@@ -39,7 +38,7 @@ same_month : (y m d m' d' : ℕ) → AreWithin y m d → AreWithin y m' d' → d
 same_month y m d m' d' valid valid' same = grind (arith, before_month y m d valid m', before_month y m' d' valid' m)
 
 pub same_date : (a b : Date) → IsDate a → IsDate b → day_of a ≡ day_of b → a ≡ b
-same_date a b valid valid' same = grind (arith, common_steps, valid_from_test, same_year, same_month)
+same_date a b valid valid' same = grind (arith, valid_from_test, same_year, same_month)
 
 pub one_date : (day : ℕ) → day ≤ 2_932_896 → ExactlyOne (IsDateOfDay day)
 one_date day few =

@@ -1,5 +1,4 @@
 -- The days of years and of months in closed form, and the ranges of a date's numbers.
-use Rattle.std.proofs.lemmas.Grind.{common_steps}
 use Rattle.std.proofs.Common.{◌≡◌, ℕ, zero, suc, ◌+◌, ◌-◌, ◌*◌, ◌<◌, ◌≤◌, refl, arith, IsTrue}
 use Rattle.std.specs.Prelude.{◌↔◌, ◌&&◌, nat_lt, if◌then◌else◌, [], ◌∷◌, slice_index_or}
 use Rattle.std.specs.Int.{IsInRange, is_in_range}
@@ -37,11 +36,11 @@ days_of_years_closed y late = omega (arith, years_closed (y - 1970))
 -- January and February, and the months from March on
 pub days_of_first_months : (y k : ℕ) → k < 2 → days_of_months y k ≡ 31 * k
 unfolding days_of_months
-days_of_first_months y k few = grind (arith, common_steps)
+days_of_first_months y k few = grind arith
 
 months_closed : (y k : ℕ) → k ≤ 10 → days_of_months y (k + 2) + 306 ≡ march_months k + days_in_year y
 unfolding days_of_months
-months_closed y k few = grind (arith, common_steps)
+months_closed y k few = grind (arith, nat_tests)
 
 pub days_of_months_closed : (y m : ℕ) → 3 ≤ m → m ≤ 13 → days_of_months y (m - 1) + 306 ≡ march_months (m - 3) + days_in_year y
 days_of_months_closed y m late few = let same : m - 3 + 2 ≡ m - 1 = omega arith in rw same at (months_closed y (m - 3) (omega arith))
@@ -53,7 +52,7 @@ march_lengths y k early = grind (arith, nat_tests)
 pub days_in_table : (y k : ℕ) → k < 12 → days_of_months y k
     ≡ slice_index_or (0 ∷ 31 ∷ 59 ∷ 90 ∷ 120 ∷ 151 ∷ 181 ∷ 212 ∷ 243 ∷ 273 ∷ 304 ∷ 334 ∷ []) k 0 + (if nat_lt 1 k then days_in_year y - 365 else 0)
 unfolding days_of_months
-days_in_table y k few = grind (arith, common_steps)
+days_in_table y k few = grind (arith, nat_tests)
 
 -- what the days of the years and the months before a date are
 pub ruleset days_counted = (days_of_years_closed, days_of_first_months, days_of_months_closed, days_in_year_bound)

@@ -1,7 +1,6 @@
 -- Single additions, and the sum with a whole span.
 use Rattle.std.proofs.Common.{◌≡◌, ◌∙◌, ap, refl, ℕ, ◌-◌, ◌*◌, ◌^◌, ◌<◌, ◌≤◌, true, Option, Some, None, option_map, arith}
 use Rattle.std.specs.Prelude.{nat_le}
-use Rattle.std.proofs.lemmas.Grind.{common_steps}
 use Rattle.std.proofs.lemmas.Bool.{le-leb}
 use Rattle.std.proofs.lemmas.Nat.{pow-add}
 use Rattle.std.proofs.Math.Nat.{one-le-pow, pow-le-pow_right, mul-le-mul, mul-mod_left, mul-div_cancel}
@@ -24,7 +23,7 @@ pub span_adds : (t : ℕ) (s : Span) (u : Scale) (number : ℕ) (fraction : Opti
     → scale_of_word s.word ≡ Some u → number ≡ decimal_value s.number → fraction ≡ option_map counted s.fraction
     → then_add (add_times t u.one number) u.fraction fraction ≡ add_span t s
 unfolding add_all add_span
-span_adds t s u number fraction word value parts = grind (arith, common_steps, amount_kept)
+span_adds t s u number fraction word value parts = grind (arith, amount_kept)
 
 pub power_positive : (n : ℕ) → 0 < 10 ^ n
 power_positive n = one-le-pow n 10 (omega arith)

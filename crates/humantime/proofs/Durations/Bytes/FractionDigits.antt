@@ -1,6 +1,5 @@
 -- Reading a fraction digit by digit.
 use Rattle.std.proofs.Common.{◌≡◌, ◌≢◌, ◌≤◌, ◌<◌, ◌+◌, ◌-◌, ◌*◌, ◌^◌, ℕ, List, [], ◌∷◌, ◌++◌, length, ap, ◌∙◌, arith, length-append, true, refl, Some, None}
-use Rattle.std.proofs.lemmas.Grind.{common_steps}
 use Rattle.std.proofs.lemmas.Bool.{lt-ltb, ne_eqb}
 use Rattle.std.proofs.lemmas.Nat.{pow-add}
 use Rattle.std.proofs.Math.Nat.{pow-le-pow_right, mul-le-mul_right}
@@ -16,10 +15,9 @@ use Rattle.humantime.proofs.Durations.Reading.SignificantDigits.{significant_sho
 -- a number of so many digits fits, shifted by some places and with a digit more, where all are at most 19
 pub shifted_fits : (v n k d p : ℕ) → v < 10 ^ n → d ≤ 9 → 1 ≤ k → p ≡ 10 ^ k → v * p + d < 10 ^ (n + k)
 shifted_fits v n k d p fits digit more power =
-    let longer : 10 ^ (n + k) ≡ 10 ^ n * 10 ^ k = pow-add 10 n k in
     let some : 10 ≤ 10 ^ k = pow-le-pow_right {n = 10} (omega arith) {i = 1} {j = k} more in
     let below : (v + 1) * 10 ^ k ≤ 10 ^ n * 10 ^ k = mul-le-mul_right (10 ^ k) (omega (arith, fits)) in
-    rw power (omega (arith, longer, some, below))
+    rw power (omega (arith, pow-add 10 n k, some, below))
 
 pub push_fits : (v n k d p : ℕ) → v < 10 ^ n → d ≤ 9 → 1 ≤ k → p ≡ 10 ^ k → n + k ≤ 19 → v * p + d < 2 ^ 64
 push_fits v n k d p fits digit more power few =
@@ -62,4 +60,4 @@ digits_pass text es e over = rw (e, lt-ltb 19 (length (significant es)) over) re
 pub digits_end : (f : Fraction) (text ds front rest : List ℕ) → AreDigits f ds
     → (number_of text ≡ ds) × (front ≡ take_while is_numeric text) × (rest ≡ after_number text)
     → Some (parts_of f, front, rest) ≡ digits_at text
-digits_end f text ds front rest h a = grind (arith, common_steps)
+digits_end f text ds front rest h a = grind arith

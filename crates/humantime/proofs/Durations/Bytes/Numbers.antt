@@ -1,5 +1,4 @@
 -- Reading the digits that begin a text, one by one.
-use Rattle.std.proofs.lemmas.Grind.{common_steps}
 use Rattle.std.proofs.Common.{◌≡◌, ◌≤◌, ◌<◌, ◌+◌, ◌-◌, ◌*◌, ◌%◌, ℕ, List, [], ◌∷◌, ◌++◌, ap, sym, ◌∙◌, arith, append_assoc, append-nil, true, false, chars, take, drop, get_or, length, IsUtf8, IsCharBoundary, refl, Some, None}
 use Rattle.std.specs.Char.{digit_value, is_ascii_digit}
 use Rattle.std.specs.Str.Parse.{digits_value_after}
@@ -26,7 +25,7 @@ none_read text u = record { place = IsCharBoundary-start text u; all = refl; aft
 
 digit_read : (text ds rest cs : List ℕ) (c : ℕ) → number_of text ≡ ds ++ number_of rest → rest ≡ c ∷ cs → is_digit c ≡ true
     → number_of text ≡ (ds ++ c ∷ []) ++ number_of cs
-digit_read text ds rest cs c h e d = grind (arith, common_steps, append_assoc {A = ℕ})
+digit_read text ds rest cs c h e d = grind (arith, append_assoc {A = ℕ})
 
 pub read_digit : (text bytes : List ℕ) (at : ℕ) (ds : List ℕ) → IsUtf8 text → bytes ≡ text → at < length bytes → IsRead text at ds
     → is_ascii_digit (get_or bytes at 0) ≡ true → IsRead text (at + 1) (ds ++ get_or bytes at 0 ∷ [])
@@ -46,10 +45,10 @@ read_whitespace text bytes at next ds u same some h further n =
     }
 
 no_numeric : (rest : List ℕ) → begins is_digit rest ≡ false → begins is_whitespace rest ≡ false → begins is_numeric rest ≡ false
-no_numeric rest d w = grind (arith, common_steps)
+no_numeric rest d w = grind arith
 
 none_there : (rest : List ℕ) → begins is_numeric rest ≡ false → (number_of rest ≡ []) × (after_number rest ≡ rest)
-none_there rest e = grind (arith, common_steps)
+none_there rest e = grind arith
 
 -- no digit and no whitespace stands at this place
 pub stops_here : (text bytes : List ℕ) (at : ℕ) → IsUtf8 text → bytes ≡ text → at < length bytes → IsCharBoundary text at → is_ascii_digit (get_or bytes at 0) ≡ false
@@ -79,7 +78,7 @@ pub first_digit : (text bytes : List ℕ) → IsUtf8 text → bytes ≡ text →
     → (0 < length bytes) × (48 ≤ get_or bytes 0 0) × (is_ascii_digit (get_or bytes 0 0) ≡ true)
 unfolding BeginsWithDigit
 first_digit text bytes u same d =
-    let some : 0 < length text = grind (arith, common_steps, no_bytes) in
+    let some : 0 < length text = grind (arith, no_bytes) in
     let digit = digit_at text 0 u (some, IsCharBoundary-start text u) ∙ d in
     rw same (some, (digit_range _ (sym (digit_is _) ∙ digit)).0, digit)
 
@@ -111,10 +110,9 @@ value_greater ds es = rw (value-append 0 ds es) (value_grows (decimal_value ds) 
 -- the answers where the digits are read
 pub number_passes : (text : List ℕ) (at : ℕ) (ds : List ℕ) → IsRead text at ds → u64_max < decimal_value ds → None ≡ number_at (chars text)
 number_passes text at ds h over =
-    let value = number_of (chars text) in
-    rw (lt-ltb u64_max (decimal_value value) (omega (arith, over, value_greater ds (number_of (chars (drop at text))), ap decimal_value h.all))) refl
+    rw (lt-ltb u64_max (decimal_value (number_of (chars text))) (omega (arith, over, value_greater ds (number_of (chars (drop at text))), ap decimal_value h.all))) refl
 
 pub number_ends : (text ds front rest : List ℕ) (v : ℕ) → v ≡ decimal_value ds → v ≤ u64_max
     → (number_of text ≡ ds) × (front ≡ take_while is_numeric text) × (rest ≡ after_number text)
     → Some (v, front, rest) ≡ number_at text
-number_ends text ds front rest v is fits a = grind (arith, common_steps)
+number_ends text ds front rest v is fits a = grind arith

@@ -63,10 +63,8 @@ char_at text at u here = by (chars rest) (encodes-chars rest utf8)
 pub ascii_at : (text : List ℕ) (at : ℕ) → IsUtf8 text → IsPlaceIn text at → get_or text at 0 < 128 → IsCharAt text at (get_or text at 0) (at + 1)
 ascii_at text at u here small =
     let c = char_at text at u here in
-    let is : c.0 ≡ get_or text at 0 = c.1.ascii small in
-    let one : len_utf8 (get_or text at 0) ≡ 1 = len_utf8_ascii _ small in
-    let here : IsCharAt text at (get_or text at 0) (at + len_utf8 (get_or text at 0)) = rw is at c.1 in
-    rw one at here
+    let here : IsCharAt text at (get_or text at 0) (at + len_utf8 (get_or text at 0)) = rw (c.1.ascii small) at c.1 in
+    rw (len_utf8_ascii (get_or text at 0) small) at here
 
 -- a digit stands where its byte does
 pub digit_at : (text : List ℕ) (at : ℕ) → IsUtf8 text → IsPlaceIn text at → is_ascii_digit (get_or text at 0) ≡ begins is_digit (chars (drop at text))
@@ -80,15 +78,15 @@ digit_at text at u here =
 -- a digit is one byte
 pub digit_over : (text : List ℕ) (at : ℕ) → IsUtf8 text → IsPlaceIn text at → is_ascii_digit (get_or text at 0) ≡ true
     → (is_digit (get_or text at 0) ≡ true) × IsCharAt text at (get_or text at 0) (at + 1)
-digit_over text at u here d = (sym (digit_is _) ∙ d, ascii_at text at u here (grind (arith, common_steps, wide_no_digit)))
+digit_over text at u here d = (sym (digit_is _) ∙ d, ascii_at text at u here (grind (arith, wide_no_digit)))
 
 -- whitespace at a place is a character of its width
 pub whitespace_over : (text : List ℕ) (at next : ℕ) → IsUtf8 text → IsPlaceIn text at → 0 < whitespace_len (chars (drop at text))
     → next ≡ at + whitespace_len (chars (drop at text)) → (c : ℕ) × (is_whitespace c ≡ true) × IsCharAt text at c next
-whitespace_over text at next u here some n = let c = char_at text at u here in grind (arith, common_steps)
+whitespace_over text at next u here some n = let c = char_at text at u here in grind arith
 
 pub no_whitespace : (cs : List ℕ) → ¬ (0 < whitespace_len cs) → begins is_whitespace cs ≡ false
-no_whitespace cs none = grind (arith, common_steps, len_utf8_bounds)
+no_whitespace cs none = grind (arith, len_utf8_bounds)
 
 -- the whitespace that begins a text is its first character, if that is whitespace
 pub first_width : (cs : List ℕ) (c : ℕ) (white : Bool) → Some c ≡ slice_get cs 0 → white ≡ std_is_whitespace c
@@ -102,7 +100,7 @@ none_width (d ∷ ds) e = cc
 
 -- what does not begin so is past what begins so
 pub ends_there : (p : ℕ → Bool) (rest : List ℕ) → begins p rest ≡ false → rest ≡ drop_while p rest
-ends_there p rest e = grind (arith, common_steps)
+ends_there p rest e = grind arith
 
 -- whitespace does not begin with a digit
 pub digit_stays : (cs : List ℕ) → begins is_digit cs ≡ true → cs ≡ drop_while is_whitespace cs
@@ -193,7 +191,7 @@ no_letter text at u here none other =
     let c = char_at text at u here in
     elim (cases_lt (get_or text at 0) 128) [
       | inl small ↦ rw (ascii_at text at u here small).ahead (sym (ascii_letter _ small) ∙ none)
-      | inr wide ↦ let no_mu = other wide in rw c.1.ahead (grind (arith, common_steps, micro_bytes, mu_bytes, two_bytes, nat_tests))
+      | inr wide ↦ let no_mu = other wide in rw c.1.ahead (grind (arith, micro_bytes, mu_bytes, two_bytes, nat_tests))
     ]
 
 -- ---- what ends a span
@@ -204,7 +202,7 @@ digit_ends (c ∷ cs) d = digit_is_numeric c d
 
 pub other_goes_on : (cs : List ℕ) → cs ≢ [] → begins is_digit cs ≡ false → ¬ (0 < whitespace_len cs) → ends_span cs ≡ false
 other_goes_on [] some d w = absurd (some refl)
-other_goes_on (c ∷ cs) some d w = grind (arith, common_steps, len_utf8_bounds)
+other_goes_on (c ∷ cs) some d w = grind (arith, len_utf8_bounds)
 
 pub kept_behind : (text : List ℕ) → IsUtf8 text → ends_span (chars text) ≡ true → IsBehindWord text text
 kept_behind text u e = record { ends = e; same = refl; tail = tail_at text text 0 u (IsCharBoundary-start text u) refl }

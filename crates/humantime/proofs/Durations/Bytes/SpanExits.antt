@@ -1,7 +1,6 @@
 -- How reading stops at a rest, by its parts.
 use Rattle.std.specs.Prelude.{length, ◌==◌}
 use Rattle.std.proofs.Common.{arith, ◌≡◌, ◌≢◌, ℕ, true, false, List, [], ◌∷◌, Option, Some, None, option_map, refl, sym, ◌∙◌, chars, Bor, IsUtf8}
-use Rattle.std.proofs.lemmas.Grind.{common_steps}
 use Rattle.std.proofs.lemmas.Str.{encodes-chars}
 use Rattle.std.specs.Str.{drop_trailing_whitespace}
 use Rattle.humantime.specs.declared.duration.reading.amount.Fraction.{Fraction}
@@ -21,13 +20,13 @@ pub are_read : (rest : List ℕ) (v : ℕ) (n a : List ℕ) (f : Option Counted)
     → Some (v, n, a) ≡ number_at rest → Some (f, d, bytes) ≡ fraction_read a
     → (too_long (span_of rest) ≡ false) × (v ≡ decimal_value (number_of rest)) × (n ≡ take_while is_numeric rest) × (a ≡ after_number rest)
     × (f ≡ option_map counted (fraction_of rest)) × (d ≡ option_map (take_while is_numeric) (behind_point (after_number rest))) × (bytes ≡ after_fraction rest)
-are_read rest v n a f d bytes x y = grind (arith, common_steps)
+are_read rest v n a f d bytes x y = grind arith
 
 pub long_number : (rest : List ℕ) → None ≡ number_at rest → too_long (span_of rest) ≡ true
-long_number rest n = grind (arith, common_steps)
+long_number rest n = grind arith
 
 pub long_fraction : (rest : List ℕ) (x : ℕ × List ℕ × List ℕ) → Some x ≡ number_at rest → None ≡ fraction_read x.2 → too_long (span_of rest) ≡ true
-long_fraction rest x n f = grind (arith, common_steps)
+long_fraction rest x n f = grind arith
 
 pub exit_long : (text rest : List ℕ) → too_long (span_of rest) ≡ true → Some NumberOverflow ≡ stop_at text rest
 unfolding stop_at
@@ -36,7 +35,7 @@ exit_long text rest e = rw e refl
 -- what no letter begins has no letters at its front
 no_letters : (cs : List ℕ) → begins_no_word cs ≡ true → drop_while is_letter cs ≡ cs
 no_letters [] h = refl
-no_letters (c ∷ cs) h = grind (arith, common_steps)
+no_letters (c ∷ cs) h = grind arith
 
 pub exit_no_letter : (text rest after : List ℕ) (at : ℕ) → too_long (span_of rest) ≡ false → after ≡ after_fraction rest
     → begins_no_word after ≡ true → at ≡ offset_of text after → Some (InvalidCharacter at) ≡ stop_at text rest
@@ -46,7 +45,7 @@ exit_no_letter text rest after at s a n p = rw (s, sym a, n, no_letters after n,
 -- whether a point without digits stands there, seen in the digits that were read
 same_bare : (fraction : Option Fraction) (digits : Option (List ℕ)) → option_map parts_of fraction ≡ option_map counted digits
     → is_some_and (λ ds. length ds == 0) digits ≡ is_some_and (λ f. f.all == 0) fraction
-same_bare fraction digits f = grind (arith, common_steps)
+same_bare fraction digits f = grind arith
 
 pub exit_bare : (text rest behind after : List ℕ) (fraction : Option Fraction) (at : ℕ) → too_long (span_of rest) ≡ false
     → behind ≡ after_fraction rest → begins_no_word behind ≡ false → option_map parts_of fraction ≡ option_map counted (fraction_of rest) → is_some_and (λ f. f.all == 0) fraction ≡ true
@@ -57,7 +56,7 @@ exit_bare text rest behind after fraction at s h w f bytes a p = rw (s, sym h, w
 -- a point without digits is there
 pub bare_some : (rest after : List ℕ) (fraction : Option Fraction) → option_map parts_of fraction ≡ option_map counted (fraction_of rest)
     → is_some_and (λ f. f.all == 0) fraction ≡ true → after ≡ after_number rest → after ≢ []
-bare_some rest after fraction f bytes a none = grind (arith, common_steps)
+bare_some rest after fraction f bytes a none = grind arith
 
 pub exit_after : (text rest behind after : List ℕ) (fraction : Option Fraction) (at : ℕ) → too_long (span_of rest) ≡ false
     → behind ≡ after_fraction rest → begins_no_word behind ≡ false → option_map parts_of fraction ≡ option_map counted (fraction_of rest) → is_some_and (λ f. f.all == 0) fraction ≡ false
@@ -87,10 +86,10 @@ pub view_read : (text rest number word : List ℕ) (digits : Option (Bor (List �
     → number ≡ take_while is_numeric rest → option_map (λ t. chars t.now) digits ≡ option_map (take_while is_numeric) (behind_point (after_number rest))
     → word ≡ word_of rest → start ≡ offset_of text rest → end ≡ offset_of text (after_word rest) → value ≡ decimal_value (number_of rest)
     → record { number = drop_trailing_whitespace number; fraction = option_map (λ t. trimmed (chars t.now)) digits; unit = word; start = start; end = end; value = value } ≡ view_at text rest
-view_read text rest number word digits start end value n d w p q v = grind (arith, common_steps)
+view_read text rest number word digits start end value n d w p q v = grind arith
 
 -- the slices that were read spell the span
 pub spelled_read : (rest number letters : List ℕ) (digits : Option (Bor (List ℕ))) → number ≡ take_while is_numeric rest → letters ≡ word_of rest
     → option_map (λ t. chars t.now) digits ≡ option_map (take_while is_numeric) (behind_point (after_number rest))
     → spelled (drop_trailing_whitespace number) (option_map (λ t. trimmed (chars t.now)) digits) letters ≡ span_of rest
-spelled_read rest number letters digits n l d = grind (arith, common_steps, (spelled_at [] rest))
+spelled_read rest number letters digits n l d = grind (arith, (spelled_at [] rest))

@@ -37,10 +37,10 @@ front_is p text at u place after =
     ∙ ap chars (take-append-drop at text) ∙ sym (take_while-drop_while p (chars text)))
 
 letter_begins : (cs : List ℕ) → take_while is_letter cs ≢ [] → begins_no_word cs ≡ false
-letter_begins cs some = grind (arith, common_steps)
+letter_begins cs some = grind arith
 
 no_letter_begins : (cs : List ℕ) → take_while is_letter cs ≡ [] → cs ≢ [] → begins_no_word cs ≡ true
-no_letter_begins cs none some = grind (arith, common_steps)
+no_letter_begins cs none some = grind arith
 
 -- the number of bytes of a text's characters is the text's
 pub byte_length-chars : (bs : List ℕ) → IsUtf8 bs → byte_length (chars bs) ≡ length bs

@@ -1,15 +1,14 @@
 -- Slices without the whitespace at their ends.
-use Rattle.std.proofs.Common.{◌≡◌, ℕ, suc, Bool, true, false, ◌&&◌, cond, eqb, List, [], ◌∷◌, ◌++◌, length, Some, None, ◌⊎◌, inl, inr, refl, sym, ap, subst, ◌∙◌, append-nil, arith, IsUtf8, chars}
-use Rattle.std.proofs.lemmas.Grind.{common_steps}
+use Rattle.std.proofs.Common.{◌≡◌, ℕ, suc, Bool, true, false, ◌&&◌, cond, eqb, List, [], ◌∷◌, ◌++◌, length, Option, Some, None, option_map, ◌⊎◌, inl, inr, refl, sym, ap, subst, ◌∙◌, append-nil, arith, IsUtf8, chars}
 use Rattle.std.specs.Char.{is_whitespace as std_is_whitespace}
 use Rattle.std.specs.Str.{trim_start, trim_end, skip_leading_whitespace, drop_trailing_whitespace}
 use Rattle.std.proofs.lemmas.Str.{encodes-chars, encodes_same}
 use Rattle.std.proofs.lemmas.Bool.Decides.{nat_tests}
 use Rattle.std.proofs.lemmas.List.Elements.{filter-append}
-use Rattle.humantime.specs.Texts.{begins, ends, drop_while}
+use Rattle.humantime.specs.Texts.{begins, ends, take_while, drop_while}
 use Rattle.humantime.specs.Durations.Characters.{is_whitespace, is_digit, is_letter, is_numeric, digits}
 use Rattle.humantime.specs.Durations.Spans.{Only}
-use Rattle.humantime.specs.Durations.Faults.{span_of}
+use Rattle.humantime.specs.Durations.Faults.{number_of, after_number, behind_point, span_of}
 use Rattle.humantime.specs.References.Durations.TextViews.{trimmed, fraction_slice, view_at, spelled}
 use Rattle.humantime.specs.Durations.Items.{IsDigitSlice}
 use Rattle.humantime.proofs.Durations.Reading.Classes.{whitespace_is, letter_not_numeric, letter_not_point, is_point-46, whitespace_not_digit, digit_from_numeric}
@@ -26,7 +25,7 @@ pub record Dropped (cs ds : List ℕ) : Type 0 where
   pub last : (ds ≡ []) ⊎ (ends is_whitespace ds ≡ false)
 
 last_of : (x : ℕ) (xs : List ℕ) → (x ∷ xs ≡ []) ⊎ (ends is_whitespace (x ∷ xs) ≡ false) → ends is_whitespace (x ∷ xs) ≡ false
-last_of x xs h = grind (arith, common_steps)
+last_of x xs h = grind arith
 
 pub dropped : (cs : List ℕ) → Dropped cs (drop_trailing_whitespace cs)
 dropped [] = record { tail = []; whole = refl; whitespace = tt; last = inl refl }
@@ -47,18 +46,22 @@ digits_dropped cs ds d = sym (ap digits d.whole ∙ filter-append is_digit ds d.
 
 pub digits_drop_while : (cs : List ℕ) → digits (drop_while is_whitespace cs) ≡ digits cs
 digits_drop_while [] = refl
-digits_drop_while (c ∷ cs) = grind (arith, common_steps, (digits_drop_while cs), whitespace_not_digit)
+digits_drop_while (c ∷ cs) = grind (arith, (digits_drop_while cs), whitespace_not_digit)
+
+fraction_digits : (o : Option (List ℕ)) → option_map digits (option_map (λ ds. trimmed (take_while is_numeric ds)) o) ≡ option_map number_of o
+fraction_digits None = refl
+fraction_digits (Some ds) = ap Some (digits_dropped _ _ (dropped (drop_while is_whitespace (take_while is_numeric ds))) ∙ digits_drop_while _)
 
 -- the slices spell the span that they are taken from
 pub spelled_at : (text rest : List ℕ) → spelled (view_at text rest).number (view_at text rest).fraction (view_at text rest).unit ≡ span_of rest
-spelled_at text rest = grind (arith, common_steps, digits_dropped, dropped, digits_drop_while)
+spelled_at text rest = grind (arith, (digits_dropped _ _ (dropped (take_while is_numeric rest))), (fraction_digits (behind_point (after_number rest))))
 
 ends_digit : (x : ℕ) (xs : List ℕ) → Only is_numeric (x ∷ xs) → ends is_whitespace (x ∷ xs) ≡ false → ends is_digit (x ∷ xs) ≡ true
 ends_digit x [] o e = digit_from_numeric x o.0 e
 ends_digit x (y ∷ ys) o e = ends_digit y ys o.1 e
 
 all_whitespace : (cs : List ℕ) → Only is_whitespace cs → begins is_digit cs ≡ true → ⊥
-all_whitespace cs h k = grind (arith, common_steps, whitespace_not_digit)
+all_whitespace cs h k = grind (arith, whitespace_not_digit)
 
 only_front : (p : ℕ → Bool) (xs ys : List ℕ) → Only p (xs ++ ys) → Only p xs
 only_front p [] ys o = tt
@@ -68,15 +71,15 @@ only_front p (x ∷ xs) ys o = (o.0, only_front p xs ys o.1)
 pub digit_slice : (before cs ds : List ℕ) → Dropped cs ds → Only is_whitespace before → begins is_digit cs ≡ true → Only is_numeric cs
     → IsDigitSlice (before ++ cs) ds
 digit_slice before cs [] d w b o = absurd (all_whitespace d.tail d.whitespace (subst (λ (l : List ℕ). begins is_digit l ≡ true) d.whole b))
-digit_slice before cs (x ∷ xs) d w b o = grind (arith, common_steps, only_front, ends_digit)
+digit_slice before cs (x ∷ xs) d w b o = grind (arith, only_front, ends_digit)
 
 -- the slice of the fraction behind a number, before a word
 pub no_slice : (tail : List ℕ) → begins is_letter tail ≡ true → fraction_slice tail ≡ None
-no_slice tail h = grind (arith, common_steps, letter_not_point)
+no_slice tail h = grind (arith, letter_not_point)
 
 pub slice_behind_point : (behind tail : List ℕ) → Only is_numeric behind → begins is_letter tail ≡ true
     → fraction_slice (46 ∷ (behind ++ tail)) ≡ Some (trimmed behind)
-slice_behind_point behind tail only e = grind (arith, common_steps, letter_not_numeric, is_point-46, take_while-append)
+slice_behind_point behind tail only e = grind (arith, letter_not_numeric, is_point-46, take_while-append)
 
 -- what std's `trim_end` and `trim_start` give
 pub end_trimmed : (text cut : List ℕ) → IsUtf8 cut → cut ≡ trim_end text → chars cut ≡ drop_trailing_whitespace (chars text)
@@ -89,4 +92,4 @@ start_trimmed text cut u e = encodes_same (chars cut) (skip_leading_whitespace (
   where
     skipped : (cs : List ℕ) → skip_leading_whitespace cs ≡ drop_while is_whitespace cs
     skipped [] = refl
-    skipped (c ∷ cs) = grind (arith, common_steps, whitespace_is, skipped cs)
+    skipped (c ∷ cs) = grind (arith, whitespace_is, skipped cs)

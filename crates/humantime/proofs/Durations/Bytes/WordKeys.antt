@@ -40,7 +40,7 @@ IsSoFar bs at k = at ≤ 7 → k ≡ packed (reverse (take at bs))
 -- and so it is with the byte at this place
 pub key_more : (bs : List ℕ) (at k m : ℕ) → HasBytes bs → at < length bs → IsSoFar bs at k → (k * 256 + get_or bs at 0 < 2 ^ 64
     → m ≡ k * 256 + get_or bs at 0) → IsSoFar bs (at + 1) m
-key_more bs at k m bytes some so_far next short = grind (arith, common_steps, packed_front_below)
+key_more bs at k m bytes some so_far next short = grind (arith, packed_front_below)
 
 -- the key of a front
 pub key_short : (bs : List ℕ) (at k : ℕ) → at ≤ length bs → at ≤ 7 → IsSoFar bs at k → k ≡ key (take at bs)
@@ -54,9 +54,7 @@ packed_same [] [] h k e = refl
 packed_same [] (y ∷ ys) h k e = absurd (omega (arith, e, packed_positive ys))
 packed_same (x ∷ xs) [] h k e = absurd (omega (arith, e, packed_positive xs))
 packed_same (x ∷ xs) (y ∷ ys) h k e =
-    let x_fits : x < 256 = h 0 in
-    let y_fits : y < 256 = k 0 in
-    let rest : packed xs ≡ packed ys = omega (arith, e, x_fits, y_fits) in
+    let rest : packed xs ≡ packed ys = omega (arith, e, h 0, k 0) in
     let first : x ≡ y = omega (arith, e, rest) in
     rw first (ap (λ zs. y ∷ zs) (packed_same xs ys (λ i. h (suc i)) (λ i. k (suc i)) rest))
 

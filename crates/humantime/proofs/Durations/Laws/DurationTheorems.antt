@@ -1,6 +1,5 @@
 -- The laws of durations as theorems over plain variables, each under the name of its function in `laws`.
 use Rattle.std.proofs.lemmas.Bool.Decides.{nat_tests}
-use Rattle.std.proofs.lemmas.Grind.{common_steps}
 use Rattle.std.proofs.Common.{Bool, ◌≡◌, ◌↔◌, ℕ, ◌<◌, List, Result, Ok, IsTrue, chars, refl, sym, ◌∙◌, arith}
 use Rattle.std.proofs.lemmas.Slice.Eq.{bytes_eq-Decides}
 use Rattle.humantime.specs.declared.duration.error.DurationError.{DurationError}
@@ -48,7 +47,7 @@ spans_tile text =
 
 -- What is viewed as a value was answered as that value.
 pub value_of_view : (r : Result ℕ DurationError) (v : ℕ) → result_view r ≡ Ok v → r ≡ Ok v
-value_of_view r v h = grind (arith, common_steps)
+value_of_view r v h = grind arith
 
 -- whether two errors are equal, as `==` says
 abbrev pub error_eq : DurationError → DurationError → Bool
@@ -56,7 +55,7 @@ error_eq = (errors.ghosts).eq
 
 -- Two errors are equal exactly where they name the same fault.
 pub errors_equal : (e f : DurationError) → IsTrue (error_eq e f) ↔ (fault_of e ≡ fault_of f)
-errors_equal e f = grind (arith, common_steps, nat_tests, bytes_eq-Decides)
+errors_equal e f = grind (arith, nat_tests, bytes_eq-Decides)
 
 -- ---- printed durations
 

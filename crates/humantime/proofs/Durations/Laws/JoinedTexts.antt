@@ -1,5 +1,5 @@
 -- Texts one behind the other.
-use Rattle.std.proofs.Common.{arith, ◌≡◌, ◌≢◌, ◌↔◌, ◌⊎◌, ℕ, ◌+◌, true, List, [], ◌∷◌, ◌++◌, None, refl, ◌∙◌, inl, inr}
+use Rattle.std.proofs.Common.{arith, ◌≡◌, ◌≢◌, ◌↔◌, ◌⊎◌, ℕ, ◌+◌, true, List, [], ◌∷◌, ◌++◌, None, refl, ◌∙◌, inl, inr, append_assoc, append-nil}
 use Rattle.std.proofs.lemmas.Grind.{common_steps}
 use Rattle.std.specs.List.{AllByRecursion}
 use Rattle.humantime.specs.Durations.Characters.{is_whitespace, bare_zero}
@@ -8,7 +8,7 @@ use Rattle.humantime.specs.Durations.Accepted.{additions, value, Formed, fits, A
 use Rattle.humantime.specs.Durations.Faults.{NumberOverflow, HasFault}
 use Rattle.humantime.specs.Laws.Texts.{AcceptedAs}
 use Rattle.humantime.proofs.Durations.Reading.OneReading.{not_zero}
-use Rattle.humantime.proofs.Durations.Reading.Spellings.{spells-append}
+use Rattle.humantime.proofs.Durations.Reading.Spellings.{respelled, spells-append}
 use Rattle.humantime.proofs.Durations.Reading.Summed.{additions-append, value-append, within_or_beyond}
 use Rattle.humantime.proofs.Durations.Reading.Outcomes.{items_whole, items_decide_overflow}
 pub use Rattle.humantime.proofs.Durations.Reading.Spellings.{each-append, spells_each-append}
@@ -16,7 +16,10 @@ use Rattle.humantime.proofs.Durations.Laws.Readings.{accepted_spans, no_value_an
 
 -- whitespace behind a spelling belongs to it
 spells_each-whitespace : (body whitespace : List ℕ) (s : Span) (ss : List Span) → SpellsEach body (s ∷ ss) → Only is_whitespace whitespace → SpellsEach (body ++ whitespace) (s ∷ ss)
-spells_each-whitespace body whitespace s [] h only = ([], (grind (arith, common_steps, each-append)), refl)
+spells_each-whitespace body whitespace s [] h only =
+    let here = respelled body h.0 (body ++ whitespace) [] (h.1.whitespace ++ whitespace) s h.1 (rw (h.1.whole, h.2) (simp (append_assoc, append-nil)))
+    (each-append _ h.1.whitespace whitespace h.1.only_whitespace only) in
+    ([], here, refl)
 spells_each-whitespace body whitespace s (t ∷ ts) h only = (h.0 ++ whitespace, spells-append body h.0 whitespace s h.1, spells_each-whitespace h.0 whitespace t ts h.2 only)
 
 -- spans behind spans
@@ -25,7 +28,7 @@ front-append a b [] ts h k = absurd (h.1 refl)
 front-append a b (s ∷ ss) ts h k =
     let f = h.0 in
     let each = spells_each-append (f.body ++ k.whitespace) k.body (s ∷ ss) ts (spells_each-whitespace f.body _ s ss f.each k.only_whitespace) k.each in
-    grind (arith, common_steps, (f), (each))
+    record { whitespace = f.whitespace; body = _; whole = rw (f.whole, k.whole) (simp append_assoc); only_whitespace = f.only_whitespace; each = each }
 
 pub some-append : (ss ts : List Span) → ss ≢ [] → ss ++ ts ≢ []
 some-append [] ts some e = some refl

@@ -50,7 +50,7 @@ is_not_mu c = not (c == greek_mu)
 
 -- what passes a test that the letter fails is another character
 none_is_mu : (p : ℕ → Bool) → p greek_mu ≡ false → (cs : List ℕ) → Only p cs → Only is_not_mu cs
-none_is_mu p fails = each_then (λ c. p c ≡ true) (λ c. is_not_mu c ≡ true) (λ c passes. grind (arith, common_steps))
+none_is_mu p fails = each_then (λ c. p c ≡ true) (λ c. is_not_mu c ≡ true) (λ c passes. grind arith)
 
 no_mu_in_whitespace : (cs : List ℕ) → Only is_whitespace cs → Only is_not_mu cs
 unfolding is_whitespace whitespace_chars

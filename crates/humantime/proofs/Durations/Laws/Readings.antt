@@ -12,7 +12,7 @@ use Rattle.humantime.proofs.Durations.Reading.Outcomes.{one_reading, outcome_acc
 
 -- what is accepted is exactly `0`, or it is spans
 pub zero_or_spans : (text : List ℕ) → IsZeroOrSpans text
-zero_or_spans text v a = grind (arith, common_steps)
+zero_or_spans text v a = grind arith
 
 -- an accepted text that reads as some spans is their sum, and they are within the limits
 pub accepted_spans : (text : List ℕ) (spans : List Span) (v : ℕ) → Reads text spans → Accepted text v → WithinLimits spans × (value spans ≡ v)
@@ -27,7 +27,7 @@ same_spans a b spans v h k x =
 
 -- no text has a value and a fault
 pub no_value_and_fault : (text : List ℕ) (v : ℕ) (e : Fault) → Accepted text v → HasFault text e → ⊥
-no_value_and_fault text v e a f = grind (arith, common_steps, (outcome_accepted text v a), (outcome_fault text e f))
+no_value_and_fault text v e a f = grind (arith, (outcome_accepted text v a), (outcome_fault text e f))
 
 -- the value of spans is the sum of what each adds, so their order doesn't matter
 value-sum : (spans : List Span) → value spans ≡ sum_by (λ s. total (additions_of s)) spans

@@ -20,7 +20,7 @@ IsSmall (Nanos n) = n + 999999999 ≤ u64_max
 IsSmall (Seconds n) = ⊤
 
 small_room : (t : ℕ) (x : Addition) (sum : ℕ) → IsSmall x → t + addition_nanos x ≤ sum → sum / nanos_per_second ≤ u64_max → room t x ≡ true
-small_room t x sum small below fits = grind (arith, common_steps)
+small_room t x sum small below fits = grind arith
 
 room_from_small : (t : ℕ) (xs : List Addition) → AllByRecursion IsSmall xs → (t + total xs) / nanos_per_second ≤ u64_max → RoomFrom t xs
 room_from_small t [] small fits = tt
@@ -28,7 +28,7 @@ room_from_small t (x ∷ xs) small fits = grind (arith, common_steps, small_room
 
 -- small additions have room where their sum is a duration
 pub small_have_room : (xs : List Addition) → AllByRecursion IsSmall xs → total xs / nanos_per_second ≤ u64_max → AllHaveRoom xs
-small_have_room xs small fits = all_have_room xs (room_from_small 0 xs small (grind (arith, common_steps)))
+small_have_room xs small fits = all_have_room xs (room_from_small 0 xs small (grind arith))
 
 -- accepted texts with small additions, one behind the other, are accepted with the sum exactly where it is a duration
 pub small_joined_sum : (a b : List ℕ) (ss ts : List Span) (u v : ℕ) → AcceptedAs a ss u → AcceptedAs b ts v

@@ -21,14 +21,14 @@ only_letters (c ∷ cs) h = rw (letter_not_whitespace c h.0) (ap (λ (l : List �
 
 still_only : (p : ℕ → Bool) (cs : List ℕ) → Only p cs → Only p (without_whitespace cs)
 still_only p [] h = tt
-still_only p (c ∷ cs) h = grind (arith, common_steps, (still_only p cs h.1), (cases_Bool (is_whitespace c)))
+still_only p (c ∷ cs) h = grind (arith, (still_only p cs h.1), (cases_Bool (is_whitespace c)))
 
 same_digits : (cs : List ℕ) → digits (without_whitespace cs) ≡ digits cs
 same_digits [] = refl
-same_digits (c ∷ cs) = grind (arith, common_steps, (same_digits cs), (cases_Bool (is_whitespace c)), (whitespace_not_digit c))
+same_digits (c ∷ cs) = grind (arith, (same_digits cs), (cases_Bool (is_whitespace c)), (whitespace_not_digit c))
 
 still_begins : (cs : List ℕ) → begins is_digit cs ≡ true → begins is_digit (without_whitespace cs) ≡ true
-still_begins cs h = grind (arith, common_steps, digit_not_whitespace)
+still_begins cs h = grind (arith, digit_not_whitespace)
 
 point_stays : is_whitespace 46 ≡ false
 point_stays = (or_parts (is_digit 46) (is_whitespace 46) (point_not_numeric 46 is_point-46)).1

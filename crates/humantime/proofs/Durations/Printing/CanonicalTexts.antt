@@ -1,6 +1,5 @@
 -- The canonical text of a text that was read, or not read.
 use Rattle.std.proofs.Common.{arith, ◌≡◌, ◌↔◌, ℕ, List, Result, Ok, Err, refl, ap, ◌∙◌}
-use Rattle.std.proofs.lemmas.Grind.{common_steps}
 use Rattle.std.specs.Prelude.{chars}
 use Rattle.humantime.specs.Durations.Faults.{Fault, HasFault}
 use Rattle.humantime.specs.Durations.Counts.{IsCanonicalOf}
@@ -15,11 +14,11 @@ unfolding canonical_answer
 answer_is_canonical s r e t =
     let decided = answer_accepts (chars s) (duration_answer (chars s)) refl in (
       λ h.
-          let p : (v : ℕ) × (duration_answer (chars s) ≡ Ok v) × (duration_text v ≡ t) = grind (arith, common_steps) in
+          let p : (v : ℕ) × (duration_answer (chars s) ≡ Ok v) × (duration_text v ≡ t) = grind arith in
           record { duration = p.0; accepted = (decided p.0).0 p.1; canon = rw (← p.2) (printed_is_canon p.0) },
       λ h. rw (canon_is_text h.duration t h.canon) (e ∙ ap printed_answer ((decided h.duration).1 h.accepted)),
     )
 
 pub answer_is_fault : (s : List ℕ) (r : Result (List ℕ) Fault) → r ≡ canonical_answer (chars s) → (f : Fault) → (r ≡ Err f) ↔ HasFault (chars s) f
 unfolding canonical_answer
-answer_is_fault s r e f = grind (arith, common_steps, (answer_faults (chars s) (duration_answer (chars s)) refl f))
+answer_is_fault s r e f = grind (arith, (answer_faults (chars s) (duration_answer (chars s)) refl f))

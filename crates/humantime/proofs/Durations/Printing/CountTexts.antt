@@ -15,7 +15,7 @@ with_counts text (n ∷ ns) (s ∷ ss) = with_counts (behind text (printed_count
 with_counts text _ _ = text
 
 behind_more : (t p : List ℕ) (ps : List (List ℕ)) → 0 < length p → behind (behind t (p ∷ [])) ps ≡ behind t (p ∷ ps)
-behind_more t p ps h = grind (arith, common_steps, append_assoc)
+behind_more t p ps h = grind (arith, append_assoc)
 
 -- each suffix has a letter
 abbrev Lettered : List Suffix → Type 0
@@ -23,9 +23,8 @@ Lettered ss = AllByRecursion (λ s. 0 < length s.0) ss
 
 one_by_one : (t ns : List ℕ) (ss : List Suffix) → Lettered ss → with_counts t ns ss ≡ behind t (printed_counts ns ss)
 one_by_one t (n ∷ ns) (s ∷ ss) h =
-    let some = one_by_one (behind t (printed_count n s ∷ [])) ns ss h.1 in
-    grind (arith, common_steps, behind_more, length-append, some, (one_by_one t ns ss h.1))
-one_by_one t _ _ h = grind (arith, common_steps)
+    grind (arith, behind_more, length-append, (one_by_one (behind t (printed_count n s ∷ [])) ns ss h.1), (one_by_one t ns ss h.1))
+one_by_one t _ _ h = grind arith
 
 -- zero seconds where there is no text
 abbrev pub or_zero : List ℕ → List ℕ
@@ -47,6 +46,6 @@ counts_of s n =
 pub written_is_text : (d : ℕ) → or_zero (with_counts [] (counts_of (d / nanos_per_second) (d % nanos_per_second)) suffixes) ≡ duration_text d
 unfolding duration_text
 written_is_text d =
-    let counts : counts_of (d / nanos_per_second) (d % nanos_per_second) ≡ divided weights d = grind (arith, common_steps) in
+    let counts : counts_of (d / nanos_per_second) (d % nanos_per_second) ≡ divided weights d = grind arith in
     ap or_zero (ap (λ ns. with_counts [] ns suffixes) counts ∙ one_by_one [] (divided weights d) suffixes (search rules))
     ∙ or_zero_joined (divided weights d) suffixes (search rules)

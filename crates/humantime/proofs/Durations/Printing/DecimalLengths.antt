@@ -1,7 +1,7 @@
 -- How many digits a number has, and which.
 use Rattle.std.proofs.Common.{◌≡◌, ℕ, ◌+◌, ◌/◌, ◌%◌, ◌^◌, ◌<◌, ◌≤◌, List, [], ◌∷◌, ◌++◌, length, take, decimal, ap, refl, sym, ◌∙◌, arith}
 use Rattle.std.proofs.lemmas.List.{append_assoc, length-append}
-use Rattle.std.proofs.lemmas.Grind.{common_steps, take-set_at}
+use Rattle.std.proofs.lemmas.Grind.{take-set_at}
 use Rattle.std.specs.Prelude.{slice_set}
 use Rattle.std.proofs.lemmas.Fmt.{decimal_digit, decimal_step, length-decimal-le}
 use Rattle.humantime.specs.declared.duration.printing.writer.Writer.{Writer}
@@ -32,4 +32,4 @@ length_more n low h = ap length (decimal_step n low h) ∙ length-append (decima
 
 -- texts that are written one behind the other
 pub appends_both : (old mid new : Writer) (first second : List ℕ) → Appends old mid first → Appends mid new second → Appends old new (first ++ second)
-appends_both old mid new first second f s = grind (arith, common_steps, append_assoc, length-append)
+appends_both old mid new first second f s = grind (arith, append_assoc, length-append)

@@ -8,8 +8,8 @@ use Rattle.std.proofs.lemmas.Cmp.{nat_list_cmp_total}
 use Rattle.std.proofs.lemmas.Map.Lookups.{exact_bytes}
 use Rattle.std.specs.Cmp.Lexicographic.{slice_cmp}
 use Rattle.std.specs.Cmp.{nat_cmp_is}
+use Rattle.std.proofs.lemmas.Bool.Decides.{nat_tests}
 use Rattle.humantime.specs.Durations.Counts.{weights, weighted_sum, Counts, Canon}
-use Rattle.std.proofs.lemmas.Grind.{common_steps}
 use Rattle.humantime.specs.References.Durations.Printing.{divided, duration_text}
 
 -- each weight is positive and the last is one, where what is left is below m
@@ -23,17 +23,17 @@ length-divided (w ∷ ws) d = ap suc (length-divided ws (d % w))
 
 divided_sum : (ws : List ℕ) (m d : ℕ) → Reaches ws m → d < m → weighted_sum ws (divided ws d) ≡ d
 divided_sum [] m d r h = omega arith
-divided_sum (w ∷ ws) m d r h = grind (arith, common_steps, (divided_sum ws w (d % w) r.1 (mod_below d w r.0)))
+divided_sum (w ∷ ws) m d r h = grind (arith, (divided_sum ws w (d % w) r.1 (mod_below d w r.0)))
 
 -- a first count is less than by division, or it is that and the others make up what is left
 first_count : (w c s d : ℕ) → 0 < w → w * c + s ≡ d → (c < d / w) ⊎ ((c ≡ d / w) × (s ≡ d % w))
-first_count w c s d h e = grind (arith, common_steps, (le-div c d w h), (mul_comm w c), (div-add-mod d w), (cases_lt c (d / w)))
+first_count w c s d h e = grind (arith, (le-div c d w h), (mul_comm w c), (div-add-mod d w), (cases_lt c (d / w)))
 
 divided_last : (ws : List ℕ) (m d : ℕ) → Reaches ws m → (others : List ℕ) → length others ≡ length ws → weighted_sum ws others ≡ d
     → IsTrue (is_le (slice_cmp nat_cmp others (divided ws d)))
 divided_last [] m d r [] l e = refl
 divided_last (w ∷ ws) m d r (c ∷ cs) l e =
-    grind (arith, common_steps, nat_cmp_is, (first_count w c (weighted_sum ws cs) d r.0 e), (divided_last ws w (d % w) r.1 cs))
+    grind (arith, nat_cmp_is, (first_count w c (weighted_sum ws cs) d r.0 e), (divided_last ws w (d % w) r.1 cs))
 divided_last _ m d r _ l e = absurd (omega (arith, l))
 
 divided_greatest : (d : ℕ) → Counts d (divided weights d)
@@ -48,7 +48,7 @@ pub counts_divided : (d : ℕ) (counts : List ℕ) → Counts d counts → count
 counts_divided d counts g =
     let other = divided_greatest d in
     let least = rw (nat_list_cmp_total.antisymm (divided weights d) counts) at (g.greatest (divided weights d) other.as_many other.sum) in
-    grind (arith, common_steps, (exact_bytes counts (divided weights d)), (other.greatest counts g.as_many g.sum), least)
+    grind (arith, nat_tests, (exact_bytes counts (divided weights d)), (other.greatest counts g.as_many g.sum), least)
 
 -- the text by division is a canonical text, and there is no other
 pub printed_is_canon : (d : ℕ) → Canon d (duration_text d)
@@ -57,7 +57,7 @@ printed_is_canon d = record { counts = divided weights d; are = divided_greatest
 
 pub canon_is_text : (d : ℕ) (text : List ℕ) → Canon d text → text ≡ duration_text d
 unfolding duration_text
-canon_is_text d text canon = grind (arith, common_steps, counts_divided)
+canon_is_text d text canon = grind (arith, counts_divided)
 
 pub one_canon : (d : ℕ) (a b : List ℕ) → Canon d a → Canon d b → a ≡ b
 one_canon d a b left right = canon_is_text d a left ∙ sym (canon_is_text d b right)

@@ -1,5 +1,4 @@
 -- The digits of a printed count, as a number of a text.
-use Rattle.std.proofs.lemmas.Grind.{common_steps}
 use Rattle.std.proofs.Common.{◌≡◌, ℕ, ◌<◌, ◌^◌, true, List, [], ◌∷◌, length, refl, arith}
 use Rattle.std.specs.Prelude.{decimal}
 use Rattle.std.specs.Int.{IsInRange}
@@ -18,10 +17,10 @@ digit_here c h = grind (arith, nat_tests)
 
 all_digits : (ds : List ℕ) → AllDigits 10 ds → Only is_numeric ds × (digits ds ≡ ds)
 all_digits [] h = (h, refl)
-all_digits (c ∷ cs) h = grind (arith, common_steps, digit_is_numeric, digit_here, digit_from_value, (all_digits cs h.1))
+all_digits (c ∷ cs) h = grind (arith, digit_is_numeric, digit_here, digit_from_value, (all_digits cs h.1))
 
 pub some_digit : (ds : List ℕ) → AllDigits 10 ds → 0 < length ds → begins is_digit ds ≡ true
-some_digit ds h k = grind (arith, common_steps, digit_here)
+some_digit ds h k = grind (arith, digit_here)
 
 -- the digits are a number's, and read as n
 pub record IsNumber (ds : List ℕ) (n : ℕ) : Type 0 where
@@ -31,4 +30,4 @@ pub record IsNumber (ds : List ℕ) (n : ℕ) : Type 0 where
   pub value : decimal_value ds ≡ n
 
 pub decimal_number : (n : ℕ) → n < 2 ^ 64 → IsNumber (decimal n) n
-decimal_number n h = grind (arith, common_steps, (decimal_is_IsNumeral n h), some_digit, all_digits)
+decimal_number n h = grind (arith, (decimal_is_IsNumeral n h), some_digit, all_digits)

@@ -1,5 +1,4 @@
 -- How long a printed text is, and how large its counts are.
-use Rattle.std.proofs.lemmas.Grind.{common_steps}
 use Rattle.std.proofs.Common.{◌≡◌, ℕ, ◌+◌, ◌*◌, ◌/◌, ◌%◌, ◌^◌, ◌<◌, ◌≤◌, cond, List, [], ◌∷◌, length, ap, arith}
 use Rattle.std.specs.Prelude.{map, nat_lt, slice_index, ⊤}
 use Rattle.std.specs.List.{filter, join_with_byte}
@@ -37,7 +36,7 @@ join_length p [] = omega arith
 join_length p (q ∷ ps) = omega (arith, length-append p (space ∷ join_with_byte space (q ∷ ps)), join_length q ps)
 
 count_length : (n k : ℕ) (s : Suffix) → 0 < k → n < 10 ^ k → n < 2 ^ 64 → length (printed_count n s) ≤ k + suffix_length s
-count_length n k s some below fits = grind (arith, common_steps, length-append, length-decimal-le)
+count_length n k s some below fits = grind (arith, length-append, length-decimal-le)
 
 -- the length of the counts that are not zero
 abbrev shown_length : List (ℕ × Suffix) → ℕ
@@ -45,19 +44,19 @@ shown_length cs = spaced_length (map (λ c. printed_count c.0 c.1) (filter (λ c
 
 counts_length : (us : List (ℕ × Suffix)) (ks : List ℕ) (m r : ℕ) → Sizes us ks m → r < m → shown_length (counted us r) ≤ length_for us ks
 counts_length (u ∷ us) (k ∷ ks) m r h below =
-    grind (arith, common_steps, (div_below r u.0 (10 ^ k)), (count_length (r / u.0) k), mod_below, (counts_length us ks u.0 (r % u.0) h.4))
-counts_length _ _ m r h below = grind (arith, common_steps)
+    grind (arith, (div_below r u.0 (10 ^ k)), (count_length (r / u.0) k), mod_below, (counts_length us ks u.0 (r % u.0) h.4))
+counts_length _ _ m r h below = grind arith
 
 abbrev sizes : List ℕ
 sizes = 12 ∷ 2 ∷ 2 ∷ 2 ∷ 2 ∷ 2 ∷ 3 ∷ 3 ∷ 3 ∷ []
 
 joined_length : (ps : List (List ℕ)) → spaced_length ps ≤ 65 → length (joined_by_space ps) ≤ 64
-joined_length ps h = grind (arith, common_steps, join_length)
+joined_length ps h = grind (arith, join_length)
 
 pub canon_length : (d : ℕ) → d / nanos_per_second ≤ u64_max → (text : List ℕ) → Canon d text → length text ≤ 64
 unfolding duration_text
 canon_length d h text canon =
-    let all = counts_length units sizes most d (grind (arith, common_steps)) (omega arith) in
+    let all = counts_length units sizes most d (grind arith) (omega arith) in
     let short = joined_length (printed_counts (divided weights d) suffixes) (omega arith) in
     omega (arith, ap length (canon_is_text d text canon))
 

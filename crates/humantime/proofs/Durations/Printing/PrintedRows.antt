@@ -1,5 +1,4 @@
 -- The rows of printed counts: what each unit's word stands for.
-use Rattle.std.proofs.lemmas.Grind.{common_steps}
 use Rattle.std.proofs.Common.{◌≡◌, ℕ, ◌*◌, ◌/◌, ◌%◌, ◌^◌, ◌<◌, Bool, true, false, cond, List, [], ◌∷◌, ◌++◌, refl, arith}
 use Rattle.std.specs.Prelude.{◌&&◌, ◌==◌, Option, Some, None, codes, decimal, nat_lt, nat_le}
 use Rattle.std.specs.Str.{IsUtf8, is_utf8, chars}
@@ -54,10 +53,10 @@ is_word w m word = is_utf8 word && counts w m (scale_of_word (chars word)) && li
 
 only_from : (p : ℕ → Bool) (cs : List ℕ) → list_all p cs ≡ true → Only p cs
 only_from p [] h = tt
-only_from p (c ∷ cs) h = grind (arith, common_steps, (only_from p cs))
+only_from p (c ∷ cs) h = grind (arith, (only_from p cs))
 
 pub is_word-true : (w m : ℕ) (word : List ℕ) → is_word w m word ≡ true → IsWord w m word
-is_word-true w m word h = grind (arith, common_steps, nat_tests, IsUtf8-from_is_utf8, only_from)
+is_word-true w m word h = grind (arith, nat_tests, IsUtf8-from_is_utf8, only_from)
 
 -- the units, each a weight and its suffix
 abbrev pub units : List (ℕ × Suffix)
@@ -74,7 +73,7 @@ is_table [] m = m == 1
 is_table (u ∷ us) m = is_word u.0 m (word_of u.1 true) && is_word u.0 m (word_of u.1 false) && is_table us u.0
 
 three : (a b c : Bool) → (a && b && c) ≡ true → (a ≡ true) × (b ≡ true) × (c ≡ true)
-three a b c h = grind (arith, common_steps)
+three a b c h = grind arith
 
 pub table_row : (u : ℕ × Suffix) (us : List (ℕ × Suffix)) (m : ℕ) (many : Bool) → is_table (u ∷ us) m ≡ true
     → IsWord u.0 m (word_of u.1 many) × (is_table us u.0 ≡ true)

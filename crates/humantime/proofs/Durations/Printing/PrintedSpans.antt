@@ -1,6 +1,6 @@
 -- A printed text is spans within all limits, which add up to its duration.
 use Rattle.std.proofs.lemmas.Grind.{common_steps}
-use Rattle.std.proofs.Common.{true, ◌≡◌, ℕ, ◌+◌, ◌*◌, ◌/◌, ◌%◌, ◌^◌, ◌<◌, ◌≤◌, false, List, [], ◌∷◌, ◌++◌, refl, subst, ◌∙◌, arith, rules}
+use Rattle.std.proofs.Common.{true, ◌≡◌, ℕ, ◌+◌, ◌*◌, ◌/◌, ◌%◌, ◌^◌, ◌<◌, ◌≤◌, false, List, [], ◌∷◌, ◌++◌, refl, ap, subst, ◌∙◌, arith, rules}
 use Rattle.std.specs.Prelude.{IsAscii, codes, decimal, map, nat_lt}
 use Rattle.std.specs.Str.{IsUtf8, is_utf8, chars}
 use Rattle.std.specs.List.{AllByRecursion, filter, join_with_byte}
@@ -44,7 +44,9 @@ few m n (Nanos k) some kind below whole = grind (arith, nat_tests, (mul_comm n k
 few m n (Seconds k) some kind below whole = grind (arith, (mul_positive n k some), mul_comm, mul_assoc)
 
 count_chars : (n : ℕ) (s : Suffix) → n < 2 ^ 64 → chars (printed_count n s) ≡ decimal n ++ chars (word_for n s)
-count_chars n s h = grind (arith, common_steps, chars-append, IsUtf8-from_ascii, chars-IsAscii, IsAscii-decimal)
+count_chars n s h =
+    let ascii = IsAscii-decimal n h in
+    rw append_assoc (chars-append (decimal n) (word_for n s) (IsUtf8-from_ascii (decimal n) ascii) ∙ ap (λ (l : List ℕ). l ++ chars (word_for n s)) (chars-IsAscii (decimal n) ascii))
 
 row : (w m n : ℕ) (s : Suffix) → IsWord w m (word_for n s) → w * n < m → w * n < most → IsRow n s × (total (additions_of (span_for n s)) ≡ w * n)
 row w m n s i below whole =
@@ -55,7 +57,7 @@ row w m n s i below whole =
       utf8 = rw append_assoc (IsUtf8-append (decimal n) (word_for n s) (IsUtf8-from_ascii (decimal n) (IsAscii-decimal n few.0)) i.utf8);
       spells = λ white only. grind (arith, common_steps, number, count_chars);
       formed = record { short = grind (arith, common_steps, number.value); word = rw i.is refl };
-      fits = rw i.is (grind (arith, common_steps, number.value, few.1));
+      fits = rw i.is (grind (arith, number.value, few.1));
       small = rw adds (few.2, tt);
     } in
     (row, rw (adds, ← i.weight) (omega (arith, few.3)))
@@ -76,14 +78,14 @@ AreRows d cs = AllRows (shown cs) × (value (spans_of (shown cs)) ≡ d)
 
 rows_cons : (w q r d : ℕ) (s : Suffix) (cs : List (ℕ × Suffix)) → w * q + r ≡ d
     → IsRow q s × (total (additions_of (span_for q s)) ≡ w * q) → AreRows r cs → AreRows d ((q, s) ∷ cs)
-rows_cons w q r d s cs e row rest = grind (arith, common_steps, nat_tests, value-cons)
+rows_cons w q r d s cs e row rest = grind (arith, nat_tests, value-cons)
 
 rows : (us : List (ℕ × Suffix)) (m d : ℕ) → is_table us m ≡ true → d < m → d < most → AreRows d (counted us d)
 rows [] m d h below whole = (tt, grind (arith, nat_tests))
 rows (u ∷ us) m d h below whole =
     let q = d / u.0 in
     let here = table_row u us m (nat_lt 1 q) h in
-    let positive : 0 < u.0 = grind (arith, common_steps, here.0.weight, here.0.some) in
+    let positive : 0 < u.0 = grind (arith, here.0.weight, here.0.some) in
     rows_cons u.0 q (d % u.0) d u.1 (counted us (d % u.0)) (omega arith)
     (row u.0 m q u.1 here.0 (omega arith) (omega arith))
     (rows us u.0 (d % u.0) here.1 (mod_below d u.0 positive) (omega arith))
@@ -93,7 +95,7 @@ rows (u ∷ us) m d h below whole =
 chars_space : (p q : List ℕ) → IsUtf8 p → chars (p ++ space ∷ q) ≡ (chars p ++ space ∷ []) ++ chars q
 chars_space p q utf8 =
     let ascii : IsAscii (space ∷ []) = search rules in
-    grind (arith, common_steps, (chars-append p (space ∷ q) utf8), (chars-append (space ∷ []) q (IsUtf8-from_ascii (space ∷ []) ascii)), (chars-IsAscii (space ∷ []) ascii), append_assoc)
+    grind (arith, (chars-append p (space ∷ q) utf8), (chars-append (space ∷ []) q (IsUtf8-from_ascii (space ∷ []) ascii)), (chars-IsAscii (space ∷ []) ascii), append_assoc)
 
 -- the rows' text, with a space between each two
 abbrev pub rows_text : List (ℕ × Suffix) → List ℕ
@@ -116,7 +118,7 @@ pub record AreWithin (spans : List Span) : Type 0 where
 
 rows_within : (rows : List (ℕ × Suffix)) → AllRows rows → AreWithin (spans_of rows)
 rows_within [] h = record { formed = tt; fit = tt; small = tt }
-rows_within (c ∷ rows) h = grind (arith, common_steps, (rows_within rows h.1), each-append)
+rows_within (c ∷ rows) h = grind (arith, (rows_within rows h.1), each-append)
 
 -- The bytes are such spans, which add up to d.
 pub record IsPrinted (bytes : List ℕ) (d : ℕ) : Type 0 where

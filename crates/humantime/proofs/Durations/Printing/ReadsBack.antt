@@ -1,5 +1,4 @@
 -- What holds of printed texts, for every duration and every text.
-use Rattle.std.proofs.lemmas.Grind.{common_steps}
 use Rattle.std.proofs.Common.{◌≡◌, ◌↔◌, ℕ, ◌/◌, ◌≤◌, List, sym, subst, ◌∙◌, arith}
 use Rattle.std.specs.Prelude.{chars}
 use Rattle.humantime.specs.Values.{nanos_per_second}
@@ -24,7 +23,7 @@ texts_tell_apart a b ha hb s t left right = (
 
 -- the canonical text of what is accepted is accepted with the same value
 canonical_read : (s t : List ℕ) (h : IsCanonicalOf s t) → Accepted (chars t) h.duration
-canonical_read s t h = canon_reads h.duration (grind (arith, common_steps, h.accepted, room_is_duration)) t h.canon
+canonical_read s t h = canon_reads h.duration (grind (arith, h.accepted, room_is_duration)) t h.canon
 
 pub keeps_its_value : (s : List ℕ) (v : ℕ) (t : List ℕ) → Accepted (chars s) v → IsCanonicalOf s t → Accepted (chars t) v
 keeps_its_value s v t accepted h = rw (same_read (chars s) v h.duration accepted h.accepted) (canonical_read s t h)

@@ -1,5 +1,4 @@
 -- What a character is excludes the others.
-use Rattle.std.proofs.lemmas.Grind.{common_steps}
 use Rattle.std.specs.Prelude.{◌&&◌, ◌||◌, ◌==◌, nat_le}
 use Rattle.std.proofs.Common.{◌≡◌, ◌≤◌, ◌<◌, ℕ, true, false, refl, sym, ◌∙◌, arith}
 use Rattle.std.specs.Char.{is_whitespace as std_is_whitespace, is_ascii_digit, is_ascii_alphabetic}
@@ -34,15 +33,15 @@ unfolding is_letter is_point
 letter_not_point c e = grind (arith, nat_tests)
 
 pub whitespace_not_digit : (c : ℕ) → is_whitespace c ≡ true → is_digit c ≡ false
-whitespace_not_digit c = grind (arith, common_steps, digit_not_whitespace)
+whitespace_not_digit c = grind (arith, digit_not_whitespace)
 
 pub letter_not_numeric : (c : ℕ) → is_letter c ≡ true → is_numeric c ≡ false
 unfolding is_digit is_letter
-letter_not_numeric c e = grind (arith, common_steps, letter_not_whitespace, nat_tests)
+letter_not_numeric c e = grind (arith, letter_not_whitespace, nat_tests)
 
 pub point_not_numeric : (c : ℕ) → is_point c ≡ true → is_numeric c ≡ false
 unfolding is_digit is_point
-point_not_numeric c e = grind (arith, common_steps, (whitespace_is c), nat_tests)
+point_not_numeric c e = grind (arith, (whitespace_is c), nat_tests)
 
 -- ---- what a number holds
 
@@ -53,7 +52,7 @@ pub whitespace_is_numeric : (c : ℕ) → is_whitespace c ≡ true → is_numeri
 whitespace_is_numeric c = or_right (is_digit c) (is_whitespace c)
 
 pub digit_from_numeric : (c : ℕ) → is_numeric c ≡ true → is_whitespace c ≡ false → is_digit c ≡ true
-digit_from_numeric c n w = grind (arith, common_steps)
+digit_from_numeric c n w = grind arith
 
 -- ---- the point is one character
 

@@ -60,7 +60,7 @@ Found text first rest w = (front : List ℕ) (spans : List Span) → IsReadTo te
 found : (text : List ℕ) → Steps text (Found text)
 found text = record {
   end = λ first front spans r.
-      items_end text front [] first spans (if first then Some Empty else None) r (grind (arith, common_steps, (r.before)));
+      items_end text front [] first spans (if first then Some Empty else None) r (grind (arith, (r.before)));
   wrong = λ first rest e some s front spans r. items_end text front rest first spans (Some e) r (wrong_stops text front spans rest e some (r.follows some) s);
   right = λ first rest w s more front spans r.
       let k = read_on text front rest first spans r (fine_at text rest s) in

@@ -16,7 +16,7 @@ one_each : (body : List ℕ) (ss ts : List Span) → SpellsEach body ss → Spel
 one_each body [] [] h k = refl
 one_each body [] (t ∷ ts) h k = absurd (begins_not_nil is_digit body (each_starts body t ts k) h)
 one_each body (s ∷ ss) [] h k = absurd (begins_not_nil is_digit body (each_starts body s ss h) k)
-one_each body (s ∷ ss) (t ∷ ts) h k = grind (arith, common_steps, (first_here body [] s ss h (inl refl) refl), (first_here body [] t ts k (inl refl) refl), (one_each h.0 ss ts h.2 (subst (λ x. SpellsEach x ts) (sym (append-nil k.0) ∙ sym (first_here body [] t ts k (inl refl) refl).next_is ∙ (first_here body [] s ss h (inl refl) refl).next_is ∙ append-nil h.0) k.2)))
+one_each body (s ∷ ss) (t ∷ ts) h k = grind (arith, (first_here body [] s ss h (inl refl) refl), (first_here body [] t ts k (inl refl) refl), (one_each h.0 ss ts h.2 (subst (λ x. SpellsEach x ts) (sym (append-nil k.0) ∙ sym (first_here body [] t ts k (inl refl) refl).next_is ∙ (first_here body [] s ss h (inl refl) refl).next_is ∙ append-nil h.0) k.2)))
 
 pub one_reading : (text : List ℕ) (ss ts : List Span) → Reads text ss → Reads text ts → ss ≡ ts
 unfolding split_whole

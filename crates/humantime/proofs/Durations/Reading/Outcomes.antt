@@ -34,10 +34,10 @@ duration_answer-zero = refl
 
 pub duration_answer-items : (text : List ℕ) → text ≢ bare_zero → duration_answer text ≡ sum_spans 0 (items_of (items text).0 (items text).1)
 unfolding duration_answer
-duration_answer-items text some = grind (arith, common_steps, bytes_eq-Decides)
+duration_answer-items text some = grind (arith, bytes_eq-Decides)
 
 pub zero_or_not : (text : List ℕ) → (text ≡ bare_zero) ⊎ (text ≢ bare_zero)
-zero_or_not text = grind (arith, common_steps, (bytes_eq-Decides text bare_zero), (cases_Bool (bytes_eq text bare_zero)))
+zero_or_not text = grind (arith, (bytes_eq-Decides text bare_zero), (cases_Bool (bytes_eq text bare_zero)))
 
 -- whatever the items are, they settle the outcome
 outcome_summed : (text : List ℕ) (spans : List Span) (stop : Option Fault) → text ≢ bare_zero → Items text spans stop → duration_answer text ≡ sum_spans 0 (items_of spans stop)
@@ -67,13 +67,12 @@ over_outcome text e h right beyond =
     let walk : items text ≡ (h.spans ++ span_of h.rest ∷ map span_of more.starts, more.stop) =
     front_walked text h.front h.rest h.spans h.split h.within.formed (inr (closes_digit h.front h.rest f.starts))
     ∙ ap (followed_by h.spans) (walk-right (first_after true h.spans) text h.rest right) in
-    let all = rw walk at (items_found text).formed in
     let formed = each-append Formed h.spans (span_of h.rest ∷ []) h.within.formed (formed_here h.rest f, tt) in
-    duration_answer-items text h.not_zero ∙ rw walk (too_large _ more.stop all (λ g. beyond (WithinLimits_from _ formed
+    duration_answer-items text h.not_zero ∙ rw walk (too_large _ more.stop (rw walk at (items_found text).formed) (λ g. beyond (WithinLimits_from _ formed
     (WithinLimitsFrom-front 0 _ (map span_of more.starts) (rw append_assoc (from_WithinLimits _ g))))))
 
 pub outcome_fault : (text : List ℕ) (e : Fault) → HasFault text e → duration_answer text ≡ Err e
-outcome_fault text e h = grind (arith, common_steps, (stop_outcome text e h), (over_outcome text e h))
+outcome_fault text e h = grind (arith, (stop_outcome text e h), (over_outcome text e h))
 
 -- the items decide the value, the fault, and that they are too large
 value_only : (text : List ℕ) (spans : List Span) (stop : Option Fault) (v : ℕ) → text ≢ bare_zero → Items text spans stop → duration_answer text ≡ Ok v → (stop ≡ None) × WithinLimits spans × (value spans ≡ v)
@@ -96,10 +95,10 @@ fault_read : (text : List ℕ) (e : Fault) → text ≢ bare_zero → duration_a
 fault_read text e some h =
     let i = items_found text in
     let d = summed_fault (items text).0 (items text).1 e i.formed (sym (duration_answer-items text some) ∙ h) in
-    grind (arith, common_steps, (d), (i), too_large_found, items_decide_fault)
+    grind (arith, (d), (i), too_large_found, items_decide_fault)
 
 pub fault_from_outcome : (text : List ℕ) (e : Fault) → duration_answer text ≡ Err e → HasFault text e
-fault_from_outcome text e h = grind (arith, common_steps, duration_answer-zero, fault_read)
+fault_from_outcome text e h = grind (arith, duration_answer-zero, fault_read)
 
 pub items_decide_value : (text : List ℕ) (spans : List Span) (stop : Option Fault) → Items text spans stop → text ≢ bare_zero
     → (v : ℕ) → Accepted text v ↔ ((stop ≡ None) × WithinLimits spans × (value spans ≡ v))

@@ -23,7 +23,7 @@ add_all-room t (x ∷ xs) h = rw h.0 (add_all-room (t + addition_nanos x) xs h.1
 pub add_all-full : (t : ℕ) (xs : List Addition) → ¬ (RoomFrom t xs) → add_all t xs ≡ None
 unfolding add_all
 add_all-full t [] h = absurd (h tt)
-add_all-full t (x ∷ xs) h = grind (arith, common_steps, (add_all-full (t + addition_nanos x) xs))
+add_all-full t (x ∷ xs) h = grind (arith, (add_all-full (t + addition_nanos x) xs))
 
 -- room one by one, for lists joined end to end
 pub RoomFrom-append : (t : ℕ) (xs ys : List Addition) → RoomFrom t xs → RoomFrom (t + total xs) ys → RoomFrom t (xs ++ ys)
@@ -42,18 +42,17 @@ RoomFrom-back t (x ∷ xs) ys h = grind (arith, common_steps, (RoomFrom-back (t 
 from_each : (before xs : List Addition) → AllHaveRoom (before ++ xs) → RoomFrom (total before) xs
 from_each before [] h = tt
 from_each before (x ∷ xs) h =
-    let sum : total (before ++ x ∷ []) ≡ total before + addition_nanos x = sum_by_push addition_nanos before x in
-    (h before xs x refl, rw sum at (from_each (before ++ x ∷ []) xs (rw append_assoc h)))
+    (h before xs x refl, rw (sum_by_push addition_nanos before x) at (from_each (before ++ x ∷ []) xs (rw append_assoc h)))
 
 pub room_from_all : (xs : List Addition) → AllHaveRoom xs → RoomFrom 0 xs
 room_from_all xs h = from_each [] xs h
 
 pub all_have_room : (xs : List Addition) → RoomFrom 0 xs → AllHaveRoom xs
-all_have_room xs h before after x e = grind (arith, common_steps, RoomFrom-back)
+all_have_room xs h before after x e = grind (arith, RoomFrom-back)
 
 room_fits : (t : ℕ) (xs : List Addition) → t / nanos_per_second ≤ u64_max → RoomFrom t xs → (t + total xs) / nanos_per_second ≤ u64_max
 room_fits t [] fits h = omega arith
-room_fits t (x ∷ xs) fits h = grind (arith, common_steps, (room_fits (t + addition_nanos x) xs (grind (arith, common_steps)) h.1))
+room_fits t (x ∷ xs) fits h = grind (arith, common_steps, (room_fits (t + addition_nanos x) xs (grind arith) h.1))
 
 -- where additions have room, their sum is a duration
 pub room_is_duration : (xs : List Addition) → AllHaveRoom xs → total xs / nanos_per_second ≤ u64_max

@@ -20,7 +20,7 @@ begins-drop_while p (c ∷ cs) = elim (cases_Bool (p c)) [ inl e ↦ rw e (begin
 
 pub begins_take_while : (p q : ℕ → Bool) (cs : List ℕ) → begins p cs ≡ true → ((c : ℕ) → p c ≡ true → q c ≡ true)
     → begins p (take_while q cs) ≡ true
-begins_take_while p q cs h k = grind (arith, common_steps)
+begins_take_while p q cs h k = grind arith
 
 -- a front that passes, and then what doesn't begin so
 pub take_while-append : (p : ℕ → Bool) (xs ys : List ℕ) → Only p xs → begins p ys ≡ false → take_while p (xs ++ ys) ≡ xs
@@ -37,13 +37,13 @@ pub drop_while_shorter : (p : ℕ → Bool) (cs : List ℕ) → length (drop_whi
 drop_while_shorter p cs = omega (arith, ap length (take_while-drop_while p cs), length-append (take_while p cs) (drop_while p cs))
 
 pub begins_some : (p : ℕ → Bool) (cs : List ℕ) → begins p cs ≡ true → 0 < length cs
-begins_some p cs h = grind (arith, common_steps)
+begins_some p cs h = grind arith
 
 pub begins_not_nil : (p : ℕ → Bool) (cs : List ℕ) → begins p cs ≡ true → cs ≢ []
-begins_not_nil p cs h = grind (arith, common_steps)
+begins_not_nil p cs h = grind arith
 
 pub letters_begin : (cs : List ℕ) → IsLetters cs → begins is_letter cs ≡ true
-letters_begin cs h = grind (arith, common_steps)
+letters_begin cs h = grind arith
 
 pub ends_Only : (p : ℕ → Bool) (cs : List ℕ) → Only p cs → cs ≢ [] → ends p cs ≡ true
 ends_Only p [] h some = absurd (some refl)
@@ -52,7 +52,7 @@ ends_Only p (c ∷ d ∷ cs) h some = ends_Only p (d ∷ cs) h.1 (λ e. cc)
 
 -- what begins so doesn't begin otherwise
 pub begins_other : (p q : ℕ → Bool) → ((c : ℕ) → p c ≡ true → q c ≡ false) → (cs : List ℕ) → begins p cs ≡ true → begins q cs ≡ false
-begins_other p q h cs k = grind (arith, common_steps)
+begins_other p q h cs k = grind arith
 
 pub ends_other : (p q : ℕ → Bool) → ((c : ℕ) → p c ≡ true → q c ≡ false) → (cs : List ℕ) → ends p cs ≡ true → ends q cs ≡ false
 ends_other p q other [] e = refl

@@ -38,7 +38,7 @@ significant_zero ds = rw (reverse-append ds (48 ∷ []))
 
 drop_while_long : (p : ℕ → Bool) (xs ys : List ℕ) (d : ℕ) → p d ≡ false → length ys < length (drop_while p (xs ++ d ∷ ys))
 drop_while_long p [] ys d e = rw e (omega arith)
-drop_while_long p (x ∷ xs) ys d e = grind (arith, common_steps, (drop_while_long p xs ys d e), (length-append xs (d ∷ ys)))
+drop_while_long p (x ∷ xs) ys d e = grind (arith, (drop_while_long p xs ys d e), (length-append xs (d ∷ ys)))
 
 pub significant_long : (ds es : List ℕ) (d : ℕ) → (d == 48) ≡ false → length ds < length (significant (ds ++ d ∷ es))
 unfolding significant

@@ -1,5 +1,4 @@
 -- The walk over the spans of a text, one span at a time, whatever the number of its steps.
-use Rattle.std.proofs.lemmas.Grind.{common_steps}
 use Rattle.std.proofs.Common.{◌≡◌, ◌≢◌, ℕ, zero, suc, ◌≤◌, Bool, true, false, List, [], ◌∷◌, length, Option, Some, None, if◌then◌else◌, refl, arith}
 use Rattle.humantime.specs.Texts.{begins}
 use Rattle.humantime.specs.Durations.Characters.{is_digit}
@@ -14,7 +13,7 @@ pub record Steps (text : List ℕ) (P : Bool → List ℕ → Walk → Type 0) :
   pub right : (first : Bool) (rest : List ℕ) (w : Walk) → fault_at text rest ≡ None → P false (next_of rest) w → P first rest (one_more rest w)
 
 right_begins : (text rest : List ℕ) → fault_at text rest ≡ None → begins is_digit rest ≡ true
-right_begins text rest s = grind (arith, common_steps)
+right_begins text rest s = grind arith
 
 by_count : (n : ℕ) (text : List ℕ) (P : Bool → List ℕ → Walk → Type 0) → Steps text P → (first : Bool) (rest : List ℕ) → length rest ≤ n → P first rest (walk n first text rest)
 unfolding walk
@@ -37,7 +36,7 @@ enough n m first text [] h k = refl
 enough zero m first text (c ∷ cs) h k = absurd (omega arith)
 enough (suc n) zero first text (c ∷ cs) h k = absurd (omega arith)
 enough (suc n) (suc m) first text (c ∷ cs) h k =
-    grind (arith, common_steps, (enough n m false text (next_of (c ∷ cs))), (next_smaller (c ∷ cs)), (right_begins text (c ∷ cs)))
+    grind (arith, (enough n m false text (next_of (c ∷ cs))), (next_smaller (c ∷ cs)), (right_begins text (c ∷ cs)))
 
 pub walk-end : (first : Bool) (text : List ℕ) → walk_from first text [] ≡ no_more [] (if first then Some Empty else None)
 unfolding walk
@@ -45,8 +44,8 @@ walk-end first text = refl
 
 pub walk-wrong : (first : Bool) (text rest : List ℕ) (e : Fault) → rest ≢ [] → fault_at text rest ≡ Some e → walk_from first text rest ≡ no_more rest (Some e)
 unfolding walk
-walk-wrong first text rest e some h = grind (arith, common_steps)
+walk-wrong first text rest e some h = grind arith
 
 pub walk-right : (first : Bool) (text rest : List ℕ) → fault_at text rest ≡ None → walk_from first text rest ≡ one_more rest (walk_from false text (next_of rest))
 unfolding walk
-walk-right first text rest h = grind (arith, common_steps, enough, (next_smaller rest (right_begins text rest h)))
+walk-right first text rest h = grind (arith, enough, (next_smaller rest (right_begins text rest h)))

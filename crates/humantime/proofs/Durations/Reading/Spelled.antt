@@ -6,7 +6,6 @@ use Rattle.humantime.specs.Durations.Spans.{Span, Only, SpellsFraction, Spells}
 use Rattle.humantime.specs.Durations.Faults.{after_number, fraction_of, after_fraction, after_word, span_of, ends_span}
 use Rattle.humantime.specs.References.Durations.TextViews.{fraction_at, drop_fraction}
 use Rattle.humantime.proofs.Durations.Reading.Classes.{letter_not_numeric, letter_not_point, letter_not_whitespace, whitespace_is_numeric, point_not_numeric, is_point-46}
-use Rattle.std.proofs.lemmas.Grind.{common_steps}
 use Rattle.humantime.proofs.Durations.Reading.Spellings.{spells_alone}
 use Rattle.humantime.proofs.Durations.Reading.Runs.{take_while-append, drop_while-append, drop_while_shorter, begins-append, begins_not_nil, letters_begin, ends_Only, ends_other, ends-append, append_not_nil}
 
@@ -26,12 +25,12 @@ pub begins_word : (w t : List ℕ) → begins is_letter w ≡ true → begins is
 begins_word w t e = begins-append is_letter w t (begins_not_nil is_letter w e) ∙ e
 
 no_point : (tail : List ℕ) → begins is_letter tail ≡ true → (fraction_at tail ≡ None) × (drop_fraction tail ≡ tail)
-no_point tail e = grind (arith, common_steps, letter_not_point)
+no_point tail e = grind (arith, letter_not_point)
 
 fraction_read : (b tail : List ℕ) (o : Option (List ℕ)) → SpellsFraction b o → begins is_letter tail ≡ true
     → (begins is_numeric (b ++ tail) ≡ false) × (fraction_at (b ++ tail) ≡ o) × (drop_fraction (b ++ tail) ≡ tail) × (o ≢ Some [])
-fraction_read b tail None h e = grind (arith, common_steps, (no_point tail e), letter_not_numeric)
-fraction_read b tail (Some ds) h e = grind (arith, common_steps, letter_not_numeric, point_not_numeric, is_point-46, take_while-append, drop_while-append)
+fraction_read b tail None h e = grind (arith, (no_point tail e), letter_not_numeric)
+fraction_read b tail (Some ds) h e = grind (arith, letter_not_numeric, point_not_numeric, is_point-46, take_while-append, drop_while-append)
 
 -- a spelled number and fraction before a word are read as these
 pub record IsReadToWord (rest number_text fraction_text tail : List ℕ) (fraction : Option (List ℕ)) : Type 0 where
@@ -47,10 +46,10 @@ spelling_parts here next s h = ap (λ (x : List ℕ). x ++ next) (spells_alone h
 -- a rest that spells a span is read as its number and fraction up to its word
 pub read_spelled : (rest next : List ℕ) (s : Span) (h : Spells rest s next)
     → IsReadToWord rest h.number_text h.fraction_text (s.word ++ (h.whitespace ++ next)) s.fraction
-read_spelled rest next s h = grind (arith, common_steps, begins_word, fraction_read, drop_while-append, take_while-append)
+read_spelled rest next s h = grind (arith, begins_word, fraction_read, drop_while-append, take_while-append)
 
 pub no_letter_follows : (cs : List ℕ) → ends_span cs ≡ true → begins is_letter cs ≡ false
-no_letter_follows cs h = grind (arith, common_steps, letter_not_numeric)
+no_letter_follows cs h = grind (arith, letter_not_numeric)
 
 -- where a spelling ends with its word, it doesn't end in whitespace
 ends_in_word : (a b word : List ℕ) → Only is_letter word → begins is_letter word ≡ true → ends is_whitespace (a ++ (b ++ (word ++ []))) ≡ false
@@ -61,24 +60,22 @@ ends_in_word a b word only some =
 
 followed : (a b word c here next : List ℕ) → here ≡ a ++ (b ++ (word ++ c)) → Only is_letter word → begins is_letter word ≡ true → Only is_whitespace c
     → (ends_span next ≡ true) ⊎ (ends is_whitespace here ≡ true) → ends_span (c ++ next) ≡ true
-followed a b word [] here next whole only some whitespace o = grind (arith, common_steps, (ends_in_word a b word only some))
+followed a b word [] here next whole only some whitespace o = grind (arith, (ends_in_word a b word only some))
 followed a b word (x ∷ xs) here next whole only some whitespace o = whitespace_is_numeric x (whitespace.0)
 
 -- a spelling is the span that begins it, where its word ends with it
 pub spelled_here : (here next : List ℕ) (s : Span) → Spells here s [] → (ends_span next ≡ true) ⊎ (ends is_whitespace here ≡ true) → begins is_whitespace next ≡ false → IsSpanAt (here ++ next) s next
 spelled_here here next s h o no_whitespace =
-    let a = h.number_text in
-    let b = h.fraction_text in
     let letter = letters_begin s.word h.word in
-    let f : ends_span (h.whitespace ++ next) ≡ true = followed a b s.word h.whitespace here next (spells_alone here s h) h.word.0 letter h.only_whitespace o in
+    let f : ends_span (h.whitespace ++ next) ≡ true = followed h.number_text h.fraction_text s.word h.whitespace here next (spells_alone here s h) h.word.0 letter h.only_whitespace o in
     let stops = no_letter_follows (h.whitespace ++ next) f in
     let cut = drop_while-append is_whitespace h.whitespace next h.only_whitespace no_whitespace in
     rw (spelling_parts here next s h)
-    (grind (arith, common_steps, (f), (stops), (letter), (cut), begins-append, begins_not_nil, take_while-append, drop_while-append, fraction_read))
+    (grind (arith, (f), (stops), (letter), (cut), begins-append, begins_not_nil, take_while-append, drop_while-append, fraction_read))
 
 drop_fraction_shorter : (cs : List ℕ) → length (drop_fraction cs) ≤ length cs
-drop_fraction_shorter cs = grind (arith, common_steps, drop_while_shorter)
+drop_fraction_shorter cs = grind (arith, drop_while_shorter)
 
 -- what follows a span is shorter than what it begins
 pub next_smaller : (rest : List ℕ) → begins is_digit rest ≡ true → length (next_of rest) < length rest
-next_smaller rest e = grind (arith, common_steps, drop_fraction_shorter, drop_while_shorter)
+next_smaller rest e = grind (arith, drop_fraction_shorter, drop_while_shorter)

@@ -2,7 +2,8 @@
 use Rattle.std.proofs.Common.{arith, ◌≡◌, ℕ, List, [], ◌∷◌, ◌++◌, ap, sym, ◌∙◌, append_assoc, append-nil, subst}
 use Rattle.std.specs.List.{AllByRecursion}
 use Rattle.std.proofs.lemmas.Grind.{common_steps}
-use Rattle.humantime.specs.Durations.Spans.{Span, Spells, SpellsEach}
+use Rattle.humantime.specs.Durations.Characters.{is_whitespace}
+use Rattle.humantime.specs.Durations.Spans.{Span, Only, Spells, SpellsEach}
 
 -- The text is one that spells the span alone, and then the rest.
 pub record IsApart (text : List ℕ) (span : Span) (rest : List ℕ) : Type 0 where
@@ -10,35 +11,31 @@ pub record IsApart (text : List ℕ) (span : Span) (rest : List ℕ) : Type 0 wh
   pub whole : text ≡ here ++ rest
   pub spells : Spells here span []
 
-pub apart : (text rest : List ℕ) (s : Span) → Spells text s rest → IsApart text s rest
-apart text rest s h = record {
-  here = h.number_text ++ (h.fraction_text ++ (s.word ++ h.whitespace));
-  whole = h.whole ∙ sym (simp append_assoc);
-  spells = record {
-    number_text = h.number_text;
-    fraction_text = h.fraction_text;
-    whitespace = h.whitespace;
-    whole = sym (simp append-nil);
-    starts = h.starts;
-    number = h.number;
-    fraction = h.fraction;
-    word = h.word;
-    only_whitespace = h.only_whitespace;
-  };
-}
-
-pub spells-append : (text rest more : List ℕ) (s : Span) → Spells text s rest → Spells (text ++ more) s (rest ++ more)
-spells-append text rest more s h = record {
+-- the same parts with other whitespace, or with another rest
+pub respelled : (text rest here next white : List ℕ) (s : Span) (h : Spells text s rest)
+    → here ≡ h.number_text ++ (h.fraction_text ++ (s.word ++ (white ++ next))) → Only is_whitespace white → Spells here s next
+respelled text rest here next white s h whole only = record {
   number_text = h.number_text;
   fraction_text = h.fraction_text;
-  whitespace = h.whitespace;
-  whole = ap (λ (t : List ℕ). t ++ more) h.whole ∙ simp append_assoc;
+  whitespace = white;
+  whole = whole;
   starts = h.starts;
   number = h.number;
   fraction = h.fraction;
   word = h.word;
-  only_whitespace = h.only_whitespace;
+  only_whitespace = only;
 }
+
+pub apart : (text rest : List ℕ) (s : Span) → Spells text s rest → IsApart text s rest
+apart text rest s h = record {
+  here = h.number_text ++ (h.fraction_text ++ (s.word ++ h.whitespace));
+  whole = h.whole ∙ sym (simp append_assoc);
+  spells = respelled text rest _ [] h.whitespace s h (sym (simp append-nil)) h.only_whitespace;
+}
+
+pub spells-append : (text rest more : List ℕ) (s : Span) → Spells text s rest → Spells (text ++ more) s (rest ++ more)
+spells-append text rest more s h =
+    respelled text rest (text ++ more) (rest ++ more) h.whitespace s h (ap (λ (t : List ℕ). t ++ more) h.whole ∙ simp append_assoc) h.only_whitespace
 
 pub spells_each-append : (a b : List ℕ) (ss ts : List Span) → SpellsEach a ss → SpellsEach b ts → SpellsEach (a ++ b) (ss ++ ts)
 spells_each-append a b [] ts h k = subst (λ (l : List ℕ). SpellsEach (l ++ b) ts) (sym h) k

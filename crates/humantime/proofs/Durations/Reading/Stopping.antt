@@ -20,16 +20,16 @@ pub record Fine (rest : List ℕ) : Type 0 where
 -- where nothing is wrong, the span is well formed
 pub fine_at : (text rest : List ℕ) → fault_at text rest ≡ None → Fine rest
 unfolding stop_at
-fine_at text rest s = grind (arith, common_steps)
+fine_at text rest s = grind arith
 
 -- where something is, it stops there
 pub wrong_stops : (text front : List ℕ) (spans : List Span) (rest : List ℕ) (e : Fault) → rest ≢ [] → (begins is_digit rest ≡ false → (spans ≡ []) ⊎ (ends is_whitespace front ≡ true))
     → fault_at text rest ≡ Some e → Stops text front spans rest e
-wrong_stops text front spans rest e some follows s = grind (arith, common_steps)
+wrong_stops text front spans rest e some follows s = grind arith
 
 pub some_letters : (word : List ℕ) → IsSome (scale_of_word word) → word ≢ []
 unfolding scale_of_word
-some_letters word h e = grind (arith, common_steps)
+some_letters word h e = grind arith
 
 -- at a span that is well formed nothing is wrong
 pub fine_goes : (text rest : List ℕ) → Fine rest → fault_at text rest ≡ None
@@ -38,4 +38,4 @@ fine_goes text rest h = grind (arith, common_steps, some_letters)
 
 -- what stops at a rest is wrong there
 pub stops_at : (text front : List ℕ) (spans : List Span) (rest : List ℕ) (e : Fault) → rest ≢ [] → Stops text front spans rest e → fault_at text rest ≡ Some e
-stops_at text front spans rest e some h = grind (arith, common_steps)
+stops_at text front spans rest e some h = grind arith

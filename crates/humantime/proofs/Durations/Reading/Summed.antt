@@ -1,5 +1,5 @@
 -- What spans add up to by the reference, and whether they are within the limits.
-use Rattle.std.proofs.lemmas.Grind.{common_steps, flat_map-append}
+use Rattle.std.proofs.lemmas.Grind.{flat_map-append}
 use Rattle.std.proofs.Common.{true, ◌≡◌, ◌⊎◌, ℕ, ◌+◌, List, [], ◌∷◌, ◌++◌, Option, Some, None, Result, Ok, Err, map, refl, ap, ◌∙◌, inl, inr, arith}
 use Rattle.std.specs.Prelude.{⊤}
 use Rattle.std.specs.List.{AllByRecursion}
@@ -27,7 +27,7 @@ add_span-added t s h = rw h.0 (add_all-room t (additions_of s) h.1)
 
 added_or_not : (t : ℕ) (s : Span) → IsAddedTo t s ⊎ (¬ (IsAddedTo t s) × (add_span t s ≡ None))
 unfolding add_span
-added_or_not t s = grind (arith, common_steps, (add_all-full t (additions_of s)))
+added_or_not t s = grind (arith, (add_all-full t (additions_of s)))
 
 within_or_not : (t : ℕ) (spans : List Span) → WithinLimitsFrom t spans ⊎ ¬ (WithinLimitsFrom t spans)
 within_or_not t [] = inl tt
@@ -95,12 +95,12 @@ too_large spans stop f bad = sum_spans_beyond 0 spans (items_of [] stop) (λ g. 
 -- and the other way round
 pub summed_value : (spans : List Span) (stop : Option Fault) (v : ℕ) → AllByRecursion Formed spans → sum_spans 0 (items_of spans stop) ≡ Ok v → (stop ≡ None) × WithinLimits spans × (value spans ≡ v)
 unfolding sum_spans
-summed_value spans stop v f h = grind (arith, common_steps, (within_or_beyond spans f), (sum_spans_within spans stop), (too_large spans stop f))
+summed_value spans stop v f h = grind (arith, (within_or_beyond spans f), (sum_spans_within spans stop), (too_large spans stop f))
 
 pub summed_fault : (spans : List Span) (stop : Option Fault) (e : Fault) → AllByRecursion Formed spans → sum_spans 0 (items_of spans stop) ≡ Err e
     → (WithinLimits spans × (stop ≡ Some e)) ⊎ (¬ (WithinLimits spans) × (NumberOverflow ≡ e))
 unfolding sum_spans
-summed_fault spans stop e f h = grind (arith, common_steps, (within_or_beyond spans f), (sum_spans_within spans stop), (too_large spans stop f))
+summed_fault spans stop e f h = grind (arith, (within_or_beyond spans f), (sum_spans_within spans stop), (too_large spans stop f))
 
 -- the spans without those at the end
 pub WithinLimitsFrom-front : (t : ℕ) (ss ts : List Span) → WithinLimitsFrom t (ss ++ ts) → WithinLimitsFrom t ss

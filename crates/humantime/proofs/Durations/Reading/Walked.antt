@@ -22,10 +22,10 @@ abbrev pub Closes : List ℕ → List ℕ → Type 0
 Closes front rest = (ends_span rest ≡ true) ⊎ (ends is_whitespace front ≡ true)
 
 pub closes_digit : (front rest : List ℕ) → begins is_digit rest ≡ true → Closes front rest
-closes_digit front rest d = grind (arith, common_steps, digit_is_numeric)
+closes_digit front rest d = grind (arith, digit_is_numeric)
 
 pub each_starts : (body : List ℕ) (s : Span) (ss : List Span) → SpellsEach body (s ∷ ss) → begins is_digit body ≡ true
-each_starts body s ss h = grind (arith, common_steps)
+each_starts body s ss h = grind arith
 
 starts_before : (body rest : List ℕ) (s : Span) (ss : List Span) → SpellsEach body (s ∷ ss) → begins is_digit (body ++ rest) ≡ true
 starts_before body rest s ss h = let d = each_starts body s ss h in begins-append is_digit body rest (begins_not_nil is_digit body d) ∙ d
@@ -36,7 +36,7 @@ no_whitespace_before body rest (s ∷ ss) h e = begins_other is_digit is_whitesp
 
 -- each spelling but the last ends before a digit
 closes_here : (here more rest : List ℕ) (ss : List Span) → SpellsEach more ss → Closes (here ++ more) rest → Closes here (more ++ rest)
-closes_here here more rest [] h o = grind (arith, common_steps, append-nil)
+closes_here here more rest [] h o = grind (arith, append-nil)
 closes_here here more rest (s ∷ ss) h o = closes_digit here (more ++ rest) (starts_before more rest s ss h)
 
 closes_more : (xs ys rest : List ℕ) (ss : List Span) → SpellsEach ys ss → (ss ≡ []) ⊎ Closes (xs ++ ys) rest → (ss ≡ []) ⊎ Closes ys rest
@@ -53,7 +53,7 @@ first_after first [] = first
 first_after first (s ∷ ss) = false
 
 none_first : (spans : List Span) → first_after false spans ≡ false
-none_first spans = grind (arith, common_steps)
+none_first spans = grind arith
 
 -- these spans, and then those of a walk
 abbrev pub followed_by : List Span → Walk → List Span × Option Fault
@@ -68,7 +68,7 @@ through text body rest first (s ∷ ss) h f (inr o) e =
     let p = apart body h.0 s h.1 in
     let more = rw (none_first ss) at (through text h.0 rest false ss h.2 f.1 (closes_more p.here h.0 rest ss h.2 (inr (rw p.whole at o))) e) in
     let i = first_here body rest s ss h o e in
-    grind (arith, common_steps, (i), (more), (walk-right first text _ (fine_goes text _ (fine_here (body ++ rest) _ s i f.0))))
+    grind (arith, (i), (more), (walk-right first text _ (fine_goes text _ (fine_here (body ++ rest) _ s i f.0))))
 
 -- the front of a split begins where the whitespace ends
 pub front_begins : (text front rest : List ℕ) (spans : List Span) (h : Split text front spans rest) → drop_while is_whitespace text ≡ h.spelled.body ++ rest
@@ -85,12 +85,12 @@ front_walked text front rest spans h f o =
 
 -- the walk ends where the items do
 ends_walked : (text front rest : List ℕ) (spans : List Span) (stop : Option Fault) → Ends text front spans rest stop → walk_from (first_after true spans) text rest ≡ no_more rest stop
-ends_walked text front [] spans stop h = grind (arith, common_steps, walk-end)
+ends_walked text front [] spans stop h = grind (arith, walk-end)
 ends_walked text front (c ∷ cs) spans None h = cc
 ends_walked text front (c ∷ cs) spans (Some e) h = walk-wrong (first_after true spans) text (c ∷ cs) e (λ n. cc) (stops_at text front spans (c ∷ cs) e (λ n. cc) h)
 
 -- whatever the items of a text are, the reading gives these
 pub items_walked : (text : List ℕ) (spans : List Span) (stop : Option Fault) → Items text spans stop → items text ≡ (spans, stop)
 items_walked text spans stop h =
-    front_walked text h.front h.rest spans h.split h.formed (grind (arith, common_steps, (h.ends)))
+    front_walked text h.front h.rest spans h.split h.formed (grind (arith, (h.ends)))
     ∙ ap (followed_by spans) (ends_walked text h.front h.rest spans stop h.ends) ∙ ap (λ (x : List Span). (x, stop)) (append-nil spans)

@@ -24,11 +24,11 @@ fraction_text [] = []
 fraction_text (c ∷ cs) = if is_point c then c ∷ take_while is_numeric cs else []
 
 pub fraction_text-drop_while : (cs : List ℕ) → cs ≡ fraction_text cs ++ drop_fraction cs
-fraction_text-drop_while cs = grind (arith, common_steps, take_while-drop_while)
+fraction_text-drop_while cs = grind (arith, take_while-drop_while)
 
 fraction_spelled : (m : List ℕ) → fraction_at m ≢ Some [] → SpellsFraction (fraction_text m) (fraction_at m)
 fraction_spelled [] some = refl
-fraction_spelled (c ∷ cs) some = grind (arith, common_steps, (Only-take_while is_numeric cs), (is_point-true c))
+fraction_spelled (c ∷ cs) some = grind (arith, (Only-take_while is_numeric cs), (is_point-true c))
 
 -- a spelling has a digit and a letter
 pub spelling_some : (text rest : List ℕ) (s : Span) → Spells text s rest → 1 < length text
@@ -40,8 +40,8 @@ written_here rest h =
       take_while is_numeric rest ++ (fraction_text (after_number rest) ++ (word_of rest ++ take_while is_whitespace (after_word rest))),
       record {
         whole = (grind (arith, common_steps, take_while-drop_while, fraction_text-drop_while));
-        spells = (grind (arith, common_steps, append-nil, Only-take_while, begins_take_while, digit_is_numeric, fraction_spelled, (some), (h)));
-        closes = λ more e. (grind (arith, common_steps, ends-append, ends_Only, Only-take_while, (h.ends), (more), (e)));
+        spells = (grind (arith, append-nil, Only-take_while, begins_take_while, digit_is_numeric, fraction_spelled, (some), (h)));
+        closes = λ more e. (grind (arith, ends-append, ends_Only, Only-take_while, (h.ends), (more), (e)));
       },
     )
 
@@ -50,4 +50,4 @@ pub formed_here : (rest : List ℕ) → Fine rest → Formed (span_of rest)
 formed_here rest h = record { short = h.short; word = h.word }
 
 pub fine_here : (rest next : List ℕ) (s : Span) → IsSpanAt rest s next → Formed s → Fine rest
-fine_here rest next s h f = grind (arith, common_steps)
+fine_here rest next s h f = grind arith

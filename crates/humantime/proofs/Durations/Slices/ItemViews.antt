@@ -1,5 +1,4 @@
 -- The list of what the items of a text lend.
-use Rattle.std.proofs.lemmas.Grind.{common_steps}
 use Rattle.std.proofs.Common.{◌≡◌, ◌≢◌, ◌++◌, IsUtf8, chars, encode_utf8_all, arith, ℕ, Bool, true, List, [], ◌∷◌, map, Option, Result, Ok, Err, refl, sym, ap, ap₂, ◌∙◌}
 use Rattle.std.proofs.lemmas.Str.{encodes-chars, encode_ascii}
 use Rattle.humantime.specs.Texts.{drop_while}
@@ -21,7 +20,7 @@ use Rattle.humantime.proofs.Durations.Bytes.Trimming.{spelled_at}
 
 -- what is lent on a walk spells the spans of the walk
 spans_read : (text : List ℕ) (starts : List (List ℕ)) (stop : Option Fault) → map span_in (items_of (map (view_at text) starts) stop) ≡ items_of (map span_of starts) stop
-spans_read text [] stop = grind (arith, common_steps)
+spans_read text [] stop = grind arith
 spans_read text (rest ∷ starts) stop = ap₂ (λ (s : Span) (items : List (Result Span Fault)). Ok s ∷ items) (spelled_at text rest) (spans_read text starts stop)
 
 -- unless the text is `0`, what its items add up to is its outcome
@@ -59,7 +58,7 @@ are_items text =
 
 -- two lists that lend the same spans and stop alike are one
 same_span_view : (text : List ℕ) (xs ys : List (Result SpanView Fault)) (a : AreItems text xs) (b : AreItems text ys) → a.spans ≡ b.spans → a.stop ≡ b.stop → xs ≡ ys
-same_span_view text xs ys a b p q = grind (arith, common_steps, one_each)
+same_span_view text xs ys a b p q = grind (arith, one_each)
 
 pub one_span_view : (text : List ℕ) (others : List (Result SpanView Fault)) → AreItems text others → others ≡ item_views text
 one_span_view text others o =

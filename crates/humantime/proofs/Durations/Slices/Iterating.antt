@@ -1,5 +1,4 @@
 -- One step over the items of a text.
-use Rattle.std.proofs.lemmas.Grind.{common_steps}
 use Rattle.std.proofs.Common.{◌≡◌, ◌≢◌, ℕ, Bool, true, false, List, [], ◌∷◌, Some, None, Result, Ok, Err, if◌then◌else◌, ap, arith}
 use Rattle.humantime.specs.Texts.{begins, drop_while}
 use Rattle.humantime.specs.Durations.Characters.{is_whitespace, is_digit, offset_of}
@@ -16,7 +15,7 @@ left ended first text before = if ended then [] else left_at first text (drop_wh
 pub step_fine : (ended first first' : Bool) (text before rest next : List ℕ) (x : SpanView)
     → ended ≡ false → rest ≡ drop_while is_whitespace before → begins is_digit rest ≡ true → stop_at text rest ≡ None → x ≡ view_at text rest → drop_while is_whitespace next ≡ drop_while is_whitespace (after_word rest) → first' ≡ false
     → left ended first text before ≡ Ok x ∷ left ended first' text next
-step_fine ended first first' text before rest next x e r d s i n f = grind (arith, common_steps, walk-right)
+step_fine ended first first' text before rest next x e r d s i n f = grind (arith, walk-right)
 
 pub step_stopped : (ended first : Bool) (text before rest : List ℕ) (f : Fault) → ended ≡ false → rest ≡ drop_while is_whitespace before → begins is_digit rest ≡ true → stop_at text rest ≡ Some f → left ended first text before ≡ Err f ∷ []
 step_stopped ended first text before rest f e r d s =
@@ -27,4 +26,4 @@ step_expected ended first text before rest n e r s d p =
     rw (e, ← r) (ap (views_on text) (walk-wrong first text rest (NumberExpected n) s (rw (d, p))))
 
 pub step_end : (ended first : Bool) (text before : List ℕ) → ended ≡ false → drop_while is_whitespace before ≡ [] → left ended first text before ≡ (if first then Err Empty ∷ [] else [])
-step_end ended first text before e r = grind (arith, common_steps, walk-end)
+step_end ended first text before e r = grind (arith, walk-end)

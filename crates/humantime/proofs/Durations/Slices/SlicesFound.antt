@@ -27,13 +27,13 @@ drop_tail (x ∷ y ∷ xs) tail o e = rw (drop_tail (y ∷ xs) tail o e, suc_not
 
 -- a text without the whitespace at its ends goes from its first digit to its last
 trimmed_is : (text slice : List ℕ) → IsDigitSlice text slice → trimmed text ≡ slice
-trimmed_is text slice h = grind (arith, common_steps, digit_not_whitespace, drop_while-append, drop_tail)
+trimmed_is text slice h = grind (arith, digit_not_whitespace, drop_while-append, drop_tail)
 
 fraction_found : (b tail : List ℕ) (o f : Option (List ℕ)) → SpellsFraction b o → IsFractionView b f → begins is_letter tail ≡ true → f ≡ fraction_slice (b ++ tail)
 fraction_found b tail (Some ds) (Some slice) h k e =
     let same : h.0 ≡ k.0 = cc in
-    grind (arith, common_steps, (slice_behind_point h.0 tail h.2.0 e), (trimmed_is k.0 slice k.2), same)
-fraction_found b tail _ _ h k e = grind (arith, common_steps, no_slice)
+    grind (arith, (slice_behind_point h.0 tail h.2.0 e), (trimmed_is k.0 slice k.2), same)
+fraction_found b tail _ _ h k e = grind (arith, no_slice)
 
 -- What a span lends is found at the rest that it begins.
 record SlicesAt (rest : List ℕ) (x : SpanView) (t : List ℕ) : Type 0 where
@@ -49,10 +49,15 @@ slices_found text rest s x next h =
     let letter = begins_word s.word (k.whitespace ++ next) (letters_begin s.word k.word) in
     let no_whitespace : drop_while is_whitespace k.number_text ≡ k.number_text = drop_while-append is_whitespace [] k.number_text tt (begins_other is_digit is_whitespace digit_not_whitespace k.number_text k.starts) in
     let fraction = fraction_found k.fraction_text (s.word ++ (k.whitespace ++ next)) s.fraction x.fraction k.fraction h.fraction letter in
-    grind (arith, r, no_whitespace, fraction, (trimmed_is k.number_text x.number h.number), begins-append, begins_not_nil)
+    record {
+      number = sym (trimmed_is k.number_text x.number h.number) ∙ ap drop_trailing_whitespace (no_whitespace ∙ sym r.number_is);
+      fraction = rw r.behind_is fraction;
+      left = rw h.unit r.tail_is;
+      starts = rw k.whole (begins-append is_digit k.number_text _ (begins_not_nil is_digit k.number_text k.starts) ∙ k.starts);
+    }
 
 each_starts : (text rest : List ℕ) (s : Span) (ss : List Span) (xs : List SpanView) (end : List ℕ) → AreSpanViews text rest (s ∷ ss) xs end → begins is_digit rest ≡ true
-each_starts text rest s ss xs end h = grind (arith, common_steps)
+each_starts text rest s ss xs end h = grind arith
 
 next_is : (whitespace next : List ℕ) → Only is_whitespace whitespace → begins is_digit next ≡ true → drop_while is_whitespace (whitespace ++ next) ≡ next
 next_is whitespace next o b = drop_while-append is_whitespace whitespace next o (begins_other is_digit is_whitespace digit_not_whitespace next b)
@@ -71,4 +76,4 @@ one_each text p q m n (s ∷ ss) (x ∷ xs) (y ∷ ys) d e o u w h k =
     let p = h.1.spelled in
     let q = l.spelled in
     ap₂ (λ (z : SpanView) (zs : List SpanView). z ∷ zs) one.0 (one_each text p.whitespace q.whitespace h.0 k.0 ss xs ys d e p.only_whitespace q.only_whitespace one.1 h.2 k.2)
-one_each text p q m n spans xs ys d e o u w h k = grind (arith, common_steps)
+one_each text p q m n spans xs ys d e o u w h k = grind arith

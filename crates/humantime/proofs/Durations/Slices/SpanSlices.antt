@@ -22,11 +22,11 @@ fewer_bytes cs = grind (arith, common_steps, (take_while-drop_while is_numeric),
 
 Only-drop_while : (p q : ℕ → Bool) (cs : List ℕ) → Only p cs → Only p (drop_while q cs)
 Only-drop_while p q [] o = tt
-Only-drop_while p q (c ∷ cs) o = grind (arith, common_steps, (Only-drop_while p q cs o.1))
+Only-drop_while p q (c ∷ cs) o = grind (arith, (Only-drop_while p q cs o.1))
 
 -- digits and whitespace that don't begin with whitespace begin with a digit
 begins_digit_or_end : (cs : List ℕ) → Only is_numeric cs → begins is_whitespace cs ≡ false → digits cs ≢ [] → begins is_digit cs ≡ true
-begins_digit_or_end cs h k e = grind (arith, common_steps)
+begins_digit_or_end cs h k e = grind arith
 
 -- digits and whitespace, not without a digit, with the slice from the first digit to the last
 trimmed_slice : (cs : List ℕ) → Only is_numeric cs → digits cs ≢ [] → IsDigitSlice cs (trimmed cs)
@@ -35,7 +35,7 @@ trimmed_slice cs o n =
     grind (arith, slice, (Only-drop_while is_numeric is_whitespace cs o), begins_digit_or_end, begins-drop_while, digits_drop_while, (take_while-drop_while is_whitespace cs))
 
 fraction_is_viewed : (b tail : List ℕ) (o : Option (List ℕ)) → SpellsFraction b o → begins is_letter tail ≡ true → IsFractionView b (fraction_slice (b ++ tail))
-fraction_is_viewed b tail o h k = grind (arith, common_steps, no_slice, slice_behind_point, trimmed_slice)
+fraction_is_viewed b tail o h k = grind (arith, no_slice, slice_behind_point, trimmed_slice)
 
 pub next_bytes : (rest : List ℕ) → begins is_digit rest ≡ true → byte_length (after_word rest) < byte_length rest
 next_bytes rest b =

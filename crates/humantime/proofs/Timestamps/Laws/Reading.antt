@@ -15,7 +15,7 @@ use Rattle.humantime.proofs.Timestamps.Laws.StrictForm.{strict_is_weak, strict_c
 
 -- an answer is a moment exactly where no check failed
 or_error_ok : (o : Option TimestampError) (n : ℕ) (t : ℤ) → (moment_or_error o n ≡ Ok t) ↔ ((o ≡ None) × (t ≡ pos n))
-or_error_ok o n t = grind (arith, common_steps)
+or_error_ok o n t = grind arith
 
 or_error_err : (o : Option TimestampError) (n : ℕ) (e : TimestampError) → (moment_or_error o n ≡ Err e) ↔ (o ≡ Some e)
 or_error_err o n e = grind (arith, common_steps)
@@ -28,7 +28,7 @@ weak_checks_decide : (bytes : List ℕ) → AreDecided bytes (weak_checks bytes)
 weak_checks_decide bytes f = (weak_fields bytes f, λ h. rw h.1 (fields_weak bytes h.0))
 
 passed_first : (t : Bool) (e : TimestampError) (o : Option TimestampError) → ((if t then o else Some e) ≡ None) ↔ ((t ≡ true) × (o ≡ None))
-passed_first t e o = grind (arith, common_steps)
+passed_first t e o = grind arith
 
 strict_checks_decide : (bytes : List ℕ) → AreDecided bytes (strict_checks bytes) (IsStrict bytes)
 strict_checks_decide bytes f =
@@ -64,7 +64,7 @@ strict_outcome bytes = outcome_of_checks bytes (strict_checks bytes) (IsStrict b
 -- the answer of the strict form, by its own check
 pub strict_by_marks : (bytes : List ℕ) → (if has_marks bytes then weak_answer bytes else Err InvalidFormat) ≡ strict_answer bytes
 unfolding weak_answer strict_answer
-strict_by_marks bytes = grind (arith, common_steps)
+strict_by_marks bytes = grind arith
 
 pub strict_moment_is_weak : (bytes : List ℕ) (t : ℤ) → IsStrictMoment bytes t ↔ (IsWeakMoment bytes t × IsMarked bytes)
 strict_moment_is_weak bytes t = (

@@ -9,7 +9,7 @@ use Rattle.humantime.proofs.Timestamps.Reading.Bytes.{holds_before_zone}
 use Rattle.humantime.proofs.Timestamps.Reading.Ends.{IsPlain, plain_bytes, zone_found, some_zone}
 
 letter_by_byte : (s : Separator) → (s ≡ Letter_T) ↔ (separator_byte s ≡ 84)
-letter_by_byte s = grind (arith, common_steps)
+letter_by_byte s = grind arith
 
 separator_by_byte : (bytes : List ℕ) (f : Fields) → IsWeak bytes f → (f.separator ≡ Letter_T) ↔ (slice_index bytes 10 ≡ 84)
 separator_by_byte bytes f w = rw w.shown (letter_by_byte f.separator)
@@ -31,4 +31,4 @@ strict_is_weak bytes f = (
 -- the check of the strict form
 pub strict_checked : (bytes : List ℕ) (f : Fields) → IsStrict bytes f ↔ ((has_marks bytes ≡ true) × IsWeak bytes f)
 unfolding has_marks
-strict_checked bytes f = grind (arith, common_steps, strict_is_weak)
+strict_checked bytes f = grind (arith, strict_is_weak)

@@ -1,5 +1,4 @@
 -- The laws of timestamps and days as theorems over plain variables, each under the name of its function in `laws`, and what callers cite beside them.
-use Rattle.std.proofs.lemmas.Grind.{common_steps}
 use Rattle.std.proofs.Common.{◌≡◌, ◌≤◌, ℕ, List, arith}
 use Rattle.std.specs.Prelude.{◌↔◌, ℤ, pos, negsuc, ◌≤ℤ◌, ◌<ℤ◌, Some, Ok, Err, IsTrue, IfSome}
 use Rattle.std.specs.Cmp.Lexicographic.{slice_cmp}
@@ -113,7 +112,7 @@ stamp_before a b k x y p q = rw (stamps_in_order a b k x y p q) (moment_before (
 pub stamps_between : (a b t : ℤ) (k : ℕ) (x y text : List ℕ) → IsPrinted a k x → IsPrinted b k y → IsPrinted t k text
     → (IsTrue (is_le (slice_cmp nat_cmp x text)) × IsTrue (is_lt (slice_cmp nat_cmp text y)))
     ↔ ((u : ℤ) × (strict_answer text ≡ Ok u) × (cut a k ≤ℤ u) × (u <ℤ cut b k))
-stamps_between a b t k x y text first second printed = grind (arith, common_steps, (printed_read t k text printed), (stamp_at_most a t k x text first printed), (stamp_before t b k text y printed second))
+stamps_between a b t k x y text first second printed = grind (arith, (printed_read t k text printed), (stamp_at_most a t k x text first printed), (stamp_before t b k text y printed second))
 
 -- the order of bytes for each number of digits that a printer gives; `using` one of them, a caller that compares texts is proved
 -- with no answer

@@ -14,7 +14,7 @@ power_more j = let power : 10 ^ suc j ≡ 10 ^ j * 10 = pow-suc 10 j in (omega a
 
 -- the first k of the last j digits, each with its weight, and what is left
 sum_of_digits : (k j n a : ℕ) → k ≤ j → add_digits a (10 ^ j / 10) (take k (last_digits j n)) + n % 10 ^ (j - k) ≡ a + n % 10 ^ j
-sum_of_digits zero j n a h = grind (arith, common_steps)
+sum_of_digits zero j n a h = grind arith
 sum_of_digits (suc k) zero n a h = absurd (omega arith)
 sum_of_digits (suc k) (suc j) n a h =
     let d = n / 10 ^ j % 10 in
@@ -33,7 +33,7 @@ abbrev pub cut_fraction : ℕ → ℕ → Option (List ℕ)
 cut_fraction n k = if k == 0 then None else Some (take k (last_digits 9 n))
 
 fraction_is : (k n : ℕ) → fraction_digits (cut_fraction n k) ≡ take k (last_digits 9 n)
-fraction_is k n = grind (arith, common_steps)
+fraction_is k n = grind arith
 
 pub shown_digits : (k n : ℕ) → AreDigits (fraction_digits (cut_fraction n k))
 shown_digits k n = rw (fraction_is k n) (last_are_digits k 9 n)

@@ -5,11 +5,13 @@ use Rattle.std.specs.Prelude.{min, codes, Option, Some, None, option_map, ◌==�
 use Rattle.std.specs.declared.cmp.Ordering.{Ordering}
 use Rattle.std.specs.Char.{digit_value}
 use Rattle.std.specs.Cmp.Lexicographic.{slice_cmp}
+use Rattle.std.specs.Int.{IsInRange}
 use Rattle.std.specs.Ordering.{nat_cmp, int_cmp, ordering_then}
 use Rattle.std.specs.Str.Parse.{digits_value_after}
 use Rattle.std.specs.FinMap.{slice_cmp-IsAntisymmetric, nat_cmp-IsAntisymmetric}
 use Rattle.std.proofs.lemmas.Bool.Decides.{nat_tests}
 use Rattle.std.proofs.lemmas.Int.{ints}
+use Rattle.std.proofs.lemmas.Str.{digit_value_digit}
 use Rattle.humantime.specs.declared.calendar.Date.{Date}
 use Rattle.humantime.specs.Calendar.{IsDate, day_of}
 use Rattle.humantime.specs.Timestamps.Fields.{Letter_T, Letter_Z, Fields, fields_text, fraction_text, fraction_nanos, moment_of, fraction_digits}
@@ -25,10 +27,19 @@ step_cmp : (m n x y : ℕ) (c o : Ordering) → (m < n → x < y) → (n < m →
 step_cmp m n x y c o less more same = grind (arith, nat_tests)
 
 below : (w m n x y : ℕ) → x < w → m < n → m * w + x < n * w + y
-below w m n x y h less = grind (arith, common_steps)
+below w m n x y h less = grind arith
 
 abbrev then_cmp : ℕ → ℕ → Ordering → Ordering
 then_cmp m n o = ordering_then (nat_cmp m n) o
+
+-- a number and one below w behind it, as one number
+pair_cmp : (w m n x y : ℕ) → x < w → y < w → then_cmp m n (nat_cmp x y) ≡ nat_cmp (m * w + x) (n * w + y)
+pair_cmp w m n x y h k = grind (arith, nat_tests, below w m n x y h, below w n m y x k)
+
+-- a digit behind a number
+digit_cmp : (m n x y : ℕ) (o : Ordering) → IsInRange 48 57 x → IsInRange 48 57 y
+    → then_cmp m n (then_cmp x y o) ≡ then_cmp (m * 10 + digit_value x) (n * 10 + digit_value y) o
+digit_cmp m n x y o h k = grind (arith, nat_tests, digit_value_digit x h, digit_value_digit y k)
 
 two_digits_cmp : (m n : ℕ) (o : Ordering) → then_cmp (48 + m / 10) (48 + n / 10) (then_cmp (48 + m % 10) (48 + n % 10) o) ≡ then_cmp m n o
 two_digits_cmp m n o = grind (arith, common_steps)
@@ -36,7 +47,7 @@ two_digits_cmp m n o = grind (arith, common_steps)
 four_digits_cmp : (m n : ℕ) (o : Ordering)
     → then_cmp (48 + m / 1000) (48 + n / 1000) (then_cmp (48 + m / 100 % 10) (48 + n / 100 % 10)
     (then_cmp (48 + m / 10 % 10) (48 + n / 10 % 10) (then_cmp (48 + m % 10) (48 + n % 10) o))) ≡ then_cmp m n o
-four_digits_cmp m n o = grind (arith, common_steps)
+four_digits_cmp m n o = grind (arith, nat_tests)
 
 after_cmp : (ds : List ℕ) (m n : ℕ) → nat_cmp m n ≡ nat_cmp (digits_value_after 10 m ds) (digits_value_after 10 n ds)
 after_cmp [] m n = refl
@@ -47,7 +58,7 @@ filled_cmp : (k : ℕ) (ds es zs ws : List ℕ) (m n : ℕ) → AreDigits ds →
     → ordering_then (nat_cmp m n) (slice_cmp nat_cmp (ds ++ ws) (es ++ ws))
     ≡ ordering_then (nat_cmp (digits_value_after 10 m (take k (ds ++ zs))) (digits_value_after 10 n (take k (es ++ zs)))) (slice_cmp nat_cmp ws ws)
 filled_cmp k [] [] zs ws m n d e long room = ap (λ (c : Ordering). ordering_then c (slice_cmp nat_cmp ws ws)) (after_cmp (take k zs) m n)
-filled_cmp (suc k) (x ∷ xs) (y ∷ ys) zs ws m n d e long room = grind (arith, common_steps, (filled_cmp k xs ys zs ws (m * 10 + digit_value x) (n * 10 + digit_value y) d.1 e.1 (omega arith) (omega arith)))
+filled_cmp (suc k) (x ∷ xs) (y ∷ ys) zs ws m n d e long room = digit_cmp m n x y _ d.0 e.0 ∙ filled_cmp k xs ys zs ws (m * 10 + digit_value x) (n * 10 + digit_value y) d.1 e.1 (omega arith) (omega arith)
 filled_cmp k ds es zs ws m n d e long room = absurd (omega arith)
 
 nanos_cmp : (ds es ws : List ℕ) → AreDigits ds → AreDigits es → length ds ≡ length es → length ds ≤ 9
@@ -59,7 +70,7 @@ fraction_cmp : (k : ℕ) (p q : Option (List ℕ)) → k ≤ 9
     → option_map length p ≡ (if k == 0 then None else Some k) → option_map length q ≡ (if k == 0 then None else Some k)
     → AreDigits (fraction_digits p) → AreDigits (fraction_digits q)
     → slice_cmp nat_cmp (fraction_text p ++ codes "Z") (fraction_text q ++ codes "Z") ≡ nat_cmp (fraction_nanos (fraction_digits p)) (fraction_nanos (fraction_digits q))
-fraction_cmp k p q h e f g i = grind (arith, common_steps, nanos_cmp)
+fraction_cmp k p q h e f g i = grind (arith, nanos_cmp)
 
 -- dates and their days
 day_cmp : (a b : Date) (o : Ordering) → IsDate a → IsDate b
@@ -92,7 +103,15 @@ pos_cmp m n = grind (arith, nat_tests)
 clock_cmp : (a h i s m b j k t n : ℕ) → h ≤ 23 → i ≤ 59 → s ≤ 59 → m < 1_000_000_000 → j ≤ 23 → k ≤ 59 → t ≤ 59 → n < 1_000_000_000
     → then_cmp a b (then_cmp h j (then_cmp i k (then_cmp s t (nat_cmp m n))))
     ≡ nat_cmp ((a * 86_400 + h * 3_600 + i * 60 + min s 59) * 1_000_000_000 + m) ((b * 86_400 + j * 3_600 + k * 60 + min t 59) * 1_000_000_000 + n)
-clock_cmp a h i s m b j k t n h23 i59 s59 m9 j23 k59 t59 n9 = grind (arith, common_steps, step_cmp, below)
+clock_cmp a h i s m b j k t n h23 i59 s59 m9 j23 k59 t59 n9 =
+    let same : (a h i s m : ℕ) → s ≤ 59 → a * 86_400_000_000_000 + (h * 3_600_000_000_000 + (i * 60_000_000_000 + (s * 1_000_000_000 + m)))
+    ≡ (a * 86_400 + h * 3_600 + i * 60 + min s 59) * 1_000_000_000 + m = λ a h i s m most. omega arith in
+    ap (then_cmp a b) (ap (then_cmp h j) (ap (then_cmp i k) (pair_cmp 1_000_000_000 s t m n m9 n9)
+    ∙ pair_cmp 60_000_000_000 i k (s * 1_000_000_000 + m) (t * 1_000_000_000 + n) (omega arith) (omega arith))
+    ∙ pair_cmp 3_600_000_000_000 h j (i * 60_000_000_000 + (s * 1_000_000_000 + m)) (k * 60_000_000_000 + (t * 1_000_000_000 + n)) (omega arith) (omega arith))
+    ∙ pair_cmp 86_400_000_000_000 a b (h * 3_600_000_000_000 + (i * 60_000_000_000 + (s * 1_000_000_000 + m)))
+    (j * 3_600_000_000_000 + (k * 60_000_000_000 + (t * 1_000_000_000 + n))) (omega arith) (omega arith)
+    ∙ (λ x. nat_cmp (same a h i s m s59 x) (same b j k t n t59 x))
 
 pub stamps_in_order : (a b : ℤ) → InOrder a b
 stamps_in_order a b k x y p q =

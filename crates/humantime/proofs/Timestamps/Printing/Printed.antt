@@ -23,10 +23,10 @@ use Rattle.humantime.proofs.Timestamps.Printing.Digits.{cut_fraction, shown_digi
 use Rattle.humantime.proofs.Timestamps.Printing.Order.{one_text}
 
 pub places_most : (p : Precision) → places p ≤ 9
-places_most p = grind (arith, common_steps)
+places_most p = grind arith
 
 pub places_of_bound : (t : ℤ) → places_of t ≤ 9
-places_of_bound t = grind (arith, common_steps)
+places_of_bound t = grind arith
 
 shown_moment : (t k time : ℕ) (date : Date) → k ≤ 9 → day_of date * 86_400 + time ≡ t / 1_000_000_000 → time < 86_400
     → moment_of (fields_shown date time (t % 1_000_000_000) k) ≡ t - t % 10 ^ (9 - k)
@@ -63,7 +63,7 @@ ascii_from bs h = grind (arith, common_steps)
 
 pub printed_ascii : (t : ℤ) (k : ℕ) (text : List ℕ) → IsPrinted t k text → IsAscii text
 printed_ascii t k text p =
-    grind (arith, common_steps, (holds_before_zone (λ c. c < 128) (grind (arith, common_steps)) text p.fields p.weak), ascii_from)
+    grind (arith, common_steps, (holds_before_zone (λ c. c < 128) (grind arith) text p.fields p.weak), ascii_from)
 
 -- a moment of 1970 to 9999 has a printed text, which is the one that is computed
 pub printed_some : (t : ℤ) (k : ℕ) → k ≤ 9 → IsPrintable t → (text : List ℕ) × (moment_text t k ≡ Some text) × IsPrinted t k text
@@ -78,7 +78,7 @@ printed_some (pos t) k small h =
 -- and no other has one
 printable_from_text : (t : ℤ) (k : ℕ) (text : List ℕ) → moment_text t k ≡ Some text → IsPrintable t
 unfolding moment_text
-printable_from_text t k text h = grind (arith, common_steps, ints)
+printable_from_text t k text h = grind (arith, ints)
 
 -- the text that `Display` names is the printed one
 pub text_displayed : (t : ℤ) (k : ℕ) (text : List ℕ) → k ≤ 9 → (moment_text t k ≡ Some text) ↔ (IsPrintable t × IsPrinted t k text)
@@ -92,7 +92,7 @@ printed_text_is x text h p = (text_displayed x.moment x.places text p.few).1 (h,
 
 -- a printed text reads back as the moment, cut
 pub printed_reads : (t : ℤ) (k : ℕ) (text : List ℕ) → IsPrinted t k text → ReadsAs text (cut t k)
-printed_reads t k text p = grind (arith, common_steps)
+printed_reads t k text p = grind arith
 
 pub one_printed : (t : ℤ) (k : ℕ) → k ≤ 9 → IsPrintable t → ExactlyOne (IsPrinted t k)
 one_printed t k small h =

@@ -1,5 +1,4 @@
 -- What holds of digits and signs holds of each byte of a timestamp.
-use Rattle.std.proofs.lemmas.Grind.{common_steps}
 use Rattle.std.proofs.Common.{ℕ, ◌≤◌, List, [], ◌∷◌, ◌++◌, arith}
 use Rattle.std.specs.Int.{IsInRange}
 use Rattle.std.specs.List.{AllByRecursion}
@@ -24,9 +23,9 @@ digits_hold P h (c ∷ cs) digits = (h.0 c digits.0, digits_hold P h cs digits.1
 
 pub holds_of_fraction : (P : ℕ → Type 0) → HoldsOfBytes P → (fraction : Option (List ℕ)) → IsTrue (all_ascii_digits (fraction_digits fraction))
     → AllByRecursion P (fraction_text fraction)
-holds_of_fraction P p fraction h = grind (arith, common_steps, digits_hold, digits_from_test)
+holds_of_fraction P p fraction h = grind (arith, digits_hold, digits_from_test)
 
 -- of all bytes before the zone
 pub holds_before_zone : (P : ℕ → Type 0) → HoldsOfBytes P → (text : List ℕ) (f : Fields) → IsWeak text f
     → AllByRecursion P (date_time_text f ++ fraction_text f.fraction)
-holds_before_zone P p text f w = grind (arith, common_steps, month_most, valid_from_test, digits_hold, digits_from_test)
+holds_before_zone P p text f w = grind (arith, month_most, valid_from_test, digits_hold, digits_from_test)

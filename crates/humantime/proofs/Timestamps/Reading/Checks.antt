@@ -1,5 +1,4 @@
 -- What the checks on a timestamp say, one by one.
-use Rattle.std.proofs.lemmas.Grind.{common_steps}
 use Rattle.std.proofs.Common.{◌≡◌, ℕ, ◌≤◌, List, [], ◌∷◌, length, get_or, drop, refl, arith}
 use Rattle.std.specs.Prelude.{true, slice_index, Option, Some, None, ◌==◌, if◌then◌else◌}
 use Rattle.std.specs.Str.{byte, all_ascii_digits}
@@ -13,7 +12,7 @@ use Rattle.humantime.specs.Timestamps.Checks.{has_two, has_separator, has_punctu
 pub all_passed : (bytes : List ℕ) → first_failed (weak_checks bytes) ≡ None
     → (19 ≤ length bytes) × (has_punctuation bytes ≡ true) × (has_digits bytes ≡ true) × (are_in_range (numbers_of bytes) ≡ true)
     × (has_point (fraction_part bytes) ≡ true) × (all_ascii_digits (drop 1 (fraction_part bytes)) ≡ true)
-all_passed bytes h = grind (arith, common_steps, nat_tests)
+all_passed bytes h = grind (arith, nat_tests)
 
 -- what stands between date and time
 abbrev pub separator_of : List ℕ → Separator
@@ -41,22 +40,22 @@ pub punctuation_from_test : (bytes : List ℕ) → has_punctuation bytes ≡ tru
     → (slice_index bytes 4 ≡ 45) × (slice_index bytes 7 ≡ 45) × (slice_index bytes 10 ≡ separator_byte (separator_of bytes))
     × (slice_index bytes 13 ≡ 58) × (slice_index bytes 16 ≡ 58)
 unfolding has_punctuation has_separator
-punctuation_from_test bytes h = grind (arith, common_steps)
+punctuation_from_test bytes h = grind arith
 
 -- the pairs of digits in their places
 pub pairs_from_test : (bytes : List ℕ) → has_digits bytes ≡ true
     → (has_two bytes 0 ≡ true) × (has_two bytes 2 ≡ true) × (has_two bytes 5 ≡ true) × (has_two bytes 8 ≡ true)
     × (has_two bytes 11 ≡ true) × (has_two bytes 14 ≡ true) × (has_two bytes 17 ≡ true)
 unfolding has_digits
-pairs_from_test bytes h = grind (arith, common_steps, and_parts)
+pairs_from_test bytes h = grind (arith, and_parts)
 
 -- what stands between the seconds and the zone
 pub part_shown : (part : List ℕ) → has_point part ≡ true → part ≡ fraction_text (fraction_of part)
 unfolding has_point
-part_shown part h = grind (arith, common_steps)
+part_shown part h = grind arith
 
 pub part_digits : (part : List ℕ) → fraction_digits (fraction_of part) ≡ drop 1 part
-part_digits part = grind (arith, common_steps)
+part_digits part = grind arith
 
 pub moment_of_fields : (bytes : List ℕ) → moment_of (fields_of bytes) ≡ moment_at bytes
 moment_of_fields bytes = rw (part_digits (fraction_part bytes)) refl

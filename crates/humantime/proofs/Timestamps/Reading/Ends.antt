@@ -1,6 +1,6 @@
 -- The zone at the end of a text.
 use Rattle.std.proofs.lemmas.Grind.{common_steps}
-use Rattle.std.proofs.Common.{◌≡◌, ◌≢◌, ℕ, ◌+◌, ◌-◌, ◌*◌, ◌<◌, ◌≤◌, List, [], ◌∷◌, ◌++◌, length, get_or, take, drop, sym, ap, ◌∙◌, append_assoc, Fits, w8, arith}
+use Rattle.std.proofs.Common.{◌≡◌, ◌≢◌, ℕ, ◌+◌, ◌-◌, ◌*◌, ◌<◌, ◌≤◌, List, [], ◌∷◌, ◌++◌, length, get_or, take, drop, sym, ap, ◌∙◌, append_assoc, Fits, w8, arith, rules}
 use Rattle.std.specs.Prelude.{true, false, ◌&&◌, ◌==◌, codes, nat_eq, nat_lt, slice_index}
 use Rattle.std.specs.List.{AllByRecursion, ends_with}
 use Rattle.std.specs.Str.{bytes_eq}
@@ -16,19 +16,19 @@ pub last_letter : (bytes : List ℕ) → 1 ≤ length bytes → (slice_index byt
 last_letter bytes some = grind (arith, common_steps)
 
 pub no_letter : (bytes : List ℕ) → length bytes < 1 → false ≡ ends_with nat_eq bytes (codes "Z")
-no_letter bytes short = grind (arith, common_steps)
+no_letter bytes short = grind arith
 
 pub last_offset : (bytes : List ℕ) → bytes_eq (take (length bytes - (length bytes - 6)) (drop (length bytes - 6) bytes)) (codes "+00:00") ≡ ends_with nat_eq bytes (codes "+00:00")
 last_offset bytes = grind (arith, common_steps)
 
 pub no_offset : (bytes : List ℕ) → length bytes < 6 → false ≡ ends_with nat_eq bytes (codes "+00:00")
-no_offset bytes short = grind (arith, common_steps)
+no_offset bytes short = grind arith
 
 -- ---- The zone that stands at the end
 
 pub some_zone : (bytes : List ℕ) → nat_lt 0 (length (zone_text (zone_of bytes))) ≡ ends_in_zone bytes
 unfolding zone_of
-some_zone bytes = grind (arith, common_steps)
+some_zone bytes = search rules
 
 pub zone_fits : (bytes : List ℕ) → length (zone_text (zone_of bytes)) ≤ length bytes
 unfolding zone_of
@@ -36,7 +36,7 @@ zone_fits bytes = grind (arith, common_steps)
 
 pub letter_alone : (bytes : List ℕ) → length bytes ≡ 1 → slice_index bytes 0 ≡ 90 → before_zone bytes ≡ []
 unfolding zone_of
-letter_alone bytes one letter = grind (arith, common_steps)
+letter_alone bytes one letter = grind arith
 
 zone_behind : (bytes : List ℕ) → drop (length bytes - length (zone_text (zone_of bytes))) bytes ≡ zone_text (zone_of bytes)
 unfolding zone_of
@@ -52,7 +52,7 @@ abbrev pub IsPlain : ℕ → Type 0
 IsPlain c = (c ≢ 43) × (c ≢ 90)
 
 pub plain_bytes : HoldsOfBytes IsPlain
-plain_bytes = grind (arith, common_steps)
+plain_bytes = grind arith
 
 -- an offset has no `Z` at its end
 offset_end : (xs : List ℕ) → ends_with nat_eq (xs ++ codes "+00:00") (codes "Z") ≡ true → ⊥

@@ -15,22 +15,22 @@ use Rattle.humantime.proofs.Timestamps.Reading.Fractions.{digits_from_test, nano
 
 pub exit_short : (bytes : List ℕ) → length bytes < 19 → weak_answer bytes ≡ Err InvalidFormat
 unfolding weak_answer
-exit_short bytes short = grind (arith, common_steps, nat_tests)
+exit_short bytes short = grind (arith, nat_tests)
 
 pub exit_separator : (bytes : List ℕ) → has_separator bytes ≡ false → weak_answer bytes ≡ Err InvalidFormat
 unfolding weak_answer has_punctuation
-exit_separator bytes other = grind (arith, common_steps, nat_tests)
+exit_separator bytes other = grind (arith, nat_tests)
 
 pub exit_digits : (bytes : List ℕ) → 19 ≤ length bytes → (has_punctuation bytes && has_digits bytes) ≡ false → has_punctuation bytes ≡ true → weak_answer bytes ≡ Err InvalidDigit
 unfolding weak_answer
-exit_digits bytes long other signs = grind (arith, common_steps, nat_tests)
+exit_digits bytes long other signs = grind (arith, nat_tests)
 
 pub exit_signs : (bytes : List ℕ) → 19 ≤ length bytes → has_punctuation bytes ≡ false → weak_answer bytes ≡ Err InvalidFormat
 unfolding weak_answer
-exit_signs bytes long other = grind (arith, common_steps, nat_tests)
+exit_signs bytes long other = grind (arith, nat_tests)
 
 pub fraction_bound : (part : List ℕ) (n : ℕ) → Ok n ≡ fraction_answer part → n < 1_000_000_000
-fraction_bound part n h = grind (arith, common_steps, nanos_bound, digits_from_test)
+fraction_bound part n h = grind (arith, nanos_bound, digits_from_test)
 
 pub exit_range : (bytes : List ℕ) → 19 ≤ length bytes → has_punctuation bytes ≡ true → has_digits bytes ≡ true → are_in_range (numbers_of bytes) ≡ false
     → weak_answer bytes ≡ Err OutOfRange
@@ -45,7 +45,7 @@ with_seconds seconds (Err e) = Err e
 exit_fraction : (bytes : List ℕ) → 19 ≤ length bytes → has_punctuation bytes ≡ true → has_digits bytes ≡ true → are_in_range (numbers_of bytes) ≡ true
     → let x = numbers_of bytes in weak_answer bytes ≡ with_seconds (seconds_of x.date x.hour x.minute x.second) (fraction_answer (fraction_part bytes))
 unfolding weak_answer
-exit_fraction bytes long signs digits range = rw (le-leb 19 (length bytes) long, signs, digits, range) (grind (arith, common_steps))
+exit_fraction bytes long signs digits range = rw (le-leb 19 (length bytes) long, signs, digits, range) (grind arith)
 
 -- with what was read
 pub exit_read : (bytes : List ℕ) (x : Numbers) (part : List ℕ) (fraction : Result ℕ TimestampError) → 19 ≤ length bytes

@@ -1,5 +1,4 @@
 -- The digits of a fraction, read one by one, are its nanoseconds.
-use Rattle.std.proofs.lemmas.Grind.{common_steps}
 use Rattle.std.proofs.Common.{◌≡◌, ℕ, zero, suc, ◌+◌, ◌-◌, ◌*◌, ◌/◌, ◌^◌, ◌<◌, ◌≤◌, List, [], ◌∷◌, ◌++◌, take, refl, ◌∙◌, arith}
 use Rattle.std.specs.Prelude.{true, ◌&&◌}
 use Rattle.std.specs.Char.{is_ascii_digit, digit_value}
@@ -24,7 +23,7 @@ is_digit_from_test c h = grind (arith, nat_tests)
 
 pub digits_from_test : (ds : List ℕ) → all_ascii_digits ds ≡ true → AreDigits ds
 digits_from_test [] h = tt
-digits_from_test (c ∷ cs) h = grind (arith, common_steps, is_digit_from_test, digits_from_test cs)
+digits_from_test (c ∷ cs) h = grind (arith, is_digit_from_test, digits_from_test cs)
 
 pub digits_from : (ds : List ℕ) → AreDigits ds → all_ascii_digits ds ≡ true
 digits_from [] d = refl
@@ -42,7 +41,7 @@ add_digits n u (c ∷ cs) = add_digits (n + u * (c - 48)) (u / 10) cs
 
 add_nothing : (n : ℕ) (ds : List ℕ) → add_digits n 0 ds ≡ n
 add_nothing n [] = refl
-add_nothing n (c ∷ cs) = grind (arith, common_steps, (add_nothing n cs))
+add_nothing n (c ∷ cs) = grind (arith, (add_nothing n cs))
 
 weights : (m d p q : ℕ) → q ≡ p * 10 → (m * 10 + d) * p ≡ m * q + q / 10 * d
 weights m d p q e = let tenth : q / 10 ≡ p = omega arith in rw (tenth, e) (grind arith)
@@ -60,13 +59,12 @@ zeros_read (suc k) (suc n) m h =
 
 -- the first k digits, filled with zeros
 filled : (k n m : ℕ) (ds : List ℕ) → AreDigits ds → k ≤ n → digits_value_after 10 m (take k (ds ++ zeros n)) ≡ add_digits (m * 10 ^ k) (10 ^ k / 10) ds
-filled zero n m ds digits h = grind (arith, common_steps, (add_nothing m ds))
+filled zero n m ds digits h = grind (arith, (add_nothing m ds))
 filled (suc k) n m [] digits h = zeros_read (suc k) n m h
 filled (suc k) n m (c ∷ cs) digits h =
     let value : digit_value c ≡ c - 48 = omega (arith, digit_value_digit c digits.0) in
-    let power : 10 ^ suc k ≡ 10 ^ k * 10 = pow-suc 10 k in
-    let tenth : 10 ^ k ≡ 10 ^ suc k / 10 = omega arith in
-    let first : (m * 10 + digit_value c) * 10 ^ k ≡ m * 10 ^ suc k + 10 ^ suc k / 10 * (c - 48) = rw value (weights m (c - 48) (10 ^ k) (10 ^ suc k) power) in
+    let tenth : 10 ^ k ≡ 10 ^ suc k / 10 = omega (arith, pow-suc 10 k) in
+    let first : (m * 10 + digit_value c) * 10 ^ k ≡ m * 10 ^ suc k + 10 ^ suc k / 10 * (c - 48) = rw value (weights m (c - 48) (10 ^ k) (10 ^ suc k) (pow-suc 10 k)) in
     filled k n (m * 10 + digit_value c) cs digits.1 (omega arith) ∙ (λ i. add_digits (first i) (tenth i / 10) cs)
 
 pub nanos_added : (ds : List ℕ) → AreDigits ds → fraction_nanos ds ≡ add_digits 0 100_000_000 ds

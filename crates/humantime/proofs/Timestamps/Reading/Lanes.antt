@@ -1,5 +1,4 @@
 -- Bytes and numbers that are tested at once are tested one by one.
-use Rattle.std.proofs.lemmas.Grind.{common_steps}
 use Rattle.std.proofs.Common.{◌≡◌, ℕ, ◌+◌, ◌-◌, ◌%◌, ◌^◌, ◌<◌, ◌≤◌, Bool, true, false, not, cond, eqb, leb, ltb, ◌&&◌, List, [], ◌∷◌, map, length, get_or, take, drop, Fits, w8, refl, ap, sym, ◌∙◌, arith}
 use Rattle.std.specs.Char.{is_ascii_digit}
 use Rattle.std.specs.List.{list_all}
@@ -84,7 +83,7 @@ most_back = 255 ∷ 255 ∷ 255 ∷ 255 ∷ 255 ∷ 255 ∷ 255 ∷ 255 ∷ 255 
 signs_first : (s t u v w a bytes c d e f g h i j k l : Bool)
     → ((a && (bytes && (c && (d && (s && (e && (f && (t && (g && (h && (true && (i && (j && (u && (k && (l && true)))))))))))))))) && (v && w))
     ≡ ((s && t && true && u && v) && ((a && bytes) && ((c && d) && ((e && f) && ((g && h) && ((i && j) && ((k && l) && (w && true))))))))
-signs_first s t u v w a bytes c d e f g h i j k l = grind (arith, common_steps)
+signs_first s t u v w a bytes c d e f g h i j k l = grind arith
 
 pub shape_of_parts : (bytes : List ℕ) → 19 ≤ length bytes → ((k : ℕ) → Fits w8 (get_or bytes k 0)) → has_separator bytes ≡ true
     → (are_near most bytes least && has_seconds bytes) ≡ (has_punctuation bytes && has_digits bytes)
@@ -93,13 +92,12 @@ shape_of_parts bytes long fits separator =
     let shown = λ (k : ℕ). is_ascii_digit (slice_index bytes k) in
     let digit = λ (k : ℕ). digit_near (get_or bytes k 0) (fits k).fits in
     let dash = λ (k : ℕ). dash_near (get_or bytes k 0) (fits k).fits in
-    let colon = λ (k : ℕ). colon_near (get_or bytes k 0) (fits k).fits in
     let near : are_near most bytes least ≡ _ =
     ap (λ (bytes : List ℕ). are_near most bytes least) (nineteen bytes long)
     ∙ (λ i. list_all (λ (x : Bool). x) (
     digit 0 i ∷ digit 1 i ∷ digit 2 i ∷ digit 3 i ∷ dash 4 i ∷ digit 5 i ∷ digit 6 i ∷ dash 7 i
     ∷ digit 8 i ∷ digit 9 i ∷ any_near (get_or bytes 10 0) 32 i ∷ digit 11 i ∷ digit 12 i
-    ∷ colon 13 i ∷ digit 14 i ∷ digit 15 i ∷ []
+    ∷ colon_near (get_or bytes 13 0) (fits 13).fits i ∷ digit 14 i ∷ digit 15 i ∷ []
     )) in
     rw (separator, near)
     (signs_first (slice_index bytes 4 == 45) (slice_index bytes 7 == 45) (slice_index bytes 13 == 58) (slice_index bytes 16 == 58) (has_two bytes 17)
@@ -116,4 +114,4 @@ seconds_of_lanes bytes long fits =
     ∷ any 11 48 i ∷ any 12 48 i ∷ any 13 58 i ∷ any 14 48 i ∷ any 15 48 i
     ∷ colon_near (get_or bytes 16 0) (fits 16).fits i ∷ digit 17 i ∷ digit 18 i ∷ []
     ))
-    ∙ grind (arith, common_steps)
+    ∙ grind arith

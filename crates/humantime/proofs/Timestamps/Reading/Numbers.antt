@@ -1,5 +1,4 @@
 -- The numbers of date and time, four to a vector.
-use Rattle.std.proofs.lemmas.Grind.{common_steps}
 use Rattle.std.proofs.Common.{◌≡◌, ℕ, ◌+◌, ◌-◌, ◌*◌, ◌≤◌, List, [], ◌∷◌, length, take, drop, sym, subst, arith}
 use Rattle.std.specs.Prelude.{true, slice_index}
 use Rattle.std.specs.Int.{IsInRange}
@@ -29,9 +28,7 @@ pair_from_test : (bytes : List ℕ) (k : ℕ) → k + 2 ≤ length bytes → has
 pair_from_test bytes k long h =
     let two = has_two_from_test bytes k h in
     let number = number_of_two bytes k long h in
-    let first : above (slice_index bytes k) 48 ≡ slice_index bytes k - 48 = digit_above _ two.0 in
-    let second : above (slice_index bytes (k + 1)) 48 ≡ slice_index bytes (k + 1) - 48 = digit_above _ two.1 in
-    rw (first, second) (omega arith, omega arith)
+    rw (digit_above (slice_index bytes k) two.0, digit_above (slice_index bytes (k + 1)) two.1) (omega arith, omega arith)
 
 -- what four digits show: a tenth, and the last one
 year_from_test : (bytes : List ℕ) → 4 ≤ length bytes → has_two bytes 0 ≡ true → has_two bytes 2 ≡ true
@@ -41,11 +38,8 @@ year_from_test bytes long century decade =
     let front = has_two_from_test bytes 0 century in
     let back = has_two_from_test bytes 2 decade in
     let number = number_of_four bytes long century decade in
-    let first : above (slice_index bytes 0) 48 ≡ slice_index bytes 0 - 48 = digit_above _ front.0 in
-    let second : above (slice_index bytes 1) 48 ≡ slice_index bytes 1 - 48 = digit_above _ front.1 in
-    let third : above (slice_index bytes 2) 48 ≡ slice_index bytes 2 - 48 = digit_above _ back.0 in
-    let fourth : above (slice_index bytes 3) 48 ≡ slice_index bytes 3 - 48 = digit_above _ back.1 in
-    rw (first, second, third, fourth) (omega arith, omega arith, omega arith)
+    rw (digit_above (slice_index bytes 0) front.0, digit_above (slice_index bytes 1) front.1, digit_above (slice_index bytes 2) back.0, digit_above (slice_index bytes 3) back.1)
+    (omega arith, omega arith, omega arith)
 
 -- four numbers by their places
 abbrev places_of : List ℕ → Lanes
@@ -58,12 +52,12 @@ places_of bytes = record {
 }
 
 lanes_placed : (bytes : List ℕ) → 19 ≤ length bytes → lanes_of bytes ≡ places_of bytes
-lanes_placed (b0 ∷ b1 ∷ b2 ∷ b3 ∷ b4 ∷ b5 ∷ b6 ∷ b7 ∷ b8 ∷ b9 ∷ b10 ∷ b11 ∷ b12 ∷ b13 ∷ b14 ∷ b15 ∷ b16 ∷ b17 ∷ b18 ∷ r) long = grind (arith, common_steps)
+lanes_placed (b0 ∷ b1 ∷ b2 ∷ b3 ∷ b4 ∷ b5 ∷ b6 ∷ b7 ∷ b8 ∷ b9 ∷ b10 ∷ b11 ∷ b12 ∷ b13 ∷ b14 ∷ b15 ∷ b16 ∷ b17 ∷ b18 ∷ r) long = grind arith
 lanes_placed _ h = absurd (omega arith)
 
 all_of_four : (a b c d : ℕ) → a ≤ 999 → b ≤ 999 → c ≤ 999 → d ≤ 999
     → (length (a ∷ b ∷ c ∷ d ∷ []) ≡ 4) × ((k : ℕ) → slice_index (a ∷ b ∷ c ∷ d ∷ []) k ≤ 999)
-all_of_four a b c d ha hb hc hd = grind (arith, common_steps)
+all_of_four a b c d ha hb hc hd = grind arith
 
 pub numbers_shown : (bytes : List ℕ) → 19 ≤ length bytes → has_digits bytes ≡ true
     → (numbers_in (lanes_of bytes) ≡ numbers_of bytes) × AreShort (lanes_of bytes)

@@ -1,8 +1,8 @@
 -- A text that shows parts passes the checks, and the parts at its places are these.
-use Rattle.std.proofs.lemmas.Grind.{common_steps}
 use Rattle.std.proofs.Common.{◌≡◌, ℕ, ◌+◌, ◌/◌, ◌%◌, ◌≤◌, List, length, drop, refl, arith}
 use Rattle.std.specs.Prelude.{true, slice_index, Option, None}
 use Rattle.std.proofs.lemmas.Bool.{le-leb}
+use Rattle.std.proofs.lemmas.Bool.Decides.{nat_tests}
 use Rattle.humantime.specs.Timestamps.Fields.{Fields, fraction_text, fraction_digits, fields_text, IsWeak}
 use Rattle.humantime.specs.Timestamps.Checks.{has_two, has_digits, number_between, numbers_of, has_separator, has_punctuation, are_in_range, fraction_part, has_point, weak_checks, first_failed}
 use Rattle.humantime.proofs.Dates.Years.{valid_from_test}
@@ -15,23 +15,23 @@ use Rattle.humantime.proofs.Timestamps.Reading.Places.{number_of_two, number_of_
 two_back : (bytes : List ℕ) (k n : ℕ) → k + 2 ≤ length bytes → slice_index bytes k ≡ 48 + n / 10 → slice_index bytes (k + 1) ≡ 48 + n % 10 → n ≤ 99
     → (has_two bytes k ≡ true) × (number_between bytes k (k + 2) ≡ n)
 unfolding has_two
-two_back bytes k n long first second h = grind (arith, common_steps, number_of_two)
+two_back bytes k n long first second h = grind (arith, number_of_two)
 
 year_back : (bytes : List ℕ) (n : ℕ) → 4 ≤ length bytes → n ≤ 9999
     → slice_index bytes 0 ≡ 48 + n / 1000 → slice_index bytes 1 ≡ 48 + n / 100 % 10 → slice_index bytes 2 ≡ 48 + n / 10 % 10 → slice_index bytes 3 ≡ 48 + n % 10
     → (has_two bytes 0 ≡ true) × (has_two bytes 2 ≡ true) × (number_between bytes 0 4 ≡ n)
 unfolding has_two
-year_back bytes n long h first second third fourth = grind (arith, common_steps, number_of_four)
+year_back bytes n long h first second third fourth = grind (arith, nat_tests, number_of_four)
 
 -- what stands between the seconds and the zone
 ending : (fraction : Option (List ℕ)) → (has_point (fraction_text fraction) ≡ true)
     × (drop 1 (fraction_text fraction) ≡ fraction_digits fraction) × (fraction_of (fraction_text fraction) ≡ fraction)
 unfolding has_point
-ending fraction = grind (arith, common_steps)
+ending fraction = grind arith
 
 separator_back : (f : Fields) → (has_punctuation (fields_text f) ≡ true) × (separator_of (fields_text f) ≡ f.separator)
 unfolding has_punctuation has_separator
-separator_back f = grind (arith, common_steps)
+separator_back f = grind arith
 
 written_passes : (f : Fields) → IsWeak (fields_text f) f
     → (first_failed (weak_checks (fields_text f)) ≡ None) × (f ≡ fields_of (fields_text f))
@@ -39,11 +39,10 @@ unfolding are_in_range has_digits
 written_passes f w =
     let bytes = fields_text f in
     let long : 19 ≤ length bytes = omega arith in
-    let most = month_most f.date.year f.date.month in
     let within = valid_from_test f.date.year f.date.month f.date.day w.date in
     let year = year_back bytes f.date.year (omega (arith, long)) within.0.1 refl refl refl refl in
     let month = two_back bytes 5 f.date.month (omega (arith, long)) refl refl (omega (arith, within.1.1)) in
-    let day = two_back bytes 8 f.date.day (omega (arith, long)) refl refl (omega (arith, within.2.1, most)) in
+    let day = two_back bytes 8 f.date.day (omega (arith, long)) refl refl (omega (arith, within.2.1, month_most f.date.year f.date.month)) in
     let hour = two_back bytes 11 f.hour (omega (arith, long)) refl refl (omega (arith, w.hour)) in
     let minute = two_back bytes 14 f.minute (omega (arith, long)) refl refl (omega (arith, w.minute)) in
     let second = two_back bytes 17 f.second (omega (arith, long)) refl refl (omega (arith, w.second)) in

@@ -1,6 +1,5 @@
 -- Numbers at their places: what digits show, and when date and time are in range.
-use Rattle.std.proofs.lemmas.Grind.{common_steps}
-use Rattle.std.proofs.Common.{◌≡◌, ℕ, suc, ◌+◌, ◌-◌, ◌*◌, ◌<◌, ◌≤◌, List, [], ◌∷◌, length, refl, add-one, arith}
+use Rattle.std.proofs.Common.{◌≡◌, ℕ, suc, ◌+◌, ◌-◌, ◌*◌, ◌<◌, ◌≤◌, List, [], ◌∷◌, length, refl, add-one, arith, rules}
 use Rattle.std.specs.Prelude.{◌↔◌, Bool, true, IsTrue, ◌&&◌, nat_le, slice_index, slice_range}
 use Rattle.std.specs.Int.{IsInRange}
 use Rattle.std.proofs.Math.Seq.{drop-cons}
@@ -12,7 +11,7 @@ use Rattle.humantime.proofs.Timestamps.Reading.Fractions.{is_digit_from_test}
 -- the two digits at place k
 pub has_two_from_test : (bytes : List ℕ) (k : ℕ) → has_two bytes k ≡ true → IsInRange 48 57 (slice_index bytes k) × IsInRange 48 57 (slice_index bytes (k + 1))
 unfolding has_two
-has_two_from_test bytes k h = grind (arith, common_steps, is_digit_from_test)
+has_two_from_test bytes k h = grind (arith, is_digit_from_test)
 
 -- the bytes from one place on, one after the other
 pub next_byte : (bytes : List ℕ) (k to : ℕ) → k < to → to ≤ length bytes → slice_range bytes k to ≡ slice_index bytes k ∷ slice_range bytes (k + 1) to
@@ -30,14 +29,14 @@ pub number_of_two : (bytes : List ℕ) (k : ℕ) → k + 2 ≤ length bytes → 
     → number_between bytes k (k + 2) ≡ (slice_index bytes k - 48) * 10 + (slice_index bytes (k + 1) - 48)
 unfolding number_between
 number_of_two bytes k long h =
-    rw (last_two bytes k (k + 2) refl long) (grind (arith, common_steps, has_two_from_test, digit_value_digit))
+    rw (last_two bytes k (k + 2) refl long) (grind (arith, has_two_from_test, digit_value_digit))
 
 pub number_of_four : (bytes : List ℕ) → 4 ≤ length bytes → has_two bytes 0 ≡ true → has_two bytes 2 ≡ true
     → number_between bytes 0 4 ≡ (slice_index bytes 0 - 48) * 1000 + (slice_index bytes 1 - 48) * 100 + (slice_index bytes 2 - 48) * 10 + (slice_index bytes 3 - 48)
 unfolding number_between
 number_of_four bytes long century decade =
     rw (next_byte bytes 0 4 (omega arith) long, next_byte bytes 1 4 (omega arith) long, last_two bytes 2 4 refl long)
-    (grind (arith, common_steps, has_two_from_test, digit_value_digit))
+    (search (rules, has_two_from_test, digit_value_digit))
 
 -- the tests of a date and a time of day
 pub bounds : (date : Bool) (h i s : ℕ)

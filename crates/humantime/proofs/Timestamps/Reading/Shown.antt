@@ -1,6 +1,5 @@
 -- A text that fails no check shows the parts at its places.
-use Rattle.std.proofs.lemmas.Grind.{common_steps}
-use Rattle.std.proofs.Common.{◌≡◌, ℕ, ◌+◌, ◌/◌, ◌%◌, ◌≤◌, List, ◌∷◌, ◌++◌, length, drop, ap, ◌∙◌, arith}
+use Rattle.std.proofs.Common.{◌≡◌, ℕ, ◌+◌, ◌/◌, ◌%◌, ◌≤◌, List, ◌∷◌, ◌++◌, length, drop, ap, ◌∙◌, arith, rules}
 use Rattle.std.specs.Prelude.{true, slice_index, None}
 use Rattle.humantime.specs.Timestamps.Fields.{fraction_text, zone_text, fields_text, IsWeak}
 use Rattle.humantime.specs.Timestamps.Checks.{has_two, zone_of, number_between, are_in_range, fraction_part, weak_checks, first_failed}
@@ -10,17 +9,16 @@ use Rattle.humantime.proofs.Timestamps.Reading.Places.{has_two_from_test, number
 
 pair_shown : (bytes : List ℕ) (k : ℕ) → k + 2 ≤ length bytes → has_two bytes k ≡ true
     → (slice_index bytes k ≡ 48 + number_between bytes k (k + 2) / 10) × (slice_index bytes (k + 1) ≡ 48 + number_between bytes k (k + 2) % 10)
-pair_shown bytes k long h = grind (arith, common_steps, has_two_from_test, number_of_two)
+pair_shown bytes k long h = grind (arith, has_two_from_test, number_of_two)
 
 year_shown : (bytes : List ℕ) → 4 ≤ length bytes → has_two bytes 0 ≡ true → has_two bytes 2 ≡ true
     → (slice_index bytes 0 ≡ 48 + number_between bytes 0 4 / 1000) × (slice_index bytes 1 ≡ 48 + number_between bytes 0 4 / 100 % 10)
     × (slice_index bytes 2 ≡ 48 + number_between bytes 0 4 / 10 % 10) × (slice_index bytes 3 ≡ 48 + number_between bytes 0 4 % 10)
-year_shown bytes long century decade = grind (arith, common_steps, has_two_from_test, number_of_four)
+year_shown bytes long century decade = search (rules, has_two_from_test, number_of_four)
 
 written_shown : (bytes : List ℕ) → first_failed (weak_checks bytes) ≡ None → bytes ≡ fields_text (fields_of bytes)
 written_shown bytes passed =
     let p = all_passed bytes passed in
-    let long = p.0 in
     let signs = punctuation_from_test bytes p.1 in
     let pairs = pairs_from_test bytes p.2 in
     let year = year_shown bytes (omega arith) pairs.0 pairs.1 in
@@ -31,7 +29,7 @@ written_shown bytes passed =
     let second = pair_shown bytes 17 (omega arith) pairs.6 in
     let end : drop 19 bytes ≡ fraction_text (fraction_of (fraction_part bytes)) ++ zone_text (zone_of (drop 19 bytes)) =
     zone_shown (drop 19 bytes) ∙ ap (λ (part : List ℕ). part ++ zone_text (zone_of (drop 19 bytes))) (part_shown (fraction_part bytes) p.4) in
-    nineteen bytes long
+    nineteen bytes p.0
     ∙ (λ i. year.0 i ∷ year.1 i ∷ year.2 i ∷ year.3 i
     ∷ signs.0 i ∷ month.0 i ∷ month.1 i ∷ signs.1 i ∷ day.0 i ∷ day.1 i ∷ signs.2 i
     ∷ hour.0 i ∷ hour.1 i ∷ signs.3 i ∷ minute.0 i ∷ minute.1 i ∷ signs.4 i ∷ second.0 i ∷ second.1 i ∷ end i)

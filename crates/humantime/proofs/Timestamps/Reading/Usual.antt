@@ -97,9 +97,5 @@ pub month_summed : (front back : List ℕ) → let l : Lanes = record { front = 
 month_summed (a ∷ m ∷ d ∷ i ∷ []) (e ∷ z ∷ h ∷ s ∷ []) short range =
     let x : Numbers = numbers_in (record { front = a ∷ m ∷ d ∷ i ∷ []; back = e ∷ z ∷ h ∷ s ∷ [] }) in
     let within = within_from_test x range in
-    let day : IsInRange 1 31 d = within.2 in
-    let hour : h ≤ 23 = within.3 in
-    let minute : i ≤ 59 = within.4 in
-    let second : s ≤ 60 = within.5 in
-    sum_from_test a m d i e z h s day minute hour second
+    sum_from_test a m d i e z h s within.2 within.4 within.3 within.5
 month_summed _ _ short range = absurd (omega (arith, short.0.0, short.1.0))

@@ -30,6 +30,7 @@ fn is_mu(first: u8, second: u8) -> bool
 /// answers a number alone.
 #[cold]
 #[inline(never)]
+#[tactic(auto, using(crate::proofs::Durations::Bytes::PlaceSteps::none_width))]
 fn non_ascii_whitespace_len(text: &str) -> usize
     ensures { result ≡ whitespace_len (chars text.now) }
 {
@@ -207,6 +208,7 @@ pub(crate) struct Word<'a> {
 /// The place after the letters at the front of the text, and the key of the bytes before it, where they are few. The key of more
 /// than seven bytes wraps around, and says nothing.
 #[inline(always)]
+#[tactic(auto, using(crate::proofs::Durations::Bytes::Tails::no_chars_at))]
 fn letters_end(text: &str) -> (usize, u64)
     ensures place { IsCharBoundary text.now result.0 }
     ensures rest { chars (drop result.0 text.now) ≡ drop_while is_letter (chars text.now) }

@@ -13,6 +13,5 @@ returns-then-after-eq15 c =
 
 pub returns-else-after-eq15 : goal.returns-else-after-eq15
 returns-else-after-eq15 c =
-    let within = none_beyond_within c.args.lanes.front c.args.lanes.back c.requires in
     let front = none_beyond w32 (802 ∷ 11 ∷ 30 ∷ 59 ∷ []) (after c.args.lanes.front) (length-after c.args.lanes.front c.requires.0.0) (omega arith) in
-    (λ low. absurd (c.if-after-eq15.false (eqb-true _ 15 low)), λ x. front ∙ (within.1 x).0)
+    (λ low. absurd (c.if-after-eq15.false (eqb-true _ 15 low)), λ x. front ∙ ((none_beyond_within c.args.lanes.front c.args.lanes.back c.requires).1 x).0)

@@ -5,6 +5,5 @@ use Rattle.humantime.proofs.date.parse.matches_layout_front.Goals as goal
 
 pub returns : goal.returns
 returns c =
-    let long = length-above c.args.bytes.now least (omega (arith, c.requires.long)) in
-    rw (none_beyond w8 most (zip2 above (take 16 c.args.bytes.now) least) long (omega arith))
+    rw (none_beyond w8 most (zip2 above (take 16 c.args.bytes.now) least) (length-above c.args.bytes.now least (omega (arith, c.requires.long))) (omega arith))
     (shape_of_parts c.args.bytes.now c.requires.long c.type_inv.bytes c.requires.separator)

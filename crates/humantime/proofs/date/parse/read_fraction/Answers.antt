@@ -1,4 +1,3 @@
-use Rattle.std.proofs.lemmas.Grind.{common_steps}
 use Rattle.std.proofs.Common.{arith}
 use Rattle.humantime.specs.Timestamps.Checks.{has_point}
 use Rattle.humantime.proofs.Timestamps.Reading.Threes.{fraction_shown}
@@ -6,12 +5,12 @@ use Rattle.humantime.proofs.date.parse.read_fraction.Goals as goal
 
 pub returns-in_default : goal.returns-in_default
 unfolding has_point
-returns-in_default c = grind (arith, common_steps, (fraction_shown c.args.bytes.now c.args.part.now c.min-end.result c.requires))
+returns-in_default c = grind (arith, (fraction_shown c.args.bytes.now c.args.part.now c.min-end.result c.requires))
 
 pub returns-in_default-2 : goal.returns-in_default-2
 unfolding has_point
-returns-in_default-2 c = grind (arith, common_steps, (fraction_shown c.args.bytes.now c.args.part.now c.min-end.result c.requires))
+returns-in_default-2 c = grind (arith, (fraction_shown c.args.bytes.now c.args.part.now c.min-end.result c.requires))
 
 pub returns-in-Some : goal.returns-in-Some
 unfolding has_point
-returns-in-Some c = grind (arith, common_steps, (fraction_shown c.args.bytes.now c.args.part.now c.min-end.result c.requires))
+returns-in-Some c = grind (arith, (fraction_shown c.args.bytes.now c.args.part.now c.min-end.result c.requires))

@@ -1,6 +1,6 @@
+use Rattle.std.proofs.lemmas.Grind.{common_steps}
 use Rattle.std.proofs.Common.{true, arith, refl}
 use Rattle.std.proofs.Output.{has_written_styled_append, has_written_styled_of_eq}
-use Rattle.std.proofs.lemmas.Grind.{common_steps}
 use Rattle.humantime.proofs.duration.error.write_unit_needed.Goals as goal
 
 pub returns-clause-styled : goal.returns-clause-styled

@@ -1,10 +1,9 @@
 use Rattle.std.proofs.Common.{arith, rules, refl}
-use Rattle.std.proofs.lemmas.Grind.{common_steps}
 use Rattle.humantime.proofs.Timestamps.Printing.Printed.{printed_text_is}
 use Rattle.humantime.proofs.date.print.Rfc3339TimestampDisplay.fmt.Goals as goal
 
 pub returns-clause-writes : goal.returns-clause-writes
-returns-clause-writes g c = grind (arith, common_steps, printed_text_is)
+returns-clause-writes g c = grind (arith, printed_text_is)
 
 pub returns-clause-styled : goal.returns-clause-styled
 returns-clause-styled g c =

@@ -1,5 +1,4 @@
 use Rattle.std.proofs.Common.{◌∙◌, ap, arith, chars}
-use Rattle.std.proofs.lemmas.Grind.{common_steps}
 use Rattle.humantime.specs.References.Durations.TextViews.{sum_items, spelled}
 use Rattle.humantime.specs.References.Durations.SpanViews.{span_view}
 use Rattle.humantime.specs.References.Durations.Reading.{sum_spans}
@@ -15,22 +14,22 @@ loop-item-init c = record {
 
 pub returns-in-Err-clause-value : goal.returns-in-Err-clause-value
 unfolding sum_spans
-returns-in-Err-clause-value c = grind (arith, common_steps)
+returns-in-Err-clause-value c = grind arith
 
 pub loop-item-preserved : goal.loop-item-preserved
 unfolding sum_spans
 loop-item-preserved c =
     let x = span_view c.in-Ok.span in
     let a = c.in-Some-add_amount.ensures (spelled x.number x.fraction x.unit) c.in-Ok.span.read in
-    record { so_far = grind (arith, common_steps); text = c.next.ensures.steps.1 ∙ c.loop-item.invariant.text }
+    record { so_far = grind arith; text = c.next.ensures.steps.1 ∙ c.loop-item.invariant.text }
 
 pub returns-in-None-clause-value : goal.returns-in-None-clause-value
 unfolding sum_spans
 returns-in-None-clause-value c =
     let x = span_view c.in-Ok.span in
     let a = c.in-None.ensures (spelled x.number x.fraction x.unit) c.in-Ok.span.read in
-    grind (arith, common_steps)
+    grind arith
 
 pub returns-clause-value : goal.returns-clause-value
 unfolding sum_spans
-returns-clause-value c = grind (arith, common_steps)
+returns-clause-value c = grind arith

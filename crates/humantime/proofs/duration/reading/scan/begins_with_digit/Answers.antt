@@ -1,5 +1,4 @@
 use Rattle.std.proofs.Common.{arith}
-use Rattle.std.proofs.lemmas.Grind.{common_steps}
 use Rattle.std.proofs.lemmas.Str.{IsCharBoundary-start}
 use Rattle.humantime.proofs.Durations.Bytes.PlaceSteps.{digit_at}
 use Rattle.humantime.proofs.Durations.Bytes.Tails.{no_bytes}
@@ -8,7 +7,7 @@ use Rattle.humantime.proofs.duration.reading.scan.begins_with_digit.Goals as goa
 pub returns-then-not-is_empty : goal.returns-then-not-is_empty
 returns-then-not-is_empty c =
     let place = IsCharBoundary-start c.args.text.now c.utf8.text in
-    rw (c.is_ascii_digit.ensures.value, c.as_bytes-bytes.ensures.value) (digit_at c.args.text.now 0 c.utf8.text (grind (arith, common_steps), place))
+    rw (c.is_ascii_digit.ensures.value, c.as_bytes-bytes.ensures.value) (digit_at c.args.text.now 0 c.utf8.text (grind arith, place))
 
 pub returns-else-not-is_empty : goal.returns-else-not-is_empty
-returns-else-not-is_empty c = grind (arith, common_steps, no_bytes)
+returns-else-not-is_empty c = grind (arith, no_bytes)

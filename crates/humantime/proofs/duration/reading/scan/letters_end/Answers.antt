@@ -1,9 +1,7 @@
 use Rattle.std.proofs.Common.{◌≡◌, ◌<◌, ◌+◌, ◌*◌, ◌%◌, ◌^◌, ℕ, List, length, get_or, refl, sym, ap, chars, drop, subst, ◌∙◌, arith}
-use Rattle.std.proofs.lemmas.Grind.{common_steps}
 use Rattle.std.proofs.lemmas.Str.{IsCharBoundary-start}
 use Rattle.humantime.specs.Durations.Characters.{is_letter}
 use Rattle.humantime.proofs.Durations.Bytes.PlaceSteps.{letter_over, mu_over, no_letter, ends_there}
-use Rattle.humantime.proofs.Durations.Bytes.Tails.{no_chars_at}
 use Rattle.humantime.proofs.Durations.Bytes.WordKeys.{IsSoFar, key_more}
 use Rattle.humantime.proofs.duration.reading.scan.letters_end.Goals as goal
 use Rattle.humantime.proofs.duration.reading.scan.letters_end.Goals.{else-bytes-at-ge128-via-then-bytes-at-ge128+then-at-bytes+else-is_mu, else-bytes-at-ge128-via-then-bytes-at-ge128+else-at-bytes, else-bytes-at-ge128-via-else-bytes-at-ge128}
@@ -56,6 +54,3 @@ returns-else-bytes-at-ge128-clause-rest c =
       | else-bytes-at-ge128-via-then-bytes-at-ge128+else-at-bytes w ↦ λ two. absurd (omega (arith, two, w.if-at-bytes.false, c.as_bytes-bytes.ensures.len))
       | else-bytes-at-ge128-via-else-bytes-at-ge128 w ↦ absurd (omega (arith, wide, rw c.as_bytes-bytes.ensures.value at w.if-bytes-at-ge128.false))
     ])) ∙ c.loop-at.invariant.same
-
-pub returns-after-loop-at-clause-rest : goal.returns-after-loop-at-clause-rest
-returns-after-loop-at-clause-rest c = grind (arith, common_steps, no_chars_at)

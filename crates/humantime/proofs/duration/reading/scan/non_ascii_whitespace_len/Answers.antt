@@ -1,17 +1,11 @@
-use Rattle.std.proofs.Common.{arith, chars, ◌∙◌, sym, true, false}
-use Rattle.std.proofs.lemmas.Grind.{common_steps}
-use Rattle.humantime.proofs.Durations.Bytes.PlaceSteps.{first_width, none_width}
+use Rattle.std.proofs.Common.{chars, ◌∙◌, sym, true, false}
+use Rattle.humantime.proofs.Durations.Bytes.PlaceSteps.{first_width}
 use Rattle.humantime.proofs.duration.reading.scan.non_ascii_whitespace_len.Goals as goal
 
 pub returns-in-Some : goal.returns-in-Some
 returns-in-Some c =
-    let e = rw c.chars.ensures.rest at c.in-Some.ensures.steps in
-    c.len_utf8.ensures.value ∙ first_width _ c.in-Some.c true e.2 (sym c.if-is_whitespace.true ∙ c.is_whitespace.ensures)
+    c.len_utf8.ensures.value ∙ first_width _ c.in-Some.c true (rw c.chars.ensures.rest at c.in-Some.ensures.steps).2 (sym c.if-is_whitespace.true ∙ c.is_whitespace.ensures)
 
 pub returns-in-Some-2 : goal.returns-in-Some-2
 returns-in-Some-2 c =
-    let e = rw c.chars.ensures.rest at c.in-Some.ensures.steps in
-    first_width (chars c.args.text.now) c.in-Some.c false e.2 (sym c.if-is_whitespace.false ∙ c.is_whitespace.ensures)
-
-pub returns-in-Some-2-2 : goal.returns-in-Some-2-2
-returns-in-Some-2-2 c = grind (arith, common_steps, none_width)
+    first_width (chars c.args.text.now) c.in-Some.c false (rw c.chars.ensures.rest at c.in-Some.ensures.steps).2 (sym c.if-is_whitespace.false ∙ c.is_whitespace.ensures)

@@ -1,4 +1,3 @@
-use Rattle.std.proofs.lemmas.Grind.{common_steps}
 use Rattle.std.proofs.Common.{◌≡◌, ◌+◌, ◌++◌, ◌∷◌, [], get_or, sym, ap, ◌∙◌, chars, take, drop, false, arith, length-append, append_assoc}
 use Rattle.humantime.specs.Texts.{begins}
 use Rattle.humantime.specs.Durations.Characters.{is_numeric}
@@ -14,7 +13,7 @@ pub loop-at-init : goal.loop-at-init
 loop-at-init c = record { taken = []; read = none_read _ c.utf8.text; digits = no_digits; few = omega arith }
 
 pub push-requires-clause-digit : goal.push-requires-clause-digit
-push-requires-clause-digit c = grind (arith, common_steps, digit_is)
+push-requires-clause-digit c = grind (arith, digit_is)
 
 pub push-requires-clause-digits : goal.push-requires-clause-digits
 push-requires-clause-digits c = (c.loop-at.invariant.taken, c.loop-at.invariant.digits)
@@ -25,10 +24,9 @@ push-requires-clause-room c = omega (arith, c.loop-at.invariant.digits.all, c.lo
 pub loop-at-preserved-then-is_ascii_digit : goal.loop-at-preserved-then-is_ascii_digit
 loop-at-preserved-then-is_ascii_digit c =
     let i = c.loop-at.invariant in
-    let digit = sym c.is_ascii_digit.ensures.value ∙ c.if-is_ascii_digit.true in
     record {
       taken = i.taken ++ get_or c.as_bytes-bytes.result.now c.loop-at.at 0 ∷ [];
-      read = read_digit _ _ _ _ c.utf8.text c.as_bytes-bytes.ensures.value c.loop-at-test.true i.read digit;
+      read = read_digit _ _ _ _ c.utf8.text c.as_bytes-bytes.ensures.value c.loop-at-test.true i.read (sym c.is_ascii_digit.ensures.value ∙ c.if-is_ascii_digit.true);
       digits = c.in_ok-fraction.ensures i.taken i.digits;
       few = omega (arith, length-append i.taken (get_or c.as_bytes-bytes.result.now c.loop-at.at 0 ∷ []), i.few);
     }
@@ -42,8 +40,7 @@ loop-at-preserved c =
 pub returns-in_err-fraction-clause-value : goal.returns-in_err-fraction-clause-value
 returns-in_err-fraction-clause-value c =
     let i = c.loop-at.invariant in
-    let digit = sym c.is_ascii_digit.ensures.value ∙ c.if-is_ascii_digit.true in
-    let read = read_digit _ _ _ _ c.utf8.text c.as_bytes-bytes.ensures.value c.loop-at-test.true i.read digit in
+    let read = read_digit _ _ _ _ c.utf8.text c.as_bytes-bytes.ensures.value c.loop-at-test.true i.read (sym c.is_ascii_digit.ensures.value ∙ c.if-is_ascii_digit.true) in
     let over = c.in_err-fraction.ensures i.taken i.digits (number_of (chars (drop (c.loop-at.at + 1) c.args.text.now))) in
     rw c.from_residual.ensures (digits_pass _ _ (read.all ∙ append_assoc i.taken _ _) over)
 
@@ -56,5 +53,8 @@ returns-clause-value c =
           stops_here _ _ _ c.utf8.text c.as_bytes-bytes.ensures.value w.loop-at-test.true i.read.place
           (sym w.is_ascii_digit.ensures.value ∙ w.if-is_ascii_digit.false) w.in-None.ensures
     ] in
-    let front : c.range.result.now ≡ take c.loop-at.at c.args.text.now = grind (arith, common_steps) in
+    let front : c.range.result.now ≡ take c.loop-at.at c.args.text.now = grind arith in
     rw (front, c.range_from.ensures.value) (digits_end c.loop-at.fraction _ _ _ _ i.digits (all_read _ _ _ c.utf8.text i.read ended))
+
+pub returns-clause-tail : goal.returns-clause-tail
+returns-clause-tail c = grind arith

@@ -1,4 +1,3 @@
-use Rattle.std.proofs.lemmas.Grind.{common_steps}
 use Rattle.std.proofs.Common.{◌≡◌, ◌∷◌, [], get_or, sym, ap, ◌∙◌, chars, take, drop, false, arith}
 use Rattle.humantime.specs.Texts.{begins}
 use Rattle.humantime.specs.Durations.Characters.{is_numeric}
@@ -56,5 +55,8 @@ returns-clause-value c =
           stops_here _ _ _ c.utf8.text c.as_bytes-bytes.ensures.value w.loop-at-test.true i.read.place
           (other_left _ (rw c.as_bytes-bytes.ensures.value (c.type_inv.text c.loop-at.at).fits) w.if-digit-le9.false) w.in-None.ensures
     ] in
-    let front : c.range.result.now ≡ take c.loop-at.at c.args.text.now = grind (arith, common_steps) in
+    let front : c.range.result.now ≡ take c.loop-at.at c.args.text.now = grind arith in
     rw (front, c.range_from.ensures.value) (number_ends _ _ _ _ _ i.value i.fits (all_read _ _ _ c.utf8.text i.read ended))
+
+pub returns-clause-tail : goal.returns-clause-tail
+returns-clause-tail c = grind arith

@@ -1,7 +1,7 @@
+use Rattle.std.proofs.lemmas.Grind.{common_steps}
 use Rattle.std.proofs.Common.{◌≡◌, [], take, refl, sym, ap, ◌∙◌, arith, chars}
 use Rattle.std.proofs.lemmas.List.{take-append-drop}
 use Rattle.std.proofs.lemmas.Str.{IsCharBoundary-start}
-use Rattle.std.proofs.lemmas.Grind.{common_steps}
 use Rattle.humantime.specs.Durations.Characters.{is_letter}
 use Rattle.humantime.specs.References.Durations.Keys.{key, scale_of_key}
 use Rattle.humantime.proofs.Durations.Bytes.WordKeys.{HasBytes, front_bytes, key_short, key_long, scale_by_key}
@@ -14,7 +14,7 @@ invariant_of-result-2 c =
     let text = c.args.text.now in
     let end = c.letters_end-end.result.0 in
     let letters = c.range-letters.result.now in
-    let front : letters ≡ take end text = grind (arith, common_steps) in
+    let front : letters ≡ take end text = grind arith in
     let within = c.letters_end-end.ensures.place.0 in
     let made : c.if-end-gt-MOST_BYTES.key ≡ key (take end text) = elim c.if-end-gt-MOST_BYTES.branch [
       | then-end-gt-MOST_BYTES w ↦ w.key-is ∙ key_long text end within w.if-end-gt-MOST_BYTES.true
@@ -45,13 +45,13 @@ returns-then-is_empty c =
     }
 
 pub returns-then-end-eq0 : goal.returns-then-end-eq0
-returns-then-end-eq0 c = no_word _ _ c.utf8.text c.letters_end-end.ensures.place c.letters_end-end.ensures.rest c.if-end-eq0.true (grind (arith, common_steps))
+returns-then-end-eq0 c = no_word _ _ c.utf8.text c.letters_end-end.ensures.place c.letters_end-end.ensures.rest c.if-end-eq0.true (grind arith)
 
 pub returns : goal.returns
 returns c =
     let place = c.letters_end-end.ensures.place in
     let rest = c.letters_end-end.ensures.rest in
-    let front : c.range-letters.result.now ≡ take c.letters_end-end.result.0 c.args.text.now = grind (arith, common_steps) in
+    let front : c.range-letters.result.now ≡ take c.letters_end-end.result.0 c.args.text.now = grind arith in
     record {
       begun = a_word _ _ c.utf8.text place rest c.if-end-eq0.false;
       letters = rw front (front_is is_letter _ _ c.utf8.text place rest);

@@ -1,18 +1,17 @@
 use Rattle.std.proofs.Common.{sym, ◌∙◌, ◌+◌, ◌<◌, length, arith}
 use Rattle.std.proofs.lemmas.Bool.Decides.{nat_tests}
-use Rattle.std.proofs.lemmas.Grind.{common_steps}
 use Rattle.humantime.proofs.Durations.Reading.Classes.{low_whitespace, no_whitespace_between}
 use Rattle.humantime.proofs.Durations.Bytes.PlaceSteps.{ascii_at, no_whitespace_at_mu}
 use Rattle.humantime.proofs.duration.reading.scan.skip_whitespace_char.Goals as goal
 
 pub returns-then-bytes-at-lt128 : goal.returns-then-bytes-at-lt128
-returns-then-bytes-at-lt128 c = grind (arith, common_steps, ascii_at, no_whitespace_between)
+returns-then-bytes-at-lt128 c = grind (arith, ascii_at, no_whitespace_between)
 
 pub returns-then-bytes-at-eq32 : goal.returns-then-bytes-at-eq32
-returns-then-bytes-at-eq32 c = grind (arith, common_steps, ascii_at, low_whitespace, nat_tests)
+returns-then-bytes-at-eq32 c = grind (arith, ascii_at, low_whitespace, nat_tests)
 
 pub returns-then-bytes-at-le32 : goal.returns-then-bytes-at-le32
-returns-then-bytes-at-le32 c = grind (arith, common_steps, ascii_at, low_whitespace, nat_tests)
+returns-then-bytes-at-le32 c = grind (arith, ascii_at, low_whitespace, nat_tests)
 
 pub returns-then-is_mu : goal.returns-then-is_mu
 returns-then-is_mu c =

@@ -20,14 +20,13 @@ pub overflow_add-value : goal.overflow_add-value
 overflow_add-value c =
     let h = c.requires.digits.1 in
     let within = fewer _ _ h in
-    let digit = digit_range c.args.c c.requires.digit in
-    omega (arith, push_fits _ _ _ (c.args.c - 48) _ h.fits (omega (arith, digit)) (omega (arith, within)) c.power_of_ten-power.ensures (omega (arith, within, c.if-all-gt-FRACTION_DIGITS.false)))
+    omega (arith, push_fits _ _ _ (c.args.c - 48) _ h.fits (omega (arith, digit_range c.args.c c.requires.digit)) (omega (arith, within)) c.power_of_ten-power.ensures (omega (arith, within, c.if-all-gt-FRACTION_DIGITS.false)))
 
 pub returns-then-c-eq48 : goal.returns-then-c-eq48
 returns-then-c-eq48 c ds h = grind (arith, common_steps, zero_more)
 
 pub returns-then-all-gt-FRACTION_DIGITS : goal.returns-then-all-gt-FRACTION_DIGITS
-returns-then-all-gt-FRACTION_DIGITS c ds h es = grind (arith, common_steps, one_too_many)
+returns-then-all-gt-FRACTION_DIGITS c ds h es = grind (arith, one_too_many)
 
 pub returns : goal.returns
 returns c ds h =

@@ -5,6 +5,4 @@ use Rattle.humantime.proofs.duration.reading.span.Span.fraction.Goals as goal
 
 pub returns : goal.returns
 returns c =
-    let front = start_trimmed _ _ c.trim_start.utf8 c.trim_start.ensures.trim in
-    let both = end_trimmed _ _ c.trim_end.utf8 c.trim_end.ensures.trim ∙ ap drop_trailing_whitespace front in
-    rw c.in_ok-self.was (ap (λ (t : List ℕ). Some t) both)
+    rw c.in_ok-self.was (ap (λ (t : List ℕ). Some t) (end_trimmed _ _ c.trim_end.utf8 c.trim_end.ensures.trim ∙ ap drop_trailing_whitespace (start_trimmed _ _ c.trim_start.utf8 c.trim_start.ensures.trim)))
