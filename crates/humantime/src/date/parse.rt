@@ -388,7 +388,8 @@ fn seconds_of_month(lanes: Lanes) -> u32
         result + 86_400 ≡ x.date.day * 86_400 + x.hour * 3_600 + x.minute * 60 + min x.second 59 }
 {
     let front = (lanes.front - u32x4::from_slice(&FIRST)) * u32x4::from_slice(&SECONDS);
-    let back = lanes.back.simd_min(u32x4::from_slice(&MOST_READ)) * u32x4::from_slice(&SECONDS_BACK);
+    let back = lanes.back.simd_min(u32x4::from_slice(&MOST_READ))
+        * u32x4::from_slice(&SECONDS_BACK);
     (front + back).reduce_sum()
 }
 

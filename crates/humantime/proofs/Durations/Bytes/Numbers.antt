@@ -91,8 +91,7 @@ value_more ds c d = value-append 0 ds (c ∷ []) ∙ ap (λ (n : ℕ). decimal_v
 -- one digit more is read
 pub digit_more : (text bytes : List ℕ) (at : ℕ) (ds : List ℕ) → IsUtf8 text → bytes ≡ text → at < length bytes → IsRead text at ds
     → get_or bytes at 0 < 256 → (get_or bytes at 0 + 18446744073709551568) % 18446744073709551616 ≤ 9
-    → let more = ds ++ get_or bytes at 0 ∷ [] in
-      IsRead text (at + 1) more × (decimal_value more ≡ decimal_value ds * 10 + (get_or bytes at 0 + 18446744073709551568) % 18446744073709551616)
+    → let more = ds ++ get_or bytes at 0 ∷ [] in IsRead text (at + 1) more × (decimal_value more ≡ decimal_value ds * 10 + (get_or bytes at 0 + 18446744073709551568) % 18446744073709551616)
 digit_more text bytes at ds u same some h fits few =
     let c = get_or bytes at 0 in
     let range : (48 ≤ c) × (c ≤ 57) = (omega (arith, fits, few), omega (arith, fits, few)) in

@@ -22,15 +22,13 @@ loop-at-init c =
 pub loop-at-preserved-else-value-ge-TENTH_OF_MAX : goal.loop-at-preserved-else-value-ge-TENTH_OF_MAX
 loop-at-preserved-else-value-ge-TENTH_OF_MAX c =
     let i = c.loop-at.invariant in
-    let more = digit_more _ _ _ _ c.utf8.text c.as_bytes-bytes.ensures.value c.loop-at-test.true i.read
-        (rw c.as_bytes-bytes.ensures.value (c.type_inv.text c.loop-at.at).fits) c.if-digit-le9.true in
+    let more = digit_more _ _ _ _ c.utf8.text c.as_bytes-bytes.ensures.value c.loop-at-test.true i.read (rw c.as_bytes-bytes.ensures.value (c.type_inv.text c.loop-at.at).fits) c.if-digit-le9.true in
     record { taken = _; read = more.0; value = omega (arith, more.1, i.value); fits = omega (arith, c.if-value-ge-TENTH_OF_MAX.false, c.if-digit-le9.true) }
 
 pub loop-at-preserved-in_ok-value : goal.loop-at-preserved-in_ok-value
 loop-at-preserved-in_ok-value c =
     let i = c.loop-at.invariant in
-    let more = digit_more _ _ _ _ c.utf8.text c.as_bytes-bytes.ensures.value c.loop-at-test.true i.read
-        (rw c.as_bytes-bytes.ensures.value (c.type_inv.text c.loop-at.at).fits) c.if-digit-le9.true in
+    let more = digit_more _ _ _ _ c.utf8.text c.as_bytes-bytes.ensures.value c.loop-at-test.true i.read (rw c.as_bytes-bytes.ensures.value (c.type_inv.text c.loop-at.at).fits) c.if-digit-le9.true in
     record { taken = _; read = more.0; value = omega (arith, c.in_ok-value.ensures.1, more.1, i.value); fits = omega (arith, c.in_ok-value.ensures) }
 
 pub loop-at-preserved : goal.loop-at-preserved
@@ -42,8 +40,7 @@ loop-at-preserved c =
 pub returns-in_err-value-clause-value : goal.returns-in_err-value-clause-value
 returns-in_err-value-clause-value c =
     let i = c.loop-at.invariant in
-    let more = digit_more _ _ _ _ c.utf8.text c.as_bytes-bytes.ensures.value c.loop-at-test.true i.read
-        (rw c.as_bytes-bytes.ensures.value (c.type_inv.text c.loop-at.at).fits) c.if-digit-le9.true in
+    let more = digit_more _ _ _ _ c.utf8.text c.as_bytes-bytes.ensures.value c.loop-at-test.true i.read (rw c.as_bytes-bytes.ensures.value (c.type_inv.text c.loop-at.at).fits) c.if-digit-le9.true in
     rw c.from_residual.ensures (number_passes _ _ _ more.0 (omega (arith, c.in_err-value.ensures, more.1, i.value)))
 
 pub returns-clause-value : goal.returns-clause-value
