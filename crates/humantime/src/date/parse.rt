@@ -48,7 +48,7 @@ static MOST_AFTER: [u32; 4] = [802, 11, 30, 59];
 static MOST_BACK: [u32; 4] = [9, 0, 23, 60];
 
 /// The same, with second 59, as which second 60 is read.
-static MOST_READ: [u32; 4] = [9, 0, 23, 59];
+static LATEST: [u32; 4] = [9, 0, 23, 59];
 
 /// How many seconds a 1 counts in each number at the front: none in year and month, and those of a day and of a minute.
 static SECONDS: [u32; 4] = [0, 0, 86_400, 60];
@@ -388,8 +388,7 @@ fn seconds_of_month(lanes: Lanes) -> u32
         result + 86_400 ≡ x.date.day * 86_400 + x.hour * 3_600 + x.minute * 60 + min x.second 59 }
 {
     let front = (lanes.front - u32x4::from_slice(&FIRST)) * u32x4::from_slice(&SECONDS);
-    let back = lanes.back.simd_min(u32x4::from_slice(&MOST_READ))
-        * u32x4::from_slice(&SECONDS_BACK);
+    let back = lanes.back.simd_min(u32x4::from_slice(&LATEST)) * u32x4::from_slice(&SECONDS_BACK);
     (front + back).reduce_sum()
 }
 
