@@ -189,6 +189,17 @@ fn race(name: &str, mut of_crate: impl FnMut(), mut of_library: impl FnMut()) {
     );
 }
 
+/// A copy of the text that begins as many bytes behind a multiple of 64 as this build's code does: a read across two lines of
+/// the cache takes longer, and no row should owe that to where its literal came to lie.
+fn placed(text: &str) -> &'static str {
+    let offset = env!("BENCH_PADDING").parse::<usize>().expect("a number of bytes") % 64;
+    let bytes = vec![0; text.len() + 128].leak();
+    let start = bytes.as_ptr().align_offset(64) + offset;
+    let place = &mut bytes[start..start + text.len()];
+    place.copy_from_slice(text.as_bytes());
+    std::str::from_utf8(place).expect("a text")
+}
+
 /// The crate's answer to a duration's text, as the library says it.
 fn duration_answer(text: &str) -> (u32, u64, u32, usize, usize) {
     use humantime::DurationError::*;
@@ -204,7 +215,7 @@ fn duration_answer(text: &str) -> (u32, u64, u32, usize, usize) {
 
 macro_rules! read_duration {
     ($name:expr, $text:expr) => {{
-        let text: &str = $text;
+        let text = placed($text);
         let mut place = Answer::default();
         let given = Text::of(text);
         unsafe { library_read_duration(&given, &mut place) };
@@ -299,7 +310,7 @@ macro_rules! read_texts {
 /// `spans` has no match in the crate; it stands beside the crate's reading of the same text.
 macro_rules! walk_spans {
     ($name:expr, $text:expr) => {{
-        let text: &str = $text;
+        let text = placed($text);
         let mut place = Answer::default();
         let given = Text::of(text);
         let mut crate_place = Ok(Duration::ZERO);
@@ -319,7 +330,7 @@ macro_rules! walk_spans {
 
 macro_rules! canonical {
     ($name:expr, $text:expr) => {{
-        let text: &str = $text;
+        let text = placed($text);
         let mut place = [0; 64];
         let mut crate_place = Written::with_capacity(64);
         crate_canonical(text, &mut crate_place);
@@ -381,7 +392,7 @@ fn moment_answer(answer: MomentRead) -> (u32, i64, u32) {
 
 macro_rules! read_moment {
     ($name:expr, $by_crate:ident, $by_library:ident, $text:expr) => {{
-        let text: &str = $text;
+        let text = placed($text);
         let mut place = Answer::default();
         let mut crate_place = Ok(UNIX_EPOCH);
         $by_crate(text, &mut crate_place);

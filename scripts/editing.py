@@ -20,30 +20,42 @@ TESTED = ["humantime_tests_values", "humantime_tests_programs", "humantime_tests
 
 
 class Edit:
-    def __init__(self, crate, name, text):
-        self.crate, self.name, self.text = crate, name, text
-        self.has_equivalent = "\nequivalent:" in text
+    """Changes of a crate's files, in order: of each the kind, `new`, or `equivalent` for the equivalent mutant; the file; a text
+    that stands there once; and the text that takes its place. `about` is what the edit says of itself besides."""
+
+    def __init__(self, crate, name, changes, about=""):
+        self.crate, self.name, self.changes, self.about = crate, name, changes, about
+        self.has_equivalent = any(kind == "equivalent" for kind, *_ in changes)
 
     def texts(self, folder, kind, before=None):
         """What the files are after the edit, by their paths below the crate's folder, and the changed lines as (path, number).
-        The kind is `new`, or `equivalent` for the equivalent mutant; before it they may be as other edits left them."""
-        path, old, texts, lines = None, None, dict(before or {}), []
-        for line in self.text.split("\n"):
-            if line.startswith("file: "):
-                path = line.removeprefix("file: ").strip()
-            elif line.startswith("old: "):
-                old = line.removeprefix("old: ")
-            elif line.startswith(f"{kind}:"):
-                if path not in texts:
-                    with open(os.path.join(folder, path), encoding="utf-8") as file:
-                        texts[path] = file.read()
-                if texts[path].count(old) != 1:
-                    raise ValueError(f"{path} has {texts[path].count(old)} times: {old}")
-                lines.append((path, texts[path].partition(old)[0].count("\n") + 1))
-                texts[path] = texts[path].replace(old, line.removeprefix(f"{kind}:").removeprefix(" "))
+        Before it they may be as other edits left them."""
+        texts, lines = dict(before or {}), []
+        for _, path, old, new in (change for change in self.changes if change[0] == kind):
+            if path not in texts:
+                with open(os.path.join(folder, path), encoding="utf-8") as file:
+                    texts[path] = file.read()
+            if texts[path].count(old) != 1:
+                raise ValueError(f"{path} has {texts[path].count(old)} times: {old}")
+            changed = texts[path].index(old) + len(os.path.commonprefix([old, new]))
+            lines.append((path, texts[path].count("\n", 0, changed) + 1))
+            texts[path] = texts[path].replace(old, new)
         if not lines:
             raise ValueError("it changes nothing")
         return texts, lines
+
+
+def edit_of(crate, name, text, path=None):
+    """The edit that a text says, of this file where it names none."""
+    old, changes = None, []
+    for line in text.split("\n"):
+        if line.startswith("file: "):
+            path = line.removeprefix("file: ").strip()
+        elif line.startswith("old: "):
+            old = line.removeprefix("old: ")
+        elif found := re.match(r"(new|equivalent):(?: (.*))?$", line):
+            changes.append((found[1], path, old, found[2] or ""))
+    return Edit(crate, name, changes, text)
 
 
 class Goal:
@@ -63,16 +75,25 @@ class Goal:
 
 
 def edits_in(crate, folder):
-    """The edits of a crate's folder, each with the name of its file: one in a file, or several, each below its title."""
+    """The edits of a crate's folder, each with the name of its file: one in a file, or several, each below its title. A line
+    `file:` above the titles holds for each of these that has none of its own."""
     path = os.path.join(ROOT, "crates", crate, folder)
     for name in sorted(os.listdir(path)) if os.path.isdir(path) else []:
         with open(os.path.join(path, name), encoding="utf-8") as file:
             text = file.read()
         if name.endswith(".edit"):
-            yield name, Edit(crate, name.removesuffix(".edit"), text)
-        for part in text.split("\n## ")[1:] if name.endswith(".edits") else []:
-            title, _, rest = part.partition("\n")
-            yield name, Edit(crate, title.strip(), rest)
+            yield name, edit_of(crate, name.removesuffix(".edit"), text)
+        if name.endswith(".edits"):
+            yield from ((name, edit) for edit in edits_of(crate, text))
+
+
+def edits_of(crate, text):
+    """The edits that a file of several says."""
+    head, *others = text.split("\n## ")
+    file = re.search(r"^file: (\S+)$", head, re.M)
+    for part in others:
+        title, _, rest = part.partition("\n")
+        yield edit_of(crate, title.strip(), rest, file and file[1])
 
 
 def chosen(folders, words):
@@ -81,9 +102,14 @@ def chosen(folders, words):
     for crate in sorted(os.listdir(os.path.join(ROOT, "crates"))):
         for folder in folders:
             for name, edit in edits_in(crate, folder):
-                if not words or any(word in text for word in words for text in (crate, name, edit.name)):
+                if has_word(words, crate, name, edit.name):
                     found.append(edit)
     return found
+
+
+def has_word(words, *texts):
+    """Whether one of the words is in one of the texts, or there are no words."""
+    return not words or any(word in text for word in words for text in texts)
 
 
 def rt(top, crate, *words):

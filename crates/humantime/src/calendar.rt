@@ -66,11 +66,7 @@ fn days_before_year(year: u32) -> u32
 fn leap_days(year: u32) -> u32
     ensures { result + 365 ≡ days_in_year year }
 {
-    if year % 4 == 0 && (year % 100 != 0 || year % 400 == 0) {
-        1
-    } else {
-        0
-    }
+    u32::from(year % 4 == 0 && (year % 100 != 0 || year % 400 == 0))
 }
 
 /// The days of a month.
@@ -79,7 +75,7 @@ pub(crate) fn month_length(year: u32, month: u32) -> u32
     requires { IsInRange 1 12 month }
     ensures { result ≡ days_in_month year month }
 {
-    let length = MONTH_LENGTHS[(month - 1) as usize];
+    let length = MONTH_LENGTHS[month as usize - 1];
     if month == 2 {
         length + leap_days(year)
     } else {
@@ -94,7 +90,7 @@ fn days_before_month(year: u32, month: u32) -> u32
     requires { IsInRange 1 12 month }
     ensures { result ≡ days_of_months year (month - 1) }
 {
-    let days = DAYS_BEFORE_MONTH[(month - 1) as usize];
+    let days = DAYS_BEFORE_MONTH[month as usize - 1];
     if month > 2 {
         days + leap_days(year)
     } else {

@@ -1,6 +1,6 @@
 //! The parsers of timestamps.
 
-ghost use Rattle.std.specs.Prelude.{◌≡◌, ◌+◌, ◌-◌, ◌*◌, ◌^◌, ◌<◌, ◌≤◌, ◌↔◌, ◌&&◌, length, drop, min, IsTrue, IfSome, Ok, Err, Some, ℤ, codes};
+ghost use Rattle.std.specs.Prelude.{nat_le, ◌≡◌, ◌+◌, ◌-◌, ◌*◌, ◌^◌, ◌<◌, ◌≤◌, ◌↔◌, ◌&&◌, length, drop, min, IsTrue, IfSome, Ok, Err, Some, ℤ, codes};
 ghost use Rattle.std.specs.Char.{is_ascii_digit};
 ghost use Rattle.std.specs.List.{list_all};
 ghost use Rattle.std.specs.Str.{bytes_eq};
@@ -210,29 +210,22 @@ fn zone_length(bytes: &[u8]) -> usize
 
 /// What stands before the zone at the end.
 #[inline(always)]
-#[tactic(auto, using(crate::proofs::Timestamps::Reading::Ends::zone_fits, crate::proofs::Timestamps::Reading::Ends::letter_alone))]
+#[tactic(auto, using(crate::proofs::Timestamps::Reading::Ends::zone_fits))]
 fn before_zone(bytes: &[u8]) -> &[u8]
     ensures { result.now ≡ Checks.before_zone bytes.now }
 {
-    // Nothing but a `Z` follows most seconds.
-    if bytes.len() == 1 && bytes[0] == b'Z' {
-        return &bytes[..0];
-    }
     &bytes[..bytes.len() - zone_length(bytes)]
 }
 
 /// The moment, or the error of the first check that fails.
 #[inline(always)]
-#[tactic(auto, using(crate::proofs::Timestamps::Reading::Exits::fraction_bound, crate::proofs::Timestamps::Reading::Exits::exit_digits, crate::proofs::Timestamps::Reading::Exits::exit_signs))]
+#[tactic(auto, using(crate::proofs::Timestamps::Reading::Exits::fraction_bound, crate::proofs::Timestamps::Reading::Exits::layout_parts, crate::proofs::Timestamps::Reading::Exits::exit_layout))]
 fn read_timestamp(bytes: &[u8]) -> Result<SystemTime, TimestampError>
     ensures { result ≡ weak_answer bytes.now }
 {
-    if bytes.len() < 19 || !has_separator(bytes) {
-        return Err(TimestampError::InvalidFormat);
-    }
-    if !matches_layout(bytes) {
+    if !has_layout(bytes) {
         // The signs are looked at first.
-        if has_punctuation(bytes) {
+        if bytes.len() >= 19 && has_punctuation(bytes) {
             return Err(TimestampError::InvalidDigit);
         }
         return Err(TimestampError::InvalidFormat);
@@ -241,7 +234,7 @@ fn read_timestamp(bytes: &[u8]) -> Result<SystemTime, TimestampError>
     if !is_in_range(lanes) {
         return Err(TimestampError::OutOfRange);
     }
-    let nanos = read_fraction(bytes, before_zone(&bytes[19..]))?;
+    let nanos = read_fraction(bytes)?;
     // Summed last, so that nothing but the lanes is kept while the fraction is read.
     Ok(SystemTime::since_epoch(seconds_of(lanes), nanos))
 }
@@ -270,44 +263,37 @@ fn has_punctuation(bytes: &[u8]) -> bool
         && bytes[16] == b':'
 }
 
-/// Signs and digits in their places.
+/// Signs and digits in their places. All are tested at once: a lane of the vector is how far a byte is above the least
+/// one, and a byte below that wraps around to far above.
 #[inline(always)]
-fn matches_layout(bytes: &[u8]) -> bool
-    requires long { 19 ≤ length bytes.now }
-    requires separator { IsTrue (Checks.has_separator bytes.now) }
-    ensures { result ≡ (Checks.has_punctuation bytes.now && Checks.has_digits bytes.now) }
+#[tactic(auto, unfolding(crate::specs::References::Timestamps::Reading::has_layout, crate::specs::Timestamps::Checks::has_punctuation))]
+fn has_layout(bytes: &[u8]) -> bool
+    ensures { result ≡ Reading.has_layout bytes.now }
 {
-    // Not `&&`, which would test and branch twice.
-    matches_layout_front(bytes) & has_seconds(bytes)
+    if bytes.len() < 19 || !has_separator(bytes) {
+        return false;
+    }
+    let front = u8x16::from_slice(bytes) - u8x16::from_slice(&LEAST);
+    let back = u8x16::from_slice(&bytes[3..]) - u8x16::from_slice(&LEAST_BACK);
+    let beyond = front.saturating_sub(u8x16::from_slice(&MOST_ABOVE))
+        | back.saturating_sub(u8x16::from_slice(&MOST_ABOVE_BACK));
+    none_above(beyond, 0)
 }
 
-/// The sign before the seconds, and their digits.
+/// No lane above this number.
 #[inline(always)]
-fn has_seconds(bytes: &[u8]) -> bool
-    requires { 19 ≤ length bytes.now }
-    ensures { result ≡ Reading.has_seconds bytes.now }
+fn none_above(lanes: u8x16, most: u8) -> bool
+    requires { length lanes ≡ 16 }
+    ensures { result ≡ list_all (λ n. nat_le n most) lanes }
 {
-    let above = u8x16::from_slice(&bytes[3..]) - u8x16::from_slice(&LEAST_BACK);
-    above.simd_le(u8x16::from_slice(&MOST_ABOVE_BACK)).all()
-}
-
-/// Signs and digits in the first sixteen bytes, but for the sign between date and time. All are tested at once: a
-/// lane of the vector is how far a byte is above the least one, and a byte below that wraps around to far above.
-#[inline(always)]
-fn matches_layout_front(bytes: &[u8]) -> bool
-    requires long { 19 ≤ length bytes.now }
-    requires separator { IsTrue (Checks.has_separator bytes.now) }
-    ensures { (result && Reading.has_seconds bytes.now) ≡ (Checks.has_punctuation bytes.now && Checks.has_digits bytes.now) }
-{
-    let above = u8x16::from_slice(bytes) - u8x16::from_slice(&LEAST);
-    above.simd_le(u8x16::from_slice(&MOST_ABOVE)).all()
+    lanes.simd_le(u8x16::splat(most)).all()
 }
 
 /// The numbers that date and time show, where all places have digits: `dot4` sums up four bytes, each by its weight.
 #[inline(always)]
+#[tactic(auto, using(crate::proofs::Timestamps::Reading::Exits::layout_parts))]
 fn lanes_at(bytes: &[u8]) -> Lanes
-    requires long { 19 ≤ length bytes.now }
-    requires digits { IsTrue (Checks.has_digits bytes.now) }
+    requires { IsTrue (Reading.has_layout bytes.now) }
     ensures numbers { numbers_in result ≡ numbers_of bytes.now }
     ensures short { AreShort result }
 {
@@ -350,7 +336,7 @@ fn seconds_of(lanes: Lanes) -> u64
 {
     let date = numbers_in(lanes).date;
     let days = days_before(date.year, date.month);
-    days as u64 * 86_400 + seconds_of_month(lanes) as u64
+    days as u64 * 86_400 + seconds_of_month(lanes) as u64 - 86_400
 }
 
 /// A date of 1970 to 9999 that exists, and a time of day, perhaps with a second 60. Each month has 28 days; of a later day the
@@ -385,20 +371,25 @@ fn seconds_of_month(lanes: Lanes) -> u32
     requires short { AreShort lanes }
     requires range { IsTrue (are_in_range (numbers_in lanes)) }
     ensures { let x = numbers_in lanes in
-        result + 86_400 ≡ x.date.day * 86_400 + x.hour * 3_600 + x.minute * 60 + min x.second 59 }
+        result ≡ x.date.day * 86_400 + x.hour * 3_600 + x.minute * 60 + min x.second 59 }
 {
-    let front = (lanes.front - u32x4::from_slice(&FIRST)) * u32x4::from_slice(&SECONDS);
+    let front = lanes.front * u32x4::from_slice(&SECONDS);
     let back = lanes.back.simd_min(u32x4::from_slice(&LATEST)) * u32x4::from_slice(&SECONDS_BACK);
     (front + back).reduce_sum()
 }
 
-/// The nanoseconds of what stands between the seconds and the zone of this text, where it is right.
+/// The nanoseconds of what stands between the seconds and the zone, where it is right.
 #[inline(always)]
-#[tactic(auto, using(crate::proofs::Timestamps::Reading::Threes::nothing_read), unfolding(crate::specs::Timestamps::Checks::has_point))]
-fn read_fraction(bytes: &[u8], part: &[u8]) -> Result<u32, TimestampError>
-    requires { part.now ≡ fraction_part bytes.now }
-    ensures { result ≡ fraction_answer part.now }
+#[tactic(auto, using(crate::proofs::Timestamps::Reading::Exits::letter_read), unfolding(crate::specs::Timestamps::Checks::has_point))]
+fn read_fraction(bytes: &[u8]) -> Result<u32, TimestampError>
+    requires { 19 ≤ length bytes.now }
+    ensures { result ≡ fraction_answer (fraction_part bytes.now) }
 {
+    // Nothing but a `Z` follows most seconds.
+    if bytes.len() == 20 && bytes[19] == b'Z' {
+        return Ok(0);
+    }
+    let part = before_zone(&bytes[19..]);
     if part.is_empty() {
         return Ok(0);
     }
@@ -406,11 +397,14 @@ fn read_fraction(bytes: &[u8], part: &[u8]) -> Result<u32, TimestampError>
         return Err(TimestampError::InvalidFormat);
     }
     // A point and nine digits count. At least 19 bytes stand before them, so that sixteen end where they do.
-    let end = part.len().min(10);
-    match last_digits(&bytes[3 + end..19 + end], end - 1) {
-        Some(nanos) if are_digits(&part[end..]) => Ok(nanos),
-        _ => Err(TimestampError::InvalidDigit),
-    }
+    let end = if part.len() <= 10 {
+        part.len()
+    } else if are_digits(&part[10..]) {
+        10
+    } else {
+        return Err(TimestampError::InvalidDigit);
+    };
+    last_digits(&bytes[3 + end..19 + end], end - 1).ok_or(TimestampError::InvalidDigit)
 }
 
 /// `+00:00`, of six bytes. The first four are compared as one number, and the last two as another.
@@ -454,8 +448,7 @@ fn are_sixteen_digits(bytes: &[u8]) -> bool
     requires { length bytes.now ≡ 16 }
     ensures { result ≡ list_all is_ascii_digit bytes.now }
 {
-    let numbers = u8x16::from_slice(bytes) - u8x16::splat(b'0');
-    numbers.simd_le(u8x16::splat(9)).all()
+    none_above(u8x16::from_slice(bytes) - u8x16::splat(b'0'), 9)
 }
 
 /// The nanoseconds of the last digits of sixteen bytes, at most nine, where they are digits.
@@ -466,7 +459,7 @@ fn last_digits(bytes: &[u8], count: usize) -> Option<u32>
     ensures { result ≡ nanos_found (drop (16 - count) bytes.now) }
 {
     let numbers = in_threes(u8x16::from_slice(bytes) - u8x16::splat(b'0'), count);
-    if !numbers.simd_le(u8x16::splat(9)).all() {
+    if !none_above(numbers, 9) {
         return None;
     }
     let threes = numbers.dot4(u8x16::from_slice(&WEIGHTS_THREE));

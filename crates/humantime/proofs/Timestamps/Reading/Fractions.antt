@@ -79,3 +79,7 @@ add_bound (c ∷ cs) n u digits low room =
 
 pub nanos_bound : (ds : List ℕ) → AreDigits ds → fraction_nanos ds < 1_000_000_000
 nanos_bound ds digits = rw (nanos_added ds digits) (add_bound ds 0 100_000_000 digits (omega arith) (omega arith))
+
+pub nothing_read : fraction_nanos [] ≡ 0
+unfolding fraction_nanos
+nothing_read = refl

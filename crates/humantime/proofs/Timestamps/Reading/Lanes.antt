@@ -1,70 +1,76 @@
 -- Bytes and numbers that are tested at once are tested one by one.
-use Rattle.std.proofs.Common.{◌≡◌, ℕ, ◌+◌, ◌-◌, ◌%◌, ◌^◌, ◌<◌, ◌≤◌, Bool, true, false, not, cond, eqb, leb, ltb, ◌&&◌, List, [], ◌∷◌, map, length, get_or, take, drop, Fits, w8, refl, ap, sym, ◌∙◌, arith}
+use Rattle.std.proofs.Common.{◌≡◌, ℕ, ◌+◌, ◌-◌, ◌%◌, ◌^◌, ◌<◌, ◌≤◌, Bool, true, false, cond, eqb, leb, ltb, ◌&&◌, List, [], ◌∷◌, map, replicate, length, get_or, take, drop, Fits, w8, refl, ap, sym, ◌∙◌, arith}
 use Rattle.std.specs.Char.{is_ascii_digit}
 use Rattle.std.specs.List.{list_all}
-use Rattle.std.specs.Prelude.{◌==◌, codes, slice_index}
-use Rattle.std.proofs.lemmas.Bool.{agree_below_at}
+use Rattle.std.specs.Prelude.{◌==◌, codes, nat_le, nat_eq, bit_or}
+use Rattle.std.proofs.lemmas.Bool.{agree_below_at, le-leb}
 use Rattle.std.proofs.lemmas.Bool.Decides.{nat_tests}
-use Rattle.std.proofs.lemmas.List.{length-take-le}
-use Rattle.std.proofs.lemmas.Simd.{mask_l-mod, tops_compared, length-zip2}
+use Rattle.std.proofs.lemmas.List.Folds.{list_all-map}
+use Rattle.std.proofs.lemmas.Nat.{le_or_l, le_or_r}
+use Rattle.std.proofs.lemmas.Simd.{mask_l-mod, tops_compared, length-zip2, zip2_splat}
 use native.Mathlib.Nat.{two-pow-succ, one-le-pow}
-use lib.Lanes.{zip2, mask_l, top}
+use lib.Lanes.{zip2, mask_l, top, sel_l}
 use mir.Syntax.{Width}
 use mir.Val.{bits, hbits}
 use Rattle.humantime.specs.Timestamps.Checks.{has_two, has_separator, has_punctuation, has_digits}
-use Rattle.humantime.specs.References.Timestamps.Reading.{has_seconds}
+use Rattle.humantime.specs.References.Timestamps.Reading.{has_layout}
 use Rattle.humantime.proofs.Timestamps.Reading.Checks.{nineteen}
 
 -- ---- A test of all lanes
 
-all_bits : (ms : List Bool) → eqb (mask_l (map not ms)) (2 ^ length ms - 1) ≡ list_all not ms
+-- all bits of a mask are set
+abbrev pub are_set : List Bool → Bool
+are_set ms = list_all (λ m. m) ms
+
+all_bits : (ms : List Bool) → eqb (mask_l ms) (2 ^ length ms - 1) ≡ are_set ms
 all_bits [] = refl
-all_bits (true ∷ ms) = grind (arith, nat_tests, two-pow-succ (length ms), one-le-pow (length ms) 2 (omega arith))
-all_bits (false ∷ ms) = grind (arith, nat_tests, (all_bits ms), two-pow-succ (length ms), one-le-pow (length ms) 2 (omega arith))
+all_bits (true ∷ ms) = grind (arith, nat_tests, (all_bits ms), two-pow-succ (length ms), one-le-pow (length ms) 2 (omega arith))
+all_bits (false ∷ ms) = grind (arith, nat_tests, two-pow-succ (length ms), one-le-pow (length ms) 2 (omega arith))
 
-at_most : (a m : ℕ) → leb a m ≡ not (ltb m a)
-at_most a m = grind (arith, nat_tests)
-
-tests_turned : (most xs : List ℕ) → zip2 leb xs most ≡ map not (zip2 ltb most xs)
-tests_turned [] [] = refl
-tests_turned [] (x ∷ xs) = refl
-tests_turned (m ∷ most) [] = refl
-tests_turned (m ∷ most) (x ∷ xs) = (λ i. at_most x m i ∷ tests_turned most xs i)
-
--- where all bits are set, no lane is beyond its most
-pub none_beyond : (w : Width) (most xs : List ℕ) → length xs ≡ length most → length most ≤ 64
-    → eqb (mask_l (map (top (hbits w)) (zip2 (λ a m. cond (leb a m) (2 ^ bits w - 1) 0) xs most)) % 2 ^ 64) (2 ^ length most - 1) ≡ list_all not (zip2 ltb most xs)
-none_beyond w most xs long few =
+-- the lanes of a vector compared with those of another
+pub all_at_most : (w : Width) (most xs : List ℕ) → length xs ≡ length most → length most ≤ 64
+    → eqb (mask_l (map (top (hbits w)) (zip2 (λ a m. cond (leb a m) (2 ^ bits w - 1) 0) xs most)) % 2 ^ 64) (2 ^ length most - 1) ≡ are_set (zip2 leb xs most)
+all_at_most w most xs long few =
+    let size = length-zip2 leb xs most long ∙ long in
     ap (λ (ms : List Bool). eqb (mask_l ms % 2 ^ 64) (2 ^ length most - 1)) (tops_compared w leb xs most)
-    ∙ ap (λ (n : ℕ). eqb n (2 ^ length most - 1)) (mask_l-mod (zip2 leb xs most) 64 (omega (arith, length-zip2 leb xs most long)))
-    ∙ ap (λ (ms : List Bool). eqb (mask_l ms) (2 ^ length most - 1)) (tests_turned most xs)
-    ∙ ap (λ (n : ℕ). eqb (mask_l (map not (zip2 ltb most xs))) (2 ^ n - 1)) (sym (length-zip2 ltb most xs (sym long)))
-    ∙ all_bits (zip2 ltb most xs)
+    ∙ ap (λ (n : ℕ). eqb n (2 ^ length most - 1)) (mask_l-mod (zip2 leb xs most) 64 (omega (arith, size)))
+    ∙ ap (λ (n : ℕ). eqb (mask_l (zip2 leb xs most)) (2 ^ n - 1)) (sym size)
+    ∙ all_bits (zip2 leb xs most)
+
+-- all lanes compared with one number
+pub none_above : (n most : ℕ) (xs : List ℕ) → length xs ≡ n → are_set (zip2 leb xs (replicate n most)) ≡ list_all (λ x. leb x most) xs
+none_above n most xs long = ap are_set (zip2_splat leb xs n most long) ∙ list_all-map (λ m. m) (λ x. leb x most) xs
 
 -- ---- Date and time
 
 -- how far a byte is above another, wrapped around
 abbrev pub above : ℕ → ℕ → ℕ
-above a bytes = (a + (2 ^ 8 - bytes)) % 2 ^ 8
+above a least = (a + (2 ^ 8 - least)) % 2 ^ 8
 
-pub length-above : (bytes least : List ℕ) → length least ≤ length bytes → length (zip2 above (take (length least) bytes) least) ≡ length least
-length-above bytes least few = length-zip2 above (take (length least) bytes) least (length-take-le (length least) bytes few) ∙ length-take-le (length least) bytes few
+-- how far a number is beyond its most, or 0
+abbrev left : ℕ → ℕ → ℕ
+left a most = above (cond (top 7 (cond (ltb a most) 255 0)) most a) most
 
--- no byte is beyond its most above its least
-abbrev are_near : List ℕ → List ℕ → List ℕ → Bool
-are_near most bytes least = list_all not (zip2 ltb most (zip2 above (take 16 bytes) least))
+pub digit_near : (c : ℕ) → c < 256 → leb (above c 48) 9 ≡ is_ascii_digit c
+digit_near c h = agree_below_at (λ c. leb (above c 48) 9) is_ascii_digit 256 c refl h
 
-pub digit_near : (c : ℕ) → c < 256 → not (ltb 9 (above c 48)) ≡ is_ascii_digit c
-digit_near c h = agree_below_at (λ c. not (ltb 9 (above c 48))) is_ascii_digit 256 c refl h
+digit_left : (c : ℕ) → c < 256 → nat_eq (left (above c 48) 9) 0 ≡ is_ascii_digit c
+digit_left c h = agree_below_at (λ c. nat_eq (left (above c 48) 9) 0) is_ascii_digit 256 c refl h
 
-dash_near : (c : ℕ) → c < 256 → not (ltb 0 (above c 45)) ≡ (c == 45)
-dash_near c h = agree_below_at (λ c. not (ltb 0 (above c 45))) (λ c. c == 45) 256 c refl h
+dash_left : (c : ℕ) → c < 256 → nat_eq (left (above c 45) 0) 0 ≡ (c == 45)
+dash_left c h = agree_below_at (λ c. nat_eq (left (above c 45) 0) 0) (λ c. c == 45) 256 c refl h
 
-colon_near : (c : ℕ) → c < 256 → not (ltb 0 (above c 58)) ≡ (c == 58)
-colon_near c h = agree_below_at (λ c. not (ltb 0 (above c 58))) (λ c. c == 58) 256 c refl h
+colon_left : (c : ℕ) → c < 256 → nat_eq (left (above c 58) 0) 0 ≡ (c == 58)
+colon_left c h = agree_below_at (λ c. nat_eq (left (above c 58) 0) 0) (λ c. c == 58) 256 c refl h
 
-any_near : (c least : ℕ) → not (ltb 255 (above c least)) ≡ true
-any_near c least = grind (arith, nat_tests)
+any_left : (c least : ℕ) → nat_eq (left (above c least) 255) 0 ≡ true
+any_left c least = agree_below_at (λ n. nat_eq (left n 255) 0) (λ _. true) 256 (above c least) refl (omega arith)
+
+both_zero : (a b : ℕ) → nat_le (bit_or a b) 0 ≡ (nat_eq a 0 && nat_eq b 0)
+both_zero a b = grind (arith, nat_tests, le_or_l a b, le_or_r a b)
+
+first_zero : (a b : ℕ) → nat_eq b 0 ≡ true → nat_le (bit_or a b) 0 ≡ nat_eq a 0
+first_zero a b zero = grind (arith, nat_tests, le_or_l a b, le_or_r a b)
 
 -- the least byte of each place, and how far a byte may be above it; and the same from the fourth place on
 abbrev pub least : List ℕ
@@ -79,39 +85,43 @@ least_back = codes "0-00-00 00:00:00"
 abbrev pub most_back : List ℕ
 most_back = 255 ∷ 255 ∷ 255 ∷ 255 ∷ 255 ∷ 255 ∷ 255 ∷ 255 ∷ 255 ∷ 255 ∷ 255 ∷ 255 ∷ 255 ∷ 0 ∷ 9 ∷ 9 ∷ []
 
+-- how far the numbers are beyond their most
+abbrev lefts : List ℕ → List ℕ → List ℕ
+lefts xs most = zip2 above (sel_l (map (top 7) (zip2 (λ a m. cond (ltb a m) 255 0) xs most)) most xs) most
+
+abbrev pub beyond : List ℕ → List ℕ
+beyond bytes = zip2 bit_or (lefts (zip2 above (take 16 bytes) least) most) (lefts (zip2 above (take 16 (drop 3 bytes)) least_back) most_back)
+
+pub length-beyond : (bytes : List ℕ) → 19 ≤ length bytes → length (beyond bytes) ≡ 16
+length-beyond bytes long = ap (λ (bytes : List ℕ). length (beyond bytes)) (nineteen bytes long)
+
 -- the signs may be tested first, and the seconds among the others
-signs_first : (s t u v w a bytes c d e f g h i j k l : Bool)
-    → ((a && (bytes && (c && (d && (s && (e && (f && (t && (g && (h && (true && (i && (j && (u && (k && (l && true)))))))))))))))) && (v && w))
-    ≡ ((s && t && true && u && v) && ((a && bytes) && ((c && d) && ((e && f) && ((g && h) && ((i && j) && ((k && l) && (w && true))))))))
-signs_first s t u v w a bytes c d e f g h i j k l = grind arith
+signs_first : (s t u v a b c d e f g h i j k l m n : Bool)
+    → are_set (a ∷ b ∷ c ∷ d ∷ s ∷ e ∷ f ∷ t ∷ g ∷ h ∷ true ∷ i ∷ j ∷ (u && v) ∷ (k && m) ∷ (l && n) ∷ [])
+    ≡ ((s && t && true && u && v) && ((a && b) && ((c && d) && ((e && f) && ((g && h) && ((i && j) && ((k && l) && ((m && n) && true))))))))
+signs_first true true true v a b c d e f g h i j k l m n = grind arith
+signs_first false t u v a b c d e f g h i j k l m n = grind arith
+signs_first true false u v a b c d e f g h i j k l m n = grind arith
+signs_first true true false v a b c d e f g h i j k l m n = grind arith
 
-pub shape_of_parts : (bytes : List ℕ) → 19 ≤ length bytes → ((k : ℕ) → Fits w8 (get_or bytes k 0)) → has_separator bytes ≡ true
-    → (are_near most bytes least && has_seconds bytes) ≡ (has_punctuation bytes && has_digits bytes)
-unfolding has_punctuation has_digits has_seconds has_two
-shape_of_parts bytes long fits separator =
-    let shown = λ (k : ℕ). is_ascii_digit (slice_index bytes k) in
-    let digit = λ (k : ℕ). digit_near (get_or bytes k 0) (fits k).fits in
-    let dash = λ (k : ℕ). dash_near (get_or bytes k 0) (fits k).fits in
-    let near : are_near most bytes least ≡ _ =
-    ap (λ (bytes : List ℕ). are_near most bytes least) (nineteen bytes long)
-    ∙ (λ i. list_all (λ (x : Bool). x) (
-    digit 0 i ∷ digit 1 i ∷ digit 2 i ∷ digit 3 i ∷ dash 4 i ∷ digit 5 i ∷ digit 6 i ∷ dash 7 i
-    ∷ digit 8 i ∷ digit 9 i ∷ any_near (get_or bytes 10 0) 32 i ∷ digit 11 i ∷ digit 12 i
-    ∷ colon_near (get_or bytes 13 0) (fits 13).fits i ∷ digit 14 i ∷ digit 15 i ∷ []
-    )) in
-    rw (separator, near)
-    (signs_first (slice_index bytes 4 == 45) (slice_index bytes 7 == 45) (slice_index bytes 13 == 58) (slice_index bytes 16 == 58) (has_two bytes 17)
-    (shown 0) (shown 1) (shown 2) (shown 3) (shown 5) (shown 6) (shown 8) (shown 9) (shown 11) (shown 12) (shown 14) (shown 15))
-
-pub seconds_of_lanes : (bytes : List ℕ) → 19 ≤ length bytes → ((k : ℕ) → Fits w8 (get_or bytes k 0)) → are_near most_back (drop 3 bytes) least_back ≡ has_seconds bytes
-unfolding has_seconds has_two
-seconds_of_lanes bytes long fits =
-    let any = λ (k least : ℕ). any_near (get_or bytes k 0) least in
-    let digit = λ (k : ℕ). digit_near (get_or bytes k 0) (fits k).fits in
-    ap (λ (bytes : List ℕ). are_near most_back (drop 3 bytes) least_back) (nineteen bytes long)
-    ∙ (λ i. list_all (λ (x : Bool). x) (
-    any 3 48 i ∷ any 4 45 i ∷ any 5 48 i ∷ any 6 48 i ∷ any 7 45 i ∷ any 8 48 i ∷ any 9 48 i ∷ any 10 32 i
-    ∷ any 11 48 i ∷ any 12 48 i ∷ any 13 58 i ∷ any 14 48 i ∷ any 15 48 i
-    ∷ colon_near (get_or bytes 16 0) (fits 16).fits i ∷ digit 17 i ∷ digit 18 i ∷ []
+pub layout_tested : (bytes : List ℕ) → 19 ≤ length bytes → ((k : ℕ) → Fits w8 (get_or bytes k 0)) → has_separator bytes ≡ true
+    → list_all (λ n. nat_le n 0) (beyond bytes) ≡ has_layout bytes
+unfolding has_layout has_punctuation has_digits has_two
+layout_tested bytes long fits separator =
+    let byte = λ (k : ℕ). get_or bytes k 0 in
+    let shown = λ (k : ℕ). is_ascii_digit (byte k) in
+    let digit_at = λ (k : ℕ). digit_left (byte k) (fits k).fits in
+    let digit = λ (k : ℕ) (l : ℕ). first_zero (left (above (byte k) 48) 9) (left (above (byte (k + 3)) l) 255) (any_left (byte (k + 3)) l) ∙ digit_at k in
+    let dash = λ (k : ℕ) (l : ℕ). first_zero (left (above (byte k) 45) 0) (left (above (byte (k + 3)) l) 255) (any_left (byte (k + 3)) l) ∙ dash_left (byte k) (fits k).fits in
+    let free = first_zero (left (above (byte 10) 32) 255) (left (above (byte 13) 58) 255) (any_left (byte 13) 58) ∙ any_left (byte 10) 32 in
+    let colons = both_zero (left (above (byte 13) 58) 0) (left (above (byte 16) 58) 0)
+    ∙ (λ i. colon_left (byte 13) (fits 13).fits i && colon_left (byte 16) (fits 16).fits i) in
+    let digits = λ (k : ℕ). both_zero (left (above (byte k) 48) 9) (left (above (byte (k + 3)) 48) 9) ∙ (λ i. digit_at k i && digit_at (k + 3) i) in
+    ap (λ (bytes : List ℕ). list_all (λ n. nat_le n 0) (beyond bytes)) (nineteen bytes long)
+    ∙ (λ i. are_set (
+    digit 0 48 i ∷ digit 1 45 i ∷ digit 2 48 i ∷ digit 3 48 i ∷ dash 4 45 i ∷ digit 5 48 i ∷ digit 6 48 i ∷ dash 7 32 i
+    ∷ digit 8 48 i ∷ digit 9 48 i ∷ free i ∷ digit 11 48 i ∷ digit 12 48 i ∷ colons i ∷ digits 14 i ∷ digits 15 i ∷ []
     ))
-    ∙ grind arith
+    ∙ rw (separator, le-leb 19 (length bytes) long)
+    (signs_first (byte 4 == 45) (byte 7 == 45) (byte 13 == 58) (byte 16 == 58)
+    (shown 0) (shown 1) (shown 2) (shown 3) (shown 5) (shown 6) (shown 8) (shown 9) (shown 11) (shown 12) (shown 14) (shown 15) (shown 17) (shown 18))

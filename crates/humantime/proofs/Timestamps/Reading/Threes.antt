@@ -1,5 +1,5 @@
 -- The digits of a fraction, of which nine are read at once.
-use Rattle.std.proofs.Common.{◌≡◌, inl, inr, ℕ, zero, suc, ◌+◌, ◌-◌, ◌*◌, ◌/◌, ◌%◌, ◌^◌, ◌≤◌, Bool, true, not, ltb, List, [], ◌∷◌, map, replicate, length, get_or, take, drop, Fits, w8, refl, sym, ap, subst, ◌∙◌, length-drop, T, arith}
+use Rattle.std.proofs.Common.{◌≡◌, inl, inr, ℕ, zero, suc, ◌+◌, ◌-◌, ◌*◌, ◌/◌, ◌%◌, ◌^◌, ◌≤◌, Bool, true, leb, List, [], ◌∷◌, map, replicate, length, get_or, take, drop, Fits, w8, refl, sym, ap, subst, ◌∙◌, length-drop, T, arith}
 use Rattle.std.specs.Prelude.{◌&&◌, min, slice_range, codes}
 use Rattle.std.specs.Char.{is_ascii_digit}
 use Rattle.std.specs.List.{list_all}
@@ -45,22 +45,9 @@ abbrev aboves : List ℕ → List ℕ
 aboves ds = map (λ d. above d 48) ds
 
 abbrev pub are_low : List ℕ → Bool
-are_low ns = list_all not (zip2 ltb (replicate 16 9) ns)
+are_low ns = list_all (λ n. leb n 9) ns
 
-low_in_threes : (ns : List ℕ) → length ns ≤ 9 → are_low (in_threes ns) ≡ list_all (λ n. not (ltb 9 n)) ns
-low_in_threes [] few = refl
-low_in_threes (a ∷ []) few = refl
-low_in_threes (a ∷ b ∷ []) few = refl
-low_in_threes (a ∷ b ∷ c ∷ []) few = refl
-low_in_threes (a ∷ b ∷ c ∷ d ∷ []) few = refl
-low_in_threes (a ∷ b ∷ c ∷ d ∷ e ∷ []) few = refl
-low_in_threes (a ∷ b ∷ c ∷ d ∷ e ∷ f ∷ []) few = refl
-low_in_threes (a ∷ b ∷ c ∷ d ∷ e ∷ f ∷ g ∷ []) few = refl
-low_in_threes (a ∷ b ∷ c ∷ d ∷ e ∷ f ∷ g ∷ h ∷ []) few = refl
-low_in_threes (a ∷ b ∷ c ∷ d ∷ e ∷ f ∷ g ∷ h ∷ i ∷ []) few = refl
-low_in_threes (a ∷ b ∷ c ∷ d ∷ e ∷ f ∷ g ∷ h ∷ i ∷ j ∷ ns) few = absurd (omega arith)
-
-digits_near : (ds : List ℕ) → Each1 (Fits w8) ds → list_all (λ n. not (ltb 9 n)) (aboves ds) ≡ all_ascii_digits ds
+digits_near : (ds : List ℕ) → Each1 (Fits w8) ds → are_low (aboves ds) ≡ all_ascii_digits ds
 digits_near [] fits = refl
 digits_near (d ∷ ds) fits = λ i. digit_near d fits.0.fits i && digits_near ds fits.1 i
 
@@ -88,18 +75,19 @@ abbrev add_numbers : ℕ → ℕ → List ℕ → ℕ
 add_numbers n u [] = n
 add_numbers n u (d ∷ ds) = add_numbers (n + u * d) (u / 10) ds
 
-linear_added : (ns : List ℕ) → length ns ≤ 9 → linear ns ≡ add_numbers 0 100_000_000 ns
-linear_added [] few = refl
-linear_added (a ∷ []) few = omega arith
-linear_added (a ∷ b ∷ []) few = omega arith
-linear_added (a ∷ b ∷ c ∷ []) few = omega arith
-linear_added (a ∷ b ∷ c ∷ d ∷ []) few = omega arith
-linear_added (a ∷ b ∷ c ∷ d ∷ e ∷ []) few = omega arith
-linear_added (a ∷ b ∷ c ∷ d ∷ e ∷ f ∷ []) few = omega arith
-linear_added (a ∷ b ∷ c ∷ d ∷ e ∷ f ∷ g ∷ []) few = omega arith
-linear_added (a ∷ b ∷ c ∷ d ∷ e ∷ f ∷ g ∷ h ∷ []) few = omega arith
-linear_added (a ∷ b ∷ c ∷ d ∷ e ∷ f ∷ g ∷ h ∷ i ∷ []) few = omega arith
-linear_added (a ∷ b ∷ c ∷ d ∷ e ∷ f ∷ g ∷ h ∷ i ∷ j ∷ ns) few = absurd (omega arith)
+-- at most nine numbers keep what they are and what they count
+nine_placed : (ns : List ℕ) → length ns ≤ 9 → (are_low (in_threes ns) ≡ are_low ns) × (linear ns ≡ add_numbers 0 100_000_000 ns)
+nine_placed [] few = (refl, refl)
+nine_placed (a ∷ []) few = (refl, omega arith)
+nine_placed (a ∷ b ∷ []) few = (refl, omega arith)
+nine_placed (a ∷ b ∷ c ∷ []) few = (refl, omega arith)
+nine_placed (a ∷ b ∷ c ∷ d ∷ []) few = (refl, omega arith)
+nine_placed (a ∷ b ∷ c ∷ d ∷ e ∷ []) few = (refl, omega arith)
+nine_placed (a ∷ b ∷ c ∷ d ∷ e ∷ f ∷ []) few = (refl, omega arith)
+nine_placed (a ∷ b ∷ c ∷ d ∷ e ∷ f ∷ g ∷ []) few = (refl, omega arith)
+nine_placed (a ∷ b ∷ c ∷ d ∷ e ∷ f ∷ g ∷ h ∷ []) few = (refl, omega arith)
+nine_placed (a ∷ b ∷ c ∷ d ∷ e ∷ f ∷ g ∷ h ∷ i ∷ []) few = (refl, omega arith)
+nine_placed (a ∷ b ∷ c ∷ d ∷ e ∷ f ∷ g ∷ h ∷ i ∷ j ∷ ns) few = absurd (omega arith)
 
 -- what digits count
 abbrev values : List ℕ → List ℕ
@@ -150,19 +138,15 @@ last_tested bytes n long fits few =
     let size : length ds ≤ n = omega (arith, length-drop (16 - n) bytes) in
     let each : Each1 (Fits w8) ds = subst (λ (xs : List ℕ). Each1 (Fits w8) xs) (take_all n ds size) (chunk-fits w8 (16 - n) n bytes fits) in
     ap (λ (ns : List ℕ). are_low (in_threes ns)) (last_above bytes n long)
-    ∙ low_in_threes (aboves ds) (omega (arith, length-map ds (λ d. above d 48))) ∙ digits_near ds each
+    ∙ (nine_placed (aboves ds) (omega (arith, length-map ds (λ d. above d 48)))).0 ∙ digits_near ds each
 
 -- ---- Sixteen bytes
-
-low_all : (ns : List ℕ) → length ns ≡ 16 → are_low ns ≡ list_all (λ n. not (ltb 9 n)) ns
-low_all (a ∷ b ∷ c ∷ d ∷ e ∷ f ∷ g ∷ h ∷ i ∷ j ∷ k ∷ l ∷ m ∷ o ∷ p ∷ q ∷ []) long = refl
-low_all _ long = absurd (omega arith)
 
 pub all_tested : (bytes : List ℕ) → length bytes ≡ 16 → ((k : ℕ) → Fits w8 (get_or bytes k 0))
     → are_low (zip2 above (take 16 bytes) (replicate 16 48)) ≡ list_all is_ascii_digit bytes
 all_tested bytes long fits =
     let each : Each1 (Fits w8) bytes = subst (λ (xs : List ℕ). Each1 (Fits w8) xs) (take_all 16 bytes (omega arith)) (chunk-fits w8 0 16 bytes fits) in
-    ap are_low (last_above bytes 16 long) ∙ low_all (aboves bytes) (omega (arith, long, length-map bytes (λ d. above d 48))) ∙ digits_near bytes each
+    ap are_low (last_above bytes 16 long) ∙ digits_near bytes each
 
 pub front_and_rest : (bytes : List ℕ) (n : ℕ) → list_all is_ascii_digit bytes ≡ (list_all is_ascii_digit (take n bytes) && list_all is_ascii_digit (drop n bytes))
 front_and_rest bytes n = ap (list_all is_ascii_digit) (sym (take-append-drop n bytes)) ∙ list_all-append is_ascii_digit (take n bytes) (drop n bytes)
@@ -174,13 +158,9 @@ last_value bytes n long few digits =
     let each = digits_from_test ds digits in
     let size : length (values ds) ≤ 9 = omega (arith, length-map ds (λ d. d - 48), length-drop (16 - n) bytes) in
     ap (λ (ns : List ℕ). threes_sum (in_threes ns)) (last_above bytes n long ∙ digits_above ds each)
-    ∙ summed (values ds) (low_values ds each) ∙ linear_added (values ds) size ∙ values_added ds 0 100_000_000 ∙ sym (nanos_added ds each)
+    ∙ summed (values ds) (low_values ds each) ∙ (nine_placed (values ds) size).1 ∙ values_added ds 0 100_000_000 ∙ sym (nanos_added ds each)
 
 -- ---- A point and digits
-
-pub nothing_read : fraction_nanos [] ≡ 0
-unfolding fraction_nanos
-nothing_read = refl
 
 -- nine digits are all that count
 nine_count : (ds : List ℕ) (k : ℕ) → k ≡ min (length ds) 9 → fraction_nanos (take k ds) ≡ fraction_nanos ds

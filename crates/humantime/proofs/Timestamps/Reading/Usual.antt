@@ -1,8 +1,7 @@
 -- The ranges of a date and time, tested at once, and its seconds, summed at once.
-use Rattle.std.proofs.Common.{◌≡◌, ℕ, ◌+◌, ◌-◌, ◌*◌, ◌%◌, ◌^◌, ◌≤◌, true, not, cond, ltb, List, [], ◌∷◌, map, length, ◌∙◌, arith}
+use Rattle.std.proofs.Common.{◌≡◌, ℕ, ◌+◌, ◌-◌, ◌*◌, ◌%◌, ◌^◌, ◌≤◌, true, cond, leb, ltb, List, [], ◌∷◌, map, length, ◌∙◌, arith}
 use Rattle.std.specs.Prelude.{◌↔◌, min}
 use Rattle.std.specs.Int.{IsInRange}
-use Rattle.std.specs.List.{list_all}
 use Rattle.std.proofs.lemmas.Bool.Decides.{nat_tests}
 use Rattle.std.proofs.lemmas.Simd.{length-zip2}
 use lib.Lanes.{zip2, top, sel_l, fold_l}
@@ -13,6 +12,7 @@ use Rattle.humantime.specs.Timestamps.Checks.{are_in_range}
 use Rattle.humantime.specs.References.Timestamps.Reading.{numbers_in, AreShort, AreWithin}
 use Rattle.humantime.proofs.Dates.Years.{valid_from_test, within_ranges}
 use Rattle.humantime.proofs.Timestamps.Reading.Bytes.{month_most}
+use Rattle.humantime.proofs.Timestamps.Reading.Lanes.{are_set}
 use Rattle.humantime.proofs.Timestamps.Reading.Places.{bounds}
 
 -- the numbers at the front, above the first ones
@@ -29,21 +29,21 @@ sum_of front back =
     let times = zip2 (λ (a b : ℕ). (a * b) % 2 ^ 32) in
     let most = 9 ∷ 0 ∷ 23 ∷ 59 ∷ [] in
     let lower = map (top 31) (zip2 (λ a b. cond (ltb a b) (2 ^ 32 - 1) 0) back most) in
-    fold_l add 0 (zip2 add (times (after front) (0 ∷ 0 ∷ 86_400 ∷ 60 ∷ [])) (times (sel_l lower back most) (0 ∷ 0 ∷ 3_600 ∷ 1 ∷ [])))
+    fold_l add 0 (zip2 add (times front (0 ∷ 0 ∷ 86_400 ∷ 60 ∷ [])) (times (sel_l lower back most) (0 ∷ 0 ∷ 3_600 ∷ 1 ∷ [])))
 
 -- no number is beyond its most
 abbrev pub NoneBeyond : List ℕ → List ℕ → Type 0
 NoneBeyond front back =
-    (list_all not (zip2 ltb (802 ∷ 11 ∷ 30 ∷ 59 ∷ []) (after front)) ≡ true) × (list_all not (zip2 ltb (9 ∷ 0 ∷ 23 ∷ 60 ∷ []) back) ≡ true)
+    (are_set (zip2 leb (after front) (802 ∷ 11 ∷ 30 ∷ 59 ∷ [])) ≡ true) × (are_set (zip2 leb back (9 ∷ 0 ∷ 23 ∷ 60 ∷ [])) ≡ true)
 
 sum_from_test : (a m d i e z h s : ℕ) → IsInRange 1 31 d → i ≤ 59 → h ≤ 23 → s ≤ 60
-    → sum_of (a ∷ m ∷ d ∷ i ∷ []) (e ∷ z ∷ h ∷ s ∷ []) + 86_400 ≡ d * 86_400 + h * 3_600 + i * 60 + min s 59
+    → sum_of (a ∷ m ∷ d ∷ i ∷ []) (e ∷ z ∷ h ∷ s ∷ []) ≡ d * 86_400 + h * 3_600 + i * 60 + min s 59
 sum_from_test a m d i e z h s day minute hour second = grind (arith, nat_tests)
 
 pub days_at_least : (y m : ℕ) → 28 ≤ days_in_month y m
 days_at_least y m = grind (arith, nat_tests)
 
-four_within : (a b c d m n p q : ℕ) → (list_all not (zip2 ltb (m ∷ n ∷ p ∷ q ∷ []) (a ∷ b ∷ c ∷ d ∷ [])) ≡ true)
+four_within : (a b c d m n p q : ℕ) → (are_set (zip2 leb (a ∷ b ∷ c ∷ d ∷ []) (m ∷ n ∷ p ∷ q ∷ [])) ≡ true)
     ↔ ((a ≤ m) × (b ≤ n) × (c ≤ p) × (d ≤ q))
 four_within a b c d m n p q = grind (arith, nat_tests)
 
@@ -93,7 +93,7 @@ unfolding are_in_range
 day_from_test x range = (valid_from_test x.date.year x.date.month x.date.day ((bounds _ x.hour x.minute x.second).0 range).0).2.1
 
 pub month_summed : (front back : List ℕ) → let l : Lanes = record { front = front; back = back } in let x = numbers_in l in
-    AreShort l → are_in_range x ≡ true → sum_of front back + 86_400 ≡ x.date.day * 86_400 + x.hour * 3_600 + x.minute * 60 + min x.second 59
+    AreShort l → are_in_range x ≡ true → sum_of front back ≡ x.date.day * 86_400 + x.hour * 3_600 + x.minute * 60 + min x.second 59
 month_summed (a ∷ m ∷ d ∷ i ∷ []) (e ∷ z ∷ h ∷ s ∷ []) short range =
     let x : Numbers = numbers_in (record { front = a ∷ m ∷ d ∷ i ∷ []; back = e ∷ z ∷ h ∷ s ∷ [] }) in
     let within = within_from_test x range in

@@ -1,18 +1,18 @@
 -- What the parsers answer, and what their parts find at the places of a text.
-use Rattle.std.specs.Prelude.{ℕ, ◌+◌, ◌*◌, ◌≤◌, Bool, ◌&&◌, ◌==◌, if◌then◌else◌, ℤ, pos, Option, Some, None, Result, Ok, Err, List, [], ◌∷◌, length, drop, slice_index, ◌≡◌, ◌↔◌}
+use Rattle.std.specs.Prelude.{ℕ, ◌+◌, ◌*◌, ◌≤◌, Bool, ◌&&◌, nat_le, if◌then◌else◌, ℤ, pos, Option, Some, None, Result, Ok, Err, List, [], ◌∷◌, length, drop, slice_index, ◌≡◌, ◌↔◌}
 use Rattle.std.specs.Int.{IsInRange}
-use Rattle.std.specs.Str.{byte, all_ascii_digits}
+use Rattle.std.specs.Str.{all_ascii_digits}
 use Rattle.humantime.specs.declared.date.error.TimestampError.{TimestampError}
 use Rattle.humantime.specs.declared.date.error.TimestampError.TheVariants.{InvalidDigit, InvalidFormat}
 use Rattle.humantime.specs.declared.date.parse.Numbers.{Numbers}
 use Rattle.humantime.specs.declared.date.parse.Lanes.{Lanes}
 use Rattle.humantime.specs.Values.{nanos_per_second}
 use Rattle.humantime.specs.Timestamps.Fields.{fraction_nanos, seconds_of, IsWeakMoment}
-use Rattle.humantime.specs.Timestamps.Checks.{has_two, numbers_of, fraction_part, has_point, weak_checks, strict_checks, first_failed}
+use Rattle.humantime.specs.Timestamps.Checks.{has_punctuation, has_digits, numbers_of, fraction_part, has_point, weak_checks, strict_checks, first_failed}
 
--- the sign before the seconds, and their digits
-unfoldable pub has_seconds : List ℕ → Bool
-has_seconds bytes = (slice_index bytes 16 == byte ":") && has_two bytes 17
+-- signs and digits in their places in the first 19 bytes
+unfoldable pub has_layout : List ℕ → Bool
+has_layout bytes = nat_le 19 (length bytes) && has_punctuation bytes && has_digits bytes
 
 -- the numbers that stand in these lanes: a tenth of the year, month, day and minute, and the year's last digit, hour and second
 abbrev pub numbers_in : Lanes → Numbers
