@@ -66,7 +66,7 @@ fn days_before_year(year: u32) -> u32
 fn leap_days(year: u32) -> u32
     ensures { result + 365 ≡ days_in_year year }
 {
-    u32::from(year % 4 == 0 && (year % 100 != 0 || year % 400 == 0))
+    (year % 4 == 0 && (year % 100 != 0 || year % 400 == 0)) as u32
 }
 
 /// The days of a month.
