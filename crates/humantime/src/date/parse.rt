@@ -219,13 +219,16 @@ fn before_zone(bytes: &[u8]) -> &[u8]
 
 /// The moment, or the error of the first check that fails.
 #[inline(always)]
-#[tactic(auto, using(crate::proofs::Timestamps::Reading::Exits::fraction_bound, crate::proofs::Timestamps::Reading::Exits::layout_parts, crate::proofs::Timestamps::Reading::Exits::exit_layout))]
+#[tactic(auto, using(crate::proofs::Timestamps::Reading::Exits::fraction_bound, crate::proofs::Timestamps::Reading::Exits::layout_parts, crate::proofs::Timestamps::Reading::Exits::exit_layout, crate::proofs::Timestamps::Reading::Exits::exit_separator))]
 fn read_timestamp(bytes: &[u8]) -> Result<SystemTime, TimestampError>
     ensures { result ≡ weak_answer bytes.now }
 {
+    if bytes.len() < 19 || !has_separator(bytes) {
+        return Err(TimestampError::InvalidFormat);
+    }
     if !has_layout(bytes) {
         // The signs are looked at first.
-        if bytes.len() >= 19 && has_punctuation(bytes) {
+        if has_punctuation(bytes) {
             return Err(TimestampError::InvalidDigit);
         }
         return Err(TimestampError::InvalidFormat);
@@ -268,11 +271,10 @@ fn has_punctuation(bytes: &[u8]) -> bool
 #[inline(always)]
 #[tactic(auto, unfolding(crate::specs::References::Timestamps::Reading::has_layout, crate::specs::Timestamps::Checks::has_punctuation))]
 fn has_layout(bytes: &[u8]) -> bool
+    requires long { 19 ≤ length bytes.now }
+    requires separator { IsTrue (Checks.has_separator bytes.now) }
     ensures { result ≡ Reading.has_layout bytes.now }
 {
-    if bytes.len() < 19 || !has_separator(bytes) {
-        return false;
-    }
     let front = u8x16::from_slice(bytes) - u8x16::from_slice(&LEAST);
     let back = u8x16::from_slice(&bytes[3..]) - u8x16::from_slice(&LEAST_BACK);
     let beyond = front.saturating_sub(u8x16::from_slice(&MOST_ABOVE))

@@ -10,7 +10,7 @@ use Rattle.humantime.specs.declared.date.error.TimestampError.TheVariants.{OutOf
 use Rattle.humantime.specs.Timestamps.Fields.{seconds_of}
 use Rattle.humantime.specs.References.Timestamps.Reading.{has_layout, fraction_answer, weak_answer}
 use Rattle.humantime.specs.declared.date.parse.Numbers.{Numbers}
-use Rattle.humantime.specs.Timestamps.Checks.{has_punctuation, has_digits, numbers_of, are_in_range, fraction_part, has_point}
+use Rattle.humantime.specs.Timestamps.Checks.{has_punctuation, has_separator, has_digits, numbers_of, are_in_range, fraction_part, has_point}
 use Rattle.humantime.proofs.Timestamps.Reading.Ends.{letter_alone}
 use Rattle.humantime.proofs.Timestamps.Reading.Fractions.{digits_from_test, nanos_bound, nothing_read}
 
@@ -18,6 +18,10 @@ pub exit_layout : (bytes : List ℕ) → has_layout bytes ≡ false
     → weak_answer bytes ≡ Err (cond (nat_le 19 (length bytes) && has_punctuation bytes) InvalidDigit InvalidFormat)
 unfolding weak_answer has_layout
 exit_layout bytes other = grind (arith, nat_tests)
+
+pub exit_separator : (bytes : List ℕ) → (nat_le 19 (length bytes) && has_separator bytes) ≡ false → weak_answer bytes ≡ Err InvalidFormat
+unfolding weak_answer has_punctuation
+exit_separator bytes other = grind (arith, nat_tests)
 
 pub layout_parts : (bytes : List ℕ) → has_layout bytes ≡ true → (19 ≤ length bytes) × (has_punctuation bytes ≡ true) × (has_digits bytes ≡ true)
 unfolding has_layout
