@@ -7,6 +7,7 @@ mod library;
 
 use library::*;
 use std::alloc::{GlobalAlloc, Layout, System};
+use std::arch::asm;
 use std::fmt::Write;
 use std::hint::black_box;
 use std::sync::atomic::{AtomicUsize, Ordering::Relaxed};
@@ -132,6 +133,33 @@ fn crate_run(command: &str, text: &str, place: &mut Written) {
     };
 }
 
+/// The same reference, of which the compiler knows nothing any more. `black_box` hands it on through memory, and for that a
+/// call waits as long as for fifteen instructions.
+#[inline(always)]
+fn hidden<T>(reference: &T) -> &T {
+    let mut pointer: *const T = reference;
+    unsafe {
+        asm!("/* {0} */", inout(reg) pointer, options(nostack, preserves_flags));
+        &*pointer
+    }
+}
+
+/// The same text, likewise.
+#[inline(always)]
+fn hidden_text(text: &str) -> &str {
+    let (mut pointer, mut length) = (text.as_ptr(), text.len());
+    unsafe {
+        asm!("/* {0} {1} */", inout(reg) pointer, inout(reg) length, options(nostack, preserves_flags));
+        std::str::from_utf8_unchecked(std::slice::from_raw_parts(pointer, length))
+    }
+}
+
+/// Something that the compiler does not see looks at this answer, so that it has to be there.
+#[inline(always)]
+fn looked_at<T>(place: &T) {
+    unsafe { asm!("/* {0} */", in(reg) place as *const T, options(nostack, preserves_flags)) };
+}
+
 /// The nanoseconds of so many calls.
 #[inline(always)]
 fn batch(calls: usize, mut call: impl FnMut()) -> f64 {
@@ -229,12 +257,12 @@ macro_rules! read_duration {
         race(
             $name,
             || {
-                crate_read_duration(black_box(text), &mut crate_place);
-                black_box(&crate_place);
+                crate_read_duration(hidden_text(text), &mut crate_place);
+                looked_at(&crate_place);
             },
             || {
-                unsafe { library_read_duration(black_box(&given), &mut place) };
-                black_box(&place);
+                unsafe { library_read_duration(hidden(&given), &mut place) };
+                looked_at(&place);
             },
         );
     }};
@@ -293,15 +321,15 @@ macro_rules! read_texts {
             $name,
             || {
                 if let Some(text) = of_crate.next() {
-                    $by_crate(black_box(text), &mut crate_place);
+                    $by_crate(hidden_text(text), &mut crate_place);
                 }
-                black_box(&crate_place);
+                looked_at(&crate_place);
             },
             || {
                 if let Some(text) = of_library.next() {
-                    unsafe { $by_library(black_box(text), &mut place) };
+                    unsafe { $by_library(hidden(text), &mut place) };
                 }
-                black_box(&place);
+                looked_at(&place);
             },
         );
     }};
@@ -317,12 +345,12 @@ macro_rules! walk_spans {
         race(
             $name,
             || {
-                crate_read_duration(black_box(text), &mut crate_place);
-                black_box(&crate_place);
+                crate_read_duration(hidden_text(text), &mut crate_place);
+                looked_at(&crate_place);
             },
             || {
-                unsafe { library_walk_spans(black_box(&given), &mut place) };
-                black_box(&place);
+                unsafe { library_walk_spans(hidden(&given), &mut place) };
+                looked_at(&place);
             },
         );
     }};
@@ -340,11 +368,11 @@ macro_rules! canonical {
         race(
             $name,
             || {
-                crate_canonical(black_box(text), &mut crate_place);
-                black_box(&crate_place);
+                crate_canonical(hidden_text(text), &mut crate_place);
+                looked_at(&crate_place);
             },
             || {
-                let length = unsafe { library_canonical(black_box(&given), &mut place) };
+                let length = unsafe { library_canonical(hidden(&given), &mut place) };
                 black_box((length, &place));
             },
         );
@@ -409,12 +437,12 @@ macro_rules! read_moment {
         race(
             $name,
             || {
-                $by_crate(black_box(text), &mut crate_place);
-                black_box(&crate_place);
+                $by_crate(hidden_text(text), &mut crate_place);
+                looked_at(&crate_place);
             },
             || {
-                unsafe { $by_library(black_box(&given), &mut place) };
-                black_box(&place);
+                unsafe { $by_library(hidden(&given), &mut place) };
+                looked_at(&place);
             },
         );
     }};
