@@ -1,8 +1,7 @@
-//! Public calls under their own promises: sums, spans and canonical texts of durations.
+//! Public calls under their own promises: here sums, spans and canonical texts of durations.
 //!
 //! Each function is a call or two, and its contract follows from theirs. So what this contract rules out, the library's
-//! own do: `must-fail/` puts a wrong body in the place of each call. Reading stands so in `humantime_tests_durations`, and
-//! timestamps and days in `humantime_tests_timestamps`.
+//! own do: `must-fail/` puts a wrong body in the place of each call.
 #![tactic(auto)]
 
 ghost use Rattle.std.specs.Prelude.{◌≡◌, ◌+◌, ◌<◌, ◌↔◌, ℕ, List, chars, true, unwrap_or, Ok, Err, IfSome, IsSome};
@@ -13,6 +12,8 @@ ghost use Rattle.humantime.specs.Durations.Characters.{is_digit};
 use humantime::{DurationError, Span, SpanIter, StdDuration};
 
 pub mod borrowed;
+pub mod durations_read;
+pub mod timestamps;
 
 /// The sum, or `None` where it passes the longest duration.
 pub fn checked_add(a: StdDuration, b: StdDuration) -> Option<StdDuration>

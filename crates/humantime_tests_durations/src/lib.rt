@@ -1,6 +1,5 @@
-//! Above the library: tests of durations read and printed, of their errors and of what spans lend, and public calls under
-//! promises of their own. What tests expect comes from the crate's tests and from the written rules, never from what the
-//! library answers.
+//! Above the library: tests of durations read and printed, of their errors and of what spans lend. What tests expect comes
+//! from the crate's tests and from the written rules, never from what the library answers.
 #![tactic(auto)]
 
 #[cfg(test)]
@@ -9,7 +8,6 @@ mod duration_errors;
 mod durations_printed;
 #[cfg(test)]
 mod durations_read;
-pub mod promises;
 #[cfg(test)]
 mod spans_read;
 #[cfg(test)]

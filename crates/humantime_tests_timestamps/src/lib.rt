@@ -1,5 +1,5 @@
-//! Above the library: tests of timestamps read and printed, and of the calendar, and public calls under promises of their
-//! own. What tests expect comes from the crate's tests, from RFC 3339 and from counting, never from what the library answers.
+//! Above the library: tests of timestamps read and printed, and of the calendar. What tests expect comes from the crate's
+//! tests, from RFC 3339 and from counting, never from what the library answers.
 #![tactic(auto)]
 
 #[cfg(test)]
@@ -10,7 +10,6 @@ mod counted_calendar;
 mod plain_calendar;
 #[cfg(test)]
 mod printers;
-pub mod promises;
 #[cfg(test)]
 mod support;
 #[cfg(test)]

@@ -1,7 +1,4 @@
-//! Public calls under their own promises.
-//!
-//! Each function is one call, and its contract follows from that of the call. So what this contract rules out, the
-//! library's own does: `must-fail/` puts a wrong body in the place of each call.
+//! A duration read, under its own promises.
 
 ghost use Rattle.std.specs.Prelude.{◌≡◌, ◌↔◌, ℕ, chars, Ok, Err};
 ghost use Rattle.humantime.specs.Prelude.{Accepted, HasFault, Fault, result_view};

@@ -1,7 +1,4 @@
-//! Public calls under their own promises.
-//!
-//! Each function is one call, and its contract follows from that of the call. So what this contract rules out, the
-//! library's own does: `must-fail/` puts a wrong body in the place of each call.
+//! Timestamps and days under their own promises.
 
 ghost use Rattle.std.specs.Prelude.{◌≡◌, ◌+◌, ◌≤◌, ◌↔◌, ℤ, Ok, Err, IfSome, IsSome, Some};
 ghost use Rattle.humantime.specs.Prelude.{IsDate, IsPrinted, IsStrictMoment, IsWeakMoment, day_of, first_failed, strict_checks, weak_checks};
