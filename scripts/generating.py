@@ -39,6 +39,7 @@ class Part:
 
     def __init__(self, name, text, begin, end, is_constant):
         self.name, self.text, self.is_constant = name, text, is_constant
+        self.tables = {name for name, kind, _ in CONSTANT.findall(text) if kind.startswith("[")}
         found = [token for token in TOKEN.finditer(text, begin, end) if not token[0].startswith("//")]
         self.tokens, self.begins = [token[0] for token in found], [token.start() for token in found]
 
@@ -90,7 +91,7 @@ def numbers(part, at, product):
         value = int(found[1].replace("_", ""), 0)
         rule, step = ("one_less", -1) if value in (1, 255) else ("one_more", 1)
         yield rule, at, at, written(value + step, found[1]) + (found[2] or "")
-    elif token in product.numbers and not part.is_constant and not part.is_pattern(at):
+    elif token in product.numbers - part.tables and not part.is_constant and not part.is_pattern(at):
         first = at - 2 if part.token(at - 1) == "::" else at
         yield "one_more", first, at, f"({part.span(first, at)} + 1)"
 
