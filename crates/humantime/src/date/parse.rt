@@ -367,7 +367,7 @@ fn are_within(lanes: Lanes) -> bool
         && lanes.back.simd_le(u32x4::from_slice(&MOST_BACK)).all()
 }
 
-/// The seconds of the days before this one in its month, and of this day, summed in lanes.
+/// The seconds of the month's days up to this one, and those of the time of day, summed in lanes.
 #[inline(always)]
 fn seconds_of_month(lanes: Lanes) -> u32
     requires short { AreShort lanes }
