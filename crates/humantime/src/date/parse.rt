@@ -279,7 +279,7 @@ fn has_layout(bytes: &[u8]) -> bool
     let back = u8x16::from_slice(&bytes[3..]) - u8x16::from_slice(&LEAST_BACK);
     let beyond = front.saturating_sub(u8x16::from_slice(&MOST_ABOVE))
         | back.saturating_sub(u8x16::from_slice(&MOST_ABOVE_BACK));
-    none_above(beyond, 0)
+    beyond.simd_eq(u8x16::splat(0)).all()
 }
 
 /// No lane above this number.

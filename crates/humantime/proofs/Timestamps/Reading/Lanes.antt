@@ -2,7 +2,7 @@
 use Rattle.std.proofs.Common.{◌≡◌, ℕ, ◌+◌, ◌-◌, ◌%◌, ◌^◌, ◌<◌, ◌≤◌, Bool, true, false, cond, eqb, leb, ltb, ◌&&◌, List, [], ◌∷◌, map, replicate, length, get_or, take, drop, Fits, w8, refl, ap, sym, ◌∙◌, arith}
 use Rattle.std.specs.Char.{is_ascii_digit}
 use Rattle.std.specs.List.{list_all}
-use Rattle.std.specs.Prelude.{◌==◌, codes, nat_le, nat_eq, bit_or}
+use Rattle.std.specs.Prelude.{◌==◌, codes, nat_eq, bit_or}
 use Rattle.std.proofs.lemmas.Bool.{agree_below_at, le-leb}
 use Rattle.std.proofs.lemmas.Bool.Decides.{nat_tests}
 use Rattle.std.proofs.lemmas.List.Folds.{list_all-map}
@@ -28,18 +28,20 @@ all_bits (true ∷ ms) = grind (arith, nat_tests, (all_bits ms), two-pow-succ (l
 all_bits (false ∷ ms) = grind (arith, nat_tests, two-pow-succ (length ms), one-le-pow (length ms) 2 (omega arith))
 
 -- the lanes of a vector compared with those of another
-pub all_at_most : (w : Width) (most xs : List ℕ) → length xs ≡ length most → length most ≤ 64
-    → eqb (mask_l (map (top (hbits w)) (zip2 (λ a m. cond (leb a m) (2 ^ bits w - 1) 0) xs most)) % 2 ^ 64) (2 ^ length most - 1) ≡ are_set (zip2 leb xs most)
-all_at_most w most xs long few =
-    let size = length-zip2 leb xs most long ∙ long in
-    ap (λ (ms : List Bool). eqb (mask_l ms % 2 ^ 64) (2 ^ length most - 1)) (tops_compared w leb xs most)
-    ∙ ap (λ (n : ℕ). eqb n (2 ^ length most - 1)) (mask_l-mod (zip2 leb xs most) 64 (omega (arith, size)))
-    ∙ ap (λ (n : ℕ). eqb (mask_l (zip2 leb xs most)) (2 ^ n - 1)) (sym size)
-    ∙ all_bits (zip2 leb xs most)
+pub all_compared : (w : Width) (test : ℕ → ℕ → Bool) (others xs : List ℕ) → length xs ≡ length others → length others ≤ 64
+    → eqb (mask_l (map (top (hbits w)) (zip2 (λ a b. cond (test a b) (2 ^ bits w - 1) 0) xs others)) % 2 ^ 64) (2 ^ length others - 1)
+    ≡ are_set (zip2 test xs others)
+all_compared w test others xs long few =
+    let size = length-zip2 test xs others long ∙ long in
+    ap (λ (ms : List Bool). eqb (mask_l ms % 2 ^ 64) (2 ^ length others - 1)) (tops_compared w test xs others)
+    ∙ ap (λ (n : ℕ). eqb n (2 ^ length others - 1)) (mask_l-mod (zip2 test xs others) 64 (omega (arith, size)))
+    ∙ ap (λ (n : ℕ). eqb (mask_l (zip2 test xs others)) (2 ^ n - 1)) (sym size)
+    ∙ all_bits (zip2 test xs others)
 
 -- all lanes compared with one number
-pub none_above : (n most : ℕ) (xs : List ℕ) → length xs ≡ n → are_set (zip2 leb xs (replicate n most)) ≡ list_all (λ x. leb x most) xs
-none_above n most xs long = ap are_set (zip2_splat leb xs n most long) ∙ list_all-map (λ m. m) (λ x. leb x most) xs
+pub all_by_one : (test : ℕ → ℕ → Bool) (n other : ℕ) (xs : List ℕ) → length xs ≡ n
+    → are_set (zip2 test xs (replicate n other)) ≡ list_all (λ x. test x other) xs
+all_by_one test n other xs long = ap are_set (zip2_splat test xs n other long) ∙ list_all-map (λ m. m) (λ x. test x other) xs
 
 -- ---- Date and time
 
@@ -66,10 +68,10 @@ colon_left c h = agree_below_at (λ c. nat_eq (left (above c 58) 0) 0) (λ c. c 
 any_left : (c least : ℕ) → nat_eq (left (above c least) 255) 0 ≡ true
 any_left c least = agree_below_at (λ n. nat_eq (left n 255) 0) (λ _. true) 256 (above c least) refl (omega arith)
 
-both_zero : (a b : ℕ) → nat_le (bit_or a b) 0 ≡ (nat_eq a 0 && nat_eq b 0)
+both_zero : (a b : ℕ) → nat_eq (bit_or a b) 0 ≡ (nat_eq a 0 && nat_eq b 0)
 both_zero a b = grind (arith, nat_tests, le_or_l a b, le_or_r a b)
 
-first_zero : (a b : ℕ) → nat_eq b 0 ≡ true → nat_le (bit_or a b) 0 ≡ nat_eq a 0
+first_zero : (a b : ℕ) → nat_eq b 0 ≡ true → nat_eq (bit_or a b) 0 ≡ nat_eq a 0
 first_zero a b zero = grind (arith, nat_tests, le_or_l a b, le_or_r a b)
 
 -- the least byte of each place, and how far a byte may be above it; and the same from the fourth place on
@@ -105,7 +107,7 @@ signs_first true false u v a b c d e f g h i j k l m n = grind arith
 signs_first true true false v a b c d e f g h i j k l m n = grind arith
 
 pub layout_tested : (bytes : List ℕ) → 19 ≤ length bytes → ((k : ℕ) → Fits w8 (get_or bytes k 0)) → has_separator bytes ≡ true
-    → list_all (λ n. nat_le n 0) (beyond bytes) ≡ has_layout bytes
+    → list_all (λ n. nat_eq n 0) (beyond bytes) ≡ has_layout bytes
 unfolding has_layout has_punctuation has_digits has_two
 layout_tested bytes long fits separator =
     let byte = λ (k : ℕ). get_or bytes k 0 in
@@ -117,7 +119,7 @@ layout_tested bytes long fits separator =
     let colons = both_zero (left (above (byte 13) 58) 0) (left (above (byte 16) 58) 0)
     ∙ (λ i. colon_left (byte 13) (fits 13).fits i && colon_left (byte 16) (fits 16).fits i) in
     let digits = λ (k : ℕ). both_zero (left (above (byte k) 48) 9) (left (above (byte (k + 3)) 48) 9) ∙ (λ i. digit_at k i && digit_at (k + 3) i) in
-    ap (λ (bytes : List ℕ). list_all (λ n. nat_le n 0) (beyond bytes)) (nineteen bytes long)
+    ap (λ (bytes : List ℕ). list_all (λ n. nat_eq n 0) (beyond bytes)) (nineteen bytes long)
     ∙ (λ i. are_set (
     digit 0 48 i ∷ digit 1 45 i ∷ digit 2 48 i ∷ digit 3 48 i ∷ dash 4 45 i ∷ digit 5 48 i ∷ digit 6 48 i ∷ dash 7 32 i
     ∷ digit 8 48 i ∷ digit 9 48 i ∷ free i ∷ digit 11 48 i ∷ digit 12 48 i ∷ colons i ∷ digits 14 i ∷ digits 15 i ∷ []
