@@ -28,20 +28,18 @@ all_bits (true ∷ ms) = grind (arith, nat_tests, (all_bits ms), two-pow-succ (l
 all_bits (false ∷ ms) = grind (arith, nat_tests, two-pow-succ (length ms), one-le-pow (length ms) 2 (omega arith))
 
 -- the lanes of a vector compared with those of another
-pub all_compared : (w : Width) (test : ℕ → ℕ → Bool) (others xs : List ℕ) → length xs ≡ length others → length others ≤ 64
-    → eqb (mask_l (map (top (hbits w)) (zip2 (λ a b. cond (test a b) (2 ^ bits w - 1) 0) xs others)) % 2 ^ 64) (2 ^ length others - 1)
-    ≡ are_set (zip2 test xs others)
-all_compared w test others xs long few =
-    let size = length-zip2 test xs others long ∙ long in
-    ap (λ (ms : List Bool). eqb (mask_l ms % 2 ^ 64) (2 ^ length others - 1)) (tops_compared w test xs others)
-    ∙ ap (λ (n : ℕ). eqb n (2 ^ length others - 1)) (mask_l-mod (zip2 test xs others) 64 (omega (arith, size)))
-    ∙ ap (λ (n : ℕ). eqb (mask_l (zip2 test xs others)) (2 ^ n - 1)) (sym size)
-    ∙ all_bits (zip2 test xs others)
+pub all_compared : (w : Width) (test : ℕ → ℕ → Bool) (ys xs : List ℕ) → length xs ≡ length ys → length ys ≤ 64
+    → eqb (mask_l (map (top (hbits w)) (zip2 (λ a b. cond (test a b) (2 ^ bits w - 1) 0) xs ys)) % 2 ^ 64) (2 ^ length ys - 1) ≡ are_set (zip2 test xs ys)
+all_compared w test ys xs long few =
+    let size = length-zip2 test xs ys long ∙ long in
+    ap (λ (ms : List Bool). eqb (mask_l ms % 2 ^ 64) (2 ^ length ys - 1)) (tops_compared w test xs ys)
+    ∙ ap (λ (n : ℕ). eqb n (2 ^ length ys - 1)) (mask_l-mod (zip2 test xs ys) 64 (omega (arith, size)))
+    ∙ ap (λ (n : ℕ). eqb (mask_l (zip2 test xs ys)) (2 ^ n - 1)) (sym size)
+    ∙ all_bits (zip2 test xs ys)
 
 -- all lanes compared with one number
-pub all_by_one : (test : ℕ → ℕ → Bool) (n other : ℕ) (xs : List ℕ) → length xs ≡ n
-    → are_set (zip2 test xs (replicate n other)) ≡ list_all (λ x. test x other) xs
-all_by_one test n other xs long = ap are_set (zip2_splat test xs n other long) ∙ list_all-map (λ m. m) (λ x. test x other) xs
+pub all_by_one : (test : ℕ → ℕ → Bool) (n y : ℕ) (xs : List ℕ) → length xs ≡ n → are_set (zip2 test xs (replicate n y)) ≡ list_all (λ x. test x y) xs
+all_by_one test n y xs long = ap are_set (zip2_splat test xs n y long) ∙ list_all-map (λ m. m) (λ x. test x y) xs
 
 -- ---- Date and time
 
