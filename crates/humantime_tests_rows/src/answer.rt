@@ -1,0 +1,24 @@
+//! Answers as texts.
+
+use std::fmt::{self, Debug, Write};
+use std::str::FromStr;
+
+/// Writes a value as `{:?}` does, and what is wrong where other calls do not agree to it.
+pub(crate) fn tell<T: Debug + Drop>(value: T, agrees: bool, out: &mut String) -> fmt::Result {
+    write!(out, "{value:?}")?;
+    if agrees {
+        Ok(())
+    } else {
+        out.write_str(", to which other calls do not agree")
+    }
+}
+
+/// Two numbers with a space between them.
+pub(crate) fn parts<A: FromStr + Drop, B: FromStr + Drop>(text: &str) -> Option<(A, B)>
+where
+    A::Err: Drop,
+    B::Err: Drop,
+{
+    let (first, second) = text.split_once(' ')?;
+    Some((first.parse().ok()?, second.parse().ok()?))
+}

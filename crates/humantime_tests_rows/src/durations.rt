@@ -1,0 +1,139 @@
+//! What the library answers to calls about durations.
+
+use crate::answer::{parts, tell};
+use crate::display::is_always_written;
+use humantime::{
+    Duration, DurationError, Span, SpanIter, StdDuration, canonical, format_duration,
+    parse_duration, spans,
+};
+use std::fmt::{self, Write};
+
+/// Writes seconds and nanoseconds of the text, or its error.
+pub(crate) fn read(text: &str, out: &mut String) -> fmt::Result {
+    let parts = match parse_duration(text) {
+        Ok(value) => Ok((value.as_secs(), value.subsec_nanos())),
+        Err(error) => Err(error),
+    };
+    tell(parts, is_read_alike(text), out)
+}
+
+/// Whether the calls that read the text agree, and leave the buffer as it was where they refuse it.
+fn is_read_alike(text: &str) -> bool {
+    let mut buf = [b'-'; 64];
+    let wrapped = Duration::from_str(text);
+    match (parse_duration(text), canonical(text, &mut buf)) {
+        (Ok(value), Ok(printed)) => {
+            wrapped == Ok(Duration::from(value)) && is_shown(value, printed)
+        }
+        (Err(error), Err(same)) => {
+            error == same
+                && wrapped == Err(error)
+                && points_into(error, text)
+                && buf.as_slice() == [b'-'; 64].as_slice()
+        }
+        _ => false,
+    }
+}
+
+/// Whether the duration is printed as this text, and read from it.
+fn is_shown(value: StdDuration, text: &str) -> bool {
+    format_duration(value).text(&mut [b'x'; 64]) == text && parse_duration(text) == Ok(value)
+}
+
+/// Whether the error's offsets lie in the text where a character begins or the text ends, and its unit between them.
+fn points_into(error: DurationError<'_>, text: &str) -> bool {
+    match error {
+        DurationError::InvalidCharacter(at) | DurationError::NumberExpected(at) => {
+            text.is_char_boundary(at)
+        }
+        DurationError::UnknownUnit {
+            start,
+            end,
+            unit,
+            ..
+        } => text.get(start..end) == Some(unit),
+        DurationError::NumberOverflow | DurationError::Empty => true,
+    }
+}
+
+/// Writes the canonical text of a text.
+pub(crate) fn print_anew(text: &str, out: &mut String) -> fmt::Result {
+    tell(canonical(text, &mut [0; 64]), true, out)
+}
+
+/// Writes the message of a text's error.
+pub(crate) fn explain(text: &str, out: &mut String) -> fmt::Result {
+    match parse_duration(text) {
+        Ok(_) => out.write_str("no error"),
+        Err(error) => write_message(error, out),
+    }
+}
+
+/// Writes the message of an error, whatever format is asked for.
+fn write_message(error: DurationError<'_>, out: &mut String) -> fmt::Result {
+    let before = out.len();
+    write!(out, "{error}")?;
+    let message = out.as_str().get(before..).unwrap_or("");
+    let agrees = is_always_written(&error, message, u32::MAX);
+    if agrees {
+        Ok(())
+    } else {
+        out.write_str(", but not under each format")
+    }
+}
+
+/// Writes the messages of both errors that have this offset.
+pub(crate) fn misplace(offset: &str, out: &mut String) -> fmt::Result {
+    let at = offset.parse().unwrap_or(0);
+    write_message(DurationError::InvalidCharacter(at), out)?;
+    out.write_str(", ")?;
+    write_message(DurationError::NumberExpected(at), out)
+}
+
+/// Writes what a duration of so many seconds and nanoseconds is printed as.
+pub(crate) fn print(numbers: &str, out: &mut String) -> fmt::Result {
+    let (secs, nanos) = parts(numbers).unwrap_or((0, 0));
+    let value = StdDuration::checked_new(secs, nanos).unwrap_or(StdDuration::MAX);
+    let mut buf = [0; 64];
+    let text = format_duration(value).text(&mut buf);
+    tell(text, is_printed_alike(value, text), out)
+}
+
+/// Whether all that prints the duration prints this text, and it reads back.
+fn is_printed_alike(value: StdDuration, text: &str) -> bool {
+    let printed = format_duration(value);
+    let is_cloned = match printed.clone() {
+        Ok(same) => same.text(&mut [b'x'; 64]) == text,
+        Err(_) => false,
+    };
+    is_cloned
+        && *printed.get_ref() == value
+        && is_always_written(&printed, text, 1)
+        && is_always_written(&Duration::from(value), text, 1)
+        && is_shown(value, text)
+}
+
+/// What a span lends: its number, its fraction and its unit; then its offsets and its value.
+type Lent<'a> = (&'a str, Option<&'a str>, &'a str, usize, usize, u64);
+
+/// Writes the first four items of a text.
+pub(crate) fn split(text: &str, out: &mut String) -> fmt::Result {
+    let mut items = spans(text);
+    let first = (next_item(&mut items), next_item(&mut items));
+    let rest = (next_item(&mut items), next_item(&mut items));
+    tell((first, rest), true, out)
+}
+
+/// The next item, with what it lends.
+fn next_item<'a>(items: &mut SpanIter<'a>) -> Option<Result<Lent<'a>, DurationError<'a>>> {
+    match items.next()? {
+        Ok(span) => Some(Ok(lent(span))),
+        Err(error) => Some(Err(error)),
+    }
+}
+
+fn lent<'a>(span: Span<'a>) -> Lent<'a> {
+    let (start, end, value) = (span.start(), span.end(), span.value());
+    let (number, fraction, unit) = (span.number(), span.fraction(), span.unit());
+    (number, fraction, unit, start, end, value)
+}

@@ -1,0 +1,115 @@
+//! What the library answers to calls about timestamps and days.
+
+use crate::answer::{parts, tell};
+use crate::display::{is_always_written, refused_requests};
+use humantime::{
+    Date, Rfc3339Timestamp, SystemTime, Timestamp, TimestampError, Turns, UNIX_EPOCH, date_of_day,
+    day_number, format_rfc3339, format_rfc3339_micros, format_rfc3339_millis, format_rfc3339_nanos,
+    format_rfc3339_seconds, parse_rfc3339, parse_rfc3339_weak,
+};
+use std::fmt::{self, Write};
+
+type Moment = Result<SystemTime, TimestampError>;
+
+/// Writes seconds and nanoseconds of the text in strict form, or the error.
+pub(crate) fn read_strictly(text: &str, out: &mut String) -> fmt::Result {
+    tell(parts_of(parse_rfc3339(text)), true, out)
+}
+
+/// Writes seconds and nanoseconds of the text in weak form, or the error.
+pub(crate) fn read_weakly(text: &str, out: &mut String) -> fmt::Result {
+    let read = parse_rfc3339_weak(text);
+    let wrapped: Result<Timestamp, TimestampError> = text.parse();
+    let same = match wrapped {
+        Ok(wrapper) => Ok(SystemTime::from(wrapper)),
+        Err(error) => Err(error),
+    };
+    tell(parts_of(read), same == read, out)
+}
+
+/// Seconds and nanoseconds of what was read.
+fn parts_of(read: Moment) -> Result<(i64, u32), TimestampError> {
+    let moment = read?;
+    Ok((moment.unix_seconds(), moment.subsec_nanos()))
+}
+
+/// Writes the message of the error of the text in weak form, whatever format is asked for.
+pub(crate) fn explain(text: &str, out: &mut String) -> fmt::Result {
+    let Err(error) = parse_rfc3339_weak(text) else {
+        return out.write_str("no error");
+    };
+    write!(out, "{error}")?;
+    if is_always_written(&error, out.as_str(), 1) {
+        Ok(())
+    } else {
+        out.write_str(", but not under each format")
+    }
+}
+
+/// Writes what a moment of so many seconds and nanoseconds is printed as by the call of this name.
+pub(crate) fn print(call: &str, numbers: &str, out: &mut String) -> fmt::Result {
+    let (secs, nanos) = parts(numbers).unwrap_or((0, u32::MAX));
+    let moment = SystemTime::from_parts(secs, nanos).unwrap_or(UNIX_EPOCH);
+    let Some(printable) = called(call, moment) else {
+        return out.write_str("no call has this name");
+    };
+    let mut buf = [b'-'; 30];
+    let text = printable.text(&mut buf);
+    tell(text, is_printed_alike(call, moment, &printable, text), out)?;
+    if text.is_some() || buf == [b'-'; 30] {
+        Ok(())
+    } else {
+        out.write_str(", but the buffer is another")
+    }
+}
+
+/// What the call of this name makes of the moment.
+fn called(call: &str, moment: SystemTime) -> Option<Rfc3339Timestamp> {
+    match call {
+        "shortest" => Some(format_rfc3339(moment)),
+        "seconds" => Some(format_rfc3339_seconds(moment)),
+        "millis" => Some(format_rfc3339_millis(moment)),
+        "micros" => Some(format_rfc3339_micros(moment)),
+        "nanos" => Some(format_rfc3339_nanos(moment)),
+        _ => None,
+    }
+}
+
+/// Whether `Display` writes the same, or asks for nothing where there is no text; the shortest text reads back.
+fn is_printed_alike(
+    call: &str,
+    moment: SystemTime,
+    printable: &Rfc3339Timestamp,
+    text: Option<&str>,
+) -> bool {
+    let wrapper = Timestamp::from(moment);
+    let is_shortest = call == "shortest";
+    *printable.get_ref() == moment
+        && match text {
+            Some(text) => {
+                is_always_written(printable, text, 1)
+                    && (!is_shortest || is_always_written(&wrapper, text, 1))
+                    && (!is_shortest || parse_rfc3339(text) == Ok(moment))
+            }
+            None => refused_requests(printable) == 0 && refused_requests(&wrapper) == 0,
+        }
+}
+
+/// Writes the number of a day.
+pub(crate) fn number_day(numbers: &str, out: &mut String) -> fmt::Result {
+    let (year, rest) = numbers.split_once(' ').unwrap_or(("", ""));
+    let (month, day) = parts(rest).unwrap_or((0, 0));
+    let year = year.parse().unwrap_or(0);
+    let date = Date { year, month, day };
+    tell(day_number(date, &mut Turns::new()), true, out)
+}
+
+/// Writes the date of the day of this number.
+pub(crate) fn date_day(number: &str, out: &mut String) -> fmt::Result {
+    let number = number.parse().unwrap_or(u32::MAX);
+    let date = match date_of_day(number, &mut Turns::new()) {
+        Some(date) => Some((date.year, date.month, date.day)),
+        None => None,
+    };
+    tell(date, true, out)
+}
