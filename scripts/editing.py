@@ -16,6 +16,7 @@ ORDER_ALONE = [
     ("humantime_tests_sinks:", " humantime"),
     ("humantime_tests_values:", " humantime_tests_contracts"),
 ]
+ROWS = "humantime_tests_rows"
 TESTED = ["humantime_tests_values", "humantime_tests_programs", "humantime_tests_durations", "humantime_tests_timestamps", "humantime_cli"]
 
 
@@ -112,11 +113,11 @@ def has_word(words, *texts):
     return not words or any(word in text for word in words for text in texts)
 
 
-def rt(top, crate, *words):
-    command = ["rt", *words]
+def rt(top, crate, *words, given=""):
+    """What `rt` says in a crate's folder, with this text on standard input."""
     folder = os.path.join(top, "crates", crate)
-    how = {"stdin": subprocess.DEVNULL, "stdout": subprocess.PIPE, "stderr": subprocess.STDOUT, "text": True, "errors": "replace"}
-    return subprocess.run(command, cwd=folder, **how)
+    how = {"input": given, "stdout": subprocess.PIPE, "stderr": subprocess.STDOUT, "text": True, "errors": "replace"}
+    return subprocess.run(["rt", *words], cwd=folder, **how)
 
 
 def copied(top, to):
@@ -187,7 +188,12 @@ def left_open(said):
 
 
 def judged_by_tests(top):
-    """What the tests say, run without any proof."""
+    """What the rows and the tests say, run without any proof."""
+    with open(os.path.join(top, "crates", ROWS, "stdin"), encoding="utf-8") as file:
+        ran = rt(top, ROWS, "try", given=file.read())
+    if ran.returncode:
+        failed = re.search(r"^.*, but the answer is .*", ran.stdout, re.M)
+        return ("test", failed[0]) if failed else ("UNREADABLE", ran.stdout[-200:])
     for crate in TESTED:
         ran = rt(top, crate, "try", "--test")
         if ran.returncode:
