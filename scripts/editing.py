@@ -16,7 +16,8 @@ ORDER_ALONE = [
     ("humantime_tests_sinks:", " humantime"),
     ("humantime_tests_values:", " humantime_tests_contracts"),
 ]
-TESTED = ["humantime_tests_values", "humantime_tests_programs", "humantime_tests_durations", "humantime_tests_timestamps", "humantime_cli"]
+TESTED = ["humantime_tests_values", "humantime_tests_programs", "humantime_tests_durations", "humantime_tests_timestamps"]
+PROGRAM = "humantime_cli"
 
 
 class Edit:
@@ -186,11 +187,18 @@ def left_open(said):
     return [Goal(*found) for found in OPEN_GOAL.findall(said)], ANSWER.findall(said)
 
 
-def judged_by_tests(top):
-    """What the tests say, run without any proof."""
-    for crate in TESTED:
+def judged_by_tests(top, changed):
+    """What the tests above the changed crate say, run without any proof, and then scripts/program of the program, which is proved."""
+    for crate in TESTED if changed != PROGRAM else []:
         ran = rt(top, crate, "try", "--test")
         if ran.returncode:
             failed = re.search(r"^test (\S+) \.\.\. FAILED", ran.stdout, re.M)
             return ("test", failed[0]) if failed else ("UNREADABLE", ran.stdout[-200:])
-    return "NOTHING", "the tests pass"
+    built = os.path.join(top, "crates", PROGRAM, "out", PROGRAM)
+    if os.path.exists(built):
+        os.remove(built)
+    rt(top, PROGRAM, "run", "--", "duration", "2h 37min")
+    if not os.path.exists(built):
+        return "NOTHING", "the tests pass, and the program is not proved"
+    ran = subprocess.run([os.path.join(ROOT, "scripts", "program"), built], stdout=subprocess.PIPE, text=True)
+    return ("test", ran.stdout.partition("\n")[0]) if ran.returncode else ("NOTHING", "the tests and scripts/program pass")
