@@ -17,7 +17,8 @@ ORDER_ALONE = [
     ("humantime_tests_values:", " humantime_tests_contracts"),
 ]
 ROWS = "humantime_tests_rows"
-TESTED = ["humantime_tests_values", "humantime_tests_programs", "humantime_tests_durations", "humantime_tests_timestamps", "humantime_cli"]
+TESTED = ["humantime_tests_values", "humantime_tests_callers"]
+PROGRAM = "humantime_cli"
 
 
 class Edit:
@@ -187,16 +188,44 @@ def left_open(said):
     return [Goal(*found) for found in OPEN_GOAL.findall(said)], ANSWER.findall(said)
 
 
-def judged_by_tests(top):
-    """What the rows and the tests say, run without any proof."""
+def said_wrong(ran, pattern):
+    """The line of this pattern that a run said, if it did not end well."""
+    if not ran.returncode:
+        return None
+    failed = re.search(pattern, ran.stdout, re.M)
+    return ("test", failed[0]) if failed else ("UNREADABLE", ran.stdout[-200:])
+
+
+def failed_rows(top):
+    """What the table's rows say where one does not hold, run without any proof."""
     with open(os.path.join(top, "crates", ROWS, "stdin"), encoding="utf-8") as file:
         ran = rt(top, ROWS, "try", given=file.read())
-    if ran.returncode:
-        failed = re.search(r"^.*, but the answer is .*", ran.stdout, re.M)
-        return ("test", failed[0]) if failed else ("UNREADABLE", ran.stdout[-200:])
-    for crate in TESTED:
-        ran = rt(top, crate, "try", "--test")
-        if ran.returncode:
-            failed = re.search(r"^test (\S+) \.\.\. FAILED", ran.stdout, re.M)
-            return ("test", failed[0]) if failed else ("UNREADABLE", ran.stdout[-200:])
-    return "NOTHING", "the tests pass"
+    return said_wrong(ran, r"^.*, but the answer is .*")
+
+
+def failed_test(top, crate):
+    """What a crate's tests say where one fails, run without any proof."""
+    ran = rt(top, crate, "try", "--test")
+    return said_wrong(ran, r"^test (\S+) \.\.\. FAILED")
+
+
+def failed_program(top):
+    """What scripts/program says of the program, which is proved, where it does otherwise than it has to."""
+    built = os.path.join(top, "crates", PROGRAM, "out", PROGRAM)
+    if os.path.exists(built):
+        os.remove(built)
+    rt(top, PROGRAM, "run", "--", "duration", "2h 37min")
+    if not os.path.exists(built):
+        return "NOTHING", "the tests pass, and the program is not proved"
+    ran = subprocess.run([os.path.join(ROOT, "scripts", "program"), built], stdout=subprocess.PIPE, text=True)
+    return ("test", ran.stdout.partition("\n")[0]) if ran.returncode else None
+
+
+def judged_by_tests(top, changed):
+    """What the first of these says that fails: rows and tests, but of the program alone scripts/program."""
+    found = None
+    if changed != PROGRAM:
+        found = failed_rows(top)
+        for crate in TESTED:
+            found = found or failed_test(top, crate)
+    return found or failed_program(top) or ("NOTHING", "rows, tests and scripts/program pass")

@@ -1,4 +1,4 @@
 pub mod AnswerLemmas
-pub mod CallerLemmas
 pub mod EndsLemmas
+pub mod WorkedRuns
 pub mod WritesLemmas

@@ -1,0 +1,69 @@
+-- What a caller of `run` concludes at three words that it knows, where the bytes of both writers are known. Nothing cites these
+-- facts: they are open where a definition says less.
+use Rattle.std.proofs.Common.{arith, ◌≡◌, ◌≢◌, ◌<◌, ℕ, List, [], ◌∷◌, ◌++◌, length, take, subst, inl, inr, refl}
+use Rattle.std.specs.Prelude.{Option, None, Some, Ok, Err, codes}
+use Rattle.humantime.specs.Prelude.{InvalidCharacter}
+use Rattle.humantime.proofs.OnLiterals.{humantime_on_literals}
+use Rattle.humantime.proofs.Theorems.{canonical_again}
+use Rattle.humantime_cli.specs.Answers.{Answer, Answers, OneAnswer, Ends, EndsWith, Whole, Cut, Duration, outcome}
+use Rattle.humantime_cli.specs.Writes.{line}
+use Rattle.humantime_cli.proofs.AnswerLemmas.{not_two}
+
+-- words whose answer is known end with it
+ends_with : (words : List (List ℕ)) (answer : Answer) {s : ℕ} {o n e m : Option (List ℕ)} → Answers words answer → OneAnswer words
+    → Ends words s o n e m → EndsWith answer s o n e m
+ends_with words answer {s = s} {o = o} {n = n} {e = e} {m = m} answers one (other, also, ends) =
+    subst (λ a. EndsWith a s o n e m) (one answer other answers also) ends
+
+-- unless the status is 3, it is this one, and these bytes were written
+abbrev Wrote : ℕ → List ℕ → List ℕ → ℕ → List ℕ → List ℕ → List ℕ → List ℕ → Type 0
+Wrote code out err status old_out new_out old_err new_err = status ≢ 3 → (status ≡ code) × (new_out ≡ old_out ++ out) × (new_err ≡ old_err ++ err)
+
+all_written : {answer : Answer} {s : ℕ} {o n e m : List ℕ} → EndsWith answer s (Some o) (Some n) (Some e) (Some m) → Wrote (outcome answer).0 (outcome answer).1 (outcome answer).2 s o n e m
+all_written (Whole same taken told) other = (same, taken, told)
+all_written (Cut three fronts) other = absurd (other three)
+
+-- a front of what is printed was written, if the status is 3
+front_written : {printed : List ℕ} {s : ℕ} {o n e m : List ℕ} → EndsWith (Some (Ok printed)) s (Some o) (Some n) (Some e) (Some m) → s ≡ 3
+    → ((k : ℕ) × (k < length (line printed)) × (n ≡ o ++ take k (line printed))) × (m ≡ e)
+front_written (Whole zero taken told) three = absurd (omega (arith, zero, three))
+front_written (Cut three (inl fronts)) again = fronts
+front_written (Cut three (inr (kept, (n, before, taken)))) again = absurd (omega (arith, before))
+
+-- the words of three callers, and their answers
+abbrev hours : List (List ℕ)
+hours = codes "duration" ∷ codes "2h 37min" ∷ []
+
+abbrev fault : List (List ℕ)
+fault = codes "duration" ∷ codes "1~" ∷ []
+
+abbrev help : List (List ℕ)
+help = codes "--help" ∷ []
+
+duration_printed : Answers hours (Some (Ok (codes "2h 37m")))
+unfolding humantime_on_literals
+duration_printed = (codes "duration", Duration, codes "2h 37min", refl, ((canonical_again (codes "2h 37min")).text (codes "2h 37m")).0 refl)
+
+fault_explained : Answers fault (Some (Err (codes "invalid character at 1")))
+unfolding humantime_on_literals
+fault_explained = (codes "duration", Duration, codes "1~", refl, (InvalidCharacter 1, ((canonical_again (codes "1~")).fault (InvalidCharacter 1)).0 refl, refl))
+
+-- what a caller of these words concludes
+abbrev Ran : List (List ℕ) → (ℕ → List ℕ → List ℕ → List ℕ → List ℕ → Type 0) → Type 0
+Ran words Told = {s : ℕ} {o n e m : List ℕ} → OneAnswer words → Ends words s (Some o) (Some n) (Some e) (Some m) → Told s o n e m
+
+-- A duration was printed whole.
+printed_whole : Ran hours (Wrote 0 (codes "2h 37m\n") [])
+printed_whole one ends = all_written (ends_with hours (Some (Ok (codes "2h 37m"))) duration_printed one ends)
+
+-- With status 3 the first bytes of its line were written, at most six of the seven.
+printed_cut : Ran hours (λ s o n e m. s ≡ 3 → ((k : ℕ) × (k < 7) × (n ≡ o ++ take k (codes "2h 37m\n"))) × (m ≡ e))
+printed_cut one ends three = front_written (ends_with hours (Some (Ok (codes "2h 37m"))) duration_printed one ends) three
+
+-- A fault was explained.
+explained : Ran fault (Wrote 1 [] (codes "invalid character at 1\n"))
+explained one ends = all_written (ends_with fault (Some (Err (codes "invalid character at 1"))) fault_explained one ends)
+
+-- It was told how the program is called.
+usage_told : Ran help (Wrote 2 [] (codes "usage: humantime duration|strict|weak TEXT\n"))
+usage_told one ends = all_written (ends_with help None (not_two help (omega arith)) one ends)
