@@ -50,20 +50,20 @@ fault_explained = (codes "duration", Duration, codes "1~", refl, (InvalidCharact
 
 -- what a caller of these words concludes
 abbrev Ran : List (List ℕ) → (ℕ → List ℕ → List ℕ → List ℕ → List ℕ → Type 0) → Type 0
-Ran words Told = {s : ℕ} {o n e m : List ℕ} → OneAnswer words → Ends words s (Some o) (Some n) (Some e) (Some m) → Told s o n e m
+Ran words Told = (s : ℕ) (o n e m : List ℕ) → OneAnswer words → Ends words s (Some o) (Some n) (Some e) (Some m) → Told s o n e m
 
 -- A duration was printed whole.
 printed_whole : Ran hours (Wrote 0 (codes "2h 37m\n") [])
-printed_whole one ends = all_written (ends_with hours (Some (Ok (codes "2h 37m"))) duration_printed one ends)
+printed_whole _ _ _ _ _ one ends = all_written (ends_with hours (Some (Ok (codes "2h 37m"))) duration_printed one ends)
 
 -- With status 3 the first bytes of its line were written, at most six of the seven.
 printed_cut : Ran hours (λ s o n e m. s ≡ 3 → ((k : ℕ) × (k < 7) × (n ≡ o ++ take k (codes "2h 37m\n"))) × (m ≡ e))
-printed_cut one ends three = front_written (ends_with hours (Some (Ok (codes "2h 37m"))) duration_printed one ends) three
+printed_cut _ _ _ _ _ one ends three = front_written (ends_with hours (Some (Ok (codes "2h 37m"))) duration_printed one ends) three
 
 -- A fault was explained.
 explained : Ran fault (Wrote 1 [] (codes "invalid character at 1\n"))
-explained one ends = all_written (ends_with fault (Some (Err (codes "invalid character at 1"))) fault_explained one ends)
+explained _ _ _ _ _ one ends = all_written (ends_with fault (Some (Err (codes "invalid character at 1"))) fault_explained one ends)
 
 -- It was told how the program is called.
 usage_told : Ran help (Wrote 2 [] (codes "usage: humantime duration|strict|weak TEXT\n"))
-usage_told one ends = all_written (ends_with help None (not_two help (omega arith)) one ends)
+usage_told _ _ _ _ _ one ends = all_written (ends_with help None (not_two help (omega arith)) one ends)
