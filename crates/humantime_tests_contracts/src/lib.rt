@@ -1,7 +1,7 @@
 //! Public calls under their own promises: here sums, spans and canonical texts of durations.
 //!
 //! Each function is a call or two, and its contract follows from theirs. So what this contract rules out, the library's
-//! own do: `must-fail/` puts a wrong body in the place of each call.
+//! own do: `mutants/` and `must-fail/` put wrong bodies in the place of the calls.
 #![tactic(auto)]
 
 ghost use Rattle.std.specs.Prelude.{◌≡◌, ◌+◌, ◌<◌, ◌↔◌, ℕ, List, chars, true, unwrap_or, Ok, Err, IfSome, IsSome};
