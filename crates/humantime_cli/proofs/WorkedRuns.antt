@@ -1,5 +1,5 @@
--- What a caller of `run` concludes at three words that it knows, where the bytes of both writers are known. Nothing cites these
--- facts: they are open where a definition says less.
+-- What a caller of `run` concludes at words that it knows, where the bytes of both writers are known. Nothing cites these facts:
+-- they are open where a definition says less.
 use Rattle.std.proofs.Common.{arith, append-nil, ◌≡◌, ◌≢◌, ◌<◌, ℕ, List, [], ◌∷◌, ◌++◌, ◌∙◌, length, take, subst, inl, inr, refl}
 use Rattle.std.specs.Prelude.{Option, None, Some, Ok, Err, codes}
 use Rattle.humantime.specs.Prelude.{InvalidCharacter}
@@ -30,7 +30,7 @@ front_written (Whole zero taken told) three = absurd (omega (arith, zero, three)
 front_written (Cut three (inl fronts)) again = fronts
 front_written (Cut three (inr (kept, (n, before, taken)))) again = absurd (omega (arith, before))
 
--- the words of three callers, and their answers
+-- three callers' words, and their answers
 abbrev hours : List (List ℕ)
 hours = codes "duration" ∷ codes "2h 37min" ∷ []
 
