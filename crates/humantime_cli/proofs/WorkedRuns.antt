@@ -1,5 +1,5 @@
--- What a caller of `run` concludes at three words that it knows, where the bytes of both writers are known. Nothing cites these
--- facts: they are open where a definition says less.
+-- What a caller of `run` concludes at words that it knows, where the bytes of both writers are known. Nothing cites these facts:
+-- they are open where a definition says less.
 use Rattle.std.proofs.Common.{arith, ◌≡◌, ◌≢◌, ◌<◌, ℕ, List, [], ◌∷◌, ◌++◌, length, take, subst, inl, inr, refl}
 use Rattle.std.specs.Prelude.{Option, None, Some, Ok, Err, codes}
 use Rattle.humantime.specs.Prelude.{InvalidCharacter}
@@ -30,21 +30,15 @@ front_written (Whole zero taken told) three = absurd (omega (arith, zero, three)
 front_written (Cut three (inl fronts)) again = fronts
 front_written (Cut three (inr (kept, (n, before, taken)))) again = absurd (omega (arith, before))
 
--- the words of three callers, and their answers
+-- callers' words, and their answers
 abbrev hours : List (List ℕ)
 hours = codes "duration" ∷ codes "2h 37min" ∷ []
-
-abbrev fault : List (List ℕ)
-fault = codes "duration" ∷ codes "1~" ∷ []
-
-abbrev help : List (List ℕ)
-help = codes "--help" ∷ []
 
 duration_printed : Answers hours (Some (Ok (codes "2h 37m")))
 unfolding humantime_on_literals
 duration_printed = (codes "duration", Duration, codes "2h 37min", refl, ((canonical_again (codes "2h 37min")).text (codes "2h 37m")).0 refl)
 
-fault_explained : Answers fault (Some (Err (codes "invalid character at 1")))
+fault_explained : Answers (codes "duration" ∷ codes "1~" ∷ []) (Some (Err (codes "invalid character at 1")))
 unfolding humantime_on_literals
 fault_explained = (codes "duration", Duration, codes "1~", refl, (InvalidCharacter 1, ((canonical_again (codes "1~")).fault (InvalidCharacter 1)).0 refl, refl))
 
@@ -61,9 +55,9 @@ printed_cut : Ran hours (λ s o n e m. s ≡ 3 → ((k : ℕ) × (k < 7) × (n �
 printed_cut _ _ _ _ _ one ends three = front_written (ends_with hours (Some (Ok (codes "2h 37m"))) duration_printed one ends) three
 
 -- A fault was explained.
-explained : Ran fault (Wrote 1 [] (codes "invalid character at 1\n"))
-explained _ _ _ _ _ one ends = all_written (ends_with fault (Some (Err (codes "invalid character at 1"))) fault_explained one ends)
+explained : Ran (codes "duration" ∷ codes "1~" ∷ []) (Wrote 1 [] (codes "invalid character at 1\n"))
+explained _ _ _ _ _ one ends = all_written (ends_with _ (Some (Err (codes "invalid character at 1"))) fault_explained one ends)
 
 -- It was told how the program is called.
-usage_told : Ran help (Wrote 2 [] (codes "usage: humantime duration|strict|weak TEXT\n"))
-usage_told _ _ _ _ _ one ends = all_written (ends_with help None (not_two help (omega arith)) one ends)
+usage_told : Ran (codes "--help" ∷ []) (Wrote 2 [] (codes "usage: humantime duration|strict|weak TEXT\n"))
+usage_told _ _ _ _ _ one ends = all_written (ends_with _ None (not_two _ (omega arith)) one ends)
