@@ -22,8 +22,7 @@ to_err (Ok status) text answer out old new same none wrote ended = Whole ended (
 to_err (Err e) text answer out old new same none wrote ended = Cut refl (inr (Keeps-refl out, subst (AppendsFront old new) same wrote))
 
 -- what was written to standard output stays where it is flushed
-pub flushed : {answer : Answer} {status : ℕ} {old_out mid_out new_out old_err new_err : Option (List ℕ)}
-    → EndsWith answer status old_out mid_out old_err new_err → Keeps mid_out new_out → EndsWith answer status old_out new_out old_err new_err
+pub flushed : {answer : Answer} {s : ℕ} {o mid n e m : Option (List ℕ)} → EndsWith answer s o mid e m → Keeps mid n → EndsWith answer s o n e m
 flushed (Whole same taken told) kept = Whole same (Appends-kept _ _ _ _ taken kept) told
 flushed (Cut three (inl ((n, before, taken), same))) kept = Cut three (inl ((n, before, Appends-kept _ _ _ _ taken kept), same))
 flushed (Cut three (inr (same, front))) kept = Cut three (inr (Keeps-trans _ _ _ same kept, front))

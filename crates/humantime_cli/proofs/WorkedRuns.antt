@@ -10,10 +10,8 @@ use Rattle.humantime_cli.specs.Writes.{line}
 use Rattle.humantime_cli.proofs.AnswerLemmas.{not_two}
 
 -- words whose answer is known end with it
-ends_with : (words : List (List ℕ)) (answer : Answer) {s : ℕ} {o n e m : Option (List ℕ)} → Answers words answer → OneAnswer words
-    → Ends words s o n e m → EndsWith answer s o n e m
-ends_with words answer {s = s} {o = o} {n = n} {e = e} {m = m} answers one (other, also, ends) =
-    subst (λ a. EndsWith a s o n e m) (one answer other answers also) ends
+ends_with : (words : List (List ℕ)) (answer : Answer) {s : ℕ} {o n e m : Option (List ℕ)} → Answers words answer → OneAnswer words → Ends words s o n e m → EndsWith answer s o n e m
+ends_with words answer {s = s} {o = o} {n = n} {e = e} {m = m} answers one (other, also, ends) = subst (λ a. EndsWith a s o n e m) (one answer other answers also) ends
 
 -- unless the status is 3, it is this one, and these bytes were written
 abbrev Wrote : ℕ → List ℕ → List ℕ → ℕ → List ℕ → List ℕ → List ℕ → List ℕ → Type 0
