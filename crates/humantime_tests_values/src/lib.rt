@@ -1,5 +1,5 @@
-//! Tests of values and of what `humantime_tests` shows. They stand in a crate of their own, since a crate is proved once with its
-//! tests and once without.
+//! Tests of what no row of a table says: values, traits, what is lent and how formats change nothing. What is expected comes from
+//! the written rules, never from what the library answers.
 #![tactic(auto)]
 
 #[cfg(test)]

@@ -1,11 +1,15 @@
-//! Values, and what CALLING.md shows, run. What is expected comes from the written rules, never from what the library answers.
+//! What no row of a table says, and the assertion that each test makes.
 
-mod bounds;
-mod callers;
-mod law_callers;
-mod memory;
-mod std_durations;
-mod support;
-mod system_times;
-mod timestamp_laws;
-mod wrappers;
+mod errors;
+mod formats;
+mod lent;
+mod traits;
+mod values;
+
+use std::fmt::Debug;
+use std::process::Abort;
+
+/// The two are equal.
+fn assert_same<T: PartialEq + Debug + Drop>(rt: &impl Abort, left: T, right: T) {
+    assert_eq!(rt; left, right);
+}
