@@ -138,7 +138,8 @@ stands_wrong text front spans rest e f d s is = inl (Wrong_there (begins_not_nil
 
 row_stands : (text front : List ℕ) (spans : List Span) (rest : List ℕ) (e : Fault) → Row text front spans rest e → Stands text front spans rest e
 row_stands text front spans rest e (Nothing none end is) = inl (Nothing_there none end is)
-row_stands text front spans rest e (No_digit d some at is) = grind (arith, common_steps)
+row_stands text front spans rest e (No_digit d some at is) =
+    inl (Wrong_there some (elim at [ inl first ↦ inl first | inr behind ↦ inr (inl behind) ]) (rw d (ap Some (sym is))))
 row_stands text front spans rest e (Too_large d large is) = stands_wrong _ _ _ _ _ _ d (stop_long text rest ((too_large_tells rest).1 large)) is
 row_stands text front spans rest e (Stray_behind_number b f w some is) =
     stands_wrong _ _ _ _ _ _ b.digit (stop_stray text rest b ((stray_tells (after_fraction rest)).1 (w, some))) is
@@ -227,7 +228,16 @@ limit_row text front spans rest none beyond =
     Broken_limit (record { span = record { digit = f.starts; fits = not_from_Decides _ (too_large_tells rest) f.short }; digits = f.point }) f.word ((follows_tells (after_word rest)).0 f.ends) beyond refl
 
 stands_row : (text front : List ℕ) (spans : List Span) (rest : List ℕ) (e : Fault) → Stands text front spans rest e → Row text front spans rest e
-stands_row text front spans rest e (inl h) = grind (arith, common_steps, (wrong_row text front spans rest e))
+stands_row text front spans rest e (inl (Nothing_there none end is)) = Nothing none end is
+stands_row text front spans rest e (inl (Wrong_there some at fault)) = elim (cases_Bool (begins is_digit rest)) [
+  | inl d ↦ wrong_row text front spans rest e d (rw d at fault)
+  | inr d ↦ No_digit d some (no_digit at d) (let is = rw d at fault in cc)
+]
+  where
+    no_digit : {A B : Type 0} {b : Bool} → A ⊎ (B ⊎ (b ≡ true)) → b ≡ false → A ⊎ B
+    no_digit (inl first) d = inl first
+    no_digit (inr (inl behind)) d = inr behind
+    no_digit (inr (inr digit)) d = absurd (cc)
 stands_row text front spans rest e (inr h) = rw (h.2) (limit_row text front spans rest h.0 h.1)
 
 -- ---- text by text

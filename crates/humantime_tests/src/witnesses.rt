@@ -14,6 +14,12 @@ use std::alloc::AllocError;
 use std::cmp::Ordering;
 use std::hash::{Hash, Hasher};
 
+/// What `==`, `<`, `cmp` and `partial_cmp` say of two values, in this order.
+pub type Compared = (bool, bool, Ordering, Option<Ordering>);
+
+/// The clone of a value, and its copy.
+pub type Copies<T> = (Result<T, AllocError>, T);
+
 /// Values that `==` finds equal leave two hashers of one state in one state.
 pub fn feed_alike<T: Hash, H: Hasher>(a: &T, b: &T, first: &mut H, second: &mut H)
     ensures { IsTrue (T.eq a.now b.now) → first.old ≡ second.old → first.new ≡ second.new }
@@ -22,116 +28,58 @@ pub fn feed_alike<T: Hash, H: Hasher>(a: &T, b: &T, first: &mut H, second: &mut 
     b.hash(second);
 }
 
-pub fn is_same_std_duration(a: &StdDuration, b: &StdDuration) -> bool
-    ensures { IsTrue result ↔ (a.now ≡ b.now) }
+pub fn compared_std_duration(a: &StdDuration, b: &StdDuration) -> Compared
+    ensures same { IsTrue result.0 ↔ (a.now ≡ b.now) }
+    ensures less { IsTrue result.1 ↔ (a.now < b.now) }
+    ensures order { (result.2 ≡ nat_cmp a.now b.now) × (result.3 ≡ Some (nat_cmp a.now b.now)) }
 {
-    *a == *b
+    (*a == *b, *a < *b, a.cmp(b), a.partial_cmp(b))
 }
 
-pub fn is_less_std_duration(a: &StdDuration, b: &StdDuration) -> bool
-    ensures { IsTrue result ↔ (a.now < b.now) }
+pub fn copies_of_std_duration(value: &StdDuration) -> Copies<StdDuration>
+    ensures { IsOkAnd result.0 (λ c. c ≡ value.now) × (result.1 ≡ value.now) }
 {
-    *a < *b
+    (value.clone(), *value)
 }
 
-pub fn compared_std_duration(a: &StdDuration, b: &StdDuration) -> (Ordering, Option<Ordering>)
-    ensures { result ≡ (nat_cmp a.now b.now, Some (nat_cmp a.now b.now)) }
-{
-    (a.cmp(b), a.partial_cmp(b))
-}
-
-pub fn cloned_std_duration(value: &StdDuration) -> Result<StdDuration, AllocError>
-    ensures { IsOkAnd result (λ c. c ≡ value.now) }
-{
-    value.clone()
-}
-
-pub fn copied_std_duration(value: &StdDuration) -> StdDuration
-    ensures { result ≡ value.now }
-{
-    *value
-}
-
-pub fn std_durations_feed_alike<H: Hasher>(
-    a: &StdDuration,
-    b: &StdDuration,
-    first: &mut H,
-    second: &mut H,
-)
+pub fn std_durations_feed_alike<H: Hasher>(a: &StdDuration, b: &StdDuration, first: &mut H, second: &mut H)
     ensures { a.now ≡ b.now → first.old ≡ second.old → first.new ≡ second.new }
 {
     feed_alike(a, b, first, second);
 }
 
-pub fn is_same_system_time(a: &SystemTime, b: &SystemTime) -> bool
-    ensures { IsTrue result ↔ (a.now ≡ b.now) }
+pub fn compared_system_time(a: &SystemTime, b: &SystemTime) -> Compared
+    ensures same { IsTrue result.0 ↔ (a.now ≡ b.now) }
+    ensures less { IsTrue result.1 ↔ (a.now <ℤ b.now) }
+    ensures order { (result.2 ≡ int_cmp a.now b.now) × (result.3 ≡ Some (int_cmp a.now b.now)) }
 {
-    *a == *b
+    (*a == *b, *a < *b, a.cmp(b), a.partial_cmp(b))
 }
 
-pub fn is_less_system_time(a: &SystemTime, b: &SystemTime) -> bool
-    ensures { IsTrue result ↔ (a.now <ℤ b.now) }
+pub fn copies_of_system_time(value: &SystemTime) -> Copies<SystemTime>
+    ensures { IsOkAnd result.0 (λ c. c ≡ value.now) × (result.1 ≡ value.now) }
 {
-    *a < *b
+    (value.clone(), *value)
 }
 
-pub fn compared_system_time(a: &SystemTime, b: &SystemTime) -> (Ordering, Option<Ordering>)
-    ensures { result ≡ (int_cmp a.now b.now, Some (int_cmp a.now b.now)) }
-{
-    (a.cmp(b), a.partial_cmp(b))
-}
-
-pub fn cloned_system_time(value: &SystemTime) -> Result<SystemTime, AllocError>
-    ensures { IsOkAnd result (λ c. c ≡ value.now) }
-{
-    value.clone()
-}
-
-pub fn copied_system_time(value: &SystemTime) -> SystemTime
-    ensures { result ≡ value.now }
-{
-    *value
-}
-
-pub fn system_times_feed_alike<H: Hasher>(
-    a: &SystemTime,
-    b: &SystemTime,
-    first: &mut H,
-    second: &mut H,
-)
+pub fn system_times_feed_alike<H: Hasher>(a: &SystemTime, b: &SystemTime, first: &mut H, second: &mut H)
     ensures { a.now ≡ b.now → first.old ≡ second.old → first.new ≡ second.new }
 {
     feed_alike(a, b, first, second);
 }
 
-pub fn is_same_duration(a: &Duration, b: &Duration) -> bool
-    ensures { IsTrue result ↔ (a.now ≡ b.now) }
+pub fn compared_duration(a: &Duration, b: &Duration) -> Compared
+    ensures same { IsTrue result.0 ↔ (a.now ≡ b.now) }
+    ensures less { IsTrue result.1 ↔ (a.now < b.now) }
+    ensures order { (result.2 ≡ nat_cmp a.now b.now) × (result.3 ≡ Some (nat_cmp a.now b.now)) }
 {
-    *a == *b
+    (*a == *b, *a < *b, a.cmp(b), a.partial_cmp(b))
 }
 
-pub fn is_less_duration(a: &Duration, b: &Duration) -> bool
-    ensures { IsTrue result ↔ (a.now < b.now) }
+pub fn copies_of_duration(value: &Duration) -> Copies<Duration>
+    ensures { IsOkAnd result.0 (λ c. c ≡ value.now) × (result.1 ≡ value.now) }
 {
-    *a < *b
-}
-
-pub fn compared_duration(a: &Duration, b: &Duration) -> (Ordering, Option<Ordering>)
-    ensures { result ≡ (nat_cmp a.now b.now, Some (nat_cmp a.now b.now)) }
-{
-    (a.cmp(b), a.partial_cmp(b))
-}
-
-pub fn cloned_duration(value: &Duration) -> Result<Duration, AllocError>
-    ensures { IsOkAnd result (λ c. c ≡ value.now) }
-{
-    value.clone()
-}
-
-pub fn copied_duration(value: &Duration) -> Duration
-    ensures { result ≡ value.now }
-{
-    *value
+    (value.clone(), *value)
 }
 
 pub fn durations_feed_alike<H: Hasher>(a: &Duration, b: &Duration, first: &mut H, second: &mut H)
@@ -140,34 +88,18 @@ pub fn durations_feed_alike<H: Hasher>(a: &Duration, b: &Duration, first: &mut H
     feed_alike(a, b, first, second);
 }
 
-pub fn is_same_timestamp(a: &Timestamp, b: &Timestamp) -> bool
-    ensures { IsTrue result ↔ (a.now ≡ b.now) }
+pub fn compared_timestamp(a: &Timestamp, b: &Timestamp) -> Compared
+    ensures same { IsTrue result.0 ↔ (a.now ≡ b.now) }
+    ensures less { IsTrue result.1 ↔ (a.now <ℤ b.now) }
+    ensures order { (result.2 ≡ int_cmp a.now b.now) × (result.3 ≡ Some (int_cmp a.now b.now)) }
 {
-    *a == *b
+    (*a == *b, *a < *b, a.cmp(b), a.partial_cmp(b))
 }
 
-pub fn is_less_timestamp(a: &Timestamp, b: &Timestamp) -> bool
-    ensures { IsTrue result ↔ (a.now <ℤ b.now) }
+pub fn copies_of_timestamp(value: &Timestamp) -> Copies<Timestamp>
+    ensures { IsOkAnd result.0 (λ c. c ≡ value.now) × (result.1 ≡ value.now) }
 {
-    *a < *b
-}
-
-pub fn compared_timestamp(a: &Timestamp, b: &Timestamp) -> (Ordering, Option<Ordering>)
-    ensures { result ≡ (int_cmp a.now b.now, Some (int_cmp a.now b.now)) }
-{
-    (a.cmp(b), a.partial_cmp(b))
-}
-
-pub fn cloned_timestamp(value: &Timestamp) -> Result<Timestamp, AllocError>
-    ensures { IsOkAnd result (λ c. c ≡ value.now) }
-{
-    value.clone()
-}
-
-pub fn copied_timestamp(value: &Timestamp) -> Timestamp
-    ensures { result ≡ value.now }
-{
-    *value
+    (value.clone(), *value)
 }
 
 pub fn timestamps_feed_alike<H: Hasher>(a: &Timestamp, b: &Timestamp, first: &mut H, second: &mut H)
@@ -182,16 +114,10 @@ pub fn is_same_system_time_error(a: &SystemTimeError, b: &SystemTimeError) -> bo
     *a == *b
 }
 
-pub fn cloned_system_time_error(value: &SystemTimeError) -> Result<SystemTimeError, AllocError>
-    ensures { IsOkAnd result (λ c. c ≡ value.now) }
+pub fn copies_of_system_time_error(value: &SystemTimeError) -> Copies<SystemTimeError>
+    ensures { IsOkAnd result.0 (λ c. c ≡ value.now) × (result.1 ≡ value.now) }
 {
-    value.clone()
-}
-
-pub fn copied_system_time_error(value: &SystemTimeError) -> SystemTimeError
-    ensures { result ≡ value.now }
-{
-    *value
+    (value.clone(), *value)
 }
 
 pub fn is_same_date(a: &Date, b: &Date) -> bool
@@ -200,16 +126,10 @@ pub fn is_same_date(a: &Date, b: &Date) -> bool
     *a == *b
 }
 
-pub fn cloned_date(value: &Date) -> Result<Date, AllocError>
-    ensures { IsOkAnd result (λ c. c ≡ value.now) }
+pub fn copies_of_date(value: &Date) -> Copies<Date>
+    ensures { IsOkAnd result.0 (λ c. c ≡ value.now) × (result.1 ≡ value.now) }
 {
-    value.clone()
-}
-
-pub fn copied_date(value: &Date) -> Date
-    ensures { result ≡ value.now }
-{
-    *value
+    (value.clone(), *value)
 }
 
 pub fn is_same_timestamp_error(a: &TimestampError, b: &TimestampError) -> bool
@@ -218,28 +138,16 @@ pub fn is_same_timestamp_error(a: &TimestampError, b: &TimestampError) -> bool
     *a == *b
 }
 
-pub fn cloned_timestamp_error(value: &TimestampError) -> Result<TimestampError, AllocError>
-    ensures { IsOkAnd result (λ c. c ≡ value.now) }
+pub fn copies_of_timestamp_error(value: &TimestampError) -> Copies<TimestampError>
+    ensures { IsOkAnd result.0 (λ c. c ≡ value.now) × (result.1 ≡ value.now) }
 {
-    value.clone()
+    (value.clone(), *value)
 }
 
-pub fn copied_timestamp_error(value: &TimestampError) -> TimestampError
-    ensures { result ≡ value.now }
+pub fn copies_of_rfc3339_timestamp(value: &Rfc3339Timestamp) -> Copies<Rfc3339Timestamp>
+    ensures { IsOkAnd result.0 (λ c. c ≡ value.now) × (result.1 ≡ value.now) }
 {
-    *value
-}
-
-pub fn cloned_rfc3339_timestamp(value: &Rfc3339Timestamp) -> Result<Rfc3339Timestamp, AllocError>
-    ensures { IsOkAnd result (λ c. c ≡ value.now) }
-{
-    value.clone()
-}
-
-pub fn copied_rfc3339_timestamp(value: &Rfc3339Timestamp) -> Rfc3339Timestamp
-    ensures { result ≡ value.now }
-{
-    *value
+    (value.clone(), *value)
 }
 
 pub fn cloned_formatted_duration(value: &FormattedDuration) -> Result<FormattedDuration, AllocError>
@@ -248,26 +156,14 @@ pub fn cloned_formatted_duration(value: &FormattedDuration) -> Result<FormattedD
     value.clone()
 }
 
-pub fn cloned_span<'a>(value: &Span<'a>) -> Result<Span<'a>, AllocError>
-    ensures { IsOkAnd result (λ c. c ≡ value.now) }
+pub fn copies_of_span<'a>(value: &Span<'a>) -> Copies<Span<'a>>
+    ensures { IsOkAnd result.0 (λ c. c ≡ value.now) × (result.1 ≡ value.now) }
 {
-    value.clone()
+    (value.clone(), *value)
 }
 
-pub fn copied_span<'a>(value: &Span<'a>) -> Span<'a>
-    ensures { result ≡ value.now }
+pub fn copies_of_duration_error<'a>(value: &DurationError<'a>) -> Copies<DurationError<'a>>
+    ensures { IsOkAnd result.0 (λ c. c ≡ value.now) × (result.1 ≡ value.now) }
 {
-    *value
-}
-
-pub fn cloned_duration_error<'a>(value: &DurationError<'a>) -> Result<DurationError<'a>, AllocError>
-    ensures { IsOkAnd result (λ c. c ≡ value.now) }
-{
-    value.clone()
-}
-
-pub fn copied_duration_error<'a>(value: &DurationError<'a>) -> DurationError<'a>
-    ensures { result ≡ value.now }
-{
-    *value
+    (value.clone(), *value)
 }

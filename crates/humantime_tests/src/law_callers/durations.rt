@@ -23,18 +23,12 @@ pub fn whole_seconds(text: &str) -> Result<u64, DurationError<'_>>
     limit_seconds(text)
 }
 
-/// What a text is. It is never both a duration and a fault, and its spans stop in one way.
-pub fn outcome(text: &str) -> Result<StdDuration, DurationError<'_>>
-    ensures either { (v : ℕ) (e : Fault) → Accepted (chars text.now) v → ¬ (HasFault (chars text.now) e) }
-    ensures stop { (ss : List Span) (ts : List Span) (o : Option Fault) (p : Option Fault) → Items (chars text.now) ss o → Items (chars text.now) ts p → (ss ≡ ts) × (o ≡ p) }
-{
-    one_outcome(text);
-    parse_duration(text)
-}
-
-/// Whether two sums of the spans of one text are equal: they are.
+/// Whether two sums of the spans of one text are equal: they are. A text is never both a duration and a fault, and its
+/// spans stop in one way.
 pub fn is_one_value(text: &str, v: u64, w: u64) -> bool
-    ensures { (ss : List Span) (ts : List Span) → Reads (chars text.now) ss → Reads (chars text.now) ts → value ss ≡ v → value ts ≡ w → result ≡ true }
+    ensures either { (d : ℕ) (e : Fault) → Accepted (chars text.now) d → ¬ (HasFault (chars text.now) e) }
+    ensures stop { (ss : List Span) (ts : List Span) (o : Option Fault) (p : Option Fault) → Items (chars text.now) ss o → Items (chars text.now) ts p → (ss ≡ ts) × (o ≡ p) }
+    ensures value { (ss : List Span) (ts : List Span) → Reads (chars text.now) ss → Reads (chars text.now) ts → value ss ≡ v → value ts ≡ w → result ≡ true }
 {
     one_outcome(text);
     v == w
