@@ -11,11 +11,6 @@ from contextlib import contextmanager
 ROOT = os.path.dirname(os.path.dirname(os.path.abspath(__file__)))
 OPEN_GOAL = re.compile(r"^note: (?:\./)?(src/\S+?):(\d+):\d+: it is not proved that (.*?) \(`([^`]*)`\)", re.M)
 ANSWER = re.compile(r"^(?:\./)?(proofs/\S+?):\d+:\d+: error: (?:`([^`]*)`)?", re.M)
-# What crates.txt names for the gate's order alone: a copy is checked without it.
-ORDER_ALONE = [
-    ("humantime_tests_sinks:", " humantime"),
-    ("humantime_tests_values:", " humantime_tests_contracts"),
-]
 ROWS = "humantime_tests_rows"
 TESTED = ["humantime_tests_values", "humantime_tests_callers"]
 PROGRAM = "humantime_cli"
@@ -124,13 +119,8 @@ def rt(top, crate, *words, given=""):
 def copied(top, to):
     """A copy of what `rt` reads of a repository, with what earlier checks of it kept."""
     os.makedirs(to)
-    shutil.copy(os.path.join(top, "HANDLES"), to)
-    with open(os.path.join(top, "crates.txt"), encoding="utf-8") as file:
-        text = file.read()
-    for crate, name in ORDER_ALONE:
-        text = re.sub(rf"^({crate}.*?){name}\b", r"\1", text, flags=re.M)
-    with open(os.path.join(to, "crates.txt"), "w", encoding="utf-8") as file:
-        file.write(text)
+    for name in ("HANDLES", "crates.txt"):
+        shutil.copy(os.path.join(top, name), to)
     shutil.copytree(os.path.join(top, "crates"), os.path.join(to, "crates"), ignore=shutil.ignore_patterns("must-fail", "mutants", "weakened"))
     return to
 

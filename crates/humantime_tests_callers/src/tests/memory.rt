@@ -107,11 +107,7 @@ fn assert_all(rt: &impl Abort, alloc: Global) -> Result<(), AllocError> {
                 "00: time unit needed, for example 0sec or 0ms",
             ),
             ("", "value was empty", ": value was empty"),
-            (
-                "2h x",
-                "expected number at 3",
-                "2h x: expected number at 3",
-            ),
+            ("2h x", "expected number at 3", "2h x: expected number at 3"),
         ],
     )
 }
