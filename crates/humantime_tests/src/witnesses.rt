@@ -42,7 +42,12 @@ pub fn copies_of_std_duration(value: &StdDuration) -> Copies<StdDuration>
     (value.clone(), *value)
 }
 
-pub fn std_durations_feed_alike<H: Hasher>(a: &StdDuration, b: &StdDuration, first: &mut H, second: &mut H)
+pub fn std_durations_feed_alike<H: Hasher>(
+    a: &StdDuration,
+    b: &StdDuration,
+    first: &mut H,
+    second: &mut H,
+)
     ensures { a.now ≡ b.now → first.old ≡ second.old → first.new ≡ second.new }
 {
     feed_alike(a, b, first, second);
@@ -62,7 +67,12 @@ pub fn copies_of_system_time(value: &SystemTime) -> Copies<SystemTime>
     (value.clone(), *value)
 }
 
-pub fn system_times_feed_alike<H: Hasher>(a: &SystemTime, b: &SystemTime, first: &mut H, second: &mut H)
+pub fn system_times_feed_alike<H: Hasher>(
+    a: &SystemTime,
+    b: &SystemTime,
+    first: &mut H,
+    second: &mut H,
+)
     ensures { a.now ≡ b.now → first.old ≡ second.old → first.new ≡ second.new }
 {
     feed_alike(a, b, first, second);
