@@ -1,49 +1,52 @@
 //! Callers that use what an error says of its text: its offsets, its unit, its fault and its message.
 
 ghost use Rattle.std.specs.Prelude.{◌≡◌, ◌↔◌, ◌++◌, ℕ, List, [], None, Some, Err, chars, codes, decimal, true, IfOk, string_bytes};
-ghost use Rattle.humantime.specs.Prelude.{Empty, Fault, InvalidCharacter, NumberExpected, NumberOverflow, PointsInto, UnknownUnit, duration_answer, fault_of, result_view};
+ghost use Rattle.humantime.specs.Prelude.{Empty, Fault, InvalidCharacter, NumberExpected, NumberOverflow, UnknownUnit, duration_answer, fault_of, result_view};
 ghost use Rattle.humantime_tests.specs.FirstFaults.{IsFirstFault};
 
 use humantime::{DurationError, StdDuration, parse_duration, spans};
 use std::alloc::{AllocError, Global};
 
-/// Whether an error points into a text: its offset is one of a character, or its unit is the slice between its offsets.
-fn is_place_of(error: &DurationError<'_>, text: &str) -> bool
-    requires { PointsInto text.now error.now }
-    ensures { result ≡ true }
-{
-    match error {
-        DurationError::InvalidCharacter(at) | DurationError::NumberExpected(at) => {
-            *at < text.len() && text.is_char_boundary(*at)
-        }
-        DurationError::UnknownUnit {
-            start,
-            end,
-            unit,
-            ..
-        } => &text[*start..*end] == *unit,
-        _ => true,
-    }
-}
-
-/// Whether the error of a text points into it. It does.
+/// Whether the error of a text points into it: its unit is the slice between its offsets.
 pub fn points_into(text: &str) -> bool
     ensures { result ≡ true }
 {
     match parse_duration(text) {
-        Err(error) => is_place_of(&error, text),
-        Ok(_) => true,
+        Err(DurationError::InvalidCharacter(at) | DurationError::NumberExpected(at)) => {
+            at < text.len() && text.is_char_boundary(at)
+        }
+        Err(
+            DurationError::UnknownUnit {
+                start,
+                end,
+                unit,
+                ..
+            },
+        ) => &text[start..end] == unit,
+        _ => true,
     }
 }
 
-/// Whether the second item of a text, where it is an error, points into the text. It does.
+/// Whether the second item of a text, where it is an error, points into the text.
 pub fn second_points_into(text: &str) -> bool
     ensures { result ≡ true }
 {
     let mut items = spans(text);
     items.next();
     match items.next() {
-        Some(Err(error)) => is_place_of(&error, text),
+        Some(Err(DurationError::InvalidCharacter(at) | DurationError::NumberExpected(at))) => {
+            at < text.len() && text.is_char_boundary(at)
+        }
+        Some(
+            Err(
+                DurationError::UnknownUnit {
+                    start,
+                    end,
+                    unit,
+                    ..
+                },
+            ),
+        ) => &text[start..end] == unit,
         _ => true,
     }
 }
