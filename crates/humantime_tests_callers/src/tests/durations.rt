@@ -13,80 +13,80 @@ use std::process::Abort;
 
 type Item<'a> = Option<Result<Span<'a>, DurationError<'a>>>;
 
-/// Each text is read as so many whole seconds, and has this canonical text.
-fn assert_read(rt: &impl Abort, rows: &[(&str, u64, &str)]) {
-    for (text, secs, canon) in rows {
-        let duration = decided(text).ok().expect(rt, text);
-        assert_same(
-            rt,
-            (
-                (duration.as_secs(), whole_seconds(text).ok()),
-                (read_as_before(text).ok(), read_by_rows(text).ok()),
-                canonical_text(duration, &mut [0; 64]),
-                [
-                    is_still_read(text),
-                    reads_back(canon, duration),
-                    comes_back(duration),
-                    is_short(duration),
-                    is_settled(text),
-                    keeps_its_value(text),
-                ],
-                looks_same(duration, StdDuration::from_secs(1)),
-            ),
-            (
-                (*secs, Some(*secs)),
-                (Some(duration), Some(duration)),
-                canon,
-                [true; 6],
-                false,
-            ),
-        );
-    }
+/// Texts, their whole seconds, and their canonical texts.
+const READ: &[(&str, u64, &str)] = &[
+    ("2h 37min", 9420, "2h 37m"),
+    ("1 2 s", 12, "12s"),
+    ("0", 0, "0s"),
+    ("1.50000000000s", 1, "1s 500ms"),
+];
+
+/// The text is read as so many whole seconds, and has this canonical text.
+fn assert_read(rt: &impl Abort, text: &str, secs: u64, canon: &str) {
+    let duration = decided(text).ok().expect(rt, text);
+    assert_same(
+        rt,
+        (
+            (duration.as_secs(), whole_seconds(text).ok()),
+            (read_as_before(text).ok(), read_by_rows(text).ok()),
+            canonical_text(duration, &mut [0; 64]),
+            [
+                is_still_read(text),
+                reads_back(canon, duration),
+                comes_back(duration),
+                is_short(duration),
+                is_settled(text),
+                keeps_its_value(text),
+            ],
+            looks_same(duration, StdDuration::from_secs(1)),
+        ),
+        (
+            (secs, Some(secs)),
+            (Some(duration), Some(duration)),
+            canon,
+            [true; 6],
+            false,
+        ),
+    );
 }
 
 #[test]
 fn callers_answer_for_texts_that_are_read(rt: HostRuntime) {
-    assert_read(
-        &rt,
-        &[
-            ("2h 37min", 9420, "2h 37m"),
-            ("1 2 s", 12, "12s"),
-            ("0", 0, "0s"),
-            ("1.50000000000s", 1, "1s 500ms"),
-        ],
-    );
+    for (text, secs, canon) in READ {
+        assert_read(&rt, text, *secs, canon);
+    }
 }
 
-/// Each text is refused, with an error at this offset.
-fn assert_refused(rt: &impl Abort, rows: &[(&str, Option<usize>)]) {
-    for (text, at) in rows {
-        let error = decided(text).err();
-        assert_same(
-            rt,
-            (
-                place(text),
-                points_into(text),
-                second_points_into(text),
-                error.is_some(),
-                read_by_rows(text).err(),
-            ),
-            (*at, true, true, true, error),
-        );
-    }
+/// Texts that are refused, and the offsets of their errors.
+const REFUSED: &[(&str, Option<usize>)] = &[
+    ("  x", Some(2)),
+    ("2 hours  min", Some(9)),
+    ("1..s", Some(2)),
+    ("00", Some(2)),
+    ("", None),
+];
+
+/// The text is refused, with an error at this offset.
+fn assert_refused(rt: &impl Abort, text: &str, at: Option<usize>) {
+    let error = decided(text).err();
+    assert_same(
+        rt,
+        (
+            place(text),
+            points_into(text),
+            second_points_into(text),
+            error.is_some(),
+            read_by_rows(text).err(),
+        ),
+        (at, true, true, true, error),
+    );
 }
 
 #[test]
 fn callers_answer_for_texts_that_are_refused(rt: HostRuntime) {
-    assert_refused(
-        &rt,
-        &[
-            ("  x", Some(2)),
-            ("2 hours  min", Some(9)),
-            ("1..s", Some(2)),
-            ("00", Some(2)),
-            ("", None),
-        ],
-    );
+    for (text, at) in REFUSED {
+        assert_refused(&rt, text, *at);
+    }
 }
 
 #[test]

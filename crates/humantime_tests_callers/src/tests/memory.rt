@@ -43,13 +43,19 @@ fn assert_stamps(rt: &impl Abort, alloc: Global) -> Result<(), AllocError> {
     Ok(())
 }
 
+/// A start, a limit, and what their error is printed as.
+const ERRORS: &[(&str, &str, &str)] = &[
+    ("2018-02-14", "1h", "start: timestamp format is invalid"),
+    (
+        "2018-02-14T00:28:07Z",
+        "1h x",
+        "limit: expected number at 3",
+    ),
+];
+
 /// The error of each start and limit is printed so.
-fn assert_errors(
-    rt: &impl Abort,
-    alloc: Global,
-    rows: &[(&str, &str, &str)],
-) -> Result<(), AllocError> {
-    for (start, limit, wanted) in rows {
+fn assert_errors(rt: &impl Abort, alloc: Global) -> Result<(), AllocError> {
+    for (start, limit, wanted) in ERRORS {
         let error = deadline(start, limit).err().expect(rt, "accepted");
         let shown = format!(in alloc; "{error}")?;
         assert_same(rt, shown.as_str(), *wanted);
@@ -57,59 +63,33 @@ fn assert_errors(
     Ok(())
 }
 
+/// Texts, and the messages of their errors.
+const MESSAGES: &[(&str, &str)] = &[
+    ("  x", "expected number at 2"),
+    ("2 hours  min", "expected number at 9"),
+    ("1..s", "invalid character at 2"),
+    ("00", "time unit needed, for example 0sec or 0ms"),
+    ("", "value was empty"),
+    ("2h x", "expected number at 3"),
+];
+
 /// The error of each text has this message, alone and behind the text.
-fn assert_messages(
-    rt: &impl Abort,
-    alloc: Global,
-    rows: &[(&str, &str, &str)],
-) -> Result<(), AllocError> {
-    for (text, alone, behind) in rows {
+fn assert_messages(rt: &impl Abort, alloc: Global) -> Result<(), AllocError> {
+    for (text, wanted) in MESSAGES {
         let error = decided(text).err().expect(rt, text);
         let shown = message(alloc, &error)?;
         let told = errors::message(alloc, text, &error)?;
-        assert_same(rt, (shown.as_str(), told.as_str()), (*alone, *behind));
+        let (before, behind) = told.as_str().rsplit_once(": ").unwrap_or(("", ""));
+        let same = (shown.as_str(), before, behind);
+        assert_same(rt, same, (*wanted, *text, *wanted));
     }
     Ok(())
 }
 
 fn assert_all(rt: &impl Abort, alloc: Global) -> Result<(), AllocError> {
     assert_stamps(rt, alloc)?;
-    assert_errors(
-        rt,
-        alloc,
-        &[
-            ("2018-02-14", "1h", "start: timestamp format is invalid"),
-            (
-                "2018-02-14T00:28:07Z",
-                "1h x",
-                "limit: expected number at 3",
-            ),
-        ],
-    )?;
-    assert_messages(
-        rt,
-        alloc,
-        &[
-            ("  x", "expected number at 2", "  x: expected number at 2"),
-            (
-                "2 hours  min",
-                "expected number at 9",
-                "2 hours  min: expected number at 9",
-            ),
-            (
-                "1..s",
-                "invalid character at 2",
-                "1..s: invalid character at 2",
-            ),
-            (
-                "00",
-                "time unit needed, for example 0sec or 0ms",
-                "00: time unit needed, for example 0sec or 0ms",
-            ),
-            ("", "value was empty", ": value was empty"),
-            ("2h x", "expected number at 3", "2h x: expected number at 3"),
-        ],
-    )
+    assert_errors(rt, alloc)?;
+    assert_messages(rt, alloc)
 }
 
 #[test]

@@ -10,35 +10,22 @@ use humantime_tests::law_callers::timestamps::{
     shortest_length, text_again,
 };
 use std::cmp::Ordering;
-use std::process::Abort;
 
-/// Each text is told to be in strict form, or not, and is read weakly as it is read strictly.
-fn assert_forms(rt: &impl Abort, rows: &[(&str, bool)]) {
-    for (text, is_strict) in rows {
-        assert_same(
-            rt,
-            [
-                is_marked(text),
-                is_read_weakly_too(text),
-                is_parsed_weakly(text),
-            ],
-            [*is_strict, true, true],
-        );
-    }
-}
+/// Texts, and whether they have the marks of the strict form.
+const FORMS: &[(&str, bool)] = &[
+    ("1970-01-01T00:00:00.+00:00", true),
+    ("2016-12-31T23:59:60Z", true),
+    ("1970-01-01T00:00:00", false),
+    ("1970-01-01 00:00:00.000123Z", false),
+    ("1970-01-01T00:00:00.5+abcdZ", true),
+];
 
 #[test]
 fn callers_answer_for_both_forms(rt: HostRuntime) {
-    assert_forms(
-        &rt,
-        &[
-            ("1970-01-01T00:00:00.+00:00", true),
-            ("2016-12-31T23:59:60Z", true),
-            ("1970-01-01T00:00:00", false),
-            ("1970-01-01 00:00:00.000123Z", false),
-            ("1970-01-01T00:00:00.5+abcdZ", true),
-        ],
-    );
+    for (text, marked) in FORMS {
+        let both = [is_read_weakly_too(text), is_parsed_weakly(text)];
+        assert_same(&rt, (is_marked(text), both), (*marked, [true; 2]));
+    }
     assert_same(
         &rt,
         first_errors(),

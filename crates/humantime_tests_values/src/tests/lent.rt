@@ -3,33 +3,17 @@
 use crate::tests::assert_same;
 use humantime::{DurationError, StdDuration, canonical, format_duration, spans};
 
+/// It has 64 bytes.
 const LONGEST: &str = "100000000000years 11months 29days 23h 59m 59s 999ms 999µs 999ns";
 
 #[test]
-fn the_longest_text_fills_its_buffer(rt: HostRuntime) {
+fn an_error_outlives_the_loan_of_a_buffer_that_the_longest_text_fills(rt: HostRuntime) {
     let longest = StdDuration::new(3_155_760_000_031_522_175, 999_999_999);
     let (mut buf, mut other) = ([b'-'; 64], [b'-'; 64]);
-    assert_same(
-        &rt,
-        (
-            LONGEST.len(),
-            format_duration(longest).text(&mut buf),
-            canonical(LONGEST, &mut other),
-        ),
-        (64, LONGEST, Ok(LONGEST)),
-    );
-    assert_same(
-        &rt,
-        [buf.as_slice(), other.as_slice()],
-        [LONGEST.as_bytes(), LONGEST.as_bytes()],
-    );
-}
-
-#[test]
-fn an_error_outlives_the_loan_of_the_buffer(rt: HostRuntime) {
-    let mut buf = [b'-'; 64];
     let error = canonical("10 months 1", &mut buf).err();
     buf[0] = b'x';
+    let written = canonical(LONGEST, &mut buf).ok();
+    let text = format_duration(longest).text(&mut other);
     let no_unit = DurationError::UnknownUnit {
         start: 11,
         end: 11,
@@ -38,8 +22,13 @@ fn an_error_outlives_the_loan_of_the_buffer(rt: HostRuntime) {
     };
     assert_same(
         &rt,
-        (canonical("17nanos", &mut buf), error),
-        (Ok("17ns"), Some(no_unit)),
+        (written, text, error),
+        (Some(LONGEST), LONGEST, Some(no_unit)),
+    );
+    assert_same(
+        &rt,
+        (buf.as_slice(), other.as_slice()),
+        (LONGEST.as_bytes(), LONGEST.as_bytes()),
     );
 }
 

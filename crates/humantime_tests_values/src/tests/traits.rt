@@ -1,4 +1,4 @@
-//! The traits of the library's types, each asked for by a bound alone: without its impl this does not compile.
+//! Order, hashes, conversions and defaults, each asked for by a bound alone: without its impl this does not compile.
 
 use crate::tests::assert_same;
 use humantime::{Date, Duration, StdDuration, SystemTime, Timestamp, TimestampError, UNIX_EPOCH};
@@ -17,10 +17,14 @@ fn fed<T: Hash>(value: &T) -> u64 {
 fn assert_ordered<T: Ord + Hash + Copy + Debug>(rt: &impl Abort, less: T, greater: T, same: T) {
     assert_same(
         rt,
-        (greater.min(less), less < greater, less == greater),
-        (same, true, false),
+        (
+            greater.min(less),
+            less < greater,
+            less == greater,
+            fed(&less),
+        ),
+        (same, true, false, fed(&same)),
     );
-    assert_same(rt, fed(&same), fed(&less));
 }
 
 #[test]
@@ -52,60 +56,43 @@ fn values_are_ordered_and_hashed_by_their_nanoseconds(rt: HostRuntime) {
 #[test]
 fn wrappers_give_back_what_they_hold(rt: HostRuntime) {
     let minute = StdDuration::from_secs(60);
-    let moment = SystemTime::from_parts(-1, 999_999_999).expect(&rt, "no moment");
-    let (duration, timestamp) = (Duration::from(minute), Timestamp::from(moment));
-    let zero = (None.unwrap_or_default(), None.unwrap_or_default());
+    let (duration, timestamp) = (Duration::from(minute), Timestamp::from(UNIX_EPOCH));
     assert_same(
         &rt,
         (
-            (StdDuration::from(duration), *duration.as_ref()),
+            [StdDuration::from(duration), *duration.as_ref()],
             Duration::new(minute),
-            (SystemTime::from(timestamp), *timestamp.as_ref()),
-            zero,
+            [SystemTime::from(timestamp), *timestamp.as_ref()],
+            (None.unwrap_or_default(), None.unwrap_or_default()),
         ),
         (
-            (minute, minute),
+            [minute, minute],
             duration,
-            (moment, moment),
+            [UNIX_EPOCH, UNIX_EPOCH],
             (StdDuration::ZERO, Duration::new(StdDuration::ZERO)),
         ),
     );
 }
 
-/// By `Eq` alone.
-fn are_equal<T: Eq>(value: &T, other: &T) -> bool {
-    *value == *other
-}
-
 #[test]
 fn other_values_are_equal_to_themselves_alone(rt: HostRuntime) {
-    let date = Date {
-        year: 2000,
-        month: 2,
-        day: 29,
-    };
-    let later = SystemTime::from_parts(0, 1).expect(&rt, "no moment");
-    let latest = SystemTime::from_parts(0, 2).expect(&rt, "no moment");
-    let (first, last) = (
-        UNIX_EPOCH.duration_since(later).err(),
-        UNIX_EPOCH.duration_since(latest).err(),
+    let (date, next) = (
+        Date {
+            year: 2000,
+            month: 2,
+            day: 29,
+        },
+        Date {
+            year: 2000,
+            month: 3,
+            day: 1,
+        },
     );
     let (digit, format) = (TimestampError::InvalidDigit, TimestampError::InvalidFormat);
-    let next = Date {
-        year: 2000,
-        month: 3,
-        day: 1,
-    };
-    let all = (first, digit, date);
     assert_same(
         &rt,
-        [
-            are_equal(&all, &all),
-            are_equal(&all, &(last, digit, date)),
-            are_equal(&all, &(first, format, date)),
-            are_equal(&all, &(first, digit, next)),
-        ],
-        [true, false, false, false],
+        (date, digit, date == next, digit == format),
+        (date, digit, false, false),
     );
 }
 

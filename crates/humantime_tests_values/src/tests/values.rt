@@ -7,6 +7,8 @@ use crate::tests::assert_same;
 use humantime::{Duration, StdDuration, SystemTime, UNIX_EPOCH};
 use std::process::Abort;
 
+type Parts = (u64, u32);
+
 /// The constants and the defaults, as contracts see them.
 fn constants() -> (StdDuration, StdDuration, SystemTime, StdDuration, Duration)
     ensures zero { result.0 ≡ 0 }
@@ -24,103 +26,119 @@ fn constants() -> (StdDuration, StdDuration, SystemTime, StdDuration, Duration)
     )
 }
 
-/// Each duration has these seconds and nanoseconds.
-fn assert_durations(rt: &impl Abort, rows: &[(Option<StdDuration>, Option<(u64, u32)>)]) {
-    for (duration, parts) in rows {
-        let found = match duration {
-            Some(duration) => Some((duration.as_secs(), duration.subsec_nanos())),
-            None => None,
-        };
-        assert_same(rt, found, *parts);
-    }
+/// Seconds and nanoseconds.
+fn parts(duration: StdDuration) -> Parts {
+    (duration.as_secs(), duration.subsec_nanos())
 }
 
 #[test]
 fn durations_have_two_parts(rt: HostRuntime) {
-    let (zero, greatest, _, default, wrapped) = constants();
-    assert_durations(
+    let (zero, greatest, epoch, default, wrapped) = constants();
+    assert_same(
         &rt,
-        &[
-            (
-                Some(StdDuration::new(1, 2_500_000_000)),
-                Some((3, 500_000_000)),
-            ),
-            (
-                Some(StdDuration::from_micros(2_500_000)),
-                Some((2, 500_000_000)),
-            ),
-            (Some(StdDuration::from_secs(9420)), Some((9420, 0))),
-            (Some(zero), Some((0, 0))),
-            (Some(default), Some((0, 0))),
-            (Some(*wrapped.as_ref()), Some((0, 0))),
-            (Some(greatest), Some((u64::MAX, 999_999_999))),
-            (
-                StdDuration::checked_new(u64::MAX, 999_999_999),
-                Some((u64::MAX, 999_999_999)),
-            ),
-            (StdDuration::checked_new(u64::MAX, 1_000_000_000), None),
-            (greatest.checked_add(zero), Some((u64::MAX, 999_999_999))),
-            (greatest.checked_add(StdDuration::new(0, 1)), None),
+        [
+            parts(StdDuration::new(1, 2_500_000_000)),
+            parts(StdDuration::from_micros(2_500_000)),
+            parts(StdDuration::from_secs(9420)),
+            parts(greatest),
+        ],
+        [
+            (3, 500_000_000),
+            (2, 500_000_000),
+            (9420, 0),
+            (u64::MAX, 999_999_999),
         ],
     );
-}
-
-/// The moment of each two parts has these parts.
-fn assert_moments(rt: &impl Abort, rows: &[(i64, u32)]) {
-    for (secs, nanos) in rows {
-        let moment = SystemTime::from_parts(*secs, *nanos).expect(rt, "no moment");
-        let parts = (moment.unix_seconds(), moment.subsec_nanos());
-        assert_same(rt, parts, (*secs, *nanos));
-    }
-}
-
-#[test]
-fn moments_have_two_parts(rt: HostRuntime) {
     assert_same(
         &rt,
         (
-            SystemTime::from_parts(0, 1_000_000_000),
-            SystemTime::from_parts(0, 0),
+            zero,
+            default,
+            wrapped,
+            epoch.unix_seconds(),
+            epoch.subsec_nanos(),
         ),
-        (None, Some(UNIX_EPOCH)),
-    );
-    assert_moments(
-        &rt,
-        &[
-            (0, 0),
-            (5, 250),
-            (-1, 999_999_999),
-            (i64::MIN, 0),
-            (i64::MAX, 999_999_999),
-        ],
+        (StdDuration::new(0, 0), zero, Duration::new(zero), 0, 0),
     );
 }
 
-/// The moment so long after one is the other, if it has one, and then both differ by so much.
+/// The parts of two durations, and of their sum, if it is one.
+const SUMS: &[(Parts, Parts, Option<Parts>)] = &[
+    ((u64::MAX, 999_999_999), (0, 1), None),
+    (
+        (u64::MAX, 999_999_999),
+        (0, 0),
+        Some((u64::MAX, 999_999_999)),
+    ),
+    (
+        (u64::MAX, 0),
+        (0, 999_999_999),
+        Some((u64::MAX, 999_999_999)),
+    ),
+    ((0, 999_999_999), (0, 1), Some((1, 0))),
+];
+
+/// The parts of the sum.
+fn sum((secs, nanos): Parts, (other_secs, other_nanos): Parts) -> Option<Parts> {
+    let duration = StdDuration::checked_new(secs, nanos)?;
+    let other = StdDuration::checked_new(other_secs, other_nanos)?;
+    Some(parts(duration.checked_add(other)?))
+}
+
+#[test]
+fn durations_add_up(rt: HostRuntime) {
+    for (duration, other, wanted) in SUMS {
+        assert_same(&rt, sum(*duration, *other), *wanted);
+    }
+    assert_same(&rt, StdDuration::checked_new(u64::MAX, 1_000_000_000), None);
+}
+
+/// The parts of a moment, of a duration, and of the moment so much later, if there is one.
+const LATER: &[((i64, u32), Parts, Option<(i64, u32)>)] = &[
+    (
+        (i64::MIN, 0),
+        (u64::MAX, 999_999_999),
+        Some((i64::MAX, 999_999_999)),
+    ),
+    ((0, 0), (9_223_372_036_854_775_808, 0), None),
+    ((0, 0), (5, 250), Some((5, 250))),
+    ((-1, 999_999_999), (0, 1), Some((0, 0))),
+    ((-2, 5), (0, 0), Some((-2, 5))),
+];
+
+/// The moment of these parts. It has them.
+fn moment(rt: &impl Abort, (secs, nanos): (i64, u32)) -> SystemTime {
+    let moment = SystemTime::from_parts(secs, nanos).expect(rt, "no moment");
+    assert_same(
+        rt,
+        (moment.unix_seconds(), moment.subsec_nanos()),
+        (secs, nanos),
+    );
+    moment
+}
+
+/// The moment is later by this duration than the other.
+fn assert_later(rt: &impl Abort, moment: SystemTime, later: SystemTime, by: StdDuration) {
+    let opposite = match moment.duration_since(later) {
+        Ok(none) => none,
+        Err(error) => error.duration(),
+    };
+    assert_same(rt, (later.duration_since(moment), opposite), (Ok(by), by));
+}
+
 #[test]
 fn moments_add_and_differ(rt: HostRuntime) {
-    let first = SystemTime::from_parts(i64::MIN, 0).expect(&rt, "no moment");
-    let last = SystemTime::from_parts(i64::MAX, 999_999_999).expect(&rt, "no moment");
-    let five = StdDuration::new(5, 250);
-    let later = UNIX_EPOCH.checked_add(five).expect(&rt, "no moment");
-    assert_same(
-        &rt,
-        (
-            first.checked_add(StdDuration::MAX),
-            UNIX_EPOCH.checked_add(StdDuration::from_secs(9_223_372_036_854_775_808)),
-            (later.unix_seconds(), later.subsec_nanos()),
-        ),
-        (Some(last), None, (5, 250)),
-    );
-    let error = UNIX_EPOCH.duration_since(later).err();
-    let error = error.expect(&rt, "not later");
-    assert_same(
-        &rt,
-        (
-            last.duration_since(first),
-            later.duration_since(UNIX_EPOCH),
-            error.duration(),
-        ),
-        (Ok(StdDuration::MAX), Ok(five), five),
-    );
+    for (first, (secs, nanos), later) in LATER {
+        let first = moment(&rt, *first);
+        let by = StdDuration::checked_new(*secs, *nanos).expect(&rt, "no duration");
+        let found = first.checked_add(by);
+        if let Some(later) = later {
+            let later = moment(&rt, *later);
+            assert_same(&rt, found, Some(later));
+            assert_later(&rt, first, later, by);
+        } else {
+            assert_same(&rt, found, None);
+        }
+    }
+    assert_same(&rt, SystemTime::from_parts(0, 1_000_000_000), None);
 }
