@@ -28,11 +28,8 @@ front_written (Whole zero taken told) three = absurd (omega (arith, zero, three)
 front_written (Cut three (inl fronts)) again = fronts
 front_written (Cut three (inr (kept, (n, before, taken)))) again = absurd (omega (arith, before))
 
--- callers' words, and their answers
-abbrev hours : List (List ℕ)
-hours = codes "duration" ∷ codes "2h 37min" ∷ []
-
-duration_printed : Answers hours (Some (Ok (codes "2h 37m")))
+-- answers to callers' words
+duration_printed : Answers (codes "duration" ∷ codes "2h 37min" ∷ []) (Some (Ok (codes "2h 37m")))
 unfolding humantime_on_literals
 duration_printed = (codes "duration", Duration, codes "2h 37min", refl, ((canonical_again (codes "2h 37min")).text (codes "2h 37m")).0 refl)
 
@@ -45,12 +42,12 @@ abbrev Ran : List (List ℕ) → (ℕ → List ℕ → List ℕ → List ℕ →
 Ran words Told = (s : ℕ) (o n e m : List ℕ) → OneAnswer words → Ends words s (Some o) (Some n) (Some e) (Some m) → Told s o n e m
 
 -- A duration was printed whole.
-printed_whole : Ran hours (Wrote 0 (codes "2h 37m\n") [])
-printed_whole _ _ _ _ _ one ends = all_written (ends_with hours (Some (Ok (codes "2h 37m"))) duration_printed one ends)
+printed_whole : Ran (codes "duration" ∷ codes "2h 37min" ∷ []) (Wrote 0 (codes "2h 37m\n") [])
+printed_whole _ _ _ _ _ one ends = all_written (ends_with _ (Some (Ok (codes "2h 37m"))) duration_printed one ends)
 
 -- With status 3 the first bytes of its line were written, at most six of the seven.
-printed_cut : Ran hours (λ s o n e m. s ≡ 3 → ((k : ℕ) × (k < 7) × (n ≡ o ++ take k (codes "2h 37m\n"))) × (m ≡ e))
-printed_cut _ _ _ _ _ one ends three = front_written (ends_with hours (Some (Ok (codes "2h 37m"))) duration_printed one ends) three
+printed_cut : Ran (codes "duration" ∷ codes "2h 37min" ∷ []) (λ s o n e m. s ≡ 3 → ((k : ℕ) × (k < 7) × (n ≡ o ++ take k (codes "2h 37m\n"))) × (m ≡ e))
+printed_cut _ _ _ _ _ one ends three = front_written (ends_with _ (Some (Ok (codes "2h 37m"))) duration_printed one ends) three
 
 -- A fault was explained.
 explained : Ran (codes "duration" ∷ codes "1~" ∷ []) (Wrote 1 [] (codes "invalid character at 1\n"))

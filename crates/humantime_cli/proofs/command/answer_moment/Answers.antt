@@ -6,9 +6,8 @@ use Rattle.humantime_cli.proofs.command.answer_moment.Goals as goal
 
 pub returns-in-Some-clause-ends : goal.returns-in-Some-clause-ends
 returns-in-Some-clause-ends g c =
-    let whole = rw c.format_rfc3339.ensures at c.in-Some.ensures.text in
     let ends = to_out _ _ c.in-Some.printed.now _ _ _ (append-nil _) c.write_line.ensures.written c.write_line.ensures.status in
-    (Ok c.in-Some.printed.now, (c.in-Ok.moment, c.in-Ok.is, whole), ends)
+    (Ok c.in-Some.printed.now, (c.in-Ok.moment, c.in-Ok.is, rw c.format_rfc3339.ensures at c.in-Some.ensures.text), ends)
 
 pub returns-in-Err-clause-ends : goal.returns-in-Err-clause-ends
 returns-in-Err-clause-ends g c =

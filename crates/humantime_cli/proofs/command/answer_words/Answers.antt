@@ -16,8 +16,7 @@ answer_moment-requires-in-weak-clause-printable g c = each_read _ c.parse_rfc333
 
 pub returns-in-duration-clause-ends : goal.returns-in-duration-clause-ends
 returns-in-duration-clause-ends g c =
-    let tells = tells_duration _ _ c.canonical.ensures.text c.canonical.ensures.fault in
-    (_, (_, Duration, _, grind (arith, common_steps), tells), c.answer_duration.ensures.ends)
+    (_, (_, Duration, _, grind (arith, common_steps), tells_duration _ _ c.canonical.ensures.text c.canonical.ensures.fault), c.answer_duration.ensures.ends)
 
 pub returns-in-strict-clause-ends : goal.returns-in-strict-clause-ends
 returns-in-strict-clause-ends g c =

@@ -15,6 +15,5 @@ returns-in_err-write_all-clause-written g c =
 pub returns-in_err-write_all-2-clause-written : goal.returns-in_err-write_all-2-clause-written
 unfolding Writes
 returns-in_err-write_all-2-clause-written g c =
-    let all = ap joined (take_all c.loop-text.text-index c.args.texts.now c.loop-text-test.false) in
-    let taken = subst (Appends _ _) all c.loop-text.invariant.0 in
+    let taken = subst (Appends _ _) (ap joined (take_all c.loop-text.text-index c.args.texts.now c.loop-text-test.false)) c.loop-text.invariant.0 in
     MatchResult-from_err _ _ _ c.from_residual-in_err-write_all-2.ensures.0 (λ _. front_written _ _ _ _ _ [] taken c.in_err-write_all-2.ensures.written)
