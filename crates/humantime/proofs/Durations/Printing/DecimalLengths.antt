@@ -7,9 +7,14 @@ use Rattle.std.proofs.lemmas.Fmt.{decimal_digit, decimal_step, length-decimal-le
 use Rattle.humantime.specs.declared.duration.printing.writer.Writer.{Writer}
 use Rattle.humantime.specs.References.Durations.Writing.{Appends}
 
-pub decimal_lengths : (n : ℕ) → (n < 100 → length (decimal n) ≤ 2) × (n < 1000 → length (decimal n) ≤ 3) × (n < 1000000000000 → length (decimal n) ≤ 12)
-decimal_lengths n =
-    (λ h. length-decimal-le 2 n (omega arith) h (omega arith), λ h. length-decimal-le 3 n (omega arith) h (omega arith), λ h. length-decimal-le 12 n (omega arith) h (omega arith))
+pub decimal_two : (n : ℕ) → n < 100 → length (decimal n) ≤ 2
+decimal_two n h = length-decimal-le 2 n (omega arith) h (omega arith)
+
+pub decimal_three : (n : ℕ) → n < 1000 → length (decimal n) ≤ 3
+decimal_three n h = length-decimal-le 3 n (omega arith) h (omega arith)
+
+pub decimal_twelve : (n : ℕ) → n < 1000000000000 → length (decimal n) ≤ 12
+decimal_twelve n h = length-decimal-le 12 n (omega arith) h (omega arith)
 
 pub length_one : (n : ℕ) → n < 10 → length (decimal n) ≡ 1
 length_one n h = ap length (decimal_digit n h)

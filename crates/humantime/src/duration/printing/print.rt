@@ -107,7 +107,7 @@ impl FormattedDuration {
 
 /// Writes the printed text to the front of the buffer, and says how long it is.
 #[inline(never)]
-#[tactic(auto, using(crate::proofs::Durations::Printing::DecimalLengths::decimal_lengths))]
+#[tactic(auto, using(crate::proofs::Durations::Printing::CountTexts::written_is_text, crate::proofs::Durations::Printing::DecimalLengths::decimal_twelve, crate::proofs::Durations::Printing::DecimalLengths::decimal_two, crate::proofs::Durations::Printing::DecimalLengths::decimal_three))]
 fn write_duration(duration: StdDuration, buf: &mut [u8; 64]) -> usize
     ensures fits { result ≤ 64 }
     ensures text { take result buf.new ≡ duration_text duration }
