@@ -25,21 +25,12 @@ fn assert_stamps(rt: &impl Abort, alloc: Global) -> Result<(), AllocError> {
     let mut long = String::new(alloc);
     long.push_str("1h 30m")?;
     long.push_str(" 30s 20ms 10us 5ns")?;
-    assert_same(
-        rt,
-        (
-            first.as_str(),
-            second.as_str(),
-            line.as_str(),
-            parse_duration(long.as_str()),
-        ),
-        (
-            "1970-01-01T00:00:00.000Z",
-            text,
-            "kept 2h 37m since 2018-02-14T00:28:07Z",
-            Ok(StdDuration::new(5430, 20_010_005)),
-        ),
-    );
+    assert_same(rt, first.as_str(), "1970-01-01T00:00:00.000Z");
+    assert_same(rt, second.as_str(), text);
+    let kept = "kept 2h 37m since 2018-02-14T00:28:07Z";
+    assert_same(rt, line.as_str(), kept);
+    let read = Ok(StdDuration::new(5430, 20_010_005));
+    assert_same(rt, parse_duration(long.as_str()), read);
     Ok(())
 }
 
