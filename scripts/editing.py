@@ -12,7 +12,7 @@ ROOT = os.path.dirname(os.path.dirname(os.path.abspath(__file__)))
 OPEN_GOAL = re.compile(r"^note: (?:\./)?(src/\S+?):(\d+):\d+: it is not proved that (.*?) \(`([^`]*)`\)", re.M)
 ANSWER = re.compile(r"^(?:\./)?(proofs/\S+?):\d+:\d+: error: (?:`([^`]*)`)?", re.M)
 ROWS = "humantime_tests_rows"
-TESTED = ["humantime_tests_values", "humantime_tests_callers"]
+TESTED = ["humantime_tests_values", "humantime_tests_programs"]
 PROGRAM = "humantime_cli"
 
 

@@ -1,15 +1,11 @@
-//! What callers and programs answer, and the assertions that the tests make.
+//! What the five programs answer, and the assertions that the tests make.
 
-mod callers;
-mod days;
-mod durations;
 mod log_lines;
 mod memory;
 mod option;
 mod report;
 mod retry;
 mod settings;
-mod timestamps;
 
 use humantime::SystemTime;
 use std::fmt::{self, Debug, Display, Write};
