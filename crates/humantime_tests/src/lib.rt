@@ -2,6 +2,7 @@
 //! say what the library's derives mean.
 #![tactic(auto)]
 
+pub mod borrowed;
 pub mod buffers;
 pub mod callers;
 pub mod law_callers;

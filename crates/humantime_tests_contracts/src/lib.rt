@@ -11,7 +11,6 @@ ghost use Rattle.humantime.specs.Durations.Characters.{is_digit};
 
 use humantime::{DurationError, Span, SpanIter, StdDuration};
 
-pub mod borrowed;
 pub mod durations_read;
 pub mod timestamps;
 
