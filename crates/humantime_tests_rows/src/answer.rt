@@ -3,6 +3,9 @@
 use std::fmt::{self, Debug, Write};
 use std::str::FromStr;
 
+/// The answer to a call whose numbers cannot be read.
+pub(crate) const UNREAD: &str = "no number";
+
 /// Writes a value as `{:?}` does, and what is wrong where other calls do not agree to it.
 pub(crate) fn tell<T: Debug + Drop>(value: T, agrees: bool, out: &mut String) -> fmt::Result {
     write!(out, "{value:?}")?;

@@ -1,6 +1,6 @@
 //! What the library answers to calls about durations.
 
-use crate::answer::{parts, tell};
+use crate::answer::{UNREAD, parts, tell};
 use crate::display::is_always_written;
 use humantime::{
     Duration, DurationError, Span, SpanIter, StdDuration, canonical, format_duration,
@@ -84,7 +84,9 @@ fn write_message(error: DurationError<'_>, out: &mut String) -> fmt::Result {
 
 /// Writes the messages of both errors that have this offset.
 pub(crate) fn misplace(offset: &str, out: &mut String) -> fmt::Result {
-    let at = offset.parse().unwrap_or(0);
+    let Ok(at) = offset.parse() else {
+        return out.write_str(UNREAD);
+    };
     write_message(DurationError::InvalidCharacter(at), out)?;
     out.write_str(", ")?;
     write_message(DurationError::NumberExpected(at), out)
@@ -92,11 +94,18 @@ pub(crate) fn misplace(offset: &str, out: &mut String) -> fmt::Result {
 
 /// Writes what a duration of so many seconds and nanoseconds is printed as.
 pub(crate) fn print(numbers: &str, out: &mut String) -> fmt::Result {
-    let (secs, nanos) = parts(numbers).unwrap_or((0, 0));
-    let value = StdDuration::checked_new(secs, nanos).unwrap_or(StdDuration::MAX);
+    let Some(value) = duration_of(numbers) else {
+        return out.write_str(UNREAD);
+    };
     let mut buf = [0; 64];
     let text = format_duration(value).text(&mut buf);
     tell(text, is_printed_alike(value, text), out)
+}
+
+/// The duration of so many seconds and nanoseconds.
+fn duration_of(numbers: &str) -> Option<StdDuration> {
+    let (secs, nanos) = parts(numbers)?;
+    StdDuration::checked_new(secs, nanos)
 }
 
 /// Whether all that prints the duration prints this text, and it reads back.

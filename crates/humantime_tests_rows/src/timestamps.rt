@@ -1,10 +1,10 @@
 //! What the library answers to calls about timestamps and days.
 
-use crate::answer::{parts, tell};
+use crate::answer::{UNREAD, parts, tell};
 use crate::display::{is_always_written, refused_requests};
 use humantime::{
-    Date, Rfc3339Timestamp, SystemTime, Timestamp, TimestampError, Turns, UNIX_EPOCH, date_of_day,
-    day_number, format_rfc3339, format_rfc3339_micros, format_rfc3339_millis, format_rfc3339_nanos,
+    Date, Rfc3339Timestamp, SystemTime, Timestamp, TimestampError, Turns, date_of_day, day_number,
+    format_rfc3339, format_rfc3339_micros, format_rfc3339_millis, format_rfc3339_nanos,
     format_rfc3339_seconds, parse_rfc3339, parse_rfc3339_weak,
 };
 use std::fmt::{self, Write};
@@ -48,8 +48,9 @@ pub(crate) fn explain(text: &str, out: &mut String) -> fmt::Result {
 
 /// Writes what a moment of so many seconds and nanoseconds is printed as by the call of this name.
 pub(crate) fn print(call: &str, numbers: &str, out: &mut String) -> fmt::Result {
-    let (secs, nanos) = parts(numbers).unwrap_or((0, u32::MAX));
-    let moment = SystemTime::from_parts(secs, nanos).unwrap_or(UNIX_EPOCH);
+    let Some(moment) = moment_of(numbers) else {
+        return out.write_str(UNREAD);
+    };
     let Some(printable) = called(call, moment) else {
         return out.write_str("no call has this name");
     };
@@ -61,6 +62,12 @@ pub(crate) fn print(call: &str, numbers: &str, out: &mut String) -> fmt::Result 
     } else {
         out.write_str(", but the buffer is another")
     }
+}
+
+/// The moment of so many seconds and nanoseconds.
+fn moment_of(numbers: &str) -> Option<SystemTime> {
+    let (secs, nanos) = parts(numbers)?;
+    SystemTime::from_parts(secs, nanos)
 }
 
 /// What the call of this name makes of the moment.
@@ -97,16 +104,25 @@ fn is_printed_alike(
 
 /// Writes the number of a day.
 pub(crate) fn number_day(numbers: &str, out: &mut String) -> fmt::Result {
-    let (year, rest) = numbers.split_once(' ').unwrap_or(("", ""));
-    let (month, day) = parts(rest).unwrap_or((0, 0));
-    let year = year.parse().unwrap_or(0);
-    let date = Date { year, month, day };
-    tell(day_number(date, &mut Turns::new()), true, out)
+    match date_of(numbers) {
+        Some(date) => tell(day_number(date, &mut Turns::new()), true, out),
+        None => out.write_str(UNREAD),
+    }
+}
+
+/// The date of these numbers, which the calendar may not have.
+fn date_of(numbers: &str) -> Option<Date> {
+    let (year, rest) = numbers.split_once(' ')?;
+    let (month, day) = parts(rest)?;
+    let year = year.parse().ok()?;
+    Some(Date { year, month, day })
 }
 
 /// Writes the date of the day of this number.
 pub(crate) fn date_day(number: &str, out: &mut String) -> fmt::Result {
-    let number = number.parse().unwrap_or(u32::MAX);
+    let Ok(number) = number.parse() else {
+        return out.write_str(UNREAD);
+    };
     let date = match date_of_day(number, &mut Turns::new()) {
         Some(date) => Some((date.year, date.month, date.day)),
         None => None,
