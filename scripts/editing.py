@@ -12,7 +12,7 @@ ROOT = os.path.dirname(os.path.dirname(os.path.abspath(__file__)))
 OPEN_GOAL = re.compile(r"^note: (?:\./)?(src/\S+?):(\d+):\d+: it is not proved that (.*?) \(`([^`]*)`\)", re.M)
 ANSWER = re.compile(r"^(?:\./)?(proofs/\S+?):\d+:\d+: error: (?:`([^`]*)`)?", re.M)
 ROWS = "humantime_tests_rows"
-TESTED = ["humantime_tests_values", "humantime_tests_programs"]
+TESTED = "humantime_tests_values"
 PROGRAM = "humantime_cli"
 
 
@@ -215,7 +215,5 @@ def judged_by_tests(top, changed):
     """What the first of these says that fails: rows and tests, but of the program alone scripts/program."""
     found = None
     if changed != PROGRAM:
-        found = failed_rows(top)
-        for crate in TESTED:
-            found = found or failed_test(top, crate)
+        found = failed_rows(top) or failed_test(top, TESTED)
     return found or failed_program(top) or ("NOTHING", "rows, tests and scripts/program pass")

@@ -146,6 +146,14 @@ def conditions(part, at, _):
         yield "negated", at + 1, last, negated
 
 
+def operands(part, at, _):
+    """What stands behind an `and` or an `or` left out, with the sign."""
+    token = part.tokens[at]
+    if token in ("&&", "||") and part.is_spaced(at):
+        ends = ("||", "{", "=>", ";", ",") + (("&&",) if token == "&&" else ())
+        yield "operand_left_out", at, part.until(at + 1, ends) - 1, ""
+
+
 def variants(part, at, product):
     """A variant of an enum of the product exchanged for the next one of the same form, and `Some` of a value for `None`."""
     token, shapes = part.tokens[at], product.enums.get(part.token(at - 2), {})
@@ -177,7 +185,7 @@ def alternatives(part, at, _):
             yield "alternative_left_out", at, end - 1, ""
 
 
-RULES = [signs, numbers, letters, ranges, conditions, variants, statements, alternatives]
+RULES = [signs, numbers, letters, ranges, conditions, operands, variants, statements, alternatives]
 
 
 class Product:

@@ -3,8 +3,50 @@
 //! One filter reads each line's timestamp, the other compares bytes and reads none. Where lines and bounds are printed with
 //! milliseconds they answer alike.
 //!
-//! ```text
-//! keeps_by_bytes("2018-02-14T00:28:07.133Z GET /", "2018-02-14T00:28:07.000Z", "2018-02-14T00:28:08.000Z")
+//! # Examples
+//!
+//! ```
+//! use humantime::SystemTime;
+//! use humantime_examples::log_lines::{answers_alike, bound_text, keeps, keeps_by_bytes};
+//!
+//! let from = SystemTime::from_parts(1_518_568_087, 0).expect(&rt, "a moment");
+//! let to = SystemTime::from_parts(1_518_568_088, 500_000_000).expect(&rt, "a moment");
+//! let (mut first, mut second) = ([0; 30], [0; 30]);
+//! let first = bound_text(from, &mut first).expect(&rt, "a text");
+//! let second = bound_text(to, &mut second).expect(&rt, "a text");
+//! for (line, is_kept) in &[
+//!     ("2018-02-14T00:28:06.999Z GET /early", false),
+//!     ("2018-02-14T00:28:07.000Z GET /", true),
+//!     ("2018-02-14T00:28:08.499Z POST /form", true),
+//!     ("2018-02-14T00:28:08.499Z", true),
+//!     ("2018-02-14T00:28:08.500Z GET /late", false),
+//!     ("9999-12-31T23:59:59.999Z the last one", false),
+//!     ("1970-01-01T00:00:00.000Z the first one", false),
+//! ] {
+//!     assert_eq!(rt; (*line, keeps(line, from, to)), (*line, *is_kept));
+//!     assert_eq!(rt; (*line, keeps_by_bytes(line, first, second)), (*line, *is_kept));
+//!     assert!(rt; answers_alike(line, from, to));
+//! }
+//! ```
+//!
+//! A line that does not begin with a timestamp in strict form is dropped.
+//!
+//! ```
+//! use humantime::{SystemTime, UNIX_EPOCH};
+//! use humantime_examples::log_lines::keeps;
+//!
+//! let end = SystemTime::from_parts(253_402_300_800, 0).expect(&rt, "a moment");
+//! for (line, is_kept) in &[
+//!     ("", false),
+//!     ("GET /", false),
+//!     (" 2018-02-14T00:28:07Z GET /", false),
+//!     ("2018-02-14 00:28:07 GET /", false),
+//!     ("2018-02-30T00:28:07Z GET /", false),
+//!     ("2018-02-14T00:28:07Z GET /", true),
+//!     ("2018-02-14T00:28:07.123456789+00:00 GET /", true),
+//! ] {
+//!     assert_eq!(rt; (*line, keeps(line, UNIX_EPOCH, end)), (*line, *is_kept));
+//! }
 //! ```
 
 ghost use Rattle.std.specs.Prelude.{◌≡◌, ◌↔◌, ℤ, true, IsTrue, IsSome, IfSome};

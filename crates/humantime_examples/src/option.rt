@@ -2,8 +2,45 @@
 //!
 //! Its text is lent from the word, and so is a unit that is no unit's word. The error prints as what a user is told.
 //!
-//! ```text
-//! timeout(&["--verbose", "--timeout=2h 37min"]) == Ok(Some(StdDuration::from_secs(9420)))
+//! # Examples
+//!
+//! ```
+//! use humantime::{DurationError, StdDuration};
+//! use humantime_examples::option::{OptionError, timeout};
+//!
+//! let named = timeout(&["-v", "--timeout=2h 37min", "--timeout=soon"]);
+//! assert_eq!(rt; named, Ok(Some(StdDuration::from_secs(9420))));
+//! assert_eq!(rt; timeout(&["--timeout=0"]), Ok(Some(StdDuration::ZERO)));
+//! assert_eq!(rt; timeout(&["--time=1s", "timeout=1s", "--timeout", "1s"]), Ok(None));
+//! assert_eq!(rt; timeout(&[]), Ok(None));
+//!
+//! let fault = DurationError::UnknownUnit { start: 4, end: 6, unit: "mi", value: 7 };
+//! let error = OptionError { text: "2h 7mi", fault };
+//! assert_eq!(rt; timeout(&["--timeout=2h 7mi", "--timeout=1h"]), Err(error));
+//! ```
+//!
+//! What a user is told:
+//!
+//! ```
+//! use humantime_examples::option::timeout;
+//!
+//! for (word, message) in &[
+//!     (
+//!         "--timeout=2h 7mi",
+//!         "--timeout=2h 7mi: unknown time unit \"mi\", supported units: ns, us/µs, ms, sec, min, hours, days, weeks, months, years (and few variations)",
+//!     ),
+//!     ("--timeout=7", "--timeout=7: time unit needed, for example 7sec or 7ms"),
+//!     ("--timeout=", "--timeout=: value was empty"),
+//!     ("--timeout=soon", "--timeout=soon: expected number at 0"),
+//!     ("--timeout=1h,", "--timeout=1h,: invalid character at 2"),
+//!     (
+//!         "--timeout=99999999999999999999s",
+//!         "--timeout=99999999999999999999s: number is too large or cannot be represented without a lack of precision (values below 1ns are not supported)",
+//!     ),
+//! ] {
+//!     let error = timeout(&[*word]).err().expect(&rt, word);
+//!     assert_eq!(rt; error.to_string(rt.alloc())?.as_str(), *message);
+//! }
 //! ```
 
 ghost use Rattle.std.specs.Prelude.{◌≡◌};
@@ -23,10 +60,6 @@ pub struct OptionError<'a> {
 }
 
 /// Writes the word and what is wrong with it.
-///
-/// ```text
-/// --timeout=soon: expected number at 0
-/// ```
 impl fmt::Display for OptionError<'_> {
     ghost use Rattle.std.specs.Prelude.{Some};
     ghost use Rattle.humantime_examples.specs.OptionErrors.{error_text};

@@ -3,8 +3,39 @@
 //! `Display` writes exactly the row's bytes into any sink. A start outside 1970 to 9999 has no text, and writing its row
 //! fails.
 //!
-//! ```text
-//! Row { start: UNIX_EPOCH, took, limit } prints `1970-01-01T00:00:00.000Z  1m 30s of 2h`
+//! # Examples
+//!
+//! ```
+//! use humantime::{StdDuration, SystemTime, UNIX_EPOCH};
+//! use humantime_examples::report::Row;
+//!
+//! let row = Row {
+//!     start: SystemTime::from_parts(1_518_568_087, 133_999_999).expect(&rt, "a moment"),
+//!     took: StdDuration::from_micros(90_000_012),
+//!     limit: StdDuration::from_secs(7200),
+//! };
+//! assert_eq!(rt; row.to_string(rt.alloc())?.as_str(), "2018-02-14T00:28:07.133Z  1m 30s 12µs of 2h");
+//!
+//! let row = Row { start: UNIX_EPOCH, took: StdDuration::ZERO, limit: StdDuration::ZERO };
+//! assert_eq!(rt; row.to_string(rt.alloc())?.as_str(), "1970-01-01T00:00:00.000Z  0s of 0s");
+//! ```
+//!
+//! ```
+//! use humantime::{StdDuration, SystemTime, UNIX_EPOCH};
+//! use humantime_examples::report::write_row;
+//!
+//! let mut text = String::new(rt.alloc());
+//! let written = write_row(UNIX_EPOCH, StdDuration::from_secs(1), StdDuration::MAX, &mut text);
+//! assert!(rt; written.is_ok());
+//! let row = "1970-01-01T00:00:00.000Z  1s of 584542046090years 7months 15days 17h 5m 3s 999ms 999µs 999ns";
+//! assert_eq!(rt; text.as_str(), row);
+//!
+//! for second in &[-1, 253_402_300_800] {
+//!     let start = SystemTime::from_parts(*second, 0).expect(&rt, "a moment");
+//!     let mut text = String::new(rt.alloc());
+//!     assert!(rt; write_row(start, StdDuration::ZERO, StdDuration::ZERO, &mut text).is_err());
+//!     assert_eq!(rt; text.as_str(), "");
+//! }
 //! ```
 
 ghost use Rattle.std.specs.Prelude.{ℕ, List, OnOk};

@@ -3,8 +3,37 @@
 //! The first wait and the cap are read from texts, as a settings file has them. What is printed is the canonical text of
 //! the exact minimum, after any number of tries.
 //!
-//! ```text
-//! wait_text("250ms", "1min", 3, &mut [0; 64]) == Ok("2s")
+//! # Examples
+//!
+//! ```
+//! use humantime::DurationError;
+//! use humantime_examples::retry::wait_text;
+//!
+//! for (first, cap, tries, text) in &[
+//!     ("250ms", "1min", 0, "250ms"),
+//!     ("250ms", "1min", 1, "500ms"),
+//!     ("250ms", "1min", 3, "2s"),
+//!     ("250ms", "1min", 7, "32s"),
+//!     ("250ms", "1min", 8, "1m"),
+//!     ("250ms", "1min", 94, "1m"),
+//!     ("250ms", "1min", u32::MAX, "1m"),
+//!     ("0", "1h", u32::MAX, "0s"),
+//!     ("1h", "0", 5, "0s"),
+//!     ("1h", "1min", 0, "1m"),
+//!     ("1ns", "584y", 63, "292years 3months 7days 16h 6m 28s 854ms 775µs 808ns"),
+//!     (
+//!         "18446744073709551615s",
+//!         "18446744073709551615s 999999999ns",
+//!         1,
+//!         "584542046090years 7months 15days 17h 5m 3s 999ms 999µs 999ns",
+//!     ),
+//! ] {
+//!     assert_eq!(rt; wait_text(first, cap, *tries, &mut [0; 64]), Ok(*text));
+//! }
+//!
+//! assert_eq!(rt; wait_text("1h~", "x", 1, &mut [0; 64]), Err(DurationError::InvalidCharacter(2)));
+//! assert_eq!(rt; wait_text("1h", "x", 1, &mut [0; 64]), Err(DurationError::NumberExpected(0)));
+//! assert_eq!(rt; wait_text("1h", " ", 1, &mut [0; 64]), Err(DurationError::Empty));
 //! ```
 
 ghost use Rattle.std.specs.Prelude.{◌≡◌, ◌+◌, min, chars, IfOk};

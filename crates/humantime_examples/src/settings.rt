@@ -3,10 +3,80 @@
 //! An error names the key, the byte of the line at which the fault stands and the unit that is no unit's word, all lent from
 //! the line. It prints the line with a mark under the fault.
 //!
-//! ```text
-//! timeout: unknown time unit "mi", supported units: ns, us/µs, ms, ..
-//! timeout = 2h 37mi
-//!                ^
+//! # Examples
+//!
+//! ```
+//! use humantime::{StdDuration, SystemTime};
+//! use humantime_examples::settings::{Setting, read_line};
+//!
+//! for (line, secs) in &[
+//!     ("timeout = 2h 37min", 9420),
+//!     ("timeout=0", 0),
+//!     ("timeout\t=\t1.5h ", 5400),
+//! ] {
+//!     let timeout = Setting::Timeout(StdDuration::from_secs(*secs));
+//!     assert_eq!(rt; read_line(line).ok(), Some(timeout));
+//! }
+//! let moment = SystemTime::from_parts(1_518_568_087, 0).expect(&rt, "a moment");
+//! let since = Setting::Since(moment);
+//! assert_eq!(rt; read_line("since = 2018-02-14T00:28:07Z").ok(), Some(since));
+//! ```
+//!
+//! What is wrong with a line, and where:
+//!
+//! ```
+//! use humantime::{DurationError, TimestampError};
+//! use humantime_examples::settings::{LineFault, read_line};
+//!
+//! for (line, key, at, fault) in &[
+//!     ("", "", 0, LineFault::NoValue),
+//!     ("timeout ", "timeout", 8, LineFault::NoValue),
+//!     ("retries = 5", "retries", 0, LineFault::UnknownKey),
+//!     (" timeout = 1s", " timeout", 0, LineFault::UnknownKey),
+//!     (
+//!         "timeout = 10nights",
+//!         "timeout",
+//!         12,
+//!         LineFault::Duration(DurationError::UnknownUnit { start: 12, end: 18, unit: "nights", value: 10 }),
+//!     ),
+//!     (
+//!         "timeout = 10h 37",
+//!         "timeout",
+//!         16,
+//!         LineFault::Duration(DurationError::UnknownUnit { start: 16, end: 16, unit: "", value: 37 }),
+//!     ),
+//!     ("timeout = 1h=2", "timeout", 12, LineFault::Duration(DurationError::InvalidCharacter(12))),
+//!     ("timeout = 5µs x", "timeout", 15, LineFault::Duration(DurationError::NumberExpected(15))),
+//!     ("timeout = 1.05ns", "timeout", 10, LineFault::Duration(DurationError::NumberOverflow)),
+//!     ("timeout =  ", "timeout", 11, LineFault::Duration(DurationError::Empty)),
+//!     ("since = 2018-02-30T00:28:07Z", "since", 8, LineFault::Timestamp(TimestampError::OutOfRange)),
+//!     ("since = 2018-02-14Tmm:28:07Z", "since", 8, LineFault::Timestamp(TimestampError::InvalidDigit)),
+//!     ("since = yesterday", "since", 8, LineFault::Timestamp(TimestampError::InvalidFormat)),
+//! ] {
+//!     let error = read_line(line).err().expect(&rt, line);
+//!     assert_eq!(rt; (error.key, error.before.len(), error.fault), (*key, *at, *fault));
+//! }
+//! ```
+//!
+//! What a user is told:
+//!
+//! ```
+//! use humantime_examples::settings::read_line;
+//!
+//! for (line, message) in &[
+//!     ("timeout", "timeout: there is no `=`\ntimeout\n       ^"),
+//!     ("retries = 5", "retries: no such setting\nretries = 5\n^"),
+//!     (
+//!         "timeout = 2h 7mi",
+//!         "timeout: unknown time unit \"mi\", supported units: ns, us/µs, ms, sec, min, hours, days, weeks, months, years (and few variations)\ntimeout = 2h 7mi\n              ^",
+//!     ),
+//!     ("timeout = 5µs x", "timeout: expected number at 15\ntimeout = 5µs x\n              ^"),
+//!     ("timeout =\t1h~", "timeout: invalid character at 12\ntimeout =\t1h~\n         \t  ^"),
+//!     ("since = yesterday", "since: timestamp format is invalid\nsince = yesterday\n        ^"),
+//! ] {
+//!     let error = read_line(line).err().expect(&rt, line);
+//!     assert_eq!(rt; error.to_string(rt.alloc())?.as_str(), *message);
+//! }
 //! ```
 
 mod marked;

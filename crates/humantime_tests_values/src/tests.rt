@@ -4,6 +4,7 @@
 mod errors;
 mod formats;
 mod lent;
+mod memory;
 mod traits;
 mod values;
 
