@@ -12,7 +12,6 @@ ROOT = os.path.dirname(os.path.dirname(os.path.abspath(__file__)))
 OPEN_GOAL = re.compile(r"^note: (?:\./)?(src/\S+?):(\d+):\d+: it is not proved that (.*?) \(`([^`]*)`\)", re.M)
 ANSWER = re.compile(r"^(?:\./)?(proofs/\S+?):\d+:\d+: error: (?:`([^`]*)`)?", re.M)
 ROWS = "humantime_tests_rows"
-TESTED = "humantime_tests_values"
 PROGRAM = "humantime_cli"
 
 
@@ -193,10 +192,10 @@ def failed_rows(top):
     return said_wrong(ran, r"^.*, but the answer is .*")
 
 
-def failed_test(top, crate):
-    """What a crate's tests say where one fails, run without any proof."""
-    ran = rt(top, crate, "try", "--test")
-    return said_wrong(ran, r"^test (\S+) \.\.\. FAILED")
+def failed_test(top):
+    """What scripts/tests says of a copy of the repository where a test or an example fails."""
+    ran = subprocess.run([os.path.join(ROOT, "scripts", "tests"), top], stdout=subprocess.PIPE, text=True)
+    return ("test", ran.stdout.partition("\n")[0]) if ran.returncode else None
 
 
 def failed_program(top):
@@ -215,5 +214,5 @@ def judged_by_tests(top, changed):
     """What the first of these says that fails: rows and tests, but of the program alone scripts/program."""
     found = None
     if changed != PROGRAM:
-        found = failed_rows(top) or failed_test(top, TESTED)
+        found = failed_rows(top) or failed_test(top)
     return found or failed_program(top) or ("NOTHING", "rows, tests and scripts/program pass")

@@ -1,7 +1,1 @@
-pub mod FirstFaults
 pub mod Kept
-pub mod WorkedCharacters
-pub mod WorkedPrinted
-pub mod WorkedTexts
-pub mod WorkedTimestamps
-pub mod WorkedWords

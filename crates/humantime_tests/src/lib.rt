@@ -5,5 +5,4 @@
 pub mod borrowed;
 pub mod buffers;
 pub mod callers;
-pub mod law_callers;
 pub mod witnesses;

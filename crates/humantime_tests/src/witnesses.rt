@@ -1,14 +1,15 @@
-//! Equality, order, clones, copies and hashes of the library's values.
+//! Constants, defaults, equality, order, clones, copies and hashes of the library's values.
 //!
 //! Each function answers what its contract says, for every value. Where a derive were replaced by a body that
 //! means something else, the function here would not be proved.
 
-ghost use Rattle.std.specs.Prelude.{◌≡◌, ◌<◌, ◌<ℤ◌, ◌↔◌, IsTrue, IsOkAnd, Some};
+ghost use Rattle.std.specs.Prelude.{◌≡◌, ◌+◌, ◌<◌, ◌<ℤ◌, ◌↔◌, pos, IsTrue, IsOkAnd, Some};
 ghost use Rattle.std.specs.Ordering.{nat_cmp, int_cmp};
+ghost use Rattle.humantime.specs.Prelude.{duration_end};
 
 use humantime::{
     Date, Duration, DurationError, FormattedDuration, Rfc3339Timestamp, Span, StdDuration,
-    SystemTime, SystemTimeError, Timestamp, TimestampError,
+    SystemTime, SystemTimeError, Timestamp, TimestampError, UNIX_EPOCH,
 };
 use std::alloc::AllocError;
 use std::cmp::Ordering;
@@ -19,6 +20,23 @@ pub type Compared = (bool, bool, Ordering, Option<Ordering>);
 
 /// The clone of a value, and its copy.
 pub type Copies<T> = (Result<T, AllocError>, T);
+
+/// The constants and the defaults.
+pub fn constants() -> (StdDuration, StdDuration, SystemTime, StdDuration, Duration)
+    ensures zero { result.0 ≡ 0 }
+    ensures greatest { result.1 + 1 ≡ duration_end }
+    ensures epoch { result.2 ≡ pos 0 }
+    ensures default { result.3 ≡ 0 }
+    ensures wrapped { result.4 ≡ 0 }
+{
+    (
+        StdDuration::ZERO,
+        StdDuration::MAX,
+        UNIX_EPOCH,
+        StdDuration::default(),
+        Duration::default(),
+    )
+}
 
 /// Values that `==` finds equal leave two hashers of one state in one state.
 pub fn feed_alike<T: Hash, H: Hasher>(a: &T, b: &T, first: &mut H, second: &mut H)

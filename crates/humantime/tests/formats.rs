@@ -1,0 +1,66 @@
+//! Widths, precisions and fills, which change nothing.
+
+use crate::support::assert_same;
+use humantime::{
+    Duration, DurationError, StdDuration, Timestamp, TimestampError, UNIX_EPOCH, format_duration,
+    format_rfc3339,
+};
+use std::error::Error;
+use std::fmt::{self, Display, Style, Write};
+
+/// A sink that wants one text: what is still to come, until something else was asked for.
+#[derive(Drop)]
+struct Wanted<'a>(Option<&'a [u8]>);
+
+impl fmt::Write for Wanted<'_> {
+    fn write_str(&mut self, s: &str) -> fmt::Result {
+        self.0 = match self.0 {
+            Some(rest) => rest.strip_prefix(s.as_bytes()),
+            None => None,
+        };
+        Ok(())
+    }
+}
+
+/// Whether the value is written as this text.
+fn is_written<D: Display + Drop>(value: D, text: &str) -> bool {
+    let mut sink = Wanted(Some(text.as_bytes()));
+    sink.write(value).is_ok() && sink.0 == Some(b"".as_slice())
+}
+
+/// The first width or precision below 300 under which the value is not written as this text.
+fn misprinted_width<T: Display>(value: &T, text: &str) -> Option<usize> {
+    for width in 0..300 {
+        let is_wide = is_written(value.width(width).fill('*'), text);
+        if !is_wide || !is_written(value.precision(width), text) {
+            return Some(width);
+        }
+    }
+    None
+}
+
+/// The same of an error, by `Error` alone.
+fn misprinted_error<E: Error>(error: &E, message: &str) -> Option<usize> {
+    misprinted_width(error, message)
+}
+
+#[test]
+fn no_width_and_no_precision_changes_anything(rt: HostRuntime) {
+    let (value, duration) = (StdDuration::from_secs(1_296_122), "15days 2m 2s");
+    let (moment, stamp) = (UNIX_EPOCH, "1970-01-01T00:00:00Z");
+    assert_same(
+        &rt,
+        [
+            misprinted_width(&format_duration(value), duration),
+            misprinted_width(&Duration::from(value), duration),
+            misprinted_error(&DurationError::Empty, "value was empty"),
+            misprinted_width(&format_rfc3339(moment), stamp),
+            misprinted_width(&Timestamp::from(moment), stamp),
+            misprinted_error(
+                &TimestampError::InvalidFormat,
+                "timestamp format is invalid",
+            ),
+        ],
+        [None; 6],
+    );
+}
