@@ -67,10 +67,7 @@ impl fmt::Display for OptionError<'_> {
     ghost output = { λ error. Some (error_text error) };
 
     fn fmt<W: fmt::Write>(&self, f: &mut fmt::Formatter<W>) -> fmt::Result {
-        f.write_str("--timeout=")?;
-        f.write_str(self.text)?;
-        f.write_str(": ")?;
-        self.fault.fmt(f)
+        write!(f, "--timeout={}: {}", self.text, self.fault)
     }
 }
 

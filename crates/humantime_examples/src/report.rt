@@ -71,10 +71,8 @@ impl fmt::Display for Row {
         ensures within { IsOk result → IsPrintable self.now.start }
     {
         format_rfc3339_millis(self.start).fmt(f)?;
-        f.write_str("  ")?;
-        format_duration(self.took).fmt(f)?;
-        f.write_str(" of ")?;
-        format_duration(self.limit).fmt(f)
+        let (took, limit) = (format_duration(self.took), format_duration(self.limit));
+        write!(f, "  {took} of {limit}")
     }
 }
 

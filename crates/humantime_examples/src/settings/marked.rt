@@ -2,7 +2,7 @@
 
 ghost use Rattle.std.specs.Prelude.{◌≡◌, [], ◌∷◌};
 ghost use Rattle.std.specs.Fmt.{WritesOnOk};
-ghost use Rattle.humantime_examples.specs.Marks.{blank, blank_for, marked};
+ghost use Rattle.humantime_examples.specs.Marks.{blank, blank_for};
 
 use super::{LineError, LineFault};
 use std::fmt;
@@ -18,11 +18,10 @@ impl fmt::Display for LineError<'_> {
     ghost output = { λ error. Some (error_text error) };
 
     fn fmt<W: fmt::Write>(&self, f: &mut fmt::Formatter<W>) -> fmt::Result {
-        f.write_str(self.key)?;
-        f.write_str(": ")?;
-        self.fault.fmt(f)?;
-        f.write_str("\n")?;
-        write_marked(self.before, self.after, f)
+        let (key, fault, before, after) = (self.key, self.fault, self.before, self.after);
+        write!(f, "{key}: {fault}\n{before}{after}\n")?;
+        write_blank(before, f)?;
+        f.write_str("^")
     }
 }
 
@@ -40,17 +39,6 @@ impl fmt::Display for LineFault<'_> {
             LineFault::Timestamp(error) => error.fmt(f),
         }
     }
-}
-
-/// Writes a line, which is cut in two, and below it a mark under the cut.
-fn write_marked<W: fmt::Write>(before: &str, after: &str, f: &mut fmt::Formatter<W>) -> fmt::Result
-    ensures { WritesOnOk W.write_str_gives f.old result (marked before.now after.now) f.new }
-{
-    f.write_str(before)?;
-    f.write_str(after)?;
-    f.write_str("\n")?;
-    write_blank(before, f)?;
-    f.write_str("^")
 }
 
 /// Writes a tab for each tab, and a space for each other character.
