@@ -1,2 +1,8 @@
+pub mod FirstFaults
 pub mod LastDigits
 pub mod UsualTexts
+pub mod WorkedCharacters
+pub mod WorkedPrinted
+pub mod WorkedTexts
+pub mod WorkedTimestamps
+pub mod WorkedWords

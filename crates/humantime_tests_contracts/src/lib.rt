@@ -1,18 +1,20 @@
 //! Public calls under their own promises: here sums, spans and texts of durations.
 //!
 //! Each function is a call or two, and its contract follows from theirs. So what this contract rules out, the library's
-//! own do: `mutants/` puts wrong bodies in the place of the calls, and `must-fail/` one that the gate tries.
+//! own do: `mutants/` puts wrong bodies in the place of the calls.
 #![tactic(auto)]
 
-ghost use Rattle.std.specs.Prelude.{◌≡◌, ◌+◌, ◌<◌, ◌↔◌, ℕ, List, Ok, Err, chars, true, unwrap_or, IfSome, IsSome};
-ghost use Rattle.humantime.specs.Prelude.{Canon, Fault, GivesItem, HasFault, IsCanonicalOf, duration_end, span_view, text_result_view};
+ghost use Rattle.std.specs.Prelude.{◌≡◌, ◌+◌, ◌<◌, ◌↔◌, chars, true, unwrap_or, IfSome, IsSome};
+ghost use Rattle.humantime.specs.Prelude.{Canon, GivesItem, duration_end, span_view};
 ghost use Rattle.humantime.specs.Texts.{ends};
 ghost use Rattle.humantime.specs.Durations.Characters.{is_digit};
 
 use humantime::{DurationError, Span, SpanIter, StdDuration};
 
 pub mod durations_read;
+pub mod law_callers;
 pub mod timestamps;
+pub mod witnesses;
 
 /// The sum, or `None` where it passes the longest duration.
 pub fn checked_add(a: StdDuration, b: StdDuration) -> Option<StdDuration>
@@ -60,12 +62,4 @@ pub fn duration_text(value: StdDuration, buf: &mut [u8; 64]) -> &str
         return "1m 30s";
     }
     humantime::format_duration(value).text(buf)
-}
-
-/// The canonical text of what a text spells, or the text's first fault.
-pub fn canonical<'a, 'b>(s: &'a str, buf: &'b mut [u8; 64]) -> Result<&'b str, DurationError<'a>>
-    ensures text { (t : List ℕ) → (text_result_view result ≡ Ok t) ↔ IsCanonicalOf s.now t }
-    ensures fault { (e : Fault) → (text_result_view result ≡ Err e) ↔ HasFault (chars s.now) e }
-{
-    humantime::canonical(s, buf)
 }

@@ -1,0 +1,71 @@
+//! What calls of the library lend, used while it is lent. An edit beside this file keeps it for longer, which the borrow checker has to
+//! refuse.
+
+use humantime::{
+    DurationError, FormattedDuration, Rfc3339Timestamp, Span, canonical, parse_duration, spans,
+};
+
+/// The unit of an error, which lives as long as the text.
+pub fn unit_of(text: &str) -> &str {
+    match parse_duration(text) {
+        Err(DurationError::UnknownUnit { unit, .. }) => unit,
+        _ => "",
+    }
+}
+
+/// The first span, which lives as long as the text.
+pub fn first_span(text: &str) -> Option<Span<'_>> {
+    match spans(text).next() {
+        Some(Ok(span)) => Some(span),
+        _ => None,
+    }
+}
+
+/// The length of an error's unit, after which the text is dropped.
+pub fn length_of_unit(text: String) -> usize {
+    let unit = unit_of(&text);
+    let length = unit.len();
+    drop(text);
+    length
+}
+
+/// The length of the first number, after which the text is dropped.
+pub fn length_of_number(text: String) -> usize {
+    let Some(span) = first_span(&text) else {
+        return 0;
+    };
+    let length = span.number().len();
+    drop(text);
+    length
+}
+
+/// The length of a duration's text, after which the buffer is written.
+pub fn length_of_duration(duration: &FormattedDuration) -> usize {
+    let mut buf = [0; 64];
+    let printed = duration.text(&mut buf);
+    let length = printed.len();
+    buf[0] = 1;
+    length
+}
+
+/// The length of a timestamp, after which the buffer is written.
+pub fn length_of_timestamp(stamp: &Rfc3339Timestamp) -> usize {
+    let mut buf = [0; 30];
+    let Some(stamped) = stamp.text(&mut buf) else {
+        return 0;
+    };
+    let length = stamped.len();
+    buf[0] = 1;
+    length
+}
+
+/// The length of a canonical text, after which the buffer is written.
+pub fn length_of_canonical(text: &str) -> usize {
+    let mut buf = [0; 64];
+    let Ok(written) = canonical(text, &mut buf) else {
+        return 0;
+    };
+    let length = written.len();
+    buf[0] = 1;
+    length
+}

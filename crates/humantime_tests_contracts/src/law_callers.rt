@@ -1,0 +1,6 @@
+//! Callers of the laws and of the definitions: each computes by public calls, and promises a concrete conclusion.
+
+pub mod days;
+pub mod durations;
+pub mod errors;
+pub mod timestamps;

@@ -1,6 +1,0 @@
-pub mod FirstFaults
-pub mod WorkedCharacters
-pub mod WorkedPrinted
-pub mod WorkedTexts
-pub mod WorkedTimestamps
-pub mod WorkedWords

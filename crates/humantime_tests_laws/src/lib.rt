@@ -1,7 +1,0 @@
-//! Callers of the laws and of the definitions: each computes by public calls, and promises a concrete conclusion.
-#![tactic(auto)]
-
-pub mod days;
-pub mod durations;
-pub mod errors;
-pub mod timestamps;
