@@ -3,15 +3,15 @@
 //! `humantime duration "2h 37min"` prints `2h 37m`.
 #![tactic(auto)]
 
-ghost use Rattle.std.specs.Prelude.{map, string_bytes, MatchResult};
-ghost use Rattle.humantime_cli.specs.Answers.{Ends, Fails};
+ghost use Rattle.std.specs.Prelude.{◌≡◌, map, string_bytes, IfOk, MatchResult};
+ghost use Rattle.humantime_cli.specs.Answers.{texts, Ends, Fails};
 
 mod command;
 mod message;
 mod writing;
 
 pub use command::run;
-use std::alloc::Global;
+use std::alloc::{AllocError, Global};
 use std::io::Write;
 use std::process::ExitCode;
 use std::{env, io};
@@ -42,11 +42,18 @@ fn answer_args<O: Write, E: Write>(
         (λ status. Ends (map string_bytes args.now) status (O.contents out.old) (O.contents out.new) (E.contents err.old) (E.contents err.new))
         (λ _. Fails (map string_bytes args.now) (O.contents out.old) (O.contents out.new) (E.contents err.old) (E.contents err.new)) }
 {
-    let mut words: Vec<&str> = Vec::with_capacity(alloc, args.len())?;
+    let status = run(words_of(alloc, args)?.as_slice(), out, err);
+    out.flush()?;
+    Ok(status)
+}
+
+/// The arguments as texts.
+fn words_of<'a>(alloc: Global, args: &'a [String]) -> Result<Vec<&'a str>, AllocError>
+    ensures { IfOk result (λ words. texts words.items ≡ map string_bytes args.now) }
+{
+    let mut words = Vec::with_capacity(alloc, args.len())?;
     for arg in args {
         words.push(arg.as_str())?;
     }
-    let status = run(words.as_slice(), out, err);
-    out.flush()?;
-    Ok(status)
+    Ok(words)
 }
