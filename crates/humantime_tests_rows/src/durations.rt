@@ -2,10 +2,7 @@
 
 use crate::answer::{UNREAD, parts, tell};
 use crate::display::is_always_written;
-use humantime::{
-    Duration, DurationError, Span, SpanIter, StdDuration, canonical, format_duration,
-    parse_duration, spans,
-};
+use humantime::{Duration, DurationError, StdDuration, canonical, format_duration, parse_duration};
 use std::fmt::{self, Write};
 
 /// Writes seconds and nanoseconds of the text, or its error.
@@ -120,29 +117,4 @@ fn is_printed_alike(value: StdDuration, text: &str) -> bool {
         && is_always_written(&printed, text, 1)
         && is_always_written(&Duration::from(value), text, 1)
         && is_shown(value, text)
-}
-
-/// What a span lends: its number, its fraction and its unit; then its offsets and its value.
-type Lent<'a> = (&'a str, Option<&'a str>, &'a str, usize, usize, u64);
-
-/// Writes the first four items of a text.
-pub(crate) fn split(text: &str, out: &mut String) -> fmt::Result {
-    let mut items = spans(text);
-    let first = (next_item(&mut items), next_item(&mut items));
-    let rest = (next_item(&mut items), next_item(&mut items));
-    tell((first, rest), true, out)
-}
-
-/// The next item, with what it lends.
-fn next_item<'a>(items: &mut SpanIter<'a>) -> Option<Result<Lent<'a>, DurationError<'a>>> {
-    match items.next()? {
-        Ok(span) => Some(Ok(lent(span))),
-        Err(error) => Some(Err(error)),
-    }
-}
-
-fn lent<'a>(span: Span<'a>) -> Lent<'a> {
-    let (start, end, value) = (span.start(), span.end(), span.value());
-    let (number, fraction, unit) = (span.number(), span.fraction(), span.unit());
-    (number, fraction, unit, start, end, value)
 }

@@ -50,7 +50,6 @@ fn write_answer(head: &str, out: &mut String) -> fmt::Result {
         "canonical" => durations::print_anew(quoted(rest), out),
         "message" => durations::explain(quoted(rest), out),
         "misplaced" => durations::misplace(rest, out),
-        "spans" => durations::split(quoted(rest), out),
         "print" => durations::print(rest, out),
         "strict" => timestamps::read_strictly(quoted(rest), out),
         "weak" => timestamps::read_weakly(quoted(rest), out),
