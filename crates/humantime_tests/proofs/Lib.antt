@@ -1,1 +1,6 @@
-pub mod Kept
+pub mod FirstFaults
+pub mod WorkedCharacters
+pub mod WorkedPrinted
+pub mod WorkedTexts
+pub mod WorkedTimestamps
+pub mod WorkedWords

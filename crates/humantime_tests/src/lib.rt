@@ -1,5 +1,5 @@
 //! What a caller of `humantime` can prove, by its public items alone.
 #![tactic(auto)]
 
-pub mod buffers;
 pub mod callers;
+pub mod law_callers;

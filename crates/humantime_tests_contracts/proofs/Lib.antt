@@ -1,8 +1,3 @@
-pub mod FirstFaults
+pub mod Kept
 pub mod LastDigits
 pub mod UsualTexts
-pub mod WorkedCharacters
-pub mod WorkedPrinted
-pub mod WorkedTexts
-pub mod WorkedTimestamps
-pub mod WorkedWords

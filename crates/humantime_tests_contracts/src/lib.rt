@@ -11,8 +11,8 @@ ghost use Rattle.humantime.specs.Durations.Characters.{is_digit};
 
 use humantime::{DurationError, Span, SpanIter, StdDuration};
 
+pub mod buffers;
 pub mod durations_read;
-pub mod law_callers;
 pub mod timestamps;
 pub mod witnesses;
 

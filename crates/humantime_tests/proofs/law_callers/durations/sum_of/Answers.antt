@@ -1,0 +1,17 @@
+use Rattle.std.proofs.Common.{◌∙◌, ℕ, ◌+◌, List, ap, sym, subst, chars}
+use Rattle.humantime.specs.Prelude.{Accepted, HasFault, NumberOverflow}
+use Rattle.humantime_tests.proofs.law_callers.durations.sum_of.Goals as goal
+
+pub returns-clause-sum : goal.returns-clause-sum
+returns-clause-sum c ss ts u v h k x y behind =
+    let same = ap chars behind ∙ c.joined.ensures.text in
+    let room = c.joined.ensures.law.sum ss ts u v (h, x) (k, y) in
+    let read = c.parse_duration.ensures.value (u + v) in
+    (λ r. room.0 (subst (λ (t : List ℕ). Accepted t (u + v)) same (read.0 r)), λ r. read.1 (subst (λ (t : List ℕ). Accepted t (u + v)) (sym same) (room.1 r)))
+
+pub returns-clause-overflow : goal.returns-clause-overflow
+returns-clause-overflow c ss ts u v h k x y behind =
+    let same = ap chars behind ∙ c.joined.ensures.text in
+    let none = c.joined.ensures.law.overflow ss ts u v (h, x) (k, y) in
+    let read = c.parse_duration.ensures.fault NumberOverflow in
+    (λ r. none.0 (subst (λ (t : List ℕ). HasFault t NumberOverflow) same (read.0 r)), λ r. read.1 (subst (λ (t : List ℕ). HasFault t NumberOverflow) (sym same) (none.1 r)))

@@ -1,0 +1,84 @@
+//! Callers that use what an error says of its text: its offsets, its unit, its fault and its message.
+
+ghost use Rattle.std.specs.Prelude.{◌≡◌, ◌↔◌, ◌++◌, ℕ, List, [], None, Some, Err, chars, codes, decimal, true, IfOk, string_bytes};
+ghost use Rattle.humantime.specs.Prelude.{Empty, Fault, InvalidCharacter, NumberExpected, NumberOverflow, UnknownUnit, duration_answer, fault_of, result_view};
+ghost use Rattle.humantime_tests.specs.FirstFaults.{IsFirstFault};
+
+use humantime::{DurationError, StdDuration, parse_duration, spans};
+use std::alloc::{AllocError, Global};
+
+/// Whether the error of a text points into it: its unit is the slice between its offsets.
+pub fn points_into(text: &str) -> bool
+    ensures { result ≡ true }
+{
+    match parse_duration(text) {
+        Err(DurationError::InvalidCharacter(at) | DurationError::NumberExpected(at)) => {
+            at < text.len() && text.is_char_boundary(at)
+        }
+        Err(
+            DurationError::UnknownUnit {
+                start,
+                end,
+                unit,
+                ..
+            },
+        ) => &text[start..end] == unit,
+        _ => true,
+    }
+}
+
+/// Whether the second item of a text, where it is an error, points into the text.
+pub fn second_points_into(text: &str) -> bool
+    ensures { result ≡ true }
+{
+    let mut items = spans(text);
+    items.next();
+    match items.next() {
+        Some(Err(DurationError::InvalidCharacter(at) | DurationError::NumberExpected(at))) => {
+            at < text.len() && text.is_char_boundary(at)
+        }
+        Some(
+            Err(
+                DurationError::UnknownUnit {
+                    start,
+                    end,
+                    unit,
+                    ..
+                },
+            ),
+        ) => &text[start..end] == unit,
+        _ => true,
+    }
+}
+
+/// The offset at which a text goes wrong, where its fault has one.
+pub fn place(text: &str) -> Option<usize>
+    ensures character { (at : ℕ) → duration_answer (chars text.now) ≡ Err (InvalidCharacter at) → result ≡ Some at }
+    ensures number { (at : ℕ) → duration_answer (chars text.now) ≡ Err (NumberExpected at) → result ≡ Some at }
+    ensures unit { (start : ℕ) (end : ℕ) (unit : List ℕ) (value : ℕ) → duration_answer (chars text.now) ≡ Err (UnknownUnit start end unit value) → result ≡ Some start }
+    ensures overflow { duration_answer (chars text.now) ≡ Err NumberOverflow → result ≡ None }
+    ensures empty { duration_answer (chars text.now) ≡ Err Empty → result ≡ None }
+{
+    match parse_duration(text) {
+        Err(DurationError::InvalidCharacter(at) | DurationError::NumberExpected(at)) => Some(at),
+        Err(DurationError::UnknownUnit { start, .. }) => Some(start),
+        _ => None,
+    }
+}
+
+/// The duration that a text spells, or else its fault by the table of first faults.
+pub fn read_by_rows(text: &str) -> Result<StdDuration, DurationError<'_>>
+    ensures { (e : Fault) → (result_view result ≡ Err e) ↔ IsFirstFault (chars text.now) e }
+{
+    parse_duration(text)
+}
+
+/// The message of an error.
+pub fn message(alloc: Global, error: &DurationError<'_>) -> Result<String, AllocError>
+    ensures character { (at : ℕ) → fault_of error.now ≡ InvalidCharacter at → IfOk result (λ s. string_bytes s ≡ codes "invalid character at " ++ decimal at) }
+    ensures number { (at : ℕ) → fault_of error.now ≡ NumberExpected at → IfOk result (λ s. string_bytes s ≡ codes "expected number at " ++ decimal at) }
+    ensures unit { (start : ℕ) (end : ℕ) (value : ℕ) → fault_of error.now ≡ UnknownUnit start end [] value → IfOk result (λ s. string_bytes s ≡ codes "time unit needed, for example " ++ decimal value ++ codes "sec or " ++ decimal value ++ codes "ms") }
+    ensures empty { fault_of error.now ≡ Empty → IfOk result (λ s. string_bytes s ≡ codes "value was empty") }
+{
+    format!(in alloc; "{error}")
+}
