@@ -1,7 +1,14 @@
+use Rattle.std.proofs.Common.{refl, true}
+use Rattle.std.proofs.lemmas.Grind.{put_two}
 use Rattle.std.proofs.lemmas.Iterator.{YieldsList-from_chars}
 use Rattle.std.proofs.lemmas.Iterator.Consumers.{YieldsList-end}
-use Rattle.std.proofs.lemmas.List.{map-id}
+use Rattle.std.proofs.lemmas.List.{map-append, map-id}
 use Rattle.humantime_examples.proofs.settings.marked.write_blank.Goals as goal
+
+pub loop-c-preserved : goal.loop-c-preserved
+loop-c-preserved g c = λ plain.
+    let written = c.loop-c.invariant plain in
+    put_two _ _ _ _ _ _ _ written (c.in_ok-write_str.ensures.writes written.plain (refl {a = true})) (simp (map-append, c.blank_of.ensures))
 
 pub returns : goal.returns
 returns g c = λ plain _.
