@@ -1,6 +1,7 @@
 //! Answers as texts.
 
-use std::fmt::{self, Debug, Write};
+use crate::display::is_always_written;
+use std::fmt::{self, Debug, Display, Write};
 use std::str::FromStr;
 
 /// The answer to a call whose numbers cannot be read.
@@ -13,6 +14,16 @@ pub(crate) fn tell<T: Debug + Drop>(value: T, agrees: bool, out: &mut String) ->
         Ok(())
     } else {
         out.write_str(", to which other calls do not agree")
+    }
+}
+
+/// Writes an error's message, and what is wrong where some format makes it another, or it takes more requests.
+pub(crate) fn explain<E: Display + Drop>(error: E, most: u32, out: &mut String) -> fmt::Result {
+    write!(out, "{error}")?;
+    if is_always_written(&error, out.as_str(), most) {
+        Ok(())
+    } else {
+        out.write_str(", but not under each format")
     }
 }
 

@@ -1,6 +1,6 @@
 //! What the library answers to calls about durations.
 
-use crate::answer::{UNREAD, parts, tell};
+use crate::answer::{self, UNREAD, parts, tell};
 use crate::display::is_always_written;
 use humantime::{Duration, DurationError, StdDuration, canonical, format_duration, parse_duration};
 use std::fmt::{self, Write};
@@ -62,20 +62,7 @@ pub(crate) fn print_anew(text: &str, out: &mut String) -> fmt::Result {
 pub(crate) fn explain(text: &str, out: &mut String) -> fmt::Result {
     match parse_duration(text) {
         Ok(_) => out.write_str("no error"),
-        Err(error) => write_message(error, out),
-    }
-}
-
-/// Writes the message of an error, whatever format is asked for.
-fn write_message(error: DurationError<'_>, out: &mut String) -> fmt::Result {
-    let before = out.len();
-    write!(out, "{error}")?;
-    let message = out.as_str().get(before..).unwrap_or("");
-    let agrees = is_always_written(&error, message, u32::MAX);
-    if agrees {
-        Ok(())
-    } else {
-        out.write_str(", but not under each format")
+        Err(error) => answer::explain(error, u32::MAX, out),
     }
 }
 
@@ -84,9 +71,9 @@ pub(crate) fn misplace(offset: &str, out: &mut String) -> fmt::Result {
     let Ok(at) = offset.parse() else {
         return out.write_str(UNREAD);
     };
-    write_message(DurationError::InvalidCharacter(at), out)?;
-    out.write_str(", ")?;
-    write_message(DurationError::NumberExpected(at), out)
+    let expected = DurationError::NumberExpected(at);
+    write!(out, "{}, {expected}", DurationError::InvalidCharacter(at))?;
+    Ok(())
 }
 
 /// Writes what a duration of so many seconds and nanoseconds is printed as.

@@ -45,15 +45,16 @@ fn character(number: &str) -> Option<char> {
 /// Writes what the library answers to a row's call.
 fn write_answer(head: &str, out: &mut String) -> fmt::Result {
     let (call, rest) = head.split_once(' ').unwrap_or((head, ""));
+    let text = quoted(rest);
     match call {
-        "duration" => durations::read(quoted(rest), out),
-        "canonical" => durations::print_anew(quoted(rest), out),
-        "message" => durations::explain(quoted(rest), out),
+        "duration" => durations::read(text, out),
+        "canonical" => durations::print_anew(text, out),
+        "message" => durations::explain(text, out),
         "misplaced" => durations::misplace(rest, out),
         "print" => durations::print(rest, out),
-        "strict" => timestamps::read_strictly(quoted(rest), out),
-        "weak" => timestamps::read_weakly(quoted(rest), out),
-        "refusal" => timestamps::explain(quoted(rest), out),
+        "strict" => timestamps::read_strictly(text, out),
+        "weak" => timestamps::read_weakly(text, out),
+        "refusal" => timestamps::explain(text, out),
         "day" => timestamps::number_day(rest, out),
         "date" => timestamps::date_day(rest, out),
         _ => timestamps::print(call, rest, out),

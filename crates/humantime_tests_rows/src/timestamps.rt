@@ -1,6 +1,6 @@
 //! What the library answers to calls about timestamps and days.
 
-use crate::answer::{UNREAD, parts, tell};
+use crate::answer::{self, UNREAD, parts, tell};
 use crate::display::{is_always_written, refused_requests};
 use humantime::{
     Date, Rfc3339Timestamp, SystemTime, Timestamp, TimestampError, Turns, date_of_day, day_number,
@@ -35,14 +35,9 @@ fn parts_of(read: Moment) -> Result<(i64, u32), TimestampError> {
 
 /// Writes the message of the error of the text in weak form, whatever format is asked for.
 pub(crate) fn explain(text: &str, out: &mut String) -> fmt::Result {
-    let Err(error) = parse_rfc3339_weak(text) else {
-        return out.write_str("no error");
-    };
-    write!(out, "{error}")?;
-    if is_always_written(&error, out.as_str(), 1) {
-        Ok(())
-    } else {
-        out.write_str(", but not under each format")
+    match parse_rfc3339_weak(text) {
+        Ok(_) => out.write_str("no error"),
+        Err(error) => answer::explain(error, 1, out),
     }
 }
 
