@@ -32,11 +32,7 @@ pub fn later_than(text: &str, time: StdDuration) -> Result<Option<SystemTime>, T
 pub fn is_same_moment(text: &str, other: &str) -> bool
     ensures { IsTrue result ↔ (weak_answer text.now ≡ weak_answer other.now) }
 {
-    match (parse_rfc3339_weak(text), parse_rfc3339_weak(other)) {
-        (Ok(moment), Ok(same)) => moment == same,
-        (Err(error), Err(same)) => error == same,
-        _ => false,
-    }
+    parse_rfc3339_weak(text) == parse_rfc3339_weak(other)
 }
 
 /// A moment as it stands in front of a line, with milliseconds; none outside 1970 to 9999.

@@ -84,12 +84,8 @@ pub fn is_settled(text: &str) -> bool
     ensures { result ≡ true }
 {
     canonical_again(text);
-    let (mut buf, mut other) = ([0; 64], [0; 64]);
-    match canonical(text, &mut buf) {
-        Ok(shown) => match canonical(shown, &mut other) {
-            Ok(again) => again == shown,
-            Err(_) => false,
-        },
+    match canonical(text, &mut [0; 64]) {
+        Ok(shown) => canonical(shown, &mut [0; 64]) == Ok(shown),
         Err(_) => true,
     }
 }

@@ -1,29 +1,38 @@
 //! Callers that use what an error says of its text: its offsets, its unit, its fault and its message.
 
 ghost use Rattle.std.specs.Prelude.{◌≡◌, ◌↔◌, ◌++◌, ℕ, List, [], None, Some, Err, chars, codes, decimal, true, IfOk, string_bytes};
-ghost use Rattle.humantime.specs.Prelude.{Empty, Fault, InvalidCharacter, NumberExpected, NumberOverflow, UnknownUnit, duration_answer, fault_of, result_view};
+ghost use Rattle.humantime.specs.Prelude.{Empty, Fault, InvalidCharacter, NumberExpected, NumberOverflow, PointsInto, UnknownUnit, duration_answer, fault_of, result_view};
 ghost use Rattle.humantime_tests.specs.FirstFaults.{IsFirstFault};
 
 use humantime::{DurationError, StdDuration, parse_duration, spans};
 use std::alloc::{AllocError, Global};
 
-/// Whether the error of a text points into it: its unit is the slice between its offsets.
+/// Whether an error points into its text: its unit is the slice between its offsets.
+fn is_in(error: DurationError<'_>, text: &str) -> bool
+    requires { PointsInto text.now error }
+    ensures { result ≡ true }
+{
+    match error {
+        DurationError::InvalidCharacter(at) | DurationError::NumberExpected(at) => {
+            at < text.len() && text.is_char_boundary(at)
+        }
+        DurationError::UnknownUnit {
+            start,
+            end,
+            unit,
+            ..
+        } => &text[start..end] == unit,
+        _ => true,
+    }
+}
+
+/// Whether the error of a text points into it.
 pub fn points_into(text: &str) -> bool
     ensures { result ≡ true }
 {
     match parse_duration(text) {
-        Err(DurationError::InvalidCharacter(at) | DurationError::NumberExpected(at)) => {
-            at < text.len() && text.is_char_boundary(at)
-        }
-        Err(
-            DurationError::UnknownUnit {
-                start,
-                end,
-                unit,
-                ..
-            },
-        ) => &text[start..end] == unit,
-        _ => true,
+        Ok(_) => true,
+        Err(error) => is_in(error, text),
     }
 }
 
@@ -34,19 +43,7 @@ pub fn second_points_into(text: &str) -> bool
     let mut items = spans(text);
     items.next();
     match items.next() {
-        Some(Err(DurationError::InvalidCharacter(at) | DurationError::NumberExpected(at))) => {
-            at < text.len() && text.is_char_boundary(at)
-        }
-        Some(
-            Err(
-                DurationError::UnknownUnit {
-                    start,
-                    end,
-                    unit,
-                    ..
-                },
-            ),
-        ) => &text[start..end] == unit,
+        Some(Err(error)) => is_in(error, text),
         _ => true,
     }
 }

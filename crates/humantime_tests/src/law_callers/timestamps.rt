@@ -107,11 +107,7 @@ pub fn first_errors() -> [Option<TimestampError>; 7]
 pub fn is_parsed_weakly(text: &str) -> bool
     ensures { result ≡ true }
 {
-    match (text.parse::<Timestamp>(), parse_rfc3339_weak(text)) {
-        (Ok(timestamp), Ok(moment)) => SystemTime::from(timestamp) == moment,
-        (Err(error), Err(same)) => error == same,
-        _ => false,
-    }
+    text.parse::<Timestamp>().map(SystemTime::from) == parse_rfc3339_weak(text)
 }
 
 /// Whether a moment has a text: from 1970 to before 10000.

@@ -20,7 +20,7 @@ printed_length t k bytes printed = rw (printed.weak.shown, all_length printed.fi
 pub returns-clause-whole : goal.returns-clause-whole
 returns-clause-whole c whole =
     let long = printed_length _ _ _ (rw c.format_rfc3339.ensures at c.in_ok-text.ensures.text) in
-    grind (arith, common_steps, nat_tests)
+    rw whole at long
 
 pub returns-clause-nanos : goal.returns-clause-nanos
 returns-clause-nanos c some =
