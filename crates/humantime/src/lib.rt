@@ -18,17 +18,10 @@
 //! ```
 #![tactic(auto)]
 
-// First, as its proofs take longest: they are begun in this order.
-mod duration;
-
-pub use duration::{
-    DurationError, FormattedDuration, Span, SpanIter, canonical, format_duration, parse_duration,
-    spans,
-};
-
 mod buffer;
 mod calendar;
 mod date;
+mod duration;
 pub mod laws;
 mod turns;
 mod unit;
@@ -39,6 +32,10 @@ pub use calendar::{Date, date_of_day, day_number};
 pub use date::{
     Rfc3339Timestamp, TimestampError, format_rfc3339, format_rfc3339_micros, format_rfc3339_millis,
     format_rfc3339_nanos, format_rfc3339_seconds, parse_rfc3339, parse_rfc3339_weak,
+};
+pub use duration::{
+    DurationError, FormattedDuration, Span, SpanIter, canonical, format_duration, parse_duration,
+    spans,
 };
 pub use turns::Turns;
 pub use value::{StdDuration, SystemTime, SystemTimeError, UNIX_EPOCH};
