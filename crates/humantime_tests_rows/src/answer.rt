@@ -19,8 +19,11 @@ pub(crate) fn tell<T: Debug + Drop>(value: T, agrees: bool, out: &mut String) ->
 
 /// Writes an error's message, and what is wrong where some format makes it another, or it takes more requests.
 pub(crate) fn explain<E: Display + Drop>(error: E, most: u32, out: &mut String) -> fmt::Result {
+    let before = out.len();
     write!(out, "{error}")?;
-    if is_always_written(&error, out.as_str(), most) {
+    let message = out.as_str().get(before..).unwrap_or("");
+    let agrees = is_always_written(&error, message, most);
+    if agrees {
         Ok(())
     } else {
         out.write_str(", but not under each format")

@@ -71,9 +71,9 @@ pub(crate) fn misplace(offset: &str, out: &mut String) -> fmt::Result {
     let Ok(at) = offset.parse() else {
         return out.write_str(UNREAD);
     };
-    let expected = DurationError::NumberExpected(at);
-    write!(out, "{}, {expected}", DurationError::InvalidCharacter(at))?;
-    Ok(())
+    answer::explain(DurationError::InvalidCharacter(at), u32::MAX, out)?;
+    out.write_str(", ")?;
+    answer::explain(DurationError::NumberExpected(at), u32::MAX, out)
 }
 
 /// Writes what a duration of so many seconds and nanoseconds is printed as.
