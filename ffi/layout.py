@@ -50,8 +50,12 @@ def exports(top):
     place = os.path.join(top, "crates", EXPORTS)
     copy_of(EXPORTS, place)
     # The exports stand in the place of `main`, and of what it calls there.
-    os.remove(os.path.join(place, "src", "main.rt"))
-    shutil.rmtree(os.path.join(place, "proofs", "answer_args"))
+    main = os.path.join(place, "src", "main.rt")
+    with open(main, encoding="utf-8") as file:
+        functions = re.findall(r"^fn (\w+)", file.read(), re.M)
+    os.remove(main)
+    for function in functions:
+        shutil.rmtree(os.path.join(place, "proofs", function), ignore_errors=True)
     shutil.copy(os.path.join(HERE, "exports.rt.txt"), os.path.join(place, "src", "lib.rt"))
     with open(os.path.join(top, "crates.txt"), "w") as file:
         file.write(f"humantime: itoa\n{EXPORTS} staticlib: humantime itoa\n")
