@@ -11,10 +11,7 @@ pub fn comes_back(duration: StdDuration) -> bool
     ensures { result ≡ true }
 {
     printed_duration_reads(duration);
-    match parse_duration(format_duration(duration).text(&mut [0; 64])) {
-        Ok(read) => read == duration,
-        Err(_) => false,
-    }
+    parse_duration(format_duration(duration).text(&mut [0; 64])) == Ok(duration)
 }
 
 /// Whether two durations are printed alike: only equal ones are.
@@ -30,9 +27,8 @@ pub fn needs_no_space(text: &str, squeezed: &str) -> bool
     ensures { chars squeezed.now ≡ without_whitespace (chars text.now) → result ≡ true }
 {
     without_ws(text);
-    match (parse_duration(text), parse_duration(squeezed)) {
-        (Ok(read), Ok(same)) => read == same,
-        (Ok(_), Err(_)) => false,
-        (Err(_), _) => true,
+    match parse_duration(text) {
+        Ok(read) => parse_duration(squeezed) == Ok(read),
+        Err(_) => true,
     }
 }

@@ -67,11 +67,7 @@ pub fn is_text_before(a: SystemTime, b: SystemTime) -> bool
     ensures { IsPrintable a → IsPrintable b → (IsTrue result ↔ (a <ℤ b)) }
 {
     stamps_in_order(a, b);
-    let (shown, other) = (format_rfc3339_nanos(a), format_rfc3339_nanos(b));
-    match (shown.text(&mut [0; 30]), other.text(&mut [0; 30])) {
-        (Some(text), Some(later)) => text < later,
-        _ => false,
-    }
+    format_rfc3339_nanos(a).text(&mut [0; 30]) < format_rfc3339_nanos(b).text(&mut [0; 30])
 }
 
 /// A line that says how long a file was kept and since when; none outside 1970 to 9999.

@@ -8,11 +8,10 @@ use humantime::laws::one_date;
 use humantime::{Date, Turns, date_of_day, day_number};
 
 /// Two dates that exist are equal exactly where their days are.
-pub fn dates_differ_by_day(a: Date, b: Date) -> bool
+pub fn dates_differ_by_day(a: Date, b: Date, turns: &mut Turns) -> bool
     ensures { result ≡ true }
 {
-    let mut turns = Turns::new();
-    match (day_number(a, &mut turns), day_number(b, &mut turns)) {
+    match (day_number(a, turns), day_number(b, turns)) {
         (Some(day), Some(other)) => {
             one_date(day);
             (a == b) == (day == other)
@@ -22,25 +21,23 @@ pub fn dates_differ_by_day(a: Date, b: Date) -> bool
 }
 
 /// The date of a date's day, which is that date.
-pub fn date_comes_back(date: Date) -> Option<Date>
+pub fn date_comes_back(date: Date, turns: &mut Turns) -> Option<Date>
     ensures { IsDate date → result ≡ Some date }
 {
-    let mut turns = Turns::new();
-    let day = day_number(date, &mut turns)?;
+    let day = day_number(date, turns)?;
     one_date(day);
-    date_of_day(day, &mut turns)
+    date_of_day(day, turns)
 }
 
 /// The day of a day's date, which is that day.
-pub fn day_comes_back(day: u32) -> Option<u32>
+pub fn day_comes_back(day: u32, turns: &mut Turns) -> Option<u32>
     ensures { day ≤ 2_932_896 → result ≡ Some day }
 {
-    let mut turns = Turns::new();
-    day_number(date_of_day(day, &mut turns)?, &mut turns)
+    day_number(date_of_day(day, turns)?, turns)
 }
 
 /// A year of 1970 to 9999 has a 29 February exactly where it is a leap year.
-pub fn leap_day_is_of_leap_years(year: u32) -> bool
+pub fn leap_day_is_of_leap_years(year: u32, turns: &mut Turns) -> bool
     ensures { 1970 ≤ year → year ≤ 9999 → result ≡ true }
 {
     let leap_day = Date {
@@ -49,15 +46,14 @@ pub fn leap_day_is_of_leap_years(year: u32) -> bool
         day: 29,
     };
     let is_leap_year = year % 4 == 0 && (year % 100 != 0 || year % 400 == 0);
-    day_number(leap_day, &mut Turns::new()).is_some() == is_leap_year
+    day_number(leap_day, turns).is_some() == is_leap_year
 }
 
 /// The days of the first leap day, of a 30 February and of the last date.
 #[tactic(auto, unfolding(humantime::specs::Calendar::days_of_years, humantime::specs::Calendar::days_of_months))]
-pub fn days_by_computation() -> [Option<u32>; 3]
+pub fn days_by_computation(turns: &mut Turns) -> [Option<u32>; 3]
     ensures { result ≡ (Some 789 ∷ None ∷ Some 2_932_896 ∷ []) }
 {
-    let mut turns = Turns::new();
     [
         day_number(
             Date {
@@ -65,7 +61,7 @@ pub fn days_by_computation() -> [Option<u32>; 3]
                 month: 2,
                 day: 29,
             },
-            &mut turns,
+            turns,
         ),
         day_number(
             Date {
@@ -73,7 +69,7 @@ pub fn days_by_computation() -> [Option<u32>; 3]
                 month: 2,
                 day: 30,
             },
-            &mut turns,
+            turns,
         ),
         day_number(
             Date {
@@ -81,7 +77,7 @@ pub fn days_by_computation() -> [Option<u32>; 3]
                 month: 12,
                 day: 31,
             },
-            &mut turns,
+            turns,
         ),
     ]
 }

@@ -1,10 +1,9 @@
 //! Callers that use what an error says of its text: its offsets, its unit, its fault and its message.
 
-ghost use Rattle.std.specs.Prelude.{◌≡◌, ◌↔◌, ◌++◌, ℕ, List, [], None, Some, Err, chars, codes, decimal, true, IfOk, string_bytes};
-ghost use Rattle.humantime.specs.Prelude.{Empty, Fault, InvalidCharacter, NumberExpected, NumberOverflow, PointsInto, UnknownUnit, duration_answer, fault_of, result_view};
-ghost use Rattle.humantime_tests.specs.FirstFaults.{IsFirstFault};
+ghost use Rattle.std.specs.Prelude.{◌≡◌, ◌++◌, ℕ, List, [], None, Some, Err, chars, codes, decimal, true, IfOk, string_bytes};
+ghost use Rattle.humantime.specs.Prelude.{Empty, InvalidCharacter, NumberExpected, NumberOverflow, PointsInto, UnknownUnit, duration_answer, fault_of};
 
-use humantime::{DurationError, StdDuration, parse_duration, spans};
+use humantime::{DurationError, parse_duration, spans};
 use std::alloc::{AllocError, Global};
 
 /// Whether an error points into its text: its unit is the slice between its offsets.
@@ -61,13 +60,6 @@ pub fn place(text: &str) -> Option<usize>
         Err(DurationError::UnknownUnit { start, .. }) => Some(start),
         _ => None,
     }
-}
-
-/// The duration that a text spells, or else its fault by the table of first faults.
-pub fn read_by_rows(text: &str) -> Result<StdDuration, DurationError<'_>>
-    ensures { (e : Fault) → (result_view result ≡ Err e) ↔ IsFirstFault (chars text.now) e }
-{
-    parse_duration(text)
 }
 
 /// The message of an error.

@@ -1,6 +1,6 @@
 //! What the laws of timestamps come to, and what moments and their texts are. `callers::timestamps` has two more.
 
-ghost use Rattle.std.specs.Prelude.{◌≡◌, ◌<◌, ◌↔◌, ◌<ℤ◌, ◌≤ℤ◌, ◌∷◌, [], ℕ, ℤ, pos, Ok, Some, true, length, unwrap_or, IsTrue, IfOk, IfSome, string_bytes};
+ghost use Rattle.std.specs.Prelude.{◌≡◌, ◌<◌, ◌↔◌, ◌<ℤ◌, ◌≤ℤ◌, ◌∷◌, [], ℕ, ℤ, pos, Ok, None, Some, true, length, unwrap_or, IsTrue, IfOk, IfSome, IsSome, string_bytes};
 ghost use Rattle.std.specs.Ordering.{int_cmp};
 ghost use Rattle.humantime.specs.declared.TimestampError.{TimestampError};
 ghost use Rattle.humantime.specs.Prelude.{Fields, IsWeak, IsStrict, IsWeakMoment, IsStrictMoment, weak_answer, strict_answer, weak_checks, first_failed, IsPrintable, IsPrinted, cut, nano_of};
@@ -24,22 +24,6 @@ pub fn is_marked(text: &str) -> bool
     bytes.len() > 10 && bytes[10] == b'T' && (bytes.ends_with(b"Z") || bytes.ends_with(b"+00:00"))
 }
 
-/// Whether two fractions that a text shows have equally many digits. They have.
-pub fn is_one_fraction(text: &str, digits: usize, other: usize) -> bool
-    ensures { (f : Fields) (g : Fields) → IsWeak text.now f → IsWeak text.now g → length (unwrap_or f.fraction []) ≡ digits → length (unwrap_or g.fraction []) ≡ other → result ≡ true }
-{
-    one_stamp_outcome(text);
-    digits == other
-}
-
-/// Whether a text that shows some parts fails no check. It fails none.
-pub fn fails_no_check(text: &str, error: Option<TimestampError>) -> bool
-    ensures { (f : Fields) → IsWeak text.now f → first_failed (weak_checks text.now) ≡ error → result ≡ true }
-{
-    one_stamp_outcome(text);
-    error.is_none()
-}
-
 /// Whether both parsers read a moment back that is printed with nine digits. They do.
 pub fn moment_comes_back(moment: SystemTime) -> bool
     ensures { result ≡ true }
@@ -47,10 +31,9 @@ pub fn moment_comes_back(moment: SystemTime) -> bool
     let shown = format_rfc3339_nanos(moment);
     printed_moment_reads(&shown);
     match shown.text(&mut [0; 30]) {
-        Some(text) => match (parse_rfc3339(text), parse_rfc3339_weak(text)) {
-            (Ok(read), Ok(same)) => read == moment && same == moment,
-            _ => false,
-        },
+        Some(text) => {
+            (parse_rfc3339(text), parse_rfc3339_weak(text)) == (Ok(moment), Ok(moment))
+        }
         None => true,
     }
 }
@@ -103,27 +86,28 @@ pub fn first_errors() -> [Option<TimestampError>; 7]
     ]
 }
 
-/// Whether `parse` of a `Timestamp` answers as the weak parser. It does.
+/// Whether `parse` of a `Timestamp` answers as the weak parser. It does. A text that shows some parts fails no check, and
+/// its fraction has one number of digits.
 pub fn is_parsed_weakly(text: &str) -> bool
-    ensures { result ≡ true }
+    ensures alike { result ≡ true }
+    ensures fraction { (f : Fields) (g : Fields) → IsWeak text.now f → IsWeak text.now g → length (unwrap_or f.fraction []) ≡ length (unwrap_or g.fraction []) }
+    ensures checked { (f : Fields) → IsWeak text.now f → first_failed (weak_checks text.now) ≡ None }
 {
+    one_stamp_outcome(text);
     text.parse::<Timestamp>().map(SystemTime::from) == parse_rfc3339_weak(text)
 }
 
-/// Whether a moment has a text: from 1970 to before 10000.
-pub fn has_text(moment: SystemTime) -> bool
-    ensures { IsTrue result ↔ ((pos 0 ≤ℤ moment) × (moment <ℤ pos 253_402_300_800_000_000_000)) }
-{
-    format_rfc3339(moment).text(&mut [0; 30]).is_some()
-}
-
-/// How many bytes the shortest text of a moment has: 20 for a whole second, else 30.
+/// How many bytes the shortest text of a moment has: 20 for a whole second, else 30; none outside 1970 to 9999.
 #[tactic(auto, using(std::proofs::lemmas::Bool::Decides::nat_tests))]
 pub fn shortest_length(moment: SystemTime) -> Option<usize>
+    ensures within { IsSome result ↔ ((pos 0 ≤ℤ moment) × (moment <ℤ pos 253_402_300_800_000_000_000)) }
     ensures whole { nano_of moment ≡ 0 → IfSome result (λ n. n ≡ 20) }
     ensures nanos { 0 < nano_of moment → IfSome result (λ n. n ≡ 30) }
 {
-    Some(format_rfc3339(moment).text(&mut [0; 30])?.len())
+    match format_rfc3339(moment).text(&mut [0; 30]) {
+        Some(text) => Some(text.len()),
+        None => None,
+    }
 }
 
 /// The parts of the moment of two parts, which are these.

@@ -1,5 +1,6 @@
 use Rattle.std.proofs.Common.{◌∙◌, ℕ, ◌+◌, List, ap, sym, subst, chars}
-use Rattle.humantime.specs.Prelude.{Accepted, HasFault, NumberOverflow}
+use Rattle.std.specs.Prelude.{Ok, Err, ◌≡◌, ◌⊎◌, Result}
+use Rattle.humantime.specs.Prelude.{Accepted, Fault, HasFault, NumberOverflow, duration_answer}
 use Rattle.humantime_tests.proofs.law_callers.durations.sum_of.Goals as goal
 
 pub returns-clause-sum : goal.returns-clause-sum
@@ -15,3 +16,8 @@ returns-clause-overflow c ss ts u v h k x y behind =
     let none = c.joined.ensures.law.overflow ss ts u v (h, x) (k, y) in
     let read = c.parse_duration.ensures.fault NumberOverflow in
     (λ r. none.0 (subst (λ (t : List ℕ). HasFault t NumberOverflow) same (read.0 r)), λ r. read.1 (subst (λ (t : List ℕ). HasFault t NumberOverflow) (sym same) (none.1 r)))
+
+pub returns-clause-either : goal.returns-clause-either
+returns-clause-either c u v x y behind some others =
+    let read = c.parse_duration.ensures.answer ∙ ap duration_answer (ap chars behind ∙ c.joined.ensures.text) in
+    subst (λ (r : Result ℕ Fault). (r ≡ Ok (u + v)) ⊎ (r ≡ Err NumberOverflow)) (sym read) (c.joined.ensures.law.answer u v x y some others)

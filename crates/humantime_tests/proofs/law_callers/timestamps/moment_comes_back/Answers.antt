@@ -1,19 +1,25 @@
-use Rattle.std.proofs.Common.{◌≡◌, ◌∙◌, Result, Ok, Err, true, false, sym, arith}
-use Rattle.std.proofs.lemmas.Grind.{common_steps}
+use Rattle.std.proofs.Common.{◌≡◌, ◌∙◌, ℕ, Bool, Result, Ok, true, ap}
+use Rattle.std.specs.Prelude.{ℤ, ◌&&◌}
+use Rattle.std.specs.Ordering.{int_eq}
+use Rattle.std.specs.Result.{result_eq}
+use Rattle.std.proofs.lemmas.Bool.Decides.{Decides-int_eq}
+use Rattle.humantime.specs.declared.TimestampError.{TimestampError}
+use Rattle.humantime.specs.Prelude.{cut}
 use Rattle.humantime_tests.proofs.law_callers.timestamps.moment_comes_back.Goals as goal
 
--- an answer is not both an error and a value
-not_both : {T E : Type 0} (answer : Result T E) (error : E) (value : T) → Err error ≡ answer → answer ≡ Ok value → false ≡ true
-not_both answer error value is read = cc
+is_read : (E : TimestampError → TimestampError → Bool) (answer : Result ℤ TimestampError) (t u : ℤ) (k : ℕ)
+    → u ≡ t → k ≡ 9 → cut u 9 ≡ u → answer ≡ Ok (cut u k) → result_eq int_eq E answer (Ok t) ≡ true
+is_read E answer t u k same nine whole read = rw (read, nine, whole, same) ((Decides-int_eq t t).1 (λ i. t))
 
-pub returns-then-eq : goal.returns-then-eq
-returns-then-eq c =
-    let printed = c.in-Some.ensures.text in
-    let h = c.in-Ok-Ok.ensures'.answer in
-    grind (arith, common_steps)
+both : {a b : Bool} → a ≡ true → b ≡ true → (a && b) ≡ true
+both is holds = rw (is, holds)
 
-pub returns-in_default : goal.returns-in_default
-returns-in_default c = not_both _ _ _ c.in_default.ensures'.answer (c.printed_moment_reads.ensures.weak _ c.in-Some.ensures.text)
-
-pub returns-in_default-2 : goal.returns-in_default-2
-returns-in_default-2 c = not_both _ _ _ (sym c.in_default.is-0 ∙ c.parse_rfc3339.ensures.answer) (c.printed_moment_reads.ensures.strict _ c.in-Some.ensures.text)
+pub returns-in-Some : goal.returns-in-Some
+returns-in-Some c =
+    let shown = c.format_rfc3339_nanos-shown.ensures in
+    let moment = ap (λ s. s.moment) shown in
+    let places = ap (λ s. s.places) shown in
+    let law = c.printed_moment_reads.ensures in
+    let strict = is_read _ _ _ _ _ moment places law.whole (c.parse_rfc3339.ensures.answer ∙ law.strict _ c.in-Some.ensures.text) in
+    let weak = is_read _ _ _ _ _ moment places law.whole (c.parse_rfc3339_weak.ensures.answer ∙ law.weak _ c.in-Some.ensures.text) in
+    c.eq.ensures ∙ both strict weak

@@ -1,4 +1,4 @@
-use Rattle.std.proofs.Common.{◌≡◌, ℕ, suc, ◌+◌, List, length, Option, None, Some, ap, arith, length-append}
+use Rattle.std.proofs.Common.{◌≡◌, ℕ, suc, ◌+◌, ◌<◌, false, List, length, Option, None, Some, ap, arith, length-append}
 use Rattle.std.specs.Prelude.{ℤ, ◌==◌, if◌then◌else◌, option_map, codes}
 use Rattle.std.proofs.lemmas.Grind.{common_steps}
 use Rattle.std.proofs.lemmas.Bool.Decides.{nat_tests}
@@ -17,12 +17,15 @@ all_length f zone = rw zone (omega (arith, length-append (fraction_text f.fracti
 printed_length : (t : ℤ) (k : ℕ) (bytes : List ℕ) → IsPrinted t k bytes → length bytes ≡ 20 + (if k == 0 then 0 else suc k)
 printed_length t k bytes printed = rw (printed.weak.shown, all_length printed.fields printed.zone) (ap (λ n. 20 + n) (shown_length printed.fields.fraction k printed.places))
 
-pub returns-clause-whole : goal.returns-clause-whole
-returns-clause-whole c whole =
-    let long = printed_length _ _ _ (rw c.format_rfc3339.ensures at c.in_ok-text.ensures.text) in
+not_zero : (n : ℕ) → 0 < n → (n == 0) ≡ false
+not_zero n some = grind (arith, nat_tests)
+
+pub returns-in-Some-clause-whole : goal.returns-in-Some-clause-whole
+returns-in-Some-clause-whole c whole =
+    let long = printed_length _ _ _ (rw c.format_rfc3339.ensures at c.in-Some.ensures.text) in
     rw whole at long
 
-pub returns-clause-nanos : goal.returns-clause-nanos
-returns-clause-nanos c some =
-    let long = printed_length _ _ _ (rw c.format_rfc3339.ensures at c.in_ok-text.ensures.text) in
-    grind (arith, common_steps, nat_tests)
+pub returns-in-Some-clause-nanos : goal.returns-in-Some-clause-nanos
+returns-in-Some-clause-nanos c some =
+    let long = printed_length _ _ _ (rw c.format_rfc3339.ensures at c.in-Some.ensures.text) in
+    rw (not_zero _ some) at long
