@@ -1,41 +1,48 @@
 //! Answers as texts.
 
 use crate::display::is_always_written;
-use std::fmt::{self, Debug, Display, Write};
+use std::alloc::{AllocError, Global};
+use std::fmt::{Debug, Display};
 use std::str::FromStr;
 
-/// The answer to a call whose numbers cannot be read.
-pub(crate) const UNREAD: &str = "no number";
-
-/// Writes a value as `{:?}` does, and what is wrong where other calls do not agree to it.
-pub(crate) fn tell<T: Debug + Drop>(value: T, agrees: bool, out: &mut String) -> fmt::Result {
-    write!(out, "{value:?}")?;
-    if agrees {
-        Ok(())
+/// A value as `{:?}` writes it, and what is wrong where not all other calls and formats agree to it.
+pub(crate) fn tell<T: Debug + Drop>(
+    alloc: Global,
+    value: T,
+    agrees: bool,
+) -> Result<String, AllocError> {
+    let note = if agrees {
+        ""
     } else {
-        out.write_str(", to which other calls do not agree")
-    }
+        ", but not by each call and format"
+    };
+    format!(in alloc; "{value:?}{note}")
 }
 
-/// Writes an error's message, and what is wrong where some format makes it another, or it takes more requests.
-pub(crate) fn explain<E: Display + Drop>(error: E, most: u32, out: &mut String) -> fmt::Result {
-    let before = out.len();
-    write!(out, "{error}")?;
-    let message = out.as_str().get(before..).unwrap_or("");
-    let agrees = is_always_written(&error, message, most);
-    if agrees {
-        Ok(())
-    } else {
-        out.write_str(", but not under each format")
-    }
+/// The answer where there is none: the name of the call or its numbers cannot be read, or the text has no error.
+pub(crate) fn no_answer(alloc: Global) -> Result<String, AllocError> {
+    tell(alloc, "no answer", true)
+}
+
+/// An error's message, and what is wrong where some format makes it another than is wanted, or it takes more requests.
+pub(crate) fn explain<E: Display + Copy>(
+    alloc: Global,
+    error: Option<E>,
+    wanted: &str,
+    most: u32,
+) -> Result<String, AllocError> {
+    let Some(error) = error else {
+        return no_answer(alloc);
+    };
+    let agrees = is_always_written(&error, wanted, most);
+    tell(alloc, format_args!("{error}"), agrees)
 }
 
 /// Two numbers with a space between them.
-pub(crate) fn parts<A: FromStr + Drop, B: FromStr + Drop>(text: &str) -> Option<(A, B)>
+pub(crate) fn parts<A: FromStr + Drop>(text: &str) -> Option<(A, u32)>
 where
     A::Err: Drop,
-    B::Err: Drop,
 {
-    let (first, second) = text.split_once(' ')?;
-    Some((first.parse().ok()?, second.parse().ok()?))
+    let (first, second) = text.split_once(' ').unwrap_or_default();
+    first.parse().ok().zip(second.parse().ok())
 }

@@ -2,27 +2,23 @@
 
 use std::fmt::{self, Display, Write};
 
-/// A sink that wants one text, or refuses each. It compares what it is asked to take, keeps nothing, and counts the requests.
+/// A sink that wants one text. It compares what it is asked to take, keeps nothing, counts the requests, and refuses each once
+/// something else was asked for.
 #[derive(Drop)]
 struct Wanted<'a> {
     /// What is still to come, until something else was asked for.
     rest: Option<&'a [u8]>,
     requests: u32,
-    refuses: bool,
 }
 
 impl fmt::Write for Wanted<'_> {
     fn write_str(&mut self, s: &str) -> fmt::Result {
         self.requests = self.requests.saturating_add(1);
-        self.rest = match self.rest {
-            Some(rest) => rest.strip_prefix(s.as_bytes()),
-            None => None,
+        let Some(rest) = self.rest else {
+            return Err(fmt::Error);
         };
-        if self.refuses {
-            Err(fmt::Error)
-        } else {
-            Ok(())
-        }
+        self.rest = rest.strip_prefix(s.as_bytes());
+        Ok(())
     }
 }
 
@@ -31,10 +27,11 @@ fn is_written<D: Display + Drop>(value: D, text: &str, most: u32) -> bool {
     let mut sink = Wanted {
         rest: Some(text.as_bytes()),
         requests: 0,
-        refuses: false,
     };
-    let result = sink.write(value);
-    result.is_ok() && sink.rest == Some(b"".as_slice()) && sink.requests <= most
+    match (sink.write(value), sink.rest) {
+        (Ok(()), Some([])) => sink.requests <= most,
+        _ => false,
+    }
 }
 
 /// Whether the value is written as this text in so many requests at most, whatever format is asked for, and gives up at the
@@ -55,7 +52,6 @@ pub(crate) fn refused_requests<T: Display>(value: &T) -> u32 {
     let mut sink = Wanted {
         rest: None,
         requests: 0,
-        refuses: true,
     };
     match write!(sink, "{value}") {
         Ok(()) => u32::MAX,

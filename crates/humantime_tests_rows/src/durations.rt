@@ -1,40 +1,43 @@
 //! What the library answers to calls about durations.
 
-use crate::answer::{self, UNREAD, parts, tell};
+use crate::answer::{no_answer, parts, tell};
 use crate::display::is_always_written;
-use humantime::{Duration, DurationError, StdDuration, canonical, format_duration, parse_duration};
-use std::fmt::{self, Write};
+use humantime::{
+    Duration, DurationError, FormattedDuration, StdDuration, canonical, format_duration,
+    parse_duration,
+};
+use std::alloc::{AllocError, Global};
 
-/// Writes seconds and nanoseconds of the text, or its error.
-pub(crate) fn read(text: &str, out: &mut String) -> fmt::Result {
+/// Seconds and nanoseconds of the text, or its error.
+pub(crate) fn read(alloc: Global, text: &str) -> Result<String, AllocError> {
     let parts = match parse_duration(text) {
         Ok(value) => Ok((value.as_secs(), value.subsec_nanos())),
         Err(error) => Err(error),
     };
-    tell(parts, is_read_alike(text), out)
+    tell(alloc, parts, is_read_alike(text))
 }
 
 /// Whether the calls that read the text agree, and leave the buffer as it was where they refuse it.
 fn is_read_alike(text: &str) -> bool {
     let mut buf = [b'-'; 64];
     let wrapped = Duration::from_str(text);
-    match (parse_duration(text), canonical(text, &mut buf)) {
-        (Ok(value), Ok(printed)) => {
-            wrapped == Ok(Duration::from(value)) && is_shown(value, printed)
+    match parse_duration(text) {
+        Ok(value) => {
+            let printed = canonical(text, &mut buf).unwrap_or_default();
+            wrapped == Ok(Duration::from(value))
+                && is_shown(&format_duration(value), value, printed)
         }
-        (Err(error), Err(same)) => {
-            error == same
-                && wrapped == Err(error)
+        Err(error) => {
+            [canonical(text, &mut buf).err(), wrapped.err()] == [Some(error); 2]
                 && points_into(error, text)
-                && buf.as_slice() == [b'-'; 64].as_slice()
+                && buf == [b'-'; 64]
         }
-        _ => false,
     }
 }
 
 /// Whether the duration is printed as this text, and read from it.
-fn is_shown(value: StdDuration, text: &str) -> bool {
-    format_duration(value).text(&mut [b'x'; 64]) == text && parse_duration(text) == Ok(value)
+fn is_shown(printed: &FormattedDuration, value: StdDuration, text: &str) -> bool {
+    printed.text(&mut [b'x'; 64]) == text && parse_duration(text) == Ok(value)
 }
 
 /// Whether the error's offsets lie in the text where a character begins or the text ends, and its unit between them.
@@ -53,55 +56,41 @@ fn points_into(error: DurationError<'_>, text: &str) -> bool {
     }
 }
 
-/// Writes the canonical text of a text.
-pub(crate) fn print_anew(text: &str, out: &mut String) -> fmt::Result {
-    tell(canonical(text, &mut [0; 64]), true, out)
-}
-
-/// Writes the message of a text's error.
-pub(crate) fn explain(text: &str, out: &mut String) -> fmt::Result {
-    match parse_duration(text) {
-        Ok(_) => out.write_str("no error"),
-        Err(error) => answer::explain(error, u32::MAX, out),
-    }
-}
-
-/// Writes the messages of both errors that have this offset.
-pub(crate) fn misplace(offset: &str, out: &mut String) -> fmt::Result {
+/// The messages of both errors that have this offset.
+pub(crate) fn misplace(alloc: Global, offset: &str, wanted: &str) -> Result<String, AllocError> {
     let Ok(at) = offset.parse() else {
-        return out.write_str(UNREAD);
+        return no_answer(alloc);
     };
-    answer::explain(DurationError::InvalidCharacter(at), u32::MAX, out)?;
-    out.write_str(", ")?;
-    answer::explain(DurationError::NumberExpected(at), u32::MAX, out)
+    let invalid = DurationError::InvalidCharacter(at);
+    let expected = DurationError::NumberExpected(at);
+    let (first, second) = wanted.split_once(", ").unwrap_or_default();
+    let agrees = is_always_written(&invalid, first, u32::MAX)
+        && is_always_written(&expected, second, u32::MAX);
+    tell(alloc, format_args!("{invalid}, {expected}"), agrees)
 }
 
-/// Writes what a duration of so many seconds and nanoseconds is printed as.
-pub(crate) fn print(numbers: &str, out: &mut String) -> fmt::Result {
-    let Some(value) = duration_of(numbers) else {
-        return out.write_str(UNREAD);
-    };
-    let mut buf = [0; 64];
-    let text = format_duration(value).text(&mut buf);
-    tell(text, is_printed_alike(value, text), out)
-}
-
-/// The duration of so many seconds and nanoseconds.
-fn duration_of(numbers: &str) -> Option<StdDuration> {
-    let (secs, nanos) = parts(numbers)?;
-    StdDuration::checked_new(secs, nanos)
+/// What a duration of so many seconds and nanoseconds is printed as.
+pub(crate) fn print(alloc: Global, numbers: &str) -> Result<String, AllocError> {
+    if let Some((secs, nanos)) = parts(numbers)
+        && let Some(value) = StdDuration::checked_new(secs, nanos)
+    {
+        let mut buf = [0; 64];
+        let text = format_duration(value).text(&mut buf);
+        tell(alloc, text, is_printed_alike(value, text))
+    } else {
+        no_answer(alloc)
+    }
 }
 
 /// Whether all that prints the duration prints this text, and it reads back.
 fn is_printed_alike(value: StdDuration, text: &str) -> bool {
     let printed = format_duration(value);
-    let is_cloned = match printed.clone() {
-        Ok(same) => same.text(&mut [b'x'; 64]) == text,
-        Err(_) => false,
+    let Ok(same) = printed.clone() else {
+        return false;
     };
-    is_cloned
-        && *printed.get_ref() == value
+    *printed.get_ref() == value
+        && is_shown(&printed, value, text)
+        && is_shown(&same, value, text)
         && is_always_written(&printed, text, 1)
         && is_always_written(&Duration::from(value), text, 1)
-        && is_shown(value, text)
 }
