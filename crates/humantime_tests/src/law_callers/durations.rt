@@ -28,8 +28,8 @@ pub fn whole_seconds(text: &str) -> Result<u64, DurationError<'_>>
     limit_seconds(text)
 }
 
-/// The duration that a text spells, or its first fault, by the table of first faults: what its items and their limits
-/// decide. A text that the older rules accepted is still read, and keeps its value.
+/// The duration that a text spells, or its first fault: what its items and their limits decide, and what the table of
+/// first faults says. A text that the older rules accepted is still read, and keeps its value.
 pub fn decided(text: &str) -> Result<StdDuration, DurationError<'_>>
     ensures accepted { (ss : List Span) (stop : Option Fault) → Items (chars text.now) ss stop → chars text.now ≢ bare_zero → (v : ℕ) → (result_view result ≡ Ok v) ↔ ((stop ≡ None) × WithinLimits ss × (value ss ≡ v)) }
     ensures stopped { (ss : List Span) (e : Fault) → Items (chars text.now) ss (Some e) → chars text.now ≢ bare_zero → WithinLimits ss → result_view result ≡ Err e }
