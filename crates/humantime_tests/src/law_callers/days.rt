@@ -1,23 +1,21 @@
 //! What follows from the law of days, and from what a date and its day are.
 
-ghost use Rattle.std.specs.Prelude.{◌≡◌, ◌≤◌, ◌∷◌, [], true, Some, None};
+ghost use Rattle.std.specs.Prelude.{◌≡◌, ◌↔◌, ◌≤◌, ◌∷◌, [], true, Some, None};
 ghost use Rattle.humantime.specs.declared.Date.{Date};
 ghost use Rattle.humantime.specs.Prelude.{IsDate};
 
 use humantime::laws::one_date;
 use humantime::{Date, Turns, date_of_day, day_number};
 
-/// Two dates that exist are equal exactly where their days are.
-pub fn dates_differ_by_day(a: Date, b: Date, turns: &mut Turns) -> bool
-    ensures { result ≡ true }
+/// The days of two dates: where both exist, they are equal exactly where the dates are.
+pub fn days_of(a: Date, b: Date, turns: &mut Turns) -> (Option<u32>, Option<u32>)
+    ensures { IsDate a → IsDate b → (result.0 ≡ result.1) ↔ (a ≡ b) }
 {
-    match (day_number(a, turns), day_number(b, turns)) {
-        (Some(day), Some(other)) => {
-            one_date(day);
-            (a == b) == (day == other)
-        }
-        _ => true,
+    let day = day_number(a, turns);
+    if let Some(day) = day {
+        one_date(day);
     }
+    (day, day_number(b, turns))
 }
 
 /// The date of a date's day, which is that date.

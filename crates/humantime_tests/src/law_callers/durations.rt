@@ -1,7 +1,7 @@
 //! Callers of the laws of durations.
 
-ghost use Rattle.std.specs.Prelude.{◌≡◌, ◌≢◌, ◌+◌, ◌/◌, ◌≤◌, ◌++◌, ◌↔◌, ◌⊎◌, ℕ, List, Option, None, Some, Ok, Err, chars, length, option_map, slice_index, true, IsOk, IsPermutation};
-ghost use Rattle.humantime.specs.Prelude.{Accepted, AcceptedWithZeros, AllHaveRoom, AreReordered, Canon, Counts, Fault, HasFault, Items, NumberOverflow, Reads, Span, WithinLimits, additions, bare_zero, duration_answer, item_of, items_left, nanos_per_second, result_view, value, WasAccepted};
+ghost use Rattle.std.specs.Prelude.{◌≡◌, ◌≢◌, ◌+◌, ◌/◌, ◌≤◌, ◌++◌, ◌↔◌, ◌⊎◌, ℕ, List, Option, None, Some, Ok, Err, chars, length, option_map, slice_index, IsOk, IsPermutation};
+ghost use Rattle.humantime.specs.Prelude.{Accepted, AcceptedWithZeros, AllHaveRoom, AreReordered, Canon, Counts, Fault, HasFault, IsCanonicalOf, Items, NumberOverflow, Reads, Span, WithinLimits, additions, bare_zero, duration_answer, item_of, items_left, nanos_per_second, result_view, text_result_view, value, WasAccepted};
 ghost use Rattle.humantime_tests.specs.FirstFaults.{IsFirstFault};
 
 use crate::callers::durations::limit_seconds;
@@ -68,29 +68,28 @@ pub fn canonical_text<'b>(duration: StdDuration, buf: &'b mut [u8; 64]) -> &'b s
     format_duration(duration).text(buf)
 }
 
-/// Whether a canonical text is read as its duration: it is.
-pub fn reads_back(text: &str, duration: StdDuration) -> bool
-    ensures { Canon duration text.now → result ≡ true }
+/// What a canonical text is read as: its duration.
+pub fn read_back(text: &str, duration: StdDuration) -> Result<StdDuration, DurationError<'_>>
+    ensures { Canon duration text.now → result_view result ≡ Ok duration }
 {
     printed_duration_reads(duration);
-    match parse_duration(text) {
-        Ok(read) => read == duration,
-        Err(_) => false,
-    }
+    parse_duration(text)
 }
 
-/// Whether the canonical text of a text is its own canonical text, and is read as the text is: it is.
-pub fn is_settled(text: &str) -> bool
-    ensures { result ≡ true }
+/// What the canonical text of a text is read as, and its own canonical text: what the text is read as, and itself.
+pub fn settled<'a, 'b>(
+    text: &str,
+    shown: &'a str,
+    buf: &'b mut [u8; 64],
+) -> (
+    Result<StdDuration, DurationError<'a>>,
+    Result<&'b str, DurationError<'a>>,
+)
+    ensures value { (v : ℕ) → Accepted (chars text.now) v → IsCanonicalOf text.now shown.now → result_view result.0 ≡ Ok v }
+    ensures again { IsCanonicalOf text.now shown.now → text_result_view result.1 ≡ Ok shown.now }
 {
     canonical_again(text);
-    match canonical(text, &mut [0; 64]) {
-        Ok(shown) => {
-            parse_duration(shown) == parse_duration(text)
-                && canonical(shown, &mut [0; 64]) == Ok(shown)
-        }
-        Err(_) => true,
-    }
+    (parse_duration(shown), canonical(shown, buf))
 }
 
 /// The sum of two accepted texts, read from the one behind the other: it is read exactly where the additions have room,
@@ -104,16 +103,19 @@ pub fn sum_of<'a>(a: &str, b: &str, both: &'a str) -> Result<StdDuration, Durati
     parse_duration(both)
 }
 
-/// Whether texts of the same spans in another order are read alike, where both are read: they are.
-pub fn read_alike(a: &str, b: &str) -> bool
-    ensures spans { (ss : List Span) (ts : List Span) → Reads (chars a.now) ss → Reads (chars b.now) ts → IsPermutation ss ts → result ≡ true }
-    ensures texts { AreReordered (chars a.now) (chars b.now) → result ≡ true }
+/// What texts of the same spans in another order are read as: the same, where both are read.
+pub fn read_alike<'a, 'b>(
+    a: &'a str,
+    b: &'b str,
+) -> (
+    Result<StdDuration, DurationError<'a>>,
+    Result<StdDuration, DurationError<'b>>,
+)
+    ensures spans { (ss : List Span) (ts : List Span) (v : ℕ) (w : ℕ) → Reads (chars a.now) ss → Reads (chars b.now) ts → IsPermutation ss ts → result_view result.0 ≡ Ok v → result_view result.1 ≡ Ok w → v ≡ w }
+    ensures texts { (v : ℕ) (w : ℕ) → AreReordered (chars a.now) (chars b.now) → result_view result.0 ≡ Ok v → result_view result.1 ≡ Ok w → v ≡ w }
 {
     reordered(a, b);
-    match (parse_duration(a), parse_duration(b)) {
-        (Ok(a), Ok(b)) => a == b,
-        _ => true,
-    }
+    (parse_duration(a), parse_duration(b))
 }
 
 /// Two walks over one text. The same items are to come in both.

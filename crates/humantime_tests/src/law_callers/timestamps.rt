@@ -1,6 +1,6 @@
 //! What the laws of timestamps come to, and what moments and their texts are. `callers::timestamps` has two more.
 
-ghost use Rattle.std.specs.Prelude.{◌≡◌, ◌<◌, ◌↔◌, ◌<ℤ◌, ◌≤ℤ◌, ◌∷◌, [], ℕ, ℤ, pos, Ok, None, Some, true, length, unwrap_or, IsTrue, IfOk, IfSome, IsSome, string_bytes};
+ghost use Rattle.std.specs.Prelude.{◌≡◌, ◌<◌, ◌↔◌, ◌<ℤ◌, ◌≤ℤ◌, ◌∷◌, [], ℕ, ℤ, pos, Ok, Err, None, Some, true, length, unwrap_or, IsTrue, IfOk, IfSome, IsSome, string_bytes};
 ghost use Rattle.std.specs.Ordering.{int_cmp};
 ghost use Rattle.humantime.specs.declared.TimestampError.{TimestampError};
 ghost use Rattle.humantime.specs.Prelude.{Fields, IsWeak, IsStrict, IsWeakMoment, IsStrictMoment, weak_answer, strict_answer, weak_checks, first_failed, IsPrintable, IsPrinted, cut, nano_of};
@@ -24,18 +24,18 @@ pub fn is_marked(text: &str) -> bool
     bytes.len() > 10 && bytes[10] == b'T' && (bytes.ends_with(b"Z") || bytes.ends_with(b"+00:00"))
 }
 
-/// Whether both parsers read a moment back that is printed with nine digits. They do.
-pub fn moment_comes_back(moment: SystemTime) -> bool
-    ensures { result ≡ true }
+/// What both parsers read where a moment is printed with nine digits: that moment.
+pub fn read_back(
+    moment: SystemTime,
+    text: &str,
+) -> (
+    Result<SystemTime, TimestampError>,
+    Result<SystemTime, TimestampError>,
+)
+    ensures { IsPrintable moment → IsPrinted moment 9 text.now → result ≡ (Ok moment, Ok moment) }
 {
-    let shown = format_rfc3339_nanos(moment);
-    printed_moment_reads(&shown);
-    match shown.text(&mut [0; 30]) {
-        Some(text) => {
-            (parse_rfc3339(text), parse_rfc3339_weak(text)) == (Ok(moment), Ok(moment))
-        }
-        None => true,
-    }
+    printed_moment_reads(&format_rfc3339_nanos(moment));
+    (parse_rfc3339(text), parse_rfc3339_weak(text))
 }
 
 /// The text of a timestamp of 1970 to 9999, which is the one that was printed before.
@@ -72,17 +72,17 @@ pub fn order_of_texts(text: &str, other: &str, a: SystemTime, b: SystemTime) -> 
 
 /// The errors of the weak checks, in their order, and of the strict one. Each text fails the later checks too, where it can.
 #[tactic(auto, unfolding(humantime::proofs::TimestampsOnLiterals::timestamps_on_literals))]
-pub fn first_errors() -> [Option<TimestampError>; 7]
-    ensures { result ≡ (Some TimestampError.InvalidFormat ∷ Some TimestampError.InvalidFormat ∷ Some TimestampError.InvalidDigit ∷ Some TimestampError.OutOfRange ∷ Some TimestampError.InvalidFormat ∷ Some TimestampError.InvalidDigit ∷ Some TimestampError.InvalidFormat ∷ []) }
+pub fn first_errors() -> [Result<SystemTime, TimestampError>; 7]
+    ensures { result ≡ (Err TimestampError.InvalidFormat ∷ Err TimestampError.InvalidFormat ∷ Err TimestampError.InvalidDigit ∷ Err TimestampError.OutOfRange ∷ Err TimestampError.InvalidFormat ∷ Err TimestampError.InvalidDigit ∷ Err TimestampError.InvalidFormat ∷ []) }
 {
     [
-        parse_rfc3339_weak("1969-1x-01 00:00:0").err(),
-        parse_rfc3339_weak("1969-1x-01_00:00:00").err(),
-        parse_rfc3339_weak("1969-1x-01 00:00:00").err(),
-        parse_rfc3339_weak("1970-13-01 00:00:00junk").err(),
-        parse_rfc3339_weak("1970-01-01T00:00:00ZabZ").err(),
-        parse_rfc3339_weak("1970-01-01T00:00:00.5+abcdZ").err(),
-        parse_rfc3339("1970-13-01 00:00:00junk").err(),
+        parse_rfc3339_weak("1969-1x-01 00:00:0"),
+        parse_rfc3339_weak("1969-1x-01_00:00:00"),
+        parse_rfc3339_weak("1969-1x-01 00:00:00"),
+        parse_rfc3339_weak("1970-13-01 00:00:00junk"),
+        parse_rfc3339_weak("1970-01-01T00:00:00ZabZ"),
+        parse_rfc3339_weak("1970-01-01T00:00:00.5+abcdZ"),
+        parse_rfc3339("1970-13-01 00:00:00junk"),
     ]
 }
 
