@@ -50,8 +50,6 @@
 //! ```
 
 ghost use Rattle.std.specs.Prelude.{◌≡◌, ◌↔◌, ℤ, true, IsTrue, IsSome, IfSome};
-ghost use Rattle.std.specs.Cmp.Lexicographic.{slice_cmp};
-ghost use Rattle.std.specs.Ordering.{nat_cmp, is_le, is_lt};
 ghost use Rattle.humantime.specs.Prelude.{IsPrintable, IsPrinted, cut};
 ghost use Rattle.humantime_examples.specs.LogLines.{stamp, IsKept};
 
@@ -62,7 +60,7 @@ pub fn keeps(line: &str, from: SystemTime, to: SystemTime) -> bool
     ensures { IsTrue result ↔ IsKept from to line.now }
 {
     match parse_rfc3339(stamp_of(line)) {
-        Ok(moment) => from <= moment && moment < to,
+        Ok(moment) => (from..to).contains(&moment),
         Err(_) => false,
     }
 }
@@ -72,7 +70,7 @@ pub fn keeps_by_bytes(line: &str, from: &str, to: &str) -> bool
     ensures { (a : ℤ) (b : ℤ) (t : ℤ) → IsPrinted a 3 from.now → IsPrinted b 3 to.now → IsPrinted t 3 (stamp line.now)
         → (IsTrue result ↔ IsKept (cut a 3) (cut b 3) line.now) }
 {
-    is_text_between(stamp_of(line), from, to)
+    (from..to).contains(&stamp_of(line))
 }
 
 /// Whether both answer alike: they do, for bounds of whole milliseconds and a line that is printed with as many digits.
@@ -101,12 +99,4 @@ fn stamp_of(line: &str) -> &str
         Some((stamp, _)) => stamp,
         None => line,
     }
-}
-
-/// Whether the bytes of a text lie in a range.
-fn is_text_between(text: &str, from: &str, to: &str) -> bool
-    ensures { IsTrue result
-        ↔ (IsTrue (is_le (slice_cmp nat_cmp from.now text.now)) × IsTrue (is_lt (slice_cmp nat_cmp text.now to.now))) }
-{
-    from <= text && text < to
 }

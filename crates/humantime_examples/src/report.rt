@@ -47,7 +47,7 @@ use humantime::{StdDuration, SystemTime, format_duration, format_rfc3339_millis}
 use std::fmt::{self, Display, Write};
 
 /// A job that has ended.
-#[derive(Clone, Copy, Debug)]
+#[derive(Clone, Copy)]
 pub struct Row {
     /// When it started.
     pub start: SystemTime,

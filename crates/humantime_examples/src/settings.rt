@@ -81,10 +81,10 @@
 
 mod marked;
 
-ghost use Rattle.std.specs.Prelude.{◌≡◌, ◌↔◌, ◌++◌, chars, drop, length, IfErr, IfSome, IsSome, IsTrue};
+ghost use Rattle.std.specs.Prelude.{◌≡◌, ◌++◌, chars, drop, length, IfErr};
 ghost use Rattle.std.specs.Str.{IsCharBoundary};
 ghost use Rattle.humantime.specs.Prelude.{PointsInto, duration_answer, fault_of, strict_answer};
-ghost use Rattle.humantime_examples.specs.Settings.{FaultPointsInto, fault_place, has_value, key_of, line_answer, moved, since_answer, timeout_answer, line_view, value_at, value_of};
+ghost use Rattle.humantime_examples.specs.Settings.{FaultPointsInto, fault_place, line_answer, moved, since_answer, timeout_answer, line_view};
 
 use humantime::{
     DurationError, StdDuration, SystemTime, TimestampError, parse_duration, parse_rfc3339,
@@ -134,37 +134,14 @@ pub fn read_line(line: &str) -> Result<Setting, LineError<'_>>
     ensures line { IfErr result (λ error. error.before.now ++ error.after.now ≡ line.now) }
     ensures place { IfErr result (λ error. FaultPointsInto line.now error.fault) }
 {
-    let Some((key, at)) = parts_of(line) else {
-        return Err(LineError {
-            key: line.trim_end(),
-            before: line,
-            after: "",
-            fault: LineFault::NoValue,
-        });
+    let Some((key, value)) = line.split_once('=') else {
+        return Err(cut(line, line.trim_end(), line.len(), LineFault::NoValue));
     };
+    let (key, at) = (key.trim_end(), line.len() - value.trim_start().len());
     match key {
         "timeout" => read_timeout(line, key, at),
         "since" => read_since(line, key, at),
-        _ => Err(LineError {
-            key,
-            before: "",
-            after: line,
-            fault: LineFault::UnknownKey,
-        }),
-    }
-}
-
-/// The key, and the byte at which the value begins, if there is a `=`.
-fn parts_of(line: &str) -> Option<(&str, usize)>
-    ensures some { IsSome result ↔ IsTrue (has_value line.now) }
-    ensures key { IfSome result (λ parts. parts.0.now ≡ key_of line.now) }
-    ensures at { IfSome result (λ parts. parts.1 ≡ value_at line.now) }
-    ensures value { IfSome result (λ parts. drop parts.1 line.now ≡ value_of line.now) }
-    ensures boundary { IfSome result (λ parts. IsCharBoundary line.now parts.1) }
-{
-    match line.split_once('=') {
-        Some((key, value)) => Some((key.trim_end(), line.len() - value.trim_start().len())),
-        None => None,
+        _ => Err(cut(line, key, 0, LineFault::UnknownKey)),
     }
 }
 

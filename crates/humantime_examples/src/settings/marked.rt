@@ -1,8 +1,8 @@
 //! What a user is told of a settings line that is refused: what is wrong, and the line with a mark under the fault.
 
-ghost use Rattle.std.specs.Prelude.{◌≡◌, [], ◌∷◌};
+ghost use Rattle.std.specs.Prelude.{◌++◌, codes};
 ghost use Rattle.std.specs.Fmt.{WritesOnOk};
-ghost use Rattle.humantime_examples.specs.Marks.{blank, blank_for};
+ghost use Rattle.humantime_examples.specs.Marks.{blank};
 
 use super::{LineError, LineFault};
 use std::fmt;
@@ -18,10 +18,14 @@ impl fmt::Display for LineError<'_> {
     ghost output = { λ error. Some (error_text error) };
 
     fn fmt<W: fmt::Write>(&self, f: &mut fmt::Formatter<W>) -> fmt::Result {
-        let (key, fault, before, after) = (self.key, self.fault, self.before, self.after);
+        let LineError {
+            key,
+            fault,
+            before,
+            after,
+        } = *self;
         write!(f, "{key}: {fault}\n{before}{after}\n")?;
-        write_blank(before, f)?;
-        f.write_str("^")
+        write_mark(before, f)
     }
 }
 
@@ -41,19 +45,12 @@ impl fmt::Display for LineFault<'_> {
     }
 }
 
-/// Writes a tab for each tab, and a space for each other character.
-fn write_blank<W: fmt::Write>(text: &str, f: &mut fmt::Formatter<W>) -> fmt::Result
-    ensures { WritesOnOk W.write_str_gives f.old result (blank text.now) f.new }
+/// Writes a tab for each tab of a text, a space for each other character, and a mark behind them.
+fn write_mark<W: fmt::Write>(text: &str, f: &mut fmt::Formatter<W>) -> fmt::Result
+    ensures { WritesOnOk W.write_str_gives f.old result (blank text.now ++ codes "^") f.new }
 {
     for c in text.chars() {
-        f.write_str(blank_of(c))?;
+        f.write_char(if c == '\t' { '\t' } else { ' ' })?;
     }
-    Ok(())
-}
-
-/// A tab for a tab, and a space for another character.
-fn blank_of(c: char) -> &'static str
-    ensures { result.now ≡ blank_for c ∷ [] }
-{
-    if c == '\t' { "\t" } else { " " }
+    f.write_str("^")
 }
