@@ -8,36 +8,23 @@ use humantime::{
 };
 use std::alloc::{AllocError, Global};
 
-/// Seconds and nanoseconds of the text, or its error.
+/// Seconds and nanoseconds of the text, or its error, which leaves the buffer as it was.
 pub(crate) fn read(alloc: Global, text: &str) -> Result<String, AllocError> {
-    let parts = match parse_duration(text) {
-        Ok(value) => Ok((value.as_secs(), value.subsec_nanos())),
-        Err(error) => Err(error),
-    };
-    tell(alloc, parts, is_read_alike(text))
-}
-
-/// Whether the calls that read the text agree, and leave the buffer as it was where they refuse it.
-fn is_read_alike(text: &str) -> bool {
     let mut buf = [b'-'; 64];
     let wrapped = Duration::from_str(text);
     match parse_duration(text) {
         Ok(value) => {
             let printed = canonical(text, &mut buf).unwrap_or_default();
-            wrapped == Ok(Duration::from(value))
-                && is_shown(&format_duration(value), value, printed)
+            let agrees = wrapped == Ok(Duration::from(value)) && is_printed_alike(value, printed);
+            let parts = (value.as_secs(), value.subsec_nanos());
+            tell(alloc, Ok::<_, ()>(parts), agrees)
         }
         Err(error) => {
-            [canonical(text, &mut buf).err(), wrapped.err()] == [Some(error); 2]
-                && points_into(error, text)
-                && buf == [b'-'; 64]
+            let is_refused = canonical(text, &mut buf) == Err(error) && wrapped == Err(error);
+            let agrees = is_refused && points_into(error, text) && buf == [b'-'; 64];
+            tell(alloc, Err::<(), _>(error), agrees)
         }
     }
-}
-
-/// Whether the duration is printed as this text, and read from it.
-fn is_shown(printed: &FormattedDuration, value: StdDuration, text: &str) -> bool {
-    printed.text(&mut [b'x'; 64]) == text && parse_duration(text) == Ok(value)
 }
 
 /// Whether the error's offsets lie in the text where a character begins or the text ends, and its unit between them.
@@ -89,8 +76,14 @@ fn is_printed_alike(value: StdDuration, text: &str) -> bool {
         return false;
     };
     *printed.get_ref() == value
-        && is_shown(&printed, value, text)
-        && is_shown(&same, value, text)
+        && is_shown(&printed, text)
+        && is_shown(&same, text)
+        && parse_duration(text) == Ok(value)
         && is_always_written(&printed, text, 1)
         && is_always_written(&Duration::from(value), text, 1)
+}
+
+/// Whether the duration is printed as this text, whatever stood in the buffer.
+fn is_shown(printed: &FormattedDuration, text: &str) -> bool {
+    printed.text(&mut [b'x'; 64]) == text
 }
