@@ -120,7 +120,7 @@ def copied(top, to):
     os.makedirs(to)
     for name in ("HANDLES", "crates.txt"):
         shutil.copy(os.path.join(top, name), to)
-    shutil.copytree(os.path.join(top, "crates"), os.path.join(to, "crates"), ignore=shutil.ignore_patterns("must-fail", "mutants", "weakened"))
+    shutil.copytree(os.path.join(top, "crates"), os.path.join(to, "crates"), ignore=shutil.ignore_patterns("must-fail", "mutants", "planted", "weakened"))
     return to
 
 

@@ -23,8 +23,20 @@ const DAYS_BEFORE_MONTH: [u32; 12] = [0, 31, 59, 90, 120, 151, 181, 212, 243, 27
 /// The days of each month, January first, with 28 for February.
 const MONTH_LENGTHS: [u32; 12] = [31, 28, 31, 30, 31, 30, 31, 31, 30, 31, 30, 31];
 
-/// Years that begin on 1 March are counted from 1600-03-01, which is so many days before 1970-01-01.
-const DAYS_FROM_MARCH_1600: u32 = 135_080;
+/// The day of 2000-03-01.
+const MARCH_2000: u32 = 11_017;
+
+/// The days of 400 years.
+const DAYS_PER_400_YEARS: u32 = 146_097;
+
+/// The days of 100 years that end without a leap day.
+const DAYS_PER_100_YEARS: u32 = 36_524;
+
+/// The days of four years with a leap day.
+const DAYS_PER_4_YEARS: u32 = 1_461;
+
+/// The days of a common year.
+const DAYS_PER_YEAR: u32 = 365;
 
 /// A date: a year, a month from 1 (January) to 12, and a day of the month from 1.
 ///
@@ -143,18 +155,27 @@ pub fn day_number(date: Date, turns: &mut Turns) -> Option<u32>
     Some(days_before(date.year, date.month) + date.day - 1)
 }
 
-/// The year that holds this day, of the years that begin on 1 March, from 1600 on, and the day's place in it.
-/// Days are counted in quarters: a century has 146097 of them, and a year of a century 1461.
+/// The year that holds this day, of the years that begin on 1 March, counted from 1600, and the day's place in it. The last
+/// century of four, and the last year of four, are a day longer.
 #[inline(always)]
 fn march_year(day: u32) -> (u32, u32)
     requires { day ≤ 2_932_896 }
     ensures year { result.0 ≡ March.march_year (day + 135_080) }
     ensures left { march_days result.0 + result.1 ≡ day + 135_080 }
 {
-    let quarters = 4 * (day + DAYS_FROM_MARCH_1600) + 3;
-    let century = quarters / 146_097;
-    let left = quarters % 146_097 / 4 * 4 + 3;
-    (100 * century + left / 1461, left % 1461 / 4)
+    // Days before 2000-03-01 lie in the cycle before.
+    let from = day + DAYS_PER_400_YEARS - MARCH_2000;
+    let cycles = from / DAYS_PER_400_YEARS;
+    let in_cycle = from % DAYS_PER_400_YEARS;
+    let centuries = (in_cycle / DAYS_PER_100_YEARS).min(3);
+    let in_century = in_cycle - centuries * DAYS_PER_100_YEARS;
+    let fours = in_century / DAYS_PER_4_YEARS;
+    let in_four = in_century % DAYS_PER_4_YEARS;
+    let years = (in_four / DAYS_PER_YEAR).min(3);
+    (
+        400 * cycles + 100 * centuries + 4 * fours + years,
+        in_four - years * DAYS_PER_YEAR,
+    )
 }
 
 /// The days before this month of a year that begins on 1 March. March is month 0.

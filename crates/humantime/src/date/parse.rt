@@ -1,6 +1,6 @@
 //! The parsers of timestamps.
 
-ghost use Rattle.std.specs.Prelude.{nat_le, ◌≡◌, ◌+◌, ◌-◌, ◌*◌, ◌^◌, ◌<◌, ◌≤◌, ◌↔◌, ◌&&◌, length, drop, min, IsTrue, IfSome, Ok, Err, Some, ℤ, codes};
+ghost use Rattle.std.specs.Prelude.{nat_le, ◌≡◌, ◌+◌, ◌-◌, ◌*◌, ◌^◌, ◌<◌, ◌≤◌, ◌↔◌, ◌&&◌, length, drop, min, IsTrue, IfSome, SomeIff, Ok, Err, Some, ℤ, codes};
 ghost use Rattle.std.specs.Char.{is_ascii_digit};
 ghost use Rattle.std.specs.List.{list_all};
 ghost use Rattle.std.specs.Str.{bytes_eq};
@@ -11,8 +11,9 @@ ghost use Rattle.humantime.specs.References.Timestamps.Reading.{weak_answer, str
 ghost use Rattle.humantime.specs.Timestamps.Checks;
 ghost use Rattle.humantime.specs.References.Timestamps.Reading as Reading;
 
-use crate::calendar::{Date, days_before, month_length};
+use crate::calendar::{Date, day_number};
 use crate::date::error::TimestampError;
+use crate::turns::Turns;
 use crate::value::SystemTime;
 use std::simd::prelude::*;
 
@@ -37,24 +38,6 @@ static WEIGHTS_FRONT: [u8; 16] = [100, 10, 1, 0, 0, 10, 1, 0, 10, 1, 0, 0, 0, 0,
 
 /// And each of those from the fourth on: the year's last digit, nothing, hour, second.
 static WEIGHTS_BACK: [u8; 16] = [1, 0, 0, 0, 0, 0, 0, 0, 10, 1, 0, 0, 0, 0, 10, 1];
-
-/// The least numbers at the front: year 1970, month 1, day 1, minute 0.
-static FIRST: [u32; 4] = [197, 1, 1, 0];
-
-/// How far a number may be above it: up to year 9999, month 12, day 31, minute 59.
-static MOST_AFTER: [u32; 4] = [802, 11, 30, 59];
-
-/// The greatest numbers at the back: a digit, nothing, hour 23, second 60.
-static MOST_BACK: [u32; 4] = [9, 0, 23, 60];
-
-/// The same, with second 59, as which second 60 is read.
-static LATEST: [u32; 4] = [9, 0, 23, 59];
-
-/// How many seconds a 1 counts in each number at the front: none in year and month, and those of a day and of a minute.
-static SECONDS: [u32; 4] = [0, 0, 86_400, 60];
-
-/// And in each number at the back: none in the first two, and those of an hour and of a second.
-static SECONDS_BACK: [u32; 4] = [0, 0, 3_600, 1];
 
 /// Which of sixteen numbers stand at the places of nine digits, three to four lanes: a row for each number of digits from
 /// none on, which are the last of the sixteen. For a place without a digit 255 gives 0.
@@ -233,13 +216,11 @@ fn read_timestamp(bytes: &[u8]) -> Result<SystemTime, TimestampError>
         }
         return Err(TimestampError::InvalidFormat);
     }
-    let lanes = lanes_at(bytes);
-    if !is_in_range(lanes) {
+    let Some(seconds) = seconds_of(numbers_in(lanes_at(bytes))) else {
         return Err(TimestampError::OutOfRange);
-    }
+    };
     let nanos = read_fraction(bytes)?;
-    // Summed last, so that nothing but the lanes is kept while the fraction is read.
-    Ok(SystemTime::since_epoch(seconds_of(lanes), nanos))
+    Ok(SystemTime::since_epoch(seconds, nanos))
 }
 
 /// `T` or a space between date and time.
@@ -327,57 +308,19 @@ fn numbers_in(lanes: Lanes) -> Numbers
     }
 }
 
-/// The seconds from 1970 to this date and time. Second 60 is read as 59.
+/// The seconds from 1970 to this date and time, or `None` where it does not exist. Second 60 is read as 59.
 #[inline(always)]
-#[tactic(auto, using(crate::proofs::Timestamps::Reading::Usual::within_from_test))]
-fn seconds_of(lanes: Lanes) -> u64
-    requires short { AreShort lanes }
-    requires range { IsTrue (are_in_range (numbers_in lanes)) }
-    ensures value { let x = numbers_in lanes in result ≡ seconds_of x.date x.hour x.minute x.second }
-    ensures bound { result < 2 ^ 63 }
+#[tactic(auto, unfolding(crate::specs::Timestamps::Checks::are_in_range))]
+fn seconds_of(x: Numbers) -> Option<u64>
+    ensures value { SomeIff result (IsTrue (are_in_range x)) (seconds_of x.date x.hour x.minute x.second) }
+    ensures bound { IfSome result (λ n. n < 2 ^ 63) }
 {
-    let date = numbers_in(lanes).date;
-    let days = days_before(date.year, date.month);
-    days as u64 * 86_400 + seconds_of_month(lanes) as u64 - 86_400
-}
-
-/// A date of 1970 to 9999 that exists, and a time of day, perhaps with a second 60. Each month has 28 days; of a later day the
-/// calendar is asked.
-#[inline(always)]
-fn is_in_range(lanes: Lanes) -> bool
-    requires { AreShort lanes }
-    ensures { result ≡ are_in_range (numbers_in lanes) }
-{
-    if !are_within(lanes) {
-        return false;
+    let day = day_number(x.date, &mut Turns::new())?;
+    if x.hour > 23 || x.minute > 59 || x.second > 60 {
+        return None;
     }
-    let date = numbers_in(lanes).date;
-    date.day <= 28 || date.day <= month_length(date.year, date.month)
-}
-
-/// The numbers in their ranges, with days up to 31: all are tested at once. A number below the least one wraps around to far
-/// above.
-#[inline(always)]
-fn are_within(lanes: Lanes) -> bool
-    requires { AreShort lanes }
-    ensures { IsTrue result ↔ AreWithin (numbers_in lanes) }
-{
-    let after = lanes.front - u32x4::from_slice(&FIRST);
-    after.simd_le(u32x4::from_slice(&MOST_AFTER)).all()
-        && lanes.back.simd_le(u32x4::from_slice(&MOST_BACK)).all()
-}
-
-/// The seconds of the month's days up to this one, and those of the time of day, summed in lanes.
-#[inline(always)]
-fn seconds_of_month(lanes: Lanes) -> u32
-    requires short { AreShort lanes }
-    requires range { IsTrue (are_in_range (numbers_in lanes)) }
-    ensures { let x = numbers_in lanes in
-        result ≡ x.date.day * 86_400 + x.hour * 3_600 + x.minute * 60 + min x.second 59 }
-{
-    let front = lanes.front * u32x4::from_slice(&SECONDS);
-    let back = lanes.back.simd_min(u32x4::from_slice(&LATEST)) * u32x4::from_slice(&SECONDS_BACK);
-    (front + back).reduce_sum()
+    let time = x.hour * 3_600 + x.minute * 60 + x.second.min(59);
+    Some(day as u64 * 86_400 + time as u64)
 }
 
 /// The nanoseconds of what stands between the seconds and the zone, where it is right.

@@ -43,69 +43,14 @@ impl<'b> Writer<'b> {
         self.end = end;
     }
 
-    /// Writes the digit of a number below ten.
-    #[inline(always)]
-    fn push_digit(&mut self, number: u32)
-        requires small { number < 10 }
-        requires fits { self.old.end < length self.old.bytes.now }
-        ensures { Appends self.old self.new (decimal number) }
-    {
-        let bytes = &mut *self.bytes;
-        bytes[self.end] = b'0' + number as u8;
-        self.end += 1;
-    }
-
-    /// Writes the digits of a number below 100.
-    #[inline(always)]
-    #[tactic(auto, using(crate::proofs::Durations::Printing::DecimalLengths::length_one, crate::proofs::Durations::Printing::DecimalLengths::length_more, crate::proofs::Durations::Printing::DecimalLengths::decimal_more, crate::proofs::Durations::Printing::DecimalLengths::appends_both))]
-    fn push_below_100(&mut self, number: u32)
-        requires small { number < 100 }
-        requires fits { self.old.end + length (decimal number) ≤ length self.old.bytes.now }
-        ensures { Appends self.old self.new (decimal number) }
-    {
-        if number < 10 {
-            return self.push_digit(number);
-        }
-        self.push_digit(number / 10);
-        self.push_digit(number % 10);
-    }
-
-    /// Writes the digits of a number below 1000.
-    #[inline(always)]
-    #[tactic(auto, using(crate::proofs::Durations::Printing::DecimalLengths::length_one, crate::proofs::Durations::Printing::DecimalLengths::length_more, crate::proofs::Durations::Printing::DecimalLengths::decimal_more, crate::proofs::Durations::Printing::DecimalLengths::appends_both))]
-    fn push_below_1000(&mut self, number: u32)
-        requires small { number < 1000 }
-        requires fits { self.old.end + length (decimal number) ≤ length self.old.bytes.now }
-        ensures { Appends self.old self.new (decimal number) }
-    {
-        if number < 10 {
-            return self.push_digit(number);
-        }
-        self.push_below_100(number / 10);
-        self.push_digit(number % 10);
-    }
-
-    /// Writes the digits of any number. It is inlined, since a call would have the writer in memory at each step.
-    #[inline(always)]
-    fn push_long(&mut self, number: u64)
-        requires fits { self.old.end + length (decimal number) ≤ length self.old.bytes.now }
-        ensures { Appends self.old self.new (decimal number) }
-    {
-        let mut buf = Buffer::new();
-        self.push(buf.format(number));
-    }
-
-    /// Writes the number's decimal digits. Most counts are below 1000, and then no digits are copied.
+    /// Writes the number's decimal digits.
     #[inline(always)]
     fn push_number(&mut self, number: u64)
         requires fits { self.old.end + length (decimal number) ≤ length self.old.bytes.now }
         ensures { Appends self.old self.new (decimal number) }
     {
-        if number < 1000 {
-            self.push_below_1000(number as u32);
-        } else {
-            self.push_long(number);
-        }
+        let mut buf = Buffer::new();
+        self.push(buf.format(number));
     }
 
     /// Writes a count and its unit, with a space before it where it is not the first; a count of zero is left out.

@@ -3,8 +3,8 @@ use Rattle.std.proofs.lemmas.Result.{err_from_is_err_and}
 use Rattle.humantime.proofs.Timestamps.Reading.Exits.{exit_range, exit_read}
 use Rattle.humantime.proofs.date.parse.read_timestamp.Goals as goal
 
-pub returns-then-not-is_in_range : goal.returns-then-not-is_in_range
-returns-then-not-is_in_range c = grind (arith, exit_range)
+pub returns-in_default : goal.returns-in_default
+returns-in_default c = grind (arith, exit_range)
 
 pub returns-in_err-nanos : goal.returns-in_err-nanos
 returns-in_err-nanos c =
