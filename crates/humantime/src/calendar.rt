@@ -83,7 +83,7 @@ fn leap_days(year: u32) -> u32
 
 /// The days of a month.
 #[inline(always)]
-pub(crate) fn month_length(year: u32, month: u32) -> u32
+fn month_length(year: u32, month: u32) -> u32
     requires { IsInRange 1 12 month }
     ensures { result ≡ days_in_month year month }
 {
@@ -113,7 +113,7 @@ fn days_before_month(year: u32, month: u32) -> u32
 /// The days from 1970-01-01 to the first of this month.
 #[inline(always)]
 #[tactic(auto, using(crate::proofs::Dates::Years::days_counted))]
-pub(crate) fn days_before(year: u32, month: u32) -> u32
+fn days_before(year: u32, month: u32) -> u32
     requires year { IsInRange 1970 9999 year }
     requires month { IsInRange 1 12 month }
     ensures { result ≡ days_of_years (year - 1970) + days_of_months year (month - 1) }
@@ -212,8 +212,8 @@ fn march_date(year: u32, month: u32, left: u32) -> Date
 
 /// Returns the date whose day number is `day`, or `None` if `day` is above 2932896, the day of 9999-12-31.
 ///
-/// The year is found by a formula, of the years that begin on 1 March, and the month by a loop over the 12 months from
-/// March on. Each iteration counts one of `turns`, which grows by 12 for a date and stays as it is for `None`.
+/// The year is found by dividing by the days of 400, 100, 4 and 1 years that begin on 1 March, and the month by a loop over the
+/// 12 months from March on. Each iteration counts one of `turns`, which grows by 12 for a date and stays as it is for `None`.
 ///
 /// # Examples
 ///

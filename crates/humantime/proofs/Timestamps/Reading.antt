@@ -10,4 +10,3 @@ pub mod Passed
 pub mod Places
 pub mod Shown
 pub mod Threes
-pub mod Usual

@@ -7,7 +7,7 @@ ghost use Rattle.std.specs.Str.{bytes_eq};
 ghost use Rattle.humantime.specs.declared.date.error.TimestampError.{TimestampError};
 ghost use Rattle.humantime.specs.Timestamps.Fields.{zone_text, seconds_of, IsWeakMoment, IsStrictMoment};
 ghost use Rattle.humantime.specs.Timestamps.Checks.{zone_of, numbers_of, are_in_range, fraction_part, first_failed, weak_checks, strict_checks};
-ghost use Rattle.humantime.specs.References.Timestamps.Reading.{weak_answer, strict_answer, fraction_answer, numbers_in, nanos_found, in_threes, AreShort, AreWithin};
+ghost use Rattle.humantime.specs.References.Timestamps.Reading.{weak_answer, strict_answer, fraction_answer, numbers_in, nanos_found, in_threes, AreShort};
 ghost use Rattle.humantime.specs.Timestamps.Checks;
 ghost use Rattle.humantime.specs.References.Timestamps.Reading as Reading;
 

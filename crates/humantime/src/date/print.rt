@@ -17,9 +17,6 @@ use crate::value::SystemTime;
 use std::fmt;
 use std::marker::Model;
 
-/// The first second of the year 10000.
-const END: i64 = 253_402_300_800;
-
 /// The numbers below 100, in two digits each.
 static PAIRS: [u8; 200] =
     *b"00010203040506070809101112131415161718192021222324252627282930313233343536373839404142434445464748495051525354555657585960616263646566676869707172737475767778798081828384858687888990919293949596979899";
@@ -311,11 +308,9 @@ fn date_and_time(moment: SystemTime) -> Option<(Date, u32)>
     ensures within { IsSome result ↔ IsPrintable moment }
     ensures value { IfSome result (λ x. IsSecondOf x.0 x.1 moment) }
 {
-    let secs = moment.unix_seconds();
-    if secs < 0 || secs >= END {
-        return None;
-    }
-    let date = date_of_day((secs / 86_400) as u32, &mut Turns::new())?;
+    let secs = u64::try_from(moment.unix_seconds()).ok()?;
+    let day = u32::try_from(secs / 86_400).ok()?;
+    let date = date_of_day(day, &mut Turns::new())?;
     Some((date, (secs % 86_400) as u32))
 }
 

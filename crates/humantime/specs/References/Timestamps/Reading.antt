@@ -1,6 +1,5 @@
 -- What the parsers answer, and what their parts find at the places of a text.
 use Rattle.std.specs.Prelude.{ℕ, ◌+◌, ◌*◌, ◌≤◌, Bool, ◌&&◌, nat_le, if◌then◌else◌, ℤ, pos, Option, Some, None, Result, Ok, Err, List, [], ◌∷◌, length, drop, slice_index, ◌≡◌, ◌↔◌}
-use Rattle.std.specs.Int.{IsInRange}
 use Rattle.std.specs.Str.{all_ascii_digits}
 use Rattle.humantime.specs.declared.date.error.TimestampError.{TimestampError}
 use Rattle.humantime.specs.declared.date.error.TimestampError.TheVariants.{InvalidDigit, InvalidFormat}
@@ -28,11 +27,6 @@ abbrev pub AreShort : Lanes → Type 0
 AreShort l =
     let four = λ (ns : List ℕ). (length ns ≡ 4) × ((k : ℕ) → slice_index ns k ≤ 999) in
     four l.front × four l.back × (slice_index l.back 0 ≤ 9) × (slice_index l.back 1 ≡ 0)
-
--- the numbers in their ranges, with days up to 31
-abbrev pub AreWithin : Numbers → Type 0
-AreWithin x = IsInRange 1970 9999 x.date.year × IsInRange 1 12 x.date.month × IsInRange 1 31 x.date.day
-    × (x.hour ≤ 23) × (x.minute ≤ 59) × (x.second ≤ 60)
 
 -- the nanoseconds of these digits, where they are digits
 abbrev pub nanos_found : List ℕ → Option ℕ
