@@ -6,3 +6,5 @@ pub mod option;
 pub mod report;
 pub mod retry;
 pub mod settings;
+#[cfg(test)]
+mod tests;

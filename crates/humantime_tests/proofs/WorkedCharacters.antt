@@ -1,8 +1,9 @@
 -- Which characters are whitespace, digits, letters and points, by computation.
-use Rattle.std.proofs.Common.{◌≡◌, ℕ, List, [], ◌∷◌, filter, refl}
-use Rattle.std.specs.Prelude.{codes}
+use Rattle.std.proofs.Common.{◌≡◌, ℕ, ◌≤◌, List, [], ◌∷◌, filter, refl, arith}
+use Rattle.std.specs.Prelude.{codes, Bool, false, ◌||◌}
+use Rattle.std.proofs.lemmas.Bool.Decides.{nat_tests}
 use Rattle.std.specs.List.{range_with_len}
-use Rattle.humantime.specs.Durations.Characters.{is_whitespace, is_digit, is_letter, is_point}
+use Rattle.humantime.specs.Durations.Characters.{whitespace_chars, is_whitespace, is_digit, is_letter, is_point}
 use Rattle.humantime.proofs.OnLiterals.{humantime_on_literals}
 
 -- all characters of ASCII, and those beyond it up to the last of whitespace
@@ -46,3 +47,11 @@ wide_letters = refl
 wide_points : filter is_point beyond ≡ []
 unfolding humantime_on_literals
 wide_points = refl
+
+-- no character after those is one of them, up to the last of Unicode and beyond
+abbrev is_any : ℕ → Bool
+is_any c = is_whitespace c || is_digit c || is_letter c || is_point c
+
+no_others : (c : ℕ) → 12_289 ≤ c → is_any c ≡ false
+unfolding is_whitespace whitespace_chars is_digit is_letter is_point
+no_others c h = grind (arith, nat_tests)

@@ -1,4 +1,4 @@
--- What durations print as, by computation: none, each unit at one and at two, and the table of the page.
+-- What durations print as, by computation: none, each unit at one, at two and at more, and the table of the page.
 use Rattle.std.proofs.Common.{◌≡◌, ℕ, List, [], ◌∷◌, ◌++◌, map, refl}
 use Rattle.std.specs.Prelude.{codes}
 use Rattle.humantime.specs.Prelude.{duration_text}
@@ -42,6 +42,20 @@ twos =
     ∷ (2, codes "2ns")
     ∷ []
 
+abbrev many : List Row
+many =
+    (662_709_600_000_000_000, codes "21years")
+    ∷ (28_930_176_000_000_000, codes "11months")
+    ∷ (1_814_400_000_000_000, codes "21days")
+    ∷ (2_592_000_000_000_000, codes "30days")
+    ∷ (75_600_000_000_000, codes "21h")
+    ∷ (1_260_000_000_000, codes "21m")
+    ∷ (21_000_000_000, codes "21s")
+    ∷ (21_000_000, codes "21ms")
+    ∷ (21_000, codes "21" ++ micros)
+    ∷ (21, codes "21ns")
+    ∷ []
+
 -- the last two are the longest duration, and the longest text
 abbrev of_the_page : List Row
 of_the_page =
@@ -53,6 +67,6 @@ of_the_page =
     ∷ (3_155_760_000_031_522_175_999_999_999, codes "100000000000years 11months 29days 23h 59m 59s 999ms 999" ++ micros ++ codes " 999ns")
     ∷ []
 
-are_printed : ArePrinted (ones ++ twos ++ of_the_page)
+are_printed : ArePrinted (ones ++ twos ++ many ++ of_the_page)
 unfolding humantime_on_literals
 are_printed = refl

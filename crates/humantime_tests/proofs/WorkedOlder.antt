@@ -1,0 +1,12 @@
+-- What was accepted while trailing zeros of a fraction counted, by computation: the rule had its limits at 19 digits and at the greatest
+-- number, and not below.
+use Rattle.std.proofs.Common.{◌≡◌, ℕ, List, refl, Some, None, arith}
+use Rattle.std.specs.Prelude.{codes}
+use Rattle.humantime.specs.Durations.Spans.{Span}
+use Rattle.humantime.specs.Laws.Older.{OlderFormed}
+
+nineteen_digits : OlderFormed (record { number = codes "0"; fraction = Some (codes "0000000000000000000"); word = codes "s" })
+nineteen_digits = record { unit = _; word = refl; number = omega arith; product = omega arith; fraction = (omega arith, refl) }
+
+greatest_number : OlderFormed (record { number = codes "18446744073709551615"; fraction = None; word = codes "ns" })
+greatest_number = record { unit = _; word = refl; number = omega arith; product = omega arith; fraction = tt }
