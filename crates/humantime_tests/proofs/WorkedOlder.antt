@@ -4,9 +4,12 @@ use Rattle.std.proofs.Common.{◌≡◌, ℕ, List, refl, Some, None, arith}
 use Rattle.std.specs.Prelude.{codes}
 use Rattle.humantime.specs.Durations.Spans.{Span}
 use Rattle.humantime.specs.Laws.Older.{OlderFormed}
+use Rattle.humantime.proofs.OnLiterals.{humantime_on_literals}
 
 nineteen_digits : OlderFormed (record { number = codes "0"; fraction = Some (codes "0000000000000000000"); word = codes "s" })
+unfolding humantime_on_literals
 nineteen_digits = record { unit = _; word = refl; number = omega arith; product = omega arith; fraction = (omega arith, refl) }
 
 greatest_number : OlderFormed (record { number = codes "18446744073709551615"; fraction = None; word = codes "ns" })
+unfolding humantime_on_literals
 greatest_number = record { unit = _; word = refl; number = omega arith; product = omega arith; fraction = tt }
