@@ -16,6 +16,8 @@ use itoa::Buffer;
 use std::io::Write;
 
 pub(crate) mod stream;
+#[cfg(test)]
+mod tests;
 
 const ACCEPTED: u8 = 0;
 
