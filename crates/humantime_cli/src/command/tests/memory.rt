@@ -5,7 +5,7 @@ use super::callers::{explain_fault, print_duration, tell_usage};
 use super::writer::Limited;
 use crate::answer_args;
 use std::alloc::Global;
-use std::io;
+use std::io::{self, ErrorKind};
 use std::process::Abort;
 use std::test::Fail;
 
@@ -35,11 +35,16 @@ fn standard_output_is_flushed_after_the_line(rt: HostRuntime) -> Result<(), Fail
 }
 
 #[test]
-fn a_flush_that_fails_is_an_error(rt: HostRuntime) {
+fn a_flush_that_fails_is_an_error(rt: HostRuntime) -> Result<(), Fail> {
     let (mut out, mut err) = (Limited::open(), Limited::open());
     out.can_flush = false;
-    assert!(rt; answered(rt.alloc(), &mut out, &mut err).is_err());
+    let ended = answered(rt.alloc(), &mut out, &mut err);
+    let error = ended
+        .err()
+        .ok_or("the flush failed and the answer is no error")?;
+    assert_eq!(rt; error.kind(), ErrorKind::Other);
     assert_flushed(&rt, &out, &err);
+    Ok(())
 }
 
 #[test]
