@@ -1,25 +1,25 @@
 -- How the program ends, from what one write took.
 use Rattle.std.proofs.Common.{◌≡◌, ℕ, List, [], subst, inl, inr, refl}
 use Rattle.std.proofs.KnownBytes.{Appends-nil, Appends-kept, Keeps-refl, Keeps-trans}
-use Rattle.std.specs.Prelude.{Option, Some, Result, Ok, Err, IfOk}
-use Rattle.std.specs.Result.{result_unwrap_or}
+use Rattle.std.specs.Prelude.{Option, Some, Result, Ok, Err}
+use Rattle.std.specs.Result.{result_and, result_unwrap_or}
 use Rattle.std.specs.Io.KnownBytes.{Appends, Keeps}
 use Rattle.humantime_cli.specs.Answers.{Answer, EndsWith, Whole, Cut, outcome}
 use Rattle.humantime_cli.specs.Writes.{Writes, AppendsFront, line}
 
 -- a line was written to standard output
-pub to_out : {E : Type 0} (written : Result ℕ E) (text printed : List ℕ) (old new err : Option (List ℕ)) → text ≡ printed → Writes written old new (line text)
-    → IfOk written (λ status. status ≡ 0) → EndsWith (Some (Ok printed)) (result_unwrap_or written 3) old new err err
+pub to_out : {T E : Type 0} (written : Result T E) (text printed : List ℕ) (old new err : Option (List ℕ)) → text ≡ printed → Writes written old new (line text)
+    → EndsWith (Some (Ok printed)) (result_unwrap_or (result_and written (Ok 0)) 3) old new err err
 unfolding Writes
-to_out (Ok status) text printed old new err same wrote zero = Whole zero (subst (λ t. Appends old new (line t)) same wrote) (Appends-nil err)
-to_out (Err e) text printed old new err same wrote ended = Cut refl (inl (subst (λ t. AppendsFront old new (line t)) same wrote, Keeps-refl err))
+to_out (Ok _) text printed old new err same wrote = Whole refl (subst (λ t. Appends old new (line t)) same wrote) (Appends-nil err)
+to_out (Err e) text printed old new err same wrote = Cut refl (inl (subst (λ t. AppendsFront old new (line t)) same wrote, Keeps-refl err))
 
 -- or to standard error
-pub to_err : {E : Type 0} (written : Result ℕ E) (text : List ℕ) (answer : Answer) (out old new : Option (List ℕ)) → line text ≡ (outcome answer).2 → [] ≡ (outcome answer).1
-    → Writes written old new (line text) → IfOk written (λ status. status ≡ (outcome answer).0) → EndsWith answer (result_unwrap_or written 3) out out old new
+pub to_err : {T E : Type 0} (written : Result T E) (text : List ℕ) (answer : Answer) (out old new : Option (List ℕ)) → line text ≡ (outcome answer).2 → [] ≡ (outcome answer).1
+    → Writes written old new (line text) → EndsWith answer (result_unwrap_or (result_and written (Ok (outcome answer).0)) 3) out out old new
 unfolding Writes
-to_err (Ok status) text answer out old new same none wrote ended = Whole ended (subst (Appends out out) none (Appends-nil out)) (subst (Appends old new) same wrote)
-to_err (Err e) text answer out old new same none wrote ended = Cut refl (inr (Keeps-refl out, subst (AppendsFront old new) same wrote))
+to_err (Ok _) text answer out old new same none wrote = Whole refl (subst (Appends out out) none (Appends-nil out)) (subst (Appends old new) same wrote)
+to_err (Err e) text answer out old new same none wrote = Cut refl (inr (Keeps-refl out, subst (AppendsFront old new) same wrote))
 
 -- what was written to standard output stays where it is flushed
 pub flushed : {answer : Answer} {s : ℕ} {o mid n e m : Option (List ℕ)} → EndsWith answer s o mid e m → Keeps mid n → EndsWith answer s o n e m

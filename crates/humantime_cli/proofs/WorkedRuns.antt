@@ -1,5 +1,5 @@
--- What a caller of `run` concludes at words that it knows, where the bytes of both writers are known. Nothing cites these facts:
--- they are open where a definition says less.
+-- What a caller of `run` concludes at words that it knows, where the bytes of both writers are known. The callers among the tests
+-- cite these facts: both are open where a definition or a clause of `run` says less.
 use Rattle.std.proofs.Common.{arith, ◌≡◌, ◌≢◌, ◌<◌, ℕ, List, [], ◌∷◌, ◌++◌, length, take, subst, inl, inr, refl}
 use Rattle.std.specs.Prelude.{Option, None, Some, Ok, Err, codes}
 use Rattle.humantime.specs.Prelude.{InvalidCharacter}
@@ -42,17 +42,17 @@ abbrev Ran : List (List ℕ) → (ℕ → List ℕ → List ℕ → List ℕ →
 Ran words Told = (s : ℕ) (o n e m : List ℕ) → OneAnswer words → Ends words s (Some o) (Some n) (Some e) (Some m) → Told s o n e m
 
 -- A duration was printed whole.
-printed_whole : Ran (codes "duration" ∷ codes "2h 37min" ∷ []) (Wrote 0 (codes "2h 37m\n") [])
+pub printed_whole : Ran (codes "duration" ∷ codes "2h 37min" ∷ []) (Wrote 0 (codes "2h 37m\n") [])
 printed_whole _ _ _ _ _ one ends = all_written (ends_with _ (Some (Ok (codes "2h 37m"))) duration_printed one ends)
 
 -- With status 3 the first bytes of its line were written, at most six of the seven.
-printed_cut : Ran (codes "duration" ∷ codes "2h 37min" ∷ []) (λ s o n e m. s ≡ 3 → ((k : ℕ) × (k < 7) × (n ≡ o ++ take k (codes "2h 37m\n"))) × (m ≡ e))
+pub printed_cut : Ran (codes "duration" ∷ codes "2h 37min" ∷ []) (λ s o n e m. s ≡ 3 → ((k : ℕ) × (k < 7) × (n ≡ o ++ take k (codes "2h 37m\n"))) × (m ≡ e))
 printed_cut _ _ _ _ _ one ends three = front_written (ends_with _ (Some (Ok (codes "2h 37m"))) duration_printed one ends) three
 
 -- A fault was explained.
-explained : Ran (codes "duration" ∷ codes "1~" ∷ []) (Wrote 1 [] (codes "invalid character at 1\n"))
+pub explained : Ran (codes "duration" ∷ codes "1~" ∷ []) (Wrote 1 [] (codes "invalid character at 1\n"))
 explained _ _ _ _ _ one ends = all_written (ends_with _ (Some (Err (codes "invalid character at 1"))) fault_explained one ends)
 
 -- It was told how the program is called.
-usage_told : Ran (codes "--help" ∷ []) (Wrote 2 [] (codes "usage: humantime duration|strict|weak TEXT\n"))
+pub usage_told : Ran (codes "--help" ∷ []) (Wrote 2 [] (codes "usage: humantime duration|strict|weak TEXT\n"))
 usage_told _ _ _ _ _ one ends = all_written (ends_with _ None (not_two _ (omega arith)) one ends)

@@ -1,13 +1,12 @@
 //! What the program does with its words.
 
-ghost use Rattle.std.specs.Prelude.{◌≡◌, ◌<◌, ℕ, List, Result, Some, Ok, Err, IfOk, false};
-ghost use Rattle.std.specs.Result.{is_err, result_map_both, result_unwrap_or};
+ghost use Rattle.std.specs.Prelude.{◌≡◌, ℕ, List, Result, Some, Ok, Err, IfOk};
+ghost use Rattle.std.specs.Result.{result_map_both, result_unwrap_or};
 ghost use Rattle.humantime.specs.Prelude.{IsPrintable, text_result_view, fault_message};
 ghost use Rattle.humantime_cli.specs.Answers.{texts, Ends, EndsWith, OneAnswer, TellsMoment};
 
-use crate::command::stream::{Failed, Stream, WriteFailed};
 use crate::message::{message_of_moment, message_of_text};
-use crate::writing::write_line;
+use crate::writing::{WriteFailed, write_line};
 use humantime::{
     DurationError, SystemTime, TimestampError, canonical, format_rfc3339, parse_rfc3339,
     parse_rfc3339_weak,
@@ -15,7 +14,8 @@ use humantime::{
 use itoa::Buffer;
 use std::io::Write;
 
-pub(crate) mod stream;
+#[cfg(test)]
+mod tests;
 
 const ACCEPTED: u8 = 0;
 
@@ -41,81 +41,82 @@ const USAGE: &str = "usage: humantime duration|strict|weak TEXT";
 ///
 /// ```
 /// use humantime_cli::run;
+/// use std::io::Cursor;
 ///
-/// let (mut out, mut err) = (Vec::new(rt.alloc()), Vec::new(rt.alloc()));
+/// let (mut out, mut err) = (Cursor::new([0; 7]), Cursor::new([0; 21]));
 /// assert_eq!(rt; run(&["duration", "2h 37min"], &mut out, &mut err), 0);
-/// assert_eq!(rt; out.as_slice(), b"2h 37m\n".as_slice());
+/// assert_eq!(rt; out.get_ref().as_slice(), b"2h 37m\n".as_slice());
 /// assert_eq!(rt; run(&["duration", "2 hours  min"], &mut out, &mut err), 1);
-/// assert_eq!(rt; err.as_slice(), b"expected number at 9\n".as_slice());
+/// assert_eq!(rt; err.get_ref().as_slice(), b"expected number at 9\n".as_slice());
+/// ```
+///
+/// Where a writer takes too few bytes, it holds the first ones:
+///
+/// ```
+/// use humantime_cli::run;
+/// use std::io::Cursor;
+///
+/// let (mut out, mut err) = (Cursor::new([0; 20]), Cursor::new([0; 20]));
+/// assert_eq!(rt; run(&["strict", "1970-01-01T00:00:00.5Z"], &mut out, &mut err), 3);
+/// assert_eq!(rt; out.get_ref().as_slice(), b"1970-01-01T00:00:00.".as_slice());
+/// assert_eq!(rt; err.position(), 0);
 /// ```
 pub fn run<O: Write, E: Write>(words: &[&str], out: &mut O, err: &mut E) -> u8
     ensures ends { Ends (texts words.now) result (O.contents out.old) (O.contents out.new) (E.contents err.old) (E.contents err.new) }
     ensures one { OneAnswer (texts words.now) }
 {
-    answer_words(words, out, err, &mut Failed::none()).unwrap_or(WRITE_FAILED)
+    answer_words(words, out, err).unwrap_or(WRITE_FAILED)
 }
 
 /// Answers the words, and gives the answer's status.
-fn answer_words<O: Stream, E: Stream>(
+fn answer_words<O: Write, E: Write>(
     words: &[&str],
     out: &mut O,
     err: &mut E,
-    failed: &mut Failed,
 ) -> Result<u8, WriteFailed>
-    requires { failed.old ≡ false }
-    ensures ends { Ends (texts words.now) (result_unwrap_or result 3) (O.contents out.old) (O.contents out.new) (E.contents err.old) (E.contents err.new) }
-    ensures noted { failed.new ≡ is_err result }
-    ensures status { IfOk result (λ status. status < 3) }
+    ensures { Ends (texts words.now) (result_unwrap_or result 3) (O.contents out.old) (O.contents out.new) (E.contents err.old) (E.contents err.new) }
 {
     match words {
-        ["duration", text] => answer_duration(canonical(text, &mut [0; 64]), out, err, failed),
-        ["strict", text] => answer_moment(parse_rfc3339(text), out, err, failed),
-        ["weak", text] => answer_moment(parse_rfc3339_weak(text), out, err, failed),
-        _ => write_line(err, &[USAGE], MISUSED, failed),
+        ["duration", text] => answer_duration(canonical(text, &mut [0; 64]), out, err),
+        ["strict", text] => answer_moment(parse_rfc3339(text), out, err),
+        ["weak", text] => answer_moment(parse_rfc3339_weak(text), out, err),
+        _ => write_line(err, &[USAGE]).and(Ok(MISUSED)),
     }
 }
 
 /// Prints a duration that was read, or says what is wrong with its text.
-fn answer_duration<O: Stream, E: Stream>(
+fn answer_duration<O: Write, E: Write>(
     read: Result<&str, DurationError<'_>>,
     out: &mut O,
     err: &mut E,
-    failed: &mut Failed,
 ) -> Result<u8, WriteFailed>
-    requires { failed.old ≡ false }
-    ensures ends { EndsWith (Some (result_map_both (λ text. text) fault_message (text_result_view read.entry))) (result_unwrap_or result 3)
+    ensures { EndsWith (Some (result_map_both (λ text. text) fault_message (text_result_view read.entry))) (result_unwrap_or result 3)
         (O.contents out.old) (O.contents out.new) (E.contents err.old) (E.contents err.new) }
-    ensures noted { failed.new ≡ is_err result }
-    ensures status { IfOk result (λ status. status < 3) }
 {
     match read {
-        Ok(printed) => write_line(out, &[printed], ACCEPTED, failed),
+        Ok(printed) => write_line(out, &[printed]).and(Ok(ACCEPTED)),
         Err(error) => {
             let mut digits = Buffer::new();
-            write_line(err, &message_of_text(error, &mut digits), REFUSED, failed)
+            write_line(err, &message_of_text(error, &mut digits)).and(Ok(REFUSED))
         }
     }
 }
 
 /// Prints a moment that was read, or says what is wrong with its text.
-fn answer_moment<O: Stream, E: Stream>(
+fn answer_moment<O: Write, E: Write>(
     read: Result<SystemTime, TimestampError>,
     out: &mut O,
     err: &mut E,
-    failed: &mut Failed,
 ) -> Result<u8, WriteFailed>
-    requires printable { IfOk read IsPrintable }
-    requires going { failed.old ≡ false }
-    ensures ends { (told : Result (List ℕ) (List ℕ)) × TellsMoment (λ moment. read ≡ Ok moment) (λ error. read ≡ Err error) told
+    requires { IfOk read IsPrintable }
+    ensures { (told : Result (List ℕ) (List ℕ)) × TellsMoment (λ moment. read ≡ Ok moment) (λ error. read ≡ Err error) told
         × EndsWith (Some told) (result_unwrap_or result 3) (O.contents out.old) (O.contents out.new) (E.contents err.old) (E.contents err.new) }
-    ensures noted { failed.new ≡ is_err result }
-    ensures status { IfOk result (λ status. status < 3) }
 {
     match read {
         Ok(moment) => match format_rfc3339(moment).text(&mut [0; 30]) {
-            Some(printed) => write_line(out, &[printed], ACCEPTED, failed),
+            Some(printed) => write_line(out, &[printed]).and(Ok(ACCEPTED)),
             None => unreachable!(),
         },
-        Err(error) => write_line(err, &[message_of_moment(error)], REFUSED, failed),
+        Err(error) => write_line(err, &[message_of_moment(error)]).and(Ok(REFUSED)),
     }
 }

@@ -16,19 +16,17 @@ use std::io::Write;
 use std::process::ExitCode;
 use std::{env, io};
 
-/// The status where the words could not be taken or standard output could not be flushed.
+/// The status where the arguments could not be taken or standard output could not be flushed.
 const FAILED: u8 = 3;
 
-/// Answers the words after the program's name on standard output and standard error.
 fn main(rt: HostRuntime) -> ExitCode {
-    let Ok(named) = env::args(&rt) else {
-        return ExitCode::from(FAILED);
-    };
-    let Ok(args) = named.skip(1).collect::<Vec<String>>(rt.alloc()) else {
-        return ExitCode::from(FAILED);
-    };
-    let answered = answer_args(rt.alloc(), &args, &mut rt.stdout(), &mut rt.stderr());
-    ExitCode::from(answered.unwrap_or(FAILED))
+    ExitCode::from(answer(&rt).unwrap_or(FAILED))
+}
+
+/// Answers the words after the program's name on standard output and standard error.
+fn answer(rt: &HostRuntime) -> io::Result<u8> {
+    let args = env::args(rt)?.skip(1).collect::<Vec<String>>(rt.alloc())?;
+    answer_args(rt.alloc(), &args, &mut rt.stdout(), &mut rt.stderr())
 }
 
 /// Answers the words, and flushes `out`.

@@ -1,43 +1,35 @@
 //! Writing to a stream that may take its bytes bit by bit.
 
-ghost use Rattle.std.specs.Prelude.{◌≡◌, IfOk, false};
-ghost use Rattle.std.specs.Result.{is_err};
 ghost use Rattle.humantime_cli.specs.Writes.{Writes, line, joined};
 
-use crate::command::stream::{Failed, Stream, WriteFailed};
+use std::io::Write;
 
-/// Writes the texts one after the other, and a line feed, and gives the status. Nothing more is written after a write that
-/// failed.
+/// A write answered an error, or took no bytes.
+#[derive(Drop)]
+pub(crate) struct WriteFailed;
+
+/// Writes the texts one after the other, and a line feed. Nothing more is written after a write that failed.
 #[tactic(auto, unfolding(crate::specs::Writes::Writes))]
-pub(crate) fn write_line<W: Stream>(
-    to: &mut W,
-    texts: &[&str],
-    status: u8,
-    failed: &mut Failed,
-) -> Result<u8, WriteFailed>
-    requires { failed.old ≡ false }
-    ensures written { Writes result (W.contents to.old) (W.contents to.new) (line (joined texts.now)) }
-    ensures status { IfOk result (λ told. told ≡ status) }
-    ensures noted { failed.new ≡ is_err result }
+pub(crate) fn write_line<W: Write>(to: &mut W, texts: &[&str]) -> Result<(), WriteFailed>
+    ensures { Writes result (W.contents to.old) (W.contents to.new) (line (joined texts.now)) }
 {
     for text in texts {
-        write_all(to, text.as_bytes(), failed)?;
+        write_all(to, text.as_bytes())?;
     }
-    write_all(to, b"\n", failed)?;
-    Ok(status)
+    write_all(to, b"\n")
 }
 
 /// Writes all the bytes. A write that failed is not tried again.
-#[tactic(auto, unfolding(crate::specs::Writes::Writes))]
-fn write_all<W: Stream>(to: &mut W, bytes: &[u8], failed: &mut Failed) -> Result<(), WriteFailed>
-    requires { failed.old ≡ false }
-    ensures written { Writes result (W.contents to.old) (W.contents to.new) bytes.now }
-    ensures noted { failed.new ≡ is_err result }
+#[tactic(auto, using(crate::proofs::WritesLemmas::front_kept, crate::proofs::WritesLemmas::front_taken), unfolding(crate::specs::Writes::Writes))]
+fn write_all<W: Write>(to: &mut W, bytes: &[u8]) -> Result<(), WriteFailed>
+    ensures { Writes result (W.contents to.old) (W.contents to.new) bytes.now }
 {
     let mut done = 0;
     while done < bytes.len() {
-        let count = to.attempt(&bytes[done..], failed)?;
-        done += count;
+        match to.write(&bytes[done..]) {
+            Ok(count) if count > 0 => done += count,
+            _ => return Err(WriteFailed),
+        }
     }
     Ok(())
 }

@@ -1,0 +1,11 @@
+use Rattle.std.proofs.Common.{◌∙◌, append-nil}
+use Rattle.humantime_cli.proofs.WorkedRuns.{printed_whole, printed_cut}
+use Rattle.humantime_cli.proofs.command.tests.callers.print_duration.Goals as goal
+
+pub returns-clause-whole : goal.returns-clause-whole
+returns-clause-whole c other =
+    let told = printed_whole _ _ _ _ _ c.run.ensures.one c.run.ensures.ends other in
+    (told.0, told.1, told.2 ∙ append-nil _)
+
+pub returns-clause-cut : goal.returns-clause-cut
+returns-clause-cut c = printed_cut _ _ _ _ _ c.run.ensures.one c.run.ensures.ends

@@ -1,0 +1,64 @@
+//! Writers that take their bytes one at a time, and writers that fail.
+
+use super::writer::{Failure, Limited, ROOM};
+use super::{USAGE_LINE, assert_same, run};
+use std::process::Abort;
+
+/// Asserts that the words end with this status, and that one of the writers takes the line byte by byte, in so many requests.
+fn assert_byte_by_byte(rt: &impl Abort, words: &[&str], status: u8, line: &str, requests: u32) {
+    let (mut out, mut err) = (Limited::by(1), Limited::by(1));
+    assert_same(rt, run(words, &mut out, &mut err), status, words);
+    let (told, other) = if status == 0 {
+        (&out, &err)
+    } else {
+        (&err, &out)
+    };
+    assert_same(rt, told.taken(), line.as_bytes(), words);
+    assert_same(rt, told.requests, requests, words);
+    assert_same(rt, other.requests, 0, words);
+}
+
+#[test]
+fn lines_are_written_byte_by_byte(rt: HostRuntime) {
+    assert_byte_by_byte(&rt, &["duration", "2h 37min"], 0, "2h 37m\n", 7);
+    assert_byte_by_byte(&rt, &["duration", ""], 1, "value was empty\n", 16);
+}
+
+/// Asserts that the words end with status 3 where the writer of their answer fails: it took these bytes, no request followed the
+/// one that failed, and the other writer got none.
+fn assert_cut(rt: &impl Abort, words: &[&str], to_out: bool, mut failing: Limited, taken: &[u8]) {
+    let mut other = Limited::open();
+    let status = if to_out {
+        run(words, &mut failing, &mut other)
+    } else {
+        run(words, &mut other, &mut failing)
+    };
+    assert_same(rt, status, 3, words);
+    assert_same(rt, failing.taken(), taken, words);
+    assert_same(rt, failing.requests_after, 0, words);
+    assert_same(rt, other.requests, 0, words);
+}
+
+/// Asserts that nothing is written after a failure, however many bytes of the line were taken before it.
+fn assert_nothing_follows(rt: &impl Abort, words: &[&str], to_out: bool, line: &str) {
+    let line = line.as_bytes();
+    for failure in [Failure::Error, Failure::Interrupted, Failure::NoBytes] {
+        for step in [1, 4, ROOM] {
+            for limit in 0..line.len() {
+                let failing = Limited::new(step, limit, failure);
+                assert_cut(rt, words, to_out, failing, &line[..limit]);
+            }
+        }
+    }
+}
+
+#[test]
+fn nothing_follows_a_failed_write_to_out(rt: HostRuntime) {
+    assert_nothing_follows(&rt, &["duration", "2h 37min"], true, "2h 37m\n");
+}
+
+#[test]
+fn nothing_follows_a_failed_write_to_err(rt: HostRuntime) {
+    assert_nothing_follows(&rt, &["duration", ""], false, "value was empty\n");
+    assert_nothing_follows(&rt, &[], false, USAGE_LINE);
+}

@@ -1,0 +1,61 @@
+//! The tests that allocate: the arguments of the system are owned, and two callers write into vectors.
+
+use super::assert_same;
+use super::callers::{explain_fault, print_duration, tell_usage};
+use super::writer::Limited;
+use crate::answer_args;
+use std::alloc::Global;
+use std::io::{self, ErrorKind};
+use std::process::Abort;
+use std::test::Fail;
+
+/// Answers the arguments `duration` and `2h 37min`.
+fn answered(alloc: Global, out: &mut Limited, err: &mut Limited) -> io::Result<u8> {
+    let args = vec![in alloc;
+        String::from_str(alloc, "duration")?,
+        String::from_str(alloc, "2h 37min")?,
+    ]?;
+    answer_args(alloc, &args, out, err)
+}
+
+/// Asserts that standard output is flushed once, after the whole line.
+fn assert_flushed(rt: &impl Abort, out: &Limited, err: &Limited) {
+    assert_same(rt, out.taken(), b"2h 37m\n", &[]);
+    assert_same(rt, out.flushed, 7, &[]);
+    assert_same(rt, out.flushes, 1, &[]);
+    assert_same(rt, err.requests, 0, &[]);
+}
+
+#[test]
+fn standard_output_is_flushed_after_the_line(rt: HostRuntime) -> Result<(), Fail> {
+    let (mut out, mut err) = (Limited::open(), Limited::open());
+    assert_eq!(rt; answered(rt.alloc(), &mut out, &mut err)?, 0);
+    assert_flushed(&rt, &out, &err);
+    Ok(())
+}
+
+#[test]
+fn a_flush_that_fails_is_an_error(rt: HostRuntime) -> Result<(), Fail> {
+    let (mut out, mut err) = (Limited::open(), Limited::open());
+    out.can_flush = false;
+    let ended = answered(rt.alloc(), &mut out, &mut err);
+    let error = ended
+        .err()
+        .ok_or("the flush failed and the answer is no error")?;
+    assert_eq!(rt; error.kind(), ErrorKind::Other);
+    assert_flushed(&rt, &out, &err);
+    Ok(())
+}
+
+#[test]
+fn callers_are_answered(rt: HostRuntime) -> Result<(), Fail> {
+    let mut out = Vec::with_capacity(rt.alloc(), 64)?;
+    let mut err = Vec::with_capacity(rt.alloc(), 128)?;
+    assert_eq!(rt; print_duration(&mut out, &mut err), 0);
+    assert_eq!(rt; explain_fault(&mut out, &mut err), 1);
+    assert_eq!(rt; tell_usage(&mut out, &mut err), 2);
+    assert_eq!(rt; out.as_slice(), b"2h 37m\n".as_slice());
+    let messages = b"invalid character at 1\nusage: humantime duration|strict|weak TEXT\n";
+    assert_eq!(rt; err.as_slice(), messages.as_slice());
+    Ok(())
+}
