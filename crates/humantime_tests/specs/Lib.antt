@@ -1,1 +1,2 @@
 pub mod FirstFaults
+pub mod Longest

@@ -1,8 +1,8 @@
 //! Limits, ends and places of errors: callers of what reads and prints durations.
 
-ghost use Rattle.std.specs.Prelude.{◌≡◌, ◌+◌, ◌*◌, ◌/◌, ◌<◌, ◌≤◌, ◌↔◌, ℕ, chars, length, IfSome, IsSome, IsOkAnd, IsErrAnd, IsTrue, Ok, Err, Some};
+ghost use Rattle.std.specs.Prelude.{◌≡◌, ◌+◌, ◌*◌, ◌/◌, ◌<◌, ◌≤◌, ◌↔◌, ℕ, List, [], chars, drop, slice_range, IfSome, IsSome, IsOk, IsOkAnd, IsErrAnd, IsTrue, Ok, Err, Some};
 ghost use Rattle.std.specs.Result.{result_map_both};
-ghost use Rattle.humantime.specs.Prelude.{Canon, Fault, duration_answer, duration_end, result_view, fault_of, nanos_per_second};
+ghost use Rattle.humantime.specs.Prelude.{Canon, Fault, InvalidCharacter, NumberExpected, UnknownUnit, NumberOverflow, Empty, duration_answer, duration_end, result_view, fault_of, nanos_per_second};
 
 use humantime::{DurationError, StdDuration, format_duration, parse_duration};
 
@@ -32,9 +32,14 @@ pub fn is_within(text: &str, most: &str) -> bool
     }
 }
 
-/// What is to be underlined of a text that is no duration: its unit, or what stands from its bad character on.
+/// Returns what to underline of a text that is no duration: an unknown unit, or everything from the error's offset on.
 pub fn underlined(text: &str) -> &str
-    ensures { length result.now ≤ length text.now }
+    ensures character { (at : ℕ) → duration_answer (chars text.now) ≡ Err (InvalidCharacter at) → result.now ≡ drop at text.now }
+    ensures number { (at : ℕ) → duration_answer (chars text.now) ≡ Err (NumberExpected at) → result.now ≡ drop at text.now }
+    ensures unit { (start : ℕ) (end : ℕ) (unit : List ℕ) (value : ℕ) → duration_answer (chars text.now) ≡ Err (UnknownUnit start end unit value) → (result.now ≡ unit) × (unit ≡ slice_range text.now start end) }
+    ensures overflow { duration_answer (chars text.now) ≡ Err NumberOverflow → result.now ≡ [] }
+    ensures empty { duration_answer (chars text.now) ≡ Err Empty → result.now ≡ [] }
+    ensures read { IsOk (duration_answer (chars text.now)) → result.now ≡ [] }
 {
     match parse_duration(text) {
         Err(DurationError::InvalidCharacter(at) | DurationError::NumberExpected(at)) => &text[at..],
@@ -43,9 +48,9 @@ pub fn underlined(text: &str) -> &str
     }
 }
 
-/// The place of an error in a line in which the text stands behind so many bytes.
+/// Returns the offset of a text's invalid character in a line in which so many bytes stand before the text.
 pub fn place_in_line(text: &str, before: u32) -> Option<u64>
-    ensures { IfSome result (λ n. n < before + length text.now) }
+    ensures { (n : ℕ) → (result ≡ Some n) ↔ ((at : ℕ) × (duration_answer (chars text.now) ≡ Err (InvalidCharacter at)) × (n ≡ before + at)) }
 {
     match parse_duration(text) {
         Err(DurationError::InvalidCharacter(at)) => Some(before as u64 + at as u64),

@@ -84,7 +84,9 @@ pub fn age_line(
     }
 }
 
-/// A moment as a `String`, by `Display`. Outside 1970 to 9999 it is an error.
+/// Returns a moment as a `String`, by `Display`.
+///
+/// Outside 1970 to 9999 it returns an error. The contract cannot say so: `format!` promises nothing of a `Display` that fails.
 pub fn stamp_string(alloc: Global, moment: SystemTime) -> Result<String, AllocError>
     ensures { IsPrintable moment → IfOk result (λ s. IsPrinted moment 3 (string_bytes s)) }
 {
