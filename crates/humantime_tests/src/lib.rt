@@ -3,3 +3,5 @@
 
 pub mod callers;
 pub mod law_callers;
+#[cfg(test)]
+mod tests;

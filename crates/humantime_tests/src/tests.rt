@@ -1,0 +1,18 @@
+//! The callers, run on values. What is expected was worked out by hand.
+
+mod callers;
+mod memory;
+
+use humantime::SystemTime;
+use std::fmt::Debug;
+use std::process::Abort;
+
+/// Asserts that the two are equal.
+fn assert_same<T: PartialEq + Debug + Drop>(rt: &impl Abort, left: T, right: T) {
+    assert_eq!(rt; left, right);
+}
+
+/// Returns the moment of these parts.
+fn moment(rt: &impl Abort, secs: i64, nanos: u32) -> SystemTime {
+    SystemTime::from_parts(secs, nanos).expect(rt, "no moment")
+}
