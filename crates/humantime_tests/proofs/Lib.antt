@@ -1,3 +1,4 @@
+pub mod CountedDays
 pub mod FirstFaults
 pub mod WorkedCharacters
 pub mod WorkedPrinted

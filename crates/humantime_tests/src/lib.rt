@@ -2,6 +2,7 @@
 #![tactic(auto)]
 
 pub mod callers;
+pub mod counted_calendar;
 pub mod law_callers;
 #[cfg(test)]
 mod tests;

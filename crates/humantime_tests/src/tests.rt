@@ -1,5 +1,6 @@
 //! The callers, run on values. What is expected was worked out by hand.
 
+mod calendars;
 mod callers;
 mod memory;
 
