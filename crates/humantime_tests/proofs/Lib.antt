@@ -1,4 +1,5 @@
 pub mod CountedDays
+pub mod FirstDigits
 pub mod FirstFaults
 pub mod WorkedCharacters
 pub mod WorkedPrinted

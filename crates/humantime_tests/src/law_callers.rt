@@ -3,4 +3,5 @@
 pub mod days;
 pub mod durations;
 pub mod errors;
+pub mod spans;
 pub mod timestamps;
