@@ -1,5 +1,5 @@
-//! What calls of the library lend, used while it is lent. An edit beside this file keeps it for longer, which the borrow checker has to
-//! refuse.
+//! Callers that use what a call borrows while it is borrowed. Each edit in `compile_fail/` keeps it longer, which the borrow checker
+//! refuses.
 
 use humantime::{
     DurationError, FormattedDuration, Rfc3339Timestamp, Span, canonical, parse_duration, spans,
