@@ -5,3 +5,4 @@ pub mod durations;
 pub mod errors;
 pub mod spans;
 pub mod timestamps;
+pub mod values;

@@ -1,7 +1,7 @@
 //! Callers of the laws of durations.
 
-ghost use Rattle.std.specs.Prelude.{◌≡◌, ◌≢◌, ◌+◌, ◌/◌, ◌≤◌, ◌++◌, ◌↔◌, ◌⊎◌, ℕ, List, Option, None, Some, Ok, Err, chars, length, option_map, slice_index, IsOk, IsPermutation};
-ghost use Rattle.humantime.specs.Prelude.{Accepted, AcceptedWithZeros, AllHaveRoom, AreReordered, Canon, Counts, Fault, HasFault, IsCanonicalOf, Items, NumberOverflow, Reads, Span, WithinLimits, additions, bare_zero, duration_answer, item_of, items_left, nanos_per_second, result_view, text_result_view, value, WasAccepted};
+ghost use Rattle.std.specs.Prelude.{◌≡◌, ◌≢◌, ◌+◌, ◌/◌, ◌≤◌, ◌++◌, ◌↔◌, ◌⊎◌, ℕ, List, Option, None, Some, Ok, Err, chars, length, option_map, slice_index, string_bytes, IfOk, IsOk, IsPermutation};
+ghost use Rattle.humantime.specs.Prelude.{Accepted, AcceptedWithZeros, AllHaveRoom, AreReordered, Canon, Counts, Fault, HasFault, IsCanonicalOf, Items, NumberOverflow, Reads, Span, WithinLimits, additions, bare_zero, canonical_answer, duration_answer, item_of, items_left, nanos_per_second, result_view, text_result_view, value, WasAccepted};
 ghost use Rattle.humantime_tests.specs.FirstFaults.{IsFirstFault};
 
 use crate::callers::durations::limit_seconds;
@@ -12,6 +12,7 @@ use humantime::laws::{
 use humantime::{
     DurationError, SpanIter, StdDuration, canonical, format_duration, parse_duration, spans,
 };
+use std::alloc::{AllocError, Global};
 
 type Item<'a> = Option<Result<humantime::Span<'a>, DurationError<'a>>>;
 
@@ -92,11 +93,39 @@ pub fn settled<'a, 'b>(
     (parse_duration(shown), canonical(shown, buf))
 }
 
+/// Returns the canonical text of a text, which each accepted text has.
+pub fn canonical_form<'a, 'b>(
+    text: &'a str,
+    buf: &'b mut [u8; 64],
+) -> Result<&'b str, DurationError<'a>>
+    ensures { (v : ℕ) → Accepted (chars text.now) v → IsOk result }
+{
+    canonical_again(text);
+    canonical(text, buf)
+}
+
+/// Returns the canonical text of the canonical text of a text, which is the same text.
+pub fn canonical_twice<'b>(text: &str, buf: &'b mut [u8; 64]) -> Option<&'b str>
+    ensures { (t : List ℕ) → (option_map (λ twice. twice.now) result ≡ Some t) ↔ (canonical_answer (chars text.now) ≡ Ok t) }
+{
+    canonical_again(text);
+    canonical(canonical(text, &mut [0; 64]).ok()?, buf).ok()
+}
+
+/// Writes a duration into a `String` by `Display`, as its canonical text.
+pub fn duration_string(alloc: Global, duration: StdDuration) -> Result<String, AllocError>
+    ensures { IfOk result (λ s. Canon duration (string_bytes s)) }
+{
+    printed_duration_reads(duration);
+    format!(in alloc; "{}", format_duration(duration))
+}
+
 /// The sum of two accepted texts, read from the one behind the other: it is read exactly where the additions have room,
 /// and is too large where they have not.
 pub fn sum_of<'a>(a: &str, b: &str, both: &'a str) -> Result<StdDuration, DurationError<'a>>
     ensures sum { (ss : List Span) (ts : List Span) (u : ℕ) (v : ℕ) → Reads (chars a.now) ss → Reads (chars b.now) ts → Accepted (chars a.now) u → Accepted (chars b.now) v → both.now ≡ a.now ++ b.now → (result_view result ≡ Ok (u + v)) ↔ AllHaveRoom (additions ss ++ additions ts) }
     ensures overflow { (ss : List Span) (ts : List Span) (u : ℕ) (v : ℕ) → Reads (chars a.now) ss → Reads (chars b.now) ts → Accepted (chars a.now) u → Accepted (chars b.now) v → both.now ≡ a.now ++ b.now → (result_view result ≡ Err NumberOverflow) ↔ ¬ (AllHaveRoom (additions ss ++ additions ts)) }
+    ensures spans { (u : ℕ) (v : ℕ) → Accepted (chars a.now) u → Accepted (chars b.now) v → both.now ≡ a.now ++ b.now → chars a.now ≢ bare_zero → chars b.now ≢ bare_zero → (ss : List Span) × (ts : List Span) × ((result_view result ≡ Ok (u + v)) ↔ AllHaveRoom (additions ss ++ additions ts)) }
     ensures either { (u : ℕ) (v : ℕ) → duration_answer (chars a.now) ≡ Ok u → duration_answer (chars b.now) ≡ Ok v → both.now ≡ a.now ++ b.now → chars a.now ≢ bare_zero → chars b.now ≢ bare_zero → (result_view result ≡ Ok (u + v)) ⊎ (result_view result ≡ Err NumberOverflow) }
 {
     joined(a, b);
@@ -112,6 +141,7 @@ pub fn read_alike<'a, 'b>(
     Result<StdDuration, DurationError<'b>>,
 )
     ensures spans { (ss : List Span) (ts : List Span) (v : ℕ) (w : ℕ) → Reads (chars a.now) ss → Reads (chars b.now) ts → IsPermutation ss ts → result_view result.0 ≡ Ok v → result_view result.1 ≡ Ok w → v ≡ w }
+    ensures zero { chars a.now ≡ bare_zero → ¬ (AreReordered (chars a.now) (chars b.now)) }
     ensures texts { (v : ℕ) (w : ℕ) → AreReordered (chars a.now) (chars b.now) → result_view result.0 ≡ Ok v → result_view result.1 ≡ Ok w → v ≡ w }
 {
     reordered(a, b);

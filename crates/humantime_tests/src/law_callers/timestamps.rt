@@ -1,17 +1,19 @@
 //! What the laws of timestamps come to, and what moments and their texts are. `callers::timestamps` has two more.
 
-ghost use Rattle.std.specs.Prelude.{◌≡◌, ◌<◌, ◌↔◌, ◌<ℤ◌, ◌≤ℤ◌, ◌∷◌, [], ℕ, ℤ, pos, Ok, Err, None, Some, true, length, unwrap_or, IsTrue, IfOk, IfSome, IsSome, string_bytes};
+ghost use Rattle.std.specs.Prelude.{◌≡◌, ◌<◌, ◌↔◌, ◌<ℤ◌, ◌≤ℤ◌, ◌∷◌, [], ℕ, ℤ, pos, Ok, Err, None, Some, true, length, unwrap_or, IsTrue, IfOk, IfSome, IsSome, SomeIff, codes, ◌++◌, string_bytes};
 ghost use Rattle.std.specs.Ordering.{int_cmp};
+ghost use Rattle.std.specs.Fmt.{◌++?◌, DisplaysOnOk, fmt_error};
 ghost use Rattle.humantime.specs.declared.TimestampError.{TimestampError};
-ghost use Rattle.humantime.specs.Prelude.{Fields, IsWeak, IsStrict, IsWeakMoment, IsStrictMoment, weak_answer, strict_answer, weak_checks, first_failed, IsPrintable, IsPrinted, cut, nano_of};
+ghost use Rattle.humantime.specs.Prelude.{Fields, IsWeak, IsStrict, IsWeakMoment, IsStrictMoment, weak_answer, strict_answer, weak_checks, strict_checks, first_failed, shortest_text, IsPrintable, IsPrinted, cut, nano_of};
 
 use humantime::laws::{one_stamp_outcome, printed_moment_reads, stamps_in_order, strict_is_weak};
 use humantime::{
     Rfc3339Timestamp, StdDuration, SystemTime, Timestamp, TimestampError, format_rfc3339,
-    format_rfc3339_nanos, parse_rfc3339, parse_rfc3339_weak,
+    format_rfc3339_micros, format_rfc3339_nanos, parse_rfc3339, parse_rfc3339_weak,
 };
 use std::alloc::{AllocError, Global};
 use std::cmp::Ordering;
+use std::fmt::{self, Display};
 
 /// Whether a text in weak form is one in strict form, told by its `T` and its zone alone.
 pub fn is_marked(text: &str) -> bool
@@ -36,6 +38,47 @@ pub fn read_back(
 {
     printed_moment_reads(&format_rfc3339_nanos(moment));
     (parse_rfc3339(text), parse_rfc3339_weak(text))
+}
+
+/// Prints a moment with nine digits, and parses the text in both forms: both give that moment.
+pub fn printed_and_parsed(
+    moment: SystemTime,
+) -> Option<
+    (
+        Result<SystemTime, TimestampError>,
+        Result<SystemTime, TimestampError>,
+    ),
+>
+    ensures { SomeIff result (IsPrintable moment) (Ok moment, Ok moment) }
+{
+    let shown = format_rfc3339_nanos(moment);
+    printed_moment_reads(&shown);
+    let mut buf = [0; 30];
+    let text = shown.text(&mut buf)?;
+    Some((parse_rfc3339(text), parse_rfc3339_weak(text)))
+}
+
+/// Returns the text of a moment with six digits, or `None` outside 1970 to 9999.
+pub fn micros_stamp(moment: SystemTime, buf: &mut [u8; 30]) -> Option<&str>
+    ensures within { IsSome result ↔ IsPrintable moment }
+    ensures text { IfSome result (λ text. IsPrinted moment 6 text.now) }
+{
+    format_rfc3339_micros(moment).text(buf)
+}
+
+/// Writes a line of a log: a moment, a space and a text. Of a moment outside 1970 to 9999 it writes nothing.
+pub fn write_line<W: fmt::Write>(
+    at: Timestamp,
+    text: &str,
+    f: &mut fmt::Formatter<W>,
+) -> fmt::Result
+    ensures writes { DisplaysOnOk W.write_str_gives f.old result (shortest_text at ++? Some (codes " " ++ text.now)) f.new }
+    ensures refused { ¬ (IsPrintable at) → result ≡ Err fmt_error }
+    ensures untouched { ¬ (IsPrintable at) → f.new ≡ f.old }
+{
+    at.fmt(f)?;
+    f.write_str(" ")?;
+    f.write_str(text)
 }
 
 /// The text of a timestamp of 1970 to 9999, which is the one that was printed before.
@@ -95,6 +138,16 @@ pub fn is_parsed_weakly(text: &str) -> bool
 {
     one_stamp_outcome(text);
     text.parse::<Timestamp>().map(SystemTime::from) == parse_rfc3339_weak(text)
+}
+
+/// Returns `true` if a text is a timestamp in strict form. Such a text shows one hour, and fails no check.
+pub fn is_strict(text: &str) -> bool
+    ensures form { IsTrue result ↔ ((f : Fields) × IsStrict text.now f) }
+    ensures hour { (f : Fields) (g : Fields) → IsStrict text.now f → IsStrict text.now g → f.hour ≡ g.hour }
+    ensures checked { (f : Fields) → IsStrict text.now f → first_failed (strict_checks text.now) ≡ None }
+{
+    one_stamp_outcome(text);
+    parse_rfc3339(text).is_ok()
 }
 
 /// How many bytes the shortest text of a moment has: 20 for a whole second, else 30; none outside 1970 to 9999.

@@ -1,7 +1,7 @@
 //! The callers of CALLING.md that allocate nothing.
 
 use crate::callers::calendar::{days_after, weekday};
-use crate::callers::clock::{from_std, from_std_duration};
+use crate::callers::clock::{from_std, from_std_duration, parse_to_std, to_std, to_std_time};
 use crate::callers::durations::{
     default_limit, end_of, is_same_error, is_within, limit_seconds, place_in_line, shown_seconds,
     underlined,
@@ -12,9 +12,9 @@ use crate::callers::timestamps::{
     default_start, is_earlier, is_read_weakly_too, is_same_moment, is_since, is_text_before,
     later_than, stamp_of,
 };
-use crate::tests::{assert_same, moment};
+use crate::tests::{assert_same, date, moment};
 use humantime::DurationError::{self, NumberExpected, NumberOverflow, UnknownUnit};
-use humantime::{Date, StdDuration, TimestampError, UNIX_EPOCH};
+use humantime::{StdDuration, TimestampError, UNIX_EPOCH};
 use std::time;
 
 const UNKNOWN: DurationError<'static> = UnknownUnit {
@@ -126,11 +126,6 @@ fn stamps_are_printed_and_ordered(rt: HostRuntime) {
     assert_same(&rt, order, [true, false, true, false]);
 }
 
-/// Creates a date.
-const fn date(year: u32, month: u32, day: u32) -> Date {
-    Date { year, month, day }
-}
-
 #[test]
 fn days_are_counted(rt: HostRuntime) {
     let weekdays = [
@@ -155,6 +150,12 @@ fn values_of_std_are_converted(rt: HostRuntime) {
     let time = time::UNIX_EPOCH.checked_add(second).expect(&rt, "no time");
     let same = Some(moment(&rt, 1_518_568_087, 5));
     assert_same(&rt, from_std(time), same);
+    assert_same(&rt, to_std(here), second);
+    assert_same(&rt, to_std_time(moment(&rt, 1_518_568_087, 5)), Some(time));
+    assert_same(&rt, to_std_time(moment(&rt, -1, 999_999_999)), None);
+    let half = time::Duration::new(1, 500_000_000);
+    assert_same(&rt, parse_to_std("1.5s"), Ok(half));
+    assert_same(&rt, parse_to_std("x"), Err(NumberExpected(0)));
     let now = time::SystemTime::now(&rt).expect(&rt, "no clock");
     assert!(rt; from_std(now) > same);
 }
