@@ -1,6 +1,6 @@
 //! Lines of a log: callers of what reads, prints and orders timestamps.
 
-ghost use Rattle.std.specs.Prelude.{◌≡◌, ◌*◌, ◌++◌, ◌↔◌, ◌<ℤ◌, ◌≤ℤ◌, ℕ, ℤ, List, pos, ◌+ℤ◌, codes, IsTrue, IsSome, IfSome, IfOk, IsOkAnd, Ok, Err, string_bytes, true};
+ghost use Rattle.std.specs.Prelude.{◌≡◌, ◌*◌, ◌++◌, ◌↔◌, ◌<ℤ◌, ◌≤ℤ◌, ℕ, ℤ, List, pos, ◌+ℤ◌, codes, IsTrue, IsSome, IsSomeAnd, IfSome, IfOk, IsOkAnd, Ok, Err, string_bytes, true};
 ghost use Rattle.humantime.specs.declared.TimestampError.{TimestampError};
 ghost use Rattle.humantime.specs.Prelude.{weak_answer, strict_answer, IsPrinted, IsPrintable, cut, duration_text, moment_end, nanos_per_second};
 
@@ -49,6 +49,17 @@ pub fn is_earlier(stamp: &str, other: &str) -> bool
     ensures { (a : ℤ) (b : ℤ) → IsPrinted a 3 stamp.now → IsPrinted b 3 other.now → (IsTrue result ↔ (cut a 3 <ℤ cut b 3)) }
 {
     stamp < other
+}
+
+/// Writes the moment that a text shows in the form that `is_earlier` compares, whatever form the text has.
+pub fn sortable_stamp<'b>(
+    text: &str,
+    buf: &'b mut [u8; 30],
+) -> Result<Option<&'b str>, TimestampError>
+    ensures stamp { (t : ℤ) → weak_answer text.now ≡ Ok t → IsOkAnd result (λ stamp. IsSomeAnd stamp (λ s. IsPrinted t 3 s.now)) }
+    ensures error { (e : TimestampError) → (result ≡ Err e) ↔ (weak_answer text.now ≡ Err e) }
+{
+    Ok(format_rfc3339_millis(parse_rfc3339_weak(text)?).text(buf))
 }
 
 /// Whether the weak parser gives what the strict one gives. It does.

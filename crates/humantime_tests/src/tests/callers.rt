@@ -10,7 +10,7 @@ use crate::callers::laws::{comes_back, looks_same, needs_no_space};
 use crate::callers::spans::longest_span;
 use crate::callers::timestamps::{
     default_start, is_earlier, is_read_weakly_too, is_same_moment, is_since, is_text_before,
-    later_than, stamp_of,
+    later_than, sortable_stamp, stamp_of,
 };
 use crate::tests::{assert_same, date, moment};
 use humantime::DurationError::{self, NumberExpected, NumberOverflow, UnknownUnit};
@@ -114,6 +114,11 @@ fn stamps_are_read(rt: HostRuntime) {
 fn stamps_are_printed_and_ordered(rt: HostRuntime) {
     let first = "1970-01-01T00:00:00.000Z";
     assert_same(&rt, stamp_of(UNIX_EPOCH, &mut [0; 30]), Some(first));
+    let stamp = Some("2016-12-31T23:59:59.250Z");
+    let text = "2016-12-31 23:59:60.25";
+    assert_same(&rt, sortable_stamp(text, &mut [0; 30]), Ok(stamp));
+    let format = TimestampError::InvalidFormat;
+    assert_same(&rt, sortable_stamp("", &mut [0; 30]), Err(format));
     let before = moment(&rt, -1, 0);
     assert_same(&rt, stamp_of(before, &mut [0; 30]), None);
     let nano = moment(&rt, 0, 1);
