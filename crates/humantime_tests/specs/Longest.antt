@@ -3,7 +3,7 @@ use Rattle.std.specs.Prelude.{ℕ, List, [], ◌∷◌, Result, Ok, Err, chars, 
 use Rattle.std.specs.Result.{result_ok}
 use Rattle.humantime.specs.Prelude.{Fault, SpanView, duration_answer}
 
--- Gives the nanoseconds that a span spells alone, and 0 for an error.
+-- Gives the nanoseconds of a span, parsed alone, and 0 for an error.
 abbrev pub nanos_alone : List ℕ → Result SpanView Fault → ℕ
 nanos_alone text (Ok span) = unwrap_or (result_ok (duration_answer (chars (slice_range text span.start span.end)))) 0
 nanos_alone text (Err e) = 0

@@ -76,7 +76,7 @@ pub fn counted_day(date: Date) -> Option<u32>
     Some(days_before_year(year) + days_before_month(year, month) + day - 1)
 }
 
-/// Returns the date so many days after the first day of a year.
+/// Returns the date `day` days after the first day of a year.
 #[tactic(auto, using(crate::proofs::CountedDays::counted_months))]
 fn date_in_year(year: u32, day: u32) -> Date
     requires year { IsInRange 1970 9999 year }
@@ -96,7 +96,7 @@ fn date_in_year(year: u32, day: u32) -> Date
     unreachable!()
 }
 
-/// Returns the date so many days after 1970-01-01, or `None` if it is after 9999-12-31.
+/// Returns the date `day` days after 1970-01-01, or `None` if it is after 9999-12-31.
 #[tactic(auto, using(crate::proofs::CountedDays::counted_years))]
 pub fn counted_date(day: u32) -> Option<Date>
     ensures within { IsSome result ↔ (day ≤ 2_932_896) }

@@ -16,7 +16,7 @@ pub fn from_std_duration(duration: time::Duration) -> StdDuration
     StdDuration::new(duration.as_secs(), duration.subsec_nanos())
 }
 
-/// Returns the moment of std's `SystemTime`. Each time that `time::SystemTime::now` gives has one.
+/// Returns the moment of std's `SystemTime`, or `None` if no `SystemTime` of this crate represents it.
 pub fn from_std(now: time::SystemTime) -> Option<SystemTime>
     ensures { SomeIff result (FitsClock (system_time_nanos now)) (pos (system_time_nanos now)) }
 {

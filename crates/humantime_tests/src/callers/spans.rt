@@ -6,7 +6,7 @@ ghost use Rattle.humantime_tests.specs.Longest.{longest_of};
 
 use humantime::{DurationError, StdDuration, parse_duration, spans};
 
-/// Returns the longest duration that a span of a text spells alone, or the first error of the text.
+/// Returns the longest span of a duration, each span parsed alone, or the error of the text.
 pub fn longest_span(text: &str) -> Result<StdDuration, DurationError<'_>>
     ensures longest { IfOk result (λ longest. (items : List (Result SpanView Fault)) × AreItems (chars text.now) items × (longest ≡ longest_of text.now items)) }
     ensures fault { (e : Fault) → (result_view result ≡ Err e) ↔ (duration_answer (chars text.now) ≡ Err e) }

@@ -16,8 +16,8 @@ use std::alloc::{AllocError, Global};
 
 type Item<'a> = Option<Result<humantime::Span<'a>, DurationError<'a>>>;
 
-/// The whole seconds of the value that a text is accepted with, or the first fault that it has. A text is never both
-/// accepted and at fault, its spans have one sum, and they stop in one way.
+/// Returns the whole seconds of the value with which a text is accepted, or its first error. A text never has both, its spans have
+/// one sum, and they stop in one way.
 pub fn whole_seconds(text: &str) -> Result<u64, DurationError<'_>>
     ensures value { (v : ℕ) → Accepted (chars text.now) v → result_view result ≡ Ok (v / nanos_per_second) }
     ensures fault { (e : Fault) → HasFault (chars text.now) e → result_view result ≡ Err e }
@@ -29,8 +29,8 @@ pub fn whole_seconds(text: &str) -> Result<u64, DurationError<'_>>
     limit_seconds(text)
 }
 
-/// The duration that a text spells, or its first fault: what its items and their limits decide, and what the table of
-/// first faults says. A text that the older rules accepted is still read, and keeps its value.
+/// Returns the duration that a text denotes, or its first error, as its items and their limits decide, and as the table of first
+/// errors says. A text that older rules accepted is still accepted, and keeps its value.
 pub fn decided(text: &str) -> Result<StdDuration, DurationError<'_>>
     ensures accepted { (ss : List Span) (stop : Option Fault) → Items (chars text.now) ss stop → chars text.now ≢ bare_zero → (v : ℕ) → (result_view result ≡ Ok v) ↔ ((stop ≡ None) × WithinLimits ss × (value ss ≡ v)) }
     ensures stopped { (ss : List Span) (e : Fault) → Items (chars text.now) ss (Some e) → chars text.now ≢ bare_zero → WithinLimits ss → result_view result ≡ Err e }
@@ -44,8 +44,8 @@ pub fn decided(text: &str) -> Result<StdDuration, DurationError<'_>>
     parse_duration(text)
 }
 
-/// What a text is read as, and the first items of two walks over it. These lend the same of it, or are the same error,
-/// and then the text is read as that error.
+/// Returns what parsing a text returns, and the first items of two iterators over its spans. These borrow the same of the text, or
+/// are the same error, and then parsing returns that error.
 pub fn answer_and_first_items(
     text: &str,
 ) -> (Result<StdDuration, DurationError<'_>>, Item<'_>, Item<'_>)
@@ -57,8 +57,8 @@ pub fn answer_and_first_items(
     (parse_duration(text), spans(text).next(), spans(text).next())
 }
 
-/// The canonical text of a duration: there is no other, and it has at most 64 bytes. Its months are less than a year, its
-/// days no more than a month.
+/// Returns the canonical text of a duration: there is no other, and it has at most 64 bytes. It has at most 11 months and at most
+/// 30 days.
 pub fn canonical_text<'b>(duration: StdDuration, buf: &'b mut [u8; 64]) -> &'b str
     ensures only { (bytes : List ℕ) → Canon duration bytes → result.now ≡ bytes }
     ensures short { length result.now ≤ 64 }
@@ -69,7 +69,7 @@ pub fn canonical_text<'b>(duration: StdDuration, buf: &'b mut [u8; 64]) -> &'b s
     format_duration(duration).text(buf)
 }
 
-/// What a canonical text is read as: its duration.
+/// Parses the canonical text of a duration, which returns that duration.
 pub fn read_back(text: &str, duration: StdDuration) -> Result<StdDuration, DurationError<'_>>
     ensures { Canon duration text.now → result_view result ≡ Ok duration }
 {
@@ -77,7 +77,7 @@ pub fn read_back(text: &str, duration: StdDuration) -> Result<StdDuration, Durat
     parse_duration(text)
 }
 
-/// What the canonical text of a text is read as, and its own canonical text: what the text is read as, and itself.
+/// Parses the canonical text of a text, and returns its own canonical text: the value of the text, and the same text.
 pub fn settled<'a, 'b>(
     text: &str,
     shown: &'a str,
@@ -93,7 +93,7 @@ pub fn settled<'a, 'b>(
     (parse_duration(shown), canonical(shown, buf))
 }
 
-/// Returns the canonical text of a text, which each accepted text has.
+/// Returns the canonical text of a text. Each accepted text has one.
 pub fn canonical_form<'a, 'b>(
     text: &'a str,
     buf: &'b mut [u8; 64],
@@ -104,7 +104,7 @@ pub fn canonical_form<'a, 'b>(
     canonical(text, buf)
 }
 
-/// Returns the canonical text of the canonical text of a text, which is the same text.
+/// Returns the canonical text of a text's canonical text, which is the same text.
 pub fn canonical_twice<'b>(text: &str, buf: &'b mut [u8; 64]) -> Option<&'b str>
     ensures { (t : List ℕ) → (option_map (λ twice. twice.now) result ≡ Some t) ↔ (canonical_answer (chars text.now) ≡ Ok t) }
 {
@@ -120,8 +120,8 @@ pub fn duration_string(alloc: Global, duration: StdDuration) -> Result<String, A
     format!(in alloc; "{}", format_duration(duration))
 }
 
-/// The sum of two accepted texts, read from the one behind the other: it is read exactly where the additions have room,
-/// and is too large where they have not.
+/// Returns the sum of two accepted texts, parsed from one after the other: it is accepted exactly if the additions have room, and
+/// is too large otherwise.
 pub fn sum_of<'a>(a: &str, b: &str, both: &'a str) -> Result<StdDuration, DurationError<'a>>
     ensures sum { (ss : List Span) (ts : List Span) (u : ℕ) (v : ℕ) → Reads (chars a.now) ss → Reads (chars b.now) ts → Accepted (chars a.now) u → Accepted (chars b.now) v → both.now ≡ a.now ++ b.now → (result_view result ≡ Ok (u + v)) ↔ AllHaveRoom (additions ss ++ additions ts) }
     ensures overflow { (ss : List Span) (ts : List Span) (u : ℕ) (v : ℕ) → Reads (chars a.now) ss → Reads (chars b.now) ts → Accepted (chars a.now) u → Accepted (chars b.now) v → both.now ≡ a.now ++ b.now → (result_view result ≡ Err NumberOverflow) ↔ ¬ (AllHaveRoom (additions ss ++ additions ts)) }
@@ -132,7 +132,7 @@ pub fn sum_of<'a>(a: &str, b: &str, both: &'a str) -> Result<StdDuration, Durati
     parse_duration(both)
 }
 
-/// What texts of the same spans in another order are read as: the same, where both are read.
+/// Parses two texts with the same spans in another order, which have the same value if both are accepted.
 pub fn read_alike<'a, 'b>(
     a: &'a str,
     b: &'b str,
@@ -148,7 +148,7 @@ pub fn read_alike<'a, 'b>(
     (parse_duration(a), parse_duration(b))
 }
 
-/// Two walks over one text. The same items are to come in both.
+/// Returns two iterators over the spans of one text, with the same items.
 pub fn two_walks(text: &str) -> (SpanIter<'_>, SpanIter<'_>)
     ensures { items_left result.0 ≡ items_left result.1 }
 {

@@ -49,7 +49,7 @@ pub fn first_unit(text: &str) -> Option<&str>
     Some(first_span(text)?.unit())
 }
 
-/// Splits a text where its spans stop: into what stands before the error, and the rest.
+/// Splits a text where its spans stop: into the part before the error, and the rest.
 pub fn split_at_error(text: &str) -> (&str, &str)
     ensures whole { result.0.now ++ result.1.now ≡ text.now }
     ensures at { (items : List (Result SpanView Fault)) × AreItems (chars text.now) items × (length result.0.now ≡ stop_of (length text.now) (first_error items)) }

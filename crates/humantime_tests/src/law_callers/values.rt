@@ -7,14 +7,14 @@ use humantime::{
     Date, Duration, DurationError, StdDuration, SystemTime, Turns, day_number, format_duration,
 };
 
-/// Returns the text of so many microseconds.
+/// Returns the text of a duration of `micros` microseconds.
 pub fn micros_text(micros: u64, buf: &mut [u8; 64]) -> &str
     ensures { Canon (micros * 1000) result.now }
 {
     format_duration(StdDuration::from_micros(micros)).text(buf)
 }
 
-/// Returns the canonical text of 2 hours and 37 minutes, which is written down here.
+/// Returns the canonical text of 2 hours and 37 minutes, as a literal.
 #[tactic(auto, using(crate::proofs::UsualTexts::two_hours_37_minutes))]
 pub fn default_text() -> &'static str
     ensures { Canon (9420 * nanos_per_second) result.now }
