@@ -1,1 +1,3 @@
 pub mod FirstFaults
+pub mod FirstItems
+pub mod Longest

@@ -3,4 +3,6 @@
 pub mod days;
 pub mod durations;
 pub mod errors;
+pub mod spans;
 pub mod timestamps;
+pub mod values;

@@ -1,5 +1,9 @@
 //! What a caller of `humantime` can prove, by its public items alone.
 #![tactic(auto)]
 
+pub mod borrowed;
 pub mod callers;
+pub mod counted_calendar;
 pub mod law_callers;
+#[cfg(test)]
+mod tests;

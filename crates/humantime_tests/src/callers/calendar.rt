@@ -13,7 +13,7 @@ pub fn weekday(date: Date) -> Option<u32>
     Some((day_number(date, &mut Turns::new())? + 3) % 7)
 }
 
-/// Returns the date so many days after a date, if there is one up to 9999.
+/// Returns the date `days` days after a date, or `None` if it is after 9999-12-31.
 pub fn days_after(date: Date, days: u32) -> Option<Date>
     ensures within { IsSome result ↔ (IsDate date × (day_of date + days ≤ 2_932_896)) }
     ensures later { IfSome result (λ d. IsDate d × (day_of d ≡ day_of date + days)) }

@@ -1,10 +1,12 @@
-//! Values of std's time as values of this crate.
+//! Values of std's time as values of this crate, and back.
 
-ghost use Rattle.std.specs.Prelude.{◌≡◌, pos, SomeIff};
+ghost use Rattle.std.specs.Prelude.{◌≡◌, ◌↔◌, ◌≤ℤ◌, chars, pos, SomeIff, IsSome, IfSome};
 ghost use Rattle.std.specs.Time.{FitsClock, system_time_nanos};
 ghost use Rattle.std.specs.Duration.{as_nanos};
+ghost use Rattle.std.specs.Result.{result_map_both};
+ghost use Rattle.humantime.specs.Prelude.{duration_answer, fault_of};
 
-use humantime::{StdDuration, SystemTime, UNIX_EPOCH};
+use humantime::{DurationError, StdDuration, SystemTime, UNIX_EPOCH, parse_duration};
 use std::time;
 
 /// Returns std's duration as one of this crate.
@@ -14,10 +16,33 @@ pub fn from_std_duration(duration: time::Duration) -> StdDuration
     StdDuration::new(duration.as_secs(), duration.subsec_nanos())
 }
 
-/// Returns the moment of std's `SystemTime`. Each time that `time::SystemTime::now` gives has one.
+/// Returns the moment of std's `SystemTime`, or `None` if no `SystemTime` of this crate represents it.
 pub fn from_std(now: time::SystemTime) -> Option<SystemTime>
     ensures { SomeIff result (FitsClock (system_time_nanos now)) (pos (system_time_nanos now)) }
 {
     let since = now.duration_since(time::UNIX_EPOCH).ok()?;
     UNIX_EPOCH.checked_add(from_std_duration(since))
+}
+
+/// Returns a duration as one of std.
+pub fn to_std(duration: StdDuration) -> time::Duration
+    ensures { as_nanos result ≡ duration }
+{
+    time::Duration::new(duration.as_secs(), duration.subsec_nanos())
+}
+
+/// Parses a duration for a call of std that waits or adds to an `Instant`.
+pub fn parse_to_std(text: &str) -> Result<time::Duration, DurationError<'_>>
+    ensures { result_map_both (λ duration. as_nanos duration) fault_of result ≡ duration_answer (chars text.now) }
+{
+    Ok(to_std(parse_duration(text)?))
+}
+
+/// Returns a moment as a `SystemTime` of std, which has none before 1970.
+pub fn to_std_time(moment: SystemTime) -> Option<time::SystemTime>
+    ensures within { IsSome result ↔ (pos 0 ≤ℤ moment) }
+    ensures time { IfSome result (λ time. pos (system_time_nanos time) ≡ moment) }
+{
+    let secs = u64::try_from(moment.unix_seconds()).ok()?;
+    time::UNIX_EPOCH.checked_add(time::Duration::new(secs, moment.subsec_nanos()))
 }

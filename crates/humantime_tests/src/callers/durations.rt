@@ -1,19 +1,19 @@
 //! Limits, ends and places of errors: callers of what reads and prints durations.
 
-ghost use Rattle.std.specs.Prelude.{◌≡◌, ◌+◌, ◌*◌, ◌/◌, ◌<◌, ◌≤◌, ◌↔◌, ℕ, chars, length, IfSome, IsSome, IsOkAnd, IsErrAnd, IsTrue, Ok, Err, Some};
+ghost use Rattle.std.specs.Prelude.{◌≡◌, ◌+◌, ◌*◌, ◌/◌, ◌<◌, ◌≤◌, ◌↔◌, ℕ, List, [], chars, drop, slice_range, IfSome, IsSome, IsOk, IsOkAnd, IsErrAnd, IsTrue, Ok, Err, Some};
 ghost use Rattle.std.specs.Result.{result_map_both};
-ghost use Rattle.humantime.specs.Prelude.{Canon, Fault, duration_answer, duration_end, result_view, fault_of, nanos_per_second};
+ghost use Rattle.humantime.specs.Prelude.{Canon, Fault, InvalidCharacter, NumberExpected, UnknownUnit, NumberOverflow, Empty, duration_answer, duration_end, result_view, fault_of, nanos_per_second};
 
 use humantime::{DurationError, StdDuration, format_duration, parse_duration};
 
-/// The whole seconds of a time limit in a settings file, or the first fault of its text.
+/// Returns the whole seconds of a time limit in a settings file, or the error of its text.
 pub fn limit_seconds(text: &str) -> Result<u64, DurationError<'_>>
     ensures { result_view result ≡ result_map_both (λ v. v / nanos_per_second) (λ e. e) (duration_answer (chars text.now)) }
 {
     Ok(parse_duration(text)?.as_secs())
 }
 
-/// The sum of a start and a length, if it is a duration, or else the first fault of the two texts.
+/// Returns the sum of a start and a length, `None` if it is too long, or the first error of the two texts.
 pub fn end_of<'a>(start: &'a str, len: &'a str) -> Result<Option<StdDuration>, DurationError<'a>>
     ensures sum { (v : ℕ) (w : ℕ) → duration_answer (chars start.now) ≡ Ok v → duration_answer (chars len.now) ≡ Ok w → IsOkAnd result (λ end. (IsSome end ↔ (v + w < duration_end)) × IfSome end (λ d. d ≡ v + w)) }
     ensures start_fault { (e : Fault) → duration_answer (chars start.now) ≡ Err e → IsErrAnd result (λ error. fault_of error ≡ e) }
@@ -22,7 +22,7 @@ pub fn end_of<'a>(start: &'a str, len: &'a str) -> Result<Option<StdDuration>, D
     Ok(parse_duration(start)?.checked_add(parse_duration(len)?))
 }
 
-/// Whether both texts are durations, and the first is no longer than the second.
+/// Returns `true` if both texts are valid durations, and the first is not longer than the second.
 pub fn is_within(text: &str, most: &str) -> bool
     ensures { IsTrue result ↔ ((v : ℕ) × (w : ℕ) × (duration_answer (chars text.now) ≡ Ok v) × (duration_answer (chars most.now) ≡ Ok w) × (v ≤ w)) }
 {
@@ -32,9 +32,14 @@ pub fn is_within(text: &str, most: &str) -> bool
     }
 }
 
-/// What is to be underlined of a text that is no duration: its unit, or what stands from its bad character on.
+/// Returns what to underline in a text that is not a valid duration: its unknown unit, or the rest from the error's offset on.
 pub fn underlined(text: &str) -> &str
-    ensures { length result.now ≤ length text.now }
+    ensures character { (at : ℕ) → duration_answer (chars text.now) ≡ Err (InvalidCharacter at) → result.now ≡ drop at text.now }
+    ensures number { (at : ℕ) → duration_answer (chars text.now) ≡ Err (NumberExpected at) → result.now ≡ drop at text.now }
+    ensures unit { (start : ℕ) (end : ℕ) (unit : List ℕ) (value : ℕ) → duration_answer (chars text.now) ≡ Err (UnknownUnit start end unit value) → (result.now ≡ unit) × (unit ≡ slice_range text.now start end) }
+    ensures overflow { duration_answer (chars text.now) ≡ Err NumberOverflow → result.now ≡ [] }
+    ensures empty { duration_answer (chars text.now) ≡ Err Empty → result.now ≡ [] }
+    ensures read { IsOk (duration_answer (chars text.now)) → result.now ≡ [] }
 {
     match parse_duration(text) {
         Err(DurationError::InvalidCharacter(at) | DurationError::NumberExpected(at)) => &text[at..],
@@ -43,9 +48,9 @@ pub fn underlined(text: &str) -> &str
     }
 }
 
-/// The place of an error in a line in which the text stands behind so many bytes.
+/// Returns the offset of a text's invalid character in a line that has `before` bytes before the text.
 pub fn place_in_line(text: &str, before: u32) -> Option<u64>
-    ensures { IfSome result (λ n. n < before + length text.now) }
+    ensures { (n : ℕ) → (result ≡ Some n) ↔ ((at : ℕ) × (duration_answer (chars text.now) ≡ Err (InvalidCharacter at)) × (n ≡ before + at)) }
 {
     match parse_duration(text) {
         Err(DurationError::InvalidCharacter(at)) => Some(before as u64 + at as u64),
@@ -53,7 +58,7 @@ pub fn place_in_line(text: &str, before: u32) -> Option<u64>
     }
 }
 
-/// Whether a second look at a text finds the same error.
+/// Returns `true` if two errors are the same.
 #[tactic(auto, using(humantime::proofs::Theorems::errors_equal))]
 pub fn is_same_error(a: &DurationError<'_>, b: &DurationError<'_>) -> bool
     ensures { IsTrue result ↔ (fault_of a.now ≡ fault_of b.now) }
@@ -61,14 +66,14 @@ pub fn is_same_error(a: &DurationError<'_>, b: &DurationError<'_>) -> bool
     *a == *b
 }
 
-/// A count of seconds as the text of a duration.
+/// Returns the text of a duration of `secs` seconds.
 pub fn shown_seconds<'b>(secs: u64, buf: &'b mut [u8; 64]) -> &'b str
     ensures { Canon (secs * nanos_per_second) result.now }
 {
     format_duration(StdDuration::from_secs(secs)).text(buf)
 }
 
-/// The limit that holds where a file names none.
+/// Returns the limit that applies if a file has none.
 pub fn default_limit() -> Option<StdDuration>
     ensures { result ≡ Some (9420 * nanos_per_second) }
 {

@@ -10,12 +10,12 @@ use humantime::{DurationError, SystemTime, TimestampError, parse_duration, parse
 use std::alloc::{AllocError, Global};
 use std::fmt;
 
-/// What is wrong with a start or a time limit.
+/// An error in a start or a time limit.
 #[derive(Clone, Copy, Debug)]
 pub enum LineError<'a> {
-    /// The start is no timestamp.
+    /// The start is not a valid timestamp.
     Start(TimestampError),
-    /// The limit is no duration.
+    /// The limit is not a valid duration.
     Limit(DurationError<'a>),
 }
 
@@ -48,7 +48,7 @@ impl<'a> From<DurationError<'a>> for LineError<'a> {
     }
 }
 
-/// Returns the moment a time limit after a start, if there is one.
+/// Returns the moment a time limit after a start, or `None` if no `SystemTime` represents it.
 pub fn deadline<'a>(start: &str, limit: &'a str) -> Result<Option<SystemTime>, LineError<'a>>
     ensures end { (t : ℤ) (v : ℕ) → strict_answer start.now ≡ Ok t → duration_answer (chars limit.now) ≡ Ok v → IsOkAnd result (λ end. SomeIff end ((t +ℤ pos v) <ℤ moment_end) (t +ℤ pos v)) }
     ensures start { (e : TimestampError) → strict_answer start.now ≡ Err e → result ≡ Err (Start e) }
@@ -58,7 +58,7 @@ pub fn deadline<'a>(start: &str, limit: &'a str) -> Result<Option<SystemTime>, L
     Ok(start.checked_add(parse_duration(limit)?))
 }
 
-/// Returns what a user is told of a text that is no duration.
+/// Returns the message for a text that is not a valid duration.
 pub fn message(alloc: Global, text: &str, error: &DurationError<'_>) -> Result<String, AllocError>
     ensures { IfOk result (λ s. string_bytes s ≡ text.now ++ (codes ": " ++ fault_message (fault_of error.now))) }
 {

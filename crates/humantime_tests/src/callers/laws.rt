@@ -6,7 +6,7 @@ ghost use Rattle.humantime.specs.Prelude.{without_whitespace};
 use humantime::laws::{printed_duration_reads, printed_durations_differ, without_ws};
 use humantime::{StdDuration, format_duration, parse_duration};
 
-/// Writes a duration into a file and reads it again: it is the same.
+/// Returns `true` if a duration's text is parsed to that duration, which it always is.
 pub fn comes_back(duration: StdDuration) -> bool
     ensures { result ≡ true }
 {
@@ -14,7 +14,7 @@ pub fn comes_back(duration: StdDuration) -> bool
     parse_duration(format_duration(duration).text(&mut [0; 64])) == Ok(duration)
 }
 
-/// Whether two durations are printed alike: only equal ones are.
+/// Returns `true` if two durations have the same text, which only equal ones have.
 pub fn looks_same(a: StdDuration, b: StdDuration) -> bool
     ensures { IsTrue result ↔ (a ≡ b) }
 {
@@ -22,7 +22,7 @@ pub fn looks_same(a: StdDuration, b: StdDuration) -> bool
     format_duration(a).text(&mut [0; 64]) == format_duration(b).text(&mut [0; 64])
 }
 
-/// Whether a text without its whitespace is read as the text is, where that is read: it is.
+/// Returns `true` if a valid duration has the same value without its whitespace, which it always has.
 pub fn needs_no_space(text: &str, squeezed: &str) -> bool
     ensures { chars squeezed.now ≡ without_whitespace (chars text.now) → result ≡ true }
 {

@@ -1,6 +1,6 @@
 //! Lines of a log: callers of what reads, prints and orders timestamps.
 
-ghost use Rattle.std.specs.Prelude.{◌≡◌, ◌*◌, ◌++◌, ◌↔◌, ◌<ℤ◌, ◌≤ℤ◌, ℕ, ℤ, List, pos, ◌+ℤ◌, codes, IsTrue, IsSome, IfSome, IfOk, IsOkAnd, Ok, Err, string_bytes, true};
+ghost use Rattle.std.specs.Prelude.{◌≡◌, ◌*◌, ◌++◌, ◌↔◌, ◌<ℤ◌, ◌≤ℤ◌, ℕ, ℤ, List, pos, ◌+ℤ◌, codes, IsTrue, IsSome, IsSomeAnd, IfSome, IfOk, IsOkAnd, Ok, Err, string_bytes, true};
 ghost use Rattle.humantime.specs.declared.TimestampError.{TimestampError};
 ghost use Rattle.humantime.specs.Prelude.{weak_answer, strict_answer, IsPrinted, IsPrintable, cut, duration_text, moment_end, nanos_per_second};
 
@@ -11,7 +11,7 @@ use humantime::{
 };
 use std::alloc::{AllocError, Global};
 
-/// Whether the moment of a line is not before this one, or what is wrong with the line's timestamp.
+/// Returns `true` if the moment of a line is not before `from`, or the error of the line's timestamp.
 pub fn is_since(stamp: &str, from: SystemTime) -> Result<bool, TimestampError>
     ensures value { (t : ℤ) → strict_answer stamp.now ≡ Ok t → IsOkAnd result (λ since. IsTrue since ↔ (from ≤ℤ t)) }
     ensures error { (e : TimestampError) → (result ≡ Err e) ↔ (strict_answer stamp.now ≡ Err e) }
@@ -20,7 +20,7 @@ pub fn is_since(stamp: &str, from: SystemTime) -> Result<bool, TimestampError>
     Ok(from <= moment)
 }
 
-/// The moment so long after the one that a text shows, if there is one.
+/// Returns the moment `time` after the one in a text, or `None` if no `SystemTime` represents it.
 pub fn later_than(text: &str, time: StdDuration) -> Result<Option<SystemTime>, TimestampError>
     ensures moment { (t : ℤ) → weak_answer text.now ≡ Ok t → IsOkAnd result (λ later. (IsSome later ↔ ((t +ℤ pos time) <ℤ moment_end)) × IfSome later (λ moment. moment ≡ t +ℤ pos time)) }
     ensures error { (e : TimestampError) → (result ≡ Err e) ↔ (weak_answer text.now ≡ Err e) }
@@ -28,14 +28,14 @@ pub fn later_than(text: &str, time: StdDuration) -> Result<Option<SystemTime>, T
     Ok(parse_rfc3339_weak(text)?.checked_add(time))
 }
 
-/// Whether two texts show one moment, or have one error.
+/// Returns `true` if two texts denote the same moment, or have the same error.
 pub fn is_same_moment(text: &str, other: &str) -> bool
     ensures { IsTrue result ↔ (weak_answer text.now ≡ weak_answer other.now) }
 {
     parse_rfc3339_weak(text) == parse_rfc3339_weak(other)
 }
 
-/// A moment as it stands in front of a line, with milliseconds; none outside 1970 to 9999.
+/// Returns the timestamp that begins a line, with milliseconds, or `None` outside 1970 to 9999.
 pub fn stamp_of<'b>(moment: SystemTime, buf: &'b mut [u8; 30]) -> Option<&'b str>
     ensures within { IsSome result ↔ IsPrintable moment }
     ensures text { IfSome result (λ text. IsPrinted moment 3 text.now) }
@@ -43,7 +43,7 @@ pub fn stamp_of<'b>(moment: SystemTime, buf: &'b mut [u8; 30]) -> Option<&'b str
     format_rfc3339_millis(moment).text(buf)
 }
 
-/// Whether one stamp is that of an earlier moment, told by their bytes alone.
+/// Returns `true` if one stamp is earlier than another, by comparing their bytes.
 #[tactic(auto, using(humantime::proofs::Theorems::earlier_in_millis))]
 pub fn is_earlier(stamp: &str, other: &str) -> bool
     ensures { (a : ℤ) (b : ℤ) → IsPrinted a 3 stamp.now → IsPrinted b 3 other.now → (IsTrue result ↔ (cut a 3 <ℤ cut b 3)) }
@@ -51,7 +51,18 @@ pub fn is_earlier(stamp: &str, other: &str) -> bool
     stamp < other
 }
 
-/// Whether the weak parser gives what the strict one gives. It does.
+/// Parses a timestamp in any form, and prints it in the form that `is_earlier` compares.
+pub fn sortable_stamp<'b>(
+    text: &str,
+    buf: &'b mut [u8; 30],
+) -> Result<Option<&'b str>, TimestampError>
+    ensures stamp { (t : ℤ) → weak_answer text.now ≡ Ok t → IsOkAnd result (λ stamp. IsSomeAnd stamp (λ s. IsPrinted t 3 s.now)) }
+    ensures error { (e : TimestampError) → (result ≡ Err e) ↔ (weak_answer text.now ≡ Err e) }
+{
+    Ok(format_rfc3339_millis(parse_rfc3339_weak(text)?).text(buf))
+}
+
+/// Returns `true` if a text in strict form is parsed to the same moment by the weak parser, which it always is.
 pub fn is_read_weakly_too(text: &str) -> bool
     ensures { result ≡ true }
 {
@@ -62,7 +73,7 @@ pub fn is_read_weakly_too(text: &str) -> bool
     }
 }
 
-/// Whether a moment is before another, told by their texts with nine digits.
+/// Returns `true` if a moment is before another, by comparing their texts with nine digits.
 pub fn is_text_before(a: SystemTime, b: SystemTime) -> bool
     ensures { IsPrintable a → IsPrintable b → (IsTrue result ↔ (a <ℤ b)) }
 {
@@ -70,7 +81,7 @@ pub fn is_text_before(a: SystemTime, b: SystemTime) -> bool
     format_rfc3339_nanos(a).text(&mut [0; 30]) < format_rfc3339_nanos(b).text(&mut [0; 30])
 }
 
-/// A line that says how long a file was kept and since when; none outside 1970 to 9999.
+/// Returns a line that says how long and since when a file was kept, or `None` outside 1970 to 9999.
 pub fn age_line(
     alloc: Global,
     kept: StdDuration,
@@ -84,14 +95,16 @@ pub fn age_line(
     }
 }
 
-/// A moment as a `String`, by `Display`. Outside 1970 to 9999 it is an error.
+/// Returns a moment as a `String`, by `Display`.
+///
+/// Outside 1970 to 9999 it returns an error. The contract cannot say so: `format!` promises nothing of a `Display` that fails.
 pub fn stamp_string(alloc: Global, moment: SystemTime) -> Result<String, AllocError>
     ensures { IsPrintable moment → IfOk result (λ s. IsPrinted moment 3 (string_bytes s)) }
 {
     format!(in alloc; "{}", format_rfc3339_millis(moment))
 }
 
-/// The moment from which lines are kept where nothing else is said.
+/// Returns the moment from which lines are kept by default.
 pub fn default_start() -> Result<SystemTime, TimestampError>
     ensures { result ≡ Ok (pos (1_518_568_087 * nanos_per_second)) }
 {

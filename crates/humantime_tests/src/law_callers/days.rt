@@ -7,7 +7,7 @@ ghost use Rattle.humantime.specs.Prelude.{IsDate};
 use humantime::laws::one_date;
 use humantime::{Date, Turns, date_of_day, day_number};
 
-/// The days of two dates: where both exist, they are equal exactly where the dates are.
+/// Returns the days of two dates. If both dates exist, their days are equal exactly if the dates are.
 pub fn days_of(a: Date, b: Date, turns: &mut Turns) -> (Option<u32>, Option<u32>)
     ensures { IsDate a → IsDate b → (result.0 ≡ result.1) ↔ (a ≡ b) }
 {
@@ -18,7 +18,7 @@ pub fn days_of(a: Date, b: Date, turns: &mut Turns) -> (Option<u32>, Option<u32>
     (day, day_number(b, turns))
 }
 
-/// The date of a date's day, which is that date.
+/// Returns the date of a date's day, which is that date.
 pub fn date_comes_back(date: Date, turns: &mut Turns) -> Option<Date>
     ensures { IsDate date → result ≡ Some date }
 {
@@ -27,14 +27,14 @@ pub fn date_comes_back(date: Date, turns: &mut Turns) -> Option<Date>
     date_of_day(day, turns)
 }
 
-/// The day of a day's date, which is that day.
+/// Returns the day of a day's date, which is that day.
 pub fn day_comes_back(day: u32, turns: &mut Turns) -> Option<u32>
     ensures { day ≤ 2_932_896 → result ≡ Some day }
 {
     day_number(date_of_day(day, turns)?, turns)
 }
 
-/// A year of 1970 to 9999 has a 29 February exactly where it is a leap year.
+/// Returns `true` if a year has a 29 February exactly if it is a leap year, which holds from 1970 to 9999.
 pub fn leap_day_is_of_leap_years(year: u32, turns: &mut Turns) -> bool
     ensures { 1970 ≤ year → year ≤ 9999 → result ≡ true }
 {
@@ -47,7 +47,7 @@ pub fn leap_day_is_of_leap_years(year: u32, turns: &mut Turns) -> bool
     day_number(leap_day, turns).is_some() == is_leap_year
 }
 
-/// The days of the first leap day, of a 30 February and of the last date.
+/// Returns the days of the first leap day, of a 30 February and of the last date.
 #[tactic(auto, unfolding(humantime::specs::Calendar::days_of_years, humantime::specs::Calendar::days_of_months))]
 pub fn days_by_computation(turns: &mut Turns) -> [Option<u32>; 3]
     ensures { result ≡ (Some 789 ∷ None ∷ Some 2_932_896 ∷ []) }

@@ -1,7 +1,7 @@
 //! Callers of the laws of durations.
 
-ghost use Rattle.std.specs.Prelude.{◌≡◌, ◌≢◌, ◌+◌, ◌/◌, ◌≤◌, ◌++◌, ◌↔◌, ◌⊎◌, ℕ, List, Option, None, Some, Ok, Err, chars, length, option_map, slice_index, IsOk, IsPermutation};
-ghost use Rattle.humantime.specs.Prelude.{Accepted, AcceptedWithZeros, AllHaveRoom, AreReordered, Canon, Counts, Fault, HasFault, IsCanonicalOf, Items, NumberOverflow, Reads, Span, WithinLimits, additions, bare_zero, duration_answer, item_of, items_left, nanos_per_second, result_view, text_result_view, value, WasAccepted};
+ghost use Rattle.std.specs.Prelude.{◌≡◌, ◌≢◌, ◌+◌, ◌/◌, ◌≤◌, ◌++◌, ◌↔◌, ◌⊎◌, ℕ, List, Option, None, Some, Ok, Err, chars, length, option_map, slice_index, string_bytes, IfOk, IsOk, IsPermutation};
+ghost use Rattle.humantime.specs.Prelude.{Accepted, AcceptedWithZeros, AllHaveRoom, AreReordered, Canon, Counts, Fault, HasFault, IsCanonicalOf, Items, NumberOverflow, Reads, Span, WithinLimits, additions, bare_zero, canonical_answer, duration_answer, item_of, items_left, nanos_per_second, result_view, text_result_view, value, WasAccepted};
 ghost use Rattle.humantime_tests.specs.FirstFaults.{IsFirstFault};
 
 use crate::callers::durations::limit_seconds;
@@ -12,11 +12,12 @@ use humantime::laws::{
 use humantime::{
     DurationError, SpanIter, StdDuration, canonical, format_duration, parse_duration, spans,
 };
+use std::alloc::{AllocError, Global};
 
 type Item<'a> = Option<Result<humantime::Span<'a>, DurationError<'a>>>;
 
-/// The whole seconds of the value that a text is accepted with, or the first fault that it has. A text is never both
-/// accepted and at fault, its spans have one sum, and they stop in one way.
+/// Returns the whole seconds of the value with which a text is accepted, or its first error. A text never has both, its spans have
+/// one sum, and they stop in one way.
 pub fn whole_seconds(text: &str) -> Result<u64, DurationError<'_>>
     ensures value { (v : ℕ) → Accepted (chars text.now) v → result_view result ≡ Ok (v / nanos_per_second) }
     ensures fault { (e : Fault) → HasFault (chars text.now) e → result_view result ≡ Err e }
@@ -28,8 +29,8 @@ pub fn whole_seconds(text: &str) -> Result<u64, DurationError<'_>>
     limit_seconds(text)
 }
 
-/// The duration that a text spells, or its first fault: what its items and their limits decide, and what the table of
-/// first faults says. A text that the older rules accepted is still read, and keeps its value.
+/// Returns the duration that a text denotes, or its first error, as its items and their limits decide, and as the table of first
+/// errors says. A text that older rules accepted is still accepted, and keeps its value.
 pub fn decided(text: &str) -> Result<StdDuration, DurationError<'_>>
     ensures accepted { (ss : List Span) (stop : Option Fault) → Items (chars text.now) ss stop → chars text.now ≢ bare_zero → (v : ℕ) → (result_view result ≡ Ok v) ↔ ((stop ≡ None) × WithinLimits ss × (value ss ≡ v)) }
     ensures stopped { (ss : List Span) (e : Fault) → Items (chars text.now) ss (Some e) → chars text.now ≢ bare_zero → WithinLimits ss → result_view result ≡ Err e }
@@ -43,8 +44,8 @@ pub fn decided(text: &str) -> Result<StdDuration, DurationError<'_>>
     parse_duration(text)
 }
 
-/// What a text is read as, and the first items of two walks over it. These lend the same of it, or are the same error,
-/// and then the text is read as that error.
+/// Returns what parsing a text returns, and the first items of two iterators over its spans. These borrow the same of the text, or
+/// are the same error, and then parsing returns that error.
 pub fn answer_and_first_items(
     text: &str,
 ) -> (Result<StdDuration, DurationError<'_>>, Item<'_>, Item<'_>)
@@ -56,8 +57,8 @@ pub fn answer_and_first_items(
     (parse_duration(text), spans(text).next(), spans(text).next())
 }
 
-/// The canonical text of a duration: there is no other, and it has at most 64 bytes. Its months are less than a year, its
-/// days no more than a month.
+/// Returns the canonical text of a duration: there is no other, and it has at most 64 bytes. It has at most 11 months and at most
+/// 30 days.
 pub fn canonical_text<'b>(duration: StdDuration, buf: &'b mut [u8; 64]) -> &'b str
     ensures only { (bytes : List ℕ) → Canon duration bytes → result.now ≡ bytes }
     ensures short { length result.now ≤ 64 }
@@ -68,7 +69,7 @@ pub fn canonical_text<'b>(duration: StdDuration, buf: &'b mut [u8; 64]) -> &'b s
     format_duration(duration).text(buf)
 }
 
-/// What a canonical text is read as: its duration.
+/// Parses the canonical text of a duration, which returns that duration.
 pub fn read_back(text: &str, duration: StdDuration) -> Result<StdDuration, DurationError<'_>>
     ensures { Canon duration text.now → result_view result ≡ Ok duration }
 {
@@ -76,7 +77,7 @@ pub fn read_back(text: &str, duration: StdDuration) -> Result<StdDuration, Durat
     parse_duration(text)
 }
 
-/// What the canonical text of a text is read as, and its own canonical text: what the text is read as, and itself.
+/// Parses the canonical text of a text, and returns its own canonical text: the value of the text, and the same text.
 pub fn settled<'a, 'b>(
     text: &str,
     shown: &'a str,
@@ -92,18 +93,46 @@ pub fn settled<'a, 'b>(
     (parse_duration(shown), canonical(shown, buf))
 }
 
-/// The sum of two accepted texts, read from the one behind the other: it is read exactly where the additions have room,
-/// and is too large where they have not.
+/// Returns the canonical text of a text. Each accepted text has one.
+pub fn canonical_form<'a, 'b>(
+    text: &'a str,
+    buf: &'b mut [u8; 64],
+) -> Result<&'b str, DurationError<'a>>
+    ensures { (v : ℕ) → Accepted (chars text.now) v → IsOk result }
+{
+    canonical_again(text);
+    canonical(text, buf)
+}
+
+/// Returns the canonical text of a text's canonical text, which is the same text.
+pub fn canonical_twice<'b>(text: &str, buf: &'b mut [u8; 64]) -> Option<&'b str>
+    ensures { (t : List ℕ) → (option_map (λ twice. twice.now) result ≡ Some t) ↔ (canonical_answer (chars text.now) ≡ Ok t) }
+{
+    canonical_again(text);
+    canonical(canonical(text, &mut [0; 64]).ok()?, buf).ok()
+}
+
+/// Writes a duration into a `String` by `Display`, as its canonical text.
+pub fn duration_string(alloc: Global, duration: StdDuration) -> Result<String, AllocError>
+    ensures { IfOk result (λ s. Canon duration (string_bytes s)) }
+{
+    printed_duration_reads(duration);
+    format!(in alloc; "{}", format_duration(duration))
+}
+
+/// Returns the sum of two accepted texts, parsed from one after the other: it is accepted exactly if the additions have room, and
+/// is too large otherwise.
 pub fn sum_of<'a>(a: &str, b: &str, both: &'a str) -> Result<StdDuration, DurationError<'a>>
     ensures sum { (ss : List Span) (ts : List Span) (u : ℕ) (v : ℕ) → Reads (chars a.now) ss → Reads (chars b.now) ts → Accepted (chars a.now) u → Accepted (chars b.now) v → both.now ≡ a.now ++ b.now → (result_view result ≡ Ok (u + v)) ↔ AllHaveRoom (additions ss ++ additions ts) }
     ensures overflow { (ss : List Span) (ts : List Span) (u : ℕ) (v : ℕ) → Reads (chars a.now) ss → Reads (chars b.now) ts → Accepted (chars a.now) u → Accepted (chars b.now) v → both.now ≡ a.now ++ b.now → (result_view result ≡ Err NumberOverflow) ↔ ¬ (AllHaveRoom (additions ss ++ additions ts)) }
+    ensures spans { (u : ℕ) (v : ℕ) → Accepted (chars a.now) u → Accepted (chars b.now) v → both.now ≡ a.now ++ b.now → chars a.now ≢ bare_zero → chars b.now ≢ bare_zero → (ss : List Span) × (ts : List Span) × ((result_view result ≡ Ok (u + v)) ↔ AllHaveRoom (additions ss ++ additions ts)) }
     ensures either { (u : ℕ) (v : ℕ) → duration_answer (chars a.now) ≡ Ok u → duration_answer (chars b.now) ≡ Ok v → both.now ≡ a.now ++ b.now → chars a.now ≢ bare_zero → chars b.now ≢ bare_zero → (result_view result ≡ Ok (u + v)) ⊎ (result_view result ≡ Err NumberOverflow) }
 {
     joined(a, b);
     parse_duration(both)
 }
 
-/// What texts of the same spans in another order are read as: the same, where both are read.
+/// Parses two texts with the same spans in another order, which have the same value if both are accepted.
 pub fn read_alike<'a, 'b>(
     a: &'a str,
     b: &'b str,
@@ -112,13 +141,14 @@ pub fn read_alike<'a, 'b>(
     Result<StdDuration, DurationError<'b>>,
 )
     ensures spans { (ss : List Span) (ts : List Span) (v : ℕ) (w : ℕ) → Reads (chars a.now) ss → Reads (chars b.now) ts → IsPermutation ss ts → result_view result.0 ≡ Ok v → result_view result.1 ≡ Ok w → v ≡ w }
+    ensures zero { chars a.now ≡ bare_zero → ¬ (AreReordered (chars a.now) (chars b.now)) }
     ensures texts { (v : ℕ) (w : ℕ) → AreReordered (chars a.now) (chars b.now) → result_view result.0 ≡ Ok v → result_view result.1 ≡ Ok w → v ≡ w }
 {
     reordered(a, b);
     (parse_duration(a), parse_duration(b))
 }
 
-/// Two walks over one text. The same items are to come in both.
+/// Returns two iterators over the spans of one text, with the same items.
 pub fn two_walks(text: &str) -> (SpanIter<'_>, SpanIter<'_>)
     ensures { items_left result.0 ≡ items_left result.1 }
 {

@@ -6,7 +6,7 @@ ghost use Rattle.humantime.specs.Prelude.{Empty, InvalidCharacter, NumberExpecte
 use humantime::{DurationError, parse_duration, spans};
 use std::alloc::{AllocError, Global};
 
-/// Whether an error points into its text: its unit is the slice between its offsets.
+/// Returns `true` if an error points into its text: its unit is the slice between its offsets.
 fn is_in(error: DurationError<'_>, text: &str) -> bool
     requires { PointsInto text.now error }
     ensures { result ≡ true }
@@ -25,7 +25,7 @@ fn is_in(error: DurationError<'_>, text: &str) -> bool
     }
 }
 
-/// Whether the error of a text points into it.
+/// Returns `true` if the error of a text points into it.
 pub fn points_into(text: &str) -> bool
     ensures { result ≡ true }
 {
@@ -35,7 +35,7 @@ pub fn points_into(text: &str) -> bool
     }
 }
 
-/// Whether the second item of a text, where it is an error, points into the text.
+/// Returns `true` if the second item of a text, where it is an error, points into the text.
 pub fn second_points_into(text: &str) -> bool
     ensures { result ≡ true }
 {
@@ -47,7 +47,7 @@ pub fn second_points_into(text: &str) -> bool
     }
 }
 
-/// The offset at which a text goes wrong, where its fault has one.
+/// Returns the offset of a text's error, if it has one.
 pub fn place(text: &str) -> Option<usize>
     ensures character { (at : ℕ) → duration_answer (chars text.now) ≡ Err (InvalidCharacter at) → result ≡ Some at }
     ensures number { (at : ℕ) → duration_answer (chars text.now) ≡ Err (NumberExpected at) → result ≡ Some at }
@@ -62,7 +62,7 @@ pub fn place(text: &str) -> Option<usize>
     }
 }
 
-/// The message of an error.
+/// Returns the message of an error.
 pub fn message(alloc: Global, error: &DurationError<'_>) -> Result<String, AllocError>
     ensures character { (at : ℕ) → fault_of error.now ≡ InvalidCharacter at → IfOk result (λ s. string_bytes s ≡ codes "invalid character at " ++ decimal at) }
     ensures number { (at : ℕ) → fault_of error.now ≡ NumberExpected at → IfOk result (λ s. string_bytes s ≡ codes "expected number at " ++ decimal at) }

@@ -1,19 +1,21 @@
 //! What the laws of timestamps come to, and what moments and their texts are. `callers::timestamps` has two more.
 
-ghost use Rattle.std.specs.Prelude.{◌≡◌, ◌<◌, ◌↔◌, ◌<ℤ◌, ◌≤ℤ◌, ◌∷◌, [], ℕ, ℤ, pos, Ok, Err, None, Some, true, length, unwrap_or, IsTrue, IfOk, IfSome, IsSome, string_bytes};
+ghost use Rattle.std.specs.Prelude.{◌≡◌, ◌<◌, ◌↔◌, ◌<ℤ◌, ◌≤ℤ◌, ◌∷◌, [], ℕ, ℤ, pos, Ok, Err, None, Some, true, length, unwrap_or, IsTrue, IfOk, IfSome, IsSome, SomeIff, codes, ◌++◌, string_bytes};
 ghost use Rattle.std.specs.Ordering.{int_cmp};
+ghost use Rattle.std.specs.Fmt.{◌++?◌, DisplaysOnOk, fmt_error};
 ghost use Rattle.humantime.specs.declared.TimestampError.{TimestampError};
-ghost use Rattle.humantime.specs.Prelude.{Fields, IsWeak, IsStrict, IsWeakMoment, IsStrictMoment, weak_answer, strict_answer, weak_checks, first_failed, IsPrintable, IsPrinted, cut, nano_of};
+ghost use Rattle.humantime.specs.Prelude.{Fields, IsWeak, IsStrict, IsWeakMoment, IsStrictMoment, weak_answer, strict_answer, weak_checks, strict_checks, first_failed, shortest_text, IsPrintable, IsPrinted, cut, nano_of};
 
 use humantime::laws::{one_stamp_outcome, printed_moment_reads, stamps_in_order, strict_is_weak};
 use humantime::{
     Rfc3339Timestamp, StdDuration, SystemTime, Timestamp, TimestampError, format_rfc3339,
-    format_rfc3339_nanos, parse_rfc3339, parse_rfc3339_weak,
+    format_rfc3339_micros, format_rfc3339_nanos, parse_rfc3339, parse_rfc3339_weak,
 };
 use std::alloc::{AllocError, Global};
 use std::cmp::Ordering;
+use std::fmt::{self, Display};
 
-/// Whether a text in weak form is one in strict form, told by its `T` and its zone alone.
+/// Returns `true` if a text in weak form is one in strict form, by its `T` and its zone alone.
 pub fn is_marked(text: &str) -> bool
     ensures parts { (f : Fields) → IsWeak text.now f → (IsTrue result ↔ IsStrict text.now f) }
     ensures moment { (t : ℤ) → IsWeakMoment text.now t → (IsTrue result ↔ IsStrictMoment text.now t) }
@@ -24,7 +26,7 @@ pub fn is_marked(text: &str) -> bool
     bytes.len() > 10 && bytes[10] == b'T' && (bytes.ends_with(b"Z") || bytes.ends_with(b"+00:00"))
 }
 
-/// What both parsers read where a moment is printed with nine digits: that moment.
+/// Returns what both parsers return for the text of a moment with nine digits: that moment.
 pub fn read_back(
     moment: SystemTime,
     text: &str,
@@ -38,7 +40,48 @@ pub fn read_back(
     (parse_rfc3339(text), parse_rfc3339_weak(text))
 }
 
-/// The text of a timestamp of 1970 to 9999, which is the one that was printed before.
+/// Prints a moment with nine digits and parses the text in both forms, which returns that moment.
+pub fn printed_and_parsed(
+    moment: SystemTime,
+) -> Option<
+    (
+        Result<SystemTime, TimestampError>,
+        Result<SystemTime, TimestampError>,
+    ),
+>
+    ensures { SomeIff result (IsPrintable moment) (Ok moment, Ok moment) }
+{
+    let shown = format_rfc3339_nanos(moment);
+    printed_moment_reads(&shown);
+    let mut buf = [0; 30];
+    let text = shown.text(&mut buf)?;
+    Some((parse_rfc3339(text), parse_rfc3339_weak(text)))
+}
+
+/// Returns the text of a moment with six digits, or `None` outside 1970 to 9999.
+pub fn micros_stamp(moment: SystemTime, buf: &mut [u8; 30]) -> Option<&str>
+    ensures within { IsSome result ↔ IsPrintable moment }
+    ensures text { IfSome result (λ text. IsPrinted moment 6 text.now) }
+{
+    format_rfc3339_micros(moment).text(buf)
+}
+
+/// Writes a line of a log: a moment, a space and a text. For a moment outside 1970 to 9999 it writes nothing.
+pub fn write_line<W: fmt::Write>(
+    at: Timestamp,
+    text: &str,
+    f: &mut fmt::Formatter<W>,
+) -> fmt::Result
+    ensures writes { DisplaysOnOk W.write_str_gives f.old result (shortest_text at ++? Some (codes " " ++ text.now)) f.new }
+    ensures refused { ¬ (IsPrintable at) → result ≡ Err fmt_error }
+    ensures untouched { ¬ (IsPrintable at) → f.new ≡ f.old }
+{
+    at.fmt(f)?;
+    f.write_str(" ")?;
+    f.write_str(text)
+}
+
+/// Returns the text of a timestamp of 1970 to 9999, which is the one that was printed before.
 pub fn text_again<'b>(
     shown: &Rfc3339Timestamp,
     printed: &str,
@@ -50,7 +93,7 @@ pub fn text_again<'b>(
     shown.text(buf)
 }
 
-/// What `Display` writes of it, which is that text.
+/// Returns what `Display` writes for it, which is that text.
 pub fn string_again(
     alloc: Global,
     shown: &Rfc3339Timestamp,
@@ -62,7 +105,7 @@ pub fn string_again(
     format!(in alloc; "{}", *shown)
 }
 
-/// How two texts with equally many digits stand: as their moments do, cut.
+/// Compares two texts with equally many digits, which are ordered as their moments are, rounded down.
 pub fn order_of_texts(text: &str, other: &str, a: SystemTime, b: SystemTime) -> Ordering
     ensures { (k : ℕ) → IsPrinted a k text.now → IsPrinted b k other.now → result ≡ int_cmp (cut a k) (cut b k) }
 {
@@ -70,7 +113,7 @@ pub fn order_of_texts(text: &str, other: &str, a: SystemTime, b: SystemTime) -> 
     text.cmp(other)
 }
 
-/// The errors of the weak checks, in their order, and of the strict one. Each text fails the later checks too, where it can.
+/// Returns the errors of the weak checks, in their order, and of the strict one. Each text fails later checks too, if it can.
 #[tactic(auto, unfolding(humantime::proofs::TimestampsOnLiterals::timestamps_on_literals))]
 pub fn first_errors() -> [Result<SystemTime, TimestampError>; 7]
     ensures { result ≡ (Err TimestampError.InvalidFormat ∷ Err TimestampError.InvalidFormat ∷ Err TimestampError.InvalidDigit ∷ Err TimestampError.OutOfRange ∷ Err TimestampError.InvalidFormat ∷ Err TimestampError.InvalidDigit ∷ Err TimestampError.InvalidFormat ∷ []) }
@@ -86,8 +129,8 @@ pub fn first_errors() -> [Result<SystemTime, TimestampError>; 7]
     ]
 }
 
-/// Whether `parse` of a `Timestamp` answers as the weak parser. It does. A text that shows some parts fails no check, and
-/// its fraction has one number of digits.
+/// Returns `true` if `parse::<Timestamp>` returns what the weak parser returns, which it always does. A text in weak form fails
+/// no check, and its fraction has one number of digits.
 pub fn is_parsed_weakly(text: &str) -> bool
     ensures alike { result ≡ true }
     ensures fraction { (f : Fields) (g : Fields) → IsWeak text.now f → IsWeak text.now g → length (unwrap_or f.fraction []) ≡ length (unwrap_or g.fraction []) }
@@ -97,7 +140,17 @@ pub fn is_parsed_weakly(text: &str) -> bool
     text.parse::<Timestamp>().map(SystemTime::from) == parse_rfc3339_weak(text)
 }
 
-/// How many bytes the shortest text of a moment has: 20 for a whole second, else 30; none outside 1970 to 9999.
+/// Returns `true` if a text is a timestamp in strict form. Such a text has one hour, and fails no check.
+pub fn is_strict(text: &str) -> bool
+    ensures form { IsTrue result ↔ ((f : Fields) × IsStrict text.now f) }
+    ensures hour { (f : Fields) (g : Fields) → IsStrict text.now f → IsStrict text.now g → f.hour ≡ g.hour }
+    ensures checked { (f : Fields) → IsStrict text.now f → first_failed (strict_checks text.now) ≡ None }
+{
+    one_stamp_outcome(text);
+    parse_rfc3339(text).is_ok()
+}
+
+/// Returns the length of a moment's shortest text: 20 for a whole second, else 30; or `None` outside 1970 to 9999.
 #[tactic(auto, using(std::proofs::lemmas::Bool::Decides::nat_tests))]
 pub fn shortest_length(moment: SystemTime) -> Option<usize>
     ensures within { IsSome result ↔ ((pos 0 ≤ℤ moment) × (moment <ℤ pos 253_402_300_800_000_000_000)) }
@@ -110,7 +163,7 @@ pub fn shortest_length(moment: SystemTime) -> Option<usize>
     }
 }
 
-/// The parts of the moment of two parts, which are these.
+/// Creates a moment from seconds and nanoseconds, and returns its seconds and nanoseconds, which are these.
 pub fn parts_come_back(secs: i64, nanos: u32) -> Option<(i64, u32)>
     ensures { nanos < 1_000_000_000 → result ≡ Some (secs, nanos) }
 {
@@ -118,14 +171,14 @@ pub fn parts_come_back(secs: i64, nanos: u32) -> Option<(i64, u32)>
     Some((moment.unix_seconds(), moment.subsec_nanos()))
 }
 
-/// The moment one nanosecond after the last one before 1970, which is the first of 1970.
+/// Returns the moment one nanosecond after the last one before 1970, which is the first of 1970.
 pub fn first_of_1970() -> Option<SystemTime>
     ensures { result ≡ Some (pos 0) }
 {
     SystemTime::from_parts(-1, 999_999_999)?.checked_add(StdDuration::new(0, 1))
 }
 
-/// Whether nothing is after the last moment, and nothing longer than the longest duration. Nothing is.
+/// Returns `true` if no moment is after the last one, and no duration longer than the longest one.
 pub fn greatest_have_no_next() -> bool
     ensures { result ≡ true }
 {

@@ -1,11 +1,11 @@
-//! What calls of the library lend, used while it is lent. An edit beside this file keeps it for longer, which the borrow checker has to
-//! refuse.
+//! Callers that use what a call borrows while it is borrowed. Each edit in `compile_fail/` keeps it longer, which the borrow checker
+//! refuses.
 
 use humantime::{
     DurationError, FormattedDuration, Rfc3339Timestamp, Span, canonical, parse_duration, spans,
 };
 
-/// The unit of an error, which lives as long as the text.
+/// Returns the unit of an error, which borrows from the text.
 pub fn unit_of(text: &str) -> &str {
     match parse_duration(text) {
         Err(DurationError::UnknownUnit { unit, .. }) => unit,
@@ -13,7 +13,7 @@ pub fn unit_of(text: &str) -> &str {
     }
 }
 
-/// The first span, which lives as long as the text.
+/// Returns the first span, which borrows from the text.
 pub fn first_span(text: &str) -> Option<Span<'_>> {
     match spans(text).next() {
         Some(Ok(span)) => Some(span),
@@ -21,7 +21,7 @@ pub fn first_span(text: &str) -> Option<Span<'_>> {
     }
 }
 
-/// The length of an error's unit, after which the text is dropped.
+/// Returns the length of an error's unit, and then drops the text.
 pub fn length_of_unit(text: String) -> usize {
     let unit = unit_of(&text);
     let length = unit.len();
@@ -29,7 +29,7 @@ pub fn length_of_unit(text: String) -> usize {
     length
 }
 
-/// The length of the first number, after which the text is dropped.
+/// Returns the length of the first number, and then drops the text.
 pub fn length_of_number(text: String) -> usize {
     let Some(span) = first_span(&text) else {
         return 0;
@@ -39,7 +39,7 @@ pub fn length_of_number(text: String) -> usize {
     length
 }
 
-/// The length of a duration's text, after which the buffer is written.
+/// Returns the length of a duration's text, and then writes the buffer.
 pub fn length_of_duration(duration: &FormattedDuration) -> usize {
     let mut buf = [0; 64];
     let printed = duration.text(&mut buf);
@@ -48,7 +48,7 @@ pub fn length_of_duration(duration: &FormattedDuration) -> usize {
     length
 }
 
-/// The length of a timestamp, after which the buffer is written.
+/// Returns the length of a timestamp, and then writes the buffer.
 pub fn length_of_timestamp(stamp: &Rfc3339Timestamp) -> usize {
     let mut buf = [0; 30];
     let Some(stamped) = stamp.text(&mut buf) else {
@@ -59,7 +59,7 @@ pub fn length_of_timestamp(stamp: &Rfc3339Timestamp) -> usize {
     length
 }
 
-/// The length of a canonical text, after which the buffer is written.
+/// Returns the length of a canonical text, and then writes the buffer.
 pub fn length_of_canonical(text: &str) -> usize {
     let mut buf = [0; 64];
     let Ok(written) = canonical(text, &mut buf) else {

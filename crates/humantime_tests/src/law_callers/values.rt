@@ -1,0 +1,55 @@
+//! Callers that use what durations, moments and dates say of themselves.
+
+ghost use Rattle.std.specs.Prelude.{◌≡◌, ◌-◌, ◌*◌, ◌≤◌, ◌≤ℤ◌, ◌+ℤ◌, ◌↔◌, ℕ, List, pos, chars, IsSome, IfSome, IsSomeAnd, Err};
+ghost use Rattle.humantime.specs.Prelude.{Canon, IsDate, UnknownUnit, day_of, duration_answer, nanos_per_second};
+
+use humantime::{
+    Date, Duration, DurationError, StdDuration, SystemTime, Turns, day_number, format_duration,
+};
+
+/// Returns the text of a duration of `micros` microseconds.
+pub fn micros_text(micros: u64, buf: &mut [u8; 64]) -> &str
+    ensures { Canon (micros * 1000) result.now }
+{
+    format_duration(StdDuration::from_micros(micros)).text(buf)
+}
+
+/// Returns the canonical text of 2 hours and 37 minutes, as a literal.
+#[tactic(auto, using(crate::proofs::UsualTexts::two_hours_37_minutes))]
+pub fn default_text() -> &'static str
+    ensures { Canon (9420 * nanos_per_second) result.now }
+{
+    "2h 37m"
+}
+
+/// Returns the time between two moments, whichever is the later one.
+pub fn distance(a: SystemTime, b: SystemTime) -> StdDuration
+    ensures later { b ≤ℤ a → a ≡ b +ℤ pos result }
+    ensures earlier { a ≤ℤ b → b ≡ a +ℤ pos result }
+{
+    match a.duration_since(b) {
+        Ok(time) => time,
+        Err(error) => error.duration(),
+    }
+}
+
+/// Returns the number of days from one date to a later one. It counts no turns.
+pub fn days_between(from: Date, to: Date, turns: &mut Turns) -> Option<u32>
+    ensures within { IsSome result ↔ (IsDate from × IsDate to × (day_of from ≤ day_of to)) }
+    ensures days { IfSome result (λ days. days ≡ day_of to - day_of from) }
+    ensures cost { turns.new ≡ turns.old }
+{
+    let first = day_number(from, turns)?;
+    day_number(to, turns)?.checked_sub(first)
+}
+
+/// Returns the unknown unit of a text, sliced from it at the error's offsets.
+pub fn unknown_unit(text: &str) -> Option<&str>
+    ensures unit { (start : ℕ) (end : ℕ) (unit : List ℕ) (value : ℕ) → duration_answer (chars text.now) ≡ Err (UnknownUnit start end unit value) → IsSomeAnd result (λ found. found.now ≡ unit) }
+    ensures only { IfSome result (λ found. (start : ℕ) × (end : ℕ) × (value : ℕ) × (duration_answer (chars text.now) ≡ Err (UnknownUnit start end found.now value))) }
+{
+    match Duration::from_str(text) {
+        Err(DurationError::UnknownUnit { start, end, .. }) => Some(&text[start..end]),
+        _ => None,
+    }
+}

@@ -1,0 +1,104 @@
+//! The callers of laws and definitions that allocate nothing.
+
+use crate::law_callers::durations::{canonical_form, canonical_twice, decided, sum_of};
+use crate::law_callers::spans::{
+    first_fraction, first_number, first_unit, first_value, split_at_error,
+};
+use crate::law_callers::timestamps::{is_strict, micros_stamp, printed_and_parsed};
+use crate::law_callers::values::{days_between, default_text, distance, micros_text, unknown_unit};
+use crate::tests::{assert_same, date, moment};
+use humantime::DurationError::{NumberExpected, NumberOverflow};
+use humantime::{StdDuration, Turns, UNIX_EPOCH};
+
+#[test]
+fn the_first_span_is_borrowed(rt: HostRuntime) {
+    let numbers = [
+        first_number("1 .5s"),
+        first_number(" 1 2 . 5 0 h"),
+        first_number("2h x"),
+        first_number("x"),
+    ];
+    let wanted = [Some("1"), Some("1 2"), Some("2"), None];
+    assert_same(&rt, numbers, wanted);
+    let fractions = [
+        first_fraction("1 .5s"),
+        first_fraction(" 1 2 . 5 0 h"),
+        first_fraction("2h 1.5s"),
+        first_unit("37min 2s"),
+    ];
+    assert_same(&rt, fractions, [Some("5"), Some("5 0"), None, Some("min")]);
+    let values = [first_value("1 2.5h"), first_value("")];
+    assert_same(&rt, values, [Some(12), None]);
+}
+
+/// Texts, split where their spans stop.
+const SPLIT: &[(&str, &str, &str)] = &[
+    ("2h 37min", "2h 37min", ""),
+    ("2h 37mi", "2h 37", "mi"),
+    ("1,5s", "1", ",5s"),
+    ("2h x", "2h ", "x"),
+    ("1h 20000000000000000000s", "", "1h 20000000000000000000s"),
+    ("", "", ""),
+];
+
+#[test]
+fn texts_are_split_at_their_errors(rt: HostRuntime) {
+    for (text, before, rest) in SPLIT {
+        assert_same(&rt, split_at_error(text), (*before, *rest));
+    }
+    let units = [
+        unknown_unit("10 nights"),
+        unknown_unit("5"),
+        unknown_unit("1h"),
+    ];
+    assert_same(&rt, units, [Some("nights"), Some(""), None]);
+}
+
+#[test]
+fn durations_are_joined_and_printed(rt: HostRuntime) {
+    let half = StdDuration::from_secs(5400);
+    assert_same(&rt, sum_of("1h", "30m", "1h30m"), Ok(half));
+    let most = "18446744073709551615s";
+    let sum = sum_of(most, "1s", "18446744073709551615s1s");
+    assert_same(&rt, sum, Err(NumberOverflow));
+    assert_same(&rt, decided("2 hours  min"), Err(NumberExpected(9)));
+    assert_same(&rt, canonical_form("1.5h", &mut [0; 64]), Ok("1h 30m"));
+    let twice = Some("1h 30m");
+    assert_same(&rt, canonical_twice("90min", &mut [0; 64]), twice);
+    assert_same(&rt, canonical_twice("x", &mut [0; 64]), None);
+    let micros = "1s 123µs";
+    assert_same(&rt, micros_text(1_000_123, &mut [0; 64]), micros);
+    assert_same(&rt, default_text(), "2h 37m");
+}
+
+#[test]
+fn moments_come_back(rt: HostRuntime) {
+    let later = moment(&rt, 1_518_563_312, 456_123_999);
+    let both = Some((Ok(later), Ok(later)));
+    assert_same(&rt, printed_and_parsed(later), both);
+    let before = moment(&rt, -1, 999_999_999);
+    assert_same(&rt, printed_and_parsed(before), None);
+    let stamp = "2018-02-13T23:08:32.456123Z";
+    assert_same(&rt, micros_stamp(later, &mut [0; 30]), Some(stamp));
+    let forms = [
+        is_strict("2018-02-13T23:08:32Z"),
+        is_strict("2018-02-13 23:08:32"),
+    ];
+    assert_same(&rt, forms, [true, false]);
+    let five = StdDuration::from_secs(5);
+    let end = moment(&rt, 5, 0);
+    let apart = [distance(UNIX_EPOCH, end), distance(end, UNIX_EPOCH)];
+    assert_same(&rt, apart, [five, five]);
+}
+
+#[test]
+fn days_between_dates_are_counted(rt: HostRuntime) {
+    let mut turns = Turns::new();
+    let (from, to) = (date(2000, 2, 28), date(2000, 3, 1));
+    let days = [
+        days_between(from, to, &mut turns),
+        days_between(to, from, &mut turns),
+        days_between(from, date(1999, 2, 29), &mut turns),
+    ];
+    assert_same(&rt, days, [Some(2), None, None]);
+}

@@ -1,0 +1,77 @@
+//! The callers that allocate.
+
+use crate::callers::errors::{deadline, message};
+use crate::callers::timestamps::{age_line, stamp_string};
+use crate::law_callers::durations::duration_string;
+use crate::law_callers::timestamps::write_line;
+use crate::tests::{assert_same, moment};
+use humantime::{StdDuration, Timestamp, UNIX_EPOCH, parse_duration};
+use std::alloc::AllocError;
+use std::fmt;
+
+#[test]
+fn stamps_are_written_into_lines(rt: HostRuntime) -> Result<(), AllocError> {
+    let alloc = rt.alloc();
+    let stamp = stamp_string(alloc, UNIX_EPOCH)?;
+    assert_same(&rt, stamp.as_str(), "1970-01-01T00:00:00.000Z");
+    let before = moment(&rt, -1, 0);
+    assert!(rt; stamp_string(alloc, before).is_err());
+    let kept = StdDuration::from_secs(9420);
+    let since = moment(&rt, 1_518_568_087, 0);
+    let line = age_line(alloc, kept, since)?.expect(&rt, "no line");
+    let wanted = "kept 2h 37m since 2018-02-14T00:28:07Z";
+    assert_same(&rt, line.as_str(), wanted);
+    assert!(rt; age_line(alloc, kept, before)?.is_none());
+    Ok(())
+}
+
+#[test]
+fn errors_are_written_into_messages(rt: HostRuntime) -> Result<(), AllocError> {
+    let alloc = rt.alloc();
+    let error = parse_duration("00").err().expect(&rt, "read");
+    let told = message(alloc, "00", &error)?;
+    let wanted = "00: time unit needed, for example 0sec or 0ms";
+    assert_same(&rt, told.as_str(), wanted);
+    let start = deadline("2018-02-14", "1h").err().expect(&rt, "read");
+    let told = format!(in alloc; "{start}")?;
+    let wanted = "start: timestamp format is invalid";
+    assert_same(&rt, told.as_str(), wanted);
+    let limit = deadline("2018-02-14T00:28:07Z", "1h x");
+    let told = format!(in alloc; "{}", limit.err().expect(&rt, "read"))?;
+    assert_same(&rt, told.as_str(), "limit: expected number at 3");
+    let end = deadline("1970-01-01T00:00:00Z", "1.5min").ok().flatten();
+    assert_same(&rt, end, Some(moment(&rt, 90, 0)));
+    Ok(())
+}
+
+/// A line of a log.
+#[derive(Drop)]
+struct Line {
+    at: Timestamp,
+    text: &'static str,
+}
+
+impl fmt::Display for Line {
+    fn fmt<W: fmt::Write>(&self, f: &mut fmt::Formatter<W>) -> fmt::Result {
+        write_line(self.at, self.text, f)
+    }
+}
+
+#[test]
+fn values_are_displayed(rt: HostRuntime) -> Result<(), AllocError> {
+    let alloc = rt.alloc();
+    let minute = duration_string(alloc, StdDuration::from_secs(90))?;
+    assert_same(&rt, minute.as_str(), "1m 30s");
+    let line = Line {
+        at: Timestamp::from(moment(&rt, 1_518_568_087, 0)),
+        text: "started",
+    };
+    let shown = format!(in alloc; "{}", &line)?;
+    assert_same(&rt, shown.as_str(), "2018-02-14T00:28:07Z started");
+    let before = Line {
+        at: Timestamp::from(moment(&rt, -1, 0)),
+        text: "started",
+    };
+    assert!(rt; format!(in alloc; "{}", &before).is_err());
+    Ok(())
+}
