@@ -2,6 +2,7 @@ pub mod CountedDays
 pub mod FirstDigits
 pub mod FirstFaults
 pub mod UsualTexts
+pub mod Kept
 pub mod WorkedCharacters
 pub mod WorkedDays
 pub mod WorkedOlder

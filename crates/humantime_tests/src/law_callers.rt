@@ -3,6 +3,7 @@
 pub mod days;
 pub mod durations;
 pub mod errors;
+pub mod exact;
 pub mod spans;
 pub mod timestamps;
 pub mod values;

@@ -2,8 +2,10 @@
 #![tactic(auto)]
 
 pub mod borrowed;
+pub mod buffers;
 pub mod callers;
 pub mod counted_calendar;
 pub mod law_callers;
 #[cfg(test)]
 mod tests;
+pub mod witnesses;

@@ -18,13 +18,13 @@ use Rattle.humantime.specs.Durations.Counts.{IsCanonicalOf}
 use Rattle.humantime.specs.Durations.Errors.{text_result_view, PointsInto}
 use Rattle.humantime.specs.Durations.Faults.{Fault, HasFault}
 use Rattle.humantime.specs.References.Durations.Answers.{canonical_answer}
-use Rattle.humantime_tests_contracts.proofs.Kept.{last_held, kept_at_fault}
+use Rattle.humantime_tests.proofs.Kept.{last_held, kept_at_fault}
 use Rattle.humantime.specs.contracts.canonical as g
 use Rattle.humantime.proofs.canonical.Met as g-met
-use Rattle.humantime_tests_contracts.specs.contracts.buffers.canonical_over as f
-use Rattle.humantime_tests_contracts.proofs.buffers.canonical_over.Statement.{statement}
-use Rattle.humantime_tests_contracts.proofs.buffers.canonical_over.Code as code
-use Rattle.humantime_tests_contracts.proofs.buffers.canonical_over.Lts as lts
+use Rattle.humantime_tests.specs.contracts.buffers.canonical_over as f
+use Rattle.humantime_tests.proofs.buffers.canonical_over.Statement.{statement}
+use Rattle.humantime_tests.proofs.buffers.canonical_over.Code as code
+use Rattle.humantime_tests.proofs.buffers.canonical_over.Lts as lts
 
 abbrev stayed : Stays f.ended.signature.params f.ended.kept
 stayed = (stay_dropped _ yes, (stay_ref (1 ∷ []) tt (plain (λ _. Array u8 64)), tt))

@@ -13,14 +13,14 @@ use denote.Triple.Walked.{stay_ref, Goes-ref}
 use types.Tokens.{lft_new, lft_end}
 use Rattle.humantime.specs.Buffers.{KeptAtNone}
 use Rattle.humantime.specs.Prelude.{IsPrintable, IsPrinted}
-use Rattle.humantime_tests_contracts.proofs.Kept.{last_held, kept_unless}
+use Rattle.humantime_tests.proofs.Kept.{last_held, kept_unless}
 use Rattle.humantime.specs.contracts.date.print.Rfc3339Timestamp.{the_row as Self}
 use Rattle.humantime.specs.contracts.date.print.Rfc3339Timestamp.text as g
 use Rattle.humantime.proofs.date.print.Rfc3339Timestamp.text.Met as g-met
-use Rattle.humantime_tests_contracts.specs.contracts.buffers.print_over as f
-use Rattle.humantime_tests_contracts.proofs.buffers.print_over.Statement.{statement}
-use Rattle.humantime_tests_contracts.proofs.buffers.print_over.Code as code
-use Rattle.humantime_tests_contracts.proofs.buffers.print_over.Lts as lts
+use Rattle.humantime_tests.specs.contracts.buffers.print_over as f
+use Rattle.humantime_tests.proofs.buffers.print_over.Statement.{statement}
+use Rattle.humantime_tests.proofs.buffers.print_over.Code as code
+use Rattle.humantime_tests.proofs.buffers.print_over.Lts as lts
 
 abbrev stayed : Stays f.ended.signature.params f.ended.kept
 stayed = (stay_dropped _ yes, (stay_ref (1 ∷ []) tt (plain (λ _. Array u8 30)), tt))

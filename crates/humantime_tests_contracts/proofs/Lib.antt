@@ -1,3 +1,0 @@
-pub mod Kept
-pub mod LastDigits
-pub mod UsualTexts
