@@ -38,7 +38,7 @@ pub(crate) fn tell_message<W: fmt::Write, E: Display + Copy>(
 }
 
 /// Writes whether two values are equal, and what is wrong where `!=` or a copy says otherwise.
-pub(crate) fn tell_equal<W: fmt::Write, T: PartialEq + Copy + Drop>(
+pub(crate) fn tell_equal<W: fmt::Write, T: Eq + Copy + Drop>(
     f: &mut Formatter<W>,
     first: Option<T>,
     second: Option<T>,

@@ -128,9 +128,10 @@ pub(crate) fn print<W: fmt::Write>(f: &mut Formatter<W>, numbers: &str) -> fmt::
     if let Some((secs, nanos)) = parts(numbers)
         && let Some(value) = StdDuration::checked_new(secs, nanos)
     {
+        let printed = format_duration(value);
         let mut buf = [0; 64];
-        let text = format_duration(value).text(&mut buf);
-        tell(f, text, is_printed_alike(value, text))
+        let agrees = is_printed_alike(value, printed.text(&mut buf));
+        tell(f, format_args!("\"{printed}\""), agrees)
     } else {
         no_answer(f)
     }
@@ -150,7 +151,8 @@ fn is_printed_alike(value: StdDuration, text: &str) -> bool {
         && is_always_written(&Duration::from(value), text, 1)
 }
 
-/// Whether the duration is printed as this text, whatever stood in the buffer.
+/// Whether the duration is printed as this text, at the front of the buffer, whatever stood there.
 fn is_shown(printed: &FormattedDuration, text: &str) -> bool {
-    printed.text(&mut [b'x'; 64]) == text
+    let mut buf = [b'x'; 64];
+    printed.text(&mut buf) == text && buf.starts_with(text.as_bytes())
 }

@@ -16,7 +16,7 @@ mod std_durations;
 mod system_times;
 mod timestamps;
 
-use crate::row::{Row, unescape};
+pub use crate::row::{Row, unescape};
 use std::io;
 use std::process::ExitCode;
 

@@ -14,6 +14,8 @@ pub(crate) fn is_ordered<T: Ord + Hash + Copy>(first: T, second: T, order: Order
         && (first >= second) != is_less
         && (first == second) == is_equal
         && (first != second) != is_equal
+        && (first.min(second) == first) != order.is_gt()
+        && (first.max(second) == first) != is_less
         && (fed(&first) == fed(&second)) == is_equal
 }
 

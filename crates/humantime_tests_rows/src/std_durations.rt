@@ -53,8 +53,8 @@ fn tell_some<W: fmt::Write>(f: &mut Formatter<W>, value: Option<StdDuration>) ->
 }
 
 fn tell_default<W: fmt::Write>(f: &mut Formatter<W>) -> fmt::Result {
-    let value = StdDuration::default();
-    let is_same = Duration::default() == Duration::new(value);
+    let value: StdDuration = None.unwrap_or_default();
+    let is_same = Duration::new(value) == None.unwrap_or_default();
     tell(f, parts_of(value), is_same)
 }
 
@@ -106,7 +106,8 @@ fn compare<W: fmt::Write>(f: &mut Formatter<W>, numbers: &str) -> fmt::Result {
         return no_answer(f);
     };
     let order = first.cmp(&second);
-    let agrees = is_ordered(first, second, order)
+    let agrees = is_kept(first)
+        && is_ordered(first, second, order)
         && is_ordered(Duration::new(first), Duration::new(second), order);
     tell(f, order, agrees)
 }

@@ -104,7 +104,8 @@ fn compare<W: fmt::Write>(f: &mut Formatter<W>, numbers: &str) -> fmt::Result {
         return no_answer(f);
     };
     let order = first.cmp(&second);
-    let agrees = is_ordered(first, second, order)
+    let agrees = is_kept(first)
+        && is_ordered(first, second, order)
         && is_ordered(Timestamp::from(first), Timestamp::from(second), order);
     tell(f, order, agrees)
 }

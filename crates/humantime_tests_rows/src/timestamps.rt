@@ -73,7 +73,8 @@ pub(crate) fn print<W: fmt::Write>(f: &mut Formatter<W>, call: &str, numbers: &s
             Some(text) => {
                 let is_alike = is_always_written(&printable, text, 1)
                     && (!matches!(call, "shortest") || is_shortest(moment, text));
-                tell(f, Some(text), is_same && is_alike)
+                let printed = format_args!("Some(\"{printable}\")");
+                tell(f, printed, is_same && is_alike)
             }
             None => {
                 let asks = refused_requests(&printable) > 0
