@@ -1,4 +1,4 @@
-//! Memory: no call allocates, and what is printed into memory may be refused it.
+//! Memory: no call allocates, and printing into memory may be refused it.
 
 use crate::support::{assert_nothing_allocated, assert_same, refuse_memory};
 use humantime::{StdDuration, UNIX_EPOCH};
@@ -70,8 +70,8 @@ fn printed<'a, D: Display>(
     }
 }
 
-/// The value is printed as this text where all is granted that printing allocates. Where the last of it is refused, that is the
-/// end.
+/// The value is printed as this text where each allocation is granted. Where one is refused, this is the error, and nothing is
+/// allocated after it.
 fn assert_printed<D: Display>(
     rt: &(impl Abort + AllocGlobal),
     value: &D,
@@ -97,7 +97,7 @@ fn assert_printed<D: Display>(
     panic!(rt; "{wanted} is not printed");
 }
 
-/// Takes all memory up to what is refused: then nothing more is, but by `Refusing`.
+/// Allocates up to the allocation that is refused. Those after it are granted.
 fn pass_refusal(rt: &(impl Abort + AllocGlobal)) {
     refuse_memory(rt, 0);
     assert_nothing_allocated(rt);

@@ -16,6 +16,7 @@ mod std_durations;
 mod system_times;
 mod timestamps;
 
+// Tests take these modules as a library.
 pub use crate::row::{Row, unescape};
 use std::io;
 use std::process::ExitCode;
@@ -28,10 +29,14 @@ fn main(rt: HostRuntime) -> io::Result<ExitCode> {
         if line.is_empty() || line.starts_with('#') {
             continue;
         }
+        let (text, is_wrong) = match line.strip_prefix("wrong: ") {
+            Some(text) => (text, true),
+            None => (line, false),
+        };
         room.clear();
-        unescape(line.strip_prefix("wrong: ").unwrap_or(line), &mut room)?;
+        unescape(text, &mut room)?;
         let row = Row::new(room.as_str());
-        match (row.holds(), line.starts_with("wrong: ")) {
+        match (row.holds(), is_wrong) {
             (true, false) => holds = holds.saturating_add(1),
             (false, true) => {
                 println!(rt; "{line}; the answer is {row}")?;

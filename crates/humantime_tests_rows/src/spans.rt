@@ -4,18 +4,18 @@ use crate::answer::tell;
 use humantime::{Span, spans};
 use std::fmt::{self, Formatter, Write};
 
-/// What a span lends: its number, its fraction and its unit; then its offsets and its value.
-type Lent<'a> = (&'a str, Option<&'a str>, &'a str, usize, usize, u64);
+/// A span's number, fraction and unit; then its offsets and its value.
+type Parts<'a> = (&'a str, Option<&'a str>, &'a str, usize, usize, u64);
 
-/// Writes each item of the text, and what three more calls give after the last one.
+/// Writes each item of the text, and what three more calls answer after the last one.
 pub(crate) fn split<W: fmt::Write>(f: &mut Formatter<W>, text: &str) -> fmt::Result {
     let mut items = spans(text);
     for item in items.by_ref() {
         match item {
             Ok(span) => {
                 let copy = span;
-                let agrees = lent(copy) == lent(span);
-                tell(f, Ok::<_, ()>(lent(span)), agrees)?;
+                let agrees = parts_of(copy) == parts_of(span);
+                tell(f, Ok::<_, ()>(parts_of(span)), agrees)?;
             }
             Err(error) => tell(f, Err::<(), _>(error), true)?,
         }
@@ -25,7 +25,7 @@ pub(crate) fn split<W: fmt::Write>(f: &mut Formatter<W>, text: &str) -> fmt::Res
     write!(f, "{first:?}, {second:?}, {third:?}")
 }
 
-fn lent<'a>(span: Span<'a>) -> Lent<'a> {
+fn parts_of<'a>(span: Span<'a>) -> Parts<'a> {
     let (start, end, value) = (span.start(), span.end(), span.value());
     let (number, fraction, unit) = (span.number(), span.fraction(), span.unit());
     (number, fraction, unit, start, end, value)
