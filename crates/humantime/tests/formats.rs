@@ -1,6 +1,6 @@
 //! Widths, precisions and fills, which change nothing.
 
-use crate::support::assert_same;
+use crate::support::{assert_nothing_allocated, assert_same, refuse_memory};
 use humantime::{
     Duration, DurationError, StdDuration, Timestamp, TimestampError, UNIX_EPOCH, format_duration,
     format_rfc3339,
@@ -46,6 +46,7 @@ fn misprinted_error<E: Error>(error: &E, message: &str) -> Option<usize> {
 
 #[test]
 fn no_width_and_no_precision_changes_anything(rt: HostRuntime) {
+    refuse_memory(&rt, 0);
     let (value, duration) = (StdDuration::from_secs(1_296_122), "15days 2m 2s");
     let (moment, stamp) = (UNIX_EPOCH, "1970-01-01T00:00:00Z");
     assert_same(
@@ -63,4 +64,5 @@ fn no_width_and_no_precision_changes_anything(rt: HostRuntime) {
         ],
         [None; 6],
     );
+    assert_nothing_allocated(&rt);
 }

@@ -1,27 +1,136 @@
-//! The only test that takes memory: its own.
+//! Memory: no call allocates, and printing into memory may be refused it.
 
-use crate::support::assert_same;
-use humantime::{Duration, DurationError, StdDuration, parse_duration};
-use std::alloc::{AllocError, Global};
+use crate::support::{assert_nothing_allocated, assert_same, refuse_memory};
+use humantime::{StdDuration, UNIX_EPOCH};
+use humantime_examples::option::timeout;
+use humantime_examples::report;
+use humantime_examples::settings::read_line;
+use humantime_tests_rows::{Row, TABLE, unescape};
+use std::alloc::{AllocError, Allocator, Global};
+use std::cell::Cell;
+use std::fmt::Display;
 use std::process::Abort;
 
-/// A text that was put together is read, and a duration and an error are printed into memory.
-fn assert_strings(rt: &impl Abort, alloc: Global) -> Result<(), AllocError> {
-    let mut text = String::new(alloc);
-    text.push_str("1h 30m")?;
-    text.push_str(" 30s 20ms 10us 5ns")?;
-    let read = Ok(StdDuration::new(5430, 20_010_005));
-    assert_same(rt, parse_duration(text.as_str()), read);
-    let duration = Duration::new(StdDuration::from_secs(9420));
-    let printed = format!(in alloc; "kept {duration}")?;
-    assert_same(rt, printed.as_str(), "kept 2h 37m");
-    let error = DurationError::NumberExpected(3);
-    let told = format!(in alloc; "2h x: {error}")?;
-    assert_same(rt, told.as_str(), "2h x: expected number at 3");
-    Ok(())
+/// Memory that grants so many allocations and refuses each one after them.
+struct Refusing {
+    memory: Global,
+    granted: Cell<u32>,
+    refused: Cell<u32>,
+}
+
+impl Drop for Refusing {
+    fn drop(self) {
+        let Self {
+            memory: _,
+            granted: _,
+            refused: _,
+        } = self;
+    }
+}
+
+unsafe impl Allocator for Refusing {
+    ghost dealloc_token = { λ heap ty ptr. Global.dealloc_token heap.memory ty ptr };
+
+    fn allocate(&self, size: usize, align: usize) -> Result<*mut u8, AllocError> {
+        let Some(left) = self.granted.get().checked_sub(1) else {
+            self.refused.set(self.refused.get() + 1);
+            return Err(AllocError);
+        };
+        self.granted.set(left);
+        self.memory.allocate(size, align)
+    }
+
+    unsafe fn deallocate(&self, ptr: *mut u8, size: usize, align: usize) {
+        self.memory.deallocate(ptr, size, align);
+    }
 }
 
 #[test]
-fn a_caller_takes_memory(rt: HostRuntime) {
-    assert_strings(&rt, rt.alloc()).expect(&rt, "no memory");
+fn rows_hold_where_memory_is_refused(rt: HostRuntime) {
+    let mut room = String::with_capacity(rt.alloc(), TABLE.len()).expect(&rt, "no memory");
+    refuse_memory(&rt, 1);
+    for line in TABLE.lines() {
+        room.clear();
+        unescape(line, &mut room).expect(&rt, "the room is too small");
+        assert!(rt; Row::new(room.as_str()).holds(), "{line}");
+    }
+    assert_nothing_allocated(&rt);
+}
+
+/// The value as a text, or as the end of one.
+fn printed<'a, D: Display>(
+    memory: &'a Refusing,
+    value: &D,
+    is_end: bool,
+) -> Result<String<&'a Refusing>, AllocError> {
+    if is_end {
+        format!(in memory; "kept {value}")
+    } else {
+        value.to_string(memory)
+    }
+}
+
+/// The value is printed as this text where each allocation is granted. Where one is refused, this is the error, and nothing is
+/// allocated after it.
+fn assert_printed<D: Display>(
+    rt: &(impl Abort + AllocGlobal),
+    value: &D,
+    is_end: bool,
+    wanted: &str,
+) {
+    for granted in 0..100 {
+        let memory = Refusing {
+            memory: rt.alloc(),
+            granted: Cell::new(granted),
+            refused: Cell::new(0),
+        };
+        let text = printed(&memory, value, is_end);
+        let refused = memory.refused.get();
+        if let Ok(text) = text {
+            let answer = text.as_str().strip_prefix(if is_end { "kept " } else { "" });
+            assert_same(rt, (answer, refused), (Some(wanted), 0));
+            assert!(rt; granted > 0, "nothing was allocated for {wanted}");
+            return;
+        }
+        assert_same(rt, (wanted, refused), (wanted, 1));
+    }
+    panic!(rt; "{wanted} is not printed");
+}
+
+/// Allocates up to the allocation that is refused. Those after it are granted.
+fn pass_refusal(rt: &(impl Abort + AllocGlobal)) {
+    refuse_memory(rt, 0);
+    assert_nothing_allocated(rt);
+}
+
+#[test]
+fn answers_are_printed_into_memory_or_it_is_refused(rt: HostRuntime) {
+    pass_refusal(&rt);
+    let mut room = String::new(rt.alloc());
+    for line in TABLE.lines() {
+        room.clear();
+        unescape(line, &mut room).expect(&rt, "no memory");
+        let (_, wanted) = room.as_str().rsplit_once(" = ").unwrap_or_default();
+        let row = Row::new(room.as_str());
+        assert_printed(&rt, &row, false, wanted);
+        assert_printed(&rt, &row, true, wanted);
+    }
+}
+
+#[test]
+fn what_programs_print_is_printed_into_memory_or_it_is_refused(rt: HostRuntime) {
+    pass_refusal(&rt);
+    let row = report::Row {
+        start: UNIX_EPOCH,
+        took: StdDuration::from_micros(90_000_012),
+        limit: StdDuration::from_secs(7200),
+    };
+    let text = "1970-01-01T00:00:00.000Z  1m 30s 12µs of 2h";
+    assert_printed(&rt, &row, false, text);
+    let error = timeout(&["--timeout=7"]).err().expect(&rt, "no error");
+    let text = "--timeout=7: time unit needed, for example 7sec or 7ms";
+    assert_printed(&rt, &error, false, text);
+    let error = read_line("timeout = 5µs x").err().expect(&rt, "no error");
+    let text = "timeout: expected number at 15\ntimeout = 5µs x\n              ^";
+    assert_printed(&rt, &error, false, text);
 }

@@ -1,41 +1,58 @@
-//! Answers as texts.
+//! How answers are written, and numbers are read.
 
 use crate::display::is_always_written;
-use std::alloc::{AllocError, Global};
-use std::fmt::{Debug, Display};
+use std::fmt::{self, Debug, Display, Formatter, Write};
 use std::str::FromStr;
 
-/// A value as `{:?}` writes it, and what is wrong where not all other calls and formats agree to it.
-pub(crate) fn tell<T: Debug + Drop>(
-    alloc: Global,
+/// Writes a value as `{:?}` does, and what is wrong where not all other calls and formats agree to it.
+pub(crate) fn tell<W: fmt::Write, T: Debug + Drop>(
+    f: &mut Formatter<W>,
     value: T,
     agrees: bool,
-) -> Result<String, AllocError> {
+) -> fmt::Result {
     let note = if agrees {
         ""
     } else {
         ", but not by each call and format"
     };
-    format!(in alloc; "{value:?}{note}")
+    write!(f, "{value:?}{note}")
 }
 
-/// The answer where there is none: the name of the call or its numbers cannot be read, or the text has no error.
-pub(crate) fn no_answer(alloc: Global) -> Result<String, AllocError> {
-    tell(alloc, "no answer", true)
+/// Writes that there is no answer: the name of the call or its numbers cannot be read, or the text has no error.
+pub(crate) fn no_answer<W: fmt::Write>(f: &mut Formatter<W>) -> fmt::Result {
+    f.write_str("no answer")
 }
 
-/// An error's message, and what is wrong where some format makes it another than is wanted, or it takes more requests.
-pub(crate) fn explain<E: Display + Copy>(
-    alloc: Global,
+/// Writes an error's message, and what is wrong where some format makes it another than is wanted, or it takes more requests.
+pub(crate) fn tell_message<W: fmt::Write, E: Display + Copy>(
+    f: &mut Formatter<W>,
     error: Option<E>,
     wanted: &str,
     most: u32,
-) -> Result<String, AllocError> {
+) -> fmt::Result {
     let Some(error) = error else {
-        return no_answer(alloc);
+        return no_answer(f);
     };
     let agrees = is_always_written(&error, wanted, most);
-    tell(alloc, format_args!("{error}"), agrees)
+    tell(f, format_args!("{error}"), agrees)
+}
+
+/// Writes whether two values are equal, and what is wrong where `!=` or a copy says otherwise.
+pub(crate) fn tell_equal<W: fmt::Write, T: Eq + Copy + Drop>(
+    f: &mut Formatter<W>,
+    first: Option<T>,
+    second: Option<T>,
+) -> fmt::Result {
+    let Some((first, second)) = first.zip(second) else {
+        return no_answer(f);
+    };
+    let is_equal = first == second;
+    let (copy, other) = (first, second);
+    let agrees = (second == first) == is_equal
+        && (copy != other) != is_equal
+        && copy == first
+        && other == second;
+    tell(f, is_equal, agrees)
 }
 
 /// Two numbers with a space between them.
@@ -45,4 +62,18 @@ where
 {
     let (first, second) = text.split_once(' ').unwrap_or_default();
     first.parse().ok().zip(second.parse().ok())
+}
+
+/// Four numbers with spaces between them, as two pairs.
+pub(crate) fn two_parts<A: FromStr + Drop, B: FromStr + Drop>(
+    text: &str,
+) -> Option<((A, u32), (B, u32))>
+where
+    A::Err: Drop,
+    B::Err: Drop,
+{
+    let (secs, rest) = text.split_once(' ')?;
+    let (nanos, rest) = rest.split_once(' ')?;
+    let first = secs.parse().ok().zip(nanos.parse().ok());
+    first.zip(parts(rest))
 }

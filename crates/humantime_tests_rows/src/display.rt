@@ -23,7 +23,7 @@ impl fmt::Write for Wanted<'_> {
 }
 
 /// Whether the value is written as this text, in so many requests at most.
-fn is_written<D: Display + Drop>(value: D, text: &str, most: u32) -> bool {
+pub(crate) fn is_written<D: Display + Drop>(value: D, text: &str, most: u32) -> bool {
     let mut sink = Wanted {
         rest: Some(text.as_bytes()),
         requests: 0,

@@ -1,36 +1,54 @@
 //! Rows of a table, each with a call and what it answers: the library is asked for each answer.
 //!
 //! Standard input has a row a line, as `duration "2h 37min" = Ok((9420, 0))`; empty lines, and those that begin with `#`, are
-//! none. Each row that does not hold is printed with the answer that came, and the last line says how many hold.
+//! none. A row after `wrong: ` is wrong on purpose: it has to differ, and is printed with the answer, which shows that rows are
+//! compared. Each other row that differs is printed too, and so is a wrong one that does not. The last line counts them all.
 #![tactic(auto)]
 
 mod answer;
 mod display;
 mod durations;
+mod minding;
+mod order;
 mod row;
+mod spans;
+mod std_durations;
+mod system_times;
 mod timestamps;
 
-use crate::row::judge;
+// Tests take these modules as a library.
+pub use crate::row::{Row, unescape};
 use std::io;
 use std::process::ExitCode;
 
 fn main(rt: HostRuntime) -> io::Result<ExitCode> {
     let rows = io::read_to_string(rt.alloc(), rt.stdin())?;
-    let mut holds = 0_u64;
-    let mut differs = 0_u64;
+    let mut room = String::new(rt.alloc());
+    let (mut holds, mut differs, mut found) = (0_u64, 0_u64, 0_u64);
     for line in rows.as_str().lines() {
         if line.is_empty() || line.starts_with('#') {
             continue;
         }
-        match judge(rt.alloc(), line) {
-            Ok(()) => holds = holds.saturating_add(1),
-            Err(answer) => {
-                println!(rt; "{line}, but the answer is {answer}")?;
+        let (text, is_wrong) = match line.strip_prefix("wrong: ") {
+            Some(text) => (text, true),
+            None => (line, false),
+        };
+        room.clear();
+        unescape(text, &mut room)?;
+        let row = Row::new(room.as_str());
+        match (row.holds(), is_wrong) {
+            (true, false) => holds = holds.saturating_add(1),
+            (false, true) => {
+                println!(rt; "{line}; the answer is {row}")?;
+                found = found.saturating_add(1);
+            }
+            _ => {
+                println!(rt; "{line}, but the answer is {row}")?;
                 differs = differs.saturating_add(1);
             }
         }
     }
     let status = ExitCode::from(u8::from(differs > 0));
-    println!(rt; "{holds} rows hold, {differs} do not")?;
+    println!(rt; "{holds} rows hold, {differs} do not, {found} wrong ones differ")?;
     Ok(status)
 }

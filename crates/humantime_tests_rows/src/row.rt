@@ -1,28 +1,75 @@
 //! A row: its call, what is called with, and its answer.
 
-use crate::answer::{explain, tell};
-use crate::timestamps::parts_of;
-use crate::{durations, timestamps};
-use humantime::{canonical, parse_duration, parse_rfc3339, parse_rfc3339_weak};
-use std::alloc::{AllocError, Global};
+use crate::display::is_written;
+use crate::minding::mind;
+use crate::{durations, spans, std_durations, system_times, timestamps};
+use std::alloc::AllocError;
+use std::fmt::{self, Display, Formatter, Write};
 
-/// Whether the row holds. If not, this is the answer that came, which is empty where memory ran out.
-pub(crate) fn judge(alloc: Global, line: &str) -> Result<(), String> {
-    let mut row = String::new(alloc);
-    let unescaped = unescape(line, &mut row);
-    let (head, wanted) = row.as_str().rsplit_once(" = ").unwrap_or_default();
-    let Ok(answer) = answer(alloc, head, wanted) else {
-        return Err(String::new(alloc));
-    };
-    if unescaped.is_ok() && answer.as_str() == wanted {
-        Ok(())
-    } else {
-        Err(answer)
+/// A row. It is written as the answer that the library gives to its call.
+#[derive(Clone, Copy)]
+pub struct Row<'a> {
+    call: &'a str,
+    /// What is called with.
+    rest: &'a str,
+    /// The answer that the row says.
+    wanted: &'a str,
+}
+
+impl<'a> Row<'a> {
+    /// The row of a line.
+    pub fn new(line: &'a str) -> Row<'a> {
+        let (head, wanted) = line.rsplit_once(" = ").unwrap_or_default();
+        let (call, rest) = head.split_once(' ').unwrap_or((head, ""));
+        Row { call, rest, wanted }
+    }
+
+    /// Whether the library answers as the row says.
+    pub fn holds(self) -> bool {
+        is_written(self, self.wanted, u32::MAX)
+    }
+
+    /// The text between quotes that is called with.
+    fn text(self) -> &'a str {
+        let end = self.rest.len().saturating_sub(1);
+        self.rest.get(1..end).unwrap_or_default()
+    }
+}
+
+impl Display for Row<'_> {
+    fn fmt<W: fmt::Write>(&self, f: &mut Formatter<W>) -> fmt::Result {
+        let Row { call, rest, wanted } = *self;
+        let text = self.text();
+        match call {
+            "duration" => durations::read(f, text),
+            "canonical" => durations::print_again(f, text),
+            "message" => durations::explain(f, text, wanted),
+            "misplaced" => durations::misplace(f, rest, wanted),
+            "print" => durations::print(f, rest),
+            "spans" => spans::split(f, text),
+            "strict" => timestamps::read_strictly(f, text),
+            "weak" => timestamps::read_weakly(f, text),
+            "refusal" => timestamps::explain(f, text, wanted),
+            "day" => timestamps::number_day(f, rest),
+            "date" => timestamps::date_day(f, rest),
+            "Date::eq" => timestamps::compare_dates(f, rest),
+            "DurationError::eq" => durations::compare_errors(f, text),
+            "TimestampError::eq" => timestamps::compare_errors(f, text),
+            "Duration::from_str" => durations::wrap(f, text),
+            "Timestamp::from_str" => timestamps::wrap(f, text),
+            "minding" => mind(f, rest),
+            "UNIX_EPOCH" => system_times::answer(f, call, rest),
+            _ => match call.split_once("::") {
+                Some(("StdDuration", name)) => std_durations::answer(f, name, rest),
+                Some((_, name)) => system_times::answer(f, name, rest),
+                None => timestamps::print(f, call, rest),
+            },
+        }
     }
 }
 
 /// Writes the text with each `\u{HEX}` replaced by the character of that number, up to one that names no character.
-fn unescape(text: &str, out: &mut String) -> Result<(), AllocError> {
+pub fn unescape(text: &str, out: &mut String) -> Result<(), AllocError> {
     let mut rest = text;
     for _ in 0..text.len() {
         if let Some((before, behind)) = rest.split_once("\\u{")
@@ -37,25 +84,4 @@ fn unescape(text: &str, out: &mut String) -> Result<(), AllocError> {
         }
     }
     out.push_str(rest)
-}
-
-/// The library's answer to a row's call.
-fn answer(alloc: Global, head: &str, wanted: &str) -> Result<String, AllocError> {
-    let (call, rest) = head.split_once(' ').unwrap_or_default();
-    let text = rest
-        .get(1..rest.len().saturating_sub(1))
-        .unwrap_or_default();
-    match call {
-        "duration" => durations::read(alloc, text),
-        "canonical" => tell(alloc, canonical(text, &mut [0; 64]), true),
-        "message" => explain(alloc, parse_duration(text).err(), wanted, u32::MAX),
-        "misplaced" => durations::misplace(alloc, rest, wanted),
-        "print" => durations::print(alloc, rest),
-        "strict" => tell(alloc, parts_of(parse_rfc3339(text)), true),
-        "weak" => timestamps::read_weakly(alloc, text),
-        "refusal" => explain(alloc, parse_rfc3339_weak(text).err(), wanted, 1),
-        "day" => timestamps::number_day(alloc, rest),
-        "date" => timestamps::date_day(alloc, rest),
-        _ => timestamps::print(alloc, call, rest),
-    }
 }

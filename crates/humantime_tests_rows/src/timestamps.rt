@@ -1,37 +1,68 @@
 //! What the library answers to calls about timestamps and days.
 
-use crate::answer::{no_answer, parts, tell};
+use crate::answer::{no_answer, parts, tell, tell_equal, tell_message};
 use crate::display::{is_always_written, refused_requests};
 use humantime::{
     Date, Rfc3339Timestamp, SystemTime, Timestamp, TimestampError, Turns, date_of_day, day_number,
     format_rfc3339, format_rfc3339_micros, format_rfc3339_millis, format_rfc3339_nanos,
     format_rfc3339_seconds, parse_rfc3339, parse_rfc3339_weak,
 };
-use std::alloc::{AllocError, Global};
+use std::fmt::{self, Formatter, Write};
 
-/// Seconds and nanoseconds of the text in weak form, or the error.
-pub(crate) fn read_weakly(alloc: Global, text: &str) -> Result<String, AllocError> {
+/// Writes seconds and nanoseconds of the text in strict form, or the error.
+pub(crate) fn read_strictly<W: fmt::Write>(f: &mut Formatter<W>, text: &str) -> fmt::Result {
+    tell(f, parts_of(parse_rfc3339(text)), true)
+}
+
+/// Writes seconds and nanoseconds of the text in weak form, or the error.
+pub(crate) fn read_weakly<W: fmt::Write>(f: &mut Formatter<W>, text: &str) -> fmt::Result {
     let read = parse_rfc3339_weak(text);
     let wrapped: Result<Timestamp, TimestampError> = text.parse();
     let same = match wrapped {
         Ok(wrapper) => Ok(SystemTime::from(wrapper)),
         Err(error) => Err(error),
     };
-    tell(alloc, parts_of(read), same == read)
+    tell(f, parts_of(read), same == read)
+}
+
+/// Writes what the wrapper holds that the text is read as, and its text; or the error.
+pub(crate) fn wrap<W: fmt::Write>(f: &mut Formatter<W>, text: &str) -> fmt::Result {
+    let wrapped: Result<Timestamp, TimestampError> = text.parse();
+    match wrapped {
+        Ok(wrapper) => {
+            let parts = parts_of(Ok(*wrapper.as_ref()));
+            write!(f, "{parts:?}, {wrapper}")
+        }
+        Err(error) => tell(f, Err::<(), _>(error), true),
+    }
 }
 
 /// Seconds and nanoseconds of what was read.
-pub(crate) fn parts_of(
-    read: Result<SystemTime, TimestampError>,
-) -> Result<(i64, u32), TimestampError> {
+fn parts_of(read: Result<SystemTime, TimestampError>) -> Result<(i64, u32), TimestampError> {
     match read {
         Ok(moment) => Ok((moment.unix_seconds(), moment.subsec_nanos())),
         Err(error) => Err(error),
     }
 }
 
-/// What a moment of so many seconds and nanoseconds is printed as by the call of this name.
-pub(crate) fn print(alloc: Global, call: &str, numbers: &str) -> Result<String, AllocError> {
+/// Writes the message of the text's error.
+pub(crate) fn explain<W: fmt::Write>(
+    f: &mut Formatter<W>,
+    text: &str,
+    wanted: &str,
+) -> fmt::Result {
+    tell_message(f, parse_rfc3339_weak(text).err(), wanted, 1)
+}
+
+/// Writes whether the errors of two texts are equal.
+pub(crate) fn compare_errors<W: fmt::Write>(f: &mut Formatter<W>, texts: &str) -> fmt::Result {
+    let (first, second) = texts.split_once("\" \"").unwrap_or_default();
+    let first = parse_rfc3339_weak(first).err();
+    tell_equal(f, first, parse_rfc3339_weak(second).err())
+}
+
+/// Writes what a moment of so many seconds and nanoseconds is printed as by the call of this name.
+pub(crate) fn print<W: fmt::Write>(f: &mut Formatter<W>, call: &str, numbers: &str) -> fmt::Result {
     if let Some((secs, nanos)) = parts(numbers)
         && let Some(moment) = SystemTime::from_parts(secs, nanos)
         && let Some(printable) = called(call, moment)
@@ -42,16 +73,17 @@ pub(crate) fn print(alloc: Global, call: &str, numbers: &str) -> Result<String, 
             Some(text) => {
                 let is_alike = is_always_written(&printable, text, 1)
                     && (!matches!(call, "shortest") || is_shortest(moment, text));
-                tell(alloc, Some(text), is_same && is_alike)
+                let printed = format_args!("Some(\"{printable}\")");
+                tell(f, printed, is_same && is_alike)
             }
             None => {
                 let asks = refused_requests(&printable) > 0
                     || refused_requests(&Timestamp::from(moment)) > 0;
-                tell(alloc, None::<&str>, is_same && !asks && buf == [b'-'; 30])
+                tell(f, None::<&str>, is_same && !asks && buf == [b'-'; 30])
             }
         }
     } else {
-        no_answer(alloc)
+        no_answer(f)
     }
 }
 
@@ -72,27 +104,33 @@ fn is_shortest(moment: SystemTime, text: &str) -> bool {
     is_always_written(&Timestamp::from(moment), text, 1) && parse_rfc3339(text) == Ok(moment)
 }
 
-/// The number of a day, whose date the calendar may not have.
-pub(crate) fn number_day(alloc: Global, numbers: &str) -> Result<String, AllocError> {
+/// Writes the number of a day, whose date the calendar may not have.
+pub(crate) fn number_day<W: fmt::Write>(f: &mut Formatter<W>, numbers: &str) -> fmt::Result {
     let (year, rest) = numbers.split_once(' ').unwrap_or_default();
     let Some((year, (month, day))) = year.parse().ok().zip(parts(rest)) else {
-        return no_answer(alloc);
+        return no_answer(f);
     };
-    tell(
-        alloc,
-        day_number(Date { year, month, day }, &mut Turns::new()),
-        true,
-    )
+    let number = day_number(Date { year, month, day }, &mut Turns::new());
+    tell(f, number, true)
 }
 
-/// The date of the day of this number.
-pub(crate) fn date_day(alloc: Global, number: &str) -> Result<String, AllocError> {
+/// Writes the date of the day of this number.
+pub(crate) fn date_day<W: fmt::Write>(f: &mut Formatter<W>, number: &str) -> fmt::Result {
     let Ok(number) = number.parse() else {
-        return no_answer(alloc);
+        return no_answer(f);
     };
     let date = match date_of_day(number, &mut Turns::new()) {
         Some(date) => Some((date.year, date.month, date.day)),
         None => None,
     };
-    tell(alloc, date, true)
+    tell(f, date, true)
+}
+
+/// Writes whether the dates of the days of two numbers are equal.
+pub(crate) fn compare_dates<W: fmt::Write>(f: &mut Formatter<W>, numbers: &str) -> fmt::Result {
+    let Some((first, second)) = parts(numbers) else {
+        return no_answer(f);
+    };
+    let first = date_of_day(first, &mut Turns::new());
+    tell_equal(f, first, date_of_day(second, &mut Turns::new()))
 }

@@ -1,0 +1,32 @@
+//! What the library answers to `spans`.
+
+use crate::answer::tell;
+use humantime::{Span, spans};
+use std::fmt::{self, Formatter, Write};
+
+/// A span's number, fraction and unit; then its offsets and its value.
+type Parts<'a> = (&'a str, Option<&'a str>, &'a str, usize, usize, u64);
+
+/// Writes each item of the text, and what three more calls answer after the last one.
+pub(crate) fn split<W: fmt::Write>(f: &mut Formatter<W>, text: &str) -> fmt::Result {
+    let mut items = spans(text);
+    for item in items.by_ref() {
+        match item {
+            Ok(span) => {
+                let copy = span;
+                let agrees = parts_of(copy) == parts_of(span);
+                tell(f, Ok::<_, ()>(parts_of(span)), agrees)?;
+            }
+            Err(error) => tell(f, Err::<(), _>(error), true)?,
+        }
+        f.write_str(", ")?;
+    }
+    let (first, second, third) = (items.next(), items.next(), items.next());
+    write!(f, "{first:?}, {second:?}, {third:?}")
+}
+
+fn parts_of<'a>(span: Span<'a>) -> Parts<'a> {
+    let (start, end, value) = (span.start(), span.end(), span.value());
+    let (number, fraction, unit) = (span.number(), span.fraction(), span.unit());
+    (number, fraction, unit, start, end, value)
+}
