@@ -1,8 +1,7 @@
 -- What was accepted while trailing zeros of a fraction counted, by computation: the rule had its limits at 19 digits and at the greatest
 -- number, and not below.
-use Rattle.std.proofs.Common.{◌≡◌, ℕ, List, refl, Some, None, arith}
+use Rattle.std.proofs.Common.{refl, Some, None, arith}
 use Rattle.std.specs.Prelude.{codes}
-use Rattle.humantime.specs.Durations.Spans.{Span}
 use Rattle.humantime.specs.Laws.Older.{OlderFormed}
 use Rattle.humantime.proofs.OnLiterals.{humantime_on_literals}
 
