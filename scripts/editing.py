@@ -210,9 +210,12 @@ def failed_program(top):
     return ("test", ran.stdout.partition("\n")[0]) if ran.returncode else None
 
 
+def failed_program_test(top):
+    """What the program's tests say where one fails, run without any proof."""
+    return said_wrong(rt(top, PROGRAM, "try", "--test"), r"^test .* FAILED$")
+
+
 def judged_by_tests(top, changed):
-    """What the first of these says that fails: rows and tests, but of the program alone scripts/program."""
-    found = None
-    if changed != PROGRAM:
-        found = failed_rows(top) or failed_test(top)
+    """What the first of these says that fails: rows and tests, but of the program alone its tests; and then scripts/program."""
+    found = failed_program_test(top) if changed == PROGRAM else failed_rows(top) or failed_test(top)
     return found or failed_program(top) or ("NOTHING", "rows, tests and scripts/program pass")

@@ -11,8 +11,8 @@ import re
 from editing import ROOT, Edit
 
 CRATES = ["humantime", "humantime_cli"]
-LEFT_OUT = "src/laws"  # whose bodies do nothing
-UNPROVED = ("main::main", "main::FAILED")  # which scripts/program tries
+LEFT_OUT = ("src/laws", "src/command/tests", "src/tests")  # laws, whose bodies do nothing, and tests
+UNPROVED = ("main::main", "main::answer", "main::FAILED")  # which scripts/program tries
 TOKEN = re.compile(r"""//[^\n]*|b?"(?:\\.|[^"\\])*"|b?'(?:\\.[^']*|[^'\\\n])'|'\w+|\w+|\.\.=|&&|\|\||->|=>|::|\.\.|[<>=!+*/%&|-]=|\S""", re.S)
 NUMBER = re.compile(r"(0x[0-9a-f]+|\d[\d_]*?)(_?[iu](?:8|16|32|64|128|size))?$")
 FUNCTION = re.compile(r"^( *)(?:pub(?:\(\w+\))? )?(?:unsafe )?fn (\w+)", re.M)
