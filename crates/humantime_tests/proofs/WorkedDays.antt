@@ -57,9 +57,12 @@ common_lengths = refl
 leap_lengths : map (days_in_month 1972) months ≡ 31 ∷ 29 ∷ 31 ∷ 30 ∷ 31 ∷ 30 ∷ 31 ∷ 31 ∷ 30 ∷ 31 ∷ 30 ∷ 31 ∷ []
 leap_lengths = refl
 
--- the last day of February in a year that 100 divides, and 400
-centuries : map (λ y. days_in_month y 2) (2000 ∷ 2100 ∷ 2200 ∷ 2300 ∷ 2400 ∷ []) ≡ 29 ∷ 28 ∷ 28 ∷ 28 ∷ 29 ∷ []
+-- the last day of February in years that 100 divides, and in those that 400 divides
+centuries : map (λ y. days_in_month y 2) (2100 ∷ 2200 ∷ 2300 ∷ 2500 ∷ 5000 ∷ 9900 ∷ []) ≡ 28 ∷ 28 ∷ 28 ∷ 28 ∷ 28 ∷ 28 ∷ []
 centuries = refl
+
+fourth_centuries : map (λ y. days_in_month y 2) (2000 ∷ 2400 ∷ 2800 ∷ 3200 ∷ 3600 ∷ 4000 ∷ 8000 ∷ 9600 ∷ []) ≡ 29 ∷ 29 ∷ 29 ∷ 29 ∷ 29 ∷ 29 ∷ 29 ∷ 29 ∷ []
+fourth_centuries = refl
 
 -- the first and the last year
 ends : map (λ y. is_valid y 1 1) (1969 ∷ 1970 ∷ 9999 ∷ 10_000 ∷ []) ≡ false ∷ true ∷ true ∷ false ∷ []
