@@ -12,7 +12,7 @@ use Rattle.humantime.specs.Buffers.{Holds}
 use Rattle.humantime.specs.declared.duration.error.DurationError.{DurationError}
 use Rattle.humantime.specs.Durations.Errors.{text_result_view}
 use Rattle.humantime.specs.Durations.Faults.{Fault}
-use Rattle.humantime.specs.References.Durations.ResultViews.{result_view_by}
+use Rattle.humantime.specs.Steps.ResultViews.{result_view_by}
 
 -- a buffer whose last bytes are known holds them
 pub holds : {M : Type 1} {𝓤 : Ura M} (𝓛 : Logic 𝓤) (n : ℕ) (buf : MutBor (List ℕ)) (last : List ℕ) (P : List ℕ → Type 0) → P last

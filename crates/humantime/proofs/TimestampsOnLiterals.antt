@@ -1,11 +1,10 @@
 -- What an answer unfolds to compute what a timestamp's text reads as, and what a moment prints as, on a literal.
 use Rattle.std.specs.Prelude.{⊤}
 use Rattle.humantime.specs.Calendar.{days_of_years, days_of_months}
-use Rattle.humantime.specs.References.Calendar.March.{date_of}
+use Rattle.humantime.specs.Answers.Dates.{date_of}
 use Rattle.humantime.specs.Timestamps.Fields.{fraction_nanos}
 use Rattle.humantime.specs.Timestamps.Checks.{zone_of, number_between, has_marks, has_separator, has_punctuation, has_two, has_digits, are_in_range, has_point}
-use Rattle.humantime.specs.References.Timestamps.Printing.{moment_text}
-use Rattle.humantime.specs.References.Timestamps.Reading.{weak_answer, strict_answer}
+use Rattle.humantime.specs.Answers.Timestamps.{moment_text, weak_answer, strict_answer}
 
 unfoldable pub timestamps_on_literals : ⊤
 unfolding days_of_years days_of_months date_of fraction_nanos zone_of number_between has_marks has_separator has_punctuation has_two has_digits are_in_range has_point moment_text weak_answer strict_answer

@@ -1,9 +1,11 @@
+pub mod Answers
 pub mod Buffers
 pub mod Calendar
 pub mod Durations
 pub mod Laws
 pub mod Prelude
-pub mod References
+pub mod Steps
 pub mod Texts
 pub mod Timestamps
+pub mod Turns
 pub mod Values

@@ -3,8 +3,8 @@
 ghost use Rattle.std.specs.Prelude.{◌≡◌, ◌+◌, ◌-◌, ◌<◌, ◌≤◌, ◌↔◌, IsSome, IfSome, MatchOption};
 ghost use Rattle.std.specs.Int.{IsInRange};
 ghost use Rattle.humantime.specs.Calendar.{days_in_year, days_in_month, days_of_years, days_of_months, IsDate, day_of};
-ghost use Rattle.humantime.specs.References.Calendar.March.{march_days, march_months};
-ghost use Rattle.humantime.specs.References.Calendar.March as March;
+ghost use Rattle.humantime.specs.Answers.Dates.{march_days, march_months};
+ghost use Rattle.humantime.specs.Answers.Dates as Dates;
 
 use crate::turns::Turns;
 
@@ -160,7 +160,7 @@ pub fn day_number(date: Date, turns: &mut Turns) -> Option<u32>
 #[inline(always)]
 fn march_year(day: u32) -> (u32, u32)
     requires { day ≤ 2_932_896 }
-    ensures year { result.0 ≡ March.march_year (day + 135_080) }
+    ensures year { result.0 ≡ Dates.march_year (day + 135_080) }
     ensures left { march_days result.0 + result.1 ≡ day + 135_080 }
 {
     // Days before 2000-03-01 lie in the cycle before.
@@ -193,7 +193,7 @@ fn days_before_march_month(month: u32) -> u32
 fn march_date(year: u32, month: u32, left: u32) -> Date
     requires year { year < 8400 }
     requires left { left < 366 }
-    ensures { result ≡ March.march_date year month left }
+    ensures { result ≡ Dates.march_date year month left }
 {
     if month < 10 {
         Date {

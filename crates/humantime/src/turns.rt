@@ -40,7 +40,7 @@ impl Model for Turns {
 
     ghost Value = { ℕ };
 
-    ghost use Rattle.humantime.specs.References.Calendar.Turns.{turns_of};
+    ghost use Rattle.humantime.specs.Turns.{turns_of};
 
     ghost view = { λ t. turns_of t.chain.value };
 }

@@ -1,8 +1,8 @@
 //! The units of time and their words.
 
 ghost use Rattle.std.specs.Prelude.{◌≡◌, ◌+◌, ◌*◌, ◌^◌, ◌<◌, option_map};
-ghost use Rattle.humantime.specs.References.Durations.Scales.{scale_of};
-ghost use Rattle.humantime.specs.References.Durations.Keys.{scale_of_key};
+ghost use Rattle.humantime.specs.Steps.Scales.{scale_of};
+ghost use Rattle.humantime.specs.Steps.Keys.{scale_of_key};
 
 pub(crate) mod sizes;
 mod words;
@@ -35,7 +35,7 @@ pub(crate) const MOST_BYTES: usize = 7;
 
 /// The unit whose word has this key, if there is one.
 #[inline(always)]
-#[tactic(auto, unfolding(crate::specs::References::Durations::Keys::scale_of_key))]
+#[tactic(auto, unfolding(crate::specs::Steps::Keys::scale_of_key))]
 pub(crate) fn unit_of(key: u64) -> Option<Unit>
     ensures { option_map scale_of result ≡ scale_of_key key }
 {

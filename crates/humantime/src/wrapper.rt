@@ -1,10 +1,7 @@
 //! Durations and moments that read and print themselves.
 
 ghost use Rattle.std.specs.Prelude.{◌≡◌, ◌↔◌, ℕ, chars, IfErr, Some};
-ghost use Rattle.humantime.specs.Durations.Accepted.{Accepted};
-ghost use Rattle.humantime.specs.Durations.Faults.{Fault, HasFault};
-ghost use Rattle.humantime.specs.References.Durations.Answers.{duration_answer};
-ghost use Rattle.humantime.specs.Durations.Errors.{result_view, PointsInto};
+ghost use Rattle.humantime.specs.Prelude.{Accepted, Fault, HasFault, PointsInto, duration_answer, result_view};
 
 use crate::date::{TimestampError, format_rfc3339, parse_rfc3339_weak};
 use crate::duration::{DurationError, format_duration, parse_duration};
@@ -121,7 +118,7 @@ impl From<Duration> for StdDuration {
 /// Writes what `Display` writes of the value that [`format_duration`] returns.
 impl fmt::Display for Duration {
     ghost use Rattle.std.specs.Prelude.{Some};
-    ghost use Rattle.humantime.specs.References.Durations.Printing.{duration_text};
+    ghost use Rattle.humantime.specs.Answers.Durations.{duration_text};
 
     ghost output = { λ d. Some (duration_text d) };
 
@@ -187,7 +184,7 @@ impl Timestamp {
 /// assert_eq!(rt; "1970-02-30T00:00:00Z".parse::<Timestamp>(), Err(TimestampError::OutOfRange));
 /// ```
 impl FromStr for Timestamp {
-    ghost use Rattle.humantime.specs.References.Timestamps.Reading.{IsWeakAnswer};
+    ghost use Rattle.humantime.specs.Answers.Timestamps.{IsWeakAnswer};
 
     type Err = TimestampError;
 
@@ -224,7 +221,7 @@ impl fmt::Display for Timestamp {
     ghost use Rattle.std.specs.Prelude.{◌≡◌, IsOk, Err};
     ghost use Rattle.std.specs.Fmt.{DisplaysOnOk, DisplaysStyledOnOk, fmt_error};
     ghost use Rattle.humantime.specs.Timestamps.Printed.{IsPrintable};
-    ghost use Rattle.humantime.specs.References.Timestamps.Printing.{shortest_text};
+    ghost use Rattle.humantime.specs.Answers.Timestamps.{shortest_text};
 
     ghost output = { shortest_text };
 

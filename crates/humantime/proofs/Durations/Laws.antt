@@ -1,9 +1,7 @@
 -- What callers cite of durations, under the names of `laws`, and the laws over texts behind it.
 pub mod DurationTheorems
-pub mod JoinedPieces
 pub mod JoinedTexts
 pub mod OlderTexts
-pub mod PrintedTogether
 pub mod Readings
 pub mod SmallAdditions
 pub mod TextsWithoutWhitespace

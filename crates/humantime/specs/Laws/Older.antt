@@ -5,14 +5,10 @@ use Rattle.std.specs.List.{AllByRecursion}
 use Rattle.std.specs.Char.{is_ascii_alphabetic}
 use Rattle.humantime.specs.Texts.{decimal_value}
 use Rattle.humantime.specs.Durations.Characters.{micro_sign, greek_mu, u64_max, bare_zero}
-use Rattle.humantime.specs.References.Durations.Answers.{duration_answer}
+use Rattle.humantime.specs.Answers.Durations.{duration_answer}
 use Rattle.humantime.specs.Durations.Units.{Addition, Scale, scale_of_word}
 use Rattle.humantime.specs.Durations.Spans.{Span, Only, Reads}
 use Rattle.humantime.specs.Durations.Accepted.{amount, additions, value, is_whole_part, AllHaveRoom, Accepted}
-
--- Tests whether a character was a letter while the Greek letter mu was none: a to z, A to Z or the micro sign.
-abbrev pub is_older_letter : ℕ → Bool
-is_older_letter c = is_ascii_alphabetic c || c == micro_sign
 
 -- While zeros at its end counted, a fraction had at most 19 digits and was a whole number of nanoseconds or of seconds; nanoseconds had
 -- none.
@@ -38,18 +34,9 @@ pub data AcceptedWithZeros (text : List ℕ) (v : ℕ) : Type 0 where
   Older_sum : (spans : List Span) → Reads text spans → AllByRecursion OlderFormed spans → AllHaveRoom (additions spans)
       → value spans ≡ v → AcceptedWithZeros text v
 
--- While besides the Greek letter mu was no letter, the text stood for `v` nanoseconds: each word that is read now is of the older letters.
-abbrev pub AcceptedWithoutMu : List ℕ → ℕ → Type 0
-AcceptedWithoutMu text v = AcceptedWithZeros text v
-    × ((spans : List Span) → Reads text spans → AllByRecursion (λ s. Only is_older_letter s.word) spans)
-
 -- The text was accepted while zeros at the end of a fraction counted.
 abbrev pub WasAccepted : List ℕ → Type 0
 WasAccepted text = (v : ℕ) × AcceptedWithZeros text v
-
--- The Greek letter mu stands in the text.
-abbrev pub HasMu : List ℕ → Type 0
-HasMu text = (before : List ℕ) × (after : List ℕ) × (text ≡ before ++ greek_mu ∷ after)
 
 -- What was accepted while trailing zeros of fractions counted keeps its value.
 pub record KeepsValueWithZeros (text : List ℕ) : Type 0 where

@@ -6,7 +6,7 @@ use Rattle.humantime.specs.Durations.Accepted.{value, WithinLimits, Accepted}
 use Rattle.humantime.specs.Durations.Faults.{Fault, NumberOverflow, HasFault}
 use Rattle.humantime.specs.Durations.Items.{Items, SpanView, AreItems}
 use Rattle.humantime.specs.Durations.Characters.{bare_zero}
-use Rattle.humantime.specs.References.Durations.Answers.{duration_answer}
+use Rattle.humantime.specs.Answers.Durations.{duration_answer}
 use Rattle.humantime.specs.Laws.ExactlyOne.{ExactlyOne}
 
 -- A text's outcome is the value with which it is accepted, or its fault.

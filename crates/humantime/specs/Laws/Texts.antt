@@ -5,7 +5,7 @@ use Rattle.humantime.specs.Durations.Characters.{is_whitespace, bare_zero}
 use Rattle.humantime.specs.Durations.Spans.{Span, Reads}
 use Rattle.humantime.specs.Durations.Accepted.{additions, AllHaveRoom, Accepted}
 use Rattle.humantime.specs.Durations.Faults.{NumberOverflow, HasFault}
-use Rattle.humantime.specs.References.Durations.Answers.{duration_answer}
+use Rattle.humantime.specs.Answers.Durations.{duration_answer}
 
 -- Drops the whitespace of a text.
 abbrev pub without_whitespace : List ℕ → List ℕ

@@ -7,9 +7,10 @@ ghost use Rattle.std.specs.Str.{bytes_eq};
 ghost use Rattle.humantime.specs.declared.date.error.TimestampError.{TimestampError};
 ghost use Rattle.humantime.specs.Timestamps.Fields.{zone_text, seconds_of, IsWeakMoment, IsStrictMoment};
 ghost use Rattle.humantime.specs.Timestamps.Checks.{zone_of, numbers_of, are_in_range, fraction_part, first_failed, weak_checks, strict_checks};
-ghost use Rattle.humantime.specs.References.Timestamps.Reading.{weak_answer, strict_answer, fraction_answer, numbers_in, nanos_found, in_threes, AreShort};
+ghost use Rattle.humantime.specs.Answers.Timestamps.{weak_answer, strict_answer};
+ghost use Rattle.humantime.specs.Steps.Timestamps.{fraction_answer, numbers_in, nanos_found, in_threes, AreShort};
 ghost use Rattle.humantime.specs.Timestamps.Checks;
-ghost use Rattle.humantime.specs.References.Timestamps.Reading as Reading;
+ghost use Rattle.humantime.specs.Steps.Timestamps as Steps;
 
 use crate::calendar::{Date, day_number};
 use crate::date::error::TimestampError;
@@ -250,11 +251,11 @@ fn has_punctuation(bytes: &[u8]) -> bool
 /// Signs and digits in their places. All are tested at once: a lane of the vector is how far a byte is above the least
 /// one, and a byte below that wraps around to far above.
 #[inline(always)]
-#[tactic(auto, unfolding(crate::specs::References::Timestamps::Reading::has_layout, crate::specs::Timestamps::Checks::has_punctuation))]
+#[tactic(auto, unfolding(crate::specs::Steps::Timestamps::has_layout, crate::specs::Timestamps::Checks::has_punctuation))]
 fn has_layout(bytes: &[u8]) -> bool
     requires long { 19 ≤ length bytes.now }
     requires separator { IsTrue (Checks.has_separator bytes.now) }
-    ensures { result ≡ Reading.has_layout bytes.now }
+    ensures { result ≡ Steps.has_layout bytes.now }
 {
     let front = u8x16::from_slice(bytes) - u8x16::from_slice(&LEAST);
     let back = u8x16::from_slice(&bytes[3..]) - u8x16::from_slice(&LEAST_BACK);
@@ -276,7 +277,7 @@ fn none_above(lanes: u8x16, most: u8) -> bool
 #[inline(always)]
 #[tactic(auto, using(crate::proofs::Timestamps::Reading::Exits::layout_parts))]
 fn lanes_at(bytes: &[u8]) -> Lanes
-    requires { IsTrue (Reading.has_layout bytes.now) }
+    requires { IsTrue (Steps.has_layout bytes.now) }
     ensures numbers { numbers_in result ≡ numbers_of bytes.now }
     ensures short { AreShort result }
 {
@@ -363,37 +364,12 @@ fn is_offset(bytes: &[u8]) -> bool
     front == u32::from_le_bytes(*b"+00:") && back == u16::from_le_bytes(*b"00")
 }
 
-/// Digits alone: sixteen at once, and then the rest.
+/// Whether all bytes are digits.
 #[inline(always)]
-#[tactic(auto, using(crate::proofs::Timestamps::Reading::Threes::front_and_rest))]
 fn are_digits(bytes: &[u8]) -> bool
     ensures { result ≡ list_all is_ascii_digit bytes.now }
 {
-    let mut rest = bytes;
-    while rest.len() >= 16 {
-        if !are_sixteen_digits(&rest[..16]) {
-            return false;
-        }
-        rest = &rest[16..];
-    }
-    are_few_digits(rest)
-}
-
-/// Digits alone, one by one.
-#[inline(always)]
-fn are_few_digits(bytes: &[u8]) -> bool
-    ensures { result ≡ list_all is_ascii_digit bytes.now }
-{
     bytes.iter().all(|b| b.is_ascii_digit())
-}
-
-/// Sixteen digits.
-#[inline(always)]
-fn are_sixteen_digits(bytes: &[u8]) -> bool
-    requires { length bytes.now ≡ 16 }
-    ensures { result ≡ list_all is_ascii_digit bytes.now }
-{
-    none_above(u8x16::from_slice(bytes) - u8x16::splat(b'0'), 9)
 }
 
 /// The nanoseconds of the last digits of sixteen bytes, at most nine, where they are digits.

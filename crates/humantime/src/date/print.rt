@@ -3,12 +3,10 @@
 ghost use Rattle.std.specs.Prelude.{◌≡◌, ◌+◌, ◌<◌, ◌≤◌, ◌↔◌, IsSome, IfSome, IfNone, option_map, ◌++◌, take, drop, codes};
 ghost use Rattle.std.specs.Borrow.{sem};
 ghost use Rattle.std.specs.Str.{IsUtf8};
-ghost use Rattle.humantime.specs.Buffers.{KeptAtNone};
-ghost use Rattle.humantime.specs.Calendar.{IsDate};
+ghost use Rattle.humantime.specs.Prelude.{IsDate, IsPrintable, IsPrinted, KeptAtNone, nano_of, places_of, printed_text};
 ghost use Rattle.humantime.specs.Timestamps.Fields.{two_digits, date_time_text, fields_text};
-ghost use Rattle.humantime.specs.Values.{nano_of};
-ghost use Rattle.humantime.specs.Timestamps.Printed.{IsPrinted, IsPrintable, places_of};
-ghost use Rattle.humantime.specs.References.Timestamps.Printing.{IsSecondOf, printed_text, fields_shown};
+ghost use Rattle.humantime.specs.Steps.Timestamps.{IsSecondOf};
+ghost use Rattle.humantime.specs.Answers.Timestamps.{fields_shown};
 
 use crate::buffer::str_prefix;
 use crate::calendar::{Date, date_of_day};
@@ -54,7 +52,7 @@ pub struct Rfc3339Timestamp {
 impl Model for Rfc3339Timestamp {
     ghost use Rattle.humantime.specs.Values.{nano_of};
     ghost use Rattle.humantime.specs.Timestamps.Printed.{MomentToPrint};
-    ghost use Rattle.humantime.specs.References.Timestamps.Printing.{places, precision_of};
+    ghost use Rattle.humantime.specs.Answers.Timestamps.{places, precision_of};
     ghost use Rattle.std.proofs.Common.{arith};
 
     ghost Value = { MomentToPrint };

@@ -2,8 +2,7 @@
 
 ghost use Rattle.std.specs.Prelude.{◌≤◌};
 ghost use Rattle.humantime.specs.declared.calendar.Date.{Date};
-ghost use Rattle.humantime.specs.Laws.Days.{IsDateOfDay};
-ghost use Rattle.humantime.specs.Laws.ExactlyOne.{ExactlyOne};
+ghost use Rattle.humantime.specs.Prelude.{ExactlyOne, IsDateOfDay};
 
 /// States that each day from 1970-01-01 to 9999-12-31 is the day of exactly one date; no other day has a date.
 ///

@@ -53,6 +53,7 @@ pub fn printed_durations_differ(a: StdDuration, b: StdDuration)
 /// assert_eq!(rt; text, "100000000000years 11months 29days 23h 59m 59s 999ms 999µs 999ns");
 /// assert_eq!(rt; text.len(), 64);
 /// ```
+#[tactic(auto, using(crate::proofs::Theorems::printed_bounds))]
 pub fn printed_bounds(d: StdDuration)
     ensures { IsBounded d }
 {}
@@ -71,6 +72,7 @@ pub fn printed_bounds(d: StdDuration)
 /// assert_eq!(rt; canonical("120min", &mut buf), Ok("2h"));
 /// assert_eq!(rt; canonical("2h", &mut other), Ok("2h"));
 /// ```
+#[tactic(auto, using(crate::proofs::Theorems::canonical_again))]
 pub fn canonical_again(s: &str)
     ensures { IsCanonicalAgain s.now }
 {}

@@ -15,6 +15,7 @@ ghost use Rattle.humantime.specs.Laws.Texts.{AddWhenJoined, KeepValueReordered, 
 /// assert_eq!(rt; parse_duration("1 2 h 3 0 min"), Ok(StdDuration::from_secs(45_000)));
 /// assert_eq!(rt; parse_duration("12h30min"), Ok(StdDuration::from_secs(45_000)));
 /// ```
+#[tactic(auto, using(crate::proofs::Theorems::without_ws))]
 pub fn without_ws(s: &str)
     ensures { KeepsValueWithoutWhitespace (chars s.now) }
 {}
@@ -59,6 +60,7 @@ pub fn joined(a: &str, b: &str)
 /// let reordering = parse_duration("1ns 18446744073709551615ns");
 /// assert_eq!(rt; reordering, Err(DurationError::NumberOverflow));
 /// ```
+#[tactic(auto, using(crate::proofs::Theorems::reordered))]
 pub fn reordered(a: &str, b: &str)
     ensures { KeepValueReordered (chars a.now) (chars b.now) }
 {}
@@ -78,6 +80,7 @@ pub fn reordered(a: &str, b: &str)
 /// assert_eq!(rt; parse_duration("1.5000000000s"), Ok(StdDuration::new(1, 500_000_000)));
 /// assert_eq!(rt; parse_duration("1.50000000000s"), Ok(StdDuration::new(1, 500_000_000)));
 /// ```
+#[tactic(auto, using(crate::proofs::Theorems::still_accepted))]
 pub fn still_accepted(s: &str)
     ensures { KeepsValueWithZeros (chars s.now) }
 {}

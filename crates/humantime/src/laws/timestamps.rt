@@ -4,10 +4,7 @@ ghost use Rattle.std.specs.Prelude.{◌↔◌, ◌<ℤ◌, ℕ, List, IsTrue};
 ghost use Rattle.std.specs.Cmp.Lexicographic.{slice_cmp};
 ghost use Rattle.std.specs.Ordering.{is_lt, nat_cmp};
 ghost use Rattle.humantime.specs.Laws.Timestamps.{InOrder, OneTimestamp, PrintedMoment, StrictForm};
-ghost use Rattle.humantime.specs.References.Timestamps.Reading.{strict_answer, weak_answer};
-ghost use Rattle.humantime.specs.Timestamps.Checks.{strict_checks, weak_checks};
-ghost use Rattle.humantime.specs.Timestamps.Fields.{IsStrict, IsWeak};
-ghost use Rattle.humantime.specs.Timestamps.Printed.{IsPrinted};
+ghost use Rattle.humantime.specs.Prelude.{IsPrinted, IsStrict, IsWeak, strict_answer, strict_checks, weak_answer, weak_checks};
 
 use crate::date::Rfc3339Timestamp;
 use crate::value::SystemTime;
@@ -29,6 +26,7 @@ use crate::value::SystemTime;
 /// assert_eq!(rt; parse_rfc3339("2018-02-14 00:28:07"), Err(TimestampError::InvalidFormat));
 /// assert_eq!(rt; parse_rfc3339_weak("2018-02-14 00:28:07")?.unix_seconds(), 1_518_568_087);
 /// ```
+#[tactic(auto, using(crate::proofs::Theorems::strict_is_weak))]
 pub fn strict_is_weak(s: &str)
     ensures { StrictForm s.now }
 {
@@ -94,6 +92,7 @@ pub fn printed_moment_reads(x: &Rfc3339Timestamp)
 /// let second = format_rfc3339_nanos(later).text(&mut other).ok_or("out of range")?;
 /// assert!(rt; first.as_bytes() < second.as_bytes());
 /// ```
+#[tactic(auto, using(crate::proofs::Theorems::stamps_in_order, crate::proofs::Theorems::earlier_in_nanos))]
 pub fn stamps_in_order(a: SystemTime, b: SystemTime)
     ensures order { InOrder a b }
     ensures nanos { (x : List ℕ) (y : List ℕ) → IsPrinted a 9 x → IsPrinted b 9 y → (a <ℤ b) ↔ IsTrue (is_lt (slice_cmp nat_cmp x y)) }

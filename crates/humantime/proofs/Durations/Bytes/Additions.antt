@@ -8,9 +8,9 @@ use Rattle.humantime.specs.Texts.{decimal_value}
 use Rattle.humantime.specs.Durations.Characters.{u64_max}
 use Rattle.humantime.specs.Durations.Units.{Addition, Scale, scale_of_word}
 use Rattle.humantime.specs.Durations.Spans.{Span}
-use Rattle.humantime.specs.References.Durations.Reading.{add_all, add_span}
-use Rattle.humantime.specs.References.Durations.Scales.{Counted, counted}
-use Rattle.humantime.specs.References.Durations.Adding.{add_times, part_of, add_part}
+use Rattle.humantime.specs.Answers.Walks.{add_all, add_span}
+use Rattle.humantime.specs.Steps.Scales.{Counted, counted}
+use Rattle.humantime.specs.Steps.Adding.{add_times, part_of, add_part}
 use Rattle.humantime.proofs.Durations.Reading.SignificantDigits.{amount_kept}
 
 -- the sum with a fraction after an addition, if there is a fraction

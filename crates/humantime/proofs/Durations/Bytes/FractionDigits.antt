@@ -3,12 +3,12 @@ use Rattle.std.proofs.Common.{◌≡◌, ◌≢◌, ◌≤◌, ◌<◌, ◌+◌,
 use Rattle.std.proofs.lemmas.Bool.{lt-ltb, ne_eqb}
 use Rattle.std.proofs.lemmas.Nat.{pow-add}
 use Rattle.std.proofs.Math.Nat.{pow-le-pow_right, mul-le-mul_right}
-use Rattle.humantime.specs.declared.duration.reading.amount.Fraction.{Fraction}
+use Rattle.humantime.specs.declared.duration.amount.Fraction.{Fraction}
 use Rattle.humantime.specs.Texts.{take_while, decimal_value}
 use Rattle.humantime.specs.Durations.Characters.{is_digit, is_numeric, significant}
 use Rattle.humantime.specs.Durations.Faults.{number_of, after_number}
-use Rattle.humantime.specs.References.Durations.Scales.{parts_of}
-use Rattle.humantime.specs.References.Durations.Scanning.{AreDigits, digits_at}
+use Rattle.humantime.specs.Steps.Scales.{parts_of}
+use Rattle.humantime.specs.Steps.Scanning.{AreDigits, digits_at}
 use Rattle.humantime.proofs.Durations.Bytes.Numbers.{value_more}
 use Rattle.humantime.proofs.Durations.Reading.SignificantDigits.{significant_shorter, significant_zero, significant_long, significant_last, value_shifted}
 

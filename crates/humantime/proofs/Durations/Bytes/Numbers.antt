@@ -8,7 +8,7 @@ use Rattle.std.proofs.lemmas.Bool.Decides.{nat_tests}
 use Rattle.humantime.specs.Texts.{begins, take_while, decimal_value}
 use Rattle.humantime.specs.Durations.Characters.{is_whitespace, is_digit, is_numeric, u64_max}
 use Rattle.humantime.specs.Durations.Faults.{number_of, after_number}
-use Rattle.humantime.specs.References.Durations.Scanning.{BeginsWithDigit, whitespace_len, number_at}
+use Rattle.humantime.specs.Steps.Scanning.{BeginsWithDigit, whitespace_len, number_at}
 use Rattle.humantime.proofs.Durations.Bytes.PlaceSteps.{digit_over, digit_at, whitespace_over, no_whitespace}
 use Rattle.humantime.proofs.Durations.Bytes.Tails.{front_is, no_bytes}
 use Rattle.humantime.proofs.Durations.Reading.Classes.{digit_is, digit_is_numeric, whitespace_is_numeric, whitespace_not_digit}

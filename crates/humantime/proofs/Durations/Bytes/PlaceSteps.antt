@@ -11,8 +11,8 @@ use Rattle.std.proofs.lemmas.Str.{IsUtf8-drop, IsCharBoundary-past_char, drop_pa
 use Rattle.humantime.specs.Durations.Errors.{IsPlaceIn}
 use Rattle.humantime.specs.Texts.{begins, drop_while}
 use Rattle.humantime.specs.Durations.Characters.{is_letter, is_whitespace, whitespace_chars, is_digit, is_point}
-use Rattle.humantime.specs.References.Durations.Scanning.{whitespace_len, digits_at, fraction_read, ends_span}
-use Rattle.humantime.specs.References.Durations.SpanParts.{IsBehindWord}
+use Rattle.humantime.specs.Steps.Scanning.{whitespace_len, digits_at, fraction_read, ends_span}
+use Rattle.humantime.specs.Steps.SpanParts.{IsBehindWord}
 use Rattle.humantime.proofs.Durations.Bytes.Tails.{no_bytes, tail_at}
 use Rattle.humantime.proofs.Durations.Reading.Classes.{digit_is, digit_not_whitespace, digit_is_numeric, whitespace_is_numeric, is_point-46, letter_not_whitespace, wide_no_digit, whitespace_is, ascii_letter, alphabetic_is_ascii}
 

@@ -5,7 +5,7 @@ use Rattle.std.proofs.lemmas.List.{take-append-drop, append_cancel_right}
 use Rattle.std.proofs.lemmas.Str.{IsUtf8-take, IsUtf8-drop, IsCharBoundary-at_seam, encodes-chars, chars-append, chars-nil}
 use Rattle.humantime.specs.Texts.{take_while, drop_while}
 use Rattle.humantime.specs.Durations.Characters.{is_letter, byte_length, offset_of}
-use Rattle.humantime.specs.References.Durations.Scanning.{IsTail, begins_no_word}
+use Rattle.humantime.specs.Steps.Scanning.{IsTail, begins_no_word}
 use Rattle.humantime.proofs.Durations.Reading.Runs.{take_while-drop_while}
 
 -- what stands before the rest

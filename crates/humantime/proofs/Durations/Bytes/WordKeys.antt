@@ -13,7 +13,7 @@ use Rattle.std.proofs.lemmas.Bool.{and_parts, ltb-true, eqb-true, eq-eqb}
 use Rattle.std.proofs.lemmas.Slice.Eq.{bytes_eq-Decides}
 use Rattle.std.proofs.lemmas.Str.{chars-encodes, encodes-chars}
 use Rattle.humantime.specs.Durations.Units.{Scale, words, scale_of_word}
-use Rattle.humantime.specs.References.Durations.Keys.{packed, key, bytes_of, keyed, scale_of_key}
+use Rattle.humantime.specs.Steps.Keys.{packed, key, bytes_of, keyed, scale_of_key}
 
 -- the list holds bytes
 abbrev pub HasBytes : List ℕ → Type 0

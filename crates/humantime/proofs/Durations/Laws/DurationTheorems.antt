@@ -8,10 +8,9 @@ use Rattle.humantime.specs.Values.{duration_end}
 use Rattle.humantime.specs.Durations.Errors.{result_view, fault_of}
 use Rattle.humantime.specs.contracts.duration.error.DurationErrorPartialEq.TheImpl as errors
 use Rattle.humantime.specs.Laws.Outcomes.{HasOneOutcome, ItemsDecide, HasOneItemList}
-use Rattle.humantime.specs.References.Durations.TextViews.{item_views}
-use Rattle.humantime.specs.References.Durations.Printing.{duration_text}
+use Rattle.humantime.specs.Answers.Items.{item_views}
+use Rattle.humantime.specs.Answers.Durations.{duration_text, duration_answer, canonical_answer}
 use Rattle.humantime.specs.Laws.Printed.{PrintsAndReads, PrintApart, IsBounded, IsCanonicalAgain}
-use Rattle.humantime.specs.References.Durations.Answers.{duration_answer, canonical_answer}
 use Rattle.humantime.proofs.Durations.Printing.CanonicalTexts as canonical
 use Rattle.humantime.proofs.Durations.Printing.GreatestCounts as counts
 use Rattle.humantime.proofs.Durations.Slices.ItemViews as views

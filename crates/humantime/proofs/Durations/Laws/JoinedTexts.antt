@@ -99,9 +99,3 @@ joined_sum_or_overflow a b u v (Sum_of ss h g p) (Sum_of ts k l q) some_a some_b
       | inl g ↦ inl ((room_accepts (a ++ b) (ss ++ ts) (u + v) some both).1 g.room)
       | inr bad ↦ inr ((no_room_overflows (a ++ b) (ss ++ ts) (u + v) some both).1 (λ room. bad (record { formed = both.formed; fit = both.fit; room = room })))
     ]
-
--- whitespace may stand wherever a span ends
-pub reads-whitespace : (before whitespace after : List ℕ) (ss ts : List Span) → Reads before ss → SpellsAll after ts → Only is_whitespace whitespace
-    → Reads (before ++ (whitespace ++ after)) (ss ++ ts)
-reads-whitespace before whitespace after ss ts h k only =
-    reads-append before (whitespace ++ after) ss ts h (grind (arith, common_steps, (each-append _ whitespace k.whitespace only k.only_whitespace)))

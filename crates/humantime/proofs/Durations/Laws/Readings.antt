@@ -19,12 +19,6 @@ pub accepted_spans : (text : List ℕ) (spans : List Span) (v : ℕ) → Reads t
 accepted_spans text spans v h (Bare_zero z none) = absurd (not_zero text spans h z)
 accepted_spans text spans v h (Sum_of others k within sum) = rw (one_reading text spans others h k) (within, sum)
 
--- texts that are the same spans are accepted alike
-pub same_spans : (a b : List ℕ) (spans : List Span) (v : ℕ) → Reads a spans → Reads b spans → Accepted a v → Accepted b v
-same_spans a b spans v h k x =
-    let g = accepted_spans a spans v h x in
-    Sum_of spans k g.0 g.1
-
 -- no text has a value and a fault
 pub no_value_and_fault : (text : List ℕ) (v : ℕ) (e : Fault) → Accepted text v → HasFault text e → ⊥
 no_value_and_fault text v e a f = grind (arith, (outcome_accepted text v a), (outcome_fault text e f))

@@ -29,15 +29,3 @@ room_from_small t (x ∷ xs) small fits = grind (arith, common_steps, small_room
 -- small additions have room where their sum is a duration
 pub small_have_room : (xs : List Addition) → AllByRecursion IsSmall xs → total xs / nanos_per_second ≤ u64_max → AllHaveRoom xs
 small_have_room xs small fits = all_have_room xs (room_from_small 0 xs small (grind arith))
-
--- accepted texts with small additions, one behind the other, are accepted with the sum exactly where it is a duration
-pub small_joined_sum : (a b : List ℕ) (ss ts : List Span) (u v : ℕ) → AcceptedAs a ss u → AcceptedAs b ts v
-    → AllByRecursion IsSmall (additions ss) → AllByRecursion IsSmall (additions ts)
-    → Accepted (a ++ b) (u + v) ↔ ((u + v) / nanos_per_second ≤ u64_max)
-small_joined_sum a b ss ts u v h k small_ss small_ts =
-    let law = joined_sum a b ss ts u v h k in
-    let all = additions ss ++ additions ts in
-    let small = each-append IsSmall (additions ss) (additions ts) small_ss small_ts in
-    let parts = sum_by-append addition_nanos (additions ss) (additions ts) in
-    let sum : total all ≡ u + v = omega (arith, parts, (accepted_spans a ss u h.0 h.1).1, (accepted_spans b ts v k.0 k.1).1) in
-    (λ accepted. rw sum at (room_is_duration all (law.0 accepted)), λ fits. law.1 (small_have_room all small (rw sum fits)))

@@ -11,9 +11,6 @@ use Rattle.humantime.proofs.Durations.Reading.OneReading.{not_zero}
 use Rattle.humantime.proofs.Durations.Laws.Readings as readings
 use Rattle.humantime.proofs.Durations.Laws.TextsWithoutWhitespace as drops_whitespace
 use Rattle.humantime.proofs.Durations.Laws.JoinedTexts as texts
-pub use Rattle.humantime.proofs.Durations.Laws.SmallAdditions.{small_joined_sum}
-pub use Rattle.humantime.proofs.Durations.Laws.PrintedTogether.{printed_joined_sum}
-pub use Rattle.humantime.proofs.Durations.Laws.JoinedPieces.{pieces_sum, pieces_overflow}
 
 pub without_ws : (text : List ℕ) → KeepsValueWithoutWhitespace text
 without_ws text = record {
@@ -45,16 +42,3 @@ reordered a b =
           value r.spans r.others u v r.reads r.other_reads r.moved (accepted_from_outcome a u x) (accepted_from_outcome b v y);
       zero = λ spans h. not_zero bare_zero spans h refl;
     }
-
--- ---- beyond the laws
-
--- texts of the same spans are accepted alike
-pub same_spans : (a b : List ℕ) (spans : List Span) (v : ℕ) → Reads a spans → Reads b spans → Accepted a v ↔ Accepted b v
-same_spans a b spans v h k = (readings.same_spans a b spans v h k, readings.same_spans b a spans v k h)
-
--- whitespace may stand wherever a span ends, with the same value
-pub whitespace_between : (before whitespace after : List ℕ) (ss ts : List Span) (v : ℕ) → Reads before ss → SpellsAll after ts → Only is_whitespace whitespace
-    → Accepted (before ++ after) v ↔ Accepted (before ++ (whitespace ++ after)) v
-whitespace_between before whitespace after ss ts v h k only =
-    same_spans (before ++ after) (before ++ (whitespace ++ after)) (ss ++ ts) v
-    (texts.reads-append before after ss ts h k) (texts.reads-whitespace before whitespace after ss ts h k only)

@@ -10,7 +10,7 @@ use Rattle.std.specs.Cmp.Lexicographic.{slice_cmp}
 use Rattle.std.specs.Cmp.{nat_cmp_is}
 use Rattle.std.proofs.lemmas.Bool.Decides.{nat_tests}
 use Rattle.humantime.specs.Durations.Counts.{weights, weighted_sum, Counts, Canon}
-use Rattle.humantime.specs.References.Durations.Printing.{divided, duration_text}
+use Rattle.humantime.specs.Answers.Durations.{divided, duration_text}
 
 -- each weight is positive and the last is one, where what is left is below m
 abbrev Reaches : List ℕ → ℕ → Type 0

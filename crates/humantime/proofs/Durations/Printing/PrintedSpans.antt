@@ -17,7 +17,7 @@ use Rattle.humantime.specs.Durations.Units.{Addition, Nanos, Seconds, scale_of_w
 use Rattle.humantime.specs.Durations.Spans.{Span, Only, Spells, SpellsEach, Reads}
 use Rattle.humantime.specs.Durations.Accepted.{addition_nanos, amount, times, total, additions_of, additions, value, Formed, fits, Accepted, Sum_of}
 use Rattle.humantime.specs.Durations.Counts.{Suffix, printed_count, joined_by_space, Canon}
-use Rattle.humantime.specs.References.Durations.Printing.{duration_text}
+use Rattle.humantime.specs.Answers.Durations.{duration_text}
 use Rattle.humantime.proofs.Durations.Reading.Spellings.{spells-append}
 use Rattle.humantime.proofs.Durations.Reading.Summed.{value-cons}
 use Rattle.humantime.proofs.Durations.Laws.JoinedTexts.{each-append}

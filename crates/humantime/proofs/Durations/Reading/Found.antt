@@ -7,7 +7,7 @@ use Rattle.humantime.specs.Durations.Characters.{is_whitespace, is_digit, bare_z
 use Rattle.humantime.specs.Durations.Spans.{Span, Spells, SpellsAll}
 use Rattle.humantime.specs.Durations.Faults.{Fault, NumberOverflow, Split, HasFault, Empty, span_of}
 use Rattle.humantime.specs.Durations.Accepted.{Formed, WithinLimits}
-use Rattle.humantime.specs.References.Durations.Reading.{Walk, no_more, walk_of, items}
+use Rattle.humantime.specs.Answers.Walks.{Walk, no_more, walk_of, items}
 use Rattle.humantime.specs.Durations.Items.{Items, Ends}
 use Rattle.humantime.proofs.Durations.Reading.Runs.{ends-append, take_while-drop_while, Only-take_while, begins-drop_while}
 use Rattle.humantime.proofs.Durations.Reading.Spelled.{next_of}

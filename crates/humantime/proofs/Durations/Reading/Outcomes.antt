@@ -12,8 +12,8 @@ use Rattle.humantime.specs.Durations.Faults.{fault_at, span_of, Fault, NumberOve
 use Rattle.humantime.specs.Durations.Items.{Items, items_of}
 use Rattle.humantime.specs.Laws.ExactlyOne.{ExactlyOne}
 use Rattle.humantime.specs.Laws.Outcomes.{IsOutcome}
-use Rattle.humantime.specs.References.Durations.Reading.{walk_from, items, sum_spans}
-use Rattle.humantime.specs.References.Durations.Answers.{duration_answer}
+use Rattle.humantime.specs.Answers.Walks.{walk_from, items, sum_spans}
+use Rattle.humantime.specs.Answers.Durations.{duration_answer}
 use Rattle.humantime.proofs.Durations.Reading.Summed.{sum_spans_within, too_large, summed_value, summed_fault, WithinLimits_from, from_WithinLimits, WithinLimitsFrom-front}
 use Rattle.humantime.proofs.Durations.Reading.Spelled.{next_of}
 use Rattle.humantime.proofs.Durations.Reading.Stopping.{fine_at}

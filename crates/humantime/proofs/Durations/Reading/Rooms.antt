@@ -7,7 +7,7 @@ use Rattle.humantime.specs.Values.{nanos_per_second}
 use Rattle.humantime.specs.Durations.Characters.{u64_max}
 use Rattle.humantime.specs.Durations.Units.{Addition}
 use Rattle.humantime.specs.Durations.Accepted.{addition_nanos, total, room, AllHaveRoom}
-use Rattle.humantime.specs.References.Durations.Reading.{add_all}
+use Rattle.humantime.specs.Answers.Walks.{add_all}
 
 -- each addition has room, where t nanoseconds stand before them all
 abbrev pub RoomFrom : ℕ → List Addition → Type 0

@@ -4,7 +4,7 @@ use Rattle.humantime.specs.Texts.{take_while, drop_while, begins, ends}
 use Rattle.humantime.specs.Durations.Characters.{is_whitespace, is_digit, is_letter, is_numeric}
 use Rattle.humantime.specs.Durations.Spans.{Span, Only, SpellsFraction, Spells}
 use Rattle.humantime.specs.Durations.Faults.{after_number, fraction_of, after_fraction, after_word, span_of, ends_span}
-use Rattle.humantime.specs.References.Durations.TextViews.{fraction_at, drop_fraction}
+use Rattle.humantime.specs.Answers.Items.{fraction_at, drop_fraction}
 use Rattle.humantime.proofs.Durations.Reading.Classes.{letter_not_numeric, letter_not_point, letter_not_whitespace, whitespace_is_numeric, point_not_numeric, is_point-46}
 use Rattle.humantime.proofs.Durations.Reading.Spellings.{spells_alone}
 use Rattle.humantime.proofs.Durations.Reading.Runs.{take_while-append, drop_while-append, drop_while_shorter, begins-append, begins_not_nil, letters_begin, ends_Only, ends_other, ends-append, append_not_nil}

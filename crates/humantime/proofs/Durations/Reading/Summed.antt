@@ -6,7 +6,7 @@ use Rattle.std.specs.List.{AllByRecursion}
 use Rattle.std.proofs.lemmas.List.Sums.{sum_by-append}
 use Rattle.humantime.specs.Durations.Spans.{Span}
 use Rattle.humantime.specs.Durations.Accepted.{addition_nanos, total, additions_of, additions, value, Formed, fits, WithinLimits}
-use Rattle.humantime.specs.References.Durations.Reading.{add_span, sum_spans}
+use Rattle.humantime.specs.Answers.Walks.{add_span, sum_spans}
 use Rattle.humantime.specs.Durations.Faults.{Fault, NumberOverflow}
 use Rattle.humantime.specs.Durations.Items.{items_of}
 use Rattle.humantime.proofs.Durations.Reading.Rooms.{RoomFrom, add_all-room, add_all-full, RoomFrom-append, RoomFrom-front, RoomFrom-back, room_from_all, all_have_room}

@@ -5,7 +5,7 @@ use Rattle.humantime.specs.Durations.Characters.{is_whitespace, is_digit, is_poi
 use Rattle.humantime.specs.Durations.Spans.{Span, SpellsFraction, Spells}
 use Rattle.humantime.specs.Durations.Accepted.{Formed}
 use Rattle.humantime.specs.Durations.Faults.{after_number, word_of, after_word, span_of}
-use Rattle.humantime.specs.References.Durations.TextViews.{fraction_at, drop_fraction}
+use Rattle.humantime.specs.Answers.Items.{fraction_at, drop_fraction}
 use Rattle.humantime.proofs.Durations.Reading.Classes.{digit_is_numeric, is_point-true}
 use Rattle.humantime.proofs.Durations.Reading.Runs.{take_while-drop_while, Only-take_while, begins_take_while, ends_Only, ends-append}
 use Rattle.std.proofs.lemmas.Grind.{common_steps}

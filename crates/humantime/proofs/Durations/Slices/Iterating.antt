@@ -4,7 +4,7 @@ use Rattle.humantime.specs.Texts.{begins, drop_while}
 use Rattle.humantime.specs.Durations.Characters.{is_whitespace, is_digit, offset_of}
 use Rattle.humantime.specs.Durations.Faults.{stop_at, Fault, NumberExpected, Empty, after_word}
 use Rattle.humantime.specs.Durations.Items.{SpanView}
-use Rattle.humantime.specs.References.Durations.TextViews.{view_at, views_on, left_at}
+use Rattle.humantime.specs.Answers.Items.{view_at, views_on, left_at}
 use Rattle.humantime.proofs.Durations.Reading.Runs.{begins_not_nil}
 use Rattle.humantime.proofs.Durations.Reading.SpanWalks.{walk-end, walk-wrong, walk-right}
 

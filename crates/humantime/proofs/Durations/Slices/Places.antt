@@ -5,7 +5,7 @@ use Rattle.std.proofs.lemmas.Bool.{false≢true}
 use Rattle.std.proofs.lemmas.Str.{chars-nil}
 use Rattle.humantime.specs.Durations.Characters.{offset_of}
 use Rattle.humantime.specs.Durations.Errors.{IsPlaceIn, IsRangeIn, IsPartOf}
-use Rattle.humantime.specs.References.Durations.Scanning.{IsTail, ends_span}
+use Rattle.humantime.specs.Steps.Scanning.{IsTail, ends_span}
 use Rattle.humantime.proofs.Durations.Bytes.Tails.{tail_boundary, tail_of_tail, part_between}
 
 -- a text that has a character has a byte

@@ -9,8 +9,7 @@ use Rattle.humantime.specs.Timestamps.Fields.{IsWeak, IsStrict, IsWeakMoment, Is
 use Rattle.humantime.specs.Timestamps.Checks.{weak_checks, strict_checks, first_failed}
 use Rattle.humantime.specs.Laws.Timestamps.{OneTimestamp, StrictForm, PrintedMoment}
 use Rattle.humantime.specs.Timestamps.Printed.{MomentToPrint, cut, IsPrinted, IsPrintable}
-use Rattle.humantime.specs.References.Timestamps.Printing.{moment_text, printed_text}
-use Rattle.humantime.specs.References.Timestamps.Reading.{weak_answer, strict_answer}
+use Rattle.humantime.specs.Answers.Timestamps.{moment_text, printed_text, weak_answer, strict_answer}
 use Rattle.humantime.proofs.Timestamps.Printing.Printed.{one_printed, printed_some, text_displayed, printed_reads}
 use Rattle.humantime.proofs.Timestamps.Printing.Order.{stamps_in_order, one_text}
 use Rattle.humantime.proofs.Timestamps.Laws.Reading as read
@@ -32,18 +31,8 @@ one_stamp_outcome text = (read.weak_outcome text, read.strict_outcome text)
 pub weak_read : (text : List ℕ) (t : ℤ) → IsWeakMoment text t → weak_answer text ≡ Ok t
 weak_read text t shown = ((read.weak_outcome text).value t).1 shown
 
-pub weak_failed : (text : List ℕ) (e : TimestampError) → first_failed (weak_checks text) ≡ Some e → weak_answer text ≡ Err e
-weak_failed text e failed = ((read.weak_outcome text).error e).1 failed
-
 pub strict_read : (text : List ℕ) (t : ℤ) → IsStrictMoment text t → strict_answer text ≡ Ok t
 strict_read text t shown = ((read.strict_outcome text).value t).1 shown
-
-pub strict_failed : (text : List ℕ) (e : TimestampError) → first_failed (strict_checks text) ≡ Some e → strict_answer text ≡ Err e
-strict_failed text e failed = ((read.strict_outcome text).error e).1 failed
-
--- a moment in strict form is one in weak form
-pub strict_read_weak : (text : List ℕ) (t : ℤ) → IsStrictMoment text t → weak_answer text ≡ Ok t
-strict_read_weak text t shown = weak_read text t ((read.strict_moment_is_weak text t).0 shown).0
 
 pub strict_is_weak : (text : List ℕ) → StrictForm text
 strict_is_weak text =
@@ -80,10 +69,6 @@ printed_moment_reads t k small = record {
   whole = cut_whole t;
 }
 
--- a printed text is the one that is computed
-pub printed_is : (t : ℤ) (k : ℕ) (text known : List ℕ) → moment_text t k ≡ Some known → IsPrinted t k text → text ≡ known
-printed_is t k text known computed printed = one_text t k text known printed ((text_displayed t k known printed.few).0 computed).1
-
 -- what `Display` wrote, of a timestamp that is known
 pub displayed_as : (x : MomentToPrint) (t : ℤ) (k : ℕ) (bytes : List ℕ) → x ≡ record { moment = t; places = k } → k ≤ 9 → IsPrintable t
     → IfSome (printed_text x) (λ text. bytes ≡ text) → IsPrinted t k bytes
@@ -119,14 +104,8 @@ stamps_between a b t k x y text first second printed = grind (arith, (printed_re
 earlier : (a b : ℤ) (k : ℕ) (x y : List ℕ) → IsPrinted a k x → IsPrinted b k y → (cut a k <ℤ cut b k) ↔ IsTrue (is_lt (slice_cmp nat_cmp x y))
 earlier a b k x y p q = let h = stamp_before a b k x y p q in (h.1, h.0)
 
-pub earlier_in_seconds : (a b : ℤ) (x y : List ℕ) → IsPrinted a 0 x → IsPrinted b 0 y → (cut a 0 <ℤ cut b 0) ↔ IsTrue (is_lt (slice_cmp nat_cmp x y))
-earlier_in_seconds a b x y = earlier a b 0 x y
-
 pub earlier_in_millis : (a b : ℤ) (x y : List ℕ) → IsPrinted a 3 x → IsPrinted b 3 y → (cut a 3 <ℤ cut b 3) ↔ IsTrue (is_lt (slice_cmp nat_cmp x y))
 earlier_in_millis a b x y = earlier a b 3 x y
-
-pub earlier_in_micros : (a b : ℤ) (x y : List ℕ) → IsPrinted a 6 x → IsPrinted b 6 y → (cut a 6 <ℤ cut b 6) ↔ IsTrue (is_lt (slice_cmp nat_cmp x y))
-earlier_in_micros a b x y = earlier a b 6 x y
 
 -- nine digits cut nothing
 pub earlier_in_nanos : (a b : ℤ) (x y : List ℕ) → IsPrinted a 9 x → IsPrinted b 9 y → (a <ℤ b) ↔ IsTrue (is_lt (slice_cmp nat_cmp x y))

@@ -6,7 +6,7 @@ use Rattle.std.proofs.Math.Nat.{pow-suc, one-le-pow, mod-mod_of_dvd, dvd-mul_lef
 use Rattle.std.proofs.Math.Arith.{mod-mul}
 use Rattle.std.proofs.lemmas.Nat.{pow-add}
 use Rattle.humantime.specs.Timestamps.Fields.{fraction_nanos, fraction_digits}
-use Rattle.humantime.specs.References.Timestamps.Printing.{last_digits}
+use Rattle.humantime.specs.Answers.Timestamps.{last_digits}
 use Rattle.humantime.proofs.Timestamps.Reading.Fractions.{AreDigits, add_digits, nanos_added}
 
 power_more : (j : ℕ) → (10 ^ suc j / 10 ≡ 10 ^ j) × (10 ^ suc j ≡ 10 * 10 ^ j)

@@ -15,7 +15,8 @@ use Rattle.humantime.specs.declared.date.print.Precision.{Precision}
 use Rattle.humantime.specs.Timestamps.Fields.{fields_text, fraction_nanos, moment_of}
 use Rattle.humantime.specs.Timestamps.Printed.{MomentToPrint, places_of, cut, year_10000, IsPrinted, IsPrintable}
 use Rattle.humantime.specs.Laws.Timestamps.{ReadsAs}
-use Rattle.humantime.specs.References.Timestamps.Printing.{places, IsSecondOf, fields_shown, fields_at, printed_text, moment_text}
+use Rattle.humantime.specs.Answers.Timestamps.{places, fields_shown, fields_at, printed_text, moment_text}
+use Rattle.humantime.specs.Steps.Timestamps.{IsSecondOf}
 use Rattle.humantime.specs.Laws.ExactlyOne.{ExactlyOne}
 use Rattle.humantime.proofs.Timestamps.Reading.Bytes.{holds_before_zone}
 use Rattle.humantime.proofs.Dates.DatesOfDays.{date_of_is}

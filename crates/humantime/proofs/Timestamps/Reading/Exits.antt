@@ -8,7 +8,8 @@ use Rattle.std.proofs.lemmas.Bool.Decides.{nat_tests}
 use Rattle.humantime.specs.declared.date.error.TimestampError.{TimestampError}
 use Rattle.humantime.specs.declared.date.error.TimestampError.TheVariants.{OutOfRange, InvalidDigit, InvalidFormat}
 use Rattle.humantime.specs.Timestamps.Fields.{seconds_of}
-use Rattle.humantime.specs.References.Timestamps.Reading.{has_layout, fraction_answer, weak_answer}
+use Rattle.humantime.specs.Steps.Timestamps.{has_layout, fraction_answer}
+use Rattle.humantime.specs.Answers.Timestamps.{weak_answer}
 use Rattle.humantime.specs.declared.date.parse.Numbers.{Numbers}
 use Rattle.humantime.specs.Timestamps.Checks.{has_punctuation, has_separator, has_digits, numbers_of, are_in_range, fraction_part, has_point}
 use Rattle.humantime.proofs.Timestamps.Reading.Ends.{letter_alone}

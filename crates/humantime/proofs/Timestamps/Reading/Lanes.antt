@@ -13,7 +13,7 @@ use lib.Lanes.{zip2, mask_l, top, sel_l}
 use mir.Syntax.{Width}
 use mir.Val.{bits, hbits}
 use Rattle.humantime.specs.Timestamps.Checks.{has_two, has_separator, has_punctuation, has_digits}
-use Rattle.humantime.specs.References.Timestamps.Reading.{has_layout}
+use Rattle.humantime.specs.Steps.Timestamps.{has_layout}
 use Rattle.humantime.proofs.Timestamps.Reading.Checks.{nineteen}
 
 -- ---- A test of all lanes

@@ -5,7 +5,7 @@ use Rattle.std.specs.Int.{IsInRange}
 use lib.Lanes.{zip2, dots}
 use Rattle.humantime.specs.declared.date.parse.Lanes.{Lanes}
 use Rattle.humantime.specs.Timestamps.Checks.{has_two, has_digits, number_between, numbers_of}
-use Rattle.humantime.specs.References.Timestamps.Reading.{numbers_in, AreShort}
+use Rattle.humantime.specs.Steps.Timestamps.{numbers_in, AreShort}
 use Rattle.humantime.proofs.Timestamps.Reading.Checks.{pairs_from_test}
 use Rattle.humantime.proofs.Timestamps.Reading.Lanes.{above, least, least_back}
 use Rattle.humantime.proofs.Timestamps.Reading.Places.{has_two_from_test, number_of_two, number_of_four}

@@ -14,7 +14,7 @@ use Rattle.humantime.specs.declared.date.parse.TheConstants.{PLACES}
 use Rattle.humantime.specs.Texts.{decimal_value}
 use Rattle.humantime.specs.Timestamps.Fields.{fraction_nanos, zone_text}
 use Rattle.humantime.specs.Timestamps.Checks.{zone_of, fraction_part}
-use Rattle.humantime.specs.References.Timestamps.Reading.{in_threes}
+use Rattle.humantime.specs.Steps.Timestamps.{in_threes}
 use Rattle.humantime.proofs.Timestamps.Reading.Fractions.{AreDigits, add_digits, digits_append, digits_from_test, nanos_added}
 use Rattle.humantime.proofs.Timestamps.Reading.Lanes.{above, digit_near}
 
@@ -139,17 +139,6 @@ last_tested bytes n long fits few =
     let each : Each1 (Fits w8) ds = subst (λ (xs : List ℕ). Each1 (Fits w8) xs) (take_all n ds size) (chunk-fits w8 (16 - n) n bytes fits) in
     ap (λ (ns : List ℕ). are_low (in_threes ns)) (last_above bytes n long)
     ∙ (nine_placed (aboves ds) (omega (arith, length-map ds (λ d. above d 48)))).0 ∙ digits_near ds each
-
--- ---- Sixteen bytes
-
-pub all_tested : (bytes : List ℕ) → length bytes ≡ 16 → ((k : ℕ) → Fits w8 (get_or bytes k 0))
-    → are_low (zip2 above (take 16 bytes) (replicate 16 48)) ≡ list_all is_ascii_digit bytes
-all_tested bytes long fits =
-    let each : Each1 (Fits w8) bytes = subst (λ (xs : List ℕ). Each1 (Fits w8) xs) (take_all 16 bytes (omega arith)) (chunk-fits w8 0 16 bytes fits) in
-    ap are_low (last_above bytes 16 long) ∙ digits_near bytes each
-
-pub front_and_rest : (bytes : List ℕ) (n : ℕ) → list_all is_ascii_digit bytes ≡ (list_all is_ascii_digit (take n bytes) && list_all is_ascii_digit (drop n bytes))
-front_and_rest bytes n = ap (list_all is_ascii_digit) (sym (take-append-drop n bytes)) ∙ list_all-append is_ascii_digit (take n bytes) (drop n bytes)
 
 pub last_value : (bytes : List ℕ) (n : ℕ) → length bytes ≡ 16 → n ≤ 9 → all_ascii_digits (drop (16 - n) bytes) ≡ true
     → threes_sum (in_threes (numbers bytes n)) ≡ fraction_nanos (drop (16 - n) bytes)

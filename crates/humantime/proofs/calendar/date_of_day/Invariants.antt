@@ -1,6 +1,6 @@
 use Rattle.std.proofs.Common.{◌≡◌, ◌+◌, ◌-◌}
 use Rattle.std.specs.Prelude.{min}
-use Rattle.humantime.specs.References.Calendar.March.{march_month}
+use Rattle.humantime.specs.Answers.Dates.{march_month}
 use Rattle.humantime.proofs.calendar.date_of_day.Given as goal
 
 -- so many months have begun before this day, and each was a turn

@@ -1,0 +1,16 @@
+use Rattle.std.proofs.Common.{◌≡◌, ◌-◌, length, drop, IsCharBoundary}
+use Rattle.std.specs.Str.{chars}
+use Rattle.humantime.specs.Texts.{drop_while}
+use Rattle.humantime.specs.Durations.Characters.{is_letter}
+use Rattle.humantime.proofs.Durations.Bytes.WordKeys.{IsSoFar}
+use Rattle.humantime.proofs.duration.scan.letters_end.Given as goal
+
+abbrev pub invariant-loop-at : goal.invariant-loop-at
+invariant-loop-at l = record {
+  place : IsCharBoundary l.text l.at;
+  same : drop_while is_letter (chars (drop l.at l.text)) ≡ drop_while is_letter (chars l.text);
+  key : IsSoFar l.text l.at l.key;
+}
+
+abbrev pub decreases-loop-at : goal.decreases-loop-at
+decreases-loop-at l = length l.text - l.at

@@ -1,0 +1,60 @@
+use Rattle.std.proofs.Common.{◌≡◌, ◌+◌, ◌++◌, ◌∷◌, [], get_or, sym, ap, ◌∙◌, chars, take, drop, false, arith, length-append, append_assoc}
+use Rattle.humantime.specs.Texts.{begins}
+use Rattle.humantime.specs.Durations.Characters.{is_numeric}
+use Rattle.humantime.specs.Durations.Faults.{number_of}
+use Rattle.humantime.proofs.Durations.Reading.Classes.{digit_is}
+use Rattle.humantime.proofs.Durations.Bytes.Numbers.{none_read, read_digit, read_whitespace, stops_here, all_read}
+use Rattle.humantime.proofs.Durations.Bytes.FractionDigits.{no_digits, digits_pass, digits_end}
+use Rattle.humantime.proofs.Durations.Bytes.Tails.{no_chars_at}
+use Rattle.humantime.proofs.duration.scan.read_digits.Goals as goal
+use Rattle.humantime.proofs.duration.scan.read_digits.Goals.{else-loop-at-test, then-loop-at-test+else-is_ascii_digit+in-None}
+
+pub loop-at-init : goal.loop-at-init
+loop-at-init c = record { taken = []; read = none_read _ c.utf8.text; digits = no_digits; few = omega arith }
+
+pub push-requires-clause-digit : goal.push-requires-clause-digit
+push-requires-clause-digit c = grind (arith, digit_is)
+
+pub push-requires-clause-digits : goal.push-requires-clause-digits
+push-requires-clause-digits c = (c.loop-at.invariant.taken, c.loop-at.invariant.digits)
+
+pub push-requires-clause-room : goal.push-requires-clause-room
+push-requires-clause-room c = omega (arith, c.loop-at.invariant.digits.all, c.loop-at.invariant.few)
+
+pub loop-at-preserved-then-is_ascii_digit : goal.loop-at-preserved-then-is_ascii_digit
+loop-at-preserved-then-is_ascii_digit c =
+    let i = c.loop-at.invariant in
+    record {
+      taken = i.taken ++ get_or c.as_bytes-bytes.result.now c.loop-at.at 0 ∷ [];
+      read = read_digit _ _ _ _ c.utf8.text c.as_bytes-bytes.ensures.value c.loop-at-test.true i.read (sym c.is_ascii_digit.ensures.value ∙ c.if-is_ascii_digit.true);
+      digits = c.in_ok-fraction.ensures i.taken i.digits;
+      few = omega (arith, length-append i.taken (get_or c.as_bytes-bytes.result.now c.loop-at.at 0 ∷ []), i.few);
+    }
+
+pub loop-at-preserved : goal.loop-at-preserved
+loop-at-preserved c =
+    let i = c.loop-at.invariant in
+    let read = read_whitespace _ _ _ _ _ c.utf8.text c.as_bytes-bytes.ensures.value c.loop-at-test.true i.read c.in-Some.ensures.0 c.in-Some.ensures.1 in
+    record { taken = i.taken; read = read; digits = i.digits; few = omega (arith, i.few) }
+
+pub returns-in_err-fraction-clause-value : goal.returns-in_err-fraction-clause-value
+returns-in_err-fraction-clause-value c =
+    let i = c.loop-at.invariant in
+    let read = read_digit _ _ _ _ c.utf8.text c.as_bytes-bytes.ensures.value c.loop-at-test.true i.read (sym c.is_ascii_digit.ensures.value ∙ c.if-is_ascii_digit.true) in
+    let over = c.in_err-fraction.ensures i.taken i.digits (number_of (chars (drop (c.loop-at.at + 1) c.args.text.now))) in
+    rw c.from_residual.ensures (digits_pass _ _ (read.all ∙ append_assoc i.taken _ _) over)
+
+pub returns-clause-value : goal.returns-clause-value
+returns-clause-value c =
+    let i = c.loop-at.invariant in
+    let ended : begins is_numeric (chars (drop c.loop-at.at c.args.text.now)) ≡ false = elim c.loop-at-test.branch [
+      | else-loop-at-test w ↦ ap (begins is_numeric) (no_chars_at c.args.text.now c.loop-at.at (omega (arith, w.loop-at-test.false, c.as_bytes-bytes.ensures.len)))
+      | then-loop-at-test+else-is_ascii_digit+in-None w ↦
+          stops_here _ _ _ c.utf8.text c.as_bytes-bytes.ensures.value w.loop-at-test.true i.read.place
+          (sym w.is_ascii_digit.ensures.value ∙ w.if-is_ascii_digit.false) w.in-None.ensures
+    ] in
+    let front : c.range.result.now ≡ take c.loop-at.at c.args.text.now = grind arith in
+    rw (front, c.range_from.ensures.value) (digits_end c.loop-at.fraction _ _ _ _ i.digits (all_read _ _ _ c.utf8.text i.read ended))
+
+pub returns-clause-tail : goal.returns-clause-tail
+returns-clause-tail c = grind arith

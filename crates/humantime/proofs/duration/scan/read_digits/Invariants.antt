@@ -1,0 +1,15 @@
+use Rattle.std.proofs.Common.{◌≤◌, ◌-◌, ℕ, List, length}
+use Rattle.humantime.specs.Steps.Scanning.{AreDigits}
+use Rattle.humantime.proofs.Durations.Bytes.Numbers.{IsRead}
+use Rattle.humantime.proofs.duration.scan.read_digits.Given as goal
+
+abbrev pub invariant-loop-at : goal.invariant-loop-at
+invariant-loop-at l = record {
+  taken : List ℕ;
+  read : IsRead l.text l.at taken;
+  digits : AreDigits l.fraction taken;
+  few : length taken ≤ l.at;
+}
+
+abbrev pub decreases-loop-at : goal.decreases-loop-at
+decreases-loop-at l = length l.text - l.at

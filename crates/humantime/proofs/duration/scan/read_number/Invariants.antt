@@ -1,0 +1,16 @@
+use Rattle.std.proofs.Common.{◌≡◌, ◌≤◌, ◌-◌, ℕ, List, length}
+use Rattle.humantime.specs.Texts.{decimal_value}
+use Rattle.humantime.specs.Durations.Characters.{u64_max}
+use Rattle.humantime.proofs.Durations.Bytes.Numbers.{IsRead}
+use Rattle.humantime.proofs.duration.scan.read_number.Given as goal
+
+abbrev pub invariant-loop-at : goal.invariant-loop-at
+invariant-loop-at l = record {
+  taken : List ℕ;
+  read : IsRead l.text l.at taken;
+  value : l.value ≡ decimal_value taken;
+  fits : l.value ≤ u64_max;
+}
+
+abbrev pub decreases-loop-at : goal.decreases-loop-at
+decreases-loop-at l = length l.text - l.at

@@ -1,0 +1,29 @@
+-- What is answered of a duration's text, and the text of a duration, each as one function.
+use Rattle.std.specs.Prelude.{ℕ, ◌/◌, ◌%◌, List, [], ◌∷◌, Result, Ok, Err, bytes_eq, if◌then◌else◌}
+use Rattle.humantime.specs.Durations.Characters.{bare_zero}
+use Rattle.humantime.specs.Durations.Counts.{weights, suffixes, printed_counts, joined_by_space}
+use Rattle.humantime.specs.Durations.Faults.{Fault}
+use Rattle.humantime.specs.Durations.Items.{items_of}
+use Rattle.humantime.specs.Answers.Walks.{items, sum_spans}
+
+-- Gives the value of a text in nanoseconds, or its first error.
+unfoldable pub duration_answer : List ℕ → Result ℕ Fault
+duration_answer text = if bytes_eq text bare_zero then Ok 0 else sum_spans 0 (items_of (items text).0 (items text).1)
+
+-- Finds the greatest counts by division: of the first weight as many as fit, and then of the others what is left.
+abbrev pub divided : List ℕ → ℕ → List ℕ
+divided [] d = []
+divided (w ∷ ws) d = d / w ∷ divided ws (d % w)
+
+-- Gives the printed text of `d` nanoseconds.
+unfoldable pub duration_text : ℕ → List ℕ
+duration_text d = joined_by_space (printed_counts (divided weights d) suffixes)
+
+-- Gives the printed text of a value, or the error.
+abbrev pub printed_answer : Result ℕ Fault → Result (List ℕ) Fault
+printed_answer (Ok v) = Ok (duration_text v)
+printed_answer (Err e) = Err e
+
+-- Gives the canonical text of a text's value, or its first error.
+unfoldable pub canonical_answer : List ℕ → Result (List ℕ) Fault
+canonical_answer text = printed_answer (duration_answer text)

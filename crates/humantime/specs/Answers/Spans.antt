@@ -1,0 +1,47 @@
+-- What a span and an item borrow from their text, and what an iterator over spans has left.
+use Rattle.std.specs.Prelude.{◌≡◌, ℕ, ◌==◌, List, [], Option, Result, Ok, Err, IfSome, MatchResult, length, if◌then◌else◌, option_map, chars}
+use Rattle.std.specs.Iterator.{YieldsFirstBy}
+use Rattle.std.specs.Str.{drop_trailing_whitespace}
+use Rattle.humantime.specs.declared.duration.error.DurationError.{DurationError}
+use Rattle.humantime.specs.declared.duration.iter.SpanIter.{SpanIter}
+use Rattle.humantime.specs.declared.duration.span.Span.{Span as TextSpan}
+use Rattle.humantime.specs.Texts.{drop_while}
+use Rattle.humantime.specs.Durations.Characters.{is_whitespace}
+use Rattle.humantime.specs.Durations.Errors.{IsRangeIn, PointsInto, fault_of}
+use Rattle.humantime.specs.Durations.Faults.{Fault}
+use Rattle.humantime.specs.Durations.Items.{SpanView}
+use Rattle.humantime.specs.Answers.Items.{left_at, trimmed}
+
+-- what a span lends of its text
+abbrev pub span_view : TextSpan → SpanView
+span_view s = record {
+  number = drop_trailing_whitespace (chars s.number.now);
+  fraction = option_map (λ t. trimmed (chars t.now)) s.digits;
+  unit = chars s.unit.now;
+  start = s.start;
+  end = s.end;
+  value = s.amount.value;
+}
+
+-- a span by what it lends, and an error by the fault that it names
+abbrev pub item_of : Result TextSpan DurationError → Result SpanView Fault
+item_of (Ok s) = Ok (span_view s)
+item_of (Err e) = Err (fault_of e)
+
+-- the items to come: none after an error or the end, else those from the offset on that it has reached
+abbrev pub items_left : SpanIter → List (Result SpanView Fault)
+items_left i =
+    if i.ended then []
+    else left_at (length i.rest.now == length i.text.now) (chars i.text.now) (drop_while is_whitespace (chars i.rest.now))
+
+-- the text whose items they are
+abbrev pub text_of : SpanIter → List ℕ
+text_of i = i.text.now
+
+-- a call gave the first of the items to come and left the others, or nothing where none was to come; the text stayed, and
+-- a span lies in it, or an error points into it
+abbrev pub GivesItem : SpanIter → Option (Result TextSpan DurationError) → SpanIter → Type 0
+GivesItem old result new =
+    YieldsFirstBy item_of items_left old result new
+    × (text_of new ≡ text_of old)
+    × IfSome result (λ item. MatchResult item (λ s. IsRangeIn (text_of old) s.start s.end) (PointsInto (text_of old)))

@@ -1,3 +1,0 @@
--- Reading and printing timestamps place by place, as private functions do.
-pub mod Printing
-pub mod Reading

@@ -1,0 +1,9 @@
+-- What private functions do, step by step. No public contract cites this.
+pub mod Adding
+pub mod Keys
+pub mod ResultViews
+pub mod Scales
+pub mod Scanning
+pub mod SpanParts
+pub mod Timestamps
+pub mod Writing

@@ -1,6 +1,0 @@
-//! Durations printed.
-
-mod print;
-mod writer;
-
-pub use print::{FormattedDuration, canonical, format_duration};

@@ -1,0 +1,140 @@
+//! Spans of a text.
+
+ghost use Rattle.std.specs.Prelude.{◌≡◌, option_map, chars};
+ghost use Rattle.std.specs.Str.{drop_trailing_whitespace};
+ghost use Rattle.humantime.specs.Answers.Items.{spelled, trimmed};
+ghost use Rattle.humantime.specs.Steps.Scales.{IsAmountOf};
+
+use crate::duration::amount::Amount;
+
+/// A number with its fraction and its unit, borrowed from the text that they stand in.
+///
+/// [`spans`](crate::spans) gives the spans of a text.
+///
+/// # Examples
+///
+/// ```
+/// use humantime::spans;
+///
+/// let span = spans(" 1 2.5 0 h3s").next().ok_or("no span")??;
+/// assert_eq!(rt; span.number(), "1 2");
+/// assert_eq!(rt; span.fraction(), Some("5 0"));
+/// assert_eq!(rt; span.unit(), "h");
+/// assert_eq!(rt; (span.start(), span.end()), (1, 10));
+/// assert_eq!(rt; span.value(), 12);
+/// ```
+#[derive(Clone, Copy, Debug)]
+pub struct Span<'a> {
+    // From the first digit up to what follows the number, with the whitespace before that.
+    pub(crate) number: &'a str,
+    // From behind the point up to the unit, if there is a point.
+    pub(crate) digits: Option<&'a str>,
+    pub(crate) unit: &'a str,
+    pub(crate) start: usize,
+    pub(crate) end: usize,
+    pub(crate) amount: Amount,
+    ghost read: { IsAmountOf amount (spelled (drop_trailing_whitespace (chars number.now)) (option_map (λ t. trimmed (chars t.now)) digits) (chars unit.now)) },
+}
+
+impl<'a> Span<'a> {
+    ghost use Rattle.humantime.specs.Answers.Spans.{span_view};
+
+    /// Returns the integer part, from its first to its last digit, with the whitespace between them.
+    ///
+    /// # Examples
+    ///
+    /// ```
+    /// use humantime::spans;
+    ///
+    /// let span = spans("1 2 .5h").next().ok_or("no span")??;
+    /// assert_eq!(rt; span.number(), "1 2");
+    /// ```
+    pub fn number(&self) -> &'a str
+        ensures { chars result.now ≡ (span_view self.now).number }
+    {
+        self.number.trim_end()
+    }
+
+    /// Returns the fraction, from its first to its last digit, or `None` if there is no point.
+    ///
+    /// The whitespace between the digits and the zeros at their end are part of it.
+    ///
+    /// # Examples
+    ///
+    /// ```
+    /// use humantime::spans;
+    ///
+    /// let mut items = spans("1. 5 0 h 30m");
+    /// assert_eq!(rt; items.next().ok_or("no span")??.fraction(), Some("5 0"));
+    /// assert_eq!(rt; items.next().ok_or("no span")??.fraction(), None);
+    /// ```
+    pub fn fraction(&self) -> Option<&'a str>
+        ensures { option_map (λ t. chars t.now) result ≡ (span_view self.now).fraction }
+    {
+        Some(self.digits?.trim_start().trim_end())
+    }
+
+    /// Returns the unit's word, as it stands in the text.
+    ///
+    /// # Examples
+    ///
+    /// ```
+    /// use humantime::spans;
+    ///
+    /// let span = spans("37min").next().ok_or("no span")??;
+    /// assert_eq!(rt; span.unit(), "min");
+    /// ```
+    pub fn unit(&self) -> &'a str
+        ensures { chars result.now ≡ (span_view self.now).unit }
+    {
+        self.unit
+    }
+
+    /// Returns the offset of the first digit in the text, in bytes.
+    ///
+    /// # Examples
+    ///
+    /// ```
+    /// use humantime::spans;
+    ///
+    /// let span = spans(" 2h").next().ok_or("no span")??;
+    /// assert_eq!(rt; span.start(), 1);
+    /// ```
+    pub fn start(&self) -> usize
+        ensures { result ≡ (span_view self.now).start }
+    {
+        self.start
+    }
+
+    /// Returns the offset after the last letter of the unit, in bytes.
+    ///
+    /// # Examples
+    ///
+    /// ```
+    /// use humantime::spans;
+    ///
+    /// let span = spans(" 2h 37min").next().ok_or("no span")??;
+    /// assert_eq!(rt; span.end(), 3);
+    /// ```
+    pub fn end(&self) -> usize
+        ensures { result ≡ (span_view self.now).end }
+    {
+        self.end
+    }
+
+    /// Returns the integer part as a number.
+    ///
+    /// # Examples
+    ///
+    /// ```
+    /// use humantime::spans;
+    ///
+    /// let span = spans("1 2.5h").next().ok_or("no span")??;
+    /// assert_eq!(rt; span.value(), 12);
+    /// ```
+    pub fn value(&self) -> u64
+        ensures { result ≡ (span_view self.now).value }
+    {
+        self.amount.value
+    }
+}

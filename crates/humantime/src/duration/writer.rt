@@ -1,0 +1,108 @@
+//! A text written to the front of a caller's buffer.
+
+ghost use Rattle.std.specs.Prelude.{◌≡◌, ◌<◌, ◌≤◌, ◌+◌, ◌==◌, if◌then◌else◌, true, false, codes, [], ◌∷◌, length, take, decimal};
+ghost use Rattle.std.specs.Str.{IsUtf8};
+ghost use Rattle.std.proofs.Props.{props};
+
+use itoa::Buffer;
+
+/// A buffer, and how many of its bytes are written: a text.
+#[derive(Drop)]
+pub(crate) struct Writer<'b> {
+    bytes: &'b mut [u8],
+    end: usize,
+    ghost within: { end ≤ length bytes.now },
+    ghost utf8: { IsUtf8 (take end bytes.now) } by { Prim.hlevel props },
+}
+
+impl<'b> Writer<'b> {
+    ghost use Rattle.humantime.specs.Durations.Counts.{printed_counts};
+    ghost use Rattle.humantime.specs.Steps.Writing.{behind, written, Appends, HasWritten};
+
+    /// Nothing written yet.
+    #[inline(always)]
+    pub(crate) fn new(bytes: &'b mut [u8]) -> Writer<'b>
+        ensures same_reference { result.bytes.ghost_name ≡ bytes.entry.ghost_name }
+        ensures room { length result.bytes.now ≡ length bytes.old }
+        ensures end { result.end ≡ 0 }
+        ensures empty { written result ≡ [] }
+    {
+        Writer { bytes, end: 0 }
+    }
+
+    /// Writes the text.
+    #[inline(always)]
+    fn push(&mut self, text: &str)
+        requires fits { self.old.end + length text.now ≤ length self.old.bytes.now }
+        ensures { Appends self.old self.new text.now }
+    {
+        let end = self.end + text.len();
+        let bytes = &mut *self.bytes;
+        bytes[self.end..end].copy_from_slice(text.as_bytes());
+        self.end = end;
+    }
+
+    /// Writes the number's decimal digits.
+    #[inline(always)]
+    fn push_number(&mut self, number: u64)
+        requires fits { self.old.end + length (decimal number) ≤ length self.old.bytes.now }
+        ensures { Appends self.old self.new (decimal number) }
+    {
+        let mut buf = Buffer::new();
+        self.push(buf.format(number));
+    }
+
+    /// Writes a count and its unit, with a space before it where it is not the first; a count of zero is left out.
+    #[inline(always)]
+    pub(crate) fn push_count(&mut self, count: u64, unit: &str)
+        requires fits { self.old.end + 1 + length (decimal count) + length unit.now ≤ length self.old.bytes.now }
+        ensures written { HasWritten self.old self.new (behind (written self.old) (printed_counts (count ∷ []) ((unit.now, false) ∷ []))) }
+        ensures end { self.new.end ≤ self.old.end + 1 + length (decimal count) + length unit.now }
+        ensures first { self.old.end ≡ 0 → self.new.end ≤ length (decimal count) + length unit.now }
+    {
+        if count == 0 {
+            return;
+        }
+        if self.end > 0 {
+            self.push(" ");
+        }
+        self.push_number(count);
+        self.push(unit);
+    }
+
+    /// Writes a count and its unit as `push_count` does, with an `s` behind the unit of more than one.
+    #[inline(always)]
+    pub(crate) fn push_plural(&mut self, count: u64, unit: &str)
+        requires fits { self.old.end + 2 + length (decimal count) + length unit.now ≤ length self.old.bytes.now }
+        ensures written { HasWritten self.old self.new (behind (written self.old) (printed_counts (count ∷ []) ((unit.now, true) ∷ []))) }
+        ensures end { self.new.end ≤ self.old.end + 2 + length (decimal count) + length unit.now }
+        ensures first { self.old.end ≡ 0 → self.new.end ≤ 1 + length (decimal count) + length unit.now }
+    {
+        self.push_count(count, unit);
+        if count > 1 {
+            self.push("s");
+        }
+    }
+
+    /// Writes zero seconds where nothing is written.
+    #[inline(always)]
+    pub(crate) fn push_zero_if_empty(&mut self)
+        requires { 2 ≤ length self.old.bytes.now }
+        ensures { HasWritten self.old self.new (if length (written self.old) == 0 then codes "0s" else written self.old) }
+    {
+        if self.end == 0 {
+            self.push("0s");
+        }
+    }
+
+    /// How many bytes are written.
+    #[inline(always)]
+    pub(crate) fn finish(self) -> usize
+        ensures most { result ≤ length self.entry.bytes.now }
+        ensures text { take result self.exit.0.now ≡ written self.entry }
+        ensures utf8 { IsUtf8 (take result self.exit.0.now) }
+    {
+        let Writer { bytes: _, end } = self;
+        end
+    }
+}
