@@ -1,28 +1,28 @@
 -- What a caller of `run` concludes at words that it knows, where the bytes of both writers are known. The callers among the tests
 -- cite these facts: both are open where a definition or a clause of `run` says less.
 use Rattle.std.proofs.Common.{arith, ◌≡◌, ◌≢◌, ◌<◌, ℕ, List, [], ◌∷◌, ◌++◌, length, take, subst, inl, inr, refl}
-use Rattle.std.specs.Prelude.{Option, None, Some, Ok, Err, codes}
+use Rattle.std.specs.Prelude.{None, Some, Ok, Err, codes}
 use Rattle.humantime.specs.Prelude.{InvalidCharacter}
 use Rattle.humantime.proofs.OnLiterals.{humantime_on_literals}
 use Rattle.humantime.proofs.Theorems.{canonical_again}
-use Rattle.humantime_cli.specs.Answers.{Answer, Answers, OneAnswer, Ends, EndsWith, Whole, Cut, Duration, outcome}
+use Rattle.humantime_cli.specs.Answers.{Answer, Answers, OneAnswer, Streams, streams, Ends, EndsWith, Whole, Cut, Duration, outcome}
 use Rattle.humantime_cli.specs.Writes.{line}
 use Rattle.humantime_cli.proofs.AnswerLemmas.{not_two}
 
 -- words whose answer is known end with it
-ends_with : (words : List (List ℕ)) (answer : Answer) {s : ℕ} {o n e m : Option (List ℕ)} → Answers words answer → OneAnswer words → Ends words s o n e m → EndsWith answer s o n e m
-ends_with words answer {s = s} {o = o} {n = n} {e = e} {m = m} answers one (other, also, ends) = subst (λ a. EndsWith a s o n e m) (one answer other answers also) ends
+ends_with : (words : List (List ℕ)) (answer : Answer) {status : ℕ} {old new : Streams} → Answers words answer → OneAnswer words → Ends words status old new → EndsWith answer status old new
+ends_with words answer {status = status} {old = old} {new = new} answers one (other, also, ends) = subst (λ a. EndsWith a status old new) (one answer other answers also) ends
 
 -- unless the status is 3, it is this one, and these bytes were written
 abbrev Wrote : ℕ → List ℕ → List ℕ → ℕ → List ℕ → List ℕ → List ℕ → List ℕ → Type 0
 Wrote code out err status old_out new_out old_err new_err = status ≢ 3 → (status ≡ code) × (new_out ≡ old_out ++ out) × (new_err ≡ old_err ++ err)
 
-all_written : {answer : Answer} {s : ℕ} {o n e m : List ℕ} → EndsWith answer s (Some o) (Some n) (Some e) (Some m) → Wrote (outcome answer).0 (outcome answer).1 (outcome answer).2 s o n e m
+all_written : {answer : Answer} {s : ℕ} {o n e m : List ℕ} → EndsWith answer s (streams (Some o) (Some e)) (streams (Some n) (Some m)) → Wrote (outcome answer).0 (outcome answer).1 (outcome answer).2 s o n e m
 all_written (Whole same taken told) other = (same, taken, told)
 all_written (Cut three fronts) other = absurd (other three)
 
 -- a front of what is printed was written, if the status is 3
-front_written : {printed : List ℕ} {s : ℕ} {o n e m : List ℕ} → EndsWith (Some (Ok printed)) s (Some o) (Some n) (Some e) (Some m) → s ≡ 3
+front_written : {printed : List ℕ} {s : ℕ} {o n e m : List ℕ} → EndsWith (Some (Ok printed)) s (streams (Some o) (Some e)) (streams (Some n) (Some m)) → s ≡ 3
     → ((k : ℕ) × (k < length (line printed)) × (n ≡ o ++ take k (line printed))) × (m ≡ e)
 front_written (Whole zero taken told) three = absurd (omega (arith, zero, three))
 front_written (Cut three (inl fronts)) again = fronts
@@ -39,7 +39,7 @@ fault_explained = (codes "duration", Duration, codes "1~", refl, (InvalidCharact
 
 -- what a caller of these words concludes
 abbrev Ran : List (List ℕ) → (ℕ → List ℕ → List ℕ → List ℕ → List ℕ → Type 0) → Type 0
-Ran words Told = (s : ℕ) (o n e m : List ℕ) → OneAnswer words → Ends words s (Some o) (Some n) (Some e) (Some m) → Told s o n e m
+Ran words Told = (s : ℕ) (o n e m : List ℕ) → OneAnswer words → Ends words s (streams (Some o) (Some e)) (streams (Some n) (Some m)) → Told s o n e m
 
 -- A duration was printed whole.
 pub printed_whole : Ran (codes "duration" ∷ codes "2h 37min" ∷ []) (Wrote 0 (codes "2h 37m\n") [])

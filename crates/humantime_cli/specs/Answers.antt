@@ -1,5 +1,4 @@
--- What the program answers to its words. `old_out` and `new_out` are the bytes of the writer of answers before and
--- after, `old_err` and `new_err` those of the writer of messages.
+-- What the program answers to its arguments, and what it writes to standard output and standard error.
 use Rattle.std.specs.Prelude.{◌≡◌, ◌≢◌, ◌⊎◌, ℕ, List, [], ◌∷◌, ℤ, Option, Some, None, Result, Ok, Err, codes, chars, map}
 use Rattle.std.specs.Borrow.{Bor}
 use Rattle.std.specs.Io.KnownBytes.{Appends, Keeps}
@@ -40,6 +39,15 @@ Answers words (Some told) =
     (name : List ℕ) × (command : Command name) × (text : List ℕ) × (words ≡ name ∷ text ∷ []) × Tells command text told
 Answers words None = (name : List ℕ) → Command name → (text : List ℕ) → words ≢ name ∷ text ∷ []
 
+-- The bytes written to standard output and standard error so far, each where its writer tells them.
+pub record Streams : Type 0 where
+  pub out : Option (List ℕ)
+  pub err : Option (List ℕ)
+
+-- Pairs the bytes of both writers.
+abbrev pub streams : Option (List ℕ) → Option (List ℕ) → Streams
+streams out err = record { out = out; err = err }
+
 -- Gives an answer's status, 0 to 2, and its bytes for both streams.
 abbrev pub outcome : Answer → ℕ × List ℕ × List ℕ
 outcome (Some (Ok printed)) = (0, line printed, [])
@@ -50,23 +58,21 @@ outcome None = (2, [], line (codes "usage: humantime duration|strict|weak TEXT")
 abbrev pub OneAnswer : List (List ℕ) → Type 0
 OneAnswer words = (answer other : Answer) → Answers words answer → Answers words other → other ≡ answer
 
--- The writers took just the answer, with its status; or the status is 3, one took a prefix, not all, the other nothing.
-pub data EndsWith (answer : Answer) (status : ℕ) (old_out new_out old_err new_err : Option (List ℕ)) : Type 0 where
+-- Both streams took just the answer, with its status; or the status is 3, one took a prefix, not all, and the other nothing.
+pub data EndsWith (answer : Answer) (status : ℕ) (old new : Streams) : Type 0 where
   -- just the answer
-  Whole : status ≡ (outcome answer).0 → Appends old_out new_out (outcome answer).1 → Appends old_err new_err (outcome answer).2
-      → EndsWith answer status old_out new_out old_err new_err
-  -- a write failed: one writer took a front of the answer, and not all of it, and the other took nothing
+  Whole : status ≡ (outcome answer).0 → Appends old.out new.out (outcome answer).1 → Appends old.err new.err (outcome answer).2
+      → EndsWith answer status old new
+  -- a write failed: one stream took a prefix of its bytes, and not all of them, and the other took nothing
   Cut : status ≡ 3
-      → (AppendsFront old_out new_out (outcome answer).1 × Keeps old_err new_err)
-      ⊎ (Keeps old_out new_out × AppendsFront old_err new_err (outcome answer).2)
-      → EndsWith answer status old_out new_out old_err new_err
+      → (AppendsFront old.out new.out (outcome answer).1 × Keeps old.err new.err)
+      ⊎ (Keeps old.out new.out × AppendsFront old.err new.err (outcome answer).2)
+      → EndsWith answer status old new
 
 -- The words have an answer, and the program ends with it.
-abbrev pub Ends : List (List ℕ) → ℕ → Option (List ℕ) → Option (List ℕ) → Option (List ℕ) → Option (List ℕ) → Type 0
-Ends words status old_out new_out old_err new_err =
-    (answer : Answer) × Answers words answer × EndsWith answer status old_out new_out old_err new_err
+abbrev pub Ends : List (List ℕ) → ℕ → Streams → Streams → Type 0
+Ends words status old new = (answer : Answer) × Answers words answer × EndsWith answer status old new
 
 -- The program has no status of its own: nothing was written, or it ended as `Ends` says, and then standard output could not be flushed.
-abbrev pub Fails : List (List ℕ) → Option (List ℕ) → Option (List ℕ) → Option (List ℕ) → Option (List ℕ) → Type 0
-Fails words old_out new_out old_err new_err =
-    (Keeps old_out new_out × Keeps old_err new_err) ⊎ ((status : ℕ) × Ends words status old_out new_out old_err new_err)
+abbrev pub Fails : List (List ℕ) → Streams → Streams → Type 0
+Fails words old new = (Keeps old.out new.out × Keeps old.err new.err) ⊎ ((status : ℕ) × Ends words status old new)

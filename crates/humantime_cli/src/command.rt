@@ -3,7 +3,7 @@
 ghost use Rattle.std.specs.Prelude.{◌≡◌, ℕ, List, Result, Some, Ok, Err, IfOk};
 ghost use Rattle.std.specs.Result.{result_map_both, result_unwrap_or};
 ghost use Rattle.humantime.specs.Prelude.{IsPrintable, text_result_view, fault_message};
-ghost use Rattle.humantime_cli.specs.Answers.{texts, Ends, EndsWith, OneAnswer, TellsMoment};
+ghost use Rattle.humantime_cli.specs.Answers.{texts, streams, Ends, EndsWith, OneAnswer, TellsMoment};
 
 use crate::message::{message_of_moment, message_of_text};
 use crate::writing::{WriteFailed, write_line};
@@ -62,7 +62,8 @@ const USAGE: &str = "usage: humantime duration|strict|weak TEXT";
 /// assert_eq!(rt; err.position(), 0);
 /// ```
 pub fn run<O: Write, E: Write>(words: &[&str], out: &mut O, err: &mut E) -> u8
-    ensures ends { Ends (texts words.now) result (O.contents out.old) (O.contents out.new) (E.contents err.old) (E.contents err.new) }
+    ensures ends { Ends (texts words.now) result (streams (O.contents out.old) (E.contents err.old))
+        (streams (O.contents out.new) (E.contents err.new)) }
     ensures one { OneAnswer (texts words.now) }
 {
     answer_words(words, out, err).unwrap_or(WRITE_FAILED)
@@ -74,7 +75,8 @@ fn answer_words<O: Write, E: Write>(
     out: &mut O,
     err: &mut E,
 ) -> Result<u8, WriteFailed>
-    ensures { Ends (texts words.now) (result_unwrap_or result 3) (O.contents out.old) (O.contents out.new) (E.contents err.old) (E.contents err.new) }
+    ensures { Ends (texts words.now) (result_unwrap_or result 3) (streams (O.contents out.old) (E.contents err.old))
+        (streams (O.contents out.new) (E.contents err.new)) }
 {
     match words {
         ["duration", text] => answer_duration(canonical(text, &mut [0; 64]), out, err),
@@ -90,8 +92,8 @@ fn answer_duration<O: Write, E: Write>(
     out: &mut O,
     err: &mut E,
 ) -> Result<u8, WriteFailed>
-    ensures { EndsWith (Some (result_map_both (λ text. text) fault_message (text_result_view read.entry))) (result_unwrap_or result 3)
-        (O.contents out.old) (O.contents out.new) (E.contents err.old) (E.contents err.new) }
+    ensures { EndsWith (Some (result_map_both (λ text. text) fault_message (text_result_view read.entry))) (result_unwrap_or result 3) (streams (O.contents out.old) (E.contents err.old))
+        (streams (O.contents out.new) (E.contents err.new)) }
 {
     match read {
         Ok(printed) => write_line(out, &[printed]).and(Ok(ACCEPTED)),
@@ -110,7 +112,8 @@ fn answer_moment<O: Write, E: Write>(
 ) -> Result<u8, WriteFailed>
     requires { IfOk read IsPrintable }
     ensures { (told : Result (List ℕ) (List ℕ)) × TellsMoment (λ moment. read ≡ Ok moment) (λ error. read ≡ Err error) told
-        × EndsWith (Some told) (result_unwrap_or result 3) (O.contents out.old) (O.contents out.new) (E.contents err.old) (E.contents err.new) }
+        × EndsWith (Some told) (result_unwrap_or result 3) (streams (O.contents out.old) (E.contents err.old))
+        (streams (O.contents out.new) (E.contents err.new)) }
 {
     match read {
         Ok(moment) => match format_rfc3339(moment).text(&mut [0; 30]) {

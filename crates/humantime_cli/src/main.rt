@@ -4,7 +4,7 @@
 #![tactic(auto)]
 
 ghost use Rattle.std.specs.Prelude.{◌≡◌, map, string_bytes, IfOk, MatchResult};
-ghost use Rattle.humantime_cli.specs.Answers.{texts, Ends, Fails};
+ghost use Rattle.humantime_cli.specs.Answers.{texts, streams, Ends, Fails};
 
 mod command;
 mod message;
@@ -37,8 +37,10 @@ fn answer_args<O: Write, E: Write>(
     err: &mut E,
 ) -> io::Result<u8>
     ensures { MatchResult result
-        (λ status. Ends (map string_bytes args.now) status (O.contents out.old) (O.contents out.new) (E.contents err.old) (E.contents err.new))
-        (λ _. Fails (map string_bytes args.now) (O.contents out.old) (O.contents out.new) (E.contents err.old) (E.contents err.new)) }
+        (λ status. Ends (map string_bytes args.now) status (streams (O.contents out.old) (E.contents err.old))
+        (streams (O.contents out.new) (E.contents err.new)))
+        (λ _. Fails (map string_bytes args.now) (streams (O.contents out.old) (E.contents err.old))
+        (streams (O.contents out.new) (E.contents err.new))) }
 {
     let status = run(words_of(alloc, args)?.as_slice(), out, err);
     out.flush()?;

@@ -1,23 +1,23 @@
-//! Durations printed.
+//! Prints durations: [`format_duration`] and [`canonical`], over the writer of `writer`.
 
-ghost use Rattle.std.specs.Prelude.{◌≡◌, ◌≤◌, ◌↔◌, ℕ, List, take, chars, IfOk, IfErr, OnErr, Some};
+ghost use Rattle.std.specs.Prelude.{◌≡◌, ◌<◌, ◌≤◌, ◌↔◌, ℕ, List, take, chars, IfOk, IfErr, OnErr, Ok, Some};
 ghost use Rattle.std.specs.Borrow.{sem};
 ghost use Rattle.std.specs.Str.{IsUtf8};
-ghost use Rattle.humantime.specs.Prelude.{Canon, Fault, HasFault, IsCanonicalOf, KeptAtErr, PointsInto, canonical_answer, duration_text, text_result_view};
+ghost use Rattle.humantime.specs.Prelude.{Canon, Fault, HasFault, IsCanonicalOf, KeptAtErr, PointsInto, canonical_answer, duration_answer, duration_end, duration_text, text_result_view};
 ghost use Rattle.humantime.specs.Steps.ResultViews.{result_view_by};
 
 use crate::buffer::str_prefix;
 use crate::duration::error::DurationError;
-use crate::duration::writer::Writer;
 use crate::duration::parse_duration;
+use crate::duration::writer::Writer;
 use crate::unit::sizes;
 use crate::value::StdDuration;
 use std::fmt;
 use std::marker::Model;
 
-/// A duration that [`text`](Self::text) and `Display` print.
+/// A duration to be printed, by [`text`](Self::text) or `Display`.
 ///
-/// [`format_duration`] makes it. Contracts see it as its number of nanoseconds.
+/// It is returned by [`format_duration`]. Contracts see it as its number of nanoseconds.
 ///
 /// # Examples
 ///
@@ -43,10 +43,10 @@ impl Model for FormattedDuration {
 
 /// Returns a value that prints `val`, such as `2h 37m`.
 ///
-/// The text is that of the crate: years of 365.25 days, months of 30.44 days, days, hours, minutes, seconds,
-/// milliseconds, microseconds and nanoseconds, each as many as there is room for. Counts of zero are left out, and
-/// years, months and days take an `s` above one. Microseconds are `µs`, with the micro sign U+00B5. A duration of zero is
-/// `0s`, and no text is longer than 64 bytes.
+/// The format is that of the Rust crate: years of 365.25 days, months of 30.44 days, days, hours, minutes, seconds,
+/// milliseconds, microseconds and nanoseconds, largest unit first, each count as large as possible. Counts of zero are left
+/// out. Years, months and days take a plural `s` above one. Microseconds are written `µs`, with the micro sign U+00B5. A
+/// duration of zero is `0s`. The text has at most 64 bytes.
 ///
 /// # Examples
 ///
@@ -81,7 +81,10 @@ impl FormattedDuration {
         &self.value
     }
 
-    /// Returns the printed text, borrowed from the front of `buf`; the bytes of `buf` after it may hold anything.
+    /// Writes the text to the front of `buf` and returns it, borrowed from there.
+    ///
+    /// The bytes of `buf` after the text are unspecified. [`parse_duration`](crate::parse_duration) reads the text back to the
+    /// same duration.
     ///
     /// # Examples
     ///
@@ -94,18 +97,20 @@ impl FormattedDuration {
     pub fn text<'b>(&self, buf: &'b mut [u8; 64]) -> &'b str
         ensures canon { Canon self.now result.now }
         ensures text { result.now ≡ duration_text self.now }
+        ensures reads_back { duration_answer (chars result.now) ≡ Ok self.now }
     {
         let end = write_duration(self.value, buf);
         str_prefix(buf, end)
     }
 }
 
-/// Writes the printed text to the front of the buffer, and says how long it is.
+/// Writes the text of a duration to the front of the buffer, and returns its length in bytes.
 #[inline(never)]
 #[tactic(auto, using(crate::proofs::Durations::Printing::CountTexts::written_is_text, crate::proofs::Durations::Printing::DecimalLengths::decimal_twelve, crate::proofs::Durations::Printing::DecimalLengths::decimal_two, crate::proofs::Durations::Printing::DecimalLengths::decimal_three))]
 fn write_duration(duration: StdDuration, buf: &mut [u8; 64]) -> usize
     ensures fits { result ≤ 64 }
     ensures text { take result buf.new ≡ duration_text duration }
+    ensures within { duration < duration_end }
     ensures utf8 { IsUtf8 (take result buf.new) }
 {
     let mut writer = Writer::new(buf);
@@ -129,7 +134,10 @@ fn write_duration(duration: StdDuration, buf: &mut [u8; 64]) -> usize
     writer.finish()
 }
 
-/// Calls the sink once, with the whole text, and answers what the sink answers. Width and fill change nothing.
+/// Writes the whole text to the formatter at once, and returns the formatter's result.
+///
+/// Width, fill and alignment are ignored, as they are in the Rust crate. To pad a duration, format the `&str` of
+/// [`text`](FormattedDuration::text).
 ///
 /// # Examples
 ///
@@ -150,12 +158,13 @@ impl fmt::Display for FormattedDuration {
     }
 }
 
-/// Returns the printed text of the duration that `s` spells, borrowed from the front of `buf`.
+/// Parses `s` and prints the duration again: writes its canonical text to the front of `buf` and returns it, borrowed from
+/// there.
 ///
 /// # Errors
 ///
-/// Returns the first fault of `s`, which [`parse_duration`] returns for it; then `buf` is unchanged. The error borrows
-/// from `s` alone, so it may be kept while the buffer is written again.
+/// Returns the error that [`parse_duration`] returns for `s`, and leaves `buf` unchanged. The error borrows from `s` alone,
+/// so it may be kept while the buffer is written again.
 ///
 /// # Examples
 ///
@@ -177,12 +186,12 @@ pub fn canonical<'a, 'b>(s: &'a str, buf: &'b mut [u8; 64]) -> Result<&'b str, D
     ensures* unchanged { sem 𝓛 (KeptAtErr 64 buf.entry result) }
 {
     let end = write_canonical(s, buf);
-    shown(buf, end)
+    text_from_len(buf, end)
 }
 
-/// The text in the first `end` bytes, or the error.
+/// Returns the text in the first `end` bytes, or the error.
 #[inline(always)]
-fn shown<'a, 'b>(
+fn text_from_len<'a, 'b>(
     buf: &'b [u8; 64],
     end: Result<usize, DurationError<'a>>,
 ) -> Result<&'b str, DurationError<'a>>
@@ -197,7 +206,7 @@ fn shown<'a, 'b>(
     }
 }
 
-/// Writes the text of `canonical` to the front of the buffer, and says how long it is.
+/// Writes the text of `canonical` to the front of the buffer, and returns its length in bytes.
 fn write_canonical<'a>(s: &'a str, buf: &mut [u8; 64]) -> Result<usize, DurationError<'a>>
     ensures unchanged { OnErr result (buf.new ≡ buf.old) }
     ensures fits { IfOk result (λ end. end ≤ 64) }

@@ -1,4 +1,4 @@
-//! A text written to the front of a caller's buffer.
+//! Writes text to the front of a caller's buffer. Counts are written by the crate `itoa`.
 
 ghost use Rattle.std.specs.Prelude.{◌≡◌, ◌<◌, ◌≤◌, ◌+◌, ◌==◌, if◌then◌else◌, true, false, codes, [], ◌∷◌, length, take, decimal};
 ghost use Rattle.std.specs.Str.{IsUtf8};
@@ -6,7 +6,7 @@ ghost use Rattle.std.proofs.Props.{props};
 
 use itoa::Buffer;
 
-/// A buffer, and how many of its bytes are written: a text.
+/// A buffer whose first `end` bytes are the text written so far.
 #[derive(Drop)]
 pub(crate) struct Writer<'b> {
     bytes: &'b mut [u8],
@@ -16,10 +16,9 @@ pub(crate) struct Writer<'b> {
 }
 
 impl<'b> Writer<'b> {
-    ghost use Rattle.humantime.specs.Durations.Counts.{printed_counts};
-    ghost use Rattle.humantime.specs.Steps.Writing.{behind, written, Appends, HasWritten};
+    ghost use Rattle.humantime.specs.Steps.Writing.{most_bytes, written, Appends, AppendsCount, HasWritten};
 
-    /// Nothing written yet.
+    /// Returns a writer that has written nothing yet.
     #[inline(always)]
     pub(crate) fn new(bytes: &'b mut [u8]) -> Writer<'b>
         ensures same_reference { result.bytes.ghost_name ≡ bytes.entry.ghost_name }
@@ -30,7 +29,7 @@ impl<'b> Writer<'b> {
         Writer { bytes, end: 0 }
     }
 
-    /// Writes the text.
+    /// Writes a text.
     #[inline(always)]
     fn push(&mut self, text: &str)
         requires fits { self.old.end + length text.now ≤ length self.old.bytes.now }
@@ -42,7 +41,7 @@ impl<'b> Writer<'b> {
         self.end = end;
     }
 
-    /// Writes the number's decimal digits.
+    /// Writes the decimal digits of a number.
     #[inline(always)]
     fn push_number(&mut self, number: u64)
         requires fits { self.old.end + length (decimal number) ≤ length self.old.bytes.now }
@@ -52,13 +51,11 @@ impl<'b> Writer<'b> {
         self.push(buf.format(number));
     }
 
-    /// Writes a count and its unit, with a space before it where it is not the first; a count of zero is left out.
+    /// Writes a count and its unit, after a space if it is not the first. A count of zero is left out.
     #[inline(always)]
     pub(crate) fn push_count(&mut self, count: u64, unit: &str)
-        requires fits { self.old.end + 1 + length (decimal count) + length unit.now ≤ length self.old.bytes.now }
-        ensures written { HasWritten self.old self.new (behind (written self.old) (printed_counts (count ∷ []) ((unit.now, false) ∷ []))) }
-        ensures end { self.new.end ≤ self.old.end + 1 + length (decimal count) + length unit.now }
-        ensures first { self.old.end ≡ 0 → self.new.end ≤ length (decimal count) + length unit.now }
+        requires fits { self.old.end + 1 + most_bytes count (unit.now, false) ≤ length self.old.bytes.now }
+        ensures { AppendsCount self.old self.new count (unit.now, false) }
     {
         if count == 0 {
             return;
@@ -70,13 +67,11 @@ impl<'b> Writer<'b> {
         self.push(unit);
     }
 
-    /// Writes a count and its unit as `push_count` does, with an `s` behind the unit of more than one.
+    /// Writes a count and its unit as `push_count` does, with an `s` after the unit if the count is above one.
     #[inline(always)]
     pub(crate) fn push_plural(&mut self, count: u64, unit: &str)
-        requires fits { self.old.end + 2 + length (decimal count) + length unit.now ≤ length self.old.bytes.now }
-        ensures written { HasWritten self.old self.new (behind (written self.old) (printed_counts (count ∷ []) ((unit.now, true) ∷ []))) }
-        ensures end { self.new.end ≤ self.old.end + 2 + length (decimal count) + length unit.now }
-        ensures first { self.old.end ≡ 0 → self.new.end ≤ 1 + length (decimal count) + length unit.now }
+        requires fits { self.old.end + 1 + most_bytes count (unit.now, true) ≤ length self.old.bytes.now }
+        ensures { AppendsCount self.old self.new count (unit.now, true) }
     {
         self.push_count(count, unit);
         if count > 1 {
@@ -84,7 +79,7 @@ impl<'b> Writer<'b> {
         }
     }
 
-    /// Writes zero seconds where nothing is written.
+    /// Writes zero seconds if nothing is written yet.
     #[inline(always)]
     pub(crate) fn push_zero_if_empty(&mut self)
         requires { 2 ≤ length self.old.bytes.now }
@@ -95,7 +90,7 @@ impl<'b> Writer<'b> {
         }
     }
 
-    /// How many bytes are written.
+    /// Returns the number of bytes written.
     #[inline(always)]
     pub(crate) fn finish(self) -> usize
         ensures most { result ≤ length self.entry.bytes.now }

@@ -32,8 +32,8 @@ use Rattle.humantime.proofs.duration.print.canonical.Code as code
 use Rattle.humantime.proofs.duration.print.canonical.Lts as lts
 use Rattle.humantime.specs.contracts.duration.print.write_canonical as g
 use Rattle.humantime.proofs.duration.print.write_canonical.Met as g-met
-use Rattle.humantime.specs.contracts.duration.print.shown as h
-use Rattle.humantime.proofs.duration.print.shown.Met as h-met
+use Rattle.humantime.specs.contracts.duration.print.text_from_len as h
+use Rattle.humantime.proofs.duration.print.text_from_len.Met as h-met
 
 abbrev stayed : Stays f.ended.signature.params f.ended.kept
 stayed = (stay_dropped _ yes, (stay_dropped _ no, tt))
@@ -104,7 +104,7 @@ canonical_spec {M} 𝓤 𝓛 𝓜 𝓡 wired =
     nothing ! $ move ! (4 ∷ 0 ∷ []) $ join ! $ move ! (2 ∷ 0 ∷ []) $ join ! $ join ! $
     use0 𝓛 (raw (fact 𝓤 (IfOk m (λ n. IsUtf8 (take n y))))) (fact_i 𝓤 _ (emp 𝓤) utf8) $
     use0 𝓛 (raw (fact 𝓤 (IfOk m (λ n. n ≤ 64)))) (fact_i 𝓤 _ (emp 𝓤) fits) $ join ! $ move ! (1 ∷ 0 ∷ []) $ use2 𝓛 (raw (H.pre z')) (id⊢ 𝓤 _) $
-    calls_at ! (framed 𝓤 𝓛.H 𝓜 (tables 𝓤 𝓛.H 𝓜 𝓡 𝓡.env)) H (h-met.met 𝓤 𝓛 𝓜 𝓡 (code.calls-humantime::duration::print::shown 𝓡.env wired)) z'
+    calls_at ! (framed 𝓤 𝓛.H 𝓜 (tables 𝓤 𝓛.H 𝓜 𝓡 𝓡.env)) H (h-met.met 𝓤 𝓛 𝓜 𝓡 (code.calls-humantime::duration::print::text_from_len 𝓡.env wired)) z'
     (and_then ! (get ! refl) (and_then ! (get ! refl) (no_more !))) (λ w.
     use1 𝓛 (later (some (λ (t : Result (Bor (List ℕ)) DurationError). ((‵ (flft κ q) ⊛ ‵ (flft κ₀ q₀) ⊛ ‵ ftrue) ⊛ ‵ (Res.own_val t (w ∷ []))) ⊛
     some (λ (ws' : Lasts h.ended z'.0.0 z'.0.3). ‵ (lasts h.ended z'.0.0 z'.0.3 ws') ⊛ raw (fact 𝓤 (IfOk m (λ n. text_result_view t ≡ Ok (take n y)))) ⊛ raw (fact 𝓤 (IfErr m (λ e. t ≡ Err e))))))) (id⊢ 𝓤 _) $
