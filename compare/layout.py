@@ -1,7 +1,7 @@
-"""Lays out and builds the library and the Rust crate in one process, for bench/run and diff/run.
+"""Lays out and builds the library and the Rust crate in one process, for compare/bench and compare/diff.
 
 Both are built from nothing but this repository, the kit, cargo and the crate's folder, in a folder elsewhere: the library
-is proved there as a static library with one function of C for each call (exports.rt.txt).
+is proved there as a static library with one function of C for each call (src/exports.rt.txt).
 """
 import os
 import re
@@ -11,6 +11,7 @@ import sys
 
 HERE = os.path.dirname(os.path.abspath(__file__))
 ROOT = os.path.dirname(HERE)
+SOURCES = os.path.join(HERE, "src")
 # Nothing can depend on a program, so its own crate is exported, with `exports.rt.txt` in place of its `main.rt`.
 EXPORTS = "humantime_cli"
 CARGO = """[package]
@@ -56,7 +57,7 @@ def exports(top):
     os.remove(main)
     for function in functions:
         shutil.rmtree(os.path.join(place, "proofs", function), ignore_errors=True)
-    shutil.copy(os.path.join(HERE, "exports.rt.txt"), os.path.join(place, "src", "lib.rt"))
+    shutil.copy(os.path.join(SOURCES, "exports.rt.txt"), os.path.join(place, "src", "lib.rt"))
     with open(os.path.join(top, "crates.txt"), "w") as file:
         file.write(f"humantime: itoa\n{EXPORTS} staticlib: humantime itoa\n")
     if not os.path.exists(os.path.join(top, ".git")):
@@ -77,12 +78,11 @@ def library(top, backend):
 
 
 def program(top, name, sources, crate, folder, cpu, **environment):
-    """Builds the sources (the first is the main one) with the crate and the static library of this folder."""
+    """Builds these files of src/ (the first is the main one) with the crate and the static library of this folder."""
     place = os.path.join(top, name)
     os.makedirs(place, exist_ok=True)
-    for number, source in enumerate(sources):
-        shutil.copy(source, os.path.join(place, os.path.basename(source) if number else "main.rs"))
-    shutil.copy(os.path.join(HERE, "library.rs"), place)
+    for number, source in enumerate([*sources, "library.rs"]):
+        shutil.copy(os.path.join(SOURCES, source), os.path.join(place, source if number else "main.rs"))
     with open(os.path.join(place, "Cargo.toml"), "w") as file:
         file.write(CARGO.format(name=name, crate=os.path.abspath(crate)))
     flags = f"-C target-cpu={cpu} -L native={folder} -l static={EXPORTS}"

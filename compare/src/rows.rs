@@ -18,7 +18,7 @@ pub enum Row {
     BytesAfterZone,
 }
 
-/// Each row, as far as diff/run finds it at the head of a row of the page.
+/// Each row, as far as compare/diff finds it at the head of a row of the page.
 pub const ROWS: [(Row, &str); 10] = [
     (Row::MicroSignPrinted, "prints `us`, and `µs` with the feature `mu`"),
     (Row::PanicBefore1970, "`Display` of a moment before 1970 panics"),

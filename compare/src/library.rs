@@ -1,4 +1,4 @@
-//! The library's calls, as ffi/exports.rt.txt exports them.
+//! The library's calls, as compare/src/exports.rt.txt exports them.
 
 #![allow(dead_code)]
 
