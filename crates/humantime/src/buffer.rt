@@ -1,11 +1,11 @@
-//! A text at the front of a caller's buffer.
+//! The text at the front of a caller's buffer.
 
 ghost use Rattle.std.specs.Prelude.{◌≡◌, ◌≤◌, length, take};
 ghost use Rattle.std.specs.Str.{IsUtf8};
 
 use std::str::from_utf8_unchecked;
 
-/// The text in the first `end` bytes.
+/// Returns the text in the first `end` bytes of the buffer.
 #[inline(always)]
 pub(crate) fn str_prefix(buf: &[u8], end: usize) -> &str
     requires fits { end ≤ length buf.now }

@@ -1,6 +1,7 @@
-//! Laws of the definitions. Each function does nothing when it runs; its contract is the law, for every argument.
+//! Laws of the definitions that contracts cite.
 //!
-//! A caller of a law has it for these arguments in its own proof.
+//! Each function does nothing at run time: its contract states the law, for every argument. A caller that needs the law in its
+//! own proof calls the function with the values that the law is about.
 
 mod days;
 mod durations;

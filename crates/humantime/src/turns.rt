@@ -1,4 +1,4 @@
-//! A count of loop iterations that contracts see and that takes no bytes at run time.
+//! [`Turns`]: a count of loop iterations that only contracts see; at run time it takes no bytes.
 
 ghost use Rattle.std.specs.Prelude.{◌≡◌, ◌+◌};
 
@@ -6,17 +6,17 @@ use std::marker::Model;
 use std::mem;
 use std::snapshot::Snapshot;
 
-/// One `Next` for each turn. At run time a chain is never kept: a snapshot has no bytes.
+/// One `Next` for each iteration. At run time nothing is stored: a snapshot takes no bytes.
 #[derive(Drop)]
 enum Chain {
     Start,
     Next(Snapshot<Chain>),
 }
 
-/// A count of loop iterations: a whole number from 0, without a greatest value.
+/// A count of loop iterations: a whole number, starting at 0, without an upper bound.
 ///
-/// Contracts alone see it: at run time it has no bytes, and counting costs nothing. A loop of the calendar begins each
-/// iteration by counting one, so a contract can say how many iterations a call takes.
+/// Only contracts see it. At run time it takes no bytes, and counting costs nothing. The loop of [`date_of_day`](crate::date_of_day)
+/// counts each of its iterations here, so a contract can bound how many iterations a call takes.
 ///
 /// # Examples
 ///
@@ -64,7 +64,7 @@ impl Turns {
         }
     }
 
-    /// Counts one turn.
+    /// Counts one iteration.
     pub(crate) fn tick(&mut self)
         ensures { self.new ≡ self.old + 1 }
     {

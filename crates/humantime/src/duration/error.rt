@@ -1,4 +1,4 @@
-//! What is wrong with a text that is no duration.
+//! [`DurationError`]: the error of parsing a duration, and its messages.
 
 ghost use Rattle.std.specs.Prelude.{◌++◌, Some, [], decimal};
 ghost use Rattle.std.specs.Fmt.{WritesOnOk, WritesStyledOnOk};
@@ -8,10 +8,10 @@ use itoa::Buffer;
 use std::error::Error;
 use std::fmt;
 
-/// Why a text is no duration. Offsets are in bytes.
+/// The error returned when parsing a duration fails.
 ///
-/// `Display` writes the crate's message, with the unit as it stands in the text. Two errors are equal if their variants
-/// and fields are; two units are equal if their texts are.
+/// Offsets are in bytes, and lie on `char` boundaries of the text. `Display` writes the message of the Rust crate, with the
+/// unit as it stands in the text. Two errors are equal if their variants and fields are equal; units are compared as text.
 ///
 /// # Examples
 ///
@@ -25,30 +25,31 @@ use std::fmt;
 /// ```
 #[derive(Clone, Copy, PartialEq, Eq, Debug)]
 pub enum DurationError<'a> {
-    /// A character at this offset has no place in a span.
+    /// The character at this offset cannot stand there, or the point at this offset has no digit after it.
     InvalidCharacter(usize),
-    /// A number has to begin at this offset, and another character stands there.
+    /// A number was expected at this offset, but another character was found.
     NumberExpected(usize),
-    /// The letters after a number are no unit's word, or there are none.
+    /// The letters after a number do not name a unit, or the text ends without a unit.
     UnknownUnit {
-        /// The offset where the unit begins.
+        /// The offset of the unit's first letter, or the text's length if the unit is missing.
         start: usize,
-        /// The offset after the unit.
+        /// The offset after the unit's last letter.
         end: usize,
         /// The unit, borrowed from the text; empty if it is missing.
         unit: &'a str,
         /// The number before the unit.
         value: u64,
     },
-    /// A limit is broken. A number, its product with its unit's size, or a sum is too large. Or a fraction, without
-    /// the zeros at its end, has more than 19 digits, has too large a product with its unit's size, or is no whole
-    /// number of what its unit counts fractions in: nanoseconds up to minutes, seconds from hours up.
+    /// A number, its product with the size of its unit, or the sum overflows; or a fraction cannot be represented.
+    ///
+    /// A fraction, without its trailing zeros, has at most 19 digits. Its product with the size of its unit has to fit `u64`,
+    /// and has to be a whole number of nanoseconds (for units up to minutes) or of seconds (from hours on).
     NumberOverflow,
-    /// The text is empty or has only whitespace.
+    /// The text is empty or consists of whitespace only.
     Empty,
 }
 
-/// Writes the message. Width and fill change nothing.
+/// Writes the message. Width, fill and alignment are ignored.
 impl fmt::Display for DurationError<'_> {
     ghost output = { λ e. Some (fault_message (fault_of e)) };
 
@@ -73,7 +74,7 @@ impl fmt::Display for DurationError<'_> {
 
 impl Error for DurationError<'_> {}
 
-/// Writes the text and the number behind it.
+/// Writes the text, and then the number.
 fn write_number<W: fmt::Write>(text: &str, number: u64, f: &mut fmt::Formatter<W>) -> fmt::Result
     ensures writes { WritesOnOk W.write_str_gives f.old result (text.now ++ decimal number) f.new }
     ensures styled { WritesStyledOnOk W.write_str_gives f.old result (text.now ++ decimal number) f.new }
@@ -82,7 +83,7 @@ fn write_number<W: fmt::Write>(text: &str, number: u64, f: &mut fmt::Formatter<W
     f.write_str(Buffer::new().format(number))
 }
 
-/// Writes what is said of a unit that is missing or no unit's word. `value` is the number before it.
+/// Writes the message of an unknown or missing unit. `value` is the number before it.
 fn write_unit<W: fmt::Write>(unit: &str, value: u64, f: &mut fmt::Formatter<W>) -> fmt::Result
     ensures writes { WritesOnOk W.write_str_gives f.old result (unit_message unit.now value) f.new }
     ensures styled { WritesStyledOnOk W.write_str_gives f.old result (unit_message unit.now value) f.new }
@@ -97,7 +98,7 @@ fn write_unit<W: fmt::Write>(unit: &str, value: u64, f: &mut fmt::Formatter<W>) 
     )
 }
 
-/// Writes what is said of a number with no unit.
+/// Writes the message of a missing unit.
 fn write_unit_needed<W: fmt::Write>(value: u64, f: &mut fmt::Formatter<W>) -> fmt::Result
     ensures writes { WritesOnOk W.write_str_gives f.old result (unit_message [] value) f.new }
     ensures styled { WritesStyledOnOk W.write_str_gives f.old result (unit_message [] value) f.new }

@@ -1,4 +1,4 @@
-//! Laws of days and dates.
+//! The law of days and dates: each day has one date.
 
 ghost use Rattle.std.specs.Prelude.{◌≤◌};
 ghost use Rattle.humantime.specs.declared.calendar.Date.{Date};

@@ -1,12 +1,12 @@
-//! Laws of the texts of durations.
+//! Laws of the texts of durations: one outcome, and spans that decide it.
 
 ghost use Rattle.std.specs.Prelude.{chars};
 ghost use Rattle.humantime.specs.Laws.Outcomes.{HasOneOutcome, ItemsDecide};
 
-/// States that a text has exactly one value or exactly one first fault, and at most one list of spans.
+/// States that a text has exactly one value or exactly one first error, and at most one list of spans.
 ///
-/// It also has exactly one list of items: spans, and what stops them. The answer, as a function of the text, is that
-/// value or that fault.
+/// It also has exactly one list of items: its spans, and the error that ends them, if any. The answer, as a function of the
+/// text, is that value or that error.
 ///
 /// # Examples
 ///
@@ -22,10 +22,11 @@ pub fn one_outcome(s: &str)
     ensures { HasOneOutcome (chars s.now) }
 {}
 
-/// States that the items of a text decide its value or its fault, unless the text is exactly `0`.
+/// States that the items of a text decide its value or its error, unless the text is exactly `0`.
 ///
-/// A text whose spans are within the limits stands for their sum, or has the fault that stops them. A text whose spans
-/// break a limit is too large, whatever stops them. So an error that is the first item is the text's first fault.
+/// If the spans are within the limits, the text denotes their sum, or has the error that ends them. If the spans break a limit,
+/// the error is [`NumberOverflow`](crate::DurationError::NumberOverflow), whatever ends them. So an error that is the first item is
+/// the text's first error.
 ///
 /// # Examples
 ///

@@ -1,4 +1,4 @@
-//! Laws of printed durations.
+//! Laws of printed durations: they are read back, differ, and are bounded.
 
 ghost use Rattle.humantime.specs.Laws.Printed.{IsBounded, IsCanonicalAgain, PrintApart, PrintsAndReads};
 

@@ -1,11 +1,11 @@
-//! What the spans of a text lend of it.
+//! The law of spans: the slices that they borrow cover a text in order, except whitespace and points.
 
 ghost use Rattle.std.specs.Prelude.{chars};
 ghost use Rattle.humantime.specs.Laws.Outcomes.{HasOneItemList};
 
-/// States that a text has exactly one list of items that gives it slice by slice, in order.
+/// States that a text has exactly one list of items, whose slices follow each other in the text.
 ///
-/// What lies in no slice is whitespace, or the point before a fraction. So two walks over a text give the same slices.
+/// What lies in no slice is whitespace or the point of a fraction. So two iterations over a text give the same slices.
 ///
 /// # Examples
 ///

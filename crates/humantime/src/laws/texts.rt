@@ -1,10 +1,10 @@
-//! Laws of accepted texts: without whitespace, one behind the other, in another order, and accepted before.
+//! Laws of accepted texts: without whitespace, concatenated, reordered, and accepted by an earlier rule.
 
 ghost use Rattle.std.specs.Prelude.{◌≡◌, ◌++◌, chars};
 ghost use Rattle.humantime.specs.Laws.Older.{KeepsValueWithZeros};
 ghost use Rattle.humantime.specs.Laws.Texts.{AddWhenJoined, KeepValueReordered, KeepsValueWithoutWhitespace};
 
-/// States that an accepted text without its whitespace is accepted with the same value, so both have one answer.
+/// States that an accepted text is still accepted without its whitespace, with the same value.
 ///
 /// # Examples
 ///
@@ -20,11 +20,12 @@ pub fn without_ws(s: &str)
     ensures { KeepsValueWithoutWhitespace (chars s.now) }
 {}
 
-/// States that of two accepted texts, neither exactly `0`, the one behind the other is accepted with their sum, or too large.
+/// States that the concatenation of two accepted texts, neither of them `0`, is accepted with the sum of their values, unless the
+/// sum overflows.
 ///
-/// It is accepted with the sum of their values exactly if the running sums have room, and is too large exactly if they
-/// have not. The running sums are those of the additions of the first text's spans and then of the second's. An accepted
-/// text that is not exactly `0` is spans, so what is said of each reading of the two is said of the two.
+/// It overflows exactly if a running sum does, of the additions of the first text's spans and then of the second's; the error is
+/// [`NumberOverflow`](crate::DurationError::NumberOverflow). An accepted text other than `0` consists of spans, so what is stated of
+/// each reading of the two texts is stated of the texts.
 ///
 /// # Examples
 ///
@@ -43,8 +44,8 @@ pub fn joined(a: &str, b: &str)
 
 /// States that two accepted texts whose spans are reorderings of each other have equal values.
 ///
-/// A reordering of an accepted text may be refused. The text `0` has no spans, so it is no reordering of any text, and
-/// the law says nothing of its value.
+/// A reordering of an accepted text may overflow. The text `0` has no spans, so it is not a reordering of any text, and the law
+/// does not apply to it.
 ///
 /// # Examples
 ///
@@ -65,17 +66,17 @@ pub fn reordered(a: &str, b: &str)
     ensures { KeepValueReordered (chars a.now) (chars b.now) }
 {}
 
-/// States that a text that was accepted while zeros at the end of a fraction counted is accepted with the same value.
+/// States that a text that was accepted while trailing zeros of a fraction still counted is accepted with the same value.
 ///
-/// They counted for the 19 digits that a fraction may have, and for the product and the power of ten by which it has to
-/// be whole; and nanoseconds had no fraction at all.
+/// By that earlier rule, trailing zeros counted towards the 19 digits that a fraction may have and towards its precision, and
+/// nanoseconds took no fraction at all.
 ///
 /// # Examples
 ///
 /// ```
 /// use humantime::{StdDuration, laws, parse_duration};
 ///
-/// // This text was accepted before, and the one with a zero more was too large.
+/// // The earlier rule accepted this text, but not the one with one more zero.
 /// laws::still_accepted("1.5000000000s");
 /// assert_eq!(rt; parse_duration("1.5000000000s"), Ok(StdDuration::new(1, 500_000_000)));
 /// assert_eq!(rt; parse_duration("1.50000000000s"), Ok(StdDuration::new(1, 500_000_000)));

@@ -1,4 +1,4 @@
-//! Laws of timestamps.
+//! Laws of timestamps: the strict form, one outcome, printed text that is read back, and its order.
 
 ghost use Rattle.std.specs.Prelude.{◌↔◌, ◌<ℤ◌, ℕ, List, IsTrue};
 ghost use Rattle.std.specs.Cmp.Lexicographic.{slice_cmp};
@@ -11,7 +11,7 @@ use crate::value::SystemTime;
 
 /// States that a text in strict form is one in weak form with a `T` between date and time and a zone at its end.
 ///
-/// So the strict parser gives a moment exactly if the weak one gives it and the text has these marks.
+/// So the strict parser returns a moment exactly if the weak one returns it and the text has this `T` and this zone.
 ///
 /// # Examples
 ///
@@ -33,9 +33,9 @@ pub fn strict_is_weak(s: &str)
     let _ = s;
 }
 
-/// States that each text has one outcome for each parser, which is the parser's answer as a function of the text.
+/// States that each text has exactly one outcome for each parser, which is the parser's answer as a function of the text.
 ///
-/// The text shows date and time exactly if no check fails, and then no others.
+/// A text represents a date and a time exactly if no check fails, and then only one of each.
 ///
 /// # Examples
 ///
@@ -53,9 +53,9 @@ pub fn one_stamp_outcome(s: &str)
     let _ = s;
 }
 
-/// States that a moment of 1970 to 9999 has one printed text, from which both parsers read the moment.
+/// States that a moment from 1970 to 9999 has one printed text, from which both parsers read the moment back.
 ///
-/// They read it cut to the digits that are printed. `Display` writes that text.
+/// They read it truncated to the digits that are printed. `Display` writes that text.
 ///
 /// # Examples
 ///
@@ -78,7 +78,7 @@ pub fn printed_moment_reads(x: &Rfc3339Timestamp)
     let _ = x.get_ref();
 }
 
-/// States that printed texts with equally many digits sort, as bytes, as their moments do, cut to these digits.
+/// States that printed texts with the same number of digits are ordered, as bytes, as their truncated moments are.
 ///
 /// # Examples
 ///

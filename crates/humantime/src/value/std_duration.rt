@@ -1,4 +1,4 @@
-//! A duration of whole nanoseconds.
+//! [`StdDuration`]: a duration of whole nanoseconds.
 
 ghost use Rattle.std.specs.Prelude.{◌≡◌, ◌==◌, ◌+◌, ◌*◌, ◌/◌, ◌%◌, ◌^◌, ◌<◌, SomeIff};
 ghost use Rattle.std.proofs.Common.{rules};
@@ -13,8 +13,8 @@ use std::marker::Model;
 
 /// A length of time: whole seconds (`u64`) and nanoseconds below 10^9.
 ///
-/// It has the methods of the `Duration` of Rust's standard library that a reader and a printer need. Contracts see
-/// it as its number of nanoseconds. Order and equality are those of that number, and the default is zero.
+/// It stands for the `Duration` of Rust's standard library, with the methods that a parser and a printer need. Contracts
+/// see it as its total number of nanoseconds; order and equality are those of this total. The default is zero.
 ///
 /// # Examples
 ///
@@ -81,8 +81,8 @@ impl StdDuration {
 
     /// Creates a duration of `secs` seconds and `nanos` nanoseconds.
     ///
-    /// Each 10^9 nanoseconds are carried into one second. The caller has to prove that the seconds with this carry fit
-    /// `u64`; [`checked_new`](Self::checked_new) makes that test at run time.
+    /// Nanoseconds of 10^9 and more are carried into the seconds. The caller has to prove that the sum of the seconds does
+    /// not overflow `u64`; [`checked_new`](Self::checked_new) tests that at run time.
     ///
     /// # Examples
     ///
@@ -102,9 +102,9 @@ impl StdDuration {
         StdDuration { secs, nanos }
     }
 
-    /// Creates a duration of `secs` seconds and `nanos` nanoseconds, or returns `None` if its seconds do not fit `u64`.
+    /// Creates a duration of `secs` seconds and `nanos` nanoseconds, or returns `None` if its seconds overflow `u64`.
     ///
-    /// Each 10^9 nanoseconds are carried into one second.
+    /// Nanoseconds of 10^9 and more are carried into the seconds.
     ///
     /// # Examples
     ///
@@ -158,7 +158,7 @@ impl StdDuration {
         StdDuration { secs, nanos }
     }
 
-    /// Returns the whole seconds, without the nanoseconds beyond them.
+    /// Returns the number of whole seconds, without the fractional part.
     ///
     /// # Examples
     ///
@@ -174,7 +174,7 @@ impl StdDuration {
         self.secs
     }
 
-    /// Returns the nanoseconds beyond the whole seconds, below 10^9.
+    /// Returns the fractional part in nanoseconds, always less than 10^9.
     ///
     /// # Examples
     ///
@@ -190,7 +190,7 @@ impl StdDuration {
         self.nanos
     }
 
-    /// Returns the sum, or `None` if it is longer than [`MAX`](Self::MAX).
+    /// Adds two durations, or returns `None` if the sum is longer than [`MAX`](Self::MAX).
     ///
     /// # Examples
     ///
@@ -209,7 +209,7 @@ impl StdDuration {
         StdDuration::checked_new(secs, self.nanos + other.nanos)
     }
 
-    /// The sum with so many seconds, or `None` where its whole seconds do not fit `u64`.
+    /// Adds `secs` seconds, or returns `None` if the whole seconds overflow `u64`.
     #[inline]
     pub(crate) fn checked_add_secs(self, secs: u64) -> Option<StdDuration>
         ensures { SomeIff result (self / nanos_per_second + secs < 2 ^ 64) (self + secs * nanos_per_second) }
@@ -218,14 +218,14 @@ impl StdDuration {
         Some(StdDuration { secs, ..self })
     }
 
-    /// The sum with so many nanoseconds, or `None` where its whole seconds, or these and the nanoseconds
-    /// beyond the whole seconds, do not fit `u64`.
+    /// Adds `nanos` nanoseconds. Returns `None` if the whole seconds overflow `u64`, or if `nanos` and the nanoseconds of the
+    /// fractional part together do.
     #[inline]
     pub(crate) fn checked_add_nanos(self, nanos: u64) -> Option<StdDuration>
         ensures { SomeIff result ((self % nanos_per_second + nanos < 2 ^ 64) × ((self + nanos) / nanos_per_second < 2 ^ 64)) (self + nanos) }
     {
         let sum = nanos.checked_add(self.nanos as u64)?;
-        // Most sums carry nothing, and then nothing has to be divided.
+        // Most sums carry nothing, so the division is skipped.
         if sum < NANOS_PER_SECOND as u64 {
             let nanos = sum as u32;
             return Some(StdDuration { nanos, ..self });

@@ -1,4 +1,4 @@
-//! A moment in time.
+//! [`SystemTime`]: a moment in time.
 
 ghost use Rattle.std.specs.Prelude.{◌≡◌, ℕ, ℤ, pos, ◌+◌, ◌*◌, ◌^◌, ◌<◌, ◌↔◌, ◌+ℤ◌, ◌≤ℤ◌, ◌<ℤ◌, SomeIff, IsOk, IfOk, IfErr};
 ghost use Rattle.std.proofs.Common.{rules};
@@ -24,10 +24,10 @@ use std::marker::Model;
 /// ```
 pub const UNIX_EPOCH: SystemTime = SystemTime { secs: 0, nanos: 0 };
 
-/// A moment: seconds from 1970-01-01T00:00:00Z (`i64`) and nanoseconds below 10^9 after them.
+/// A moment in time: seconds since 1970-01-01T00:00:00Z (`i64`), and nanoseconds below 10^9 after that second.
 ///
-/// It has the methods of the `SystemTime` of Rust's standard library that a reader and a printer need. Contracts see
-/// it as its number of nanoseconds from 1970, which is negative before. Order and equality are those of that number.
+/// It stands for the `SystemTime` of Rust's standard library, with the methods that a parser and a printer need. Contracts
+/// see it as its number of nanoseconds since 1970-01-01T00:00:00Z, negative before; order and equality are those of this number.
 ///
 /// # Examples
 ///
@@ -64,10 +64,9 @@ impl Model for SystemTime {
         λ i. record { secs = secs i; nanos = nanos i } };
 }
 
-/// The error of [`SystemTime::duration_since`]: `earlier` is later than the moment.
+/// The error returned by [`SystemTime::duration_since`] if `earlier` is later than the moment.
 ///
-/// It holds the difference of the two. Contracts see it as the nanoseconds between them; equality is that of this
-/// difference.
+/// It keeps how much later it is. Contracts see it as that number of nanoseconds, and equality is that of this number.
 ///
 /// # Examples
 ///
@@ -93,7 +92,7 @@ impl Model for SystemTimeError {
 }
 
 impl SystemTimeError {
-    /// Returns how much later the moment is that was taken as the earlier one.
+    /// Returns how much later `earlier` was than the moment.
     ///
     /// # Examples
     ///
@@ -113,9 +112,9 @@ impl SystemTimeError {
 }
 
 impl SystemTime {
-    /// Creates the moment `secs` seconds from 1970-01-01T00:00:00Z and `nanos` nanoseconds after that.
+    /// Creates the moment `nanos` nanoseconds after second `secs`, or returns `None` if `nanos` is 10^9 or more.
     ///
-    /// Negative seconds are before 1970. Returns `None` if `nanos` is 10^9 or more.
+    /// Seconds are counted from 1970-01-01T00:00:00Z, and are negative before it.
     ///
     /// # Examples
     ///
@@ -136,7 +135,7 @@ impl SystemTime {
         }
     }
 
-    /// Returns the whole seconds from 1970-01-01T00:00:00Z, rounded down; they are negative before it.
+    /// Returns the whole seconds since 1970-01-01T00:00:00Z, rounded down; they are negative before it.
     ///
     /// # Examples
     ///
@@ -155,9 +154,9 @@ impl SystemTime {
         self.secs
     }
 
-    /// Returns the nanoseconds after that second, below 10^9.
+    /// Returns the nanoseconds after the second of [`unix_seconds`](Self::unix_seconds), always less than 10^9.
     ///
-    /// That second is the one of [`unix_seconds`](Self::unix_seconds), so before 1970 too they count forwards.
+    /// They count forwards before 1970 too, since that second is rounded down.
     ///
     /// # Examples
     ///
@@ -176,7 +175,7 @@ impl SystemTime {
         self.nanos
     }
 
-    /// Returns the moment that is later by `duration`, or `None` if its seconds do not fit `i64`.
+    /// Adds a duration, or returns `None` if the seconds of the later moment overflow `i64`.
     ///
     /// # Examples
     ///
@@ -201,11 +200,12 @@ impl SystemTime {
         })
     }
 
-    /// Returns the time from `earlier` to this moment.
+    /// Returns the duration from `earlier` to this moment.
     ///
     /// # Errors
     ///
-    /// Returns [`SystemTimeError`] if `earlier` is the later one; it holds the time from this moment to `earlier`.
+    /// Returns [`SystemTimeError`] if `earlier` is later than this moment. The error keeps the duration from this moment to
+    /// `earlier`.
     ///
     /// # Examples
     ///
@@ -231,7 +231,7 @@ impl SystemTime {
         }
     }
 
-    /// The moment so many seconds and nanoseconds after 1970 began.
+    /// Creates the moment `secs` seconds and `nanos` nanoseconds after 1970-01-01T00:00:00Z.
     #[inline(always)]
     pub(crate) fn since_epoch(secs: u64, nanos: u32) -> SystemTime
         requires secs { secs < 2 ^ 63 }
@@ -242,7 +242,7 @@ impl SystemTime {
         SystemTime { secs, nanos }
     }
 
-    /// The time from a moment that is not later.
+    /// Returns the duration from a moment that is not later.
     fn since(self, earlier: SystemTime) -> StdDuration
         requires { earlier ≤ℤ self }
         ensures { self ≡ earlier +ℤ pos result }
