@@ -5,7 +5,7 @@ use Rattle.humantime.specs.declared.date.error.TimestampError.{TimestampError}
 use Rattle.humantime.specs.declared.date.print.Precision.{Precision}
 use Rattle.humantime.specs.declared.date.print.Precision.TheVariants.{Seconds, Millis, Micros, Nanos}
 use Rattle.humantime.specs.Values.{nanos_per_second, seconds_per_day}
-use Rattle.humantime.specs.Timestamps.Checks.{numbers_of, fraction_part, weak_checks, strict_checks, first_failed}
+use Rattle.humantime.specs.Timestamps.Checks.{date_time_of, fraction_part, weak_checks, strict_checks, first_failed}
 use Rattle.humantime.specs.Timestamps.Fields.{digit, Letter_T, Letter_Z, Fields, fields_text, fraction_nanos, seconds_of, IsWeakMoment}
 use Rattle.humantime.specs.Timestamps.Printed.{MomentToPrint, year_10000, places_of}
 use Rattle.humantime.specs.Answers.Dates.{date_of}
@@ -13,7 +13,7 @@ use Rattle.humantime.specs.Answers.Dates.{date_of}
 -- the moment of the numbers and of the fraction at their places
 abbrev pub moment_at : List ℕ → ℕ
 moment_at bytes =
-    let x = numbers_of bytes in
+    let x = date_time_of bytes in
     seconds_of x.date x.hour x.minute x.second * nanos_per_second + fraction_nanos (drop 1 (fraction_part bytes))
 
 -- the moment t where no check failed, else the error

@@ -1,14 +1,14 @@
 //! The parsers of timestamps.
 
-ghost use Rattle.std.specs.Prelude.{nat_le, ◌≡◌, ◌+◌, ◌-◌, ◌*◌, ◌^◌, ◌<◌, ◌≤◌, ◌↔◌, ◌&&◌, length, drop, min, IsTrue, IfSome, SomeIff, Ok, Err, Some, ℤ, codes};
+ghost use Rattle.std.specs.Prelude.{false, nat_le, ◌≡◌, ◌+◌, ◌-◌, ◌*◌, ◌^◌, ◌<◌, ◌≤◌, ◌↔◌, ◌&&◌, length, drop, min, IsTrue, IfSome, SomeIff, Ok, Err, Some, ℤ, codes};
 ghost use Rattle.std.specs.Char.{is_ascii_digit};
 ghost use Rattle.std.specs.List.{list_all};
 ghost use Rattle.std.specs.Str.{bytes_eq};
 ghost use Rattle.humantime.specs.declared.date.error.TimestampError.{TimestampError};
 ghost use Rattle.humantime.specs.Timestamps.Fields.{zone_text, seconds_of, IsWeakMoment, IsStrictMoment};
-ghost use Rattle.humantime.specs.Timestamps.Checks.{zone_of, numbers_of, are_in_range, fraction_part, first_failed, weak_checks, strict_checks};
+ghost use Rattle.humantime.specs.Timestamps.Checks.{zone_of, date_time_of, is_valid_date_time, fraction_part, first_failed, weak_checks, strict_checks};
 ghost use Rattle.humantime.specs.Answers.Timestamps.{weak_answer, strict_answer};
-ghost use Rattle.humantime.specs.Steps.Timestamps.{fraction_answer, numbers_in, nanos_found, in_threes, AreShort};
+ghost use Rattle.humantime.specs.Steps.Timestamps.{fraction_answer, digits_answer};
 ghost use Rattle.humantime.specs.Timestamps.Checks;
 ghost use Rattle.humantime.specs.Steps.Timestamps as Steps;
 
@@ -20,82 +20,33 @@ use std::simd::prelude::*;
 
 // Vectors are statics and read as slices, since Rattle's own compiler loads such a one, and builds another in five instructions.
 
-/// The least byte at each of the first sixteen places, where a space stands for any byte.
-static LEAST: [u8; 16] = *b"0000-00-00 00:00";
+/// The least byte at each of the first 16 places. Any byte may stand at the separator's place, which is tested by itself.
+static FRONT_MIN: [u8; 16] = *b"0000-00-00 00:00";
 
-/// How far a byte may be above it: a digit up to nine, and a sign not at all.
-static MOST_ABOVE: [u8; 16] = [9, 9, 9, 9, 0, 9, 9, 0, 9, 9, 255, 9, 9, 0, 9, 9];
+/// How far a byte may be above that minimum: up to nine for a digit, and not at all for punctuation.
+static FRONT_RANGE: [u8; 16] = [9, 9, 9, 9, 0, 9, 9, 0, 9, 9, 255, 9, 9, 0, 9, 9];
 
-/// The least byte at each of the sixteen places from the fourth on.
-static LEAST_BACK: [u8; 16] = *b"0-00-00 00:00:00";
+/// The least byte at each of the 16 places from byte 3 on.
+static BACK_MIN: [u8; 16] = *b"0-00-00 00:00:00";
 
-/// How far a byte may be above it: any byte may stand where the first sixteen places have tested it.
-static MOST_ABOVE_BACK: [u8; 16] = [
+/// How far a byte may be above that minimum: any byte may stand at the places up to 15, which `FRONT_RANGE` covers.
+static BACK_RANGE: [u8; 16] = [
     255, 255, 255, 255, 255, 255, 255, 255, 255, 255, 255, 255, 255, 0, 9, 9,
 ];
 
-/// What each of the first sixteen bytes counts in the number of its four: a tenth of the year, month, day, minute.
-static WEIGHTS_FRONT: [u8; 16] = [100, 10, 1, 0, 0, 10, 1, 0, 10, 1, 0, 0, 0, 0, 10, 1];
+/// The weight of each of the first 16 bytes in the sum of its four bytes: a tenth of the year, the month, the day, the minute.
+static FRONT_WEIGHTS: [u8; 16] = [100, 10, 1, 0, 0, 10, 1, 0, 10, 1, 0, 0, 0, 0, 10, 1];
 
-/// And each of those from the fourth on: the year's last digit, nothing, hour, second.
-static WEIGHTS_BACK: [u8; 16] = [1, 0, 0, 0, 0, 0, 0, 0, 10, 1, 0, 0, 0, 0, 10, 1];
+/// The weight of each of the 16 bytes from byte 3 on: the year's last digit, nothing, the hour, the second.
+static BACK_WEIGHTS: [u8; 16] = [1, 0, 0, 0, 0, 0, 0, 0, 10, 1, 0, 0, 0, 0, 10, 1];
 
-/// Which of sixteen numbers stand at the places of nine digits, three to four lanes: a row for each number of digits from
-/// none on, which are the last of the sixteen. For a place without a digit 255 gives 0.
-static PLACES: [[u8; 16]; 10] = [
-    [
-        255, 255, 255, 255, 255, 255, 255, 255, 255, 255, 255, 255, 255, 255, 255, 255,
-    ],
-    [
-        15, 255, 255, 255, 255, 255, 255, 255, 255, 255, 255, 255, 255, 255, 255, 255,
-    ],
-    [
-        14, 15, 255, 255, 255, 255, 255, 255, 255, 255, 255, 255, 255, 255, 255, 255,
-    ],
-    [
-        13, 14, 15, 255, 255, 255, 255, 255, 255, 255, 255, 255, 255, 255, 255, 255,
-    ],
-    [
-        12, 13, 14, 255, 15, 255, 255, 255, 255, 255, 255, 255, 255, 255, 255, 255,
-    ],
-    [
-        11, 12, 13, 255, 14, 15, 255, 255, 255, 255, 255, 255, 255, 255, 255, 255,
-    ],
-    [
-        10, 11, 12, 255, 13, 14, 15, 255, 255, 255, 255, 255, 255, 255, 255, 255,
-    ],
-    [
-        9, 10, 11, 255, 12, 13, 14, 255, 15, 255, 255, 255, 255, 255, 255, 255,
-    ],
-    [
-        8, 9, 10, 255, 11, 12, 13, 255, 14, 15, 255, 255, 255, 255, 255, 255,
-    ],
-    [
-        7, 8, 9, 255, 10, 11, 12, 255, 13, 14, 15, 255, 255, 255, 255, 255,
-    ],
-];
-
-/// What each of these digits counts in the number of its three.
-static WEIGHTS_THREE: [u8; 16] = [100, 10, 1, 0, 100, 10, 1, 0, 100, 10, 1, 0, 0, 0, 0, 0];
-
-/// How many nanoseconds a 1 counts in each of the three numbers, and nothing behind them.
-static NANOS: [u32; 4] = [1_000_000, 1_000, 1, 0];
-
-/// The numbers of a date and a time of day.
+/// A date and a time of day, which may be out of range.
 #[derive(Clone, Copy)]
-struct Numbers {
+struct DateTime {
     date: Date,
     hour: u32,
     minute: u32,
     second: u32,
-}
-
-/// The same numbers, four in each vector: a tenth of the year, month, day and minute; and the year's last digit, nothing,
-/// hour and second.
-#[derive(Clone, Copy)]
-struct Lanes {
-    front: u32x4,
-    back: u32x4,
 }
 
 /// Returns the moment that `s` shows, in the weak form of a timestamp, such as `2018-02-14 00:28:07`.
@@ -162,7 +113,7 @@ pub fn parse_rfc3339(s: &str) -> Result<SystemTime, TimestampError>
     ensures error { (e : TimestampError) → (result ≡ Err e) ↔ (first_failed (strict_checks s.now) ≡ Some e) }
     ensures answer { result ≡ strict_answer s.now }
 {
-    if !has_marks(s.as_bytes()) {
+    if !has_t_and_zone(s.as_bytes()) {
         return Err(TimestampError::InvalidFormat);
     }
     parse_rfc3339_weak(s)
@@ -170,9 +121,9 @@ pub fn parse_rfc3339(s: &str) -> Result<SystemTime, TimestampError>
 
 /// At least 20 bytes, a `T` and a zone.
 #[inline(always)]
-#[tactic(auto, using(crate::proofs::Timestamps::Reading::Ends::some_zone), unfolding(crate::specs::Timestamps::Checks::has_marks))]
-fn has_marks(bytes: &[u8]) -> bool
-    ensures { result ≡ Checks.has_marks bytes.now }
+#[tactic(auto, using(crate::proofs::Timestamps::Reading::Ends::some_zone), unfolding(crate::specs::Timestamps::Checks::has_t_and_zone))]
+fn has_t_and_zone(bytes: &[u8]) -> bool
+    ensures { result ≡ Checks.has_t_and_zone bytes.now }
 {
     bytes.len() >= 20 && bytes[10] == b'T' && zone_length(bytes) > 0
 }
@@ -201,27 +152,42 @@ fn before_zone(bytes: &[u8]) -> &[u8]
     &bytes[..bytes.len() - zone_length(bytes)]
 }
 
-/// The moment, or the error of the first check that fails.
+/// Returns the moment, or the error of the first check that fails.
 #[inline(always)]
-#[tactic(auto, using(crate::proofs::Timestamps::Reading::Exits::fraction_bound, crate::proofs::Timestamps::Reading::Exits::layout_parts, crate::proofs::Timestamps::Reading::Exits::exit_layout, crate::proofs::Timestamps::Reading::Exits::exit_separator))]
+#[tactic(auto, using(crate::proofs::Timestamps::Reading::Exits::fraction_bound, crate::proofs::Timestamps::Reading::Exits::layout_parts))]
 fn read_timestamp(bytes: &[u8]) -> Result<SystemTime, TimestampError>
     ensures { result ≡ weak_answer bytes.now }
 {
-    if bytes.len() < 19 || !has_separator(bytes) {
-        return Err(TimestampError::InvalidFormat);
-    }
     if !has_layout(bytes) {
-        // The signs are looked at first.
-        if has_punctuation(bytes) {
-            return Err(TimestampError::InvalidDigit);
-        }
-        return Err(TimestampError::InvalidFormat);
+        return Err(layout_error(bytes));
     }
-    let Some(seconds) = seconds_of(numbers_in(lanes_at(bytes))) else {
+    let Some(seconds) = seconds_of(parse_date_time(bytes)) else {
         return Err(TimestampError::OutOfRange);
     };
-    let nanos = read_fraction(bytes)?;
+    let nanos = read_fraction(&bytes[19..])?;
     Ok(SystemTime::since_epoch(seconds, nanos))
+}
+
+/// Returns `true` if there are 19 bytes with punctuation and digits in their places.
+#[inline(always)]
+#[tactic(auto, unfolding(crate::specs::Steps::Timestamps::has_layout, crate::specs::Timestamps::Checks::has_punctuation))]
+fn has_layout(bytes: &[u8]) -> bool
+    ensures { result ≡ Steps.has_layout bytes.now }
+{
+    bytes.len() >= 19 && has_separator(bytes) && bytes_in_bounds(bytes)
+}
+
+/// Returns the error of a text without that layout: punctuation is checked before digits.
+#[tactic(auto, using(crate::proofs::Timestamps::Reading::Exits::exit_layout))]
+fn layout_error(bytes: &[u8]) -> TimestampError
+    requires { Steps.has_layout bytes.now ≡ false }
+    ensures { weak_answer bytes.now ≡ Err result }
+{
+    if bytes.len() >= 19 && has_punctuation(bytes) {
+        TimestampError::InvalidDigit
+    } else {
+        TimestampError::InvalidFormat
+    }
 }
 
 /// `T` or a space between date and time.
@@ -248,56 +214,33 @@ fn has_punctuation(bytes: &[u8]) -> bool
         && bytes[16] == b':'
 }
 
-/// Signs and digits in their places. All are tested at once: a lane of the vector is how far a byte is above the least
-/// one, and a byte below that wraps around to far above.
+/// Returns `true` if each of the first 19 bytes lies within the bounds of its place. The bytes are tested as vectors: a lane is how
+/// far a byte is above its minimum, and a byte below the minimum wraps around to a number above each range.
 #[inline(always)]
-#[tactic(auto, unfolding(crate::specs::Steps::Timestamps::has_layout, crate::specs::Timestamps::Checks::has_punctuation))]
-fn has_layout(bytes: &[u8]) -> bool
+fn bytes_in_bounds(bytes: &[u8]) -> bool
     requires long { 19 ≤ length bytes.now }
     requires separator { IsTrue (Checks.has_separator bytes.now) }
     ensures { result ≡ Steps.has_layout bytes.now }
 {
-    let front = u8x16::from_slice(bytes) - u8x16::from_slice(&LEAST);
-    let back = u8x16::from_slice(&bytes[3..]) - u8x16::from_slice(&LEAST_BACK);
-    let beyond = front.saturating_sub(u8x16::from_slice(&MOST_ABOVE))
-        | back.saturating_sub(u8x16::from_slice(&MOST_ABOVE_BACK));
+    let front = u8x16::from_slice(bytes) - u8x16::from_slice(&FRONT_MIN);
+    let back = u8x16::from_slice(&bytes[3..]) - u8x16::from_slice(&BACK_MIN);
+    let beyond = front.saturating_sub(u8x16::from_slice(&FRONT_RANGE))
+        | back.saturating_sub(u8x16::from_slice(&BACK_RANGE));
     beyond.simd_eq(u8x16::splat(0)).all()
 }
 
-/// No lane above this number.
-#[inline(always)]
-fn none_above(lanes: u8x16, most: u8) -> bool
-    requires { length lanes ≡ 16 }
-    ensures { result ≡ list_all (λ n. nat_le n most) lanes }
-{
-    lanes.simd_le(u8x16::splat(most)).all()
-}
-
-/// The numbers that date and time show, where all places have digits: `dot4` sums up four bytes, each by its weight.
+/// Returns the date and time of the first 19 bytes. `dot4` multiplies each digit by its weight, and adds up each four bytes.
 #[inline(always)]
 #[tactic(auto, using(crate::proofs::Timestamps::Reading::Exits::layout_parts))]
-fn lanes_at(bytes: &[u8]) -> Lanes
+fn parse_date_time(bytes: &[u8]) -> DateTime
     requires { IsTrue (Steps.has_layout bytes.now) }
-    ensures numbers { numbers_in result ≡ numbers_of bytes.now }
-    ensures short { AreShort result }
+    ensures { result ≡ date_time_of bytes.now }
 {
-    let front = u8x16::from_slice(bytes) - u8x16::from_slice(&LEAST);
-    let back = u8x16::from_slice(&bytes[3..]) - u8x16::from_slice(&LEAST_BACK);
-    Lanes {
-        front: front.dot4(u8x16::from_slice(&WEIGHTS_FRONT)),
-        back: back.dot4(u8x16::from_slice(&WEIGHTS_BACK)),
-    }
-}
-
-/// The numbers one by one.
-#[inline(always)]
-fn numbers_in(lanes: Lanes) -> Numbers
-    requires { AreShort lanes }
-    ensures { result ≡ numbers_in lanes }
-{
-    let front = lanes.front.to_array();
-    let back = lanes.back.to_array();
-    Numbers {
+    let front = u8x16::from_slice(bytes) - u8x16::from_slice(&FRONT_MIN);
+    let back = u8x16::from_slice(&bytes[3..]) - u8x16::from_slice(&BACK_MIN);
+    let front = front.dot4(u8x16::from_slice(&FRONT_WEIGHTS)).to_array();
+    let back = back.dot4(u8x16::from_slice(&BACK_WEIGHTS)).to_array();
+    DateTime {
         date: Date {
             year: front[0] * 10 + back[0],
             month: front[1],
@@ -311,9 +254,9 @@ fn numbers_in(lanes: Lanes) -> Numbers
 
 /// The seconds from 1970 to this date and time, or `None` where it does not exist. Second 60 is read as 59.
 #[inline(always)]
-#[tactic(auto, unfolding(crate::specs::Timestamps::Checks::are_in_range))]
-fn seconds_of(x: Numbers) -> Option<u64>
-    ensures value { SomeIff result (IsTrue (are_in_range x)) (seconds_of x.date x.hour x.minute x.second) }
+#[tactic(auto, unfolding(crate::specs::Timestamps::Checks::is_valid_date_time))]
+fn seconds_of(x: DateTime) -> Option<u64>
+    ensures value { SomeIff result (IsTrue (is_valid_date_time x)) (seconds_of x.date x.hour x.minute x.second) }
     ensures bound { IfSome result (λ n. n < 2 ^ 63) }
 {
     let day = day_number(x.date, &mut Turns::new())?;
@@ -324,33 +267,40 @@ fn seconds_of(x: Numbers) -> Option<u64>
     Some(day as u64 * 86_400 + time as u64)
 }
 
-/// The nanoseconds of what stands between the seconds and the zone, where it is right.
+/// Returns the nanoseconds of the fraction in what follows the seconds: nothing or a point and digits, and then the zone.
 #[inline(always)]
-#[tactic(auto, using(crate::proofs::Timestamps::Reading::Exits::letter_read), unfolding(crate::specs::Timestamps::Checks::has_point))]
-fn read_fraction(bytes: &[u8]) -> Result<u32, TimestampError>
-    requires { 19 ≤ length bytes.now }
-    ensures { result ≡ fraction_answer (fraction_part bytes.now) }
+#[tactic(auto, using(crate::proofs::Timestamps::Reading::Ends::letter_alone, crate::proofs::Timestamps::Reading::Fractions::nothing_read), unfolding(crate::specs::Timestamps::Checks::has_point))]
+fn read_fraction(rest: &[u8]) -> Result<u32, TimestampError>
+    ensures { result ≡ fraction_answer (Checks.before_zone rest.now) }
 {
-    // Nothing but a `Z` follows most seconds.
-    if bytes.len() == 20 && bytes[19] == b'Z' {
+    // Most timestamps have a `Z` right after the seconds.
+    if let [b'Z'] = rest {
         return Ok(0);
     }
-    let part = before_zone(&bytes[19..]);
-    if part.is_empty() {
-        return Ok(0);
+    match before_zone(rest) {
+        [] => Ok(0),
+        [b'.', digits @ ..] => fraction_nanos(digits),
+        _ => Err(TimestampError::InvalidFormat),
     }
-    if part[0] != b'.' {
-        return Err(TimestampError::InvalidFormat);
+}
+
+/// Returns the nanoseconds that these digits after a point denote, or an error if a byte is not a digit. Digits past the ninth
+/// are cut.
+#[inline(always)]
+#[tactic(auto, using(crate::proofs::Timestamps::Reading::Fractions::digits_added))]
+fn fraction_nanos(digits: &[u8]) -> Result<u32, TimestampError>
+    ensures { result ≡ digits_answer digits.now }
+{
+    let mut nanos = 0;
+    let mut weight = 100_000_000;
+    for digit in digits {
+        if !digit.is_ascii_digit() {
+            return Err(TimestampError::InvalidDigit);
+        }
+        nanos += weight * (*digit - b'0') as u32;
+        weight /= 10;
     }
-    // A point and nine digits count. At least 19 bytes stand before them, so that sixteen end where they do.
-    let end = if part.len() <= 10 {
-        part.len()
-    } else if are_digits(&part[10..]) {
-        10
-    } else {
-        return Err(TimestampError::InvalidDigit);
-    };
-    last_digits(&bytes[3 + end..19 + end], end - 1).ok_or(TimestampError::InvalidDigit)
+    Ok(nanos)
 }
 
 /// `+00:00`, of six bytes. The first four are compared as one number, and the last two as another.
@@ -362,37 +312,4 @@ fn is_offset(bytes: &[u8]) -> bool
     let front = u32::from_le_bytes([bytes[0], bytes[1], bytes[2], bytes[3]]);
     let back = u16::from_le_bytes([bytes[4], bytes[5]]);
     front == u32::from_le_bytes(*b"+00:") && back == u16::from_le_bytes(*b"00")
-}
-
-/// Whether all bytes are digits.
-#[inline(always)]
-fn are_digits(bytes: &[u8]) -> bool
-    ensures { result ≡ list_all is_ascii_digit bytes.now }
-{
-    bytes.iter().all(|b| b.is_ascii_digit())
-}
-
-/// The nanoseconds of the last digits of sixteen bytes, at most nine, where they are digits.
-#[inline(always)]
-fn last_digits(bytes: &[u8], count: usize) -> Option<u32>
-    requires long { length bytes.now ≡ 16 }
-    requires few { count ≤ 9 }
-    ensures { result ≡ nanos_found (drop (16 - count) bytes.now) }
-{
-    let numbers = in_threes(u8x16::from_slice(bytes) - u8x16::splat(b'0'), count);
-    if !none_above(numbers, 9) {
-        return None;
-    }
-    let threes = numbers.dot4(u8x16::from_slice(&WEIGHTS_THREE));
-    Some((threes * u32x4::from_slice(&NANOS)).reduce_sum())
-}
-
-/// The last of sixteen numbers, at most nine, three to four lanes; the other lanes are 0.
-#[inline(always)]
-fn in_threes(numbers: u8x16, count: usize) -> u8x16
-    requires long { length numbers ≡ 16 }
-    requires few { count ≤ 9 }
-    ensures { result ≡ in_threes (drop (16 - count) numbers) }
-{
-    numbers.swizzle_dyn(u8x16::from_array(PLACES[count]))
 }

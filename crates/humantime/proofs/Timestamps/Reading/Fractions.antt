@@ -1,5 +1,5 @@
 -- The digits of a fraction, read one by one, are its nanoseconds.
-use Rattle.std.proofs.Common.{◌≡◌, ℕ, zero, suc, ◌+◌, ◌-◌, ◌*◌, ◌/◌, ◌^◌, ◌<◌, ◌≤◌, List, [], ◌∷◌, ◌++◌, take, refl, ◌∙◌, arith}
+use Rattle.std.proofs.Common.{◌≡◌, ℕ, zero, suc, ◌+◌, ◌-◌, ◌*◌, ◌/◌, ◌^◌, ◌<◌, ◌≤◌, List, [], ◌∷◌, ◌++◌, take, refl, sym, ◌∙◌, arith}
 use Rattle.std.specs.Prelude.{true, ◌&&◌}
 use Rattle.std.specs.Char.{is_ascii_digit, digit_value}
 use Rattle.std.specs.Int.{IsInRange}
@@ -79,6 +79,9 @@ add_bound (c ∷ cs) n u digits low room =
 
 pub nanos_bound : (ds : List ℕ) → AreDigits ds → fraction_nanos ds < 1_000_000_000
 nanos_bound ds digits = rw (nanos_added ds digits) (add_bound ds 0 100_000_000 digits (omega arith) (omega arith))
+
+pub digits_added : (ds : List ℕ) → all_ascii_digits ds ≡ true → add_digits 0 100_000_000 ds ≡ fraction_nanos ds
+digits_added ds digits = sym (nanos_added ds (digits_from_test ds digits))
 
 pub nothing_read : fraction_nanos [] ≡ 0
 unfolding fraction_nanos
