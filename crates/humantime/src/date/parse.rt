@@ -1,4 +1,4 @@
-//! The parsers of timestamps.
+//! Parsing of timestamps.
 
 ghost use Rattle.std.specs.Prelude.{false, nat_le, ◌≡◌, ◌+◌, ◌-◌, ◌*◌, ◌^◌, ◌<◌, ◌≤◌, ◌↔◌, ◌&&◌, length, drop, min, IsTrue, IfSome, SomeIff, Ok, Err, Some, ℤ, codes};
 ghost use Rattle.std.specs.Char.{is_ascii_digit};
@@ -18,26 +18,27 @@ use crate::turns::Turns;
 use crate::value::SystemTime;
 use std::simd::prelude::*;
 
-// Vectors are statics and read as slices, since Rattle's own compiler loads such a one, and builds another in five instructions.
+// The vectors are statics that are read as slices: Rattle's own compiler loads such a vector in one instruction, and builds any
+// other in five.
 
-/// The least byte at each of the first 16 places. Any byte may stand at the separator's place, which is tested by itself.
+/// The minimum of each of the first 16 bytes. The separator, at byte 10, may be any byte, since it is tested separately.
 static FRONT_MIN: [u8; 16] = *b"0000-00-00 00:00";
 
-/// How far a byte may be above that minimum: up to nine for a digit, and not at all for punctuation.
+/// How far each byte may be above its minimum: 9 for a digit and 0 for punctuation.
 static FRONT_RANGE: [u8; 16] = [9, 9, 9, 9, 0, 9, 9, 0, 9, 9, 255, 9, 9, 0, 9, 9];
 
-/// The least byte at each of the 16 places from byte 3 on.
+/// The minimum of each of the 16 bytes from byte 3 on.
 static BACK_MIN: [u8; 16] = *b"0-00-00 00:00:00";
 
-/// How far a byte may be above that minimum: any byte may stand at the places up to 15, which `FRONT_RANGE` covers.
+/// How far each of them may be above its minimum. Those up to byte 15 may be any byte, since `FRONT_RANGE` bounds them.
 static BACK_RANGE: [u8; 16] = [
     255, 255, 255, 255, 255, 255, 255, 255, 255, 255, 255, 255, 255, 0, 9, 9,
 ];
 
-/// The weight of each of the first 16 bytes in the sum of its four bytes: a tenth of the year, the month, the day, the minute.
+/// The weight of each of the first 16 bytes in the sum of its four: a tenth of the year, the month, the day and the minute.
 static FRONT_WEIGHTS: [u8; 16] = [100, 10, 1, 0, 0, 10, 1, 0, 10, 1, 0, 0, 0, 0, 10, 1];
 
-/// The weight of each of the 16 bytes from byte 3 on: the year's last digit, nothing, the hour, the second.
+/// The weight of each of the 16 bytes from byte 3 on: the last digit of the year, nothing, the hour and the second.
 static BACK_WEIGHTS: [u8; 16] = [1, 0, 0, 0, 0, 0, 0, 0, 10, 1, 0, 0, 0, 0, 10, 1];
 
 /// A date and a time of day, which may be out of range.
@@ -49,23 +50,23 @@ struct DateTime {
     second: u32,
 }
 
-/// Returns the moment that `s` shows, in the weak form of a timestamp, such as `2018-02-14 00:28:07`.
+/// Parses a timestamp in the weak form, such as `2018-02-14 00:28:07`, and returns the moment that it represents.
 ///
-/// A `T` or a space stands between date and time. The zone may be left out: nothing, `Z` and `+00:00` all mean the zone
-/// of Greenwich. A fraction of a second may have any number of digits, none too; those past the ninth are cut. Second 60
-/// is read as 59. The text is looked at as bytes, counted from 0. The rule is the crate's, after RFC 3339.
+/// A `T` or a space separates the date from the time. The time is in UTC, which `Z` or `+00:00` at the end may say. A fraction of a
+/// second may have any number of digits, even none, of which those past the ninth are ignored. Second 60 is read as second 59. The
+/// original crate defines this form, which is based on RFC 3339.
 ///
 /// # Errors
 ///
-/// Makes these checks in this order, and returns the error of the first that fails:
+/// Makes these checks in order, and returns the error of the first one that fails. Bytes are counted from 0.
 ///
-/// - [`InvalidFormat`](TimestampError::InvalidFormat) if there are fewer than 19 bytes;
-/// - `InvalidFormat` if a sign of date and time is not in its place;
-/// - [`InvalidDigit`](TimestampError::InvalidDigit) if another byte, up to byte 18, is no digit;
-/// - [`OutOfRange`](TimestampError::OutOfRange) if 1970 to 9999 has no such date, the hour is above 23, the minute above
+/// - [`InvalidFormat`](TimestampError::InvalidFormat) if the text has fewer than 19 bytes;
+/// - `InvalidFormat` if the punctuation of the date and the time is not in its place;
+/// - [`InvalidDigit`](TimestampError::InvalidDigit) if any other byte up to byte 18 is not a digit;
+/// - [`OutOfRange`](TimestampError::OutOfRange) if the years 1970 to 9999 have no such date, the hour is above 23, the minute above
 ///   59 or the second above 60;
-/// - `InvalidFormat` if byte 19 is not a point, and what stands from there on is not nothing, `Z` or `+00:00`;
-/// - `InvalidDigit` if byte 19 is a point, and what stands after it is not digits, and then nothing, `Z` or `+00:00`.
+/// - `InvalidFormat` if byte 19 is not a point, and the text from there on is not empty, `Z` or `+00:00`;
+/// - `InvalidDigit` if byte 19 is a point, and the text after it is not digits that end the text or are followed by `Z` or `+00:00`.
 ///
 /// # Examples
 ///
@@ -87,15 +88,15 @@ pub fn parse_rfc3339_weak(s: &str) -> Result<SystemTime, TimestampError>
     read_timestamp(s.as_bytes())
 }
 
-/// Returns the moment that `s` shows, in the strict form of a timestamp, such as `2018-02-14T00:28:07Z`.
+/// Parses a timestamp in the strict form, such as `2018-02-14T00:28:07Z`, and returns the moment that it represents.
 ///
-/// It is the weak form with a `T` between date and time, and with `Z` or `+00:00` at the end. RFC 3339 has this form;
-/// the crate takes no other zone, and no small letters.
+/// This is the weak form with a `T` between the date and the time, and `Z` or `+00:00` at the end. RFC 3339 defines it; other time
+/// zones and lowercase letters, which RFC 3339 allows, are not accepted.
 ///
 /// # Errors
 ///
-/// Returns [`InvalidFormat`](TimestampError::InvalidFormat) if the text has fewer than 20 bytes, no `T` at byte 10 (counted
-/// from 0), or no zone at its end. Of any other text it returns the error that [`parse_rfc3339_weak`] returns.
+/// Returns [`InvalidFormat`](TimestampError::InvalidFormat) if the text has fewer than 20 bytes, byte 10 (counted from 0) is not a
+/// `T`, or the text does not end in `Z` or `+00:00`. For any other text it returns the error that [`parse_rfc3339_weak`] returns.
 ///
 /// # Examples
 ///
@@ -119,7 +120,7 @@ pub fn parse_rfc3339(s: &str) -> Result<SystemTime, TimestampError>
     parse_rfc3339_weak(s)
 }
 
-/// At least 20 bytes, a `T` and a zone.
+/// Returns `true` if there are at least 20 bytes, byte 10 is a `T`, and a zone is at the end.
 #[inline(always)]
 #[tactic(auto, using(crate::proofs::Timestamps::Reading::Ends::some_zone), unfolding(crate::specs::Timestamps::Checks::has_t_and_zone))]
 fn has_t_and_zone(bytes: &[u8]) -> bool
@@ -128,7 +129,7 @@ fn has_t_and_zone(bytes: &[u8]) -> bool
     bytes.len() >= 20 && bytes[10] == b'T' && zone_length(bytes) > 0
 }
 
-/// How many bytes the zone at the end has: one for `Z`, six for `+00:00`, and none without a zone.
+/// Returns the length of the zone at the end: 1 for `Z`, 6 for `+00:00`, and 0 if there is no zone.
 #[inline(always)]
 #[tactic(auto, using(crate::proofs::Timestamps::Reading::Ends::last_letter, crate::proofs::Timestamps::Reading::Ends::no_letter, crate::proofs::Timestamps::Reading::Ends::last_offset, crate::proofs::Timestamps::Reading::Ends::no_offset), unfolding(crate::specs::Timestamps::Checks::zone_of))]
 fn zone_length(bytes: &[u8]) -> usize
@@ -143,7 +144,7 @@ fn zone_length(bytes: &[u8]) -> usize
     }
 }
 
-/// What stands before the zone at the end.
+/// Returns the bytes before the zone at the end.
 #[inline(always)]
 #[tactic(auto, using(crate::proofs::Timestamps::Reading::Ends::zone_fits))]
 fn before_zone(bytes: &[u8]) -> &[u8]
@@ -168,7 +169,7 @@ fn read_timestamp(bytes: &[u8]) -> Result<SystemTime, TimestampError>
     Ok(SystemTime::since_epoch(seconds, nanos))
 }
 
-/// Returns `true` if there are 19 bytes with punctuation and digits in their places.
+/// Returns `true` if there are at least 19 bytes, with punctuation and digits in their places.
 #[inline(always)]
 #[tactic(auto, unfolding(crate::specs::Steps::Timestamps::has_layout, crate::specs::Timestamps::Checks::has_punctuation))]
 fn has_layout(bytes: &[u8]) -> bool
@@ -177,7 +178,7 @@ fn has_layout(bytes: &[u8]) -> bool
     bytes.len() >= 19 && has_separator(bytes) && bytes_in_bounds(bytes)
 }
 
-/// Returns the error of a text without that layout: punctuation is checked before digits.
+/// Returns the error for a text without that layout. Punctuation is checked before digits.
 #[tactic(auto, using(crate::proofs::Timestamps::Reading::Exits::exit_layout))]
 fn layout_error(bytes: &[u8]) -> TimestampError
     requires { Steps.has_layout bytes.now ≡ false }
@@ -190,7 +191,7 @@ fn layout_error(bytes: &[u8]) -> TimestampError
     }
 }
 
-/// `T` or a space between date and time.
+/// Returns `true` if a `T` or a space separates the date from the time.
 #[inline(always)]
 #[tactic(auto, unfolding(crate::specs::Timestamps::Checks::has_separator))]
 fn has_separator(bytes: &[u8]) -> bool
@@ -200,7 +201,7 @@ fn has_separator(bytes: &[u8]) -> bool
     bytes[10] == b'T' || bytes[10] == b' '
 }
 
-/// The signs between the numbers.
+/// Returns `true` if the punctuation of the date and the time is in its place.
 #[inline(always)]
 #[tactic(auto, unfolding(crate::specs::Timestamps::Checks::has_punctuation))]
 fn has_punctuation(bytes: &[u8]) -> bool
@@ -214,8 +215,8 @@ fn has_punctuation(bytes: &[u8]) -> bool
         && bytes[16] == b':'
 }
 
-/// Returns `true` if each of the first 19 bytes lies within the bounds of its place. The bytes are tested as vectors: a lane is how
-/// far a byte is above its minimum, and a byte below the minimum wraps around to a number above each range.
+/// Returns `true` if each of the first 19 bytes is between its minimum and its maximum. All are tested at once: a lane has the
+/// distance of a byte above its minimum, which wraps around to a number above the range for a byte below its minimum.
 #[inline(always)]
 fn bytes_in_bounds(bytes: &[u8]) -> bool
     requires long { 19 ≤ length bytes.now }
@@ -229,7 +230,8 @@ fn bytes_in_bounds(bytes: &[u8]) -> bool
     beyond.simd_eq(u8x16::splat(0)).all()
 }
 
-/// Returns the date and time of the first 19 bytes. `dot4` multiplies each digit by its weight, and adds up each four bytes.
+/// Returns the date and time in the first 19 bytes. `dot4` multiplies each digit by its weight, and adds up the products of each
+/// four bytes.
 #[inline(always)]
 #[tactic(auto, using(crate::proofs::Timestamps::Reading::Exits::layout_parts))]
 fn parse_date_time(bytes: &[u8]) -> DateTime
@@ -252,7 +254,8 @@ fn parse_date_time(bytes: &[u8]) -> DateTime
     }
 }
 
-/// The seconds from 1970 to this date and time, or `None` where it does not exist. Second 60 is read as 59.
+/// Returns the number of seconds from 1970-01-01T00:00:00Z to a date and time, or `None` if it is out of range. Second 60 counts as
+/// second 59.
 #[inline(always)]
 #[tactic(auto, unfolding(crate::specs::Timestamps::Checks::is_valid_date_time))]
 fn seconds_of(x: DateTime) -> Option<u64>
@@ -267,7 +270,7 @@ fn seconds_of(x: DateTime) -> Option<u64>
     Some(day as u64 * 86_400 + time as u64)
 }
 
-/// Returns the nanoseconds of the fraction in what follows the seconds: nothing or a point and digits, and then the zone.
+/// Returns the nanoseconds of the fraction in the bytes after the seconds: nothing, or a point and digits, and then the zone.
 #[inline(always)]
 #[tactic(auto, using(crate::proofs::Timestamps::Reading::Ends::letter_alone, crate::proofs::Timestamps::Reading::Fractions::nothing_read), unfolding(crate::specs::Timestamps::Checks::has_point))]
 fn read_fraction(rest: &[u8]) -> Result<u32, TimestampError>
@@ -284,8 +287,8 @@ fn read_fraction(rest: &[u8]) -> Result<u32, TimestampError>
     }
 }
 
-/// Returns the nanoseconds that these digits after a point denote, or an error if a byte is not a digit. Digits past the ninth
-/// are cut.
+/// Returns the nanoseconds that the digits after a point represent, or an error if a byte is not a digit. Digits past the ninth
+/// are ignored.
 #[inline(always)]
 #[tactic(auto, using(crate::proofs::Timestamps::Reading::Fractions::digits_added))]
 fn fraction_nanos(digits: &[u8]) -> Result<u32, TimestampError>
@@ -303,7 +306,7 @@ fn fraction_nanos(digits: &[u8]) -> Result<u32, TimestampError>
     Ok(nanos)
 }
 
-/// `+00:00`, of six bytes. The first four are compared as one number, and the last two as another.
+/// Returns `true` if these six bytes are `+00:00`. The first four are compared as one number, and the last two as another.
 #[inline(always)]
 fn is_offset(bytes: &[u8]) -> bool
     requires { length bytes.now ≡ 6 }
