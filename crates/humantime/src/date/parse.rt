@@ -41,6 +41,19 @@ static FRONT_WEIGHTS: [u8; 16] = [100, 10, 1, 0, 0, 10, 1, 0, 10, 1, 0, 0, 0, 0,
 /// The weight of each of the 16 bytes from byte 3 on: the last digit of the year, nothing, the hour and the second.
 static BACK_WEIGHTS: [u8; 16] = [1, 0, 0, 0, 0, 0, 0, 0, 10, 1, 0, 0, 0, 0, 10, 1];
 
+/// The number of nanoseconds that a 1 represents at each of the first nine places after the point.
+static PLACE_VALUES: [u32; 9] = [
+    100_000_000,
+    10_000_000,
+    1_000_000,
+    100_000,
+    10_000,
+    1_000,
+    100,
+    10,
+    1,
+];
+
 /// A date and a time of day, which may be out of range.
 #[derive(Clone, Copy)]
 struct DateTime {
@@ -295,13 +308,13 @@ fn fraction_nanos(digits: &[u8]) -> Result<u32, TimestampError>
     ensures { result ≡ digits_answer digits.now }
 {
     let mut nanos = 0;
-    let mut weight = 100_000_000;
-    for digit in digits {
+    for (place, digit) in digits.iter().enumerate() {
         if !digit.is_ascii_digit() {
             return Err(TimestampError::InvalidDigit);
         }
-        nanos += weight * (*digit - b'0') as u32;
-        weight /= 10;
+        if place < 9 {
+            nanos += PLACE_VALUES[place] * (*digit - b'0') as u32;
+        }
     }
     Ok(nanos)
 }
