@@ -23,7 +23,7 @@ pub use Rattle.humantime.specs.Durations.Counts.{Counts, Canon, IsCanonicalOf}
 -- timestamps read
 pub use Rattle.humantime.specs.Timestamps.Fields.{Fields, IsWeak, IsStrict, IsWeakMoment, IsStrictMoment}
 pub use Rattle.humantime.specs.Timestamps.Checks.{weak_checks, strict_checks, first_failed, timestamp_message}
-pub use Rattle.humantime.specs.Answers.Timestamps.{weak_answer, strict_answer, IsWeakAnswer, moment_text, printed_text, shortest_text}
+pub use Rattle.humantime.specs.Answers.Timestamps.{weak_answer, strict_answer, IsWeakAnswer, moment_text, printed_text, shortest_text, DisplaysMoment}
 -- timestamps printed
 pub use Rattle.humantime.specs.Timestamps.Printed.{MomentToPrint, places_of, cut, IsPrinted, IsPrintable}
 pub use Rattle.humantime.specs.Laws.Timestamps.{IsMarked, ReadsAs}

@@ -1,4 +1,4 @@
-//! Days from 1970-01-01 and the dates of 1970 to 9999.
+//! Conversions between the dates of 1970 to 9999 and their numbers of days since 1970-01-01.
 
 ghost use Rattle.std.specs.Prelude.{◌≡◌, ◌+◌, ◌-◌, ◌<◌, ◌≤◌, ◌↔◌, IsSome, IfSome, MatchOption};
 ghost use Rattle.std.specs.Int.{IsInRange};
@@ -8,39 +8,39 @@ ghost use Rattle.humantime.specs.Answers.Dates as Dates;
 
 use crate::turns::Turns;
 
-/// The first year.
+/// The first supported year.
 const FIRST_YEAR: u32 = 1970;
 
-/// The last year.
+/// The last supported year.
 const LAST_YEAR: u32 = 9999;
 
-/// The day of 9999-12-31.
+/// The day number of 9999-12-31.
 const LAST_DAY: u32 = 2_932_896;
 
-/// The days before each month of a common year, January first.
+/// The number of days before each month of a common year, starting with January.
 const DAYS_BEFORE_MONTH: [u32; 12] = [0, 31, 59, 90, 120, 151, 181, 212, 243, 273, 304, 334];
 
-/// The days of each month, January first, with 28 for February.
+/// The number of days of each month of a common year, starting with January.
 const MONTH_LENGTHS: [u32; 12] = [31, 28, 31, 30, 31, 30, 31, 31, 30, 31, 30, 31];
 
-/// The day of 2000-03-01.
+/// The day number of 2000-03-01, on which a cycle of 400 years begins.
 const MARCH_2000: u32 = 11_017;
 
-/// The days of 400 years.
+/// The number of days of 400 years.
 const DAYS_PER_400_YEARS: u32 = 146_097;
 
-/// The days of 100 years that end without a leap day.
+/// The number of days of a century that does not end with a leap day.
 const DAYS_PER_100_YEARS: u32 = 36_524;
 
-/// The days of four years with a leap day.
+/// The number of days of four years that end with a leap day.
 const DAYS_PER_4_YEARS: u32 = 1_461;
 
-/// The days of a common year.
+/// The number of days of a common year.
 const DAYS_PER_YEAR: u32 = 365;
 
 /// A date: a year, a month from 1 (January) to 12, and a day of the month from 1.
 ///
-/// It is a plain value and may hold a date that does not exist; [`day_number`] tells.
+/// The fields may hold any numbers. [`day_number`] returns `None` for a date that does not exist.
 ///
 /// # Examples
 ///
@@ -55,15 +55,15 @@ const DAYS_PER_YEAR: u32 = 365;
 /// ```
 #[derive(Clone, Copy, PartialEq, Eq, Debug)]
 pub struct Date {
-    /// The year: 1970 to 9999 where the date exists.
+    /// The year, from 1970 to 9999 in a date that exists.
     pub year: u32,
-    /// The month: 1 (January) to 12 where the date exists.
+    /// The month, from 1 (January) to 12 in a date that exists.
     pub month: u32,
-    /// The day of the month, from 1.
+    /// The day of the month, starting at 1.
     pub day: u32,
 }
 
-/// The days of the years from 1970 up to this one.
+/// Returns the number of days from 1970-01-01 to the first day of `year`.
 #[inline(always)]
 #[tactic(auto, using(crate::proofs::Dates::Years::days_of_years_closed))]
 fn days_before_year(year: u32) -> u32
@@ -73,7 +73,7 @@ fn days_before_year(year: u32) -> u32
     365 * (year - 1970) + (year - 1969) / 4 - (year - 1901) / 100 + (year - 1601) / 400
 }
 
-/// 1 in a leap year, else 0.
+/// Returns 1 in a leap year and 0 in any other.
 #[inline(always)]
 fn leap_days(year: u32) -> u32
     ensures { result + 365 ≡ days_in_year year }
@@ -81,7 +81,7 @@ fn leap_days(year: u32) -> u32
     (year % 4 == 0 && (year % 100 != 0 || year % 400 == 0)) as u32
 }
 
-/// The days of a month.
+/// Returns the number of days of a month.
 #[inline(always)]
 fn month_length(year: u32, month: u32) -> u32
     requires { IsInRange 1 12 month }
@@ -95,7 +95,7 @@ fn month_length(year: u32, month: u32) -> u32
     }
 }
 
-/// The days of the year's months before this one.
+/// Returns the number of days from the first day of `year` to the first day of `month`.
 #[inline(always)]
 #[tactic(auto, using(crate::proofs::Dates::Years::days_in_table))]
 fn days_before_month(year: u32, month: u32) -> u32
@@ -110,7 +110,7 @@ fn days_before_month(year: u32, month: u32) -> u32
     }
 }
 
-/// The days from 1970-01-01 to the first of this month.
+/// Returns the number of days from 1970-01-01 to the first day of `month`.
 #[inline(always)]
 #[tactic(auto, using(crate::proofs::Dates::Years::days_counted))]
 fn days_before(year: u32, month: u32) -> u32
@@ -123,8 +123,8 @@ fn days_before(year: u32, month: u32) -> u32
 
 /// Returns the number of days from 1970-01-01 to `date`, or `None` if no such date exists in 1970 to 9999.
 ///
-/// The leap days before a year are counted by a formula, and the days before a month by a table. There is no loop, and
-/// `turns` stays as it is.
+/// A formula counts the leap days before the year, and a table has the days before each month. There is no loop, so `turns` is
+/// left unchanged.
 ///
 /// # Examples
 ///
@@ -144,7 +144,7 @@ pub fn day_number(date: Date, turns: &mut Turns) -> Option<u32>
     ensures day { IfSome result (λ n. n ≡ day_of date) }
     ensures cost { turns.new ≡ turns.old }
 {
-    // No loop turns, so none is counted.
+    // There is no loop, so nothing is counted.
     let _ = turns;
     if date.year < FIRST_YEAR || date.year > LAST_YEAR || date.month < 1 || date.month > 12 {
         return None;
@@ -155,15 +155,15 @@ pub fn day_number(date: Date, turns: &mut Turns) -> Option<u32>
     Some(days_before(date.year, date.month) + date.day - 1)
 }
 
-/// The year that holds this day, of the years that begin on 1 March, counted from 1600, and the day's place in it. The last
-/// century of four, and the last year of four, are a day longer.
+/// Returns the year of a day, and how many days of that year come before it. Years begin on 1 March here, and are counted from
+/// 1600. The last century of a cycle and the last of four years have one more day, for which the quotients are capped at 3.
 #[inline(always)]
 fn march_year(day: u32) -> (u32, u32)
     requires { day ≤ 2_932_896 }
     ensures year { result.0 ≡ Dates.march_year (day + 135_080) }
-    ensures left { march_days result.0 + result.1 ≡ day + 135_080 }
+    ensures day { march_days result.0 + result.1 ≡ day + 135_080 }
 {
-    // Days before 2000-03-01 lie in the cycle before.
+    // The days from 1970-01-01 to 2000-02-29 lie in the previous cycle.
     let from = day + DAYS_PER_400_YEARS - MARCH_2000;
     let cycles = from / DAYS_PER_400_YEARS;
     let in_cycle = from % DAYS_PER_400_YEARS;
@@ -178,7 +178,7 @@ fn march_year(day: u32) -> (u32, u32)
     )
 }
 
-/// The days before this month of a year that begins on 1 March. March is month 0.
+/// Returns the number of days from 1 March to the first day of `month`, where March is month 0.
 #[inline(always)]
 fn days_before_march_month(month: u32) -> u32
     requires { month ≤ 12 }
@@ -187,33 +187,33 @@ fn days_before_march_month(month: u32) -> u32
     (153 * month + 2) / 5
 }
 
-/// The date with so many days of the month before it. March is month 0, and January and February are the last
-/// months of a year that began in the calendar's year before.
+/// Returns the date with this index in a month. `year` begins on 1 March and is counted from 1600, `month` 0 is March, and months
+/// 10 and 11 are January and February of the next calendar year.
 #[inline(always)]
-fn march_date(year: u32, month: u32, left: u32) -> Date
+fn march_date(year: u32, month: u32, day_index: u32) -> Date
     requires year { year < 8400 }
-    requires left { left < 366 }
-    ensures { result ≡ Dates.march_date year month left }
+    requires day { day_index < 366 }
+    ensures { result ≡ Dates.march_date year month day_index }
 {
     if month < 10 {
         Date {
             year: 1600 + year,
             month: month + 3,
-            day: left + 1,
+            day: day_index + 1,
         }
     } else {
         Date {
             year: 1601 + year,
             month: month - 9,
-            day: left + 1,
+            day: day_index + 1,
         }
     }
 }
 
 /// Returns the date whose day number is `day`, or `None` if `day` is above 2932896, the day of 9999-12-31.
 ///
-/// The year is found by dividing by the days of 400, 100, 4 and 1 years that begin on 1 March, and the month by a loop over the
-/// 12 months from March on. Each iteration counts one of `turns`, which grows by 12 for a date and stays as it is for `None`.
+/// Divisions by the days of 400, 100, 4 and 1 years find the year, and a loop over the 12 months from March on finds the month.
+/// Each iteration adds 1 to `turns`, which grows by 12 for a date and is left unchanged for `None`.
 ///
 /// # Examples
 ///
@@ -236,13 +236,14 @@ pub fn date_of_day(day: u32, turns: &mut Turns) -> Option<Date>
     if day > LAST_DAY {
         return None;
     }
-    let (year, left) = march_year(day);
+    let (year, day_of_year) = march_year(day);
     let mut month = 0;
     for next in 1..13_u32 {
         turns.tick();
-        if left >= days_before_march_month(next) {
+        if day_of_year >= days_before_march_month(next) {
             month += 1;
         }
     }
-    Some(march_date(year, month, left - days_before_march_month(month)))
+    let day_index = day_of_year - days_before_march_month(month);
+    Some(march_date(year, month, day_index))
 }

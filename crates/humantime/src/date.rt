@@ -1,4 +1,4 @@
-//! Timestamps such as `2018-02-14T00:28:07Z`, read from and written to bytes at fixed places.
+//! Parsing and formatting of timestamps such as `2018-02-14T00:28:07Z`.
 
 mod error;
 mod parse;

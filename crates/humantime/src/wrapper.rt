@@ -129,9 +129,9 @@ impl fmt::Display for Duration {
     }
 }
 
-/// A moment that `parse` reads and `Display` prints, for a settings field or an option.
+/// A wrapper of [`SystemTime`] that implements `FromStr` and `Display`, for a settings field or an option.
 ///
-/// Order, equality and hashing are those of the [`SystemTime`] that it holds.
+/// Ordering, equality and hashing are those of the wrapped `SystemTime`.
 ///
 /// # Examples
 ///
@@ -157,7 +157,7 @@ impl Model for Timestamp {
 }
 
 impl Timestamp {
-    /// Returns the moment that this wrapper holds.
+    /// Returns the wrapped moment.
     ///
     /// # Examples
     ///
@@ -173,7 +173,7 @@ impl Timestamp {
     }
 }
 
-/// Reads what [`parse_rfc3339_weak`] reads, with its errors.
+/// Parses what [`parse_rfc3339_weak`] parses, with the same errors.
 ///
 /// # Examples
 ///
@@ -214,25 +214,18 @@ impl From<Timestamp> for SystemTime {
     }
 }
 
-/// Writes what `Display` writes of the value that [`format_rfc3339`] returns.
+/// Writes what `Display` writes for the value that [`format_rfc3339`] returns.
 ///
-/// Outside 1970 to 9999 it answers `fmt::Error`.
+/// For a moment outside 1970 to 9999 it returns `fmt::Error` and writes nothing.
 impl fmt::Display for Timestamp {
-    ghost use Rattle.std.specs.Prelude.{◌≡◌, IsOk, Err};
-    ghost use Rattle.std.specs.Fmt.{DisplaysOnOk, DisplaysStyledOnOk, fmt_error};
-    ghost use Rattle.humantime.specs.Timestamps.Printed.{IsPrintable};
-    ghost use Rattle.humantime.specs.Answers.Timestamps.{shortest_text};
+    ghost use Rattle.humantime.specs.Prelude.{DisplaysMoment, places_of, shortest_text};
 
     ghost output = { shortest_text };
 
     ghost styled_output = { λ t _. shortest_text t };
 
     fn fmt<W: fmt::Write>(&self, f: &mut fmt::Formatter<W>) -> fmt::Result
-        ensures writes { DisplaysOnOk W.write_str_gives f.old result (shortest_text self.now) f.new }
-        ensures styled { DisplaysStyledOnOk W.write_str_gives f.old result (shortest_text self.now) f.new }
-        ensures within { IsOk result → IsPrintable self.now }
-        ensures refused { ¬ (IsPrintable self.now) → result ≡ Err fmt_error }
-        ensures untouched { ¬ (IsPrintable self.now) → f.new ≡ f.old }
+        ensures { DisplaysMoment W.write_str_gives f.old result (record { moment = self.now; places = places_of self.now }) f.new }
     {
         format_rfc3339(self.0).fmt(f)
     }

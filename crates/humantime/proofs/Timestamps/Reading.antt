@@ -9,4 +9,3 @@ pub mod Numbers
 pub mod Passed
 pub mod Places
 pub mod Shown
-pub mod Threes

@@ -1,19 +1,22 @@
 -- What is answered of a timestamp's text, and the text of a moment, each as one function.
-use Rattle.std.specs.Prelude.{◌≡◌, ◌↔◌, ℕ, zero, suc, ◌+◌, ◌*◌, ◌/◌, ◌%◌, ◌^◌, ℤ, pos, negsuc, nat_lt, ◌==◌, if◌then◌else◌, List, [], ◌∷◌, take, drop, Option, Some, None, Result, Ok, Err}
+use Rattle.std.specs.Prelude.{◌≡◌, ◌↔◌, ℕ, zero, suc, ◌+◌, ◌*◌, ◌/◌, ◌%◌, ◌^◌, ℤ, pos, negsuc, nat_lt, ◌==◌, if◌then◌else◌, List, [], ◌∷◌, take, drop, Option, Some, None, Result, Ok, Err, IsOk}
 use Rattle.humantime.specs.declared.calendar.Date.{Date}
 use Rattle.humantime.specs.declared.date.error.TimestampError.{TimestampError}
 use Rattle.humantime.specs.declared.date.print.Precision.{Precision}
 use Rattle.humantime.specs.declared.date.print.Precision.TheVariants.{Seconds, Millis, Micros, Nanos}
 use Rattle.humantime.specs.Values.{nanos_per_second, seconds_per_day}
-use Rattle.humantime.specs.Timestamps.Checks.{numbers_of, fraction_part, weak_checks, strict_checks, first_failed}
+use Rattle.humantime.specs.Timestamps.Checks.{date_time_of, fraction_part, weak_checks, strict_checks, first_failed}
 use Rattle.humantime.specs.Timestamps.Fields.{digit, Letter_T, Letter_Z, Fields, fields_text, fraction_nanos, seconds_of, IsWeakMoment}
-use Rattle.humantime.specs.Timestamps.Printed.{MomentToPrint, year_10000, places_of}
+use Rattle.humantime.specs.Timestamps.Printed.{MomentToPrint, year_10000, places_of, IsPrintable}
+use Rattle.std.specs.declared.fmt.Formatter.{Formatter}
+use Rattle.std.specs.declared.fmt.Error.{Error}
+use Rattle.std.specs.Fmt.{DisplaysOnOk, DisplaysStyledOnOk, fmt_error}
 use Rattle.humantime.specs.Answers.Dates.{date_of}
 
 -- the moment of the numbers and of the fraction at their places
 abbrev pub moment_at : List ℕ → ℕ
 moment_at bytes =
-    let x = numbers_of bytes in
+    let x = date_time_of bytes in
     seconds_of x.date x.hour x.minute x.second * nanos_per_second + fraction_nanos (drop 1 (fraction_part bytes))
 
 -- the moment t where no check failed, else the error
@@ -52,8 +55,8 @@ last_digits zero n = []
 last_digits (suc k) n = digit (n / 10 ^ k % 10) ∷ last_digits k n
 
 -- the parts of a date, a second of the day and a nanosecond of it, with k digits after the second
-abbrev pub fields_shown : Date → ℕ → ℕ → ℕ → Fields
-fields_shown date time nanos k = record {
+abbrev pub printed_fields : Date → ℕ → ℕ → ℕ → Fields
+printed_fields date time nanos k = record {
   date = date;
   separator = Letter_T;
   hour = time / 3_600;
@@ -67,7 +70,7 @@ fields_shown date time nanos k = record {
 abbrev pub fields_at : ℕ → ℕ → Fields
 fields_at t k =
     let second = t / nanos_per_second in
-    fields_shown (date_of (second / seconds_per_day)) (second % seconds_per_day) (t % nanos_per_second) k
+    printed_fields (date_of (second / seconds_per_day)) (second % seconds_per_day) (t % nanos_per_second) k
 
 -- the text of the moment t, printed with k digits, where it is one of 1970 to 9999
 unfoldable pub moment_text : ℤ → ℕ → Option (List ℕ)
@@ -81,3 +84,13 @@ printed_text x = moment_text x.moment x.places
 -- the text of a moment where no number of digits is asked for
 abbrev pub shortest_text : ℤ → Option (List ℕ)
 shortest_text t = moment_text t (places_of t)
+
+-- What `Display` of a timestamp does to a formatter: an `Ok` has written the text of a moment of 1970 to 9999, whatever the options of
+-- the formatter are; of any other moment the result is `fmt::Error`, and the formatter is unchanged.
+pub record DisplaysMoment {W : Type 0} (gives : W → List ℕ → W → Type 0) (old : Formatter W) (result : Result (Unit {0}) Error) (x : MomentToPrint)
+    (new : Formatter W) : Type 0 where
+  pub writes : DisplaysOnOk gives old result (printed_text x) new
+  pub styled : DisplaysStyledOnOk gives old result (printed_text x) new
+  pub within : IsOk result → IsPrintable x.moment
+  pub refused : ¬ (IsPrintable x.moment) → result ≡ Err fmt_error
+  pub untouched : ¬ (IsPrintable x.moment) → new ≡ old

@@ -6,7 +6,7 @@ use Rattle.std.specs.Str.{byte, all_ascii_digits}
 use Rattle.humantime.specs.Texts.{decimal_value}
 use Rattle.humantime.specs.declared.date.error.TimestampError.{TimestampError}
 use Rattle.humantime.specs.declared.date.error.TimestampError.TheVariants.{OutOfRange, InvalidDigit, InvalidFormat}
-use Rattle.humantime.specs.declared.date.parse.Numbers.{Numbers}
+use Rattle.humantime.specs.declared.date.parse.DateTime.{DateTime}
 use Rattle.humantime.specs.Calendar.{is_valid}
 use Rattle.humantime.specs.Timestamps.Fields.{Zone, No_zone, Letter_Z, Zero_offset, zone_text}
 
@@ -27,8 +27,8 @@ abbrev pub before_zone : List ℕ → List ℕ
 before_zone bytes = take (length bytes - length (zone_text (zone_of bytes))) bytes
 
 -- Tests for at least 20 bytes, `T` at byte 10, and `Z` or `+00:00` last.
-unfoldable pub has_marks : List ℕ → Bool
-has_marks b = nat_le 20 (length b) && (slice_index b 10 == byte "T") && ends_in_zone b
+unfoldable pub has_t_and_zone : List ℕ → Bool
+has_t_and_zone b = nat_le 20 (length b) && (slice_index b 10 == byte "T") && ends_in_zone b
 
 -- Tests whether `T` or a space stands between date and time.
 unfoldable pub has_separator : List ℕ → Bool
@@ -53,8 +53,8 @@ unfoldable pub number_between : List ℕ → ℕ → ℕ → ℕ
 number_between b from to = decimal_value (slice_range b from to)
 
 -- Reads the numbers of date and time in the first 19 bytes.
-abbrev pub numbers_of : List ℕ → Numbers
-numbers_of b = record {
+abbrev pub date_time_of : List ℕ → DateTime
+date_time_of b = record {
   date = record { year = number_between b 0 4; month = number_between b 5 7; day = number_between b 8 10 };
   hour = number_between b 11 13;
   minute = number_between b 14 16;
@@ -62,8 +62,8 @@ numbers_of b = record {
 }
 
 -- Tests for a valid date, and hour, minute, second up to 23, 59, 60.
-unfoldable pub are_in_range : Numbers → Bool
-are_in_range x =
+unfoldable pub is_valid_date_time : DateTime → Bool
+is_valid_date_time x =
     is_valid x.date.year x.date.month x.date.day && nat_le x.hour 23 && nat_le x.minute 59 && nat_le x.second 60
 
 -- Gives what stands between the seconds and the zone.
@@ -80,14 +80,14 @@ weak_checks bytes =
     (nat_le 19 (length bytes), InvalidFormat)
     ∷ (has_punctuation bytes, InvalidFormat)
     ∷ (has_digits bytes, InvalidDigit)
-    ∷ (are_in_range (numbers_of bytes), OutOfRange)
+    ∷ (is_valid_date_time (date_time_of bytes), OutOfRange)
     ∷ (has_point (fraction_part bytes), InvalidFormat)
     ∷ (all_ascii_digits (drop 1 (fraction_part bytes)), InvalidDigit)
     ∷ []
 
--- Puts `has_marks` before the weak form's checks.
+-- Puts `has_t_and_zone` before the weak form's checks.
 abbrev pub strict_checks : List ℕ → List (Bool × TimestampError)
-strict_checks bytes = (has_marks bytes, InvalidFormat) ∷ weak_checks bytes
+strict_checks bytes = (has_t_and_zone bytes, InvalidFormat) ∷ weak_checks bytes
 
 -- Gives the first failed check's error, if any.
 abbrev pub first_failed : List (Bool × TimestampError) → Option TimestampError

@@ -1,12 +1,11 @@
-//! What is wrong with a text that should be a timestamp.
+//! The error returned when parsing a timestamp fails.
 
 use std::error::Error;
 use std::fmt;
 
-/// Why a text is no timestamp.
+/// The error returned when parsing a timestamp fails.
 ///
-/// The parsers answer the error of the first check that the text fails; the crate has these three. `Display` writes the
-/// message.
+/// The parsers return the error of the first check that fails. `Display` writes the message of the original crate.
 ///
 /// # Examples
 ///
@@ -20,11 +19,11 @@ use std::fmt;
 /// ```
 #[derive(Clone, Copy, PartialEq, Eq, Debug)]
 pub enum TimestampError {
-    /// A number is out of its range, as month 13 or a year before 1970, or the month has no such day.
+    /// A number is out of range, such as month 13 or a year before 1970, or the month has no such day.
     OutOfRange,
-    /// Another byte stands where a digit is expected.
+    /// A byte is not a digit where one is expected.
     InvalidDigit,
-    /// The text has another shape.
+    /// The text does not have the form of a timestamp.
     InvalidFormat,
 }
 

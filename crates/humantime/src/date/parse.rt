@@ -1,14 +1,14 @@
-//! The parsers of timestamps.
+//! Parsing of timestamps.
 
-ghost use Rattle.std.specs.Prelude.{nat_le, ◌≡◌, ◌+◌, ◌-◌, ◌*◌, ◌^◌, ◌<◌, ◌≤◌, ◌↔◌, ◌&&◌, length, drop, min, IsTrue, IfSome, SomeIff, Ok, Err, Some, ℤ, codes};
+ghost use Rattle.std.specs.Prelude.{false, nat_le, ◌≡◌, ◌+◌, ◌-◌, ◌*◌, ◌^◌, ◌<◌, ◌≤◌, ◌↔◌, ◌&&◌, length, drop, min, IsTrue, IfSome, SomeIff, Ok, Err, Some, ℤ, codes};
 ghost use Rattle.std.specs.Char.{is_ascii_digit};
 ghost use Rattle.std.specs.List.{list_all};
 ghost use Rattle.std.specs.Str.{bytes_eq};
 ghost use Rattle.humantime.specs.declared.date.error.TimestampError.{TimestampError};
 ghost use Rattle.humantime.specs.Timestamps.Fields.{zone_text, seconds_of, IsWeakMoment, IsStrictMoment};
-ghost use Rattle.humantime.specs.Timestamps.Checks.{zone_of, numbers_of, are_in_range, fraction_part, first_failed, weak_checks, strict_checks};
+ghost use Rattle.humantime.specs.Timestamps.Checks.{zone_of, date_time_of, is_valid_date_time, fraction_part, first_failed, weak_checks, strict_checks};
 ghost use Rattle.humantime.specs.Answers.Timestamps.{weak_answer, strict_answer};
-ghost use Rattle.humantime.specs.Steps.Timestamps.{fraction_answer, numbers_in, nanos_found, in_threes, AreShort};
+ghost use Rattle.humantime.specs.Steps.Timestamps.{fraction_answer, digits_answer};
 ghost use Rattle.humantime.specs.Timestamps.Checks;
 ghost use Rattle.humantime.specs.Steps.Timestamps as Steps;
 
@@ -18,103 +18,68 @@ use crate::turns::Turns;
 use crate::value::SystemTime;
 use std::simd::prelude::*;
 
-// Vectors are statics and read as slices, since Rattle's own compiler loads such a one, and builds another in five instructions.
+// The vectors are statics that are read as slices: Rattle's own compiler loads such a vector in one instruction, and builds any
+// other in five.
 
-/// The least byte at each of the first sixteen places, where a space stands for any byte.
-static LEAST: [u8; 16] = *b"0000-00-00 00:00";
+/// The minimum of each of the first 16 bytes. The separator, at byte 10, may be any byte, since it is tested separately.
+static FRONT_MIN: [u8; 16] = *b"0000-00-00 00:00";
 
-/// How far a byte may be above it: a digit up to nine, and a sign not at all.
-static MOST_ABOVE: [u8; 16] = [9, 9, 9, 9, 0, 9, 9, 0, 9, 9, 255, 9, 9, 0, 9, 9];
+/// How far each byte may be above its minimum: 9 for a digit and 0 for punctuation.
+static FRONT_RANGE: [u8; 16] = [9, 9, 9, 9, 0, 9, 9, 0, 9, 9, 255, 9, 9, 0, 9, 9];
 
-/// The least byte at each of the sixteen places from the fourth on.
-static LEAST_BACK: [u8; 16] = *b"0-00-00 00:00:00";
+/// The minimum of each of the 16 bytes from byte 3 on.
+static BACK_MIN: [u8; 16] = *b"0-00-00 00:00:00";
 
-/// How far a byte may be above it: any byte may stand where the first sixteen places have tested it.
-static MOST_ABOVE_BACK: [u8; 16] = [
+/// How far each of them may be above its minimum. Those up to byte 15 may be any byte, since `FRONT_RANGE` bounds them.
+static BACK_RANGE: [u8; 16] = [
     255, 255, 255, 255, 255, 255, 255, 255, 255, 255, 255, 255, 255, 0, 9, 9,
 ];
 
-/// What each of the first sixteen bytes counts in the number of its four: a tenth of the year, month, day, minute.
-static WEIGHTS_FRONT: [u8; 16] = [100, 10, 1, 0, 0, 10, 1, 0, 10, 1, 0, 0, 0, 0, 10, 1];
+/// The weight of each of the first 16 bytes in the sum of its four: a tenth of the year, the month, the day and the minute.
+static FRONT_WEIGHTS: [u8; 16] = [100, 10, 1, 0, 0, 10, 1, 0, 10, 1, 0, 0, 0, 0, 10, 1];
 
-/// And each of those from the fourth on: the year's last digit, nothing, hour, second.
-static WEIGHTS_BACK: [u8; 16] = [1, 0, 0, 0, 0, 0, 0, 0, 10, 1, 0, 0, 0, 0, 10, 1];
+/// The weight of each of the 16 bytes from byte 3 on: the last digit of the year, nothing, the hour and the second.
+static BACK_WEIGHTS: [u8; 16] = [1, 0, 0, 0, 0, 0, 0, 0, 10, 1, 0, 0, 0, 0, 10, 1];
 
-/// Which of sixteen numbers stand at the places of nine digits, three to four lanes: a row for each number of digits from
-/// none on, which are the last of the sixteen. For a place without a digit 255 gives 0.
-static PLACES: [[u8; 16]; 10] = [
-    [
-        255, 255, 255, 255, 255, 255, 255, 255, 255, 255, 255, 255, 255, 255, 255, 255,
-    ],
-    [
-        15, 255, 255, 255, 255, 255, 255, 255, 255, 255, 255, 255, 255, 255, 255, 255,
-    ],
-    [
-        14, 15, 255, 255, 255, 255, 255, 255, 255, 255, 255, 255, 255, 255, 255, 255,
-    ],
-    [
-        13, 14, 15, 255, 255, 255, 255, 255, 255, 255, 255, 255, 255, 255, 255, 255,
-    ],
-    [
-        12, 13, 14, 255, 15, 255, 255, 255, 255, 255, 255, 255, 255, 255, 255, 255,
-    ],
-    [
-        11, 12, 13, 255, 14, 15, 255, 255, 255, 255, 255, 255, 255, 255, 255, 255,
-    ],
-    [
-        10, 11, 12, 255, 13, 14, 15, 255, 255, 255, 255, 255, 255, 255, 255, 255,
-    ],
-    [
-        9, 10, 11, 255, 12, 13, 14, 255, 15, 255, 255, 255, 255, 255, 255, 255,
-    ],
-    [
-        8, 9, 10, 255, 11, 12, 13, 255, 14, 15, 255, 255, 255, 255, 255, 255,
-    ],
-    [
-        7, 8, 9, 255, 10, 11, 12, 255, 13, 14, 15, 255, 255, 255, 255, 255,
-    ],
+/// The number of nanoseconds that a 1 represents at each of the first nine places after the point.
+static PLACE_VALUES: [u32; 9] = [
+    100_000_000,
+    10_000_000,
+    1_000_000,
+    100_000,
+    10_000,
+    1_000,
+    100,
+    10,
+    1,
 ];
 
-/// What each of these digits counts in the number of its three.
-static WEIGHTS_THREE: [u8; 16] = [100, 10, 1, 0, 100, 10, 1, 0, 100, 10, 1, 0, 0, 0, 0, 0];
-
-/// How many nanoseconds a 1 counts in each of the three numbers, and nothing behind them.
-static NANOS: [u32; 4] = [1_000_000, 1_000, 1, 0];
-
-/// The numbers of a date and a time of day.
+/// A date and a time of day, which may be out of range.
 #[derive(Clone, Copy)]
-struct Numbers {
+struct DateTime {
     date: Date,
     hour: u32,
     minute: u32,
     second: u32,
 }
 
-/// The same numbers, four in each vector: a tenth of the year, month, day and minute; and the year's last digit, nothing,
-/// hour and second.
-#[derive(Clone, Copy)]
-struct Lanes {
-    front: u32x4,
-    back: u32x4,
-}
-
-/// Returns the moment that `s` shows, in the weak form of a timestamp, such as `2018-02-14 00:28:07`.
+/// Parses a timestamp in the weak form, such as `2018-02-14 00:28:07`, and returns the moment that it represents.
 ///
-/// A `T` or a space stands between date and time. The zone may be left out: nothing, `Z` and `+00:00` all mean the zone
-/// of Greenwich. A fraction of a second may have any number of digits, none too; those past the ninth are cut. Second 60
-/// is read as 59. The text is looked at as bytes, counted from 0. The rule is the crate's, after RFC 3339.
+/// A `T` or a space separates the date from the time. The time is in UTC, which `Z` or `+00:00` at the end may say. A fraction of a
+/// second may have any number of digits, even none, of which those past the ninth are ignored. Second 60 is read as second 59. The
+/// original crate defines this form, which is based on RFC 3339.
 ///
 /// # Errors
 ///
-/// Makes these checks in this order, and returns the error of the first that fails:
+/// Makes these checks in order, and returns the error of the first one that fails. Bytes are counted from 0.
 ///
-/// - [`InvalidFormat`](TimestampError::InvalidFormat) if there are fewer than 19 bytes;
-/// - `InvalidFormat` if a sign of date and time is not in its place;
-/// - [`InvalidDigit`](TimestampError::InvalidDigit) if another byte, up to byte 18, is no digit;
-/// - [`OutOfRange`](TimestampError::OutOfRange) if 1970 to 9999 has no such date, the hour is above 23, the minute above
+/// - [`InvalidFormat`](TimestampError::InvalidFormat) if the text has fewer than 19 bytes;
+/// - `InvalidFormat` if the punctuation of the date and the time is not in its place;
+/// - [`InvalidDigit`](TimestampError::InvalidDigit) if any other byte up to byte 18 is not a digit;
+/// - [`OutOfRange`](TimestampError::OutOfRange) if the years 1970 to 9999 have no such date, the hour is above 23, the minute above
 ///   59 or the second above 60;
-/// - `InvalidFormat` if byte 19 is not a point, and what stands from there on is not nothing, `Z` or `+00:00`;
-/// - `InvalidDigit` if byte 19 is a point, and what stands after it is not digits, and then nothing, `Z` or `+00:00`.
+/// - `InvalidFormat` if byte 19 is not a point, and the text from there on is not empty, `Z` or `+00:00`;
+/// - `InvalidDigit` if byte 19 is a point, and the text after it is not digits that end the text or are followed by `Z` or `+00:00`.
 ///
 /// # Examples
 ///
@@ -136,15 +101,15 @@ pub fn parse_rfc3339_weak(s: &str) -> Result<SystemTime, TimestampError>
     read_timestamp(s.as_bytes())
 }
 
-/// Returns the moment that `s` shows, in the strict form of a timestamp, such as `2018-02-14T00:28:07Z`.
+/// Parses a timestamp in the strict form, such as `2018-02-14T00:28:07Z`, and returns the moment that it represents.
 ///
-/// It is the weak form with a `T` between date and time, and with `Z` or `+00:00` at the end. RFC 3339 has this form;
-/// the crate takes no other zone, and no small letters.
+/// This is the weak form with a `T` between the date and the time, and `Z` or `+00:00` at the end. RFC 3339 defines it; other time
+/// zones and lowercase letters, which RFC 3339 allows, are not accepted.
 ///
 /// # Errors
 ///
-/// Returns [`InvalidFormat`](TimestampError::InvalidFormat) if the text has fewer than 20 bytes, no `T` at byte 10 (counted
-/// from 0), or no zone at its end. Of any other text it returns the error that [`parse_rfc3339_weak`] returns.
+/// Returns [`InvalidFormat`](TimestampError::InvalidFormat) if the text has fewer than 20 bytes, byte 10 (counted from 0) is not a
+/// `T`, or the text does not end in `Z` or `+00:00`. For any other text it returns the error that [`parse_rfc3339_weak`] returns.
 ///
 /// # Examples
 ///
@@ -162,22 +127,22 @@ pub fn parse_rfc3339(s: &str) -> Result<SystemTime, TimestampError>
     ensures error { (e : TimestampError) → (result ≡ Err e) ↔ (first_failed (strict_checks s.now) ≡ Some e) }
     ensures answer { result ≡ strict_answer s.now }
 {
-    if !has_marks(s.as_bytes()) {
+    if !has_t_and_zone(s.as_bytes()) {
         return Err(TimestampError::InvalidFormat);
     }
     parse_rfc3339_weak(s)
 }
 
-/// At least 20 bytes, a `T` and a zone.
+/// Returns `true` if there are at least 20 bytes, byte 10 is a `T`, and a zone is at the end.
 #[inline(always)]
-#[tactic(auto, using(crate::proofs::Timestamps::Reading::Ends::some_zone), unfolding(crate::specs::Timestamps::Checks::has_marks))]
-fn has_marks(bytes: &[u8]) -> bool
-    ensures { result ≡ Checks.has_marks bytes.now }
+#[tactic(auto, using(crate::proofs::Timestamps::Reading::Ends::some_zone), unfolding(crate::specs::Timestamps::Checks::has_t_and_zone))]
+fn has_t_and_zone(bytes: &[u8]) -> bool
+    ensures { result ≡ Checks.has_t_and_zone bytes.now }
 {
     bytes.len() >= 20 && bytes[10] == b'T' && zone_length(bytes) > 0
 }
 
-/// How many bytes the zone at the end has: one for `Z`, six for `+00:00`, and none without a zone.
+/// Returns the length of the zone at the end: 1 for `Z`, 6 for `+00:00`, and 0 if there is no zone.
 #[inline(always)]
 #[tactic(auto, using(crate::proofs::Timestamps::Reading::Ends::last_letter, crate::proofs::Timestamps::Reading::Ends::no_letter, crate::proofs::Timestamps::Reading::Ends::last_offset, crate::proofs::Timestamps::Reading::Ends::no_offset), unfolding(crate::specs::Timestamps::Checks::zone_of))]
 fn zone_length(bytes: &[u8]) -> usize
@@ -192,7 +157,7 @@ fn zone_length(bytes: &[u8]) -> usize
     }
 }
 
-/// What stands before the zone at the end.
+/// Returns the bytes before the zone at the end.
 #[inline(always)]
 #[tactic(auto, using(crate::proofs::Timestamps::Reading::Ends::zone_fits))]
 fn before_zone(bytes: &[u8]) -> &[u8]
@@ -201,30 +166,45 @@ fn before_zone(bytes: &[u8]) -> &[u8]
     &bytes[..bytes.len() - zone_length(bytes)]
 }
 
-/// The moment, or the error of the first check that fails.
+/// Returns the moment, or the error of the first check that fails.
 #[inline(always)]
-#[tactic(auto, using(crate::proofs::Timestamps::Reading::Exits::fraction_bound, crate::proofs::Timestamps::Reading::Exits::layout_parts, crate::proofs::Timestamps::Reading::Exits::exit_layout, crate::proofs::Timestamps::Reading::Exits::exit_separator))]
+#[tactic(auto, using(crate::proofs::Timestamps::Reading::Exits::fraction_bound, crate::proofs::Timestamps::Reading::Exits::layout_parts))]
 fn read_timestamp(bytes: &[u8]) -> Result<SystemTime, TimestampError>
     ensures { result ≡ weak_answer bytes.now }
 {
-    if bytes.len() < 19 || !has_separator(bytes) {
-        return Err(TimestampError::InvalidFormat);
-    }
     if !has_layout(bytes) {
-        // The signs are looked at first.
-        if has_punctuation(bytes) {
-            return Err(TimestampError::InvalidDigit);
-        }
-        return Err(TimestampError::InvalidFormat);
+        return Err(layout_error(bytes));
     }
-    let Some(seconds) = seconds_of(numbers_in(lanes_at(bytes))) else {
+    let Some(seconds) = seconds_of(parse_date_time(bytes)) else {
         return Err(TimestampError::OutOfRange);
     };
-    let nanos = read_fraction(bytes)?;
+    let nanos = read_fraction(&bytes[19..])?;
     Ok(SystemTime::since_epoch(seconds, nanos))
 }
 
-/// `T` or a space between date and time.
+/// Returns `true` if there are at least 19 bytes, with punctuation and digits in their places.
+#[inline(always)]
+#[tactic(auto, unfolding(crate::specs::Steps::Timestamps::has_layout, crate::specs::Timestamps::Checks::has_punctuation))]
+fn has_layout(bytes: &[u8]) -> bool
+    ensures { result ≡ Steps.has_layout bytes.now }
+{
+    bytes.len() >= 19 && has_separator(bytes) && bytes_in_bounds(bytes)
+}
+
+/// Returns the error for a text without that layout. Punctuation is checked before digits.
+#[tactic(auto, using(crate::proofs::Timestamps::Reading::Exits::exit_layout))]
+fn layout_error(bytes: &[u8]) -> TimestampError
+    requires { Steps.has_layout bytes.now ≡ false }
+    ensures { weak_answer bytes.now ≡ Err result }
+{
+    if bytes.len() >= 19 && has_punctuation(bytes) {
+        TimestampError::InvalidDigit
+    } else {
+        TimestampError::InvalidFormat
+    }
+}
+
+/// Returns `true` if a `T` or a space separates the date from the time.
 #[inline(always)]
 #[tactic(auto, unfolding(crate::specs::Timestamps::Checks::has_separator))]
 fn has_separator(bytes: &[u8]) -> bool
@@ -234,7 +214,7 @@ fn has_separator(bytes: &[u8]) -> bool
     bytes[10] == b'T' || bytes[10] == b' '
 }
 
-/// The signs between the numbers.
+/// Returns `true` if the punctuation of the date and the time is in its place.
 #[inline(always)]
 #[tactic(auto, unfolding(crate::specs::Timestamps::Checks::has_punctuation))]
 fn has_punctuation(bytes: &[u8]) -> bool
@@ -248,56 +228,34 @@ fn has_punctuation(bytes: &[u8]) -> bool
         && bytes[16] == b':'
 }
 
-/// Signs and digits in their places. All are tested at once: a lane of the vector is how far a byte is above the least
-/// one, and a byte below that wraps around to far above.
+/// Returns `true` if each of the first 19 bytes is between its minimum and its maximum. All are tested at once: a lane has the
+/// distance of a byte above its minimum, which wraps around to a number above the range for a byte below its minimum.
 #[inline(always)]
-#[tactic(auto, unfolding(crate::specs::Steps::Timestamps::has_layout, crate::specs::Timestamps::Checks::has_punctuation))]
-fn has_layout(bytes: &[u8]) -> bool
+fn bytes_in_bounds(bytes: &[u8]) -> bool
     requires long { 19 ≤ length bytes.now }
     requires separator { IsTrue (Checks.has_separator bytes.now) }
     ensures { result ≡ Steps.has_layout bytes.now }
 {
-    let front = u8x16::from_slice(bytes) - u8x16::from_slice(&LEAST);
-    let back = u8x16::from_slice(&bytes[3..]) - u8x16::from_slice(&LEAST_BACK);
-    let beyond = front.saturating_sub(u8x16::from_slice(&MOST_ABOVE))
-        | back.saturating_sub(u8x16::from_slice(&MOST_ABOVE_BACK));
+    let front = u8x16::from_slice(bytes) - u8x16::from_slice(&FRONT_MIN);
+    let back = u8x16::from_slice(&bytes[3..]) - u8x16::from_slice(&BACK_MIN);
+    let beyond = front.saturating_sub(u8x16::from_slice(&FRONT_RANGE))
+        | back.saturating_sub(u8x16::from_slice(&BACK_RANGE));
     beyond.simd_eq(u8x16::splat(0)).all()
 }
 
-/// No lane above this number.
-#[inline(always)]
-fn none_above(lanes: u8x16, most: u8) -> bool
-    requires { length lanes ≡ 16 }
-    ensures { result ≡ list_all (λ n. nat_le n most) lanes }
-{
-    lanes.simd_le(u8x16::splat(most)).all()
-}
-
-/// The numbers that date and time show, where all places have digits: `dot4` sums up four bytes, each by its weight.
+/// Returns the date and time in the first 19 bytes. `dot4` multiplies each digit by its weight, and adds up the products of each
+/// four bytes.
 #[inline(always)]
 #[tactic(auto, using(crate::proofs::Timestamps::Reading::Exits::layout_parts))]
-fn lanes_at(bytes: &[u8]) -> Lanes
+fn parse_date_time(bytes: &[u8]) -> DateTime
     requires { IsTrue (Steps.has_layout bytes.now) }
-    ensures numbers { numbers_in result ≡ numbers_of bytes.now }
-    ensures short { AreShort result }
+    ensures { result ≡ date_time_of bytes.now }
 {
-    let front = u8x16::from_slice(bytes) - u8x16::from_slice(&LEAST);
-    let back = u8x16::from_slice(&bytes[3..]) - u8x16::from_slice(&LEAST_BACK);
-    Lanes {
-        front: front.dot4(u8x16::from_slice(&WEIGHTS_FRONT)),
-        back: back.dot4(u8x16::from_slice(&WEIGHTS_BACK)),
-    }
-}
-
-/// The numbers one by one.
-#[inline(always)]
-fn numbers_in(lanes: Lanes) -> Numbers
-    requires { AreShort lanes }
-    ensures { result ≡ numbers_in lanes }
-{
-    let front = lanes.front.to_array();
-    let back = lanes.back.to_array();
-    Numbers {
+    let front = u8x16::from_slice(bytes) - u8x16::from_slice(&FRONT_MIN);
+    let back = u8x16::from_slice(&bytes[3..]) - u8x16::from_slice(&BACK_MIN);
+    let front = front.dot4(u8x16::from_slice(&FRONT_WEIGHTS)).to_array();
+    let back = back.dot4(u8x16::from_slice(&BACK_WEIGHTS)).to_array();
+    DateTime {
         date: Date {
             year: front[0] * 10 + back[0],
             month: front[1],
@@ -309,11 +267,12 @@ fn numbers_in(lanes: Lanes) -> Numbers
     }
 }
 
-/// The seconds from 1970 to this date and time, or `None` where it does not exist. Second 60 is read as 59.
+/// Returns the number of seconds from 1970-01-01T00:00:00Z to a date and time, or `None` if it is out of range. Second 60 counts as
+/// second 59.
 #[inline(always)]
-#[tactic(auto, unfolding(crate::specs::Timestamps::Checks::are_in_range))]
-fn seconds_of(x: Numbers) -> Option<u64>
-    ensures value { SomeIff result (IsTrue (are_in_range x)) (seconds_of x.date x.hour x.minute x.second) }
+#[tactic(auto, unfolding(crate::specs::Timestamps::Checks::is_valid_date_time))]
+fn seconds_of(x: DateTime) -> Option<u64>
+    ensures value { SomeIff result (IsTrue (is_valid_date_time x)) (seconds_of x.date x.hour x.minute x.second) }
     ensures bound { IfSome result (λ n. n < 2 ^ 63) }
 {
     let day = day_number(x.date, &mut Turns::new())?;
@@ -324,36 +283,43 @@ fn seconds_of(x: Numbers) -> Option<u64>
     Some(day as u64 * 86_400 + time as u64)
 }
 
-/// The nanoseconds of what stands between the seconds and the zone, where it is right.
+/// Returns the nanoseconds of the fraction in the bytes after the seconds: nothing, or a point and digits, and then the zone.
 #[inline(always)]
-#[tactic(auto, using(crate::proofs::Timestamps::Reading::Exits::letter_read), unfolding(crate::specs::Timestamps::Checks::has_point))]
-fn read_fraction(bytes: &[u8]) -> Result<u32, TimestampError>
-    requires { 19 ≤ length bytes.now }
-    ensures { result ≡ fraction_answer (fraction_part bytes.now) }
+#[tactic(auto, using(crate::proofs::Timestamps::Reading::Ends::letter_alone, crate::proofs::Timestamps::Reading::Fractions::nothing_read), unfolding(crate::specs::Timestamps::Checks::has_point))]
+fn read_fraction(rest: &[u8]) -> Result<u32, TimestampError>
+    ensures { result ≡ fraction_answer (Checks.before_zone rest.now) }
 {
-    // Nothing but a `Z` follows most seconds.
-    if bytes.len() == 20 && bytes[19] == b'Z' {
+    // Most timestamps have a `Z` right after the seconds.
+    if let [b'Z'] = rest {
         return Ok(0);
     }
-    let part = before_zone(&bytes[19..]);
-    if part.is_empty() {
-        return Ok(0);
+    match before_zone(rest) {
+        [] => Ok(0),
+        [b'.', digits @ ..] => fraction_nanos(digits),
+        _ => Err(TimestampError::InvalidFormat),
     }
-    if part[0] != b'.' {
-        return Err(TimestampError::InvalidFormat);
-    }
-    // A point and nine digits count. At least 19 bytes stand before them, so that sixteen end where they do.
-    let end = if part.len() <= 10 {
-        part.len()
-    } else if are_digits(&part[10..]) {
-        10
-    } else {
-        return Err(TimestampError::InvalidDigit);
-    };
-    last_digits(&bytes[3 + end..19 + end], end - 1).ok_or(TimestampError::InvalidDigit)
 }
 
-/// `+00:00`, of six bytes. The first four are compared as one number, and the last two as another.
+/// Returns the nanoseconds that the digits after a point represent, or an error if a byte is not a digit. Digits past the ninth
+/// are ignored.
+#[inline(always)]
+#[tactic(auto, using(crate::proofs::Timestamps::Reading::Fractions::digits_added))]
+fn fraction_nanos(digits: &[u8]) -> Result<u32, TimestampError>
+    ensures { result ≡ digits_answer digits.now }
+{
+    let mut nanos = 0;
+    for (place, digit) in digits.iter().enumerate() {
+        if !digit.is_ascii_digit() {
+            return Err(TimestampError::InvalidDigit);
+        }
+        if place < 9 {
+            nanos += PLACE_VALUES[place] * (*digit - b'0') as u32;
+        }
+    }
+    Ok(nanos)
+}
+
+/// Returns `true` if these six bytes are `+00:00`. The first four are compared as one number, and the last two as another.
 #[inline(always)]
 fn is_offset(bytes: &[u8]) -> bool
     requires { length bytes.now ≡ 6 }
@@ -362,37 +328,4 @@ fn is_offset(bytes: &[u8]) -> bool
     let front = u32::from_le_bytes([bytes[0], bytes[1], bytes[2], bytes[3]]);
     let back = u16::from_le_bytes([bytes[4], bytes[5]]);
     front == u32::from_le_bytes(*b"+00:") && back == u16::from_le_bytes(*b"00")
-}
-
-/// Whether all bytes are digits.
-#[inline(always)]
-fn are_digits(bytes: &[u8]) -> bool
-    ensures { result ≡ list_all is_ascii_digit bytes.now }
-{
-    bytes.iter().all(|b| b.is_ascii_digit())
-}
-
-/// The nanoseconds of the last digits of sixteen bytes, at most nine, where they are digits.
-#[inline(always)]
-fn last_digits(bytes: &[u8], count: usize) -> Option<u32>
-    requires long { length bytes.now ≡ 16 }
-    requires few { count ≤ 9 }
-    ensures { result ≡ nanos_found (drop (16 - count) bytes.now) }
-{
-    let numbers = in_threes(u8x16::from_slice(bytes) - u8x16::splat(b'0'), count);
-    if !none_above(numbers, 9) {
-        return None;
-    }
-    let threes = numbers.dot4(u8x16::from_slice(&WEIGHTS_THREE));
-    Some((threes * u32x4::from_slice(&NANOS)).reduce_sum())
-}
-
-/// The last of sixteen numbers, at most nine, three to four lanes; the other lanes are 0.
-#[inline(always)]
-fn in_threes(numbers: u8x16, count: usize) -> u8x16
-    requires long { length numbers ≡ 16 }
-    requires few { count ≤ 9 }
-    ensures { result ≡ in_threes (drop (16 - count) numbers) }
-{
-    numbers.swizzle_dyn(u8x16::from_array(PLACES[count]))
 }

@@ -1,12 +1,12 @@
-//! The printers of timestamps.
+//! Formatting of timestamps.
 
 ghost use Rattle.std.specs.Prelude.{◌≡◌, ◌+◌, ◌<◌, ◌≤◌, ◌↔◌, IsSome, IfSome, IfNone, option_map, ◌++◌, take, drop, codes};
 ghost use Rattle.std.specs.Borrow.{sem};
 ghost use Rattle.std.specs.Str.{IsUtf8};
-ghost use Rattle.humantime.specs.Prelude.{IsDate, IsPrintable, IsPrinted, KeptAtNone, nano_of, places_of, printed_text};
+ghost use Rattle.humantime.specs.Prelude.{DisplaysMoment, IsDate, IsPrintable, IsPrinted, KeptAtNone, nano_of, places_of, printed_text};
 ghost use Rattle.humantime.specs.Timestamps.Fields.{two_digits, date_time_text, fields_text};
 ghost use Rattle.humantime.specs.Steps.Timestamps.{IsSecondOf};
-ghost use Rattle.humantime.specs.Answers.Timestamps.{fields_shown};
+ghost use Rattle.humantime.specs.Answers.Timestamps.{printed_fields};
 
 use crate::buffer::str_prefix;
 use crate::calendar::{Date, date_of_day};
@@ -15,11 +15,11 @@ use crate::value::SystemTime;
 use std::fmt;
 use std::marker::Model;
 
-/// The numbers below 100, in two digits each.
+/// The numbers below 100, with two digits each.
 static PAIRS: [u8; 200] =
     *b"00010203040506070809101112131415161718192021222324252627282930313233343536373839404142434445464748495051525354555657585960616263646566676869707172737475767778798081828384858687888990919293949596979899";
 
-/// How many digits the fraction of a second has: none, three, six or nine.
+/// The number of digits in the fraction of a second: none, three, six or nine.
 #[derive(Clone, Copy, PartialEq, Eq, Debug)]
 enum Precision {
     Seconds,
@@ -28,10 +28,10 @@ enum Precision {
     Nanos,
 }
 
-/// A moment that [`text`](Self::text) and `Display` print as a timestamp, with 0, 3, 6 or 9 digits after the second.
+/// A moment that is formatted as a timestamp by [`text`](Self::text) and by `Display`, with 0, 3, 6 or 9 digits of a second.
 ///
-/// The `format_rfc3339` functions make it. `Display` writes the text that `text` gives, by one call of the sink; width
-/// and fill are ignored. Outside 1970 to 9999 `Display` answers `fmt::Error` and does not call the sink.
+/// The `format_rfc3339` functions return it. `Display` writes the text that `text` returns in a single write, and ignores width and
+/// fill. For a moment outside 1970 to 9999 `Display` returns `fmt::Error` and writes nothing.
 ///
 /// # Examples
 ///
@@ -64,9 +64,10 @@ impl Model for Rfc3339Timestamp {
     ghost inverse_ok = { λ x h. Prim.grind arith };
 }
 
-/// Returns a value that prints `moment` with no fraction if its nanoseconds are zero, and with nine digits otherwise.
+/// Formats `moment` as a timestamp with no fraction if its nanoseconds are zero, and with nine digits otherwise.
 ///
-/// It never fails. RFC 3339 has the form; this choice of the digits is the crate's.
+/// It never fails: a moment outside 1970 to 9999 fails when it is printed. RFC 3339 defines the form of the timestamp, and the
+/// original crate this choice of digits.
 ///
 /// # Examples
 ///
@@ -90,9 +91,9 @@ pub fn format_rfc3339(moment: SystemTime) -> Rfc3339Timestamp
     Rfc3339Timestamp { moment, precision }
 }
 
-/// Returns a value that prints `moment` with no fraction; its nanoseconds are cut, not rounded.
+/// Formats `moment` as a timestamp with no fraction. The nanoseconds are truncated, not rounded.
 ///
-/// It never fails.
+/// It never fails: a moment outside 1970 to 9999 fails when it is printed.
 ///
 /// # Examples
 ///
@@ -112,9 +113,9 @@ pub fn format_rfc3339_seconds(moment: SystemTime) -> Rfc3339Timestamp
     }
 }
 
-/// Returns a value that prints `moment` with three digits after the second; further ones are cut, not rounded.
+/// Formats `moment` as a timestamp with three digits of a second. Further digits are truncated, not rounded.
 ///
-/// It never fails.
+/// It never fails: a moment outside 1970 to 9999 fails when it is printed.
 ///
 /// # Examples
 ///
@@ -134,9 +135,9 @@ pub fn format_rfc3339_millis(moment: SystemTime) -> Rfc3339Timestamp
     }
 }
 
-/// Returns a value that prints `moment` with six digits after the second; further ones are cut, not rounded.
+/// Formats `moment` as a timestamp with six digits of a second. Further digits are truncated, not rounded.
 ///
-/// It never fails.
+/// It never fails: a moment outside 1970 to 9999 fails when it is printed.
 ///
 /// # Examples
 ///
@@ -158,7 +159,7 @@ pub fn format_rfc3339_micros(moment: SystemTime) -> Rfc3339Timestamp
 
 /// Returns a value that prints `moment` with nine digits after the second.
 ///
-/// It never fails.
+/// It never fails: a moment outside 1970 to 9999 fails when it is printed.
 ///
 /// # Examples
 ///
@@ -219,10 +220,10 @@ impl Rfc3339Timestamp {
         ensures* unchanged { sem 𝓛 (KeptAtNone 30 buf.entry result) }
     {
         let len = self.write(buf);
-        shown(buf, len)
+        text_from_len(buf, len)
     }
 
-    /// Writes the text to the front of the buffer. `None`, and the buffer as it was, outside 1970 to 9999.
+    /// Writes the text to the front of `buf` and returns its length, or returns `None` outside 1970 to 9999 and leaves `buf` unchanged.
     #[inline(always)]
     pub(crate) fn write(&self, buf: &mut [u8; 30]) -> Option<usize>
         ensures within { IsSome result ↔ IsPrintable self.now.moment }
@@ -234,13 +235,12 @@ impl Rfc3339Timestamp {
         Some(self.write_parts(date, time, buf))
     }
 
-    /// Writes the date, this second of the day and the fraction to the front of the buffer, and answers the
-    /// text's length.
+    /// Writes the text of a date, a second of the day and this moment's fraction to the front of `buf`, and returns its length.
     #[inline(always)]
     fn write_parts(&self, date: Date, time: u32, buf: &mut [u8; 30]) -> usize
         requires { IsSecondOf date time self.now.moment }
         ensures fits { result ≤ 30 }
-        ensures text { take result buf.new ≡ fields_text (fields_shown date time (nano_of self.now.moment) self.now.places) }
+        ensures text { take result buf.new ≡ fields_text (printed_fields date time (nano_of self.now.moment) self.now.places) }
     {
         let nanos = self.moment.subsec_nanos();
         write_time(date, time, buf);
@@ -267,19 +267,12 @@ impl Rfc3339Timestamp {
 }
 
 impl fmt::Display for Rfc3339Timestamp {
-    ghost use Rattle.std.specs.Prelude.{◌≡◌, IsOk, Err};
-    ghost use Rattle.std.specs.Fmt.{DisplaysOnOk, DisplaysStyledOnOk, fmt_error};
-
     ghost output = { printed_text };
 
     ghost styled_output = { λ x _. printed_text x };
 
     fn fmt<W: fmt::Write>(&self, f: &mut fmt::Formatter<W>) -> fmt::Result
-        ensures writes { DisplaysOnOk W.write_str_gives f.old result (printed_text self.now) f.new }
-        ensures styled { DisplaysStyledOnOk W.write_str_gives f.old result (printed_text self.now) f.new }
-        ensures within { IsOk result → IsPrintable self.now.moment }
-        ensures refused { ¬ (IsPrintable self.now.moment) → result ≡ Err fmt_error }
-        ensures untouched { ¬ (IsPrintable self.now.moment) → f.new ≡ f.old }
+        ensures { DisplaysMoment W.write_str_gives f.old result self.now f.new }
     {
         let mut buf = [0; 30];
         let Some(text) = self.text(&mut buf) else {
@@ -289,9 +282,9 @@ impl fmt::Display for Rfc3339Timestamp {
     }
 }
 
-/// The text in the first `len` bytes, if there is one.
+/// Returns the first `len` bytes as a text, or `None` for `None`.
 #[inline(always)]
-fn shown(buf: &[u8; 30], len: Option<usize>) -> Option<&str>
+fn text_from_len(buf: &[u8; 30], len: Option<usize>) -> Option<&str>
     requires fits { IfSome len (λ n. n ≤ 30) }
     requires utf8 { IfSome len (λ n. IsUtf8 (take n buf.now)) }
     ensures { option_map (λ t. t.now) result ≡ option_map (λ n. take n buf.now) len }
@@ -300,7 +293,7 @@ fn shown(buf: &[u8; 30], len: Option<usize>) -> Option<&str>
     Some(str_prefix(buf, len))
 }
 
-/// The date and the second of the day of a moment of 1970 to 9999.
+/// Returns the date of a moment and the second of its day, or `None` outside 1970 to 9999.
 #[inline(always)]
 fn date_and_time(moment: SystemTime) -> Option<(Date, u32)>
     ensures within { IsSome result ↔ IsPrintable moment }
@@ -312,14 +305,14 @@ fn date_and_time(moment: SystemTime) -> Option<(Date, u32)>
     Some((date, (secs % 86_400) as u32))
 }
 
-/// Writes `YYYY-MM-DDTHH:MM:SS` and a point to the front of the buffer. The signs come with the pattern, and
-/// the digits take the place of its letters.
+/// Writes `YYYY-MM-DDTHH:MM:SS` and a point to the front of the buffer: a pattern with all the punctuation, whose letters the digits
+/// then replace.
 #[inline(always)]
 #[tactic(auto, using(crate::proofs::Dates::Years::valid_from_test))]
 fn write_time(date: Date, time: u32, buf: &mut [u8; 30])
     requires date { IsDate date }
     requires time { time < 86_400 }
-    ensures { buf.new ≡ date_time_text (fields_shown date time 0 0) ++ codes ".nnnnnnnnnz" }
+    ensures { buf.new ≡ date_time_text (printed_fields date time 0 0) ++ codes ".nnnnnnnnnz" }
 {
     *buf = *b"yyyy-mm-ddThh:mm:ss.nnnnnnnnnz";
     put_two(buf, 0, date.year / 100);
@@ -331,7 +324,7 @@ fn write_time(date: Date, time: u32, buf: &mut [u8; 30])
     put_two(buf, 17, time % 60);
 }
 
-/// Writes a number below 100 as two digits at this place. Two stores are one move, where a copied slice is a call.
+/// Writes a number below 100 as two digits at offset `at`. The two stores compile to one move, and `copy_from_slice` to a call.
 #[inline(always)]
 #[tactic(auto, using(crate::proofs::Timestamps::Printing::Pairs::two_set, crate::proofs::Timestamps::Printing::Pairs::tens_at, crate::proofs::Timestamps::Printing::Pairs::ones_at))]
 fn put_two(buf: &mut [u8; 30], at: usize, n: u32)

@@ -5,7 +5,7 @@ use Rattle.std.specs.Prelude.{◌↔◌, ℤ, pos, Bool, true, Option, Some, Non
 use Rattle.humantime.specs.declared.date.error.TimestampError.{TimestampError}
 use Rattle.humantime.specs.declared.date.error.TimestampError.TheVariants.{InvalidFormat}
 use Rattle.humantime.specs.Timestamps.Fields.{Fields, IsWeak, IsStrict, moment_of, IsWeakMoment, IsStrictMoment}
-use Rattle.humantime.specs.Timestamps.Checks.{has_marks, weak_checks, strict_checks, first_failed}
+use Rattle.humantime.specs.Timestamps.Checks.{has_t_and_zone, weak_checks, strict_checks, first_failed}
 use Rattle.humantime.specs.Answers.Timestamps.{moment_at, weak_answer, strict_answer, moment_or_error}
 use Rattle.humantime.specs.Laws.Timestamps.{OneTimestamp, IsMarked}
 use Rattle.humantime.proofs.Timestamps.Reading.Checks.{fields_of, moment_of_fields}
@@ -32,7 +32,7 @@ passed_first t e o = grind arith
 
 strict_checks_decide : (bytes : List ℕ) → AreDecided bytes (strict_checks bytes) (IsStrict bytes)
 strict_checks_decide bytes f =
-    let first = passed_first (has_marks bytes) InvalidFormat (first_failed (weak_checks bytes)) in
+    let first = passed_first (has_t_and_zone bytes) InvalidFormat (first_failed (weak_checks bytes)) in
     let marked = strict_checked bytes f in (
       (λ s. let p = (weak_checks_decide bytes f).0 s.weak in (first.1 ((marked.0 s).0, p.0), p.1)),
       (λ h. let p = first.0 h.0 in marked.1 (p.0, (weak_checks_decide bytes f).1 (p.1, h.1))),
@@ -62,7 +62,7 @@ unfolding strict_answer
 strict_outcome bytes = outcome_of_checks bytes (strict_checks bytes) (IsStrict bytes) (strict_checks_decide bytes)
 
 -- the answer of the strict form, by its own check
-pub strict_by_marks : (bytes : List ℕ) → (if has_marks bytes then weak_answer bytes else Err InvalidFormat) ≡ strict_answer bytes
+pub strict_by_marks : (bytes : List ℕ) → (if has_t_and_zone bytes then weak_answer bytes else Err InvalidFormat) ≡ strict_answer bytes
 unfolding weak_answer strict_answer
 strict_by_marks bytes = grind arith
 

@@ -3,7 +3,7 @@ use Rattle.std.proofs.lemmas.Grind.{common_steps}
 use Rattle.std.proofs.Common.{◌≡◌, ◌≢◌, ℕ, List, ◌++◌, ap, ◌∙◌, arith}
 use Rattle.std.specs.Prelude.{◌↔◌, true, length, nat_lt, slice_index}
 use Rattle.humantime.specs.Timestamps.Fields.{Separator, Letter_T, Zone, No_zone, zone_text, Fields, separator_byte, fraction_text, date_time_text, IsWeak, IsStrict}
-use Rattle.humantime.specs.Timestamps.Checks.{ends_in_zone, zone_of, has_marks}
+use Rattle.humantime.specs.Timestamps.Checks.{ends_in_zone, zone_of, has_t_and_zone}
 use Rattle.humantime.specs.Laws.Timestamps.{IsMarked}
 use Rattle.humantime.proofs.Timestamps.Reading.Bytes.{holds_before_zone}
 use Rattle.humantime.proofs.Timestamps.Reading.Ends.{IsPlain, plain_bytes, zone_found, some_zone}
@@ -29,6 +29,6 @@ strict_is_weak bytes f = (
 )
 
 -- the check of the strict form
-pub strict_checked : (bytes : List ℕ) (f : Fields) → IsStrict bytes f ↔ ((has_marks bytes ≡ true) × IsWeak bytes f)
-unfolding has_marks
+pub strict_checked : (bytes : List ℕ) (f : Fields) → IsStrict bytes f ↔ ((has_t_and_zone bytes ≡ true) × IsWeak bytes f)
+unfolding has_t_and_zone
 strict_checked bytes f = grind (arith, strict_is_weak)

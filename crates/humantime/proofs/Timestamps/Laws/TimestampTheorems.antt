@@ -1,17 +1,16 @@
 -- The laws of timestamps and days as theorems over plain variables, each under the name of its function in `laws`, and what callers cite beside them.
 use Rattle.std.proofs.Common.{◌≡◌, ◌≤◌, ℕ, List, arith}
-use Rattle.std.specs.Prelude.{◌↔◌, ℤ, pos, negsuc, ◌≤ℤ◌, ◌<ℤ◌, Some, Ok, Err, IsTrue, IfSome}
+use Rattle.std.specs.Prelude.{◌↔◌, ℤ, pos, negsuc, ◌≤ℤ◌, ◌<ℤ◌, Ok, IsTrue, IfSome}
 use Rattle.std.specs.Cmp.Lexicographic.{slice_cmp}
 use Rattle.std.specs.Ordering.{nat_cmp, int_cmp, is_le, is_lt}
 use Rattle.std.proofs.lemmas.Int.{ints}
-use Rattle.humantime.specs.declared.date.error.TimestampError.{TimestampError}
 use Rattle.humantime.specs.Timestamps.Fields.{IsWeak, IsStrict, IsWeakMoment, IsStrictMoment}
-use Rattle.humantime.specs.Timestamps.Checks.{weak_checks, strict_checks, first_failed}
+use Rattle.humantime.specs.Timestamps.Checks.{weak_checks, strict_checks}
 use Rattle.humantime.specs.Laws.Timestamps.{OneTimestamp, StrictForm, PrintedMoment}
 use Rattle.humantime.specs.Timestamps.Printed.{MomentToPrint, cut, IsPrinted, IsPrintable}
-use Rattle.humantime.specs.Answers.Timestamps.{moment_text, printed_text, weak_answer, strict_answer}
+use Rattle.humantime.specs.Answers.Timestamps.{printed_text, weak_answer, strict_answer}
 use Rattle.humantime.proofs.Timestamps.Printing.Printed.{one_printed, printed_some, text_displayed, printed_reads}
-use Rattle.humantime.proofs.Timestamps.Printing.Order.{stamps_in_order, one_text}
+use Rattle.humantime.proofs.Timestamps.Printing.Order.{stamps_in_order}
 use Rattle.humantime.proofs.Timestamps.Laws.Reading as read
 use Rattle.humantime.proofs.Timestamps.Laws.StrictForm as strict
 pub use Rattle.humantime.proofs.Moments.{parts_of_moment, nano_of_bound}

@@ -15,7 +15,7 @@ use Rattle.humantime.specs.declared.date.print.Precision.{Precision}
 use Rattle.humantime.specs.Timestamps.Fields.{fields_text, fraction_nanos, moment_of}
 use Rattle.humantime.specs.Timestamps.Printed.{MomentToPrint, places_of, cut, year_10000, IsPrinted, IsPrintable}
 use Rattle.humantime.specs.Laws.Timestamps.{ReadsAs}
-use Rattle.humantime.specs.Answers.Timestamps.{places, fields_shown, fields_at, printed_text, moment_text}
+use Rattle.humantime.specs.Answers.Timestamps.{places, printed_fields, fields_at, printed_text, moment_text}
 use Rattle.humantime.specs.Steps.Timestamps.{IsSecondOf}
 use Rattle.humantime.specs.Laws.ExactlyOne.{ExactlyOne}
 use Rattle.humantime.proofs.Timestamps.Reading.Bytes.{holds_before_zone}
@@ -30,7 +30,7 @@ pub places_of_bound : (t : ℤ) → places_of t ≤ 9
 places_of_bound t = grind arith
 
 shown_moment : (t k time : ℕ) (date : Date) → k ≤ 9 → day_of date * 86_400 + time ≡ t / 1_000_000_000 → time < 86_400
-    → moment_of (fields_shown date time (t % 1_000_000_000) k) ≡ t - t % 10 ^ (9 - k)
+    → moment_of (printed_fields date time (t % 1_000_000_000) k) ≡ t - t % 10 ^ (9 - k)
 shown_moment t k time date small e within =
     let n = t % 1_000_000_000 in
     let clock : time / 3_600 * 3_600 + time / 60 % 60 * 60 + min (time % 60) 59 ≡ time = omega arith in
@@ -38,11 +38,11 @@ shown_moment t k time date small e within =
     rw nanos (omega (arith, cut_nanos k t small, mod-le n (10 ^ (9 - k))))
 
 -- the parts of a moment show it, printed
-pub shown_printed : (t : ℤ) (k time : ℕ) (date : Date) → k ≤ 9 → IsSecondOf date time t → IsPrinted t k (fields_text (fields_shown date time (nano_of t) k))
+pub shown_printed : (t : ℤ) (k time : ℕ) (date : Date) → k ≤ 9 → IsSecondOf date time t → IsPrinted t k (fields_text (printed_fields date time (nano_of t) k))
 shown_printed (negsuc t) k time date small is = absurd (let whole = is.sum in let no : ⊥ = cc in no)
 shown_printed (pos t) k time date small is = record {
   few = small;
-  fields = fields_shown date time (t % 1_000_000_000) k;
+  fields = printed_fields date time (t % 1_000_000_000) k;
   weak = record {
     shown = refl;
     date = is.date_exists;

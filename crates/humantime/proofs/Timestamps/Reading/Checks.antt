@@ -6,11 +6,11 @@ use Rattle.std.proofs.lemmas.Bool.{and_parts}
 use Rattle.std.proofs.lemmas.Bool.Decides.{nat_tests}
 use Rattle.humantime.specs.Answers.Timestamps.{moment_at}
 use Rattle.humantime.specs.Timestamps.Fields.{Separator, Letter_T, Space, Fields, separator_byte, fraction_text, fraction_digits, moment_of}
-use Rattle.humantime.specs.Timestamps.Checks.{has_two, has_separator, has_punctuation, has_digits, numbers_of, are_in_range, zone_of, fraction_part, has_point, weak_checks, first_failed}
+use Rattle.humantime.specs.Timestamps.Checks.{has_two, has_separator, has_punctuation, has_digits, date_time_of, is_valid_date_time, zone_of, fraction_part, has_point, weak_checks, first_failed}
 
 -- no check of the weak form fails
 pub all_passed : (bytes : List ℕ) → first_failed (weak_checks bytes) ≡ None
-    → (19 ≤ length bytes) × (has_punctuation bytes ≡ true) × (has_digits bytes ≡ true) × (are_in_range (numbers_of bytes) ≡ true)
+    → (19 ≤ length bytes) × (has_punctuation bytes ≡ true) × (has_digits bytes ≡ true) × (is_valid_date_time (date_time_of bytes) ≡ true)
     × (has_point (fraction_part bytes) ≡ true) × (all_ascii_digits (drop 1 (fraction_part bytes)) ≡ true)
 all_passed bytes h = grind (arith, nat_tests)
 
@@ -26,11 +26,11 @@ fraction_of (_ ∷ ds) = Some ds
 -- the parts at their places
 abbrev pub fields_of : List ℕ → Fields
 fields_of bytes = record {
-  date = (numbers_of bytes).date;
+  date = (date_time_of bytes).date;
   separator = separator_of bytes;
-  hour = (numbers_of bytes).hour;
-  minute = (numbers_of bytes).minute;
-  second = (numbers_of bytes).second;
+  hour = (date_time_of bytes).hour;
+  minute = (date_time_of bytes).minute;
+  second = (date_time_of bytes).second;
   fraction = fraction_of (fraction_part bytes);
   zone = zone_of (drop 19 bytes);
 }

@@ -1,5 +1,5 @@
 -- The digits of a fraction, read one by one, are its nanoseconds.
-use Rattle.std.proofs.Common.{◌≡◌, ℕ, zero, suc, ◌+◌, ◌-◌, ◌*◌, ◌/◌, ◌^◌, ◌<◌, ◌≤◌, List, [], ◌∷◌, ◌++◌, take, refl, ◌∙◌, arith}
+use Rattle.std.proofs.Common.{◌≡◌, ℕ, zero, suc, ◌+◌, ◌-◌, ◌*◌, ◌/◌, ◌^◌, ◌<◌, ◌≤◌, List, [], ◌∷◌, ◌++◌, length, get_or, take, drop, drop-cons, add-one, refl, sym, ◌∙◌, arith}
 use Rattle.std.specs.Prelude.{true, ◌&&◌}
 use Rattle.std.specs.Char.{is_ascii_digit, digit_value}
 use Rattle.std.specs.Int.{IsInRange}
@@ -79,6 +79,29 @@ add_bound (c ∷ cs) n u digits low room =
 
 pub nanos_bound : (ds : List ℕ) → AreDigits ds → fraction_nanos ds < 1_000_000_000
 nanos_bound ds digits = rw (nanos_added ds digits) (add_bound ds 0 100_000_000 digits (omega arith) (omega arith))
+
+-- what a 1 counts at place k: a tenth of what it counts at the place before
+abbrev pub place_value : ℕ → ℕ
+place_value k = get_or (100_000_000 ∷ 10_000_000 ∷ 1_000_000 ∷ 100_000 ∷ 10_000 ∷ 1_000 ∷ 100 ∷ 10 ∷ 1 ∷ []) k 0
+
+next_place : (k : ℕ) → place_value (k + 1) ≡ place_value k / 10
+next_place k = grind arith
+
+pub no_place : (k : ℕ) → 9 ≤ k → place_value k ≡ 0
+no_place k late = grind arith
+
+-- the digit at place k is added to n
+pub next_digit : (ds : List ℕ) (k n m : ℕ) → k < length ds → is_ascii_digit (get_or ds k 0) ≡ true → m ≡ n + place_value k * (get_or ds k 0 - 48)
+    → (add_digits m (place_value (k + 1)) (drop (k + 1) ds) ≡ add_digits n (place_value k) (drop k ds))
+    × (all_ascii_digits (drop (k + 1) ds) ≡ all_ascii_digits (drop k ds))
+    × (n < 1_000_000_000 → n + 10 * place_value k ≤ 1_000_000_000 → (m < 1_000_000_000) × (m + 10 * place_value (k + 1) ≤ 1_000_000_000))
+next_digit ds k n m some digit added =
+    let d = get_or ds k 0 in
+    let most : place_value k * (d - 48) ≤ place_value k * 9 = mul-le-mul_left (place_value k) (omega (arith, is_digit_from_test d digit)) in
+    rw (next_place k, add-one k, drop-cons ds k 0 some, added, digit) (refl, refl, (λ low room. (omega arith, omega arith)))
+
+pub digits_added : (ds : List ℕ) → all_ascii_digits ds ≡ true → add_digits 0 100_000_000 ds ≡ fraction_nanos ds
+digits_added ds digits = sym (nanos_added ds (digits_from_test ds digits))
 
 pub nothing_read : fraction_nanos [] ≡ 0
 unfolding fraction_nanos

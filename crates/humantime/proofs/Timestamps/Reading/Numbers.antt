@@ -1,67 +1,48 @@
--- The numbers of date and time, four to a vector.
-use Rattle.std.proofs.Common.{◌≡◌, ℕ, ◌+◌, ◌-◌, ◌*◌, ◌≤◌, List, [], ◌∷◌, length, take, drop, sym, subst, arith}
+-- The sums of digits by their weights are the numbers of date and time.
+use Rattle.std.proofs.Common.{◌≡◌, ℕ, ◌+◌, ◌-◌, ◌*◌, ◌≤◌, List, [], ◌∷◌, length, take, drop, ◌∙◌, arith}
 use Rattle.std.specs.Prelude.{true, slice_index}
 use Rattle.std.specs.Int.{IsInRange}
 use lib.Lanes.{zip2, dots}
-use Rattle.humantime.specs.declared.date.parse.Lanes.{Lanes}
-use Rattle.humantime.specs.Timestamps.Checks.{has_two, has_digits, number_between, numbers_of}
-use Rattle.humantime.specs.Steps.Timestamps.{numbers_in, AreShort}
+use Rattle.humantime.specs.declared.date.parse.DateTime.{DateTime}
+use Rattle.humantime.specs.Timestamps.Checks.{has_two, has_digits, number_between, date_time_of}
 use Rattle.humantime.proofs.Timestamps.Reading.Checks.{pairs_from_test}
 use Rattle.humantime.proofs.Timestamps.Reading.Lanes.{above, least, least_back}
 use Rattle.humantime.proofs.Timestamps.Reading.Places.{has_two_from_test, number_of_two, number_of_four}
 
--- the numbers of the bytes from the first on, and from the fourth
-abbrev lanes_of : List ℕ → Lanes
-lanes_of bytes = record {
-  front = dots (zip2 above (take 16 bytes) least)
-      (100 ∷ 10 ∷ 1 ∷ 0 ∷ 0 ∷ 10 ∷ 1 ∷ 0 ∷ 10 ∷ 1 ∷ 0 ∷ 0 ∷ 0 ∷ 0 ∷ 10 ∷ 1 ∷ []);
-  back = dots (zip2 above (take 16 (drop 3 bytes)) least_back)
-      (1 ∷ 0 ∷ 0 ∷ 0 ∷ 0 ∷ 0 ∷ 0 ∷ 0 ∷ 10 ∷ 1 ∷ 0 ∷ 0 ∷ 0 ∷ 0 ∷ 10 ∷ 1 ∷ []);
-}
-
 digit_above : (c : ℕ) → IsInRange 48 57 c → above c 48 ≡ c - 48
 digit_above c h = omega (arith, h)
 
--- digits at two places, and the number that they show
+-- the number of two digits, and of four
 pair_from_test : (bytes : List ℕ) (k : ℕ) → k + 2 ≤ length bytes → has_two bytes k ≡ true
-    → let n = above (slice_index bytes k) 48 * 10 + above (slice_index bytes (k + 1)) 48 in (n ≡ number_between bytes k (k + 2)) × (n ≤ 999)
-pair_from_test bytes k long h =
-    let two = has_two_from_test bytes k h in
-    let number = number_of_two bytes k long h in
-    rw (digit_above (slice_index bytes k) two.0, digit_above (slice_index bytes (k + 1)) two.1) (omega arith, omega arith)
+    → above (slice_index bytes k) 48 * 10 + above (slice_index bytes (k + 1)) 48 ≡ number_between bytes k (k + 2)
+pair_from_test bytes k long h = grind (arith, has_two_from_test, number_of_two, digit_above)
 
--- what four digits show: a tenth, and the last one
 year_from_test : (bytes : List ℕ) → 4 ≤ length bytes → has_two bytes 0 ≡ true → has_two bytes 2 ≡ true
-    → let tenth = above (slice_index bytes 0) 48 * 100 + above (slice_index bytes 1) 48 * 10 + above (slice_index bytes 2) 48 in
-    let last = above (slice_index bytes 3) 48 in (tenth * 10 + last ≡ number_between bytes 0 4) × (tenth ≤ 999) × (last ≤ 9)
-year_from_test bytes long century decade =
-    let front = has_two_from_test bytes 0 century in
-    let back = has_two_from_test bytes 2 decade in
-    let number = number_of_four bytes long century decade in
-    rw (digit_above (slice_index bytes 0) front.0, digit_above (slice_index bytes 1) front.1, digit_above (slice_index bytes 2) back.0, digit_above (slice_index bytes 3) back.1)
-    (omega arith, omega arith, omega arith)
+    → let digit = λ (k : ℕ). above (slice_index bytes k) 48 in (digit 0 * 100 + digit 1 * 10 + digit 2) * 10 + digit 3 ≡ number_between bytes 0 4
+year_from_test bytes long century decade = grind (arith, has_two_from_test, number_of_four, digit_above)
 
--- four numbers by their places
-abbrev places_of : List ℕ → Lanes
-places_of bytes = record {
-  front = (above (slice_index bytes 0) 48 * 100 + above (slice_index bytes 1) 48 * 10 + above (slice_index bytes 2) 48)
-      ∷ (above (slice_index bytes 5) 48 * 10 + above (slice_index bytes 6) 48) ∷ (above (slice_index bytes 8) 48 * 10 + above (slice_index bytes 9) 48)
-      ∷ (above (slice_index bytes 14) 48 * 10 + above (slice_index bytes 15) 48) ∷ [];
-  back = above (slice_index bytes 3) 48 ∷ 0 ∷ (above (slice_index bytes 11) 48 * 10 + above (slice_index bytes 12) 48)
-      ∷ (above (slice_index bytes 17) 48 * 10 + above (slice_index bytes 18) 48) ∷ [];
-}
+-- the numbers by the sums of the first 16 bytes and of those from byte 3 on
+abbrev summed : List ℕ → DateTime
+summed bytes =
+    let front = slice_index (dots (zip2 above (take 16 bytes) least) (100 ∷ 10 ∷ 1 ∷ 0 ∷ 0 ∷ 10 ∷ 1 ∷ 0 ∷ 10 ∷ 1 ∷ 0 ∷ 0 ∷ 0 ∷ 0 ∷ 10 ∷ 1 ∷ [])) in
+    let back = slice_index (dots (zip2 above (take 16 (drop 3 bytes)) least_back) (1 ∷ 0 ∷ 0 ∷ 0 ∷ 0 ∷ 0 ∷ 0 ∷ 0 ∷ 10 ∷ 1 ∷ 0 ∷ 0 ∷ 0 ∷ 0 ∷ 10 ∷ 1 ∷ [])) in
+    record { date = record { year = front 0 * 10 + back 0; month = front 1; day = front 2 }; hour = back 2; minute = front 3; second = back 3 }
 
-lanes_placed : (bytes : List ℕ) → 19 ≤ length bytes → lanes_of bytes ≡ places_of bytes
-lanes_placed (b0 ∷ b1 ∷ b2 ∷ b3 ∷ b4 ∷ b5 ∷ b6 ∷ b7 ∷ b8 ∷ b9 ∷ b10 ∷ b11 ∷ b12 ∷ b13 ∷ b14 ∷ b15 ∷ b16 ∷ b17 ∷ b18 ∷ r) long = grind arith
-lanes_placed _ h = absurd (omega arith)
+abbrev by_digits : (ℕ → ℕ) → DateTime
+by_digits digit =
+    let two = λ (k : ℕ). digit k * 10 + digit (k + 1) in record {
+      date = record { year = (digit 0 * 100 + digit 1 * 10 + digit 2) * 10 + digit 3; month = two 5; day = two 8 };
+      hour = two 11;
+      minute = two 14;
+      second = two 17;
+    }
 
-all_of_four : (a b c d : ℕ) → a ≤ 999 → b ≤ 999 → c ≤ 999 → d ≤ 999
-    → (length (a ∷ b ∷ c ∷ d ∷ []) ≡ 4) × ((k : ℕ) → slice_index (a ∷ b ∷ c ∷ d ∷ []) k ≤ 999)
-all_of_four a b c d ha hb hc hd = grind arith
+summed_by_digits : (bytes : List ℕ) → 19 ≤ length bytes → summed bytes ≡ by_digits (λ k. above (slice_index bytes k) 48)
+summed_by_digits (b0 ∷ b1 ∷ b2 ∷ b3 ∷ b4 ∷ b5 ∷ b6 ∷ b7 ∷ b8 ∷ b9 ∷ b10 ∷ b11 ∷ b12 ∷ b13 ∷ b14 ∷ b15 ∷ b16 ∷ b17 ∷ b18 ∷ r) long = grind arith
+summed_by_digits _ h = absurd (omega arith)
 
-pub numbers_shown : (bytes : List ℕ) → 19 ≤ length bytes → has_digits bytes ≡ true
-    → (numbers_in (lanes_of bytes) ≡ numbers_of bytes) × AreShort (lanes_of bytes)
-numbers_shown bytes long digits =
+pub date_time_summed : (bytes : List ℕ) → 19 ≤ length bytes → has_digits bytes ≡ true → summed bytes ≡ date_time_of bytes
+date_time_summed bytes long digits =
     let pairs = pairs_from_test bytes digits in
     let year = year_from_test bytes (omega arith) pairs.0 pairs.1 in
     let month = pair_from_test bytes 5 (omega arith) pairs.2 in
@@ -69,12 +50,5 @@ numbers_shown bytes long digits =
     let hour = pair_from_test bytes 11 (omega arith) pairs.4 in
     let minute = pair_from_test bytes 14 (omega arith) pairs.5 in
     let second = pair_from_test bytes 17 (omega arith) pairs.6 in
-    subst (λ (l : Lanes). (numbers_in l ≡ numbers_of bytes) × AreShort l) (sym (lanes_placed bytes long)) (
-      (λ i. record {
-        date = record { year = year.0 i; month = month.0 i; day = day.0 i };
-        hour = hour.0 i;
-        minute = minute.0 i;
-        second = second.0 i;
-      }),
-      (all_of_four _ _ _ _ year.1 month.1 day.1 minute.1, all_of_four _ _ _ _ (omega (arith, year.2)) (omega arith) hour.1 second.1, year.2, λ i. 0),
-    )
+    summed_by_digits bytes long
+    ∙ (λ i. record { date = record { year = year i; month = month i; day = day i }; hour = hour i; minute = minute i; second = second i })

@@ -4,7 +4,7 @@ use Rattle.std.specs.Prelude.{true, slice_index, Option, None}
 use Rattle.std.proofs.lemmas.Bool.{le-leb}
 use Rattle.std.proofs.lemmas.Bool.Decides.{nat_tests}
 use Rattle.humantime.specs.Timestamps.Fields.{Fields, fraction_text, fraction_digits, fields_text, IsWeak}
-use Rattle.humantime.specs.Timestamps.Checks.{has_two, has_digits, number_between, numbers_of, has_separator, has_punctuation, are_in_range, fraction_part, has_point, weak_checks, first_failed}
+use Rattle.humantime.specs.Timestamps.Checks.{has_two, has_digits, number_between, date_time_of, has_separator, has_punctuation, is_valid_date_time, fraction_part, has_point, weak_checks, first_failed}
 use Rattle.humantime.proofs.Dates.Years.{valid_from_test}
 use Rattle.humantime.proofs.Timestamps.Reading.Bytes.{month_most, holds_of_fraction}
 use Rattle.humantime.proofs.Timestamps.Reading.Checks.{separator_of, fraction_of, fields_of}
@@ -35,7 +35,7 @@ separator_back f = grind arith
 
 written_passes : (f : Fields) → IsWeak (fields_text f) f
     → (first_failed (weak_checks (fields_text f)) ≡ None) × (f ≡ fields_of (fields_text f))
-unfolding are_in_range has_digits
+unfolding is_valid_date_time has_digits
 written_passes f w =
     let bytes = fields_text f in
     let long : 19 ≤ length bytes = omega arith in
@@ -50,7 +50,7 @@ written_passes f w =
     let part : fraction_part bytes ≡ fraction_text f.fraction = before_zone_found (fraction_text f.fraction) f.zone plain in
     let end = ending f.fraction in
     let digits : has_digits bytes ≡ true = rw (year.0, year.1, month.0, day.0, hour.0, minute.0, second.0) refl in
-    let range : are_in_range (numbers_of bytes) ≡ true =
+    let range : is_valid_date_time (date_time_of bytes) ≡ true =
     rw (year.2, month.1, day.1, hour.1, minute.1, second.1) ((bounds _ _ _ _).1 (w.date, w.hour, w.minute, w.second)) in
     let zone = zone_found (fraction_text f.fraction) f.zone plain in (
       rw (le-leb 19 (length bytes) long, (separator_back f).0, digits, range, part, end.0, end.1, w.fraction) refl,

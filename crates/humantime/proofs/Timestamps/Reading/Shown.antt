@@ -2,7 +2,7 @@
 use Rattle.std.proofs.Common.{◌≡◌, ℕ, ◌+◌, ◌/◌, ◌%◌, ◌≤◌, List, ◌∷◌, ◌++◌, length, drop, ap, ◌∙◌, arith, rules}
 use Rattle.std.specs.Prelude.{true, slice_index, None}
 use Rattle.humantime.specs.Timestamps.Fields.{fraction_text, zone_text, fields_text, IsWeak}
-use Rattle.humantime.specs.Timestamps.Checks.{has_two, zone_of, number_between, are_in_range, fraction_part, weak_checks, first_failed}
+use Rattle.humantime.specs.Timestamps.Checks.{has_two, zone_of, number_between, is_valid_date_time, fraction_part, weak_checks, first_failed}
 use Rattle.humantime.proofs.Timestamps.Reading.Checks.{all_passed, fraction_of, fields_of, punctuation_from_test, pairs_from_test, part_shown, part_digits, nineteen}
 use Rattle.humantime.proofs.Timestamps.Reading.Ends.{zone_shown}
 use Rattle.humantime.proofs.Timestamps.Reading.Places.{has_two_from_test, number_of_two, number_of_four, bounds}
@@ -35,7 +35,7 @@ written_shown bytes passed =
     ∷ hour.0 i ∷ hour.1 i ∷ signs.3 i ∷ minute.0 i ∷ minute.1 i ∷ signs.4 i ∷ second.0 i ∷ second.1 i ∷ end i)
 
 pub fields_weak : (bytes : List ℕ) → first_failed (weak_checks bytes) ≡ None → IsWeak bytes (fields_of bytes)
-unfolding are_in_range
+unfolding is_valid_date_time
 fields_weak bytes passed =
     let p = all_passed bytes passed in
     let range = (bounds _ _ _ _).0 p.3 in

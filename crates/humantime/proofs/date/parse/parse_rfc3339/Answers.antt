@@ -2,16 +2,16 @@ use Rattle.std.proofs.Common.{sym, ◌∙◌}
 use Rattle.humantime.proofs.Timestamps.Laws.Reading.{strict_outcome, strict_by_marks}
 use Rattle.humantime.proofs.date.parse.parse_rfc3339.Goals as goal
 
-pub returns-then-not-has_marks : goal.returns-then-not-has_marks
-returns-then-not-has_marks c =
-    let other = sym (rw c.as_bytes.ensures.value at c.has_marks.ensures) ∙ c.if-not-has_marks.true in
+pub returns-then-not-has_t_and_zone : goal.returns-then-not-has_t_and_zone
+returns-then-not-has_t_and_zone c =
+    let other = sym (rw c.as_bytes.ensures.value at c.has_t_and_zone.ensures) ∙ c.if-not-has_t_and_zone.true in
     let is = rw other at (strict_by_marks c.args.s.now) in
     let one = strict_outcome c.args.s.now in
     record { value = λ t. rw is (one.value t); error = λ e. rw is (one.error e); answer = is }
 
 pub returns : goal.returns
 returns c =
-    let marked = sym (rw c.as_bytes.ensures.value at c.has_marks.ensures) ∙ c.if-not-has_marks.false in
+    let marked = sym (rw c.as_bytes.ensures.value at c.has_t_and_zone.ensures) ∙ c.if-not-has_t_and_zone.false in
     let is = c.parse_rfc3339_weak.ensures.answer ∙ (rw marked at (strict_by_marks c.args.s.now)) in
     let one = strict_outcome c.args.s.now in
     record { value = λ t. rw is (one.value t); error = λ e. rw is (one.error e); answer = is }

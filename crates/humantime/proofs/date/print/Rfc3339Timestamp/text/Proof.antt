@@ -29,8 +29,8 @@ use Rattle.humantime.proofs.date.print.Rfc3339Timestamp.text.Code as code
 use Rattle.humantime.proofs.date.print.Rfc3339Timestamp.text.Lts as lts
 use Rattle.humantime.specs.contracts.date.print.Rfc3339Timestamp.write as g
 use Rattle.humantime.proofs.date.print.Rfc3339Timestamp.write.Met as g-met
-use Rattle.humantime.specs.contracts.date.print.shown as h
-use Rattle.humantime.proofs.date.print.shown.Met as h-met
+use Rattle.humantime.specs.contracts.date.print.text_from_len as h
+use Rattle.humantime.proofs.date.print.text_from_len.Met as h-met
 
 abbrev stayed : Stays f.ended.signature.params f.ended.kept
 stayed = (stay_dropped _ yes, (stay_dropped _ no, tt))
@@ -96,7 +96,7 @@ text_spec {M} 𝓤 𝓛 𝓜 𝓡 wired =
     nothing ! $ move ! (2 ∷ 0 ∷ []) $ join ! $ move ! (1 ∷ 0 ∷ []) $ join ! $ nothing ! $ move ! (2 ∷ 0 ∷ []) $ join ! $ join ! $
     use0 𝓛 (raw (fact 𝓤 (IfSome m (λ n. IsUtf8 (take n y))))) (fact_i 𝓤 _ (emp 𝓤) (text_utf8 x.now m y text)) $
     use0 𝓛 (raw (fact 𝓤 (IfSome m (λ n. n ≤ 30)))) (fact_i 𝓤 _ (emp 𝓤) fits) $ join ! $ move ! (1 ∷ 0 ∷ []) $ use2 𝓛 (raw (H.pre z')) (id⊢ 𝓤 _) $
-    calls_at ! (framed 𝓤 𝓛.H 𝓜 (tables 𝓤 𝓛.H 𝓜 𝓡 𝓡.env)) H (h-met.met 𝓤 𝓛 𝓜 𝓡 (code.calls-humantime::date::print::shown 𝓡.env wired)) z'
+    calls_at ! (framed 𝓤 𝓛.H 𝓜 (tables 𝓤 𝓛.H 𝓜 𝓡 𝓡.env)) H (h-met.met 𝓤 𝓛 𝓜 𝓡 (code.calls-humantime::date::print::text_from_len 𝓡.env wired)) z'
     (and_then ! (get ! refl) (and_then ! (get ! refl) (no_more !))) (λ w.
     use1 𝓛 (later (some (λ (t : Option (Bor (List ℕ))). ((‵ (flft κ q) ⊛ ‵ ftrue) ⊛ ‵ (Res.own_val t (w ∷ []))) ⊛
     some (λ (ws' : Unit {0} × (Unit {0} × Unit {0})). ‵ (lasts h.ended z'.0.0 z'.0.3 ws') ⊛ raw (fact 𝓤 (option_map (λ u. u.now) t ≡ option_map (λ n. take n y) m)))))) (id⊢ 𝓤 _) $
