@@ -6,8 +6,8 @@ ghost use Rattle.humantime.specs.Steps.Scales.{parts_of};
 ghost use Rattle.humantime.specs.Steps.Scanning.{IsTail, BeginsWithDigit, ends_span, number_at, fraction_read};
 ghost use Rattle.humantime.specs.Steps.SpanParts.{IsBehindWord, ReadsSpan};
 
-use crate::duration::error::DurationError;
 use crate::duration::amount::{Amount, Fraction};
+use crate::duration::error::DurationError;
 use crate::duration::scan::{
     begins_with_digit, offset_of, read_fraction, read_number, read_word, skip_whitespace_char,
 };
