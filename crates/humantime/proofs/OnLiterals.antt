@@ -4,9 +4,8 @@ use Rattle.std.specs.Fmt.{digits}
 use Rattle.std.specs.Str.{chars, is_utf8}
 use lib.Utf8.{encode}
 use Rattle.humantime.specs.Durations.Characters.{whitespace_chars, is_whitespace, is_digit, is_letter, is_point, significant}
-use Rattle.humantime.specs.Durations.Faults.{stop_at}
 use Rattle.humantime.specs.Durations.Units.{scale_of_word}
-use Rattle.humantime.specs.Answers.Walks.{walk, items, add_all, add_span, sum_spans}
+use Rattle.humantime.specs.Answers.Walks.{walk, items, add_all, add_span, sum_spans, stop_at}
 use Rattle.humantime.specs.Answers.Durations.{duration_text, duration_answer, canonical_answer}
 
 unfoldable pub humantime_on_literals : ⊤

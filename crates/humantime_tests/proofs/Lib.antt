@@ -1,6 +1,6 @@
 pub mod CountedDays
 pub mod FirstDigits
-pub mod FirstFaults
+pub mod LongFractions
 pub mod UsualTexts
 pub mod Kept
 pub mod WorkedCharacters

@@ -1,3 +1,2 @@
-pub mod FirstFaults
 pub mod FirstItems
 pub mod Longest

@@ -1,14 +1,34 @@
 -- Reading from left to right: the plain reference, which private functions meet. Theorems of proofs/ tie it to the
 -- definitions of Spans and Faults.
-use Rattle.std.specs.Prelude.{ℕ, zero, suc, ◌+◌, Bool, true, false, List, [], ◌∷◌, length, Option, Some, None, Result, Ok, Err, if◌then◌else◌, map}
-use Rattle.humantime.specs.Texts.{drop_while}
-use Rattle.humantime.specs.Durations.Characters.{is_whitespace}
-use Rattle.humantime.specs.Durations.Units.{Addition}
+use Rattle.std.specs.Prelude.{ℕ, zero, suc, ◌+◌, Bool, true, false, not, ◌==◌, List, [], ◌∷◌, length, Option, Some, None, is_some, Result, Ok, Err, if◌then◌else◌, map, encode_utf8_all}
+use Rattle.humantime.specs.Texts.{begins, drop_while, decimal_value}
+use Rattle.humantime.specs.Durations.Characters.{is_whitespace, is_digit, is_letter, is_numeric, offset_of}
+use Rattle.humantime.specs.Durations.Units.{Addition, scale_of_word}
 use Rattle.humantime.specs.Durations.Spans.{Span}
-use Rattle.humantime.specs.Durations.Accepted.{addition_nanos, additions_of, fits, room}
-use Rattle.humantime.specs.Durations.Faults.{after_word, span_of, fault_at, Fault, NumberOverflow, Empty}
+use Rattle.humantime.specs.Durations.Accepted.{addition_nanos, additions_of, fits, is_some_and, room, too_long}
+use Rattle.humantime.specs.Durations.Faults.{number_of, after_number, fraction_of, after_fraction, word_of, after_word, span_of, Fault, InvalidCharacter, NumberExpected, UnknownUnit, NumberOverflow, Empty}
 pub use Rattle.humantime.specs.Durations.Accepted.{too_long}
-pub use Rattle.humantime.specs.Durations.Faults.{stop_at}
+
+-- Tests whether a digit, whitespace or the end follows a word.
+abbrev pub ends_span : List ℕ → Bool
+ends_span [] = true
+ends_span (c ∷ cs) = is_numeric c
+
+-- Finds the fault of the span that begins a rest, from a digit on, in the order in which it is read: too long; no letter or end where the
+-- word begins; a point without digits; no digit, whitespace or end after the word; a word, perhaps empty, of no unit.
+unfoldable pub stop_at : List ℕ → List ℕ → Option Fault
+stop_at text rest =
+    if too_long (span_of rest) then Some NumberOverflow
+    else if begins (λ c. not (is_letter c)) (after_fraction rest) then Some (InvalidCharacter (offset_of text (after_word rest)))
+    else if is_some_and (λ ds. length ds == 0) (fraction_of rest) then Some (InvalidCharacter (offset_of text (after_number rest)))
+    else if not (ends_span (after_word rest)) then Some (InvalidCharacter (offset_of text (after_word rest)))
+    else if is_some (scale_of_word (word_of rest)) then None
+    else Some (UnknownUnit (offset_of text (after_fraction rest)) (offset_of text (after_word rest))
+    (encode_utf8_all (word_of rest)) (decimal_value (number_of rest)))
+
+-- Gives `NumberExpected` where no digit begins the rest, else `stop_at`.
+abbrev pub fault_at : List ℕ → List ℕ → Option Fault
+fault_at text rest = if begins is_digit rest then stop_at text rest else Some (NumberExpected (offset_of text rest))
 
 -- Where the spans of a text begin, the fault that stops them, if one does, and the rest behind them.
 pub record Walk : Type 0 where

@@ -1,11 +1,11 @@
--- The first fault of a text that is not accepted. A text is its list of characters; offsets count its bytes, and a fault
--- holds the bytes of its unit.
-use Rattle.std.specs.Prelude.{ℕ, Bool, true, false, not, ◌==◌, List, [], ◌∷◌, length, Option, Some, None, is_some, if◌then◌else◌, ◌≡◌, ◌≢◌, ◌⊎◌, ◌++◌, drop, option_map, unwrap_or, encode_utf8_all}
+-- The first error of a text that is not accepted, by a table of ten rows that exclude each other. A text is its list of characters; offsets
+-- count its bytes, and a fault holds the bytes of its unit.
+use Rattle.std.specs.Prelude.{ℕ, true, false, List, [], ◌∷◌, Option, Some, None, IsSome, if◌then◌else◌, ◌≡◌, ◌≢◌, ◌⊎◌, ◌++◌, drop, option_map, unwrap_or, encode_utf8_all}
 use Rattle.humantime.specs.Texts.{take_while, drop_while, begins, ends, decimal_value}
-use Rattle.humantime.specs.Durations.Characters.{is_letter, is_numeric, is_point, digits, is_whitespace, is_digit, offset_of, bare_zero}
+use Rattle.humantime.specs.Durations.Characters.{is_letter, is_numeric, is_point, digits, is_whitespace, is_digit, byte_length, offset_of, bare_zero}
 use Rattle.humantime.specs.Durations.Spans.{Span, SpellsAll}
 use Rattle.humantime.specs.Durations.Units.{scale_of_word}
-use Rattle.humantime.specs.Durations.Accepted.{is_some_and, too_long, WithinLimits}
+use Rattle.humantime.specs.Durations.Accepted.{too_long, WithinLimits}
 
 -- Gives the digits of the number that begins a rest.
 abbrev pub number_of : List ℕ → List ℕ
@@ -53,36 +53,58 @@ pub record Split (text front : List ℕ) (spans : List Span) (rest : List ℕ) :
   pub spelled : SpellsAll front spans
   pub no_whitespace : begins is_whitespace rest ≡ false
 
--- Tests whether a digit, whitespace or the end follows a word.
-abbrev pub ends_span : List ℕ → Bool
-ends_span [] = true
-ends_span (c ∷ cs) = is_numeric c
+-- A number begins the rest, and neither it nor its fraction is too long.
+pub record BeginsNumber (rest : List ℕ) : Type 0 where
+  pub digit : begins is_digit rest ≡ true
+  pub short : too_long (span_of rest) ≡ false
 
--- Finds the first fault of a rest's first span: too long; no letter or end where the word begins; a point without digits; no digit, whitespace
--- or end after the word; a word, perhaps empty, of no unit.
-unfoldable pub stop_at : List ℕ → List ℕ → Option Fault
-stop_at text rest =
-    if too_long (span_of rest) then Some NumberOverflow
-    else if begins (λ c. not (is_letter c)) (after_fraction rest) then Some (InvalidCharacter (offset_of text (after_word rest)))
-    else if is_some_and (λ ds. length ds == 0) (fraction_of rest) then Some (InvalidCharacter (offset_of text (after_number rest)))
-    else if not (ends_span (after_word rest)) then Some (InvalidCharacter (offset_of text (after_word rest)))
-    else if is_some (scale_of_word (word_of rest)) then None
-    else Some (UnknownUnit (offset_of text (after_fraction rest)) (offset_of text (after_word rest))
-    (encode_utf8_all (word_of rest)) (decimal_value (number_of rest)))
+-- A digit, whitespace or the end follows a word.
+abbrev pub EndsSpan : List ℕ → Type 0
+EndsSpan next = (next ≡ []) ⊎ (begins is_numeric next ≡ true)
 
--- Gives `NumberExpected` where no digit begins the rest, else `stop_at`.
-abbrev pub fault_at : List ℕ → List ℕ → Option Fault
-fault_at text rest = if begins is_digit rest then stop_at text rest else Some (NumberExpected (offset_of text rest))
+-- A whole span begins the rest: a number, any fraction with digits, and a unit's word, which ends there.
+pub record BeginsSpan (rest : List ℕ) : Type 0 where
+  pub number : BeginsNumber rest
+  pub digits : fraction_of rest ≢ Some []
+  pub unit : IsSome (scale_of_word (word_of rest))
+  pub ended : EndsSpan (after_word rest)
 
--- After the spans comes the fault `e`: the rest's, or `Empty` with neither spans nor rest.
+-- The first nine rows: after the spans, the rest begins no whole span, and the fault is `e`.
 pub data Stops (text front : List ℕ) (spans : List Span) (rest : List ℕ) (e : Fault) : Type 0 where
-  -- there is nothing, or only whitespace
-  Nothing_there : spans ≡ [] → rest ≡ [] → e ≡ Empty → Stops text front spans rest e
-  -- where a number has to begin, at the start or after a span that ends in whitespace, or where a digit stands
-  Wrong_there : rest ≢ [] → (spans ≡ []) ⊎ ((ends is_whitespace front ≡ true) ⊎ (begins is_digit rest ≡ true))
-      → fault_at text rest ≡ Some e → Stops text front spans rest e
+  -- The text is empty or has only whitespace.
+  Only_whitespace : spans ≡ [] → rest ≡ [] → e ≡ Empty → Stops text front spans rest e
+  -- At the start, or after a span and whitespace, stands something other than a digit.
+  No_number : rest ≢ [] → begins is_digit rest ≡ false → (spans ≡ []) ⊎ (ends is_whitespace front ≡ true)
+      → e ≡ NumberExpected (offset_of text rest) → Stops text front spans rest e
+  -- The number or its fraction is too long, whatever follows.
+  Too_long : begins is_digit rest ≡ true → too_long (span_of rest) ≡ true → e ≡ NumberOverflow → Stops text front spans rest e
+  -- After the number stands a character that is neither a point nor a letter.
+  No_letter_after_number : BeginsNumber rest → fraction_of rest ≡ None → word_of rest ≡ [] → after_word rest ≢ []
+      → e ≡ InvalidCharacter (offset_of text (after_word rest)) → Stops text front spans rest e
+  -- A point has no digits, and a letter or the end follows; the fault is at the point.
+  Point_without_digits : BeginsNumber rest → fraction_of rest ≡ Some [] → (word_of rest ≢ []) ⊎ (after_word rest ≡ [])
+      → e ≡ InvalidCharacter (offset_of text (after_number rest)) → Stops text front spans rest e
+  -- After a point, with or without digits, stands a character that is not a letter.
+  No_letter_after_point : BeginsNumber rest → IsSome (fraction_of rest) → word_of rest ≡ [] → after_word rest ≢ []
+      → e ≡ InvalidCharacter (offset_of text (after_word rest)) → Stops text front spans rest e
+  -- After letters, a unit's word or not, stands a character that is neither a digit nor whitespace.
+  Word_not_ended : BeginsNumber rest → fraction_of rest ≢ Some [] → word_of rest ≢ [] → ¬ (EndsSpan (after_word rest))
+      → e ≡ InvalidCharacter (offset_of text (after_word rest)) → Stops text front spans rest e
+  -- The text ends without a unit.
+  No_word : BeginsNumber rest → fraction_of rest ≢ Some [] → word_of rest ≡ [] → after_word rest ≡ []
+      → e ≡ UnknownUnit (byte_length text) (byte_length text) [] (decimal_value (number_of rest)) → Stops text front spans rest e
+  -- The word is no unit's.
+  Unknown_word : BeginsNumber rest → fraction_of rest ≢ Some [] → word_of rest ≢ [] → scale_of_word (word_of rest) ≡ None → EndsSpan (after_word rest)
+      → e ≡ UnknownUnit (offset_of text (after_fraction rest)) (offset_of text (after_word rest)) (encode_utf8_all (word_of rest)) (decimal_value (number_of rest))
+      → Stops text front spans rest e
 
--- The text, not exactly `0`, is spans within the limits, then the fault `e`, or a span that breaks a limit: `NumberOverflow`.
+-- The tenth row: a whole span begins the rest, and with it the spans break a limit.
+pub record BreaksLimit (spans : List Span) (rest : List ℕ) (e : Fault) : Type 0 where
+  pub span : BeginsSpan rest
+  pub beyond : ¬ (WithinLimits (spans ++ span_of rest ∷ []))
+  pub fault : e ≡ NumberOverflow
+
+-- The text is not exactly `0`. It is spans within the limits and then a rest, for which a row of the table gives the fault.
 pub record HasFault (text : List ℕ) (e : Fault) : Type 0 where
   pub not_zero : text ≢ bare_zero
   pub front : List ℕ
@@ -90,5 +112,4 @@ pub record HasFault (text : List ℕ) (e : Fault) : Type 0 where
   pub spans : List Span
   pub split : Split text front spans rest
   pub within : WithinLimits spans
-  pub fault : Stops text front spans rest e
-      ⊎ ((fault_at text rest ≡ None) × ¬ (WithinLimits (spans ++ span_of rest ∷ [])) × (e ≡ NumberOverflow))
+  pub row : Stops text front spans rest e ⊎ BreaksLimit spans rest e

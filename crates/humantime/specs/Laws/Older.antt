@@ -1,13 +1,12 @@
 -- What was accepted before: while the Greek letter mu, U+03BC, was no letter, and while zeros at the end of a fraction
 -- counted for its limits. A text is its list of characters.
-use Rattle.std.specs.Prelude.{◌≡◌, ℕ, ◌*◌, ◌≤◌, Bool, true, ◌||◌, ◌==◌, List, ◌∷◌, ◌++◌, length, Option, Some, None, IsOk, ⊤, Ok}
+use Rattle.std.specs.Prelude.{◌≡◌, ℕ, ◌*◌, ◌≤◌, true, List, length, Option, Some, None, IsOk, ⊤, Ok}
 use Rattle.std.specs.List.{AllByRecursion}
-use Rattle.std.specs.Char.{is_ascii_alphabetic}
 use Rattle.humantime.specs.Texts.{decimal_value}
-use Rattle.humantime.specs.Durations.Characters.{micro_sign, greek_mu, u64_max, bare_zero}
+use Rattle.humantime.specs.Durations.Characters.{u64_max, bare_zero}
 use Rattle.humantime.specs.Answers.Durations.{duration_answer}
 use Rattle.humantime.specs.Durations.Units.{Addition, Scale, scale_of_word}
-use Rattle.humantime.specs.Durations.Spans.{Span, Only, Reads}
+use Rattle.humantime.specs.Durations.Spans.{Span, Reads}
 use Rattle.humantime.specs.Durations.Accepted.{amount, additions, value, is_whole_part, AllHaveRoom, Accepted}
 
 -- While zeros at its end counted, a fraction had at most 19 digits and was a whole number of nanoseconds or of seconds; nanoseconds had

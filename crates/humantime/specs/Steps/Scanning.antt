@@ -5,7 +5,7 @@ use Rattle.humantime.specs.declared.duration.amount.Fraction.{Fraction}
 use Rattle.humantime.specs.Texts.{begins, take_while, drop_while, decimal_value}
 use Rattle.humantime.specs.Durations.Characters.{is_whitespace, is_digit, is_letter, is_numeric, is_point, significant, u64_max}
 use Rattle.humantime.specs.Durations.Faults.{number_of, after_number}
-pub use Rattle.humantime.specs.Durations.Faults.{ends_span}
+pub use Rattle.humantime.specs.Answers.Walks.{ends_span}
 use Rattle.humantime.specs.Steps.Scales.{Counted, counted}
 
 -- The bytes of a text end with those of the rest, which is a text of its own.

@@ -2,7 +2,6 @@
 
 ghost use Rattle.std.specs.Prelude.{◌≡◌, ◌≢◌, ◌+◌, ◌/◌, ◌≤◌, ◌++◌, ◌↔◌, ◌⊎◌, ℕ, List, Option, None, Some, Ok, Err, chars, length, option_map, slice_index, string_bytes, IfOk, IsOk, IsPermutation};
 ghost use Rattle.humantime.specs.Prelude.{Accepted, AcceptedWithZeros, AllHaveRoom, AreReordered, Canon, Counts, Fault, HasFault, IsCanonicalOf, Items, NumberOverflow, Reads, Span, WithinLimits, additions, bare_zero, canonical_answer, duration_answer, item_of, items_left, nanos_per_second, result_view, text_result_view, value, WasAccepted};
-ghost use Rattle.humantime_tests.specs.FirstFaults.{IsFirstFault};
 
 use crate::callers::durations::limit_seconds;
 use humantime::laws::{
@@ -35,7 +34,7 @@ pub fn decided(text: &str) -> Result<StdDuration, DurationError<'_>>
     ensures accepted { (ss : List Span) (stop : Option Fault) → Items (chars text.now) ss stop → chars text.now ≢ bare_zero → (v : ℕ) → (result_view result ≡ Ok v) ↔ ((stop ≡ None) × WithinLimits ss × (value ss ≡ v)) }
     ensures stopped { (ss : List Span) (e : Fault) → Items (chars text.now) ss (Some e) → chars text.now ≢ bare_zero → WithinLimits ss → result_view result ≡ Err e }
     ensures too_large { (ss : List Span) (stop : Option Fault) → Items (chars text.now) ss stop → chars text.now ≢ bare_zero → ¬ (WithinLimits ss) → result_view result ≡ Err NumberOverflow }
-    ensures row { (e : Fault) → (result_view result ≡ Err e) ↔ IsFirstFault (chars text.now) e }
+    ensures row { (e : Fault) → (result_view result ≡ Err e) ↔ HasFault (chars text.now) e }
     ensures before { (v : ℕ) → AcceptedWithZeros (chars text.now) v → result_view result ≡ Ok v }
     ensures still { WasAccepted (chars text.now) → IsOk result }
 {

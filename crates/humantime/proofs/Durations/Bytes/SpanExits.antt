@@ -7,9 +7,9 @@ use Rattle.humantime.specs.declared.duration.amount.Fraction.{Fraction}
 use Rattle.humantime.specs.Texts.{drop_while, take_while, decimal_value}
 use Rattle.humantime.specs.Durations.Characters.{is_letter, is_numeric, offset_of}
 use Rattle.humantime.specs.Durations.Units.{Scale, scale_of_word}
-use Rattle.humantime.specs.Durations.Faults.{number_of, after_number, behind_point, fraction_of, after_fraction, word_of, after_word, span_of, InvalidCharacter, UnknownUnit, NumberOverflow, stop_at, ends_span}
+use Rattle.humantime.specs.Durations.Faults.{number_of, after_number, behind_point, fraction_of, after_fraction, word_of, after_word, span_of, InvalidCharacter, UnknownUnit, NumberOverflow}
 use Rattle.humantime.specs.Answers.Items.{spelled, trimmed, view_at}
-use Rattle.humantime.specs.Answers.Walks.{too_long, stop_at}
+use Rattle.humantime.specs.Answers.Walks.{too_long, stop_at, ends_span}
 use Rattle.humantime.specs.Steps.Scales.{Counted, counted, parts_of}
 use Rattle.humantime.specs.Steps.Scanning.{ends_span, number_at, fraction_read, begins_no_word}
 use Rattle.humantime.specs.Durations.Accepted.{is_some_and, too_long}

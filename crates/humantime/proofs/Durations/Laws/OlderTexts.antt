@@ -1,11 +1,7 @@
 -- What became of the texts that were accepted before.
 use Rattle.std.proofs.lemmas.Grind.{common_steps}
-use Rattle.std.proofs.Common.{◌≡◌, ℕ, Bool, true, false, List, [], ◌∷◌, ◌++◌, refl, subst, arith}
-use Rattle.std.specs.Prelude.{◌==◌, not}
+use Rattle.std.proofs.Common.{◌≡◌, ℕ, true, List, [], ◌∷◌, refl, arith}
 use Rattle.std.specs.List.{AllByRecursion}
-use Rattle.std.proofs.lemmas.Bool.{false≢true}
-use Rattle.humantime.specs.Durations.Characters.{greek_mu, whitespace_chars, is_whitespace, is_digit, is_numeric}
-use Rattle.humantime.specs.Durations.Spans.{Span, Only, Spells, SpellsEach}
 use Rattle.humantime.specs.Durations.Accepted.{Formed, fits, Accepted, Bare_zero, Sum_of}
 use Rattle.humantime.specs.Laws.Older.{OlderFormed, AcceptedWithZeros, Older_zero, Older_sum, KeepsValueWithZeros}
 use Rattle.humantime.proofs.Durations.Reading.Outcomes.{outcome_accepted}

@@ -1,18 +1,13 @@
 -- Additions that find room wherever the whole sum is a duration.
 use Rattle.std.proofs.lemmas.Grind.{common_steps}
-use Rattle.std.proofs.Common.{true, ◌≡◌, ◌↔◌, ℕ, ◌+◌, ◌/◌, ◌≤◌, List, [], ◌∷◌, ◌++◌, arith}
+use Rattle.std.proofs.Common.{true, ◌≡◌, ℕ, ◌+◌, ◌/◌, ◌≤◌, List, [], ◌∷◌, arith}
 use Rattle.std.specs.Prelude.{⊤}
 use Rattle.std.specs.List.{AllByRecursion}
-use Rattle.std.proofs.lemmas.List.Sums.{sum_by-append}
 use Rattle.humantime.specs.Values.{nanos_per_second}
 use Rattle.humantime.specs.Durations.Characters.{u64_max}
 use Rattle.humantime.specs.Durations.Units.{Addition, Nanos, Seconds}
-use Rattle.humantime.specs.Durations.Spans.{Span}
-use Rattle.humantime.specs.Durations.Accepted.{addition_nanos, total, additions, room, AllHaveRoom, Accepted}
-use Rattle.humantime.specs.Laws.Texts.{AcceptedAs}
-use Rattle.humantime.proofs.Durations.Reading.Rooms.{RoomFrom, all_have_room, room_is_duration}
-use Rattle.humantime.proofs.Durations.Laws.Readings.{accepted_spans}
-use Rattle.humantime.proofs.Durations.Laws.JoinedTexts.{each-append, joined_sum}
+use Rattle.humantime.specs.Durations.Accepted.{addition_nanos, total, room, AllHaveRoom}
+use Rattle.humantime.proofs.Durations.Reading.Rooms.{RoomFrom, all_have_room}
 
 -- an addition of nanoseconds fits a u64 together with the nanoseconds beyond any whole seconds
 abbrev pub IsSmall : Addition → Type 0

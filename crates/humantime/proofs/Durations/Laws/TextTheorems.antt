@@ -1,9 +1,7 @@
 -- The laws of accepted texts as theorems over plain variables, each under the name of its function in `laws`, and some
 -- theorems beyond them.
-use Rattle.std.proofs.Common.{◌↔◌, ℕ, ◌+◌, List, ◌++◌, inl, inr, refl}
-use Rattle.humantime.specs.Durations.Characters.{is_whitespace, bare_zero}
-use Rattle.humantime.specs.Durations.Spans.{Span, Only, SpellsAll, Reads}
-use Rattle.humantime.specs.Durations.Accepted.{Accepted}
+use Rattle.std.proofs.Common.{ℕ, ◌+◌, List, ◌++◌, inl, inr, refl}
+use Rattle.humantime.specs.Durations.Characters.{bare_zero}
 use Rattle.humantime.specs.Durations.Faults.{NumberOverflow}
 use Rattle.humantime.specs.Laws.Texts.{without_whitespace, KeepsValueWithoutWhitespace, AddWhenJoined, KeepValueReordered}
 use Rattle.humantime.proofs.Durations.Reading.Outcomes.{accepted_from_outcome, outcome_accepted, outcome_fault}

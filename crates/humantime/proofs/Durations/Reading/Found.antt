@@ -5,7 +5,7 @@ use Rattle.std.specs.List.{AllByRecursion}
 use Rattle.humantime.specs.Texts.{begins, drop_while, take_while, ends}
 use Rattle.humantime.specs.Durations.Characters.{is_whitespace, is_digit, bare_zero}
 use Rattle.humantime.specs.Durations.Spans.{Span, Spells, SpellsAll}
-use Rattle.humantime.specs.Durations.Faults.{Fault, NumberOverflow, Split, HasFault, Empty, span_of}
+use Rattle.humantime.specs.Durations.Faults.{Fault, NumberOverflow, Split, BeginsSpan, HasFault, Empty, span_of}
 use Rattle.humantime.specs.Durations.Accepted.{Formed, WithinLimits}
 use Rattle.humantime.specs.Answers.Walks.{Walk, no_more, walk_of, items}
 use Rattle.humantime.specs.Durations.Items.{Items, Ends}
@@ -14,7 +14,7 @@ use Rattle.humantime.proofs.Durations.Reading.Spelled.{next_of}
 use Rattle.humantime.proofs.Durations.Reading.Spellings.{each-append, spells_each-append}
 use Rattle.humantime.proofs.Durations.Reading.Summed.{WithinLimits_from, within_or_beyond}
 use Rattle.humantime.proofs.Durations.Reading.SpanWalks.{Steps, by_walk}
-use Rattle.humantime.proofs.Durations.Reading.Stopping.{Fine, fine_at, wrong_stops}
+use Rattle.humantime.proofs.Durations.Reading.Stopping.{is_fine, wrong_stops}
 use Rattle.humantime.proofs.Durations.Reading.Written.{written_here, formed_here, spelling_some}
 
 -- no span stands before, or some
@@ -33,7 +33,7 @@ front_push : (front here : List ℕ) (ss : List Span) (s : Span) → SpellsAll f
 front_push front here ss s h p = grind (arith, common_steps, (spells_each-append h.body here ss (s ∷ []) h.each ([], p, refl)))
 
 -- one span further
-read_on : (text front rest : List ℕ) (first : Bool) (spans : List Span) → IsReadTo text first front spans rest → Fine rest
+read_on : (text front rest : List ℕ) (first : Bool) (spans : List Span) → IsReadTo text first front spans rest → BeginsSpan rest
     → (here : List ℕ) × IsReadTo text false (front ++ here) (spans ++ span_of rest ∷ []) (next_of rest)
 read_on text front rest first spans r f =
     let w = written_here rest f in
@@ -63,7 +63,7 @@ found text = record {
       items_end text front [] first spans (if first then Some Empty else None) r (grind (arith, (r.before)));
   wrong = λ first rest e some s front spans r. items_end text front rest first spans (Some e) r (wrong_stops text front spans rest e some (r.follows some) s);
   right = λ first rest w s more front spans r.
-      let k = read_on text front rest first spans r (fine_at text rest s) in
+      let k = read_on text front rest first spans r (is_fine text rest s) in
       subst (λ (ss : List Span). (i : Items text ss w.stop) × (i.rest ≡ w.unread)) (append_assoc spans (span_of rest ∷ []) (map span_of w.starts))
       (more (front ++ k.0) (spans ++ span_of rest ∷ []) k.1);
 }
@@ -86,10 +86,10 @@ too_large text some = record {
   end = λ first front spans r within big. absurd (big (rw append-nil within));
   wrong = λ first rest e more s front spans r within big. absurd (big (rw append-nil within));
   right = λ first rest w s more front ss r g big.
-      let k = read_on text front rest first ss r (fine_at text rest s) in
+      let k = read_on text front rest first ss r (is_fine text rest s) in
       elim (within_or_beyond (ss ++ span_of rest ∷ []) k.1.formed) [
         | inl h ↦ more (front ++ k.0) (ss ++ span_of rest ∷ []) k.1 h (λ all. big (rw append_assoc at all))
-        | inr o ↦ record { not_zero = some; front = front; rest = rest; spans = ss; split = r.split; within = g; fault = inr (s, o, refl) }
+        | inr o ↦ record { not_zero = some; front = front; rest = rest; spans = ss; split = r.split; within = g; row = inr (record { span = is_fine text rest s; beyond = o; fault = refl }) }
       ];
 }
 

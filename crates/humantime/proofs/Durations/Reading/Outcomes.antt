@@ -8,7 +8,7 @@ use Rattle.std.proofs.lemmas.Slice.Eq.{bytes_eq-Decides}
 use Rattle.humantime.specs.Durations.Characters.{bare_zero}
 use Rattle.humantime.specs.Durations.Spans.{Span, Reads}
 use Rattle.humantime.specs.Durations.Accepted.{value, Formed, WithinLimits, Accepted, Bare_zero, Sum_of}
-use Rattle.humantime.specs.Durations.Faults.{fault_at, span_of, Fault, NumberOverflow, Stops, HasFault}
+use Rattle.humantime.specs.Durations.Faults.{span_of, Fault, NumberOverflow, Stops, BreaksLimit, HasFault}
 use Rattle.humantime.specs.Durations.Items.{Items, items_of}
 use Rattle.humantime.specs.Laws.ExactlyOne.{ExactlyOne}
 use Rattle.humantime.specs.Laws.Outcomes.{IsOutcome}
@@ -16,7 +16,7 @@ use Rattle.humantime.specs.Answers.Walks.{walk_from, items, sum_spans}
 use Rattle.humantime.specs.Answers.Durations.{duration_answer}
 use Rattle.humantime.proofs.Durations.Reading.Summed.{sum_spans_within, too_large, summed_value, summed_fault, WithinLimits_from, from_WithinLimits, WithinLimitsFrom-front}
 use Rattle.humantime.proofs.Durations.Reading.Spelled.{next_of}
-use Rattle.humantime.proofs.Durations.Reading.Stopping.{fine_at}
+use Rattle.humantime.proofs.Durations.Reading.Stopping.{fine_goes}
 use Rattle.humantime.proofs.Durations.Reading.Written.{formed_here}
 use Rattle.humantime.proofs.Durations.Reading.SpanWalks.{walk-right}
 use Rattle.humantime.proofs.Durations.Reading.Found.{too_large_found}
@@ -60,16 +60,17 @@ stop_outcome text e h s =
     ∙ sum_spans_within h.spans (Some e) h.within
 
 -- where the span that begins the rest breaks a limit, the text's items do
-over_outcome : (text : List ℕ) (e : Fault) (h : HasFault text e) → fault_at text h.rest ≡ None → ¬ (WithinLimits (h.spans ++ span_of h.rest ∷ [])) → duration_answer text ≡ Err NumberOverflow
-over_outcome text e h right beyond =
-    let f = fine_at text h.rest right in
+over_outcome : (text : List ℕ) (e : Fault) (h : HasFault text e) → BreaksLimit h.spans h.rest e → duration_answer text ≡ Err e
+over_outcome text e h b =
+    let f = b.span in
+    let right = fine_goes text h.rest f in
     let more = walk_from false text (next_of h.rest) in
     let walk : items text ≡ (h.spans ++ span_of h.rest ∷ map span_of more.starts, more.stop) =
-    front_walked text h.front h.rest h.spans h.split h.within.formed (inr (closes_digit h.front h.rest f.starts))
+    front_walked text h.front h.rest h.spans h.split h.within.formed (inr (closes_digit h.front h.rest f.number.digit))
     ∙ ap (followed_by h.spans) (walk-right (first_after true h.spans) text h.rest right) in
     let formed = each-append Formed h.spans (span_of h.rest ∷ []) h.within.formed (formed_here h.rest f, tt) in
-    duration_answer-items text h.not_zero ∙ rw walk (too_large _ more.stop (rw walk at (items_found text).formed) (λ g. beyond (WithinLimits_from _ formed
-    (WithinLimitsFrom-front 0 _ (map span_of more.starts) (rw append_assoc (from_WithinLimits _ g))))))
+    rw b.fault (duration_answer-items text h.not_zero ∙ rw walk (too_large _ more.stop (rw walk at (items_found text).formed) (λ g. b.beyond (WithinLimits_from _ formed
+    (WithinLimitsFrom-front 0 _ (map span_of more.starts) (rw append_assoc (from_WithinLimits _ g)))))))
 
 pub outcome_fault : (text : List ℕ) (e : Fault) → HasFault text e → duration_answer text ≡ Err e
 outcome_fault text e h = grind (arith, (stop_outcome text e h), (over_outcome text e h))
@@ -83,7 +84,7 @@ sum_accepted text spans stop v h d = let i = rw d.0 at h in Sum_of spans (grind 
 
 pub items_decide_fault : (text : List ℕ) (spans : List Span) (e : Fault) → Items text spans (Some e) → text ≢ bare_zero
     → WithinLimits spans → HasFault text e
-items_decide_fault text spans e h some g = record { not_zero = some; front = h.front; rest = h.rest; spans = spans; split = h.split; within = g; fault = inl h.ends }
+items_decide_fault text spans e h some g = record { not_zero = some; front = h.front; rest = h.rest; spans = spans; split = h.split; within = g; row = inl h.ends }
 
 pub accepted_from_outcome : (text : List ℕ) (v : ℕ) → duration_answer text ≡ Ok v → Accepted text v
 accepted_from_outcome text v h = elim (zero_or_not text) [
@@ -94,8 +95,10 @@ accepted_from_outcome text v h = elim (zero_or_not text) [
 fault_read : (text : List ℕ) (e : Fault) → text ≢ bare_zero → duration_answer text ≡ Err e → HasFault text e
 fault_read text e some h =
     let i = items_found text in
-    let d = summed_fault (items text).0 (items text).1 e i.formed (sym (duration_answer-items text some) ∙ h) in
-    grind (arith, (d), (i), too_large_found, items_decide_fault)
+    elim (summed_fault (items text).0 (items text).1 e i.formed (sym (duration_answer-items text some) ∙ h)) [
+      | inl stopped ↦ items_decide_fault text (items text).0 e (rw stopped.1 at i) some stopped.0
+      | inr beyond ↦ rw (← beyond.1) (too_large_found text some beyond.0)
+    ]
 
 pub fault_from_outcome : (text : List ℕ) (e : Fault) → duration_answer text ≡ Err e → HasFault text e
 fault_from_outcome text e h = grind (arith, duration_answer-zero, fault_read)

@@ -2,8 +2,8 @@
 use Rattle.std.proofs.Common.{◌≡◌, ◌≢◌, ℕ, zero, suc, ◌≤◌, Bool, true, false, List, [], ◌∷◌, length, Option, Some, None, if◌then◌else◌, refl, arith}
 use Rattle.humantime.specs.Texts.{begins}
 use Rattle.humantime.specs.Durations.Characters.{is_digit}
-use Rattle.humantime.specs.Durations.Faults.{fault_at, Fault, Empty}
-use Rattle.humantime.specs.Answers.Walks.{Walk, no_more, one_more, walk, walk_from}
+use Rattle.humantime.specs.Durations.Faults.{Fault, Empty}
+use Rattle.humantime.specs.Answers.Walks.{Walk, no_more, one_more, walk, walk_from, fault_at}
 use Rattle.humantime.proofs.Durations.Reading.Spelled.{next_of, next_smaller}
 
 -- What is shown of each rest and of the walk from there: at the end, where a span is wrong, and where one is right.

@@ -6,9 +6,9 @@ use Rattle.humantime.specs.Texts.{begins, ends, drop_while}
 use Rattle.humantime.specs.Durations.Characters.{is_whitespace, is_digit}
 use Rattle.humantime.specs.Durations.Spans.{Span, SpellsEach}
 use Rattle.humantime.specs.Durations.Accepted.{Formed}
-use Rattle.humantime.specs.Durations.Faults.{Fault, Split, ends_span, span_of}
+use Rattle.humantime.specs.Durations.Faults.{Fault, Split, span_of}
 use Rattle.humantime.specs.Durations.Items.{Items, Ends}
-use Rattle.humantime.specs.Answers.Walks.{Walk, no_more, walk_from, spans_on, items}
+use Rattle.humantime.specs.Answers.Walks.{Walk, no_more, walk_from, spans_on, items, ends_span}
 use Rattle.humantime.proofs.Durations.Reading.Classes.{digit_is_numeric, digit_not_whitespace}
 use Rattle.humantime.proofs.Durations.Reading.Runs.{drop_while-append, begins-append, begins_other, begins_not_nil, ends-append}
 use Rattle.humantime.proofs.Durations.Reading.Spelled.{IsSpanAt, spelled_here}

@@ -4,13 +4,13 @@ use Rattle.humantime.specs.Texts.{take_while, begins, ends}
 use Rattle.humantime.specs.Durations.Characters.{is_whitespace, is_digit, is_point, is_numeric}
 use Rattle.humantime.specs.Durations.Spans.{Span, SpellsFraction, Spells}
 use Rattle.humantime.specs.Durations.Accepted.{Formed}
-use Rattle.humantime.specs.Durations.Faults.{after_number, word_of, after_word, span_of}
+use Rattle.humantime.specs.Durations.Faults.{after_number, word_of, after_word, span_of, BeginsSpan}
 use Rattle.humantime.specs.Answers.Items.{fraction_at, drop_fraction}
 use Rattle.humantime.proofs.Durations.Reading.Classes.{digit_is_numeric, is_point-true}
 use Rattle.humantime.proofs.Durations.Reading.Runs.{take_while-drop_while, Only-take_while, begins_take_while, ends_Only, ends-append}
 use Rattle.std.proofs.lemmas.Grind.{common_steps}
 use Rattle.humantime.proofs.Durations.Reading.Spelled.{next_of, IsSpanAt}
-use Rattle.humantime.proofs.Durations.Reading.Stopping.{Fine, some_letters}
+use Rattle.humantime.proofs.Durations.Reading.Stopping.{some_letters, ends_tells}
 
 -- a spelling of the span that begins the rest, in whitespace where no digit follows it
 pub record IsWritten (rest here : List ℕ) : Type 0 where
@@ -34,20 +34,27 @@ fraction_spelled (c ∷ cs) some = grind (arith, (Only-take_while is_numeric cs)
 pub spelling_some : (text rest : List ℕ) (s : Span) → Spells text s rest → 1 < length text
 spelling_some text rest s h = grind (arith, common_steps)
 
-pub written_here : (rest : List ℕ) → Fine rest → (here : List ℕ) × IsWritten rest here
+pub written_here : (rest : List ℕ) → BeginsSpan rest → (here : List ℕ) × IsWritten rest here
 written_here rest h =
-    let some = some_letters (word_of rest) h.word in (
+    let some = some_letters (word_of rest) h.unit in (
       take_while is_numeric rest ++ (fraction_text (after_number rest) ++ (word_of rest ++ take_while is_whitespace (after_word rest))),
       record {
         whole = (grind (arith, common_steps, take_while-drop_while, fraction_text-drop_while));
         spells = (grind (arith, append-nil, Only-take_while, begins_take_while, digit_is_numeric, fraction_spelled, (some), (h)));
-        closes = λ more e. (grind (arith, ends-append, ends_Only, Only-take_while, (h.ends), (more), (e)));
+        closes = λ more e. (grind (arith, ends-append, ends_Only, Only-take_while, ((ends_tells (after_word rest)).1 h.ended), (more), (e)));
       },
     )
 
 -- the span that begins the rest is well formed
-pub formed_here : (rest : List ℕ) → Fine rest → Formed (span_of rest)
-formed_here rest h = record { short = h.short; word = h.word }
+pub formed_here : (rest : List ℕ) → BeginsSpan rest → Formed (span_of rest)
+formed_here rest h = record { short = h.number.short; word = h.unit }
 
-pub fine_here : (rest next : List ℕ) (s : Span) → IsSpanAt rest s next → Formed s → Fine rest
-fine_here rest next s h f = grind arith
+pub fine_here : (rest next : List ℕ) (s : Span) → IsSpanAt rest s next → Formed s → BeginsSpan rest
+fine_here rest next s h f =
+    let k = rw (← h.span) at f in
+    record {
+      number = record { digit = h.starts; short = k.short };
+      digits = h.point;
+      unit = k.word;
+      ended = (ends_tells (after_word rest)).0 h.ends;
+    }

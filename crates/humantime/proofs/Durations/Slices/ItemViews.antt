@@ -12,7 +12,7 @@ use Rattle.humantime.specs.Answers.Items.{view_at, item_views, span_in, sum_item
 use Rattle.humantime.proofs.Durations.Reading.Found.{items_found_at}
 use Rattle.humantime.proofs.Durations.Reading.Outcomes.{items_walked, duration_answer-items}
 use Rattle.humantime.proofs.Durations.Reading.SpanWalks.{Steps, by_walk}
-use Rattle.humantime.proofs.Durations.Reading.Stopping.{fine_at}
+use Rattle.humantime.proofs.Durations.Reading.Stopping.{is_fine}
 use Rattle.humantime.proofs.Durations.Slices.SlicesFound.{one_each}
 use Rattle.humantime.proofs.Durations.Slices.SpanSlices.{is_span_view}
 use Rattle.humantime.proofs.Durations.Reading.Spelled.{next_of}
@@ -41,7 +41,7 @@ lends : (text : List ℕ) → Steps text (Lends text)
 lends text = record {
   end = λ first. refl;
   wrong = λ first rest e some s. refl;
-  right = λ first rest w s more. (next_of rest, is_span_view text rest (fine_at text rest s), more);
+  right = λ first rest w s more. (next_of rest, is_span_view text rest (is_fine text rest s), more);
 }
 
 pub are_items : (text : List ℕ) → AreItems text (item_views text)

@@ -6,7 +6,7 @@ use Rattle.std.proofs.lemmas.Str.{encodes-append, length-le-encodes}
 use Rattle.humantime.specs.Texts.{begins, take_while, drop_while}
 use Rattle.humantime.specs.Durations.Characters.{is_whitespace, is_digit, is_letter, is_numeric, digits, byte_length, offset_of}
 use Rattle.humantime.specs.Durations.Spans.{Only, SpellsFraction, Spells}
-use Rattle.humantime.specs.Durations.Faults.{after_number, fraction_of, after_fraction, word_of, after_word, span_of}
+use Rattle.humantime.specs.Durations.Faults.{after_number, fraction_of, after_fraction, word_of, after_word, span_of, BeginsSpan}
 use Rattle.humantime.specs.Answers.Items.{drop_fraction, trimmed, number_slice, fraction_slice, view_at}
 use Rattle.humantime.specs.Durations.Items.{IsDigitSlice, IsFractionView, IsSpanView}
 use Rattle.humantime.proofs.Durations.Reading.Classes.{digit_is_numeric}
@@ -14,7 +14,6 @@ use Rattle.humantime.proofs.Durations.Reading.Runs.{take_while-drop_while, Only-
 use Rattle.humantime.proofs.Durations.Reading.Spelled.{next_of, begins_word, read_spelled}
 use Rattle.humantime.proofs.Durations.Reading.Spellings.{spells-append}
 use Rattle.humantime.proofs.Durations.Reading.Written.{written_here}
-use Rattle.humantime.proofs.Durations.Reading.Stopping.{Fine}
 use Rattle.humantime.proofs.Durations.Bytes.Trimming.{dropped, digits_drop_while, digit_slice, no_slice, slice_behind_point}
 
 fewer_bytes : (cs : List ℕ) → byte_length (drop_fraction cs) ≤ byte_length cs
@@ -43,7 +42,7 @@ next_bytes rest b =
     grind (arith, common_steps, (take_while-drop_while is_numeric rest), (fewer_bytes (after_number rest)), (take_while-drop_while is_letter (after_fraction rest)), encodes-append, length-le-encodes)
 
 -- the slices of a well formed span that begins a rest tile it up to the next number
-pub is_span_view : (text rest : List ℕ) → Fine rest → IsSpanView text rest (span_of rest) (view_at text rest) (next_of rest)
+pub is_span_view : (text rest : List ℕ) → BeginsSpan rest → IsSpanView text rest (span_of rest) (view_at text rest) (next_of rest)
 is_span_view text rest f =
     let w = written_here rest f in
     let h : Spells rest (span_of rest) (next_of rest) =
@@ -53,7 +52,7 @@ is_span_view text rest f =
     let r = read_spelled rest (next_of rest) (span_of rest) h in
     let number = take_while is_numeric rest in
     let number_is : IsDigitSlice number (number_slice rest) =
-    digit_slice [] number (number_slice rest) (dropped number) tt (begins_take_while is_digit is_numeric rest f.starts digit_is_numeric) (Only-take_while is_numeric rest) in
+    digit_slice [] number (number_slice rest) (dropped number) tt (begins_take_while is_digit is_numeric rest f.number.digit digit_is_numeric) (Only-take_while is_numeric rest) in
     let left : after_word rest ≡ h.whitespace ++ next_of rest =
     append_cancel_left (word_of rest) (after_word rest) (h.whitespace ++ next_of rest) (take_while-drop_while is_letter (after_fraction rest) ∙ r.tail_is) in
     record {

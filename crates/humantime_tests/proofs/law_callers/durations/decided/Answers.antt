@@ -1,5 +1,4 @@
 use Rattle.humantime.specs.Prelude.{NumberOverflow}
-use Rattle.humantime_tests.proofs.FirstFaults.{first_fault}
 use Rattle.humantime_tests.proofs.law_callers.durations.decided.Goals as goal
 
 pub returns-clause-accepted : goal.returns-clause-accepted
@@ -16,9 +15,3 @@ returns-clause-too_large c ss stop items some bad = (c.parse_duration.ensures.fa
 
 pub returns-clause-before : goal.returns-clause-before
 returns-clause-before c v was = (c.parse_duration.ensures.value v).1 (c.still_accepted.ensures.value v was)
-
-pub returns-clause-row : goal.returns-clause-row
-returns-clause-row c e =
-    let has = c.parse_duration.ensures.fault e in
-    let rows = first_fault _ e in
-    (λ r. rows.0 (has.0 r), λ t. has.1 (rows.1 t))
