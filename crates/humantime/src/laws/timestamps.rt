@@ -9,9 +9,9 @@ ghost use Rattle.humantime.specs.Prelude.{IsPrinted, IsStrict, IsWeak, strict_an
 use crate::date::Rfc3339Timestamp;
 use crate::value::SystemTime;
 
-/// States that a text in strict form is one in weak form with a `T` between date and time and a zone at its end.
+/// States that the strict form is the weak one with a `T` between the date and the time, and a zone at the end.
 ///
-/// So the strict parser gives a moment exactly if the weak one gives it and the text has these marks.
+/// So the strict parser returns a moment exactly if the weak parser returns it and the text has both.
 ///
 /// # Examples
 ///
@@ -33,9 +33,9 @@ pub fn strict_is_weak(s: &str)
     let _ = s;
 }
 
-/// States that each text has one outcome for each parser, which is the parser's answer as a function of the text.
+/// States what each parser returns for a text: the moment of its parts, or the error of the first check that fails.
 ///
-/// The text shows date and time exactly if no check fails, and then no others.
+/// The text has parts exactly if no check fails, and then only one set of them.
 ///
 /// # Examples
 ///
@@ -53,9 +53,9 @@ pub fn one_stamp_outcome(s: &str)
     let _ = s;
 }
 
-/// States that a moment of 1970 to 9999 has one printed text, from which both parsers read the moment.
+/// States that a moment of 1970 to 9999 has one printed text, which both parsers parse to the moment.
 ///
-/// They read it cut to the digits that are printed. `Display` writes that text.
+/// The moment is rounded down to the digits that are printed. `Display` writes that text.
 ///
 /// # Examples
 ///
@@ -78,7 +78,9 @@ pub fn printed_moment_reads(x: &Rfc3339Timestamp)
     let _ = x.get_ref();
 }
 
-/// States that printed texts with equally many digits sort, as bytes, as their moments do, cut to these digits.
+/// States that printed texts with equally many digits are ordered, by their bytes, as their moments are.
+///
+/// The moments are rounded down to these digits.
 ///
 /// # Examples
 ///
