@@ -25,7 +25,7 @@ pub use Rattle.humantime.specs.Timestamps.Fields.{Fields, IsWeak, IsStrict, IsWe
 pub use Rattle.humantime.specs.Timestamps.Checks.{weak_checks, strict_checks, first_failed, timestamp_message}
 pub use Rattle.humantime.specs.Answers.Timestamps.{weak_answer, strict_answer, IsWeakAnswer, moment_text, printed_text, shortest_text, DisplaysMoment}
 -- timestamps printed
-pub use Rattle.humantime.specs.Timestamps.Printed.{MomentToPrint, places_of, cut, IsPrinted, IsPrintable}
+pub use Rattle.humantime.specs.Timestamps.Printed.{MomentToPrint, places_of, cut, IsPrinted, IsPrintedWith, IsPrintable}
 pub use Rattle.humantime.specs.Laws.Timestamps.{IsMarked, ReadsAs}
 -- what a buffer holds after a refusal
 pub use Rattle.humantime.specs.Buffers.{KeptAtNone, KeptAtErr}

@@ -1,4 +1,4 @@
--- What a timestamp's text says: its parts, the checks on its bytes, its moment; and the one text that a moment prints as.
+-- Timestamps: the parts of a text and the moment that it represents, the checks of the parsers, and the text that a moment prints as.
 pub mod Checks
 pub mod Fields
 pub mod Printed

@@ -1,4 +1,4 @@
--- The laws of timestamps. A text is its bytes, called b.
+-- The laws of timestamps. A text is its bytes.
 use Rattle.std.specs.Prelude.{◌≡◌, ◌↔◌, ℕ, ℤ, pos, Bool, List, slice_index, None, IsTrue, Result, Ok, Err, Some}
 use Rattle.std.specs.Cmp.Lexicographic.{slice_cmp}
 use Rattle.std.specs.Ordering.{nat_cmp, int_cmp}
@@ -10,55 +10,56 @@ use Rattle.humantime.specs.Timestamps.Checks.{ends_in_zone, first_failed}
 use Rattle.humantime.specs.Answers.Timestamps.{strict_answer, weak_answer, moment_text}
 use Rattle.humantime.specs.Laws.ExactlyOne.{ExactlyOne}
 
--- A `T` stands between date and time, and `Z` or `+00:00` at the end.
+-- A `T` separates the date from the time, and `Z` or `+00:00` is at the end.
 abbrev pub IsMarked : List ℕ → Type 0
 IsMarked b = (slice_index b 10 ≡ byte "T") × IsTrue (ends_in_zone b)
 
--- Two moments' texts with equally many digits sort, as bytes, as the moments, cut.
+-- The printed texts of two moments with equally many digits are ordered, by their bytes, as the moments are, rounded down.
 abbrev pub InOrder : ℤ → ℤ → Type 0
 InOrder a b =
     (k : ℕ) (x y : List ℕ) → IsPrinted a k x → IsPrinted b k y
     → slice_cmp nat_cmp x y ≡ int_cmp (cut a k) (cut b k)
 
--- In both forms the text reads as this moment.
+-- The text represents this moment in both forms.
 pub record ReadsAs (bytes : List ℕ) (t : ℤ) : Type 0 where
   pub strict : IsStrictMoment bytes t
   pub weak : IsWeakMoment bytes t
 
--- A text shows one set of parts exactly where no check fails; the answer is their moment, else `first_failed`.
-pub record OneTimestamp (checks : List (Bool × TimestampError)) (IsShown : Fields → Type 0)
+-- A text represents parts, and then only one set of them, exactly if no check fails. The result of parsing is their moment, or the error of
+-- the first check that fails.
+pub record OneTimestamp (checks : List (Bool × TimestampError)) (Represents : Fields → Type 0)
     (answer : Result ℤ TimestampError) : Type 0 where
-  -- some parts are shown exactly where no check fails
-  pub some : ((f : Fields) × IsShown f) ↔ (first_failed checks ≡ None)
-  -- and then no others
-  pub only : (f g : Fields) → IsShown f → IsShown g → f ≡ g
-  -- the answer is their moment
-  pub value : (t : ℤ) → (answer ≡ Ok t) ↔ ((f : Fields) × IsShown f × (t ≡ pos (moment_of f)))
+  -- the text represents some parts exactly if no check fails
+  pub some : ((f : Fields) × Represents f) ↔ (first_failed checks ≡ None)
+  -- and no others
+  pub only : (f g : Fields) → Represents f → Represents g → f ≡ g
+  -- the result is their moment
+  pub value : (t : ℤ) → (answer ≡ Ok t) ↔ ((f : Fields) × Represents f × (t ≡ pos (moment_of f)))
   -- or the error of the first check that fails
   pub error : (e : TimestampError) → (answer ≡ Err e) ↔ (first_failed checks ≡ Some e)
 
--- The strict form is the weak one with `T` and a zone: parts, moment, answer.
+-- The strict form is the weak one with a `T` and a zone.
 pub record StrictForm (text : List ℕ) : Type 0 where
-  -- a text in strict form is one in weak form with these marks
+  -- a text represents parts in strict form exactly if it does so in weak form and has a `T` and a zone
   pub parts : (f : Fields) → IsStrict text f ↔ (IsWeak text f × IsMarked text)
-  -- and its moment is the same
+  -- and so it is with their moment
   pub moment : (t : ℤ) → IsStrictMoment text t ↔ (IsWeakMoment text t × IsMarked text)
-  -- so what is answered in strict form is answered in weak form, and the text has the marks
+  -- a text that is parsed in strict form is parsed in weak form, and has a `T` and a zone
   pub weak : (t : ℤ) → strict_answer text ≡ Ok t → weak_answer text ≡ Ok t
   pub marked : (t : ℤ) → strict_answer text ≡ Ok t → IsMarked text
-  -- and what is answered in weak form, of a text with these marks, is answered in strict form
+  -- a text that is parsed in weak form, and has a `T` and a zone, is parsed in strict form
   pub strict : (t : ℤ) → weak_answer text ≡ Ok t → IsMarked text → strict_answer text ≡ Ok t
 
--- A printable moment has one `k`-digit text, which `Display` writes, and both parsers read as the moment, cut.
+-- A moment of 1970 to 9999 has one printed text with `k` digits, which `Display` writes, and which is parsed to the moment, rounded down.
 pub record PrintedMoment (t : ℤ) (k : ℕ) : Type 0 where
-  -- one text is this moment, printed, and no other
+  -- the moment has one printed text
   pub one : IsPrintable t → ExactlyOne (IsPrinted t k)
-  -- it is the text that `Display` writes
+  -- this is the text that `Display` writes
   pub displayed : (text : List ℕ) → (moment_text t k ≡ Some text) ↔ (IsPrintable t × IsPrinted t k text)
-  -- in both forms it reads as the moment, cut
+  -- it represents the moment, rounded down, in both forms
   pub reads : (text : List ℕ) → IsPrinted t k text → ReadsAs text (cut t k)
-  -- and so both parsers answer
+  -- and so both parsers return
   pub strict : (text : List ℕ) → IsPrinted t k text → strict_answer text ≡ Ok (cut t k)
   pub weak : (text : List ℕ) → IsPrinted t k text → weak_answer text ≡ Ok (cut t k)
-  -- with nine digits nothing is cut
+  -- nine digits change nothing
   pub whole : cut t 9 ≡ t

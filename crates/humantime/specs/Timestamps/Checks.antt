@@ -1,4 +1,4 @@
--- The checks on a timestamp's bytes, in their order, each with the error of a text that fails it; and the errors' messages.
+-- The checks that the parsers make on the bytes of a timestamp, in order, each with its error; and the messages of the errors.
 use Rattle.std.specs.Prelude.{ℕ, ◌+◌, ◌-◌, Bool, ◌&&◌, ◌||◌, ◌==◌, nat_le, nat_eq, if◌then◌else◌, Option, Some, None, List, [], ◌∷◌, length, take, drop, slice_index, slice_range, codes}
 use Rattle.std.specs.Char.{is_ascii_digit}
 use Rattle.std.specs.List.{list_all, ends_with}
@@ -22,15 +22,15 @@ ends_in_zone bytes = ends_in Letter_Z bytes || ends_in Zero_offset bytes
 unfoldable pub zone_of : List ℕ → Zone
 zone_of bytes = if ends_in Letter_Z bytes then Letter_Z else (if ends_in Zero_offset bytes then Zero_offset else No_zone)
 
--- Gives what stands before the zone.
+-- Gives the bytes before the zone.
 abbrev pub before_zone : List ℕ → List ℕ
 before_zone bytes = take (length bytes - length (zone_text (zone_of bytes))) bytes
 
--- Tests for at least 20 bytes, `T` at byte 10, and `Z` or `+00:00` last.
+-- Tests for at least 20 bytes, a `T` at byte 10, and a zone at the end.
 unfoldable pub has_t_and_zone : List ℕ → Bool
 has_t_and_zone b = nat_le 20 (length b) && (slice_index b 10 == byte "T") && ends_in_zone b
 
--- Tests whether `T` or a space stands between date and time.
+-- Tests whether a `T` or a space separates the date from the time.
 unfoldable pub has_separator : List ℕ → Bool
 has_separator bytes = (slice_index bytes 10 == byte "T") || (slice_index bytes 10 == byte " ")
 
@@ -40,19 +40,19 @@ has_punctuation bytes =
     (slice_index bytes 4 == byte "-") && (slice_index bytes 7 == byte "-") && has_separator bytes
     && (slice_index bytes 13 == byte ":") && (slice_index bytes 16 == byte ":")
 
--- Tests whether two digits stand from place `k` on.
+-- Tests whether bytes `k` and `k + 1` are digits.
 unfoldable pub has_two : List ℕ → ℕ → Bool
 has_two bytes k = is_ascii_digit (slice_index bytes k) && is_ascii_digit (slice_index bytes (k + 1))
 
--- Tests the other 14 of the first 19 bytes for digits.
+-- Tests whether the other 14 of the first 19 bytes are digits.
 unfoldable pub has_digits : List ℕ → Bool
 has_digits b = list_all (λ k. has_two b k) (0 ∷ 2 ∷ 5 ∷ 8 ∷ 11 ∷ 14 ∷ 17 ∷ [])
 
--- Reads the number that the bytes from one place up to another show.
+-- Gives the number of the bytes from one offset up to another.
 unfoldable pub number_between : List ℕ → ℕ → ℕ → ℕ
 number_between b from to = decimal_value (slice_range b from to)
 
--- Reads the numbers of date and time in the first 19 bytes.
+-- Gives the date and time of the first 19 bytes.
 abbrev pub date_time_of : List ℕ → DateTime
 date_time_of b = record {
   date = record { year = number_between b 0 4; month = number_between b 5 7; day = number_between b 8 10 };
@@ -61,20 +61,20 @@ date_time_of b = record {
   second = number_between b 17 19;
 }
 
--- Tests for a valid date, and hour, minute, second up to 23, 59, 60.
+-- Tests for a date that exists, and an hour, minute and second of at most 23, 59 and 60.
 unfoldable pub is_valid_date_time : DateTime → Bool
 is_valid_date_time x =
     is_valid x.date.year x.date.month x.date.day && nat_le x.hour 23 && nat_le x.minute 59 && nat_le x.second 60
 
--- Gives what stands between the seconds and the zone.
+-- Gives the bytes between the seconds and the zone.
 abbrev pub fraction_part : List ℕ → List ℕ
 fraction_part bytes = before_zone (drop 19 bytes)
 
--- Tests whether a fraction part is empty or begins with a point.
+-- Tests whether these bytes are empty or begin with a point.
 unfoldable pub has_point : List ℕ → Bool
 has_point part = (length part == 0) || (slice_index part 0 == byte ".")
 
--- Lists the weak form's checks in order, with their errors.
+-- Lists the checks of the weak form in order, with their errors.
 abbrev pub weak_checks : List ℕ → List (Bool × TimestampError)
 weak_checks bytes =
     (nat_le 19 (length bytes), InvalidFormat)
@@ -85,16 +85,16 @@ weak_checks bytes =
     ∷ (all_ascii_digits (drop 1 (fraction_part bytes)), InvalidDigit)
     ∷ []
 
--- Puts `has_t_and_zone` before the weak form's checks.
+-- Lists the checks of the strict form: `has_t_and_zone`, and then those of the weak form.
 abbrev pub strict_checks : List ℕ → List (Bool × TimestampError)
 strict_checks bytes = (has_t_and_zone bytes, InvalidFormat) ∷ weak_checks bytes
 
--- Gives the first failed check's error, if any.
+-- Gives the error of the first check that fails, if any does.
 abbrev pub first_failed : List (Bool × TimestampError) → Option TimestampError
 first_failed [] = None
 first_failed (check ∷ checks) = if check.0 then first_failed checks else Some check.1
 
--- Gives an error's message.
+-- Gives the message of an error.
 abbrev pub timestamp_message : TimestampError → List ℕ
 timestamp_message OutOfRange = codes "numeric component is out of range"
 timestamp_message InvalidDigit = codes "bad character where digit is expected"

@@ -9,9 +9,9 @@ ghost use Rattle.humantime.specs.Prelude.{IsPrinted, IsStrict, IsWeak, strict_an
 use crate::date::Rfc3339Timestamp;
 use crate::value::SystemTime;
 
-/// States that a text in strict form is one in weak form with a `T` between date and time and a zone at its end.
+/// States that the strict form is the weak one with a `T` between the date and the time, and a zone at the end.
 ///
-/// So the strict parser returns a moment exactly if the weak one returns it and the text has this `T` and this zone.
+/// So the strict parser returns a moment exactly if the weak parser returns it and the text has both.
 ///
 /// # Examples
 ///
@@ -78,7 +78,9 @@ pub fn printed_moment_reads(x: &Rfc3339Timestamp)
     let _ = x.get_ref();
 }
 
-/// States that printed texts with the same number of digits are ordered, as bytes, as their truncated moments are.
+/// States that printed texts with equally many digits are ordered, by their bytes, as their moments are.
+///
+/// The moments are rounded down to these digits.
 ///
 /// # Examples
 ///

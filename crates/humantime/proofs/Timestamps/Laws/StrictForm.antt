@@ -12,7 +12,7 @@ letter_by_byte : (s : Separator) → (s ≡ Letter_T) ↔ (separator_byte s ≡ 
 letter_by_byte s = grind arith
 
 separator_by_byte : (bytes : List ℕ) (f : Fields) → IsWeak bytes f → (f.separator ≡ Letter_T) ↔ (slice_index bytes 10 ≡ 84)
-separator_by_byte bytes f w = rw w.shown (letter_by_byte f.separator)
+separator_by_byte bytes f w = rw w.text (letter_by_byte f.separator)
 
 zone_there : (z : Zone) → (z ≢ No_zone) ↔ (nat_lt 0 (length (zone_text z)) ≡ true)
 zone_there z = grind (arith, common_steps)
@@ -20,7 +20,7 @@ zone_there z = grind (arith, common_steps)
 zone_by_end : (bytes : List ℕ) (f : Fields) → IsWeak bytes f → (f.zone ≢ No_zone) ↔ (ends_in_zone bytes ≡ true)
 zone_by_end bytes f w =
     let found = zone_found (date_time_text f ++ fraction_text f.fraction) f.zone (holds_before_zone IsPlain plain_bytes bytes f w) in
-    rw (← some_zone bytes, ap zone_of w.shown ∙ found) (zone_there f.zone)
+    rw (← some_zone bytes, ap zone_of w.text ∙ found) (zone_there f.zone)
 
 pub strict_is_weak : (bytes : List ℕ) (f : Fields) → IsStrict bytes f ↔ (IsWeak bytes f × IsMarked bytes)
 strict_is_weak bytes f = (

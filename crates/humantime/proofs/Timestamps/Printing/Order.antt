@@ -94,7 +94,7 @@ marked_cmp : (f g : Fields) → slice_cmp nat_cmp (marked f) (marked g)
 marked_cmp f g = simp (four_digits_cmp, two_digits_cmp)
 
 shown_marked : (t : ℤ) (k : ℕ) (text : List ℕ) (p : IsPrinted t k text) → text ≡ marked p.fields
-shown_marked t k text p = p.weak.shown ∙ (λ i. fields_text (record p.fields { separator = p.separator i; zone = p.zone i }))
+shown_marked t k text p = p.weak.text ∙ (λ i. fields_text (record p.fields { separator = p.separator i; zone = p.zone i }))
 
 pos_cmp : (m n : ℕ) → nat_cmp m n ≡ int_cmp (pos m) (pos n)
 pos_cmp m n = grind (arith, nat_tests)

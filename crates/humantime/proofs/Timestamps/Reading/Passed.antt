@@ -58,4 +58,4 @@ written_passes f w =
     )
 
 pub weak_fields : (bytes : List ℕ) (f : Fields) → IsWeak bytes f → (first_failed (weak_checks bytes) ≡ None) × (f ≡ fields_of bytes)
-weak_fields bytes f w = rw w.shown (written_passes f (rw w.shown at w))
+weak_fields bytes f w = rw w.text (written_passes f (rw w.text at w))

@@ -40,7 +40,7 @@ fields_weak bytes passed =
     let p = all_passed bytes passed in
     let range = (bounds _ _ _ _).0 p.3 in
     record {
-      shown = written_shown bytes passed;
+      text = written_shown bytes passed;
       date = range.0;
       hour = range.1;
       minute = range.2;

@@ -15,7 +15,7 @@ all_length : (f : Fields) → f.zone ≡ Letter_Z → length (fields_text f) ≡
 all_length f zone = rw zone (omega (arith, length-append (fraction_text f.fraction) (codes "Z")))
 
 printed_length : (t : ℤ) (k : ℕ) (bytes : List ℕ) → IsPrinted t k bytes → length bytes ≡ 20 + (if k == 0 then 0 else suc k)
-printed_length t k bytes printed = rw (printed.weak.shown, all_length printed.fields printed.zone) (ap (λ n. 20 + n) (shown_length printed.fields.fraction k printed.places))
+printed_length t k bytes printed = rw (printed.weak.text, all_length printed.fields printed.zone) (ap (λ n. 20 + n) (shown_length printed.fields.fraction k printed.places))
 
 not_zero : (n : ℕ) → 0 < n → (n == 0) ≡ false
 not_zero n some = grind (arith, nat_tests)
