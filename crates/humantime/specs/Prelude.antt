@@ -8,10 +8,10 @@ pub use Rattle.humantime.specs.Calendar.{IsDate, day_of}
 pub use Rattle.humantime.specs.Laws.Days.{IsDateOfDay}
 -- durations read: the answer as a function of the characters, and the relations that it is tied to
 pub use Rattle.humantime.specs.Durations.Characters.{bare_zero}
-pub use Rattle.humantime.specs.Durations.Errors.{result_view, text_result_view, fault_of, PointsInto, IsPlaceIn, IsRangeIn, IsPartOf, fault_message, unit_message}
-pub use Rattle.humantime.specs.Answers.Durations.{duration_answer, canonical_answer, duration_text}
+pub use Rattle.humantime.specs.Durations.Errors.{result_view, text_result_view, fault_of, PointsInto, IsPlaceIn, IsRangeIn, IsPartOf, fault_message, unit_message, place_of}
+pub use Rattle.humantime.specs.Answers.Durations.{IsDurationAnswer, duration_answer, canonical_answer, duration_text}
 pub use Rattle.humantime.specs.Durations.Accepted.{Accepted, Bare_zero, Sum_of, value, additions, WithinLimits, AllHaveRoom}
-pub use Rattle.humantime.specs.Durations.Spans.{Span, Reads}
+pub use Rattle.humantime.specs.Durations.Spans.{SpelledSpan, Reads}
 pub use Rattle.humantime.specs.Durations.Faults.{Fault, InvalidCharacter, NumberExpected, UnknownUnit, NumberOverflow, Empty, HasFault}
 pub use Rattle.humantime.specs.Laws.Texts.{without_whitespace, AreReordered}
 pub use Rattle.humantime.specs.Laws.Older.{AcceptedWithZeros, WasAccepted}
@@ -19,7 +19,7 @@ pub use Rattle.humantime.specs.Laws.Older.{AcceptedWithZeros, WasAccepted}
 pub use Rattle.humantime.specs.Durations.Items.{Items, SpanView, AreItems}
 pub use Rattle.humantime.specs.Answers.Spans.{span_view, item_of, items_left, text_of, GivesItem}
 -- durations printed
-pub use Rattle.humantime.specs.Durations.Counts.{Counts, Canon, IsCanonicalOf}
+pub use Rattle.humantime.specs.Durations.Counts.{AreCounts, IsCanonicalText, IsCanonicalOf}
 -- timestamps read
 pub use Rattle.humantime.specs.Timestamps.Fields.{Fields, IsWeak, IsStrict, IsWeakMoment, IsStrictMoment}
 pub use Rattle.humantime.specs.Timestamps.Checks.{weak_checks, strict_checks, first_failed, timestamp_message}

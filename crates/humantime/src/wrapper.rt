@@ -1,7 +1,7 @@
 //! Durations and moments that read and print themselves.
 
-ghost use Rattle.std.specs.Prelude.{◌≡◌, ◌↔◌, ℕ, chars, IfErr, Some};
-ghost use Rattle.humantime.specs.Prelude.{Accepted, Fault, HasFault, PointsInto, duration_answer, result_view};
+ghost use Rattle.std.specs.Prelude.{◌≡◌, Some};
+ghost use Rattle.humantime.specs.Prelude.{IsDurationAnswer};
 
 use crate::date::{TimestampError, format_rfc3339, parse_rfc3339_weak};
 use crate::duration::{DurationError, format_duration, parse_duration};
@@ -71,10 +71,7 @@ impl Duration {
     /// assert_eq!(rt; Duration::from_str("1foo~"), Err(DurationError::InvalidCharacter(4)));
     /// ```
     pub fn from_str(s: &str) -> Result<Duration, DurationError<'_>>
-        ensures value { (v : ℕ) → (result_view result ≡ Ok v) ↔ Accepted (chars s.now) v }
-        ensures fault { (e : Fault) → (result_view result ≡ Err e) ↔ HasFault (chars s.now) e }
-        ensures answer { result_view result ≡ duration_answer (chars s.now) }
-        ensures place { IfErr result (PointsInto s.now) }
+        ensures { IsDurationAnswer s.now result }
     {
         match parse_duration(s) {
             Ok(value) => Ok(Duration(value)),

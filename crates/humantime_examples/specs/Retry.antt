@@ -1,6 +1,6 @@
 -- Waits that are doubled up to a cap.
 use Rattle.std.specs.Prelude.{ℕ, ◌*◌, ◌^◌, min, List, Result, Ok, Err}
-use Rattle.humantime.specs.Prelude.{Accepted, Canon, Fault, duration_text}
+use Rattle.humantime.specs.Prelude.{Accepted, IsCanonicalText, Fault, duration_text}
 
 -- the wait after so many tries: the first one, doubled as often, and at most the cap
 abbrev pub wait : ℕ → ℕ → ℕ → ℕ
@@ -15,4 +15,4 @@ wait_answer tries (Err fault) cap = Err fault
 -- both texts are durations, and the third is the canonical text of the wait
 abbrev pub IsWaitText : ℕ → List ℕ → List ℕ → List ℕ → Type 0
 IsWaitText tries first cap text =
-    (a : ℕ) × (b : ℕ) × Accepted first a × Accepted cap b × Canon (wait a b tries) text
+    (a : ℕ) × (b : ℕ) × Accepted first a × Accepted cap b × IsCanonicalText (wait a b tries) text

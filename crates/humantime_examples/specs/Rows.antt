@@ -1,9 +1,9 @@
 -- The bytes of a report's row.
 use Rattle.std.specs.Prelude.{◌≡◌, ℕ, ℤ, List, ◌++◌, codes}
-use Rattle.humantime.specs.Prelude.{Canon, IsPrinted}
+use Rattle.humantime.specs.Prelude.{IsCanonicalText, IsPrinted}
 
 -- the bytes are the start, printed with milliseconds, two spaces, and the two durations in their canonical texts
 abbrev pub IsRow : ℤ → ℕ → ℕ → List ℕ → Type 0
 IsRow start took limit bytes =
-    (stamp : List ℕ) × (taken : List ℕ) × (limited : List ℕ) × IsPrinted start 3 stamp × Canon took taken × Canon limit limited
+    (stamp : List ℕ) × (taken : List ℕ) × (limited : List ℕ) × IsPrinted start 3 stamp × IsCanonicalText took taken × IsCanonicalText limit limited
     × (bytes ≡ stamp ++ (codes "  " ++ taken ++ codes " of " ++ limited))

@@ -1,5 +1,5 @@
 -- Lines of a settings file.
-use Rattle.std.specs.Prelude.{ℕ, ◌+◌, ◌-◌, ◌==◌, Bool, ℤ, List, length, codes, chars, bytes_eq, nat_lt, Result, Ok, Err, ⊤, if◌then◌else◌}
+use Rattle.std.specs.Prelude.{ℕ, ◌+◌, ◌-◌, ◌==◌, Bool, ℤ, List, length, codes, chars, bytes_eq, nat_lt, Result, Ok, Err, ⊤, if◌then◌else◌, unwrap_or}
 use Rattle.std.specs.List.{before_first, after_first, position_or_len}
 use Rattle.std.specs.Str.{byte, trim_start, trim_end}
 use Rattle.humantime.specs.declared.TimestampError.{TimestampError}
@@ -9,7 +9,7 @@ use Rattle.humantime_examples.specs.declared.settings.LineFault.{LineFault}
 use Rattle.humantime_examples.specs.declared.settings.LineFault.TheVariants.{NoValue, UnknownKey, Duration, Timestamp}
 use Rattle.humantime_examples.specs.declared.settings.LineError.{LineError}
 use Rattle.humantime.specs.Durations.Faults.{InvalidCharacter, NumberExpected, UnknownUnit, NumberOverflow, Empty}
-use Rattle.humantime.specs.Prelude.{Fault, PointsInto, duration_answer, strict_answer, fault_of}
+use Rattle.humantime.specs.Prelude.{Fault, PointsInto, duration_answer, strict_answer, fault_of, place_of}
 
 abbrev pub is_equals : ℕ → Bool
 is_equals b = b == byte "="
@@ -37,13 +37,9 @@ moved by (UnknownUnit start end unit value) = UnknownUnit (by + start) (by + end
 moved by NumberOverflow = NumberOverflow
 moved by Empty = Empty
 
--- the byte at which a fault stands, or this one where it has no place
-abbrev pub fault_place : ℕ → Fault → ℕ
-fault_place at (InvalidCharacter place) = place
-fault_place at (NumberExpected place) = place
-fault_place at (UnknownUnit start end unit value) = start
-fault_place at NumberOverflow = at
-fault_place at Empty = at
+-- the byte of a line to which the fault of the value points that begins at a byte of it, or else that byte
+abbrev pub place_in_line : ℕ → Fault → ℕ
+place_in_line at fault = at + unwrap_or (place_of fault) 0
 
 -- What is wrong with a line, its offsets counted in the line and a unit named by its characters.
 pub data Wrong : Type 0 where
@@ -82,7 +78,7 @@ refused key at wrong = Err (record { key = key; at = at; wrong = wrong })
 -- what a value at the end of a line sets, or that the line is refused: a duration, or its fault
 abbrev pub timeout_answer : List ℕ → ℕ → Result ℕ Fault → Result Setting Refusal
 timeout_answer key at (Ok timeout) = Ok (Timeout timeout)
-timeout_answer key at (Err fault) = refused key (fault_place at (moved at fault)) (No_duration (moved at fault))
+timeout_answer key at (Err fault) = refused key (place_in_line at fault) (No_duration (moved at fault))
 
 -- a timestamp, or its error
 abbrev pub since_answer : List ℕ → ℕ → Result ℤ TimestampError → Result Setting Refusal

@@ -84,7 +84,7 @@ mod marked;
 ghost use Rattle.std.specs.Prelude.{◌≡◌, ◌++◌, chars, drop, length, IfErr};
 ghost use Rattle.std.specs.Str.{IsCharBoundary};
 ghost use Rattle.humantime.specs.Prelude.{PointsInto, duration_answer, fault_of, strict_answer};
-ghost use Rattle.humantime_examples.specs.Settings.{FaultPointsInto, fault_place, line_answer, moved, since_answer, timeout_answer, line_view};
+ghost use Rattle.humantime_examples.specs.Settings.{FaultPointsInto, line_answer, moved, place_in_line, since_answer, timeout_answer, line_view};
 
 use humantime::{
     DurationError, StdDuration, SystemTime, TimestampError, parse_duration, parse_rfc3339,
@@ -155,9 +155,9 @@ fn read_timeout<'a>(line: &'a str, key: &'a str, at: usize) -> Result<Setting, L
     match parse_duration(&line[at..]) {
         Ok(timeout) => Ok(Setting::Timeout(timeout)),
         Err(error) => {
-            let error = in_line(line, at, error);
-            let place = place_or(line, at, error);
-            Err(cut(line, key, place, LineFault::Duration(error)))
+            let place = place_of(line, at, error);
+            let fault = LineFault::Duration(in_line(line, at, error));
+            Err(cut(line, key, place, fault))
         }
     }
 }
@@ -201,16 +201,16 @@ fn in_line<'a>(line: &str, at: usize, error: DurationError<'a>) -> DurationError
     }
 }
 
-/// The byte of a line at which an error stands, or this one where it has no place.
-fn place_or(line: &str, at: usize, error: DurationError<'_>) -> usize
+/// Returns the byte of a line to which the error of the value points that begins at a byte of the line, or else that byte.
+fn place_of(line: &str, at: usize, error: DurationError<'_>) -> usize
     requires boundary { IsCharBoundary line.now at }
-    requires place { PointsInto line.now error }
-    ensures place { result ≡ fault_place at (fault_of error.entry) }
+    requires place { PointsInto (drop at line.now) error }
+    ensures place { result ≡ place_in_line at (fault_of error.entry) }
     ensures boundary { IsCharBoundary line.now result }
 {
     match error {
-        DurationError::InvalidCharacter(place) | DurationError::NumberExpected(place) => place,
-        DurationError::UnknownUnit { start, .. } => start,
+        DurationError::InvalidCharacter(place) | DurationError::NumberExpected(place) => at + place,
+        DurationError::UnknownUnit { start, .. } => at + start,
         DurationError::NumberOverflow | DurationError::Empty => at,
     }
 }

@@ -4,7 +4,7 @@ use Rattle.std.specs.Prelude.{chars, option_map, IfSome}
 use Rattle.std.proofs.lemmas.Grind.{common_steps}
 use Rattle.humantime.specs.Texts.{begins, drop_while, ends}
 use Rattle.humantime.specs.Durations.Characters.{is_digit, is_whitespace}
-use Rattle.humantime.specs.Durations.Spans.{Span}
+use Rattle.humantime.specs.Durations.Spans.{SpelledSpan}
 use Rattle.humantime.specs.Durations.Items.{AreItems, AreSpanViews, IsFractionView, IsSpanView, SpanView, items_of}
 use Rattle.humantime.specs.Durations.Faults.{Fault}
 use Rattle.humantime_tests.specs.FirstItems.{first_span}
@@ -13,8 +13,8 @@ use Rattle.humantime_tests.specs.FirstItems.{first_span}
 abbrev pub HasDigitEnds : List ℕ → Type 0
 HasDigitEnds text = (begins is_digit text ≡ true) × (ends is_digit text ≡ true)
 
-first_of_views : (text here end : List ℕ) (spans : List Span) (slices : List SpanView) (stop : Option Fault) (x : SpanView)
-    → AreSpanViews text here spans slices end → first_span (items_of slices stop) ≡ Some x → (s : Span) × (next : List ℕ) × IsSpanView text here s x next
+first_of_views : (text here end : List ℕ) (spans : List SpelledSpan) (slices : List SpanView) (stop : Option Fault) (x : SpanView)
+    → AreSpanViews text here spans slices end → first_span (items_of slices stop) ≡ Some x → (s : SpelledSpan) × (next : List ℕ) × IsSpanView text here s x next
 first_of_views text here end [] [] None x each first = absurd (cc)
 first_of_views text here end [] [] (Some e) x each first = absurd (cc)
 first_of_views text here end [] (y ∷ ys) stop x each first = absurd each
@@ -22,7 +22,7 @@ first_of_views text here end (s ∷ ss) [] stop x each first = absurd each
 first_of_views text here end (s ∷ ss) (y ∷ ys) stop x each first = grind (arith, common_steps)
 
 first_view : (text : List ℕ) (items : List (Result SpanView Fault)) (x : SpanView) → (are : AreItems text items) → Some x ≡ first_span items
-    → (s : Span) × (next : List ℕ) × IsSpanView text (drop_while is_whitespace text) s x next
+    → (s : SpelledSpan) × (next : List ℕ) × IsSpanView text (drop_while is_whitespace text) s x next
 first_view text items x are first = first_of_views _ _ _ are.spans are.slices are.stop x are.each (sym (first ∙ ap first_span are.are))
 
 pub number_ends : (text number : List ℕ) (items : List (Result SpanView Fault)) (x : SpanView)

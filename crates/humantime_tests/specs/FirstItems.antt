@@ -1,6 +1,6 @@
 -- The first items of a text.
-use Rattle.std.specs.Prelude.{ℕ, List, [], ◌∷◌, Option, None, Some, Result, Ok, Err}
-use Rattle.humantime.specs.Prelude.{Fault, InvalidCharacter, NumberExpected, UnknownUnit, NumberOverflow, Empty, SpanView}
+use Rattle.std.specs.Prelude.{ℕ, List, [], ◌∷◌, Option, None, Some, Result, Ok, Err, unwrap_or}
+use Rattle.humantime.specs.Prelude.{Fault, SpanView, place_of}
 
 -- Gives the first item, if it is a span.
 abbrev pub first_span : List (Result SpanView Fault) → Option SpanView
@@ -14,11 +14,7 @@ first_error [] = None
 first_error (Ok span ∷ items) = first_error items
 first_error (Err e ∷ items) = Some e
 
--- Gives the offset of an error in a text of `length` bytes: 0 where it has none, and the end of the text without an error.
+-- Gives the offset to which an error points in a text of `length` bytes, 0 where it points nowhere, and the end of the text without an error.
 abbrev pub stop_of : ℕ → Option Fault → ℕ
 stop_of length None = length
-stop_of length (Some (InvalidCharacter at)) = at
-stop_of length (Some (NumberExpected at)) = at
-stop_of length (Some (UnknownUnit start end unit value)) = start
-stop_of length (Some NumberOverflow) = 0
-stop_of length (Some Empty) = 0
+stop_of length (Some fault) = unwrap_or (place_of fault) 0

@@ -1,14 +1,24 @@
 -- What is answered of a duration's text, and the text of a duration, each as one function.
-use Rattle.std.specs.Prelude.{ℕ, ◌/◌, ◌%◌, List, [], ◌∷◌, Result, Ok, Err, bytes_eq, if◌then◌else◌}
+use Rattle.std.specs.Prelude.{◌≡◌, ◌↔◌, ℕ, ◌/◌, ◌%◌, List, [], ◌∷◌, Result, Ok, Err, IfErr, bytes_eq, chars, if◌then◌else◌}
 use Rattle.humantime.specs.Durations.Characters.{bare_zero}
 use Rattle.humantime.specs.Durations.Counts.{weights, suffixes, printed_counts, joined_by_space}
-use Rattle.humantime.specs.Durations.Faults.{Fault}
+use Rattle.humantime.specs.declared.duration.error.DurationError.{DurationError}
+use Rattle.humantime.specs.Durations.Accepted.{Accepted}
+use Rattle.humantime.specs.Durations.Errors.{result_view, PointsInto}
+use Rattle.humantime.specs.Durations.Faults.{Fault, HasFault}
 use Rattle.humantime.specs.Durations.Items.{items_of}
 use Rattle.humantime.specs.Answers.Walks.{items, sum_spans}
 
 -- Gives the value of a text in nanoseconds, or its first error.
 unfoldable pub duration_answer : List ℕ → Result ℕ Fault
 duration_answer text = if bytes_eq text bare_zero then Ok 0 else sum_spans 0 (items_of (items text).0 (items text).1)
+
+-- Parsing a text returns the duration that it denotes, exactly where it is accepted, and else its first fault, which points into it.
+pub record IsDurationAnswer (bytes : List ℕ) (r : Result ℕ DurationError) : Type 0 where
+  pub value : (v : ℕ) → (result_view r ≡ Ok v) ↔ Accepted (chars bytes) v
+  pub fault : (e : Fault) → (result_view r ≡ Err e) ↔ HasFault (chars bytes) e
+  pub answer : result_view r ≡ duration_answer (chars bytes)
+  pub place : IfErr r (PointsInto bytes)
 
 -- Finds the greatest counts by division: of the first weight as many as fit, and then of the others what is left.
 abbrev pub divided : List ℕ → ℕ → List ℕ

@@ -1,30 +1,23 @@
 -- What spans lend, read from left to right: the plain reference for the iterator over them.
-use Rattle.std.specs.Prelude.{ℕ, Bool, List, Option, map, option_map, unwrap_or, Result, Ok, Err}
+use Rattle.std.specs.Prelude.{ℕ, Bool, List, Option, map, option_map, Result, Ok, Err}
 use Rattle.std.specs.Str.{drop_trailing_whitespace}
 use Rattle.humantime.specs.Texts.{take_while, drop_while, decimal_value}
 use Rattle.humantime.specs.Durations.Characters.{is_whitespace, is_numeric, digits, offset_of}
-use Rattle.humantime.specs.Durations.Spans.{Span}
-use Rattle.humantime.specs.Durations.Faults.{number_of, after_number, behind_point, word_of, after_word, Fault}
+use Rattle.humantime.specs.Durations.Spans.{SpelledSpan}
+use Rattle.humantime.specs.Durations.Faults.{number_of, after_number, after_point, word_of, after_word, Fault}
 use Rattle.humantime.specs.Answers.Walks.{Walk, walk_from, walk_of, sum_spans}
 use Rattle.humantime.specs.Durations.Items.{SpanView, items_of}
-
--- the digits of the fraction that begins what follows a number, if a point does, and what follows it
-abbrev pub fraction_at : List ℕ → Option (List ℕ)
-fraction_at after = option_map number_of (behind_point after)
-
-abbrev pub drop_fraction : List ℕ → List ℕ
-drop_fraction after = unwrap_or (option_map after_number (behind_point after)) after
 
 -- without the whitespace at both ends
 abbrev pub trimmed : List ℕ → List ℕ
 trimmed cs = drop_trailing_whitespace (drop_while is_whitespace cs)
 
--- from the first to the last digit of the number, and of the fraction behind it, if there is one
+-- from the first to the last digit of the number, and of the fraction after it, if there is one
 abbrev pub number_slice : List ℕ → List ℕ
 number_slice rest = drop_trailing_whitespace (take_while is_numeric rest)
 
 abbrev pub fraction_slice : List ℕ → Option (List ℕ)
-fraction_slice after = option_map (λ digits. trimmed (take_while is_numeric digits)) (behind_point after)
+fraction_slice after = option_map (λ digits. trimmed (take_while is_numeric digits)) (after_point after)
 
 -- what the span at a rest lends
 abbrev pub view_at : List ℕ → List ℕ → SpanView
@@ -49,10 +42,10 @@ abbrev pub item_views : List ℕ → List (Result SpanView Fault)
 item_views text = views_on text (walk_of text)
 
 -- the span of these slices, and of an item
-abbrev pub spelled : List ℕ → Option (List ℕ) → List ℕ → Span
+abbrev pub spelled : List ℕ → Option (List ℕ) → List ℕ → SpelledSpan
 spelled number fraction unit = record { number = digits number; fraction = option_map digits fraction; word = unit }
 
-abbrev pub span_in : Result SpanView Fault → Result Span Fault
+abbrev pub span_in : Result SpanView Fault → Result SpelledSpan Fault
 span_in (Ok x) = Ok (spelled x.number x.fraction x.unit)
 span_in (Err e) = Err e
 

@@ -4,7 +4,7 @@ use Rattle.std.specs.Iterator.{YieldsFirstBy}
 use Rattle.std.specs.Str.{drop_trailing_whitespace}
 use Rattle.humantime.specs.declared.duration.error.DurationError.{DurationError}
 use Rattle.humantime.specs.declared.duration.iter.SpanIter.{SpanIter}
-use Rattle.humantime.specs.declared.duration.span.Span.{Span as TextSpan}
+use Rattle.humantime.specs.declared.duration.span.Span.{Span}
 use Rattle.humantime.specs.Texts.{drop_while}
 use Rattle.humantime.specs.Durations.Characters.{is_whitespace}
 use Rattle.humantime.specs.Durations.Errors.{IsRangeIn, PointsInto, fault_of}
@@ -13,7 +13,7 @@ use Rattle.humantime.specs.Durations.Items.{SpanView}
 use Rattle.humantime.specs.Answers.Items.{left_at, trimmed}
 
 -- what a span lends of its text
-abbrev pub span_view : TextSpan → SpanView
+abbrev pub span_view : Span → SpanView
 span_view s = record {
   number = drop_trailing_whitespace (chars s.number.now);
   fraction = option_map (λ t. trimmed (chars t.now)) s.digits;
@@ -24,7 +24,7 @@ span_view s = record {
 }
 
 -- a span by what it lends, and an error by the fault that it names
-abbrev pub item_of : Result TextSpan DurationError → Result SpanView Fault
+abbrev pub item_of : Result Span DurationError → Result SpanView Fault
 item_of (Ok s) = Ok (span_view s)
 item_of (Err e) = Err (fault_of e)
 
@@ -40,7 +40,7 @@ text_of i = i.text.now
 
 -- a call gave the first of the items to come and left the others, or nothing where none was to come; the text stayed, and
 -- a span lies in it, or an error points into it
-abbrev pub GivesItem : SpanIter → Option (Result TextSpan DurationError) → SpanIter → Type 0
+abbrev pub GivesItem : SpanIter → Option (Result Span DurationError) → SpanIter → Type 0
 GivesItem old result new =
     YieldsFirstBy item_of items_left old result new
     × (text_of new ≡ text_of old)

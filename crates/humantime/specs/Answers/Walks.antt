@@ -4,8 +4,8 @@ use Rattle.std.specs.Prelude.{ℕ, zero, suc, ◌+◌, Bool, true, false, not, �
 use Rattle.humantime.specs.Texts.{begins, drop_while, decimal_value}
 use Rattle.humantime.specs.Durations.Characters.{is_whitespace, is_digit, is_letter, is_numeric, offset_of}
 use Rattle.humantime.specs.Durations.Units.{Addition, scale_of_word}
-use Rattle.humantime.specs.Durations.Spans.{Span}
-use Rattle.humantime.specs.Durations.Accepted.{addition_nanos, additions_of, fits, is_some_and, room, too_long}
+use Rattle.humantime.specs.Durations.Spans.{SpelledSpan}
+use Rattle.humantime.specs.Durations.Accepted.{addition_nanos, additions_of, fits, is_some_and, has_room, too_long}
 use Rattle.humantime.specs.Durations.Faults.{number_of, after_number, fraction_of, after_fraction, word_of, after_word, span_of, Fault, InvalidCharacter, NumberExpected, UnknownUnit, NumberOverflow, Empty}
 pub use Rattle.humantime.specs.Durations.Accepted.{too_long}
 
@@ -30,26 +30,26 @@ stop_at text rest =
 abbrev pub fault_at : List ℕ → List ℕ → Option Fault
 fault_at text rest = if begins is_digit rest then stop_at text rest else Some (NumberExpected (offset_of text rest))
 
--- Where the spans of a text begin, the fault that stops them, if one does, and the rest behind them.
+-- Where the spans of a text begin, the fault that stops them, if one does, and the rest after them.
 pub record Walk : Type 0 where
   pub starts : List (List ℕ)
   pub stop : Option Fault
   pub unread : List ℕ
 
 -- no span at a rest, and a span before those that follow it
-abbrev pub no_more : List ℕ → Option Fault → Walk
-no_more rest stop = record { starts = []; stop = stop; unread = rest }
+abbrev pub empty_walk : List ℕ → Option Fault → Walk
+empty_walk rest stop = record { starts = []; stop = stop; unread = rest }
 
 abbrev pub one_more : List ℕ → Walk → Walk
 one_more rest w = record { starts = rest ∷ w.starts; stop = w.stop; unread = w.unread }
 
 -- the spans from a rest on, at most n of them; at the end a text without a span stops
 unfoldable pub walk : ℕ → Bool → List ℕ → List ℕ → Walk
-walk n first text [] = no_more [] (if first then Some Empty else None)
-walk zero first text (c ∷ cs) = no_more (c ∷ cs) None
+walk n first text [] = empty_walk [] (if first then Some Empty else None)
+walk zero first text (c ∷ cs) = empty_walk (c ∷ cs) None
 walk (suc n) first text (c ∷ cs) = elim (fault_at text (c ∷ cs)) [
   | None ↦ one_more (c ∷ cs) (walk n false text (drop_while is_whitespace (after_word (c ∷ cs))))
-  | Some e ↦ no_more (c ∷ cs) (Some e)
+  | Some e ↦ empty_walk (c ∷ cs) (Some e)
 ]
 
 -- all spans from a rest on, where none was before it or where some was, and all spans of a text
@@ -60,23 +60,23 @@ abbrev pub walk_of : List ℕ → Walk
 walk_of text = walk_from true text (drop_while is_whitespace text)
 
 -- the spans of a walk and where they stop, and those of a text
-abbrev pub spans_on : Walk → List Span × Option Fault
-spans_on w = (map span_of w.starts, w.stop)
+abbrev pub spans_of_walk : Walk → List SpelledSpan × Option Fault
+spans_of_walk w = (map span_of w.starts, w.stop)
 
-unfoldable pub items : List ℕ → List Span × Option Fault
-items text = spans_on (walk_of text)
+unfoldable pub items : List ℕ → List SpelledSpan × Option Fault
+items text = spans_of_walk (walk_of text)
 
 -- the sum after some additions, if there is room for each
 unfoldable pub add_all : ℕ → List Addition → Option ℕ
 add_all t [] = Some t
-add_all t (x ∷ xs) = if room t x then add_all (t + addition_nanos x) xs else None
+add_all t (x ∷ xs) = if has_room t x then add_all (t + addition_nanos x) xs else None
 
 -- the sum after t and a span, if the span keeps the limits
-unfoldable pub add_span : ℕ → Span → Option ℕ
+unfoldable pub add_span : ℕ → SpelledSpan → Option ℕ
 add_span t s = if fits s then add_all t (additions_of s) else None
 
 -- what spans add up to after t, unless they break a limit, or else the fault that stops them
-unfoldable pub sum_spans : ℕ → List (Result Span Fault) → Result ℕ Fault
+unfoldable pub sum_spans : ℕ → List (Result SpelledSpan Fault) → Result ℕ Fault
 sum_spans t [] = Ok t
 sum_spans t (Err e ∷ items) = Err e
 sum_spans t (Ok s ∷ items) = elim (add_span t s) [ None ↦ Err NumberOverflow | Some u ↦ sum_spans u items ]

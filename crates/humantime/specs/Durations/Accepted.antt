@@ -4,7 +4,7 @@ use Rattle.std.specs.List.{AllByRecursion}
 use Rattle.humantime.specs.Texts.{decimal_value}
 use Rattle.humantime.specs.Durations.Characters.{significant, u64_max, bare_zero}
 use Rattle.humantime.specs.Durations.Units.{Addition, Nanos, Seconds, Scale, scale_of_word}
-use Rattle.humantime.specs.Durations.Spans.{Span, Reads}
+use Rattle.humantime.specs.Durations.Spans.{SpelledSpan, Reads}
 use Rattle.humantime.specs.Values.{nanos_per_second}
 
 -- Gives the number of an addition, whatever it counts.
@@ -30,7 +30,7 @@ of_kind (Seconds _) n = Seconds n
 abbrev pub times : ℕ → Addition → Addition
 times n x = of_kind x (n * amount x)
 
--- Gives the part of an addition that the digits behind a point stand for, rounded down.
+-- Gives the part of an addition that the digits after a point stand for, rounded down.
 abbrev pub part : List ℕ → Addition → Addition
 part ds x = of_kind x (decimal_value ds * amount x / 10 ^ length ds)
 
@@ -40,39 +40,43 @@ fraction_additions (Some x) (Some ds) = part ds x ∷ []
 fraction_additions _ _ = []
 
 -- Gives what a span adds where its word has this scale: its number first, and then its fraction.
-abbrev pub additions_at : Option Scale → Span → List Addition
+abbrev pub additions_at : Option Scale → SpelledSpan → List Addition
 additions_at None s = []
 additions_at (Some u) s = times (decimal_value s.number) u.one ∷ fraction_additions u.fraction s.fraction
 
 -- Gives what a span adds.
-abbrev pub additions_of : Span → List Addition
+abbrev pub additions_of : SpelledSpan → List Addition
 additions_of s = additions_at (scale_of_word s.word) s
 
 -- Lists what the spans add, each number before its fraction.
-abbrev pub additions : List Span → List Addition
+abbrev pub additions : List SpelledSpan → List Addition
 additions spans = flat_map additions_of spans
 
 -- Sums what the spans add, in nanoseconds.
-abbrev pub value : List Span → ℕ
+abbrev pub value : List SpelledSpan → ℕ
 value spans = total (additions spans)
+
+-- Tests whether a number fits a `u64`.
+abbrev pub fits_u64 : ℕ → Bool
+fits_u64 n = nat_le n u64_max
 
 -- Tests whether there is something and it passes a test.
 abbrev pub is_some_and : {A : Type 0} → (A → Bool) → Option A → Bool
 is_some_and passes None = false
 is_some_and passes (Some x) = passes x
 
--- Tests whether the number exceeds a `u64`, or the fraction 19 digits without trailing zeros.
-abbrev pub too_long : Span → Bool
+-- Tests whether the number exceeds a `u64`, or the fraction has more than 19 digits, trailing zeros apart.
+abbrev pub too_long : SpelledSpan → Bool
 too_long s = nat_lt u64_max (decimal_value s.number) || is_some_and (λ ds. nat_lt 19 (length (significant ds))) s.fraction
 
 -- The span is not `too_long`, and its word a unit's.
-pub record Formed (s : Span) : Type 0 where
+pub record Formed (s : SpelledSpan) : Type 0 where
   pub short : too_long s ≡ false
   pub word : IsSome (scale_of_word s.word)
 
 -- Tests whether `0.ds` times `n` is whole, and `ds` times `n` fits a `u64`.
 abbrev pub is_whole_part : ℕ → List ℕ → Bool
-is_whole_part n ds = nat_le (decimal_value ds * n) u64_max && (decimal_value ds * n % 10 ^ length ds == 0)
+is_whole_part n ds = fits_u64 (decimal_value ds * n) && (decimal_value ds * n % 10 ^ length ds == 0)
 
 -- Tests a fraction, if any, without trailing zeros: `is_whole_part`, or empty where its unit has no fractions.
 abbrev pub fraction_fits : Option Addition → Option (List ℕ) → Bool
@@ -81,21 +85,22 @@ fraction_fits None (Some ds) = length (significant ds) == 0
 fraction_fits (Some x) (Some ds) = is_whole_part (amount x) (significant ds)
 
 -- Tests for a unit's word, number times unit within a `u64`, and a fraction that fits.
-abbrev pub fits : Span → Bool
-fits s = is_some_and (λ u. nat_le (decimal_value s.number * amount u.one) u64_max && fraction_fits u.fraction s.fraction)
+abbrev pub fits : SpelledSpan → Bool
+fits s = is_some_and (λ u. fits_u64 (decimal_value s.number * amount u.one) && fraction_fits u.fraction s.fraction)
     (scale_of_word s.word)
 
--- Tests whether the sum's whole seconds fit a `u64`, as do nanoseconds added to those of `t` below a second.
-abbrev pub room : ℕ → Addition → Bool
-room t (Nanos n) = nat_le (t % nanos_per_second + n) u64_max && nat_le ((t + n) / nanos_per_second) u64_max
-room t (Seconds n) = nat_le (t / nanos_per_second + n) u64_max
+-- Tests whether an addition can follow a sum of `t` nanoseconds: the whole seconds of the new sum fit a `u64`. So do nanoseconds that are
+-- added, together with those of `t` below a second.
+abbrev pub has_room : ℕ → Addition → Bool
+has_room t (Nanos n) = fits_u64 (t % nanos_per_second + n) && fits_u64 ((t + n) / nanos_per_second)
+has_room t (Seconds n) = fits_u64 (t / nanos_per_second + n)
 
 -- Each addition has room after those before it.
 abbrev pub AllHaveRoom : List Addition → Type 0
-AllHaveRoom xs = (before after : List Addition) (x : Addition) → xs ≡ before ++ x ∷ after → room (total before) x ≡ true
+AllHaveRoom xs = (before after : List Addition) (x : Addition) → xs ≡ before ++ x ∷ after → has_room (total before) x ≡ true
 
 -- Each span is formed and fits, and each addition has room.
-pub record WithinLimits (spans : List Span) : Type 0 where
+pub record WithinLimits (spans : List SpelledSpan) : Type 0 where
   pub formed : AllByRecursion Formed spans
   pub fit : AllByRecursion (λ s. fits s ≡ true) spans
   pub room : AllHaveRoom (additions spans)
@@ -105,4 +110,4 @@ pub data Accepted (text : List ℕ) (d : ℕ) : Type 0 where
   -- it is exactly `0`
   Bare_zero : text ≡ bare_zero → d ≡ 0 → Accepted text d
   -- it is spans within the limits that add up to d
-  Sum_of : (spans : List Span) → Reads text spans → WithinLimits spans → value spans ≡ d → Accepted text d
+  Sum_of : (spans : List SpelledSpan) → Reads text spans → WithinLimits spans → value spans ≡ d → Accepted text d

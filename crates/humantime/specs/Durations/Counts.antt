@@ -29,10 +29,10 @@ pub record AreGreatest (ws : List ℕ) (d : ℕ) (counts : List ℕ) : Type 0 wh
       → IsTrue (is_le (slice_cmp nat_cmp others counts))
 
 -- Of nine counts whose weighted sum is `d`, these are lexicographically greatest.
-abbrev pub Counts : ℕ → List ℕ → Type 0
-Counts d counts = AreGreatest weights d counts
+abbrev pub AreCounts : ℕ → List ℕ → Type 0
+AreCounts d counts = AreGreatest weights d counts
 
--- A suffix is what stands behind a count, and whether it takes an `s` above one.
+-- A suffix is what follows a count, and whether it takes an `s` above one.
 abbrev pub Suffix : Type 0
 Suffix = List ℕ × Bool
 
@@ -56,13 +56,13 @@ joined_by_space [] = codes "0s"
 joined_by_space ps = join_with_byte (byte " ") ps
 
 -- The canonical text of `d` nanoseconds is its nonzero counts with suffixes, joined by one space, or `0s`.
-pub record Canon (d : ℕ) (bytes : List ℕ) : Type 0 where
+pub record IsCanonicalText (d : ℕ) (bytes : List ℕ) : Type 0 where
   pub counts : List ℕ
-  pub are : Counts d counts
+  pub are : AreCounts d counts
   pub shown : bytes ≡ joined_by_space (printed_counts counts suffixes)
 
 -- The first text is accepted; the second is its duration's canonical text.
 pub record IsCanonicalOf (bytes printed : List ℕ) : Type 0 where
   pub duration : ℕ
   pub accepted : Accepted (chars bytes) duration
-  pub canon : Canon duration printed
+  pub canon : IsCanonicalText duration printed

@@ -1,5 +1,5 @@
 -- What an error of a duration's text says, and its message. A text is its bytes here.
-use Rattle.std.specs.Prelude.{◌≡◌, ℕ, ◌<◌, ◌≤◌, List, length, Result, ⊤, slice_range, ◌++◌, codes, decimal, ◌∷◌, []}
+use Rattle.std.specs.Prelude.{◌≡◌, ℕ, ◌<◌, ◌≤◌, List, length, Option, Some, None, Result, ⊤, slice_range, ◌++◌, codes, decimal, ◌∷◌, []}
 use Rattle.std.specs.Borrow.{Bor}
 use Rattle.std.specs.Str.{IsCharBoundary}
 use Rattle.std.specs.Result.{result_map_both}
@@ -43,6 +43,14 @@ PointsInto bytes (errors.NumberExpected at) = IsPlaceIn bytes at
 PointsInto bytes (errors.UnknownUnit start end unit value) = IsPartOf bytes unit.now start end
 PointsInto bytes errors.NumberOverflow = ⊤
 PointsInto bytes errors.Empty = ⊤
+
+-- Gives the byte offset to which a fault points: 0 for a text without spans, and none where a limit is broken.
+abbrev pub place_of : Fault → Option ℕ
+place_of (InvalidCharacter at) = Some at
+place_of (NumberExpected at) = Some at
+place_of (UnknownUnit start end unit value) = Some start
+place_of NumberOverflow = None
+place_of Empty = Some 0
 
 -- Gives the message of a number with no unit, or of a unit that is no unit's word.
 abbrev pub unit_message : List ℕ → ℕ → List ℕ

@@ -3,7 +3,7 @@
 use Rattle.std.specs.Prelude.{ℕ, true, false, List, [], ◌∷◌, Option, Some, None, IsSome, if◌then◌else◌, ◌≡◌, ◌≢◌, ◌⊎◌, ◌++◌, drop, option_map, unwrap_or, encode_utf8_all}
 use Rattle.humantime.specs.Texts.{take_while, drop_while, begins, ends, decimal_value}
 use Rattle.humantime.specs.Durations.Characters.{is_letter, is_numeric, is_point, digits, is_whitespace, is_digit, byte_length, offset_of, bare_zero}
-use Rattle.humantime.specs.Durations.Spans.{Span, SpellsAll}
+use Rattle.humantime.specs.Durations.Spans.{SpelledSpan, SpellsAll}
 use Rattle.humantime.specs.Durations.Units.{scale_of_word}
 use Rattle.humantime.specs.Durations.Accepted.{too_long, WithinLimits}
 
@@ -16,18 +16,18 @@ abbrev pub after_number : List ℕ → List ℕ
 after_number rest = drop_while is_numeric rest
 
 -- Gives what follows the point that begins a text, if one does.
-abbrev pub behind_point : List ℕ → Option (List ℕ)
-behind_point text = if begins is_point text then Some (drop 1 text) else None
+abbrev pub after_point : List ℕ → Option (List ℕ)
+after_point text = if begins is_point text then Some (drop 1 text) else None
 
--- Gives the digits of the fraction behind the number that begins a rest, if a point follows that number.
+-- Gives the digits of the fraction after the number that begins a rest, if a point follows that number.
 abbrev pub fraction_of : List ℕ → Option (List ℕ)
-fraction_of rest = option_map number_of (behind_point (after_number rest))
+fraction_of rest = option_map number_of (after_point (after_number rest))
 
 -- Gives what follows the number and the fraction that begin a rest.
 abbrev pub after_fraction : List ℕ → List ℕ
-after_fraction rest = unwrap_or (option_map after_number (behind_point (after_number rest))) (after_number rest)
+after_fraction rest = unwrap_or (option_map after_number (after_point (after_number rest))) (after_number rest)
 
--- Gives the letters behind the number and the fraction that begin a rest.
+-- Gives the letters after the number and the fraction that begin a rest.
 abbrev pub word_of : List ℕ → List ℕ
 word_of rest = take_while is_letter (after_fraction rest)
 
@@ -36,7 +36,7 @@ abbrev pub after_word : List ℕ → List ℕ
 after_word rest = drop_while is_letter (after_fraction rest)
 
 -- Gives the span that begins a rest: number, fraction and word, each the longest that stands there.
-abbrev pub span_of : List ℕ → Span
+abbrev pub span_of : List ℕ → SpelledSpan
 span_of rest = record { number = number_of rest; fraction = fraction_of rest; word = word_of rest }
 
 -- A fault is an error with byte offsets and its unit's bytes.
@@ -48,7 +48,7 @@ pub data Fault : Type 0 where
   Empty : Fault
 
 -- The text is a prefix that spells the spans, and then a rest that does not begin with whitespace.
-pub record Split (text front : List ℕ) (spans : List Span) (rest : List ℕ) : Type 0 where
+pub record Split (text front : List ℕ) (spans : List SpelledSpan) (rest : List ℕ) : Type 0 where
   pub whole : text ≡ front ++ rest
   pub spelled : SpellsAll front spans
   pub no_whitespace : begins is_whitespace rest ≡ false
@@ -70,7 +70,7 @@ pub record BeginsSpan (rest : List ℕ) : Type 0 where
   pub ended : EndsSpan (after_word rest)
 
 -- The first nine rows: after the spans, the rest begins no whole span, and the fault is `e`.
-pub data Stops (text front : List ℕ) (spans : List Span) (rest : List ℕ) (e : Fault) : Type 0 where
+pub data Stops (text front : List ℕ) (spans : List SpelledSpan) (rest : List ℕ) (e : Fault) : Type 0 where
   -- The text is empty or has only whitespace.
   Only_whitespace : spans ≡ [] → rest ≡ [] → e ≡ Empty → Stops text front spans rest e
   -- At the start, or after a span and whitespace, stands something other than a digit.
@@ -99,7 +99,7 @@ pub data Stops (text front : List ℕ) (spans : List Span) (rest : List ℕ) (e 
       → Stops text front spans rest e
 
 -- The tenth row: a whole span begins the rest, and with it the spans break a limit.
-pub record BreaksLimit (spans : List Span) (rest : List ℕ) (e : Fault) : Type 0 where
+pub record BreaksLimit (spans : List SpelledSpan) (rest : List ℕ) (e : Fault) : Type 0 where
   pub span : BeginsSpan rest
   pub beyond : ¬ (WithinLimits (spans ++ span_of rest ∷ []))
   pub fault : e ≡ NumberOverflow
@@ -109,7 +109,7 @@ pub record HasFault (text : List ℕ) (e : Fault) : Type 0 where
   pub not_zero : text ≢ bare_zero
   pub front : List ℕ
   pub rest : List ℕ
-  pub spans : List Span
+  pub spans : List SpelledSpan
   pub split : Split text front spans rest
   pub within : WithinLimits spans
   pub row : Stops text front spans rest e ⊎ BreaksLimit spans rest e

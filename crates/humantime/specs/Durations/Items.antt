@@ -2,19 +2,19 @@
 use Rattle.std.specs.Prelude.{◌≡◌, ◌≢◌, List, ℕ, [], Option, Some, None, true, ◌∷◌, ◌++◌, Result, Ok, Err, map, option_to_list, option_map}
 use Rattle.std.specs.List.{AllByRecursion}
 use Rattle.std.specs.Str.{byte}
-use Rattle.humantime.specs.Durations.Spans.{Span, Only, Spells}
+use Rattle.humantime.specs.Durations.Spans.{SpelledSpan, Only, Spells}
 use Rattle.humantime.specs.Durations.Accepted.{Formed}
 use Rattle.humantime.specs.Durations.Faults.{Fault, Split, Stops}
 use Rattle.humantime.specs.Texts.{begins, ends, drop_while, decimal_value}
 use Rattle.humantime.specs.Durations.Characters.{is_whitespace, is_digit, offset_of}
 
 -- The text ends after the spans, at least one; or it stops there with the fault.
-abbrev pub Ends : List ℕ → List ℕ → List Span → List ℕ → Option Fault → Type 0
+abbrev pub Ends : List ℕ → List ℕ → List SpelledSpan → List ℕ → Option Fault → Type 0
 Ends text front spans rest None = (rest ≡ []) × (spans ≢ [])
 Ends text front spans rest (Some e) = Stops text front spans rest e
 
 -- The text is these spans, each formed, then the end or the fault.
-pub record Items (text : List ℕ) (spans : List Span) (stop : Option Fault) : Type 0 where
+pub record Items (text : List ℕ) (spans : List SpelledSpan) (stop : Option Fault) : Type 0 where
   pub front : List ℕ
   pub rest : List ℕ
   pub split : Split text front spans rest
@@ -40,13 +40,13 @@ pub record IsDigitSlice (text slice : List ℕ) : Type 0 where
   pub first_digit : begins is_digit slice ≡ true
   pub last_digit : ends is_digit slice ≡ true
 
--- There is no slice and no text; or the text begins with a point, and the slice goes from the first digit behind it to the last.
+-- There is no slice and no text; or the text begins with a point, and the slice goes from the first digit after it to the last.
 abbrev pub IsFractionView : List ℕ → Option (List ℕ) → Type 0
 IsFractionView text None = text ≡ []
-IsFractionView text (Some slice) = (behind : List ℕ) × (text ≡ byte "." ∷ behind) × IsDigitSlice behind slice
+IsFractionView text (Some slice) = (after : List ℕ) × (text ≡ byte "." ∷ after) × IsDigitSlice after slice
 
 -- From `here` stand the span and then `next`; the span lends `x`.
-pub record IsSpanView (text here : List ℕ) (s : Span) (x : SpanView) (next : List ℕ) : Type 0 where
+pub record IsSpanView (text here : List ℕ) (s : SpelledSpan) (x : SpanView) (next : List ℕ) : Type 0 where
   pub spelled : Spells here s next
   pub number : IsDigitSlice spelled.number_text x.number
   pub fraction : IsFractionView spelled.fraction_text x.fraction
@@ -56,7 +56,7 @@ pub record IsSpanView (text here : List ℕ) (s : Span) (x : SpanView) (next : L
   pub value : x.value ≡ decimal_value s.number
 
 -- From `here` to `end` the text spells the spans, and each lends its part.
-abbrev pub AreSpanViews : List ℕ → List ℕ → List Span → List SpanView → List ℕ → Type 0
+abbrev pub AreSpanViews : List ℕ → List ℕ → List SpelledSpan → List SpanView → List ℕ → Type 0
 AreSpanViews text here [] [] end = here ≡ end
 AreSpanViews text here (s ∷ ss) (x ∷ xs) end = (next : List ℕ) × IsSpanView text here s x next × AreSpanViews text next ss xs end
 AreSpanViews text here _ _ end = ⊥
@@ -67,7 +67,7 @@ items_of found stop = map Ok found ++ option_to_list (option_map Err stop)
 
 -- The items are what each span lends, then the fault, if any.
 pub record AreItems (text : List ℕ) (listed : List (Result SpanView Fault)) : Type 0 where
-  pub spans : List Span
+  pub spans : List SpelledSpan
   pub stop : Option Fault
   pub slices : List SpanView
   pub items : Items text spans stop

@@ -7,7 +7,7 @@ use Rattle.humantime.specs.Texts.{begins}
 use Rattle.humantime.specs.Durations.Characters.{is_whitespace, is_letter, is_numeric, is_digit, digits}
 
 -- A span has a number's digits, perhaps a fraction's, and a word.
-pub record Span : Type 0 where
+pub record SpelledSpan : Type 0 where
   pub number : List ℕ
   pub fraction : Option (List ℕ)
   pub word : List ℕ
@@ -27,10 +27,10 @@ IsLetters text = Only is_letter text × (text ≢ [])
 -- Without a fraction the text is empty, else a point, then digits, at least one, among any whitespace.
 abbrev pub SpellsFraction : List ℕ → Option (List ℕ) → Type 0
 SpellsFraction text None = text ≡ []
-SpellsFraction text (Some ds) = (behind : List ℕ) × (text ≡ byte "." ∷ behind) × HoldsDigits behind ds × (ds ≢ [])
+SpellsFraction text (Some ds) = (after : List ℕ) × (text ≡ byte "." ∷ after) × HoldsDigits after ds × (ds ≢ [])
 
 -- The text is the span's number, from a digit on, fraction, word and any whitespace, then `rest`.
-pub record Spells (text : List ℕ) (span : Span) (rest : List ℕ) : Type 0 where
+pub record Spells (text : List ℕ) (span : SpelledSpan) (rest : List ℕ) : Type 0 where
   pub number_text : List ℕ
   pub fraction_text : List ℕ
   pub whitespace : List ℕ
@@ -42,12 +42,12 @@ pub record Spells (text : List ℕ) (span : Span) (rest : List ℕ) : Type 0 whe
   pub only_whitespace : Only is_whitespace whitespace
 
 -- The text spells the spans, one after the other.
-abbrev pub SpellsEach : List ℕ → List Span → Type 0
+abbrev pub SpellsEach : List ℕ → List SpelledSpan → Type 0
 SpellsEach text [] = text ≡ []
 SpellsEach text (span ∷ spans) = (rest : List ℕ) × Spells text span rest × SpellsEach rest spans
 
 -- The text is whitespace, or none, and then spells the spans.
-pub record SpellsAll (text : List ℕ) (spans : List Span) : Type 0 where
+pub record SpellsAll (text : List ℕ) (spans : List SpelledSpan) : Type 0 where
   pub whitespace : List ℕ
   pub body : List ℕ
   pub whole : text ≡ whitespace ++ body
@@ -55,5 +55,5 @@ pub record SpellsAll (text : List ℕ) (spans : List Span) : Type 0 where
   pub each : SpellsEach body spans
 
 -- The text is these spans, at least one, after any whitespace.
-abbrev pub Reads : List ℕ → List Span → Type 0
+abbrev pub Reads : List ℕ → List SpelledSpan → Type 0
 Reads text spans = SpellsAll text spans × (spans ≢ [])

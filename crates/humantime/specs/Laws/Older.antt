@@ -6,7 +6,7 @@ use Rattle.humantime.specs.Texts.{decimal_value}
 use Rattle.humantime.specs.Durations.Characters.{u64_max, bare_zero}
 use Rattle.humantime.specs.Answers.Durations.{duration_answer}
 use Rattle.humantime.specs.Durations.Units.{Addition, Scale, scale_of_word}
-use Rattle.humantime.specs.Durations.Spans.{Span, Reads}
+use Rattle.humantime.specs.Durations.Spans.{SpelledSpan, Reads}
 use Rattle.humantime.specs.Durations.Accepted.{amount, additions, value, is_whole_part, AllHaveRoom, Accepted}
 
 -- While zeros at its end counted, a fraction had at most 19 digits and was a whole number of nanoseconds or of seconds; nanoseconds had
@@ -18,7 +18,7 @@ OlderFraction (Some x) (Some ds) = (length ds ≤ 19) × (is_whole_part (amount 
 
 -- The word was a unit's, the number and its product with the unit were at most the greatest `u64`, and the fraction kept its limits with
 -- each of its digits.
-pub record OlderFormed (s : Span) : Type 0 where
+pub record OlderFormed (s : SpelledSpan) : Type 0 where
   pub unit : Scale
   pub word : scale_of_word s.word ≡ Some unit
   pub number : decimal_value s.number ≤ u64_max
@@ -30,7 +30,7 @@ pub data AcceptedWithZeros (text : List ℕ) (v : ℕ) : Type 0 where
   -- it was exactly `0`
   Older_zero : text ≡ bare_zero → v ≡ 0 → AcceptedWithZeros text v
   -- it was spans within the limits that add up to v
-  Older_sum : (spans : List Span) → Reads text spans → AllByRecursion OlderFormed spans → AllHaveRoom (additions spans)
+  Older_sum : (spans : List SpelledSpan) → Reads text spans → AllByRecursion OlderFormed spans → AllHaveRoom (additions spans)
       → value spans ≡ v → AcceptedWithZeros text v
 
 -- The text was accepted while zeros at the end of a fraction counted.

@@ -1,7 +1,7 @@
 -- What holds of printed texts. They are bytes; `chars` gives their characters.
 use Rattle.std.specs.Prelude.{◌≡◌, ◌↔◌, ℕ, ◌≤◌, List, length, chars, slice_index, Ok, Err}
 use Rattle.humantime.specs.Durations.Accepted.{Accepted}
-use Rattle.humantime.specs.Durations.Counts.{Counts, Canon, IsCanonicalOf}
+use Rattle.humantime.specs.Durations.Counts.{AreCounts, IsCanonicalText, IsCanonicalOf}
 use Rattle.humantime.specs.Answers.Durations.{duration_text, canonical_answer, duration_answer}
 use Rattle.humantime.specs.Durations.Faults.{Fault, HasFault}
 use Rattle.humantime.specs.Laws.ExactlyOne.{ExactlyOne}
@@ -9,28 +9,28 @@ use Rattle.humantime.specs.Laws.ExactlyOne.{ExactlyOne}
 -- A duration's one canonical text is printed, and accepted with that duration.
 pub record PrintsAndReads (d : ℕ) : Type 0 where
   -- they have one canonical text, and no other
-  pub one : ExactlyOne (Canon d)
+  pub one : ExactlyOne (IsCanonicalText d)
   -- it is the text that is printed
-  pub printed : Canon d (duration_text d)
-  pub only : (bytes : List ℕ) → Canon d bytes → bytes ≡ duration_text d
+  pub printed : IsCanonicalText d (duration_text d)
+  pub only : (bytes : List ℕ) → IsCanonicalText d bytes → bytes ≡ duration_text d
   -- it is accepted with d
-  pub reads : (bytes : List ℕ) → Canon d bytes → Accepted (chars bytes) d
+  pub reads : (bytes : List ℕ) → IsCanonicalText d bytes → Accepted (chars bytes) d
   -- and so it is answered
   pub answer : duration_answer (chars (duration_text d)) ≡ Ok d
 
 -- Two durations' canonical and printed texts are equal exactly where the durations are.
 pub record PrintApart (a b : ℕ) : Type 0 where
   -- the canonical texts of a and of b nanoseconds are equal exactly where a and b are
-  pub canon : (bytes other : List ℕ) → Canon a bytes → Canon b other → ((bytes ≡ other) ↔ (a ≡ b))
+  pub canon : (bytes other : List ℕ) → IsCanonicalText a bytes → IsCanonicalText b other → ((bytes ≡ other) ↔ (a ≡ b))
   -- and so are the texts that are printed
   pub text : (duration_text a ≡ duration_text b) ↔ (a ≡ b)
 
 -- A canonical text has at most 64 bytes, 11 months and 30 days.
 pub record IsBounded (d : ℕ) : Type 0 where
   -- the text has at most 64 bytes
-  pub length : (bytes : List ℕ) → Canon d bytes → length bytes ≤ 64
+  pub length : (bytes : List ℕ) → IsCanonicalText d bytes → length bytes ≤ 64
   -- its counts are at most 11 months and at most 30 days
-  pub counts : (counts : List ℕ) → Counts d counts → ((slice_index counts 1 ≤ 11) × (slice_index counts 2 ≤ 30))
+  pub counts : (counts : List ℕ) → AreCounts d counts → ((slice_index counts 1 ≤ 11) × (slice_index counts 2 ≤ 30))
 
 -- An accepted text's canonical text keeps the value and is canonical again; it is answered, or the fault.
 pub record IsCanonicalAgain (s : List ℕ) : Type 0 where

@@ -2,11 +2,11 @@
 use Rattle.std.specs.Prelude.{ℕ, ◌+◌, ◌*◌, ◌/◌, ◌%◌, ◌^◌, ◌&&◌, ◌==◌, nat_le, Option, Some, None, if◌then◌else◌}
 use Rattle.humantime.specs.Durations.Characters.{u64_max}
 use Rattle.humantime.specs.Durations.Units.{Addition}
-use Rattle.humantime.specs.Durations.Accepted.{amount, addition_nanos, of_kind, times, room}
+use Rattle.humantime.specs.Durations.Accepted.{amount, addition_nanos, of_kind, times, has_room}
 
 -- the sum with one addition, where there is room for it
 abbrev pub add_one : ℕ → Addition → Option ℕ
-add_one t x = if room t x then Some (t + addition_nanos x) else None
+add_one t x = if has_room t x then Some (t + addition_nanos x) else None
 
 -- the sum with so many times an addition
 abbrev pub add_times : ℕ → Addition → ℕ → Option ℕ

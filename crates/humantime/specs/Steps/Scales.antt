@@ -8,7 +8,7 @@ use Rattle.humantime.specs.Values.{nanos_per_micro, nanos_per_milli, seconds_per
 use Rattle.humantime.specs.Texts.{decimal_value}
 use Rattle.humantime.specs.Durations.Characters.{significant}
 use Rattle.humantime.specs.Durations.Units.{Scale, whole_nanos, in_nanos, in_seconds_and_nanos, in_seconds, scale_of_word}
-use Rattle.humantime.specs.Durations.Spans.{Span}
+use Rattle.humantime.specs.Durations.Spans.{SpelledSpan}
 
 abbrev pub scale_of : Unit → Scale
 scale_of Nanosecond = whole_nanos
@@ -34,7 +34,7 @@ abbrev pub parts_of : Fraction → Counted
 parts_of f = (f.value, f.count, f.all)
 
 -- The amount is the one that the span stands for.
-pub record IsAmountOf (a : Amount) (s : Span) : Type 0 where
+pub record IsAmountOf (a : Amount) (s : SpelledSpan) : Type 0 where
   pub unit : scale_of_word s.word ≡ Some (scale_of a.unit)
   pub value : a.value ≡ decimal_value s.number
   pub fraction : option_map parts_of a.fraction ≡ option_map counted s.fraction

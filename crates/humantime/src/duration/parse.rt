@@ -1,7 +1,7 @@
 //! Whole texts.
 
-ghost use Rattle.std.specs.Prelude.{◌≡◌, ◌↔◌, ℕ, chars, IfErr};
-ghost use Rattle.humantime.specs.Prelude.{Accepted, AreItems, Fault, HasFault, PointsInto, duration_answer, items_left, result_view, text_of};
+ghost use Rattle.std.specs.Prelude.{◌≡◌, chars, IfErr};
+ghost use Rattle.humantime.specs.Prelude.{AreItems, IsDurationAnswer, PointsInto, items_left, result_view, text_of};
 ghost use Rattle.humantime.specs.Answers.Items.{sum_items, item_views};
 
 use crate::duration::error::DurationError;
@@ -101,10 +101,7 @@ fn sum_of<'a>(text: &'a str) -> Result<StdDuration, DurationError<'a>>
 /// );
 /// ```
 pub fn parse_duration(s: &str) -> Result<StdDuration, DurationError<'_>>
-    ensures value { (v : ℕ) → (result_view result ≡ Ok v) ↔ Accepted (chars s.now) v }
-    ensures fault { (e : Fault) → (result_view result ≡ Err e) ↔ HasFault (chars s.now) e }
-    ensures answer { result_view result ≡ duration_answer (chars s.now) }
-    ensures place { IfErr result (PointsInto s.now) }
+    ensures { IsDurationAnswer s.now result }
 {
     if s.len() == 1 && s == "0" {
         return Ok(StdDuration::ZERO);

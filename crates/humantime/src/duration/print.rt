@@ -3,7 +3,7 @@
 ghost use Rattle.std.specs.Prelude.{◌≡◌, ◌<◌, ◌≤◌, ◌↔◌, ℕ, List, take, chars, IfOk, IfErr, OnErr, Ok, Some};
 ghost use Rattle.std.specs.Borrow.{sem};
 ghost use Rattle.std.specs.Str.{IsUtf8};
-ghost use Rattle.humantime.specs.Prelude.{Canon, Fault, HasFault, IsCanonicalOf, KeptAtErr, PointsInto, canonical_answer, duration_answer, duration_end, duration_text, text_result_view};
+ghost use Rattle.humantime.specs.Prelude.{IsCanonicalText, Fault, HasFault, IsCanonicalOf, KeptAtErr, PointsInto, canonical_answer, duration_answer, duration_end, duration_text, text_result_view};
 ghost use Rattle.humantime.specs.Steps.ResultViews.{result_view_by};
 
 use crate::buffer::str_prefix;
@@ -95,7 +95,7 @@ impl FormattedDuration {
     /// assert_eq!(rt; format_duration(StdDuration::from_secs(90)).text(&mut buf), "1m 30s");
     /// ```
     pub fn text<'b>(&self, buf: &'b mut [u8; 64]) -> &'b str
-        ensures canon { Canon self.now result.now }
+        ensures canon { IsCanonicalText self.now result.now }
         ensures text { result.now ≡ duration_text self.now }
         ensures reads_back { duration_answer (chars result.now) ≡ Ok self.now }
     {

@@ -2,7 +2,7 @@
 
 ghost use Rattle.std.specs.Prelude.{◌≡◌, ◌≤◌, ◌^◌, ◌*◌, SomeIff};
 ghost use Rattle.humantime.specs.Durations.Characters.{u64_max};
-ghost use Rattle.humantime.specs.Durations.Spans.{Span};
+ghost use Rattle.humantime.specs.Durations.Spans.{SpelledSpan};
 ghost use Rattle.humantime.specs.Steps.Adding.{add_times, part_of, add_part};
 ghost use Rattle.humantime.specs.Answers.Walks.{add_span};
 ghost use Rattle.humantime.specs.Steps.Scales.{scale_of, IsAmountOf};
@@ -93,7 +93,7 @@ fn add_fraction(total: StdDuration, fraction: Fraction, unit: Unit) -> Option<St
 /// The duration and a span: first its number, then its fraction.
 #[inline(always)]
 pub(crate) fn add_amount(total: StdDuration, amount: Amount) -> Option<StdDuration>
-    ensures { (s : Span) → IsAmountOf amount s → result ≡ add_span total s }
+    ensures { (s : SpelledSpan) → IsAmountOf amount s → result ≡ add_span total s }
 {
     let (value, unit) = (amount.value, amount.unit);
     match amount.fraction {

@@ -2,7 +2,7 @@
 
 ghost use Rattle.std.specs.Prelude.{◌≡◌, ◌+◌, ◌*◌, ◌/◌, ◌<◌, ◌≤◌, ◌↔◌, ℕ, List, [], chars, drop, slice_range, IfSome, IsSome, IsOk, IsOkAnd, IsErrAnd, IsTrue, Ok, Err, Some};
 ghost use Rattle.std.specs.Result.{result_map_both};
-ghost use Rattle.humantime.specs.Prelude.{Canon, Fault, InvalidCharacter, NumberExpected, UnknownUnit, NumberOverflow, Empty, duration_answer, duration_end, result_view, fault_of, nanos_per_second};
+ghost use Rattle.humantime.specs.Prelude.{IsCanonicalText, Fault, InvalidCharacter, NumberExpected, UnknownUnit, NumberOverflow, Empty, duration_answer, duration_end, result_view, fault_of, nanos_per_second};
 
 use humantime::{DurationError, StdDuration, format_duration, parse_duration};
 
@@ -68,7 +68,7 @@ pub fn is_same_error(a: &DurationError<'_>, b: &DurationError<'_>) -> bool
 
 /// Returns the text of a duration of `secs` seconds.
 pub fn shown_seconds<'b>(secs: u64, buf: &'b mut [u8; 64]) -> &'b str
-    ensures { Canon (secs * nanos_per_second) result.now }
+    ensures { IsCanonicalText (secs * nanos_per_second) result.now }
 {
     format_duration(StdDuration::from_secs(secs)).text(buf)
 }

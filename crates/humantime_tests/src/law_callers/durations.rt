@@ -1,7 +1,7 @@
 //! Callers of the laws of durations.
 
 ghost use Rattle.std.specs.Prelude.{◌≡◌, ◌≢◌, ◌+◌, ◌/◌, ◌≤◌, ◌++◌, ◌↔◌, ◌⊎◌, ℕ, List, Option, None, Some, Ok, Err, chars, length, option_map, slice_index, string_bytes, IfOk, IsOk, IsPermutation};
-ghost use Rattle.humantime.specs.Prelude.{Accepted, AcceptedWithZeros, AllHaveRoom, AreReordered, Canon, Counts, Fault, HasFault, IsCanonicalOf, Items, NumberOverflow, Reads, Span, WithinLimits, additions, bare_zero, canonical_answer, duration_answer, item_of, items_left, nanos_per_second, result_view, text_result_view, value, WasAccepted};
+ghost use Rattle.humantime.specs.Prelude.{Accepted, AcceptedWithZeros, AllHaveRoom, AreReordered, IsCanonicalText, AreCounts, Fault, HasFault, IsCanonicalOf, Items, NumberOverflow, Reads, SpelledSpan, WithinLimits, additions, bare_zero, canonical_answer, duration_answer, item_of, items_left, nanos_per_second, result_view, text_result_view, value, WasAccepted};
 
 use crate::callers::durations::limit_seconds;
 use humantime::laws::{
@@ -21,8 +21,8 @@ pub fn whole_seconds(text: &str) -> Result<u64, DurationError<'_>>
     ensures value { (v : ℕ) → Accepted (chars text.now) v → result_view result ≡ Ok (v / nanos_per_second) }
     ensures fault { (e : Fault) → HasFault (chars text.now) e → result_view result ≡ Err e }
     ensures either { (d : ℕ) (e : Fault) → Accepted (chars text.now) d → ¬ (HasFault (chars text.now) e) }
-    ensures stop { (ss : List Span) (ts : List Span) (o : Option Fault) (p : Option Fault) → Items (chars text.now) ss o → Items (chars text.now) ts p → (ss ≡ ts) × (o ≡ p) }
-    ensures sum { (ss : List Span) (ts : List Span) → Reads (chars text.now) ss → Reads (chars text.now) ts → value ss ≡ value ts }
+    ensures stop { (ss : List SpelledSpan) (ts : List SpelledSpan) (o : Option Fault) (p : Option Fault) → Items (chars text.now) ss o → Items (chars text.now) ts p → (ss ≡ ts) × (o ≡ p) }
+    ensures sum { (ss : List SpelledSpan) (ts : List SpelledSpan) → Reads (chars text.now) ss → Reads (chars text.now) ts → value ss ≡ value ts }
 {
     one_outcome(text);
     limit_seconds(text)
@@ -31,9 +31,9 @@ pub fn whole_seconds(text: &str) -> Result<u64, DurationError<'_>>
 /// Returns the duration that a text denotes, or its first error, as its items and their limits decide, and as the table of first
 /// errors says. A text that older rules accepted is still accepted, and keeps its value.
 pub fn decided(text: &str) -> Result<StdDuration, DurationError<'_>>
-    ensures accepted { (ss : List Span) (stop : Option Fault) → Items (chars text.now) ss stop → chars text.now ≢ bare_zero → (v : ℕ) → (result_view result ≡ Ok v) ↔ ((stop ≡ None) × WithinLimits ss × (value ss ≡ v)) }
-    ensures stopped { (ss : List Span) (e : Fault) → Items (chars text.now) ss (Some e) → chars text.now ≢ bare_zero → WithinLimits ss → result_view result ≡ Err e }
-    ensures too_large { (ss : List Span) (stop : Option Fault) → Items (chars text.now) ss stop → chars text.now ≢ bare_zero → ¬ (WithinLimits ss) → result_view result ≡ Err NumberOverflow }
+    ensures accepted { (ss : List SpelledSpan) (stop : Option Fault) → Items (chars text.now) ss stop → chars text.now ≢ bare_zero → (v : ℕ) → (result_view result ≡ Ok v) ↔ ((stop ≡ None) × WithinLimits ss × (value ss ≡ v)) }
+    ensures stopped { (ss : List SpelledSpan) (e : Fault) → Items (chars text.now) ss (Some e) → chars text.now ≢ bare_zero → WithinLimits ss → result_view result ≡ Err e }
+    ensures too_large { (ss : List SpelledSpan) (stop : Option Fault) → Items (chars text.now) ss stop → chars text.now ≢ bare_zero → ¬ (WithinLimits ss) → result_view result ≡ Err NumberOverflow }
     ensures row { (e : Fault) → (result_view result ≡ Err e) ↔ HasFault (chars text.now) e }
     ensures before { (v : ℕ) → AcceptedWithZeros (chars text.now) v → result_view result ≡ Ok v }
     ensures still { WasAccepted (chars text.now) → IsOk result }
@@ -59,9 +59,9 @@ pub fn answer_and_first_items(
 /// Returns the canonical text of a duration: there is no other, and it has at most 64 bytes. It has at most 11 months and at most
 /// 30 days.
 pub fn canonical_text<'b>(duration: StdDuration, buf: &'b mut [u8; 64]) -> &'b str
-    ensures only { (bytes : List ℕ) → Canon duration bytes → result.now ≡ bytes }
+    ensures only { (bytes : List ℕ) → IsCanonicalText duration bytes → result.now ≡ bytes }
     ensures short { length result.now ≤ 64 }
-    ensures small { (counts : List ℕ) → Counts duration counts → (slice_index counts 1 ≤ 11) × (slice_index counts 2 ≤ 30) }
+    ensures small { (counts : List ℕ) → AreCounts duration counts → (slice_index counts 1 ≤ 11) × (slice_index counts 2 ≤ 30) }
 {
     printed_duration_reads(duration);
     printed_bounds(duration);
@@ -70,7 +70,7 @@ pub fn canonical_text<'b>(duration: StdDuration, buf: &'b mut [u8; 64]) -> &'b s
 
 /// Parses the canonical text of a duration, which returns that duration.
 pub fn read_back(text: &str, duration: StdDuration) -> Result<StdDuration, DurationError<'_>>
-    ensures { Canon duration text.now → result_view result ≡ Ok duration }
+    ensures { IsCanonicalText duration text.now → result_view result ≡ Ok duration }
 {
     printed_duration_reads(duration);
     parse_duration(text)
@@ -113,7 +113,7 @@ pub fn canonical_twice<'b>(text: &str, buf: &'b mut [u8; 64]) -> Option<&'b str>
 
 /// Writes a duration into a `String` by `Display`, as its canonical text.
 pub fn duration_string(alloc: Global, duration: StdDuration) -> Result<String, AllocError>
-    ensures { IfOk result (λ s. Canon duration (string_bytes s)) }
+    ensures { IfOk result (λ s. IsCanonicalText duration (string_bytes s)) }
 {
     printed_duration_reads(duration);
     format!(in alloc; "{}", format_duration(duration))
@@ -122,9 +122,9 @@ pub fn duration_string(alloc: Global, duration: StdDuration) -> Result<String, A
 /// Returns the sum of two accepted texts, parsed from one after the other: it is accepted exactly if the additions have room, and
 /// is too large otherwise.
 pub fn sum_of<'a>(a: &str, b: &str, both: &'a str) -> Result<StdDuration, DurationError<'a>>
-    ensures sum { (ss : List Span) (ts : List Span) (u : ℕ) (v : ℕ) → Reads (chars a.now) ss → Reads (chars b.now) ts → Accepted (chars a.now) u → Accepted (chars b.now) v → both.now ≡ a.now ++ b.now → (result_view result ≡ Ok (u + v)) ↔ AllHaveRoom (additions ss ++ additions ts) }
-    ensures overflow { (ss : List Span) (ts : List Span) (u : ℕ) (v : ℕ) → Reads (chars a.now) ss → Reads (chars b.now) ts → Accepted (chars a.now) u → Accepted (chars b.now) v → both.now ≡ a.now ++ b.now → (result_view result ≡ Err NumberOverflow) ↔ ¬ (AllHaveRoom (additions ss ++ additions ts)) }
-    ensures spans { (u : ℕ) (v : ℕ) → Accepted (chars a.now) u → Accepted (chars b.now) v → both.now ≡ a.now ++ b.now → chars a.now ≢ bare_zero → chars b.now ≢ bare_zero → (ss : List Span) × (ts : List Span) × ((result_view result ≡ Ok (u + v)) ↔ AllHaveRoom (additions ss ++ additions ts)) }
+    ensures sum { (ss : List SpelledSpan) (ts : List SpelledSpan) (u : ℕ) (v : ℕ) → Reads (chars a.now) ss → Reads (chars b.now) ts → Accepted (chars a.now) u → Accepted (chars b.now) v → both.now ≡ a.now ++ b.now → (result_view result ≡ Ok (u + v)) ↔ AllHaveRoom (additions ss ++ additions ts) }
+    ensures overflow { (ss : List SpelledSpan) (ts : List SpelledSpan) (u : ℕ) (v : ℕ) → Reads (chars a.now) ss → Reads (chars b.now) ts → Accepted (chars a.now) u → Accepted (chars b.now) v → both.now ≡ a.now ++ b.now → (result_view result ≡ Err NumberOverflow) ↔ ¬ (AllHaveRoom (additions ss ++ additions ts)) }
+    ensures spans { (u : ℕ) (v : ℕ) → Accepted (chars a.now) u → Accepted (chars b.now) v → both.now ≡ a.now ++ b.now → chars a.now ≢ bare_zero → chars b.now ≢ bare_zero → (ss : List SpelledSpan) × (ts : List SpelledSpan) × ((result_view result ≡ Ok (u + v)) ↔ AllHaveRoom (additions ss ++ additions ts)) }
     ensures either { (u : ℕ) (v : ℕ) → duration_answer (chars a.now) ≡ Ok u → duration_answer (chars b.now) ≡ Ok v → both.now ≡ a.now ++ b.now → chars a.now ≢ bare_zero → chars b.now ≢ bare_zero → (result_view result ≡ Ok (u + v)) ⊎ (result_view result ≡ Err NumberOverflow) }
 {
     joined(a, b);
@@ -139,7 +139,7 @@ pub fn read_alike<'a, 'b>(
     Result<StdDuration, DurationError<'a>>,
     Result<StdDuration, DurationError<'b>>,
 )
-    ensures spans { (ss : List Span) (ts : List Span) (v : ℕ) (w : ℕ) → Reads (chars a.now) ss → Reads (chars b.now) ts → IsPermutation ss ts → result_view result.0 ≡ Ok v → result_view result.1 ≡ Ok w → v ≡ w }
+    ensures spans { (ss : List SpelledSpan) (ts : List SpelledSpan) (v : ℕ) (w : ℕ) → Reads (chars a.now) ss → Reads (chars b.now) ts → IsPermutation ss ts → result_view result.0 ≡ Ok v → result_view result.1 ≡ Ok w → v ≡ w }
     ensures zero { chars a.now ≡ bare_zero → ¬ (AreReordered (chars a.now) (chars b.now)) }
     ensures texts { (v : ℕ) (w : ℕ) → AreReordered (chars a.now) (chars b.now) → result_view result.0 ≡ Ok v → result_view result.1 ≡ Ok w → v ≡ w }
 {

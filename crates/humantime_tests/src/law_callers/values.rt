@@ -1,7 +1,7 @@
 //! Callers that use what durations, moments and dates say of themselves.
 
 ghost use Rattle.std.specs.Prelude.{◌≡◌, ◌-◌, ◌*◌, ◌≤◌, ◌≤ℤ◌, ◌+ℤ◌, ◌↔◌, ℕ, List, pos, chars, IsSome, IfSome, IsSomeAnd, Err};
-ghost use Rattle.humantime.specs.Prelude.{Canon, IsDate, UnknownUnit, day_of, duration_answer, nanos_per_second};
+ghost use Rattle.humantime.specs.Prelude.{IsCanonicalText, IsDate, UnknownUnit, day_of, duration_answer, nanos_per_second};
 
 use humantime::{
     Date, Duration, DurationError, StdDuration, SystemTime, Turns, day_number, format_duration,
@@ -9,7 +9,7 @@ use humantime::{
 
 /// Returns the text of a duration of `micros` microseconds.
 pub fn micros_text(micros: u64, buf: &mut [u8; 64]) -> &str
-    ensures { Canon (micros * 1000) result.now }
+    ensures { IsCanonicalText (micros * 1000) result.now }
 {
     format_duration(StdDuration::from_micros(micros)).text(buf)
 }
@@ -17,7 +17,7 @@ pub fn micros_text(micros: u64, buf: &mut [u8; 64]) -> &str
 /// Returns the canonical text of 2 hours and 37 minutes, as a literal.
 #[tactic(auto, using(crate::proofs::UsualTexts::two_hours_37_minutes))]
 pub fn default_text() -> &'static str
-    ensures { Canon (9420 * nanos_per_second) result.now }
+    ensures { IsCanonicalText (9420 * nanos_per_second) result.now }
 {
     "2h 37m"
 }

@@ -7,7 +7,7 @@ use Rattle.std.proofs.Math.Nat.{one-le-pow, pow-le-pow_right, mul-le-mul, mul-mo
 use Rattle.humantime.specs.Texts.{decimal_value}
 use Rattle.humantime.specs.Durations.Characters.{u64_max}
 use Rattle.humantime.specs.Durations.Units.{Addition, Scale, scale_of_word}
-use Rattle.humantime.specs.Durations.Spans.{Span}
+use Rattle.humantime.specs.Durations.Spans.{SpelledSpan}
 use Rattle.humantime.specs.Answers.Walks.{add_all, add_span}
 use Rattle.humantime.specs.Steps.Scales.{Counted, counted}
 use Rattle.humantime.specs.Steps.Adding.{add_times, part_of, add_part}
@@ -19,7 +19,7 @@ then_add None x fraction = None
 then_add (Some t) x None = Some t
 then_add (Some t) x (Some p) = add_part t x p.0 p.1
 
-pub span_adds : (t : ℕ) (s : Span) (u : Scale) (number : ℕ) (fraction : Option Counted)
+pub span_adds : (t : ℕ) (s : SpelledSpan) (u : Scale) (number : ℕ) (fraction : Option Counted)
     → scale_of_word s.word ≡ Some u → number ≡ decimal_value s.number → fraction ≡ option_map counted s.fraction
     → then_add (add_times t u.one number) u.fraction fraction ≡ add_span t s
 unfolding add_all add_span

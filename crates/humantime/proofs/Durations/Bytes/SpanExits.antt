@@ -7,7 +7,7 @@ use Rattle.humantime.specs.declared.duration.amount.Fraction.{Fraction}
 use Rattle.humantime.specs.Texts.{drop_while, take_while, decimal_value}
 use Rattle.humantime.specs.Durations.Characters.{is_letter, is_numeric, offset_of}
 use Rattle.humantime.specs.Durations.Units.{Scale, scale_of_word}
-use Rattle.humantime.specs.Durations.Faults.{number_of, after_number, behind_point, fraction_of, after_fraction, word_of, after_word, span_of, InvalidCharacter, UnknownUnit, NumberOverflow}
+use Rattle.humantime.specs.Durations.Faults.{number_of, after_number, after_point, fraction_of, after_fraction, word_of, after_word, span_of, InvalidCharacter, UnknownUnit, NumberOverflow}
 use Rattle.humantime.specs.Answers.Items.{spelled, trimmed, view_at}
 use Rattle.humantime.specs.Answers.Walks.{too_long, stop_at, ends_span}
 use Rattle.humantime.specs.Steps.Scales.{Counted, counted, parts_of}
@@ -19,7 +19,7 @@ use Rattle.humantime.proofs.Durations.Bytes.Trimming.{spelled_at}
 pub are_read : (rest : List ℕ) (v : ℕ) (n a : List ℕ) (f : Option Counted) (d : Option (List ℕ)) (bytes : List ℕ)
     → Some (v, n, a) ≡ number_at rest → Some (f, d, bytes) ≡ fraction_read a
     → (too_long (span_of rest) ≡ false) × (v ≡ decimal_value (number_of rest)) × (n ≡ take_while is_numeric rest) × (a ≡ after_number rest)
-    × (f ≡ option_map counted (fraction_of rest)) × (d ≡ option_map (take_while is_numeric) (behind_point (after_number rest))) × (bytes ≡ after_fraction rest)
+    × (f ≡ option_map counted (fraction_of rest)) × (d ≡ option_map (take_while is_numeric) (after_point (after_number rest))) × (bytes ≡ after_fraction rest)
 are_read rest v n a f d bytes x y = grind arith
 
 pub long_number : (rest : List ℕ) → None ≡ number_at rest → too_long (span_of rest) ≡ true
@@ -83,13 +83,13 @@ exit_fine text rest behind word after fraction u s h w f bytes a e l k = rw (s, 
 
 -- the slices that were read are those that the span lends
 pub view_read : (text rest number word : List ℕ) (digits : Option (Bor (List ℕ))) (start end value : ℕ)
-    → number ≡ take_while is_numeric rest → option_map (λ t. chars t.now) digits ≡ option_map (take_while is_numeric) (behind_point (after_number rest))
+    → number ≡ take_while is_numeric rest → option_map (λ t. chars t.now) digits ≡ option_map (take_while is_numeric) (after_point (after_number rest))
     → word ≡ word_of rest → start ≡ offset_of text rest → end ≡ offset_of text (after_word rest) → value ≡ decimal_value (number_of rest)
     → record { number = drop_trailing_whitespace number; fraction = option_map (λ t. trimmed (chars t.now)) digits; unit = word; start = start; end = end; value = value } ≡ view_at text rest
 view_read text rest number word digits start end value n d w p q v = grind arith
 
 -- the slices that were read spell the span
 pub spelled_read : (rest number letters : List ℕ) (digits : Option (Bor (List ℕ))) → number ≡ take_while is_numeric rest → letters ≡ word_of rest
-    → option_map (λ t. chars t.now) digits ≡ option_map (take_while is_numeric) (behind_point (after_number rest))
+    → option_map (λ t. chars t.now) digits ≡ option_map (take_while is_numeric) (after_point (after_number rest))
     → spelled (drop_trailing_whitespace number) (option_map (λ t. trimmed (chars t.now)) digits) letters ≡ span_of rest
 spelled_read rest number letters digits n l d = grind (arith, (spelled_at [] rest))

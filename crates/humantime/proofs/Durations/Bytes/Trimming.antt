@@ -8,7 +8,7 @@ use Rattle.std.proofs.lemmas.List.Elements.{filter-append}
 use Rattle.humantime.specs.Texts.{begins, ends, take_while, drop_while}
 use Rattle.humantime.specs.Durations.Characters.{is_whitespace, is_digit, is_letter, is_numeric, digits}
 use Rattle.humantime.specs.Durations.Spans.{Only}
-use Rattle.humantime.specs.Durations.Faults.{number_of, after_number, behind_point, span_of}
+use Rattle.humantime.specs.Durations.Faults.{number_of, after_number, after_point, span_of}
 use Rattle.humantime.specs.Answers.Items.{trimmed, fraction_slice, view_at, spelled}
 use Rattle.humantime.specs.Durations.Items.{IsDigitSlice}
 use Rattle.humantime.proofs.Durations.Reading.Classes.{whitespace_is, letter_not_numeric, letter_not_point, is_point-46, whitespace_not_digit, digit_from_numeric}
@@ -54,7 +54,7 @@ fraction_digits (Some ds) = ap Some (digits_dropped _ _ (dropped (drop_while is_
 
 -- the slices spell the span that they are taken from
 pub spelled_at : (text rest : List ℕ) → spelled (view_at text rest).number (view_at text rest).fraction (view_at text rest).unit ≡ span_of rest
-spelled_at text rest = grind (arith, (digits_dropped _ _ (dropped (take_while is_numeric rest))), (fraction_digits (behind_point (after_number rest))))
+spelled_at text rest = grind (arith, (digits_dropped _ _ (dropped (take_while is_numeric rest))), (fraction_digits (after_point (after_number rest))))
 
 ends_digit : (x : ℕ) (xs : List ℕ) → Only is_numeric (x ∷ xs) → ends is_whitespace (x ∷ xs) ≡ false → ends is_digit (x ∷ xs) ≡ true
 ends_digit x [] o e = digit_from_numeric x o.0 e

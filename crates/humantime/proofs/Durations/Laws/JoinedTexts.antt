@@ -2,7 +2,7 @@
 use Rattle.std.proofs.Common.{◌≡◌, ◌≢◌, ◌↔◌, ◌⊎◌, ℕ, ◌+◌, true, List, [], ◌∷◌, ◌++◌, None, refl, ◌∙◌, inl, inr, append_assoc, append-nil}
 use Rattle.std.specs.List.{AllByRecursion}
 use Rattle.humantime.specs.Durations.Characters.{is_whitespace, bare_zero}
-use Rattle.humantime.specs.Durations.Spans.{Span, Only, SpellsEach, SpellsAll, Reads}
+use Rattle.humantime.specs.Durations.Spans.{SpelledSpan, Only, SpellsEach, SpellsAll, Reads}
 use Rattle.humantime.specs.Durations.Accepted.{additions, value, Formed, fits, AllHaveRoom, Accepted, Bare_zero, Sum_of}
 use Rattle.humantime.specs.Durations.Faults.{NumberOverflow, HasFault}
 use Rattle.humantime.specs.Laws.Texts.{AcceptedAs}
@@ -14,7 +14,7 @@ pub use Rattle.humantime.proofs.Durations.Reading.Spellings.{each-append, spells
 use Rattle.humantime.proofs.Durations.Laws.Readings.{accepted_spans, no_value_and_fault}
 
 -- whitespace behind a spelling belongs to it
-spells_each-whitespace : (body whitespace : List ℕ) (s : Span) (ss : List Span) → SpellsEach body (s ∷ ss) → Only is_whitespace whitespace → SpellsEach (body ++ whitespace) (s ∷ ss)
+spells_each-whitespace : (body whitespace : List ℕ) (s : SpelledSpan) (ss : List SpelledSpan) → SpellsEach body (s ∷ ss) → Only is_whitespace whitespace → SpellsEach (body ++ whitespace) (s ∷ ss)
 spells_each-whitespace body whitespace s [] h only =
     let here = respelled body h.0 (body ++ whitespace) [] (h.1.whitespace ++ whitespace) s h.1 (rw (h.1.whole, h.2) (simp (append_assoc, append-nil)))
     (each-append _ h.1.whitespace whitespace h.1.only_whitespace only) in
@@ -22,33 +22,33 @@ spells_each-whitespace body whitespace s [] h only =
 spells_each-whitespace body whitespace s (t ∷ ts) h only = (h.0 ++ whitespace, spells-append body h.0 whitespace s h.1, spells_each-whitespace h.0 whitespace t ts h.2 only)
 
 -- spans behind spans
-pub front-append : (a b : List ℕ) (ss ts : List Span) → Reads a ss → SpellsAll b ts → SpellsAll (a ++ b) (ss ++ ts)
+pub front-append : (a b : List ℕ) (ss ts : List SpelledSpan) → Reads a ss → SpellsAll b ts → SpellsAll (a ++ b) (ss ++ ts)
 front-append a b [] ts h k = absurd (h.1 refl)
 front-append a b (s ∷ ss) ts h k =
     let f = h.0 in
     let each = spells_each-append (f.body ++ k.whitespace) k.body (s ∷ ss) ts (spells_each-whitespace f.body _ s ss f.each k.only_whitespace) k.each in
     record { whitespace = f.whitespace; body = _; whole = rw (f.whole, k.whole) (simp append_assoc); only_whitespace = f.only_whitespace; each = each }
 
-pub some-append : (ss ts : List Span) → ss ≢ [] → ss ++ ts ≢ []
+pub some-append : (ss ts : List SpelledSpan) → ss ≢ [] → ss ++ ts ≢ []
 some-append [] ts some e = some refl
 some-append (s ∷ ss) ts some e = cc
 
-pub reads-append : (a b : List ℕ) (ss ts : List Span) → Reads a ss → SpellsAll b ts → Reads (a ++ b) (ss ++ ts)
+pub reads-append : (a b : List ℕ) (ss ts : List SpelledSpan) → Reads a ss → SpellsAll b ts → Reads (a ++ b) (ss ++ ts)
 reads-append a b ss ts h k = (front-append a b ss ts h k, some-append ss ts h.1)
 
 -- The text is whitespace, or none, and then spans of this value that keep all limits but that of room.
-pub record AreSpans (text : List ℕ) (spans : List Span) (v : ℕ) : Type 0 where
+pub record AreSpans (text : List ℕ) (spans : List SpelledSpan) (v : ℕ) : Type 0 where
   pub front : SpellsAll text spans
   pub formed : AllByRecursion Formed spans
   pub fit : AllByRecursion (λ s. fits s ≡ true) spans
   pub sum : value spans ≡ v
 
-pub are_spans : (text : List ℕ) (spans : List Span) (v : ℕ) → AcceptedAs text spans v → AreSpans text spans v
+pub are_spans : (text : List ℕ) (spans : List SpelledSpan) (v : ℕ) → AcceptedAs text spans v → AreSpans text spans v
 are_spans text spans v h =
     let a = accepted_spans text spans v h.0 h.1 in
     record { front = h.0.0; formed = a.0.formed; fit = a.0.fit; sum = a.1 }
 
-pub spans-append : (a b : List ℕ) (ss ts : List Span) (u v : ℕ) → AcceptedAs a ss u → AreSpans b ts v → AreSpans (a ++ b) (ss ++ ts) (u + v)
+pub spans-append : (a b : List ℕ) (ss ts : List SpelledSpan) (u v : ℕ) → AcceptedAs a ss u → AreSpans b ts v → AreSpans (a ++ b) (ss ++ ts) (u + v)
 spans-append a b ss ts u v h k =
     let x = are_spans a ss u h in
     record {
@@ -59,14 +59,14 @@ spans-append a b ss ts u v h k =
     }
 
 -- such a text is accepted exactly where its additions have room
-pub room_accepts : (text : List ℕ) (spans : List Span) (v : ℕ) → spans ≢ [] → AreSpans text spans v → Accepted text v ↔ AllHaveRoom (additions spans)
+pub room_accepts : (text : List ℕ) (spans : List SpelledSpan) (v : ℕ) → spans ≢ [] → AreSpans text spans v → Accepted text v ↔ AllHaveRoom (additions spans)
 room_accepts text spans v some h = (
   λ a. (accepted_spans text spans v (h.front, some) a).0.room,
   λ room. Sum_of spans (h.front, some) (record { formed = h.formed; fit = h.fit; room = room }) h.sum,
 )
 
 -- and is too large exactly where they haven't
-pub no_room_overflows : (text : List ℕ) (spans : List Span) (v : ℕ) → spans ≢ [] → AreSpans text spans v
+pub no_room_overflows : (text : List ℕ) (spans : List SpelledSpan) (v : ℕ) → spans ≢ [] → AreSpans text spans v
     → HasFault text NumberOverflow ↔ ¬ (AllHaveRoom (additions spans))
 no_room_overflows text spans v some h =
     let reads : Reads text spans = (h.front, some) in (
@@ -74,15 +74,15 @@ no_room_overflows text spans v some h =
       λ none. items_decide_overflow text spans None (items_whole text spans reads h.formed) (not_zero text spans reads) (λ g. none g.room),
     )
 
-both_spans : (a b : List ℕ) (ss ts : List Span) (u v : ℕ) → AcceptedAs a ss u → AcceptedAs b ts v → AreSpans (a ++ b) (ss ++ ts) (u + v)
+both_spans : (a b : List ℕ) (ss ts : List SpelledSpan) (u v : ℕ) → AcceptedAs a ss u → AcceptedAs b ts v → AreSpans (a ++ b) (ss ++ ts) (u + v)
 both_spans a b ss ts u v h k = spans-append a b ss ts u v h (are_spans b ts v k)
 
-pub joined_sum : (a b : List ℕ) (ss ts : List Span) (u v : ℕ) → AcceptedAs a ss u → AcceptedAs b ts v
+pub joined_sum : (a b : List ℕ) (ss ts : List SpelledSpan) (u v : ℕ) → AcceptedAs a ss u → AcceptedAs b ts v
     → Accepted (a ++ b) (u + v) ↔ AllHaveRoom (additions ss ++ additions ts)
 joined_sum a b ss ts u v h k =
     rw (← additions-append ss ts) (room_accepts (a ++ b) (ss ++ ts) (u + v) (some-append ss ts h.0.1) (both_spans a b ss ts u v h k))
 
-pub joined_overflow : (a b : List ℕ) (ss ts : List Span) (u v : ℕ) → AcceptedAs a ss u → AcceptedAs b ts v
+pub joined_overflow : (a b : List ℕ) (ss ts : List SpelledSpan) (u v : ℕ) → AcceptedAs a ss u → AcceptedAs b ts v
     → HasFault (a ++ b) NumberOverflow ↔ ¬ (AllHaveRoom (additions ss ++ additions ts))
 joined_overflow a b ss ts u v h k =
     rw (← additions-append ss ts) (no_room_overflows (a ++ b) (ss ++ ts) (u + v) (some-append ss ts h.0.1) (both_spans a b ss ts u v h k))

@@ -2,7 +2,7 @@
 use Rattle.std.proofs.Common.{arith, ◌≡◌, ℕ, List, [], ◌∷◌, refl, sym, ◌∙◌, sum_by, IsPermutation}
 use Rattle.std.proofs.lemmas.Grind.{common_steps}
 use Rattle.std.proofs.lemmas.List.Sorted.{sum_by-IsPermutation}
-use Rattle.humantime.specs.Durations.Spans.{Span, Reads}
+use Rattle.humantime.specs.Durations.Spans.{SpelledSpan, Reads}
 use Rattle.humantime.specs.Durations.Faults.{Fault, HasFault}
 use Rattle.humantime.specs.Durations.Accepted.{total, value, WithinLimits, Accepted, Bare_zero, Sum_of, additions_of}
 use Rattle.humantime.specs.Laws.Texts.{IsZeroOrSpans}
@@ -15,7 +15,7 @@ pub zero_or_spans : (text : List ℕ) → IsZeroOrSpans text
 zero_or_spans text v a = grind arith
 
 -- an accepted text that reads as some spans is their sum, and they are within the limits
-pub accepted_spans : (text : List ℕ) (spans : List Span) (v : ℕ) → Reads text spans → Accepted text v → WithinLimits spans × (value spans ≡ v)
+pub accepted_spans : (text : List ℕ) (spans : List SpelledSpan) (v : ℕ) → Reads text spans → Accepted text v → WithinLimits spans × (value spans ≡ v)
 accepted_spans text spans v h (Bare_zero z none) = absurd (not_zero text spans h z)
 accepted_spans text spans v h (Sum_of others k within sum) = rw (one_reading text spans others h k) (within, sum)
 
@@ -24,14 +24,14 @@ pub no_value_and_fault : (text : List ℕ) (v : ℕ) (e : Fault) → Accepted te
 no_value_and_fault text v e a f = grind (arith, (outcome_accepted text v a), (outcome_fault text e f))
 
 -- the value of spans is the sum of what each adds, so their order doesn't matter
-value-sum : (spans : List Span) → value spans ≡ sum_by (λ s. total (additions_of s)) spans
+value-sum : (spans : List SpelledSpan) → value spans ≡ sum_by (λ s. total (additions_of s)) spans
 value-sum [] = refl
 value-sum (s ∷ ss) = grind (arith, common_steps, (value-cons s ss), (value-sum ss))
 
-pub value-permutation : (ss ts : List Span) → IsPermutation ss ts → value ss ≡ value ts
+pub value-permutation : (ss ts : List SpelledSpan) → IsPermutation ss ts → value ss ≡ value ts
 value-permutation ss ts h = value-sum ss ∙ sym (sum_by-IsPermutation _ ss ts h) ∙ sym (value-sum ts)
 
-pub reordered_value : (a b : List ℕ) (ss ts : List Span) (u v : ℕ) → Reads a ss → Reads b ts → IsPermutation ss ts
+pub reordered_value : (a b : List ℕ) (ss ts : List SpelledSpan) (u v : ℕ) → Reads a ss → Reads b ts → IsPermutation ss ts
     → Accepted a u → Accepted b v → u ≡ v
 reordered_value a b ss ts u v h k moved x y =
     sym (accepted_spans a ss u h x).1 ∙ value-permutation ss ts moved ∙ (accepted_spans b ts v k y).1

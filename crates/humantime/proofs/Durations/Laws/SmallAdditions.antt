@@ -6,7 +6,7 @@ use Rattle.std.specs.List.{AllByRecursion}
 use Rattle.humantime.specs.Values.{nanos_per_second}
 use Rattle.humantime.specs.Durations.Characters.{u64_max}
 use Rattle.humantime.specs.Durations.Units.{Addition, Nanos, Seconds}
-use Rattle.humantime.specs.Durations.Accepted.{addition_nanos, total, room, AllHaveRoom}
+use Rattle.humantime.specs.Durations.Accepted.{addition_nanos, total, has_room, AllHaveRoom}
 use Rattle.humantime.proofs.Durations.Reading.Rooms.{RoomFrom, all_have_room}
 
 -- an addition of nanoseconds fits a u64 together with the nanoseconds beyond any whole seconds
@@ -14,7 +14,7 @@ abbrev pub IsSmall : Addition → Type 0
 IsSmall (Nanos n) = n + 999999999 ≤ u64_max
 IsSmall (Seconds n) = ⊤
 
-small_room : (t : ℕ) (x : Addition) (sum : ℕ) → IsSmall x → t + addition_nanos x ≤ sum → sum / nanos_per_second ≤ u64_max → room t x ≡ true
+small_room : (t : ℕ) (x : Addition) (sum : ℕ) → IsSmall x → t + addition_nanos x ≤ sum → sum / nanos_per_second ≤ u64_max → has_room t x ≡ true
 small_room t x sum small below fits = grind arith
 
 room_from_small : (t : ℕ) (xs : List Addition) → AllByRecursion IsSmall xs → (t + total xs) / nanos_per_second ≤ u64_max → RoomFrom t xs

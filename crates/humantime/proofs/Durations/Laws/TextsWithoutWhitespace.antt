@@ -4,7 +4,7 @@ use Rattle.std.proofs.Common.{◌≡◌, ℕ, Bool, true, false, List, [], ◌�
 use Rattle.std.proofs.lemmas.Bool.{cases_Bool, or_parts}
 use Rattle.humantime.specs.Texts.{begins}
 use Rattle.humantime.specs.Durations.Characters.{is_whitespace, is_digit, is_letter, digits, bare_zero}
-use Rattle.humantime.specs.Durations.Spans.{Span, Only, Spells, SpellsEach, Reads}
+use Rattle.humantime.specs.Durations.Spans.{SpelledSpan, Only, Spells, SpellsEach, Reads}
 use Rattle.humantime.specs.Durations.Accepted.{Accepted, Bare_zero, Sum_of}
 use Rattle.humantime.specs.Laws.Texts.{without_whitespace}
 use Rattle.humantime.proofs.Durations.Reading.Classes.{digit_not_whitespace, whitespace_not_digit, letter_not_whitespace, point_not_numeric, is_point-46}
@@ -33,15 +33,15 @@ still_begins cs h = grind (arith, digit_not_whitespace)
 point_stays : is_whitespace 46 ≡ false
 point_stays = (or_parts (is_digit 46) (is_whitespace 46) (point_not_numeric 46 is_point-46)).1
 
-spells_span : (text rest : List ℕ) (span : Span) → Spells text span rest → Spells (without_whitespace text) span (without_whitespace rest)
+spells_span : (text rest : List ℕ) (span : SpelledSpan) → Spells text span rest → Spells (without_whitespace text) span (without_whitespace rest)
 spells_span text rest span h = grind (arith, common_steps, only_letters, only_whitespace, still_begins, still_only, same_digits, point_stays)
 
-spells_each : (body : List ℕ) (spans : List Span) → SpellsEach body spans → SpellsEach (without_whitespace body) spans
+spells_each : (body : List ℕ) (spans : List SpelledSpan) → SpellsEach body spans → SpellsEach (without_whitespace body) spans
 spells_each body [] h = ap without_whitespace h
 spells_each body (s ∷ ss) h = (without_whitespace h.0, spells_span body h.0 s h.1, spells_each h.0 ss h.2)
 
 -- the text without its whitespace is read as the same spans
-pub reads_without_whitespace : (text : List ℕ) (spans : List Span) → Reads text spans → Reads (without_whitespace text) spans
+pub reads_without_whitespace : (text : List ℕ) (spans : List SpelledSpan) → Reads text spans → Reads (without_whitespace text) spans
 reads_without_whitespace text spans h = grind (arith, common_steps, only_whitespace, spells_each)
 
 zero_without_whitespace : without_whitespace bare_zero ≡ bare_zero

@@ -9,7 +9,7 @@ use Rattle.std.proofs.lemmas.Map.Lookups.{exact_bytes}
 use Rattle.std.specs.Cmp.Lexicographic.{slice_cmp}
 use Rattle.std.specs.Cmp.{nat_cmp_is}
 use Rattle.std.proofs.lemmas.Bool.Decides.{nat_tests}
-use Rattle.humantime.specs.Durations.Counts.{weights, weighted_sum, Counts, Canon}
+use Rattle.humantime.specs.Durations.Counts.{weights, weighted_sum, AreCounts, IsCanonicalText}
 use Rattle.humantime.specs.Answers.Durations.{divided, duration_text}
 
 -- each weight is positive and the last is one, where what is left is below m
@@ -36,7 +36,7 @@ divided_last (w ∷ ws) m d r (c ∷ cs) l e =
     grind (arith, nat_cmp_is, (first_count w c (weighted_sum ws cs) d r.0 e), (divided_last ws w (d % w) r.1 cs))
 divided_last _ m d r _ l e = absurd (omega (arith, l))
 
-divided_greatest : (d : ℕ) → Counts d (divided weights d)
+divided_greatest : (d : ℕ) → AreCounts d (divided weights d)
 divided_greatest d = record {
   as_many = length-divided weights d;
   sum = divided_sum weights (suc d) d (search rules) (omega arith);
@@ -44,20 +44,20 @@ divided_greatest d = record {
 }
 
 -- no other counts are the greatest
-pub counts_divided : (d : ℕ) (counts : List ℕ) → Counts d counts → counts ≡ divided weights d
+pub counts_divided : (d : ℕ) (counts : List ℕ) → AreCounts d counts → counts ≡ divided weights d
 counts_divided d counts g =
     let other = divided_greatest d in
     let least = rw (nat_list_cmp_total.antisymm (divided weights d) counts) at (g.greatest (divided weights d) other.as_many other.sum) in
     grind (arith, nat_tests, (exact_bytes counts (divided weights d)), (other.greatest counts g.as_many g.sum), least)
 
 -- the text by division is a canonical text, and there is no other
-pub printed_is_canon : (d : ℕ) → Canon d (duration_text d)
+pub printed_is_canon : (d : ℕ) → IsCanonicalText d (duration_text d)
 unfolding duration_text
 printed_is_canon d = record { counts = divided weights d; are = divided_greatest d; shown = refl }
 
-pub canon_is_text : (d : ℕ) (text : List ℕ) → Canon d text → text ≡ duration_text d
+pub canon_is_text : (d : ℕ) (text : List ℕ) → IsCanonicalText d text → text ≡ duration_text d
 unfolding duration_text
 canon_is_text d text canon = grind (arith, counts_divided)
 
-pub one_canon : (d : ℕ) (a b : List ℕ) → Canon d a → Canon d b → a ≡ b
+pub one_canon : (d : ℕ) (a b : List ℕ) → IsCanonicalText d a → IsCanonicalText d b → a ≡ b
 one_canon d a b left right = canon_is_text d a left ∙ sym (canon_is_text d b right)

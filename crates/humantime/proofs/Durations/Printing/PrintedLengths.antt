@@ -7,7 +7,7 @@ use Rattle.std.proofs.lemmas.List.{length-append}
 use Rattle.std.proofs.lemmas.Fmt.{length-decimal-le}
 use Rattle.humantime.specs.Values.{nanos_per_second}
 use Rattle.humantime.specs.Durations.Characters.{u64_max}
-use Rattle.humantime.specs.Durations.Counts.{Suffix, weights, suffixes, printed_count, printed_counts, joined_by_space, Counts, Canon}
+use Rattle.humantime.specs.Durations.Counts.{Suffix, weights, suffixes, printed_count, printed_counts, joined_by_space, AreCounts, IsCanonicalText}
 use Rattle.humantime.specs.Answers.Durations.{divided, duration_text}
 use Rattle.humantime.proofs.Durations.Printing.PrintedRows.{space, units, counted, most}
 use Rattle.humantime.proofs.Durations.Printing.GreatestCounts.{canon_is_text, counts_divided}
@@ -53,13 +53,13 @@ sizes = 12 ∷ 2 ∷ 2 ∷ 2 ∷ 2 ∷ 2 ∷ 3 ∷ 3 ∷ 3 ∷ []
 joined_length : (ps : List (List ℕ)) → spaced_length ps ≤ 65 → length (joined_by_space ps) ≤ 64
 joined_length ps h = grind (arith, join_length)
 
-pub canon_length : (d : ℕ) → d / nanos_per_second ≤ u64_max → (text : List ℕ) → Canon d text → length text ≤ 64
+pub canon_length : (d : ℕ) → d / nanos_per_second ≤ u64_max → (text : List ℕ) → IsCanonicalText d text → length text ≤ 64
 unfolding duration_text
 canon_length d h text canon =
     let all = counts_length units sizes most d (grind arith) (omega arith) in
     let short = joined_length (printed_counts (divided weights d) suffixes) (omega arith) in
     omega (arith, ap length (canon_is_text d text canon))
 
-pub counts_small : (d : ℕ) (counts : List ℕ) → Counts d counts → (slice_index counts 1 ≤ 11) × (slice_index counts 2 ≤ 30)
+pub counts_small : (d : ℕ) (counts : List ℕ) → AreCounts d counts → (slice_index counts 1 ≤ 11) × (slice_index counts 2 ≤ 30)
 counts_small d counts greatest =
     rw (counts_divided d counts greatest) (omega arith, omega arith)

@@ -11,7 +11,7 @@ use Rattle.humantime.specs.Texts.{begins}
 use Rattle.humantime.specs.Durations.Characters.{is_letter}
 use Rattle.humantime.specs.Durations.Units.{Addition, Nanos, Seconds, Scale, scale_of_word}
 use Rattle.humantime.specs.Durations.Accepted.{addition_nanos, amount, is_some_and}
-use Rattle.humantime.specs.Durations.Spans.{Span, Only}
+use Rattle.humantime.specs.Durations.Spans.{SpelledSpan, Only}
 use Rattle.humantime.specs.Durations.Counts.{Suffix, weights, suffixes}
 
 -- what stands between two counts
@@ -26,7 +26,7 @@ word_of s many = s.0 ++ cond (s.1 && many) (codes "s") []
 abbrev pub word_for : ℕ → Suffix → List ℕ
 word_for n s = word_of s (nat_lt 1 n)
 
-abbrev pub span_for : ℕ → Suffix → Span
+abbrev pub span_for : ℕ → Suffix → SpelledSpan
 span_for n s = record { number = decimal n; fraction = None; word = chars (word_for n s) }
 
 -- what is added is seconds, or nanoseconds where no more than a second m is left

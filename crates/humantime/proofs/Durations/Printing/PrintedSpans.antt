@@ -14,9 +14,9 @@ use Rattle.std.proofs.lemmas.Fmt.{IsAscii-decimal, decimal_digit}
 use Rattle.humantime.specs.Values.{nanos_per_second}
 use Rattle.humantime.specs.Durations.Characters.{whitespace_chars, is_letter, is_whitespace, u64_max}
 use Rattle.humantime.specs.Durations.Units.{Addition, Nanos, Seconds, scale_of_word}
-use Rattle.humantime.specs.Durations.Spans.{Span, Only, Spells, SpellsEach, Reads}
+use Rattle.humantime.specs.Durations.Spans.{SpelledSpan, Only, Spells, SpellsEach, Reads}
 use Rattle.humantime.specs.Durations.Accepted.{addition_nanos, amount, times, total, additions_of, additions, value, Formed, fits, Accepted, Sum_of}
-use Rattle.humantime.specs.Durations.Counts.{Suffix, printed_count, joined_by_space, Canon}
+use Rattle.humantime.specs.Durations.Counts.{Suffix, printed_count, joined_by_space, IsCanonicalText}
 use Rattle.humantime.specs.Answers.Durations.{duration_text}
 use Rattle.humantime.proofs.Durations.Reading.Spellings.{spells-append}
 use Rattle.humantime.proofs.Durations.Reading.Summed.{value-cons}
@@ -66,7 +66,7 @@ row w m n s i below whole =
 abbrev pub shown : List (ℕ × Suffix) → List (ℕ × Suffix)
 shown cs = filter (λ c. nat_lt 0 c.0) cs
 
-abbrev pub spans_of : List (ℕ × Suffix) → List Span
+abbrev pub spans_of : List (ℕ × Suffix) → List SpelledSpan
 spans_of cs = map (λ c. span_for c.0 c.1) cs
 
 abbrev pub AllRows : List (ℕ × Suffix) → Type 0
@@ -111,7 +111,7 @@ rows_spell (c ∷ d ∷ rows) h =
     (rest, rw (chars_space (printed_count c.0 c.1) (rows_text (d ∷ rows)) h.0.utf8) here, rows_spell (d ∷ rows) h.1)
 
 -- The spans keep their limits, and add little each.
-pub record AreWithin (spans : List Span) : Type 0 where
+pub record AreWithin (spans : List SpelledSpan) : Type 0 where
   pub formed : AllByRecursion Formed spans
   pub fit : AllByRecursion (λ s. fits s ≡ true) spans
   pub small : AllByRecursion IsSmall (additions spans)
@@ -122,7 +122,7 @@ rows_within (c ∷ rows) h = grind (arith, (rows_within rows h.1), each-append)
 
 -- The bytes are such spans, which add up to d.
 pub record IsPrinted (bytes : List ℕ) (d : ℕ) : Type 0 where
-  pub spans : List Span
+  pub spans : List SpelledSpan
   pub reads : Reads (chars bytes) spans
   pub within : AreWithin spans
   pub sum : value spans ≡ d
@@ -151,13 +151,13 @@ all_printed [] d h sum = subst (IsPrinted (codes "0s")) sum zero_printed
 all_printed (c ∷ rows) d h sum = rows_printed c rows d h sum
 
 -- the canonical text of a duration is accepted with it
-pub canon_printed : (d : ℕ) → d / nanos_per_second ≤ u64_max → (text : List ℕ) → Canon d text → IsPrinted text d
+pub canon_printed : (d : ℕ) → d / nanos_per_second ≤ u64_max → (text : List ℕ) → IsCanonicalText d text → IsPrinted text d
 unfolding duration_text
 canon_printed d h text canon =
     let all = rows units most d table (omega arith) (omega arith) in
     rw (canon_is_text d text canon) (all_printed (shown (counted units d)) d all.0 all.1)
 
-pub canon_reads : (d : ℕ) → d / nanos_per_second ≤ u64_max → (text : List ℕ) → Canon d text → Accepted (chars text) d
+pub canon_reads : (d : ℕ) → d / nanos_per_second ≤ u64_max → (text : List ℕ) → IsCanonicalText d text → Accepted (chars text) d
 canon_reads d h text canon =
     let is = canon_printed d h text canon in
     let room = small_have_room (additions is.spans) is.within.small (rw is.sum h) in

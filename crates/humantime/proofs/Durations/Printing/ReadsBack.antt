@@ -4,7 +4,7 @@ use Rattle.std.specs.Prelude.{chars}
 use Rattle.humantime.specs.Values.{nanos_per_second}
 use Rattle.humantime.specs.Durations.Characters.{u64_max}
 use Rattle.humantime.specs.Durations.Accepted.{Accepted}
-use Rattle.humantime.specs.Durations.Counts.{Canon, IsCanonicalOf}
+use Rattle.humantime.specs.Durations.Counts.{IsCanonicalText, IsCanonicalOf}
 use Rattle.humantime.proofs.Durations.Reading.Rooms.{room_is_duration}
 use Rattle.humantime.proofs.Durations.Reading.Outcomes.{outcome_accepted}
 use Rattle.humantime.proofs.Durations.Printing.GreatestCounts.{one_canon}
@@ -15,10 +15,10 @@ same_read : (text : List ℕ) (u v : ℕ) → Accepted text u → Accepted text 
 same_read text u v a b = let one = sym (outcome_accepted text u a) ∙ outcome_accepted text v b in cc
 
 pub texts_tell_apart : (a b : ℕ) → a / nanos_per_second ≤ u64_max → b / nanos_per_second ≤ u64_max
-    → (s t : List ℕ) → Canon a s → Canon b t → ((s ≡ t) ↔ (a ≡ b))
+    → (s t : List ℕ) → IsCanonicalText a s → IsCanonicalText b t → ((s ≡ t) ↔ (a ≡ b))
 texts_tell_apart a b ha hb s t left right = (
   (λ same. same_read (chars t) a b (subst (λ l. Accepted (chars l) a) same (canon_reads a ha s left)) (canon_reads b hb t right)),
-  (λ same. one_canon b s t (subst (λ d. Canon d s) same left) right),
+  (λ same. one_canon b s t (subst (λ d. IsCanonicalText d s) same left) right),
 )
 
 -- the canonical text of what is accepted is accepted with the same value
@@ -30,6 +30,6 @@ keeps_its_value s v t accepted h = rw (same_read (chars s) v h.duration accepted
 
 pub keeps_its_text : (s t u : List ℕ) → IsCanonicalOf s t → (IsCanonicalOf t u ↔ (u ≡ t))
 keeps_its_text s t u h = (
-  (λ k. one_canon h.duration u t (subst (λ d. Canon d u) (same_read (chars t) k.duration h.duration k.accepted (canonical_read s t h)) k.canon) h.canon),
-  (λ same. record { duration = h.duration; accepted = canonical_read s t h; canon = subst (Canon h.duration) (sym same) h.canon }),
+  (λ k. one_canon h.duration u t (subst (λ d. IsCanonicalText d u) (same_read (chars t) k.duration h.duration k.accepted (canonical_read s t h)) k.canon) h.canon),
+  (λ same. record { duration = h.duration; accepted = canonical_read s t h; canon = subst (IsCanonicalText h.duration) (sym same) h.canon }),
 )

@@ -4,10 +4,10 @@ use Rattle.std.proofs.Common.{◌≡◌, ◌≢◌, ◌⊎◌, ℕ, Bool, true, 
 use Rattle.std.specs.List.{AllByRecursion}
 use Rattle.humantime.specs.Texts.{begins, drop_while, take_while, ends}
 use Rattle.humantime.specs.Durations.Characters.{is_whitespace, is_digit, bare_zero}
-use Rattle.humantime.specs.Durations.Spans.{Span, Spells, SpellsAll}
+use Rattle.humantime.specs.Durations.Spans.{SpelledSpan, Spells, SpellsAll}
 use Rattle.humantime.specs.Durations.Faults.{Fault, NumberOverflow, Split, BeginsSpan, HasFault, Empty, span_of}
 use Rattle.humantime.specs.Durations.Accepted.{Formed, WithinLimits}
-use Rattle.humantime.specs.Answers.Walks.{Walk, no_more, walk_of, items}
+use Rattle.humantime.specs.Answers.Walks.{Walk, empty_walk, walk_of, items}
 use Rattle.humantime.specs.Durations.Items.{Items, Ends}
 use Rattle.humantime.proofs.Durations.Reading.Runs.{ends-append, take_while-drop_while, Only-take_while, begins-drop_while}
 use Rattle.humantime.proofs.Durations.Reading.Spelled.{next_of}
@@ -18,22 +18,22 @@ use Rattle.humantime.proofs.Durations.Reading.Stopping.{is_fine, wrong_stops}
 use Rattle.humantime.proofs.Durations.Reading.Written.{written_here, formed_here, spelling_some}
 
 -- no span stands before, or some
-abbrev pub IsFirst : Bool → List Span → Type 0
+abbrev pub IsFirst : Bool → List SpelledSpan → Type 0
 IsFirst true spans = spans ≡ []
 IsFirst false spans = spans ≢ []
 
 -- the front is read as these spans, each well formed, and the walk goes on at the rest
-pub record IsReadTo (text : List ℕ) (first : Bool) (front : List ℕ) (spans : List Span) (rest : List ℕ) : Type 0 where
+pub record IsReadTo (text : List ℕ) (first : Bool) (front : List ℕ) (spans : List SpelledSpan) (rest : List ℕ) : Type 0 where
   pub split : Split text front spans rest
   pub formed : AllByRecursion Formed spans
   pub follows : rest ≢ [] → begins is_digit rest ≡ false → (spans ≡ []) ⊎ (ends is_whitespace front ≡ true)
   pub before : IsFirst first spans
 
-front_push : (front here : List ℕ) (ss : List Span) (s : Span) → SpellsAll front ss → Spells here s [] → SpellsAll (front ++ here) (ss ++ s ∷ [])
+front_push : (front here : List ℕ) (ss : List SpelledSpan) (s : SpelledSpan) → SpellsAll front ss → Spells here s [] → SpellsAll (front ++ here) (ss ++ s ∷ [])
 front_push front here ss s h p = grind (arith, common_steps, (spells_each-append h.body here ss (s ∷ []) h.each ([], p, refl)))
 
 -- one span further
-read_on : (text front rest : List ℕ) (first : Bool) (spans : List Span) → IsReadTo text first front spans rest → BeginsSpan rest
+read_on : (text front rest : List ℕ) (first : Bool) (spans : List SpelledSpan) → IsReadTo text first front spans rest → BeginsSpan rest
     → (here : List ℕ) × IsReadTo text false (front ++ here) (spans ++ span_of rest ∷ []) (next_of rest)
 read_on text front rest first spans r f =
     let w = written_here rest f in
@@ -47,15 +47,15 @@ begun : (text : List ℕ) → IsReadTo text true (take_while is_whitespace text)
 begun text = grind (arith, common_steps, take_while-drop_while, Only-take_while, begins-drop_while)
 
 -- items of a text: these spans and then those of a walk, up to its end
-abbrev ItemsAfter : List ℕ → List Span → Walk → Type 0
+abbrev ItemsAfter : List ℕ → List SpelledSpan → Walk → Type 0
 ItemsAfter text spans w = (i : Items text (spans ++ map span_of w.starts) w.stop) × (i.rest ≡ w.unread)
 
-items_end : (text front rest : List ℕ) (first : Bool) (spans : List Span) (stop : Option Fault) → IsReadTo text first front spans rest → Ends text front spans rest stop
-    → ItemsAfter text spans (no_more rest stop)
+items_end : (text front rest : List ℕ) (first : Bool) (spans : List SpelledSpan) (stop : Option Fault) → IsReadTo text first front spans rest → Ends text front spans rest stop
+    → ItemsAfter text spans (empty_walk rest stop)
 items_end text front rest first spans stop r e = rw (append-nil spans) (record { front = front; rest = rest; split = r.split; formed = r.formed; ends = e }, refl)
 
 abbrev Found : List ℕ → Bool → List ℕ → Walk → Type 0
-Found text first rest w = (front : List ℕ) (spans : List Span) → IsReadTo text first front spans rest → ItemsAfter text spans w
+Found text first rest w = (front : List ℕ) (spans : List SpelledSpan) → IsReadTo text first front spans rest → ItemsAfter text spans w
 
 found : (text : List ℕ) → Steps text (Found text)
 found text = record {
@@ -64,7 +64,7 @@ found text = record {
   wrong = λ first rest e some s front spans r. items_end text front rest first spans (Some e) r (wrong_stops text front spans rest e some (r.follows some) s);
   right = λ first rest w s more front spans r.
       let k = read_on text front rest first spans r (is_fine text rest s) in
-      subst (λ (ss : List Span). (i : Items text ss w.stop) × (i.rest ≡ w.unread)) (append_assoc spans (span_of rest ∷ []) (map span_of w.starts))
+      subst (λ (ss : List SpelledSpan). (i : Items text ss w.stop) × (i.rest ≡ w.unread)) (append_assoc spans (span_of rest ∷ []) (map span_of w.starts))
       (more (front ++ k.0) (spans ++ span_of rest ∷ []) k.1);
 }
 
@@ -78,7 +78,7 @@ items_found text = (items_found_at text).0
 
 -- these spans are within the limits, and not with those of a walk
 abbrev IsTooLarge : List ℕ → Bool → List ℕ → Walk → Type 0
-IsTooLarge text first rest w = (front : List ℕ) (spans : List Span) → IsReadTo text first front spans rest → WithinLimits spans
+IsTooLarge text first rest w = (front : List ℕ) (spans : List SpelledSpan) → IsReadTo text first front spans rest → WithinLimits spans
     → ¬ (WithinLimits (spans ++ map span_of w.starts)) → HasFault text NumberOverflow
 
 too_large : (text : List ℕ) → text ≢ bare_zero → Steps text (IsTooLarge text)

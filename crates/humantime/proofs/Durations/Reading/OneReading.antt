@@ -1,7 +1,7 @@
 -- A text is read as one list of spans at most, and the text 0 as none.
 use Rattle.std.proofs.Common.{◌≡◌, ◌≢◌, ℕ, List, [], ◌∷◌, length, refl, sym, ap, ◌∙◌, inl, arith, subst, append-nil, length-append}
 use Rattle.humantime.specs.Durations.Characters.{is_digit, bare_zero}
-use Rattle.humantime.specs.Durations.Spans.{Span, SpellsEach, SpellsAll, Reads}
+use Rattle.humantime.specs.Durations.Spans.{SpelledSpan, SpellsEach, SpellsAll, Reads}
 use Rattle.std.proofs.lemmas.Grind.{common_steps}
 use Rattle.humantime.specs.Durations.Faults.{Split}
 use Rattle.humantime.proofs.Durations.Reading.Runs.{begins_not_nil}
@@ -9,22 +9,22 @@ use Rattle.humantime.proofs.Durations.Reading.Written.{spelling_some}
 use Rattle.humantime.proofs.Durations.Reading.Walked.{each_starts, first_here, front_begins}
 
 -- a whole text as a front with nothing behind it
-pub split_whole : (text : List ℕ) (spans : List Span) → SpellsAll text spans → Split text text spans []
+pub split_whole : (text : List ℕ) (spans : List SpelledSpan) → SpellsAll text spans → Split text text spans []
 split_whole text spans h = record { whole = sym (append-nil text); spelled = h; no_whitespace = refl }
 
-one_each : (body : List ℕ) (ss ts : List Span) → SpellsEach body ss → SpellsEach body ts → ss ≡ ts
+one_each : (body : List ℕ) (ss ts : List SpelledSpan) → SpellsEach body ss → SpellsEach body ts → ss ≡ ts
 one_each body [] [] h k = refl
 one_each body [] (t ∷ ts) h k = absurd (begins_not_nil is_digit body (each_starts body t ts k) h)
 one_each body (s ∷ ss) [] h k = absurd (begins_not_nil is_digit body (each_starts body s ss h) k)
 one_each body (s ∷ ss) (t ∷ ts) h k = grind (arith, (first_here body [] s ss h (inl refl) refl), (first_here body [] t ts k (inl refl) refl), (one_each h.0 ss ts h.2 (subst (λ x. SpellsEach x ts) (sym (append-nil k.0) ∙ sym (first_here body [] t ts k (inl refl) refl).next_is ∙ (first_here body [] s ss h (inl refl) refl).next_is ∙ append-nil h.0) k.2)))
 
-pub one_reading : (text : List ℕ) (ss ts : List Span) → Reads text ss → Reads text ts → ss ≡ ts
+pub one_reading : (text : List ℕ) (ss ts : List SpelledSpan) → Reads text ss → Reads text ts → ss ≡ ts
 unfolding split_whole
 one_reading text ss ts h k =
     grind (arith, common_steps, (front_begins _ _ _ _ (split_whole _ _ h.0)), (front_begins _ _ _ _ (split_whole _ _ k.0)), one_each)
 
 -- a text that is read has a digit and a letter
-pub not_zero : (text : List ℕ) (spans : List Span) → Reads text spans → text ≢ bare_zero
+pub not_zero : (text : List ℕ) (spans : List SpelledSpan) → Reads text spans → text ≢ bare_zero
 not_zero text [] h e = absurd (h.1 refl)
 not_zero text (s ∷ ss) h e =
     omega (arith, ap length e, ap length h.0.whole, length-append h.0.whitespace h.0.body, spelling_some h.0.body h.0.each.0 s h.0.each.1)

@@ -1,19 +1,22 @@
 -- The outcome by the plain reading is the value or the fault of the text, and these are one.
 use Rattle.std.proofs.lemmas.Grind.{common_steps}
 use Rattle.std.proofs.Common.{◌≡◌, ◌≢◌, ◌⊎◌, ◌↔◌, ℕ, true, false, List, [], ◌∷◌, ◌++◌, map, Option, Some, None, Result, Ok, Err, refl, sym, ap, ◌∙◌, inl, inr, arith, append_assoc}
+use Rattle.std.specs.Prelude.{IfErr, chars}
 use Rattle.std.specs.List.{AllByRecursion}
 use Rattle.std.specs.Str.{bytes_eq}
 use Rattle.std.proofs.lemmas.Bool.{cases_Bool}
 use Rattle.std.proofs.lemmas.Slice.Eq.{bytes_eq-Decides}
 use Rattle.humantime.specs.Durations.Characters.{bare_zero}
-use Rattle.humantime.specs.Durations.Spans.{Span, Reads}
+use Rattle.humantime.specs.Durations.Spans.{SpelledSpan, Reads}
 use Rattle.humantime.specs.Durations.Accepted.{value, Formed, WithinLimits, Accepted, Bare_zero, Sum_of}
 use Rattle.humantime.specs.Durations.Faults.{span_of, Fault, NumberOverflow, Stops, BreaksLimit, HasFault}
 use Rattle.humantime.specs.Durations.Items.{Items, items_of}
 use Rattle.humantime.specs.Laws.ExactlyOne.{ExactlyOne}
 use Rattle.humantime.specs.Laws.Outcomes.{IsOutcome}
 use Rattle.humantime.specs.Answers.Walks.{walk_from, items, sum_spans}
-use Rattle.humantime.specs.Answers.Durations.{duration_answer}
+use Rattle.humantime.specs.declared.duration.error.DurationError.{DurationError}
+use Rattle.humantime.specs.Durations.Errors.{result_view, PointsInto}
+use Rattle.humantime.specs.Answers.Durations.{IsDurationAnswer, duration_answer}
 use Rattle.humantime.proofs.Durations.Reading.Summed.{sum_spans_within, too_large, summed_value, summed_fault, WithinLimits_from, from_WithinLimits, WithinLimitsFrom-front}
 use Rattle.humantime.proofs.Durations.Reading.Spelled.{next_of}
 use Rattle.humantime.proofs.Durations.Reading.Stopping.{fine_goes}
@@ -40,11 +43,11 @@ pub zero_or_not : (text : List ℕ) → (text ≡ bare_zero) ⊎ (text ≢ bare_
 zero_or_not text = grind (arith, (bytes_eq-Decides text bare_zero), (cases_Bool (bytes_eq text bare_zero)))
 
 -- whatever the items are, they settle the outcome
-outcome_summed : (text : List ℕ) (spans : List Span) (stop : Option Fault) → text ≢ bare_zero → Items text spans stop → duration_answer text ≡ sum_spans 0 (items_of spans stop)
-outcome_summed text spans stop some h = duration_answer-items text some ∙ ap (λ (r : List Span × Option Fault). sum_spans 0 (items_of r.0 r.1)) (items_walked text spans stop h)
+outcome_summed : (text : List ℕ) (spans : List SpelledSpan) (stop : Option Fault) → text ≢ bare_zero → Items text spans stop → duration_answer text ≡ sum_spans 0 (items_of spans stop)
+outcome_summed text spans stop some h = duration_answer-items text some ∙ ap (λ (r : List SpelledSpan × Option Fault). sum_spans 0 (items_of r.0 r.1)) (items_walked text spans stop h)
 
 -- a text that is read whole stops nowhere
-pub items_whole : (text : List ℕ) (spans : List Span) → Reads text spans → AllByRecursion Formed spans → Items text spans None
+pub items_whole : (text : List ℕ) (spans : List SpelledSpan) → Reads text spans → AllByRecursion Formed spans → Items text spans None
 items_whole text spans h f = record { front = text; rest = []; split = split_whole text spans h.0; formed = f; ends = (refl, h.1) }
 
 pub outcome_accepted : (text : List ℕ) (v : ℕ) → Accepted text v → duration_answer text ≡ Ok v
@@ -76,13 +79,13 @@ pub outcome_fault : (text : List ℕ) (e : Fault) → HasFault text e → durati
 outcome_fault text e h = grind (arith, (stop_outcome text e h), (over_outcome text e h))
 
 -- the items decide the value, the fault, and that they are too large
-value_only : (text : List ℕ) (spans : List Span) (stop : Option Fault) (v : ℕ) → text ≢ bare_zero → Items text spans stop → duration_answer text ≡ Ok v → (stop ≡ None) × WithinLimits spans × (value spans ≡ v)
+value_only : (text : List ℕ) (spans : List SpelledSpan) (stop : Option Fault) (v : ℕ) → text ≢ bare_zero → Items text spans stop → duration_answer text ≡ Ok v → (stop ≡ None) × WithinLimits spans × (value spans ≡ v)
 value_only text spans stop v some h o = summed_value spans stop v h.formed (sym (outcome_summed text spans stop some h) ∙ o)
 
-sum_accepted : (text : List ℕ) (spans : List Span) (stop : Option Fault) (v : ℕ) → Items text spans stop → (stop ≡ None) × WithinLimits spans × (value spans ≡ v) → Accepted text v
+sum_accepted : (text : List ℕ) (spans : List SpelledSpan) (stop : Option Fault) (v : ℕ) → Items text spans stop → (stop ≡ None) × WithinLimits spans × (value spans ≡ v) → Accepted text v
 sum_accepted text spans stop v h d = let i = rw d.0 at h in Sum_of spans (grind (arith, common_steps, (i))) d.1 d.2
 
-pub items_decide_fault : (text : List ℕ) (spans : List Span) (e : Fault) → Items text spans (Some e) → text ≢ bare_zero
+pub items_decide_fault : (text : List ℕ) (spans : List SpelledSpan) (e : Fault) → Items text spans (Some e) → text ≢ bare_zero
     → WithinLimits spans → HasFault text e
 items_decide_fault text spans e h some g = record { not_zero = some; front = h.front; rest = h.rest; spans = spans; split = h.split; within = g; row = inl h.ends }
 
@@ -103,11 +106,11 @@ fault_read text e some h =
 pub fault_from_outcome : (text : List ℕ) (e : Fault) → duration_answer text ≡ Err e → HasFault text e
 fault_from_outcome text e h = grind (arith, duration_answer-zero, fault_read)
 
-pub items_decide_value : (text : List ℕ) (spans : List Span) (stop : Option Fault) → Items text spans stop → text ≢ bare_zero
+pub items_decide_value : (text : List ℕ) (spans : List SpelledSpan) (stop : Option Fault) → Items text spans stop → text ≢ bare_zero
     → (v : ℕ) → Accepted text v ↔ ((stop ≡ None) × WithinLimits spans × (value spans ≡ v))
 items_decide_value text spans stop h some v = (λ a. value_only text spans stop v some h (outcome_accepted text v a), sum_accepted text spans stop v h)
 
-pub items_decide_overflow : (text : List ℕ) (spans : List Span) (stop : Option Fault) → Items text spans stop → text ≢ bare_zero
+pub items_decide_overflow : (text : List ℕ) (spans : List SpelledSpan) (stop : Option Fault) → Items text spans stop → text ≢ bare_zero
     → ¬ (WithinLimits spans) → HasFault text NumberOverflow
 items_decide_overflow text spans stop h some b = fault_from_outcome text NumberOverflow (outcome_summed text spans stop some h ∙ too_large spans stop h.formed b)
 
@@ -117,6 +120,10 @@ answer_accepts text r e v = (λ h. accepted_from_outcome text v (sym e ∙ h), �
 
 pub answer_faults : (text : List ℕ) (r : Result ℕ Fault) → r ≡ duration_answer text → (f : Fault) → (r ≡ Err f) ↔ HasFault text f
 answer_faults text r e f = (λ h. fault_from_outcome text f (sym e ∙ h), λ a. e ∙ outcome_fault text f a)
+
+pub is_answer : (bytes : List ℕ) (r : Result ℕ DurationError) → result_view r ≡ duration_answer (chars bytes) → IfErr r (PointsInto bytes) → IsDurationAnswer bytes r
+is_answer bytes r e p =
+    record { value = answer_accepts (chars bytes) (result_view r) e; fault = answer_faults (chars bytes) (result_view r) e; answer = e; place = p }
 
 outcome_answered : (text : List ℕ) (r : Result ℕ Fault) → IsOutcome text r → r ≡ duration_answer text
 outcome_answered text (Ok v) a = sym (outcome_accepted text v a)
@@ -129,5 +136,5 @@ answered_outcome text (Err e) h = fault_from_outcome text e h
 pub one_outcome : (text : List ℕ) → ExactlyOne (IsOutcome text)
 one_outcome text = (duration_answer text, answered_outcome text (duration_answer text) refl, outcome_answered text)
 
-pub one_list_of_items : (text : List ℕ) → ExactlyOne (λ (list : List Span × Option Fault). Items text list.0 list.1)
+pub one_list_of_items : (text : List ℕ) → ExactlyOne (λ (list : List SpelledSpan × Option Fault). Items text list.0 list.1)
 one_list_of_items text = (items text, items_found text, λ list h. sym (items_walked text list.0 list.1 h))

@@ -6,13 +6,13 @@ use Rattle.std.proofs.lemmas.List.Sums.{sum_by-cons, sum_by_push}
 use Rattle.humantime.specs.Values.{nanos_per_second}
 use Rattle.humantime.specs.Durations.Characters.{u64_max}
 use Rattle.humantime.specs.Durations.Units.{Addition}
-use Rattle.humantime.specs.Durations.Accepted.{addition_nanos, total, room, AllHaveRoom}
+use Rattle.humantime.specs.Durations.Accepted.{addition_nanos, total, has_room, AllHaveRoom}
 use Rattle.humantime.specs.Answers.Walks.{add_all}
 
 -- each addition has room, where t nanoseconds stand before them all
 abbrev pub RoomFrom : ℕ → List Addition → Type 0
 RoomFrom t [] = ⊤
-RoomFrom t (x ∷ xs) = (room t x ≡ true) × RoomFrom (t + addition_nanos x) xs
+RoomFrom t (x ∷ xs) = (has_room t x ≡ true) × RoomFrom (t + addition_nanos x) xs
 
 -- the sum where there is room, and none else
 pub add_all-room : (t : ℕ) (xs : List Addition) → RoomFrom t xs → add_all t xs ≡ Some (t + total xs)

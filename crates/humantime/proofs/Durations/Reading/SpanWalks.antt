@@ -3,13 +3,13 @@ use Rattle.std.proofs.Common.{◌≡◌, ◌≢◌, ℕ, zero, suc, ◌≤◌, B
 use Rattle.humantime.specs.Texts.{begins}
 use Rattle.humantime.specs.Durations.Characters.{is_digit}
 use Rattle.humantime.specs.Durations.Faults.{Fault, Empty}
-use Rattle.humantime.specs.Answers.Walks.{Walk, no_more, one_more, walk, walk_from, fault_at}
+use Rattle.humantime.specs.Answers.Walks.{Walk, empty_walk, one_more, walk, walk_from, fault_at}
 use Rattle.humantime.proofs.Durations.Reading.Spelled.{next_of, next_smaller}
 
 -- What is shown of each rest and of the walk from there: at the end, where a span is wrong, and where one is right.
 pub record Steps (text : List ℕ) (P : Bool → List ℕ → Walk → Type 0) : Type 0 where
-  pub end : (first : Bool) → P first [] (no_more [] (if first then Some Empty else None))
-  pub wrong : (first : Bool) (rest : List ℕ) (e : Fault) → rest ≢ [] → fault_at text rest ≡ Some e → P first rest (no_more rest (Some e))
+  pub end : (first : Bool) → P first [] (empty_walk [] (if first then Some Empty else None))
+  pub wrong : (first : Bool) (rest : List ℕ) (e : Fault) → rest ≢ [] → fault_at text rest ≡ Some e → P first rest (empty_walk rest (Some e))
   pub right : (first : Bool) (rest : List ℕ) (w : Walk) → fault_at text rest ≡ None → P false (next_of rest) w → P first rest (one_more rest w)
 
 right_begins : (text rest : List ℕ) → fault_at text rest ≡ None → begins is_digit rest ≡ true
@@ -22,7 +22,7 @@ by_count zero text P s first (c ∷ cs) h = absurd (omega arith)
 by_count (suc n) text P s first (c ∷ cs) h = by (fault_at text (c ∷ cs)) refl (λ d. let k = next_smaller (c ∷ cs) d in by_count n text P s false (next_of (c ∷ cs)) (omega arith))
   where
     by : (o : Option Fault) → fault_at text (c ∷ cs) ≡ o → (begins is_digit (c ∷ cs) ≡ true → P false (next_of (c ∷ cs)) (walk n false text (next_of (c ∷ cs))))
-        → P first (c ∷ cs) (elim o [ None ↦ one_more (c ∷ cs) (walk n false text (next_of (c ∷ cs))) | Some e ↦ no_more (c ∷ cs) (Some e) ])
+        → P first (c ∷ cs) (elim o [ None ↦ one_more (c ∷ cs) (walk n false text (next_of (c ∷ cs))) | Some e ↦ empty_walk (c ∷ cs) (Some e) ])
     by None e more = s.right first (c ∷ cs) _ e (more (right_begins text (c ∷ cs) e))
     by (Some f) e more = s.wrong first (c ∷ cs) f (λ n. cc) e
 
@@ -38,11 +38,11 @@ enough (suc n) zero first text (c ∷ cs) h k = absurd (omega arith)
 enough (suc n) (suc m) first text (c ∷ cs) h k =
     grind (arith, (enough n m false text (next_of (c ∷ cs))), (next_smaller (c ∷ cs)), (right_begins text (c ∷ cs)))
 
-pub walk-end : (first : Bool) (text : List ℕ) → walk_from first text [] ≡ no_more [] (if first then Some Empty else None)
+pub walk-end : (first : Bool) (text : List ℕ) → walk_from first text [] ≡ empty_walk [] (if first then Some Empty else None)
 unfolding walk
 walk-end first text = refl
 
-pub walk-wrong : (first : Bool) (text rest : List ℕ) (e : Fault) → rest ≢ [] → fault_at text rest ≡ Some e → walk_from first text rest ≡ no_more rest (Some e)
+pub walk-wrong : (first : Bool) (text rest : List ℕ) (e : Fault) → rest ≢ [] → fault_at text rest ≡ Some e → walk_from first text rest ≡ empty_walk rest (Some e)
 unfolding walk
 walk-wrong first text rest e some h = grind arith
 

@@ -1,11 +1,11 @@
 -- What a spelling is read as: the longest runs of characters give back the span that it spells.
+use Rattle.std.specs.Prelude.{option_map, unwrap_or}
 use Rattle.std.proofs.Common.{◌≡◌, ◌≢◌, ◌⊎◌, ℕ, ◌≤◌, ◌<◌, true, false, List, [], ◌∷◌, ◌++◌, length, Option, Some, None, ap, ◌∙◌, arith, append_assoc, append-nil}
 use Rattle.humantime.specs.Texts.{take_while, drop_while, begins, ends}
 use Rattle.humantime.specs.Durations.Characters.{is_whitespace, is_digit, is_letter, is_numeric}
-use Rattle.humantime.specs.Durations.Spans.{Span, Only, SpellsFraction, Spells}
-use Rattle.humantime.specs.Durations.Faults.{after_number, fraction_of, after_fraction, after_word, span_of}
+use Rattle.humantime.specs.Durations.Spans.{SpelledSpan, Only, SpellsFraction, Spells}
+use Rattle.humantime.specs.Durations.Faults.{number_of, after_number, after_point, fraction_of, after_fraction, after_word, span_of}
 use Rattle.humantime.specs.Answers.Walks.{ends_span}
-use Rattle.humantime.specs.Answers.Items.{fraction_at, drop_fraction}
 use Rattle.humantime.proofs.Durations.Reading.Classes.{letter_not_numeric, letter_not_point, letter_not_whitespace, whitespace_is_numeric, point_not_numeric, is_point-46}
 use Rattle.humantime.proofs.Durations.Reading.Spellings.{spells_alone}
 use Rattle.humantime.proofs.Durations.Reading.Runs.{take_while-append, drop_while-append, drop_while_shorter, begins-append, begins_not_nil, letters_begin, ends_Only, ends_other, ends-append, append_not_nil}
@@ -15,7 +15,7 @@ abbrev pub next_of : List ℕ → List ℕ
 next_of rest = drop_while is_whitespace (after_word rest)
 
 -- the rest begins with a digit, and its span and the text behind it are these
-pub record IsSpanAt (rest : List ℕ) (s : Span) (next : List ℕ) : Type 0 where
+pub record IsSpanAt (rest : List ℕ) (s : SpelledSpan) (next : List ℕ) : Type 0 where
   pub starts : begins is_digit rest ≡ true
   pub span : span_of rest ≡ s
   pub point : fraction_of rest ≢ Some []
@@ -25,11 +25,11 @@ pub record IsSpanAt (rest : List ℕ) (s : Span) (next : List ℕ) : Type 0 wher
 pub begins_word : (w t : List ℕ) → begins is_letter w ≡ true → begins is_letter (w ++ t) ≡ true
 begins_word w t e = begins-append is_letter w t (begins_not_nil is_letter w e) ∙ e
 
-no_point : (tail : List ℕ) → begins is_letter tail ≡ true → (fraction_at tail ≡ None) × (drop_fraction tail ≡ tail)
+no_point : (tail : List ℕ) → begins is_letter tail ≡ true → after_point tail ≡ None
 no_point tail e = grind (arith, letter_not_point)
 
 fraction_read : (b tail : List ℕ) (o : Option (List ℕ)) → SpellsFraction b o → begins is_letter tail ≡ true
-    → (begins is_numeric (b ++ tail) ≡ false) × (fraction_at (b ++ tail) ≡ o) × (drop_fraction (b ++ tail) ≡ tail) × (o ≢ Some [])
+    → (begins is_numeric (b ++ tail) ≡ false) × (option_map number_of (after_point (b ++ tail)) ≡ o) × (unwrap_or (option_map after_number (after_point (b ++ tail))) (b ++ tail) ≡ tail) × (o ≢ Some [])
 fraction_read b tail None h e = grind (arith, (no_point tail e), letter_not_numeric)
 fraction_read b tail (Some ds) h e = grind (arith, letter_not_numeric, point_not_numeric, is_point-46, take_while-append, drop_while-append)
 
@@ -41,11 +41,11 @@ pub record IsReadToWord (rest number_text fraction_text tail : List ℕ) (fracti
   pub tail_is : after_fraction rest ≡ tail
   pub some : fraction ≢ Some []
 
-spelling_parts : (here next : List ℕ) (s : Span) (h : Spells here s []) → here ++ next ≡ h.number_text ++ (h.fraction_text ++ (s.word ++ (h.whitespace ++ next)))
+spelling_parts : (here next : List ℕ) (s : SpelledSpan) (h : Spells here s []) → here ++ next ≡ h.number_text ++ (h.fraction_text ++ (s.word ++ (h.whitespace ++ next)))
 spelling_parts here next s h = ap (λ (x : List ℕ). x ++ next) (spells_alone here s h) ∙ simp append_assoc
 
 -- a rest that spells a span is read as its number and fraction up to its word
-pub read_spelled : (rest next : List ℕ) (s : Span) (h : Spells rest s next)
+pub read_spelled : (rest next : List ℕ) (s : SpelledSpan) (h : Spells rest s next)
     → IsReadToWord rest h.number_text h.fraction_text (s.word ++ (h.whitespace ++ next)) s.fraction
 read_spelled rest next s h = grind (arith, begins_word, fraction_read, drop_while-append, take_while-append)
 
@@ -65,7 +65,7 @@ followed a b word [] here next whole only some whitespace o = grind (arith, (end
 followed a b word (x ∷ xs) here next whole only some whitespace o = whitespace_is_numeric x (whitespace.0)
 
 -- a spelling is the span that begins it, where its word ends with it
-pub spelled_here : (here next : List ℕ) (s : Span) → Spells here s [] → (ends_span next ≡ true) ⊎ (ends is_whitespace here ≡ true) → begins is_whitespace next ≡ false → IsSpanAt (here ++ next) s next
+pub spelled_here : (here next : List ℕ) (s : SpelledSpan) → Spells here s [] → (ends_span next ≡ true) ⊎ (ends is_whitespace here ≡ true) → begins is_whitespace next ≡ false → IsSpanAt (here ++ next) s next
 spelled_here here next s h o no_whitespace =
     let letter = letters_begin s.word h.word in
     let f : ends_span (h.whitespace ++ next) ≡ true = followed h.number_text h.fraction_text s.word h.whitespace here next (spells_alone here s h) h.word.0 letter h.only_whitespace o in
@@ -74,9 +74,9 @@ spelled_here here next s h o no_whitespace =
     rw (spelling_parts here next s h)
     (grind (arith, (f), (stops), (letter), (cut), begins-append, begins_not_nil, take_while-append, drop_while-append, fraction_read))
 
-drop_fraction_shorter : (cs : List ℕ) → length (drop_fraction cs) ≤ length cs
-drop_fraction_shorter cs = grind (arith, drop_while_shorter)
+fraction_shorter : (cs : List ℕ) → length (unwrap_or (option_map after_number (after_point cs)) cs) ≤ length cs
+fraction_shorter cs = grind (arith, drop_while_shorter)
 
 -- what follows a span is shorter than what it begins
 pub next_smaller : (rest : List ℕ) → begins is_digit rest ≡ true → length (next_of rest) < length rest
-next_smaller rest e = grind (arith, drop_fraction_shorter, drop_while_shorter)
+next_smaller rest e = grind (arith, fraction_shorter, drop_while_shorter)

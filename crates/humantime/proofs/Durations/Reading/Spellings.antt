@@ -3,16 +3,16 @@ use Rattle.std.proofs.Common.{arith, ◌≡◌, ℕ, List, [], ◌∷◌, ◌++�
 use Rattle.std.specs.List.{AllByRecursion}
 use Rattle.std.proofs.lemmas.Grind.{common_steps}
 use Rattle.humantime.specs.Durations.Characters.{is_whitespace}
-use Rattle.humantime.specs.Durations.Spans.{Span, Only, Spells, SpellsEach}
+use Rattle.humantime.specs.Durations.Spans.{SpelledSpan, Only, Spells, SpellsEach}
 
 -- The text is one that spells the span alone, and then the rest.
-pub record IsApart (text : List ℕ) (span : Span) (rest : List ℕ) : Type 0 where
+pub record IsApart (text : List ℕ) (span : SpelledSpan) (rest : List ℕ) : Type 0 where
   pub here : List ℕ
   pub whole : text ≡ here ++ rest
   pub spells : Spells here span []
 
 -- the same parts with other whitespace, or with another rest
-pub respelled : (text rest here next white : List ℕ) (s : Span) (h : Spells text s rest)
+pub respelled : (text rest here next white : List ℕ) (s : SpelledSpan) (h : Spells text s rest)
     → here ≡ h.number_text ++ (h.fraction_text ++ (s.word ++ (white ++ next))) → Only is_whitespace white → Spells here s next
 respelled text rest here next white s h whole only = record {
   number_text = h.number_text;
@@ -26,18 +26,18 @@ respelled text rest here next white s h whole only = record {
   only_whitespace = only;
 }
 
-pub apart : (text rest : List ℕ) (s : Span) → Spells text s rest → IsApart text s rest
+pub apart : (text rest : List ℕ) (s : SpelledSpan) → Spells text s rest → IsApart text s rest
 apart text rest s h = record {
   here = h.number_text ++ (h.fraction_text ++ (s.word ++ h.whitespace));
   whole = h.whole ∙ sym (simp append_assoc);
   spells = respelled text rest _ [] h.whitespace s h (sym (simp append-nil)) h.only_whitespace;
 }
 
-pub spells-append : (text rest more : List ℕ) (s : Span) → Spells text s rest → Spells (text ++ more) s (rest ++ more)
+pub spells-append : (text rest more : List ℕ) (s : SpelledSpan) → Spells text s rest → Spells (text ++ more) s (rest ++ more)
 spells-append text rest more s h =
     respelled text rest (text ++ more) (rest ++ more) h.whitespace s h (ap (λ (t : List ℕ). t ++ more) h.whole ∙ simp append_assoc) h.only_whitespace
 
-pub spells_each-append : (a b : List ℕ) (ss ts : List Span) → SpellsEach a ss → SpellsEach b ts → SpellsEach (a ++ b) (ss ++ ts)
+pub spells_each-append : (a b : List ℕ) (ss ts : List SpelledSpan) → SpellsEach a ss → SpellsEach b ts → SpellsEach (a ++ b) (ss ++ ts)
 spells_each-append a b [] ts h k = subst (λ (l : List ℕ). SpellsEach (l ++ b) ts) (sym h) k
 spells_each-append a b (s ∷ ss) ts h k = (h.0 ++ b, spells-append a h.0 b s h.1, spells_each-append h.0 b ss ts h.2 k)
 
@@ -46,5 +46,5 @@ pub each-append : {A : Type 0} (P : A → Type 0) (xs ys : List A) → AllByRecu
 each-append P xs ys h k = grind (arith, common_steps)
 
 -- a spelling alone has nothing behind its whitespace
-pub spells_alone : (here : List ℕ) (s : Span) (h : Spells here s []) → here ≡ h.number_text ++ (h.fraction_text ++ (s.word ++ h.whitespace))
+pub spells_alone : (here : List ℕ) (s : SpelledSpan) (h : Spells here s []) → here ≡ h.number_text ++ (h.fraction_text ++ (s.word ++ h.whitespace))
 spells_alone here s h = h.whole ∙ simp append-nil

@@ -8,7 +8,7 @@ use Rattle.std.proofs.lemmas.Bool.Decides.{nat_tests, not_from_Decides}
 use Rattle.humantime.specs.Texts.{begins, ends, take_while, drop_while}
 use Rattle.humantime.specs.Durations.Characters.{is_whitespace, is_digit, is_letter, offset_of, byte_length}
 use Rattle.humantime.specs.Durations.Units.{scale_of_word}
-use Rattle.humantime.specs.Durations.Spans.{Span}
+use Rattle.humantime.specs.Durations.Spans.{SpelledSpan}
 use Rattle.humantime.specs.Durations.Accepted.{is_some_and, too_long}
 use Rattle.humantime.specs.Durations.Faults.{fraction_of, after_fraction, word_of, after_word, span_of, Fault, BeginsNumber, EndsSpan, BeginsSpan, Stops, Only_whitespace, No_number, Too_long, No_letter_after_number, Point_without_digits, No_letter_after_point, Word_not_ended, No_word, Unknown_word}
 use Rattle.humantime.specs.Answers.Walks.{stop_at, fault_at, ends_span}
@@ -54,7 +54,7 @@ no_digits_fails : (rest : List ℕ) → fraction_of rest ≢ Some [] → is_some
 no_digits_fails rest some = is_false _ (no_digits_tells (fraction_of rest)) some
 
 -- what stops at a rest is found there
-pub stops_at : (text front : List ℕ) (spans : List Span) (rest : List ℕ) (e : Fault) → rest ≢ [] → Stops text front spans rest e → fault_at text rest ≡ Some e
+pub stops_at : (text front : List ℕ) (spans : List SpelledSpan) (rest : List ℕ) (e : Fault) → rest ≢ [] → Stops text front spans rest e → fault_at text rest ≡ Some e
 unfolding stop_at
 stops_at text front spans rest e some (Only_whitespace none end is) = absurd (some end)
 stops_at text front spans rest e some (No_number there d first is) = rw d (ap Some (sym is))
@@ -99,11 +99,11 @@ word_or_end : (cs : List ℕ) → begins (λ c. not (is_letter c)) cs ≡ false 
 word_or_end cs goes = grind (arith, common_steps)
 
 -- what the table says where the chain finds this: a whole span, or a row
-abbrev Tells : List ℕ → List ℕ → List Span → List ℕ → Option Fault → Type 0
+abbrev Tells : List ℕ → List ℕ → List SpelledSpan → List ℕ → Option Fault → Type 0
 Tells text front spans rest None = BeginsSpan rest
 Tells text front spans rest (Some e) = Stops text front spans rest e
 
-word_told : (text front : List ℕ) (spans : List Span) (rest : List ℕ) → BeginsNumber rest → begins (λ c. not (is_letter c)) (after_fraction rest) ≡ false
+word_told : (text front : List ℕ) (spans : List SpelledSpan) (rest : List ℕ) → BeginsNumber rest → begins (λ c. not (is_letter c)) (after_fraction rest) ≡ false
     → is_some_and (λ ds. length ds == 0) (fraction_of rest) ≡ false → ends_span (after_word rest) ≡ true → Tells text front spans rest (fault_at text rest)
 unfolding stop_at
 word_told text front spans rest b goes some follows =
@@ -120,7 +120,7 @@ word_told text front spans rest b goes some follows =
       ]
     ]
 
-number_told : (text front : List ℕ) (spans : List Span) (rest : List ℕ) → BeginsNumber rest → Tells text front spans rest (fault_at text rest)
+number_told : (text front : List ℕ) (spans : List SpelledSpan) (rest : List ℕ) → BeginsNumber rest → Tells text front spans rest (fault_at text rest)
 unfolding stop_at
 number_told text front spans rest b = elim (cases_Bool (begins (λ c. not (is_letter c)) (after_fraction rest))) [
   | inl stray ↦
@@ -139,7 +139,7 @@ number_told text front spans rest b = elim (cases_Bool (begins (λ c. not (is_le
   ]
 ]
 
-told : (text front : List ℕ) (spans : List Span) (rest : List ℕ) → rest ≢ [] → (begins is_digit rest ≡ false → (spans ≡ []) ⊎ (ends is_whitespace front ≡ true))
+told : (text front : List ℕ) (spans : List SpelledSpan) (rest : List ℕ) → rest ≢ [] → (begins is_digit rest ≡ false → (spans ≡ []) ⊎ (ends is_whitespace front ≡ true))
     → Tells text front spans rest (fault_at text rest)
 unfolding stop_at
 told text front spans rest some first = elim (cases_Bool (begins is_digit rest)) [
@@ -151,7 +151,7 @@ told text front spans rest some first = elim (cases_Bool (begins is_digit rest))
 ]
 
 -- what is found at a rest stops there
-pub wrong_stops : (text front : List ℕ) (spans : List Span) (rest : List ℕ) (e : Fault) → rest ≢ [] → (begins is_digit rest ≡ false → (spans ≡ []) ⊎ (ends is_whitespace front ≡ true))
+pub wrong_stops : (text front : List ℕ) (spans : List SpelledSpan) (rest : List ℕ) (e : Fault) → rest ≢ [] → (begins is_digit rest ≡ false → (spans ≡ []) ⊎ (ends is_whitespace front ≡ true))
     → fault_at text rest ≡ Some e → Stops text front spans rest e
 wrong_stops text front spans rest e some first found = rw found at (told text front spans rest some first)
 

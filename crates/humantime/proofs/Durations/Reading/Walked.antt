@@ -4,11 +4,11 @@ use Rattle.std.proofs.Common.{◌≡◌, ◌⊎◌, ℕ, Bool, true, false, List
 use Rattle.std.specs.List.{AllByRecursion}
 use Rattle.humantime.specs.Texts.{begins, ends, drop_while}
 use Rattle.humantime.specs.Durations.Characters.{is_whitespace, is_digit}
-use Rattle.humantime.specs.Durations.Spans.{Span, SpellsEach}
+use Rattle.humantime.specs.Durations.Spans.{SpelledSpan, SpellsEach}
 use Rattle.humantime.specs.Durations.Accepted.{Formed}
 use Rattle.humantime.specs.Durations.Faults.{Fault, Split, span_of}
 use Rattle.humantime.specs.Durations.Items.{Items, Ends}
-use Rattle.humantime.specs.Answers.Walks.{Walk, no_more, walk_from, spans_on, items, ends_span}
+use Rattle.humantime.specs.Answers.Walks.{Walk, empty_walk, walk_from, spans_of_walk, items, ends_span}
 use Rattle.humantime.proofs.Durations.Reading.Classes.{digit_is_numeric, digit_not_whitespace}
 use Rattle.humantime.proofs.Durations.Reading.Runs.{drop_while-append, begins-append, begins_other, begins_not_nil, ends-append}
 use Rattle.humantime.proofs.Durations.Reading.Spelled.{IsSpanAt, spelled_here}
@@ -24,44 +24,44 @@ Closes front rest = (ends_span rest ≡ true) ⊎ (ends is_whitespace front ≡ 
 pub closes_digit : (front rest : List ℕ) → begins is_digit rest ≡ true → Closes front rest
 closes_digit front rest d = grind (arith, digit_is_numeric)
 
-pub each_starts : (body : List ℕ) (s : Span) (ss : List Span) → SpellsEach body (s ∷ ss) → begins is_digit body ≡ true
+pub each_starts : (body : List ℕ) (s : SpelledSpan) (ss : List SpelledSpan) → SpellsEach body (s ∷ ss) → begins is_digit body ≡ true
 each_starts body s ss h = grind arith
 
-starts_before : (body rest : List ℕ) (s : Span) (ss : List Span) → SpellsEach body (s ∷ ss) → begins is_digit (body ++ rest) ≡ true
+starts_before : (body rest : List ℕ) (s : SpelledSpan) (ss : List SpelledSpan) → SpellsEach body (s ∷ ss) → begins is_digit (body ++ rest) ≡ true
 starts_before body rest s ss h = let d = each_starts body s ss h in begins-append is_digit body rest (begins_not_nil is_digit body d) ∙ d
 
-no_whitespace_before : (body rest : List ℕ) (ss : List Span) → SpellsEach body ss → begins is_whitespace rest ≡ false → begins is_whitespace (body ++ rest) ≡ false
+no_whitespace_before : (body rest : List ℕ) (ss : List SpelledSpan) → SpellsEach body ss → begins is_whitespace rest ≡ false → begins is_whitespace (body ++ rest) ≡ false
 no_whitespace_before body rest [] h e = rw h e
 no_whitespace_before body rest (s ∷ ss) h e = begins_other is_digit is_whitespace digit_not_whitespace (body ++ rest) (starts_before body rest s ss h)
 
 -- each spelling but the last ends before a digit
-closes_here : (here more rest : List ℕ) (ss : List Span) → SpellsEach more ss → Closes (here ++ more) rest → Closes here (more ++ rest)
+closes_here : (here more rest : List ℕ) (ss : List SpelledSpan) → SpellsEach more ss → Closes (here ++ more) rest → Closes here (more ++ rest)
 closes_here here more rest [] h o = grind (arith, append-nil)
 closes_here here more rest (s ∷ ss) h o = closes_digit here (more ++ rest) (starts_before more rest s ss h)
 
-closes_more : (xs ys rest : List ℕ) (ss : List Span) → SpellsEach ys ss → (ss ≡ []) ⊎ Closes (xs ++ ys) rest → (ss ≡ []) ⊎ Closes ys rest
+closes_more : (xs ys rest : List ℕ) (ss : List SpelledSpan) → SpellsEach ys ss → (ss ≡ []) ⊎ Closes (xs ++ ys) rest → (ss ≡ []) ⊎ Closes ys rest
 closes_more xs ys rest [] h o = inl refl
 closes_more xs ys rest (s ∷ ss) h o = rw (ends-append is_whitespace xs ys (begins_not_nil is_digit ys (each_starts ys s ss h))) at o
 
 -- the first of these spans is the span that begins the text
-pub first_here : (body rest : List ℕ) (s : Span) (ss : List Span) (h : SpellsEach body (s ∷ ss)) → Closes body rest → begins is_whitespace rest ≡ false → IsSpanAt (body ++ rest) s (h.0 ++ rest)
+pub first_here : (body rest : List ℕ) (s : SpelledSpan) (ss : List SpelledSpan) (h : SpellsEach body (s ∷ ss)) → Closes body rest → begins is_whitespace rest ≡ false → IsSpanAt (body ++ rest) s (h.0 ++ rest)
 first_here body rest s ss h o e = grind (arith, common_steps, (spelled_here (apart body h.0 s h.1).here (h.0 ++ rest) s (apart body h.0 s h.1).spells (closes_here (apart body h.0 s h.1).here h.0 rest ss h.2 (subst (λ b. Closes b rest) (apart body h.0 s h.1).whole o)) (no_whitespace_before h.0 rest ss h.2 e)))
 
 -- whether none was before, behind these spans
-abbrev pub first_after : Bool → List Span → Bool
+abbrev pub first_after : Bool → List SpelledSpan → Bool
 first_after first [] = first
 first_after first (s ∷ ss) = false
 
-none_first : (spans : List Span) → first_after false spans ≡ false
+none_first : (spans : List SpelledSpan) → first_after false spans ≡ false
 none_first spans = grind arith
 
 -- these spans, and then those of a walk
-abbrev pub followed_by : List Span → Walk → List Span × Option Fault
+abbrev pub followed_by : List SpelledSpan → Walk → List SpelledSpan × Option Fault
 followed_by spans w = (spans ++ map span_of w.starts, w.stop)
 
 -- the walk goes through these spans, and on from the rest
-through : (text body rest : List ℕ) (first : Bool) (spans : List Span) → SpellsEach body spans → AllByRecursion Formed spans → (spans ≡ []) ⊎ Closes body rest → begins is_whitespace rest ≡ false
-    → spans_on (walk_from first text (body ++ rest)) ≡ followed_by spans (walk_from (first_after first spans) text rest)
+through : (text body rest : List ℕ) (first : Bool) (spans : List SpelledSpan) → SpellsEach body spans → AllByRecursion Formed spans → (spans ≡ []) ⊎ Closes body rest → begins is_whitespace rest ≡ false
+    → spans_of_walk (walk_from first text (body ++ rest)) ≡ followed_by spans (walk_from (first_after first spans) text rest)
 through text body rest first [] h f o e = rw h refl
 through text body rest first (s ∷ ss) h f (inl o) e = cc
 through text body rest first (s ∷ ss) h f (inr o) e =
@@ -71,26 +71,26 @@ through text body rest first (s ∷ ss) h f (inr o) e =
     grind (arith, (i), (more), (walk-right first text _ (fine_goes text _ (fine_here (body ++ rest) _ s i f.0))))
 
 -- the front of a split begins where the whitespace ends
-pub front_begins : (text front rest : List ℕ) (spans : List Span) (h : Split text front spans rest) → drop_while is_whitespace text ≡ h.spelled.body ++ rest
+pub front_begins : (text front rest : List ℕ) (spans : List SpelledSpan) (h : Split text front spans rest) → drop_while is_whitespace text ≡ h.spelled.body ++ rest
 front_begins text front rest spans h = grind (arith, common_steps, drop_while-append, no_whitespace_before)
 
-pub front_walked : (text front rest : List ℕ) (spans : List Span) → Split text front spans rest → AllByRecursion Formed spans → (spans ≡ []) ⊎ Closes front rest
+pub front_walked : (text front rest : List ℕ) (spans : List SpelledSpan) → Split text front spans rest → AllByRecursion Formed spans → (spans ≡ []) ⊎ Closes front rest
     → items text ≡ followed_by spans (walk_from (first_after true spans) text rest)
 unfolding items
 front_walked text front rest spans h f o =
     let body = h.spelled.body in
     let c : (spans ≡ []) ⊎ Closes (h.spelled.whitespace ++ body) rest = subst (λ x. (spans ≡ []) ⊎ Closes x rest) h.spelled.whole o in
-    ap (λ (x : List ℕ). spans_on (walk_from true text x)) (front_begins text front rest spans h)
+    ap (λ (x : List ℕ). spans_of_walk (walk_from true text x)) (front_begins text front rest spans h)
     ∙ through text body rest true spans h.spelled.each f (closes_more h.spelled.whitespace body rest spans h.spelled.each c) h.no_whitespace
 
 -- the walk ends where the items do
-ends_walked : (text front rest : List ℕ) (spans : List Span) (stop : Option Fault) → Ends text front spans rest stop → walk_from (first_after true spans) text rest ≡ no_more rest stop
+ends_walked : (text front rest : List ℕ) (spans : List SpelledSpan) (stop : Option Fault) → Ends text front spans rest stop → walk_from (first_after true spans) text rest ≡ empty_walk rest stop
 ends_walked text front [] spans stop h = grind (arith, walk-end)
 ends_walked text front (c ∷ cs) spans None h = cc
 ends_walked text front (c ∷ cs) spans (Some e) h = walk-wrong (first_after true spans) text (c ∷ cs) e (λ n. cc) (stops_at text front spans (c ∷ cs) e (λ n. cc) h)
 
 -- whatever the items of a text are, the reading gives these
-pub items_walked : (text : List ℕ) (spans : List Span) (stop : Option Fault) → Items text spans stop → items text ≡ (spans, stop)
+pub items_walked : (text : List ℕ) (spans : List SpelledSpan) (stop : Option Fault) → Items text spans stop → items text ≡ (spans, stop)
 items_walked text spans stop h =
     front_walked text h.front h.rest spans h.split h.formed (grind (arith, (h.ends)))
-    ∙ ap (followed_by spans) (ends_walked text h.front h.rest spans stop h.ends) ∙ ap (λ (x : List Span). (x, stop)) (append-nil spans)
+    ∙ ap (followed_by spans) (ends_walked text h.front h.rest spans stop h.ends) ∙ ap (λ (x : List SpelledSpan). (x, stop)) (append-nil spans)

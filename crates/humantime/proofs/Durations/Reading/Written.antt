@@ -1,11 +1,11 @@
 -- A rest that a well formed span begins is a spelling of that span, and then the rest behind it.
+use Rattle.std.specs.Prelude.{option_map, unwrap_or}
 use Rattle.std.proofs.Common.{◌≡◌, ◌≢◌, ℕ, ◌<◌, true, false, List, [], ◌∷◌, ◌++◌, length, Some, if◌then◌else◌, refl, arith, append-nil}
 use Rattle.humantime.specs.Texts.{take_while, begins, ends}
 use Rattle.humantime.specs.Durations.Characters.{is_whitespace, is_digit, is_point, is_numeric}
-use Rattle.humantime.specs.Durations.Spans.{Span, SpellsFraction, Spells}
+use Rattle.humantime.specs.Durations.Spans.{SpelledSpan, SpellsFraction, Spells}
 use Rattle.humantime.specs.Durations.Accepted.{Formed}
-use Rattle.humantime.specs.Durations.Faults.{after_number, word_of, after_word, span_of, BeginsSpan}
-use Rattle.humantime.specs.Answers.Items.{fraction_at, drop_fraction}
+use Rattle.humantime.specs.Durations.Faults.{number_of, after_number, after_point, word_of, after_word, span_of, BeginsSpan}
 use Rattle.humantime.proofs.Durations.Reading.Classes.{digit_is_numeric, is_point-true}
 use Rattle.humantime.proofs.Durations.Reading.Runs.{take_while-drop_while, Only-take_while, begins_take_while, ends_Only, ends-append}
 use Rattle.std.proofs.lemmas.Grind.{common_steps}
@@ -23,15 +23,15 @@ abbrev pub fraction_text : List ℕ → List ℕ
 fraction_text [] = []
 fraction_text (c ∷ cs) = if is_point c then c ∷ take_while is_numeric cs else []
 
-pub fraction_text-drop_while : (cs : List ℕ) → cs ≡ fraction_text cs ++ drop_fraction cs
-fraction_text-drop_while cs = grind (arith, take_while-drop_while)
+fraction_text-append : (cs : List ℕ) → cs ≡ fraction_text cs ++ unwrap_or (option_map after_number (after_point cs)) cs
+fraction_text-append cs = grind (arith, take_while-drop_while)
 
-fraction_spelled : (m : List ℕ) → fraction_at m ≢ Some [] → SpellsFraction (fraction_text m) (fraction_at m)
+fraction_spelled : (m : List ℕ) → option_map number_of (after_point m) ≢ Some [] → SpellsFraction (fraction_text m) (option_map number_of (after_point m))
 fraction_spelled [] some = refl
 fraction_spelled (c ∷ cs) some = grind (arith, (Only-take_while is_numeric cs), (is_point-true c))
 
 -- a spelling has a digit and a letter
-pub spelling_some : (text rest : List ℕ) (s : Span) → Spells text s rest → 1 < length text
+pub spelling_some : (text rest : List ℕ) (s : SpelledSpan) → Spells text s rest → 1 < length text
 spelling_some text rest s h = grind (arith, common_steps)
 
 pub written_here : (rest : List ℕ) → BeginsSpan rest → (here : List ℕ) × IsWritten rest here
@@ -39,7 +39,7 @@ written_here rest h =
     let some = some_letters (word_of rest) h.unit in (
       take_while is_numeric rest ++ (fraction_text (after_number rest) ++ (word_of rest ++ take_while is_whitespace (after_word rest))),
       record {
-        whole = (grind (arith, common_steps, take_while-drop_while, fraction_text-drop_while));
+        whole = (grind (arith, common_steps, take_while-drop_while, fraction_text-append));
         spells = (grind (arith, append-nil, Only-take_while, begins_take_while, digit_is_numeric, fraction_spelled, (some), (h)));
         closes = λ more e. (grind (arith, ends-append, ends_Only, Only-take_while, ((ends_tells (after_word rest)).1 h.ended), (more), (e)));
       },
@@ -49,7 +49,7 @@ written_here rest h =
 pub formed_here : (rest : List ℕ) → BeginsSpan rest → Formed (span_of rest)
 formed_here rest h = record { short = h.number.short; word = h.unit }
 
-pub fine_here : (rest next : List ℕ) (s : Span) → IsSpanAt rest s next → Formed s → BeginsSpan rest
+pub fine_here : (rest next : List ℕ) (s : SpelledSpan) → IsSpanAt rest s next → Formed s → BeginsSpan rest
 fine_here rest next s h f =
     let k = rw (← h.span) at f in
     record {

@@ -3,7 +3,7 @@ use Rattle.std.proofs.Common.{◌≡◌, ◌≢◌, ◌++◌, IsUtf8, chars, enc
 use Rattle.std.proofs.lemmas.Str.{encodes-chars, encode_ascii}
 use Rattle.humantime.specs.Texts.{drop_while}
 use Rattle.humantime.specs.Durations.Characters.{is_whitespace, bare_zero}
-use Rattle.humantime.specs.Durations.Spans.{Span}
+use Rattle.humantime.specs.Durations.Spans.{SpelledSpan}
 use Rattle.humantime.specs.Durations.Faults.{span_of, Fault}
 use Rattle.humantime.specs.Answers.Walks.{Walk, walk_of, items, sum_spans}
 use Rattle.humantime.specs.Answers.Durations.{duration_answer}
@@ -21,7 +21,7 @@ use Rattle.humantime.proofs.Durations.Bytes.Trimming.{spelled_at}
 -- what is lent on a walk spells the spans of the walk
 spans_read : (text : List ℕ) (starts : List (List ℕ)) (stop : Option Fault) → map span_in (items_of (map (view_at text) starts) stop) ≡ items_of (map span_of starts) stop
 spans_read text [] stop = grind arith
-spans_read text (rest ∷ starts) stop = ap₂ (λ (s : Span) (items : List (Result Span Fault)). Ok s ∷ items) (spelled_at text rest) (spans_read text starts stop)
+spans_read text (rest ∷ starts) stop = ap₂ (λ (s : SpelledSpan) (items : List (Result SpelledSpan Fault)). Ok s ∷ items) (spelled_at text rest) (spans_read text starts stop)
 
 -- unless the text is `0`, what its items add up to is its outcome
 sum_items_outcome : (text : List ℕ) → text ≢ bare_zero → sum_items 0 (item_views text) ≡ duration_answer text

@@ -6,7 +6,7 @@ use Rattle.std.specs.Str.{drop_trailing_whitespace}
 use Rattle.std.proofs.lemmas.List.{append_cancel_left}
 use Rattle.humantime.specs.Texts.{begins, ends, drop_while}
 use Rattle.humantime.specs.Durations.Characters.{is_whitespace, is_digit, is_letter}
-use Rattle.humantime.specs.Durations.Spans.{Span, Only, SpellsFraction}
+use Rattle.humantime.specs.Durations.Spans.{SpelledSpan, Only, SpellsFraction}
 use Rattle.humantime.specs.Durations.Faults.{after_number, after_fraction}
 use Rattle.humantime.specs.Durations.Items.{SpanView, IsDigitSlice, IsFractionView, IsSpanView, AreSpanViews}
 use Rattle.humantime.specs.Answers.Items.{trimmed, number_slice, fraction_slice}
@@ -42,7 +42,7 @@ record SlicesAt (rest : List ℕ) (x : SpanView) (t : List ℕ) : Type 0 where
   left : after_fraction rest ≡ x.unit ++ t
   starts : begins is_digit rest ≡ true
 
-slices_found : (text rest : List ℕ) (s : Span) (x : SpanView) (next : List ℕ) (h : IsSpanView text rest s x next) → SlicesAt rest x (h.spelled.whitespace ++ next)
+slices_found : (text rest : List ℕ) (s : SpelledSpan) (x : SpanView) (next : List ℕ) (h : IsSpanView text rest s x next) → SlicesAt rest x (h.spelled.whitespace ++ next)
 slices_found text rest s x next h =
     let k = h.spelled in
     let r = read_spelled rest next s h.spelled in
@@ -56,19 +56,19 @@ slices_found text rest s x next h =
       starts = rw k.whole (begins-append is_digit k.number_text _ (begins_not_nil is_digit k.number_text k.starts) ∙ k.starts);
     }
 
-each_starts : (text rest : List ℕ) (s : Span) (ss : List Span) (xs : List SpanView) (end : List ℕ) → AreSpanViews text rest (s ∷ ss) xs end → begins is_digit rest ≡ true
+each_starts : (text rest : List ℕ) (s : SpelledSpan) (ss : List SpelledSpan) (xs : List SpanView) (end : List ℕ) → AreSpanViews text rest (s ∷ ss) xs end → begins is_digit rest ≡ true
 each_starts text rest s ss xs end h = grind arith
 
 next_is : (whitespace next : List ℕ) → Only is_whitespace whitespace → begins is_digit next ≡ true → drop_while is_whitespace (whitespace ++ next) ≡ next
 next_is whitespace next o b = drop_while-append is_whitespace whitespace next o (begins_other is_digit is_whitespace digit_not_whitespace next b)
 
 -- two lendings of one span are the same, and leave the same
-one_span : (text rest : List ℕ) (s : Span) (x y : SpanView) (m n : List ℕ) (h : IsSpanView text rest s x m) (k : IsSpanView text rest s y n)
+one_span : (text rest : List ℕ) (s : SpelledSpan) (x y : SpanView) (m n : List ℕ) (h : IsSpanView text rest s x m) (k : IsSpanView text rest s y n)
     → (x ≡ y) × (h.spelled.whitespace ++ m ≡ k.spelled.whitespace ++ n)
 one_span text rest s x y m n h k = grind (arith, common_steps, (slices_found text rest s x m h), (slices_found text rest s y n k), (append_cancel_left x.unit (h.spelled.whitespace ++ m) (k.spelled.whitespace ++ n) (sym (slices_found text rest s x m h).left ∙ (slices_found text rest s y n k).left ∙ ap (λ (w : List ℕ). w ++ (k.spelled.whitespace ++ n)) (sym (h.unit ∙ sym k.unit)))))
 
 -- one list of spans lends one list of slices, wherever in whitespace the rest of the text begins
-pub one_each : (text p q m n : List ℕ) (spans : List Span) (xs ys : List SpanView) (d e : List ℕ) → Only is_whitespace p → Only is_whitespace q → p ++ m ≡ q ++ n → AreSpanViews text m spans xs d → AreSpanViews text n spans ys e → xs ≡ ys
+pub one_each : (text p q m n : List ℕ) (spans : List SpelledSpan) (xs ys : List SpanView) (d e : List ℕ) → Only is_whitespace p → Only is_whitespace q → p ++ m ≡ q ++ n → AreSpanViews text m spans xs d → AreSpanViews text n spans ys e → xs ≡ ys
 one_each text p q m n (s ∷ ss) (x ∷ xs) (y ∷ ys) d e o u w h k =
     let r : m ≡ n = sym (next_is p m o (each_starts text m s ss (x ∷ xs) d h)) ∙ ap (drop_while is_whitespace) w ∙ next_is q n u (each_starts text n s ss (y ∷ ys) e k) in
     let l : IsSpanView text m s y k.0 = subst (λ (z : List ℕ). IsSpanView text z s y k.0) (sym r) k.1 in

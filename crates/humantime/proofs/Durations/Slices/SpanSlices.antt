@@ -1,13 +1,14 @@
 -- What the span at a rest lends of the text.
 use Rattle.std.proofs.lemmas.Grind.{common_steps}
+use Rattle.std.specs.Prelude.{option_map, unwrap_or}
 use Rattle.std.proofs.Common.{◌≡◌, ◌≢◌, ℕ, Bool, true, false, List, [], ◌∷◌, ◌++◌, Option, refl, sym, ap, subst, ◌∙◌, ◌<◌, ◌≤◌, arith}
 use Rattle.std.proofs.lemmas.List.{append_cancel_left}
 use Rattle.std.proofs.lemmas.Str.{encodes-append, length-le-encodes}
 use Rattle.humantime.specs.Texts.{begins, take_while, drop_while}
 use Rattle.humantime.specs.Durations.Characters.{is_whitespace, is_digit, is_letter, is_numeric, digits, byte_length, offset_of}
 use Rattle.humantime.specs.Durations.Spans.{Only, SpellsFraction, Spells}
-use Rattle.humantime.specs.Durations.Faults.{after_number, fraction_of, after_fraction, word_of, after_word, span_of, BeginsSpan}
-use Rattle.humantime.specs.Answers.Items.{drop_fraction, trimmed, number_slice, fraction_slice, view_at}
+use Rattle.humantime.specs.Durations.Faults.{after_number, after_point, fraction_of, after_fraction, word_of, after_word, span_of, BeginsSpan}
+use Rattle.humantime.specs.Answers.Items.{trimmed, number_slice, fraction_slice, view_at}
 use Rattle.humantime.specs.Durations.Items.{IsDigitSlice, IsFractionView, IsSpanView}
 use Rattle.humantime.proofs.Durations.Reading.Classes.{digit_is_numeric}
 use Rattle.humantime.proofs.Durations.Reading.Runs.{take_while-drop_while, Only-take_while, begins-drop_while, begins_take_while, letters_begin, begins_some}
@@ -16,7 +17,7 @@ use Rattle.humantime.proofs.Durations.Reading.Spellings.{spells-append}
 use Rattle.humantime.proofs.Durations.Reading.Written.{written_here}
 use Rattle.humantime.proofs.Durations.Bytes.Trimming.{dropped, digits_drop_while, digit_slice, no_slice, slice_behind_point}
 
-fewer_bytes : (cs : List ℕ) → byte_length (drop_fraction cs) ≤ byte_length cs
+fewer_bytes : (cs : List ℕ) → byte_length (unwrap_or (option_map after_number (after_point cs)) cs) ≤ byte_length cs
 fewer_bytes cs = grind (arith, common_steps, (take_while-drop_while is_numeric), encodes-append)
 
 Only-drop_while : (p q : ℕ → Bool) (cs : List ℕ) → Only p cs → Only p (drop_while q cs)

@@ -1,6 +1,6 @@
 use Rattle.std.proofs.Common.{◌∙◌, ℕ, ◌+◌, List, ap, sym, subst, chars, inl, inr}
 use Rattle.std.specs.Prelude.{Ok, Err, ◌≡◌, ◌≢◌, ◌⊎◌, Result}
-use Rattle.humantime.specs.Prelude.{Accepted, Fault, HasFault, NumberOverflow, Reads, Span, bare_zero, duration_answer}
+use Rattle.humantime.specs.Prelude.{Accepted, Fault, HasFault, NumberOverflow, Reads, SpelledSpan, bare_zero, duration_answer}
 use Rattle.humantime_tests.proofs.law_callers.durations.sum_of.Goals as goal
 
 pub returns-clause-sum : goal.returns-clause-sum
@@ -22,7 +22,7 @@ returns-clause-either c u v x y behind some others =
     let read = c.parse_duration.ensures.answer ∙ ap duration_answer (ap chars behind ∙ c.joined.ensures.text) in
     subst (λ (r : Result ℕ Fault). (r ≡ Ok (u + v)) ⊎ (r ≡ Err NumberOverflow)) (sym read) (c.joined.ensures.law.answer u v x y some others)
 
-spelled : (text : List ℕ) → (text ≡ bare_zero) ⊎ ((spans : List Span) × Reads text spans) → text ≢ bare_zero → (spans : List Span) × Reads text spans
+spelled : (text : List ℕ) → (text ≡ bare_zero) ⊎ ((spans : List SpelledSpan) × Reads text spans) → text ≢ bare_zero → (spans : List SpelledSpan) × Reads text spans
 spelled text (inl zero) some = absurd (some zero)
 spelled text (inr spans) some = spans
 

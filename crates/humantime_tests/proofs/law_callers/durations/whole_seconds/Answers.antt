@@ -1,6 +1,6 @@
 use Rattle.std.proofs.Common.{◌∙◌, ℕ, ◌/◌, List, Option, Ok, Err, ap, sym}
 use Rattle.std.specs.Result.{result_map_both}
-use Rattle.humantime.specs.Prelude.{Fault, Span, nanos_per_second, value}
+use Rattle.humantime.specs.Prelude.{Fault, SpelledSpan, nanos_per_second, value}
 use Rattle.humantime_tests.proofs.law_callers.durations.whole_seconds.Goals as goal
 
 pub returns-clause-value : goal.returns-clause-value
@@ -21,7 +21,7 @@ pub returns-clause-stop : goal.returns-clause-stop
 returns-clause-stop c ss ts o p h k =
     let only = c.one_outcome.ensures.items.2 in
     let same = only (ss, o) h ∙ sym (only (ts, p) k) in
-    (ap (λ (list : List Span × Option Fault). list.0) same, ap (λ (list : List Span × Option Fault). list.1) same)
+    (ap (λ (list : List SpelledSpan × Option Fault). list.0) same, ap (λ (list : List SpelledSpan × Option Fault). list.1) same)
 
 pub returns-clause-sum : goal.returns-clause-sum
 returns-clause-sum c ss ts h k = ap value (c.one_outcome.ensures.reading ss ts h k)
