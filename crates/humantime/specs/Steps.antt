@@ -1,5 +1,6 @@
 -- What private functions do, step by step. No public contract cites this.
 pub mod Adding
+pub mod Cursors
 pub mod Keys
 pub mod ResultViews
 pub mod Scales

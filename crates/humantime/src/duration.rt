@@ -3,6 +3,7 @@
 //! sum (`sum`) and the whole text (`parse`); a buffer that text is written to (`writer`), and the text of a duration (`print`).
 
 mod amount;
+mod cursor;
 mod error;
 mod iter;
 mod parse;

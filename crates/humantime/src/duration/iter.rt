@@ -1,11 +1,9 @@
 //! The spans of a text, one at a time.
 
-ghost use Rattle.std.proofs.Props.{props};
-ghost use Rattle.humantime.specs.Steps.Scanning.{IsTail};
-
+use crate::duration::cursor::Cursor;
 use crate::duration::error::DurationError;
-use crate::duration::reader::span_at;
-use crate::duration::scan::{offset_of, skip_whitespace};
+use crate::duration::reader::read_span;
+use crate::duration::scan::{begins_with_digit, skip_whitespace};
 use crate::duration::span::Span;
 
 /// An iterator over the spans of a text, from left to right, and then the fault at which they stop.
@@ -26,10 +24,8 @@ use crate::duration::span::Span;
 /// ```
 #[derive(Drop)]
 pub struct SpanIter<'a> {
-    pub(crate) text: &'a str,
-    pub(crate) rest: &'a str,
+    pub(crate) cursor: Cursor<'a>,
     pub(crate) ended: bool,
-    ghost tail: { IsTail text.now rest.now } by { Prim.hlevel props },
 }
 
 impl<'a> Iterator for SpanIter<'a> {
@@ -47,22 +43,21 @@ impl<'a> Iterator for SpanIter<'a> {
         if self.ended {
             return None;
         }
-        let text = self.text;
-        let (rest, has_digit) = skip_whitespace(self.rest);
-        if rest.is_empty() {
+        let start = skip_whitespace(self.cursor);
+        if start.rest.is_empty() {
             self.ended = true;
-            if self.rest.len() == text.len() {
+            if self.cursor.rest.len() == self.cursor.text.len() {
                 return Some(Err(DurationError::Empty));
             }
             return None;
         }
-        if !has_digit {
+        if !begins_with_digit(start.rest) {
             self.ended = true;
-            return Some(Err(DurationError::NumberExpected(offset_of(text, rest))));
+            return Some(Err(DurationError::NumberExpected(start.offset())));
         }
-        match span_at(text, rest) {
+        match read_span(start) {
             Ok((span, next)) => {
-                self.rest = next;
+                self.cursor = next;
                 Some(Ok(span))
             }
             Err(e) => {

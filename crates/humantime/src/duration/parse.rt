@@ -4,6 +4,7 @@ ghost use Rattle.std.specs.Prelude.{◌≡◌, ◌↔◌, ℕ, chars, IfErr};
 ghost use Rattle.humantime.specs.Prelude.{Accepted, AreItems, Fault, HasFault, PointsInto, duration_answer, items_left, result_view, text_of};
 ghost use Rattle.humantime.specs.Answers.Items.{sum_items, item_views};
 
+use crate::duration::cursor::Cursor;
 use crate::duration::error::DurationError;
 use crate::duration::iter::SpanIter;
 use crate::duration::sum::add_amount;
@@ -39,8 +40,7 @@ pub fn spans(s: &str) -> SpanIter<'_>
     ensures text { text_of result ≡ s.now }
 {
     SpanIter {
-        text: s,
-        rest: s,
+        cursor: Cursor { text: s, rest: s },
         ended: false,
     }
 }
