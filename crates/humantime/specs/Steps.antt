@@ -2,7 +2,6 @@
 pub mod Adding
 pub mod Cursors
 pub mod Keys
-pub mod ResultViews
 pub mod Scales
 pub mod Scanning
 pub mod SpanParts

@@ -1,4 +1,4 @@
-//! What a span adds, and how its number and its fraction come of digits, one by one.
+//! The value of a span, and its number and its fraction built from digits.
 
 ghost use Rattle.std.specs.Prelude.{◌≡◌, ◌++◌, [], ◌∷◌, ℕ, List, true, SomeIff, MatchOption, ◌+◌, ◌-◌, ◌*◌, ◌^◌, ◌≤◌, ◌<◌};
 ghost use Rattle.std.specs.Option.{ForSome};
@@ -6,10 +6,10 @@ ghost use Rattle.humantime.specs.Durations.Characters.{is_digit, u64_max};
 
 use crate::unit::Unit;
 
-/// How many digits a fraction may have before the zeros at its end.
-const FRACTION_DIGITS: usize = 19;
+/// The maximum number of digits of a fraction, without trailing zeros.
+const MAX_FRACTION_DIGITS: usize = 19;
 
-/// The powers of ten that fit `u64`.
+/// The powers of ten that fit in a `u64`.
 static POWERS_OF_TEN: [u64; 20] = [
     1,
     10,
@@ -53,7 +53,7 @@ pub(crate) struct Amount {
     ghost few: { ForSome fraction (λ f. f.significant ≤ 19) },
 }
 
-/// Ten times the value and the digit, or `None` where that is too large.
+/// Returns ten times the value plus the digit, or `None` on overflow.
 #[inline(always)]
 pub(crate) fn push_digit(value: u64, digit: u64) -> Option<u64>
     requires { digit ≤ 9 }
@@ -62,7 +62,7 @@ pub(crate) fn push_digit(value: u64, digit: u64) -> Option<u64>
     value.checked_mul(10)?.checked_add(digit)
 }
 
-/// Ten to this power.
+/// Returns ten to the power of `exponent`.
 pub(crate) fn power_of_ten(exponent: usize) -> u64
     requires { exponent ≤ 19 }
     ensures { result ≡ 10 ^ exponent }
@@ -92,7 +92,7 @@ impl Fraction {
         if c == b'0' {
             return Some(Fraction { len, ..self });
         }
-        if len > FRACTION_DIGITS {
+        if len > MAX_FRACTION_DIGITS {
             return None;
         }
         let power = power_of_ten(len - self.significant);

@@ -6,10 +6,13 @@ use crate::duration::reader::read_span;
 use crate::duration::scan::{begins_with_digit, skip_whitespace};
 use crate::duration::span::Span;
 
-/// An iterator over the spans of a text, from left to right, and then the fault at which they stop.
+/// An iterator over the spans of a text, from left to right, and then its first error, if there is one.
 ///
-/// [`spans`](crate::spans) makes it. After an error, and after the end, it returns `None` for good. The text may be cut
-/// at the offsets of a span or an error.
+/// [`spans`](crate::spans) returns it. After an error or the end of the text, it returns `None` forever. The offsets of
+/// a span or an error lie on `char` boundaries of the text.
+///
+/// The clause `next_gives` is the contract of `next`: a call returns the first of the items that are left and leaves
+/// the others, or returns `None` if none is left. The text stays the same.
 ///
 /// # Examples
 ///

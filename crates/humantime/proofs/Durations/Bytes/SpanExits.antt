@@ -20,13 +20,6 @@ long_number rest n = grind (arith, nat_tests)
 pub long_fraction : (rest ds : List ℕ) → Some ds ≡ behind_point (after_number rest) → 19 < length (significant (number_of ds)) → too_long (span_of rest) ≡ true
 long_fraction rest ds n f = grind (arith, nat_tests)
 
-pub short_number : (rest : List ℕ) → decimal_value (number_of rest) ≤ u64_max → None ≡ behind_point (after_number rest) → too_long (span_of rest) ≡ false
-short_number rest n f = grind (arith, nat_tests)
-
-pub short_fraction : (rest ds : List ℕ) → decimal_value (number_of rest) ≤ u64_max → Some ds ≡ behind_point (after_number rest)
-    → length (significant (number_of ds)) ≤ 19 → too_long (span_of rest) ≡ false
-short_fraction rest ds n f few = grind (arith, nat_tests)
-
 pub exit_long : (text rest : List ℕ) → too_long (span_of rest) ≡ true → Some NumberOverflow ≡ stop_at text rest
 unfolding stop_at
 exit_long text rest e = rw e refl

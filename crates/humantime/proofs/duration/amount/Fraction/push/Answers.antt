@@ -12,7 +12,7 @@ pub overflow_mul-significand : goal.overflow_mul-significand
 overflow_mul-significand c =
     let h = c.requires.digits.1 in
     let within = fewer _ _ h in
-    omega (arith, push_fits _ _ _ 0 _ h.fits (omega arith) (omega (arith, within)) c.power_of_ten-power.ensures (omega (arith, within, c.if-len-gt-FRACTION_DIGITS.false)))
+    omega (arith, push_fits _ _ _ 0 _ h.fits (omega arith) (omega (arith, within)) c.power_of_ten-power.ensures (omega (arith, within, c.if-len-gt-MAX_FRACTION_DIGITS.false)))
 
 pub overflow_sub-significand : goal.overflow_sub-significand
 overflow_sub-significand c = (digit_range c.args.c c.requires.digit).0
@@ -21,15 +21,15 @@ pub overflow_add-significand : goal.overflow_add-significand
 overflow_add-significand c =
     let h = c.requires.digits.1 in
     let within = fewer _ _ h in
-    omega (arith, push_fits _ _ _ (c.args.c - 48) _ h.fits (omega (arith, digit_range c.args.c c.requires.digit)) (omega (arith, within)) c.power_of_ten-power.ensures (omega (arith, within, c.if-len-gt-FRACTION_DIGITS.false)))
+    omega (arith, push_fits _ _ _ (c.args.c - 48) _ h.fits (omega (arith, digit_range c.args.c c.requires.digit)) (omega (arith, within)) c.power_of_ten-power.ensures (omega (arith, within, c.if-len-gt-MAX_FRACTION_DIGITS.false)))
 
 pub returns-then-c-eq48 : goal.returns-then-c-eq48
 returns-then-c-eq48 c ds h = grind (arith, common_steps, zero_more)
 
-pub returns-then-len-gt-FRACTION_DIGITS : goal.returns-then-len-gt-FRACTION_DIGITS
-returns-then-len-gt-FRACTION_DIGITS c ds h es =
+pub returns-then-len-gt-MAX_FRACTION_DIGITS : goal.returns-then-len-gt-MAX_FRACTION_DIGITS
+returns-then-len-gt-MAX_FRACTION_DIGITS c ds h es =
     let full = ap (λ (x : Counted). x.2) h.parts in
     grind (arith, one_too_many)
 
 pub returns : goal.returns
-returns c ds h = digit_more c.args.self ds c.args.c _ h c.requires.digit c.if-c-eq48.false (omega (arith, c.if-len-gt-FRACTION_DIGITS.false)) c.power_of_ten-power.ensures
+returns c ds h = digit_more c.args.self ds c.args.c _ h c.requires.digit c.if-c-eq48.false (omega (arith, c.if-len-gt-MAX_FRACTION_DIGITS.false)) c.power_of_ten-power.ensures
