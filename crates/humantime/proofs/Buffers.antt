@@ -10,9 +10,9 @@ use Rattle.std.specs.Prelude.{Option, IsSome, IfSome, IfNone, option_map, ◌↔
 use Rattle.std.specs.Borrow.{Array, u8}
 use Rattle.humantime.specs.Buffers.{Holds}
 use Rattle.humantime.specs.declared.duration.error.DurationError.{DurationError}
-use Rattle.humantime.specs.Durations.Errors.{text_result_view}
+use Rattle.std.specs.Result.{result_map_both}
+use Rattle.humantime.specs.Durations.Errors.{fault_of, text_result_view}
 use Rattle.humantime.specs.Durations.Faults.{Fault}
-use Rattle.humantime.specs.Steps.ResultViews.{result_view_by}
 
 -- a buffer whose last bytes are known holds them
 pub holds : {M : Type 1} {𝓤 : Ura M} (𝓛 : Logic 𝓤) (n : ℕ) (buf : MutBor (List ℕ)) (last : List ℕ) (P : List ℕ → Type 0) → P last
@@ -38,7 +38,7 @@ none_shown t m f P e p = grind arith
 
 -- the same of an answer with an error, which is passed on as it is
 pub answer_shown : (t : Result (Bor (List ℕ)) DurationError) (m : Result ℕ DurationError) (f : ℕ → List ℕ) (answer : Result (List ℕ) Fault)
-    → IfOk m (λ n. text_result_view t ≡ Ok (f n)) → IfErr m (λ e. t ≡ Err e) → result_view_by f m ≡ answer → text_result_view t ≡ answer
+    → IfOk m (λ n. text_result_view t ≡ Ok (f n)) → IfErr m (λ e. t ≡ Err e) → result_map_both f fault_of m ≡ answer → text_result_view t ≡ answer
 answer_shown t m f answer p q e = grind arith
 
 pub error_shown : (t : Result (Bor (List ℕ)) DurationError) (m : Result ℕ DurationError) (f : ℕ → List ℕ) (Q : DurationError → Type 0)

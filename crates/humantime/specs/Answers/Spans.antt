@@ -32,11 +32,11 @@ item_of (Err e) = Err (fault_of e)
 abbrev pub items_left : SpanIter → List (Result SpanView Fault)
 items_left i =
     if i.ended then []
-    else left_at (length i.rest.now == length i.text.now) (chars i.text.now) (drop_while is_whitespace (chars i.rest.now))
+    else left_at (length i.cursor.rest.now == length i.cursor.text.now) (chars i.cursor.text.now) (drop_while is_whitespace (chars i.cursor.rest.now))
 
 -- the text whose items they are
 abbrev pub text_of : SpanIter → List ℕ
-text_of i = i.text.now
+text_of i = i.cursor.text.now
 
 -- a call gave the first of the items to come and left the others, or nothing where none was to come; the text stayed, and
 -- a span lies in it, or an error points into it

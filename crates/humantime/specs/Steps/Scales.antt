@@ -31,7 +31,7 @@ abbrev pub counted : List ℕ → Counted
 counted ds = (decimal_value (significant ds), length (significant ds), length ds)
 
 abbrev pub parts_of : Fraction → Counted
-parts_of f = (f.value, f.count, f.all)
+parts_of f = (f.significand, f.significant, f.len)
 
 -- The amount is the one that the span stands for.
 pub record IsAmountOf (a : Amount) (s : SpelledSpan) : Type 0 where

@@ -1,6 +1,6 @@
--- The span that is read at a rest.
-use Rattle.std.specs.Prelude.{◌≡◌, ℕ, ◌<◌, true, List, length, Option, Some, None, Result, Ok, Err, IfOk, IfErr, chars}
-use Rattle.std.specs.Borrow.{Bor}
+-- What reading one span gives.
+use Rattle.std.specs.Prelude.{◌≡◌, ◌<◌, length, Option, Some, None, Result, Ok, Err, IfOk, IfErr, chars}
+use Rattle.humantime.specs.declared.duration.cursor.Cursor.{Cursor}
 use Rattle.humantime.specs.declared.duration.error.DurationError.{DurationError}
 use Rattle.humantime.specs.declared.duration.span.Span.{Span}
 use Rattle.humantime.specs.Texts.{drop_while}
@@ -10,30 +10,23 @@ use Rattle.humantime.specs.Durations.Errors.{IsRangeIn, PointsInto, fault_of}
 use Rattle.humantime.specs.Answers.Items.{view_at}
 use Rattle.humantime.specs.Answers.Spans.{span_view}
 use Rattle.humantime.specs.Answers.Walks.{stop_at}
-use Rattle.humantime.specs.Steps.Scanning.{IsTail, ends_span}
+use Rattle.humantime.specs.Steps.Cursors.{ahead}
 
--- What follows a word may end a span, and next is what follows, perhaps without some of its whitespace.
-pub record IsBehindWord (after next : List ℕ) : Type 0 where
-  pub ends : ends_span (chars after) ≡ true
-  pub same : drop_while is_whitespace (chars next) ≡ drop_while is_whitespace (chars after)
-  pub tail : IsTail after next
+-- The span begins at the cursor, and next is the cursor after its word, perhaps after some whitespace that follows.
+pub record IsSpanAt (start : Cursor) (s : Span) (next : Cursor) : Type 0 where
+  pub view : span_view s ≡ view_at (chars start.text.now) (ahead start)
+  pub follows : drop_while is_whitespace (ahead next) ≡ drop_while is_whitespace (after_word (ahead start))
+  pub shorter : length next.rest.now < length start.rest.now
+  pub same_text : next.text.now ≡ start.text.now
+  pub place : IsRangeIn start.text.now s.start s.end
 
--- The span is the one that begins the rest of the text, which may be cut at its offsets, and next is what follows its word,
--- perhaps without some whitespace.
-pub record IsSpanAt (text rest : List ℕ) (s : Span) (next : List ℕ) : Type 0 where
-  pub view : span_view s ≡ view_at (chars text) (chars rest)
-  pub follows : drop_while is_whitespace (chars next) ≡ drop_while is_whitespace (after_word (chars rest))
-  pub shorter : length next < length rest
-  pub tail : IsTail text next
-  pub place : IsRangeIn text s.start s.end
-
--- the fault at which a function stopped, if it did
+-- the fault that an error names, if a result is one
 abbrev pub stop_of : {X : Type 0} → Result X DurationError → Option Fault
 stop_of (Ok x) = None
 stop_of (Err e) = Some (fault_of e)
 
--- What reading the span at a rest of the text gives: the span and what follows it, or its fault, which points into the text.
-pub record ReadsSpan (text rest : List ℕ) (result : Result (Span × Bor (List ℕ)) DurationError) : Type 0 where
-  pub stop : stop_of result ≡ stop_at (chars text) (chars rest)
-  pub place : IfErr result (PointsInto text)
-  pub fine : IfOk result (λ x. IsSpanAt text rest x.0 x.1.now)
+-- The result is the span at the cursor and the cursor after it, or its fault, which points into the text.
+pub record ReadsSpan (start : Cursor) (result : Result (Span × Cursor) DurationError) : Type 0 where
+  pub stop : stop_of result ≡ stop_at (chars start.text.now) (ahead start)
+  pub place : IfErr result (PointsInto start.text.now)
+  pub fine : IfOk result (λ x. IsSpanAt start x.0 x.1)

@@ -1,4 +1,4 @@
-//! What a span adds, and how its number and its fraction come of digits, one by one.
+//! The value of a span, and its number and its fraction built from digits.
 
 ghost use Rattle.std.specs.Prelude.{◌≡◌, ◌++◌, [], ◌∷◌, ℕ, List, true, SomeIff, MatchOption, ◌+◌, ◌-◌, ◌*◌, ◌^◌, ◌≤◌, ◌<◌};
 ghost use Rattle.std.specs.Option.{ForSome};
@@ -6,10 +6,10 @@ ghost use Rattle.humantime.specs.Durations.Characters.{is_digit, u64_max};
 
 use crate::unit::Unit;
 
-/// How many digits a fraction may have before the zeros at its end.
-const FRACTION_DIGITS: usize = 19;
+/// The maximum number of digits of a fraction, without trailing zeros.
+const MAX_FRACTION_DIGITS: usize = 19;
 
-/// The powers of ten that fit `u64`.
+/// The powers of ten that fit in a `u64`.
 static POWERS_OF_TEN: [u64; 20] = [
     1,
     10,
@@ -33,13 +33,15 @@ static POWERS_OF_TEN: [u64; 20] = [
     10_000_000_000_000_000_000,
 ];
 
-/// The digits after a point: those before the zeros at their end, as a number and by their count, and how many there are
-/// in all.
+/// The digits after a point.
 #[derive(Clone, Copy, Debug)]
 pub(crate) struct Fraction {
-    pub value: u64,
-    pub count: usize,
-    pub all: usize,
+    /// The digits without trailing zeros, as a number.
+    pub significand: u64,
+    /// The number of digits without trailing zeros.
+    pub significant: usize,
+    /// The number of digits, trailing zeros included.
+    pub len: usize,
 }
 
 /// What a span adds: its number, its fraction and its unit.
@@ -48,10 +50,10 @@ pub(crate) struct Amount {
     pub value: u64,
     pub fraction: Option<Fraction>,
     pub unit: Unit,
-    ghost few: { ForSome fraction (λ f. f.count ≤ 19) },
+    ghost few: { ForSome fraction (λ f. f.significant ≤ 19) },
 }
 
-/// Ten times the value and the digit, or `None` where that is too large.
+/// Returns ten times the value plus the digit, or `None` on overflow.
 #[inline(always)]
 pub(crate) fn push_digit(value: u64, digit: u64) -> Option<u64>
     requires { digit ≤ 9 }
@@ -60,7 +62,7 @@ pub(crate) fn push_digit(value: u64, digit: u64) -> Option<u64>
     value.checked_mul(10)?.checked_add(digit)
 }
 
-/// Ten to this power.
+/// Returns ten to the power of `exponent`.
 pub(crate) fn power_of_ten(exponent: usize) -> u64
     requires { exponent ≤ 19 }
     ensures { result ≡ 10 ^ exponent }
@@ -72,30 +74,33 @@ impl Fraction {
     ghost use Rattle.humantime.specs.Steps.Scanning.{AreDigits, IsTooLong};
 
     /// No digits.
-    pub(crate) const NONE: Fraction = Fraction {
-        value: 0,
-        count: 0,
-        all: 0,
+    pub(crate) const EMPTY: Fraction = Fraction {
+        significand: 0,
+        significant: 0,
+        len: 0,
     };
 
-    /// One digit more, or `None` where that is no zero and behind 19 others.
+    /// Appends a digit, or returns `None` if that makes more than 19 digits before the trailing zeros.
     #[inline(always)]
     pub(crate) fn push(self, c: u8) -> Option<Fraction>
         requires digit { is_digit c ≡ true }
         requires digits { (ds : List ℕ) × AreDigits self ds }
-        requires room { self.all + 1 < 2 ^ 64 }
-        ensures { (ds : List ℕ) → AreDigits self ds → MatchOption result (IsTooLong ds c) (λ d. AreDigits d (ds ++ c ∷ [])) }
+        requires room { self.len + 1 < 2 ^ 64 }
+        ensures { (ds : List ℕ) → AreDigits self ds → MatchOption result (IsTooLong ds c) (λ f. AreDigits f (ds ++ c ∷ [])) }
     {
-        let all = self.all + 1;
+        let len = self.len + 1;
         if c == b'0' {
-            return Some(Fraction { all, ..self });
+            return Some(Fraction { len, ..self });
         }
-        if all > FRACTION_DIGITS {
+        if len > MAX_FRACTION_DIGITS {
             return None;
         }
-        let power = power_of_ten(all - self.count);
-        let value = self.value * power + (c - b'0') as u64;
-        let count = all;
-        Some(Fraction { value, count, all })
+        let power = power_of_ten(len - self.significant);
+        let significand = self.significand * power + (c - b'0') as u64;
+        Some(Fraction {
+            significand,
+            significant: len,
+            len,
+        })
     }
 }

@@ -1,17 +1,18 @@
 //! The spans of a text, one at a time.
 
-ghost use Rattle.std.proofs.Props.{props};
-ghost use Rattle.humantime.specs.Steps.Scanning.{IsTail};
-
+use crate::duration::cursor::Cursor;
 use crate::duration::error::DurationError;
-use crate::duration::reader::span_at;
-use crate::duration::scan::{offset_of, skip_whitespace};
+use crate::duration::reader::read_span;
+use crate::duration::scan::{begins_with_digit, skip_whitespace};
 use crate::duration::span::Span;
 
-/// An iterator over the spans of a text, from left to right, and then the fault at which they stop.
+/// An iterator over the spans of a text, from left to right, and then its first error, if there is one.
 ///
-/// [`spans`](crate::spans) makes it. After an error, and after the end, it returns `None` for good. The text may be cut
-/// at the offsets of a span or an error.
+/// [`spans`](crate::spans) returns it. After an error or the end of the text, it returns `None` forever. The offsets of
+/// a span or an error lie on `char` boundaries of the text.
+///
+/// The clause `next_gives` is the contract of `next`: a call returns the first of the items that are left and leaves
+/// the others, or returns `None` if none is left. The text stays the same.
 ///
 /// # Examples
 ///
@@ -26,10 +27,8 @@ use crate::duration::span::Span;
 /// ```
 #[derive(Drop)]
 pub struct SpanIter<'a> {
-    pub(crate) text: &'a str,
-    pub(crate) rest: &'a str,
+    pub(crate) cursor: Cursor<'a>,
     pub(crate) ended: bool,
-    ghost tail: { IsTail text.now rest.now } by { Prim.hlevel props },
 }
 
 impl<'a> Iterator for SpanIter<'a> {
@@ -47,22 +46,21 @@ impl<'a> Iterator for SpanIter<'a> {
         if self.ended {
             return None;
         }
-        let text = self.text;
-        let (rest, has_digit) = skip_whitespace(self.rest);
-        if rest.is_empty() {
+        let start = skip_whitespace(self.cursor);
+        if start.rest.is_empty() {
             self.ended = true;
-            if self.rest.len() == text.len() {
+            if self.cursor.rest.len() == self.cursor.text.len() {
                 return Some(Err(DurationError::Empty));
             }
             return None;
         }
-        if !has_digit {
+        if !begins_with_digit(start.rest) {
             self.ended = true;
-            return Some(Err(DurationError::NumberExpected(offset_of(text, rest))));
+            return Some(Err(DurationError::NumberExpected(start.offset())));
         }
-        match span_at(text, rest) {
+        match read_span(start) {
             Ok((span, next)) => {
-                self.rest = next;
+                self.cursor = next;
                 Some(Ok(span))
             }
             Err(e) => {

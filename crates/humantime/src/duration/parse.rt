@@ -1,23 +1,24 @@
-//! Whole texts.
+//! Parsing a duration.
 
 ghost use Rattle.std.specs.Prelude.{◌≡◌, chars, IfErr};
 ghost use Rattle.humantime.specs.Prelude.{AreItems, IsDurationAnswer, PointsInto, items_left, result_view, text_of};
 ghost use Rattle.humantime.specs.Answers.Items.{sum_items, item_views};
 
+use crate::duration::cursor::Cursor;
 use crate::duration::error::DurationError;
 use crate::duration::iter::SpanIter;
 use crate::duration::sum::add_amount;
 use crate::value::StdDuration;
 
-/// Returns an iterator over the spans of `s` from left to right, and then the fault at which they stop, if there is one.
+/// Returns an iterator over the spans of `s` from left to right, and then its first error, if there is one.
 ///
-/// After an error, and after the end, the iterator returns `None` for good.
+/// After an error or the end of the text, the iterator returns `None` forever.
 ///
 /// # Errors
 ///
-/// The errors are those of [`parse_duration`], but the limits on values and sums are not checked. A number above
-/// `u64::MAX`, and a fraction of 20 digits or more before the zeros at its end, are too large here; a value that is too
-/// large or too fine in its unit is not. The text `0` is no exception here: it has no unit.
+/// The errors are those of [`parse_duration`], except that overflow and precision of spans and sums are not checked. A
+/// number above `u64::MAX`, or a fraction with more than 19 digits before its trailing zeros, is still an error. Unlike
+/// `parse_duration`, this rejects `0`, which has no unit.
 ///
 /// # Examples
 ///
@@ -39,14 +40,15 @@ pub fn spans(s: &str) -> SpanIter<'_>
     ensures text { text_of result ≡ s.now }
 {
     SpanIter {
-        text: s,
-        rest: s,
+        cursor: Cursor { text: s, rest: s },
         ended: false,
     }
 }
 
-/// The sum of the spans of a text. It stands out of line, so that the text `0` is answered at once. An error is matched, as `?`
-/// would copy it by a call where the kit's own compiler builds it.
+/// Returns the sum of the spans of a text.
+///
+/// It is not inlined, so that `0` is parsed without its stack frame. An error is matched, since the kit's own back end
+/// makes a call to copy it for `?`.
 #[inline(never)]
 fn sum_of<'a>(text: &'a str) -> Result<StdDuration, DurationError<'a>>
     ensures value { result_view result ≡ sum_items 0 (item_views (chars text.now)) }
@@ -66,24 +68,24 @@ fn sum_of<'a>(text: &'a str) -> Result<StdDuration, DurationError<'a>>
     Ok(total)
 }
 
-/// Returns the duration that a text spells, or else its first fault.
+/// Parses a duration, such as `2h 37min`.
 ///
-/// A text is one span or more: a number, perhaps a fraction, and a unit, as in `2h 37min` or `1.5d`. Whitespace may
-/// stand between digits and before and after each part. Zeros at the end of a fraction change nothing. The spans are
-/// added up; `0` alone is zero.
+/// The text is one span or more, each a number, an optional fraction and a unit, as in `2h 37min` or `1.5d`, and the
+/// duration is their sum. Whitespace is allowed between digits, and before and after each part. Trailing zeros of a
+/// fraction change nothing. The text `0` is zero.
 ///
 /// # Errors
 ///
-/// The error says what stands where the text goes wrong first. Offsets are in bytes, and the text may be cut at them.
+/// Returns the first error of the text. Its offsets are in bytes and lie on `char` boundaries.
 ///
 /// - [`Empty`](DurationError::Empty): the text is empty or has only whitespace.
-/// - [`NumberExpected`](DurationError::NumberExpected): at the start, or after a span and whitespace, stands a character
-///   that is neither a digit nor whitespace.
-/// - [`InvalidCharacter`](DurationError::InvalidCharacter): a character has no place in a span, or a point has no digit
-///   after it.
-/// - [`UnknownUnit`](DurationError::UnknownUnit): the letters after a number are no unit, or the text ends without one.
-///   The unit that it names is borrowed from `s`.
-/// - [`NumberOverflow`](DurationError::NumberOverflow): a number, a fraction, a span or a sum breaks a limit.
+/// - [`NumberExpected`](DurationError::NumberExpected): the text starts, or goes on after a span and whitespace, with a
+///   character that is neither a digit nor whitespace.
+/// - [`InvalidCharacter`](DurationError::InvalidCharacter): a span has a character that is not allowed there, or a point
+///   without a digit after it.
+/// - [`UnknownUnit`](DurationError::UnknownUnit): the letters after a number are not a unit, or the text ends without
+///   one. The unit that the error names is borrowed from `s`.
+/// - [`NumberOverflow`](DurationError::NumberOverflow): a number, a fraction, a span or the sum exceeds a limit.
 ///
 /// # Examples
 ///

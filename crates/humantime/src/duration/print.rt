@@ -2,9 +2,10 @@
 
 ghost use Rattle.std.specs.Prelude.{◌≡◌, ◌<◌, ◌≤◌, ◌↔◌, ℕ, List, take, chars, IfOk, IfErr, OnErr, Ok, Some};
 ghost use Rattle.std.specs.Borrow.{sem};
+ghost use Rattle.std.specs.Result.{result_map_both};
 ghost use Rattle.std.specs.Str.{IsUtf8};
+ghost use Rattle.humantime.specs.Durations.Errors.{fault_of};
 ghost use Rattle.humantime.specs.Prelude.{IsCanonicalText, Fault, HasFault, IsCanonicalOf, KeptAtErr, PointsInto, canonical_answer, duration_answer, duration_end, duration_text, text_result_view};
-ghost use Rattle.humantime.specs.Steps.ResultViews.{result_view_by};
 
 use crate::buffer::str_prefix;
 use crate::duration::error::DurationError;
@@ -211,7 +212,7 @@ fn write_canonical<'a>(s: &'a str, buf: &mut [u8; 64]) -> Result<usize, Duration
     ensures unchanged { OnErr result (buf.new ≡ buf.old) }
     ensures fits { IfOk result (λ end. end ≤ 64) }
     ensures utf8 { IfOk result (λ end. IsUtf8 (take end buf.new)) }
-    ensures answer { result_view_by (λ end. take end buf.new) result ≡ canonical_answer (chars s.now) }
+    ensures answer { result_map_both (λ end. take end buf.new) fault_of result ≡ canonical_answer (chars s.now) }
     ensures place { IfErr result (PointsInto s.now) }
 {
     let duration = parse_duration(s)?;

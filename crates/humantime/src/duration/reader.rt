@@ -1,120 +1,177 @@
 //! Reading one span.
 
-ghost use Rattle.std.specs.Prelude.{◌≡◌, ◌==◌, false, chars, MatchOption, Some, option_map};
-ghost use Rattle.humantime.specs.Durations.Accepted.{is_some_and};
-ghost use Rattle.humantime.specs.Steps.Scales.{parts_of};
-ghost use Rattle.humantime.specs.Steps.Scanning.{IsTail, BeginsWithDigit, ends_span, number_at, fraction_read};
-ghost use Rattle.humantime.specs.Steps.SpanParts.{IsBehindWord, ReadsSpan};
+ghost use Rattle.std.proofs.Props.{props};
+ghost use Rattle.std.specs.Prelude.{◌≡◌, ◌==◌, ◌≤◌, true, false, length, chars, IfSome, MatchOption, option_map};
+ghost use Rattle.std.specs.Option.{ForSome};
+ghost use Rattle.humantime.specs.Texts.{take_while, begins};
+ghost use Rattle.humantime.specs.Durations.Accepted.{is_some_and, too_long};
+ghost use Rattle.humantime.specs.Durations.Characters.{is_digit, is_numeric};
+ghost use Rattle.humantime.specs.Durations.Faults.{after_fraction, after_number, after_point, fraction_of, span_of};
+ghost use Rattle.humantime.specs.Steps.Cursors.{ahead, EndsSpan};
+ghost use Rattle.humantime.specs.Steps.Scales.{counted, parts_of};
+ghost use Rattle.humantime.specs.Steps.Scanning.{begins_no_word, IsWordOf};
+ghost use Rattle.humantime.specs.Steps.SpanParts.{ReadsSpan};
+ghost use Rattle.humantime.specs.Answers.Walks.{ends_span};
 
 use crate::duration::amount::{Amount, Fraction};
+use crate::duration::cursor::Cursor;
 use crate::duration::error::DurationError;
 use crate::duration::scan::{
-    begins_with_digit, offset_of, read_fraction, read_number, read_word, skip_whitespace_char,
+    FractionPart, Number, Word, begins_with_digit, read_fraction, read_number, read_word,
+    skip_point, skip_whitespace_char,
 };
 use crate::duration::span::Span;
 use crate::unit::unit_of;
 
-/// Whether this is a point without digits.
-#[inline(always)]
-fn has_no_digits(fraction: Option<Fraction>) -> bool
-    ensures { result ≡ is_some_and (λ f. f.all == 0) fraction }
-{
-    matches!(fraction, Some(digits) if digits.all == 0)
+/// A number and the fraction after it, if there is one.
+#[derive(Clone, Copy)]
+struct Decimal<'a> {
+    number: Number<'a>,
+    fraction: Option<FractionPart<'a>>,
+    ghost point: { option_map (λ f. ahead f.start) fraction ≡ after_point (ahead number.end) } by { Prim.hlevel props },
+    ghost text: { ForSome fraction (λ f. f.start.text.now ≡ number.start.text.now) },
+    ghost short: { too_long (span_of (ahead number.start)) ≡ false },
 }
 
-/// What follows a word, without the character of whitespace behind it, which is not looked at again; `None` where what
-/// follows is no digit, whitespace or the end. A blank is looked for first, since most words have one there.
-#[inline(always)]
-fn behind_word<'a>(after_word: &'a str) -> Option<&'a str>
-    ensures { MatchOption result (ends_span (chars after_word.now) ≡ false) (λ next. IsBehindWord after_word.now next.now) }
-{
-    if after_word.is_empty() {
-        return Some(after_word);
+impl<'a> Decimal<'a> {
+    /// Returns the fraction's value, if there is a fraction.
+    #[inline(always)]
+    fn fraction(self) -> Option<Fraction>
+        ensures parts { option_map parts_of result ≡ option_map counted (fraction_of (ahead self.entry.number.start)) }
+        ensures few { ForSome result (λ f. f.significant ≤ 19) }
+    {
+        Some(self.fraction?.value)
     }
-    if after_word.as_bytes()[0] == b' ' {
-        return Some(&after_word[1..]);
+
+    /// Returns the fraction's digits with the whitespace around them, if there is a fraction.
+    #[inline(always)]
+    fn fraction_slice(self) -> Option<&'a str>
+        ensures { option_map (λ t. chars t.now) result ≡ option_map (take_while is_numeric) (after_point (after_number (ahead self.entry.number.start))) }
+    {
+        Some(self.fraction?.slice)
     }
-    if begins_with_digit(after_word) {
-        return Some(after_word);
+
+    /// Returns whether there is a point without digits after it.
+    #[inline(always)]
+    fn has_bare_point(self) -> bool
+        ensures { result ≡ is_some_and (λ ds. length ds == 0) (fraction_of (ahead self.entry.number.start)) }
+    {
+        matches!(self.fraction, Some(fraction) if fraction.value.len == 0)
     }
-    let at = skip_whitespace_char(after_word, 0)?;
-    Some(&after_word[at..])
+
+    /// Returns the cursor after the number and the fraction.
+    #[inline(always)]
+    fn end(self) -> Cursor<'a>
+        ensures rest { ahead result ≡ after_fraction (ahead self.entry.number.start) }
+        ensures text { result.text.now ≡ self.entry.number.start.text.now }
+    {
+        match self.fraction {
+            Some(fraction) => fraction.end,
+            None => self.number.end,
+        }
+    }
 }
 
-/// The span that begins the rest of a text, and what follows its word, without whitespace that was seen.
+/// Reads the word at the cursor, and returns it with the cursor after it; `None` if another character than a letter is there.
+#[inline(always)]
+fn read_unit<'a>(start: Cursor<'a>) -> Option<(Word<'a>, Cursor<'a>)>
+    ensures word { MatchOption result (begins_no_word (ahead start.entry) ≡ true) (λ x. IsWordOf start.entry.rest.now x.0.letters.now x.1.rest.now) }
+    ensures text { IfSome result (λ x. x.1.text.now ≡ start.entry.text.now) }
+{
+    let (word, rest) = read_word(start.rest)?;
+    let end = Cursor {
+        text: start.text,
+        rest,
+    };
+    Some((word, end))
+}
+
+/// Returns the cursor after the whitespace character that follows a word, or after the word if a digit or the end of the
+/// text follows it; `None` if another character does.
+#[inline(always)]
+fn end_span<'a>(after_word: Cursor<'a>) -> Option<Cursor<'a>>
+    ensures { MatchOption result (ends_span (ahead after_word.entry) ≡ false) (λ next. EndsSpan after_word.entry next) }
+{
+    let text = after_word.rest;
+    // Most words have a space or the end of the text after them.
+    if text.is_empty() {
+        return Some(after_word);
+    }
+    if text.as_bytes()[0] == b' ' {
+        return Some(after_word.advance(1));
+    }
+    if begins_with_digit(text) {
+        return Some(after_word);
+    }
+    let len = skip_whitespace_char(text, 0)?;
+    Some(after_word.advance(len))
+}
+
+/// Reads the span at the cursor, and returns it with the cursor after it.
 ///
-/// A span without a fraction has a path of its own, on which nothing is kept of a fraction.
+/// That cursor may also be after the whitespace character that follows the span.
 #[inline(always)]
-pub(crate) fn span_at<'a>(
-    text: &'a str,
-    rest: &'a str,
-) -> Result<(Span<'a>, &'a str), DurationError<'a>>
-    requires tail { IsTail text.now rest.now }
-    requires digit { BeginsWithDigit rest.now }
-    ensures { ReadsSpan text.now rest.now result }
+pub(crate) fn read_span<'a>(start: Cursor<'a>) -> Result<(Span<'a>, Cursor<'a>), DurationError<'a>>
+    requires { begins is_digit (ahead start) ≡ true }
+    ensures { ReadsSpan start.entry result }
 {
-    let Some(number) = read_number(rest) else {
+    let Some(number) = read_number(start) else {
         return Err(DurationError::NumberOverflow);
     };
-    match read_fraction(number.2) {
-        None => Err(DurationError::NumberOverflow),
-        Some((None, digits, after)) => span_by_word(text, rest, number, (None, digits, after)),
-        Some(fraction) => span_by_word(text, rest, number, fraction),
-    }
+    // `complete_span` is inlined twice, so that a span without a fraction keeps nothing of one in registers.
+    let Some(digits) = skip_point(number.end) else {
+        return complete_span(Decimal {
+            number,
+            fraction: None,
+        });
+    };
+    let Some(fraction) = read_fraction(digits) else {
+        return Err(DurationError::NumberOverflow);
+    };
+    complete_span(Decimal {
+        number,
+        fraction: Some(fraction),
+    })
 }
 
-/// The same, where its number and its fraction were read.
+/// Reads the unit after a number and a fraction, and returns the span with the cursor after it.
 #[inline(always)]
-fn span_by_word<'a>(
-    text: &'a str,
-    rest: &'a str,
-    read_number: (u64, &'a str, &'a str),
-    read_fraction: (Option<Fraction>, Option<&'a str>, &'a str),
-) -> Result<(Span<'a>, &'a str), DurationError<'a>>
-    requires tail { IsTail text.now rest.now }
-    requires digit { BeginsWithDigit rest.now }
-    requires number { Some (read_number.0, chars read_number.1.now, chars read_number.2.now) ≡ number_at (chars rest.now) }
-    requires behind_number { IsTail rest.now read_number.2.now }
-    requires fraction { Some (option_map parts_of read_fraction.0, option_map (λ t. chars t.now) read_fraction.1, chars read_fraction.2.now) ≡ fraction_read (chars read_number.2.now) }
-    requires behind_fraction { IsTail read_number.2.now read_fraction.2.now }
-    ensures { ReadsSpan text.now rest.now result }
+fn complete_span<'a>(decimal: Decimal<'a>) -> Result<(Span<'a>, Cursor<'a>), DurationError<'a>>
+    requires { begins is_digit (ahead decimal.number.start) ≡ true }
+    ensures { ReadsSpan decimal.entry.number.start result }
 {
-    let (value, number, after_number) = read_number;
-    let (fraction, digits, after_fraction) = read_fraction;
-    // Told before the word is read, so that the numbers it comes from need not be kept until then.
-    let bare = has_no_digits(fraction);
-    let Some((word, after_word)) = read_word(after_fraction) else {
-        return Err(DurationError::InvalidCharacter(offset_of(text, after_fraction)));
+    let number = decimal.number;
+    let end = decimal.end();
+    // Computed before the word is read, so that the fraction's length need not stay live until then.
+    let is_bare = decimal.has_bare_point();
+    let Some((word, after_word)) = read_unit(end) else {
+        return Err(DurationError::InvalidCharacter(end.offset()));
     };
-    if bare {
-        return Err(DurationError::InvalidCharacter(offset_of(text, after_number)));
+    if is_bare {
+        return Err(DurationError::InvalidCharacter(number.end.offset()));
     }
-    let (start, end) = (offset_of(text, rest), offset_of(text, after_word));
-    let Some(next) = behind_word(after_word) else {
-        return Err(DurationError::InvalidCharacter(end));
+    let Some(next) = end_span(after_word) else {
+        return Err(DurationError::InvalidCharacter(after_word.offset()));
     };
     let Some(unit) = unit_of(word.key) else {
         return Err(DurationError::UnknownUnit {
-            start: offset_of(text, after_fraction),
-            end,
+            start: end.offset(),
+            end: after_word.offset(),
             unit: word.letters,
-            value,
+            value: number.value,
         });
     };
-    let amount = Amount {
-        value,
-        fraction,
-        unit,
-    };
-    Ok((
-        Span {
-            number,
-            digits,
-            unit: word.letters,
-            start,
-            end,
-            amount,
+    let span = Span {
+        number: number.slice,
+        digits: decimal.fraction_slice(),
+        unit: word.letters,
+        start: number.start.offset(),
+        end: after_word.offset(),
+        amount: Amount {
+            value: number.value,
+            fraction: decimal.fraction(),
+            unit,
         },
-        next,
-    ))
+    };
+    Ok((span, next))
 }

@@ -1,22 +1,24 @@
 //! Steps over a text: whitespace, a number, a fraction, a word.
 
-ghost use Rattle.std.specs.Char.{is_ascii_digit};
-ghost use Rattle.std.specs.Prelude.{◌≡◌, ◌↔◌, true, ◌-◌, ◌+◌, ◌<◌, SomeIff, drop, length, chars, option_map, IfSome, MatchOption, ◌≤◌, ◌==◌, ◌&&◌, ◌||◌, take, reverse, IsCharBoundary};
-ghost use Rattle.humantime.specs.Texts.{begins, drop_while, take_while};
-ghost use Rattle.humantime.specs.Durations.Characters.{is_digit, is_whitespace, offset_of, is_letter};
+ghost use Rattle.std.proofs.Props.{props};
+ghost use Rattle.std.specs.Prelude.{◌≡◌, true, ◌+◌, ◌<◌, SomeIff, drop, length, chars, option_map, IfSome, MatchOption, ◌≤◌, ◌==◌, ◌&&◌, ◌||◌, take, reverse, IsCharBoundary};
+ghost use Rattle.humantime.specs.Texts.{begins, drop_while, decimal_value};
+ghost use Rattle.humantime.specs.Durations.Characters.{is_digit, is_whitespace, is_letter, significant, u64_max};
 ghost use Rattle.humantime.specs.Durations.Errors.{IsPlaceIn};
-ghost use Rattle.humantime.specs.Steps.Scales.{parts_of};
-ghost use Rattle.humantime.specs.Steps.Scanning.{IsTail, BeginsWithDigit, whitespace_len, number_at, digits_at, fraction_read, begins_no_word, IsWordOf};
+ghost use Rattle.humantime.specs.Durations.Faults.{number_of, after_point};
 ghost use Rattle.humantime.specs.Durations.Units.{scale_of_word};
+ghost use Rattle.humantime.specs.Steps.Cursors.{ahead, IsNumericRun};
 ghost use Rattle.humantime.specs.Steps.Keys.{packed, scale_of_key};
+ghost use Rattle.humantime.specs.Steps.Scanning.{AreDigits, SkipsWhitespace, whitespace_len, begins_no_word, IsWordOf};
 
 use crate::duration::amount::{Fraction, push_digit};
+use crate::duration::cursor::Cursor;
 use crate::unit::{EMPTY_KEY, MOST_BYTES, NO_UNIT};
 
-/// A number below this one can take any digit behind it.
-const TENTH_OF_MAX: u64 = u64::MAX / 10;
+/// The largest number whose product with 10 fits in a `u64`.
+const MAX_TIMES_TEN: u64 = u64::MAX / 10;
 
-/// Whether these are the two bytes of the micro sign, or those of the Greek letter mu: the letters beyond ASCII.
+/// Returns whether these are the two bytes of the micro sign or of the Greek letter mu, the letters beyond ASCII.
 #[inline(always)]
 fn is_mu(first: u8, second: u8) -> bool
     ensures { result ≡ ((first == 0xc2 && second == 0xb5) || (first == 0xce && second == 0xbc)) }
@@ -24,14 +26,13 @@ fn is_mu(first: u8, second: u8) -> bool
     first == 0xc2 && second == 0xb5 || first == 0xce && second == 0xbc
 }
 
-/// How many bytes the whitespace at the front of the text has: those of one character, or none.
+/// Returns the length of the whitespace character that begins the text, in bytes, or 0 if there is none.
 ///
-/// It stands out of line, marked as rarely called, so that loops over ASCII keep what they hold in registers, and
-/// answers a number alone.
+/// It is cold and not inlined, so that loops over ASCII keep their variables in registers.
 #[cold]
 #[inline(never)]
 #[tactic(auto, using(crate::proofs::Durations::Bytes::PlaceSteps::none_width))]
-fn non_ascii_whitespace_len(text: &str) -> usize
+fn leading_whitespace_len(text: &str) -> usize
     ensures { result ≡ whitespace_len (chars text.now) }
 {
     match text.chars().next() {
@@ -40,14 +41,14 @@ fn non_ascii_whitespace_len(text: &str) -> usize
     }
 }
 
-/// The place after the whitespace at this place, if a character of whitespace stands there.
+/// Returns the offset after the whitespace character at this offset, or `None` if there is none.
 #[inline(always)]
 pub(crate) fn skip_whitespace_char(text: &str, at: usize) -> Option<usize>
     requires { IsPlaceIn text.now at }
     ensures { SomeIff result (0 < whitespace_len (chars (drop at text.now))) (at + whitespace_len (chars (drop at text.now))) }
 {
     let bytes = text.as_bytes();
-    // Most bytes that stand here are letters of ASCII, which one test tells from whitespace.
+    // Mostly an ASCII letter, which this test alone tells from whitespace.
     if bytes[at] > b' ' && bytes[at] < 0x80 {
         return None;
     }
@@ -57,23 +58,21 @@ pub(crate) fn skip_whitespace_char(text: &str, at: usize) -> Option<usize>
         }
         return None;
     }
-    // A letter is told by its bytes, and is not decoded.
+    // A mu is recognized by its bytes, without decoding.
     if at + 1 < bytes.len() && is_mu(bytes[at], bytes[at + 1]) {
         return None;
     }
-    match non_ascii_whitespace_len(&text[at..]) {
+    match leading_whitespace_len(&text[at..]) {
         0 => None,
-        width => Some(at + width),
+        len => Some(at + len),
     }
 }
 
-/// The place after the blanks, U+0020, at this place.
+/// Returns the offset after the spaces, U+0020, at this offset.
 #[inline(always)]
 fn skip_spaces(text: &str, from: usize) -> usize
     requires { IsCharBoundary text.now from }
-    ensures order { from ≤ result }
-    ensures place { IsCharBoundary text.now result }
-    ensures rest { drop_while is_whitespace (chars (drop result text.now)) ≡ drop_while is_whitespace (chars (drop from text.now)) }
+    ensures { SkipsWhitespace text.now from result }
 {
     let bytes = text.as_bytes();
     let mut at = from;
@@ -83,16 +82,16 @@ fn skip_spaces(text: &str, from: usize) -> usize
     at
 }
 
-/// What follows the whitespace at the front of the text, and whether a digit begins it. A digit is looked for first, since most
-/// texts have one there.
+/// Returns the cursor after the whitespace at the cursor.
 #[inline(always)]
-pub(crate) fn skip_whitespace<'a>(text: &'a str) -> (&'a str, bool)
-    ensures rest { chars result.0.now ≡ drop_while is_whitespace (chars text.now) }
-    ensures tail { IsTail text.now result.0.now }
-    ensures digit { result.1 ≡ begins is_digit (chars result.0.now) }
+pub(crate) fn skip_whitespace<'a>(start: Cursor<'a>) -> Cursor<'a>
+    ensures rest { ahead result ≡ drop_while is_whitespace (ahead start.entry) }
+    ensures text { result.text.now ≡ start.entry.text.now }
 {
+    let text = start.rest;
+    // Most texts have a digit here.
     if begins_with_digit(text) {
-        return (text, true);
+        return start;
     }
     let mut at = 0;
     while at < text.len() {
@@ -101,21 +100,10 @@ pub(crate) fn skip_whitespace<'a>(text: &'a str) -> (&'a str, bool)
             None => break,
         }
     }
-    let rest = &text[at..];
-    (rest, begins_with_digit(rest))
+    start.advance(at)
 }
 
-/// The offset at which a part begins that goes on to the end of the text.
-#[inline(always)]
-pub(crate) fn offset_of(text: &str, rest: &str) -> usize
-    requires { IsTail text.now rest.now }
-    ensures value { result ≡ offset_of (chars text.now) (chars rest.now) }
-    ensures bytes { result ≡ length text.now - length rest.now }
-{
-    text.len() - rest.len()
-}
-
-/// Whether the first character is a digit.
+/// Returns whether the text begins with a digit.
 #[inline(always)]
 pub(crate) fn begins_with_digit(text: &str) -> bool
     ensures { result ≡ begins is_digit (chars text.now) }
@@ -124,24 +112,36 @@ pub(crate) fn begins_with_digit(text: &str) -> bool
     !bytes.is_empty() && bytes[0].is_ascii_digit()
 }
 
-/// The number at the front of the text, what it stands in, and what follows it; `None` where it is too large. The first
-/// digit is known to be one.
+/// A number, from its first digit to what follows it.
+#[derive(Clone, Copy)]
+pub(crate) struct Number<'a> {
+    pub start: Cursor<'a>,
+    pub value: u64,
+    /// The digits, and the whitespace between and after them.
+    pub slice: &'a str,
+    pub end: Cursor<'a>,
+    ghost digits: { value ≡ decimal_value (number_of (ahead start)) },
+    ghost fits: { value ≤ u64_max },
+    ghost run: { IsNumericRun start slice.now end } by { Prim.hlevel props },
+}
+
+/// Reads the number at the cursor, or returns `None` if it does not fit in a `u64`.
 #[inline(always)]
 #[tactic(auto, using(crate::proofs::Durations::Bytes::Numbers::first_digit))]
-pub(crate) fn read_number<'a>(text: &'a str) -> Option<(u64, &'a str, &'a str)>
-    requires { BeginsWithDigit text.now }
-    ensures value { option_map (λ x. (x.0, chars x.1.now, chars x.2.now)) result ≡ number_at (chars text.now) }
-    ensures tail { IfSome result (λ x. IsTail text.now x.2.now) }
+pub(crate) fn read_number<'a>(start: Cursor<'a>) -> Option<Number<'a>>
+    requires { begins is_digit (ahead start) ≡ true }
+    ensures { MatchOption result (u64_max < decimal_value (number_of (ahead start.entry))) (λ n. n.start ≡ start.entry) }
 {
+    let text = start.rest;
     let bytes = text.as_bytes();
     let mut value = (bytes[0] - b'0') as u64;
     let mut at = 1;
     while at < bytes.len() {
-        // Above nine for any byte but a digit, and as wide as the value, so that no digit is widened.
+        // More than 9 for every byte but a digit, and as wide as the value, so that no digit is widened.
         let digit = (bytes[at] as u64).wrapping_sub(48);
         if digit <= 9 {
             at += 1;
-            value = if value >= TENTH_OF_MAX {
+            value = if value >= MAX_TIMES_TEN {
                 push_digit(value, digit)?
             } else {
                 value * 10 + digit
@@ -153,22 +153,38 @@ pub(crate) fn read_number<'a>(text: &'a str) -> Option<(u64, &'a str, &'a str)>
             }
         }
     }
-    Some((value, &text[..at], &text[at..]))
+    Some(Number {
+        start,
+        value,
+        slice: &text[..at],
+        end: start.advance(at),
+    })
 }
 
-/// The digits at the front of the text, what they stand in, and what follows them; `None` where more than 19 stand before
-/// the zeros at their end.
+/// A fraction, from what follows its point to what follows its digits.
+#[derive(Clone, Copy)]
+pub(crate) struct FractionPart<'a> {
+    pub start: Cursor<'a>,
+    pub value: Fraction,
+    /// The digits, and the whitespace around them.
+    pub slice: &'a str,
+    pub end: Cursor<'a>,
+    ghost digits: { AreDigits value (number_of (ahead start)) } by { Prim.hlevel props },
+    ghost run: { IsNumericRun start slice.now end } by { Prim.hlevel props },
+}
+
+/// Reads the digits of a fraction at the cursor, or returns `None` if more than 19 precede the trailing zeros.
 #[inline(always)]
-fn read_digits<'a>(text: &'a str) -> Option<(Fraction, &'a str, &'a str)>
-    ensures value { option_map (λ x. (parts_of x.0, chars x.1.now, chars x.2.now)) result ≡ digits_at (chars text.now) }
-    ensures tail { IfSome result (λ x. IsTail text.now x.2.now) }
+pub(crate) fn read_fraction<'a>(start: Cursor<'a>) -> Option<FractionPart<'a>>
+    ensures { MatchOption result (19 < length (significant (number_of (ahead start.entry)))) (λ f. f.start ≡ start.entry) }
 {
+    let text = start.rest;
     let bytes = text.as_bytes();
-    let mut fraction = Fraction::NONE;
+    let mut value = Fraction::EMPTY;
     let mut at = 0;
     while at < bytes.len() {
         if bytes[at].is_ascii_digit() {
-            fraction = fraction.push(bytes[at])?;
+            value = value.push(bytes[at])?;
             at += 1;
         } else {
             match skip_whitespace_char(text, at) {
@@ -177,24 +193,25 @@ fn read_digits<'a>(text: &'a str) -> Option<(Fraction, &'a str, &'a str)>
             }
         }
     }
-    Some((fraction, &text[..at], &text[at..]))
+    Some(FractionPart {
+        start,
+        value,
+        slice: &text[..at],
+        end: start.advance(at),
+    })
 }
 
-/// The fraction at the front of the text and what its digits stand in, if there is one, and what follows it; `None` where it
-/// is too long.
+/// Returns the cursor after the point at the cursor, or `None` if there is none.
 #[inline(always)]
-pub(crate) fn read_fraction<'a>(
-    text: &'a str,
-) -> Option<(Option<Fraction>, Option<&'a str>, &'a str)>
-    ensures value { option_map (λ x. (option_map parts_of x.0, option_map (λ t. chars t.now) x.1, chars x.2.now)) result ≡ fraction_read (chars text.now) }
-    ensures tail { IfSome result (λ x. IsTail text.now x.2.now) }
+pub(crate) fn skip_point<'a>(start: Cursor<'a>) -> Option<Cursor<'a>>
+    ensures rest { option_map ahead result ≡ after_point (ahead start.entry) }
+    ensures text { IfSome result (λ c. c.text.now ≡ start.entry.text.now) }
 {
-    let bytes = text.as_bytes();
+    let bytes = start.rest.as_bytes();
     if bytes.is_empty() || bytes[0] != b'.' {
-        return Some((None, None, text));
+        return None;
     }
-    let (fraction, digits, rest) = read_digits(&text[1..])?;
-    Some((Some(fraction), Some(digits), rest))
+    Some(start.advance(1))
 }
 
 /// The letters of a word, and the key by which its unit is found.

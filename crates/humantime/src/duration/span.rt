@@ -7,9 +7,9 @@ ghost use Rattle.humantime.specs.Steps.Scales.{IsAmountOf};
 
 use crate::duration::amount::Amount;
 
-/// A number with its fraction and its unit, borrowed from the text that they stand in.
+/// A number with its fraction and its unit, borrowed from a text.
 ///
-/// [`spans`](crate::spans) gives the spans of a text.
+/// [`spans`](crate::spans) returns an iterator over the spans of a text.
 ///
 /// # Examples
 ///
@@ -25,9 +25,9 @@ use crate::duration::amount::Amount;
 /// ```
 #[derive(Clone, Copy, Debug)]
 pub struct Span<'a> {
-    // From the first digit up to what follows the number, with the whitespace before that.
+    // From the first digit, with the whitespace that follows the last.
     pub(crate) number: &'a str,
-    // From behind the point up to the unit, if there is a point.
+    // From the point to the unit, without the point, if there is one.
     pub(crate) digits: Option<&'a str>,
     pub(crate) unit: &'a str,
     pub(crate) start: usize,
@@ -57,7 +57,7 @@ impl<'a> Span<'a> {
 
     /// Returns the fraction, from its first to its last digit, or `None` if there is no point.
     ///
-    /// The whitespace between the digits and the zeros at their end are part of it.
+    /// Whitespace between the digits and trailing zeros are included.
     ///
     /// # Examples
     ///
@@ -74,7 +74,7 @@ impl<'a> Span<'a> {
         Some(self.digits?.trim_start().trim_end())
     }
 
-    /// Returns the unit's word, as it stands in the text.
+    /// Returns the unit as written in the text.
     ///
     /// # Examples
     ///
@@ -106,7 +106,7 @@ impl<'a> Span<'a> {
         self.start
     }
 
-    /// Returns the offset after the last letter of the unit, in bytes.
+    /// Returns the offset after the last letter of the unit in the text, in bytes.
     ///
     /// # Examples
     ///

@@ -46,11 +46,11 @@ fn add_whole(sum: StdDuration, value: u64, unit: Unit) -> Option<StdDuration>
 /// The part of the factor that the fraction is, where it is whole and the product fits.
 #[tactic(auto, using(crate::proofs::Durations::Bytes::Additions::power_positive))]
 fn part_of(fraction: Fraction, factor: u64) -> Option<u64>
-    requires { fraction.count ≤ 19 }
-    ensures { result ≡ part_of fraction.value fraction.count factor }
+    requires { fraction.significant ≤ 19 }
+    ensures { result ≡ part_of fraction.significand fraction.significant factor }
 {
-    let product = product(fraction.value, factor)?;
-    let power = power_of_ten(fraction.count);
+    let product = product(fraction.significand, factor)?;
+    let power = power_of_ten(fraction.significant);
     if product % power != 0 {
         return None;
     }
@@ -60,23 +60,23 @@ fn part_of(fraction: Fraction, factor: u64) -> Option<u64>
 /// The part of a power of ten that the fraction is, without a division where its digits are few.
 #[tactic(auto, using(crate::proofs::Durations::Bytes::Additions::few_digits))]
 fn part_of_power(fraction: Fraction, exponent: usize) -> Option<u64>
-    requires few { fraction.count ≤ 19 }
+    requires few { fraction.significant ≤ 19 }
     requires exponent { exponent ≤ 9 }
-    ensures { result ≡ part_of fraction.value fraction.count (10 ^ exponent) }
+    ensures { result ≡ part_of fraction.significand fraction.significant (10 ^ exponent) }
 {
-    if fraction.count <= exponent && fraction.value <= MOST_BEFORE_NINE_ZEROS {
-        return Some(fraction.value * power_of_ten(exponent - fraction.count));
+    if fraction.significant <= exponent && fraction.significand <= MOST_BEFORE_NINE_ZEROS {
+        return Some(fraction.significand * power_of_ten(exponent - fraction.significant));
     }
     part_of(fraction, power_of_ten(exponent))
 }
 
 /// The duration and a fraction of one unit.
 fn add_fraction(total: StdDuration, fraction: Fraction, unit: Unit) -> Option<StdDuration>
-    requires { fraction.count ≤ 19 }
-    ensures { result ≡ add_part total (scale_of unit).fraction fraction.value fraction.count }
+    requires { fraction.significant ≤ 19 }
+    ensures { result ≡ add_part total (scale_of unit).fraction fraction.significand fraction.significant }
 {
     let nanos = match unit {
-        Unit::Nanosecond => return (fraction.count == 0).then_some(total),
+        Unit::Nanosecond => return (fraction.significant == 0).then_some(total),
         Unit::Microsecond => part_of_power(fraction, 3),
         Unit::Millisecond => part_of_power(fraction, 6),
         Unit::Second => part_of_power(fraction, 9),

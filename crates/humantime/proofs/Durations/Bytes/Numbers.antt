@@ -1,14 +1,15 @@
 -- Reading the digits that begin a text, one by one.
-use Rattle.std.proofs.Common.{◌≡◌, ◌≤◌, ◌<◌, ◌+◌, ◌-◌, ◌*◌, ◌%◌, ℕ, List, [], ◌∷◌, ◌++◌, ap, sym, ◌∙◌, arith, append_assoc, append-nil, true, false, chars, take, drop, get_or, length, IsUtf8, IsCharBoundary, refl, Some, None}
+use Rattle.std.proofs.Common.{◌≡◌, ◌≤◌, ◌<◌, ◌+◌, ◌-◌, ◌*◌, ◌%◌, ℕ, List, [], ◌∷◌, ◌++◌, ap, sym, ◌∙◌, arith, append_assoc, append-nil, true, false, chars, take, drop, get_or, length, IsUtf8, IsCharBoundary, refl}
 use Rattle.std.specs.Char.{digit_value, is_ascii_digit}
 use Rattle.std.specs.Str.Parse.{digits_value_after}
 use Rattle.std.proofs.lemmas.Str.{digit_value_digit, IsCharBoundary-start}
-use Rattle.std.proofs.lemmas.Bool.{lt-ltb}
 use Rattle.std.proofs.lemmas.Bool.Decides.{nat_tests}
-use Rattle.humantime.specs.Texts.{begins, take_while, decimal_value}
+use Rattle.humantime.specs.Texts.{begins, decimal_value}
 use Rattle.humantime.specs.Durations.Characters.{is_whitespace, is_digit, is_numeric, u64_max}
 use Rattle.humantime.specs.Durations.Faults.{number_of, after_number}
-use Rattle.humantime.specs.Steps.Scanning.{BeginsWithDigit, whitespace_len, number_at}
+use Rattle.humantime.specs.declared.duration.cursor.Cursor.{Cursor}
+use Rattle.humantime.specs.Steps.Cursors.{ahead, IsNumericRun}
+use Rattle.humantime.specs.Steps.Scanning.{whitespace_len}
 use Rattle.humantime.proofs.Durations.Bytes.PlaceSteps.{digit_over, digit_at, whitespace_over, no_whitespace}
 use Rattle.humantime.proofs.Durations.Bytes.Tails.{front_is, no_bytes}
 use Rattle.humantime.proofs.Durations.Reading.Classes.{digit_is, digit_is_numeric, whitespace_is_numeric, whitespace_not_digit}
@@ -56,13 +57,17 @@ pub stops_here : (text bytes : List ℕ) (at : ℕ) → IsUtf8 text → bytes �
 stops_here text bytes at u same some place d w =
     no_numeric _ (sym (digit_at text at u (rw same at some, place)) ∙ rw same at d) (no_whitespace _ w)
 
--- all digits are read where none follows, and no whitespace
-pub all_read : (text : List ℕ) (at : ℕ) (ds : List ℕ) → IsUtf8 text → IsRead text at ds → begins is_numeric (chars (drop at text)) ≡ false
-    → (number_of (chars text) ≡ ds) × (chars (take at text) ≡ take_while is_numeric (chars text)) × (chars (drop at text) ≡ after_number (chars text))
-all_read text at ds u h ended =
+-- all digits of a run are read where neither a digit nor whitespace follows
+pub run_is_read : (start end : Cursor) (at : ℕ) (slice ds : List ℕ) → IsRead start.rest.now at ds → begins is_numeric (chars (drop at start.rest.now)) ≡ false
+    → slice ≡ take at start.rest.now → end.rest.now ≡ drop at start.rest.now → end.text.now ≡ start.text.now
+    → (number_of (ahead start) ≡ ds) × IsNumericRun start slice end
+run_is_read start end at slice ds h ended front rest same =
+    let text = start.rest.now in
     let behind = none_there _ ended in
-    let after : chars (drop at text) ≡ after_number (chars text) = sym behind.1 ∙ h.after in
-    (h.all ∙ ap (λ (x : List ℕ). ds ++ x) behind.0 ∙ append-nil ds, front_is is_numeric text at u h.place after, after)
+    let after : chars (drop at text) ≡ after_number (chars text) = sym behind.1 ∙ h.after in (
+      h.all ∙ ap (λ (x : List ℕ). ds ++ x) behind.0 ∙ append-nil ds,
+      record { run = rw front (front_is is_numeric text at start.tail.utf8 h.place after); behind = rw rest after; same_text = same },
+    )
 
 -- a byte that is no digit leaves more than nine where 48 is taken from it, in 64 bits
 pub other_left : (c : ℕ) → c < 256 → 9 < (c + 18446744073709551568) % 18446744073709551616 → is_ascii_digit c ≡ false
@@ -74,9 +79,8 @@ unfolding is_digit
 digit_range c d = grind (arith, nat_tests)
 
 -- the first byte of a text that begins with a digit
-pub first_digit : (text bytes : List ℕ) → IsUtf8 text → bytes ≡ text → BeginsWithDigit text
+pub first_digit : (text bytes : List ℕ) → IsUtf8 text → bytes ≡ text → begins is_digit (chars text) ≡ true
     → (0 < length bytes) × (48 ≤ get_or bytes 0 0) × (is_ascii_digit (get_or bytes 0 0) ≡ true)
-unfolding BeginsWithDigit
 first_digit text bytes u same d =
     let some : 0 < length text = grind (arith, no_bytes) in
     let digit = digit_at text 0 u (some, IsCharBoundary-start text u) ∙ d in
@@ -106,12 +110,6 @@ value_grows n (d ∷ ds) = omega (arith, value_grows (n * 10 + digit_value d) ds
 pub value_greater : (ds es : List ℕ) → decimal_value ds ≤ decimal_value (ds ++ es)
 value_greater ds es = rw (value-append 0 ds es) (value_grows (decimal_value ds) es)
 
--- the answers where the digits are read
-pub number_passes : (text : List ℕ) (at : ℕ) (ds : List ℕ) → IsRead text at ds → u64_max < decimal_value ds → None ≡ number_at (chars text)
-number_passes text at ds h over =
-    rw (lt-ltb u64_max (decimal_value (number_of (chars text))) (omega (arith, over, value_greater ds (number_of (chars (drop at text))), ap decimal_value h.all))) refl
-
-pub number_ends : (text ds front rest : List ℕ) (v : ℕ) → v ≡ decimal_value ds → v ≤ u64_max
-    → (number_of text ≡ ds) × (front ≡ take_while is_numeric text) × (rest ≡ after_number text)
-    → Some (v, front, rest) ≡ number_at text
-number_ends text ds front rest v is fits a = grind arith
+-- a number that is too large with some of its digits is too large
+pub number_passes : (text : List ℕ) (at : ℕ) (ds : List ℕ) → IsRead text at ds → u64_max < decimal_value ds → u64_max < decimal_value (number_of (chars text))
+number_passes text at ds h over = omega (arith, over, value_greater ds (number_of (chars (drop at text))), ap decimal_value h.all)

@@ -1,7 +1,7 @@
 -- Places in a text, and the character that stands at one.
 use Rattle.std.proofs.lemmas.Grind.{common_steps}
 use Rattle.std.proofs.Common.{◌≡◌, ◌≢◌, ◌<◌, ◌≤◌, ◌+◌, ℕ, List, [], ◌∷◌, ◌++◌, length, get_or, drop, refl, ap, sym, ◌∙◌, arith, length-drop, IsUtf8, IsCharBoundary, chars, encode_utf8, encode_utf8_all, Bool, true, false, inl, inr}
-use Rattle.std.specs.Prelude.{◌==◌, ◌&&◌, ◌||◌, Some, None, option_map, slice_get, if◌then◌else◌}
+use Rattle.std.specs.Prelude.{◌==◌, ◌&&◌, ◌||◌, Some, None, slice_get, if◌then◌else◌}
 use Rattle.std.specs.Char.{is_ascii_digit, is_ascii_alphabetic, is_whitespace as std_is_whitespace, len_utf8}
 use Rattle.std.proofs.Math.Utf8.{encode}
 use Rattle.std.proofs.lemmas.Bool.{cases_lt, ne_eqb, or_cases, and_parts, eqb-true}
@@ -11,9 +11,10 @@ use Rattle.std.proofs.lemmas.Str.{IsUtf8-drop, IsCharBoundary-past_char, drop_pa
 use Rattle.humantime.specs.Durations.Errors.{IsPlaceIn}
 use Rattle.humantime.specs.Texts.{begins, drop_while}
 use Rattle.humantime.specs.Durations.Characters.{is_letter, is_whitespace, whitespace_chars, is_digit, is_point}
-use Rattle.humantime.specs.Steps.Scanning.{whitespace_len, digits_at, fraction_read, ends_span}
-use Rattle.humantime.specs.Steps.SpanParts.{IsBehindWord}
-use Rattle.humantime.proofs.Durations.Bytes.Tails.{no_bytes, tail_at}
+use Rattle.humantime.specs.Steps.Scanning.{whitespace_len}
+use Rattle.humantime.specs.Durations.Faults.{after_point}
+use Rattle.humantime.specs.Answers.Walks.{ends_span}
+use Rattle.humantime.proofs.Durations.Bytes.Tails.{no_bytes}
 use Rattle.humantime.proofs.Durations.Reading.Classes.{digit_is, digit_not_whitespace, digit_is_numeric, whitespace_is_numeric, is_point-46, letter_not_whitespace, wide_no_digit, whitespace_is, ascii_letter, alphabetic_is_ascii}
 
 -- The character at a place, and what follows it.
@@ -118,14 +119,12 @@ no_point text u other = elim (cases_lt 0 (length text)) [
   | inr none ↦ rw (no_bytes text (omega arith)) refl
 ]
 
-pub point_first : (text : List ℕ) → IsUtf8 text → 0 < length text → get_or text 0 0 ≡ 46 → IsCharAt text 0 46 1
-point_first text u some e = rw e at (ascii_at text 0 u (some, IsCharBoundary-start text u) (omega (arith, e)))
-
-pub no_fraction : (rest : List ℕ) → begins is_point rest ≡ false → Some (None, None, rest) ≡ fraction_read rest
-no_fraction rest e = rw e refl
-
-pub fraction_behind : (rest cs : List ℕ) → rest ≡ 46 ∷ cs → option_map (λ x. (Some x.0, Some x.1, x.2)) (digits_at cs) ≡ fraction_read rest
-fraction_behind rest cs e = rw (e, is_point-46)
+-- what follows the point, and its place
+pub point_over : (text : List ℕ) → IsUtf8 text → 0 < length text → get_or text 0 0 ≡ 46
+    → IsCharBoundary text 1 × (after_point (chars text) ≡ Some (chars (drop 1 text)))
+point_over text u some e =
+    let c = rw e at (ascii_at text 0 u (some, IsCharBoundary-start text u) (omega (arith, e))) in
+    (c.place, rw (c.ahead, is_point-46) refl)
 
 -- ---- letters
 
@@ -204,18 +203,17 @@ pub other_goes_on : (cs : List ℕ) → cs ≢ [] → begins is_digit cs ≡ fal
 other_goes_on [] some d w = absurd (some refl)
 other_goes_on (c ∷ cs) some d w = grind (arith, len_utf8_bounds)
 
-pub kept_behind : (text : List ℕ) → IsUtf8 text → ends_span (chars text) ≡ true → IsBehindWord text text
-kept_behind text u e = record { ends = e; same = refl; tail = tail_at text text 0 u (IsCharBoundary-start text u) refl }
-
-pub whitespace_behind : (text : List ℕ) (at : ℕ) → IsUtf8 text → 0 < length text → 0 < whitespace_len (chars text) → at ≡ 0 + whitespace_len (chars text)
-    → IsCharBoundary text at × IsBehindWord text (drop at text)
-whitespace_behind text at u some white n =
+-- whitespace ends a span
+pub whitespace_ends : (text : List ℕ) (at : ℕ) → IsUtf8 text → 0 < length text → 0 < whitespace_len (chars text) → at ≡ 0 + whitespace_len (chars text)
+    → IsCharBoundary text at × (ends_span (chars text) ≡ true) × (drop_while is_whitespace (chars (drop at text)) ≡ drop_while is_whitespace (chars text))
+whitespace_ends text at u some white n =
     let c = whitespace_over text 0 at u (some, IsCharBoundary-start text u) white n in
-    (c.2.place, record { ends = rw c.2.ahead (whitespace_is_numeric _ c.1); same = rw (c.2.ahead, c.1) refl; tail = tail_at text _ at u c.2.place refl })
+    (c.2.place, rw c.2.ahead (whitespace_is_numeric _ c.1), rw (c.2.ahead, c.1) refl)
 
--- a blank ends a span, and is one byte
-pub blank_behind : (text : List ℕ) → IsUtf8 text → 0 < length text → get_or text 0 0 ≡ 32 → IsCharBoundary text 1 × IsBehindWord text (drop 1 text)
+-- a space ends a span, and is one byte
+pub space_ends : (text : List ℕ) → IsUtf8 text → 0 < length text → get_or text 0 0 ≡ 32
+    → IsCharBoundary text 1 × (ends_span (chars text) ≡ true) × (drop_while is_whitespace (chars (drop 1 text)) ≡ drop_while is_whitespace (chars text))
 unfolding is_whitespace whitespace_chars
-blank_behind text u some e =
+space_ends text u some e =
     let c = rw e at (ascii_at text 0 u (some, IsCharBoundary-start text u) (omega (arith, e))) in
-    (c.place, record { ends = rw c.ahead (whitespace_is_numeric 32 refl); same = rw c.ahead refl; tail = tail_at text _ 1 u c.place refl })
+    (c.place, rw c.ahead (whitespace_is_numeric 32 refl), rw c.ahead refl)

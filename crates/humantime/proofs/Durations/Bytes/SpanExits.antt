@@ -1,32 +1,24 @@
 -- How reading stops at a rest, by its parts.
-use Rattle.std.specs.Prelude.{length, ◌==◌}
-use Rattle.std.proofs.Common.{arith, ◌≡◌, ◌≢◌, ℕ, true, false, List, [], ◌∷◌, Option, Some, None, option_map, refl, sym, ◌∙◌, chars, Bor, IsUtf8}
+use Rattle.std.specs.Prelude.{length, ◌==◌, ◌<◌, ◌≤◌}
+use Rattle.std.proofs.Common.{arith, ◌≡◌, ◌≢◌, ℕ, true, false, List, [], ◌∷◌, Option, Some, None, option_map, refl, sym, chars, Bor, IsUtf8}
+use Rattle.std.proofs.lemmas.Bool.Decides.{nat_tests}
 use Rattle.std.proofs.lemmas.Str.{encodes-chars}
 use Rattle.std.specs.Str.{drop_trailing_whitespace}
-use Rattle.humantime.specs.declared.duration.amount.Fraction.{Fraction}
 use Rattle.humantime.specs.Texts.{drop_while, take_while, decimal_value}
-use Rattle.humantime.specs.Durations.Characters.{is_letter, is_numeric, offset_of}
+use Rattle.humantime.specs.Durations.Accepted.{is_some_and, too_long}
+use Rattle.humantime.specs.Durations.Characters.{is_letter, is_numeric, offset_of, significant, u64_max}
 use Rattle.humantime.specs.Durations.Units.{Scale, scale_of_word}
 use Rattle.humantime.specs.Durations.Faults.{number_of, after_number, after_point, fraction_of, after_fraction, word_of, after_word, span_of, InvalidCharacter, UnknownUnit, NumberOverflow}
 use Rattle.humantime.specs.Answers.Items.{spelled, trimmed, view_at}
-use Rattle.humantime.specs.Answers.Walks.{too_long, stop_at, ends_span}
-use Rattle.humantime.specs.Steps.Scales.{Counted, counted, parts_of}
-use Rattle.humantime.specs.Steps.Scanning.{ends_span, number_at, fraction_read, begins_no_word}
-use Rattle.humantime.specs.Durations.Accepted.{is_some_and, too_long}
+use Rattle.humantime.specs.Steps.Scanning.{begins_no_word}
 use Rattle.humantime.proofs.Durations.Bytes.Trimming.{spelled_at}
 
--- the number and the fraction that begin a rest, neither too long, what each stands in, and what follows each
-pub are_read : (rest : List ℕ) (v : ℕ) (n a : List ℕ) (f : Option Counted) (d : Option (List ℕ)) (bytes : List ℕ)
-    → Some (v, n, a) ≡ number_at rest → Some (f, d, bytes) ≡ fraction_read a
-    → (too_long (span_of rest) ≡ false) × (v ≡ decimal_value (number_of rest)) × (n ≡ take_while is_numeric rest) × (a ≡ after_number rest)
-    × (f ≡ option_map counted (fraction_of rest)) × (d ≡ option_map (take_while is_numeric) (after_point (after_number rest))) × (bytes ≡ after_fraction rest)
-are_read rest v n a f d bytes x y = grind arith
+-- a span is too long by its number, or by its fraction
+pub long_number : (rest : List ℕ) → u64_max < decimal_value (number_of rest) → too_long (span_of rest) ≡ true
+long_number rest n = grind (arith, nat_tests)
 
-pub long_number : (rest : List ℕ) → None ≡ number_at rest → too_long (span_of rest) ≡ true
-long_number rest n = grind arith
-
-pub long_fraction : (rest : List ℕ) (x : ℕ × List ℕ × List ℕ) → Some x ≡ number_at rest → None ≡ fraction_read x.2 → too_long (span_of rest) ≡ true
-long_fraction rest x n f = grind arith
+pub long_fraction : (rest ds : List ℕ) → Some ds ≡ after_point (after_number rest) → 19 < length (significant (number_of ds)) → too_long (span_of rest) ≡ true
+long_fraction rest ds n f = grind (arith, nat_tests)
 
 pub exit_long : (text rest : List ℕ) → too_long (span_of rest) ≡ true → Some NumberOverflow ≡ stop_at text rest
 unfolding stop_at
@@ -42,44 +34,40 @@ pub exit_no_letter : (text rest after : List ℕ) (at : ℕ) → too_long (span_
 unfolding stop_at
 exit_no_letter text rest after at s a n p = rw (s, sym a, n, no_letters after n, p) refl
 
--- whether a point without digits stands there, seen in the digits that were read
-same_bare : (fraction : Option Fraction) (digits : Option (List ℕ)) → option_map parts_of fraction ≡ option_map counted digits
-    → is_some_and (λ ds. length ds == 0) digits ≡ is_some_and (λ f. f.all == 0) fraction
-same_bare fraction digits f = grind arith
-
-pub exit_bare : (text rest behind after : List ℕ) (fraction : Option Fraction) (at : ℕ) → too_long (span_of rest) ≡ false
-    → behind ≡ after_fraction rest → begins_no_word behind ≡ false → option_map parts_of fraction ≡ option_map counted (fraction_of rest) → is_some_and (λ f. f.all == 0) fraction ≡ true
-    → after ≡ after_number rest → at ≡ offset_of text after → Some (InvalidCharacter at) ≡ stop_at text rest
+pub exit_bare : (text rest behind after : List ℕ) (at : ℕ) → too_long (span_of rest) ≡ false → behind ≡ after_fraction rest → begins_no_word behind ≡ false
+    → is_some_and (λ ds. length ds == 0) (fraction_of rest) ≡ true → after ≡ after_number rest → at ≡ offset_of text after
+    → Some (InvalidCharacter at) ≡ stop_at text rest
 unfolding stop_at
-exit_bare text rest behind after fraction at s h w f bytes a p = rw (s, sym h, w, same_bare fraction (fraction_of rest) f ∙ bytes, sym a, p) refl
+exit_bare text rest behind after at s h w bare a p = rw (s, sym h, w, bare, sym a, p) refl
 
 -- a point without digits is there
-pub bare_some : (rest after : List ℕ) (fraction : Option Fraction) → option_map parts_of fraction ≡ option_map counted (fraction_of rest)
-    → is_some_and (λ f. f.all == 0) fraction ≡ true → after ≡ after_number rest → after ≢ []
-bare_some rest after fraction f bytes a none = grind arith
+pub bare_some : (rest after : List ℕ) → is_some_and (λ ds. length ds == 0) (fraction_of rest) ≡ true → after ≡ after_number rest → after ≢ []
+bare_some rest after bare a none = grind arith
 
-pub exit_after : (text rest behind after : List ℕ) (fraction : Option Fraction) (at : ℕ) → too_long (span_of rest) ≡ false
-    → behind ≡ after_fraction rest → begins_no_word behind ≡ false → option_map parts_of fraction ≡ option_map counted (fraction_of rest) → is_some_and (λ f. f.all == 0) fraction ≡ false
-    → after ≡ drop_while is_letter behind → ends_span after ≡ false → at ≡ offset_of text after → Some (InvalidCharacter at) ≡ stop_at text rest
+-- what cannot follow a word is there
+pub bad_some : (after : List ℕ) → ends_span after ≡ false → after ≢ []
+bad_some after e none = grind arith
+
+pub exit_after : (text rest behind after : List ℕ) (at : ℕ) → too_long (span_of rest) ≡ false → behind ≡ after_fraction rest → begins_no_word behind ≡ false
+    → is_some_and (λ ds. length ds == 0) (fraction_of rest) ≡ false → after ≡ drop_while is_letter behind → ends_span after ≡ false → at ≡ offset_of text after
+    → Some (InvalidCharacter at) ≡ stop_at text rest
 unfolding stop_at
-exit_after text rest behind after fraction at s h w f bytes a e p = rw (s, sym h, w, same_bare fraction (fraction_of rest) f ∙ bytes, sym a, e, p) refl
+exit_after text rest behind after at s h w bare a e p = rw (s, sym h, w, bare, sym a, e, p) refl
 
-pub exit_unit : (text rest behind unit after : List ℕ) (fraction : Option Fraction) (start end value : ℕ) → too_long (span_of rest) ≡ false
-    → behind ≡ after_fraction rest → begins_no_word behind ≡ false → option_map parts_of fraction ≡ option_map counted (fraction_of rest)
-    → is_some_and (λ f. f.all == 0) fraction ≡ false → after ≡ drop_while is_letter behind → ends_span after ≡ true
-    → IsUtf8 unit → chars unit ≡ take_while is_letter behind → scale_of_word (chars unit) ≡ None
+pub exit_unit : (text rest behind unit after : List ℕ) (start end value : ℕ) → too_long (span_of rest) ≡ false → behind ≡ after_fraction rest
+    → begins_no_word behind ≡ false → is_some_and (λ ds. length ds == 0) (fraction_of rest) ≡ false → after ≡ drop_while is_letter behind
+    → ends_span after ≡ true → IsUtf8 unit → chars unit ≡ take_while is_letter behind → scale_of_word (chars unit) ≡ None
     → start ≡ offset_of text behind → end ≡ offset_of text after → value ≡ decimal_value (number_of rest)
     → Some (UnknownUnit start end unit value) ≡ stop_at text rest
 unfolding stop_at
-exit_unit text rest behind unit after fraction start end value s h w f bytes a e u l k p q v =
-    rw (s, sym h, w, same_bare fraction (fraction_of rest) f ∙ bytes, sym a, e, sym l, k, encodes-chars unit u, p, q, v) refl
+exit_unit text rest behind unit after start end value s h w bare a e u l k p q v =
+    rw (s, sym h, w, bare, sym a, e, sym l, k, encodes-chars unit u, p, q, v) refl
 
-pub exit_fine : (text rest behind word after : List ℕ) (fraction : Option Fraction) (u : Scale) → too_long (span_of rest) ≡ false
-    → behind ≡ after_fraction rest → begins_no_word behind ≡ false → option_map parts_of fraction ≡ option_map counted (fraction_of rest) → is_some_and (λ f. f.all == 0) fraction ≡ false
-    → after ≡ drop_while is_letter behind → ends_span after ≡ true → word ≡ take_while is_letter behind → scale_of_word word ≡ Some u
-    → None ≡ stop_at text rest
+pub exit_fine : (text rest behind word after : List ℕ) (u : Scale) → too_long (span_of rest) ≡ false → behind ≡ after_fraction rest
+    → begins_no_word behind ≡ false → is_some_and (λ ds. length ds == 0) (fraction_of rest) ≡ false → after ≡ drop_while is_letter behind
+    → ends_span after ≡ true → word ≡ take_while is_letter behind → scale_of_word word ≡ Some u → None ≡ stop_at text rest
 unfolding stop_at
-exit_fine text rest behind word after fraction u s h w f bytes a e l k = rw (s, sym h, w, same_bare fraction (fraction_of rest) f ∙ bytes, sym a, e, sym l, k) refl
+exit_fine text rest behind word after u s h w bare a e l k = rw (s, sym h, w, bare, sym a, e, sym l, k) refl
 
 -- the slices that were read are those that the span lends
 pub view_read : (text rest number word : List ℕ) (digits : Option (Bor (List ℕ))) (start end value : ℕ)

@@ -1,6 +1,6 @@
 -- Ends of a text, over its bytes.
 use Rattle.std.proofs.lemmas.Grind.{common_steps}
-use Rattle.std.proofs.Common.{◌≡◌, ◌≢◌, ◌≤◌, ◌+◌, ◌-◌, ℕ, Bool, true, false, List, [], ◌++◌, length, take, drop, refl, ap, sym, ◌∙◌, arith, length-append, length-drop, length-take, IsUtf8, IsCharBoundary, chars, slice_range}
+use Rattle.std.proofs.Common.{◌≡◌, ◌≢◌, ◌≤◌, ◌+◌, ◌-◌, ℕ, Bool, true, false, List, [], ◌++◌, length, take, drop, refl, ap, sym, ◌∙◌, arith, length-append, length-drop, length-take, IsUtf8, IsCharBoundary, chars}
 use Rattle.std.proofs.lemmas.List.{take-append-drop, append_cancel_right}
 use Rattle.std.proofs.lemmas.Str.{IsUtf8-take, IsUtf8-drop, IsCharBoundary-at_seam, encodes-chars, chars-append, chars-nil}
 use Rattle.humantime.specs.Texts.{take_while, drop_while}
@@ -23,10 +23,14 @@ pub tail_at : (text rest : List ℕ) (at : ℕ) → IsUtf8 text → IsCharBounda
 tail_at text rest at u place e =
     let long : length rest + at ≡ length text = rw e (omega (arith, length-drop at text, place.0)) in
     let same : length text - length rest ≡ at = omega (arith, long) in
-    record { shorter = omega (arith, long); ends = rw same e; utf8 = rw e (IsUtf8-drop text at u place) }
+    record { shorter = omega (arith, long); ends = rw same e; utf8 = rw e (IsUtf8-drop text at u place); whole = u }
 
 pub tail_boundary : (text rest : List ℕ) → IsTail text rest → IsCharBoundary text (length text - length rest)
 tail_boundary text rest t = grind (arith, common_steps, ap length (tail_whole text rest t), length-append (front_of text rest) rest, IsCharBoundary-at_seam)
+
+-- what follows a place in the rest
+pub tail_further : (text rest next : List ℕ) (at : ℕ) → IsTail text rest → IsCharBoundary rest at → next ≡ drop at rest → IsTail text next
+tail_further text rest next at t place e = tail_of_tail text rest next t (tail_at rest next at t.utf8 place e)
 
 -- what stands before a place, where the longest front that passes a test ends there
 pub front_is : (p : ℕ → Bool) (text : List ℕ) (at : ℕ) → IsUtf8 text → IsCharBoundary text at → chars (drop at text) ≡ drop_while p (chars text)
@@ -46,8 +50,8 @@ no_letter_begins cs none some = grind arith
 pub byte_length-chars : (bs : List ℕ) → IsUtf8 bs → byte_length (chars bs) ≡ length bs
 byte_length-chars bs u = ap length (encodes-chars bs u)
 
-pub tail_offset : (text rest : List ℕ) → IsUtf8 text → IsTail text rest → length text - length rest ≡ offset_of (chars text) (chars rest)
-tail_offset text rest u t = omega (arith, byte_length-chars text u, byte_length-chars rest t.utf8)
+pub tail_offset : (text rest : List ℕ) → IsTail text rest → length text - length rest ≡ offset_of (chars text) (chars rest)
+tail_offset text rest t = omega (arith, byte_length-chars text t.whole, byte_length-chars rest t.utf8)
 
 -- a text without characters has no bytes, and one without bytes no characters
 pub no_chars : (bs : List ℕ) → IsUtf8 bs → chars bs ≡ [] → length bs ≡ 0
@@ -61,12 +65,6 @@ no_bytes bs h = grind (arith, common_steps, chars-nil)
 
 pub no_chars_at : (text : List ℕ) (at : ℕ) → length text ≤ at → chars (drop at text) ≡ []
 no_chars_at text at end = no_bytes (drop at text) (omega (arith, length-drop at text))
-
--- a part between two places of a text is the slice from the one offset to the other
-pub part_between : (text behind part next : List ℕ) (start end : ℕ) → IsUtf8 text → IsTail text behind → IsTail text next → behind ≡ part ++ next
-    → start ≡ offset_of (chars text) (chars behind) → end ≡ offset_of (chars text) (chars next)
-    → (start ≤ end) × IsCharBoundary text start × IsCharBoundary text end × (part ≡ slice_range text start end)
-part_between text behind part next start end u b n e s t = grind (arith, common_steps, tail_offset, tail_boundary)
 
 -- whether a word begins a text is whether its letters end behind its start
 pub a_word : (text : List ℕ) (at : ℕ) → IsUtf8 text → IsCharBoundary text at → chars (drop at text) ≡ drop_while is_letter (chars text) → at ≢ 0

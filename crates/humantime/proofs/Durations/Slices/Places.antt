@@ -1,31 +1,29 @@
--- Where the error of a text points.
+-- Where an error of a text points, by cursors into the text.
 use Rattle.std.proofs.lemmas.Grind.{common_steps}
-use Rattle.std.proofs.Common.{◌≡◌, ◌≢◌, ◌<◌, ◌-◌, ◌++◌, ℕ, false, List, [], length, sym, ap, ◌∙◌, arith, IsUtf8, chars}
-use Rattle.std.proofs.lemmas.Bool.{false≢true}
+use Rattle.std.proofs.Common.{◌≡◌, ◌≢◌, ◌≤◌, ◌<◌, ◌++◌, ℕ, List, [], length, arith, chars}
 use Rattle.std.proofs.lemmas.Str.{chars-nil}
+use Rattle.humantime.specs.declared.duration.cursor.Cursor.{Cursor}
 use Rattle.humantime.specs.Durations.Characters.{offset_of}
 use Rattle.humantime.specs.Durations.Errors.{IsPlaceIn, IsRangeIn, IsPartOf}
-use Rattle.humantime.specs.Steps.Scanning.{IsTail, ends_span}
-use Rattle.humantime.proofs.Durations.Bytes.Tails.{tail_boundary, tail_of_tail, part_between}
+use Rattle.humantime.specs.Steps.Cursors.{ahead}
+use Rattle.humantime.proofs.Durations.Bytes.Tails.{tail_boundary, tail_offset}
 
 -- a text that has a character has a byte
-pub some_bytes : (bs : List ℕ) → chars bs ≢ [] → 0 < length bs
+some_bytes : (bs : List ℕ) → chars bs ≢ [] → 0 < length bs
 some_bytes bs h = grind (arith, common_steps, chars-nil)
 
--- a rest that has a byte begins at a character's offset
-pub rest_place : (text rest : List ℕ) (at : ℕ) → IsTail text rest → at ≡ length text - length rest → 0 < length rest → IsPlaceIn text at
-rest_place text rest at tail is some = grind (arith, tail_boundary)
+-- a cursor before the end is at a character
+pub cursor_place : (text : List ℕ) (c : Cursor) (at : ℕ) → c.text.now ≡ text → at ≡ offset_of (chars c.text.now) (ahead c) → ahead c ≢ [] → IsPlaceIn text at
+cursor_place text c at same is some = grind (arith, tail_boundary, (some_bytes c.rest.now some), (tail_offset c.text.now c.rest.now c.tail))
 
--- a text may be cut where a rest begins and where a rest of that rest does
-pub range_of_rests : (text behind next : List ℕ) (start end : ℕ) → IsTail text behind → IsTail behind next → start ≡ length text - length behind
-    → end ≡ length text - length next → IsRangeIn text start end
-range_of_rests text behind next start end b n s e = grind (arith, tail_boundary, (tail_of_tail text behind next b n))
+-- two cursors are at the ends of a range
+pub range_between : (text : List ℕ) (a b : Cursor) (start end : ℕ) → a.text.now ≡ text → b.text.now ≡ text → length b.rest.now ≤ length a.rest.now
+    → start ≡ offset_of (chars a.text.now) (ahead a) → end ≡ offset_of (chars b.text.now) (ahead b) → IsRangeIn text start end
+range_between text a b start end s t order p q =
+    grind (arith, tail_boundary, (tail_offset a.text.now a.rest.now a.tail), (tail_offset b.text.now b.rest.now b.tail))
 
--- what stands between two rests is a part of the text
-pub part_of_rests : (text behind part next : List ℕ) (start end : ℕ) → IsUtf8 text → IsTail text behind → IsTail text next → behind ≡ part ++ next
-    → start ≡ offset_of (chars text) (chars behind) → end ≡ offset_of (chars text) (chars next) → IsPartOf text part start end
-part_of_rests text behind part next start end u b n e s t = grind (arith, (part_between text behind part next start end u b n e s t))
-
--- what can't follow a word is there
-pub bad_some : (next : List ℕ) → ends_span next ≡ false → next ≢ []
-bad_some next e none = false≢true (sym e ∙ ap ends_span none)
+-- and what stands between them is a part of the text
+pub part_between : (text part : List ℕ) (a b : Cursor) (start end : ℕ) → a.text.now ≡ text → b.text.now ≡ text → a.rest.now ≡ part ++ b.rest.now
+    → start ≡ offset_of (chars a.text.now) (ahead a) → end ≡ offset_of (chars b.text.now) (ahead b) → IsPartOf text part start end
+part_between text part a b start end s t e p q =
+    grind (arith, common_steps, tail_boundary, (tail_offset a.text.now a.rest.now a.tail), (tail_offset b.text.now b.rest.now b.tail))

@@ -22,10 +22,10 @@ use Rattle.humantime.proofs.Buffers.{holds, answer_shown, error_shown, err_shown
 use Rattle.humantime.proofs.Durations.Printing.CanonicalTexts.{answer_is_canonical, answer_is_fault}
 use Rattle.humantime.specs.declared.duration.error.DurationError.{DurationError}
 use Rattle.humantime.specs.Durations.Counts.{IsCanonicalOf}
-use Rattle.humantime.specs.Durations.Errors.{text_result_view, PointsInto}
+use Rattle.std.specs.Result.{result_map_both}
+use Rattle.humantime.specs.Durations.Errors.{fault_of, text_result_view, PointsInto}
 use Rattle.humantime.specs.Durations.Faults.{Fault, HasFault}
 use Rattle.humantime.specs.Answers.Durations.{canonical_answer}
-use Rattle.humantime.specs.Steps.ResultViews.{result_view_by}
 use Rattle.humantime.specs.contracts.duration.print.canonical as f
 use Rattle.humantime.proofs.duration.print.canonical.Statement.{statement}
 use Rattle.humantime.proofs.duration.print.canonical.Code as code
@@ -74,7 +74,7 @@ canonical_spec {M} 𝓤 𝓛 𝓜 𝓡 wired =
     (and_then ! (get ! refl) (and_then ! (get ! refl) (no_more !))) (λ v.
     use1 𝓛 (later (some (λ (m : Result ℕ DurationError). ((‵ (flft κ₀ q₀) ⊛ ‵ (flft (α ∷ []) full_share) ⊛ ‵ ftrue) ⊛ ‵ (Len.own_val m (v ∷ []))) ⊛
     some (λ (ws : Unit {0} × (List ℕ × Unit {0})). ‵ (lasts g.ended z.0.0 z.0.3 ws) ⊛ raw (fact 𝓤 (OnErr m (ws.1.0 ≡ r.now))) ⊛ raw (fact 𝓤 (IfOk m (λ n. n ≤ 64))) ⊛ raw (fact 𝓤 (IfOk m (λ n. IsUtf8 (take n ws.1.0)))) ⊛
-    raw (fact 𝓤 (result_view_by (λ n. take n ws.1.0) m ≡ canonical_answer (chars x.now))) ⊛ raw (fact 𝓤 (IfErr m (PointsInto x.now))))))) (id⊢ 𝓤 _) $
+    raw (fact 𝓤 (result_map_both (λ n. take n ws.1.0) fault_of m ≡ canonical_answer (chars x.now))) ⊛ raw (fact 𝓤 (IfErr m (PointsInto x.now))))))) (id⊢ 𝓤 _) $
     await ! tt $ pick ! (λ m. split ! $ split ! $ split ! $ move ! (1 ∷ []) $ split ! $ lft_end ! tt $
     -- [α is over; nothing; that of κ₀; the length; what is said; what the lender keeps]
     move ! (3 ∷ []) $ peeks ! Len _ (shows 𝓛 Len) m (v ∷ []) (λ is.

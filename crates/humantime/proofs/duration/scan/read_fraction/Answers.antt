@@ -1,28 +1,59 @@
-use Rattle.std.proofs.Common.{◌∷◌, ◌∙◌, ap, sym, ℕ, List, option_map, Some, chars, arith}
-use Rattle.humantime.proofs.Durations.Bytes.PlaceSteps.{no_point, point_first, no_fraction, fraction_behind}
-use Rattle.humantime.proofs.Durations.Bytes.Tails.{no_bytes, tail_at, tail_of_tail}
+use Rattle.std.proofs.Common.{◌≡◌, ◌+◌, ◌++◌, ◌∷◌, [], get_or, sym, ap, ◌∙◌, chars, drop, false, arith, length-append, append_assoc}
+use Rattle.humantime.specs.Texts.{begins}
+use Rattle.humantime.specs.Durations.Characters.{is_numeric}
+use Rattle.humantime.specs.Durations.Faults.{number_of}
+use Rattle.humantime.specs.Steps.Scales.{Counted}
+use Rattle.humantime.proofs.Durations.Reading.Classes.{digit_is}
+use Rattle.humantime.proofs.Durations.Bytes.Numbers.{none_read, read_digit, read_whitespace, stops_here, run_is_read}
+use Rattle.humantime.proofs.Durations.Bytes.FractionDigits.{no_digits}
+use Rattle.humantime.proofs.Durations.Bytes.Tails.{no_chars_at}
 use Rattle.humantime.proofs.duration.scan.read_fraction.Goals as goal
+use Rattle.humantime.proofs.duration.scan.read_fraction.Goals.{else-loop-at-test, then-loop-at-test+else-is_ascii_digit+in-None}
 
-pub returns-then-is_empty-clause-value : goal.returns-then-is_empty-clause-value
-returns-then-is_empty-clause-value c = grind (arith, no_point, no_bytes, no_fraction)
+pub loop-at-init : goal.loop-at-init
+loop-at-init c = record { taken = []; read = none_read _ c.args.start.tail.utf8; digits = no_digits; few = omega arith }
 
-pub range_from-requires : goal.range_from-requires
-range_from-requires c = λ _. (point_first c.args.text.now c.utf8.text (grind arith) (grind arith)).place
+pub push-requires-clause-digit : goal.push-requires-clause-digit
+push-requires-clause-digit c = grind (arith, digit_is)
 
-pub returns-in_err-fraction-clause-value : goal.returns-in_err-fraction-clause-value
-returns-in_err-fraction-clause-value c =
-    let p = point_first c.args.text.now c.utf8.text (grind arith) (grind arith) in
-    rw c.from_residual.ensures (ap (option_map (λ x. (Some x.0, Some x.1, x.2))) c.in_err-fraction.ensures.value ∙ fraction_behind _ _ (p.ahead ∙ ap (λ (x : List ℕ). 46 ∷ chars x) (sym c.range_from.ensures.value)))
+pub push-requires-clause-digits : goal.push-requires-clause-digits
+push-requires-clause-digits c = (c.loop-at.invariant.taken, c.loop-at.invariant.digits)
 
-pub returns-clause-value : goal.returns-clause-value
-returns-clause-value c =
-    let p = point_first c.args.text.now c.utf8.text (grind arith) (grind arith) in
-    ap (option_map (λ x. (Some x.0, Some x.1, x.2))) c.in_ok-fraction.ensures.value ∙ fraction_behind _ _ (p.ahead ∙ ap (λ (x : List ℕ). 46 ∷ chars x) (sym c.range_from.ensures.value))
+pub push-requires-clause-room : goal.push-requires-clause-room
+push-requires-clause-room c = omega (arith, ap (λ (x : Counted). x.2) c.loop-at.invariant.digits.parts, c.loop-at.invariant.few)
 
-pub returns-clause-tail : goal.returns-clause-tail
-returns-clause-tail c =
-    let p = point_first c.args.text.now c.utf8.text (grind arith) (grind arith) in
-    tail_of_tail _ c.range_from.result.now _ (tail_at c.args.text.now _ 1 c.utf8.text p.place c.range_from.ensures.value) c.in_ok-fraction.ensures.tail
+pub loop-at-preserved-then-is_ascii_digit : goal.loop-at-preserved-then-is_ascii_digit
+loop-at-preserved-then-is_ascii_digit c =
+    let i = c.loop-at.invariant in
+    record {
+      taken = i.taken ++ get_or c.as_bytes-bytes.result.now c.loop-at.at 0 ∷ [];
+      read = read_digit _ _ _ _ c.args.start.tail.utf8 c.as_bytes-bytes.ensures.value c.loop-at-test.true i.read (sym c.is_ascii_digit.ensures.value ∙ c.if-is_ascii_digit.true);
+      digits = c.in_ok-value.ensures i.taken i.digits;
+      few = omega (arith, length-append i.taken (get_or c.as_bytes-bytes.result.now c.loop-at.at 0 ∷ []), i.few);
+    }
 
-pub returns-then-is_empty-clause-tail : goal.returns-then-is_empty-clause-tail
-returns-then-is_empty-clause-tail c = grind arith
+pub loop-at-preserved : goal.loop-at-preserved
+loop-at-preserved c =
+    let i = c.loop-at.invariant in
+    let read = read_whitespace _ _ _ _ _ c.args.start.tail.utf8 c.as_bytes-bytes.ensures.value c.loop-at-test.true i.read c.in-Some.ensures.0 c.in-Some.ensures.1 in
+    record { taken = i.taken; read = read; digits = i.digits; few = omega (arith, i.few) }
+
+pub returns-in_err-value : goal.returns-in_err-value
+returns-in_err-value c =
+    let i = c.loop-at.invariant in
+    let read = read_digit _ _ _ _ c.args.start.tail.utf8 c.as_bytes-bytes.ensures.value c.loop-at-test.true i.read (sym c.is_ascii_digit.ensures.value ∙ c.if-is_ascii_digit.true) in
+    let over = c.in_err-value.ensures i.taken i.digits (number_of (chars (drop (c.loop-at.at + 1) c.args.start.rest.now))) in
+    rw (c.from_residual.ensures, read.all ∙ append_assoc i.taken _ _) over
+
+pub invariant_of-result : goal.invariant_of-result
+invariant_of-result c =
+    let i = c.loop-at.invariant in
+    let text = c.args.start.rest.now in
+    let ended : begins is_numeric (chars (drop c.loop-at.at text)) ≡ false = elim c.loop-at-test.branch [
+      | else-loop-at-test w ↦ ap (begins is_numeric) (no_chars_at text c.loop-at.at (omega (arith, w.loop-at-test.false, c.as_bytes-bytes.ensures.len)))
+      | then-loop-at-test+else-is_ascii_digit+in-None w ↦
+          stops_here _ _ _ c.args.start.tail.utf8 c.as_bytes-bytes.ensures.value w.loop-at-test.true i.read.place
+          (sym w.is_ascii_digit.ensures.value ∙ w.if-is_ascii_digit.false) w.in-None.ensures
+    ] in
+    let r = run_is_read c.args.start c.advance.result c.loop-at.at c.range.result.now i.taken i.read ended (grind arith) c.advance.ensures.rest c.advance.ensures.text in
+    record { digits = rw r.0 i.digits; run = r.1 }

@@ -1,4 +1,4 @@
-use Rattle.std.proofs.Common.{◌≡◌, ◌≤◌, ◌-◌, ℕ, List, length}
+use Rattle.std.proofs.Common.{◌≡◌, ◌≤◌, ◌<◌, get_or, ◌-◌, ℕ, List, length}
 use Rattle.humantime.specs.Texts.{decimal_value}
 use Rattle.humantime.specs.Durations.Characters.{u64_max}
 use Rattle.humantime.proofs.Durations.Bytes.Numbers.{IsRead}
@@ -10,6 +10,7 @@ invariant-loop-at l = record {
   read : IsRead l.text l.at taken;
   value : l.value ≡ decimal_value taken;
   fits : l.value ≤ u64_max;
+  bytes : (k : ℕ) → get_or l.bytes k 0 < 256;
 }
 
 abbrev pub decreases-loop-at : goal.decreases-loop-at

@@ -1,11 +1,9 @@
-use Rattle.std.proofs.Common.{◌≡◌, ◌≤◌, ◌-◌, length, drop, IsCharBoundary}
-use Rattle.std.specs.Str.{chars}
-use Rattle.humantime.specs.Texts.{drop_while}
-use Rattle.humantime.specs.Durations.Characters.{is_whitespace}
+use Rattle.std.proofs.Common.{◌-◌, length}
+use Rattle.humantime.specs.Steps.Scanning.{SkipsWhitespace}
 use Rattle.humantime.proofs.duration.scan.skip_spaces.Given as goal
 
 abbrev pub invariant-loop-at : goal.invariant-loop-at
-invariant-loop-at l = record { order : l.from ≤ l.at; place : IsCharBoundary l.text l.at; same : drop_while is_whitespace (chars (drop l.at l.text)) ≡ drop_while is_whitespace (chars (drop l.from l.text)) }
+invariant-loop-at l = SkipsWhitespace l.text l.from l.at
 
 abbrev pub decreases-loop-at : goal.decreases-loop-at
 decreases-loop-at l = length l.text - l.at

@@ -6,26 +6,26 @@ use Rattle.humantime.proofs.duration.scan.skip_whitespace.Goals as goal
 use Rattle.humantime.proofs.duration.scan.skip_whitespace.Goals.{else-loop-at-test, then-loop-at-test+in-None}
 
 pub loop-at-init : goal.loop-at-init
-loop-at-init c = record { place = IsCharBoundary-start c.args.text.now c.utf8.text; same = refl }
+loop-at-init c = record { order = omega arith; place = IsCharBoundary-start c.args.start.rest.now c.args.start.tail.utf8; same = refl }
 
 pub loop-at-preserved : goal.loop-at-preserved
 loop-at-preserved c =
     let i = c.loop-at.invariant in
-    let some : c.loop-at.at < length c.args.text.now = grind arith in
-    let s = whitespace_over _ _ _ c.utf8.text (some, i.place) c.in-Some.ensures.0 c.in-Some.ensures.1 in
-    let blanks = c.skip_spaces-at.ensures in
-    record { place = blanks.place; same = blanks.rest ∙ rw (s.2.ahead, s.1) at i.same }
-
-pub returns-clause-rest : goal.returns-clause-rest
-returns-clause-rest c = grind (arith, else-loop-at-test, no_chars_at, then-loop-at-test+in-None, no_whitespace, ends_there)
+    let some : c.loop-at.at < length c.args.start.rest.now = grind arith in
+    let s = whitespace_over _ _ _ c.args.start.tail.utf8 (some, i.place) c.in-Some.ensures.0 c.in-Some.ensures.1 in
+    let spaces = c.skip_spaces-at.ensures in
+    record { order = omega arith; place = spaces.place; same = spaces.same ∙ rw (s.2.ahead, s.1) at i.same }
 
 pub skip_spaces-at-requires : goal.skip_spaces-at-requires
 skip_spaces-at-requires c =
-    let some : c.loop-at.at < length c.args.text.now = grind arith in
-    (whitespace_over _ _ _ c.utf8.text (some, c.loop-at.invariant.place) c.in-Some.ensures.0 c.in-Some.ensures.1).2.place
+    let some : c.loop-at.at < length c.args.start.rest.now = grind arith in
+    (whitespace_over _ _ _ c.args.start.tail.utf8 (some, c.loop-at.invariant.place) c.in-Some.ensures.0 c.in-Some.ensures.1).2.place
 
 pub loop-at-smaller : goal.loop-at-smaller
 loop-at-smaller c = grind arith
 
 pub returns-then-begins_with_digit-clause-rest : goal.returns-then-begins_with_digit-clause-rest
 returns-then-begins_with_digit-clause-rest c = digit_stays _ (sym c.begins_with_digit.ensures ∙ c.if-begins_with_digit.true)
+
+pub returns-clause-rest : goal.returns-clause-rest
+returns-clause-rest c = rw c.advance.ensures.rest (grind (arith, else-loop-at-test, no_chars_at, then-loop-at-test+in-None, no_whitespace, ends_there))

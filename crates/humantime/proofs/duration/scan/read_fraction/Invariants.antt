@@ -1,13 +1,13 @@
 use Rattle.std.proofs.Common.{◌≤◌, ◌-◌, ℕ, List, length}
 use Rattle.humantime.specs.Steps.Scanning.{AreDigits}
 use Rattle.humantime.proofs.Durations.Bytes.Numbers.{IsRead}
-use Rattle.humantime.proofs.duration.scan.read_digits.Given as goal
+use Rattle.humantime.proofs.duration.scan.read_fraction.Given as goal
 
 abbrev pub invariant-loop-at : goal.invariant-loop-at
 invariant-loop-at l = record {
   taken : List ℕ;
   read : IsRead l.text l.at taken;
-  digits : AreDigits l.fraction taken;
+  digits : AreDigits l.value taken;
   few : length taken ≤ l.at;
 }
 

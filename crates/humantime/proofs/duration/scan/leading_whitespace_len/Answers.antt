@@ -1,6 +1,6 @@
 use Rattle.std.proofs.Common.{chars, ◌∙◌, sym, true, false}
 use Rattle.humantime.proofs.Durations.Bytes.PlaceSteps.{first_width}
-use Rattle.humantime.proofs.duration.scan.non_ascii_whitespace_len.Goals as goal
+use Rattle.humantime.proofs.duration.scan.leading_whitespace_len.Goals as goal
 
 pub returns-in-Some : goal.returns-in-Some
 returns-in-Some c =
