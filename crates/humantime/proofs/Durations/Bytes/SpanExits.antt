@@ -10,6 +10,7 @@ use Rattle.humantime.specs.Durations.Characters.{is_letter, is_numeric, offset_o
 use Rattle.humantime.specs.Durations.Units.{Scale, scale_of_word}
 use Rattle.humantime.specs.Durations.Faults.{number_of, after_number, after_point, fraction_of, after_fraction, word_of, after_word, span_of, InvalidCharacter, UnknownUnit, NumberOverflow}
 use Rattle.humantime.specs.Answers.Items.{spelled, trimmed, view_at}
+use Rattle.humantime.specs.Answers.Walks.{stop_at, ends_span}
 use Rattle.humantime.specs.Steps.Scanning.{begins_no_word}
 use Rattle.humantime.proofs.Durations.Bytes.Trimming.{spelled_at}
 
