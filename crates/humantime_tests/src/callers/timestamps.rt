@@ -58,13 +58,15 @@ pub fn is_stamp(text: &str) -> bool
     ensures { IsTrue result ↔ IsPrintedWith 3 text.now }
 {
     match parse_rfc3339(text) {
-        Ok(moment) => format_rfc3339_millis(moment).text(&mut [0; 30]) == Some(text),
+        Ok(moment) => match format_rfc3339_millis(moment).text(&mut [0; 30]) {
+            Some(stamp) => stamp == text,
+            None => false,
+        },
         Err(_) => false,
     }
 }
 
 /// Compares two such stamps by their bytes, which are ordered as the moments that they are parsed to. Returns `None` for other texts.
-#[tactic(auto, using(humantime::proofs::Theorems::texts_in_order))]
 pub fn compare_stamps(stamp: &str, other: &str) -> Option<Ordering>
     ensures within { IsSome result ↔ (IsPrintedWith 3 stamp.now × IsPrintedWith 3 other.now) }
     ensures order { (a : ℤ) (b : ℤ) → strict_answer stamp.now ≡ Ok a → strict_answer other.now ≡ Ok b → IfSome result (λ order. order ≡ int_cmp a b) }
