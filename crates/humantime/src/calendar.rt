@@ -110,17 +110,6 @@ fn days_before_month(year: u32, month: u32) -> u32
     }
 }
 
-/// Returns the number of days from 1970-01-01 to the first day of `month`.
-#[inline(always)]
-#[tactic(auto, using(crate::proofs::Dates::Years::days_counted))]
-fn days_before(year: u32, month: u32) -> u32
-    requires year { IsInRange 1970 9999 year }
-    requires month { IsInRange 1 12 month }
-    ensures { result ≡ days_of_years (year - 1970) + days_of_months year (month - 1) }
-{
-    days_before_year(year) + days_before_month(year, month)
-}
-
 /// Returns the number of days from 1970-01-01 to `date`, or `None` if no such date exists in 1970 to 9999.
 ///
 /// A formula counts the leap days before the year, and a table has the days before each month. There is no loop, so `turns` is
@@ -152,7 +141,8 @@ pub fn day_number(date: Date, turns: &mut Turns) -> Option<u32>
     if date.day < 1 || date.day > month_length(date.year, date.month) {
         return None;
     }
-    Some(days_before(date.year, date.month) + date.day - 1)
+    let days = days_before_year(date.year) + days_before_month(date.year, date.month);
+    Some(days + date.day - 1)
 }
 
 /// Returns the year of a day, and how many days of that year come before it. Years begin on 1 March here, and are counted from

@@ -16,11 +16,11 @@ pub data Command : List ℕ → Type 0 where
   Strict : Command (codes "strict")
   Weak : Command (codes "weak")
 
--- Of a text's moment this is told: its printed text, with no fraction where the second is whole and else nine digits, or the error's
--- message.
+-- This is told of a text: the printed text, with the default number of digits, of a moment that it denotes, or the message of an error
+-- that it has.
 abbrev pub TellsMoment : (ℤ → Type 0) → (TimestampError → Type 0) → Result (List ℕ) (List ℕ) → Type 0
-TellsMoment IsMoment IsError (Ok printed) = (moment : ℤ) × IsMoment moment × IsPrinted moment (places_of moment) printed
-TellsMoment IsMoment IsError (Err message) = (error : TimestampError) × IsError error × (message ≡ timestamp_message error)
+TellsMoment Denotes Has (Ok printed) = (moment : ℤ) × Denotes moment × IsPrinted moment (places_of moment) printed
+TellsMoment Denotes Has (Err message) = (error : TimestampError) × Has error × (message ≡ timestamp_message error)
 
 -- A command tells this of a text: what it prints, or the first fault's message.
 abbrev pub Tells : {name : List ℕ} → Command name → List ℕ → Result (List ℕ) (List ℕ) → Type 0

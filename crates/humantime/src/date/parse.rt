@@ -1,15 +1,13 @@
 //! Parsing of timestamps.
 
-ghost use Rattle.std.specs.Prelude.{false, nat_le, ◌≡◌, ◌+◌, ◌-◌, ◌*◌, ◌^◌, ◌<◌, ◌≤◌, ◌↔◌, ◌&&◌, length, drop, min, IsTrue, IfSome, SomeIff, Ok, Err, Some, ℤ, codes};
-ghost use Rattle.std.specs.Char.{is_ascii_digit};
-ghost use Rattle.std.specs.List.{list_all};
+ghost use Rattle.std.specs.Prelude.{◌≡◌, ◌^◌, ◌<◌, ◌≤◌, ◌↔◌, length, false, IsTrue, IfSome, SomeIff, Ok, Err, Some, ℤ, codes};
 ghost use Rattle.std.specs.Str.{bytes_eq};
 ghost use Rattle.humantime.specs.declared.date.error.TimestampError.{TimestampError};
-ghost use Rattle.humantime.specs.Timestamps.Fields.{zone_text, seconds_of, IsWeakMoment, IsStrictMoment};
-ghost use Rattle.humantime.specs.Timestamps.Checks.{zone_of, date_time_of, is_valid_date_time, fraction_part, first_failed, weak_checks, strict_checks};
-ghost use Rattle.humantime.specs.Answers.Timestamps.{weak_answer, strict_answer};
-ghost use Rattle.humantime.specs.Steps.Timestamps.{fraction_answer, digits_answer};
+ghost use Rattle.humantime.specs.Prelude.{IsWeakMoment, IsStrictMoment, first_failed, weak_checks, strict_checks, weak_answer, strict_answer};
+ghost use Rattle.humantime.specs.Timestamps.Fields.{zone_text, seconds_of};
+ghost use Rattle.humantime.specs.Timestamps.Checks.{zone_of, date_time_of, is_valid_date_time};
 ghost use Rattle.humantime.specs.Timestamps.Checks;
+ghost use Rattle.humantime.specs.Steps.Timestamps.{fraction_answer, digits_answer};
 ghost use Rattle.humantime.specs.Steps.Timestamps as Steps;
 
 use crate::calendar::{Date, day_number};
@@ -303,7 +301,6 @@ fn read_fraction(rest: &[u8]) -> Result<u32, TimestampError>
 /// Returns the nanoseconds that the digits after a point represent, or an error if a byte is not a digit. Digits past the ninth
 /// are ignored.
 #[inline(always)]
-#[tactic(auto, using(crate::proofs::Timestamps::Reading::Fractions::digits_added))]
 fn fraction_nanos(digits: &[u8]) -> Result<u32, TimestampError>
     ensures { result ≡ digits_answer digits.now }
 {

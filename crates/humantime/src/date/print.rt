@@ -282,7 +282,8 @@ impl fmt::Display for Rfc3339Timestamp {
     }
 }
 
-/// Returns the first `len` bytes as a text, or `None` for `None`.
+/// Returns the first `len` bytes as a text, or `None` for `None`. It is a function for the sake of `text`, whose proof cannot be
+/// generated.
 #[inline(always)]
 fn text_from_len(buf: &[u8; 30], len: Option<usize>) -> Option<&str>
     requires fits { IfSome len (λ n. n ≤ 30) }

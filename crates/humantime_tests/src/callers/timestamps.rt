@@ -1,8 +1,9 @@
 //! Lines of a log: callers of what reads, prints and orders timestamps.
 
 ghost use Rattle.std.specs.Prelude.{◌≡◌, ◌*◌, ◌++◌, ◌↔◌, ◌<ℤ◌, ◌≤ℤ◌, ℕ, ℤ, List, pos, ◌+ℤ◌, codes, IsTrue, IsSome, IsSomeAnd, IfSome, IfOk, IsOkAnd, Ok, Err, string_bytes, true};
+ghost use Rattle.std.specs.Ordering.{int_cmp};
 ghost use Rattle.humantime.specs.declared.TimestampError.{TimestampError};
-ghost use Rattle.humantime.specs.Prelude.{weak_answer, strict_answer, IsPrinted, IsPrintable, cut, duration_text, moment_end, nanos_per_second};
+ghost use Rattle.humantime.specs.Prelude.{weak_answer, strict_answer, IsPrinted, IsPrintedWith, IsPrintable, cut, duration_text, moment_end, nanos_per_second};
 
 use humantime::laws::{stamps_in_order, strict_is_weak};
 use humantime::{
@@ -10,6 +11,7 @@ use humantime::{
     format_rfc3339_nanos, format_rfc3339_seconds, parse_rfc3339, parse_rfc3339_weak,
 };
 use std::alloc::{AllocError, Global};
+use std::cmp::Ordering;
 
 /// Returns `true` if the moment of a line is not before `from`, or the error of the line's timestamp.
 pub fn is_since(stamp: &str, from: SystemTime) -> Result<bool, TimestampError>
@@ -49,6 +51,31 @@ pub fn is_earlier(stamp: &str, other: &str) -> bool
     ensures { (a : ℤ) (b : ℤ) → IsPrinted a 3 stamp.now → IsPrinted b 3 other.now → (IsTrue result ↔ (cut a 3 <ℤ cut b 3)) }
 {
     stamp < other
+}
+
+/// Returns `true` if a text is a stamp that `stamp_of` returns: it is the one that is printed of the moment that it is parsed to.
+pub fn is_stamp(text: &str) -> bool
+    ensures { IsTrue result ↔ IsPrintedWith 3 text.now }
+{
+    match parse_rfc3339(text) {
+        Ok(moment) => match format_rfc3339_millis(moment).text(&mut [0; 30]) {
+            Some(stamp) => stamp == text,
+            None => false,
+        },
+        Err(_) => false,
+    }
+}
+
+/// Compares two such stamps by their bytes, which are ordered as the moments that they are parsed to. Returns `None` for other texts.
+pub fn compare_stamps(stamp: &str, other: &str) -> Option<Ordering>
+    ensures within { IsSome result ↔ (IsPrintedWith 3 stamp.now × IsPrintedWith 3 other.now) }
+    ensures order { (a : ℤ) (b : ℤ) → strict_answer stamp.now ≡ Ok a → strict_answer other.now ≡ Ok b → IfSome result (λ order. order ≡ int_cmp a b) }
+{
+    if is_stamp(stamp) && is_stamp(other) {
+        Some(stamp.cmp(other))
+    } else {
+        None
+    }
 }
 
 /// Parses a timestamp in any form, and prints it in the form that `is_earlier` compares.

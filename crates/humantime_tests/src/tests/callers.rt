@@ -9,12 +9,13 @@ use crate::callers::durations::{
 use crate::callers::laws::{comes_back, looks_same, needs_no_space};
 use crate::callers::spans::longest_span;
 use crate::callers::timestamps::{
-    default_start, is_earlier, is_read_weakly_too, is_same_moment, is_since, is_text_before,
-    later_than, sortable_stamp, stamp_of,
+    compare_stamps, default_start, is_earlier, is_read_weakly_too, is_same_moment, is_since,
+    is_stamp, is_text_before, later_than, sortable_stamp, stamp_of,
 };
 use crate::tests::{assert_same, date, moment};
 use humantime::DurationError::{self, NumberExpected, NumberOverflow, UnknownUnit};
 use humantime::{StdDuration, TimestampError, UNIX_EPOCH};
+use std::cmp::Ordering::{Equal, Less};
 use std::time;
 
 const UNKNOWN: DurationError<'static> = UnknownUnit {
@@ -129,6 +130,19 @@ fn stamps_are_printed_and_ordered(rt: HostRuntime) {
         is_text_before(nano, UNIX_EPOCH),
     ];
     assert_same(&rt, order, [true, false, true, false]);
+    let stamps = [
+        is_stamp(first),
+        is_stamp("1970-01-01T00:00:00Z"),
+        is_stamp(""),
+    ];
+    assert_same(&rt, stamps, [true, false, false]);
+    let second = "1970-01-01T00:00:00.001Z";
+    let orders = [
+        compare_stamps(first, second),
+        compare_stamps(second, second),
+        compare_stamps("1970-01-01T00:00:00Z", second),
+    ];
+    assert_same(&rt, orders, [Some(Less), Some(Equal), None]);
 }
 
 #[test]

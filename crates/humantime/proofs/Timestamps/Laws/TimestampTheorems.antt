@@ -1,13 +1,14 @@
 -- The laws of timestamps and days as theorems over plain variables, each under the name of its function in `laws`, and what callers cite beside them.
-use Rattle.std.proofs.Common.{◌≡◌, ◌≤◌, ℕ, List, arith}
+use Rattle.std.proofs.Common.{◌≡◌, ◌≤◌, ◌-◌, ◌*◌, ◌/◌, ◌^◌, ℕ, List, sym, subst, ◌∙◌, arith}
+use Rattle.std.proofs.Math.Nat.{mul-mod_right, div-add-mod}
 use Rattle.std.specs.Prelude.{◌↔◌, ℤ, pos, negsuc, ◌≤ℤ◌, ◌<ℤ◌, Ok, IsTrue, IfSome}
 use Rattle.std.specs.Cmp.Lexicographic.{slice_cmp}
 use Rattle.std.specs.Ordering.{nat_cmp, int_cmp, is_le, is_lt}
 use Rattle.std.proofs.lemmas.Int.{ints}
-use Rattle.humantime.specs.Timestamps.Fields.{IsWeak, IsStrict, IsWeakMoment, IsStrictMoment}
+use Rattle.humantime.specs.Timestamps.Fields.{IsWeak, IsStrict, moment_of, IsWeakMoment, IsStrictMoment}
 use Rattle.humantime.specs.Timestamps.Checks.{weak_checks, strict_checks}
 use Rattle.humantime.specs.Laws.Timestamps.{OneTimestamp, StrictForm, PrintedMoment}
-use Rattle.humantime.specs.Timestamps.Printed.{MomentToPrint, cut, IsPrinted, IsPrintable}
+use Rattle.humantime.specs.Timestamps.Printed.{MomentToPrint, cut, IsPrinted, IsPrintedWith, IsPrintable}
 use Rattle.humantime.specs.Answers.Timestamps.{printed_text, weak_answer, strict_answer}
 use Rattle.humantime.proofs.Timestamps.Printing.Printed.{one_printed, printed_some, text_displayed, printed_reads}
 use Rattle.humantime.proofs.Timestamps.Printing.Order.{stamps_in_order}
@@ -75,6 +76,39 @@ displayed_as x t k bytes known small within written =
     let some = printed_some t k small within in
     let same : bytes ≡ some.0 = rw (known, some.1) at written in
     rw same some.2
+
+-- rounding down twice is rounding down once
+cut_again : (t : ℤ) (k n : ℕ) → pos n ≡ cut t k → cut (pos n) k ≡ pos n
+cut_again (pos m) k n is =
+    let width = 10 ^ (9 - k) in
+    let whole : n ≡ width * (m / width) = omega (arith, ints, is, div-add-mod m width) in
+    rw (whole, mul-mod_right width (m / width)) (omega (arith, ints))
+cut_again (negsuc m) k n is = absurd (omega (arith, ints, is))
+
+printed_again : (t : ℤ) (k : ℕ) (text : List ℕ) → IsPrinted t k text → IsPrinted (cut t k) k text
+printed_again t k text p = record {
+  few = p.few;
+  fields = p.fields;
+  weak = p.weak;
+  separator = p.separator;
+  zone = p.zone;
+  second = p.second;
+  places = p.places;
+  moment = p.moment ∙ subst (λ (m : ℤ). m ≡ cut m k) p.moment (sym (cut_again t k (moment_of p.fields) p.moment));
+}
+
+-- a text is printed exactly if it is the printed text of the moment that it is parsed to
+pub printed_if_read_back : (k : ℕ) (text : List ℕ) → IsPrintedWith k text ↔ ((t : ℤ) × (strict_answer text ≡ Ok t) × IsPrinted t k text)
+printed_if_read_back k text = (
+  (λ p. (cut p.0 k, printed_read p.0 k text p.1, printed_again p.0 k text p.1)),
+  (λ p. (p.0, p.2)),
+)
+
+-- two texts that are printed with equally many digits are ordered, by their bytes, as the moments that they are parsed to
+pub texts_in_order : (k : ℕ) (x y : List ℕ) (a b : ℤ) → IsPrintedWith k x → IsPrintedWith k y → strict_answer x ≡ Ok a → strict_answer y ≡ Ok b
+    → slice_cmp nat_cmp x y ≡ int_cmp a b
+texts_in_order k x y a b p q left right =
+    grind (arith, printed_read p.0 k x p.1, printed_read q.0 k y q.1, stamps_in_order p.0 q.0 k x y p.1 q.1)
 
 -- what an order of two moments says
 pub moment_at_most : (a b : ℤ) → IsTrue (is_le (int_cmp a b)) ↔ (a ≤ℤ b)

@@ -1,6 +1,6 @@
 -- The digits of a fraction, read one by one, are its nanoseconds.
 use Rattle.std.proofs.Common.{◌≡◌, ℕ, zero, suc, ◌+◌, ◌-◌, ◌*◌, ◌/◌, ◌^◌, ◌<◌, ◌≤◌, List, [], ◌∷◌, ◌++◌, length, get_or, take, drop, drop-cons, add-one, refl, sym, ◌∙◌, arith}
-use Rattle.std.specs.Prelude.{true, ◌&&◌}
+use Rattle.std.specs.Prelude.{true}
 use Rattle.std.specs.Char.{is_ascii_digit, digit_value}
 use Rattle.std.specs.Int.{IsInRange}
 use Rattle.std.specs.List.{AllByRecursion}
@@ -9,7 +9,6 @@ use Rattle.std.specs.Str.Parse.{digits_value_after}
 use Rattle.std.proofs.Math.Nat.{pow-suc, mul-le-mul_left}
 use Rattle.std.proofs.lemmas.Bool.Decides.{nat_tests}
 use Rattle.std.proofs.lemmas.Str.{digit_value_digit}
-use Rattle.std.proofs.lemmas.List.Folds.{list_all-append}
 use Rattle.humantime.specs.Timestamps.Fields.{fraction_nanos}
 
 -- ---- Digits
@@ -28,9 +27,6 @@ digits_from_test (c ∷ cs) h = grind (arith, is_digit_from_test, digits_from_te
 pub digits_from : (ds : List ℕ) → AreDigits ds → all_ascii_digits ds ≡ true
 digits_from [] d = refl
 digits_from (c ∷ cs) d = grind (arith, nat_tests, (digits_from cs d.1))
-
-pub digits_append : (ds es : List ℕ) → all_ascii_digits (ds ++ es) ≡ (all_ascii_digits ds && all_ascii_digits es)
-digits_append ds es = list_all-append is_ascii_digit ds es
 
 -- ---- The nanoseconds are the sum of the digits with their weights
 

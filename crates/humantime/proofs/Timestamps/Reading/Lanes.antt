@@ -1,5 +1,5 @@
 -- Bytes and numbers that are tested at once are tested one by one.
-use Rattle.std.proofs.Common.{◌≡◌, ℕ, ◌+◌, ◌-◌, ◌%◌, ◌^◌, ◌<◌, ◌≤◌, Bool, true, false, cond, eqb, leb, ltb, ◌&&◌, List, [], ◌∷◌, map, replicate, length, get_or, take, drop, Fits, w8, refl, ap, sym, ◌∙◌, arith}
+use Rattle.std.proofs.Common.{◌≡◌, ℕ, ◌+◌, ◌-◌, ◌%◌, ◌^◌, ◌<◌, ◌≤◌, Bool, true, false, cond, eqb, ltb, ◌&&◌, List, [], ◌∷◌, map, replicate, length, get_or, take, drop, Fits, w8, refl, ap, sym, ◌∙◌, arith}
 use Rattle.std.specs.Char.{is_ascii_digit}
 use Rattle.std.specs.List.{list_all}
 use Rattle.std.specs.Prelude.{◌==◌, codes, nat_eq, bit_or}
@@ -50,9 +50,6 @@ above a least = (a + (2 ^ 8 - least)) % 2 ^ 8
 -- how far a number is beyond its most, or 0
 abbrev left : ℕ → ℕ → ℕ
 left a most = above (cond (top 7 (cond (ltb a most) 255 0)) most a) most
-
-pub digit_near : (c : ℕ) → c < 256 → leb (above c 48) 9 ≡ is_ascii_digit c
-digit_near c h = agree_below_at (λ c. leb (above c 48) 9) is_ascii_digit 256 c refl h
 
 digit_left : (c : ℕ) → c < 256 → nat_eq (left (above c 48) 9) 0 ≡ is_ascii_digit c
 digit_left c h = agree_below_at (λ c. nat_eq (left (above c 48) 9) 0) is_ascii_digit 256 c refl h

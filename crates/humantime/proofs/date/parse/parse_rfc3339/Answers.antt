@@ -1,17 +1,15 @@
-use Rattle.std.proofs.Common.{sym, ◌∙◌}
+use Rattle.std.proofs.Common.{sym, ◌∙◌, refl}
 use Rattle.humantime.proofs.Timestamps.Laws.Reading.{strict_outcome, strict_by_marks}
 use Rattle.humantime.proofs.date.parse.parse_rfc3339.Goals as goal
 
 pub returns-then-not-has_t_and_zone : goal.returns-then-not-has_t_and_zone
 returns-then-not-has_t_and_zone c =
     let other = sym (rw c.as_bytes.ensures.value at c.has_t_and_zone.ensures) ∙ c.if-not-has_t_and_zone.true in
-    let is = rw other at (strict_by_marks c.args.s.now) in
     let one = strict_outcome c.args.s.now in
-    record { value = λ t. rw is (one.value t); error = λ e. rw is (one.error e); answer = is }
+    rw (rw other at (strict_by_marks c.args.s.now)) (record { value = one.value; error = one.error; answer = refl })
 
 pub returns : goal.returns
 returns c =
     let marked = sym (rw c.as_bytes.ensures.value at c.has_t_and_zone.ensures) ∙ c.if-not-has_t_and_zone.false in
-    let is = c.parse_rfc3339_weak.ensures.answer ∙ (rw marked at (strict_by_marks c.args.s.now)) in
     let one = strict_outcome c.args.s.now in
-    record { value = λ t. rw is (one.value t); error = λ e. rw is (one.error e); answer = is }
+    rw (c.parse_rfc3339_weak.ensures.answer ∙ (rw marked at (strict_by_marks c.args.s.now))) (record { value = one.value; error = one.error; answer = refl })
