@@ -1,7 +1,7 @@
 -- What some texts come to, by computation, and what that says of them.
 use Rattle.std.proofs.Common.{◌≡◌, ℕ, List, [], ◌∷◌, ◌++◌, Result, Ok, Err, map, refl}
 use Rattle.std.specs.Prelude.{codes}
-use Rattle.humantime.specs.Durations.Faults.{Fault, HasFault, InvalidCharacter, NumberExpected, UnknownUnit, NumberOverflow}
+use Rattle.humantime.specs.Durations.Faults.{Fault, HasFault, InvalidCharacter, NumberExpected, UnknownUnit, NumberOverflow, Empty}
 use Rattle.humantime.specs.Prelude.{Accepted, duration_answer, canonical_answer, duration_text}
 use Rattle.humantime.proofs.OnLiterals.{humantime_on_literals}
 use Rattle.humantime.proofs.Durations.Reading.Outcomes.{accepted_from_outcome, fault_from_outcome}
@@ -32,6 +32,8 @@ rows =
     ∷ row (codes "00") (Err (UnknownUnit 2 2 [] 0))
     ∷ row (codes " 0") (Err (UnknownUnit 2 2 [] 0))
     ∷ row (codes "0 ") (Err (UnknownUnit 2 2 [] 0))
+    ∷ row [] (Err Empty)
+    ∷ row (codes "\r") (Err Empty)
     ∷ row (codes "  x") (Err (NumberExpected 2))
     ∷ row (codes "2 hours  min") (Err (NumberExpected 9))
     ∷ row (codes "1.s") (Err (InvalidCharacter 1))
