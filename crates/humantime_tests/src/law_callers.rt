@@ -4,6 +4,8 @@ pub mod days;
 pub mod durations;
 pub mod errors;
 pub mod exact;
+pub mod formats;
 pub mod spans;
 pub mod timestamps;
 pub mod values;
+pub mod wrappers;

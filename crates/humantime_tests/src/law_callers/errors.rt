@@ -3,7 +3,7 @@
 ghost use Rattle.std.specs.Prelude.{◌≡◌, ◌++◌, ℕ, List, [], None, Some, Err, chars, codes, decimal, true, IfOk, string_bytes};
 ghost use Rattle.humantime.specs.Prelude.{Empty, InvalidCharacter, NumberExpected, NumberOverflow, PointsInto, UnknownUnit, duration_answer, fault_of};
 
-use humantime::{DurationError, parse_duration, spans};
+use humantime::{DurationError, canonical, parse_duration, spans};
 use std::alloc::{AllocError, Global};
 
 /// Returns `true` if an error points into its text: its unit is the slice between its offsets.
@@ -44,6 +44,16 @@ pub fn second_points_into(text: &str) -> bool
     match items.next() {
         Some(Err(error)) => is_in(error, text),
         _ => true,
+    }
+}
+
+/// Returns `true` if the error of a text points into it where the text is to be printed in canonical form.
+pub fn canonical_points_into(text: &str) -> bool
+    ensures { result ≡ true }
+{
+    match canonical(text, &mut [0; 64]) {
+        Ok(_) => true,
+        Err(error) => is_in(error, text),
     }
 }
 
