@@ -1,16 +1,17 @@
 //! How answers are written, and numbers are read.
 
 use crate::display::is_always_written;
+use crate::judge::Judge;
 use std::fmt::{self, Debug, Display, Formatter, Write};
 use std::str::FromStr;
 
 /// Writes a value as `{:?}` does, and what is wrong where not all other calls and formats agree to it.
 pub(crate) fn tell<W: fmt::Write, T: Debug + Drop>(
     f: &mut Formatter<W>,
+    judge: &mut Judge,
     value: T,
-    agrees: bool,
 ) -> fmt::Result {
-    let note = if agrees {
+    let note = if judge.hears_all_agree() {
         ""
     } else {
         ", but not by each call and format"
@@ -26,6 +27,7 @@ pub(crate) fn no_answer<W: fmt::Write>(f: &mut Formatter<W>) -> fmt::Result {
 /// Writes an error's message, and what is wrong where some format makes it another than is wanted, or it takes more requests.
 pub(crate) fn tell_message<W: fmt::Write, E: Display + Copy>(
     f: &mut Formatter<W>,
+    judge: &mut Judge,
     error: Option<E>,
     wanted: &str,
     most: u32,
@@ -33,13 +35,14 @@ pub(crate) fn tell_message<W: fmt::Write, E: Display + Copy>(
     let Some(error) = error else {
         return no_answer(f);
     };
-    let agrees = is_always_written(&error, wanted, most);
-    tell(f, format_args!("{error}"), agrees)
+    judge.hear(is_always_written(&error, wanted, most));
+    tell(f, judge, format_args!("{error}"))
 }
 
 /// Writes whether two values are equal, and what is wrong where `!=` or a copy says otherwise.
 pub(crate) fn tell_equal<W: fmt::Write, T: Eq + Copy + Drop>(
     f: &mut Formatter<W>,
+    judge: &mut Judge,
     first: Option<T>,
     second: Option<T>,
 ) -> fmt::Result {
@@ -48,11 +51,11 @@ pub(crate) fn tell_equal<W: fmt::Write, T: Eq + Copy + Drop>(
     };
     let is_equal = first == second;
     let (copy, other) = (first, second);
-    let agrees = (second == first) == is_equal
-        && (copy != other) != is_equal
-        && copy == first
-        && other == second;
-    tell(f, is_equal, agrees)
+    judge.hear((second == first) == is_equal);
+    judge.hear((copy != other) != is_equal);
+    judge.hear(copy == first);
+    judge.hear(other == second);
+    tell(f, judge, is_equal)
 }
 
 /// Two numbers with a space between them.

@@ -2,6 +2,7 @@
 
 use crate::answer::{no_answer, parts, tell, tell_equal, tell_message};
 use crate::display::is_always_written;
+use crate::judge::Judge;
 use humantime::{
     Duration, DurationError, FormattedDuration, StdDuration, canonical, format_duration,
     parse_duration,
@@ -9,23 +10,30 @@ use humantime::{
 use std::fmt::{self, Formatter, Write};
 
 /// Writes seconds and nanoseconds of the text, or its error, which leaves the buffer as it was and does not borrow it.
-pub(crate) fn read<W: fmt::Write>(f: &mut Formatter<W>, text: &str) -> fmt::Result {
+pub(crate) fn read<W: fmt::Write>(
+    f: &mut Formatter<W>,
+    judge: &mut Judge,
+    text: &str,
+) -> fmt::Result {
     let mut buf = [b'-'; 64];
     let wrapped = Duration::from_str(text);
     match parse_duration(text) {
         Ok(value) => {
             let printed = canonical(text, &mut buf).unwrap_or_default();
-            let agrees = wrapped == Ok(Duration::from(value)) && is_printed_alike(value, printed);
+            judge.hear(wrapped == Ok(Duration::from(value)));
+            hear_printed(judge, value, printed);
             let parts = (value.as_secs(), value.subsec_nanos());
-            tell(f, Ok::<_, ()>(parts), agrees)
+            tell(f, judge, Ok::<_, ()>(parts))
         }
         Err(error) => {
             let refused = canonical(text, &mut buf).err();
-            let is_kept = buf == [b'-'; 64];
+            judge.hear(buf == [b'-'; 64]);
             buf[0] = b'x';
-            let is_same = refused == Some(error) && wrapped == Err(error);
-            let agrees = is_same && is_kept && points_into(error, text) && is_itself(error);
-            tell(f, Err::<(), _>(error), agrees)
+            judge.hear(refused == Some(error));
+            judge.hear(wrapped == Err(error));
+            judge.hear(points_into(error, text));
+            hear_itself(judge, error);
+            tell(f, judge, Err::<(), _>(error))
         }
     }
 }
@@ -46,69 +54,83 @@ fn points_into(error: DurationError<'_>, text: &str) -> bool {
     }
 }
 
-/// Whether the error is equal to its clone, and not to one that has only another offset.
-fn is_itself(error: DurationError<'_>) -> bool {
-    let is_moved = match error {
-        DurationError::UnknownUnit {
-            start,
+/// Hears whether the error is equal to its clone, and not to one that has only another offset.
+fn hear_itself(judge: &mut Judge, error: DurationError<'_>) {
+    judge.hear(error.clone().ok() == Some(error));
+    if let DurationError::UnknownUnit {
+        start,
+        end,
+        unit,
+        value,
+    } = error
+    {
+        let later = DurationError::UnknownUnit {
+            start: start.wrapping_add(1),
             end,
             unit,
             value,
-        } => {
-            let later = DurationError::UnknownUnit {
-                start: start.wrapping_add(1),
-                end,
-                unit,
-                value,
-            };
-            let longer = DurationError::UnknownUnit {
-                start,
-                end: end.wrapping_add(1),
-                unit,
-                value,
-            };
-            error == later || error == longer
-        }
-        _ => false,
-    };
-    error.clone().ok() == Some(error) && !is_moved
+        };
+        let longer = DurationError::UnknownUnit {
+            start,
+            end: end.wrapping_add(1),
+            unit,
+            value,
+        };
+        judge.hear(error != later);
+        judge.hear(error != longer);
+    }
 }
 
 /// Writes whether the errors of two texts are equal.
-pub(crate) fn compare_errors<W: fmt::Write>(f: &mut Formatter<W>, texts: &str) -> fmt::Result {
+pub(crate) fn compare_errors<W: fmt::Write>(
+    f: &mut Formatter<W>,
+    judge: &mut Judge,
+    texts: &str,
+) -> fmt::Result {
     let (first, second) = texts.split_once("\" \"").unwrap_or_default();
-    tell_equal(f, parse_duration(first).err(), parse_duration(second).err())
+    let first = parse_duration(first).err();
+    tell_equal(f, judge, first, parse_duration(second).err())
 }
 
 /// Writes what the wrapper holds that the text is read as, and its text; or the error.
-pub(crate) fn wrap<W: fmt::Write>(f: &mut Formatter<W>, text: &str) -> fmt::Result {
+pub(crate) fn wrap<W: fmt::Write>(
+    f: &mut Formatter<W>,
+    judge: &mut Judge,
+    text: &str,
+) -> fmt::Result {
     match Duration::from_str(text) {
         Ok(wrapper) => {
             let value = *wrapper.as_ref();
             let parts = (value.as_secs(), value.subsec_nanos());
             write!(f, "{:?}, {wrapper}", Ok::<_, ()>(parts))
         }
-        Err(error) => tell(f, Err::<(), _>(error), true),
+        Err(error) => tell(f, judge, Err::<(), _>(error)),
     }
 }
 
 /// Writes the canonical text of the text, or its error.
-pub(crate) fn print_again<W: fmt::Write>(f: &mut Formatter<W>, text: &str) -> fmt::Result {
-    tell(f, canonical(text, &mut [0; 64]), true)
+pub(crate) fn print_again<W: fmt::Write>(
+    f: &mut Formatter<W>,
+    judge: &mut Judge,
+    text: &str,
+) -> fmt::Result {
+    tell(f, judge, canonical(text, &mut [0; 64]))
 }
 
 /// Writes the message of the text's error.
 pub(crate) fn explain<W: fmt::Write>(
     f: &mut Formatter<W>,
+    judge: &mut Judge,
     text: &str,
     wanted: &str,
 ) -> fmt::Result {
-    tell_message(f, parse_duration(text).err(), wanted, u32::MAX)
+    tell_message(f, judge, parse_duration(text).err(), wanted, u32::MAX)
 }
 
 /// Writes the messages of both errors that have this offset.
 pub(crate) fn misplace<W: fmt::Write>(
     f: &mut Formatter<W>,
+    judge: &mut Judge,
     offset: &str,
     wanted: &str,
 ) -> fmt::Result {
@@ -118,41 +140,46 @@ pub(crate) fn misplace<W: fmt::Write>(
     let invalid = DurationError::InvalidCharacter(at);
     let expected = DurationError::NumberExpected(at);
     let (first, second) = wanted.split_once(", ").unwrap_or_default();
-    let agrees = is_always_written(&invalid, first, u32::MAX)
-        && is_always_written(&expected, second, u32::MAX);
-    tell(f, format_args!("{invalid}, {expected}"), agrees)
+    judge.hear(is_always_written(&invalid, first, u32::MAX));
+    judge.hear(is_always_written(&expected, second, u32::MAX));
+    tell(f, judge, format_args!("{invalid}, {expected}"))
 }
 
 /// Writes what a duration of so many seconds and nanoseconds is printed as.
-pub(crate) fn print<W: fmt::Write>(f: &mut Formatter<W>, numbers: &str) -> fmt::Result {
+pub(crate) fn print<W: fmt::Write>(
+    f: &mut Formatter<W>,
+    judge: &mut Judge,
+    numbers: &str,
+) -> fmt::Result {
     if let Some((secs, nanos)) = parts(numbers)
         && let Some(value) = StdDuration::checked_new(secs, nanos)
     {
         let printed = format_duration(value);
         let mut buf = [0; 64];
-        let agrees = is_printed_alike(value, printed.text(&mut buf));
-        tell(f, format_args!("\"{printed}\""), agrees)
+        hear_printed(judge, value, printed.text(&mut buf));
+        tell(f, judge, format_args!("\"{printed}\""))
     } else {
         no_answer(f)
     }
 }
 
-/// Whether all that prints the duration prints this text, and it reads back.
-fn is_printed_alike(value: StdDuration, text: &str) -> bool {
+/// Hears whether all that prints the duration prints this text, and it reads back.
+fn hear_printed(judge: &mut Judge, value: StdDuration, text: &str) {
     let printed = format_duration(value);
-    let Ok(same) = printed.clone() else {
-        return false;
-    };
-    *printed.get_ref() == value
-        && is_shown(&printed, text)
-        && is_shown(&same, text)
-        && parse_duration(text) == Ok(value)
-        && is_always_written(&printed, text, 1)
-        && is_always_written(&Duration::from(value), text, 1)
+    judge.hear(*printed.get_ref() == value);
+    hear_shown(judge, &printed, text);
+    match printed.clone() {
+        Ok(same) => hear_shown(judge, &same, text),
+        Err(_) => judge.hear(false),
+    }
+    judge.hear(parse_duration(text) == Ok(value));
+    judge.hear(is_always_written(&printed, text, 1));
+    judge.hear(is_always_written(&Duration::from(value), text, 1));
 }
 
-/// Whether the duration is printed as this text, at the front of the buffer, whatever stood there.
-fn is_shown(printed: &FormattedDuration, text: &str) -> bool {
+/// Hears whether the duration is printed as this text, at the front of the buffer, whatever stood there.
+fn hear_shown(judge: &mut Judge, printed: &FormattedDuration, text: &str) {
     let mut buf = [b'x'; 64];
-    printed.text(&mut buf) == text && buf.starts_with(text.as_bytes())
+    judge.hear(printed.text(&mut buf) == text);
+    judge.hear(buf.starts_with(text.as_bytes()));
 }

@@ -8,6 +8,7 @@
 mod answer;
 mod display;
 mod durations;
+mod judge;
 mod minding;
 mod order;
 mod row;

@@ -1,22 +1,28 @@
 //! How values are ordered and hashed.
 
+use crate::judge::Judge;
 use std::cmp::Ordering;
 use std::hash::{FoldHasher, Hash, Hasher};
 
-/// Whether all that orders, compares or hashes two values says that they are in this order.
-pub(crate) fn is_ordered<T: Ord + Hash + Copy>(first: T, second: T, order: Ordering) -> bool {
+/// Hears whether all that orders, compares or hashes two values says that they are in this order.
+pub(crate) fn hear_order<T: Ord + Hash + Copy>(
+    judge: &mut Judge,
+    first: T,
+    second: T,
+    order: Ordering,
+) {
     let (is_less, is_equal) = (order.is_lt(), order.is_eq());
-    first.cmp(&second) == order
-        && first.partial_cmp(&second) == Some(order)
-        && (first < second) == is_less
-        && (first <= second) == (is_less || is_equal)
-        && (first > second) == order.is_gt()
-        && (first >= second) != is_less
-        && (first == second) == is_equal
-        && (first != second) != is_equal
-        && (first.min(second) == first) != order.is_gt()
-        && (first.max(second) == first) != is_less
-        && (fed(&first) == fed(&second)) == is_equal
+    judge.hear(first.cmp(&second) == order);
+    judge.hear(first.partial_cmp(&second) == Some(order));
+    judge.hear((first < second) == is_less);
+    judge.hear((first <= second) == (is_less || is_equal));
+    judge.hear((first > second) == order.is_gt());
+    judge.hear((first >= second) != is_less);
+    judge.hear((first == second) == is_equal);
+    judge.hear((first != second) != is_equal);
+    judge.hear((first.min(second) == first) != order.is_gt());
+    judge.hear((first.max(second) == first) != is_less);
+    judge.hear((fed(&first) == fed(&second)) == is_equal);
 }
 
 /// What a hasher answers that the value was fed to.

@@ -1,6 +1,7 @@
 //! A row: its call, what is called with, and its answer.
 
 use crate::display::is_written;
+use crate::judge::{Judge, doubt};
 use crate::minding::mind;
 use crate::{durations, spans, std_durations, system_times, timestamps};
 use std::alloc::AllocError;
@@ -20,8 +21,23 @@ impl<'a> Row<'a> {
     /// The row of a line.
     pub fn new(line: &'a str) -> Row<'a> {
         let (head, wanted) = line.rsplit_once(" = ").unwrap_or_default();
+        Row::of(head, wanted)
+    }
+
+    /// The row of this call, with what is called with behind it, and this answer.
+    fn of(head: &'a str, wanted: &'a str) -> Row<'a> {
         let (call, rest) = head.split_once(' ').unwrap_or((head, ""));
         Row { call, rest, wanted }
+    }
+
+    /// The answer that the row says.
+    pub(crate) fn wanted(self) -> &'a str {
+        self.wanted
+    }
+
+    /// The row with a doubt of what agrees to its answer.
+    pub(crate) fn doubted(self, at: u32) -> Doubted<'a> {
+        Doubted { row: self, at }
     }
 
     /// Whether the library answers as the row says.
@@ -36,35 +52,61 @@ impl<'a> Row<'a> {
     }
 }
 
-impl Display for Row<'_> {
-    fn fmt<W: fmt::Write>(&self, f: &mut Formatter<W>) -> fmt::Result {
-        let Row { call, rest, wanted } = *self;
+impl Row<'_> {
+    /// Writes the answer that the library gives to the row's call, as the judge hears it.
+    fn answer<W: fmt::Write>(self, f: &mut Formatter<W>, judge: &mut Judge) -> fmt::Result {
+        let Row { call, rest, wanted } = self;
         let text = self.text();
         match call {
-            "duration" => durations::read(f, text),
-            "canonical" => durations::print_again(f, text),
-            "message" => durations::explain(f, text, wanted),
-            "misplaced" => durations::misplace(f, rest, wanted),
-            "print" => durations::print(f, rest),
-            "spans" => spans::split(f, text),
-            "strict" => timestamps::read_strictly(f, text),
-            "weak" => timestamps::read_weakly(f, text),
-            "refusal" => timestamps::explain(f, text, wanted),
-            "day" => timestamps::number_day(f, rest),
-            "date" => timestamps::date_day(f, rest),
-            "Date::eq" => timestamps::compare_dates(f, rest),
-            "DurationError::eq" => durations::compare_errors(f, text),
-            "TimestampError::eq" => timestamps::compare_errors(f, text),
-            "Duration::from_str" => durations::wrap(f, text),
-            "Timestamp::from_str" => timestamps::wrap(f, text),
+            "duration" => durations::read(f, judge, text),
+            "canonical" => durations::print_again(f, judge, text),
+            "message" => durations::explain(f, judge, text, wanted),
+            "misplaced" => durations::misplace(f, judge, rest, wanted),
+            "print" => durations::print(f, judge, rest),
+            "spans" => spans::split(f, judge, text),
+            "strict" => timestamps::read_strictly(f, judge, text),
+            "weak" => timestamps::read_weakly(f, judge, text),
+            "refusal" => timestamps::explain(f, judge, text, wanted),
+            "day" => timestamps::number_day(f, judge, rest),
+            "date" => timestamps::date_day(f, judge, rest),
+            "Date::eq" => timestamps::compare_dates(f, judge, rest),
+            "DurationError::eq" => durations::compare_errors(f, judge, text),
+            "TimestampError::eq" => timestamps::compare_errors(f, judge, text),
+            "Duration::from_str" => durations::wrap(f, judge, text),
+            "Timestamp::from_str" => timestamps::wrap(f, judge, text),
             "minding" => mind(f, rest),
-            "UNIX_EPOCH" => system_times::answer(f, call, rest),
+            "UNIX_EPOCH" => system_times::answer(f, judge, call, rest),
             _ => match call.split_once("::") {
-                Some(("StdDuration", name)) => std_durations::answer(f, name, rest),
-                Some((_, name)) => system_times::answer(f, name, rest),
-                None => timestamps::print(f, call, rest),
+                Some(("StdDuration", name)) => std_durations::answer(f, judge, name, rest),
+                Some((_, name)) => system_times::answer(f, judge, name, rest),
+                None => timestamps::print(f, judge, call, rest),
             },
         }
+    }
+}
+
+impl Display for Row<'_> {
+    fn fmt<W: fmt::Write>(&self, f: &mut Formatter<W>) -> fmt::Result {
+        if self.call == "doubted"
+            && let Some((count, head)) = self.rest.split_once(' ')
+        {
+            doubt(f, count, Row::of(head, self.wanted))
+        } else {
+            self.answer(f, &mut Judge::new(0))
+        }
+    }
+}
+
+/// A row whose judge hears the opposite of one that it hears. It is written as the answer then is.
+#[derive(Drop)]
+pub(crate) struct Doubted<'a> {
+    row: Row<'a>,
+    at: u32,
+}
+
+impl Display for Doubted<'_> {
+    fn fmt<W: fmt::Write>(&self, f: &mut Formatter<W>) -> fmt::Result {
+        self.row.answer(f, &mut Judge::new(self.at))
     }
 }
 

@@ -1,6 +1,7 @@
 //! What the library answers to `spans`.
 
 use crate::answer::tell;
+use crate::judge::Judge;
 use humantime::{Span, spans};
 use std::fmt::{self, Formatter, Write};
 
@@ -8,16 +9,20 @@ use std::fmt::{self, Formatter, Write};
 type Parts<'a> = (&'a str, Option<&'a str>, &'a str, usize, usize, u64);
 
 /// Writes each item of the text, and what three more calls answer after the last one.
-pub(crate) fn split<W: fmt::Write>(f: &mut Formatter<W>, text: &str) -> fmt::Result {
+pub(crate) fn split<W: fmt::Write>(
+    f: &mut Formatter<W>,
+    judge: &mut Judge,
+    text: &str,
+) -> fmt::Result {
     let mut items = spans(text);
     for item in items.by_ref() {
         match item {
             Ok(span) => {
                 let copy = span;
-                let agrees = parts_of(copy) == parts_of(span);
-                tell(f, Ok::<_, ()>(parts_of(span)), agrees)?;
+                judge.hear(parts_of(copy) == parts_of(span));
+                tell(f, judge, Ok::<_, ()>(parts_of(span)))?;
             }
-            Err(error) => tell(f, Err::<(), _>(error), true)?,
+            Err(error) => tell(f, judge, Err::<(), _>(error))?,
         }
         f.write_str(", ")?;
     }

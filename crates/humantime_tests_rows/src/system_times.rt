@@ -1,35 +1,37 @@
 //! What the library answers to the calls of `SystemTime` and `SystemTimeError`, with the wrapper beside them.
 
 use crate::answer::{no_answer, parts, tell, tell_equal, two_parts};
-use crate::order::{fed, is_ordered};
+use crate::judge::Judge;
+use crate::order::{fed, hear_order};
 use humantime::{StdDuration, SystemTime, SystemTimeError, Timestamp, UNIX_EPOCH};
 use std::fmt::{self, Formatter, Write};
 
 /// Writes what the call of this name answers.
 pub(crate) fn answer<W: fmt::Write>(
     f: &mut Formatter<W>,
+    judge: &mut Judge,
     name: &str,
     numbers: &str,
 ) -> fmt::Result {
     match name {
-        "UNIX_EPOCH" => tell_value(f, UNIX_EPOCH),
-        "from_parts" => from_parts(f, numbers),
-        "checked_add" => add(f, numbers),
-        "duration_since" => differ(f, numbers),
-        "cmp" => compare(f, numbers),
-        "eq" => compare_errors(f, numbers),
+        "UNIX_EPOCH" => tell_value(f, judge, UNIX_EPOCH),
+        "from_parts" => from_parts(f, judge, numbers),
+        "checked_add" => add(f, judge, numbers),
+        "duration_since" => differ(f, judge, numbers),
+        "cmp" => compare(f, judge, numbers),
+        "eq" => compare_errors(f, judge, numbers),
         _ => no_answer(f),
     }
 }
 
-/// Whether a clone is the value, and its wrapper keeps it.
-fn is_kept(value: SystemTime) -> bool {
+/// Hears whether a clone is the value, and its wrapper keeps it.
+fn hear_kept(judge: &mut Judge, value: SystemTime) {
     let wrapper = Timestamp::from(value);
-    value.clone().ok() == Some(value)
-        && wrapper.clone().ok() == Some(wrapper)
-        && *wrapper.as_ref() == value
-        && SystemTime::from(wrapper) == value
-        && fed(&wrapper) == fed(&value)
+    judge.hear(value.clone().ok() == Some(value));
+    judge.hear(wrapper.clone().ok() == Some(wrapper));
+    judge.hear(*wrapper.as_ref() == value);
+    judge.hear(SystemTime::from(wrapper) == value);
+    judge.hear(fed(&wrapper) == fed(&value));
 }
 
 /// Seconds and nanoseconds.
@@ -37,32 +39,48 @@ fn parts_of(value: SystemTime) -> (i64, u32) {
     (value.unix_seconds(), value.subsec_nanos())
 }
 
-fn tell_value<W: fmt::Write>(f: &mut Formatter<W>, value: SystemTime) -> fmt::Result {
-    tell(f, parts_of(value), is_kept(value))
+fn tell_value<W: fmt::Write>(
+    f: &mut Formatter<W>,
+    judge: &mut Judge,
+    value: SystemTime,
+) -> fmt::Result {
+    hear_kept(judge, value);
+    tell(f, judge, parts_of(value))
 }
 
 /// Writes the moment, if there is one.
-fn tell_some<W: fmt::Write>(f: &mut Formatter<W>, value: Option<SystemTime>) -> fmt::Result {
+fn tell_some<W: fmt::Write>(
+    f: &mut Formatter<W>,
+    judge: &mut Judge,
+    value: Option<SystemTime>,
+) -> fmt::Result {
     match value {
-        Some(value) => tell(f, Some(parts_of(value)), is_kept(value)),
+        Some(value) => {
+            hear_kept(judge, value);
+            tell(f, judge, Some(parts_of(value)))
+        }
         None => f.write_str("None"),
     }
 }
 
-fn from_parts<W: fmt::Write>(f: &mut Formatter<W>, numbers: &str) -> fmt::Result {
+fn from_parts<W: fmt::Write>(
+    f: &mut Formatter<W>,
+    judge: &mut Judge,
+    numbers: &str,
+) -> fmt::Result {
     match parts(numbers) {
-        Some((secs, nanos)) => tell_some(f, SystemTime::from_parts(secs, nanos)),
+        Some((secs, nanos)) => tell_some(f, judge, SystemTime::from_parts(secs, nanos)),
         None => no_answer(f),
     }
 }
 
 /// Writes the moment that is later than one of these numbers by a duration of them.
-fn add<W: fmt::Write>(f: &mut Formatter<W>, numbers: &str) -> fmt::Result {
+fn add<W: fmt::Write>(f: &mut Formatter<W>, judge: &mut Judge, numbers: &str) -> fmt::Result {
     if let Some(((secs, nanos), (other_secs, other_nanos))) = two_parts(numbers)
         && let Some(moment) = SystemTime::from_parts(secs, nanos)
         && let Some(by) = StdDuration::checked_new(other_secs, other_nanos)
     {
-        tell_some(f, moment.checked_add(by))
+        tell_some(f, judge, moment.checked_add(by))
     } else {
         no_answer(f)
     }
@@ -76,46 +94,57 @@ fn two_moments(numbers: &str) -> Option<(SystemTime, SystemTime)> {
 }
 
 /// Writes how much later the first moment is than the second, or earlier, which is an error.
-fn differ<W: fmt::Write>(f: &mut Formatter<W>, numbers: &str) -> fmt::Result {
+fn differ<W: fmt::Write>(f: &mut Formatter<W>, judge: &mut Judge, numbers: &str) -> fmt::Result {
     let Some((first, second)) = two_moments(numbers) else {
         return no_answer(f);
     };
-    let (difference, agrees) = match first.duration_since(second) {
-        Ok(later) => (Ok(later), second.checked_add(later) == Some(first)),
+    let difference = match first.duration_since(second) {
+        Ok(later) => {
+            judge.hear(second.checked_add(later) == Some(first));
+            Ok(later)
+        }
         Err(error) => {
             let (copy, earlier) = (error, error.duration());
-            let is_same = copy == error && error.clone().ok() == Some(error);
-            (
-                Err(earlier),
-                is_same && first.checked_add(earlier) == Some(second),
-            )
+            judge.hear(copy == error);
+            judge.hear(error.clone().ok() == Some(error));
+            judge.hear(first.checked_add(earlier) == Some(second));
+            Err(earlier)
         }
     };
     let parts = match difference {
         Ok(later) => Ok((later.as_secs(), later.subsec_nanos())),
         Err(earlier) => Err((earlier.as_secs(), earlier.subsec_nanos())),
     };
-    tell(f, parts, agrees)
+    tell(f, judge, parts)
 }
 
 /// Writes the order of two moments, which is that of their wrappers.
-fn compare<W: fmt::Write>(f: &mut Formatter<W>, numbers: &str) -> fmt::Result {
+fn compare<W: fmt::Write>(f: &mut Formatter<W>, judge: &mut Judge, numbers: &str) -> fmt::Result {
     let Some((first, second)) = two_moments(numbers) else {
         return no_answer(f);
     };
     let order = first.cmp(&second);
-    let agrees = is_kept(first)
-        && is_ordered(first, second, order)
-        && is_ordered(Timestamp::from(first), Timestamp::from(second), order);
-    tell(f, order, agrees)
+    hear_kept(judge, first);
+    hear_order(judge, first, second, order);
+    hear_order(
+        judge,
+        Timestamp::from(first),
+        Timestamp::from(second),
+        order,
+    );
+    tell(f, judge, order)
 }
 
 /// Writes whether the errors are equal that the epoch gives at two later moments.
-fn compare_errors<W: fmt::Write>(f: &mut Formatter<W>, numbers: &str) -> fmt::Result {
+fn compare_errors<W: fmt::Write>(
+    f: &mut Formatter<W>,
+    judge: &mut Judge,
+    numbers: &str,
+) -> fmt::Result {
     let Some((first, second)) = two_moments(numbers) else {
         return no_answer(f);
     };
-    tell_equal(f, error_before(first), error_before(second))
+    tell_equal(f, judge, error_before(first), error_before(second))
 }
 
 fn error_before(moment: SystemTime) -> Option<SystemTimeError> {

@@ -2,6 +2,7 @@
 
 use crate::answer::{no_answer, parts, tell, tell_equal, tell_message};
 use crate::display::{is_always_written, refused_requests};
+use crate::judge::Judge;
 use humantime::{
     Date, Rfc3339Timestamp, SystemTime, Timestamp, TimestampError, Turns, date_of_day, day_number,
     format_rfc3339, format_rfc3339_micros, format_rfc3339_millis, format_rfc3339_nanos,
@@ -10,30 +11,43 @@ use humantime::{
 use std::fmt::{self, Formatter, Write};
 
 /// Writes seconds and nanoseconds of the text in strict form, or the error.
-pub(crate) fn read_strictly<W: fmt::Write>(f: &mut Formatter<W>, text: &str) -> fmt::Result {
-    tell(f, parts_of(parse_rfc3339(text)), true)
+pub(crate) fn read_strictly<W: fmt::Write>(
+    f: &mut Formatter<W>,
+    judge: &mut Judge,
+    text: &str,
+) -> fmt::Result {
+    tell(f, judge, parts_of(parse_rfc3339(text)))
 }
 
 /// Writes seconds and nanoseconds of the text in weak form, or the error.
-pub(crate) fn read_weakly<W: fmt::Write>(f: &mut Formatter<W>, text: &str) -> fmt::Result {
+pub(crate) fn read_weakly<W: fmt::Write>(
+    f: &mut Formatter<W>,
+    judge: &mut Judge,
+    text: &str,
+) -> fmt::Result {
     let read = parse_rfc3339_weak(text);
     let wrapped: Result<Timestamp, TimestampError> = text.parse();
     let same = match wrapped {
         Ok(wrapper) => Ok(SystemTime::from(wrapper)),
         Err(error) => Err(error),
     };
-    tell(f, parts_of(read), same == read)
+    judge.hear(same == read);
+    tell(f, judge, parts_of(read))
 }
 
 /// Writes what the wrapper holds that the text is read as, and its text; or the error.
-pub(crate) fn wrap<W: fmt::Write>(f: &mut Formatter<W>, text: &str) -> fmt::Result {
+pub(crate) fn wrap<W: fmt::Write>(
+    f: &mut Formatter<W>,
+    judge: &mut Judge,
+    text: &str,
+) -> fmt::Result {
     let wrapped: Result<Timestamp, TimestampError> = text.parse();
     match wrapped {
         Ok(wrapper) => {
             let parts = parts_of(Ok(*wrapper.as_ref()));
             write!(f, "{parts:?}, {wrapper}")
         }
-        Err(error) => tell(f, Err::<(), _>(error), true),
+        Err(error) => tell(f, judge, Err::<(), _>(error)),
     }
 }
 
@@ -48,38 +62,50 @@ fn parts_of(read: Result<SystemTime, TimestampError>) -> Result<(i64, u32), Time
 /// Writes the message of the text's error.
 pub(crate) fn explain<W: fmt::Write>(
     f: &mut Formatter<W>,
+    judge: &mut Judge,
     text: &str,
     wanted: &str,
 ) -> fmt::Result {
-    tell_message(f, parse_rfc3339_weak(text).err(), wanted, 1)
+    tell_message(f, judge, parse_rfc3339_weak(text).err(), wanted, 1)
 }
 
 /// Writes whether the errors of two texts are equal.
-pub(crate) fn compare_errors<W: fmt::Write>(f: &mut Formatter<W>, texts: &str) -> fmt::Result {
+pub(crate) fn compare_errors<W: fmt::Write>(
+    f: &mut Formatter<W>,
+    judge: &mut Judge,
+    texts: &str,
+) -> fmt::Result {
     let (first, second) = texts.split_once("\" \"").unwrap_or_default();
     let first = parse_rfc3339_weak(first).err();
-    tell_equal(f, first, parse_rfc3339_weak(second).err())
+    tell_equal(f, judge, first, parse_rfc3339_weak(second).err())
 }
 
 /// Writes what a moment of so many seconds and nanoseconds is printed as by the call of this name.
-pub(crate) fn print<W: fmt::Write>(f: &mut Formatter<W>, call: &str, numbers: &str) -> fmt::Result {
+pub(crate) fn print<W: fmt::Write>(
+    f: &mut Formatter<W>,
+    judge: &mut Judge,
+    call: &str,
+    numbers: &str,
+) -> fmt::Result {
     if let Some((secs, nanos)) = parts(numbers)
         && let Some(moment) = SystemTime::from_parts(secs, nanos)
         && let Some(printable) = called(call, moment)
     {
         let mut buf = [b'-'; 30];
-        let is_same = *printable.get_ref() == moment;
+        judge.hear(*printable.get_ref() == moment);
         match printable.text(&mut buf) {
             Some(text) => {
-                let is_alike = is_always_written(&printable, text, 1)
-                    && (!matches!(call, "shortest") || is_shortest(moment, text));
-                let printed = format_args!("Some(\"{printable}\")");
-                tell(f, printed, is_same && is_alike)
+                judge.hear(is_always_written(&printable, text, 1));
+                if call == "shortest" {
+                    hear_shortest(judge, moment, text);
+                }
+                tell(f, judge, format_args!("Some(\"{printable}\")"))
             }
             None => {
-                let asks = refused_requests(&printable) > 0
-                    || refused_requests(&Timestamp::from(moment)) > 0;
-                tell(f, None::<&str>, is_same && !asks && buf == [b'-'; 30])
+                judge.hear(refused_requests(&printable) == 0);
+                judge.hear(refused_requests(&Timestamp::from(moment)) == 0);
+                judge.hear(buf == [b'-'; 30]);
+                tell(f, judge, None::<&str>)
             }
         }
     } else {
@@ -99,23 +125,32 @@ fn called(call: &str, moment: SystemTime) -> Option<Rfc3339Timestamp> {
     }
 }
 
-/// Whether `Display` writes the moment's wrapper as this text, and it reads back.
-fn is_shortest(moment: SystemTime, text: &str) -> bool {
-    is_always_written(&Timestamp::from(moment), text, 1) && parse_rfc3339(text) == Ok(moment)
+/// Hears whether `Display` writes the moment's wrapper as this text, and it reads back.
+fn hear_shortest(judge: &mut Judge, moment: SystemTime, text: &str) {
+    judge.hear(is_always_written(&Timestamp::from(moment), text, 1));
+    judge.hear(parse_rfc3339(text) == Ok(moment));
 }
 
 /// Writes the number of a day, whose date the calendar may not have.
-pub(crate) fn number_day<W: fmt::Write>(f: &mut Formatter<W>, numbers: &str) -> fmt::Result {
+pub(crate) fn number_day<W: fmt::Write>(
+    f: &mut Formatter<W>,
+    judge: &mut Judge,
+    numbers: &str,
+) -> fmt::Result {
     let (year, rest) = numbers.split_once(' ').unwrap_or_default();
     let Some((year, (month, day))) = year.parse().ok().zip(parts(rest)) else {
         return no_answer(f);
     };
     let number = day_number(Date { year, month, day }, &mut Turns::new());
-    tell(f, number, true)
+    tell(f, judge, number)
 }
 
 /// Writes the date of the day of this number.
-pub(crate) fn date_day<W: fmt::Write>(f: &mut Formatter<W>, number: &str) -> fmt::Result {
+pub(crate) fn date_day<W: fmt::Write>(
+    f: &mut Formatter<W>,
+    judge: &mut Judge,
+    number: &str,
+) -> fmt::Result {
     let Ok(number) = number.parse() else {
         return no_answer(f);
     };
@@ -123,14 +158,18 @@ pub(crate) fn date_day<W: fmt::Write>(f: &mut Formatter<W>, number: &str) -> fmt
         Some(date) => Some((date.year, date.month, date.day)),
         None => None,
     };
-    tell(f, date, true)
+    tell(f, judge, date)
 }
 
 /// Writes whether the dates of the days of two numbers are equal.
-pub(crate) fn compare_dates<W: fmt::Write>(f: &mut Formatter<W>, numbers: &str) -> fmt::Result {
+pub(crate) fn compare_dates<W: fmt::Write>(
+    f: &mut Formatter<W>,
+    judge: &mut Judge,
+    numbers: &str,
+) -> fmt::Result {
     let Some((first, second)) = parts(numbers) else {
         return no_answer(f);
     };
     let first = date_of_day(first, &mut Turns::new());
-    tell_equal(f, first, date_of_day(second, &mut Turns::new()))
+    tell_equal(f, judge, first, date_of_day(second, &mut Turns::new()))
 }

@@ -5,7 +5,7 @@ ghost use Rattle.humantime.specs.Prelude.{Empty, InvalidCharacter, NumberExpecte
 ghost use Rattle.humantime.specs.Durations.Characters.{is_digit, is_whitespace};
 ghost use Rattle.humantime.specs.Durations.Spans.{Only};
 
-use humantime::{DurationError, StdDuration, parse_duration, spans};
+use humantime::{DurationError, StdDuration, canonical, parse_duration, spans};
 use std::alloc::{AllocError, Global};
 
 /// Returns `true` if an error points into its text: its unit is the slice between its offsets.
@@ -46,6 +46,16 @@ pub fn second_points_into(text: &str) -> bool
     match items.next() {
         Some(Err(error)) => is_in(error, text),
         _ => true,
+    }
+}
+
+/// Returns `true` if the error of a text points into it where the text is to be printed in canonical form.
+pub fn canonical_points_into(text: &str) -> bool
+    ensures { result ≡ true }
+{
+    match canonical(text, &mut [0; 64]) {
+        Ok(_) => true,
+        Err(error) => is_in(error, text),
     }
 }
 

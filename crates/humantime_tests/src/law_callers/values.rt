@@ -1,6 +1,6 @@
 //! Callers that use what durations, moments and dates say of themselves.
 
-ghost use Rattle.std.specs.Prelude.{◌≡◌, ◌-◌, ◌*◌, ◌≤◌, ◌≤ℤ◌, ◌+ℤ◌, ◌↔◌, ℕ, List, pos, chars, IsSome, IfSome, IsSomeAnd, Err};
+ghost use Rattle.std.specs.Prelude.{◌≡◌, ◌+◌, ◌-◌, ◌*◌, ◌/◌, ◌%◌, ◌^◌, ◌<◌, ◌≤◌, ◌≤ℤ◌, ◌+ℤ◌, ◌↔◌, ℕ, List, pos, chars, IsSome, IfSome, IsSomeAnd, Err};
 ghost use Rattle.humantime.specs.Prelude.{IsCanonicalText, IsDate, UnknownUnit, day_of, duration_answer, nanos_per_second};
 
 use humantime::{
@@ -12,6 +12,24 @@ pub fn micros_text(micros: u64, buf: &mut [u8; 64]) -> &str
     ensures { IsCanonicalText (micros * 1000) result.now }
 {
     format_duration(StdDuration::from_micros(micros)).text(buf)
+}
+
+/// Returns the text of a duration of seconds and nanoseconds, as a protocol has them, or `None` if that is too long.
+pub fn parts_text(secs: u64, nanos: u32, buf: &mut [u8; 64]) -> Option<&str>
+    ensures within { IsSome result ↔ (secs + nanos / nanos_per_second < 2 ^ 64) }
+    ensures text { IfSome result (λ text. IsCanonicalText (secs * nanos_per_second + nanos) text.now) }
+{
+    Some(format_duration(StdDuration::checked_new(secs, nanos)?).text(buf))
+}
+
+/// Returns the seconds and the nanoseconds of a duration, which `StdDuration::new` may be called with, and what it then returns.
+pub fn parts_and_duration(duration: StdDuration) -> (u64, u32, StdDuration)
+    ensures seconds { result.0 ≡ duration / nanos_per_second }
+    ensures nanoseconds { result.1 ≡ duration % nanos_per_second }
+    ensures same { result.2 ≡ duration }
+{
+    let (secs, nanos) = (duration.as_secs(), duration.subsec_nanos());
+    (secs, nanos, StdDuration::new(secs, nanos))
 }
 
 /// Returns the canonical text of 2 hours and 37 minutes, as a literal.
