@@ -4,6 +4,7 @@ mod calendars;
 mod callers;
 mod law_callers;
 mod memory;
+mod relations;
 mod values;
 
 use humantime::{Date, SystemTime};
