@@ -14,12 +14,12 @@ pub record HasWritten (old new : Writer) (all : List ℕ) : Type 0 where
   pub room : length new.bytes.now ≡ length old.bytes.now
   pub is : written new ≡ all
 
--- The text is written behind what was written before.
+-- The text is written after what was written before.
 pub record Appends (old new : Writer) (text : List ℕ) : Type 0 where
   pub has : HasWritten old new (written old ++ text)
   pub end : new.end ≡ old.end + length text
 
--- a text and these behind it, joined by one space; an empty text is none
-abbrev pub behind : List ℕ → List (List ℕ) → List ℕ
-behind [] ps = join_with_byte (byte " ") ps
-behind (b ∷ bs) ps = join_with_byte (byte " ") ((b ∷ bs) ∷ ps)
+-- a text and these after it, joined by one space; an empty text is none
+abbrev pub joined_after : List ℕ → List (List ℕ) → List ℕ
+joined_after [] ps = join_with_byte (byte " ") ps
+joined_after (b ∷ bs) ps = join_with_byte (byte " ") ((b ∷ bs) ∷ ps)

@@ -17,7 +17,7 @@ pub(crate) struct Writer<'b> {
 
 impl<'b> Writer<'b> {
     ghost use Rattle.humantime.specs.Durations.Counts.{printed_counts};
-    ghost use Rattle.humantime.specs.Steps.Writing.{behind, written, Appends, HasWritten};
+    ghost use Rattle.humantime.specs.Steps.Writing.{joined_after, written, Appends, HasWritten};
 
     /// Nothing written yet.
     #[inline(always)]
@@ -56,7 +56,7 @@ impl<'b> Writer<'b> {
     #[inline(always)]
     pub(crate) fn push_count(&mut self, count: u64, unit: &str)
         requires fits { self.old.end + 1 + length (decimal count) + length unit.now ≤ length self.old.bytes.now }
-        ensures written { HasWritten self.old self.new (behind (written self.old) (printed_counts (count ∷ []) ((unit.now, false) ∷ []))) }
+        ensures written { HasWritten self.old self.new (joined_after (written self.old) (printed_counts (count ∷ []) ((unit.now, false) ∷ []))) }
         ensures end { self.new.end ≤ self.old.end + 1 + length (decimal count) + length unit.now }
         ensures first { self.old.end ≡ 0 → self.new.end ≤ length (decimal count) + length unit.now }
     {
@@ -70,11 +70,11 @@ impl<'b> Writer<'b> {
         self.push(unit);
     }
 
-    /// Writes a count and its unit as `push_count` does, with an `s` behind the unit of more than one.
+    /// Writes a count and its unit as `push_count` does, with an `s` after the unit of more than one.
     #[inline(always)]
     pub(crate) fn push_plural(&mut self, count: u64, unit: &str)
         requires fits { self.old.end + 2 + length (decimal count) + length unit.now ≤ length self.old.bytes.now }
-        ensures written { HasWritten self.old self.new (behind (written self.old) (printed_counts (count ∷ []) ((unit.now, true) ∷ []))) }
+        ensures written { HasWritten self.old self.new (joined_after (written self.old) (printed_counts (count ∷ []) ((unit.now, true) ∷ []))) }
         ensures end { self.new.end ≤ self.old.end + 2 + length (decimal count) + length unit.now }
         ensures first { self.old.end ≡ 0 → self.new.end ≤ 1 + length (decimal count) + length unit.now }
     {

@@ -1,4 +1,4 @@
-//! Laws of accepted texts: without whitespace, one behind the other, in another order, and accepted before.
+//! Laws of accepted texts: without whitespace, one after the other, in another order, and accepted before.
 
 ghost use Rattle.std.specs.Prelude.{◌≡◌, ◌++◌, chars};
 ghost use Rattle.humantime.specs.Laws.Older.{KeepsValueWithZeros};
@@ -20,7 +20,7 @@ pub fn without_ws(s: &str)
     ensures { KeepsValueWithoutWhitespace (chars s.now) }
 {}
 
-/// States that of two accepted texts, neither exactly `0`, the one behind the other is accepted with their sum, or too large.
+/// States that of two accepted texts, neither exactly `0`, the one after the other is accepted with their sum, or too large.
 ///
 /// It is accepted with the sum of their values exactly if the running sums have room, and is too large exactly if they
 /// have not. The running sums are those of the additions of the first text's spans and then of the second's. An accepted

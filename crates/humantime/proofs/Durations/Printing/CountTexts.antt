@@ -7,31 +7,31 @@ use Rattle.std.proofs.lemmas.Bool.Decides.{nat_tests}
 use Rattle.std.proofs.lemmas.List.{append_assoc, length-append}
 use Rattle.humantime.specs.Values.{nanos_per_micro, nanos_per_milli, nanos_per_second, seconds_per_minute, seconds_per_hour, seconds_per_day, seconds_per_month, seconds_per_year}
 use Rattle.humantime.specs.Answers.Durations.{divided, duration_text}
-use Rattle.humantime.specs.Steps.Writing.{behind}
+use Rattle.humantime.specs.Steps.Writing.{joined_after}
 use Rattle.humantime.specs.Durations.Counts.{Suffix, weights, suffixes, printed_count, printed_counts, joined_by_space}
 
--- counts behind a text, one by one
+-- counts after a text, one by one
 abbrev pub with_counts : List ℕ → List ℕ → List Suffix → List ℕ
-with_counts text (n ∷ ns) (s ∷ ss) = with_counts (behind text (printed_counts (n ∷ []) (s ∷ []))) ns ss
+with_counts text (n ∷ ns) (s ∷ ss) = with_counts (joined_after text (printed_counts (n ∷ []) (s ∷ []))) ns ss
 with_counts text _ _ = text
 
-behind_more : (t p : List ℕ) (ps : List (List ℕ)) → 0 < length p → behind (behind t (p ∷ [])) ps ≡ behind t (p ∷ ps)
-behind_more t p ps h = grind (arith, append_assoc)
+joined_after_more : (t p : List ℕ) (ps : List (List ℕ)) → 0 < length p → joined_after (joined_after t (p ∷ [])) ps ≡ joined_after t (p ∷ ps)
+joined_after_more t p ps h = grind (arith, append_assoc)
 
 -- each suffix has a letter
 abbrev Lettered : List Suffix → Type 0
 Lettered ss = AllByRecursion (λ s. 0 < length s.0) ss
 
-one_by_one : (t ns : List ℕ) (ss : List Suffix) → Lettered ss → with_counts t ns ss ≡ behind t (printed_counts ns ss)
+one_by_one : (t ns : List ℕ) (ss : List Suffix) → Lettered ss → with_counts t ns ss ≡ joined_after t (printed_counts ns ss)
 one_by_one t (n ∷ ns) (s ∷ ss) h =
-    grind (arith, behind_more, length-append, (one_by_one (behind t (printed_count n s ∷ [])) ns ss h.1), (one_by_one t ns ss h.1))
+    grind (arith, joined_after_more, length-append, (one_by_one (joined_after t (printed_count n s ∷ [])) ns ss h.1), (one_by_one t ns ss h.1))
 one_by_one t _ _ h = grind arith
 
 -- zero seconds where there is no text
 abbrev pub or_zero : List ℕ → List ℕ
 or_zero text = if length text == 0 then codes "0s" else text
 
-or_zero_joined : (ns : List ℕ) (ss : List Suffix) → Lettered ss → or_zero (behind [] (printed_counts ns ss)) ≡ joined_by_space (printed_counts ns ss)
+or_zero_joined : (ns : List ℕ) (ss : List Suffix) → Lettered ss → or_zero (joined_after [] (printed_counts ns ss)) ≡ joined_by_space (printed_counts ns ss)
 or_zero_joined (n ∷ ns) (s ∷ ss) h = grind (arith, common_steps, nat_tests, length-append, (or_zero_joined ns ss h.1))
 or_zero_joined _ _ h = refl
 

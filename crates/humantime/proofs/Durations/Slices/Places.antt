@@ -17,14 +17,14 @@ pub rest_place : (text rest : List ℕ) (at : ℕ) → IsTail text rest → at �
 rest_place text rest at tail is some = grind (arith, tail_boundary)
 
 -- a text may be cut where a rest begins and where a rest of that rest does
-pub range_of_rests : (text behind next : List ℕ) (start end : ℕ) → IsTail text behind → IsTail behind next → start ≡ length text - length behind
+pub range_of_rests : (text after next : List ℕ) (start end : ℕ) → IsTail text after → IsTail after next → start ≡ length text - length after
     → end ≡ length text - length next → IsRangeIn text start end
-range_of_rests text behind next start end b n s e = grind (arith, tail_boundary, (tail_of_tail text behind next b n))
+range_of_rests text after next start end b n s e = grind (arith, tail_boundary, (tail_of_tail text after next b n))
 
 -- what stands between two rests is a part of the text
-pub part_of_rests : (text behind part next : List ℕ) (start end : ℕ) → IsUtf8 text → IsTail text behind → IsTail text next → behind ≡ part ++ next
-    → start ≡ offset_of (chars text) (chars behind) → end ≡ offset_of (chars text) (chars next) → IsPartOf text part start end
-part_of_rests text behind part next start end u b n e s t = grind (arith, (part_between text behind part next start end u b n e s t))
+pub part_of_rests : (text after part next : List ℕ) (start end : ℕ) → IsUtf8 text → IsTail text after → IsTail text next → after ≡ part ++ next
+    → start ≡ offset_of (chars text) (chars after) → end ≡ offset_of (chars text) (chars next) → IsPartOf text part start end
+part_of_rests text after part next start end u b n e s t = grind (arith, (part_between text after part next start end u b n e s t))
 
 -- what can't follow a word is there
 pub bad_some : (next : List ℕ) → ends_span next ≡ false → next ≢ []
