@@ -5,7 +5,7 @@ use Rattle.humantime.specs.Texts.{take_while, drop_while, decimal_value}
 use Rattle.humantime.specs.Durations.Characters.{is_whitespace, is_numeric, digits, offset_of}
 use Rattle.humantime.specs.Durations.Spans.{SpelledSpan}
 use Rattle.humantime.specs.Durations.Faults.{number_of, after_number, after_point, word_of, after_word, Fault}
-use Rattle.humantime.specs.Answers.Walks.{Walk, walk_from, walk_of, sum_spans}
+use Rattle.humantime.specs.Answers.Walks.{Walk, walk_from, walk_of}
 use Rattle.humantime.specs.Durations.Items.{SpanView, items_of}
 
 -- without the whitespace at both ends
@@ -48,7 +48,3 @@ spelled number fraction unit = record { number = digits number; fraction = optio
 abbrev pub span_in : Result SpanView Fault → Result SpelledSpan Fault
 span_in (Ok x) = Ok (spelled x.number x.fraction x.unit)
 span_in (Err e) = Err e
-
--- what the items add up to after t
-abbrev pub sum_items : ℕ → List (Result SpanView Fault) → Result ℕ Fault
-sum_items t items = sum_spans t (map span_in items)

@@ -1,8 +1,9 @@
 //! Parsing a duration.
 
-ghost use Rattle.std.specs.Prelude.{◌≡◌, chars, IfErr};
+ghost use Rattle.std.specs.Prelude.{◌≡◌, chars, map, IfErr};
 ghost use Rattle.humantime.specs.Prelude.{AreItems, IsDurationAnswer, PointsInto, items_left, result_view, text_of};
-ghost use Rattle.humantime.specs.Answers.Items.{sum_items, item_views};
+ghost use Rattle.humantime.specs.Answers.Items.{item_views, span_in};
+ghost use Rattle.humantime.specs.Answers.Walks.{sum_spans};
 
 use crate::duration::cursor::Cursor;
 use crate::duration::error::DurationError;
@@ -51,7 +52,7 @@ pub fn spans(s: &str) -> SpanIter<'_>
 /// makes a call to copy it for `?`.
 #[inline(never)]
 fn sum_of<'a>(text: &'a str) -> Result<StdDuration, DurationError<'a>>
-    ensures value { result_view result ≡ sum_items 0 (item_views (chars text.now)) }
+    ensures value { result_view result ≡ sum_spans 0 (map span_in (item_views (chars text.now))) }
     ensures place { IfErr result (PointsInto text.now) }
 {
     let mut total = StdDuration::ZERO;

@@ -67,19 +67,19 @@ only_front : (p : ℕ → Bool) (xs ys : List ℕ) → Only p (xs ++ ys) → Onl
 only_front p [] ys o = tt
 only_front p (x ∷ xs) ys o = (o.0, only_front p xs ys o.1)
 
--- digits and whitespace from a first digit on, without the whitespace at the end, behind other whitespace
+-- digits and whitespace from a first digit on, without the whitespace at the end, after other whitespace
 pub digit_slice : (before cs ds : List ℕ) → Dropped cs ds → Only is_whitespace before → begins is_digit cs ≡ true → Only is_numeric cs
     → IsDigitSlice (before ++ cs) ds
 digit_slice before cs [] d w b o = absurd (all_whitespace d.tail d.whitespace (subst (λ (l : List ℕ). begins is_digit l ≡ true) d.whole b))
 digit_slice before cs (x ∷ xs) d w b o = grind (arith, only_front, ends_digit)
 
--- the slice of the fraction behind a number, before a word
+-- the slice of the fraction after a number, before a word
 pub no_slice : (tail : List ℕ) → begins is_letter tail ≡ true → fraction_slice tail ≡ None
 no_slice tail h = grind (arith, letter_not_point)
 
-pub slice_behind_point : (behind tail : List ℕ) → Only is_numeric behind → begins is_letter tail ≡ true
-    → fraction_slice (46 ∷ (behind ++ tail)) ≡ Some (trimmed behind)
-slice_behind_point behind tail only e = grind (arith, letter_not_numeric, is_point-46, take_while-append)
+pub slice_after_point : (after tail : List ℕ) → Only is_numeric after → begins is_letter tail ≡ true
+    → fraction_slice (46 ∷ (after ++ tail)) ≡ Some (trimmed after)
+slice_after_point after tail only e = grind (arith, letter_not_numeric, is_point-46, take_while-append)
 
 -- what std's `trim_end` and `trim_start` give
 pub end_trimmed : (text cut : List ℕ) → IsUtf8 cut → cut ≡ trim_end text → chars cut ≡ drop_trailing_whitespace (chars text)

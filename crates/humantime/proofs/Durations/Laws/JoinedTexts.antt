@@ -1,4 +1,4 @@
--- Texts one behind the other.
+-- Texts one after the other.
 use Rattle.std.proofs.Common.{◌≡◌, ◌≢◌, ◌↔◌, ◌⊎◌, ℕ, ◌+◌, true, List, [], ◌∷◌, ◌++◌, None, refl, ◌∙◌, inl, inr, append_assoc, append-nil}
 use Rattle.std.specs.List.{AllByRecursion}
 use Rattle.humantime.specs.Durations.Characters.{is_whitespace, bare_zero}
@@ -13,7 +13,7 @@ use Rattle.humantime.proofs.Durations.Reading.Outcomes.{items_whole, items_decid
 pub use Rattle.humantime.proofs.Durations.Reading.Spellings.{each-append, spells_each-append}
 use Rattle.humantime.proofs.Durations.Laws.Readings.{accepted_spans, no_value_and_fault}
 
--- whitespace behind a spelling belongs to it
+-- whitespace after a spelling belongs to it
 spells_each-whitespace : (body whitespace : List ℕ) (s : SpelledSpan) (ss : List SpelledSpan) → SpellsEach body (s ∷ ss) → Only is_whitespace whitespace → SpellsEach (body ++ whitespace) (s ∷ ss)
 spells_each-whitespace body whitespace s [] h only =
     let here = respelled body h.0 (body ++ whitespace) [] (h.1.whitespace ++ whitespace) s h.1 (rw (h.1.whole, h.2) (simp (append_assoc, append-nil)))
@@ -21,7 +21,7 @@ spells_each-whitespace body whitespace s [] h only =
     ([], here, refl)
 spells_each-whitespace body whitespace s (t ∷ ts) h only = (h.0 ++ whitespace, spells-append body h.0 whitespace s h.1, spells_each-whitespace h.0 whitespace t ts h.2 only)
 
--- spans behind spans
+-- spans after spans
 pub front-append : (a b : List ℕ) (ss ts : List SpelledSpan) → Reads a ss → SpellsAll b ts → SpellsAll (a ++ b) (ss ++ ts)
 front-append a b [] ts h k = absurd (h.1 refl)
 front-append a b (s ∷ ss) ts h k =
@@ -32,9 +32,6 @@ front-append a b (s ∷ ss) ts h k =
 pub some-append : (ss ts : List SpelledSpan) → ss ≢ [] → ss ++ ts ≢ []
 some-append [] ts some e = some refl
 some-append (s ∷ ss) ts some e = cc
-
-pub reads-append : (a b : List ℕ) (ss ts : List SpelledSpan) → Reads a ss → SpellsAll b ts → Reads (a ++ b) (ss ++ ts)
-reads-append a b ss ts h k = (front-append a b ss ts h k, some-append ss ts h.1)
 
 -- The text is whitespace, or none, and then spans of this value that keep all limits but that of room.
 pub record AreSpans (text : List ℕ) (spans : List SpelledSpan) (v : ℕ) : Type 0 where

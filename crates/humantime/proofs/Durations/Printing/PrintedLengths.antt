@@ -21,12 +21,12 @@ Sizes [] [] m = ⊤
 Sizes (u ∷ us) (k ∷ ks) m = (0 < k) × (10 ^ k < 2 ^ 64) × (0 < u.0) × (m ≤ 10 ^ k * u.0) × Sizes us ks u.0
 Sizes _ _ m = ⊥
 
--- the most that so many digits, the suffixes and a space behind each take
+-- the most that so many digits, the suffixes and a space after each take
 abbrev length_for : List (ℕ × Suffix) → List ℕ → ℕ
 length_for (u ∷ us) (k ∷ ks) = k + suffix_length u.1 + 1 + length_for us ks
 length_for _ _ = 0
 
--- the length with a space behind each
+-- the length with a space after each
 abbrev spaced_length : List (List ℕ) → ℕ
 spaced_length [] = 0
 spaced_length (p ∷ ps) = length p + 1 + spaced_length ps

@@ -22,7 +22,7 @@ space = 32
 abbrev word_of : Suffix → Bool → List ℕ
 word_of s many = s.0 ++ cond (s.1 && many) (codes "s") []
 
--- the word behind a count of n, and the span of that count
+-- the word after a count of n, and the span of that count
 abbrev pub word_for : ℕ → Suffix → List ℕ
 word_for n s = word_of s (nat_lt 1 n)
 

@@ -21,7 +21,7 @@ pub letter_not_whitespace : (c : ℕ) → is_letter c ≡ true → is_whitespace
 unfolding is_letter
 letter_not_whitespace c e = let other : std_is_whitespace c ≡ false = grind (arith, nat_tests) in sym (whitespace_is c) ∙ other
 
--- up to U+007F whitespace is the tab and the four characters behind it, and the blank
+-- up to U+007F whitespace is the tab and the four characters after it, and the blank
 pub low_whitespace : (c : ℕ) → c ≤ 32 → is_whitespace c ≡ (c == 32 || (nat_le 9 c && nat_le c 13))
 low_whitespace c low = let same : std_is_whitespace c ≡ (c == 32 || (nat_le 9 c && nat_le c 13)) = grind (arith, nat_tests) in sym (whitespace_is c) ∙ same
 

@@ -68,7 +68,7 @@ found text = record {
       (more (front ++ k.0) (spans ++ span_of rest ∷ []) k.1);
 }
 
--- the items of a text, and the rest behind them
+-- the items of a text, and the rest after them
 pub items_found_at : (text : List ℕ) → ItemsAfter text [] (walk_of text)
 items_found_at text = by_walk text (Found text) (found text) true (drop_while is_whitespace text) (take_while is_whitespace text) [] (begun text)
 

@@ -8,7 +8,7 @@ use Rattle.humantime.proofs.Durations.Reading.Runs.{begins_not_nil}
 use Rattle.humantime.proofs.Durations.Reading.Written.{spelling_some}
 use Rattle.humantime.proofs.Durations.Reading.Walked.{each_starts, first_here, front_begins}
 
--- a whole text as a front with nothing behind it
+-- a whole text as a front with nothing after it
 pub split_whole : (text : List ℕ) (spans : List SpelledSpan) → SpellsAll text spans → Split text text spans []
 split_whole text spans h = record { whole = sym (append-nil text); spelled = h; no_whitespace = refl }
 

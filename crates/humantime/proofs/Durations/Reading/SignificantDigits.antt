@@ -27,7 +27,7 @@ unfolding significant
 significant_and_zeros ds =
     sym (reverse-reverse ds) ∙ ap reverse (sym (take_while-drop_while is_zero (reverse ds))) ∙ reverse-append (zeros_of ds) (drop_while is_zero (reverse ds))
 
--- a digit behind others stays and keeps them, unless it is a zero
+-- a digit after others stays and keeps them, unless it is a zero
 pub significant_last : (ds : List ℕ) (d : ℕ) → (d == 48) ≡ false → significant (ds ++ d ∷ []) ≡ ds ++ d ∷ []
 unfolding significant
 significant_last ds d e = rw (reverse-append ds (d ∷ []), e) (reverse-append (d ∷ []) (reverse ds) ∙ ap (λ (l : List ℕ). l ++ d ∷ []) (reverse-reverse ds))
@@ -66,7 +66,7 @@ zeros_value v (z ∷ zs) only =
 zeros_count : (ds : List ℕ) → length ds ≡ length (significant ds) + length (zeros_of ds)
 zeros_count ds = omega (arith, ap length (significant_and_zeros ds), length-append (significant ds) (reverse (zeros_of ds)), length-reverse (zeros_of ds))
 
--- the zeros behind those digits multiply by ten each
+-- the zeros after those digits multiply by ten each
 pub value_shifted : (ds : List ℕ) (z : ℕ) → length ds ≡ length (significant ds) + z → decimal_value ds ≡ decimal_value (significant ds) * 10 ^ z
 value_shifted ds z count =
     let same : length (zeros_of ds) ≡ z = omega (arith, zeros_count ds) in

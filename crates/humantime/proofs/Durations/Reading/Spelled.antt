@@ -10,11 +10,11 @@ use Rattle.humantime.proofs.Durations.Reading.Classes.{letter_not_numeric, lette
 use Rattle.humantime.proofs.Durations.Reading.Spellings.{spells_alone}
 use Rattle.humantime.proofs.Durations.Reading.Runs.{take_while-append, drop_while-append, drop_while_shorter, begins-append, begins_not_nil, letters_begin, ends_Only, ends_other, ends-append, append_not_nil}
 
--- what follows a span: the text past its word and past the whitespace behind it
+-- what follows a span: the text past its word and past the whitespace after it
 abbrev pub next_of : List ℕ → List ℕ
 next_of rest = drop_while is_whitespace (after_word rest)
 
--- the rest begins with a digit, and its span and the text behind it are these
+-- the rest begins with a digit, and its span and the text after it are these
 pub record IsSpanAt (rest : List ℕ) (s : SpelledSpan) (next : List ℕ) : Type 0 where
   pub starts : begins is_digit rest ≡ true
   pub span : span_of rest ≡ s
@@ -36,7 +36,7 @@ fraction_read b tail (Some ds) h e = grind (arith, letter_not_numeric, point_not
 -- a spelled number and fraction before a word are read as these
 pub record IsReadToWord (rest number_text fraction_text tail : List ℕ) (fraction : Option (List ℕ)) : Type 0 where
   pub number_is : take_while is_numeric rest ≡ number_text
-  pub behind_is : after_number rest ≡ fraction_text ++ tail
+  pub after_is : after_number rest ≡ fraction_text ++ tail
   pub fraction_is : fraction_of rest ≡ fraction
   pub tail_is : after_fraction rest ≡ tail
   pub some : fraction ≢ Some []

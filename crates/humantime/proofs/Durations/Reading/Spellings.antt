@@ -1,4 +1,4 @@
--- A spelling as a text of its own, and with more behind it.
+-- A spelling as a text of its own, and with more after it.
 use Rattle.std.proofs.Common.{arith, ◌≡◌, ℕ, List, [], ◌∷◌, ◌++◌, ap, sym, ◌∙◌, append_assoc, append-nil, subst}
 use Rattle.std.specs.List.{AllByRecursion}
 use Rattle.std.proofs.lemmas.Grind.{common_steps}
@@ -45,6 +45,6 @@ spells_each-append a b (s ∷ ss) ts h k = (h.0 ++ b, spells-append a h.0 b s h.
 pub each-append : {A : Type 0} (P : A → Type 0) (xs ys : List A) → AllByRecursion P xs → AllByRecursion P ys → AllByRecursion P (xs ++ ys)
 each-append P xs ys h k = grind (arith, common_steps)
 
--- a spelling alone has nothing behind its whitespace
+-- a spelling alone has nothing after its whitespace
 pub spells_alone : (here : List ℕ) (s : SpelledSpan) (h : Spells here s []) → here ≡ h.number_text ++ (h.fraction_text ++ (s.word ++ h.whitespace))
 spells_alone here s h = h.whole ∙ simp append-nil

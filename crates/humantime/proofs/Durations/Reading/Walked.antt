@@ -47,7 +47,7 @@ closes_more xs ys rest (s ∷ ss) h o = rw (ends-append is_whitespace xs ys (beg
 pub first_here : (body rest : List ℕ) (s : SpelledSpan) (ss : List SpelledSpan) (h : SpellsEach body (s ∷ ss)) → Closes body rest → begins is_whitespace rest ≡ false → IsSpanAt (body ++ rest) s (h.0 ++ rest)
 first_here body rest s ss h o e = grind (arith, common_steps, (spelled_here (apart body h.0 s h.1).here (h.0 ++ rest) s (apart body h.0 s h.1).spells (closes_here (apart body h.0 s h.1).here h.0 rest ss h.2 (subst (λ b. Closes b rest) (apart body h.0 s h.1).whole o)) (no_whitespace_before h.0 rest ss h.2 e)))
 
--- whether none was before, behind these spans
+-- whether none was before, once these spans are read
 abbrev pub first_after : Bool → List SpelledSpan → Bool
 first_after first [] = first
 first_after first (s ∷ ss) = false

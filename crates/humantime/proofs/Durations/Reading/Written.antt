@@ -1,4 +1,4 @@
--- A rest that a well formed span begins is a spelling of that span, and then the rest behind it.
+-- A rest that a well formed span begins is a spelling of that span, and then the rest after it.
 use Rattle.std.specs.Prelude.{option_map, unwrap_or}
 use Rattle.std.proofs.Common.{◌≡◌, ◌≢◌, ℕ, ◌<◌, true, false, List, [], ◌∷◌, ◌++◌, length, Some, if◌then◌else◌, refl, arith, append-nil}
 use Rattle.humantime.specs.Texts.{take_while, begins, ends}

@@ -8,7 +8,7 @@ use Rattle.humantime.specs.Durations.Faults.{span_of, Fault}
 use Rattle.humantime.specs.Answers.Walks.{Walk, walk_of, items, sum_spans}
 use Rattle.humantime.specs.Answers.Durations.{duration_answer}
 use Rattle.humantime.specs.Durations.Items.{SpanView, AreSpanViews, items_of, AreItems}
-use Rattle.humantime.specs.Answers.Items.{view_at, item_views, span_in, sum_items}
+use Rattle.humantime.specs.Answers.Items.{view_at, item_views, span_in}
 use Rattle.humantime.proofs.Durations.Reading.Found.{items_found_at}
 use Rattle.humantime.proofs.Durations.Reading.Outcomes.{items_walked, duration_answer-items}
 use Rattle.humantime.proofs.Durations.Reading.SpanWalks.{Steps, by_walk}
@@ -24,14 +24,14 @@ spans_read text [] stop = grind arith
 spans_read text (rest ∷ starts) stop = ap₂ (λ (s : SpelledSpan) (items : List (Result SpelledSpan Fault)). Ok s ∷ items) (spelled_at text rest) (spans_read text starts stop)
 
 -- unless the text is `0`, what its items add up to is its outcome
-sum_items_outcome : (text : List ℕ) → text ≢ bare_zero → sum_items 0 (item_views text) ≡ duration_answer text
+sum_views_outcome : (text : List ℕ) → text ≢ bare_zero → sum_spans 0 (map span_in (item_views text)) ≡ duration_answer text
 unfolding items
-sum_items_outcome text some = ap (sum_spans 0) (spans_read text (walk_of text).starts (walk_of text).stop) ∙ sym (duration_answer-items text some)
+sum_views_outcome text some = ap (sum_spans 0) (spans_read text (walk_of text).starts (walk_of text).stop) ∙ sym (duration_answer-items text some)
 
 -- the same of the text's bytes, since a text whose one character is `0` is that one byte
-pub sum_answers : (bs : List ℕ) → IsUtf8 bs → bs ≢ bare_zero → sum_items 0 (item_views (chars bs)) ≡ duration_answer (chars bs)
+pub sum_answers : (bs : List ℕ) → IsUtf8 bs → bs ≢ bare_zero → sum_spans 0 (map span_in (item_views (chars bs))) ≡ duration_answer (chars bs)
 sum_answers bs u n =
-    sum_items_outcome (chars bs) (λ e. n (sym (encodes-chars bs u) ∙ ap encode_utf8_all e ∙ ap (◌++ []) (encode_ascii 48 (omega arith))))
+    sum_views_outcome (chars bs) (λ e. n (sym (encodes-chars bs u) ∙ ap encode_utf8_all e ∙ ap (◌++ []) (encode_ascii 48 (omega arith))))
 
 -- each span of a walk lends its part, up to what the walk leaves
 abbrev Lends : List ℕ → Bool → List ℕ → Walk → Type 0
@@ -69,4 +69,4 @@ one_span_view text others o =
 pub first_error_answers : (text : List ℕ) (listed others : List (Result SpanView Fault)) (e : Fault) → AreItems text listed
     → listed ≡ Err e ∷ others → text ≢ bare_zero → duration_answer text ≡ Err e
 unfolding sum_spans
-first_error_answers text listed others e a first some = sym (sum_items_outcome text some) ∙ ap (sum_items 0) (sym (one_span_view text listed a) ∙ first)
+first_error_answers text listed others e a first some = sym (sum_views_outcome text some) ∙ ap (λ (items : List (Result SpanView Fault)). sum_spans 0 (map span_in items)) (sym (one_span_view text listed a) ∙ first)

@@ -13,13 +13,13 @@ use Rattle.humantime.specs.Answers.Items.{trimmed, number_slice, fraction_slice}
 use Rattle.humantime.proofs.Durations.Reading.Classes.{whitespace_is, digit_not_whitespace}
 use Rattle.humantime.proofs.Durations.Reading.Runs.{drop_while-append, begins-append, begins_not_nil, begins_other, letters_begin}
 use Rattle.humantime.proofs.Durations.Reading.Spelled.{begins_word, read_spelled}
-use Rattle.humantime.proofs.Durations.Bytes.Trimming.{suc_not_zero, no_slice, slice_behind_point}
+use Rattle.humantime.proofs.Durations.Bytes.Trimming.{suc_not_zero, no_slice, slice_after_point}
 
 drop_whitespace : (cs : List ℕ) → Only is_whitespace cs → drop_trailing_whitespace cs ≡ []
 drop_whitespace [] o = refl
 drop_whitespace (c ∷ cs) o = rw (drop_whitespace cs o.1, whitespace_is c, o.0)
 
--- whitespace behind a digit is all that is dropped
+-- whitespace after a digit is all that is dropped
 drop_tail : (xs tail : List ℕ) → Only is_whitespace tail → ends is_digit xs ≡ true → drop_trailing_whitespace (xs ++ tail) ≡ xs
 drop_tail [] tail o e = cc
 drop_tail (x ∷ []) tail o e = ap₂ (λ (b : Bool) (l : List ℕ). cond (b && eqb (length l) 0) [] (x ∷ l)) (whitespace_is x ∙ digit_not_whitespace x e) (drop_whitespace tail o)
@@ -32,7 +32,7 @@ trimmed_is text slice h = grind (arith, digit_not_whitespace, drop_while-append,
 fraction_found : (b tail : List ℕ) (o f : Option (List ℕ)) → SpellsFraction b o → IsFractionView b f → begins is_letter tail ≡ true → f ≡ fraction_slice (b ++ tail)
 fraction_found b tail (Some ds) (Some slice) h k e =
     let same : h.0 ≡ k.0 = cc in
-    grind (arith, (slice_behind_point h.0 tail h.2.0 e), (trimmed_is k.0 slice k.2), same)
+    grind (arith, (slice_after_point h.0 tail h.2.0 e), (trimmed_is k.0 slice k.2), same)
 fraction_found b tail _ _ h k e = grind (arith, no_slice)
 
 -- What a span lends is found at the rest that it begins.
@@ -51,7 +51,7 @@ slices_found text rest s x next h =
     let fraction = fraction_found k.fraction_text (s.word ++ (k.whitespace ++ next)) s.fraction x.fraction k.fraction h.fraction letter in
     record {
       number = sym (trimmed_is k.number_text x.number h.number) ∙ ap drop_trailing_whitespace (no_whitespace ∙ sym r.number_is);
-      fraction = rw r.behind_is fraction;
+      fraction = rw r.after_is fraction;
       left = rw h.unit r.tail_is;
       starts = rw k.whole (begins-append is_digit k.number_text _ (begins_not_nil is_digit k.number_text k.starts) ∙ k.starts);
     }

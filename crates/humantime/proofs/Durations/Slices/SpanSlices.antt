@@ -15,7 +15,7 @@ use Rattle.humantime.proofs.Durations.Reading.Runs.{take_while-drop_while, Only-
 use Rattle.humantime.proofs.Durations.Reading.Spelled.{next_of, begins_word, read_spelled}
 use Rattle.humantime.proofs.Durations.Reading.Spellings.{spells-append}
 use Rattle.humantime.proofs.Durations.Reading.Written.{written_here}
-use Rattle.humantime.proofs.Durations.Bytes.Trimming.{dropped, digits_drop_while, digit_slice, no_slice, slice_behind_point}
+use Rattle.humantime.proofs.Durations.Bytes.Trimming.{dropped, digits_drop_while, digit_slice, no_slice, slice_after_point}
 
 fewer_bytes : (cs : List ℕ) → byte_length (unwrap_or (option_map after_number (after_point cs)) cs) ≤ byte_length cs
 fewer_bytes cs = grind (arith, common_steps, (take_while-drop_while is_numeric), encodes-append)
@@ -35,7 +35,7 @@ trimmed_slice cs o n =
     grind (arith, slice, (Only-drop_while is_numeric is_whitespace cs o), begins_digit_or_end, begins-drop_while, digits_drop_while, (take_while-drop_while is_whitespace cs))
 
 fraction_is_viewed : (b tail : List ℕ) (o : Option (List ℕ)) → SpellsFraction b o → begins is_letter tail ≡ true → IsFractionView b (fraction_slice (b ++ tail))
-fraction_is_viewed b tail o h k = grind (arith, no_slice, slice_behind_point, trimmed_slice)
+fraction_is_viewed b tail o h k = grind (arith, no_slice, slice_after_point, trimmed_slice)
 
 pub next_bytes : (rest : List ℕ) → begins is_digit rest ≡ true → byte_length (after_word rest) < byte_length rest
 next_bytes rest b =
@@ -59,7 +59,7 @@ is_span_view text rest f =
     record {
       spelled = h;
       number = subst (λ (l : List ℕ). IsDigitSlice l (number_slice rest)) r.number_is number_is;
-      fraction = subst (λ (l : List ℕ). IsFractionView h.fraction_text (fraction_slice l)) (sym r.behind_is) (fraction_is_viewed h.fraction_text tail (fraction_of rest) h.fraction letter);
+      fraction = subst (λ (l : List ℕ). IsFractionView h.fraction_text (fraction_slice l)) (sym r.after_is) (fraction_is_viewed h.fraction_text tail (fraction_of rest) h.fraction letter);
       unit = refl;
       start = refl;
       end = ap (offset_of text) left;

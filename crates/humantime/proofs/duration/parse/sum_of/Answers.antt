@@ -1,5 +1,7 @@
-use Rattle.std.proofs.Common.{◌∙◌, ap, arith, chars}
-use Rattle.humantime.specs.Answers.Items.{sum_items, spelled}
+use Rattle.std.proofs.Common.{◌∙◌, ap, arith, chars, List, Result, map}
+use Rattle.humantime.specs.Answers.Items.{span_in, spelled}
+use Rattle.humantime.specs.Durations.Faults.{Fault}
+use Rattle.humantime.specs.Durations.Items.{SpanView}
 use Rattle.humantime.specs.Answers.Spans.{span_view, items_left}
 use Rattle.humantime.specs.Answers.Walks.{sum_spans}
 use Rattle.humantime.proofs.Durations.Slices.ItemViews.{one_span_view}
@@ -7,7 +9,7 @@ use Rattle.humantime.proofs.duration.parse.sum_of.Goals as goal
 
 pub loop-item-init : goal.loop-item-init
 loop-item-init c = record {
-  so_far = ap (sum_items 0) (one_span_view (chars c.args.text.now) (items_left c.spans-items.result) c.spans-items.ensures.items);
+  so_far = ap (λ (items : List (Result SpanView Fault)). sum_spans 0 (map span_in items)) (one_span_view (chars c.args.text.now) (items_left c.spans-items.result) c.spans-items.ensures.items);
   text = c.spans-items.ensures.text;
 }
 

@@ -1,11 +1,12 @@
-use Rattle.std.proofs.Common.{◌≡◌, chars, length}
-use Rattle.humantime.specs.Answers.Items.{sum_items, item_views}
+use Rattle.std.proofs.Common.{◌≡◌, chars, length, map}
+use Rattle.humantime.specs.Answers.Items.{span_in, item_views}
+use Rattle.humantime.specs.Answers.Walks.{sum_spans}
 use Rattle.humantime.specs.Answers.Spans.{items_left, text_of}
 use Rattle.humantime.proofs.duration.parse.sum_of.Given as goal
 
 abbrev pub invariant-loop-item : goal.invariant-loop-item
 invariant-loop-item l = record {
-  so_far : sum_items l.total (items_left l.items) ≡ sum_items 0 (item_views (chars l.text));
+  so_far : sum_spans l.total (map span_in (items_left l.items)) ≡ sum_spans 0 (map span_in (item_views (chars l.text)));
   text : text_of l.items ≡ l.text;
 }
 
