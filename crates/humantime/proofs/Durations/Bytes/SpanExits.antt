@@ -1,5 +1,5 @@
 -- How reading stops at a rest, by its parts.
-use Rattle.std.specs.Prelude.{length, ◌==◌, ◌<◌, ◌≤◌}
+use Rattle.std.specs.Prelude.{length, ◌==◌, ◌<◌}
 use Rattle.std.proofs.Common.{arith, ◌≡◌, ◌≢◌, ℕ, true, false, List, [], ◌∷◌, Option, Some, None, option_map, refl, sym, chars, Bor, IsUtf8}
 use Rattle.std.proofs.lemmas.Bool.Decides.{nat_tests}
 use Rattle.std.proofs.lemmas.Str.{encodes-chars}

@@ -15,9 +15,6 @@ front_of text rest = take (length text - length rest) text
 pub tail_whole : (text rest : List ℕ) → IsTail text rest → text ≡ front_of text rest ++ rest
 tail_whole text rest t = sym (take-append-drop (length text - length rest) text) ∙ ap (λ (x : List ℕ). front_of text rest ++ x) (sym t.ends)
 
-pub tail_of_tail : (text rest after : List ℕ) → IsTail text rest → IsTail rest after → IsTail text after
-tail_of_tail text rest after t r = grind (arith, common_steps)
-
 -- what follows a place
 pub tail_at : (text rest : List ℕ) (at : ℕ) → IsUtf8 text → IsCharBoundary text at → rest ≡ drop at text → IsTail text rest
 tail_at text rest at u place e =
@@ -27,10 +24,6 @@ tail_at text rest at u place e =
 
 pub tail_boundary : (text rest : List ℕ) → IsTail text rest → IsCharBoundary text (length text - length rest)
 tail_boundary text rest t = grind (arith, common_steps, ap length (tail_whole text rest t), length-append (front_of text rest) rest, IsCharBoundary-at_seam)
-
--- what follows a place in the rest
-pub tail_further : (text rest next : List ℕ) (at : ℕ) → IsTail text rest → IsCharBoundary rest at → next ≡ drop at rest → IsTail text next
-tail_further text rest next at t place e = tail_of_tail text rest next t (tail_at rest next at t.utf8 place e)
 
 -- what stands before a place, where the longest front that passes a test ends there
 pub front_is : (p : ℕ → Bool) (text : List ℕ) (at : ℕ) → IsUtf8 text → IsCharBoundary text at → chars (drop at text) ≡ drop_while p (chars text)

@@ -1,6 +1,6 @@
 use Rattle.std.proofs.Common.{◌≢◌, length, refl, sym, ◌∙◌, arith}
 use Rattle.std.proofs.lemmas.Str.{IsCharBoundary-start}
-use Rattle.humantime.proofs.Durations.Bytes.PlaceSteps.{space_ends, digit_ends, other_goes_on, whitespace_ends}
+use Rattle.humantime.proofs.Durations.Bytes.PlaceSteps.{space_ends, other_goes_on, whitespace_ends}
 use Rattle.humantime.proofs.Durations.Bytes.Tails.{no_bytes, some_chars}
 use Rattle.humantime.proofs.duration.reader.end_span.Goals as goal
 
@@ -18,10 +18,6 @@ returns-then-as_bytes-eq32 c =
 
 pub skip_whitespace_char-requires : goal.skip_whitespace_char-requires
 skip_whitespace_char-requires c = (grind arith, IsCharBoundary-start c.args.after_word.rest.now c.args.after_word.tail.utf8)
-
-pub returns-then-begins_with_digit : goal.returns-then-begins_with_digit
-returns-then-begins_with_digit c =
-    record { ends = digit_ends _ (sym c.begins_with_digit.ensures ∙ c.if-begins_with_digit.true); same = refl; shorter = omega arith; same_text = refl }
 
 pub returns-in_err-len : goal.returns-in_err-len
 returns-in_err-len c =

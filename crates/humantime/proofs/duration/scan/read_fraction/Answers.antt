@@ -2,7 +2,6 @@ use Rattle.std.proofs.Common.{◌≡◌, ◌+◌, ◌++◌, ◌∷◌, [], get_o
 use Rattle.humantime.specs.Texts.{begins}
 use Rattle.humantime.specs.Durations.Characters.{is_numeric}
 use Rattle.humantime.specs.Durations.Faults.{number_of}
-use Rattle.humantime.specs.Steps.Scales.{Counted}
 use Rattle.humantime.proofs.Durations.Reading.Classes.{digit_is}
 use Rattle.humantime.proofs.Durations.Bytes.Numbers.{none_read, read_digit, read_whitespace, stops_here, run_is_read}
 use Rattle.humantime.proofs.Durations.Bytes.FractionDigits.{no_digits}
@@ -15,12 +14,6 @@ loop-at-init c = record { taken = []; read = none_read _ c.args.start.tail.utf8;
 
 pub push-requires-clause-digit : goal.push-requires-clause-digit
 push-requires-clause-digit c = grind (arith, digit_is)
-
-pub push-requires-clause-digits : goal.push-requires-clause-digits
-push-requires-clause-digits c = (c.loop-at.invariant.taken, c.loop-at.invariant.digits)
-
-pub push-requires-clause-room : goal.push-requires-clause-room
-push-requires-clause-room c = omega (arith, ap (λ (x : Counted). x.2) c.loop-at.invariant.digits.parts, c.loop-at.invariant.few)
 
 pub loop-at-preserved-then-is_ascii_digit : goal.loop-at-preserved-then-is_ascii_digit
 loop-at-preserved-then-is_ascii_digit c =

@@ -21,9 +21,6 @@ skip_spaces-at-requires c =
     let some : c.loop-at.at < length c.args.start.rest.now = grind arith in
     (whitespace_over _ _ _ c.args.start.tail.utf8 (some, c.loop-at.invariant.place) c.in-Some.ensures.0 c.in-Some.ensures.1).2.place
 
-pub loop-at-smaller : goal.loop-at-smaller
-loop-at-smaller c = grind arith
-
 pub returns-then-begins_with_digit-clause-rest : goal.returns-then-begins_with_digit-clause-rest
 returns-then-begins_with_digit-clause-rest c = digit_stays _ (sym c.begins_with_digit.ensures ∙ c.if-begins_with_digit.true)
 
