@@ -4,7 +4,7 @@ ghost use Rattle.std.specs.Prelude.{◌≡◌, ◌++◌, [], ◌∷◌, ℕ, Lis
 ghost use Rattle.std.specs.Option.{ForSome};
 ghost use Rattle.humantime.specs.Durations.Characters.{is_digit, u64_max};
 
-use crate::unit::Unit;
+use crate::unit::Scale;
 
 /// How many digits a fraction may have before the zeros at its end.
 const FRACTION_DIGITS: usize = 19;
@@ -42,12 +42,12 @@ pub(crate) struct Fraction {
     pub all: usize,
 }
 
-/// What a span adds: its number, its fraction and its unit.
+/// What a span adds: its number, its fraction and the scale of its unit.
 #[derive(Clone, Copy, Debug)]
 pub(crate) struct Amount {
     pub value: u64,
     pub fraction: Option<Fraction>,
-    pub unit: Unit,
+    pub scale: &'static Scale,
     ghost few: { ForSome fraction (λ f. f.count ≤ 19) },
 }
 

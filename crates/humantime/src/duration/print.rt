@@ -8,8 +8,8 @@ ghost use Rattle.humantime.specs.Steps.ResultViews.{result_view_by};
 
 use crate::buffer::str_prefix;
 use crate::duration::error::DurationError;
-use crate::duration::writer::Writer;
 use crate::duration::parse_duration;
+use crate::duration::writer::Writer;
 use crate::unit::sizes;
 use crate::value::StdDuration;
 use std::fmt;

@@ -6,13 +6,13 @@ ghost use Rattle.humantime.specs.Steps.Scales.{parts_of};
 ghost use Rattle.humantime.specs.Steps.Scanning.{IsTail, BeginsWithDigit, ends_span, number_at, fraction_read};
 ghost use Rattle.humantime.specs.Steps.SpanParts.{IsBehindWord, ReadsSpan};
 
-use crate::duration::error::DurationError;
 use crate::duration::amount::{Amount, Fraction};
+use crate::duration::error::DurationError;
 use crate::duration::scan::{
     begins_with_digit, offset_of, read_fraction, read_number, read_word, skip_whitespace_char,
 };
 use crate::duration::span::Span;
-use crate::unit::unit_of;
+use crate::unit::words::scale_of;
 
 /// Whether this is a point without digits.
 #[inline(always)]
@@ -93,7 +93,7 @@ fn span_by_word<'a>(
     let Some(next) = behind_word(after_word) else {
         return Err(DurationError::InvalidCharacter(end));
     };
-    let Some(unit) = unit_of(word.key) else {
+    let Some(scale) = scale_of(word.key) else {
         return Err(DurationError::UnknownUnit {
             start: offset_of(text, after_fraction),
             end,
@@ -104,7 +104,7 @@ fn span_by_word<'a>(
     let amount = Amount {
         value,
         fraction,
-        unit,
+        scale,
     };
     Ok((
         Span {

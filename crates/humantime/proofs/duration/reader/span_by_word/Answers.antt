@@ -38,14 +38,14 @@ returns-in_default-behind_word c =
       fine = tt;
     }
 
-pub returns-in_default-unit_of : goal.returns-in_default-unit_of
-returns-in_default-unit_of c =
+pub returns-in_default-scale_of : goal.returns-in_default-scale_of
+returns-in_default-scale_of c =
     let p = are_read _ _ _ _ _ _ _ c.requires.number c.requires.fraction in
     let word = c.in-Some.ensures in
     let behind = tail_of_tail _ _ _ c.requires.tail (tail_of_tail _ _ _ c.requires.behind_number c.requires.behind_fraction) in record {
       stop = exit_unit _ _ _ _ _ _ _ _ _ p.0 p.6 word.begun p.4 (sym c.has_no_digits-bare.ensures ∙ c.if-bare.false) word.after c.in-Some-behind_word.ensures.ends
-          word.utf8 word.letters (sym (c.in_default-unit_of.ensures ∙ c.in-Some.word.scale)) c.offset_of-in_default-unit_of.ensures.value c.offset_of-end.ensures.value p.1;
-      place = part_of_rests _ _ _ _ _ _ c.utf8.text behind (tail_of_tail _ _ _ behind word.tail) word.whole c.offset_of-in_default-unit_of.ensures.value c.offset_of-end.ensures.value;
+          word.utf8 word.letters (sym (c.in_default-scale_of.ensures ∙ c.in-Some.word.scale)) c.offset_of-in_default-scale_of.ensures.value c.offset_of-end.ensures.value p.1;
+      place = part_of_rests _ _ _ _ _ _ c.utf8.text behind (tail_of_tail _ _ _ behind word.tail) word.whole c.offset_of-in_default-scale_of.ensures.value c.offset_of-end.ensures.value;
       fine = tt;
     }
 
@@ -58,7 +58,7 @@ returns c =
     let left = c.in-Some-behind_word.ensures in
     let after = word.after ∙ ap (drop_while is_letter) p.6 in record {
       stop = exit_fine _ _ _ _ _ _ _ p.0 p.6 word.begun p.4 (sym c.has_no_digits-bare.ensures ∙ c.if-bare.false) word.after left.ends
-          word.letters (sym (c.in-Some-unit_of.ensures ∙ c.in-Some.word.scale));
+          word.letters (sym (c.in-Some-scale_of.ensures ∙ c.in-Some.word.scale));
       place = tt;
       fine = record {
         view = view_read _ _ _ _ _ _ _ _ p.2 p.5 (word.letters ∙ ap (take_while is_letter) p.6) c.offset_of-start.ensures.value (c.offset_of-end.ensures.value ∙ ap (offset_of _) after) p.1;
@@ -75,7 +75,7 @@ invariant_of-result c =
     let letters = c.in-Some.ensures.letters ∙ ap (take_while is_letter) p.6 in
     record {
       read = rw (spelled_read _ _ _ c.args.read_fraction.1 p.2 letters p.5)
-          (record { unit = sym (c.in-Some-unit_of.ensures ∙ c.in-Some.word.scale ∙ ap scale_of_word letters); value = p.1; fraction = p.4 });
+          (record { scale = sym (c.in-Some-scale_of.ensures ∙ c.in-Some.word.scale ∙ ap scale_of_word letters); value = p.1; fraction = p.4 });
     }
 
 pub offset_of-requires : goal.offset_of-requires
@@ -88,5 +88,5 @@ pub offset_of-end-requires : goal.offset_of-end-requires
 offset_of-end-requires c =
     tail_of_tail _ _ _ (tail_of_tail _ _ _ c.requires.tail (tail_of_tail _ _ _ c.requires.behind_number c.requires.behind_fraction)) c.in-Some.ensures.tail
 
-pub offset_of-requires-in_default-unit_of : goal.offset_of-requires-in_default-unit_of
-offset_of-requires-in_default-unit_of c = tail_of_tail _ _ _ c.requires.tail (tail_of_tail _ _ _ c.requires.behind_number c.requires.behind_fraction)
+pub offset_of-requires-in_default-scale_of : goal.offset_of-requires-in_default-scale_of
+offset_of-requires-in_default-scale_of c = tail_of_tail _ _ _ c.requires.tail (tail_of_tail _ _ _ c.requires.behind_number c.requires.behind_fraction)
