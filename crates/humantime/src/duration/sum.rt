@@ -62,9 +62,16 @@ fn add_part(sum: StdDuration, one: Option<Addition>, fraction: Fraction) -> Opti
 pub(crate) fn add_amount(total: StdDuration, amount: Amount) -> Option<StdDuration>
     ensures { (s : Span) → IsAmountOf amount s → result ≡ add_span total s }
 {
-    let sum = add_times(total, amount.scale.one, amount.value)?;
+    let (count, one) = (amount.value, amount.scale.one);
+    // Each path adds the number itself, so that a span without a fraction need not ask for it again.
     match amount.fraction {
-        None => Some(sum),
-        Some(fraction) => add_part(sum, amount.scale.fraction, fraction),
+        None => add_times(total, one, count),
+        Some(fraction) => {
+            add_part(
+                add_times(total, one, count)?,
+                amount.scale.fraction,
+                fraction,
+            )
+        }
     }
 }
