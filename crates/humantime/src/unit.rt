@@ -3,14 +3,14 @@
 pub(crate) mod sizes;
 pub(crate) mod words;
 
-/// An amount of time that is added to a duration.
+/// A number of nanoseconds or seconds to add to a duration.
 #[derive(Clone, Copy, Debug)]
 pub(crate) enum Addition {
     Nanos(u64),
     Seconds(u64),
 }
 
-/// What one of a unit adds, and what its fractions are parts of, if it has any.
+/// How a unit counts: `one` of it, and what a fraction of it is a part of, or `None` if it has no fractions.
 #[derive(Clone, Copy, Debug)]
 pub(crate) struct Scale {
     pub one: Addition,

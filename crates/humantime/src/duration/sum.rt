@@ -11,8 +11,8 @@ use crate::duration::amount::{Amount, Fraction, power_of_ten};
 use crate::unit::Addition;
 use crate::value::StdDuration;
 
-/// The product, where it fits. It is made in 128 bits, as `checked_mul` has a limit for each factor, which Rattle's own compiler
-/// puts on the stack before the loop over spans.
+/// Returns the product, or `None` on overflow. It is computed in 128 bits: for `checked_mul` Rattle's own compiler keeps a limit for
+/// each factor on the stack.
 #[inline(always)]
 fn product(value: u64, factor: u64) -> Option<u64>
     ensures { SomeIff result (value * factor ≤ u64_max) (value * factor) }
@@ -20,7 +20,7 @@ fn product(value: u64, factor: u64) -> Option<u64>
     u64::try_from(value as u128 * factor as u128).ok()
 }
 
-/// The sum with so many times an addition.
+/// Returns the sum plus `count` times an addition, or `None` on overflow.
 #[inline(always)]
 fn add_times(sum: StdDuration, one: Addition, count: u64) -> Option<StdDuration>
     ensures { result ≡ steps.add_times sum one count }
@@ -31,7 +31,7 @@ fn add_times(sum: StdDuration, one: Addition, count: u64) -> Option<StdDuration>
     }
 }
 
-/// The part of the factor that the fraction is, where it is whole and the product fits.
+/// Returns the fraction times the factor, or `None` if that is not a whole number, or on overflow.
 #[tactic(auto, using(crate::proofs::Durations::Bytes::Additions::power_positive))]
 fn part_of(fraction: Fraction, factor: u64) -> Option<u64>
     requires { fraction.count ≤ 19 }
@@ -45,7 +45,8 @@ fn part_of(fraction: Fraction, factor: u64) -> Option<u64>
     Some(product / power)
 }
 
-/// The sum with the part of an addition that a fraction is. Where the unit has no fractions, only zeros are added.
+/// Returns the sum plus a fraction of an addition, or `None` if that is not a whole number, or on overflow. A unit without fractions
+/// takes one whose digits are all zeros.
 fn add_part(sum: StdDuration, one: Option<Addition>, fraction: Fraction) -> Option<StdDuration>
     requires { fraction.count ≤ 19 }
     ensures { result ≡ steps.add_part sum one fraction.value fraction.count }
@@ -57,13 +58,13 @@ fn add_part(sum: StdDuration, one: Option<Addition>, fraction: Fraction) -> Opti
     }
 }
 
-/// The sum with a span: first its number, then its fraction.
+/// Returns the sum plus what a span adds, first its number, then its fraction, or `None` if that breaks a limit.
 #[inline(always)]
 pub(crate) fn add_amount(total: StdDuration, amount: Amount) -> Option<StdDuration>
     ensures { (s : Span) → IsAmountOf amount s → result ≡ add_span total s }
 {
     let (count, one) = (amount.value, amount.scale.one);
-    // Each path adds the number itself, so that a span without a fraction need not ask for it again.
+    // `add_times` stands in both arms, so that it is inlined twice and a span without a fraction is not asked for one again.
     match amount.fraction {
         None => add_times(total, one, count),
         Some(fraction) => {

@@ -1,23 +1,23 @@
 //! The words of the units.
 //!
-//! A word is looked up by its key, a number that is made of its bytes. The bytes are digits to base 256, the first the highest, behind
-//! a leading 1.
+//! A word is looked up by its key, a number whose digits to base 256 are a 1 and then the word's bytes. "Adding a unit or a word" in
+//! docs/CONTRIBUTING.md says what else changes with a row of this table.
 
 ghost use Rattle.std.specs.Prelude.{◌≡◌, ◌+◌, ◌*◌, ◌^◌, ◌<◌, option_map};
 ghost use Rattle.humantime.specs.Steps.Keys.{scale_of_key};
 
 use crate::unit::{Addition, Scale, sizes};
 
-/// The number of bytes that a word has at most, as its key is a `u64`.
+/// The maximum number of bytes in a word, so that its key fits a `u64`.
 pub(crate) const MAX_BYTES: usize = 7;
 
 /// The key of a word without letters.
 pub(crate) const EMPTY_KEY: u64 = 1;
 
-/// The key of each word of more than [`MAX_BYTES`] bytes, which is no unit's.
+/// The key of every word of more than [`MAX_BYTES`] bytes. No unit has it.
 pub(crate) const NO_UNIT: u64 = 0;
 
-/// The key of a word. A word of more than [`MAX_BYTES`] bytes is refused where it is written: its key would overflow a `u64`.
+/// The key of a word, computed at compile time. A word of more than [`MAX_BYTES`] bytes does not compile: its key would overflow.
 macro_rules! key {
     ($word:literal) => { key!(@ 1; $word; 0 1 2 3 4 5 6 7) };
     (@ $key:expr; $word:literal;) => { $key };
@@ -26,22 +26,23 @@ macro_rules! key {
     };
 }
 
-/// The scale of a nanosecond, which has no fractions.
+/// The scale of a nanosecond, which has no fractions. This and the next three are macros, since a reference to a constant is `'static`,
+/// and one to what a function returns is not.
 macro_rules! whole_nanos {
     () => { Scale { one: Addition::Nanos(1), fraction: None } };
 }
 
-/// The scale of a unit of so many nanoseconds, whose fractions count in nanoseconds.
+/// The scale of a unit of `size` nanoseconds, whose fractions are whole nanoseconds.
 macro_rules! in_nanos {
     ($size:expr) => { Scale { one: Addition::Nanos($size), fraction: Some(Addition::Nanos($size)) } };
 }
 
-/// The scale of a unit of so many seconds, whose fractions count in nanoseconds.
+/// The scale of a unit of `size` seconds, whose fractions are whole nanoseconds.
 macro_rules! in_seconds_and_nanos {
     ($size:expr) => { Scale { one: Addition::Seconds($size), fraction: Some(Addition::Nanos($size * sizes::NANOS_PER_SECOND as u64)) } };
 }
 
-/// The scale of a unit of so many seconds, whose fractions count in seconds.
+/// The scale of a unit of `size` seconds, whose fractions are whole seconds.
 macro_rules! in_seconds {
     ($size:expr) => { Scale { one: Addition::Seconds($size), fraction: Some(Addition::Seconds($size)) } };
 }
