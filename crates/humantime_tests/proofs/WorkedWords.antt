@@ -1,5 +1,5 @@
--- The words of the ten units, what one of each is and what a half of it is, by computation.
-use Rattle.std.proofs.Common.{◌≡◌, ℕ, List, [], ◌∷◌, ◌++◌, length, Result, Ok, Err, map, flat_map, refl}
+-- The words of the units, what one of each is and what a half of it is, by computation.
+use Rattle.std.proofs.Common.{◌≡◌, ℕ, List, [], ◌∷◌, ◌++◌, Result, Ok, Err, map, flat_map, refl}
 use Rattle.std.specs.Prelude.{codes}
 use Rattle.humantime.specs.Durations.Faults.{Fault, NumberOverflow}
 use Rattle.humantime.specs.Durations.Units.{words}
@@ -32,9 +32,6 @@ units =
 -- the units' words are these, and no others
 all_words : map (λ w. w.0) words ≡ flat_map (λ u. u.spellings) units
 all_words = refl
-
-forty_one : length words ≡ 41
-forty_one = refl
 
 -- what a text reads as with each word behind it, and what is said of each word
 abbrev answers : List ℕ → List (Result ℕ Fault)

@@ -7,10 +7,10 @@ use Rattle.humantime.specs.Durations.Units.{Addition, Nanos, Seconds, Scale, sca
 use Rattle.humantime.specs.Durations.Spans.{SpelledSpan, Reads}
 use Rattle.humantime.specs.Values.{nanos_per_second}
 
--- Gives the number of an addition, whatever it counts.
-abbrev pub amount : Addition → ℕ
-amount (Nanos n) = n
-amount (Seconds n) = n
+-- Gives the size of an addition, a number of nanoseconds or of seconds.
+abbrev pub size : Addition → ℕ
+size (Nanos n) = n
+size (Seconds n) = n
 
 -- Gives an addition in nanoseconds.
 abbrev pub addition_nanos : Addition → ℕ
@@ -28,11 +28,11 @@ of_kind (Seconds _) n = Seconds n
 
 -- Multiplies an addition by `n`.
 abbrev pub times : ℕ → Addition → Addition
-times n x = of_kind x (n * amount x)
+times n x = of_kind x (n * size x)
 
 -- Gives the part of an addition that the digits after a point stand for, rounded down.
 abbrev pub part : List ℕ → Addition → Addition
-part ds x = of_kind x (decimal_value ds * amount x / 10 ^ length ds)
+part ds x = of_kind x (decimal_value ds * size x / 10 ^ length ds)
 
 -- Gives what a fraction adds, where there is one and its unit has fractions.
 abbrev pub fraction_additions : Option Addition → Option (List ℕ) → List Addition
@@ -82,11 +82,11 @@ is_whole_part n ds = fits_u64 (decimal_value ds * n) && (decimal_value ds * n % 
 abbrev pub fraction_fits : Option Addition → Option (List ℕ) → Bool
 fraction_fits _ None = true
 fraction_fits None (Some ds) = length (significant ds) == 0
-fraction_fits (Some x) (Some ds) = is_whole_part (amount x) (significant ds)
+fraction_fits (Some x) (Some ds) = is_whole_part (size x) (significant ds)
 
 -- Tests for a unit's word, number times unit within a `u64`, and a fraction that fits.
 abbrev pub fits : SpelledSpan → Bool
-fits s = is_some_and (λ u. fits_u64 (decimal_value s.number * amount u.one) && fraction_fits u.fraction s.fraction)
+fits s = is_some_and (λ u. fits_u64 (decimal_value s.number * size u.one) && fraction_fits u.fraction s.fraction)
     (scale_of_word s.word)
 
 -- Tests whether an addition can follow a sum of `t` nanoseconds: the whole seconds of the new sum fit a `u64`. So do nanoseconds that are

@@ -1,18 +1,12 @@
--- The words of units.
+-- The words of units, and the scale of each: what one of the unit adds, and perhaps what its fractions are parts of. An addition is
+-- nanoseconds or seconds.
 use Rattle.std.specs.Prelude.{ℕ, ◌*◌, List, [], ◌∷◌, ◌++◌, map, Option, Some, None, codes, bytes_eq}
 use Rattle.std.specs.Map.{lookup}
+pub use Rattle.humantime.specs.declared.unit.Addition.{Addition}
+pub use Rattle.humantime.specs.declared.unit.Addition.TheVariants.{Nanos, Seconds}
+pub use Rattle.humantime.specs.declared.unit.Scale.{Scale}
 use Rattle.humantime.specs.Values.{nanos_per_micro, nanos_per_milli, nanos_per_second, seconds_per_minute, seconds_per_hour, seconds_per_day, seconds_per_week, seconds_per_month, seconds_per_year}
 use Rattle.humantime.specs.Durations.Characters.{micro_sign, greek_mu}
-
--- An addition is nanoseconds or seconds.
-pub data Addition : Type 0 where
-  Nanos : ℕ → Addition
-  Seconds : ℕ → Addition
-
--- A scale has a unit's addition, and perhaps one for its fractions.
-pub record Scale : Type 0 where
-  pub one : Addition
-  pub fraction : Option Addition
 
 -- One nanosecond is added, and has no fractions.
 abbrev pub whole_nanos : Scale
@@ -34,7 +28,7 @@ in_seconds size = record { one = Seconds size; fraction = Some (Seconds size) }
 abbrev unit_words : List (List ℕ) → Scale → List (List ℕ × Scale)
 unit_words spellings scale = map (λ word. (word, scale)) spellings
 
--- Lists the ten units' words with their scales.
+-- Lists the units' words with their scales.
 abbrev pub words : List (List ℕ × Scale)
 words =
     unit_words (codes "nanos" ∷ codes "nsec" ∷ codes "ns" ∷ []) whole_nanos

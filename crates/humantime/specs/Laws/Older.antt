@@ -6,15 +6,15 @@ use Rattle.humantime.specs.Texts.{decimal_value}
 use Rattle.humantime.specs.Durations.Characters.{u64_max, bare_zero}
 use Rattle.humantime.specs.Answers.Durations.{duration_answer}
 use Rattle.humantime.specs.Durations.Units.{Addition, Scale, scale_of_word}
-use Rattle.humantime.specs.Durations.Spans.{SpelledSpan, Reads}
-use Rattle.humantime.specs.Durations.Accepted.{amount, additions, value, is_whole_part, AllHaveRoom, Accepted}
+use Rattle.humantime.specs.Durations.Spans.{SpelledSpan, Only, Reads}
+use Rattle.humantime.specs.Durations.Accepted.{size, additions, value, is_whole_part, AllHaveRoom, Accepted}
 
 -- While zeros at its end counted, a fraction had at most 19 digits and was a whole number of nanoseconds or of seconds; nanoseconds had
 -- none.
 abbrev pub OlderFraction : Option Addition → Option (List ℕ) → Type 0
 OlderFraction _ None = ⊤
 OlderFraction None (Some ds) = ⊥
-OlderFraction (Some x) (Some ds) = (length ds ≤ 19) × (is_whole_part (amount x) ds ≡ true)
+OlderFraction (Some x) (Some ds) = (length ds ≤ 19) × (is_whole_part (size x) ds ≡ true)
 
 -- The word was a unit's, the number and its product with the unit were at most the greatest `u64`, and the fraction kept its limits with
 -- each of its digits.
@@ -22,7 +22,7 @@ pub record OlderFormed (s : SpelledSpan) : Type 0 where
   pub unit : Scale
   pub word : scale_of_word s.word ≡ Some unit
   pub number : decimal_value s.number ≤ u64_max
-  pub product : decimal_value s.number * amount unit.one ≤ u64_max
+  pub product : decimal_value s.number * size unit.one ≤ u64_max
   pub fraction : OlderFraction unit.fraction s.fraction
 
 -- While zeros at the end of a fraction counted, the text stood for `v` nanoseconds.

@@ -1,6 +1,7 @@
--- A short word as one number, its key.
+-- A word as one number, its key.
 use Rattle.std.specs.Prelude.{ℕ, ◌+◌, ◌*◌, ◌==◌, List, [], ◌∷◌, Option, length, reverse, nat_lt, if◌then◌else◌}
 use Rattle.std.specs.Map.{lookup}
+use Rattle.humantime.specs.declared.unit.words.TheConstants.{MAX_BYTES}
 use Rattle.humantime.specs.Durations.Characters.{micro_sign, greek_mu}
 use Rattle.humantime.specs.Durations.Units.{Scale, words}
 
@@ -9,9 +10,9 @@ abbrev pub packed : List ℕ → ℕ
 packed [] = 1
 packed (b ∷ bs) = packed bs * 256 + b
 
--- that number for the bytes of a word, the first the highest, where they are at most seven, else 0
+-- that number for the bytes of a word, the first the highest, where they are at most `MAX_BYTES`, else 0
 abbrev pub key : List ℕ → ℕ
-key bs = if nat_lt 7 (length bs) then 0 else packed (reverse bs)
+key bs = if nat_lt MAX_BYTES (length bs) then 0 else packed (reverse bs)
 
 -- the bytes of a word whose letters are ASCII, save the micro sign and the Greek letter mu
 abbrev pub bytes_of : List ℕ → List ℕ

@@ -4,7 +4,7 @@ ghost use Rattle.std.specs.Prelude.{◌≡◌, ◌++◌, [], ◌∷◌, ℕ, Lis
 ghost use Rattle.std.specs.Option.{ForSome};
 ghost use Rattle.humantime.specs.Durations.Characters.{is_digit, u64_max};
 
-use crate::unit::Unit;
+use crate::unit::Scale;
 
 /// The maximum number of digits of a fraction, without trailing zeros.
 const MAX_FRACTION_DIGITS: usize = 19;
@@ -44,12 +44,12 @@ pub(crate) struct Fraction {
     pub len: usize,
 }
 
-/// What a span adds: its number, its fraction and its unit.
+/// What a span adds: its number, its fraction and the scale of its unit.
 #[derive(Clone, Copy, Debug)]
 pub(crate) struct Amount {
     pub value: u64,
     pub fraction: Option<Fraction>,
-    pub unit: Unit,
+    pub scale: &'static Scale,
     ghost few: { ForSome fraction (λ f. f.significant ≤ 19) },
 }
 

@@ -21,7 +21,7 @@ use crate::duration::scan::{
     skip_point, skip_whitespace_char,
 };
 use crate::duration::span::Span;
-use crate::unit::unit_of;
+use crate::unit::words::scale_of;
 
 /// A number and the fraction after it, if there is one.
 #[derive(Clone, Copy)]
@@ -153,7 +153,7 @@ fn complete_span<'a>(decimal: Decimal<'a>) -> Result<(Span<'a>, Cursor<'a>), Dur
     let Some(next) = end_span(after_word) else {
         return Err(DurationError::InvalidCharacter(after_word.offset()));
     };
-    let Some(unit) = unit_of(word.key) else {
+    let Some(scale) = scale_of(word.key) else {
         return Err(DurationError::UnknownUnit {
             start: end.offset(),
             end: after_word.offset(),
@@ -170,7 +170,7 @@ fn complete_span<'a>(decimal: Decimal<'a>) -> Result<(Span<'a>, Cursor<'a>), Dur
         amount: Amount {
             value: number.value,
             fraction: decimal.fraction(),
-            unit,
+            scale,
         },
     };
     Ok((span, next))

@@ -8,12 +8,13 @@ ghost use Rattle.humantime.specs.Durations.Errors.{IsPlaceIn};
 ghost use Rattle.humantime.specs.Durations.Faults.{number_of, after_point};
 ghost use Rattle.humantime.specs.Durations.Units.{scale_of_word};
 ghost use Rattle.humantime.specs.Steps.Cursors.{ahead, IsNumericRun};
+ghost use Rattle.humantime.specs.declared.unit.words.TheConstants.{MAX_BYTES};
 ghost use Rattle.humantime.specs.Steps.Keys.{packed, scale_of_key};
 ghost use Rattle.humantime.specs.Steps.Scanning.{AreDigits, SkipsWhitespace, whitespace_len, begins_no_word, IsWordOf};
 
 use crate::duration::amount::{Fraction, push_digit};
 use crate::duration::cursor::Cursor;
-use crate::unit::{EMPTY_KEY, MOST_BYTES, NO_UNIT};
+use crate::unit::words::{EMPTY_KEY, MAX_BYTES, NO_UNIT, push_byte};
 
 /// The largest number whose product with 10 fits in a `u64`.
 const MAX_TIMES_TEN: u64 = u64::MAX / 10;
@@ -223,24 +224,23 @@ pub(crate) struct Word<'a> {
 }
 
 /// The place after the letters at the front of the text, and the key of the bytes before it, where they are few. The key of more
-/// than seven bytes wraps around, and says nothing.
+/// than [`MAX_BYTES`] bytes wraps around, and says nothing.
 #[inline(always)]
 #[tactic(auto, using(crate::proofs::Durations::Bytes::Tails::no_chars_at))]
 fn letters_end(text: &str) -> (usize, u64)
     ensures place { IsCharBoundary text.now result.0 }
     ensures rest { chars (drop result.0 text.now) ≡ drop_while is_letter (chars text.now) }
-    ensures key { result.0 ≤ 7 → result.1 ≡ packed (reverse (take result.0 text.now)) }
+    ensures key { result.0 ≤ MAX_BYTES → result.1 ≡ packed (reverse (take result.0 text.now)) }
 {
     let bytes = text.as_bytes();
     let mut key = EMPTY_KEY;
     let mut at = 0;
     while at < bytes.len() {
         if bytes[at].is_ascii_alphabetic() {
-            key = key.wrapping_mul(256).wrapping_add(bytes[at] as u64);
+            key = push_byte(key, bytes[at]);
             at += 1;
         } else if bytes[at] >= 0x80 && at + 1 < bytes.len() && is_mu(bytes[at], bytes[at + 1]) {
-            let first = key.wrapping_mul(256).wrapping_add(bytes[at] as u64);
-            key = first.wrapping_mul(256).wrapping_add(bytes[at + 1] as u64);
+            key = push_byte(push_byte(key, bytes[at]), bytes[at + 1]);
             at += 2;
         } else {
             break;
@@ -264,6 +264,6 @@ pub(crate) fn read_word<'a>(text: &'a str) -> Option<(Word<'a>, &'a str)>
         return None;
     }
     let letters = &text[..end];
-    let key = if end > MOST_BYTES { NO_UNIT } else { key };
+    let key = if end > MAX_BYTES { NO_UNIT } else { key };
     Some((Word { letters, key }, &text[end..]))
 }

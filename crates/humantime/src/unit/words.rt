@@ -1,90 +1,161 @@
-//! The keys of the units' words.
+//! The words of the units.
+//!
+//! A word is looked up by its key, a number whose digits to base 256 are a 1 and then the word's bytes. "Adding a unit or a word" in
+//! docs/CONTRIBUTING.md says what else changes with a row of this table.
 
-/// The key of a word that is written out by its bytes.
+ghost use Rattle.std.specs.Prelude.{◌≡◌, ◌+◌, ◌*◌, ◌^◌, ◌<◌, option_map};
+ghost use Rattle.humantime.specs.Steps.Keys.{scale_of_key};
+
+use crate::unit::{Addition, Scale, sizes};
+
+/// The maximum number of bytes in a word, so that its key fits a `u64`.
+pub(crate) const MAX_BYTES: usize = 7;
+
+/// The key of a word without letters.
+pub(crate) const EMPTY_KEY: u64 = 1;
+
+/// The key of every word of more than [`MAX_BYTES`] bytes. No unit has it.
+pub(crate) const NO_UNIT: u64 = 0;
+
+/// The key of a word, computed at compile time. A word of more than [`MAX_BYTES`] bytes does not compile: its key would overflow.
 macro_rules! key {
-    ($($byte:literal)*) => { key!(@ 1; $($byte)*) };
-    (@ $key:expr;) => { $key };
-    (@ $key:expr; $first:literal $($rest:literal)*) => { key!(@ $key * 256 + $first as u64; $($rest)*) };
+    ($word:literal) => { key!(@ 1; $word; 0 1 2 3 4 5 6 7) };
+    (@ $key:expr; $word:literal;) => { $key };
+    (@ $key:expr; $word:literal; $at:literal $($later:literal)*) => {
+        key!(@ $key * (if $at < $word.len() { 256 } else { 1 }) + (if $at < $word.len() { $word[$at] as u64 } else { 0 }); $word; $($later)*)
+    };
 }
 
-pub(crate) const NANOS: u64 = key!('n' 'a' 'n' 'o' 's');
+/// The scale of a nanosecond, which has no fractions. This and the next three are macros, since a reference to a constant is `'static`,
+/// and one to what a function returns is not.
+macro_rules! whole_nanos {
+    () => { Scale { one: Addition::Nanos(1), fraction: None } };
+}
 
-pub(crate) const NSEC: u64 = key!('n' 's' 'e' 'c');
+/// The scale of a unit of `size` nanoseconds, whose fractions are whole nanoseconds.
+macro_rules! in_nanos {
+    ($size:expr) => { Scale { one: Addition::Nanos($size), fraction: Some(Addition::Nanos($size)) } };
+}
 
-pub(crate) const NS: u64 = key!('n' 's');
+/// The scale of a unit of `size` seconds, whose fractions are whole nanoseconds.
+macro_rules! in_seconds_and_nanos {
+    ($size:expr) => { Scale { one: Addition::Seconds($size), fraction: Some(Addition::Nanos($size * sizes::NANOS_PER_SECOND as u64)) } };
+}
 
-pub(crate) const USEC: u64 = key!('u' 's' 'e' 'c');
+/// The scale of a unit of `size` seconds, whose fractions are whole seconds.
+macro_rules! in_seconds {
+    ($size:expr) => { Scale { one: Addition::Seconds($size), fraction: Some(Addition::Seconds($size)) } };
+}
 
-pub(crate) const US: u64 = key!('u' 's');
+const NANOS: u64 = key!(b"nanos");
 
-pub(crate) const MICRO_S: u64 = key!(0xc2 0xb5 's');
+const NSEC: u64 = key!(b"nsec");
 
-pub(crate) const MU_S: u64 = key!(0xce 0xbc 's');
+const NS: u64 = key!(b"ns");
 
-pub(crate) const MILLIS: u64 = key!('m' 'i' 'l' 'l' 'i' 's');
+const USEC: u64 = key!(b"usec");
 
-pub(crate) const MSEC: u64 = key!('m' 's' 'e' 'c');
+const US: u64 = key!(b"us");
 
-pub(crate) const MS: u64 = key!('m' 's');
+const MICRO_S: u64 = key!(b"\xc2\xb5s");
 
-pub(crate) const SECONDS: u64 = key!('s' 'e' 'c' 'o' 'n' 'd' 's');
+const MU_S: u64 = key!(b"\xce\xbcs");
 
-pub(crate) const SECOND: u64 = key!('s' 'e' 'c' 'o' 'n' 'd');
+const MILLIS: u64 = key!(b"millis");
 
-pub(crate) const SECS: u64 = key!('s' 'e' 'c' 's');
+const MSEC: u64 = key!(b"msec");
 
-pub(crate) const SEC: u64 = key!('s' 'e' 'c');
+const MS: u64 = key!(b"ms");
 
-pub(crate) const S: u64 = key!('s');
+const SECONDS: u64 = key!(b"seconds");
 
-pub(crate) const MINUTES: u64 = key!('m' 'i' 'n' 'u' 't' 'e' 's');
+const SECOND: u64 = key!(b"second");
 
-pub(crate) const MINUTE: u64 = key!('m' 'i' 'n' 'u' 't' 'e');
+const SECS: u64 = key!(b"secs");
 
-pub(crate) const MIN: u64 = key!('m' 'i' 'n');
+const SEC: u64 = key!(b"sec");
 
-pub(crate) const MINS: u64 = key!('m' 'i' 'n' 's');
+const S: u64 = key!(b"s");
 
-pub(crate) const M: u64 = key!('m');
+const MINUTES: u64 = key!(b"minutes");
 
-pub(crate) const HOURS: u64 = key!('h' 'o' 'u' 'r' 's');
+const MINUTE: u64 = key!(b"minute");
 
-pub(crate) const HOUR: u64 = key!('h' 'o' 'u' 'r');
+const MIN: u64 = key!(b"min");
 
-pub(crate) const HR: u64 = key!('h' 'r');
+const MINS: u64 = key!(b"mins");
 
-pub(crate) const HRS: u64 = key!('h' 'r' 's');
+const M: u64 = key!(b"m");
 
-pub(crate) const H: u64 = key!('h');
+const HOURS: u64 = key!(b"hours");
 
-pub(crate) const DAYS: u64 = key!('d' 'a' 'y' 's');
+const HOUR: u64 = key!(b"hour");
 
-pub(crate) const DAY: u64 = key!('d' 'a' 'y');
+const HR: u64 = key!(b"hr");
 
-pub(crate) const D: u64 = key!('d');
+const HRS: u64 = key!(b"hrs");
 
-pub(crate) const WEEKS: u64 = key!('w' 'e' 'e' 'k' 's');
+const H: u64 = key!(b"h");
 
-pub(crate) const WEEK: u64 = key!('w' 'e' 'e' 'k');
+const DAYS: u64 = key!(b"days");
 
-pub(crate) const WK: u64 = key!('w' 'k');
+const DAY: u64 = key!(b"day");
 
-pub(crate) const WKS: u64 = key!('w' 'k' 's');
+const D: u64 = key!(b"d");
 
-pub(crate) const W: u64 = key!('w');
+const WEEKS: u64 = key!(b"weeks");
 
-pub(crate) const MONTHS: u64 = key!('m' 'o' 'n' 't' 'h' 's');
+const WEEK: u64 = key!(b"week");
 
-pub(crate) const MONTH: u64 = key!('m' 'o' 'n' 't' 'h');
+const WK: u64 = key!(b"wk");
 
-pub(crate) const CAPITAL_M: u64 = key!('M');
+const WKS: u64 = key!(b"wks");
 
-pub(crate) const YEARS: u64 = key!('y' 'e' 'a' 'r' 's');
+const W: u64 = key!(b"w");
 
-pub(crate) const YEAR: u64 = key!('y' 'e' 'a' 'r');
+const MONTHS: u64 = key!(b"months");
 
-pub(crate) const YR: u64 = key!('y' 'r');
+const MONTH: u64 = key!(b"month");
 
-pub(crate) const YRS: u64 = key!('y' 'r' 's');
+const CAPITAL_M: u64 = key!(b"M");
 
-pub(crate) const Y: u64 = key!('y');
+const YEARS: u64 = key!(b"years");
+
+const YEAR: u64 = key!(b"year");
+
+const YR: u64 = key!(b"yr");
+
+const YRS: u64 = key!(b"yrs");
+
+const Y: u64 = key!(b"y");
+
+/// Returns the key of a word with one more byte. It wraps around where the word has more than [`MAX_BYTES`] bytes.
+#[inline(always)]
+pub(crate) fn push_byte(key: u64, byte: u8) -> u64
+    ensures { key < 2 ^ 56 → result ≡ key * 256 + byte }
+{
+    key.wrapping_mul(256).wrapping_add(byte as u64)
+}
+
+/// Returns the scale of the unit whose word has this key, if there is one.
+#[inline(always)]
+#[tactic(auto, unfolding(crate::specs::Steps::Keys::scale_of_key))]
+pub(crate) fn scale_of(key: u64) -> Option<&'static Scale>
+    ensures { option_map (λ s. s.now) result ≡ scale_of_key key }
+{
+    match key {
+        NANOS | NSEC | NS => Some(&whole_nanos!()),
+        USEC | US | MICRO_S | MU_S => Some(&in_nanos!(sizes::NANOS_PER_MICRO)),
+        MILLIS | MSEC | MS => Some(&in_nanos!(sizes::NANOS_PER_MILLI)),
+        SECONDS | SECOND | SECS | SEC | S => Some(&in_seconds_and_nanos!(1)),
+        MINUTES | MINUTE | MIN | MINS | M => Some(&in_seconds_and_nanos!(
+            sizes::SECONDS_PER_MINUTE
+        )),
+        HOURS | HOUR | HR | HRS | H => Some(&in_seconds!(sizes::SECONDS_PER_HOUR)),
+        DAYS | DAY | D => Some(&in_seconds!(sizes::SECONDS_PER_DAY)),
+        WEEKS | WEEK | WK | WKS | W => Some(&in_seconds!(sizes::SECONDS_PER_WEEK)),
+        MONTHS | MONTH | CAPITAL_M => Some(&in_seconds!(sizes::SECONDS_PER_MONTH)),
+        YEARS | YEAR | YR | YRS | Y => Some(&in_seconds!(sizes::SECONDS_PER_YEAR)),
+        _ => None,
+    }
+}

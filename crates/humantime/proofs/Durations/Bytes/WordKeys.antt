@@ -8,10 +8,12 @@ use Rattle.std.specs.Map.{lookup}
 use Rattle.std.specs.Str.{IsUtf8}
 use Rattle.std.proofs.Math.Utf8.{encode, encodes, scalars}
 use Rattle.std.proofs.Math.Seq.{take-suc}
+use Rattle.std.proofs.Math.Nat.{pow-le-pow_right}
 use Rattle.std.proofs.lemmas.List.{get_or-reverse, reverse-append, reverse-reverse}
 use Rattle.std.proofs.lemmas.Bool.{and_parts, ltb-true, eqb-true, eq-eqb}
 use Rattle.std.proofs.lemmas.Slice.Eq.{bytes_eq-Decides}
 use Rattle.std.proofs.lemmas.Str.{chars-encodes, encodes-chars}
+use Rattle.humantime.specs.declared.unit.words.TheConstants.{MAX_BYTES}
 use Rattle.humantime.specs.Durations.Units.{Scale, words, scale_of_word}
 use Rattle.humantime.specs.Steps.Keys.{packed, key, bytes_of, keyed, scale_of_key}
 
@@ -26,27 +28,32 @@ packed_positive (b ∷ bs) = omega (arith, packed_positive bs)
 pub front_bytes : (bs : List ℕ) (n : ℕ) → HasBytes bs → HasBytes (take n bs)
 front_bytes bs n h k = grind (arith, common_steps)
 
+packed_front : (bs : List ℕ) (at : ℕ) → at < length bs → packed (reverse (take (suc at) bs)) ≡ packed (reverse (take at bs)) * 256 + get_or bs at 0
+packed_front bs at within = rw (take-suc bs at 0 within, reverse-append (take at bs) (get_or bs at 0 ∷ [])) refl
+
 packed_front_below : (bs : List ℕ) (at : ℕ) → HasBytes bs → at ≤ length bs → packed (reverse (take at bs)) < 2 * 256 ^ at
 packed_front_below bs zero h within = omega arith
 packed_front_below bs (suc at) h within =
-    let front : packed (reverse (take (suc at) bs)) ≡ packed (reverse (take at bs)) * 256 + get_or bs at 0 =
-    rw (take-suc bs at 0 (omega arith), reverse-append (take at bs) (get_or bs at 0 ∷ [])) refl in
-    omega (arith, front, h at, packed_front_below bs at h (omega arith))
+    omega (arith, packed_front bs at (omega arith), h at, packed_front_below bs at h (omega arith))
 
--- The number made so far is that of the bytes before a place, where they are at most seven.
+-- The number made so far is that of the bytes before a place, where they are at most `MAX_BYTES`.
 abbrev pub IsSoFar : List ℕ → ℕ → ℕ → Type 0
-IsSoFar bs at k = at ≤ 7 → k ≡ packed (reverse (take at bs))
+IsSoFar bs at k = at ≤ MAX_BYTES → k ≡ packed (reverse (take at bs))
 
 -- and so it is with the byte at this place
-pub key_more : (bs : List ℕ) (at k m : ℕ) → HasBytes bs → at < length bs → IsSoFar bs at k → (k * 256 + get_or bs at 0 < 2 ^ 64
-    → m ≡ k * 256 + get_or bs at 0) → IsSoFar bs (at + 1) m
-key_more bs at k m bytes some so_far next short = grind (arith, packed_front_below)
+pub key_more : (bs : List ℕ) (at k m : ℕ) → HasBytes bs → at < length bs → IsSoFar bs at k → (k < 2 ^ 56 → m ≡ k * 256 + get_or bs at 0)
+    → IsSoFar bs (at + 1) m
+key_more bs at k m bytes some so_far next short =
+    let fits : 256 ^ at ≤ 256 ^ 6 = pow-le-pow_right {n = 256} (omega arith) {i = at} {j = 6} (omega (arith, short)) in
+    let front : k ≡ packed (reverse (take at bs)) = so_far (omega (arith, short)) in
+    let more : at + 1 ≡ suc at = omega arith in
+    rw (more, packed_front bs at some, next (omega (arith, fits, front, packed_front_below bs at bytes (omega arith)))) (ap (λ n. n * 256 + get_or bs at 0) front)
 
 -- the key of a front
-pub key_short : (bs : List ℕ) (at k : ℕ) → at ≤ length bs → at ≤ 7 → IsSoFar bs at k → k ≡ key (take at bs)
+pub key_short : (bs : List ℕ) (at k : ℕ) → at ≤ length bs → at ≤ MAX_BYTES → IsSoFar bs at k → k ≡ key (take at bs)
 key_short bs at k within short so_far = grind (arith, common_steps)
 
-pub key_long : (bs : List ℕ) (at : ℕ) → at ≤ length bs → 7 < at → 0 ≡ key (take at bs)
+pub key_long : (bs : List ℕ) (at : ℕ) → at ≤ length bs → MAX_BYTES < at → 0 ≡ key (take at bs)
 key_long bs at within long = grind (arith, common_steps)
 
 packed_same : (xs ys : List ℕ) → HasBytes xs → HasBytes ys → packed xs ≡ packed ys → xs ≡ ys
@@ -61,14 +68,14 @@ packed_same (x ∷ xs) (y ∷ ys) h k e =
 bytes_from_test : (bs : List ℕ) → list_all (λ b. ltb b 256) bs ≡ true → HasBytes bs
 bytes_from_test bs h = grind (arith, common_steps)
 
--- the word is spelled by at most seven bytes
+-- the word is spelled by at most `MAX_BYTES` bytes
 abbrev is_spelled : List ℕ → Bool
-is_spelled w = scalars w && (bytes_eq (encodes w) (bytes_of w) && (ltb (length (bytes_of w)) 8 && list_all (λ b. ltb b 256) (bytes_of w)))
+is_spelled w = scalars w && (bytes_eq (encodes w) (bytes_of w) && (ltb (length (bytes_of w)) (MAX_BYTES + 1) && list_all (λ b. ltb b 256) (bytes_of w)))
 
 reverse_same : (xs ys : List ℕ) → reverse xs ≡ reverse ys → xs ≡ ys
 reverse_same xs ys e = sym (reverse-reverse xs) ∙ ap reverse e ∙ reverse-reverse ys
 
-key_same : (xs ys : List ℕ) → HasBytes xs → HasBytes ys → length ys < 8 → key xs ≡ key ys → xs ≡ ys
+key_same : (xs ys : List ℕ) → HasBytes xs → HasBytes ys → length ys < MAX_BYTES + 1 → key xs ≡ key ys → xs ≡ ys
 key_same xs ys h k short e = grind (arith, common_steps, packed_positive, reverse_same, packed_same, get_or-reverse)
 
 key_tells : (bs w : List ℕ) → IsUtf8 bs → HasBytes bs → is_spelled w ≡ true → (key bs == key (bytes_of w)) ≡ bytes_eq (chars bs) w

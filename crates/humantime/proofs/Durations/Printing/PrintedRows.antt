@@ -10,7 +10,7 @@ use Rattle.humantime.specs.Values.{nanos_per_second}
 use Rattle.humantime.specs.Texts.{begins}
 use Rattle.humantime.specs.Durations.Characters.{is_letter}
 use Rattle.humantime.specs.Durations.Units.{Addition, Nanos, Seconds, Scale, scale_of_word}
-use Rattle.humantime.specs.Durations.Accepted.{addition_nanos, amount, is_some_and}
+use Rattle.humantime.specs.Durations.Accepted.{addition_nanos, size, is_some_and}
 use Rattle.humantime.specs.Durations.Spans.{SpelledSpan, Only}
 use Rattle.humantime.specs.Durations.Counts.{Suffix, weights, suffixes}
 
@@ -40,13 +40,13 @@ pub record IsWord (w m : ℕ) (word : List ℕ) : Type 0 where
   pub unit : Scale
   pub is : scale_of_word (chars word) ≡ Some unit
   pub weight : addition_nanos unit.one ≡ w
-  pub some : 0 < amount unit.one
+  pub some : 0 < size unit.one
   pub kind : is_of_kind m unit.one ≡ true
   pub letters : Only is_letter (chars word)
   pub first : begins is_letter (chars word) ≡ true
 
 abbrev counts : ℕ → ℕ → Option Scale → Bool
-counts w m o = is_some_and (λ u. (addition_nanos u.one == w) && nat_lt 0 (amount u.one) && is_of_kind m u.one) o
+counts w m o = is_some_and (λ u. (addition_nanos u.one == w) && nat_lt 0 (size u.one) && is_of_kind m u.one) o
 
 abbrev is_word : ℕ → ℕ → List ℕ → Bool
 is_word w m word = is_utf8 word && counts w m (scale_of_word (chars word)) && list_all is_letter (chars word) && begins is_letter (chars word)

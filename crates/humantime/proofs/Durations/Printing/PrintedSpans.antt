@@ -15,7 +15,7 @@ use Rattle.humantime.specs.Values.{nanos_per_second}
 use Rattle.humantime.specs.Durations.Characters.{whitespace_chars, is_letter, is_whitespace, u64_max}
 use Rattle.humantime.specs.Durations.Units.{Addition, Nanos, Seconds, scale_of_word}
 use Rattle.humantime.specs.Durations.Spans.{SpelledSpan, Only, Spells, SpellsEach, Reads}
-use Rattle.humantime.specs.Durations.Accepted.{addition_nanos, amount, times, total, additions_of, additions, value, Formed, fits, Accepted, Sum_of}
+use Rattle.humantime.specs.Durations.Accepted.{addition_nanos, size, times, total, additions_of, additions, value, Formed, fits, Accepted, Sum_of}
 use Rattle.humantime.specs.Durations.Counts.{Suffix, printed_count, joined_by_space, IsCanonicalText}
 use Rattle.humantime.specs.Answers.Durations.{duration_text}
 use Rattle.humantime.proofs.Durations.Reading.Spellings.{spells-append}
@@ -38,8 +38,8 @@ mul_positive : (n k : ℕ) → 0 < k → n ≤ n * k
 mul_positive n k h = grind arith
 
 -- what a count adds, where less than m and less than all durations are left
-few : (m n : ℕ) (x : Addition) → 0 < amount x → is_of_kind m x ≡ true → addition_nanos x * n < m → addition_nanos x * n < most
-    → (n < 2 ^ 64) × (n * amount x ≤ u64_max) × IsSmall (times n x) × (addition_nanos (times n x) ≡ addition_nanos x * n)
+few : (m n : ℕ) (x : Addition) → 0 < size x → is_of_kind m x ≡ true → addition_nanos x * n < m → addition_nanos x * n < most
+    → (n < 2 ^ 64) × (n * size x ≤ u64_max) × IsSmall (times n x) × (addition_nanos (times n x) ≡ addition_nanos x * n)
 few m n (Nanos k) some kind below whole = grind (arith, nat_tests, (mul_comm n k), (mul_positive n k some))
 few m n (Seconds k) some kind below whole = grind (arith, (mul_positive n k some), mul_comm, mul_assoc)
 

@@ -38,16 +38,16 @@ returns-in_default-end_span c =
       fine = tt;
     }
 
-pub returns-in_default-unit_of : goal.returns-in_default-unit_of
-returns-in_default-unit_of c =
+pub returns-in_default-scale_of : goal.returns-in_default-scale_of
+returns-in_default-scale_of c =
     let d = c.args.decimal in
     let word = c.in-Some.ensures.word in
     let end = c.end-end.ensures in
     let text = c.in-Some.ensures.text ∙ end.text in record {
       stop = exit_unit _ _ _ _ _ _ _ _ d.short end.rest word.begun (sym c.has_bare_point-is_bare.ensures ∙ c.if-is_bare.false) word.after
-          c.in-Some-end_span.ensures.ends word.utf8 word.letters (sym (c.in_default-unit_of.ensures ∙ c.in-Some.word.scale))
-          (rw end.text at c.offset-in_default-unit_of.ensures) (rw text at c.offset-in_default-unit_of-2.ensures) d.number.digits;
-      place = part_between _ _ c.end-end.result c.in-Some.after_word _ _ end.text text word.whole c.offset-in_default-unit_of.ensures c.offset-in_default-unit_of-2.ensures;
+          c.in-Some-end_span.ensures.ends word.utf8 word.letters (sym (c.in_default-scale_of.ensures ∙ c.in-Some.word.scale))
+          (rw end.text at c.offset-in_default-scale_of.ensures) (rw text at c.offset-in_default-scale_of-2.ensures) d.number.digits;
+      place = part_between _ _ c.end-end.result c.in-Some.after_word _ _ end.text text word.whole c.offset-in_default-scale_of.ensures c.offset-in_default-scale_of-2.ensures;
       fine = tt;
     }
 
@@ -57,7 +57,7 @@ invariant_of-span-2 c =
     let letters = c.in-Some.ensures.word.letters ∙ ap (take_while is_letter) c.end-end.ensures.rest in
     record {
       read = rw (spelled_read _ _ _ c.fraction_slice.result d.number.run.run letters c.fraction_slice.ensures)
-          (record { unit = sym (c.in-Some-unit_of.ensures ∙ c.in-Some.word.scale ∙ ap scale_of_word letters); value = d.number.digits; fraction = c.fraction.ensures.parts });
+          (record { scale = sym (c.in-Some-scale_of.ensures ∙ c.in-Some.word.scale ∙ ap scale_of_word letters); value = d.number.digits; fraction = c.fraction.ensures.parts });
     }
 
 pub returns : goal.returns
@@ -71,7 +71,7 @@ returns c =
     let less : length c.in-Some.after_word.rest.now < length d.number.start.rest.now =
     omega (arith, next_bytes _ c.requires, byte_length-chars _ d.number.start.tail.utf8, byte_length-chars _ c.in-Some.after_word.tail.utf8, ap byte_length after) in record {
       stop = exit_fine _ _ _ _ _ _ d.short end.rest word.begun (sym c.has_bare_point-is_bare.ensures ∙ c.if-is_bare.false) word.after next.ends
-          word.letters (sym (c.in-Some-unit_of.ensures ∙ c.in-Some.word.scale));
+          word.letters (sym (c.in-Some-scale_of.ensures ∙ c.in-Some.word.scale));
       place = tt;
       fine = record {
         view = view_read _ _ _ _ _ _ _ _ d.number.run.run c.fraction_slice.ensures (word.letters ∙ ap (take_while is_letter) end.rest) c.offset-2.ensures

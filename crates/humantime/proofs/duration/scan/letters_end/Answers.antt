@@ -1,4 +1,4 @@
-use Rattle.std.proofs.Common.{◌≡◌, ◌<◌, ◌+◌, ◌*◌, ◌%◌, ◌^◌, ℕ, List, length, get_or, refl, sym, ap, chars, drop, subst, ◌∙◌, arith}
+use Rattle.std.proofs.Common.{◌≡◌, ◌<◌, ◌+◌, ℕ, List, length, get_or, refl, sym, ap, chars, drop, subst, ◌∙◌, arith}
 use Rattle.std.proofs.lemmas.Str.{IsCharBoundary-start}
 use Rattle.humantime.specs.Durations.Characters.{is_letter}
 use Rattle.humantime.proofs.Durations.Bytes.PlaceSteps.{letter_over, mu_over, no_letter, ends_there}
@@ -20,7 +20,7 @@ loop-at-preserved-then-is_ascii_alphabetic c =
     record {
       place = s.1.place;
       same = rw (s.1.ahead, s.0) at c.loop-at.invariant.same;
-      key = key_more text at c.loop-at.key _ (λ k. (c.type_inv.text k).fits) some c.loop-at.invariant.key (λ fits. omega (arith, seen));
+      key = key_more text at c.loop-at.key _ (λ k. (c.type_inv.text k).fits) some c.loop-at.invariant.key (λ fits. rw (c.push_byte-key.ensures fits, seen) refl);
     }
 
 pub loop-at-preserved : goal.loop-at-preserved
@@ -32,14 +32,12 @@ loop-at-preserved c =
     let s = mu_over text at c.utf8.text c.loop-at.invariant.place within (rw c.as_bytes-bytes.ensures.value at (sym c.is_mu.ensures ∙ c.if-is_mu.true)) in
     let bytes = λ (k : ℕ). (c.type_inv.text k).fits in
     let seen = λ (k : ℕ). ap (λ (x : List ℕ). get_or x k 0) c.as_bytes-bytes.ensures.value in
-    let low = (c.loop-at.key * 256 % 2 ^ 64 + get_or c.as_bytes-bytes.result.now at 0) % 2 ^ 64 in
-    let high = (low * 256 % 2 ^ 64 + get_or c.as_bytes-bytes.result.now (at + 1) 0) % 2 ^ 64 in
-    let first = key_more text at c.loop-at.key low bytes (omega arith) c.loop-at.invariant.key (λ fits. omega (arith, seen at)) in
-    let second = key_more text (at + 1) low high bytes within first (λ fits. omega (arith, seen (at + 1))) in
+    let first = key_more text at c.loop-at.key c.push_byte.result bytes (omega arith) c.loop-at.invariant.key (λ fits. rw (c.push_byte.ensures fits, seen at) refl) in
+    let second = key_more text (at + 1) c.push_byte.result c.push_byte-key-then-is_mu.result bytes within first (λ fits. rw (c.push_byte-key-then-is_mu.ensures fits, seen (at + 1)) refl) in
     record {
       place = s.2.place;
       same = rw (s.2.ahead, s.1) at c.loop-at.invariant.same;
-      key = subst (λ (n : ℕ). IsSoFar text n high) two second;
+      key = subst (λ (n : ℕ). IsSoFar text n c.push_byte-key-then-is_mu.result) two second;
     }
 
 pub returns-else-bytes-at-ge128-clause-rest : goal.returns-else-bytes-at-ge128-clause-rest

@@ -7,7 +7,7 @@ use Rattle.humantime.specs.Steps.Keys.{key, scale_of_key}
 use Rattle.humantime.proofs.Durations.Bytes.WordKeys.{HasBytes, front_bytes, key_short, key_long, scale_by_key}
 use Rattle.humantime.proofs.Durations.Bytes.Tails.{front_is, tail_at, no_bytes, a_word, no_word}
 use Rattle.humantime.proofs.duration.scan.read_word.Goals as goal
-use Rattle.humantime.proofs.duration.scan.read_word.Goals.{then-end-gt-MOST_BYTES, else-end-gt-MOST_BYTES}
+use Rattle.humantime.proofs.duration.scan.read_word.Goals.{then-end-gt-MAX_BYTES, else-end-gt-MAX_BYTES}
 
 pub invariant_of-result-2 : goal.invariant_of-result-2
 invariant_of-result-2 c =
@@ -16,9 +16,9 @@ invariant_of-result-2 c =
     let letters = c.range-letters.result.now in
     let front : letters ≡ take end text = grind arith in
     let within = c.letters_end-end.ensures.place.0 in
-    let made : c.if-end-gt-MOST_BYTES.key ≡ key (take end text) = elim c.if-end-gt-MOST_BYTES.branch [
-      | then-end-gt-MOST_BYTES w ↦ w.key-is ∙ key_long text end within w.if-end-gt-MOST_BYTES.true
-      | else-end-gt-MOST_BYTES w ↦ w.key-is ∙ key_short text end c.letters_end-end.result.1 within w.if-end-gt-MOST_BYTES.false c.letters_end-end.ensures.key
+    let made : c.if-end-gt-MAX_BYTES.key ≡ key (take end text) = elim c.if-end-gt-MAX_BYTES.branch [
+      | then-end-gt-MAX_BYTES w ↦ w.key-is ∙ key_long text end within w.if-end-gt-MAX_BYTES.true
+      | else-end-gt-MAX_BYTES w ↦ w.key-is ∙ key_short text end c.letters_end-end.result.1 within w.if-end-gt-MAX_BYTES.false c.letters_end-end.ensures.key
     ] in
     let bytes : HasBytes letters = rw front (front_bytes text end (λ k. (c.type_inv.text k).fits)) in
     record { scale = ap scale_of_key (made ∙ ap key (sym front)) ∙ scale_by_key letters c.range-letters.utf8 bytes }
