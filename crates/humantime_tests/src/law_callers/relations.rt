@@ -4,7 +4,7 @@
 ghost use Rattle.std.specs.Prelude.{◌≡◌, ◌≢◌, ◌+◌, ◌/◌, ◌++◌, ◌∷◌, [], ◌↔◌, ◌⊎◌, ◌<ℤ◌, ◌≤ℤ◌, ◌+ℤ◌, pos, ℕ, ℤ, List, Option, Result, None, Some, Ok, Err, chars, option_map, IfSome, IsOkAnd, IsPermutation, IsSome, IsTrue};
 ghost use Rattle.humantime.specs.declared.Date.{Date};
 ghost use Rattle.humantime.specs.declared.TimestampError.{TimestampError};
-ghost use Rattle.humantime.specs.Prelude.{Accepted, AcceptedWithZeros, AreItems, IsCanonicalText, Fault, HasFault, IsCanonicalOf, IsDate, IsStrictMoment, IsWeakMoment, Items, NumberOverflow, ReadsAs, Reads, Span, SpanView, WithinLimits, bare_zero, canonical_answer, cut, day_of, duration_answer, fault_of, first_failed, moment_end, nanos_per_second, result_view, strict_checks, value, weak_checks, without_whitespace};
+ghost use Rattle.humantime.specs.Prelude.{Accepted, AcceptedWithZeros, AreItems, IsCanonicalText, Fault, HasFault, IsCanonicalOf, IsDate, IsStrictMoment, IsWeakMoment, Items, NumberOverflow, ReadsAs, Reads, SpelledSpan, SpanView, WithinLimits, bare_zero, canonical_answer, cut, day_of, duration_answer, fault_of, first_failed, moment_end, nanos_per_second, result_view, strict_checks, value, weak_checks, without_whitespace};
 
 use crate::callers::durations::limit_seconds;
 use crate::callers::timestamps::{is_since, later_than};
@@ -46,7 +46,7 @@ pub fn both_alike<'a, 'b>(
     Result<StdDuration, DurationError<'a>>,
     Result<StdDuration, DurationError<'b>>,
 )
-    ensures { (ss : List Span) (ts : List Span) (v : ℕ) (w : ℕ) → Reads (chars a.now) ss → Reads (chars b.now) ts → IsPermutation ss ts → Accepted (chars a.now) v → Accepted (chars b.now) w → result_view result.0 ≡ result_view result.1 }
+    ensures { (ss : List SpelledSpan) (ts : List SpelledSpan) (v : ℕ) (w : ℕ) → Reads (chars a.now) ss → Reads (chars b.now) ts → IsPermutation ss ts → Accepted (chars a.now) v → Accepted (chars b.now) w → result_view result.0 ≡ result_view result.1 }
 {
     reordered(a, b);
     (parse_duration(a), parse_duration(b))
@@ -63,7 +63,7 @@ pub fn seconds_as_before(text: &str) -> Result<u64, DurationError<'_>>
 /// Returns the duration of a text by some spans of it, if it is not exactly `0`: their sum if nothing stops them and they are within
 /// the limits.
 pub fn by_its_spans(text: &str) -> Result<StdDuration, DurationError<'_>>
-    ensures { chars text.now ≢ bare_zero → (ss : List Span) × (stop : Option Fault) × Items (chars text.now) ss stop × ((v : ℕ) → (result_view result ≡ Ok v) ↔ ((stop ≡ None) × WithinLimits ss × (value ss ≡ v))) }
+    ensures { chars text.now ≢ bare_zero → (ss : List SpelledSpan) × (stop : Option Fault) × Items (chars text.now) ss stop × ((v : ℕ) → (result_view result ≡ Ok v) ↔ ((stop ≡ None) × WithinLimits ss × (value ss ≡ v))) }
 {
     spans_decide(text);
     parse_duration(text)
