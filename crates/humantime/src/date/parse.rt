@@ -190,6 +190,7 @@ fn has_layout(bytes: &[u8]) -> bool
 }
 
 /// Returns the error for a text without that layout. Punctuation is checked before digits.
+#[inline(always)]
 #[tactic(auto, using(crate::proofs::Timestamps::Reading::Exits::exit_layout))]
 fn layout_error(bytes: &[u8]) -> TimestampError
     requires { Steps.has_layout bytes.now ≡ false }
