@@ -13,7 +13,7 @@ use Rattle.humantime.specs.Answers.Walks.{items, sum_spans}
 unfoldable pub duration_answer : List ℕ → Result ℕ Fault
 duration_answer text = if bytes_eq text bare_zero then Ok 0 else sum_spans 0 (items_of (items text).0 (items text).1)
 
--- Parsing a text returns the duration that it denotes, exactly where it is accepted, and else its first fault, which points into it.
+-- Parsing a text returns the duration that it denotes, exactly where it is accepted, and else its first error, which points into it.
 pub record IsDurationAnswer (bytes : List ℕ) (r : Result ℕ DurationError) : Type 0 where
   pub value : (v : ℕ) → (result_view r ≡ Ok v) ↔ Accepted (chars bytes) v
   pub fault : (e : Fault) → (result_view r ≡ Err e) ↔ HasFault (chars bytes) e

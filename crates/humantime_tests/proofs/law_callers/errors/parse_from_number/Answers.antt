@@ -1,4 +1,4 @@
-use Rattle.std.proofs.Common.{◌≡◌, ◌≢◌, ℕ, false, List, [], ◌∷◌, refl, sym, append-nil, ap, inl, arith, true}
+use Rattle.std.proofs.Common.{◌≡◌, ℕ, false, List, [], ◌∷◌, refl, sym, append-nil, ap, inl, arith, true}
 use Rattle.humantime.specs.Durations.Characters.{is_digit, is_whitespace, bare_zero}
 use Rattle.humantime.specs.Durations.Spans.{Only}
 use Rattle.humantime.specs.Durations.Faults.{HasFault, Only_whitespace, No_number}
