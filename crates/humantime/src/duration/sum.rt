@@ -63,16 +63,13 @@ fn add_part(sum: StdDuration, one: Option<Addition>, fraction: Fraction) -> Opti
 pub(crate) fn add_amount(total: StdDuration, amount: Amount) -> Option<StdDuration>
     ensures { (s : SpelledSpan) → IsAmountOf amount s → result ≡ add_span total s }
 {
-    let (count, one) = (amount.value, amount.scale.one);
+    let (count, scale) = (amount.value, amount.scale);
     // `add_times` stands in both arms, so that it is inlined twice and a span without a fraction is not asked for one again.
     match amount.fraction {
-        None => add_times(total, one, count),
+        None => add_times(total, scale.one, count),
         Some(fraction) => {
-            add_part(
-                add_times(total, one, count)?,
-                amount.scale.fraction,
-                fraction,
-            )
+            let sum = add_times(total, scale.one, count)?;
+            add_part(sum, scale.fraction, fraction)
         }
     }
 }
