@@ -74,7 +74,7 @@ def definitions(text):
 
 class Item:
     """An item of a source file: its docstring, as lines with their numbers, and its lines up to a body. Of a function also the type
-    and the trait whose `impl` it stands in, and what the `impl` promises before it."""
+    and the trait whose `impl` has it, and what the `impl` promises before it."""
 
     def __init__(self, kind, name, line, docs, owner="", trait="", is_public=False):
         self.kind, self.name, self.line, self.docs = kind, name, line, docs
