@@ -1,5 +1,6 @@
 """Reads the sources of the crates: functions with docstrings and contracts, definitions with comments, and imports."""
 import re
+import sys
 
 from copies import ROOT
 
@@ -145,3 +146,14 @@ def difference(page, old, new, script):
     pairs = zip((old + "\n").split("\n"), (new + "\n").split("\n"))
     line = next((number for number, (one, other) in enumerate(pairs, 1) if one != other), 0)
     return [f"{page}: line {line} of a generated part is out of date; scripts/{script} --write writes it"] if old != new else []
+
+
+def compared(page, script, new):
+    """Compares the part of a page that a script writes, or writes it if the script is asked to. Returns the complaints."""
+    part = re.compile(rf"(?<=<!-- {script}: written by scripts/{script} --write -->\n\n).*?(?=\n<!-- end of {script} -->)", re.S)
+    text = (ROOT / page).read_text(encoding="utf-8")
+    old = part.search(text) or sys.exit(f"{page} has no place for what scripts/{script} writes")
+    if "--write" not in sys.argv[1:]:
+        return difference(page, old[0], new, script)
+    (ROOT / page).write_text(part.sub(lambda _: new, text), encoding="utf-8")
+    return []
