@@ -31,7 +31,7 @@ humantime = {{ path = "{crate}" }}
 
 
 def run(command, folder, **environment):
-    """What a command says; where it fails, that is said and all ends."""
+    """Returns what a command prints; if it fails, prints that and exits."""
     done = subprocess.run(command, cwd=folder, env=dict(os.environ, **environment), stdout=subprocess.PIPE, stderr=subprocess.STDOUT, text=True)
     if done.returncode != 0:
         sys.exit(f"{' '.join(command)} failed:\n{done.stdout[-5000:]}")
@@ -50,7 +50,7 @@ def exports(top):
     copy_of("humantime", os.path.join(top, "crates", "humantime"))
     place = os.path.join(top, "crates", EXPORTS)
     copy_of(EXPORTS, place)
-    # The exports stand in the place of `main`, and of what it calls there.
+    # The exports replace `main`, and what it calls there.
     main = os.path.join(place, "src", "main.rt")
     with open(main, encoding="utf-8") as file:
         functions = re.findall(r"^fn (\w+)", file.read(), re.M)
@@ -65,7 +65,7 @@ def exports(top):
 
 
 def library(top, backend):
-    """The folder of the static library, the names that it takes from elsewhere, and what it is built for."""
+    """The folder of the static library, the names that it links to, and what it is built for."""
     crate = os.path.join(top, "crates", EXPORTS)
     said = run(["rt", "lib", "--backend", backend], crate)
     made = os.path.join(crate, "out", f"lib{EXPORTS}.a")

@@ -1,14 +1,12 @@
-"""What `mutants` and `weakenings` share: edits of the texts of a crate, copies of the repository to try them on, and what a check
-leaves open there."""
+"""Reads edits of the texts of a crate, tries them on copies of the repository, and reads what a check leaves open there."""
 import os
 import queue
 import re
-import shutil
-import subprocess
 from concurrent.futures import ThreadPoolExecutor
 from contextlib import contextmanager
 
-ROOT = os.path.dirname(os.path.dirname(os.path.abspath(__file__)))
+from copies import ROOT, copied, rt, run
+
 OPEN_GOAL = re.compile(r"^note: (?:\./)?(src/\S+?):(\d+):\d+: it is not proved that (.*?) \(`([^`]*)`\)", re.M)
 ANSWER = re.compile(r"^(?:\./)?(proofs/\S+?):\d+:\d+: error: (?:`([^`]*)`)?", re.M)
 ROWS = "humantime_tests_rows"
@@ -108,22 +106,6 @@ def has_word(words, *texts):
     return not words or any(word in text for word in words for text in texts)
 
 
-def rt(top, crate, *words, given=""):
-    """What `rt` says in a crate's folder, with this text on standard input."""
-    folder = os.path.join(top, "crates", crate)
-    how = {"input": given, "stdout": subprocess.PIPE, "stderr": subprocess.STDOUT, "text": True, "errors": "replace"}
-    return subprocess.run(["rt", *words], cwd=folder, **how)
-
-
-def copied(top, to):
-    """A copy of what `rt` reads of a repository, with what earlier checks of it kept."""
-    os.makedirs(to)
-    for name in ("HANDLES", "crates.txt"):
-        shutil.copy(os.path.join(top, name), to)
-    shutil.copytree(os.path.join(top, "crates"), os.path.join(to, "crates"), ignore=shutil.ignore_patterns("must-fail", "mutants", "planted", "weakened"))
-    return to
-
-
 @contextmanager
 def edited(top, crate, texts):
     """The crate has these texts in place of its own, or besides them."""
@@ -194,7 +176,7 @@ def failed_rows(top):
 
 def failed_test(top):
     """What scripts/tests says of a copy of the repository where a test or an example fails."""
-    ran = subprocess.run([os.path.join(ROOT, "scripts", "tests"), top], stdout=subprocess.PIPE, text=True)
+    ran = run(os.path.join(ROOT, "scripts", "tests"), top)
     return ("test", ran.stdout.partition("\n")[0]) if ran.returncode else None
 
 
@@ -206,7 +188,7 @@ def failed_program(top):
     rt(top, PROGRAM, "run", "--", "duration", "2h 37min")
     if not os.path.exists(built):
         return "NOTHING", "the tests pass, and the program is not proved"
-    ran = subprocess.run([os.path.join(ROOT, "scripts", "program"), built], stdout=subprocess.PIPE, text=True)
+    ran = run(os.path.join(ROOT, "scripts", "program"), built)
     return ("test", ran.stdout.partition("\n")[0]) if ran.returncode else None
 
 

@@ -24,13 +24,13 @@ pub const ROWS: [(Row, &str); 10] = [
     (Row::PanicBefore1970, "`Display` of a moment before 1970 panics"),
     (
         Row::ZerosOfFraction,
-        "zeros at the end of a fraction count for its limits",
+        "trailing zeros of a fraction count for its limits",
     ),
     (
         Row::GreekLetter,
-        "the Greek letter U+03BC is refused as a character out of place",
+        "the Greek letter U+03BC is an invalid character",
     ),
-    (Row::CarryTooLarge, "spans whose carry passes the greatest second"),
+    (Row::CarryTooLarge, "spans whose carry exceeds the greatest second"),
     (
         Row::NoDigitAfterSpace,
         "a character that is no digit, after whitespace at the start or after a span",

@@ -5,14 +5,10 @@ use Rattle.std.specs.Ordering.{nat_cmp, int_cmp, ordering_then}
 use Rattle.std.proofs.lemmas.Int.{ints}
 use Rattle.humantime.specs.Values.{moment, second_of, nano_of}
 
--- the parts of a moment make it up, and its nanoseconds are less than a second
+-- the parts of a moment make it up
 pub parts_of_moment : (z : ℤ) → moment (second_of z) (nano_of z) ≡ z
 parts_of_moment (pos n) = omega (arith, ints)
 parts_of_moment (negsuc n) = omega (arith, ints)
-
-pub nano_of_bound : (z : ℤ) → nano_of z < 1_000_000_000
-nano_of_bound (pos n) = omega arith
-nano_of_bound (negsuc n) = omega arith
 
 -- a later second is a later moment, and in one second the nanoseconds decide
 pub int_cmp_moment : (s t : ℤ) (m n : ℕ) → m < 1_000_000_000 → n < 1_000_000_000

@@ -1,6 +1,6 @@
 //! Parses and prints durations such as `2h 37m` and UTC timestamps such as `2018-02-14T00:28:07Z`.
 //!
-//! The contracts cite the definitions in `specs/`, which docs/MODEL.md explains in plain words.
+//! The contracts cite the definitions in `specs/`, which docs/PROVED.md lists with what each says.
 //!
 //! # Examples
 //!

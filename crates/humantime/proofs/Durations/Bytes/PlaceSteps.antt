@@ -195,10 +195,6 @@ no_letter text at u here none other =
 
 -- ---- what ends a span
 
-pub digit_ends : (cs : List ℕ) → begins is_digit cs ≡ true → ends_span cs ≡ true
-digit_ends [] d = refl
-digit_ends (c ∷ cs) d = digit_is_numeric c d
-
 pub other_goes_on : (cs : List ℕ) → cs ≢ [] → begins is_digit cs ≡ false → ¬ (0 < whitespace_len cs) → ends_span cs ≡ false
 other_goes_on [] some d w = absurd (some refl)
 other_goes_on (c ∷ cs) some d w = grind (arith, len_utf8_bounds)

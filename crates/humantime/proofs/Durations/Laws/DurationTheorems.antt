@@ -49,7 +49,7 @@ pub value_of_view : (r : Result ℕ DurationError) (v : ℕ) → result_view r �
 value_of_view r v h = grind arith
 
 -- whether two errors are equal, as `==` says
-abbrev pub error_eq : DurationError → DurationError → Bool
+abbrev error_eq : DurationError → DurationError → Bool
 error_eq = (errors.ghosts).eq
 
 -- Two errors are equal exactly where they name the same fault.

@@ -14,7 +14,6 @@ use Rattle.humantime.proofs.Timestamps.Printing.Printed.{one_printed, printed_so
 use Rattle.humantime.proofs.Timestamps.Printing.Order.{stamps_in_order}
 use Rattle.humantime.proofs.Timestamps.Laws.Reading as read
 use Rattle.humantime.proofs.Timestamps.Laws.StrictForm as strict
-pub use Rattle.humantime.proofs.Moments.{parts_of_moment, nano_of_bound}
 pub use Rattle.humantime.proofs.Dates.DaysOfDates.{one_date, day_at_most}
 pub use Rattle.humantime.proofs.Timestamps.Laws.Printable.{weak_printable, strict_printable}
 pub use Rattle.humantime.proofs.Timestamps.Printing.Order.{stamps_in_order}
@@ -28,10 +27,10 @@ pub one_stamp_outcome : (text : List ℕ)
 one_stamp_outcome text = (read.weak_outcome text, read.strict_outcome text)
 
 -- what a text reads as, from what it shows
-pub weak_read : (text : List ℕ) (t : ℤ) → IsWeakMoment text t → weak_answer text ≡ Ok t
+weak_read : (text : List ℕ) (t : ℤ) → IsWeakMoment text t → weak_answer text ≡ Ok t
 weak_read text t shown = ((read.weak_outcome text).value t).1 shown
 
-pub strict_read : (text : List ℕ) (t : ℤ) → IsStrictMoment text t → strict_answer text ≡ Ok t
+strict_read : (text : List ℕ) (t : ℤ) → IsStrictMoment text t → strict_answer text ≡ Ok t
 strict_read text t shown = ((read.strict_outcome text).value t).1 shown
 
 pub strict_is_weak : (text : List ℕ) → StrictForm text
@@ -48,14 +47,14 @@ strict_is_weak text =
 -- ---- Timestamps printed
 
 -- what a printed text reads as
-pub printed_read : (t : ℤ) (k : ℕ) (text : List ℕ) → IsPrinted t k text → strict_answer text ≡ Ok (cut t k)
+printed_read : (t : ℤ) (k : ℕ) (text : List ℕ) → IsPrinted t k text → strict_answer text ≡ Ok (cut t k)
 printed_read t k text printed = strict_read text (cut t k) (printed_reads t k text printed).strict
 
-pub printed_read_weak : (t : ℤ) (k : ℕ) (text : List ℕ) → IsPrinted t k text → weak_answer text ≡ Ok (cut t k)
+printed_read_weak : (t : ℤ) (k : ℕ) (text : List ℕ) → IsPrinted t k text → weak_answer text ≡ Ok (cut t k)
 printed_read_weak t k text printed = weak_read text (cut t k) (printed_reads t k text printed).weak
 
 -- a moment has no more than nine digits after its second
-pub cut_whole : (t : ℤ) → cut t 9 ≡ t
+cut_whole : (t : ℤ) → cut t 9 ≡ t
 cut_whole (pos n) = omega (arith, ints)
 cut_whole (negsuc n) = omega (arith, ints)
 
@@ -111,18 +110,18 @@ texts_in_order k x y a b p q left right =
     grind (arith, printed_read p.0 k x p.1, printed_read q.0 k y q.1, stamps_in_order p.0 q.0 k x y p.1 q.1)
 
 -- what an order of two moments says
-pub moment_at_most : (a b : ℤ) → IsTrue (is_le (int_cmp a b)) ↔ (a ≤ℤ b)
+moment_at_most : (a b : ℤ) → IsTrue (is_le (int_cmp a b)) ↔ (a ≤ℤ b)
 moment_at_most a b = grind (arith, ints)
 
-pub moment_before : (a b : ℤ) → IsTrue (is_lt (int_cmp a b)) ↔ (a <ℤ b)
+moment_before : (a b : ℤ) → IsTrue (is_lt (int_cmp a b)) ↔ (a <ℤ b)
 moment_before a b = grind (arith, ints)
 
 -- and what one of two printed texts says
-pub stamp_at_most : (a b : ℤ) (k : ℕ) (x y : List ℕ) → IsPrinted a k x → IsPrinted b k y
+stamp_at_most : (a b : ℤ) (k : ℕ) (x y : List ℕ) → IsPrinted a k x → IsPrinted b k y
     → IsTrue (is_le (slice_cmp nat_cmp x y)) ↔ (cut a k ≤ℤ cut b k)
 stamp_at_most a b k x y p q = rw (stamps_in_order a b k x y p q) (moment_at_most (cut a k) (cut b k))
 
-pub stamp_before : (a b : ℤ) (k : ℕ) (x y : List ℕ) → IsPrinted a k x → IsPrinted b k y
+stamp_before : (a b : ℤ) (k : ℕ) (x y : List ℕ) → IsPrinted a k x → IsPrinted b k y
     → IsTrue (is_lt (slice_cmp nat_cmp x y)) ↔ (cut a k <ℤ cut b k)
 stamp_before a b k x y p q = rw (stamps_in_order a b k x y p q) (moment_before (cut a k) (cut b k))
 
