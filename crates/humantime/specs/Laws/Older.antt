@@ -6,7 +6,7 @@ use Rattle.humantime.specs.Texts.{decimal_value}
 use Rattle.humantime.specs.Durations.Characters.{u64_max, bare_zero}
 use Rattle.humantime.specs.Answers.Durations.{duration_answer}
 use Rattle.humantime.specs.Durations.Units.{Addition, Scale, scale_of_word}
-use Rattle.humantime.specs.Durations.Spans.{SpelledSpan, Only, Reads}
+use Rattle.humantime.specs.Durations.Spans.{SpelledSpan, Reads}
 use Rattle.humantime.specs.Durations.Accepted.{size, additions, value, is_whole_part, AllHaveRoom, Accepted}
 
 -- While zeros at its end counted, a fraction had at most 19 digits and was a whole number of nanoseconds or of seconds; nanoseconds had

@@ -15,7 +15,7 @@ use Rattle.humantime.specs.Steps.Scanning.{whitespace_len}
 use Rattle.humantime.specs.Durations.Faults.{after_point}
 use Rattle.humantime.specs.Answers.Walks.{ends_span}
 use Rattle.humantime.proofs.Durations.Bytes.Tails.{no_bytes}
-use Rattle.humantime.proofs.Durations.Reading.Classes.{digit_is, digit_not_whitespace, digit_is_numeric, whitespace_is_numeric, is_point-46, letter_not_whitespace, wide_no_digit, whitespace_is, ascii_letter, alphabetic_is_ascii}
+use Rattle.humantime.proofs.Durations.Reading.Classes.{digit_is, digit_not_whitespace, whitespace_is_numeric, is_point-46, letter_not_whitespace, wide_no_digit, whitespace_is, ascii_letter, alphabetic_is_ascii}
 
 -- The character at a place, and what follows it.
 pub record IsCharAt (text : List ℕ) (at char next : ℕ) : Type 0 where
