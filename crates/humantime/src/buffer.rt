@@ -1,4 +1,4 @@
-//! The text at the front of a caller's buffer.
+//! Borrows the front of a byte buffer as a `str`.
 
 ghost use Rattle.std.specs.Prelude.{◌≡◌, ◌≤◌, length, take};
 ghost use Rattle.std.specs.Str.{IsUtf8};
@@ -12,5 +12,6 @@ pub(crate) fn str_prefix(buf: &[u8], end: usize) -> &str
     requires utf8 { IsUtf8 (take end buf.now) }
     ensures { result.now ≡ take end buf.now }
 {
+    // SAFETY: the clause `utf8` requires these bytes to be valid UTF-8.
     unsafe { from_utf8_unchecked(&buf[..end]) }
 }

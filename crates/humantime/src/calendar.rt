@@ -145,15 +145,17 @@ pub fn day_number(date: Date, turns: &mut Turns) -> Option<u32>
     Some(days + date.day - 1)
 }
 
-/// Returns the year of a day, and how many days of that year come before it. Years begin on 1 March here, and are counted from
-/// 1600. The last century of a cycle and the last of four years have one more day, for which the quotients are capped at 3.
+/// Returns the year that contains a day, and the zero-based index of the day in it. Years begin on 1 March here, and are counted from
+/// 1600.
+///
+/// The last century of a cycle and the last of four years have an extra day, which would make the quotient 4, so it is capped at 3.
 #[inline(always)]
 fn march_year(day: u32) -> (u32, u32)
     requires { day ≤ 2_932_896 }
     ensures year { result.0 ≡ Dates.march_year (day + 135_080) }
     ensures day { march_days result.0 + result.1 ≡ day + 135_080 }
 {
-    // The days from 1970-01-01 to 2000-02-29 lie in the previous cycle.
+    // The days since 1600-03-01, `day + 135_080`: days before 2000-03-01 lie in the cycle that begins there.
     let from = day + DAYS_PER_400_YEARS - MARCH_2000;
     let cycles = from / DAYS_PER_400_YEARS;
     let in_cycle = from % DAYS_PER_400_YEARS;
@@ -177,7 +179,7 @@ fn days_before_march_month(month: u32) -> u32
     (153 * month + 2) / 5
 }
 
-/// Returns the date with this index in a month. `year` begins on 1 March and is counted from 1600, `month` 0 is March, and months
+/// Returns the date at the zero-based `day_index` of a month. `year` begins on 1 March and is counted from 1600, `month` 0 is March, and months
 /// 10 and 11 are January and February of the next calendar year.
 #[inline(always)]
 fn march_date(year: u32, month: u32, day_index: u32) -> Date

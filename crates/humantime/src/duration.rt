@@ -1,7 +1,8 @@
-//! Durations as text, in the order in which a text is read and a value is printed: the value of a span (`amount`); a position in
-//! a text (`cursor`); whitespace, a number, a fraction and a word (`scan`); one span (`span`, `reader`); the spans of a text
-//! (`iter`), their sum (`sum`) and the whole text (`parse`); a buffer that text is written to (`writer`), and the text of a duration
-//! (`print`).
+//! Parses and prints durations such as `2h 37m`.
+//!
+//! In the order in which a text is read and a value is printed: `error`, `amount` (what a span adds), `cursor` (a position in a text),
+//! `scan` (whitespace, numbers, fractions and words), `span` and `reader` (one span), `iter` (all spans), `sum` (their sum), `parse` (a
+//! whole text), `writer` (output to a buffer) and `print`.
 
 mod amount;
 mod cursor;

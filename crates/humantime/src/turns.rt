@@ -6,7 +6,7 @@ use std::marker::Model;
 use std::mem;
 use std::snapshot::Snapshot;
 
-/// One `Next` for each iteration. At run time nothing is stored: a snapshot takes no bytes.
+/// The count as a unary number: `Start` is 0, and `Next` adds 1. Only a snapshot of it is kept, which takes no bytes.
 #[derive(Drop)]
 enum Chain {
     Start,

@@ -1,4 +1,4 @@
-//! The units of time.
+//! The units of time: what one of each unit adds to a duration.
 
 pub(crate) mod sizes;
 pub(crate) mod words;
@@ -10,9 +10,12 @@ pub(crate) enum Addition {
     Seconds(u64),
 }
 
-/// How a unit counts: `one` of it, and what a fraction of it is a part of, or `None` if it has no fractions.
+/// The size of a unit.
 #[derive(Clone, Copy, Debug)]
 pub(crate) struct Scale {
+    /// The size of one unit.
     pub one: Addition,
+    /// The same size, counted in what a fraction of the unit has to be a whole number of; `None` if only a fraction of zero is
+    /// allowed.
     pub fraction: Option<Addition>,
 }

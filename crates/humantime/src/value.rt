@@ -1,4 +1,4 @@
-//! Values of time, with the names of Rust's standard library.
+//! [`StdDuration`] and [`SystemTime`], the counterparts of `Duration` and `SystemTime` in `std::time`.
 
 mod std_duration;
 mod system_time;

@@ -1,4 +1,4 @@
-//! Durations and moments that read and print themselves.
+//! [`Duration`] and [`Timestamp`], which wrap [`StdDuration`] and [`SystemTime`] to parse and display them. Built on `duration` and `date`.
 
 ghost use Rattle.std.specs.Prelude.{◌≡◌, Some};
 ghost use Rattle.humantime.specs.Prelude.{IsDurationAnswer};

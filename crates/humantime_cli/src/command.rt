@@ -1,4 +1,4 @@
-//! What the program does with its words.
+//! Runs one command: parses its argument, and writes the result or an error message. Built on `message` and `writing`.
 
 ghost use Rattle.std.specs.Prelude.{◌≡◌, ℕ, List, Result, Some, Ok, Err, IfOk};
 ghost use Rattle.std.specs.Result.{result_map_both, result_unwrap_or};
@@ -17,25 +17,29 @@ use std::io::Write;
 #[cfg(test)]
 mod tests;
 
+/// The exit status if the text was parsed.
 const ACCEPTED: u8 = 0;
 
+/// The exit status if the text could not be parsed.
 const REFUSED: u8 = 1;
 
+/// The exit status for arguments that are not a command and its text.
 const MISUSED: u8 = 2;
 
+/// The exit status if a write failed.
 const WRITE_FAILED: u8 = 3;
 
 const USAGE: &str = "usage: humantime duration|strict|weak TEXT";
 
-/// Answers the words after the program's name, and returns the status with which the program ends.
+/// Runs the command given by `words`, the arguments after the program's name, and returns the exit status.
 ///
-/// - `duration TEXT`: the canonical text of the duration goes to `out`, with status 0.
-/// - `strict TEXT` and `weak TEXT`: the moment, printed by `format_rfc3339`, goes to `out`, with status 0.
-/// - Of these three, where the text is refused: the error's message goes to `err`, with status 1.
-/// - Any other words: the line that tells how the program is called goes to `err`, with status 2.
+/// - `duration TEXT` writes the canonical text of the duration to `out` and returns 0.
+/// - `strict TEXT` and `weak TEXT` write the moment, as `format_rfc3339` prints it, to `out` and return 0.
+/// - If one of these cannot parse `TEXT`, it writes the error message to `err` and returns 1.
+/// - For any other arguments, it writes the usage line to `err` and returns 2.
 ///
-/// A line feed ends each. A write that answers an error or takes no bytes has failed: it is not tried again, nothing
-/// more is written, and the status is 3. No memory is taken.
+/// Each output ends with a line feed. A write has failed if it returns an error or writes no bytes: it is not retried, nothing more
+/// is written, and the status is 3. Nothing is allocated.
 ///
 /// # Examples
 ///
@@ -50,7 +54,7 @@ const USAGE: &str = "usage: humantime duration|strict|weak TEXT";
 /// assert_eq!(rt; err.get_ref().as_slice(), b"expected number at 9\n".as_slice());
 /// ```
 ///
-/// Where a writer takes too few bytes, it holds the first ones:
+/// If a writer has no room for the whole line, it keeps the bytes that fit:
 ///
 /// ```
 /// use humantime_cli::run;
@@ -69,7 +73,7 @@ pub fn run<O: Write, E: Write>(words: &[&str], out: &mut O, err: &mut E) -> u8
     answer_words(words, out, err).unwrap_or(WRITE_FAILED)
 }
 
-/// Answers the words, and gives the answer's status.
+/// Runs the command and returns its status.
 fn answer_words<O: Write, E: Write>(
     words: &[&str],
     out: &mut O,
@@ -86,7 +90,7 @@ fn answer_words<O: Write, E: Write>(
     }
 }
 
-/// Prints a duration that was read, or says what is wrong with its text.
+/// Writes the canonical text to `out`, or the error message to `err`.
 fn answer_duration<O: Write, E: Write>(
     read: Result<&str, DurationError<'_>>,
     out: &mut O,
@@ -104,7 +108,7 @@ fn answer_duration<O: Write, E: Write>(
     }
 }
 
-/// Prints a moment that was read, or says what is wrong with its text.
+/// Writes the moment to `out`, or the error message to `err`.
 fn answer_moment<O: Write, E: Write>(
     read: Result<SystemTime, TimestampError>,
     out: &mut O,

@@ -1,4 +1,4 @@
-//! A command line over the library: it prints a duration or a timestamp in its one form.
+//! A command-line program that prints a duration or a timestamp in its canonical form.
 //!
 //! `humantime duration "2h 37min"` prints `2h 37m`.
 #![tactic(auto)]
@@ -16,20 +16,20 @@ use std::io::Write;
 use std::process::ExitCode;
 use std::{env, io};
 
-/// The status where the arguments could not be taken or standard output could not be flushed.
+/// The exit status if the arguments cannot be collected or standard output cannot be flushed.
 const FAILED: u8 = 3;
 
 fn main(rt: HostRuntime) -> ExitCode {
     ExitCode::from(answer(&rt).unwrap_or(FAILED))
 }
 
-/// Answers the words after the program's name on standard output and standard error.
+/// Runs the command given by the program's arguments, on standard output and standard error.
 fn answer(rt: &HostRuntime) -> io::Result<u8> {
     let args = env::args(rt)?.skip(1).collect::<Vec<String>>(rt.alloc())?;
     answer_args(rt.alloc(), &args, &mut rt.stdout(), &mut rt.stderr())
 }
 
-/// Answers the words, and flushes `out`.
+/// Runs the command given by `args`, and then flushes `out`.
 fn answer_args<O: Write, E: Write>(
     alloc: Global,
     args: &[String],
@@ -47,7 +47,7 @@ fn answer_args<O: Write, E: Write>(
     Ok(status)
 }
 
-/// The arguments as texts.
+/// Returns the arguments as string slices.
 fn words_of<'a>(alloc: Global, args: &'a [String]) -> Result<Vec<&'a str>, AllocError>
     ensures { IfOk result (λ words. texts words.items ≡ map string_bytes args.now) }
 {

@@ -1,4 +1,4 @@
-//! The messages of errors.
+//! The messages of the library's errors, in pieces that can be written one by one.
 
 ghost use Rattle.std.specs.Prelude.{◌≡◌};
 ghost use Rattle.humantime.specs.Prelude.{fault_of, fault_message, timestamp_message, unit_message};
@@ -7,7 +7,7 @@ ghost use Rattle.humantime_cli.specs.Writes.{joined};
 use humantime::{DurationError, TimestampError};
 use itoa::Buffer;
 
-/// The message of a duration's error, in pieces. `digits` is room for a number.
+/// Returns the message of a duration's error, in pieces to be written in order. `digits` is the buffer for a number.
 pub(crate) fn message_of_text<'t: 'a, 'a>(
     error: DurationError<'t>,
     digits: &'a mut Buffer,
@@ -31,7 +31,7 @@ pub(crate) fn message_of_text<'t: 'a, 'a>(
     }
 }
 
-/// What is said of a unit that is missing or no unit's word. `value` is the number before it.
+/// Returns the message of a missing or unknown unit. `value` is the number before it.
 fn message_of_unit<'a>(unit: &'a str, value: u64, digits: &'a mut Buffer) -> [&'a str; 5]
     ensures { joined result ≡ unit_message unit.now value }
 {
@@ -54,7 +54,7 @@ fn message_of_unit<'a>(unit: &'a str, value: u64, digits: &'a mut Buffer) -> [&'
     ]
 }
 
-/// The message of a timestamp's error.
+/// Returns the message of a timestamp's error.
 pub(crate) fn message_of_moment(error: TimestampError) -> &'static str
     ensures { result.now ≡ timestamp_message error }
 {

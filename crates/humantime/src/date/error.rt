@@ -5,7 +5,7 @@ use std::fmt;
 
 /// The error returned when parsing a timestamp fails.
 ///
-/// The parsers return the error of the first check that fails. `Display` writes the message of the original crate.
+/// The parsers return the error of the first check that fails. `Display` writes the message of the Rust crate `humantime`.
 ///
 /// # Examples
 ///

@@ -19,10 +19,11 @@ use std::simd::prelude::*;
 // The vectors are statics that are read as slices: Rattle's own compiler loads such a vector in one instruction, and builds any
 // other in five.
 
-/// The minimum of each of the first 16 bytes. The separator, at byte 10, may be any byte, since it is tested separately.
+/// The minimum of each of the first 16 bytes.
 static FRONT_MIN: [u8; 16] = *b"0000-00-00 00:00";
 
-/// How far each byte may be above its minimum: 9 for a digit and 0 for punctuation.
+/// How far each byte may be above its minimum: 9 for a digit and 0 for punctuation. The separator, at byte 10, may be any byte here,
+/// since it is tested separately.
 static FRONT_RANGE: [u8; 16] = [9, 9, 9, 9, 0, 9, 9, 0, 9, 9, 255, 9, 9, 0, 9, 9];
 
 /// The minimum of each of the 16 bytes from byte 3 on.
@@ -33,7 +34,8 @@ static BACK_RANGE: [u8; 16] = [
     255, 255, 255, 255, 255, 255, 255, 255, 255, 255, 255, 255, 255, 0, 9, 9,
 ];
 
-/// The weight of each of the first 16 bytes in the sum of its four: a tenth of the year, the month, the day and the minute.
+/// The weight of each of the first 16 bytes in `dot4`, which sums each group of four: the year divided by 10, the month, the day and
+/// the minute.
 static FRONT_WEIGHTS: [u8; 16] = [100, 10, 1, 0, 0, 10, 1, 0, 10, 1, 0, 0, 0, 0, 10, 1];
 
 /// The weight of each of the 16 bytes from byte 3 on: the last digit of the year, nothing, the hour and the second.
@@ -65,7 +67,7 @@ struct DateTime {
 ///
 /// A `T` or a space separates the date from the time. The time is in UTC, which `Z` or `+00:00` at the end may say. A fraction of a
 /// second may have any number of digits, even none, of which those past the ninth are ignored. Second 60 is read as second 59. The
-/// original crate defines this form, which is based on RFC 3339.
+/// Rust crate `humantime` defines this form, which is based on RFC 3339.
 ///
 /// # Errors
 ///
@@ -166,10 +168,13 @@ fn before_zone(bytes: &[u8]) -> &[u8]
 
 /// Returns the moment, or the error of the first check that fails.
 #[inline(always)]
-#[tactic(auto, using(crate::proofs::Timestamps::Reading::Exits::fraction_bound, crate::proofs::Timestamps::Reading::Exits::layout_parts))]
+#[tactic(auto, using(crate::proofs::Timestamps::Reading::Exits::fraction_bound, crate::proofs::Timestamps::Reading::Exits::layout_parts, crate::proofs::Timestamps::Reading::Exits::exit_separator))]
 fn read_timestamp(bytes: &[u8]) -> Result<SystemTime, TimestampError>
     ensures { result ≡ weak_answer bytes.now }
 {
+    if bytes.len() < 19 || !has_separator(bytes) {
+        return Err(TimestampError::InvalidFormat);
+    }
     if !has_layout(bytes) {
         return Err(layout_error(bytes));
     }
@@ -180,23 +185,15 @@ fn read_timestamp(bytes: &[u8]) -> Result<SystemTime, TimestampError>
     Ok(SystemTime::since_epoch(seconds, nanos))
 }
 
-/// Returns `true` if there are at least 19 bytes, with punctuation and digits in their places.
-#[inline(always)]
-#[tactic(auto, unfolding(crate::specs::Steps::Timestamps::has_layout, crate::specs::Timestamps::Checks::has_punctuation))]
-fn has_layout(bytes: &[u8]) -> bool
-    ensures { result ≡ Steps.has_layout bytes.now }
-{
-    bytes.len() >= 19 && has_separator(bytes) && bytes_in_bounds(bytes)
-}
-
-/// Returns the error for a text without that layout. Punctuation is checked before digits.
+/// Returns the error for a text without the layout that [`has_layout`] tests. Punctuation is checked before digits.
 #[inline(always)]
 #[tactic(auto, using(crate::proofs::Timestamps::Reading::Exits::exit_layout))]
 fn layout_error(bytes: &[u8]) -> TimestampError
-    requires { Steps.has_layout bytes.now ≡ false }
+    requires long { 19 ≤ length bytes.now }
+    requires other { Steps.has_layout bytes.now ≡ false }
     ensures { weak_answer bytes.now ≡ Err result }
 {
-    if bytes.len() >= 19 && has_punctuation(bytes) {
+    if has_punctuation(bytes) {
         TimestampError::InvalidDigit
     } else {
         TimestampError::InvalidFormat
@@ -227,10 +224,12 @@ fn has_punctuation(bytes: &[u8]) -> bool
         && bytes[16] == b':'
 }
 
-/// Returns `true` if each of the first 19 bytes is between its minimum and its maximum. All are tested at once: a lane has the
-/// distance of a byte above its minimum, which wraps around to a number above the range for a byte below its minimum.
+/// Returns `true` if the first 19 bytes have punctuation and digits in their places: if each byte is between its minimum and its
+/// maximum. All are tested at once: a lane has the distance of a byte above its minimum, which wraps around to a number above the
+/// range for a byte below its minimum.
 #[inline(always)]
-fn bytes_in_bounds(bytes: &[u8]) -> bool
+#[tactic(auto, unfolding(crate::specs::Steps::Timestamps::has_layout, crate::specs::Timestamps::Checks::has_punctuation))]
+fn has_layout(bytes: &[u8]) -> bool
     requires long { 19 ≤ length bytes.now }
     requires separator { IsTrue (Checks.has_separator bytes.now) }
     ensures { result ≡ Steps.has_layout bytes.now }
@@ -301,7 +300,7 @@ fn read_fraction(rest: &[u8]) -> Result<u32, TimestampError>
 
 /// Returns the nanoseconds that the digits after a point represent, or an error if a byte is not a digit. Digits past the ninth
 /// are ignored.
-#[inline(always)]
+#[inline(never)]
 fn fraction_nanos(digits: &[u8]) -> Result<u32, TimestampError>
     ensures { result ≡ digits_answer digits.now }
 {

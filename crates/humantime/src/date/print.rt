@@ -66,8 +66,9 @@ impl Model for Rfc3339Timestamp {
 
 /// Formats `moment` as a timestamp with no fraction if its nanoseconds are zero, and with nine digits otherwise.
 ///
-/// It never fails: a moment outside 1970 to 9999 fails when it is printed. RFC 3339 defines the form of the timestamp, and the
-/// original crate this choice of digits.
+/// This function never fails. For a moment outside 1970 to 9999, [`text`](Rfc3339Timestamp::text) returns `None` and `Display` returns
+/// [`fmt::Error`]. RFC 3339 defines the form of the timestamp, and the
+/// Rust crate `humantime` this choice of digits.
 ///
 /// # Examples
 ///
@@ -93,7 +94,8 @@ pub fn format_rfc3339(moment: SystemTime) -> Rfc3339Timestamp
 
 /// Formats `moment` as a timestamp with no fraction. The nanoseconds are truncated, not rounded.
 ///
-/// It never fails: a moment outside 1970 to 9999 fails when it is printed.
+/// This function never fails. For a moment outside 1970 to 9999, [`text`](Rfc3339Timestamp::text) returns `None` and `Display` returns
+/// [`fmt::Error`].
 ///
 /// # Examples
 ///
@@ -115,7 +117,8 @@ pub fn format_rfc3339_seconds(moment: SystemTime) -> Rfc3339Timestamp
 
 /// Formats `moment` as a timestamp with three digits of a second. Further digits are truncated, not rounded.
 ///
-/// It never fails: a moment outside 1970 to 9999 fails when it is printed.
+/// This function never fails. For a moment outside 1970 to 9999, [`text`](Rfc3339Timestamp::text) returns `None` and `Display` returns
+/// [`fmt::Error`].
 ///
 /// # Examples
 ///
@@ -137,7 +140,8 @@ pub fn format_rfc3339_millis(moment: SystemTime) -> Rfc3339Timestamp
 
 /// Formats `moment` as a timestamp with six digits of a second. Further digits are truncated, not rounded.
 ///
-/// It never fails: a moment outside 1970 to 9999 fails when it is printed.
+/// This function never fails. For a moment outside 1970 to 9999, [`text`](Rfc3339Timestamp::text) returns `None` and `Display` returns
+/// [`fmt::Error`].
 ///
 /// # Examples
 ///
@@ -159,7 +163,8 @@ pub fn format_rfc3339_micros(moment: SystemTime) -> Rfc3339Timestamp
 
 /// Returns a value that prints `moment` with nine digits after the second.
 ///
-/// It never fails: a moment outside 1970 to 9999 fails when it is printed.
+/// This function never fails. For a moment outside 1970 to 9999, [`text`](Rfc3339Timestamp::text) returns `None` and `Display` returns
+/// [`fmt::Error`].
 ///
 /// # Examples
 ///
@@ -199,7 +204,8 @@ impl Rfc3339Timestamp {
 
     /// Returns the printed text, borrowed from the front of `buf`, or `None` for a moment outside 1970 to 9999.
     ///
-    /// The text has 20, 24, 27 or 30 bytes; the bytes of `buf` after it may hold anything. At `None` `buf` is unchanged.
+    /// The text has 20, 24, 27 or 30 bytes; the bytes of `buf` after it are unspecified. If it returns `None`, `buf` is
+    /// unchanged.
     ///
     /// # Examples
     ///
@@ -282,8 +288,9 @@ impl fmt::Display for Rfc3339Timestamp {
     }
 }
 
-/// Returns the first `len` bytes as a text, or `None` for `None`. It is a function for the sake of `text`, whose proof cannot be
-/// generated.
+/// Returns the first `len` bytes as a `str`, or `None` if `len` is `None`.
+///
+/// It is a function of its own so that the proof of [`Rfc3339Timestamp::text`], which is written by hand, can use its contract.
 #[inline(always)]
 fn text_from_len(buf: &[u8; 30], len: Option<usize>) -> Option<&str>
     requires fits { IfSome len (λ n. n ≤ 30) }
@@ -306,8 +313,10 @@ fn date_and_time(moment: SystemTime) -> Option<(Date, u32)>
     Some((date, (secs % 86_400) as u32))
 }
 
-/// Writes `YYYY-MM-DDTHH:MM:SS` and a point to the front of the buffer: a pattern with all the punctuation, whose letters the digits
-/// then replace.
+/// Writes `YYYY-MM-DDTHH:MM:SS` and a point to the front of the buffer.
+///
+/// It copies a template of 30 bytes, with all the punctuation, and replaces the letters before the point, except `T`, by digits. The
+/// rest of the template, `nnnnnnnnnz`, stays.
 #[inline(always)]
 #[tactic(auto, using(crate::proofs::Dates::Years::valid_from_test))]
 fn write_time(date: Date, time: u32, buf: &mut [u8; 30])

@@ -1,4 +1,4 @@
-//! The value of a span, and its number and its fraction built from digits.
+//! [`Amount`], what a span adds to a duration, and the arithmetic that builds its number and its [`Fraction`] digit by digit.
 
 ghost use Rattle.std.specs.Prelude.{◌≡◌, ◌++◌, [], ◌∷◌, ℕ, List, true, SomeIff, MatchOption, ◌+◌, ◌-◌, ◌*◌, ◌^◌, ◌≤◌, ◌<◌};
 ghost use Rattle.std.specs.Option.{ForSome};
@@ -38,13 +38,13 @@ static POWERS_OF_TEN: [u64; 20] = [
 pub(crate) struct Fraction {
     /// The digits without trailing zeros, as a number.
     pub significand: u64,
-    /// The number of digits without trailing zeros.
+    /// The number of digits before the trailing zeros, leading zeros included.
     pub significant: usize,
-    /// The number of digits, trailing zeros included.
+    /// The number of all digits.
     pub len: usize,
 }
 
-/// What a span adds: its number, its fraction and the scale of its unit.
+/// What a span adds to a duration: its number `value`, its fraction and the scale of its unit.
 #[derive(Clone, Copy, Debug)]
 pub(crate) struct Amount {
     pub value: u64,

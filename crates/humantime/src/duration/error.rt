@@ -11,7 +11,7 @@ use std::fmt;
 /// The error returned when parsing a duration fails.
 ///
 /// Offsets are in bytes, and lie on `char` boundaries of the text. `Display` writes the message of the Rust crate, with the
-/// unit as it stands in the text. Two errors are equal if their variants and fields are equal; units are compared as text.
+/// unit as written in the text. Two errors are equal if their variants and fields are equal; units are compared as text.
 ///
 /// # Examples
 ///
@@ -25,9 +25,9 @@ use std::fmt;
 /// ```
 #[derive(Clone, Copy, PartialEq, Eq, Debug)]
 pub enum DurationError<'a> {
-    /// The character at this offset cannot stand there, or the point at this offset has no digit after it.
+    /// The character at this offset is not allowed there, or is a point without a digit after it.
     InvalidCharacter(usize),
-    /// A number was expected at this offset, but another character was found.
+    /// A number was expected, but the character at this offset is not a digit.
     NumberExpected(usize),
     /// The letters after a number do not name a unit, or the text ends without a unit.
     UnknownUnit {
@@ -42,8 +42,9 @@ pub enum DurationError<'a> {
     },
     /// A number, its product with the size of its unit, or the sum overflows; or a fraction cannot be represented.
     ///
-    /// A fraction, without its trailing zeros, has at most 19 digits. Its product with the size of its unit has to fit `u64`,
-    /// and has to be a whole number of nanoseconds (for units up to minutes) or of seconds (from hours on).
+    /// A fraction can be represented if it has at most 19 digits before its trailing zeros, if these digits as a number, times the
+    /// size of the unit, fit a `u64`, and if the fraction of the unit is a whole number of nanoseconds (units up to minutes) or of
+    /// seconds (hours and longer units).
     NumberOverflow,
     /// The text is empty or consists of whitespace only.
     Empty,

@@ -1,4 +1,4 @@
-//! The spans of a text, one at a time.
+//! [`SpanIter`], the iterator over the spans of a text, built on `read_span`.
 
 use crate::duration::cursor::Cursor;
 use crate::duration::error::DurationError;

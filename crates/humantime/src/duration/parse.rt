@@ -1,4 +1,4 @@
-//! Parsing a duration.
+//! [`parse_duration`] and [`spans`]: whole texts, built on [`SpanIter`] and `add_amount`.
 
 ghost use Rattle.std.specs.Prelude.{◌≡◌, chars, map, IfErr};
 ghost use Rattle.humantime.specs.Prelude.{AreItems, IsDurationAnswer, PointsInto, items_left, result_view, text_of};
@@ -48,8 +48,7 @@ pub fn spans(s: &str) -> SpanIter<'_>
 
 /// Returns the sum of the spans of a text.
 ///
-/// It is not inlined, so that `0` is parsed without its stack frame. An error is matched, since the kit's own back end
-/// makes a call to copy it for `?`.
+/// It is not inlined, so that [`parse_duration`] handles `0` without setting up its stack frame.
 #[inline(never)]
 fn sum_of<'a>(text: &'a str) -> Result<StdDuration, DurationError<'a>>
     ensures value { result_view result ≡ sum_spans 0 (map span_in (item_views (chars text.now))) }
@@ -58,6 +57,7 @@ fn sum_of<'a>(text: &'a str) -> Result<StdDuration, DurationError<'a>>
     let mut total = StdDuration::ZERO;
     let mut items = spans(text);
     while let Some(item) = items.next() {
+        // An error is matched, since Rattle's own compiler would copy it by a function call for `?`.
         match item {
             Ok(span) => match add_amount(total, span.amount) {
                 Some(sum) => total = sum,
@@ -73,15 +73,16 @@ fn sum_of<'a>(text: &'a str) -> Result<StdDuration, DurationError<'a>>
 ///
 /// The text is one span or more, each a number, an optional fraction and a unit, as in `2h 37min` or `1.5d`, and the
 /// duration is their sum. Whitespace is allowed between digits, and before and after each part. Trailing zeros of a
-/// fraction change nothing. The text `0` is zero.
+/// fraction change nothing. The text `0`, without a unit or
+/// whitespace, is a duration of zero.
 ///
 /// # Errors
 ///
 /// Returns the first error of the text. Its offsets are in bytes and lie on `char` boundaries.
 ///
 /// - [`Empty`](DurationError::Empty): the text is empty or has only whitespace.
-/// - [`NumberExpected`](DurationError::NumberExpected): the text starts, or goes on after a span and whitespace, with a
-///   character that is neither a digit nor whitespace.
+/// - [`NumberExpected`](DurationError::NumberExpected): the first character after leading whitespace, or after a span and the
+///   whitespace that follows it, is not a digit.
 /// - [`InvalidCharacter`](DurationError::InvalidCharacter): a span has a character that is not allowed there, or a point
 ///   without a digit after it.
 /// - [`UnknownUnit`](DurationError::UnknownUnit): the letters after a number are not a unit, or the text ends without

@@ -1,4 +1,4 @@
-//! Prints durations: [`format_duration`] and [`canonical`], over the writer of `writer`.
+//! Prints durations: [`format_duration`], [`FormattedDuration`] and [`canonical`], built on [`Writer`].
 
 ghost use Rattle.std.specs.Prelude.{◌≡◌, ◌<◌, ◌≤◌, ◌↔◌, ℕ, List, take, chars, IfOk, IfErr, OnErr, Ok, Some};
 ghost use Rattle.std.specs.Borrow.{sem};
@@ -82,7 +82,7 @@ impl FormattedDuration {
         &self.value
     }
 
-    /// Writes the text to the front of `buf` and returns it, borrowed from there.
+    /// Writes the text to the front of `buf` and returns it as a slice of `buf`.
     ///
     /// The bytes of `buf` after the text are unspecified. [`parse_duration`](crate::parse_duration) reads the text back to the
     /// same duration.

@@ -1,4 +1,4 @@
-//! Reading one span.
+//! Reads one [`Span`] at a cursor, built on the steps of `scan`.
 
 ghost use Rattle.std.proofs.Props.{props};
 ghost use Rattle.std.specs.Prelude.{◌≡◌, ◌==◌, ◌≤◌, true, false, length, chars, IfSome, MatchOption, option_map};
@@ -72,7 +72,7 @@ impl<'a> Decimal<'a> {
     }
 }
 
-/// Reads the word at the cursor, and returns it with the cursor after it; `None` if another character than a letter is there.
+/// Reads the word at the cursor, and returns it with the cursor after it, or `None` if the next character is not a letter.
 #[inline(always)]
 fn read_unit<'a>(start: Cursor<'a>) -> Option<(Word<'a>, Cursor<'a>)>
     ensures word { MatchOption result (begins_no_word (ahead start.entry) ≡ true) (λ x. IsWordOf start.entry.rest.now x.0.letters.now x.1.rest.now) }
@@ -86,8 +86,8 @@ fn read_unit<'a>(start: Cursor<'a>) -> Option<(Word<'a>, Cursor<'a>)>
     Some((word, end))
 }
 
-/// Returns the cursor after the whitespace character that follows a word, or after the word if a digit or the end of the
-/// text follows it; `None` if another character does.
+/// Returns the cursor from which to look for the next span: after the whitespace character that follows the word, or right after
+/// the word if a digit or the end of the text follows. Returns `None` if any other character follows.
 #[inline(always)]
 fn end_span<'a>(after_word: Cursor<'a>) -> Option<Cursor<'a>>
     ensures { MatchOption result (ends_span (ahead after_word.entry) ≡ false) (λ next. EndsSpan after_word.entry next) }
@@ -118,7 +118,7 @@ pub(crate) fn read_span<'a>(start: Cursor<'a>) -> Result<(Span<'a>, Cursor<'a>),
     let Some(number) = read_number(start) else {
         return Err(DurationError::NumberOverflow);
     };
-    // `complete_span` is inlined twice, so that a span without a fraction keeps nothing of one in registers.
+    // `complete_span` is inlined twice, so that a span without a fraction uses no registers for one.
     let Some(digits) = skip_point(number.end) else {
         return complete_span(Decimal {
             number,

@@ -1,4 +1,4 @@
-//! Steps over a text: whitespace, a number, a fraction, a word.
+//! Reads the parts of a span at a [`Cursor`]: whitespace, a number, a fraction, a word.
 
 ghost use Rattle.std.proofs.Props.{props};
 ghost use Rattle.std.specs.Prelude.{◌≡◌, true, ◌+◌, ◌<◌, SomeIff, drop, length, chars, option_map, IfSome, MatchOption, ◌≤◌, ◌==◌, ◌&&◌, ◌||◌, take, reverse, IsCharBoundary};
@@ -19,7 +19,7 @@ use crate::unit::words::{EMPTY_KEY, MAX_BYTES, NO_UNIT, push_byte};
 /// The largest number whose product with 10 fits in a `u64`.
 const MAX_TIMES_TEN: u64 = u64::MAX / 10;
 
-/// Returns whether these are the two bytes of the micro sign or of the Greek letter mu, the letters beyond ASCII.
+/// Returns `true` if the bytes encode the micro sign or the Greek letter mu, the only letters beyond ASCII in words of units.
 #[inline(always)]
 fn is_mu(first: u8, second: u8) -> bool
     ensures { result ≡ ((first == 0xc2 && second == 0xb5) || (first == 0xce && second == 0xbc)) }
@@ -49,7 +49,7 @@ pub(crate) fn skip_whitespace_char(text: &str, at: usize) -> Option<usize>
     ensures { SomeIff result (0 < whitespace_len (chars (drop at text.now))) (at + whitespace_len (chars (drop at text.now))) }
 {
     let bytes = text.as_bytes();
-    // Mostly an ASCII letter, which this test alone tells from whitespace.
+    // Usually this is an ASCII letter. One test rules out whitespace for it, and for all other visible ASCII characters.
     if bytes[at] > b' ' && bytes[at] < 0x80 {
         return None;
     }
@@ -113,7 +113,7 @@ pub(crate) fn begins_with_digit(text: &str) -> bool
     !bytes.is_empty() && bytes[0].is_ascii_digit()
 }
 
-/// A number, from its first digit to what follows it.
+/// A number, with the cursors before and after it. The whitespace after its digits is part of it.
 #[derive(Clone, Copy)]
 pub(crate) struct Number<'a> {
     pub start: Cursor<'a>,
@@ -138,7 +138,7 @@ pub(crate) fn read_number<'a>(start: Cursor<'a>) -> Option<Number<'a>>
     let mut value = (bytes[0] - b'0') as u64;
     let mut at = 1;
     while at < bytes.len() {
-        // More than 9 for every byte but a digit, and as wide as the value, so that no digit is widened.
+        // Greater than 9 unless the byte is a digit. It is a `u64`, so that it is added to the value without a conversion.
         let digit = (bytes[at] as u64).wrapping_sub(48);
         if digit <= 9 {
             at += 1;
@@ -162,7 +162,7 @@ pub(crate) fn read_number<'a>(start: Cursor<'a>) -> Option<Number<'a>>
     })
 }
 
-/// A fraction, from what follows its point to what follows its digits.
+/// The digits of a fraction, with the cursors before and after them. The whitespace around the digits is part of the fraction.
 #[derive(Clone, Copy)]
 pub(crate) struct FractionPart<'a> {
     pub start: Cursor<'a>,
@@ -223,8 +223,9 @@ pub(crate) struct Word<'a> {
     ghost scale: { scale_of_key key ≡ scale_of_word (chars letters.now) },
 }
 
-/// The place after the letters at the front of the text, and the key of the bytes before it, where they are few. The key of more
-/// than [`MAX_BYTES`] bytes wraps around, and says nothing.
+/// Returns the length of the letters at the start of the text, in bytes, and their key.
+///
+/// If the length exceeds [`MAX_BYTES`], the key has wrapped around and is meaningless.
 #[inline(always)]
 #[tactic(auto, using(crate::proofs::Durations::Bytes::Tails::no_chars_at))]
 fn letters_end(text: &str) -> (usize, u64)
@@ -249,8 +250,10 @@ fn letters_end(text: &str) -> (usize, u64)
     (at, key)
 }
 
-/// The word at the front of the text, empty only where nothing follows it, and what follows it; `None` where no letter begins
-/// what stands there.
+/// Returns the word at the start of the text and the text after it, or `None` if the text begins with a character that is not a
+/// letter.
+///
+/// The word is empty only if the text is empty.
 #[inline(always)]
 pub(crate) fn read_word<'a>(text: &'a str) -> Option<(Word<'a>, &'a str)>
     ensures { MatchOption result (begins_no_word (chars text.now) ≡ true) (λ x. IsWordOf text.now x.0.letters.now x.1.now) }

@@ -1,4 +1,4 @@
-//! Spans of a text.
+//! [`Span`]: a number with its fraction and its unit, as read from a text.
 
 ghost use Rattle.std.specs.Prelude.{◌≡◌, option_map, chars};
 ghost use Rattle.std.specs.Str.{drop_trailing_whitespace};
@@ -27,7 +27,7 @@ use crate::duration::amount::Amount;
 pub struct Span<'a> {
     // From the first digit, with the whitespace that follows the last.
     pub(crate) number: &'a str,
-    // From the point to the unit, without the point, if there is one.
+    // From after the point to the unit, or `None` if there is no point.
     pub(crate) digits: Option<&'a str>,
     pub(crate) unit: &'a str,
     pub(crate) start: usize,

@@ -1,4 +1,4 @@
-//! Additions to a duration, each refused where it breaks a limit.
+//! Adds the [`Amount`] of a span to a duration, with overflow checked.
 
 ghost use Rattle.std.specs.Prelude.{◌≡◌, ◌≤◌, ◌*◌, SomeIff};
 ghost use Rattle.humantime.specs.Durations.Characters.{u64_max};
@@ -11,8 +11,9 @@ use crate::duration::amount::{Amount, Fraction, power_of_ten};
 use crate::unit::Addition;
 use crate::value::StdDuration;
 
-/// Returns the product, or `None` on overflow. It is computed in 128 bits: for `checked_mul` Rattle's own compiler keeps a limit for
-/// each factor on the stack.
+/// Returns the product, or `None` on overflow.
+///
+/// It is computed in 128 bits, since Rattle's own compiler would keep a limit for each factor of `checked_mul` on the stack.
 #[inline(always)]
 fn product(value: u64, factor: u64) -> Option<u64>
     ensures { SomeIff result (value * factor ≤ u64_max) (value * factor) }
@@ -45,8 +46,9 @@ fn part_of(fraction: Fraction, factor: u64) -> Option<u64>
     Some(product / power)
 }
 
-/// Returns the sum plus a fraction of an addition, or `None` if that is not a whole number, or on overflow. A unit without fractions
-/// takes one whose digits are all zeros.
+/// Returns the sum plus a fraction of an addition, or `None` if that is not a whole number, or on overflow.
+///
+/// If `one` is `None`, the fraction has to be zero.
 fn add_part(sum: StdDuration, one: Option<Addition>, fraction: Fraction) -> Option<StdDuration>
     requires { fraction.significant ≤ 19 }
     ensures { result ≡ steps.add_part sum one fraction.significand fraction.significant }
@@ -64,7 +66,7 @@ pub(crate) fn add_amount(total: StdDuration, amount: Amount) -> Option<StdDurati
     ensures { (s : SpelledSpan) → IsAmountOf amount s → result ≡ add_span total s }
 {
     let (count, scale) = (amount.value, amount.scale);
-    // `add_times` stands in both arms, so that it is inlined twice and a span without a fraction is not asked for one again.
+    // Both arms call `add_times`, so that it is inlined twice and `amount.fraction` is tested only once.
     match amount.fraction {
         None => add_times(total, scale.one, count),
         Some(fraction) => {

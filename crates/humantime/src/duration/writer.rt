@@ -1,4 +1,4 @@
-//! Writes text to the front of a caller's buffer. Counts are written by the crate `itoa`.
+//! [`Writer`], which appends text to a byte buffer. Numbers are written by the crate `itoa`.
 
 ghost use Rattle.std.specs.Prelude.{◌≡◌, ◌<◌, ◌≤◌, ◌+◌, ◌==◌, if◌then◌else◌, true, false, codes, [], ◌∷◌, length, take, decimal};
 ghost use Rattle.std.specs.Str.{IsUtf8};
@@ -29,7 +29,7 @@ impl<'b> Writer<'b> {
         Writer { bytes, end: 0 }
     }
 
-    /// Writes a text.
+    /// Appends a text.
     #[inline(always)]
     fn push(&mut self, text: &str)
         requires fits { self.old.end + length text.now ≤ length self.old.bytes.now }
@@ -41,7 +41,7 @@ impl<'b> Writer<'b> {
         self.end = end;
     }
 
-    /// Writes the decimal digits of a number.
+    /// Appends the decimal digits of a number.
     #[inline(always)]
     fn push_number(&mut self, number: u64)
         requires fits { self.old.end + length (decimal number) ≤ length self.old.bytes.now }
@@ -51,7 +51,7 @@ impl<'b> Writer<'b> {
         self.push(buf.format(number));
     }
 
-    /// Writes a count and its unit, after a space if it is not the first. A count of zero is left out.
+    /// Appends a count and its unit, preceded by a space unless nothing has been written yet. A count of zero is left out.
     #[inline(always)]
     pub(crate) fn push_count(&mut self, count: u64, unit: &str)
         requires fits { self.old.end + 1 + most_bytes count (unit.now, false) ≤ length self.old.bytes.now }
@@ -67,7 +67,7 @@ impl<'b> Writer<'b> {
         self.push(unit);
     }
 
-    /// Writes a count and its unit as `push_count` does, with an `s` after the unit if the count is above one.
+    /// Appends a count and its unit as `push_count` does, with an `s` after the unit if the count is above one.
     #[inline(always)]
     pub(crate) fn push_plural(&mut self, count: u64, unit: &str)
         requires fits { self.old.end + 1 + most_bytes count (unit.now, true) ≤ length self.old.bytes.now }
@@ -79,7 +79,7 @@ impl<'b> Writer<'b> {
         }
     }
 
-    /// Writes zero seconds if nothing is written yet.
+    /// Appends `0s` if nothing has been written yet.
     #[inline(always)]
     pub(crate) fn push_zero_if_empty(&mut self)
         requires { 2 ≤ length self.old.bytes.now }

@@ -1,7 +1,7 @@
-//! The words of the units.
+//! Looks up the size of a unit by its word.
 //!
-//! A word is looked up by its key, a number whose digits to base 256 are a 1 and then the word's bytes. "Adding a unit or a word" in
-//! docs/CONTRIBUTING.md says what else changes with a row of this table.
+//! A word is looked up by its key, the number whose digits in base 256 are a 1 and then the bytes of the word. Before you change a
+//! word or a row of [`scale_of`], see "Adding a unit or a word" in docs/CONTRIBUTING.md.
 
 ghost use Rattle.std.specs.Prelude.{◌≡◌, ◌+◌, ◌*◌, ◌^◌, ◌<◌, option_map};
 ghost use Rattle.humantime.specs.Steps.Keys.{scale_of_key};
@@ -32,17 +32,17 @@ macro_rules! whole_nanos {
     () => { Scale { one: Addition::Nanos(1), fraction: None } };
 }
 
-/// The scale of a unit of `size` nanoseconds, whose fractions are whole nanoseconds.
+/// The scale of a unit of `size` nanoseconds, whose fractions have to be whole numbers of nanoseconds.
 macro_rules! in_nanos {
     ($size:expr) => { Scale { one: Addition::Nanos($size), fraction: Some(Addition::Nanos($size)) } };
 }
 
-/// The scale of a unit of `size` seconds, whose fractions are whole nanoseconds.
+/// The scale of a unit of `size` seconds, whose fractions have to be whole numbers of nanoseconds.
 macro_rules! in_seconds_and_nanos {
     ($size:expr) => { Scale { one: Addition::Seconds($size), fraction: Some(Addition::Nanos($size * sizes::NANOS_PER_SECOND as u64)) } };
 }
 
-/// The scale of a unit of `size` seconds, whose fractions are whole seconds.
+/// The scale of a unit of `size` seconds, whose fractions have to be whole numbers of seconds.
 macro_rules! in_seconds {
     ($size:expr) => { Scale { one: Addition::Seconds($size), fraction: Some(Addition::Seconds($size)) } };
 }

@@ -1,4 +1,4 @@
-//! [`StdDuration`]: a duration of whole nanoseconds.
+//! [`StdDuration`]: a duration with nanosecond precision.
 
 ghost use Rattle.std.specs.Prelude.{◌≡◌, ◌==◌, ◌+◌, ◌*◌, ◌/◌, ◌%◌, ◌^◌, ◌<◌, SomeIff};
 ghost use Rattle.std.proofs.Common.{rules};
@@ -13,8 +13,8 @@ use std::marker::Model;
 
 /// A length of time: whole seconds (`u64`) and nanoseconds below 10^9.
 ///
-/// It stands for the `Duration` of Rust's standard library, with the methods that a parser and a printer need. Contracts
-/// see it as its total number of nanoseconds; order and equality are those of this total. The default is zero.
+/// This is the counterpart of `Duration` in `std::time`, with some of its methods. Contracts see it as its total number of
+/// nanoseconds; order and equality are those of this total. The default is zero.
 ///
 /// # Examples
 ///

@@ -26,8 +26,9 @@ pub const UNIX_EPOCH: SystemTime = SystemTime { secs: 0, nanos: 0 };
 
 /// A moment in time: seconds since 1970-01-01T00:00:00Z (`i64`), and nanoseconds below 10^9 after that second.
 ///
-/// It stands for the `SystemTime` of Rust's standard library, with the methods that a parser and a printer need. Contracts
-/// see it as its number of nanoseconds since 1970-01-01T00:00:00Z, negative before; order and equality are those of this number.
+/// This is the counterpart of `SystemTime` in `std::time`. It has `checked_add` and `duration_since`, and gives its seconds and
+/// nanoseconds. Contracts see it as its number of nanoseconds since 1970-01-01T00:00:00Z, negative before; order and equality are
+/// those of this number.
 ///
 /// # Examples
 ///
@@ -66,7 +67,7 @@ impl Model for SystemTime {
 
 /// The error returned by [`SystemTime::duration_since`] if `earlier` is later than the moment.
 ///
-/// It keeps how much later it is. Contracts see it as that number of nanoseconds, and equality is that of this number.
+/// It holds the duration from the moment to `earlier`. Contracts see it as that number of nanoseconds, and equality is that of this number.
 ///
 /// # Examples
 ///
@@ -92,7 +93,7 @@ impl Model for SystemTimeError {
 }
 
 impl SystemTimeError {
-    /// Returns how much later `earlier` was than the moment.
+    /// Returns the duration from the moment to `earlier`.
     ///
     /// # Examples
     ///
@@ -242,7 +243,7 @@ impl SystemTime {
         SystemTime { secs, nanos }
     }
 
-    /// Returns the duration from a moment that is not later.
+    /// Returns the duration from `earlier`, which is not later than `self`, to `self`.
     fn since(self, earlier: SystemTime) -> StdDuration
         requires { earlier ≤ℤ self }
         ensures { self ≡ earlier +ℤ pos result }

@@ -10,13 +10,17 @@ use Rattle.humantime.specs.Timestamps.Fields.{seconds_of}
 use Rattle.humantime.specs.Steps.Timestamps.{has_layout, fraction_answer}
 use Rattle.humantime.specs.Answers.Timestamps.{weak_answer}
 use Rattle.humantime.specs.declared.date.parse.DateTime.{DateTime}
-use Rattle.humantime.specs.Timestamps.Checks.{has_punctuation, has_digits, date_time_of, is_valid_date_time, fraction_part}
+use Rattle.humantime.specs.Timestamps.Checks.{has_separator, has_punctuation, has_digits, date_time_of, is_valid_date_time, fraction_part}
 use Rattle.humantime.proofs.Timestamps.Reading.Fractions.{digits_from_test, nanos_bound}
 
 pub exit_layout : (bytes : List ℕ) → has_layout bytes ≡ false
     → weak_answer bytes ≡ Err (if nat_le 19 (length bytes) && has_punctuation bytes then InvalidDigit else InvalidFormat)
 unfolding weak_answer has_layout
 exit_layout bytes other = grind (arith, nat_tests)
+
+pub exit_separator : (bytes : List ℕ) → (nat_le 19 (length bytes) && has_separator bytes) ≡ false → weak_answer bytes ≡ Err InvalidFormat
+unfolding weak_answer has_punctuation
+exit_separator bytes other = grind (arith, nat_tests)
 
 pub layout_parts : (bytes : List ℕ) → has_layout bytes ≡ true → (19 ≤ length bytes) × (has_punctuation bytes ≡ true) × (has_digits bytes ≡ true)
 unfolding has_layout

@@ -1,6 +1,6 @@
 use Rattle.std.proofs.Common.{eqb, w8, replicate, arith, ◌∙◌}
 use Rattle.humantime.proofs.Timestamps.Reading.Lanes.{all_compared, all_by_one, beyond, length-beyond, layout_tested}
-use Rattle.humantime.proofs.date.parse.bytes_in_bounds.Goals as goal
+use Rattle.humantime.proofs.date.parse.has_layout.Goals as goal
 
 pub returns : goal.returns
 returns c =
