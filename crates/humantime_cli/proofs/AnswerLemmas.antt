@@ -5,17 +5,17 @@ use Rattle.std.specs.Result.{result_map_both}
 use Rattle.humantime.specs.declared.date.error.TimestampError.{TimestampError}
 use Rattle.humantime.specs.Prelude.{Fault, HasFault, IsCanonicalOf, IsPrintable, fault_message, timestamp_message, canonical_answer, strict_answer, weak_answer, places_of, shortest_text}
 use Rattle.humantime.proofs.Theorems.{canonical_again, one_stamp_outcome, printed_moment_reads, places_of_bound, strict_printable, weak_printable}
-use Rattle.humantime_cli.specs.Answers.{Answers, OneAnswer, Tells, TellsMoment, Command, Duration, Strict, Weak}
+use Rattle.humantime_cli.specs.Answers.{Answers, OneAnswer, IsOutputOf, IsMomentOutput, Command, Duration, Strict, Weak}
 
 -- a canonical text or a fault, as the command for durations tells it
 pub tells_duration : (text : List ℕ) (read : Result (List ℕ) Fault) → ((t : List ℕ) → (read ≡ Ok t) ↔ IsCanonicalOf text t)
-    → ((e : Fault) → (read ≡ Err e) ↔ HasFault (chars text) e) → Tells Duration text (result_map_both (λ t. t) fault_message read)
+    → ((e : Fault) → (read ≡ Err e) ↔ HasFault (chars text) e) → IsOutputOf Duration text (result_map_both (λ t. t) fault_message read)
 tells_duration text (Ok printed) canonical fault = (canonical printed).0 refl
 tells_duration text (Err e) canonical fault = (e, (fault e).0 refl, refl)
 
 -- what is told of one moment or error is told of each that is implied
 pub tells_moment : {P Q : ℤ → Type 0} {F G : TimestampError → Type 0} (told : Result (List ℕ) (List ℕ)) → ((t : ℤ) → P t → Q t) → ((e : TimestampError) → F e → G e)
-    → TellsMoment P F told → TellsMoment Q G told
+    → IsMomentOutput P F told → IsMomentOutput Q G told
 tells_moment (Ok printed) value error (t, is, whole) = (t, value t is, whole)
 tells_moment (Err message) value error (e, is, whole) = (e, error e is, whole)
 
@@ -39,7 +39,7 @@ abbrev moment_written : Result ℤ TimestampError → Result (List ℕ) (List �
 moment_written read = result_map_both (λ t. unwrap_or (shortest_text t) []) timestamp_message read
 
 one_moment : (read : Result ℤ TimestampError) (told : Result (List ℕ) (List ℕ))
-    → TellsMoment (λ t. (read ≡ Ok t) × IsPrintable t) (λ e. read ≡ Err e) told → told ≡ moment_written read
+    → IsMomentOutput (λ t. (read ≡ Ok t) × IsPrintable t) (λ e. read ≡ Err e) told → told ≡ moment_written read
 one_moment read (Ok printed) (t, (is, within), whole) =
     let shown = ((printed_moment_reads t (places_of t) (places_of_bound t)).displayed printed).1 (within, whole) in
     ap (λ o. Ok (unwrap_or o [])) (sym shown) ∙ ap moment_written (sym is)
@@ -52,7 +52,7 @@ words_answer ((b ∷ name) ∷ text ∷ words) =
     else (if b == 115 then moment_written (strict_answer text) else moment_written (weak_answer text))
 words_answer words = Err []
 
-one_command_answer : {name : List ℕ} (command : Command name) (text : List ℕ) (told : Result (List ℕ) (List ℕ)) → Tells command text told → told ≡ words_answer (name ∷ text ∷ [])
+one_command_answer : {name : List ℕ} (command : Command name) (text : List ℕ) (told : Result (List ℕ) (List ℕ)) → IsOutputOf command text told → told ≡ words_answer (name ∷ text ∷ [])
 one_command_answer Duration text (Ok printed) is = ap (result_map_both (λ t. t) fault_message) (sym (((canonical_again text).text printed).1 is))
 one_command_answer Duration text (Err message) (fault, has, same) =
     ap Err same ∙ ap (result_map_both (λ t. t) fault_message) (sym (((canonical_again text).fault fault).1 has))

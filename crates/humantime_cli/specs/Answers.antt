@@ -16,18 +16,18 @@ pub data Command : List ℕ → Type 0 where
   Strict : Command (codes "strict")
   Weak : Command (codes "weak")
 
--- This is told of a text: the printed text, with the default number of digits, of a moment that it denotes, or the message of an error
+-- This is output of a text: the printed text, with the default number of digits, of a moment that it denotes, or the message of an error
 -- that it has.
-abbrev pub TellsMoment : (ℤ → Type 0) → (TimestampError → Type 0) → Result (List ℕ) (List ℕ) → Type 0
-TellsMoment Denotes Has (Ok printed) = (moment : ℤ) × Denotes moment × IsPrinted moment (places_of moment) printed
-TellsMoment Denotes Has (Err message) = (error : TimestampError) × Has error × (message ≡ timestamp_message error)
+abbrev pub IsMomentOutput : (ℤ → Type 0) → (TimestampError → Type 0) → Result (List ℕ) (List ℕ) → Type 0
+IsMomentOutput Denotes Has (Ok printed) = (moment : ℤ) × Denotes moment × IsPrinted moment (places_of moment) printed
+IsMomentOutput Denotes Has (Err message) = (error : TimestampError) × Has error × (message ≡ timestamp_message error)
 
 -- A command tells this of a text: what it prints, or the first fault's message.
-abbrev pub Tells : {name : List ℕ} → Command name → List ℕ → Result (List ℕ) (List ℕ) → Type 0
-Tells Duration text (Ok printed) = IsCanonicalOf text printed
-Tells Duration text (Err message) = (fault : Fault) × HasFault (chars text) fault × (message ≡ fault_message fault)
-Tells Strict text told = TellsMoment (IsStrictMoment text) (λ error. first_failed (strict_checks text) ≡ Some error) told
-Tells Weak text told = TellsMoment (IsWeakMoment text) (λ error. first_failed (weak_checks text) ≡ Some error) told
+abbrev pub IsOutputOf : {name : List ℕ} → Command name → List ℕ → Result (List ℕ) (List ℕ) → Type 0
+IsOutputOf Duration text (Ok printed) = IsCanonicalOf text printed
+IsOutputOf Duration text (Err message) = (fault : Fault) × HasFault (chars text) fault × (message ≡ fault_message fault)
+IsOutputOf Strict text output = IsMomentOutput (IsStrictMoment text) (λ error. first_failed (strict_checks text) ≡ Some error) output
+IsOutputOf Weak text output = IsMomentOutput (IsWeakMoment text) (λ error. first_failed (weak_checks text) ≡ Some error) output
 
 -- An answer is what a command tells, or how the program is called.
 abbrev pub Answer : Type 0
@@ -35,8 +35,8 @@ Answer = Option (Result (List ℕ) (List ℕ))
 
 -- The words have this answer: what a command tells of its text, else the usage.
 abbrev pub Answers : List (List ℕ) → Answer → Type 0
-Answers words (Some told) =
-    (name : List ℕ) × (command : Command name) × (text : List ℕ) × (words ≡ name ∷ text ∷ []) × Tells command text told
+Answers words (Some output) =
+    (name : List ℕ) × (command : Command name) × (text : List ℕ) × (words ≡ name ∷ text ∷ []) × IsOutputOf command text output
 Answers words None = (name : List ℕ) → Command name → (text : List ℕ) → words ≢ name ∷ text ∷ []
 
 -- The bytes written to standard output and standard error so far, each where its writer tells them.

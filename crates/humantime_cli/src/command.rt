@@ -3,7 +3,7 @@
 ghost use Rattle.std.specs.Prelude.{◌≡◌, ℕ, List, Result, Some, Ok, Err, IfOk};
 ghost use Rattle.std.specs.Result.{result_map_both, result_unwrap_or};
 ghost use Rattle.humantime.specs.Prelude.{IsPrintable, text_result_view, fault_message};
-ghost use Rattle.humantime_cli.specs.Answers.{texts, streams, Ends, EndsWith, OneAnswer, TellsMoment};
+ghost use Rattle.humantime_cli.specs.Answers.{texts, streams, Ends, EndsWith, OneAnswer, IsMomentOutput};
 
 use crate::message::{message_of_moment, message_of_text};
 use crate::writing::{WriteFailed, write_line};
@@ -115,8 +115,8 @@ fn answer_moment<O: Write, E: Write>(
     err: &mut E,
 ) -> Result<u8, WriteFailed>
     requires { IfOk read IsPrintable }
-    ensures { (told : Result (List ℕ) (List ℕ)) × TellsMoment (λ moment. read ≡ Ok moment) (λ error. read ≡ Err error) told
-        × EndsWith (Some told) (result_unwrap_or result 3) (streams (O.contents out.old) (E.contents err.old))
+    ensures { (output : Result (List ℕ) (List ℕ)) × IsMomentOutput (λ moment. read ≡ Ok moment) (λ error. read ≡ Err error) output
+        × EndsWith (Some output) (result_unwrap_or result 3) (streams (O.contents out.old) (E.contents err.old))
         (streams (O.contents out.new) (E.contents err.new)) }
 {
     match read {

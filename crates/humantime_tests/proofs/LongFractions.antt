@@ -4,7 +4,7 @@ use Rattle.std.specs.Prelude.{◌==◌}
 use Rattle.std.proofs.lemmas.Bool.Decides.{nat_tests}
 use Rattle.std.proofs.lemmas.List.{length-reverse, reverse-append, reverse-reverse}
 use Rattle.humantime.specs.Texts.{begins, take_while, drop_while}
-use Rattle.humantime.specs.Durations.Characters.{significant}
+use Rattle.humantime.specs.Durations.Characters.{without_trailing_zeros}
 use Rattle.humantime.proofs.Durations.Reading.Runs.{take_while-drop_while, begins-drop_while}
 use Rattle.humantime.proofs.Durations.Reading.SignificantDigits.{significant_long}
 
@@ -28,8 +28,8 @@ last_counts zeros (d ∷ kept) e n = record {
   not_zero = grind (arith, nat_tests);
 }
 
-long_digits : (ds : List ℕ) → (19 < length (significant ds)) ↔ IsLong ds
-unfolding significant
+long_digits : (ds : List ℕ) → (19 < length (without_trailing_zeros ds)) ↔ IsLong ds
+unfolding without_trailing_zeros
 long_digits ds =
     let zeros = take_while (λ d. d == 48) (reverse ds) in
     let kept = drop_while (λ d. d == 48) (reverse ds) in (

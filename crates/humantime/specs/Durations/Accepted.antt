@@ -2,7 +2,7 @@
 use Rattle.std.specs.Prelude.{ℕ, ◌*◌, ◌/◌, ◌^◌, List, [], ◌∷◌, length, Bool, true, false, ◌||◌, ◌&&◌, ◌==◌, nat_lt, nat_le, Option, Some, None, sum_by, flat_map, ◌≡◌, ◌+◌, ◌%◌, ◌++◌, IsSome}
 use Rattle.std.specs.List.{AllByRecursion}
 use Rattle.humantime.specs.Texts.{decimal_value}
-use Rattle.humantime.specs.Durations.Characters.{significant, u64_max, bare_zero}
+use Rattle.humantime.specs.Durations.Characters.{without_trailing_zeros, u64_max, bare_zero}
 use Rattle.humantime.specs.Durations.Units.{Addition, Nanos, Seconds, Scale, scale_of_word}
 use Rattle.humantime.specs.Durations.Spans.{SpelledSpan, Reads}
 use Rattle.humantime.specs.Values.{nanos_per_second}
@@ -67,7 +67,7 @@ is_some_and passes (Some x) = passes x
 
 -- Tests whether the number exceeds a `u64`, or the fraction has more than 19 digits, trailing zeros apart.
 abbrev pub too_long : SpelledSpan → Bool
-too_long s = nat_lt u64_max (decimal_value s.number) || is_some_and (λ ds. nat_lt 19 (length (significant ds))) s.fraction
+too_long s = nat_lt u64_max (decimal_value s.number) || is_some_and (λ ds. nat_lt 19 (length (without_trailing_zeros ds))) s.fraction
 
 -- The span is not `too_long`, and its word a unit's.
 pub record Formed (s : SpelledSpan) : Type 0 where
@@ -81,8 +81,8 @@ is_whole_part n ds = fits_u64 (decimal_value ds * n) && (decimal_value ds * n % 
 -- Tests a fraction, if any, without trailing zeros: `is_whole_part`, or empty where its unit has no fractions.
 abbrev pub fraction_fits : Option Addition → Option (List ℕ) → Bool
 fraction_fits _ None = true
-fraction_fits None (Some ds) = length (significant ds) == 0
-fraction_fits (Some x) (Some ds) = is_whole_part (size x) (significant ds)
+fraction_fits None (Some ds) = length (without_trailing_zeros ds) == 0
+fraction_fits (Some x) (Some ds) = is_whole_part (size x) (without_trailing_zeros ds)
 
 -- Tests for a unit's word, number times unit within a `u64`, and a fraction that fits.
 abbrev pub fits : SpelledSpan → Bool

@@ -51,8 +51,8 @@ abbrev pub digits : List ℕ → List ℕ
 digits cs = filter is_digit cs
 
 -- Drops the zeros at the end of a list of digits.
-unfoldable pub significant : List ℕ → List ℕ
-significant ds = reverse (drop_while (λ d. d == byte "0") (reverse ds))
+unfoldable pub without_trailing_zeros : List ℕ → List ℕ
+without_trailing_zeros ds = reverse (drop_while (λ d. d == byte "0") (reverse ds))
 
 -- This is the greatest `u64`, 2^64 - 1.
 abbrev pub u64_max : ℕ

@@ -17,7 +17,7 @@ pub record IsNumericRun (start : Cursor) (slice : List ℕ) (end : Cursor) : Typ
   pub same_text : end.text.now ≡ start.text.now
 
 -- A span may end after its word, and next is the cursor there, perhaps after some of the whitespace that follows.
-pub record EndsSpan (after next : Cursor) : Type 0 where
+pub record IsSpanEnd (after next : Cursor) : Type 0 where
   pub ends : ends_span (ahead after) ≡ true
   pub same : drop_while is_whitespace (ahead next) ≡ drop_while is_whitespace (ahead after)
   pub shorter : length next.rest.now ≤ length after.rest.now

@@ -3,7 +3,7 @@ use Rattle.std.specs.Prelude.{◌≡◌, ℕ, List, length, Some, option_map}
 use Rattle.humantime.specs.declared.duration.amount.Fraction.{Fraction}
 use Rattle.humantime.specs.declared.duration.amount.Amount.{Amount}
 use Rattle.humantime.specs.Texts.{decimal_value}
-use Rattle.humantime.specs.Durations.Characters.{significant}
+use Rattle.humantime.specs.Durations.Characters.{without_trailing_zeros}
 use Rattle.humantime.specs.Durations.Units.{scale_of_word}
 use Rattle.humantime.specs.Durations.Spans.{SpelledSpan}
 
@@ -13,7 +13,7 @@ abbrev pub Counted : Type 0
 Counted = ℕ × ℕ × ℕ
 
 abbrev pub counted : List ℕ → Counted
-counted ds = (decimal_value (significant ds), length (significant ds), length ds)
+counted ds = (decimal_value (without_trailing_zeros ds), length (without_trailing_zeros ds), length ds)
 
 abbrev pub parts_of : Fraction → Counted
 parts_of f = (f.significand, f.significant, f.len)

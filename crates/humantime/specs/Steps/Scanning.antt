@@ -3,7 +3,7 @@ use Rattle.std.specs.Prelude.{◌≡◌, ◌≤◌, ◌<◌, ◌^◌, ℕ, ◌-�
 use Rattle.std.specs.Char.{len_utf8}
 use Rattle.humantime.specs.declared.duration.amount.Fraction.{Fraction}
 use Rattle.humantime.specs.Texts.{begins, take_while, drop_while}
-use Rattle.humantime.specs.Durations.Characters.{is_whitespace, is_letter, significant}
+use Rattle.humantime.specs.Durations.Characters.{is_whitespace, is_letter, without_trailing_zeros}
 use Rattle.humantime.specs.Steps.Scales.{counted, parts_of}
 
 -- The bytes of a text end with those of the rest, which is a text of its own.
@@ -39,7 +39,7 @@ pub record AreDigits (f : Fraction) (ds : List ℕ) : Type 0 where
 
 -- one digit too many, whatever follows it
 abbrev pub IsTooLong : List ℕ → ℕ → Type 0
-IsTooLong ds c = (es : List ℕ) → 19 < length (significant (ds ++ c ∷ es))
+IsTooLong ds c = (es : List ℕ) → 19 < length (without_trailing_zeros (ds ++ c ∷ es))
 
 -- Between the two places stands only whitespace.
 pub record SkipsWhitespace (text : List ℕ) (from to : ℕ) : Type 0 where

@@ -178,11 +178,11 @@ fn read_timestamp(bytes: &[u8]) -> Result<SystemTime, TimestampError>
     if !has_layout(bytes) {
         return Err(layout_error(bytes));
     }
-    let Some(seconds) = seconds_of(parse_date_time(bytes)) else {
+    let Some(seconds) = unix_seconds(parse_date_time(bytes)) else {
         return Err(TimestampError::OutOfRange);
     };
     let nanos = read_fraction(&bytes[19..])?;
-    Ok(SystemTime::since_epoch(seconds, nanos))
+    Ok(SystemTime::after_epoch(seconds, nanos))
 }
 
 /// Returns the error for a text without the layout that [`has_layout`] tests. Punctuation is checked before digits.
@@ -269,7 +269,7 @@ fn parse_date_time(bytes: &[u8]) -> DateTime
 /// second 59.
 #[inline(always)]
 #[tactic(auto, unfolding(crate::specs::Timestamps::Checks::is_valid_date_time))]
-fn seconds_of(x: DateTime) -> Option<u64>
+fn unix_seconds(x: DateTime) -> Option<u64>
     ensures value { SomeIff result (IsTrue (is_valid_date_time x)) (seconds_of x.date x.hour x.minute x.second) }
     ensures bound { IfSome result (λ n. n < 2 ^ 63) }
 {

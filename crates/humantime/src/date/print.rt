@@ -197,7 +197,7 @@ impl Rfc3339Timestamp {
     /// ```
     pub fn get_ref(&self) -> &SystemTime
         ensures moment { result.now ≡ self.now.moment }
-        ensures few { self.now.places ≤ 9 }
+        ensures places { self.now.places ≤ 9 }
     {
         &self.moment
     }
@@ -249,23 +249,23 @@ impl Rfc3339Timestamp {
         ensures text { take result buf.new ≡ fields_text (printed_fields date time (nano_of self.now.moment) self.now.places) }
     {
         let nanos = self.moment.subsec_nanos();
-        write_time(date, time, buf);
+        write_date_time(date, time, buf);
         if self.precision == Precision::Seconds {
             buf[19] = b'Z';
             return 20;
         }
-        put_two(buf, 20, nanos / 10_000_000);
-        put_two(buf, 22, nanos / 100_000 % 100);
+        write_two_digits(buf, 20, nanos / 10_000_000);
+        write_two_digits(buf, 22, nanos / 100_000 % 100);
         if self.precision == Precision::Millis {
             buf[23] = b'Z';
             return 24;
         }
-        put_two(buf, 24, nanos / 1_000 % 100);
+        write_two_digits(buf, 24, nanos / 1_000 % 100);
         if self.precision == Precision::Micros {
             buf[26] = b'Z';
             return 27;
         }
-        put_two(buf, 26, nanos / 10 % 100);
+        write_two_digits(buf, 26, nanos / 10 % 100);
         buf[28] = b'0' + (nanos % 10) as u8;
         buf[29] = b'Z';
         30
@@ -319,25 +319,25 @@ fn date_and_time(moment: SystemTime) -> Option<(Date, u32)>
 /// rest of the template, `nnnnnnnnnz`, stays.
 #[inline(always)]
 #[tactic(auto, using(crate::proofs::Dates::Years::valid_from_test))]
-fn write_time(date: Date, time: u32, buf: &mut [u8; 30])
+fn write_date_time(date: Date, time: u32, buf: &mut [u8; 30])
     requires date { IsDate date }
     requires time { time < 86_400 }
     ensures { buf.new ≡ date_time_text (printed_fields date time 0 0) ++ codes ".nnnnnnnnnz" }
 {
     *buf = *b"yyyy-mm-ddThh:mm:ss.nnnnnnnnnz";
-    put_two(buf, 0, date.year / 100);
-    put_two(buf, 2, date.year % 100);
-    put_two(buf, 5, date.month);
-    put_two(buf, 8, date.day);
-    put_two(buf, 11, time / 3_600);
-    put_two(buf, 14, time / 60 % 60);
-    put_two(buf, 17, time % 60);
+    write_two_digits(buf, 0, date.year / 100);
+    write_two_digits(buf, 2, date.year % 100);
+    write_two_digits(buf, 5, date.month);
+    write_two_digits(buf, 8, date.day);
+    write_two_digits(buf, 11, time / 3_600);
+    write_two_digits(buf, 14, time / 60 % 60);
+    write_two_digits(buf, 17, time % 60);
 }
 
 /// Writes a number below 100 as two digits at offset `at`. The two stores compile to one move, and `copy_from_slice` to a call.
 #[inline(always)]
 #[tactic(auto, using(crate::proofs::Timestamps::Printing::Pairs::two_set, crate::proofs::Timestamps::Printing::Pairs::tens_at, crate::proofs::Timestamps::Printing::Pairs::ones_at))]
-fn put_two(buf: &mut [u8; 30], at: usize, n: u32)
+fn write_two_digits(buf: &mut [u8; 30], at: usize, n: u32)
     requires place { at + 2 ≤ 30 }
     requires small { n < 100 }
     ensures { buf.new ≡ take at buf.old ++ two_digits n ++ drop (at + 2) buf.old }

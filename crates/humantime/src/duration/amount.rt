@@ -50,7 +50,7 @@ pub(crate) struct Amount {
     pub value: u64,
     pub fraction: Option<Fraction>,
     pub scale: &'static Scale,
-    ghost few: { ForSome fraction (λ f. f.significant ≤ 19) },
+    ghost digits: { ForSome fraction (λ f. f.significant ≤ 19) },
 }
 
 /// Returns ten times the value plus the digit, or `None` on overflow.

@@ -7,7 +7,7 @@ ghost use Rattle.humantime.specs.Texts.{take_while, begins};
 ghost use Rattle.humantime.specs.Durations.Accepted.{is_some_and, too_long};
 ghost use Rattle.humantime.specs.Durations.Characters.{is_digit, is_numeric};
 ghost use Rattle.humantime.specs.Durations.Faults.{after_fraction, after_number, after_point, fraction_of, span_of};
-ghost use Rattle.humantime.specs.Steps.Cursors.{ahead, EndsSpan};
+ghost use Rattle.humantime.specs.Steps.Cursors.{ahead, IsSpanEnd};
 ghost use Rattle.humantime.specs.Steps.Scales.{counted, parts_of};
 ghost use Rattle.humantime.specs.Steps.Scanning.{begins_no_word, IsWordOf};
 ghost use Rattle.humantime.specs.Steps.SpanParts.{ReadsSpan};
@@ -38,7 +38,7 @@ impl<'a> Decimal<'a> {
     #[inline(always)]
     fn fraction(self) -> Option<Fraction>
         ensures parts { option_map parts_of result ≡ option_map counted (fraction_of (ahead self.entry.number.start)) }
-        ensures few { ForSome result (λ f. f.significant ≤ 19) }
+        ensures digits { ForSome result (λ f. f.significant ≤ 19) }
     {
         Some(self.fraction?.value)
     }
@@ -90,7 +90,7 @@ fn read_unit<'a>(start: Cursor<'a>) -> Option<(Word<'a>, Cursor<'a>)>
 /// the word if a digit or the end of the text follows. Returns `None` if any other character follows.
 #[inline(always)]
 fn end_span<'a>(after_word: Cursor<'a>) -> Option<Cursor<'a>>
-    ensures { MatchOption result (ends_span (ahead after_word.entry) ≡ false) (λ next. EndsSpan after_word.entry next) }
+    ensures { MatchOption result (ends_span (ahead after_word.entry) ≡ false) (λ next. IsSpanEnd after_word.entry next) }
 {
     let text = after_word.rest;
     // Most words have a space or the end of the text after them.

@@ -3,7 +3,7 @@
 ghost use Rattle.std.proofs.Props.{props};
 ghost use Rattle.std.specs.Prelude.{◌≡◌, true, ◌+◌, ◌<◌, SomeIff, drop, length, chars, option_map, IfSome, MatchOption, ◌≤◌, ◌==◌, ◌&&◌, ◌||◌, take, reverse, IsCharBoundary};
 ghost use Rattle.humantime.specs.Texts.{begins, drop_while, decimal_value};
-ghost use Rattle.humantime.specs.Durations.Characters.{is_digit, is_whitespace, is_letter, significant, u64_max};
+ghost use Rattle.humantime.specs.Durations.Characters.{is_digit, is_whitespace, is_letter, without_trailing_zeros, u64_max};
 ghost use Rattle.humantime.specs.Durations.Errors.{IsPlaceIn};
 ghost use Rattle.humantime.specs.Durations.Faults.{number_of, after_point};
 ghost use Rattle.humantime.specs.Durations.Units.{scale_of_word};
@@ -17,7 +17,7 @@ use crate::duration::cursor::Cursor;
 use crate::unit::words::{EMPTY_KEY, MAX_BYTES, NO_UNIT, push_byte};
 
 /// The largest number whose product with 10 fits in a `u64`.
-const MAX_TIMES_TEN: u64 = u64::MAX / 10;
+const TENTH_OF_MAX: u64 = u64::MAX / 10;
 
 /// Returns `true` if the bytes encode the micro sign or the Greek letter mu, the only letters beyond ASCII in words of units.
 #[inline(always)]
@@ -142,7 +142,7 @@ pub(crate) fn read_number<'a>(start: Cursor<'a>) -> Option<Number<'a>>
         let digit = (bytes[at] as u64).wrapping_sub(48);
         if digit <= 9 {
             at += 1;
-            value = if value >= MAX_TIMES_TEN {
+            value = if value >= TENTH_OF_MAX {
                 push_digit(value, digit)?
             } else {
                 value * 10 + digit
@@ -177,7 +177,7 @@ pub(crate) struct FractionPart<'a> {
 /// Reads the digits of a fraction at the cursor, or returns `None` if more than 19 precede the trailing zeros.
 #[inline(always)]
 pub(crate) fn read_fraction<'a>(start: Cursor<'a>) -> Option<FractionPart<'a>>
-    ensures { MatchOption result (19 < length (significant (number_of (ahead start.entry)))) (λ f. f.start ≡ start.entry) }
+    ensures { MatchOption result (19 < length (without_trailing_zeros (number_of (ahead start.entry)))) (λ f. f.start ≡ start.entry) }
 {
     let text = start.rest;
     let bytes = text.as_bytes();

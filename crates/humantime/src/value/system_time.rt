@@ -234,7 +234,7 @@ impl SystemTime {
 
     /// Creates the moment `secs` seconds and `nanos` nanoseconds after 1970-01-01T00:00:00Z.
     #[inline(always)]
-    pub(crate) fn since_epoch(secs: u64, nanos: u32) -> SystemTime
+    pub(crate) fn after_epoch(secs: u64, nanos: u32) -> SystemTime
         requires secs { secs < 2 ^ 63 }
         requires nanos { nanos < nanos_per_second }
         ensures { result ≡ pos (secs * nanos_per_second + nanos) }

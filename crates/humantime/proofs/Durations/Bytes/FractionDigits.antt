@@ -5,7 +5,7 @@ use Rattle.std.proofs.lemmas.Nat.{pow-add}
 use Rattle.std.proofs.Math.Nat.{pow-le-pow_right, mul-le-mul_right}
 use Rattle.humantime.specs.declared.duration.amount.Fraction.{Fraction}
 use Rattle.humantime.specs.Texts.{decimal_value}
-use Rattle.humantime.specs.Durations.Characters.{is_digit, significant}
+use Rattle.humantime.specs.Durations.Characters.{is_digit, without_trailing_zeros}
 use Rattle.humantime.specs.Steps.Scales.{Counted}
 use Rattle.humantime.specs.Steps.Scanning.{AreDigits}
 use Rattle.humantime.proofs.Durations.Bytes.Numbers.{digit_range, value_more}
@@ -28,11 +28,11 @@ fewer f ds h = omega (arith, ap (λ (x : Counted). x.1) h.parts, ap (λ (x : Cou
 
 -- where none is read
 pub no_digits : AreDigits (record { significand = 0; significant = 0; len = 0 }) []
-unfolding significant
+unfolding without_trailing_zeros
 no_digits = record { parts = refl; few = omega arith; fits = omega arith }
 
 -- a zero is one zero more
-pub zero_more : (ds : List ℕ) (c : ℕ) → c ≡ 48 → significant (ds ++ c ∷ []) ≡ significant ds
+pub zero_more : (ds : List ℕ) (c : ℕ) → c ≡ 48 → without_trailing_zeros (ds ++ c ∷ []) ≡ without_trailing_zeros ds
 zero_more ds c e = rw e (significant_zero ds)
 
 -- another digit follows the zeros
@@ -41,10 +41,10 @@ pub digit_more : (f : Fraction) (ds : List ℕ) (c p : ℕ) → AreDigits f ds �
 digit_more f ds c p h is some few power =
     let zeros = f.len - f.significant in
     let within = fewer f ds h in
-    let value_is : f.significand ≡ decimal_value (significant ds) = ap (λ (x : Counted). x.0) h.parts in
-    let count_is : f.significant ≡ length (significant ds) = ap (λ (x : Counted). x.1) h.parts in
+    let value_is : f.significand ≡ decimal_value (without_trailing_zeros ds) = ap (λ (x : Counted). x.0) h.parts in
+    let count_is : f.significant ≡ length (without_trailing_zeros ds) = ap (λ (x : Counted). x.1) h.parts in
     let len_is : f.len ≡ length ds = ap (λ (x : Counted). x.2) h.parts in
-    let kept : significant (ds ++ c ∷ []) ≡ ds ++ c ∷ [] = significant_last ds c (ne_eqb c 48 some) in
+    let kept : without_trailing_zeros (ds ++ c ∷ []) ≡ ds ++ c ∷ [] = significant_last ds c (ne_eqb c 48 some) in
     let value : decimal_value ds ≡ f.significand * 10 ^ zeros = rw value_is (value_shifted ds zeros (omega (arith, within, len_is, count_is))) in
     let tens : p ≡ 10 ^ zeros * 10 = power ∙ ap (λ (n : ℕ). 10 ^ n) (omega (arith, within)) ∙ pow-add 10 zeros 1 in
     let more : decimal_value (ds ++ c ∷ []) ≡ f.significand * p + (c - 48) = omega (arith, value_more ds c is, value, ap (λ (n : ℕ). f.significand * n) tens) in
@@ -57,5 +57,5 @@ digit_more f ds c p h is some few power =
     }
 
 -- behind 19 digits it is one too many
-pub one_too_many : (ds es : List ℕ) (c : ℕ) → c ≢ 48 → 19 ≤ length ds → 19 < length (significant (ds ++ c ∷ es))
+pub one_too_many : (ds es : List ℕ) (c : ℕ) → c ≢ 48 → 19 ≤ length ds → 19 < length (without_trailing_zeros (ds ++ c ∷ es))
 one_too_many ds es c some full = omega (arith, full, significant_long ds es c (ne_eqb c 48 some))

@@ -6,7 +6,7 @@ use Rattle.std.proofs.lemmas.Str.{encodes-chars}
 use Rattle.std.specs.Str.{drop_trailing_whitespace}
 use Rattle.humantime.specs.Texts.{drop_while, take_while, decimal_value}
 use Rattle.humantime.specs.Durations.Accepted.{is_some_and, too_long}
-use Rattle.humantime.specs.Durations.Characters.{is_letter, is_numeric, offset_of, significant, u64_max}
+use Rattle.humantime.specs.Durations.Characters.{is_letter, is_numeric, offset_of, without_trailing_zeros, u64_max}
 use Rattle.humantime.specs.Durations.Units.{Scale, scale_of_word}
 use Rattle.humantime.specs.Durations.Faults.{number_of, after_number, after_point, fraction_of, after_fraction, word_of, after_word, span_of, InvalidCharacter, UnknownUnit, NumberOverflow}
 use Rattle.humantime.specs.Answers.Items.{spelled, trimmed, view_at}
@@ -18,7 +18,7 @@ use Rattle.humantime.proofs.Durations.Bytes.Trimming.{spelled_at}
 pub long_number : (rest : List ℕ) → u64_max < decimal_value (number_of rest) → too_long (span_of rest) ≡ true
 long_number rest n = grind (arith, nat_tests)
 
-pub long_fraction : (rest ds : List ℕ) → Some ds ≡ after_point (after_number rest) → 19 < length (significant (number_of ds)) → too_long (span_of rest) ≡ true
+pub long_fraction : (rest ds : List ℕ) → Some ds ≡ after_point (after_number rest) → 19 < length (without_trailing_zeros (number_of ds)) → too_long (span_of rest) ≡ true
 long_fraction rest ds n f = grind (arith, nat_tests)
 
 pub exit_long : (text rest : List ℕ) → too_long (span_of rest) ≡ true → Some NumberOverflow ≡ stop_at text rest

@@ -10,7 +10,7 @@ use Rattle.std.proofs.lemmas.Nat.Gcd.{dvd_of_mod-eq-zero, mod-eq-zero_of_dvd}
 use Rattle.std.proofs.Math.Nat.{pow-suc, one-le-pow, mul_assoc, mul_right_comm, mul-div-mul_right, dvd_of_mul-dvd-mul_right, le-mul_of_pos_right}
 use Rattle.std.proofs.lemmas.List.{length-reverse, reverse-append, reverse-reverse}
 use Rattle.humantime.specs.Texts.{take_while, drop_while, decimal_value}
-use Rattle.humantime.specs.Durations.Characters.{significant}
+use Rattle.humantime.specs.Durations.Characters.{without_trailing_zeros}
 use Rattle.humantime.specs.Durations.Accepted.{is_whole_part}
 use Rattle.humantime.specs.Durations.Spans.{Only}
 use Rattle.humantime.proofs.Durations.Reading.Runs.{take_while-drop_while, Only-take_while, drop_while_shorter}
@@ -22,32 +22,32 @@ is_zero d = d == 48
 abbrev zeros_of : List ℕ → List ℕ
 zeros_of ds = take_while is_zero (reverse ds)
 
-significant_and_zeros : (ds : List ℕ) → ds ≡ significant ds ++ reverse (zeros_of ds)
-unfolding significant
+significant_and_zeros : (ds : List ℕ) → ds ≡ without_trailing_zeros ds ++ reverse (zeros_of ds)
+unfolding without_trailing_zeros
 significant_and_zeros ds =
     sym (reverse-reverse ds) ∙ ap reverse (sym (take_while-drop_while is_zero (reverse ds))) ∙ reverse-append (zeros_of ds) (drop_while is_zero (reverse ds))
 
 -- a digit after others stays and keeps them, unless it is a zero
-pub significant_last : (ds : List ℕ) (d : ℕ) → (d == 48) ≡ false → significant (ds ++ d ∷ []) ≡ ds ++ d ∷ []
-unfolding significant
+pub significant_last : (ds : List ℕ) (d : ℕ) → (d == 48) ≡ false → without_trailing_zeros (ds ++ d ∷ []) ≡ ds ++ d ∷ []
+unfolding without_trailing_zeros
 significant_last ds d e = rw (reverse-append ds (d ∷ []), e) (reverse-append (d ∷ []) (reverse ds) ∙ ap (λ (l : List ℕ). l ++ d ∷ []) (reverse-reverse ds))
 
-pub significant_zero : (ds : List ℕ) → significant (ds ++ 48 ∷ []) ≡ significant ds
-unfolding significant
+pub significant_zero : (ds : List ℕ) → without_trailing_zeros (ds ++ 48 ∷ []) ≡ without_trailing_zeros ds
+unfolding without_trailing_zeros
 significant_zero ds = rw (reverse-append ds (48 ∷ []))
 
 drop_while_long : (p : ℕ → Bool) (xs ys : List ℕ) (d : ℕ) → p d ≡ false → length ys < length (drop_while p (xs ++ d ∷ ys))
 drop_while_long p [] ys d e = rw e (omega arith)
 drop_while_long p (x ∷ xs) ys d e = grind (arith, (drop_while_long p xs ys d e), (length-append xs (d ∷ ys)))
 
-pub significant_long : (ds es : List ℕ) (d : ℕ) → (d == 48) ≡ false → length ds < length (significant (ds ++ d ∷ es))
-unfolding significant
+pub significant_long : (ds es : List ℕ) (d : ℕ) → (d == 48) ≡ false → length ds < length (without_trailing_zeros (ds ++ d ∷ es))
+unfolding without_trailing_zeros
 significant_long ds es d e =
     let turned : reverse (ds ++ d ∷ es) ≡ reverse es ++ d ∷ reverse ds = rw (reverse-append ds (d ∷ es), reverse-append (d ∷ []) es) (append_assoc (reverse es) (d ∷ []) (reverse ds)) in
     rw (length-reverse, turned) (omega (arith, drop_while_long is_zero (reverse es) (reverse ds) d e, length-reverse ds))
 
-pub significant_shorter : (ds : List ℕ) → length (significant ds) ≤ length ds
-unfolding significant
+pub significant_shorter : (ds : List ℕ) → length (without_trailing_zeros ds) ≤ length ds
+unfolding without_trailing_zeros
 significant_shorter ds = omega (arith, length-reverse (drop_while is_zero (reverse ds)), drop_while_shorter is_zero (reverse ds), length-reverse ds)
 
 -- ---- what zeros at the end change: nothing but a power of ten
@@ -63,38 +63,38 @@ zeros_value v (z ∷ zs) only =
     rw (turned, value-append v (reverse zs) (z ∷ []), zeros_value v zs only.1, eqb-true z 48 only.0, pow-suc 10 (length zs))
     (omega (arith, mul_assoc v (10 ^ length zs) 10))
 
-zeros_count : (ds : List ℕ) → length ds ≡ length (significant ds) + length (zeros_of ds)
-zeros_count ds = omega (arith, ap length (significant_and_zeros ds), length-append (significant ds) (reverse (zeros_of ds)), length-reverse (zeros_of ds))
+zeros_count : (ds : List ℕ) → length ds ≡ length (without_trailing_zeros ds) + length (zeros_of ds)
+zeros_count ds = omega (arith, ap length (significant_and_zeros ds), length-append (without_trailing_zeros ds) (reverse (zeros_of ds)), length-reverse (zeros_of ds))
 
 -- the zeros after those digits multiply by ten each
-pub value_shifted : (ds : List ℕ) (z : ℕ) → length ds ≡ length (significant ds) + z → decimal_value ds ≡ decimal_value (significant ds) * 10 ^ z
+pub value_shifted : (ds : List ℕ) (z : ℕ) → length ds ≡ length (without_trailing_zeros ds) + z → decimal_value ds ≡ decimal_value (without_trailing_zeros ds) * 10 ^ z
 value_shifted ds z count =
     let same : length (zeros_of ds) ≡ z = omega (arith, zeros_count ds) in
     rw (← same)
-    (ap decimal_value (significant_and_zeros ds) ∙ value-append 0 (significant ds) (reverse (zeros_of ds))
-    ∙ zeros_value (decimal_value (significant ds)) (zeros_of ds) (Only-take_while is_zero (reverse ds)))
+    (ap decimal_value (significant_and_zeros ds) ∙ value-append 0 (without_trailing_zeros ds) (reverse (zeros_of ds))
+    ∙ zeros_value (decimal_value (without_trailing_zeros ds)) (zeros_of ds) (Only-take_while is_zero (reverse ds)))
 
-product_shifted : (f : ℕ) (ds : List ℕ) → decimal_value ds * f ≡ decimal_value (significant ds) * f * 10 ^ length (zeros_of ds)
+product_shifted : (f : ℕ) (ds : List ℕ) → decimal_value ds * f ≡ decimal_value (without_trailing_zeros ds) * f * 10 ^ length (zeros_of ds)
 product_shifted f ds =
     ap (λ (n : ℕ). n * f) (value_shifted ds (length (zeros_of ds)) (zeros_count ds))
-    ∙ mul_right_comm (decimal_value (significant ds)) (10 ^ length (zeros_of ds)) f
+    ∙ mul_right_comm (decimal_value (without_trailing_zeros ds)) (10 ^ length (zeros_of ds)) f
 
-power_shifted : (ds : List ℕ) → 10 ^ length ds ≡ 10 ^ length (significant ds) * 10 ^ length (zeros_of ds)
-power_shifted ds = ap (λ (n : ℕ). 10 ^ n) (zeros_count ds) ∙ pow-add 10 (length (significant ds)) (length (zeros_of ds))
+power_shifted : (ds : List ℕ) → 10 ^ length ds ≡ 10 ^ length (without_trailing_zeros ds) * 10 ^ length (zeros_of ds)
+power_shifted ds = ap (λ (n : ℕ). 10 ^ n) (zeros_count ds) ∙ pow-add 10 (length (without_trailing_zeros ds)) (length (zeros_of ds))
 
 -- a whole part stays one, of the same amount
-pub whole_part_kept : (f : ℕ) (ds : List ℕ) → is_whole_part f ds ≡ true → is_whole_part f (significant ds) ≡ true
+pub whole_part_kept : (f : ℕ) (ds : List ℕ) → is_whole_part f ds ≡ true → is_whole_part f (without_trailing_zeros ds) ≡ true
 whole_part_kept f ds h =
     let by = 10 ^ length (zeros_of ds) in
     let some : 0 < by = one-le-pow (length (zeros_of ds)) 10 (omega arith) in
-    let kept = decimal_value (significant ds) * f in
+    let kept = decimal_value (without_trailing_zeros ds) * f in
     let parts : (decimal_value ds * f ≤ 18446744073709551615) × (decimal_value ds * f % 10 ^ length ds ≡ 0) = grind (arith, common_steps) in
-    let rest : kept * by % (10 ^ length (significant ds) * by) ≡ 0 = rw (← product_shifted f ds, ← power_shifted ds) parts.1 in
-    let whole = mod-eq-zero_of_dvd _ (dvd_of_mul-dvd-mul_right (10 ^ length (significant ds)) some (dvd_of_mod-eq-zero _ rest)) in
+    let rest : kept * by % (10 ^ length (without_trailing_zeros ds) * by) ≡ 0 = rw (← product_shifted f ds, ← power_shifted ds) parts.1 in
+    let whole = mod-eq-zero_of_dvd _ (dvd_of_mul-dvd-mul_right (10 ^ length (without_trailing_zeros ds)) some (dvd_of_mod-eq-zero _ rest)) in
     let fits : kept ≤ 18446744073709551615 = omega (arith, le-mul_of_pos_right kept some, product_shifted f ds, parts.0) in
     grind (arith, common_steps)
 
-pub amount_kept : (f : ℕ) (ds : List ℕ) → decimal_value ds * f / 10 ^ length ds ≡ decimal_value (significant ds) * f / 10 ^ length (significant ds)
+pub amount_kept : (f : ℕ) (ds : List ℕ) → decimal_value ds * f / 10 ^ length ds ≡ decimal_value (without_trailing_zeros ds) * f / 10 ^ length (without_trailing_zeros ds)
 amount_kept f ds =
     ap₂ (λ (x y : ℕ). x / y) (product_shifted f ds) (power_shifted ds)
-    ∙ mul-div-mul_right (decimal_value (significant ds) * f) (10 ^ length (significant ds)) (one-le-pow _ 10 (omega arith))
+    ∙ mul-div-mul_right (decimal_value (without_trailing_zeros ds) * f) (10 ^ length (without_trailing_zeros ds)) (one-le-pow _ 10 (omega arith))

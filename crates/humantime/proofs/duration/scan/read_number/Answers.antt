@@ -20,11 +20,11 @@ loop-at-init c =
       bytes = λ k. (c.type_inv.bytes k).fits;
     }
 
-pub loop-at-preserved-else-value-ge-MAX_TIMES_TEN : goal.loop-at-preserved-else-value-ge-MAX_TIMES_TEN
-loop-at-preserved-else-value-ge-MAX_TIMES_TEN c =
+pub loop-at-preserved-else-value-ge-TENTH_OF_MAX : goal.loop-at-preserved-else-value-ge-TENTH_OF_MAX
+loop-at-preserved-else-value-ge-TENTH_OF_MAX c =
     let i = c.loop-at.invariant in
     let more = digit_more _ _ _ _ c.args.start.tail.utf8 c.as_bytes-bytes.ensures.value c.loop-at-test.true i.read (i.bytes c.loop-at.at) c.if-digit-le9.true in
-    record { taken = _; read = more.0; value = omega (arith, more.1, i.value); fits = omega (arith, c.if-value-ge-MAX_TIMES_TEN.false, c.if-digit-le9.true); bytes = i.bytes }
+    record { taken = _; read = more.0; value = omega (arith, more.1, i.value); fits = omega (arith, c.if-value-ge-TENTH_OF_MAX.false, c.if-digit-le9.true); bytes = i.bytes }
 
 pub loop-at-preserved-in_ok-value : goal.loop-at-preserved-in_ok-value
 loop-at-preserved-in_ok-value c =
