@@ -82,7 +82,7 @@ def edits_in(crate, folder):
 
 
 def edits_of(crate, text):
-    """Parses the edits of a file with several."""
+    """Yields the edits of a file with several."""
     head, *others = text.split("\n## ")
     file = re.search(r"^file: (\S+)$", head, re.M)
     for part in others:
