@@ -1,4 +1,4 @@
--- How long a printed text is, and how large its counts are.
+-- Bounds for the length of a printed text and for its counts.
 use Rattle.std.proofs.Common.{◌≡◌, ℕ, ◌+◌, ◌*◌, ◌/◌, ◌%◌, ◌^◌, ◌<◌, ◌≤◌, cond, List, [], ◌∷◌, length, ap, arith}
 use Rattle.std.specs.Prelude.{map, nat_lt, slice_index, ⊤}
 use Rattle.std.specs.List.{filter, join_with_byte}
@@ -15,18 +15,18 @@ use Rattle.humantime.proofs.Durations.Printing.GreatestCounts.{canon_is_text, co
 abbrev suffix_length : Suffix → ℕ
 suffix_length s = length s.0 + cond s.1 1 0
 
--- a count of each unit has at most so many digits, where less than m is left
+-- A bound for the number of digits of each count, if the remainder is less than `m`.
 abbrev Sizes : List (ℕ × Suffix) → List ℕ → ℕ → Type 0
 Sizes [] [] m = ⊤
 Sizes (u ∷ us) (k ∷ ks) m = (0 < k) × (10 ^ k < 2 ^ 64) × (0 < u.0) × (m ≤ 10 ^ k * u.0) × Sizes us ks u.0
 Sizes _ _ m = ⊥
 
--- the most that so many digits, the suffixes and a space after each take
+-- The greatest length of this number of digits, the suffixes and a space after each.
 abbrev length_for : List (ℕ × Suffix) → List ℕ → ℕ
 length_for (u ∷ us) (k ∷ ks) = k + suffix_length u.1 + 1 + length_for us ks
 length_for _ _ = 0
 
--- the length with a space after each
+-- The length with a space after each text.
 abbrev spaced_length : List (List ℕ) → ℕ
 spaced_length [] = 0
 spaced_length (p ∷ ps) = length p + 1 + spaced_length ps

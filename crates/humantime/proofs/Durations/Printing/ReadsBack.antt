@@ -1,4 +1,4 @@
--- What holds of printed texts, for every duration and every text.
+-- Properties of printed texts, for every duration and every text.
 use Rattle.std.proofs.Common.{◌≡◌, ◌↔◌, ℕ, ◌/◌, ◌≤◌, List, sym, subst, ◌∙◌, arith}
 use Rattle.std.specs.Prelude.{chars}
 use Rattle.humantime.specs.Values.{nanos_per_second}
