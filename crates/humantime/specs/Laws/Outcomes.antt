@@ -20,7 +20,7 @@ pub record HasOneOutcome (text : List ℕ) : Type 0 where
   pub outcome : ExactlyOne (IsOutcome text)
   -- The text does not spell two different lists of spans.
   pub reading : (ss ts : List SpelledSpan) → Reads text ss → Reads text ts → ss ≡ ts
-  -- it has exactly one list of spans with what stops them
+  -- The text has exactly one list of spans, with the error that stops them, if any.
   pub items : ExactlyOne (λ (list : List SpelledSpan × Option Fault). Items text list.0 list.1)
   -- The result of parsing is a value exactly if it is the value of the text.
   pub value : (v : ℕ) → (duration_answer text ≡ Ok v) ↔ Accepted text v
@@ -29,7 +29,7 @@ pub record HasOneOutcome (text : List ℕ) : Type 0 where
 
 -- The items of a text determine its value or fault, unless the text is exactly `0`.
 pub record ItemsDecide (text : List ℕ) : Type 0 where
-  -- it has exactly one list of spans with what stops them
+  -- The text has exactly one list of spans, with the error that stops them, if any.
   pub one : ExactlyOne (λ (list : List SpelledSpan × Option Fault). Items text list.0 list.1)
   -- The text is accepted exactly if no error stops the spans and they are within the limits; its value is their sum.
   pub accepted : (spans : List SpelledSpan) (stop : Option Fault) → Items text spans stop → text ≢ bare_zero

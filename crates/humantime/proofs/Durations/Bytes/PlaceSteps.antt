@@ -76,7 +76,7 @@ digit_at text at u here =
       | inr large ↦ wide_no_digit _ large ∙ sym (wide_no_digit _ (c.1.wide large))
     ])
 
--- a digit is one byte
+-- A digit is one byte.
 pub digit_over : (text : List ℕ) (at : ℕ) → IsUtf8 text → IsPlaceIn text at → is_ascii_digit (get_or text at 0) ≡ true
     → (is_digit (get_or text at 0) ≡ true) × IsCharAt text at (get_or text at 0) (at + 1)
 digit_over text at u here d = (sym (digit_is _) ∙ d, ascii_at text at u here (grind (arith, wide_no_digit)))
@@ -199,14 +199,14 @@ pub other_goes_on : (cs : List ℕ) → cs ≢ [] → begins is_digit cs ≡ fal
 other_goes_on [] some d w = absurd (some refl)
 other_goes_on (c ∷ cs) some d w = grind (arith, len_utf8_bounds)
 
--- whitespace ends a span
+-- Whitespace ends a span.
 pub whitespace_ends : (text : List ℕ) (at : ℕ) → IsUtf8 text → 0 < length text → 0 < whitespace_len (chars text) → at ≡ 0 + whitespace_len (chars text)
     → IsCharBoundary text at × (ends_span (chars text) ≡ true) × (drop_while is_whitespace (chars (drop at text)) ≡ drop_while is_whitespace (chars text))
 whitespace_ends text at u some white n =
     let c = whitespace_over text 0 at u (some, IsCharBoundary-start text u) white n in
     (c.2.place, rw c.2.ahead (whitespace_is_numeric _ c.1), rw (c.2.ahead, c.1) refl)
 
--- a space ends a span, and is one byte
+-- A space ends a span, and is one byte.
 pub space_ends : (text : List ℕ) → IsUtf8 text → 0 < length text → get_or text 0 0 ≡ 32
     → IsCharBoundary text 1 × (ends_span (chars text) ≡ true) × (drop_while is_whitespace (chars (drop 1 text)) ≡ drop_while is_whitespace (chars text))
 unfolding is_whitespace whitespace_chars

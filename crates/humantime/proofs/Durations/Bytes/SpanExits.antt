@@ -14,7 +14,7 @@ use Rattle.humantime.specs.Answers.Walks.{stop_at, ends_span}
 use Rattle.humantime.specs.Steps.Scanning.{begins_no_word}
 use Rattle.humantime.proofs.Durations.Bytes.Trimming.{spelled_at}
 
--- a span is too long by its number, or by its fraction
+-- A span is too long because of its number or of its fraction.
 pub long_number : (rest : List ℕ) → u64_max < decimal_value (number_of rest) → too_long (span_of rest) ≡ true
 long_number rest n = grind (arith, nat_tests)
 

@@ -46,7 +46,7 @@ byte_length-chars bs u = ap length (encodes-chars bs u)
 pub tail_offset : (text rest : List ℕ) → IsTail text rest → length text - length rest ≡ offset_of (chars text) (chars rest)
 tail_offset text rest t = omega (arith, byte_length-chars text t.whole, byte_length-chars rest t.utf8)
 
--- a text without characters has no bytes, and one without bytes no characters
+-- A text without characters has no bytes, and one without bytes no characters.
 pub no_chars : (bs : List ℕ) → IsUtf8 bs → chars bs ≡ [] → length bs ≡ 0
 no_chars bs u e = omega (arith, byte_length-chars bs u, ap byte_length e)
 

@@ -1,4 +1,4 @@
--- The laws of durations as theorems over plain variables, each under the name of its function in `laws`.
+-- The laws of durations as theorems over plain variables, each under its name in `laws`.
 use Rattle.std.proofs.lemmas.Bool.Decides.{nat_tests}
 use Rattle.std.proofs.Common.{Bool, ◌≡◌, ◌↔◌, ℕ, ◌<◌, List, Result, Ok, IsTrue, chars, refl, sym, ◌∙◌, arith}
 use Rattle.std.proofs.lemmas.Slice.Eq.{bytes_eq-Decides}

@@ -18,7 +18,7 @@ with_counts text _ _ = text
 joined_more : (t p : List ℕ) (ps : List (List ℕ)) → 0 < length p → joined_after (joined_after t (p ∷ [])) ps ≡ joined_after t (p ∷ ps)
 joined_more t p ps h = grind (arith, append_assoc)
 
--- each suffix has a letter
+-- Each suffix has a letter.
 abbrev Lettered : List Suffix → Type 0
 Lettered ss = AllByRecursion (λ s. 0 < length s.0) ss
 

@@ -43,7 +43,7 @@ divided_greatest d = record {
   greatest = divided_last weights (suc d) d (search rules);
 }
 
--- no other counts are the greatest
+-- No other counts are the greatest.
 pub counts_divided : (d : ℕ) (counts : List ℕ) → AreCounts d counts → counts ≡ divided weights d
 counts_divided d counts g =
     let other = divided_greatest d in

@@ -38,7 +38,7 @@ join_length p (q ∷ ps) = omega (arith, length-append p (space ∷ join_with_by
 count_length : (n k : ℕ) (s : Suffix) → 0 < k → n < 10 ^ k → n < 2 ^ 64 → length (printed_count n s) ≤ k + suffix_length s
 count_length n k s some below fits = grind (arith, length-append, length-decimal-le)
 
--- the length of the counts that are not zero
+-- The length of the counts that are not zero.
 abbrev shown_length : List (ℕ × Suffix) → ℕ
 shown_length cs = spaced_length (map (λ c. printed_count c.0 c.1) (filter (λ c. nat_lt 0 c.0) cs))
 

@@ -66,7 +66,7 @@ is_point-true c e = grind (arith, nat_tests)
 
 -- ---- by bytes
 
--- a digit is one of ASCII
+-- Digits are ASCII.
 pub digit_is : (c : ℕ) → is_ascii_digit c ≡ is_digit c
 unfolding is_digit
 digit_is c = refl

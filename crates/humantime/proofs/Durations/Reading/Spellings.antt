@@ -11,7 +11,7 @@ pub record IsApart (text : List ℕ) (span : SpelledSpan) (rest : List ℕ) : Ty
   pub whole : text ≡ here ++ rest
   pub spells : Spells here span []
 
--- the same parts with other whitespace, or with another rest
+-- The same parts with other whitespace, or with another rest.
 pub respelled : (text rest here next white : List ℕ) (s : SpelledSpan) (h : Spells text s rest)
     → here ≡ h.number_text ++ (h.fraction_text ++ (s.word ++ (white ++ next))) → Only is_whitespace white → Spells here s next
 respelled text rest here next white s h whole only = record {
@@ -45,6 +45,6 @@ spells_each-append a b (s ∷ ss) ts h k = (h.0 ++ b, spells-append a h.0 b s h.
 pub each-append : {A : Type 0} (P : A → Type 0) (xs ys : List A) → AllByRecursion P xs → AllByRecursion P ys → AllByRecursion P (xs ++ ys)
 each-append P xs ys h k = grind (arith, common_steps)
 
--- a spelling alone has nothing after its whitespace
+-- A spelling alone has nothing after its whitespace.
 pub spells_alone : (here : List ℕ) (s : SpelledSpan) (h : Spells here s []) → here ≡ h.number_text ++ (h.fraction_text ++ (s.word ++ h.whitespace))
 spells_alone here s h = h.whole ∙ simp append-nil

@@ -83,7 +83,7 @@ front_walked text front rest spans h f o =
     ap (λ (x : List ℕ). spans_of_walk (walk_from true text x)) (front_begins text front rest spans h)
     ∙ through text body rest true spans h.spelled.each f (closes_more h.spelled.whitespace body rest spans h.spelled.each c) h.no_whitespace
 
--- the walk ends where the items do
+-- The walk ends where the items do.
 ends_walked : (text front rest : List ℕ) (spans : List SpelledSpan) (stop : Option Fault) → Ends text front spans rest stop → walk_from (first_after true spans) text rest ≡ empty_walk rest stop
 ends_walked text front [] spans stop h = grind (arith, walk-end)
 ends_walked text front (c ∷ cs) spans None h = cc

@@ -30,7 +30,7 @@ fraction_spelled : (m : List ℕ) → option_map number_of (after_point m) ≢ S
 fraction_spelled [] some = refl
 fraction_spelled (c ∷ cs) some = grind (arith, (Only-take_while is_numeric cs), (is_point-true c))
 
--- a spelling has a digit and a letter
+-- A spelling has a digit and a letter.
 pub spelling_some : (text rest : List ℕ) (s : SpelledSpan) → Spells text s rest → 1 < length text
 spelling_some text rest s h = grind (arith, common_steps)
 

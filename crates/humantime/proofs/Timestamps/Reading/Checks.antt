@@ -8,7 +8,7 @@ use Rattle.humantime.specs.Answers.Timestamps.{moment_at}
 use Rattle.humantime.specs.Timestamps.Fields.{Separator, Letter_T, Space, Fields, separator_byte, fraction_text, fraction_digits, moment_of}
 use Rattle.humantime.specs.Timestamps.Checks.{has_two, has_separator, has_punctuation, has_digits, date_time_of, is_valid_date_time, zone_of, fraction_part, has_point, weak_checks, first_failed}
 
--- no check of the weak form fails
+-- No check of the weak form fails.
 pub all_passed : (bytes : List ℕ) → first_failed (weak_checks bytes) ≡ None
     → (19 ≤ length bytes) × (has_punctuation bytes ≡ true) × (has_digits bytes ≡ true) × (is_valid_date_time (date_time_of bytes) ≡ true)
     × (has_point (fraction_part bytes) ≡ true) × (all_ascii_digits (drop 1 (fraction_part bytes)) ≡ true)

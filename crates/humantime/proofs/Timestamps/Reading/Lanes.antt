@@ -18,7 +18,7 @@ use Rattle.humantime.proofs.Timestamps.Reading.Checks.{nineteen}
 
 -- ---- A test of all lanes
 
--- all bits of a mask are set
+-- All bits of a mask are set.
 abbrev pub are_set : List Bool → Bool
 are_set ms = list_all (λ m. m) ms
 
