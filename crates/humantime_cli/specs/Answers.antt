@@ -39,7 +39,7 @@ Answers words (Some output) =
     (name : List ℕ) × (command : Command name) × (text : List ℕ) × (words ≡ name ∷ text ∷ []) × IsOutputOf command text output
 Answers words None = (name : List ℕ) → Command name → (text : List ℕ) → words ≢ name ∷ text ∷ []
 
--- The bytes written to standard output and standard error so far, if the writers tell them.
+-- The bytes written to standard output and standard error so far, where they are known.
 pub record Streams : Type 0 where
   pub out : Option (List ℕ)
   pub err : Option (List ℕ)

@@ -35,7 +35,7 @@ view_at text rest = record {
 abbrev pub views_on : List ℕ → Walk → List (Result SpanView Fault)
 views_on text w = items_of (map (view_at text) w.starts) w.stop
 
--- The items from `rest` on. `first` tells whether no span precedes it.
+-- The items from `rest` on. `first` is true if no span precedes it.
 abbrev pub left_at : Bool → List ℕ → List ℕ → List (Result SpanView Fault)
 left_at first text rest = views_on text (walk_from first text rest)
 

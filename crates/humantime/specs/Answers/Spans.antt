@@ -34,7 +34,7 @@ items_left i =
     if i.ended then []
     else left_at (length i.cursor.rest.now == length i.cursor.text.now) (chars i.cursor.text.now) (drop_while is_whitespace (chars i.cursor.rest.now))
 
--- The text that an iterator reads.
+-- The text that an iterator borrows.
 abbrev pub text_of : SpanIter → List ℕ
 text_of i = i.cursor.text.now
 

@@ -54,7 +54,7 @@ walk (suc n) first text (c ∷ cs) = elim (fault_at text (c ∷ cs)) [
   | Some e ↦ empty_walk (c ∷ cs) (Some e)
 ]
 
--- The walk over all spans from `rest` on. `first` tells whether no span precedes it.
+-- The walk over all spans from `rest` on. `first` is true if no span precedes it.
 abbrev pub walk_from : Bool → List ℕ → List ℕ → Walk
 walk_from first text rest = walk (length rest) first text rest
 

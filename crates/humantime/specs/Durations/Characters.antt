@@ -42,7 +42,7 @@ is_point c = c == byte "."
 abbrev pub bare_zero : List ℕ
 bare_zero = codes "0"
 
--- Tests whether a character can stand in a number: a digit or whitespace.
+-- Tests whether a character can be part of a number: a digit or whitespace.
 abbrev pub is_numeric : ℕ → Bool
 is_numeric c = is_digit c || is_whitespace c
 

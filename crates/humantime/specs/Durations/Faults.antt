@@ -47,7 +47,7 @@ pub data Fault : Type 0 where
   NumberOverflow : Fault
   Empty : Fault
 
--- The text is a front that spells the spans, followed by a rest that does not begin with whitespace.
+-- The text is a front that represents the spans, followed by a rest that does not begin with whitespace.
 pub record Split (text front : List ℕ) (spans : List SpelledSpan) (rest : List ℕ) : Type 0 where
   pub whole : text ≡ front ++ rest
   pub spelled : SpellsAll front spans

@@ -55,7 +55,7 @@ pub record IsSpanView (text here : List ℕ) (s : SpelledSpan) (x : SpanView) (n
   pub end : x.end ≡ offset_of text (spelled.whitespace ++ next)
   pub value : x.value ≡ decimal_value s.number
 
--- The text from `here` to `end` spells the spans, and each view is that of its span.
+-- The text from `here` to `end` represents the spans, and each view is that of its span.
 abbrev pub AreSpanViews : List ℕ → List ℕ → List SpelledSpan → List SpanView → List ℕ → Type 0
 AreSpanViews text here [] [] end = here ≡ end
 AreSpanViews text here (s ∷ ss) (x ∷ xs) end = (next : List ℕ) × IsSpanView text here s x next × AreSpanViews text next ss xs end

@@ -18,7 +18,7 @@ IsOutcome text (Err e) = HasFault text e
 pub record HasOneOutcome (text : List ℕ) : Type 0 where
   -- The text has exactly one value and no fault, or exactly one fault and no value.
   pub outcome : ExactlyOne (IsOutcome text)
-  -- The text does not spell two different lists of spans.
+  -- The text does not represent two different lists of spans.
   pub reading : (ss ts : List SpelledSpan) → Reads text ss → Reads text ts → ss ≡ ts
   -- The text has exactly one list of spans, with the error that stops them, if any.
   pub items : ExactlyOne (λ (list : List SpelledSpan × Option Fault). Items text list.0 list.1)

@@ -26,7 +26,7 @@ pub record IsWordOf (text word rest : List ℕ) : Type 0 where
   pub utf8 : IsUtf8 word
   pub tail : IsTail text rest
 
--- Returns the number of bytes of the whitespace character at the start of a text, or 0 if it begins with another one.
+-- Returns the number of bytes of the whitespace character at the start of a text, or 0 if there is none.
 abbrev pub whitespace_len : List ℕ → ℕ
 whitespace_len [] = 0
 whitespace_len (c ∷ cs) = if is_whitespace c then len_utf8 c else 0

@@ -56,6 +56,6 @@ digit_more f ds c p h is some few power =
       fits = rw sum at (shifted_fits _ _ _ (c - 48) p h.fits (omega (arith, digit_range c is)) (omega (arith, within)) power);
     }
 
--- After 19 digits another digit than 0 is one too many.
+-- A digit other than 0 after 19 digits exceeds the limit.
 pub one_too_many : (ds es : List ℕ) (c : ℕ) → c ≢ 48 → 19 ≤ length ds → 19 < length (without_trailing_zeros (ds ++ c ∷ es))
 one_too_many ds es c some full = omega (arith, full, significant_long ds es c (ne_eqb c 48 some))

@@ -77,7 +77,7 @@ pub view_read : (text rest number word : List ℕ) (digits : Option (Bor (List �
     → record { number = drop_trailing_whitespace number; fraction = option_map (λ t. trimmed (chars t.now)) digits; unit = word; start = start; end = end; value = value } ≡ view_at text rest
 view_read text rest number word digits start end value n d w p q v = grind arith
 
--- The slices that were parsed spell the span.
+-- The slices that were parsed represent the span.
 pub spelled_read : (rest number letters : List ℕ) (digits : Option (Bor (List ℕ))) → number ≡ take_while is_numeric rest → letters ≡ word_of rest
     → option_map (λ t. chars t.now) digits ≡ option_map (take_while is_numeric) (after_point (after_number rest))
     → spelled (drop_trailing_whitespace number) (option_map (λ t. trimmed (chars t.now)) digits) letters ≡ span_of rest

@@ -52,7 +52,7 @@ fraction_digits : (o : Option (List ℕ)) → option_map digits (option_map (λ 
 fraction_digits None = refl
 fraction_digits (Some ds) = ap Some (digits_dropped _ _ (dropped (drop_while is_whitespace (take_while is_numeric ds))) ∙ digits_drop_while _)
 
--- The slices spell the span that they are taken from.
+-- The slices represent the span that they are taken from.
 pub spelled_at : (text rest : List ℕ) → spelled (view_at text rest).number (view_at text rest).fraction (view_at text rest).unit ≡ span_of rest
 spelled_at text rest = grind (arith, (digits_dropped _ _ (dropped (take_while is_numeric rest))), (fraction_digits (after_point (after_number rest))))
 

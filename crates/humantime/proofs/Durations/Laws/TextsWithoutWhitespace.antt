@@ -1,4 +1,4 @@
--- A text without its whitespace spells the same spans.
+-- A text without its whitespace represents the same spans.
 use Rattle.std.proofs.lemmas.Grind.{common_steps}
 use Rattle.std.proofs.Common.{◌≡◌, ℕ, Bool, true, false, List, [], ◌∷◌, refl, ap, ◌∙◌, arith, rules}
 use Rattle.std.proofs.lemmas.Bool.{cases_Bool, or_parts}

@@ -44,7 +44,7 @@ pub record IsReadToWord (rest number_text fraction_text tail : List ℕ) (fracti
 spelling_parts : (here next : List ℕ) (s : SpelledSpan) (h : Spells here s []) → here ++ next ≡ h.number_text ++ (h.fraction_text ++ (s.word ++ (h.whitespace ++ next)))
 spelling_parts here next s h = ap (λ (x : List ℕ). x ++ next) (spells_alone here s h) ∙ simp append_assoc
 
--- The number and the fraction of a spelled span are parsed up to its word.
+-- The number and the fraction of a span are parsed up to its word.
 pub read_spelled : (rest next : List ℕ) (s : SpelledSpan) (h : Spells rest s next)
     → IsReadToWord rest h.number_text h.fraction_text (s.word ++ (h.whitespace ++ next)) s.fraction
 read_spelled rest next s h = grind (arith, begins_word, fraction_read, drop_while-append, take_while-append)
