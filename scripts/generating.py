@@ -241,10 +241,10 @@ def mutants_of(file, text, product):
 def whole_lines(text, begin, end, new):
     """Returns the lines with the old text, with as many lines before them as it takes to occur once in the file, and the same lines with
     the new text."""
-    first, behind = text.rfind("\n", 0, begin) + 1, text.find("\n", end)
-    while text.count(text[first:behind]) > 1:
+    first, last = text.rfind("\n", 0, begin) + 1, text.find("\n", end)
+    while text.count(text[first:last]) > 1:
         first = text.rfind("\n", 0, first - 1) + 1
-    return text[first:behind], text[first:begin] + new + text[end:behind]
+    return text[first:last], text[first:begin] + new + text[end:last]
 
 
 def generated(crates=CRATES, root=ROOT):
