@@ -62,6 +62,6 @@ u64_max = 18446744073709551615
 abbrev pub byte_length : List ℕ → ℕ
 byte_length cs = length (encode_utf8_all cs)
 
--- Returns the byte offset at which `rest` begins, the end part of a text.
+-- Returns the byte offset at which `rest`, a suffix of the text, begins.
 abbrev pub offset_of : List ℕ → List ℕ → ℕ
 offset_of text rest = byte_length text - byte_length rest

@@ -16,7 +16,8 @@ OlderFraction _ None = ⊤
 OlderFraction None (Some ds) = ⊥
 OlderFraction (Some x) (Some ds) = (length ds ≤ 19) × (is_whole_part (size x) ds ≡ true)
 
--- The word was a unit, the number and its product with the unit fitted a `u64`, and the fraction kept its limits with all of its digits.
+-- The word was a unit, the number and its product with the unit did not exceed a `u64`, and the fraction kept its limits with all of its
+-- digits.
 pub record OlderFormed (s : SpelledSpan) : Type 0 where
   pub unit : Scale
   pub word : scale_of_word s.word ≡ Some unit

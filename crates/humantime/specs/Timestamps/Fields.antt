@@ -73,8 +73,8 @@ fraction_digits fraction = unwrap_or fraction []
 unfoldable pub fraction_nanos : List ℕ → ℕ
 fraction_nanos ds = decimal_value (take 9 (ds ++ codes "000000000"))
 
--- The text represents these parts in the weak form: the date exists, hour, minute and second are at most 23, 59 and 60, and the fraction
--- consists of digits.
+-- The text represents these parts in the weak form: the date exists, hour, minute and second are at most 23, 59 and 60, and the fraction,
+-- if any, has only digits.
 pub record IsWeak (bytes : List ℕ) (f : Fields) : Type 0 where
   pub text : bytes ≡ fields_text f
   pub date : IsDate f.date
