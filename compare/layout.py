@@ -1,7 +1,7 @@
-"""Lays out and builds the library and the Rust crate in one process, for compare/bench and compare/diff.
+"""Builds the library and the Rust crate into one program, for compare/bench and compare/diff.
 
-Both are built from nothing but this repository, the kit, cargo and the crate's folder, in a folder elsewhere: the library
-is proved there as a static library with one function of C for each call (src/exports.rt.txt).
+Both are built only from this repository, the kit, cargo and the folder of the crate, in another folder. There the library is proved
+and built as a static library with one C function for each call (src/exports.rt.txt).
 """
 import os
 import re
@@ -12,7 +12,7 @@ import sys
 HERE = os.path.dirname(os.path.abspath(__file__))
 ROOT = os.path.dirname(HERE)
 SOURCES = os.path.join(HERE, "src")
-# Nothing can depend on a program, so its own crate is exported, with `exports.rt.txt` in place of its `main.rt`.
+# Nothing can depend on a program, so a copy of its crate is exported, with `exports.rt.txt` in place of `main.rt`.
 EXPORTS = "humantime_cli"
 CARGO = """[package]
 name = "{name}"
@@ -31,7 +31,7 @@ humantime = {{ path = "{crate}" }}
 
 
 def run(command, folder, **environment):
-    """Returns what a command prints; if it fails, prints that and exits."""
+    """Returns the output of a command. If the command fails, prints the output and exits."""
     done = subprocess.run(command, cwd=folder, env=dict(os.environ, **environment), stdout=subprocess.PIPE, stderr=subprocess.STDOUT, text=True)
     if done.returncode != 0:
         sys.exit(f"{' '.join(command)} failed:\n{done.stdout[-5000:]}")
@@ -39,18 +39,18 @@ def run(command, folder, **environment):
 
 
 def copy_of(crate, place):
-    """Copies a crate of this repository, with what earlier checks kept, so that little is proved again."""
+    """Copies a crate of this repository, with the results of earlier checks, so that little is proved again."""
     shutil.rmtree(place, ignore_errors=True)
     os.makedirs(os.path.dirname(place), exist_ok=True)
     run(["cp", "-a", os.path.join(ROOT, "crates", crate), place], ROOT)
 
 
 def exports(top):
-    """Lays out the library, and its exports with the program's `run`, as a repository of their own."""
+    """Creates a repository with the library, and with its exports and the program's `run`."""
     copy_of("humantime", os.path.join(top, "crates", "humantime"))
     place = os.path.join(top, "crates", EXPORTS)
     copy_of(EXPORTS, place)
-    # The exports replace `main`, and what it calls there.
+    # The exports replace `main`, and the functions in its file.
     main = os.path.join(place, "src", "main.rt")
     with open(main, encoding="utf-8") as file:
         functions = re.findall(r"^fn (\w+)", file.read(), re.M)
@@ -65,7 +65,7 @@ def exports(top):
 
 
 def library(top, backend):
-    """The folder of the static library, the names that it links to, and what it is built for."""
+    """Returns the folder of the static library, the names that it links to, and the processor that it is built for."""
     crate = os.path.join(top, "crates", EXPORTS)
     said = run(["rt", "lib", "--backend", backend], crate)
     made = os.path.join(crate, "out", f"lib{EXPORTS}.a")
@@ -78,7 +78,7 @@ def library(top, backend):
 
 
 def program(top, name, sources, crate, folder, cpu, **environment):
-    """Builds these files of src/ (the first is the main one) with the crate and the static library of this folder."""
+    """Builds these files of src/, of which the first is the main one, with the crate and the static library in this folder."""
     place = os.path.join(top, name)
     os.makedirs(place, exist_ok=True)
     for number, source in enumerate([*sources, "library.rs"]):

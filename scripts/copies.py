@@ -1,4 +1,4 @@
-"""Copies of crates to try something on, commands with what they print, and how a script ends."""
+"""Copies of crates for experiments, commands and their output, and the last line of a script."""
 import os
 import shutil
 import subprocess
@@ -16,20 +16,20 @@ def read(*path):
 
 
 def write(text, *path):
-    """Writes a file, and makes the folders above it."""
+    """Writes a file, and creates its parent folders."""
     path = Path(*path)
     path.parent.mkdir(parents=True, exist_ok=True)
     path.write_text(text, encoding="utf-8")
 
 
 def room(script):
-    """Returns a new folder, which is removed after a `with` block."""
+    """Creates a folder, which is removed after a `with` block."""
     return tempfile.TemporaryDirectory(prefix=f"{script}-")
 
 
 def copied(top, to, crates=(), without=EDITS):
-    """Copies what `rt` reads of a repository: the crates of these names, or all. Their folders `out`, which hold what earlier checks
-    proved, are copied too, except where `without` names them. Returns the copy's folder."""
+    """Copies the parts of a repository that `rt` reads, with the crates of these names, or all crates. Their folders `out`, which hold the
+    results of earlier checks, are copied too, except for the crates in `without`. Returns the folder of the copy."""
     top, to = Path(top), Path(to)
     to.mkdir(parents=True, exist_ok=True)
     for name in ("HANDLES", "crates.txt"):
@@ -40,7 +40,7 @@ def copied(top, to, crates=(), without=EDITS):
 
 
 def run(*command, **options):
-    """Runs a command, and keeps what it prints to both streams as one text."""
+    """Runs a command, and captures standard output and standard error as one text."""
     how = {"stdout": subprocess.PIPE, "stderr": subprocess.STDOUT, "text": True, "errors": "replace", "check": False}
     if "input" not in options:
         how["stdin"] = subprocess.DEVNULL
@@ -48,12 +48,12 @@ def run(*command, **options):
 
 
 def rt(top, crate, *words, given=""):
-    """Runs `rt` in a crate's folder, with this text on standard input."""
+    """Runs `rt` in the folder of a crate, with this text on standard input."""
     return run("rt", *words, cwd=Path(top, "crates", crate), input=given)
 
 
 def builds(crate):
-    """The programs that the gate built of a crate, by both back ends. Where there is none, it is built now."""
+    """Returns the builds of a crate's program, by both back ends. If there is none, the program is built first."""
     out = ROOT / "crates" / crate / "out"
     names = (crate, f"{crate}.by-rattle")
     if not any((out / name).exists() for name in names):
@@ -62,6 +62,6 @@ def builds(crate):
 
 
 def finish(script, passed, failed):
-    """Prints the last line, and ends: with status 0 where something passed and nothing failed."""
+    """Prints the last line and exits, with status 0 if something passed and nothing failed."""
     print(f"{script}: {passed} passed, {failed} failed")
     sys.exit(1 if failed or not passed else 0)

@@ -1,4 +1,4 @@
-"""Reads edits of the texts of a crate, tries them on copies of the repository, and reads what a check leaves open there."""
+"""Parses edits of the files of a crate, tries them on copies of the repository, and parses which goals a check leaves open."""
 import os
 import queue
 import re
@@ -14,16 +14,16 @@ PROGRAM = "humantime_cli"
 
 
 class Edit:
-    """Changes of a crate's files, in order: of each the kind, `new`, or `equivalent` for the equivalent mutant; the file; a text
-    that stands there once; and the text that takes its place. `about` is what the edit says of itself besides."""
+    """Changes of the files of a crate, in order. Each has its kind, which is `new`, or `equivalent` for the equivalent mutant; its file; a
+    text that occurs there once; and the text that replaces it. `about` holds the other lines of the edit."""
 
     def __init__(self, crate, name, changes, about=""):
         self.crate, self.name, self.changes, self.about = crate, name, changes, about
         self.has_equivalent = any(kind == "equivalent" for kind, *_ in changes)
 
     def texts(self, folder, kind, before=None):
-        """What the files are after the edit, by their paths below the crate's folder, and the changed lines as (path, number).
-        Before it they may be as other edits left them."""
+        """Returns the files after the edit, by their paths below the folder of the crate, and the changed lines as (path, number).
+        The files may have been changed by other edits before."""
         texts, lines = dict(before or {}), []
         for _, path, old, new in (change for change in self.changes if change[0] == kind):
             if path not in texts:
@@ -40,7 +40,7 @@ class Edit:
 
 
 def edit_of(crate, name, text, path=None):
-    """The edit that a text says, of this file where it names none."""
+    """Parses an edit. It changes this file if it names none."""
     old, changes = None, []
     for line in text.split("\n"):
         if line.startswith("file: "):
@@ -53,7 +53,7 @@ def edit_of(crate, name, text, path=None):
 
 
 class Goal:
-    """A goal that is left open."""
+    """A goal that was not proved."""
 
     def __init__(self, path, line, what, name):
         self.path, self.line, self.name = path, int(line), name
@@ -69,8 +69,8 @@ class Goal:
 
 
 def edits_in(crate, folder):
-    """The edits of a crate's folder, each with the name of its file: one in a file, or several, each below its title. A line
-    `file:` above the titles holds for each of these that has none of its own."""
+    """Yields the edits in a folder of a crate, each with the name of its file. A file has one edit, or several, each below its title.
+    A line `file:` above the titles applies to each edit that has none of its own."""
     path = os.path.join(ROOT, "crates", crate, folder)
     for name in sorted(os.listdir(path)) if os.path.isdir(path) else []:
         with open(os.path.join(path, name), encoding="utf-8") as file:
@@ -82,7 +82,7 @@ def edits_in(crate, folder):
 
 
 def edits_of(crate, text):
-    """The edits that a file of several says."""
+    """Yields the edits of a file with several."""
     head, *others = text.split("\n## ")
     file = re.search(r"^file: (\S+)$", head, re.M)
     for part in others:
@@ -91,7 +91,7 @@ def edits_of(crate, text):
 
 
 def chosen(folders, words):
-    """The edits of these folders of all crates whose name, file or crate holds one of the words, or all of them."""
+    """Returns the edits in these folders of all crates whose name, file or crate contains one of the words, or all edits."""
     found = []
     for crate in sorted(os.listdir(os.path.join(ROOT, "crates"))):
         for folder in folders:
@@ -102,13 +102,13 @@ def chosen(folders, words):
 
 
 def has_word(words, *texts):
-    """Whether one of the words is in one of the texts, or there are no words."""
+    """Returns whether one of the texts contains one of the words, or there are no words."""
     return not words or any(word in text for word in words for text in texts)
 
 
 @contextmanager
 def edited(top, crate, texts):
-    """The crate has these texts in place of its own, or besides them."""
+    """Writes these files into the crate, in place of its own or in addition to them."""
     folder = os.path.join(top, "crates", crate)
     paths = {path: os.path.join(folder, path) for path in texts}
     before = {path: open(there, encoding="utf-8").read() for path, there in paths.items() if os.path.exists(there)}
@@ -125,7 +125,7 @@ def edited(top, crate, texts):
 
 
 def proved(room, crates):
-    """A copy of the repository in which these crates are proved, as they stand."""
+    """Returns a copy of the repository in which these crates are proved, without any edit."""
     top = copied(ROOT, os.path.join(room, "0"))
     for crate in crates:
         ran = rt(top, crate, "check")
@@ -135,8 +135,8 @@ def proved(room, crates):
 
 
 def side_by_side(top, work, tried):
-    """What `tried` answers to a copy of the repository and to each piece of work, in order, by as many copies as there are
-    processors; the first is there already."""
+    """Yields the result of `tried` for each piece of work and a copy of the repository, in order. There are as many copies as processors;
+    the first one exists already."""
     number = max(1, min(len(work), len(os.sched_getaffinity(0))))
     free = queue.Queue()
     free.put(top)
@@ -155,12 +155,12 @@ def side_by_side(top, work, tried):
 
 
 def left_open(said):
-    """The goals that a check left open, and the proofs that do not fit, by what it said."""
+    """Returns the goals that a check left open, and the proofs that no longer fit, given its output."""
     return [Goal(*found) for found in OPEN_GOAL.findall(said)], ANSWER.findall(said)
 
 
 def said_wrong(ran, pattern):
-    """The line of this pattern that a run said, if it did not end well."""
+    """Returns the line of the output that matches this pattern, if the run failed."""
     if not ran.returncode:
         return None
     failed = re.search(pattern, ran.stdout, re.M)
@@ -168,20 +168,20 @@ def said_wrong(ran, pattern):
 
 
 def failed_rows(top):
-    """What the table's rows say where one does not hold, run without any proof."""
+    """Returns a row of the table that does not hold, if any. Nothing is proved."""
     with open(os.path.join(top, "crates", ROWS, "stdin"), encoding="utf-8") as file:
         ran = rt(top, ROWS, "try", "--steps", "1000000000", "--seconds", "600", given=file.read())
     return said_wrong(ran, r"^.*, but the answer is .*")
 
 
 def failed_test(top):
-    """What scripts/tests says of a copy of the repository where a test or an example fails."""
+    """Returns what scripts/tests prints for a copy of the repository if a test or an example fails."""
     ran = run(os.path.join(ROOT, "scripts", "tests"), top)
     return ("test", ran.stdout.partition("\n")[0]) if ran.returncode else None
 
 
 def failed_program(top):
-    """What scripts/program says of the program, which is proved, where it does otherwise than it has to."""
+    """Returns what scripts/program prints for the program, which is proved, if one of its checks fails."""
     built = os.path.join(top, "crates", PROGRAM, "out", PROGRAM)
     if os.path.exists(built):
         os.remove(built)
@@ -193,11 +193,11 @@ def failed_program(top):
 
 
 def failed_program_test(top):
-    """What the program's tests say where one fails, run without any proof."""
+    """Returns what the tests of the program print if one fails. Nothing is proved."""
     return said_wrong(rt(top, PROGRAM, "try", "--test"), r"^test .* FAILED$")
 
 
 def judged_by_tests(top, changed):
-    """What the first of these says that fails: rows and tests, but of the program alone its tests; and then scripts/program."""
+    """Returns the first failure of the rows and the tests, or only of the tests for the program, and then of scripts/program."""
     found = failed_program_test(top) if changed == PROGRAM else failed_rows(top) or failed_test(top)
     return found or failed_program(top) or ("NOTHING", "rows, tests and scripts/program pass")

@@ -1,9 +1,9 @@
-"""Mutants that are made of the source by rules: wrong bodies of the product's functions, and wrong values of its constants.
+"""Generates mutants of the source by rules: wrong bodies of the product's functions, and wrong values of its constants.
 
-A rule looks at one token, a word, a number, a text or a sign, and answers what may stand in place of it and of its neighbours.
-A mutant's name says its function or constant, its rule and which of this rule's places there it is, counted from 1, as
-`calendar::days_before__plus_is_minus_1`. Mutants that mean what the source means are listed in crates/CRATE/equivalent.txt, one
-in a line, each with the reason.
+A rule looks at one token, which is a word, a number, a literal or an operator, and yields replacements of it and of its neighbours.
+The name of a mutant consists of its function or constant, its rule and the number of its place among those of this rule there,
+counted from 1, such as `calendar::days_before__plus_is_minus_1`. Equivalent mutants, which have the same meaning as the source, are
+listed in crates/CRATE/equivalent.txt, one per line, each with the reason.
 """
 import os
 import re
@@ -11,8 +11,8 @@ import re
 from editing import ROOT, Edit
 
 CRATES = ["humantime", "humantime_cli"]
-LEFT_OUT = ("src/laws", "src/command/tests", "src/tests")  # laws, whose bodies do nothing, and tests
-UNPROVED = ("main::main", "main::answer", "main::FAILED")  # which scripts/program tries
+LEFT_OUT = ("src/laws", "src/command/tests", "src/tests")  # laws, whose bodies are empty, and tests
+UNPROVED = ("main::main", "main::answer", "main::FAILED")  # which scripts/program tests
 TOKEN = re.compile(r"""//[^\n]*|b?"(?:\\.|[^"\\])*"|b?'(?:\\.[^']*|[^'\\\n])'|'\w+|\w+|\.\.=|&&|\|\||->|=>|::|\.\.|[<>=!+*/%&|-]=|\S""", re.S)
 NUMBER = re.compile(r"(0x[0-9a-f]+|\d[\d_]*?)(_?[iu](?:8|16|32|64|128|size))?$")
 FUNCTION = re.compile(r"^( *)(?:pub(?:\(\w+\))? )?(?:unsafe )?fn (\w+)", re.M)
@@ -35,7 +35,7 @@ NO_STATEMENT = {"let", "use", "if", "while", "for", "match", "else", "const"}
 
 
 class Part:
-    """A function's body, or a constant's value: its name, its tokens, and the offset at which each begins."""
+    """The body of a function, or the value of a constant: its name, its tokens, and the offset at which each begins."""
 
     def __init__(self, name, text, begin, end, is_constant):
         self.name, self.text, self.is_constant = name, text, is_constant
@@ -47,19 +47,19 @@ class Part:
         return self.tokens[at] if 0 <= at < len(self.tokens) else ""
 
     def span(self, first, last):
-        """The source from one token to another."""
+        """Returns the source from one token to another."""
         return self.text[self.begins[first] : self.end(last)]
 
     def end(self, at):
         return self.begins[at] + len(self.tokens[at])
 
     def is_spaced(self, at):
-        """Whether a blank or a new line stands before the token and behind it."""
+        """Returns whether there is whitespace before and after the token."""
         return self.text[self.begins[at] - 1].isspace() and self.text[self.end(at)].isspace()
 
     def until(self, at, ends):
-        """The first place from this one on with one of these tokens, outside the brackets that open from here on; or where the
-        brackets around it close."""
+        """Returns the first index from this one on with one of these tokens, outside of brackets that open from here on, or the index
+        at which the enclosing brackets close."""
         depth = 0
         while at < len(self.tokens):
             token = self.tokens[at]
@@ -70,20 +70,20 @@ class Part:
         return at
 
     def is_pattern(self, last):
-        """Whether what ends at this place is a pattern."""
+        """Returns whether a pattern ends at this index."""
         return self.token(last + 1) in ("=>", "|", "=", "if")
 
 
 def signs(part, at, _):
-    """A sign turned into its neighbour or its counterpart, and one truth value into the other."""
+    """Replaces an operator with its neighbour or its counterpart, and one Boolean literal with the other."""
     token = part.tokens[at]
     if token in SIGNS and (token.isalpha() or part.is_spaced(at)):
         yield SIGNS[token][0], at, at, SIGNS[token][1]
 
 
 def numbers(part, at, product):
-    """A number, or a constant number, one more; 1 made 0, and the greatest byte one less. A field, an array's length and a key in
-    a pattern stay."""
+    """Adds 1 to a number or to a constant, and subtracts 1 from 1 and from 255. A field, the length of an array and a constant in a
+    pattern are left alone."""
     token = part.tokens[at]
     if part.token(at - 1) in (".", ";"):
         return
@@ -97,13 +97,13 @@ def numbers(part, at, product):
 
 
 def written(value, like):
-    """The number, written as this one is."""
+    """Returns the number, written in the style of another one."""
     return hex(value) if like.startswith("0x") else f"{value:_}" if "_" in like or value > 9999 else str(value)
 
 
 def letters(part, at, _):
-    """A byte or a character exchanged for another, in a word's key the last one; and in a text the last letter of the first word
-    and of the last."""
+    """Replaces a byte or a character, the last one in the key of a word; and in a string the last letter of the first and of the last
+    word."""
     if not (found := re.match(r"""(b?)(['"])(.*)['"]$""", part.tokens[at], re.S)):
         return
     prefix, quote, inner = found.groups()
@@ -120,12 +120,12 @@ def letters(part, at, _):
 
 
 def another_letter(letter):
-    """A `q` for a letter, and for others what is coded next to them."""
+    """Returns `q` for a letter, and the next code point for another character."""
     return ("z" if letter == "q" else "q") if letter.isalpha() else chr(ord(letter) + (-1 if letter == "9" else 1))
 
 
 def ranges(part, at, _):
-    """A range with the place behind it, and one that begins a place later."""
+    """Makes a range one longer at its end, or lets it begin one later."""
     if part.tokens[at] not in ("..", "..=") or part.token(at - 1) in (",", "{"):
         return
     if part.token(at + 1) not in (*CLOSING, ","):
@@ -135,7 +135,7 @@ def ranges(part, at, _):
 
 
 def conditions(part, at, _):
-    """A condition negated, but for one comparison alone, which another rule turns."""
+    """Negates a condition, except for a single comparison, which another rule changes."""
     if part.tokens[at] not in ("if", "while") or part.token(at + 1) == "let":
         return
     last = part.until(at + 1, ("{", "=>")) - 1
@@ -147,7 +147,7 @@ def conditions(part, at, _):
 
 
 def operands(part, at, _):
-    """What stands behind an `and` or an `or` left out, with the sign."""
+    """Removes the right operand of `&&` or `||`."""
     token = part.tokens[at]
     if token in ("&&", "||") and part.is_spaced(at):
         ends = ("||", "{", "=>", ";", ",") + (("&&",) if token == "&&" else ())
@@ -155,7 +155,7 @@ def operands(part, at, _):
 
 
 def variants(part, at, product):
-    """A variant of an enum of the product exchanged for the next one of the same form, and `Some` of a value for `None`."""
+    """Replaces a variant of an enum of the product with the next one of the same form, and `Some` of a value with `None`."""
     token, shapes = part.tokens[at], product.enums.get(part.token(at - 2), {})
     last = part.until(at + 2, ()) if part.token(at + 1) == "(" else at
     if part.is_pattern(last):
@@ -169,7 +169,7 @@ def variants(part, at, product):
 
 
 def statements(part, at, _):
-    """A statement left out that binds nothing. A `return` stays where nothing else can end what stands behind `else`."""
+    """Removes a statement that binds nothing. A `return` is left alone if nothing else can end the block after `else`."""
     token, end = part.tokens[at], part.until(at, (";",))
     is_statement = re.match(r"[a-z*]", token) and token not in NO_STATEMENT and part.token(at - 1) in ("{", "}", ";")
     is_only_way = token == "return" and part.token(at - 2) == "else"
@@ -178,7 +178,7 @@ def statements(part, at, _):
 
 
 def alternatives(part, at, _):
-    """The last path left out of those that one pattern names."""
+    """Removes the last alternative of a pattern of paths."""
     if part.tokens[at] == "|" and part.is_spaced(at) and part.token(at + 2) == "::":
         end = part.until(at + 1, ("|", "=>"))
         if part.token(end) == "=>":
@@ -189,7 +189,7 @@ RULES = [signs, numbers, letters, ranges, conditions, operands, variants, statem
 
 
 class Product:
-    """The source files, by crate and path, the constant numbers in them, and the variants of enums with what stands behind them."""
+    """The source files by crate and path, the numeric constants in them, and the variants of enums with the character after each."""
 
     def __init__(self, texts):
         self.texts, every = texts, "\n".join(texts.values())
@@ -198,7 +198,7 @@ class Product:
 
 
 def sources(top):
-    """The files of a crate's code, and what they say."""
+    """Yields the source files of a crate with their texts."""
     for folder, _, names in sorted(os.walk(os.path.join(top, "src"))):
         for name in sorted(names):
             file = os.path.relpath(os.path.join(folder, name), top)
@@ -208,7 +208,7 @@ def sources(top):
 
 
 def parts(file, text):
-    """The bodies of a file's functions, and the values of its constants."""
+    """Yields the bodies of the functions of a file, and the values of its constants."""
     module = "::".join(file.removeprefix("src/").removesuffix(".rt").split("/"))
     for head in FUNCTION.finditer(text):
         body = re.compile(r"(?:^| )\{$", re.M).search(text, head.end())
@@ -221,7 +221,7 @@ def parts(file, text):
 
 
 def mutants_of(file, text, product):
-    """The mutants of a file: their names, and for each the old text, which stands once there, and the new one."""
+    """Yields the mutants of a file: for each its name, the old text, which occurs once in the file, and the new text."""
     counts, seen = {}, set()
     for part in (part for part in parts(file, text) if part.name not in UNPROVED):
         for at in range(len(part.tokens)):
@@ -230,25 +230,25 @@ def mutants_of(file, text, product):
                 line = text.rfind("\n", 0, begin)
                 again = (line, text[begin:end], new)
                 if part.is_constant and again in seen:
-                    continue  # of equal numbers in one line of a table the first is enough
+                    continue  # one of equal numbers in one line of a table is enough
                 seen.add(again)
                 name = f"{part.name}__{rule}"
                 counts[name] = counts.get(name, 0) + 1
-                new += "\n" * (text.count("\n", begin, end) - new.count("\n"))  # so that no other line moves
+                new += "\n" * (text.count("\n", begin, end) - new.count("\n"))  # so that the numbers of the other lines stay the same
                 yield f"{name}_{counts[name]}", *whole_lines(text, begin, end, new)
 
 
 def whole_lines(text, begin, end, new):
-    """The lines with the old text, and before them as many as it takes to stand once in the file; and the same lines with the new
-    one."""
-    first, behind = text.rfind("\n", 0, begin) + 1, text.find("\n", end)
-    while text.count(text[first:behind]) > 1:
+    """Returns the lines with the old text, with as many lines before them as it takes to occur once in the file, and the same lines with
+    the new text."""
+    first, last = text.rfind("\n", 0, begin) + 1, text.find("\n", end)
+    while text.count(text[first:last]) > 1:
         first = text.rfind("\n", 0, first - 1) + 1
-    return text[first:behind], text[first:begin] + new + text[end:behind]
+    return text[first:last], text[first:begin] + new + text[end:last]
 
 
 def generated(crates=CRATES, root=ROOT):
-    """The mutants of these crates, each with the name of its file."""
+    """Yields the mutants of these crates, each with the name of its file."""
     product = Product({(crate, file): text for crate in crates for file, text in sources(os.path.join(root, "crates", crate))})
     for (crate, file), text in product.texts.items():
         for name, old, new in mutants_of(file, text, product):
@@ -256,7 +256,7 @@ def generated(crates=CRATES, root=ROOT):
 
 
 def listed(crate, root=ROOT):
-    """The names of a crate's equivalent mutants."""
+    """Returns the names of the equivalent mutants of a crate."""
     path = os.path.join(root, "crates", crate, "equivalent.txt")
     if not os.path.exists(path):
         return []

@@ -1,4 +1,4 @@
-"""Reads the sources of the crates: functions with docstrings and contracts, definitions with comments, and imports."""
+"""Parses the sources of the crates: functions with docstrings and contracts, definitions with comments, and imports."""
 import re
 import sys
 
@@ -11,27 +11,27 @@ HEAD = re.compile(r"(pub )?(?:(abbrev|unfoldable|record|data|ruleset) )?(pub )?(
 IMPL = re.compile(r"impl(?:<[^>]*>)? ((?:(?:\w+::)*(\w+)(?:<.*>)? for )?(\w+))")
 ITEM = re.compile(r"( *)(pub )?(?:pub\(crate\) )?(?:unsafe )?(const|enum|fn|struct|trait) (\w+)")
 CLAUSE = re.compile(r"^ *(?:requires|ensures\*?)(?: \w+)? \{", re.M)
-# What an `impl` states for the prover alone: proofs, and how it sees a type.
+# The ghost members of an `impl` that only the prover needs: proofs, and the model of a type.
 NO_PROMISES = {"laws", "total", "matches_partial_cmp", "matches_eq"}
 
 
 def files(crate, folder, ending):
-    """The files of a crate's folder with this ending: of each its module, as `date.parse`, and its text."""
+    """Yields the files in a folder of a crate with this extension: for each its module, such as `date.parse`, and its text."""
     top = CRATES / crate / folder
     for path in sorted(top.rglob("*" + ending)):
         yield ".".join(path.relative_to(top).with_suffix("").parts), path.read_text(encoding="utf-8")
 
 
 def imports(text):
-    """What a file imports from specs/ and proofs/: the module, the names with what they are called here, what the module is called
-    here, and whether the names are passed on."""
+    """Yields what a file imports from specs/ and proofs/: the module, the names with their local names, the local name of the module,
+    and whether the names are re-exported."""
     for passed_on, module, names, alias in IMPORT.findall(text):
         pairs = [name.strip().split(" as ") for name in names.split(",") if name.strip()]
         yield module, [(pair[0], pair[-1]) for pair in pairs], alias or module.rpartition(".")[2], bool(passed_on)
 
 
 class Definition:
-    """A definition or a lemma, which has no kind: the comment right above it, the lines of its head, and all its lines."""
+    """A definition, or a lemma, which has no kind: the comment right above it, the lines of its head, and all of its lines."""
 
     def __init__(self, head, line, comment):
         self.is_public, self.kind, self.name = bool(head[1] or head[3]), head[2] or "", head[4]
@@ -41,7 +41,7 @@ class Definition:
         return "\n".join(re.sub(r"--.*", "", line) for line in self.lines)
 
     def statement(self):
-        """What a lemma says, in one line."""
+        """Returns the statement of a lemma, in one line."""
         _, _, said = re.sub(r"--.*", "", " ".join(line.strip() for line in self.head)).partition(f"{self.name} :")
         return said.strip()
 
@@ -50,7 +50,7 @@ class Definition:
 
 
 def definitions(text):
-    """The definitions and lemmas of a file by their names, and its other lines."""
+    """Returns the definitions and lemmas of a file by their names, and its other lines."""
     found, others, current, in_head, comment = {}, [], None, False, []
     for number, line in enumerate(text.split("\n"), 1):
         if line.startswith("--"):
@@ -74,8 +74,8 @@ def definitions(text):
 
 
 class Item:
-    """An item of a source file: its docstring, as lines with their numbers, and its lines up to a body. Of a function also the type
-    and the trait whose `impl` has it, and what the `impl` promises before it."""
+    """An item of a source file: its docstring, as lines with their numbers, and its lines up to a body. A function in an `impl` also has
+    the type and the trait of that `impl`, and the ghost members before it."""
 
     def __init__(self, kind, name, line, docs, owner="", trait="", is_public=False):
         self.kind, self.name, self.line, self.docs = kind, name, line, docs
@@ -86,17 +86,17 @@ class Item:
         return f"{self.owner}::{self.name}" if self.owner else self.name
 
     def signature(self):
-        """A function with its clauses, as a page shows it."""
+        """Returns a function with its clauses, as a page shows it."""
         return re.sub(r"fn (\w+)", f"fn {self.path()}", self.head, count=1)
 
     def clauses(self):
-        """What the clauses of a function say, without their names."""
+        """Returns the clauses of a function, without their names."""
         found = CLAUSE.search(self.head)
         return CLAUSE.sub("", self.head[found.start() :]) if found else ""
 
 
 def head_of(lines, indent):
-    """The lines of a function from its first one to its body, without the indent."""
+    """Returns the lines of a function up to its body, without indentation."""
     quoted = []
     for line in lines:
         if line in (indent + "{", indent + "{}"):
@@ -109,7 +109,7 @@ def head_of(lines, indent):
 
 
 def items(text):
-    """The items of a source file, in order. A docstring above anything else is an item of the kind `docs`."""
+    """Yields the items of a source file, in order. A docstring above anything else is an item of the kind `docs`."""
     owner, trait, promised, docs, lines = "", "", [], [], text.split("\n")
     for number, line in enumerate(lines, 1):
         if line.strip().startswith(("///", "//!")):
@@ -136,20 +136,20 @@ def items(text):
 
 
 def exported(*fronts):
-    """The names that these files, as `humantime/src/lib.rt`, export."""
+    """Returns the names that these files, such as `humantime/src/lib.rt`, export."""
     uses = [use for path in fronts for use in re.findall(r"^pub use ([^;]*);", (CRATES / path).read_text(encoding="utf-8"), re.M)]
     return {name for use in uses for name in re.findall(r"\w+(?=[,}\s]|$)", use)}
 
 
 def difference(page, old, new, script):
-    """Says where a part of a page differs from what the sources give: one complaint, or none."""
+    """Returns the first difference of a part of a page from what it should be, as a list of at most one complaint."""
     pairs = zip((old + "\n").split("\n"), (new + "\n").split("\n"))
     line = next((number for number, (one, other) in enumerate(pairs, 1) if one != other), 0)
     return [f"{page}: line {line} of a generated part is out of date; scripts/{script} --write writes it"] if old != new else []
 
 
 def compared(page, script, new):
-    """Compares the part of a page that a script writes, or writes it if the script is asked to. Returns the complaints."""
+    """Compares the part of a page that a script generates, or writes it with --write. Returns the complaints."""
     part = re.compile(rf"(?<=<!-- {script}: written by scripts/{script} --write -->\n\n).*?(?=\n<!-- end of {script} -->)", re.S)
     text = (ROOT / page).read_text(encoding="utf-8")
     old = part.search(text) or sys.exit(f"{page} has no place for what scripts/{script} writes")

@@ -1,7 +1,7 @@
-//! Times the crate and the library beside one another, in one process.
+//! Times the crate and the library in one process.
 //!
-//! Each row is one call of each side, which is not inlined and leaves its answer in the caller's place. The two
-//! sides are called in turn, batch by batch, and the side that begins changes with each round.
+//! Each row is one call of each side, which is not inlined and leaves its answer in memory of the caller. The sides are called in turn, in
+//! batches, and the side that goes first changes with each round.
 
 mod library;
 
@@ -13,7 +13,8 @@ use std::hint::black_box;
 use std::sync::atomic::{AtomicUsize, Ordering::Relaxed};
 use std::time::{Duration, Instant, SystemTime, UNIX_EPOCH};
 
-// Moves the code behind it by so many bytes, so that several builds differ in their layout. The linker keeps it, as `main` names it.
+// Moves the code after it by this number of bytes, so that several builds differ in their layout. The linker keeps it, because `main` names
+// it.
 std::arch::global_asm!(concat!(
     ".text\n.globl bench_padding\nbench_padding:\n.space ",
     env!("BENCH_PADDING"),
@@ -24,7 +25,7 @@ unsafe extern "C" {
     fn bench_padding();
 }
 
-/// Counts the crate's allocations.
+/// Counts the allocations of the crate.
 struct Counting;
 
 static TAKEN: AtomicUsize = AtomicUsize::new(0);
@@ -47,17 +48,17 @@ type DurationRead = Result<Duration, humantime::DurationError>;
 
 type MomentRead = Result<SystemTime, humantime::TimestampError>;
 
-/// Where the crate's text goes, with room for it.
+/// A buffer for the text of the crate.
 type Written = String;
 
-/// The text with the micro sign written as `u`, which the crate prints unless its feature `mu` is chosen.
+/// Returns the text with the micro sign replaced by `u`, as the crate prints it without its feature `mu`.
 fn plain(text: &[u8]) -> String {
     String::from_utf8_lossy(text).replace('µ', "u")
 }
 
 #[inline(never)]
 fn crate_read_duration(text: &str, place: &mut DurationRead) {
-    // Drops the answer before, and writes this one where it is wanted, without a copy.
+    // Drops the previous answer, and writes the new one in place, without a copy.
     unsafe {
         std::ptr::drop_in_place(place);
         std::ptr::write(place, humantime::parse_duration(text));
@@ -112,7 +113,7 @@ fn crate_print_nanos(moment: SystemTime, place: &mut Written) {
     let _ = write!(place, "{}", humantime::format_rfc3339_nanos(moment));
 }
 
-/// What a program over the crate does with a command and its text: it reads, and prints what it read as a line.
+/// What a program that uses the crate does for a command and its text: it parses the text, and prints the result as a line.
 #[inline(never)]
 fn crate_run(command: &str, text: &str, place: &mut Written) {
     place.clear();
@@ -133,8 +134,8 @@ fn crate_run(command: &str, text: &str, place: &mut Written) {
     };
 }
 
-/// The same reference, of which the compiler knows nothing any more. `black_box` hands it on through memory, and for that a
-/// call waits as long as for fifteen instructions.
+/// Returns the same reference, about which the compiler knows nothing. `black_box` would pass it through memory, which costs a call as much
+/// as fifteen instructions.
 #[inline(always)]
 fn hidden<T>(reference: &T) -> &T {
     let mut pointer: *const T = reference;
@@ -144,7 +145,7 @@ fn hidden<T>(reference: &T) -> &T {
     }
 }
 
-/// The same text, likewise.
+/// Returns the same text, likewise.
 #[inline(always)]
 fn hidden_text(text: &str) -> &str {
     let (mut pointer, mut length) = (text.as_ptr(), text.len());
@@ -154,13 +155,13 @@ fn hidden_text(text: &str) -> &str {
     }
 }
 
-/// Something that the compiler does not see looks at this answer, so that it has to be there.
+/// Uses the answer in a way that the compiler cannot see, so that it has to be computed.
 #[inline(always)]
 fn looked_at<T>(place: &T) {
     unsafe { asm!("/* {0} */", in(reg) place as *const T, options(nostack, preserves_flags)) };
 }
 
-/// The nanoseconds of so many calls.
+/// Returns the nanoseconds of a number of calls.
 #[inline(always)]
 fn batch(calls: usize, mut call: impl FnMut()) -> f64 {
     let start = Instant::now();
@@ -170,11 +171,11 @@ fn batch(calls: usize, mut call: impl FnMut()) -> f64 {
     start.elapsed().as_nanos() as f64
 }
 
-/// Prints a row: its name, the least time of each side, the median of the ratios, the allocations of a call of the crate.
+/// Prints a row: its name, the smallest time of each side, the median of the ratios, and the allocations of a call of the crate.
 #[inline(always)]
 fn race(name: &str, mut of_crate: impl FnMut(), mut of_library: impl FnMut()) {
     let only = std::env::var("BENCH_ONLY").unwrap_or_default();
-    // So many calls of one row, to be counted by valgrind, which looks into the functions of one side.
+    // Only makes this number of calls of one row, for valgrind, which counts the instructions in the functions of one side.
     if let Ok(calls) = std::env::var("BENCH_COUNT") {
         for _ in 0..if name == only { calls.parse().expect("a number of calls") } else { 0 } {
             of_crate();
@@ -190,7 +191,7 @@ fn race(name: &str, mut of_crate: impl FnMut(), mut of_library: impl FnMut()) {
     let taken = TAKEN.load(Relaxed) - taken;
     let once = batch(20, &mut of_crate).max(batch(20, &mut of_library)) / 20.0;
     let calls = ((30_000.0 / once) as usize).clamp(1, 1_000);
-    // A call that takes milliseconds has fewer rounds.
+    // A call that takes milliseconds is made in fewer rounds.
     let wanted: usize = env!("BENCH_ROUNDS").parse().expect("a number of rounds");
     let rounds = wanted.min((500_000_000.0 / once) as usize / calls).max(50);
     let mut least = [f64::MAX; 2];
@@ -217,8 +218,8 @@ fn race(name: &str, mut of_crate: impl FnMut(), mut of_library: impl FnMut()) {
     );
 }
 
-/// A copy of the text that begins as many bytes behind a multiple of 64 as this build's code does: a read across two lines of
-/// the cache takes longer, and no row should owe that to where its literal came to lie.
+/// Returns a copy of the text that begins as many bytes after a multiple of 64 as the code of this build does: a read across two cache
+/// lines takes longer, and no row should depend on the position of its literal.
 fn placed(text: &str) -> &'static str {
     let offset = env!("BENCH_PADDING").parse::<usize>().expect("a number of bytes") % 64;
     let bytes = vec![0; text.len() + 128].leak();
@@ -228,7 +229,7 @@ fn placed(text: &str) -> &'static str {
     std::str::from_utf8(place).expect("a text")
 }
 
-/// The crate's answer to a duration's text, as the library says it.
+/// Returns the crate's answer for the text of a duration, in the form of the library's.
 fn duration_answer(text: &str) -> (u32, u64, u32, usize, usize) {
     use humantime::DurationError::*;
     match humantime::parse_duration(text) {
@@ -268,7 +269,7 @@ macro_rules! read_duration {
     }};
 }
 
-/// Numbers that look random, the same in each run.
+/// A generator of pseudorandom numbers, the same in each run.
 struct Numbers(u64);
 
 impl Numbers {
@@ -282,7 +283,8 @@ impl Numbers {
 
 const TEXTS: usize = 1_000;
 
-/// Texts of durations below 2^34 seconds, as the crate prints them: half of them whole seconds, short ones as often as long ones.
+/// Returns texts of durations below 2^34 seconds, as the crate prints them: half of them whole seconds, and short ones as often as long
+/// ones.
 fn texts_of_durations() -> Vec<String> {
     let mut numbers = Numbers(0x9E37_79B9_7F4A_7C15);
     let mut text = || {
@@ -294,7 +296,7 @@ fn texts_of_durations() -> Vec<String> {
     (0..TEXTS).map(|_| text()).collect()
 }
 
-/// Texts of moments of 1970 to 9999, as the crate prints them, with 0, 3, 6 or 9 digits after the second.
+/// Returns texts of moments of 1970 to 9999, as the crate prints them, with 0, 3, 6 or 9 fraction digits.
 fn texts_of_moments() -> Vec<String> {
     let mut numbers = Numbers(0x9E37_79B9_7F4A_7C15);
     let mut text = || {
@@ -310,7 +312,7 @@ fn texts_of_moments() -> Vec<String> {
     (0..TEXTS).map(|_| text()).collect()
 }
 
-/// One text after the other, by each side in turn.
+/// Parses one text after the other, by each side in turn.
 macro_rules! read_texts {
     ($name:expr, $texts:expr, $zero:expr, $by_crate:ident, $by_library:ident) => {{
         let texts: &[String] = $texts;
@@ -335,7 +337,7 @@ macro_rules! read_texts {
     }};
 }
 
-/// `spans` has no match in the crate; it stands beside the crate's reading of the same text.
+/// `spans` has no counterpart in the crate. It is compared with the crate's parsing of the same text.
 macro_rules! walk_spans {
     ($name:expr, $text:expr) => {{
         let text = placed($text);
@@ -403,7 +405,7 @@ macro_rules! print_duration {
     }};
 }
 
-/// The crate's answer to a timestamp's text, as the library says it.
+/// Returns the crate's answer for the text of a timestamp, in the form of the library's.
 fn moment_answer(answer: MomentRead) -> (u32, i64, u32) {
     use humantime::TimestampError::*;
     match answer {
@@ -482,12 +484,12 @@ fn durations() {
     read_duration!("read `12`, U+3000, `s 163µs`", "12\u{3000}s 163µs");
     read_duration!("read `163µs`", "163µs");
     read_duration!("read `0`", "0");
-    read_duration!("refuse `100000000000000000us 1foo`", "100000000000000000us 1foo");
-    read_duration!("refuse `1foo~`", "1foo~");
-    read_duration!("refuse `10nights`", "10nights");
-    read_duration!("refuse `12 34`", "12 34");
-    read_duration!("refuse `1h x`", "1h x");
-    read_duration!("refuse `20000000000000000000s`", "20000000000000000000s");
+    read_duration!("reject `100000000000000000us 1foo`", "100000000000000000us 1foo");
+    read_duration!("reject `1foo~`", "1foo~");
+    read_duration!("reject `10nights`", "10nights");
+    read_duration!("reject `12 34`", "12 34");
+    read_duration!("reject `1h x`", "1h x");
+    read_duration!("reject `20000000000000000000s`", "20000000000000000000s");
     let texts = texts_of_durations();
     for text in &texts {
         let mut place = Answer::default();
@@ -498,10 +500,10 @@ fn durations() {
     read_texts!("read random durations", &texts, Ok(Duration::ZERO), crate_read_duration, library_read_duration);
     for (size, spans, others) in [("a tenth of a megabyte", 34_952, 104_856), ("a megabyte", 349_525, 1_048_575)] {
         read_duration!(&format!("read {size} of `1h `"), &"1h ".repeat(spans));
-        read_duration!(&format!("refuse {size} of `1h `, and `~`"), &format!("{}~", "1h ".repeat(spans)));
-        read_duration!(&format!("refuse {size} of whitespace"), &" ".repeat(others));
-        read_duration!(&format!("refuse {size} of `0`"), &"0".repeat(others));
-        read_duration!(&format!("refuse `1` and {size} of `s`"), &format!("1{}", "s".repeat(others)));
+        read_duration!(&format!("reject {size} of `1h `, and `~`"), &format!("{}~", "1h ".repeat(spans)));
+        read_duration!(&format!("reject {size} of whitespace"), &" ".repeat(others));
+        read_duration!(&format!("reject {size} of `0`"), &"0".repeat(others));
+        read_duration!(&format!("reject `1` and {size} of `s`"), &format!("1{}", "s".repeat(others)));
     }
     walk_spans!("`spans` of the longest duration, beside the crate's reading", most);
     walk_spans!(
@@ -543,10 +545,10 @@ fn timestamps() {
         "2018-02-14T00:28:07.123456789Z"
     );
     read_both!("read", "`2018-02-14T00:28:07+00:00`", "2018-02-14T00:28:07+00:00");
-    read_both!("refuse", "`2018-02-14t00:28:07Z`", "2018-02-14t00:28:07Z");
-    read_both!("refuse", "`2018-02-1xT00:28:07Z`", "2018-02-1xT00:28:07Z");
-    read_both!("refuse", "`2018-02-30T00:28:07Z`", "2018-02-30T00:28:07Z");
-    read_both!("refuse", "`2018-02-14T00:28:07.13x3Z`", "2018-02-14T00:28:07.13x3Z");
+    read_both!("reject", "`2018-02-14t00:28:07Z`", "2018-02-14t00:28:07Z");
+    read_both!("reject", "`2018-02-1xT00:28:07Z`", "2018-02-1xT00:28:07Z");
+    read_both!("reject", "`2018-02-30T00:28:07Z`", "2018-02-30T00:28:07Z");
+    read_both!("reject", "`2018-02-14T00:28:07.13x3Z`", "2018-02-14T00:28:07.13x3Z");
     let texts = texts_of_moments();
     for text in &texts {
         let mut place = Answer::default();
@@ -588,7 +590,7 @@ fn timestamps() {
     );
 }
 
-/// The program's whole answer to a command and its text. What it refuses is written to the other place.
+/// Times the program on a command and its text. An error message is written to the other writer.
 macro_rules! run {
     ($command:expr, $text:expr) => {{
         let (command, text): (&str, &str) = ($command, $text);

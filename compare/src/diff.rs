@@ -1,4 +1,5 @@
-//! Compares the library with the crate, call by call: the same answers, but for the differences that are listed.
+//! Compares the answers of the library with those of the crate, call by call. They have to be the same, except for the differences that are
+//! listed.
 
 mod durations;
 mod library;
@@ -14,10 +15,10 @@ use texts::*;
 
 const DAY: u64 = 86_400;
 
-/// The first second that has no printed text.
+/// The first second after 1970 that has no printed text.
 const END: i64 = 253_402_300_800;
 
-/// Reads a duration on both sides.
+/// Parses a duration on both sides.
 fn read_duration(counts: &mut Counts, text: &str) {
     counts.case();
     let (by_crate, by_library) = (durations::read_by_crate(text), durations::read_by_library(text));
@@ -34,7 +35,7 @@ fn read_duration(counts: &mut Counts, text: &str) {
     }
 }
 
-/// Prints a duration on both sides, and reads both texts on both sides.
+/// Prints a duration on both sides, and parses both texts on both sides.
 fn print_duration(counts: &mut Counts, secs: u64, nanos: u32) {
     counts.case();
     let by_crate = caught(|| humantime::format_duration(Duration::new(secs, nanos)).to_string());
@@ -52,7 +53,7 @@ fn print_duration(counts: &mut Counts, secs: u64, nanos: u32) {
     read_duration(counts, &by_library);
 }
 
-/// Reads a timestamp by both parsers on both sides.
+/// Parses a timestamp with both parsers on both sides.
 fn read_moment(counts: &mut Counts, text: &str) {
     if let Some(messages) = moments::other_messages(text) {
         counts.differs_unlisted(|| format!("messages of timestamp {text:?}: {messages:?}"));
@@ -80,7 +81,7 @@ fn read_moment(counts: &mut Counts, text: &str) {
     }
 }
 
-/// Prints a moment by the five printers on both sides, and reads each text by both parsers on both sides.
+/// Prints a moment with the five printers on both sides, and parses each text with both parsers on both sides.
 fn print_moment(counts: &mut Counts, secs: i64, nanos: u32) {
     for printer in &PRINTERS {
         counts.case();
@@ -107,45 +108,45 @@ fn print_moment(counts: &mut Counts, secs: i64, nanos: u32) {
     }
 }
 
-/// The texts of the crate's sources and tests, their fronts, and each with one character taken out, replaced or put in.
+/// Compares the texts of the crate's sources and tests, their prefixes, and each with one character removed, replaced or inserted.
 fn texts_of_the_crate(counts: &mut Counts, folder: &Path) {
     let found = texts_of_crate(folder);
-    counts.begin("durations read: the texts of the crate's sources and tests, and those near them");
+    counts.begin("durations parsed: the texts of the crate's sources and tests, and those near them");
     found
         .iter()
         .for_each(|text| variants(text, &HOSTILE, &mut |text| read_duration(counts, text)));
-    counts.begin("timestamps read: the same texts, and those near them");
+    counts.begin("timestamps parsed: the same texts, and those near them");
     found
         .iter()
         .for_each(|text| variants(text, &STAMP, &mut |text| read_moment(counts, text)));
 }
 
 fn short_durations(counts: &mut Counts) {
-    counts.begin("durations read: all texts of up to 5 of 18 characters");
+    counts.begin("durations parsed: all texts of up to 5 of 18 characters");
     all_texts(&HOSTILE, 5, &mut |text| read_duration(counts, text));
-    counts.begin("durations read: all texts of up to 7 of 10 characters");
+    counts.begin("durations parsed: all texts of up to 7 of 10 characters");
     all_texts(&FEWER, 7, &mut |text| read_duration(counts, text));
 }
 
-/// Words over all letters, and each character of the first plane behind a number and between two digits.
+/// Compares words over all letters, and each character of the first plane after a number and between two digits.
 fn letters_and_characters(counts: &mut Counts) {
     let letters = letters();
-    counts.begin("durations read: each word of up to 3 of 54 letters");
+    counts.begin("durations parsed: each word of up to 3 of 54 letters");
     all_texts(&letters, 3, &mut |word| read_duration(counts, &format!("1{word}")));
-    counts.begin("durations read: each word with a letter less, one more, or another one");
+    counts.begin("durations parsed: each word with a letter removed, inserted or replaced");
     for (word, _) in words() {
         variants(word, &letters, &mut |word| read_duration(counts, &format!("1{word}")));
     }
-    counts.begin("durations read: each character of the first plane behind a number, and between two digits");
+    counts.begin("durations parsed: each character of the first plane after a number, and between two digits");
     for character in '\0'..='\u{ffff}' {
         read_duration(counts, &format!("1{character}s"));
         read_duration(counts, &format!("1 {character} 2s"));
     }
 }
 
-/// Each word with numbers at its limit, with fractions, and alone or behind a second span.
+/// Compares each word with numbers at its limit, with fractions, and alone or after another span.
 fn words_at_their_limits(counts: &mut Counts) {
-    counts.begin("durations read: each word at its limit, with fractions, alone and beside another span");
+    counts.begin("durations parsed: each word at its limit, with fractions, alone and after another span");
     let fractions = "|.0|.00|.5|.50|.000000001|.0000000010|.9|.3074457345|.18446744073|.0001|.25|.|. ";
     let others = ["", "1ns", " 999999999ns ", "0s", "18446744073709551615s", "x", "."];
     for (word, most) in words() {
@@ -165,11 +166,11 @@ fn words_at_their_limits(counts: &mut Counts) {
 
 fn random_durations(counts: &mut Counts) {
     let mut random = Random::new(1);
-    counts.begin("durations read: random spans around each limit, and with a fault");
+    counts.begin("durations parsed: random spans around each limit, and with an error");
     for _ in 0..12_000_000 {
         read_duration(counts, &random_duration(&mut random));
     }
-    counts.begin("durations read: sums around the greatest duration");
+    counts.begin("durations parsed: sums around the greatest duration");
     for _ in 0..3_000_000 {
         read_duration(counts, &random_sum_at_limit(&mut random));
     }
@@ -178,7 +179,7 @@ fn random_durations(counts: &mut Counts) {
 fn durations_printed(counts: &mut Counts) {
     let mut random = Random::new(2);
     let nanos = [0, 1, 999, 1_000, 1_001, 999_999, 1_000_000, 1_000_001, 999_999_999];
-    counts.begin("durations printed: around multiples of each unit; their texts read");
+    counts.begin("durations printed: around multiples of each unit; their texts parsed");
     for size in [
         1,
         60,
@@ -197,9 +198,9 @@ fn durations_printed(counts: &mut Counts) {
             }
         }
     }
-    counts.begin("durations printed: each second of a day and a bit; their texts read");
+    counts.begin("durations printed: each second of a day and slightly more; their texts parsed");
     (0..DAY + 100).for_each(|second| print_duration(counts, second, 0));
-    counts.begin("durations printed: random ones of any size; their texts read");
+    counts.begin("durations printed: random ones of any length; their texts parsed");
     for _ in 0..4_000_000 {
         let part = if random.percent(50) {
             random.of(&nanos)
@@ -211,7 +212,7 @@ fn durations_printed(counts: &mut Counts) {
 }
 
 fn timestamps_read(counts: &mut Counts) {
-    counts.begin("timestamps read: each month, day and year, in and out of bounds");
+    counts.begin("timestamps parsed: each month, day and year, in and out of bounds");
     for year in (0..10_000).filter(|year| *year < 2 || (1960..2110).contains(year) || year % 100 < 5 || *year > 9_990) {
         for month in 0..14 {
             for day in 0..33 {
@@ -219,12 +220,12 @@ fn timestamps_read(counts: &mut Counts) {
             }
         }
     }
-    counts.begin("timestamps read: each hour, minute and second of two digits");
+    counts.begin("timestamps parsed: each hour, minute and second of two digits");
     for number in 0..1_000_000 {
         let (hour, minute, second) = (number / 10_000, number / 100 % 100, number % 100);
         read_moment(counts, &format!("2016-12-31T{hour:02}:{minute:02}:{second:02}Z"));
     }
-    counts.begin("timestamps read: all ends of up to 6 of 11 characters, and of up to 5 after a fraction");
+    counts.begin("timestamps parsed: all endings of up to 6 of 11 characters, and of up to 5 after a fraction");
     let ends = ['Z', '+', '0', '1', ':', '.', '-', 'z', ' ', '9', 'é'];
     all_texts(&ends, 6, &mut |end| {
         read_moment(counts, &format!("1970-01-01T00:00:00{end}"))
@@ -239,9 +240,9 @@ fn timestamps_read(counts: &mut Counts) {
     }
 }
 
-/// Each character of a few texts replaced by each of many, and each two of them by each two of a few.
+/// Compares a few texts with each character replaced by each of many, and each two of them by each two of a few.
 fn timestamps_spoiled(counts: &mut Counts) {
-    counts.begin("timestamps read: one character replaced by each of 256, two by each two of 14");
+    counts.begin("timestamps parsed: one character replaced by each of 256, two by each two of 14");
     let texts = [
         "2018-02-14T00:28:07Z",
         "2018-02-14 00:28:07",
@@ -267,7 +268,7 @@ fn timestamps_spoiled(counts: &mut Counts) {
 
 fn random_timestamps(counts: &mut Counts) {
     let mut random = Random::new(3);
-    counts.begin("timestamps read: random parts, fractions and ends, and with a fault");
+    counts.begin("timestamps parsed: random parts, fractions and endings, and with an error");
     for _ in 0..4_000_000 {
         read_moment(counts, &random_stamp(&mut random));
     }
@@ -275,7 +276,7 @@ fn random_timestamps(counts: &mut Counts) {
 
 fn timestamps_printed(counts: &mut Counts) {
     let mut random = Random::new(4);
-    counts.begin("timestamps printed: each day by each of five printers; their texts read");
+    counts.begin("timestamps printed: each day by each of five printers; their texts parsed");
     for day in 0..END / DAY as i64 {
         let nanos = if random.percent(50) {
             0
@@ -284,7 +285,7 @@ fn timestamps_printed(counts: &mut Counts) {
         };
         print_moment(counts, day * DAY as i64 + random.below(DAY) as i64, nanos);
     }
-    counts.begin("timestamps printed: each second of a day, and random moments; their texts read");
+    counts.begin("timestamps printed: each second of a day, and random moments; their texts parsed");
     (0..DAY as i64).for_each(|second| print_moment(counts, 1_330_473_600 + second, 0));
     for _ in 0..500_000 {
         print_moment(
@@ -304,7 +305,7 @@ fn timestamps_printed(counts: &mut Counts) {
     }
 }
 
-/// Moments of one second.
+/// Compares moments of one second.
 fn subseconds_printed(counts: &mut Counts) {
     counts.begin("timestamps printed: 0 to 999 nanoseconds, microseconds and milliseconds, and 10,000 over the second");
     let few = (0..1_000).flat_map(|part| [part, part * 1_000, part * 1_000_000]);

@@ -1,10 +1,10 @@
-//! Durations read: what each side answers, and which differences are listed.
+//! Durations that are parsed: the answer of each side, and the listed differences that explain it.
 
 use crate::library::{Answer, Text, library_duration_message, library_read_duration, library_unit, text_of};
 use crate::rows::{Row, caught};
 use std::time::Duration;
 
-/// What a text is read as. The unit of `Unknown` is looked at beside it.
+/// The result of parsing a text. The unit of `Unknown` is compared separately.
 #[derive(Clone, Copy, PartialEq, Debug)]
 pub enum Read {
     Value(u64, u32),
@@ -21,7 +21,7 @@ pub enum Read {
     Panicked,
 }
 
-/// The crate's answer. An offset of no character is no answer, nor is a unit that is not the text between its offsets.
+/// Returns the crate's answer, or `None` if an offset is not on a `char` boundary or a unit is not the text between its offsets.
 pub fn read_by_crate(text: &str) -> Option<Read> {
     use humantime::DurationError::*;
     Some(match caught(|| humantime::parse_duration(text)) {
@@ -45,7 +45,7 @@ fn value(duration: Duration) -> Read {
     Read::Value(duration.as_secs(), duration.subsec_nanos())
 }
 
-/// The library's answer. A unit that is not the text between its offsets is no answer.
+/// Returns the library's answer, or `None` if a unit is not the text between its offsets.
 pub fn read_by_library(text: &str) -> Option<Read> {
     let mut place = Answer::default();
     unsafe { library_read_duration(&Text::of(text), &mut place) };
@@ -64,7 +64,7 @@ pub fn read_by_library(text: &str) -> Option<Read> {
     })
 }
 
-/// Whether the unit that the library's error lends is the text between these offsets.
+/// Returns whether the unit in the library's error is the text between these offsets.
 fn has_unit(text: &str, start: usize, end: usize) -> bool {
     let mut bytes = [0; 64];
     let length = unsafe { library_unit(text.as_ptr(), text.len(), &mut bytes) };
@@ -73,17 +73,17 @@ fn has_unit(text: &str, start: usize, end: usize) -> bool {
         .is_some_and(|unit| unit.len() == length && unit.as_bytes()[..kept] == bytes[..kept])
 }
 
-/// The messages of both sides' errors, where they differ. The library's export has room for 256 bytes.
+/// Returns the messages of both errors if they differ. The library's export has room for 256 bytes.
 pub fn other_messages(text: &str) -> Option<(String, String)> {
     let by_crate = humantime::parse_duration(text).err()?.to_string();
     let by_library = text_of(|place| unsafe { library_duration_message(text.as_ptr(), text.len(), place) });
     (by_crate != by_library && by_crate.len() <= 256).then_some((by_crate, by_library))
 }
 
-/// The rows under which the library's answer is what it has to be, or none: then the difference is not listed.
+/// Returns the rows that explain the library's answer, or `None` if the difference is not listed.
 ///
-/// The crate itself says what is right. It reads the text without what the rows name: with the micro sign in place of
-/// the Greek letter, and without zeros at the end of fractions. Its answer is put right where it answers by accident.
+/// The crate itself determines what is right. It parses the text without what the rows name: with the micro sign in place of the Greek
+/// letter, and without trailing zeros of fractions. If its answer is an accident, it is corrected.
 pub fn explained(text: &str, by_library: Read) -> Option<Vec<Row>> {
     let greek = text.contains('μ');
     for (letters, zeros) in [(false, false), (true, false), (false, true), (true, true)] {
@@ -101,7 +101,7 @@ pub fn explained(text: &str, by_library: Read) -> Option<Vec<Row>> {
     None
 }
 
-/// A text without what some rows name, and where each of its bytes stood.
+/// A text without what some rows name, and the original offsets of its bytes.
 struct Plain {
     text: String,
     places: Vec<usize>,
@@ -125,7 +125,7 @@ impl Plain {
         plain
     }
 
-    /// The answer with its offsets as they are in the text itself.
+    /// Returns the answer with the offsets in the original text.
     fn placed(&self, answer: Read) -> Read {
         match answer {
             Read::InvalidCharacter(at) => Read::InvalidCharacter(self.places[at]),
@@ -152,14 +152,14 @@ fn goes_on(letter: char) -> bool {
     letter.is_ascii_digit() || letter.is_whitespace()
 }
 
-/// Whether a number of the text ends before this point: digits and whitespace back to the start or to a letter.
+/// Returns whether a number of the text ends before this point: there are digits and whitespace back to the start or to a letter.
 fn follows_number(text: &str, point: usize) -> bool {
     let before = text[..point].trim_end_matches(goes_on);
     let number = &text[before.len()..point];
     number.contains(|letter: char| letter.is_ascii_digit()) && before.chars().next_back().is_none_or(is_letter)
 }
 
-/// Where the zeros stand that do not count: those at the end of a fraction, with its point where nothing is left of it.
+/// Returns the offsets of the zeros that do not count: trailing zeros of a fraction, with its point if no digit is left.
 fn zeros_of_fractions(text: &str) -> Vec<usize> {
     let mut found = Vec::new();
     for (point, _) in text
@@ -179,7 +179,7 @@ fn zeros_of_fractions(text: &str) -> Vec<usize> {
         if is_left || zeros.is_empty() {
             found.extend(zeros);
         } else if before_point {
-            // Another point follows: one zero stays, so that the first stays a point with digits.
+            // If another point follows, one zero stays, so that the first one still has digits.
             found.extend(&zeros[1..]);
         } else {
             found.extend(zeros);
@@ -189,7 +189,7 @@ fn zeros_of_fractions(text: &str) -> Vec<usize> {
     found
 }
 
-/// The crate's answer as the rules have it where it answers by accident, and the row that says so.
+/// Returns the crate's answer, corrected if it is an accident, and the row that says so.
 fn put_right(text: &str, answer: Read) -> (Read, Option<Row>) {
     match answer {
         Read::Panicked => (Read::Overflow, Some(Row::CarryTooLarge)),
@@ -208,7 +208,7 @@ fn put_right(text: &str, answer: Read) -> (Read, Option<Row>) {
     }
 }
 
-/// Whether a number's point stands here, and right after it a character that is no digit, whitespace or letter.
+/// Returns whether the point of a number is at this offset, followed by a character that is not a digit, whitespace or a letter.
 fn is_point_before_bad_character(text: &str, at: usize) -> bool {
     let next = text[at..].chars().nth(1);
     text[at..].starts_with('.')
@@ -216,7 +216,7 @@ fn is_point_before_bad_character(text: &str, at: usize) -> bool {
         && next.is_some_and(|letter| !goes_on(letter) && !is_letter(letter))
 }
 
-/// The number's point from which whitespace alone leads to this letter, or to this end.
+/// Returns the offset of the point of a number that is followed by only whitespace up to this letter or to the end.
 fn point_before_space(text: &str, at: usize) -> Option<usize> {
     let before = text[..at].trim_end();
     let point = before.len().checked_sub(1)?;

@@ -1,8 +1,8 @@
-//! The library's calls, as compare/src/exports.rt.txt exports them.
+//! The calls of the library, as compare/src/exports.rt.txt exports them.
 
 #![allow(dead_code)]
 
-/// What a call of the library answered: a value where `kind` is 0, else an error.
+/// The answer of a call: a value if `kind` is 0, and otherwise an error.
 #[repr(C)]
 #[derive(Default)]
 pub struct Answer {
@@ -14,7 +14,7 @@ pub struct Answer {
     pub value: u64,
 }
 
-/// A text, by a reference to its pointer and length.
+/// A text, passed as a reference to its pointer and length.
 #[repr(C)]
 pub struct Text {
     pointer: *const u8,
@@ -64,7 +64,7 @@ pub type ReadByLibrary = unsafe extern "C" fn(&Text, &mut Answer);
 
 pub type StampByLibrary = unsafe extern "C" fn(i64, u32, &mut [u8; 30]) -> usize;
 
-/// The text that a call leaves at the front of its place; the call answers how many bytes it has.
+/// Returns the text that a call leaves at the front of its buffer; the call returns its length in bytes.
 pub fn text_of<const N: usize>(call: impl FnOnce(&mut [u8; N]) -> usize) -> String {
     let mut place = [0; N];
     let length = call(&mut place);

@@ -1,11 +1,11 @@
-//! Timestamps read and printed: what each side answers, and which differences are listed.
+//! Timestamps that are parsed and printed: the answer of each side, and the listed differences that explain it.
 
 use crate::library::*;
 use crate::rows::{Row, caught};
 use std::fmt::Write;
 use std::time::{Duration, SystemTime, UNIX_EPOCH};
 
-/// What a text is read as.
+/// The result of parsing a text.
 #[derive(Clone, Copy, PartialEq, Debug)]
 pub enum Read {
     Moment(i64, u32),
@@ -35,7 +35,7 @@ pub const PARSERS: [Parser; 2] = [
 ];
 
 impl Parser {
-    /// The crate's answer, or the message of its panic.
+    /// Returns the crate's answer, or the message of its panic.
     pub fn read_by_crate(&self, text: &str) -> Result<Read, String> {
         use humantime::TimestampError::*;
         caught(|| (self.by_crate)(text)).map(|answer| match answer {
@@ -63,14 +63,14 @@ impl Parser {
     }
 }
 
-/// The messages of both sides' errors by the weak parser, where they differ.
+/// Returns the messages of both errors of the weak parser if they differ.
 pub fn other_messages(text: &str) -> Option<(String, String)> {
     let by_crate = humantime::parse_rfc3339_weak(text).err()?.to_string();
     let by_library = text_of(|place| unsafe { library_moment_message(text.as_ptr(), text.len(), place) });
     (by_crate != by_library).then_some((by_crate, by_library))
 }
 
-/// The row that lists the difference of these answers to the text.
+/// Returns the row that lists the difference of these answers for the text.
 pub fn explained(text: &str, by_crate: Read, by_library: Read) -> Option<Row> {
     let end = text.as_bytes().get(19..)?;
     match (by_crate, by_library) {
@@ -80,7 +80,7 @@ pub fn explained(text: &str, by_crate: Read, by_library: Read) -> Option<Row> {
     }
 }
 
-/// A point, digits, a `+` and five bytes that are not `00:00`.
+/// Returns whether the text is a point, digits, a `+` and five bytes other than `00:00`.
 fn is_fraction_with_odd_tail(end: &[u8]) -> bool {
     let Some(plus) = end.len().checked_sub(6) else {
         return false;
@@ -128,14 +128,14 @@ pub const PRINTERS: [Printer; 5] = [
 ];
 
 impl Printer {
-    /// The crate's text, nothing where it answers an error, or the message of its panic.
+    /// Returns the crate's text, `None` if it returns an error, or the message of its panic.
     pub fn print_by_crate(&self, secs: i64, nanos: u32) -> Result<String, String> {
         let mut text = String::with_capacity(30);
         caught(|| write!(text, "{}", (self.by_crate)(moment(secs, nanos))).is_ok())
             .map(|is_written| if is_written { text } else { String::new() })
     }
 
-    /// The library's text, or nothing where it has none.
+    /// Returns the library's text, or `None` if there is none.
     pub fn print_by_library(&self, secs: i64, nanos: u32) -> String {
         text_of(|place| unsafe { (self.by_library)(secs, nanos, place) })
     }

@@ -1,4 +1,4 @@
-//! The differences that are listed, and what is counted.
+//! The differences that are listed, and the counts of cases.
 
 use std::collections::BTreeMap;
 use std::panic::{AssertUnwindSafe, catch_unwind};
@@ -18,13 +18,13 @@ pub enum Row {
     BytesAfterZone,
 }
 
-/// Each row, as far as compare/diff finds it at the head of a row of the page.
+/// Each row, with the text at the start of its row in the page, where compare/diff looks for it.
 pub const ROWS: [(Row, &str); 10] = [
     (Row::MicroSignPrinted, "prints `us`, and `µs` with the feature `mu`"),
     (Row::PanicBefore1970, "`Display` of a moment before 1970 panics"),
     (
         Row::ZerosOfFraction,
-        "trailing zeros of a fraction count for its limits",
+        "trailing zeros of a fraction count towards its limits",
     ),
     (
         Row::GreekLetter,
@@ -33,9 +33,9 @@ pub const ROWS: [(Row, &str); 10] = [
     (Row::CarryTooLarge, "spans whose carry exceeds the greatest second"),
     (
         Row::NoDigitAfterSpace,
-        "a character that is no digit, after whitespace at the start or after a span",
+        "a character other than a digit, after whitespace at the start or after a span",
     ),
-    (Row::BadAfterPoint, "a bad character right after a point"),
+    (Row::BadAfterPoint, "an invalid character right after a point"),
     (
         Row::SpaceAfterPoint,
         "whitespace after a point without digits, and then a letter or the end",
@@ -47,7 +47,7 @@ pub const ROWS: [(Row, &str); 10] = [
     (Row::BytesAfterZone, "bytes after a `Z` that follows the seconds"),
 ];
 
-/// What the call gives, or the message of its panic.
+/// Returns the result of the call, or the message of its panic.
 pub fn caught<T>(call: impl FnOnce() -> T) -> Result<T, String> {
     catch_unwind(AssertUnwindSafe(call)).map_err(|panic| {
         let message = panic.downcast_ref::<&str>().map(|text| text.to_string());
@@ -57,7 +57,7 @@ pub fn caught<T>(call: impl FnOnce() -> T) -> Result<T, String> {
     })
 }
 
-/// What was compared, and what came of it.
+/// The counts of cases and of differences.
 #[derive(Default)]
 pub struct Counts {
     cases: u64,
@@ -67,23 +67,23 @@ pub struct Counts {
 }
 
 impl Counts {
-    /// Begins a part: what is compared from here on is counted under its name.
+    /// Begins a part: the cases from here on are counted under its name.
     pub fn begin(&mut self, name: &'static str) {
         self.parts.push((name, 0));
     }
 
-    /// Counts a case that was compared.
+    /// Counts a case.
     pub fn case(&mut self) {
         self.cases += 1;
         self.parts.last_mut().expect("a part was begun").1 += 1;
     }
 
-    /// Counts a difference under its rows. The first one stays as an example.
+    /// Counts a difference under its rows. The first one is kept as an example.
     pub fn differs(&mut self, rows: Vec<Row>, example: impl FnOnce() -> String) {
         self.listed.entry(rows).or_insert_with(|| (0, example())).0 += 1;
     }
 
-    /// Tells a difference that no row lists. The first twenty are printed.
+    /// Reports a difference that no row lists. The first twenty are printed.
     pub fn differs_unlisted(&mut self, what: impl FnOnce() -> String) {
         self.unlisted += 1;
         if self.unlisted <= 20 {
@@ -91,7 +91,7 @@ impl Counts {
         }
     }
 
-    /// Prints all counts, as lines whose fields are parted by tabs. Whether each difference is listed, and each row met.
+    /// Prints all counts, as lines of fields separated by tabs. Returns whether each difference is listed and each row was met.
     pub fn tell(&self) -> bool {
         for (name, cases) in &self.parts {
             println!("part\t{name}\t{cases}");

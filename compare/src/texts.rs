@@ -1,26 +1,26 @@
-//! The texts that both sides read.
+//! The texts that both sides parse.
 
 use std::path::Path;
 
-/// Characters that end, continue or spoil a duration's text.
+/// Characters that end a duration's text, continue it or make it invalid.
 pub const HOSTILE: [char; 18] = [
     '0', '1', '9', '.', ' ', '\u{3000}', 's', 'h', 'n', 'u', 'M', 'µ', 'μ', '~', '-', '\0', 'é', '\u{200b}',
 ];
 
-/// Fewer of them, for longer texts.
+/// Fewer of these, for longer texts.
 pub const FEWER: [char; 10] = ['0', '1', '.', ' ', 's', 'n', 'm', 'μ', '~', 'h'];
 
-/// Characters that end, continue or spoil a timestamp's text.
+/// Characters that end a timestamp's text, continue it or make it invalid.
 pub const STAMP: [char; 14] = [
     '0', '1', '6', '9', 'Z', 'z', 'T', '+', '-', ':', '.', ' ', 'é', '\u{ff11}',
 ];
 
-/// Each letter of a unit's word.
+/// The letters of the words of units.
 pub fn letters() -> Vec<char> {
     ('a'..='z').chain('A'..='Z').chain(['µ', 'μ']).collect()
 }
 
-/// Random numbers, the same in each run.
+/// A generator of pseudorandom numbers, the same in each run.
 pub struct Random(u64);
 
 impl Random {
@@ -39,7 +39,7 @@ impl Random {
         self.number() % end
     }
 
-    /// True in so many of a hundred times.
+    /// Returns `true` in this percentage of calls.
     pub fn percent(&mut self, times: u64) -> bool {
         self.below(100) < times
     }
@@ -48,14 +48,14 @@ impl Random {
         list[self.below(list.len() as u64) as usize]
     }
 
-    /// A number with a random count of bits.
+    /// Returns a number with a random number of bits.
     pub fn of_any_size(&mut self) -> u64 {
         let bits = self.below(65);
         if bits == 0 { 0 } else { self.number() >> (64 - bits) }
     }
 }
 
-/// All texts of up to so many of these characters, each handed over once.
+/// Passes each text of up to this number of these characters to a function.
 pub fn all_texts(alphabet: &[char], most: usize, to: &mut dyn FnMut(&str)) {
     fn longer(text: &mut String, alphabet: &[char], left: usize, to: &mut dyn FnMut(&str)) {
         to(text);
@@ -68,7 +68,7 @@ pub fn all_texts(alphabet: &[char], most: usize, to: &mut dyn FnMut(&str)) {
     longer(&mut String::new(), alphabet, most, to);
 }
 
-/// The text's fronts, and the text with one character taken out, replaced, or put in before it or at the end.
+/// Passes the prefixes of the text, and the text with one character removed, replaced, or inserted before it or at the end.
 pub fn variants(text: &str, alphabet: &[char], to: &mut dyn FnMut(&str)) {
     to(text);
     alphabet.iter().for_each(|other| to(&format!("{text}{other}")));
@@ -83,7 +83,7 @@ pub fn variants(text: &str, alphabet: &[char], to: &mut dyn FnMut(&str)) {
     }
 }
 
-/// The text with one random character replaced, put in or taken out.
+/// Returns the text with one random character replaced, inserted or removed.
 pub fn spoiled(text: &str, alphabet: &[char], random: &mut Random) -> String {
     let mut letters: Vec<char> = text.chars().collect();
     let at = random.below(letters.len() as u64 + 1) as usize;
@@ -96,7 +96,7 @@ pub fn spoiled(text: &str, alphabet: &[char], random: &mut Random) -> String {
     letters.into_iter().collect()
 }
 
-/// What stands between quotes in the crate's sources and tests, its documentation too.
+/// Returns the string literals in the crate's sources and tests, also those in its documentation.
 pub fn texts_of_crate(folder: &Path) -> Vec<String> {
     let mut found = Vec::new();
     let mut entries: Vec<_> = std::fs::read_dir(folder)
@@ -117,7 +117,7 @@ pub fn texts_of_crate(folder: &Path) -> Vec<String> {
     found
 }
 
-/// Adds what stands between quotes in the line. A text over several lines counts line by line.
+/// Adds the string literals in the line. A literal of several lines is taken line by line.
 fn quoted(line: &str, found: &mut Vec<String>) {
     let mut letters = line.chars();
     let mut open: Option<String> = None;
@@ -139,7 +139,7 @@ fn quoted(line: &str, found: &mut Vec<String>) {
     found.extend(open);
 }
 
-/// The words of each unit, and how many nanoseconds or seconds it has.
+/// The words of each unit, and its length in nanoseconds or seconds.
 const UNITS: [(&[&str], u64); 10] = [
     (&["nanos", "nsec", "ns"], 1),
     (&["usec", "us", "µs", "μs"], 1_000),
@@ -153,7 +153,7 @@ const UNITS: [(&[&str], u64); 10] = [
     (&["years", "year", "yr", "yrs", "y"], 31_557_600),
 ];
 
-/// Each word, and the greatest number that may stand before it.
+/// Returns each word with the greatest number that it accepts.
 pub fn words() -> impl Iterator<Item = (&'static str, u64)> {
     UNITS
         .iter()
@@ -164,7 +164,7 @@ const NO_WORDS: [&str; 10] = ["", "S", "H", "sek", "µ", "μ", "µsec", "Ms", "m
 
 const SPACES: [&str; 6] = [" ", "  ", "\t", "\u{85}", "\u{3000}", "\u{2028} "];
 
-/// A span's text at one of the limits, or far from all.
+/// Returns the text of a span at one of the limits, or far from all of them.
 pub fn random_span(random: &mut Random) -> String {
     let (words, size) = random.of(&UNITS);
     let (word, most) = (random.of(words), u64::MAX / size);
@@ -201,7 +201,7 @@ fn random_digits(random: &mut Random, most: u64) -> String {
     (0..count).map(|_| char::from(b'0' + random.below(10) as u8)).collect()
 }
 
-/// A fraction's digits: few or many, some at a limit of its product, often with zeros at their end.
+/// Returns the digits of a fraction: few or many, some at a limit of its product, often with trailing zeros.
 fn random_fraction(random: &mut Random) -> String {
     let mut text = match random.below(6) {
         0 => random_digits(random, 22),
@@ -218,7 +218,7 @@ fn random_fraction(random: &mut Random) -> String {
     text
 }
 
-/// A duration's text of one to four spans, now and then with a fault.
+/// Returns the text of a duration of one to four spans, sometimes with an error.
 pub fn random_duration(random: &mut Random) -> String {
     let mut text = String::new();
     if random.percent(5) {
@@ -237,7 +237,7 @@ pub fn random_duration(random: &mut Random) -> String {
     }
 }
 
-/// Spans whose sum is the greatest duration, or a little less or more.
+/// Returns spans whose sum is the greatest duration, or slightly less or more.
 pub fn random_sum_at_limit(random: &mut Random) -> String {
     let first = random.of_any_size();
     let second = (u64::MAX - first).saturating_add(2) - random.below(5).min(2);
@@ -260,7 +260,7 @@ pub fn random_sum_at_limit(random: &mut Random) -> String {
     }
 }
 
-/// A timestamp's text near the form: parts in and out of their bounds, and some end.
+/// Returns a text close to that of a timestamp: parts in and out of their bounds, and some end.
 pub fn random_stamp(random: &mut Random) -> String {
     let any_year = 1970 + random.below(8030);
     let year = random.of(&[1969, 1970, 1972, 1999, 2000, 2100, 2400, 9999, 0, any_year, any_year]);

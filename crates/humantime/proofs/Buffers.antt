@@ -1,4 +1,4 @@
--- Buffers that a result may borrow from, and what a call over the borrowed bytes passes on.
+-- Lemmas about buffers that a result may borrow from, and about results that are passed on by a caller.
 use seplogic.Ra.Ura.{Ura}
 use base.Logic.{ent, ex_i}
 use types.Logic.{Logic, sem}
@@ -14,7 +14,7 @@ use Rattle.std.specs.Result.{result_map_both}
 use Rattle.humantime.specs.Durations.Errors.{fault_of, text_result_view}
 use Rattle.humantime.specs.Durations.Faults.{Fault}
 
--- a buffer whose last bytes are known holds them
+-- If the last bytes of a buffer are known, it holds them.
 pub holds : {M : Type 1} {𝓤 : Ura M} (𝓛 : Logic 𝓤) (n : ℕ) (buf : MutBor (List ℕ)) (last : List ℕ) (P : List ℕ → Type 0) → P last
     → ent 𝓤 (𝓛.A.res buf.ghost_name ((Array u8 n).coded.code last)) (sem 𝓛 (Holds n buf P))
 unfolding such_by follows_by
@@ -23,7 +23,7 @@ holds {𝓤 = 𝓤} 𝓛 n buf last P p =
     ex_i 𝓤 (λ (s : (s : (Row.Denot → Row.Denot) × Row.Denot) × ((w : Row.Denot) → ⊤) × P s.1). sem 𝓛 (follows_by Row.Denot Row.Denot Row.coded.code Row.coded.code buf.ghost_name none s.0.0 s.0.1))
     (((λ _. last), last), (λ _. tt), p)
 
--- an answer t that shows f of m is there where m is, and has the properties of f of m
+-- If `t` is `f` of the option `m`, it is `Some` exactly if `m` is, and has the properties of `f` of its value.
 pub some_shown : (t : Option (Bor (List ℕ))) (m : Option ℕ) (f : ℕ → List ℕ) (P : Type 0)
     → option_map (λ x. x.now) t ≡ option_map f m → (IsSome m ↔ P) → IsSome t ↔ P
 some_shown t m f P e p = grind (arith, common_steps)
@@ -36,7 +36,7 @@ pub none_shown : (t : Option (Bor (List ℕ))) (m : Option ℕ) (f : ℕ → Lis
     → option_map (λ x. x.now) t ≡ option_map f m → IfNone m P → IfNone t P
 none_shown t m f P e p = grind arith
 
--- the same of an answer with an error, which is passed on as it is
+-- The same for a result whose error is passed on unchanged.
 pub answer_shown : (t : Result (Bor (List ℕ)) DurationError) (m : Result ℕ DurationError) (f : ℕ → List ℕ) (answer : Result (List ℕ) Fault)
     → IfOk m (λ n. text_result_view t ≡ Ok (f n)) → IfErr m (λ e. t ≡ Err e) → result_map_both f fault_of m ≡ answer → text_result_view t ≡ answer
 answer_shown t m f answer p q e = grind arith

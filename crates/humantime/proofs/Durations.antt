@@ -1,4 +1,4 @@
--- What holds of durations' texts.
+-- Lemmas about the texts of durations.
 pub mod Bytes
 pub mod Laws
 pub mod Printing

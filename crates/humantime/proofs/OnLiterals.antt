@@ -1,4 +1,4 @@
--- What an answer unfolds to compute on a literal what a text reads as, and what a value prints as.
+-- The definitions that a proof unfolds to compute the result of parsing a literal, or the printed text of a value.
 use Rattle.std.specs.Prelude.{⊤}
 use Rattle.std.specs.Fmt.{digits}
 use Rattle.std.specs.Str.{chars, is_utf8}

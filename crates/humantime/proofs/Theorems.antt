@@ -1,4 +1,4 @@
--- What callers cite: the laws as theorems over plain variables, each under the name of its function in `laws`, and some beside them.
+-- The theorems that callers cite: the laws over plain variables, each under the name of its function in `laws`, and some others.
 pub use Rattle.humantime.proofs.Durations.Laws.DurationTheorems.{one_outcome, spans_decide, spans_tile, value_of_view, errors_equal, printed_duration_reads, printed_durations_differ, printed_bounds, canonical_again}
 pub use Rattle.humantime.proofs.Durations.Laws.OlderTexts.{still_accepted}
 pub use Rattle.humantime.proofs.Durations.Laws.TextTheorems.{without_ws, joined, reordered}

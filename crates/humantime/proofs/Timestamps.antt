@@ -1,4 +1,4 @@
--- What holds of timestamps' texts.
+-- Lemmas about the texts of timestamps.
 pub mod Laws
 pub mod Printing
 pub mod Reading

@@ -1,4 +1,4 @@
--- What an answer unfolds to compute what a timestamp's text reads as, and what a moment prints as, on a literal.
+-- The definitions that a proof unfolds to compute the result of parsing a literal timestamp, or the printed text of a moment.
 use Rattle.std.specs.Prelude.{⊤}
 use Rattle.humantime.specs.Calendar.{days_of_years, days_of_months}
 use Rattle.humantime.specs.Answers.Dates.{date_of}

@@ -1,4 +1,5 @@
--- What the calls answer, each as one function of its arguments. Public contracts cite these functions, and theorems tie them to the definitions of the other modules.
+-- What the calls return, each as one function of its arguments. Public contracts cite these functions, and theorems in `proofs` relate them
+-- to the definitions of the other modules.
 pub mod Dates
 pub mod Durations
 pub mod Items

@@ -1,4 +1,4 @@
--- What a buffer holds once a result that may borrow from it is gone.
+-- The contents of a buffer after a call, once its result no longer borrows from it.
 use Rattle.std.specs.Prelude.{◌≡◌, ℕ, List, Option, Result, IfNone, OnErr, ⊤}
 use Rattle.std.specs.Borrow.{follows_so, Fml, MutBor, Array, u8}
 use mathlib.Core.Option.{none}
@@ -7,10 +7,10 @@ use mathlib.Core.Option.{none}
 abbrev pub Holds : ℕ → MutBor (List ℕ) → (List ℕ → Type 0) → Fml
 Holds n buf P = follows_so (Array u8 n) (Array u8 n) buf.ghost_name none (λ _ _. ⊤) P
 
--- At `None` the buffer is unchanged, once nothing borrows from it.
+-- If the result is `None`, the buffer is unchanged once nothing borrows from it.
 abbrev pub KeptAtNone : {A : Type 0} → ℕ → MutBor (List ℕ) → Option A → Fml
 KeptAtNone n buf answer = Holds n buf (λ last. IfNone answer (last ≡ buf.now))
 
--- At `Err` the buffer is unchanged, once nothing borrows from it.
+-- If the result is `Err`, the buffer is unchanged once nothing borrows from it.
 abbrev pub KeptAtErr : {A E : Type 0} → ℕ → MutBor (List ℕ) → Result A E → Fml
 KeptAtErr n buf answer = Holds n buf (λ last. OnErr answer (last ≡ buf.now))

@@ -1,4 +1,4 @@
--- What a duration's text says: its spans, their sum and limits, its first fault, its items; and the one text of a duration.
+-- The text of a duration: its spans, their sum and limits, its first error and its items; and the canonical text of a duration.
 pub mod Accepted
 pub mod Characters
 pub mod Counts

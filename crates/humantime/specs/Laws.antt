@@ -1,4 +1,4 @@
--- What the laws say, which are proved as the contracts of the functions of `src/laws`. No other contract cites these words.
+-- What the laws say. They are proved as the contracts of the functions of `src/laws`, and only these cite the definitions below.
 pub mod Days
 pub mod ExactlyOne
 pub mod Older

@@ -1,4 +1,4 @@
--- What private functions do, step by step. No public contract cites this.
+-- The definitions that the contracts of private functions cite. Public contracts do not depend on them.
 pub mod Adding
 pub mod Cursors
 pub mod Keys

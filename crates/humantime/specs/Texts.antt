@@ -1,13 +1,13 @@
--- Words that durations and timestamps share. A text is the list of its characters, or of its bytes.
+-- Definitions that durations and timestamps share. A text is the list of its characters, or of its bytes.
 use Rattle.std.specs.Prelude.{ℕ, Bool, false, List, [], ◌∷◌, if◌then◌else◌}
 use Rattle.std.specs.Str.Parse.{digits_value}
 
--- Takes the longest prefix of a text whose characters all pass a test.
+-- Returns the longest prefix of a text whose characters all pass a test.
 abbrev pub take_while : (ℕ → Bool) → List ℕ → List ℕ
 take_while p [] = []
 take_while p (c ∷ cs) = if p c then c ∷ take_while p cs else []
 
--- Drops the longest prefix of a text whose characters all pass a test.
+-- Returns what follows the longest prefix of a text whose characters all pass a test.
 abbrev pub drop_while : (ℕ → Bool) → List ℕ → List ℕ
 drop_while p [] = []
 drop_while p (c ∷ cs) = if p c then drop_while p cs else c ∷ cs
@@ -23,6 +23,6 @@ ends p [] = false
 ends p (c ∷ []) = p c
 ends p (c ∷ d ∷ cs) = ends p (d ∷ cs)
 
--- Reads decimal digits; no digits are 0.
+-- Returns the value of decimal digits, and 0 if there are none.
 abbrev pub decimal_value : List ℕ → ℕ
 decimal_value ds = digits_value 10 ds

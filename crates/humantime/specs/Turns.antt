@@ -1,8 +1,8 @@
--- How many turns a chain of them stands for.
+-- The number of iterations that a chain of turns denotes.
 use Rattle.std.specs.Prelude.{ℕ, ◌+◌}
 use Rattle.humantime.specs.declared.turns.Chain.{Chain, Start, Next'}
 
--- none at the start, and one more for each link
+-- Returns the number of links of a chain.
 abbrev pub turns_of : Chain → ℕ
 turns_of Start = 0
 turns_of (Next' marker before) = turns_of before + 1

@@ -1,4 +1,4 @@
-//! Widths, precisions and fills, which change nothing.
+//! Widths, precisions and fills have no effect on what is written.
 
 use crate::support::{assert_nothing_allocated, assert_same, refuse_memory};
 use humantime::{
@@ -8,7 +8,7 @@ use humantime::{
 use std::error::Error;
 use std::fmt::{self, Display, Style, Write};
 
-/// A sink that wants one text: what is still to come, until something else was asked for.
+/// A sink that expects one text: it holds the rest of that text, until a write differs from it.
 #[derive(Drop)]
 struct Wanted<'a>(Option<&'a [u8]>);
 
@@ -22,13 +22,13 @@ impl fmt::Write for Wanted<'_> {
     }
 }
 
-/// Whether the value is written as this text.
+/// Returns whether the value is written as this text.
 fn is_written<D: Display + Drop>(value: D, text: &str) -> bool {
     let mut sink = Wanted(Some(text.as_bytes()));
     sink.write(value).is_ok() && sink.0 == Some(b"".as_slice())
 }
 
-/// The first width or precision below 300 under which the value is not written as this text.
+/// Returns the first width or precision below 300 with which the value is not written as this text.
 fn misprinted_width<T: Display>(value: &T, text: &str) -> Option<usize> {
     for width in 0..300 {
         let is_wide = is_written(value.width(width).fill('*'), text);
@@ -39,7 +39,7 @@ fn misprinted_width<T: Display>(value: &T, text: &str) -> Option<usize> {
     None
 }
 
-/// The same of an error, by `Error` alone.
+/// Does the same for an error, using only its `Error` impl.
 fn misprinted_error<E: Error>(error: &E, message: &str) -> Option<usize> {
     misprinted_width(error, message)
 }

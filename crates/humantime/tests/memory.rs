@@ -1,4 +1,4 @@
-//! Memory: no call allocates, and printing into memory may be refused it.
+//! No call allocates, and printing into memory returns an error if an allocation fails.
 
 use crate::support::{assert_nothing_allocated, assert_same, refuse_memory};
 use humantime::{StdDuration, UNIX_EPOCH};
@@ -11,7 +11,7 @@ use std::cell::Cell;
 use std::fmt::Display;
 use std::process::Abort;
 
-/// Memory that grants so many allocations and refuses each one after them.
+/// An allocator that grants a number of allocations and then fails.
 struct Refusing {
     memory: Global,
     granted: Cell<u32>,
@@ -57,7 +57,7 @@ fn rows_hold_where_memory_is_refused(rt: HostRuntime) {
     assert_nothing_allocated(&rt);
 }
 
-/// The value as a text, or as the end of one.
+/// Returns the value as a string of its own, or appended to another one.
 fn printed<'a, D: Display>(
     memory: &'a Refusing,
     value: &D,
@@ -70,8 +70,8 @@ fn printed<'a, D: Display>(
     }
 }
 
-/// The value is printed as this text where each allocation is granted. Where one is refused, this is the error, and nothing is
-/// allocated after it.
+/// Asserts that the value is printed as this text if no allocation fails. If one fails, the result is this error, and nothing is allocated
+/// afterwards.
 fn assert_printed<D: Display>(
     rt: &(impl Abort + AllocGlobal),
     value: &D,
@@ -97,7 +97,7 @@ fn assert_printed<D: Display>(
     panic!(rt; "{wanted} is not printed");
 }
 
-/// Allocates up to the allocation that is refused. Those after it are granted.
+/// Allocates up to and including the allocation that fails. Later ones succeed.
 fn pass_refusal(rt: &(impl Abort + AllocGlobal)) {
     refuse_memory(rt, 0);
     assert_nothing_allocated(rt);

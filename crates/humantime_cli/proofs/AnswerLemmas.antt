@@ -1,4 +1,4 @@
--- What the library's answers tell, and that the words have one answer.
+-- Lemmas about the output for the results of the library, and the uniqueness of the answer.
 use Rattle.std.proofs.Common.{◌≡◌, ◌≢◌, ◌↔◌, ℕ, List, [], ◌∷◌, length, ap, sym, ◌∙◌, refl}
 use Rattle.std.specs.Prelude.{ℤ, None, Some, Result, Ok, Err, chars, codes, IfOk, unwrap_or, if◌then◌else◌, ◌==◌}
 use Rattle.std.specs.Result.{result_map_both}
@@ -7,34 +7,34 @@ use Rattle.humantime.specs.Prelude.{Fault, HasFault, IsCanonicalOf, IsPrintable,
 use Rattle.humantime.proofs.Theorems.{canonical_again, one_stamp_outcome, printed_moment_reads, places_of_bound, strict_printable, weak_printable}
 use Rattle.humantime_cli.specs.Answers.{Answers, OneAnswer, IsOutputOf, IsMomentOutput, Command, Duration, Strict, Weak}
 
--- a canonical text or a fault, as the command for durations tells it
+-- A canonical text or a fault is output of the command `duration`.
 pub tells_duration : (text : List ℕ) (read : Result (List ℕ) Fault) → ((t : List ℕ) → (read ≡ Ok t) ↔ IsCanonicalOf text t)
     → ((e : Fault) → (read ≡ Err e) ↔ HasFault (chars text) e) → IsOutputOf Duration text (result_map_both (λ t. t) fault_message read)
 tells_duration text (Ok printed) canonical fault = (canonical printed).0 refl
 tells_duration text (Err e) canonical fault = (e, (fault e).0 refl, refl)
 
--- what is told of one moment or error is told of each that is implied
+-- Output for a moment or an error is also output for the moments and errors that these imply.
 pub tells_moment : {P Q : ℤ → Type 0} {F G : TimestampError → Type 0} (told : Result (List ℕ) (List ℕ)) → ((t : ℤ) → P t → Q t) → ((e : TimestampError) → F e → G e)
     → IsMomentOutput P F told → IsMomentOutput Q G told
 tells_moment (Ok printed) value error (t, is, whole) = (t, value t is, whole)
 tells_moment (Err message) value error (e, is, whole) = (e, error e is, whole)
 
--- what was read is one of what may be read
+-- The result of parsing satisfies any property that holds of each possible result.
 pub each_read : {T E : Type 0} {P Q : T → Type 0} (read : Result T E) → ((t : T) → (read ≡ Ok t) ↔ P t) → ((t : T) → P t → Q t) → IfOk read Q
 each_read (Ok t) value all = all t ((value t).0 refl)
 each_read (Err e) value all = tt
 
--- what is no two words is no command and its text
+-- Arguments that are not two are not a command and its text.
 pub not_two : (words : List (List ℕ)) → length words ≢ 2 → Answers words None
 not_two words other name command text same = other (ap length same)
 
--- nor are two of which the first is no command's name
+-- Neither are two arguments whose first is not the name of a command.
 pub unnamed : (name : List ℕ) {text : List ℕ} → name ≢ codes "duration" → name ≢ codes "strict" → name ≢ codes "weak" → Answers (name ∷ text ∷ []) None
 unnamed name duration strict weak _ Duration text same = duration (cc)
 unnamed name duration strict weak _ Strict text same = strict (cc)
 unnamed name duration strict weak _ Weak text same = weak (cc)
 
--- what is told of a moment that was read, as a function
+-- The output for a moment that was parsed, as a function.
 abbrev moment_written : Result ℤ TimestampError → Result (List ℕ) (List ℕ)
 moment_written read = result_map_both (λ t. unwrap_or (shortest_text t) []) timestamp_message read
 
@@ -45,7 +45,7 @@ one_moment read (Ok printed) (t, (is, within), whole) =
     ap (λ o. Ok (unwrap_or o [])) (sym shown) ∙ ap moment_written (sym is)
 one_moment read (Err message) (e, is, same) = ap Err same ∙ ap moment_written (sym is)
 
--- and of words, by the first byte of their command
+-- The answer to arguments, by the first byte of the command.
 abbrev words_answer : List (List ℕ) → Result (List ℕ) (List ℕ)
 words_answer ((b ∷ name) ∷ text ∷ words) =
     if b == 100 then result_map_both (λ t. t) fault_message (canonical_answer (chars text))

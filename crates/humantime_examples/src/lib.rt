@@ -1,4 +1,4 @@
-//! Five small programs over `humantime`, one of each kind that reads or prints its texts, proved by its contracts alone.
+//! Five small programs that use `humantime`, one for each kind of call that parses or prints. They are proved from its contracts alone.
 #![tactic(auto)]
 
 pub mod log_lines;

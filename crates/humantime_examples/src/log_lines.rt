@@ -1,7 +1,7 @@
-//! Lines of a log that begin with a timestamp, kept where its moment lies in a half-open range.
+//! Filters the lines of a log by the moment of the timestamp at their start, which has to lie in a half-open range.
 //!
-//! One filter reads each line's timestamp, the other compares bytes and reads none. Where lines and bounds are printed with
-//! milliseconds they answer alike.
+//! One filter parses the timestamp of each line, and the other compares bytes without parsing. If lines and bounds are printed with
+//! milliseconds, both give the same result.
 //!
 //! # Examples
 //!
@@ -29,7 +29,7 @@
 //! }
 //! ```
 //!
-//! A line that does not begin with a timestamp in strict form is dropped.
+//! A line that does not begin with a timestamp in the strict form is dropped.
 //!
 //! ```
 //! use humantime::{SystemTime, UNIX_EPOCH};
@@ -55,7 +55,7 @@ ghost use Rattle.humantime_examples.specs.LogLines.{stamp, IsKept};
 
 use humantime::{SystemTime, format_rfc3339_millis, parse_rfc3339};
 
-/// Whether the line begins with a timestamp in strict form, of a moment that is not before the one and before the other.
+/// Returns whether a line begins with a timestamp in the strict form whose moment is in `from..to`.
 pub fn keeps(line: &str, from: SystemTime, to: SystemTime) -> bool
     ensures { IsTrue result ↔ IsKept from to line.now }
 {
@@ -65,7 +65,7 @@ pub fn keeps(line: &str, from: SystemTime, to: SystemTime) -> bool
     }
 }
 
-/// The same for lines and bounds that are printed with milliseconds, by their bytes alone.
+/// Returns the same for lines and bounds that are printed with milliseconds, by comparing bytes.
 pub fn keeps_by_bytes(line: &str, from: &str, to: &str) -> bool
     ensures { (a : ℤ) (b : ℤ) (t : ℤ) → IsPrinted a 3 from.now → IsPrinted b 3 to.now → IsPrinted t 3 (stamp line.now)
         → (IsTrue result ↔ IsKept (cut a 3) (cut b 3) line.now) }
@@ -73,7 +73,8 @@ pub fn keeps_by_bytes(line: &str, from: &str, to: &str) -> bool
     (from..to).contains(&stamp_of(line))
 }
 
-/// Whether both answer alike: they do, for bounds of whole milliseconds and a line that is printed with as many digits.
+/// Returns whether both filters give the same result. They do for bounds of whole milliseconds and a line that is printed with
+/// milliseconds.
 pub fn answers_alike(line: &str, from: SystemTime, to: SystemTime) -> bool
     ensures { (t : ℤ) → IsPrinted t 3 (stamp line.now) → cut from 3 ≡ from → cut to 3 ≡ to → result ≡ true }
 {
@@ -83,7 +84,7 @@ pub fn answers_alike(line: &str, from: SystemTime, to: SystemTime) -> bool
     }
 }
 
-/// The text of a bound, with milliseconds; none outside 1970 to 9999.
+/// Returns the text of a bound, with milliseconds, or `None` outside 1970 to 9999.
 pub fn bound_text<'b>(moment: SystemTime, buf: &'b mut [u8; 30]) -> Option<&'b str>
     ensures within { IsSome result ↔ IsPrintable moment }
     ensures text { IfSome result (λ text. IsPrinted moment 3 text.now) }
@@ -91,7 +92,7 @@ pub fn bound_text<'b>(moment: SystemTime, buf: &'b mut [u8; 30]) -> Option<&'b s
     format_rfc3339_millis(moment).text(buf)
 }
 
-/// What stands before the first space of a line, or the whole line.
+/// Returns the part of a line before its first space, or the whole line.
 fn stamp_of(line: &str) -> &str
     ensures { result.now ≡ stamp line.now }
 {

@@ -1,6 +1,6 @@
-//! The option `--timeout=TEXT` of a command line. Of several, the first counts.
+//! The option `--timeout=TEXT` of a command line. If it is given more than once, the first one counts.
 //!
-//! Its text is lent from the word, and so is a unit that is no unit's word. The error prints as what a user is told.
+//! The text of the option is borrowed from the argument, and so is an unknown unit. `Display` of the error is the message for the user.
 //!
 //! # Examples
 //!
@@ -19,7 +19,7 @@
 //! assert_eq!(rt; timeout(&["--timeout=2h 7mi", "--timeout=1h"]), Err(error));
 //! ```
 //!
-//! What a user is told:
+//! The messages:
 //!
 //! ```
 //! use humantime_examples::option::timeout;
@@ -50,16 +50,16 @@ ghost use Rattle.humantime_examples.specs.Options.{given, first_given, option_vi
 use humantime::{DurationError, StdDuration, parse_duration};
 use std::fmt;
 
-/// The option's text is no duration.
+/// The error returned when the text of the option is not a valid duration.
 #[derive(Clone, Copy, PartialEq, Debug)]
 pub struct OptionError<'a> {
-    /// What stands behind `--timeout=`.
+    /// The text after `--timeout=`.
     pub text: &'a str,
-    /// Its first fault.
+    /// The first error of the text.
     pub fault: DurationError<'a>,
 }
 
-/// Writes the word and what is wrong with it.
+/// Writes the argument and the message of its error.
 impl fmt::Display for OptionError<'_> {
     ghost use Rattle.std.specs.Prelude.{Some};
     ghost use Rattle.humantime_examples.specs.OptionErrors.{error_text};
@@ -71,7 +71,7 @@ impl fmt::Display for OptionError<'_> {
     }
 }
 
-/// The duration that the first `--timeout=TEXT` names, if there is one, or what is wrong with it.
+/// Returns the duration of the first `--timeout=TEXT`, or `None` if there is none.
 pub fn timeout<'a>(words: &[&'a str]) -> Result<Option<StdDuration>, OptionError<'a>>
     ensures { option_view result ≡ option_answer (first_given words.now) }
 {
@@ -84,7 +84,7 @@ pub fn timeout<'a>(words: &[&'a str]) -> Result<Option<StdDuration>, OptionError
     }
 }
 
-/// The text of the first `--timeout=TEXT`.
+/// Returns the text of the first `--timeout=TEXT`.
 fn first_text<'a>(words: &[&'a str]) -> Option<&'a str>
     ensures { option_map (λ text. text.now) result ≡ first_given words.now }
 {
@@ -96,7 +96,7 @@ fn first_text<'a>(words: &[&'a str]) -> Option<&'a str>
     None
 }
 
-/// What stands behind `--timeout=`, if the word begins so.
+/// Returns the text after `--timeout=`, if the argument begins with it.
 fn text_of(word: &str) -> Option<&str>
     ensures { option_map (λ text. text.now) result ≡ given word.now }
 {

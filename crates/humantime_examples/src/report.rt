@@ -1,7 +1,6 @@
-//! A row of a report: when a job started, how long it took and how long it might have taken.
+//! A row of a report: when a job started, how long it took, and its limit.
 //!
-//! `Display` writes exactly the row's bytes into any sink. A start outside 1970 to 9999 has no text, and writing its row
-//! fails.
+//! `Display` writes exactly the bytes of the row, and fails if the start is outside 1970 to 9999.
 //!
 //! # Examples
 //!
@@ -46,18 +45,18 @@ ghost use Rattle.humantime_examples.specs.Rows.{IsRow};
 use humantime::{StdDuration, SystemTime, format_duration, format_rfc3339_millis};
 use std::fmt::{self, Display, Write};
 
-/// A job that has ended.
+/// A finished job.
 #[derive(Clone, Copy)]
 pub struct Row {
     /// When it started.
     pub start: SystemTime,
     /// How long it took.
     pub took: StdDuration,
-    /// How long it might have taken.
+    /// How long it was allowed to take.
     pub limit: StdDuration,
 }
 
-/// Writes the row with no line feed.
+/// Writes the row without a line feed.
 impl fmt::Display for Row {
     ghost use Rattle.std.specs.Prelude.{IsOk};
     ghost use Rattle.std.specs.Fmt.{DisplaysOnOk};

@@ -1,7 +1,7 @@
-//! How long to wait before the next try: twice as long after each, and at most a cap.
+//! The delay before the next try: it is doubled after each try, up to a cap.
 //!
-//! The first wait and the cap are read from texts, as a settings file has them. What is printed is the canonical text of
-//! the exact minimum, after any number of tries.
+//! The first delay and the cap are parsed from texts, as from a settings file. The result is the exact delay, printed as its canonical
+//! text.
 //!
 //! # Examples
 //!
@@ -42,7 +42,7 @@ ghost use Rattle.humantime_examples.specs.Retry.{IsWaitText, wait, wait_answer};
 
 use humantime::{DurationError, StdDuration, format_duration, parse_duration};
 
-/// The text of the wait after so many tries, lent from the front of the buffer, or else the first fault of the two texts.
+/// Returns the text of the delay after `tries` tries, borrowed from the front of the buffer.
 pub fn wait_text<'a, 'b>(
     first: &'a str,
     cap: &'a str,
@@ -57,7 +57,7 @@ pub fn wait_text<'a, 'b>(
     Ok(format_duration(wait_after(first, cap, tries)).text(buf))
 }
 
-/// The wait after so many tries. It is doubled no more often than it takes to reach the cap, which no time at all never reaches.
+/// Returns the delay after `tries` tries. The loop ends when the cap is reached; a delay of zero never reaches it, so it returns early.
 #[tactic(auto, using(crate::proofs::Waits::wait_more, crate::proofs::Waits::wait_at_cap))]
 fn wait_after(first: StdDuration, cap: StdDuration, tries: u32) -> StdDuration
     ensures { result ≡ wait first cap tries }
@@ -75,7 +75,7 @@ fn wait_after(first: StdDuration, cap: StdDuration, tries: u32) -> StdDuration
     wait
 }
 
-/// Twice a time, and at most the cap.
+/// Returns twice a time, and at most the cap.
 fn doubled(time: StdDuration, cap: StdDuration) -> StdDuration
     ensures { result ≡ min (time + time) cap }
 {

@@ -1,7 +1,7 @@
 //! A line of a settings file, `timeout = DURATION` or `since = TIMESTAMP`.
 //!
-//! An error names the key, the byte of the line at which the fault stands and the unit that is no unit's word, all lent from
-//! the line. It prints the line with a mark under the fault.
+//! An error has the key, the byte offset of the error in the line, and an unknown unit, all borrowed from the line. `Display` prints the
+//! line with a mark under the error.
 //!
 //! # Examples
 //!
@@ -22,7 +22,7 @@
 //! assert_eq!(rt; read_line("since = 2018-02-14T00:28:07Z").ok(), Some(since));
 //! ```
 //!
-//! What is wrong with a line, and where:
+//! The errors of a line:
 //!
 //! ```
 //! use humantime::{DurationError, TimestampError};
@@ -58,7 +58,7 @@
 //! }
 //! ```
 //!
-//! What a user is told:
+//! The messages:
 //!
 //! ```
 //! use humantime_examples::settings::read_line;
@@ -90,45 +90,45 @@ use humantime::{
     DurationError, StdDuration, SystemTime, TimestampError, parse_duration, parse_rfc3339,
 };
 
-/// What a line sets.
+/// A setting.
 #[derive(Clone, Copy, PartialEq, Debug)]
 pub enum Setting {
     /// How long to wait.
     Timeout(StdDuration),
-    /// From which moment on.
+    /// The first moment that counts.
     Since(SystemTime),
 }
 
-/// What is wrong with a line.
+/// The reason why a line is rejected.
 #[derive(Clone, Copy, PartialEq, Debug)]
 pub enum LineFault<'a> {
-    /// There is no `=`.
+    /// The line has no `=`.
     NoValue,
     /// No setting has this key.
     UnknownKey,
-    /// The value is no duration. Its offsets are those in the line.
+    /// The value is not a valid duration. The offsets are those in the line.
     Duration(DurationError<'a>),
-    /// The value is no timestamp.
+    /// The value is not a valid timestamp.
     Timestamp(TimestampError),
 }
 
-/// A line that sets nothing, cut in two where its fault stands.
+/// The error of a line, which is split in two at the position of the error.
 ///
-/// Without a place of its own a fault stands where the value begins, an unknown key at the line's start, and a missing `=` at
-/// its end.
+/// An error without an offset of its own is at the start of the value, an unknown key is at the start of the line, and a missing `=` at its
+/// end.
 #[derive(Clone, Copy, PartialEq, Debug)]
 pub struct LineError<'a> {
-    /// What stands before the `=`, or the whole line, without the whitespace at its end.
+    /// The part before the `=`, or the whole line, without trailing whitespace.
     pub key: &'a str,
-    /// The line up to the fault.
+    /// The line up to the error.
     pub before: &'a str,
-    /// The line from the fault on.
+    /// The line from the error on.
     pub after: &'a str,
-    /// What is wrong.
+    /// The reason.
     pub fault: LineFault<'a>,
 }
 
-/// What the line sets, or what is wrong with it.
+/// Parses a line.
 pub fn read_line(line: &str) -> Result<Setting, LineError<'_>>
     ensures answer { line_view result ≡ line_answer line.now }
     ensures line { IfErr result (λ error. error.before.now ++ error.after.now ≡ line.now) }
@@ -145,7 +145,7 @@ pub fn read_line(line: &str) -> Result<Setting, LineError<'_>>
     }
 }
 
-/// The duration that begins at a byte of a line, or what is wrong with it.
+/// Parses the duration that begins at byte `at` of a line.
 fn read_timeout<'a>(line: &'a str, key: &'a str, at: usize) -> Result<Setting, LineError<'a>>
     requires { IsCharBoundary line.now at }
     ensures answer { line_view result ≡ timeout_answer key.now at (duration_answer (chars (drop at line.now))) }
@@ -162,7 +162,7 @@ fn read_timeout<'a>(line: &'a str, key: &'a str, at: usize) -> Result<Setting, L
     }
 }
 
-/// The moment that begins at a byte of a line, or what is wrong with it.
+/// Parses the timestamp that begins at byte `at` of a line.
 fn read_since<'a>(line: &'a str, key: &'a str, at: usize) -> Result<Setting, LineError<'a>>
     requires { IsCharBoundary line.now at }
     ensures answer { line_view result ≡ since_answer key.now at (strict_answer (drop at line.now)) }
@@ -175,7 +175,7 @@ fn read_since<'a>(line: &'a str, key: &'a str, at: usize) -> Result<Setting, Lin
     }
 }
 
-/// The error of the value that begins at a byte of a line, with its offsets in the line.
+/// Returns the error of a value that begins at byte `at` of a line, with its offsets in the line.
 fn in_line<'a>(line: &str, at: usize, error: DurationError<'a>) -> DurationError<'a>
     requires boundary { IsCharBoundary line.now at }
     requires place { PointsInto (drop at line.now) error }
@@ -201,7 +201,7 @@ fn in_line<'a>(line: &str, at: usize, error: DurationError<'a>) -> DurationError
     }
 }
 
-/// Returns the byte of a line to which the error of the value points that begins at a byte of the line, or else that byte.
+/// Returns the byte offset in a line at which the error of a value lies that begins at `at`, or `at` if the error has no offset.
 fn place_of(line: &str, at: usize, error: DurationError<'_>) -> usize
     requires boundary { IsCharBoundary line.now at }
     requires place { PointsInto (drop at line.now) error }
@@ -215,7 +215,7 @@ fn place_of(line: &str, at: usize, error: DurationError<'_>) -> usize
     }
 }
 
-/// The error of a line whose fault stands at a byte.
+/// Returns the error of a line, split at byte `at`.
 fn cut<'a>(line: &'a str, key: &'a str, at: usize, fault: LineFault<'a>) -> LineError<'a>
     requires { IsCharBoundary line.now at }
     ensures key { result.key.now ≡ key.now }

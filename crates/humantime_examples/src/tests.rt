@@ -1,4 +1,4 @@
-//! Each program is called on texts, as the gate builds it.
+//! Tests that call each program.
 
 use crate::log_lines::{answers_alike, bound_text, keeps, keeps_by_bytes};
 use crate::option::{OptionError, timeout};

@@ -17,7 +17,7 @@ unfolding days_of_years
 years_bound zero = omega arith
 years_bound (suc n) = grind (arith, nat_tests, (years_bound n))
 
--- the years from 1970 to 9999
+-- The years from 1970 to 9999.
 pub all_years : days_of_years 8030 ≡ 2_932_897
 unfolding days_of_years
 all_years = refl

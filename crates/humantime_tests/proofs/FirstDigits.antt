@@ -1,4 +1,4 @@
--- The number and the fraction of a text's first span begin and end with a digit.
+-- The number and the fraction of the first span of a text begin and end with a digit.
 use Rattle.std.proofs.Common.{◌≡◌, ◌∙◌, ℕ, List, [], ◌∷◌, true, Option, None, Some, Result, Bor, sym, ap, arith}
 use Rattle.std.specs.Prelude.{chars, option_map, IfSome}
 use Rattle.std.proofs.lemmas.Grind.{common_steps}
@@ -9,7 +9,7 @@ use Rattle.humantime.specs.Durations.Items.{AreItems, AreSpanViews, IsFractionVi
 use Rattle.humantime.specs.Durations.Faults.{Fault}
 use Rattle.humantime_tests.specs.FirstItems.{first_span}
 
--- the text begins and ends with a digit
+-- The text begins and ends with a digit.
 abbrev pub HasDigitEnds : List ℕ → Type 0
 HasDigitEnds text = (begins is_digit text ≡ true) × (ends is_digit text ≡ true)
 

@@ -1,4 +1,4 @@
--- What a caller has of a buffer once the result that borrowed from it is gone.
+-- The contents of a buffer once a result that borrowed from it is gone, as a caller can use them.
 use seplogic.Ra.Ura.{Ura}
 use base.Fml.{fres}
 use base.Logic.{ent, sep, ex, ex_e}
@@ -15,7 +15,7 @@ use Rattle.humantime.specs.Durations.Errors.{text_result_view}
 use Rattle.humantime.specs.Durations.Faults.{Fault}
 use Rattle.humantime.specs.declared.duration.error.DurationError.{DurationError}
 
--- the buffer's last bytes, of which P is said
+-- The last bytes of the buffer, of which `P` holds.
 pub last_held : {M : Type 1} {𝓤 : Ura M} (𝓛 : Logic 𝓤) (n : ℕ) (buf : MutBor (List ℕ)) (P : List ℕ → Type 0)
     → ent 𝓤 (sem 𝓛 (Holds n buf P)) (ex 𝓤 (λ (y : List ℕ). sep 𝓤 (𝓛.A.res buf.ghost_name ((Array u8 n).coded.code y)) (fact 𝓤 (P y))))
 unfolding such_by follows_by

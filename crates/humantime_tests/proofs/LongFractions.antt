@@ -1,4 +1,4 @@
--- A fraction is too long, zeros at its end apart, exactly where a digit other than 0 stands after its first nineteen.
+-- A fraction is too long exactly if a digit other than 0 follows its first nineteen digits.
 use Rattle.std.proofs.Common.{◌≡◌, ◌≢◌, ◌↔◌, ℕ, ◌<◌, ◌≤◌, false, List, [], ◌∷◌, ◌++◌, length, reverse, arith, append_assoc}
 use Rattle.std.specs.Prelude.{◌==◌}
 use Rattle.std.proofs.lemmas.Bool.Decides.{nat_tests}
@@ -8,7 +8,7 @@ use Rattle.humantime.specs.Durations.Characters.{without_trailing_zeros}
 use Rattle.humantime.proofs.Durations.Reading.Runs.{take_while-drop_while, begins-drop_while}
 use Rattle.humantime.proofs.Durations.Reading.SignificantDigits.{significant_long}
 
--- After the first nineteen digits stands one other than 0.
+-- A digit other than 0 follows the first nineteen digits.
 record IsLong (digits : List ℕ) : Type 0 where
   before : List ℕ
   digit : ℕ

@@ -1,4 +1,4 @@
--- Which characters are whitespace, digits, letters and points, by computation.
+-- Whitespace, digits, letters and points, by computation.
 use Rattle.std.proofs.Common.{◌≡◌, ℕ, ◌≤◌, List, [], ◌∷◌, filter, refl, arith}
 use Rattle.std.specs.Prelude.{codes, Bool, false, ◌||◌}
 use Rattle.std.proofs.lemmas.Bool.Decides.{nat_tests}
@@ -6,7 +6,7 @@ use Rattle.std.specs.List.{range_with_len}
 use Rattle.humantime.specs.Durations.Characters.{whitespace_chars, is_whitespace, is_digit, is_letter, is_point}
 use Rattle.humantime.proofs.OnLiterals.{humantime_on_literals}
 
--- all characters of ASCII, and those beyond it up to the last of whitespace
+-- All characters of ASCII, and those beyond it up to the last whitespace character.
 abbrev ascii : List ℕ
 ascii = range_with_len 0 128
 
@@ -48,7 +48,7 @@ wide_points : filter is_point beyond ≡ []
 unfolding humantime_on_literals
 wide_points = refl
 
--- no character after those is one of them, up to the last of Unicode and beyond
+-- No later character is one of these, up to the last one of Unicode and beyond.
 abbrev is_any : ℕ → Bool
 is_any c = is_whitespace c || is_digit c || is_letter c || is_point c
 

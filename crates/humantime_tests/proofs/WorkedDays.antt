@@ -1,4 +1,4 @@
--- The days of both ends of each month, of a common and of a leap year, by computation.
+-- The first and the last day of each month, in a common and in a leap year, by computation.
 use Rattle.std.proofs.Common.{◌≡◌, ℕ, ◌+◌, List, [], ◌∷◌, map, refl}
 use Rattle.std.specs.Prelude.{Bool, true, false}
 use Rattle.std.specs.List.{range_with_len}
@@ -34,7 +34,7 @@ leap_last : last_days 1972 ≡ 760 ∷ 789 ∷ 820 ∷ 850 ∷ 881 ∷ 911 ∷ 9
 unfolding timestamps_on_literals
 leap_last = refl
 
--- the last day of each month exists, and the day after it and day 0 do not
+-- The last day of each month exists, and the day after it and day 0 do not.
 abbrev exist : ℕ → ℕ → List Bool
 exist y later = map (λ m. is_valid y m (days_in_month y m + later)) months
 
@@ -50,25 +50,25 @@ no_later_days = refl
 no_later_days_of_a_leap_year : exist 1972 1 ≡ map (λ m. false) months
 no_later_days_of_a_leap_year = refl
 
--- how long each month is
+-- The length of each month.
 common_lengths : map (days_in_month 1970) months ≡ 31 ∷ 28 ∷ 31 ∷ 30 ∷ 31 ∷ 30 ∷ 31 ∷ 31 ∷ 30 ∷ 31 ∷ 30 ∷ 31 ∷ []
 common_lengths = refl
 
 leap_lengths : map (days_in_month 1972) months ≡ 31 ∷ 29 ∷ 31 ∷ 30 ∷ 31 ∷ 30 ∷ 31 ∷ 31 ∷ 30 ∷ 31 ∷ 30 ∷ 31 ∷ []
 leap_lengths = refl
 
--- the last day of February in years that 100 divides, and in those that 400 divides
+-- The last day of February in years that are multiples of 100, and of 400.
 centuries : map (λ y. days_in_month y 2) (2100 ∷ 2200 ∷ 2300 ∷ 2500 ∷ 5000 ∷ 9900 ∷ []) ≡ 28 ∷ 28 ∷ 28 ∷ 28 ∷ 28 ∷ 28 ∷ []
 centuries = refl
 
 fourth_centuries : map (λ y. days_in_month y 2) (2000 ∷ 2400 ∷ 2800 ∷ 3200 ∷ 3600 ∷ 4000 ∷ 8000 ∷ 9600 ∷ []) ≡ 29 ∷ 29 ∷ 29 ∷ 29 ∷ 29 ∷ 29 ∷ 29 ∷ 29 ∷ []
 fourth_centuries = refl
 
--- the first and the last year
+-- The first and the last year.
 ends : map (λ y. is_valid y 1 1) (1969 ∷ 1970 ∷ 9999 ∷ 10_000 ∷ []) ≡ false ∷ true ∷ true ∷ false ∷ []
 ends = refl
 
--- months and days begin at 1, and there are twelve months
+-- Months and days begin at 1, and there are twelve months.
 no_zero : is_valid 1970 0 1 ≡ false
 no_zero = refl
 

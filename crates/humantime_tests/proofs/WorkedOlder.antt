@@ -1,5 +1,5 @@
--- What was accepted while trailing zeros of a fraction counted, by computation: the rule had its limits at 19 digits and at the greatest
--- number, and not below.
+-- What was accepted while trailing zeros of a fraction counted, by computation: the limits were 19 digits and the greatest number, and no
+-- less.
 use Rattle.std.proofs.Common.{refl, Some, None, arith}
 use Rattle.std.specs.Prelude.{codes}
 use Rattle.humantime.specs.Laws.Older.{OlderFormed}

@@ -1,17 +1,17 @@
--- What durations print as, by computation: none, each unit at one, at two and at more, and the table of the page.
+-- The printed texts of durations, by computation: zero, each unit at one, two and more, and the table of the documentation.
 use Rattle.std.proofs.Common.{◌≡◌, ℕ, List, [], ◌∷◌, ◌++◌, map, refl}
 use Rattle.std.specs.Prelude.{codes}
 use Rattle.humantime.specs.Prelude.{duration_text}
 use Rattle.humantime.proofs.OnLiterals.{humantime_on_literals}
 
--- a number of nanoseconds, and its text
+-- A number of nanoseconds, and its text.
 abbrev Row : Type 0
 Row = ℕ × List ℕ
 
 abbrev ArePrinted : List Row → Type 0
 ArePrinted rows = map (λ r. duration_text r.0) rows ≡ map (λ r. r.1) rows
 
--- the bytes of µs, with the micro sign
+-- The bytes of `µs`, with the micro sign.
 abbrev micros : List ℕ
 micros = 0xc2 ∷ 0xb5 ∷ codes "s"
 
@@ -56,7 +56,7 @@ many =
     ∷ (21, codes "21ns")
     ∷ []
 
--- the last two are the longest duration, and the longest text
+-- The last two are the longest duration and the longest text.
 abbrev of_the_page : List Row
 of_the_page =
     (9_420_000_000_000, codes "2h 37m")

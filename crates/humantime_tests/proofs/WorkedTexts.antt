@@ -1,4 +1,4 @@
--- What some texts come to, by computation, and what that says of them.
+-- The results of parsing some durations, by computation, and what they say of the texts.
 use Rattle.std.proofs.Common.{◌≡◌, ℕ, List, [], ◌∷◌, ◌++◌, Result, Ok, Err, map, refl}
 use Rattle.std.specs.Prelude.{codes}
 use Rattle.humantime.specs.Durations.Faults.{Fault, HasFault, InvalidCharacter, NumberExpected, UnknownUnit, NumberOverflow, Empty}
@@ -6,7 +6,7 @@ use Rattle.humantime.specs.Prelude.{Accepted, duration_answer, canonical_answer,
 use Rattle.humantime.proofs.OnLiterals.{humantime_on_literals}
 use Rattle.humantime.proofs.Durations.Reading.Outcomes.{accepted_from_outcome, fault_from_outcome}
 
--- A text, and its value in nanoseconds or its first fault.
+-- A text, and its value in nanoseconds or its first error.
 record Row : Type 0 where
   text : List ℕ
   answer : Result ℕ Fault
@@ -47,7 +47,7 @@ rows =
     ∷ row (codes "222nsec221nanosmsec7s5msec572s") (Err (UnknownUnit 10 19 (codes "nanosmsec") 221))
     ∷ []
 
--- zeros at the end of a fraction do not count
+-- Trailing zeros of a fraction do not count.
 abbrev rows_of_zeros : List Row
 rows_of_zeros =
     row (codes "1.50000000000s") (Ok 1_500_000_000)
@@ -58,14 +58,14 @@ rows_of_zeros =
     ∷ row (codes "1.00000000000000000000") (Err (UnknownUnit 22 22 [] 1))
     ∷ []
 
--- a fraction may have 19 digits: what follows them is looked at, and what follows a twentieth isn't
+-- A fraction may have 19 digits. What follows them is checked, and what follows a twentieth is not.
 abbrev rows_of_digits : List Row
 rows_of_digits =
     row (codes "0.1234567890123456789~") (Err (InvalidCharacter 21))
     ∷ row (codes "0.12345678901234567891~") (Err NumberOverflow)
     ∷ []
 
--- a fraction is a whole number of nanoseconds, and from hours on of seconds
+-- A fraction has to be a whole number of nanoseconds, or of seconds for hours and longer units.
 abbrev rows_of_fractions : List Row
 rows_of_fractions =
     row (codes "0.001us") (Ok 1)
@@ -91,7 +91,7 @@ rows_of_fractions =
     ∷ row (codes "0.001y") (Err NumberOverflow)
     ∷ []
 
--- characters that look as if they belonged there, and a word with a letter less
+-- Characters that resemble the expected ones, and a word without its last letter.
 abbrev rows_of_strays : List Row
 rows_of_strays =
     row (codes "+1s") (Err (NumberExpected 0))
@@ -100,7 +100,7 @@ rows_of_strays =
     ∷ row (codes "1wek") (Err (UnknownUnit 1 4 (codes "wek") 1))
     ∷ []
 
--- å is no letter of a unit, an ideographic space is whitespace, and the micro sign and the Greek letter mu take two bytes
+-- `å` is not a letter of a unit, an ideographic space is whitespace, and the micro sign and Greek mu take two bytes.
 abbrev rows_beyond_ascii : List Row
 rows_beyond_ascii =
     row (codes "1N" ++ 0xe5 ∷ []) (Err (InvalidCharacter 2))
@@ -111,7 +111,7 @@ rows_beyond_ascii =
     ∷ row (codes "1" ++ 0x3bc ∷ []) (Err (UnknownUnit 1 3 (0xce ∷ 0xbc ∷ []) 1))
     ∷ []
 
--- each text of the rows has its answer
+-- Each text in the rows has its result.
 abbrev AreAnswered : List Row → Type 0
 AreAnswered xs = map (λ x. duration_answer x.text) xs ≡ map (λ x. x.answer) xs
 
@@ -123,7 +123,7 @@ fractions_answered : AreAnswered (rows_of_fractions ++ rows_of_strays)
 unfolding humantime_on_literals
 fractions_answered = refl
 
--- what an answer says of its text
+-- What a result says of its text.
 hours_and_minutes : Accepted (codes "2h 37min") 9_420_000_000_000
 unfolding humantime_on_literals
 hours_and_minutes = accepted_from_outcome _ _ refl
@@ -136,7 +136,7 @@ first_fault : HasFault (codes "222nsec221nanosmsec7s5msec572s") (UnknownUnit 10 
 unfolding humantime_on_literals
 first_fault = fault_from_outcome _ _ refl
 
--- microseconds are printed with the micro sign
+-- Microseconds are printed with the micro sign.
 printed_micros : duration_text 1_000 ≡ codes "1" ++ 0xc2 ∷ 0xb5 ∷ codes "s"
 unfolding humantime_on_literals
 printed_micros = refl

@@ -1,4 +1,4 @@
--- What some timestamps read as, and what some moments print as, by computation.
+-- The results of parsing some timestamps, and the printed texts of some moments, by computation.
 use Rattle.std.proofs.Common.{◌≡◌, ℕ, ◌+◌, ◌*◌, List, [], ◌∷◌, Some, None, Result, Ok, Err, map, refl}
 use Rattle.std.specs.Prelude.{ℤ, codes, pos, negsuc}
 use Rattle.humantime.specs.declared.date.error.TimestampError.{TimestampError}
@@ -6,7 +6,7 @@ use Rattle.humantime.specs.declared.date.error.TimestampError.TheVariants.{OutOf
 use Rattle.humantime.specs.Prelude.{nanos_per_second, weak_answer, strict_answer, cut, moment_text, places_of, shortest_text}
 use Rattle.humantime.proofs.TimestampsOnLiterals.{timestamps_on_literals}
 
--- A text, and what the weak and the strict parser answer.
+-- A text, and the results of the weak and the strict parser.
 record Row : Type 0 where
   text : List ℕ
   weak : Result ℤ TimestampError
@@ -15,7 +15,7 @@ record Row : Type 0 where
 abbrev row : List ℕ → Result ℤ TimestampError → Result ℤ TimestampError → Row
 row text weak strict = record { text = text; weak = weak; strict = strict }
 
--- this second, and then so many nanoseconds
+-- A second, and the number of nanoseconds after it.
 abbrev at : ℕ → ℕ → Result ℤ TimestampError
 at second nanos = Ok (pos (second * nanos_per_second + nanos))
 
@@ -57,7 +57,7 @@ rows_strict : map (λ x. strict_answer x.text) rows ≡ map (λ x. x.strict) row
 unfolding timestamps_on_literals
 rows_strict = refl
 
--- how many digits `format_rfc3339` shows: none where the nanoseconds are zero, before 1970 too, and else nine
+-- The number of digits that `format_rfc3339` prints: none if the nanoseconds are zero, and otherwise nine, also before 1970.
 no_digits : map places_of (pos 0 ∷ pos 1_000_000_000 ∷ pos 253_402_300_799_000_000_000 ∷ negsuc 999_999_999 ∷ []) ≡ 0 ∷ 0 ∷ 0 ∷ 0 ∷ []
 no_digits = refl
 
@@ -67,7 +67,7 @@ nine_digits_before_1970 = refl
 nine_digits : map places_of (pos 1 ∷ pos 7 ∷ pos 999 ∷ pos 1_000 ∷ pos 1_000_000 ∷ pos 500_000_000 ∷ pos 999_999_999 ∷ pos 1_000_000_001 ∷ []) ≡ 9 ∷ 9 ∷ 9 ∷ 9 ∷ 9 ∷ 9 ∷ 9 ∷ 9 ∷ []
 nine_digits = refl
 
--- a moment cut to none, three, six and nine digits: the digits shown stay, before 1970 too
+-- A moment rounded down to no digits, three, six and nine, also before 1970.
 cut_moment : map (cut (pos 1_456_123_999)) (0 ∷ 3 ∷ 6 ∷ 9 ∷ []) ≡ pos 1_000_000_000 ∷ pos 1_456_000_000 ∷ pos 1_456_123_000 ∷ pos 1_456_123_999 ∷ []
 cut_moment = refl
 

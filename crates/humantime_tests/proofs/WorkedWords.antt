@@ -1,4 +1,4 @@
--- The words of the units, what one of each is and what a half of it is, by computation.
+-- The words of the units, with the value of one and of a half of each, by computation.
 use Rattle.std.proofs.Common.{◌≡◌, ℕ, List, [], ◌∷◌, ◌++◌, Result, Ok, Err, map, flat_map, refl}
 use Rattle.std.specs.Prelude.{codes}
 use Rattle.humantime.specs.Durations.Faults.{Fault, NumberOverflow}
@@ -6,7 +6,7 @@ use Rattle.humantime.specs.Durations.Units.{words}
 use Rattle.humantime.specs.Prelude.{duration_answer}
 use Rattle.humantime.proofs.OnLiterals.{humantime_on_literals}
 
--- A unit's words, one of it in nanoseconds, and what a half of it reads as.
+-- The words of a unit, its value in nanoseconds, and the result of parsing a half of it.
 record Unit_row : Type 0 where
   spellings : List (List ℕ)
   one : ℕ
@@ -29,11 +29,11 @@ units =
     ∷ unit (codes "years" ∷ codes "year" ∷ codes "yr" ∷ codes "yrs" ∷ codes "y" ∷ []) 31_557_600_000_000_000 (Ok 15_778_800_000_000_000)
     ∷ []
 
--- the units' words are these, and no others
+-- The words of the units are exactly these.
 all_words : map (λ w. w.0) words ≡ flat_map (λ u. u.spellings) units
 all_words = refl
 
--- what a text reads as with each word behind it, and what is said of each word
+-- The result of parsing a number followed by each word, and what holds for each word.
 abbrev answers : List ℕ → List (Result ℕ Fault)
 answers number = flat_map (λ u. map (λ w. duration_answer (number ++ w)) u.spellings) units
 

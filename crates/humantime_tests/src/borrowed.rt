@@ -1,11 +1,11 @@
-//! Callers that use what a call borrows while it is borrowed. Each edit in `compile_fail/` keeps it longer, which the borrow checker
-//! refuses.
+//! Callers that use what a call borrows while it is borrowed. Each edit in `compile_fail/` keeps the borrow longer, which the borrow
+//! checker rejects.
 
 use humantime::{
     DurationError, FormattedDuration, Rfc3339Timestamp, Span, canonical, parse_duration, spans,
 };
 
-/// Returns the unit of an error, which borrows from the text.
+/// Returns the unit of an error, which is borrowed from the text.
 pub fn unit_of(text: &str) -> &str {
     match parse_duration(text) {
         Err(DurationError::UnknownUnit { unit, .. }) => unit,
@@ -13,7 +13,7 @@ pub fn unit_of(text: &str) -> &str {
     }
 }
 
-/// Returns the first span, which borrows from the text.
+/// Returns the first span, which is borrowed from the text.
 pub fn first_span(text: &str) -> Option<Span<'_>> {
     match spans(text).next() {
         Some(Ok(span)) => Some(span),
@@ -39,7 +39,7 @@ pub fn length_of_number(text: String) -> usize {
     length
 }
 
-/// Returns the length of a duration's text, and then writes the buffer.
+/// Returns the length of the text of a duration, and then writes to the buffer.
 pub fn length_of_duration(duration: &FormattedDuration) -> usize {
     let mut buf = [0; 64];
     let printed = duration.text(&mut buf);
@@ -48,7 +48,7 @@ pub fn length_of_duration(duration: &FormattedDuration) -> usize {
     length
 }
 
-/// Returns the length of a timestamp, and then writes the buffer.
+/// Returns the length of a timestamp, and then writes to the buffer.
 pub fn length_of_timestamp(stamp: &Rfc3339Timestamp) -> usize {
     let mut buf = [0; 30];
     let Some(stamped) = stamp.text(&mut buf) else {
@@ -59,7 +59,7 @@ pub fn length_of_timestamp(stamp: &Rfc3339Timestamp) -> usize {
     length
 }
 
-/// Returns the length of a canonical text, and then writes the buffer.
+/// Returns the length of a canonical text, and then writes to the buffer.
 pub fn length_of_canonical(text: &str) -> usize {
     let mut buf = [0; 64];
     let Ok(written) = canonical(text, &mut buf) else {

@@ -1,4 +1,4 @@
-//! Buffers after an error: what a caller's proof knows of their bytes.
+//! Buffers after an error: what the proof of a caller knows about their bytes.
 
 ghost use Rattle.std.specs.Prelude.{◌≡◌, chars};
 ghost use Rattle.humantime.specs.Prelude.{Fault, HasFault, IsPrintable};

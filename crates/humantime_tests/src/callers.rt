@@ -1,4 +1,4 @@
-//! Callers that are proved: what CALLING.md shows.
+//! Callers with proofs: the examples of CALLING.md.
 
 pub mod calendar;
 pub mod clock;

@@ -1,6 +1,6 @@
 //! A calendar that counts years and months one by one, as its definition does.
 //!
-//! It has the contracts of the library's `day_number` and `date_of_day`, so all of them agree on every date and day.
+//! It has the contracts of the library's `day_number` and `date_of_day`, so both calendars agree on every date and day.
 
 ghost use Rattle.std.specs.Prelude.{◌≡◌, ◌+◌, ◌-◌, ◌<◌, ◌≤◌, ◌↔◌, IsSome, IfSome};
 ghost use Rattle.std.specs.Int.{IsInRange};

@@ -1,4 +1,4 @@
-//! Callers of the laws and of the definitions: each computes by public calls, and promises a concrete conclusion.
+//! Callers of the laws and of the definitions. Each computes with public calls, and promises a concrete conclusion.
 
 pub mod days;
 pub mod durations;

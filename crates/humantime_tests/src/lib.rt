@@ -1,4 +1,4 @@
-//! What a caller of `humantime` can prove, by its public items alone.
+//! What a caller of `humantime` can prove using only its public items.
 #![tactic(auto)]
 
 pub mod borrowed;

@@ -1,4 +1,4 @@
-//! The callers, run on values. What is expected was worked out by hand.
+//! Tests of the callers. The expected values were worked out by hand.
 
 mod calendars;
 mod callers;
@@ -11,7 +11,7 @@ use humantime::{Date, SystemTime};
 use std::fmt::Debug;
 use std::process::Abort;
 
-/// Asserts that the two are equal.
+/// Asserts that the two values are equal.
 fn assert_same<T: PartialEq + Debug + Drop>(rt: &impl Abort, left: T, right: T) {
     assert_eq!(rt; left, right);
 }

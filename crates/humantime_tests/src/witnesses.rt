@@ -1,7 +1,7 @@
 //! Constants, defaults, equality, order, clones, copies and hashes of the library's values.
 //!
-//! Each function answers what its contract says, for every value. Where a derive were replaced by a body that
-//! means something else, the function here would not be proved.
+//! The contract of each function gives its result for every value. If a derive were replaced by a body with another meaning, the function
+//! here would not prove.
 
 ghost use Rattle.std.specs.Prelude.{◌≡◌, ◌+◌, ◌<◌, ◌<ℤ◌, ◌↔◌, pos, IsTrue, IsOkAnd, Some};
 ghost use Rattle.std.specs.Ordering.{nat_cmp, int_cmp};
@@ -15,13 +15,13 @@ use std::alloc::AllocError;
 use std::cmp::Ordering;
 use std::hash::{Hash, Hasher};
 
-/// What `==`, `<`, `cmp` and `partial_cmp` say of two values, in this order.
+/// The results of `==`, `<`, `cmp` and `partial_cmp` for two values, in this order.
 pub type Compared = (bool, bool, Ordering, Option<Ordering>);
 
-/// The clone of a value, and its copy.
+/// The clone and the copy of a value.
 pub type Copies<T> = (Result<T, AllocError>, T);
 
-/// The constants and the defaults.
+/// Returns the constants and the defaults.
 pub fn constants() -> (StdDuration, StdDuration, SystemTime, StdDuration, Duration)
     ensures zero { result.0 ≡ 0 }
     ensures greatest { result.1 + 1 ≡ duration_end }
@@ -38,7 +38,7 @@ pub fn constants() -> (StdDuration, StdDuration, SystemTime, StdDuration, Durati
     )
 }
 
-/// Values that `==` finds equal leave two hashers of one state in one state.
+/// Feeds two equal values to two hashers, which keeps their states equal.
 pub fn feed_alike<T: Hash, H: Hasher>(a: &T, b: &T, first: &mut H, second: &mut H)
     ensures { IsTrue (T.eq a.now b.now) → first.old ≡ second.old → first.new ≡ second.new }
 {

@@ -1,11 +1,11 @@
-//! How answers are written, and numbers are read.
+//! Writes answers, and parses numbers.
 
 use crate::display::is_always_written;
 use crate::judge::Judge;
 use std::fmt::{self, Debug, Display, Formatter, Write};
 use std::str::FromStr;
 
-/// Writes a value as `{:?}` does, and what is wrong where not all other calls and formats agree to it.
+/// Writes a value in `{:?}` form, followed by a note if another call or a format does not agree with it.
 pub(crate) fn tell<W: fmt::Write, T: Debug + Drop>(
     f: &mut Formatter<W>,
     judge: &mut Judge,
@@ -19,12 +19,12 @@ pub(crate) fn tell<W: fmt::Write, T: Debug + Drop>(
     write!(f, "{value:?}{note}")
 }
 
-/// Writes that there is no answer: the name of the call or its numbers cannot be read, or the text has no error.
+/// Writes that there is no answer: the name of the call or its numbers cannot be parsed, or the text has no error.
 pub(crate) fn no_answer<W: fmt::Write>(f: &mut Formatter<W>) -> fmt::Result {
     f.write_str("no answer")
 }
 
-/// Writes an error's message, and what is wrong where some format makes it another than is wanted, or it takes more requests.
+/// Writes the message of an error, followed by a note if some format changes it or needs more than `most` writes.
 pub(crate) fn tell_message<W: fmt::Write, E: Display + Copy>(
     f: &mut Formatter<W>,
     judge: &mut Judge,
@@ -39,7 +39,7 @@ pub(crate) fn tell_message<W: fmt::Write, E: Display + Copy>(
     tell(f, judge, format_args!("{error}"))
 }
 
-/// Writes whether two values are equal, and what is wrong where `!=` or a copy says otherwise.
+/// Writes whether two values are equal, followed by a note if `!=` or a copy says otherwise.
 pub(crate) fn tell_equal<W: fmt::Write, T: Eq + Copy + Drop>(
     f: &mut Formatter<W>,
     judge: &mut Judge,
@@ -58,7 +58,7 @@ pub(crate) fn tell_equal<W: fmt::Write, T: Eq + Copy + Drop>(
     tell(f, judge, is_equal)
 }
 
-/// Two numbers with a space between them.
+/// Parses two numbers with a space between them.
 pub(crate) fn parts<A: FromStr + Drop>(text: &str) -> Option<(A, u32)>
 where
     A::Err: Drop,
@@ -67,7 +67,7 @@ where
     first.parse().ok().zip(second.parse().ok())
 }
 
-/// Four numbers with spaces between them, as two pairs.
+/// Parses four numbers with spaces between them, as two pairs.
 pub(crate) fn two_parts<A: FromStr + Drop, B: FromStr + Drop>(
     text: &str,
 ) -> Option<((A, u32), (B, u32))>

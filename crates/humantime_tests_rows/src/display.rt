@@ -1,12 +1,12 @@
-//! What `Display` writes under many formats.
+//! The text that `Display` writes with various formats.
 
 use std::fmt::{self, Display, Write};
 
-/// A sink that wants one text. It compares what it is asked to take, keeps nothing, counts the requests, and refuses each once
-/// something else was asked for.
+/// A sink that expects one text. It compares what is written with it, stores nothing, counts the writes, and fails after a write that
+/// differs.
 #[derive(Drop)]
 struct Wanted<'a> {
-    /// What is still to come, until something else was asked for.
+    /// The rest of the expected text, until a write differs from it.
     rest: Option<&'a [u8]>,
     requests: u32,
 }
@@ -22,7 +22,7 @@ impl fmt::Write for Wanted<'_> {
     }
 }
 
-/// Whether the value is written as this text, in so many requests at most.
+/// Returns whether the value is written as this text, in at most `most` writes.
 pub(crate) fn is_written<D: Display + Drop>(value: D, text: &str, most: u32) -> bool {
     let mut sink = Wanted {
         rest: Some(text.as_bytes()),
@@ -34,8 +34,7 @@ pub(crate) fn is_written<D: Display + Drop>(value: D, text: &str, most: u32) -> 
     }
 }
 
-/// Whether the value is written as this text in so many requests at most, whatever format is asked for, and gives up at the
-/// first request that is refused.
+/// Returns whether the value is written as this text in at most `most` writes with any format, and stops at the first write that fails.
 pub(crate) fn is_always_written<T: Display>(value: &T, text: &str, most: u32) -> bool {
     refused_requests(value) == 1
         && is_written(format_args!("{value}"), text, most)
@@ -47,7 +46,7 @@ pub(crate) fn is_always_written<T: Display>(value: &T, text: &str, most: u32) ->
         && is_written(format_args!("{value:030}"), text, most)
 }
 
-/// How often `Display` asks a sink that refuses each request, before it answers an error.
+/// Returns the number of writes that `Display` makes to a sink that always fails, or `u32::MAX` if it returns `Ok`.
 pub(crate) fn refused_requests<T: Display>(value: &T) -> u32 {
     let mut sink = Wanted {
         rest: None,

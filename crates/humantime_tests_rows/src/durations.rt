@@ -1,4 +1,4 @@
-//! What the library answers to calls about durations.
+//! The library's answers to calls about durations.
 
 use crate::answer::{no_answer, parts, tell, tell_equal, tell_message};
 use crate::display::is_always_written;
@@ -9,7 +9,7 @@ use humantime::{
 };
 use std::fmt::{self, Formatter, Write};
 
-/// Writes seconds and nanoseconds of the text, or its error, which leaves the buffer as it was and does not borrow it.
+/// Writes the seconds and nanoseconds of the text, or its error, which leaves the buffer unchanged and does not borrow it.
 pub(crate) fn read<W: fmt::Write>(
     f: &mut Formatter<W>,
     judge: &mut Judge,
@@ -38,7 +38,7 @@ pub(crate) fn read<W: fmt::Write>(
     }
 }
 
-/// Whether the error's offsets lie in the text where a character begins or the text ends, and its unit between them.
+/// Returns whether the offsets of the error lie on `char` boundaries of the text, with its unit between them.
 fn points_into(error: DurationError<'_>, text: &str) -> bool {
     match error {
         DurationError::InvalidCharacter(at) | DurationError::NumberExpected(at) => {
@@ -54,7 +54,7 @@ fn points_into(error: DurationError<'_>, text: &str) -> bool {
     }
 }
 
-/// Hears whether the error is equal to its clone, and not to one that has only another offset.
+/// Checks that the error equals its clone, and does not equal an error that differs only in its offset.
 fn hear_itself(judge: &mut Judge, error: DurationError<'_>) {
     judge.hear(error.clone().ok() == Some(error));
     if let DurationError::UnknownUnit {
@@ -92,7 +92,7 @@ pub(crate) fn compare_errors<W: fmt::Write>(
     tell_equal(f, judge, first, parse_duration(second).err())
 }
 
-/// Writes what the wrapper holds that the text is read as, and its text; or the error.
+/// Writes the value that the text is parsed to as a wrapper, and the wrapper's text; or the error.
 pub(crate) fn wrap<W: fmt::Write>(
     f: &mut Formatter<W>,
     judge: &mut Judge,
@@ -127,7 +127,7 @@ pub(crate) fn explain<W: fmt::Write>(
     tell_message(f, judge, parse_duration(text).err(), wanted, u32::MAX)
 }
 
-/// Writes the messages of both errors that have this offset.
+/// Writes the messages of the two kinds of error that have an offset, with this offset.
 pub(crate) fn misplace<W: fmt::Write>(
     f: &mut Formatter<W>,
     judge: &mut Judge,
@@ -145,7 +145,7 @@ pub(crate) fn misplace<W: fmt::Write>(
     tell(f, judge, format_args!("{invalid}, {expected}"))
 }
 
-/// Writes what a duration of so many seconds and nanoseconds is printed as.
+/// Writes the printed text of a duration of these seconds and nanoseconds.
 pub(crate) fn print<W: fmt::Write>(
     f: &mut Formatter<W>,
     judge: &mut Judge,
@@ -163,7 +163,7 @@ pub(crate) fn print<W: fmt::Write>(
     }
 }
 
-/// Hears whether all that prints the duration prints this text, and it reads back.
+/// Checks that every call that prints the duration prints this text, and that the text parses to the duration.
 fn hear_printed(judge: &mut Judge, value: StdDuration, text: &str) {
     let printed = format_duration(value);
     judge.hear(*printed.get_ref() == value);
@@ -177,7 +177,7 @@ fn hear_printed(judge: &mut Judge, value: StdDuration, text: &str) {
     judge.hear(is_always_written(&Duration::from(value), text, 1));
 }
 
-/// Hears whether the duration is printed as this text, at the front of the buffer, whatever stood there.
+/// Checks that the duration is printed as this text at the front of the buffer, whatever the buffer held before.
 fn hear_shown(judge: &mut Judge, printed: &FormattedDuration, text: &str) {
     let mut buf = [b'x'; 64];
     judge.hear(printed.text(&mut buf) == text);

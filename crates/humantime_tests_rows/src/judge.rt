@@ -1,20 +1,20 @@
-//! What agrees to an answer: other calls, comparisons, copies and formats.
+//! Checks that other calls, comparisons, copies and formats agree with an answer.
 
 use crate::display::is_written;
 use crate::row::Row;
 use std::fmt::{self, Formatter, Write};
 
-/// Hears of each whether it agrees. It can be made to hear the opposite of one of them, which has to change the verdict.
+/// Collects whether all checks agree. One of them can be inverted, which has to change the verdict.
 #[derive(Drop)]
 pub(crate) struct Judge {
     all_agree: bool,
     heard: u32,
-    /// Of which one it hears the opposite, counted from 1; of none, if this is 0.
+    /// The number of the check that is inverted, counted from 1, or 0 for none.
     doubted: u32,
 }
 
 impl Judge {
-    /// A judge that hears the opposite of this one.
+    /// Creates a judge that inverts this check.
     pub(crate) const fn new(doubted: u32) -> Judge {
         Judge {
             all_agree: true,
@@ -23,23 +23,23 @@ impl Judge {
         }
     }
 
-    /// Hears whether one agrees.
+    /// Records whether a check agrees.
     pub(crate) fn hear(&mut self, agrees: bool) {
         self.heard = self.heard.saturating_add(1);
         let is_believed = self.heard != self.doubted;
         self.all_agree = self.all_agree && agrees == is_believed;
     }
 
-    /// Whether all agree that were heard.
+    /// Returns whether all checks so far agree.
     pub(crate) fn hears_all_agree(&self) -> bool {
         self.all_agree
     }
 }
 
-/// No row hears so many.
+/// More checks than any row has.
 const MOST_HEARD: u32 = 64;
 
-/// Writes what the row answers, and what is wrong where it does not notice just so many doubts, each alone.
+/// Writes the answer to a row, followed by a note if the number of its checks whose inversion is noticed is not `count`.
 pub(crate) fn doubt<W: fmt::Write>(f: &mut Formatter<W>, count: &str, row: Row<'_>) -> fmt::Result {
     let mut noticed = 0_u32;
     for at in 1..=MOST_HEARD {

@@ -1,8 +1,8 @@
-//! Rows of a table, each with a call and what it answers: the library is asked for each answer.
+//! Compares the answers of the library with the rows of a table, each of which has a call and its answer.
 //!
-//! Standard input has a row a line, as `duration "2h 37min" = Ok((9420, 0))`; empty lines, and those that begin with `#`, are
-//! none. A row after `wrong: ` is wrong on purpose: it has to differ, and is printed with the answer, which shows that rows are
-//! compared. Each other row that differs is printed too, and so is a wrong one that does not. The last line counts them all.
+//! Standard input has a row in each line, such as `duration "2h 37min" = Ok((9420, 0))`. Empty lines and those that begin with `#` are
+//! skipped. A row after `wrong: ` is wrong on purpose: it has to differ, and is printed with the answer, which shows that rows are
+//! compared. Any other row that differs is printed, too, and so is a wrong one that does not. The last line counts all of them.
 #![tactic(auto)]
 
 mod answer;
@@ -17,7 +17,7 @@ mod std_durations;
 mod system_times;
 mod timestamps;
 
-// Tests take these modules as a library.
+// Tests use these modules as a library.
 pub use crate::row::{Row, unescape};
 use std::io;
 use std::process::ExitCode;

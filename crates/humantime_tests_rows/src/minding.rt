@@ -1,9 +1,9 @@
-//! Values that mind their formats, or ask too often: what looks at formats has to notice each.
+//! Values whose text depends on the format, or that write too often: `is_always_written` has to notice each.
 
 use crate::display::is_always_written;
 use std::fmt::{self, Display, Formatter, Write};
 
-/// What is minded. It is written as `a`, and as `b` where a format says so, or where none is asked for.
+/// A value that depends on one property of the format. It is written as `b` if the format has that property, and as `a` otherwise.
 #[derive(Drop)]
 struct Minding<'a>(&'a str);
 
@@ -29,7 +29,7 @@ impl Display for Minding<'_> {
     }
 }
 
-/// Writes whether a value that minds this is written as `a` whatever format is asked for.
+/// Writes whether a value that depends on this property is always written as `a`.
 pub(crate) fn mind<W: fmt::Write>(f: &mut Formatter<W>, what: &str) -> fmt::Result {
     write!(f, "{}", is_always_written(&Minding(what), "a", 1))
 }

@@ -1,10 +1,10 @@
-//! How values are ordered and hashed.
+//! The order and the hashes of values.
 
 use crate::judge::Judge;
 use std::cmp::Ordering;
 use std::hash::{FoldHasher, Hash, Hasher};
 
-/// Hears whether all that orders, compares or hashes two values says that they are in this order.
+/// Checks that everything that orders, compares or hashes two values agrees that they are in this order.
 pub(crate) fn hear_order<T: Ord + Hash + Copy>(
     judge: &mut Judge,
     first: T,
@@ -25,7 +25,7 @@ pub(crate) fn hear_order<T: Ord + Hash + Copy>(
     judge.hear((fed(&first) == fed(&second)) == is_equal);
 }
 
-/// What a hasher answers that the value was fed to.
+/// Returns the hash of a value.
 pub(crate) fn fed<T: Hash>(value: &T) -> u64 {
     let mut hasher = FoldHasher::default();
     value.hash(&mut hasher);

@@ -1,4 +1,4 @@
-//! A row: its call, what is called with, and its answer.
+//! A row: its call, its arguments and its answer.
 
 use crate::display::is_written;
 use crate::judge::{Judge, doubt};
@@ -7,24 +7,24 @@ use crate::{durations, spans, std_durations, system_times, timestamps};
 use std::alloc::AllocError;
 use std::fmt::{self, Display, Formatter, Write};
 
-/// A row. It is written as the answer that the library gives to its call.
+/// A row. Its `Display` writes the answer that the library gives to its call.
 #[derive(Clone, Copy)]
 pub struct Row<'a> {
     call: &'a str,
-    /// What is called with.
+    /// The arguments.
     rest: &'a str,
     /// The answer that the row says.
     wanted: &'a str,
 }
 
 impl<'a> Row<'a> {
-    /// The row of a line.
+    /// Parses a line.
     pub fn new(line: &'a str) -> Row<'a> {
         let (head, wanted) = line.rsplit_once(" = ").unwrap_or_default();
         Row::of(head, wanted)
     }
 
-    /// The row of this call, with what is called with behind it, and this answer.
+    /// Creates a row from its call and arguments, and the expected answer.
     fn of(head: &'a str, wanted: &'a str) -> Row<'a> {
         let (call, rest) = head.split_once(' ').unwrap_or((head, ""));
         Row { call, rest, wanted }
@@ -35,17 +35,17 @@ impl<'a> Row<'a> {
         self.wanted
     }
 
-    /// The row with a doubt of what agrees to its answer.
+    /// Returns the row with one of its checks inverted.
     pub(crate) fn doubted(self, at: u32) -> Doubted<'a> {
         Doubted { row: self, at }
     }
 
-    /// Whether the library answers as the row says.
+    /// Returns whether the library gives the expected answer.
     pub fn holds(self) -> bool {
         is_written(self, self.wanted, u32::MAX)
     }
 
-    /// The text between quotes that is called with.
+    /// Returns the text between quotes in the arguments.
     fn text(self) -> &'a str {
         let end = self.rest.len().saturating_sub(1);
         self.rest.get(1..end).unwrap_or_default()
@@ -53,7 +53,7 @@ impl<'a> Row<'a> {
 }
 
 impl Row<'_> {
-    /// Writes the answer that the library gives to the row's call, as the judge hears it.
+    /// Writes the answer that the library gives to the call of the row, and reports its checks to the judge.
     fn answer<W: fmt::Write>(self, f: &mut Formatter<W>, judge: &mut Judge) -> fmt::Result {
         let Row { call, rest, wanted } = self;
         let text = self.text();
@@ -97,7 +97,7 @@ impl Display for Row<'_> {
     }
 }
 
-/// A row whose judge hears the opposite of one that it hears. It is written as the answer then is.
+/// A row with one of its checks inverted. Its `Display` writes the answer that it then gives.
 #[derive(Drop)]
 pub(crate) struct Doubted<'a> {
     row: Row<'a>,
@@ -110,7 +110,7 @@ impl Display for Doubted<'_> {
     }
 }
 
-/// Writes the text with each `\u{HEX}` replaced by the character of that number, up to one that names no character.
+/// Writes the text with each `\u{HEX}` replaced by its character, up to the first one that is not valid.
 pub fn unescape(text: &str, out: &mut String) -> Result<(), AllocError> {
     let mut rest = text;
     for _ in 0..text.len() {

@@ -1,14 +1,14 @@
-//! What the library answers to `spans`.
+//! The library's answers to `spans`.
 
 use crate::answer::tell;
 use crate::judge::Judge;
 use humantime::{Span, spans};
 use std::fmt::{self, Formatter, Write};
 
-/// A span's number, fraction and unit; then its offsets and its value.
+/// The number, the fraction and the unit of a span, its offsets and its value.
 type Parts<'a> = (&'a str, Option<&'a str>, &'a str, usize, usize, u64);
 
-/// Writes each item of the text, and what three more calls answer after the last one.
+/// Writes the items of the text, and what three more calls return after the last one.
 pub(crate) fn split<W: fmt::Write>(
     f: &mut Formatter<W>,
     judge: &mut Judge,

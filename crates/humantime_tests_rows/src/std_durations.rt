@@ -1,4 +1,4 @@
-//! What the library answers to the calls of `StdDuration`, with its wrapper beside it.
+//! The library's answers to the calls of `StdDuration`, and those of its wrapper.
 
 use crate::answer::{no_answer, parts, tell, two_parts};
 use crate::judge::Judge;
@@ -6,7 +6,7 @@ use crate::order::{fed, hear_order};
 use humantime::{Duration, StdDuration};
 use std::fmt::{self, Formatter, Write};
 
-/// Writes what the call of this name answers.
+/// Writes the answer to the call of this name.
 pub(crate) fn answer<W: fmt::Write>(
     f: &mut Formatter<W>,
     judge: &mut Judge,
@@ -26,12 +26,12 @@ pub(crate) fn answer<W: fmt::Write>(
     }
 }
 
-/// Seconds and nanoseconds.
+/// Returns the seconds and nanoseconds.
 fn parts_of(value: StdDuration) -> (u64, u32) {
     (value.as_secs(), value.subsec_nanos())
 }
 
-/// Hears whether a clone is the value, and its wrapper keeps it.
+/// Checks that a clone equals the value, and that its wrapper keeps it.
 fn hear_kept(judge: &mut Judge, value: StdDuration) {
     let wrapper = Duration::new(value);
     judge.hear(value.clone().ok() == Some(value));
@@ -72,7 +72,7 @@ fn tell_default<W: fmt::Write>(f: &mut Formatter<W>, judge: &mut Judge) -> fmt::
     tell(f, judge, parts_of(value))
 }
 
-/// Writes the duration of these numbers, which `new` makes too if it may be called.
+/// Writes the duration of these numbers, and checks that `new` returns it if its precondition holds.
 fn make<W: fmt::Write>(f: &mut Formatter<W>, judge: &mut Judge, numbers: &str) -> fmt::Result {
     let Some((secs, nanos)) = parts(numbers) else {
         return no_answer(f);
@@ -105,7 +105,7 @@ fn from_micros<W: fmt::Write>(
     }
 }
 
-/// Two durations of these numbers.
+/// Parses two durations.
 fn two_durations(numbers: &str) -> Option<(StdDuration, StdDuration)> {
     let ((secs, nanos), (other_secs, other_nanos)) = two_parts(numbers)?;
     let first = StdDuration::checked_new(secs, nanos);

@@ -1,4 +1,4 @@
-//! What the library answers to the calls of `SystemTime` and `SystemTimeError`, with the wrapper beside them.
+//! The library's answers to the calls of `SystemTime` and `SystemTimeError`, and those of the wrapper.
 
 use crate::answer::{no_answer, parts, tell, tell_equal, two_parts};
 use crate::judge::Judge;
@@ -6,7 +6,7 @@ use crate::order::{fed, hear_order};
 use humantime::{StdDuration, SystemTime, SystemTimeError, Timestamp, UNIX_EPOCH};
 use std::fmt::{self, Formatter, Write};
 
-/// Writes what the call of this name answers.
+/// Writes the answer to the call of this name.
 pub(crate) fn answer<W: fmt::Write>(
     f: &mut Formatter<W>,
     judge: &mut Judge,
@@ -24,7 +24,7 @@ pub(crate) fn answer<W: fmt::Write>(
     }
 }
 
-/// Hears whether a clone is the value, and its wrapper keeps it.
+/// Checks that a clone equals the value, and that its wrapper keeps it.
 fn hear_kept(judge: &mut Judge, value: SystemTime) {
     let wrapper = Timestamp::from(value);
     judge.hear(value.clone().ok() == Some(value));
@@ -34,7 +34,7 @@ fn hear_kept(judge: &mut Judge, value: SystemTime) {
     judge.hear(fed(&wrapper) == fed(&value));
 }
 
-/// Seconds and nanoseconds.
+/// Returns the seconds and nanoseconds.
 fn parts_of(value: SystemTime) -> (i64, u32) {
     (value.unix_seconds(), value.subsec_nanos())
 }
@@ -74,7 +74,7 @@ fn from_parts<W: fmt::Write>(
     }
 }
 
-/// Writes the moment that is later than one of these numbers by a duration of them.
+/// Writes the sum of a moment and a duration.
 fn add<W: fmt::Write>(f: &mut Formatter<W>, judge: &mut Judge, numbers: &str) -> fmt::Result {
     if let Some(((secs, nanos), (other_secs, other_nanos))) = two_parts(numbers)
         && let Some(moment) = SystemTime::from_parts(secs, nanos)
@@ -86,14 +86,14 @@ fn add<W: fmt::Write>(f: &mut Formatter<W>, judge: &mut Judge, numbers: &str) ->
     }
 }
 
-/// Two moments of these numbers.
+/// Parses two moments.
 fn two_moments(numbers: &str) -> Option<(SystemTime, SystemTime)> {
     let ((secs, nanos), (other_secs, other_nanos)) = two_parts(numbers)?;
     let first = SystemTime::from_parts(secs, nanos);
     first.zip(SystemTime::from_parts(other_secs, other_nanos))
 }
 
-/// Writes how much later the first moment is than the second, or earlier, which is an error.
+/// Writes the time from the second moment to the first, which is an error if the first is earlier.
 fn differ<W: fmt::Write>(f: &mut Formatter<W>, judge: &mut Judge, numbers: &str) -> fmt::Result {
     let Some((first, second)) = two_moments(numbers) else {
         return no_answer(f);
@@ -135,7 +135,7 @@ fn compare<W: fmt::Write>(f: &mut Formatter<W>, judge: &mut Judge, numbers: &str
     tell(f, judge, order)
 }
 
-/// Writes whether the errors are equal that the epoch gives at two later moments.
+/// Writes whether the errors of `duration_since` for two moments after the epoch are equal.
 fn compare_errors<W: fmt::Write>(
     f: &mut Formatter<W>,
     judge: &mut Judge,

@@ -1,4 +1,4 @@
-//! What the library answers to calls about timestamps and days.
+//! The library's answers to calls about timestamps and days.
 
 use crate::answer::{no_answer, parts, tell, tell_equal, tell_message};
 use crate::display::{is_always_written, refused_requests};
@@ -10,7 +10,7 @@ use humantime::{
 };
 use std::fmt::{self, Formatter, Write};
 
-/// Writes seconds and nanoseconds of the text in strict form, or the error.
+/// Writes the seconds and nanoseconds of the text in the strict form, or the error.
 pub(crate) fn read_strictly<W: fmt::Write>(
     f: &mut Formatter<W>,
     judge: &mut Judge,
@@ -19,7 +19,7 @@ pub(crate) fn read_strictly<W: fmt::Write>(
     tell(f, judge, parts_of(parse_rfc3339(text)))
 }
 
-/// Writes seconds and nanoseconds of the text in weak form, or the error.
+/// Writes the seconds and nanoseconds of the text in the weak form, or the error.
 pub(crate) fn read_weakly<W: fmt::Write>(
     f: &mut Formatter<W>,
     judge: &mut Judge,
@@ -35,7 +35,7 @@ pub(crate) fn read_weakly<W: fmt::Write>(
     tell(f, judge, parts_of(read))
 }
 
-/// Writes what the wrapper holds that the text is read as, and its text; or the error.
+/// Writes the value that the text is parsed to as a wrapper, and the wrapper's text; or the error.
 pub(crate) fn wrap<W: fmt::Write>(
     f: &mut Formatter<W>,
     judge: &mut Judge,
@@ -51,7 +51,7 @@ pub(crate) fn wrap<W: fmt::Write>(
     }
 }
 
-/// Seconds and nanoseconds of what was read.
+/// Returns the seconds and nanoseconds of a result.
 fn parts_of(read: Result<SystemTime, TimestampError>) -> Result<(i64, u32), TimestampError> {
     match read {
         Ok(moment) => Ok((moment.unix_seconds(), moment.subsec_nanos())),
@@ -80,7 +80,7 @@ pub(crate) fn compare_errors<W: fmt::Write>(
     tell_equal(f, judge, first, parse_rfc3339_weak(second).err())
 }
 
-/// Writes what a moment of so many seconds and nanoseconds is printed as by the call of this name.
+/// Writes the text of a moment of these seconds and nanoseconds, as the call of this name prints it.
 pub(crate) fn print<W: fmt::Write>(
     f: &mut Formatter<W>,
     judge: &mut Judge,
@@ -113,7 +113,7 @@ pub(crate) fn print<W: fmt::Write>(
     }
 }
 
-/// What the call of this name makes of the moment.
+/// Returns the printer that the call of this name returns.
 fn called(call: &str, moment: SystemTime) -> Option<Rfc3339Timestamp> {
     match call {
         "shortest" => Some(format_rfc3339(moment)),
@@ -125,13 +125,13 @@ fn called(call: &str, moment: SystemTime) -> Option<Rfc3339Timestamp> {
     }
 }
 
-/// Hears whether `Display` writes the moment's wrapper as this text, and it reads back.
+/// Checks that `Display` writes the wrapper of the moment as this text, and that the text parses to the moment.
 fn hear_shortest(judge: &mut Judge, moment: SystemTime, text: &str) {
     judge.hear(is_always_written(&Timestamp::from(moment), text, 1));
     judge.hear(parse_rfc3339(text) == Ok(moment));
 }
 
-/// Writes the number of a day, whose date the calendar may not have.
+/// Writes the day number of a date, if the date exists.
 pub(crate) fn number_day<W: fmt::Write>(
     f: &mut Formatter<W>,
     judge: &mut Judge,
@@ -145,7 +145,7 @@ pub(crate) fn number_day<W: fmt::Write>(
     tell(f, judge, number)
 }
 
-/// Writes the date of the day of this number.
+/// Writes the date of the day with this number.
 pub(crate) fn date_day<W: fmt::Write>(
     f: &mut Formatter<W>,
     judge: &mut Judge,
@@ -161,7 +161,7 @@ pub(crate) fn date_day<W: fmt::Write>(
     tell(f, judge, date)
 }
 
-/// Writes whether the dates of the days of two numbers are equal.
+/// Writes whether the dates of two days are equal.
 pub(crate) fn compare_dates<W: fmt::Write>(
     f: &mut Formatter<W>,
     judge: &mut Judge,

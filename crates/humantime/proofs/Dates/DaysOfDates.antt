@@ -9,11 +9,11 @@ use Rattle.humantime.specs.Answers.Dates.{date_of}
 use Rattle.humantime.proofs.Dates.Years.{AreWithin, valid_from_test, days_of_years_closed, march_days_next, days_of_months_closed}
 use Rattle.humantime.proofs.Dates.DatesOfDays.{date_of_is}
 
--- how many days lie between 1970-01-01 and day d of month m of year y
+-- The number of days from 1970-01-01 to day `d` of month `m` of year `y`.
 abbrev day_count : ℕ → ℕ → ℕ → ℕ
 day_count y m d = days_of_years (y - 1970) + days_of_months y (m - 1) + (d - 1)
 
--- more months have no fewer days
+-- The number of days is monotonic in the number of months.
 months_grow : (y m n : ℕ) → m ≤ n → days_of_months y m ≤ days_of_months y n
 unfolding days_of_months
 months_grow y m zero few = grind arith
@@ -23,7 +23,7 @@ month_end : (y m : ℕ) → 1 ≤ m → days_of_months y m ≡ days_of_months y 
 unfolding days_of_months
 month_end y m some = grind arith
 
--- a date's day lies before the days of each later month and of each later year
+-- The day of a date is before the days of each later month and year.
 pub before_month : (y m d : ℕ) → AreWithin y m d → (later : ℕ) → m < later → days_of_months y (m - 1) + (d - 1) < days_of_months y (later - 1)
 before_month y m d valid later less = omega (arith, month_end y m valid.1.0, months_grow y m (later - 1) (omega arith))
 
@@ -45,7 +45,7 @@ one_date day few =
     let found = date_of_is day few in
     (date_of day, found, λ other is. same_date other (date_of day) is.0 found.0 (is.1 ∙ sym found.1))
 
--- no date has a later day
+-- No date has a later day than the last one.
 pub day_at_most : (d : Date) → IsDate d → day_of d ≤ 2_932_896
 day_at_most d valid =
     let within = valid_from_test d.year d.month d.day valid in

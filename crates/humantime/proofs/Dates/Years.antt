@@ -1,4 +1,4 @@
--- The days of years and of months in closed form, and the ranges of a date's numbers.
+-- The days of years and of months in closed form, and the ranges of the fields of a date.
 use Rattle.std.proofs.Common.{◌≡◌, ℕ, zero, suc, ◌+◌, ◌-◌, ◌*◌, ◌<◌, ◌≤◌, refl, arith, IsTrue}
 use Rattle.std.specs.Prelude.{◌↔◌, ◌&&◌, nat_lt, if◌then◌else◌, [], ◌∷◌, slice_index_or}
 use Rattle.std.specs.Int.{IsInRange, is_in_range}
@@ -6,7 +6,7 @@ use Rattle.std.proofs.lemmas.Bool.Decides.{nat_tests}
 use Rattle.humantime.specs.Calendar.{days_in_year, days_in_month, days_of_years, days_of_months, is_valid}
 use Rattle.humantime.specs.Answers.Dates.{march_days, march_months}
 
--- the ranges of a date that exists
+-- The ranges of the fields of a date that exists.
 abbrev pub AreWithin : ℕ → ℕ → ℕ → Type 0
 AreWithin y m d = IsInRange 1970 9999 y × IsInRange 1 12 m × IsInRange 1 (days_in_month y m) d
 
@@ -20,11 +20,11 @@ valid_from_test y m d = (within_ranges y m (days_in_month y m) d).0
 pub days_in_year_bound : (y : ℕ) → days_in_year y ≤ 366
 days_in_year_bound y = grind (arith, nat_tests)
 
--- a year of March's ends in February of the next calendar year
+-- A year that begins in March ends in February of the next calendar year.
 pub march_days_next : (y : ℕ) → 1601 ≤ y → march_days (y - 1600) ≡ march_days (y - 1601) + days_in_year y
 march_days_next y late = grind (arith, nat_tests)
 
--- from 1601-01-01 to 1970-01-01 there are 134774 days
+-- There are 134,774 days from 1601-01-01 to 1970-01-01.
 years_closed : (n : ℕ) → days_of_years n + 134_774 ≡ march_days (1970 + n - 1601)
 unfolding days_of_years
 years_closed zero = refl
@@ -33,7 +33,7 @@ years_closed (suc n) = omega (arith, years_closed n, march_days_next (1970 + n) 
 pub days_of_years_closed : (y : ℕ) → 1970 ≤ y → days_of_years (y - 1970) + 134_774 ≡ march_days (y - 1601)
 days_of_years_closed y late = omega (arith, years_closed (y - 1970))
 
--- January and February, and the months from March on
+-- The days of January and February, and of the months from March on.
 pub days_of_first_months : (y k : ℕ) → k < 2 → days_of_months y k ≡ 31 * k
 unfolding days_of_months
 days_of_first_months y k few = grind arith
@@ -48,11 +48,11 @@ days_of_months_closed y m late few = let same : m - 3 + 2 ≡ m - 1 = omega arit
 pub march_lengths : (y k : ℕ) → k < 10 → days_in_month y (k + 3) + march_months k ≡ march_months (k + 1)
 march_lengths y k early = grind (arith, nat_tests)
 
--- the days of the first months by a table and the leap day
+-- The days of the first months, by a table and the leap day.
 pub days_in_table : (y k : ℕ) → k < 12 → days_of_months y k
     ≡ slice_index_or (0 ∷ 31 ∷ 59 ∷ 90 ∷ 120 ∷ 151 ∷ 181 ∷ 212 ∷ 243 ∷ 273 ∷ 304 ∷ 334 ∷ []) k 0 + (if nat_lt 1 k then days_in_year y - 365 else 0)
 unfolding days_of_months
 days_in_table y k few = grind (arith, nat_tests)
 
--- what the days of the years and the months before a date are
+-- The lemmas about the days of the years and months before a date.
 pub ruleset days_counted = (days_of_years_closed, days_of_first_months, days_of_months_closed, days_in_year_bound)

@@ -1,4 +1,4 @@
--- The reader's steps over the bytes of a text, its slices, and its sums.
+-- Lemmas about the steps of the parser over the bytes of a text, about slices, and about sums.
 pub mod Additions
 pub mod FractionDigits
 pub mod Numbers

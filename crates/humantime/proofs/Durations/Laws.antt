@@ -1,4 +1,4 @@
--- What callers cite of durations, under the names of `laws`, and the laws over texts behind it.
+-- The lemmas about durations that callers cite, under the names of `laws`, and the laws of texts that they follow from.
 pub mod DurationTheorems
 pub mod JoinedTexts
 pub mod OlderTexts

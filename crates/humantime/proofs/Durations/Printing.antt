@@ -1,4 +1,4 @@
--- A duration prints as one text, and the text reads back.
+-- A duration has one printed text, and the text parses to the duration.
 pub mod CanonicalTexts
 pub mod CountTexts
 pub mod DecimalLengths

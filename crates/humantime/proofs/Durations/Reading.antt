@@ -1,4 +1,4 @@
--- A text has one value or one fault: the plain reading finds it, and there is no other.
+-- A text has exactly one value or one fault, which the reference computes.
 pub mod Classes
 pub mod Found
 pub mod OneReading

@@ -1,4 +1,4 @@
--- What spans and errors lend of their text.
+-- Lemmas about what spans and errors borrow from their text.
 pub mod Iterating
 pub mod ItemViews
 pub mod Places

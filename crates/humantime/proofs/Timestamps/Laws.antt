@@ -1,4 +1,4 @@
--- What callers cite of timestamps, under the names of `laws`.
+-- The lemmas about timestamps that callers cite, under the names of `laws`.
 pub mod Printable
 pub mod Reading
 pub mod StrictForm

@@ -1,4 +1,4 @@
--- A moment prints as one text, and texts stand in the order of their moments.
+-- A moment has one printed text, and texts are ordered like their moments.
 pub mod Digits
 pub mod Order
 pub mod Pairs

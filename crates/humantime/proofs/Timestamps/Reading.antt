@@ -1,4 +1,4 @@
--- The checks on a timestamp's bytes, and the parts that they show.
+-- Lemmas about the checks on the bytes of a timestamp, and the parts that they represent.
 pub mod Bytes
 pub mod Checks
 pub mod Ends

@@ -1,4 +1,4 @@
--- What spans lend, read from left to right: the plain reference for the iterator over them.
+-- The items of a text and what each borrows from it, read from left to right: the reference for the iterator over spans.
 use Rattle.std.specs.Prelude.{ℕ, Bool, List, Option, map, option_map, Result, Ok, Err}
 use Rattle.std.specs.Str.{drop_trailing_whitespace}
 use Rattle.humantime.specs.Texts.{take_while, drop_while, decimal_value}
@@ -8,18 +8,19 @@ use Rattle.humantime.specs.Durations.Faults.{number_of, after_number, after_poin
 use Rattle.humantime.specs.Answers.Walks.{Walk, walk_from, walk_of}
 use Rattle.humantime.specs.Durations.Items.{SpanView, items_of}
 
--- without the whitespace at both ends
+-- Removes leading and trailing whitespace.
 abbrev pub trimmed : List ℕ → List ℕ
 trimmed cs = drop_trailing_whitespace (drop_while is_whitespace cs)
 
--- from the first to the last digit of the number, and of the fraction after it, if there is one
+-- The slice from the first to the last digit of the number at the start of `rest`.
 abbrev pub number_slice : List ℕ → List ℕ
 number_slice rest = drop_trailing_whitespace (take_while is_numeric rest)
 
+-- The slice from the first to the last digit of the fraction, if a point follows.
 abbrev pub fraction_slice : List ℕ → Option (List ℕ)
 fraction_slice after = option_map (λ digits. trimmed (take_while is_numeric digits)) (after_point after)
 
--- what the span at a rest lends
+-- The slices, offsets and number of the span at the start of `rest`.
 abbrev pub view_at : List ℕ → List ℕ → SpanView
 view_at text rest = record {
   number = number_slice rest;
@@ -30,21 +31,23 @@ view_at text rest = record {
   value = decimal_value (number_of rest);
 }
 
--- what the spans of a walk lend of a text, and then the fault that stops them
+-- The views of the spans of a walk, followed by the error that stops them, if any.
 abbrev pub views_on : List ℕ → Walk → List (Result SpanView Fault)
 views_on text w = items_of (map (view_at text) w.starts) w.stop
 
--- the items that are left at a rest, where none was before it or where some was, and all items of a text
+-- The items from `rest` on. `first` is true if no span precedes it.
 abbrev pub left_at : Bool → List ℕ → List ℕ → List (Result SpanView Fault)
 left_at first text rest = views_on text (walk_from first text rest)
 
+-- All items of a text.
 abbrev pub item_views : List ℕ → List (Result SpanView Fault)
 item_views text = views_on text (walk_of text)
 
--- the span of these slices, and of an item
+-- The span that has these slices.
 abbrev pub spelled : List ℕ → Option (List ℕ) → List ℕ → SpelledSpan
 spelled number fraction unit = record { number = digits number; fraction = option_map digits fraction; word = unit }
 
+-- The span of an item.
 abbrev pub span_in : Result SpanView Fault → Result SpelledSpan Fault
 span_in (Ok x) = Ok (spelled x.number x.fraction x.unit)
 span_in (Err e) = Err e

@@ -1,4 +1,4 @@
--- What a span and an item borrow from their text, and what an iterator over spans has left.
+-- What a span and an item borrow from their text, and the items that an iterator over spans has not returned yet.
 use Rattle.std.specs.Prelude.{◌≡◌, ℕ, ◌==◌, List, [], Option, Result, Ok, Err, IfSome, MatchResult, length, if◌then◌else◌, option_map, chars}
 use Rattle.std.specs.Iterator.{YieldsFirstBy}
 use Rattle.std.specs.Str.{drop_trailing_whitespace}
@@ -12,7 +12,7 @@ use Rattle.humantime.specs.Durations.Faults.{Fault}
 use Rattle.humantime.specs.Durations.Items.{SpanView}
 use Rattle.humantime.specs.Answers.Items.{left_at, trimmed}
 
--- what a span lends of its text
+-- The slices, offsets and number of a span.
 abbrev pub span_view : Span → SpanView
 span_view s = record {
   number = drop_trailing_whitespace (chars s.number.now);
@@ -23,23 +23,23 @@ span_view s = record {
   value = s.amount.value;
 }
 
--- a span by what it lends, and an error by the fault that it names
+-- The view of an item: that of its span, or the fault of its error.
 abbrev pub item_of : Result Span DurationError → Result SpanView Fault
 item_of (Ok s) = Ok (span_view s)
 item_of (Err e) = Err (fault_of e)
 
--- the items to come: none after an error or the end, else those from the offset on that it has reached
+-- The items of a text that have not been returned yet: none after an error or the end of the text.
 abbrev pub items_left : SpanIter → List (Result SpanView Fault)
 items_left i =
     if i.ended then []
     else left_at (length i.cursor.rest.now == length i.cursor.text.now) (chars i.cursor.text.now) (drop_while is_whitespace (chars i.cursor.rest.now))
 
--- the text whose items they are
+-- The text that an iterator borrows.
 abbrev pub text_of : SpanIter → List ℕ
 text_of i = i.cursor.text.now
 
--- a call gave the first of the items to come and left the others, or nothing where none was to come; the text stayed, and
--- a span lies in it, or an error points into it
+-- `next` returned the first of the items that had not been returned and left the others, or returned `None` if there were none. The
+-- iterator still reads the same text, and the span lies in it, or the error points into it.
 abbrev pub GivesItem : SpanIter → Option (Result Span DurationError) → SpanIter → Type 0
 GivesItem old result new =
     YieldsFirstBy item_of items_left old result new

@@ -1,4 +1,4 @@
--- What the parsers return for a text and what the printers write for a moment, each as one function.
+-- What the parsers return for a text, and what the printers write for a moment, each as one function.
 use Rattle.std.specs.Prelude.{◌≡◌, ◌↔◌, ℕ, zero, suc, ◌+◌, ◌*◌, ◌/◌, ◌%◌, ◌^◌, ℤ, pos, negsuc, nat_lt, ◌==◌, if◌then◌else◌, List, [], ◌∷◌, take, drop, Option, Some, None, Result, Ok, Err, IsOk}
 use Rattle.humantime.specs.declared.calendar.Date.{Date}
 use Rattle.humantime.specs.declared.date.error.TimestampError.{TimestampError}
@@ -13,49 +13,49 @@ use Rattle.std.specs.declared.fmt.Error.{Error}
 use Rattle.std.specs.Fmt.{DisplaysOnOk, DisplaysStyledOnOk, fmt_error}
 use Rattle.humantime.specs.Answers.Dates.{date_of}
 
--- the moment of the date, the time and the fraction at their places
+-- The moment of the date, time and fraction at their positions in the text.
 abbrev pub moment_at : List ℕ → ℕ
 moment_at bytes =
     let x = date_time_of bytes in
     seconds_of x.date x.hour x.minute x.second * nanos_per_second + fraction_nanos (drop 1 (fraction_part bytes))
 
--- the moment t, or the error of a check that failed
+-- The moment `t`, or the error of the check that failed.
 abbrev pub moment_or_error : Option TimestampError → ℕ → Result ℤ TimestampError
 moment_or_error None t = Ok (pos t)
 moment_or_error (Some e) t = Err e
 
--- the result of parsing in weak form: the moment, or the error of the first check that fails
+-- The result of parsing in the weak form: the moment, or the error of the first check that fails.
 unfoldable pub weak_answer : List ℕ → Result ℤ TimestampError
 weak_answer bytes = moment_or_error (first_failed (weak_checks bytes)) (moment_at bytes)
 
--- the result of parsing in strict form
+-- The result of parsing in the strict form.
 unfoldable pub strict_answer : List ℕ → Result ℤ TimestampError
 strict_answer bytes = moment_or_error (first_failed (strict_checks bytes)) (moment_at bytes)
 
--- The result of parsing in weak form: it is a moment exactly if the text represents that moment, and an error exactly if it is that of the
--- first check that fails.
+-- The result of parsing in the weak form is `Ok(t)` exactly if the text represents `t` in that form, and `Err(e)` exactly if `e` is the
+-- error of the first check that fails.
 pub record IsWeakAnswer (bytes : List ℕ) (r : Result ℤ TimestampError) : Type 0 where
   pub value : (t : ℤ) → (r ≡ Ok t) ↔ IsWeakMoment bytes t
   pub error : (e : TimestampError) → (r ≡ Err e) ↔ (first_failed (weak_checks bytes) ≡ Some e)
   pub answer : r ≡ weak_answer bytes
 
--- the number of digits of a precision
+-- The number of fraction digits of a precision.
 abbrev pub places : Precision → ℕ
 places Seconds = 0
 places Millis = 3
 places Micros = 6
 places Nanos = 9
 
--- the precision of a number of digits
+-- The precision with `k` fraction digits.
 abbrev pub precision_of : ℕ → Precision
 precision_of k = if k == 0 then Seconds else (if k == 3 then Millis else (if k == 6 then Micros else Nanos))
 
--- the last k decimal digits of a number
+-- The last `k` decimal digits of a number.
 abbrev pub last_digits : ℕ → ℕ → List ℕ
 last_digits zero n = []
 last_digits (suc k) n = digit (n / 10 ^ k % 10) ∷ last_digits k n
 
--- the parts that are printed of a date, a second of the day and its nanoseconds, with k digits
+-- The parts that are printed for a date, a second of the day and its nanoseconds, with `k` fraction digits.
 abbrev pub printed_fields : Date → ℕ → ℕ → ℕ → Fields
 printed_fields date time nanos k = record {
   date = date;
@@ -67,27 +67,27 @@ printed_fields date time nanos k = record {
   zone = Letter_Z;
 }
 
--- the parts that are printed of a moment of 1970 or later, with k digits
+-- The parts that are printed for a moment of 1970 or later, with `k` fraction digits.
 abbrev pub fields_at : ℕ → ℕ → Fields
 fields_at t k =
     let second = t / nanos_per_second in
     printed_fields (date_of (second / seconds_per_day)) (second % seconds_per_day) (t % nanos_per_second) k
 
--- the printed text of a moment with k digits, and none outside 1970 to 9999
+-- The printed text of a moment with `k` fraction digits, or `None` outside 1970 to 9999.
 unfoldable pub moment_text : ℤ → ℕ → Option (List ℕ)
 moment_text (pos t) k = if nat_lt t year_10000 then Some (fields_text (fields_at t k)) else None
 moment_text (negsuc t) k = None
 
--- the printed text of a timestamp
+-- The printed text of a timestamp.
 abbrev pub printed_text : MomentToPrint → Option (List ℕ)
 printed_text x = moment_text x.moment x.places
 
--- the printed text of a moment with the default number of digits
+-- The printed text of a moment with the default number of digits.
 abbrev pub shortest_text : ℤ → Option (List ℕ)
 shortest_text t = moment_text t (places_of t)
 
--- What `Display` of a timestamp does to a formatter: at `Ok` the moment is in 1970 to 9999 and its text has been written, whatever the
--- formatter's options are; for any other moment the result is `fmt::Error` and the formatter is unchanged.
+-- What `Display` of a timestamp does. If it returns `Ok`, the moment is in 1970 to 9999, and its text has been written, whatever the
+-- options of the formatter are. For a moment outside these years it returns `fmt::Error` and leaves the formatter unchanged.
 pub record DisplaysMoment {W : Type 0} (gives : W → List ℕ → W → Type 0) (old : Formatter W) (result : Result (Unit {0}) Error) (x : MomentToPrint)
     (new : Formatter W) : Type 0 where
   pub writes : DisplaysOnOk gives old result (printed_text x) new

@@ -1,5 +1,5 @@
--- Reading from left to right: the plain reference, which private functions meet. Theorems of proofs/ tie it to the
--- definitions of Spans and Faults.
+-- Parsing from left to right: the reference that the contracts of private functions cite. Theorems in `proofs` relate it to the definitions
+-- of `Spans` and `Faults`.
 use Rattle.std.specs.Prelude.{ℕ, zero, suc, ◌+◌, Bool, true, false, not, ◌==◌, List, [], ◌∷◌, length, Option, Some, None, is_some, Result, Ok, Err, if◌then◌else◌, map, encode_utf8_all}
 use Rattle.humantime.specs.Texts.{begins, drop_while, decimal_value}
 use Rattle.humantime.specs.Durations.Characters.{is_whitespace, is_digit, is_letter, is_numeric, offset_of}
@@ -9,13 +9,14 @@ use Rattle.humantime.specs.Durations.Accepted.{addition_nanos, additions_of, fit
 use Rattle.humantime.specs.Durations.Faults.{number_of, after_number, fraction_of, after_fraction, word_of, after_word, span_of, Fault, InvalidCharacter, NumberExpected, UnknownUnit, NumberOverflow, Empty}
 pub use Rattle.humantime.specs.Durations.Accepted.{too_long}
 
--- Tests whether a digit, whitespace or the end follows a word.
+-- Tests whether a digit or whitespace follows a word, or the text ends there.
 abbrev pub ends_span : List ℕ → Bool
 ends_span [] = true
 ends_span (c ∷ cs) = is_numeric c
 
--- Finds the fault of the span that begins a rest, from a digit on, in the order in which it is read: too long; no letter or end where the
--- word begins; a point without digits; no digit, whitespace or end after the word; a word, perhaps empty, of no unit.
+-- Returns the error of the span at the start of `rest`, which begins with a digit, if it has one. These are tested in order: the number or
+-- the fraction is too long; a character other than a letter follows them; a point has no digits; a character other than a digit or
+-- whitespace follows the word; the word, which may be empty, is not a unit.
 unfoldable pub stop_at : List ℕ → List ℕ → Option Fault
 stop_at text rest =
     if too_long (span_of rest) then Some NumberOverflow
@@ -26,24 +27,25 @@ stop_at text rest =
     else Some (UnknownUnit (offset_of text (after_fraction rest)) (offset_of text (after_word rest))
     (encode_utf8_all (word_of rest)) (decimal_value (number_of rest)))
 
--- Gives `NumberExpected` where no digit begins the rest, else `stop_at`.
+-- Returns `NumberExpected` if `rest` does not begin with a digit, and otherwise the result of `stop_at`.
 abbrev pub fault_at : List ℕ → List ℕ → Option Fault
 fault_at text rest = if begins is_digit rest then stop_at text rest else Some (NumberExpected (offset_of text rest))
 
--- Where the spans of a text begin, the fault that stops them, if one does, and the rest after them.
+-- The rest of the text at the start of each span, the error that stops the spans, if any, and the part of the text that is left unread.
 pub record Walk : Type 0 where
   pub starts : List (List ℕ)
   pub stop : Option Fault
   pub unread : List ℕ
 
--- no span at a rest, and a span before those that follow it
+-- A walk without a span.
 abbrev pub empty_walk : List ℕ → Option Fault → Walk
 empty_walk rest stop = record { starts = []; stop = stop; unread = rest }
 
+-- A walk with a span before the others.
 abbrev pub one_more : List ℕ → Walk → Walk
 one_more rest w = record { starts = rest ∷ w.starts; stop = w.stop; unread = w.unread }
 
--- the spans from a rest on, at most n of them; at the end a text without a span stops
+-- The walk over at most `n` spans from a rest on. At the end of the text it stops with an error if there was no span.
 unfoldable pub walk : ℕ → Bool → List ℕ → List ℕ → Walk
 walk n first text [] = empty_walk [] (if first then Some Empty else None)
 walk zero first text (c ∷ cs) = empty_walk (c ∷ cs) None
@@ -52,30 +54,32 @@ walk (suc n) first text (c ∷ cs) = elim (fault_at text (c ∷ cs)) [
   | Some e ↦ empty_walk (c ∷ cs) (Some e)
 ]
 
--- all spans from a rest on, where none was before it or where some was, and all spans of a text
+-- The walk over all spans from `rest` on. `first` is true if no span precedes it.
 abbrev pub walk_from : Bool → List ℕ → List ℕ → Walk
 walk_from first text rest = walk (length rest) first text rest
 
+-- The walk over all spans of a text.
 abbrev pub walk_of : List ℕ → Walk
 walk_of text = walk_from true text (drop_while is_whitespace text)
 
--- the spans of a walk and where they stop, and those of a text
+-- The spans of a walk, and the error that stops them, if any.
 abbrev pub spans_of_walk : Walk → List SpelledSpan × Option Fault
 spans_of_walk w = (map span_of w.starts, w.stop)
 
+-- The spans of a text, and the error that stops them, if any.
 unfoldable pub items : List ℕ → List SpelledSpan × Option Fault
 items text = spans_of_walk (walk_of text)
 
--- the sum after some additions, if there is room for each
+-- The sum of `t` and these additions, or `None` if one of them overflows.
 unfoldable pub add_all : ℕ → List Addition → Option ℕ
 add_all t [] = Some t
 add_all t (x ∷ xs) = if has_room t x then add_all (t + addition_nanos x) xs else None
 
--- the sum after t and a span, if the span keeps the limits
+-- The sum of `t` and a span, or `None` if the span breaks a limit.
 unfoldable pub add_span : ℕ → SpelledSpan → Option ℕ
 add_span t s = if fits s then add_all t (additions_of s) else None
 
--- what spans add up to after t, unless they break a limit, or else the fault that stops them
+-- The sum of `t` and the spans: an error if they break a limit, and otherwise the error that stops them, if any.
 unfoldable pub sum_spans : ℕ → List (Result SpelledSpan Fault) → Result ℕ Fault
 sum_spans t [] = Ok t
 sum_spans t (Err e ∷ items) = Err e

@@ -1,4 +1,4 @@
--- What spans add up to, their limits, and the texts that are accepted. A text is its list of characters.
+-- The sum of spans, their limits, and the texts that are accepted. A text is its list of characters.
 use Rattle.std.specs.Prelude.{ℕ, ◌*◌, ◌/◌, ◌^◌, List, [], ◌∷◌, length, Bool, true, false, ◌||◌, ◌&&◌, ◌==◌, nat_lt, nat_le, Option, Some, None, sum_by, flat_map, ◌≡◌, ◌+◌, ◌%◌, ◌++◌, IsSome}
 use Rattle.std.specs.List.{AllByRecursion}
 use Rattle.humantime.specs.Texts.{decimal_value}
@@ -7,21 +7,21 @@ use Rattle.humantime.specs.Durations.Units.{Addition, Nanos, Seconds, Scale, sca
 use Rattle.humantime.specs.Durations.Spans.{SpelledSpan, Reads}
 use Rattle.humantime.specs.Values.{nanos_per_second}
 
--- Gives the size of an addition, a number of nanoseconds or of seconds.
+-- Returns the number of an addition, without its kind.
 abbrev pub size : Addition → ℕ
 size (Nanos n) = n
 size (Seconds n) = n
 
--- Gives an addition in nanoseconds.
+-- Returns an addition in nanoseconds.
 abbrev pub addition_nanos : Addition → ℕ
 addition_nanos (Nanos n) = n
 addition_nanos (Seconds n) = n * nanos_per_second
 
--- Sums additions, in nanoseconds.
+-- Returns the sum of additions in nanoseconds.
 abbrev pub total : List Addition → ℕ
 total xs = sum_by addition_nanos xs
 
--- Puts another number into an addition.
+-- Returns an addition of the same kind with another number.
 abbrev pub of_kind : Addition → ℕ → Addition
 of_kind (Nanos _) n = Nanos n
 of_kind (Seconds _) n = Seconds n
@@ -30,29 +30,29 @@ of_kind (Seconds _) n = Seconds n
 abbrev pub times : ℕ → Addition → Addition
 times n x = of_kind x (n * size x)
 
--- Gives the part of an addition that the digits after a point stand for, rounded down.
+-- Returns the part of an addition that the fraction digits `ds` denote, rounded down.
 abbrev pub part : List ℕ → Addition → Addition
 part ds x = of_kind x (decimal_value ds * size x / 10 ^ length ds)
 
--- Gives what a fraction adds, where there is one and its unit has fractions.
+-- Returns what a fraction adds, if there is one and its unit has fractions.
 abbrev pub fraction_additions : Option Addition → Option (List ℕ) → List Addition
 fraction_additions (Some x) (Some ds) = part ds x ∷ []
 fraction_additions _ _ = []
 
--- Gives what a span adds where its word has this scale: its number first, and then its fraction.
+-- Returns what a span adds if its unit has this scale: its number first, and then its fraction.
 abbrev pub additions_at : Option Scale → SpelledSpan → List Addition
 additions_at None s = []
 additions_at (Some u) s = times (decimal_value s.number) u.one ∷ fraction_additions u.fraction s.fraction
 
--- Gives what a span adds.
+-- Returns what a span adds.
 abbrev pub additions_of : SpelledSpan → List Addition
 additions_of s = additions_at (scale_of_word s.word) s
 
--- Lists what the spans add, each number before its fraction.
+-- Returns what the spans add, each number before its fraction.
 abbrev pub additions : List SpelledSpan → List Addition
 additions spans = flat_map additions_of spans
 
--- Sums what the spans add, in nanoseconds.
+-- Returns the sum of the spans in nanoseconds.
 abbrev pub value : List SpelledSpan → ℕ
 value spans = total (additions spans)
 
@@ -60,54 +60,55 @@ value spans = total (additions spans)
 abbrev pub fits_u64 : ℕ → Bool
 fits_u64 n = nat_le n u64_max
 
--- Tests whether there is something and it passes a test.
+-- Tests whether an option is `Some` and its value passes a test.
 abbrev pub is_some_and : {A : Type 0} → (A → Bool) → Option A → Bool
 is_some_and passes None = false
 is_some_and passes (Some x) = passes x
 
--- Tests whether the number exceeds a `u64`, or the fraction has more than 19 digits, trailing zeros apart.
+-- Tests whether the number does not fit a `u64`, or the fraction has more than 19 digits without its trailing zeros.
 abbrev pub too_long : SpelledSpan → Bool
 too_long s = nat_lt u64_max (decimal_value s.number) || is_some_and (λ ds. nat_lt 19 (length (without_trailing_zeros ds))) s.fraction
 
--- The span is not `too_long`, and its word a unit's.
+-- The span is not `too_long`, and its word is a unit.
 pub record Formed (s : SpelledSpan) : Type 0 where
   pub short : too_long s ≡ false
   pub word : IsSome (scale_of_word s.word)
 
--- Tests whether `0.ds` times `n` is whole, and `ds` times `n` fits a `u64`.
+-- Tests whether `0.ds` times `n` is a whole number, and `ds` times `n` fits a `u64`.
 abbrev pub is_whole_part : ℕ → List ℕ → Bool
 is_whole_part n ds = fits_u64 (decimal_value ds * n) && (decimal_value ds * n % 10 ^ length ds == 0)
 
--- Tests a fraction, if any, without trailing zeros: `is_whole_part`, or empty where its unit has no fractions.
+-- Tests whether a fraction, if any, satisfies `is_whole_part` without its trailing zeros, or has no other digits if its unit has no
+-- fractions.
 abbrev pub fraction_fits : Option Addition → Option (List ℕ) → Bool
 fraction_fits _ None = true
 fraction_fits None (Some ds) = length (without_trailing_zeros ds) == 0
 fraction_fits (Some x) (Some ds) = is_whole_part (size x) (without_trailing_zeros ds)
 
--- Tests for a unit's word, number times unit within a `u64`, and a fraction that fits.
+-- Tests whether the word is a unit, the number times the unit fits a `u64`, and the fraction fits.
 abbrev pub fits : SpelledSpan → Bool
 fits s = is_some_and (λ u. fits_u64 (decimal_value s.number * size u.one) && fraction_fits u.fraction s.fraction)
     (scale_of_word s.word)
 
--- Tests whether an addition can follow a sum of `t` nanoseconds: the whole seconds of the new sum fit a `u64`. So do nanoseconds that are
--- added, together with those of `t` below a second.
+-- Tests whether an addition to a sum of `t` nanoseconds does not overflow: the whole seconds of the new sum fit a `u64`, and so do
+-- nanoseconds that are added together with those of `t` below a second.
 abbrev pub has_room : ℕ → Addition → Bool
 has_room t (Nanos n) = fits_u64 (t % nanos_per_second + n) && fits_u64 ((t + n) / nanos_per_second)
 has_room t (Seconds n) = fits_u64 (t / nanos_per_second + n)
 
--- Each addition has room after those before it.
+-- Each addition fits after those before it, without overflow.
 abbrev pub AllHaveRoom : List Addition → Type 0
 AllHaveRoom xs = (before after : List Addition) (x : Addition) → xs ≡ before ++ x ∷ after → has_room (total before) x ≡ true
 
--- Each span is formed and fits, and each addition has room.
+-- Each span is formed and fits, and no addition overflows.
 pub record WithinLimits (spans : List SpelledSpan) : Type 0 where
   pub formed : AllByRecursion Formed spans
   pub fit : AllByRecursion (λ s. fits s ≡ true) spans
   pub room : AllHaveRoom (additions spans)
 
--- The text is exactly `0` and `d` is 0, or spans within the limits with value `d`.
+-- The text is exactly `0` and `d` is 0, or it is spans within the limits, and `d` is their sum.
 pub data Accepted (text : List ℕ) (d : ℕ) : Type 0 where
-  -- it is exactly `0`
+  -- The text is exactly `0`.
   Bare_zero : text ≡ bare_zero → d ≡ 0 → Accepted text d
-  -- it is spans within the limits that add up to d
+  -- The text is spans within the limits whose sum is `d`.
   Sum_of : (spans : List SpelledSpan) → Reads text spans → WithinLimits spans → value spans ≡ d → Accepted text d

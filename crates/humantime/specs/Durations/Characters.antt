@@ -1,24 +1,24 @@
--- The characters of a duration's text.
+-- The classes of characters of a duration's text.
 use Rattle.std.specs.Prelude.{ℕ, ◌-◌, Bool, ◌||◌, ◌==◌, List, [], ◌∷◌, length, encode_utf8_all, filter, codes, reverse}
 use Rattle.std.specs.Char.{char_set_contains, is_ascii_digit, is_ascii_alphabetic}
 use Rattle.std.specs.Str.{byte}
 use Rattle.humantime.specs.Texts.{drop_while}
 
--- Lists Unicode's 25 whitespace characters.
+-- The 25 whitespace characters of Unicode.
 unfoldable pub whitespace_chars : List ℕ
 whitespace_chars =
     0x9 ∷ 0xa ∷ 0xb ∷ 0xc ∷ 0xd ∷ 0x20 ∷ 0x85 ∷ 0xa0 ∷ 0x1680 ∷ 0x2000 ∷ 0x2001 ∷ 0x2002 ∷ 0x2003 ∷ 0x2004 ∷ 0x2005 ∷ 0x2006
     ∷ 0x2007 ∷ 0x2008 ∷ 0x2009 ∷ 0x200a ∷ 0x2028 ∷ 0x2029 ∷ 0x202f ∷ 0x205f ∷ 0x3000 ∷ []
 
--- The micro sign is U+00B5.
+-- The micro sign, U+00B5.
 abbrev pub micro_sign : ℕ
 micro_sign = 0xb5
 
--- The Greek letter mu is U+03BC.
+-- The Greek letter mu, U+03BC.
 abbrev pub greek_mu : ℕ
 greek_mu = 0x3bc
 
--- These are the UTF-8 bytes of `µs`, with the micro sign.
+-- The UTF-8 bytes of `µs`, with the micro sign.
 abbrev pub micro_suffix : List ℕ
 micro_suffix = 0xc2 ∷ 0xb5 ∷ codes "s"
 
@@ -30,7 +30,7 @@ is_whitespace c = char_set_contains whitespace_chars c
 unfoldable pub is_digit : ℕ → Bool
 is_digit c = is_ascii_digit c
 
--- Tests for an ASCII letter, the micro sign or Greek mu.
+-- Tests whether a character is an ASCII letter, the micro sign or Greek mu.
 unfoldable pub is_letter : ℕ → Bool
 is_letter c = is_ascii_alphabetic c || c == micro_sign || c == greek_mu
 
@@ -38,30 +38,30 @@ is_letter c = is_ascii_alphabetic c || c == micro_sign || c == greek_mu
 unfoldable pub is_point : ℕ → Bool
 is_point c = c == byte "."
 
--- This is the text that is exactly `0`.
+-- The text `0`.
 abbrev pub bare_zero : List ℕ
 bare_zero = codes "0"
 
--- Tests whether a character is a digit or whitespace, as in a number.
+-- Tests whether a character can be part of a number: a digit or whitespace.
 abbrev pub is_numeric : ℕ → Bool
 is_numeric c = is_digit c || is_whitespace c
 
--- Keeps the digits of a text.
+-- Returns the digits of a text, without its other characters.
 abbrev pub digits : List ℕ → List ℕ
 digits cs = filter is_digit cs
 
--- Drops the zeros at the end of a list of digits.
+-- Removes the trailing zeros of a list of digits.
 unfoldable pub without_trailing_zeros : List ℕ → List ℕ
 without_trailing_zeros ds = reverse (drop_while (λ d. d == byte "0") (reverse ds))
 
--- This is the greatest `u64`, 2^64 - 1.
+-- The greatest `u64`, 2^64 - 1.
 abbrev pub u64_max : ℕ
 u64_max = 18446744073709551615
 
--- Counts the bytes of a text in UTF-8.
+-- Returns the length of a text in bytes of UTF-8.
 abbrev pub byte_length : List ℕ → ℕ
 byte_length cs = length (encode_utf8_all cs)
 
--- Gives the byte offset of a text's last part.
+-- Returns the byte offset at which `rest`, a suffix of the text, begins.
 abbrev pub offset_of : List ℕ → List ℕ → ℕ
 offset_of text rest = byte_length text - byte_length rest

@@ -1,4 +1,4 @@
--- What an error of a duration's text says, and its message. A text is its bytes here.
+-- The contents of a duration's error, and its message. A text is its bytes.
 use Rattle.std.specs.Prelude.{◌≡◌, ℕ, ◌<◌, ◌≤◌, List, length, Option, Some, None, Result, ⊤, slice_range, ◌++◌, codes, decimal, ◌∷◌, []}
 use Rattle.std.specs.Borrow.{Bor}
 use Rattle.std.specs.Str.{IsCharBoundary}
@@ -8,7 +8,7 @@ use Rattle.humantime.specs.declared.duration.error.DurationError.{DurationError}
 use Rattle.humantime.specs.Durations.Faults.{Fault, InvalidCharacter, NumberExpected, UnknownUnit, NumberOverflow, Empty}
 use Rattle.humantime.specs.declared.duration.error.DurationError.TheVariants as errors
 
--- Gives the fault that an error names.
+-- Returns the fault of an error.
 abbrev pub fault_of : DurationError → Fault
 fault_of (errors.InvalidCharacter at) = InvalidCharacter at
 fault_of (errors.NumberExpected at) = NumberExpected at
@@ -16,27 +16,27 @@ fault_of (errors.UnknownUnit start end unit value) = UnknownUnit start end unit.
 fault_of errors.NumberOverflow = NumberOverflow
 fault_of errors.Empty = Empty
 
--- Turns a result's error into its fault.
+-- Replaces the error of a result with its fault.
 abbrev pub result_view : Result ℕ DurationError → Result ℕ Fault
 result_view r = result_map_both (λ d. d) fault_of r
 
--- Turns a result into its text's bytes or its fault.
+-- Replaces the text of a result with its bytes, or the error with its fault.
 abbrev pub text_result_view : Result (Bor (List ℕ)) DurationError → Result (List ℕ) Fault
 text_result_view r = result_map_both (λ t. t.now) fault_of r
 
--- A character of the text begins at this offset.
+-- A character of the text begins at this byte offset.
 abbrev pub IsPlaceIn : List ℕ → ℕ → Type 0
 IsPlaceIn bytes at = (at < length bytes) × IsCharBoundary bytes at
 
--- The offsets are in order and at character boundaries of the text.
+-- The offsets are in order and lie on `char` boundaries of the text.
 abbrev pub IsRangeIn : List ℕ → ℕ → ℕ → Type 0
 IsRangeIn bytes start end = (start ≤ end) × IsCharBoundary bytes start × IsCharBoundary bytes end
 
--- The part is the text's slice between two offsets, both at character boundaries.
+-- The part is the slice of the text between two offsets, which lie on `char` boundaries.
 abbrev pub IsPartOf : List ℕ → List ℕ → ℕ → ℕ → Type 0
 IsPartOf bytes part start end = IsRangeIn bytes start end × (part ≡ slice_range bytes start end)
 
--- The error's offset is a character's, its unit the slice between its offsets.
+-- The offset of the error is that of a character, and its unit is the slice between its offsets.
 abbrev pub PointsInto : List ℕ → DurationError → Type 0
 PointsInto bytes (errors.InvalidCharacter at) = IsPlaceIn bytes at
 PointsInto bytes (errors.NumberExpected at) = IsPlaceIn bytes at
@@ -44,7 +44,7 @@ PointsInto bytes (errors.UnknownUnit start end unit value) = IsPartOf bytes unit
 PointsInto bytes errors.NumberOverflow = ⊤
 PointsInto bytes errors.Empty = ⊤
 
--- Gives the byte offset to which a fault points: 0 for a text without spans, and none where a limit is broken.
+-- Returns the byte offset to which a fault points: 0 for a text without spans, and `None` if a limit is broken.
 abbrev pub place_of : Fault → Option ℕ
 place_of (InvalidCharacter at) = Some at
 place_of (NumberExpected at) = Some at
@@ -52,7 +52,7 @@ place_of (UnknownUnit start end unit value) = Some start
 place_of NumberOverflow = None
 place_of Empty = Some 0
 
--- Gives the message of a number with no unit, or of a unit that is no unit's word.
+-- Returns the message of a missing unit, if the unit is empty, or of an unknown one.
 abbrev pub unit_message : List ℕ → ℕ → List ℕ
 unit_message [] value = codes "time unit needed, for example " ++ decimal value ++ codes "sec or " ++ decimal value ++ codes "ms"
 unit_message (b ∷ bs) value =
@@ -60,7 +60,7 @@ unit_message (b ∷ bs) value =
     ++ (codes "\", supported units: ns, us/" ++ micro_suffix
     ++ codes ", ms, sec, min, hours, days, weeks, months, years (and few variations)")
 
--- Gives a fault's message.
+-- Returns the message of a fault.
 abbrev pub fault_message : Fault → List ℕ
 fault_message (InvalidCharacter at) = codes "invalid character at " ++ decimal at
 fault_message (NumberExpected at) = codes "expected number at " ++ decimal at

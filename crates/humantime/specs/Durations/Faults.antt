@@ -1,5 +1,5 @@
--- The first error of a text that is not accepted, by a table of ten rows that exclude each other. A text is its list of characters; offsets
--- count its bytes, and a fault holds the bytes of its unit.
+-- The first error of a text that is not accepted, by a table of ten rows of which exactly one applies. A text is its list of characters;
+-- offsets count its bytes, and a fault holds the bytes of its unit.
 use Rattle.std.specs.Prelude.{ℕ, true, false, List, [], ◌∷◌, Option, Some, None, IsSome, if◌then◌else◌, ◌≡◌, ◌≢◌, ◌⊎◌, ◌++◌, drop, option_map, unwrap_or, encode_utf8_all}
 use Rattle.humantime.specs.Texts.{take_while, drop_while, begins, ends, decimal_value}
 use Rattle.humantime.specs.Durations.Characters.{is_letter, is_numeric, is_point, digits, is_whitespace, is_digit, byte_length, offset_of, bare_zero}
@@ -7,39 +7,39 @@ use Rattle.humantime.specs.Durations.Spans.{SpelledSpan, SpellsAll}
 use Rattle.humantime.specs.Durations.Units.{scale_of_word}
 use Rattle.humantime.specs.Durations.Accepted.{too_long, WithinLimits}
 
--- Gives the digits of the number that begins a rest.
+-- Returns the digits of the number at the start of `rest`.
 abbrev pub number_of : List ℕ → List ℕ
 number_of rest = digits (take_while is_numeric rest)
 
--- Gives what follows the number that begins a rest.
+-- Returns what follows the number at the start of `rest`.
 abbrev pub after_number : List ℕ → List ℕ
 after_number rest = drop_while is_numeric rest
 
--- Gives what follows the point that begins a text, if one does.
+-- Returns what follows the point at the start of a text, if it begins with one.
 abbrev pub after_point : List ℕ → Option (List ℕ)
 after_point text = if begins is_point text then Some (drop 1 text) else None
 
--- Gives the digits of the fraction after the number that begins a rest, if a point follows that number.
+-- Returns the digits of the fraction after the number at the start of `rest`, if a point follows the number.
 abbrev pub fraction_of : List ℕ → Option (List ℕ)
 fraction_of rest = option_map number_of (after_point (after_number rest))
 
--- Gives what follows the number and the fraction that begin a rest.
+-- Returns what follows the number and the fraction at the start of `rest`.
 abbrev pub after_fraction : List ℕ → List ℕ
 after_fraction rest = unwrap_or (option_map after_number (after_point (after_number rest))) (after_number rest)
 
--- Gives the letters after the number and the fraction that begin a rest.
+-- Returns the letters after the number and the fraction at the start of `rest`.
 abbrev pub word_of : List ℕ → List ℕ
 word_of rest = take_while is_letter (after_fraction rest)
 
--- Gives what follows the number, the fraction and the letters that begin a rest.
+-- Returns what follows the number, the fraction and the letters at the start of `rest`.
 abbrev pub after_word : List ℕ → List ℕ
 after_word rest = drop_while is_letter (after_fraction rest)
 
--- Gives the span that begins a rest: number, fraction and word, each the longest that stands there.
+-- Returns the span at the start of `rest`. Its number, fraction and word are each as long as possible.
 abbrev pub span_of : List ℕ → SpelledSpan
 span_of rest = record { number = number_of rest; fraction = fraction_of rest; word = word_of rest }
 
--- A fault is an error with byte offsets and its unit's bytes.
+-- A fault is an error as data: its byte offsets, and the bytes of its unit.
 pub data Fault : Type 0 where
   InvalidCharacter : (at : ℕ) → Fault
   NumberExpected : (at : ℕ) → Fault
@@ -47,64 +47,64 @@ pub data Fault : Type 0 where
   NumberOverflow : Fault
   Empty : Fault
 
--- The text is a prefix that spells the spans, and then a rest that does not begin with whitespace.
+-- The text is a front that represents the spans, followed by a rest that does not begin with whitespace.
 pub record Split (text front : List ℕ) (spans : List SpelledSpan) (rest : List ℕ) : Type 0 where
   pub whole : text ≡ front ++ rest
   pub spelled : SpellsAll front spans
   pub no_whitespace : begins is_whitespace rest ≡ false
 
--- A number begins the rest, and neither it nor its fraction is too long.
+-- The rest begins with a number, and neither the number nor its fraction is too long.
 pub record BeginsNumber (rest : List ℕ) : Type 0 where
   pub digit : begins is_digit rest ≡ true
   pub short : too_long (span_of rest) ≡ false
 
--- A digit, whitespace or the end follows a word.
+-- A digit or whitespace follows a word, or the text ends there.
 abbrev pub EndsSpan : List ℕ → Type 0
 EndsSpan next = (next ≡ []) ⊎ (begins is_numeric next ≡ true)
 
--- A whole span begins the rest: a number, any fraction with digits, and a unit's word, which ends there.
+-- The rest begins with a whole span: a number, a fraction with digits, if any, and the word of a unit, which ends there.
 pub record BeginsSpan (rest : List ℕ) : Type 0 where
   pub number : BeginsNumber rest
   pub digits : fraction_of rest ≢ Some []
   pub unit : IsSome (scale_of_word (word_of rest))
   pub ended : EndsSpan (after_word rest)
 
--- The first nine rows: after the spans, the rest begins no whole span, and the fault is `e`.
+-- The first nine rows of the table: after the spans, the rest does not begin with a whole span, and the fault is `e`.
 pub data Stops (text front : List ℕ) (spans : List SpelledSpan) (rest : List ℕ) (e : Fault) : Type 0 where
-  -- The text is empty or has only whitespace.
+  -- The text is empty or only whitespace.
   Only_whitespace : spans ≡ [] → rest ≡ [] → e ≡ Empty → Stops text front spans rest e
-  -- At the start, or after a span and whitespace, stands something other than a digit.
+  -- A character other than a digit is at the start, or after a span and whitespace.
   No_number : rest ≢ [] → begins is_digit rest ≡ false → (spans ≡ []) ⊎ (ends is_whitespace front ≡ true)
       → e ≡ NumberExpected (offset_of text rest) → Stops text front spans rest e
   -- The number or its fraction is too long, whatever follows.
   Too_long : begins is_digit rest ≡ true → too_long (span_of rest) ≡ true → e ≡ NumberOverflow → Stops text front spans rest e
-  -- After the number stands a character that is neither a point nor a letter.
+  -- A character other than a point or a letter follows the number.
   No_letter_after_number : BeginsNumber rest → fraction_of rest ≡ None → word_of rest ≡ [] → after_word rest ≢ []
       → e ≡ InvalidCharacter (offset_of text (after_word rest)) → Stops text front spans rest e
-  -- A point has no digits, and a letter or the end follows; the fault is at the point.
+  -- A point has no digits, and a letter follows or the text ends; the offset is that of the point.
   Point_without_digits : BeginsNumber rest → fraction_of rest ≡ Some [] → (word_of rest ≢ []) ⊎ (after_word rest ≡ [])
       → e ≡ InvalidCharacter (offset_of text (after_number rest)) → Stops text front spans rest e
-  -- After a point, with or without digits, stands a character that is not a letter.
+  -- A character other than a letter follows a point and its digits, if any.
   No_letter_after_point : BeginsNumber rest → IsSome (fraction_of rest) → word_of rest ≡ [] → after_word rest ≢ []
       → e ≡ InvalidCharacter (offset_of text (after_word rest)) → Stops text front spans rest e
-  -- After letters, a unit's word or not, stands a character that is neither a digit nor whitespace.
+  -- A character other than a digit or whitespace follows the letters, whether they are a unit or not.
   Word_not_ended : BeginsNumber rest → fraction_of rest ≢ Some [] → word_of rest ≢ [] → ¬ (EndsSpan (after_word rest))
       → e ≡ InvalidCharacter (offset_of text (after_word rest)) → Stops text front spans rest e
   -- The text ends without a unit.
   No_word : BeginsNumber rest → fraction_of rest ≢ Some [] → word_of rest ≡ [] → after_word rest ≡ []
       → e ≡ UnknownUnit (byte_length text) (byte_length text) [] (decimal_value (number_of rest)) → Stops text front spans rest e
-  -- The word is no unit's.
+  -- The word is not a unit.
   Unknown_word : BeginsNumber rest → fraction_of rest ≢ Some [] → word_of rest ≢ [] → scale_of_word (word_of rest) ≡ None → EndsSpan (after_word rest)
       → e ≡ UnknownUnit (offset_of text (after_fraction rest)) (offset_of text (after_word rest)) (encode_utf8_all (word_of rest)) (decimal_value (number_of rest))
       → Stops text front spans rest e
 
--- The tenth row: a whole span begins the rest, and with it the spans break a limit.
+-- The tenth row of the table: the rest begins with a whole span, and the spans together with this one break a limit.
 pub record BreaksLimit (spans : List SpelledSpan) (rest : List ℕ) (e : Fault) : Type 0 where
   pub span : BeginsSpan rest
   pub beyond : ¬ (WithinLimits (spans ++ span_of rest ∷ []))
   pub fault : e ≡ NumberOverflow
 
--- The text is not exactly `0`. It is spans within the limits and then a rest, for which a row of the table gives the fault.
+-- The text is not exactly `0`. It is spans within the limits followed by a rest, for which a row of the table gives the fault.
 pub record HasFault (text : List ℕ) (e : Fault) : Type 0 where
   pub not_zero : text ≢ bare_zero
   pub front : List ℕ

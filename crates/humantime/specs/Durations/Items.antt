@@ -1,4 +1,4 @@
--- The items of a text, and what each lends of it. A text is its list of characters.
+-- The items of a text, and what each borrows from it. A text is its list of characters.
 use Rattle.std.specs.Prelude.{◌≡◌, ◌≢◌, List, ℕ, [], Option, Some, None, true, ◌∷◌, ◌++◌, Result, Ok, Err, map, option_to_list, option_map}
 use Rattle.std.specs.List.{AllByRecursion}
 use Rattle.std.specs.Str.{byte}
@@ -8,12 +8,12 @@ use Rattle.humantime.specs.Durations.Faults.{Fault, Split, Stops}
 use Rattle.humantime.specs.Texts.{begins, ends, drop_while, decimal_value}
 use Rattle.humantime.specs.Durations.Characters.{is_whitespace, is_digit, offset_of}
 
--- The text ends after the spans, at least one; or it stops there with the fault.
+-- The text ends after the spans, of which there is at least one, or it stops there with the fault.
 abbrev pub Ends : List ℕ → List ℕ → List SpelledSpan → List ℕ → Option Fault → Type 0
 Ends text front spans rest None = (rest ≡ []) × (spans ≢ [])
 Ends text front spans rest (Some e) = Stops text front spans rest e
 
--- The text is these spans, each formed, then the end or the fault.
+-- The text is these spans, each formed, followed by the end of the text or by the fault.
 pub record Items (text : List ℕ) (spans : List SpelledSpan) (stop : Option Fault) : Type 0 where
   pub front : List ℕ
   pub rest : List ℕ
@@ -21,7 +21,7 @@ pub record Items (text : List ℕ) (spans : List SpelledSpan) (stop : Option Fau
   pub formed : AllByRecursion Formed spans
   pub ends : Ends text front spans rest stop
 
--- A span lends slices, the offsets of its start and its word's end, and its number.
+-- The view of a span: the slices that it borrows, the offsets of its start and of the end of its word, and its number.
 pub record SpanView : Type 0 where
   pub number : List ℕ
   pub fraction : Option (List ℕ)
@@ -30,7 +30,7 @@ pub record SpanView : Type 0 where
   pub end : ℕ
   pub value : ℕ
 
--- The slice is the text without outer whitespace, from digit to digit.
+-- The slice is the text without leading and trailing whitespace; it begins and ends with a digit.
 pub record IsDigitSlice (text slice : List ℕ) : Type 0 where
   pub before : List ℕ
   pub after : List ℕ
@@ -40,12 +40,12 @@ pub record IsDigitSlice (text slice : List ℕ) : Type 0 where
   pub first_digit : begins is_digit slice ≡ true
   pub last_digit : ends is_digit slice ≡ true
 
--- There is no slice and no text; or the text begins with a point, and the slice goes from the first digit after it to the last.
+-- There is no slice, and the text is empty; or the text begins with a point, and the slice goes from the first to the last digit after it.
 abbrev pub IsFractionView : List ℕ → Option (List ℕ) → Type 0
 IsFractionView text None = text ≡ []
 IsFractionView text (Some slice) = (after : List ℕ) × (text ≡ byte "." ∷ after) × IsDigitSlice after slice
 
--- From `here` stand the span and then `next`; the span lends `x`.
+-- The text from `here` on is the span followed by `next`, and `x` is the view of the span.
 pub record IsSpanView (text here : List ℕ) (s : SpelledSpan) (x : SpanView) (next : List ℕ) : Type 0 where
   pub spelled : Spells here s next
   pub number : IsDigitSlice spelled.number_text x.number
@@ -55,17 +55,17 @@ pub record IsSpanView (text here : List ℕ) (s : SpelledSpan) (x : SpanView) (n
   pub end : x.end ≡ offset_of text (spelled.whitespace ++ next)
   pub value : x.value ≡ decimal_value s.number
 
--- From `here` to `end` the text spells the spans, and each lends its part.
+-- The text from `here` to `end` represents the spans, and each view is that of its span.
 abbrev pub AreSpanViews : List ℕ → List ℕ → List SpelledSpan → List SpanView → List ℕ → Type 0
 AreSpanViews text here [] [] end = here ≡ end
 AreSpanViews text here (s ∷ ss) (x ∷ xs) end = (next : List ℕ) × IsSpanView text here s x next × AreSpanViews text next ss xs end
 AreSpanViews text here _ _ end = ⊥
 
--- Lists what was found, and then the fault, if there is one.
+-- Returns the list of what was found, followed by the fault, if there is one.
 abbrev pub items_of : {A : Type 0} → List A → Option Fault → List (Result A Fault)
 items_of found stop = map Ok found ++ option_to_list (option_map Err stop)
 
--- The items are what each span lends, then the fault, if any.
+-- The items are the views of the spans, followed by the fault, if there is one.
 pub record AreItems (text : List ℕ) (listed : List (Result SpanView Fault)) : Type 0 where
   pub spans : List SpelledSpan
   pub stop : Option Fault

@@ -1,12 +1,12 @@
--- Spans, and how a text spells them. A text is its list of characters. Each word is the longest run of letters that stands there,
--- since a span begins with a digit.
+-- Spans, and how they are written in a text. A text is its list of characters. A word is always as long as possible, since the next span
+-- begins with a digit.
 use Rattle.std.specs.Prelude.{◌≡◌, ◌≢◌, ℕ, Bool, true, List, [], ◌∷◌, ◌++◌, Option, Some, None}
 use Rattle.std.specs.List.{AllByRecursion}
 use Rattle.std.specs.Str.{byte}
 use Rattle.humantime.specs.Texts.{begins}
 use Rattle.humantime.specs.Durations.Characters.{is_whitespace, is_letter, is_numeric, is_digit, digits}
 
--- A span has a number's digits, perhaps a fraction's, and a word.
+-- A span is the digits of a number, those of a fraction, if any, and a word.
 pub record SpelledSpan : Type 0 where
   pub number : List ℕ
   pub fraction : Option (List ℕ)
@@ -16,20 +16,20 @@ pub record SpelledSpan : Type 0 where
 abbrev pub Only : (ℕ → Bool) → List ℕ → Type 0
 Only passes text = AllByRecursion (λ c. passes c ≡ true) text
 
--- The text is digits and whitespace, and `ds` are its digits.
+-- The text is digits and whitespace, and its digits are `ds`.
 abbrev pub HoldsDigits : List ℕ → List ℕ → Type 0
 HoldsDigits text ds = Only is_numeric text × (digits text ≡ ds)
 
--- The text is letters, at least one.
+-- The text is one or more letters.
 abbrev pub IsLetters : List ℕ → Type 0
 IsLetters text = Only is_letter text × (text ≢ [])
 
--- Without a fraction the text is empty, else a point, then digits, at least one, among any whitespace.
+-- The text is empty if there is no fraction. Otherwise it is a point followed by digits, at least one, and any whitespace among them.
 abbrev pub SpellsFraction : List ℕ → Option (List ℕ) → Type 0
 SpellsFraction text None = text ≡ []
 SpellsFraction text (Some ds) = (after : List ℕ) × (text ≡ byte "." ∷ after) × HoldsDigits after ds × (ds ≢ [])
 
--- The text is the span's number, from a digit on, fraction, word and any whitespace, then `rest`.
+-- The text is the number of the span, which begins with a digit, its fraction, its word and any whitespace, followed by `rest`.
 pub record Spells (text : List ℕ) (span : SpelledSpan) (rest : List ℕ) : Type 0 where
   pub number_text : List ℕ
   pub fraction_text : List ℕ
@@ -41,12 +41,12 @@ pub record Spells (text : List ℕ) (span : SpelledSpan) (rest : List ℕ) : Typ
   pub word : IsLetters span.word
   pub only_whitespace : Only is_whitespace whitespace
 
--- The text spells the spans, one after the other.
+-- The text is the spans, one after the other.
 abbrev pub SpellsEach : List ℕ → List SpelledSpan → Type 0
 SpellsEach text [] = text ≡ []
 SpellsEach text (span ∷ spans) = (rest : List ℕ) × Spells text span rest × SpellsEach rest spans
 
--- The text is whitespace, or none, and then spells the spans.
+-- The text is any whitespace followed by the spans.
 pub record SpellsAll (text : List ℕ) (spans : List SpelledSpan) : Type 0 where
   pub whitespace : List ℕ
   pub body : List ℕ
@@ -54,6 +54,6 @@ pub record SpellsAll (text : List ℕ) (spans : List SpelledSpan) : Type 0 where
   pub only_whitespace : Only is_whitespace whitespace
   pub each : SpellsEach body spans
 
--- The text is these spans, at least one, after any whitespace.
+-- The text is one or more spans, after any whitespace.
 abbrev pub Reads : List ℕ → List SpelledSpan → Type 0
 Reads text spans = SpellsAll text spans × (spans ≢ [])

@@ -1,5 +1,5 @@
--- The words of units, and the scale of each: what one of the unit adds, and perhaps what its fractions are parts of. An addition is
--- nanoseconds or seconds.
+-- The words of units and the scale of each: what one of the unit adds, and what its fractions are parts of, if it has any. An addition is a
+-- number of nanoseconds or of seconds.
 use Rattle.std.specs.Prelude.{ℕ, ◌*◌, List, [], ◌∷◌, ◌++◌, map, Option, Some, None, codes, bytes_eq}
 use Rattle.std.specs.Map.{lookup}
 pub use Rattle.humantime.specs.declared.unit.Addition.{Addition}
@@ -8,19 +8,19 @@ pub use Rattle.humantime.specs.declared.unit.Scale.{Scale}
 use Rattle.humantime.specs.Values.{nanos_per_micro, nanos_per_milli, nanos_per_second, seconds_per_minute, seconds_per_hour, seconds_per_day, seconds_per_week, seconds_per_month, seconds_per_year}
 use Rattle.humantime.specs.Durations.Characters.{micro_sign, greek_mu}
 
--- One nanosecond is added, and has no fractions.
+-- The scale of the nanosecond, which has no fractions.
 abbrev pub whole_nanos : Scale
 whole_nanos = record { one = Nanos 1; fraction = None }
 
--- The unit adds `size` nanoseconds, and its fractions count in nanoseconds.
+-- The scale of a unit of `size` nanoseconds, whose fractions are added as nanoseconds.
 abbrev pub in_nanos : ℕ → Scale
 in_nanos size = record { one = Nanos size; fraction = Some (Nanos size) }
 
--- The unit adds `size` seconds, and its fractions count in nanoseconds.
+-- The scale of a unit of `size` seconds, whose fractions are added as nanoseconds.
 abbrev pub in_seconds_and_nanos : ℕ → Scale
 in_seconds_and_nanos size = record { one = Seconds size; fraction = Some (Nanos (size * nanos_per_second)) }
 
--- The unit adds `size` seconds, and its fractions count in seconds.
+-- The scale of a unit of `size` seconds, whose fractions are added as seconds.
 abbrev pub in_seconds : ℕ → Scale
 in_seconds size = record { one = Seconds size; fraction = Some (Seconds size) }
 
@@ -28,7 +28,7 @@ in_seconds size = record { one = Seconds size; fraction = Some (Seconds size) }
 abbrev unit_words : List (List ℕ) → Scale → List (List ℕ × Scale)
 unit_words spellings scale = map (λ word. (word, scale)) spellings
 
--- Lists the units' words with their scales.
+-- The words of the units, each with its scale.
 abbrev pub words : List (List ℕ × Scale)
 words =
     unit_words (codes "nanos" ∷ codes "nsec" ∷ codes "ns" ∷ []) whole_nanos
@@ -42,6 +42,6 @@ words =
     ++ unit_words (codes "months" ∷ codes "month" ∷ codes "M" ∷ []) (in_seconds seconds_per_month)
     ++ unit_words (codes "years" ∷ codes "year" ∷ codes "yr" ∷ codes "yrs" ∷ codes "y" ∷ []) (in_seconds seconds_per_year)
 
--- Looks up the scale of a word, if it is a unit's.
+-- Returns the scale of a word, if it is a unit.
 unfoldable pub scale_of_word : List ℕ → Option Scale
 scale_of_word word = lookup (bytes_eq word) words

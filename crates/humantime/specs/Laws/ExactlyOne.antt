@@ -1,6 +1,6 @@
--- Exactly one: one way to say it for all laws.
+-- Existence and uniqueness, for all laws.
 use Rattle.std.specs.Prelude.{◌≡◌}
 
--- One thing is so, and no other.
+-- Exactly one value has this property.
 abbrev pub ExactlyOne : {A : Type 0} → (A → Type 0) → Type 0
 ExactlyOne {A} IsSo = (x : A) × IsSo x × ((other : A) → IsSo other → other ≡ x)

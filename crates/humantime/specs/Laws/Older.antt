@@ -1,5 +1,5 @@
--- What was accepted before: while the Greek letter mu, U+03BC, was no letter, and while zeros at the end of a fraction
--- counted for its limits. A text is its list of characters.
+-- What was accepted earlier, while the Greek letter mu, U+03BC, was not a letter and trailing zeros of a fraction counted towards its
+-- limits. A text is its list of characters.
 use Rattle.std.specs.Prelude.{◌≡◌, ℕ, ◌*◌, ◌≤◌, true, List, length, Option, Some, None, IsOk, ⊤, Ok}
 use Rattle.std.specs.List.{AllByRecursion}
 use Rattle.humantime.specs.Texts.{decimal_value}
@@ -9,15 +9,15 @@ use Rattle.humantime.specs.Durations.Units.{Addition, Scale, scale_of_word}
 use Rattle.humantime.specs.Durations.Spans.{SpelledSpan, Reads}
 use Rattle.humantime.specs.Durations.Accepted.{size, additions, value, is_whole_part, AllHaveRoom, Accepted}
 
--- While zeros at its end counted, a fraction had at most 19 digits and was a whole number of nanoseconds or of seconds; nanoseconds had
--- none.
+-- While trailing zeros counted, a fraction had at most 19 digits and denoted a whole number of nanoseconds or of seconds, and nanoseconds
+-- had no fraction.
 abbrev pub OlderFraction : Option Addition → Option (List ℕ) → Type 0
 OlderFraction _ None = ⊤
 OlderFraction None (Some ds) = ⊥
 OlderFraction (Some x) (Some ds) = (length ds ≤ 19) × (is_whole_part (size x) ds ≡ true)
 
--- The word was a unit's, the number and its product with the unit were at most the greatest `u64`, and the fraction kept its limits with
--- each of its digits.
+-- The word was a unit, the number and its product with the unit did not exceed a `u64`, and the fraction kept its limits with all of its
+-- digits.
 pub record OlderFormed (s : SpelledSpan) : Type 0 where
   pub unit : Scale
   pub word : scale_of_word s.word ≡ Some unit
@@ -25,19 +25,19 @@ pub record OlderFormed (s : SpelledSpan) : Type 0 where
   pub product : decimal_value s.number * size unit.one ≤ u64_max
   pub fraction : OlderFraction unit.fraction s.fraction
 
--- While zeros at the end of a fraction counted, the text stood for `v` nanoseconds.
+-- While trailing zeros of a fraction counted, the text was accepted and denoted `v` nanoseconds.
 pub data AcceptedWithZeros (text : List ℕ) (v : ℕ) : Type 0 where
-  -- it was exactly `0`
+  -- The text was exactly `0`.
   Older_zero : text ≡ bare_zero → v ≡ 0 → AcceptedWithZeros text v
-  -- it was spans within the limits that add up to v
+  -- The text was spans within the limits whose sum is `v`.
   Older_sum : (spans : List SpelledSpan) → Reads text spans → AllByRecursion OlderFormed spans → AllHaveRoom (additions spans)
       → value spans ≡ v → AcceptedWithZeros text v
 
--- The text was accepted while zeros at the end of a fraction counted.
+-- The text was accepted while trailing zeros of a fraction counted.
 abbrev pub WasAccepted : List ℕ → Type 0
 WasAccepted text = (v : ℕ) × AcceptedWithZeros text v
 
--- What was accepted while trailing zeros of fractions counted keeps its value.
+-- A text that was accepted while trailing zeros of a fraction counted is still accepted with the same value.
 pub record KeepsValueWithZeros (text : List ℕ) : Type 0 where
   pub value : (v : ℕ) → AcceptedWithZeros text v → Accepted text v
   pub answer : (v : ℕ) → AcceptedWithZeros text v → duration_answer text ≡ Ok v

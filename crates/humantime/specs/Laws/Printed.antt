@@ -1,4 +1,4 @@
--- What holds of printed texts. They are bytes; `chars` gives their characters.
+-- Properties of printed texts. They are bytes; `chars` decodes them into characters.
 use Rattle.std.specs.Prelude.{◌≡◌, ◌↔◌, ℕ, ◌≤◌, List, length, chars, slice_index, Ok, Err}
 use Rattle.humantime.specs.Durations.Accepted.{Accepted}
 use Rattle.humantime.specs.Durations.Counts.{AreCounts, IsCanonicalText, IsCanonicalOf}
@@ -6,43 +6,43 @@ use Rattle.humantime.specs.Answers.Durations.{duration_text, canonical_answer, d
 use Rattle.humantime.specs.Durations.Faults.{Fault, HasFault}
 use Rattle.humantime.specs.Laws.ExactlyOne.{ExactlyOne}
 
--- A duration's one canonical text is printed, and accepted with that duration.
+-- A duration has exactly one canonical text, which is the printed one, and which parses to the duration.
 pub record PrintsAndReads (d : ℕ) : Type 0 where
-  -- they have one canonical text, and no other
+  -- The duration has exactly one canonical text.
   pub one : ExactlyOne (IsCanonicalText d)
-  -- it is the text that is printed
+  -- It is the printed text.
   pub printed : IsCanonicalText d (duration_text d)
   pub only : (bytes : List ℕ) → IsCanonicalText d bytes → bytes ≡ duration_text d
-  -- it is accepted with d
+  -- It is accepted with the value `d`.
   pub reads : (bytes : List ℕ) → IsCanonicalText d bytes → Accepted (chars bytes) d
-  -- and so it is answered
+  -- Therefore parsing it returns `d`.
   pub answer : duration_answer (chars (duration_text d)) ≡ Ok d
 
--- Two durations' canonical and printed texts are equal exactly where the durations are.
+-- The canonical texts of two durations, and so the printed ones, are equal exactly if the durations are.
 pub record PrintApart (a b : ℕ) : Type 0 where
-  -- the canonical texts of a and of b nanoseconds are equal exactly where a and b are
+  -- The canonical texts of `a` and of `b` nanoseconds are equal exactly if `a` and `b` are.
   pub canon : (bytes other : List ℕ) → IsCanonicalText a bytes → IsCanonicalText b other → ((bytes ≡ other) ↔ (a ≡ b))
-  -- and so are the texts that are printed
+  -- The same holds of the printed texts.
   pub text : (duration_text a ≡ duration_text b) ↔ (a ≡ b)
 
--- A canonical text has at most 64 bytes, 11 months and 30 days.
+-- A canonical text has at most 64 bytes, and counts at most 11 months and 30 days.
 pub record IsBounded (d : ℕ) : Type 0 where
-  -- the text has at most 64 bytes
+  -- The text has at most 64 bytes.
   pub length : (bytes : List ℕ) → IsCanonicalText d bytes → length bytes ≤ 64
-  -- its counts are at most 11 months and at most 30 days
+  -- It counts at most 11 months and at most 30 days.
   pub counts : (counts : List ℕ) → AreCounts d counts → ((slice_index counts 1 ≤ 11) × (slice_index counts 2 ≤ 30))
 
--- An accepted text's canonical text keeps the value and is canonical again; it is answered, or the fault.
+-- The canonical text of an accepted text has the same value and is its own canonical text. `canonical` returns it, or the fault.
 pub record IsCanonicalAgain (s : List ℕ) : Type 0 where
-  -- a text that is accepted has a canonical text
+  -- An accepted text has a canonical text.
   pub some : (v : ℕ) → Accepted (chars s) v → (printed : List ℕ) × IsCanonicalOf s printed
-  -- this is accepted with the same duration
+  -- The canonical text is accepted with the same value.
   pub value : (v : ℕ) (printed : List ℕ) → Accepted (chars s) v → IsCanonicalOf s printed → Accepted (chars printed) v
-  -- and has itself as its canonical text, and no other
+  -- It is its own canonical text, and has no other.
   pub again : (printed again : List ℕ) → IsCanonicalOf s printed → (IsCanonicalOf printed again ↔ (again ≡ printed))
-  -- the same two of what is answered
+  -- The same two properties of the results of the calls.
   pub answer : (t : List ℕ) → canonical_answer (chars s) ≡ Ok t → canonical_answer (chars t) ≡ Ok t
   pub reads : (v : ℕ) (t : List ℕ) → duration_answer (chars s) ≡ Ok v → canonical_answer (chars s) ≡ Ok t → duration_answer (chars t) ≡ Ok v
-  -- what is answered is the canonical text, or the first fault
+  -- The result is the canonical text, or the first error.
   pub text : (t : List ℕ) → (canonical_answer (chars s) ≡ Ok t) ↔ IsCanonicalOf s t
   pub fault : (e : Fault) → (canonical_answer (chars s) ≡ Err e) ↔ HasFault (chars s) e

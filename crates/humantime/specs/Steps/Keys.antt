@@ -5,16 +5,16 @@ use Rattle.humantime.specs.declared.unit.words.TheConstants.{MAX_BYTES}
 use Rattle.humantime.specs.Durations.Characters.{micro_sign, greek_mu}
 use Rattle.humantime.specs.Durations.Units.{Scale, words}
 
--- the bytes as the digits of a number to base 256, the first the lowest, below a leading 1
+-- The bytes as the digits of a number in base 256, the first one lowest, below a leading 1.
 abbrev pub packed : List ℕ → ℕ
 packed [] = 1
 packed (b ∷ bs) = packed bs * 256 + b
 
--- that number for the bytes of a word, the first the highest, where they are at most `MAX_BYTES`, else 0
+-- The key of a word's bytes: the same number with the first byte highest, or 0 if there are more than `MAX_BYTES` bytes.
 abbrev pub key : List ℕ → ℕ
 key bs = if nat_lt MAX_BYTES (length bs) then 0 else packed (reverse bs)
 
--- the bytes of a word whose letters are ASCII, save the micro sign and the Greek letter mu
+-- The UTF-8 bytes of a word of ASCII letters, micro signs and Greek mus.
 abbrev pub bytes_of : List ℕ → List ℕ
 bytes_of [] = []
 bytes_of (c ∷ cs) =
@@ -22,11 +22,11 @@ bytes_of (c ∷ cs) =
     else if c == greek_mu then 0xce ∷ 0xbc ∷ bytes_of cs
     else c ∷ bytes_of cs
 
--- each word's key, and what the word stands for
+-- The keys of words, each with what the word denotes.
 abbrev pub keyed : List (List ℕ × Scale) → List (ℕ × Scale)
 keyed [] = []
 keyed (w ∷ ws) = (key (bytes_of w.0), w.1) ∷ keyed ws
 
--- what the word with this key stands for, if there is one
+-- Returns what the word with this key denotes, if there is one.
 unfoldable pub scale_of_key : ℕ → Option Scale
 scale_of_key k = lookup (λ j. k == j) (keyed words)

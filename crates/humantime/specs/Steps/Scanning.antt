@@ -1,4 +1,4 @@
--- The steps by which one span is read, over the rest of a text. No public contract cites this.
+-- The steps that parse one span, each on the rest of a text.
 use Rattle.std.specs.Prelude.{◌≡◌, ◌≤◌, ◌<◌, ◌^◌, ℕ, ◌-◌, ◌++◌, Bool, false, not, List, [], ◌∷◌, length, drop, if◌then◌else◌, IsUtf8, IsCharBoundary, chars}
 use Rattle.std.specs.Char.{len_utf8}
 use Rattle.humantime.specs.declared.duration.amount.Fraction.{Fraction}
@@ -6,18 +6,18 @@ use Rattle.humantime.specs.Texts.{begins, take_while, drop_while}
 use Rattle.humantime.specs.Durations.Characters.{is_whitespace, is_letter, without_trailing_zeros}
 use Rattle.humantime.specs.Steps.Scales.{counted, parts_of}
 
--- The bytes of a text end with those of the rest, which is a text of its own.
+-- The text ends in the bytes of the rest, which is valid UTF-8.
 pub record IsTail (text rest : List ℕ) : Type 0 where
   pub shorter : length rest ≤ length text
   pub ends : rest ≡ drop (length text - length rest) text
   pub utf8 : IsUtf8 rest
   pub whole : IsUtf8 text
 
--- another character than a letter begins a text
+-- Tests whether a text begins with a character other than a letter.
 abbrev pub begins_no_word : List ℕ → Bool
 begins_no_word text = begins (λ c. not (is_letter c)) text
 
--- The word is the letters that begin the text, which no other character begins, and rest is what follows them.
+-- The text is empty or begins with a letter. The word is the letters at its start, and `rest` is what follows them.
 pub record IsWordOf (text word rest : List ℕ) : Type 0 where
   pub begun : begins_no_word (chars text) ≡ false
   pub letters : chars word ≡ take_while is_letter (chars text)
@@ -26,22 +26,22 @@ pub record IsWordOf (text word rest : List ℕ) : Type 0 where
   pub utf8 : IsUtf8 word
   pub tail : IsTail text rest
 
--- how many bytes the whitespace has that begins a rest: those of one character, or none
+-- Returns the number of bytes of the whitespace character at the start of a text, or 0 if there is none.
 abbrev pub whitespace_len : List ℕ → ℕ
 whitespace_len [] = 0
 whitespace_len (c ∷ cs) = if is_whitespace c then len_utf8 c else 0
 
--- The fraction has these digits, of which at most 19 precede the trailing zeros.
+-- The fraction has these digits, at most 19 of them before the trailing zeros.
 pub record AreDigits (f : Fraction) (ds : List ℕ) : Type 0 where
   pub parts : parts_of f ≡ counted ds
   pub few : f.significant ≤ 19
   pub fits : f.significand < 10 ^ f.significant
 
--- one digit too many, whatever follows it
+-- With the digit `c`, there are more than 19 digits before the trailing zeros, whatever follows.
 abbrev pub IsTooLong : List ℕ → ℕ → Type 0
 IsTooLong ds c = (es : List ℕ) → 19 < length (without_trailing_zeros (ds ++ c ∷ es))
 
--- Between the two places stands only whitespace.
+-- There is only whitespace between the two positions.
 pub record SkipsWhitespace (text : List ℕ) (from to : ℕ) : Type 0 where
   pub order : from ≤ to
   pub place : IsCharBoundary text to

@@ -1,4 +1,4 @@
--- What reading one span gives.
+-- The result of parsing one span.
 use Rattle.std.specs.Prelude.{◌≡◌, ◌<◌, length, Option, Some, None, Result, Ok, Err, IfOk, IfErr, chars}
 use Rattle.humantime.specs.declared.duration.cursor.Cursor.{Cursor}
 use Rattle.humantime.specs.declared.duration.error.DurationError.{DurationError}
@@ -12,7 +12,7 @@ use Rattle.humantime.specs.Answers.Spans.{span_view}
 use Rattle.humantime.specs.Answers.Walks.{stop_at}
 use Rattle.humantime.specs.Steps.Cursors.{ahead}
 
--- The span begins at the cursor, and next is the cursor after its word, perhaps after some whitespace that follows.
+-- The span begins at the cursor, and `next` is the cursor after its word, or after some of the whitespace that follows.
 pub record IsSpanAt (start : Cursor) (s : Span) (next : Cursor) : Type 0 where
   pub view : span_view s ≡ view_at (chars start.text.now) (ahead start)
   pub follows : drop_while is_whitespace (ahead next) ≡ drop_while is_whitespace (after_word (ahead start))
@@ -20,12 +20,12 @@ pub record IsSpanAt (start : Cursor) (s : Span) (next : Cursor) : Type 0 where
   pub same_text : next.text.now ≡ start.text.now
   pub place : IsRangeIn start.text.now s.start s.end
 
--- the fault that an error names, if a result is one
+-- Returns the fault of a result, if it is an error.
 abbrev pub stop_of : {X : Type 0} → Result X DurationError → Option Fault
 stop_of (Ok x) = None
 stop_of (Err e) = Some (fault_of e)
 
--- The result is the span at the cursor and the cursor after it, or its fault, which points into the text.
+-- The result is the span at the cursor and the cursor after it, or the error of that span, which points into the text.
 pub record ReadsSpan (start : Cursor) (result : Result (Span × Cursor) DurationError) : Type 0 where
   pub stop : stop_of result ≡ stop_at (chars start.text.now) (ahead start)
   pub place : IfErr result (PointsInto start.text.now)

@@ -9,19 +9,19 @@ use Rattle.humantime.specs.Values.{seconds_per_day, second_of}
 use Rattle.humantime.specs.Timestamps.Fields.{fraction_nanos}
 use Rattle.humantime.specs.Timestamps.Checks.{has_punctuation, has_digits, has_point}
 
--- tests for at least 19 bytes, with punctuation and digits in their places
+-- Tests whether the text has at least 19 bytes, with punctuation and digits at their positions.
 unfoldable pub has_layout : List ℕ → Bool
 has_layout bytes = nat_le 19 (length bytes) && has_punctuation bytes && has_digits bytes
 
--- the nanoseconds of digits after a point, or the error of a byte that is not a digit
+-- The nanoseconds of the digits after a point, or the error of a byte that is not a digit.
 abbrev pub digits_answer : List ℕ → Result ℕ TimestampError
 digits_answer ds = if all_ascii_digits ds then Ok (fraction_nanos ds) else Err InvalidDigit
 
--- the nanoseconds of the bytes between the seconds and the zone, or their error
+-- The nanoseconds of the bytes between the seconds and the zone, or their error.
 abbrev pub fraction_answer : List ℕ → Result ℕ TimestampError
 fraction_answer part = if has_point part then digits_answer (drop 1 part) else Err InvalidFormat
 
--- the moment t is in this second of this date
+-- The moment `t` is in this second of this date.
 pub record IsSecondOf (date : Date) (time : ℕ) (t : ℤ) : Type 0 where
   pub date_exists : IsDate date
   pub within_day : time < seconds_per_day

@@ -18,15 +18,15 @@ ends_in z bytes = ends_with nat_eq bytes (zone_text z)
 abbrev pub ends_in_zone : List ℕ → Bool
 ends_in_zone bytes = ends_in Letter_Z bytes || ends_in Zero_offset bytes
 
--- Gives the zone at the end of the text.
+-- Returns the zone at the end of the text.
 unfoldable pub zone_of : List ℕ → Zone
 zone_of bytes = if ends_in Letter_Z bytes then Letter_Z else (if ends_in Zero_offset bytes then Zero_offset else No_zone)
 
--- Gives the bytes before the zone.
+-- Returns the bytes before the zone.
 abbrev pub before_zone : List ℕ → List ℕ
 before_zone bytes = take (length bytes - length (zone_text (zone_of bytes))) bytes
 
--- Tests for at least 20 bytes, a `T` at byte 10, and a zone at the end.
+-- Tests whether the text has at least 20 bytes, a `T` at byte 10, and a zone at the end.
 unfoldable pub has_t_and_zone : List ℕ → Bool
 has_t_and_zone b = nat_le 20 (length b) && (slice_index b 10 == byte "T") && ends_in_zone b
 
@@ -34,7 +34,7 @@ has_t_and_zone b = nat_le 20 (length b) && (slice_index b 10 == byte "T") && end
 unfoldable pub has_separator : List ℕ → Bool
 has_separator bytes = (slice_index bytes 10 == byte "T") || (slice_index bytes 10 == byte " ")
 
--- Tests for `-`, `-`, a separator, `:` and `:` in their places.
+-- Tests whether the text has `-`, `-`, a separator, `:` and `:` at their positions.
 unfoldable pub has_punctuation : List ℕ → Bool
 has_punctuation bytes =
     (slice_index bytes 4 == byte "-") && (slice_index bytes 7 == byte "-") && has_separator bytes
@@ -48,11 +48,11 @@ has_two bytes k = is_ascii_digit (slice_index bytes k) && is_ascii_digit (slice_
 unfoldable pub has_digits : List ℕ → Bool
 has_digits b = list_all (λ k. has_two b k) (0 ∷ 2 ∷ 5 ∷ 8 ∷ 11 ∷ 14 ∷ 17 ∷ [])
 
--- Gives the number of the bytes from one offset up to another.
+-- Returns the value of the digits from one byte offset to another.
 unfoldable pub number_between : List ℕ → ℕ → ℕ → ℕ
 number_between b from to = decimal_value (slice_range b from to)
 
--- Gives the date and time of the first 19 bytes.
+-- Returns the date and time of the first 19 bytes.
 abbrev pub date_time_of : List ℕ → DateTime
 date_time_of b = record {
   date = record { year = number_between b 0 4; month = number_between b 5 7; day = number_between b 8 10 };
@@ -61,12 +61,12 @@ date_time_of b = record {
   second = number_between b 17 19;
 }
 
--- Tests for a date that exists, and an hour, minute and second of at most 23, 59 and 60.
+-- Tests whether the date exists and hour, minute and second are at most 23, 59 and 60.
 unfoldable pub is_valid_date_time : DateTime → Bool
 is_valid_date_time x =
     is_valid x.date.year x.date.month x.date.day && nat_le x.hour 23 && nat_le x.minute 59 && nat_le x.second 60
 
--- Gives the bytes between the seconds and the zone.
+-- Returns the bytes between the seconds and the zone.
 abbrev pub fraction_part : List ℕ → List ℕ
 fraction_part bytes = before_zone (drop 19 bytes)
 
@@ -74,7 +74,7 @@ fraction_part bytes = before_zone (drop 19 bytes)
 unfoldable pub has_point : List ℕ → Bool
 has_point part = (length part == 0) || (slice_index part 0 == byte ".")
 
--- Lists the checks of the weak form in order, with their errors.
+-- The checks of the weak form in order, each with its error.
 abbrev pub weak_checks : List ℕ → List (Bool × TimestampError)
 weak_checks bytes =
     (nat_le 19 (length bytes), InvalidFormat)
@@ -85,16 +85,16 @@ weak_checks bytes =
     ∷ (all_ascii_digits (drop 1 (fraction_part bytes)), InvalidDigit)
     ∷ []
 
--- Lists the checks of the strict form: `has_t_and_zone`, and then those of the weak form.
+-- The checks of the strict form: `has_t_and_zone`, followed by those of the weak form.
 abbrev pub strict_checks : List ℕ → List (Bool × TimestampError)
 strict_checks bytes = (has_t_and_zone bytes, InvalidFormat) ∷ weak_checks bytes
 
--- Gives the error of the first check that fails, if any does.
+-- Returns the error of the first check that fails, or `None` if none does.
 abbrev pub first_failed : List (Bool × TimestampError) → Option TimestampError
 first_failed [] = None
 first_failed (check ∷ checks) = if check.0 then first_failed checks else Some check.1
 
--- Gives the message of an error.
+-- Returns the message of an error.
 abbrev pub timestamp_message : TimestampError → List ℕ
 timestamp_message OutOfRange = codes "numeric component is out of range"
 timestamp_message InvalidDigit = codes "bad character where digit is expected"

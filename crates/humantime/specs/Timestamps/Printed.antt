@@ -1,15 +1,15 @@
--- The printed text of a moment, truncated to a number of digits. A text is its bytes.
+-- The printed text of a moment, rounded down to a number of fraction digits. A text is its bytes.
 use Rattle.std.specs.Prelude.{◌≡◌, ℕ, ◌-◌, ◌*◌, ◌^◌, ◌≤◌, ◌==◌, if◌then◌else◌, List, length, Some, None, option_map, ℤ, pos, ◌≤ℤ◌, ◌<ℤ◌, ◌-ℤ◌}
 use Rattle.std.specs.Int.{int_rem_euclid}
 use Rattle.humantime.specs.Values.{nanos_per_second, seconds_per_day, nano_of}
 use Rattle.humantime.specs.Timestamps.Fields.{Letter_T, Letter_Z, Fields, IsWeak, moment_of}
 
--- What is printed: a moment, in nanoseconds, and the number of digits of its fraction.
+-- A moment to print, in nanoseconds, and the number of digits of its fraction.
 pub record MomentToPrint : Type 0 where
   pub moment : ℤ
   pub places : ℕ
 
--- Gives the default number of digits: none for a whole second, and nine otherwise.
+-- Returns the default number of digits: none for a whole second, and nine otherwise.
 abbrev pub places_of : ℤ → ℕ
 places_of t = if nano_of t == 0 then 0 else 9
 
@@ -17,7 +17,8 @@ places_of t = if nano_of t == 0 then 0 else 9
 abbrev pub cut : ℤ → ℕ → ℤ
 cut t k = t -ℤ int_rem_euclid t (pos (10 ^ (9 - k)))
 
--- The text represents `t`, rounded down to `k` digits, with a `T`, `Z`, no second 60 and `k` digits, at most nine; without digits there is no point.
+-- The text represents `t`, rounded down to `k` fraction digits, at most nine, with a `T` and `Z`. The second is never 60, and there is no
+-- point if there are no digits.
 pub record IsPrinted (t : ℤ) (k : ℕ) (bytes : List ℕ) : Type 0 where
   pub few : k ≤ 9
   pub fields : Fields
@@ -28,11 +29,11 @@ pub record IsPrinted (t : ℤ) (k : ℕ) (bytes : List ℕ) : Type 0 where
   pub places : option_map length fields.fraction ≡ (if k == 0 then None else Some k)
   pub moment : pos (moment_of fields) ≡ cut t k
 
--- Gives the first moment of the year 10000, which begins 2,932,897 days after 1970-01-01.
+-- The first moment of the year 10000, 2,932,897 days after 1970-01-01.
 abbrev pub year_10000 : ℕ
 year_10000 = 2_932_897 * seconds_per_day * nanos_per_second
 
--- The text is the printed text of a moment, with `k` digits.
+-- The text is the printed text of some moment, with `k` fraction digits.
 abbrev pub IsPrintedWith : ℕ → List ℕ → Type 0
 IsPrintedWith k bytes = (t : ℤ) × IsPrinted t k bytes
 

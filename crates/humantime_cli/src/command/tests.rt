@@ -1,4 +1,4 @@
-//! What `run` writes, and the status that it returns.
+//! Tests of what `run` writes and of the status that it returns.
 
 mod callers;
 mod failures;
@@ -23,13 +23,13 @@ const NIGHTS: &str =
 const GREEK: &str =
     "unknown time unit \"\u{3bc}\", supported units: ns, us/µs, ms, sec, min, hours, days, weeks, months, years (and few variations)\n";
 
-/// Asserts that these are equal after a run with these words.
+/// Asserts that two values are equal after a run with these arguments.
 fn assert_same<T: PartialEq + Debug + Drop>(rt: &impl Abort, left: T, right: T, words: &[&str]) {
     assert_eq!(rt; left, right, "after {words:?}");
 }
 
-/// Asserts that the words end with this status, that the line goes to `out` where the status is 0 and else to `err`, and that
-/// nothing is written to the other.
+/// Asserts that a run with these arguments returns this status and writes this line, to `out` if the status is 0 and to `err` otherwise,
+/// and nothing to the other writer.
 fn assert_answered(rt: &impl Abort, words: &[&str], status: u8, line: &str) {
     let (mut out, mut err) = (Limited::open(), Limited::open());
     assert_same(rt, run(words, &mut out, &mut err), status, words);
@@ -42,7 +42,7 @@ fn assert_answered(rt: &impl Abort, words: &[&str], status: u8, line: &str) {
     assert_same(rt, other.requests, 0, words);
 }
 
-/// Asserts that a command ends with this status at each text, and writes this line.
+/// Asserts that a command returns this status and writes this line for each text.
 fn assert_lines(rt: &impl Abort, command: &str, status: u8, rows: &[(&str, &str)]) {
     for (text, line) in rows {
         assert_answered(rt, &[command, *text], status, line);
@@ -149,8 +149,8 @@ fn other_words_get_the_usage(rt: HostRuntime) {
     }
 }
 
-/// Asserts what the program answers to a number of seconds with ten thousand digits after the point: these two are the digit
-/// before the point and the last digit, and all others are zeros.
+/// Asserts the status and the output for a number of seconds with ten thousand fraction digits: `first` is the digit before the point,
+/// `last` is the last digit, and all others are zeros.
 fn assert_long_fraction(rt: &impl Abort, first: u8, last: u8, status: u8, line: &str) {
     let mut bytes = [b'0'; 10_003];
     bytes[0] = first;

@@ -1,4 +1,4 @@
-//! What a user is told of a settings line that is refused: what is wrong, and the line with a mark under the fault.
+//! The message for a settings line that is rejected: the reason, and the line with a mark under the error.
 
 ghost use Rattle.std.specs.Prelude.{◌++◌, codes};
 ghost use Rattle.std.specs.Fmt.{WritesOnOk};
@@ -7,10 +7,10 @@ ghost use Rattle.humantime_examples.specs.Marks.{blank};
 use super::{LineError, LineFault};
 use std::fmt;
 
-/// Writes what is wrong with which key, the line, and a mark under the fault, with no line feed behind it.
+/// Writes the key, the reason, the line, and a mark under the error, without a line feed at the end.
 ///
-/// The mark stands under the character at the fault, not so many columns to the right as bytes stand before it: a terminal
-/// shows characters. A tab before the fault is a tab before the mark. Characters of two columns or of none move the mark.
+/// The mark is under the character at the error, which may be fewer columns to the right than there are bytes before it. A tab before the
+/// error is a tab before the mark. Characters that are two columns wide, or none, move the mark.
 impl fmt::Display for LineError<'_> {
     ghost use Rattle.std.specs.Prelude.{Some};
     ghost use Rattle.humantime_examples.specs.SettingErrors.{error_text};
@@ -45,7 +45,7 @@ impl fmt::Display for LineFault<'_> {
     }
 }
 
-/// Writes a tab for each tab of a text, a space for each other character, and a mark behind them.
+/// Writes a tab for each tab of a text and a space for each other character, followed by a mark.
 fn write_mark<W: fmt::Write>(text: &str, f: &mut fmt::Formatter<W>) -> fmt::Result
     ensures { WritesOnOk W.write_str_gives f.old result (blank text.now ++ codes "^") f.new }
 {

@@ -1,4 +1,4 @@
-//! Values of std's time as values of this crate, and back.
+//! Conversions between std's values of time and those of this crate.
 
 ghost use Rattle.std.specs.Prelude.{◌≡◌, ◌↔◌, ◌≤ℤ◌, chars, pos, SomeIff, IsSome, IfSome};
 ghost use Rattle.std.specs.Time.{FitsClock, system_time_nanos};
@@ -38,7 +38,7 @@ pub fn parse_to_std(text: &str) -> Result<time::Duration, DurationError<'_>>
     Ok(to_std(parse_duration(text)?))
 }
 
-/// Returns a moment as a `SystemTime` of std, which has none before 1970.
+/// Returns a moment as a `SystemTime` of std, or `None` before 1970.
 pub fn to_std_time(moment: SystemTime) -> Option<time::SystemTime>
     ensures within { IsSome result ↔ (pos 0 ≤ℤ moment) }
     ensures time { IfSome result (λ time. pos (system_time_nanos time) ≡ moment) }

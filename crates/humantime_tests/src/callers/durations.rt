@@ -1,4 +1,4 @@
-//! Limits, ends and places of errors: callers of what reads and prints durations.
+//! Limits, sums and offsets of errors: callers that parse and print durations.
 
 ghost use Rattle.std.specs.Prelude.{◌≡◌, ◌+◌, ◌*◌, ◌/◌, ◌<◌, ◌≤◌, ◌↔◌, ℕ, List, [], chars, drop, slice_range, IfSome, IsSome, IsOk, IsOkAnd, IsErrAnd, IsTrue, Ok, Err, Some};
 ghost use Rattle.std.specs.Result.{result_map_both};

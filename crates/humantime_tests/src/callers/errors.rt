@@ -1,4 +1,4 @@
-//! Errors in an error of one's own, and in a message.
+//! Errors of this crate in an error type of the caller, and in a message.
 
 ghost use Rattle.std.specs.Prelude.{◌≡◌, ◌++◌, ◌+ℤ◌, ◌<ℤ◌, ℕ, ℤ, pos, chars, codes, string_bytes, IfOk, IsOkAnd, List, Some, SomeIff, Ok, Err};
 ghost use Rattle.humantime.specs.declared.TimestampError.{TimestampError};
@@ -48,7 +48,7 @@ impl<'a> From<DurationError<'a>> for LineError<'a> {
     }
 }
 
-/// Returns the moment a time limit after a start, or `None` if no `SystemTime` represents it.
+/// Returns the moment at which a time limit after a start ends, or `None` if no `SystemTime` represents it.
 pub fn deadline<'a>(start: &str, limit: &'a str) -> Result<Option<SystemTime>, LineError<'a>>
     ensures end { (t : ℤ) (v : ℕ) → strict_answer start.now ≡ Ok t → duration_answer (chars limit.now) ≡ Ok v → IsOkAnd result (λ end. SomeIff end ((t +ℤ pos v) <ℤ moment_end) (t +ℤ pos v)) }
     ensures start { (e : TimestampError) → strict_answer start.now ≡ Err e → result ≡ Err (Start e) }

@@ -1,4 +1,4 @@
-//! The spans of a text in a loop.
+//! A loop over the spans of a text.
 
 ghost use Rattle.std.specs.Prelude.{◌≡◌, ◌↔◌, List, Result, chars, Err, IfOk};
 ghost use Rattle.humantime.specs.Prelude.{AreItems, Fault, SpanView, duration_answer, result_view};
@@ -6,7 +6,7 @@ ghost use Rattle.humantime_tests.specs.Longest.{longest_of};
 
 use humantime::{DurationError, StdDuration, parse_duration, spans};
 
-/// Returns the longest span of a duration, each span parsed alone, or the error of the text.
+/// Returns the longest span of a duration, each span parsed on its own, or the error of the text.
 pub fn longest_span(text: &str) -> Result<StdDuration, DurationError<'_>>
     ensures longest { IfOk result (λ longest. (items : List (Result SpanView Fault)) × AreItems (chars text.now) items × (longest ≡ longest_of text.now items)) }
     ensures fault { (e : Fault) → (result_view result ≡ Err e) ↔ (duration_answer (chars text.now) ≡ Err e) }

@@ -1,4 +1,4 @@
-//! Lines of a log: callers of what reads, prints and orders timestamps.
+//! Lines of a log: callers that parse, print and compare timestamps.
 
 ghost use Rattle.std.specs.Prelude.{◌≡◌, ◌*◌, ◌++◌, ◌↔◌, ◌<ℤ◌, ◌≤ℤ◌, ℕ, ℤ, List, pos, ◌+ℤ◌, codes, IsTrue, IsSome, IsSomeAnd, IfSome, IfOk, IsOkAnd, Ok, Err, string_bytes, true};
 ghost use Rattle.std.specs.Ordering.{int_cmp};
@@ -37,7 +37,7 @@ pub fn is_same_moment(text: &str, other: &str) -> bool
     parse_rfc3339_weak(text) == parse_rfc3339_weak(other)
 }
 
-/// Returns the timestamp that begins a line, with milliseconds, or `None` outside 1970 to 9999.
+/// Returns the timestamp at the start of a line, with milliseconds, or `None` outside 1970 to 9999.
 pub fn stamp_of<'b>(moment: SystemTime, buf: &'b mut [u8; 30]) -> Option<&'b str>
     ensures within { IsSome result ↔ IsPrintable moment }
     ensures text { IfSome result (λ text. IsPrinted moment 3 text.now) }
@@ -53,7 +53,7 @@ pub fn is_earlier(stamp: &str, other: &str) -> bool
     stamp < other
 }
 
-/// Returns `true` if a text is a stamp that `stamp_of` returns: it is the one that is printed of the moment that it is parsed to.
+/// Returns `true` if a text is a stamp that `stamp_of` returns: the printed text of the moment that it parses to.
 pub fn is_stamp(text: &str) -> bool
     ensures { IsTrue result ↔ IsPrintedWith 3 text.now }
 {
@@ -66,7 +66,7 @@ pub fn is_stamp(text: &str) -> bool
     }
 }
 
-/// Compares two such stamps by their bytes, which are ordered as the moments that they are parsed to. Returns `None` for other texts.
+/// Compares two such stamps by their bytes, which are ordered like the moments that they denote. Returns `None` for other texts.
 pub fn compare_stamps(stamp: &str, other: &str) -> Option<Ordering>
     ensures within { IsSome result ↔ (IsPrintedWith 3 stamp.now × IsPrintedWith 3 other.now) }
     ensures order { (a : ℤ) (b : ℤ) → strict_answer stamp.now ≡ Ok a → strict_answer other.now ≡ Ok b → IfSome result (λ order. order ≡ int_cmp a b) }
@@ -89,7 +89,7 @@ pub fn sortable_stamp<'b>(
     Ok(format_rfc3339_millis(parse_rfc3339_weak(text)?).text(buf))
 }
 
-/// Returns `true` if a text in strict form is parsed to the same moment by the weak parser, which it always is.
+/// Returns `true` if the weak parser returns the same moment for a text in the strict form, which it always does.
 pub fn is_read_weakly_too(text: &str) -> bool
     ensures { result ≡ true }
 {
@@ -108,7 +108,7 @@ pub fn is_text_before(a: SystemTime, b: SystemTime) -> bool
     format_rfc3339_nanos(a).text(&mut [0; 30]) < format_rfc3339_nanos(b).text(&mut [0; 30])
 }
 
-/// Returns a line that says how long and since when a file was kept, or `None` outside 1970 to 9999.
+/// Returns a line that says how long a file was kept, and since when, or `None` outside 1970 to 9999.
 pub fn age_line(
     alloc: Global,
     kept: StdDuration,
@@ -124,14 +124,14 @@ pub fn age_line(
 
 /// Returns a moment as a `String`, by `Display`.
 ///
-/// Outside 1970 to 9999 it returns an error. The contract cannot say so: `format!` promises nothing of a `Display` that fails.
+/// Outside 1970 to 9999 it returns an error. The contract cannot say so, since `format!` does not specify its result if a `Display` fails.
 pub fn stamp_string(alloc: Global, moment: SystemTime) -> Result<String, AllocError>
     ensures { IsPrintable moment → IfOk result (λ s. IsPrinted moment 3 (string_bytes s)) }
 {
     format!(in alloc; "{}", format_rfc3339_millis(moment))
 }
 
-/// Returns the moment from which lines are kept by default.
+/// Returns the default for the first moment whose lines are kept.
 pub fn default_start() -> Result<SystemTime, TimestampError>
     ensures { result ≡ Ok (pos (1_518_568_087 * nanos_per_second)) }
 {

@@ -1,4 +1,4 @@
-//! What follows from the law of days, and from what a date and its day are.
+//! Conclusions from the law of days, and from the definition of a date's day.
 
 ghost use Rattle.std.specs.Prelude.{◌≡◌, ◌↔◌, ◌≤◌, ◌∷◌, [], true, Some, None};
 ghost use Rattle.humantime.specs.declared.Date.{Date};
@@ -18,7 +18,7 @@ pub fn days_of(a: Date, b: Date, turns: &mut Turns) -> (Option<u32>, Option<u32>
     (day, day_number(b, turns))
 }
 
-/// Returns the date of a date's day, which is that date.
+/// Returns the date of the day of a date, which is the same date.
 pub fn date_comes_back(date: Date, turns: &mut Turns) -> Option<Date>
     ensures { IsDate date → result ≡ Some date }
 {
@@ -27,7 +27,7 @@ pub fn date_comes_back(date: Date, turns: &mut Turns) -> Option<Date>
     date_of_day(day, turns)
 }
 
-/// Returns the day of a day's date, which is that day.
+/// Returns the day of the date of a day, which is the same day.
 pub fn day_comes_back(day: u32, turns: &mut Turns) -> Option<u32>
     ensures { day ≤ 2_932_896 → result ≡ Some day }
 {
@@ -47,7 +47,7 @@ pub fn leap_day_is_of_leap_years(year: u32, turns: &mut Turns) -> bool
     day_number(leap_day, turns).is_some() == is_leap_year
 }
 
-/// Returns the days of the first leap day, of a 30 February and of the last date.
+/// Returns the day numbers of the first leap day, of a 30 February and of the last date.
 #[tactic(auto, unfolding(humantime::specs::Calendar::days_of_years, humantime::specs::Calendar::days_of_months))]
 pub fn days_by_computation(turns: &mut Turns) -> [Option<u32>; 3]
     ensures { result ≡ (Some 789 ∷ None ∷ Some 2_932_896 ∷ []) }

@@ -15,8 +15,8 @@ use std::alloc::{AllocError, Global};
 
 type Item<'a> = Option<Result<humantime::Span<'a>, DurationError<'a>>>;
 
-/// Returns the whole seconds of the value with which a text is accepted, or its first error. A text never has both, its spans have
-/// one sum, and they stop in one way.
+/// Returns the whole seconds of the value with which a text is accepted, or its first error. A text never has both, its spans have one sum,
+/// and one error stops them, if any.
 pub fn whole_seconds(text: &str) -> Result<u64, DurationError<'_>>
     ensures value { (v : ℕ) → Accepted (chars text.now) v → result_view result ≡ Ok (v / nanos_per_second) }
     ensures fault { (e : Fault) → HasFault (chars text.now) e → result_view result ≡ Err e }
@@ -28,8 +28,8 @@ pub fn whole_seconds(text: &str) -> Result<u64, DurationError<'_>>
     limit_seconds(text)
 }
 
-/// Returns the duration that a text denotes, or its first error, as its items and their limits decide, and as the table of first
-/// errors says. A text that older rules accepted is still accepted, and keeps its value.
+/// Returns the duration that a text denotes, or its first error, as determined by its items and their limits and by the table of first
+/// errors. A text that was accepted by older rules is still accepted with the same value.
 pub fn decided(text: &str) -> Result<StdDuration, DurationError<'_>>
     ensures accepted { (ss : List SpelledSpan) (stop : Option Fault) → Items (chars text.now) ss stop → chars text.now ≢ bare_zero → (v : ℕ) → (result_view result ≡ Ok v) ↔ ((stop ≡ None) × WithinLimits ss × (value ss ≡ v)) }
     ensures stopped { (ss : List SpelledSpan) (e : Fault) → Items (chars text.now) ss (Some e) → chars text.now ≢ bare_zero → WithinLimits ss → result_view result ≡ Err e }
@@ -43,8 +43,8 @@ pub fn decided(text: &str) -> Result<StdDuration, DurationError<'_>>
     parse_duration(text)
 }
 
-/// Returns what parsing a text returns, and the first items of two iterators over its spans. These borrow the same of the text, or
-/// are the same error, and then parsing returns that error.
+/// Returns the result of parsing a text, and the first items of two iterators over its spans. These items are equal, and if they are an
+/// error, so is the result.
 pub fn answer_and_first_items(
     text: &str,
 ) -> (Result<StdDuration, DurationError<'_>>, Item<'_>, Item<'_>)
@@ -56,8 +56,7 @@ pub fn answer_and_first_items(
     (parse_duration(text), spans(text).next(), spans(text).next())
 }
 
-/// Returns the canonical text of a duration: there is no other, and it has at most 64 bytes. It has at most 11 months and at most
-/// 30 days.
+/// Returns the canonical text of a duration. There is exactly one, and it has at most 64 bytes, 11 months and 30 days.
 pub fn canonical_text<'b>(duration: StdDuration, buf: &'b mut [u8; 64]) -> &'b str
     ensures only { (bytes : List ℕ) → IsCanonicalText duration bytes → result.now ≡ bytes }
     ensures short { length result.now ≤ 64 }
@@ -76,7 +75,7 @@ pub fn read_back(text: &str, duration: StdDuration) -> Result<StdDuration, Durat
     parse_duration(text)
 }
 
-/// Parses the canonical text of a text, and returns its own canonical text: the value of the text, and the same text.
+/// Parses the canonical text of a text, which returns the value of the text, and returns its canonical text, which is the same text.
 pub fn settled<'a, 'b>(
     text: &str,
     shown: &'a str,
@@ -103,7 +102,7 @@ pub fn canonical_form<'a, 'b>(
     canonical(text, buf)
 }
 
-/// Returns the canonical text of a text's canonical text, which is the same text.
+/// Returns the canonical text of the canonical text of a text, which is the same text.
 pub fn canonical_twice<'b>(text: &str, buf: &'b mut [u8; 64]) -> Option<&'b str>
     ensures { (t : List ℕ) → (option_map (λ twice. twice.now) result ≡ Some t) ↔ (canonical_answer (chars text.now) ≡ Ok t) }
 {
@@ -119,8 +118,7 @@ pub fn duration_string(alloc: Global, duration: StdDuration) -> Result<String, A
     format!(in alloc; "{}", format_duration(duration))
 }
 
-/// Returns the sum of two accepted texts, parsed from one after the other: it is accepted exactly if the additions have room, and
-/// is too large otherwise.
+/// Parses two accepted texts that were joined. The result is their sum exactly if no addition overflows, and an overflow otherwise.
 pub fn sum_of<'a>(a: &str, b: &str, both: &'a str) -> Result<StdDuration, DurationError<'a>>
     ensures sum { (ss : List SpelledSpan) (ts : List SpelledSpan) (u : ℕ) (v : ℕ) → Reads (chars a.now) ss → Reads (chars b.now) ts → Accepted (chars a.now) u → Accepted (chars b.now) v → both.now ≡ a.now ++ b.now → (result_view result ≡ Ok (u + v)) ↔ AllHaveRoom (additions ss ++ additions ts) }
     ensures overflow { (ss : List SpelledSpan) (ts : List SpelledSpan) (u : ℕ) (v : ℕ) → Reads (chars a.now) ss → Reads (chars b.now) ts → Accepted (chars a.now) u → Accepted (chars b.now) v → both.now ≡ a.now ++ b.now → (result_view result ≡ Err NumberOverflow) ↔ ¬ (AllHaveRoom (additions ss ++ additions ts)) }
@@ -131,7 +129,7 @@ pub fn sum_of<'a>(a: &str, b: &str, both: &'a str) -> Result<StdDuration, Durati
     parse_duration(both)
 }
 
-/// Parses two texts with the same spans in another order, which have the same value if both are accepted.
+/// Parses two texts with the same spans in a different order, which have the same value if both are accepted.
 pub fn read_alike<'a, 'b>(
     a: &'a str,
     b: &'b str,

@@ -1,4 +1,4 @@
-//! Callers that use what an error says of its text: its offsets, its unit, its fault and its message.
+//! Callers that use what an error says about its text: its offsets, its unit, its fault and its message.
 
 ghost use Rattle.std.specs.Prelude.{◌≡◌, ◌++◌, ◌∷◌, false, ℕ, List, [], None, Some, Err, chars, codes, decimal, true, IfOk, string_bytes};
 ghost use Rattle.humantime.specs.Prelude.{Empty, InvalidCharacter, NumberExpected, NumberOverflow, PointsInto, UnknownUnit, duration_answer, fault_of, result_view};
@@ -37,7 +37,7 @@ pub fn points_into(text: &str) -> bool
     }
 }
 
-/// Returns `true` if the second item of a text, where it is an error, points into the text.
+/// Returns `true` if the second item of a text, if it is an error, points into the text.
 pub fn second_points_into(text: &str) -> bool
     ensures { result ≡ true }
 {
@@ -49,7 +49,7 @@ pub fn second_points_into(text: &str) -> bool
     }
 }
 
-/// Returns `true` if the error of a text points into it where the text is to be printed in canonical form.
+/// Returns `true` if the error that `canonical` returns for a text points into the text.
 pub fn canonical_points_into(text: &str) -> bool
     ensures { result ≡ true }
 {
@@ -74,8 +74,8 @@ pub fn place(text: &str) -> Option<usize>
     }
 }
 
-/// Parses a text. If it has only whitespace, or begins with a character that is neither a digit nor whitespace, the table of
-/// first errors says which error is returned.
+/// Parses a text. If the text is only whitespace, or begins with a character that is neither a digit nor whitespace, the table of first
+/// errors determines the error.
 pub fn parse_from_number(text: &str) -> Result<StdDuration, DurationError<'_>>
     ensures empty { Only is_whitespace (chars text.now) → result_view result ≡ Err Empty }
     ensures number { (c : ℕ) (cs : List ℕ) → chars text.now ≡ c ∷ cs → is_digit c ≡ false → is_whitespace c ≡ false → result_view result ≡ Err (NumberExpected 0) }

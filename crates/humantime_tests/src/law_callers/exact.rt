@@ -1,4 +1,4 @@
-//! Callers that return what a call returns, and promise its value and its error exactly, as it does; and turns, as they count them.
+//! Callers that promise exactly the value and the error of the call that they make, and the number of turns that it counts.
 
 ghost use Rattle.std.specs.Prelude.{◌≡◌, ◌↔◌, ◌+◌, ◌≤◌, ℕ, ℤ, List, chars, Ok, Err, Some};
 ghost use Rattle.humantime.specs.Prelude.{Accepted, Fault, HasFault, IsCanonicalOf, IsStrictMoment, IsWeakMoment, first_failed, result_view, strict_checks, text_result_view, weak_checks};
@@ -9,7 +9,7 @@ use humantime::{
     canonical, date_of_day, parse_duration, parse_rfc3339, parse_rfc3339_weak,
 };
 
-/// Returns the duration that a text is accepted as, or its first error.
+/// Returns the duration that a text denotes, or its first error.
 pub fn duration(text: &str) -> Result<StdDuration, DurationError<'_>>
     ensures value { (v : ℕ) → (result_view result ≡ Ok v) ↔ Accepted (chars text.now) v }
     ensures fault { (e : Fault) → (result_view result ≡ Err e) ↔ HasFault (chars text.now) e }
@@ -17,7 +17,7 @@ pub fn duration(text: &str) -> Result<StdDuration, DurationError<'_>>
     parse_duration(text)
 }
 
-/// Returns the limit that a text is accepted as, or its first error.
+/// Returns the limit that a text denotes, or its first error.
 pub fn limit(text: &str) -> Result<Duration, DurationError<'_>>
     ensures value { (v : ℕ) → (result_view result ≡ Ok v) ↔ Accepted (chars text.now) v }
     ensures fault { (e : Fault) → (result_view result ≡ Err e) ↔ HasFault (chars text.now) e }
@@ -36,7 +36,7 @@ pub fn canonical_of<'a, 'b>(
     canonical(text, buf)
 }
 
-/// Returns the moment that a text denotes in strict form, or the error of the first check that it fails.
+/// Returns the moment that a text denotes in the strict form, or the error of the first check that fails.
 pub fn strict_moment(text: &str) -> Result<SystemTime, TimestampError>
     ensures value { (t : ℤ) → (result ≡ Ok t) ↔ IsStrictMoment text.now t }
     ensures error { (e : TimestampError) → (result ≡ Err e) ↔ (first_failed (strict_checks text.now) ≡ Some e) }
@@ -44,7 +44,7 @@ pub fn strict_moment(text: &str) -> Result<SystemTime, TimestampError>
     parse_rfc3339(text)
 }
 
-/// Returns the moment that a text denotes in weak form, or the error of the first check that it fails.
+/// Returns the moment that a text denotes in the weak form, or the error of the first check that fails.
 pub fn weak_moment(text: &str) -> Result<SystemTime, TimestampError>
     ensures value { (t : ℤ) → (result ≡ Ok t) ↔ IsWeakMoment text.now t }
     ensures error { (e : TimestampError) → (result ≡ Err e) ↔ (first_failed (weak_checks text.now) ≡ Some e) }
@@ -52,7 +52,7 @@ pub fn weak_moment(text: &str) -> Result<SystemTime, TimestampError>
     parse_rfc3339_weak(text)
 }
 
-/// Returns the timestamp that a text denotes in weak form, or the error of the first check that it fails.
+/// Returns the timestamp that a text denotes in the weak form, or the error of the first check that fails.
 pub fn timestamp(text: &str) -> Result<Timestamp, TimestampError>
     ensures value { (t : ℤ) → (result ≡ Ok t) ↔ IsWeakMoment text.now t }
     ensures error { (e : TimestampError) → (result ≡ Err e) ↔ (first_failed (weak_checks text.now) ≡ Some e) }
@@ -60,7 +60,7 @@ pub fn timestamp(text: &str) -> Result<Timestamp, TimestampError>
     text.parse()
 }
 
-/// Returns the date of a day, or the last date if it is after 9999-12-31. It takes twelve turns.
+/// Returns the date of a day, or the last date if the day is after 9999-12-31, and counts twelve turns.
 pub fn date_or_last(day: u32, turns: &mut Turns) -> Option<Date>
     ensures { turns.new ≡ turns.old + 12 }
 {
@@ -70,7 +70,7 @@ pub fn date_or_last(day: u32, turns: &mut Turns) -> Option<Date>
     }
 }
 
-/// Returns the date of a day, and the turns that it takes: at most twelve.
+/// Returns the date of a day, and the turns that were counted, at most twelve.
 pub fn date_and_turns(day: u32) -> (Option<Date>, Turns)
     ensures { result.1 ≤ 12 }
 {
@@ -79,7 +79,7 @@ pub fn date_and_turns(day: u32) -> (Option<Date>, Turns)
     (date, turns)
 }
 
-/// Returns the date of a day, which takes at most twelve turns.
+/// Returns the date of a day, and counts at most twelve turns.
 pub fn date(day: u32, turns: &mut Turns) -> Option<Date>
     ensures { turns.new ≤ turns.old + 12 }
 {

@@ -1,4 +1,4 @@
-//! Callers that write values by `Display`, in lines and in columns of tables. Width and fill do not change the texts.
+//! Callers that write values with `Display`, in lines and in columns of tables. Width and fill do not change the texts.
 
 ghost use Rattle.std.specs.Prelude.{◌≡◌, ◌++◌, ℕ, List, Some, Err, IsOk, IfOk, codes, string_bytes};
 ghost use Rattle.std.specs.Fmt.{fmt_error};
@@ -11,21 +11,21 @@ use humantime::{
 use std::alloc::{AllocError, Global};
 use std::fmt::{self, Display};
 
-/// Returns a line that says which limit holds, and from when on.
+/// Returns a line with a limit and the moment from which it applies.
 pub fn limit_line(alloc: Global, limit: Duration, at: Timestamp) -> Result<String, AllocError>
     ensures { (from : List ℕ) → shortest_text at ≡ Some from → IfOk result (λ line. string_bytes line ≡ duration_text limit ++ (codes " from " ++ from)) }
 {
     format!(in alloc; "{limit} from {at}")
 }
 
-/// Returns a row of a table: how long something took, and its limit.
+/// Returns a row of a table: the time that something took, and its limit.
 pub fn limits_row(alloc: Global, took: StdDuration, limit: Duration) -> Result<String, AllocError>
     ensures { IfOk result (λ row. string_bytes row ≡ duration_text took ++ (codes " of " ++ duration_text limit)) }
 {
     format!(in alloc; "{:>80} of {limit:-<9}", format_duration(took))
 }
 
-/// Returns a row of a table: what is wrong with a limit, and with a start.
+/// Returns a row of a table: the errors of a limit and of a start.
 pub fn errors_row(
     alloc: Global,
     limit: &DurationError<'_>,
@@ -47,7 +47,7 @@ pub fn stamps_row(
     format!(in alloc; "{start:>40} to {end:.3}")
 }
 
-/// Writes a stamp and a line feed. For a moment outside 1970 to 9999 it writes nothing.
+/// Writes a stamp and a line feed, or nothing for a moment outside 1970 to 9999.
 pub fn write_stamp<W: fmt::Write>(
     stamp: &Rfc3339Timestamp,
     f: &mut fmt::Formatter<W>,
@@ -60,7 +60,7 @@ pub fn write_stamp<W: fmt::Write>(
     f.write_str("\n")
 }
 
-/// Writes a timestamp and a line feed. Where it returns `Ok`, the moment is in 1970 to 9999.
+/// Writes a timestamp and a line feed. If it returns `Ok`, the moment is in 1970 to 9999.
 pub fn write_timestamp<W: fmt::Write>(at: Timestamp, f: &mut fmt::Formatter<W>) -> fmt::Result
     ensures within { IsOk result → IsPrintable at }
 {

@@ -1,5 +1,4 @@
-//! Callers of laws that say the same of what a text spells or shows, and of what is returned: each uses the one and promises the
-//! other.
+//! Callers of laws that hold both for the text and for the result of parsing it: each uses one form and promises the other.
 
 ghost use Rattle.std.specs.Prelude.{◌≡◌, ◌≢◌, ◌+◌, ◌/◌, ◌++◌, ◌∷◌, [], ◌↔◌, ◌⊎◌, ◌<ℤ◌, ◌≤ℤ◌, ◌+ℤ◌, pos, ℕ, ℤ, List, Option, Result, None, Some, Ok, Err, chars, option_map, IfSome, IsOkAnd, IsPermutation, IsSome, IsTrue};
 ghost use Rattle.humantime.specs.declared.Date.{Date};
@@ -26,7 +25,7 @@ pub fn squeezed<'a>(text: &str, squeezed: &'a str) -> Result<StdDuration, Durati
     parse_duration(squeezed)
 }
 
-/// Parses two accepted texts, one after the other, which have the sum of their values or are too large.
+/// Parses two accepted texts that were joined, which returns the sum of their values or an overflow.
 pub fn sum_or_too_large<'a>(
     a: &str,
     b: &str,
@@ -38,7 +37,7 @@ pub fn sum_or_too_large<'a>(
     parse_duration(both)
 }
 
-/// Parses two accepted texts with the same spans in another order, which returns the same.
+/// Parses two accepted texts with the same spans in a different order, which have the same value.
 pub fn both_alike<'a, 'b>(
     a: &'a str,
     b: &'b str,
@@ -52,7 +51,7 @@ pub fn both_alike<'a, 'b>(
     (parse_duration(a), parse_duration(b))
 }
 
-/// Returns the whole seconds of a text that older rules accepted.
+/// Returns the whole seconds of a text that was accepted by older rules.
 pub fn seconds_as_before(text: &str) -> Result<u64, DurationError<'_>>
     ensures { (v : ℕ) → AcceptedWithZeros (chars text.now) v → result_view result ≡ Ok (v / nanos_per_second) }
 {
@@ -60,7 +59,7 @@ pub fn seconds_as_before(text: &str) -> Result<u64, DurationError<'_>>
     limit_seconds(text)
 }
 
-/// Returns the duration of a text by some spans of it, if it is not exactly `0`: their sum if nothing stops them and they are within
+/// Returns the duration of a text, other than exactly `0`, as determined by its spans: their sum if no error stops them and they are within
 /// the limits.
 pub fn by_its_spans(text: &str) -> Result<StdDuration, DurationError<'_>>
     ensures { chars text.now ≢ bare_zero → (ss : List SpelledSpan) × (stop : Option Fault) × Items (chars text.now) ss stop × ((v : ℕ) → (result_view result ≡ Ok v) ↔ ((stop ≡ None) × WithinLimits ss × (value ss ≡ v))) }
@@ -69,7 +68,7 @@ pub fn by_its_spans(text: &str) -> Result<StdDuration, DurationError<'_>>
     parse_duration(text)
 }
 
-/// Parses a text that has an error as its only item, which returns that error.
+/// Parses a text whose only item is an error, which returns that error.
 pub fn only_error(text: &str) -> Result<StdDuration, DurationError<'_>>
     ensures { (e : Fault) → chars text.now ≢ bare_zero → ((items : List (Result SpanView Fault)) → AreItems (chars text.now) items → items ≡ Err e ∷ []) → result_view result ≡ Err e }
 {
@@ -78,7 +77,7 @@ pub fn only_error(text: &str) -> Result<StdDuration, DurationError<'_>>
     parse_duration(text)
 }
 
-/// Returns `true` if two canonical texts are equal, which those of equal durations are alone.
+/// Returns `true` if two canonical texts are equal, which they are exactly if their durations are.
 pub fn is_same_duration(text: &str, other: &str, a: StdDuration, b: StdDuration) -> bool
     ensures { IsCanonicalText a text.now → IsCanonicalText b other.now → (IsTrue result ↔ (a ≡ b)) }
 {
@@ -86,7 +85,7 @@ pub fn is_same_duration(text: &str, other: &str, a: StdDuration, b: StdDuration)
     text == other
 }
 
-/// Parses the canonical text of a text, as `canonical` returns it: the value of the text.
+/// Parses the canonical text that `canonical` returns for a text, which has the value of the text.
 pub fn value_of_shown<'a>(text: &str, shown: &'a str) -> Result<StdDuration, DurationError<'a>>
     ensures { (v : ℕ) → duration_answer (chars text.now) ≡ Ok v → canonical_answer (chars text.now) ≡ Ok shown.now → result_view result ≡ Ok v }
 {
@@ -102,7 +101,7 @@ pub fn canonical_if_accepted<'b>(text: &str, buf: &'b mut [u8; 64]) -> Option<&'
     canonical_twice(text, buf)
 }
 
-/// Returns what `canonical` says is wrong with a text.
+/// Returns the error that `canonical` returns for a text, if any.
 fn error_of_canonical(text: &str) -> Option<DurationError<'_>>
     ensures { (e : Fault) → (option_map (λ error. fault_of error) result ≡ Some e) ↔ (canonical_answer (chars text.now) ≡ Err e) }
 {
@@ -117,8 +116,8 @@ pub fn first_error(text: &str) -> Option<DurationError<'_>>
     error_of_canonical(text)
 }
 
-/// Returns the moment `time` after the one that a text shows, `None` if no `SystemTime` represents it, or the error of the first check
-/// that the text fails.
+/// Returns the moment `time` after the one that a text denotes, `None` if no `SystemTime` represents it, or the error of the first check
+/// that fails.
 pub fn later_than_shown(text: &str, time: StdDuration) -> Result<Option<SystemTime>, TimestampError>
     ensures moment { (t : ℤ) → IsWeakMoment text.now t → IsOkAnd result (λ later. (IsSome later ↔ ((t +ℤ pos time) <ℤ moment_end)) × IfSome later (λ moment. moment ≡ t +ℤ pos time)) }
     ensures error { (e : TimestampError) → (result ≡ Err e) ↔ (first_failed (weak_checks text.now) ≡ Some e) }
@@ -127,8 +126,7 @@ pub fn later_than_shown(text: &str, time: StdDuration) -> Result<Option<SystemTi
     later_than(text, time)
 }
 
-/// Returns `true` if the moment that a line's text shows in strict form is not before `from`, or the error of the first check that it
-/// fails.
+/// Returns `true` if the moment that a text denotes in the strict form is not before `from`, or the error of the first check that fails.
 pub fn is_shown_since(stamp: &str, from: SystemTime) -> Result<bool, TimestampError>
     ensures value { (t : ℤ) → IsStrictMoment stamp.now t → IsOkAnd result (λ since. IsTrue since ↔ (from ≤ℤ t)) }
     ensures error { (e : TimestampError) → (result ≡ Err e) ↔ (first_failed (strict_checks stamp.now) ≡ Some e) }
@@ -137,7 +135,7 @@ pub fn is_shown_since(stamp: &str, from: SystemTime) -> Result<bool, TimestampEr
     is_since(stamp, from)
 }
 
-/// Returns the text of a timestamp, which shows its moment in both forms, cut to its digits.
+/// Returns the text of a timestamp, which denotes the moment, rounded down, in both forms.
 pub fn text_that_reads<'b>(stamp: &Rfc3339Timestamp, buf: &'b mut [u8; 30]) -> Option<&'b str>
     ensures { IfSome result (λ text. ReadsAs text.now (cut stamp.now.moment stamp.now.places)) }
 {
@@ -145,7 +143,7 @@ pub fn text_that_reads<'b>(stamp: &Rfc3339Timestamp, buf: &'b mut [u8; 30]) -> O
     stamp.text(buf)
 }
 
-/// Returns the date of a day, if some date has that day.
+/// Returns the date of a day, if it exists.
 pub fn date_if_any(day: u32, turns: &mut Turns) -> Option<Date>
     ensures { (d : Date) → IsDate d → day_of d ≡ day → IsSome result }
 {

@@ -1,4 +1,4 @@
-//! Callers that use what spans borrow from their text, and where they stop.
+//! Callers that use what spans borrow from their text, and the offset of the error that stops them.
 
 ghost use Rattle.std.specs.Prelude.{◌≡◌, ◌++◌, ℕ, List, Option, Result, chars, length, option_map, true, IfSome};
 ghost use Rattle.std.specs.Option.{option_and_then};
@@ -27,7 +27,7 @@ pub fn first_number(text: &str) -> Option<&str>
     Some(first_span(text)?.number())
 }
 
-/// Returns the fraction of the first span of a text, which begins and ends with a digit, if there is one.
+/// Returns the fraction of the first span of a text, if there is one. It begins and ends with a digit.
 pub fn first_fraction(text: &str) -> Option<&str>
     ensures fraction { (items : List (Result SpanView Fault)) × AreItems (chars text.now) items × (option_map (λ fraction. chars fraction.now) result ≡ option_and_then (λ span. span.fraction) (first_span items)) }
     ensures digits { IfSome result (λ fraction. (begins is_digit (chars fraction.now) ≡ true) × (ends is_digit (chars fraction.now) ≡ true)) }
@@ -49,7 +49,7 @@ pub fn first_unit(text: &str) -> Option<&str>
     Some(first_span(text)?.unit())
 }
 
-/// Splits a text where its spans stop: into the part before the error, and the rest.
+/// Splits a text at the offset of its error, into the part before the error and the rest.
 pub fn split_at_error(text: &str) -> (&str, &str)
     ensures whole { result.0.now ++ result.1.now ≡ text.now }
     ensures at { (items : List (Result SpanView Fault)) × AreItems (chars text.now) items × (length result.0.now ≡ stop_of (length text.now) (first_error items)) }

@@ -1,4 +1,4 @@
-//! What the laws of timestamps come to, and what moments and their texts are. `callers::timestamps` has two more.
+//! Conclusions from the laws of timestamps, and from the definitions of moments and their texts. `callers::timestamps` has two more.
 
 ghost use Rattle.std.specs.Prelude.{◌≡◌, ◌<◌, ◌↔◌, ◌<ℤ◌, ◌≤ℤ◌, ◌∷◌, [], ℕ, ℤ, pos, Ok, Err, None, Some, true, length, unwrap_or, IsTrue, IfOk, IfSome, IsSome, SomeIff, codes, ◌++◌, string_bytes};
 ghost use Rattle.std.specs.Ordering.{int_cmp};
@@ -15,7 +15,7 @@ use std::alloc::{AllocError, Global};
 use std::cmp::Ordering;
 use std::fmt::{self, Display};
 
-/// Returns `true` if a text in weak form is one in strict form, by its `T` and its zone alone.
+/// Returns `true` if a text in the weak form is also in the strict form, as its `T` and its zone determine.
 pub fn is_marked(text: &str) -> bool
     ensures parts { (f : Fields) → IsWeak text.now f → (IsTrue result ↔ IsStrict text.now f) }
     ensures moment { (t : ℤ) → IsWeakMoment text.now t → (IsTrue result ↔ IsStrictMoment text.now t) }
@@ -26,7 +26,7 @@ pub fn is_marked(text: &str) -> bool
     bytes.len() > 10 && bytes[10] == b'T' && (bytes.ends_with(b"Z") || bytes.ends_with(b"+00:00"))
 }
 
-/// Returns what both parsers return for the text of a moment with nine digits: that moment.
+/// Returns the results of both parsers for the text of a moment with nine digits, which are that moment.
 pub fn read_back(
     moment: SystemTime,
     text: &str,
@@ -66,7 +66,7 @@ pub fn micros_stamp(moment: SystemTime, buf: &mut [u8; 30]) -> Option<&str>
     format_rfc3339_micros(moment).text(buf)
 }
 
-/// Writes a line of a log: a moment, a space and a text. For a moment outside 1970 to 9999 it writes nothing.
+/// Writes a line of a log: a moment, a space and a text. It writes nothing for a moment outside 1970 to 9999.
 pub fn write_line<W: fmt::Write>(
     at: Timestamp,
     text: &str,
@@ -93,7 +93,7 @@ pub fn text_again<'b>(
     shown.text(buf)
 }
 
-/// Returns what `Display` writes for it, which is that text.
+/// Returns what `Display` writes for the timestamp, which is the same text.
 pub fn string_again(
     alloc: Global,
     shown: &Rfc3339Timestamp,
@@ -105,7 +105,7 @@ pub fn string_again(
     format!(in alloc; "{}", *shown)
 }
 
-/// Compares two texts with equally many digits, which are ordered as their moments are, rounded down.
+/// Compares two texts with the same number of digits, which are ordered like their moments, rounded down.
 pub fn order_of_texts(text: &str, other: &str, a: SystemTime, b: SystemTime) -> Ordering
     ensures { (k : ℕ) → IsPrinted a k text.now → IsPrinted b k other.now → result ≡ int_cmp (cut a k) (cut b k) }
 {
@@ -113,7 +113,7 @@ pub fn order_of_texts(text: &str, other: &str, a: SystemTime, b: SystemTime) -> 
     text.cmp(other)
 }
 
-/// Returns the errors of the weak checks, in their order, and of the strict one. Each text fails later checks too, if it can.
+/// Returns the errors of the weak checks in order, followed by that of the strict check. Each text also fails later checks, if it can.
 #[tactic(auto, unfolding(humantime::proofs::TimestampsOnLiterals::timestamps_on_literals))]
 pub fn first_errors() -> [Result<SystemTime, TimestampError>; 7]
     ensures { result ≡ (Err TimestampError.InvalidFormat ∷ Err TimestampError.InvalidFormat ∷ Err TimestampError.InvalidDigit ∷ Err TimestampError.OutOfRange ∷ Err TimestampError.InvalidFormat ∷ Err TimestampError.InvalidDigit ∷ Err TimestampError.InvalidFormat ∷ []) }
@@ -129,8 +129,8 @@ pub fn first_errors() -> [Result<SystemTime, TimestampError>; 7]
     ]
 }
 
-/// Returns `true` if `parse::<Timestamp>` returns what the weak parser returns, which it always does. A text in weak form fails
-/// no check, and its fraction has one number of digits.
+/// Returns `true` if `parse::<Timestamp>` returns what the weak parser returns, which it always does. A text in the weak form fails no
+/// check, and the number of its fraction digits is unique.
 pub fn is_parsed_weakly(text: &str) -> bool
     ensures alike { result ≡ true }
     ensures fraction { (f : Fields) (g : Fields) → IsWeak text.now f → IsWeak text.now g → length (unwrap_or f.fraction []) ≡ length (unwrap_or g.fraction []) }
@@ -140,7 +140,7 @@ pub fn is_parsed_weakly(text: &str) -> bool
     text.parse::<Timestamp>().map(SystemTime::from) == parse_rfc3339_weak(text)
 }
 
-/// Returns `true` if a text is a timestamp in strict form. Such a text has one hour, and fails no check.
+/// Returns `true` if a text is a timestamp in the strict form. Such a text has exactly one hour, and fails no check.
 pub fn is_strict(text: &str) -> bool
     ensures form { IsTrue result ↔ ((f : Fields) × IsStrict text.now f) }
     ensures hour { (f : Fields) (g : Fields) → IsStrict text.now f → IsStrict text.now g → f.hour ≡ g.hour }
@@ -150,7 +150,7 @@ pub fn is_strict(text: &str) -> bool
     parse_rfc3339(text).is_ok()
 }
 
-/// Returns the length of a moment's shortest text: 20 for a whole second, else 30; or `None` outside 1970 to 9999.
+/// Returns the length of the shortest text of a moment: 20 for a whole second, and otherwise 30; or `None` outside 1970 to 9999.
 #[tactic(auto, using(std::proofs::lemmas::Bool::Decides::nat_tests))]
 pub fn shortest_length(moment: SystemTime) -> Option<usize>
     ensures within { IsSome result ↔ ((pos 0 ≤ℤ moment) × (moment <ℤ pos 253_402_300_800_000_000_000)) }
@@ -163,7 +163,7 @@ pub fn shortest_length(moment: SystemTime) -> Option<usize>
     }
 }
 
-/// Creates a moment from seconds and nanoseconds, and returns its seconds and nanoseconds, which are these.
+/// Creates a moment from seconds and nanoseconds, and returns its seconds and nanoseconds, which are the same.
 pub fn parts_come_back(secs: i64, nanos: u32) -> Option<(i64, u32)>
     ensures { nanos < 1_000_000_000 → result ≡ Some (secs, nanos) }
 {

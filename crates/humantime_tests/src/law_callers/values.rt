@@ -1,4 +1,4 @@
-//! Callers that use what durations, moments and dates say of themselves.
+//! Callers that use the contracts of durations, moments and dates.
 
 ghost use Rattle.std.specs.Prelude.{◌≡◌, ◌+◌, ◌-◌, ◌*◌, ◌/◌, ◌%◌, ◌^◌, ◌<◌, ◌≤◌, ◌≤ℤ◌, ◌+ℤ◌, ◌↔◌, ℕ, List, pos, chars, IsSome, IfSome, IsSomeAnd, Err};
 ghost use Rattle.humantime.specs.Prelude.{IsCanonicalText, IsDate, UnknownUnit, day_of, duration_answer, nanos_per_second};
@@ -14,7 +14,7 @@ pub fn micros_text(micros: u64, buf: &mut [u8; 64]) -> &str
     format_duration(StdDuration::from_micros(micros)).text(buf)
 }
 
-/// Returns the text of a duration of seconds and nanoseconds, as a protocol has them, or `None` if that is too long.
+/// Returns the text of a duration of seconds and nanoseconds, as in a protocol, or `None` if it is too long.
 pub fn parts_text(secs: u64, nanos: u32, buf: &mut [u8; 64]) -> Option<&str>
     ensures within { IsSome result ↔ (secs + nanos / nanos_per_second < 2 ^ 64) }
     ensures text { IfSome result (λ text. IsCanonicalText (secs * nanos_per_second + nanos) text.now) }
@@ -22,7 +22,7 @@ pub fn parts_text(secs: u64, nanos: u32, buf: &mut [u8; 64]) -> Option<&str>
     Some(format_duration(StdDuration::checked_new(secs, nanos)?).text(buf))
 }
 
-/// Returns the seconds and the nanoseconds of a duration, which `StdDuration::new` may be called with, and what it then returns.
+/// Returns the seconds and the nanoseconds of a duration, which meet the precondition of `StdDuration::new`, and what it returns for them.
 pub fn parts_and_duration(duration: StdDuration) -> (u64, u32, StdDuration)
     ensures seconds { result.0 ≡ duration / nanos_per_second }
     ensures nanoseconds { result.1 ≡ duration % nanos_per_second }
@@ -40,7 +40,7 @@ pub fn default_text() -> &'static str
     "2h 37m"
 }
 
-/// Returns the time between two moments, whichever is the later one.
+/// Returns the time between two moments, whichever is later.
 pub fn distance(a: SystemTime, b: SystemTime) -> StdDuration
     ensures later { b ≤ℤ a → a ≡ b +ℤ pos result }
     ensures earlier { a ≤ℤ b → b ≡ a +ℤ pos result }
@@ -51,7 +51,7 @@ pub fn distance(a: SystemTime, b: SystemTime) -> StdDuration
     }
 }
 
-/// Returns the number of days from one date to a later one. It counts no turns.
+/// Returns the number of days from a date to a later one. No turns are counted.
 pub fn days_between(from: Date, to: Date, turns: &mut Turns) -> Option<u32>
     ensures within { IsSome result ↔ (IsDate from × IsDate to × (day_of from ≤ day_of to)) }
     ensures days { IfSome result (λ days. days ≡ day_of to - day_of from) }
@@ -61,7 +61,7 @@ pub fn days_between(from: Date, to: Date, turns: &mut Turns) -> Option<u32>
     day_number(to, turns)?.checked_sub(first)
 }
 
-/// Returns the unknown unit of a text, sliced from it at the error's offsets.
+/// Returns the unknown unit of a text, as the slice between the offsets of the error.
 pub fn unknown_unit(text: &str) -> Option<&str>
     ensures unit { (start : ℕ) (end : ℕ) (unit : List ℕ) (value : ℕ) → duration_answer (chars text.now) ≡ Err (UnknownUnit start end unit value) → IsSomeAnd result (λ found. found.now ≡ unit) }
     ensures only { IfSome result (λ found. (start : ℕ) × (end : ℕ) × (value : ℕ) × (duration_answer (chars text.now) ≡ Err (UnknownUnit start end found.now value))) }

@@ -1,4 +1,4 @@
-//! Callers that use what the wrappers and the printers hold.
+//! Callers that use the values in wrappers and printers.
 
 ghost use Rattle.std.specs.Prelude.{◌≡◌, ◌+◌, ◌/◌, ◌<◌, ◌+ℤ◌, ◌<ℤ◌, ◌≤ℤ◌, ◌≤◌, ◌↔◌, pos, IsTrue, SomeIff};
 ghost use Rattle.humantime.specs.Prelude.{duration_end, moment_end, nanos_per_second, second_of};
@@ -31,7 +31,7 @@ pub fn postponed(stamp: Timestamp, by: Duration) -> Option<Timestamp>
     Some(Timestamp::from(later))
 }
 
-/// Returns the whole seconds of a timestamp, as a number from 1970 on.
+/// Returns the whole seconds of a timestamp since 1970.
 pub fn seconds_of(stamp: Timestamp) -> i64
     ensures { result ≡ second_of stamp }
 {
@@ -52,7 +52,7 @@ pub fn is_shown_since(stamp: &Rfc3339Timestamp, from: SystemTime) -> bool
     from <= *stamp.get_ref()
 }
 
-/// Returns the number of bytes in a line that take any timestamp: date and time, a point, the digits and `Z`.
+/// Returns the number of bytes that the longest timestamp takes: date and time, a point, the digits and `Z`.
 pub fn room_for(stamp: &Rfc3339Timestamp) -> usize
     ensures { 21 + stamp.now.places ≤ result }
 {

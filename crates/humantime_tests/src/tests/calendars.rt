@@ -1,11 +1,11 @@
-//! The counted calendar beside the library's.
+//! Tests that compare the counted calendar with the library's.
 
 use crate::counted_calendar::{counted_date, counted_day};
 use crate::tests::assert_same;
 use humantime::{Date, Turns, date_of_day, day_number};
 use std::process::Abort;
 
-/// Dates, and the numbers of their days.
+/// Dates and their day numbers.
 const DAYS: &[(u32, u32, u32, u32)] = &[
     (1970, 1, 1, 0),
     (1972, 2, 29, 789),
@@ -19,7 +19,7 @@ const DAYS: &[(u32, u32, u32, u32)] = &[
     (9999, 12, 31, 2_932_896),
 ];
 
-/// Asserts that both calendars say that the date has this day, and the day this date.
+/// Asserts that both calendars convert the date to this day, and the day to this date.
 fn assert_day(rt: &impl Abort, date: Date, day: Option<u32>) {
     let mut turns = Turns::new();
     let days = (day_number(date, &mut turns), counted_day(date));
@@ -70,10 +70,10 @@ fn both_calendars_refuse_what_is_no_date(rt: HostRuntime) {
     }
 }
 
-/// The lengths of the months, but for February.
+/// The lengths of the months, except for February.
 const LENGTHS: [u32; 12] = [31, 0, 31, 30, 31, 30, 31, 31, 30, 31, 30, 31];
 
-/// Years, the numbers of their first days, and the lengths of their Februaries.
+/// Years, the day numbers of their first days, and the lengths of their Februaries.
 const YEARS: &[(u32, u32, u32)] = &[
     (1970, 0, 28),
     (1972, 730, 29),

@@ -1,4 +1,4 @@
-//! The callers of CALLING.md that allocate nothing.
+//! Tests of the callers in CALLING.md that do not allocate.
 
 use crate::callers::calendar::{days_after, weekday};
 use crate::callers::clock::{from_std, from_std_duration, parse_to_std, to_std, to_std_time};

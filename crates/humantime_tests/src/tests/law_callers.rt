@@ -1,4 +1,4 @@
-//! The callers of laws and definitions that allocate nothing.
+//! Tests of the callers of laws and definitions that do not allocate.
 
 use crate::law_callers::durations::{canonical_form, canonical_twice, decided, sum_of};
 use crate::law_callers::spans::{
@@ -31,7 +31,7 @@ fn the_first_span_is_borrowed(rt: HostRuntime) {
     assert_same(&rt, values, [Some(12), None]);
 }
 
-/// Texts, split where their spans stop.
+/// Texts, split at their errors.
 const SPLIT: &[(&str, &str, &str)] = &[
     ("2h 37min", "2h 37min", ""),
     ("2h 37mi", "2h 37", "mi"),

@@ -1,4 +1,4 @@
-//! The callers that allocate.
+//! Tests of the callers that allocate.
 
 use crate::callers::errors::{deadline, message};
 use crate::callers::timestamps::{age_line, stamp_string};

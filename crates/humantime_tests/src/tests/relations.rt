@@ -1,4 +1,4 @@
-//! The callers of laws in both words.
+//! Tests of the callers of laws in both forms.
 
 use crate::law_callers::errors::canonical_points_into;
 use crate::law_callers::exact::{canonical_of, date_and_turns, date_or_last, limit, timestamp};

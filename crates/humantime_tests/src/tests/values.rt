@@ -1,4 +1,4 @@
-//! What values of the library answer: items after the last one, comparisons, and copies.
+//! Tests of the library's values: items after the last one, comparisons and copies.
 
 use crate::tests::{assert_same, moment};
 use humantime::DurationError::NumberExpected;

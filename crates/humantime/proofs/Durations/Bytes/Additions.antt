@@ -9,7 +9,7 @@ use Rattle.humantime.specs.Steps.Scales.{Counted, parts_of, IsAmountOf}
 use Rattle.humantime.specs.Steps.Adding.{add_times, add_part}
 use Rattle.humantime.proofs.Durations.Reading.SignificantDigits.{amount_kept}
 
--- the sum with a fraction after an addition, if there is a fraction
+-- The sum with a fraction, if there is one, after an addition.
 abbrev pub then_add : Option ℕ → Option Addition → Option Counted → Option ℕ
 then_add None x fraction = None
 then_add (Some t) x None = Some t

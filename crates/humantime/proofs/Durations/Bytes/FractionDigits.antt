@@ -1,4 +1,4 @@
--- Reading a fraction digit by digit.
+-- Parsing a fraction digit by digit.
 use Rattle.std.proofs.Common.{◌≡◌, ◌≢◌, ◌≤◌, ◌<◌, ◌+◌, ◌-◌, ◌*◌, ◌^◌, ℕ, List, [], ◌∷◌, ◌++◌, length, ap, ◌∙◌, arith, length-append, true, refl}
 use Rattle.std.proofs.lemmas.Bool.{ne_eqb}
 use Rattle.std.proofs.lemmas.Nat.{pow-add}
@@ -11,7 +11,7 @@ use Rattle.humantime.specs.Steps.Scanning.{AreDigits}
 use Rattle.humantime.proofs.Durations.Bytes.Numbers.{digit_range, value_more}
 use Rattle.humantime.proofs.Durations.Reading.SignificantDigits.{significant_shorter, significant_zero, significant_long, significant_last, value_shifted}
 
--- a number of so many digits fits, shifted by some places and with a digit more, where all are at most 19
+-- A number of `n` digits, shifted by `k` digits and with another digit added, fits.
 pub shifted_fits : (v n k d p : ℕ) → v < 10 ^ n → d ≤ 9 → 1 ≤ k → p ≡ 10 ^ k → v * p + d < 10 ^ (n + k)
 shifted_fits v n k d p fits digit more power =
     let some : 10 ≤ 10 ^ k = pow-le-pow_right {n = 10} (omega arith) {i = 1} {j = k} more in
@@ -22,20 +22,20 @@ pub push_fits : (v n k d p : ℕ) → v < 10 ^ n → d ≤ 9 → 1 ≤ k → p �
 push_fits v n k d p fits digit more power few =
     omega (arith, shifted_fits v n k d p fits digit more power, pow-le-pow_right {n = 10} (omega arith) {i = n + k} {j = 19} few)
 
--- the digits before the trailing zeros are no more than all
+-- There are no more digits before the trailing zeros than in all.
 pub fewer : (f : Fraction) (ds : List ℕ) → AreDigits f ds → f.significant ≤ f.len
 fewer f ds h = omega (arith, ap (λ (x : Counted). x.1) h.parts, ap (λ (x : Counted). x.2) h.parts, significant_shorter ds)
 
--- where none is read
+-- The fraction without digits.
 pub no_digits : AreDigits (record { significand = 0; significant = 0; len = 0 }) []
 unfolding without_trailing_zeros
 no_digits = record { parts = refl; few = omega arith; fits = omega arith }
 
--- a zero is one zero more
+-- Another zero is a trailing zero.
 pub zero_more : (ds : List ℕ) (c : ℕ) → c ≡ 48 → without_trailing_zeros (ds ++ c ∷ []) ≡ without_trailing_zeros ds
 zero_more ds c e = rw e (significant_zero ds)
 
--- another digit follows the zeros
+-- Another digit follows the zeros.
 pub digit_more : (f : Fraction) (ds : List ℕ) (c p : ℕ) → AreDigits f ds → is_digit c ≡ true → c ≢ 48 → f.len + 1 ≤ 19 → p ≡ 10 ^ (f.len + 1 - f.significant)
     → AreDigits (record { significand = f.significand * p + (c - 48); significant = f.len + 1; len = f.len + 1 }) (ds ++ c ∷ [])
 digit_more f ds c p h is some few power =
@@ -56,6 +56,6 @@ digit_more f ds c p h is some few power =
       fits = rw sum at (shifted_fits _ _ _ (c - 48) p h.fits (omega (arith, digit_range c is)) (omega (arith, within)) power);
     }
 
--- behind 19 digits it is one too many
+-- A digit other than 0 after 19 digits exceeds the limit.
 pub one_too_many : (ds es : List ℕ) (c : ℕ) → c ≢ 48 → 19 ≤ length ds → 19 < length (without_trailing_zeros (ds ++ c ∷ es))
 one_too_many ds es c some full = omega (arith, full, significant_long ds es c (ne_eqb c 48 some))

@@ -1,4 +1,4 @@
--- Reading the digits that begin a text, one by one.
+-- Parsing the digits at the start of a text, one by one.
 use Rattle.std.proofs.Common.{◌≡◌, ◌≤◌, ◌<◌, ◌+◌, ◌-◌, ◌*◌, ◌%◌, ℕ, List, [], ◌∷◌, ◌++◌, ap, sym, ◌∙◌, arith, append_assoc, append-nil, true, false, chars, take, drop, get_or, length, IsUtf8, IsCharBoundary, refl}
 use Rattle.std.specs.Char.{digit_value, is_ascii_digit}
 use Rattle.std.specs.Str.Parse.{digits_value_after}
@@ -15,7 +15,7 @@ use Rattle.humantime.proofs.Durations.Bytes.Tails.{front_is, no_bytes}
 use Rattle.humantime.proofs.Durations.Reading.Classes.{digit_is, digit_is_numeric, whitespace_is_numeric, whitespace_not_digit}
 use Rattle.humantime.proofs.Durations.Reading.SignificantDigits.{value-append}
 
--- The digits are those that begin a text before a place, and others may follow.
+-- The digits are those at the start of a text before an offset, and others may follow.
 pub record IsRead (text : List ℕ) (at : ℕ) (ds : List ℕ) : Type 0 where
   pub place : IsCharBoundary text at
   pub all : number_of (chars text) ≡ ds ++ number_of (chars (drop at text))
@@ -51,13 +51,13 @@ no_numeric rest d w = grind arith
 none_there : (rest : List ℕ) → begins is_numeric rest ≡ false → (number_of rest ≡ []) × (after_number rest ≡ rest)
 none_there rest e = grind arith
 
--- no digit and no whitespace stands at this place
+-- There is neither a digit nor whitespace at this offset.
 pub stops_here : (text bytes : List ℕ) (at : ℕ) → IsUtf8 text → bytes ≡ text → at < length bytes → IsCharBoundary text at → is_ascii_digit (get_or bytes at 0) ≡ false
     → ¬ (0 < whitespace_len (chars (drop at text))) → begins is_numeric (chars (drop at text)) ≡ false
 stops_here text bytes at u same some place d w =
     no_numeric _ (sym (digit_at text at u (rw same at some, place)) ∙ rw same at d) (no_whitespace _ w)
 
--- all digits of a run are read where neither a digit nor whitespace follows
+-- All digits of a run are parsed if neither a digit nor whitespace follows.
 pub run_is_read : (start end : Cursor) (at : ℕ) (slice ds : List ℕ) → IsRead start.rest.now at ds → begins is_numeric (chars (drop at start.rest.now)) ≡ false
     → slice ≡ take at start.rest.now → end.rest.now ≡ drop at start.rest.now → end.text.now ≡ start.text.now
     → (number_of (ahead start) ≡ ds) × IsNumericRun start slice end
@@ -69,16 +69,16 @@ run_is_read start end at slice ds h ended front rest same =
       record { run = rw front (front_is is_numeric text at start.tail.utf8 h.place after); behind = rw rest after; same_text = same },
     )
 
--- a byte that is no digit leaves more than nine where 48 is taken from it, in 64 bits
+-- A byte is not a digit if subtracting 48 from it, in 64 bits, leaves more than nine.
 pub other_left : (c : ℕ) → c < 256 → 9 < (c + 18446744073709551568) % 18446744073709551616 → is_ascii_digit c ≡ false
 other_left c fits many = let other : ¬ ((48 ≤ c) × (c ≤ 57)) = λ d. omega (arith, fits, many, d.0, d.1) in grind (arith, nat_tests)
 
--- the first byte of a text that begins with a digit
+-- The range of the bytes of digits.
 pub digit_range : (c : ℕ) → is_digit c ≡ true → (48 ≤ c) × (c ≤ 57)
 unfolding is_digit
 digit_range c d = grind (arith, nat_tests)
 
--- the first byte of a text that begins with a digit
+-- The first byte of a text that begins with a digit.
 pub first_digit : (text bytes : List ℕ) → IsUtf8 text → bytes ≡ text → begins is_digit (chars text) ≡ true
     → (0 < length bytes) × (48 ≤ get_or bytes 0 0) × (is_ascii_digit (get_or bytes 0 0) ≡ true)
 first_digit text bytes u same d =
@@ -92,7 +92,7 @@ digit_counts c d = omega (arith, digit_value_digit c (digit_range c d), digit_ra
 pub value_more : (ds : List ℕ) (c : ℕ) → is_digit c ≡ true → decimal_value (ds ++ c ∷ []) ≡ decimal_value ds * 10 + (c - 48)
 value_more ds c d = value-append 0 ds (c ∷ []) ∙ ap (λ (n : ℕ). decimal_value ds * 10 + n) (digit_counts c d)
 
--- one digit more is read
+-- Another digit is parsed.
 pub digit_more : (text bytes : List ℕ) (at : ℕ) (ds : List ℕ) → IsUtf8 text → bytes ≡ text → at < length bytes → IsRead text at ds
     → get_or bytes at 0 < 256 → (get_or bytes at 0 + 18446744073709551568) % 18446744073709551616 ≤ 9
     → let more = ds ++ get_or bytes at 0 ∷ [] in IsRead text (at + 1) more × (decimal_value more ≡ decimal_value ds * 10 + (get_or bytes at 0 + 18446744073709551568) % 18446744073709551616)
@@ -102,7 +102,7 @@ digit_more text bytes at ds u same some h fits few =
     let digit : is_ascii_digit c ≡ true = grind (arith, nat_tests) in
     (read_digit text bytes at ds u same some h digit, omega (arith, value_more ds c (sym (digit_is c) ∙ digit), range, fits, few))
 
--- digits only make a value greater
+-- Further digits do not make a value smaller.
 pub value_grows : (n : ℕ) (ds : List ℕ) → n ≤ digits_value_after 10 n ds
 value_grows n [] = omega arith
 value_grows n (d ∷ ds) = omega (arith, value_grows (n * 10 + digit_value d) ds)
@@ -110,6 +110,6 @@ value_grows n (d ∷ ds) = omega (arith, value_grows (n * 10 + digit_value d) ds
 pub value_greater : (ds es : List ℕ) → decimal_value ds ≤ decimal_value (ds ++ es)
 value_greater ds es = rw (value-append 0 ds es) (value_grows (decimal_value ds) es)
 
--- a number that is too large with some of its digits is too large
+-- A number that is too large with some of its digits is too large with all of them.
 pub number_passes : (text : List ℕ) (at : ℕ) (ds : List ℕ) → IsRead text at ds → u64_max < decimal_value ds → u64_max < decimal_value (number_of (chars text))
 number_passes text at ds h over = omega (arith, over, value_greater ds (number_of (chars (drop at text))), ap decimal_value h.all)

@@ -1,4 +1,4 @@
--- Places in a text, and the character that stands at one.
+-- Offsets in a text, and the characters at them.
 use Rattle.std.proofs.lemmas.Grind.{common_steps}
 use Rattle.std.proofs.Common.{◌≡◌, ◌≢◌, ◌<◌, ◌≤◌, ◌+◌, ℕ, List, [], ◌∷◌, ◌++◌, length, get_or, drop, refl, ap, sym, ◌∙◌, arith, length-drop, IsUtf8, IsCharBoundary, chars, encode_utf8, encode_utf8_all, Bool, true, false, inl, inr}
 use Rattle.std.specs.Prelude.{◌==◌, ◌&&◌, ◌||◌, Some, None, slice_get, if◌then◌else◌}
@@ -17,7 +17,7 @@ use Rattle.humantime.specs.Answers.Walks.{ends_span}
 use Rattle.humantime.proofs.Durations.Bytes.Tails.{no_bytes}
 use Rattle.humantime.proofs.Durations.Reading.Classes.{digit_is, digit_not_whitespace, whitespace_is_numeric, is_point-46, letter_not_whitespace, wide_no_digit, whitespace_is, ascii_letter, alphabetic_is_ascii}
 
--- The character at a place, and what follows it.
+-- The character at an offset, and the offset after it.
 pub record IsCharAt (text : List ℕ) (at char next : ℕ) : Type 0 where
   pub bytes : drop at text ≡ encode_utf8 char ++ drop next text
   pub ahead : chars (drop at text) ≡ char ∷ chars (drop next text)
@@ -60,14 +60,14 @@ char_at text at u here = by (chars rest) (encodes-chars rest utf8)
           },
         )
 
--- a byte of ASCII is a character
+-- An ASCII byte is a character.
 pub ascii_at : (text : List ℕ) (at : ℕ) → IsUtf8 text → IsPlaceIn text at → get_or text at 0 < 128 → IsCharAt text at (get_or text at 0) (at + 1)
 ascii_at text at u here small =
     let c = char_at text at u here in
     let here : IsCharAt text at (get_or text at 0) (at + len_utf8 (get_or text at 0)) = rw (c.1.ascii small) at c.1 in
     rw (len_utf8_ascii (get_or text at 0) small) at here
 
--- a digit stands where its byte does
+-- There is a digit at an offset exactly if its byte is one.
 pub digit_at : (text : List ℕ) (at : ℕ) → IsUtf8 text → IsPlaceIn text at → is_ascii_digit (get_or text at 0) ≡ begins is_digit (chars (drop at text))
 digit_at text at u here =
     let c = char_at text at u here in
@@ -76,12 +76,12 @@ digit_at text at u here =
       | inr large ↦ wide_no_digit _ large ∙ sym (wide_no_digit _ (c.1.wide large))
     ])
 
--- a digit is one byte
+-- A digit is one byte.
 pub digit_over : (text : List ℕ) (at : ℕ) → IsUtf8 text → IsPlaceIn text at → is_ascii_digit (get_or text at 0) ≡ true
     → (is_digit (get_or text at 0) ≡ true) × IsCharAt text at (get_or text at 0) (at + 1)
 digit_over text at u here d = (sym (digit_is _) ∙ d, ascii_at text at u here (grind (arith, wide_no_digit)))
 
--- whitespace at a place is a character of its width
+-- Whitespace at an offset is a character of its length.
 pub whitespace_over : (text : List ℕ) (at next : ℕ) → IsUtf8 text → IsPlaceIn text at → 0 < whitespace_len (chars (drop at text))
     → next ≡ at + whitespace_len (chars (drop at text)) → (c : ℕ) × (is_whitespace c ≡ true) × IsCharAt text at c next
 whitespace_over text at next u here some n = let c = char_at text at u here in grind arith
@@ -89,7 +89,7 @@ whitespace_over text at next u here some n = let c = char_at text at u here in g
 pub no_whitespace : (cs : List ℕ) → ¬ (0 < whitespace_len cs) → begins is_whitespace cs ≡ false
 no_whitespace cs none = grind (arith, len_utf8_bounds)
 
--- the whitespace that begins a text is its first character, if that is whitespace
+-- The whitespace at the start of a text is its first character, if that is whitespace.
 pub first_width : (cs : List ℕ) (c : ℕ) (white : Bool) → Some c ≡ slice_get cs 0 → white ≡ std_is_whitespace c
     → (if white then len_utf8 c else 0) ≡ whitespace_len cs
 first_width [] c white e w = cc
@@ -99,16 +99,16 @@ pub none_width : (cs : List ℕ) → None ≡ slice_get cs 0 → 0 ≡ whitespac
 none_width [] e = refl
 none_width (d ∷ ds) e = cc
 
--- what does not begin so is past what begins so
+-- Nothing is dropped from a text that does not begin with a character of the class.
 pub ends_there : (p : ℕ → Bool) (rest : List ℕ) → begins p rest ≡ false → rest ≡ drop_while p rest
 ends_there p rest e = grind arith
 
--- whitespace does not begin with a digit
+-- A text that begins with a digit has no leading whitespace.
 pub digit_stays : (cs : List ℕ) → begins is_digit cs ≡ true → cs ≡ drop_while is_whitespace cs
 digit_stays [] d = refl
 digit_stays (c ∷ cs) d = ends_there is_whitespace (c ∷ cs) (digit_not_whitespace c d)
 
--- a text begins with a point where its first byte is one
+-- A text begins with a point only if its first byte is one.
 pub no_point : (text : List ℕ) → IsUtf8 text → get_or text 0 0 ≢ 46 → begins is_point (chars text) ≡ false
 unfolding is_point
 no_point text u other = elim (cases_lt 0 (length text)) [
@@ -119,7 +119,7 @@ no_point text u other = elim (cases_lt 0 (length text)) [
   | inr none ↦ rw (no_bytes text (omega arith)) refl
 ]
 
--- what follows the point, and its place
+-- The text after the point, and its offset.
 pub point_over : (text : List ℕ) → IsUtf8 text → 0 < length text → get_or text 0 0 ≡ 46
     → IsCharBoundary text 1 × (after_point (chars text) ≡ Some (chars (drop 1 text)))
 point_over text u some e =
@@ -128,7 +128,7 @@ point_over text u some e =
 
 -- ---- letters
 
--- a pair of bytes is that of the micro sign, or that of the Greek letter mu
+-- Tests whether two bytes are the micro sign or the Greek letter mu.
 abbrev pub is_mu_pair : ℕ → ℕ → Bool
 is_mu_pair first second = (first == 0xc2 && second == 0xb5) || (first == 0xce && second == 0xbc)
 
@@ -143,7 +143,7 @@ mu_bytes = refl
 two_bytes : (text : List ℕ) (at : ℕ) → at + 1 < length text → drop at text ≡ get_or text at 0 ∷ get_or text (at + 1) 0 ∷ drop (at + 2) text
 two_bytes text at some = grind (arith, common_steps)
 
--- a character of two bytes stands where they do
+-- A character of two bytes is at an offset if its bytes are.
 two_over : (text : List ℕ) (at c x y : ℕ) → IsUtf8 text → IsCharBoundary text at → at + 1 < length text
     → get_or text at 0 ≡ x → get_or text (at + 1) 0 ≡ y
     → encode_utf8 c ≡ x ∷ y ∷ [] → IsCharAt text at c (at + len_utf8 c)
@@ -153,7 +153,7 @@ two_over text at c x y u place some first second spelled =
     sym d.1.bytes ∙ two_bytes text at some ∙ rw (first, second, spelled) refl in
     rw (encode_same d.0 c (drop (at + len_utf8 d.0) text) (drop (at + 2) text) bytes).0 at d.1
 
--- over either of the two letters beyond ASCII
+-- Passing one of the two letters that are not ASCII.
 pub mu_over : (text : List ℕ) (at : ℕ) → IsUtf8 text → IsCharBoundary text at → at + 1 < length text
     → is_mu_pair (get_or text at 0) (get_or text (at + 1) 0) ≡ true
     → (c : ℕ) × (is_letter c ≡ true) × IsCharAt text at c (at + 2)
@@ -167,21 +167,21 @@ mu_over text at u place some pair = elim (or_cases _ _ pair) [
       (956, refl, two_over text at 956 0xce 0xbc u place some (eqb-true _ _ p.0) (eqb-true _ _ p.1) mu_bytes)
 ]
 
--- and that is no whitespace
+-- Such a letter is not whitespace.
 pub no_whitespace_at_mu : (text : List ℕ) (at : ℕ) → IsUtf8 text → IsCharBoundary text at → at + 1 < length text
     → is_mu_pair (get_or text at 0) (get_or text (at + 1) 0) ≡ true → whitespace_len (chars (drop at text)) ≡ 0
 no_whitespace_at_mu text at u place some pair =
     let c = mu_over text at u place some pair in
     rw (c.2.ahead, letter_not_whitespace _ c.1) refl
 
--- a letter of ASCII is one byte
+-- An ASCII letter is one byte.
 pub letter_over : (text : List ℕ) (at : ℕ) → IsUtf8 text → IsPlaceIn text at → is_ascii_alphabetic (get_or text at 0) ≡ true
     → (is_letter (get_or text at 0) ≡ true) × IsCharAt text at (get_or text at 0) (at + 1)
 letter_over text at u here e =
     let small = alphabetic_is_ascii _ e in
     (sym (ascii_letter _ small) ∙ e, ascii_at text at u here small)
 
--- a character that is no letter of ASCII, and beyond it has other bytes than a mu, is no letter
+-- A character is not a letter if it is not an ASCII letter and its bytes are not those of a mu.
 pub no_letter : (text : List ℕ) (at : ℕ) → IsUtf8 text → IsPlaceIn text at → is_ascii_alphabetic (get_or text at 0) ≡ false
     → (128 ≤ get_or text at 0 → at + 1 < length text → is_mu_pair (get_or text at 0) (get_or text (at + 1) 0) ≡ false)
     → begins is_letter (chars (drop at text)) ≡ false
@@ -199,14 +199,14 @@ pub other_goes_on : (cs : List ℕ) → cs ≢ [] → begins is_digit cs ≡ fal
 other_goes_on [] some d w = absurd (some refl)
 other_goes_on (c ∷ cs) some d w = grind (arith, len_utf8_bounds)
 
--- whitespace ends a span
+-- Whitespace ends a span.
 pub whitespace_ends : (text : List ℕ) (at : ℕ) → IsUtf8 text → 0 < length text → 0 < whitespace_len (chars text) → at ≡ 0 + whitespace_len (chars text)
     → IsCharBoundary text at × (ends_span (chars text) ≡ true) × (drop_while is_whitespace (chars (drop at text)) ≡ drop_while is_whitespace (chars text))
 whitespace_ends text at u some white n =
     let c = whitespace_over text 0 at u (some, IsCharBoundary-start text u) white n in
     (c.2.place, rw c.2.ahead (whitespace_is_numeric _ c.1), rw (c.2.ahead, c.1) refl)
 
--- a space ends a span, and is one byte
+-- A space ends a span, and is one byte.
 pub space_ends : (text : List ℕ) → IsUtf8 text → 0 < length text → get_or text 0 0 ≡ 32
     → IsCharBoundary text 1 × (ends_span (chars text) ≡ true) × (drop_while is_whitespace (chars (drop 1 text)) ≡ drop_while is_whitespace (chars text))
 unfolding is_whitespace whitespace_chars

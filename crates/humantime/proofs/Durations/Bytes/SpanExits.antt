@@ -1,4 +1,4 @@
--- How reading stops at a rest, by its parts.
+-- The errors of the parser at the start of a span, by the parts of the span.
 use Rattle.std.specs.Prelude.{length, ◌==◌, ◌<◌}
 use Rattle.std.proofs.Common.{arith, ◌≡◌, ◌≢◌, ℕ, true, false, List, [], ◌∷◌, Option, Some, None, option_map, refl, sym, chars, Bor, IsUtf8}
 use Rattle.std.proofs.lemmas.Bool.Decides.{nat_tests}
@@ -14,7 +14,7 @@ use Rattle.humantime.specs.Answers.Walks.{stop_at, ends_span}
 use Rattle.humantime.specs.Steps.Scanning.{begins_no_word}
 use Rattle.humantime.proofs.Durations.Bytes.Trimming.{spelled_at}
 
--- a span is too long by its number, or by its fraction
+-- A span is too long because of its number or of its fraction.
 pub long_number : (rest : List ℕ) → u64_max < decimal_value (number_of rest) → too_long (span_of rest) ≡ true
 long_number rest n = grind (arith, nat_tests)
 
@@ -25,7 +25,7 @@ pub exit_long : (text rest : List ℕ) → too_long (span_of rest) ≡ true → 
 unfolding stop_at
 exit_long text rest e = rw e refl
 
--- what no letter begins has no letters at its front
+-- A text that does not begin with a letter has no letters at its start.
 no_letters : (cs : List ℕ) → begins_no_word cs ≡ true → drop_while is_letter cs ≡ cs
 no_letters [] h = refl
 no_letters (c ∷ cs) h = grind arith
@@ -41,11 +41,11 @@ pub exit_bare : (text rest behind after : List ℕ) (at : ℕ) → too_long (spa
 unfolding stop_at
 exit_bare text rest behind after at s h w bare a p = rw (s, sym h, w, bare, sym a, p) refl
 
--- a point without digits is there
+-- If a point has no digits, the text does not end before it.
 pub bare_some : (rest after : List ℕ) → is_some_and (λ ds. length ds == 0) (fraction_of rest) ≡ true → after ≡ after_number rest → after ≢ []
 bare_some rest after bare a none = grind arith
 
--- what cannot follow a word is there
+-- If a character cannot follow a word, the text does not end before it.
 pub bad_some : (after : List ℕ) → ends_span after ≡ false → after ≢ []
 bad_some after e none = grind arith
 
@@ -70,14 +70,14 @@ pub exit_fine : (text rest behind word after : List ℕ) (u : Scale) → too_lon
 unfolding stop_at
 exit_fine text rest behind word after u s h w bare a e l k = rw (s, sym h, w, bare, sym a, e, sym l, k) refl
 
--- the slices that were read are those that the span lends
+-- The slices that were parsed are those of the view of the span.
 pub view_read : (text rest number word : List ℕ) (digits : Option (Bor (List ℕ))) (start end value : ℕ)
     → number ≡ take_while is_numeric rest → option_map (λ t. chars t.now) digits ≡ option_map (take_while is_numeric) (after_point (after_number rest))
     → word ≡ word_of rest → start ≡ offset_of text rest → end ≡ offset_of text (after_word rest) → value ≡ decimal_value (number_of rest)
     → record { number = drop_trailing_whitespace number; fraction = option_map (λ t. trimmed (chars t.now)) digits; unit = word; start = start; end = end; value = value } ≡ view_at text rest
 view_read text rest number word digits start end value n d w p q v = grind arith
 
--- the slices that were read spell the span
+-- The slices that were parsed represent the span.
 pub spelled_read : (rest number letters : List ℕ) (digits : Option (Bor (List ℕ))) → number ≡ take_while is_numeric rest → letters ≡ word_of rest
     → option_map (λ t. chars t.now) digits ≡ option_map (take_while is_numeric) (after_point (after_number rest))
     → spelled (drop_trailing_whitespace number) (option_map (λ t. trimmed (chars t.now)) digits) letters ≡ span_of rest

@@ -1,4 +1,4 @@
--- Ends of a text, over its bytes.
+-- The end parts of a text, as bytes.
 use Rattle.std.proofs.lemmas.Grind.{common_steps}
 use Rattle.std.proofs.Common.{◌≡◌, ◌≢◌, ◌≤◌, ◌+◌, ◌-◌, ℕ, Bool, true, false, List, [], ◌++◌, length, take, drop, refl, ap, sym, ◌∙◌, arith, length-append, length-drop, length-take, IsUtf8, IsCharBoundary, chars}
 use Rattle.std.proofs.lemmas.List.{take-append-drop, append_cancel_right}
@@ -8,14 +8,14 @@ use Rattle.humantime.specs.Durations.Characters.{is_letter, byte_length, offset_
 use Rattle.humantime.specs.Steps.Scanning.{IsTail, begins_no_word}
 use Rattle.humantime.proofs.Durations.Reading.Runs.{take_while-drop_while}
 
--- what stands before the rest
+-- The text before the rest.
 abbrev pub front_of : List ℕ → List ℕ → List ℕ
 front_of text rest = take (length text - length rest) text
 
 pub tail_whole : (text rest : List ℕ) → IsTail text rest → text ≡ front_of text rest ++ rest
 tail_whole text rest t = sym (take-append-drop (length text - length rest) text) ∙ ap (λ (x : List ℕ). front_of text rest ++ x) (sym t.ends)
 
--- what follows a place
+-- The text after an offset is an end part.
 pub tail_at : (text rest : List ℕ) (at : ℕ) → IsUtf8 text → IsCharBoundary text at → rest ≡ drop at text → IsTail text rest
 tail_at text rest at u place e =
     let long : length rest + at ≡ length text = rw e (omega (arith, length-drop at text, place.0)) in
@@ -25,7 +25,7 @@ tail_at text rest at u place e =
 pub tail_boundary : (text rest : List ℕ) → IsTail text rest → IsCharBoundary text (length text - length rest)
 tail_boundary text rest t = grind (arith, common_steps, ap length (tail_whole text rest t), length-append (front_of text rest) rest, IsCharBoundary-at_seam)
 
--- what stands before a place, where the longest front that passes a test ends there
+-- The text before an offset, if the longest prefix that passes a test ends there.
 pub front_is : (p : ℕ → Bool) (text : List ℕ) (at : ℕ) → IsUtf8 text → IsCharBoundary text at → chars (drop at text) ≡ drop_while p (chars text)
     → chars (take at text) ≡ take_while p (chars text)
 front_is p text at u place after =
@@ -39,14 +39,14 @@ letter_begins cs some = grind arith
 no_letter_begins : (cs : List ℕ) → take_while is_letter cs ≡ [] → cs ≢ [] → begins_no_word cs ≡ true
 no_letter_begins cs none some = grind arith
 
--- the number of bytes of a text's characters is the text's
+-- The characters of a text have as many bytes in UTF-8 as the text.
 pub byte_length-chars : (bs : List ℕ) → IsUtf8 bs → byte_length (chars bs) ≡ length bs
 byte_length-chars bs u = ap length (encodes-chars bs u)
 
 pub tail_offset : (text rest : List ℕ) → IsTail text rest → length text - length rest ≡ offset_of (chars text) (chars rest)
 tail_offset text rest t = omega (arith, byte_length-chars text t.whole, byte_length-chars rest t.utf8)
 
--- a text without characters has no bytes, and one without bytes no characters
+-- A text without characters has no bytes, and one without bytes no characters.
 pub no_chars : (bs : List ℕ) → IsUtf8 bs → chars bs ≡ [] → length bs ≡ 0
 no_chars bs u e = omega (arith, byte_length-chars bs u, ap byte_length e)
 
@@ -59,7 +59,7 @@ no_bytes bs h = grind (arith, common_steps, chars-nil)
 pub no_chars_at : (text : List ℕ) (at : ℕ) → length text ≤ at → chars (drop at text) ≡ []
 no_chars_at text at end = no_bytes (drop at text) (omega (arith, length-drop at text))
 
--- whether a word begins a text is whether its letters end behind its start
+-- A text begins with a word exactly if its letters end after its start.
 pub a_word : (text : List ℕ) (at : ℕ) → IsUtf8 text → IsCharBoundary text at → chars (drop at text) ≡ drop_while is_letter (chars text) → at ≢ 0
     → begins_no_word (chars text) ≡ false
 a_word text at u place rest some =

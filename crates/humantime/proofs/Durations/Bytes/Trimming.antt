@@ -1,4 +1,4 @@
--- Slices without the whitespace at their ends.
+-- Slices without leading and trailing whitespace.
 use Rattle.std.proofs.Common.{◌≡◌, ℕ, suc, Bool, true, false, ◌&&◌, cond, eqb, List, [], ◌∷◌, ◌++◌, length, Option, Some, None, option_map, ◌⊎◌, inl, inr, refl, sym, ap, subst, ◌∙◌, append-nil, arith, IsUtf8, chars}
 use Rattle.std.specs.Char.{is_whitespace as std_is_whitespace}
 use Rattle.std.specs.Str.{trim_start, trim_end, skip_leading_whitespace, drop_trailing_whitespace}
@@ -17,7 +17,7 @@ use Rattle.humantime.proofs.Durations.Reading.Runs.{take_while-append}
 pub suc_not_zero : (n : ℕ) → eqb (suc n) 0 ≡ false
 suc_not_zero n = grind (arith, nat_tests)
 
--- ds is cs without the whitespace at its end
+-- `ds` is `cs` without trailing whitespace.
 pub record Dropped (cs ds : List ℕ) : Type 0 where
   pub tail : List ℕ
   pub whole : cs ≡ ds ++ tail
@@ -52,7 +52,7 @@ fraction_digits : (o : Option (List ℕ)) → option_map digits (option_map (λ 
 fraction_digits None = refl
 fraction_digits (Some ds) = ap Some (digits_dropped _ _ (dropped (drop_while is_whitespace (take_while is_numeric ds))) ∙ digits_drop_while _)
 
--- the slices spell the span that they are taken from
+-- The slices represent the span that they are taken from.
 pub spelled_at : (text rest : List ℕ) → spelled (view_at text rest).number (view_at text rest).fraction (view_at text rest).unit ≡ span_of rest
 spelled_at text rest = grind (arith, (digits_dropped _ _ (dropped (take_while is_numeric rest))), (fraction_digits (after_point (after_number rest))))
 
@@ -67,13 +67,13 @@ only_front : (p : ℕ → Bool) (xs ys : List ℕ) → Only p (xs ++ ys) → Onl
 only_front p [] ys o = tt
 only_front p (x ∷ xs) ys o = (o.0, only_front p xs ys o.1)
 
--- digits and whitespace from a first digit on, without the whitespace at the end, after other whitespace
+-- The slice of digits and whitespace that begins with a digit, without trailing whitespace, after other whitespace.
 pub digit_slice : (before cs ds : List ℕ) → Dropped cs ds → Only is_whitespace before → begins is_digit cs ≡ true → Only is_numeric cs
     → IsDigitSlice (before ++ cs) ds
 digit_slice before cs [] d w b o = absurd (all_whitespace d.tail d.whitespace (subst (λ (l : List ℕ). begins is_digit l ≡ true) d.whole b))
 digit_slice before cs (x ∷ xs) d w b o = grind (arith, only_front, ends_digit)
 
--- the slice of the fraction after a number, before a word
+-- There is no slice of a fraction if a letter follows the number.
 pub no_slice : (tail : List ℕ) → begins is_letter tail ≡ true → fraction_slice tail ≡ None
 no_slice tail h = grind (arith, letter_not_point)
 
@@ -81,7 +81,7 @@ pub slice_after_point : (after tail : List ℕ) → Only is_numeric after → be
     → fraction_slice (46 ∷ (after ++ tail)) ≡ Some (trimmed after)
 slice_after_point after tail only e = grind (arith, letter_not_numeric, is_point-46, take_while-append)
 
--- what std's `trim_end` and `trim_start` give
+-- The results of std's `trim_end` and `trim_start`.
 pub end_trimmed : (text cut : List ℕ) → IsUtf8 cut → cut ≡ trim_end text → chars cut ≡ drop_trailing_whitespace (chars text)
 unfolding trim_end
 end_trimmed text cut u e = encodes_same (chars cut) (drop_trailing_whitespace (chars text)) (encodes-chars cut u ∙ e)

@@ -1,4 +1,4 @@
--- A word's key tells which of the units' words it is.
+-- The key of a word determines its unit.
 use Rattle.std.proofs.lemmas.Grind.{common_steps}
 use Rattle.std.proofs.Common.{◌≡◌, ◌∙◌, sym, ap, refl, ℕ, zero, suc, ◌+◌, ◌*◌, ◌^◌, ◌<◌, ◌≤◌, Bool, true, ◌&&◌, List, [], ◌∷◌, length, take, get_or, ltb, chars, arith}
 use Rattle.std.specs.Prelude.{◌==◌, bytes_eq, reverse}
@@ -17,7 +17,7 @@ use Rattle.humantime.specs.declared.unit.words.TheConstants.{MAX_BYTES}
 use Rattle.humantime.specs.Durations.Units.{Scale, words, scale_of_word}
 use Rattle.humantime.specs.Steps.Keys.{packed, key, bytes_of, keyed, scale_of_key}
 
--- the list holds bytes
+-- The elements of the list are bytes.
 abbrev pub HasBytes : List ℕ → Type 0
 HasBytes bs = (k : ℕ) → get_or bs k 0 < 256
 
@@ -36,11 +36,11 @@ packed_front_below bs zero h within = omega arith
 packed_front_below bs (suc at) h within =
     omega (arith, packed_front bs at (omega arith), h at, packed_front_below bs at h (omega arith))
 
--- The number made so far is that of the bytes before a place, where they are at most `MAX_BYTES`.
+-- The number so far is that of the bytes before an offset, if these are at most `MAX_BYTES`.
 abbrev pub IsSoFar : List ℕ → ℕ → ℕ → Type 0
 IsSoFar bs at k = at ≤ MAX_BYTES → k ≡ packed (reverse (take at bs))
 
--- and so it is with the byte at this place
+-- The same holds with the byte at this offset.
 pub key_more : (bs : List ℕ) (at k m : ℕ) → HasBytes bs → at < length bs → IsSoFar bs at k → (k < 2 ^ 56 → m ≡ k * 256 + get_or bs at 0)
     → IsSoFar bs (at + 1) m
 key_more bs at k m bytes some so_far next short =
@@ -49,7 +49,7 @@ key_more bs at k m bytes some so_far next short =
     let more : at + 1 ≡ suc at = omega arith in
     rw (more, packed_front bs at some, next (omega (arith, fits, front, packed_front_below bs at bytes (omega arith)))) (ap (λ n. n * 256 + get_or bs at 0) front)
 
--- the key of a front
+-- The key of a prefix.
 pub key_short : (bs : List ℕ) (at k : ℕ) → at ≤ length bs → at ≤ MAX_BYTES → IsSoFar bs at k → k ≡ key (take at bs)
 key_short bs at k within short so_far = grind (arith, common_steps)
 
@@ -68,7 +68,7 @@ packed_same (x ∷ xs) (y ∷ ys) h k e =
 bytes_from_test : (bs : List ℕ) → list_all (λ b. ltb b 256) bs ≡ true → HasBytes bs
 bytes_from_test bs h = grind (arith, common_steps)
 
--- the word is spelled by at most `MAX_BYTES` bytes
+-- The word has at most `MAX_BYTES` bytes.
 abbrev is_spelled : List ℕ → Bool
 is_spelled w = scalars w && (bytes_eq (encodes w) (bytes_of w) && (ltb (length (bytes_of w)) (MAX_BYTES + 1) && list_all (λ b. ltb b 256) (bytes_of w)))
 
@@ -97,7 +97,7 @@ by_key bs text bytes (w ∷ ws) t =
     let p = and_parts _ _ t in
     rw (key_tells bs w.0 text bytes p.0, by_key bs text bytes ws p.1) refl
 
--- what a text stands for is what its key stands for
+-- The unit of a text is that of its key.
 pub scale_by_key : (bs : List ℕ) → IsUtf8 bs → HasBytes bs → scale_of_key (key bs) ≡ scale_of_word (chars bs)
 unfolding scale_of_key scale_of_word encode
 scale_by_key bs text bytes = by_key bs text bytes words refl

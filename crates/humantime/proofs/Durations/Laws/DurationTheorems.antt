@@ -1,4 +1,4 @@
--- The laws of durations as theorems over plain variables, each under the name of its function in `laws`.
+-- The laws of durations as theorems over plain variables, each under its name in `laws`.
 use Rattle.std.proofs.lemmas.Bool.Decides.{nat_tests}
 use Rattle.std.proofs.Common.{Bool, ◌≡◌, ◌↔◌, ℕ, ◌<◌, List, Result, Ok, IsTrue, chars, refl, sym, ◌∙◌, arith}
 use Rattle.std.proofs.lemmas.Slice.Eq.{bytes_eq-Decides}
@@ -44,15 +44,15 @@ spans_tile text =
     let only = views.one_span_view text in
     record { one = (item_views text, views.are_items text, only); same = λ xs ys a b. only ys b ∙ sym (only xs a) }
 
--- What is viewed as a value was answered as that value.
+-- If the view of a result is a value, so is the result.
 pub value_of_view : (r : Result ℕ DurationError) (v : ℕ) → result_view r ≡ Ok v → r ≡ Ok v
 value_of_view r v h = grind arith
 
--- whether two errors are equal, as `==` says
+-- Equality of errors, as `==` computes it.
 abbrev error_eq : DurationError → DurationError → Bool
 error_eq = (errors.ghosts).eq
 
--- Two errors are equal exactly where they name the same fault.
+-- Two errors are equal exactly if their faults are.
 pub errors_equal : (e f : DurationError) → IsTrue (error_eq e f) ↔ (fault_of e ≡ fault_of f)
 errors_equal e f = grind (arith, nat_tests, bytes_eq-Decides)
 

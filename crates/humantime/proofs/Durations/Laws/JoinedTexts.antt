@@ -1,4 +1,4 @@
--- Texts one after the other.
+-- Joined texts.
 use Rattle.std.proofs.Common.{◌≡◌, ◌≢◌, ◌↔◌, ◌⊎◌, ℕ, ◌+◌, true, List, [], ◌∷◌, ◌++◌, None, refl, ◌∙◌, inl, inr, append_assoc, append-nil}
 use Rattle.std.specs.List.{AllByRecursion}
 use Rattle.humantime.specs.Durations.Characters.{is_whitespace, bare_zero}
@@ -13,7 +13,7 @@ use Rattle.humantime.proofs.Durations.Reading.Outcomes.{items_whole, items_decid
 pub use Rattle.humantime.proofs.Durations.Reading.Spellings.{each-append, spells_each-append}
 use Rattle.humantime.proofs.Durations.Laws.Readings.{accepted_spans, no_value_and_fault}
 
--- whitespace after a spelling belongs to it
+-- Whitespace after a span belongs to it.
 spells_each-whitespace : (body whitespace : List ℕ) (s : SpelledSpan) (ss : List SpelledSpan) → SpellsEach body (s ∷ ss) → Only is_whitespace whitespace → SpellsEach (body ++ whitespace) (s ∷ ss)
 spells_each-whitespace body whitespace s [] h only =
     let here = respelled body h.0 (body ++ whitespace) [] (h.1.whitespace ++ whitespace) s h.1 (rw (h.1.whole, h.2) (simp (append_assoc, append-nil)))
@@ -21,7 +21,7 @@ spells_each-whitespace body whitespace s [] h only =
     ([], here, refl)
 spells_each-whitespace body whitespace s (t ∷ ts) h only = (h.0 ++ whitespace, spells-append body h.0 whitespace s h.1, spells_each-whitespace h.0 whitespace t ts h.2 only)
 
--- spans after spans
+-- Spans followed by spans.
 pub front-append : (a b : List ℕ) (ss ts : List SpelledSpan) → Reads a ss → SpellsAll b ts → SpellsAll (a ++ b) (ss ++ ts)
 front-append a b [] ts h k = absurd (h.1 refl)
 front-append a b (s ∷ ss) ts h k =
@@ -33,7 +33,7 @@ pub some-append : (ss ts : List SpelledSpan) → ss ≢ [] → ss ++ ts ≢ []
 some-append [] ts some e = some refl
 some-append (s ∷ ss) ts some e = cc
 
--- The text is whitespace, or none, and then spans of this value that keep all limits but that of room.
+-- The text is any whitespace followed by spans with this value that keep all limits except for that of their sum.
 pub record AreSpans (text : List ℕ) (spans : List SpelledSpan) (v : ℕ) : Type 0 where
   pub front : SpellsAll text spans
   pub formed : AllByRecursion Formed spans
@@ -55,14 +55,14 @@ spans-append a b ss ts u v h k =
       sum = value-append ss ts ∙ (λ i. x.sum i + k.sum i);
     }
 
--- such a text is accepted exactly where its additions have room
+-- Such a text is accepted exactly if no addition overflows.
 pub room_accepts : (text : List ℕ) (spans : List SpelledSpan) (v : ℕ) → spans ≢ [] → AreSpans text spans v → Accepted text v ↔ AllHaveRoom (additions spans)
 room_accepts text spans v some h = (
   λ a. (accepted_spans text spans v (h.front, some) a).0.room,
   λ room. Sum_of spans (h.front, some) (record { formed = h.formed; fit = h.fit; room = room }) h.sum,
 )
 
--- and is too large exactly where they haven't
+-- Its fault is an overflow exactly if an addition overflows.
 pub no_room_overflows : (text : List ℕ) (spans : List SpelledSpan) (v : ℕ) → spans ≢ [] → AreSpans text spans v
     → HasFault text NumberOverflow ↔ ¬ (AllHaveRoom (additions spans))
 no_room_overflows text spans v some h =

@@ -1,4 +1,4 @@
--- What became of the texts that were accepted before.
+-- Texts that were accepted while trailing zeros of fractions counted.
 use Rattle.std.proofs.lemmas.Grind.{common_steps}
 use Rattle.std.proofs.Common.{◌≡◌, ℕ, true, List, [], ◌∷◌, refl, arith}
 use Rattle.std.specs.List.{AllByRecursion}
@@ -7,12 +7,12 @@ use Rattle.humantime.specs.Laws.Older.{OlderFormed, AcceptedWithZeros, Older_zer
 use Rattle.humantime.proofs.Durations.Reading.Outcomes.{outcome_accepted}
 use Rattle.humantime.proofs.Durations.Reading.SignificantDigits.{significant_shorter, whole_part_kept}
 
--- what follows from what holds of each element holds of each
+-- If a property implies another, and all elements have the first, all have the second.
 each_then : {A : Type 0} (P Q : A → Type 0) → ((x : A) → P x → Q x) → (xs : List A) → AllByRecursion P xs → AllByRecursion Q xs
 each_then P Q then [] h = tt
 each_then P Q then (x ∷ xs) h = (then x h.0, each_then P Q then xs h.1)
 
--- ---- zeros at the end of a fraction
+-- ---- trailing zeros of a fraction
 
 zeros_still_accepted : (text : List ℕ) (v : ℕ) → AcceptedWithZeros text v → Accepted text v
 zeros_still_accepted text v (Older_zero e z) = Bare_zero e z

@@ -10,20 +10,20 @@ use Rattle.humantime.proofs.Durations.Reading.OneReading.{not_zero}
 use Rattle.humantime.proofs.Durations.Reading.Summed.{value-cons}
 use Rattle.humantime.proofs.Durations.Reading.Outcomes.{one_reading, outcome_accepted, outcome_fault}
 
--- what is accepted is exactly `0`, or it is spans
+-- An accepted text is exactly `0`, or it is spans.
 pub zero_or_spans : (text : List ℕ) → IsZeroOrSpans text
 zero_or_spans text v a = grind arith
 
--- an accepted text that reads as some spans is their sum, and they are within the limits
+-- The value of an accepted text of spans is their sum, and they are within the limits.
 pub accepted_spans : (text : List ℕ) (spans : List SpelledSpan) (v : ℕ) → Reads text spans → Accepted text v → WithinLimits spans × (value spans ≡ v)
 accepted_spans text spans v h (Bare_zero z none) = absurd (not_zero text spans h z)
 accepted_spans text spans v h (Sum_of others k within sum) = rw (one_reading text spans others h k) (within, sum)
 
--- no text has a value and a fault
+-- No text has both a value and a fault.
 pub no_value_and_fault : (text : List ℕ) (v : ℕ) (e : Fault) → Accepted text v → HasFault text e → ⊥
 no_value_and_fault text v e a f = grind (arith, (outcome_accepted text v a), (outcome_fault text e f))
 
--- the value of spans is the sum of what each adds, so their order doesn't matter
+-- The value of spans is the sum of what each adds, so their order does not matter.
 value-sum : (spans : List SpelledSpan) → value spans ≡ sum_by (λ s. total (additions_of s)) spans
 value-sum [] = refl
 value-sum (s ∷ ss) = grind (arith, common_steps, (value-cons s ss), (value-sum ss))

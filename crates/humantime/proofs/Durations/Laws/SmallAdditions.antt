@@ -1,4 +1,4 @@
--- Additions that find room wherever the whole sum is a duration.
+-- Additions that do not overflow if the whole sum is a duration.
 use Rattle.std.proofs.lemmas.Grind.{common_steps}
 use Rattle.std.proofs.Common.{true, ◌≡◌, ℕ, ◌+◌, ◌/◌, ◌≤◌, List, [], ◌∷◌, arith}
 use Rattle.std.specs.Prelude.{⊤}
@@ -9,7 +9,7 @@ use Rattle.humantime.specs.Durations.Units.{Addition, Nanos, Seconds}
 use Rattle.humantime.specs.Durations.Accepted.{addition_nanos, total, has_room, AllHaveRoom}
 use Rattle.humantime.proofs.Durations.Reading.Rooms.{RoomFrom, all_have_room}
 
--- an addition of nanoseconds fits a u64 together with the nanoseconds beyond any whole seconds
+-- An addition of nanoseconds, together with the nanoseconds of any sum below a second, fits a `u64`.
 abbrev pub IsSmall : Addition → Type 0
 IsSmall (Nanos n) = n + 999999999 ≤ u64_max
 IsSmall (Seconds n) = ⊤
@@ -21,6 +21,6 @@ room_from_small : (t : ℕ) (xs : List Addition) → AllByRecursion IsSmall xs �
 room_from_small t [] small fits = tt
 room_from_small t (x ∷ xs) small fits = grind (arith, common_steps, small_room, (room_from_small (t + addition_nanos x) xs small.1))
 
--- small additions have room where their sum is a duration
+-- Small additions do not overflow if their sum is a duration.
 pub small_have_room : (xs : List Addition) → AllByRecursion IsSmall xs → total xs / nanos_per_second ≤ u64_max → AllHaveRoom xs
 small_have_room xs small fits = all_have_room xs (room_from_small 0 xs small (grind arith))

@@ -1,5 +1,4 @@
--- The laws of accepted texts as theorems over plain variables, each under the name of its function in `laws`, and some
--- theorems beyond them.
+-- The laws of accepted texts as theorems over plain variables, each under its name in `laws`, and other theorems.
 use Rattle.std.proofs.Common.{ℕ, ◌+◌, List, ◌++◌, inl, inr, refl}
 use Rattle.humantime.specs.Durations.Characters.{bare_zero}
 use Rattle.humantime.specs.Durations.Faults.{NumberOverflow}

@@ -1,4 +1,4 @@
--- A text without its whitespace spells the same spans.
+-- A text without its whitespace represents the same spans.
 use Rattle.std.proofs.lemmas.Grind.{common_steps}
 use Rattle.std.proofs.Common.{◌≡◌, ℕ, Bool, true, false, List, [], ◌∷◌, refl, ap, ◌∙◌, arith, rules}
 use Rattle.std.proofs.lemmas.Bool.{cases_Bool, or_parts}
@@ -10,7 +10,7 @@ use Rattle.humantime.specs.Laws.Texts.{without_whitespace}
 use Rattle.humantime.proofs.Durations.Reading.Classes.{digit_not_whitespace, whitespace_not_digit, letter_not_whitespace, point_not_numeric, is_point-46}
 use Rattle.humantime.proofs.Durations.Printing.PrintedDigits.{some_digit}
 
--- whitespace goes, and each other character stays
+-- Whitespace is removed, and each other character is kept.
 only_whitespace : (cs : List ℕ) → Only is_whitespace cs → without_whitespace cs ≡ []
 only_whitespace [] h = refl
 only_whitespace (c ∷ cs) h = rw h.0 (only_whitespace cs h.1)
@@ -40,7 +40,7 @@ spells_each : (body : List ℕ) (spans : List SpelledSpan) → SpellsEach body s
 spells_each body [] h = ap without_whitespace h
 spells_each body (s ∷ ss) h = (without_whitespace h.0, spells_span body h.0 s h.1, spells_each h.0 ss h.2)
 
--- the text without its whitespace is read as the same spans
+-- The text without its whitespace is the same spans.
 pub reads_without_whitespace : (text : List ℕ) (spans : List SpelledSpan) → Reads text spans → Reads (without_whitespace text) spans
 reads_without_whitespace text spans h = grind (arith, common_steps, only_whitespace, spells_each)
 

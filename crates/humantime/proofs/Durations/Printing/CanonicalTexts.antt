@@ -1,4 +1,4 @@
--- The canonical text of a text that was read, or not read.
+-- The canonical text of the result of parsing a text.
 use Rattle.std.proofs.Common.{arith, ◌≡◌, ◌↔◌, ℕ, List, Result, Ok, Err, refl, ap, ◌∙◌}
 use Rattle.std.specs.Prelude.{chars}
 use Rattle.humantime.specs.Durations.Faults.{Fault, HasFault}
@@ -7,7 +7,7 @@ use Rattle.humantime.specs.Answers.Durations.{duration_text, duration_answer, pr
 use Rattle.humantime.proofs.Durations.Printing.GreatestCounts.{printed_is_canon, canon_is_text}
 use Rattle.humantime.proofs.Durations.Reading.Outcomes.{answer_accepts, answer_faults}
 
--- what was answered as the function says is the canonical text, or the fault
+-- The result is the canonical text, or the fault.
 pub answer_is_canonical : (s : List ℕ) (r : Result (List ℕ) Fault) → r ≡ canonical_answer (chars s) → (t : List ℕ) → (r ≡ Ok t) ↔ IsCanonicalOf s t
 unfolding canonical_answer
 answer_is_canonical s r e t =

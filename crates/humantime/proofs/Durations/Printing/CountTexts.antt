@@ -1,4 +1,4 @@
--- A text written count by count is the counts' text.
+-- The text that is written count by count is the text of the counts.
 use Rattle.std.proofs.lemmas.Grind.{common_steps}
 use Rattle.std.proofs.Common.{◌≡◌, ℕ, ◌/◌, ◌%◌, ◌<◌, List, [], ◌∷◌, length, refl, ap, ◌∙◌, arith, rules}
 use Rattle.std.specs.Prelude.{◌==◌, if◌then◌else◌, codes}
@@ -10,7 +10,7 @@ use Rattle.humantime.specs.Answers.Durations.{divided, duration_text}
 use Rattle.humantime.specs.Steps.Writing.{joined_after}
 use Rattle.humantime.specs.Durations.Counts.{Suffix, weights, suffixes, printed_count, printed_counts, joined_by_space}
 
--- counts after a text, one by one
+-- Counts that are written after a text, one by one.
 abbrev pub with_counts : List ℕ → List ℕ → List Suffix → List ℕ
 with_counts text (n ∷ ns) (s ∷ ss) = with_counts (joined_after text (printed_counts (n ∷ []) (s ∷ []))) ns ss
 with_counts text _ _ = text
@@ -18,7 +18,7 @@ with_counts text _ _ = text
 joined_more : (t p : List ℕ) (ps : List (List ℕ)) → 0 < length p → joined_after (joined_after t (p ∷ [])) ps ≡ joined_after t (p ∷ ps)
 joined_more t p ps h = grind (arith, append_assoc)
 
--- each suffix has a letter
+-- Each suffix has a letter.
 abbrev Lettered : List Suffix → Type 0
 Lettered ss = AllByRecursion (λ s. 0 < length s.0) ss
 
@@ -27,7 +27,7 @@ one_by_one t (n ∷ ns) (s ∷ ss) h =
     grind (arith, joined_more, length-append, (one_by_one (joined_after t (printed_count n s ∷ [])) ns ss h.1), (one_by_one t ns ss h.1))
 one_by_one t _ _ h = grind arith
 
--- zero seconds where there is no text
+-- `0s` is written if there is no text.
 abbrev pub or_zero : List ℕ → List ℕ
 or_zero text = if length text == 0 then codes "0s" else text
 
@@ -35,7 +35,7 @@ or_zero_joined : (ns : List ℕ) (ss : List Suffix) → Lettered ss → or_zero 
 or_zero_joined (n ∷ ns) (s ∷ ss) h = grind (arith, common_steps, nat_tests, length-append, (or_zero_joined ns ss h.1))
 or_zero_joined _ _ h = refl
 
--- the nine counts of s seconds and n nanoseconds
+-- The nine counts of `s` seconds and `n` nanoseconds.
 abbrev counts_of : ℕ → ℕ → List ℕ
 counts_of s n =
     s / seconds_per_year ∷ s % seconds_per_year / seconds_per_month ∷ s % seconds_per_year % seconds_per_month / seconds_per_day

@@ -1,4 +1,4 @@
--- How many digits a number has, and which.
+-- The digits of a number in decimal, and how many they are.
 use Rattle.std.proofs.Common.{ℕ, ◌<◌, ◌≤◌, length, decimal, arith}
 use Rattle.std.proofs.lemmas.Fmt.{length-decimal-le}
 

@@ -1,4 +1,4 @@
--- The counts by division are the greatest, and no others are.
+-- The counts that division computes are the greatest, and only these.
 use Rattle.std.proofs.Common.{◌≡◌, ◌⊎◌, ℕ, suc, ◌+◌, ◌*◌, ◌/◌, ◌%◌, ◌<◌, List, [], ◌∷◌, length, refl, ap, sym, ◌∙◌, arith, rules, nat_cmp, IsTrue}
 use Rattle.std.proofs.Math.Nat.{mul_comm, div-add-mod}
 use Rattle.std.proofs.lemmas.Nat.{le-div, mod_below}
@@ -12,7 +12,7 @@ use Rattle.std.proofs.lemmas.Bool.Decides.{nat_tests}
 use Rattle.humantime.specs.Durations.Counts.{weights, weighted_sum, AreCounts, IsCanonicalText}
 use Rattle.humantime.specs.Answers.Durations.{divided, duration_text}
 
--- each weight is positive and the last is one, where what is left is below m
+-- Each weight is positive, and the last one is 1; the remainder is less than `m`.
 abbrev Reaches : List ℕ → ℕ → Type 0
 Reaches [] m = m ≡ 1
 Reaches (w ∷ ws) m = (0 < w) × Reaches ws w
@@ -25,7 +25,7 @@ divided_sum : (ws : List ℕ) (m d : ℕ) → Reaches ws m → d < m → weighte
 divided_sum [] m d r h = omega arith
 divided_sum (w ∷ ws) m d r h = grind (arith, (divided_sum ws w (d % w) r.1 (mod_below d w r.0)))
 
--- a first count is less than by division, or it is that and the others make up what is left
+-- A first count is less than that of division, or is equal to it and the others have the remainder as their sum.
 first_count : (w c s d : ℕ) → 0 < w → w * c + s ≡ d → (c < d / w) ⊎ ((c ≡ d / w) × (s ≡ d % w))
 first_count w c s d h e = grind (arith, (le-div c d w h), (mul_comm w c), (div-add-mod d w), (cases_lt c (d / w)))
 
@@ -43,14 +43,14 @@ divided_greatest d = record {
   greatest = divided_last weights (suc d) d (search rules);
 }
 
--- no other counts are the greatest
+-- No other counts are the greatest.
 pub counts_divided : (d : ℕ) (counts : List ℕ) → AreCounts d counts → counts ≡ divided weights d
 counts_divided d counts g =
     let other = divided_greatest d in
     let least = rw (nat_list_cmp_total.antisymm (divided weights d) counts) at (g.greatest (divided weights d) other.as_many other.sum) in
     grind (arith, nat_tests, (exact_bytes counts (divided weights d)), (other.greatest counts g.as_many g.sum), least)
 
--- the text by division is a canonical text, and there is no other
+-- The text of the counts that division computes is the only canonical text.
 pub printed_is_canon : (d : ℕ) → IsCanonicalText d (duration_text d)
 unfolding duration_text
 printed_is_canon d = record { counts = divided weights d; are = divided_greatest d; shown = refl }

@@ -1,4 +1,4 @@
--- The digits of a printed count, as a number of a text.
+-- The digits of a printed count, as a number in a text.
 use Rattle.std.proofs.Common.{◌≡◌, ℕ, ◌<◌, ◌^◌, true, List, [], ◌∷◌, length, refl, arith}
 use Rattle.std.specs.Prelude.{decimal}
 use Rattle.std.specs.Int.{IsInRange}
@@ -22,7 +22,7 @@ all_digits (c ∷ cs) h = grind (arith, digit_is_numeric, digit_here, digit_from
 pub some_digit : (ds : List ℕ) → AllDigits 10 ds → 0 < length ds → begins is_digit ds ≡ true
 some_digit ds h k = grind (arith, digit_here)
 
--- the digits are a number's, and read as n
+-- The digits are those of a number, whose value is `n`.
 pub record IsNumber (ds : List ℕ) (n : ℕ) : Type 0 where
   pub starts : begins is_digit ds ≡ true
   pub numeric : Only is_numeric ds

@@ -1,4 +1,4 @@
--- How long a printed text is, and how large its counts are.
+-- Bounds for the length of a printed text and for its counts.
 use Rattle.std.proofs.Common.{◌≡◌, ℕ, ◌+◌, ◌*◌, ◌/◌, ◌%◌, ◌^◌, ◌<◌, ◌≤◌, cond, List, [], ◌∷◌, length, ap, arith}
 use Rattle.std.specs.Prelude.{map, nat_lt, slice_index, ⊤}
 use Rattle.std.specs.List.{filter, join_with_byte}
@@ -15,18 +15,18 @@ use Rattle.humantime.proofs.Durations.Printing.GreatestCounts.{canon_is_text, co
 abbrev suffix_length : Suffix → ℕ
 suffix_length s = length s.0 + cond s.1 1 0
 
--- a count of each unit has at most so many digits, where less than m is left
+-- A bound for the number of digits of each count, if the remainder is less than `m`.
 abbrev Sizes : List (ℕ × Suffix) → List ℕ → ℕ → Type 0
 Sizes [] [] m = ⊤
 Sizes (u ∷ us) (k ∷ ks) m = (0 < k) × (10 ^ k < 2 ^ 64) × (0 < u.0) × (m ≤ 10 ^ k * u.0) × Sizes us ks u.0
 Sizes _ _ m = ⊥
 
--- the most that so many digits, the suffixes and a space after each take
+-- The greatest length of this number of digits, the suffixes and a space after each.
 abbrev length_for : List (ℕ × Suffix) → List ℕ → ℕ
 length_for (u ∷ us) (k ∷ ks) = k + suffix_length u.1 + 1 + length_for us ks
 length_for _ _ = 0
 
--- the length with a space after each
+-- The length with a space after each text.
 abbrev spaced_length : List (List ℕ) → ℕ
 spaced_length [] = 0
 spaced_length (p ∷ ps) = length p + 1 + spaced_length ps
@@ -38,7 +38,7 @@ join_length p (q ∷ ps) = omega (arith, length-append p (space ∷ join_with_by
 count_length : (n k : ℕ) (s : Suffix) → 0 < k → n < 10 ^ k → n < 2 ^ 64 → length (printed_count n s) ≤ k + suffix_length s
 count_length n k s some below fits = grind (arith, length-append, length-decimal-le)
 
--- the length of the counts that are not zero
+-- The length of the counts that are not zero.
 abbrev shown_length : List (ℕ × Suffix) → ℕ
 shown_length cs = spaced_length (map (λ c. printed_count c.0 c.1) (filter (λ c. nat_lt 0 c.0) cs))
 

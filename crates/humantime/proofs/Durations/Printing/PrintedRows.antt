@@ -1,4 +1,4 @@
--- The rows of printed counts: what each unit's word stands for.
+-- The rows of printed counts: what the word of each unit denotes.
 use Rattle.std.proofs.Common.{◌≡◌, ℕ, ◌*◌, ◌/◌, ◌%◌, ◌^◌, ◌<◌, Bool, true, false, cond, List, [], ◌∷◌, ◌++◌, refl, arith}
 use Rattle.std.specs.Prelude.{◌&&◌, ◌==◌, Option, Some, None, codes, decimal, nat_lt, nat_le}
 use Rattle.std.specs.Str.{IsUtf8, is_utf8, chars}
@@ -14,27 +14,27 @@ use Rattle.humantime.specs.Durations.Accepted.{addition_nanos, size, is_some_and
 use Rattle.humantime.specs.Durations.Spans.{SpelledSpan, Only}
 use Rattle.humantime.specs.Durations.Counts.{Suffix, weights, suffixes}
 
--- what stands between two counts
+-- The byte between two counts.
 abbrev pub space : ℕ
 space = 32
 
--- a suffix's word, with an s or without
+-- The word of a suffix, in the singular or in the plural.
 abbrev word_of : Suffix → Bool → List ℕ
 word_of s many = s.0 ++ cond (s.1 && many) (codes "s") []
 
--- the word after a count of n, and the span of that count
+-- The word after a count of `n`, and the span of that count.
 abbrev pub word_for : ℕ → Suffix → List ℕ
 word_for n s = word_of s (nat_lt 1 n)
 
 abbrev pub span_for : ℕ → Suffix → SpelledSpan
 span_for n s = record { number = decimal n; fraction = None; word = chars (word_for n s) }
 
--- what is added is seconds, or nanoseconds where no more than a second m is left
+-- The addition is one of seconds, or of nanoseconds if the remainder is at most a second.
 abbrev pub is_of_kind : ℕ → Addition → Bool
 is_of_kind m (Nanos n) = nat_le m nanos_per_second
 is_of_kind m (Seconds n) = true
 
--- The word is letters, and stands for such a unit, which counts w nanoseconds.
+-- The word is letters, and denotes such a unit, which has `w` nanoseconds.
 pub record IsWord (w m : ℕ) (word : List ℕ) : Type 0 where
   pub utf8 : IsUtf8 word
   pub unit : Scale
@@ -58,16 +58,16 @@ only_from p (c ∷ cs) h = grind (arith, (only_from p cs))
 pub is_word-true : (w m : ℕ) (word : List ℕ) → is_word w m word ≡ true → IsWord w m word
 is_word-true w m word h = grind (arith, nat_tests, IsUtf8-from_is_utf8, only_from)
 
--- the units, each a weight and its suffix
+-- The units, each as its weight and suffix.
 abbrev pub units : List (ℕ × Suffix)
 units = zip weights suffixes
 
--- the counts of d by division, each with its suffix
+-- The counts of `d` that division computes, each with its suffix.
 abbrev pub counted : List (ℕ × Suffix) → ℕ → List (ℕ × Suffix)
 counted [] d = []
 counted (u ∷ us) d = (d / u.0, u.1) ∷ counted us (d % u.0)
 
--- each suffix gives words of its weight, where less than m is left
+-- Each suffix has words of its weight, if the remainder is less than `m`.
 abbrev pub is_table : List (ℕ × Suffix) → ℕ → Bool
 is_table [] m = m == 1
 is_table (u ∷ us) m = is_word u.0 m (word_of u.1 true) && is_word u.0 m (word_of u.1 false) && is_table us u.0
@@ -80,7 +80,7 @@ pub table_row : (u : ℕ × Suffix) (us : List (ℕ × Suffix)) (m : ℕ) (many 
 table_row u us m many h =
     grind (arith, is_word-true, (three (is_word u.0 m (word_of u.1 true)) (is_word u.0 m (word_of u.1 false)) (is_table us u.0) h))
 
--- a bound of all durations
+-- The upper bound of durations.
 abbrev pub most : ℕ
 most = 2 ^ 64 * nanos_per_second
 

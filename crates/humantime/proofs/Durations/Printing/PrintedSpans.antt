@@ -1,4 +1,4 @@
--- A printed text is spans within all limits, which add up to its duration.
+-- A printed text is spans within all limits, whose sum is the duration.
 use Rattle.std.proofs.lemmas.Grind.{common_steps}
 use Rattle.std.proofs.Common.{true, ◌≡◌, ℕ, ◌+◌, ◌*◌, ◌/◌, ◌%◌, ◌^◌, ◌<◌, ◌≤◌, false, List, [], ◌∷◌, ◌++◌, refl, ap, subst, ◌∙◌, arith, rules}
 use Rattle.std.specs.Prelude.{IsAscii, codes, decimal, map, nat_lt}
@@ -37,7 +37,7 @@ pub record IsRow (n : ℕ) (s : Suffix) : Type 0 where
 mul_positive : (n k : ℕ) → 0 < k → n ≤ n * k
 mul_positive n k h = grind arith
 
--- what a count adds, where less than m and less than all durations are left
+-- What a count adds, if the remainder is less than `m` and is a duration.
 few : (m n : ℕ) (x : Addition) → 0 < size x → is_of_kind m x ≡ true → addition_nanos x * n < m → addition_nanos x * n < most
     → (n < 2 ^ 64) × (n * size x ≤ u64_max) × IsSmall (times n x) × (addition_nanos (times n x) ≡ addition_nanos x * n)
 few m n (Nanos k) some kind below whole = grind (arith, nat_tests, (mul_comm n k), (mul_positive n k some))
@@ -62,7 +62,7 @@ row w m n s i below whole =
     } in
     (row, rw (adds, ← i.weight) (omega (arith, few.3)))
 
--- those counts that are not zero, and their spans
+-- The counts that are not zero, and their spans.
 abbrev pub shown : List (ℕ × Suffix) → List (ℕ × Suffix)
 shown cs = filter (λ c. nat_lt 0 c.0) cs
 
@@ -72,7 +72,7 @@ spans_of cs = map (λ c. span_for c.0 c.1) cs
 abbrev pub AllRows : List (ℕ × Suffix) → Type 0
 AllRows cs = AllByRecursion (λ c. IsRow c.0 c.1) cs
 
--- The counts that are shown are rows, and their spans add up to d.
+-- The counts that are printed are rows, and the sum of their spans is `d`.
 abbrev AreRows : ℕ → List (ℕ × Suffix) → Type 0
 AreRows d cs = AllRows (shown cs) × (value (spans_of (shown cs)) ≡ d)
 
@@ -97,7 +97,7 @@ chars_space p q utf8 =
     let ascii : IsAscii (space ∷ []) = search rules in
     grind (arith, (chars-append p (space ∷ q) utf8), (chars-append (space ∷ []) q (IsUtf8-from_ascii (space ∷ []) ascii)), (chars-IsAscii (space ∷ []) ascii), append_assoc)
 
--- the rows' text, with a space between each two
+-- The text of the rows, joined with single spaces.
 abbrev pub rows_text : List (ℕ × Suffix) → List ℕ
 rows_text rows = join_with_byte space (map (λ c. printed_count c.0 c.1) rows)
 
@@ -110,7 +110,7 @@ rows_spell (c ∷ d ∷ rows) h =
     let here = spells-append _ [] rest (span_for c.0 c.1) (h.0.spells (space ∷ []) (refl, tt)) in
     (rest, rw (chars_space (printed_count c.0 c.1) (rows_text (d ∷ rows)) h.0.utf8) here, rows_spell (d ∷ rows) h.1)
 
--- The spans keep their limits, and add little each.
+-- The spans keep their limits, and each adds little.
 pub record AreWithin (spans : List SpelledSpan) : Type 0 where
   pub formed : AllByRecursion Formed spans
   pub fit : AllByRecursion (λ s. fits s ≡ true) spans
@@ -120,7 +120,7 @@ rows_within : (rows : List (ℕ × Suffix)) → AllRows rows → AreWithin (span
 rows_within [] h = record { formed = tt; fit = tt; small = tt }
 rows_within (c ∷ rows) h = grind (arith, (rows_within rows h.1), each-append)
 
--- The bytes are such spans, which add up to d.
+-- The bytes are such spans, whose sum is `d`.
 pub record IsPrinted (bytes : List ℕ) (d : ℕ) : Type 0 where
   pub spans : List SpelledSpan
   pub reads : Reads (chars bytes) spans
@@ -136,7 +136,7 @@ rows_printed c rows d h sum = record {
   sum = sum;
 }
 
--- where no count is left, there are zero seconds
+-- If all counts are zero, the text is that of zero seconds.
 zero_printed : IsPrinted (codes "0s") 0
 unfolding is_letter scale_of_word is_utf8 chars encode
 zero_printed =
@@ -150,7 +150,7 @@ all_printed : (rows : List (ℕ × Suffix)) (d : ℕ) → AllRows rows → value
 all_printed [] d h sum = subst (IsPrinted (codes "0s")) sum zero_printed
 all_printed (c ∷ rows) d h sum = rows_printed c rows d h sum
 
--- the canonical text of a duration is accepted with it
+-- The canonical text of a duration is accepted with its value.
 pub canon_printed : (d : ℕ) → d / nanos_per_second ≤ u64_max → (text : List ℕ) → IsCanonicalText d text → IsPrinted text d
 unfolding duration_text
 canon_printed d h text canon =

@@ -1,4 +1,4 @@
--- What holds of printed texts, for every duration and every text.
+-- Properties of printed texts, for every duration and every text.
 use Rattle.std.proofs.Common.{◌≡◌, ◌↔◌, ℕ, ◌/◌, ◌≤◌, List, sym, subst, ◌∙◌, arith}
 use Rattle.std.specs.Prelude.{chars}
 use Rattle.humantime.specs.Values.{nanos_per_second}
@@ -10,7 +10,7 @@ use Rattle.humantime.proofs.Durations.Reading.Outcomes.{outcome_accepted}
 use Rattle.humantime.proofs.Durations.Printing.GreatestCounts.{one_canon}
 use Rattle.humantime.proofs.Durations.Printing.PrintedSpans.{canon_reads}
 
--- a text is accepted with at most one value
+-- A text is accepted with at most one value.
 same_read : (text : List ℕ) (u v : ℕ) → Accepted text u → Accepted text v → u ≡ v
 same_read text u v a b = let one = sym (outcome_accepted text u a) ∙ outcome_accepted text v b in cc
 
@@ -21,7 +21,7 @@ texts_tell_apart a b ha hb s t left right = (
   (λ same. one_canon b s t (subst (λ d. IsCanonicalText d s) same left) right),
 )
 
--- the canonical text of what is accepted is accepted with the same value
+-- The canonical text of an accepted text is accepted with the same value.
 canonical_read : (s t : List ℕ) (h : IsCanonicalOf s t) → Accepted (chars t) h.duration
 canonical_read s t h = canon_reads h.duration (grind (arith, h.accepted, room_is_duration)) t h.canon
 

@@ -1,4 +1,4 @@
--- What a character is excludes the others.
+-- The classes of characters are disjoint.
 use Rattle.std.specs.Prelude.{◌&&◌, ◌||◌, ◌==◌, nat_le}
 use Rattle.std.proofs.Common.{◌≡◌, ◌≤◌, ◌<◌, ℕ, true, false, refl, sym, ◌∙◌, arith}
 use Rattle.std.specs.Char.{is_whitespace as std_is_whitespace, is_ascii_digit, is_ascii_alphabetic}
@@ -6,7 +6,7 @@ use Rattle.std.proofs.lemmas.Bool.{or_left, or_right}
 use Rattle.std.proofs.lemmas.Bool.Decides.{nat_tests}
 use Rattle.humantime.specs.Durations.Characters.{whitespace_chars, is_whitespace, is_digit, is_letter, is_point, is_numeric}
 
--- the whitespace listed is that of std
+-- The whitespace characters of the list are those of std.
 pub whitespace_is : (c : ℕ) → std_is_whitespace c ≡ is_whitespace c
 unfolding is_whitespace whitespace_chars
 whitespace_is c = grind (arith, nat_tests)
@@ -21,7 +21,7 @@ pub letter_not_whitespace : (c : ℕ) → is_letter c ≡ true → is_whitespace
 unfolding is_letter
 letter_not_whitespace c e = let other : std_is_whitespace c ≡ false = grind (arith, nat_tests) in sym (whitespace_is c) ∙ other
 
--- up to U+007F whitespace is the tab and the four characters after it, and the blank
+-- Up to U+007F, whitespace is the tab, the four characters after it, and the space.
 pub low_whitespace : (c : ℕ) → c ≤ 32 → is_whitespace c ≡ (c == 32 || (nat_le 9 c && nat_le c 13))
 low_whitespace c low = let same : std_is_whitespace c ≡ (c == 32 || (nat_le 9 c && nat_le c 13)) = grind (arith, nat_tests) in sym (whitespace_is c) ∙ same
 
@@ -66,7 +66,7 @@ is_point-true c e = grind (arith, nat_tests)
 
 -- ---- by bytes
 
--- a digit is one of ASCII
+-- Digits are ASCII.
 pub digit_is : (c : ℕ) → is_ascii_digit c ≡ is_digit c
 unfolding is_digit
 digit_is c = refl

@@ -1,4 +1,4 @@
--- What the walk over a text finds: its items, and the place where its spans are too large.
+-- The results of the walk over a text: its items, and an overflow of its sum.
 use Rattle.std.proofs.lemmas.Grind.{common_steps}
 use Rattle.std.proofs.Common.{◌≡◌, ◌≢◌, ◌⊎◌, ℕ, Bool, true, false, List, [], ◌∷◌, ◌++◌, map, length, Option, Some, None, if◌then◌else◌, refl, ap, inl, inr, arith, subst, append_assoc, append-nil}
 use Rattle.std.specs.List.{AllByRecursion}
@@ -17,12 +17,12 @@ use Rattle.humantime.proofs.Durations.Reading.SpanWalks.{Steps, by_walk}
 use Rattle.humantime.proofs.Durations.Reading.Stopping.{is_fine, wrong_stops}
 use Rattle.humantime.proofs.Durations.Reading.Written.{written_here, formed_here, spelling_some}
 
--- no span stands before, or some
+-- No span precedes, or some do.
 abbrev pub IsFirst : Bool → List SpelledSpan → Type 0
 IsFirst true spans = spans ≡ []
 IsFirst false spans = spans ≢ []
 
--- the front is read as these spans, each well formed, and the walk goes on at the rest
+-- The front is these spans, each well formed, and the walk continues at the rest.
 pub record IsReadTo (text : List ℕ) (first : Bool) (front : List ℕ) (spans : List SpelledSpan) (rest : List ℕ) : Type 0 where
   pub split : Split text front spans rest
   pub formed : AllByRecursion Formed spans
@@ -32,7 +32,7 @@ pub record IsReadTo (text : List ℕ) (first : Bool) (front : List ℕ) (spans :
 front_push : (front here : List ℕ) (ss : List SpelledSpan) (s : SpelledSpan) → SpellsAll front ss → Spells here s [] → SpellsAll (front ++ here) (ss ++ s ∷ [])
 front_push front here ss s h p = grind (arith, common_steps, (spells_each-append h.body here ss (s ∷ []) h.each ([], p, refl)))
 
--- one span further
+-- One more span is parsed.
 read_on : (text front rest : List ℕ) (first : Bool) (spans : List SpelledSpan) → IsReadTo text first front spans rest → BeginsSpan rest
     → (here : List ℕ) × IsReadTo text false (front ++ here) (spans ++ span_of rest ∷ []) (next_of rest)
 read_on text front rest first spans r f =
@@ -42,11 +42,11 @@ read_on text front rest first spans r f =
     let formed = each-append Formed spans (span_of rest ∷ []) r.formed (formed_here rest f, tt) in
     (w.0, (grind (arith, common_steps, (r.split.whole), (w.1), (spelled), (formed), begins-drop_while, (ends-append is_whitespace front w.0 some_text))))
 
--- a text is read past the whitespace at its start, with no span yet
+-- The leading whitespace of a text is skipped, and no span is parsed yet.
 begun : (text : List ℕ) → IsReadTo text true (take_while is_whitespace text) [] (drop_while is_whitespace text)
 begun text = grind (arith, common_steps, take_while-drop_while, Only-take_while, begins-drop_while)
 
--- items of a text: these spans and then those of a walk, up to its end
+-- The items of a text are these spans, followed by those of a walk.
 abbrev ItemsAfter : List ℕ → List SpelledSpan → Walk → Type 0
 ItemsAfter text spans w = (i : Items text (spans ++ map span_of w.starts) w.stop) × (i.rest ≡ w.unread)
 
@@ -68,7 +68,7 @@ found text = record {
       (more (front ++ k.0) (spans ++ span_of rest ∷ []) k.1);
 }
 
--- the items of a text, and the rest after them
+-- The items of a text, and the rest after them.
 pub items_found_at : (text : List ℕ) → ItemsAfter text [] (walk_of text)
 items_found_at text = by_walk text (Found text) (found text) true (drop_while is_whitespace text) (take_while is_whitespace text) [] (begun text)
 
@@ -76,7 +76,7 @@ pub items_found : (text : List ℕ) → Items text (items text).0 (items text).1
 unfolding items
 items_found text = (items_found_at text).0
 
--- these spans are within the limits, and not with those of a walk
+-- These spans are within the limits, but not together with those of a walk.
 abbrev IsTooLarge : List ℕ → Bool → List ℕ → Walk → Type 0
 IsTooLarge text first rest w = (front : List ℕ) (spans : List SpelledSpan) → IsReadTo text first front spans rest → WithinLimits spans
     → ¬ (WithinLimits (spans ++ map span_of w.starts)) → HasFault text NumberOverflow
@@ -93,7 +93,7 @@ too_large text some = record {
       ];
 }
 
--- where the items of a text are too large, it has that fault
+-- If the spans of a text break a limit, its fault is an overflow.
 pub too_large_found : (text : List ℕ) → text ≢ bare_zero → ¬ (WithinLimits (items text).0) → HasFault text NumberOverflow
 unfolding items
 too_large_found text not_zero bad =

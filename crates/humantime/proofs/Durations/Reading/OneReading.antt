@@ -1,4 +1,4 @@
--- A text is read as one list of spans at most, and the text 0 as none.
+-- A text is at most one list of spans, and the text `0` is none.
 use Rattle.std.proofs.Common.{◌≡◌, ◌≢◌, ℕ, List, [], ◌∷◌, length, refl, sym, ap, ◌∙◌, inl, arith, subst, append-nil, length-append}
 use Rattle.humantime.specs.Durations.Characters.{is_digit, bare_zero}
 use Rattle.humantime.specs.Durations.Spans.{SpelledSpan, SpellsEach, SpellsAll, Reads}
@@ -8,7 +8,7 @@ use Rattle.humantime.proofs.Durations.Reading.Runs.{begins_not_nil}
 use Rattle.humantime.proofs.Durations.Reading.Written.{spelling_some}
 use Rattle.humantime.proofs.Durations.Reading.Walked.{each_starts, first_here, front_begins}
 
--- a whole text as a front with nothing after it
+-- A whole text is a front with nothing after it.
 pub split_whole : (text : List ℕ) (spans : List SpelledSpan) → SpellsAll text spans → Split text text spans []
 split_whole text spans h = record { whole = sym (append-nil text); spelled = h; no_whitespace = refl }
 
@@ -23,7 +23,7 @@ unfolding split_whole
 one_reading text ss ts h k =
     grind (arith, common_steps, (front_begins _ _ _ _ (split_whole _ _ h.0)), (front_begins _ _ _ _ (split_whole _ _ k.0)), one_each)
 
--- a text that is read has a digit and a letter
+-- A text of spans has a digit and a letter.
 pub not_zero : (text : List ℕ) (spans : List SpelledSpan) → Reads text spans → text ≢ bare_zero
 not_zero text [] h e = absurd (h.1 refl)
 not_zero text (s ∷ ss) h e =

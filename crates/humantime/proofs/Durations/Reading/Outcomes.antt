@@ -1,4 +1,4 @@
--- The outcome by the plain reading is the value or the fault of the text, and these are one.
+-- The result of the reference is the value or the fault of the text, and the only one.
 use Rattle.std.proofs.lemmas.Grind.{common_steps}
 use Rattle.std.proofs.Common.{◌≡◌, ◌≢◌, ◌⊎◌, ◌↔◌, ℕ, true, false, List, [], ◌∷◌, ◌++◌, map, Option, Some, None, Result, Ok, Err, refl, sym, ap, ◌∙◌, inl, inr, arith, append_assoc}
 use Rattle.std.specs.Prelude.{IfErr, chars}
@@ -30,7 +30,7 @@ pub use Rattle.humantime.proofs.Durations.Reading.Found.{items_found}
 pub use Rattle.humantime.proofs.Durations.Reading.Walked.{items_walked}
 pub use Rattle.humantime.proofs.Durations.Reading.OneReading.{one_reading}
 
--- the text 0, and every other
+-- The text `0`, and all other texts.
 duration_answer-zero : duration_answer bare_zero ≡ Ok 0
 unfolding duration_answer
 duration_answer-zero = refl
@@ -42,11 +42,11 @@ duration_answer-items text some = grind (arith, bytes_eq-Decides)
 pub zero_or_not : (text : List ℕ) → (text ≡ bare_zero) ⊎ (text ≢ bare_zero)
 zero_or_not text = grind (arith, (bytes_eq-Decides text bare_zero), (cases_Bool (bytes_eq text bare_zero)))
 
--- whatever the items are, they settle the outcome
+-- Any items of a text determine its outcome.
 outcome_summed : (text : List ℕ) (spans : List SpelledSpan) (stop : Option Fault) → text ≢ bare_zero → Items text spans stop → duration_answer text ≡ sum_spans 0 (items_of spans stop)
 outcome_summed text spans stop some h = duration_answer-items text some ∙ ap (λ (r : List SpelledSpan × Option Fault). sum_spans 0 (items_of r.0 r.1)) (items_walked text spans stop h)
 
--- a text that is read whole stops nowhere
+-- No error stops the spans of a text that consists of them.
 pub items_whole : (text : List ℕ) (spans : List SpelledSpan) → Reads text spans → AllByRecursion Formed spans → Items text spans None
 items_whole text spans h f = record { front = text; rest = []; split = split_whole text spans h.0; formed = f; ends = (refl, h.1) }
 
@@ -62,7 +62,7 @@ stop_outcome text e h s =
     outcome_summed text h.spans (Some e) h.not_zero (record { front = h.front; rest = h.rest; split = h.split; formed = h.within.formed; ends = s })
     ∙ sum_spans_within h.spans (Some e) h.within
 
--- where the span that begins the rest breaks a limit, the text's items do
+-- If the span at the start of the rest breaks a limit, so do the items of the text.
 over_outcome : (text : List ℕ) (e : Fault) (h : HasFault text e) → BreaksLimit h.spans h.rest e → duration_answer text ≡ Err e
 over_outcome text e h b =
     let f = b.span in
@@ -78,7 +78,7 @@ over_outcome text e h b =
 pub outcome_fault : (text : List ℕ) (e : Fault) → HasFault text e → duration_answer text ≡ Err e
 outcome_fault text e h = grind (arith, (stop_outcome text e h), (over_outcome text e h))
 
--- the items decide the value, the fault, and that they are too large
+-- The items determine the value, the fault, and whether a limit is broken.
 value_only : (text : List ℕ) (spans : List SpelledSpan) (stop : Option Fault) (v : ℕ) → text ≢ bare_zero → Items text spans stop → duration_answer text ≡ Ok v → (stop ≡ None) × WithinLimits spans × (value spans ≡ v)
 value_only text spans stop v some h o = summed_value spans stop v h.formed (sym (outcome_summed text spans stop some h) ∙ o)
 
@@ -114,7 +114,7 @@ pub items_decide_overflow : (text : List ℕ) (spans : List SpelledSpan) (stop :
     → ¬ (WithinLimits spans) → HasFault text NumberOverflow
 items_decide_overflow text spans stop h some b = fault_from_outcome text NumberOverflow (outcome_summed text spans stop some h ∙ too_large spans stop h.formed b)
 
--- so what was answered as the function says is the value or the fault
+-- Therefore the result of parsing is the value or the fault.
 pub answer_accepts : (text : List ℕ) (r : Result ℕ Fault) → r ≡ duration_answer text → (v : ℕ) → (r ≡ Ok v) ↔ Accepted text v
 answer_accepts text r e v = (λ h. accepted_from_outcome text v (sym e ∙ h), λ a. e ∙ outcome_accepted text v a)
 

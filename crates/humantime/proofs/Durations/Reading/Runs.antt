@@ -1,4 +1,4 @@
--- The longest front of a text that passes a test, and what follows it.
+-- The longest prefix of a text that passes a test, and what follows it.
 use Rattle.std.proofs.lemmas.Grind.{common_steps}
 use Rattle.std.proofs.Common.{◌≡◌, ◌≢◌, ℕ, ◌≤◌, ◌<◌, Bool, true, false, List, [], ◌∷◌, ◌++◌, length, refl, ap, inl, inr, arith, length-append}
 use Rattle.std.proofs.lemmas.Bool.{cases_Bool}
@@ -22,7 +22,7 @@ pub begins_take_while : (p q : ℕ → Bool) (cs : List ℕ) → begins p cs ≡
     → begins p (take_while q cs) ≡ true
 begins_take_while p q cs h k = grind arith
 
--- a front that passes, and then what doesn't begin so
+-- A prefix that passes the test, followed by a text that does not begin with such a character.
 pub take_while-append : (p : ℕ → Bool) (xs ys : List ℕ) → Only p xs → begins p ys ≡ false → take_while p (xs ++ ys) ≡ xs
 take_while-append p [] [] h e = refl
 take_while-append p [] (y ∷ ys) h e = rw e
@@ -50,7 +50,7 @@ ends_Only p [] h some = absurd (some refl)
 ends_Only p (c ∷ []) h some = h.0
 ends_Only p (c ∷ d ∷ cs) h some = ends_Only p (d ∷ cs) h.1 (λ e. cc)
 
--- what begins so doesn't begin otherwise
+-- A text that begins with a character of one class does not begin with one of another.
 pub begins_other : (p q : ℕ → Bool) → ((c : ℕ) → p c ≡ true → q c ≡ false) → (cs : List ℕ) → begins p cs ≡ true → begins q cs ≡ false
 begins_other p q h cs k = grind arith
 
@@ -59,7 +59,7 @@ ends_other p q other [] e = refl
 ends_other p q other (c ∷ []) e = other c e
 ends_other p q other (c ∷ d ∷ cs) e = ends_other p q other (d ∷ cs) e
 
--- a text begins as its first part does, and ends as its last part does
+-- A text begins like its first part, and ends like its last part.
 pub begins-append : (p : ℕ → Bool) (xs ys : List ℕ) → xs ≢ [] → begins p (xs ++ ys) ≡ begins p xs
 begins-append p xs ys h = grind (arith, common_steps)
 

@@ -1,4 +1,4 @@
--- The digits of a fraction without the zeros at their end.
+-- The digits of a fraction without its trailing zeros.
 use Rattle.std.proofs.Common.{◌≡◌, ◌≤◌, ◌<◌, ◌+◌, ◌*◌, ◌/◌, ◌%◌, ◌^◌, ℕ, Bool, true, false, List, [], ◌∷◌, ◌++◌, length, refl, sym, ap, ap₂, ◌∙◌, arith, length-append, append_assoc, reverse}
 use Rattle.std.specs.Prelude.{◌==◌}
 use Rattle.std.specs.Char.{digit_value}
@@ -18,7 +18,7 @@ use Rattle.humantime.proofs.Durations.Reading.Runs.{take_while-drop_while, Only-
 abbrev is_zero : ℕ → Bool
 is_zero d = d == 48
 
--- the zeros at the end
+-- The trailing zeros.
 abbrev zeros_of : List ℕ → List ℕ
 zeros_of ds = take_while is_zero (reverse ds)
 
@@ -27,7 +27,7 @@ unfolding without_trailing_zeros
 significant_and_zeros ds =
     sym (reverse-reverse ds) ∙ ap reverse (sym (take_while-drop_while is_zero (reverse ds))) ∙ reverse-append (zeros_of ds) (drop_while is_zero (reverse ds))
 
--- a digit after others stays and keeps them, unless it is a zero
+-- Another digit than zero keeps all digits before it.
 pub significant_last : (ds : List ℕ) (d : ℕ) → (d == 48) ≡ false → without_trailing_zeros (ds ++ d ∷ []) ≡ ds ++ d ∷ []
 unfolding without_trailing_zeros
 significant_last ds d e = rw (reverse-append ds (d ∷ []), e) (reverse-append (d ∷ []) (reverse ds) ∙ ap (λ (l : List ℕ). l ++ d ∷ []) (reverse-reverse ds))
@@ -50,7 +50,7 @@ pub significant_shorter : (ds : List ℕ) → length (without_trailing_zeros ds)
 unfolding without_trailing_zeros
 significant_shorter ds = omega (arith, length-reverse (drop_while is_zero (reverse ds)), drop_while_shorter is_zero (reverse ds), length-reverse ds)
 
--- ---- what zeros at the end change: nothing but a power of ten
+-- ---- trailing zeros only change a power of ten
 
 pub value-append : (v : ℕ) (ds es : List ℕ) → digits_value_after 10 v (ds ++ es) ≡ digits_value_after 10 (digits_value_after 10 v ds) es
 value-append v [] es = refl
@@ -66,7 +66,7 @@ zeros_value v (z ∷ zs) only =
 zeros_count : (ds : List ℕ) → length ds ≡ length (without_trailing_zeros ds) + length (zeros_of ds)
 zeros_count ds = omega (arith, ap length (significant_and_zeros ds), length-append (without_trailing_zeros ds) (reverse (zeros_of ds)), length-reverse (zeros_of ds))
 
--- the zeros after those digits multiply by ten each
+-- Each trailing zero multiplies the value by ten.
 pub value_shifted : (ds : List ℕ) (z : ℕ) → length ds ≡ length (without_trailing_zeros ds) + z → decimal_value ds ≡ decimal_value (without_trailing_zeros ds) * 10 ^ z
 value_shifted ds z count =
     let same : length (zeros_of ds) ≡ z = omega (arith, zeros_count ds) in
@@ -82,7 +82,7 @@ product_shifted f ds =
 power_shifted : (ds : List ℕ) → 10 ^ length ds ≡ 10 ^ length (without_trailing_zeros ds) * 10 ^ length (zeros_of ds)
 power_shifted ds = ap (λ (n : ℕ). 10 ^ n) (zeros_count ds) ∙ pow-add 10 (length (without_trailing_zeros ds)) (length (zeros_of ds))
 
--- a whole part stays one, of the same amount
+-- A whole part stays a whole part, with the same value.
 pub whole_part_kept : (f : ℕ) (ds : List ℕ) → is_whole_part f ds ≡ true → is_whole_part f (without_trailing_zeros ds) ≡ true
 whole_part_kept f ds h =
     let by = 10 ^ length (zeros_of ds) in

@@ -1,4 +1,4 @@
--- The walk over the spans of a text, one span at a time, whatever the number of its steps.
+-- Induction over the walk over the spans of a text, one span at a time, whatever its bound on the number of spans.
 use Rattle.std.proofs.Common.{◌≡◌, ◌≢◌, ℕ, zero, suc, ◌≤◌, Bool, true, false, List, [], ◌∷◌, length, Option, Some, None, if◌then◌else◌, refl, arith}
 use Rattle.humantime.specs.Texts.{begins}
 use Rattle.humantime.specs.Durations.Characters.{is_digit}
@@ -6,7 +6,7 @@ use Rattle.humantime.specs.Durations.Faults.{Fault, Empty}
 use Rattle.humantime.specs.Answers.Walks.{Walk, empty_walk, one_more, walk, walk_from, fault_at}
 use Rattle.humantime.proofs.Durations.Reading.Spelled.{next_of, next_smaller}
 
--- What is shown of each rest and of the walk from there: at the end, where a span is wrong, and where one is right.
+-- What has to be proved of each rest and of the walk from there: at the end, at an error, and at a span.
 pub record Steps (text : List ℕ) (P : Bool → List ℕ → Walk → Type 0) : Type 0 where
   pub end : (first : Bool) → P first [] (empty_walk [] (if first then Some Empty else None))
   pub wrong : (first : Bool) (rest : List ℕ) (e : Fault) → rest ≢ [] → fault_at text rest ≡ Some e → P first rest (empty_walk rest (Some e))
@@ -29,7 +29,7 @@ by_count (suc n) text P s first (c ∷ cs) h = by (fault_at text (c ∷ cs)) ref
 pub by_walk : (text : List ℕ) (P : Bool → List ℕ → Walk → Type 0) → Steps text P → (first : Bool) (rest : List ℕ) → P first rest (walk_from first text rest)
 by_walk text P s first rest = by_count (length rest) text P s first rest (omega arith)
 
--- as many steps as the rest has characters are enough
+-- As many steps as the rest has characters are enough.
 enough : (n m : ℕ) (first : Bool) (text rest : List ℕ) → length rest ≤ n → length rest ≤ m → walk n first text rest ≡ walk m first text rest
 unfolding walk
 enough n m first text [] h k = refl

@@ -1,4 +1,4 @@
--- What a spelling is read as: the longest runs of characters give back the span that it spells.
+-- The parser recovers a span from its spelling, by the longest runs of characters.
 use Rattle.std.specs.Prelude.{option_map, unwrap_or}
 use Rattle.std.proofs.Common.{◌≡◌, ◌≢◌, ◌⊎◌, ℕ, ◌≤◌, ◌<◌, true, false, List, [], ◌∷◌, ◌++◌, length, Option, Some, None, ap, ◌∙◌, arith, append_assoc, append-nil}
 use Rattle.humantime.specs.Texts.{take_while, drop_while, begins, ends}
@@ -10,11 +10,11 @@ use Rattle.humantime.proofs.Durations.Reading.Classes.{letter_not_numeric, lette
 use Rattle.humantime.proofs.Durations.Reading.Spellings.{spells_alone}
 use Rattle.humantime.proofs.Durations.Reading.Runs.{take_while-append, drop_while-append, drop_while_shorter, begins-append, begins_not_nil, letters_begin, ends_Only, ends_other, ends-append, append_not_nil}
 
--- what follows a span: the text past its word and past the whitespace after it
+-- The text after a span: after its word and the whitespace that follows.
 abbrev pub next_of : List ℕ → List ℕ
 next_of rest = drop_while is_whitespace (after_word rest)
 
--- the rest begins with a digit, and its span and the text after it are these
+-- The rest begins with a digit, and its span and the text after it are these.
 pub record IsSpanAt (rest : List ℕ) (s : SpelledSpan) (next : List ℕ) : Type 0 where
   pub starts : begins is_digit rest ≡ true
   pub span : span_of rest ≡ s
@@ -33,7 +33,7 @@ fraction_read : (b tail : List ℕ) (o : Option (List ℕ)) → SpellsFraction b
 fraction_read b tail None h e = grind (arith, (no_point tail e), letter_not_numeric)
 fraction_read b tail (Some ds) h e = grind (arith, letter_not_numeric, point_not_numeric, is_point-46, take_while-append, drop_while-append)
 
--- a spelled number and fraction before a word are read as these
+-- The number and the fraction before a word are parsed as these.
 pub record IsReadToWord (rest number_text fraction_text tail : List ℕ) (fraction : Option (List ℕ)) : Type 0 where
   pub number_is : take_while is_numeric rest ≡ number_text
   pub after_is : after_number rest ≡ fraction_text ++ tail
@@ -44,7 +44,7 @@ pub record IsReadToWord (rest number_text fraction_text tail : List ℕ) (fracti
 spelling_parts : (here next : List ℕ) (s : SpelledSpan) (h : Spells here s []) → here ++ next ≡ h.number_text ++ (h.fraction_text ++ (s.word ++ (h.whitespace ++ next)))
 spelling_parts here next s h = ap (λ (x : List ℕ). x ++ next) (spells_alone here s h) ∙ simp append_assoc
 
--- a rest that spells a span is read as its number and fraction up to its word
+-- The number and the fraction of a span are parsed up to its word.
 pub read_spelled : (rest next : List ℕ) (s : SpelledSpan) (h : Spells rest s next)
     → IsReadToWord rest h.number_text h.fraction_text (s.word ++ (h.whitespace ++ next)) s.fraction
 read_spelled rest next s h = grind (arith, begins_word, fraction_read, drop_while-append, take_while-append)
@@ -52,7 +52,7 @@ read_spelled rest next s h = grind (arith, begins_word, fraction_read, drop_whil
 pub no_letter_follows : (cs : List ℕ) → ends_span cs ≡ true → begins is_letter cs ≡ false
 no_letter_follows cs h = grind (arith, letter_not_numeric)
 
--- where a spelling ends with its word, it doesn't end in whitespace
+-- If a spelling ends with its word, it does not end in whitespace.
 ends_in_word : (a b word : List ℕ) → Only is_letter word → begins is_letter word ≡ true → ends is_whitespace (a ++ (b ++ (word ++ []))) ≡ false
 ends_in_word a b word only some =
     let n : word ≢ [] = begins_not_nil is_letter word some in
@@ -64,7 +64,7 @@ followed : (a b word c here next : List ℕ) → here ≡ a ++ (b ++ (word ++ c)
 followed a b word [] here next whole only some whitespace o = grind (arith, (ends_in_word a b word only some))
 followed a b word (x ∷ xs) here next whole only some whitespace o = whitespace_is_numeric x (whitespace.0)
 
--- a spelling is the span that begins it, where its word ends with it
+-- A spelling is the span at its start, if its word ends with it.
 pub spelled_here : (here next : List ℕ) (s : SpelledSpan) → Spells here s [] → (ends_span next ≡ true) ⊎ (ends is_whitespace here ≡ true) → begins is_whitespace next ≡ false → IsSpanAt (here ++ next) s next
 spelled_here here next s h o no_whitespace =
     let letter = letters_begin s.word h.word in
@@ -77,6 +77,6 @@ spelled_here here next s h o no_whitespace =
 fraction_shorter : (cs : List ℕ) → length (unwrap_or (option_map after_number (after_point cs)) cs) ≤ length cs
 fraction_shorter cs = grind (arith, drop_while_shorter)
 
--- what follows a span is shorter than what it begins
+-- The text after a span is shorter than the text from the span on.
 pub next_smaller : (rest : List ℕ) → begins is_digit rest ≡ true → length (next_of rest) < length rest
 next_smaller rest e = grind (arith, fraction_shorter, drop_while_shorter)

@@ -1,17 +1,17 @@
--- A spelling as a text of its own, and with more after it.
+-- A spelling as a text of its own, and followed by more text.
 use Rattle.std.proofs.Common.{arith, ◌≡◌, ℕ, List, [], ◌∷◌, ◌++◌, ap, sym, ◌∙◌, append_assoc, append-nil, subst}
 use Rattle.std.specs.List.{AllByRecursion}
 use Rattle.std.proofs.lemmas.Grind.{common_steps}
 use Rattle.humantime.specs.Durations.Characters.{is_whitespace}
 use Rattle.humantime.specs.Durations.Spans.{SpelledSpan, Only, Spells, SpellsEach}
 
--- The text is one that spells the span alone, and then the rest.
+-- The text is a spelling of the span alone, followed by the rest.
 pub record IsApart (text : List ℕ) (span : SpelledSpan) (rest : List ℕ) : Type 0 where
   pub here : List ℕ
   pub whole : text ≡ here ++ rest
   pub spells : Spells here span []
 
--- the same parts with other whitespace, or with another rest
+-- The same parts with other whitespace, or with another rest.
 pub respelled : (text rest here next white : List ℕ) (s : SpelledSpan) (h : Spells text s rest)
     → here ≡ h.number_text ++ (h.fraction_text ++ (s.word ++ (white ++ next))) → Only is_whitespace white → Spells here s next
 respelled text rest here next white s h whole only = record {
@@ -41,10 +41,10 @@ pub spells_each-append : (a b : List ℕ) (ss ts : List SpelledSpan) → SpellsE
 spells_each-append a b [] ts h k = subst (λ (l : List ℕ). SpellsEach (l ++ b) ts) (sym h) k
 spells_each-append a b (s ∷ ss) ts h k = (h.0 ++ b, spells-append a h.0 b s h.1, spells_each-append h.0 b ss ts h.2 k)
 
--- what holds of the elements of two lists holds of those of both together
+-- If all elements of two lists have a property, so do those of the joined list.
 pub each-append : {A : Type 0} (P : A → Type 0) (xs ys : List A) → AllByRecursion P xs → AllByRecursion P ys → AllByRecursion P (xs ++ ys)
 each-append P xs ys h k = grind (arith, common_steps)
 
--- a spelling alone has nothing after its whitespace
+-- A spelling alone has nothing after its whitespace.
 pub spells_alone : (here : List ℕ) (s : SpelledSpan) (h : Spells here s []) → here ≡ h.number_text ++ (h.fraction_text ++ (s.word ++ h.whitespace))
 spells_alone here s h = h.whole ∙ simp append-nil

@@ -1,4 +1,4 @@
--- The chain of tests at a rest finds what the table of first faults says of it.
+-- The tests at the start of a span find the error that the table of first errors gives.
 use Rattle.std.proofs.lemmas.Grind.{common_steps}
 use Rattle.std.proofs.Common.{◌≡◌, ◌≢◌, ◌⊎◌, ℕ, Bool, true, false, List, [], ◌∷◌, length, Option, Some, None, refl, sym, ap, inl, inr, arith}
 use Rattle.std.specs.Prelude.{◌==◌, not, IsSome}
@@ -14,9 +14,9 @@ use Rattle.humantime.specs.Durations.Faults.{fraction_of, after_fraction, word_o
 use Rattle.humantime.specs.Answers.Walks.{stop_at, fault_at, ends_span}
 use Rattle.humantime.proofs.Durations.Reading.Runs.{take_while-drop_while}
 
--- ---- each test of the chain, and what the table says in its place
+-- ---- each test, and the condition of the table
 
--- no letter stands there, and the text goes on
+-- The text begins with a character other than a letter.
 no_letter_tells : (cs : List ℕ) → Decides (begins (λ c. not (is_letter c)) cs) ((take_while is_letter cs ≡ []) × (drop_while is_letter cs ≢ []))
 no_letter_tells cs = grind (arith, common_steps)
 
@@ -44,16 +44,16 @@ offset_at_end text = omega arith
 nothing_left : (cs : List ℕ) → take_while is_letter cs ≡ [] → drop_while is_letter cs ≡ [] → cs ≡ []
 nothing_left cs none end = grind (arith, common_steps, (take_while-drop_while is_letter cs))
 
--- ---- from the table to the chain
+-- ---- from the table to the tests
 
--- a letter stands there, or the end
+-- There is a letter, or the end of the text.
 no_letter_fails : (rest : List ℕ) → (word_of rest ≢ []) ⊎ (after_word rest ≡ []) → begins (λ c. not (is_letter c)) (after_fraction rest) ≡ false
 no_letter_fails rest w = is_false _ (no_letter_tells (after_fraction rest)) (λ h. elim w [ inl some ↦ some h.0 | inr end ↦ h.1 end ])
 
 no_digits_fails : (rest : List ℕ) → fraction_of rest ≢ Some [] → is_some_and (λ ds. length ds == 0) (fraction_of rest) ≡ false
 no_digits_fails rest some = is_false _ (no_digits_tells (fraction_of rest)) some
 
--- what stops at a rest is found there
+-- An error of the table is found by the tests.
 pub stops_at : (text front : List ℕ) (spans : List SpelledSpan) (rest : List ℕ) (e : Fault) → rest ≢ [] → Stops text front spans rest e → fault_at text rest ≡ Some e
 unfolding stop_at
 stops_at text front spans rest e some (Only_whitespace none end is) = absurd (some end)
@@ -72,7 +72,7 @@ stops_at text front spans rest e some (No_word b ds w end is) =
 stops_at text front spans rest e some (Unknown_word b ds w none next is) =
     rw (b.digit, b.short, no_letter_fails rest (inl w), no_digits_fails rest ds, (ends_tells (after_word rest)).1 next, none) (ap Some (sym is))
 
--- nothing is wrong with a whole span
+-- The tests find no error in a whole span.
 pub fine_goes : (text rest : List ℕ) → BeginsSpan rest → fault_at text rest ≡ None
 unfolding stop_at
 fine_goes text rest s =
@@ -85,7 +85,7 @@ fine_goes text rest s =
       s.unit,
     ) refl
 
--- ---- from the chain to the table
+-- ---- from the tests to the table
 
 none_or_some : {A : Type 0} (o : Option A) → (o ≡ None) ⊎ IsSome o
 none_or_some None = inl refl
@@ -98,7 +98,7 @@ empty_or_not (c ∷ cs) = inr (λ e. cc)
 word_or_end : (cs : List ℕ) → begins (λ c. not (is_letter c)) cs ≡ false → (take_while is_letter cs ≢ []) ⊎ (drop_while is_letter cs ≡ [])
 word_or_end cs goes = grind (arith, common_steps)
 
--- what the table says where the chain finds this: a whole span, or a row
+-- What the table says for a result of the tests: a whole span, or a row.
 abbrev Tells : List ℕ → List ℕ → List SpelledSpan → List ℕ → Option Fault → Type 0
 Tells text front spans rest None = BeginsSpan rest
 Tells text front spans rest (Some e) = Stops text front spans rest e
@@ -150,12 +150,12 @@ told text front spans rest some first = elim (cases_Bool (begins is_digit rest))
   ]
 ]
 
--- what is found at a rest stops there
+-- An error that the tests find is one of the table.
 pub wrong_stops : (text front : List ℕ) (spans : List SpelledSpan) (rest : List ℕ) (e : Fault) → rest ≢ [] → (begins is_digit rest ≡ false → (spans ≡ []) ⊎ (ends is_whitespace front ≡ true))
     → fault_at text rest ≡ Some e → Stops text front spans rest e
 wrong_stops text front spans rest e some first found = rw found at (told text front spans rest some first)
 
--- where nothing is found, a whole span begins the rest
+-- If the tests find no error, the rest begins with a whole span.
 pub is_fine : (text rest : List ℕ) → fault_at text rest ≡ None → BeginsSpan rest
 is_fine text [] s = cc
 is_fine text (c ∷ cs) s = rw s at (told text [] [] (c ∷ cs) (λ e. cc) (λ d. inl refl))

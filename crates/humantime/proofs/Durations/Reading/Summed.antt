@@ -1,4 +1,4 @@
--- What spans add up to by the reference, and whether they are within the limits.
+-- The sum of spans by the reference, and whether they are within the limits.
 use Rattle.std.proofs.lemmas.Grind.{flat_map-append}
 use Rattle.std.proofs.Common.{true, ◌≡◌, ◌⊎◌, ℕ, ◌+◌, List, [], ◌∷◌, ◌++◌, Option, Some, None, Result, Ok, Err, map, refl, ap, ◌∙◌, inl, inr, arith}
 use Rattle.std.specs.Prelude.{⊤}
@@ -11,16 +11,16 @@ use Rattle.humantime.specs.Durations.Faults.{Fault, NumberOverflow}
 use Rattle.humantime.specs.Durations.Items.{items_of}
 use Rattle.humantime.proofs.Durations.Reading.Rooms.{RoomFrom, add_all-room, add_all-full, RoomFrom-append, RoomFrom-front, RoomFrom-back, room_from_all, all_have_room}
 
--- the span keeps the limits after t nanoseconds
+-- The span keeps the limits after `t` nanoseconds.
 abbrev pub IsAddedTo : ℕ → SpelledSpan → Type 0
 IsAddedTo t s = (fits s ≡ true) × RoomFrom t (additions_of s)
 
--- each span does, after those before it
+-- Each span does so after those before it.
 abbrev pub WithinLimitsFrom : ℕ → List SpelledSpan → Type 0
 WithinLimitsFrom t [] = ⊤
 WithinLimitsFrom t (s ∷ ss) = IsAddedTo t s × WithinLimitsFrom (t + total (additions_of s)) ss
 
--- the sum after a span that keeps the limits, and none after another
+-- The sum after a span that keeps the limits, and `None` after another one.
 add_span-added : (t : ℕ) (s : SpelledSpan) → IsAddedTo t s → add_span t s ≡ Some (t + total (additions_of s))
 unfolding add_span
 add_span-added t s h = rw h.0 (add_all-room t (additions_of s) h.1)
@@ -45,7 +45,7 @@ additions-append ss ts = flat_map-append additions_of ss ts
 pub value-append : (ss ts : List SpelledSpan) → value (ss ++ ts) ≡ value ss + value ts
 value-append ss ts = ap total (additions-append ss ts) ∙ sum_by-append addition_nanos (additions ss) (additions ts)
 
--- the sum goes on over spans within the limits
+-- Spans within the limits are added.
 sum_spans_fine : (t : ℕ) (ss : List SpelledSpan) (items : List (Result SpelledSpan Fault)) → WithinLimitsFrom t ss → sum_spans t (map Ok ss ++ items) ≡ sum_spans (t + value ss) items
 unfolding sum_spans
 sum_spans_fine t [] items h = ap (λ (n : ℕ). sum_spans n items) (omega arith)
@@ -53,7 +53,7 @@ sum_spans_fine t (s ∷ ss) items h =
     let sum : (t + total (additions_of s)) + value ss ≡ t + value (s ∷ ss) = omega (arith, value-cons s ss) in
     rw (add_span-added t s h.0, sum_spans) (sum_spans_fine (t + total (additions_of s)) ss items h.1 ∙ ap (λ (n : ℕ). sum_spans n items) sum)
 
--- over others it says that they are too large
+-- Other spans are an overflow.
 sum_spans_beyond : (t : ℕ) (spans : List SpelledSpan) (items : List (Result SpelledSpan Fault)) → ¬ (WithinLimitsFrom t spans) → sum_spans t (map Ok spans ++ items) ≡ Err NumberOverflow
 unfolding sum_spans
 sum_spans_beyond t [] items h = absurd (h tt)
@@ -78,7 +78,7 @@ WithinLimits_from ss f h = let each = each_fits 0 ss h in record { formed = f; f
 pub from_WithinLimits : (spans : List SpelledSpan) → WithinLimits spans → WithinLimitsFrom 0 spans
 from_WithinLimits spans h = each_within 0 spans h.fit (room_from_all (additions spans) h.room)
 
--- what spans and a stop add up to: the value, or else the fault
+-- The sum of spans that an error may stop: the value, or else the fault.
 pub sum_spans_within : (spans : List SpelledSpan) (stop : Option Fault) → WithinLimits spans → sum_spans 0 (items_of spans stop) ≡ sum_spans (value spans) (items_of [] stop)
 sum_spans_within spans stop g =
     sum_spans_fine 0 spans (items_of [] stop) (from_WithinLimits spans g) ∙ ap (λ (n : ℕ). sum_spans n (items_of [] stop)) (omega arith)
@@ -92,7 +92,7 @@ within_or_beyond spans f = elim (within_or_not 0 spans) [
 pub too_large : (spans : List SpelledSpan) (stop : Option Fault) → AllByRecursion Formed spans → ¬ (WithinLimits spans) → sum_spans 0 (items_of spans stop) ≡ Err NumberOverflow
 too_large spans stop f bad = sum_spans_beyond 0 spans (items_of [] stop) (λ g. bad (WithinLimits_from spans f g))
 
--- and the other way round
+-- The converse.
 pub summed_value : (spans : List SpelledSpan) (stop : Option Fault) (v : ℕ) → AllByRecursion Formed spans → sum_spans 0 (items_of spans stop) ≡ Ok v → (stop ≡ None) × WithinLimits spans × (value spans ≡ v)
 unfolding sum_spans
 summed_value spans stop v f h = grind (arith, (within_or_beyond spans f), (sum_spans_within spans stop), (too_large spans stop f))
@@ -102,7 +102,7 @@ pub summed_fault : (spans : List SpelledSpan) (stop : Option Fault) (e : Fault) 
 unfolding sum_spans
 summed_fault spans stop e f h = grind (arith, (within_or_beyond spans f), (sum_spans_within spans stop), (too_large spans stop f))
 
--- the spans without those at the end
+-- The first spans of a list are within the limits if all are.
 pub WithinLimitsFrom-front : (t : ℕ) (ss ts : List SpelledSpan) → WithinLimitsFrom t (ss ++ ts) → WithinLimitsFrom t ss
 WithinLimitsFrom-front t [] ts h = tt
 WithinLimitsFrom-front t (s ∷ ss) ts h = (h.0, WithinLimitsFrom-front (t + total (additions_of s)) ss ts h.1)

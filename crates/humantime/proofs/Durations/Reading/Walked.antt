@@ -1,4 +1,4 @@
--- The walk over a text tells the spans that it is read as, whatever reads it.
+-- The walk over a text finds the spans that the text consists of.
 use Rattle.std.proofs.lemmas.Grind.{common_steps}
 use Rattle.std.proofs.Common.{◌≡◌, ◌⊎◌, ℕ, Bool, true, false, List, [], ◌∷◌, ◌++◌, map, Option, Some, None, refl, ap, ◌∙◌, inl, inr, arith, subst, append-nil}
 use Rattle.std.specs.List.{AllByRecursion}
@@ -17,7 +17,7 @@ use Rattle.humantime.proofs.Durations.Reading.SpanWalks.{walk-end, walk-wrong, w
 use Rattle.humantime.proofs.Durations.Reading.Stopping.{fine_goes, stops_at}
 use Rattle.humantime.proofs.Durations.Reading.Written.{fine_here}
 
--- what stands before the rest ends there: in whitespace, or by what the rest begins with
+-- The front ends before the rest: with whitespace, or because of the first character of the rest.
 abbrev pub Closes : List ℕ → List ℕ → Type 0
 Closes front rest = (ends_span rest ≡ true) ⊎ (ends is_whitespace front ≡ true)
 
@@ -34,7 +34,7 @@ no_whitespace_before : (body rest : List ℕ) (ss : List SpelledSpan) → Spells
 no_whitespace_before body rest [] h e = rw h e
 no_whitespace_before body rest (s ∷ ss) h e = begins_other is_digit is_whitespace digit_not_whitespace (body ++ rest) (starts_before body rest s ss h)
 
--- each spelling but the last ends before a digit
+-- Each spelling except for the last one ends before a digit.
 closes_here : (here more rest : List ℕ) (ss : List SpelledSpan) → SpellsEach more ss → Closes (here ++ more) rest → Closes here (more ++ rest)
 closes_here here more rest [] h o = grind (arith, append-nil)
 closes_here here more rest (s ∷ ss) h o = closes_digit here (more ++ rest) (starts_before more rest s ss h)
@@ -43,11 +43,11 @@ closes_more : (xs ys rest : List ℕ) (ss : List SpelledSpan) → SpellsEach ys 
 closes_more xs ys rest [] h o = inl refl
 closes_more xs ys rest (s ∷ ss) h o = rw (ends-append is_whitespace xs ys (begins_not_nil is_digit ys (each_starts ys s ss h))) at o
 
--- the first of these spans is the span that begins the text
+-- The first of these spans is the span at the start of the text.
 pub first_here : (body rest : List ℕ) (s : SpelledSpan) (ss : List SpelledSpan) (h : SpellsEach body (s ∷ ss)) → Closes body rest → begins is_whitespace rest ≡ false → IsSpanAt (body ++ rest) s (h.0 ++ rest)
 first_here body rest s ss h o e = grind (arith, common_steps, (spelled_here (apart body h.0 s h.1).here (h.0 ++ rest) s (apart body h.0 s h.1).spells (closes_here (apart body h.0 s h.1).here h.0 rest ss h.2 (subst (λ b. Closes b rest) (apart body h.0 s h.1).whole o)) (no_whitespace_before h.0 rest ss h.2 e)))
 
--- whether none was before, once these spans are read
+-- Whether no span precedes the rest, after these spans.
 abbrev pub first_after : Bool → List SpelledSpan → Bool
 first_after first [] = first
 first_after first (s ∷ ss) = false
@@ -55,11 +55,11 @@ first_after first (s ∷ ss) = false
 none_first : (spans : List SpelledSpan) → first_after false spans ≡ false
 none_first spans = grind arith
 
--- these spans, and then those of a walk
+-- These spans, followed by those of a walk.
 abbrev pub followed_by : List SpelledSpan → Walk → List SpelledSpan × Option Fault
 followed_by spans w = (spans ++ map span_of w.starts, w.stop)
 
--- the walk goes through these spans, and on from the rest
+-- The walk passes these spans and continues at the rest.
 through : (text body rest : List ℕ) (first : Bool) (spans : List SpelledSpan) → SpellsEach body spans → AllByRecursion Formed spans → (spans ≡ []) ⊎ Closes body rest → begins is_whitespace rest ≡ false
     → spans_of_walk (walk_from first text (body ++ rest)) ≡ followed_by spans (walk_from (first_after first spans) text rest)
 through text body rest first [] h f o e = rw h refl
@@ -70,7 +70,7 @@ through text body rest first (s ∷ ss) h f (inr o) e =
     let i = first_here body rest s ss h o e in
     grind (arith, (i), (more), (walk-right first text _ (fine_goes text _ (fine_here (body ++ rest) _ s i f.0))))
 
--- the front of a split begins where the whitespace ends
+-- The front of a split begins after the leading whitespace.
 pub front_begins : (text front rest : List ℕ) (spans : List SpelledSpan) (h : Split text front spans rest) → drop_while is_whitespace text ≡ h.spelled.body ++ rest
 front_begins text front rest spans h = grind (arith, common_steps, drop_while-append, no_whitespace_before)
 
@@ -83,13 +83,13 @@ front_walked text front rest spans h f o =
     ap (λ (x : List ℕ). spans_of_walk (walk_from true text x)) (front_begins text front rest spans h)
     ∙ through text body rest true spans h.spelled.each f (closes_more h.spelled.whitespace body rest spans h.spelled.each c) h.no_whitespace
 
--- the walk ends where the items do
+-- The walk ends where the items do.
 ends_walked : (text front rest : List ℕ) (spans : List SpelledSpan) (stop : Option Fault) → Ends text front spans rest stop → walk_from (first_after true spans) text rest ≡ empty_walk rest stop
 ends_walked text front [] spans stop h = grind (arith, walk-end)
 ends_walked text front (c ∷ cs) spans None h = cc
 ends_walked text front (c ∷ cs) spans (Some e) h = walk-wrong (first_after true spans) text (c ∷ cs) e (λ n. cc) (stops_at text front spans (c ∷ cs) e (λ n. cc) h)
 
--- whatever the items of a text are, the reading gives these
+-- The reference finds any items of a text.
 pub items_walked : (text : List ℕ) (spans : List SpelledSpan) (stop : Option Fault) → Items text spans stop → items text ≡ (spans, stop)
 items_walked text spans stop h =
     front_walked text h.front h.rest spans h.split h.formed (grind (arith, (h.ends)))

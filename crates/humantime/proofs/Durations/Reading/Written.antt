@@ -1,4 +1,4 @@
--- A rest that a well formed span begins is a spelling of that span, and then the rest after it.
+-- A rest that begins with a well-formed span is a spelling of that span followed by the text after it.
 use Rattle.std.specs.Prelude.{option_map, unwrap_or}
 use Rattle.std.proofs.Common.{◌≡◌, ◌≢◌, ℕ, ◌<◌, true, false, List, [], ◌∷◌, ◌++◌, length, Some, if◌then◌else◌, refl, arith, append-nil}
 use Rattle.humantime.specs.Texts.{take_while, begins, ends}
@@ -12,13 +12,13 @@ use Rattle.std.proofs.lemmas.Grind.{common_steps}
 use Rattle.humantime.proofs.Durations.Reading.Spelled.{next_of, IsSpanAt}
 use Rattle.humantime.proofs.Durations.Reading.Stopping.{some_letters, ends_tells}
 
--- a spelling of the span that begins the rest, in whitespace where no digit follows it
+-- A spelling of the span at the start of the rest ends in whitespace if no digit follows it.
 pub record IsWritten (rest here : List ℕ) : Type 0 where
   pub whole : rest ≡ here ++ next_of rest
   pub spells : Spells here (span_of rest) []
   pub closes : next_of rest ≢ [] → begins is_digit (next_of rest) ≡ false → ends is_whitespace here ≡ true
 
--- the point with what follows it up to the word, if a point begins the text
+-- The point and the text after it up to the word, if a text begins with a point.
 abbrev pub fraction_text : List ℕ → List ℕ
 fraction_text [] = []
 fraction_text (c ∷ cs) = if is_point c then c ∷ take_while is_numeric cs else []
@@ -30,7 +30,7 @@ fraction_spelled : (m : List ℕ) → option_map number_of (after_point m) ≢ S
 fraction_spelled [] some = refl
 fraction_spelled (c ∷ cs) some = grind (arith, (Only-take_while is_numeric cs), (is_point-true c))
 
--- a spelling has a digit and a letter
+-- A spelling has a digit and a letter.
 pub spelling_some : (text rest : List ℕ) (s : SpelledSpan) → Spells text s rest → 1 < length text
 spelling_some text rest s h = grind (arith, common_steps)
 
@@ -45,7 +45,7 @@ written_here rest h =
       },
     )
 
--- the span that begins the rest is well formed
+-- The span at the start of the rest is well formed.
 pub formed_here : (rest : List ℕ) → BeginsSpan rest → Formed (span_of rest)
 formed_here rest h = record { short = h.number.short; word = h.unit }
 

@@ -1,4 +1,4 @@
--- The list of what the items of a text lend.
+-- The list of the views of the items of a text.
 use Rattle.std.proofs.Common.{◌≡◌, ◌≢◌, ◌++◌, IsUtf8, chars, encode_utf8_all, arith, ℕ, Bool, true, List, [], ◌∷◌, map, Option, Result, Ok, Err, refl, sym, ap, ap₂, ◌∙◌}
 use Rattle.std.proofs.lemmas.Str.{encodes-chars, encode_ascii}
 use Rattle.humantime.specs.Texts.{drop_while}
@@ -18,22 +18,22 @@ use Rattle.humantime.proofs.Durations.Slices.SpanSlices.{is_span_view}
 use Rattle.humantime.proofs.Durations.Reading.Spelled.{next_of}
 use Rattle.humantime.proofs.Durations.Bytes.Trimming.{spelled_at}
 
--- what is lent on a walk spells the spans of the walk
+-- The views of the spans of a walk represent these spans.
 spans_read : (text : List ℕ) (starts : List (List ℕ)) (stop : Option Fault) → map span_in (items_of (map (view_at text) starts) stop) ≡ items_of (map span_of starts) stop
 spans_read text [] stop = grind arith
 spans_read text (rest ∷ starts) stop = ap₂ (λ (s : SpelledSpan) (items : List (Result SpelledSpan Fault)). Ok s ∷ items) (spelled_at text rest) (spans_read text starts stop)
 
--- unless the text is `0`, what its items add up to is its outcome
+-- Unless the text is `0`, the sum of its items is its outcome.
 sum_views_outcome : (text : List ℕ) → text ≢ bare_zero → sum_spans 0 (map span_in (item_views text)) ≡ duration_answer text
 unfolding items
 sum_views_outcome text some = ap (sum_spans 0) (spans_read text (walk_of text).starts (walk_of text).stop) ∙ sym (duration_answer-items text some)
 
--- the same of the text's bytes, since a text whose one character is `0` is that one byte
+-- The same for the bytes of the text, since a text whose one character is `0` is that byte.
 pub sum_answers : (bs : List ℕ) → IsUtf8 bs → bs ≢ bare_zero → sum_spans 0 (map span_in (item_views (chars bs))) ≡ duration_answer (chars bs)
 sum_answers bs u n =
     sum_views_outcome (chars bs) (λ e. n (sym (encodes-chars bs u) ∙ ap encode_utf8_all e ∙ ap (◌++ []) (encode_ascii 48 (omega arith))))
 
--- each span of a walk lends its part, up to what the walk leaves
+-- Each span of a walk has its view, up to the rest that the walk leaves.
 abbrev Lends : List ℕ → Bool → List ℕ → Walk → Type 0
 Lends text first rest w = AreSpanViews text rest (map span_of w.starts) (map (view_at text) w.starts) w.unread
 
@@ -56,7 +56,7 @@ are_items text =
       each = rw i.1 (by_walk text (Lends text) (lends text) true (drop_while is_whitespace text));
     }
 
--- two lists that lend the same spans and stop alike are one
+-- Two lists of views of the same spans with the same stop are equal.
 same_span_view : (text : List ℕ) (xs ys : List (Result SpanView Fault)) (a : AreItems text xs) (b : AreItems text ys) → a.spans ≡ b.spans → a.stop ≡ b.stop → xs ≡ ys
 same_span_view text xs ys a b p q = grind (arith, one_each)
 
@@ -65,7 +65,7 @@ one_span_view text others o =
     let a = are_items text in
     grind (arith, (items_walked text o.spans o.stop o.items), (items_walked text a.spans a.stop a.items), (same_span_view text others _ o a))
 
--- an error that is the first item is the answer
+-- If an error is the first item, it is the result of parsing.
 pub first_error_answers : (text : List ℕ) (listed others : List (Result SpanView Fault)) (e : Fault) → AreItems text listed
     → listed ≡ Err e ∷ others → text ≢ bare_zero → duration_answer text ≡ Err e
 unfolding sum_spans

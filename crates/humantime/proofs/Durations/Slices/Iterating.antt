@@ -9,7 +9,7 @@ use Rattle.humantime.specs.Answers.Items.{view_at, views_on, left_at}
 use Rattle.humantime.proofs.Durations.Reading.Runs.{begins_not_nil}
 use Rattle.humantime.proofs.Durations.Reading.SpanWalks.{walk-end, walk-wrong, walk-right}
 
--- the items that are left before a text whose whitespace is still to be passed, unless they have ended
+-- The items that are left, if leading whitespace is still to be skipped and the iterator has not ended.
 abbrev pub left : Bool → Bool → List ℕ → List ℕ → List (Result SpanView Fault)
 left ended first text before = if ended then [] else left_at first text (drop_while is_whitespace before)
 

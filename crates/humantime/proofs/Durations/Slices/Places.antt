@@ -1,4 +1,4 @@
--- Where an error of a text points, by cursors into the text.
+-- The offset of an error in its text, by cursors into the text.
 use Rattle.std.proofs.lemmas.Grind.{common_steps}
 use Rattle.std.proofs.Common.{◌≡◌, ◌≢◌, ◌≤◌, ◌<◌, ◌++◌, ℕ, List, [], length, arith, chars}
 use Rattle.std.proofs.lemmas.Str.{chars-nil}
@@ -8,21 +8,21 @@ use Rattle.humantime.specs.Durations.Errors.{IsPlaceIn, IsRangeIn, IsPartOf}
 use Rattle.humantime.specs.Steps.Cursors.{ahead}
 use Rattle.humantime.proofs.Durations.Bytes.Tails.{tail_boundary, tail_offset}
 
--- a text that has a character has a byte
+-- A text that is not empty has a byte.
 some_bytes : (bs : List ℕ) → chars bs ≢ [] → 0 < length bs
 some_bytes bs h = grind (arith, common_steps, chars-nil)
 
--- a cursor before the end is at a character
+-- A cursor before the end of the text is at a character.
 pub cursor_place : (text : List ℕ) (c : Cursor) (at : ℕ) → c.text.now ≡ text → at ≡ offset_of (chars c.text.now) (ahead c) → ahead c ≢ [] → IsPlaceIn text at
 cursor_place text c at same is some = grind (arith, tail_boundary, (some_bytes c.rest.now some), (tail_offset c.text.now c.rest.now c.tail))
 
--- two cursors are at the ends of a range
+-- Two cursors are the ends of a range.
 pub range_between : (text : List ℕ) (a b : Cursor) (start end : ℕ) → a.text.now ≡ text → b.text.now ≡ text → length b.rest.now ≤ length a.rest.now
     → start ≡ offset_of (chars a.text.now) (ahead a) → end ≡ offset_of (chars b.text.now) (ahead b) → IsRangeIn text start end
 range_between text a b start end s t order p q =
     grind (arith, tail_boundary, (tail_offset a.text.now a.rest.now a.tail), (tail_offset b.text.now b.rest.now b.tail))
 
--- and what stands between them is a part of the text
+-- The text between them is a slice of the text.
 pub part_between : (text part : List ℕ) (a b : Cursor) (start end : ℕ) → a.text.now ≡ text → b.text.now ≡ text → a.rest.now ≡ part ++ b.rest.now
     → start ≡ offset_of (chars a.text.now) (ahead a) → end ≡ offset_of (chars b.text.now) (ahead b) → IsPartOf text part start end
 part_between text part a b start end s t e p q =

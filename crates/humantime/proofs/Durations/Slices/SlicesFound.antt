@@ -1,4 +1,4 @@
--- What a span lends of the text is found in the text, once its span is known.
+-- The view of a span is determined by the text and the span.
 use Rattle.std.proofs.Common.{arith, ◌≡◌, ℕ, Bool, true, ◌&&◌, cond, eqb, List, [], ◌∷◌, ◌++◌, length, Option, Some, refl, sym, ap, ap₂, subst, ◌∙◌}
 use Rattle.std.proofs.Math.Bool.{and-false}
 use Rattle.std.proofs.lemmas.Grind.{common_steps}
@@ -19,13 +19,13 @@ drop_whitespace : (cs : List ℕ) → Only is_whitespace cs → drop_trailing_wh
 drop_whitespace [] o = refl
 drop_whitespace (c ∷ cs) o = rw (drop_whitespace cs o.1, whitespace_is c, o.0)
 
--- whitespace after a digit is all that is dropped
+-- Only the whitespace after the last digit is dropped.
 drop_tail : (xs tail : List ℕ) → Only is_whitespace tail → ends is_digit xs ≡ true → drop_trailing_whitespace (xs ++ tail) ≡ xs
 drop_tail [] tail o e = cc
 drop_tail (x ∷ []) tail o e = ap₂ (λ (b : Bool) (l : List ℕ). cond (b && eqb (length l) 0) [] (x ∷ l)) (whitespace_is x ∙ digit_not_whitespace x e) (drop_whitespace tail o)
 drop_tail (x ∷ y ∷ xs) tail o e = rw (drop_tail (y ∷ xs) tail o e, suc_not_zero (length xs), and-false)
 
--- a text without the whitespace at its ends goes from its first digit to its last
+-- A text without leading and trailing whitespace goes from its first to its last digit.
 trimmed_is : (text slice : List ℕ) → IsDigitSlice text slice → trimmed text ≡ slice
 trimmed_is text slice h = grind (arith, digit_not_whitespace, drop_while-append, drop_tail)
 
@@ -35,7 +35,7 @@ fraction_found b tail (Some ds) (Some slice) h k e =
     grind (arith, (slice_after_point h.0 tail h.2.0 e), (trimmed_is k.0 slice k.2), same)
 fraction_found b tail _ _ h k e = grind (arith, no_slice)
 
--- What a span lends is found at the rest that it begins.
+-- The slices of a span are those at the start of the rest.
 record SlicesAt (rest : List ℕ) (x : SpanView) (t : List ℕ) : Type 0 where
   number : x.number ≡ number_slice rest
   fraction : x.fraction ≡ fraction_slice (after_number rest)
@@ -62,12 +62,12 @@ each_starts text rest s ss xs end h = grind arith
 next_is : (whitespace next : List ℕ) → Only is_whitespace whitespace → begins is_digit next ≡ true → drop_while is_whitespace (whitespace ++ next) ≡ next
 next_is whitespace next o b = drop_while-append is_whitespace whitespace next o (begins_other is_digit is_whitespace digit_not_whitespace next b)
 
--- two lendings of one span are the same, and leave the same
+-- Two views of one span are equal, and so are the texts after them.
 one_span : (text rest : List ℕ) (s : SpelledSpan) (x y : SpanView) (m n : List ℕ) (h : IsSpanView text rest s x m) (k : IsSpanView text rest s y n)
     → (x ≡ y) × (h.spelled.whitespace ++ m ≡ k.spelled.whitespace ++ n)
 one_span text rest s x y m n h k = grind (arith, common_steps, (slices_found text rest s x m h), (slices_found text rest s y n k), (append_cancel_left x.unit (h.spelled.whitespace ++ m) (k.spelled.whitespace ++ n) (sym (slices_found text rest s x m h).left ∙ (slices_found text rest s y n k).left ∙ ap (λ (w : List ℕ). w ++ (k.spelled.whitespace ++ n)) (sym (h.unit ∙ sym k.unit)))))
 
--- one list of spans lends one list of slices, wherever in whitespace the rest of the text begins
+-- A list of spans has exactly one list of views, whatever whitespace precedes the rest of the text.
 pub one_each : (text p q m n : List ℕ) (spans : List SpelledSpan) (xs ys : List SpanView) (d e : List ℕ) → Only is_whitespace p → Only is_whitespace q → p ++ m ≡ q ++ n → AreSpanViews text m spans xs d → AreSpanViews text n spans ys e → xs ≡ ys
 one_each text p q m n (s ∷ ss) (x ∷ xs) (y ∷ ys) d e o u w h k =
     let r : m ≡ n = sym (next_is p m o (each_starts text m s ss (x ∷ xs) d h)) ∙ ap (drop_while is_whitespace) w ∙ next_is q n u (each_starts text n s ss (y ∷ ys) e k) in

@@ -1,4 +1,4 @@
--- What the span at a rest lends of the text.
+-- The view of the span at the start of a rest.
 use Rattle.std.proofs.lemmas.Grind.{common_steps}
 use Rattle.std.specs.Prelude.{option_map, unwrap_or}
 use Rattle.std.proofs.Common.{◌≡◌, ◌≢◌, ℕ, Bool, true, false, List, [], ◌∷◌, ◌++◌, Option, refl, sym, ap, subst, ◌∙◌, ◌<◌, ◌≤◌, arith}
@@ -24,11 +24,11 @@ Only-drop_while : (p q : ℕ → Bool) (cs : List ℕ) → Only p cs → Only p 
 Only-drop_while p q [] o = tt
 Only-drop_while p q (c ∷ cs) o = grind (arith, (Only-drop_while p q cs o.1))
 
--- digits and whitespace that don't begin with whitespace begin with a digit
+-- Digits and whitespace that do not begin with whitespace begin with a digit.
 begins_digit_or_end : (cs : List ℕ) → Only is_numeric cs → begins is_whitespace cs ≡ false → digits cs ≢ [] → begins is_digit cs ≡ true
 begins_digit_or_end cs h k e = grind arith
 
--- digits and whitespace, not without a digit, with the slice from the first digit to the last
+-- Digits and whitespace, with at least one digit, have a slice from the first to the last digit.
 trimmed_slice : (cs : List ℕ) → Only is_numeric cs → digits cs ≢ [] → IsDigitSlice cs (trimmed cs)
 trimmed_slice cs o n =
     let slice = digit_slice (take_while is_whitespace cs) (drop_while is_whitespace cs) (trimmed cs) (dropped (drop_while is_whitespace cs)) (Only-take_while is_whitespace cs) in
@@ -42,7 +42,7 @@ next_bytes rest b =
     let some = begins_some is_digit (take_while is_numeric rest) (begins_take_while is_digit is_numeric rest b digit_is_numeric) in
     grind (arith, common_steps, (take_while-drop_while is_numeric rest), (fewer_bytes (after_number rest)), (take_while-drop_while is_letter (after_fraction rest)), encodes-append, length-le-encodes)
 
--- the slices of a well formed span that begins a rest tile it up to the next number
+-- The slices of a well-formed span at the start of a rest tile it up to the next number.
 pub is_span_view : (text rest : List ℕ) → BeginsSpan rest → IsSpanView text rest (span_of rest) (view_at text rest) (next_of rest)
 is_span_view text rest f =
     let w = written_here rest f in

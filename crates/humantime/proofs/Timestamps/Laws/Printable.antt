@@ -1,4 +1,4 @@
--- A moment that a text shows is one of 1970 to 9999, so it is printed.
+-- A moment that a text represents is in 1970 to 9999, so it can be printed.
 use Rattle.std.proofs.Common.{arith, ℕ, ◌*◌, ◌<◌, List, subst, sym, []}
 use Rattle.std.proofs.lemmas.Int.{ints}
 use Rattle.std.specs.Prelude.{ℤ, unwrap_or}
@@ -7,7 +7,7 @@ use Rattle.humantime.specs.Timestamps.Printed.{IsPrintable}
 use Rattle.humantime.proofs.Dates.DaysOfDates.{day_at_most}
 use Rattle.humantime.proofs.Timestamps.Reading.Fractions.{nanos_bound, digits_from_test}
 
--- the last moment is the last nanosecond of that day
+-- The last moment is the last nanosecond of that day.
 moment_within : (text : List ℕ) (f : Fields) → IsWeak text f → moment_of f < 253_402_300_800 * 1_000_000_000
 moment_within text f w =
     omega (arith, day_at_most f.date w.date, w.hour, w.minute, nanos_bound (unwrap_or f.fraction []) (digits_from_test _ w.fraction))

@@ -1,4 +1,4 @@
--- The two sides of each parser's answer, and the laws of reading.
+-- The two directions of each parser's result, and the laws of parsing.
 use Rattle.std.proofs.Common.{arith, ◌≡◌, ℕ, List, refl, sym, ap, ◌∙◌}
 use Rattle.std.proofs.lemmas.Grind.{common_steps}
 use Rattle.std.specs.Prelude.{◌↔◌, ℤ, pos, Bool, true, Option, Some, None, Ok, Err, if◌then◌else◌}
@@ -13,14 +13,14 @@ use Rattle.humantime.proofs.Timestamps.Reading.Shown.{fields_weak}
 use Rattle.humantime.proofs.Timestamps.Reading.Passed.{weak_fields}
 use Rattle.humantime.proofs.Timestamps.Laws.StrictForm.{strict_is_weak, strict_checked}
 
--- an answer is a moment exactly where no check failed
+-- A result is a moment exactly if no check failed.
 or_error_ok : (o : Option TimestampError) (n : ℕ) (t : ℤ) → (moment_or_error o n ≡ Ok t) ↔ ((o ≡ None) × (t ≡ pos n))
 or_error_ok o n t = grind arith
 
 or_error_err : (o : Option TimestampError) (n : ℕ) (e : TimestampError) → (moment_or_error o n ≡ Err e) ↔ (o ≡ Some e)
 or_error_err o n e = grind (arith, common_steps)
 
--- the checks tell which parts are shown: those at their places, where none fails
+-- If no check fails, the text represents exactly the parts at their positions.
 abbrev AreDecided : List ℕ → List (Bool × TimestampError) → (Fields → Type 0) → Type 0
 AreDecided bytes checks IsShown = (f : Fields) → IsShown f ↔ ((first_failed checks ≡ None) × (f ≡ fields_of bytes))
 
@@ -38,7 +38,7 @@ strict_checks_decide bytes f =
       (λ h. let p = first.0 h.0 in marked.1 (p.0, (weak_checks_decide bytes f).1 (p.1, h.1))),
     )
 
--- so the answer by the checks is the one outcome
+-- Therefore the result by the checks is the one outcome.
 outcome_of_checks : (bytes : List ℕ) (checks : List (Bool × TimestampError)) (IsShown : Fields → Type 0) → AreDecided bytes checks IsShown
     → OneTimestamp checks IsShown (moment_or_error (first_failed checks) (moment_at bytes))
 outcome_of_checks bytes checks IsShown decided =
@@ -61,7 +61,7 @@ pub strict_outcome : (bytes : List ℕ) → OneTimestamp (strict_checks bytes) (
 unfolding strict_answer
 strict_outcome bytes = outcome_of_checks bytes (strict_checks bytes) (IsStrict bytes) (strict_checks_decide bytes)
 
--- the answer of the strict form, by its own check
+-- The result of the strict form, by its own check.
 pub strict_by_marks : (bytes : List ℕ) → (if has_t_and_zone bytes then weak_answer bytes else Err InvalidFormat) ≡ strict_answer bytes
 unfolding weak_answer strict_answer
 strict_by_marks bytes = grind arith

@@ -1,4 +1,4 @@
--- A text in strict form is one in weak form with a `T` and a zone at its end.
+-- A text in the strict form is one in the weak form with a `T` and a zone.
 use Rattle.std.proofs.lemmas.Grind.{common_steps}
 use Rattle.std.proofs.Common.{◌≡◌, ◌≢◌, ℕ, List, ◌++◌, ap, ◌∙◌, arith}
 use Rattle.std.specs.Prelude.{◌↔◌, true, length, nat_lt, slice_index}
@@ -28,7 +28,7 @@ strict_is_weak bytes f = (
   (λ p. record { weak = p.0; separator = (separator_by_byte bytes f p.0).1 p.1.0; zone = (zone_by_end bytes f p.0).1 p.1.1 }),
 )
 
--- the check of the strict form
+-- The check of the strict form.
 pub strict_checked : (bytes : List ℕ) (f : Fields) → IsStrict bytes f ↔ ((has_t_and_zone bytes ≡ true) × IsWeak bytes f)
 unfolding has_t_and_zone
 strict_checked bytes f = grind (arith, strict_is_weak)

@@ -1,4 +1,4 @@
--- The laws of timestamps and days as theorems over plain variables, each under the name of its function in `laws`, and what callers cite beside them.
+-- The laws of timestamps and days as theorems over plain variables, each under its name in `laws`, and others that callers cite.
 use Rattle.std.proofs.Common.{◌≡◌, ◌≤◌, ◌-◌, ◌*◌, ◌/◌, ◌^◌, ℕ, List, sym, subst, ◌∙◌, arith}
 use Rattle.std.proofs.Math.Nat.{mul-mod_right, div-add-mod}
 use Rattle.std.specs.Prelude.{◌↔◌, ℤ, pos, negsuc, ◌≤ℤ◌, ◌<ℤ◌, Ok, IsTrue, IfSome}
@@ -19,14 +19,14 @@ pub use Rattle.humantime.proofs.Timestamps.Laws.Printable.{weak_printable, stric
 pub use Rattle.humantime.proofs.Timestamps.Printing.Order.{stamps_in_order}
 pub use Rattle.humantime.proofs.Timestamps.Printing.Printed.{places_of_bound, printed_some}
 
--- ---- Timestamps read
+-- ---- Parsing timestamps
 
 pub one_stamp_outcome : (text : List ℕ)
     → OneTimestamp (weak_checks text) (IsWeak text) (weak_answer text)
     × OneTimestamp (strict_checks text) (IsStrict text) (strict_answer text)
 one_stamp_outcome text = (read.weak_outcome text, read.strict_outcome text)
 
--- what a text reads as, from what it shows
+-- The result of parsing a text, given the moment that it represents.
 weak_read : (text : List ℕ) (t : ℤ) → IsWeakMoment text t → weak_answer text ≡ Ok t
 weak_read text t shown = ((read.weak_outcome text).value t).1 shown
 
@@ -44,16 +44,16 @@ strict_is_weak text =
       strict = λ t given marked. strict_read text t ((law t).1 (((read.weak_outcome text).value t).0 given, marked));
     }
 
--- ---- Timestamps printed
+-- ---- Printing timestamps
 
--- what a printed text reads as
+-- The result of parsing a printed text.
 printed_read : (t : ℤ) (k : ℕ) (text : List ℕ) → IsPrinted t k text → strict_answer text ≡ Ok (cut t k)
 printed_read t k text printed = strict_read text (cut t k) (printed_reads t k text printed).strict
 
 printed_read_weak : (t : ℤ) (k : ℕ) (text : List ℕ) → IsPrinted t k text → weak_answer text ≡ Ok (cut t k)
 printed_read_weak t k text printed = weak_read text (cut t k) (printed_reads t k text printed).weak
 
--- a moment has no more than nine digits after its second
+-- A moment has at most nine fraction digits.
 cut_whole : (t : ℤ) → cut t 9 ≡ t
 cut_whole (pos n) = omega (arith, ints)
 cut_whole (negsuc n) = omega (arith, ints)
@@ -68,7 +68,7 @@ printed_moment_reads t k small = record {
   whole = cut_whole t;
 }
 
--- what `Display` wrote, of a timestamp that is known
+-- What `Display` wrote for a timestamp that is known.
 pub displayed_as : (x : MomentToPrint) (t : ℤ) (k : ℕ) (bytes : List ℕ) → x ≡ record { moment = t; places = k } → k ≤ 9 → IsPrintable t
     → IfSome (printed_text x) (λ text. bytes ≡ text) → IsPrinted t k bytes
 displayed_as x t k bytes known small within written =
@@ -76,7 +76,7 @@ displayed_as x t k bytes known small within written =
     let same : bytes ≡ some.0 = rw (known, some.1) at written in
     rw same some.2
 
--- rounding down twice is rounding down once
+-- Rounding down twice is rounding down once.
 cut_again : (t : ℤ) (k n : ℕ) → pos n ≡ cut t k → cut (pos n) k ≡ pos n
 cut_again (pos m) k n is =
     let width = 10 ^ (9 - k) in
@@ -96,27 +96,27 @@ printed_again t k text p = record {
   moment = p.moment ∙ subst (λ (m : ℤ). m ≡ cut m k) p.moment (sym (cut_again t k (moment_of p.fields) p.moment));
 }
 
--- a text is printed exactly if it is the printed text of the moment that it is parsed to
+-- A text is a printed text exactly if it is that of the moment that it parses to.
 pub printed_if_read_back : (k : ℕ) (text : List ℕ) → IsPrintedWith k text ↔ ((t : ℤ) × (strict_answer text ≡ Ok t) × IsPrinted t k text)
 printed_if_read_back k text = (
   (λ p. (cut p.0 k, printed_read p.0 k text p.1, printed_again p.0 k text p.1)),
   (λ p. (p.0, p.2)),
 )
 
--- two texts that are printed with equally many digits are ordered, by their bytes, as the moments that they are parsed to
+-- Two printed texts with the same number of digits compare, byte by byte, like the moments that they parse to.
 pub texts_in_order : (k : ℕ) (x y : List ℕ) (a b : ℤ) → IsPrintedWith k x → IsPrintedWith k y → strict_answer x ≡ Ok a → strict_answer y ≡ Ok b
     → slice_cmp nat_cmp x y ≡ int_cmp a b
 texts_in_order k x y a b p q left right =
     grind (arith, printed_read p.0 k x p.1, printed_read q.0 k y q.1, stamps_in_order p.0 q.0 k x y p.1 q.1)
 
--- what an order of two moments says
+-- The order of two moments as an inequality.
 moment_at_most : (a b : ℤ) → IsTrue (is_le (int_cmp a b)) ↔ (a ≤ℤ b)
 moment_at_most a b = grind (arith, ints)
 
 moment_before : (a b : ℤ) → IsTrue (is_lt (int_cmp a b)) ↔ (a <ℤ b)
 moment_before a b = grind (arith, ints)
 
--- and what one of two printed texts says
+-- The order of two printed texts as an inequality.
 stamp_at_most : (a b : ℤ) (k : ℕ) (x y : List ℕ) → IsPrinted a k x → IsPrinted b k y
     → IsTrue (is_le (slice_cmp nat_cmp x y)) ↔ (cut a k ≤ℤ cut b k)
 stamp_at_most a b k x y p q = rw (stamps_in_order a b k x y p q) (moment_at_most (cut a k) (cut b k))
@@ -125,20 +125,20 @@ stamp_before : (a b : ℤ) (k : ℕ) (x y : List ℕ) → IsPrinted a k x → Is
     → IsTrue (is_lt (slice_cmp nat_cmp x y)) ↔ (cut a k <ℤ cut b k)
 stamp_before a b k x y p q = rw (stamps_in_order a b k x y p q) (moment_before (cut a k) (cut b k))
 
--- the bytes of a printed text lie between two printed bounds, the first of them included, exactly where the moment that it reads as does
+-- A printed text is between two others, including the first of them, exactly if its moment is between theirs.
 pub stamps_between : (a b t : ℤ) (k : ℕ) (x y text : List ℕ) → IsPrinted a k x → IsPrinted b k y → IsPrinted t k text
     → (IsTrue (is_le (slice_cmp nat_cmp x text)) × IsTrue (is_lt (slice_cmp nat_cmp text y)))
     ↔ ((u : ℤ) × (strict_answer text ≡ Ok u) × (cut a k ≤ℤ u) × (u <ℤ cut b k))
 stamps_between a b t k x y text first second printed = grind (arith, (printed_read t k text printed), (stamp_at_most a t k x text first printed), (stamp_before t b k text y printed second))
 
--- the order of bytes for each number of digits that a printer gives; `using` one of them, a caller that compares texts is proved
--- with no answer
+-- The order of bytes for each number of digits that a printer prints. A caller that compares texts is proved with `using` one of these, and
+-- needs no answer.
 earlier : (a b : ℤ) (k : ℕ) (x y : List ℕ) → IsPrinted a k x → IsPrinted b k y → (cut a k <ℤ cut b k) ↔ IsTrue (is_lt (slice_cmp nat_cmp x y))
 earlier a b k x y p q = let h = stamp_before a b k x y p q in (h.1, h.0)
 
 pub earlier_in_millis : (a b : ℤ) (x y : List ℕ) → IsPrinted a 3 x → IsPrinted b 3 y → (cut a 3 <ℤ cut b 3) ↔ IsTrue (is_lt (slice_cmp nat_cmp x y))
 earlier_in_millis a b x y = earlier a b 3 x y
 
--- nine digits cut nothing
+-- With nine digits nothing is rounded.
 pub earlier_in_nanos : (a b : ℤ) (x y : List ℕ) → IsPrinted a 9 x → IsPrinted b 9 y → (a <ℤ b) ↔ IsTrue (is_lt (slice_cmp nat_cmp x y))
 earlier_in_nanos a b x y p q = rw (cut_whole a, cut_whole b) at (earlier a b 9 x y p q)

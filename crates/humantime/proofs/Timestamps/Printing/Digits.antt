@@ -1,4 +1,4 @@
--- The digits of a fraction: the first k of nine are the nanoseconds, cut to k digits.
+-- The digits of a fraction: the first `k` of nine are the nanoseconds, rounded down to `k` digits.
 use Rattle.std.proofs.lemmas.Grind.{common_steps}
 use Rattle.std.proofs.Common.{◌≡◌, ℕ, zero, suc, ◌+◌, ◌-◌, ◌*◌, ◌/◌, ◌%◌, ◌^◌, ◌<◌, ◌≤◌, take, arith}
 use Rattle.std.specs.Prelude.{List, length, Option, Some, None, option_map, ◌==◌, if◌then◌else◌}
@@ -12,7 +12,7 @@ use Rattle.humantime.proofs.Timestamps.Reading.Fractions.{AreDigits, add_digits,
 power_more : (j : ℕ) → (10 ^ suc j / 10 ≡ 10 ^ j) × (10 ^ suc j ≡ 10 * 10 ^ j)
 power_more j = let power : 10 ^ suc j ≡ 10 ^ j * 10 = pow-suc 10 j in (omega arith, omega arith)
 
--- the first k of the last j digits, each with its weight, and what is left
+-- The first `k` of the last `j` digits, each with its weight, and the remainder.
 sum_of_digits : (k j n a : ℕ) → k ≤ j → add_digits a (10 ^ j / 10) (take k (last_digits j n)) + n % 10 ^ (j - k) ≡ a + n % 10 ^ j
 sum_of_digits zero j n a h = grind arith
 sum_of_digits (suc k) zero n a h = absurd (omega arith)
@@ -28,7 +28,7 @@ last_are_digits : (k j n : ℕ) → AreDigits (take k (last_digits j n))
 last_are_digits (suc k) (suc j) n = ((omega arith, omega arith), last_are_digits k j n)
 last_are_digits k j n = tt
 
--- the fraction that is shown of n nanoseconds, with k digits
+-- The fraction that is printed for `n` nanoseconds, with `k` digits.
 abbrev pub cut_fraction : ℕ → ℕ → Option (List ℕ)
 cut_fraction n k = if k == 0 then None else Some (take k (last_digits 9 n))
 
@@ -44,7 +44,7 @@ shown_places k n h = grind (arith, common_steps)
 pub shown_nanos : (k n : ℕ) → k ≤ 9 → n < 1_000_000_000 → fraction_nanos (fraction_digits (cut_fraction n k)) ≡ n - n % 10 ^ (9 - k)
 shown_nanos k n small h = rw (fraction_is k n) (omega (arith, sum_of_digits k 9 n 0 small, nanos_added (take k (last_digits 9 n)) (last_are_digits k 9 n)))
 
--- cutting a moment cuts its nanoseconds
+-- Rounding a moment down rounds its nanoseconds down.
 pub cut_nanos : (k t : ℕ) → k ≤ 9 → t % 1_000_000_000 % 10 ^ (9 - k) ≡ t % 10 ^ (9 - k)
 cut_nanos k t small =
     let nine : k + (9 - k) ≡ 9 = omega arith in

@@ -1,4 +1,4 @@
--- Printed texts stand in the order of their moments.
+-- Printed texts are ordered like their moments.
 use Rattle.std.proofs.lemmas.Grind.{common_steps}
 use Rattle.std.proofs.Common.{◌≡◌, ℕ, suc, ◌+◌, ◌*◌, ◌/◌, ◌%◌, ◌<◌, ◌≤◌, List, [], ◌∷◌, ◌++◌, length, take, refl, ap, ◌∙◌, arith}
 use Rattle.std.specs.Prelude.{min, codes, Option, Some, None, option_map, ◌==◌, if◌then◌else◌, ℤ, pos}
@@ -21,7 +21,7 @@ use Rattle.humantime.proofs.Dates.DaysOfDates.{before_year, before_month}
 use Rattle.humantime.proofs.Dates.Years.{valid_from_test}
 use Rattle.humantime.proofs.Timestamps.Reading.Fractions.{AreDigits, nanos_bound, digits_from_test}
 
--- what is compared first decides, unless it is equal
+-- What is compared first decides, unless it is equal.
 step_cmp : (m n x y : ℕ) (c o : Ordering) → (m < n → x < y) → (n < m → y < x) → (m ≡ n → c ≡ ordering_then (nat_cmp x y) o)
     → ordering_then (nat_cmp m n) c ≡ ordering_then (nat_cmp x y) o
 step_cmp m n x y c o less more same = grind (arith, nat_tests)
@@ -32,11 +32,11 @@ below w m n x y h less = grind arith
 abbrev then_cmp : ℕ → ℕ → Ordering → Ordering
 then_cmp m n o = ordering_then (nat_cmp m n) o
 
--- a number and one below w behind it, as one number
+-- A number followed by one below `w`, as one number.
 pair_cmp : (w m n x y : ℕ) → x < w → y < w → then_cmp m n (nat_cmp x y) ≡ nat_cmp (m * w + x) (n * w + y)
 pair_cmp w m n x y h k = grind (arith, nat_tests, below w m n x y h, below w n m y x k)
 
--- a digit behind a number
+-- A number followed by a digit.
 digit_cmp : (m n x y : ℕ) (o : Ordering) → IsInRange 48 57 x → IsInRange 48 57 y
     → then_cmp m n (then_cmp x y o) ≡ then_cmp (m * 10 + digit_value x) (n * 10 + digit_value y) o
 digit_cmp m n x y o h k = grind (arith, nat_tests, digit_value_digit x h, digit_value_digit y k)
@@ -53,7 +53,7 @@ after_cmp : (ds : List ℕ) (m n : ℕ) → nat_cmp m n ≡ nat_cmp (digits_valu
 after_cmp [] m n = refl
 after_cmp (c ∷ cs) m n = grind (arith, common_steps, (after_cmp cs (m * 10 + digit_value c) (n * 10 + digit_value c)))
 
--- equally many digits, filled with others
+-- The same number of digits, padded with others.
 filled_cmp : (k : ℕ) (ds es zs ws : List ℕ) (m n : ℕ) → AreDigits ds → AreDigits es → length ds ≡ length es → length ds ≤ k
     → ordering_then (nat_cmp m n) (slice_cmp nat_cmp (ds ++ ws) (es ++ ws))
     ≡ ordering_then (nat_cmp (digits_value_after 10 m (take k (ds ++ zs))) (digits_value_after 10 n (take k (es ++ zs)))) (slice_cmp nat_cmp ws ws)
@@ -72,7 +72,7 @@ fraction_cmp : (k : ℕ) (p q : Option (List ℕ)) → k ≤ 9
     → slice_cmp nat_cmp (fraction_text p ++ codes "Z") (fraction_text q ++ codes "Z") ≡ nat_cmp (fraction_nanos (fraction_digits p)) (fraction_nanos (fraction_digits q))
 fraction_cmp k p q h e f g i = grind (arith, nanos_cmp)
 
--- dates and their days
+-- Dates are ordered like their days.
 day_cmp : (a b : Date) (o : Ordering) → IsDate a → IsDate b
     → then_cmp a.year b.year (then_cmp a.month b.month (then_cmp a.day b.day o)) ≡ then_cmp (day_of a) (day_of b) o
 day_cmp a b o va vb =
@@ -84,7 +84,7 @@ day_cmp a b o va vb =
     (λ less. grind (arith, before_month a.year a.month a.day left b.month less, y)) (λ more. grind (arith, before_month b.year b.month b.day right a.month more, y))
     (λ m. step_cmp a.day b.day (day_of a) (day_of b) o o (λ less. grind (arith, left.2.0, y, m)) (λ more. grind (arith, right.2.0, y, m)) (λ d. grind (arith, nat_tests, y, m, d))))
 
--- the texts of parts with `T` and `Z`
+-- The text of parts with `T` and `Z`.
 abbrev marked : Fields → List ℕ
 marked f = fields_text (record f { separator = Letter_T; zone = Letter_Z })
 
@@ -99,7 +99,7 @@ shown_marked t k text p = p.weak.text ∙ (λ i. fields_text (record p.fields { 
 pos_cmp : (m n : ℕ) → nat_cmp m n ≡ int_cmp (pos m) (pos n)
 pos_cmp m n = grind (arith, nat_tests)
 
--- the clock's numbers, one after the other
+-- The numbers of the time of day, one after the other.
 clock_cmp : (a h i s m b j k t n : ℕ) → h ≤ 23 → i ≤ 59 → s ≤ 59 → m < 1_000_000_000 → j ≤ 23 → k ≤ 59 → t ≤ 59 → n < 1_000_000_000
     → then_cmp a b (then_cmp h j (then_cmp i k (then_cmp s t (nat_cmp m n))))
     ≡ nat_cmp ((a * 86_400 + h * 3_600 + i * 60 + min s 59) * 1_000_000_000 + m) ((b * 86_400 + j * 3_600 + k * 60 + min t 59) * 1_000_000_000 + n)
@@ -124,6 +124,6 @@ stamps_in_order a b k x y p q =
     let moments = pos_cmp (moment_of f) (moment_of g) ∙ (λ i. int_cmp (p.moment i) (q.moment i)) in
     (λ i. slice_cmp nat_cmp (shown_marked a k x p i) (shown_marked b k y q i)) ∙ (marked_cmp f g ∙ (rw fraction clock ∙ moments))
 
--- so a moment has one printed text
+-- Therefore a moment has only one printed text.
 pub one_text : (t : ℤ) (k : ℕ) (x y : List ℕ) → IsPrinted t k x → IsPrinted t k y → x ≡ y
 one_text t k x y p q = slice_cmp-IsAntisymmetric nat_cmp-IsAntisymmetric x y (stamps_in_order t t k x y p q ∙ grind (arith, ints))

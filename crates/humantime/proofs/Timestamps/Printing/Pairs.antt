@@ -1,4 +1,4 @@
--- The table of the numbers below 100 in two digits.
+-- The table of the two-digit texts of the numbers below 100.
 use Rattle.std.proofs.Common.{◌≡◌, ℕ, zero, suc, true, eqb, ◌+◌, ◌*◌, ◌/◌, ◌%◌, ◌<◌, ◌≤◌, List, [], ◌∷◌, ◌++◌, take, drop, length, get_or, refl, ap, arith}
 use Rattle.std.specs.Prelude.{codes, slice_set}
 use Rattle.std.proofs.Math.Nat.{suc-add}
@@ -13,7 +13,7 @@ tens_at n i e h = rw e (eqb-true _ _ (agree_below_at (λ k. eqb (get_or pairs (2
 pub ones_at : (n i : ℕ) → i ≡ 2 * n + 1 → n < 100 → get_or pairs i 0 ≡ 48 + n % 10
 ones_at n i e h = rw e (eqb-true _ _ (agree_below_at (λ k. eqb (get_or pairs (2 * k + 1) 0) (48 + k % 10)) (λ k. true) 100 n refl h))
 
--- two bytes set, one behind the other
+-- Writing two bytes, one after the other.
 pub two_set : (at : ℕ) (xs : List ℕ) (a b : ℕ) → at + 2 ≤ length xs → slice_set (slice_set xs at a) (at + 1) b ≡ take at xs ++ (a ∷ b ∷ []) ++ drop (at + 2) xs
 two_set zero (x ∷ y ∷ ys) a b h = refl
 two_set (suc at) (x ∷ xs) a b h = rw (suc-add at 1, suc-add at 2) (ap (λ (ys : List ℕ). x ∷ ys) (two_set at xs a b (omega arith)))

@@ -1,4 +1,4 @@
--- What the printer shows is the printed text of the moment, and the only one.
+-- What the printer writes is the printed text of the moment, and the only one.
 use Rattle.std.proofs.lemmas.Grind.{common_steps}
 use Rattle.std.proofs.Common.{◌≡◌, ℕ, ◌+◌, ◌-◌, ◌*◌, ◌/◌, ◌%◌, ◌^◌, ◌<◌, ◌≤◌, List, refl, sym, ap, ◌∙◌, arith}
 use Rattle.std.specs.Prelude.{◌↔◌, Some, ℤ, [], unwrap_or, min, pos, negsuc, nat_abs, IsAscii}
@@ -37,7 +37,7 @@ shown_moment t k time date small e within =
     let nanos : fraction_nanos (unwrap_or (cut_fraction n k) []) ≡ n - n % 10 ^ (9 - k) = shown_nanos k n small (omega arith) in
     rw nanos (omega (arith, cut_nanos k t small, mod-le n (10 ^ (9 - k))))
 
--- the parts of a moment show it, printed
+-- The parts that are printed represent the moment.
 pub shown_printed : (t : ℤ) (k time : ℕ) (date : Date) → k ≤ 9 → IsSecondOf date time t → IsPrinted t k (fields_text (printed_fields date time (nano_of t) k))
 shown_printed (negsuc t) k time date small is = absurd (let whole = is.sum in let no : ⊥ = cc in no)
 shown_printed (pos t) k time date small is = record {
@@ -58,7 +58,7 @@ shown_printed (pos t) k time date small is = record {
   moment = ap pos (shown_moment t k time date small (ap nat_abs is.sum) is.within_day) ∙ omega (arith, ints, mod-le t (10 ^ (9 - k)));
 }
 
--- it is ASCII
+-- The printed text is ASCII.
 ascii_from : (bs : List ℕ) → AllByRecursion (λ c. c < 128) bs → IsAscii bs
 ascii_from bs h = grind (arith, common_steps)
 
@@ -66,7 +66,7 @@ pub printed_ascii : (t : ℤ) (k : ℕ) (text : List ℕ) → IsPrinted t k text
 printed_ascii t k text p =
     grind (arith, common_steps, (holds_before_zone (λ c. c < 128) (grind arith) text p.fields p.weak), ascii_from)
 
--- a moment of 1970 to 9999 has a printed text, which is the one that is computed
+-- A moment of 1970 to 9999 has a printed text, which is the one that is computed.
 pub printed_some : (t : ℤ) (k : ℕ) → k ≤ 9 → IsPrintable t → (text : List ℕ) × (moment_text t k ≡ Some text) × IsPrinted t k text
 unfolding moment_text
 printed_some (negsuc t) k small h = absurd (omega (arith, ints, h.0))
@@ -76,12 +76,12 @@ printed_some (pos t) k small h =
     let is : IsSecondOf _ _ (pos t) = record { date_exists = date.0; within_day = omega arith; sum = ap pos (omega (arith, date.1)) } in
     (fields_text (fields_at t k), rw (lt-ltb t year_10000 within) refl, shown_printed (pos t) k _ _ small is)
 
--- and no other has one
+-- No other moment has one.
 printable_from_text : (t : ℤ) (k : ℕ) (text : List ℕ) → moment_text t k ≡ Some text → IsPrintable t
 unfolding moment_text
 printable_from_text t k text h = grind (arith, ints)
 
--- the text that `Display` names is the printed one
+-- The text that the contract of `Display` names is the printed one.
 pub text_displayed : (t : ℤ) (k : ℕ) (text : List ℕ) → k ≤ 9 → (moment_text t k ≡ Some text) ↔ (IsPrintable t × IsPrinted t k text)
 text_displayed t k text small = (
   (λ h. let is = printable_from_text t k text h in let some = printed_some t k small is in (is, rw (same_Some _ _ (sym h ∙ some.1)) some.2)),
@@ -91,7 +91,7 @@ text_displayed t k text small = (
 pub printed_text_is : (x : MomentToPrint) (text : List ℕ) → IsPrintable x.moment → IsPrinted x.moment x.places text → printed_text x ≡ Some text
 printed_text_is x text h p = (text_displayed x.moment x.places text p.few).1 (h, p)
 
--- a printed text reads back as the moment, cut
+-- A printed text parses to the moment, rounded down.
 pub printed_reads : (t : ℤ) (k : ℕ) (text : List ℕ) → IsPrinted t k text → ReadsAs text (cut t k)
 printed_reads t k text p = grind arith
 

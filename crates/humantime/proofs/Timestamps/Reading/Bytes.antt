@@ -1,4 +1,4 @@
--- What holds of digits and signs holds of each byte of a timestamp.
+-- A property of digits, punctuation and separators is one of each byte of a timestamp.
 use Rattle.std.proofs.Common.{ℕ, ◌≤◌, List, [], ◌∷◌, ◌++◌, arith}
 use Rattle.std.specs.Int.{IsInRange}
 use Rattle.std.specs.List.{AllByRecursion}
@@ -13,7 +13,7 @@ use Rattle.humantime.proofs.Dates.Years.{valid_from_test}
 pub month_most : (y m : ℕ) → days_in_month y m ≤ 31
 month_most y m = grind (arith, nat_tests)
 
--- a property of the digits, the signs and the separators
+-- A property of the digits, the punctuation and the separators.
 abbrev pub HoldsOfBytes : (ℕ → Type 0) → Type 0
 HoldsOfBytes P = ((c : ℕ) → IsInRange 48 57 c → P c) × P (byte "-") × P (byte ":") × P (byte ".") × P (byte "T") × P (byte " ")
 
@@ -25,7 +25,7 @@ pub holds_of_fraction : (P : ℕ → Type 0) → HoldsOfBytes P → (fraction : 
     → AllByRecursion P (fraction_text fraction)
 holds_of_fraction P p fraction h = grind (arith, digits_hold, digits_from_test)
 
--- of all bytes before the zone
+-- All bytes before the zone have the property.
 pub holds_before_zone : (P : ℕ → Type 0) → HoldsOfBytes P → (text : List ℕ) (f : Fields) → IsWeak text f
     → AllByRecursion P (date_time_text f ++ fraction_text f.fraction)
 holds_before_zone P p text f w = grind (arith, month_most, valid_from_test, digits_hold, digits_from_test)

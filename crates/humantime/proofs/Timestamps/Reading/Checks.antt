@@ -1,4 +1,4 @@
--- What the checks on a timestamp say, one by one.
+-- The meaning of each check on a timestamp.
 use Rattle.std.proofs.Common.{◌≡◌, ℕ, ◌≤◌, List, [], ◌∷◌, length, get_or, drop, refl, arith}
 use Rattle.std.specs.Prelude.{true, slice_index, Option, Some, None, ◌==◌, if◌then◌else◌}
 use Rattle.std.specs.Str.{byte, all_ascii_digits}
@@ -8,22 +8,22 @@ use Rattle.humantime.specs.Answers.Timestamps.{moment_at}
 use Rattle.humantime.specs.Timestamps.Fields.{Separator, Letter_T, Space, Fields, separator_byte, fraction_text, fraction_digits, moment_of}
 use Rattle.humantime.specs.Timestamps.Checks.{has_two, has_separator, has_punctuation, has_digits, date_time_of, is_valid_date_time, zone_of, fraction_part, has_point, weak_checks, first_failed}
 
--- no check of the weak form fails
+-- No check of the weak form fails.
 pub all_passed : (bytes : List ℕ) → first_failed (weak_checks bytes) ≡ None
     → (19 ≤ length bytes) × (has_punctuation bytes ≡ true) × (has_digits bytes ≡ true) × (is_valid_date_time (date_time_of bytes) ≡ true)
     × (has_point (fraction_part bytes) ≡ true) × (all_ascii_digits (drop 1 (fraction_part bytes)) ≡ true)
 all_passed bytes h = grind (arith, nat_tests)
 
--- what stands between date and time
+-- The separator between the date and the time.
 abbrev pub separator_of : List ℕ → Separator
 separator_of bytes = if slice_index bytes 10 == byte "T" then Letter_T else Space
 
--- the digits behind the point, where there is one
+-- The digits after the point, if there is one.
 abbrev pub fraction_of : List ℕ → Option (List ℕ)
 fraction_of [] = None
 fraction_of (_ ∷ ds) = Some ds
 
--- the parts at their places
+-- The parts at their positions.
 abbrev pub fields_of : List ℕ → Fields
 fields_of bytes = record {
   date = (date_time_of bytes).date;
@@ -35,21 +35,21 @@ fields_of bytes = record {
   zone = zone_of (drop 19 bytes);
 }
 
--- the signs in their places
+-- The punctuation at its positions.
 pub punctuation_from_test : (bytes : List ℕ) → has_punctuation bytes ≡ true
     → (slice_index bytes 4 ≡ 45) × (slice_index bytes 7 ≡ 45) × (slice_index bytes 10 ≡ separator_byte (separator_of bytes))
     × (slice_index bytes 13 ≡ 58) × (slice_index bytes 16 ≡ 58)
 unfolding has_punctuation has_separator
 punctuation_from_test bytes h = grind arith
 
--- the pairs of digits in their places
+-- The pairs of digits at their positions.
 pub pairs_from_test : (bytes : List ℕ) → has_digits bytes ≡ true
     → (has_two bytes 0 ≡ true) × (has_two bytes 2 ≡ true) × (has_two bytes 5 ≡ true) × (has_two bytes 8 ≡ true)
     × (has_two bytes 11 ≡ true) × (has_two bytes 14 ≡ true) × (has_two bytes 17 ≡ true)
 unfolding has_digits
 pairs_from_test bytes h = grind (arith, and_parts)
 
--- what stands between the seconds and the zone
+-- The bytes between the seconds and the zone.
 pub part_shown : (part : List ℕ) → has_point part ≡ true → part ≡ fraction_text (fraction_of part)
 unfolding has_point
 part_shown part h = grind arith
@@ -60,7 +60,7 @@ part_digits part = grind arith
 pub moment_of_fields : (bytes : List ℕ) → moment_of (fields_of bytes) ≡ moment_at bytes
 moment_of_fields bytes = rw (part_digits (fraction_part bytes)) refl
 
--- the first 19 bytes and the rest
+-- The first 19 bytes, and the rest.
 pub nineteen : (bytes : List ℕ) → 19 ≤ length bytes
     → bytes ≡ get_or bytes 0 0 ∷ get_or bytes 1 0 ∷ get_or bytes 2 0 ∷ get_or bytes 3 0 ∷ get_or bytes 4 0 ∷ get_or bytes 5 0 ∷ get_or bytes 6 0 ∷ get_or bytes 7 0 ∷ get_or bytes 8 0 ∷ get_or bytes 9 0
     ∷ get_or bytes 10 0 ∷ get_or bytes 11 0 ∷ get_or bytes 12 0 ∷ get_or bytes 13 0 ∷ get_or bytes 14 0 ∷ get_or bytes 15 0 ∷ get_or bytes 16 0 ∷ get_or bytes 17 0 ∷ get_or bytes 18 0 ∷ drop 19 bytes

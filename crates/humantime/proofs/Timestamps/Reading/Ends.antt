@@ -24,7 +24,7 @@ last_offset bytes = grind (arith, common_steps)
 pub no_offset : (bytes : List ℕ) → length bytes < 6 → false ≡ ends_with nat_eq bytes (codes "+00:00")
 no_offset bytes short = grind arith
 
--- ---- The zone that stands at the end
+-- ---- The zone at the end
 
 pub some_zone : (bytes : List ℕ) → nat_lt 0 (length (zone_text (zone_of bytes))) ≡ ends_in_zone bytes
 unfolding zone_of
@@ -45,20 +45,20 @@ zone_behind bytes = grind (arith, common_steps)
 pub zone_shown : (bytes : List ℕ) → bytes ≡ before_zone bytes ++ zone_text (zone_of bytes)
 zone_shown bytes = sym (ap (λ (z : List ℕ). before_zone bytes ++ z) (sym (zone_behind bytes)) ∙ take-append-drop (length bytes - length (zone_text (zone_of bytes))) bytes)
 
--- ---- Bytes that are no zone
+-- ---- Bytes that are not a zone
 
--- neither `+` nor `Z`
+-- The byte is neither `+` nor `Z`.
 abbrev pub IsPlain : ℕ → Type 0
 IsPlain c = (c ≢ 43) × (c ≢ 90)
 
 pub plain_bytes : HoldsOfBytes IsPlain
 plain_bytes = grind arith
 
--- an offset has no `Z` at its end
+-- An offset does not end in `Z`.
 offset_end : (xs : List ℕ) → ends_with nat_eq (xs ++ codes "+00:00") (codes "Z") ≡ true → ⊥
 offset_end xs z = grind (arith, common_steps, (sym (append_assoc xs (codes "+00:0") (codes "0"))))
 
--- behind plain bytes the zone is found
+-- The zone is found after plain bytes.
 pub zone_found : (xs : List ℕ) (z : Zone) → AllByRecursion IsPlain xs → zone_of (xs ++ zone_text z) ≡ z
 unfolding zone_of
 zone_found xs z h = grind (arith, common_steps, offset_end)
@@ -68,12 +68,12 @@ before_zone_found xs z h = rw (zone_found xs z h) (grind (arith, common_steps))
 
 -- ---- `+00:00` as two numbers
 
--- a list of six bytes
+-- A list of six elements.
 six : (bytes : List ℕ) → length bytes ≡ 6
     → bytes ≡ get_or bytes 0 0 ∷ get_or bytes 1 0 ∷ get_or bytes 2 0 ∷ get_or bytes 3 0 ∷ get_or bytes 4 0 ∷ get_or bytes 5 0 ∷ []
 six bytes h = grind (arith, common_steps)
 
--- two bytes are known by their number
+-- Two bytes are determined by their number.
 two_tested : (a b n m : ℕ) → a < 256 → b < 256 → n ≡ a + b * 256 → m ≡ 12_336 → (n == m) ≡ ((a == 48) && ((b == 48) && true))
 two_tested a b n m ha hb e f = grind (arith, nat_tests)
 

@@ -1,4 +1,4 @@
--- What each way out of the weak parser answers.
+-- The result of each exit of the weak parser.
 use Rattle.std.proofs.lemmas.Grind.{common_steps}
 use Rattle.std.proofs.Common.{◌≡◌, ℕ, ◌*◌, ◌+◌, ◌<◌, ◌≤◌, List, length, arith}
 use Rattle.std.specs.Prelude.{if◌then◌else◌, true, false, ◌&&◌, nat_le, ℤ, pos, Result, Ok, Err}
@@ -33,7 +33,7 @@ pub exit_range : (bytes : List ℕ) → has_layout bytes ≡ true → is_valid_d
 unfolding weak_answer has_layout
 exit_range bytes layout other = grind (arith, common_steps, nat_tests)
 
--- the answer where all before the fraction is right
+-- The result if everything before the fraction is valid.
 abbrev pub with_seconds : ℕ → Result ℕ TimestampError → Result ℤ TimestampError
 with_seconds seconds (Ok nanos) = Ok (pos (seconds * 1_000_000_000 + nanos))
 with_seconds seconds (Err e) = Err e
@@ -44,7 +44,7 @@ unfolding weak_answer
 exit_fraction bytes layout range =
     let parts = layout_parts bytes layout in rw (le-leb 19 (length bytes) parts.0, parts.1, parts.2, range) (grind arith)
 
--- with what was read
+-- The same with the value that was parsed.
 pub exit_read : (bytes : List ℕ) (x : DateTime) (fraction : Result ℕ TimestampError) → has_layout bytes ≡ true
     → x ≡ date_time_of bytes → is_valid_date_time x ≡ true → fraction ≡ fraction_answer (fraction_part bytes)
     → weak_answer bytes ≡ with_seconds (seconds_of x.date x.hour x.minute x.second) fraction

@@ -1,4 +1,4 @@
--- The digits of a fraction, read one by one, are its nanoseconds.
+-- The digits of a fraction, parsed one by one, are its nanoseconds.
 use Rattle.std.proofs.Common.{◌≡◌, ℕ, zero, suc, ◌+◌, ◌-◌, ◌*◌, ◌/◌, ◌^◌, ◌<◌, ◌≤◌, List, [], ◌∷◌, ◌++◌, length, get_or, take, drop, drop-cons, add-one, refl, sym, ◌∙◌, arith}
 use Rattle.std.specs.Prelude.{true}
 use Rattle.std.specs.Char.{is_ascii_digit, digit_value}
@@ -13,7 +13,7 @@ use Rattle.humantime.specs.Timestamps.Fields.{fraction_nanos}
 
 -- ---- Digits
 
--- each byte is a digit
+-- Each byte is a digit.
 abbrev pub AreDigits : List ℕ → Type 0
 AreDigits ds = AllByRecursion (λ c. IsInRange 48 57 c) ds
 
@@ -28,9 +28,9 @@ pub digits_from : (ds : List ℕ) → AreDigits ds → all_ascii_digits ds ≡ t
 digits_from [] d = refl
 digits_from (c ∷ cs) d = grind (arith, nat_tests, (digits_from cs d.1))
 
--- ---- The nanoseconds are the sum of the digits with their weights
+-- ---- The nanoseconds are the weighted sum of the digits
 
--- n and these digits, of which the first counts u, and each further one a tenth of the one before
+-- `n` plus these digits, of which the first has the weight `u`, and each other one a tenth of the weight before it.
 abbrev pub add_digits : ℕ → ℕ → List ℕ → ℕ
 add_digits n u [] = n
 add_digits n u (c ∷ cs) = add_digits (n + u * (c - 48)) (u / 10) cs
@@ -46,14 +46,14 @@ abbrev zeros : ℕ → List ℕ
 zeros zero = []
 zeros (suc n) = 48 ∷ zeros n
 
--- k of n zeros after the number m
+-- The first `k` of `n` zeros after the number `m`.
 zeros_read : (k n m : ℕ) → k ≤ n → digits_value_after 10 m (take k (zeros n)) ≡ m * 10 ^ k
 zeros_read zero n m h = omega arith
 zeros_read (suc k) zero m h = absurd (omega arith)
 zeros_read (suc k) (suc n) m h =
     zeros_read k n (m * 10 + 0) (omega arith) ∙ weights m 0 (10 ^ k) (10 ^ suc k) (pow-suc 10 k) ∙ omega arith
 
--- the first k digits, filled with zeros
+-- The first `k` digits, padded with zeros.
 filled : (k n m : ℕ) (ds : List ℕ) → AreDigits ds → k ≤ n → digits_value_after 10 m (take k (ds ++ zeros n)) ≡ add_digits (m * 10 ^ k) (10 ^ k / 10) ds
 filled zero n m ds digits h = grind (arith, (add_nothing m ds))
 filled (suc k) n m [] digits h = zeros_read (suc k) n m h
@@ -76,7 +76,7 @@ add_bound (c ∷ cs) n u digits low room =
 pub nanos_bound : (ds : List ℕ) → AreDigits ds → fraction_nanos ds < 1_000_000_000
 nanos_bound ds digits = rw (nanos_added ds digits) (add_bound ds 0 100_000_000 digits (omega arith) (omega arith))
 
--- what a 1 counts at place k: a tenth of what it counts at the place before
+-- The weight of the digit at index `k`: a tenth of the weight of the digit before.
 abbrev pub place_value : ℕ → ℕ
 place_value k = get_or (100_000_000 ∷ 10_000_000 ∷ 1_000_000 ∷ 100_000 ∷ 10_000 ∷ 1_000 ∷ 100 ∷ 10 ∷ 1 ∷ []) k 0
 
@@ -86,7 +86,7 @@ next_place k = grind arith
 pub no_place : (k : ℕ) → 9 ≤ k → place_value k ≡ 0
 no_place k late = grind arith
 
--- the digit at place k is added to n
+-- The digit at index `k` is added to `n`.
 pub next_digit : (ds : List ℕ) (k n m : ℕ) → k < length ds → is_ascii_digit (get_or ds k 0) ≡ true → m ≡ n + place_value k * (get_or ds k 0 - 48)
     → (add_digits m (place_value (k + 1)) (drop (k + 1) ds) ≡ add_digits n (place_value k) (drop k ds))
     × (all_ascii_digits (drop (k + 1) ds) ≡ all_ascii_digits (drop k ds))

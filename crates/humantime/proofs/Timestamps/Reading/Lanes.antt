@@ -1,4 +1,4 @@
--- Bytes and numbers that are tested at once are tested one by one.
+-- Bytes and numbers that are tested at once are tested as if one by one.
 use Rattle.std.proofs.Common.{◌≡◌, ℕ, ◌+◌, ◌-◌, ◌%◌, ◌^◌, ◌<◌, ◌≤◌, Bool, true, false, cond, eqb, ltb, ◌&&◌, List, [], ◌∷◌, map, replicate, length, get_or, take, drop, Fits, w8, refl, ap, sym, ◌∙◌, arith}
 use Rattle.std.specs.Char.{is_ascii_digit}
 use Rattle.std.specs.List.{list_all}
@@ -18,7 +18,7 @@ use Rattle.humantime.proofs.Timestamps.Reading.Checks.{nineteen}
 
 -- ---- A test of all lanes
 
--- all bits of a mask are set
+-- All bits of a mask are set.
 abbrev pub are_set : List Bool → Bool
 are_set ms = list_all (λ m. m) ms
 
@@ -27,7 +27,7 @@ all_bits [] = refl
 all_bits (true ∷ ms) = grind (arith, nat_tests, (all_bits ms), two-pow-succ (length ms), one-le-pow (length ms) 2 (omega arith))
 all_bits (false ∷ ms) = grind (arith, nat_tests, two-pow-succ (length ms), one-le-pow (length ms) 2 (omega arith))
 
--- the lanes of a vector compared with those of another
+-- The lanes of a vector, compared with those of another one.
 pub all_compared : (w : Width) (test : ℕ → ℕ → Bool) (ys xs : List ℕ) → length xs ≡ length ys → length ys ≤ 64
     → eqb (mask_l (map (top (hbits w)) (zip2 (λ a b. cond (test a b) (2 ^ bits w - 1) 0) xs ys)) % 2 ^ 64) (2 ^ length ys - 1) ≡ are_set (zip2 test xs ys)
 all_compared w test ys xs long few =
@@ -37,17 +37,17 @@ all_compared w test ys xs long few =
     ∙ ap (λ (n : ℕ). eqb (mask_l (zip2 test xs ys)) (2 ^ n - 1)) (sym size)
     ∙ all_bits (zip2 test xs ys)
 
--- all lanes compared with one number
+-- All lanes, compared with one number.
 pub all_by_one : (test : ℕ → ℕ → Bool) (n y : ℕ) (xs : List ℕ) → length xs ≡ n → are_set (zip2 test xs (replicate n y)) ≡ list_all (λ x. test x y) xs
 all_by_one test n y xs long = ap are_set (zip2_splat test xs n y long) ∙ list_all-map (λ m. m) (λ x. test x y) xs
 
 -- ---- Date and time
 
--- how far a byte is above another, wrapped around
+-- The difference of two bytes, wrapping around.
 abbrev pub above : ℕ → ℕ → ℕ
 above a least = (a + (2 ^ 8 - least)) % 2 ^ 8
 
--- how far a number is beyond its most, or 0
+-- How far a number exceeds its maximum, or 0.
 abbrev left : ℕ → ℕ → ℕ
 left a most = above (cond (top 7 (cond (ltb a most) 255 0)) most a) most
 
@@ -69,7 +69,7 @@ both_zero a b = grind (arith, nat_tests, le_or_l a b, le_or_r a b)
 first_zero : (a b : ℕ) → nat_eq b 0 ≡ true → nat_eq (bit_or a b) 0 ≡ nat_eq a 0
 first_zero a b zero = grind (arith, nat_tests, le_or_l a b, le_or_r a b)
 
--- the least byte of each place, and how far a byte may be above it; and the same from the fourth place on
+-- The minimum of each byte, and the range above it; and the same from the fourth byte on.
 abbrev pub least : List ℕ
 least = codes "0000-00-00 00:00"
 
@@ -82,7 +82,7 @@ least_back = codes "0-00-00 00:00:00"
 abbrev pub most_back : List ℕ
 most_back = 255 ∷ 255 ∷ 255 ∷ 255 ∷ 255 ∷ 255 ∷ 255 ∷ 255 ∷ 255 ∷ 255 ∷ 255 ∷ 255 ∷ 255 ∷ 0 ∷ 9 ∷ 9 ∷ []
 
--- how far the numbers are beyond their most
+-- How far the numbers exceed their maxima.
 abbrev lefts : List ℕ → List ℕ → List ℕ
 lefts xs most = zip2 above (sel_l (map (top 7) (zip2 (λ a m. cond (ltb a m) 255 0) xs most)) most xs) most
 
@@ -92,7 +92,7 @@ beyond bytes = zip2 bit_or (lefts (zip2 above (take 16 bytes) least) most) (left
 pub length-beyond : (bytes : List ℕ) → 19 ≤ length bytes → length (beyond bytes) ≡ 16
 length-beyond bytes long = ap (λ (bytes : List ℕ). length (beyond bytes)) (nineteen bytes long)
 
--- the signs may be tested first, and the seconds among the others
+-- The punctuation can be tested first, and the seconds among the other fields.
 signs_first : (s t u v a b c d e f g h i j k l m n : Bool)
     → are_set (a ∷ b ∷ c ∷ d ∷ s ∷ e ∷ f ∷ t ∷ g ∷ h ∷ true ∷ i ∷ j ∷ (u && v) ∷ (k && m) ∷ (l && n) ∷ [])
     ≡ ((s && t && true && u && v) && ((a && b) && ((c && d) && ((e && f) && ((g && h) && ((i && j) && ((k && l) && ((m && n) && true))))))))

@@ -1,4 +1,4 @@
--- The sums of digits by their weights are the numbers of date and time.
+-- The weighted sums of digits are the numbers of date and time.
 use Rattle.std.proofs.Common.{◌≡◌, ℕ, ◌+◌, ◌-◌, ◌*◌, ◌≤◌, List, [], ◌∷◌, length, take, drop, ◌∙◌, arith}
 use Rattle.std.specs.Prelude.{true, slice_index}
 use Rattle.std.specs.Int.{IsInRange}
@@ -12,7 +12,7 @@ use Rattle.humantime.proofs.Timestamps.Reading.Places.{has_two_from_test, number
 digit_above : (c : ℕ) → IsInRange 48 57 c → above c 48 ≡ c - 48
 digit_above c h = omega (arith, h)
 
--- the number of two digits, and of four
+-- The number of two digits, and of four.
 pair_from_test : (bytes : List ℕ) (k : ℕ) → k + 2 ≤ length bytes → has_two bytes k ≡ true
     → above (slice_index bytes k) 48 * 10 + above (slice_index bytes (k + 1)) 48 ≡ number_between bytes k (k + 2)
 pair_from_test bytes k long h = grind (arith, has_two_from_test, number_of_two, digit_above)
@@ -21,7 +21,7 @@ year_from_test : (bytes : List ℕ) → 4 ≤ length bytes → has_two bytes 0 �
     → let digit = λ (k : ℕ). above (slice_index bytes k) 48 in (digit 0 * 100 + digit 1 * 10 + digit 2) * 10 + digit 3 ≡ number_between bytes 0 4
 year_from_test bytes long century decade = grind (arith, has_two_from_test, number_of_four, digit_above)
 
--- the numbers by the sums of the first 16 bytes and of those from byte 3 on
+-- The numbers, by the sums over the first 16 bytes and over those from byte 3 on.
 abbrev summed : List ℕ → DateTime
 summed bytes =
     let front = slice_index (dots (zip2 above (take 16 bytes) least) (100 ∷ 10 ∷ 1 ∷ 0 ∷ 0 ∷ 10 ∷ 1 ∷ 0 ∷ 10 ∷ 1 ∷ 0 ∷ 0 ∷ 0 ∷ 0 ∷ 10 ∷ 1 ∷ [])) in

@@ -1,4 +1,4 @@
--- A text that shows parts passes the checks, and the parts at its places are these.
+-- A text that represents parts passes the checks, and these are the parts at their positions.
 use Rattle.std.proofs.Common.{◌≡◌, ℕ, ◌+◌, ◌/◌, ◌%◌, ◌≤◌, List, length, drop, refl, arith}
 use Rattle.std.specs.Prelude.{true, slice_index, Option, None}
 use Rattle.std.proofs.lemmas.Bool.{le-leb}
@@ -11,7 +11,7 @@ use Rattle.humantime.proofs.Timestamps.Reading.Checks.{separator_of, fraction_of
 use Rattle.humantime.proofs.Timestamps.Reading.Ends.{IsPlain, plain_bytes, before_zone_found, zone_found}
 use Rattle.humantime.proofs.Timestamps.Reading.Places.{number_of_two, number_of_four, bounds}
 
--- the digits of a number at its place, read back
+-- The digits of a number at its position are parsed to that number.
 two_back : (bytes : List ℕ) (k n : ℕ) → k + 2 ≤ length bytes → slice_index bytes k ≡ 48 + n / 10 → slice_index bytes (k + 1) ≡ 48 + n % 10 → n ≤ 99
     → (has_two bytes k ≡ true) × (number_between bytes k (k + 2) ≡ n)
 unfolding has_two
@@ -23,7 +23,7 @@ year_back : (bytes : List ℕ) (n : ℕ) → 4 ≤ length bytes → n ≤ 9999
 unfolding has_two
 year_back bytes n long h first second third fourth = grind (arith, nat_tests, number_of_four)
 
--- what stands between the seconds and the zone
+-- The bytes between the seconds and the zone.
 ending : (fraction : Option (List ℕ)) → (has_point (fraction_text fraction) ≡ true)
     × (drop 1 (fraction_text fraction) ≡ fraction_digits fraction) × (fraction_of (fraction_text fraction) ≡ fraction)
 unfolding has_point

@@ -1,4 +1,4 @@
--- Numbers at their places: what digits show, and when date and time are in range.
+-- Numbers at their positions: the values of digits, and the ranges of date and time.
 use Rattle.std.proofs.Common.{◌≡◌, ℕ, suc, ◌+◌, ◌-◌, ◌*◌, ◌<◌, ◌≤◌, List, [], ◌∷◌, length, refl, add-one, arith, rules}
 use Rattle.std.specs.Prelude.{◌↔◌, Bool, true, IsTrue, ◌&&◌, nat_le, slice_index, slice_range}
 use Rattle.std.specs.Int.{IsInRange}
@@ -8,12 +8,12 @@ use Rattle.std.proofs.lemmas.Str.{digit_value_digit}
 use Rattle.humantime.specs.Timestamps.Checks.{has_two, number_between}
 use Rattle.humantime.proofs.Timestamps.Reading.Fractions.{is_digit_from_test}
 
--- the two digits at place k
+-- The two digits at offset `k`.
 pub has_two_from_test : (bytes : List ℕ) (k : ℕ) → has_two bytes k ≡ true → IsInRange 48 57 (slice_index bytes k) × IsInRange 48 57 (slice_index bytes (k + 1))
 unfolding has_two
 has_two_from_test bytes k h = grind (arith, is_digit_from_test)
 
--- the bytes from one place on, one after the other
+-- The bytes from an offset on, one after the other.
 pub next_byte : (bytes : List ℕ) (k to : ℕ) → k < to → to ≤ length bytes → slice_range bytes k to ≡ slice_index bytes k ∷ slice_range bytes (k + 1) to
 next_byte bytes k to some long =
     let size : to - k ≡ suc (to - (k + 1)) = omega arith in
@@ -38,7 +38,7 @@ number_of_four bytes long century decade =
     rw (next_byte bytes 0 4 (omega arith) long, next_byte bytes 1 4 (omega arith) long, last_two bytes 2 4 refl long)
     (search (rules, has_two_from_test, digit_value_digit))
 
--- the tests of a date and a time of day
+-- The tests of a date and a time of day.
 pub bounds : (date : Bool) (h i s : ℕ)
     → IsTrue (date && nat_le h 23 && nat_le i 59 && nat_le s 60) ↔ (IsTrue date × (h ≤ 23) × (i ≤ 59) × (s ≤ 60))
 bounds date h i s = grind (arith, nat_tests)

@@ -1,4 +1,4 @@
--- A text that fails no check shows the parts at its places.
+-- A text that fails no check represents the parts at their positions.
 use Rattle.std.proofs.Common.{◌≡◌, ℕ, ◌+◌, ◌/◌, ◌%◌, ◌≤◌, List, ◌∷◌, ◌++◌, length, drop, ap, ◌∙◌, arith, rules}
 use Rattle.std.specs.Prelude.{true, slice_index, None}
 use Rattle.humantime.specs.Timestamps.Fields.{fraction_text, zone_text, fields_text, IsWeak}

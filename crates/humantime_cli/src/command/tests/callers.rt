@@ -1,4 +1,4 @@
-//! Callers of `run`, and what they conclude from its contract at words that they know.
+//! Callers of `run`, and what its contract lets them conclude for known arguments.
 
 ghost use Rattle.std.specs.Prelude.{◌≡◌, ◌≢◌, ◌<◌, ◌++◌, ℕ, codes, take};
 
@@ -6,7 +6,7 @@ use super::run;
 
 /// Prints a duration.
 ///
-/// With status 3 the first bytes of its line were written, at most six of the seven, and else all of them.
+/// With status 3, at most the first six of the seven bytes of the line were written; otherwise all of them were.
 pub(super) fn print_duration(out: &mut Vec<u8>, err: &mut Vec<u8>) -> u8
     ensures whole { result ≢ 3 → (result ≡ 0) × (out.new.items ≡ out.old.items ++ codes "2h 37m\n") × (err.new.items ≡ err.old.items) }
     ensures cut { result ≡ 3 → ((n : ℕ) × (n < 7) × (out.new.items ≡ out.old.items ++ take n (codes "2h 37m\n"))) × (err.new.items ≡ err.old.items) }
@@ -14,14 +14,14 @@ pub(super) fn print_duration(out: &mut Vec<u8>, err: &mut Vec<u8>) -> u8
     run(&["duration", "2h 37min"], out, err)
 }
 
-/// Explains the first error of a text that is not a duration.
+/// Prints the error message of a text that is not a valid duration.
 pub(super) fn explain_fault(out: &mut Vec<u8>, err: &mut Vec<u8>) -> u8
     ensures { result ≢ 3 → (result ≡ 1) × (out.new.items ≡ out.old.items) × (err.new.items ≡ err.old.items ++ codes "invalid character at 1\n") }
 {
     run(&["duration", "1~"], out, err)
 }
 
-/// Tells how the program is called.
+/// Prints the usage line.
 pub(super) fn tell_usage(out: &mut Vec<u8>, err: &mut Vec<u8>) -> u8
     ensures { result ≢ 3 → (result ≡ 2) × (out.new.items ≡ out.old.items) × (err.new.items ≡ err.old.items ++ codes "usage: humantime duration|strict|weak TEXT\n") }
 {

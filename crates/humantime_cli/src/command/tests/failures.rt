@@ -1,10 +1,11 @@
-//! Writers that take their bytes one at a time, and writers that fail.
+//! Tests with writers that accept one byte at a time, and with writers that fail.
 
 use super::writer::{Failure, Limited, ROOM};
 use super::{USAGE_LINE, assert_same, run};
 use std::process::Abort;
 
-/// Asserts that the words end with this status, and that one of the writers takes the line byte by byte, in so many requests.
+/// Asserts that a run with these arguments returns this status and that one of the writers receives the line byte by byte, in this number
+/// of calls.
 fn assert_byte_by_byte(rt: &impl Abort, words: &[&str], status: u8, line: &str, requests: u32) {
     let (mut out, mut err) = (Limited::by(1), Limited::by(1));
     assert_same(rt, run(words, &mut out, &mut err), status, words);
@@ -24,8 +25,8 @@ fn lines_are_written_byte_by_byte(rt: HostRuntime) {
     assert_byte_by_byte(&rt, &["duration", ""], 1, "value was empty\n", 16);
 }
 
-/// Asserts that the words end with status 3 where the writer of their answer fails: it took these bytes, no request followed the
-/// one that failed, and the other writer got none.
+/// Asserts that a run returns status 3 if the writer of its output fails: the writer has received these bytes, it is not called again, and
+/// the other writer is never called.
 fn assert_cut(rt: &impl Abort, words: &[&str], to_out: bool, mut failing: Limited, taken: &[u8]) {
     let mut other = Limited::open();
     let status = if to_out {
@@ -39,7 +40,7 @@ fn assert_cut(rt: &impl Abort, words: &[&str], to_out: bool, mut failing: Limite
     assert_same(rt, other.requests, 0, words);
 }
 
-/// Asserts that nothing is written after a failure, however many bytes of the line were taken before it.
+/// Asserts that nothing is written after a failure, however many bytes of the line were accepted before it.
 fn assert_nothing_follows(rt: &impl Abort, words: &[&str], to_out: bool, line: &str) {
     let line = line.as_bytes();
     for failure in [Failure::Error, Failure::Interrupted, Failure::NoBytes] {

@@ -1,17 +1,17 @@
-//! Printed texts and messages of each length, written a few bytes at a time.
+//! Tests with printed texts and messages of each length, written a few bytes at a time.
 
 use super::writer::{Limited, ROOM};
 use super::{assert_same, run};
 use std::process::Abort;
 use std::str;
 
-/// A canonical text of all nine counts. It is also canonical without its first digits, up to eleven, and without its last counts.
+/// A canonical text with all nine counts. It is still canonical without up to eleven of its first digits, and without its last counts.
 const LONGEST: &str = "222222222222years 11months 29days 23h 59m 59s 999ms 999µs 999ns";
 
-/// Where the counts of [`LONGEST`] end.
+/// The byte offsets at which the counts of [`LONGEST`] end.
 const ENDS: [usize; 9] = [17, 26, 33, 37, 41, 45, 51, 58, 64];
 
-/// Returns whether the bytes are the texts, one after the other, and a line feed.
+/// Returns whether the bytes are the texts, one after the other, followed by a line feed.
 fn is_line(bytes: &[u8], texts: &[&str]) -> bool {
     let mut rest = bytes;
     for text in texts {
@@ -23,8 +23,8 @@ fn is_line(bytes: &[u8], texts: &[&str]) -> bool {
     rest == b"\n".as_slice()
 }
 
-/// Asserts that the words end with this status, and that one of the writers takes the line of these texts, all at once and five
-/// bytes at a time.
+/// Asserts that a run with these arguments returns this status and that one of the writers receives the line of these texts, all at once
+/// and five bytes at a time.
 fn assert_taken(rt: &impl Abort, words: &[&str], status: u8, texts: &[&str]) {
     for step in [ROOM, 5] {
         let (mut out, mut err) = (Limited::by(step), Limited::by(step));
@@ -34,13 +34,13 @@ fn assert_taken(rt: &impl Abort, words: &[&str], status: u8, texts: &[&str]) {
     }
 }
 
-/// Asserts that this text of so many bytes is canonical: it is printed as it stands.
+/// Asserts that a text has this length and is canonical: it is printed unchanged.
 fn assert_printed_as_it_stands(rt: &impl Abort, text: &str, length: usize) {
     assert_same(rt, text.len(), length, &[text]);
     assert_taken(rt, &["duration", text], 0, &[text]);
 }
 
-/// Returns the front of [`LONGEST`] that ends with a count, without the first digits, and has so many bytes, 6 to 64.
+/// Returns the canonical text of this length, 6 to 64 bytes: a part of [`LONGEST`] without some of its first digits that ends with a count.
 fn canonical_of(length: usize) -> &'static str {
     for end in ENDS {
         if length <= end {
@@ -60,7 +60,7 @@ fn texts_of_each_length_are_printed(rt: HostRuntime) {
     }
 }
 
-/// Asserts that the message at this text names the unit.
+/// Asserts that the message for this text names the unit.
 fn assert_unit_named(rt: &impl Abort, text: &str, unit: &str) {
     let message = [
         "unknown time unit \"",

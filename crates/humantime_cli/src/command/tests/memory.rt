@@ -1,4 +1,4 @@
-//! The tests that allocate: the arguments of the system are owned, and two callers write into vectors.
+//! Tests that allocate: the arguments of the system are owned, and two callers write into vectors.
 
 use super::assert_same;
 use super::callers::{explain_fault, print_duration, tell_usage};
@@ -9,7 +9,7 @@ use std::io::{self, ErrorKind};
 use std::process::Abort;
 use std::test::Fail;
 
-/// Answers the arguments `duration` and `2h 37min`.
+/// Runs the program with the arguments `duration` and `2h 37min`.
 fn answered(alloc: Global, out: &mut Limited, err: &mut Limited) -> io::Result<u8> {
     let args = vec![in alloc;
         String::from_str(alloc, "duration")?,

@@ -1,10 +1,10 @@
-//! A writer into memory that takes its bytes a few at a time, and fails.
+//! A writer into memory that accepts a few bytes at a time and then fails.
 
 ghost use Rattle.std.specs.Prelude.{◌≤◌, Some, take};
 
 use std::io::{self, ErrorKind, Write};
 
-/// The number of bytes that a writer has room for.
+/// The capacity of a writer in bytes.
 pub(super) const ROOM: usize = 256;
 
 /// How a writer fails.
@@ -15,9 +15,9 @@ pub(super) enum Failure {
     NoBytes,
 }
 
-/// A writer into an array, which counts its requests.
+/// A writer into an array that counts its calls.
 ///
-/// It takes at most `step` bytes in each call and `limit` bytes in all, and then fails.
+/// It accepts at most `step` bytes in each call and `limit` bytes in all, and then fails.
 #[derive(Drop)]
 pub(super) struct Limited {
     bytes: [u8; 256],
@@ -26,20 +26,20 @@ pub(super) struct Limited {
     limit: usize,
     failure: Failure,
     has_failed: bool,
-    /// The calls of `write`.
+    /// The number of calls of `write`.
     pub(super) requests: u32,
-    /// Those of them after one that failed.
+    /// The number of calls of `write` after one that failed.
     pub(super) requests_after: u32,
-    /// The calls of `flush`.
+    /// The number of calls of `flush`.
     pub(super) flushes: u32,
-    /// The number of bytes that had been taken at the last of these calls.
+    /// The number of bytes that had been accepted at the last call of `flush`.
     pub(super) flushed: usize,
     pub(super) can_flush: bool,
     ghost in_range: { len ≤ 256 },
 }
 
 impl Limited {
-    /// Returns a writer that takes so many bytes in each call and in all.
+    /// Returns a writer that accepts at most `step` bytes in each call and `limit` bytes in all.
     pub(super) fn new(step: usize, limit: usize, failure: Failure) -> Limited {
         Limited {
             bytes: [0; 256],
@@ -56,17 +56,17 @@ impl Limited {
         }
     }
 
-    /// Returns a writer that takes so many bytes in each call, and as many as it has room for in all.
+    /// Returns a writer that accepts at most `step` bytes in each call, up to its capacity.
     pub(super) fn by(step: usize) -> Limited {
         Limited::new(step, ROOM, Failure::Error)
     }
 
-    /// Returns a writer that takes as many bytes as it has room for.
+    /// Returns a writer that accepts any number of bytes in each call, up to its capacity.
     pub(super) fn open() -> Limited {
         Limited::by(ROOM)
     }
 
-    /// Returns the bytes that were taken.
+    /// Returns the bytes that were accepted.
     pub(super) fn taken(&self) -> &[u8] {
         &self.bytes[..self.len]
     }

@@ -5,13 +5,13 @@ use Rattle.std.specs.Str.{IsCharBoundary}
 use Rattle.humantime.specs.Prelude.{IsPlaceIn, IsPartOf}
 use Rattle.humantime_examples.proofs.settings.in_line.Goals as goal
 
--- a place in the end of a line is one in the line
+-- An offset in the end part of a line is one in the line.
 place_after : (line : List ℕ) (at place here : ℕ) → here ≡ at + place → IsCharBoundary line at → IsPlaceIn (drop at line) place
     → IsPlaceIn line here
 place_after line at place here e cut in_rest =
     (omega (arith, length-drop at line), rw e (IsCharBoundary-from_rest line at place cut.0 in_rest.1))
 
--- a part of that end is one of the line
+-- A slice of that end part is one of the line.
 part_after : (line unit : List ℕ) (at start end : ℕ) → IsCharBoundary line at → IsPartOf (drop at line) unit start end
     → IsPartOf line unit (at + start) (at + end)
 part_after line unit at start end cut in_rest = (

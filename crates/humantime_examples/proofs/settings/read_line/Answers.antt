@@ -7,14 +7,14 @@ use Rattle.std.specs.Str.{IsTrimStart, IsCharBoundary, IsUtf8}
 use Rattle.humantime_examples.specs.Settings.{is_equals}
 use Rattle.humantime_examples.proofs.settings.read_line.Goals as goal
 
--- the value stands at the end of the line
+-- The value is the end part of the line.
 value_at_end : (line rest value : List ℕ) → rest ≡ after_first is_equals line → IsTrimStart rest value
     → drop (length line - length value) line ≡ value
 value_at_end line rest value e trimmed =
     let n = position_or_len is_equals line + 1 + trimmed.0 in
     rw (trimmed.1, e, drop-drop) (end_rest line (drop n line) (take n line) (sym (take-append-drop n line)))
 
--- so the line may be cut where the value begins
+-- Therefore its start lies on a `char` boundary of the line.
 boundary : (line rest value : List ℕ) → rest ≡ after_first is_equals line → IsTrimStart rest value → IsUtf8 value
     → IsCharBoundary line (length line - length value)
 boundary line rest value e trimmed text = IsCharBoundary-from_drop line _ (omega arith) (rw (value_at_end line rest value e trimmed) text)

@@ -10,7 +10,7 @@ use Rattle.humantime_examples.specs.Marks.{blank_for}
 use Rattle.humantime_examples.proofs.settings.marked.write_mark.Goals.{then-c-eq9, else-c-eq9}
 use Rattle.humantime_examples.proofs.settings.marked.write_mark.Goals as goal
 
--- what stands for a character is one byte
+-- A tab or a space is one byte.
 one_byte : (c : ℕ) → encode_utf8 (blank_for c) ≡ blank_for c ∷ []
 one_byte c = elim (cases_Bool (c == 9)) [ inl e ↦ rw e (encode_ascii 9 (omega arith)) | inr e ↦ rw e (encode_ascii 32 (omega arith)) ]
 

@@ -10,7 +10,7 @@ abbrev first_of : List (Result SpanView Fault) → Option (Result SpanView Fault
 first_of [] = None
 first_of (x ∷ xs) = Some x
 
--- what was given is the first of the items; so an error is the first
+-- The returned item is the first one, so an error is the first item.
 is_first : (given : Option (Result Span DurationError)) (items left : List (Result SpanView Fault))
     → MatchOption given ((items ≡ []) × (left ≡ [])) (λ x. items ≡ item_of x ∷ left) → option_map item_of given ≡ first_of items
 is_first None items left none = ap first_of (sym none.0)

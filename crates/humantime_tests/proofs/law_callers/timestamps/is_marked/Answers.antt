@@ -5,7 +5,7 @@ use Rattle.humantime.specs.Prelude.{Fields, IsWeak, IsStrict, IsWeakMoment, IsSt
 use Rattle.humantime.specs.Laws.Timestamps.{StrictForm}
 use Rattle.humantime_tests.proofs.law_callers.timestamps.is_marked.Goals as goal
 
--- the law of the two forms, where a test tells whether the text has the marks
+-- The law of the two forms, with a test of whether the text has a `T` and a zone.
 then_marked : (c : goal.Then-ends_with) → IsTrue c.ends_with.result ↔ IsMarked c.args.text.now
 then_marked c = grind (arith, common_steps)
 

@@ -6,7 +6,7 @@ use Rattle.humantime.specs.Timestamps.Fields.{Letter_Z, fields_text, fraction_te
 use Rattle.humantime.specs.Prelude.{IsPrinted, Fields}
 use Rattle.humantime_tests.proofs.law_callers.timestamps.shortest_length.Goals as goal
 
--- the digits of a fraction with its point, and the bytes of a text, told by the digits
+-- The length of a fraction with its point, and of a text, by the number of digits.
 shown_length : (fraction : Option (List ℕ)) (k : ℕ) → option_map length fraction ≡ (if k == 0 then None else Some k) → length (fraction_text fraction) ≡ (if k == 0 then 0 else suc k)
 shown_length None k is = grind (arith, common_steps, nat_tests)
 shown_length (Some ds) k is = grind (arith, common_steps, nat_tests)
