@@ -54,9 +54,9 @@ impl Duration {
         Duration(value)
     }
 
-    /// Returns the duration that the text spells, or its first fault, as [`parse_duration`] answers.
+    /// Parses a duration, as [`parse_duration`] does.
     ///
-    /// This is no method of the trait `FromStr`, since the error borrows from `s`.
+    /// It is not a method of the trait `FromStr`, because the error borrows from `s`.
     ///
     /// # Errors
     ///

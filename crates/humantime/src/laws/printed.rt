@@ -58,9 +58,9 @@ pub fn printed_bounds(d: StdDuration)
     ensures { IsBounded d }
 {}
 
-/// States that an accepted text has a canonical text, which reads as the same duration and is its own canonical text.
+/// States that an accepted text has a canonical text, which parses to the same duration and is its own canonical text.
 ///
-/// The answer, as a function of the text, is that canonical text or the first fault.
+/// The clause `answer` gives the result of [`canonical`](crate::canonical) as a function of the text.
 ///
 /// # Examples
 ///
