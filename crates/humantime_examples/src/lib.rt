@@ -1,6 +1,7 @@
-//! Five small programs over `humantime`, one of each kind that reads or prints its texts, proved by its contracts alone.
+//! Callers of `humantime`, proved by its contracts alone: five small programs, and in `how_to` the code of docs/HOWTO.md.
 #![tactic(auto)]
 
+pub mod how_to;
 pub mod log_lines;
 pub mod option;
 pub mod report;

@@ -1,7 +1,6 @@
 //! Callers that are proved: what CALLING.md shows.
 
 pub mod calendar;
-pub mod clock;
 pub mod durations;
 pub mod errors;
 pub mod laws;
