@@ -1,6 +1,6 @@
 //! Filters the lines of a log, and sorts them by their timestamps.
 
-ghost use Rattle.std.specs.Prelude.{◌≡◌, ◌==◌, ◌↔◌, ◌≤ℤ◌, IsTrue, IsSomeAnd, OnOk};
+ghost use Rattle.std.specs.Prelude.{◌≡◌, ◌==◌, ◌↔◌, ◌≤ℤ◌, IsTrue, IsSomeAnd, IfOk, OnOk};
 ghost use Rattle.std.specs.List.{before_first};
 ghost use Rattle.std.specs.List.Sorted.{IsPermutation, IsSortedByKey};
 ghost use Rattle.std.specs.Option.{option_cmp};
@@ -10,7 +10,7 @@ ghost use Rattle.std.specs.Str.{byte};
 ghost use Rattle.humantime.specs.Prelude.{weak_answer};
 
 use humantime::{SystemTime, parse_rfc3339_weak};
-use std::alloc::{AllocError, Allocator};
+use std::alloc::{AllocError, Allocator, Global};
 
 /// Returns the moment of the timestamp before the first space of a line, or `None` if there is none.
 pub fn moment_of(line: &str) -> Option<SystemTime>
@@ -38,4 +38,16 @@ pub fn sort_lines<A: Allocator>(alloc: A, lines: &mut [&str]) -> Result<(), Allo
     ensures sorted { OnOk result (IsSortedByKey (λ line. result_ok (weak_answer (before_first (λ b. b == byte " ") line.now))) (option_cmp int_cmp) lines.new) }
 {
     lines.sort_by_key(alloc, |line| moment_of(line))
+}
+
+/// Returns the lines of a text that have a timestamp not before `from`, sorted by their moments.
+pub fn sorted_since(alloc: Global, text: &str, from: SystemTime) -> Result<Vec<&str>, AllocError>
+    ensures sorted { IfOk result (λ lines. IsSortedByKey (λ line. result_ok (weak_answer (before_first (λ b. b == byte " ") line.now))) (option_cmp int_cmp) lines.items) }
+{
+    let mut lines = text
+        .lines()
+        .filter(|line| is_since(line, from))
+        .collect::<Vec<&str>>(alloc)?;
+    sort_lines(alloc, &mut lines)?;
+    Ok(lines)
 }

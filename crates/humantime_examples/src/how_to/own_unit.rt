@@ -2,7 +2,7 @@
 
 ghost use Rattle.std.specs.Prelude.{◌≡◌, ◌≢◌, ◌*◌, ◌<◌, ◌^◌, ◌++◌, ℕ, List, chars, codes, decimal, Some};
 ghost use Rattle.std.specs.Result.{result_ok};
-ghost use Rattle.humantime.specs.Prelude.{duration_answer, nanos_per_second, result_view};
+ghost use Rattle.humantime.specs.Prelude.{duration_answer, nanos_per_second};
 
 use humantime::{StdDuration, parse_duration};
 

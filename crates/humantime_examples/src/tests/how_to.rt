@@ -2,7 +2,7 @@
 
 use crate::how_to::clock::{now, now_text};
 use crate::how_to::deadline::{deadline, time_left};
-use crate::how_to::log::{is_since, sort_lines};
+use crate::how_to::log::{is_since, sort_lines, sorted_since};
 use crate::how_to::own_unit::working_time;
 use crate::how_to::setting::read_ttl;
 use crate::how_to::sleep::sleep_for;
@@ -119,6 +119,14 @@ fn lines_of_a_log(rt: HostRuntime) {
     for (line, (text, since)) in lines.iter().zip(sorted) {
         assert_eq!(rt; (*line, is_since(line, from)), (text, since));
     }
+
+    let text =
+        "2018-02-14T00:28:09Z b\n\n2018-02-14T00:28:06Z early\n2018-02-14 00:28:07Z a space\n2018-02-14T00:28:07Z a\n";
+    let found = sorted_since(rt.alloc(), text, from).expect(&rt, "memory");
+    assert_eq!(rt;
+        found.as_slice(),
+        &["2018-02-14T00:28:07Z a", "2018-02-14T00:28:09Z b"]
+    );
 }
 
 #[test]
