@@ -123,10 +123,8 @@ fn lines_of_a_log(rt: HostRuntime) {
     let text =
         "2018-02-14T00:28:09Z b\n\n2018-02-14T00:28:06Z early\n2018-02-14 00:28:07Z a space\n2018-02-14T00:28:07Z a\n";
     let found = sorted_since(rt.alloc(), text, from).expect(&rt, "memory");
-    assert_eq!(rt;
-        found.as_slice(),
-        &["2018-02-14T00:28:07Z a", "2018-02-14T00:28:09Z b"]
-    );
+    let sorted = ["2018-02-14T00:28:07Z a", "2018-02-14T00:28:09Z b"];
+    assert_eq!(rt; found.as_slice(), sorted.as_slice());
 }
 
 #[test]
