@@ -1,6 +1,7 @@
-//! Five small programs that use `humantime`, one for each kind of call that parses or prints. They are proved from its contracts alone.
+//! Callers of `humantime`, proved by its contracts alone: five small programs, and in `how_to` the code of docs/HOWTO.md.
 #![tactic(auto)]
 
+pub mod how_to;
 pub mod log_lines;
 pub mod option;
 pub mod report;

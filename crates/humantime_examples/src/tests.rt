@@ -1,5 +1,7 @@
 //! Tests that call each program.
 
+mod how_to;
+
 use crate::log_lines::{answers_alike, bound_text, keeps, keeps_by_bytes};
 use crate::option::{OptionError, timeout};
 use crate::report::Row;

@@ -1,7 +1,6 @@
 //! Callers with proofs: the examples of CALLING.md.
 
 pub mod calendar;
-pub mod clock;
 pub mod durations;
 pub mod errors;
 pub mod laws;

@@ -1,7 +1,6 @@
 //! Tests of the callers in CALLING.md that do not allocate.
 
 use crate::callers::calendar::{days_after, weekday};
-use crate::callers::clock::{from_std, from_std_duration, parse_to_std, to_std, to_std_time};
 use crate::callers::durations::{
     default_limit, end_of, is_same_error, is_within, limit_seconds, place_in_line, shown_seconds,
     underlined,
@@ -16,7 +15,6 @@ use crate::tests::{assert_same, date, moment};
 use humantime::DurationError::{self, NumberExpected, NumberOverflow, UnknownUnit};
 use humantime::{StdDuration, TimestampError, UNIX_EPOCH};
 use std::cmp::Ordering::{Equal, Less};
-use std::time;
 
 const UNKNOWN: DurationError<'static> = UnknownUnit {
     start: 2,
@@ -159,22 +157,4 @@ fn days_are_counted(rt: HostRuntime) {
         days_after(date(1970, 1, 2), u32::MAX),
     ];
     assert_same(&rt, later, [Some(date(2000, 3, 1)), None, None]);
-}
-
-#[test]
-fn values_of_std_are_converted(rt: HostRuntime) {
-    let second = time::Duration::new(1_518_568_087, 5);
-    let here = StdDuration::new(1_518_568_087, 5);
-    assert_same(&rt, from_std_duration(second), here);
-    let time = time::UNIX_EPOCH.checked_add(second).expect(&rt, "no time");
-    let same = Some(moment(&rt, 1_518_568_087, 5));
-    assert_same(&rt, from_std(time), same);
-    assert_same(&rt, to_std(here), second);
-    assert_same(&rt, to_std_time(moment(&rt, 1_518_568_087, 5)), Some(time));
-    assert_same(&rt, to_std_time(moment(&rt, -1, 999_999_999)), None);
-    let half = time::Duration::new(1, 500_000_000);
-    assert_same(&rt, parse_to_std("1.5s"), Ok(half));
-    assert_same(&rt, parse_to_std("x"), Err(NumberExpected(0)));
-    let now = time::SystemTime::now(&rt).expect(&rt, "no clock");
-    assert!(rt; from_std(now) > same);
 }

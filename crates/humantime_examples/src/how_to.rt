@@ -1,0 +1,10 @@
+//! The code of docs/HOWTO.md, a file for each question.
+
+pub mod clock;
+pub mod deadline;
+pub mod log;
+pub mod own_unit;
+pub mod setting;
+pub mod sleep;
+pub mod std_values;
+pub mod stored;
