@@ -1,6 +1,6 @@
 //! Conversions between the dates of 1970 to 9999 and their numbers of days since 1970-01-01.
 
-ghost use Rattle.std.specs.Prelude.{◌≡◌, ◌+◌, ◌-◌, ◌<◌, ◌≤◌, ◌↔◌, IsSome, IfSome, MatchOption};
+ghost use Rattle.std.specs.Prelude.{◌≡◌, ◌+◌, ◌-◌, ◌*◌, ◌<◌, ◌≤◌, ◌↔◌, IsSome, IfSome, MatchOption};
 ghost use Rattle.std.specs.Int.{IsInRange};
 ghost use Rattle.humantime.specs.Calendar.{days_in_year, days_in_month, days_of_years, days_of_months, IsDate, day_of};
 ghost use Rattle.humantime.specs.Answers.Dates.{march_days, march_months};
@@ -63,14 +63,17 @@ pub struct Date {
     pub day: u32,
 }
 
-/// Returns the number of days from 1970-01-01 to the first day of `year`.
+/// Returns the number of leap days in the years from 1970 up to `year`, which is not counted.
 #[inline(always)]
 #[tactic(auto, using(crate::proofs::Dates::Years::days_of_years_closed))]
-fn days_before_year(year: u32) -> u32
-    requires { IsInRange 1970 9999 year }
-    ensures { result ≡ days_of_years (year - 1970) }
+fn leap_days_before(year: u32) -> u32
+    requires { IsInRange 1970 10_000 year }
+    ensures days { 365 * (year - 1970) + result ≡ days_of_years (year - 1970) }
+    ensures bound { result ≤ year }
 {
-    365 * (year - 1970) + (year - 1969) / 4 - (year - 1901) / 100 + (year - 1601) / 400
+    // There are 89 leap days from 1601 to 1969.
+    let years = year - 1601;
+    years / 4 - years / 100 + years / 400 - 89
 }
 
 /// Returns 1 in a leap year and 0 in any other.
@@ -95,19 +98,17 @@ fn month_length(year: u32, month: u32) -> u32
     }
 }
 
-/// Returns the number of days from the first day of `year` to the first day of `month`.
+/// Returns the number of days from 1970-01-01 to the first day of a month.
 #[inline(always)]
-#[tactic(auto, using(crate::proofs::Dates::Years::days_in_table))]
+#[tactic(auto, using(crate::proofs::Dates::Years::days_before))]
 fn days_before_month(year: u32, month: u32) -> u32
-    requires { IsInRange 1 12 month }
-    ensures { result ≡ days_of_months year (month - 1) }
+    requires year { IsInRange 1970 9999 year }
+    requires month { IsInRange 1 12 month }
+    ensures { result ≡ days_of_years (year - 1970) + days_of_months year (month - 1) }
 {
-    let days = DAYS_BEFORE_MONTH[month as usize - 1];
-    if month > 2 {
-        days + leap_days(year)
-    } else {
-        days
-    }
+    let days = 365 * (year - 1970) + DAYS_BEFORE_MONTH[month as usize - 1];
+    // From March on, the leap day of this year is counted too.
+    days + leap_days_before(if month > 2 { year + 1 } else { year })
 }
 
 /// Returns the number of days from 1970-01-01 to `date`, or `None` if no such date exists in 1970 to 9999.
@@ -138,11 +139,11 @@ pub fn day_number(date: Date, turns: &mut Turns) -> Option<u32>
     if date.year < FIRST_YEAR || date.year > LAST_YEAR || date.month < 1 || date.month > 12 {
         return None;
     }
-    if date.day < 1 || date.day > month_length(date.year, date.month) {
+    // Each month has 28 days, so that its length is seldom asked for.
+    if date.day < 1 || date.day > 28 && date.day > month_length(date.year, date.month) {
         return None;
     }
-    let days = days_before_year(date.year) + days_before_month(date.year, date.month);
-    Some(days + date.day - 1)
+    Some(days_before_month(date.year, date.month) + date.day - 1)
 }
 
 /// Returns the year that contains a day, and the zero-based index of the day in it. Years begin on 1 March here, and are counted from

@@ -1,6 +1,8 @@
 //! Parsing of timestamps.
 
 ghost use Rattle.std.specs.Prelude.{◌≡◌, ◌^◌, ◌<◌, ◌≤◌, ◌↔◌, length, false, IsTrue, IfSome, SomeIff, Ok, Err, Some, ℤ, codes};
+ghost use Rattle.std.specs.Char.{is_ascii_digit};
+ghost use Rattle.std.specs.List.{list_all};
 ghost use Rattle.std.specs.Str.{bytes_eq};
 ghost use Rattle.humantime.specs.declared.date.error.TimestampError.{TimestampError};
 ghost use Rattle.humantime.specs.Prelude.{IsWeakMoment, IsStrictMoment, first_failed, weak_checks, strict_checks, weak_answer, strict_answer};
@@ -300,20 +302,30 @@ fn read_fraction(rest: &[u8]) -> Result<u32, TimestampError>
 
 /// Returns the nanoseconds that the digits after a point represent, or an error if a byte is not a digit. Digits past the ninth
 /// are ignored.
-#[inline(never)]
+#[inline(always)]
 fn fraction_nanos(digits: &[u8]) -> Result<u32, TimestampError>
     ensures { result ≡ digits_answer digits.now }
 {
+    let (counted, ignored) = digits.split_at(digits.len().min(9));
     let mut nanos = 0;
-    for (place, digit) in digits.iter().enumerate() {
+    for (place, digit) in counted.iter().enumerate() {
         if !digit.is_ascii_digit() {
             return Err(TimestampError::InvalidDigit);
         }
-        if place < 9 {
-            nanos += PLACE_VALUES[place] * (*digit - b'0') as u32;
-        }
+        nanos += PLACE_VALUES[place] * (*digit - b'0') as u32;
+    }
+    if !are_digits(ignored) {
+        return Err(TimestampError::InvalidDigit);
     }
     Ok(nanos)
+}
+
+/// Returns `true` if all bytes are digits.
+#[inline(always)]
+fn are_digits(bytes: &[u8]) -> bool
+    ensures { result ≡ list_all is_ascii_digit bytes.now }
+{
+    bytes.iter().all(|b| b.is_ascii_digit())
 }
 
 /// Returns `true` if these six bytes are `+00:00`. The first four are compared as one number, and the last two as another.
