@@ -285,14 +285,10 @@ fn unix_seconds(x: DateTime) -> Option<u64>
 
 /// Returns the nanoseconds of the fraction in the bytes after the seconds: nothing, or a point and digits, and then the zone.
 #[inline(always)]
-#[tactic(auto, using(crate::proofs::Timestamps::Reading::Ends::letter_alone, crate::proofs::Timestamps::Reading::Fractions::nothing_read), unfolding(crate::specs::Timestamps::Checks::has_point))]
+#[tactic(auto, using(crate::proofs::Timestamps::Reading::Fractions::nothing_read), unfolding(crate::specs::Timestamps::Checks::has_point))]
 fn read_fraction(rest: &[u8]) -> Result<u32, TimestampError>
     ensures { result ≡ fraction_answer (Checks.before_zone rest.now) }
 {
-    // Most timestamps have a `Z` right after the seconds.
-    if let [b'Z'] = rest {
-        return Ok(0);
-    }
     match before_zone(rest) {
         [] => Ok(0),
         [b'.', digits @ ..] => fraction_nanos(digits),
@@ -306,15 +302,18 @@ fn read_fraction(rest: &[u8]) -> Result<u32, TimestampError>
 fn fraction_nanos(digits: &[u8]) -> Result<u32, TimestampError>
     ensures { result ≡ digits_answer digits.now }
 {
-    let (counted, ignored) = digits.split_at(digits.len().min(9));
     let mut nanos = 0;
-    for (place, digit) in counted.iter().enumerate() {
+    for (place, place_value) in PLACE_VALUES.iter().enumerate() {
+        if place == digits.len() {
+            return Ok(nanos);
+        }
+        let digit = digits[place];
         if !digit.is_ascii_digit() {
             return Err(TimestampError::InvalidDigit);
         }
-        nanos += PLACE_VALUES[place] * (*digit - b'0') as u32;
+        nanos += *place_value * (digit - b'0') as u32;
     }
-    if !are_digits(ignored) {
+    if !are_digits(&digits[9..]) {
         return Err(TimestampError::InvalidDigit);
     }
     Ok(nanos)
