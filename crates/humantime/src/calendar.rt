@@ -100,11 +100,12 @@ fn month_length(year: u32, month: u32) -> u32
 
 /// Returns the number of days from 1970-01-01 to the first day of a month.
 #[inline(always)]
-#[tactic(auto, using(crate::proofs::Dates::Years::days_before))]
+#[tactic(auto, using(crate::proofs::Dates::Years::days_counted))]
 fn days_before_month(year: u32, month: u32) -> u32
     requires year { IsInRange 1970 9999 year }
     requires month { IsInRange 1 12 month }
-    ensures { result ≡ days_of_years (year - 1970) + days_of_months year (month - 1) }
+    ensures days { result ≡ days_of_years (year - 1970) + days_of_months year (month - 1) }
+    ensures bound { result < 4_000_000 }
 {
     let days = 365 * (year - 1970) + DAYS_BEFORE_MONTH[month as usize - 1];
     // From March on, the leap day of this year is counted too.
@@ -128,7 +129,6 @@ fn days_before_month(year: u32, month: u32) -> u32
 /// assert_eq!(rt; day_number(no_date, &mut turns), None);
 /// ```
 #[inline(always)]
-#[tactic(auto, using(crate::proofs::Dates::Years::days_counted))]
 pub fn day_number(date: Date, turns: &mut Turns) -> Option<u32>
     ensures valid { IsSome result ↔ IsDate date }
     ensures day { IfSome result (λ n. n ≡ day_of date) }

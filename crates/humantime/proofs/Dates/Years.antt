@@ -58,7 +58,5 @@ days_in_table y k few = grind (arith, nat_tests)
 pub year_after : (y : ℕ) → 1970 ≤ y → days_of_years (y + 1 - 1970) ≡ days_of_years (y - 1970) + days_in_year y
 year_after y late = grind (arith, days_of_years_closed, march_days_next)
 
-pub ruleset days_before = (days_in_table, year_after, days_in_year_bound)
-
--- what the days of the years and the months before a date are
-pub ruleset days_counted = (days_of_years_closed, days_of_first_months, days_of_months_closed, days_in_year_bound)
+-- what the days before a month are
+pub ruleset days_counted = (days_in_table, year_after, days_in_year_bound)

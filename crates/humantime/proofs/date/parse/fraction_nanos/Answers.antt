@@ -1,4 +1,4 @@
-use Rattle.std.proofs.Common.{◌≡◌, ◌∙◌, length, drop, refl, sym, arith}
+use Rattle.std.proofs.Common.{◌≡◌, ◌∙◌, length, refl, sym, arith}
 use Rattle.std.specs.Prelude.{true, false}
 use Rattle.std.specs.Str.{all_ascii_digits}
 use Rattle.std.proofs.lemmas.Bool.Decides.{nat_tests}
