@@ -1,7 +1,9 @@
 -- The digits of a fraction, read one by one, are its nanoseconds.
-use Rattle.std.proofs.Common.{◌≡◌, ℕ, zero, suc, ◌+◌, ◌-◌, ◌*◌, ◌/◌, ◌^◌, ◌<◌, ◌≤◌, List, [], ◌∷◌, ◌++◌, length, get_or, take, drop, drop-cons, add-one, refl, sym, ◌∙◌, arith}
+use Rattle.std.proofs.Common.{◌≡◌, ℕ, zero, suc, ◌+◌, ◌-◌, ◌*◌, ◌/◌, ◌^◌, ◌<◌, ◌≤◌, List, [], ◌∷◌, ◌++◌, length, get_or, take, drop, drop-cons, add-one, refl, ◌∙◌, arith}
 use Rattle.std.proofs.lemmas.Grind.{common_steps}
-use Rattle.std.specs.Prelude.{true, min}
+use Rattle.std.specs.Prelude.{true, min, if◌then◌else◌, Ok, Err}
+use Rattle.humantime.specs.declared.date.error.TimestampError.TheVariants.{InvalidDigit}
+use Rattle.humantime.specs.Steps.Timestamps.{digits_answer}
 use Rattle.std.specs.Char.{is_ascii_digit, digit_value}
 use Rattle.std.specs.Int.{IsInRange}
 use Rattle.std.specs.List.{AllByRecursion}
@@ -98,9 +100,10 @@ next_digit ds k n m some digit added =
 ended : (ds : List ℕ) (k n : ℕ) → k ≡ min (length ds) 9 → add_digits n (place_value k) (drop k ds) ≡ n
 ended ds k n end = grind (arith, common_steps, add_nothing)
 
-pub nine_added : (ds : List ℕ) (k n : ℕ) → k ≡ min (length ds) 9 → all_ascii_digits ds ≡ true
-    → add_digits n (place_value k) (drop k ds) ≡ add_digits 0 100_000_000 ds → n ≡ fraction_nanos ds
-nine_added ds k n end digits added = sym (ended ds k n end) ∙ added ∙ sym (nanos_added ds (digits_from_test ds digits))
+pub nine_read : (ds : List ℕ) (k n : ℕ) → k ≡ min (length ds) 9 → all_ascii_digits (drop k ds) ≡ all_ascii_digits ds
+    → add_digits n (place_value k) (drop k ds) ≡ add_digits 0 100_000_000 ds
+    → digits_answer ds ≡ (if all_ascii_digits (drop k ds) then Ok n else Err InvalidDigit)
+nine_read ds k n end digits added = grind (arith, nat_tests, (ended ds k n end), (nanos_added ds), (digits_from_test ds))
 
 pub nothing_read : fraction_nanos [] ≡ 0
 unfolding fraction_nanos
