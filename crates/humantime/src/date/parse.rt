@@ -1,6 +1,8 @@
 //! Parsing of timestamps.
 
 ghost use Rattle.std.specs.Prelude.{◌≡◌, ◌^◌, ◌<◌, ◌≤◌, ◌↔◌, length, false, IsTrue, IfSome, SomeIff, Ok, Err, Some, ℤ, codes};
+ghost use Rattle.std.specs.Char.{is_ascii_digit};
+ghost use Rattle.std.specs.List.{list_all};
 ghost use Rattle.std.specs.Str.{bytes_eq};
 ghost use Rattle.humantime.specs.declared.date.error.TimestampError.{TimestampError};
 ghost use Rattle.humantime.specs.Prelude.{IsWeakMoment, IsStrictMoment, first_failed, weak_checks, strict_checks, weak_answer, strict_answer};
@@ -283,14 +285,10 @@ fn unix_seconds(x: DateTime) -> Option<u64>
 
 /// Returns the nanoseconds of the fraction in the bytes after the seconds: nothing, or a point and digits, and then the zone.
 #[inline(always)]
-#[tactic(auto, using(crate::proofs::Timestamps::Reading::Ends::letter_alone, crate::proofs::Timestamps::Reading::Fractions::nothing_read), unfolding(crate::specs::Timestamps::Checks::has_point))]
+#[tactic(auto, using(crate::proofs::Timestamps::Reading::Fractions::nothing_read), unfolding(crate::specs::Timestamps::Checks::has_point))]
 fn read_fraction(rest: &[u8]) -> Result<u32, TimestampError>
     ensures { result ≡ fraction_answer (Checks.before_zone rest.now) }
 {
-    // Most timestamps have a `Z` right after the seconds.
-    if let [b'Z'] = rest {
-        return Ok(0);
-    }
     match before_zone(rest) {
         [] => Ok(0),
         [b'.', digits @ ..] => fraction_nanos(digits),
@@ -300,20 +298,33 @@ fn read_fraction(rest: &[u8]) -> Result<u32, TimestampError>
 
 /// Returns the nanoseconds that the digits after a point represent, or an error if a byte is not a digit. Digits past the ninth
 /// are ignored.
-#[inline(never)]
+#[inline(always)]
 fn fraction_nanos(digits: &[u8]) -> Result<u32, TimestampError>
     ensures { result ≡ digits_answer digits.now }
 {
     let mut nanos = 0;
-    for (place, digit) in digits.iter().enumerate() {
+    for (place, place_value) in PLACE_VALUES.iter().enumerate() {
+        if place == digits.len() {
+            return Ok(nanos);
+        }
+        let digit = digits[place];
         if !digit.is_ascii_digit() {
             return Err(TimestampError::InvalidDigit);
         }
-        if place < 9 {
-            nanos += PLACE_VALUES[place] * (*digit - b'0') as u32;
-        }
+        nanos += *place_value * (digit - b'0') as u32;
+    }
+    if !are_digits(&digits[9..]) {
+        return Err(TimestampError::InvalidDigit);
     }
     Ok(nanos)
+}
+
+/// Returns `true` if all bytes are digits.
+#[inline(always)]
+fn are_digits(bytes: &[u8]) -> bool
+    ensures { result ≡ list_all is_ascii_digit bytes.now }
+{
+    bytes.iter().all(|b| b.is_ascii_digit())
 }
 
 /// Returns `true` if these six bytes are `+00:00`. The first four are compared as one number, and the last two as another.

@@ -34,10 +34,6 @@ pub zone_fits : (bytes : List ℕ) → length (zone_text (zone_of bytes)) ≤ le
 unfolding zone_of
 zone_fits bytes = grind (arith, common_steps)
 
-pub letter_alone : (bytes : List ℕ) → length bytes ≡ 1 → slice_index bytes 0 ≡ 90 → before_zone bytes ≡ []
-unfolding zone_of
-letter_alone bytes one letter = grind arith
-
 zone_behind : (bytes : List ℕ) → drop (length bytes - length (zone_text (zone_of bytes))) bytes ≡ zone_text (zone_of bytes)
 unfolding zone_of
 zone_behind bytes = grind (arith, common_steps)

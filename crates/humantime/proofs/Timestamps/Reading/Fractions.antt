@@ -1,6 +1,9 @@
 -- The digits of a fraction, parsed one by one, are its nanoseconds.
-use Rattle.std.proofs.Common.{◌≡◌, ℕ, zero, suc, ◌+◌, ◌-◌, ◌*◌, ◌/◌, ◌^◌, ◌<◌, ◌≤◌, List, [], ◌∷◌, ◌++◌, length, get_or, take, drop, drop-cons, add-one, refl, sym, ◌∙◌, arith}
-use Rattle.std.specs.Prelude.{true}
+use Rattle.std.proofs.Common.{◌≡◌, ℕ, zero, suc, ◌+◌, ◌-◌, ◌*◌, ◌/◌, ◌^◌, ◌<◌, ◌≤◌, List, [], ◌∷◌, ◌++◌, length, get_or, take, drop, drop-cons, add-one, refl, ◌∙◌, arith}
+use Rattle.std.proofs.lemmas.Grind.{common_steps}
+use Rattle.std.specs.Prelude.{true, min, if◌then◌else◌, Ok, Err}
+use Rattle.humantime.specs.declared.date.error.TimestampError.TheVariants.{InvalidDigit}
+use Rattle.humantime.specs.Steps.Timestamps.{digits_answer}
 use Rattle.std.specs.Char.{is_ascii_digit, digit_value}
 use Rattle.std.specs.Int.{IsInRange}
 use Rattle.std.specs.List.{AllByRecursion}
@@ -83,9 +86,6 @@ place_value k = get_or (100_000_000 ∷ 10_000_000 ∷ 1_000_000 ∷ 100_000 ∷
 next_place : (k : ℕ) → place_value (k + 1) ≡ place_value k / 10
 next_place k = grind arith
 
-pub no_place : (k : ℕ) → 9 ≤ k → place_value k ≡ 0
-no_place k late = grind arith
-
 -- The digit at index `k` is added to `n`.
 pub next_digit : (ds : List ℕ) (k n m : ℕ) → k < length ds → is_ascii_digit (get_or ds k 0) ≡ true → m ≡ n + place_value k * (get_or ds k 0 - 48)
     → (add_digits m (place_value (k + 1)) (drop (k + 1) ds) ≡ add_digits n (place_value k) (drop k ds))
@@ -96,8 +96,14 @@ next_digit ds k n m some digit added =
     let most : place_value k * (d - 48) ≤ place_value k * 9 = mul-le-mul_left (place_value k) (omega (arith, is_digit_from_test d digit)) in
     rw (next_place k, add-one k, drop-cons ds k 0 some, added, digit) (refl, refl, (λ low room. (omega arith, omega arith)))
 
-pub digits_added : (ds : List ℕ) → all_ascii_digits ds ≡ true → add_digits 0 100_000_000 ds ≡ fraction_nanos ds
-digits_added ds digits = sym (nanos_added ds (digits_from_test ds digits))
+-- no digit is left, or none that counts
+ended : (ds : List ℕ) (k n : ℕ) → k ≡ min (length ds) 9 → add_digits n (place_value k) (drop k ds) ≡ n
+ended ds k n end = grind (arith, common_steps, add_nothing)
+
+pub nine_read : (ds : List ℕ) (k n : ℕ) → k ≡ min (length ds) 9 → all_ascii_digits (drop k ds) ≡ all_ascii_digits ds
+    → add_digits n (place_value k) (drop k ds) ≡ add_digits 0 100_000_000 ds
+    → digits_answer ds ≡ (if all_ascii_digits (drop k ds) then Ok n else Err InvalidDigit)
+nine_read ds k n end digits added = grind (arith, nat_tests, (ended ds k n end), (nanos_added ds), (digits_from_test ds))
 
 pub nothing_read : fraction_nanos [] ≡ 0
 unfolding fraction_nanos

@@ -1,21 +1,35 @@
-use Rattle.std.proofs.Common.{◌≡◌, ◌+◌, ◌-◌, ◌*◌, ◌∙◌, slice_index_or, sym, arith}
+use Rattle.std.proofs.Common.{◌≡◌, ◌∙◌, length, refl, sym, arith}
+use Rattle.std.proofs.lemmas.Bool.Decides.{nat_tests}
 use Rattle.std.proofs.lemmas.Grind.{common_steps}
-use Rattle.humantime.proofs.Timestamps.Reading.Fractions.{place_value, no_place, next_digit, digits_added}
+use Rattle.std.proofs.lemmas.List.{take_rest}
+use Rattle.humantime.proofs.Timestamps.Reading.Fractions.{next_digit, nine_read}
 use Rattle.humantime.proofs.date.parse.fraction_nanos.Goals as goal
-use Rattle.humantime.proofs.date.parse.fraction_nanos.Goals.{then-place-lt9, else-place-lt9}
 
 pub loop-place-preserved : goal.loop-place-preserved
 loop-place-preserved c =
-    let k = c.loop-place.place in
-    let ds = c.args.digits.now in
-    let added : c.if-place-lt9.nanos ≡ c.loop-place.nanos + place_value k * (slice_index_or ds k 0 - 48) =
-    elim c.if-place-lt9.branch [
-      | then-place-lt9 w ↦ w.nanos-is
-      | else-place-lt9 w ↦ w.nanos-is ∙ rw (no_place k w.if-place-lt9.false) (omega arith)
-    ] in
-    let step = next_digit ds k _ _ c.loop-place-test.true (sym c.if-not-is_ascii_digit.ensures.value) added in
+    let step = next_digit c.args.digits.now c.loop-place.place c.loop-place.nanos _ (grind (arith, nat_tests)) (sym c.if-not-is_ascii_digit.ensures.value) refl in
     let bound = step.2 c.loop-place.invariant.low c.loop-place.invariant.room in
-    record { added = step.0 ∙ c.loop-place.invariant.added; digits = step.1 ∙ c.loop-place.invariant.digits; low = bound.0; room = bound.1 }
+    record {
+      added = step.0 ∙ c.loop-place.invariant.added;
+      digits = step.1 ∙ c.loop-place.invariant.digits;
+      within = grind (arith, nat_tests);
+      low = bound.0;
+      room = bound.1;
+    }
+
+pub returns-then-place-digits : goal.returns-then-place-digits
+returns-then-place-digits c =
+    let end : c.loop-place.place ≡ length c.args.digits.now = grind (arith, nat_tests) in
+    rw (nine_read c.args.digits.now _ _ (omega arith) c.loop-place.invariant.digits c.loop-place.invariant.added, end) (grind (arith, common_steps))
+
+pub returns-then-not-are_digits : goal.returns-then-not-are_digits
+returns-then-not-are_digits c =
+    let end : c.loop-place.place ≡ 9 = omega arith in
+    let left = rw (take_rest c.args.digits.now 9) at c.are_digits.ensures in
+    rw (nine_read c.args.digits.now _ _ (omega arith) c.loop-place.invariant.digits c.loop-place.invariant.added, end, sym left ∙ c.if-not-are_digits.true) refl
 
 pub returns : goal.returns
-returns c = grind (arith, common_steps, digits_added)
+returns c =
+    let end : c.loop-place.place ≡ 9 = omega arith in
+    let left = rw (take_rest c.args.digits.now 9) at c.are_digits.ensures in
+    rw (nine_read c.args.digits.now _ _ (omega arith) c.loop-place.invariant.digits c.loop-place.invariant.added, end, sym left ∙ c.if-not-are_digits.false) refl
