@@ -2,6 +2,7 @@
 
 mod calendars;
 mod callers;
+mod calls;
 mod law_callers;
 mod memory;
 mod relations;
