@@ -2,10 +2,12 @@
 
 mod calendars;
 mod callers;
+mod formats;
 mod law_callers;
 mod memory;
 mod relations;
 mod values;
+mod wrappers;
 
 use humantime::{Date, SystemTime};
 use std::fmt::Debug;
