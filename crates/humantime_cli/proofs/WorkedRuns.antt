@@ -1,11 +1,14 @@
 -- What a caller of `run` can conclude for known arguments, if the bytes of both writers are known. The callers in the tests cite these
 -- facts. Each of them fails to prove if a definition or a clause of `run` is weakened.
-use Rattle.std.proofs.Common.{arith, ◌≡◌, ◌≢◌, ◌<◌, ℕ, List, [], ◌∷◌, ◌++◌, length, take, subst, inl, inr, refl}
-use Rattle.std.specs.Prelude.{None, Some, Ok, Err, codes}
-use Rattle.humantime.specs.Prelude.{InvalidCharacter}
+use Rattle.std.proofs.Common.{arith, ◌≡◌, ◌≢◌, ◌<◌, ℕ, ◌+◌, ◌*◌, List, [], ◌∷◌, ◌++◌, length, take, subst, inl, inr, refl}
+use Rattle.std.specs.Prelude.{ℤ, pos, None, Some, Ok, Err, codes}
+use Rattle.humantime.specs.declared.date.error.TimestampError.{TimestampError}
+use Rattle.humantime.specs.declared.date.error.TimestampError.TheVariants.{OutOfRange, InvalidFormat}
+use Rattle.humantime.specs.Prelude.{InvalidCharacter, nanos_per_second, moment_text, places_of, IsStrictMoment, IsWeakMoment, first_failed, strict_checks, weak_checks}
 use Rattle.humantime.proofs.OnLiterals.{humantime_on_literals}
-use Rattle.humantime.proofs.Theorems.{canonical_again}
-use Rattle.humantime_cli.specs.Answers.{Answer, Answers, OneAnswer, Streams, streams, Ends, EndsWith, Whole, Cut, Duration, outcome}
+use Rattle.humantime.proofs.TimestampsOnLiterals.{timestamps_on_literals}
+use Rattle.humantime.proofs.Theorems.{canonical_again, one_stamp_outcome, printed_moment_reads, places_of_bound}
+use Rattle.humantime_cli.specs.Answers.{Answer, Answers, OneAnswer, Streams, streams, Ends, EndsWith, Whole, Cut, Duration, Strict, Weak, IsMomentOutput, outcome}
 use Rattle.humantime_cli.specs.Writes.{line}
 use Rattle.humantime_cli.proofs.AnswerLemmas.{not_two}
 
@@ -37,6 +40,30 @@ fault_explained : Answers (codes "duration" ∷ codes "1~" ∷ []) (Some (Err (c
 unfolding humantime_on_literals
 fault_explained = (codes "duration", Duration, codes "1~", refl, (InvalidCharacter 1, ((canonical_again (codes "1~")).fault (InvalidCharacter 1)).0 refl, refl))
 
+-- The printed text of a moment is an output of the text that denotes the moment.
+moment_printed : (Denotes : ℤ → Type 0) (Has : TimestampError → Type 0) (t : ℤ) (text : List ℕ) → Denotes t → moment_text t (places_of t) ≡ Some text → IsMomentOutput Denotes Has (Ok text)
+moment_printed Denotes Has t text denoted is = (t, denoted, (((printed_moment_reads t (places_of t) (places_of_bound t)).displayed text).0 is).1)
+
+strict_read : Answers (codes "strict" ∷ codes "2018-02-14T00:28:07Z" ∷ []) (Some (Ok (codes "2018-02-14T00:28:07Z")))
+unfolding timestamps_on_literals
+strict_read =
+    let t : ℤ = pos (1_518_568_087 * nanos_per_second) in
+    (codes "strict", Strict, codes "2018-02-14T00:28:07Z", refl, moment_printed (IsStrictMoment (codes "2018-02-14T00:28:07Z")) (λ e. first_failed (strict_checks (codes "2018-02-14T00:28:07Z")) ≡ Some e) t _ (((one_stamp_outcome (codes "2018-02-14T00:28:07Z")).1.value t).0 refl) refl)
+
+strict_refused : Answers (codes "strict" ∷ codes "2018-02-14 00:28:07" ∷ []) (Some (Err (codes "timestamp format is invalid")))
+unfolding timestamps_on_literals
+strict_refused = (codes "strict", Strict, codes "2018-02-14 00:28:07", refl, (InvalidFormat, ((one_stamp_outcome (codes "2018-02-14 00:28:07")).1.error InvalidFormat).0 refl, refl))
+
+weak_read : Answers (codes "weak" ∷ codes "2018-02-14 00:28:07.5" ∷ []) (Some (Ok (codes "2018-02-14T00:28:07.500000000Z")))
+unfolding timestamps_on_literals
+weak_read =
+    let t : ℤ = pos (1_518_568_087 * nanos_per_second + 500_000_000) in
+    (codes "weak", Weak, codes "2018-02-14 00:28:07.5", refl, moment_printed (IsWeakMoment (codes "2018-02-14 00:28:07.5")) (λ e. first_failed (weak_checks (codes "2018-02-14 00:28:07.5")) ≡ Some e) t _ (((one_stamp_outcome (codes "2018-02-14 00:28:07.5")).0.value t).0 refl) refl)
+
+weak_refused : Answers (codes "weak" ∷ codes "1970-02-30 00:00:00" ∷ []) (Some (Err (codes "numeric component is out of range")))
+unfolding timestamps_on_literals
+weak_refused = (codes "weak", Weak, codes "1970-02-30 00:00:00", refl, (OutOfRange, ((one_stamp_outcome (codes "1970-02-30 00:00:00")).0.error OutOfRange).0 refl, refl))
+
 -- What a caller with these arguments can conclude.
 abbrev Ran : List (List ℕ) → (ℕ → List ℕ → List ℕ → List ℕ → List ℕ → Type 0) → Type 0
 Ran words Told = (s : ℕ) (o n e m : List ℕ) → OneAnswer words → Ends words s (streams (Some o) (Some e)) (streams (Some n) (Some m)) → Told s o n e m
@@ -52,6 +79,22 @@ printed_cut _ _ _ _ _ one ends three = front_written (ends_with _ (Some (Ok (cod
 -- The message of the error was printed.
 pub explained : Ran (codes "duration" ∷ codes "1~" ∷ []) (Wrote 1 [] (codes "invalid character at 1\n"))
 explained _ _ _ _ _ one ends = all_written (ends_with _ (Some (Err (codes "invalid character at 1"))) fault_explained one ends)
+
+-- A timestamp in the strict form was printed.
+pub strict_printed : Ran (codes "strict" ∷ codes "2018-02-14T00:28:07Z" ∷ []) (Wrote 0 (codes "2018-02-14T00:28:07Z\n") [])
+strict_printed _ _ _ _ _ one ends = all_written (ends_with _ (Some (Ok (codes "2018-02-14T00:28:07Z"))) strict_read one ends)
+
+-- The error of a timestamp that is not in the strict form was printed.
+pub strict_explained : Ran (codes "strict" ∷ codes "2018-02-14 00:28:07" ∷ []) (Wrote 1 [] (codes "timestamp format is invalid\n"))
+strict_explained _ _ _ _ _ one ends = all_written (ends_with _ (Some (Err (codes "timestamp format is invalid"))) strict_refused one ends)
+
+-- A timestamp in the weak form was printed.
+pub weak_printed : Ran (codes "weak" ∷ codes "2018-02-14 00:28:07.5" ∷ []) (Wrote 0 (codes "2018-02-14T00:28:07.500000000Z\n") [])
+weak_printed _ _ _ _ _ one ends = all_written (ends_with _ (Some (Ok (codes "2018-02-14T00:28:07.500000000Z"))) weak_read one ends)
+
+-- The error of a date that does not exist was printed.
+pub weak_explained : Ran (codes "weak" ∷ codes "1970-02-30 00:00:00" ∷ []) (Wrote 1 [] (codes "numeric component is out of range\n"))
+weak_explained _ _ _ _ _ one ends = all_written (ends_with _ (Some (Err (codes "numeric component is out of range"))) weak_refused one ends)
 
 -- The usage line was printed.
 pub usage_told : Ran (codes "--help" ∷ []) (Wrote 2 [] (codes "usage: humantime duration|strict|weak TEXT\n"))

@@ -3,10 +3,12 @@
 mod calendars;
 mod callers;
 mod calls;
+mod formats;
 mod law_callers;
 mod memory;
 mod relations;
 mod values;
+mod wrappers;
 
 use humantime::{Date, SystemTime};
 use std::fmt::Debug;

@@ -1,12 +1,12 @@
 //! Callers of the laws of durations.
 
-ghost use Rattle.std.specs.Prelude.{◌≡◌, ◌≢◌, ◌+◌, ◌/◌, ◌≤◌, ◌++◌, ◌↔◌, ◌⊎◌, ℕ, List, Option, None, Some, Ok, Err, chars, length, option_map, slice_index, string_bytes, IfOk, IsOk, IsPermutation};
+ghost use Rattle.std.specs.Prelude.{◌≡◌, ◌≢◌, ◌+◌, ◌/◌, ◌≤◌, ◌++◌, ◌↔◌, ◌⊎◌, ℕ, List, Option, None, Some, Ok, Err, chars, length, option_map, slice_index, string_bytes, IfOk, IsOk, IsPermutation, IsTrue};
 ghost use Rattle.humantime.specs.Prelude.{Accepted, AcceptedWithZeros, AllHaveRoom, AreReordered, IsCanonicalText, AreCounts, Fault, HasFault, IsCanonicalOf, Items, NumberOverflow, Reads, SpelledSpan, WithinLimits, additions, bare_zero, canonical_answer, duration_answer, item_of, items_left, nanos_per_second, result_view, text_result_view, value, WasAccepted};
 
 use crate::callers::durations::limit_seconds;
 use humantime::laws::{
-    canonical_again, joined, one_outcome, printed_bounds, printed_duration_reads, reordered,
-    spans_decide, spans_tile, still_accepted,
+    canonical_again, joined, one_outcome, printed_bounds, printed_duration_reads,
+    printed_durations_differ, reordered, spans_decide, spans_tile, still_accepted,
 };
 use humantime::{
     DurationError, SpanIter, StdDuration, canonical, format_duration, parse_duration, spans,
@@ -67,6 +67,14 @@ pub fn canonical_text<'b>(duration: StdDuration, buf: &'b mut [u8; 64]) -> &'b s
     format_duration(duration).text(buf)
 }
 
+/// Returns the text of a duration, which is accepted with that duration.
+pub fn accepted_text<'b>(duration: StdDuration, buf: &'b mut [u8; 64]) -> &'b str
+    ensures { Accepted (chars result.now) duration }
+{
+    printed_duration_reads(duration);
+    format_duration(duration).text(buf)
+}
+
 /// Parses the canonical text of a duration, which returns that duration.
 pub fn read_back(text: &str, duration: StdDuration) -> Result<StdDuration, DurationError<'_>>
     ensures { IsCanonicalText duration text.now → result_view result ≡ Ok duration }
@@ -116,6 +124,16 @@ pub fn duration_string(alloc: Global, duration: StdDuration) -> Result<String, A
 {
     printed_duration_reads(duration);
     format!(in alloc; "{}", format_duration(duration))
+}
+
+/// Returns `true` if two durations have the same `String` by `Display`, which only equal ones have.
+pub fn is_same_string(alloc: Global, a: StdDuration, b: StdDuration) -> Result<bool, AllocError>
+    ensures { IfOk result (λ same. IsTrue same ↔ (a ≡ b)) }
+{
+    printed_durations_differ(a, b);
+    let first = format!(in alloc; "{}", format_duration(a))?;
+    let second = format!(in alloc; "{}", format_duration(b))?;
+    Ok(first.as_str() == second.as_str())
 }
 
 /// Parses two accepted texts that were joined. The result is their sum exactly if no addition overflows, and an overflow otherwise.

@@ -140,10 +140,11 @@ pub fn is_parsed_weakly(text: &str) -> bool
     text.parse::<Timestamp>().map(SystemTime::from) == parse_rfc3339_weak(text)
 }
 
-/// Returns `true` if a text is a timestamp in the strict form. Such a text has exactly one hour, and fails no check.
+/// Returns `true` if a text is a timestamp in the strict form. Such a text has exactly one hour and one fraction, and fails no check.
 pub fn is_strict(text: &str) -> bool
     ensures form { IsTrue result ↔ ((f : Fields) × IsStrict text.now f) }
     ensures hour { (f : Fields) (g : Fields) → IsStrict text.now f → IsStrict text.now g → f.hour ≡ g.hour }
+    ensures fraction { (f : Fields) (g : Fields) → IsStrict text.now f → IsStrict text.now g → f.fraction ≡ g.fraction }
     ensures checked { (f : Fields) → IsStrict text.now f → first_failed (strict_checks text.now) ≡ None }
 {
     one_stamp_outcome(text);

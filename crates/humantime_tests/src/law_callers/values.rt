@@ -1,10 +1,11 @@
 //! Callers that use the contracts of durations, moments and dates.
 
-ghost use Rattle.std.specs.Prelude.{◌≡◌, ◌+◌, ◌-◌, ◌*◌, ◌/◌, ◌%◌, ◌^◌, ◌<◌, ◌≤◌, ◌≤ℤ◌, ◌+ℤ◌, ◌↔◌, ℕ, List, pos, chars, IsSome, IfSome, IsSomeAnd, Err};
-ghost use Rattle.humantime.specs.Prelude.{IsCanonicalText, IsDate, UnknownUnit, day_of, duration_answer, nanos_per_second};
+ghost use Rattle.std.specs.Prelude.{◌≡◌, ◌+◌, ◌-◌, ◌*◌, ◌/◌, ◌%◌, ◌^◌, ◌<◌, ◌≤◌, ◌≤ℤ◌, ◌+ℤ◌, ◌↔◌, ℕ, List, pos, chars, IsSome, IfSome, IsSomeAnd, IsTrue, Ok, Err};
+ghost use Rattle.humantime.specs.Prelude.{IsCanonicalText, IsDate, UnknownUnit, day_of, duration_answer, nanos_per_second, result_view};
 
 use humantime::{
     Date, Duration, DurationError, StdDuration, SystemTime, Turns, day_number, format_duration,
+    parse_duration,
 };
 
 /// Returns the text of a duration of `micros` microseconds.
@@ -49,6 +50,23 @@ pub fn distance(a: SystemTime, b: SystemTime) -> StdDuration
         Ok(time) => time,
         Err(error) => error.duration(),
     }
+}
+
+/// Returns `true` if a moment is not before another.
+pub fn is_not_before(moment: SystemTime, other: SystemTime) -> bool
+    ensures { IsTrue result ↔ (other ≤ℤ moment) }
+{
+    moment.duration_since(other).is_ok()
+}
+
+/// Parses the text of a duration, which returns that duration.
+pub fn parsed_again(
+    duration: StdDuration,
+    buf: &mut [u8; 64],
+) -> Result<StdDuration, DurationError<'_>>
+    ensures { result_view result ≡ Ok duration }
+{
+    parse_duration(format_duration(duration).text(buf))
 }
 
 /// Returns the number of days from a date to a later one. No turns are counted.

@@ -5,7 +5,9 @@ use crate::law_callers::spans::{
     first_fraction, first_number, first_unit, first_value, split_at_error,
 };
 use crate::law_callers::timestamps::{is_strict, micros_stamp, printed_and_parsed};
-use crate::law_callers::values::{days_between, default_text, distance, micros_text, unknown_unit};
+use crate::law_callers::values::{
+    days_between, default_text, distance, is_not_before, micros_text, parsed_again, unknown_unit,
+};
 use crate::tests::{assert_same, date, moment};
 use humantime::DurationError::{NumberExpected, NumberOverflow};
 use humantime::{StdDuration, Turns, UNIX_EPOCH};
@@ -69,6 +71,9 @@ fn durations_are_joined_and_printed(rt: HostRuntime) {
     let micros = "1s 123µs";
     assert_same(&rt, micros_text(1_000_123, &mut [0; 64]), micros);
     assert_same(&rt, default_text(), "2h 37m");
+    let mut buf = [0; 64];
+    let longest = parsed_again(StdDuration::MAX, &mut buf);
+    assert_same(&rt, longest, Ok(StdDuration::MAX));
 }
 
 #[test]
@@ -89,6 +94,12 @@ fn moments_come_back(rt: HostRuntime) {
     let end = moment(&rt, 5, 0);
     let apart = [distance(UNIX_EPOCH, end), distance(end, UNIX_EPOCH)];
     assert_same(&rt, apart, [five, five]);
+    let after = [
+        is_not_before(end, UNIX_EPOCH),
+        is_not_before(end, end),
+        is_not_before(UNIX_EPOCH, end),
+    ];
+    assert_same(&rt, after, [true, true, false]);
 }
 
 #[test]

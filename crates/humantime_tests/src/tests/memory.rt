@@ -2,10 +2,15 @@
 
 use crate::callers::errors::{deadline, message};
 use crate::callers::timestamps::{age_line, stamp_string};
-use crate::law_callers::durations::duration_string;
+use crate::law_callers::durations::{duration_string, is_same_string};
+use crate::law_callers::formats::{errors_row, limit_line, limits_row, stamps_row};
 use crate::law_callers::timestamps::write_line;
 use crate::tests::{assert_same, moment};
-use humantime::{StdDuration, Timestamp, UNIX_EPOCH, parse_duration};
+use humantime::DurationError::Empty;
+use humantime::TimestampError::OutOfRange;
+use humantime::{
+    Duration, StdDuration, Timestamp, UNIX_EPOCH, format_rfc3339_millis, parse_duration,
+};
 use std::alloc::AllocError;
 use std::fmt;
 
@@ -73,5 +78,36 @@ fn values_are_displayed(rt: HostRuntime) -> Result<(), AllocError> {
         text: "started",
     };
     assert!(rt; format!(in alloc; "{}", &before).is_err());
+    Ok(())
+}
+
+#[test]
+fn limits_and_starts_are_written_into_lines(rt: HostRuntime) -> Result<(), AllocError> {
+    let alloc = rt.alloc();
+    let limit = Duration::new(StdDuration::from_secs(9420));
+    let start = Timestamp::from(moment(&rt, 1_518_568_087, 0));
+    let line = limit_line(alloc, limit, start)?;
+    let wanted = "2h 37m from 2018-02-14T00:28:07Z";
+    assert_same(&rt, line.as_str(), wanted);
+    let before = Timestamp::from(moment(&rt, -1, 0));
+    assert!(rt; limit_line(alloc, limit, before).is_err());
+    let row = limits_row(alloc, StdDuration::from_secs(90), limit)?;
+    assert_same(&rt, row.as_str(), "1m 30s of 2h 37m");
+    let row = errors_row(alloc, &Empty, &OutOfRange)?;
+    let wanted = "value was empty, numeric component is out of range";
+    assert_same(&rt, row.as_str(), wanted);
+    let end = format_rfc3339_millis(moment(&rt, 1_518_563_312, 456_123_999));
+    let row = stamps_row(alloc, start, &end)?;
+    let wanted = "2018-02-14T00:28:07Z to 2018-02-13T23:08:32.456Z";
+    assert_same(&rt, row.as_str(), wanted);
+    Ok(())
+}
+
+#[test]
+fn strings_of_durations_are_compared(rt: HostRuntime) -> Result<(), AllocError> {
+    let alloc = rt.alloc();
+    let (minute, longer) = (StdDuration::from_secs(60), StdDuration::new(60, 1));
+    assert!(rt; is_same_string(alloc, minute, minute)?);
+    assert!(rt; !is_same_string(alloc, minute, longer)?);
     Ok(())
 }

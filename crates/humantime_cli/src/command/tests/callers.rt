@@ -21,6 +21,34 @@ pub(super) fn explain_fault(out: &mut Vec<u8>, err: &mut Vec<u8>) -> u8
     run(&["duration", "1~"], out, err)
 }
 
+/// Prints a timestamp in the strict form.
+pub(super) fn print_strict(out: &mut Vec<u8>, err: &mut Vec<u8>) -> u8
+    ensures { result ≢ 3 → (result ≡ 0) × (out.new.items ≡ out.old.items ++ codes "2018-02-14T00:28:07Z\n") × (err.new.items ≡ err.old.items) }
+{
+    run(&["strict", "2018-02-14T00:28:07Z"], out, err)
+}
+
+/// Prints the error of a timestamp that is not in the strict form.
+pub(super) fn explain_strict(out: &mut Vec<u8>, err: &mut Vec<u8>) -> u8
+    ensures { result ≢ 3 → (result ≡ 1) × (out.new.items ≡ out.old.items) × (err.new.items ≡ err.old.items ++ codes "timestamp format is invalid\n") }
+{
+    run(&["strict", "2018-02-14 00:28:07"], out, err)
+}
+
+/// Prints a timestamp in the weak form, with nine digits of a second.
+pub(super) fn print_weak(out: &mut Vec<u8>, err: &mut Vec<u8>) -> u8
+    ensures { result ≢ 3 → (result ≡ 0) × (out.new.items ≡ out.old.items ++ codes "2018-02-14T00:28:07.500000000Z\n") × (err.new.items ≡ err.old.items) }
+{
+    run(&["weak", "2018-02-14 00:28:07.5"], out, err)
+}
+
+/// Prints the error of a timestamp whose date does not exist.
+pub(super) fn explain_weak(out: &mut Vec<u8>, err: &mut Vec<u8>) -> u8
+    ensures { result ≢ 3 → (result ≡ 1) × (out.new.items ≡ out.old.items) × (err.new.items ≡ err.old.items ++ codes "numeric component is out of range\n") }
+{
+    run(&["weak", "1970-02-30 00:00:00"], out, err)
+}
+
 /// Prints the usage line.
 pub(super) fn tell_usage(out: &mut Vec<u8>, err: &mut Vec<u8>) -> u8
     ensures { result ≢ 3 → (result ≡ 2) × (out.new.items ≡ out.old.items) × (err.new.items ≡ err.old.items ++ codes "usage: humantime duration|strict|weak TEXT\n") }

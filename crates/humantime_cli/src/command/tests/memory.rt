@@ -1,7 +1,10 @@
-//! Tests that allocate: the arguments of the system are owned, and two callers write into vectors.
+//! Tests that allocate: the arguments of the system are owned, and the callers write into vectors.
 
 use super::assert_same;
-use super::callers::{explain_fault, print_duration, tell_usage};
+use super::callers::{
+    explain_fault, explain_strict, explain_weak, print_duration, print_strict, print_weak,
+    tell_usage,
+};
 use super::writer::Limited;
 use crate::answer_args;
 use std::alloc::Global;
@@ -56,6 +59,21 @@ fn callers_are_answered(rt: HostRuntime) -> Result<(), Fail> {
     assert_eq!(rt; tell_usage(&mut out, &mut err), 2);
     assert_eq!(rt; out.as_slice(), b"2h 37m\n".as_slice());
     let messages = b"invalid character at 1\nusage: humantime duration|strict|weak TEXT\n";
+    assert_eq!(rt; err.as_slice(), messages.as_slice());
+    Ok(())
+}
+
+#[test]
+fn callers_with_timestamps_are_answered(rt: HostRuntime) -> Result<(), Fail> {
+    let mut out = Vec::with_capacity(rt.alloc(), 64)?;
+    let mut err = Vec::with_capacity(rt.alloc(), 128)?;
+    assert_eq!(rt; print_strict(&mut out, &mut err), 0);
+    assert_eq!(rt; print_weak(&mut out, &mut err), 0);
+    assert_eq!(rt; explain_strict(&mut out, &mut err), 1);
+    assert_eq!(rt; explain_weak(&mut out, &mut err), 1);
+    let lines = b"2018-02-14T00:28:07Z\n2018-02-14T00:28:07.500000000Z\n";
+    assert_eq!(rt; out.as_slice(), lines.as_slice());
+    let messages = b"timestamp format is invalid\nnumeric component is out of range\n";
     assert_eq!(rt; err.as_slice(), messages.as_slice());
     Ok(())
 }

@@ -1,4 +1,4 @@
-use Rattle.std.proofs.Common.{◌≡◌, refl, List, ℕ}
+use Rattle.std.proofs.Common.{◌≡◌, refl, List, ℕ, ap}
 use Rattle.std.specs.Prelude.{◌↔◌, ℤ, pos, IsTrue, Result, Ok, Err, is_ok}
 use Rattle.humantime.specs.declared.TimestampError.{TimestampError}
 use Rattle.humantime.specs.Timestamps.Fields.{Fields, IsStrict, IsStrictMoment, moment_of}
@@ -11,3 +11,6 @@ form text (Err e) value = (λ none. absurd (cc), λ shown. absurd (let same : Er
 
 pub returns-clause-form : goal.returns-clause-form
 returns-clause-form c = rw c.is_ok.ensures.value (form _ _ c.parse_rfc3339.ensures.value)
+
+pub returns-clause-fraction : goal.returns-clause-fraction
+returns-clause-fraction c f g first second = ap (λ (h : Fields). h.fraction) (c.one_stamp_outcome.ensures.strict.only f g first second)

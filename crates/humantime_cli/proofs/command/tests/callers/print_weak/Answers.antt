@@ -1,0 +1,8 @@
+use Rattle.std.proofs.Common.{◌∙◌, append-nil}
+use Rattle.humantime_cli.proofs.WorkedRuns.{weak_printed}
+use Rattle.humantime_cli.proofs.command.tests.callers.print_weak.Goals as goal
+
+pub returns : goal.returns
+returns c other =
+    let told = weak_printed _ _ _ _ _ c.run.ensures.one c.run.ensures.ends other in
+    (told.0, told.1, told.2 ∙ append-nil _)
