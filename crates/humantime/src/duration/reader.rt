@@ -36,8 +36,8 @@ struct Decimal<'a> {
 impl<'a> Decimal<'a> {
     /// Returns the fraction's value, if there is a fraction.
     #[inline(always)]
-    fn fraction(self) -> Option<Fraction>
-        ensures parts { option_map parts_of result ≡ option_map counted (fraction_of (ahead self.entry.number.start)) }
+    fn fraction(&self) -> Option<Fraction>
+        ensures parts { option_map parts_of result ≡ option_map counted (fraction_of (ahead self.now.number.start)) }
         ensures digits { ForSome result (λ f. f.significant ≤ 19) }
     {
         Some(self.fraction?.value)
@@ -45,25 +45,25 @@ impl<'a> Decimal<'a> {
 
     /// Returns the fraction's digits with the whitespace around them, if there is a fraction.
     #[inline(always)]
-    fn fraction_slice(self) -> Option<&'a str>
-        ensures { option_map (λ t. chars t.now) result ≡ option_map (take_while is_numeric) (after_point (after_number (ahead self.entry.number.start))) }
+    fn fraction_slice(&self) -> Option<&'a str>
+        ensures { option_map (λ t. chars t.now) result ≡ option_map (take_while is_numeric) (after_point (after_number (ahead self.now.number.start))) }
     {
         Some(self.fraction?.slice)
     }
 
     /// Returns whether there is a point without digits after it.
     #[inline(always)]
-    fn has_bare_point(self) -> bool
-        ensures { result ≡ is_some_and (λ ds. length ds == 0) (fraction_of (ahead self.entry.number.start)) }
+    fn has_bare_point(&self) -> bool
+        ensures { result ≡ is_some_and (λ ds. length ds == 0) (fraction_of (ahead self.now.number.start)) }
     {
         matches!(self.fraction, Some(fraction) if fraction.value.len == 0)
     }
 
     /// Returns the cursor after the number and the fraction.
     #[inline(always)]
-    fn end(self) -> Cursor<'a>
-        ensures rest { ahead result ≡ after_fraction (ahead self.entry.number.start) }
-        ensures text { result.text.now ≡ self.entry.number.start.text.now }
+    fn end(&self) -> Cursor<'a>
+        ensures rest { ahead result ≡ after_fraction (ahead self.now.number.start) }
+        ensures text { result.text.now ≡ self.now.number.start.text.now }
     {
         match self.fraction {
             Some(fraction) => fraction.end,
