@@ -1,16 +1,26 @@
 -- The result of parsing one span.
-use Rattle.std.specs.Prelude.{◌≡◌, ◌<◌, length, Option, Some, None, Result, Ok, Err, IfOk, IfErr, chars}
+use Rattle.std.specs.Prelude.{◌≡◌, ◌<◌, false, length, Option, Some, None, Result, Ok, Err, IfOk, IfErr, chars, option_map}
+use Rattle.std.specs.Option.{ForSome}
 use Rattle.humantime.specs.declared.duration.cursor.Cursor.{Cursor}
+use Rattle.humantime.specs.declared.duration.scan.Number.{Number}
+use Rattle.humantime.specs.declared.duration.scan.FractionPart.{FractionPart}
 use Rattle.humantime.specs.declared.duration.error.DurationError.{DurationError}
 use Rattle.humantime.specs.declared.duration.span.Span.{Span}
 use Rattle.humantime.specs.Texts.{drop_while}
 use Rattle.humantime.specs.Durations.Characters.{is_whitespace}
-use Rattle.humantime.specs.Durations.Faults.{after_word, Fault}
+use Rattle.humantime.specs.Durations.Accepted.{too_long}
+use Rattle.humantime.specs.Durations.Faults.{after_point, after_word, span_of, Fault}
 use Rattle.humantime.specs.Durations.Errors.{IsRangeIn, PointsInto, fault_of}
 use Rattle.humantime.specs.Answers.Items.{view_at}
 use Rattle.humantime.specs.Answers.Spans.{span_view}
 use Rattle.humantime.specs.Answers.Walks.{stop_at}
 use Rattle.humantime.specs.Steps.Cursors.{ahead}
+
+-- `fraction` is the fraction after `number`, or `None` if no point follows. Neither is too long.
+pub record IsFractionOf (number : Number) (fraction : Option FractionPart) : Type 0 where
+  pub point : option_map (λ f. ahead f.start) fraction ≡ after_point (ahead number.end)
+  pub text : ForSome fraction (λ f. f.start.text.now ≡ number.start.text.now)
+  pub short : too_long (span_of (ahead number.start)) ≡ false
 
 -- The span begins at the cursor, and `next` is the cursor after its word, or after some of the whitespace that follows.
 pub record IsSpanAt (start : Cursor) (s : Span) (next : Cursor) : Type 0 where

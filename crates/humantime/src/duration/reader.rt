@@ -1,16 +1,15 @@
 //! Reads one [`Span`] at a cursor, built on the steps of `scan`.
 
-ghost use Rattle.std.proofs.Props.{props};
 ghost use Rattle.std.specs.Prelude.{◌≡◌, ◌==◌, ◌≤◌, true, false, length, chars, IfSome, MatchOption, option_map};
 ghost use Rattle.std.specs.Option.{ForSome};
 ghost use Rattle.humantime.specs.Texts.{take_while, begins};
-ghost use Rattle.humantime.specs.Durations.Accepted.{is_some_and, too_long};
+ghost use Rattle.humantime.specs.Durations.Accepted.{is_some_and};
 ghost use Rattle.humantime.specs.Durations.Characters.{is_digit, is_numeric};
-ghost use Rattle.humantime.specs.Durations.Faults.{after_fraction, after_number, after_point, fraction_of, span_of};
+ghost use Rattle.humantime.specs.Durations.Faults.{after_fraction, after_number, after_point, fraction_of};
 ghost use Rattle.humantime.specs.Steps.Cursors.{ahead, IsSpanEnd};
 ghost use Rattle.humantime.specs.Steps.Scales.{counted, parts_of};
 ghost use Rattle.humantime.specs.Steps.Scanning.{begins_no_word, IsWordOf};
-ghost use Rattle.humantime.specs.Steps.SpanParts.{ReadsSpan};
+ghost use Rattle.humantime.specs.Steps.SpanParts.{IsFractionOf, ReadsSpan};
 ghost use Rattle.humantime.specs.Answers.Walks.{ends_span};
 
 use crate::duration::amount::{Amount, Fraction};
@@ -23,52 +22,44 @@ use crate::duration::scan::{
 use crate::duration::span::Span;
 use crate::unit::words::scale_of;
 
-/// A number and the fraction after it, if there is one.
-#[derive(Clone, Copy)]
-struct Decimal<'a> {
-    number: Number<'a>,
-    fraction: Option<FractionPart<'a>>,
-    ghost point: { option_map (λ f. ahead f.start) fraction ≡ after_point (ahead number.end) } by { Prim.hlevel props },
-    ghost text: { ForSome fraction (λ f. f.start.text.now ≡ number.start.text.now) },
-    ghost short: { too_long (span_of (ahead number.start)) ≡ false },
+/// Returns the fraction's value, if there is a fraction.
+#[inline(always)]
+fn fraction_value<'a>(number: Number<'a>, fraction: Option<FractionPart<'a>>) -> Option<Fraction>
+    requires { IsFractionOf number fraction }
+    ensures parts { option_map parts_of result ≡ option_map counted (fraction_of (ahead number.entry.start)) }
+    ensures digits { ForSome result (λ f. f.significant ≤ 19) }
+{
+    Some(fraction?.value)
 }
 
-impl<'a> Decimal<'a> {
-    /// Returns the fraction's value, if there is a fraction.
-    #[inline(always)]
-    fn fraction(self) -> Option<Fraction>
-        ensures parts { option_map parts_of result ≡ option_map counted (fraction_of (ahead self.entry.number.start)) }
-        ensures digits { ForSome result (λ f. f.significant ≤ 19) }
-    {
-        Some(self.fraction?.value)
-    }
+/// Returns the fraction's digits with the whitespace around them, if there is a fraction.
+#[inline(always)]
+fn fraction_slice<'a>(number: Number<'a>, fraction: Option<FractionPart<'a>>) -> Option<&'a str>
+    requires { IsFractionOf number fraction }
+    ensures { option_map (λ t. chars t.now) result ≡ option_map (take_while is_numeric) (after_point (after_number (ahead number.entry.start))) }
+{
+    Some(fraction?.slice)
+}
 
-    /// Returns the fraction's digits with the whitespace around them, if there is a fraction.
-    #[inline(always)]
-    fn fraction_slice(self) -> Option<&'a str>
-        ensures { option_map (λ t. chars t.now) result ≡ option_map (take_while is_numeric) (after_point (after_number (ahead self.entry.number.start))) }
-    {
-        Some(self.fraction?.slice)
-    }
+/// Returns whether there is a point without digits after it.
+#[inline(always)]
+fn has_bare_point<'a>(number: Number<'a>, fraction: Option<FractionPart<'a>>) -> bool
+    requires { IsFractionOf number fraction }
+    ensures { result ≡ is_some_and (λ ds. length ds == 0) (fraction_of (ahead number.entry.start)) }
+{
+    matches!(fraction, Some(fraction) if fraction.value.len == 0)
+}
 
-    /// Returns whether there is a point without digits after it.
-    #[inline(always)]
-    fn has_bare_point(self) -> bool
-        ensures { result ≡ is_some_and (λ ds. length ds == 0) (fraction_of (ahead self.entry.number.start)) }
-    {
-        matches!(self.fraction, Some(fraction) if fraction.value.len == 0)
-    }
-
-    /// Returns the cursor after the number and the fraction.
-    #[inline(always)]
-    fn end(self) -> Cursor<'a>
-        ensures rest { ahead result ≡ after_fraction (ahead self.entry.number.start) }
-        ensures text { result.text.now ≡ self.entry.number.start.text.now }
-    {
-        match self.fraction {
-            Some(fraction) => fraction.end,
-            None => self.number.end,
-        }
+/// Returns the cursor after the number and the fraction.
+#[inline(always)]
+fn fraction_end<'a>(number: Number<'a>, fraction: Option<FractionPart<'a>>) -> Cursor<'a>
+    requires { IsFractionOf number fraction }
+    ensures rest { ahead result ≡ after_fraction (ahead number.entry.start) }
+    ensures text { result.text.now ≡ number.entry.start.text.now }
+{
+    match fraction {
+        Some(fraction) => fraction.end,
+        None => number.end,
     }
 }
 
@@ -120,30 +111,27 @@ pub(crate) fn read_span<'a>(start: Cursor<'a>) -> Result<(Span<'a>, Cursor<'a>),
     };
     // `complete_span` is inlined twice, so that a span without a fraction uses no registers for one.
     let Some(digits) = skip_point(number.end) else {
-        return complete_span(Decimal {
-            number,
-            fraction: None,
-        });
+        return complete_span(number, None);
     };
     let Some(fraction) = read_fraction(digits) else {
         return Err(DurationError::NumberOverflow);
     };
-    complete_span(Decimal {
-        number,
-        fraction: Some(fraction),
-    })
+    complete_span(number, Some(fraction))
 }
 
 /// Reads the unit after a number and a fraction, and returns the span with the cursor after it.
 #[inline(always)]
-fn complete_span<'a>(decimal: Decimal<'a>) -> Result<(Span<'a>, Cursor<'a>), DurationError<'a>>
-    requires { begins is_digit (ahead decimal.number.start) ≡ true }
-    ensures { ReadsSpan decimal.entry.number.start result }
+fn complete_span<'a>(
+    number: Number<'a>,
+    fraction: Option<FractionPart<'a>>,
+) -> Result<(Span<'a>, Cursor<'a>), DurationError<'a>>
+    requires digit { begins is_digit (ahead number.start) ≡ true }
+    requires fraction { IsFractionOf number fraction }
+    ensures { ReadsSpan number.entry.start result }
 {
-    let number = decimal.number;
-    let end = decimal.end();
+    let end = fraction_end(number, fraction);
     // Computed before the word is read, so that the fraction's length need not stay live until then.
-    let is_bare = decimal.has_bare_point();
+    let is_bare = has_bare_point(number, fraction);
     let Some((word, after_word)) = read_unit(end) else {
         return Err(DurationError::InvalidCharacter(end.offset()));
     };
@@ -163,13 +151,13 @@ fn complete_span<'a>(decimal: Decimal<'a>) -> Result<(Span<'a>, Cursor<'a>), Dur
     };
     let span = Span {
         number: number.slice,
-        digits: decimal.fraction_slice(),
+        digits: fraction_slice(number, fraction),
         unit: word.letters,
         start: number.start.offset(),
         end: after_word.offset(),
         amount: Amount {
             value: number.value,
-            fraction: decimal.fraction(),
+            fraction: fraction_value(number, fraction),
             scale,
         },
     };

@@ -24,7 +24,7 @@ const TENTH_OF_MAX: u64 = u64::MAX / 10;
 fn is_mu(first: u8, second: u8) -> bool
     ensures { result ≡ ((first == 0xc2 && second == 0xb5) || (first == 0xce && second == 0xbc)) }
 {
-    first == 0xc2 && second == 0xb5 || first == 0xce && second == 0xbc
+    matches!((first, second), (0xc2, 0xb5) | (0xce, 0xbc))
 }
 
 /// Returns the length of the whitespace character that begins the text, in bytes, or 0 if there is none.
