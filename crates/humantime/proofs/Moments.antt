@@ -1,14 +1,13 @@
 -- A moment and its parts: they make it up, and moments stand in their order.
 use Rattle.std.proofs.Common.{◌≡◌, ℕ, ◌<◌, arith, rules}
-use Rattle.std.specs.Prelude.{ℤ, pos, negsuc}
+use Rattle.std.specs.Prelude.{ℤ}
 use Rattle.std.specs.Ordering.{nat_cmp, int_cmp, ordering_then}
 use Rattle.std.proofs.lemmas.Int.{ints}
 use Rattle.humantime.specs.Values.{moment, second_of, nano_of}
 
 -- the parts of a moment make it up
 pub parts_of_moment : (z : ℤ) → moment (second_of z) (nano_of z) ≡ z
-parts_of_moment (pos n) = omega (arith, ints)
-parts_of_moment (negsuc n) = omega (arith, ints)
+parts_of_moment z = grind (arith, ints)
 
 -- a later second is a later moment, and in one second the nanoseconds decide
 pub int_cmp_moment : (s t : ℤ) (m n : ℕ) → m < 1_000_000_000 → n < 1_000_000_000

@@ -1,6 +1,6 @@
 -- A printed text is spans within all limits, which add up to its duration.
 use Rattle.std.proofs.lemmas.Grind.{common_steps}
-use Rattle.std.proofs.Common.{true, ◌≡◌, ℕ, ◌+◌, ◌*◌, ◌/◌, ◌%◌, ◌^◌, ◌<◌, ◌≤◌, false, List, [], ◌∷◌, ◌++◌, refl, ap, subst, ◌∙◌, arith, rules}
+use Rattle.std.proofs.Common.{true, ◌≡◌, ℕ, ◌+◌, ◌*◌, ◌/◌, ◌%◌, ◌^◌, ◌<◌, ◌≤◌, false, List, [], ◌∷◌, ◌++◌, refl, subst, ◌∙◌, arith, rules}
 use Rattle.std.specs.Prelude.{IsAscii, codes, decimal, map, nat_lt}
 use Rattle.std.specs.Str.{IsUtf8, is_utf8, chars}
 use Rattle.std.specs.List.{AllByRecursion, filter, join_with_byte}
@@ -13,7 +13,7 @@ use Rattle.std.proofs.lemmas.Str.{chars-append, chars-IsAscii, chars-nil, IsUtf8
 use Rattle.std.proofs.lemmas.Fmt.{IsAscii-decimal, decimal_digit}
 use Rattle.humantime.specs.Values.{nanos_per_second}
 use Rattle.humantime.specs.Durations.Characters.{whitespace_chars, is_letter, is_whitespace, u64_max}
-use Rattle.humantime.specs.Durations.Units.{Addition, Nanos, Seconds, scale_of_word}
+use Rattle.humantime.specs.Durations.Units.{Addition, scale_of_word}
 use Rattle.humantime.specs.Durations.Spans.{SpelledSpan, Only, Spells, SpellsEach, Reads}
 use Rattle.humantime.specs.Durations.Accepted.{addition_nanos, size, times, total, additions_of, additions, value, Formed, fits, Accepted, Sum_of}
 use Rattle.humantime.specs.Durations.Counts.{Suffix, printed_count, joined_by_space, IsCanonicalText}
@@ -34,19 +34,13 @@ pub record IsRow (n : ℕ) (s : Suffix) : Type 0 where
   pub fits : fits (span_for n s) ≡ true
   pub small : AllByRecursion IsSmall (additions_of (span_for n s))
 
-mul_positive : (n k : ℕ) → 0 < k → n ≤ n * k
-mul_positive n k h = grind arith
-
 -- what a count adds, where less than m and less than all durations are left
 few : (m n : ℕ) (x : Addition) → 0 < size x → is_of_kind m x ≡ true → addition_nanos x * n < m → addition_nanos x * n < most
     → (n < 2 ^ 64) × (n * size x ≤ u64_max) × IsSmall (times n x) × (addition_nanos (times n x) ≡ addition_nanos x * n)
-few m n (Nanos k) some kind below whole = grind (arith, nat_tests, (mul_comm n k), (mul_positive n k some))
-few m n (Seconds k) some kind below whole = grind (arith, (mul_positive n k some), mul_comm, mul_assoc)
+few m n x some kind below whole = grind (arith, nat_tests, mul_comm, mul_assoc)
 
 count_chars : (n : ℕ) (s : Suffix) → n < 2 ^ 64 → chars (printed_count n s) ≡ decimal n ++ chars (word_for n s)
-count_chars n s h =
-    let ascii = IsAscii-decimal n h in
-    rw append_assoc (chars-append (decimal n) (word_for n s) (IsUtf8-from_ascii (decimal n) ascii) ∙ ap (λ (l : List ℕ). l ++ chars (word_for n s)) (chars-IsAscii (decimal n) ascii))
+count_chars n s h = grind (arith, common_steps, IsAscii-decimal, append_assoc, chars-append, IsUtf8-from_ascii, chars-IsAscii)
 
 row : (w m n : ℕ) (s : Suffix) → IsWord w m (word_for n s) → w * n < m → w * n < most → IsRow n s × (total (additions_of (span_for n s)) ≡ w * n)
 row w m n s i below whole =

@@ -80,14 +80,10 @@ from_WithinLimits spans h = each_within 0 spans h.fit (room_from_all (additions 
 
 -- what spans and a stop add up to: the value, or else the fault
 pub sum_spans_within : (spans : List SpelledSpan) (stop : Option Fault) → WithinLimits spans → sum_spans 0 (items_of spans stop) ≡ sum_spans (value spans) (items_of [] stop)
-sum_spans_within spans stop g =
-    sum_spans_fine 0 spans (items_of [] stop) (from_WithinLimits spans g) ∙ ap (λ (n : ℕ). sum_spans n (items_of [] stop)) (omega arith)
+sum_spans_within spans stop g = grind (arith, sum_spans_fine, from_WithinLimits)
 
 pub within_or_beyond : (spans : List SpelledSpan) → AllByRecursion Formed spans → WithinLimits spans ⊎ ¬ (WithinLimits spans)
-within_or_beyond spans f = elim (within_or_not 0 spans) [
-  | inl w ↦ inl (WithinLimits_from spans f w)
-  | inr n ↦ inr (λ g. n (from_WithinLimits spans g))
-]
+within_or_beyond spans f = grind (arith, within_or_not, WithinLimits_from, from_WithinLimits)
 
 pub too_large : (spans : List SpelledSpan) (stop : Option Fault) → AllByRecursion Formed spans → ¬ (WithinLimits spans) → sum_spans 0 (items_of spans stop) ≡ Err NumberOverflow
 too_large spans stop f bad = sum_spans_beyond 0 spans (items_of [] stop) (λ g. bad (WithinLimits_from spans f g))

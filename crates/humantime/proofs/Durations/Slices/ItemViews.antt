@@ -38,11 +38,7 @@ abbrev Lends : List ℕ → Bool → List ℕ → Walk → Type 0
 Lends text first rest w = AreSpanViews text rest (map span_of w.starts) (map (view_at text) w.starts) w.unread
 
 lends : (text : List ℕ) → Steps text (Lends text)
-lends text = record {
-  end = λ first. refl;
-  wrong = λ first rest e some s. refl;
-  right = λ first rest w s more. (next_of rest, is_span_view text rest (is_fine text rest s), more);
-}
+lends text = grind (arith, next_of, is_span_view, is_fine)
 
 pub are_items : (text : List ℕ) → AreItems text (item_views text)
 are_items text =

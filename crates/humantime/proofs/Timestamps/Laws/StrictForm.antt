@@ -1,7 +1,7 @@
 -- A text in strict form is one in weak form with a `T` and a zone at its end.
 use Rattle.std.proofs.lemmas.Grind.{common_steps}
 use Rattle.std.proofs.Common.{◌≡◌, ◌≢◌, ℕ, List, ◌++◌, ap, ◌∙◌, arith}
-use Rattle.std.specs.Prelude.{◌↔◌, true, length, nat_lt, slice_index}
+use Rattle.std.specs.Prelude.{◌↔◌, true, length, nat_lt}
 use Rattle.humantime.specs.Timestamps.Fields.{Separator, Letter_T, Zone, No_zone, zone_text, Fields, separator_byte, fraction_text, date_time_text, IsWeak, IsStrict}
 use Rattle.humantime.specs.Timestamps.Checks.{ends_in_zone, zone_of, has_t_and_zone}
 use Rattle.humantime.specs.Laws.Timestamps.{IsMarked}
@@ -10,9 +10,6 @@ use Rattle.humantime.proofs.Timestamps.Reading.Ends.{IsPlain, plain_bytes, zone_
 
 letter_by_byte : (s : Separator) → (s ≡ Letter_T) ↔ (separator_byte s ≡ 84)
 letter_by_byte s = grind arith
-
-separator_by_byte : (bytes : List ℕ) (f : Fields) → IsWeak bytes f → (f.separator ≡ Letter_T) ↔ (slice_index bytes 10 ≡ 84)
-separator_by_byte bytes f w = rw w.text (letter_by_byte f.separator)
 
 zone_there : (z : Zone) → (z ≢ No_zone) ↔ (nat_lt 0 (length (zone_text z)) ≡ true)
 zone_there z = grind (arith, common_steps)
@@ -23,10 +20,7 @@ zone_by_end bytes f w =
     rw (← some_zone bytes, ap zone_of w.text ∙ found) (zone_there f.zone)
 
 pub strict_is_weak : (bytes : List ℕ) (f : Fields) → IsStrict bytes f ↔ (IsWeak bytes f × IsMarked bytes)
-strict_is_weak bytes f = (
-  (λ s. (s.weak, ((separator_by_byte bytes f s.weak).0 s.separator, (zone_by_end bytes f s.weak).0 s.zone))),
-  (λ p. record { weak = p.0; separator = (separator_by_byte bytes f p.0).1 p.1.0; zone = (zone_by_end bytes f p.0).1 p.1.1 }),
-)
+strict_is_weak bytes f = grind (arith, zone_by_end, letter_by_byte)
 
 -- the check of the strict form
 pub strict_checked : (bytes : List ℕ) (f : Fields) → IsStrict bytes f ↔ ((has_t_and_zone bytes ≡ true) × IsWeak bytes f)

@@ -1,11 +1,11 @@
 -- The laws of timestamps and days as theorems over plain variables, each under the name of its function in `laws`, and what callers cite beside them.
-use Rattle.std.proofs.Common.{◌≡◌, ◌≤◌, ◌-◌, ◌*◌, ◌/◌, ◌^◌, ℕ, List, sym, subst, ◌∙◌, arith}
+use Rattle.std.proofs.Common.{◌≡◌, ◌≤◌, ◌-◌, ◌*◌, ◌/◌, ◌^◌, ℕ, List, arith}
 use Rattle.std.proofs.Math.Nat.{mul-mod_right, div-add-mod}
 use Rattle.std.specs.Prelude.{◌↔◌, ℤ, pos, negsuc, ◌≤ℤ◌, ◌<ℤ◌, Ok, IsTrue, IfSome}
 use Rattle.std.specs.Cmp.Lexicographic.{slice_cmp}
 use Rattle.std.specs.Ordering.{nat_cmp, int_cmp, is_le, is_lt}
 use Rattle.std.proofs.lemmas.Int.{ints}
-use Rattle.humantime.specs.Timestamps.Fields.{IsWeak, IsStrict, moment_of, IsWeakMoment, IsStrictMoment}
+use Rattle.humantime.specs.Timestamps.Fields.{IsWeak, IsStrict, IsWeakMoment, IsStrictMoment}
 use Rattle.humantime.specs.Timestamps.Checks.{weak_checks, strict_checks}
 use Rattle.humantime.specs.Laws.Timestamps.{OneTimestamp, StrictForm, PrintedMoment}
 use Rattle.humantime.specs.Timestamps.Printed.{MomentToPrint, cut, IsPrinted, IsPrintedWith, IsPrintable}
@@ -55,8 +55,7 @@ printed_read_weak t k text printed = weak_read text (cut t k) (printed_reads t k
 
 -- a moment has no more than nine digits after its second
 cut_whole : (t : ℤ) → cut t 9 ≡ t
-cut_whole (pos n) = omega (arith, ints)
-cut_whole (negsuc n) = omega (arith, ints)
+cut_whole t = grind (arith, ints)
 
 pub printed_moment_reads : (t : ℤ) (k : ℕ) → k ≤ 9 → PrintedMoment t k
 printed_moment_reads t k small = record {
@@ -85,16 +84,7 @@ cut_again (pos m) k n is =
 cut_again (negsuc m) k n is = absurd (omega (arith, ints, is))
 
 printed_again : (t : ℤ) (k : ℕ) (text : List ℕ) → IsPrinted t k text → IsPrinted (cut t k) k text
-printed_again t k text p = record {
-  few = p.few;
-  fields = p.fields;
-  weak = p.weak;
-  separator = p.separator;
-  zone = p.zone;
-  second = p.second;
-  places = p.places;
-  moment = p.moment ∙ subst (λ (m : ℤ). m ≡ cut m k) p.moment (sym (cut_again t k (moment_of p.fields) p.moment));
-}
+printed_again t k text p = grind (arith, cut_again)
 
 -- a text is printed exactly if it is the printed text of the moment that it is parsed to
 pub printed_if_read_back : (k : ℕ) (text : List ℕ) → IsPrintedWith k text ↔ ((t : ℤ) × (strict_answer text ≡ Ok t) × IsPrinted t k text)

@@ -1,7 +1,7 @@
 -- What the printer shows is the printed text of the moment, and the only one.
 use Rattle.std.proofs.lemmas.Grind.{common_steps}
 use Rattle.std.proofs.Common.{◌≡◌, ℕ, ◌+◌, ◌-◌, ◌*◌, ◌/◌, ◌%◌, ◌^◌, ◌<◌, ◌≤◌, List, refl, sym, ap, ◌∙◌, arith}
-use Rattle.std.specs.Prelude.{◌↔◌, Some, ℤ, [], unwrap_or, min, pos, negsuc, nat_abs, IsAscii}
+use Rattle.std.specs.Prelude.{◌↔◌, Some, ℤ, pos, negsuc, nat_abs, IsAscii}
 use Rattle.std.specs.List.{AllByRecursion}
 use Rattle.std.proofs.Math.Nat.{mod-le}
 use Rattle.std.proofs.lemmas.Bool.{lt-ltb}
@@ -12,7 +12,7 @@ use Rattle.humantime.specs.declared.calendar.Date.{Date}
 use Rattle.humantime.specs.Calendar.{day_of}
 use Rattle.humantime.specs.Values.{nano_of}
 use Rattle.humantime.specs.declared.date.print.Precision.{Precision}
-use Rattle.humantime.specs.Timestamps.Fields.{fields_text, fraction_nanos, moment_of}
+use Rattle.humantime.specs.Timestamps.Fields.{fields_text, moment_of}
 use Rattle.humantime.specs.Timestamps.Printed.{MomentToPrint, places_of, cut, year_10000, IsPrinted, IsPrintable}
 use Rattle.humantime.specs.Laws.Timestamps.{ReadsAs}
 use Rattle.humantime.specs.Answers.Timestamps.{places, printed_fields, fields_at, printed_text, moment_text}
@@ -20,7 +20,7 @@ use Rattle.humantime.specs.Steps.Timestamps.{IsSecondOf}
 use Rattle.humantime.specs.Laws.ExactlyOne.{ExactlyOne}
 use Rattle.humantime.proofs.Timestamps.Reading.Bytes.{holds_before_zone}
 use Rattle.humantime.proofs.Dates.DatesOfDays.{date_of_is}
-use Rattle.humantime.proofs.Timestamps.Printing.Digits.{cut_fraction, shown_digits, shown_places, shown_nanos, cut_nanos}
+use Rattle.humantime.proofs.Timestamps.Printing.Digits.{shown_digits, shown_places, shown_nanos, cut_nanos}
 use Rattle.humantime.proofs.Timestamps.Printing.Order.{one_text}
 
 pub places_most : (p : Precision) → places p ≤ 9
@@ -31,11 +31,7 @@ places_of_bound t = grind arith
 
 shown_moment : (t k time : ℕ) (date : Date) → k ≤ 9 → day_of date * 86_400 + time ≡ t / 1_000_000_000 → time < 86_400
     → moment_of (printed_fields date time (t % 1_000_000_000) k) ≡ t - t % 10 ^ (9 - k)
-shown_moment t k time date small e within =
-    let n = t % 1_000_000_000 in
-    let clock : time / 3_600 * 3_600 + time / 60 % 60 * 60 + min (time % 60) 59 ≡ time = omega arith in
-    let nanos : fraction_nanos (unwrap_or (cut_fraction n k) []) ≡ n - n % 10 ^ (9 - k) = shown_nanos k n small (omega arith) in
-    rw nanos (omega (arith, cut_nanos k t small, mod-le n (10 ^ (9 - k))))
+shown_moment t k time date small e within = grind (arith, shown_nanos, cut_nanos, mod-le)
 
 -- the parts of a moment show it, printed
 pub shown_printed : (t : ℤ) (k time : ℕ) (date : Date) → k ≤ 9 → IsSecondOf date time t → IsPrinted t k (fields_text (printed_fields date time (nano_of t) k))
