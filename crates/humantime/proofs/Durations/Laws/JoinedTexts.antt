@@ -1,5 +1,5 @@
 -- Texts one after the other.
-use Rattle.std.proofs.Common.{◌≡◌, ◌≢◌, ◌↔◌, ◌⊎◌, ℕ, ◌+◌, true, List, [], ◌∷◌, ◌++◌, None, refl, ◌∙◌, inl, inr, append_assoc, append-nil}
+use Rattle.std.proofs.Common.{arith, ◌≡◌, ◌≢◌, ◌↔◌, ◌⊎◌, ℕ, ◌+◌, true, List, [], ◌∷◌, ◌++◌, None, refl, inl, inr, append_assoc, append-nil}
 use Rattle.std.specs.List.{AllByRecursion}
 use Rattle.humantime.specs.Durations.Characters.{is_whitespace, bare_zero}
 use Rattle.humantime.specs.Durations.Spans.{SpelledSpan, Only, SpellsEach, SpellsAll, Reads}
@@ -46,14 +46,7 @@ are_spans text spans v h =
     record { front = h.0.0; formed = a.0.formed; fit = a.0.fit; sum = a.1 }
 
 pub spans-append : (a b : List ℕ) (ss ts : List SpelledSpan) (u v : ℕ) → AcceptedAs a ss u → AreSpans b ts v → AreSpans (a ++ b) (ss ++ ts) (u + v)
-spans-append a b ss ts u v h k =
-    let x = are_spans a ss u h in
-    record {
-      front = front-append a b ss ts h.0 k.front;
-      formed = each-append Formed ss ts x.formed k.formed;
-      fit = each-append (λ s. fits s ≡ true) ss ts x.fit k.fit;
-      sum = value-append ss ts ∙ (λ i. x.sum i + k.sum i);
-    }
+spans-append a b ss ts u v h k = grind (arith, (are_spans a ss u h), front-append, each-append, value-append)
 
 -- such a text is accepted exactly where its additions have room
 pub room_accepts : (text : List ℕ) (spans : List SpelledSpan) (v : ℕ) → spans ≢ [] → AreSpans text spans v → Accepted text v ↔ AllHaveRoom (additions spans)

@@ -12,7 +12,7 @@ use Rattle.humantime.specs.Durations.Items.{Items, Ends}
 use Rattle.humantime.proofs.Durations.Reading.Runs.{ends-append, take_while-drop_while, Only-take_while, begins-drop_while}
 use Rattle.humantime.proofs.Durations.Reading.Spelled.{next_of}
 use Rattle.humantime.proofs.Durations.Reading.Spellings.{each-append, spells_each-append}
-use Rattle.humantime.proofs.Durations.Reading.Summed.{WithinLimits_from, within_or_beyond}
+use Rattle.humantime.proofs.Durations.Reading.Summed.{within_tells, within_or_beyond}
 use Rattle.humantime.proofs.Durations.Reading.SpanWalks.{Steps, by_walk}
 use Rattle.humantime.proofs.Durations.Reading.Stopping.{is_fine, wrong_stops}
 use Rattle.humantime.proofs.Durations.Reading.Written.{written_here, formed_here, spelling_some}
@@ -98,4 +98,4 @@ pub too_large_found : (text : List ℕ) → text ≢ bare_zero → ¬ (WithinLim
 unfolding items
 too_large_found text not_zero bad =
     by_walk text (IsTooLarge text) (too_large text not_zero) true (drop_while is_whitespace text) (take_while is_whitespace text) [] (begun text)
-    (WithinLimits_from [] tt tt) bad
+    ((within_tells [] tt).0 refl) bad

@@ -17,7 +17,7 @@ use Rattle.humantime.specs.Answers.Walks.{walk_from, items, sum_spans}
 use Rattle.humantime.specs.declared.duration.error.DurationError.{DurationError}
 use Rattle.humantime.specs.Durations.Errors.{result_view, PointsInto}
 use Rattle.humantime.specs.Answers.Durations.{IsDurationAnswer, duration_answer}
-use Rattle.humantime.proofs.Durations.Reading.Summed.{sum_spans_within, too_large, summed_value, summed_fault, WithinLimits_from, from_WithinLimits, WithinLimitsFrom-front}
+use Rattle.humantime.proofs.Durations.Reading.Summed.{sum_spans_within, too_large, summed_value, summed_fault, within_front}
 use Rattle.humantime.proofs.Durations.Reading.Spelled.{next_of}
 use Rattle.humantime.proofs.Durations.Reading.Stopping.{fine_goes}
 use Rattle.humantime.proofs.Durations.Reading.Written.{formed_here}
@@ -72,8 +72,7 @@ over_outcome text e h b =
     front_walked text h.front h.rest h.spans h.split h.within.formed (inr (closes_digit h.front h.rest f.number.digit))
     ∙ ap (followed_by h.spans) (walk-right (first_after true h.spans) text h.rest right) in
     let formed = each-append Formed h.spans (span_of h.rest ∷ []) h.within.formed (formed_here h.rest f, tt) in
-    rw b.fault (duration_answer-items text h.not_zero ∙ rw walk (too_large _ more.stop (rw walk at (items_found text).formed) (λ g. b.beyond (WithinLimits_from _ formed
-    (WithinLimitsFrom-front 0 _ (map span_of more.starts) (rw append_assoc (from_WithinLimits _ g)))))))
+    rw b.fault (duration_answer-items text h.not_zero ∙ rw walk (too_large _ more.stop (rw walk at (items_found text).formed) (λ g. b.beyond (within_front _ (map span_of more.starts) formed (rw append_assoc g)))))
 
 pub outcome_fault : (text : List ℕ) (e : Fault) → HasFault text e → duration_answer text ≡ Err e
 outcome_fault text e h = grind (arith, (stop_outcome text e h), (over_outcome text e h))

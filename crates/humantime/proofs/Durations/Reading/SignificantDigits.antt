@@ -66,11 +66,7 @@ zeros_count ds = omega (arith, ap length (significant_and_zeros ds), length-appe
 
 -- the zeros after those digits multiply by ten each
 pub value_shifted : (ds : List ℕ) (z : ℕ) → length ds ≡ length (without_trailing_zeros ds) + z → decimal_value ds ≡ decimal_value (without_trailing_zeros ds) * 10 ^ z
-value_shifted ds z count =
-    let same : length (zeros_of ds) ≡ z = omega (arith, zeros_count ds) in
-    rw (← same)
-    (ap decimal_value (significant_and_zeros ds) ∙ value-append 0 (without_trailing_zeros ds) (reverse (zeros_of ds))
-    ∙ zeros_value (decimal_value (without_trailing_zeros ds)) (zeros_of ds) (Only-take_while is_zero (reverse ds)))
+value_shifted ds z count = grind (arith, zeros_count, (significant_and_zeros ds), value-append, zeros_value, Only-take_while)
 
 product_shifted : (f : ℕ) (ds : List ℕ) → decimal_value ds * f ≡ decimal_value (without_trailing_zeros ds) * f * 10 ^ length (zeros_of ds)
 product_shifted f ds = grind (arith, value_shifted, zeros_count, mul_right_comm)

@@ -52,14 +52,10 @@ are_items text =
       each = rw i.1 (by_walk text (Lends text) (lends text) true (drop_while is_whitespace text));
     }
 
--- two lists that lend the same spans and stop alike are one
-same_span_view : (text : List ℕ) (xs ys : List (Result SpanView Fault)) (a : AreItems text xs) (b : AreItems text ys) → a.spans ≡ b.spans → a.stop ≡ b.stop → xs ≡ ys
-same_span_view text xs ys a b p q = grind (arith, one_each)
-
 pub one_span_view : (text : List ℕ) (others : List (Result SpanView Fault)) → AreItems text others → others ≡ item_views text
 one_span_view text others o =
     let a = are_items text in
-    grind (arith, (items_walked text o.spans o.stop o.items), (items_walked text a.spans a.stop a.items), (same_span_view text others _ o a))
+    grind (arith, (items_walked text o.spans o.stop o.items), (items_walked text a.spans a.stop a.items), one_each, a)
 
 -- an error that is the first item is the answer
 pub first_error_answers : (text : List ℕ) (listed others : List (Result SpanView Fault)) (e : Fault) → AreItems text listed

@@ -70,10 +70,7 @@ printed_moment_reads t k small = record {
 -- what `Display` wrote, of a timestamp that is known
 pub displayed_as : (x : MomentToPrint) (t : ℤ) (k : ℕ) (bytes : List ℕ) → x ≡ record { moment = t; places = k } → k ≤ 9 → IsPrintable t
     → IfSome (printed_text x) (λ text. bytes ≡ text) → IsPrinted t k bytes
-displayed_as x t k bytes known small within written =
-    let some = printed_some t k small within in
-    let same : bytes ≡ some.0 = rw (known, some.1) at written in
-    rw same some.2
+displayed_as x t k bytes known small within written = grind (arith, (printed_some t k small within))
 
 -- rounding down twice is rounding down once
 cut_again : (t : ℤ) (k n : ℕ) → pos n ≡ cut t k → cut (pos n) k ≡ pos n
