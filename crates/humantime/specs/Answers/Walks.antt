@@ -63,7 +63,7 @@ walk_of text = walk_from true text (drop_while is_whitespace text)
 abbrev pub spans_of_walk : Walk → List SpelledSpan × Option Fault
 spans_of_walk w = (map span_of w.starts, w.stop)
 
-unfoldable pub items : List ℕ → List SpelledSpan × Option Fault
+abbrev pub items : List ℕ → List SpelledSpan × Option Fault
 items text = spans_of_walk (walk_of text)
 
 -- the sum after some additions, if there is room for each

@@ -1,6 +1,6 @@
 -- A printed text is spans within all limits, which add up to its duration.
 use Rattle.std.proofs.lemmas.Grind.{common_steps}
-use Rattle.std.proofs.Common.{true, ◌≡◌, ℕ, ◌+◌, ◌*◌, ◌/◌, ◌%◌, ◌^◌, ◌<◌, ◌≤◌, false, List, [], ◌∷◌, ◌++◌, refl, subst, ◌∙◌, arith, rules}
+use Rattle.std.proofs.Common.{sym, true, ◌≡◌, ℕ, ◌+◌, ◌*◌, ◌/◌, ◌%◌, ◌^◌, ◌<◌, ◌≤◌, false, List, [], ◌∷◌, ◌++◌, refl, subst, ◌∙◌, arith, rules}
 use Rattle.std.specs.Prelude.{IsAscii, codes, decimal, map, nat_lt}
 use Rattle.std.specs.Str.{IsUtf8, is_utf8, chars}
 use Rattle.std.specs.List.{AllByRecursion, filter, join_with_byte}
@@ -114,45 +114,33 @@ rows_within : (rows : List (ℕ × Suffix)) → AllRows rows → AreWithin (span
 rows_within [] h = record { formed = tt; fit = tt; small = tt }
 rows_within (c ∷ rows) h = grind (arith, (rows_within rows h.1), each-append)
 
--- The bytes are such spans, which add up to d.
-pub record IsPrinted (bytes : List ℕ) (d : ℕ) : Type 0 where
-  pub spans : List SpelledSpan
-  pub reads : Reads (chars bytes) spans
-  pub within : AreWithin spans
-  pub sum : value spans ≡ d
-
-rows_printed : (c : ℕ × Suffix) (rows : List (ℕ × Suffix)) (d : ℕ) → AllRows (c ∷ rows) → value (spans_of (c ∷ rows)) ≡ d
-    → IsPrinted (rows_text (c ∷ rows)) d
-rows_printed c rows d h sum = record {
-  spans = spans_of (c ∷ rows);
-  reads = (record { whitespace = []; body = _; whole = refl; only_whitespace = tt; each = rows_spell (c ∷ rows) h }, λ e. cc);
-  within = rows_within (c ∷ rows) h;
-  sum = sum;
-}
+-- so the text of rows that add up to a duration is accepted with it
+rows_accepted : (c : ℕ × Suffix) (rows : List (ℕ × Suffix)) (d : ℕ) → AllRows (c ∷ rows) → value (spans_of (c ∷ rows)) ≡ d → d / nanos_per_second ≤ u64_max
+    → Accepted (chars (rows_text (c ∷ rows))) d
+rows_accepted c rows d h sum short =
+    let within = rows_within (c ∷ rows) h in
+    let room = small_have_room (additions (spans_of (c ∷ rows))) within.small (rw sum short) in
+    let reads : Reads (chars (rows_text (c ∷ rows))) (spans_of (c ∷ rows)) =
+    (record { whitespace = []; body = _; whole = refl; only_whitespace = tt; each = rows_spell (c ∷ rows) h }, λ e. cc) in
+    Sum_of (spans_of (c ∷ rows)) reads (record { formed = within.formed; fit = within.fit; room = room }) sum
 
 -- where no count is left, there are zero seconds
-zero_printed : IsPrinted (codes "0s") 0
+zero_accepted : Accepted (chars (codes "0s")) 0
 unfolding is_letter scale_of_word is_utf8 chars encode
-zero_printed =
+zero_accepted =
     let s : Suffix = (codes "s", false) in
     let second = row nanos_per_second most 0 s (is_word-true nanos_per_second most (codes "s") refl) (omega arith) (omega arith) in
     let zero : codes "0s" ≡ printed_count 0 s = rw (decimal_digit 0 (omega arith)) refl in
-    rw zero (rows_printed (0, s) [] 0 (second.0, tt) (value-cons (span_for 0 s) [] ∙ omega (arith, second.1)))
+    subst (λ (l : List ℕ). Accepted (chars l) 0) (sym zero) (rows_accepted (0, s) [] 0 (second.0, tt) (value-cons (span_for 0 s) [] ∙ omega (arith, second.1)) (omega arith))
 
-all_printed : (rows : List (ℕ × Suffix)) (d : ℕ) → AllRows rows → value (spans_of rows) ≡ d
-    → IsPrinted (joined_by_space (map (λ c. printed_count c.0 c.1) rows)) d
-all_printed [] d h sum = subst (IsPrinted (codes "0s")) sum zero_printed
-all_printed (c ∷ rows) d h sum = rows_printed c rows d h sum
+all_accepted : (rows : List (ℕ × Suffix)) (d : ℕ) → AllRows rows → value (spans_of rows) ≡ d → d / nanos_per_second ≤ u64_max
+    → Accepted (chars (joined_by_space (map (λ c. printed_count c.0 c.1) rows))) d
+all_accepted [] d h sum short = subst (Accepted (chars (codes "0s"))) sum zero_accepted
+all_accepted (c ∷ rows) d h sum short = rows_accepted c rows d h sum short
 
 -- the canonical text of a duration is accepted with it
-pub canon_printed : (d : ℕ) → d / nanos_per_second ≤ u64_max → (text : List ℕ) → IsCanonicalText d text → IsPrinted text d
-unfolding duration_text
-canon_printed d h text canon =
-    let all = rows units most d table (omega arith) (omega arith) in
-    rw (canon_is_text d text canon) (all_printed (shown (counted units d)) d all.0 all.1)
-
 pub canon_reads : (d : ℕ) → d / nanos_per_second ≤ u64_max → (text : List ℕ) → IsCanonicalText d text → Accepted (chars text) d
+unfolding duration_text
 canon_reads d h text canon =
-    let is = canon_printed d h text canon in
-    let room = small_have_room (additions is.spans) is.within.small (rw is.sum h) in
-    Sum_of is.spans is.reads (record { formed = is.within.formed; fit = is.within.fit; room = room }) is.sum
+    let all = rows units most d table (omega arith) (omega arith) in
+    rw (canon_is_text d text canon) (all_accepted (shown (counted units d)) d all.0 all.1 h)

@@ -73,7 +73,6 @@ pub items_found_at : (text : List ℕ) → ItemsAfter text [] (walk_of text)
 items_found_at text = by_walk text (Found text) (found text) true (drop_while is_whitespace text) (take_while is_whitespace text) [] (begun text)
 
 pub items_found : (text : List ℕ) → Items text (items text).0 (items text).1
-unfolding items
 items_found text = (items_found_at text).0
 
 -- these spans are within the limits, and not with those of a walk
@@ -95,7 +94,6 @@ too_large text some = record {
 
 -- where the items of a text are too large, it has that fault
 pub too_large_found : (text : List ℕ) → text ≢ bare_zero → ¬ (WithinLimits (items text).0) → HasFault text NumberOverflow
-unfolding items
 too_large_found text not_zero bad =
     by_walk text (IsTooLarge text) (too_large text not_zero) true (drop_while is_whitespace text) (take_while is_whitespace text) [] (begun text)
     ((within_tells [] tt).0 refl) bad

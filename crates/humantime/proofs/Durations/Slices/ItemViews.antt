@@ -5,7 +5,7 @@ use Rattle.humantime.specs.Texts.{drop_while}
 use Rattle.humantime.specs.Durations.Characters.{is_whitespace, bare_zero}
 use Rattle.humantime.specs.Durations.Spans.{SpelledSpan}
 use Rattle.humantime.specs.Durations.Faults.{span_of, Fault}
-use Rattle.humantime.specs.Answers.Walks.{Walk, walk_of, items, sum_spans}
+use Rattle.humantime.specs.Answers.Walks.{Walk, walk_of, sum_spans}
 use Rattle.humantime.specs.Answers.Durations.{duration_answer}
 use Rattle.humantime.specs.Durations.Items.{SpanView, AreSpanViews, items_of, AreItems}
 use Rattle.humantime.specs.Answers.Items.{view_at, item_views, span_in}
@@ -25,7 +25,6 @@ spans_read text (rest ∷ starts) stop = ap₂ (λ (s : SpelledSpan) (items : Li
 
 -- unless the text is `0`, what its items add up to is its outcome
 sum_views_outcome : (text : List ℕ) → text ≢ bare_zero → sum_spans 0 (map span_in (item_views text)) ≡ duration_answer text
-unfolding items
 sum_views_outcome text some = ap (sum_spans 0) (spans_read text (walk_of text).starts (walk_of text).stop) ∙ sym (duration_answer-items text some)
 
 -- the same of the text's bytes, since a text whose one character is `0` is that one byte
