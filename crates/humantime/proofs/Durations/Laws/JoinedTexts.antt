@@ -40,14 +40,6 @@ pub record AreSpans (text : List ℕ) (spans : List SpelledSpan) (v : ℕ) : Typ
   pub fit : AllByRecursion (λ s. fits s ≡ true) spans
   pub sum : value spans ≡ v
 
-pub are_spans : (text : List ℕ) (spans : List SpelledSpan) (v : ℕ) → AcceptedAs text spans v → AreSpans text spans v
-are_spans text spans v h =
-    let a = accepted_spans text spans v h.0 h.1 in
-    record { front = h.0.0; formed = a.0.formed; fit = a.0.fit; sum = a.1 }
-
-pub spans-append : (a b : List ℕ) (ss ts : List SpelledSpan) (u v : ℕ) → AcceptedAs a ss u → AreSpans b ts v → AreSpans (a ++ b) (ss ++ ts) (u + v)
-spans-append a b ss ts u v h k = grind (arith, (are_spans a ss u h), front-append, each-append, value-append)
-
 -- such a text is accepted exactly where its additions have room
 pub room_accepts : (text : List ℕ) (spans : List SpelledSpan) (v : ℕ) → spans ≢ [] → AreSpans text spans v → Accepted text v ↔ AllHaveRoom (additions spans)
 room_accepts text spans v some h = (
@@ -65,7 +57,7 @@ no_room_overflows text spans v some h =
     )
 
 both_spans : (a b : List ℕ) (ss ts : List SpelledSpan) (u v : ℕ) → AcceptedAs a ss u → AcceptedAs b ts v → AreSpans (a ++ b) (ss ++ ts) (u + v)
-both_spans a b ss ts u v h k = spans-append a b ss ts u v h (are_spans b ts v k)
+both_spans a b ss ts u v h k = grind (arith, (accepted_spans a ss u h.0 h.1), (accepted_spans b ts v k.0 k.1), front-append, each-append, value-append)
 
 pub joined_sum : (a b : List ℕ) (ss ts : List SpelledSpan) (u v : ℕ) → AcceptedAs a ss u → AcceptedAs b ts v
     → Accepted (a ++ b) (u + v) ↔ AllHaveRoom (additions ss ++ additions ts)

@@ -35,12 +35,9 @@ front_push front here ss s h p = grind (arith, common_steps, (spells_each-append
 -- one span further
 read_on : (text front rest : List ℕ) (first : Bool) (spans : List SpelledSpan) → IsReadTo text first front spans rest → BeginsSpan rest
     → (here : List ℕ) × IsReadTo text false (front ++ here) (spans ++ span_of rest ∷ []) (next_of rest)
-read_on text front rest first spans r f =
+read_on text front rest first spans r f = 
     let w = written_here rest f in
-    let spelled = front_push front w.0 spans (span_of rest) r.split.spelled w.1.spells in
-    let some_text : w.0 ≢ [] = λ n. omega (arith, ap length n, spelling_some w.0 [] (span_of rest) w.1.spells) in
-    let formed = each-append Formed spans (span_of rest ∷ []) r.formed (formed_here rest f, tt) in
-    (w.0, (grind (arith, common_steps, (r.split.whole), (w.1), (spelled), (formed), begins-drop_while, (ends-append is_whitespace front w.0 some_text))))
+    grind (arith, common_steps, w, (front_push front w.0 spans (span_of rest) r.split.spelled w.1.spells), (each-append Formed spans (span_of rest ∷ []) r.formed (formed_here rest f, tt)), begins-drop_while, ends-append)
 
 -- a text is read past the whitespace at its start, with no span yet
 begun : (text : List ℕ) → IsReadTo text true (take_while is_whitespace text) [] (drop_while is_whitespace text)

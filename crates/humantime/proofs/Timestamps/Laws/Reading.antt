@@ -41,7 +41,4 @@ unfolding weak_answer strict_answer
 strict_by_marks bytes = grind arith
 
 pub strict_moment_is_weak : (bytes : List ℕ) (t : ℤ) → IsStrictMoment bytes t ↔ (IsWeakMoment bytes t × IsMarked bytes)
-strict_moment_is_weak bytes t = (
-  (λ m. let p = (strict_is_weak bytes m.0).0 m.1 in ((m.0, p.0, m.2), p.1)),
-  (λ p. (p.0.0, (strict_is_weak bytes p.0.0).1 (p.0.1, p.1), p.0.2)),
-)
+strict_moment_is_weak bytes t = ((λ m. grind (arith, (strict_is_weak bytes m.0))), (λ p. grind (arith, (strict_is_weak bytes p.0.0))))

@@ -8,9 +8,6 @@ use Rattle.humantime.specs.Laws.Timestamps.{IsMarked}
 use Rattle.humantime.proofs.Timestamps.Reading.Bytes.{holds_before_zone}
 use Rattle.humantime.proofs.Timestamps.Reading.Ends.{IsPlain, plain_bytes, zone_found, some_zone}
 
-letter_by_byte : (s : Separator) → (s ≡ Letter_T) ↔ (separator_byte s ≡ 84)
-letter_by_byte s = grind arith
-
 zone_there : (z : Zone) → (z ≢ No_zone) ↔ (nat_lt 0 (length (zone_text z)) ≡ true)
 zone_there z = grind (arith, common_steps)
 
@@ -20,7 +17,7 @@ zone_by_end bytes f w =
     rw (← some_zone bytes, ap zone_of w.text ∙ found) (zone_there f.zone)
 
 pub strict_is_weak : (bytes : List ℕ) (f : Fields) → IsStrict bytes f ↔ (IsWeak bytes f × IsMarked bytes)
-strict_is_weak bytes f = grind (arith, zone_by_end, letter_by_byte)
+strict_is_weak bytes f = grind (arith, zone_by_end)
 
 -- the check of the strict form
 pub strict_checked : (bytes : List ℕ) (f : Fields) → IsStrict bytes f ↔ ((has_t_and_zone bytes ≡ true) × IsWeak bytes f)

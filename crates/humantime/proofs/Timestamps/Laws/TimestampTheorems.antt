@@ -85,10 +85,7 @@ printed_again t k text p = grind (arith, cut_again)
 
 -- a text is printed exactly if it is the printed text of the moment that it is parsed to
 pub printed_if_read_back : (k : ℕ) (text : List ℕ) → IsPrintedWith k text ↔ ((t : ℤ) × (strict_answer text ≡ Ok t) × IsPrinted t k text)
-printed_if_read_back k text = (
-  (λ p. (cut p.0 k, printed_read p.0 k text p.1, printed_again p.0 k text p.1)),
-  (λ p. (p.0, p.2)),
-)
+printed_if_read_back k text = ((λ p. (cut p.0 k, printed_read p.0 k text p.1, printed_again p.0 k text p.1)), (λ p. (p.0, p.2)))
 
 -- two texts that are printed with equally many digits are ordered, by their bytes, as the moments that they are parsed to
 pub texts_in_order : (k : ℕ) (x y : List ℕ) (a b : ℤ) → IsPrintedWith k x → IsPrintedWith k y → strict_answer x ≡ Ok a → strict_answer y ≡ Ok b
@@ -103,25 +100,17 @@ moment_at_most a b = grind (arith, ints)
 moment_before : (a b : ℤ) → IsTrue (is_lt (int_cmp a b)) ↔ (a <ℤ b)
 moment_before a b = grind (arith, ints)
 
--- and what one of two printed texts says
-stamp_at_most : (a b : ℤ) (k : ℕ) (x y : List ℕ) → IsPrinted a k x → IsPrinted b k y
-    → IsTrue (is_le (slice_cmp nat_cmp x y)) ↔ (cut a k ≤ℤ cut b k)
-stamp_at_most a b k x y p q = rw (stamps_in_order a b k x y p q) (moment_at_most (cut a k) (cut b k))
-
-stamp_before : (a b : ℤ) (k : ℕ) (x y : List ℕ) → IsPrinted a k x → IsPrinted b k y
-    → IsTrue (is_lt (slice_cmp nat_cmp x y)) ↔ (cut a k <ℤ cut b k)
-stamp_before a b k x y p q = rw (stamps_in_order a b k x y p q) (moment_before (cut a k) (cut b k))
-
 -- the bytes of a printed text lie between two printed bounds, the first of them included, exactly where the moment that it reads as does
 pub stamps_between : (a b t : ℤ) (k : ℕ) (x y text : List ℕ) → IsPrinted a k x → IsPrinted b k y → IsPrinted t k text
     → (IsTrue (is_le (slice_cmp nat_cmp x text)) × IsTrue (is_lt (slice_cmp nat_cmp text y)))
     ↔ ((u : ℤ) × (strict_answer text ≡ Ok u) × (cut a k ≤ℤ u) × (u <ℤ cut b k))
-stamps_between a b t k x y text first second printed = grind (arith, (printed_read t k text printed), (stamp_at_most a t k x text first printed), (stamp_before t b k text y printed second))
+stamps_between a b t k x y text first second printed = 
+    grind (arith, (printed_read t k text printed), (stamps_in_order a t k x text first printed), (stamps_in_order t b k text y printed second), (moment_at_most (cut a k) (cut t k)), (moment_before (cut t k) (cut b k)))
 
 -- the order of bytes for each number of digits that a printer gives; `using` one of them, a caller that compares texts is proved
 -- with no answer
 earlier : (a b : ℤ) (k : ℕ) (x y : List ℕ) → IsPrinted a k x → IsPrinted b k y → (cut a k <ℤ cut b k) ↔ IsTrue (is_lt (slice_cmp nat_cmp x y))
-earlier a b k x y p q = let h = stamp_before a b k x y p q in (h.1, h.0)
+earlier a b k x y p q = grind (arith, (stamps_in_order a b k x y p q), (moment_before (cut a k) (cut b k)))
 
 pub earlier_in_millis : (a b : ℤ) (x y : List ℕ) → IsPrinted a 3 x → IsPrinted b 3 y → (cut a 3 <ℤ cut b 3) ↔ IsTrue (is_lt (slice_cmp nat_cmp x y))
 earlier_in_millis a b x y = earlier a b 3 x y

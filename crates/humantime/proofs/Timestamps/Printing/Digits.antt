@@ -32,17 +32,14 @@ last_are_digits k j n = tt
 abbrev pub cut_fraction : ℕ → ℕ → Option (List ℕ)
 cut_fraction n k = if k == 0 then None else Some (take k (last_digits 9 n))
 
-fraction_is : (k n : ℕ) → fraction_digits (cut_fraction n k) ≡ take k (last_digits 9 n)
-fraction_is k n = grind arith
-
 pub shown_digits : (k n : ℕ) → AreDigits (fraction_digits (cut_fraction n k))
-shown_digits k n = rw (fraction_is k n) (last_are_digits k 9 n)
+shown_digits k n = grind (arith, (last_are_digits k 9 n))
 
 pub shown_places : (k n : ℕ) → k ≤ 9 → option_map length (cut_fraction n k) ≡ (if k == 0 then None else Some k)
 shown_places k n h = grind (arith, common_steps)
 
 pub shown_nanos : (k n : ℕ) → k ≤ 9 → n < 1_000_000_000 → fraction_nanos (fraction_digits (cut_fraction n k)) ≡ n - n % 10 ^ (9 - k)
-shown_nanos k n small h = rw (fraction_is k n) (omega (arith, sum_of_digits k 9 n 0 small, nanos_added (take k (last_digits 9 n)) (last_are_digits k 9 n)))
+shown_nanos k n small h = grind (arith, (sum_of_digits k 9 n 0 small), (nanos_added (take k (last_digits 9 n)) (last_are_digits k 9 n)))
 
 -- cutting a moment cuts its nanoseconds
 pub cut_nanos : (k t : ℕ) → k ≤ 9 → t % 1_000_000_000 % 10 ^ (9 - k) ≡ t % 10 ^ (9 - k)
