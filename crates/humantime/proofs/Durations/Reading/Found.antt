@@ -1,6 +1,6 @@
 -- What the walk over a text finds: its items, and the place where its spans are too large.
 use Rattle.std.proofs.lemmas.Grind.{common_steps}
-use Rattle.std.proofs.Common.{◌≡◌, ◌≢◌, ◌⊎◌, ℕ, Bool, true, false, List, [], ◌∷◌, ◌++◌, map, length, Option, Some, None, if◌then◌else◌, refl, ap, inl, inr, arith, subst, append_assoc, append-nil}
+use Rattle.std.proofs.Common.{◌≡◌, ◌≢◌, ◌⊎◌, ℕ, Bool, true, false, List, [], ◌∷◌, ◌++◌, map, Option, Some, None, if◌then◌else◌, refl, inl, inr, arith, subst, append_assoc, append-nil}
 use Rattle.std.specs.List.{AllByRecursion}
 use Rattle.humantime.specs.Texts.{begins, drop_while, take_while, ends}
 use Rattle.humantime.specs.Durations.Characters.{is_whitespace, is_digit, bare_zero}
@@ -15,7 +15,7 @@ use Rattle.humantime.proofs.Durations.Reading.Spellings.{each-append, spells_eac
 use Rattle.humantime.proofs.Durations.Reading.Summed.{within_tells, within_or_beyond}
 use Rattle.humantime.proofs.Durations.Reading.SpanWalks.{Steps, by_walk}
 use Rattle.humantime.proofs.Durations.Reading.Stopping.{is_fine, wrong_stops}
-use Rattle.humantime.proofs.Durations.Reading.Written.{written_here, formed_here, spelling_some}
+use Rattle.humantime.proofs.Durations.Reading.Written.{written_here, formed_here}
 
 -- no span stands before, or some
 abbrev pub IsFirst : Bool → List SpelledSpan → Type 0
@@ -35,7 +35,7 @@ front_push front here ss s h p = grind (arith, common_steps, (spells_each-append
 -- one span further
 read_on : (text front rest : List ℕ) (first : Bool) (spans : List SpelledSpan) → IsReadTo text first front spans rest → BeginsSpan rest
     → (here : List ℕ) × IsReadTo text false (front ++ here) (spans ++ span_of rest ∷ []) (next_of rest)
-read_on text front rest first spans r f = 
+read_on text front rest first spans r f =
     let w = written_here rest f in
     grind (arith, common_steps, w, (front_push front w.0 spans (span_of rest) r.split.spelled w.1.spells), (each-append Formed spans (span_of rest ∷ []) r.formed (formed_here rest f, tt)), begins-drop_while, ends-append)
 

@@ -45,9 +45,6 @@ pub read_spelled : (rest next : List ℕ) (s : SpelledSpan) (h : Spells rest s n
     → IsReadToWord rest h.number_text h.fraction_text (s.word ++ (h.whitespace ++ next)) s.fraction
 read_spelled rest next s h = grind (arith, begins_word, fraction_read, drop_while-append, take_while-append)
 
-pub no_letter_follows : (cs : List ℕ) → ends_span cs ≡ true → begins is_letter cs ≡ false
-no_letter_follows cs h = grind (arith, letter_not_numeric)
-
 -- where a spelling ends with its word, it doesn't end in whitespace
 ends_in_word : (a b word : List ℕ) → Only is_letter word → begins is_letter word ≡ true → ends is_whitespace (a ++ (b ++ (word ++ []))) ≡ false
 ends_in_word a b word only some = grind (arith, begins_not_nil, append-nil, ends-append, ends_other, letter_not_whitespace, ends_Only)
@@ -62,7 +59,7 @@ pub spelled_here : (here next : List ℕ) (s : SpelledSpan) → Spells here s []
 spelled_here here next s h o no_whitespace =
     let letter = letters_begin s.word h.word in
     let f : ends_span (h.whitespace ++ next) ≡ true = followed h.number_text h.fraction_text s.word h.whitespace here next (spells_alone here s h) h.word.0 letter h.only_whitespace o in
-    let stops = no_letter_follows (h.whitespace ++ next) f in
+    let stops : begins is_letter (h.whitespace ++ next) ≡ false = grind (arith, letter_not_numeric) in
     let cut = drop_while-append is_whitespace h.whitespace next h.only_whitespace no_whitespace in
     rw (spelling_parts here next s h)
     (grind (arith, (f), (stops), (letter), (cut), begins-append, begins_not_nil, take_while-append, drop_while-append, fraction_read))

@@ -15,7 +15,6 @@ use Rattle.humantime.proofs.Durations.Reading.Spelled.{IsSpanAt, spelled_here}
 use Rattle.humantime.proofs.Durations.Reading.Spellings.{apart}
 use Rattle.humantime.proofs.Durations.Reading.SpanWalks.{walk-end, walk-wrong, walk-right}
 use Rattle.humantime.proofs.Durations.Reading.Stopping.{fine_goes, stops_at}
-use Rattle.humantime.proofs.Durations.Reading.Written.{fine_here}
 
 -- what stands before the rest ends there: in whitespace, or by what the rest begins with
 abbrev pub Closes : List ℕ → List ℕ → Type 0
@@ -68,7 +67,7 @@ through text body rest first (s ∷ ss) h f (inr o) e =
     let p = apart body h.0 s h.1 in
     let more = rw (none_first ss) at (through text h.0 rest false ss h.2 f.1 (closes_more p.here h.0 rest ss h.2 (inr (rw p.whole at o))) e) in
     let i = first_here body rest s ss h o e in
-    grind (arith, (i), (more), (walk-right first text _ (fine_goes text _ (fine_here (body ++ rest) _ s i f.0))))
+    grind (arith, (i), (more), (walk-right first text (body ++ rest) (fine_goes text (body ++ rest) (grind arith))))
 
 -- the front of a split begins where the whitespace ends
 pub front_begins : (text front rest : List ℕ) (spans : List SpelledSpan) (h : Split text front spans rest) → drop_while is_whitespace text ≡ h.spelled.body ++ rest

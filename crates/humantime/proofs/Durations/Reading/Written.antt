@@ -10,7 +10,7 @@ use Rattle.humantime.proofs.Durations.Reading.Classes.{digit_is_numeric}
 use Rattle.humantime.proofs.Durations.Reading.Runs.{take_while-drop_while, Only-take_while, begins_take_while, ends_Only, ends-append}
 use Rattle.std.proofs.lemmas.Bool.Decides.{nat_tests}
 use Rattle.std.proofs.lemmas.Grind.{common_steps}
-use Rattle.humantime.proofs.Durations.Reading.Spelled.{next_of, IsSpanAt}
+use Rattle.humantime.proofs.Durations.Reading.Spelled.{next_of}
 use Rattle.humantime.proofs.Durations.Reading.Stopping.{some_letters, ends_tells}
 
 -- a spelling of the span that begins the rest, in whitespace where no digit follows it
@@ -49,6 +49,3 @@ written_here rest h =
 -- the span that begins the rest is well formed
 pub formed_here : (rest : List ℕ) → BeginsSpan rest → Formed (span_of rest)
 formed_here rest h = record { short = h.number.short; word = h.unit }
-
-pub fine_here : (rest next : List ℕ) (s : SpelledSpan) → IsSpanAt rest s next → Formed s → BeginsSpan rest
-fine_here rest next s h f = grind arith

@@ -56,9 +56,6 @@ slices_found text rest s x next h =
       starts = rw k.whole (begins-append is_digit k.number_text _ (begins_not_nil is_digit k.number_text k.starts) ∙ k.starts);
     }
 
-each_starts : (text rest : List ℕ) (s : SpelledSpan) (ss : List SpelledSpan) (xs : List SpanView) (end : List ℕ) → AreSpanViews text rest (s ∷ ss) xs end → begins is_digit rest ≡ true
-each_starts text rest s ss xs end h = grind arith
-
 next_is : (whitespace next : List ℕ) → Only is_whitespace whitespace → begins is_digit next ≡ true → drop_while is_whitespace (whitespace ++ next) ≡ next
 next_is whitespace next o b = drop_while-append is_whitespace whitespace next o (begins_other is_digit is_whitespace digit_not_whitespace next b)
 
@@ -70,7 +67,7 @@ one_span text rest s x y m n h k = grind (arith, common_steps, (slices_found tex
 -- one list of spans lends one list of slices, wherever in whitespace the rest of the text begins
 pub one_each : (text p q m n : List ℕ) (spans : List SpelledSpan) (xs ys : List SpanView) (d e : List ℕ) → Only is_whitespace p → Only is_whitespace q → p ++ m ≡ q ++ n → AreSpanViews text m spans xs d → AreSpanViews text n spans ys e → xs ≡ ys
 one_each text p q m n (s ∷ ss) (x ∷ xs) (y ∷ ys) d e o u w h k =
-    let r : m ≡ n = sym (next_is p m o (each_starts text m s ss (x ∷ xs) d h)) ∙ ap (drop_while is_whitespace) w ∙ next_is q n u (each_starts text n s ss (y ∷ ys) e k) in
+    let r : m ≡ n = sym (next_is p m o (grind arith)) ∙ ap (drop_while is_whitespace) w ∙ next_is q n u (grind arith) in
     let l : IsSpanView text m s y k.0 = subst (λ (z : List ℕ). IsSpanView text z s y k.0) (sym r) k.1 in
     let one = one_span text m s x y h.0 k.0 h.1 l in
     let p = h.1.spelled in

@@ -30,7 +30,7 @@ begins_digit_or_end cs h k e = grind arith
 
 -- digits and whitespace, not without a digit, with the slice from the first digit to the last
 trimmed_slice : (cs : List ℕ) → Only is_numeric cs → digits cs ≢ [] → IsDigitSlice cs (trimmed cs)
-trimmed_slice cs o n = 
+trimmed_slice cs o n =
     grind (arith, (digit_slice (take_while is_whitespace cs) (drop_while is_whitespace cs) (trimmed cs) (dropped (drop_while is_whitespace cs)) (Only-take_while is_whitespace cs)), Only-drop_while, begins_digit_or_end, begins-drop_while, digits_drop_while, take_while-drop_while)
 
 fraction_is_viewed : (b tail : List ℕ) (o : Option (List ℕ)) → SpellsFraction b o → begins is_letter tail ≡ true → IsFractionView b (fraction_slice (b ++ tail))

@@ -104,7 +104,7 @@ moment_before a b = grind (arith, ints)
 pub stamps_between : (a b t : ℤ) (k : ℕ) (x y text : List ℕ) → IsPrinted a k x → IsPrinted b k y → IsPrinted t k text
     → (IsTrue (is_le (slice_cmp nat_cmp x text)) × IsTrue (is_lt (slice_cmp nat_cmp text y)))
     ↔ ((u : ℤ) × (strict_answer text ≡ Ok u) × (cut a k ≤ℤ u) × (u <ℤ cut b k))
-stamps_between a b t k x y text first second printed = 
+stamps_between a b t k x y text first second printed =
     grind (arith, (printed_read t k text printed), (stamps_in_order a t k x text first printed), (stamps_in_order t b k text y printed second), (moment_at_most (cut a k) (cut t k)), (moment_before (cut t k) (cut b k)))
 
 -- the order of bytes for each number of digits that a printer gives; `using` one of them, a caller that compares texts is proved

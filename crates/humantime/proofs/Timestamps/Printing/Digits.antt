@@ -1,7 +1,6 @@
 -- The digits of a fraction: the first k of nine are the nanoseconds, cut to k digits.
-use Rattle.std.proofs.lemmas.Grind.{common_steps}
 use Rattle.std.proofs.Common.{◌≡◌, ℕ, zero, suc, ◌+◌, ◌-◌, ◌*◌, ◌/◌, ◌%◌, ◌^◌, ◌<◌, ◌≤◌, take, arith}
-use Rattle.std.specs.Prelude.{List, length, Option, Some, None, option_map, ◌==◌, if◌then◌else◌}
+use Rattle.std.specs.Prelude.{List, Option, Some, None, ◌==◌, if◌then◌else◌}
 use Rattle.std.proofs.Math.Nat.{pow-suc, one-le-pow, mod-mod_of_dvd, dvd-mul_left}
 use Rattle.std.proofs.Math.Arith.{mod-mul}
 use Rattle.std.proofs.lemmas.Nat.{pow-add}
@@ -34,9 +33,6 @@ cut_fraction n k = if k == 0 then None else Some (take k (last_digits 9 n))
 
 pub shown_digits : (k n : ℕ) → AreDigits (fraction_digits (cut_fraction n k))
 shown_digits k n = grind (arith, (last_are_digits k 9 n))
-
-pub shown_places : (k n : ℕ) → k ≤ 9 → option_map length (cut_fraction n k) ≡ (if k == 0 then None else Some k)
-shown_places k n h = grind (arith, common_steps)
 
 pub shown_nanos : (k n : ℕ) → k ≤ 9 → n < 1_000_000_000 → fraction_nanos (fraction_digits (cut_fraction n k)) ≡ n - n % 10 ^ (9 - k)
 shown_nanos k n small h = grind (arith, (sum_of_digits k 9 n 0 small), (nanos_added (take k (last_digits 9 n)) (last_are_digits k 9 n)))

@@ -11,20 +11,16 @@ use Rattle.humantime.proofs.Timestamps.Reading.Fractions.{digits_from}
 use Rattle.humantime.specs.declared.calendar.Date.{Date}
 use Rattle.humantime.specs.Calendar.{day_of}
 use Rattle.humantime.specs.Values.{nano_of}
-use Rattle.humantime.specs.declared.date.print.Precision.{Precision}
 use Rattle.humantime.specs.Timestamps.Fields.{fields_text, moment_of}
-use Rattle.humantime.specs.Timestamps.Printed.{MomentToPrint, places_of, cut, year_10000, IsPrinted, IsPrintable}
+use Rattle.humantime.specs.Timestamps.Printed.{places_of, cut, year_10000, IsPrinted, IsPrintable}
 use Rattle.humantime.specs.Laws.Timestamps.{ReadsAs}
-use Rattle.humantime.specs.Answers.Timestamps.{places, printed_fields, fields_at, printed_text, moment_text}
+use Rattle.humantime.specs.Answers.Timestamps.{printed_fields, fields_at, moment_text}
 use Rattle.humantime.specs.Steps.Timestamps.{IsSecondOf}
 use Rattle.humantime.specs.Laws.ExactlyOne.{ExactlyOne}
 use Rattle.humantime.proofs.Timestamps.Reading.Bytes.{holds_before_zone}
 use Rattle.humantime.proofs.Dates.DatesOfDays.{date_of_is}
-use Rattle.humantime.proofs.Timestamps.Printing.Digits.{shown_digits, shown_places, shown_nanos, cut_nanos}
+use Rattle.humantime.proofs.Timestamps.Printing.Digits.{shown_digits, shown_nanos, cut_nanos}
 use Rattle.humantime.proofs.Timestamps.Printing.Order.{one_text}
-
-pub places_most : (p : Precision) → places p ≤ 9
-places_most p = grind arith
 
 pub places_of_bound : (t : ℤ) → places_of t ≤ 9
 places_of_bound t = grind arith
@@ -50,7 +46,7 @@ shown_printed (pos t) k time date small is = record {
   separator = refl;
   zone = refl;
   second = omega arith;
-  places = shown_places k (t % 1_000_000_000) small;
+  places = grind (arith, common_steps);
   moment = ap pos (shown_moment t k time date small (ap nat_abs is.sum) is.within_day) ∙ omega (arith, ints, mod-le t (10 ^ (9 - k)));
 }
 
@@ -72,20 +68,13 @@ printed_some (pos t) k small h =
     let is : IsSecondOf _ _ (pos t) = record { date_exists = date.0; within_day = omega arith; sum = ap pos (omega (arith, date.1)) } in
     (fields_text (fields_at t k), rw (lt-ltb t year_10000 within) refl, shown_printed (pos t) k _ _ small is)
 
--- and no other has one
-printable_from_text : (t : ℤ) (k : ℕ) (text : List ℕ) → moment_text t k ≡ Some text → IsPrintable t
-unfolding moment_text
-printable_from_text t k text h = grind (arith, ints)
-
 -- the text that `Display` names is the printed one
 pub text_displayed : (t : ℤ) (k : ℕ) (text : List ℕ) → k ≤ 9 → (moment_text t k ≡ Some text) ↔ (IsPrintable t × IsPrinted t k text)
+unfolding moment_text
 text_displayed t k text small = (
-  (λ h. let is = printable_from_text t k text h in let some = printed_some t k small is in (is, rw (same_Some _ _ (sym h ∙ some.1)) some.2)),
+  (λ h. let is : IsPrintable t = grind (arith, ints) in let some = printed_some t k small is in (is, rw (same_Some _ _ (sym h ∙ some.1)) some.2)),
   (λ p. let some = printed_some t k small p.0 in some.1 ∙ ap Some (one_text t k some.0 text some.2 p.1)),
 )
-
-pub printed_text_is : (x : MomentToPrint) (text : List ℕ) → IsPrintable x.moment → IsPrinted x.moment x.places text → printed_text x ≡ Some text
-printed_text_is x text h p = (text_displayed x.moment x.places text p.few).1 (h, p)
 
 -- a printed text reads back as the moment, cut
 pub printed_reads : (t : ℤ) (k : ℕ) (text : List ℕ) → IsPrinted t k text → ReadsAs text (cut t k)
