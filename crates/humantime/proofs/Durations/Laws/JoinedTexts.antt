@@ -15,10 +15,7 @@ use Rattle.humantime.proofs.Durations.Laws.Readings.{accepted_spans, no_value_an
 
 -- whitespace after a spelling belongs to it
 spells_each-whitespace : (body whitespace : List ℕ) (s : SpelledSpan) (ss : List SpelledSpan) → SpellsEach body (s ∷ ss) → Only is_whitespace whitespace → SpellsEach (body ++ whitespace) (s ∷ ss)
-spells_each-whitespace body whitespace s [] h only =
-    let here = respelled body h.0 (body ++ whitespace) [] (h.1.whitespace ++ whitespace) s h.1 (rw (h.1.whole, h.2) (simp (append_assoc, append-nil)))
-    (each-append _ h.1.whitespace whitespace h.1.only_whitespace only) in
-    ([], here, refl)
+spells_each-whitespace body whitespace s [] h only = ([], grind (arith, (respelled body h.0 (body ++ whitespace) [] (h.1.whitespace ++ whitespace) s h.1), append_assoc, append-nil, each-append), refl)
 spells_each-whitespace body whitespace s (t ∷ ts) h only = (h.0 ++ whitespace, spells-append body h.0 whitespace s h.1, spells_each-whitespace h.0 whitespace t ts h.2 only)
 
 -- spans after spans

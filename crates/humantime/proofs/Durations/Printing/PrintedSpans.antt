@@ -77,12 +77,7 @@ rows_cons w q r d s cs e row rest = grind (arith, nat_tests, value-cons)
 rows : (us : List (ℕ × Suffix)) (m d : ℕ) → is_table us m ≡ true → d < m → d < most → AreRows d (counted us d)
 rows [] m d h below whole = (tt, grind (arith, nat_tests))
 rows (u ∷ us) m d h below whole =
-    let q = d / u.0 in
-    let here = table_row u us m (nat_lt 1 q) h in
-    let positive : 0 < u.0 = grind (arith, here.0.weight, here.0.some) in
-    rows_cons u.0 q (d % u.0) d u.1 (counted us (d % u.0)) (omega arith)
-    (row u.0 m q u.1 here.0 (omega arith) (omega arith))
-    (rows us u.0 (d % u.0) here.1 (mod_below d u.0 positive) (omega arith))
+    grind (arith, (table_row u us m (nat_lt 1 (d / u.0)) h), (rows_cons u.0 (d / u.0) (d % u.0) d u.1 (counted us (d % u.0))), (row u.0 m (d / u.0) u.1), (mod_below d u.0), (rows us u.0 (d % u.0)))
 
 -- ---- the text of these spans
 

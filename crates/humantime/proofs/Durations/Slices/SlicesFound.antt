@@ -47,14 +47,8 @@ slices_found text rest s x next h =
     let k = h.spelled in
     let r = read_spelled rest next s h.spelled in
     let letter = begins_word s.word (k.whitespace ++ next) (letters_begin s.word k.word) in
-    let no_whitespace : drop_while is_whitespace k.number_text ≡ k.number_text = drop_while-append is_whitespace [] k.number_text tt (begins_other is_digit is_whitespace digit_not_whitespace k.number_text k.starts) in
     let fraction = fraction_found k.fraction_text (s.word ++ (k.whitespace ++ next)) s.fraction x.fraction k.fraction h.fraction letter in
-    record {
-      number = sym (trimmed_is k.number_text x.number h.number) ∙ ap drop_trailing_whitespace (no_whitespace ∙ sym r.number_is);
-      fraction = rw r.after_is fraction;
-      left = rw h.unit r.tail_is;
-      starts = rw k.whole (begins-append is_digit k.number_text _ (begins_not_nil is_digit k.number_text k.starts) ∙ k.starts);
-    }
+    grind (arith, r, fraction, h, (trimmed_is k.number_text x.number h.number), digit_not_whitespace)
 
 next_is : (whitespace next : List ℕ) → Only is_whitespace whitespace → begins is_digit next ≡ true → drop_while is_whitespace (whitespace ++ next) ≡ next
 next_is whitespace next o b = drop_while-append is_whitespace whitespace next o (begins_other is_digit is_whitespace digit_not_whitespace next b)

@@ -8,20 +8,11 @@ use Rattle.humantime.specs.Timestamps.Fields.{fraction_nanos, fraction_digits}
 use Rattle.humantime.specs.Answers.Timestamps.{last_digits}
 use Rattle.humantime.proofs.Timestamps.Reading.Fractions.{AreDigits, add_digits, nanos_added}
 
-power_more : (j : ℕ) → (10 ^ suc j / 10 ≡ 10 ^ j) × (10 ^ suc j ≡ 10 * 10 ^ j)
-power_more j = let power : 10 ^ suc j ≡ 10 ^ j * 10 = pow-suc 10 j in (omega arith, omega arith)
-
 -- the first k of the last j digits, each with its weight, and what is left
 sum_of_digits : (k j n a : ℕ) → k ≤ j → add_digits a (10 ^ j / 10) (take k (last_digits j n)) + n % 10 ^ (j - k) ≡ a + n % 10 ^ j
 sum_of_digits zero j n a h = grind arith
 sum_of_digits (suc k) zero n a h = absurd (omega arith)
-sum_of_digits (suc k) (suc j) n a h =
-    let d = n / 10 ^ j % 10 in
-    let some : 0 < 10 ^ j = grind (arith, one-le-pow) in
-    let more : n % (10 * 10 ^ j) ≡ d * 10 ^ j + n % 10 ^ j = mod-mul n (omega arith) some in
-    let digit : 48 + d - 48 ≡ d = omega arith in
-    let left : suc j - suc k ≡ j - k = omega arith in
-    rw ((power_more j).0, left, digit) (rw (power_more j).1 (omega (arith, more, sum_of_digits k j n (a + 10 ^ j * d) (omega arith))))
+sum_of_digits (suc k) (suc j) n a h = grind (arith, (pow-suc 10 j), one-le-pow, mod-mul, (sum_of_digits k j n (a + 10 ^ j * (n / 10 ^ j % 10))))
 
 last_are_digits : (k j n : ℕ) → AreDigits (take k (last_digits j n))
 last_are_digits (suc k) (suc j) n = ((omega arith, omega arith), last_are_digits k j n)
