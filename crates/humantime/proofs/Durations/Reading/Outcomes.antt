@@ -53,8 +53,7 @@ items_whole text spans h f = record { front = text; rest = []; split = split_who
 pub outcome_accepted : (text : List ℕ) (v : ℕ) → Accepted text v → duration_answer text ≡ Ok v
 unfolding sum_spans
 outcome_accepted text v (Bare_zero zero none) = rw (zero, none) duration_answer-zero
-outcome_accepted text v (Sum_of spans reads within sum) =
-    outcome_summed text spans None (not_zero text spans reads) (items_whole text spans reads within.formed) ∙ sum_spans_within spans None within ∙ ap (λ (n : ℕ). Ok n) sum
+outcome_accepted text v (Sum_of spans reads within sum) = grind (arith, (outcome_summed text spans None (not_zero text spans reads) (items_whole text spans reads within.formed)), (sum_spans_within spans None within), sum)
 
 stop_outcome : (text : List ℕ) (e : Fault) (h : HasFault text e) → Stops text h.front h.spans h.rest e → duration_answer text ≡ Err e
 unfolding sum_spans

@@ -78,13 +78,11 @@ power_shifted ds = ap (λ (n : ℕ). 10 ^ n) (zeros_count ds) ∙ pow-add 10 (le
 pub whole_part_kept : (f : ℕ) (ds : List ℕ) → is_whole_part f ds ≡ true → is_whole_part f (without_trailing_zeros ds) ≡ true
 whole_part_kept f ds h =
     let by = 10 ^ length (zeros_of ds) in
-    let some : 0 < by = one-le-pow (length (zeros_of ds)) 10 (omega arith) in
     let kept = decimal_value (without_trailing_zeros ds) * f in
+    let some : 0 < by = one-le-pow (length (zeros_of ds)) 10 (omega arith) in
     let parts : (decimal_value ds * f ≤ 18446744073709551615) × (decimal_value ds * f % 10 ^ length ds ≡ 0) = grind (arith, common_steps) in
     let rest : kept * by % (10 ^ length (without_trailing_zeros ds) * by) ≡ 0 = rw (← product_shifted f ds, ← power_shifted ds) parts.1 in
-    let whole = mod-eq-zero_of_dvd _ (dvd_of_mul-dvd-mul_right (10 ^ length (without_trailing_zeros ds)) some (dvd_of_mod-eq-zero _ rest)) in
-    let fits : kept ≤ 18446744073709551615 = omega (arith, le-mul_of_pos_right kept some, product_shifted f ds, parts.0) in
-    grind (arith, common_steps)
+    grind (arith, common_steps, (mod-eq-zero_of_dvd _ (dvd_of_mul-dvd-mul_right (10 ^ length (without_trailing_zeros ds)) some (dvd_of_mod-eq-zero _ rest))), (le-mul_of_pos_right kept some), (product_shifted f ds), parts)
 
 pub amount_kept : (f : ℕ) (ds : List ℕ) → decimal_value ds * f / 10 ^ length ds ≡ decimal_value (without_trailing_zeros ds) * f / 10 ^ length (without_trailing_zeros ds)
 amount_kept f ds = grind (arith, product_shifted, power_shifted, mul-div-mul_right, one-le-pow)

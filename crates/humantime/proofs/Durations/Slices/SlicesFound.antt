@@ -11,7 +11,7 @@ use Rattle.humantime.specs.Durations.Faults.{after_number, after_fraction}
 use Rattle.humantime.specs.Durations.Items.{SpanView, IsDigitSlice, IsFractionView, IsSpanView, AreSpanViews}
 use Rattle.humantime.specs.Answers.Items.{trimmed, number_slice, fraction_slice}
 use Rattle.humantime.proofs.Durations.Reading.Classes.{whitespace_is, digit_not_whitespace}
-use Rattle.humantime.proofs.Durations.Reading.Runs.{drop_while-append, begins-append, begins_not_nil, begins_other, letters_begin}
+use Rattle.humantime.proofs.Durations.Reading.Runs.{drop_while-append, begins_other, letters_begin}
 use Rattle.humantime.proofs.Durations.Reading.Spelled.{begins_word, read_spelled}
 use Rattle.humantime.proofs.Durations.Bytes.Trimming.{suc_not_zero, no_slice, slice_after_point}
 
@@ -30,9 +30,7 @@ trimmed_is : (text slice : List ℕ) → IsDigitSlice text slice → trimmed tex
 trimmed_is text slice h = grind (arith, digit_not_whitespace, drop_while-append, drop_tail)
 
 fraction_found : (b tail : List ℕ) (o f : Option (List ℕ)) → SpellsFraction b o → IsFractionView b f → begins is_letter tail ≡ true → f ≡ fraction_slice (b ++ tail)
-fraction_found b tail (Some ds) (Some slice) h k e =
-    let same : h.0 ≡ k.0 = cc in
-    grind (arith, (slice_after_point h.0 tail h.2.0 e), (trimmed_is k.0 slice k.2), same)
+fraction_found b tail (Some ds) (Some slice) h k e = grind (arith, (slice_after_point h.0 tail h.2.0 e), (trimmed_is k.0 slice k.2))
 fraction_found b tail _ _ h k e = grind (arith, no_slice)
 
 -- What a span lends is found at the rest that it begins.

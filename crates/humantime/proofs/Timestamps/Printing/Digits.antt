@@ -31,6 +31,5 @@ shown_nanos k n small h = grind (arith, (sum_of_digits k 9 n 0 small), (nanos_ad
 -- cutting a moment cuts its nanoseconds
 pub cut_nanos : (k t : ℕ) → k ≤ 9 → t % 1_000_000_000 % 10 ^ (9 - k) ≡ t % 10 ^ (9 - k)
 cut_nanos k t small =
-    let nine : k + (9 - k) ≡ 9 = omega arith in
-    let power : 1_000_000_000 ≡ 10 ^ k * 10 ^ (9 - k) = rw nine at (pow-add 10 k (9 - k)) in
+    let power : 1_000_000_000 ≡ 10 ^ k * 10 ^ (9 - k) = grind (arith, (pow-add 10 k (9 - k))) in
     mod-mod_of_dvd (10 ^ (9 - k)) t (rw power (dvd-mul_left (10 ^ (9 - k)) (10 ^ k)))

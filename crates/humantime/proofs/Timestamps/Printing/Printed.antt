@@ -35,14 +35,7 @@ shown_printed (negsuc t) k time date small is = absurd (let whole = is.sum in le
 shown_printed (pos t) k time date small is = record {
   few = small;
   fields = printed_fields date time (t % 1_000_000_000) k;
-  weak = record {
-    text = refl;
-    date = is.date_exists;
-    hour = omega (arith, is.within_day);
-    minute = omega arith;
-    second = omega arith;
-    fraction = digits_from _ (shown_digits k (t % 1_000_000_000));
-  };
+  weak = grind (arith, (shown_digits k (t % 1_000_000_000)), digits_from);
   separator = refl;
   zone = refl;
   second = omega arith;

@@ -1,5 +1,4 @@
-use Rattle.std.proofs.Common.{arith}
-use Rattle.std.proofs.Common.{◌≤◌, ap}
+use Rattle.std.proofs.Common.{◌≤◌, ap, arith}
 use Rattle.humantime.specs.Timestamps.Printed.{MomentToPrint}
 use Rattle.humantime.proofs.Timestamps.Printing.Printed.{shown_printed}
 use Rattle.humantime.proofs.date.print.Rfc3339Timestamp.write.Goals as goal
