@@ -4,9 +4,8 @@ use base.Logic.{ent, ex_i}
 use types.Logic.{Logic, sem}
 use mathlib.Core.Option.{none}
 use denote.Follow.{such_by, follows_by}
-use Rattle.std.proofs.lemmas.Grind.{common_steps}
 use Rattle.std.proofs.Common.{arith, ◌≡◌, ℕ, List, Bor, MutBor}
-use Rattle.std.specs.Prelude.{Option, IsSome, IfSome, IfNone, option_map, ◌↔◌, ⊤, Result, Ok, Err, IfOk, IfErr, OnErr}
+use Rattle.std.specs.Prelude.{⊤, Result, Ok, Err, IfOk, IfErr, OnErr}
 use Rattle.std.specs.Borrow.{Array, u8}
 use Rattle.humantime.specs.Buffers.{Holds}
 use Rattle.humantime.specs.declared.duration.error.DurationError.{DurationError}
@@ -23,20 +22,7 @@ holds {𝓤 = 𝓤} 𝓛 n buf last P p =
     ex_i 𝓤 (λ (s : (s : (Row.Denot → Row.Denot) × Row.Denot) × ((w : Row.Denot) → ⊤) × P s.1). sem 𝓛 (follows_by Row.Denot Row.Denot Row.coded.code Row.coded.code buf.ghost_name none s.0.0 s.0.1))
     (((λ _. last), last), (λ _. tt), p)
 
--- If `t` is `f` of the option `m`, it is `Some` exactly if `m` is, and has the properties of `f` of its value.
-pub some_shown : (t : Option (Bor (List ℕ))) (m : Option ℕ) (f : ℕ → List ℕ) (P : Type 0)
-    → option_map (λ x. x.now) t ≡ option_map f m → (IsSome m ↔ P) → IsSome t ↔ P
-some_shown t m f P e p = grind (arith, common_steps)
-
-pub text_shown : (t : Option (Bor (List ℕ))) (m : Option ℕ) (f : ℕ → List ℕ) (Q : List ℕ → Type 0)
-    → option_map (λ x. x.now) t ≡ option_map f m → IfSome m (λ n. Q (f n)) → IfSome t (λ x. Q x.now)
-text_shown t m f Q e p = grind arith
-
-pub none_shown : (t : Option (Bor (List ℕ))) (m : Option ℕ) (f : ℕ → List ℕ) (P : Type 0)
-    → option_map (λ x. x.now) t ≡ option_map f m → IfNone m P → IfNone t P
-none_shown t m f P e p = grind arith
-
--- The same for a result whose error is passed on unchanged.
+-- A result that is `f` of a value, or passes an error on unchanged, keeps the properties of both.
 pub answer_shown : (t : Result (Bor (List ℕ)) DurationError) (m : Result ℕ DurationError) (f : ℕ → List ℕ) (answer : Result (List ℕ) Fault)
     → IfOk m (λ n. text_result_view t ≡ Ok (f n)) → IfErr m (λ e. t ≡ Err e) → result_map_both f fault_of m ≡ answer → text_result_view t ≡ answer
 answer_shown t m f answer p q e = grind arith

@@ -1,14 +1,13 @@
 -- A moment and its parts, and the order of moments.
 use Rattle.std.proofs.Common.{◌≡◌, ℕ, ◌<◌, arith, rules}
-use Rattle.std.specs.Prelude.{ℤ, pos, negsuc}
+use Rattle.std.specs.Prelude.{ℤ}
 use Rattle.std.specs.Ordering.{nat_cmp, int_cmp, ordering_then}
 use Rattle.std.proofs.lemmas.Int.{ints}
 use Rattle.humantime.specs.Values.{moment, second_of, nano_of}
 
 -- A moment is the sum of its parts.
 pub parts_of_moment : (z : ℤ) → moment (second_of z) (nano_of z) ≡ z
-parts_of_moment (pos n) = omega (arith, ints)
-parts_of_moment (negsuc n) = omega (arith, ints)
+parts_of_moment z = grind (arith, ints)
 
 -- Moments are ordered by their seconds, and within a second by their nanoseconds.
 pub int_cmp_moment : (s t : ℤ) (m n : ℕ) → m < 1_000_000_000 → n < 1_000_000_000

@@ -67,7 +67,7 @@ abbrev pub spans_of_walk : Walk → List SpelledSpan × Option Fault
 spans_of_walk w = (map span_of w.starts, w.stop)
 
 -- The spans of a text, and the error that stops them, if any.
-unfoldable pub items : List ℕ → List SpelledSpan × Option Fault
+abbrev pub items : List ℕ → List SpelledSpan × Option Fault
 items text = spans_of_walk (walk_of text)
 
 -- The sum of `t` and these additions, or `None` if one of them overflows.

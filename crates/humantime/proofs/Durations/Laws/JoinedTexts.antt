@@ -1,5 +1,5 @@
 -- Joined texts.
-use Rattle.std.proofs.Common.{◌≡◌, ◌≢◌, ◌↔◌, ◌⊎◌, ℕ, ◌+◌, true, List, [], ◌∷◌, ◌++◌, None, refl, ◌∙◌, inl, inr, append_assoc, append-nil}
+use Rattle.std.proofs.Common.{arith, ◌≡◌, ◌≢◌, ◌↔◌, ◌⊎◌, ℕ, ◌+◌, true, List, [], ◌∷◌, ◌++◌, None, refl, inl, inr, append_assoc, append-nil}
 use Rattle.std.specs.List.{AllByRecursion}
 use Rattle.humantime.specs.Durations.Characters.{is_whitespace, bare_zero}
 use Rattle.humantime.specs.Durations.Spans.{SpelledSpan, Only, SpellsEach, SpellsAll, Reads}
@@ -15,10 +15,7 @@ use Rattle.humantime.proofs.Durations.Laws.Readings.{accepted_spans, no_value_an
 
 -- Whitespace after a span belongs to it.
 spells_each-whitespace : (body whitespace : List ℕ) (s : SpelledSpan) (ss : List SpelledSpan) → SpellsEach body (s ∷ ss) → Only is_whitespace whitespace → SpellsEach (body ++ whitespace) (s ∷ ss)
-spells_each-whitespace body whitespace s [] h only =
-    let here = respelled body h.0 (body ++ whitespace) [] (h.1.whitespace ++ whitespace) s h.1 (rw (h.1.whole, h.2) (simp (append_assoc, append-nil)))
-    (each-append _ h.1.whitespace whitespace h.1.only_whitespace only) in
-    ([], here, refl)
+spells_each-whitespace body whitespace s [] h only = ([], grind (arith, (respelled body h.0 (body ++ whitespace) [] (h.1.whitespace ++ whitespace) s h.1), append_assoc, append-nil, each-append), refl)
 spells_each-whitespace body whitespace s (t ∷ ts) h only = (h.0 ++ whitespace, spells-append body h.0 whitespace s h.1, spells_each-whitespace h.0 whitespace t ts h.2 only)
 
 -- Spans followed by spans.
@@ -40,21 +37,6 @@ pub record AreSpans (text : List ℕ) (spans : List SpelledSpan) (v : ℕ) : Typ
   pub fit : AllByRecursion (λ s. fits s ≡ true) spans
   pub sum : value spans ≡ v
 
-pub are_spans : (text : List ℕ) (spans : List SpelledSpan) (v : ℕ) → AcceptedAs text spans v → AreSpans text spans v
-are_spans text spans v h =
-    let a = accepted_spans text spans v h.0 h.1 in
-    record { front = h.0.0; formed = a.0.formed; fit = a.0.fit; sum = a.1 }
-
-pub spans-append : (a b : List ℕ) (ss ts : List SpelledSpan) (u v : ℕ) → AcceptedAs a ss u → AreSpans b ts v → AreSpans (a ++ b) (ss ++ ts) (u + v)
-spans-append a b ss ts u v h k =
-    let x = are_spans a ss u h in
-    record {
-      front = front-append a b ss ts h.0 k.front;
-      formed = each-append Formed ss ts x.formed k.formed;
-      fit = each-append (λ s. fits s ≡ true) ss ts x.fit k.fit;
-      sum = value-append ss ts ∙ (λ i. x.sum i + k.sum i);
-    }
-
 -- Such a text is accepted exactly if no addition overflows.
 pub room_accepts : (text : List ℕ) (spans : List SpelledSpan) (v : ℕ) → spans ≢ [] → AreSpans text spans v → Accepted text v ↔ AllHaveRoom (additions spans)
 room_accepts text spans v some h = (
@@ -72,7 +54,7 @@ no_room_overflows text spans v some h =
     )
 
 both_spans : (a b : List ℕ) (ss ts : List SpelledSpan) (u v : ℕ) → AcceptedAs a ss u → AcceptedAs b ts v → AreSpans (a ++ b) (ss ++ ts) (u + v)
-both_spans a b ss ts u v h k = spans-append a b ss ts u v h (are_spans b ts v k)
+both_spans a b ss ts u v h k = grind (arith, (accepted_spans a ss u h.0 h.1), (accepted_spans b ts v k.0 k.1), front-append, each-append, value-append)
 
 pub joined_sum : (a b : List ℕ) (ss ts : List SpelledSpan) (u v : ℕ) → AcceptedAs a ss u → AcceptedAs b ts v
     → Accepted (a ++ b) (u + v) ↔ AllHaveRoom (additions ss ++ additions ts)

@@ -1,5 +1,5 @@
 -- Accepted texts and their spans.
-use Rattle.std.proofs.Common.{arith, ◌≡◌, ℕ, List, [], ◌∷◌, refl, sym, ◌∙◌, sum_by, IsPermutation}
+use Rattle.std.proofs.Common.{arith, ◌≡◌, ℕ, List, [], ◌∷◌, refl, sum_by, IsPermutation}
 use Rattle.std.proofs.lemmas.Grind.{common_steps}
 use Rattle.std.proofs.lemmas.List.Sorted.{sum_by-IsPermutation}
 use Rattle.humantime.specs.Durations.Spans.{SpelledSpan, Reads}
@@ -28,10 +28,6 @@ value-sum : (spans : List SpelledSpan) → value spans ≡ sum_by (λ s. total (
 value-sum [] = refl
 value-sum (s ∷ ss) = grind (arith, common_steps, (value-cons s ss), (value-sum ss))
 
-pub value-permutation : (ss ts : List SpelledSpan) → IsPermutation ss ts → value ss ≡ value ts
-value-permutation ss ts h = value-sum ss ∙ sym (sum_by-IsPermutation _ ss ts h) ∙ sym (value-sum ts)
-
 pub reordered_value : (a b : List ℕ) (ss ts : List SpelledSpan) (u v : ℕ) → Reads a ss → Reads b ts → IsPermutation ss ts
     → Accepted a u → Accepted b v → u ≡ v
-reordered_value a b ss ts u v h k moved x y =
-    sym (accepted_spans a ss u h x).1 ∙ value-permutation ss ts moved ∙ (accepted_spans b ts v k y).1
+reordered_value a b ss ts u v h k moved x y = grind (arith, (accepted_spans a ss u h x), (accepted_spans b ts v k y), value-sum, (sum_by-IsPermutation (λ s. total (additions_of s)) ss ts moved))

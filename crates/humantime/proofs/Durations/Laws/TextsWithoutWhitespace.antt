@@ -1,9 +1,8 @@
 -- A text without its whitespace represents the same spans.
 use Rattle.std.proofs.lemmas.Grind.{common_steps}
-use Rattle.std.proofs.Common.{◌≡◌, ℕ, Bool, true, false, List, [], ◌∷◌, refl, ap, ◌∙◌, arith, rules}
+use Rattle.std.proofs.Common.{◌≡◌, ℕ, Bool, List, [], ◌∷◌, refl, ap, ◌∙◌, arith, rules}
 use Rattle.std.proofs.lemmas.Bool.{cases_Bool, or_parts}
-use Rattle.humantime.specs.Texts.{begins}
-use Rattle.humantime.specs.Durations.Characters.{is_whitespace, is_digit, is_letter, digits, bare_zero}
+use Rattle.humantime.specs.Durations.Characters.{is_whitespace, is_letter, digits, bare_zero}
 use Rattle.humantime.specs.Durations.Spans.{SpelledSpan, Only, Spells, SpellsEach, Reads}
 use Rattle.humantime.specs.Durations.Accepted.{Accepted, Bare_zero, Sum_of}
 use Rattle.humantime.specs.Laws.Texts.{without_whitespace}
@@ -27,14 +26,8 @@ same_digits : (cs : List ℕ) → digits (without_whitespace cs) ≡ digits cs
 same_digits [] = refl
 same_digits (c ∷ cs) = grind (arith, (same_digits cs), (cases_Bool (is_whitespace c)), (whitespace_not_digit c))
 
-still_begins : (cs : List ℕ) → begins is_digit cs ≡ true → begins is_digit (without_whitespace cs) ≡ true
-still_begins cs h = grind (arith, digit_not_whitespace)
-
-point_stays : is_whitespace 46 ≡ false
-point_stays = (or_parts (is_digit 46) (is_whitespace 46) (point_not_numeric 46 is_point-46)).1
-
 spells_span : (text rest : List ℕ) (span : SpelledSpan) → Spells text span rest → Spells (without_whitespace text) span (without_whitespace rest)
-spells_span text rest span h = grind (arith, common_steps, only_letters, only_whitespace, still_begins, still_only, same_digits, point_stays)
+spells_span text rest span h = grind (arith, common_steps, only_letters, only_whitespace, still_only, same_digits, digit_not_whitespace, or_parts, point_not_numeric, is_point-46)
 
 spells_each : (body : List ℕ) (spans : List SpelledSpan) → SpellsEach body spans → SpellsEach (without_whitespace body) spans
 spells_each body [] h = ap without_whitespace h

@@ -1,5 +1,6 @@
 -- The counts that division computes are the greatest, and only these.
-use Rattle.std.proofs.Common.{◌≡◌, ◌⊎◌, ℕ, suc, ◌+◌, ◌*◌, ◌/◌, ◌%◌, ◌<◌, List, [], ◌∷◌, length, refl, ap, sym, ◌∙◌, arith, rules, nat_cmp, IsTrue}
+use Rattle.std.proofs.lemmas.Grind.{common_steps}
+use Rattle.std.proofs.Common.{◌≡◌, ◌⊎◌, ℕ, suc, ◌+◌, ◌*◌, ◌/◌, ◌%◌, ◌<◌, List, [], ◌∷◌, length, refl, ap, sym, ◌∙◌, arith, nat_cmp, IsTrue}
 use Rattle.std.proofs.Math.Nat.{mul_comm, div-add-mod}
 use Rattle.std.proofs.lemmas.Nat.{le-div, mod_below}
 use Rattle.std.proofs.lemmas.Bool.{cases_lt}
@@ -37,11 +38,7 @@ divided_last (w ∷ ws) m d r (c ∷ cs) l e =
 divided_last _ m d r _ l e = absurd (omega (arith, l))
 
 divided_greatest : (d : ℕ) → AreCounts d (divided weights d)
-divided_greatest d = record {
-  as_many = length-divided weights d;
-  sum = divided_sum weights (suc d) d (search rules) (omega arith);
-  greatest = divided_last weights (suc d) d (search rules);
-}
+divided_greatest d = grind (arith, common_steps, length-divided, divided_sum, divided_last)
 
 -- No other counts are the greatest.
 pub counts_divided : (d : ℕ) (counts : List ℕ) → AreCounts d counts → counts ≡ divided weights d

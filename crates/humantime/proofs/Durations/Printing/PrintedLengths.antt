@@ -1,5 +1,5 @@
 -- Bounds for the length of a printed text and for its counts.
-use Rattle.std.proofs.Common.{◌≡◌, ℕ, ◌+◌, ◌*◌, ◌/◌, ◌%◌, ◌^◌, ◌<◌, ◌≤◌, cond, List, [], ◌∷◌, length, ap, arith}
+use Rattle.std.proofs.Common.{◌≡◌, ℕ, ◌+◌, ◌*◌, ◌/◌, ◌%◌, ◌^◌, ◌<◌, ◌≤◌, cond, List, [], ◌∷◌, length, arith}
 use Rattle.std.specs.Prelude.{map, nat_lt, slice_index, ⊤}
 use Rattle.std.specs.List.{filter, join_with_byte}
 use Rattle.std.proofs.lemmas.Nat.{div_below, mod_below}
@@ -56,9 +56,7 @@ joined_length ps h = grind (arith, join_length)
 pub canon_length : (d : ℕ) → d / nanos_per_second ≤ u64_max → (text : List ℕ) → IsCanonicalText d text → length text ≤ 64
 unfolding duration_text
 canon_length d h text canon =
-    let all = counts_length units sizes most d (grind arith) (omega arith) in
-    let short = joined_length (printed_counts (divided weights d) suffixes) (omega arith) in
-    omega (arith, ap length (canon_is_text d text canon))
+    grind (arith, (counts_length units sizes most d (grind arith)), (canon_is_text d text canon), (joined_length (printed_counts (divided weights d) suffixes)))
 
 pub counts_small : (d : ℕ) (counts : List ℕ) → AreCounts d counts → (slice_index counts 1 ≤ 11) × (slice_index counts 2 ≤ 30)
 counts_small d counts greatest =

@@ -77,8 +77,7 @@ three a b c h = grind arith
 
 pub table_row : (u : ℕ × Suffix) (us : List (ℕ × Suffix)) (m : ℕ) (many : Bool) → is_table (u ∷ us) m ≡ true
     → IsWord u.0 m (word_of u.1 many) × (is_table us u.0 ≡ true)
-table_row u us m many h =
-    grind (arith, is_word-true, (three (is_word u.0 m (word_of u.1 true)) (is_word u.0 m (word_of u.1 false)) (is_table us u.0) h))
+table_row u us m many h = grind (arith, is_word-true, three)
 
 -- The upper bound of durations.
 abbrev pub most : ℕ

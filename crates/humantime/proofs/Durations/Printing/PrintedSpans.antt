@@ -1,6 +1,6 @@
 -- A printed text is spans within all limits, whose sum is the duration.
 use Rattle.std.proofs.lemmas.Grind.{common_steps}
-use Rattle.std.proofs.Common.{true, ◌≡◌, ℕ, ◌+◌, ◌*◌, ◌/◌, ◌%◌, ◌^◌, ◌<◌, ◌≤◌, false, List, [], ◌∷◌, ◌++◌, refl, ap, subst, ◌∙◌, arith, rules}
+use Rattle.std.proofs.Common.{sym, true, ◌≡◌, ℕ, ◌+◌, ◌*◌, ◌/◌, ◌%◌, ◌^◌, ◌<◌, ◌≤◌, false, List, [], ◌∷◌, ◌++◌, refl, subst, ◌∙◌, arith, rules}
 use Rattle.std.specs.Prelude.{IsAscii, codes, decimal, map, nat_lt}
 use Rattle.std.specs.Str.{IsUtf8, is_utf8, chars}
 use Rattle.std.specs.List.{AllByRecursion, filter, join_with_byte}
@@ -13,7 +13,7 @@ use Rattle.std.proofs.lemmas.Str.{chars-append, chars-IsAscii, chars-nil, IsUtf8
 use Rattle.std.proofs.lemmas.Fmt.{IsAscii-decimal, decimal_digit}
 use Rattle.humantime.specs.Values.{nanos_per_second}
 use Rattle.humantime.specs.Durations.Characters.{whitespace_chars, is_letter, is_whitespace, u64_max}
-use Rattle.humantime.specs.Durations.Units.{Addition, Nanos, Seconds, scale_of_word}
+use Rattle.humantime.specs.Durations.Units.{Addition, scale_of_word}
 use Rattle.humantime.specs.Durations.Spans.{SpelledSpan, Only, Spells, SpellsEach, Reads}
 use Rattle.humantime.specs.Durations.Accepted.{addition_nanos, size, times, total, additions_of, additions, value, Formed, fits, Accepted, Sum_of}
 use Rattle.humantime.specs.Durations.Counts.{Suffix, printed_count, joined_by_space, IsCanonicalText}
@@ -34,19 +34,13 @@ pub record IsRow (n : ℕ) (s : Suffix) : Type 0 where
   pub fits : fits (span_for n s) ≡ true
   pub small : AllByRecursion IsSmall (additions_of (span_for n s))
 
-mul_positive : (n k : ℕ) → 0 < k → n ≤ n * k
-mul_positive n k h = grind arith
-
 -- What a count adds, if the remainder is less than `m` and is a duration.
 few : (m n : ℕ) (x : Addition) → 0 < size x → is_of_kind m x ≡ true → addition_nanos x * n < m → addition_nanos x * n < most
     → (n < 2 ^ 64) × (n * size x ≤ u64_max) × IsSmall (times n x) × (addition_nanos (times n x) ≡ addition_nanos x * n)
-few m n (Nanos k) some kind below whole = grind (arith, nat_tests, (mul_comm n k), (mul_positive n k some))
-few m n (Seconds k) some kind below whole = grind (arith, (mul_positive n k some), mul_comm, mul_assoc)
+few m n x some kind below whole = grind (arith, nat_tests, mul_comm, mul_assoc)
 
 count_chars : (n : ℕ) (s : Suffix) → n < 2 ^ 64 → chars (printed_count n s) ≡ decimal n ++ chars (word_for n s)
-count_chars n s h =
-    let ascii = IsAscii-decimal n h in
-    rw append_assoc (chars-append (decimal n) (word_for n s) (IsUtf8-from_ascii (decimal n) ascii) ∙ ap (λ (l : List ℕ). l ++ chars (word_for n s)) (chars-IsAscii (decimal n) ascii))
+count_chars n s h = grind (arith, common_steps, IsAscii-decimal, append_assoc, chars-append, IsUtf8-from_ascii, chars-IsAscii)
 
 row : (w m n : ℕ) (s : Suffix) → IsWord w m (word_for n s) → w * n < m → w * n < most → IsRow n s × (total (additions_of (span_for n s)) ≡ w * n)
 row w m n s i below whole =
@@ -83,12 +77,7 @@ rows_cons w q r d s cs e row rest = grind (arith, nat_tests, value-cons)
 rows : (us : List (ℕ × Suffix)) (m d : ℕ) → is_table us m ≡ true → d < m → d < most → AreRows d (counted us d)
 rows [] m d h below whole = (tt, grind (arith, nat_tests))
 rows (u ∷ us) m d h below whole =
-    let q = d / u.0 in
-    let here = table_row u us m (nat_lt 1 q) h in
-    let positive : 0 < u.0 = grind (arith, here.0.weight, here.0.some) in
-    rows_cons u.0 q (d % u.0) d u.1 (counted us (d % u.0)) (omega arith)
-    (row u.0 m q u.1 here.0 (omega arith) (omega arith))
-    (rows us u.0 (d % u.0) here.1 (mod_below d u.0 positive) (omega arith))
+    grind (arith, (table_row u us m (nat_lt 1 (d / u.0)) h), (rows_cons u.0 (d / u.0) (d % u.0) d u.1 (counted us (d % u.0))), (row u.0 m (d / u.0) u.1), (mod_below d u.0), (rows us u.0 (d % u.0)))
 
 -- ---- the text of these spans
 
@@ -120,45 +109,33 @@ rows_within : (rows : List (ℕ × Suffix)) → AllRows rows → AreWithin (span
 rows_within [] h = record { formed = tt; fit = tt; small = tt }
 rows_within (c ∷ rows) h = grind (arith, (rows_within rows h.1), each-append)
 
--- The bytes are such spans, whose sum is `d`.
-pub record IsPrinted (bytes : List ℕ) (d : ℕ) : Type 0 where
-  pub spans : List SpelledSpan
-  pub reads : Reads (chars bytes) spans
-  pub within : AreWithin spans
-  pub sum : value spans ≡ d
-
-rows_printed : (c : ℕ × Suffix) (rows : List (ℕ × Suffix)) (d : ℕ) → AllRows (c ∷ rows) → value (spans_of (c ∷ rows)) ≡ d
-    → IsPrinted (rows_text (c ∷ rows)) d
-rows_printed c rows d h sum = record {
-  spans = spans_of (c ∷ rows);
-  reads = (record { whitespace = []; body = _; whole = refl; only_whitespace = tt; each = rows_spell (c ∷ rows) h }, λ e. cc);
-  within = rows_within (c ∷ rows) h;
-  sum = sum;
-}
+-- The text of rows whose sum is a duration is accepted with that duration.
+rows_accepted : (c : ℕ × Suffix) (rows : List (ℕ × Suffix)) (d : ℕ) → AllRows (c ∷ rows) → value (spans_of (c ∷ rows)) ≡ d → d / nanos_per_second ≤ u64_max
+    → Accepted (chars (rows_text (c ∷ rows))) d
+rows_accepted c rows d h sum short =
+    let within = rows_within (c ∷ rows) h in
+    let room = small_have_room (additions (spans_of (c ∷ rows))) within.small (rw sum short) in
+    let reads : Reads (chars (rows_text (c ∷ rows))) (spans_of (c ∷ rows)) =
+    (record { whitespace = []; body = _; whole = refl; only_whitespace = tt; each = rows_spell (c ∷ rows) h }, λ e. cc) in
+    Sum_of (spans_of (c ∷ rows)) reads (record { formed = within.formed; fit = within.fit; room = room }) sum
 
 -- If all counts are zero, the text is that of zero seconds.
-zero_printed : IsPrinted (codes "0s") 0
+zero_accepted : Accepted (chars (codes "0s")) 0
 unfolding is_letter scale_of_word is_utf8 chars encode
-zero_printed =
+zero_accepted =
     let s : Suffix = (codes "s", false) in
     let second = row nanos_per_second most 0 s (is_word-true nanos_per_second most (codes "s") refl) (omega arith) (omega arith) in
     let zero : codes "0s" ≡ printed_count 0 s = rw (decimal_digit 0 (omega arith)) refl in
-    rw zero (rows_printed (0, s) [] 0 (second.0, tt) (value-cons (span_for 0 s) [] ∙ omega (arith, second.1)))
+    subst (λ (l : List ℕ). Accepted (chars l) 0) (sym zero) (rows_accepted (0, s) [] 0 (second.0, tt) (value-cons (span_for 0 s) [] ∙ omega (arith, second.1)) (omega arith))
 
-all_printed : (rows : List (ℕ × Suffix)) (d : ℕ) → AllRows rows → value (spans_of rows) ≡ d
-    → IsPrinted (joined_by_space (map (λ c. printed_count c.0 c.1) rows)) d
-all_printed [] d h sum = subst (IsPrinted (codes "0s")) sum zero_printed
-all_printed (c ∷ rows) d h sum = rows_printed c rows d h sum
+all_accepted : (rows : List (ℕ × Suffix)) (d : ℕ) → AllRows rows → value (spans_of rows) ≡ d → d / nanos_per_second ≤ u64_max
+    → Accepted (chars (joined_by_space (map (λ c. printed_count c.0 c.1) rows))) d
+all_accepted [] d h sum short = subst (Accepted (chars (codes "0s"))) sum zero_accepted
+all_accepted (c ∷ rows) d h sum short = rows_accepted c rows d h sum short
 
 -- The canonical text of a duration is accepted with its value.
-pub canon_printed : (d : ℕ) → d / nanos_per_second ≤ u64_max → (text : List ℕ) → IsCanonicalText d text → IsPrinted text d
-unfolding duration_text
-canon_printed d h text canon =
-    let all = rows units most d table (omega arith) (omega arith) in
-    rw (canon_is_text d text canon) (all_printed (shown (counted units d)) d all.0 all.1)
-
 pub canon_reads : (d : ℕ) → d / nanos_per_second ≤ u64_max → (text : List ℕ) → IsCanonicalText d text → Accepted (chars text) d
+unfolding duration_text
 canon_reads d h text canon =
-    let is = canon_printed d h text canon in
-    let room = small_have_room (additions is.spans) is.within.small (rw is.sum h) in
-    Sum_of is.spans is.reads (record { formed = is.within.formed; fit = is.within.fit; room = room }) is.sum
+    let all = rows units most d table (omega arith) (omega arith) in
+    rw (canon_is_text d text canon) (all_accepted (shown (counted units d)) d all.0 all.1 h)

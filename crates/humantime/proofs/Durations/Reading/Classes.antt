@@ -60,10 +60,6 @@ pub is_point-46 : is_point 46 ≡ true
 unfolding is_point
 is_point-46 = refl
 
-pub is_point-true : (c : ℕ) → is_point c ≡ true → c ≡ 46
-unfolding is_point
-is_point-true c e = grind (arith, nat_tests)
-
 -- ---- by bytes
 
 -- Digits are ASCII.

@@ -1,6 +1,6 @@
 -- The results of the walk over a text: its items, and an overflow of its sum.
 use Rattle.std.proofs.lemmas.Grind.{common_steps}
-use Rattle.std.proofs.Common.{◌≡◌, ◌≢◌, ◌⊎◌, ℕ, Bool, true, false, List, [], ◌∷◌, ◌++◌, map, length, Option, Some, None, if◌then◌else◌, refl, ap, inl, inr, arith, subst, append_assoc, append-nil}
+use Rattle.std.proofs.Common.{◌≡◌, ◌≢◌, ◌⊎◌, ℕ, Bool, true, false, List, [], ◌∷◌, ◌++◌, map, Option, Some, None, if◌then◌else◌, refl, inl, inr, arith, subst, append_assoc, append-nil}
 use Rattle.std.specs.List.{AllByRecursion}
 use Rattle.humantime.specs.Texts.{begins, drop_while, take_while, ends}
 use Rattle.humantime.specs.Durations.Characters.{is_whitespace, is_digit, bare_zero}
@@ -12,10 +12,10 @@ use Rattle.humantime.specs.Durations.Items.{Items, Ends}
 use Rattle.humantime.proofs.Durations.Reading.Runs.{ends-append, take_while-drop_while, Only-take_while, begins-drop_while}
 use Rattle.humantime.proofs.Durations.Reading.Spelled.{next_of}
 use Rattle.humantime.proofs.Durations.Reading.Spellings.{each-append, spells_each-append}
-use Rattle.humantime.proofs.Durations.Reading.Summed.{WithinLimits_from, within_or_beyond}
+use Rattle.humantime.proofs.Durations.Reading.Summed.{within_tells, within_or_beyond}
 use Rattle.humantime.proofs.Durations.Reading.SpanWalks.{Steps, by_walk}
 use Rattle.humantime.proofs.Durations.Reading.Stopping.{is_fine, wrong_stops}
-use Rattle.humantime.proofs.Durations.Reading.Written.{written_here, formed_here, spelling_some}
+use Rattle.humantime.proofs.Durations.Reading.Written.{written_here, formed_here}
 
 -- No span precedes, or some do.
 abbrev pub IsFirst : Bool → List SpelledSpan → Type 0
@@ -37,10 +37,7 @@ read_on : (text front rest : List ℕ) (first : Bool) (spans : List SpelledSpan)
     → (here : List ℕ) × IsReadTo text false (front ++ here) (spans ++ span_of rest ∷ []) (next_of rest)
 read_on text front rest first spans r f =
     let w = written_here rest f in
-    let spelled = front_push front w.0 spans (span_of rest) r.split.spelled w.1.spells in
-    let some_text : w.0 ≢ [] = λ n. omega (arith, ap length n, spelling_some w.0 [] (span_of rest) w.1.spells) in
-    let formed = each-append Formed spans (span_of rest ∷ []) r.formed (formed_here rest f, tt) in
-    (w.0, (grind (arith, common_steps, (r.split.whole), (w.1), (spelled), (formed), begins-drop_while, (ends-append is_whitespace front w.0 some_text))))
+    grind (arith, common_steps, w, (front_push front w.0 spans (span_of rest) r.split.spelled w.1.spells), (each-append Formed spans (span_of rest ∷ []) r.formed (formed_here rest f, tt)), begins-drop_while, ends-append)
 
 -- The leading whitespace of a text is skipped, and no span is parsed yet.
 begun : (text : List ℕ) → IsReadTo text true (take_while is_whitespace text) [] (drop_while is_whitespace text)
@@ -73,7 +70,6 @@ pub items_found_at : (text : List ℕ) → ItemsAfter text [] (walk_of text)
 items_found_at text = by_walk text (Found text) (found text) true (drop_while is_whitespace text) (take_while is_whitespace text) [] (begun text)
 
 pub items_found : (text : List ℕ) → Items text (items text).0 (items text).1
-unfolding items
 items_found text = (items_found_at text).0
 
 -- These spans are within the limits, but not together with those of a walk.
@@ -95,7 +91,6 @@ too_large text some = record {
 
 -- If the spans of a text break a limit, its fault is an overflow.
 pub too_large_found : (text : List ℕ) → text ≢ bare_zero → ¬ (WithinLimits (items text).0) → HasFault text NumberOverflow
-unfolding items
 too_large_found text not_zero bad =
     by_walk text (IsTooLarge text) (too_large text not_zero) true (drop_while is_whitespace text) (take_while is_whitespace text) [] (begun text)
-    (WithinLimits_from [] tt tt) bad
+    ((within_tells [] tt).0 refl) bad

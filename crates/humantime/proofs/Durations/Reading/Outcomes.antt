@@ -17,14 +17,14 @@ use Rattle.humantime.specs.Answers.Walks.{walk_from, items, sum_spans}
 use Rattle.humantime.specs.declared.duration.error.DurationError.{DurationError}
 use Rattle.humantime.specs.Durations.Errors.{result_view, PointsInto}
 use Rattle.humantime.specs.Answers.Durations.{IsDurationAnswer, duration_answer}
-use Rattle.humantime.proofs.Durations.Reading.Summed.{sum_spans_within, too_large, summed_value, summed_fault, WithinLimits_from, from_WithinLimits, WithinLimitsFrom-front}
+use Rattle.humantime.proofs.Durations.Reading.Summed.{sum_spans_within, too_large, summed_value, summed_fault, within_front}
 use Rattle.humantime.proofs.Durations.Reading.Spelled.{next_of}
 use Rattle.humantime.proofs.Durations.Reading.Stopping.{fine_goes}
 use Rattle.humantime.proofs.Durations.Reading.Written.{formed_here}
 use Rattle.humantime.proofs.Durations.Reading.SpanWalks.{walk-right}
 use Rattle.humantime.proofs.Durations.Reading.Found.{too_large_found}
 use Rattle.humantime.proofs.Durations.Reading.Spellings.{each-append}
-use Rattle.humantime.proofs.Durations.Reading.Walked.{first_after, followed_by, front_walked, closes_digit}
+use Rattle.humantime.proofs.Durations.Reading.Walked.{first_after, front_walked, closes_digit}
 use Rattle.humantime.proofs.Durations.Reading.OneReading.{split_whole, not_zero}
 pub use Rattle.humantime.proofs.Durations.Reading.Found.{items_found}
 pub use Rattle.humantime.proofs.Durations.Reading.Walked.{items_walked}
@@ -53,27 +53,29 @@ items_whole text spans h f = record { front = text; rest = []; split = split_who
 pub outcome_accepted : (text : List ℕ) (v : ℕ) → Accepted text v → duration_answer text ≡ Ok v
 unfolding sum_spans
 outcome_accepted text v (Bare_zero zero none) = rw (zero, none) duration_answer-zero
-outcome_accepted text v (Sum_of spans reads within sum) =
-    outcome_summed text spans None (not_zero text spans reads) (items_whole text spans reads within.formed) ∙ sum_spans_within spans None within ∙ ap (λ (n : ℕ). Ok n) sum
+outcome_accepted text v (Sum_of spans reads within sum) = grind (arith, (outcome_summed text spans None (not_zero text spans reads) (items_whole text spans reads within.formed)), (sum_spans_within spans None within), sum)
 
 stop_outcome : (text : List ℕ) (e : Fault) (h : HasFault text e) → Stops text h.front h.spans h.rest e → duration_answer text ≡ Err e
 unfolding sum_spans
-stop_outcome text e h s =
-    outcome_summed text h.spans (Some e) h.not_zero (record { front = h.front; rest = h.rest; split = h.split; formed = h.within.formed; ends = s })
-    ∙ sum_spans_within h.spans (Some e) h.within
+stop_outcome text e h s = grind (arith, (outcome_summed text h.spans (Some e) h.not_zero), (sum_spans_within h.spans (Some e) h.within))
 
 -- If the span at the start of the rest breaks a limit, so do the items of the text.
 over_outcome : (text : List ℕ) (e : Fault) (h : HasFault text e) → BreaksLimit h.spans h.rest e → duration_answer text ≡ Err e
 over_outcome text e h b =
-    let f = b.span in
-    let right = fine_goes text h.rest f in
     let more = walk_from false text (next_of h.rest) in
-    let walk : items text ≡ (h.spans ++ span_of h.rest ∷ map span_of more.starts, more.stop) =
-    front_walked text h.front h.rest h.spans h.split h.within.formed (inr (closes_digit h.front h.rest f.number.digit))
-    ∙ ap (followed_by h.spans) (walk-right (first_after true h.spans) text h.rest right) in
-    let formed = each-append Formed h.spans (span_of h.rest ∷ []) h.within.formed (formed_here h.rest f, tt) in
-    rw b.fault (duration_answer-items text h.not_zero ∙ rw walk (too_large _ more.stop (rw walk at (items_found text).formed) (λ g. b.beyond (WithinLimits_from _ formed
-    (WithinLimitsFrom-front 0 _ (map span_of more.starts) (rw append_assoc (from_WithinLimits _ g)))))))
+    let walk = front_walked text h.front h.rest h.spans h.split h.within.formed (inr (closes_digit h.front h.rest b.span.number.digit)) in
+    grind (
+      arith,
+      (walk-right (first_after true h.spans) text h.rest (fine_goes text h.rest b.span)),
+      walk,
+      (duration_answer-items text h.not_zero),
+      (too_large (h.spans ++ span_of h.rest ∷ map span_of more.starts) more.stop),
+      (items_found text).formed,
+      (append_assoc h.spans (span_of h.rest ∷ []) (map span_of more.starts)),
+      (within_front (h.spans ++ span_of h.rest ∷ []) (map span_of more.starts)),
+      (each-append Formed h.spans (span_of h.rest ∷ [])),
+      (formed_here h.rest b.span),
+    )
 
 pub outcome_fault : (text : List ℕ) (e : Fault) → HasFault text e → duration_answer text ≡ Err e
 outcome_fault text e h = grind (arith, (stop_outcome text e h), (over_outcome text e h))

@@ -68,7 +68,3 @@ ends-append p [] ys some = refl
 ends-append p (x ∷ []) [] some = absurd (some refl)
 ends-append p (x ∷ []) (y ∷ ys) some = refl
 ends-append p (x ∷ z ∷ xs) ys some = ends-append p (z ∷ xs) ys some
-
-pub append_not_nil : (xs ys : List ℕ) → ys ≢ [] → xs ++ ys ≢ []
-append_not_nil [] ys some e = some e
-append_not_nil (x ∷ xs) ys some e = cc

@@ -1,5 +1,5 @@
 -- The digits of a fraction without its trailing zeros.
-use Rattle.std.proofs.Common.{◌≡◌, ◌≤◌, ◌<◌, ◌+◌, ◌*◌, ◌/◌, ◌%◌, ◌^◌, ℕ, Bool, true, false, List, [], ◌∷◌, ◌++◌, length, refl, sym, ap, ap₂, ◌∙◌, arith, length-append, append_assoc, reverse}
+use Rattle.std.proofs.Common.{◌≡◌, ◌≤◌, ◌<◌, ◌+◌, ◌*◌, ◌/◌, ◌%◌, ◌^◌, ℕ, Bool, true, false, List, [], ◌∷◌, ◌++◌, length, refl, sym, ap, ◌∙◌, arith, length-append, append_assoc, reverse}
 use Rattle.std.specs.Prelude.{◌==◌}
 use Rattle.std.specs.Char.{digit_value}
 use Rattle.std.specs.Str.Parse.{digits_value_after}
@@ -42,9 +42,7 @@ drop_while_long p (x ∷ xs) ys d e = grind (arith, (drop_while_long p xs ys d e
 
 pub significant_long : (ds es : List ℕ) (d : ℕ) → (d == 48) ≡ false → length ds < length (without_trailing_zeros (ds ++ d ∷ es))
 unfolding without_trailing_zeros
-significant_long ds es d e =
-    let turned : reverse (ds ++ d ∷ es) ≡ reverse es ++ d ∷ reverse ds = rw (reverse-append ds (d ∷ es), reverse-append (d ∷ []) es) (append_assoc (reverse es) (d ∷ []) (reverse ds)) in
-    rw (length-reverse, turned) (omega (arith, drop_while_long is_zero (reverse es) (reverse ds) d e, length-reverse ds))
+significant_long ds es d e = grind (arith, common_steps, reverse-append, append_assoc, length-reverse, drop_while_long)
 
 pub significant_shorter : (ds : List ℕ) → length (without_trailing_zeros ds) ≤ length ds
 unfolding without_trailing_zeros
@@ -68,16 +66,10 @@ zeros_count ds = omega (arith, ap length (significant_and_zeros ds), length-appe
 
 -- Each trailing zero multiplies the value by ten.
 pub value_shifted : (ds : List ℕ) (z : ℕ) → length ds ≡ length (without_trailing_zeros ds) + z → decimal_value ds ≡ decimal_value (without_trailing_zeros ds) * 10 ^ z
-value_shifted ds z count =
-    let same : length (zeros_of ds) ≡ z = omega (arith, zeros_count ds) in
-    rw (← same)
-    (ap decimal_value (significant_and_zeros ds) ∙ value-append 0 (without_trailing_zeros ds) (reverse (zeros_of ds))
-    ∙ zeros_value (decimal_value (without_trailing_zeros ds)) (zeros_of ds) (Only-take_while is_zero (reverse ds)))
+value_shifted ds z count = grind (arith, zeros_count, (significant_and_zeros ds), value-append, zeros_value, Only-take_while)
 
 product_shifted : (f : ℕ) (ds : List ℕ) → decimal_value ds * f ≡ decimal_value (without_trailing_zeros ds) * f * 10 ^ length (zeros_of ds)
-product_shifted f ds =
-    ap (λ (n : ℕ). n * f) (value_shifted ds (length (zeros_of ds)) (zeros_count ds))
-    ∙ mul_right_comm (decimal_value (without_trailing_zeros ds)) (10 ^ length (zeros_of ds)) f
+product_shifted f ds = grind (arith, value_shifted, zeros_count, mul_right_comm)
 
 power_shifted : (ds : List ℕ) → 10 ^ length ds ≡ 10 ^ length (without_trailing_zeros ds) * 10 ^ length (zeros_of ds)
 power_shifted ds = ap (λ (n : ℕ). 10 ^ n) (zeros_count ds) ∙ pow-add 10 (length (without_trailing_zeros ds)) (length (zeros_of ds))
@@ -86,15 +78,11 @@ power_shifted ds = ap (λ (n : ℕ). 10 ^ n) (zeros_count ds) ∙ pow-add 10 (le
 pub whole_part_kept : (f : ℕ) (ds : List ℕ) → is_whole_part f ds ≡ true → is_whole_part f (without_trailing_zeros ds) ≡ true
 whole_part_kept f ds h =
     let by = 10 ^ length (zeros_of ds) in
-    let some : 0 < by = one-le-pow (length (zeros_of ds)) 10 (omega arith) in
     let kept = decimal_value (without_trailing_zeros ds) * f in
+    let some : 0 < by = one-le-pow (length (zeros_of ds)) 10 (omega arith) in
     let parts : (decimal_value ds * f ≤ 18446744073709551615) × (decimal_value ds * f % 10 ^ length ds ≡ 0) = grind (arith, common_steps) in
     let rest : kept * by % (10 ^ length (without_trailing_zeros ds) * by) ≡ 0 = rw (← product_shifted f ds, ← power_shifted ds) parts.1 in
-    let whole = mod-eq-zero_of_dvd _ (dvd_of_mul-dvd-mul_right (10 ^ length (without_trailing_zeros ds)) some (dvd_of_mod-eq-zero _ rest)) in
-    let fits : kept ≤ 18446744073709551615 = omega (arith, le-mul_of_pos_right kept some, product_shifted f ds, parts.0) in
-    grind (arith, common_steps)
+    grind (arith, common_steps, (mod-eq-zero_of_dvd _ (dvd_of_mul-dvd-mul_right (10 ^ length (without_trailing_zeros ds)) some (dvd_of_mod-eq-zero _ rest))), (le-mul_of_pos_right kept some), (product_shifted f ds), parts)
 
 pub amount_kept : (f : ℕ) (ds : List ℕ) → decimal_value ds * f / 10 ^ length ds ≡ decimal_value (without_trailing_zeros ds) * f / 10 ^ length (without_trailing_zeros ds)
-amount_kept f ds =
-    ap₂ (λ (x y : ℕ). x / y) (product_shifted f ds) (power_shifted ds)
-    ∙ mul-div-mul_right (decimal_value (without_trailing_zeros ds) * f) (10 ^ length (without_trailing_zeros ds)) (one-le-pow _ 10 (omega arith))
+amount_kept f ds = grind (arith, product_shifted, power_shifted, mul-div-mul_right, one-le-pow)

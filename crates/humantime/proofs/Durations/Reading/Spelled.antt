@@ -1,6 +1,6 @@
 -- The parser recovers a span from its spelling, by the longest runs of characters.
 use Rattle.std.specs.Prelude.{option_map, unwrap_or}
-use Rattle.std.proofs.Common.{◌≡◌, ◌≢◌, ◌⊎◌, ℕ, ◌≤◌, ◌<◌, true, false, List, [], ◌∷◌, ◌++◌, length, Option, Some, None, ap, ◌∙◌, arith, append_assoc, append-nil}
+use Rattle.std.proofs.Common.{◌≡◌, ◌≢◌, ◌⊎◌, ℕ, ◌≤◌, ◌<◌, true, false, List, [], ◌∷◌, ◌++◌, length, Option, Some, ap, ◌∙◌, arith, append_assoc, append-nil}
 use Rattle.humantime.specs.Texts.{take_while, drop_while, begins, ends}
 use Rattle.humantime.specs.Durations.Characters.{is_whitespace, is_digit, is_letter, is_numeric}
 use Rattle.humantime.specs.Durations.Spans.{SpelledSpan, Only, SpellsFraction, Spells}
@@ -8,7 +8,7 @@ use Rattle.humantime.specs.Durations.Faults.{number_of, after_number, after_poin
 use Rattle.humantime.specs.Answers.Walks.{ends_span}
 use Rattle.humantime.proofs.Durations.Reading.Classes.{letter_not_numeric, letter_not_point, letter_not_whitespace, whitespace_is_numeric, point_not_numeric, is_point-46}
 use Rattle.humantime.proofs.Durations.Reading.Spellings.{spells_alone}
-use Rattle.humantime.proofs.Durations.Reading.Runs.{take_while-append, drop_while-append, drop_while_shorter, begins-append, begins_not_nil, letters_begin, ends_Only, ends_other, ends-append, append_not_nil}
+use Rattle.humantime.proofs.Durations.Reading.Runs.{take_while-append, drop_while-append, drop_while_shorter, begins-append, begins_not_nil, letters_begin, ends_Only, ends_other, ends-append}
 
 -- The text after a span: after its word and the whitespace that follows.
 abbrev pub next_of : List ℕ → List ℕ
@@ -25,13 +25,9 @@ pub record IsSpanAt (rest : List ℕ) (s : SpelledSpan) (next : List ℕ) : Type
 pub begins_word : (w t : List ℕ) → begins is_letter w ≡ true → begins is_letter (w ++ t) ≡ true
 begins_word w t e = begins-append is_letter w t (begins_not_nil is_letter w e) ∙ e
 
-no_point : (tail : List ℕ) → begins is_letter tail ≡ true → after_point tail ≡ None
-no_point tail e = grind (arith, letter_not_point)
-
 fraction_read : (b tail : List ℕ) (o : Option (List ℕ)) → SpellsFraction b o → begins is_letter tail ≡ true
     → (begins is_numeric (b ++ tail) ≡ false) × (option_map number_of (after_point (b ++ tail)) ≡ o) × (unwrap_or (option_map after_number (after_point (b ++ tail))) (b ++ tail) ≡ tail) × (o ≢ Some [])
-fraction_read b tail None h e = grind (arith, (no_point tail e), letter_not_numeric)
-fraction_read b tail (Some ds) h e = grind (arith, letter_not_numeric, point_not_numeric, is_point-46, take_while-append, drop_while-append)
+fraction_read b tail o h e = grind (arith, letter_not_point, letter_not_numeric, point_not_numeric, is_point-46, take_while-append, drop_while-append)
 
 -- The number and the fraction before a word are parsed as these.
 pub record IsReadToWord (rest number_text fraction_text tail : List ℕ) (fraction : Option (List ℕ)) : Type 0 where
@@ -49,15 +45,9 @@ pub read_spelled : (rest next : List ℕ) (s : SpelledSpan) (h : Spells rest s n
     → IsReadToWord rest h.number_text h.fraction_text (s.word ++ (h.whitespace ++ next)) s.fraction
 read_spelled rest next s h = grind (arith, begins_word, fraction_read, drop_while-append, take_while-append)
 
-pub no_letter_follows : (cs : List ℕ) → ends_span cs ≡ true → begins is_letter cs ≡ false
-no_letter_follows cs h = grind (arith, letter_not_numeric)
-
 -- If a spelling ends with its word, it does not end in whitespace.
 ends_in_word : (a b word : List ℕ) → Only is_letter word → begins is_letter word ≡ true → ends is_whitespace (a ++ (b ++ (word ++ []))) ≡ false
-ends_in_word a b word only some =
-    let n : word ≢ [] = begins_not_nil is_letter word some in
-    rw (append-nil word, ends-append is_whitespace a (b ++ word) (append_not_nil b word n), ends-append is_whitespace b word n)
-    (ends_other is_letter is_whitespace letter_not_whitespace word (ends_Only is_letter word only n))
+ends_in_word a b word only some = grind (arith, begins_not_nil, append-nil, ends-append, ends_other, letter_not_whitespace, ends_Only)
 
 followed : (a b word c here next : List ℕ) → here ≡ a ++ (b ++ (word ++ c)) → Only is_letter word → begins is_letter word ≡ true → Only is_whitespace c
     → (ends_span next ≡ true) ⊎ (ends is_whitespace here ≡ true) → ends_span (c ++ next) ≡ true
@@ -69,7 +59,7 @@ pub spelled_here : (here next : List ℕ) (s : SpelledSpan) → Spells here s []
 spelled_here here next s h o no_whitespace =
     let letter = letters_begin s.word h.word in
     let f : ends_span (h.whitespace ++ next) ≡ true = followed h.number_text h.fraction_text s.word h.whitespace here next (spells_alone here s h) h.word.0 letter h.only_whitespace o in
-    let stops = no_letter_follows (h.whitespace ++ next) f in
+    let stops : begins is_letter (h.whitespace ++ next) ≡ false = grind (arith, letter_not_numeric) in
     let cut = drop_while-append is_whitespace h.whitespace next h.only_whitespace no_whitespace in
     rw (spelling_parts here next s h)
     (grind (arith, (f), (stops), (letter), (cut), begins-append, begins_not_nil, take_while-append, drop_while-append, fraction_read))

@@ -1,5 +1,5 @@
 -- A spelling as a text of its own, and followed by more text.
-use Rattle.std.proofs.Common.{arith, ◌≡◌, ℕ, List, [], ◌∷◌, ◌++◌, ap, sym, ◌∙◌, append_assoc, append-nil, subst}
+use Rattle.std.proofs.Common.{arith, ◌≡◌, ℕ, List, [], ◌∷◌, ◌++◌, sym, ◌∙◌, append_assoc, append-nil, subst}
 use Rattle.std.specs.List.{AllByRecursion}
 use Rattle.std.proofs.lemmas.Grind.{common_steps}
 use Rattle.humantime.specs.Durations.Characters.{is_whitespace}
@@ -14,17 +14,7 @@ pub record IsApart (text : List ℕ) (span : SpelledSpan) (rest : List ℕ) : Ty
 -- The same parts with other whitespace, or with another rest.
 pub respelled : (text rest here next white : List ℕ) (s : SpelledSpan) (h : Spells text s rest)
     → here ≡ h.number_text ++ (h.fraction_text ++ (s.word ++ (white ++ next))) → Only is_whitespace white → Spells here s next
-respelled text rest here next white s h whole only = record {
-  number_text = h.number_text;
-  fraction_text = h.fraction_text;
-  whitespace = white;
-  whole = whole;
-  starts = h.starts;
-  number = h.number;
-  fraction = h.fraction;
-  word = h.word;
-  only_whitespace = only;
-}
+respelled text rest here next white s h whole only = grind arith
 
 pub apart : (text rest : List ℕ) (s : SpelledSpan) → Spells text s rest → IsApart text s rest
 apart text rest s h = record {
@@ -34,8 +24,7 @@ apart text rest s h = record {
 }
 
 pub spells-append : (text rest more : List ℕ) (s : SpelledSpan) → Spells text s rest → Spells (text ++ more) s (rest ++ more)
-spells-append text rest more s h =
-    respelled text rest (text ++ more) (rest ++ more) h.whitespace s h (ap (λ (t : List ℕ). t ++ more) h.whole ∙ simp append_assoc) h.only_whitespace
+spells-append text rest more s h = grind (arith, common_steps)
 
 pub spells_each-append : (a b : List ℕ) (ss ts : List SpelledSpan) → SpellsEach a ss → SpellsEach b ts → SpellsEach (a ++ b) (ss ++ ts)
 spells_each-append a b [] ts h k = subst (λ (l : List ℕ). SpellsEach (l ++ b) ts) (sym h) k

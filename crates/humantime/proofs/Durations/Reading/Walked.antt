@@ -1,6 +1,6 @@
 -- The walk over a text finds the spans that the text consists of.
 use Rattle.std.proofs.lemmas.Grind.{common_steps}
-use Rattle.std.proofs.Common.{◌≡◌, ◌⊎◌, ℕ, Bool, true, false, List, [], ◌∷◌, ◌++◌, map, Option, Some, None, refl, ap, ◌∙◌, inl, inr, arith, subst, append-nil}
+use Rattle.std.proofs.Common.{◌≡◌, ◌⊎◌, ℕ, Bool, true, false, List, [], ◌∷◌, ◌++◌, map, Option, Some, None, refl, ◌∙◌, inl, inr, arith, subst, append-nil}
 use Rattle.std.specs.List.{AllByRecursion}
 use Rattle.humantime.specs.Texts.{begins, ends, drop_while}
 use Rattle.humantime.specs.Durations.Characters.{is_whitespace, is_digit}
@@ -15,7 +15,6 @@ use Rattle.humantime.proofs.Durations.Reading.Spelled.{IsSpanAt, spelled_here}
 use Rattle.humantime.proofs.Durations.Reading.Spellings.{apart}
 use Rattle.humantime.proofs.Durations.Reading.SpanWalks.{walk-end, walk-wrong, walk-right}
 use Rattle.humantime.proofs.Durations.Reading.Stopping.{fine_goes, stops_at}
-use Rattle.humantime.proofs.Durations.Reading.Written.{fine_here}
 
 -- The front ends before the rest: with whitespace, or because of the first character of the rest.
 abbrev pub Closes : List ℕ → List ℕ → Type 0
@@ -68,7 +67,7 @@ through text body rest first (s ∷ ss) h f (inr o) e =
     let p = apart body h.0 s h.1 in
     let more = rw (none_first ss) at (through text h.0 rest false ss h.2 f.1 (closes_more p.here h.0 rest ss h.2 (inr (rw p.whole at o))) e) in
     let i = first_here body rest s ss h o e in
-    grind (arith, (i), (more), (walk-right first text _ (fine_goes text _ (fine_here (body ++ rest) _ s i f.0))))
+    grind (arith, (i), (more), (walk-right first text (body ++ rest) (fine_goes text (body ++ rest) (grind arith))))
 
 -- The front of a split begins after the leading whitespace.
 pub front_begins : (text front rest : List ℕ) (spans : List SpelledSpan) (h : Split text front spans rest) → drop_while is_whitespace text ≡ h.spelled.body ++ rest
@@ -76,12 +75,8 @@ front_begins text front rest spans h = grind (arith, common_steps, drop_while-ap
 
 pub front_walked : (text front rest : List ℕ) (spans : List SpelledSpan) → Split text front spans rest → AllByRecursion Formed spans → (spans ≡ []) ⊎ Closes front rest
     → items text ≡ followed_by spans (walk_from (first_after true spans) text rest)
-unfolding items
 front_walked text front rest spans h f o =
-    let body = h.spelled.body in
-    let c : (spans ≡ []) ⊎ Closes (h.spelled.whitespace ++ body) rest = subst (λ x. (spans ≡ []) ⊎ Closes x rest) h.spelled.whole o in
-    ap (λ (x : List ℕ). spans_of_walk (walk_from true text x)) (front_begins text front rest spans h)
-    ∙ through text body rest true spans h.spelled.each f (closes_more h.spelled.whitespace body rest spans h.spelled.each c) h.no_whitespace
+    grind (arith, (front_begins text front rest spans h), (through text h.spelled.body rest true spans h.spelled.each f), (closes_more h.spelled.whitespace h.spelled.body rest spans h.spelled.each))
 
 -- The walk ends where the items do.
 ends_walked : (text front rest : List ℕ) (spans : List SpelledSpan) (stop : Option Fault) → Ends text front spans rest stop → walk_from (first_after true spans) text rest ≡ empty_walk rest stop
@@ -91,6 +86,4 @@ ends_walked text front (c ∷ cs) spans (Some e) h = walk-wrong (first_after tru
 
 -- The reference finds any items of a text.
 pub items_walked : (text : List ℕ) (spans : List SpelledSpan) (stop : Option Fault) → Items text spans stop → items text ≡ (spans, stop)
-items_walked text spans stop h =
-    front_walked text h.front h.rest spans h.split h.formed (grind (arith, (h.ends)))
-    ∙ ap (followed_by spans) (ends_walked text h.front h.rest spans stop h.ends) ∙ ap (λ (x : List SpelledSpan). (x, stop)) (append-nil spans)
+items_walked text spans stop h = grind (arith, (front_walked text h.front h.rest spans h.split h.formed), (ends_walked text h.front h.rest spans stop h.ends), append-nil)

@@ -1,15 +1,16 @@
 -- A rest that begins with a well-formed span is a spelling of that span followed by the text after it.
 use Rattle.std.specs.Prelude.{option_map, unwrap_or}
-use Rattle.std.proofs.Common.{◌≡◌, ◌≢◌, ℕ, ◌<◌, true, false, List, [], ◌∷◌, ◌++◌, length, Some, if◌then◌else◌, refl, arith, append-nil}
+use Rattle.std.proofs.Common.{◌≡◌, ◌≢◌, ℕ, ◌<◌, true, false, List, [], ◌∷◌, ◌++◌, length, Some, if◌then◌else◌, arith, append-nil}
 use Rattle.humantime.specs.Texts.{take_while, begins, ends}
 use Rattle.humantime.specs.Durations.Characters.{is_whitespace, is_digit, is_point, is_numeric}
 use Rattle.humantime.specs.Durations.Spans.{SpelledSpan, SpellsFraction, Spells}
 use Rattle.humantime.specs.Durations.Accepted.{Formed}
 use Rattle.humantime.specs.Durations.Faults.{number_of, after_number, after_point, word_of, after_word, span_of, BeginsSpan}
-use Rattle.humantime.proofs.Durations.Reading.Classes.{digit_is_numeric, is_point-true}
+use Rattle.humantime.proofs.Durations.Reading.Classes.{digit_is_numeric}
 use Rattle.humantime.proofs.Durations.Reading.Runs.{take_while-drop_while, Only-take_while, begins_take_while, ends_Only, ends-append}
+use Rattle.std.proofs.lemmas.Bool.Decides.{nat_tests}
 use Rattle.std.proofs.lemmas.Grind.{common_steps}
-use Rattle.humantime.proofs.Durations.Reading.Spelled.{next_of, IsSpanAt}
+use Rattle.humantime.proofs.Durations.Reading.Spelled.{next_of}
 use Rattle.humantime.proofs.Durations.Reading.Stopping.{some_letters, ends_tells}
 
 -- A spelling of the span at the start of the rest ends in whitespace if no digit follows it.
@@ -27,8 +28,8 @@ fraction_text-append : (cs : List ℕ) → cs ≡ fraction_text cs ++ unwrap_or 
 fraction_text-append cs = grind (arith, take_while-drop_while)
 
 fraction_spelled : (m : List ℕ) → option_map number_of (after_point m) ≢ Some [] → SpellsFraction (fraction_text m) (option_map number_of (after_point m))
-fraction_spelled [] some = refl
-fraction_spelled (c ∷ cs) some = grind (arith, (Only-take_while is_numeric cs), (is_point-true c))
+unfolding is_point
+fraction_spelled m some = grind (arith, Only-take_while, nat_tests)
 
 -- A spelling has a digit and a letter.
 pub spelling_some : (text rest : List ℕ) (s : SpelledSpan) → Spells text s rest → 1 < length text
@@ -48,13 +49,3 @@ written_here rest h =
 -- The span at the start of the rest is well formed.
 pub formed_here : (rest : List ℕ) → BeginsSpan rest → Formed (span_of rest)
 formed_here rest h = record { short = h.number.short; word = h.unit }
-
-pub fine_here : (rest next : List ℕ) (s : SpelledSpan) → IsSpanAt rest s next → Formed s → BeginsSpan rest
-fine_here rest next s h f =
-    let k = rw (← h.span) at f in
-    record {
-      number = record { digit = h.starts; short = k.short };
-      digits = h.point;
-      unit = k.word;
-      ended = (ends_tells (after_word rest)).0 h.ends;
-    }

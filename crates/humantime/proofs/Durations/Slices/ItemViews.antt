@@ -5,7 +5,7 @@ use Rattle.humantime.specs.Texts.{drop_while}
 use Rattle.humantime.specs.Durations.Characters.{is_whitespace, bare_zero}
 use Rattle.humantime.specs.Durations.Spans.{SpelledSpan}
 use Rattle.humantime.specs.Durations.Faults.{span_of, Fault}
-use Rattle.humantime.specs.Answers.Walks.{Walk, walk_of, items, sum_spans}
+use Rattle.humantime.specs.Answers.Walks.{Walk, walk_of, sum_spans}
 use Rattle.humantime.specs.Answers.Durations.{duration_answer}
 use Rattle.humantime.specs.Durations.Items.{SpanView, AreSpanViews, items_of, AreItems}
 use Rattle.humantime.specs.Answers.Items.{view_at, item_views, span_in}
@@ -25,7 +25,6 @@ spans_read text (rest ∷ starts) stop = ap₂ (λ (s : SpelledSpan) (items : Li
 
 -- Unless the text is `0`, the sum of its items is its outcome.
 sum_views_outcome : (text : List ℕ) → text ≢ bare_zero → sum_spans 0 (map span_in (item_views text)) ≡ duration_answer text
-unfolding items
 sum_views_outcome text some = ap (sum_spans 0) (spans_read text (walk_of text).starts (walk_of text).stop) ∙ sym (duration_answer-items text some)
 
 -- The same for the bytes of the text, since a text whose one character is `0` is that byte.
@@ -38,11 +37,7 @@ abbrev Lends : List ℕ → Bool → List ℕ → Walk → Type 0
 Lends text first rest w = AreSpanViews text rest (map span_of w.starts) (map (view_at text) w.starts) w.unread
 
 lends : (text : List ℕ) → Steps text (Lends text)
-lends text = record {
-  end = λ first. refl;
-  wrong = λ first rest e some s. refl;
-  right = λ first rest w s more. (next_of rest, is_span_view text rest (is_fine text rest s), more);
-}
+lends text = grind (arith, next_of, is_span_view, is_fine)
 
 pub are_items : (text : List ℕ) → AreItems text (item_views text)
 are_items text =
@@ -56,14 +51,10 @@ are_items text =
       each = rw i.1 (by_walk text (Lends text) (lends text) true (drop_while is_whitespace text));
     }
 
--- Two lists of views of the same spans with the same stop are equal.
-same_span_view : (text : List ℕ) (xs ys : List (Result SpanView Fault)) (a : AreItems text xs) (b : AreItems text ys) → a.spans ≡ b.spans → a.stop ≡ b.stop → xs ≡ ys
-same_span_view text xs ys a b p q = grind (arith, one_each)
-
 pub one_span_view : (text : List ℕ) (others : List (Result SpanView Fault)) → AreItems text others → others ≡ item_views text
 one_span_view text others o =
     let a = are_items text in
-    grind (arith, (items_walked text o.spans o.stop o.items), (items_walked text a.spans a.stop a.items), (same_span_view text others _ o a))
+    grind (arith, (items_walked text o.spans o.stop o.items), (items_walked text a.spans a.stop a.items), one_each, a)
 
 -- If an error is the first item, it is the result of parsing.
 pub first_error_answers : (text : List ℕ) (listed others : List (Result SpanView Fault)) (e : Fault) → AreItems text listed

@@ -11,7 +11,7 @@ use Rattle.humantime.specs.Durations.Faults.{after_number, after_fraction}
 use Rattle.humantime.specs.Durations.Items.{SpanView, IsDigitSlice, IsFractionView, IsSpanView, AreSpanViews}
 use Rattle.humantime.specs.Answers.Items.{trimmed, number_slice, fraction_slice}
 use Rattle.humantime.proofs.Durations.Reading.Classes.{whitespace_is, digit_not_whitespace}
-use Rattle.humantime.proofs.Durations.Reading.Runs.{drop_while-append, begins-append, begins_not_nil, begins_other, letters_begin}
+use Rattle.humantime.proofs.Durations.Reading.Runs.{drop_while-append, begins_other, letters_begin}
 use Rattle.humantime.proofs.Durations.Reading.Spelled.{begins_word, read_spelled}
 use Rattle.humantime.proofs.Durations.Bytes.Trimming.{suc_not_zero, no_slice, slice_after_point}
 
@@ -30,9 +30,7 @@ trimmed_is : (text slice : List ℕ) → IsDigitSlice text slice → trimmed tex
 trimmed_is text slice h = grind (arith, digit_not_whitespace, drop_while-append, drop_tail)
 
 fraction_found : (b tail : List ℕ) (o f : Option (List ℕ)) → SpellsFraction b o → IsFractionView b f → begins is_letter tail ≡ true → f ≡ fraction_slice (b ++ tail)
-fraction_found b tail (Some ds) (Some slice) h k e =
-    let same : h.0 ≡ k.0 = cc in
-    grind (arith, (slice_after_point h.0 tail h.2.0 e), (trimmed_is k.0 slice k.2), same)
+fraction_found b tail (Some ds) (Some slice) h k e = grind (arith, (slice_after_point h.0 tail h.2.0 e), (trimmed_is k.0 slice k.2))
 fraction_found b tail _ _ h k e = grind (arith, no_slice)
 
 -- The slices of a span are those at the start of the rest.
@@ -47,17 +45,8 @@ slices_found text rest s x next h =
     let k = h.spelled in
     let r = read_spelled rest next s h.spelled in
     let letter = begins_word s.word (k.whitespace ++ next) (letters_begin s.word k.word) in
-    let no_whitespace : drop_while is_whitespace k.number_text ≡ k.number_text = drop_while-append is_whitespace [] k.number_text tt (begins_other is_digit is_whitespace digit_not_whitespace k.number_text k.starts) in
     let fraction = fraction_found k.fraction_text (s.word ++ (k.whitespace ++ next)) s.fraction x.fraction k.fraction h.fraction letter in
-    record {
-      number = sym (trimmed_is k.number_text x.number h.number) ∙ ap drop_trailing_whitespace (no_whitespace ∙ sym r.number_is);
-      fraction = rw r.after_is fraction;
-      left = rw h.unit r.tail_is;
-      starts = rw k.whole (begins-append is_digit k.number_text _ (begins_not_nil is_digit k.number_text k.starts) ∙ k.starts);
-    }
-
-each_starts : (text rest : List ℕ) (s : SpelledSpan) (ss : List SpelledSpan) (xs : List SpanView) (end : List ℕ) → AreSpanViews text rest (s ∷ ss) xs end → begins is_digit rest ≡ true
-each_starts text rest s ss xs end h = grind arith
+    grind (arith, r, fraction, h, (trimmed_is k.number_text x.number h.number), digit_not_whitespace)
 
 next_is : (whitespace next : List ℕ) → Only is_whitespace whitespace → begins is_digit next ≡ true → drop_while is_whitespace (whitespace ++ next) ≡ next
 next_is whitespace next o b = drop_while-append is_whitespace whitespace next o (begins_other is_digit is_whitespace digit_not_whitespace next b)
@@ -70,7 +59,7 @@ one_span text rest s x y m n h k = grind (arith, common_steps, (slices_found tex
 -- A list of spans has exactly one list of views, whatever whitespace precedes the rest of the text.
 pub one_each : (text p q m n : List ℕ) (spans : List SpelledSpan) (xs ys : List SpanView) (d e : List ℕ) → Only is_whitespace p → Only is_whitespace q → p ++ m ≡ q ++ n → AreSpanViews text m spans xs d → AreSpanViews text n spans ys e → xs ≡ ys
 one_each text p q m n (s ∷ ss) (x ∷ xs) (y ∷ ys) d e o u w h k =
-    let r : m ≡ n = sym (next_is p m o (each_starts text m s ss (x ∷ xs) d h)) ∙ ap (drop_while is_whitespace) w ∙ next_is q n u (each_starts text n s ss (y ∷ ys) e k) in
+    let r : m ≡ n = sym (next_is p m o (grind arith)) ∙ ap (drop_while is_whitespace) w ∙ next_is q n u (grind arith) in
     let l : IsSpanView text m s y k.0 = subst (λ (z : List ℕ). IsSpanView text z s y k.0) (sym r) k.1 in
     let one = one_span text m s x y h.0 k.0 h.1 l in
     let p = h.1.spelled in

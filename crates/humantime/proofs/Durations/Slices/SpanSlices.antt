@@ -31,8 +31,7 @@ begins_digit_or_end cs h k e = grind arith
 -- Digits and whitespace, with at least one digit, have a slice from the first to the last digit.
 trimmed_slice : (cs : List ℕ) → Only is_numeric cs → digits cs ≢ [] → IsDigitSlice cs (trimmed cs)
 trimmed_slice cs o n =
-    let slice = digit_slice (take_while is_whitespace cs) (drop_while is_whitespace cs) (trimmed cs) (dropped (drop_while is_whitespace cs)) (Only-take_while is_whitespace cs) in
-    grind (arith, slice, (Only-drop_while is_numeric is_whitespace cs o), begins_digit_or_end, begins-drop_while, digits_drop_while, (take_while-drop_while is_whitespace cs))
+    grind (arith, (digit_slice (take_while is_whitespace cs) (drop_while is_whitespace cs) (trimmed cs) (dropped (drop_while is_whitespace cs)) (Only-take_while is_whitespace cs)), Only-drop_while, begins_digit_or_end, begins-drop_while, digits_drop_while, take_while-drop_while)
 
 fraction_is_viewed : (b tail : List ℕ) (o : Option (List ℕ)) → SpellsFraction b o → begins is_letter tail ≡ true → IsFractionView b (fraction_slice (b ++ tail))
 fraction_is_viewed b tail o h k = grind (arith, no_slice, slice_after_point, trimmed_slice)
@@ -46,20 +45,14 @@ next_bytes rest b =
 pub is_span_view : (text rest : List ℕ) → BeginsSpan rest → IsSpanView text rest (span_of rest) (view_at text rest) (next_of rest)
 is_span_view text rest f =
     let w = written_here rest f in
-    let h : Spells rest (span_of rest) (next_of rest) =
-    subst (λ (l : List ℕ). Spells l (span_of rest) (next_of rest)) (sym w.1.whole) (spells-append w.0 [] (next_of rest) (span_of rest) w.1.spells) in
-    let tail = word_of rest ++ (h.whitespace ++ next_of rest) in
-    let letter : begins is_letter tail ≡ true = begins_word (word_of rest) (h.whitespace ++ next_of rest) (letters_begin (word_of rest) h.word) in
+    let h : Spells rest (span_of rest) (next_of rest) = subst (λ (l : List ℕ). Spells l (span_of rest) (next_of rest)) (sym w.1.whole) (spells-append w.0 [] (next_of rest) (span_of rest) w.1.spells) in
     let r = read_spelled rest (next_of rest) (span_of rest) h in
-    let number = take_while is_numeric rest in
-    let number_is : IsDigitSlice number (number_slice rest) =
-    digit_slice [] number (number_slice rest) (dropped number) tt (begins_take_while is_digit is_numeric rest f.number.digit digit_is_numeric) (Only-take_while is_numeric rest) in
-    let left : after_word rest ≡ h.whitespace ++ next_of rest =
-    append_cancel_left (word_of rest) (after_word rest) (h.whitespace ++ next_of rest) (take_while-drop_while is_letter (after_fraction rest) ∙ r.tail_is) in
+    let number = digit_slice [] (take_while is_numeric rest) (number_slice rest) (dropped (take_while is_numeric rest)) tt (begins_take_while is_digit is_numeric rest f.number.digit digit_is_numeric) (Only-take_while is_numeric rest) in
+    let left = append_cancel_left (word_of rest) (after_word rest) (h.whitespace ++ next_of rest) (take_while-drop_while is_letter (after_fraction rest) ∙ r.tail_is) in
     record {
       spelled = h;
-      number = subst (λ (l : List ℕ). IsDigitSlice l (number_slice rest)) r.number_is number_is;
-      fraction = subst (λ (l : List ℕ). IsFractionView h.fraction_text (fraction_slice l)) (sym r.after_is) (fraction_is_viewed h.fraction_text tail (fraction_of rest) h.fraction letter);
+      number = subst (λ (l : List ℕ). IsDigitSlice l (number_slice rest)) r.number_is number;
+      fraction = subst (λ (l : List ℕ). IsFractionView h.fraction_text (fraction_slice l)) (sym r.after_is) (fraction_is_viewed h.fraction_text (word_of rest ++ (h.whitespace ++ next_of rest)) (fraction_of rest) h.fraction (begins_word (word_of rest) (h.whitespace ++ next_of rest) (letters_begin (word_of rest) h.word)));
       unit = refl;
       start = refl;
       end = ap (offset_of text) left;

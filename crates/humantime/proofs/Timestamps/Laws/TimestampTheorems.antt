@@ -1,11 +1,11 @@
 -- The laws of timestamps and days as theorems over plain variables, each under its name in `laws`, and others that callers cite.
-use Rattle.std.proofs.Common.{◌≡◌, ◌≤◌, ◌-◌, ◌*◌, ◌/◌, ◌^◌, ℕ, List, sym, subst, ◌∙◌, arith}
+use Rattle.std.proofs.Common.{◌≡◌, ◌≤◌, ◌-◌, ◌*◌, ◌/◌, ◌^◌, ℕ, List, arith}
 use Rattle.std.proofs.Math.Nat.{mul-mod_right, div-add-mod}
 use Rattle.std.specs.Prelude.{◌↔◌, ℤ, pos, negsuc, ◌≤ℤ◌, ◌<ℤ◌, Ok, IsTrue, IfSome}
 use Rattle.std.specs.Cmp.Lexicographic.{slice_cmp}
 use Rattle.std.specs.Ordering.{nat_cmp, int_cmp, is_le, is_lt}
 use Rattle.std.proofs.lemmas.Int.{ints}
-use Rattle.humantime.specs.Timestamps.Fields.{IsWeak, IsStrict, moment_of, IsWeakMoment, IsStrictMoment}
+use Rattle.humantime.specs.Timestamps.Fields.{IsWeak, IsStrict, IsWeakMoment, IsStrictMoment}
 use Rattle.humantime.specs.Timestamps.Checks.{weak_checks, strict_checks}
 use Rattle.humantime.specs.Laws.Timestamps.{OneTimestamp, StrictForm, PrintedMoment}
 use Rattle.humantime.specs.Timestamps.Printed.{MomentToPrint, cut, IsPrinted, IsPrintedWith, IsPrintable}
@@ -55,8 +55,7 @@ printed_read_weak t k text printed = weak_read text (cut t k) (printed_reads t k
 
 -- A moment has at most nine fraction digits.
 cut_whole : (t : ℤ) → cut t 9 ≡ t
-cut_whole (pos n) = omega (arith, ints)
-cut_whole (negsuc n) = omega (arith, ints)
+cut_whole t = grind (arith, ints)
 
 pub printed_moment_reads : (t : ℤ) (k : ℕ) → k ≤ 9 → PrintedMoment t k
 printed_moment_reads t k small = record {
@@ -71,10 +70,7 @@ printed_moment_reads t k small = record {
 -- What `Display` wrote for a timestamp that is known.
 pub displayed_as : (x : MomentToPrint) (t : ℤ) (k : ℕ) (bytes : List ℕ) → x ≡ record { moment = t; places = k } → k ≤ 9 → IsPrintable t
     → IfSome (printed_text x) (λ text. bytes ≡ text) → IsPrinted t k bytes
-displayed_as x t k bytes known small within written =
-    let some = printed_some t k small within in
-    let same : bytes ≡ some.0 = rw (known, some.1) at written in
-    rw same some.2
+displayed_as x t k bytes known small within written = grind (arith, (printed_some t k small within))
 
 -- Rounding down twice is rounding down once.
 cut_again : (t : ℤ) (k n : ℕ) → pos n ≡ cut t k → cut (pos n) k ≡ pos n
@@ -85,23 +81,11 @@ cut_again (pos m) k n is =
 cut_again (negsuc m) k n is = absurd (omega (arith, ints, is))
 
 printed_again : (t : ℤ) (k : ℕ) (text : List ℕ) → IsPrinted t k text → IsPrinted (cut t k) k text
-printed_again t k text p = record {
-  few = p.few;
-  fields = p.fields;
-  weak = p.weak;
-  separator = p.separator;
-  zone = p.zone;
-  second = p.second;
-  places = p.places;
-  moment = p.moment ∙ subst (λ (m : ℤ). m ≡ cut m k) p.moment (sym (cut_again t k (moment_of p.fields) p.moment));
-}
+printed_again t k text p = grind (arith, cut_again)
 
 -- A text is a printed text exactly if it is that of the moment that it parses to.
 pub printed_if_read_back : (k : ℕ) (text : List ℕ) → IsPrintedWith k text ↔ ((t : ℤ) × (strict_answer text ≡ Ok t) × IsPrinted t k text)
-printed_if_read_back k text = (
-  (λ p. (cut p.0 k, printed_read p.0 k text p.1, printed_again p.0 k text p.1)),
-  (λ p. (p.0, p.2)),
-)
+printed_if_read_back k text = ((λ p. (cut p.0 k, printed_read p.0 k text p.1, printed_again p.0 k text p.1)), (λ p. (p.0, p.2)))
 
 -- Two printed texts with the same number of digits compare, byte by byte, like the moments that they parse to.
 pub texts_in_order : (k : ℕ) (x y : List ℕ) (a b : ℤ) → IsPrintedWith k x → IsPrintedWith k y → strict_answer x ≡ Ok a → strict_answer y ≡ Ok b
@@ -116,25 +100,17 @@ moment_at_most a b = grind (arith, ints)
 moment_before : (a b : ℤ) → IsTrue (is_lt (int_cmp a b)) ↔ (a <ℤ b)
 moment_before a b = grind (arith, ints)
 
--- The order of two printed texts as an inequality.
-stamp_at_most : (a b : ℤ) (k : ℕ) (x y : List ℕ) → IsPrinted a k x → IsPrinted b k y
-    → IsTrue (is_le (slice_cmp nat_cmp x y)) ↔ (cut a k ≤ℤ cut b k)
-stamp_at_most a b k x y p q = rw (stamps_in_order a b k x y p q) (moment_at_most (cut a k) (cut b k))
-
-stamp_before : (a b : ℤ) (k : ℕ) (x y : List ℕ) → IsPrinted a k x → IsPrinted b k y
-    → IsTrue (is_lt (slice_cmp nat_cmp x y)) ↔ (cut a k <ℤ cut b k)
-stamp_before a b k x y p q = rw (stamps_in_order a b k x y p q) (moment_before (cut a k) (cut b k))
-
 -- A printed text is between two others, including the first of them, exactly if its moment is between theirs.
 pub stamps_between : (a b t : ℤ) (k : ℕ) (x y text : List ℕ) → IsPrinted a k x → IsPrinted b k y → IsPrinted t k text
     → (IsTrue (is_le (slice_cmp nat_cmp x text)) × IsTrue (is_lt (slice_cmp nat_cmp text y)))
     ↔ ((u : ℤ) × (strict_answer text ≡ Ok u) × (cut a k ≤ℤ u) × (u <ℤ cut b k))
-stamps_between a b t k x y text first second printed = grind (arith, (printed_read t k text printed), (stamp_at_most a t k x text first printed), (stamp_before t b k text y printed second))
+stamps_between a b t k x y text first second printed =
+    grind (arith, (printed_read t k text printed), (stamps_in_order a t k x text first printed), (stamps_in_order t b k text y printed second), (moment_at_most (cut a k) (cut t k)), (moment_before (cut t k) (cut b k)))
 
 -- The order of bytes for each number of digits that a printer prints. A caller that compares texts is proved with `using` one of these, and
 -- needs no answer.
 earlier : (a b : ℤ) (k : ℕ) (x y : List ℕ) → IsPrinted a k x → IsPrinted b k y → (cut a k <ℤ cut b k) ↔ IsTrue (is_lt (slice_cmp nat_cmp x y))
-earlier a b k x y p q = let h = stamp_before a b k x y p q in (h.1, h.0)
+earlier a b k x y p q = grind (arith, (stamps_in_order a b k x y p q), (moment_before (cut a k) (cut b k)))
 
 pub earlier_in_millis : (a b : ℤ) (x y : List ℕ) → IsPrinted a 3 x → IsPrinted b 3 y → (cut a 3 <ℤ cut b 3) ↔ IsTrue (is_lt (slice_cmp nat_cmp x y))
 earlier_in_millis a b x y = earlier a b 3 x y

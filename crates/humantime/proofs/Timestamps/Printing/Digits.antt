@@ -1,7 +1,6 @@
 -- The digits of a fraction: the first `k` of nine are the nanoseconds, rounded down to `k` digits.
-use Rattle.std.proofs.lemmas.Grind.{common_steps}
 use Rattle.std.proofs.Common.{◌≡◌, ℕ, zero, suc, ◌+◌, ◌-◌, ◌*◌, ◌/◌, ◌%◌, ◌^◌, ◌<◌, ◌≤◌, take, arith}
-use Rattle.std.specs.Prelude.{List, length, Option, Some, None, option_map, ◌==◌, if◌then◌else◌}
+use Rattle.std.specs.Prelude.{List, Option, Some, None, ◌==◌, if◌then◌else◌}
 use Rattle.std.proofs.Math.Nat.{pow-suc, one-le-pow, mod-mod_of_dvd, dvd-mul_left}
 use Rattle.std.proofs.Math.Arith.{mod-mul}
 use Rattle.std.proofs.lemmas.Nat.{pow-add}
@@ -9,20 +8,11 @@ use Rattle.humantime.specs.Timestamps.Fields.{fraction_nanos, fraction_digits}
 use Rattle.humantime.specs.Answers.Timestamps.{last_digits}
 use Rattle.humantime.proofs.Timestamps.Reading.Fractions.{AreDigits, add_digits, nanos_added}
 
-power_more : (j : ℕ) → (10 ^ suc j / 10 ≡ 10 ^ j) × (10 ^ suc j ≡ 10 * 10 ^ j)
-power_more j = let power : 10 ^ suc j ≡ 10 ^ j * 10 = pow-suc 10 j in (omega arith, omega arith)
-
 -- The first `k` of the last `j` digits, each with its weight, and the remainder.
 sum_of_digits : (k j n a : ℕ) → k ≤ j → add_digits a (10 ^ j / 10) (take k (last_digits j n)) + n % 10 ^ (j - k) ≡ a + n % 10 ^ j
 sum_of_digits zero j n a h = grind arith
 sum_of_digits (suc k) zero n a h = absurd (omega arith)
-sum_of_digits (suc k) (suc j) n a h =
-    let d = n / 10 ^ j % 10 in
-    let some : 0 < 10 ^ j = grind (arith, one-le-pow) in
-    let more : n % (10 * 10 ^ j) ≡ d * 10 ^ j + n % 10 ^ j = mod-mul n (omega arith) some in
-    let digit : 48 + d - 48 ≡ d = omega arith in
-    let left : suc j - suc k ≡ j - k = omega arith in
-    rw ((power_more j).0, left, digit) (rw (power_more j).1 (omega (arith, more, sum_of_digits k j n (a + 10 ^ j * d) (omega arith))))
+sum_of_digits (suc k) (suc j) n a h = grind (arith, (pow-suc 10 j), one-le-pow, mod-mul, (sum_of_digits k j n (a + 10 ^ j * (n / 10 ^ j % 10))))
 
 last_are_digits : (k j n : ℕ) → AreDigits (take k (last_digits j n))
 last_are_digits (suc k) (suc j) n = ((omega arith, omega arith), last_are_digits k j n)
@@ -32,21 +22,14 @@ last_are_digits k j n = tt
 abbrev pub cut_fraction : ℕ → ℕ → Option (List ℕ)
 cut_fraction n k = if k == 0 then None else Some (take k (last_digits 9 n))
 
-fraction_is : (k n : ℕ) → fraction_digits (cut_fraction n k) ≡ take k (last_digits 9 n)
-fraction_is k n = grind arith
-
 pub shown_digits : (k n : ℕ) → AreDigits (fraction_digits (cut_fraction n k))
-shown_digits k n = rw (fraction_is k n) (last_are_digits k 9 n)
-
-pub shown_places : (k n : ℕ) → k ≤ 9 → option_map length (cut_fraction n k) ≡ (if k == 0 then None else Some k)
-shown_places k n h = grind (arith, common_steps)
+shown_digits k n = grind (arith, (last_are_digits k 9 n))
 
 pub shown_nanos : (k n : ℕ) → k ≤ 9 → n < 1_000_000_000 → fraction_nanos (fraction_digits (cut_fraction n k)) ≡ n - n % 10 ^ (9 - k)
-shown_nanos k n small h = rw (fraction_is k n) (omega (arith, sum_of_digits k 9 n 0 small, nanos_added (take k (last_digits 9 n)) (last_are_digits k 9 n)))
+shown_nanos k n small h = grind (arith, (sum_of_digits k 9 n 0 small), (nanos_added (take k (last_digits 9 n)) (last_are_digits k 9 n)))
 
 -- Rounding a moment down rounds its nanoseconds down.
 pub cut_nanos : (k t : ℕ) → k ≤ 9 → t % 1_000_000_000 % 10 ^ (9 - k) ≡ t % 10 ^ (9 - k)
 cut_nanos k t small =
-    let nine : k + (9 - k) ≡ 9 = omega arith in
-    let power : 1_000_000_000 ≡ 10 ^ k * 10 ^ (9 - k) = rw nine at (pow-add 10 k (9 - k)) in
+    let power : 1_000_000_000 ≡ 10 ^ k * 10 ^ (9 - k) = grind (arith, (pow-add 10 k (9 - k))) in
     mod-mod_of_dvd (10 ^ (9 - k)) t (rw power (dvd-mul_left (10 ^ (9 - k)) (10 ^ k)))

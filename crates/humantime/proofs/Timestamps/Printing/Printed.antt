@@ -1,7 +1,7 @@
 -- What the printer writes is the printed text of the moment, and the only one.
 use Rattle.std.proofs.lemmas.Grind.{common_steps}
 use Rattle.std.proofs.Common.{◌≡◌, ℕ, ◌+◌, ◌-◌, ◌*◌, ◌/◌, ◌%◌, ◌^◌, ◌<◌, ◌≤◌, List, refl, sym, ap, ◌∙◌, arith}
-use Rattle.std.specs.Prelude.{◌↔◌, Some, ℤ, [], unwrap_or, min, pos, negsuc, nat_abs, IsAscii}
+use Rattle.std.specs.Prelude.{◌↔◌, Some, ℤ, pos, negsuc, nat_abs, IsAscii}
 use Rattle.std.specs.List.{AllByRecursion}
 use Rattle.std.proofs.Math.Nat.{mod-le}
 use Rattle.std.proofs.lemmas.Bool.{lt-ltb}
@@ -11,31 +11,23 @@ use Rattle.humantime.proofs.Timestamps.Reading.Fractions.{digits_from}
 use Rattle.humantime.specs.declared.calendar.Date.{Date}
 use Rattle.humantime.specs.Calendar.{day_of}
 use Rattle.humantime.specs.Values.{nano_of}
-use Rattle.humantime.specs.declared.date.print.Precision.{Precision}
-use Rattle.humantime.specs.Timestamps.Fields.{fields_text, fraction_nanos, moment_of}
-use Rattle.humantime.specs.Timestamps.Printed.{MomentToPrint, places_of, cut, year_10000, IsPrinted, IsPrintable}
+use Rattle.humantime.specs.Timestamps.Fields.{fields_text, moment_of}
+use Rattle.humantime.specs.Timestamps.Printed.{places_of, cut, year_10000, IsPrinted, IsPrintable}
 use Rattle.humantime.specs.Laws.Timestamps.{ReadsAs}
-use Rattle.humantime.specs.Answers.Timestamps.{places, printed_fields, fields_at, printed_text, moment_text}
+use Rattle.humantime.specs.Answers.Timestamps.{printed_fields, fields_at, moment_text}
 use Rattle.humantime.specs.Steps.Timestamps.{IsSecondOf}
 use Rattle.humantime.specs.Laws.ExactlyOne.{ExactlyOne}
 use Rattle.humantime.proofs.Timestamps.Reading.Bytes.{holds_before_zone}
 use Rattle.humantime.proofs.Dates.DatesOfDays.{date_of_is}
-use Rattle.humantime.proofs.Timestamps.Printing.Digits.{cut_fraction, shown_digits, shown_places, shown_nanos, cut_nanos}
+use Rattle.humantime.proofs.Timestamps.Printing.Digits.{shown_digits, shown_nanos, cut_nanos}
 use Rattle.humantime.proofs.Timestamps.Printing.Order.{one_text}
-
-pub places_most : (p : Precision) → places p ≤ 9
-places_most p = grind arith
 
 pub places_of_bound : (t : ℤ) → places_of t ≤ 9
 places_of_bound t = grind arith
 
 shown_moment : (t k time : ℕ) (date : Date) → k ≤ 9 → day_of date * 86_400 + time ≡ t / 1_000_000_000 → time < 86_400
     → moment_of (printed_fields date time (t % 1_000_000_000) k) ≡ t - t % 10 ^ (9 - k)
-shown_moment t k time date small e within =
-    let n = t % 1_000_000_000 in
-    let clock : time / 3_600 * 3_600 + time / 60 % 60 * 60 + min (time % 60) 59 ≡ time = omega arith in
-    let nanos : fraction_nanos (unwrap_or (cut_fraction n k) []) ≡ n - n % 10 ^ (9 - k) = shown_nanos k n small (omega arith) in
-    rw nanos (omega (arith, cut_nanos k t small, mod-le n (10 ^ (9 - k))))
+shown_moment t k time date small e within = grind (arith, shown_nanos, cut_nanos, mod-le)
 
 -- The parts that are printed represent the moment.
 pub shown_printed : (t : ℤ) (k time : ℕ) (date : Date) → k ≤ 9 → IsSecondOf date time t → IsPrinted t k (fields_text (printed_fields date time (nano_of t) k))
@@ -43,18 +35,11 @@ shown_printed (negsuc t) k time date small is = absurd (let whole = is.sum in le
 shown_printed (pos t) k time date small is = record {
   few = small;
   fields = printed_fields date time (t % 1_000_000_000) k;
-  weak = record {
-    text = refl;
-    date = is.date_exists;
-    hour = omega (arith, is.within_day);
-    minute = omega arith;
-    second = omega arith;
-    fraction = digits_from _ (shown_digits k (t % 1_000_000_000));
-  };
+  weak = grind (arith, (shown_digits k (t % 1_000_000_000)), digits_from);
   separator = refl;
   zone = refl;
   second = omega arith;
-  places = shown_places k (t % 1_000_000_000) small;
+  places = grind (arith, common_steps);
   moment = ap pos (shown_moment t k time date small (ap nat_abs is.sum) is.within_day) ∙ omega (arith, ints, mod-le t (10 ^ (9 - k)));
 }
 
@@ -76,20 +61,13 @@ printed_some (pos t) k small h =
     let is : IsSecondOf _ _ (pos t) = record { date_exists = date.0; within_day = omega arith; sum = ap pos (omega (arith, date.1)) } in
     (fields_text (fields_at t k), rw (lt-ltb t year_10000 within) refl, shown_printed (pos t) k _ _ small is)
 
--- No other moment has one.
-printable_from_text : (t : ℤ) (k : ℕ) (text : List ℕ) → moment_text t k ≡ Some text → IsPrintable t
-unfolding moment_text
-printable_from_text t k text h = grind (arith, ints)
-
 -- The text that the contract of `Display` names is the printed one.
 pub text_displayed : (t : ℤ) (k : ℕ) (text : List ℕ) → k ≤ 9 → (moment_text t k ≡ Some text) ↔ (IsPrintable t × IsPrinted t k text)
+unfolding moment_text
 text_displayed t k text small = (
-  (λ h. let is = printable_from_text t k text h in let some = printed_some t k small is in (is, rw (same_Some _ _ (sym h ∙ some.1)) some.2)),
+  (λ h. let is : IsPrintable t = grind (arith, ints) in let some = printed_some t k small is in (is, rw (same_Some _ _ (sym h ∙ some.1)) some.2)),
   (λ p. let some = printed_some t k small p.0 in some.1 ∙ ap Some (one_text t k some.0 text some.2 p.1)),
 )
-
-pub printed_text_is : (x : MomentToPrint) (text : List ℕ) → IsPrintable x.moment → IsPrinted x.moment x.places text → printed_text x ≡ Some text
-printed_text_is x text h p = (text_displayed x.moment x.places text p.few).1 (h, p)
 
 -- A printed text parses to the moment, rounded down.
 pub printed_reads : (t : ℤ) (k : ℕ) (text : List ℕ) → IsPrinted t k text → ReadsAs text (cut t k)

@@ -4,7 +4,7 @@ use Rattle.humantime.specs.Durations.Spans.{Only}
 use Rattle.humantime.specs.Durations.Faults.{HasFault, Only_whitespace, No_number}
 use Rattle.humantime.specs.Prelude.{Empty, NumberExpected}
 use Rattle.humantime.proofs.Durations.Reading.Classes.{digit_not_whitespace}
-use Rattle.humantime.proofs.Durations.Reading.Summed.{WithinLimits_from}
+use Rattle.humantime.proofs.Durations.Reading.Summed.{within_tells}
 use Rattle.humantime_tests.proofs.law_callers.errors.parse_from_number.Goals as goal
 
 zero_is_digit : is_digit 48 ≡ true
@@ -21,7 +21,7 @@ only_whitespace text only = record {
   rest = [];
   spans = [];
   split = record { whole = sym (append-nil text); spelled = record { whitespace = text; body = []; whole = sym (append-nil text); only_whitespace = only; each = refl }; no_whitespace = refl };
-  within = WithinLimits_from [] tt tt;
+  within = (within_tells [] tt).0 refl;
   row = inl (Only_whitespace refl refl refl);
 }
 
@@ -32,7 +32,7 @@ no_number text cs c is d w = record {
   rest = text;
   spans = [];
   split = record { whole = refl; spelled = record { whitespace = []; body = []; whole = refl; only_whitespace = tt; each = refl }; no_whitespace = rw is w };
-  within = WithinLimits_from [] tt tt;
+  within = (within_tells [] tt).0 refl;
   row = inl (No_number (λ end. cc) (rw is d) (inl refl) (ap NumberExpected (omega arith)));
 }
 

@@ -2,7 +2,7 @@ use Rattle.std.proofs.lemmas.Grind.{common_steps}
 use Rattle.std.proofs.lemmas.Str.{IsUtf8-from_ascii}
 use Rattle.std.specs.Str.{IsUtf8}
 use Rattle.humantime.proofs.Timestamps.Printing.Printed.{printed_ascii}
-use Rattle.humantime.specs.Timestamps.Printed.{MomentToPrint, IsPrinted, IsPrintable}
+use Rattle.humantime.specs.Timestamps.Printed.{IsPrinted, IsPrintable}
 use Rattle.humantime.proofs.Walks.{Val, ◌≡◌, ℕ, ◌≤◌, List, [], ◌∷◌, refl, MutBor, proved, full_share, id⊢, emp, ftrue, flft, fres, named, arith, fact, fact_i, tables, ‵, raw, ◌⊛◌, some, later, ◌$◌, ◌∵◌, !, qed, by, move, keep, drop, use0, use1, use2, use3, split, join, fsplit, fjoin, feq_i, feq_l, pick, await, suffices, frame, enter, addr, stop, no_more, and_then, returns, alloc_all, pass_all, free_all, look_at, get, through, sets, lands_as, shows, MutRef, ShrRef, mut_vals, shr_vals, mut_Tells, shr_Tells, plain, nothing, heard, peeks, calls_at, lasts, triple_of, Stays, stay_dropped, Goes-dropped, Goes-spent_ref, ends_at, yes, no, framed}
 use mir.Syntax.{w8, erased}
 use Rattle.std.specs.Borrow.{Array, u8, usize}
@@ -19,7 +19,7 @@ use borrow.Table.Owned as owned
 use borrow.Table.Copies.{Shares-copy, c_arr, c_rf}
 use borrow.Table.Referent.{f_int}
 use types.Tokens.{lft_new, lft_end}
-use Rattle.humantime.proofs.Buffers.{holds, some_shown, text_shown, none_shown}
+use Rattle.humantime.proofs.Buffers.{holds}
 use Rattle.humantime.specs.contracts.date.print.Rfc3339Timestamp.{the_row as Self}
 use Rattle.std.specs.contracts.option.Option.{the_row as OptionOf}
 use denote.Signature.{type_at}
@@ -37,9 +37,6 @@ stayed = (stay_dropped _ yes, (stay_dropped _ no, tt))
 
 abbrev A : RattleType
 A = Array u8 30
-
-text_utf8 : (x : MomentToPrint) (m : Option ℕ) (y : List ℕ) → IfSome m (λ n. IsPrinted x.moment x.places (take n y)) → IfSome m (λ n. IsUtf8 (take n y))
-text_utf8 x m y p = grind (arith, common_steps, printed_ascii, IsUtf8-from_ascii)
 
 pub text_spec : {M : Type 1} → statement M
 text_spec {M} 𝓤 𝓛 𝓜 𝓡 wired =
@@ -94,7 +91,7 @@ text_spec {M} 𝓤 𝓛 𝓜 𝓡 wired =
     move ! (2 ∷ 5 ∷ 1 ∷ 0 ∷ 7 ∷ []) $ feq_i ! (List Val) (shr_vals s) (shr_vals s) refl $ fjoin ! $
     -- [buf as a `&`; the length; the token of κ; buf's last value; that of κ₀]
     nothing ! $ move ! (2 ∷ 0 ∷ []) $ join ! $ move ! (1 ∷ 0 ∷ []) $ join ! $ nothing ! $ move ! (2 ∷ 0 ∷ []) $ join ! $ join ! $
-    use0 𝓛 (raw (fact 𝓤 (IfSome m (λ n. IsUtf8 (take n y))))) (fact_i 𝓤 _ (emp 𝓤) (text_utf8 x.now m y text)) $
+    use0 𝓛 (raw (fact 𝓤 (IfSome m (λ n. IsUtf8 (take n y))))) (fact_i 𝓤 _ (emp 𝓤) (grind (arith, common_steps, text, printed_ascii, IsUtf8-from_ascii))) $
     use0 𝓛 (raw (fact 𝓤 (IfSome m (λ n. n ≤ 30)))) (fact_i 𝓤 _ (emp 𝓤) fits) $ join ! $ move ! (1 ∷ 0 ∷ []) $ use2 𝓛 (raw (H.pre z')) (id⊢ 𝓤 _) $
     calls_at ! (framed 𝓤 𝓛.H 𝓜 (tables 𝓤 𝓛.H 𝓜 𝓡 𝓡.env)) H (h-met.met 𝓤 𝓛 𝓜 𝓡 (code.calls-humantime::date::print::text_from_len 𝓡.env wired)) z'
     (and_then ! (get ! refl) (and_then ! (get ! refl) (no_more !))) (λ w.
@@ -109,6 +106,6 @@ text_spec {M} 𝓤 𝓛 𝓜 𝓡 wired =
     suffices ! _ (ends_at 𝓛 f.ended stayed c ((κs, qs, bounds, a, (shr_vals x, (vs, tt))), tt) w t (tt, (tt, tt)) (tt, (tt, tt))) $
     nothing ! $ nothing ! $ fjoin ! $ nothing ! $ fjoin ! $ move ! (0 ∷ 3 ∷ []) $ join ! $
     nothing ! $ move ! (3 ∷ 0 ∷ []) $ join ! $ move ! (2 ∷ 0 ∷ []) $ join ! $ join ! $ frame ! $
-    use0 𝓛 (raw (fact 𝓤 (IsSome t ↔ IsPrintable x.now.moment))) (fact_i 𝓤 _ (emp 𝓤) (some_shown t m (λ n. take n y) _ shown within)) $ frame ! $
-    use0 𝓛 (raw (fact 𝓤 (IfSome t (λ u. IsPrinted x.now.moment x.now.places u.now)))) (fact_i 𝓤 _ (emp 𝓤) (text_shown t m (λ n. take n y) (IsPrinted x.now.moment x.now.places) shown text)) $ frame ! $
-    by ! (holds 𝓛 30 r y (λ last. IfNone t (last ≡ r.now)) (none_shown t m (λ n. take n y) _ shown same))))))))))))))))))))
+    use0 𝓛 (raw (fact 𝓤 (IsSome t ↔ IsPrintable x.now.moment))) (fact_i 𝓤 _ (emp 𝓤) (grind (arith, common_steps, shown, within))) $ frame ! $
+    use0 𝓛 (raw (fact 𝓤 (IfSome t (λ u. IsPrinted x.now.moment x.now.places u.now)))) (fact_i 𝓤 _ (emp 𝓤) (grind (arith, shown, text))) $ frame ! $
+    by ! (holds 𝓛 30 r y (λ last. IfNone t (last ≡ r.now)) (grind (arith, shown, same)))))))))))))))))))))
