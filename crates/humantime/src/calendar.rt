@@ -145,8 +145,8 @@ pub fn day_number(date: Date, turns: &mut Turns) -> Option<u32>
     Some(days + date.day - 1)
 }
 
-/// Returns the year that contains a day, and the zero-based index of the day in it. Years begin on 1 March here, and are counted from
-/// 1600.
+/// Returns the number of years from 1600-03-01 to the year that contains a day, and the zero-based index of the day in it. Years begin on
+/// 1 March here.
 ///
 /// The last century of a cycle and the last of four years have an extra day, which would make the quotient 4, so it is capped at 3.
 #[inline(always)]
@@ -155,7 +155,7 @@ fn march_year(day: u32) -> (u32, u32)
     ensures year { result.0 ≡ Dates.march_year (day + 135_080) }
     ensures day { march_days result.0 + result.1 ≡ day + 135_080 }
 {
-    // The days since 1600-03-01, `day + 135_080`: days before 2000-03-01 lie in the cycle that begins there.
+    // The days since 1600-03-01, where the cycle of 400 years before 2000-03-01 begins. So the subtraction does not underflow.
     let from = day + DAYS_PER_400_YEARS - MARCH_2000;
     let cycles = from / DAYS_PER_400_YEARS;
     let in_cycle = from % DAYS_PER_400_YEARS;

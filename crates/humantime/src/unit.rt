@@ -15,7 +15,7 @@ pub(crate) enum Addition {
 pub(crate) struct Scale {
     /// The size of one unit.
     pub one: Addition,
-    /// The same size, counted in what a fraction of the unit has to be a whole number of; `None` if only a fraction of zero is
-    /// allowed.
+    /// The same size, in nanoseconds or in seconds: a fraction has to denote a whole number of these. `None` if only a fraction of
+    /// zero is allowed.
     pub fraction: Option<Addition>,
 }

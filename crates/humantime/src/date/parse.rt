@@ -67,9 +67,9 @@ struct DateTime {
 
 /// Parses a timestamp in the weak form, such as `2018-02-14 00:28:07`, and returns the moment that it represents.
 ///
-/// A `T` or a space separates the date from the time. The time is in UTC, which `Z` or `+00:00` at the end may say. A fraction of a
-/// second may have any number of digits, even none, of which those past the ninth are ignored. Second 60 is read as second 59. The
-/// Rust crate `humantime` defines this form, which is based on RFC 3339.
+/// A `T` or a space separates the date from the time. The time is in UTC, and may end in `Z` or `+00:00`. A fraction of a second has
+/// any number of digits, including none; digits past the ninth are ignored. Second 60 is read as second 59. The Rust crate `humantime`
+/// defines this form, which is based on RFC 3339.
 ///
 /// # Errors
 ///
@@ -80,8 +80,8 @@ struct DateTime {
 /// - [`InvalidDigit`](TimestampError::InvalidDigit) if any other byte up to byte 18 is not a digit;
 /// - [`OutOfRange`](TimestampError::OutOfRange) if the years 1970 to 9999 have no such date, the hour is above 23, the minute above
 ///   59 or the second above 60;
-/// - `InvalidFormat` if byte 19 is not a point, and the text from there on is not empty, `Z` or `+00:00`;
-/// - `InvalidDigit` if byte 19 is a point, and the text after it is not digits that end the text or are followed by `Z` or `+00:00`.
+/// - `InvalidFormat` if the text from byte 19 on does not begin with a point, and is neither empty nor `Z` nor `+00:00`;
+/// - `InvalidDigit` if byte 19 is a point, and the text after it, without a `Z` or `+00:00` at its end, has a byte that is not a digit.
 ///
 /// # Examples
 ///
@@ -226,9 +226,10 @@ fn has_punctuation(bytes: &[u8]) -> bool
         && bytes[16] == b':'
 }
 
-/// Returns `true` if the first 19 bytes have punctuation and digits in their places: if each byte is between its minimum and its
-/// maximum. All are tested at once: a lane has the distance of a byte above its minimum, which wraps around to a number above the
-/// range for a byte below its minimum.
+/// Returns `true` if the first 19 bytes have punctuation and digits in their places, if the separator has been tested.
+///
+/// All bytes are tested at once. The distance of a byte above its minimum wraps around to a large number if the byte is below it, so that
+/// one saturating subtraction of the range tests both bounds.
 #[inline(always)]
 #[tactic(auto, unfolding(crate::specs::Steps::Timestamps::has_layout, crate::specs::Timestamps::Checks::has_punctuation))]
 fn has_layout(bytes: &[u8]) -> bool
@@ -283,7 +284,8 @@ fn unix_seconds(x: DateTime) -> Option<u64>
     Some(day as u64 * 86_400 + time as u64)
 }
 
-/// Returns the nanoseconds of the fraction in the bytes after the seconds: nothing, or a point and digits, and then the zone.
+/// Parses the bytes after the seconds, which are an optional fraction and an optional zone, and returns the nanoseconds of the fraction,
+/// which are 0 if there is none.
 #[inline(always)]
 #[tactic(auto, using(crate::proofs::Timestamps::Reading::Fractions::nothing_read), unfolding(crate::specs::Timestamps::Checks::has_point))]
 fn read_fraction(rest: &[u8]) -> Result<u32, TimestampError>

@@ -67,8 +67,7 @@ impl Model for Rfc3339Timestamp {
 /// Formats `moment` as a timestamp with no fraction if its nanoseconds are zero, and with nine digits otherwise.
 ///
 /// This function never fails. For a moment outside 1970 to 9999, [`text`](Rfc3339Timestamp::text) returns `None` and `Display` returns
-/// [`fmt::Error`]. RFC 3339 defines the form of the timestamp, and the
-/// Rust crate `humantime` this choice of digits.
+/// [`fmt::Error`]. RFC 3339 defines the form of the timestamp, and the Rust crate `humantime` its number of digits.
 ///
 /// # Examples
 ///
@@ -161,7 +160,7 @@ pub fn format_rfc3339_micros(moment: SystemTime) -> Rfc3339Timestamp
     }
 }
 
-/// Returns a value that prints `moment` with nine digits after the second.
+/// Formats `moment` as a timestamp with nine digits of a second.
 ///
 /// This function never fails. For a moment outside 1970 to 9999, [`text`](Rfc3339Timestamp::text) returns `None` and `Display` returns
 /// [`fmt::Error`].
@@ -313,10 +312,9 @@ fn date_and_time(moment: SystemTime) -> Option<(Date, u32)>
     Some((date, (secs % 86_400) as u32))
 }
 
-/// Writes `YYYY-MM-DDTHH:MM:SS` and a point to the front of the buffer.
+/// Fills the buffer with `YYYY-MM-DDTHH:MM:SS.nnnnnnnnnz`. The caller overwrites what follows the seconds.
 ///
-/// It copies a template of 30 bytes, with all the punctuation, and replaces the letters before the point, except `T`, by digits. The
-/// rest of the template, `nnnnnnnnnz`, stays.
+/// It copies a template of 30 bytes, and replaces the letters before the point, except `T`, by digits.
 #[inline(always)]
 #[tactic(auto, using(crate::proofs::Dates::Years::valid_from_test))]
 fn write_date_time(date: Date, time: u32, buf: &mut [u8; 30])

@@ -95,6 +95,7 @@ impl Fraction {
         if len > MAX_FRACTION_DIGITS {
             return None;
         }
+        // The zeros before this digit are not trailing zeros any more.
         let power = power_of_ten(len - self.significant);
         let significand = self.significand * power + (c - b'0') as u64;
         Some(Fraction {

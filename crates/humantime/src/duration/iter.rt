@@ -49,6 +49,7 @@ impl<'a> Iterator for SpanIter<'a> {
         let start = skip_whitespace(self.cursor);
         if start.rest.is_empty() {
             self.ended = true;
+            // No span has been read.
             if self.cursor.rest.len() == self.cursor.text.len() {
                 return Some(Err(DurationError::Empty));
             }

@@ -116,21 +116,21 @@ fn write_duration(duration: StdDuration, buf: &mut [u8; 64]) -> usize
 {
     let mut writer = Writer::new(buf);
     let secs = duration.as_secs();
-    let of_year = secs % sizes::SECONDS_PER_YEAR;
-    let of_month = of_year % sizes::SECONDS_PER_MONTH;
-    let of_day = of_month % sizes::SECONDS_PER_DAY;
-    let of_hour = of_day % sizes::SECONDS_PER_HOUR;
+    let secs_in_year = secs % sizes::SECONDS_PER_YEAR;
+    let secs_in_month = secs_in_year % sizes::SECONDS_PER_MONTH;
+    let secs_in_day = secs_in_month % sizes::SECONDS_PER_DAY;
+    let secs_in_hour = secs_in_day % sizes::SECONDS_PER_HOUR;
     writer.push_plural(secs / sizes::SECONDS_PER_YEAR, "year");
-    writer.push_plural(of_year / sizes::SECONDS_PER_MONTH, "month");
-    writer.push_plural(of_month / sizes::SECONDS_PER_DAY, "day");
-    writer.push_count(of_day / sizes::SECONDS_PER_HOUR, "h");
-    writer.push_count(of_hour / sizes::SECONDS_PER_MINUTE, "m");
-    writer.push_count(of_hour % sizes::SECONDS_PER_MINUTE, "s");
+    writer.push_plural(secs_in_year / sizes::SECONDS_PER_MONTH, "month");
+    writer.push_plural(secs_in_month / sizes::SECONDS_PER_DAY, "day");
+    writer.push_count(secs_in_day / sizes::SECONDS_PER_HOUR, "h");
+    writer.push_count(secs_in_hour / sizes::SECONDS_PER_MINUTE, "m");
+    writer.push_count(secs_in_hour % sizes::SECONDS_PER_MINUTE, "s");
     let nanos = duration.subsec_nanos() as u64;
-    let of_milli = nanos % sizes::NANOS_PER_MILLI;
+    let nanos_in_milli = nanos % sizes::NANOS_PER_MILLI;
     writer.push_count(nanos / sizes::NANOS_PER_MILLI, "ms");
-    writer.push_count(of_milli / sizes::NANOS_PER_MICRO, "µs");
-    writer.push_count(of_milli % sizes::NANOS_PER_MICRO, "ns");
+    writer.push_count(nanos_in_milli / sizes::NANOS_PER_MICRO, "µs");
+    writer.push_count(nanos_in_milli % sizes::NANOS_PER_MICRO, "ns");
     writer.push_zero_if_empty();
     writer.finish()
 }
@@ -159,8 +159,9 @@ impl fmt::Display for FormattedDuration {
     }
 }
 
-/// Parses `s` and prints the duration again: writes its canonical text to the front of `buf` and returns it, borrowed from
-/// there.
+/// Parses a duration, writes its canonical text to the front of `buf`, and returns the text, borrowed from `buf`.
+///
+/// The text is the one that [`FormattedDuration::text`] returns for the duration.
 ///
 /// # Errors
 ///
@@ -207,7 +208,7 @@ fn text_from_len<'a, 'b>(
     }
 }
 
-/// Writes the text of `canonical` to the front of the buffer, and returns its length in bytes.
+/// Parses a duration, writes its canonical text to the front of the buffer, and returns the length of the text in bytes, or the error.
 fn write_canonical<'a>(s: &'a str, buf: &mut [u8; 64]) -> Result<usize, DurationError<'a>>
     ensures unchanged { OnErr result (buf.new ≡ buf.old) }
     ensures fits { IfOk result (λ end. end ≤ 64) }

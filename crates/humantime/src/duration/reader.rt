@@ -22,7 +22,8 @@ use crate::duration::scan::{
 use crate::duration::span::Span;
 use crate::unit::words::scale_of;
 
-/// Returns the fraction's value, if there is a fraction.
+/// Returns the fraction's value, if there is a fraction. Here and in the next three functions, only the contract speaks of `number`, or
+/// the number is used if there is no fraction.
 #[inline(always)]
 fn fraction_value<'a>(number: Number<'a>, fraction: Option<FractionPart<'a>>) -> Option<Fraction>
     requires { IsFractionOf number fraction }
@@ -41,7 +42,7 @@ fn fraction_slice<'a>(number: Number<'a>, fraction: Option<FractionPart<'a>>) ->
     Some(fraction?.slice)
 }
 
-/// Returns whether there is a point without digits after it.
+/// Returns `true` if there is a point without digits after it.
 #[inline(always)]
 fn has_bare_point<'a>(number: Number<'a>, fraction: Option<FractionPart<'a>>) -> bool
     requires { IsFractionOf number fraction }
@@ -98,9 +99,7 @@ fn end_span<'a>(after_word: Cursor<'a>) -> Option<Cursor<'a>>
     Some(after_word.advance(len))
 }
 
-/// Reads the span at the cursor, and returns it with the cursor after it.
-///
-/// That cursor may also be after the whitespace character that follows the span.
+/// Reads the span at the cursor. Returns it with the cursor from which to look for the next span, or returns its first error.
 #[inline(always)]
 pub(crate) fn read_span<'a>(start: Cursor<'a>) -> Result<(Span<'a>, Cursor<'a>), DurationError<'a>>
     requires { begins is_digit (ahead start) ≡ true }
@@ -119,7 +118,7 @@ pub(crate) fn read_span<'a>(start: Cursor<'a>) -> Result<(Span<'a>, Cursor<'a>),
     complete_span(number, Some(fraction))
 }
 
-/// Reads the unit after a number and a fraction, and returns the span with the cursor after it.
+/// Reads the unit after a number and its fraction, and returns what [`read_span`] returns.
 #[inline(always)]
 fn complete_span<'a>(
     number: Number<'a>,

@@ -42,7 +42,7 @@ fn leading_whitespace_len(text: &str) -> usize
     }
 }
 
-/// Returns the offset after the whitespace character at this offset, or `None` if there is none.
+/// Returns the offset after the whitespace character at offset `at`, or `None` if there is none.
 #[inline(always)]
 pub(crate) fn skip_whitespace_char(text: &str, at: usize) -> Option<usize>
     requires { IsPlaceIn text.now at }
@@ -69,7 +69,7 @@ pub(crate) fn skip_whitespace_char(text: &str, at: usize) -> Option<usize>
     }
 }
 
-/// Returns the offset after the spaces, U+0020, at this offset.
+/// Returns the offset after the spaces, U+0020, at offset `from`. The contract does not promise that all of them are skipped.
 #[inline(always)]
 fn skip_spaces(text: &str, from: usize) -> usize
     requires { IsCharBoundary text.now from }
@@ -104,7 +104,7 @@ pub(crate) fn skip_whitespace<'a>(start: Cursor<'a>) -> Cursor<'a>
     start.advance(at)
 }
 
-/// Returns whether the text begins with a digit.
+/// Returns `true` if the text begins with a digit.
 #[inline(always)]
 pub(crate) fn begins_with_digit(text: &str) -> bool
     ensures { result ≡ begins is_digit (chars text.now) }
@@ -142,6 +142,7 @@ pub(crate) fn read_number<'a>(start: Cursor<'a>) -> Option<Number<'a>>
         let digit = (bytes[at] as u64).wrapping_sub(48);
         if digit <= 9 {
             at += 1;
+            // A smaller value does not overflow, whatever the digit is.
             value = if value >= TENTH_OF_MAX {
                 push_digit(value, digit)?
             } else {
@@ -174,7 +175,7 @@ pub(crate) struct FractionPart<'a> {
     ghost run: { IsNumericRun start slice.now end } by { Prim.hlevel props },
 }
 
-/// Reads the digits of a fraction at the cursor, or returns `None` if more than 19 precede the trailing zeros.
+/// Reads the digits of a fraction at the cursor, of which there may be none, or returns `None` if more than 19 precede the trailing zeros.
 #[inline(always)]
 pub(crate) fn read_fraction<'a>(start: Cursor<'a>) -> Option<FractionPart<'a>>
     ensures { MatchOption result (19 < length (without_trailing_zeros (number_of (ahead start.entry)))) (λ f. f.start ≡ start.entry) }

@@ -25,9 +25,9 @@ use crate::duration::amount::Amount;
 /// ```
 #[derive(Clone, Copy, Debug)]
 pub struct Span<'a> {
-    // From the first digit, with the whitespace that follows the last.
+    // The digits of the number, with the whitespace between and after them.
     pub(crate) number: &'a str,
-    // From after the point to the unit, or `None` if there is no point.
+    // The digits of the fraction, with the whitespace around them, or `None` if there is no point.
     pub(crate) digits: Option<&'a str>,
     pub(crate) unit: &'a str,
     pub(crate) start: usize,

@@ -13,7 +13,7 @@ use crate::value::StdDuration;
 
 /// Returns the product, or `None` on overflow.
 ///
-/// It is computed in 128 bits, since Rattle's own compiler would keep a limit for each factor of `checked_mul` on the stack.
+/// It is computed in 128 bits. With `checked_mul`, the code of Rattle's own compiler would use the stack.
 #[inline(always)]
 fn product(value: u64, factor: u64) -> Option<u64>
     ensures { SomeIff result (value * factor ≤ u64_max) (value * factor) }
@@ -48,7 +48,7 @@ fn part_of(fraction: Fraction, factor: u64) -> Option<u64>
 
 /// Returns the sum plus a fraction of an addition, or `None` if that is not a whole number, or on overflow.
 ///
-/// If `one` is `None`, the fraction has to be zero.
+/// If `one` is `None`, it returns `None` unless the fraction is zero.
 fn add_part(sum: StdDuration, one: Option<Addition>, fraction: Fraction) -> Option<StdDuration>
     requires { fraction.significant ≤ 19 }
     ensures { result ≡ steps.add_part sum one fraction.significand fraction.significant }

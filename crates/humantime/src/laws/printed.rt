@@ -60,7 +60,7 @@ pub fn printed_bounds(d: StdDuration)
 
 /// States that an accepted text has a canonical text, which parses to the same duration and is its own canonical text.
 ///
-/// The clause `answer` gives the result of [`canonical`](crate::canonical) as a function of the text.
+/// It also states which function of the text the result of [`canonical`](crate::canonical) is.
 ///
 /// # Examples
 ///

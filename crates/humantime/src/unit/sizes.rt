@@ -6,8 +6,6 @@ pub(crate) const NANOS_PER_MILLI: u64 = 1_000_000;
 
 pub(crate) const NANOS_PER_SECOND: u32 = 1_000_000_000;
 
-pub(crate) const NANOS_PER_MINUTE: u64 = SECONDS_PER_MINUTE * NANOS_PER_SECOND as u64;
-
 pub(crate) const SECONDS_PER_MINUTE: u64 = 60;
 
 pub(crate) const SECONDS_PER_HOUR: u64 = 3_600;

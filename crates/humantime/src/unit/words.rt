@@ -26,8 +26,8 @@ macro_rules! key {
     };
 }
 
-/// The scale of a nanosecond, which has no fractions. This and the next three are macros, since a reference to a constant is `'static`,
-/// and one to what a function returns is not.
+/// The scale of a nanosecond, which has no fractions. This and the next three are macros, because a reference to a constant expression
+/// is `'static`, and a reference to the result of a function is not.
 macro_rules! whole_nanos {
     () => { Scale { one: Addition::Nanos(1), fraction: None } };
 }
@@ -57,8 +57,10 @@ const USEC: u64 = key!(b"usec");
 
 const US: u64 = key!(b"us");
 
+// With the micro sign, U+00B5.
 const MICRO_S: u64 = key!(b"\xc2\xb5s");
 
+// With the Greek letter mu, U+03BC.
 const MU_S: u64 = key!(b"\xce\xbcs");
 
 const MILLIS: u64 = key!(b"millis");

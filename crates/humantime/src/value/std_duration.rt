@@ -218,8 +218,7 @@ impl StdDuration {
         Some(StdDuration { secs, ..self })
     }
 
-    /// Adds `nanos` nanoseconds. Returns `None` if the whole seconds overflow `u64`, or if `nanos` and the nanoseconds of the
-    /// fractional part together do.
+    /// Adds `nanos` nanoseconds. Returns `None` if `nanos + self.subsec_nanos()` or the seconds of the sum overflow `u64`.
     #[inline]
     pub(crate) fn checked_add_nanos(self, nanos: u64) -> Option<StdDuration>
         ensures { SomeIff result ((self % nanos_per_second + nanos < 2 ^ 64) × ((self + nanos) / nanos_per_second < 2 ^ 64)) (self + nanos) }

@@ -35,7 +35,8 @@ pub const UNIX_EPOCH: SystemTime = SystemTime { secs: 0, nanos: 0 };
 /// ```
 /// use humantime::{StdDuration, SystemTime, UNIX_EPOCH};
 ///
-/// assert!(rt; SystemTime::from_parts(-1, 999_999_999) < Some(UNIX_EPOCH));
+/// let earlier = SystemTime::from_parts(-1, 999_999_999).ok_or("too many nanoseconds")?;
+/// assert!(rt; earlier < UNIX_EPOCH);
 /// let later = UNIX_EPOCH.checked_add(StdDuration::from_secs(5));
 /// assert_eq!(rt; later, SystemTime::from_parts(5, 0));
 /// ```
@@ -123,7 +124,7 @@ impl SystemTime {
     /// use humantime::{SystemTime, UNIX_EPOCH};
     ///
     /// assert_eq!(rt; SystemTime::from_parts(0, 0), Some(UNIX_EPOCH));
-    /// assert!(rt; SystemTime::from_parts(-1, 999_999_999) < Some(UNIX_EPOCH));
+    /// assert!(rt; SystemTime::from_parts(-1, 999_999_999).is_some_and(|moment| moment < UNIX_EPOCH));
     /// assert_eq!(rt; SystemTime::from_parts(0, 1_000_000_000), None);
     /// ```
     pub fn from_parts(secs: i64, nanos: u32) -> Option<SystemTime>
