@@ -1,9 +1,10 @@
 -- The position of the parser in a text.
-use Rattle.std.specs.Prelude.{◌≡◌, ◌≤◌, true, List, ℕ, length, chars}
+use Rattle.std.specs.Prelude.{◌≡◌, ◌≤◌, ◌++◌, true, false, List, ℕ, length, chars, IsUtf8}
 use Rattle.humantime.specs.declared.duration.cursor.Cursor.{Cursor}
 use Rattle.humantime.specs.Texts.{take_while, drop_while}
-use Rattle.humantime.specs.Durations.Characters.{is_whitespace, is_numeric}
+use Rattle.humantime.specs.Durations.Characters.{is_whitespace, is_letter, is_numeric}
 use Rattle.humantime.specs.Durations.Faults.{after_number}
+use Rattle.humantime.specs.Steps.Scanning.{begins_no_word}
 use Rattle.humantime.specs.Answers.Walks.{ends_span}
 
 -- The characters after the cursor.
@@ -14,6 +15,15 @@ ahead c = chars c.rest.now
 pub record IsNumericRun (start : Cursor) (slice : List ℕ) (end : Cursor) : Type 0 where
   pub run : chars slice ≡ take_while is_numeric (ahead start)
   pub behind : ahead end ≡ after_number (ahead start)
+  pub same_text : end.text.now ≡ start.text.now
+
+-- The next character, if there is one, is a letter. The word is the letters after the start, and `end` is the cursor after it.
+pub record IsWord (start : Cursor) (word : List ℕ) (end : Cursor) : Type 0 where
+  pub begun : begins_no_word (ahead start) ≡ false
+  pub letters : chars word ≡ take_while is_letter (ahead start)
+  pub behind : ahead end ≡ drop_while is_letter (ahead start)
+  pub whole : start.rest.now ≡ word ++ end.rest.now
+  pub utf8 : IsUtf8 word
   pub same_text : end.text.now ≡ start.text.now
 
 -- A span may end at `after`, the cursor after its word, and `next` is that cursor or one after some of the whitespace that follows.

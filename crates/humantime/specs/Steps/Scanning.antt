@@ -1,8 +1,8 @@
 -- The steps that parse one span, each on the rest of a text.
-use Rattle.std.specs.Prelude.{◌≡◌, ◌≤◌, ◌<◌, ◌^◌, ℕ, ◌-◌, ◌++◌, Bool, false, not, List, [], ◌∷◌, length, drop, if◌then◌else◌, IsUtf8, IsCharBoundary, chars}
+use Rattle.std.specs.Prelude.{◌≡◌, ◌≤◌, ◌<◌, ◌^◌, ℕ, ◌-◌, ◌++◌, Bool, not, List, [], ◌∷◌, length, drop, if◌then◌else◌, IsUtf8, IsCharBoundary, chars}
 use Rattle.std.specs.Char.{len_utf8}
 use Rattle.humantime.specs.declared.duration.amount.Fraction.{Fraction}
-use Rattle.humantime.specs.Texts.{begins, take_while, drop_while}
+use Rattle.humantime.specs.Texts.{begins, drop_while}
 use Rattle.humantime.specs.Durations.Characters.{is_whitespace, is_letter, without_trailing_zeros}
 use Rattle.humantime.specs.Steps.Scales.{counted, parts_of}
 
@@ -16,15 +16,6 @@ pub record IsTail (text rest : List ℕ) : Type 0 where
 -- Tests whether a text begins with a character other than a letter.
 abbrev pub begins_no_word : List ℕ → Bool
 begins_no_word text = begins (λ c. not (is_letter c)) text
-
--- The text is empty or begins with a letter. The word is the letters at its start, and `rest` is what follows them.
-pub record IsWordOf (text word rest : List ℕ) : Type 0 where
-  pub begun : begins_no_word (chars text) ≡ false
-  pub letters : chars word ≡ take_while is_letter (chars text)
-  pub after : chars rest ≡ drop_while is_letter (chars text)
-  pub whole : text ≡ word ++ rest
-  pub utf8 : IsUtf8 word
-  pub tail : IsTail text rest
 
 -- Returns the number of bytes of the whitespace character at the start of a text, or 0 if there is none.
 abbrev pub whitespace_len : List ℕ → ℕ

@@ -1,6 +1,6 @@
 //! Reads one [`Span`] at a cursor, built on the steps of `scan`.
 
-ghost use Rattle.std.specs.Prelude.{◌≡◌, ◌==◌, ◌≤◌, true, false, length, chars, IfSome, MatchOption, option_map};
+ghost use Rattle.std.specs.Prelude.{◌≡◌, ◌==◌, ◌≤◌, true, false, length, chars, MatchOption, option_map};
 ghost use Rattle.std.specs.Option.{ForSome};
 ghost use Rattle.humantime.specs.Texts.{take_while, begins};
 ghost use Rattle.humantime.specs.Durations.Accepted.{is_some_and};
@@ -8,7 +8,6 @@ ghost use Rattle.humantime.specs.Durations.Characters.{is_digit, is_numeric};
 ghost use Rattle.humantime.specs.Durations.Faults.{after_fraction, after_number, after_point, fraction_of};
 ghost use Rattle.humantime.specs.Steps.Cursors.{ahead, IsSpanEnd};
 ghost use Rattle.humantime.specs.Steps.Scales.{counted, parts_of};
-ghost use Rattle.humantime.specs.Steps.Scanning.{begins_no_word, IsWordOf};
 ghost use Rattle.humantime.specs.Steps.SpanParts.{IsFractionOf, ReadsSpan};
 ghost use Rattle.humantime.specs.Answers.Walks.{ends_span};
 
@@ -16,8 +15,8 @@ use crate::duration::amount::{Amount, Fraction};
 use crate::duration::cursor::Cursor;
 use crate::duration::error::DurationError;
 use crate::duration::scan::{
-    FractionPart, Number, Word, begins_with_digit, read_fraction, read_number, read_word,
-    skip_point, skip_whitespace_char,
+    FractionPart, Number, begins_with_digit, read_fraction, read_number, read_word, skip_point,
+    skip_whitespace_char,
 };
 use crate::duration::span::Span;
 use crate::unit::words::scale_of;
@@ -62,20 +61,6 @@ fn fraction_end<'a>(number: Number<'a>, fraction: Option<FractionPart<'a>>) -> C
         Some(fraction) => fraction.end,
         None => number.end,
     }
-}
-
-/// Reads the word at the cursor, and returns it with the cursor after it, or `None` if the next character is not a letter.
-#[inline(always)]
-fn read_unit<'a>(start: Cursor<'a>) -> Option<(Word<'a>, Cursor<'a>)>
-    ensures word { MatchOption result (begins_no_word (ahead start.entry) ≡ true) (λ x. IsWordOf start.entry.rest.now x.0.letters.now x.1.rest.now) }
-    ensures text { IfSome result (λ x. x.1.text.now ≡ start.entry.text.now) }
-{
-    let (word, rest) = read_word(start.rest)?;
-    let end = Cursor {
-        text: start.text,
-        rest,
-    };
-    Some((word, end))
 }
 
 /// Returns the cursor from which to look for the next span: after the whitespace character that follows the word, or right after
@@ -131,9 +116,10 @@ fn complete_span<'a>(
     let end = fraction_end(number, fraction);
     // Computed before the word is read, so that the fraction's length need not stay live until then.
     let is_bare = has_bare_point(number, fraction);
-    let Some((word, after_word)) = read_unit(end) else {
+    let Some(word) = read_word(end) else {
         return Err(DurationError::InvalidCharacter(end.offset()));
     };
+    let after_word = word.end;
     if is_bare {
         return Err(DurationError::InvalidCharacter(number.end.offset()));
     }

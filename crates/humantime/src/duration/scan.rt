@@ -1,20 +1,19 @@
 //! Reads the parts of a span at a [`Cursor`]: whitespace, a number, a fraction, a word.
 
 ghost use Rattle.std.proofs.Props.{props};
-ghost use Rattle.std.specs.Prelude.{◌≡◌, true, ◌+◌, ◌<◌, SomeIff, drop, length, chars, option_map, IfSome, MatchOption, ◌≤◌, ◌==◌, ◌&&◌, ◌||◌, take, reverse, IsCharBoundary};
+ghost use Rattle.std.specs.Prelude.{◌≡◌, true, ◌+◌, ◌<◌, SomeIff, drop, length, chars, option_map, IfSome, MatchOption, ◌≤◌, ◌==◌, ◌&&◌, ◌||◌, take, IsCharBoundary};
 ghost use Rattle.humantime.specs.Texts.{begins, drop_while, decimal_value};
 ghost use Rattle.humantime.specs.Durations.Characters.{is_digit, is_whitespace, is_letter, without_trailing_zeros, u64_max};
 ghost use Rattle.humantime.specs.Durations.Errors.{IsPlaceIn};
 ghost use Rattle.humantime.specs.Durations.Faults.{number_of, after_point};
 ghost use Rattle.humantime.specs.Durations.Units.{scale_of_word};
-ghost use Rattle.humantime.specs.Steps.Cursors.{ahead, IsNumericRun};
-ghost use Rattle.humantime.specs.declared.unit.words.TheConstants.{MAX_BYTES};
-ghost use Rattle.humantime.specs.Steps.Keys.{packed, scale_of_key};
-ghost use Rattle.humantime.specs.Steps.Scanning.{AreDigits, SkipsWhitespace, whitespace_len, begins_no_word, IsWordOf};
+ghost use Rattle.humantime.specs.Steps.Cursors.{ahead, IsNumericRun, IsWord};
+ghost use Rattle.humantime.specs.Steps.Keys.{scale_of_key};
+ghost use Rattle.humantime.specs.Steps.Scanning.{AreDigits, SkipsWhitespace, whitespace_len, begins_no_word};
 
 use crate::duration::amount::{Fraction, push_digit};
 use crate::duration::cursor::Cursor;
-use crate::unit::words::{EMPTY_KEY, MAX_BYTES, NO_UNIT, push_byte};
+use crate::unit::words::{EMPTY_KEY, push_byte, word_key};
 
 /// The largest number whose product with 10 fits in a `u64`.
 const TENTH_OF_MAX: u64 = u64::MAX / 10;
@@ -216,23 +215,23 @@ pub(crate) fn skip_point<'a>(start: Cursor<'a>) -> Option<Cursor<'a>>
     Some(start.advance(1))
 }
 
-/// The letters of a word, and the key by which its unit is found.
+/// A word, with the cursor after it.
 #[derive(Clone, Copy)]
 pub(crate) struct Word<'a> {
     pub letters: &'a str,
+    /// The key by which the unit is found.
     pub key: u64,
+    pub end: Cursor<'a>,
     ghost scale: { scale_of_key key ≡ scale_of_word (chars letters.now) },
 }
 
-/// Returns the length of the letters at the start of the text, in bytes, and their key.
-///
-/// If the length exceeds [`MAX_BYTES`], the key has wrapped around and is meaningless.
+/// Returns the length of the letters at the start of the text, in bytes, and the key of the word.
 #[inline(always)]
 #[tactic(auto, using(crate::proofs::Durations::Bytes::Tails::no_chars_at))]
-fn letters_end(text: &str) -> (usize, u64)
+fn read_letters(text: &str) -> (usize, u64)
     ensures place { IsCharBoundary text.now result.0 }
     ensures rest { chars (drop result.0 text.now) ≡ drop_while is_letter (chars text.now) }
-    ensures key { result.0 ≤ MAX_BYTES → result.1 ≡ packed (reverse (take result.0 text.now)) }
+    ensures key { scale_of_key result.1 ≡ scale_of_word (chars (take result.0 text.now)) }
 {
     let bytes = text.as_bytes();
     let mut key = EMPTY_KEY;
@@ -248,26 +247,31 @@ fn letters_end(text: &str) -> (usize, u64)
             break;
         }
     }
-    (at, key)
+    (at, word_key(at, key))
 }
 
-/// Returns the word at the start of the text and the text after it, or `None` if the text begins with a character that is not a
-/// letter.
+/// Reads the word at the cursor, or returns `None` if the next character is not a letter.
 ///
-/// The word is empty only if the text is empty.
+/// The word is empty only at the end of the text.
 #[inline(always)]
-pub(crate) fn read_word<'a>(text: &'a str) -> Option<(Word<'a>, &'a str)>
-    ensures { MatchOption result (begins_no_word (chars text.now) ≡ true) (λ x. IsWordOf text.now x.0.letters.now x.1.now) }
+pub(crate) fn read_word<'a>(start: Cursor<'a>) -> Option<Word<'a>>
+    ensures { MatchOption result (begins_no_word (ahead start.entry) ≡ true) (λ w. IsWord start.entry w.letters.now w.end) }
 {
+    let text = start.rest;
     if text.is_empty() {
-        let key = EMPTY_KEY;
-        return Some((Word { letters: text, key }, text));
+        return Some(Word {
+            letters: text,
+            key: EMPTY_KEY,
+            end: start,
+        });
     }
-    let (end, key) = letters_end(text);
-    if end == 0 {
+    let (len, key) = read_letters(text);
+    if len == 0 {
         return None;
     }
-    let letters = &text[..end];
-    let key = if end > MAX_BYTES { NO_UNIT } else { key };
-    Some((Word { letters, key }, &text[end..]))
+    Some(Word {
+        letters: &text[..len],
+        key,
+        end: start.advance(len),
+    })
 }

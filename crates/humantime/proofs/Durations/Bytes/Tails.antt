@@ -1,8 +1,8 @@
 -- The end parts of a text, as bytes.
 use Rattle.std.proofs.lemmas.Grind.{common_steps}
-use Rattle.std.proofs.Common.{◌≡◌, ◌≢◌, ◌≤◌, ◌+◌, ◌-◌, ℕ, Bool, true, false, List, [], ◌++◌, length, take, drop, refl, ap, sym, ◌∙◌, arith, length-append, length-drop, length-take, IsUtf8, IsCharBoundary, chars}
+use Rattle.std.proofs.Common.{◌≡◌, ◌≢◌, ◌≤◌, ◌-◌, ℕ, Bool, true, false, List, [], ◌++◌, length, take, drop, refl, ap, sym, ◌∙◌, arith, length-append, length-drop, length-take, IsUtf8, IsCharBoundary, chars}
 use Rattle.std.proofs.lemmas.List.{take-append-drop, append_cancel_right}
-use Rattle.std.proofs.lemmas.Str.{IsUtf8-take, IsUtf8-drop, IsCharBoundary-at_seam, encodes-chars, chars-append, chars-nil}
+use Rattle.std.proofs.lemmas.Str.{IsUtf8-take, IsCharBoundary-at_seam, encodes-chars, chars-append, chars-nil}
 use Rattle.humantime.specs.Texts.{take_while, drop_while}
 use Rattle.humantime.specs.Durations.Characters.{is_letter, byte_length, offset_of}
 use Rattle.humantime.specs.Steps.Scanning.{IsTail, begins_no_word}
@@ -14,13 +14,6 @@ front_of text rest = take (length text - length rest) text
 
 pub tail_whole : (text rest : List ℕ) → IsTail text rest → text ≡ front_of text rest ++ rest
 tail_whole text rest t = sym (take-append-drop (length text - length rest) text) ∙ ap (λ (x : List ℕ). front_of text rest ++ x) (sym t.ends)
-
--- The text after an offset is an end part.
-pub tail_at : (text rest : List ℕ) (at : ℕ) → IsUtf8 text → IsCharBoundary text at → rest ≡ drop at text → IsTail text rest
-tail_at text rest at u place e =
-    let long : length rest + at ≡ length text = rw e (omega (arith, length-drop at text, place.0)) in
-    let same : length text - length rest ≡ at = omega (arith, long) in
-    record { shorter = omega (arith, long); ends = rw same e; utf8 = rw e (IsUtf8-drop text at u place); whole = u }
 
 pub tail_boundary : (text rest : List ℕ) → IsTail text rest → IsCharBoundary text (length text - length rest)
 tail_boundary text rest t = grind (arith, common_steps, ap length (tail_whole text rest t), length-append (front_of text rest) rest, IsCharBoundary-at_seam)

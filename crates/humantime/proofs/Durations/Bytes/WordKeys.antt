@@ -1,7 +1,7 @@
 -- The key of a word determines its unit.
 use Rattle.std.proofs.lemmas.Grind.{common_steps}
 use Rattle.std.proofs.Common.{◌≡◌, ◌∙◌, sym, ap, refl, ℕ, zero, suc, ◌+◌, ◌*◌, ◌^◌, ◌<◌, ◌≤◌, Bool, true, ◌&&◌, List, [], ◌∷◌, length, take, get_or, ltb, chars, arith}
-use Rattle.std.specs.Prelude.{◌==◌, bytes_eq, reverse}
+use Rattle.std.specs.Prelude.{◌==◌, bytes_eq, reverse, nat_lt, if◌then◌else◌}
 use Rattle.std.specs.List.{list_all}
 use Rattle.std.specs.Cmp.{both_ways}
 use Rattle.std.specs.Map.{lookup}
@@ -11,6 +11,7 @@ use Rattle.std.proofs.Math.Seq.{take-suc}
 use Rattle.std.proofs.Math.Nat.{pow-le-pow_right}
 use Rattle.std.proofs.lemmas.List.{get_or-reverse, reverse-append, reverse-reverse}
 use Rattle.std.proofs.lemmas.Bool.{and_parts, ltb-true, eqb-true, eq-eqb}
+use Rattle.std.proofs.lemmas.Bool.Decides.{nat_tests}
 use Rattle.std.proofs.lemmas.Slice.Eq.{bytes_eq-Decides}
 use Rattle.std.proofs.lemmas.Str.{chars-encodes, encodes-chars}
 use Rattle.humantime.specs.declared.unit.words.TheConstants.{MAX_BYTES}
@@ -50,11 +51,8 @@ key_more bs at k m bytes some so_far next short =
     rw (more, packed_front bs at some, next (omega (arith, fits, front, packed_front_below bs at bytes (omega arith)))) (ap (λ n. n * 256 + get_or bs at 0) front)
 
 -- The key of a prefix.
-pub key_short : (bs : List ℕ) (at k : ℕ) → at ≤ length bs → at ≤ MAX_BYTES → IsSoFar bs at k → k ≡ key (take at bs)
-key_short bs at k within short so_far = grind (arith, common_steps)
-
-pub key_long : (bs : List ℕ) (at : ℕ) → at ≤ length bs → MAX_BYTES < at → 0 ≡ key (take at bs)
-key_long bs at within long = grind (arith, common_steps)
+pub front_key : (bs : List ℕ) (at k : ℕ) → at ≤ length bs → IsSoFar bs at k → (if nat_lt MAX_BYTES at then 0 else k) ≡ key (take at bs)
+front_key bs at k within so_far = grind (arith, common_steps, nat_tests)
 
 packed_same : (xs ys : List ℕ) → HasBytes xs → HasBytes ys → packed xs ≡ packed ys → xs ≡ ys
 packed_same [] [] h k e = refl

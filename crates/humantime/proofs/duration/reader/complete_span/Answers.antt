@@ -12,44 +12,44 @@ use Rattle.humantime.proofs.duration.reader.complete_span.Goals as goal
 pub returns-in_default : goal.returns-in_default
 returns-in_default c =
     let end = c.fraction_end-end.ensures in record {
-      stop = rw (← end.text) (exit_no_letter _ _ _ _ c.requires.fraction.short end.rest c.in_default.ensures.word c.offset.ensures);
-      place = cursor_place _ c.fraction_end-end.result _ end.text c.offset.ensures (begins_not_nil _ _ c.in_default.ensures.word);
+      stop = rw (← end.text) (exit_no_letter _ _ _ _ c.requires.fraction.short end.rest c.in_default.ensures c.offset.ensures);
+      place = cursor_place _ c.fraction_end-end.result _ end.text c.offset.ensures (begins_not_nil _ _ c.in_default.ensures);
       fine = tt;
     }
 
 pub returns-then-is_bare : goal.returns-then-is_bare
 returns-then-is_bare c =
     let bare = sym c.has_bare_point-is_bare.ensures ∙ c.if-is_bare.true in record {
-      stop = rw (← c.args.number.run.same_text) (exit_bare _ _ _ _ _ c.requires.fraction.short c.fraction_end-end.ensures.rest c.in-Some.ensures.word.begun bare c.args.number.run.behind c.offset-then-is_bare.ensures);
+      stop = rw (← c.args.number.run.same_text) (exit_bare _ _ _ _ _ c.requires.fraction.short c.fraction_end-end.ensures.rest c.in-Some.ensures.begun bare c.args.number.run.behind c.offset-then-is_bare.ensures);
       place = cursor_place _ c.args.number.end _ c.args.number.run.same_text c.offset-then-is_bare.ensures (bare_some _ _ bare c.args.number.run.behind);
       fine = tt;
     }
 
 pub returns-in_default-end_span : goal.returns-in_default-end_span
 returns-in_default-end_span c =
-    let word = c.in-Some.ensures.word in
-    let text = c.in-Some.ensures.text ∙ c.fraction_end-end.ensures.text in record {
-      stop = rw (← text) (exit_after _ _ _ _ _ c.requires.fraction.short c.fraction_end-end.ensures.rest word.begun (sym c.has_bare_point-is_bare.ensures ∙ c.if-is_bare.false) word.after
+    let word = c.in-Some.ensures in
+    let text = c.in-Some.ensures.same_text ∙ c.fraction_end-end.ensures.text in record {
+      stop = rw (← text) (exit_after _ _ _ _ _ c.requires.fraction.short c.fraction_end-end.ensures.rest word.begun (sym c.has_bare_point-is_bare.ensures ∙ c.if-is_bare.false) word.behind
           c.in_default-end_span.ensures c.offset-in_default-end_span.ensures);
-      place = cursor_place _ c.in-Some.after_word _ text c.offset-in_default-end_span.ensures (bad_some _ c.in_default-end_span.ensures);
+      place = cursor_place _ c.in-Some.word.end _ text c.offset-in_default-end_span.ensures (bad_some _ c.in_default-end_span.ensures);
       fine = tt;
     }
 
 pub returns-in_default-scale_of : goal.returns-in_default-scale_of
 returns-in_default-scale_of c =
-    let word = c.in-Some.ensures.word in
+    let word = c.in-Some.ensures in
     let end = c.fraction_end-end.ensures in
-    let text = c.in-Some.ensures.text ∙ end.text in record {
-      stop = exit_unit _ _ _ _ _ _ _ _ c.requires.fraction.short end.rest word.begun (sym c.has_bare_point-is_bare.ensures ∙ c.if-is_bare.false) word.after
+    let text = c.in-Some.ensures.same_text ∙ end.text in record {
+      stop = exit_unit _ _ _ _ _ _ _ _ c.requires.fraction.short end.rest word.begun (sym c.has_bare_point-is_bare.ensures ∙ c.if-is_bare.false) word.behind
           c.in-Some-end_span.ensures.ends word.utf8 word.letters (sym (c.in_default-scale_of.ensures ∙ c.in-Some.word.scale))
           (rw end.text at c.offset-in_default-scale_of.ensures) (rw text at c.offset-in_default-scale_of-2.ensures) c.args.number.digits;
-      place = part_between _ _ c.fraction_end-end.result c.in-Some.after_word _ _ end.text text word.whole c.offset-in_default-scale_of.ensures c.offset-in_default-scale_of-2.ensures;
+      place = part_between _ _ c.fraction_end-end.result c.in-Some.word.end _ _ end.text text word.whole c.offset-in_default-scale_of.ensures c.offset-in_default-scale_of-2.ensures;
       fine = tt;
     }
 
 pub invariant_of-span-2 : goal.invariant_of-span-2
 invariant_of-span-2 c =
-    let letters = c.in-Some.ensures.word.letters ∙ ap (take_while is_letter) c.fraction_end-end.ensures.rest in
+    let letters = c.in-Some.ensures.letters ∙ ap (take_while is_letter) c.fraction_end-end.ensures.rest in
     record {
       read = rw (spelled_read _ _ _ c.fraction_slice.result c.args.number.run.run letters c.fraction_slice.ensures)
           (record { scale = sym (c.in-Some-scale_of.ensures ∙ c.in-Some.word.scale ∙ ap scale_of_word letters); value = c.args.number.digits; fraction = c.fraction_value.ensures.parts });
@@ -57,14 +57,14 @@ invariant_of-span-2 c =
 
 pub returns : goal.returns
 returns c =
-    let word = c.in-Some.ensures.word in
+    let word = c.in-Some.ensures in
     let end = c.fraction_end-end.ensures in
     let next = c.in-Some-end_span.ensures in
-    let text = c.in-Some.ensures.text ∙ end.text in
-    let after = word.after ∙ ap (drop_while is_letter) end.rest in
-    let less : length c.in-Some.after_word.rest.now < length c.args.number.start.rest.now =
-    omega (arith, next_bytes _ c.requires.digit, byte_length-chars _ c.args.number.start.tail.utf8, byte_length-chars _ c.in-Some.after_word.tail.utf8, ap byte_length after) in record {
-      stop = exit_fine _ _ _ _ _ _ c.requires.fraction.short end.rest word.begun (sym c.has_bare_point-is_bare.ensures ∙ c.if-is_bare.false) word.after next.ends
+    let text = c.in-Some.ensures.same_text ∙ end.text in
+    let after = word.behind ∙ ap (drop_while is_letter) end.rest in
+    let less : length c.in-Some.word.end.rest.now < length c.args.number.start.rest.now =
+    omega (arith, next_bytes _ c.requires.digit, byte_length-chars _ c.args.number.start.tail.utf8, byte_length-chars _ c.in-Some.word.end.tail.utf8, ap byte_length after) in record {
+      stop = exit_fine _ _ _ _ _ _ c.requires.fraction.short end.rest word.begun (sym c.has_bare_point-is_bare.ensures ∙ c.if-is_bare.false) word.behind next.ends
           word.letters (sym (c.in-Some-scale_of.ensures ∙ c.in-Some.word.scale));
       place = tt;
       fine = record {
@@ -73,6 +73,6 @@ returns c =
         follows = next.same ∙ ap (drop_while is_whitespace) after;
         shorter = omega (arith, next.shorter, less);
         same_text = next.same_text ∙ text;
-        place = range_between _ c.args.number.start c.in-Some.after_word _ _ refl text (omega (arith, less)) c.offset-2.ensures c.offset-3.ensures;
+        place = range_between _ c.args.number.start c.in-Some.word.end _ _ refl text (omega (arith, less)) c.offset-2.ensures c.offset-3.ensures;
       };
     }

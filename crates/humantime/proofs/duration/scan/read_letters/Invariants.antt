@@ -3,7 +3,7 @@ use Rattle.std.specs.Str.{chars}
 use Rattle.humantime.specs.Texts.{drop_while}
 use Rattle.humantime.specs.Durations.Characters.{is_letter}
 use Rattle.humantime.proofs.Durations.Bytes.WordKeys.{IsSoFar}
-use Rattle.humantime.proofs.duration.scan.letters_end.Given as goal
+use Rattle.humantime.proofs.duration.scan.read_letters.Given as goal
 
 abbrev pub invariant-loop-at : goal.invariant-loop-at
 invariant-loop-at l = record {
