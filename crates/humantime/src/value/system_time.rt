@@ -69,6 +69,7 @@ impl Model for SystemTime {
 /// The error returned by [`SystemTime::duration_since`] if `earlier` is later than the moment.
 ///
 /// It holds the duration from the moment to `earlier`. Contracts see it as that number of nanoseconds, and equality is that of this number.
+/// Unlike the error of `std::time`, it has no message: it implements neither `Display` nor `Error`.
 ///
 /// # Examples
 ///
