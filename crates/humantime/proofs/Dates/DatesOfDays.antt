@@ -1,4 +1,5 @@
 -- The date that is computed with years from March on is the date of the day.
+use Rattle.std.proofs.lemmas.Grind.{common_steps}
 use Rattle.std.proofs.Common.{◌≡◌, inl, inr, ℕ, ◌+◌, ◌-◌, ◌<◌, ◌≤◌, refl, arith}
 use Rattle.std.proofs.lemmas.Bool.Decides.{nat_tests}
 use Rattle.std.specs.Prelude.{min, nat_lt}
@@ -16,20 +17,13 @@ dated n y m d within sum = ((within_ranges y m (days_in_month y m) d).1 within, 
 -- The months March to December.
 early : (n y k d : ℕ) → n ≤ 2_932_896 → k < 10 → march_months k + d < march_months (k + 1) → march_days y + march_months k + d ≡ n + 135_080
     → IsDateOfDay n (record { year = 1600 + y; month = k + 3; day = d + 1 })
-early n y k d few month within sum =
-    let length = march_lengths (1600 + y) k month in
-    dated n (1600 + y) (k + 3) (d + 1) ((omega arith, omega arith), (omega arith, omega arith), (omega arith, omega arith))
-    (grind (arith, (days_of_months_closed (1600 + y) (k + 3) (omega arith) (omega arith)), days_of_years_closed (1600 + y) (omega arith), march_days_next (1600 + y)))
+early n y k d few month within sum = grind (arith, common_steps, (dated n (1600 + y) (k + 3) (d + 1)), (march_lengths (1600 + y) k), (days_of_months_closed (1600 + y) (k + 3)), days_of_years_closed (1600 + y), march_days_next (1600 + y))
 
 -- The months January and February.
 late : (n y k d : ℕ) → n ≤ 2_932_896 → 10 ≤ k → march_months k + d < march_months (k + 1) → march_months k + d < days_in_year (1601 + y)
     → march_days y + march_months k + d ≡ n + 135_080
     → IsDateOfDay n (record { year = 1601 + y; month = k - 9; day = d + 1 })
-late n y k d few month within ends sum =
-    let bound = days_in_year_bound (1601 + y) in
-    let length : d < days_in_month (1601 + y) (k - 9) = grind (arith, nat_tests) in
-    dated n (1601 + y) (k - 9) (d + 1) ((omega arith, omega arith), (omega arith, omega arith), (omega arith, omega arith))
-    (grind (arith, days_of_first_months (1601 + y) (k - 10), days_of_years_closed (1601 + y) (omega arith)))
+late n y k d few month within ends sum = grind (arith, nat_tests, (dated n (1601 + y) (k - 9) (d + 1)), (days_in_year_bound (1601 + y)), (days_of_first_months (1601 + y) (k - 10)), days_of_years_closed (1601 + y))
 
 -- The date of the day, in the year that is computed.
 pub date_found : (n y k d : ℕ) (x : Date) → x ≡ march_date y k (d - march_months k) → n ≤ 2_932_896 → y ≡ march_year (n + 135_080)

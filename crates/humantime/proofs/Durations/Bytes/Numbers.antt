@@ -1,4 +1,5 @@
 -- Parsing the digits at the start of a text, one by one.
+use Rattle.std.proofs.lemmas.Grind.{common_steps}
 use Rattle.std.proofs.Common.{◌≡◌, ◌≤◌, ◌<◌, ◌+◌, ◌-◌, ◌*◌, ◌%◌, ℕ, List, [], ◌∷◌, ◌++◌, ap, sym, ◌∙◌, arith, append_assoc, append-nil, true, false, chars, take, drop, get_or, length, IsUtf8, IsCharBoundary, refl}
 use Rattle.std.specs.Char.{digit_value, is_ascii_digit}
 use Rattle.std.specs.Str.Parse.{digits_value_after}
@@ -61,13 +62,7 @@ stops_here text bytes at u same some place d w =
 pub run_is_read : (start end : Cursor) (at : ℕ) (slice ds : List ℕ) → IsRead start.rest.now at ds → begins is_numeric (chars (drop at start.rest.now)) ≡ false
     → slice ≡ take at start.rest.now → end.rest.now ≡ drop at start.rest.now → end.text.now ≡ start.text.now
     → (number_of (ahead start) ≡ ds) × IsNumericRun start slice end
-run_is_read start end at slice ds h ended front rest same =
-    let text = start.rest.now in
-    let behind = none_there _ ended in
-    let after : chars (drop at text) ≡ after_number (chars text) = sym behind.1 ∙ h.after in (
-      h.all ∙ ap (λ (x : List ℕ). ds ++ x) behind.0 ∙ append-nil ds,
-      record { run = rw front (front_is is_numeric text at start.tail.utf8 h.place after); behind = rw rest after; same_text = same },
-    )
+run_is_read start end at slice ds h ended front rest same = grind (arith, common_steps, none_there, append-nil, front_is, (start.tail.utf8), (h.after), (h.all), (h.place))
 
 -- A byte is not a digit if subtracting 48 from it, in 64 bits, leaves more than nine.
 pub other_left : (c : ℕ) → c < 256 → 9 < (c + 18446744073709551568) % 18446744073709551616 → is_ascii_digit c ≡ false
@@ -96,11 +91,7 @@ value_more ds c d = value-append 0 ds (c ∷ []) ∙ ap (λ (n : ℕ). decimal_v
 pub digit_more : (text bytes : List ℕ) (at : ℕ) (ds : List ℕ) → IsUtf8 text → bytes ≡ text → at < length bytes → IsRead text at ds
     → get_or bytes at 0 < 256 → (get_or bytes at 0 + 18446744073709551568) % 18446744073709551616 ≤ 9
     → let more = ds ++ get_or bytes at 0 ∷ [] in IsRead text (at + 1) more × (decimal_value more ≡ decimal_value ds * 10 + (get_or bytes at 0 + 18446744073709551568) % 18446744073709551616)
-digit_more text bytes at ds u same some h fits few =
-    let c = get_or bytes at 0 in
-    let range : (48 ≤ c) × (c ≤ 57) = (omega (arith, fits, few), omega (arith, fits, few)) in
-    let digit : is_ascii_digit c ≡ true = grind (arith, nat_tests) in
-    (read_digit text bytes at ds u same some h digit, omega (arith, value_more ds c (sym (digit_is c) ∙ digit), range, fits, few))
+digit_more text bytes at ds u same some h fits few = grind (arith, nat_tests, (read_digit text bytes at ds u same some h), value_more, digit_is)
 
 -- Further digits do not make a value smaller.
 pub value_grows : (n : ℕ) (ds : List ℕ) → n ≤ digits_value_after 10 n ds

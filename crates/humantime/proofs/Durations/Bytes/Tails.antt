@@ -55,9 +55,7 @@ no_chars_at text at end = no_bytes (drop at text) (omega (arith, length-drop at 
 -- A text begins with a word exactly if its letters end after its start.
 pub a_word : (text : List ℕ) (at : ℕ) → IsUtf8 text → IsCharBoundary text at → chars (drop at text) ≡ drop_while is_letter (chars text) → at ≢ 0
     → begins_no_word (chars text) ≡ false
-a_word text at u place rest some =
-    let front : length (take at text) ≢ 0 = omega (arith, length-take at text, place.0, some) in
-    letter_begins (chars text) (λ none. some_chars (take at text) (IsUtf8-take text at u place) front (front_is is_letter text at u place rest ∙ none))
+a_word text at u place rest some = grind (arith, common_steps, length-take, letter_begins, some_chars, IsUtf8-take, front_is)
 
 pub no_word : (text : List ℕ) (at : ℕ) → IsUtf8 text → IsCharBoundary text at → chars (drop at text) ≡ drop_while is_letter (chars text) → at ≡ 0
     → length text ≢ 0 → begins_no_word (chars text) ≡ true

@@ -91,10 +91,7 @@ pub next_digit : (ds : List ℕ) (k n m : ℕ) → k < length ds → is_ascii_di
     → (add_digits m (place_value (k + 1)) (drop (k + 1) ds) ≡ add_digits n (place_value k) (drop k ds))
     × (all_ascii_digits (drop (k + 1) ds) ≡ all_ascii_digits (drop k ds))
     × (n < 1_000_000_000 → n + 10 * place_value k ≤ 1_000_000_000 → (m < 1_000_000_000) × (m + 10 * place_value (k + 1) ≤ 1_000_000_000))
-next_digit ds k n m some digit added =
-    let d = get_or ds k 0 in
-    let most : place_value k * (d - 48) ≤ place_value k * 9 = mul-le-mul_left (place_value k) (omega (arith, is_digit_from_test d digit)) in
-    rw (next_place k, add-one k, drop-cons ds k 0 some, added, digit) (refl, refl, (λ low room. (omega arith, omega arith)))
+next_digit ds k n m some digit added = grind (arith, common_steps, next_place, drop-cons, add-one, is_digit_from_test)
 
 -- no digit is left, or none that counts
 ended : (ds : List ℕ) (k n : ℕ) → k ≡ min (length ds) 9 → add_digits n (place_value k) (drop k ds) ≡ n

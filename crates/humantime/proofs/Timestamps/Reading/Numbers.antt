@@ -1,5 +1,6 @@
 -- The weighted sums of digits are the numbers of date and time.
-use Rattle.std.proofs.Common.{◌≡◌, ℕ, ◌+◌, ◌-◌, ◌*◌, ◌≤◌, List, [], ◌∷◌, length, take, drop, ◌∙◌, arith}
+use Rattle.std.proofs.lemmas.Grind.{common_steps}
+use Rattle.std.proofs.Common.{◌≡◌, ℕ, ◌+◌, ◌-◌, ◌*◌, ◌≤◌, List, [], ◌∷◌, length, take, drop, arith}
 use Rattle.std.specs.Prelude.{true, slice_index}
 use Rattle.std.specs.Int.{IsInRange}
 use lib.Lanes.{zip2, dots}
@@ -42,13 +43,4 @@ summed_by_digits (b0 ∷ b1 ∷ b2 ∷ b3 ∷ b4 ∷ b5 ∷ b6 ∷ b7 ∷ b8 ∷
 summed_by_digits _ h = absurd (omega arith)
 
 pub date_time_summed : (bytes : List ℕ) → 19 ≤ length bytes → has_digits bytes ≡ true → summed bytes ≡ date_time_of bytes
-date_time_summed bytes long digits =
-    let pairs = pairs_from_test bytes digits in
-    let year = year_from_test bytes (omega arith) pairs.0 pairs.1 in
-    let month = pair_from_test bytes 5 (omega arith) pairs.2 in
-    let day = pair_from_test bytes 8 (omega arith) pairs.3 in
-    let hour = pair_from_test bytes 11 (omega arith) pairs.4 in
-    let minute = pair_from_test bytes 14 (omega arith) pairs.5 in
-    let second = pair_from_test bytes 17 (omega arith) pairs.6 in
-    summed_by_digits bytes long
-    ∙ (λ i. record { date = record { year = year i; month = month i; day = day i }; hour = hour i; minute = minute i; second = second i })
+date_time_summed bytes long digits = grind (arith, common_steps, pairs_from_test, year_from_test, pair_from_test, summed_by_digits)

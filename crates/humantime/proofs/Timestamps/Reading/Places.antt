@@ -28,8 +28,7 @@ last_two bytes k to two long = simp (next_byte bytes k to (omega arith), next_by
 pub number_of_two : (bytes : List ℕ) (k : ℕ) → k + 2 ≤ length bytes → has_two bytes k ≡ true
     → number_between bytes k (k + 2) ≡ (slice_index bytes k - 48) * 10 + (slice_index bytes (k + 1) - 48)
 unfolding number_between
-number_of_two bytes k long h =
-    rw (last_two bytes k (k + 2) refl long) (grind (arith, has_two_from_test, digit_value_digit))
+number_of_two bytes k long h = grind (arith, last_two, has_two_from_test, digit_value_digit)
 
 pub number_of_four : (bytes : List ℕ) → 4 ≤ length bytes → has_two bytes 0 ≡ true → has_two bytes 2 ≡ true
     → number_between bytes 0 4 ≡ (slice_index bytes 0 - 48) * 1000 + (slice_index bytes 1 - 48) * 100 + (slice_index bytes 2 - 48) * 10 + (slice_index bytes 3 - 48)
