@@ -7,7 +7,7 @@ import tempfile
 from pathlib import Path
 
 ROOT = Path(__file__).resolve().parent.parent
-EDITS = ("must-fail", "mutants", "planted", "weakened")
+EDITS = ("must-fail", "mutants", "equivalent", "planted", "weakened")
 
 
 def read(*path):
