@@ -17,10 +17,10 @@ CLAUSE = re.compile(r"^ *(?:requires|ensures\*?)(?: \w+)? \{", re.M)
 PROMISE = re.compile(r"    ghost (?!(?:laws|total|matches_partial_cmp|matches_eq) )\w+ = ")
 
 
-def files(crate, folder, ending):
-    """Yields the files in a folder of a crate with this extension: for each its module, such as `date.parse`, and its text."""
+def files(crate, folder):
+    """Yields the source files in a folder of a crate: for each its module, such as `date.parse`, and its text."""
     top = CRATES / crate / folder
-    for path in sorted(top.rglob("*" + ending)):
+    for path in sorted([*top.rglob("*.antt"), *top.rglob("*.rt")]):
         yield ".".join(path.relative_to(top).with_suffix("").parts), path.read_text(encoding="utf-8")
 
 
