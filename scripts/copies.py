@@ -62,6 +62,10 @@ def builds(crate):
 
 
 def finish(script, passed, failed):
-    """Prints the last line and exits, with status 0 if something passed and nothing failed."""
+    """Prints the last line and exits, with status 0 if something passed and nothing failed. What failed is a number, or a list of complaints,
+    which are printed first."""
+    if not isinstance(failed, int):
+        print("".join(f"{line}\n" for line in failed), end="")
+        failed = len(failed)
     print(f"{script}: {passed} passed, {failed} failed")
     sys.exit(1 if failed or not passed else 0)

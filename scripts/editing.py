@@ -5,20 +5,19 @@ An edit is a file NAME.edit in the form of those in must-fail/: a line `file: PA
 as the `kind: WORD` of a weakening.
 """
 import os
-import queue
 import re
+import threading
 from concurrent.futures import ThreadPoolExecutor
 from contextlib import contextmanager
-from dataclasses import dataclass
 from pathlib import Path
+from typing import NamedTuple
 
-from copies import ROOT, copied, read, rt
+from copies import EDITS, ROOT, copied, read, room, rt, write
 
 ROWS, PROGRAM = "humantime_tests_rows", "humantime_cli"
 
 
-@dataclass(frozen=True)
-class Edit:
+class Edit(NamedTuple):
     """An edit: its crate, its folder there, its name without the extension, and its text."""
 
     crate: str
@@ -63,35 +62,27 @@ def chosen(folders, words=()):
 
 @contextmanager
 def edited(top, crate, texts):
-    """Writes these files into the crate, in place of its own or in addition to them, until the end of a `with` block."""
-    paths = {Path(top, "crates", crate, path): text for path, text in texts.items()}
-    before = {path: path.read_text(encoding="utf-8") for path in paths if path.exists()}
-    try:
-        for path, text in paths.items():
-            path.write_text(text, encoding="utf-8")
-        yield
-    finally:
-        for path in paths:
-            path.write_text(before[path], encoding="utf-8") if path in before else path.unlink()
+    """Writes these files into a crate of a copy of the repository, in place of its own or in addition to them, until the end of a `with`
+    block."""
+    for path, text in texts.items():
+        write(text, top, "crates", crate, path)
+    yield
+    for path in texts:
+        own = ROOT / "crates" / crate / path
+        write(read(own), top, "crates", crate, path) if own.exists() else Path(top, "crates", crate, path).unlink()
 
 
-def side_by_side(top, work, tried):
-    """Yields the result of `tried` for a copy of the repository and each piece of work, in order. There are as many copies as processors;
-    the first one exists already."""
-    number = max(1, min(len(work), len(os.sched_getaffinity(0))))
-    free = queue.Queue()
-    free.put(top)
-    for name in range(1, number):
-        free.put(copied(top, os.path.join(os.path.dirname(top), str(name))))
+def side_by_side(tried, work, *without):
+    """Yields the result of `tried` for a copy of the repository and each piece of work, in order. There is a copy for each processor, without
+    edits and without these files."""
+    with room("edits") as folder, ThreadPoolExecutor(len(os.sched_getaffinity(0))) as pool:
+        own = threading.local()
 
-    def on_a_copy(each):
-        copy = free.get()
-        try:
-            return tried(copy, each)
-        finally:
-            free.put(copy)
+        def on_a_copy(each):
+            if not hasattr(own, "top"):
+                own.top = copied(ROOT, Path(folder, str(threading.get_ident())), without=[*EDITS, *without])
+            return tried(own.top, each)
 
-    with ThreadPoolExecutor(number) as pool:
         yield from pool.map(on_a_copy, work)
 
 
