@@ -1,107 +1,27 @@
-//! Durations that are parsed: the answer of each side, and the listed differences that explain it.
+//! The listed differences of durations that are parsed.
 
-use crate::library::{Answer, Text, library_duration_message, library_read_duration, library_unit, text_of};
-use crate::rows::{Row, caught};
-use std::time::Duration;
-
-/// The result of parsing a text. The unit of `Unknown` is compared separately.
-#[derive(Clone, Copy, PartialEq, Debug)]
-pub enum Read {
-    Value(u64, u32),
-    InvalidCharacter(usize),
-    NumberExpected(usize),
-    Unknown {
-        start: usize,
-        end: usize,
-        value: u64,
-    },
-    Overflow,
-    Empty,
-    /// The crate panicked: a sum of durations was too large.
-    Panicked,
-}
-
-/// Returns the crate's answer, or `None` if an offset is not on a `char` boundary or a unit is not the text between its offsets.
-pub fn read_by_crate(text: &str) -> Option<Read> {
-    use humantime::DurationError::*;
-    Some(match caught(|| humantime::parse_duration(text)) {
-        Ok(Ok(duration)) => value(duration),
-        Ok(Err(InvalidCharacter(at))) if text.is_char_boundary(at) => Read::InvalidCharacter(at),
-        Ok(Err(NumberExpected(at))) if text.is_char_boundary(at) => Read::NumberExpected(at),
-        Ok(Err(UnknownUnit {
-            start,
-            end,
-            unit,
-            value,
-        })) if text.get(start..end) == Some(unit.as_str()) => Read::Unknown { start, end, value },
-        Ok(Err(NumberOverflow)) => Read::Overflow,
-        Ok(Err(Empty)) => Read::Empty,
-        Err(message) if message == "overflow in Duration::new" => Read::Panicked,
-        _ => return None,
-    })
-}
-
-fn value(duration: Duration) -> Read {
-    Read::Value(duration.as_secs(), duration.subsec_nanos())
-}
-
-/// Returns the library's answer, or `None` if a unit is not the text between its offsets.
-pub fn read_by_library(text: &str) -> Option<Read> {
-    let mut place = Answer::default();
-    unsafe { library_read_duration(&Text::of(text), &mut place) };
-    Some(match place.kind {
-        0 => Read::Value(place.value, place.nanos),
-        1 => Read::InvalidCharacter(place.start),
-        2 => Read::NumberExpected(place.start),
-        3 if has_unit(text, place.start, place.end) => Read::Unknown {
-            start: place.start,
-            end: place.end,
-            value: place.value,
-        },
-        4 => Read::Overflow,
-        5 => Read::Empty,
-        _ => return None,
-    })
-}
-
-/// Returns whether the unit in the library's error is the text between these offsets.
-fn has_unit(text: &str, start: usize, end: usize) -> bool {
-    let mut bytes = [0; 64];
-    let length = unsafe { library_unit(text.as_ptr(), text.len(), &mut bytes) };
-    let kept = length.min(64);
-    text.get(start..end)
-        .is_some_and(|unit| unit.len() == length && unit.as_bytes()[..kept] == bytes[..kept])
-}
-
-/// Returns the messages of both errors if they differ. The library's export has room for 256 bytes.
-pub fn other_messages(text: &str) -> Option<(String, String)> {
-    let by_crate = humantime::parse_duration(text).err()?.to_string();
-    let by_library = text_of(|place| unsafe { library_duration_message(text.as_ptr(), text.len(), place) });
-    (by_crate != by_library && by_crate.len() <= 256).then_some((by_crate, by_library))
-}
+use crate::answers::DurationRead::{self, *};
+use crate::answers::duration_by_crate;
+use crate::rows::Row;
 
 /// Returns the rows that explain the library's answer, or `None` if the difference is not listed.
 ///
 /// The crate itself determines what is right. It parses the text without what the rows name: with the micro sign in place of the Greek
 /// letter, and without trailing zeros of fractions. If its answer is an accident, it is corrected.
-pub fn explained(text: &str, by_library: Read) -> Option<Vec<Row>> {
-    let greek = text.contains('μ');
+pub fn explained(text: &str, by_library: DurationRead) -> Option<Vec<Row>> {
     for (letters, zeros) in [(false, false), (true, false), (false, true), (true, true)] {
-        if letters && !greek {
-            continue;
-        }
         let plain = Plain::of(text, letters, zeros);
-        let (answer, accident) = put_right(&plain.text, read_by_crate(&plain.text)?);
+        let (answer, accident) = put_right(&plain.text, duration_by_crate(&plain.text)?);
         if plain.placed(answer) == by_library {
-            let named = [(letters, Row::GreekLetter), (zeros, Row::ZerosOfFraction)];
-            let rows = named.into_iter().filter(|(is_named, _)| *is_named).map(|(_, row)| row);
-            return Some(rows.chain(accident).collect());
+            let named = [letters.then_some(Row::GreekLetter), zeros.then_some(Row::ZerosOfFraction)];
+            return Some(named.into_iter().flatten().chain(accident).collect());
         }
     }
     None
 }
 
 /// A text without what some rows name, and the original offsets of its bytes.
+#[derive(Default)]
 struct Plain {
     text: String,
     places: Vec<usize>,
@@ -110,14 +30,8 @@ struct Plain {
 impl Plain {
     fn of(text: &str, letters: bool, zeros: bool) -> Plain {
         let dropped = if zeros { zeros_of_fractions(text) } else { Vec::new() };
-        let mut plain = Plain {
-            text: String::new(),
-            places: Vec::new(),
-        };
-        for (at, letter) in text.char_indices() {
-            if dropped.contains(&at) {
-                continue;
-            }
+        let mut plain = Plain::default();
+        for (at, letter) in text.char_indices().filter(|(at, _)| !dropped.contains(at)) {
             plain.text.push(if letters && letter == 'μ' { 'µ' } else { letter });
             plain.places.extend(at..at + letter.len_utf8());
         }
@@ -126,25 +40,20 @@ impl Plain {
     }
 
     /// Returns the answer with the offsets in the original text.
-    fn placed(&self, answer: Read) -> Read {
+    fn placed(&self, answer: DurationRead) -> DurationRead {
         match answer {
-            Read::InvalidCharacter(at) => Read::InvalidCharacter(self.places[at]),
-            Read::NumberExpected(at) => Read::NumberExpected(self.places[at]),
-            Read::Unknown { start, end, value } => Read::Unknown {
-                start: self.places[start],
-                end: if end > start {
-                    self.places[end - 1] + 1
-                } else {
-                    self.places[end]
-                },
-                value,
-            },
+            InvalidCharacter(at) => InvalidCharacter(self.places[at]),
+            NumberExpected(at) => NumberExpected(self.places[at]),
+            Unknown { start, end, value } => {
+                let end = if end > start { self.places[end - 1] + 1 } else { self.places[end] };
+                Unknown { start: self.places[start], end, value }
+            }
             other => other,
         }
     }
 }
 
-pub fn is_letter(letter: char) -> bool {
+fn is_letter(letter: char) -> bool {
     letter.is_ascii_alphabetic() || letter == 'µ' || letter == 'μ'
 }
 
@@ -162,46 +71,39 @@ fn follows_number(text: &str, point: usize) -> bool {
 /// Returns the offsets of the zeros that do not count: trailing zeros of a fraction, with its point if no digit is left.
 fn zeros_of_fractions(text: &str) -> Vec<usize> {
     let mut found = Vec::new();
-    for (point, _) in text
-        .match_indices('.')
-        .filter(|(point, _)| follows_number(text, *point))
-    {
-        let rest = &text[point + 1..];
-        let fraction = &rest[..rest.len() - rest.trim_start_matches(goes_on).len()];
+    for (point, _) in text.match_indices('.').filter(|(point, _)| follows_number(text, *point)) {
+        let rest = text[point + 1..].trim_start_matches(goes_on);
+        let fraction = &text[point + 1..text.len() - rest.len()];
         let digits = fraction.char_indices().filter(|(_, letter)| letter.is_ascii_digit());
-        let zeros: Vec<usize> = digits
-            .rev()
-            .take_while(|(_, letter)| *letter == '0')
-            .map(|(at, _)| point + 1 + at)
-            .collect();
-        let is_left = fraction.contains(|letter: char| ('1'..='9').contains(&letter));
-        let before_point = rest[fraction.len()..].starts_with('.');
-        if is_left || zeros.is_empty() {
-            found.extend(zeros);
-        } else if before_point {
+        let zeros = digits.rev().take_while(|(_, letter)| *letter == '0');
+        let mut zeros: Vec<usize> = zeros.map(|(at, _)| point + 1 + at).collect();
+        let is_left = fraction.contains(|letter| matches!(letter, '1'..='9'));
+        if !is_left && !zeros.is_empty() {
             // If another point follows, one zero stays, so that the first one still has digits.
-            found.extend(&zeros[1..]);
-        } else {
-            found.extend(zeros);
-            found.push(point);
+            if rest.starts_with('.') {
+                zeros.remove(0);
+            } else {
+                zeros.push(point);
+            }
         }
+        found.extend(zeros);
     }
     found
 }
 
 /// Returns the crate's answer, corrected if it is an accident, and the row that says so.
-fn put_right(text: &str, answer: Read) -> (Read, Option<Row>) {
+fn put_right(text: &str, answer: DurationRead) -> (DurationRead, Option<Row>) {
     match answer {
-        Read::Panicked => (Read::Overflow, Some(Row::CarryTooLarge)),
-        Read::NumberExpected(at) if text[at..].starts_with(char::is_whitespace) => {
+        Panicked => (Overflow, Some(Row::CarryTooLarge)),
+        NumberExpected(at) if text[at..].starts_with(char::is_whitespace) => {
             let space = text[at..].len() - text[at..].trim_start().len();
-            (Read::NumberExpected(at + space), Some(Row::NoDigitAfterSpace))
+            (NumberExpected(at + space), Some(Row::NoDigitAfterSpace))
         }
-        Read::InvalidCharacter(at) if is_point_before_bad_character(text, at) => {
-            (Read::InvalidCharacter(at + 1), Some(Row::BadAfterPoint))
+        InvalidCharacter(at) if is_point_before_bad_character(text, at) => {
+            (InvalidCharacter(at + 1), Some(Row::BadAfterPoint))
         }
-        Read::InvalidCharacter(at) => match point_before_space(text, at) {
-            Some(point) => (Read::InvalidCharacter(point), Some(Row::SpaceAfterPoint)),
+        InvalidCharacter(at) => match point_before_space(text, at) {
+            Some(point) => (InvalidCharacter(point), Some(Row::SpaceAfterPoint)),
             None => (answer, None),
         },
         _ => (answer, None),

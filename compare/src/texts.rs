@@ -1,5 +1,6 @@
 //! The texts that both sides parse.
 
+use std::collections::BTreeSet;
 use std::path::Path;
 
 /// Characters that end a duration's text, continue it or make it invalid.
@@ -15,19 +16,10 @@ pub const STAMP: [char; 14] = [
     '0', '1', '6', '9', 'Z', 'z', 'T', '+', '-', ':', '.', ' ', 'é', '\u{ff11}',
 ];
 
-/// The letters of the words of units.
-pub fn letters() -> Vec<char> {
-    ('a'..='z').chain('A'..='Z').chain(['µ', 'μ']).collect()
-}
-
 /// A generator of pseudorandom numbers, the same in each run.
-pub struct Random(u64);
+pub struct Random(pub u64);
 
 impl Random {
-    pub fn new(seed: u64) -> Random {
-        Random(seed)
-    }
-
     pub fn number(&mut self) -> u64 {
         self.0 = self.0.wrapping_add(0x9e37_79b9_7f4a_7c15);
         let mixed = (self.0 ^ (self.0 >> 30)).wrapping_mul(0xbf58_476d_1ce4_e5b9);
@@ -44,6 +36,16 @@ impl Random {
         self.below(100) < times
     }
 
+    /// Returns nanoseconds below a second.
+    pub fn nanos(&mut self) -> u32 {
+        self.below(1_000_000_000) as u32
+    }
+
+    /// Returns whitespace in this percentage of calls, and otherwise an empty text.
+    fn space(&mut self, times: u64) -> &'static str {
+        if self.percent(times) { self.of(&SPACES) } else { "" }
+    }
+
     pub fn of<T: Copy>(&mut self, list: &[T]) -> T {
         list[self.below(list.len() as u64) as usize]
     }
@@ -55,17 +57,12 @@ impl Random {
     }
 }
 
-/// Passes each text of up to this number of these characters to a function.
-pub fn all_texts(alphabet: &[char], most: usize, to: &mut dyn FnMut(&str)) {
-    fn longer(text: &mut String, alphabet: &[char], left: usize, to: &mut dyn FnMut(&str)) {
-        to(text);
-        for letter in alphabet.iter().filter(|_| left > 0) {
-            text.push(*letter);
-            longer(text, alphabet, left - 1, to);
-            text.pop();
-        }
+/// Passes the text, followed by up to this number of these characters, to a function.
+pub fn all_texts(text: &str, alphabet: &[char], most: usize, to: &mut dyn FnMut(&str)) {
+    to(text);
+    for letter in alphabet.iter().filter(|_| most > 0) {
+        all_texts(&format!("{text}{letter}"), alphabet, most - 1, to);
     }
-    longer(&mut String::new(), alphabet, most, to);
 }
 
 /// Passes the prefixes of the text, and the text with one character removed, replaced, or inserted before it or at the end.
@@ -97,14 +94,10 @@ pub fn spoiled(text: &str, alphabet: &[char], random: &mut Random) -> String {
 }
 
 /// Returns the string literals in the crate's sources and tests, also those in its documentation.
-pub fn texts_of_crate(folder: &Path) -> Vec<String> {
-    let mut found = Vec::new();
-    let mut entries: Vec<_> = std::fs::read_dir(folder)
-        .expect("a folder")
-        .map(|entry| entry.expect("an entry").path())
-        .collect();
-    entries.sort();
-    for path in entries {
+pub fn texts_of_crate(folder: &Path) -> BTreeSet<String> {
+    let mut found = BTreeSet::new();
+    for entry in std::fs::read_dir(folder).expect("a folder") {
+        let path = entry.expect("an entry").path();
         if path.is_dir() && !path.ends_with("target") {
             found.extend(texts_of_crate(&path));
         } else if path.extension().is_some_and(|ending| ending == "rs") {
@@ -112,13 +105,11 @@ pub fn texts_of_crate(folder: &Path) -> Vec<String> {
             source.lines().for_each(|line| quoted(line, &mut found));
         }
     }
-    found.sort();
-    found.dedup();
     found
 }
 
 /// Adds the string literals in the line. A literal of several lines is taken line by line.
-fn quoted(line: &str, found: &mut Vec<String>) {
+fn quoted(line: &str, found: &mut BTreeSet<String>) {
     let mut letters = line.chars();
     let mut open: Option<String> = None;
     while let Some(letter) = letters.next() {
@@ -170,10 +161,7 @@ pub fn random_span(random: &mut Random) -> String {
     let (word, most) = (random.of(words), u64::MAX / size);
     let number = match random.below(8) {
         0..=2 => random.below(1_000).to_string(),
-        3 | 4 => u128::from(most)
-            .saturating_add(4)
-            .saturating_sub(random.below(8).into())
-            .to_string(),
+        3 | 4 => (u128::from(most) + 4).saturating_sub(random.below(8).into()).to_string(),
         5 => (most / (1 + random.below(12))).to_string(),
         6 => random.of_any_size().to_string(),
         _ => random_digits(random, 22),
@@ -181,17 +169,13 @@ pub fn random_span(random: &mut Random) -> String {
     let mut text = String::new();
     for digit in number.chars() {
         text.push(digit);
-        if random.percent(1) {
-            text.push_str(random.of(&SPACES));
-        }
+        text.push_str(random.space(1));
     }
     if random.percent(45) {
         text.push('.');
         text.push_str(&random_fraction(random));
     }
-    if random.percent(10) {
-        text.push_str(random.of(&SPACES));
-    }
+    text.push_str(random.space(10));
     text.push_str(if random.percent(4) { random.of(&NO_WORDS) } else { word });
     text
 }
@@ -220,15 +204,10 @@ fn random_fraction(random: &mut Random) -> String {
 
 /// Returns the text of a duration of one to four spans, sometimes with an error.
 pub fn random_duration(random: &mut Random) -> String {
-    let mut text = String::new();
-    if random.percent(5) {
-        text.push_str(random.of(&SPACES));
-    }
+    let mut text = random.space(5).to_string();
     for _ in 0..1 + random.below(4) {
         text.push_str(&random_span(random));
-        if random.percent(60) {
-            text.push_str(random.of(&SPACES));
-        }
+        text.push_str(random.space(60));
     }
     if random.percent(15) {
         spoiled(&text, &HOSTILE, random)
@@ -242,16 +221,7 @@ pub fn random_sum_at_limit(random: &mut Random) -> String {
     let first = random.of_any_size();
     let second = (u64::MAX - first).saturating_add(2) - random.below(5).min(2);
     let nanos = random.of(&[0, 1, 1_000, 999_999_999, 1_000_000_000, 1_000_000_001, 500_000_000]);
-    let more = random.of(&[
-        "",
-        " 1ns",
-        " 999999999ns",
-        " 1s",
-        " 0.5s",
-        " 500ms",
-        " 0.999999999s",
-        " 1000000us",
-    ]);
+    let more = random.of(&["", " 1ns", " 999999999ns", " 1s", " 0.5s", " 500ms", " 0.999999999s", " 1000000us"]);
     match random.below(4) {
         0 => format!("{first}s {second}s {nanos}ns{more}"),
         1 => format!("{nanos}ns {first}s {second}s{more}"),
