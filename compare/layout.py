@@ -19,7 +19,6 @@ ROOT = HERE.parent
 EXPORTS = "humantime_cli"
 CARGO = """[package]
 name = "{name}"
-version = "0.0.0"
 edition = "2024"
 
 [[bin]]
@@ -48,11 +47,6 @@ def run(command, folder, **environment):
     if done.returncode != 0:
         sys.exit(f"{' '.join(map(str, command))} failed:\n{done.stdout[-5000:]}")
     return done.stdout
-
-
-def rustc():
-    """Returns the version of the compiler that builds the crate."""
-    return run(["rustc", "--version"], ROOT).strip()
 
 
 def table(titles, rows):

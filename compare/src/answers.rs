@@ -15,7 +15,11 @@ pub enum DurationRead {
     Value(u64, u32),
     InvalidCharacter(usize),
     NumberExpected(usize),
-    Unknown { start: usize, end: usize, value: u64 },
+    Unknown {
+        start: usize,
+        end: usize,
+        value: u64,
+    },
     Overflow,
     Empty,
     /// The crate panicked: a sum of durations was too large.
@@ -46,7 +50,9 @@ pub fn duration_by_crate(text: &str) -> Option<DurationRead> {
         Ok(Ok(duration)) => DurationRead::Value(duration.as_secs(), duration.subsec_nanos()),
         Ok(Err(InvalidCharacter(at))) if text.is_char_boundary(at) => DurationRead::InvalidCharacter(at),
         Ok(Err(NumberExpected(at))) if text.is_char_boundary(at) => DurationRead::NumberExpected(at),
-        Ok(Err(UnknownUnit { start, end, unit, value })) if text.get(start..end) == Some(&unit) => DurationRead::Unknown { start, end, value },
+        Ok(Err(UnknownUnit { start, end, unit, value })) if text.get(start..end) == Some(&unit) => {
+            DurationRead::Unknown { start, end, value }
+        }
         Ok(Err(NumberOverflow)) => DurationRead::Overflow,
         Ok(Err(Empty)) => DurationRead::Empty,
         Err(message) if message == "overflow in Duration::new" => DurationRead::Panicked,
@@ -82,7 +88,7 @@ fn has_unit(text: &str, start: usize, end: usize) -> bool {
 pub fn other_messages<T, E: Display>(
     text: &str,
     parse: impl Fn(&str) -> Result<T, E>,
-    by_library: MessageByLibrary,
+    by_library: extern "C" fn(&Text, &mut [u8; 256]) -> usize,
 ) -> Option<(String, String)> {
     let by_crate = parse(text).err()?.to_string();
     let by_library = text_of(|place| by_library(&Text::of(text), place));
@@ -96,16 +102,10 @@ pub struct Pair<C, L> {
     by_library: L,
 }
 
-impl<C, L> Pair<C, L> {
-    const fn of(name: &'static str, by_crate: C, by_library: L) -> Pair<C, L> {
-        Pair { name, by_crate, by_library }
-    }
-}
+pub type Parser = Pair<fn(&str) -> Result<SystemTime, TimestampError>, extern "C" fn(&Text, &mut Answer)>;
 
-pub type Parser = Pair<fn(&str) -> Result<SystemTime, TimestampError>, ReadByLibrary>;
-
-pub const STRICT: Parser = Parser::of("strict", humantime::parse_rfc3339, library_read_strict);
-pub const WEAK: Parser = Parser::of("weak", humantime::parse_rfc3339_weak, library_read_weak);
+pub const STRICT: Parser = Parser { name: "strict", by_crate: humantime::parse_rfc3339, by_library: library_read_strict };
+pub const WEAK: Parser = Parser { name: "weak", by_crate: humantime::parse_rfc3339_weak, by_library: library_read_weak };
 
 impl Parser {
     /// Returns the crate's answer, or the message of its panic.
@@ -133,22 +133,22 @@ impl Parser {
     }
 }
 
-pub type Printer = Pair<fn(SystemTime) -> Rfc3339Timestamp, StampByLibrary>;
+pub type Printer = Pair<fn(SystemTime) -> Rfc3339Timestamp, extern "C" fn(i64, u32, &mut [u8; 30]) -> usize>;
 
 pub const PRINTERS: [Printer; 5] = [
-    Printer::of("format_rfc3339", humantime::format_rfc3339, library_print_smart),
-    Printer::of("format_rfc3339_seconds", humantime::format_rfc3339_seconds, library_print_seconds),
-    Printer::of("format_rfc3339_millis", humantime::format_rfc3339_millis, library_print_millis),
-    Printer::of("format_rfc3339_micros", humantime::format_rfc3339_micros, library_print_micros),
-    Printer::of("format_rfc3339_nanos", humantime::format_rfc3339_nanos, library_print_nanos),
+    Printer { name: "format_rfc3339", by_crate: humantime::format_rfc3339, by_library: library_print_smart },
+    Printer { name: "format_rfc3339_seconds", by_crate: humantime::format_rfc3339_seconds, by_library: library_print_seconds },
+    Printer { name: "format_rfc3339_millis", by_crate: humantime::format_rfc3339_millis, by_library: library_print_millis },
+    Printer { name: "format_rfc3339_micros", by_crate: humantime::format_rfc3339_micros, by_library: library_print_micros },
+    Printer { name: "format_rfc3339_nanos", by_crate: humantime::format_rfc3339_nanos, by_library: library_print_nanos },
 ];
 
 impl Printer {
     /// Returns the crate's text, an empty one if it returns an error, or the message of its panic.
     pub fn print_by_crate(&self, secs: i64, nanos: u32) -> Result<String, String> {
-        let mut text = String::with_capacity(30);
-        caught(|| write!(text, "{}", (self.by_crate)(moment(secs, nanos))).is_ok())
-            .map(|is_written| if is_written { text } else { String::new() })
+        let mut text = String::new();
+        let is_written = caught(|| write!(text, "{}", (self.by_crate)(moment(secs, nanos))).is_ok())?;
+        Ok(if is_written { text } else { String::new() })
     }
 
     /// Returns the library's text, or an empty one if there is none.

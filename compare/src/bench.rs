@@ -10,7 +10,7 @@ use answers::{DurationRead, MomentRead, PRINTERS, Parser, STRICT, WEAK, duration
 use humantime::Rfc3339Timestamp;
 use library::*;
 use std::alloc::{GlobalAlloc, Layout, System};
-use std::arch::asm;
+use std::arch::{asm, global_asm};
 use std::fmt::{self, Display, Write};
 use std::hint::black_box;
 use std::iter::repeat_with;
@@ -19,11 +19,7 @@ use std::time::{Duration, Instant, SystemTime, UNIX_EPOCH};
 
 // Moves the code after it by this number of bytes, so that several builds differ in their layout. The linker keeps it, because `main` names
 // it.
-std::arch::global_asm!(concat!(
-    ".text\n.globl bench_padding\nbench_padding:\n.space ",
-    env!("BENCH_PADDING"),
-    ", 0x90"
-));
+global_asm!(".text", ".globl bench_padding", "bench_padding:", concat!(".space ", env!("BENCH_PADDING"), ", 0x90"));
 
 unsafe extern "C" {
     fn bench_padding();
@@ -48,11 +44,6 @@ unsafe impl GlobalAlloc for Counting {
 #[global_allocator]
 static COUNTING: Counting = Counting;
 
-/// Returns the text with the micro sign replaced by `u`, as the crate prints it without its feature `mu`.
-fn plain(text: &str) -> String {
-    text.replace('µ', "u")
-}
-
 /// Parses a text by a function of the crate. Drops the previous answer, and writes the new one in place, without a copy.
 #[inline(never)]
 fn crate_read<T>(parse: impl Fn(&str) -> T, text: &str, place: &mut T) {
@@ -67,14 +58,6 @@ fn crate_read<T>(parse: impl Fn(&str) -> T, text: &str, place: &mut T) {
 fn crate_print<T, F: Display>(format: impl Fn(T) -> F, value: T, place: &mut String) {
     place.clear();
     let _ = write!(place, "{}", format(value));
-}
-
-#[inline(never)]
-fn crate_canonical(text: &str, place: &mut String) {
-    place.clear();
-    if let Ok(duration) = humantime::parse_duration(text) {
-        let _ = write!(place, "{}", humantime::format_duration(duration));
-    }
 }
 
 /// What a program that uses the crate does for a command and its text: it parses the text, and prints the result as a line.
@@ -134,11 +117,7 @@ fn batch(calls: usize, mut call: impl FnMut()) -> f64 {
 }
 
 /// Times a row: a call of the crate and a call of the library, each with the memory where it leaves its answer.
-fn race<C, L>(
-    name: &str,
-    (mut crate_place, mut by_crate): (C, impl FnMut(&mut C)),
-    (mut place, mut by_library): (L, impl FnMut(&mut L)),
-) {
+fn race<C, L>(name: &str, (mut crate_place, mut by_crate): (C, impl FnMut(&mut C)), (mut place, mut by_library): (L, impl FnMut(&mut L))) {
     let mut of_crate = || {
         by_crate(&mut crate_place);
         looked_at(&crate_place);
@@ -169,19 +148,16 @@ fn times(mut of_crate: impl FnMut(), mut of_library: impl FnMut()) -> String {
     // A call that takes milliseconds is made in fewer rounds.
     let wanted: usize = env!("BENCH_ROUNDS").parse().expect("a number of rounds");
     let rounds = wanted.min((500_000_000.0 / once) as usize / calls).max(50);
+    let sides: [&mut dyn FnMut() -> f64; 2] = [&mut || batch(calls, &mut of_crate), &mut || batch(calls, &mut of_library)];
     let mut least = [f64::MAX; 2];
     let mut ratios = Vec::with_capacity(rounds);
     for round in 0..rounds {
-        let (by_crate, by_library);
-        if round % 2 == 0 {
-            by_crate = batch(calls, &mut of_crate);
-            by_library = batch(calls, &mut of_library);
-        } else {
-            by_library = batch(calls, &mut of_library);
-            by_crate = batch(calls, &mut of_crate);
+        let mut taken = [0.0; 2];
+        for side in [round % 2, 1 - round % 2] {
+            taken[side] = sides[side]();
+            least[side] = least[side].min(taken[side]);
         }
-        least = [least[0].min(by_crate), least[1].min(by_library)];
-        ratios.push(by_library / by_crate);
+        ratios.push(taken[1] / taken[0]);
     }
     ratios.sort_by(f64::total_cmp);
     let [by_crate, by_library] = least.map(|time| time / calls as f64);
@@ -214,24 +190,19 @@ fn race_reading<T>(name: &str, text: &str, parse: impl Fn(&str) -> T + Copy, by_
 fn race_reading_each<T>(name: &str, texts: &[String], parse: impl Fn(&str) -> T + Copy, by_library: impl Fn(&Text, &mut Answer)) {
     let given: Vec<Text> = texts.iter().map(|text| Text::of(text)).collect();
     let (mut of_crate, mut of_library) = (texts.iter().cycle(), given.iter().cycle());
-    let by_crate = |place: &mut T| {
-        if let Some(text) = of_crate.next() {
-            crate_read(parse, hidden_text(text), place);
-        }
-    };
-    let by_library = |place: &mut Answer| {
-        if let Some(text) = of_library.next() {
-            by_library(hidden(text), place);
-        }
-    };
-    race(name, (parse(""), by_crate), (Answer::default(), by_library));
+    race(
+        name,
+        (parse(""), |place| crate_read(parse, hidden_text(of_crate.next().expect("a text")), place)),
+        (Answer::default(), |place| by_library(hidden(of_library.next().expect("a text")), place)),
+    );
 }
 
-/// Times both sides writing a text, which has to be the same: the crate to a `String`, the library to a buffer.
+/// Times both sides writing a text, which has to be the same: the crate to a `String`, the library to a buffer. The crate prints `us`
+/// without its feature `mu`.
 fn race_writing<const N: usize>(name: &str, mut by_crate: impl FnMut(&mut String), mut by_library: impl FnMut(&mut [u8; N]) -> usize) {
     let mut crate_place = String::with_capacity(64);
     by_crate(&mut crate_place);
-    assert_eq!(plain(&text_of(&mut by_library)), plain(&crate_place), "{name}");
+    assert_eq!(text_of(&mut by_library).replace('µ', "u"), crate_place, "{name}");
     let by_library = |(length, place): &mut (usize, [u8; N])| *length = by_library(place);
     race(name, (crate_place, by_crate), ((0, [0; N]), by_library));
 }
@@ -254,8 +225,7 @@ fn texts_of_durations() -> Vec<String> {
     let mut numbers = Numbers(0x9E37_79B9_7F4A_7C15);
     let text = || {
         let most = 1 << (1 + numbers.below(34));
-        let secs = numbers.below(most);
-        let nanos = numbers.below(2) * numbers.below(1_000_000_000);
+        let (secs, nanos) = (numbers.below(most), numbers.below(2) * numbers.below(1_000_000_000));
         humantime::format_duration(Duration::new(secs, nanos as u32)).to_string()
     };
     repeat_with(text).take(1_000).collect()
@@ -273,9 +243,14 @@ fn texts_of_moments() -> Vec<String> {
     repeat_with(text).take(1_000).collect()
 }
 
+const LONGEST: &str = "584542046090years 7months 15days 17h 5m 3s 999ms 999us 999ns";
+
 /// Returns the text as a row names it.
 fn quoted(text: &str) -> String {
-    format!("`{text}`").replace('\u{3000}', "`, U+3000, `")
+    match text {
+        LONGEST => "the 60 bytes of the longest duration".to_string(),
+        _ => format!("`{text}`").replace('\u{3000}', "`, U+3000, `"),
+    }
 }
 
 /// Times the parsing of a duration, which both sides have to read or reject alike.
@@ -286,33 +261,15 @@ fn read_duration(shown: &str, text: &str) {
     race_reading(&format!("{verb} {shown}"), text, humantime::parse_duration, |text, place| library_read_duration(text, place));
 }
 
-const LONGEST: &str = "584542046090years 7months 15days 17h 5m 3s 999ms 999us 999ns";
-
-fn short_durations() {
-    for text in ["2h 37min", "1.234s 1.345ms 1.678us 1ns", "15days 2min 2s"] {
-        read_duration(&quoted(text), text);
-    }
-    read_duration("the 60 bytes of the longest duration", LONGEST);
+fn durations_read() {
     for text in [
-        "12\u{3000}s 163µs",
-        "163µs",
-        "0",
-        "100000000000000000us 1foo",
-        "1foo~",
-        "10nights",
-        "12 34",
-        "1h x",
-        "20000000000000000000s",
+        "2h 37min", "1.234s 1.345ms 1.678us 1ns", "15days 2min 2s", LONGEST, "12\u{3000}s 163µs", "163µs", "0",
+        "100000000000000000us 1foo", "1foo~", "10nights", "12 34", "1h x", "20000000000000000000s",
     ] {
         read_duration(&quoted(text), text);
     }
-}
-
-fn random_and_long_durations() {
     let texts = texts_of_durations();
-    for text in &texts {
-        assert_eq!(duration_by_library(text), duration_by_crate(text), "{text}");
-    }
+    texts.iter().for_each(|text| assert_eq!(duration_by_library(text), duration_by_crate(text), "{text}"));
     race_reading_each("read random durations", &texts, humantime::parse_duration, |text, place| library_read_duration(text, place));
     for (size, bytes) in [("a tenth of a megabyte", 104_856), ("a megabyte", 1_048_575)] {
         let spans = "1h ".repeat(bytes / 3);
@@ -331,35 +288,33 @@ fn spans_and_canonical() {
         let name = format!("`spans` of {shown}, beside the crate's reading");
         race_reading(&name, text, humantime::parse_duration, |text, place| library_walk_spans(text, place));
     }
+    let by_crate = |text: &str| humantime::format_duration(humantime::parse_duration(text).expect("a duration"));
     for (shown, text) in [("`2h 37min`", "2h 37min"), ("the longest duration", LONGEST)] {
         let text = placed(text);
         let given = Text::of(text);
         race_writing(
             &format!("`canonical` of {shown}, beside reading and printing"),
-            |place| crate_canonical(hidden_text(text), place),
+            |place| crate_print(by_crate, hidden_text(text), place),
             |place| library_canonical(hidden(&given), place),
         );
     }
 }
 
+fn print_duration(shown: &str, secs: u64, nanos: u32) {
+    let duration = Duration::new(secs, nanos);
+    race_writing(
+        &format!("print {shown}"),
+        |place| crate_print(humantime::format_duration, black_box(duration), place),
+        |place| library_print_duration(black_box(secs), black_box(nanos), place),
+    );
+}
+
 fn durations_printed() {
-    for (shown, secs, nanos) in [
-        ("9420 seconds", 9_420, 0),
-        ("1296122 seconds", 1_296_122, 0),
-        ("63115320 seconds and 12000 nanoseconds", 63_115_320, 12_000),
-        ("the longest duration", u64::MAX, 999_999_999),
-        ("zero", 0, 0),
-    ] {
-        let duration = Duration::new(secs, nanos);
-        race_writing(
-            &format!("print {shown}"),
-            |place| crate_print(humantime::format_duration, black_box(duration), place),
-            |place| {
-                let (secs, nanos) = black_box((secs, nanos));
-                library_print_duration(secs, nanos, place)
-            },
-        );
-    }
+    print_duration("9420 seconds", 9_420, 0);
+    print_duration("1296122 seconds", 1_296_122, 0);
+    print_duration("63115320 seconds and 12000 nanoseconds", 63_115_320, 12_000);
+    print_duration("the longest duration", u64::MAX, 999_999_999);
+    print_duration("zero", 0, 0);
 }
 
 /// Times the parsing of a timestamp by both parsers, each of which the sides have to read or reject alike.
@@ -374,47 +329,28 @@ fn read_moment(shown: &str, text: &str) {
     race_reading(&name_of(WEAK), text, humantime::parse_rfc3339_weak, |text, place| library_read_weak(text, place));
 }
 
-fn timestamps_read() {
-    for text in [
-        "2018-02-14T00:28:07Z",
-        "2018-02-14T00:28:07.133Z",
-        "2018-02-14T00:28:07.123456789Z",
-        "2018-02-14T00:28:07+00:00",
-        "2018-02-14t00:28:07Z",
-        "2018-02-1xT00:28:07Z",
-        "2018-02-30T00:28:07Z",
-        "2018-02-14T00:28:07.13x3Z",
-    ] {
-        read_moment(&quoted(text), text);
-    }
-    let texts = texts_of_moments();
-    for text in &texts {
-        assert_eq!(STRICT.read_by_crate(text), Ok(STRICT.read_by_library(text)), "{text}");
-    }
-    race_reading_each("read random moments, strict", &texts, humantime::parse_rfc3339, |text, place| library_read_strict(text, place));
-    race_reading_each("read random moments, weak", &texts, humantime::parse_rfc3339_weak, |text, place| library_read_weak(text, place));
-    read_moment("a megabyte of fraction", &format!("2018-02-14T00:28:07.{}Z", "1".repeat(1_000_000)));
-}
-
-/// Times the printing of a timestamp.
-fn print_moment(
-    unit: &str,
-    format: impl Fn(SystemTime) -> Rfc3339Timestamp + Copy,
-    by_library: impl Fn(i64, u32, &mut [u8; 30]) -> usize,
-) {
+fn print_moment(unit: &str, format: impl Fn(SystemTime) -> Rfc3339Timestamp + Copy, by_library: impl Fn(i64, u32, &mut [u8; 30]) -> usize) {
     let (secs, nanos) = (1_518_563_287, 123_456_789);
     let moment = UNIX_EPOCH + Duration::new(secs as u64, nanos);
     race_writing(
         &format!("print a timestamp in {unit}"),
         |place| crate_print(format, black_box(moment), place),
-        |place| {
-            let (secs, nanos) = black_box((secs, nanos));
-            by_library(secs, nanos, place)
-        },
+        |place| by_library(black_box(secs), black_box(nanos), place),
     );
 }
 
-fn timestamps_printed() {
+fn timestamps() {
+    for text in [
+        "2018-02-14T00:28:07Z", "2018-02-14T00:28:07.133Z", "2018-02-14T00:28:07.123456789Z", "2018-02-14T00:28:07+00:00",
+        "2018-02-14t00:28:07Z", "2018-02-1xT00:28:07Z", "2018-02-30T00:28:07Z", "2018-02-14T00:28:07.13x3Z",
+    ] {
+        read_moment(&quoted(text), text);
+    }
+    let texts = texts_of_moments();
+    texts.iter().for_each(|text| assert_eq!(STRICT.read_by_crate(text), Ok(STRICT.read_by_library(text)), "{text}"));
+    race_reading_each("read random moments, strict", &texts, humantime::parse_rfc3339, |text, place| library_read_strict(text, place));
+    race_reading_each("read random moments, weak", &texts, humantime::parse_rfc3339_weak, |text, place| library_read_weak(text, place));
+    read_moment("a megabyte of fraction", &format!("2018-02-14T00:28:07.{}Z", "1".repeat(1_000_000)));
     print_moment("seconds", humantime::format_rfc3339_seconds, |secs, nanos, place| library_print_seconds(secs, nanos, place));
     print_moment("milliseconds", humantime::format_rfc3339_millis, |secs, nanos, place| library_print_millis(secs, nanos, place));
     print_moment("microseconds", humantime::format_rfc3339_micros, |secs, nanos, place| library_print_micros(secs, nanos, place));
@@ -425,27 +361,24 @@ fn timestamps_printed() {
 fn run(command: &str, text: &str) {
     let by_crate = |place: &mut String| crate_run(black_box(command), black_box(text), place);
     let by_library = |(status, [out, err]): &mut (u8, [Sink; 2])| {
-        let (command, text) = black_box((command, text));
-        *status = run_library(command, text, out, err);
+        *status = run_library(black_box(command), black_box(text), out, err);
     };
     let mut crate_place = String::with_capacity(256);
-    let mut place = (0, [Sink::new(), Sink::new()]);
+    let mut place = (0, [Sink::EMPTY; 2]);
     by_crate(&mut crate_place);
     by_library(&mut place);
     let told: String = place.1.iter().map(Sink::text).collect();
-    assert_eq!(plain(&told), plain(&crate_place), "{command} {text}");
     let name = format!("the program's `{command}` of `{text}`, beside reading and printing");
+    assert_eq!(told.replace('µ', "u"), crate_place.replace('µ', "u"), "{name}");
     race(&name, (crate_place, by_crate), (place, by_library));
 }
 
 fn main() {
     black_box(bench_padding as *const ());
-    short_durations();
-    random_and_long_durations();
+    durations_read();
     spans_and_canonical();
     durations_printed();
-    timestamps_read();
-    timestamps_printed();
+    timestamps();
     run("duration", "2h 37min");
     run("duration", "1foo~");
     run("strict", "2018-02-14T00:28:07Z");

@@ -39,10 +39,6 @@ pub struct Sink {
     pub bytes: [u8; 128],
 }
 
-pub type ReadByLibrary = extern "C" fn(&Text, &mut Answer);
-pub type MessageByLibrary = extern "C" fn(&Text, &mut [u8; 256]) -> usize;
-pub type StampByLibrary = extern "C" fn(i64, u32, &mut [u8; 30]) -> usize;
-
 unsafe extern "C" {
     fn library_run(command: *const u8, command_length: usize, text: *const u8, text_length: usize, out: &mut Sink, err: &mut Sink) -> u8;
     pub safe fn library_read_duration(text: &Text, place: &mut Answer);
@@ -68,9 +64,7 @@ pub fn run_library(command: &str, text: &str, out: &mut Sink, err: &mut Sink) ->
 }
 
 impl Sink {
-    pub fn new() -> Sink {
-        Sink { length: 0, bytes: [0; 128] }
-    }
+    pub const EMPTY: Sink = Sink { length: 0, bytes: [0; 128] };
 
     pub fn text(&self) -> String {
         String::from_utf8_lossy(&self.bytes[..self.length]).into_owned()

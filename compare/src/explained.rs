@@ -1,14 +1,14 @@
-//! The listed differences of durations that are parsed.
+//! The listed differences of texts that are parsed.
 
 use crate::answers::DurationRead::{self, *};
-use crate::answers::duration_by_crate;
+use crate::answers::{MomentRead, duration_by_crate};
 use crate::rows::Row;
 
 /// Returns the rows that explain the library's answer, or `None` if the difference is not listed.
 ///
 /// The crate itself determines what is right. It parses the text without what the rows name: with the micro sign in place of the Greek
 /// letter, and without trailing zeros of fractions. If its answer is an accident, it is corrected.
-pub fn explained(text: &str, by_library: DurationRead) -> Option<Vec<Row>> {
+pub fn duration(text: &str, by_library: DurationRead) -> Option<Vec<Row>> {
     for (letters, zeros) in [(false, false), (true, false), (false, true), (true, true)] {
         let plain = Plain::of(text, letters, zeros);
         let (answer, accident) = put_right(&plain.text, duration_by_crate(&plain.text)?);
@@ -99,9 +99,7 @@ fn put_right(text: &str, answer: DurationRead) -> (DurationRead, Option<Row>) {
             let space = text[at..].len() - text[at..].trim_start().len();
             (NumberExpected(at + space), Some(Row::NoDigitAfterSpace))
         }
-        InvalidCharacter(at) if is_point_before_bad_character(text, at) => {
-            (InvalidCharacter(at + 1), Some(Row::BadAfterPoint))
-        }
+        InvalidCharacter(at) if is_point_before_bad_character(text, at) => (InvalidCharacter(at + 1), Some(Row::BadAfterPoint)),
         InvalidCharacter(at) => match point_before_space(text, at) {
             Some(point) => (InvalidCharacter(point), Some(Row::SpaceAfterPoint)),
             None => (answer, None),
@@ -113,9 +111,7 @@ fn put_right(text: &str, answer: DurationRead) -> (DurationRead, Option<Row>) {
 /// Returns whether the point of a number is at this offset, followed by a character that is not a digit, whitespace or a letter.
 fn is_point_before_bad_character(text: &str, at: usize) -> bool {
     let next = text[at..].chars().nth(1);
-    text[at..].starts_with('.')
-        && follows_number(text, at)
-        && next.is_some_and(|letter| !goes_on(letter) && !is_letter(letter))
+    text[at..].starts_with('.') && follows_number(text, at) && next.is_some_and(|letter| !goes_on(letter) && !is_letter(letter))
 }
 
 /// Returns the offset of the point of a number that is followed by only whitespace up to this letter or to the end.
@@ -124,4 +120,22 @@ fn point_before_space(text: &str, at: usize) -> Option<usize> {
     let point = before.len().checked_sub(1)?;
     let ends = text[at..].chars().next().is_none_or(is_letter);
     (before.ends_with('.') && before.len() < at && ends && follows_number(text, point)).then_some(point)
+}
+
+/// Returns the row that lists the difference of these answers for the text.
+pub fn moment(text: &str, by_crate: MomentRead, by_library: MomentRead) -> Option<Row> {
+    let end = text.as_bytes().get(19..)?;
+    match (by_crate, by_library) {
+        (MomentRead::Moment(..), MomentRead::InvalidDigit) if is_fraction_with_odd_tail(end) => Some(Row::TailAfterPlus),
+        (MomentRead::Moment(..), MomentRead::InvalidFormat) if end.len() > 1 && end[0] == b'Z' => Some(Row::BytesAfterZone),
+        _ => None,
+    }
+}
+
+/// Returns whether the text is a point, digits, a `+` and five bytes other than `00:00`.
+fn is_fraction_with_odd_tail(end: &[u8]) -> bool {
+    match end.split_last_chunk::<6>() {
+        Some(([b'.', digits @ ..], [b'+', tail @ ..])) => digits.iter().all(u8::is_ascii_digit) && tail != b"00:00",
+        _ => false,
+    }
 }
