@@ -20,14 +20,11 @@ EXPORTS = "humantime_cli"
 CARGO = """[package]
 name = "{name}"
 edition = "2024"
-
 [[bin]]
 name = "{name}"
 path = "{here}/src/{name}.rs"
-
 [dependencies]
 humantime = {{ path = "{crate}" }}
-
 [workspace]
 """
 
@@ -43,7 +40,7 @@ def options_of(purpose):
 
 def run(command, folder, **environment):
     """Returns the output of a command. If the command fails, prints the output and exits."""
-    done = subprocess.run(command, cwd=folder, env={**os.environ, **environment}, stdout=subprocess.PIPE, stderr=subprocess.STDOUT, text=True)
+    done = subprocess.run(command, cwd=folder, env=os.environ | environment, stdout=subprocess.PIPE, stderr=subprocess.STDOUT, text=True)
     if done.returncode != 0:
         sys.exit(f"{' '.join(map(str, command))} failed:\n{done.stdout[-5000:]}")
     return done.stdout

@@ -1,7 +1,6 @@
 //! The answers of both sides: durations and timestamps parsed, messages of errors, timestamps printed.
 
-// Each of the two programs compares some of them.
-#![allow(dead_code)]
+#![allow(dead_code)] // Each of the two programs compares some of them.
 
 use crate::library::*;
 use humantime::{DurationError, Rfc3339Timestamp, TimestampError};

@@ -60,21 +60,30 @@ fn crate_print<T, F: Display>(format: impl Fn(T) -> F, value: T, place: &mut Str
     let _ = write!(place, "{}", format(value));
 }
 
+#[inline(never)]
+fn crate_canonical(text: &str, place: &mut String) {
+    place.clear();
+    if let Ok(duration) = humantime::parse_duration(text) {
+        let _ = write!(place, "{}", humantime::format_duration(duration));
+    }
+}
+
 /// What a program that uses the crate does for a command and its text: it parses the text, and prints the result as a line.
 #[inline(never)]
 fn crate_run(command: &str, text: &str, place: &mut String) {
     place.clear();
     let _ = match command {
-        "duration" => write_line(place, humantime::parse_duration(text).map(humantime::format_duration)),
-        "strict" => write_line(place, humantime::parse_rfc3339(text).map(humantime::format_rfc3339)),
-        "weak" => write_line(place, humantime::parse_rfc3339_weak(text).map(humantime::format_rfc3339)),
+        "duration" => write_line(place, humantime::parse_duration(text), humantime::format_duration),
+        "strict" => write_line(place, humantime::parse_rfc3339(text), humantime::format_rfc3339),
+        "weak" => write_line(place, humantime::parse_rfc3339_weak(text), humantime::format_rfc3339),
         _ => Ok(()),
     };
 }
 
-fn write_line(place: &mut String, result: Result<impl Display, impl Display>) -> fmt::Result {
+#[inline(always)]
+fn write_line<T, F: Display>(place: &mut String, result: Result<T, impl Display>, format: impl Fn(T) -> F) -> fmt::Result {
     match result {
-        Ok(value) => writeln!(place, "{value}"),
+        Ok(value) => writeln!(place, "{}", format(value)),
         Err(error) => writeln!(place, "{error}"),
     }
 }
@@ -160,8 +169,7 @@ fn times(mut of_crate: impl FnMut(), mut of_library: impl FnMut()) -> String {
         ratios.push(taken[1] / taken[0]);
     }
     ratios.sort_by(f64::total_cmp);
-    let [by_crate, by_library] = least.map(|time| time / calls as f64);
-    format!("{by_crate:.2}\t{by_library:.2}\t{:.4}", ratios[rounds / 2])
+    format!("{:.2}\t{:.2}\t{:.4}", least[0] / calls as f64, least[1] / calls as f64, ratios[rounds / 2])
 }
 
 /// Returns a copy of the text that begins as many bytes after a multiple of 64 as the code of this build does: a read across two cache
@@ -288,13 +296,12 @@ fn spans_and_canonical() {
         let name = format!("`spans` of {shown}, beside the crate's reading");
         race_reading(&name, text, humantime::parse_duration, |text, place| library_walk_spans(text, place));
     }
-    let by_crate = |text: &str| humantime::format_duration(humantime::parse_duration(text).expect("a duration"));
     for (shown, text) in [("`2h 37min`", "2h 37min"), ("the longest duration", LONGEST)] {
         let text = placed(text);
         let given = Text::of(text);
         race_writing(
             &format!("`canonical` of {shown}, beside reading and printing"),
-            |place| crate_print(by_crate, hidden_text(text), place),
+            |place| crate_canonical(hidden_text(text), place),
             |place| library_canonical(hidden(&given), place),
         );
     }

@@ -1,7 +1,6 @@
 //! The calls of the library, as compare/src/exports.rt.txt exports them.
 
-// Each of the two programs calls some of them.
-#![allow(dead_code)]
+#![allow(dead_code)] // Each of the two programs calls some of them.
 
 use std::marker::PhantomData;
 

@@ -97,8 +97,7 @@ pub fn texts_of_crate(folder: &Path) -> BTreeSet<String> {
         if path.is_dir() && !path.ends_with("target") {
             found.extend(texts_of_crate(&path));
         } else if path.extension().is_some_and(|ending| ending == "rs") {
-            let source = std::fs::read_to_string(&path).expect("a text");
-            source.lines().for_each(|line| quoted(line, &mut found));
+            std::fs::read_to_string(&path).expect("a text").lines().for_each(|line| quoted(line, &mut found));
         }
     }
     found
@@ -106,8 +105,7 @@ pub fn texts_of_crate(folder: &Path) -> BTreeSet<String> {
 
 /// Adds the string literals in the line. A literal of several lines is taken line by line.
 fn quoted(line: &str, found: &mut BTreeSet<String>) {
-    let mut letters = line.chars();
-    let mut open: Option<String> = None;
+    let (mut letters, mut open) = (line.chars(), None::<String>);
     while let Some(letter) = letters.next() {
         match (letter, &mut open) {
             ('"', None) => open = Some(String::new()),
