@@ -189,7 +189,7 @@ fn race_reading<T>(name: &str, text: &str, parse: impl Fn(&str) -> T + Copy, by_
     let given = Text::of(text);
     race(
         name,
-        (parse(text), |place| crate_read(parse, hidden_text(text), place)),
+        (parse("0"), |place| crate_read(parse, hidden_text(text), place)),
         (Answer::default(), |place| by_library(hidden(&given), place)),
     );
 }
@@ -200,7 +200,7 @@ fn race_reading_each<T>(name: &str, texts: &[String], parse: impl Fn(&str) -> T 
     let (mut of_crate, mut of_library) = (texts.iter().cycle(), given.iter().cycle());
     race(
         name,
-        (parse(""), |place| crate_read(parse, hidden_text(of_crate.next().expect("a text")), place)),
+        (parse("0"), |place| crate_read(parse, hidden_text(of_crate.next().expect("a text")), place)),
         (Answer::default(), |place| by_library(hidden(of_library.next().expect("a text")), place)),
     );
 }
