@@ -3,88 +3,91 @@
 Both are built only from this repository, the kit, cargo and the folder of the crate, in another folder. There the library is proved
 and built as a static library with one C function for each call (src/exports.rt.txt).
 """
+import argparse
+import contextlib
 import os
 import re
 import shutil
 import subprocess
 import sys
+import tempfile
+from pathlib import Path
 
-HERE = os.path.dirname(os.path.abspath(__file__))
-ROOT = os.path.dirname(HERE)
-SOURCES = os.path.join(HERE, "src")
+HERE = Path(__file__).resolve().parent
+ROOT = HERE.parent
 # Nothing can depend on a program, so a copy of its crate is exported, with `exports.rt.txt` in place of `main.rt`.
 EXPORTS = "humantime_cli"
 CARGO = """[package]
 name = "{name}"
-version = "0.0.0"
 edition = "2024"
-
 [[bin]]
 name = "{name}"
-path = "main.rs"
-
+path = "{here}/src/{name}.rs"
 [dependencies]
 humantime = {{ path = "{crate}" }}
-
 [workspace]
 """
 
 
+def options_of(purpose):
+    """Returns a parser of the options that both commands have."""
+    parser = argparse.ArgumentParser(description=purpose)
+    parser.add_argument("crate", type=os.path.abspath, help="the folder of the Rust crate, with its Cargo.toml and its tests")
+    parser.add_argument("--cpu", default="x86-64-v2", help="what cargo builds for; the kit builds for x86-64-v2")
+    parser.add_argument("--work", type=os.path.abspath, help="a folder for the builds, which is kept for the next run")
+    return parser
+
+
 def run(command, folder, **environment):
     """Returns the output of a command. If the command fails, prints the output and exits."""
-    done = subprocess.run(command, cwd=folder, env=dict(os.environ, **environment), stdout=subprocess.PIPE, stderr=subprocess.STDOUT, text=True)
+    done = subprocess.run(command, cwd=folder, env=os.environ | environment, stdout=subprocess.PIPE, stderr=subprocess.STDOUT, text=True)
     if done.returncode != 0:
-        sys.exit(f"{' '.join(command)} failed:\n{done.stdout[-5000:]}")
+        sys.exit(f"{' '.join(map(str, command))} failed:\n{done.stdout[-5000:]}")
     return done.stdout
 
 
-def copy_of(crate, place):
-    """Copies a crate of this repository, with the results of earlier checks, so that little is proved again."""
-    shutil.rmtree(place, ignore_errors=True)
-    os.makedirs(os.path.dirname(place), exist_ok=True)
-    run(["cp", "-a", os.path.join(ROOT, "crates", crate), place], ROOT)
+def table(titles, rows):
+    """Prints a table in Markdown."""
+    print("\n".join(["", f"| {' | '.join(titles)} |", "|---" * len(titles) + "|", *(f"| {' | '.join(row)} |" for row in rows)]), flush=True)
 
 
-def exports(top):
-    """Creates a repository with the library, and with its exports and the program's `run`."""
-    copy_of("humantime", os.path.join(top, "crates", "humantime"))
-    place = os.path.join(top, "crates", EXPORTS)
-    copy_of(EXPORTS, place)
-    # The exports replace `main`, and the functions in its file.
-    main = os.path.join(place, "src", "main.rt")
-    with open(main, encoding="utf-8") as file:
-        functions = re.findall(r"^fn (\w+)", file.read(), re.M)
-    os.remove(main)
-    for function in functions:
-        shutil.rmtree(os.path.join(place, "proofs", function), ignore_errors=True)
-    shutil.copy(os.path.join(SOURCES, "exports.rt.txt"), os.path.join(place, "src", "lib.rt"))
-    with open(os.path.join(top, "crates.txt"), "w") as file:
-        file.write(f"humantime: itoa\n{EXPORTS} staticlib: humantime itoa\n")
-    if not os.path.exists(os.path.join(top, ".git")):
+@contextlib.contextmanager
+def repository(work):
+    """Yields the folder for the builds, with a repository of the library, its exports and the program's `run`."""
+    with contextlib.nullcontext(work) if work else tempfile.TemporaryDirectory(ignore_cleanup_errors=True) as top:
+        crates = Path(top, "crates")
+        crates.mkdir(parents=True, exist_ok=True)
+        for name in ("humantime", EXPORTS):
+            shutil.rmtree(crates / name, ignore_errors=True)
+            # The results of earlier checks are copied too, so that little is proved again.
+            run(["cp", "-a", ROOT / "crates" / name, crates], ROOT)
+        # The exports replace `main`, and the functions in its file.
+        main = crates / EXPORTS / "src" / "main.rt"
+        for function in re.findall(r"^fn (\w+)", main.read_text(encoding="utf-8"), re.M):
+            shutil.rmtree(crates / EXPORTS / "proofs" / function, ignore_errors=True)
+        main.unlink()
+        shutil.copy(HERE / "src" / "exports.rt.txt", main.with_name("lib.rt"))
+        Path(top, "crates.txt").write_text(f"humantime: itoa\n{EXPORTS} staticlib: humantime itoa\n")
         run(["git", "init", "-q", top], ROOT)
+        yield Path(top)
 
 
 def library(top, backend):
     """Returns the folder of the static library, the names that it links to, and the processor that it is built for."""
-    crate = os.path.join(top, "crates", EXPORTS)
+    crate, folder = top / "crates" / EXPORTS, top / backend
     said = run(["rt", "lib", "--backend", backend], crate)
-    made = os.path.join(crate, "out", f"lib{EXPORTS}.a")
-    folder = os.path.join(top, backend)
-    os.makedirs(folder, exist_ok=True)
-    shutil.copy(made, folder)
+    folder.mkdir(exist_ok=True)
+    made = shutil.copy(crate / "out" / f"lib{EXPORTS}.a", folder)
     names = {line.split()[-1] for line in run(["nm", "-u", made], ROOT).splitlines() if " U " in line}
     cpu = re.search(r"cpu=(\S+)", said)
-    return folder, sorted(names), cpu.group(1) if cpu else "?"
+    return folder, sorted(names), cpu[1] if cpu else "?"
 
 
-def program(top, name, sources, crate, folder, cpu, **environment):
-    """Builds these files of src/, of which the first is the main one, with the crate and the static library in this folder."""
-    place = os.path.join(top, name)
-    os.makedirs(place, exist_ok=True)
-    for number, source in enumerate([*sources, "library.rs"]):
-        shutil.copy(os.path.join(SOURCES, source), os.path.join(place, source if number else "main.rs"))
-    with open(os.path.join(place, "Cargo.toml"), "w") as file:
-        file.write(CARGO.format(name=name, crate=os.path.abspath(crate)))
-    flags = f"-C target-cpu={cpu} -L native={folder} -l static={EXPORTS}"
+def program(top, name, options, folder, **environment):
+    """Builds the program of this name in src/, with the crate and the static library in this folder."""
+    place = top / name
+    place.mkdir(exist_ok=True)
+    (place / "Cargo.toml").write_text(CARGO.format(name=name, here=HERE, crate=options.crate))
+    flags = f"-C target-cpu={options.cpu} -L native={folder} -l static={EXPORTS}"
     run(["cargo", "build", "--release", "--offline"], place, RUSTFLAGS=flags, **environment)
-    return os.path.join(place, "target", "release", name)
+    return place / "target" / "release" / name

@@ -3,23 +3,23 @@
 //! Each row is one call of each side, which is not inlined and leaves its answer in memory of the caller. The sides are called in turn, in
 //! batches, and the side that goes first changes with each round.
 
+mod answers;
 mod library;
 
+use answers::{DurationRead, MomentRead, PRINTERS, Parser, STRICT, WEAK, duration_by_crate, duration_by_library};
+use humantime::Rfc3339Timestamp;
 use library::*;
 use std::alloc::{GlobalAlloc, Layout, System};
-use std::arch::asm;
-use std::fmt::Write;
+use std::arch::{asm, global_asm};
+use std::fmt::{self, Display, Write};
 use std::hint::black_box;
+use std::iter::repeat_with;
 use std::sync::atomic::{AtomicUsize, Ordering::Relaxed};
 use std::time::{Duration, Instant, SystemTime, UNIX_EPOCH};
 
 // Moves the code after it by this number of bytes, so that several builds differ in their layout. The linker keeps it, because `main` names
 // it.
-std::arch::global_asm!(concat!(
-    ".text\n.globl bench_padding\nbench_padding:\n.space ",
-    env!("BENCH_PADDING"),
-    ", 0x90"
-));
+global_asm!(".text", ".globl bench_padding", "bench_padding:", concat!(".space ", env!("BENCH_PADDING"), ", 0x90"));
 
 unsafe extern "C" {
     fn bench_padding();
@@ -44,94 +44,48 @@ unsafe impl GlobalAlloc for Counting {
 #[global_allocator]
 static COUNTING: Counting = Counting;
 
-type DurationRead = Result<Duration, humantime::DurationError>;
-
-type MomentRead = Result<SystemTime, humantime::TimestampError>;
-
-/// A buffer for the text of the crate.
-type Written = String;
-
-/// Returns the text with the micro sign replaced by `u`, as the crate prints it without its feature `mu`.
-fn plain(text: &[u8]) -> String {
-    String::from_utf8_lossy(text).replace('µ', "u")
-}
-
+/// Parses a text by a function of the crate. Drops the previous answer, and writes the new one in place, without a copy.
 #[inline(never)]
-fn crate_read_duration(text: &str, place: &mut DurationRead) {
-    // Drops the previous answer, and writes the new one in place, without a copy.
+fn crate_read<T>(parse: impl Fn(&str) -> T, text: &str, place: &mut T) {
     unsafe {
         std::ptr::drop_in_place(place);
-        std::ptr::write(place, humantime::parse_duration(text));
+        std::ptr::write(place, parse(text));
     }
 }
 
+/// Prints a value by a function of the crate.
 #[inline(never)]
-fn crate_canonical(text: &str, place: &mut Written) {
+fn crate_print<T, F: Display>(format: impl Fn(T) -> F, value: T, place: &mut String) {
+    place.clear();
+    let _ = write!(place, "{}", format(value));
+}
+
+#[inline(never)]
+fn crate_canonical(text: &str, place: &mut String) {
     place.clear();
     if let Ok(duration) = humantime::parse_duration(text) {
         let _ = write!(place, "{}", humantime::format_duration(duration));
     }
 }
 
-#[inline(never)]
-fn crate_print_duration(duration: Duration, place: &mut Written) {
-    place.clear();
-    let _ = write!(place, "{}", humantime::format_duration(duration));
-}
-
-#[inline(never)]
-fn crate_read_strict(text: &str, place: &mut MomentRead) {
-    unsafe { std::ptr::write(place, humantime::parse_rfc3339(text)) };
-}
-
-#[inline(never)]
-fn crate_read_weak(text: &str, place: &mut MomentRead) {
-    unsafe { std::ptr::write(place, humantime::parse_rfc3339_weak(text)) };
-}
-
-#[inline(never)]
-fn crate_print_seconds(moment: SystemTime, place: &mut Written) {
-    place.clear();
-    let _ = write!(place, "{}", humantime::format_rfc3339_seconds(moment));
-}
-
-#[inline(never)]
-fn crate_print_millis(moment: SystemTime, place: &mut Written) {
-    place.clear();
-    let _ = write!(place, "{}", humantime::format_rfc3339_millis(moment));
-}
-
-#[inline(never)]
-fn crate_print_micros(moment: SystemTime, place: &mut Written) {
-    place.clear();
-    let _ = write!(place, "{}", humantime::format_rfc3339_micros(moment));
-}
-
-#[inline(never)]
-fn crate_print_nanos(moment: SystemTime, place: &mut Written) {
-    place.clear();
-    let _ = write!(place, "{}", humantime::format_rfc3339_nanos(moment));
-}
-
 /// What a program that uses the crate does for a command and its text: it parses the text, and prints the result as a line.
 #[inline(never)]
-fn crate_run(command: &str, text: &str, place: &mut Written) {
+fn crate_run(command: &str, text: &str, place: &mut String) {
     place.clear();
     let _ = match command {
-        "duration" => match humantime::parse_duration(text) {
-            Ok(duration) => writeln!(place, "{}", humantime::format_duration(duration)),
-            Err(error) => writeln!(place, "{error}"),
-        },
-        "strict" => match humantime::parse_rfc3339(text) {
-            Ok(moment) => writeln!(place, "{}", humantime::format_rfc3339(moment)),
-            Err(error) => writeln!(place, "{error}"),
-        },
-        "weak" => match humantime::parse_rfc3339_weak(text) {
-            Ok(moment) => writeln!(place, "{}", humantime::format_rfc3339(moment)),
-            Err(error) => writeln!(place, "{error}"),
-        },
+        "duration" => write_line(place, humantime::parse_duration(text), humantime::format_duration),
+        "strict" => write_line(place, humantime::parse_rfc3339(text), humantime::format_rfc3339),
+        "weak" => write_line(place, humantime::parse_rfc3339_weak(text), humantime::format_rfc3339),
         _ => Ok(()),
     };
+}
+
+#[inline(always)]
+fn write_line<T, F: Display>(place: &mut String, result: Result<T, impl Display>, format: impl Fn(T) -> F) -> fmt::Result {
+    match result {
+        Ok(value) => writeln!(place, "{}", format(value)),
+        Err(error) => writeln!(place, "{error}"),
+    }
 }
 
 /// Returns the same reference, about which the compiler knows nothing. `black_box` would pass it through memory, which costs a call as much
@@ -171,51 +125,51 @@ fn batch(calls: usize, mut call: impl FnMut()) -> f64 {
     start.elapsed().as_nanos() as f64
 }
 
-/// Prints a row: its name, the smallest time of each side, the median of the ratios, and the allocations of a call of the crate.
-#[inline(always)]
-fn race(name: &str, mut of_crate: impl FnMut(), mut of_library: impl FnMut()) {
+/// Times a row: a call of the crate and a call of the library, each with the memory where it leaves its answer.
+fn race<C, L>(name: &str, (mut crate_place, mut by_crate): (C, impl FnMut(&mut C)), (mut place, mut by_library): (L, impl FnMut(&mut L))) {
+    let mut of_crate = || {
+        by_crate(&mut crate_place);
+        looked_at(&crate_place);
+    };
+    let of_library = || {
+        by_library(&mut place);
+        looked_at(&place);
+    };
     let only = std::env::var("BENCH_ONLY").unwrap_or_default();
     // Only makes this number of calls of one row, for valgrind, which counts the instructions in the functions of one side.
     if let Ok(calls) = std::env::var("BENCH_COUNT") {
-        for _ in 0..if name == only { calls.parse().expect("a number of calls") } else { 0 } {
-            of_crate();
-            of_library();
-        }
-        return;
+        let calls = if name == only { calls.parse().expect("a number of calls") } else { 0 };
+        batch(calls, of_crate);
+        batch(calls, of_library);
+    } else if name.contains(&only) {
+        let taken = TAKEN.load(Relaxed);
+        of_crate();
+        let taken = TAKEN.load(Relaxed) - taken;
+        println!("{name}\t{}\t{taken}", times(of_crate, of_library));
     }
-    if !name.contains(&only) {
-        return;
-    }
-    let taken = TAKEN.load(Relaxed);
-    of_crate();
-    let taken = TAKEN.load(Relaxed) - taken;
+}
+
+/// Returns the smallest time of each side and the median of the ratios, separated by tabs.
+#[inline(always)]
+fn times(mut of_crate: impl FnMut(), mut of_library: impl FnMut()) -> String {
     let once = batch(20, &mut of_crate).max(batch(20, &mut of_library)) / 20.0;
     let calls = ((30_000.0 / once) as usize).clamp(1, 1_000);
     // A call that takes milliseconds is made in fewer rounds.
     let wanted: usize = env!("BENCH_ROUNDS").parse().expect("a number of rounds");
     let rounds = wanted.min((500_000_000.0 / once) as usize / calls).max(50);
+    let sides: [&mut dyn FnMut() -> f64; 2] = [&mut || batch(calls, &mut of_crate), &mut || batch(calls, &mut of_library)];
     let mut least = [f64::MAX; 2];
     let mut ratios = Vec::with_capacity(rounds);
     for round in 0..rounds {
-        let (by_crate, by_library);
-        if round % 2 == 0 {
-            by_crate = batch(calls, &mut of_crate);
-            by_library = batch(calls, &mut of_library);
-        } else {
-            by_library = batch(calls, &mut of_library);
-            by_crate = batch(calls, &mut of_crate);
+        let mut taken = [0.0; 2];
+        for side in [round % 2, 1 - round % 2] {
+            taken[side] = sides[side]();
+            least[side] = least[side].min(taken[side]);
         }
-        least[0] = least[0].min(by_crate / calls as f64);
-        least[1] = least[1].min(by_library / calls as f64);
-        ratios.push(by_library / by_crate);
+        ratios.push(taken[1] / taken[0]);
     }
     ratios.sort_by(f64::total_cmp);
-    println!(
-        "{name}\t{:.2}\t{:.2}\t{:.4}\t{taken}",
-        least[0],
-        least[1],
-        ratios[rounds / 2]
-    );
+    format!("{:.2}\t{:.2}\t{:.4}", least[0] / calls as f64, least[1] / calls as f64, ratios[rounds / 2])
 }
 
 /// Returns a copy of the text that begins as many bytes after a multiple of 64 as the code of this build does: a read across two cache
@@ -229,44 +183,36 @@ fn placed(text: &str) -> &'static str {
     std::str::from_utf8(place).expect("a text")
 }
 
-/// Returns the crate's answer for the text of a duration, in the form of the library's.
-fn duration_answer(text: &str) -> (u32, u64, u32, usize, usize) {
-    use humantime::DurationError::*;
-    match humantime::parse_duration(text) {
-        Ok(duration) => (0, duration.as_secs(), duration.subsec_nanos(), 0, 0),
-        Err(InvalidCharacter(at)) => (1, 0, 0, at, 0),
-        Err(NumberExpected(at)) => (2, 0, 0, at, 0),
-        Err(UnknownUnit { start, end, value, .. }) => (3, value, 0, start, end),
-        Err(NumberOverflow) => (4, 0, 0, 0, 0),
-        Err(Empty) => (5, 0, 0, 0, 0),
-    }
+/// Times both sides parsing a text.
+fn race_reading<T>(name: &str, text: &str, parse: impl Fn(&str) -> T + Copy, by_library: impl Fn(&Text, &mut Answer)) {
+    let text = placed(text);
+    let given = Text::of(text);
+    race(
+        name,
+        (parse("0"), |place| crate_read(parse, hidden_text(text), place)),
+        (Answer::default(), |place| by_library(hidden(&given), place)),
+    );
 }
 
-macro_rules! read_duration {
-    ($name:expr, $text:expr) => {{
-        let text = placed($text);
-        let mut place = Answer::default();
-        let given = Text::of(text);
-        unsafe { library_read_duration(&given, &mut place) };
-        assert_eq!(
-            (place.kind, place.value, place.nanos, place.start, place.end),
-            duration_answer(text),
-            "{}",
-            $name
-        );
-        let mut crate_place = Ok(Duration::ZERO);
-        race(
-            $name,
-            || {
-                crate_read_duration(hidden_text(text), &mut crate_place);
-                looked_at(&crate_place);
-            },
-            || {
-                unsafe { library_read_duration(hidden(&given), &mut place) };
-                looked_at(&place);
-            },
-        );
-    }};
+/// Times both sides parsing one text after the other.
+fn race_reading_each<T>(name: &str, texts: &[String], parse: impl Fn(&str) -> T + Copy, by_library: impl Fn(&Text, &mut Answer)) {
+    let given: Vec<Text> = texts.iter().map(|text| Text::of(text)).collect();
+    let (mut of_crate, mut of_library) = (texts.iter().cycle(), given.iter().cycle());
+    race(
+        name,
+        (parse("0"), |place| crate_read(parse, hidden_text(of_crate.next().expect("a text")), place)),
+        (Answer::default(), |place| by_library(hidden(of_library.next().expect("a text")), place)),
+    );
+}
+
+/// Times both sides writing a text, which has to be the same: the crate to a `String`, the library to a buffer. The crate prints `us`
+/// without its feature `mu`.
+fn race_writing<const N: usize>(name: &str, mut by_crate: impl FnMut(&mut String), mut by_library: impl FnMut(&mut [u8; N]) -> usize) {
+    let mut crate_place = String::with_capacity(64);
+    by_crate(&mut crate_place);
+    assert_eq!(text_of(&mut by_library).replace('µ', "u"), crate_place, "{name}");
+    let by_library = |(length, place): &mut (usize, [u8; N])| *length = by_library(place);
+    race(name, (crate_place, by_crate), ((0, [0; N]), by_library));
 }
 
 /// A generator of pseudorandom numbers, the same in each run.
@@ -281,352 +227,167 @@ impl Numbers {
     }
 }
 
-const TEXTS: usize = 1_000;
-
-/// Returns texts of durations below 2^34 seconds, as the crate prints them: half of them whole seconds, and short ones as often as long
-/// ones.
+/// Returns a thousand texts of durations below 2^34 seconds, as the crate prints them: half of them whole seconds, and short ones as often
+/// as long ones.
 fn texts_of_durations() -> Vec<String> {
     let mut numbers = Numbers(0x9E37_79B9_7F4A_7C15);
-    let mut text = || {
+    let text = || {
         let most = 1 << (1 + numbers.below(34));
-        let secs = numbers.below(most);
-        let nanos = numbers.below(2) * numbers.below(1_000_000_000);
+        let (secs, nanos) = (numbers.below(most), numbers.below(2) * numbers.below(1_000_000_000));
         humantime::format_duration(Duration::new(secs, nanos as u32)).to_string()
     };
-    (0..TEXTS).map(|_| text()).collect()
+    repeat_with(text).take(1_000).collect()
 }
 
-/// Returns texts of moments of 1970 to 9999, as the crate prints them, with 0, 3, 6 or 9 fraction digits.
+/// Returns a thousand texts of moments of 1970 to 9999, as the crate prints them, with 0, 3, 6 or 9 fraction digits.
 fn texts_of_moments() -> Vec<String> {
     let mut numbers = Numbers(0x9E37_79B9_7F4A_7C15);
-    let mut text = || {
-        let secs = numbers.below(253_402_300_800);
-        let moment = UNIX_EPOCH + Duration::new(secs, numbers.below(1_000_000_000) as u32);
-        match numbers.below(4) {
-            0 => humantime::format_rfc3339_seconds(moment).to_string(),
-            1 => humantime::format_rfc3339_millis(moment).to_string(),
-            2 => humantime::format_rfc3339_micros(moment).to_string(),
-            _ => humantime::format_rfc3339_nanos(moment).to_string(),
-        }
+    let text = || {
+        let (secs, nanos) = (numbers.below(253_402_300_800), numbers.below(1_000_000_000));
+        // The first printer is the one that chooses the number of digits.
+        let printer = &PRINTERS[1 + numbers.below(4) as usize];
+        printer.print_by_crate(secs as i64, nanos as u32).expect("a text")
     };
-    (0..TEXTS).map(|_| text()).collect()
+    repeat_with(text).take(1_000).collect()
 }
 
-/// Parses one text after the other, by each side in turn.
-macro_rules! read_texts {
-    ($name:expr, $texts:expr, $zero:expr, $by_crate:ident, $by_library:ident) => {{
-        let texts: &[String] = $texts;
-        let given: Vec<Text> = texts.iter().map(|text| Text::of(text)).collect();
-        let (mut place, mut crate_place) = (Answer::default(), $zero);
-        let (mut of_crate, mut of_library) = (texts.iter().cycle(), given.iter().cycle());
-        race(
-            $name,
-            || {
-                if let Some(text) = of_crate.next() {
-                    $by_crate(hidden_text(text), &mut crate_place);
-                }
-                looked_at(&crate_place);
-            },
-            || {
-                if let Some(text) = of_library.next() {
-                    unsafe { $by_library(hidden(text), &mut place) };
-                }
-                looked_at(&place);
-            },
-        );
-    }};
-}
+const LONGEST: &str = "584542046090years 7months 15days 17h 5m 3s 999ms 999us 999ns";
 
-/// `spans` has no counterpart in the crate. It is compared with the crate's parsing of the same text.
-macro_rules! walk_spans {
-    ($name:expr, $text:expr) => {{
-        let text = placed($text);
-        let mut place = Answer::default();
-        let given = Text::of(text);
-        let mut crate_place = Ok(Duration::ZERO);
-        race(
-            $name,
-            || {
-                crate_read_duration(hidden_text(text), &mut crate_place);
-                looked_at(&crate_place);
-            },
-            || {
-                unsafe { library_walk_spans(hidden(&given), &mut place) };
-                looked_at(&place);
-            },
-        );
-    }};
-}
-
-macro_rules! canonical {
-    ($name:expr, $text:expr) => {{
-        let text = placed($text);
-        let mut place = [0; 64];
-        let mut crate_place = Written::with_capacity(64);
-        crate_canonical(text, &mut crate_place);
-        let given = Text::of(text);
-        let length = unsafe { library_canonical(&given, &mut place) };
-        assert_eq!(plain(&place[..length]), plain(crate_place.as_bytes()));
-        race(
-            $name,
-            || {
-                crate_canonical(hidden_text(text), &mut crate_place);
-                looked_at(&crate_place);
-            },
-            || {
-                let length = unsafe { library_canonical(hidden(&given), &mut place) };
-                black_box((length, &place));
-            },
-        );
-    }};
-}
-
-macro_rules! print_duration {
-    ($name:expr, $secs:expr, $nanos:expr) => {{
-        let (secs, nanos): (u64, u32) = ($secs, $nanos);
-        let duration = Duration::new(secs, nanos);
-        let mut place = [0; 64];
-        let mut crate_place = Written::with_capacity(64);
-        crate_print_duration(duration, &mut crate_place);
-        let length = unsafe { library_print_duration(secs, nanos, &mut place) };
-        assert_eq!(plain(&place[..length]), plain(crate_place.as_bytes()));
-        race(
-            $name,
-            || {
-                crate_print_duration(black_box(duration), &mut crate_place);
-                black_box(&crate_place);
-            },
-            || {
-                let (secs, nanos) = black_box((secs, nanos));
-                let length = unsafe { library_print_duration(secs, nanos, &mut place) };
-                black_box((length, &place));
-            },
-        );
-    }};
-}
-
-/// Returns the crate's answer for the text of a timestamp, in the form of the library's.
-fn moment_answer(answer: MomentRead) -> (u32, i64, u32) {
-    use humantime::TimestampError::*;
-    match answer {
-        Ok(moment) => {
-            let after = moment.duration_since(UNIX_EPOCH).expect("a moment from 1970 on");
-            (0, after.as_secs() as i64, after.subsec_nanos())
-        }
-        Err(OutOfRange) => (1, 0, 0),
-        Err(InvalidDigit) => (2, 0, 0),
-        Err(InvalidFormat) => (3, 0, 0),
-        Err(_) => unreachable!("the crate has three errors"),
+/// Returns the text as a row names it.
+fn quoted(text: &str) -> String {
+    match text {
+        LONGEST => "the 60 bytes of the longest duration".to_string(),
+        _ => format!("`{text}`").replace('\u{3000}', "`, U+3000, `"),
     }
 }
 
-macro_rules! read_moment {
-    ($name:expr, $by_crate:ident, $by_library:ident, $text:expr) => {{
-        let text = placed($text);
-        let mut place = Answer::default();
-        let mut crate_place = Ok(UNIX_EPOCH);
-        $by_crate(text, &mut crate_place);
-        let by_library: ReadByLibrary = $by_library;
-        let given = Text::of(text);
-        unsafe { by_library(&given, &mut place) };
-        assert_eq!(
-            (place.kind, place.secs, place.nanos),
-            moment_answer(crate_place),
-            "{}",
-            $name
-        );
-        let mut crate_place = Ok(UNIX_EPOCH);
-        race(
-            $name,
-            || {
-                $by_crate(hidden_text(text), &mut crate_place);
-                looked_at(&crate_place);
-            },
-            || {
-                unsafe { $by_library(hidden(&given), &mut place) };
-                looked_at(&place);
-            },
-        );
-    }};
+/// Times the parsing of a duration, which both sides have to read or reject alike.
+fn read_duration(shown: &str, text: &str) {
+    let answer = duration_by_library(text).expect("an answer");
+    assert_eq!(duration_by_crate(text), Some(answer), "{shown}");
+    let verb = if matches!(answer, DurationRead::Value(..)) { "read" } else { "reject" };
+    race_reading(&format!("{verb} {shown}"), text, humantime::parse_duration, |text, place| library_read_duration(text, place));
 }
 
-macro_rules! print_moment {
-    ($name:expr, $by_crate:ident, $by_library:ident, $secs:expr, $nanos:expr) => {{
-        let (secs, nanos): (i64, u32) = ($secs, $nanos);
-        let moment = UNIX_EPOCH + Duration::new(secs as u64, nanos);
-        let mut place = [0; 30];
-        let mut crate_place = Written::with_capacity(64);
-        $by_crate(moment, &mut crate_place);
-        let by_library: StampByLibrary = $by_library;
-        let length = unsafe { by_library(secs, nanos, &mut place) };
-        assert_eq!(plain(&place[..length]), plain(crate_place.as_bytes()));
-        race(
-            $name,
-            || {
-                $by_crate(black_box(moment), &mut crate_place);
-                black_box(&crate_place);
-            },
-            || {
-                let (secs, nanos) = black_box((secs, nanos));
-                let length = unsafe { $by_library(secs, nanos, &mut place) };
-                black_box((length, &place));
-            },
-        );
-    }};
-}
-
-fn durations() {
-    let most = "584542046090years 7months 15days 17h 5m 3s 999ms 999us 999ns";
-    read_duration!("read `2h 37min`", "2h 37min");
-    read_duration!("read `1.234s 1.345ms 1.678us 1ns`", "1.234s 1.345ms 1.678us 1ns");
-    read_duration!("read `15days 2min 2s`", "15days 2min 2s");
-    read_duration!("read the 60 bytes of the longest duration", most);
-    read_duration!("read `12`, U+3000, `s 163µs`", "12\u{3000}s 163µs");
-    read_duration!("read `163µs`", "163µs");
-    read_duration!("read `0`", "0");
-    read_duration!("reject `100000000000000000us 1foo`", "100000000000000000us 1foo");
-    read_duration!("reject `1foo~`", "1foo~");
-    read_duration!("reject `10nights`", "10nights");
-    read_duration!("reject `12 34`", "12 34");
-    read_duration!("reject `1h x`", "1h x");
-    read_duration!("reject `20000000000000000000s`", "20000000000000000000s");
+fn durations_read() {
+    for text in [
+        "2h 37min", "1.234s 1.345ms 1.678us 1ns", "15days 2min 2s", LONGEST, "12\u{3000}s 163µs", "163µs", "0",
+        "100000000000000000us 1foo", "1foo~", "10nights", "12 34", "1h x", "20000000000000000000s",
+    ] {
+        read_duration(&quoted(text), text);
+    }
     let texts = texts_of_durations();
-    for text in &texts {
-        let mut place = Answer::default();
-        let given = Text::of(text);
-        unsafe { library_read_duration(&given, &mut place) };
-        assert_eq!((place.kind, place.value, place.nanos, place.start, place.end), duration_answer(text));
+    texts.iter().for_each(|text| assert_eq!(duration_by_library(text), duration_by_crate(text), "{text}"));
+    race_reading_each("read random durations", &texts, humantime::parse_duration, |text, place| library_read_duration(text, place));
+    for (size, bytes) in [("a tenth of a megabyte", 104_856), ("a megabyte", 1_048_575)] {
+        let spans = "1h ".repeat(bytes / 3);
+        read_duration(&format!("{size} of `1h `"), &spans);
+        read_duration(&format!("{size} of `1h `, and `~`"), &format!("{spans}~"));
+        read_duration(&format!("{size} of whitespace"), &" ".repeat(bytes));
+        read_duration(&format!("{size} of `0`"), &"0".repeat(bytes));
+        read_duration(&format!("`1` and {size} of `s`"), &format!("1{}", "s".repeat(bytes)));
     }
-    read_texts!("read random durations", &texts, Ok(Duration::ZERO), crate_read_duration, library_read_duration);
-    for (size, spans, others) in [("a tenth of a megabyte", 34_952, 104_856), ("a megabyte", 349_525, 1_048_575)] {
-        read_duration!(&format!("read {size} of `1h `"), &"1h ".repeat(spans));
-        read_duration!(&format!("reject {size} of `1h `, and `~`"), &format!("{}~", "1h ".repeat(spans)));
-        read_duration!(&format!("reject {size} of whitespace"), &" ".repeat(others));
-        read_duration!(&format!("reject {size} of `0`"), &"0".repeat(others));
-        read_duration!(&format!("reject `1` and {size} of `s`"), &format!("1{}", "s".repeat(others)));
-    }
-    walk_spans!("`spans` of the longest duration, beside the crate's reading", most);
-    walk_spans!(
-        "`spans` of a megabyte of `1h `, beside the crate's reading",
-        &"1h ".repeat(349_525)
-    );
-    canonical!("`canonical` of `2h 37min`, beside reading and printing", "2h 37min");
-    canonical!("`canonical` of the longest duration, beside reading and printing", most);
-    print_duration!("print 9420 seconds", 9_420, 0);
-    print_duration!("print 1296122 seconds", 1_296_122, 0);
-    print_duration!("print 63115320 seconds and 12000 nanoseconds", 63_115_320, 12_000);
-    print_duration!("print the longest duration", u64::MAX, 999_999_999);
-    print_duration!("print zero", 0, 0);
 }
 
-macro_rules! read_both {
-    ($verb:expr, $name:expr, $text:expr) => {{
-        read_moment!(
-            &format!("{} {}, strict", $verb, $name),
-            crate_read_strict,
-            library_read_strict,
-            $text
+/// `spans` and `canonical` have no counterpart in the crate. They are compared with its parsing of the same text, and with its parsing and
+/// printing.
+fn spans_and_canonical() {
+    for (shown, text) in [("the longest duration", LONGEST), ("a megabyte of `1h `", &"1h ".repeat(349_525))] {
+        let name = format!("`spans` of {shown}, beside the crate's reading");
+        race_reading(&name, text, humantime::parse_duration, |text, place| library_walk_spans(text, place));
+    }
+    for (shown, text) in [("`2h 37min`", "2h 37min"), ("the longest duration", LONGEST)] {
+        let text = placed(text);
+        let given = Text::of(text);
+        race_writing(
+            &format!("`canonical` of {shown}, beside reading and printing"),
+            |place| crate_canonical(hidden_text(text), place),
+            |place| library_canonical(hidden(&given), place),
         );
-        read_moment!(
-            &format!("{} {}, weak", $verb, $name),
-            crate_read_weak,
-            library_read_weak,
-            $text
-        );
-    }};
+    }
+}
+
+fn print_duration(shown: &str, secs: u64, nanos: u32) {
+    let duration = Duration::new(secs, nanos);
+    race_writing(
+        &format!("print {shown}"),
+        |place| crate_print(humantime::format_duration, black_box(duration), place),
+        |place| library_print_duration(black_box(secs), black_box(nanos), place),
+    );
+}
+
+fn durations_printed() {
+    print_duration("9420 seconds", 9_420, 0);
+    print_duration("1296122 seconds", 1_296_122, 0);
+    print_duration("63115320 seconds and 12000 nanoseconds", 63_115_320, 12_000);
+    print_duration("the longest duration", u64::MAX, 999_999_999);
+    print_duration("zero", 0, 0);
+}
+
+/// Times the parsing of a timestamp by both parsers, each of which the sides have to read or reject alike.
+fn read_moment(shown: &str, text: &str) {
+    let name_of = |parser: Parser| {
+        let answer = parser.read_by_library(text);
+        assert_eq!(parser.read_by_crate(text), Ok(answer), "{shown}");
+        let verb = if matches!(answer, MomentRead::Moment(..)) { "read" } else { "reject" };
+        format!("{verb} {shown}, {}", parser.name)
+    };
+    race_reading(&name_of(STRICT), text, humantime::parse_rfc3339, |text, place| library_read_strict(text, place));
+    race_reading(&name_of(WEAK), text, humantime::parse_rfc3339_weak, |text, place| library_read_weak(text, place));
+}
+
+fn print_moment(unit: &str, format: impl Fn(SystemTime) -> Rfc3339Timestamp + Copy, by_library: impl Fn(i64, u32, &mut [u8; 30]) -> usize) {
+    let (secs, nanos) = (1_518_563_287, 123_456_789);
+    let moment = UNIX_EPOCH + Duration::new(secs as u64, nanos);
+    race_writing(
+        &format!("print a timestamp in {unit}"),
+        |place| crate_print(format, black_box(moment), place),
+        |place| by_library(black_box(secs), black_box(nanos), place),
+    );
 }
 
 fn timestamps() {
-    read_both!("read", "`2018-02-14T00:28:07Z`", "2018-02-14T00:28:07Z");
-    read_both!("read", "`2018-02-14T00:28:07.133Z`", "2018-02-14T00:28:07.133Z");
-    read_both!(
-        "read",
-        "`2018-02-14T00:28:07.123456789Z`",
-        "2018-02-14T00:28:07.123456789Z"
-    );
-    read_both!("read", "`2018-02-14T00:28:07+00:00`", "2018-02-14T00:28:07+00:00");
-    read_both!("reject", "`2018-02-14t00:28:07Z`", "2018-02-14t00:28:07Z");
-    read_both!("reject", "`2018-02-1xT00:28:07Z`", "2018-02-1xT00:28:07Z");
-    read_both!("reject", "`2018-02-30T00:28:07Z`", "2018-02-30T00:28:07Z");
-    read_both!("reject", "`2018-02-14T00:28:07.13x3Z`", "2018-02-14T00:28:07.13x3Z");
-    let texts = texts_of_moments();
-    for text in &texts {
-        let mut place = Answer::default();
-        unsafe { library_read_strict(&Text::of(text), &mut place) };
-        assert_eq!((place.kind, place.secs, place.nanos), moment_answer(humantime::parse_rfc3339(text)));
+    for text in [
+        "2018-02-14T00:28:07Z", "2018-02-14T00:28:07.133Z", "2018-02-14T00:28:07.123456789Z", "2018-02-14T00:28:07+00:00",
+        "2018-02-14t00:28:07Z", "2018-02-1xT00:28:07Z", "2018-02-30T00:28:07Z", "2018-02-14T00:28:07.13x3Z",
+    ] {
+        read_moment(&quoted(text), text);
     }
-    read_texts!("read random moments, strict", &texts, Ok(UNIX_EPOCH), crate_read_strict, library_read_strict);
-    read_texts!("read random moments, weak", &texts, Ok(UNIX_EPOCH), crate_read_weak, library_read_weak);
-    let long = format!("2018-02-14T00:28:07.{}Z", "1".repeat(1_000_000));
-    read_both!("read", "a megabyte of fraction", &long);
-    let (secs, nanos) = (1_518_563_287, 123_456_789);
-    print_moment!(
-        "print a timestamp in seconds",
-        crate_print_seconds,
-        library_print_seconds,
-        secs,
-        nanos
-    );
-    print_moment!(
-        "print a timestamp in milliseconds",
-        crate_print_millis,
-        library_print_millis,
-        secs,
-        nanos
-    );
-    print_moment!(
-        "print a timestamp in microseconds",
-        crate_print_micros,
-        library_print_micros,
-        secs,
-        nanos
-    );
-    print_moment!(
-        "print a timestamp in nanoseconds",
-        crate_print_nanos,
-        library_print_nanos,
-        secs,
-        nanos
-    );
+    let texts = texts_of_moments();
+    texts.iter().for_each(|text| assert_eq!(STRICT.read_by_crate(text), Ok(STRICT.read_by_library(text)), "{text}"));
+    race_reading_each("read random moments, strict", &texts, humantime::parse_rfc3339, |text, place| library_read_strict(text, place));
+    race_reading_each("read random moments, weak", &texts, humantime::parse_rfc3339_weak, |text, place| library_read_weak(text, place));
+    read_moment("a megabyte of fraction", &format!("2018-02-14T00:28:07.{}Z", "1".repeat(1_000_000)));
+    print_moment("seconds", humantime::format_rfc3339_seconds, |secs, nanos, place| library_print_seconds(secs, nanos, place));
+    print_moment("milliseconds", humantime::format_rfc3339_millis, |secs, nanos, place| library_print_millis(secs, nanos, place));
+    print_moment("microseconds", humantime::format_rfc3339_micros, |secs, nanos, place| library_print_micros(secs, nanos, place));
+    print_moment("nanoseconds", humantime::format_rfc3339_nanos, |secs, nanos, place| library_print_nanos(secs, nanos, place));
 }
 
 /// Times the program on a command and its text. An error message is written to the other writer.
-macro_rules! run {
-    ($command:expr, $text:expr) => {{
-        let (command, text): (&str, &str) = ($command, $text);
-        let (mut out, mut err) = (Sink::new(), Sink::new());
-        let mut crate_place = Written::with_capacity(256);
-        crate_run(command, text, &mut crate_place);
-        unsafe { library_run(command.as_ptr(), command.len(), text.as_ptr(), text.len(), &mut out, &mut err) };
-        let told = [&out.bytes[..out.length], &err.bytes[..err.length]].concat();
-        assert_eq!(plain(&told), plain(crate_place.as_bytes()));
-        race(
-            &format!("the program's `{command}` of `{text}`, beside reading and printing"),
-            || {
-                crate_run(black_box(command), black_box(text), &mut crate_place);
-                black_box(&crate_place);
-            },
-            || {
-                let (command, text) = black_box((command, text));
-                let status = unsafe {
-                    library_run(command.as_ptr(), command.len(), text.as_ptr(), text.len(), &mut out, &mut err)
-                };
-                black_box((status, &out, &err));
-            },
-        );
-    }};
-}
-
-fn program() {
-    run!("duration", "2h 37min");
-    run!("duration", "1foo~");
-    run!("strict", "2018-02-14T00:28:07Z");
-    run!("weak", "2018-02-14T00:28:07.123456789Z");
+fn run(command: &str, text: &str) {
+    let by_crate = |place: &mut String| crate_run(black_box(command), black_box(text), place);
+    let by_library = |(status, [out, err]): &mut (u8, [Sink; 2])| {
+        *status = run_library(black_box(command), black_box(text), out, err);
+    };
+    let mut crate_place = String::with_capacity(256);
+    let mut place = (0, [Sink::EMPTY; 2]);
+    by_crate(&mut crate_place);
+    by_library(&mut place);
+    let told: String = place.1.iter().map(Sink::text).collect();
+    let name = format!("the program's `{command}` of `{text}`, beside reading and printing");
+    assert_eq!(told.replace('µ', "u"), crate_place.replace('µ', "u"), "{name}");
+    race(&name, (crate_place, by_crate), (place, by_library));
 }
 
 fn main() {
     black_box(bench_padding as *const ());
-    durations();
+    durations_read();
+    spans_and_canonical();
+    durations_printed();
     timestamps();
-    program();
+    run("duration", "2h 37min");
+    run("duration", "1foo~");
+    run("strict", "2018-02-14T00:28:07Z");
+    run("weak", "2018-02-14T00:28:07.123456789Z");
 }

@@ -1,14 +1,15 @@
 //! Compares the answers of the library with those of the crate, call by call. They have to be the same, except for the differences that are
 //! listed.
 
-mod durations;
+mod answers;
+mod explained;
 mod library;
-mod moments;
 mod rows;
 mod texts;
 
-use moments::{PARSERS, PRINTERS};
-use rows::{Counts, Row, caught};
+use answers::*;
+use library::{library_duration_message, library_moment_message, library_print_duration, text_of};
+use rows::{Counts, Row};
 use std::path::Path;
 use std::time::Duration;
 use texts::*;
@@ -21,17 +22,12 @@ const END: i64 = 253_402_300_800;
 /// Parses a duration on both sides.
 fn read_duration(counts: &mut Counts, text: &str) {
     counts.case();
-    let (by_crate, by_library) = (durations::read_by_crate(text), durations::read_by_library(text));
-    if by_crate == by_library && by_crate.is_some() {
-        if let Some(messages) = durations::other_messages(text) {
-            counts.differs_unlisted(|| format!("messages of duration {text:?}: {messages:?}"));
-        }
-        return;
-    }
-    let tell = || format!("duration {text:?}: the crate {by_crate:?}, the library {by_library:?}");
-    match by_library.and_then(|answer| durations::explained(text, answer)) {
-        Some(rows) if !rows.is_empty() && by_crate.is_some() => counts.differs(rows, tell),
-        _ => counts.differs_unlisted(tell),
+    let (by_crate, by_library) = (duration_by_crate(text), duration_by_library(text));
+    if by_crate != by_library || by_crate.is_none() {
+        let rows = by_library.and_then(|answer| explained::duration(text, answer));
+        counts.differs(rows.unwrap_or_default(), || format!("duration {text:?}: the crate {by_crate:?}, the library {by_library:?}"));
+    } else if let Some(messages) = other_messages(text, humantime::parse_duration, library_duration_message) {
+        counts.differs(None, || format!("messages of duration {text:?}: {messages:?}"));
     }
 }
 
@@ -39,44 +35,27 @@ fn read_duration(counts: &mut Counts, text: &str) {
 fn print_duration(counts: &mut Counts, secs: u64, nanos: u32) {
     counts.case();
     let by_crate = caught(|| humantime::format_duration(Duration::new(secs, nanos)).to_string());
-    let by_library = library::text_of(|place| unsafe { library::library_print_duration(secs, nanos, place) });
+    let by_library = text_of(|place| library_print_duration(secs, nanos, place));
     if by_crate.as_ref() != Ok(&by_library) {
-        let tell =
-            || format!("duration of {secs} s and {nanos} ns: the crate {by_crate:?}, the library {by_library:?}");
         let with_micro_sign = by_crate.as_ref().map(|text| text.replace("us", "µs"));
-        if with_micro_sign.as_ref() == Ok(&by_library) {
-            counts.differs(vec![Row::MicroSignPrinted], tell);
-        } else {
-            counts.differs_unlisted(tell);
-        }
+        let row = (with_micro_sign.as_ref() == Ok(&by_library)).then_some(Row::MicroSignPrinted);
+        counts.differs(row, || format!("duration of {secs} s and {nanos} ns: the crate {by_crate:?}, the library {by_library:?}"));
     }
     read_duration(counts, &by_library);
 }
 
 /// Parses a timestamp with both parsers on both sides.
 fn read_moment(counts: &mut Counts, text: &str) {
-    if let Some(messages) = moments::other_messages(text) {
-        counts.differs_unlisted(|| format!("messages of timestamp {text:?}: {messages:?}"));
+    if let Some(messages) = other_messages(text, humantime::parse_rfc3339_weak, library_moment_message) {
+        counts.differs(None, || format!("messages of timestamp {text:?}: {messages:?}"));
     }
-    for parser in &PARSERS {
+    for parser in [STRICT, WEAK] {
         counts.case();
         let (by_crate, by_library) = (parser.read_by_crate(text), parser.read_by_library(text));
-        if by_crate.as_ref() == Ok(&by_library) {
-            continue;
-        }
-        let row = by_crate
-            .as_ref()
-            .ok()
-            .and_then(|answer| moments::explained(text, *answer, by_library));
-        let tell = || {
-            format!(
-                "{} {text:?}: the crate {by_crate:?}, the library {by_library:?}",
-                parser.name
-            )
-        };
-        match row {
-            Some(row) => counts.differs(vec![row], tell),
-            None => counts.differs_unlisted(tell),
+        if by_crate.as_ref() != Ok(&by_library) {
+            let answer = by_crate.as_ref().ok();
+            let row = answer.and_then(|answer| explained::moment(text, *answer, by_library));
+            counts.differs(row, || format!("{} {text:?}: the crate {by_crate:?}, the library {by_library:?}", parser.name));
         }
     }
 }
@@ -85,22 +64,12 @@ fn read_moment(counts: &mut Counts, text: &str) {
 fn print_moment(counts: &mut Counts, secs: i64, nanos: u32) {
     for printer in &PRINTERS {
         counts.case();
-        let (by_crate, by_library) = (
-            printer.print_by_crate(secs, nanos),
-            printer.print_by_library(secs, nanos),
-        );
+        let (by_crate, by_library) = (printer.print_by_crate(secs, nanos), printer.print_by_library(secs, nanos));
         if by_crate.as_ref() != Ok(&by_library) {
-            let tell = || {
-                format!(
-                    "{} of {secs} s and {nanos} ns: the crate {by_crate:?}, the library {by_library:?}",
-                    printer.name
-                )
-            };
-            if secs < 0 && by_crate.is_err() && by_library.is_empty() {
-                counts.differs(vec![Row::PanicBefore1970], tell);
-            } else {
-                counts.differs_unlisted(tell);
-            }
+            let is_listed = secs < 0 && by_crate.is_err() && by_library.is_empty();
+            counts.differs(is_listed.then_some(Row::PanicBefore1970), || {
+                format!("{} of {secs} s and {nanos} ns: the crate {by_crate:?}, the library {by_library:?}", printer.name)
+            });
         }
         if !by_library.is_empty() {
             read_moment(counts, &by_library);
@@ -108,89 +77,53 @@ fn print_moment(counts: &mut Counts, secs: i64, nanos: u32) {
     }
 }
 
+/// Compares the parsing of each duration that a function passes on, as one part.
+fn durations(counts: &mut Counts, part: &str, texts: impl FnOnce(&mut dyn FnMut(&str))) {
+    counts.begin(format!("durations parsed: {part}"));
+    texts(&mut |text| read_duration(counts, text));
+}
+
+/// Compares the parsing of each timestamp that a function passes on, as one part.
+fn timestamps(counts: &mut Counts, part: &str, texts: impl FnOnce(&mut dyn FnMut(&str))) {
+    counts.begin(format!("timestamps parsed: {part}"));
+    texts(&mut |text| read_moment(counts, text));
+}
+
 /// Compares the texts of the crate's sources and tests, their prefixes, and each with one character removed, replaced or inserted.
 fn texts_of_the_crate(counts: &mut Counts, folder: &Path) {
     let found = texts_of_crate(folder);
-    counts.begin("durations parsed: the texts of the crate's sources and tests, and those near them");
-    found
-        .iter()
-        .for_each(|text| variants(text, &HOSTILE, &mut |text| read_duration(counts, text)));
-    counts.begin("timestamps parsed: the same texts, and those near them");
-    found
-        .iter()
-        .for_each(|text| variants(text, &STAMP, &mut |text| read_moment(counts, text)));
+    durations(counts, "the texts of the crate's sources and tests, and those near them", |to| {
+        found.iter().for_each(|text| variants(text, &HOSTILE, to));
+    });
+    timestamps(counts, "the same texts, and those near them", |to| found.iter().for_each(|text| variants(text, &STAMP, to)));
 }
 
-fn short_durations(counts: &mut Counts) {
-    counts.begin("durations parsed: all texts of up to 5 of 18 characters");
-    all_texts(&HOSTILE, 5, &mut |text| read_duration(counts, text));
-    counts.begin("durations parsed: all texts of up to 7 of 10 characters");
-    all_texts(&FEWER, 7, &mut |text| read_duration(counts, text));
-}
-
-/// Compares words over all letters, and each character of the first plane after a number and between two digits.
-fn letters_and_characters(counts: &mut Counts) {
-    let letters = letters();
-    counts.begin("durations parsed: each word of up to 3 of 54 letters");
-    all_texts(&letters, 3, &mut |word| read_duration(counts, &format!("1{word}")));
-    counts.begin("durations parsed: each word with a letter removed, inserted or replaced");
-    for (word, _) in words() {
-        variants(word, &letters, &mut |word| read_duration(counts, &format!("1{word}")));
-    }
-    counts.begin("durations parsed: each character of the first plane after a number, and between two digits");
-    for character in '\0'..='\u{ffff}' {
-        read_duration(counts, &format!("1{character}s"));
-        read_duration(counts, &format!("1 {character} 2s"));
-    }
-}
-
-/// Compares each word with numbers at its limit, with fractions, and alone or after another span.
-fn words_at_their_limits(counts: &mut Counts) {
-    counts.begin("durations parsed: each word at its limit, with fractions, alone and after another span");
-    let fractions = "|.0|.00|.5|.50|.000000001|.0000000010|.9|.3074457345|.18446744073|.0001|.25|.|. ";
-    let others = ["", "1ns", " 999999999ns ", "0s", "18446744073709551615s", "x", "."];
-    for (word, most) in words() {
-        let numbers = (0..7)
-            .map(|near| u128::from(most) + 3 - near)
-            .chain([0, 1, 9, 10, 584, 18_446_744_073]);
-        for number in numbers {
-            for fraction in fractions.split('|') {
-                for other in others {
-                    read_duration(counts, &format!("{number}{fraction}{word}{other}"));
-                    read_duration(counts, &format!("{other}{number}{fraction} {word}"));
-                }
-            }
+fn durations_parsed(counts: &mut Counts) {
+    let letters: Vec<char> = ('a'..='z').chain('A'..='Z').chain(['µ', 'μ']).collect();
+    durations(counts, "all texts of up to 5 of 18 characters", |to| all_texts("", &HOSTILE, 5, to));
+    durations(counts, "all texts of up to 7 of 10 characters", |to| all_texts("", &FEWER, 7, to));
+    durations(counts, "each word of up to 3 of 54 letters", |to| all_texts("1", &letters, 3, to));
+    durations(counts, "each word with a letter removed, inserted or replaced", |to| {
+        words().for_each(|(word, _)| variants(word, &letters, &mut |word| to(&format!("1{word}"))));
+    });
+    durations(counts, "each character of the first plane after a number, and between two digits", |to| {
+        for character in '\0'..='\u{ffff}' {
+            to(&format!("1{character}s"));
+            to(&format!("1 {character} 2s"));
         }
-    }
-}
-
-fn random_durations(counts: &mut Counts) {
-    let mut random = Random::new(1);
-    counts.begin("durations parsed: random spans around each limit, and with an error");
-    for _ in 0..12_000_000 {
-        read_duration(counts, &random_duration(&mut random));
-    }
-    counts.begin("durations parsed: sums around the greatest duration");
-    for _ in 0..3_000_000 {
-        read_duration(counts, &random_sum_at_limit(&mut random));
-    }
+    });
+    let mut random = Random(1);
+    durations(counts, "each word at its limit, with fractions, alone and after another span", words_at_their_limits);
+    durations(counts, "random spans around each limit, and with an error", |to| {
+        (0..12_000_000).for_each(|_| to(&random_duration(&mut random)));
+    });
+    durations(counts, "sums around the greatest duration", |to| (0..3_000_000).for_each(|_| to(&random_sum_at_limit(&mut random))));
 }
 
 fn durations_printed(counts: &mut Counts) {
-    let mut random = Random::new(2);
     let nanos = [0, 1, 999, 1_000, 1_001, 999_999, 1_000_000, 1_000_001, 999_999_999];
     counts.begin("durations printed: around multiples of each unit; their texts parsed");
-    for size in [
-        1,
-        60,
-        3_600,
-        DAY,
-        604_800,
-        2_630_016,
-        31_557_600,
-        31_557_600 * 1_000_000,
-        u64::MAX / 31,
-    ] {
+    for size in [1, 60, 3_600, DAY, 604_800, 2_630_016, 31_557_600, 31_557_600_000_000, u64::MAX / 31] {
         for times in 0..2_000u64 {
             for near in [0, 1, 2] {
                 let secs = size.saturating_mul(times).saturating_add(near).saturating_sub(1);
@@ -201,99 +134,52 @@ fn durations_printed(counts: &mut Counts) {
     counts.begin("durations printed: each second of a day and slightly more; their texts parsed");
     (0..DAY + 100).for_each(|second| print_duration(counts, second, 0));
     counts.begin("durations printed: random ones of any length; their texts parsed");
+    let mut random = Random(2);
     for _ in 0..4_000_000 {
-        let part = if random.percent(50) {
-            random.of(&nanos)
-        } else {
-            random.below(1_000_000_000) as u32
-        };
+        let part = if random.percent(50) { random.of(&nanos) } else { random.nanos() };
         print_duration(counts, random.of_any_size(), part);
     }
 }
 
-fn timestamps_read(counts: &mut Counts) {
-    counts.begin("timestamps parsed: each month, day and year, in and out of bounds");
-    for year in (0..10_000).filter(|year| *year < 2 || (1960..2110).contains(year) || year % 100 < 5 || *year > 9_990) {
-        for month in 0..14 {
-            for day in 0..33 {
-                read_moment(counts, &format!("{year:04}-{month:02}-{day:02}T00:00:00Z"));
+fn timestamps_parsed(counts: &mut Counts) {
+    timestamps(counts, "each month, day and year, in and out of bounds", |to| {
+        for year in (0..10_000).filter(|year| *year < 2 || (1960..2110).contains(year) || year % 100 < 5 || *year > 9_990) {
+            for (month, day) in (0..14).flat_map(|month| (0..33).map(move |day| (month, day))) {
+                to(&format!("{year:04}-{month:02}-{day:02}T00:00:00Z"));
             }
         }
-    }
-    counts.begin("timestamps parsed: each hour, minute and second of two digits");
-    for number in 0..1_000_000 {
-        let (hour, minute, second) = (number / 10_000, number / 100 % 100, number % 100);
-        read_moment(counts, &format!("2016-12-31T{hour:02}:{minute:02}:{second:02}Z"));
-    }
-    counts.begin("timestamps parsed: all endings of up to 6 of 11 characters, and of up to 5 after a fraction");
-    let ends = ['Z', '+', '0', '1', ':', '.', '-', 'z', ' ', '9', 'é'];
-    all_texts(&ends, 6, &mut |end| {
-        read_moment(counts, &format!("1970-01-01T00:00:00{end}"))
     });
-    for front in [
-        "1970-01-01T00:00:00.",
-        "1970-01-01T00:00:00.5",
-        "9999-12-31 23:59:60.999999999",
-    ] {
-        all_texts(&ends, 5, &mut |end| read_moment(counts, &format!("{front}{end}")));
-        all_texts(&ends, 3, &mut |end| read_moment(counts, &format!("{front}+{end}:00")));
-    }
-}
-
-/// Compares a few texts with each character replaced by each of many, and each two of them by each two of a few.
-fn timestamps_spoiled(counts: &mut Counts) {
-    counts.begin("timestamps parsed: one character replaced by each of 256, two by each two of 14");
-    let texts = [
-        "2018-02-14T00:28:07Z",
-        "2018-02-14 00:28:07",
-        "2016-12-31T23:59:60+00:00",
-        "2000-02-29T12:34:56.789Z",
-        "1970-01-01T00:00:00.123456789+00:00",
-    ];
-    let many: Vec<char> = (0..256).filter_map(char::from_u32).collect();
-    for text in texts {
-        variants(text, &many, &mut |text| read_moment(counts, text));
-        let letters: Vec<char> = text.chars().collect();
-        for first in 0..letters.len() {
-            for second in 0..first {
-                for pair in 0..STAMP.len() * STAMP.len() {
-                    let mut spoiled = letters.clone();
-                    (spoiled[first], spoiled[second]) = (STAMP[pair / STAMP.len()], STAMP[pair % STAMP.len()]);
-                    read_moment(counts, &spoiled.iter().collect::<String>());
-                }
-            }
+    timestamps(counts, "each hour, minute and second of two digits", |to| {
+        for number in 0..1_000_000 {
+            let (hour, minute, second) = (number / 10_000, number / 100 % 100, number % 100);
+            to(&format!("2016-12-31T{hour:02}:{minute:02}:{second:02}Z"));
         }
-    }
-}
-
-fn random_timestamps(counts: &mut Counts) {
-    let mut random = Random::new(3);
-    counts.begin("timestamps parsed: random parts, fractions and endings, and with an error");
-    for _ in 0..4_000_000 {
-        read_moment(counts, &random_stamp(&mut random));
-    }
+    });
+    timestamps(counts, "all endings of up to 6 of 11 characters, and of up to 5 after a fraction", |to| {
+        let ends = ['Z', '+', '0', '1', ':', '.', '-', 'z', ' ', '9', 'é'];
+        all_texts("1970-01-01T00:00:00", &ends, 6, to);
+        for front in ["1970-01-01T00:00:00.", "1970-01-01T00:00:00.5", "9999-12-31 23:59:60.999999999"] {
+            all_texts(front, &ends, 5, to);
+            all_texts(&format!("{front}+"), &ends, 3, &mut |text| to(&format!("{text}:00")));
+        }
+    });
+    timestamps(counts, "one character replaced by each of 256, two by each two of 14", spoiled_timestamps);
+    let mut random = Random(3);
+    timestamps(counts, "random parts, fractions and endings, and with an error", |to| {
+        (0..4_000_000).for_each(|_| to(&random_stamp(&mut random)));
+    });
 }
 
 fn timestamps_printed(counts: &mut Counts) {
-    let mut random = Random::new(4);
+    let mut random = Random(4);
     counts.begin("timestamps printed: each day by each of five printers; their texts parsed");
     for day in 0..END / DAY as i64 {
-        let nanos = if random.percent(50) {
-            0
-        } else {
-            random.below(1_000_000_000) as u32
-        };
+        let nanos = if random.percent(50) { 0 } else { random.nanos() };
         print_moment(counts, day * DAY as i64 + random.below(DAY) as i64, nanos);
     }
     counts.begin("timestamps printed: each second of a day, and random moments; their texts parsed");
     (0..DAY as i64).for_each(|second| print_moment(counts, 1_330_473_600 + second, 0));
-    for _ in 0..500_000 {
-        print_moment(
-            counts,
-            random.below(END as u64) as i64,
-            random.below(1_000_000_000) as u32,
-        );
-    }
+    (0..500_000).for_each(|_| print_moment(counts, random.below(END as u64) as i64, random.nanos()));
     counts.begin("timestamps printed: around and outside 1970 to 9999");
     for near in 0..2_000 {
         for nanos in [0, 1, 999_999_999] {
@@ -303,15 +189,9 @@ fn timestamps_printed(counts: &mut Counts) {
             print_moment(counts, -(random.below(1 << 40) as i64), nanos);
         }
     }
-}
-
-/// Compares moments of one second.
-fn subseconds_printed(counts: &mut Counts) {
     counts.begin("timestamps printed: 0 to 999 nanoseconds, microseconds and milliseconds, and 10,000 over the second");
     let few = (0..1_000).flat_map(|part| [part, part * 1_000, part * 1_000_000]);
-    let spread = (0..10_000).map(|part| part * 99_991);
-    few.chain(spread)
-        .for_each(|nanos| print_moment(counts, 1_330_473_600, nanos));
+    few.chain((0..10_000).map(|part| part * 99_991)).for_each(|nanos| print_moment(counts, 1_330_473_600, nanos));
 }
 
 fn main() {
@@ -319,16 +199,9 @@ fn main() {
     std::panic::set_hook(Box::new(|_| {}));
     let mut counts = Counts::default();
     texts_of_the_crate(&mut counts, Path::new(&folder));
-    short_durations(&mut counts);
-    letters_and_characters(&mut counts);
-    words_at_their_limits(&mut counts);
-    random_durations(&mut counts);
+    durations_parsed(&mut counts);
     durations_printed(&mut counts);
-    timestamps_read(&mut counts);
-    timestamps_spoiled(&mut counts);
-    random_timestamps(&mut counts);
+    timestamps_parsed(&mut counts);
     timestamps_printed(&mut counts);
-    subseconds_printed(&mut counts);
-    let is_all_listed = counts.tell();
-    std::process::exit(if is_all_listed { 0 } else { 1 });
+    counts.tell();
 }

@@ -1,6 +1,8 @@
 //! The calls of the library, as compare/src/exports.rt.txt exports them.
 
-#![allow(dead_code)]
+#![allow(dead_code)] // Each of the two programs calls some of them.
+
+use std::marker::PhantomData;
 
 /// The answer of a call: a value if `kind` is 0, and otherwise an error.
 #[repr(C)]
@@ -16,15 +18,16 @@ pub struct Answer {
 
 /// A text, passed as a reference to its pointer and length.
 #[repr(C)]
-pub struct Text {
+pub struct Text<'a> {
     pointer: *const u8,
     length: usize,
+    text: PhantomData<&'a str>,
 }
 
-impl Text {
+impl Text<'_> {
     #[inline(always)]
-    pub fn of(text: &str) -> Text {
-        Text { pointer: text.as_ptr(), length: text.len() }
+    pub fn of(text: &str) -> Text<'_> {
+        Text { pointer: text.as_ptr(), length: text.len(), text: PhantomData }
     }
 }
 
@@ -35,34 +38,37 @@ pub struct Sink {
     pub bytes: [u8; 128],
 }
 
+unsafe extern "C" {
+    fn library_run(command: *const u8, command_length: usize, text: *const u8, text_length: usize, out: &mut Sink, err: &mut Sink) -> u8;
+    pub safe fn library_read_duration(text: &Text, place: &mut Answer);
+    pub safe fn library_unit(text: &Text, place: &mut [u8; 64]) -> usize;
+    pub safe fn library_duration_message(text: &Text, place: &mut [u8; 256]) -> usize;
+    pub safe fn library_moment_message(text: &Text, place: &mut [u8; 256]) -> usize;
+    pub safe fn library_walk_spans(text: &Text, place: &mut Answer);
+    pub safe fn library_canonical(text: &Text, place: &mut [u8; 64]) -> usize;
+    pub safe fn library_print_duration(secs: u64, nanos: u32, place: &mut [u8; 64]) -> usize;
+    pub safe fn library_read_strict(text: &Text, place: &mut Answer);
+    pub safe fn library_read_weak(text: &Text, place: &mut Answer);
+    pub safe fn library_print_smart(secs: i64, nanos: u32, place: &mut [u8; 30]) -> usize;
+    pub safe fn library_print_seconds(secs: i64, nanos: u32, place: &mut [u8; 30]) -> usize;
+    pub safe fn library_print_millis(secs: i64, nanos: u32, place: &mut [u8; 30]) -> usize;
+    pub safe fn library_print_micros(secs: i64, nanos: u32, place: &mut [u8; 30]) -> usize;
+    pub safe fn library_print_nanos(secs: i64, nanos: u32, place: &mut [u8; 30]) -> usize;
+}
+
+/// Runs the program on a command and its text, and returns its status.
+#[inline(always)]
+pub fn run_library(command: &str, text: &str, out: &mut Sink, err: &mut Sink) -> u8 {
+    unsafe { library_run(command.as_ptr(), command.len(), text.as_ptr(), text.len(), out, err) }
+}
+
 impl Sink {
-    pub fn new() -> Sink {
-        Sink { length: 0, bytes: [0; 128] }
+    pub const EMPTY: Sink = Sink { length: 0, bytes: [0; 128] };
+
+    pub fn text(&self) -> String {
+        String::from_utf8_lossy(&self.bytes[..self.length]).into_owned()
     }
 }
-
-#[allow(improper_ctypes)]
-unsafe extern "C" {
-    pub fn library_run(command: *const u8, command_length: usize, text: *const u8, text_length: usize, out: &mut Sink, err: &mut Sink) -> u8;
-    pub fn library_read_duration(text: &Text, place: &mut Answer);
-    pub fn library_unit(text: *const u8, length: usize, place: &mut [u8; 64]) -> usize;
-    pub fn library_duration_message(text: *const u8, length: usize, place: &mut [u8; 256]) -> usize;
-    pub fn library_moment_message(text: *const u8, length: usize, place: &mut [u8; 256]) -> usize;
-    pub fn library_walk_spans(text: &Text, place: &mut Answer);
-    pub fn library_canonical(text: &Text, place: &mut [u8; 64]) -> usize;
-    pub fn library_print_duration(secs: u64, nanos: u32, place: &mut [u8; 64]) -> usize;
-    pub fn library_read_strict(text: &Text, place: &mut Answer);
-    pub fn library_read_weak(text: &Text, place: &mut Answer);
-    pub fn library_print_smart(secs: i64, nanos: u32, place: &mut [u8; 30]) -> usize;
-    pub fn library_print_seconds(secs: i64, nanos: u32, place: &mut [u8; 30]) -> usize;
-    pub fn library_print_millis(secs: i64, nanos: u32, place: &mut [u8; 30]) -> usize;
-    pub fn library_print_micros(secs: i64, nanos: u32, place: &mut [u8; 30]) -> usize;
-    pub fn library_print_nanos(secs: i64, nanos: u32, place: &mut [u8; 30]) -> usize;
-}
-
-pub type ReadByLibrary = unsafe extern "C" fn(&Text, &mut Answer);
-
-pub type StampByLibrary = unsafe extern "C" fn(i64, u32, &mut [u8; 30]) -> usize;
 
 /// Returns the text that a call leaves at the front of its buffer; the call returns its length in bytes.
 pub fn text_of<const N: usize>(call: impl FnOnce(&mut [u8; N]) -> usize) -> String {
