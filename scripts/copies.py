@@ -62,8 +62,8 @@ def builds(crate):
 
 
 def finish(script, passed, failed):
-    """Prints the last line and exits, with status 0 if something passed and nothing failed. What failed is a number, or a list of complaints,
-    which are printed first."""
+    """Prints what failed, if it is given as a list and not as a number, and the last line. Exits with status 0 if something passed and
+    nothing failed."""
     if not isinstance(failed, int):
         print("".join(f"{line}\n" for line in failed), end="")
         failed = len(failed)
