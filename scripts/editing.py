@@ -1,8 +1,7 @@
 """Reads the edits of the crates, applies them to copies of the repository, and runs rows and tests there.
 
-An edit is a file NAME.edit in the form of those in must-fail/: a line `file: PATH`, where the path begins in the crate, and pairs of lines
-`old: TEXT` and `new: TEXT`. Each old text occurs exactly once in its file, as the pairs before have changed it. Further lines are notes, such
-as the `kind: WORD` of a weakening.
+An edit has the form of those in must-fail/: a line `file: PATH`, and pairs of lines `old: TEXT` and `new: TEXT`. Each old text occurs exactly
+once in its file, as the pairs before have changed it. Further lines are notes, such as the `kind: WORD` of a weakening.
 """
 import os
 import re
@@ -62,8 +61,7 @@ def chosen(folders, words=()):
 
 @contextmanager
 def edited(top, crate, texts):
-    """Writes these files into a crate of a copy of the repository, in place of its own or in addition to them, until the end of a `with`
-    block."""
+    """Writes these files into a crate of a copy of the repository until the end of a `with` block."""
     for path, text in texts.items():
         write(text, top, "crates", crate, path)
     yield
@@ -87,8 +85,7 @@ def side_by_side(tried, work, *without):
 
 
 def failure(top, changed, calls=()):
-    """Returns the first row that fails in a copy of the repository, for the program the first test, or None. Only rows that begin with one of
-    these calls are asked, or all rows. Nothing is proved."""
+    """Returns the first row of these calls, or of all, that fails in a copy of the repository, for the program the first test, or None."""
     if changed == PROGRAM:
         said, failed, some_pass = rt(top, PROGRAM, "try", "--test").stdout, r"^test .* FAILED$", r"^test .* ok$"
     else:
