@@ -1,4 +1,4 @@
-"""Copies of crates for experiments, commands and their output, and the last line of a script."""
+"""What the scripts share: files, copies of the repository, commands, and the last line of a script."""
 import os
 import shutil
 import subprocess
