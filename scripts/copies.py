@@ -7,7 +7,7 @@ import tempfile
 from pathlib import Path
 
 ROOT = Path(__file__).resolve().parent.parent
-EDITS = ("must-fail", "mutants", "equivalent", "planted", "weakened")
+EDITS = ("must-fail", "mutants", "equivalent", "planted", "weakened", "compile_fail")
 
 
 def read(*path):
@@ -28,8 +28,8 @@ def room(script):
 
 
 def copied(top, to, crates=(), without=EDITS):
-    """Copies the parts of a repository that `rt` reads, with the crates of these names, or all crates. Their folders `out`, which hold the
-    results of earlier checks, are copied too, except for the crates in `without`. Returns the folder of the copy."""
+    """Copies the parts of a repository that `rt` reads, with the crates of these names, or all crates, but without the files and folders of
+    the names in `without`. So `out`, which has the results of earlier checks, is copied unless it is among them. Returns the new folder."""
     top, to = Path(top), Path(to)
     to.mkdir(parents=True, exist_ok=True)
     for name in ("HANDLES", "crates.txt"):
@@ -41,9 +41,7 @@ def copied(top, to, crates=(), without=EDITS):
 
 def run(*command, **options):
     """Runs a command, and captures standard output and standard error as one text."""
-    how = {"stdout": subprocess.PIPE, "stderr": subprocess.STDOUT, "text": True, "errors": "replace", "check": False}
-    if "input" not in options:
-        how["stdin"] = subprocess.DEVNULL
+    how = {"input": "", "stdout": subprocess.PIPE, "stderr": subprocess.STDOUT, "encoding": "utf-8", "errors": "replace"}
     return subprocess.run(command, **how | options)
 
 
@@ -54,11 +52,10 @@ def rt(top, crate, *words, given=""):
 
 def builds(crate):
     """Returns the builds of a crate's program, by both back ends. If there is none, the program is built first."""
-    out = ROOT / "crates" / crate / "out"
-    names = (crate, f"{crate}.by-rattle")
-    if not any((out / name).exists() for name in names):
+    paths = [ROOT / "crates" / crate / "out" / name for name in (crate, f"{crate}.by-rattle")]
+    if not any(path.exists() for path in paths):
         rt(ROOT, crate, "run")
-    return [str(out / name) for name in names if (out / name).exists()] or sys.exit(f"{crate} was not built")
+    return [str(path) for path in paths if path.exists()] or sys.exit(f"{crate} was not built")
 
 
 def finish(script, passed, failed):

@@ -11,7 +11,7 @@ IMPORT = re.compile(r"^ *(pub )?(?:ghost )?use (?:Rattle\.)?([\w.\-'’]+?)(?:\.
 HEAD = re.compile(r"(?!(?:pub )?(?:use|mod) )(?:pub )?(?:(abbrev|unfoldable|record|data|ruleset) )?(?:pub )?([^\s:=({]+)(?= |$)")
 CONTINUED = re.compile(r"[ )}\]]|(?:unfolding|where)\b")
 IMPL = re.compile(r"impl(?:<[^>]*>)? ((?:(?:\w+::)*(\w+)(?:<.*>)? for )?(\w+))")
-ITEM = re.compile(r"( *)(pub )?(?:pub\(crate\) )?(?:unsafe )?(const|enum|fn|struct|trait) (\w+)")
+ITEM = re.compile(r"( *)(pub )?(?:pub\(\w+\) )?(?:unsafe |const (?=fn ))?(const|enum|fn|struct|trait) (\w+)")
 CLAUSE = re.compile(r"^ *(?:requires|ensures\*?)(?: \w+)? \{", re.M)
 # A ghost member of an `impl`, except for those that only the prover needs: proofs, and the model of a type.
 PROMISE = re.compile(r"    ghost (?!(?:laws|total|matches_partial_cmp|matches_eq) )\w+ = ")

@@ -152,13 +152,11 @@ pub fn words_at_their_limits(to: &mut dyn FnMut(&str)) {
     let fractions = "|.0|.00|.5|.50|.000000001|.0000000010|.9|.3074457345|.18446744073|.0001|.25|.|. ";
     let others = ["", "1ns", " 999999999ns ", "0s", "18446744073709551615s", "x", "."];
     for (word, most) in words() {
-        let near = (0..7).map(|near| u128::from(most) + 3 - near);
-        for number in near.chain([0, 1, 9, 10, 584, 18_446_744_073]) {
-            for fraction in fractions.split('|') {
-                for other in others {
-                    to(&format!("{number}{fraction}{word}{other}"));
-                    to(&format!("{other}{number}{fraction} {word}"));
-                }
+        let numbers = (0..7).map(|near| u128::from(most) + 3 - near).chain([0, 1, 9, 10, 584, 18_446_744_073]);
+        for (number, fraction) in numbers.flat_map(|number| fractions.split('|').map(move |fraction| (number, fraction))) {
+            for other in others {
+                to(&format!("{number}{fraction}{word}{other}"));
+                to(&format!("{other}{number}{fraction} {word}"));
             }
         }
     }
