@@ -5,8 +5,8 @@ import statistics
 ROW = re.compile(r"^(\S.*?) +(\d+\.\d\d) +\d+\.\d\d +\d+\.\d\d +(\d+\.\d\d)$", re.M)
 STAMP = re.compile("strict$|weak$|timestamp")
 # Each kind of call, and the beginning of its rows' names: for durations, and then for timestamps.
-KINDS = [("parse a duration", "read", False), ("reject a duration", "reject", False), ("print a duration", "print", False)]
-KINDS += [("parse a timestamp", "read", True), ("reject a timestamp", "reject", True), ("print a timestamp", "print", True)]
+KINDS = [("parse a duration", "parse", False), ("reject a duration", "reject", False), ("print a duration", "print", False)]
+KINDS += [("parse a timestamp", "parse", True), ("reject a timestamp", "reject", True), ("print a timestamp", "print", True)]
 LEFT, UNIT, HIGH = 180, 320, 34
 
 

@@ -265,7 +265,7 @@ fn quoted(text: &str) -> String {
 fn read_duration(shown: &str, text: &str) {
     let answer = duration_by_library(text).expect("an answer");
     assert_eq!(duration_by_crate(text), Some(answer), "{shown}");
-    let verb = if matches!(answer, DurationRead::Value(..)) { "read" } else { "reject" };
+    let verb = if matches!(answer, DurationRead::Value(..)) { "parse" } else { "reject" };
     race_reading(&format!("{verb} {shown}"), text, humantime::parse_duration, |text, place| library_read_duration(text, place));
 }
 
@@ -278,7 +278,7 @@ fn durations_read() {
     }
     let texts = texts_of_durations();
     texts.iter().for_each(|text| assert_eq!(duration_by_library(text), duration_by_crate(text), "{text}"));
-    race_reading_each("read random durations", &texts, humantime::parse_duration, |text, place| library_read_duration(text, place));
+    race_reading_each("parse random durations", &texts, humantime::parse_duration, |text, place| library_read_duration(text, place));
     for (size, bytes) in [("a tenth of a megabyte", 104_856), ("a megabyte", 1_048_575)] {
         let spans = "1h ".repeat(bytes / 3);
         read_duration(&format!("{size} of `1h `"), &spans);
@@ -293,14 +293,14 @@ fn durations_read() {
 /// printing.
 fn spans_and_canonical() {
     for (shown, text) in [("the longest duration", LONGEST), ("a megabyte of `1h `", &"1h ".repeat(349_525))] {
-        let name = format!("`spans` of {shown}, beside the crate's reading");
+        let name = format!("`spans` of {shown}, beside the crate's parsing");
         race_reading(&name, text, humantime::parse_duration, |text, place| library_walk_spans(text, place));
     }
     for (shown, text) in [("`2h 37min`", "2h 37min"), ("the longest duration", LONGEST)] {
         let text = placed(text);
         let given = Text::of(text);
         race_writing(
-            &format!("`canonical` of {shown}, beside reading and printing"),
+            &format!("`canonical` of {shown}, beside parsing and printing"),
             |place| crate_canonical(hidden_text(text), place),
             |place| library_canonical(hidden(&given), place),
         );
@@ -329,7 +329,7 @@ fn read_moment(shown: &str, text: &str) {
     let name_of = |parser: Parser| {
         let answer = parser.read_by_library(text);
         assert_eq!(parser.read_by_crate(text), Ok(answer), "{shown}");
-        let verb = if matches!(answer, MomentRead::Moment(..)) { "read" } else { "reject" };
+        let verb = if matches!(answer, MomentRead::Moment(..)) { "parse" } else { "reject" };
         format!("{verb} {shown}, {}", parser.name)
     };
     race_reading(&name_of(STRICT), text, humantime::parse_rfc3339, |text, place| library_read_strict(text, place));
@@ -355,8 +355,8 @@ fn timestamps() {
     }
     let texts = texts_of_moments();
     texts.iter().for_each(|text| assert_eq!(STRICT.read_by_crate(text), Ok(STRICT.read_by_library(text)), "{text}"));
-    race_reading_each("read random moments, strict", &texts, humantime::parse_rfc3339, |text, place| library_read_strict(text, place));
-    race_reading_each("read random moments, weak", &texts, humantime::parse_rfc3339_weak, |text, place| library_read_weak(text, place));
+    race_reading_each("parse random moments, strict", &texts, humantime::parse_rfc3339, |text, place| library_read_strict(text, place));
+    race_reading_each("parse random moments, weak", &texts, humantime::parse_rfc3339_weak, |text, place| library_read_weak(text, place));
     read_moment("a megabyte of fraction", &format!("2018-02-14T00:28:07.{}Z", "1".repeat(1_000_000)));
     print_moment("seconds", humantime::format_rfc3339_seconds, |secs, nanos, place| library_print_seconds(secs, nanos, place));
     print_moment("milliseconds", humantime::format_rfc3339_millis, |secs, nanos, place| library_print_millis(secs, nanos, place));
@@ -375,7 +375,7 @@ fn run(command: &str, text: &str) {
     by_crate(&mut crate_place);
     by_library(&mut place);
     let told: String = place.1.iter().map(Sink::text).collect();
-    let name = format!("the program's `{command}` of `{text}`, beside reading and printing");
+    let name = format!("the program's `{command}` of `{text}`, beside parsing and printing");
     assert_eq!(told.replace('µ', "u"), crate_place.replace('µ', "u"), "{name}");
     race(&name, (crate_place, by_crate), (place, by_library));
 }
