@@ -1,4 +1,4 @@
-//! Callers of `humantime`, proved by its contracts alone: five small programs, and in `how_to` the code of docs/HOWTO.md.
+//! Callers of `humantime`, proved by its contracts alone: five modules, and in `how_to` the code of docs/HOWTO.md.
 #![tactic(auto)]
 
 pub mod how_to;
