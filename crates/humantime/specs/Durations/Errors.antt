@@ -36,7 +36,7 @@ IsRangeIn bytes start end = (start ≤ end) × IsCharBoundary bytes start × IsC
 abbrev pub IsPartOf : List ℕ → List ℕ → ℕ → ℕ → Type 0
 IsPartOf bytes part start end = IsRangeIn bytes start end × (part ≡ slice_range bytes start end)
 
--- The offset of the error is that of a character, and its unit is the slice between its offsets.
+-- If the error has one offset, a character begins there. If it has a unit, that is the slice between its offsets.
 abbrev pub PointsInto : List ℕ → DurationError → Type 0
 PointsInto bytes (errors.InvalidCharacter at) = IsPlaceIn bytes at
 PointsInto bytes (errors.NumberExpected at) = IsPlaceIn bytes at

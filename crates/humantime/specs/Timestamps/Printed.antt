@@ -17,8 +17,8 @@ places_of t = if nano_of t == 0 then 0 else 9
 abbrev pub cut : ℤ → ℕ → ℤ
 cut t k = t -ℤ int_rem_euclid t (pos (10 ^ (9 - k)))
 
--- The text represents `t`, rounded down to `k` fraction digits, at most nine, with a `T` and `Z`. The second is never 60, and there is no
--- point if there are no digits.
+-- The text represents the moment `t`, rounded down to `k` digits of a second, at most nine. It has a `T`, a `Z` and exactly `k` fraction
+-- digits, and no point if `k` is 0. The second is never 60.
 pub record IsPrinted (t : ℤ) (k : ℕ) (bytes : List ℕ) : Type 0 where
   pub few : k ≤ 9
   pub fields : Fields
