@@ -1,13 +1,19 @@
-"""What the scripts share: files, copies of the repository, commands, and the last line of a script."""
+"""What the scripts share: files, edits, copies of the repository, commands, `--help`, and the last line of a script."""
 import os
+import re
 import shutil
 import subprocess
 import sys
 import tempfile
 from pathlib import Path
+from typing import NamedTuple
 
 ROOT = Path(__file__).resolve().parent.parent
-EDITS = ("must-fail", "mutants", "equivalent", "planted", "weakened", "compile_fail")
+EDITS = ("must-fail", "equivalent", "planted", "compile_fail")
+
+if {"--help", "-h"} & set(sys.argv[1:]):
+    print(sys.modules["__main__"].__doc__)
+    sys.exit()
 
 
 def read(*path):
@@ -20,6 +26,36 @@ def write(text, *path):
     path = Path(*path)
     path.parent.mkdir(parents=True, exist_ok=True)
     path.write_text(text, encoding="utf-8")
+
+
+class Edit(NamedTuple):
+    """An edit: its crate, its name without the extension, and its text, which has the form of those in must-fail/: lines `file: PATH`, and
+    pairs of lines `old: TEXT` and `new: TEXT`. Each old text occurs exactly once in its file, as the pairs before have changed it."""
+
+    crate: str
+    name: str
+    text: str
+
+    def texts(self):
+        """Returns the files after the edit by their paths in the crate."""
+        texts, path, old = {}, None, None
+        for word, said in re.findall(r"^(file|old|new):(?: (.*))?$", self.text, re.M):
+            if word == "file":
+                path = said
+            elif word == "old":
+                old = said
+            else:
+                text = texts[path] if path in texts else read("crates", self.crate, path)
+                if text.count(old) != 1:
+                    sys.exit(f"{self.name} of {self.crate}: {path} has {text.count(old)} times: {old}")
+                texts[path] = text.replace(old, said)
+        return texts or sys.exit(f"{self.name} of {self.crate} changes nothing")
+
+
+def edits(folder):
+    """Returns the edits in this folder of all crates."""
+    paths = sorted(ROOT.glob(f"crates/*/{folder}/*.edit"))
+    return [Edit(path.parts[-3], path.stem, path.read_text(encoding="utf-8")) for path in paths]
 
 
 def room(script):

@@ -1,1 +1,13 @@
+pub mod CountedDays
+pub mod FirstDigits
+pub mod Kept
+pub mod LongFractions
+pub mod UsualTexts
 pub mod Waits
+pub mod WorkedCharacters
+pub mod WorkedDays
+pub mod WorkedOlder
+pub mod WorkedPrinted
+pub mod WorkedTexts
+pub mod WorkedTimestamps
+pub mod WorkedWords

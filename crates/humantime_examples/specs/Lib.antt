@@ -1,4 +1,6 @@
+pub mod FirstItems
 pub mod LogLines
+pub mod Longest
 pub mod Marks
 pub mod OptionErrors
 pub mod Options

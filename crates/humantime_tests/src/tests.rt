@@ -1,9 +1,11 @@
-//! Tests of the callers. The expected values were worked out by hand.
+//! Tests of the proved uses. The expected values were worked out by hand.
 
 mod calendars;
 mod callers;
 mod calls;
+mod examples;
 mod formats;
+mod how_to;
 mod law_callers;
 mod memory;
 mod relations;

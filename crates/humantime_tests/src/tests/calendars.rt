@@ -1,8 +1,8 @@
 //! Tests that compare the counted calendar with the library's.
 
-use crate::counted_calendar::{counted_date, counted_day};
 use crate::tests::assert_same;
 use humantime::{Date, Turns, date_of_day, day_number};
+use humantime_examples::counted_calendar::{counted_date, counted_day};
 use std::process::Abort;
 
 /// Dates and their day numbers.

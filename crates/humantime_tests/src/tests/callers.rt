@@ -1,19 +1,19 @@
 //! Tests of the callers in CALLING.md that do not allocate.
 
-use crate::callers::calendar::{days_after, weekday};
-use crate::callers::durations::{
-    default_limit, end_of, is_same_error, is_within, limit_seconds, place_in_line, shown_seconds,
-    underlined,
-};
-use crate::callers::laws::{comes_back, looks_same, needs_no_space};
-use crate::callers::spans::longest_span;
-use crate::callers::timestamps::{
-    compare_stamps, default_start, is_earlier, is_read_weakly_too, is_same_moment, is_since,
-    is_stamp, is_text_before, later_than, sortable_stamp, stamp_of,
-};
 use crate::tests::{assert_same, date, moment};
 use humantime::DurationError::{self, NumberExpected, NumberOverflow, UnknownUnit};
 use humantime::{StdDuration, TimestampError, UNIX_EPOCH};
+use humantime_examples::callers::calendar::{days_after, weekday};
+use humantime_examples::callers::durations::{
+    default_limit, end_of, is_same_error, is_within, limit_seconds, place_in_line, shown_seconds,
+    underlined,
+};
+use humantime_examples::callers::laws::{comes_back, looks_same, needs_no_space};
+use humantime_examples::callers::spans::longest_span;
+use humantime_examples::callers::timestamps::{
+    compare_stamps, default_start, is_earlier, is_read_weakly_too, is_same_moment, is_since,
+    is_stamp, is_text_before, later_than, sortable_stamp, stamp_of,
+};
 use std::cmp::Ordering::{Equal, Less};
 
 const UNKNOWN: DurationError<'static> = UnknownUnit {

@@ -1,8 +1,8 @@
 //! The callers that write by `Display`, into a sink that allocates nothing.
 
-use crate::law_callers::formats::{write_stamp, write_timestamp};
 use crate::tests::{assert_same, moment};
 use humantime::{Rfc3339Timestamp, Timestamp, UNIX_EPOCH, format_rfc3339_millis};
+use humantime_examples::law_callers::formats::{write_stamp, write_timestamp};
 use std::fmt::{self, Display, Write};
 
 /// A sink that wants one text: what is still to come, or `None` once anything else was written.

@@ -1,16 +1,18 @@
 //! Tests of the callers of laws and definitions that do not allocate.
 
-use crate::law_callers::durations::{canonical_form, canonical_twice, decided, sum_of};
-use crate::law_callers::spans::{
-    first_fraction, first_number, first_unit, first_value, split_at_error,
-};
-use crate::law_callers::timestamps::{is_strict, micros_stamp, printed_and_parsed};
-use crate::law_callers::values::{
-    days_between, default_text, distance, is_not_before, micros_text, parsed_again, unknown_unit,
-};
 use crate::tests::{assert_same, date, moment};
 use humantime::DurationError::{NumberExpected, NumberOverflow};
 use humantime::{StdDuration, Turns, UNIX_EPOCH};
+use humantime_examples::law_callers::durations::{
+    canonical_form, canonical_twice, decided, sum_of,
+};
+use humantime_examples::law_callers::spans::{
+    first_fraction, first_number, first_unit, first_value, split_at_error,
+};
+use humantime_examples::law_callers::timestamps::{is_strict, micros_stamp, printed_and_parsed};
+use humantime_examples::law_callers::values::{
+    days_between, default_text, distance, is_not_before, micros_text, parsed_again, unknown_unit,
+};
 
 #[test]
 fn the_first_span_is_borrowed(rt: HostRuntime) {

@@ -1,16 +1,16 @@
 //! Tests of the callers that allocate.
 
-use crate::callers::errors::{deadline, message};
-use crate::callers::timestamps::{age_line, stamp_string};
-use crate::law_callers::durations::{duration_string, is_same_string};
-use crate::law_callers::formats::{errors_row, limit_line, limits_row, stamps_row};
-use crate::law_callers::timestamps::write_line;
 use crate::tests::{assert_same, moment};
 use humantime::DurationError::Empty;
 use humantime::TimestampError::OutOfRange;
 use humantime::{
     Duration, StdDuration, Timestamp, UNIX_EPOCH, format_rfc3339_millis, parse_duration,
 };
+use humantime_examples::callers::errors::{deadline, message};
+use humantime_examples::callers::timestamps::{age_line, stamp_string};
+use humantime_examples::law_callers::durations::{duration_string, is_same_string};
+use humantime_examples::law_callers::formats::{errors_row, limit_line, limits_row, stamps_row};
+use humantime_examples::law_callers::timestamps::write_line;
 use std::alloc::AllocError;
 use std::fmt;
 

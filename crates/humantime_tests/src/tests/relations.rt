@@ -1,16 +1,18 @@
 //! Tests of the callers of laws in both forms.
 
-use crate::law_callers::errors::canonical_points_into;
-use crate::law_callers::exact::{canonical_of, date_and_turns, date_or_last, limit, timestamp};
-use crate::law_callers::relations::{
-    both_alike, by_its_spans, canonical_if_accepted, date_if_any, first_error, is_same_duration,
-    later_than_shown, only_error, seconds_as_before, squeezed, sum_or_too_large, value_of_shown,
-};
-use crate::law_callers::values::{parts_and_duration, parts_text};
-use crate::law_callers::wrappers::seconds_of;
 use crate::tests::{assert_same, date, moment};
 use humantime::DurationError::{InvalidCharacter, NumberExpected};
 use humantime::{StdDuration, Turns};
+use humantime_examples::law_callers::errors::canonical_points_into;
+use humantime_examples::law_callers::exact::{
+    canonical_of, date_and_turns, date_or_last, limit, timestamp,
+};
+use humantime_examples::law_callers::relations::{
+    both_alike, by_its_spans, canonical_if_accepted, date_if_any, first_error, is_same_duration,
+    later_than_shown, only_error, seconds_as_before, squeezed, sum_or_too_large, value_of_shown,
+};
+use humantime_examples::law_callers::values::{parts_and_duration, parts_text};
+use humantime_examples::law_callers::wrappers::seconds_of;
 
 #[test]
 fn durations_are_read_in_other_words(rt: HostRuntime) {

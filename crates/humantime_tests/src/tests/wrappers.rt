@@ -1,11 +1,11 @@
 //! The callers that use what the wrappers and the printers hold.
 
-use crate::law_callers::wrappers::{
-    doubled, extended, is_shown_since, postponed, room_for, seconds_of, seconds_shown,
-};
 use crate::tests::{assert_same, moment};
 use humantime::{
     Duration, StdDuration, Timestamp, UNIX_EPOCH, format_duration, format_rfc3339_seconds,
+};
+use humantime_examples::law_callers::wrappers::{
+    doubled, extended, is_shown_since, postponed, room_for, seconds_of, seconds_shown,
 };
 
 #[test]

@@ -1,0 +1,66 @@
+//! Errors of this crate in an error type of the caller, and in a message.
+
+ghost use Rattle.std.specs.Prelude.{◌≡◌, ◌++◌, ◌+ℤ◌, ◌<ℤ◌, ℕ, ℤ, pos, chars, codes, string_bytes, IfOk, IsOkAnd, List, Some, SomeIff, Ok, Err};
+ghost use Rattle.humantime.specs.declared.TimestampError.{TimestampError};
+ghost use Rattle.humantime.specs.declared.DurationError.{DurationError};
+ghost use Rattle.humantime.specs.Prelude.{Fault, duration_answer, fault_message, fault_of, moment_end, strict_answer, timestamp_message};
+ghost use Rattle.humantime_examples.specs.declared.callers.errors.LineError.TheVariants.{Start, Limit};
+
+use humantime::{DurationError, SystemTime, TimestampError, parse_duration, parse_rfc3339};
+use std::alloc::{AllocError, Global};
+use std::fmt;
+
+/// An error in a start or a time limit.
+#[derive(Clone, Copy, Debug)]
+pub enum LineError<'a> {
+    /// The start is not a valid timestamp.
+    Start(TimestampError),
+    /// The limit is not a valid duration.
+    Limit(DurationError<'a>),
+}
+
+impl fmt::Display for LineError<'_> {
+    ghost output = { λ e. Some (elim e as (λ _. List ℕ) [ Start error ↦ codes "start: " ++ timestamp_message error | Limit error ↦ codes "limit: " ++ fault_message (fault_of error) ]) };
+
+    fn fmt<W: fmt::Write>(&self, f: &mut fmt::Formatter<W>) -> fmt::Result {
+        match self {
+            LineError::Start(error) => write!(f, "start: {error}"),
+            LineError::Limit(error) => write!(f, "limit: {error}"),
+        }
+    }
+}
+
+impl std::error::Error for LineError<'_> {}
+
+impl From<TimestampError> for LineError<'_> {
+    ghost from_gives = { λ error e. e ≡ Start error };
+
+    fn from(error: TimestampError) -> Self {
+        LineError::Start(error)
+    }
+}
+
+impl<'a> From<DurationError<'a>> for LineError<'a> {
+    ghost from_gives = { λ error e. e ≡ Limit error };
+
+    fn from(error: DurationError<'a>) -> Self {
+        LineError::Limit(error)
+    }
+}
+
+/// Returns the moment at which a time limit after a start ends, or `None` if no `SystemTime` represents it.
+pub fn deadline<'a>(start: &str, limit: &'a str) -> Result<Option<SystemTime>, LineError<'a>>
+    ensures end { (t : ℤ) (v : ℕ) → strict_answer start.now ≡ Ok t → duration_answer (chars limit.now) ≡ Ok v → IsOkAnd result (λ end. SomeIff end ((t +ℤ pos v) <ℤ moment_end) (t +ℤ pos v)) }
+    ensures start { (e : TimestampError) → strict_answer start.now ≡ Err e → result ≡ Err (Start e) }
+    ensures limit { (t : ℤ) (e : Fault) → strict_answer start.now ≡ Ok t → duration_answer (chars limit.now) ≡ Err e → (error : DurationError) × (result ≡ Err (Limit error)) × (fault_of error ≡ e) }
+{
+    let start = parse_rfc3339(start)?;
+    Ok(start.checked_add(parse_duration(limit)?))
+}
+
+/// Returns the message for a text that is not a valid duration.
+pub fn message(alloc: Global, text: &str, error: &DurationError<'_>) -> Result<String, AllocError>
+    ensures { IfOk result (λ s. string_bytes s ≡ text.now ++ (codes ": " ++ fault_message (fault_of error.now))) }
+{
+    format!(in alloc; "{text}: {error}")
+}

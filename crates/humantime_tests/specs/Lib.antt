@@ -1,2 +1,0 @@
-pub mod FirstItems
-pub mod Longest
