@@ -46,9 +46,6 @@ class Definition:
         head = " ".join(re.sub("--.*", "", line).strip() for line in self.parts[0])
         return head.partition(f"{self.name} :")[2].strip()
 
-    def variants(self):
-        return re.findall(r"^  (\w+) :", self.text(), re.M) if self.kind == "data" else []
-
 
 def definitions(text):
     """Returns the definitions and lemmas of a file by their names. The lines of no definition, such as imports, have the name ''."""

@@ -56,6 +56,16 @@ many =
     ∷ (21, codes "21ns")
     ∷ []
 
+-- Counts that do not fit 16 bits, and that do not fit 32. Only years can be so many.
+abbrev large : List Row
+large =
+    (2_068_127_316_000_000_000_000, codes "65535years")
+    ∷ (2_068_158_873_600_000_000_000, codes "65536years")
+    ∷ (2_068_190_431_200_000_000_000, codes "65537years")
+    ∷ (135_538_859_940_249_600_000_000_000, codes "4294967296years")
+    ∷ (135_538_859_971_807_200_000_000_000, codes "4294967297years")
+    ∷ []
+
 -- The last two are the longest duration and the longest text.
 abbrev of_the_page : List Row
 of_the_page =
@@ -67,6 +77,6 @@ of_the_page =
     ∷ (3_155_760_000_031_522_175_999_999_999, codes "100000000000years 11months 29days 23h 59m 59s 999ms 999" ++ micros ++ codes " 999ns")
     ∷ []
 
-are_printed : ArePrinted (ones ++ twos ++ many ++ of_the_page)
+are_printed : ArePrinted (ones ++ twos ++ many ++ large ++ of_the_page)
 unfolding humantime_on_literals
 are_printed = refl

@@ -89,6 +89,43 @@ rows_of_fractions =
     ∷ row (codes "0.01M") (Err NumberOverflow)
     ∷ row (codes "0.01y") (Ok 315_576_000_000_000)
     ∷ row (codes "0.001y") (Err NumberOverflow)
+    ∷ row (codes "0.0625h") (Ok 225_000_000_000)
+    ∷ row (codes "0.984375d") (Ok 85_050_000_000_000)
+    ∷ row (codes "0.0078125d") (Ok 675_000_000_000)
+    ∷ row (codes "0.0078125w") (Ok 4_725_000_000_000)
+    ∷ row (codes "0.0078125M") (Ok 20_547_000_000_000)
+    ∷ row (codes "0.03125y") (Ok 986_175_000_000_000)
+    ∷ row (codes "0.0078125000000000000d") (Ok 675_000_000_000)
+    ∷ row (codes "0.00781250000000000000d") (Ok 675_000_000_000)
+    ∷ row (codes "0.062500000000000000000000h") (Ok 225_000_000_000)
+    ∷ row (codes "0.00390625d") (Err NumberOverflow)
+    ∷ []
+
+-- The greatest number of each unit, whose product with the unit fits a `u64`, and one more; and fifty leading zeros.
+abbrev rows_of_greatest : List Row
+rows_of_greatest =
+    row (codes "18446744073709551615ns") (Ok 18_446_744_073_709_551_615)
+    ∷ row (codes "18446744073709551616ns") (Err NumberOverflow)
+    ∷ row (codes "18446744073709551us") (Ok 18_446_744_073_709_551_000)
+    ∷ row (codes "18446744073709552us") (Err NumberOverflow)
+    ∷ row (codes "18446744073709ms") (Ok 18_446_744_073_709_000_000)
+    ∷ row (codes "18446744073710ms") (Err NumberOverflow)
+    ∷ row (codes "18446744073709551615s") (Ok 18_446_744_073_709_551_615_000_000_000)
+    ∷ row (codes "18446744073709551616s") (Err NumberOverflow)
+    ∷ row (codes "307445734561825860m") (Ok 18_446_744_073_709_551_600_000_000_000)
+    ∷ row (codes "307445734561825861m") (Err NumberOverflow)
+    ∷ row (codes "5124095576030431h") (Ok 18_446_744_073_709_551_600_000_000_000)
+    ∷ row (codes "5124095576030432h") (Err NumberOverflow)
+    ∷ row (codes "213503982334601d") (Ok 18_446_744_073_709_526_400_000_000_000)
+    ∷ row (codes "213503982334602d") (Err NumberOverflow)
+    ∷ row (codes "30500568904943w") (Ok 18_446_744_073_709_526_400_000_000_000)
+    ∷ row (codes "30500568904944w") (Err NumberOverflow)
+    ∷ row (codes "7013928460400M") (Ok 18_446_744_073_707_366_400_000_000_000)
+    ∷ row (codes "7013928460401M") (Err NumberOverflow)
+    ∷ row (codes "584542046090y") (Ok 18_446_744_073_689_784_000_000_000_000)
+    ∷ row (codes "584542046091y") (Err NumberOverflow)
+    ∷ row (codes "000000000000000000000000000000000000000000000000001s") (Ok 1_000_000_000)
+    ∷ row (codes "00000000000000000000000000000000000000000000000000") (Err (UnknownUnit 50 50 [] 0))
     ∷ []
 
 -- Characters that resemble the expected ones, and a word without its last letter.
@@ -122,6 +159,10 @@ rows_answered = refl
 fractions_answered : AreAnswered (rows_of_fractions ++ rows_of_strays)
 unfolding humantime_on_literals
 fractions_answered = refl
+
+greatest_answered : AreAnswered rows_of_greatest
+unfolding humantime_on_literals
+greatest_answered = refl
 
 -- What a result says of its text.
 hours_and_minutes : Accepted (codes "2h 37min") 9_420_000_000_000

@@ -69,32 +69,3 @@ fn both_calendars_refuse_what_is_no_date(rt: HostRuntime) {
         assert_day(&rt, date, None);
     }
 }
-
-/// The lengths of the months, except for February.
-const LENGTHS: [u32; 12] = [31, 0, 31, 30, 31, 30, 31, 31, 30, 31, 30, 31];
-
-/// Years, the day numbers of their first days, and the lengths of their Februaries.
-const YEARS: &[(u32, u32, u32)] = &[
-    (1970, 0, 28),
-    (1972, 730, 29),
-    (2000, 10_957, 29),
-    (2100, 47_482, 28),
-    (2400, 157_054, 29),
-    (9999, 2_932_532, 28),
-];
-
-#[test]
-fn both_calendars_have_the_first_and_the_last_day_of_each_month(rt: HostRuntime) {
-    for (year, new_year, february) in YEARS {
-        let mut before = *new_year;
-        for (month, length) in (1..13).zip(LENGTHS) {
-            let length = if month == 2 { *february } else { length };
-            let next = before.wrapping_add(length);
-            for (day, number) in [(1, Some(before)), (length, next.checked_sub(1))] {
-                let year = *year;
-                assert_day(&rt, Date { year, month, day }, number);
-            }
-            before = next;
-        }
-    }
-}
