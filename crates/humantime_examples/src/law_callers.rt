@@ -3,9 +3,7 @@
 pub mod days;
 pub mod durations;
 pub mod errors;
-pub mod exact;
 pub mod formats;
-pub mod relations;
 pub mod spans;
 pub mod timestamps;
 pub mod values;

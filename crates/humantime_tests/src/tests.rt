@@ -8,7 +8,6 @@ mod formats;
 mod how_to;
 mod law_callers;
 mod memory;
-mod relations;
 mod values;
 mod wrappers;
 

@@ -1,8 +1,8 @@
 //! Conclusions from the law of days, and from the definition of a date's day.
 
-ghost use Rattle.std.specs.Prelude.{◌≡◌, ◌↔◌, ◌≤◌, ◌∷◌, [], true, Some, None};
+ghost use Rattle.std.specs.Prelude.{◌≡◌, ◌↔◌, ◌≤◌, Some, IsSome};
 ghost use Rattle.humantime.specs.declared.Date.{Date};
-ghost use Rattle.humantime.specs.Prelude.{IsDate};
+ghost use Rattle.humantime.specs.Prelude.{IsDate, day_of};
 
 use humantime::laws::one_date;
 use humantime::{Date, Turns, date_of_day, day_number};
@@ -34,48 +34,19 @@ pub fn day_comes_back(day: u32, turns: &mut Turns) -> Option<u32>
     day_number(date_of_day(day, turns)?, turns)
 }
 
-/// Returns `true` if a year has a 29 February exactly if it is a leap year, which holds from 1970 to 9999.
-pub fn leap_day_is_of_leap_years(year: u32, turns: &mut Turns) -> bool
-    ensures { 1970 ≤ year → year ≤ 9999 → result ≡ true }
+/// Returns the date of a day, if it exists.
+pub fn date_if_any(day: u32, turns: &mut Turns) -> Option<Date>
+    ensures { (d : Date) → IsDate d → day_of d ≡ day → IsSome result }
 {
-    let leap_day = Date {
-        year,
-        month: 2,
-        day: 29,
-    };
-    let is_leap_year = year % 4 == 0 && (year % 100 != 0 || year % 400 == 0);
-    day_number(leap_day, turns).is_some() == is_leap_year
+    one_date(day);
+    date_of_day(day, turns)
 }
 
-/// Returns the day numbers of the first leap day, of a 30 February and of the last date.
-#[tactic(auto, unfolding(humantime::specs::Calendar::days_of_years, humantime::specs::Calendar::days_of_months))]
-pub fn days_by_computation(turns: &mut Turns) -> [Option<u32>; 3]
-    ensures { result ≡ (Some 789 ∷ None ∷ Some 2_932_896 ∷ []) }
+/// Returns the date of a day, and the turns that were counted, at most twelve.
+pub fn date_and_turns(day: u32) -> (Option<Date>, Turns)
+    ensures { result.1 ≤ 12 }
 {
-    [
-        day_number(
-            Date {
-                year: 1972,
-                month: 2,
-                day: 29,
-            },
-            turns,
-        ),
-        day_number(
-            Date {
-                year: 2000,
-                month: 2,
-                day: 30,
-            },
-            turns,
-        ),
-        day_number(
-            Date {
-                year: 9999,
-                month: 12,
-                day: 31,
-            },
-            turns,
-        ),
-    ]
+    let mut turns = Turns::new();
+    let date = date_of_day(day, &mut turns);
+    (date, turns)
 }

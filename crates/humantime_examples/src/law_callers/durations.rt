@@ -1,7 +1,7 @@
 //! Callers of the laws of durations.
 
-ghost use Rattle.std.specs.Prelude.{◌≡◌, ◌≢◌, ◌+◌, ◌/◌, ◌≤◌, ◌++◌, ◌↔◌, ◌⊎◌, ℕ, List, Option, None, Some, Ok, Err, chars, length, option_map, slice_index, string_bytes, IfOk, IsOk, IsPermutation, IsTrue};
-ghost use Rattle.humantime.specs.Prelude.{Accepted, AcceptedWithZeros, AllHaveRoom, AreReordered, IsCanonicalText, AreCounts, Fault, HasFault, IsCanonicalOf, Items, NumberOverflow, Reads, SpelledSpan, WithinLimits, additions, bare_zero, canonical_answer, duration_answer, item_of, items_left, nanos_per_second, result_view, text_result_view, value, WasAccepted};
+ghost use Rattle.std.specs.Prelude.{◌≡◌, ◌≢◌, ◌+◌, ◌/◌, ◌≤◌, ◌++◌, ◌∷◌, [], ◌↔◌, ◌⊎◌, ℕ, List, Option, Result, None, Some, Ok, Err, chars, length, option_map, slice_index, string_bytes, IfOk, IsOk, IsPermutation, IsTrue};
+ghost use Rattle.humantime.specs.Prelude.{Accepted, AcceptedWithZeros, AllHaveRoom, AreItems, AreReordered, IsCanonicalText, AreCounts, Fault, HasFault, IsCanonicalOf, Items, NumberOverflow, Reads, SpanView, SpelledSpan, WithinLimits, additions, bare_zero, canonical_answer, duration_answer, items_left, nanos_per_second, result_view, text_result_view, value, WasAccepted};
 
 use crate::callers::durations::limit_seconds;
 use humantime::laws::{
@@ -12,8 +12,6 @@ use humantime::{
     DurationError, SpanIter, StdDuration, canonical, format_duration, parse_duration, spans,
 };
 use std::alloc::{AllocError, Global};
-
-type Item<'a> = Option<Result<humantime::Span<'a>, DurationError<'a>>>;
 
 /// Returns the whole seconds of the value with which a text is accepted, or its first error. A text never has both, its spans have one sum,
 /// and one error stops them, if any.
@@ -43,19 +41,6 @@ pub fn decided(text: &str) -> Result<StdDuration, DurationError<'_>>
     parse_duration(text)
 }
 
-/// Returns the result of parsing a text, and the first items of two iterators over its spans. These items are equal, and if they are an
-/// error, so is the result.
-pub fn answer_and_first_items(
-    text: &str,
-) -> (Result<StdDuration, DurationError<'_>>, Item<'_>, Item<'_>)
-    ensures answer { (e : Fault) → option_map item_of result.1 ≡ Some (Err e) → chars text.now ≢ bare_zero → result_view result.0 ≡ Err e }
-    ensures items { option_map item_of result.1 ≡ option_map item_of result.2 }
-{
-    spans_decide(text);
-    spans_tile(text);
-    (parse_duration(text), spans(text).next(), spans(text).next())
-}
-
 /// Returns the canonical text of a duration. There is exactly one, and it has at most 64 bytes, 11 months and 30 days.
 pub fn canonical_text<'b>(duration: StdDuration, buf: &'b mut [u8; 64]) -> &'b str
     ensures only { (bytes : List ℕ) → IsCanonicalText duration bytes → result.now ≡ bytes }
@@ -64,14 +49,6 @@ pub fn canonical_text<'b>(duration: StdDuration, buf: &'b mut [u8; 64]) -> &'b s
 {
     printed_duration_reads(duration);
     printed_bounds(duration);
-    format_duration(duration).text(buf)
-}
-
-/// Returns the text of a duration, which is accepted with that duration.
-pub fn accepted_text<'b>(duration: StdDuration, buf: &'b mut [u8; 64]) -> &'b str
-    ensures { Accepted (chars result.now) duration }
-{
-    printed_duration_reads(duration);
     format_duration(duration).text(buf)
 }
 
@@ -169,4 +146,22 @@ pub fn two_walks(text: &str) -> (SpanIter<'_>, SpanIter<'_>)
 {
     spans_tile(text);
     (spans(text), spans(text))
+}
+
+/// Returns the duration of a text, other than exactly `0`, as determined by its spans: their sum if no error stops them and they are within
+/// the limits.
+pub fn by_its_spans(text: &str) -> Result<StdDuration, DurationError<'_>>
+    ensures { chars text.now ≢ bare_zero → (ss : List SpelledSpan) × (stop : Option Fault) × Items (chars text.now) ss stop × ((v : ℕ) → (result_view result ≡ Ok v) ↔ ((stop ≡ None) × WithinLimits ss × (value ss ≡ v))) }
+{
+    spans_decide(text);
+    parse_duration(text)
+}
+
+/// Parses a text whose only item is an error, which returns that error.
+pub fn only_error(text: &str) -> Result<StdDuration, DurationError<'_>>
+    ensures { (e : Fault) → chars text.now ≢ bare_zero → ((items : List (Result SpanView Fault)) → AreItems (chars text.now) items → items ≡ Err e ∷ []) → result_view result ≡ Err e }
+{
+    spans_decide(text);
+    spans_tile(text);
+    parse_duration(text)
 }

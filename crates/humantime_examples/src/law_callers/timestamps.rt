@@ -113,22 +113,6 @@ pub fn order_of_texts(text: &str, other: &str, a: SystemTime, b: SystemTime) -> 
     text.cmp(other)
 }
 
-/// Returns the errors of the weak checks in order, followed by that of the strict check. Each text also fails later checks, if it can.
-#[tactic(auto, unfolding(humantime::proofs::TimestampsOnLiterals::timestamps_on_literals))]
-pub fn first_errors() -> [Result<SystemTime, TimestampError>; 7]
-    ensures { result ≡ (Err TimestampError.InvalidFormat ∷ Err TimestampError.InvalidFormat ∷ Err TimestampError.InvalidDigit ∷ Err TimestampError.OutOfRange ∷ Err TimestampError.InvalidFormat ∷ Err TimestampError.InvalidDigit ∷ Err TimestampError.InvalidFormat ∷ []) }
-{
-    [
-        parse_rfc3339_weak("1969-1x-01 00:00:0"),
-        parse_rfc3339_weak("1969-1x-01_00:00:00"),
-        parse_rfc3339_weak("1969-1x-01 00:00:00"),
-        parse_rfc3339_weak("1970-13-01 00:00:00junk"),
-        parse_rfc3339_weak("1970-01-01T00:00:00ZabZ"),
-        parse_rfc3339_weak("1970-01-01T00:00:00.5+abcdZ"),
-        parse_rfc3339("1970-13-01 00:00:00junk"),
-    ]
-}
-
 /// Returns `true` if `parse::<Timestamp>` returns what the weak parser returns, which it always does. A text in the weak form fails no
 /// check, and the number of its fraction digits is unique.
 pub fn is_parsed_weakly(text: &str) -> bool

@@ -3,15 +3,18 @@
 use crate::tests::{assert_same, date, moment};
 use humantime::DurationError::{NumberExpected, NumberOverflow};
 use humantime::{StdDuration, Turns, UNIX_EPOCH};
+use humantime_examples::law_callers::days::{date_and_turns, date_if_any};
 use humantime_examples::law_callers::durations::{
-    canonical_form, canonical_twice, decided, sum_of,
+    by_its_spans, canonical_form, canonical_twice, decided, only_error, sum_of,
 };
+use humantime_examples::law_callers::errors::canonical_points_into;
 use humantime_examples::law_callers::spans::{
     first_fraction, first_number, first_unit, first_value, split_at_error,
 };
 use humantime_examples::law_callers::timestamps::{is_strict, micros_stamp, printed_and_parsed};
 use humantime_examples::law_callers::values::{
-    days_between, default_text, distance, is_not_before, micros_text, parsed_again, unknown_unit,
+    days_between, default_text, distance, is_not_before, micros_text, parsed_again,
+    parts_and_duration, parts_text, unknown_unit,
 };
 
 #[test]
@@ -114,4 +117,25 @@ fn days_between_dates_are_counted(rt: HostRuntime) {
         days_between(from, date(1999, 2, 29), &mut turns),
     ];
     assert_same(&rt, days, [Some(2), None, None]);
+}
+
+#[test]
+fn durations_are_read_by_their_spans(rt: HostRuntime) {
+    assert_same(&rt, by_its_spans("1h x"), Err(NumberExpected(3)));
+    assert_same(&rt, only_error("x"), Err(NumberExpected(0)));
+    assert_same(&rt, canonical_points_into("1~"), true);
+}
+
+#[test]
+fn parts_and_days_are_taken(rt: HostRuntime) {
+    let text = Some("3s 500ms");
+    assert_same(&rt, parts_text(1, 2_500_000_000, &mut [0; 64]), text);
+    let none = parts_text(u64::MAX, 1_000_000_000, &mut [0; 64]).is_none();
+    assert_same(&rt, none, true);
+    let duration = StdDuration::new(1, 5);
+    assert_same(&rt, parts_and_duration(duration), (1, 5, duration));
+    let mut turns = Turns::new();
+    let days = [date_if_any(0, &mut turns), date_and_turns(11016).0];
+    let dates = [date(1970, 1, 1), date(2000, 2, 29)];
+    assert_same(&rt, days, dates.map(Some));
 }

@@ -1,5 +1,5 @@
 use Rattle.std.proofs.Common.{◌∙◌, []}
-use Rattle.humantime_examples.proofs.law_callers.relations.only_error.Goals as goal
+use Rattle.humantime_examples.proofs.law_callers.durations.only_error.Goals as goal
 
 pub returns : goal.returns
 returns c e some only =

@@ -1,4 +1,4 @@
-use Rattle.humantime_examples.proofs.law_callers.relations.by_its_spans.Goals as goal
+use Rattle.humantime_examples.proofs.law_callers.durations.by_its_spans.Goals as goal
 
 pub returns : goal.returns
 returns c some =
