@@ -9,3 +9,4 @@ pub mod Retry
 pub mod Rows
 pub mod SettingErrors
 pub mod Settings
+pub mod Tiles

@@ -1,13 +1,14 @@
 //! Callers that use what spans borrow from their text, and the offset of the error that stops them.
 
-ghost use Rattle.std.specs.Prelude.{◌≡◌, ◌++◌, ℕ, List, Option, Result, chars, length, option_map, true, IfSome};
+ghost use Rattle.std.specs.Prelude.{◌≡◌, ◌++◌, ℕ, List, None, Option, Result, chars, flat_map, length, option_map, true, IfSome};
 ghost use Rattle.std.specs.Option.{option_and_then};
-ghost use Rattle.humantime.specs.Prelude.{AreItems, Fault, SpanView, span_view};
+ghost use Rattle.humantime.specs.Prelude.{AreItems, Fault, SpanView, items_left, span_view};
 ghost use Rattle.humantime.specs.Texts.{begins, ends};
 ghost use Rattle.humantime.specs.Durations.Characters.{is_digit};
 ghost use Rattle.humantime_examples.specs.FirstItems.{first_error, first_span, stop_of};
+ghost use Rattle.humantime_examples.specs.Tiles.{IsTiled, slices_of};
 
-use humantime::{DurationError, Span, spans};
+use humantime::{DurationError, Span, SpanIter, spans};
 
 /// Returns the first item of a text, if it is a span.
 fn first_span(text: &str) -> Option<Span<'_>>
@@ -65,4 +66,15 @@ pub fn split_at_error(text: &str) -> (&str, &str)
         }
     }
     (text, "")
+}
+
+/// Returns the items of a text, whose slices follow each other in it.
+///
+/// Each character before the span or error at which the items stop lies in exactly one slice (a number, a fraction or a unit), or in none and
+/// is whitespace or a point. If no item is an error, this holds for each character of the text.
+pub fn tiling_spans(text: &str) -> SpanIter<'_>
+    ensures front { (are : AreItems (chars text.now) (items_left result)) × IsTiled are.items.front (flat_map slices_of (items_left result)) }
+    ensures whole { first_error (items_left result) ≡ None → IsTiled (chars text.now) (flat_map slices_of (items_left result)) }
+{
+    spans(text)
 }
