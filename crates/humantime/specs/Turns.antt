@@ -1,8 +1,8 @@
 -- The number of iterations that a chain of turns denotes.
 use Rattle.std.specs.Prelude.{ℕ, ◌+◌}
-use Rattle.humantime.specs.declared.turns.Chain.{Chain, Start, Next'}
+use Rattle.humantime.specs.declared.calendar.Chain.{Chain, Start, Next'}
 
 -- Returns the number of links of a chain.
 abbrev pub turns_of : Chain → ℕ
 turns_of Start = 0
-turns_of (Next' marker before) = turns_of before + 1
+turns_of (Next' outer inner before) = turns_of before + 1

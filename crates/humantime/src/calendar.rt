@@ -1,4 +1,4 @@
-//! Conversions between the dates of 1970 to 9999 and their numbers of days since 1970-01-01.
+//! Conversions between the dates of 1970 to 9999 and their numbers of days since 1970-01-01, and [`Turns`], a count of iterations.
 
 ghost use Rattle.std.specs.Prelude.{◌≡◌, ◌+◌, ◌-◌, ◌<◌, ◌≤◌, ◌↔◌, IsSome, IfSome, MatchOption};
 ghost use Rattle.std.specs.Int.{IsInRange};
@@ -6,7 +6,9 @@ ghost use Rattle.humantime.specs.Calendar.{days_in_year, days_in_month, days_of_
 ghost use Rattle.humantime.specs.Answers.Dates.{march_days, march_months};
 ghost use Rattle.humantime.specs.Answers.Dates as Dates;
 
-use crate::turns::Turns;
+use std::marker::Model;
+use std::mem;
+use std::snapshot::Snapshot;
 
 /// The first supported year.
 const FIRST_YEAR: u32 = 1970;
@@ -37,6 +39,72 @@ const DAYS_PER_4_YEARS: u32 = 1_461;
 
 /// The number of days of a common year.
 const DAYS_PER_YEAR: u32 = 365;
+
+/// The count as a unary number: `Start` is 0, and `Next` adds 1. Only a snapshot of it is kept, which takes no bytes.
+#[derive(Drop)]
+enum Chain {
+    Start,
+    Next(Snapshot<Snapshot<Chain>>),
+}
+
+/// A count of loop iterations: a whole number, starting at 0, without an upper bound.
+///
+/// Only contracts see it. At run time it takes no bytes, and counting costs nothing. The loop of [`date_of_day`](crate::date_of_day)
+/// counts each of its iterations here, so a contract can bound how many iterations a call takes.
+///
+/// # Examples
+///
+/// ```
+/// use humantime::{Turns, date_of_day};
+/// use std::mem;
+///
+/// let mut turns = Turns::new();
+/// assert!(rt; date_of_day(11016, &mut turns).is_some());
+/// assert_eq!(rt; mem::size_of::<Turns>(), 0);
+/// ```
+#[derive(Drop)]
+pub struct Turns {
+    chain: Snapshot<Chain>,
+}
+
+const _: () = prove!(mem::size_of::<Turns>() == 0);
+
+impl Model for Turns {
+    ghost use Rattle.std.specs.Prelude.{ℕ};
+
+    ghost Value = { ℕ };
+
+    ghost use Rattle.humantime.specs.Turns.{turns_of};
+
+    ghost view = { λ t. turns_of t.chain.value };
+}
+
+impl Turns {
+    /// Creates a count of 0.
+    ///
+    /// # Examples
+    ///
+    /// ```
+    /// use humantime::{Date, Turns, date_of_day};
+    ///
+    /// let first = date_of_day(0, &mut Turns::new());
+    /// assert_eq!(rt; first, Some(Date { year: 1970, month: 1, day: 1 }));
+    /// ```
+    pub fn new() -> Turns
+        ensures { result ≡ 0 }
+    {
+        Turns {
+            chain: Snapshot::of(&Chain::Start),
+        }
+    }
+
+    /// Counts one iteration.
+    fn tick(&mut self)
+        ensures { self.new ≡ self.old + 1 }
+    {
+        self.chain = Snapshot::of(&Chain::Next(Snapshot::of(&self.chain)));
+    }
+}
 
 /// A date: a year, a month from 1 (January) to 12, and a day of the month from 1.
 ///

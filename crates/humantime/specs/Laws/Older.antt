@@ -25,7 +25,9 @@ pub record OlderFormed (s : SpelledSpan) : Type 0 where
   pub product : decimal_value s.number * size unit.one ≤ u64_max
   pub fraction : OlderFraction unit.fraction s.fraction
 
--- While trailing zeros of a fraction counted, the text was accepted and denoted `v` nanoseconds.
+-- While trailing zeros of a fraction counted, the text was accepted and denoted `v` nanoseconds. What spans add and their `value` are the
+-- same with and without trailing zeros: `part` takes all digits of a fraction, and each zero at their end multiplies by ten both the number
+-- that they denote and the power of ten that divides its product.
 pub data AcceptedWithZeros (text : List ℕ) (v : ℕ) : Type 0 where
   -- The text was exactly `0`.
   Older_zero : text ≡ bare_zero → v ≡ 0 → AcceptedWithZeros text v

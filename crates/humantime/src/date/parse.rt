@@ -12,9 +12,8 @@ ghost use Rattle.humantime.specs.Timestamps.Checks;
 ghost use Rattle.humantime.specs.Steps.Timestamps.{fraction_answer, digits_answer};
 ghost use Rattle.humantime.specs.Steps.Timestamps as Steps;
 
-use crate::calendar::{Date, day_number};
+use crate::calendar::{Date, Turns, day_number};
 use crate::date::error::TimestampError;
-use crate::turns::Turns;
 use crate::value::SystemTime;
 use std::simd::prelude::*;
 

@@ -9,8 +9,7 @@ ghost use Rattle.humantime.specs.Steps.Timestamps.{IsSecondOf};
 ghost use Rattle.humantime.specs.Answers.Timestamps.{printed_fields};
 
 use crate::buffer::str_prefix;
-use crate::calendar::{Date, date_of_day};
-use crate::turns::Turns;
+use crate::calendar::{Date, Turns, date_of_day};
 use crate::value::SystemTime;
 use std::fmt;
 use std::marker::Model;

@@ -16,6 +16,7 @@ pub(crate) struct Cursor<'a> {
 impl<'a> Cursor<'a> {
     /// Returns the offset of the rest in the text, in bytes.
     #[inline(always)]
+    #[tactic(auto, using(crate::proofs::Durations::Bytes::Tails::tail_offset))]
     pub(crate) fn offset(self) -> usize
         ensures { result ≡ offset_of (chars self.entry.text.now) (chars self.entry.rest.now) }
     {

@@ -1,4 +1,4 @@
-use Rattle.std.proofs.Common.{sym, ◌∙◌, refl}
+use Rattle.std.proofs.Common.{arith, sym, ◌∙◌, refl}
 use Rattle.humantime.proofs.Timestamps.Laws.Reading.{strict_outcome, strict_by_marks}
 use Rattle.humantime.proofs.date.parse.parse_rfc3339.Goals as goal
 
@@ -6,7 +6,8 @@ pub returns-then-not-has_t_and_zone : goal.returns-then-not-has_t_and_zone
 returns-then-not-has_t_and_zone c =
     let other = sym (rw c.as_bytes.ensures.value at c.has_t_and_zone.ensures) ∙ c.if-not-has_t_and_zone.true in
     let one = strict_outcome c.args.s.now in
-    rw (rw other at (strict_by_marks c.args.s.now)) (record { value = one.value; error = one.error; answer = refl })
+    let same = rw other at (strict_by_marks c.args.s.now) in
+    record { value = grind (arith, one.value, same); error = grind (arith, one.error, same); answer = grind (arith, same) }
 
 pub returns : goal.returns
 returns c =

@@ -40,7 +40,9 @@ returns-in-Ok-clause-goes c =
     search rules
 
 pub returns-in-Err-clause-steps : goal.returns-in-Err-clause-steps
-returns-in-Err-clause-steps c = (grind (arith, step_stopped), refl, rw c.skip_whitespace-start.ensures.text at c.in-Err.ensures.place)
+returns-in-Err-clause-steps c =
+    let place = rw c.skip_whitespace-start.ensures.text at c.in-Err.ensures.place in
+    (grind (arith, step_stopped), refl, grind (arith, place))
 
 pub returns-in-Err-clause-goes : goal.returns-in-Err-clause-goes
 returns-in-Err-clause-goes c =
