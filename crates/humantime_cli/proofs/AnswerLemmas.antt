@@ -1,28 +1,32 @@
 -- Lemmas about the output for the results of the library, and the uniqueness of the answer.
 use Rattle.std.proofs.Common.{◌≡◌, ◌≢◌, ◌↔◌, ℕ, List, [], ◌∷◌, length, ap, sym, ◌∙◌, refl}
-use Rattle.std.specs.Prelude.{ℤ, None, Some, Result, Ok, Err, chars, codes, IfOk, unwrap_or, if◌then◌else◌, ◌==◌}
+use Rattle.std.specs.Prelude.{ℤ, None, Some, Result, Ok, Err, chars, codes, IsSome, IfOk, unwrap_or, if◌then◌else◌, ◌==◌}
 use Rattle.std.specs.Result.{result_map_both}
 use Rattle.humantime.specs.declared.date.error.TimestampError.{TimestampError}
-use Rattle.humantime.specs.Prelude.{Fault, HasFault, IsCanonicalOf, IsPrintable, fault_message, timestamp_message, canonical_answer, strict_answer, weak_answer, places_of, shortest_text}
-use Rattle.humantime.proofs.Theorems.{canonical_again, one_stamp_outcome, printed_moment_reads, places_of_bound, strict_printable, weak_printable}
+use Rattle.humantime.specs.Prelude.{IsPrintable, fault_message, timestamp_message, canonical_answer, strict_answer, weak_answer, places_of, shortest_text}
+use Rattle.humantime.proofs.Theorems.{canonical_again, printed_some, one_stamp_outcome, printed_moment_reads, places_of_bound, strict_printable, weak_printable}
 use Rattle.humantime_cli.specs.Answers.{Answers, OneAnswer, IsOutputOf, IsMomentOutput, Command, Duration, Strict, Weak}
 
--- A canonical text or a fault is output of the command `duration`.
-pub tells_duration : (text : List ℕ) (read : Result (List ℕ) Fault) → ((t : List ℕ) → (read ≡ Ok t) ↔ IsCanonicalOf text t)
-    → ((e : Fault) → (read ≡ Err e) ↔ HasFault (chars text) e) → IsOutputOf Duration text (result_map_both (λ t. t) fault_message read)
-tells_duration text (Ok printed) canonical fault = (canonical printed).0 refl
-tells_duration text (Err e) canonical fault = (e, (fault e).0 refl, refl)
-
--- Output for a moment or an error is also output for the moments and errors that these imply.
-pub tells_moment : {P Q : ℤ → Type 0} {F G : TimestampError → Type 0} (told : Result (List ℕ) (List ℕ)) → ((t : ℤ) → P t → Q t) → ((e : TimestampError) → F e → G e)
-    → IsMomentOutput P F told → IsMomentOutput Q G told
-tells_moment (Ok printed) value error (t, is, whole) = (t, value t is, whole)
-tells_moment (Err message) value error (e, is, whole) = (e, error e is, whole)
-
--- The result of parsing satisfies any property that holds of each possible result.
+-- A moment that was parsed satisfies any property of those that the text denotes.
 pub each_read : {T E : Type 0} {P Q : T → Type 0} (read : Result T E) → ((t : T) → (read ≡ Ok t) ↔ P t) → ((t : T) → P t → Q t) → IfOk read Q
 each_read (Ok t) value all = all t ((value t).0 refl)
 each_read (Err e) value all = tt
+
+-- The text of the moment that was parsed, or the message of its error.
+abbrev pub moment_written : Result ℤ TimestampError → Result (List ℕ) (List ℕ)
+moment_written read = result_map_both (λ t. unwrap_or (shortest_text t) []) timestamp_message read
+
+-- A moment of 1970 to 9999 has a text.
+pub has_text : (t : ℤ) → IsPrintable t → IsSome (shortest_text t)
+has_text t within = rw (printed_some t (places_of t) (places_of_bound t) within).1 refl
+
+pub tells_moment : {Denotes : ℤ → Type 0} {Has : TimestampError → Type 0} (read : Result ℤ TimestampError) → ((t : ℤ) → (read ≡ Ok t) ↔ Denotes t)
+    → ((e : TimestampError) → (read ≡ Err e) ↔ Has e) → ((t : ℤ) → Denotes t → IsPrintable t) → IsMomentOutput Denotes Has (moment_written read)
+tells_moment (Ok t) value error printable =
+    let denoted = (value t).0 refl in
+    let some = printed_some t (places_of t) (places_of_bound t) (printable t denoted) in
+    (t, denoted, rw some.1 some.2)
+tells_moment (Err e) value error printable = (e, (error e).0 refl, refl)
 
 -- Arguments that are not two are not a command and its text.
 pub not_two : (words : List (List ℕ)) → length words ≢ 2 → Answers words None
@@ -34,16 +38,18 @@ unnamed name duration strict weak _ Duration text same = duration (cc)
 unnamed name duration strict weak _ Strict text same = strict (cc)
 unnamed name duration strict weak _ Weak text same = weak (cc)
 
--- The output for a moment that was parsed, as a function.
-abbrev moment_written : Result ℤ TimestampError → Result (List ℕ) (List ℕ)
-moment_written read = result_map_both (λ t. unwrap_or (shortest_text t) []) timestamp_message read
-
 one_moment : (read : Result ℤ TimestampError) (told : Result (List ℕ) (List ℕ))
     → IsMomentOutput (λ t. (read ≡ Ok t) × IsPrintable t) (λ e. read ≡ Err e) told → told ≡ moment_written read
 one_moment read (Ok printed) (t, (is, within), whole) =
     let shown = ((printed_moment_reads t (places_of t) (places_of_bound t)).displayed printed).1 (within, whole) in
     ap (λ o. Ok (unwrap_or o [])) (sym shown) ∙ ap moment_written (sym is)
 one_moment read (Err message) (e, is, same) = ap Err same ∙ ap moment_written (sym is)
+
+-- Output for a moment or an error is also output for the moments and errors that these imply.
+implied : {P Q : ℤ → Type 0} {F G : TimestampError → Type 0} (told : Result (List ℕ) (List ℕ)) → ((t : ℤ) → P t → Q t) → ((e : TimestampError) → F e → G e)
+    → IsMomentOutput P F told → IsMomentOutput Q G told
+implied (Ok printed) value error (t, is, whole) = (t, value t is, whole)
+implied (Err message) value error (e, is, same) = (e, error e is, same)
 
 -- The answer to arguments, by the first byte of the command.
 abbrev words_answer : List (List ℕ) → Result (List ℕ) (List ℕ)
@@ -58,10 +64,10 @@ one_command_answer Duration text (Err message) (fault, has, same) =
     ap Err same ∙ ap (result_map_both (λ t. t) fault_message) (sym (((canonical_again text).fault fault).1 has))
 one_command_answer Strict text told tells =
     let one = one_stamp_outcome text in
-    one_moment (strict_answer text) told (tells_moment told (λ t is. ((one.1.value t).1 is, strict_printable text t is)) (λ e. (one.1.error e).1) tells)
+    one_moment (strict_answer text) told (implied told (λ t is. ((one.1.value t).1 is, strict_printable text t is)) (λ e. (one.1.error e).1) tells)
 one_command_answer Weak text told tells =
     let one = one_stamp_outcome text in
-    one_moment (weak_answer text) told (tells_moment told (λ t is. ((one.0.value t).1 is, weak_printable text t is)) (λ e. (one.0.error e).1) tells)
+    one_moment (weak_answer text) told (implied told (λ t is. ((one.0.value t).1 is, weak_printable text t is)) (λ e. (one.0.error e).1) tells)
 
 answer_of_words : (words : List (List ℕ)) (told : Result (List ℕ) (List ℕ)) → Answers words (Some told) → told ≡ words_answer words
 answer_of_words words told (name, command, text, same, tells) = one_command_answer command text told tells ∙ ap words_answer (sym same)

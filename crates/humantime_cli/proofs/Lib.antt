@@ -1,4 +1,4 @@
 pub mod AnswerLemmas
 pub mod EndsLemmas
+pub mod PieceLemmas
 pub mod WorkedRuns
-pub mod WritesLemmas

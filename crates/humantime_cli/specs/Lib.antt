@@ -1,2 +1,3 @@
 pub mod Answers
+pub mod Pieces
 pub mod Writes

@@ -1,15 +1,10 @@
 -- What a writer has accepted, if its bytes are known.
-use Rattle.std.specs.Prelude.{ℕ, ◌<◌, List, [], ◌∷◌, ◌++◌, length, take, Option, Result, MatchResult, flat_map}
-use Rattle.std.specs.Borrow.{Bor}
+use Rattle.std.specs.Prelude.{ℕ, ◌<◌, List, [], ◌∷◌, ◌++◌, length, take, Option, Result, MatchResult}
 use Rattle.std.specs.Io.KnownBytes.{Appends}
 
 -- A text followed by a line feed.
 abbrev pub line : List ℕ → List ℕ
 line text = text ++ 10 ∷ []
-
--- The texts, one after the other.
-abbrev pub joined : List (Bor (List ℕ)) → List ℕ
-joined texts = flat_map (λ text. text.now) texts
 
 -- The writer accepted a prefix of the bytes, not all of them.
 abbrev pub AppendsFront : Option (List ℕ) → Option (List ℕ) → List ℕ → Type 0

@@ -1,17 +1,15 @@
-//! Runs one command: parses its argument, and writes the result or an error message. Built on `message` and `writing`.
+//! Runs one command: parses its argument, and writes the result or an error message. Built on `writing`.
 
-ghost use Rattle.std.specs.Prelude.{◌≡◌, ℕ, List, Result, Some, Ok, Err, IfOk};
+ghost use Rattle.std.specs.Prelude.{ℕ, List, [], Result, unwrap_or, Some, IfOk};
 ghost use Rattle.std.specs.Result.{result_map_both, result_unwrap_or};
-ghost use Rattle.humantime.specs.Prelude.{IsPrintable, text_result_view, fault_message};
-ghost use Rattle.humantime_cli.specs.Answers.{texts, streams, Ends, EndsWith, OneAnswer, IsMomentOutput};
+ghost use Rattle.humantime.specs.Prelude.{IsPrintable, shortest_text, timestamp_message};
+ghost use Rattle.humantime_cli.specs.Answers.{texts, streams, Ends, EndsWith, IsOutputOf, Duration, OneAnswer};
 
-use crate::message::{message_of_moment, message_of_text};
-use crate::writing::{WriteFailed, write_line};
+use crate::writing::write_line;
 use humantime::{
-    DurationError, SystemTime, TimestampError, canonical, format_rfc3339, parse_rfc3339,
-    parse_rfc3339_weak,
+    SystemTime, Timestamp, TimestampError, parse_duration, parse_rfc3339, parse_rfc3339_weak,
 };
-use itoa::Buffer;
+use std::fmt;
 use std::io::Write;
 
 #[cfg(test)]
@@ -78,33 +76,31 @@ fn answer_words<O: Write, E: Write>(
     words: &[&str],
     out: &mut O,
     err: &mut E,
-) -> Result<u8, WriteFailed>
+) -> Result<u8, fmt::Error>
     ensures { Ends (texts words.now) (result_unwrap_or result 3) (streams (O.contents out.old) (E.contents err.old))
         (streams (O.contents out.new) (E.contents err.new)) }
 {
     match words {
-        ["duration", text] => answer_duration(canonical(text, &mut [0; 64]), out, err),
+        ["duration", text] => answer_duration(text, out, err),
         ["strict", text] => answer_moment(parse_rfc3339(text), out, err),
         ["weak", text] => answer_moment(parse_rfc3339_weak(text), out, err),
-        _ => write_line(err, &[USAGE]).and(Ok(MISUSED)),
+        _ => write_line(err, USAGE).and(Ok(MISUSED)),
     }
 }
 
-/// Writes the canonical text to `out`, or the error message to `err`.
+/// Writes the canonical text of the duration to `out`, or the error message to `err`.
 fn answer_duration<O: Write, E: Write>(
-    read: Result<&str, DurationError<'_>>,
+    text: &str,
     out: &mut O,
     err: &mut E,
-) -> Result<u8, WriteFailed>
-    ensures { EndsWith (Some (result_map_both (λ text. text) fault_message (text_result_view read.entry))) (result_unwrap_or result 3) (streams (O.contents out.old) (E.contents err.old))
+) -> Result<u8, fmt::Error>
+    ensures { (output : Result (List ℕ) (List ℕ)) × IsOutputOf Duration text.now output
+        × EndsWith (Some output) (result_unwrap_or result 3) (streams (O.contents out.old) (E.contents err.old))
         (streams (O.contents out.new) (E.contents err.new)) }
 {
-    match read {
-        Ok(printed) => write_line(out, &[printed]).and(Ok(ACCEPTED)),
-        Err(error) => {
-            let mut digits = Buffer::new();
-            write_line(err, &message_of_text(error, &mut digits)).and(Ok(REFUSED))
-        }
+    match parse_duration(text) {
+        Ok(duration) => write_line(out, humantime::Duration::from(duration)).and(Ok(ACCEPTED)),
+        Err(fault) => write_line(err, fault).and(Ok(REFUSED)),
     }
 }
 
@@ -113,17 +109,13 @@ fn answer_moment<O: Write, E: Write>(
     read: Result<SystemTime, TimestampError>,
     out: &mut O,
     err: &mut E,
-) -> Result<u8, WriteFailed>
+) -> Result<u8, fmt::Error>
     requires { IfOk read IsPrintable }
-    ensures { (output : Result (List ℕ) (List ℕ)) × IsMomentOutput (λ moment. read ≡ Ok moment) (λ error. read ≡ Err error) output
-        × EndsWith (Some output) (result_unwrap_or result 3) (streams (O.contents out.old) (E.contents err.old))
-        (streams (O.contents out.new) (E.contents err.new)) }
+    ensures { EndsWith (Some (result_map_both (λ moment. unwrap_or (shortest_text moment) []) timestamp_message read)) (result_unwrap_or result 3)
+        (streams (O.contents out.old) (E.contents err.old)) (streams (O.contents out.new) (E.contents err.new)) }
 {
     match read {
-        Ok(moment) => match format_rfc3339(moment).text(&mut [0; 30]) {
-            Some(printed) => write_line(out, &[printed]).and(Ok(ACCEPTED)),
-            None => unreachable!(),
-        },
-        Err(error) => write_line(err, &[message_of_moment(error)]).and(Ok(REFUSED)),
+        Ok(moment) => write_line(out, Timestamp::from(moment)).and(Ok(ACCEPTED)),
+        Err(error) => write_line(err, error).and(Ok(REFUSED)),
     }
 }

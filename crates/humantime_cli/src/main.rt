@@ -7,7 +7,7 @@ ghost use Rattle.std.specs.Prelude.{◌≡◌, map, string_bytes, IfOk, MatchRes
 ghost use Rattle.humantime_cli.specs.Answers.{texts, streams, Ends, Fails};
 
 mod command;
-mod message;
+mod piece;
 mod writing;
 
 pub use command::run;

@@ -1,35 +1,43 @@
 //! Writes a whole line to a writer whose `write` may accept only part of its input.
 
-ghost use Rattle.humantime_cli.specs.Writes.{Writes, line, joined};
+ghost use Rattle.std.specs.Prelude.{◌<◌, ◌≤◌, [], length, take, unwrap_or, IsSome, MatchResult};
+ghost use Rattle.std.specs.Io.KnownBytes.{Appends};
+ghost use Rattle.humantime_cli.specs.Writes.{Writes, line};
 
+use crate::piece::Piece;
+use std::fmt::{self, Display};
 use std::io::Write;
 
-/// The error returned if a call of `write` fails or writes no bytes.
-#[derive(Drop)]
-pub(crate) struct WriteFailed;
-
-/// Writes the texts one after the other, and then a line feed. Nothing more is written after a write that failed.
+/// Writes the text that `value` displays, and then a line feed. Nothing more is written after a write that failed.
+///
+/// `Display` promises nothing about what was written before an error. So it does not write to `to`: for each write it is asked anew for a
+/// [`Piece`] of the text, and an error of `Display` leaves `to` as it was.
 #[tactic(auto, unfolding(crate::specs::Writes::Writes))]
-pub(crate) fn write_line<W: Write>(to: &mut W, texts: &[&str]) -> Result<(), WriteFailed>
-    ensures { Writes result (W.contents to.old) (W.contents to.new) (line (joined texts.now)) }
+pub(crate) fn write_line<W: Write, D: Display + Copy>(to: &mut W, value: D) -> fmt::Result
+    requires { IsSome (D.output value) }
+    ensures { Writes result (W.contents to.old) (W.contents to.new) (line (unwrap_or (D.output value) [])) }
 {
-    for text in texts {
-        write_all(to, text.as_bytes())?;
+    let mut done: usize = 0;
+    loop {
+        let piece = Piece::of(value, done)?;
+        let bytes = piece.as_bytes();
+        if bytes.is_empty() {
+            write_some(to, b"\n")?;
+            return Ok(());
+        }
+        let count = write_some(to, bytes)?;
+        done = done.checked_add(count).ok_or(fmt::Error)?;
     }
-    write_all(to, b"\n")
 }
 
-/// Writes all the bytes. A write that failed is not retried.
-#[tactic(auto, using(crate::proofs::WritesLemmas::front_kept, crate::proofs::WritesLemmas::front_taken), unfolding(crate::specs::Writes::Writes))]
-fn write_all<W: Write>(to: &mut W, bytes: &[u8]) -> Result<(), WriteFailed>
-    ensures { Writes result (W.contents to.old) (W.contents to.new) bytes.now }
+/// Writes some of the bytes, at least one, and returns how many. A write has failed if it returns an error or writes no bytes.
+fn write_some<W: Write>(to: &mut W, bytes: &[u8]) -> Result<usize, fmt::Error>
+    ensures { MatchResult result
+        (λ count. (0 < count) × (count ≤ length bytes.now) × Appends (W.contents to.old) (W.contents to.new) (take count bytes.now))
+        (λ _. Appends (W.contents to.old) (W.contents to.new) []) }
 {
-    let mut done = 0;
-    while done < bytes.len() {
-        match to.write(&bytes[done..]) {
-            Ok(count) if count > 0 => done += count,
-            _ => return Err(WriteFailed),
-        }
+    match to.write(bytes) {
+        Ok(count) if count > 0 => Ok(count),
+        _ => Err(fmt::Error),
     }
-    Ok(())
 }

@@ -1,14 +1,15 @@
-use Rattle.std.proofs.Common.{append-nil, ap, refl}
-use Rattle.std.specs.Prelude.{Some, Ok, Err}
-use Rattle.humantime_cli.specs.Writes.{line}
+use Rattle.std.proofs.Common.{ap, refl, []}
+use Rattle.std.specs.Prelude.{Some, Err, unwrap_or}
+use Rattle.humantime.specs.Prelude.{shortest_text}
+use Rattle.humantime_cli.proofs.AnswerLemmas.{has_text}
 use Rattle.humantime_cli.proofs.EndsLemmas.{to_out, to_err}
 use Rattle.humantime_cli.proofs.command.answer_moment.Goals as goal
 
-pub returns-in-Some : goal.returns-in-Some
-returns-in-Some g c =
-    (Ok c.in-Some.printed.now, (c.in-Ok.moment, c.in-Ok.is, rw c.format_rfc3339.ensures at c.in-Some.ensures.text), rw c.and.ensures (to_out _ _ c.in-Some.printed.now _ _ _ (append-nil _) c.write_line.ensures))
+pub write_line-requires : goal.write_line-requires
+write_line-requires g c = rw c.from.ensures (has_text _ (rw c.in-Ok.is at c.requires))
+
+pub returns-in-Ok : goal.returns-in-Ok
+returns-in-Ok g c = rw c.in-Ok.is (rw c.and.ensures (to_out _ _ _ _ _ _ (ap (λ t. unwrap_or (shortest_text t) []) c.from.ensures) c.write_line.ensures))
 
 pub returns-in-Err : goal.returns-in-Err
-returns-in-Err g c =
-    let message = c.message_of_moment.result.now in
-    (Err message, (c.in-Err.error, c.in-Err.is, c.message_of_moment.ensures), rw c.and-in-Err.ensures (to_err _ _ (Some (Err message)) _ _ _ (ap line (append-nil message)) refl c.write_line-in-Err.ensures))
+returns-in-Err g c = rw c.in-Err.is (rw c.and-in-Err.ensures (to_err _ _ (Some (Err _)) _ _ _ refl refl c.write_line-in-Err.ensures))

@@ -3,7 +3,7 @@ use Rattle.std.proofs.lemmas.Grind.{common_steps}
 use Rattle.std.specs.Prelude.{None, codes}
 use Rattle.humantime.proofs.Theorems.{weak_printable, strict_printable}
 use Rattle.humantime_cli.specs.Answers.{Duration, Strict, Weak, Answers, texts}
-use Rattle.humantime_cli.proofs.AnswerLemmas.{tells_duration, tells_moment, each_read, not_two, unnamed}
+use Rattle.humantime_cli.proofs.AnswerLemmas.{each_read, tells_moment, not_two, unnamed}
 use Rattle.humantime_cli.proofs.EndsLemmas.{to_err}
 use Rattle.humantime_cli.proofs.command.answer_words.Goals as goal
 use Rattle.humantime_cli.proofs.command.answer_words.Goals.{in_default-via-then-words-lt2, in_default-via-else-words-lt2+then-words-lt3+in_default, in_default-via-else-words-lt2+else-words-lt3}
@@ -16,19 +16,18 @@ answer_moment-requires-in-weak g c = each_read _ c.parse_rfc3339_weak.ensures.va
 
 pub returns-in-duration : goal.returns-in-duration
 returns-in-duration g c =
-    (_, (_, Duration, _, grind (arith, common_steps), tells_duration _ _ c.canonical.ensures.text c.canonical.ensures.fault), c.answer_duration.ensures)
+    let told = c.answer_duration.ensures in
+    (_, (_, Duration, _, grind (arith, common_steps), told.1), told.2)
 
 pub returns-in-strict : goal.returns-in-strict
 returns-in-strict g c =
-    let ends = c.answer_moment.ensures in
-    let tells = tells_moment ends.0 (λ t. (c.parse_rfc3339.ensures.value t).0) (λ e. (c.parse_rfc3339.ensures.error e).0) ends.1 in
-    (_, (_, Strict, _, grind (arith, common_steps), tells), ends.2)
+    let tells = tells_moment _ c.parse_rfc3339.ensures.value c.parse_rfc3339.ensures.error (strict_printable _) in
+    (_, (_, Strict, _, grind (arith, common_steps), tells), c.answer_moment.ensures)
 
 pub returns-in-weak : goal.returns-in-weak
 returns-in-weak g c =
-    let ends = c.answer_moment-in-weak.ensures in
-    let tells = tells_moment ends.0 (λ t. (c.parse_rfc3339_weak.ensures.value t).0) (λ e. (c.parse_rfc3339_weak.ensures.error e).0) ends.1 in
-    (_, (_, Weak, _, grind (arith, common_steps), tells), ends.2)
+    let tells = tells_moment _ c.parse_rfc3339_weak.ensures.value c.parse_rfc3339_weak.ensures.error (weak_printable _) in
+    (_, (_, Weak, _, grind (arith, common_steps), tells), c.answer_moment-in-weak.ensures)
 
 pub returns-in_default : goal.returns-in_default
 returns-in_default g c =

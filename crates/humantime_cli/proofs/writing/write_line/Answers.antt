@@ -1,18 +1,20 @@
-use Rattle.std.proofs.Common.{ap, subst}
-use Rattle.std.proofs.lemmas.List.{take_all}
+use Rattle.std.proofs.Common.{arith, ◌≡◌, ◌+◌}
+use Rattle.std.proofs.lemmas.Grind.{common_steps}
 use Rattle.std.proofs.lemmas.Result.{MatchResult-from_err}
-use Rattle.std.specs.Io.KnownBytes.{Appends}
-use Rattle.humantime_cli.specs.Writes.{Writes, AppendsFront, joined}
-use Rattle.humantime_cli.proofs.WritesLemmas.{front_of_line, line_written}
+use Rattle.humantime_cli.specs.Writes.{Writes}
+use Rattle.humantime_cli.proofs.PieceLemmas.{front_written, more_written}
 use Rattle.humantime_cli.proofs.writing.write_line.Goals as goal
 
-pub returns-in_err-write_all : goal.returns-in_err-write_all
+pub returns-in_err-done : goal.returns-in_err-done
 unfolding Writes
-returns-in_err-write_all g c =
-    let front = subst (AppendsFront _ _) c.as_bytes.ensures.value c.in_err-write_all.ensures in
-    MatchResult-from_err _ _ _ c.from_residual.ensures.0 (λ _. (front_of_line _ _ _ c.args.texts.now c.loop-text.text-index _ c.loop-text-test.true c.loop-text.invariant front))
+returns-in_err-done g c =
+    let wrote = c.in_ok-count.ensures in
+    let more = more_written _ _ _ _ _ _ _ c.in_ok-piece.piece c.in_ok-piece.ensures c.as_bytes-bytes.ensures wrote.0 wrote.1 c.loop-piece.invariant.1 wrote.2 in
+    MatchResult-from_err _ _ _ c.from_residual-in_err-done.ensures.0 (λ _. front_written _ _ _ _ more.0 more.1)
 
-pub returns : goal.returns
-returns g c =
-    let taken = subst (Appends _ _) (ap joined (take_all c.loop-text.text-index c.args.texts.now c.loop-text-test.false)) c.loop-text.invariant in
-    line_written _ _ _ _ _ taken c.write_all-2.ensures
+pub loop-piece-preserved : goal.loop-piece-preserved
+loop-piece-preserved g c =
+    let wrote = c.in_ok-count.ensures in
+    let more = more_written _ _ _ _ _ _ _ c.in_ok-piece.piece c.in_ok-piece.ensures c.as_bytes-bytes.ensures wrote.0 wrote.1 c.loop-piece.invariant.1 wrote.2 in
+    let end : c.in_ok-done.done ≡ c.loop-piece.done + c.in_ok-count.count = grind (arith, common_steps, c.checked_add.ensures, c.ok_or.ensures, c.in_ok-done.is) in
+    rw end more

@@ -1,7 +1,12 @@
-use Rattle.std.specs.Prelude.{take}
+use Rattle.std.proofs.Common.{◌≤◌, ◌-◌, [], length, take}
+use Rattle.std.specs.Prelude.{unwrap_or}
 use Rattle.std.specs.Io.KnownBytes.{Appends}
-use Rattle.humantime_cli.specs.Writes.{joined}
 use Rattle.humantime_cli.proofs.writing.write_line.Given as goal
 
-abbrev pub invariant-loop-text : goal.invariant-loop-text
-invariant-loop-text g l = Appends (g.W.Write.contents l.initial.to) (g.W.Write.contents l.to) (joined (take l.text-index l.texts))
+abbrev pub invariant-loop-piece : goal.invariant-loop-piece
+invariant-loop-piece g l =
+    let text = unwrap_or (g.D.Display.output l.fn.value) [] in
+    (l.done ≤ length text) × Appends (g.W.Write.contents l.fn.to) (g.W.Write.contents l.to) (take l.done text)
+
+abbrev pub decreases-loop-piece : goal.decreases-loop-piece
+decreases-loop-piece g l = length (unwrap_or (g.D.Display.output l.fn.value) []) - l.done

@@ -1,0 +1,13 @@
+-- A piece of a text, from an offset on.
+use Rattle.std.specs.Prelude.{◌≡◌, ℕ, ◌+◌, ◌<◌, ◌≤◌, List, ◌++◌, length, take, drop}
+use Rattle.humantime_cli.specs.declared.piece.Piece.{Piece}
+
+-- The piece has bytes of the text from the offset on, or it has none and the text ends before the offset.
+pub record IsPiece (start : ℕ) (text : List ℕ) (piece : Piece) : Type 0 where
+  pub none : piece.len ≡ 0 → piece.skip + length text ≡ start
+  pub within : 0 < piece.len → start + piece.len ≤ length text
+  pub bytes : take piece.len piece.bytes ≡ take piece.len (drop start text)
+
+-- The bytes were added to the text.
+abbrev pub AddsText : Piece → List ℕ → Piece → Type 0
+AddsText old bytes new = (start : ℕ) (text : List ℕ) → IsPiece start text old → IsPiece start (text ++ bytes) new
