@@ -1,5 +1,6 @@
 //! The text that `Display` writes with various formats.
 
+use crate::writing::all_agree;
 use std::fmt::{self, Display, Write};
 
 /// A sink that expects one text. It compares what is written with it, stores nothing, counts the writes, and fails after a write that
@@ -36,14 +37,16 @@ pub(crate) fn is_written<D: Display + Drop>(value: D, text: &str, most: u32) -> 
 
 /// Returns whether the value is written as this text in at most `most` writes with any format, and stops at the first write that fails.
 pub(crate) fn is_always_written<T: Display>(value: &T, text: &str, most: u32) -> bool {
-    refused_requests(value) == 1
-        && is_written(format_args!("{value}"), text, most)
-        && is_written(format_args!("{value:>80}"), text, most)
-        && is_written(format_args!("{value:*<200}"), text, most)
-        && is_written(format_args!("{value:.3}"), text, most)
-        && is_written(format_args!("{value:+}"), text, most)
-        && is_written(format_args!("{value:#}"), text, most)
-        && is_written(format_args!("{value:030}"), text, most)
+    all_agree(&[
+        refused_requests(value) == 1,
+        is_written(format_args!("{value}"), text, most),
+        is_written(format_args!("{value:>80}"), text, most),
+        is_written(format_args!("{value:*<200}"), text, most),
+        is_written(format_args!("{value:.3}"), text, most),
+        is_written(format_args!("{value:+}"), text, most),
+        is_written(format_args!("{value:#}"), text, most),
+        is_written(format_args!("{value:030}"), text, most),
+    ])
 }
 
 /// Returns the number of writes that `Display` makes to a sink that always fails, or `u32::MAX` if it returns `Ok`.

@@ -1,8 +1,7 @@
-//! The library's answers to calls about durations.
+//! The library's results of calls about durations.
 
-use crate::answer::{no_answer, parts, tell, tell_equal, tell_message};
 use crate::display::is_always_written;
-use crate::judge::Judge;
+use crate::writing::{all_agree, no_result, parts, write_equal, write_message, write_result};
 use humantime::{
     Duration, DurationError, FormattedDuration, StdDuration, canonical, format_duration,
     parse_duration,
@@ -10,30 +9,28 @@ use humantime::{
 use std::fmt::{self, Formatter, Write};
 
 /// Writes the seconds and nanoseconds of the text, or its error, which leaves the buffer unchanged and does not borrow it.
-pub(crate) fn read<W: fmt::Write>(
-    f: &mut Formatter<W>,
-    judge: &mut Judge,
-    text: &str,
-) -> fmt::Result {
+pub(crate) fn parse<W: fmt::Write>(f: &mut Formatter<W>, text: &str) -> fmt::Result {
     let mut buf = [b'-'; 64];
     let wrapped = Duration::from_str(text);
     match parse_duration(text) {
         Ok(value) => {
             let printed = canonical(text, &mut buf).unwrap_or_default();
-            judge.hear(wrapped == Ok(Duration::from(value)));
-            hear_printed(judge, value, printed);
+            let is_agreed = wrapped == Ok(Duration::from(value)) && is_printed(value, printed);
             let parts = (value.as_secs(), value.subsec_nanos());
-            tell(f, judge, Ok::<_, ()>(parts))
+            write_result(f, Ok::<_, ()>(parts), is_agreed)
         }
         Err(error) => {
             let refused = canonical(text, &mut buf).err();
-            judge.hear(buf == [b'-'; 64]);
+            let is_unchanged = buf == [b'-'; 64];
             buf[0] = b'x';
-            judge.hear(refused == Some(error));
-            judge.hear(wrapped == Err(error));
-            judge.hear(points_into(error, text));
-            hear_itself(judge, error);
-            tell(f, judge, Err::<(), _>(error))
+            let is_agreed = all_agree(&[
+                is_unchanged,
+                refused == Some(error),
+                wrapped == Err(error),
+                points_into(error, text),
+                is_itself_alone(error),
+            ]);
+            write_result(f, Err::<(), _>(error), is_agreed)
         }
     }
 }
@@ -54,132 +51,115 @@ fn points_into(error: DurationError<'_>, text: &str) -> bool {
     }
 }
 
-/// Checks that the error equals its clone, and does not equal an error that differs only in its offset.
-fn hear_itself(judge: &mut Judge, error: DurationError<'_>) {
-    judge.hear(error.clone().ok() == Some(error));
-    if let DurationError::UnknownUnit {
+/// Returns whether the error equals its clone, and does not equal an error that differs only in its offset.
+fn is_itself_alone(error: DurationError<'_>) -> bool {
+    let is_itself = error.clone().ok() == Some(error);
+    let DurationError::UnknownUnit {
         start,
         end,
         unit,
         value,
     } = error
-    {
-        let later = DurationError::UnknownUnit {
-            start: start.wrapping_add(1),
-            end,
-            unit,
-            value,
-        };
-        let longer = DurationError::UnknownUnit {
-            start,
-            end: end.wrapping_add(1),
-            unit,
-            value,
-        };
-        judge.hear(error != later);
-        judge.hear(error != longer);
-    }
+    else {
+        return is_itself;
+    };
+    let later = DurationError::UnknownUnit {
+        start: start.wrapping_add(1),
+        end,
+        unit,
+        value,
+    };
+    let longer = DurationError::UnknownUnit {
+        start,
+        end: end.wrapping_add(1),
+        unit,
+        value,
+    };
+    all_agree(&[is_itself, error != later, error != longer])
 }
 
 /// Writes whether the errors of two texts are equal.
-pub(crate) fn compare_errors<W: fmt::Write>(
-    f: &mut Formatter<W>,
-    judge: &mut Judge,
-    texts: &str,
-) -> fmt::Result {
+pub(crate) fn compare_errors<W: fmt::Write>(f: &mut Formatter<W>, texts: &str) -> fmt::Result {
     let (first, second) = texts.split_once("\" \"").unwrap_or_default();
     let first = parse_duration(first).err();
-    tell_equal(f, judge, first, parse_duration(second).err())
+    write_equal(f, first, parse_duration(second).err())
 }
 
 /// Writes the value that the text is parsed to as a wrapper, and the wrapper's text; or the error.
-pub(crate) fn wrap<W: fmt::Write>(
-    f: &mut Formatter<W>,
-    judge: &mut Judge,
-    text: &str,
-) -> fmt::Result {
+pub(crate) fn wrap<W: fmt::Write>(f: &mut Formatter<W>, text: &str) -> fmt::Result {
     match Duration::from_str(text) {
         Ok(wrapper) => {
             let value = *wrapper.as_ref();
             let parts = (value.as_secs(), value.subsec_nanos());
             write!(f, "{:?}, {wrapper}", Ok::<_, ()>(parts))
         }
-        Err(error) => tell(f, judge, Err::<(), _>(error)),
+        Err(error) => write_result(f, Err::<(), _>(error), true),
     }
 }
 
 /// Writes the canonical text of the text, or its error.
-pub(crate) fn print_again<W: fmt::Write>(
-    f: &mut Formatter<W>,
-    judge: &mut Judge,
-    text: &str,
-) -> fmt::Result {
-    tell(f, judge, canonical(text, &mut [0; 64]))
+pub(crate) fn print_again<W: fmt::Write>(f: &mut Formatter<W>, text: &str) -> fmt::Result {
+    write_result(f, canonical(text, &mut [0; 64]), true)
 }
 
 /// Writes the message of the text's error.
 pub(crate) fn explain<W: fmt::Write>(
     f: &mut Formatter<W>,
-    judge: &mut Judge,
     text: &str,
     wanted: &str,
 ) -> fmt::Result {
-    tell_message(f, judge, parse_duration(text).err(), wanted, u32::MAX)
+    write_message(f, parse_duration(text).err(), wanted, u32::MAX)
 }
 
 /// Writes the messages of the two kinds of error that have an offset, with this offset.
 pub(crate) fn misplace<W: fmt::Write>(
     f: &mut Formatter<W>,
-    judge: &mut Judge,
     offset: &str,
     wanted: &str,
 ) -> fmt::Result {
     let Ok(at) = offset.parse() else {
-        return no_answer(f);
+        return no_result(f);
     };
     let invalid = DurationError::InvalidCharacter(at);
     let expected = DurationError::NumberExpected(at);
     let (first, second) = wanted.split_once(", ").unwrap_or_default();
-    judge.hear(is_always_written(&invalid, first, u32::MAX));
-    judge.hear(is_always_written(&expected, second, u32::MAX));
-    tell(f, judge, format_args!("{invalid}, {expected}"))
+    let is_agreed = is_always_written(&invalid, first, u32::MAX)
+        && is_always_written(&expected, second, u32::MAX);
+    write_result(f, format_args!("{invalid}, {expected}"), is_agreed)
 }
 
 /// Writes the printed text of a duration of these seconds and nanoseconds.
-pub(crate) fn print<W: fmt::Write>(
-    f: &mut Formatter<W>,
-    judge: &mut Judge,
-    numbers: &str,
-) -> fmt::Result {
+pub(crate) fn print<W: fmt::Write>(f: &mut Formatter<W>, numbers: &str) -> fmt::Result {
     if let Some((secs, nanos)) = parts(numbers)
         && let Some(value) = StdDuration::checked_new(secs, nanos)
     {
         let printed = format_duration(value);
-        let mut buf = [0; 64];
-        hear_printed(judge, value, printed.text(&mut buf));
-        tell(f, judge, format_args!("\"{printed}\""))
+        let is_agreed = is_printed(value, printed.text(&mut [0; 64]));
+        write_result(f, format_args!("\"{printed}\""), is_agreed)
     } else {
-        no_answer(f)
+        no_result(f)
     }
 }
 
-/// Checks that every call that prints the duration prints this text, and that the text parses to the duration.
-fn hear_printed(judge: &mut Judge, value: StdDuration, text: &str) {
+/// Returns whether every call that prints the duration prints this text, and the text is parsed to the duration.
+fn is_printed(value: StdDuration, text: &str) -> bool {
     let printed = format_duration(value);
-    judge.hear(*printed.get_ref() == value);
-    hear_shown(judge, &printed, text);
-    match printed.clone() {
-        Ok(same) => hear_shown(judge, &same, text),
-        Err(_) => judge.hear(false),
-    }
-    judge.hear(parse_duration(text) == Ok(value));
-    judge.hear(is_always_written(&printed, text, 1));
-    judge.hear(is_always_written(&Duration::from(value), text, 1));
+    let is_cloned = match printed.clone() {
+        Ok(same) => is_front(&same, text),
+        Err(_) => false,
+    };
+    all_agree(&[
+        *printed.get_ref() == value,
+        is_front(&printed, text),
+        is_cloned,
+        parse_duration(text) == Ok(value),
+        is_always_written(&printed, text, 1),
+        is_always_written(&Duration::from(value), text, 1),
+    ])
 }
 
-/// Checks that the duration is printed as this text at the front of the buffer, whatever the buffer held before.
-fn hear_shown(judge: &mut Judge, printed: &FormattedDuration, text: &str) {
+/// Returns whether the duration is printed as this text at the front of the buffer, whatever the buffer held before.
+fn is_front(printed: &FormattedDuration, text: &str) -> bool {
     let mut buf = [b'x'; 64];
-    judge.hear(printed.text(&mut buf) == text);
-    judge.hear(buf.starts_with(text.as_bytes()));
+    printed.text(&mut buf) == text && buf.starts_with(text.as_bytes())
 }

@@ -1,7 +1,5 @@
-//! The library's answers to `spans`.
+//! The library's results of `spans`.
 
-use crate::answer::tell;
-use crate::judge::Judge;
 use humantime::{Span, spans};
 use std::fmt::{self, Formatter, Write};
 
@@ -9,22 +7,13 @@ use std::fmt::{self, Formatter, Write};
 type Parts<'a> = (&'a str, Option<&'a str>, &'a str, usize, usize, u64);
 
 /// Writes the items of the text, and what three more calls return after the last one.
-pub(crate) fn split<W: fmt::Write>(
-    f: &mut Formatter<W>,
-    judge: &mut Judge,
-    text: &str,
-) -> fmt::Result {
+pub(crate) fn split<W: fmt::Write>(f: &mut Formatter<W>, text: &str) -> fmt::Result {
     let mut items = spans(text);
     for item in items.by_ref() {
         match item {
-            Ok(span) => {
-                let copy = span;
-                judge.hear(parts_of(copy) == parts_of(span));
-                tell(f, judge, Ok::<_, ()>(parts_of(span)))?;
-            }
-            Err(error) => tell(f, judge, Err::<(), _>(error))?,
+            Ok(span) => write!(f, "{:?}, ", Ok::<_, ()>(parts_of(span)))?,
+            Err(error) => write!(f, "{:?}, ", Err::<(), _>(error))?,
         }
-        f.write_str(", ")?;
     }
     let (first, second, third) = (items.next(), items.next(), items.next());
     write!(f, "{first:?}, {second:?}, {third:?}")
@@ -32,6 +21,13 @@ pub(crate) fn split<W: fmt::Write>(
 
 fn parts_of<'a>(span: Span<'a>) -> Parts<'a> {
     let (start, end, value) = (span.start(), span.end(), span.value());
-    let (number, fraction, unit) = (span.number(), span.fraction(), span.unit());
-    (number, fraction, unit, start, end, value)
+    let copy = span;
+    (
+        copy.number(),
+        copy.fraction(),
+        copy.unit(),
+        start,
+        end,
+        value,
+    )
 }

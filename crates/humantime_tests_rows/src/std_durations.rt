@@ -1,28 +1,26 @@
-//! The library's answers to the calls of `StdDuration`, and those of its wrapper.
+//! The library's results of the calls of `StdDuration`, and those of its wrapper.
 
-use crate::answer::{no_answer, parts, tell, two_parts};
-use crate::judge::Judge;
-use crate::order::{fed, hear_order};
+use crate::order::{hash_of, is_order};
+use crate::writing::{all_agree, no_result, parts, two_parts, write_result};
 use humantime::{Duration, StdDuration};
 use std::fmt::{self, Formatter, Write};
 
-/// Writes the answer to the call of this name.
-pub(crate) fn answer<W: fmt::Write>(
+/// Writes the result of the call of this name.
+pub(crate) fn write_call<W: fmt::Write>(
     f: &mut Formatter<W>,
-    judge: &mut Judge,
     name: &str,
     numbers: &str,
 ) -> fmt::Result {
     match name {
-        "ZERO" => tell_value(f, judge, StdDuration::ZERO),
-        "MAX" => tell_value(f, judge, StdDuration::MAX),
-        "default" => tell_default(f, judge),
-        "checked_new" => make(f, judge, numbers),
-        "from_secs" => from_secs(f, judge, numbers),
-        "from_micros" => from_micros(f, judge, numbers),
-        "checked_add" => add(f, judge, numbers),
-        "cmp" => compare(f, judge, numbers),
-        _ => no_answer(f),
+        "ZERO" => write_value(f, StdDuration::ZERO),
+        "MAX" => write_value(f, StdDuration::MAX),
+        "default" => write_default(f),
+        "checked_new" => make(f, numbers),
+        "from_secs" => from_secs(f, numbers),
+        "from_micros" => from_micros(f, numbers),
+        "checked_add" => add(f, numbers),
+        "cmp" => compare(f, numbers),
+        _ => no_result(f),
     }
 }
 
@@ -31,77 +29,62 @@ fn parts_of(value: StdDuration) -> (u64, u32) {
     (value.as_secs(), value.subsec_nanos())
 }
 
-/// Checks that a clone equals the value, and that its wrapper keeps it.
-fn hear_kept(judge: &mut Judge, value: StdDuration) {
+/// Returns whether a clone equals the value, and its wrapper keeps it.
+fn is_kept(value: StdDuration) -> bool {
     let wrapper = Duration::new(value);
-    judge.hear(value.clone().ok() == Some(value));
-    judge.hear(wrapper.clone().ok() == Some(wrapper));
-    judge.hear(Duration::from(value) == wrapper);
-    judge.hear(*wrapper.as_ref() == value);
-    judge.hear(StdDuration::from(wrapper) == value);
-    judge.hear(fed(&wrapper) == fed(&value));
+    all_agree(&[
+        value.clone().ok() == Some(value),
+        wrapper.clone().ok() == Some(wrapper),
+        Duration::from(value) == wrapper,
+        *wrapper.as_ref() == value,
+        StdDuration::from(wrapper) == value,
+        hash_of(&wrapper) == hash_of(&value),
+    ])
 }
 
-fn tell_value<W: fmt::Write>(
-    f: &mut Formatter<W>,
-    judge: &mut Judge,
-    value: StdDuration,
-) -> fmt::Result {
-    hear_kept(judge, value);
-    tell(f, judge, parts_of(value))
+fn write_value<W: fmt::Write>(f: &mut Formatter<W>, value: StdDuration) -> fmt::Result {
+    write_result(f, parts_of(value), is_kept(value))
 }
 
 /// Writes the duration, if there is one.
-fn tell_some<W: fmt::Write>(
-    f: &mut Formatter<W>,
-    judge: &mut Judge,
-    value: Option<StdDuration>,
-) -> fmt::Result {
+fn write_some<W: fmt::Write>(f: &mut Formatter<W>, value: Option<StdDuration>) -> fmt::Result {
     match value {
-        Some(value) => {
-            hear_kept(judge, value);
-            tell(f, judge, Some(parts_of(value)))
-        }
+        Some(value) => write_result(f, Some(parts_of(value)), is_kept(value)),
         None => f.write_str("None"),
     }
 }
 
-fn tell_default<W: fmt::Write>(f: &mut Formatter<W>, judge: &mut Judge) -> fmt::Result {
+fn write_default<W: fmt::Write>(f: &mut Formatter<W>) -> fmt::Result {
     let value: StdDuration = None.unwrap_or_default();
-    judge.hear(Duration::new(value) == None.unwrap_or_default());
-    tell(f, judge, parts_of(value))
+    let is_agreed = Duration::new(value) == None.unwrap_or_default();
+    write_result(f, parts_of(value), is_agreed)
 }
 
-/// Writes the duration of these numbers, and checks that `new` returns it if its precondition holds.
-fn make<W: fmt::Write>(f: &mut Formatter<W>, judge: &mut Judge, numbers: &str) -> fmt::Result {
+/// Writes the duration of these numbers, which `new` also returns if its precondition holds.
+fn make<W: fmt::Write>(f: &mut Formatter<W>, numbers: &str) -> fmt::Result {
     let Some((secs, nanos)) = parts(numbers) else {
-        return no_answer(f);
+        return no_result(f);
     };
     match StdDuration::checked_new(secs, nanos) {
         Some(value) => {
-            judge.hear(StdDuration::new(secs, nanos) == value);
-            hear_kept(judge, value);
-            tell(f, judge, Some(parts_of(value)))
+            let is_agreed = StdDuration::new(secs, nanos) == value && is_kept(value);
+            write_result(f, Some(parts_of(value)), is_agreed)
         }
         None => f.write_str("None"),
     }
 }
 
-fn from_secs<W: fmt::Write>(f: &mut Formatter<W>, judge: &mut Judge, number: &str) -> fmt::Result {
+fn from_secs<W: fmt::Write>(f: &mut Formatter<W>, number: &str) -> fmt::Result {
     match number.parse() {
-        Ok(secs) => tell_value(f, judge, StdDuration::from_secs(secs)),
-        Err(_) => no_answer(f),
+        Ok(secs) => write_value(f, StdDuration::from_secs(secs)),
+        Err(_) => no_result(f),
     }
 }
 
-fn from_micros<W: fmt::Write>(
-    f: &mut Formatter<W>,
-    judge: &mut Judge,
-    number: &str,
-) -> fmt::Result {
+fn from_micros<W: fmt::Write>(f: &mut Formatter<W>, number: &str) -> fmt::Result {
     match number.parse() {
-        Ok(micros) => tell_value(f, judge, StdDuration::from_micros(micros)),
-        Err(_) => no_answer(f),
+        Ok(micros) => write_value(f, StdDuration::from_micros(micros)),
+        Err(_) => no_result(f),
     }
 }
 
@@ -112,21 +95,23 @@ fn two_durations(numbers: &str) -> Option<(StdDuration, StdDuration)> {
     first.zip(StdDuration::checked_new(other_secs, other_nanos))
 }
 
-fn add<W: fmt::Write>(f: &mut Formatter<W>, judge: &mut Judge, numbers: &str) -> fmt::Result {
+fn add<W: fmt::Write>(f: &mut Formatter<W>, numbers: &str) -> fmt::Result {
     match two_durations(numbers) {
-        Some((first, second)) => tell_some(f, judge, first.checked_add(second)),
-        None => no_answer(f),
+        Some((first, second)) => write_some(f, first.checked_add(second)),
+        None => no_result(f),
     }
 }
 
 /// Writes the order of two durations, which is that of their wrappers.
-fn compare<W: fmt::Write>(f: &mut Formatter<W>, judge: &mut Judge, numbers: &str) -> fmt::Result {
+fn compare<W: fmt::Write>(f: &mut Formatter<W>, numbers: &str) -> fmt::Result {
     let Some((first, second)) = two_durations(numbers) else {
-        return no_answer(f);
+        return no_result(f);
     };
     let order = first.cmp(&second);
-    hear_kept(judge, first);
-    hear_order(judge, first, second, order);
-    hear_order(judge, Duration::new(first), Duration::new(second), order);
-    tell(f, judge, order)
+    let is_agreed = all_agree(&[
+        is_kept(first),
+        is_order(first, second, order),
+        is_order(Duration::new(first), Duration::new(second), order),
+    ]);
+    write_result(f, order, is_agreed)
 }

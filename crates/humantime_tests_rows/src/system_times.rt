@@ -1,37 +1,37 @@
-//! The library's answers to the calls of `SystemTime` and `SystemTimeError`, and those of the wrapper.
+//! The library's results of the calls of `SystemTime` and `SystemTimeError`, and those of the wrapper.
 
-use crate::answer::{no_answer, parts, tell, tell_equal, two_parts};
-use crate::judge::Judge;
-use crate::order::{fed, hear_order};
+use crate::order::{hash_of, is_order};
+use crate::writing::{all_agree, no_result, parts, two_parts, write_equal, write_result};
 use humantime::{StdDuration, SystemTime, SystemTimeError, Timestamp, UNIX_EPOCH};
 use std::fmt::{self, Formatter, Write};
 
-/// Writes the answer to the call of this name.
-pub(crate) fn answer<W: fmt::Write>(
+/// Writes the result of the call of this name.
+pub(crate) fn write_call<W: fmt::Write>(
     f: &mut Formatter<W>,
-    judge: &mut Judge,
     name: &str,
     numbers: &str,
 ) -> fmt::Result {
     match name {
-        "UNIX_EPOCH" => tell_value(f, judge, UNIX_EPOCH),
-        "from_parts" => from_parts(f, judge, numbers),
-        "checked_add" => add(f, judge, numbers),
-        "duration_since" => differ(f, judge, numbers),
-        "cmp" => compare(f, judge, numbers),
-        "eq" => compare_errors(f, judge, numbers),
-        _ => no_answer(f),
+        "UNIX_EPOCH" => write_value(f, UNIX_EPOCH),
+        "from_parts" => from_parts(f, numbers),
+        "checked_add" => add(f, numbers),
+        "duration_since" => differ(f, numbers),
+        "cmp" => compare(f, numbers),
+        "eq" => compare_errors(f, numbers),
+        _ => no_result(f),
     }
 }
 
-/// Checks that a clone equals the value, and that its wrapper keeps it.
-fn hear_kept(judge: &mut Judge, value: SystemTime) {
+/// Returns whether a clone equals the value, and its wrapper keeps it.
+fn is_kept(value: SystemTime) -> bool {
     let wrapper = Timestamp::from(value);
-    judge.hear(value.clone().ok() == Some(value));
-    judge.hear(wrapper.clone().ok() == Some(wrapper));
-    judge.hear(*wrapper.as_ref() == value);
-    judge.hear(SystemTime::from(wrapper) == value);
-    judge.hear(fed(&wrapper) == fed(&value));
+    all_agree(&[
+        value.clone().ok() == Some(value),
+        wrapper.clone().ok() == Some(wrapper),
+        *wrapper.as_ref() == value,
+        SystemTime::from(wrapper) == value,
+        hash_of(&wrapper) == hash_of(&value),
+    ])
 }
 
 /// Returns the seconds and nanoseconds.
@@ -39,50 +39,34 @@ fn parts_of(value: SystemTime) -> (i64, u32) {
     (value.unix_seconds(), value.subsec_nanos())
 }
 
-fn tell_value<W: fmt::Write>(
-    f: &mut Formatter<W>,
-    judge: &mut Judge,
-    value: SystemTime,
-) -> fmt::Result {
-    hear_kept(judge, value);
-    tell(f, judge, parts_of(value))
+fn write_value<W: fmt::Write>(f: &mut Formatter<W>, value: SystemTime) -> fmt::Result {
+    write_result(f, parts_of(value), is_kept(value))
 }
 
 /// Writes the moment, if there is one.
-fn tell_some<W: fmt::Write>(
-    f: &mut Formatter<W>,
-    judge: &mut Judge,
-    value: Option<SystemTime>,
-) -> fmt::Result {
+fn write_some<W: fmt::Write>(f: &mut Formatter<W>, value: Option<SystemTime>) -> fmt::Result {
     match value {
-        Some(value) => {
-            hear_kept(judge, value);
-            tell(f, judge, Some(parts_of(value)))
-        }
+        Some(value) => write_result(f, Some(parts_of(value)), is_kept(value)),
         None => f.write_str("None"),
     }
 }
 
-fn from_parts<W: fmt::Write>(
-    f: &mut Formatter<W>,
-    judge: &mut Judge,
-    numbers: &str,
-) -> fmt::Result {
+fn from_parts<W: fmt::Write>(f: &mut Formatter<W>, numbers: &str) -> fmt::Result {
     match parts(numbers) {
-        Some((secs, nanos)) => tell_some(f, judge, SystemTime::from_parts(secs, nanos)),
-        None => no_answer(f),
+        Some((secs, nanos)) => write_some(f, SystemTime::from_parts(secs, nanos)),
+        None => no_result(f),
     }
 }
 
 /// Writes the sum of a moment and a duration.
-fn add<W: fmt::Write>(f: &mut Formatter<W>, judge: &mut Judge, numbers: &str) -> fmt::Result {
+fn add<W: fmt::Write>(f: &mut Formatter<W>, numbers: &str) -> fmt::Result {
     if let Some(((secs, nanos), (other_secs, other_nanos))) = two_parts(numbers)
         && let Some(moment) = SystemTime::from_parts(secs, nanos)
         && let Some(by) = StdDuration::checked_new(other_secs, other_nanos)
     {
-        tell_some(f, judge, moment.checked_add(by))
+        write_some(f, moment.checked_add(by))
     } else {
-        no_answer(f)
+        no_result(f)
     }
 }
 
@@ -94,57 +78,49 @@ fn two_moments(numbers: &str) -> Option<(SystemTime, SystemTime)> {
 }
 
 /// Writes the time from the second moment to the first, which is an error if the first is earlier.
-fn differ<W: fmt::Write>(f: &mut Formatter<W>, judge: &mut Judge, numbers: &str) -> fmt::Result {
+fn differ<W: fmt::Write>(f: &mut Formatter<W>, numbers: &str) -> fmt::Result {
     let Some((first, second)) = two_moments(numbers) else {
-        return no_answer(f);
+        return no_result(f);
     };
-    let difference = match first.duration_since(second) {
+    match first.duration_since(second) {
         Ok(later) => {
-            judge.hear(second.checked_add(later) == Some(first));
-            Ok(later)
+            let is_agreed = second.checked_add(later) == Some(first);
+            let parts = (later.as_secs(), later.subsec_nanos());
+            write_result(f, Ok::<_, ()>(parts), is_agreed)
         }
         Err(error) => {
             let (copy, earlier) = (error, error.duration());
-            judge.hear(copy == error);
-            judge.hear(error.clone().ok() == Some(error));
-            judge.hear(first.checked_add(earlier) == Some(second));
-            Err(earlier)
+            let is_agreed = all_agree(&[
+                copy == error,
+                error.clone().ok() == Some(error),
+                first.checked_add(earlier) == Some(second),
+            ]);
+            let parts = (earlier.as_secs(), earlier.subsec_nanos());
+            write_result(f, Err::<(), _>(parts), is_agreed)
         }
-    };
-    let parts = match difference {
-        Ok(later) => Ok((later.as_secs(), later.subsec_nanos())),
-        Err(earlier) => Err((earlier.as_secs(), earlier.subsec_nanos())),
-    };
-    tell(f, judge, parts)
+    }
 }
 
 /// Writes the order of two moments, which is that of their wrappers.
-fn compare<W: fmt::Write>(f: &mut Formatter<W>, judge: &mut Judge, numbers: &str) -> fmt::Result {
+fn compare<W: fmt::Write>(f: &mut Formatter<W>, numbers: &str) -> fmt::Result {
     let Some((first, second)) = two_moments(numbers) else {
-        return no_answer(f);
+        return no_result(f);
     };
     let order = first.cmp(&second);
-    hear_kept(judge, first);
-    hear_order(judge, first, second, order);
-    hear_order(
-        judge,
-        Timestamp::from(first),
-        Timestamp::from(second),
-        order,
-    );
-    tell(f, judge, order)
+    let is_agreed = all_agree(&[
+        is_kept(first),
+        is_order(first, second, order),
+        is_order(Timestamp::from(first), Timestamp::from(second), order),
+    ]);
+    write_result(f, order, is_agreed)
 }
 
 /// Writes whether the errors of `duration_since` for two moments after the epoch are equal.
-fn compare_errors<W: fmt::Write>(
-    f: &mut Formatter<W>,
-    judge: &mut Judge,
-    numbers: &str,
-) -> fmt::Result {
+fn compare_errors<W: fmt::Write>(f: &mut Formatter<W>, numbers: &str) -> fmt::Result {
     let Some((first, second)) = two_moments(numbers) else {
-        return no_answer(f);
+        return no_result(f);
     };
-    tell_equal(f, judge, error_before(first), error_before(second))
+    write_equal(f, error_before(first), error_before(second))
 }
 
 fn error_before(moment: SystemTime) -> Option<SystemTimeError> {

@@ -1,8 +1,7 @@
-//! The library's answers to calls about timestamps and days.
+//! The library's results of calls about timestamps and days.
 
-use crate::answer::{no_answer, parts, tell, tell_equal, tell_message};
 use crate::display::{is_always_written, refused_requests};
-use crate::judge::Judge;
+use crate::writing::{all_agree, no_result, parts, write_equal, write_message, write_result};
 use humantime::{
     Date, Rfc3339Timestamp, SystemTime, Timestamp, TimestampError, Turns, date_of_day, day_number,
     format_rfc3339, format_rfc3339_micros, format_rfc3339_millis, format_rfc3339_nanos,
@@ -11,43 +10,30 @@ use humantime::{
 use std::fmt::{self, Formatter, Write};
 
 /// Writes the seconds and nanoseconds of the text in the strict form, or the error.
-pub(crate) fn read_strictly<W: fmt::Write>(
-    f: &mut Formatter<W>,
-    judge: &mut Judge,
-    text: &str,
-) -> fmt::Result {
-    tell(f, judge, parts_of(parse_rfc3339(text)))
+pub(crate) fn parse_strictly<W: fmt::Write>(f: &mut Formatter<W>, text: &str) -> fmt::Result {
+    write_result(f, parts_of(parse_rfc3339(text)), true)
 }
 
 /// Writes the seconds and nanoseconds of the text in the weak form, or the error.
-pub(crate) fn read_weakly<W: fmt::Write>(
-    f: &mut Formatter<W>,
-    judge: &mut Judge,
-    text: &str,
-) -> fmt::Result {
+pub(crate) fn parse_weakly<W: fmt::Write>(f: &mut Formatter<W>, text: &str) -> fmt::Result {
     let read = parse_rfc3339_weak(text);
     let wrapped: Result<Timestamp, TimestampError> = text.parse();
     let same = match wrapped {
         Ok(wrapper) => Ok(SystemTime::from(wrapper)),
         Err(error) => Err(error),
     };
-    judge.hear(same == read);
-    tell(f, judge, parts_of(read))
+    write_result(f, parts_of(read), same == read)
 }
 
 /// Writes the value that the text is parsed to as a wrapper, and the wrapper's text; or the error.
-pub(crate) fn wrap<W: fmt::Write>(
-    f: &mut Formatter<W>,
-    judge: &mut Judge,
-    text: &str,
-) -> fmt::Result {
+pub(crate) fn wrap<W: fmt::Write>(f: &mut Formatter<W>, text: &str) -> fmt::Result {
     let wrapped: Result<Timestamp, TimestampError> = text.parse();
     match wrapped {
         Ok(wrapper) => {
             let parts = parts_of(Ok(*wrapper.as_ref()));
             write!(f, "{parts:?}, {wrapper}")
         }
-        Err(error) => tell(f, judge, Err::<(), _>(error)),
+        Err(error) => write_result(f, Err::<(), _>(error), true),
     }
 }
 
@@ -62,59 +48,52 @@ fn parts_of(read: Result<SystemTime, TimestampError>) -> Result<(i64, u32), Time
 /// Writes the message of the text's error.
 pub(crate) fn explain<W: fmt::Write>(
     f: &mut Formatter<W>,
-    judge: &mut Judge,
     text: &str,
     wanted: &str,
 ) -> fmt::Result {
-    tell_message(f, judge, parse_rfc3339_weak(text).err(), wanted, 1)
+    write_message(f, parse_rfc3339_weak(text).err(), wanted, 1)
 }
 
 /// Writes whether the errors of two texts are equal.
-pub(crate) fn compare_errors<W: fmt::Write>(
-    f: &mut Formatter<W>,
-    judge: &mut Judge,
-    texts: &str,
-) -> fmt::Result {
+pub(crate) fn compare_errors<W: fmt::Write>(f: &mut Formatter<W>, texts: &str) -> fmt::Result {
     let (first, second) = texts.split_once("\" \"").unwrap_or_default();
     let first = parse_rfc3339_weak(first).err();
-    tell_equal(f, judge, first, parse_rfc3339_weak(second).err())
+    write_equal(f, first, parse_rfc3339_weak(second).err())
 }
 
 /// Writes the text of a moment of these seconds and nanoseconds, as the call of this name prints it.
-pub(crate) fn print<W: fmt::Write>(
-    f: &mut Formatter<W>,
-    judge: &mut Judge,
-    call: &str,
-    numbers: &str,
-) -> fmt::Result {
+pub(crate) fn print<W: fmt::Write>(f: &mut Formatter<W>, call: &str, numbers: &str) -> fmt::Result {
     if let Some((secs, nanos)) = parts(numbers)
         && let Some(moment) = SystemTime::from_parts(secs, nanos)
-        && let Some(printable) = called(call, moment)
+        && let Some(printable) = printer(call, moment)
     {
         let mut buf = [b'-'; 30];
-        judge.hear(*printable.get_ref() == moment);
         match printable.text(&mut buf) {
             Some(text) => {
-                judge.hear(is_always_written(&printable, text, 1));
-                if call == "shortest" {
-                    hear_shortest(judge, moment, text);
-                }
-                tell(f, judge, format_args!("Some(\"{printable}\")"))
+                let is_agreed = all_agree(&[
+                    *printable.get_ref() == moment,
+                    is_always_written(&printable, text, 1),
+                    call != "shortest" || is_shortest(moment, text),
+                ]);
+                write_result(f, format_args!("Some(\"{printable}\")"), is_agreed)
             }
             None => {
-                judge.hear(refused_requests(&printable) == 0);
-                judge.hear(refused_requests(&Timestamp::from(moment)) == 0);
-                judge.hear(buf == [b'-'; 30]);
-                tell(f, judge, None::<&str>)
+                let is_agreed = all_agree(&[
+                    *printable.get_ref() == moment,
+                    refused_requests(&printable) == 0,
+                    refused_requests(&Timestamp::from(moment)) == 0,
+                    buf == [b'-'; 30],
+                ]);
+                write_result(f, None::<&str>, is_agreed)
             }
         }
     } else {
-        no_answer(f)
+        no_result(f)
     }
 }
 
 /// Returns the printer that the call of this name returns.
-fn called(call: &str, moment: SystemTime) -> Option<Rfc3339Timestamp> {
+pub(crate) fn printer(call: &str, moment: SystemTime) -> Option<Rfc3339Timestamp> {
     match call {
         "shortest" => Some(format_rfc3339(moment)),
         "seconds" => Some(format_rfc3339_seconds(moment)),
@@ -125,51 +104,38 @@ fn called(call: &str, moment: SystemTime) -> Option<Rfc3339Timestamp> {
     }
 }
 
-/// Checks that `Display` writes the wrapper of the moment as this text, and that the text parses to the moment.
-fn hear_shortest(judge: &mut Judge, moment: SystemTime, text: &str) {
-    judge.hear(is_always_written(&Timestamp::from(moment), text, 1));
-    judge.hear(parse_rfc3339(text) == Ok(moment));
+/// Returns whether `Display` writes the wrapper of the moment as this text, and the text is parsed to the moment.
+fn is_shortest(moment: SystemTime, text: &str) -> bool {
+    is_always_written(&Timestamp::from(moment), text, 1) && parse_rfc3339(text) == Ok(moment)
 }
 
 /// Writes the day number of a date, if the date exists.
-pub(crate) fn number_day<W: fmt::Write>(
-    f: &mut Formatter<W>,
-    judge: &mut Judge,
-    numbers: &str,
-) -> fmt::Result {
+pub(crate) fn number_day<W: fmt::Write>(f: &mut Formatter<W>, numbers: &str) -> fmt::Result {
     let (year, rest) = numbers.split_once(' ').unwrap_or_default();
     let Some((year, (month, day))) = year.parse().ok().zip(parts(rest)) else {
-        return no_answer(f);
+        return no_result(f);
     };
     let number = day_number(Date { year, month, day }, &mut Turns::new());
-    tell(f, judge, number)
+    write_result(f, number, true)
 }
 
 /// Writes the date of the day with this number.
-pub(crate) fn date_day<W: fmt::Write>(
-    f: &mut Formatter<W>,
-    judge: &mut Judge,
-    number: &str,
-) -> fmt::Result {
+pub(crate) fn date_day<W: fmt::Write>(f: &mut Formatter<W>, number: &str) -> fmt::Result {
     let Ok(number) = number.parse() else {
-        return no_answer(f);
+        return no_result(f);
     };
     let date = match date_of_day(number, &mut Turns::new()) {
         Some(date) => Some((date.year, date.month, date.day)),
         None => None,
     };
-    tell(f, judge, date)
+    write_result(f, date, true)
 }
 
 /// Writes whether the dates of two days are equal.
-pub(crate) fn compare_dates<W: fmt::Write>(
-    f: &mut Formatter<W>,
-    judge: &mut Judge,
-    numbers: &str,
-) -> fmt::Result {
+pub(crate) fn compare_dates<W: fmt::Write>(f: &mut Formatter<W>, numbers: &str) -> fmt::Result {
     let Some((first, second)) = parts(numbers) else {
-        return no_answer(f);
+        return no_result(f);
     };
     let first = date_of_day(first, &mut Turns::new());
-    tell_equal(f, judge, first, date_of_day(second, &mut Turns::new()))
+    write_equal(f, first, date_of_day(second, &mut Turns::new()))
 }

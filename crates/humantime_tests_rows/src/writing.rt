@@ -1,17 +1,21 @@
-//! Writes answers, and parses numbers.
+//! Writes results, and parses numbers.
 
 use crate::display::is_always_written;
-use crate::judge::Judge;
 use std::fmt::{self, Debug, Display, Formatter, Write};
 use std::str::FromStr;
 
+/// Returns whether all of these comparisons agree.
+pub(crate) fn all_agree(comparisons: &[bool]) -> bool {
+    !comparisons.contains(&false)
+}
+
 /// Writes a value in `{:?}` form, followed by a note if another call or a format does not agree with it.
-pub(crate) fn tell<W: fmt::Write, T: Debug + Drop>(
+pub(crate) fn write_result<W: fmt::Write, T: Debug + Drop>(
     f: &mut Formatter<W>,
-    judge: &mut Judge,
     value: T,
+    is_agreed: bool,
 ) -> fmt::Result {
-    let note = if judge.hears_all_agree() {
+    let note = if is_agreed {
         ""
     } else {
         ", but not by each call and format"
@@ -19,43 +23,51 @@ pub(crate) fn tell<W: fmt::Write, T: Debug + Drop>(
     write!(f, "{value:?}{note}")
 }
 
-/// Writes that there is no answer: the name of the call or its numbers cannot be parsed, or the text has no error.
-pub(crate) fn no_answer<W: fmt::Write>(f: &mut Formatter<W>) -> fmt::Result {
-    f.write_str("no answer")
+/// Writes that there is no result: the name of the call or its numbers cannot be parsed, or the text has no error.
+pub(crate) fn no_result<W: fmt::Write>(f: &mut Formatter<W>) -> fmt::Result {
+    f.write_str("no result")
 }
 
 /// Writes the message of an error, followed by a note if some format changes it or needs more than `most` writes.
-pub(crate) fn tell_message<W: fmt::Write, E: Display + Copy>(
+pub(crate) fn write_message<W: fmt::Write, E: Display + Copy>(
     f: &mut Formatter<W>,
-    judge: &mut Judge,
     error: Option<E>,
     wanted: &str,
     most: u32,
 ) -> fmt::Result {
-    let Some(error) = error else {
-        return no_answer(f);
-    };
-    judge.hear(is_always_written(&error, wanted, most));
-    tell(f, judge, format_args!("{error}"))
+    match error {
+        Some(error) => {
+            let is_agreed = is_always_written(&error, wanted, most);
+            write_result(f, format_args!("{error}"), is_agreed)
+        }
+        None => no_result(f),
+    }
 }
 
 /// Writes whether two values are equal, followed by a note if `!=` or a copy says otherwise.
-pub(crate) fn tell_equal<W: fmt::Write, T: Eq + Copy + Drop>(
+pub(crate) fn write_equal<W: fmt::Write, T: Eq + Copy + Drop>(
     f: &mut Formatter<W>,
-    judge: &mut Judge,
     first: Option<T>,
     second: Option<T>,
 ) -> fmt::Result {
     let Some((first, second)) = first.zip(second) else {
-        return no_answer(f);
+        return no_result(f);
     };
-    let is_equal = first == second;
     let (copy, other) = (first, second);
-    judge.hear((second == first) == is_equal);
-    judge.hear((copy != other) != is_equal);
-    judge.hear(copy == first);
-    judge.hear(other == second);
-    tell(f, judge, is_equal)
+    let is_equal = first == second;
+    let is_agreed = all_agree(&[
+        (second == first) == is_equal,
+        (copy != other) != is_equal,
+        copy == first,
+        other == second,
+    ]);
+    write_result(f, is_equal, is_agreed)
+}
+
+/// Returns the text between quotes.
+pub(crate) fn unquoted(text: &str) -> &str {
+    let end = text.len().saturating_sub(1);
+    text.get(1..end).unwrap_or_default()
 }
 
 /// Parses two numbers with a space between them.
