@@ -1,11 +1,9 @@
 //! Callers that use what an error says about its text: its offsets, its unit, its fault and its message.
 
-ghost use Rattle.std.specs.Prelude.{◌≡◌, ◌++◌, ◌∷◌, false, ℕ, List, [], None, Some, Err, chars, codes, decimal, true, IfOk, string_bytes};
-ghost use Rattle.humantime.specs.Prelude.{Empty, InvalidCharacter, NumberExpected, NumberOverflow, PointsInto, UnknownUnit, duration_answer, fault_of, result_view};
-ghost use Rattle.humantime.specs.Durations.Characters.{is_digit, is_whitespace};
-ghost use Rattle.humantime.specs.Durations.Spans.{Only};
+ghost use Rattle.std.specs.Prelude.{◌≡◌, ◌++◌, ℕ, List, [], None, Some, Err, chars, codes, decimal, true, IfOk, string_bytes};
+ghost use Rattle.humantime.specs.Prelude.{Empty, InvalidCharacter, NumberExpected, NumberOverflow, PointsInto, UnknownUnit, duration_answer, fault_of};
 
-use humantime::{DurationError, StdDuration, canonical, parse_duration, spans};
+use humantime::{DurationError, canonical, parse_duration, spans};
 use std::alloc::{AllocError, Global};
 
 /// Returns `true` if an error points into its text: its unit is the slice between its offsets.
@@ -72,15 +70,6 @@ pub fn place(text: &str) -> Option<usize>
         Err(DurationError::UnknownUnit { start, .. }) => Some(start),
         _ => None,
     }
-}
-
-/// Parses a text. If the text is only whitespace, or begins with a character that is neither a digit nor whitespace, the table of first
-/// errors determines the error.
-pub fn parse_from_number(text: &str) -> Result<StdDuration, DurationError<'_>>
-    ensures empty { Only is_whitespace (chars text.now) → result_view result ≡ Err Empty }
-    ensures number { (c : ℕ) (cs : List ℕ) → chars text.now ≡ c ∷ cs → is_digit c ≡ false → is_whitespace c ≡ false → result_view result ≡ Err (NumberExpected 0) }
-{
-    parse_duration(text)
 }
 
 /// Returns the message of an error.

@@ -1,15 +1,15 @@
 //! Conclusions from the laws of timestamps, and from the definitions of moments and their texts. `callers::timestamps` has two more.
 
-ghost use Rattle.std.specs.Prelude.{◌≡◌, ◌<◌, ◌↔◌, ◌<ℤ◌, ◌≤ℤ◌, ◌∷◌, [], ℕ, ℤ, pos, Ok, Err, None, Some, true, length, unwrap_or, IsTrue, IfOk, IfSome, IsSome, SomeIff, codes, ◌++◌, string_bytes};
+ghost use Rattle.std.specs.Prelude.{◌≡◌, ◌<◌, ◌↔◌, [], ℕ, ℤ, pos, Ok, Err, None, Some, true, length, unwrap_or, IsTrue, IfOk, IfSome, IsSome, SomeIff, codes, ◌++◌, string_bytes};
 ghost use Rattle.std.specs.Ordering.{int_cmp};
 ghost use Rattle.std.specs.Fmt.{◌++?◌, DisplaysOnOk, fmt_error};
 ghost use Rattle.humantime.specs.declared.TimestampError.{TimestampError};
-ghost use Rattle.humantime.specs.Prelude.{Fields, IsWeak, IsStrict, IsWeakMoment, IsStrictMoment, weak_answer, strict_answer, weak_checks, strict_checks, first_failed, shortest_text, IsPrintable, IsPrinted, cut, nano_of};
+ghost use Rattle.humantime.specs.Prelude.{Fields, IsWeak, IsStrict, IsWeakMoment, IsStrictMoment, weak_answer, strict_answer, weak_checks, strict_checks, first_failed, shortest_text, IsPrintable, IsPrinted, cut};
 
 use humantime::laws::{one_stamp_outcome, printed_moment_reads, stamps_in_order, strict_is_weak};
 use humantime::{
-    Rfc3339Timestamp, StdDuration, SystemTime, Timestamp, TimestampError, format_rfc3339,
-    format_rfc3339_micros, format_rfc3339_nanos, parse_rfc3339, parse_rfc3339_weak,
+    Rfc3339Timestamp, StdDuration, SystemTime, Timestamp, TimestampError, format_rfc3339_micros,
+    format_rfc3339_nanos, parse_rfc3339, parse_rfc3339_weak,
 };
 use std::alloc::{AllocError, Global};
 use std::cmp::Ordering;
@@ -133,19 +133,6 @@ pub fn is_strict(text: &str) -> bool
 {
     one_stamp_outcome(text);
     parse_rfc3339(text).is_ok()
-}
-
-/// Returns the length of the shortest text of a moment: 20 for a whole second, and otherwise 30; or `None` outside 1970 to 9999.
-#[tactic(auto, using(std::proofs::lemmas::Bool::Decides::nat_tests))]
-pub fn shortest_length(moment: SystemTime) -> Option<usize>
-    ensures within { IsSome result ↔ ((pos 0 ≤ℤ moment) × (moment <ℤ pos 253_402_300_800_000_000_000)) }
-    ensures whole { nano_of moment ≡ 0 → IfSome result (λ n. n ≡ 20) }
-    ensures nanos { 0 < nano_of moment → IfSome result (λ n. n ≡ 30) }
-{
-    match format_rfc3339(moment).text(&mut [0; 30]) {
-        Some(text) => Some(text.len()),
-        None => None,
-    }
 }
 
 /// Creates a moment from seconds and nanoseconds, and returns its seconds and nanoseconds, which are the same.

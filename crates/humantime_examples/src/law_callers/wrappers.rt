@@ -51,11 +51,3 @@ pub fn is_shown_since(stamp: &Rfc3339Timestamp, from: SystemTime) -> bool
 {
     from <= *stamp.get_ref()
 }
-
-/// Returns the number of bytes that the longest timestamp takes: date and time, a point, the digits and `Z`.
-pub fn room_for(stamp: &Rfc3339Timestamp) -> usize
-    ensures { 21 + stamp.now.places ≤ result }
-{
-    let _moment = stamp.get_ref();
-    30
-}
