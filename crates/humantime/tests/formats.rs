@@ -1,32 +1,12 @@
 //! Widths, precisions and fills have no effect on what is written.
 
-use crate::support::{assert_nothing_allocated, assert_same, refuse_memory};
+use crate::support::{assert_nothing_allocated, assert_same, is_written, refuse_memory};
 use humantime::{
     Duration, DurationError, StdDuration, Timestamp, TimestampError, UNIX_EPOCH, format_duration,
     format_rfc3339,
 };
 use std::error::Error;
-use std::fmt::{self, Display, Style, Write};
-
-/// A sink that expects one text: it holds the rest of that text, until a write differs from it.
-#[derive(Drop)]
-struct Wanted<'a>(Option<&'a [u8]>);
-
-impl fmt::Write for Wanted<'_> {
-    fn write_str(&mut self, s: &str) -> fmt::Result {
-        self.0 = match self.0 {
-            Some(rest) => rest.strip_prefix(s.as_bytes()),
-            None => None,
-        };
-        Ok(())
-    }
-}
-
-/// Returns whether the value is written as this text.
-fn is_written<D: Display + Drop>(value: D, text: &str) -> bool {
-    let mut sink = Wanted(Some(text.as_bytes()));
-    sink.write(value).is_ok() && sink.0 == Some(b"".as_slice())
-}
+use std::fmt::{Display, Style};
 
 /// Returns the first width or precision below 300 with which the value is not written as this text.
 fn misprinted_width<T: Display>(value: &T, text: &str) -> Option<usize> {
