@@ -27,13 +27,14 @@
 //!     assert_eq!(rt; (*line, keeps_by_bytes(line, first, second)), (*line, *is_kept));
 //!     assert!(rt; answers_alike(line, from, to));
 //! }
+//! assert!(rt; !keeps_by_bytes("2018-02-14T00:28:07.000Z GET /", first, first));
 //! ```
 //!
-//! A line that does not begin with a timestamp in the strict form is dropped.
+//! A line that does not begin with a timestamp in the strict form is dropped. A bound without a text leaves nothing to compare.
 //!
 //! ```
 //! use humantime::{SystemTime, UNIX_EPOCH};
-//! use humantime_examples::log_lines::keeps;
+//! use humantime_examples::log_lines::{answers_alike, keeps};
 //!
 //! let end = SystemTime::from_parts(253_402_300_800, 0).expect(&rt, "a moment");
 //! for (line, is_kept) in &[
@@ -46,6 +47,7 @@
 //!     ("2018-02-14T00:28:07.123456789+00:00 GET /", true),
 //! ] {
 //!     assert_eq!(rt; (*line, keeps(line, UNIX_EPOCH, end)), (*line, *is_kept));
+//!     assert!(rt; answers_alike(line, UNIX_EPOCH, end));
 //! }
 //! ```
 

@@ -29,6 +29,11 @@
 //! let row = "1970-01-01T00:00:00.000Z  1s of 584542046090years 7months 15days 17h 5m 3s 999ms 999µs 999ns";
 //! assert_eq!(rt; text.as_str(), row);
 //!
+//! let mut text = String::new(rt.alloc());
+//! let (took, limit) = (StdDuration::from_secs(2), StdDuration::from_secs(1));
+//! assert!(rt; write_row(UNIX_EPOCH, took, limit, &mut text).is_ok());
+//! assert_eq!(rt; text.as_str(), "1970-01-01T00:00:00.000Z  2s of 1s");
+//!
 //! for second in &[-1, 253_402_300_800] {
 //!     let start = SystemTime::from_parts(*second, 0).expect(&rt, "a moment");
 //!     let mut text = String::new(rt.alloc());
