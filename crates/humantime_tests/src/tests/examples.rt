@@ -3,7 +3,6 @@
 use humantime::{DurationError, StdDuration, SystemTime, TimestampError};
 use humantime_examples::log_lines::{answers_alike, bound_text, keeps, keeps_by_bytes};
 use humantime_examples::option::{OptionError, timeout};
-use humantime_examples::report::Row;
 use humantime_examples::retry::wait_text;
 use humantime_examples::settings::{LineFault, Setting, read_line};
 
@@ -35,20 +34,6 @@ fn option_of_a_command_line(rt: HostRuntime) {
     let fault = DurationError::InvalidCharacter(2);
     let error = OptionError { text: "1h,", fault };
     assert_eq!(rt; timeout(&["--timeout=1h,"]), Err(error));
-}
-
-#[test]
-fn row_of_a_report(rt: HostRuntime) {
-    let row = Row {
-        start: SystemTime::from_parts(1_518_568_087, 133_999_999).expect(&rt, "a moment"),
-        took: StdDuration::from_micros(90_000_012),
-        limit: StdDuration::from_secs(7200),
-    };
-    let text = row.to_string(rt.alloc()).expect(&rt, "memory");
-    assert_eq!(rt;
-        text.as_str(),
-        "2018-02-14T00:28:07.133Z  1m 30s 12µs of 2h"
-    );
 }
 
 #[test]

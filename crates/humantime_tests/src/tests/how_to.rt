@@ -6,7 +6,6 @@ use humantime_examples::how_to::clock::{now, now_text};
 use humantime_examples::how_to::deadline::{deadline, time_left};
 use humantime_examples::how_to::log::{is_since, sort_lines, sorted_since};
 use humantime_examples::how_to::own_unit::working_time;
-use humantime_examples::how_to::setting::read_ttl;
 use humantime_examples::how_to::sleep::sleep_for;
 use humantime_examples::how_to::std_values::{
     from_std, from_std_duration, parse_to_std, to_std, to_std_time,
@@ -64,25 +63,6 @@ fn time_of_a_clock(rt: HostRuntime) {
     let mut buf = [0; 30];
     let text = now_text(&Stopped, &mut buf).expect(&rt, "no clock");
     assert_eq!(rt; text, Some("2018-02-14T00:28:07.133Z"));
-}
-
-#[test]
-fn lines_of_settings(rt: HostRuntime) {
-    let ttl = StdDuration::from_secs(9000);
-    assert_eq!(rt; read_ttl("ttl=2h 30m").ok(), Some(Some(ttl)));
-    assert_eq!(rt; read_ttl("retries=5").ok(), Some(None));
-    for (line, message) in [
-        (
-            "ttl=2h 30",
-            "time unit needed, for example 30sec or 30ms\nttl=2h 30\n         ^",
-        ),
-        ("ttl=5µs x", "expected number at 5\nttl=5µs x\n        ^"),
-        ("ttl=", "value was empty\nttl=\n    ^"),
-    ] {
-        let error = read_ttl(line).err().expect(&rt, line);
-        let text = error.to_string(rt.alloc()).expect(&rt, "memory");
-        assert_eq!(rt; text.as_str(), message);
-    }
 }
 
 #[test]

@@ -1,16 +1,18 @@
-//! Tests of the callers that allocate.
+//! Tests of the uses that allocate.
 
 use crate::tests::{assert_same, moment};
 use humantime::DurationError::Empty;
 use humantime::TimestampError::OutOfRange;
 use humantime::{
-    Duration, StdDuration, Timestamp, UNIX_EPOCH, format_rfc3339_millis, parse_duration,
+    Duration, StdDuration, SystemTime, Timestamp, UNIX_EPOCH, format_rfc3339_millis, parse_duration,
 };
 use humantime_examples::callers::errors::{deadline, message};
 use humantime_examples::callers::timestamps::{age_line, stamp_string};
+use humantime_examples::how_to::setting::read_ttl;
 use humantime_examples::law_callers::durations::{duration_string, is_same_string};
 use humantime_examples::law_callers::formats::{errors_row, limit_line, limits_row, stamps_row};
 use humantime_examples::law_callers::timestamps::write_line;
+use humantime_examples::report::Row;
 use std::alloc::AllocError;
 use std::fmt;
 
@@ -110,4 +112,37 @@ fn strings_of_durations_are_compared(rt: HostRuntime) -> Result<(), AllocError> 
     assert!(rt; is_same_string(alloc, minute, minute)?);
     assert!(rt; !is_same_string(alloc, minute, longer)?);
     Ok(())
+}
+
+#[test]
+fn row_of_a_report(rt: HostRuntime) {
+    let row = Row {
+        start: SystemTime::from_parts(1_518_568_087, 133_999_999).expect(&rt, "a moment"),
+        took: StdDuration::from_micros(90_000_012),
+        limit: StdDuration::from_secs(7200),
+    };
+    let text = row.to_string(rt.alloc()).expect(&rt, "memory");
+    assert_eq!(rt;
+        text.as_str(),
+        "2018-02-14T00:28:07.133Z  1m 30s 12µs of 2h"
+    );
+}
+
+#[test]
+fn lines_of_settings(rt: HostRuntime) {
+    let ttl = StdDuration::from_secs(9000);
+    assert_eq!(rt; read_ttl("ttl=2h 30m").ok(), Some(Some(ttl)));
+    assert_eq!(rt; read_ttl("retries=5").ok(), Some(None));
+    for (line, message) in [
+        (
+            "ttl=2h 30",
+            "time unit needed, for example 30sec or 30ms\nttl=2h 30\n         ^",
+        ),
+        ("ttl=5µs x", "expected number at 5\nttl=5µs x\n        ^"),
+        ("ttl=", "value was empty\nttl=\n    ^"),
+    ] {
+        let error = read_ttl(line).err().expect(&rt, line);
+        let text = error.to_string(rt.alloc()).expect(&rt, "memory");
+        assert_eq!(rt; text.as_str(), message);
+    }
 }
