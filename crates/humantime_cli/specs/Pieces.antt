@@ -2,7 +2,7 @@
 use Rattle.std.specs.Prelude.{◌≡◌, ℕ, ◌+◌, ◌<◌, ◌≤◌, List, ◌++◌, length, take, drop}
 use Rattle.humantime_cli.specs.declared.piece.Piece.{Piece}
 
--- The piece has bytes of the text from the offset on, or it has none and the text ends before the offset.
+-- The piece has bytes of the text from the offset on, or it has none and the text ends at the offset or before.
 pub record IsPiece (start : ℕ) (text : List ℕ) (piece : Piece) : Type 0 where
   pub none : piece.len ≡ 0 → piece.skip + length text ≡ start
   pub within : 0 < piece.len → start + piece.len ≤ length text

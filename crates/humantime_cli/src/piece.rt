@@ -7,10 +7,12 @@ use std::fmt::{self, Display, Write as _};
 /// The number of bytes of a piece at most.
 const PIECE_LEN: usize = 256;
 
-/// Some bytes of a text from an offset on, and none only if the text ends before it. `fmt::Write` adds to the text.
+/// Some bytes of a text from an offset on, at least one if the text has any there.
+///
+/// `fmt::Write` adds to the text. Kept are the first bytes that it adds behind the offset, as many as fit.
 #[derive(Drop)]
 pub(crate) struct Piece {
-    /// The number of bytes that the text lacks to reach the offset.
+    /// As long as nothing is kept, the number of bytes that the text lacks to reach the offset.
     skip: usize,
     bytes: [u8; PIECE_LEN],
     len: usize,

@@ -10,8 +10,8 @@ use std::io::Write;
 
 /// Writes the text that `value` displays, and then a line feed. Nothing more is written after a write that failed.
 ///
-/// `Display` promises nothing about what was written before an error. So it does not write to `to`: for each write it is asked anew for a
-/// [`Piece`] of the text, and an error of `Display` leaves `to` as it was.
+/// The contract of `Display` says nothing about what was written before an error. So `value` is not displayed to `to`, but for each write
+/// anew to a [`Piece`], which begins where the write before ended.
 #[tactic(auto, unfolding(crate::specs::Writes::Writes))]
 pub(crate) fn write_line<W: Write, D: Display + Copy>(to: &mut W, value: D) -> fmt::Result
     requires { IsSome (D.output value) }
