@@ -6,7 +6,7 @@ use Rattle.humantime_cli.proofs.command.answer_moment.Goals as goal
 
 pub returns-in-Some : goal.returns-in-Some
 returns-in-Some g c =
-    (Ok c.in-Some.printed.now, (c.in-Ok.moment, c.in-Ok.is, rw c.format_rfc3339.ensures at c.in-Some.ensures.text), rw c.and.ensures (to_out _ _ c.in-Some.printed.now _ _ _ (append-nil _) c.write_line.ensures))
+    (Ok c.in-Some.printed.now, (c.in-Ok.moment, c.in-Ok.is, rw (c.format_rfc3339.ensures.moment, c.format_rfc3339.ensures.places) at c.in-Some.ensures.text), rw c.and.ensures (to_out _ _ c.in-Some.printed.now _ _ _ (append-nil _) c.write_line.ensures))
 
 pub returns-in-Err : goal.returns-in-Err
 returns-in-Err g c =

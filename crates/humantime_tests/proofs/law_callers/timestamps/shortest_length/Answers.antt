@@ -22,10 +22,10 @@ not_zero n some = grind (arith, nat_tests)
 
 pub returns-in-Some-clause-whole : goal.returns-in-Some-clause-whole
 returns-in-Some-clause-whole c whole =
-    let long = printed_length _ _ _ (rw c.format_rfc3339.ensures at c.in-Some.ensures.text) in
+    let long = printed_length _ _ _ (rw (c.format_rfc3339.ensures.moment, c.format_rfc3339.ensures.places) at c.in-Some.ensures.text) in
     rw whole at long
 
 pub returns-in-Some-clause-nanos : goal.returns-in-Some-clause-nanos
 returns-in-Some-clause-nanos c some =
-    let long = printed_length _ _ _ (rw c.format_rfc3339.ensures at c.in-Some.ensures.text) in
+    let long = printed_length _ _ _ (rw (c.format_rfc3339.ensures.moment, c.format_rfc3339.ensures.places) at c.in-Some.ensures.text) in
     rw (not_zero _ some) at long
