@@ -215,14 +215,14 @@ impl From<Timestamp> for SystemTime {
 ///
 /// For a moment outside 1970 to 9999 it returns `fmt::Error` and writes nothing.
 impl fmt::Display for Timestamp {
-    ghost use Rattle.humantime.specs.Prelude.{DisplaysMoment, places_of, shortest_text};
+    ghost use Rattle.humantime.specs.Prelude.{DisplaysMoment, shortest_text};
 
     ghost output = { shortest_text };
 
     ghost styled_output = { λ t _. shortest_text t };
 
     fn fmt<W: fmt::Write>(&self, f: &mut fmt::Formatter<W>) -> fmt::Result
-        ensures { DisplaysMoment W.write_str_gives f.old result (record { moment = self.now; places = places_of self.now }) f.new }
+        ensures { DisplaysMoment W.write_str_gives f.old result self.now (shortest_text self.now) f.new }
     {
         format_rfc3339(self.0).fmt(f)
     }

@@ -1,5 +1,6 @@
 -- What the parsers return for a text, and what the printers write for a moment, each as one function.
-use Rattle.std.specs.Prelude.{◌≡◌, ◌↔◌, ℕ, zero, suc, ◌+◌, ◌*◌, ◌/◌, ◌%◌, ◌^◌, ℤ, pos, negsuc, nat_lt, ◌==◌, if◌then◌else◌, List, [], ◌∷◌, take, drop, Option, Some, None, Result, Ok, Err, IsOk}
+use Rattle.std.proofs.Common.{lit≤}
+use Rattle.std.specs.Prelude.{◌≡◌, ◌↔◌, ◌≤◌, ℕ, zero, suc, ◌+◌, ◌*◌, ◌/◌, ◌%◌, ◌^◌, ℤ, pos, negsuc, nat_lt, ◌==◌, if◌then◌else◌, List, [], ◌∷◌, take, drop, Option, Some, None, Result, Ok, Err, IsOk}
 use Rattle.humantime.specs.declared.calendar.Date.{Date}
 use Rattle.humantime.specs.declared.date.error.TimestampError.{TimestampError}
 use Rattle.humantime.specs.declared.date.print.Precision.{Precision}
@@ -46,6 +47,13 @@ places Millis = 3
 places Micros = 6
 places Nanos = 9
 
+-- No precision has more than nine.
+pub places_few : (p : Precision) → places p ≤ 9
+places_few Seconds = lit≤ tt
+places_few Millis = lit≤ tt
+places_few Micros = lit≤ tt
+places_few Nanos = lit≤ tt
+
 -- The precision with `k` fraction digits.
 abbrev pub precision_of : ℕ → Precision
 precision_of k = if k == 0 then Seconds else (if k == 3 then Millis else (if k == 6 then Micros else Nanos))
@@ -88,10 +96,10 @@ shortest_text t = moment_text t (places_of t)
 
 -- What `Display` of a timestamp does. If it returns `Ok`, the moment is in 1970 to 9999, and its text has been written, whatever the
 -- options of the formatter are. For a moment outside these years it returns `fmt::Error` and leaves the formatter unchanged.
-pub record DisplaysMoment {W : Type 0} (gives : W → List ℕ → W → Type 0) (old : Formatter W) (result : Result (Unit {0}) Error) (x : MomentToPrint)
-    (new : Formatter W) : Type 0 where
-  pub writes : DisplaysOnOk gives old result (printed_text x) new
-  pub styled : DisplaysStyledOnOk gives old result (printed_text x) new
-  pub within : IsOk result → IsPrintable x.moment
-  pub refused : ¬ (IsPrintable x.moment) → result ≡ Err fmt_error
-  pub untouched : ¬ (IsPrintable x.moment) → new ≡ old
+pub record DisplaysMoment {W : Type 0} (gives : W → List ℕ → W → Type 0) (old : Formatter W) (result : Result (Unit {0}) Error) (moment : ℤ)
+    (text : Option (List ℕ)) (new : Formatter W) : Type 0 where
+  pub writes : DisplaysOnOk gives old result text new
+  pub styled : DisplaysStyledOnOk gives old result text new
+  pub within : IsOk result → IsPrintable moment
+  pub refused : ¬ (IsPrintable moment) → result ≡ Err fmt_error
+  pub untouched : ¬ (IsPrintable moment) → new ≡ old

@@ -4,10 +4,11 @@ use Rattle.std.specs.Int.{int_rem_euclid}
 use Rattle.humantime.specs.Values.{nanos_per_second, seconds_per_day, nano_of}
 use Rattle.humantime.specs.Timestamps.Fields.{Letter_T, Letter_Z, Fields, IsWeak, moment_of}
 
--- A moment to print, in nanoseconds, and the number of digits of its fraction.
+-- A moment to print, in nanoseconds, and the number of digits of its fraction, at most nine.
 pub record MomentToPrint : Type 0 where
   pub moment : ℤ
   pub places : ℕ
+  pub few : places ≤ 9
 
 -- Returns the default number of digits: none for a whole second, and nine otherwise.
 abbrev pub places_of : ℤ → ℕ

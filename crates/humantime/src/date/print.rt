@@ -51,12 +51,12 @@ pub struct Rfc3339Timestamp {
 impl Model for Rfc3339Timestamp {
     ghost use Rattle.humantime.specs.Values.{nano_of};
     ghost use Rattle.humantime.specs.Timestamps.Printed.{MomentToPrint};
-    ghost use Rattle.humantime.specs.Answers.Timestamps.{places, precision_of};
+    ghost use Rattle.humantime.specs.Answers.Timestamps.{places, places_few, precision_of};
     ghost use Rattle.std.proofs.Common.{arith};
 
     ghost Value = { MomentToPrint };
 
-    ghost view = { λ x. record { moment = x.moment; places = places x.precision } };
+    ghost view = { λ x. record { moment = x.moment; places = places x.precision; few = places_few x.precision } };
 
     ghost inverse = { λ x. record { moment = x.moment; precision = precision_of x.places } };
 
@@ -80,7 +80,8 @@ impl Model for Rfc3339Timestamp {
 /// assert_eq!(rt; format_rfc3339(moment).text(&mut buf), Some("2018-02-13T23:08:32.456123999Z"));
 /// ```
 pub fn format_rfc3339(moment: SystemTime) -> Rfc3339Timestamp
-    ensures { result ≡ record { moment = moment; places = places_of moment } }
+    ensures moment { result.moment ≡ moment }
+    ensures places { result.places ≡ places_of moment }
 {
     let precision = if moment.subsec_nanos() == 0 {
         Precision::Seconds
@@ -105,7 +106,8 @@ pub fn format_rfc3339(moment: SystemTime) -> Rfc3339Timestamp
 /// assert_eq!(rt; format_rfc3339_seconds(moment).text(&mut buf), Some("2018-02-13T23:08:32Z"));
 /// ```
 pub fn format_rfc3339_seconds(moment: SystemTime) -> Rfc3339Timestamp
-    ensures { result ≡ record { moment = moment; places = 0 } }
+    ensures moment { result.moment ≡ moment }
+    ensures places { result.places ≡ 0 }
 {
     Rfc3339Timestamp {
         moment,
@@ -128,7 +130,8 @@ pub fn format_rfc3339_seconds(moment: SystemTime) -> Rfc3339Timestamp
 /// assert_eq!(rt; format_rfc3339_millis(moment).text(&mut buf), Some("2018-02-13T23:08:32.456Z"));
 /// ```
 pub fn format_rfc3339_millis(moment: SystemTime) -> Rfc3339Timestamp
-    ensures { result ≡ record { moment = moment; places = 3 } }
+    ensures moment { result.moment ≡ moment }
+    ensures places { result.places ≡ 3 }
 {
     Rfc3339Timestamp {
         moment,
@@ -151,7 +154,8 @@ pub fn format_rfc3339_millis(moment: SystemTime) -> Rfc3339Timestamp
 /// assert_eq!(rt; format_rfc3339_micros(moment).text(&mut buf), Some("2018-02-13T23:08:32.456123Z"));
 /// ```
 pub fn format_rfc3339_micros(moment: SystemTime) -> Rfc3339Timestamp
-    ensures { result ≡ record { moment = moment; places = 6 } }
+    ensures moment { result.moment ≡ moment }
+    ensures places { result.places ≡ 6 }
 {
     Rfc3339Timestamp {
         moment,
@@ -174,7 +178,8 @@ pub fn format_rfc3339_micros(moment: SystemTime) -> Rfc3339Timestamp
 /// assert_eq!(rt; format_rfc3339_nanos(moment).text(&mut buf), Some("2018-02-13T23:08:32.456123999Z"));
 /// ```
 pub fn format_rfc3339_nanos(moment: SystemTime) -> Rfc3339Timestamp
-    ensures { result ≡ record { moment = moment; places = 9 } }
+    ensures moment { result.moment ≡ moment }
+    ensures places { result.places ≡ 9 }
 {
     Rfc3339Timestamp {
         moment,
@@ -194,8 +199,7 @@ impl Rfc3339Timestamp {
     /// assert_eq!(rt; *format_rfc3339_seconds(moment).get_ref(), moment);
     /// ```
     pub fn get_ref(&self) -> &SystemTime
-        ensures moment { result.now ≡ self.now.moment }
-        ensures places { self.now.places ≤ 9 }
+        ensures { result.now ≡ self.now.moment }
     {
         &self.moment
     }
@@ -276,7 +280,7 @@ impl fmt::Display for Rfc3339Timestamp {
     ghost styled_output = { λ x _. printed_text x };
 
     fn fmt<W: fmt::Write>(&self, f: &mut fmt::Formatter<W>) -> fmt::Result
-        ensures { DisplaysMoment W.write_str_gives f.old result self.now f.new }
+        ensures { DisplaysMoment W.write_str_gives f.old result self.now.moment (printed_text self.now) f.new }
     {
         let mut buf = [0; 30];
         let Some(text) = self.text(&mut buf) else {

@@ -75,7 +75,7 @@ pub fn one_stamp_outcome(s: &str)
 pub fn printed_moment_reads(x: &Rfc3339Timestamp)
     ensures { PrintedMoment x.now.moment x.now.places }
 {
-    let _ = x.get_ref();
+    let _ = x;
 }
 
 /// States that printed texts with equally many digits are ordered, by their bytes, as their moments are.

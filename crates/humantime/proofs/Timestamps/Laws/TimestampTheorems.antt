@@ -68,9 +68,10 @@ printed_moment_reads t k small = record {
 }
 
 -- What `Display` wrote for a timestamp that is known.
-pub displayed_as : (x : MomentToPrint) (t : ℤ) (k : ℕ) (bytes : List ℕ) → x ≡ record { moment = t; places = k } → k ≤ 9 → IsPrintable t
+pub displayed_as : (x : MomentToPrint) (t : ℤ) (k : ℕ) (bytes : List ℕ) → x.moment ≡ t → x.places ≡ k → IsPrintable t
     → IfSome (printed_text x) (λ text. bytes ≡ text) → IsPrinted t k bytes
-displayed_as x t k bytes known small within written = grind (arith, (printed_some t k small within))
+displayed_as x t k bytes same digits within written =
+    rw (← same, ← digits) (grind (arith, (printed_some x.moment x.places x.few (rw same within))))
 
 -- Rounding down twice is rounding down once.
 cut_again : (t : ℤ) (k n : ℕ) → pos n ≡ cut t k → cut (pos n) k ≡ pos n

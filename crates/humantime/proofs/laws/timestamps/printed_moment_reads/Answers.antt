@@ -2,4 +2,4 @@ use Rattle.humantime.proofs.Theorems as theorem
 use Rattle.humantime.proofs.laws.timestamps.printed_moment_reads.Goals as goal
 
 pub returns : goal.returns
-returns c = theorem.printed_moment_reads c.args.x.now.moment c.args.x.now.places c.get_ref.ensures.places
+returns c = theorem.printed_moment_reads c.args.x.now.moment c.args.x.now.places c.args.x.now.few

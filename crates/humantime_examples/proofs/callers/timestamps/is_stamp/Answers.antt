@@ -17,7 +17,7 @@ is_again text stamp t read printable printed =
 pub returns-in-Some : goal.returns-in-Some
 returns-in-Some c =
     let printable = strict_printable _ c.in-Ok.moment ((c.in-Ok.ensures.value _).0 refl) in
-    let printed = rw c.format_rfc3339_millis.ensures at c.in-Some.ensures.text in
+    let printed = rw (c.format_rfc3339_millis.ensures.moment, c.format_rfc3339_millis.ensures.places) at c.in-Some.ensures.text in
     let again = is_again _ _ _ (sym c.in-Ok.ensures.answer) printable printed in
     let same = bytes_eq-Decides c.in-Some.stamp.now c.args.text.now in
     rw c.eq.ensures ((λ is. again.0 (same.0 is)), (λ is. same.1 (again.1 is)))
@@ -25,7 +25,7 @@ returns-in-Some c =
 pub returns-in-None : goal.returns-in-None
 returns-in-None c =
     let printable = strict_printable _ c.in-Ok.moment ((c.in-Ok.ensures.value _).0 refl) in
-    let within = (rw c.format_rfc3339_millis.ensures at c.in-None.ensures.within).1 printable in
+    let within = (rw c.format_rfc3339_millis.ensures.moment at c.in-None.ensures.within).1 printable in
     grind (arith, within)
 
 pub returns-in-Err : goal.returns-in-Err

@@ -1,10 +1,9 @@
-use Rattle.std.proofs.Common.{◌≤◌, ap, arith}
+use Rattle.std.proofs.Common.{ap}
 use Rattle.humantime.specs.Timestamps.Printed.{MomentToPrint}
 use Rattle.humantime.proofs.Timestamps.Printing.Printed.{shown_printed}
 use Rattle.humantime.proofs.date.print.Rfc3339Timestamp.write.Goals as goal
 
 pub returns-clause-text : goal.returns-clause-text
 returns-clause-text c =
-    let few : c.args.self.now.places ≤ 9 = rw (← c.self.view_is) (grind arith) in
     let is = rw (ap (λ (x : MomentToPrint). x.moment) c.self.view_is) at c.in_ok-date.ensures.value in
-    rw c.write_parts.ensures.text (shown_printed _ _ _ _ few is)
+    rw c.write_parts.ensures.text (shown_printed _ _ _ _ c.args.self.now.few is)
