@@ -49,6 +49,7 @@ impl<'a> Span<'a> {
     /// let span = spans("1 2 .5h").next().ok_or("no span")??;
     /// assert_eq!(rt; span.number(), "1 2");
     /// ```
+    #[tactic(auto, using(crate::proofs::Durations::Bytes::Trimming::end_trimmed))]
     pub fn number(&self) -> &'a str
         ensures { chars result.now ≡ (span_view self.now).number }
     {
