@@ -1,6 +1,5 @@
 -- What the parsers return for a text, and what the printers write for a moment, each as one function.
-use Rattle.std.proofs.Common.{lit≤}
-use Rattle.std.specs.Prelude.{◌≡◌, ◌↔◌, ◌≤◌, ℕ, zero, suc, ◌+◌, ◌*◌, ◌/◌, ◌%◌, ◌^◌, ℤ, pos, negsuc, nat_lt, ◌==◌, if◌then◌else◌, List, [], ◌∷◌, take, drop, Option, Some, None, Result, Ok, Err, IsOk}
+use Rattle.std.specs.Prelude.{◌≡◌, ◌↔◌, ℕ, zero, suc, ◌+◌, ◌*◌, ◌/◌, ◌%◌, ◌^◌, ℤ, pos, negsuc, nat_lt, ◌==◌, if◌then◌else◌, List, [], ◌∷◌, take, drop, Option, Some, None, Result, Ok, Err, IsOk}
 use Rattle.humantime.specs.declared.calendar.Date.{Date}
 use Rattle.humantime.specs.declared.date.error.TimestampError.{TimestampError}
 use Rattle.humantime.specs.declared.date.print.Precision.{Precision}
@@ -46,13 +45,6 @@ places Seconds = 0
 places Millis = 3
 places Micros = 6
 places Nanos = 9
-
--- No precision has more than nine.
-pub places_few : (p : Precision) → places p ≤ 9
-places_few Seconds = lit≤ tt
-places_few Millis = lit≤ tt
-places_few Micros = lit≤ tt
-places_few Nanos = lit≤ tt
 
 -- The precision with `k` fraction digits.
 abbrev pub precision_of : ℕ → Precision

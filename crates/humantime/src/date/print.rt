@@ -51,12 +51,12 @@ pub struct Rfc3339Timestamp {
 impl Model for Rfc3339Timestamp {
     ghost use Rattle.humantime.specs.Values.{nano_of};
     ghost use Rattle.humantime.specs.Timestamps.Printed.{MomentToPrint};
-    ghost use Rattle.humantime.specs.Answers.Timestamps.{places, places_few, precision_of};
+    ghost use Rattle.humantime.specs.Answers.Timestamps.{places, precision_of};
     ghost use Rattle.std.proofs.Common.{arith};
 
     ghost Value = { MomentToPrint };
 
-    ghost view = { λ x. record { moment = x.moment; places = places x.precision; few = places_few x.precision } };
+    ghost view = { λ x. record { moment = x.moment; places = places x.precision; few = Prim.grind arith } };
 
     ghost inverse = { λ x. record { moment = x.moment; precision = precision_of x.places } };
 
