@@ -45,11 +45,11 @@ fn main(rt: HostRuntime) -> io::Result<ExitCode> {
                 holds = holds.saturating_add(1);
             }
             (false, true) => {
-                println!(rt; "{line}; the answer is {row}")?;
+                println!(rt; "{line}; the result is {row}")?;
                 found = found.saturating_add(1);
             }
             _ => {
-                println!(rt; "{line}, but the answer is {row}")?;
+                println!(rt; "{line}, but the result is {row}")?;
                 differs = differs.saturating_add(1);
             }
         }

@@ -52,11 +52,16 @@ impl Model for Rfc3339Timestamp {
     ghost use Rattle.humantime.specs.Values.{nano_of};
     ghost use Rattle.humantime.specs.Timestamps.Printed.{MomentToPrint};
     ghost use Rattle.humantime.specs.Answers.Timestamps.{places, precision_of};
-    ghost use Rattle.std.proofs.Common.{arith};
+    ghost use Rattle.humantime.specs.declared.date.print.Precision.TheVariants.{Seconds, Millis, Micros, Nanos};
+    ghost use Rattle.std.proofs.Common.{arith, lit≤, ◌≤◌};
 
     ghost Value = { MomentToPrint };
 
-    ghost view = { λ x. record { moment = x.moment; places = places x.precision; few = Prim.grind arith } };
+    ghost view = { λ x. record {
+      moment = x.moment;
+      places = places x.precision;
+      few = elim x.precision as (λ p. places p ≤ 9) [ Seconds ↦ lit≤ tt | Millis ↦ lit≤ tt | Micros ↦ lit≤ tt | Nanos ↦ lit≤ tt ];
+    } };
 
     ghost inverse = { λ x. record { moment = x.moment; precision = precision_of x.places } };
 
