@@ -5,6 +5,7 @@ and built as a static library with one C function for each call (src/exports.rt.
 """
 import argparse
 import contextlib
+import hashlib
 import os
 import re
 import shutil
@@ -67,17 +68,20 @@ def repository(work):
             shutil.rmtree(crates / EXPORTS / "proofs" / function, ignore_errors=True)
         main.unlink()
         shutil.copy(HERE / "src" / "exports.rt.txt", main.with_name("lib.rt"))
-        Path(top, "crates.txt").write_text(f"humantime: itoa\n{EXPORTS} staticlib: humantime itoa\n")
+        Path(top, "crates.txt").write_text(f"humantime: itoa\n{EXPORTS} staticlib: humantime\n")
         run(["git", "init", "-q", top], ROOT)
         yield Path(top)
 
 
 def library(top, backend):
     """Returns the folder of the static library, the names that it links to, and the processor that it is built for."""
-    crate, folder = top / "crates" / EXPORTS, top / backend
+    crate = top / "crates" / EXPORTS
     said = run(["rt", "lib", "--backend", backend], crate)
+    made = crate / "out" / f"lib{EXPORTS}.a"
+    # Named for its content, since cargo links again only if its flags change.
+    folder = top / f"{backend}-{hashlib.sha256(made.read_bytes()).hexdigest()[:16]}"
     folder.mkdir(exist_ok=True)
-    made = shutil.copy(crate / "out" / f"lib{EXPORTS}.a", folder)
+    shutil.copy(made, folder)
     names = {line.split()[-1] for line in run(["nm", "-u", made], ROOT).splitlines() if " U " in line}
     cpu = re.search(r"cpu=(\S+)", said)
     return folder, sorted(names), cpu[1] if cpu else "?"

@@ -1,9 +1,9 @@
-pub mod Answers
 pub mod Buffers
 pub mod Calendar
 pub mod Durations
 pub mod Laws
 pub mod Prelude
+pub mod Results
 pub mod Steps
 pub mod Texts
 pub mod Timestamps

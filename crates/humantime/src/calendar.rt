@@ -3,8 +3,8 @@
 ghost use Rattle.std.specs.Prelude.{◌≡◌, ◌+◌, ◌-◌, ◌<◌, ◌≤◌, ◌↔◌, IsSome, IfSome, MatchOption};
 ghost use Rattle.std.specs.Int.{IsInRange};
 ghost use Rattle.humantime.specs.Calendar.{days_in_year, days_in_month, days_of_years, days_of_months, IsDate, day_of};
-ghost use Rattle.humantime.specs.Answers.Dates.{march_days, march_months};
-ghost use Rattle.humantime.specs.Answers.Dates as Dates;
+ghost use Rattle.humantime.specs.Results.Dates.{march_days, march_months};
+ghost use Rattle.humantime.specs.Results.Dates as Dates;
 
 use std::marker::Model;
 use std::mem;

@@ -115,7 +115,7 @@ impl From<Duration> for StdDuration {
 /// Writes what `Display` writes of the value that [`format_duration`] returns.
 impl fmt::Display for Duration {
     ghost use Rattle.std.specs.Prelude.{Some};
-    ghost use Rattle.humantime.specs.Answers.Durations.{duration_text};
+    ghost use Rattle.humantime.specs.Results.Durations.{duration_text};
 
     ghost output = { λ d. Some (duration_text d) };
 
@@ -181,7 +181,7 @@ impl Timestamp {
 /// assert_eq!(rt; "1970-02-30T00:00:00Z".parse::<Timestamp>(), Err(TimestampError::OutOfRange));
 /// ```
 impl FromStr for Timestamp {
-    ghost use Rattle.humantime.specs.Answers.Timestamps.{IsWeakAnswer};
+    ghost use Rattle.humantime.specs.Results.Timestamps.{IsWeakAnswer};
 
     type Err = TimestampError;
 

@@ -2,9 +2,9 @@
 use Rattle.std.specs.Prelude.{◌≡◌, ℕ, ◌+◌, ◌<◌, ◌≤◌, List, ◌++◌, length, take, drop}
 use Rattle.humantime_cli.specs.declared.piece.Piece.{Piece}
 
--- The piece has bytes of the text from the offset on, or it has none and the text ends at the offset or before.
+-- The piece has the bytes of the text from the offset on, or 256 of them. If it has none, `skip` is what the text lacks to reach the offset.
 pub record IsPiece (start : ℕ) (text : List ℕ) (piece : Piece) : Type 0 where
-  pub none : piece.len ≡ 0 → piece.skip + length text ≡ start
+  pub all : piece.len < 256 → piece.skip + length text ≡ start + piece.len
   pub within : 0 < piece.len → start + piece.len ≤ length text
   pub bytes : take piece.len piece.bytes ≡ take piece.len (drop start text)
 

@@ -1,4 +1,4 @@
-//! [`Piece`]: some bytes of the text that a value displays, from an offset on.
+//! [`Piece`]: the bytes of the text that a value displays, from an offset on, as many as fit.
 
 ghost use Rattle.std.specs.Prelude.{◌≤◌};
 
@@ -7,12 +7,12 @@ use std::fmt::{self, Display, Write as _};
 /// The number of bytes of a piece at most.
 const PIECE_LEN: usize = 256;
 
-/// Some bytes of a text from an offset on, at least one if the text has any there.
+/// The bytes of a text from an offset on, as many as fit.
 ///
-/// `fmt::Write` adds to the text. Kept are the first bytes that it adds behind the offset, as many as fit.
+/// `fmt::Write` adds to the text.
 #[derive(Drop)]
 pub(crate) struct Piece {
-    /// As long as nothing is kept, the number of bytes that the text lacks to reach the offset.
+    /// The number of bytes that the text lacks to reach the offset.
     skip: usize,
     bytes: [u8; PIECE_LEN],
     len: usize,
@@ -51,17 +51,13 @@ impl fmt::Write for Piece {
     ghost write_str_gives = { AddsText };
 
     fn write_str(&mut self, s: &str) -> fmt::Result {
-        if self.len > 0 {
-            return Ok(());
-        }
-        if self.skip >= s.len() {
-            self.skip -= s.len();
-            return Ok(());
-        }
-        let rest = &s.as_bytes()[self.skip..];
-        let count = rest.len().min(PIECE_LEN);
-        self.bytes[0..count].copy_from_slice(&rest[..count]);
-        self.len = count;
+        let skipped = self.skip.min(s.len());
+        self.skip -= skipped;
+        let rest = &s.as_bytes()[skipped..];
+        let count = rest.len().min(PIECE_LEN - self.len);
+        let end = self.len + count;
+        self.bytes[self.len..end].copy_from_slice(&rest[..count]);
+        self.len = end;
         Ok(())
     }
 }

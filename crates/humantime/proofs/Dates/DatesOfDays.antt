@@ -7,7 +7,7 @@ use Rattle.std.proofs.lemmas.Bool.{cases_Bool, ltb-true, ltb-false}
 use Rattle.humantime.specs.Calendar.{days_in_year, days_in_month, days_of_years, days_of_months}
 use Rattle.humantime.specs.declared.calendar.Date.{Date}
 use Rattle.humantime.specs.Laws.Days.{IsDateOfDay}
-use Rattle.humantime.specs.Answers.Dates.{march_days, march_months, march_year, march_month, march_date, date_of}
+use Rattle.humantime.specs.Results.Dates.{march_days, march_months, march_year, march_month, march_date, date_of}
 use Rattle.humantime.proofs.Dates.Years.{days_of_years_closed, days_in_year_bound, days_of_first_months, days_of_months_closed, march_lengths, AreWithin, within_ranges, march_days_next}
 
 dated : (n y m d : ℕ) → AreWithin y m d → days_of_years (y - 1970) + days_of_months y (m - 1) + (d - 1) ≡ n

@@ -5,7 +5,7 @@ use Rattle.humantime.specs.declared.calendar.Date.{Date}
 use Rattle.humantime.specs.Calendar.{days_in_month, days_of_years, days_of_months, IsDate, day_of}
 use Rattle.humantime.specs.Laws.Days.{IsDateOfDay}
 use Rattle.humantime.specs.Laws.ExactlyOne.{ExactlyOne}
-use Rattle.humantime.specs.Answers.Dates.{date_of}
+use Rattle.humantime.specs.Results.Dates.{date_of}
 use Rattle.humantime.proofs.Dates.Years.{AreWithin, valid_from_test, days_of_years_closed, march_days_next, days_of_months_closed}
 use Rattle.humantime.proofs.Dates.DatesOfDays.{date_of_is}
 

@@ -4,7 +4,7 @@ use Rattle.std.specs.Prelude.{◌↔◌, ◌&&◌, nat_lt, if◌then◌else◌, 
 use Rattle.std.specs.Int.{IsInRange, is_in_range}
 use Rattle.std.proofs.lemmas.Bool.Decides.{nat_tests}
 use Rattle.humantime.specs.Calendar.{days_in_year, days_in_month, days_of_years, days_of_months, is_valid}
-use Rattle.humantime.specs.Answers.Dates.{march_days, march_months}
+use Rattle.humantime.specs.Results.Dates.{march_days, march_months}
 
 -- The ranges of the fields of a date that exists.
 abbrev pub AreWithin : ℕ → ℕ → ℕ → Type 0

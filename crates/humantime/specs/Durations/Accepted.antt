@@ -109,6 +109,6 @@ pub record WithinLimits (spans : List SpelledSpan) : Type 0 where
 -- The text is exactly `0` and `d` is 0, or it is spans within the limits, and `d` is their sum.
 pub data Accepted (text : List ℕ) (d : ℕ) : Type 0 where
   -- The text is exactly `0`.
-  Bare_zero : text ≡ bare_zero → d ≡ 0 → Accepted text d
+  BareZero : text ≡ bare_zero → d ≡ 0 → Accepted text d
   -- The text is spans within the limits whose sum is `d`.
-  Sum_of : (spans : List SpelledSpan) → Reads text spans → WithinLimits spans → value spans ≡ d → Accepted text d
+  SumOf : (spans : List SpelledSpan) → Reads text spans → WithinLimits spans → value spans ≡ d → Accepted text d

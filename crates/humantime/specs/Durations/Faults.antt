@@ -72,29 +72,29 @@ pub record BeginsSpan (rest : List ℕ) : Type 0 where
 -- The first nine rows of the table: after the spans, the rest does not begin with a whole span, and the fault is `e`.
 pub data Stops (text front : List ℕ) (spans : List SpelledSpan) (rest : List ℕ) (e : Fault) : Type 0 where
   -- The text is empty or only whitespace.
-  Only_whitespace : spans ≡ [] → rest ≡ [] → e ≡ Empty → Stops text front spans rest e
+  OnlyWhitespace : spans ≡ [] → rest ≡ [] → e ≡ Empty → Stops text front spans rest e
   -- A character other than a digit is at the start, or after a span and whitespace.
-  No_number : rest ≢ [] → begins is_digit rest ≡ false → (spans ≡ []) ⊎ (ends is_whitespace front ≡ true)
+  NoNumber : rest ≢ [] → begins is_digit rest ≡ false → (spans ≡ []) ⊎ (ends is_whitespace front ≡ true)
       → e ≡ NumberExpected (offset_of text rest) → Stops text front spans rest e
   -- The number or its fraction is too long, whatever follows.
-  Too_long : begins is_digit rest ≡ true → too_long (span_of rest) ≡ true → e ≡ NumberOverflow → Stops text front spans rest e
+  TooLong : begins is_digit rest ≡ true → too_long (span_of rest) ≡ true → e ≡ NumberOverflow → Stops text front spans rest e
   -- A character other than a point or a letter follows the number.
-  No_letter_after_number : BeginsNumber rest → fraction_of rest ≡ None → word_of rest ≡ [] → after_word rest ≢ []
+  NoLetterAfterNumber : BeginsNumber rest → fraction_of rest ≡ None → word_of rest ≡ [] → after_word rest ≢ []
       → e ≡ InvalidCharacter (offset_of text (after_word rest)) → Stops text front spans rest e
   -- A point has no digits, and a letter follows or the text ends; the offset is that of the point.
-  Point_without_digits : BeginsNumber rest → fraction_of rest ≡ Some [] → (word_of rest ≢ []) ⊎ (after_word rest ≡ [])
+  PointWithoutDigits : BeginsNumber rest → fraction_of rest ≡ Some [] → (word_of rest ≢ []) ⊎ (after_word rest ≡ [])
       → e ≡ InvalidCharacter (offset_of text (after_number rest)) → Stops text front spans rest e
   -- A character other than a letter follows a point and its digits, if any.
-  No_letter_after_point : BeginsNumber rest → IsSome (fraction_of rest) → word_of rest ≡ [] → after_word rest ≢ []
+  NoLetterAfterPoint : BeginsNumber rest → IsSome (fraction_of rest) → word_of rest ≡ [] → after_word rest ≢ []
       → e ≡ InvalidCharacter (offset_of text (after_word rest)) → Stops text front spans rest e
   -- A character other than a digit or whitespace follows the letters, whether they are a unit or not.
-  Word_not_ended : BeginsNumber rest → fraction_of rest ≢ Some [] → word_of rest ≢ [] → ¬ (EndsSpan (after_word rest))
+  WordNotEnded : BeginsNumber rest → fraction_of rest ≢ Some [] → word_of rest ≢ [] → ¬ (EndsSpan (after_word rest))
       → e ≡ InvalidCharacter (offset_of text (after_word rest)) → Stops text front spans rest e
   -- The text ends without a unit.
-  No_word : BeginsNumber rest → fraction_of rest ≢ Some [] → word_of rest ≡ [] → after_word rest ≡ []
+  NoWord : BeginsNumber rest → fraction_of rest ≢ Some [] → word_of rest ≡ [] → after_word rest ≡ []
       → e ≡ UnknownUnit (byte_length text) (byte_length text) [] (decimal_value (number_of rest)) → Stops text front spans rest e
   -- The word is not a unit.
-  Unknown_word : BeginsNumber rest → fraction_of rest ≢ Some [] → word_of rest ≢ [] → scale_of_word (word_of rest) ≡ None → EndsSpan (after_word rest)
+  UnknownWord : BeginsNumber rest → fraction_of rest ≢ Some [] → word_of rest ≢ [] → scale_of_word (word_of rest) ≡ None → EndsSpan (after_word rest)
       → e ≡ UnknownUnit (offset_of text (after_fraction rest)) (offset_of text (after_word rest)) (encode_utf8_all (word_of rest)) (decimal_value (number_of rest))
       → Stops text front spans rest e
 

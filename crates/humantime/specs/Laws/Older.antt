@@ -4,7 +4,7 @@ use Rattle.std.specs.Prelude.{◌≡◌, ℕ, ◌*◌, ◌≤◌, true, List, le
 use Rattle.std.specs.List.{AllByRecursion}
 use Rattle.humantime.specs.Texts.{decimal_value}
 use Rattle.humantime.specs.Durations.Characters.{u64_max, bare_zero}
-use Rattle.humantime.specs.Answers.Durations.{duration_answer}
+use Rattle.humantime.specs.Results.Durations.{duration_answer}
 use Rattle.humantime.specs.Durations.Units.{Addition, Scale, scale_of_word}
 use Rattle.humantime.specs.Durations.Spans.{SpelledSpan, Reads}
 use Rattle.humantime.specs.Durations.Accepted.{size, additions, value, is_whole_part, AllHaveRoom, Accepted}
@@ -30,9 +30,9 @@ pub record OlderFormed (s : SpelledSpan) : Type 0 where
 -- that they denote and the power of ten that divides its product.
 pub data AcceptedWithZeros (text : List ℕ) (v : ℕ) : Type 0 where
   -- The text was exactly `0`.
-  Older_zero : text ≡ bare_zero → v ≡ 0 → AcceptedWithZeros text v
+  OlderZero : text ≡ bare_zero → v ≡ 0 → AcceptedWithZeros text v
   -- The text was spans within the limits whose sum is `v`.
-  Older_sum : (spans : List SpelledSpan) → Reads text spans → AllByRecursion OlderFormed spans → AllHaveRoom (additions spans)
+  OlderSum : (spans : List SpelledSpan) → Reads text spans → AllByRecursion OlderFormed spans → AllHaveRoom (additions spans)
       → value spans ≡ v → AcceptedWithZeros text v
 
 -- The text was accepted while trailing zeros of a fraction counted.

@@ -6,7 +6,7 @@ use Rattle.humantime.specs.Durations.Accepted.{value, WithinLimits, Accepted}
 use Rattle.humantime.specs.Durations.Faults.{Fault, NumberOverflow, HasFault}
 use Rattle.humantime.specs.Durations.Items.{Items, SpanView, AreItems}
 use Rattle.humantime.specs.Durations.Characters.{bare_zero}
-use Rattle.humantime.specs.Answers.Durations.{duration_answer}
+use Rattle.humantime.specs.Results.Durations.{duration_answer}
 use Rattle.humantime.specs.Laws.ExactlyOne.{ExactlyOne}
 
 -- The outcome of a text is the value with which it is accepted, or its fault.

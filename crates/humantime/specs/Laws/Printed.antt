@@ -2,7 +2,7 @@
 use Rattle.std.specs.Prelude.{◌≡◌, ◌↔◌, ℕ, ◌≤◌, List, length, chars, slice_index, Ok, Err}
 use Rattle.humantime.specs.Durations.Accepted.{Accepted}
 use Rattle.humantime.specs.Durations.Counts.{AreCounts, IsCanonicalText, IsCanonicalOf}
-use Rattle.humantime.specs.Answers.Durations.{duration_text, canonical_answer, duration_answer}
+use Rattle.humantime.specs.Results.Durations.{duration_text, canonical_answer, duration_answer}
 use Rattle.humantime.specs.Durations.Faults.{Fault, HasFault}
 use Rattle.humantime.specs.Laws.ExactlyOne.{ExactlyOne}
 

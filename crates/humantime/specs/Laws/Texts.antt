@@ -4,7 +4,7 @@ use Rattle.humantime.specs.Durations.Characters.{is_whitespace, bare_zero}
 use Rattle.humantime.specs.Durations.Spans.{SpelledSpan, Reads}
 use Rattle.humantime.specs.Durations.Accepted.{additions, AllHaveRoom, Accepted}
 use Rattle.humantime.specs.Durations.Faults.{NumberOverflow, HasFault}
-use Rattle.humantime.specs.Answers.Durations.{duration_answer}
+use Rattle.humantime.specs.Results.Durations.{duration_answer}
 
 -- Removes the whitespace of a text.
 abbrev pub without_whitespace : List ℕ → List ℕ

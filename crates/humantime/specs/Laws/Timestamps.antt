@@ -7,7 +7,7 @@ use Rattle.humantime.specs.declared.date.error.TimestampError.{TimestampError}
 use Rattle.humantime.specs.Timestamps.Fields.{Fields, IsWeak, IsStrict, moment_of, IsWeakMoment, IsStrictMoment}
 use Rattle.humantime.specs.Timestamps.Printed.{cut, IsPrinted, IsPrintable}
 use Rattle.humantime.specs.Timestamps.Checks.{ends_in_zone, first_failed}
-use Rattle.humantime.specs.Answers.Timestamps.{strict_answer, weak_answer, moment_text}
+use Rattle.humantime.specs.Results.Timestamps.{strict_answer, weak_answer, moment_text}
 use Rattle.humantime.specs.Laws.ExactlyOne.{ExactlyOne}
 
 -- A `T` separates the date from the time, and the text ends in `Z` or `+00:00`.

@@ -1,11 +1,14 @@
 -- What the fractions and amounts of the code denote.
-use Rattle.std.specs.Prelude.{◌≡◌, ℕ, List, length, Some, option_map}
+use Rattle.std.specs.Prelude.{◌≡◌, ℕ, List, length, Option, Some, option_map, chars}
+use Rattle.std.specs.Borrow.{Bor}
+use Rattle.std.specs.Str.{drop_trailing_whitespace}
 use Rattle.humantime.specs.declared.duration.amount.Fraction.{Fraction}
 use Rattle.humantime.specs.declared.duration.amount.Amount.{Amount}
 use Rattle.humantime.specs.Texts.{decimal_value}
 use Rattle.humantime.specs.Durations.Characters.{without_trailing_zeros}
 use Rattle.humantime.specs.Durations.Units.{scale_of_word}
 use Rattle.humantime.specs.Durations.Spans.{SpelledSpan}
+use Rattle.humantime.specs.Results.Items.{spelled, trimmed}
 
 -- A fraction as three numbers: the value of its digits without trailing zeros, the number of these digits, and the number of all digits.
 abbrev pub Counted : Type 0
@@ -24,3 +27,8 @@ pub record IsAmountOf (a : Amount) (s : SpelledSpan) : Type 0 where
   pub scale : scale_of_word s.word ≡ Some a.scale.now
   pub value : a.value ≡ decimal_value s.number
   pub fraction : option_map parts_of a.fraction ≡ option_map counted s.fraction
+
+-- The amount is the one of the span whose number, fraction and unit the slices hold, with whitespace after the number and around the fraction.
+abbrev pub IsAmountRead : Amount → List ℕ → Option (Bor (List ℕ)) → List ℕ → Type 0
+IsAmountRead a number fraction unit =
+    IsAmountOf a (spelled (drop_trailing_whitespace (chars number)) (option_map (λ f. trimmed (chars f.now)) fraction) (chars unit))

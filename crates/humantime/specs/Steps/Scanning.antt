@@ -14,8 +14,8 @@ pub record IsTail (text rest : List ℕ) : Type 0 where
   pub whole : IsUtf8 text
 
 -- Tests whether a text begins with a character other than a letter.
-abbrev pub begins_no_word : List ℕ → Bool
-begins_no_word text = begins (λ c. not (is_letter c)) text
+abbrev pub begins_without_letter : List ℕ → Bool
+begins_without_letter text = begins (λ c. not (is_letter c)) text
 
 -- Returns the number of bytes of the whitespace character at the start of a text, or 0 if there is none.
 abbrev pub whitespace_len : List ℕ → ℕ
@@ -23,14 +23,18 @@ whitespace_len [] = 0
 whitespace_len (c ∷ cs) = if is_whitespace c then len_utf8 c else 0
 
 -- The fraction has these digits, at most 19 of them before the trailing zeros.
-pub record AreDigits (f : Fraction) (ds : List ℕ) : Type 0 where
+pub record HasDigits (f : Fraction) (ds : List ℕ) : Type 0 where
   pub parts : parts_of f ≡ counted ds
   pub few : f.significant ≤ 19
   pub fits : f.significand < 10 ^ f.significant
 
--- With the digit `c`, there are more than 19 digits before the trailing zeros, whatever follows.
-abbrev pub IsTooLong : List ℕ → ℕ → Type 0
-IsTooLong ds c = (es : List ℕ) → 19 < length (without_trailing_zeros (ds ++ c ∷ es))
+-- The fraction `g` has the digits of `f` and then `c`.
+abbrev pub HasOneMore : Fraction → ℕ → Fraction → Type 0
+HasOneMore f c g = (ds : List ℕ) → HasDigits f ds → HasDigits g (ds ++ c ∷ [])
+
+-- After the digits of `f`, the digit `c` makes more than 19 digits before the trailing zeros, whatever digits follow.
+abbrev pub IsTooLongWith : Fraction → ℕ → Type 0
+IsTooLongWith f c = (ds es : List ℕ) → HasDigits f ds → 19 < length (without_trailing_zeros (ds ++ c ∷ es))
 
 -- There is only whitespace between the two positions.
 pub record SkipsWhitespace (text : List ℕ) (from to : ℕ) : Type 0 where

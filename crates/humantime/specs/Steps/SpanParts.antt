@@ -11,9 +11,9 @@ use Rattle.humantime.specs.Durations.Characters.{is_whitespace}
 use Rattle.humantime.specs.Durations.Accepted.{too_long}
 use Rattle.humantime.specs.Durations.Faults.{after_point, after_word, span_of, Fault}
 use Rattle.humantime.specs.Durations.Errors.{IsRangeIn, PointsInto, fault_of}
-use Rattle.humantime.specs.Answers.Items.{view_at}
-use Rattle.humantime.specs.Answers.Spans.{span_view}
-use Rattle.humantime.specs.Answers.Walks.{stop_at}
+use Rattle.humantime.specs.Results.Items.{view_at}
+use Rattle.humantime.specs.Results.Spans.{span_view}
+use Rattle.humantime.specs.Results.Walks.{stop_at}
 use Rattle.humantime.specs.Steps.Cursors.{ahead}
 
 -- `fraction` is the fraction after `number`, or `None` if no point follows. Neither is too long.

@@ -8,7 +8,7 @@ use Rattle.humantime.specs.declared.date.error.TimestampError.{TimestampError}
 use Rattle.humantime.specs.declared.date.error.TimestampError.TheVariants.{OutOfRange, InvalidDigit, InvalidFormat}
 use Rattle.humantime.specs.declared.date.parse.DateTime.{DateTime}
 use Rattle.humantime.specs.Calendar.{is_valid}
-use Rattle.humantime.specs.Timestamps.Fields.{Zone, No_zone, Letter_Z, Zero_offset, zone_text}
+use Rattle.humantime.specs.Timestamps.Fields.{Zone, NoZone, Letter_Z, ZeroOffset, zone_text}
 
 -- Tests whether the text ends in this zone.
 abbrev pub ends_in : Zone → List ℕ → Bool
@@ -16,11 +16,11 @@ ends_in z bytes = ends_with nat_eq bytes (zone_text z)
 
 -- Tests whether the text ends in `Z` or `+00:00`.
 abbrev pub ends_in_zone : List ℕ → Bool
-ends_in_zone bytes = ends_in Letter_Z bytes || ends_in Zero_offset bytes
+ends_in_zone bytes = ends_in Letter_Z bytes || ends_in ZeroOffset bytes
 
 -- Returns the zone at the end of the text.
 unfoldable pub zone_of : List ℕ → Zone
-zone_of bytes = if ends_in Letter_Z bytes then Letter_Z else (if ends_in Zero_offset bytes then Zero_offset else No_zone)
+zone_of bytes = if ends_in Letter_Z bytes then Letter_Z else (if ends_in ZeroOffset bytes then ZeroOffset else NoZone)
 
 -- Returns the bytes before the zone.
 abbrev pub before_zone : List ℕ → List ℕ

@@ -25,9 +25,9 @@ pub data Separator : Type 0 where
 
 -- The zone at the end of a text, if any, is written `Z` or `+00:00`. It is always UTC.
 pub data Zone : Type 0 where
-  No_zone : Zone
+  NoZone : Zone
   Letter_Z : Zone
-  Zero_offset : Zone
+  ZeroOffset : Zone
 
 -- The parts of a timestamp: the date, the separator, the time, the digits of the fraction of a second, if any, and the zone.
 pub record Fields : Type 0 where
@@ -51,9 +51,9 @@ fraction_text (Some ds) = codes "." ++ ds
 
 -- Returns the text of a zone.
 abbrev pub zone_text : Zone → List ℕ
-zone_text No_zone = []
+zone_text NoZone = []
 zone_text Letter_Z = codes "Z"
-zone_text Zero_offset = codes "+00:00"
+zone_text ZeroOffset = codes "+00:00"
 
 -- Returns `YYYY-MM-DD`, the separator and `HH:MM:SS`.
 abbrev pub date_time_text : Fields → List ℕ
@@ -87,7 +87,7 @@ pub record IsWeak (bytes : List ℕ) (f : Fields) : Type 0 where
 pub record IsStrict (bytes : List ℕ) (f : Fields) : Type 0 where
   pub weak : IsWeak bytes f
   pub separator : f.separator ≡ Letter_T
-  pub zone : f.zone ≢ No_zone
+  pub zone : f.zone ≢ NoZone
 
 -- Returns the number of seconds from 1970-01-01T00:00:00Z to a date and time; second 60 counts as 59.
 abbrev pub seconds_of : Date → ℕ → ℕ → ℕ → ℕ

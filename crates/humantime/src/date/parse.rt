@@ -145,7 +145,7 @@ fn has_t_and_zone(bytes: &[u8]) -> bool
 
 /// Returns the length of the zone at the end: 1 for `Z`, 6 for `+00:00`, and 0 if there is no zone.
 #[inline(always)]
-#[tactic(auto, using(crate::proofs::Timestamps::Reading::Ends::last_letter, crate::proofs::Timestamps::Reading::Ends::no_letter, crate::proofs::Timestamps::Reading::Ends::last_offset, crate::proofs::Timestamps::Reading::Ends::no_offset), unfolding(crate::specs::Timestamps::Checks::zone_of))]
+#[tactic(auto, using(crate::proofs::Timestamps::Reading::Ends::zone_at_end), unfolding(crate::specs::Timestamps::Checks::zone_of))]
 fn zone_length(bytes: &[u8]) -> usize
     ensures { result ≡ length (zone_text (zone_of bytes.now)) }
 {
@@ -169,24 +169,24 @@ fn before_zone(bytes: &[u8]) -> &[u8]
 
 /// Returns the moment, or the error of the first check that fails.
 #[inline(always)]
-#[tactic(auto, using(crate::proofs::Timestamps::Reading::Exits::fraction_bound, crate::proofs::Timestamps::Reading::Exits::layout_parts, crate::proofs::Timestamps::Reading::Exits::exit_separator))]
+#[tactic(auto, using(crate::proofs::Timestamps::Reading::Exits::checks_in_order))]
 fn read_timestamp(bytes: &[u8]) -> Result<SystemTime, TimestampError>
     ensures { result ≡ weak_answer bytes.now }
 {
     if bytes.len() < 19 || !has_separator(bytes) {
         return Err(TimestampError::InvalidFormat);
     }
-    if !has_layout(bytes) {
+    let Some(date_time) = parse_date_time(bytes) else {
         return Err(layout_error(bytes));
-    }
-    let Some(seconds) = unix_seconds(parse_date_time(bytes)) else {
+    };
+    let Some(seconds) = unix_seconds(date_time) else {
         return Err(TimestampError::OutOfRange);
     };
     let nanos = read_fraction(&bytes[19..])?;
     Ok(SystemTime::after_epoch(seconds, nanos))
 }
 
-/// Returns the error for a text without the layout that [`has_layout`] tests. Punctuation is checked before digits.
+/// Returns the error for a text in whose first 19 bytes [`parse_date_time`] finds none. Punctuation is checked before digits.
 #[inline(always)]
 #[tactic(auto, using(crate::proofs::Timestamps::Reading::Exits::exit_layout))]
 fn layout_error(bytes: &[u8]) -> TimestampError
@@ -225,37 +225,28 @@ fn has_punctuation(bytes: &[u8]) -> bool
         && bytes[16] == b':'
 }
 
-/// Returns `true` if the first 19 bytes have punctuation and digits in their places, if the separator has been tested.
+/// Returns the date and time in the first 19 bytes, or `None` if a byte is neither the punctuation nor a digit that its place wants. The
+/// separator has been tested.
 ///
 /// All bytes are tested at once. The distance of a byte above its minimum wraps around to a large number if the byte is below it, so that
-/// one saturating subtraction of the range tests both bounds.
+/// one saturating subtraction of the range tests both bounds. Then `dot4` multiplies each digit by its weight, and adds up the products of
+/// each four bytes.
 #[inline(always)]
-#[tactic(auto, unfolding(crate::specs::Steps::Timestamps::has_layout, crate::specs::Timestamps::Checks::has_punctuation))]
-fn has_layout(bytes: &[u8]) -> bool
+fn parse_date_time(bytes: &[u8]) -> Option<DateTime>
     requires long { 19 ≤ length bytes.now }
     requires separator { IsTrue (Checks.has_separator bytes.now) }
-    ensures { result ≡ Steps.has_layout bytes.now }
+    ensures { SomeIff result (IsTrue (Steps.has_layout bytes.now)) (date_time_of bytes.now) }
 {
     let front = u8x16::from_slice(bytes) - u8x16::from_slice(&FRONT_MIN);
     let back = u8x16::from_slice(&bytes[3..]) - u8x16::from_slice(&BACK_MIN);
     let beyond = front.saturating_sub(u8x16::from_slice(&FRONT_RANGE))
         | back.saturating_sub(u8x16::from_slice(&BACK_RANGE));
-    beyond.simd_eq(u8x16::splat(0)).all()
-}
-
-/// Returns the date and time in the first 19 bytes. `dot4` multiplies each digit by its weight, and adds up the products of each
-/// four bytes.
-#[inline(always)]
-#[tactic(auto, using(crate::proofs::Timestamps::Reading::Exits::layout_parts))]
-fn parse_date_time(bytes: &[u8]) -> DateTime
-    requires { IsTrue (Steps.has_layout bytes.now) }
-    ensures { result ≡ date_time_of bytes.now }
-{
-    let front = u8x16::from_slice(bytes) - u8x16::from_slice(&FRONT_MIN);
-    let back = u8x16::from_slice(&bytes[3..]) - u8x16::from_slice(&BACK_MIN);
+    if !beyond.simd_eq(u8x16::splat(0)).all() {
+        return None;
+    }
     let front = front.dot4(u8x16::from_slice(&FRONT_WEIGHTS)).to_array();
     let back = back.dot4(u8x16::from_slice(&BACK_WEIGHTS)).to_array();
-    DateTime {
+    Some(DateTime {
         date: Date {
             year: front[0] * 10 + back[0],
             month: front[1],
@@ -264,7 +255,7 @@ fn parse_date_time(bytes: &[u8]) -> DateTime
         hour: back[2],
         minute: front[3],
         second: back[3],
-    }
+    })
 }
 
 /// Returns the number of seconds from 1970-01-01T00:00:00Z to a date and time, or `None` if it is out of range. Second 60 counts as

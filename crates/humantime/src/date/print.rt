@@ -6,7 +6,7 @@ ghost use Rattle.std.specs.Str.{IsUtf8};
 ghost use Rattle.humantime.specs.Prelude.{DisplaysMoment, IsDate, IsPrintable, IsPrinted, KeptAtNone, nano_of, places_of, printed_text};
 ghost use Rattle.humantime.specs.Timestamps.Fields.{two_digits, date_time_text, fields_text};
 ghost use Rattle.humantime.specs.Steps.Timestamps.{IsSecondOf};
-ghost use Rattle.humantime.specs.Answers.Timestamps.{printed_fields};
+ghost use Rattle.humantime.specs.Results.Timestamps.{printed_fields};
 
 use crate::buffer::str_prefix;
 use crate::calendar::{Date, Turns, date_of_day};
@@ -17,6 +17,18 @@ use std::marker::Model;
 /// The numbers below 100, with two digits each.
 static PAIRS: [u8; 200] =
     *b"00010203040506070809101112131415161718192021222324252627282930313233343536373839404142434445464748495051525354555657585960616263646566676869707172737475767778798081828384858687888990919293949596979899";
+
+/// The offset after the seconds of a printed timestamp.
+const SECONDS_END: usize = 19;
+
+/// The offset after a point and three digits of a second.
+const MILLIS_END: usize = 23;
+
+/// The offset after a point and six digits.
+const MICROS_END: usize = 26;
+
+/// The offset after a point and nine digits.
+const NANOS_END: usize = 29;
 
 /// The number of digits in the fraction of a second: none, three, six or nine.
 #[derive(Clone, Copy, PartialEq, Eq, Debug)]
@@ -51,7 +63,7 @@ pub struct Rfc3339Timestamp {
 impl Model for Rfc3339Timestamp {
     ghost use Rattle.humantime.specs.Values.{nano_of};
     ghost use Rattle.humantime.specs.Timestamps.Printed.{MomentToPrint};
-    ghost use Rattle.humantime.specs.Answers.Timestamps.{places, precision_of};
+    ghost use Rattle.humantime.specs.Results.Timestamps.{places, precision_of};
     ghost use Rattle.humantime.specs.declared.date.print.Precision.TheVariants.{Seconds, Millis, Micros, Nanos};
     ghost use Rattle.std.proofs.Common.{arith, lit≤, ◌≤◌};
 
@@ -258,24 +270,25 @@ impl Rfc3339Timestamp {
         let nanos = self.moment.subsec_nanos();
         write_date_time(date, time, buf);
         if self.precision == Precision::Seconds {
-            buf[19] = b'Z';
-            return 20;
+            buf[SECONDS_END] = b'Z';
+            return SECONDS_END + 1;
         }
-        write_two_digits(buf, 20, nanos / 10_000_000);
-        write_two_digits(buf, 22, nanos / 100_000 % 100);
+        write_two_digits(buf, SECONDS_END + 1, nanos / 10_000_000);
+        // Three digits are two pairs, and the `Z` replaces the last digit.
+        write_two_digits(buf, MILLIS_END - 1, nanos / 100_000 % 100);
         if self.precision == Precision::Millis {
-            buf[23] = b'Z';
-            return 24;
+            buf[MILLIS_END] = b'Z';
+            return MILLIS_END + 1;
         }
-        write_two_digits(buf, 24, nanos / 1_000 % 100);
+        write_two_digits(buf, MICROS_END - 2, nanos / 1_000 % 100);
         if self.precision == Precision::Micros {
-            buf[26] = b'Z';
-            return 27;
+            buf[MICROS_END] = b'Z';
+            return MICROS_END + 1;
         }
-        write_two_digits(buf, 26, nanos / 10 % 100);
-        buf[28] = b'0' + (nanos % 10) as u8;
-        buf[29] = b'Z';
-        30
+        write_two_digits(buf, MICROS_END, nanos / 10 % 100);
+        buf[NANOS_END - 1] = b'0' + (nanos % 10) as u8;
+        buf[NANOS_END] = b'Z';
+        NANOS_END + 1
     }
 }
 

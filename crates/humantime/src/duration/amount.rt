@@ -1,6 +1,6 @@
 //! [`Amount`], what a span adds to a duration, and the arithmetic that builds its number and its [`Fraction`] digit by digit.
 
-ghost use Rattle.std.specs.Prelude.{◌≡◌, ◌++◌, [], ◌∷◌, ℕ, List, true, SomeIff, MatchOption, ◌+◌, ◌-◌, ◌*◌, ◌^◌, ◌≤◌, ◌<◌};
+ghost use Rattle.std.specs.Prelude.{◌≡◌, ℕ, List, true, SomeIff, IfSome, IfNone, ◌+◌, ◌-◌, ◌*◌, ◌^◌, ◌≤◌, ◌<◌};
 ghost use Rattle.std.specs.Option.{ForSome};
 ghost use Rattle.humantime.specs.Durations.Characters.{is_digit, u64_max};
 
@@ -71,7 +71,7 @@ pub(crate) fn power_of_ten(exponent: usize) -> u64
 }
 
 impl Fraction {
-    ghost use Rattle.humantime.specs.Steps.Scanning.{AreDigits, IsTooLong};
+    ghost use Rattle.humantime.specs.Steps.Scanning.{HasDigits, HasOneMore, IsTooLongWith};
 
     /// No digits.
     pub(crate) const EMPTY: Fraction = Fraction {
@@ -84,9 +84,10 @@ impl Fraction {
     #[inline(always)]
     pub(crate) fn push(self, c: u8) -> Option<Fraction>
         requires digit { is_digit c ≡ true }
-        requires digits { (ds : List ℕ) × AreDigits self ds }
+        requires digits { (ds : List ℕ) × HasDigits self ds }
         requires room { self.len + 1 < 2 ^ 64 }
-        ensures { (ds : List ℕ) → AreDigits self ds → MatchOption result (IsTooLong ds c) (λ f. AreDigits f (ds ++ c ∷ [])) }
+        ensures pushed { IfSome result (HasOneMore self c) }
+        ensures full { IfNone result (IsTooLongWith self c) }
     {
         let len = self.len + 1;
         if c == b'0' {

@@ -35,7 +35,7 @@ impl<'a> Iterator for SpanIter<'a> {
     type Item = Result<Span<'a>, DurationError<'a>>;
 
     ghost use Rattle.std.specs.Iterator.{item_count};
-    ghost use Rattle.humantime.specs.Answers.Spans.{items_left, GivesItem};
+    ghost use Rattle.humantime.specs.Results.Spans.{items_left, GivesItem};
 
     ghost next_gives = { GivesItem };
 

@@ -2,8 +2,8 @@
 
 ghost use Rattle.std.specs.Prelude.{◌≡◌, chars, map, IfErr};
 ghost use Rattle.humantime.specs.Prelude.{AreItems, IsDurationAnswer, PointsInto, items_left, result_view, text_of};
-ghost use Rattle.humantime.specs.Answers.Items.{item_views, span_in};
-ghost use Rattle.humantime.specs.Answers.Walks.{sum_spans};
+ghost use Rattle.humantime.specs.Results.Items.{item_views, span_in};
+ghost use Rattle.humantime.specs.Results.Walks.{sum_spans};
 
 use crate::duration::cursor::Cursor;
 use crate::duration::error::DurationError;
@@ -47,9 +47,6 @@ pub fn spans(s: &str) -> SpanIter<'_>
 }
 
 /// Returns the sum of the spans of a text.
-///
-/// It is not inlined, so that [`parse_duration`] handles `0` without setting up its stack frame.
-#[inline(never)]
 fn sum_of<'a>(text: &'a str) -> Result<StdDuration, DurationError<'a>>
     ensures value { result_view result ≡ sum_spans 0 (map span_in (item_views (chars text.now))) }
     ensures place { IfErr result (PointsInto text.now) }
@@ -103,6 +100,7 @@ fn sum_of<'a>(text: &'a str) -> Result<StdDuration, DurationError<'a>>
 ///     Err(DurationError::UnknownUnit { start: 1, end: 4, unit: "wek", value: 1 })
 /// );
 /// ```
+#[inline(always)]
 pub fn parse_duration(s: &str) -> Result<StdDuration, DurationError<'_>>
     ensures { IsDurationAnswer s.now result }
 {

@@ -107,7 +107,7 @@ impl FormattedDuration {
 
 /// Writes the text of a duration to the front of the buffer, and returns its length in bytes.
 #[inline(never)]
-#[tactic(auto, using(crate::proofs::Durations::Printing::CountTexts::written_is_text, crate::proofs::Durations::Printing::DecimalLengths::decimal_twelve, crate::proofs::Durations::Printing::DecimalLengths::decimal_two, crate::proofs::Durations::Printing::DecimalLengths::decimal_three))]
+#[tactic(auto, using(crate::proofs::Durations::Printing::CountTexts::counts_written))]
 fn write_duration(duration: StdDuration, buf: &mut [u8; 64]) -> usize
     ensures fits { result ≤ 64 }
     ensures text { take result buf.new ≡ duration_text duration }
@@ -116,21 +116,21 @@ fn write_duration(duration: StdDuration, buf: &mut [u8; 64]) -> usize
 {
     let mut writer = Writer::new(buf);
     let secs = duration.as_secs();
-    let secs_in_year = secs % sizes::SECONDS_PER_YEAR;
-    let secs_in_month = secs_in_year % sizes::SECONDS_PER_MONTH;
-    let secs_in_day = secs_in_month % sizes::SECONDS_PER_DAY;
-    let secs_in_hour = secs_in_day % sizes::SECONDS_PER_HOUR;
     writer.push_plural(secs / sizes::SECONDS_PER_YEAR, "year");
-    writer.push_plural(secs_in_year / sizes::SECONDS_PER_MONTH, "month");
-    writer.push_plural(secs_in_month / sizes::SECONDS_PER_DAY, "day");
-    writer.push_count(secs_in_day / sizes::SECONDS_PER_HOUR, "h");
-    writer.push_count(secs_in_hour / sizes::SECONDS_PER_MINUTE, "m");
-    writer.push_count(secs_in_hour % sizes::SECONDS_PER_MINUTE, "s");
+    let secs = secs % sizes::SECONDS_PER_YEAR;
+    writer.push_plural(secs / sizes::SECONDS_PER_MONTH, "month");
+    let secs = secs % sizes::SECONDS_PER_MONTH;
+    writer.push_plural(secs / sizes::SECONDS_PER_DAY, "day");
+    let secs = secs % sizes::SECONDS_PER_DAY;
+    writer.push_count(secs / sizes::SECONDS_PER_HOUR, "h");
+    let secs = secs % sizes::SECONDS_PER_HOUR;
+    writer.push_count(secs / sizes::SECONDS_PER_MINUTE, "m");
+    writer.push_count(secs % sizes::SECONDS_PER_MINUTE, "s");
     let nanos = duration.subsec_nanos() as u64;
-    let nanos_in_milli = nanos % sizes::NANOS_PER_MILLI;
     writer.push_count(nanos / sizes::NANOS_PER_MILLI, "ms");
-    writer.push_count(nanos_in_milli / sizes::NANOS_PER_MICRO, "µs");
-    writer.push_count(nanos_in_milli % sizes::NANOS_PER_MICRO, "ns");
+    let nanos = nanos % sizes::NANOS_PER_MILLI;
+    writer.push_count(nanos / sizes::NANOS_PER_MICRO, "µs");
+    writer.push_count(nanos % sizes::NANOS_PER_MICRO, "ns");
     writer.push_zero_if_empty();
     writer.finish()
 }

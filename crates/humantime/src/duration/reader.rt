@@ -1,17 +1,14 @@
 //! Reads one [`Span`] at a cursor, built on the steps of `scan`.
 
-ghost use Rattle.std.specs.Prelude.{◌≡◌, ◌==◌, ◌≤◌, true, false, length, chars, MatchOption, option_map};
-ghost use Rattle.std.specs.Option.{ForSome};
-ghost use Rattle.humantime.specs.Texts.{take_while, begins};
-ghost use Rattle.humantime.specs.Durations.Accepted.{is_some_and};
-ghost use Rattle.humantime.specs.Durations.Characters.{is_digit, is_numeric};
-ghost use Rattle.humantime.specs.Durations.Faults.{after_fraction, after_number, after_point, fraction_of};
+ghost use Rattle.std.specs.Prelude.{◌≡◌, true, false, MatchOption};
+ghost use Rattle.humantime.specs.Texts.{begins};
+ghost use Rattle.humantime.specs.Durations.Characters.{is_digit};
+ghost use Rattle.humantime.specs.Durations.Faults.{after_fraction};
 ghost use Rattle.humantime.specs.Steps.Cursors.{ahead, IsSpanEnd};
-ghost use Rattle.humantime.specs.Steps.Scales.{counted, parts_of};
 ghost use Rattle.humantime.specs.Steps.SpanParts.{IsFractionOf, ReadsSpan};
-ghost use Rattle.humantime.specs.Answers.Walks.{ends_span};
+ghost use Rattle.humantime.specs.Results.Walks.{ends_span};
 
-use crate::duration::amount::{Amount, Fraction};
+use crate::duration::amount::Amount;
 use crate::duration::cursor::Cursor;
 use crate::duration::error::DurationError;
 use crate::duration::scan::{
@@ -20,35 +17,6 @@ use crate::duration::scan::{
 };
 use crate::duration::span::Span;
 use crate::unit::words::scale_of;
-
-/// Returns the fraction's value, if there is a fraction. Here and in the next three functions, only the contract speaks of `number`, or
-/// the number is used if there is no fraction.
-#[inline(always)]
-fn fraction_value<'a>(number: Number<'a>, fraction: Option<FractionPart<'a>>) -> Option<Fraction>
-    requires { IsFractionOf number fraction }
-    ensures parts { option_map parts_of result ≡ option_map counted (fraction_of (ahead number.entry.start)) }
-    ensures digits { ForSome result (λ f. f.significant ≤ 19) }
-{
-    Some(fraction?.value)
-}
-
-/// Returns the fraction's digits with the whitespace around them, if there is a fraction.
-#[inline(always)]
-fn fraction_slice<'a>(number: Number<'a>, fraction: Option<FractionPart<'a>>) -> Option<&'a str>
-    requires { IsFractionOf number fraction }
-    ensures { option_map (λ t. chars t.now) result ≡ option_map (take_while is_numeric) (after_point (after_number (ahead number.entry.start))) }
-{
-    Some(fraction?.slice)
-}
-
-/// Returns `true` if there is a point without digits after it.
-#[inline(always)]
-fn has_bare_point<'a>(number: Number<'a>, fraction: Option<FractionPart<'a>>) -> bool
-    requires { IsFractionOf number fraction }
-    ensures { result ≡ is_some_and (λ ds. length ds == 0) (fraction_of (ahead number.entry.start)) }
-{
-    matches!(fraction, Some(fraction) if fraction.value.len == 0)
-}
 
 /// Returns the cursor after the number and the fraction.
 #[inline(always)]
@@ -115,7 +83,7 @@ fn complete_span<'a>(
 {
     let end = fraction_end(number, fraction);
     // Computed before the word is read, so that the fraction's length need not stay live until then.
-    let is_bare = has_bare_point(number, fraction);
+    let is_bare = fraction.is_some_and(|fraction| fraction.value.len == 0);
     let Some(word) = read_word(end) else {
         return Err(DurationError::InvalidCharacter(end.offset()));
     };
@@ -136,13 +104,13 @@ fn complete_span<'a>(
     };
     let span = Span {
         number: number.slice,
-        digits: fraction_slice(number, fraction),
+        digits: fraction.map(|fraction| fraction.slice),
         unit: word.letters,
         start: number.start.offset(),
         end: after_word.offset(),
         amount: Amount {
             value: number.value,
-            fraction: fraction_value(number, fraction),
+            fraction: fraction.map(|fraction| fraction.value),
             scale,
         },
     };

@@ -9,7 +9,7 @@ ghost use Rattle.humantime.specs.Durations.Faults.{number_of, after_point};
 ghost use Rattle.humantime.specs.Durations.Units.{scale_of_word};
 ghost use Rattle.humantime.specs.Steps.Cursors.{ahead, IsNumericRun, IsWord};
 ghost use Rattle.humantime.specs.Steps.Keys.{scale_of_key};
-ghost use Rattle.humantime.specs.Steps.Scanning.{AreDigits, SkipsWhitespace, whitespace_len, begins_no_word};
+ghost use Rattle.humantime.specs.Steps.Scanning.{HasDigits, SkipsWhitespace, whitespace_len, begins_without_letter};
 
 use crate::duration::amount::{Fraction, push_digit};
 use crate::duration::cursor::Cursor;
@@ -48,23 +48,17 @@ pub(crate) fn skip_whitespace_char(text: &str, at: usize) -> Option<usize>
     ensures { SomeIff result (0 < whitespace_len (chars (drop at text.now))) (at + whitespace_len (chars (drop at text.now))) }
 {
     let bytes = text.as_bytes();
-    // Usually this is an ASCII letter. One test rules out whitespace for it, and for all other visible ASCII characters.
-    if bytes[at] > b' ' && bytes[at] < 0x80 {
-        return None;
-    }
-    if bytes[at] <= b' ' {
-        if bytes[at] == b' ' || bytes[at] >= b'\t' && bytes[at] <= b'\r' {
-            return Some(at + 1);
-        }
-        return None;
-    }
-    // A mu is recognized by its bytes, without decoding.
-    if at + 1 < bytes.len() && is_mu(bytes[at], bytes[at + 1]) {
-        return None;
-    }
-    match leading_whitespace_len(&text[at..]) {
-        0 => None,
-        len => Some(at + len),
+    match bytes[at] {
+        // Usually this is an ASCII letter, which one test tells from whitespace.
+        b'!'..=0x7f => None,
+        b' ' | b'\t'..=b'\r' => Some(at + 1),
+        0..b' ' => None,
+        // A mu is recognized by its bytes, without decoding.
+        first if at + 1 < bytes.len() && is_mu(first, bytes[at + 1]) => None,
+        _ => match leading_whitespace_len(&text[at..]) {
+            0 => None,
+            len => Some(at + len),
+        },
     }
 }
 
@@ -89,7 +83,7 @@ pub(crate) fn skip_whitespace<'a>(start: Cursor<'a>) -> Cursor<'a>
     ensures text { result.text.now ≡ start.entry.text.now }
 {
     let text = start.rest;
-    // Most texts have a digit here.
+    // Most texts have a digit here. Without this test, `2h 37min` would take a tenth more instructions.
     if begins_with_digit(text) {
         return start;
     }
@@ -170,7 +164,7 @@ pub(crate) struct FractionPart<'a> {
     /// The digits, and the whitespace around them.
     pub slice: &'a str,
     pub end: Cursor<'a>,
-    ghost digits: { AreDigits value (number_of (ahead start)) } by { Prim.hlevel props },
+    ghost digits: { HasDigits value (number_of (ahead start)) } by { Prim.hlevel props },
     ghost run: { IsNumericRun start slice.now end } by { Prim.hlevel props },
 }
 
@@ -255,7 +249,7 @@ fn read_letters(text: &str) -> (usize, u64)
 /// The word is empty only at the end of the text.
 #[inline(always)]
 pub(crate) fn read_word<'a>(start: Cursor<'a>) -> Option<Word<'a>>
-    ensures { MatchOption result (begins_no_word (ahead start.entry) ≡ true) (λ w. IsWord start.entry w.letters.now w.end) }
+    ensures { MatchOption result (begins_without_letter (ahead start.entry) ≡ true) (λ w. IsWord start.entry w.letters.now w.end) }
 {
     let text = start.rest;
     if text.is_empty() {

@@ -1,9 +1,7 @@
 //! [`Span`]: a number with its fraction and its unit, as read from a text.
 
 ghost use Rattle.std.specs.Prelude.{◌≡◌, option_map, chars};
-ghost use Rattle.std.specs.Str.{drop_trailing_whitespace};
-ghost use Rattle.humantime.specs.Answers.Items.{spelled, trimmed};
-ghost use Rattle.humantime.specs.Steps.Scales.{IsAmountOf};
+ghost use Rattle.humantime.specs.Steps.Scales.{IsAmountRead};
 
 use crate::duration::amount::Amount;
 
@@ -33,11 +31,11 @@ pub struct Span<'a> {
     pub(crate) start: usize,
     pub(crate) end: usize,
     pub(crate) amount: Amount,
-    ghost read: { IsAmountOf amount (spelled (drop_trailing_whitespace (chars number.now)) (option_map (λ t. trimmed (chars t.now)) digits) (chars unit.now)) },
+    ghost read: { IsAmountRead amount number.now digits unit.now },
 }
 
 impl<'a> Span<'a> {
-    ghost use Rattle.humantime.specs.Answers.Spans.{span_view};
+    ghost use Rattle.humantime.specs.Results.Spans.{span_view};
 
     /// Returns the integer part, from its first to its last digit, with the whitespace between them.
     ///

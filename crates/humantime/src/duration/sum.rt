@@ -4,7 +4,7 @@ ghost use Rattle.std.specs.Prelude.{◌≡◌, ◌≤◌, ◌*◌, SomeIff};
 ghost use Rattle.humantime.specs.Durations.Characters.{u64_max};
 ghost use Rattle.humantime.specs.Durations.Spans.{SpelledSpan};
 ghost use Rattle.humantime.specs.Steps.Adding as steps;
-ghost use Rattle.humantime.specs.Answers.Walks.{add_span};
+ghost use Rattle.humantime.specs.Results.Walks.{add_span};
 ghost use Rattle.humantime.specs.Steps.Scales.{IsAmountOf};
 
 use crate::duration::amount::{Amount, Fraction, power_of_ten};

@@ -21,6 +21,4 @@ ghost use Rattle.humantime.specs.Prelude.{ExactlyOne, IsDateOfDay};
 pub fn one_date(day: u32)
     ensures one { day ≤ 2_932_896 → ExactlyOne (IsDateOfDay day) }
     ensures within { (d : Date) → IsDateOfDay day d → day ≤ 2_932_896 }
-{
-    let _ = day;
-}
+{}

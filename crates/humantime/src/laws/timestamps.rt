@@ -29,9 +29,7 @@ use crate::value::SystemTime;
 #[tactic(auto, using(crate::proofs::Theorems::strict_is_weak))]
 pub fn strict_is_weak(s: &str)
     ensures { StrictForm s.now }
-{
-    let _ = s;
-}
+{}
 
 /// States that each text has exactly one outcome for each parser, which is the parser's answer as a function of the text.
 ///
@@ -49,9 +47,7 @@ pub fn strict_is_weak(s: &str)
 pub fn one_stamp_outcome(s: &str)
     ensures weak { OneTimestamp (weak_checks s.now) (IsWeak s.now) (weak_answer s.now) }
     ensures strict { OneTimestamp (strict_checks s.now) (IsStrict s.now) (strict_answer s.now) }
-{
-    let _ = s;
-}
+{}
 
 /// States that a moment from 1970 to 9999 has one printed text, from which both parsers read the moment back.
 ///
@@ -74,9 +70,7 @@ pub fn one_stamp_outcome(s: &str)
 /// ```
 pub fn printed_moment_reads(x: &Rfc3339Timestamp)
     ensures { PrintedMoment x.now.moment x.now.places }
-{
-    let _ = x;
-}
+{}
 
 /// States that printed texts with equally many digits are ordered, by their bytes, as their moments are.
 ///
@@ -98,6 +92,4 @@ pub fn printed_moment_reads(x: &Rfc3339Timestamp)
 pub fn stamps_in_order(a: SystemTime, b: SystemTime)
     ensures order { InOrder a b }
     ensures nanos { (x : List ℕ) (y : List ℕ) → IsPrinted a 9 x → IsPrinted b 9 y → (a <ℤ b) ↔ IsTrue (is_lt (slice_cmp nat_cmp x y)) }
-{
-    let _ = (a, b);
-}
+{}

@@ -4,7 +4,7 @@ use Rattle.std.proofs.Math.Nat.{one-le-pow}
 use Rattle.humantime.specs.declared.duration.amount.Amount.{Amount}
 use Rattle.humantime.specs.Durations.Units.{Addition}
 use Rattle.humantime.specs.Durations.Spans.{SpelledSpan}
-use Rattle.humantime.specs.Answers.Walks.{add_all, add_span}
+use Rattle.humantime.specs.Results.Walks.{add_all, add_span}
 use Rattle.humantime.specs.Steps.Scales.{Counted, parts_of, IsAmountOf}
 use Rattle.humantime.specs.Steps.Adding.{add_times, add_part}
 use Rattle.humantime.proofs.Durations.Reading.SignificantDigits.{amount_kept}

@@ -7,7 +7,7 @@ use Rattle.humantime.specs.declared.duration.amount.Fraction.{Fraction}
 use Rattle.humantime.specs.Texts.{decimal_value}
 use Rattle.humantime.specs.Durations.Characters.{is_digit, without_trailing_zeros}
 use Rattle.humantime.specs.Steps.Scales.{Counted}
-use Rattle.humantime.specs.Steps.Scanning.{AreDigits}
+use Rattle.humantime.specs.Steps.Scanning.{HasDigits}
 use Rattle.humantime.proofs.Durations.Bytes.Numbers.{digit_range, value_more}
 use Rattle.humantime.proofs.Durations.Reading.SignificantDigits.{significant_shorter, significant_zero, significant_long, significant_last, value_shifted}
 
@@ -23,11 +23,11 @@ push_fits v n k d p fits digit more power few =
     omega (arith, shifted_fits v n k d p fits digit more power, pow-le-pow_right {n = 10} (omega arith) {i = n + k} {j = 19} few)
 
 -- There are no more digits before the trailing zeros than in all.
-pub fewer : (f : Fraction) (ds : List ℕ) → AreDigits f ds → f.significant ≤ f.len
+pub fewer : (f : Fraction) (ds : List ℕ) → HasDigits f ds → f.significant ≤ f.len
 fewer f ds h = omega (arith, ap (λ (x : Counted). x.1) h.parts, ap (λ (x : Counted). x.2) h.parts, significant_shorter ds)
 
 -- The fraction without digits.
-pub no_digits : AreDigits (record { significand = 0; significant = 0; len = 0 }) []
+pub no_digits : HasDigits (record { significand = 0; significant = 0; len = 0 }) []
 unfolding without_trailing_zeros
 no_digits = record { parts = refl; few = omega arith; fits = omega arith }
 
@@ -36,9 +36,9 @@ pub zero_more : (ds : List ℕ) (c : ℕ) → c ≡ 48 → without_trailing_zero
 zero_more ds c e = rw e (significant_zero ds)
 
 -- Another digit follows the zeros.
-pub digit_more : (f : Fraction) (ds : List ℕ) (c p : ℕ) → AreDigits f ds → is_digit c ≡ true → c ≢ 48 → f.len + 1 ≤ 19 → p ≡ 10 ^ (f.len + 1 - f.significant)
-    → AreDigits (record { significand = f.significand * p + (c - 48); significant = f.len + 1; len = f.len + 1 }) (ds ++ c ∷ [])
-digit_more f ds c p h is some few power =
+pub fraction_extended : (f : Fraction) (ds : List ℕ) (c p : ℕ) → HasDigits f ds → is_digit c ≡ true → c ≢ 48 → f.len + 1 ≤ 19 → p ≡ 10 ^ (f.len + 1 - f.significant)
+    → HasDigits (record { significand = f.significand * p + (c - 48); significant = f.len + 1; len = f.len + 1 }) (ds ++ c ∷ [])
+fraction_extended f ds c p h is some few power =
     let zeros = f.len - f.significant in
     let within = fewer f ds h in
     let value_is : f.significand ≡ decimal_value (without_trailing_zeros ds) = ap (λ (x : Counted). x.0) h.parts in

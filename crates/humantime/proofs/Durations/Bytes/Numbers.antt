@@ -88,10 +88,10 @@ pub value_more : (ds : List ℕ) (c : ℕ) → is_digit c ≡ true → decimal_v
 value_more ds c d = value-append 0 ds (c ∷ []) ∙ ap (λ (n : ℕ). decimal_value ds * 10 + n) (digit_counts c d)
 
 -- Another digit is parsed.
-pub digit_more : (text bytes : List ℕ) (at : ℕ) (ds : List ℕ) → IsUtf8 text → bytes ≡ text → at < length bytes → IsRead text at ds
+pub number_extended : (text bytes : List ℕ) (at : ℕ) (ds : List ℕ) → IsUtf8 text → bytes ≡ text → at < length bytes → IsRead text at ds
     → get_or bytes at 0 < 256 → (get_or bytes at 0 + 18446744073709551568) % 18446744073709551616 ≤ 9
     → let more = ds ++ get_or bytes at 0 ∷ [] in IsRead text (at + 1) more × (decimal_value more ≡ decimal_value ds * 10 + (get_or bytes at 0 + 18446744073709551568) % 18446744073709551616)
-digit_more text bytes at ds u same some h fits few = grind (arith, nat_tests, (read_digit text bytes at ds u same some h), value_more, digit_is)
+number_extended text bytes at ds u same some h fits few = grind (arith, nat_tests, (read_digit text bytes at ds u same some h), value_more, digit_is)
 
 -- Further digits do not make a value smaller.
 pub value_grows : (n : ℕ) (ds : List ℕ) → n ≤ digits_value_after 10 n ds

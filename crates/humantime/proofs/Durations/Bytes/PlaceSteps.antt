@@ -13,7 +13,7 @@ use Rattle.humantime.specs.Texts.{begins, drop_while}
 use Rattle.humantime.specs.Durations.Characters.{is_letter, is_whitespace, whitespace_chars, is_digit, is_point}
 use Rattle.humantime.specs.Steps.Scanning.{whitespace_len}
 use Rattle.humantime.specs.Durations.Faults.{after_point}
-use Rattle.humantime.specs.Answers.Walks.{ends_span}
+use Rattle.humantime.specs.Results.Walks.{ends_span}
 use Rattle.humantime.proofs.Durations.Bytes.Tails.{no_bytes}
 use Rattle.humantime.proofs.Durations.Reading.Classes.{digit_is, digit_not_whitespace, whitespace_is_numeric, is_point-46, letter_not_whitespace, wide_no_digit, whitespace_is, ascii_letter, alphabetic_is_ascii}
 

@@ -9,7 +9,7 @@ use Rattle.humantime.specs.Texts.{begins, ends, take_while, drop_while}
 use Rattle.humantime.specs.Durations.Characters.{is_whitespace, is_digit, is_letter, is_numeric, digits}
 use Rattle.humantime.specs.Durations.Spans.{Only}
 use Rattle.humantime.specs.Durations.Faults.{number_of, after_number, after_point, span_of}
-use Rattle.humantime.specs.Answers.Items.{trimmed, fraction_slice, view_at, spelled}
+use Rattle.humantime.specs.Results.Items.{trimmed, fraction_slice, view_at, spelled}
 use Rattle.humantime.specs.Durations.Items.{IsDigitSlice}
 use Rattle.humantime.proofs.Durations.Reading.Classes.{whitespace_is, letter_not_numeric, letter_not_point, is_point-46, whitespace_not_digit, digit_from_numeric}
 use Rattle.humantime.proofs.Durations.Reading.Runs.{take_while-append}

@@ -8,8 +8,8 @@ use Rattle.humantime.specs.Values.{duration_end}
 use Rattle.humantime.specs.Durations.Errors.{result_view, fault_of}
 use Rattle.humantime.specs.contracts.duration.error.DurationErrorPartialEq.TheImpl as errors
 use Rattle.humantime.specs.Laws.Outcomes.{HasOneOutcome, ItemsDecide, HasOneItemList}
-use Rattle.humantime.specs.Answers.Items.{item_views}
-use Rattle.humantime.specs.Answers.Durations.{duration_text, duration_answer, canonical_answer}
+use Rattle.humantime.specs.Results.Items.{item_views}
+use Rattle.humantime.specs.Results.Durations.{duration_text, duration_answer, canonical_answer}
 use Rattle.humantime.specs.Laws.Printed.{PrintsAndReads, PrintApart, IsBounded, IsCanonicalAgain}
 use Rattle.humantime.proofs.Durations.Printing.CanonicalTexts as canonical
 use Rattle.humantime.proofs.Durations.Printing.GreatestCounts as counts

@@ -3,7 +3,7 @@ use Rattle.std.proofs.Common.{arith, ◌≡◌, ◌≢◌, ◌↔◌, ◌⊎◌,
 use Rattle.std.specs.List.{AllByRecursion}
 use Rattle.humantime.specs.Durations.Characters.{is_whitespace, bare_zero}
 use Rattle.humantime.specs.Durations.Spans.{SpelledSpan, Only, SpellsEach, SpellsAll, Reads}
-use Rattle.humantime.specs.Durations.Accepted.{additions, value, Formed, fits, AllHaveRoom, Accepted, Bare_zero, Sum_of}
+use Rattle.humantime.specs.Durations.Accepted.{additions, value, Formed, fits, AllHaveRoom, Accepted, BareZero, SumOf}
 use Rattle.humantime.specs.Durations.Faults.{NumberOverflow, HasFault}
 use Rattle.humantime.specs.Laws.Texts.{AcceptedAs}
 use Rattle.humantime.proofs.Durations.Reading.OneReading.{not_zero}
@@ -41,7 +41,7 @@ pub record AreSpans (text : List ℕ) (spans : List SpelledSpan) (v : ℕ) : Typ
 pub room_accepts : (text : List ℕ) (spans : List SpelledSpan) (v : ℕ) → spans ≢ [] → AreSpans text spans v → Accepted text v ↔ AllHaveRoom (additions spans)
 room_accepts text spans v some h = (
   λ a. (accepted_spans text spans v (h.front, some) a).0.room,
-  λ room. Sum_of spans (h.front, some) (record { formed = h.formed; fit = h.fit; room = room }) h.sum,
+  λ room. SumOf spans (h.front, some) (record { formed = h.formed; fit = h.fit; room = room }) h.sum,
 )
 
 -- Its fault is an overflow exactly if an addition overflows.
@@ -68,11 +68,11 @@ joined_overflow a b ss ts u v h k =
 
 pub joined_sum_or_overflow : (a b : List ℕ) (u v : ℕ) → Accepted a u → Accepted b v → a ≢ bare_zero → b ≢ bare_zero
     → Accepted (a ++ b) (u + v) ⊎ HasFault (a ++ b) NumberOverflow
-joined_sum_or_overflow a b u v (Bare_zero z none) y some_a some_b = absurd (some_a z)
-joined_sum_or_overflow a b u v (Sum_of ss h g p) (Bare_zero z none) some_a some_b = absurd (some_b z)
-joined_sum_or_overflow a b u v (Sum_of ss h g p) (Sum_of ts k l q) some_a some_b =
+joined_sum_or_overflow a b u v (BareZero z none) y some_a some_b = absurd (some_a z)
+joined_sum_or_overflow a b u v (SumOf ss h g p) (BareZero z none) some_a some_b = absurd (some_b z)
+joined_sum_or_overflow a b u v (SumOf ss h g p) (SumOf ts k l q) some_a some_b =
     let some = some-append ss ts h.1 in
-    let both = both_spans a b ss ts u v (h, Sum_of ss h g p) (k, Sum_of ts k l q) in
+    let both = both_spans a b ss ts u v (h, SumOf ss h g p) (k, SumOf ts k l q) in
     elim (within_or_beyond (ss ++ ts) both.formed) [
       | inl g ↦ inl ((room_accepts (a ++ b) (ss ++ ts) (u + v) some both).1 g.room)
       | inr bad ↦ inr ((no_room_overflows (a ++ b) (ss ++ ts) (u + v) some both).1 (λ room. bad (record { formed = both.formed; fit = both.fit; room = room })))

@@ -2,8 +2,8 @@
 use Rattle.std.proofs.lemmas.Grind.{common_steps}
 use Rattle.std.proofs.Common.{◌≡◌, ℕ, true, List, [], ◌∷◌, refl, arith}
 use Rattle.std.specs.List.{AllByRecursion}
-use Rattle.humantime.specs.Durations.Accepted.{Formed, fits, Accepted, Bare_zero, Sum_of}
-use Rattle.humantime.specs.Laws.Older.{OlderFormed, AcceptedWithZeros, Older_zero, Older_sum, KeepsValueWithZeros}
+use Rattle.humantime.specs.Durations.Accepted.{Formed, fits, Accepted, BareZero, SumOf}
+use Rattle.humantime.specs.Laws.Older.{OlderFormed, AcceptedWithZeros, OlderZero, OlderSum, KeepsValueWithZeros}
 use Rattle.humantime.proofs.Durations.Reading.Outcomes.{outcome_accepted}
 use Rattle.humantime.proofs.Durations.Reading.SignificantDigits.{significant_shorter, whole_part_kept}
 
@@ -15,11 +15,11 @@ each_then P Q then (x ∷ xs) h = (then x h.0, each_then P Q then xs h.1)
 -- ---- trailing zeros of a fraction
 
 zeros_still_accepted : (text : List ℕ) (v : ℕ) → AcceptedWithZeros text v → Accepted text v
-zeros_still_accepted text v (Older_zero e z) = Bare_zero e z
-zeros_still_accepted text v (Older_sum spans h older room sum) =
+zeros_still_accepted text v (OlderZero e z) = BareZero e z
+zeros_still_accepted text v (OlderSum spans h older room sum) =
     let formed = each_then OlderFormed Formed (λ s f. grind (arith, common_steps, significant_shorter)) spans older in
     let fit = each_then OlderFormed (λ s. fits s ≡ true) (λ s f. grind (arith, common_steps, whole_part_kept)) spans older in
-    Sum_of spans h (record { formed = formed; fit = fit; room = room }) sum
+    SumOf spans h (record { formed = formed; fit = fit; room = room }) sum
 
 pub still_accepted : (text : List ℕ) → KeepsValueWithZeros text
 still_accepted text =

@@ -4,7 +4,7 @@ use Rattle.std.proofs.lemmas.Grind.{common_steps}
 use Rattle.std.proofs.lemmas.List.Sorted.{sum_by-IsPermutation}
 use Rattle.humantime.specs.Durations.Spans.{SpelledSpan, Reads}
 use Rattle.humantime.specs.Durations.Faults.{Fault, HasFault}
-use Rattle.humantime.specs.Durations.Accepted.{total, value, WithinLimits, Accepted, Bare_zero, Sum_of, additions_of}
+use Rattle.humantime.specs.Durations.Accepted.{total, value, WithinLimits, Accepted, BareZero, SumOf, additions_of}
 use Rattle.humantime.specs.Laws.Texts.{IsZeroOrSpans}
 use Rattle.humantime.proofs.Durations.Reading.OneReading.{not_zero}
 use Rattle.humantime.proofs.Durations.Reading.Summed.{value-cons}
@@ -16,8 +16,8 @@ zero_or_spans text v a = grind arith
 
 -- The value of an accepted text of spans is their sum, and they are within the limits.
 pub accepted_spans : (text : List ℕ) (spans : List SpelledSpan) (v : ℕ) → Reads text spans → Accepted text v → WithinLimits spans × (value spans ≡ v)
-accepted_spans text spans v h (Bare_zero z none) = absurd (not_zero text spans h z)
-accepted_spans text spans v h (Sum_of others k within sum) = rw (one_reading text spans others h k) (within, sum)
+accepted_spans text spans v h (BareZero z none) = absurd (not_zero text spans h z)
+accepted_spans text spans v h (SumOf others k within sum) = rw (one_reading text spans others h k) (within, sum)
 
 -- No text has both a value and a fault.
 pub no_value_and_fault : (text : List ℕ) (v : ℕ) (e : Fault) → Accepted text v → HasFault text e → ⊥

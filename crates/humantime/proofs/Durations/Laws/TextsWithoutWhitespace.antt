@@ -4,7 +4,7 @@ use Rattle.std.proofs.Common.{◌≡◌, ℕ, Bool, List, [], ◌∷◌, refl, a
 use Rattle.std.proofs.lemmas.Bool.{cases_Bool, or_parts}
 use Rattle.humantime.specs.Durations.Characters.{is_whitespace, is_letter, digits, bare_zero}
 use Rattle.humantime.specs.Durations.Spans.{SpelledSpan, Only, Spells, SpellsEach, Reads}
-use Rattle.humantime.specs.Durations.Accepted.{Accepted, Bare_zero, Sum_of}
+use Rattle.humantime.specs.Durations.Accepted.{Accepted, BareZero, SumOf}
 use Rattle.humantime.specs.Laws.Texts.{without_whitespace}
 use Rattle.humantime.proofs.Durations.Reading.Classes.{digit_not_whitespace, whitespace_not_digit, letter_not_whitespace, point_not_numeric, is_point-46}
 use Rattle.humantime.proofs.Durations.Printing.PrintedDigits.{some_digit}
@@ -41,5 +41,5 @@ zero_without_whitespace : without_whitespace bare_zero ≡ bare_zero
 zero_without_whitespace = rw (digit_not_whitespace 48 (some_digit bare_zero (search rules) (omega arith))) refl
 
 pub accepted_without_whitespace : (text : List ℕ) (v : ℕ) → Accepted text v → Accepted (without_whitespace text) v
-accepted_without_whitespace text v (Bare_zero z none) = Bare_zero (ap without_whitespace z ∙ zero_without_whitespace) none
-accepted_without_whitespace text v (Sum_of spans reads within sum) = Sum_of spans (reads_without_whitespace text spans reads) within sum
+accepted_without_whitespace text v (BareZero z none) = BareZero (ap without_whitespace z ∙ zero_without_whitespace) none
+accepted_without_whitespace text v (SumOf spans reads within sum) = SumOf spans (reads_without_whitespace text spans reads) within sum

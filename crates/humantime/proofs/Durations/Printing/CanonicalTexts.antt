@@ -3,7 +3,7 @@ use Rattle.std.proofs.Common.{arith, ◌≡◌, ◌↔◌, ℕ, List, Result, Ok
 use Rattle.std.specs.Prelude.{chars}
 use Rattle.humantime.specs.Durations.Faults.{Fault, HasFault}
 use Rattle.humantime.specs.Durations.Counts.{IsCanonicalOf}
-use Rattle.humantime.specs.Answers.Durations.{duration_text, duration_answer, printed_answer, canonical_answer}
+use Rattle.humantime.specs.Results.Durations.{duration_text, duration_answer, printed_answer, canonical_answer}
 use Rattle.humantime.proofs.Durations.Printing.GreatestCounts.{printed_is_canon, canon_is_text}
 use Rattle.humantime.proofs.Durations.Reading.Outcomes.{answer_accepts, answer_faults}
 

@@ -6,9 +6,10 @@ use Rattle.std.specs.List.{AllByRecursion}
 use Rattle.std.proofs.lemmas.Bool.Decides.{nat_tests}
 use Rattle.std.proofs.lemmas.List.{append_assoc, length-append}
 use Rattle.humantime.specs.Values.{nanos_per_micro, nanos_per_milli, nanos_per_second, seconds_per_minute, seconds_per_hour, seconds_per_day, seconds_per_month, seconds_per_year}
-use Rattle.humantime.specs.Answers.Durations.{divided, duration_text}
+use Rattle.humantime.specs.Results.Durations.{divided, duration_text}
 use Rattle.humantime.specs.Steps.Writing.{joined_after}
 use Rattle.humantime.specs.Durations.Counts.{Suffix, weights, suffixes, printed_count, printed_counts, joined_by_space}
+use Rattle.humantime.proofs.Durations.Printing.DecimalLengths.{decimal_two, decimal_three, decimal_twelve}
 
 -- Counts that are written after a text, one by one.
 abbrev pub with_counts : List ℕ → List ℕ → List Suffix → List ℕ
@@ -50,3 +51,6 @@ written_is_text d =
     let counts : counts_of (d / nanos_per_second) (d % nanos_per_second) ≡ divided weights d = grind arith in
     ap or_zero (ap (λ ns. with_counts [] ns suffixes) counts ∙ one_by_one [] (divided weights d) suffixes (search rules))
     ∙ or_zero_joined (divided weights d) suffixes (search rules)
+
+-- The lemmas about the text of the nine counts, and about the lengths of counts.
+pub ruleset counts_written = (written_is_text, decimal_two, decimal_three, decimal_twelve)

@@ -11,7 +11,7 @@ use Rattle.std.specs.Cmp.Lexicographic.{slice_cmp}
 use Rattle.std.specs.Cmp.{nat_cmp_is}
 use Rattle.std.proofs.lemmas.Bool.Decides.{nat_tests}
 use Rattle.humantime.specs.Durations.Counts.{weights, weighted_sum, AreCounts, IsCanonicalText}
-use Rattle.humantime.specs.Answers.Durations.{divided, duration_text}
+use Rattle.humantime.specs.Results.Durations.{divided, duration_text}
 
 -- Each weight is positive, and the last one is 1; the remainder is less than `m`.
 abbrev Reaches : List ℕ → ℕ → Type 0

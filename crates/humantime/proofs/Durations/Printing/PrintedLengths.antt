@@ -8,7 +8,7 @@ use Rattle.std.proofs.lemmas.Fmt.{length-decimal-le}
 use Rattle.humantime.specs.Values.{nanos_per_second}
 use Rattle.humantime.specs.Durations.Characters.{u64_max}
 use Rattle.humantime.specs.Durations.Counts.{Suffix, weights, suffixes, printed_count, printed_counts, joined_by_space, AreCounts, IsCanonicalText}
-use Rattle.humantime.specs.Answers.Durations.{divided, duration_text}
+use Rattle.humantime.specs.Results.Durations.{divided, duration_text}
 use Rattle.humantime.proofs.Durations.Printing.PrintedRows.{space, units, counted, most}
 use Rattle.humantime.proofs.Durations.Printing.GreatestCounts.{canon_is_text, counts_divided}
 

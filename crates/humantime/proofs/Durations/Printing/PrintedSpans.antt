@@ -15,9 +15,9 @@ use Rattle.humantime.specs.Values.{nanos_per_second}
 use Rattle.humantime.specs.Durations.Characters.{whitespace_chars, is_letter, is_whitespace, u64_max}
 use Rattle.humantime.specs.Durations.Units.{Addition, scale_of_word}
 use Rattle.humantime.specs.Durations.Spans.{SpelledSpan, Only, Spells, SpellsEach, Reads}
-use Rattle.humantime.specs.Durations.Accepted.{addition_nanos, size, times, total, additions_of, additions, value, Formed, fits, Accepted, Sum_of}
+use Rattle.humantime.specs.Durations.Accepted.{addition_nanos, size, times, total, additions_of, additions, value, Formed, fits, Accepted, SumOf}
 use Rattle.humantime.specs.Durations.Counts.{Suffix, printed_count, joined_by_space, IsCanonicalText}
-use Rattle.humantime.specs.Answers.Durations.{duration_text}
+use Rattle.humantime.specs.Results.Durations.{duration_text}
 use Rattle.humantime.proofs.Durations.Reading.Spellings.{spells-append}
 use Rattle.humantime.proofs.Durations.Reading.Summed.{value-cons}
 use Rattle.humantime.proofs.Durations.Laws.JoinedTexts.{each-append}
@@ -117,7 +117,7 @@ rows_accepted c rows d h sum short =
     let room = small_have_room (additions (spans_of (c ∷ rows))) within.small (rw sum short) in
     let reads : Reads (chars (rows_text (c ∷ rows))) (spans_of (c ∷ rows)) =
     (record { whitespace = []; body = _; whole = refl; only_whitespace = tt; each = rows_spell (c ∷ rows) h }, λ e. cc) in
-    Sum_of (spans_of (c ∷ rows)) reads (record { formed = within.formed; fit = within.fit; room = room }) sum
+    SumOf (spans_of (c ∷ rows)) reads (record { formed = within.formed; fit = within.fit; room = room }) sum
 
 -- If all counts are zero, the text is that of zero seconds.
 zero_accepted : Accepted (chars (codes "0s")) 0

@@ -7,7 +7,7 @@ use Rattle.humantime.specs.Durations.Characters.{is_whitespace, is_digit, bare_z
 use Rattle.humantime.specs.Durations.Spans.{SpelledSpan, Spells, SpellsAll}
 use Rattle.humantime.specs.Durations.Faults.{Fault, NumberOverflow, Split, BeginsSpan, HasFault, Empty, span_of}
 use Rattle.humantime.specs.Durations.Accepted.{Formed, WithinLimits}
-use Rattle.humantime.specs.Answers.Walks.{Walk, empty_walk, walk_of, items}
+use Rattle.humantime.specs.Results.Walks.{Walk, empty_walk, walk_of, items}
 use Rattle.humantime.specs.Durations.Items.{Items, Ends}
 use Rattle.humantime.proofs.Durations.Reading.Runs.{ends-append, take_while-drop_while, Only-take_while, begins-drop_while}
 use Rattle.humantime.proofs.Durations.Reading.Spelled.{next_of}
@@ -77,8 +77,8 @@ abbrev IsTooLarge : List ℕ → Bool → List ℕ → Walk → Type 0
 IsTooLarge text first rest w = (front : List ℕ) (spans : List SpelledSpan) → IsReadTo text first front spans rest → WithinLimits spans
     → ¬ (WithinLimits (spans ++ map span_of w.starts)) → HasFault text NumberOverflow
 
-too_large : (text : List ℕ) → text ≢ bare_zero → Steps text (IsTooLarge text)
-too_large text some = record {
+too_large_steps : (text : List ℕ) → text ≢ bare_zero → Steps text (IsTooLarge text)
+too_large_steps text some = record {
   end = λ first front spans r within big. absurd (big (rw append-nil within));
   wrong = λ first rest e more s front spans r within big. absurd (big (rw append-nil within));
   right = λ first rest w s more front ss r g big.
@@ -92,5 +92,5 @@ too_large text some = record {
 -- If the spans of a text break a limit, its fault is an overflow.
 pub too_large_found : (text : List ℕ) → text ≢ bare_zero → ¬ (WithinLimits (items text).0) → HasFault text NumberOverflow
 too_large_found text not_zero bad =
-    by_walk text (IsTooLarge text) (too_large text not_zero) true (drop_while is_whitespace text) (take_while is_whitespace text) [] (begun text)
+    by_walk text (IsTooLarge text) (too_large_steps text not_zero) true (drop_while is_whitespace text) (take_while is_whitespace text) [] (begun text)
     ((within_tells [] tt).0 refl) bad

@@ -8,16 +8,16 @@ use Rattle.std.proofs.lemmas.Bool.{cases_Bool}
 use Rattle.std.proofs.lemmas.Slice.Eq.{bytes_eq-Decides}
 use Rattle.humantime.specs.Durations.Characters.{bare_zero}
 use Rattle.humantime.specs.Durations.Spans.{SpelledSpan, Reads}
-use Rattle.humantime.specs.Durations.Accepted.{value, Formed, WithinLimits, Accepted, Bare_zero, Sum_of}
+use Rattle.humantime.specs.Durations.Accepted.{value, Formed, WithinLimits, Accepted, BareZero, SumOf}
 use Rattle.humantime.specs.Durations.Faults.{span_of, Fault, NumberOverflow, Stops, BreaksLimit, HasFault}
 use Rattle.humantime.specs.Durations.Items.{Items, items_of}
 use Rattle.humantime.specs.Laws.ExactlyOne.{ExactlyOne}
 use Rattle.humantime.specs.Laws.Outcomes.{IsOutcome}
-use Rattle.humantime.specs.Answers.Walks.{walk_from, items, sum_spans}
+use Rattle.humantime.specs.Results.Walks.{walk_from, items, sum_spans}
 use Rattle.humantime.specs.declared.duration.error.DurationError.{DurationError}
 use Rattle.humantime.specs.Durations.Errors.{result_view, PointsInto}
-use Rattle.humantime.specs.Answers.Durations.{IsDurationAnswer, duration_answer}
-use Rattle.humantime.proofs.Durations.Reading.Summed.{sum_spans_within, too_large, summed_value, summed_fault, within_front}
+use Rattle.humantime.specs.Results.Durations.{IsDurationAnswer, duration_answer}
+use Rattle.humantime.proofs.Durations.Reading.Summed.{sum_spans_within, sum_too_large, summed_value, summed_fault, within_front}
 use Rattle.humantime.proofs.Durations.Reading.Spelled.{next_of}
 use Rattle.humantime.proofs.Durations.Reading.Stopping.{fine_goes}
 use Rattle.humantime.proofs.Durations.Reading.Written.{formed_here}
@@ -52,8 +52,8 @@ items_whole text spans h f = record { front = text; rest = []; split = split_who
 
 pub outcome_accepted : (text : List ℕ) (v : ℕ) → Accepted text v → duration_answer text ≡ Ok v
 unfolding sum_spans
-outcome_accepted text v (Bare_zero zero none) = rw (zero, none) duration_answer-zero
-outcome_accepted text v (Sum_of spans reads within sum) = grind (arith, (outcome_summed text spans None (not_zero text spans reads) (items_whole text spans reads within.formed)), (sum_spans_within spans None within), sum)
+outcome_accepted text v (BareZero zero none) = rw (zero, none) duration_answer-zero
+outcome_accepted text v (SumOf spans reads within sum) = grind (arith, (outcome_summed text spans None (not_zero text spans reads) (items_whole text spans reads within.formed)), (sum_spans_within spans None within), sum)
 
 stop_outcome : (text : List ℕ) (e : Fault) (h : HasFault text e) → Stops text h.front h.spans h.rest e → duration_answer text ≡ Err e
 unfolding sum_spans
@@ -69,7 +69,7 @@ over_outcome text e h b =
       (walk-right (first_after true h.spans) text h.rest (fine_goes text h.rest b.span)),
       walk,
       (duration_answer-items text h.not_zero),
-      (too_large (h.spans ++ span_of h.rest ∷ map span_of more.starts) more.stop),
+      (sum_too_large (h.spans ++ span_of h.rest ∷ map span_of more.starts) more.stop),
       (items_found text).formed,
       (append_assoc h.spans (span_of h.rest ∷ []) (map span_of more.starts)),
       (within_front (h.spans ++ span_of h.rest ∷ []) (map span_of more.starts)),
@@ -85,7 +85,7 @@ value_only : (text : List ℕ) (spans : List SpelledSpan) (stop : Option Fault) 
 value_only text spans stop v some h o = summed_value spans stop v h.formed (sym (outcome_summed text spans stop some h) ∙ o)
 
 sum_accepted : (text : List ℕ) (spans : List SpelledSpan) (stop : Option Fault) (v : ℕ) → Items text spans stop → (stop ≡ None) × WithinLimits spans × (value spans ≡ v) → Accepted text v
-sum_accepted text spans stop v h d = let i = rw d.0 at h in Sum_of spans (grind (arith, common_steps, (i))) d.1 d.2
+sum_accepted text spans stop v h d = let i = rw d.0 at h in SumOf spans (grind (arith, common_steps, (i))) d.1 d.2
 
 pub items_decide_fault : (text : List ℕ) (spans : List SpelledSpan) (e : Fault) → Items text spans (Some e) → text ≢ bare_zero
     → WithinLimits spans → HasFault text e
@@ -93,7 +93,7 @@ items_decide_fault text spans e h some g = record { not_zero = some; front = h.f
 
 pub accepted_from_outcome : (text : List ℕ) (v : ℕ) → duration_answer text ≡ Ok v → Accepted text v
 accepted_from_outcome text v h = elim (zero_or_not text) [
-  | inl z ↦ Bare_zero z (let p = duration_answer-zero in cc)
+  | inl z ↦ BareZero z (let p = duration_answer-zero in cc)
   | inr n ↦ let i = items_found text in sum_accepted text (items text).0 (items text).1 v i (value_only text (items text).0 (items text).1 v n i h)
 ]
 
@@ -114,7 +114,7 @@ items_decide_value text spans stop h some v = (λ a. value_only text spans stop 
 
 pub items_decide_overflow : (text : List ℕ) (spans : List SpelledSpan) (stop : Option Fault) → Items text spans stop → text ≢ bare_zero
     → ¬ (WithinLimits spans) → HasFault text NumberOverflow
-items_decide_overflow text spans stop h some b = fault_from_outcome text NumberOverflow (outcome_summed text spans stop some h ∙ too_large spans stop h.formed b)
+items_decide_overflow text spans stop h some b = fault_from_outcome text NumberOverflow (outcome_summed text spans stop some h ∙ sum_too_large spans stop h.formed b)
 
 -- Therefore the result of parsing is the value or the fault.
 pub answer_accepts : (text : List ℕ) (r : Result ℕ Fault) → r ≡ duration_answer text → (v : ℕ) → (r ≡ Ok v) ↔ Accepted text v

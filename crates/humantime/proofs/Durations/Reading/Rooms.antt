@@ -8,7 +8,7 @@ use Rattle.humantime.specs.Values.{nanos_per_second}
 use Rattle.humantime.specs.Durations.Characters.{u64_max}
 use Rattle.humantime.specs.Durations.Units.{Addition}
 use Rattle.humantime.specs.Durations.Accepted.{addition_nanos, total, has_room, AllHaveRoom}
-use Rattle.humantime.specs.Answers.Walks.{add_all}
+use Rattle.humantime.specs.Results.Walks.{add_all}
 
 -- Tests that no addition overflows after a sum of `t` nanoseconds.
 abbrev pub room_from : ℕ → List Addition → Bool

@@ -3,7 +3,7 @@ use Rattle.std.proofs.Common.{◌≡◌, ◌≢◌, ℕ, zero, suc, ◌≤◌, B
 use Rattle.humantime.specs.Texts.{begins}
 use Rattle.humantime.specs.Durations.Characters.{is_digit}
 use Rattle.humantime.specs.Durations.Faults.{Fault, Empty}
-use Rattle.humantime.specs.Answers.Walks.{Walk, empty_walk, one_more, walk, walk_from, fault_at}
+use Rattle.humantime.specs.Results.Walks.{Walk, empty_walk, one_more, walk, walk_from, fault_at}
 use Rattle.humantime.proofs.Durations.Reading.Spelled.{next_of, next_smaller}
 
 -- What has to be proved of each rest and of the walk from there: at the end, at an error, and at a span.

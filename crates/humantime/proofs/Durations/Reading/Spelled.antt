@@ -5,7 +5,7 @@ use Rattle.humantime.specs.Texts.{take_while, drop_while, begins, ends}
 use Rattle.humantime.specs.Durations.Characters.{is_whitespace, is_digit, is_letter, is_numeric}
 use Rattle.humantime.specs.Durations.Spans.{SpelledSpan, Only, SpellsFraction, Spells}
 use Rattle.humantime.specs.Durations.Faults.{number_of, after_number, after_point, fraction_of, after_fraction, after_word, span_of}
-use Rattle.humantime.specs.Answers.Walks.{ends_span}
+use Rattle.humantime.specs.Results.Walks.{ends_span}
 use Rattle.humantime.proofs.Durations.Reading.Classes.{letter_not_numeric, letter_not_point, letter_not_whitespace, whitespace_is_numeric, point_not_numeric, is_point-46}
 use Rattle.humantime.proofs.Durations.Reading.Spellings.{spells_alone}
 use Rattle.humantime.proofs.Durations.Reading.Runs.{take_while-append, drop_while-append, drop_while_shorter, begins-append, begins_not_nil, letters_begin, ends_Only, ends_other, ends-append}
@@ -15,7 +15,7 @@ abbrev pub next_of : List ℕ → List ℕ
 next_of rest = drop_while is_whitespace (after_word rest)
 
 -- The rest begins with a digit, and its span and the text after it are these.
-pub record IsSpanAt (rest : List ℕ) (s : SpelledSpan) (next : List ℕ) : Type 0 where
+pub record IsSpelledAt (rest : List ℕ) (s : SpelledSpan) (next : List ℕ) : Type 0 where
   pub starts : begins is_digit rest ≡ true
   pub span : span_of rest ≡ s
   pub point : fraction_of rest ≢ Some []
@@ -55,7 +55,7 @@ followed a b word [] here next whole only some whitespace o = grind (arith, (end
 followed a b word (x ∷ xs) here next whole only some whitespace o = whitespace_is_numeric x (whitespace.0)
 
 -- A spelling is the span at its start, if its word ends with it.
-pub spelled_here : (here next : List ℕ) (s : SpelledSpan) → Spells here s [] → (ends_span next ≡ true) ⊎ (ends is_whitespace here ≡ true) → begins is_whitespace next ≡ false → IsSpanAt (here ++ next) s next
+pub spelled_here : (here next : List ℕ) (s : SpelledSpan) → Spells here s [] → (ends_span next ≡ true) ⊎ (ends is_whitespace here ≡ true) → begins is_whitespace next ≡ false → IsSpelledAt (here ++ next) s next
 spelled_here here next s h o no_whitespace =
     let letter = letters_begin s.word h.word in
     let f : ends_span (h.whitespace ++ next) ≡ true = followed h.number_text h.fraction_text s.word h.whitespace here next (spells_alone here s h) h.word.0 letter h.only_whitespace o in

@@ -10,7 +10,7 @@ use Rattle.humantime.specs.Durations.Units.{scale_of_word}
 use Rattle.humantime.specs.Durations.Spans.{SpelledSpan}
 use Rattle.humantime.specs.Durations.Accepted.{is_some_and}
 use Rattle.humantime.specs.Durations.Faults.{Fault, EndsSpan, BeginsSpan, Stops}
-use Rattle.humantime.specs.Answers.Walks.{stop_at, fault_at, ends_span}
+use Rattle.humantime.specs.Results.Walks.{stop_at, fault_at, ends_span}
 use Rattle.humantime.proofs.Durations.Reading.Runs.{take_while-drop_while}
 
 -- ---- each test, and the condition of the table

@@ -7,7 +7,7 @@ use Rattle.std.specs.List.{AllByRecursion}
 use Rattle.std.proofs.lemmas.List.Sums.{sum_by-append}
 use Rattle.humantime.specs.Durations.Spans.{SpelledSpan}
 use Rattle.humantime.specs.Durations.Accepted.{addition_nanos, total, additions_of, additions, value, Formed, fits, WithinLimits}
-use Rattle.humantime.specs.Answers.Walks.{add_span, sum_spans}
+use Rattle.humantime.specs.Results.Walks.{add_span, sum_spans}
 use Rattle.humantime.specs.Durations.Faults.{Fault, NumberOverflow}
 use Rattle.humantime.specs.Durations.Items.{items_of}
 use Rattle.humantime.proofs.Durations.Reading.Rooms.{room_from, add_all-is, room_from-append, room_tells}
@@ -48,18 +48,18 @@ sum_spans_within spans stop g = grind (arith, (sum_spans-is 0 spans (items_of []
 pub within_or_beyond : (spans : List SpelledSpan) → AllByRecursion Formed spans → WithinLimits spans ⊎ ¬ (WithinLimits spans)
 within_or_beyond spans f = grind (arith, (within_tells spans f))
 
-pub too_large : (spans : List SpelledSpan) (stop : Option Fault) → AllByRecursion Formed spans → ¬ (WithinLimits spans) → sum_spans 0 (items_of spans stop) ≡ Err NumberOverflow
-too_large spans stop f bad = grind (arith, (sum_spans-is 0 spans (items_of [] stop)), (within_tells spans f))
+pub sum_too_large : (spans : List SpelledSpan) (stop : Option Fault) → AllByRecursion Formed spans → ¬ (WithinLimits spans) → sum_spans 0 (items_of spans stop) ≡ Err NumberOverflow
+sum_too_large spans stop f bad = grind (arith, (sum_spans-is 0 spans (items_of [] stop)), (within_tells spans f))
 
 -- The converse.
 pub summed_value : (spans : List SpelledSpan) (stop : Option Fault) (v : ℕ) → AllByRecursion Formed spans → sum_spans 0 (items_of spans stop) ≡ Ok v → (stop ≡ None) × WithinLimits spans × (value spans ≡ v)
 unfolding sum_spans
-summed_value spans stop v f h = grind (arith, (within_or_beyond spans f), (sum_spans_within spans stop), (too_large spans stop f))
+summed_value spans stop v f h = grind (arith, (within_or_beyond spans f), (sum_spans_within spans stop), (sum_too_large spans stop f))
 
 pub summed_fault : (spans : List SpelledSpan) (stop : Option Fault) (e : Fault) → AllByRecursion Formed spans → sum_spans 0 (items_of spans stop) ≡ Err e
     → (WithinLimits spans × (stop ≡ Some e)) ⊎ (¬ (WithinLimits spans) × (NumberOverflow ≡ e))
 unfolding sum_spans
-summed_fault spans stop e f h = grind (arith, (within_or_beyond spans f), (sum_spans_within spans stop), (too_large spans stop f))
+summed_fault spans stop e f h = grind (arith, (within_or_beyond spans f), (sum_spans_within spans stop), (sum_too_large spans stop f))
 
 -- The first spans of a list are within the limits if all are.
 within_from-front : (t : ℕ) (ss ts : List SpelledSpan) → within_from t (ss ++ ts) ≡ true → within_from t ss ≡ true

@@ -8,10 +8,10 @@ use Rattle.humantime.specs.Durations.Spans.{SpelledSpan, SpellsEach}
 use Rattle.humantime.specs.Durations.Accepted.{Formed}
 use Rattle.humantime.specs.Durations.Faults.{Fault, Split, span_of}
 use Rattle.humantime.specs.Durations.Items.{Items, Ends}
-use Rattle.humantime.specs.Answers.Walks.{Walk, empty_walk, walk_from, spans_of_walk, items, ends_span}
+use Rattle.humantime.specs.Results.Walks.{Walk, empty_walk, walk_from, spans_of_walk, items, ends_span}
 use Rattle.humantime.proofs.Durations.Reading.Classes.{digit_is_numeric, digit_not_whitespace}
 use Rattle.humantime.proofs.Durations.Reading.Runs.{drop_while-append, begins-append, begins_other, begins_not_nil, ends-append}
-use Rattle.humantime.proofs.Durations.Reading.Spelled.{IsSpanAt, spelled_here}
+use Rattle.humantime.proofs.Durations.Reading.Spelled.{IsSpelledAt, spelled_here}
 use Rattle.humantime.proofs.Durations.Reading.Spellings.{apart}
 use Rattle.humantime.proofs.Durations.Reading.SpanWalks.{walk-end, walk-wrong, walk-right}
 use Rattle.humantime.proofs.Durations.Reading.Stopping.{fine_goes, stops_at}
@@ -43,7 +43,7 @@ closes_more xs ys rest [] h o = inl refl
 closes_more xs ys rest (s ∷ ss) h o = rw (ends-append is_whitespace xs ys (begins_not_nil is_digit ys (each_starts ys s ss h))) at o
 
 -- The first of these spans is the span at the start of the text.
-pub first_here : (body rest : List ℕ) (s : SpelledSpan) (ss : List SpelledSpan) (h : SpellsEach body (s ∷ ss)) → Closes body rest → begins is_whitespace rest ≡ false → IsSpanAt (body ++ rest) s (h.0 ++ rest)
+pub first_here : (body rest : List ℕ) (s : SpelledSpan) (ss : List SpelledSpan) (h : SpellsEach body (s ∷ ss)) → Closes body rest → begins is_whitespace rest ≡ false → IsSpelledAt (body ++ rest) s (h.0 ++ rest)
 first_here body rest s ss h o e = grind (arith, common_steps, (spelled_here (apart body h.0 s h.1).here (h.0 ++ rest) s (apart body h.0 s h.1).spells (closes_here (apart body h.0 s h.1).here h.0 rest ss h.2 (subst (λ b. Closes b rest) (apart body h.0 s h.1).whole o)) (no_whitespace_before h.0 rest ss h.2 e)))
 
 -- Whether no span precedes the rest, after these spans.

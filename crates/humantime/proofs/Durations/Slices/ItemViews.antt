@@ -5,10 +5,10 @@ use Rattle.humantime.specs.Texts.{drop_while}
 use Rattle.humantime.specs.Durations.Characters.{is_whitespace, bare_zero}
 use Rattle.humantime.specs.Durations.Spans.{SpelledSpan}
 use Rattle.humantime.specs.Durations.Faults.{span_of, Fault}
-use Rattle.humantime.specs.Answers.Walks.{Walk, walk_of, sum_spans}
-use Rattle.humantime.specs.Answers.Durations.{duration_answer}
+use Rattle.humantime.specs.Results.Walks.{Walk, walk_of, sum_spans}
+use Rattle.humantime.specs.Results.Durations.{duration_answer}
 use Rattle.humantime.specs.Durations.Items.{SpanView, AreSpanViews, items_of, AreItems}
-use Rattle.humantime.specs.Answers.Items.{view_at, item_views, span_in}
+use Rattle.humantime.specs.Results.Items.{view_at, item_views, span_in}
 use Rattle.humantime.proofs.Durations.Reading.Found.{items_found_at}
 use Rattle.humantime.proofs.Durations.Reading.Outcomes.{items_walked, duration_answer-items}
 use Rattle.humantime.proofs.Durations.Reading.SpanWalks.{Steps, by_walk}

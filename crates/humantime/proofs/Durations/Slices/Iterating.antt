@@ -3,9 +3,9 @@ use Rattle.std.proofs.Common.{◌≡◌, ◌≢◌, ℕ, Bool, true, false, List
 use Rattle.humantime.specs.Texts.{begins, drop_while}
 use Rattle.humantime.specs.Durations.Characters.{is_whitespace, is_digit, offset_of}
 use Rattle.humantime.specs.Durations.Faults.{Fault, NumberExpected, Empty, after_word}
-use Rattle.humantime.specs.Answers.Walks.{stop_at}
+use Rattle.humantime.specs.Results.Walks.{stop_at}
 use Rattle.humantime.specs.Durations.Items.{SpanView}
-use Rattle.humantime.specs.Answers.Items.{view_at, views_on, left_at}
+use Rattle.humantime.specs.Results.Items.{view_at, views_on, left_at}
 use Rattle.humantime.proofs.Durations.Reading.Runs.{begins_not_nil}
 use Rattle.humantime.proofs.Durations.Reading.SpanWalks.{walk-end, walk-wrong, walk-right}
 

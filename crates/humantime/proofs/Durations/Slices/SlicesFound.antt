@@ -9,7 +9,7 @@ use Rattle.humantime.specs.Durations.Characters.{is_whitespace, is_digit, is_let
 use Rattle.humantime.specs.Durations.Spans.{SpelledSpan, Only, SpellsFraction}
 use Rattle.humantime.specs.Durations.Faults.{after_number, after_fraction}
 use Rattle.humantime.specs.Durations.Items.{SpanView, IsDigitSlice, IsFractionView, IsSpanView, AreSpanViews}
-use Rattle.humantime.specs.Answers.Items.{trimmed, number_slice, fraction_slice}
+use Rattle.humantime.specs.Results.Items.{trimmed, number_slice, fraction_slice}
 use Rattle.humantime.proofs.Durations.Reading.Classes.{whitespace_is, digit_not_whitespace}
 use Rattle.humantime.proofs.Durations.Reading.Runs.{drop_while-append, begins_other, letters_begin}
 use Rattle.humantime.proofs.Durations.Reading.Spelled.{begins_word, read_spelled}

@@ -8,7 +8,7 @@ use Rattle.humantime.specs.Texts.{begins, take_while, drop_while}
 use Rattle.humantime.specs.Durations.Characters.{is_whitespace, is_digit, is_letter, is_numeric, digits, byte_length, offset_of}
 use Rattle.humantime.specs.Durations.Spans.{Only, SpellsFraction, Spells}
 use Rattle.humantime.specs.Durations.Faults.{after_number, after_point, fraction_of, after_fraction, word_of, after_word, span_of, BeginsSpan}
-use Rattle.humantime.specs.Answers.Items.{trimmed, number_slice, fraction_slice, view_at}
+use Rattle.humantime.specs.Results.Items.{trimmed, number_slice, fraction_slice, view_at}
 use Rattle.humantime.specs.Durations.Items.{IsDigitSlice, IsFractionView, IsSpanView}
 use Rattle.humantime.proofs.Durations.Reading.Classes.{digit_is_numeric}
 use Rattle.humantime.proofs.Durations.Reading.Runs.{take_while-drop_while, Only-take_while, begins-drop_while, begins_take_while, letters_begin, begins_some}

@@ -5,7 +5,7 @@ use Rattle.humantime.specs.declared.date.error.TimestampError.{TimestampError}
 use Rattle.humantime.specs.declared.date.error.TimestampError.TheVariants.{InvalidFormat}
 use Rattle.humantime.specs.Timestamps.Fields.{Fields, IsWeak, IsStrict, IsWeakMoment, IsStrictMoment}
 use Rattle.humantime.specs.Timestamps.Checks.{has_t_and_zone, weak_checks, strict_checks, first_failed}
-use Rattle.humantime.specs.Answers.Timestamps.{moment_at, weak_answer, strict_answer, moment_or_error}
+use Rattle.humantime.specs.Results.Timestamps.{moment_at, weak_answer, strict_answer, moment_or_error}
 use Rattle.humantime.specs.Laws.Timestamps.{OneTimestamp, IsMarked}
 use Rattle.humantime.proofs.Timestamps.Reading.Checks.{fields_of, moment_of_fields}
 use Rattle.humantime.proofs.Timestamps.Reading.Shown.{fields_weak}

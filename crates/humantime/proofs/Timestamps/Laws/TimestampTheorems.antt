@@ -9,7 +9,7 @@ use Rattle.humantime.specs.Timestamps.Fields.{IsWeak, IsStrict, IsWeakMoment, Is
 use Rattle.humantime.specs.Timestamps.Checks.{weak_checks, strict_checks}
 use Rattle.humantime.specs.Laws.Timestamps.{OneTimestamp, StrictForm, PrintedMoment}
 use Rattle.humantime.specs.Timestamps.Printed.{MomentToPrint, cut, IsPrinted, IsPrintedWith, IsPrintable}
-use Rattle.humantime.specs.Answers.Timestamps.{printed_text, weak_answer, strict_answer}
+use Rattle.humantime.specs.Results.Timestamps.{printed_text, weak_answer, strict_answer}
 use Rattle.humantime.proofs.Timestamps.Printing.Printed.{one_printed, printed_some, text_displayed, printed_reads}
 use Rattle.humantime.proofs.Timestamps.Printing.Order.{stamps_in_order}
 use Rattle.humantime.proofs.Timestamps.Laws.Reading as read

@@ -5,7 +5,7 @@ use Rattle.std.proofs.Math.Nat.{pow-suc, one-le-pow, mod-mod_of_dvd, dvd-mul_lef
 use Rattle.std.proofs.Math.Arith.{mod-mul}
 use Rattle.std.proofs.lemmas.Nat.{pow-add}
 use Rattle.humantime.specs.Timestamps.Fields.{fraction_nanos, fraction_digits}
-use Rattle.humantime.specs.Answers.Timestamps.{last_digits}
+use Rattle.humantime.specs.Results.Timestamps.{last_digits}
 use Rattle.humantime.proofs.Timestamps.Reading.Fractions.{AreDigits, add_digits, nanos_added}
 
 -- The first `k` of the last `j` digits, each with its weight, and the remainder.

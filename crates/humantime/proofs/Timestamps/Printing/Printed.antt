@@ -14,7 +14,7 @@ use Rattle.humantime.specs.Values.{nano_of}
 use Rattle.humantime.specs.Timestamps.Fields.{fields_text, moment_of}
 use Rattle.humantime.specs.Timestamps.Printed.{places_of, cut, year_10000, IsPrinted, IsPrintable}
 use Rattle.humantime.specs.Laws.Timestamps.{ReadsAs}
-use Rattle.humantime.specs.Answers.Timestamps.{printed_fields, fields_at, moment_text}
+use Rattle.humantime.specs.Results.Timestamps.{printed_fields, fields_at, moment_text}
 use Rattle.humantime.specs.Steps.Timestamps.{IsSecondOf}
 use Rattle.humantime.specs.Laws.ExactlyOne.{ExactlyOne}
 use Rattle.humantime.proofs.Timestamps.Reading.Bytes.{holds_before_zone}

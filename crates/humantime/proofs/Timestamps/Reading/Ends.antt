@@ -24,6 +24,9 @@ last_offset bytes = grind (arith, common_steps)
 pub no_offset : (bytes : List ℕ) → length bytes < 6 → false ≡ ends_with nat_eq bytes (codes "+00:00")
 no_offset bytes short = grind arith
 
+-- The lemmas about the bytes that may be a zone at the end.
+pub ruleset zone_at_end = (last_letter, no_letter, last_offset, no_offset)
+
 -- ---- The zone at the end
 
 pub some_zone : (bytes : List ℕ) → nat_lt 0 (length (zone_text (zone_of bytes))) ≡ ends_in_zone bytes

@@ -8,7 +8,7 @@ use Rattle.humantime.specs.declared.date.error.TimestampError.{TimestampError}
 use Rattle.humantime.specs.declared.date.error.TimestampError.TheVariants.{OutOfRange, InvalidDigit, InvalidFormat}
 use Rattle.humantime.specs.Timestamps.Fields.{seconds_of}
 use Rattle.humantime.specs.Steps.Timestamps.{has_layout, fraction_answer}
-use Rattle.humantime.specs.Answers.Timestamps.{weak_answer}
+use Rattle.humantime.specs.Results.Timestamps.{weak_answer}
 use Rattle.humantime.specs.declared.date.parse.DateTime.{DateTime}
 use Rattle.humantime.specs.Timestamps.Checks.{has_separator, has_punctuation, has_digits, date_time_of, is_valid_date_time, fraction_part}
 use Rattle.humantime.proofs.Timestamps.Reading.Fractions.{digits_from_test, nanos_bound}
@@ -28,6 +28,9 @@ layout_parts bytes h = grind (arith, nat_tests)
 
 pub fraction_bound : (part : List ℕ) (n : ℕ) → Ok n ≡ fraction_answer part → n < 1_000_000_000
 fraction_bound part n h = grind (arith, nanos_bound, digits_from_test)
+
+-- The lemmas about the checks before the fraction, and about its bound.
+pub ruleset checks_in_order = (exit_separator, layout_parts, fraction_bound)
 
 pub exit_range : (bytes : List ℕ) → has_layout bytes ≡ true → is_valid_date_time (date_time_of bytes) ≡ false → weak_answer bytes ≡ Err OutOfRange
 unfolding weak_answer has_layout

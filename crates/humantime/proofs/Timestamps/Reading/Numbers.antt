@@ -3,7 +3,8 @@ use Rattle.std.proofs.lemmas.Grind.{common_steps}
 use Rattle.std.proofs.Common.{◌≡◌, ℕ, ◌+◌, ◌-◌, ◌*◌, ◌≤◌, List, [], ◌∷◌, length, take, drop, arith}
 use Rattle.std.specs.Prelude.{true, slice_index}
 use Rattle.std.specs.Int.{IsInRange}
-use lib.Lanes.{zip2, dots}
+use lib.Dec.{T}
+use lib.Lanes.{zip2, dots, all_below, pair_sums, products}
 use Rattle.humantime.specs.declared.date.parse.DateTime.{DateTime}
 use Rattle.humantime.specs.Timestamps.Checks.{has_two, has_digits, number_between, date_time_of}
 use Rattle.humantime.proofs.Timestamps.Reading.Checks.{pairs_from_test}
@@ -22,11 +23,27 @@ year_from_test : (bytes : List ℕ) → 4 ≤ length bytes → has_two bytes 0 �
     → let digit = λ (k : ℕ). above (slice_index bytes k) 48 in (digit 0 * 100 + digit 1 * 10 + digit 2) * 10 + digit 3 ≡ number_between bytes 0 4
 year_from_test bytes long century decade = grind (arith, has_two_from_test, number_of_four, digit_above)
 
+-- The weights of the first 16 bytes, and of those from byte 3 on.
+abbrev front_weights : List ℕ
+front_weights = 100 ∷ 10 ∷ 1 ∷ 0 ∷ 0 ∷ 10 ∷ 1 ∷ 0 ∷ 10 ∷ 1 ∷ 0 ∷ 0 ∷ 0 ∷ 0 ∷ 10 ∷ 1 ∷ []
+
+abbrev back_weights : List ℕ
+back_weights = 1 ∷ 0 ∷ 0 ∷ 0 ∷ 0 ∷ 0 ∷ 0 ∷ 0 ∷ 10 ∷ 1 ∷ 0 ∷ 0 ∷ 0 ∷ 0 ∷ 10 ∷ 1 ∷ []
+
+-- The sums of two products fit the 16 bits in which they are computed.
+pub front_fits : (bytes : List ℕ) → 16 ≤ length bytes → T (all_below 32768 (pair_sums (products (zip2 above (take 16 bytes) least) front_weights)))
+front_fits (b0 ∷ b1 ∷ b2 ∷ b3 ∷ b4 ∷ b5 ∷ b6 ∷ b7 ∷ b8 ∷ b9 ∷ b10 ∷ b11 ∷ b12 ∷ b13 ∷ b14 ∷ b15 ∷ r) long = grind arith
+front_fits _ h = absurd (omega arith)
+
+pub back_fits : (bytes : List ℕ) → 16 ≤ length bytes → T (all_below 32768 (pair_sums (products (zip2 above (take 16 bytes) least_back) back_weights)))
+back_fits (b0 ∷ b1 ∷ b2 ∷ b3 ∷ b4 ∷ b5 ∷ b6 ∷ b7 ∷ b8 ∷ b9 ∷ b10 ∷ b11 ∷ b12 ∷ b13 ∷ b14 ∷ b15 ∷ r) long = grind arith
+back_fits _ h = absurd (omega arith)
+
 -- The numbers, by the sums over the first 16 bytes and over those from byte 3 on.
 abbrev summed : List ℕ → DateTime
 summed bytes =
-    let front = slice_index (dots (zip2 above (take 16 bytes) least) (100 ∷ 10 ∷ 1 ∷ 0 ∷ 0 ∷ 10 ∷ 1 ∷ 0 ∷ 10 ∷ 1 ∷ 0 ∷ 0 ∷ 0 ∷ 0 ∷ 10 ∷ 1 ∷ [])) in
-    let back = slice_index (dots (zip2 above (take 16 (drop 3 bytes)) least_back) (1 ∷ 0 ∷ 0 ∷ 0 ∷ 0 ∷ 0 ∷ 0 ∷ 0 ∷ 10 ∷ 1 ∷ 0 ∷ 0 ∷ 0 ∷ 0 ∷ 10 ∷ 1 ∷ [])) in
+    let front = slice_index (dots (zip2 above (take 16 bytes) least) front_weights) in
+    let back = slice_index (dots (zip2 above (take 16 (drop 3 bytes)) least_back) back_weights) in
     record { date = record { year = front 0 * 10 + back 0; month = front 1; day = front 2 }; hour = back 2; minute = front 3; second = back 3 }
 
 abbrev by_digits : (ℕ → ℕ) → DateTime

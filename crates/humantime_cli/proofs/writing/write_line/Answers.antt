@@ -2,8 +2,14 @@ use Rattle.std.proofs.Common.{arith, ◌≡◌, ◌+◌}
 use Rattle.std.proofs.lemmas.Grind.{common_steps}
 use Rattle.std.proofs.lemmas.Result.{MatchResult-from_err}
 use Rattle.humantime_cli.specs.Writes.{Writes}
-use Rattle.humantime_cli.proofs.PieceLemmas.{front_written, more_written}
+use Rattle.humantime_cli.proofs.PieceLemmas.{front_written, more_written, nothing_written}
 use Rattle.humantime_cli.proofs.writing.write_line.Goals as goal
+
+pub returns-in_err-count : goal.returns-in_err-count
+unfolding Writes
+returns-in_err-count g c =
+    let kept = nothing_written _ _ _ _ c.loop-piece.invariant.1 c.in_err-count.ensures in
+    MatchResult-from_err _ _ _ c.from_residual-in_err-count.ensures.0 (λ _. front_written _ _ _ _ c.loop-piece.invariant.0 kept)
 
 pub returns-in_err-done : goal.returns-in_err-done
 unfolding Writes

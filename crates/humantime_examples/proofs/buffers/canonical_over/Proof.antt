@@ -17,7 +17,7 @@ use Rattle.humantime.specs.declared.duration.error.DurationError.{DurationError}
 use Rattle.humantime.specs.Durations.Counts.{IsCanonicalOf}
 use Rattle.humantime.specs.Durations.Errors.{text_result_view, PointsInto}
 use Rattle.humantime.specs.Durations.Faults.{Fault, HasFault}
-use Rattle.humantime.specs.Answers.Durations.{canonical_answer}
+use Rattle.humantime.specs.Results.Durations.{canonical_answer}
 use Rattle.humantime_examples.proofs.Kept.{last_held, kept_at_fault}
 use Rattle.humantime.specs.contracts.canonical as g
 use Rattle.humantime.proofs.canonical.Met as g-met

@@ -1,6 +1,6 @@
 use Rattle.std.proofs.Common.{arith}
 use Rattle.std.specs.Str.{chars}
-use Rattle.humantime.specs.Answers.Durations.{duration_answer}
+use Rattle.humantime.specs.Results.Durations.{duration_answer}
 use Rattle.humantime.proofs.Durations.Reading.Outcomes.{is_answer}
 use Rattle.humantime.proofs.Durations.Slices.ItemViews.{sum_answers}
 use Rattle.humantime.proofs.duration.parse.parse_duration.Goals as goal

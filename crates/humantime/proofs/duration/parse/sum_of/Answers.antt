@@ -1,9 +1,9 @@
 use Rattle.std.proofs.Common.{◌∙◌, ap, arith, chars, List, Result, map}
-use Rattle.humantime.specs.Answers.Items.{span_in, spelled}
+use Rattle.humantime.specs.Results.Items.{span_in, spelled}
 use Rattle.humantime.specs.Durations.Faults.{Fault}
 use Rattle.humantime.specs.Durations.Items.{SpanView}
-use Rattle.humantime.specs.Answers.Spans.{span_view, items_left}
-use Rattle.humantime.specs.Answers.Walks.{sum_spans}
+use Rattle.humantime.specs.Results.Spans.{span_view, items_left}
+use Rattle.humantime.specs.Results.Walks.{sum_spans}
 use Rattle.humantime.proofs.Durations.Slices.ItemViews.{one_span_view}
 use Rattle.humantime.proofs.duration.parse.sum_of.Goals as goal
 

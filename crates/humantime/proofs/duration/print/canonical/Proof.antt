@@ -1,3 +1,23 @@
+-- The contract of `canonical`, proved by hand.
+--
+-- The kit proves a clause `ensures*`, which here says that an error leaves the buffer unchanged, by itself only if the buffer is the first parameter and
+-- a struct or of a generic type. Here it is the second one, and an array. So this proof walks through the compiled body, a call of `write_canonical` and
+-- one of `text_from_len`, in the kit's separation logic. What is held at a point, such as a reference, the token of a lifetime or a known fact, is
+-- a list. A comment in brackets shows it, and `move` and `keep` choose from it by position.
+--
+--  1. `s`, `buf` and the tokens of their lifetimes are taken apart, and the body is entered (`enter`).
+--  2. A lifetime α begins, for which `buf` is lent again (`lends_again`).
+--  3. `write_canonical` is called by its contract `G` (`calls_at`). `heard` names each fact that it ensures.
+--  4. α ends, and `buf` is back (`comes_back`), with the last bytes `y`.
+--  5. `buf` is shared for the rest of its own lifetime (`ref_Share`), so that the result may borrow from it.
+--  6. `text_from_len` is called by its contract `H`, whose two requirements follow from what was heard.
+--  7. The body returns (`returns`), and the clauses of `canonical` follow (`ends_at`): all but the last as facts, and the last by `holds`, from
+--     the last bytes of `buf`.
+--
+-- A change of the body, or of a clause of `write_canonical` or `text_from_len`, changes the steps above that name it: `rt check` then stops at the first
+-- step that does not fit, and prints what is held there, which is to be compared with the list in brackets before it. A new version of the kit may
+-- rename or change what comes from its libraries `base`, `borrow`, `contract`, `denote`, `mir`, `seplogic` and `types`, also by way of
+-- `proofs/Walks.antt`, or hand over the resources in another order.
 use Rattle.humantime.proofs.Walks.{Val, ◌≡◌, ℕ, ◌≤◌, List, [], ◌∷◌, refl, MutBor, proved, full_share, id⊢, emp, ftrue, flft, fres, named, fact, fact_i, tables, ‵, raw, ◌⊛◌, some, later, ◌$◌, ◌∵◌, !, qed, by, move, keep, drop, use0, use1, use2, use3, split, join, fsplit, fjoin, feq_i, feq_l, pick, await, suffices, frame, enter, addr, stop, no_more, and_then, returns, alloc_all, pass_all, free_all, look_at, get, through, sets, of_opd, lands_as, shows, MutRef, mut_vals, shr_vals, mut_Tells, plain, nothing, heard, peeks, calls_at, lasts, triple_of, Stays, stay_dropped, Goes-dropped, Goes-spent_ref, ends_at, yes, no, framed}
 use mir.Syntax.{w8, erased}
 use Rattle.std.specs.Borrow.{Array, u8}
@@ -25,7 +45,7 @@ use Rattle.humantime.specs.Durations.Counts.{IsCanonicalOf}
 use Rattle.std.specs.Result.{result_map_both}
 use Rattle.humantime.specs.Durations.Errors.{fault_of, text_result_view, PointsInto}
 use Rattle.humantime.specs.Durations.Faults.{Fault, HasFault}
-use Rattle.humantime.specs.Answers.Durations.{canonical_answer}
+use Rattle.humantime.specs.Results.Durations.{canonical_answer}
 use Rattle.humantime.specs.contracts.duration.print.canonical as f
 use Rattle.humantime.proofs.duration.print.canonical.Statement.{statement}
 use Rattle.humantime.proofs.duration.print.canonical.Code as code
@@ -54,16 +74,19 @@ canonical_spec {M} 𝓤 𝓛 𝓜 𝓡 wired =
     let Ref = λ (κ' : List ℕ) (y : MutBor (List ℕ)). (MutRef (named 1) κ' A).own_val y vs in
     let Seen = ‵ ((Str (named 0) κ₀).own_val x (text_vals x)) in
     qed 𝓛 (((‵ (flft κ₀ q₀) ⊛ ‵ (flft κ q) ⊛ ‵ ftrue) ⊛ Seen ⊛ ‵ (Ref κ r) ⊛ ‵ ftrue) ∷ ‵ ftrue ∷ []) ∵
+    -- 1
     split ! $ split ! $ move ! (1 ∷ []) $ split ! $ move ! (3 ∷ []) $ split ! $ move ! (1 ∷ []) $ split ! $
     -- [buf; nothing; self; κ; nothing; κ₀; nothing]
     keep ! (0 ∷ 2 ∷ 3 ∷ 5 ∷ []) $
     enter ! _ _ _ _ _ $ alloc_all ! (λ l. pass_all ! refl ((((str-laws (record { mir = named 0; lft = κ₀ })).lawful 𝓛).typed x _ are.0).0, ((tt, tt), tt)) $
     -- [buf; self; the token of κ; that of κ₀]
     sets ! (addr ! (through ! refl (stop !))) refl (tt, tt) $
+    -- 2
     lft_new ! tt (λ α. move ! (1 ∷ 3 ∷ []) $
     use2 𝓛 (later (some (λ (δ : ℕ). ‵ (Ref (α ∷ []) (record r { ghost_name = δ })) ⊛ ‵ (LentAgain A κ (α ∷ []) q r.ghost_name b o δ r.now))))
     (lends_again 𝓛 A (named 1) κ (α ∷ []) q r.ghost_name b o (named 1) r.now) $ await ! tt $ pick ! (λ δ. split ! $
     -- [the loan; what the lender keeps; the token of α; self; that of κ₀]
+    -- 3
     let G = triple_of 𝓛 g.signature (g.spec 𝓛 𝓜.mem 𝓡.returns) in
     let z : G.Ghost = (((κ₀, (α ∷ [], tt)), (q₀, (full_share, tt)), tt, (x, (record r { ghost_name = δ }, tt)), (text_vals x, (vs, tt))), tt) in
     let Len = type_at g.signature.result z.0.0 in
@@ -76,6 +99,7 @@ canonical_spec {M} 𝓤 𝓛 𝓜 𝓡 wired =
     some (λ (ws : Unit {0} × (List ℕ × Unit {0})). ‵ (lasts g.ended z.0.0 z.0.3 ws) ⊛ raw (fact 𝓤 (OnErr m (ws.1.0 ≡ r.now))) ⊛ raw (fact 𝓤 (IfOk m (λ n. n ≤ 64))) ⊛ raw (fact 𝓤 (IfOk m (λ n. IsUtf8 (take n ws.1.0)))) ⊛
     raw (fact 𝓤 (result_map_both (λ n. take n ws.1.0) fault_of m ≡ canonical_answer (chars x.now))) ⊛ raw (fact 𝓤 (IfErr m (PointsInto x.now))))))) (id⊢ 𝓤 _) $
     await ! tt $ pick ! (λ m. split ! $ split ! $ split ! $ move ! (1 ∷ []) $ split ! $ lft_end ! tt $
+    -- 4
     -- [α is over; nothing; that of κ₀; the length; what is said; what the lender keeps]
     move ! (3 ∷ []) $ peeks ! Len _ (shows 𝓛 Len) m (v ∷ []) (λ is.
     let typed = (lts.r-0.laws M 𝓤 𝓛).typed z.0.0 m v is [] (lone Len.mir) (λ _. refl) in
@@ -89,11 +113,13 @@ canonical_spec {M} 𝓤 𝓛 𝓜 𝓡 wired =
     (comes_back 𝓛 A (named 1) κ (α ∷ []) q r.ghost_name b o δ r.now y) $ await ! tt $ split ! $
     -- [buf; the token of κ; its borrow; nothing; the length; nothing; that of κ₀]
     fsplit ! $ feq_l ! (λ _.
+    -- 5
     let s : Bor (List ℕ) = record { ref_ptr = (b, o); now = y } in
     use2 𝓛 (later (‵ ((owned.ShrRef erased κ A).own_val s) ⊛ (‵ (fres r.ghost_name (A.coded.code y)) ⊛ ‵ (flft κ q))))
     (ref_Share 𝓛 A b o r.ghost_name y (Array-row_laws u8 (uint_row_laws w8) 64) κ q (Shares-copy 𝓛 (c_arr u8 (c_rf (f_int w8)) 64) κ)) $ await ! tt $ split ! $ move ! (1 ∷ []) $ split ! $
     -- [buf's last value; the token of κ; what a `&` owns; its borrow; nothing; the length; nothing; that of κ₀]
     sets ! (addr ! (through ! refl (stop !))) refl (tt, tt) $ sets ! (of_opd ! (get ! refl)) refl typed $
+    -- 6
     let H = triple_of 𝓛 h.signature (h.spec 𝓛 𝓜.mem 𝓡.returns) in
     let z' : H.Ghost = (((κ, (κ₀, tt)), (q, (q₀, tt)), tt, (s, (m, tt)), (shr_vals s, (v ∷ [], tt))), tt) in
     let Res = type_at h.signature.result z'.0.0 in
@@ -112,6 +138,7 @@ canonical_spec {M} 𝓤 𝓛 𝓜 𝓡 wired =
     lands_as ! refl refl ((lts.r-1.laws M 𝓤 𝓛).typed z'.0.0 t w is' [] (lone Res.mir) (λ _. refl)) $
     -- [the result; the tokens; what is said; buf's last value]
     move ! (2 ∷ []) $ pick ! (λ ws'. split ! $ move ! (1 ∷ []) $ split ! $ heard ! _ (λ shown. heard ! _ (λ error.
+    -- 7
     returns ! (look_at ! 0 refl) $ free_all ! refl $ move ! (2 ∷ []) $ split ! $ move ! (1 ∷ []) $ split ! $
     -- [the token of κ₀; nothing; that of κ; nothing of the parameters; the result; buf's last value]
     keep ! (0 ∷ 2 ∷ 4 ∷ 5 ∷ []) $

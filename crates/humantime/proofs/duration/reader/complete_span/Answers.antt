@@ -1,12 +1,18 @@
-use Rattle.std.proofs.Common.{◌<◌, length, refl, sym, ap, ◌∙◌, arith}
+use Rattle.std.proofs.Common.{◌≡◌, ◌<◌, length, chars, option_map, refl, sym, ap, ◌∙◌, arith}
+use Rattle.std.specs.Prelude.{◌==◌}
 use Rattle.humantime.specs.Texts.{take_while, drop_while}
 use Rattle.humantime.specs.Durations.Characters.{is_letter, is_whitespace, byte_length, offset_of}
 use Rattle.humantime.specs.Durations.Units.{scale_of_word}
 use Rattle.humantime.proofs.Durations.Reading.Runs.{begins_not_nil}
 use Rattle.humantime.proofs.Durations.Slices.SpanSlices.{next_bytes}
 use Rattle.humantime.proofs.Durations.Slices.Places.{cursor_place, range_between, part_between}
-use Rattle.humantime.proofs.Durations.Bytes.SpanExits.{bare_some, bad_some, exit_no_letter, exit_bare, exit_after, exit_unit, exit_fine, view_read, spelled_read}
+use Rattle.humantime.proofs.Durations.Bytes.SpanExits.{bare_some, bad_some, exit_no_letter, exit_bare, exit_after, exit_unit, exit_fine, view_read, spelled_read, bare_fraction, fraction_slice_is, fraction_parts}
 use Rattle.humantime.proofs.Durations.Bytes.Tails.{byte_length-chars}
+use Rattle.humantime.specs.Durations.Accepted.{is_some_and}
+use Rattle.humantime.specs.Durations.Characters.{is_numeric}
+use Rattle.humantime.specs.Durations.Faults.{fraction_of, after_point, after_number}
+use Rattle.humantime.specs.Steps.Cursors.{ahead}
+use Rattle.humantime.specs.Steps.Scales.{parts_of, counted}
 use Rattle.humantime.proofs.duration.reader.complete_span.Goals as goal
 
 pub returns-in_default : goal.returns-in_default
@@ -19,7 +25,8 @@ returns-in_default c =
 
 pub returns-then-is_bare : goal.returns-then-is_bare
 returns-then-is_bare c =
-    let bare = sym c.has_bare_point-is_bare.ensures ∙ c.if-is_bare.true in record {
+    let is_bare : c.is_some_and-is_bare.result ≡ is_some_and (λ ds. length ds == 0) (fraction_of (ahead c.args.number.start)) = grind (arith, c.is_some_and-is_bare.ensures, bare_fraction c.args.number c.args.fraction c.requires.fraction) in
+    let bare = sym is_bare ∙ c.if-is_bare.true in record {
       stop = rw (← c.args.number.run.same_text) (exit_bare _ _ _ _ _ c.requires.fraction.short c.fraction_end-end.ensures.rest c.in-Some.ensures.begun bare c.args.number.run.behind c.offset-then-is_bare.ensures);
       place = cursor_place _ c.args.number.end _ c.args.number.run.same_text c.offset-then-is_bare.ensures (bare_some _ _ bare c.args.number.run.behind);
       fine = tt;
@@ -27,9 +34,10 @@ returns-then-is_bare c =
 
 pub returns-in_default-end_span : goal.returns-in_default-end_span
 returns-in_default-end_span c =
+    let is_bare : c.is_some_and-is_bare.result ≡ is_some_and (λ ds. length ds == 0) (fraction_of (ahead c.args.number.start)) = grind (arith, c.is_some_and-is_bare.ensures, bare_fraction c.args.number c.args.fraction c.requires.fraction) in
     let word = c.in-Some.ensures in
     let text = c.in-Some.ensures.same_text ∙ c.fraction_end-end.ensures.text in record {
-      stop = rw (← text) (exit_after _ _ _ _ _ c.requires.fraction.short c.fraction_end-end.ensures.rest word.begun (sym c.has_bare_point-is_bare.ensures ∙ c.if-is_bare.false) word.behind
+      stop = rw (← text) (exit_after _ _ _ _ _ c.requires.fraction.short c.fraction_end-end.ensures.rest word.begun (sym is_bare ∙ c.if-is_bare.false) word.behind
           c.in_default-end_span.ensures c.offset-in_default-end_span.ensures);
       place = cursor_place _ c.in-Some.word.end _ text c.offset-in_default-end_span.ensures (bad_some _ c.in_default-end_span.ensures);
       fine = tt;
@@ -37,10 +45,11 @@ returns-in_default-end_span c =
 
 pub returns-in_default-scale_of : goal.returns-in_default-scale_of
 returns-in_default-scale_of c =
+    let is_bare : c.is_some_and-is_bare.result ≡ is_some_and (λ ds. length ds == 0) (fraction_of (ahead c.args.number.start)) = grind (arith, c.is_some_and-is_bare.ensures, bare_fraction c.args.number c.args.fraction c.requires.fraction) in
     let word = c.in-Some.ensures in
     let end = c.fraction_end-end.ensures in
     let text = c.in-Some.ensures.same_text ∙ end.text in record {
-      stop = exit_unit _ _ _ _ _ _ _ _ c.requires.fraction.short end.rest word.begun (sym c.has_bare_point-is_bare.ensures ∙ c.if-is_bare.false) word.behind
+      stop = exit_unit _ _ _ _ _ _ _ _ c.requires.fraction.short end.rest word.begun (sym is_bare ∙ c.if-is_bare.false) word.behind
           c.in-Some-end_span.ensures.ends word.utf8 word.letters (sym (c.in_default-scale_of.ensures ∙ c.in-Some.word.scale))
           (rw end.text at c.offset-in_default-scale_of.ensures) (rw text at c.offset-in_default-scale_of-2.ensures) c.args.number.digits;
       place = part_between _ _ c.fraction_end-end.result c.in-Some.word.end _ _ end.text text word.whole c.offset-in_default-scale_of.ensures c.offset-in_default-scale_of-2.ensures;
@@ -49,14 +58,18 @@ returns-in_default-scale_of c =
 
 pub invariant_of-span-2 : goal.invariant_of-span-2
 invariant_of-span-2 c =
+    let slice : option_map (λ t. chars t.now) c.map.result ≡ option_map (take_while is_numeric) (after_point (after_number (ahead c.args.number.start))) = grind (arith, c.map.ensures.cases, fraction_slice_is c.args.number c.args.fraction c.requires.fraction) in
+    let parts : option_map parts_of c.map-2.result ≡ option_map counted (fraction_of (ahead c.args.number.start)) = grind (arith, c.map-2.ensures.cases, fraction_parts c.args.number c.args.fraction c.requires.fraction) in
     let letters = c.in-Some.ensures.letters ∙ ap (take_while is_letter) c.fraction_end-end.ensures.rest in
     record {
-      read = rw (spelled_read _ _ _ c.fraction_slice.result c.args.number.run.run letters c.fraction_slice.ensures)
-          (record { scale = sym (c.in-Some-scale_of.ensures ∙ c.in-Some.word.scale ∙ ap scale_of_word letters); value = c.args.number.digits; fraction = c.fraction_value.ensures.parts });
+      read = rw (spelled_read _ _ _ c.map.result c.args.number.run.run letters slice)
+          (record { scale = sym (c.in-Some-scale_of.ensures ∙ c.in-Some.word.scale ∙ ap scale_of_word letters); value = c.args.number.digits; fraction = parts });
     }
 
 pub returns : goal.returns
 returns c =
+    let slice : option_map (λ t. chars t.now) c.map.result ≡ option_map (take_while is_numeric) (after_point (after_number (ahead c.args.number.start))) = grind (arith, c.map.ensures.cases, fraction_slice_is c.args.number c.args.fraction c.requires.fraction) in
+    let is_bare : c.is_some_and-is_bare.result ≡ is_some_and (λ ds. length ds == 0) (fraction_of (ahead c.args.number.start)) = grind (arith, c.is_some_and-is_bare.ensures, bare_fraction c.args.number c.args.fraction c.requires.fraction) in
     let word = c.in-Some.ensures in
     let end = c.fraction_end-end.ensures in
     let next = c.in-Some-end_span.ensures in
@@ -64,11 +77,11 @@ returns c =
     let after = word.behind ∙ ap (drop_while is_letter) end.rest in
     let less : length c.in-Some.word.end.rest.now < length c.args.number.start.rest.now =
     omega (arith, next_bytes _ c.requires.digit, byte_length-chars _ c.args.number.start.tail.utf8, byte_length-chars _ c.in-Some.word.end.tail.utf8, ap byte_length after) in record {
-      stop = exit_fine _ _ _ _ _ _ c.requires.fraction.short end.rest word.begun (sym c.has_bare_point-is_bare.ensures ∙ c.if-is_bare.false) word.behind next.ends
+      stop = exit_fine _ _ _ _ _ _ c.requires.fraction.short end.rest word.begun (sym is_bare ∙ c.if-is_bare.false) word.behind next.ends
           word.letters (sym (c.in-Some-scale_of.ensures ∙ c.in-Some.word.scale));
       place = tt;
       fine = record {
-        view = view_read _ _ _ _ _ _ _ _ c.args.number.run.run c.fraction_slice.ensures (word.letters ∙ ap (take_while is_letter) end.rest) c.offset-2.ensures
+        view = view_read _ _ _ _ _ _ _ _ c.args.number.run.run slice (word.letters ∙ ap (take_while is_letter) end.rest) c.offset-2.ensures
             (rw text at c.offset-3.ensures ∙ ap (offset_of _) after) c.args.number.digits;
         follows = next.same ∙ ap (drop_while is_whitespace) after;
         shorter = omega (arith, next.shorter, less);

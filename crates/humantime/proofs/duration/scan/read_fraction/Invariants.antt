@@ -1,5 +1,5 @@
 use Rattle.std.proofs.Common.{◌≤◌, ◌-◌, ℕ, List, length}
-use Rattle.humantime.specs.Steps.Scanning.{AreDigits}
+use Rattle.humantime.specs.Steps.Scanning.{HasDigits}
 use Rattle.humantime.proofs.Durations.Bytes.Numbers.{IsRead}
 use Rattle.humantime.proofs.duration.scan.read_fraction.Given as goal
 
@@ -7,7 +7,7 @@ abbrev pub invariant-loop-at : goal.invariant-loop-at
 invariant-loop-at l = record {
   taken : List ℕ;
   read : IsRead l.text l.at taken;
-  digits : AreDigits l.value taken;
+  digits : HasDigits l.value taken;
   few : length taken ≤ l.at;
 }
 

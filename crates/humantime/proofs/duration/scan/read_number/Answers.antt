@@ -2,7 +2,7 @@ use Rattle.std.proofs.Common.{◌≡◌, ◌∷◌, [], get_or, sym, ap, ◌∙�
 use Rattle.humantime.specs.Texts.{begins, decimal_value}
 use Rattle.humantime.specs.Durations.Characters.{is_numeric}
 use Rattle.humantime.proofs.Durations.Reading.Classes.{digit_is}
-use Rattle.humantime.proofs.Durations.Bytes.Numbers.{other_left, first_digit, digit_range, none_read, read_digit, digit_more, read_whitespace, stops_here, run_is_read, value_more, number_passes}
+use Rattle.humantime.proofs.Durations.Bytes.Numbers.{other_left, first_digit, digit_range, none_read, read_digit, number_extended, read_whitespace, stops_here, run_is_read, value_more, number_passes}
 use Rattle.humantime.proofs.Durations.Bytes.Tails.{no_chars_at}
 use Rattle.humantime.proofs.duration.scan.read_number.Goals as goal
 use Rattle.humantime.proofs.duration.scan.read_number.Goals.{else-loop-at-test, then-loop-at-test+else-digit-le9+in-None}
@@ -23,13 +23,13 @@ loop-at-init c =
 pub loop-at-preserved-else-value-ge-TENTH_OF_MAX : goal.loop-at-preserved-else-value-ge-TENTH_OF_MAX
 loop-at-preserved-else-value-ge-TENTH_OF_MAX c =
     let i = c.loop-at.invariant in
-    let more = digit_more _ _ _ _ c.args.start.tail.utf8 c.as_bytes-bytes.ensures.value c.loop-at-test.true i.read (i.bytes c.loop-at.at) c.if-digit-le9.true in
+    let more = number_extended _ _ _ _ c.args.start.tail.utf8 c.as_bytes-bytes.ensures.value c.loop-at-test.true i.read (i.bytes c.loop-at.at) c.if-digit-le9.true in
     record { taken = _; read = more.0; value = omega (arith, more.1, i.value); fits = omega (arith, c.if-value-ge-TENTH_OF_MAX.false, c.if-digit-le9.true); bytes = i.bytes }
 
 pub loop-at-preserved-in_ok-value : goal.loop-at-preserved-in_ok-value
 loop-at-preserved-in_ok-value c =
     let i = c.loop-at.invariant in
-    let more = digit_more _ _ _ _ c.args.start.tail.utf8 c.as_bytes-bytes.ensures.value c.loop-at-test.true i.read (i.bytes c.loop-at.at) c.if-digit-le9.true in
+    let more = number_extended _ _ _ _ c.args.start.tail.utf8 c.as_bytes-bytes.ensures.value c.loop-at-test.true i.read (i.bytes c.loop-at.at) c.if-digit-le9.true in
     record { taken = _; read = more.0; value = omega (arith, c.in_ok-value.ensures.1, more.1, i.value); fits = omega (arith, c.in_ok-value.ensures); bytes = i.bytes }
 
 pub loop-at-preserved : goal.loop-at-preserved
@@ -41,7 +41,7 @@ loop-at-preserved c =
 pub returns-in_err-value : goal.returns-in_err-value
 returns-in_err-value c =
     let i = c.loop-at.invariant in
-    let more = digit_more _ _ _ _ c.args.start.tail.utf8 c.as_bytes-bytes.ensures.value c.loop-at-test.true i.read (i.bytes c.loop-at.at) c.if-digit-le9.true in
+    let more = number_extended _ _ _ _ c.args.start.tail.utf8 c.as_bytes-bytes.ensures.value c.loop-at-test.true i.read (i.bytes c.loop-at.at) c.if-digit-le9.true in
     rw c.from_residual.ensures (number_passes _ _ _ more.0 (omega (arith, c.in_err-value.ensures, more.1, i.value)))
 
 pub invariant_of-result : goal.invariant_of-result

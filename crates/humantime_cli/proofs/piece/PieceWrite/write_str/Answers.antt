@@ -1,23 +1,21 @@
-use Rattle.std.proofs.Common.{arith, ◌≡◌, ◌-◌, ◌∙◌, ◌++◌, ap, sym, min, take, drop, length, length-append, length-drop, length-take}
-use Rattle.std.proofs.Math.Seq.{drop-append-add}
-use Rattle.std.proofs.lemmas.List.{take_rest, take_at}
+use Rattle.std.proofs.Common.{arith, ◌≡◌, ◌+◌, ◌-◌, ◌∙◌, ◌++◌, List, ℕ, refl, ap, min, take, drop, length, length-drop, length-take}
+use Rattle.std.proofs.lemmas.List.{take_rest}
+use Rattle.std.proofs.lemmas.Slice.{take-put_mid}
 use Rattle.std.proofs.lemmas.Grind.{common_steps}
+use Rattle.humantime_cli.proofs.PieceLemmas.{longer_piece}
 use Rattle.humantime_cli.proofs.piece.PieceWrite.write_str.Goals as goal
 
 pub returns : goal.returns
 returns c = record {
   ok = λ _ start text is.
-      let skip = c.args.self.now.skip in
+      let old = c.args.self.now in
       let s = c.args.s.now in
+      let skipped = c.min-skipped.result in
       let count = c.min-count.result in
-      let least : count ≡ min (length s - skip) 256 = omega (arith, c.min-count.ensures, length-drop skip s, c.as_bytes.ensures.len, ap length c.as_bytes.ensures.value) in
-      let copied : c.copy_from_slice.new.self ≡ take count (drop skip s) = grind (arith, common_steps, c.copy_from_slice.ensures.after, c.as_bytes.ensures.value, take_rest) in
-      let len : length c.copy_from_slice.new.self ≡ count = omega (arith, ap length copied, length-take count (drop skip s), length-drop skip s, least) in
-      let before = is.none (omega arith) in
-      let rest : drop start (text ++ s) ≡ drop skip s = ap (λ n. drop n (text ++ s)) (omega (arith, before)) ∙ drop-append-add text s skip in
-      record {
-        none = λ end. absurd (omega (arith, end, least));
-        within = λ some. omega (arith, before, least, length-append text s);
-        bytes = take_at _ _ _ len ∙ copied ∙ ap (take count) (sym rest);
-      };
+      let fit : count ≡ min (length s - skipped) (256 - old.len) = omega (arith, c.min-count.ensures, length-drop skipped s, c.as_bytes.ensures.len, ap length c.as_bytes.ensures.value) in
+      let copied : c.copy_from_slice.new.self ≡ take count (drop skipped s) = grind (arith, common_steps, c.copy_from_slice.ensures.after, c.as_bytes.ensures.value, take_rest) in
+      let len : length c.copy_from_slice.new.self ≡ count = omega (arith, ap length copied, length-take count (drop skipped s), length-drop skipped s, fit) in
+      let bytes = take-put_mid old.len _ old.bytes c.copy_from_slice.new.self (old.len + count) (omega (arith, len)) (omega arith) in
+      longer_piece start skipped count text s old _ is (omega (arith, c.min-skipped.ensures)) fit refl refl
+      (bytes ∙ ap (λ (x : List ℕ). take old.len old.bytes ++ x) copied);
 }

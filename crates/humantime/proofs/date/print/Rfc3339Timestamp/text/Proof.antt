@@ -1,3 +1,23 @@
+-- The contract of `text`, proved by hand.
+--
+-- The kit proves a clause `ensures*`, which here says that the buffer is unchanged if there is no text, by itself only if the buffer is the first parameter and
+-- a struct or of a generic type. Here it is the second one, and an array. So this proof walks through the compiled body, a call of `write` and
+-- one of `text_from_len`, in the kit's separation logic. What is held at a point, such as a reference, the token of a lifetime or a known fact, is
+-- a list. A comment in brackets shows it, and `move` and `keep` choose from it by position.
+--
+--  1. `self`, `buf` and the tokens of their lifetimes are taken apart, and the body is entered (`enter`).
+--  2. A lifetime α begins, for which `buf` is lent again (`lends_again`).
+--  3. `write` is called by its contract `G` (`calls_at`). `heard` names each fact that it ensures.
+--  4. α ends, and `buf` is back (`comes_back`), with the last bytes `y`.
+--  5. `buf` is shared for the rest of its own lifetime (`ref_Share`), so that the result may borrow from it.
+--  6. `text_from_len` is called by its contract `H`, whose two requirements follow from what was heard.
+--  7. The body returns (`returns`), and the clauses of `text` follow (`ends_at`): all but the last as facts, and the last by `holds`, from
+--     the last bytes of `buf`.
+--
+-- A change of the body, or of a clause of `write` or `text_from_len`, changes the steps above that name it: `rt check` then stops at the first
+-- step that does not fit, and prints what is held there, which is to be compared with the list in brackets before it. A new version of the kit may
+-- rename or change what comes from its libraries `base`, `borrow`, `contract`, `denote`, `mir`, `seplogic` and `types`, also by way of
+-- `proofs/Walks.antt`, or hand over the resources in another order.
 use Rattle.std.proofs.lemmas.Grind.{common_steps}
 use Rattle.std.proofs.lemmas.Str.{IsUtf8-from_ascii}
 use Rattle.std.specs.Str.{IsUtf8}
@@ -48,16 +68,19 @@ text_spec {M} 𝓤 𝓛 𝓜 𝓡 wired =
     let Ref = λ (κ' : List ℕ) (y : MutBor (List ℕ)). (MutRef (named 1) κ' A).own_val y vs in
     let Seen = ‵ ((ShrRef (named 0) κ₀ Self).own_val x (shr_vals x)) in
     qed 𝓛 (((‵ (flft κ₀ q₀) ⊛ ‵ (flft κ q) ⊛ ‵ ftrue) ⊛ Seen ⊛ ‵ (Ref κ r) ⊛ ‵ ftrue) ∷ ‵ ftrue ∷ []) ∵
+    -- 1
     split ! $ split ! $ move ! (1 ∷ []) $ split ! $ move ! (3 ∷ []) $ split ! $ move ! (1 ∷ []) $ split ! $
     -- [buf; nothing; self; κ; nothing; κ₀; nothing]
     keep ! (0 ∷ 2 ∷ 3 ∷ 5 ∷ []) $
     enter ! _ _ _ _ _ $ alloc_all ! (λ l. pass_all ! refl ((tt, tt), ((tt, tt), tt)) $
     -- [buf; self; the token of κ; that of κ₀]
     sets ! (addr ! (through ! refl (stop !))) refl (tt, tt) $
+    -- 2
     lft_new ! tt (λ α. move ! (1 ∷ 3 ∷ []) $
     use2 𝓛 (later (some (λ (δ : ℕ). ‵ (Ref (α ∷ []) (record r { ghost_name = δ })) ⊛ ‵ (LentAgain A κ (α ∷ []) q r.ghost_name b o δ r.now))))
     (lends_again 𝓛 A (named 1) κ (α ∷ []) q r.ghost_name b o (named 1) r.now) $ await ! tt $ pick ! (λ δ. split ! $
     -- [the loan; what the lender keeps; the token of α; self; that of κ₀]
+    -- 3
     let G = triple_of 𝓛 g.signature (g.spec 𝓛 𝓜.mem 𝓡.returns) in
     let z : G.Ghost = (((κ₀, (α ∷ [], tt)), (q₀, (full_share, tt)), tt, (x, (record r { ghost_name = δ }, tt)), (shr_vals x, (vs, tt))), tt) in
     nothing ! $ move ! (1 ∷ 0 ∷ []) $ join ! $ move ! (3 ∷ 0 ∷ []) $ join ! $
@@ -68,6 +91,7 @@ text_spec {M} 𝓤 𝓛 𝓜 𝓡 wired =
     use1 𝓛 (later (some (λ (m : Option ℕ). ((‵ (flft κ₀ q₀) ⊛ ‵ (flft (α ∷ []) full_share) ⊛ ‵ ftrue) ⊛ ‵ ((OptionOf usize).own_val m (v ∷ []))) ⊛
     some (λ (ws : Unit {0} × (List ℕ × Unit {0})). ‵ (lasts g.ended z.0.0 z.0.3 ws) ⊛ raw (fact 𝓤 (IsSome m ↔ IsPrintable x.now.moment)) ⊛ raw (fact 𝓤 (IfSome m (λ n. n ≤ 30))) ⊛ raw (fact 𝓤 (IfSome m (λ n. IsPrinted x.now.moment x.now.places (take n ws.1.0)))) ⊛ raw (fact 𝓤 (IfNone m (ws.1.0 ≡ r.now))))))) (id⊢ 𝓤 _) $
     await ! tt $ pick ! (λ m. split ! $ split ! $ split ! $ move ! (1 ∷ []) $ split ! $ lft_end ! tt $
+    -- 4
     -- [α is over; nothing; that of κ₀; the length; what is said; what the lender keeps]
     move ! (3 ∷ []) $ peeks ! (OptionOf usize) _ (shows 𝓛 (OptionOf usize)) m (v ∷ []) (λ is.
     lands_as ! refl refl ((lts.r-0.laws M 𝓤 𝓛).typed z.0.0 m v is [] _ refl) $
@@ -80,11 +104,13 @@ text_spec {M} 𝓤 𝓛 𝓜 𝓡 wired =
     (comes_back 𝓛 A (named 1) κ (α ∷ []) q r.ghost_name b o δ r.now y) $ await ! tt $ split ! $
     -- [buf; the token of κ; its borrow; nothing; the length; nothing; that of κ₀]
     fsplit ! $ feq_l ! (λ _.
+    -- 5
     let s : Bor (List ℕ) = record { ref_ptr = (b, o); now = y } in
     use2 𝓛 (later (‵ ((owned.ShrRef erased κ A).own_val s) ⊛ (‵ (fres r.ghost_name (A.coded.code y)) ⊛ ‵ (flft κ q))))
     (ref_Share 𝓛 A b o r.ghost_name y (Array-row_laws u8 (uint_row_laws w8) 30) κ q (Shares-copy 𝓛 (c_arr u8 (c_rf (f_int w8)) 30) κ)) $ await ! tt $ split ! $ move ! (1 ∷ []) $ split ! $
     -- [buf's last value; the token of κ; what a `&` owns; its borrow; nothing; the length; nothing; that of κ₀]
     sets ! (addr ! (through ! refl (stop !))) refl (tt, tt) $
+    -- 6
     let H = triple_of 𝓛 h.signature (h.spec 𝓛 𝓜.mem 𝓡.returns) in
     let z' : H.Ghost = (((κ, tt), (q, tt), tt, (s, (m, tt)), (shr_vals s, (v ∷ [], tt))), tt) in
     let Res = type_at h.signature.result (κ, tt) in
@@ -101,6 +127,7 @@ text_spec {M} 𝓤 𝓛 𝓜 𝓡 wired =
     lands_as ! refl refl ((lts.r-1.laws M 𝓤 𝓛).typed (κ, tt) t w is' [] (lone Res.mir) (λ _. refl)) $
     -- [the result; the token of κ; nothing; what is said; buf's last value; that of κ₀]
     move ! (3 ∷ []) $ pick ! (λ ws'. split ! $ move ! (1 ∷ []) $ heard ! _ (λ shown.
+    -- 7
     returns ! (look_at ! 0 refl) $ free_all ! refl $ keep ! (5 ∷ 2 ∷ 1 ∷ 4 ∷ []) $
     -- [that of κ₀; the token of κ; the result; buf's last value]
     suffices ! _ (ends_at 𝓛 f.ended stayed c ((κs, qs, bounds, a, (shr_vals x, (vs, tt))), tt) w t (tt, (tt, tt)) (tt, (tt, tt))) $

@@ -3,7 +3,7 @@ use Rattle.humantime.specs.Durations.Counts.{IsCanonicalText}
 use Rattle.std.specs.Prelude.{chars, ◌<◌}
 use Rattle.humantime.specs.Values.{duration_end}
 use Rattle.humantime.proofs.Durations.Laws.DurationTheorems.{printed_duration_reads}
-use Rattle.humantime.specs.Answers.Durations.{duration_answer, duration_text}
+use Rattle.humantime.specs.Results.Durations.{duration_answer, duration_text}
 use Rattle.humantime.proofs.Durations.Printing.GreatestCounts.{printed_is_canon}
 use Rattle.humantime.proofs.duration.print.FormattedDuration.text.Goals as goal
 

@@ -11,7 +11,7 @@ use Rattle.humantime.specs.Timestamps.Printed.{MomentToPrint, year_10000, places
 use Rattle.std.specs.declared.fmt.Formatter.{Formatter}
 use Rattle.std.specs.declared.fmt.Error.{Error}
 use Rattle.std.specs.Fmt.{DisplaysOnOk, DisplaysStyledOnOk, fmt_error}
-use Rattle.humantime.specs.Answers.Dates.{date_of}
+use Rattle.humantime.specs.Results.Dates.{date_of}
 
 -- The moment of the date, time and fraction at their positions in the text.
 abbrev pub moment_at : List ℕ → ℕ

@@ -10,7 +10,7 @@ use Rattle.humantime.specs.Durations.Characters.{is_whitespace}
 use Rattle.humantime.specs.Durations.Errors.{IsRangeIn, PointsInto, fault_of}
 use Rattle.humantime.specs.Durations.Faults.{Fault}
 use Rattle.humantime.specs.Durations.Items.{SpanView}
-use Rattle.humantime.specs.Answers.Items.{left_at, trimmed}
+use Rattle.humantime.specs.Results.Items.{left_at, trimmed}
 
 -- The slices, offsets and number of a span.
 abbrev pub span_view : Span → SpanView

@@ -7,7 +7,7 @@ use Rattle.humantime.specs.Durations.Accepted.{Accepted}
 use Rattle.humantime.specs.Durations.Errors.{result_view, PointsInto}
 use Rattle.humantime.specs.Durations.Faults.{Fault, HasFault}
 use Rattle.humantime.specs.Durations.Items.{items_of}
-use Rattle.humantime.specs.Answers.Walks.{items, sum_spans}
+use Rattle.humantime.specs.Results.Walks.{items, sum_spans}
 
 -- Returns the duration that a text denotes, in nanoseconds, or its first error.
 unfoldable pub duration_answer : List ℕ → Result ℕ Fault

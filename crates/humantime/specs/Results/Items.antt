@@ -5,7 +5,7 @@ use Rattle.humantime.specs.Texts.{take_while, drop_while, decimal_value}
 use Rattle.humantime.specs.Durations.Characters.{is_whitespace, is_numeric, digits, offset_of}
 use Rattle.humantime.specs.Durations.Spans.{SpelledSpan}
 use Rattle.humantime.specs.Durations.Faults.{number_of, after_number, after_point, word_of, after_word, Fault}
-use Rattle.humantime.specs.Answers.Walks.{Walk, walk_from, walk_of}
+use Rattle.humantime.specs.Results.Walks.{Walk, walk_from, walk_of}
 use Rattle.humantime.specs.Durations.Items.{SpanView, items_of}
 
 -- Removes leading and trailing whitespace.
