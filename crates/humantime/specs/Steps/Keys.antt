@@ -1,7 +1,6 @@
 -- A word as one number, its key.
-use Rattle.std.specs.Prelude.{ℕ, ◌+◌, ◌*◌, ◌==◌, List, [], ◌∷◌, Option, length, reverse, nat_lt, if◌then◌else◌}
+use Rattle.std.specs.Prelude.{ℕ, ◌+◌, ◌*◌, ◌%◌, ◌^◌, ◌==◌, List, [], ◌∷◌, Option, reverse, if◌then◌else◌}
 use Rattle.std.specs.Map.{lookup}
-use Rattle.humantime.specs.declared.unit.words.TheConstants.{MAX_BYTES}
 use Rattle.humantime.specs.Durations.Characters.{micro_sign, greek_mu}
 use Rattle.humantime.specs.Durations.Units.{Scale, words}
 
@@ -10,9 +9,9 @@ abbrev pub packed : List ℕ → ℕ
 packed [] = 1
 packed (b ∷ bs) = packed bs * 256 + b
 
--- The key of a word's bytes: the same number with the first byte highest, or 0 if there are more than `MAX_BYTES` bytes.
+-- The key of a word's bytes: the lowest 64 bits of the same number with the first byte highest.
 abbrev pub key : List ℕ → ℕ
-key bs = if nat_lt MAX_BYTES (length bs) then 0 else packed (reverse bs)
+key bs = packed (reverse bs) % 2 ^ 64
 
 -- The UTF-8 bytes of a word of ASCII letters, micro signs and Greek mus.
 abbrev pub bytes_of : List ℕ → List ℕ

@@ -13,7 +13,7 @@ ghost use Rattle.humantime.specs.Steps.Scanning.{HasDigits, SkipsWhitespace, whi
 
 use crate::duration::amount::{Fraction, push_digit};
 use crate::duration::cursor::Cursor;
-use crate::unit::words::{EMPTY_KEY, push_byte, word_key};
+use crate::unit::words::{EMPTY_KEY, push_byte};
 
 /// The largest number whose product with 10 fits in a `u64`.
 const TENTH_OF_MAX: u64 = u64::MAX / 10;
@@ -241,7 +241,7 @@ fn read_letters(text: &str) -> (usize, u64)
             break;
         }
     }
-    (at, word_key(at, key))
+    (at, key)
 }
 
 /// Reads the word at the cursor, or returns `None` if the next character is not a letter.

@@ -3,22 +3,15 @@
 //! A word is looked up by its key, the number whose digits in base 256 are a 1 and then the bytes of the word. Before you change a
 //! word or a row of [`scale_of`], see "Adding a unit or a word" in docs/CONTRIBUTING.md.
 
-ghost use Rattle.std.specs.Prelude.{◌≡◌, ◌+◌, ◌*◌, ◌^◌, ◌<◌, nat_lt, if◌then◌else◌, option_map};
+ghost use Rattle.std.specs.Prelude.{◌≡◌, ◌+◌, ◌*◌, ◌%◌, ◌^◌, option_map};
 ghost use Rattle.humantime.specs.Steps.Keys.{scale_of_key};
-ghost use Rattle.humantime.specs.declared.unit.words.TheConstants.{MAX_BYTES};
 
 use crate::unit::{Addition, Scale, sizes};
-
-/// The maximum number of bytes in a word, so that its key fits a `u64`.
-const MAX_BYTES: usize = 7;
 
 /// The key of a word without letters.
 pub(crate) const EMPTY_KEY: u64 = 1;
 
-/// The key of every word of more than [`MAX_BYTES`] bytes. No unit has it.
-const NO_UNIT: u64 = 0;
-
-/// The key of a word, computed at compile time. A word of more than [`MAX_BYTES`] bytes does not compile: its key would overflow.
+/// The key of a word, computed at compile time. A word of more than seven bytes does not compile: its key would overflow.
 macro_rules! key {
     ($word:literal) => { key!(@ 1; $word; 0 1 2 3 4 5 6 7) };
     (@ $key:expr; $word:literal;) => { $key };
@@ -132,20 +125,14 @@ const YRS: u64 = key!(b"yrs");
 
 const Y: u64 = key!(b"y");
 
-/// Returns the key of a word with one more byte. It wraps around where the word has more than [`MAX_BYTES`] bytes.
+/// Returns the key of a word with one more byte.
+///
+/// It wraps around if the word has more than seven bytes. No unit has such a key, whose highest byte is then that of a letter or a mu.
 #[inline(always)]
 pub(crate) fn push_byte(key: u64, byte: u8) -> u64
-    ensures { key < 2 ^ 56 → result ≡ key * 256 + byte }
+    ensures { result ≡ (key * 256 + byte) % 2 ^ 64 }
 {
     key.wrapping_mul(256).wrapping_add(byte as u64)
-}
-
-/// Returns the key of a word of `len` bytes, which is `key` unless it has wrapped around.
-#[inline(always)]
-pub(crate) fn word_key(len: usize, key: u64) -> u64
-    ensures { result ≡ (if nat_lt MAX_BYTES len then 0 else key) }
-{
-    if len > MAX_BYTES { NO_UNIT } else { key }
 }
 
 /// Returns the scale of the unit whose word has this key, if there is one.

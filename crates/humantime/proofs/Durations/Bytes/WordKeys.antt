@@ -1,20 +1,18 @@
 -- The key of a word determines its unit.
 use Rattle.std.proofs.lemmas.Grind.{common_steps}
-use Rattle.std.proofs.Common.{◌≡◌, ◌∙◌, sym, ap, refl, ℕ, zero, suc, ◌+◌, ◌*◌, ◌^◌, ◌<◌, ◌≤◌, Bool, true, ◌&&◌, List, [], ◌∷◌, length, take, get_or, ltb, chars, arith}
-use Rattle.std.specs.Prelude.{◌==◌, bytes_eq, reverse, nat_lt, if◌then◌else◌}
+use Rattle.std.proofs.Common.{◌≡◌, ◌∙◌, sym, ap, refl, ℕ, suc, ◌+◌, ◌*◌, ◌%◌, ◌^◌, ◌<◌, ◌≤◌, Bool, true, ◌&&◌, List, [], ◌∷◌, length, take, get_or, ltb, chars, inl, inr, arith}
+use Rattle.std.specs.Prelude.{◌==◌, bytes_eq, reverse}
 use Rattle.std.specs.List.{list_all}
 use Rattle.std.specs.Cmp.{both_ways}
 use Rattle.std.specs.Map.{lookup}
-use Rattle.std.specs.Str.{IsUtf8}
+use Rattle.std.specs.Str.{IsUtf8, IsCharBoundary}
 use Rattle.std.proofs.Math.Utf8.{encode, encodes, scalars}
 use Rattle.std.proofs.Math.Seq.{take-suc}
 use Rattle.std.proofs.Math.Nat.{pow-le-pow_right}
-use Rattle.std.proofs.lemmas.List.{get_or-reverse, reverse-append, reverse-reverse}
-use Rattle.std.proofs.lemmas.Bool.{and_parts, ltb-true, eqb-true, eq-eqb}
-use Rattle.std.proofs.lemmas.Bool.Decides.{nat_tests}
+use Rattle.std.proofs.lemmas.List.{get_or-reverse, length-reverse, length-take, reverse-append, reverse-reverse}
+use Rattle.std.proofs.lemmas.Bool.{and_parts, cases_lt, ltb-true, eqb-true, eq-eqb}
 use Rattle.std.proofs.lemmas.Slice.Eq.{bytes_eq-Decides}
-use Rattle.std.proofs.lemmas.Str.{chars-encodes, encodes-chars}
-use Rattle.humantime.specs.declared.unit.words.TheConstants.{MAX_BYTES}
+use Rattle.std.proofs.lemmas.Str.{chars-encodes, encodes-chars, IsUtf8-take}
 use Rattle.humantime.specs.Durations.Units.{Scale, words, scale_of_word}
 use Rattle.humantime.specs.Steps.Keys.{packed, key, bytes_of, keyed, scale_of_key}
 
@@ -26,33 +24,50 @@ packed_positive : (bs : List ℕ) → 1 ≤ packed bs
 packed_positive [] = omega arith
 packed_positive (b ∷ bs) = omega (arith, packed_positive bs)
 
-pub front_bytes : (bs : List ℕ) (n : ℕ) → HasBytes bs → HasBytes (take n bs)
+front_bytes : (bs : List ℕ) (n : ℕ) → HasBytes bs → HasBytes (take n bs)
 front_bytes bs n h k = grind (arith, common_steps)
 
 packed_front : (bs : List ℕ) (at : ℕ) → at < length bs → packed (reverse (take (suc at) bs)) ≡ packed (reverse (take at bs)) * 256 + get_or bs at 0
 packed_front bs at within = rw (take-suc bs at 0 within, reverse-append (take at bs) (get_or bs at 0 ∷ [])) refl
 
-packed_front_below : (bs : List ℕ) (at : ℕ) → HasBytes bs → at ≤ length bs → packed (reverse (take at bs)) < 2 * 256 ^ at
-packed_front_below bs zero h within = omega arith
-packed_front_below bs (suc at) h within =
-    omega (arith, packed_front bs at (omega arith), h at, packed_front_below bs at h (omega arith))
+-- No byte is below the first letter: each is one of a letter or of a mu.
+abbrev pub IsHigh : List ℕ → Type 0
+IsHigh bs = (k : ℕ) → k < length bs → 65 ≤ get_or bs k 0
 
--- The number so far is that of the bytes before an offset, if these are at most `MAX_BYTES`.
+-- The key so far is that of the bytes before an offset, none of which is below the first letter.
 abbrev pub IsSoFar : List ℕ → ℕ → ℕ → Type 0
-IsSoFar bs at k = at ≤ MAX_BYTES → k ≡ packed (reverse (take at bs))
+IsSoFar bs at k = (k ≡ key (take at bs)) × ((j : ℕ) → j < at → 65 ≤ get_or bs j 0)
 
 -- The same holds with the byte at this offset.
-pub key_more : (bs : List ℕ) (at k m : ℕ) → HasBytes bs → at < length bs → IsSoFar bs at k → (k < 2 ^ 56 → m ≡ k * 256 + get_or bs at 0)
+pub key_more : (bs : List ℕ) (at k m : ℕ) → at < length bs → 65 ≤ get_or bs at 0 → IsSoFar bs at k → m ≡ (k * 256 + get_or bs at 0) % 2 ^ 64
     → IsSoFar bs (at + 1) m
-key_more bs at k m bytes some so_far next short =
-    let fits : 256 ^ at ≤ 256 ^ 6 = pow-le-pow_right {n = 256} (omega arith) {i = at} {j = 6} (omega (arith, short)) in
-    let front : k ≡ packed (reverse (take at bs)) = so_far (omega (arith, short)) in
-    let more : at + 1 ≡ suc at = omega arith in
-    rw (more, packed_front bs at some, next (omega (arith, fits, front, packed_front_below bs at bytes (omega arith)))) (ap (λ n. n * 256 + get_or bs at 0) front)
+key_more bs at k m some letter so_far next =
+    let more : at + 1 ≡ suc at = omega arith in (
+      rw (more, packed_front bs at some) (omega (arith, next, so_far.0)),
+      λ j within. elim (cases_lt j at) [
+        | inl before ↦ so_far.1 j before
+        | inr last ↦ let same : j ≡ at = omega (arith, within, last) in rw same letter
+      ],
+    )
 
--- The key of a prefix.
-pub front_key : (bs : List ℕ) (at k : ℕ) → at ≤ length bs → IsSoFar bs at k → (if nat_lt MAX_BYTES at then 0 else k) ≡ key (take at bs)
-front_key bs at k within so_far = grind (arith, common_steps, nat_tests)
+front_high : (bs : List ℕ) (at k : ℕ) → at ≤ length bs → IsSoFar bs at k → IsHigh (take at bs)
+front_high bs at k within so_far j before = grind (arith, common_steps, length-take, so_far.1)
+
+packed_below : (bs : List ℕ) → HasBytes bs → packed bs < 2 * 256 ^ length bs
+packed_below [] h = omega arith
+packed_below (b ∷ bs) h =
+    let more : 256 ^ suc (length bs) ≡ 256 * 256 ^ length bs = omega arith in omega (arith, more, h 0, packed_below bs (λ k. h (suc k)))
+
+-- The key of a unit fits 57 bits, and that of a longer word does not.
+short_below : (bs : List ℕ) → HasBytes bs → length bs ≤ 7 → packed bs < 2 ^ 57
+short_below bs h short =
+    let fits : 256 ^ length bs ≤ 256 ^ 7 = pow-le-pow_right {n = 256} (omega arith) {i = length bs} {j = 7} short in
+    omega (arith, packed_below bs h, fits)
+
+long_above : (bs : List ℕ) → HasBytes bs → IsHigh bs → 8 ≤ length bs → 2 ^ 57 ≤ packed bs % 2 ^ 64
+long_above (b0 ∷ b1 ∷ b2 ∷ b3 ∷ b4 ∷ b5 ∷ b6 ∷ b7 ∷ bs) h high long =
+    omega (arith, h 0, h 1, h 2, h 3, h 4, h 5, h 6, h 7, high 7 (omega (arith, long)))
+long_above _ h high long = absurd (omega (arith, long))
 
 packed_same : (xs ys : List ℕ) → HasBytes xs → HasBytes ys → packed xs ≡ packed ys → xs ≡ ys
 packed_same [] [] h k e = refl
@@ -66,36 +81,55 @@ packed_same (x ∷ xs) (y ∷ ys) h k e =
 bytes_from_test : (bs : List ℕ) → list_all (λ b. ltb b 256) bs ≡ true → HasBytes bs
 bytes_from_test bs h = grind (arith, common_steps)
 
--- The word has at most `MAX_BYTES` bytes.
+-- The word has at most seven bytes.
 abbrev is_spelled : List ℕ → Bool
-is_spelled w = scalars w && (bytes_eq (encodes w) (bytes_of w) && (ltb (length (bytes_of w)) (MAX_BYTES + 1) && list_all (λ b. ltb b 256) (bytes_of w)))
+is_spelled w = scalars w && (bytes_eq (encodes w) (bytes_of w) && (ltb (length (bytes_of w)) 8 && list_all (λ b. ltb b 256) (bytes_of w)))
+
+reversed_bytes : (bs : List ℕ) → HasBytes bs → HasBytes (reverse bs)
+reversed_bytes bs h k = grind (arith, common_steps, get_or-reverse)
+
+reversed_high : (bs : List ℕ) → IsHigh bs → IsHigh (reverse bs)
+reversed_high bs high k within = grind (arith, common_steps, get_or-reverse, length-reverse)
 
 reverse_same : (xs ys : List ℕ) → reverse xs ≡ reverse ys → xs ≡ ys
 reverse_same xs ys e = sym (reverse-reverse xs) ∙ ap reverse e ∙ reverse-reverse ys
 
-key_same : (xs ys : List ℕ) → HasBytes xs → HasBytes ys → length ys < MAX_BYTES + 1 → key xs ≡ key ys → xs ≡ ys
-key_same xs ys h k short e = grind (arith, common_steps, packed_positive, reverse_same, packed_same, get_or-reverse)
+key_same : (xs ys : List ℕ) → HasBytes xs → HasBytes ys → IsHigh xs → length ys ≤ 7 → key xs ≡ key ys → xs ≡ ys
+key_same xs ys h k high short e =
+    let below = short_below (reverse ys) (reversed_bytes ys k) (omega (arith, length-reverse ys, short)) in
+    elim (cases_lt 7 (length xs)) [
+      | inl long ↦ absurd (omega (arith, e, below, long_above (reverse xs) (reversed_bytes xs h) (reversed_high xs high) (omega (arith, length-reverse xs, long))))
+      | inr few ↦
+          let same : packed (reverse xs) ≡ packed (reverse ys) = omega (arith, e, below, short_below (reverse xs) (reversed_bytes xs h) (omega (arith, length-reverse xs, few))) in
+          reverse_same xs ys (packed_same (reverse xs) (reverse ys) (reversed_bytes xs h) (reversed_bytes ys k) same)
+    ]
 
-key_tells : (bs w : List ℕ) → IsUtf8 bs → HasBytes bs → is_spelled w ≡ true → (key bs == key (bytes_of w)) ≡ bytes_eq (chars bs) w
-key_tells bs w text bytes spelled =
+key_tells : (bs w : List ℕ) → IsUtf8 bs → HasBytes bs → IsHigh bs → is_spelled w ≡ true → (key bs == key (bytes_of w)) ≡ bytes_eq (chars bs) w
+key_tells bs w text bytes high spelled =
     let p = and_parts _ _ spelled in
     let q = and_parts _ _ p.1 in
     let r = and_parts _ _ q.1 in
     let spelling : encodes w ≡ bytes_of w = (bytes_eq-Decides (encodes w) (bytes_of w)).0 q.0 in
     both_ways _ _
-    (λ e. let same : bs ≡ bytes_of w = key_same bs (bytes_of w) bytes (bytes_from_test (bytes_of w) r.1) (ltb-true _ _ r.0) (eqb-true _ _ e) in
+    (λ e. let same : bs ≡ bytes_of w = key_same bs (bytes_of w) bytes (bytes_from_test (bytes_of w) r.1) high (omega (arith, ltb-true _ _ r.0)) (eqb-true _ _ e) in
     (bytes_eq-Decides (chars bs) w).1 (ap chars (same ∙ sym spelling) ∙ chars-encodes w p.0))
     (λ e. let same : bs ≡ bytes_of w = sym (encodes-chars bs text) ∙ ap encodes ((bytes_eq-Decides (chars bs) w).0 e) ∙ spelling in
     eq-eqb _ _ (ap key same))
 
-by_key : (bs : List ℕ) → IsUtf8 bs → HasBytes bs → (ws : List (List ℕ × Scale)) → list_all (λ w. is_spelled w.0) ws ≡ true
+by_key : (bs : List ℕ) → IsUtf8 bs → HasBytes bs → IsHigh bs → (ws : List (List ℕ × Scale)) → list_all (λ w. is_spelled w.0) ws ≡ true
     → lookup (λ j. key bs == j) (keyed ws) ≡ lookup (bytes_eq (chars bs)) ws
-by_key bs text bytes [] t = refl
-by_key bs text bytes (w ∷ ws) t =
+by_key bs text bytes high [] t = refl
+by_key bs text bytes high (w ∷ ws) t =
     let p = and_parts _ _ t in
-    rw (key_tells bs w.0 text bytes p.0, by_key bs text bytes ws p.1) refl
+    rw (key_tells bs w.0 text bytes high p.0, by_key bs text bytes high ws p.1) refl
 
 -- The unit of a text is that of its key.
-pub scale_by_key : (bs : List ℕ) → IsUtf8 bs → HasBytes bs → scale_of_key (key bs) ≡ scale_of_word (chars bs)
+pub scale_by_key : (bs : List ℕ) → IsUtf8 bs → HasBytes bs → IsHigh bs → scale_of_key (key bs) ≡ scale_of_word (chars bs)
 unfolding scale_of_key scale_of_word encode
-scale_by_key bs text bytes = by_key bs text bytes words refl
+scale_by_key bs text bytes high = by_key bs text bytes high words refl
+
+-- The unit of the front of a text is that of the key so far.
+pub scale_so_far : (text : List ℕ) (at k : ℕ) → IsUtf8 text → HasBytes text → IsCharBoundary text at → IsSoFar text at k
+    → scale_of_key k ≡ scale_of_word (chars (take at text))
+scale_so_far text at k utf8 bytes place so_far =
+    ap scale_of_key so_far.0 ∙ scale_by_key (take at text) (IsUtf8-take text at utf8 place) (front_bytes text at bytes) (front_high text at k place.0 so_far)

@@ -12,7 +12,7 @@ invariant_of-result c =
     let text = c.args.start.rest.now in
     let none : text ≡ [] = grind (arith, common_steps) in
     let made : 1 ≡ key text = rw none refl in
-    record { scale = ap scale_of_key made ∙ scale_by_key text c.args.start.tail.utf8 (λ k. rw none (omega arith)) }
+    record { scale = ap scale_of_key made ∙ scale_by_key text c.args.start.tail.utf8 (λ k. rw none (omega arith)) (λ k before. absurd (omega (arith, rw none at before))) }
 
 pub returns-then-is_empty : goal.returns-then-is_empty
 returns-then-is_empty c =
