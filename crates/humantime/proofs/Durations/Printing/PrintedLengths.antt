@@ -9,7 +9,7 @@ use Rattle.humantime.specs.Values.{nanos_per_second}
 use Rattle.humantime.specs.Durations.Characters.{u64_max}
 use Rattle.humantime.specs.Durations.Counts.{Suffix, weights, suffixes, printed_count, printed_counts, joined_by_space, AreCounts, IsCanonicalText}
 use Rattle.humantime.specs.Results.Durations.{divided, duration_text}
-use Rattle.humantime.proofs.Durations.Printing.PrintedRows.{space, units, counted, most}
+use Rattle.humantime.proofs.Durations.Printing.PrintedRows.{space, sized_units, counts_of_units, sum_limit}
 use Rattle.humantime.proofs.Durations.Printing.GreatestCounts.{canon_is_text, counts_divided}
 
 abbrev suffix_length : Suffix → ℕ
@@ -42,7 +42,7 @@ count_length n k s some below fits = grind (arith, length-append, length-decimal
 abbrev shown_length : List (ℕ × Suffix) → ℕ
 shown_length cs = spaced_length (map (λ c. printed_count c.0 c.1) (filter (λ c. nat_lt 0 c.0) cs))
 
-counts_length : (us : List (ℕ × Suffix)) (ks : List ℕ) (m r : ℕ) → Sizes us ks m → r < m → shown_length (counted us r) ≤ length_for us ks
+counts_length : (us : List (ℕ × Suffix)) (ks : List ℕ) (m r : ℕ) → Sizes us ks m → r < m → shown_length (counts_of_units us r) ≤ length_for us ks
 counts_length (u ∷ us) (k ∷ ks) m r h below =
     grind (arith, (div_below r u.0 (10 ^ k)), (count_length (r / u.0) k), mod_below, (counts_length us ks u.0 (r % u.0) h.4))
 counts_length _ _ m r h below = grind arith
@@ -56,7 +56,7 @@ joined_length ps h = grind (arith, join_length)
 pub canon_length : (d : ℕ) → d / nanos_per_second ≤ u64_max → (text : List ℕ) → IsCanonicalText d text → length text ≤ 64
 unfolding duration_text
 canon_length d h text canon =
-    grind (arith, (counts_length units sizes most d (grind arith)), (canon_is_text d text canon), (joined_length (printed_counts (divided weights d) suffixes)))
+    grind (arith, (counts_length sized_units sizes sum_limit d (grind arith)), (canon_is_text d text canon), (joined_length (printed_counts (divided weights d) suffixes)))
 
 pub counts_small : (d : ℕ) (counts : List ℕ) → AreCounts d counts → (slice_index counts 1 ≤ 11) × (slice_index counts 2 ≤ 30)
 counts_small d counts greatest =

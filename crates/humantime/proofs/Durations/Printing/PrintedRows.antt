@@ -19,12 +19,12 @@ abbrev pub space : ℕ
 space = 32
 
 -- The word of a suffix, in the singular or in the plural.
-abbrev word_of : Suffix → Bool → List ℕ
-word_of s many = s.0 ++ cond (s.1 && many) (codes "s") []
+abbrev printed_word : Suffix → Bool → List ℕ
+printed_word s many = s.0 ++ cond (s.1 && many) (codes "s") []
 
 -- The word after a count of `n`, and the span of that count.
 abbrev pub word_for : ℕ → Suffix → List ℕ
-word_for n s = word_of s (nat_lt 1 n)
+word_for n s = printed_word s (nat_lt 1 n)
 
 abbrev pub span_for : ℕ → Suffix → SpelledSpan
 span_for n s = record { number = decimal n; fraction = None; word = chars (word_for n s) }
@@ -35,7 +35,7 @@ is_of_kind m (Nanos n) = nat_le m nanos_per_second
 is_of_kind m (Seconds n) = true
 
 -- The word is letters, and denotes such a unit, which has `w` nanoseconds.
-pub record IsWord (w m : ℕ) (word : List ℕ) : Type 0 where
+pub record IsPrintedWord (w m : ℕ) (word : List ℕ) : Type 0 where
   pub utf8 : IsUtf8 word
   pub unit : Scale
   pub is : scale_of_word (chars word) ≡ Some unit
@@ -55,34 +55,34 @@ only_from : (p : ℕ → Bool) (cs : List ℕ) → list_all p cs ≡ true → On
 only_from p [] h = tt
 only_from p (c ∷ cs) h = grind (arith, (only_from p cs))
 
-pub is_word-true : (w m : ℕ) (word : List ℕ) → is_word w m word ≡ true → IsWord w m word
+pub is_word-true : (w m : ℕ) (word : List ℕ) → is_word w m word ≡ true → IsPrintedWord w m word
 is_word-true w m word h = grind (arith, nat_tests, IsUtf8-from_is_utf8, only_from)
 
 -- The units, each as its weight and suffix.
-abbrev pub units : List (ℕ × Suffix)
-units = zip weights suffixes
+abbrev pub sized_units : List (ℕ × Suffix)
+sized_units = zip weights suffixes
 
 -- The counts of `d` that division computes, each with its suffix.
-abbrev pub counted : List (ℕ × Suffix) → ℕ → List (ℕ × Suffix)
-counted [] d = []
-counted (u ∷ us) d = (d / u.0, u.1) ∷ counted us (d % u.0)
+abbrev pub counts_of_units : List (ℕ × Suffix) → ℕ → List (ℕ × Suffix)
+counts_of_units [] d = []
+counts_of_units (u ∷ us) d = (d / u.0, u.1) ∷ counts_of_units us (d % u.0)
 
 -- Each suffix has words of its weight, if the remainder is less than `m`.
 abbrev pub is_table : List (ℕ × Suffix) → ℕ → Bool
 is_table [] m = m == 1
-is_table (u ∷ us) m = is_word u.0 m (word_of u.1 true) && is_word u.0 m (word_of u.1 false) && is_table us u.0
+is_table (u ∷ us) m = is_word u.0 m (printed_word u.1 true) && is_word u.0 m (printed_word u.1 false) && is_table us u.0
 
 three : (a b c : Bool) → (a && b && c) ≡ true → (a ≡ true) × (b ≡ true) × (c ≡ true)
 three a b c h = grind arith
 
 pub table_row : (u : ℕ × Suffix) (us : List (ℕ × Suffix)) (m : ℕ) (many : Bool) → is_table (u ∷ us) m ≡ true
-    → IsWord u.0 m (word_of u.1 many) × (is_table us u.0 ≡ true)
+    → IsPrintedWord u.0 m (printed_word u.1 many) × (is_table us u.0 ≡ true)
 table_row u us m many h = grind (arith, is_word-true, three)
 
 -- The upper bound of durations.
-abbrev pub most : ℕ
-most = 2 ^ 64 * nanos_per_second
+abbrev pub sum_limit : ℕ
+sum_limit = 2 ^ 64 * nanos_per_second
 
-pub table : is_table units most ≡ true
+pub table : is_table sized_units sum_limit ≡ true
 unfolding is_letter scale_of_word is_utf8 chars encode
 table = refl

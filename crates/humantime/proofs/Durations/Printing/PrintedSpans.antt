@@ -23,7 +23,7 @@ use Rattle.humantime.proofs.Durations.Reading.Summed.{value-cons}
 use Rattle.humantime.proofs.Durations.Laws.JoinedTexts.{each-append}
 use Rattle.humantime.proofs.Durations.Laws.SmallAdditions.{IsSmall, small_have_room}
 use Rattle.humantime.proofs.Durations.Printing.PrintedDigits.{decimal_number}
-use Rattle.humantime.proofs.Durations.Printing.PrintedRows.{space, word_for, span_for, is_of_kind, IsWord, is_word-true, units, counted, is_table, table_row, table, most}
+use Rattle.humantime.proofs.Durations.Printing.PrintedRows.{space, word_for, span_for, is_of_kind, IsPrintedWord, is_word-true, sized_units, counts_of_units, is_table, table_row, table, sum_limit}
 use Rattle.humantime.proofs.Durations.Printing.GreatestCounts.{canon_is_text}
 
 -- The count is printed as the text of its span, which keeps all limits.
@@ -35,14 +35,14 @@ pub record IsRow (n : ℕ) (s : Suffix) : Type 0 where
   pub small : AllByRecursion IsSmall (additions_of (span_for n s))
 
 -- What a count adds, if the remainder is less than `m` and is a duration.
-few : (m n : ℕ) (x : Addition) → 0 < size x → is_of_kind m x ≡ true → addition_nanos x * n < m → addition_nanos x * n < most
+few : (m n : ℕ) (x : Addition) → 0 < size x → is_of_kind m x ≡ true → addition_nanos x * n < m → addition_nanos x * n < sum_limit
     → (n < 2 ^ 64) × (n * size x ≤ u64_max) × IsSmall (times n x) × (addition_nanos (times n x) ≡ addition_nanos x * n)
 few m n x some kind below whole = grind (arith, nat_tests, mul_comm, mul_assoc)
 
 count_chars : (n : ℕ) (s : Suffix) → n < 2 ^ 64 → chars (printed_count n s) ≡ decimal n ++ chars (word_for n s)
 count_chars n s h = grind (arith, common_steps, IsAscii-decimal, append_assoc, chars-append, IsUtf8-from_ascii, chars-IsAscii)
 
-row : (w m n : ℕ) (s : Suffix) → IsWord w m (word_for n s) → w * n < m → w * n < most → IsRow n s × (total (additions_of (span_for n s)) ≡ w * n)
+row : (w m n : ℕ) (s : Suffix) → IsPrintedWord w m (word_for n s) → w * n < m → w * n < sum_limit → IsRow n s × (total (additions_of (span_for n s)) ≡ w * n)
 row w m n s i below whole =
     let few = few m n i.unit.one i.some i.kind (rw i.weight below) (rw i.weight whole) in
     let number = decimal_number n few.0 in
@@ -74,10 +74,10 @@ rows_cons : (w q r d : ℕ) (s : Suffix) (cs : List (ℕ × Suffix)) → w * q +
     → IsRow q s × (total (additions_of (span_for q s)) ≡ w * q) → AreRows r cs → AreRows d ((q, s) ∷ cs)
 rows_cons w q r d s cs e row rest = grind (arith, nat_tests, value-cons)
 
-rows : (us : List (ℕ × Suffix)) (m d : ℕ) → is_table us m ≡ true → d < m → d < most → AreRows d (counted us d)
+rows : (us : List (ℕ × Suffix)) (m d : ℕ) → is_table us m ≡ true → d < m → d < sum_limit → AreRows d (counts_of_units us d)
 rows [] m d h below whole = (tt, grind (arith, nat_tests))
 rows (u ∷ us) m d h below whole =
-    grind (arith, (table_row u us m (nat_lt 1 (d / u.0)) h), (rows_cons u.0 (d / u.0) (d % u.0) d u.1 (counted us (d % u.0))), (row u.0 m (d / u.0) u.1), (mod_below d u.0), (rows us u.0 (d % u.0)))
+    grind (arith, (table_row u us m (nat_lt 1 (d / u.0)) h), (rows_cons u.0 (d / u.0) (d % u.0) d u.1 (counts_of_units us (d % u.0))), (row u.0 m (d / u.0) u.1), (mod_below d u.0), (rows us u.0 (d % u.0)))
 
 -- ---- the text of these spans
 
@@ -100,12 +100,12 @@ rows_spell (c ∷ d ∷ rows) h =
     (rest, rw (chars_space (printed_count c.0 c.1) (rows_text (d ∷ rows)) h.0.utf8) here, rows_spell (d ∷ rows) h.1)
 
 -- The spans keep their limits, and each adds little.
-pub record AreWithin (spans : List SpelledSpan) : Type 0 where
+pub record SpansAreWithin (spans : List SpelledSpan) : Type 0 where
   pub formed : AllByRecursion Formed spans
   pub fit : AllByRecursion (λ s. fits s ≡ true) spans
   pub small : AllByRecursion IsSmall (additions spans)
 
-rows_within : (rows : List (ℕ × Suffix)) → AllRows rows → AreWithin (spans_of rows)
+rows_within : (rows : List (ℕ × Suffix)) → AllRows rows → SpansAreWithin (spans_of rows)
 rows_within [] h = record { formed = tt; fit = tt; small = tt }
 rows_within (c ∷ rows) h = grind (arith, (rows_within rows h.1), each-append)
 
@@ -124,7 +124,7 @@ zero_accepted : Accepted (chars (codes "0s")) 0
 unfolding is_letter scale_of_word is_utf8 chars encode
 zero_accepted =
     let s : Suffix = (codes "s", false) in
-    let second = row nanos_per_second most 0 s (is_word-true nanos_per_second most (codes "s") refl) (omega arith) (omega arith) in
+    let second = row nanos_per_second sum_limit 0 s (is_word-true nanos_per_second sum_limit (codes "s") refl) (omega arith) (omega arith) in
     let zero : codes "0s" ≡ printed_count 0 s = rw (decimal_digit 0 (omega arith)) refl in
     subst (λ (l : List ℕ). Accepted (chars l) 0) (sym zero) (rows_accepted (0, s) [] 0 (second.0, tt) (value-cons (span_for 0 s) [] ∙ omega (arith, second.1)) (omega arith))
 
@@ -137,5 +137,5 @@ all_accepted (c ∷ rows) d h sum short = rows_accepted c rows d h sum short
 pub canon_reads : (d : ℕ) → d / nanos_per_second ≤ u64_max → (text : List ℕ) → IsCanonicalText d text → Accepted (chars text) d
 unfolding duration_text
 canon_reads d h text canon =
-    let all = rows units most d table (omega arith) (omega arith) in
-    rw (canon_is_text d text canon) (all_accepted (shown (counted units d)) d all.0 all.1 h)
+    let all = rows sized_units sum_limit d table (omega arith) (omega arith) in
+    rw (canon_is_text d text canon) (all_accepted (shown (counts_of_units sized_units d)) d all.0 all.1 h)

@@ -20,14 +20,14 @@ pub record IsWritten (rest here : List ℕ) : Type 0 where
   pub closes : next_of rest ≢ [] → begins is_digit (next_of rest) ≡ false → ends is_whitespace here ≡ true
 
 -- The point and the text after it up to the word, if a text begins with a point.
-abbrev pub fraction_text : List ℕ → List ℕ
-fraction_text [] = []
-fraction_text (c ∷ cs) = if is_point c then c ∷ take_while is_numeric cs else []
+abbrev pub point_and_digits : List ℕ → List ℕ
+point_and_digits [] = []
+point_and_digits (c ∷ cs) = if is_point c then c ∷ take_while is_numeric cs else []
 
-fraction_text-append : (cs : List ℕ) → cs ≡ fraction_text cs ++ unwrap_or (option_map after_number (after_point cs)) cs
+fraction_text-append : (cs : List ℕ) → cs ≡ point_and_digits cs ++ unwrap_or (option_map after_number (after_point cs)) cs
 fraction_text-append cs = grind (arith, take_while-drop_while)
 
-fraction_spelled : (m : List ℕ) → option_map number_of (after_point m) ≢ Some [] → SpellsFraction (fraction_text m) (option_map number_of (after_point m))
+fraction_spelled : (m : List ℕ) → option_map number_of (after_point m) ≢ Some [] → SpellsFraction (point_and_digits m) (option_map number_of (after_point m))
 unfolding is_point
 fraction_spelled m some = grind (arith, Only-take_while, nat_tests)
 
@@ -38,7 +38,7 @@ spelling_some text rest s h = grind (arith, common_steps)
 pub written_here : (rest : List ℕ) → BeginsSpan rest → (here : List ℕ) × IsWritten rest here
 written_here rest h =
     let some = some_letters (word_of rest) h.unit in (
-      take_while is_numeric rest ++ (fraction_text (after_number rest) ++ (word_of rest ++ take_while is_whitespace (after_word rest))),
+      take_while is_numeric rest ++ (point_and_digits (after_number rest) ++ (word_of rest ++ take_while is_whitespace (after_word rest))),
       record {
         whole = (grind (arith, common_steps, take_while-drop_while, fraction_text-append));
         spells = (grind (arith, append-nil, Only-take_while, begins_take_while, digit_is_numeric, fraction_spelled, (some), (h)));

@@ -19,9 +19,9 @@ abbrev pub separator_of : List ℕ → Separator
 separator_of bytes = if slice_index bytes 10 == byte "T" then Letter_T else Space
 
 -- The digits after the point, if there is one.
-abbrev pub fraction_of : List ℕ → Option (List ℕ)
-fraction_of [] = None
-fraction_of (_ ∷ ds) = Some ds
+abbrev pub digits_behind_point : List ℕ → Option (List ℕ)
+digits_behind_point [] = None
+digits_behind_point (_ ∷ ds) = Some ds
 
 -- The parts at their positions.
 abbrev pub fields_of : List ℕ → Fields
@@ -31,7 +31,7 @@ fields_of bytes = record {
   hour = (date_time_of bytes).hour;
   minute = (date_time_of bytes).minute;
   second = (date_time_of bytes).second;
-  fraction = fraction_of (fraction_part bytes);
+  fraction = digits_behind_point (fraction_part bytes);
   zone = zone_of (drop 19 bytes);
 }
 
@@ -50,11 +50,11 @@ unfolding has_digits
 pairs_from_test bytes h = grind (arith, and_parts)
 
 -- The bytes between the seconds and the zone.
-pub part_shown : (part : List ℕ) → has_point part ≡ true → part ≡ fraction_text (fraction_of part)
+pub part_shown : (part : List ℕ) → has_point part ≡ true → part ≡ fraction_text (digits_behind_point part)
 unfolding has_point
 part_shown part h = grind arith
 
-pub part_digits : (part : List ℕ) → fraction_digits (fraction_of part) ≡ drop 1 part
+pub part_digits : (part : List ℕ) → fraction_digits (digits_behind_point part) ≡ drop 1 part
 part_digits part = grind arith
 
 pub moment_of_fields : (bytes : List ℕ) → moment_of (fields_of bytes) ≡ moment_at bytes

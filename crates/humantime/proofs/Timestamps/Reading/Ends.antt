@@ -15,17 +15,17 @@ use Rattle.humantime.proofs.Timestamps.Reading.Bytes.{HoldsOfBytes}
 pub last_letter : (bytes : List ℕ) → 1 ≤ length bytes → (slice_index bytes (length bytes - 1) == 90) ≡ ends_with nat_eq bytes (codes "Z")
 last_letter bytes some = grind (arith, common_steps)
 
-pub no_letter : (bytes : List ℕ) → length bytes < 1 → false ≡ ends_with nat_eq bytes (codes "Z")
-no_letter bytes short = grind arith
+pub shorter_than_letter : (bytes : List ℕ) → length bytes < 1 → false ≡ ends_with nat_eq bytes (codes "Z")
+shorter_than_letter bytes short = grind arith
 
 pub last_offset : (bytes : List ℕ) → bytes_eq (take (length bytes - (length bytes - 6)) (drop (length bytes - 6) bytes)) (codes "+00:00") ≡ ends_with nat_eq bytes (codes "+00:00")
 last_offset bytes = grind (arith, common_steps)
 
-pub no_offset : (bytes : List ℕ) → length bytes < 6 → false ≡ ends_with nat_eq bytes (codes "+00:00")
-no_offset bytes short = grind arith
+pub shorter_than_offset : (bytes : List ℕ) → length bytes < 6 → false ≡ ends_with nat_eq bytes (codes "+00:00")
+shorter_than_offset bytes short = grind arith
 
 -- The lemmas about the bytes that may be a zone at the end.
-pub ruleset zone_at_end = (last_letter, no_letter, last_offset, no_offset)
+pub ruleset zone_at_end = (last_letter, shorter_than_letter, last_offset, shorter_than_offset)
 
 -- ---- The zone at the end
 

@@ -7,7 +7,7 @@ use Rattle.humantime.specs.Timestamps.Fields.{Fields, fraction_text, fraction_di
 use Rattle.humantime.specs.Timestamps.Checks.{has_two, has_digits, number_between, date_time_of, has_separator, has_punctuation, is_valid_date_time, fraction_part, has_point, weak_checks, first_failed}
 use Rattle.humantime.proofs.Dates.Years.{valid_from_test}
 use Rattle.humantime.proofs.Timestamps.Reading.Bytes.{month_most, holds_of_fraction}
-use Rattle.humantime.proofs.Timestamps.Reading.Checks.{separator_of, fraction_of, fields_of}
+use Rattle.humantime.proofs.Timestamps.Reading.Checks.{separator_of, digits_behind_point, fields_of}
 use Rattle.humantime.proofs.Timestamps.Reading.Ends.{IsPlain, plain_bytes, before_zone_found, zone_found}
 use Rattle.humantime.proofs.Timestamps.Reading.Places.{number_of_two, number_of_four, bounds}
 
@@ -25,7 +25,7 @@ year_back bytes n long h first second third fourth = grind (arith, nat_tests, nu
 
 -- The bytes between the seconds and the zone.
 ending : (fraction : Option (List ℕ)) → (has_point (fraction_text fraction) ≡ true)
-    × (drop 1 (fraction_text fraction) ≡ fraction_digits fraction) × (fraction_of (fraction_text fraction) ≡ fraction)
+    × (drop 1 (fraction_text fraction) ≡ fraction_digits fraction) × (digits_behind_point (fraction_text fraction) ≡ fraction)
 unfolding has_point
 ending fraction = grind arith
 

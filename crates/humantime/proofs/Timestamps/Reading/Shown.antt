@@ -3,7 +3,7 @@ use Rattle.std.proofs.Common.{◌≡◌, ℕ, ◌+◌, ◌/◌, ◌%◌, ◌≤�
 use Rattle.std.specs.Prelude.{true, slice_index, None}
 use Rattle.humantime.specs.Timestamps.Fields.{fraction_text, zone_text, fields_text, IsWeak}
 use Rattle.humantime.specs.Timestamps.Checks.{has_two, zone_of, number_between, is_valid_date_time, fraction_part, weak_checks, first_failed}
-use Rattle.humantime.proofs.Timestamps.Reading.Checks.{all_passed, fraction_of, fields_of, punctuation_from_test, pairs_from_test, part_shown, part_digits, nineteen}
+use Rattle.humantime.proofs.Timestamps.Reading.Checks.{all_passed, digits_behind_point, fields_of, punctuation_from_test, pairs_from_test, part_shown, part_digits, nineteen}
 use Rattle.humantime.proofs.Timestamps.Reading.Ends.{zone_shown}
 use Rattle.humantime.proofs.Timestamps.Reading.Places.{has_two_from_test, number_of_two, number_of_four, bounds}
 
@@ -27,7 +27,7 @@ written_shown bytes passed =
     let hour = pair_shown bytes 11 (omega arith) pairs.4 in
     let minute = pair_shown bytes 14 (omega arith) pairs.5 in
     let second = pair_shown bytes 17 (omega arith) pairs.6 in
-    let end : drop 19 bytes ≡ fraction_text (fraction_of (fraction_part bytes)) ++ zone_text (zone_of (drop 19 bytes)) =
+    let end : drop 19 bytes ≡ fraction_text (digits_behind_point (fraction_part bytes)) ++ zone_text (zone_of (drop 19 bytes)) =
     zone_shown (drop 19 bytes) ∙ ap (λ (part : List ℕ). part ++ zone_text (zone_of (drop 19 bytes))) (part_shown (fraction_part bytes) p.4) in
     nineteen bytes p.0
     ∙ (λ i. year.0 i ∷ year.1 i ∷ year.2 i ∷ year.3 i
