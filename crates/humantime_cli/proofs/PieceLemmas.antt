@@ -2,14 +2,14 @@
 use Rattle.std.proofs.Common.{arith, append_assoc, append-nil, ◌≡◌, ℕ, zero, suc, List, [], ◌∷◌, ◌++◌, ◌≤◌, ◌<◌, ◌+◌, ◌-◌, refl, sym, ap, ap₂, ◌∙◌, take, drop, min, subst, inl, inr, length, length-append, length-take, length-drop}
 use Rattle.std.proofs.KnownBytes.{Appends-trans}
 use Rattle.std.proofs.Math.Seq.{take-add, drop-append-add}
-use Rattle.std.proofs.lemmas.Bool.{cases_lt}
+use Rattle.std.proofs.lemmas.Bool.{cases_Bool, cases_lt, ltb-false, ltb-true, or_cases, or_parts}
 use Rattle.std.proofs.lemmas.List.{drop-append-le, drop-drop, take-append-le, take-take}
 use Rattle.std.specs.Fmt.{WritesText}
 use Rattle.std.specs.Io.KnownBytes.{Appends}
 use Rattle.std.specs.List.{FoldsTo, concat}
-use Rattle.std.specs.Prelude.{Option, None, Some, IsSome, unwrap_or}
+use Rattle.std.specs.Prelude.{Option, None, Some, IsSome, true, ◌||◌, nat_lt, unwrap_or}
 use Rattle.humantime_cli.specs.Pieces.{IsPiece, AddsText}
-use Rattle.humantime_cli.specs.Writes.{AppendsFront, line}
+use Rattle.humantime_cli.specs.Writes.{line}
 use Rattle.humantime_cli.specs.declared.piece.Piece.{Piece}
 
 -- Texts that were added one after the other are one text.
@@ -35,40 +35,53 @@ more_same start len skip (suc n) text s reached =
 -- As much of a text was added to a piece as fits.
 pub longer_piece : (start skipped count : ℕ) (text s : List ℕ) (old new : Piece) → IsPiece start text old → skipped ≡ min old.skip (length s)
     → count ≡ min (length s - skipped) (256 - old.len) → new.skip ≡ old.skip - skipped → new.len ≡ old.len + count
+    → new.is_cut ≡ (old.is_cut || nat_lt count (length s - skipped))
     → take new.len new.bytes ≡ take old.len old.bytes ++ take count (drop skipped s) → IsPiece start (text ++ s) new
-longer_piece start skipped count text s old new is most fit skip len bytes =
-    let reached : 0 < count → skipped + length text ≡ start + old.len = λ some. omega (arith, some, is.all (omega (arith, some, fit)), most, fit) in
-    let front = front_same start old.len text s is.within in
+longer_piece start skipped count text s old new is most fit skip len cut bytes =
+    let longer = length-append text s in
+    let reached : 0 < count → skipped + length text ≡ start + old.len = λ some. elim (cases_Bool old.is_cut) [
+      | inl cut_off ↦ absurd (omega (arith, some, (is.cut cut_off).0, fit))
+      | inr whole ↦ omega (arith, some, is.all whole, most, fit)
+    ] in
     record {
-      all = λ few. omega (arith, is.all (omega (arith, few, len)), length-append text s, most, fit, skip, len, few);
-      within = λ some. elim (cases_lt 0 count) [
-        | inl more ↦ omega (arith, reached more, most, fit, len, length-append text s)
-        | inr none ↦ omega (arith, is.within (omega (arith, some, len, none)), len, none, length-append text s)
+      all = λ none. let both = or_parts _ _ (sym cut ∙ none) in omega (arith, is.all both.0, longer, most, fit, skip, len, ltb-false _ _ both.1);
+      cut = λ cut_off. elim (or_cases _ _ (sym cut ∙ cut_off)) [
+        | inl before ↦ let was = is.cut before in (omega (arith, was.0, fit, len), omega (arith, was.0, was.1, fit, len, longer))
+        | inr now ↦
+            let more = ltb-true _ _ now in (
+              omega (arith, more, fit, len, old.in_range),
+              elim (cases_lt 0 count) [
+                | inl some ↦ omega (arith, reached some, more, len, longer)
+                | inr none ↦ omega (arith, is.within (omega (arith, more, none, fit)), more, none, len, longer)
+              ],
+            )
       ];
-      bytes = bytes ∙ ap₂ (λ (x y : List ℕ). x ++ y) (is.bytes ∙ front) (more_same start old.len skipped count text s reached)
+      within = λ some. elim (cases_lt 0 count) [
+        | inl more ↦ omega (arith, reached more, most, fit, len, longer)
+        | inr none ↦ omega (arith, is.within (omega (arith, some, len, none)), len, none, longer)
+      ];
+      bytes = bytes ∙ ap₂ (λ (x y : List ℕ). x ++ y) (is.bytes ∙ front_same start old.len text s is.within) (more_same start old.len skipped count text s reached)
           ∙ sym (take-add old.len count (drop start (text ++ s))) ∙ ap (λ (n : ℕ). take n (drop start (text ++ s))) (sym len);
     }
 
--- A value was displayed.
-pub piece_of : (output : Option (List ℕ)) (start : ℕ) (old new : Piece) → IsSome output → WritesText AddsText old output new → IsPiece start [] old
-    → IsPiece start (unwrap_or output []) new
-piece_of None start old new some wrote is = cc
-piece_of (Some text) start old new some wrote is = subst (λ (t : List ℕ). AddsText old t new) wrote.whole (adds_all old wrote.parts new wrote.calls) start [] is
+-- A value and a line feed were displayed.
+pub line_of : (output : Option (List ℕ)) (start : ℕ) (old mid new : Piece) → IsSome output → WritesText AddsText old output mid → AddsText mid (10 ∷ []) new
+    → IsPiece start [] old → IsPiece start (line (unwrap_or output [])) new
+line_of None start old mid new some wrote end is = cc
+line_of (Some text) start old mid new some wrote end is =
+    end start text (subst (λ (t : List ℕ). AddsText old t mid) wrote.whole (adds_all old wrote.parts mid wrote.calls) start [] is)
 
--- The first bytes of a text, not all of its line, were written.
-pub front_written : (old new : Option (List ℕ)) (text : List ℕ) (done : ℕ) → done ≤ length text → Appends old new (take done text) → AppendsFront old new (line text)
-front_written old new text done within taken =
-    (done, omega (arith, within, length-append text (10 ∷ [])), subst (Appends old new) (sym (take-append-le done text (10 ∷ []) within)) taken)
-
--- After the first bytes of a text, nothing more was written.
-pub nothing_written : (old mid new : Option (List ℕ)) (bytes : List ℕ) → Appends old mid bytes → Appends mid new [] → Appends old new bytes
-nothing_written old mid new bytes first more = subst (Appends old new) (append-nil bytes) (Appends-trans old mid new bytes [] first more)
-
--- After the first bytes of a text, some of a piece were written.
+-- After the first bytes of a text, some of a piece were written: not all of it, or the piece is cut. So the text has more bytes.
 pub more_written : (old mid new : Option (List ℕ)) (text bytes : List ℕ) (done count : ℕ) (piece : Piece) → IsPiece done text piece → bytes ≡ take piece.len piece.bytes
-    → 0 < count → count ≤ length bytes → Appends old mid (take done text) → Appends mid new (take count bytes) → (done + count ≤ length text) × Appends old new (take (done + count) text)
-more_written old mid new text bytes done count piece is shown some few taken more =
-    let within : count ≤ piece.len = omega (arith, few, ap length shown, length-take piece.len piece.bytes) in
-    let first = ap (take count) (shown ∙ is.bytes) ∙ take-take count piece.len (drop done text) within in
-    let whole = ap (λ (rest : List ℕ). take done text ++ rest) first ∙ sym (take-add done count text) in
-    (omega (arith, is.within (omega (arith, some, within)), within), subst (Appends old new) whole (Appends-trans old mid new _ _ taken more))
+    → done < length text → count ≤ length bytes → (count ≡ length bytes → piece.is_cut ≡ true) → Appends old mid (take done text) → Appends mid new (take count bytes)
+    → (done + count < length text) × Appends old new (take (done + count) text)
+more_written old mid new text bytes done count piece is shown some few cut taken more =
+    let size : length bytes ≤ piece.len = omega (arith, ap length shown, length-take piece.len piece.bytes) in
+    let first = ap (take count) (shown ∙ is.bytes) ∙ take-take count piece.len (drop done text) (omega (arith, few, size)) in
+    let whole = ap (λ (rest : List ℕ). take done text ++ rest) first ∙ sym (take-add done count text) in (
+      elim (cases_lt count (length bytes)) [
+        | inl less ↦ omega (arith, less, size, is.within (omega (arith, less, size)))
+        | inr all ↦ let over = is.cut (cut (omega (arith, all, few))) in omega (arith, over.0, over.1, few, size)
+      ],
+      subst (Appends old new) whole (Appends-trans old mid new _ _ taken more),
+    )

@@ -1,4 +1,4 @@
-//! [`Piece`]: the bytes of the text that a value displays, from an offset on, as many as fit.
+//! [`Piece`]: the bytes of a line from an offset on, as many as fit.
 
 ghost use Rattle.std.specs.Prelude.{◌≤◌};
 
@@ -16,24 +16,29 @@ pub(crate) struct Piece {
     skip: usize,
     bytes: [u8; PIECE_LEN],
     len: usize,
+    /// Whether some bytes did not fit.
+    is_cut: bool,
     ghost in_range: { len ≤ 256 },
 }
 
 impl Piece {
     ghost use Rattle.std.specs.Prelude.{◌≡◌, [], take, unwrap_or, IsSome, IfOk};
     ghost use Rattle.humantime_cli.specs.Pieces.{IsPiece};
+    ghost use Rattle.humantime_cli.specs.Writes.{line};
 
-    /// Returns a piece from the offset `start` on of the text that `value` displays.
-    pub(crate) fn of<D: Display + Copy>(value: D, start: usize) -> Result<Piece, fmt::Error>
+    /// Returns a piece, from the offset `start` on, of the text that `value` displays and a line feed.
+    pub(crate) fn of_line<D: Display + Copy>(value: D, start: usize) -> Result<Piece, fmt::Error>
         requires { IsSome (D.output value) }
-        ensures { IfOk result (IsPiece start (unwrap_or (D.output value) [])) }
+        ensures { IfOk result (IsPiece start (line (unwrap_or (D.output value) []))) }
     {
         let mut piece = Piece {
             skip: start,
             bytes: [0; PIECE_LEN],
             len: 0,
+            is_cut: false,
         };
         piece.write(value)?;
+        piece.write_str("\n")?;
         Ok(piece)
     }
 
@@ -42,6 +47,13 @@ impl Piece {
         ensures { result.now ≡ take self.now.len self.now.bytes }
     {
         &self.bytes[..self.len]
+    }
+
+    /// Returns `true` if the line has more bytes than fit.
+    pub(crate) fn is_cut(&self) -> bool
+        ensures { result ≡ self.now.is_cut }
+    {
+        self.is_cut
     }
 }
 
@@ -58,6 +70,7 @@ impl fmt::Write for Piece {
         let end = self.len + count;
         self.bytes[self.len..end].copy_from_slice(&rest[..count]);
         self.len = end;
+        self.is_cut = self.is_cut || count < rest.len();
         Ok(())
     }
 }

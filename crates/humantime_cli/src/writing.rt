@@ -8,10 +8,10 @@ use crate::piece::Piece;
 use std::fmt::{self, Display};
 use std::io::Write;
 
-/// Writes the text that `value` displays, and then a line feed. Nothing more is written after a write that failed.
+/// Writes the text that `value` displays and a line feed. Nothing more is written after a write that failed.
 ///
-/// The contract of `Display` says nothing about what was written before an error. So `value` is not displayed to `to`, but for each write
-/// anew to a [`Piece`], which begins where the write before ended.
+/// The contract of `Display` says nothing about what was written before an error. So `value` is not displayed to `to`, but to a [`Piece`]. It
+/// is displayed again, for a piece that begins where the last write ended, only if the line does not fit a piece or is not written at once.
 #[tactic(auto, unfolding(crate::specs::Writes::Writes))]
 pub(crate) fn write_line<W: Write, D: Display + Copy>(to: &mut W, value: D) -> fmt::Result
     requires { IsSome (D.output value) }
@@ -19,13 +19,12 @@ pub(crate) fn write_line<W: Write, D: Display + Copy>(to: &mut W, value: D) -> f
 {
     let mut done: usize = 0;
     loop {
-        let piece = Piece::of(value, done)?;
+        let piece = Piece::of_line(value, done)?;
         let bytes = piece.as_bytes();
-        if bytes.is_empty() {
-            write_some(to, b"\n")?;
+        let count = write_some(to, bytes)?;
+        if count == bytes.len() && !piece.is_cut() {
             return Ok(());
         }
-        let count = write_some(to, bytes)?;
         done = done.checked_add(count).ok_or(fmt::Error)?;
     }
 }

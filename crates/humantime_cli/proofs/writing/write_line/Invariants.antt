@@ -1,12 +1,13 @@
-use Rattle.std.proofs.Common.{◌≤◌, ◌-◌, [], length, take}
+use Rattle.std.proofs.Common.{◌<◌, ◌-◌, [], length, take}
 use Rattle.std.specs.Prelude.{unwrap_or}
 use Rattle.std.specs.Io.KnownBytes.{Appends}
+use Rattle.humantime_cli.specs.Writes.{line}
 use Rattle.humantime_cli.proofs.writing.write_line.Given as goal
 
 abbrev pub invariant-loop-piece : goal.invariant-loop-piece
 invariant-loop-piece g l =
-    let text = unwrap_or (g.D.Display.output l.fn.value) [] in
-    (l.done ≤ length text) × Appends (g.W.Write.contents l.fn.to) (g.W.Write.contents l.to) (take l.done text)
+    let whole = line (unwrap_or (g.D.Display.output l.fn.value) []) in
+    (l.done < length whole) × Appends (g.W.Write.contents l.fn.to) (g.W.Write.contents l.to) (take l.done whole)
 
 abbrev pub decreases-loop-piece : goal.decreases-loop-piece
-decreases-loop-piece g l = length (unwrap_or (g.D.Display.output l.fn.value) []) - l.done
+decreases-loop-piece g l = length (line (unwrap_or (g.D.Display.output l.fn.value) [])) - l.done
