@@ -1,8 +1,14 @@
 -- What was accepted while trailing zeros of a fraction counted, by computation: the limits were 19 digits and the greatest number, and no
 -- less. With one more zero, the product of the sixteen digits of a day with its seconds would not fit a `u64`.
-use Rattle.std.proofs.Common.{refl, Some, None, arith}
+use Rattle.std.proofs.Common.{◌≡◌, ◌≤◌, ◌*◌, ◌%◌, ◌^◌, ℕ, List, length, refl, Some, None, arith}
 use Rattle.std.specs.Prelude.{codes}
-use Rattle.humantime.specs.Laws.Older.{OlderFormed}
+use Rattle.std.specs.List.{AllByRecursion}
+use Rattle.std.proofs.lemmas.Bool.Decides.{nat_tests}
+use Rattle.humantime.specs.Texts.{decimal_value}
+use Rattle.humantime.specs.Durations.Characters.{u64_max}
+use Rattle.humantime.specs.Durations.Spans.{SpelledSpan, Reads}
+use Rattle.humantime.specs.Durations.Accepted.{additions, value, AllHaveRoom}
+use Rattle.humantime.specs.Laws.Older.{OlderFormed, AcceptedWithZeros, Older_zero, Older_sum}
 use Rattle.humantime.proofs.OnLiterals.{humantime_on_literals}
 
 nineteen_digits : OlderFormed (record { number = codes "0"; fraction = Some (codes "0000000000000000000"); word = codes "s" })
@@ -28,3 +34,71 @@ fifty_zeros = record { unit = _; word = refl; number = omega arith; product = om
 greatest_years : OlderFormed (record { number = codes "584542046090"; fraction = None; word = codes "y" })
 unfolding humantime_on_literals
 greatest_years = record { unit = _; word = refl; number = omega arith; product = omega arith; fraction = tt }
+
+-- There were no other limits, at any value. Without a fraction, the number and its product with the unit did not exceed a `u64`.
+abbrev AnyNumber : List ℕ → ℕ → Type 0
+AnyNumber word unit = (number : List ℕ) → decimal_value number ≤ u64_max → decimal_value number * unit ≤ u64_max
+    → OlderFormed (record { number = number; fraction = None; word = word })
+
+any_number :
+    AnyNumber (codes "ns") 1
+    × AnyNumber (codes "us") 1_000
+    × AnyNumber (codes "ms") 1_000_000
+    × AnyNumber (codes "s") 1
+    × AnyNumber (codes "m") 60
+    × AnyNumber (codes "h") 3_600
+    × AnyNumber (codes "d") 86_400
+    × AnyNumber (codes "w") 604_800
+    × AnyNumber (codes "M") 2_630_016
+    × AnyNumber (codes "y") 31_557_600
+unfolding humantime_on_literals
+any_number = (
+  λ n fits product. record { unit = _; word = refl; number = fits; product = product; fraction = tt },
+  λ n fits product. record { unit = _; word = refl; number = fits; product = product; fraction = tt },
+  λ n fits product. record { unit = _; word = refl; number = fits; product = product; fraction = tt },
+  λ n fits product. record { unit = _; word = refl; number = fits; product = product; fraction = tt },
+  λ n fits product. record { unit = _; word = refl; number = fits; product = product; fraction = tt },
+  λ n fits product. record { unit = _; word = refl; number = fits; product = product; fraction = tt },
+  λ n fits product. record { unit = _; word = refl; number = fits; product = product; fraction = tt },
+  λ n fits product. record { unit = _; word = refl; number = fits; product = product; fraction = tt },
+  λ n fits product. record { unit = _; word = refl; number = fits; product = product; fraction = tt },
+  λ n fits product. record { unit = _; word = refl; number = fits; product = product; fraction = tt },
+)
+
+-- A fraction had at most 19 digits. Their product with the unit, in nanoseconds up to minutes, did not exceed a `u64`, and was a multiple of
+-- their power of ten.
+abbrev AnyFraction : List ℕ → ℕ → ℕ → Type 0
+AnyFraction word unit part = (number ds : List ℕ) → decimal_value number ≤ u64_max → decimal_value number * unit ≤ u64_max
+    → length ds ≤ 19 → decimal_value ds * part ≤ u64_max → decimal_value ds * part % 10 ^ length ds ≡ 0
+    → OlderFormed (record { number = number; fraction = Some ds; word = word })
+
+any_fraction :
+    AnyFraction (codes "us") 1_000 1_000
+    × AnyFraction (codes "ms") 1_000_000 1_000_000
+    × AnyFraction (codes "s") 1 1_000_000_000
+    × AnyFraction (codes "m") 60 60_000_000_000
+    × AnyFraction (codes "h") 3_600 3_600
+    × AnyFraction (codes "d") 86_400 86_400
+    × AnyFraction (codes "w") 604_800 604_800
+    × AnyFraction (codes "M") 2_630_016 2_630_016
+    × AnyFraction (codes "y") 31_557_600 31_557_600
+unfolding humantime_on_literals
+any_fraction = (
+  λ n ds fits product few part whole. record { unit = _; word = refl; number = fits; product = product; fraction = (few, grind (arith, nat_tests)) },
+  λ n ds fits product few part whole. record { unit = _; word = refl; number = fits; product = product; fraction = (few, grind (arith, nat_tests)) },
+  λ n ds fits product few part whole. record { unit = _; word = refl; number = fits; product = product; fraction = (few, grind (arith, nat_tests)) },
+  λ n ds fits product few part whole. record { unit = _; word = refl; number = fits; product = product; fraction = (few, grind (arith, nat_tests)) },
+  λ n ds fits product few part whole. record { unit = _; word = refl; number = fits; product = product; fraction = (few, grind (arith, nat_tests)) },
+  λ n ds fits product few part whole. record { unit = _; word = refl; number = fits; product = product; fraction = (few, grind (arith, nat_tests)) },
+  λ n ds fits product few part whole. record { unit = _; word = refl; number = fits; product = product; fraction = (few, grind (arith, nat_tests)) },
+  λ n ds fits product few part whole. record { unit = _; word = refl; number = fits; product = product; fraction = (few, grind (arith, nat_tests)) },
+  λ n ds fits product few part whole. record { unit = _; word = refl; number = fits; product = product; fraction = (few, grind (arith, nat_tests)) },
+)
+
+-- Spans were accepted if there was room for each addition, and so was `0`.
+any_sum : (text : List ℕ) (spans : List SpelledSpan) → Reads text spans → AllByRecursion OlderFormed spans → AllHaveRoom (additions spans)
+    → AcceptedWithZeros text (value spans)
+any_sum text spans reads formed room = Older_sum spans reads formed room refl
+
+zero : AcceptedWithZeros (codes "0") 0
+zero = Older_zero refl refl
