@@ -8,7 +8,7 @@ use Rattle.humantime.specs.Texts.{decimal_value}
 use Rattle.humantime.specs.Durations.Characters.{u64_max}
 use Rattle.humantime.specs.Durations.Spans.{SpelledSpan, Reads}
 use Rattle.humantime.specs.Durations.Accepted.{additions, value, AllHaveRoom}
-use Rattle.humantime.specs.Laws.Older.{OlderFormed, AcceptedWithZeros, Older_zero, Older_sum}
+use Rattle.humantime.specs.Laws.Older.{OlderFormed, AcceptedWithZeros, OlderZero, OlderSum}
 use Rattle.humantime.proofs.OnLiterals.{humantime_on_literals}
 
 nineteen_digits : OlderFormed (record { number = codes "0"; fraction = Some (codes "0000000000000000000"); word = codes "s" })
@@ -98,7 +98,7 @@ any_fraction = (
 -- Spans were accepted if there was room for each addition, and so was `0`.
 any_sum : (text : List ℕ) (spans : List SpelledSpan) → Reads text spans → AllByRecursion OlderFormed spans → AllHaveRoom (additions spans)
     → AcceptedWithZeros text (value spans)
-any_sum text spans reads formed room = Older_sum spans reads formed room refl
+any_sum text spans reads formed room = OlderSum spans reads formed room refl
 
 zero : AcceptedWithZeros (codes "0") 0
-zero = Older_zero refl refl
+zero = OlderZero refl refl

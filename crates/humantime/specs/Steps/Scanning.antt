@@ -1,5 +1,5 @@
 -- The steps that parse one span, each on the rest of a text.
-use Rattle.std.specs.Prelude.{◌≡◌, ◌≤◌, ◌<◌, ◌^◌, ℕ, ◌-◌, ◌++◌, Bool, not, List, [], ◌∷◌, length, drop, if◌then◌else◌, IsUtf8, IsCharBoundary, chars}
+use Rattle.std.specs.Prelude.{◌≡◌, ◌≤◌, ◌<◌, ◌^◌, ℕ, ◌-◌, ◌++◌, Bool, not, List, [], ◌∷◌, Option, IfSome, IfNone, length, drop, if◌then◌else◌, IsUtf8, IsCharBoundary, chars}
 use Rattle.std.specs.Char.{len_utf8}
 use Rattle.humantime.specs.declared.duration.amount.Fraction.{Fraction}
 use Rattle.humantime.specs.Texts.{begins, drop_while}
@@ -28,13 +28,13 @@ pub record HasDigits (f : Fraction) (ds : List ℕ) : Type 0 where
   pub few : f.significant ≤ 19
   pub fits : f.significand < 10 ^ f.significant
 
--- The fraction `g` has the digits of `f` and then `c`.
-abbrev pub HasOneMore : Fraction → ℕ → Fraction → Type 0
-HasOneMore f c g = (ds : List ℕ) → HasDigits f ds → HasDigits g (ds ++ c ∷ [])
+-- The result, if there is one, has the digits of the fraction and then the digit `c`.
+abbrev pub HasOneMore : Fraction → ℕ → Option Fraction → Type 0
+HasOneMore f c result = (ds : List ℕ) → HasDigits f ds → IfSome result (λ g. HasDigits g (ds ++ c ∷ []))
 
--- After the digits of `f`, the digit `c` makes more than 19 digits before the trailing zeros, whatever digits follow.
-abbrev pub IsTooLongWith : Fraction → ℕ → Type 0
-IsTooLongWith f c = (ds es : List ℕ) → HasDigits f ds → 19 < length (without_trailing_zeros (ds ++ c ∷ es))
+-- If there is no result, the digit `c` makes more than 19 digits before the trailing zeros, whatever digits follow.
+abbrev pub HasNoRoom : Fraction → ℕ → Option Fraction → Type 0
+HasNoRoom f c result = (ds : List ℕ) → HasDigits f ds → IfNone result ((es : List ℕ) → 19 < length (without_trailing_zeros (ds ++ c ∷ es)))
 
 -- There is only whitespace between the two positions.
 pub record SkipsWhitespace (text : List ℕ) (from to : ℕ) : Type 0 where

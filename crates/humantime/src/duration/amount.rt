@@ -1,6 +1,6 @@
 //! [`Amount`], what a span adds to a duration, and the arithmetic that builds its number and its [`Fraction`] digit by digit.
 
-ghost use Rattle.std.specs.Prelude.{◌≡◌, ℕ, List, true, SomeIff, IfSome, IfNone, ◌+◌, ◌-◌, ◌*◌, ◌^◌, ◌≤◌, ◌<◌};
+ghost use Rattle.std.specs.Prelude.{◌≡◌, ℕ, List, true, SomeIff, ◌+◌, ◌-◌, ◌*◌, ◌^◌, ◌≤◌, ◌<◌};
 ghost use Rattle.std.specs.Option.{ForSome};
 ghost use Rattle.humantime.specs.Durations.Characters.{is_digit, u64_max};
 
@@ -71,7 +71,7 @@ pub(crate) fn power_of_ten(exponent: usize) -> u64
 }
 
 impl Fraction {
-    ghost use Rattle.humantime.specs.Steps.Scanning.{HasDigits, HasOneMore, IsTooLongWith};
+    ghost use Rattle.humantime.specs.Steps.Scanning.{HasDigits, HasOneMore, HasNoRoom};
 
     /// No digits.
     pub(crate) const EMPTY: Fraction = Fraction {
@@ -86,8 +86,8 @@ impl Fraction {
         requires digit { is_digit c ≡ true }
         requires digits { (ds : List ℕ) × HasDigits self ds }
         requires room { self.len + 1 < 2 ^ 64 }
-        ensures pushed { IfSome result (HasOneMore self c) }
-        ensures full { IfNone result (IsTooLongWith self c) }
+        ensures pushed { HasOneMore self c result }
+        ensures full { HasNoRoom self c result }
     {
         let len = self.len + 1;
         if c == b'0' {

@@ -35,7 +35,7 @@ pub returns-in_err-value : goal.returns-in_err-value
 returns-in_err-value c =
     let i = c.loop-at.invariant in
     let read = read_digit _ _ _ _ c.args.start.tail.utf8 c.as_bytes-bytes.ensures.value c.loop-at-test.true i.read (sym c.is_ascii_digit.ensures.value ∙ c.if-is_ascii_digit.true) in
-    let over = c.in_err-value.ensures.full i.taken (number_of (chars (drop (c.loop-at.at + 1) c.args.start.rest.now))) i.digits in
+    let over = c.in_err-value.ensures.full i.taken i.digits (number_of (chars (drop (c.loop-at.at + 1) c.args.start.rest.now))) in
     rw (c.from_residual.ensures, read.all ∙ append_assoc i.taken _ _) over
 
 pub invariant_of-result : goal.invariant_of-result

@@ -27,7 +27,7 @@ pub returns-then-c-eq48-clause-pushed : goal.returns-then-c-eq48-clause-pushed
 returns-then-c-eq48-clause-pushed c ds h = grind (arith, common_steps, zero_more)
 
 pub returns-then-len-gt-MAX_FRACTION_DIGITS-clause-full : goal.returns-then-len-gt-MAX_FRACTION_DIGITS-clause-full
-returns-then-len-gt-MAX_FRACTION_DIGITS-clause-full c ds es h =
+returns-then-len-gt-MAX_FRACTION_DIGITS-clause-full c ds h es =
     let full = ap (λ (x : Counted). x.2) h.parts in
     grind (arith, one_too_many)
 
