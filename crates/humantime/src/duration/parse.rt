@@ -46,7 +46,7 @@ pub fn spans(s: &str) -> SpanIter<'_>
     }
 }
 
-/// Returns the sum of the spans of a text.
+/// Returns the sum of the spans of a text, or its first error.
 fn sum_of<'a>(text: &'a str) -> Result<StdDuration, DurationError<'a>>
     ensures value { result_view result ≡ sum_spans 0 (map span_in (item_views (chars text.now))) }
     ensures place { IfErr result (PointsInto text.now) }
@@ -54,7 +54,7 @@ fn sum_of<'a>(text: &'a str) -> Result<StdDuration, DurationError<'a>>
     let mut total = StdDuration::ZERO;
     let mut items = spans(text);
     while let Some(item) = items.next() {
-        // An error is matched: for `?`, Rattle's own compiler would copy it by calling a function.
+        // An error is matched: for `?`, Rattle's own compiler would copy it by calling a function, and `1foo~` would take 1.15 of the time.
         match item {
             Ok(span) => match add_amount(total, span.amount) {
                 Some(sum) => total = sum,
