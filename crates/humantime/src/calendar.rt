@@ -40,7 +40,8 @@ const DAYS_PER_4_YEARS: u32 = 1_461;
 /// The number of days of a common year.
 const DAYS_PER_YEAR: u32 = 365;
 
-/// The count as a unary number: `Start` is 0, and `Next` adds 1. Only a snapshot of it is kept, which takes no bytes.
+/// The count as a unary number: `Start` is 0, and `Next` adds 1. `Next` holds a snapshot of the field `chain` of [`Turns`], which is itself a
+/// snapshot. Snapshots take no bytes.
 #[derive(Drop)]
 enum Chain {
     Start,
@@ -138,6 +139,7 @@ fn days_before_year(year: u32) -> u32
     requires { IsInRange 1970 9999 year }
     ensures { result ≡ days_of_years (year - 1970) }
 {
+    // 1969, 1901 and 1601 follow multiples of 4, 100 and 400, so each quotient is the number of such multiples from 1970 to the year before.
     365 * (year - 1970) + (year - 1969) / 4 - (year - 1901) / 100 + (year - 1601) / 400
 }
 
@@ -213,8 +215,8 @@ pub fn day_number(date: Date, turns: &mut Turns) -> Option<u32>
     Some(days + date.day - 1)
 }
 
-/// Returns the number of years from 1600-03-01 to the year that contains a day, and the zero-based index of the day in it. Years begin on
-/// 1 March here.
+/// Returns the year of a day number, counted from 1600, and the zero-based index of the day in that year. Years begin on 1 March here, and
+/// 1600-03-01 is 135,080 days before 1970-01-01.
 ///
 /// The last century of a cycle and the last of four years have an extra day, which would make the quotient 4, so it is capped at 3.
 #[inline(always)]
@@ -223,7 +225,7 @@ fn march_year(day: u32) -> (u32, u32)
     ensures year { result.0 ≡ Dates.march_year (day + 135_080) }
     ensures day { march_days result.0 + result.1 ≡ day + 135_080 }
 {
-    // The days since 1600-03-01, where the cycle of 400 years before 2000-03-01 begins. So the subtraction does not underflow.
+    // Counted from 1600-03-01, where the cycle of 400 years before 2000-03-01 begins, so that the subtraction does not underflow.
     let from = day + DAYS_PER_400_YEARS - MARCH_2000;
     let cycles = from / DAYS_PER_400_YEARS;
     let in_cycle = from % DAYS_PER_400_YEARS;
@@ -244,6 +246,7 @@ fn days_before_march_month(month: u32) -> u32
     requires { month ≤ 12 }
     ensures { result ≡ march_months month }
 {
+    // March to July have 31, 30, 31, 30 and 31 days, 153 together, and so do August to December; then January has 31.
     (153 * month + 2) / 5
 }
 

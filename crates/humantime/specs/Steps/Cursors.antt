@@ -4,7 +4,7 @@ use Rattle.humantime.specs.declared.duration.cursor.Cursor.{Cursor}
 use Rattle.humantime.specs.Texts.{take_while, drop_while}
 use Rattle.humantime.specs.Durations.Characters.{is_whitespace, is_letter, is_numeric}
 use Rattle.humantime.specs.Durations.Faults.{after_number}
-use Rattle.humantime.specs.Steps.Scanning.{begins_without_letter}
+use Rattle.humantime.specs.Steps.Scanning.{begins_with_nonletter}
 use Rattle.humantime.specs.Results.Walks.{ends_span}
 
 -- The characters after the cursor.
@@ -19,7 +19,7 @@ pub record IsNumericRun (start : Cursor) (slice : List ℕ) (end : Cursor) : Typ
 
 -- The next character, if there is one, is a letter. The word is the letters after the start, and `end` is the cursor after it.
 pub record IsWord (start : Cursor) (word : List ℕ) (end : Cursor) : Type 0 where
-  pub begun : begins_without_letter (ahead start) ≡ false
+  pub begun : begins_with_nonletter (ahead start) ≡ false
   pub letters : chars word ≡ take_while is_letter (ahead start)
   pub behind : ahead end ≡ drop_while is_letter (ahead start)
   pub whole : start.rest.now ≡ word ++ end.rest.now

@@ -20,7 +20,7 @@ counted ds = (decimal_value (without_trailing_zeros ds), length (without_trailin
 
 -- The three numbers of a fraction of the code.
 abbrev pub parts_of : Fraction → Counted
-parts_of f = (f.significand, f.significant, f.len)
+parts_of f = (f.significand, f.places, f.len)
 
 -- The amount is the one that the span denotes.
 pub record IsAmountOf (a : Amount) (s : SpelledSpan) : Type 0 where

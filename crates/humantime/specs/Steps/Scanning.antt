@@ -14,8 +14,8 @@ pub record IsTail (text rest : List ℕ) : Type 0 where
   pub whole : IsUtf8 text
 
 -- Tests whether a text begins with a character other than a letter.
-abbrev pub begins_without_letter : List ℕ → Bool
-begins_without_letter text = begins (λ c. not (is_letter c)) text
+abbrev pub begins_with_nonletter : List ℕ → Bool
+begins_with_nonletter text = begins (λ c. not (is_letter c)) text
 
 -- Returns the number of bytes of the whitespace character at the start of a text, or 0 if there is none.
 abbrev pub whitespace_len : List ℕ → ℕ
@@ -25,16 +25,16 @@ whitespace_len (c ∷ cs) = if is_whitespace c then len_utf8 c else 0
 -- The fraction has these digits, at most 19 of them before the trailing zeros.
 pub record HasDigits (f : Fraction) (ds : List ℕ) : Type 0 where
   pub parts : parts_of f ≡ counted ds
-  pub few : f.significant ≤ 19
-  pub fits : f.significand < 10 ^ f.significant
+  pub few : f.places ≤ 19
+  pub fits : f.significand < 10 ^ f.places
 
 -- The result, if there is one, has the digits of the fraction and then the digit `c`.
-abbrev pub HasOneMore : Fraction → ℕ → Option Fraction → Type 0
-HasOneMore f c result = (ds : List ℕ) → HasDigits f ds → IfSome result (λ g. HasDigits g (ds ++ c ∷ []))
+abbrev pub AppendsIfSome : Fraction → ℕ → Option Fraction → Type 0
+AppendsIfSome f c result = (ds : List ℕ) → HasDigits f ds → IfSome result (λ g. HasDigits g (ds ++ c ∷ []))
 
 -- If there is no result, the digit `c` makes more than 19 digits before the trailing zeros, whatever digits follow.
-abbrev pub HasNoRoom : Fraction → ℕ → Option Fraction → Type 0
-HasNoRoom f c result = (ds : List ℕ) → HasDigits f ds → IfNone result ((es : List ℕ) → 19 < length (without_trailing_zeros (ds ++ c ∷ es)))
+abbrev pub IsFullIfNone : Fraction → ℕ → Option Fraction → Type 0
+IsFullIfNone f c result = (ds : List ℕ) → HasDigits f ds → IfNone result ((es : List ℕ) → 19 < length (without_trailing_zeros (ds ++ c ∷ es)))
 
 -- There is only whitespace between the two positions.
 pub record SkipsWhitespace (text : List ℕ) (from to : ℕ) : Type 0 where

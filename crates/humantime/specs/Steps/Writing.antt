@@ -1,5 +1,5 @@
 -- What a writer has written to its buffer.
-use Rattle.std.specs.Prelude.{◌≡◌, ◌≤◌, ℕ, ◌+◌, List, [], ◌∷◌, ◌++◌, length, take, decimal, if◌then◌else◌}
+use Rattle.std.specs.Prelude.{◌≡◌, ◌≤◌, ℕ, ◌+◌, List, [], ◌∷◌, ◌++◌, length, take, decimal, true, false, if◌then◌else◌}
 use Rattle.std.specs.List.{join_with_byte}
 use Rattle.std.specs.Str.{byte}
 use Rattle.humantime.specs.declared.duration.writer.Writer.{Writer}
@@ -24,6 +24,13 @@ pub record Appends (old new : Writer) (text : List ℕ) : Type 0 where
 abbrev pub joined_after : List ℕ → List (List ℕ) → List ℕ
 joined_after [] ps = join_with_byte (byte " ") ps
 joined_after (b ∷ bs) ps = join_with_byte (byte " ") ((b ∷ bs) ∷ ps)
+
+-- The suffix that stays the same in the plural, and the one that takes an `s`.
+abbrev pub fixed : List ℕ → Suffix
+fixed unit = (unit, false)
+
+abbrev pub plural : List ℕ → Suffix
+plural unit = (unit, true)
 
 -- An upper bound for the bytes of a count: its digits, its suffix and the `s` of the plural.
 abbrev pub most_bytes : ℕ → Suffix → ℕ

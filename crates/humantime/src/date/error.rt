@@ -1,4 +1,4 @@
-//! The error returned when parsing a timestamp fails.
+//! [`TimestampError`]: the error of parsing a timestamp, and its messages.
 
 use std::error::Error;
 use std::fmt;

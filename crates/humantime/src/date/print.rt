@@ -1,4 +1,4 @@
-//! Formatting of timestamps.
+//! Prints timestamps: the `format_rfc3339` functions and [`Rfc3339Timestamp`].
 
 ghost use Rattle.std.specs.Prelude.{◌≡◌, ◌+◌, ◌<◌, ◌≤◌, ◌↔◌, IsSome, IfSome, IfNone, option_map, ◌++◌, take, drop, codes};
 ghost use Rattle.std.specs.Borrow.{sem};
@@ -274,7 +274,7 @@ impl Rfc3339Timestamp {
             return SECONDS_END + 1;
         }
         write_two_digits(buf, SECONDS_END + 1, nanos / 10_000_000);
-        // Three digits are two pairs, and the `Z` replaces the last digit.
+        // The third digit is written together with the fourth, which the `Z` replaces.
         write_two_digits(buf, MILLIS_END - 1, nanos / 100_000 % 100);
         if self.precision == Precision::Millis {
             buf[MILLIS_END] = b'Z';
@@ -333,9 +333,9 @@ fn date_and_time(moment: SystemTime) -> Option<(Date, u32)>
     Some((date, (secs % 86_400) as u32))
 }
 
-/// Fills the buffer with `YYYY-MM-DDTHH:MM:SS.nnnnnnnnnz`. The caller overwrites what follows the seconds.
+/// Fills the buffer with the date, `T`, the time and `.nnnnnnnnnz`, whose letters are placeholders that the caller overwrites.
 ///
-/// It copies a template of 30 bytes, and replaces the letters before the point, except `T`, by digits.
+/// The contract names 0 nanoseconds and 0 digits of them, on which the text before the point does not depend.
 #[inline(always)]
 #[tactic(auto, using(crate::proofs::Dates::Years::valid_from_test))]
 fn write_date_time(date: Date, time: u32, buf: &mut [u8; 30])
@@ -355,7 +355,7 @@ fn write_date_time(date: Date, time: u32, buf: &mut [u8; 30])
 
 /// Writes a number below 100 as two digits at offset `at`. The two stores compile to one move, and `copy_from_slice` to a call.
 #[inline(always)]
-#[tactic(auto, using(crate::proofs::Timestamps::Printing::Pairs::two_set, crate::proofs::Timestamps::Printing::Pairs::tens_at, crate::proofs::Timestamps::Printing::Pairs::ones_at))]
+#[tactic(auto, using(crate::proofs::Timestamps::Printing::Pairs::pair_written))]
 fn write_two_digits(buf: &mut [u8; 30], at: usize, n: u32)
     requires place { at + 2 ≤ 30 }
     requires small { n < 100 }

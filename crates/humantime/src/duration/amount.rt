@@ -33,13 +33,13 @@ static POWERS_OF_TEN: [u64; 20] = [
     10_000_000_000_000_000_000,
 ];
 
-/// The digits after a point.
+/// The digits after a point, as numbers.
 #[derive(Clone, Copy, Debug)]
 pub(crate) struct Fraction {
     /// The digits without trailing zeros, as a number.
     pub significand: u64,
     /// The number of digits before the trailing zeros, leading zeros included.
-    pub significant: usize,
+    pub places: usize,
     /// The number of all digits.
     pub len: usize,
 }
@@ -50,7 +50,7 @@ pub(crate) struct Amount {
     pub value: u64,
     pub fraction: Option<Fraction>,
     pub scale: &'static Scale,
-    ghost digits: { ForSome fraction (λ f. f.significant ≤ 19) },
+    ghost digits: { ForSome fraction (λ f. f.places ≤ 19) },
 }
 
 /// Returns ten times the value plus the digit, or `None` on overflow.
@@ -71,23 +71,23 @@ pub(crate) fn power_of_ten(exponent: usize) -> u64
 }
 
 impl Fraction {
-    ghost use Rattle.humantime.specs.Steps.Scanning.{HasDigits, HasOneMore, HasNoRoom};
+    ghost use Rattle.humantime.specs.Steps.Scanning.{HasDigits, AppendsIfSome, IsFullIfNone};
 
     /// No digits.
     pub(crate) const EMPTY: Fraction = Fraction {
         significand: 0,
-        significant: 0,
+        places: 0,
         len: 0,
     };
 
-    /// Appends a digit, or returns `None` if that makes more than 19 digits before the trailing zeros.
+    /// Appends a digit, given as its ASCII byte, or returns `None` if that makes more than 19 digits before the trailing zeros.
     #[inline(always)]
     pub(crate) fn push(self, c: u8) -> Option<Fraction>
         requires digit { is_digit c ≡ true }
         requires digits { (ds : List ℕ) × HasDigits self ds }
         requires room { self.len + 1 < 2 ^ 64 }
-        ensures pushed { HasOneMore self c result }
-        ensures full { HasNoRoom self c result }
+        ensures pushed { AppendsIfSome self c result }
+        ensures full { IsFullIfNone self c result }
     {
         let len = self.len + 1;
         if c == b'0' {
@@ -97,11 +97,11 @@ impl Fraction {
             return None;
         }
         // The zeros before this digit are not trailing zeros any more.
-        let power = power_of_ten(len - self.significant);
+        let power = power_of_ten(len - self.places);
         let significand = self.significand * power + (c - b'0') as u64;
         Some(Fraction {
             significand,
-            significant: len,
+            places: len,
             len,
         })
     }

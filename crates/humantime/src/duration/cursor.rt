@@ -1,4 +1,4 @@
-//! A position in a text.
+//! [`Cursor`], a position in a text.
 
 ghost use Rattle.std.proofs.Props.{props};
 ghost use Rattle.std.specs.Prelude.{◌≡◌, chars, drop, IsCharBoundary};

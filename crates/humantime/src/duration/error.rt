@@ -10,7 +10,7 @@ use std::fmt;
 
 /// The error returned when parsing a duration fails.
 ///
-/// Offsets are in bytes, and lie on `char` boundaries of the text. `Display` writes the message of the Rust crate, with the
+/// Offsets are in bytes, and lie on `char` boundaries of the text. `Display` writes the message of the Rust crate `humantime`, with the
 /// unit as written in the text. Two errors are equal if their variants and fields are equal; units are compared as text.
 ///
 /// # Examples
@@ -42,9 +42,9 @@ pub enum DurationError<'a> {
     },
     /// A number, its product with the size of its unit, or the sum overflows; or a fraction cannot be represented.
     ///
-    /// A fraction can be represented if it has at most 19 digits before its trailing zeros, if these digits as a number, times the
-    /// size of the unit, fit a `u64`, and if the fraction of the unit is a whole number of nanoseconds (units up to minutes) or of
-    /// seconds (hours and longer units).
+    /// A fraction can be represented if it has at most 19 digits before its trailing zeros; if these digits as a number, times the size of
+    /// the unit, fit in a `u64`; and if the fraction of the unit is a whole number of nanoseconds (units up to minutes) or of seconds
+    /// (hours and longer units).
     NumberOverflow,
     /// The text is empty or consists of whitespace only.
     Empty,

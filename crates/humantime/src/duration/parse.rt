@@ -54,7 +54,7 @@ fn sum_of<'a>(text: &'a str) -> Result<StdDuration, DurationError<'a>>
     let mut total = StdDuration::ZERO;
     let mut items = spans(text);
     while let Some(item) = items.next() {
-        // An error is matched: for `?`, Rattle's own compiler would copy it by calling a function, and `1foo~` would take 1.15 of the time.
+        // `match` in place of `?`, for which Rattle's own compiler copies the error by a call: `1foo~` would take 1.15 of the time.
         match item {
             Ok(span) => match add_amount(total, span.amount) {
                 Some(sum) => total = sum,
@@ -68,7 +68,7 @@ fn sum_of<'a>(text: &'a str) -> Result<StdDuration, DurationError<'a>>
 
 /// Parses a duration, such as `2h 37min`.
 ///
-/// The text is one span or more, each a number, an optional fraction and a unit, as in `2h 37min` or `1.5d`, and the duration is
+/// The text is one or more spans, each a number, an optional fraction and a unit, as in `2h 37min` or `1.5d`, and the duration is
 /// their sum. Whitespace is allowed between digits, and before and after each part. Trailing zeros of a fraction are ignored. The text
 /// `0`, without a unit or whitespace, is the zero duration.
 ///

@@ -35,11 +35,11 @@ fn add_times(sum: StdDuration, one: Addition, count: u64) -> Option<StdDuration>
 /// Returns the fraction times the factor, or `None` if that is not a whole number, or on overflow.
 #[tactic(auto, using(crate::proofs::Durations::Bytes::Additions::power_positive))]
 fn part_of(fraction: Fraction, factor: u64) -> Option<u64>
-    requires { fraction.significant ≤ 19 }
-    ensures { result ≡ steps.part_of fraction.significand fraction.significant factor }
+    requires { fraction.places ≤ 19 }
+    ensures { result ≡ steps.part_of fraction.significand fraction.places factor }
 {
     let product = product(fraction.significand, factor)?;
-    let power = power_of_ten(fraction.significant);
+    let power = power_of_ten(fraction.places);
     if product % power != 0 {
         return None;
     }
@@ -48,25 +48,25 @@ fn part_of(fraction: Fraction, factor: u64) -> Option<u64>
 
 /// Returns the sum plus a fraction of an addition, or `None` if that is not a whole number, or on overflow.
 ///
-/// If `one` is `None`, it returns `None` unless the fraction is zero.
+/// If `one` is `None`, as for nanoseconds, which have no fractions, it returns `None` unless the fraction is zero.
 fn add_part(sum: StdDuration, one: Option<Addition>, fraction: Fraction) -> Option<StdDuration>
-    requires { fraction.significant ≤ 19 }
-    ensures { result ≡ steps.add_part sum one fraction.significand fraction.significant }
+    requires { fraction.places ≤ 19 }
+    ensures { result ≡ steps.add_part sum one fraction.significand fraction.places }
 {
     match one {
-        None => (fraction.significant == 0).then_some(sum),
+        None => (fraction.places == 0).then_some(sum),
         Some(Addition::Nanos(size)) => sum.checked_add_nanos(part_of(fraction, size)?),
         Some(Addition::Seconds(size)) => sum.checked_add_secs(part_of(fraction, size)?),
     }
 }
 
-/// Returns the sum plus what a span adds, first its number, then its fraction, or `None` if that breaks a limit.
+/// Returns the total plus what a span adds, first its number, then its fraction, or `None` if that breaks a limit.
 #[inline(always)]
 pub(crate) fn add_amount(total: StdDuration, amount: Amount) -> Option<StdDuration>
     ensures { (s : SpelledSpan) → IsAmountOf amount s → result ≡ add_span total s }
 {
     let (count, scale) = (amount.value, amount.scale);
-    // Both arms call `add_times`, so that it is inlined twice and `amount.fraction` is tested only once: 0.96 of the instructions.
+    // `add_times` is called in both arms: it is then inlined twice, `amount.fraction` is tested once, and parsing takes 0.96 of the instructions.
     match amount.fraction {
         None => add_times(total, scale.one, count),
         Some(fraction) => {

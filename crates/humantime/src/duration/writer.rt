@@ -1,6 +1,6 @@
 //! [`Writer`], which appends text to a byte buffer. Numbers are written by the crate `itoa`.
 
-ghost use Rattle.std.specs.Prelude.{◌≡◌, ◌<◌, ◌≤◌, ◌+◌, ◌==◌, if◌then◌else◌, true, false, codes, [], ◌∷◌, length, take, decimal};
+ghost use Rattle.std.specs.Prelude.{◌≡◌, ◌<◌, ◌≤◌, ◌+◌, ◌==◌, if◌then◌else◌, codes, [], ◌∷◌, length, take, decimal};
 ghost use Rattle.std.specs.Str.{IsUtf8};
 ghost use Rattle.std.proofs.Props.{props};
 
@@ -16,7 +16,7 @@ pub(crate) struct Writer<'b> {
 }
 
 impl<'b> Writer<'b> {
-    ghost use Rattle.humantime.specs.Steps.Writing.{most_bytes, written, Appends, AppendsCount, HasWritten};
+    ghost use Rattle.humantime.specs.Steps.Writing.{fixed, plural, most_bytes, written, Appends, AppendsCount, HasWritten};
 
     /// Returns a writer that has written nothing yet.
     #[inline(always)]
@@ -60,8 +60,8 @@ impl<'b> Writer<'b> {
     /// Appends a count and its unit, preceded by a space unless nothing has been written yet. A count of zero is left out.
     #[inline(always)]
     pub(crate) fn push_count(&mut self, count: u64, unit: &str)
-        requires fits { self.old.end + 1 + most_bytes count (unit.now, false) ≤ length self.old.bytes.now }
-        ensures { AppendsCount self.old self.new count (unit.now, false) }
+        requires fits { self.old.end + 1 + most_bytes count (fixed unit.now) ≤ length self.old.bytes.now }
+        ensures { AppendsCount self.old self.new count (fixed unit.now) }
     {
         if count == 0 {
             return;
@@ -76,8 +76,8 @@ impl<'b> Writer<'b> {
     /// Appends a count and its unit as `push_count` does, with an `s` after the unit if the count is above one.
     #[inline(always)]
     pub(crate) fn push_plural(&mut self, count: u64, unit: &str)
-        requires fits { self.old.end + 1 + most_bytes count (unit.now, true) ≤ length self.old.bytes.now }
-        ensures { AppendsCount self.old self.new count (unit.now, true) }
+        requires fits { self.old.end + 1 + most_bytes count (plural unit.now) ≤ length self.old.bytes.now }
+        ensures { AppendsCount self.old self.new count (plural unit.now) }
     {
         self.push_count(count, unit);
         if count > 1 {

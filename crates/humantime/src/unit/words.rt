@@ -8,7 +8,7 @@ ghost use Rattle.humantime.specs.Steps.Keys.{scale_of_key};
 
 use crate::unit::{Addition, Scale, sizes};
 
-/// The key of a word without letters.
+/// The key of the empty word.
 pub(crate) const EMPTY_KEY: u64 = 1;
 
 /// The key of a word, computed at compile time. A word of more than seven bytes does not compile: its key would overflow.
@@ -127,7 +127,8 @@ const Y: u64 = key!(b"y");
 
 /// Returns the key of a word with one more byte.
 ///
-/// It wraps around if the word has more than seven bytes. No unit has such a key, whose highest byte is then that of a letter or a mu.
+/// It wraps around if the word has more than seven bytes. The highest byte of the key is then a byte of the word, and that of a unit's key is
+/// 0 or 1, so no unit has such a key.
 #[inline(always)]
 pub(crate) fn push_byte(key: u64, byte: u8) -> u64
     ensures { result ≡ (key * 256 + byte) % 2 ^ 64 }

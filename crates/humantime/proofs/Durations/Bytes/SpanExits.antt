@@ -11,7 +11,7 @@ use Rattle.humantime.specs.Durations.Units.{Scale, scale_of_word}
 use Rattle.humantime.specs.Durations.Faults.{number_of, after_number, after_point, fraction_of, after_fraction, word_of, after_word, span_of, InvalidCharacter, UnknownUnit, NumberOverflow}
 use Rattle.humantime.specs.Results.Items.{spelled, trimmed, view_at}
 use Rattle.humantime.specs.Results.Walks.{stop_at, ends_span}
-use Rattle.humantime.specs.Steps.Scanning.{begins_without_letter}
+use Rattle.humantime.specs.Steps.Scanning.{begins_with_nonletter}
 use Rattle.humantime.proofs.Durations.Bytes.Trimming.{spelled_at}
 use Rattle.humantime.specs.declared.duration.scan.Number.{Number}
 use Rattle.humantime.specs.declared.duration.scan.FractionPart.{FractionPart}
@@ -31,16 +31,16 @@ unfolding stop_at
 exit_long text rest e = rw e refl
 
 -- A text that does not begin with a letter has no letters at its start.
-no_letters : (cs : List ℕ) → begins_without_letter cs ≡ true → drop_while is_letter cs ≡ cs
+no_letters : (cs : List ℕ) → begins_with_nonletter cs ≡ true → drop_while is_letter cs ≡ cs
 no_letters [] h = refl
 no_letters (c ∷ cs) h = grind arith
 
 pub exit_no_letter : (text rest after : List ℕ) (at : ℕ) → too_long (span_of rest) ≡ false → after ≡ after_fraction rest
-    → begins_without_letter after ≡ true → at ≡ offset_of text after → Some (InvalidCharacter at) ≡ stop_at text rest
+    → begins_with_nonletter after ≡ true → at ≡ offset_of text after → Some (InvalidCharacter at) ≡ stop_at text rest
 unfolding stop_at
 exit_no_letter text rest after at s a n p = rw (s, sym a, n, no_letters after n, p) refl
 
-pub exit_bare : (text rest behind after : List ℕ) (at : ℕ) → too_long (span_of rest) ≡ false → behind ≡ after_fraction rest → begins_without_letter behind ≡ false
+pub exit_bare : (text rest behind after : List ℕ) (at : ℕ) → too_long (span_of rest) ≡ false → behind ≡ after_fraction rest → begins_with_nonletter behind ≡ false
     → is_some_and (λ ds. length ds == 0) (fraction_of rest) ≡ true → after ≡ after_number rest → at ≡ offset_of text after
     → Some (InvalidCharacter at) ≡ stop_at text rest
 unfolding stop_at
@@ -54,14 +54,14 @@ bare_some rest after bare a none = grind arith
 pub bad_some : (after : List ℕ) → ends_span after ≡ false → after ≢ []
 bad_some after e none = grind arith
 
-pub exit_after : (text rest behind after : List ℕ) (at : ℕ) → too_long (span_of rest) ≡ false → behind ≡ after_fraction rest → begins_without_letter behind ≡ false
+pub exit_after : (text rest behind after : List ℕ) (at : ℕ) → too_long (span_of rest) ≡ false → behind ≡ after_fraction rest → begins_with_nonletter behind ≡ false
     → is_some_and (λ ds. length ds == 0) (fraction_of rest) ≡ false → after ≡ drop_while is_letter behind → ends_span after ≡ false → at ≡ offset_of text after
     → Some (InvalidCharacter at) ≡ stop_at text rest
 unfolding stop_at
 exit_after text rest behind after at s h w bare a e p = rw (s, sym h, w, bare, sym a, e, p) refl
 
 pub exit_unit : (text rest behind unit after : List ℕ) (start end value : ℕ) → too_long (span_of rest) ≡ false → behind ≡ after_fraction rest
-    → begins_without_letter behind ≡ false → is_some_and (λ ds. length ds == 0) (fraction_of rest) ≡ false → after ≡ drop_while is_letter behind
+    → begins_with_nonletter behind ≡ false → is_some_and (λ ds. length ds == 0) (fraction_of rest) ≡ false → after ≡ drop_while is_letter behind
     → ends_span after ≡ true → IsUtf8 unit → chars unit ≡ take_while is_letter behind → scale_of_word (chars unit) ≡ None
     → start ≡ offset_of text behind → end ≡ offset_of text after → value ≡ decimal_value (number_of rest)
     → Some (UnknownUnit start end unit value) ≡ stop_at text rest
@@ -70,7 +70,7 @@ exit_unit text rest behind unit after start end value s h w bare a e u l k p q v
     rw (s, sym h, w, bare, sym a, e, sym l, k, encodes-chars unit u, p, q, v) refl
 
 pub exit_fine : (text rest behind word after : List ℕ) (u : Scale) → too_long (span_of rest) ≡ false → behind ≡ after_fraction rest
-    → begins_without_letter behind ≡ false → is_some_and (λ ds. length ds == 0) (fraction_of rest) ≡ false → after ≡ drop_while is_letter behind
+    → begins_with_nonletter behind ≡ false → is_some_and (λ ds. length ds == 0) (fraction_of rest) ≡ false → after ≡ drop_while is_letter behind
     → ends_span after ≡ true → word ≡ take_while is_letter behind → scale_of_word word ≡ Some u → None ≡ stop_at text rest
 unfolding stop_at
 exit_fine text rest behind word after u s h w bare a e l k = rw (s, sym h, w, bare, sym a, e, sym l, k) refl

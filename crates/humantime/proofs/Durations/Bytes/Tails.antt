@@ -5,7 +5,7 @@ use Rattle.std.proofs.lemmas.List.{take-append-drop, append_cancel_right}
 use Rattle.std.proofs.lemmas.Str.{IsUtf8-take, IsCharBoundary-at_seam, encodes-chars, chars-append, chars-nil}
 use Rattle.humantime.specs.Texts.{take_while, drop_while}
 use Rattle.humantime.specs.Durations.Characters.{is_letter, byte_length, offset_of}
-use Rattle.humantime.specs.Steps.Scanning.{IsTail, begins_without_letter}
+use Rattle.humantime.specs.Steps.Scanning.{IsTail, begins_with_nonletter}
 use Rattle.humantime.proofs.Durations.Reading.Runs.{take_while-drop_while}
 
 -- The text before the rest.
@@ -26,10 +26,10 @@ front_is p text at u place after =
     (ap (λ (x : List ℕ). chars (take at text) ++ x) (sym after) ∙ sym (chars-append (take at text) (drop at text) (IsUtf8-take text at u place))
     ∙ ap chars (take-append-drop at text) ∙ sym (take_while-drop_while p (chars text)))
 
-letter_begins : (cs : List ℕ) → take_while is_letter cs ≢ [] → begins_without_letter cs ≡ false
+letter_begins : (cs : List ℕ) → take_while is_letter cs ≢ [] → begins_with_nonletter cs ≡ false
 letter_begins cs some = grind arith
 
-no_letter_begins : (cs : List ℕ) → take_while is_letter cs ≡ [] → cs ≢ [] → begins_without_letter cs ≡ true
+no_letter_begins : (cs : List ℕ) → take_while is_letter cs ≡ [] → cs ≢ [] → begins_with_nonletter cs ≡ true
 no_letter_begins cs none some = grind arith
 
 -- The characters of a text have as many bytes in UTF-8 as the text.
@@ -54,10 +54,10 @@ no_chars_at text at end = no_bytes (drop at text) (omega (arith, length-drop at 
 
 -- A text begins with a word exactly if its letters end after its start.
 pub a_word : (text : List ℕ) (at : ℕ) → IsUtf8 text → IsCharBoundary text at → chars (drop at text) ≡ drop_while is_letter (chars text) → at ≢ 0
-    → begins_without_letter (chars text) ≡ false
+    → begins_with_nonletter (chars text) ≡ false
 a_word text at u place rest some = grind (arith, common_steps, length-take, letter_begins, some_chars, IsUtf8-take, front_is)
 
 pub no_word : (text : List ℕ) (at : ℕ) → IsUtf8 text → IsCharBoundary text at → chars (drop at text) ≡ drop_while is_letter (chars text) → at ≡ 0
-    → length text ≢ 0 → begins_without_letter (chars text) ≡ true
+    → length text ≢ 0 → begins_with_nonletter (chars text) ≡ true
 no_word text at u place rest zero some =
     no_letter_begins (chars text) (sym (front_is is_letter text at u place rest) ∙ no_bytes (take at text) (rw zero refl)) (some_chars text u some)

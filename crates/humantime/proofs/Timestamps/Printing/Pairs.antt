@@ -18,3 +18,6 @@ pub two_set : (at : ℕ) (xs : List ℕ) (a b : ℕ) → at + 2 ≤ length xs �
 two_set zero (x ∷ y ∷ ys) a b h = refl
 two_set (suc at) (x ∷ xs) a b h = rw (suc-add at 1, suc-add at 2) (ap (λ (ys : List ℕ). x ∷ ys) (two_set at xs a b (omega arith)))
 two_set at xs a b h = absurd (omega arith)
+
+-- The lemmas about two digits that are written one by one.
+pub ruleset pair_written = (two_set, tens_at, ones_at)

@@ -32,14 +32,14 @@ returns-then-is_bare c =
       fine = tt;
     }
 
-pub returns-in_default-end_span : goal.returns-in_default-end_span
-returns-in_default-end_span c =
+pub returns-in_default-next_span_start : goal.returns-in_default-next_span_start
+returns-in_default-next_span_start c =
     let is_bare : c.is_some_and-is_bare.result ≡ is_some_and (λ ds. length ds == 0) (fraction_of (ahead c.args.number.start)) = grind (arith, c.is_some_and-is_bare.ensures, bare_fraction c.args.number c.args.fraction c.requires.fraction) in
     let word = c.in-Some.ensures in
     let text = c.in-Some.ensures.same_text ∙ c.fraction_end-end.ensures.text in record {
       stop = rw (← text) (exit_after _ _ _ _ _ c.requires.fraction.short c.fraction_end-end.ensures.rest word.begun (sym is_bare ∙ c.if-is_bare.false) word.behind
-          c.in_default-end_span.ensures c.offset-in_default-end_span.ensures);
-      place = cursor_place _ c.in-Some.word.end _ text c.offset-in_default-end_span.ensures (bad_some _ c.in_default-end_span.ensures);
+          c.in_default-next_span_start.ensures c.offset-in_default-next_span_start.ensures);
+      place = cursor_place _ c.in-Some.word.end _ text c.offset-in_default-next_span_start.ensures (bad_some _ c.in_default-next_span_start.ensures);
       fine = tt;
     }
 
@@ -50,7 +50,7 @@ returns-in_default-scale_of c =
     let end = c.fraction_end-end.ensures in
     let text = c.in-Some.ensures.same_text ∙ end.text in record {
       stop = exit_unit _ _ _ _ _ _ _ _ c.requires.fraction.short end.rest word.begun (sym is_bare ∙ c.if-is_bare.false) word.behind
-          c.in-Some-end_span.ensures.ends word.utf8 word.letters (sym (c.in_default-scale_of.ensures ∙ c.in-Some.word.scale))
+          c.in-Some-next_span_start.ensures.ends word.utf8 word.letters (sym (c.in_default-scale_of.ensures ∙ c.in-Some.word.scale))
           (rw end.text at c.offset-in_default-scale_of.ensures) (rw text at c.offset-in_default-scale_of-2.ensures) c.args.number.digits;
       place = part_between _ _ c.fraction_end-end.result c.in-Some.word.end _ _ end.text text word.whole c.offset-in_default-scale_of.ensures c.offset-in_default-scale_of-2.ensures;
       fine = tt;
@@ -72,7 +72,7 @@ returns c =
     let is_bare : c.is_some_and-is_bare.result ≡ is_some_and (λ ds. length ds == 0) (fraction_of (ahead c.args.number.start)) = grind (arith, c.is_some_and-is_bare.ensures, bare_fraction c.args.number c.args.fraction c.requires.fraction) in
     let word = c.in-Some.ensures in
     let end = c.fraction_end-end.ensures in
-    let next = c.in-Some-end_span.ensures in
+    let next = c.in-Some-next_span_start.ensures in
     let text = c.in-Some.ensures.same_text ∙ end.text in
     let after = word.behind ∙ ap (drop_while is_letter) end.rest in
     let less : length c.in-Some.word.end.rest.now < length c.args.number.start.rest.now =

@@ -2,7 +2,7 @@ use Rattle.std.proofs.Common.{◌≢◌, length, refl, sym, ◌∙◌, arith}
 use Rattle.std.proofs.lemmas.Str.{IsCharBoundary-start}
 use Rattle.humantime.proofs.Durations.Bytes.PlaceSteps.{space_ends, other_goes_on, whitespace_ends}
 use Rattle.humantime.proofs.Durations.Bytes.Tails.{no_bytes, some_chars}
-use Rattle.humantime.proofs.duration.reader.end_span.Goals as goal
+use Rattle.humantime.proofs.duration.reader.next_span_start.Goals as goal
 
 pub returns-then-is_empty : goal.returns-then-is_empty
 returns-then-is_empty c =

@@ -1,6 +1,6 @@
 use Rattle.std.proofs.Common.{arith}
 use Rattle.humantime.proofs.Timestamps.Reading.Ends.{offset_from_test}
-use Rattle.humantime.proofs.date.parse.is_offset.Goals as goal
+use Rattle.humantime.proofs.date.parse.is_zero_offset.Goals as goal
 
 pub returns-then-front-from_le_bytes : goal.returns-then-front-from_le_bytes
 returns-then-front-from_le_bytes c =
