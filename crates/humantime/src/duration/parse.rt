@@ -104,7 +104,7 @@ fn sum_of<'a>(text: &'a str) -> Result<StdDuration, DurationError<'a>>
 pub fn parse_duration(s: &str) -> Result<StdDuration, DurationError<'_>>
     ensures { IsDurationAnswer s.now result }
 {
-    if s.len() == 1 && s == "0" {
+    if s == "0" {
         return Ok(StdDuration::ZERO);
     }
     sum_of(s)

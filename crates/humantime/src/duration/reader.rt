@@ -82,14 +82,12 @@ fn complete_span<'a>(
     ensures { ReadsSpan number.entry.start result }
 {
     let end = fraction_end(number, fraction);
-    // Computed before the word is read, so that the fraction's length need not stay live until then.
-    let is_bare = fraction.is_some_and(|fraction| fraction.value.len == 0);
     let Some(word) = read_word(end) else {
         return Err(DurationError::InvalidCharacter(end.offset()));
     };
     let after_word = word.end;
     // A point without a digit after it.
-    if is_bare {
+    if fraction.is_some_and(|fraction| fraction.value.len == 0) {
         return Err(DurationError::InvalidCharacter(number.end.offset()));
     }
     let Some(next) = next_span_start(after_word) else {

@@ -23,21 +23,21 @@ returns-in_default c =
       fine = tt;
     }
 
-pub returns-then-is_bare : goal.returns-then-is_bare
-returns-then-is_bare c =
-    let is_bare : c.is_some_and-is_bare.result ≡ is_some_and (λ ds. length ds == 0) (fraction_of (ahead c.args.number.start)) = grind (arith, c.is_some_and-is_bare.ensures, bare_fraction c.args.number c.args.fraction c.requires.fraction) in
-    let bare = sym is_bare ∙ c.if-is_bare.true in record {
-      stop = rw (← c.args.number.run.same_text) (exit_bare _ _ _ _ _ c.requires.fraction.short c.fraction_end-end.ensures.rest c.in-Some.ensures.begun bare c.args.number.run.behind c.offset-then-is_bare.ensures);
-      place = cursor_place _ c.args.number.end _ c.args.number.run.same_text c.offset-then-is_bare.ensures (bare_some _ _ bare c.args.number.run.behind);
+pub returns-then-is_some_and : goal.returns-then-is_some_and
+returns-then-is_some_and c =
+    let is_bare : c.is_some_and.result ≡ is_some_and (λ ds. length ds == 0) (fraction_of (ahead c.args.number.start)) = grind (arith, c.is_some_and.ensures, bare_fraction c.args.number c.args.fraction c.requires.fraction) in
+    let bare = sym is_bare ∙ c.if-is_some_and.true in record {
+      stop = rw (← c.args.number.run.same_text) (exit_bare _ _ _ _ _ c.requires.fraction.short c.fraction_end-end.ensures.rest c.in-Some.ensures.begun bare c.args.number.run.behind c.offset-then-is_some_and.ensures);
+      place = cursor_place _ c.args.number.end _ c.args.number.run.same_text c.offset-then-is_some_and.ensures (bare_some _ _ bare c.args.number.run.behind);
       fine = tt;
     }
 
 pub returns-in_default-next_span_start : goal.returns-in_default-next_span_start
 returns-in_default-next_span_start c =
-    let is_bare : c.is_some_and-is_bare.result ≡ is_some_and (λ ds. length ds == 0) (fraction_of (ahead c.args.number.start)) = grind (arith, c.is_some_and-is_bare.ensures, bare_fraction c.args.number c.args.fraction c.requires.fraction) in
+    let is_bare : c.is_some_and.result ≡ is_some_and (λ ds. length ds == 0) (fraction_of (ahead c.args.number.start)) = grind (arith, c.is_some_and.ensures, bare_fraction c.args.number c.args.fraction c.requires.fraction) in
     let word = c.in-Some.ensures in
     let text = c.in-Some.ensures.same_text ∙ c.fraction_end-end.ensures.text in record {
-      stop = rw (← text) (exit_after _ _ _ _ _ c.requires.fraction.short c.fraction_end-end.ensures.rest word.begun (sym is_bare ∙ c.if-is_bare.false) word.behind
+      stop = rw (← text) (exit_after _ _ _ _ _ c.requires.fraction.short c.fraction_end-end.ensures.rest word.begun (sym is_bare ∙ c.if-is_some_and.false) word.behind
           c.in_default-next_span_start.ensures c.offset-in_default-next_span_start.ensures);
       place = cursor_place _ c.in-Some.word.end _ text c.offset-in_default-next_span_start.ensures (bad_some _ c.in_default-next_span_start.ensures);
       fine = tt;
@@ -45,11 +45,11 @@ returns-in_default-next_span_start c =
 
 pub returns-in_default-scale_of : goal.returns-in_default-scale_of
 returns-in_default-scale_of c =
-    let is_bare : c.is_some_and-is_bare.result ≡ is_some_and (λ ds. length ds == 0) (fraction_of (ahead c.args.number.start)) = grind (arith, c.is_some_and-is_bare.ensures, bare_fraction c.args.number c.args.fraction c.requires.fraction) in
+    let is_bare : c.is_some_and.result ≡ is_some_and (λ ds. length ds == 0) (fraction_of (ahead c.args.number.start)) = grind (arith, c.is_some_and.ensures, bare_fraction c.args.number c.args.fraction c.requires.fraction) in
     let word = c.in-Some.ensures in
     let end = c.fraction_end-end.ensures in
     let text = c.in-Some.ensures.same_text ∙ end.text in record {
-      stop = exit_unit _ _ _ _ _ _ _ _ c.requires.fraction.short end.rest word.begun (sym is_bare ∙ c.if-is_bare.false) word.behind
+      stop = exit_unit _ _ _ _ _ _ _ _ c.requires.fraction.short end.rest word.begun (sym is_bare ∙ c.if-is_some_and.false) word.behind
           c.in-Some-next_span_start.ensures.ends word.utf8 word.letters (sym (c.in_default-scale_of.ensures ∙ c.in-Some.word.scale))
           (rw end.text at c.offset-in_default-scale_of.ensures) (rw text at c.offset-in_default-scale_of-2.ensures) c.args.number.digits;
       place = part_between _ _ c.fraction_end-end.result c.in-Some.word.end _ _ end.text text word.whole c.offset-in_default-scale_of.ensures c.offset-in_default-scale_of-2.ensures;
@@ -69,7 +69,7 @@ invariant_of-span-2 c =
 pub returns : goal.returns
 returns c =
     let slice : option_map (λ t. chars t.now) c.map.result ≡ option_map (take_while is_numeric) (after_point (after_number (ahead c.args.number.start))) = grind (arith, c.map.ensures.cases, fraction_slice_is c.args.number c.args.fraction c.requires.fraction) in
-    let is_bare : c.is_some_and-is_bare.result ≡ is_some_and (λ ds. length ds == 0) (fraction_of (ahead c.args.number.start)) = grind (arith, c.is_some_and-is_bare.ensures, bare_fraction c.args.number c.args.fraction c.requires.fraction) in
+    let is_bare : c.is_some_and.result ≡ is_some_and (λ ds. length ds == 0) (fraction_of (ahead c.args.number.start)) = grind (arith, c.is_some_and.ensures, bare_fraction c.args.number c.args.fraction c.requires.fraction) in
     let word = c.in-Some.ensures in
     let end = c.fraction_end-end.ensures in
     let next = c.in-Some-next_span_start.ensures in
@@ -77,7 +77,7 @@ returns c =
     let after = word.behind ∙ ap (drop_while is_letter) end.rest in
     let less : length c.in-Some.word.end.rest.now < length c.args.number.start.rest.now =
     omega (arith, next_bytes _ c.requires.digit, byte_length-chars _ c.args.number.start.tail.utf8, byte_length-chars _ c.in-Some.word.end.tail.utf8, ap byte_length after) in record {
-      stop = exit_fine _ _ _ _ _ _ c.requires.fraction.short end.rest word.begun (sym is_bare ∙ c.if-is_bare.false) word.behind next.ends
+      stop = exit_fine _ _ _ _ _ _ c.requires.fraction.short end.rest word.begun (sym is_bare ∙ c.if-is_some_and.false) word.behind next.ends
           word.letters (sym (c.in-Some-scale_of.ensures ∙ c.in-Some.word.scale));
       place = tt;
       fine = record {
