@@ -108,3 +108,36 @@ def items(text):
         if line == "}":
             owner, trait, promised = "", "", []
         docs = []
+
+
+def body(item, text):
+    """Returns the lines of an item that is not in an `impl`, from its declaration to its end."""
+    return re.split(r"^\}$", "\n".join(text.split("\n")[item.line - 1 :]), maxsplit=1, flags=re.M)[0]
+
+
+def declaration(item, text):
+    """Returns the declaration of a public item in one line: of a function without its contract, of a type with its public fields."""
+    if item.kind == "fn":
+        return item.head.split("\n")[0].replace(f"fn {item.name}", f"fn {item.path()}", 1)
+    line = re.split(r" [={]|\(", body(item, text).strip().removeprefix("pub "), maxsplit=1)[0].replace(item.name, item.path(), 1)
+    fields = re.findall(r"^    pub (\w+: .*),$", body(item, text), re.M) if item.kind == "struct" else []
+    return f"{line} {{ {', '.join(fields)} }}" if fields else line
+
+
+def variants(item, text):
+    """Yields each variant of an enum, with its fields, and its docstring."""
+    if item.kind == "enum":
+        for docs, variant in re.findall(r"((?:^    ///.*\n)+)    (\w+(?:\([^)]*\)| \{[^}]*\})?),$", body(item, text), re.M):
+            fields = re.sub(r"^ *///.*\n", "", variant, flags=re.M)
+            yield re.sub(r",? \}", " }", " ".join(fields.split())), re.sub("^ */// ?", "", docs, flags=re.M)
+
+
+def derived(item, text):
+    """Returns the traits that a type derives."""
+    return re.findall(r"\w+", re.findall(r"#\[derive\((.*)\)\]", "\n".join(text.split("\n")[: item.line - 1]))[-1])
+
+
+def implemented(item, text):
+    """Returns the trait of an `impl`, with its associated type."""
+    trait, kinds = item.name.partition(" for ")[0].removeprefix("fmt::"), re.findall(r"^    type (.*);$", body(item, text), re.M)
+    return f"{trait}<{kinds[0]}>" if kinds else trait

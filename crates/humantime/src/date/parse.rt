@@ -72,7 +72,9 @@ struct DateTime {
 ///
 /// # Errors
 ///
-/// Makes these checks in order, and returns the error of the first one that fails. Bytes are counted from 0.
+/// Returns the error of the first check that fails.
+///
+/// These are the checks in their order. Bytes are counted from 0.
 ///
 /// - [`InvalidFormat`](TimestampError::InvalidFormat) if the text has fewer than 19 bytes;
 /// - `InvalidFormat` if the punctuation of the date and the time is not in its place;
