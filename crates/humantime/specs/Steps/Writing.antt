@@ -25,10 +25,11 @@ abbrev pub joined_after : List ℕ → List (List ℕ) → List ℕ
 joined_after [] ps = join_with_byte (byte " ") ps
 joined_after (b ∷ bs) ps = join_with_byte (byte " ") ((b ∷ bs) ∷ ps)
 
--- The suffix that stays the same in the plural, and the one that takes an `s`.
+-- A suffix that stays the same in the plural.
 abbrev pub fixed : List ℕ → Suffix
 fixed unit = (unit, false)
 
+-- A suffix that takes an `s` in the plural.
 abbrev pub plural : List ℕ → Suffix
 plural unit = (unit, true)
 
