@@ -215,8 +215,8 @@ pub fn day_number(date: Date, turns: &mut Turns) -> Option<u32>
     Some(days + date.day - 1)
 }
 
-/// Returns the year of a day number, counted from 1600, and the zero-based index of the day in that year. Years begin on 1 March here, and
-/// 1600-03-01 is 135,080 days before 1970-01-01.
+/// Returns the year that has this day, minus 1600 (below 8400), and the zero-based index of the day in that year (below 366). `day` is
+/// counted from 1970-01-01. Years begin on 1 March here, and 1600-03-01 is 135,080 days before 1970-01-01.
 ///
 /// The last century of a cycle and the last of four years have an extra day, which would make the quotient 4, so it is capped at 3.
 #[inline(always)]

@@ -30,7 +30,7 @@ static FRONT_RANGE: [u8; 16] = [9, 9, 9, 9, 0, 9, 9, 0, 9, 9, 255, 9, 9, 0, 9, 9
 /// The minimum of each of the 16 bytes from byte 3 on.
 static BACK_MIN: [u8; 16] = *b"0-00-00 00:00:00";
 
-/// How far each of them may be above its minimum. Those up to byte 15 may be any byte, since `FRONT_RANGE` bounds them.
+/// How far each of them may be above its minimum. Those up to byte 15 may be any byte here, since `FRONT_RANGE` is for them.
 static BACK_RANGE: [u8; 16] = [
     255, 255, 255, 255, 255, 255, 255, 255, 255, 255, 255, 255, 255, 0, 9, 9,
 ];
@@ -160,7 +160,7 @@ fn zone_length(bytes: &[u8]) -> usize
     }
 }
 
-/// Returns the bytes before the zone at the end.
+/// Returns the bytes before the zone at the end, or all of them if there is no zone.
 #[inline(always)]
 #[tactic(auto, using(crate::proofs::Timestamps::Reading::Ends::zone_fits))]
 fn before_zone(bytes: &[u8]) -> &[u8]
@@ -293,7 +293,8 @@ fn read_fraction(rest: &[u8]) -> Result<u32, TimestampError>
 /// Returns the nanoseconds that the digits after a point represent, or an error if a byte is not a digit. Digits past the ninth
 /// are ignored.
 ///
-/// It is one loop over the nine places, which LLVM unrolls: a fraction then takes 0.1 to 0.15 of the crate's time less.
+/// It is one loop over the nine places, which LLVM unrolls. For a text with a fraction that saves 0.1 to 0.15 of the time that the Rust
+/// crate `humantime` takes.
 #[inline(always)]
 fn fraction_nanos(digits: &[u8]) -> Result<u32, TimestampError>
     ensures { result ≡ digits_answer digits.now }
@@ -325,7 +326,7 @@ fn are_digits(bytes: &[u8]) -> bool
 
 /// Returns `true` if these six bytes are `+00:00`.
 ///
-/// They are compared as two numbers, which makes a text that ends in them faster by 0.1 of the crate's time.
+/// They are compared as two numbers. For a text that ends in them that saves 0.1 of the time that the Rust crate `humantime` takes.
 #[inline(always)]
 fn is_zero_offset(bytes: &[u8]) -> bool
     requires { length bytes.now ≡ 6 }

@@ -22,13 +22,13 @@ static PAIRS: [u8; 200] = *b"\
 /// The offset after the seconds of a printed timestamp.
 const SECONDS_END: usize = 19;
 
-/// The offset after a point and three digits of a second.
+/// The offset after the point and three digits.
 const MILLIS_END: usize = 23;
 
-/// The offset after a point and six digits.
+/// The offset after the point and six digits.
 const MICROS_END: usize = 26;
 
-/// The offset after a point and nine digits.
+/// The offset after the point and nine digits.
 const NANOS_END: usize = 29;
 
 /// The number of digits in the fraction of a second: none, three, six or nine.
@@ -40,7 +40,7 @@ enum Precision {
     Nanos,
 }
 
-/// A moment that is formatted as a timestamp by [`text`](Self::text) and by `Display`, with 0, 3, 6 or 9 digits of a second.
+/// A moment that is formatted as a timestamp by [`text`](Self::text) and by `Display`, with 0, 3, 6 or 9 digits after the point.
 ///
 /// The `format_rfc3339` functions return it. `Display` writes the text that `text` returns in a single write, and ignores width and
 /// fill. For a moment outside 1970 to 9999 `Display` returns `fmt::Error` and writes nothing.
@@ -68,6 +68,8 @@ impl Model for Rfc3339Timestamp {
     ghost use Rattle.humantime.specs.declared.date.print.Precision.TheVariants.{Seconds, Millis, Micros, Nanos};
     ghost use Rattle.std.proofs.Common.{arith, lit≤, ◌≤◌};
 
+    // Contracts see the moment and its number of places: 0, 3, 6 or 9. `few` proves, variant by variant, that there are at most nine places.
+    // `inverse` gives the value that has a view, and `inverse_ok` proves that it does.
     ghost Value = { MomentToPrint };
 
     ghost view = { λ x. record {
@@ -133,7 +135,7 @@ pub fn format_rfc3339_seconds(moment: SystemTime) -> Rfc3339Timestamp
     }
 }
 
-/// Formats `moment` as a timestamp with three digits of a second. Further digits are truncated, not rounded.
+/// Formats `moment` as a timestamp with three digits after the point. Further digits are truncated, not rounded.
 ///
 /// This function never fails. For a moment outside 1970 to 9999, [`text`](Rfc3339Timestamp::text) returns `None` and `Display` returns
 /// [`fmt::Error`].
@@ -157,7 +159,7 @@ pub fn format_rfc3339_millis(moment: SystemTime) -> Rfc3339Timestamp
     }
 }
 
-/// Formats `moment` as a timestamp with six digits of a second. Further digits are truncated, not rounded.
+/// Formats `moment` as a timestamp with six digits after the point. Further digits are truncated, not rounded.
 ///
 /// This function never fails. For a moment outside 1970 to 9999, [`text`](Rfc3339Timestamp::text) returns `None` and `Display` returns
 /// [`fmt::Error`].
@@ -181,7 +183,7 @@ pub fn format_rfc3339_micros(moment: SystemTime) -> Rfc3339Timestamp
     }
 }
 
-/// Formats `moment` as a timestamp with nine digits of a second.
+/// Formats `moment` as a timestamp with nine digits after the point.
 ///
 /// This function never fails. For a moment outside 1970 to 9999, [`text`](Rfc3339Timestamp::text) returns `None` and `Display` returns
 /// [`fmt::Error`].
@@ -275,7 +277,7 @@ impl Rfc3339Timestamp {
             return SECONDS_END + 1;
         }
         write_two_digits(buf, SECONDS_END + 1, nanos / 10_000_000);
-        // The third digit is written together with the fourth, which the `Z` replaces.
+        // Digits three and four are written as a pair. With three digits only, the `Z` then replaces the fourth.
         write_two_digits(buf, MILLIS_END - 1, nanos / 100_000 % 100);
         if self.precision == Precision::Millis {
             buf[MILLIS_END] = b'Z';
@@ -334,7 +336,8 @@ fn date_and_time(moment: SystemTime) -> Option<(Date, u32)>
     Some((date, (secs % 86_400) as u32))
 }
 
-/// Fills the buffer with the date, `T`, the time and `.nnnnnnnnnz`, whose letters are placeholders that the caller overwrites.
+/// Fills the buffer with the date, `T`, the time of day (`time` seconds after midnight) and `.nnnnnnnnnz`. The caller overwrites the point
+/// and the letters after it, as far as its text reaches.
 ///
 /// The contract names 0 nanoseconds and 0 digits of them, on which the text before the point does not depend.
 #[inline(always)]

@@ -33,7 +33,7 @@ static POWERS_OF_TEN: [u64; 20] = [
     10_000_000_000_000_000_000,
 ];
 
-/// The digits after a point, as numbers.
+/// The digits after a point: what they are as a number, and how many they are.
 #[derive(Clone, Copy, Debug)]
 pub(crate) struct Fraction {
     /// The digits without trailing zeros, as a number.
@@ -50,7 +50,7 @@ pub(crate) struct Amount {
     pub value: u64,
     pub fraction: Option<Fraction>,
     pub scale: &'static Scale,
-    ghost digits: { ForSome fraction (λ f. f.places ≤ 19) },
+    ghost few: { ForSome fraction (λ f. f.places ≤ 19) },
 }
 
 /// Returns ten times the value plus the digit, or `None` on overflow.

@@ -42,9 +42,8 @@ pub enum DurationError<'a> {
     },
     /// A number, its product with the size of its unit, or the sum overflows; or a fraction cannot be represented.
     ///
-    /// A fraction can be represented if it has at most 19 digits before its trailing zeros; if these digits as a number, times the size of
-    /// the unit, fit in a `u64`; and if the fraction of the unit is a whole number of nanoseconds (units up to minutes) or of seconds
-    /// (hours and longer units).
+    /// A fraction can be represented if it has at most 19 digits before its trailing zeros, and if it is a whole number of nanoseconds (units
+    /// up to minutes) or of seconds (hours and longer units). The digits as a number, times the unit's size in these, must also fit in a `u64`.
     NumberOverflow,
     /// The text is empty or consists of whitespace only.
     Empty,

@@ -108,7 +108,9 @@ impl FormattedDuration {
 
 /// Writes the text of a duration to the front of the buffer, and returns its length in bytes.
 ///
-/// It is one function that is not inlined, so that the writer stays in registers: 0.8 of the instructions.
+/// The clause `within` says that a duration is below 2^64 seconds, for the proof of [`FormattedDuration::text`], which holds a reference.
+///
+/// It is one function that is not inlined, so that the writer stays in registers: printing takes 0.8 of the instructions.
 #[inline(never)]
 #[tactic(auto, using(crate::proofs::Durations::Printing::CountTexts::counts_written))]
 fn write_duration(duration: StdDuration, buf: &mut [u8; 64]) -> usize

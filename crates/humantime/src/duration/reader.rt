@@ -18,7 +18,8 @@ use crate::duration::scan::{
 use crate::duration::span::Span;
 use crate::unit::words::scale_of;
 
-/// Returns the cursor after the number and its fraction, or after the number if it has no fraction.
+/// Returns the cursor after the number and its fraction, or after the number if it has no fraction. `fraction` is what was read after
+/// `number`: `None` means that no point follows.
 #[inline(always)]
 fn fraction_end<'a>(number: Number<'a>, fraction: Option<FractionPart<'a>>) -> Cursor<'a>
     requires { IsFractionOf number fraction }

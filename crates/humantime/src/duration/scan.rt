@@ -42,7 +42,9 @@ fn leading_whitespace_len(text: &str) -> usize
     }
 }
 
-/// Returns the offset after the whitespace character at offset `at`, or `None` if there is none.
+/// Returns the offset after the whitespace character at offset `at`, or `None` if another character begins there.
+///
+/// A character has to begin at `at`, so `at` is below the length.
 #[inline(always)]
 pub(crate) fn skip_whitespace_char(text: &str, at: usize) -> Option<usize>
     requires { IsPlaceIn text.now at }
@@ -55,7 +57,7 @@ pub(crate) fn skip_whitespace_char(text: &str, at: usize) -> Option<usize>
         b' ' | b'\t'..=b'\r' => Some(at + 1),
         // The other control characters.
         0..b' ' => None,
-        // A mu is recognized by its bytes, so that the `µ` of `µs` is not decoded by the cold function below.
+        // A mu is recognized by its bytes, so that the `µ` of `µs` is not decoded by the cold `leading_whitespace_len`.
         first if at + 1 < bytes.len() && is_mu(first, bytes[at + 1]) => None,
         _ => match leading_whitespace_len(&text[at..]) {
             0 => None,
@@ -124,6 +126,8 @@ pub(crate) struct Number<'a> {
 }
 
 /// Reads the number at the cursor, or returns `None` if it does not fit in a `u64`.
+///
+/// What the value, the slice and the end are follows from `start`, by the ghost fields of [`Number`].
 #[inline(always)]
 #[tactic(auto, using(crate::proofs::Durations::Bytes::Numbers::first_digit))]
 pub(crate) fn read_number<'a>(start: Cursor<'a>) -> Option<Number<'a>>
@@ -135,8 +139,8 @@ pub(crate) fn read_number<'a>(start: Cursor<'a>) -> Option<Number<'a>>
     let mut value = (bytes[0] - b'0') as u64;
     let mut at = 1;
     while at < bytes.len() {
-        // Greater than 9 unless the byte is a digit. As a `u64` that is tested before whitespace, it makes long numbers take 0.9 of the time.
-        let digit = (bytes[at] as u64).wrapping_sub(48);
+        // Wraps around to a number above 9 unless the byte is a digit. As a `u64`, tested before whitespace: long numbers take 0.9 of the time.
+        let digit = (bytes[at] as u64).wrapping_sub(b'0' as u64);
         if digit <= 9 {
             at += 1;
             // Below the limit no digit overflows, so that only the last digits of the longest numbers are tested for it.
@@ -173,6 +177,8 @@ pub(crate) struct FractionPart<'a> {
 }
 
 /// Reads the digits of a fraction at the cursor, which may be none. Returns `None` if there are more than 19 before the trailing zeros.
+///
+/// What the value, the slice and the end are follows from `start`, by the ghost fields of [`FractionPart`].
 #[inline(always)]
 pub(crate) fn read_fraction<'a>(start: Cursor<'a>) -> Option<FractionPart<'a>>
     ensures { MatchOption result (19 < length (without_trailing_zeros (number_of (ahead start.entry)))) (λ f. f.start ≡ start.entry) }
@@ -235,10 +241,10 @@ fn read_letters(text: &str) -> (usize, u64)
     let mut key = EMPTY_KEY;
     let mut at = 0;
     while at < bytes.len() {
+        // In the second condition `>= 0x80` comes first, so that this one test ends a word before an ASCII character.
         if bytes[at].is_ascii_alphabetic() {
             key = push_byte(key, bytes[at]);
             at += 1;
-            // The first test alone ends a word before an ASCII character.
         } else if bytes[at] >= 0x80 && at + 1 < bytes.len() && is_mu(bytes[at], bytes[at + 1]) {
             key = push_byte(push_byte(key, bytes[at]), bytes[at + 1]);
             at += 2;

@@ -32,7 +32,7 @@ fn add_times(sum: StdDuration, one: Addition, count: u64) -> Option<StdDuration>
     }
 }
 
-/// Returns the fraction times the factor, or `None` if that is not a whole number, or on overflow.
+/// Returns the fraction times the factor, or `None` if that is not a whole number, or if the significand times the factor overflows.
 #[tactic(auto, using(crate::proofs::Durations::Bytes::Additions::power_positive))]
 fn part_of(fraction: Fraction, factor: u64) -> Option<u64>
     requires { fraction.places ≤ 19 }
@@ -60,7 +60,8 @@ fn add_part(sum: StdDuration, one: Option<Addition>, fraction: Fraction) -> Opti
     }
 }
 
-/// Returns the total plus what a span adds, first its number, then its fraction, or `None` if that breaks a limit.
+/// Returns the total plus what a span adds, first its number, then its fraction. Returns `None` on overflow, or if the fraction of
+/// the unit is not a whole number.
 #[inline(always)]
 pub(crate) fn add_amount(total: StdDuration, amount: Amount) -> Option<StdDuration>
     ensures { (s : SpelledSpan) → IsAmountOf amount s → result ≡ add_span total s }

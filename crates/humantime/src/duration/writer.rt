@@ -49,7 +49,7 @@ impl<'b> Writer<'b> {
     {
         let mut buf = Buffer::new();
         let digits = buf.format(number);
-        // One or two digits are copied by a move, and more by a call: two thirds of the time for `2h 37m`.
+        // One or two digits are copied by a move, and more by a call. So `2h 37m` takes two thirds of the time.
         match digits.len() {
             1 => self.push(&digits[..1]),
             2 => self.push(&digits[..2]),
@@ -103,6 +103,7 @@ impl<'b> Writer<'b> {
         ensures text { take result self.exit.0.now ≡ written self.entry }
         ensures utf8 { IsUtf8 (take result self.exit.0.now) }
     {
+        // Taken apart, so that the contract can name the buffer as it is at the end: `self.exit.0` is `bytes`.
         let Writer { bytes: _, end } = self;
         end
     }
