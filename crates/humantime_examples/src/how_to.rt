@@ -3,8 +3,10 @@
 pub mod clock;
 pub mod deadline;
 pub mod log;
+pub mod offset;
 pub mod own_unit;
 pub mod setting;
 pub mod sleep;
 pub mod std_values;
 pub mod stored;
+pub mod text_values;

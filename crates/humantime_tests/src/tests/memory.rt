@@ -1,5 +1,7 @@
 //! Tests of the uses that allocate.
 
+mod text_values;
+
 use crate::tests::{assert_same, moment};
 use humantime::DurationError::Empty;
 use humantime::TimestampError::OutOfRange;
