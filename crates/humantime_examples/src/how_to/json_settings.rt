@@ -14,7 +14,7 @@ pub fn from_json<'a, T: Deserialize<'a>>(alloc: Global, text: &'a str) -> Result
         return Err(ReadError::OutOfMemory);
     }
     let (message, at) = fault(alloc, text, &error)?;
-    Err(marked_at(text, at, message))
+    Err(ReadError::At(marked_at(text, at, message)))
 }
 
 /// Returns the message of an error, and the offset of its fault.

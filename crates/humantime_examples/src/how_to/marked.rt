@@ -1,6 +1,8 @@
 //! A fault at a place in a text, shown with its line and a mark.
 
-ghost use Rattle.std.specs.Prelude.{◌≡◌, Ok, Err, IfOk, IsOk, MatchOption, chars, string_bytes, unwrap_or};
+ghost use Rattle.std.specs.Prelude.{◌≡◌, ◌==◌, Ok, Err, IfOk, IsOk, MatchOption, chars, codes, drop, string_bytes, take, unwrap_or};
+ghost use Rattle.std.specs.List.{after_last, before_first};
+ghost use Rattle.std.specs.Str.{IsCharBoundary, byte};
 ghost use Rattle.humantime.specs.Prelude.{Fault, duration_answer, fault_message, place_of, timestamp_message, weak_answer};
 ghost use Rattle.humantime.specs.declared.TimestampError.{TimestampError};
 
@@ -57,14 +59,18 @@ impl fmt::Display for ReadError<'_> {
             ReadError::Whole(message) => return f.write_str(message.as_str()),
             ReadError::At(fault) => fault,
         };
-        let (line, before, after) = (fault.line, fault.before, fault.after);
-        writeln!(
+        let (line, before) = (fault.line, fault.before);
+        let after = fault.after.trim_end_matches('\r');
+        write!(
             f,
             "line {line}, column {}: {}",
             fault.column(),
             fault.message
         )?;
-        writeln!(f, "{before}{after}")?;
+        if before.len().saturating_add(after.len()) > LONG {
+            return Ok(());
+        }
+        write!(f, "\n{before}{after}\n")?;
         for c in before.chars() {
             f.write_str(if c == '\t' { "\t" } else { " " })?;
         }
@@ -72,15 +78,39 @@ impl fmt::Display for ReadError<'_> {
     }
 }
 
-/// Returns the fault at an offset of a text.
-pub fn marked_at(text: &str, at: usize, message: String) -> ReadError<'_> {
+/// Returns the fault at an offset of a text, with the line that has it.
+pub fn marked_at(text: &str, at: usize, message: String) -> Marked<'_>
+    ensures message { result.message ≡ message }
+    ensures before { IsCharBoundary text.now at → result.before.now ≡ after_last (λ b. b == byte "\n") (take at text.now) }
+    ensures after { IsCharBoundary text.now at → result.after.now ≡ before_first (λ b. b == byte "\n") (drop at text.now) }
+{
     let (before, after) = text.split_at_checked(at).unwrap_or((text, ""));
-    ReadError::At(Marked {
+    Marked {
         line: before.matches('\n').count().saturating_add(1),
-        before: before.rsplit('\n').next().unwrap_or(before),
-        after: after.lines().next().unwrap_or(after),
+        before: last_line(before),
+        after: first_line(after),
         message,
-    })
+    }
+}
+
+/// Returns what stands before the first line feed of a text, or all of it.
+fn first_line(text: &str) -> &str
+    ensures { result.now ≡ before_first (λ b. b == byte "\n") text.now }
+{
+    match text.split_once('\n') {
+        Some((line, _)) => line,
+        None => text,
+    }
+}
+
+/// Returns what follows the last line feed of a text, or all of it.
+fn last_line(text: &str) -> &str
+    ensures { result.now ≡ after_last (λ b. b == byte "\n") text.now }
+{
+    match text.rsplit_once('\n') {
+        Some((_, line)) => line,
+        None => text,
+    }
 }
 
 /// Returns the message of `humantime` for a value whose format said `said`, and the offset of the fault in `source`, the value as it is written
@@ -90,7 +120,10 @@ pub fn fault_in(
     said: &str,
     source: &str,
     value: &str,
-) -> Result<Option<(String, usize)>, AllocError> {
+) -> Result<Option<(String, usize)>, AllocError>
+    ensures duration { said.now ≡ codes "not a duration" → IfOk result (λ o. MatchOption o (IsOk (duration_answer (chars value.now))) (λ fault. (e : Fault) × (duration_answer (chars value.now) ≡ Err e) × (string_bytes fault.0 ≡ fault_message e))) }
+    ensures timestamp { said.now ≡ codes "not a timestamp" → IfOk result (λ o. MatchOption o (IsOk (weak_answer value.now)) (λ fault. (e : TimestampError) × (weak_answer value.now ≡ Err e) × (string_bytes fault.0 ≡ timestamp_message e))) }
+{
     let fault = match said {
         NOT_A_DURATION => duration_fault(alloc, value)?,
         NOT_A_TIMESTAMP => timestamp_fault(alloc, value)?,

@@ -33,18 +33,19 @@ fn located<'a>(
     let Some((_, keys)) = whole.rsplit_once("\nin `") else {
         let said = String::from_str(alloc, said)?;
         return Ok(if whole.starts_with("TOML") {
-            marked_at(text, span.start, said)
+            ReadError::At(marked_at(text, span.start, said))
         } else {
             ReadError::Whole(said)
         });
     };
     let keys = keys.trim_end().trim_end_matches('`');
     match search(alloc, text, said, keys) {
-        Ok(Some((message, at))) => Ok(marked_at(text, at, message)),
+        Ok(Some((message, at))) => Ok(ReadError::At(marked_at(text, at, message))),
         Err(ParseError::OutOfMemory) => Err(AllocError),
-        Ok(None) | Err(ParseError::At(..)) => Ok(ReadError::Whole(format!(in alloc;
-            "{said} in `{keys}`"
-        )?)),
+        Ok(None) | Err(ParseError::At(..)) => {
+            let message = format!(in alloc; "{said} in `{keys}`")?;
+            Ok(ReadError::Whole(message))
+        }
     }
 }
 

@@ -247,5 +247,19 @@ fn marks_are_shown(rt: HostRuntime) -> Result<(), Fail> {
         error.to_string(alloc)?.as_str(),
         "line 2, column 17: unknown time unit \"moons\", supported units: ns, us/µs, ms, sec, min, hours, days, weeks, months, years (and few variations)\n  \"timeout\": \"10moons\"\n                ^"
     );
+    let error = from_toml::<Jobs>(alloc, "# µ\r\ntimeout = '1x 2'\r\n").err();
+    assert_eq!(rt;
+        error.expect(&rt, "read").to_string(alloc)?.as_str(),
+        "line 2, column 13: unknown time unit \"x\", supported units: ns, us/µs, ms, sec, min, hours, days, weeks, months, years (and few variations)\ntimeout = '1x 2'\n            ^"
+    );
+    // A line of 500 bytes is shown, and a longer one is not.
+    let spaces = " ".repeat(alloc, 486)?;
+    for (text, has_line) in &[("1", true), ("11", false)] {
+        let document = format!(in alloc; "timeout = '{spaces}{text}~'")?;
+        let error = from_toml::<Jobs>(alloc, &document)
+            .err()
+            .expect(&rt, "read");
+        assert_eq!(rt; error.to_string(alloc)?.contains("\n"), *has_line);
+    }
     Ok(())
 }
