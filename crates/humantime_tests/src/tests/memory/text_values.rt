@@ -4,6 +4,7 @@ use crate::tests::moment;
 use humantime::{Duration, StdDuration, SystemTime, Timestamp};
 use humantime_examples::how_to::text_values::{self, AsText};
 use serde::{Deserialize, Serialize};
+use std::alloc::{AllocError, Global};
 use std::collections::BTreeMap;
 use std::process::Abort;
 use std::test::Fail;
@@ -165,8 +166,24 @@ struct Short {
     since: Option<Timestamp>,
 }
 
+/// Returns the message of the error of a JSON text, or that it is read.
+fn json_answer(alloc: Global, text: &str) -> Result<String, AllocError> {
+    match serde_json::from_str::<Short>(alloc, text) {
+        Ok(_) => String::from_str(alloc, "read"),
+        Err(error) => error.to_string(alloc),
+    }
+}
+
+/// Returns the message of the error of a TOML text, or that it is read.
+fn toml_answer(alloc: Global, text: &str) -> Result<String, AllocError> {
+    match toml::from_str::<Short>(alloc, text) {
+        Ok(_) => String::from_str(alloc, "read"),
+        Err(error) => error.to_string(alloc),
+    }
+}
+
 #[test]
-fn what_denotes_no_value_is_refused(rt: HostRuntime) -> Result<(), Fail> {
+fn what_denotes_no_value_is_refused_in_json(rt: HostRuntime) -> Result<(), Fail> {
     let alloc = rt.alloc();
     for (text, message) in &[
         (r#"{"wait":"2 moons"}"#, "not a duration at line 1 column 9"),
@@ -192,35 +209,36 @@ fn what_denotes_no_value_is_refused(rt: HostRuntime) -> Result<(), Fail> {
             "unknown field at line 1 column 14",
         ),
     ] {
-        let error = serde_json::from_str::<Short>(alloc, text)
-            .err()
-            .expect(&rt, text);
-        assert_eq!(rt; error.to_string(alloc)?.as_str(), *message);
+        assert_eq!(rt; json_answer(alloc, text)?.as_str(), *message);
     }
-    for (text, message) in &[
-        ("wait = '2 moons'", "not a duration\nin `wait`\n"),
-        (
-            "wait = '1s'\nsince = '1969-12-31T23:59:59Z'",
-            "not a timestamp\nin `since`\n",
-        ),
-        (
-            "wait = '1s'\nsince = 1970-01-01T00:00:00Z",
-            "invalid type: map, expected a string\nin `since`\n",
-        ),
-        (
-            "wait = 90",
-            "invalid type: integer `90`, expected a string\nin `wait`\n",
-        ),
-        (
-            "wait = ['1s']",
-            "invalid type: sequence, expected a string\nin `wait`\n",
-        ),
-        ("", "missing field `wait`\n"),
-        ("wait = '1s'\nwiat = '1s'", "unknown field `wiat`\n"),
-    ] {
-        let error = toml::from_str::<Short>(alloc, text).err().expect(&rt, text);
-        assert_eq!(rt; error.to_string(alloc)?.as_str(), *message);
-    }
+    Ok(())
+}
+
+#[test]
+fn what_denotes_no_value_is_refused_in_toml(rt: HostRuntime) -> Result<(), Fail> {
+    let alloc = rt.alloc();
+    let said = toml_answer(alloc, "wait = '2 moons'")?;
+    assert_eq!(rt; said.as_str(), "not a duration\nin `wait`\n");
+    let said = toml_answer(alloc, "wait = '1s'\nsince = '1969-12-31T23:59:59Z'")?;
+    assert_eq!(rt; said.as_str(), "not a timestamp\nin `since`\n");
+    let said = toml_answer(alloc, "wait = '1s'\nsince = 1970-01-01T00:00:00Z")?;
+    assert_eq!(rt;
+        said.as_str(),
+        "invalid type: map, expected a string\nin `since`\n"
+    );
+    let said = toml_answer(alloc, "wait = 90")?;
+    assert_eq!(rt;
+        said.as_str(),
+        "invalid type: integer `90`, expected a string\nin `wait`\n"
+    );
+    let said = toml_answer(alloc, "wait = ['1s']")?;
+    assert_eq!(rt;
+        said.as_str(),
+        "invalid type: sequence, expected a string\nin `wait`\n"
+    );
+    assert_eq!(rt; toml_answer(alloc, "")?.as_str(), "missing field `wait`\n");
+    let said = toml_answer(alloc, "wait = '1s'\nwiat = '1s'")?;
+    assert_eq!(rt; said.as_str(), "unknown field `wiat`\n");
     Ok(())
 }
 
