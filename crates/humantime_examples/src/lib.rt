@@ -13,5 +13,6 @@ pub mod log_lines;
 pub mod option;
 pub mod report;
 pub mod retry;
+pub mod round_trip;
 pub mod settings;
 pub mod witnesses;

@@ -86,6 +86,7 @@ ghost use Rattle.std.specs.Str.{IsCharBoundary};
 ghost use Rattle.humantime.specs.Prelude.{PointsInto, duration_answer, fault_of, strict_answer};
 ghost use Rattle.humantime_examples.specs.Settings.{FaultPointsInto, line_answer, moved, place_in_line, since_answer, timeout_answer, line_view};
 
+use crate::how_to::offset::offset;
 use humantime::{
     DurationError, StdDuration, SystemTime, TimestampError, parse_duration, parse_rfc3339,
 };
@@ -208,11 +209,7 @@ fn place_of(line: &str, at: usize, error: DurationError<'_>) -> usize
     ensures place { result ≡ place_in_line at (fault_of error.entry) }
     ensures boundary { IsCharBoundary line.now result }
 {
-    match error {
-        DurationError::InvalidCharacter(place) | DurationError::NumberExpected(place) => at + place,
-        DurationError::UnknownUnit { start, .. } => at + start,
-        DurationError::NumberOverflow | DurationError::Empty => at,
-    }
+    at + offset(&error)
 }
 
 /// Returns the error of a line, split at byte `at`.

@@ -6,6 +6,7 @@ mod calls;
 mod examples;
 mod formats;
 mod how_to;
+mod jiff_values;
 mod law_callers;
 mod memory;
 mod values;

@@ -1,9 +1,10 @@
 //! Reads a line of a settings file, and shows an error under the line.
 
-ghost use Rattle.std.specs.Prelude.{◌≡◌, ◌++◌, ℕ, List, chars, codes, Some, unwrap_or};
+ghost use Rattle.std.specs.Prelude.{◌≡◌, ◌++◌, ℕ, List, chars, codes, Some};
 ghost use Rattle.std.specs.Result.{result_map_both};
-ghost use Rattle.humantime.specs.Prelude.{duration_answer, fault_of, place_of};
+ghost use Rattle.humantime.specs.Prelude.{duration_answer, fault_of};
 
+use super::offset::offset;
 use humantime::{DurationError, StdDuration, parse_duration};
 use std::fmt;
 
@@ -44,16 +45,5 @@ pub fn read_ttl(line: &str) -> Result<Option<StdDuration>, LineError<'_>>
                 error,
             })
         }
-    }
-}
-
-/// Returns the offset of an error in the text that was parsed, and 0 for an error that has none.
-pub fn offset(error: &DurationError<'_>) -> usize
-    ensures { result ≡ unwrap_or (place_of (fault_of error.now)) 0 }
-{
-    match error {
-        DurationError::InvalidCharacter(at) | DurationError::NumberExpected(at) => *at,
-        DurationError::UnknownUnit { start, .. } => *start,
-        DurationError::NumberOverflow | DurationError::Empty => 0,
     }
 }

@@ -1,5 +1,9 @@
 //! Tests of the uses that allocate.
 
+mod command_line;
+mod faults;
+mod text_values;
+
 use crate::tests::{assert_same, moment};
 use humantime::DurationError::Empty;
 use humantime::TimestampError::OutOfRange;
