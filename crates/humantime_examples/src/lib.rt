@@ -13,5 +13,4 @@ pub mod log_lines;
 pub mod option;
 pub mod report;
 pub mod retry;
-pub mod settings;
 pub mod witnesses;
