@@ -2,9 +2,9 @@
 
 use crate::support::{assert_nothing_allocated, assert_same, refuse_memory};
 use humantime::{StdDuration, UNIX_EPOCH};
+use humantime_examples::how_to::settings_file::read_settings;
 use humantime_examples::option::timeout;
 use humantime_examples::report;
-use humantime_examples::settings::read_line;
 use humantime_tests_rows::{Row, TABLE, unescape};
 use std::alloc::{AllocError, Allocator, Global};
 use std::cell::Cell;
@@ -130,7 +130,7 @@ fn what_programs_print_is_printed_into_memory_or_it_is_refused(rt: HostRuntime) 
     let error = timeout(&["--timeout=7"]).err().expect(&rt, "no error");
     let text = "--timeout=7: time unit needed, for example 7sec or 7ms";
     assert_printed(&rt, &error, false, text);
-    let error = read_line("timeout = 5µs x").err().expect(&rt, "no error");
-    let text = "timeout: expected number at 15\ntimeout = 5µs x\n              ^";
+    let error = read_settings("timeout = 5µs x").err().expect(&rt, "no error");
+    let text = "line 1: expected number at 5\ntimeout = 5µs x\n              ^";
     assert_printed(&rt, &error, false, text);
 }

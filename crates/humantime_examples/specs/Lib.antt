@@ -1,12 +1,9 @@
 pub mod FirstItems
 pub mod LogLines
 pub mod Longest
-pub mod Marks
 pub mod OptionErrors
 pub mod Options
 pub mod Report
 pub mod Retry
 pub mod Rows
-pub mod SettingErrors
-pub mod Settings
 pub mod Tiles

@@ -1,5 +1,6 @@
 //! The code of docs/HOWTO.md, a file for each question.
 
+pub mod arithmetic;
 pub mod clock;
 pub mod command_line;
 pub mod deadline;
@@ -9,7 +10,7 @@ pub mod log;
 pub mod marked;
 pub mod offset;
 pub mod own_unit;
-pub mod setting;
+pub mod settings_file;
 pub mod settings_program;
 pub mod sleep;
 pub mod std_values;

@@ -14,5 +14,4 @@ pub mod option;
 pub mod report;
 pub mod retry;
 pub mod round_trip;
-pub mod settings;
 pub mod witnesses;

@@ -1,10 +1,9 @@
 //! Tests of the larger modules.
 
-use humantime::{DurationError, StdDuration, SystemTime, TimestampError};
+use humantime::{DurationError, StdDuration, SystemTime};
 use humantime_examples::log_lines::{answers_alike, bound_text, keeps, keeps_by_bytes};
 use humantime_examples::option::{OptionError, timeout};
 use humantime_examples::retry::wait_text;
-use humantime_examples::settings::{LineFault, Setting, read_line};
 
 #[test]
 fn log_lines_in_a_range(rt: HostRuntime) {
@@ -49,24 +48,4 @@ fn waits_of_retries(rt: HostRuntime) {
     }
     let error = DurationError::NumberExpected(0);
     assert_eq!(rt; wait_text("1h", "x", 1, &mut [0; 64]), Err(error));
-}
-
-#[test]
-fn lines_of_a_settings_file(rt: HostRuntime) {
-    let timeout = Setting::Timeout(StdDuration::from_secs(5400));
-    assert_eq!(rt; read_line("timeout\t=\t1.5h ").ok(), Some(timeout));
-    let moment = SystemTime::from_parts(1_518_568_087, 0).expect(&rt, "a moment");
-    let since = Setting::Since(moment);
-    assert_eq!(rt; read_line("since = 2018-02-14T00:28:07Z").ok(), Some(since));
-
-    let expected = LineFault::Duration(DurationError::NumberExpected(15));
-    let no_digit = LineFault::Timestamp(TimestampError::InvalidDigit);
-    for (line, at, fault) in [
-        ("retries = 5", 0, LineFault::UnknownKey),
-        ("timeout = 5µs x", 15, expected),
-        ("since = 2018-02-14Tmm:28:07Z", 8, no_digit),
-    ] {
-        let error = read_line(line).err().expect(&rt, line);
-        assert_eq!(rt; (error.before.len(), error.fault), (at, fault));
-    }
 }

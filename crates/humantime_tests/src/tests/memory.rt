@@ -12,7 +12,7 @@ use humantime::{
 };
 use humantime_examples::callers::errors::{deadline, message};
 use humantime_examples::callers::timestamps::{age_line, stamp_string};
-use humantime_examples::how_to::setting::read_ttl;
+use humantime_examples::how_to::settings_file::read_settings;
 use humantime_examples::law_callers::durations::{duration_string, is_same_string};
 use humantime_examples::law_callers::formats::{errors_row, limit_line, limits_row, stamps_row};
 use humantime_examples::law_callers::timestamps::write_line;
@@ -133,20 +133,59 @@ fn row_of_a_report(rt: HostRuntime) {
 }
 
 #[test]
-fn lines_of_settings(rt: HostRuntime) {
-    let ttl = StdDuration::from_secs(9000);
-    assert_eq!(rt; read_ttl("ttl=2h 30m").ok(), Some(Some(ttl)));
-    assert_eq!(rt; read_ttl("retries=5").ok(), Some(None));
-    for (line, message) in [
+fn errors_of_a_settings_file(rt: HostRuntime) {
+    for (text, message) in [
         (
-            "ttl=2h 30",
-            "time unit needed, for example 30sec or 30ms\nttl=2h 30\n         ^",
+            "# limits\n\ntimeout = 2h 7mi # soon\n",
+            "line 3: unknown time unit \"mi\", supported units: ns, us/µs, ms, sec, min, hours, days, weeks, months, years (and few variations)\ntimeout = 2h 7mi # soon\n              ^",
         ),
-        ("ttl=5µs x", "expected number at 5\nttl=5µs x\n        ^"),
-        ("ttl=", "value was empty\nttl=\n    ^"),
+        (
+            "# how long to wait\ntimeout = 2h 30   # soon\n",
+            "line 2: time unit needed, for example 30sec or 30ms\ntimeout = 2h 30   # soon\n               ^",
+        ),
+        (
+            "\ttimeout =\t5µs x\r\n",
+            "line 1: expected number at 5\n\ttimeout =\t5µs x\n\t         \t    ^",
+        ),
+        (
+            "since = 2018-02-30T00:28:07Z",
+            "line 1: numeric component is out of range\nsince = 2018-02-30T00:28:07Z\n        ^",
+        ),
+        (
+            "timeout = 1s\n  timeout = 2s",
+            "line 2: this setting is there twice\n  timeout = 2s\n  ^",
+        ),
+        (
+            "retries = 5",
+            "line 1: there is no such setting\nretries = 5\n^",
+        ),
+        (
+            "timeout 1s # no",
+            "line 1: a setting needs a `=` and a value\ntimeout 1s # no\n          ^",
+        ),
     ] {
-        let error = read_ttl(line).err().expect(&rt, line);
-        let text = error.to_string(rt.alloc()).expect(&rt, "memory");
-        assert_eq!(rt; text.as_str(), message);
+        let error = read_settings(text).err().expect(&rt, text);
+        let told = error.to_string(rt.alloc()).expect(&rt, "memory");
+        assert_eq!(rt; told.as_str(), message);
     }
+}
+
+#[test]
+fn a_line_of_a_megabyte(rt: HostRuntime) -> Result<(), AllocError> {
+    let mut text = String::from_str(rt.alloc(), "since = 1970-01-01T00:00:00Z\ntimeout =")?;
+    for _ in 0..1 << 18 {
+        text.push_str(" 1ns")?;
+    }
+    let settings = read_settings(text.as_str()).ok().expect(&rt, "an error");
+    let total = StdDuration::new(0, 1 << 18);
+    assert_eq!(rt; settings.timeout, Some(total));
+    text.push_str(" x")?;
+    let error = read_settings(text.as_str()).err().expect(&rt, "no error");
+    assert_eq!(rt; (error.number, error.at), (2, 10 + (1 << 20)));
+    let told = error.to_string(rt.alloc())?;
+    let (first, line) = ("line 2: expected number at 1048576\n", 11 + (1 << 20));
+    assert!(rt; told.as_str().starts_with(first));
+    assert!(rt; told.as_str().ends_with("  ^"));
+    assert_eq!(rt; told.as_str().len(), first.len() + line + 1 + line);
+    Ok(())
 }
