@@ -1,7 +1,7 @@
 use Rattle.std.proofs.Common.{◌≡◌, ◌<◌, length, chars, option_map, refl, sym, ap, ◌∙◌, arith}
 use Rattle.std.specs.Prelude.{◌==◌}
 use Rattle.humantime.specs.Texts.{take_while, drop_while}
-use Rattle.humantime.specs.Durations.Characters.{is_letter, is_whitespace, byte_length, offset_of}
+use Rattle.humantime.specs.Durations.Characters.{byte_length, is_letter, is_numeric, is_whitespace, offset_of}
 use Rattle.humantime.specs.Durations.Units.{scale_of_word}
 use Rattle.humantime.proofs.Durations.Reading.Runs.{begins_not_nil}
 use Rattle.humantime.proofs.Durations.Slices.SpanSlices.{next_bytes}
@@ -9,7 +9,6 @@ use Rattle.humantime.proofs.Durations.Slices.Places.{cursor_place, range_between
 use Rattle.humantime.proofs.Durations.Bytes.SpanExits.{bare_some, bad_some, exit_no_letter, exit_bare, exit_after, exit_unit, exit_fine, view_read, spelled_read, bare_fraction, fraction_slice_is, fraction_parts}
 use Rattle.humantime.proofs.Durations.Bytes.Tails.{byte_length-chars}
 use Rattle.humantime.specs.Durations.Accepted.{is_some_and}
-use Rattle.humantime.specs.Durations.Characters.{is_numeric}
 use Rattle.humantime.specs.Durations.Faults.{fraction_of, after_point, after_number}
 use Rattle.humantime.specs.Steps.Cursors.{ahead}
 use Rattle.humantime.specs.Steps.Scales.{parts_of, counted}
