@@ -1,9 +1,12 @@
 //! Reads a settings file, and shows an error with its line.
 
-ghost use Rattle.std.specs.Prelude.{◌≡◌, ◌≢◌, ◌↔◌, ℕ, ℤ, None, Some, Ok, Err, IsOk, MatchResult, chars, codes};
+ghost use Rattle.std.specs.Prelude.{◌≡◌, ◌≢◌, ◌↔◌, ◌==◌, [], OnOk, IsSome, IfSome, length, ◌≤◌, ◌⊎◌, ℕ, ℤ, None, Some, Ok, Err, IsOk, chars, codes};
+ghost use Rattle.std.specs.List.{after_first, before_first};
+ghost use Rattle.std.specs.Str.{byte, trim, trim_end, trim_start};
 ghost use Rattle.humantime.specs.declared.DurationError.{DurationError};
+ghost use Rattle.humantime.specs.declared.TimestampError.{TimestampError};
 ghost use Rattle.humantime.specs.Prelude.{duration_answer, fault_of, strict_answer};
-ghost use Rattle.humantime_examples.specs.declared.how_to.settings_file.Fault.TheVariants.{UnknownKey, Duration, Timestamp};
+ghost use Rattle.humantime_examples.specs.declared.how_to.settings_file.Fault.TheVariants.{Twice, UnknownKey, Duration, Timestamp};
 
 use super::offset::offset;
 use humantime::{
@@ -14,7 +17,9 @@ use std::fmt;
 /// The settings of a file, `None` for each that it does not have.
 #[derive(Clone, Copy, Default, PartialEq, Debug)]
 pub struct Settings {
+    /// How long to wait.
     pub timeout: Option<StdDuration>,
+    /// The first moment that counts.
     pub since: Option<SystemTime>,
 }
 
@@ -34,10 +39,15 @@ pub struct FileError<'a> {
 /// What is wrong with a line.
 #[derive(Clone, Copy, PartialEq, Debug)]
 pub enum Fault<'a> {
+    /// There is no `=`.
     NoValue,
+    /// No setting has this key.
     UnknownKey,
+    /// An earlier line has this key.
     Twice,
+    /// The value is not a duration.
     Duration(DurationError<'a>),
+    /// The value is not a timestamp.
     Timestamp(TimestampError),
 }
 
@@ -79,30 +89,59 @@ pub fn read_settings(text: &str) -> Result<Settings, FileError<'_>> {
 }
 
 /// Stores what a line sets, or returns the byte offset of a fault in the line.
-fn read_line<'a>(settings: &mut Settings, line: &'a str) -> Result<(), (usize, Fault<'a>)> {
-    let (code, _comment) = line.split_once('#').unwrap_or((line, ""));
-    let code = code.trim_end();
+fn read_line<'a>(settings: &mut Settings, line: &'a str) -> Result<(), (usize, Fault<'a>)>
+    ensures timeout { let code = trim_end (before_first (λ b. b == byte "#") line.now) in code ≢ [] → trim (before_first (λ b. b == byte "=") code) ≡ codes "timeout" → OnOk result ((v : ℕ) × (duration_answer (chars (trim_start (after_first (λ b. b == byte "=") code))) ≡ Ok v) × (settings.old.timeout ≡ None) × (settings.new ≡ record settings.old { timeout = Some v })) }
+    ensures since { let code = trim_end (before_first (λ b. b == byte "#") line.now) in code ≢ [] → trim (before_first (λ b. b == byte "=") code) ≡ codes "since" → OnOk result ((t : ℤ) × (strict_answer (trim_start (after_first (λ b. b == byte "=") code)) ≡ Ok t) × (settings.old.since ≡ None) × (settings.new ≡ record settings.old { since = Some t })) }
+    ensures no_duration { let code = trim_end (before_first (λ b. b == byte "#") line.now) in (at : ℕ) (e : DurationError) → result ≡ Err (at, Duration e) → duration_answer (chars (trim_start (after_first (λ b. b == byte "=") code))) ≡ Err (fault_of e) }
+    ensures no_timestamp { let code = trim_end (before_first (λ b. b == byte "#") line.now) in (at : ℕ) (e : TimestampError) → result ≡ Err (at, Timestamp e) → strict_answer (trim_start (after_first (λ b. b == byte "=") code)) ≡ Err e }
+    ensures blank { trim_end (before_first (λ b. b == byte "#") line.now) ≡ [] → IsOk result × (settings.new ≡ settings.old) }
+{
+    let code = without_comment(line).trim_end();
     if code.is_empty() {
         return Ok(());
     }
-    let Some((key, value)) = code.split_once('=') else {
+    let Some((key, value)) = key_and_value(code) else {
         return Err((code.len(), Fault::NoValue));
     };
-    let start = code.len() - code.trim_start().len();
-    let value = value.trim_start();
-    let at = code.len() - value.len();
-    set(settings, key.trim(), value).map_err(|fault| match fault {
-        Fault::Duration(error) => (at.saturating_add(offset(&error)), fault),
-        Fault::Timestamp(_) => (at, fault),
-        _ => (start, fault),
-    })
+    match set(settings, key, value) {
+        Ok(()) => Ok(()),
+        Err(Fault::Duration(error)) => Err((
+            (code.len() - value.len()).saturating_add(offset(&error)),
+            Fault::Duration(error),
+        )),
+        Err(Fault::Timestamp(error)) => Err((code.len() - value.len(), Fault::Timestamp(error))),
+        Err(fault) => Err((code.len() - code.trim_start().len(), fault)),
+    }
+}
+
+/// Returns the line without its comment.
+fn without_comment(line: &str) -> &str
+    ensures { result.now ≡ before_first (λ b. b == byte "#") line.now }
+{
+    match line.split_once('#') {
+        Some((code, _comment)) => code,
+        None => line,
+    }
+}
+
+/// Splits a line at its first `=`.
+fn key_and_value(code: &str) -> Option<(&str, &str)>
+    ensures key { IfSome result (λ found. found.0.now ≡ trim (before_first (λ b. b == byte "=") code.now)) }
+    ensures value { IfSome result (λ found. found.1.now ≡ trim_start (after_first (λ b. b == byte "=") code.now)) }
+    ensures within { IfSome result (λ found. length found.1.now ≤ length code.now) }
+{
+    let (key, value) = code.split_once('=')?;
+    Some((key.trim(), value.trim_start()))
 }
 
 /// Stores the value of a key.
 fn set<'a>(settings: &mut Settings, key: &str, value: &'a str) -> Result<(), Fault<'a>>
-    ensures timeout { key.now ≡ codes "timeout" → MatchResult (duration_answer (chars value.now)) (λ v. (settings.new ≡ record settings.old { timeout = Some v }) × (IsOk result ↔ (settings.old.timeout ≡ None))) (λ fault. (e : DurationError) × (result ≡ Err (Duration e)) × (fault_of e ≡ fault)) }
-    ensures since { key.now ≡ codes "since" → MatchResult (strict_answer value.now) (λ t. (settings.new ≡ record settings.old { since = Some t }) × (IsOk result ↔ (settings.old.since ≡ None))) (λ e. result ≡ Err (Timestamp e)) }
-    ensures others { key.now ≢ codes "timeout" → key.now ≢ codes "since" → result ≡ Err UnknownKey }
+    ensures timeout { key.now ≡ codes "timeout" → OnOk result ((v : ℕ) × (duration_answer (chars value.now) ≡ Ok v) × (settings.old.timeout ≡ None) × (settings.new ≡ record settings.old { timeout = Some v })) }
+    ensures since { key.now ≡ codes "since" → OnOk result ((t : ℤ) × (strict_answer value.now ≡ Ok t) × (settings.old.since ≡ None) × (settings.new ≡ record settings.old { since = Some t })) }
+    ensures no_duration { (e : DurationError) → result ≡ Err (Duration e) → (key.now ≡ codes "timeout") × (duration_answer (chars value.now) ≡ Err (fault_of e)) }
+    ensures no_timestamp { (e : TimestampError) → result ≡ Err (Timestamp e) → (key.now ≡ codes "since") × (strict_answer value.now ≡ Err e) }
+    ensures twice { result ≡ Err Twice → ((key.now ≡ codes "timeout") × IsSome settings.old.timeout) ⊎ ((key.now ≡ codes "since") × IsSome settings.old.since) }
+    ensures unknown_key { result ≡ Err UnknownKey ↔ ((key.now ≢ codes "timeout") × (key.now ≢ codes "since")) }
 {
     let is_new = match key {
         "timeout" => match parse_duration(value) {
