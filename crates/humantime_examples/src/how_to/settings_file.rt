@@ -1,12 +1,12 @@
 //! Reads a settings file, and shows an error with its line.
 
-ghost use Rattle.std.specs.Prelude.{◌≡◌, ◌≢◌, ◌↔◌, ◌==◌, [], OnOk, IsSome, IfSome, length, ◌≤◌, ◌⊎◌, ℕ, ℤ, None, Some, Ok, Err, IsOk, chars, codes};
-ghost use Rattle.std.specs.List.{after_first, before_first};
+ghost use Rattle.std.specs.Prelude.{◌≡◌, ◌≢◌, ◌↔◌, ◌==◌, [], OnOk, IsSome, IsNone, IfSome, length, ◌≤◌, ◌⊎◌, ℕ, ℤ, None, Some, Ok, Err, IsOk, chars, codes};
+ghost use Rattle.std.specs.List.{after_first, before_first, position_or_len};
 ghost use Rattle.std.specs.Str.{byte, trim, trim_end, trim_start};
 ghost use Rattle.humantime.specs.declared.DurationError.{DurationError};
 ghost use Rattle.humantime.specs.declared.TimestampError.{TimestampError};
 ghost use Rattle.humantime.specs.Prelude.{duration_answer, fault_of, strict_answer};
-ghost use Rattle.humantime_examples.specs.declared.how_to.settings_file.Fault.TheVariants.{Twice, UnknownKey, Duration, Timestamp};
+ghost use Rattle.humantime_examples.specs.declared.how_to.settings_file.Fault.TheVariants.{NoValue, Twice, UnknownKey, Duration, Timestamp};
 
 use super::offset::offset;
 use humantime::{
@@ -94,6 +94,9 @@ fn read_line<'a>(settings: &mut Settings, line: &'a str) -> Result<(), (usize, F
     ensures since { let code = trim_end (before_first (λ b. b == byte "#") line.now) in code ≢ [] → trim (before_first (λ b. b == byte "=") code) ≡ codes "since" → OnOk result ((t : ℤ) × (strict_answer (trim_start (after_first (λ b. b == byte "=") code)) ≡ Ok t) × (settings.old.since ≡ None) × (settings.new ≡ record settings.old { since = Some t })) }
     ensures no_duration { let code = trim_end (before_first (λ b. b == byte "#") line.now) in (at : ℕ) (e : DurationError) → result ≡ Err (at, Duration e) → duration_answer (chars (trim_start (after_first (λ b. b == byte "=") code))) ≡ Err (fault_of e) }
     ensures no_timestamp { let code = trim_end (before_first (λ b. b == byte "#") line.now) in (at : ℕ) (e : TimestampError) → result ≡ Err (at, Timestamp e) → strict_answer (trim_start (after_first (λ b. b == byte "=") code)) ≡ Err e }
+    ensures no_value { let code = trim_end (before_first (λ b. b == byte "#") line.now) in (at : ℕ) → result ≡ Err (at, NoValue) → position_or_len (λ b. b == byte "=") code ≡ length code }
+    ensures twice { let code = trim_end (before_first (λ b. b == byte "#") line.now) in (at : ℕ) → result ≡ Err (at, Twice) → IsSome settings.old.timeout ⊎ IsSome settings.old.since }
+    ensures unknown_key { let code = trim_end (before_first (λ b. b == byte "#") line.now) in (at : ℕ) → result ≡ Err (at, UnknownKey) → (trim (before_first (λ b. b == byte "=") code) ≢ codes "timeout") × (trim (before_first (λ b. b == byte "=") code) ≢ codes "since") }
     ensures blank { trim_end (before_first (λ b. b == byte "#") line.now) ≡ [] → IsOk result × (settings.new ≡ settings.old) }
 {
     let code = without_comment(line).trim_end();
@@ -128,6 +131,7 @@ fn without_comment(line: &str) -> &str
 fn key_and_value(code: &str) -> Option<(&str, &str)>
     ensures key { IfSome result (λ found. found.0.now ≡ trim (before_first (λ b. b == byte "=") code.now)) }
     ensures value { IfSome result (λ found. found.1.now ≡ trim_start (after_first (λ b. b == byte "=") code.now)) }
+    ensures none { IsNone result → position_or_len (λ b. b == byte "=") code.now ≡ length code.now }
     ensures within { IfSome result (λ found. length found.1.now ≤ length code.now) }
 {
     let (key, value) = code.split_once('=')?;
@@ -140,6 +144,7 @@ fn set<'a>(settings: &mut Settings, key: &str, value: &'a str) -> Result<(), Fau
     ensures since { key.now ≡ codes "since" → OnOk result ((t : ℤ) × (strict_answer value.now ≡ Ok t) × (settings.old.since ≡ None) × (settings.new ≡ record settings.old { since = Some t })) }
     ensures no_duration { (e : DurationError) → result ≡ Err (Duration e) → (key.now ≡ codes "timeout") × (duration_answer (chars value.now) ≡ Err (fault_of e)) }
     ensures no_timestamp { (e : TimestampError) → result ≡ Err (Timestamp e) → (key.now ≡ codes "since") × (strict_answer value.now ≡ Err e) }
+    ensures value { result ≢ Err NoValue }
     ensures twice { result ≡ Err Twice → ((key.now ≡ codes "timeout") × IsSome settings.old.timeout) ⊎ ((key.now ≡ codes "since") × IsSome settings.old.since) }
     ensures unknown_key { result ≡ Err UnknownKey ↔ ((key.now ≢ codes "timeout") × (key.now ≢ codes "since")) }
 {
