@@ -1,7 +1,6 @@
 //! The code of docs/HOWTO.md is called, with a clock that stands still.
 
-use humantime::DurationError::{Empty, InvalidCharacter, NumberExpected, UnknownUnit};
-use humantime::TimestampError::{InvalidFormat, OutOfRange};
+use humantime::DurationError::{NumberExpected, UnknownUnit};
 use humantime::{StdDuration, SystemTime};
 use humantime_examples::how_to::arithmetic::{
     BudgetError, budget_left, checked_sub, saturating_sub,
@@ -10,7 +9,6 @@ use humantime_examples::how_to::clock::{now, now_text};
 use humantime_examples::how_to::deadline::{deadline, time_left};
 use humantime_examples::how_to::log::{is_since, sort_lines, sorted_since};
 use humantime_examples::how_to::own_unit::working_time;
-use humantime_examples::how_to::settings_file::{Fault, Settings, read_settings};
 use humantime_examples::how_to::sleep::sleep_for;
 use humantime_examples::how_to::std_values::{
     from_std, from_std_duration, parse_to_std, to_std, to_std_time,
@@ -120,95 +118,6 @@ fn working_days(rt: HostRuntime) {
     assert_eq!(rt; working_time("1h"), Some(StdDuration::from_secs(3600)));
     assert_eq!(rt; working_time("wd"), None);
     assert_eq!(rt; working_time("18446744073709551615wd"), None);
-}
-
-#[test]
-fn settings_of_a_file(rt: HostRuntime) {
-    let timeout = Some(StdDuration::from_secs(9000));
-    let since = SystemTime::from_parts(1_518_568_087, 0);
-    for text in [
-        "",
-        "\n",
-        "# timeout = 1s",
-        " \t\r\n  # one = two # three\r\n\n",
-    ] {
-        assert_eq!(rt; read_settings(text), Ok(Settings::default()), "{text}");
-    }
-    for text in [
-        "timeout = 2h 30m\nsince = 2018-02-14T00:28:07Z",
-        "# limits\r\n\r\n\tsince\t=\t2018-02-14T00:28:07Z\t\r\ntimeout=2h 30m\r\n",
-        "since = 2018-02-14T00:28:07Z# = \n  timeout =2h30m    # timeout = 1s\n",
-    ] {
-        assert_eq!(rt;
-            read_settings(text),
-            Ok(Settings { timeout, since }),
-            "{text}"
-        );
-    }
-    let alone = Settings {
-        timeout,
-        ..Settings::default()
-    };
-    assert_eq!(rt; read_settings("timeout = 2h 30m"), Ok(alone));
-}
-
-#[test]
-fn faults_of_a_settings_file(rt: HostRuntime) {
-    let unknown = UnknownUnit {
-        start: 4,
-        end: 6,
-        unit: "mi",
-        value: 7,
-    };
-    for (text, number, at, fault) in [
-        ("timeout = 1s\n\ntimeout = 1s", 3, 0, Fault::Twice),
-        (
-            "since = 1970-01-01T00:00:00Z\n since=1970-01-01T00:00:00Z",
-            2,
-            1,
-            Fault::Twice,
-        ),
-        (
-            "timeout = 1s\nretries = 5\ntimeout = x",
-            2,
-            0,
-            Fault::UnknownKey,
-        ),
-        ("Timeout = 1s", 1, 0, Fault::UnknownKey),
-        ("= 1s", 1, 0, Fault::UnknownKey),
-        ("timeout", 1, 7, Fault::NoValue),
-        ("\n timeout 1s # = 1s", 2, 11, Fault::NoValue),
-        ("timeout =", 1, 9, Fault::Duration(Empty)),
-        ("timeout = # 1s", 1, 9, Fault::Duration(Empty)),
-        ("since =\r\n", 1, 7, Fault::Timestamp(InvalidFormat)),
-        ("timeout = 2h 7mi", 1, 14, Fault::Duration(unknown)),
-        (
-            "timeout = 1h=2",
-            1,
-            12,
-            Fault::Duration(InvalidCharacter(2)),
-        ),
-        ("timeout = 5µs x", 1, 15, Fault::Duration(NumberExpected(5))),
-        (
-            "\ttimeout\t=\tx\r\n",
-            1,
-            11,
-            Fault::Duration(NumberExpected(0)),
-        ),
-        (
-            "since = 2018-02-30T00:28:07Z",
-            1,
-            8,
-            Fault::Timestamp(OutOfRange),
-        ),
-    ] {
-        let error = read_settings(text).err().expect(&rt, text);
-        assert_eq!(rt;
-            (error.number, error.at, error.fault),
-            (number, at, fault),
-            "{text}"
-        );
-    }
 }
 
 #[test]

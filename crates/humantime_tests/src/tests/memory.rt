@@ -133,44 +133,6 @@ fn row_of_a_report(rt: HostRuntime) {
 }
 
 #[test]
-fn errors_of_a_settings_file(rt: HostRuntime) {
-    for (text, message) in [
-        (
-            "# limits\n\ntimeout = 2h 7mi # soon\n",
-            "line 3: unknown time unit \"mi\", supported units: ns, us/µs, ms, sec, min, hours, days, weeks, months, years (and few variations)\ntimeout = 2h 7mi # soon\n              ^",
-        ),
-        (
-            "# how long to wait\ntimeout = 2h 30   # soon\n",
-            "line 2: time unit needed, for example 30sec or 30ms\ntimeout = 2h 30   # soon\n               ^",
-        ),
-        (
-            "\ttimeout =\t5µs x\r\n",
-            "line 1: expected number at 5\n\ttimeout =\t5µs x\n\t         \t    ^",
-        ),
-        (
-            "since = 2018-02-30T00:28:07Z",
-            "line 1: numeric component is out of range\nsince = 2018-02-30T00:28:07Z\n        ^",
-        ),
-        (
-            "timeout = 1s\n  timeout = 2s",
-            "line 2: this setting is there twice\n  timeout = 2s\n  ^",
-        ),
-        (
-            "retries = 5",
-            "line 1: there is no such setting\nretries = 5\n^",
-        ),
-        (
-            "timeout 1s # no",
-            "line 1: a setting needs a `=` and a value\ntimeout 1s # no\n          ^",
-        ),
-    ] {
-        let error = read_settings(text).err().expect(&rt, text);
-        let told = error.to_string(rt.alloc()).expect(&rt, "memory");
-        assert_eq!(rt; told.as_str(), message);
-    }
-}
-
-#[test]
 fn a_line_of_a_megabyte(rt: HostRuntime) -> Result<(), AllocError> {
     let mut text = String::from_str(rt.alloc(), "since = 1970-01-01T00:00:00Z\ntimeout =")?;
     for _ in 0..1 << 18 {
