@@ -1,7 +1,7 @@
 //! The settings file of docs/HOWTO.md: its values, its faults, and their messages. The kit has no proof of these tests.
 
-use humantime::DurationError::{Empty, InvalidCharacter, NumberExpected, UnknownUnit};
-use humantime::TimestampError::{InvalidFormat, OutOfRange};
+use humantime::DurationError::{Empty, InvalidCharacter, NumberExpected, NumberOverflow, UnknownUnit};
+use humantime::TimestampError::{InvalidDigit, InvalidFormat, OutOfRange};
 use humantime::{StdDuration, SystemTime};
 use humantime_examples::how_to::settings_file::{Fault, Settings, read_settings};
 
@@ -125,6 +125,39 @@ fn errors_of_a_settings_file(rt: HostRuntime) {
             "timeout 1s # no",
             "line 1: a setting needs a `=` and a value\ntimeout 1s # no\n          ^",
         ),
+    ] {
+        let error = read_settings(text).err().expect(&rt, text);
+        let told = error.to_string(rt.alloc()).expect(&rt, "memory");
+        assert_eq!(rt; told.as_str(), message);
+    }
+}
+
+#[test]
+fn values_of_a_settings_file(rt: HostRuntime) {
+    for (text, secs) in [("timeout = 2h 37min", 9420), ("timeout=0", 0), ("timeout\t=\t1.5h ", 5400)] {
+        let settings = read_settings(text).ok().expect(&rt, text);
+        assert_eq!(rt; settings.timeout, Some(StdDuration::from_secs(secs)), "{text}");
+    }
+    let nights = UnknownUnit { start: 2, end: 8, unit: "nights", value: 10 };
+    let missing = UnknownUnit { start: 6, end: 6, unit: "", value: 37 };
+    for (text, at, fault) in [
+        ("timeout = 10nights", 12, Fault::Duration(nights)),
+        ("timeout = 10h 37", 16, Fault::Duration(missing)),
+        ("timeout = 1.05ns", 10, Fault::Duration(NumberOverflow)),
+        ("since = 2018-02-14Tmm:28:07Z", 8, Fault::Timestamp(InvalidDigit)),
+        ("since = yesterday", 8, Fault::Timestamp(InvalidFormat)),
+    ] {
+        let error = read_settings(text).err().expect(&rt, text);
+        assert_eq!(rt; (error.at, error.fault), (at, fault), "{text}");
+    }
+}
+
+#[test]
+fn messages_of_a_settings_file(rt: HostRuntime) {
+    for (text, message) in [
+        ("timeout =\t1h~", "line 1: invalid character at 2\ntimeout =\t1h~\n         \t  ^"),
+        ("timeout =", "line 1: value was empty\ntimeout =\n         ^"),
+        ("since = yesterday", "line 1: timestamp format is invalid\nsince = yesterday\n        ^"),
     ] {
         let error = read_settings(text).err().expect(&rt, text);
         let told = error.to_string(rt.alloc()).expect(&rt, "memory");
