@@ -31,14 +31,8 @@ pub before_year : (y m d : ℕ) → AreWithin y m d → (later : ℕ) → y < la
 before_year y m d valid later less =
     grind (arith, (before_month y m d valid 13), (days_of_months_closed y 13), days_of_years_closed, (march_days_next y))
 
-same_year : (y m d y' m' d' : ℕ) → AreWithin y m d → AreWithin y' m' d' → day_count y m d ≡ day_count y' m' d' → y ≡ y'
-same_year y m d y' m' d' valid valid' same = grind (arith, before_year y m d valid y', before_year y' m' d' valid' y)
-
-same_month : (y m d m' d' : ℕ) → AreWithin y m d → AreWithin y m' d' → day_count y m d ≡ day_count y m' d' → m ≡ m'
-same_month y m d m' d' valid valid' same = grind (arith, before_month y m d valid m', before_month y m' d' valid' m)
-
 pub same_date : (a b : Date) → IsDate a → IsDate b → day_of a ≡ day_of b → a ≡ b
-same_date a b valid valid' same = grind (arith, valid_from_test, same_year, same_month)
+same_date a b valid valid' same = grind (arith, valid_from_test, (before_year a.year a.month a.day), (before_year b.year b.month b.day), (before_month a.year a.month a.day), (before_month b.year b.month b.day))
 
 pub one_date : (day : ℕ) → day ≤ 2_932_896 → ExactlyOne (IsDateOfDay day)
 one_date day few =
@@ -47,6 +41,4 @@ one_date day few =
 
 -- No date has a later day than the last one.
 pub day_at_most : (d : Date) → IsDate d → day_of d ≤ 2_932_896
-day_at_most d valid =
-    let within = valid_from_test d.year d.month d.day valid in
-    omega (arith, before_year d.year d.month d.day within 10_000 (omega (arith, within.0.1)), days_of_years_closed 10_000 (omega arith))
+day_at_most d valid = grind (arith, (before_year d.year d.month d.day (valid_from_test d.year d.month d.day valid) 10_000), (days_of_years_closed 10_000))

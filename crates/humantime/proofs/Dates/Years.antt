@@ -45,9 +45,6 @@ months_closed y k few = grind (arith, nat_tests)
 pub days_of_months_closed : (y m : ℕ) → 3 ≤ m → m ≤ 13 → days_of_months y (m - 1) + 306 ≡ march_months (m - 3) + days_in_year y
 days_of_months_closed y m late few = let same : m - 3 + 2 ≡ m - 1 = omega arith in rw same at (months_closed y (m - 3) (omega arith))
 
-pub march_lengths : (y k : ℕ) → k < 10 → days_in_month y (k + 3) + march_months k ≡ march_months (k + 1)
-march_lengths y k early = grind (arith, nat_tests)
-
 -- The days of the first months, by a table and the leap day.
 pub days_in_table : (y k : ℕ) → k < 12 → days_of_months y k
     ≡ slice_index_or (0 ∷ 31 ∷ 59 ∷ 90 ∷ 120 ∷ 151 ∷ 181 ∷ 212 ∷ 243 ∷ 273 ∷ 304 ∷ 334 ∷ []) k 0 + (if nat_lt 1 k then days_in_year y - 365 else 0)

@@ -9,14 +9,13 @@ use Rattle.humantime.specs.Durations.Characters.{is_digit, without_trailing_zero
 use Rattle.humantime.specs.Steps.Scales.{Counted}
 use Rattle.humantime.specs.Steps.Scanning.{HasDigits}
 use Rattle.humantime.proofs.Durations.Bytes.Numbers.{digit_range, value_more}
-use Rattle.humantime.proofs.Durations.Reading.SignificantDigits.{significant_shorter, significant_zero, significant_long, significant_last, value_shifted}
+use Rattle.humantime.proofs.Durations.Reading.SignificantDigits.{significant_shorter, significant_last, value_shifted}
 
 -- A number of `n` digits, shifted by `k` digits and with another digit added, fits.
 pub shifted_fits : (v n k d p : ℕ) → v < 10 ^ n → d ≤ 9 → 1 ≤ k → p ≡ 10 ^ k → v * p + d < 10 ^ (n + k)
 shifted_fits v n k d p fits digit more power =
-    let some : 10 ≤ 10 ^ k = pow-le-pow_right {n = 10} (omega arith) {i = 1} {j = k} more in
     let below : (v + 1) * 10 ^ k ≤ 10 ^ n * 10 ^ k = mul-le-mul_right (10 ^ k) (omega (arith, fits)) in
-    rw power (omega (arith, pow-add 10 n k, some, below))
+    rw power (omega (arith, pow-add 10 n k, pow-le-pow_right {n = 10} (omega arith) {i = 1} {j = k} more, below))
 
 pub push_fits : (v n k d p : ℕ) → v < 10 ^ n → d ≤ 9 → 1 ≤ k → p ≡ 10 ^ k → n + k ≤ 19 → v * p + d < 2 ^ 64
 push_fits v n k d p fits digit more power few =
@@ -30,10 +29,6 @@ fewer f ds h = omega (arith, ap (λ (x : Counted). x.1) h.parts, ap (λ (x : Cou
 pub no_digits : HasDigits (record { significand = 0; places = 0; len = 0 }) []
 unfolding without_trailing_zeros
 no_digits = record { parts = refl; few = omega arith; fits = omega arith }
-
--- Another zero is a trailing zero.
-pub zero_more : (ds : List ℕ) (c : ℕ) → c ≡ 48 → without_trailing_zeros (ds ++ c ∷ []) ≡ without_trailing_zeros ds
-zero_more ds c e = rw e (significant_zero ds)
 
 -- Another digit follows the zeros.
 pub fraction_extended : (f : Fraction) (ds : List ℕ) (c p : ℕ) → HasDigits f ds → is_digit c ≡ true → c ≢ 48 → f.len + 1 ≤ 19 → p ≡ 10 ^ (f.len + 1 - f.places)
@@ -55,7 +50,3 @@ fraction_extended f ds c p h is some few power =
       few = few;
       fits = rw sum at (shifted_fits _ _ _ (c - 48) p h.fits (omega (arith, digit_range c is)) (omega (arith, within)) power);
     }
-
--- A digit other than 0 after 19 digits exceeds the limit.
-pub one_too_many : (ds es : List ℕ) (c : ℕ) → c ≢ 48 → 19 ≤ length ds → 19 < length (without_trailing_zeros (ds ++ c ∷ es))
-one_too_many ds es c some full = omega (arith, full, significant_long ds es c (ne_eqb c 48 some))

@@ -1,6 +1,6 @@
 -- The end parts of a text, as bytes.
 use Rattle.std.proofs.lemmas.Grind.{common_steps}
-use Rattle.std.proofs.Common.{◌≡◌, ◌≢◌, ◌≤◌, ◌-◌, ℕ, Bool, true, false, List, [], ◌++◌, length, take, drop, refl, ap, sym, ◌∙◌, arith, length-append, length-drop, length-take, IsUtf8, IsCharBoundary, chars}
+use Rattle.std.proofs.Common.{◌≡◌, ◌≢◌, ◌≤◌, ◌-◌, ℕ, Bool, true, false, List, [], ◌++◌, length, take, drop, ap, sym, ◌∙◌, arith, length-append, length-drop, length-take, IsUtf8, IsCharBoundary, chars}
 use Rattle.std.proofs.lemmas.List.{take-append-drop, append_cancel_right}
 use Rattle.std.proofs.lemmas.Str.{IsUtf8-take, IsCharBoundary-at_seam, encodes-chars, chars-append, chars-nil}
 use Rattle.humantime.specs.Texts.{take_while, drop_while}
@@ -29,22 +29,15 @@ front_is p text at u place after =
 letter_begins : (cs : List ℕ) → take_while is_letter cs ≢ [] → begins_with_nonletter cs ≡ false
 letter_begins cs some = grind arith
 
-no_letter_begins : (cs : List ℕ) → take_while is_letter cs ≡ [] → cs ≢ [] → begins_with_nonletter cs ≡ true
+pub no_letter_begins : (cs : List ℕ) → take_while is_letter cs ≡ [] → cs ≢ [] → begins_with_nonletter cs ≡ true
 no_letter_begins cs none some = grind arith
 
--- The characters of a text have as many bytes in UTF-8 as the text.
-pub byte_length-chars : (bs : List ℕ) → IsUtf8 bs → byte_length (chars bs) ≡ length bs
-byte_length-chars bs u = ap length (encodes-chars bs u)
-
 pub tail_offset : (text rest : List ℕ) → IsTail text rest → length text - length rest ≡ offset_of (chars text) (chars rest)
-tail_offset text rest t = omega (arith, byte_length-chars text t.whole, byte_length-chars rest t.utf8)
+tail_offset text rest t = grind (arith, encodes-chars)
 
 -- A text without characters has no bytes, and one without bytes no characters.
-pub no_chars : (bs : List ℕ) → IsUtf8 bs → chars bs ≡ [] → length bs ≡ 0
-no_chars bs u e = omega (arith, byte_length-chars bs u, ap byte_length e)
-
 pub some_chars : (bs : List ℕ) → IsUtf8 bs → length bs ≢ 0 → chars bs ≢ []
-some_chars bs u n e = n (no_chars bs u e)
+some_chars bs u n e = n (grind (arith, encodes-chars, ap byte_length e))
 
 pub no_bytes : (bs : List ℕ) → length bs ≡ 0 → chars bs ≡ []
 no_bytes bs h = grind (arith, common_steps, chars-nil)
@@ -56,8 +49,3 @@ no_chars_at text at end = no_bytes (drop at text) (omega (arith, length-drop at 
 pub a_word : (text : List ℕ) (at : ℕ) → IsUtf8 text → IsCharBoundary text at → chars (drop at text) ≡ drop_while is_letter (chars text) → at ≢ 0
     → begins_with_nonletter (chars text) ≡ false
 a_word text at u place rest some = grind (arith, common_steps, length-take, letter_begins, some_chars, IsUtf8-take, front_is)
-
-pub no_word : (text : List ℕ) (at : ℕ) → IsUtf8 text → IsCharBoundary text at → chars (drop at text) ≡ drop_while is_letter (chars text) → at ≡ 0
-    → length text ≢ 0 → begins_with_nonletter (chars text) ≡ true
-no_word text at u place rest zero some =
-    no_letter_begins (chars text) (sym (front_is is_letter text at u place rest) ∙ no_bytes (take at text) (rw zero refl)) (some_chars text u some)

@@ -1,17 +1,18 @@
 -- Slices without leading and trailing whitespace.
-use Rattle.std.proofs.Common.{◌≡◌, ℕ, suc, Bool, true, false, ◌&&◌, cond, eqb, List, [], ◌∷◌, ◌++◌, length, Option, Some, None, option_map, ◌⊎◌, inl, inr, refl, sym, ap, subst, ◌∙◌, append-nil, arith, IsUtf8, chars}
+use Rattle.std.proofs.lemmas.Grind.{common_steps}
+use Rattle.std.proofs.Common.{◌≡◌, ℕ, suc, Bool, true, false, ◌&&◌, cond, eqb, List, [], ◌∷◌, ◌++◌, length, Option, Some, None, option_map, ◌⊎◌, inl, inr, refl, sym, ap, ◌∙◌, append-nil, arith, IsUtf8, chars}
 use Rattle.std.specs.Char.{is_whitespace as std_is_whitespace}
 use Rattle.std.specs.Str.{trim_start, trim_end, skip_leading_whitespace, drop_trailing_whitespace}
 use Rattle.std.proofs.lemmas.Str.{encodes-chars, encodes_same}
 use Rattle.std.proofs.lemmas.Bool.Decides.{nat_tests}
 use Rattle.std.proofs.lemmas.List.Elements.{filter-append}
 use Rattle.humantime.specs.Texts.{begins, ends, take_while, drop_while}
-use Rattle.humantime.specs.Durations.Characters.{is_whitespace, is_digit, is_letter, is_numeric, digits}
+use Rattle.humantime.specs.Durations.Characters.{is_whitespace, is_digit, is_letter, is_numeric, digits, is_point}
 use Rattle.humantime.specs.Durations.Spans.{Only}
 use Rattle.humantime.specs.Durations.Faults.{number_of, after_number, after_point, span_of}
 use Rattle.humantime.specs.Results.Items.{trimmed, fraction_slice, view_at, spelled}
 use Rattle.humantime.specs.Durations.Items.{IsDigitSlice}
-use Rattle.humantime.proofs.Durations.Reading.Classes.{whitespace_is, letter_not_numeric, letter_not_point, is_point-46, whitespace_not_digit, digit_from_numeric}
+use Rattle.humantime.proofs.Durations.Reading.Classes.{whitespace_is, whitespace_not_digit, digit_from_numeric, letter_not_whitespace}
 use Rattle.humantime.proofs.Durations.Reading.Runs.{take_while-append}
 
 pub suc_not_zero : (n : ℕ) → eqb (suc n) 0 ≡ false
@@ -24,44 +25,37 @@ pub record Dropped (cs ds : List ℕ) : Type 0 where
   pub whitespace : Only is_whitespace tail
   pub last : (ds ≡ []) ⊎ (ends is_whitespace ds ≡ false)
 
-last_of : (x : ℕ) (xs : List ℕ) → (x ∷ xs ≡ []) ⊎ (ends is_whitespace (x ∷ xs) ≡ false) → ends is_whitespace (x ∷ xs) ≡ false
-last_of x xs h = grind arith
-
 pub dropped : (cs : List ℕ) → Dropped cs (drop_trailing_whitespace cs)
 dropped [] = record { tail = []; whole = refl; whitespace = tt; last = inl refl }
 dropped (c ∷ cs) = by (std_is_whitespace c) (drop_trailing_whitespace cs) refl (dropped cs)
   where
     by : (w : Bool) (ds : List ℕ) → std_is_whitespace c ≡ w → Dropped cs ds → Dropped (c ∷ cs) (cond (w && eqb (length ds) 0) [] (c ∷ ds))
     by true [] e d = record { tail = c ∷ d.tail; whole = ap (c ∷◌) d.whole; whitespace = (sym (whitespace_is c) ∙ e, d.whitespace); last = inl refl }
-    by true (x ∷ xs) e d = rw (suc_not_zero (length xs)) (record { tail = d.tail; whole = ap (c ∷◌) d.whole; whitespace = d.whitespace; last = inr (last_of x xs d.last) })
+    by true (x ∷ xs) e d = rw (suc_not_zero (length xs)) (record { tail = d.tail; whole = ap (c ∷◌) d.whole; whitespace = d.whitespace; last = grind arith })
     by false [] e d = record { tail = d.tail; whole = ap (c ∷◌) d.whole; whitespace = d.whitespace; last = inr (sym (whitespace_is c) ∙ e) }
-    by false (x ∷ xs) e d = record { tail = d.tail; whole = ap (c ∷◌) d.whole; whitespace = d.whitespace; last = inr (last_of x xs d.last) }
+    by false (x ∷ xs) e d = record { tail = d.tail; whole = ap (c ∷◌) d.whole; whitespace = d.whitespace; last = grind arith }
 
-no_digits : (cs : List ℕ) → Only is_whitespace cs → digits cs ≡ []
-no_digits [] o = refl
-no_digits (c ∷ cs) o = rw (whitespace_not_digit c o.0) (no_digits cs o.1)
+digits_of_whitespace : (cs : List ℕ) → Only is_whitespace cs → digits cs ≡ []
+digits_of_whitespace [] o = refl
+digits_of_whitespace (c ∷ cs) o = rw (whitespace_not_digit c o.0) (digits_of_whitespace cs o.1)
 
 digits_dropped : (cs ds : List ℕ) → Dropped cs ds → digits ds ≡ digits cs
-digits_dropped cs ds d = sym (ap digits d.whole ∙ filter-append is_digit ds d.tail ∙ ap (digits ds ++◌) (no_digits d.tail d.whitespace) ∙ append-nil (digits ds))
+digits_dropped cs ds d = sym (ap digits d.whole ∙ filter-append is_digit ds d.tail ∙ ap (digits ds ++◌) (digits_of_whitespace d.tail d.whitespace) ∙ append-nil (digits ds))
 
 pub digits_drop_while : (cs : List ℕ) → digits (drop_while is_whitespace cs) ≡ digits cs
 digits_drop_while [] = refl
 digits_drop_while (c ∷ cs) = grind (arith, (digits_drop_while cs), whitespace_not_digit)
 
-fraction_digits : (o : Option (List ℕ)) → option_map digits (option_map (λ ds. trimmed (take_while is_numeric ds)) o) ≡ option_map number_of o
-fraction_digits None = refl
-fraction_digits (Some ds) = ap Some (digits_dropped _ _ (dropped (drop_while is_whitespace (take_while is_numeric ds))) ∙ digits_drop_while _)
+trimmed_digits : (o : Option (List ℕ)) → option_map digits (option_map (λ ds. trimmed (take_while is_numeric ds)) o) ≡ option_map number_of o
+trimmed_digits o = grind (arith, common_steps, nat_tests, digits_drop_while, digits_dropped, dropped)
 
 -- The slices represent the span that they are taken from.
 pub spelled_at : (text rest : List ℕ) → spelled (view_at text rest).number (view_at text rest).fraction (view_at text rest).unit ≡ span_of rest
-spelled_at text rest = grind (arith, (digits_dropped _ _ (dropped (take_while is_numeric rest))), (fraction_digits (after_point (after_number rest))))
+spelled_at text rest = grind (arith, (digits_dropped _ _ (dropped (take_while is_numeric rest))), (trimmed_digits (after_point (after_number rest))))
 
 ends_digit : (x : ℕ) (xs : List ℕ) → Only is_numeric (x ∷ xs) → ends is_whitespace (x ∷ xs) ≡ false → ends is_digit (x ∷ xs) ≡ true
 ends_digit x [] o e = digit_from_numeric x o.0 e
 ends_digit x (y ∷ ys) o e = ends_digit y ys o.1 e
-
-all_whitespace : (cs : List ℕ) → Only is_whitespace cs → begins is_digit cs ≡ true → ⊥
-all_whitespace cs h k = grind (arith, whitespace_not_digit)
 
 only_front : (p : ℕ → Bool) (xs ys : List ℕ) → Only p (xs ++ ys) → Only p xs
 only_front p [] ys o = tt
@@ -70,16 +64,18 @@ only_front p (x ∷ xs) ys o = (o.0, only_front p xs ys o.1)
 -- The slice of digits and whitespace that begins with a digit, without trailing whitespace, after other whitespace.
 pub digit_slice : (before cs ds : List ℕ) → Dropped cs ds → Only is_whitespace before → begins is_digit cs ≡ true → Only is_numeric cs
     → IsDigitSlice (before ++ cs) ds
-digit_slice before cs [] d w b o = absurd (all_whitespace d.tail d.whitespace (subst (λ (l : List ℕ). begins is_digit l ≡ true) d.whole b))
+digit_slice before cs [] d w b o = grind (arith, whitespace_not_digit)
 digit_slice before cs (x ∷ xs) d w b o = grind (arith, only_front, ends_digit)
 
 -- There is no slice of a fraction if a letter follows the number.
 pub no_slice : (tail : List ℕ) → begins is_letter tail ≡ true → fraction_slice tail ≡ None
-no_slice tail h = grind (arith, letter_not_point)
+unfolding is_letter is_point
+no_slice tail h = grind (arith, nat_tests)
 
 pub slice_after_point : (after tail : List ℕ) → Only is_numeric after → begins is_letter tail ≡ true
     → fraction_slice (46 ∷ (after ++ tail)) ≡ Some (trimmed after)
-slice_after_point after tail only e = grind (arith, letter_not_numeric, is_point-46, take_while-append)
+unfolding is_digit is_letter is_point
+slice_after_point after tail only e = grind (arith, letter_not_whitespace, nat_tests, take_while-append)
 
 -- The results of std's `trim_end` and `trim_start`.
 pub end_trimmed : (text cut : List ℕ) → IsUtf8 cut → cut ≡ trim_end text → chars cut ≡ drop_trailing_whitespace (chars text)

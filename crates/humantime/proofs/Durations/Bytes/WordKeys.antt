@@ -1,6 +1,7 @@
 -- The key of a word determines its unit.
+use Rattle.std.proofs.lemmas.Bool.Decides.{nat_tests}
 use Rattle.std.proofs.lemmas.Grind.{common_steps}
-use Rattle.std.proofs.Common.{◌≡◌, ◌∙◌, sym, ap, refl, ℕ, suc, ◌+◌, ◌*◌, ◌%◌, ◌^◌, ◌<◌, ◌≤◌, Bool, true, ◌&&◌, List, [], ◌∷◌, length, take, get_or, ltb, chars, inl, inr, arith}
+use Rattle.std.proofs.Common.{◌≡◌, ◌∙◌, sym, ap, refl, ℕ, suc, ◌+◌, ◌*◌, ◌%◌, ◌^◌, ◌<◌, ◌≤◌, Bool, true, ◌&&◌, List, [], ◌∷◌, length, take, get_or, ltb, chars, arith}
 use Rattle.std.specs.Prelude.{◌==◌, bytes_eq, reverse}
 use Rattle.std.specs.List.{list_all}
 use Rattle.std.specs.Cmp.{both_ways}
@@ -8,7 +9,7 @@ use Rattle.std.specs.Map.{lookup}
 use Rattle.std.specs.Str.{IsUtf8, IsCharBoundary}
 use Rattle.std.proofs.Math.Utf8.{encode, encodes, scalars}
 use Rattle.std.proofs.Math.Seq.{take-suc}
-use Rattle.std.proofs.Math.Nat.{pow-le-pow_right}
+use Rattle.std.proofs.Math.Nat.{pow-le-pow_right, pow-suc}
 use Rattle.std.proofs.lemmas.List.{get_or-reverse, length-reverse, length-take, reverse-append, reverse-reverse}
 use Rattle.std.proofs.lemmas.Bool.{and_parts, cases_lt, ltb-true, eqb-true, eq-eqb}
 use Rattle.std.proofs.lemmas.Slice.Eq.{bytes_eq-Decides}
@@ -24,12 +25,6 @@ packed_positive : (bs : List ℕ) → 1 ≤ packed bs
 packed_positive [] = omega arith
 packed_positive (b ∷ bs) = omega (arith, packed_positive bs)
 
-front_bytes : (bs : List ℕ) (n : ℕ) → HasBytes bs → HasBytes (take n bs)
-front_bytes bs n h k = grind (arith, common_steps)
-
-packed_front : (bs : List ℕ) (at : ℕ) → at < length bs → packed (reverse (take (suc at) bs)) ≡ packed (reverse (take at bs)) * 256 + get_or bs at 0
-packed_front bs at within = rw (take-suc bs at 0 within, reverse-append (take at bs) (get_or bs at 0 ∷ [])) refl
-
 -- No byte is below the first letter: each is one of a letter or of a mu.
 abbrev pub IsHigh : List ℕ → Type 0
 IsHigh bs = (k : ℕ) → k < length bs → 65 ≤ get_or bs k 0
@@ -41,28 +36,16 @@ IsSoFar bs at k = (k ≡ key (take at bs)) × ((j : ℕ) → j < at → 65 ≤ g
 -- The same holds with the byte at this offset.
 pub key_more : (bs : List ℕ) (at k m : ℕ) → at < length bs → 65 ≤ get_or bs at 0 → IsSoFar bs at k → m ≡ (k * 256 + get_or bs at 0) % 2 ^ 64
     → IsSoFar bs (at + 1) m
-key_more bs at k m some letter so_far next =
-    let more : at + 1 ≡ suc at = omega arith in (
-      rw (more, packed_front bs at some) (omega (arith, next, so_far.0)),
-      λ j within. elim (cases_lt j at) [
-        | inl before ↦ so_far.1 j before
-        | inr last ↦ let same : j ≡ at = omega (arith, within, last) in rw same letter
-      ],
-    )
-
-front_high : (bs : List ℕ) (at k : ℕ) → at ≤ length bs → IsSoFar bs at k → IsHigh (take at bs)
-front_high bs at k within so_far j before = grind (arith, common_steps, length-take, so_far.1)
+key_more bs at k m some letter so_far next = grind (arith, common_steps, nat_tests, cases_lt, take-suc, reverse-append)
 
 packed_below : (bs : List ℕ) → HasBytes bs → packed bs < 2 * 256 ^ length bs
 packed_below [] h = omega arith
-packed_below (b ∷ bs) h =
-    let more : 256 ^ suc (length bs) ≡ 256 * 256 ^ length bs = omega arith in omega (arith, more, h 0, packed_below bs (λ k. h (suc k)))
+packed_below (b ∷ bs) h = grind (arith, (h 0), (pow-suc 256 (length bs)), (packed_below bs (λ k. h (suc k))))
 
 -- The key of a unit fits 57 bits, and that of a longer word does not.
 short_below : (bs : List ℕ) → HasBytes bs → length bs ≤ 7 → packed bs < 2 ^ 57
 short_below bs h short =
-    let fits : 256 ^ length bs ≤ 256 ^ 7 = pow-le-pow_right {n = 256} (omega arith) {i = length bs} {j = 7} short in
-    omega (arith, packed_below bs h, fits)
+    omega (arith, packed_below bs h, pow-le-pow_right {n = 256} (omega arith) {i = length bs} {j = 7} short)
 
 long_above : (bs : List ℕ) → HasBytes bs → IsHigh bs → 8 ≤ length bs → 2 ^ 57 ≤ packed bs % 2 ^ 64
 long_above (b0 ∷ b1 ∷ b2 ∷ b3 ∷ b4 ∷ b5 ∷ b6 ∷ b7 ∷ bs) h high long =
@@ -71,12 +54,8 @@ long_above _ h high long = absurd (omega (arith, long))
 
 packed_same : (xs ys : List ℕ) → HasBytes xs → HasBytes ys → packed xs ≡ packed ys → xs ≡ ys
 packed_same [] [] h k e = refl
-packed_same [] (y ∷ ys) h k e = absurd (omega (arith, e, packed_positive ys))
-packed_same (x ∷ xs) [] h k e = absurd (omega (arith, e, packed_positive xs))
-packed_same (x ∷ xs) (y ∷ ys) h k e =
-    let rest : packed xs ≡ packed ys = omega (arith, e, h 0, k 0) in
-    let first : x ≡ y = omega (arith, e, rest) in
-    rw first (ap (λ zs. y ∷ zs) (packed_same xs ys (λ i. h (suc i)) (λ i. k (suc i)) rest))
+packed_same (x ∷ xs) (y ∷ ys) h k e = grind (arith, (packed_same xs ys (λ i. h (suc i)) (λ i. k (suc i))), (h 0), (k 0))
+packed_same xs ys h k e = grind (arith, packed_positive)
 
 bytes_from_test : (bs : List ℕ) → list_all (λ b. ltb b 256) bs ≡ true → HasBytes bs
 bytes_from_test bs h = grind (arith, common_steps)
@@ -88,21 +67,12 @@ is_spelled w = scalars w && (bytes_eq (encodes w) (bytes_of w) && (ltb (length (
 reversed_bytes : (bs : List ℕ) → HasBytes bs → HasBytes (reverse bs)
 reversed_bytes bs h k = grind (arith, common_steps, get_or-reverse)
 
-reversed_high : (bs : List ℕ) → IsHigh bs → IsHigh (reverse bs)
-reversed_high bs high k within = grind (arith, common_steps, get_or-reverse, length-reverse)
-
-reverse_same : (xs ys : List ℕ) → reverse xs ≡ reverse ys → xs ≡ ys
-reverse_same xs ys e = sym (reverse-reverse xs) ∙ ap reverse e ∙ reverse-reverse ys
-
 key_same : (xs ys : List ℕ) → HasBytes xs → HasBytes ys → IsHigh xs → length ys ≤ 7 → key xs ≡ key ys → xs ≡ ys
 key_same xs ys h k high short e =
-    let below = short_below (reverse ys) (reversed_bytes ys k) (omega (arith, length-reverse ys, short)) in
-    elim (cases_lt 7 (length xs)) [
-      | inl long ↦ absurd (omega (arith, e, below, long_above (reverse xs) (reversed_bytes xs h) (reversed_high xs high) (omega (arith, length-reverse xs, long))))
-      | inr few ↦
-          let same : packed (reverse xs) ≡ packed (reverse ys) = omega (arith, e, below, short_below (reverse xs) (reversed_bytes xs h) (omega (arith, length-reverse xs, few))) in
-          reverse_same xs ys (packed_same (reverse xs) (reverse ys) (reversed_bytes xs h) (reversed_bytes ys k) same)
-    ]
+    let same = packed_same (reverse xs) (reverse ys) (reversed_bytes xs h) (reversed_bytes ys k) in
+    let few = short_below (reverse ys) (reversed_bytes ys k) in
+    let long = long_above (reverse xs) (reversed_bytes xs h) (λ k within. grind (arith, common_steps, get_or-reverse, length-reverse)) in
+    grind (arith, length-reverse, (reverse-reverse xs), (reverse-reverse ys), same, few, long, (short_below (reverse xs) (reversed_bytes xs h)))
 
 key_tells : (bs w : List ℕ) → IsUtf8 bs → HasBytes bs → IsHigh bs → is_spelled w ≡ true → (key bs == key (bytes_of w)) ≡ bytes_eq (chars bs) w
 key_tells bs w text bytes high spelled =
@@ -119,9 +89,7 @@ key_tells bs w text bytes high spelled =
 by_key : (bs : List ℕ) → IsUtf8 bs → HasBytes bs → IsHigh bs → (ws : List (List ℕ × Scale)) → list_all (λ w. is_spelled w.0) ws ≡ true
     → lookup (λ j. key bs == j) (keyed ws) ≡ lookup (bytes_eq (chars bs)) ws
 by_key bs text bytes high [] t = refl
-by_key bs text bytes high (w ∷ ws) t =
-    let p = and_parts _ _ t in
-    rw (key_tells bs w.0 text bytes high p.0, by_key bs text bytes high ws p.1) refl
+by_key bs text bytes high (w ∷ ws) t = grind (arith, (key_tells bs w.0 text bytes high), (by_key bs text bytes high ws))
 
 -- The unit of a text is that of its key.
 pub scale_by_key : (bs : List ℕ) → IsUtf8 bs → HasBytes bs → IsHigh bs → scale_of_key (key bs) ≡ scale_of_word (chars bs)
@@ -131,5 +99,4 @@ scale_by_key bs text bytes high = by_key bs text bytes high words refl
 -- The unit of the front of a text is that of the key so far.
 pub scale_so_far : (text : List ℕ) (at k : ℕ) → IsUtf8 text → HasBytes text → IsCharBoundary text at → IsSoFar text at k
     → scale_of_key k ≡ scale_of_word (chars (take at text))
-scale_so_far text at k utf8 bytes place so_far =
-    ap scale_of_key so_far.0 ∙ scale_by_key (take at text) (IsUtf8-take text at utf8 place) (front_bytes text at bytes) (front_high text at k place.0 so_far)
+scale_so_far text at k utf8 bytes place so_far = grind (arith, common_steps, nat_tests, IsUtf8-take, length-take, scale_by_key)

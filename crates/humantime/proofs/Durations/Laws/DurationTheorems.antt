@@ -1,6 +1,6 @@
 -- The laws of durations as theorems over plain variables, each under its name in `laws`.
 use Rattle.std.proofs.lemmas.Bool.Decides.{nat_tests}
-use Rattle.std.proofs.Common.{Bool, ◌≡◌, ◌↔◌, ℕ, ◌<◌, List, Result, Ok, IsTrue, chars, refl, sym, ◌∙◌, arith}
+use Rattle.std.proofs.Common.{◌≡◌, ◌↔◌, ℕ, ◌<◌, List, Result, Ok, IsTrue, chars, refl, sym, ◌∙◌, arith}
 use Rattle.std.proofs.lemmas.Slice.Eq.{bytes_eq-Decides}
 use Rattle.humantime.specs.declared.duration.error.DurationError.{DurationError}
 use Rattle.humantime.specs.contracts.duration.error.DurationErrorPartialEq.TheImpl as errors
@@ -23,7 +23,7 @@ use Rattle.humantime.proofs.Durations.Printing.ReadsBack as back
 
 pub one_outcome : (text : List ℕ) → HasOneOutcome text
 one_outcome text = record {
-  outcome = outcomes.one_outcome text;
+  outcome = outcomes.exactly_one_outcome text;
   reading = outcomes.one_reading text;
   items = outcomes.one_list_of_items text;
   value = outcomes.answer_accepts text (duration_answer text) refl;
@@ -48,12 +48,8 @@ spans_tile text =
 pub value_of_view : (r : Result ℕ DurationError) (v : ℕ) → result_view r ≡ Ok v → r ≡ Ok v
 value_of_view r v h = grind arith
 
--- Equality of errors, as `==` computes it.
-abbrev error_eq : DurationError → DurationError → Bool
-error_eq = (errors.ghosts).eq
-
 -- Two errors are equal exactly if their faults are.
-pub errors_equal : (e f : DurationError) → IsTrue (error_eq e f) ↔ (fault_of e ≡ fault_of f)
+pub errors_equal : (e f : DurationError) → IsTrue (errors.ghosts.eq e f) ↔ (fault_of e ≡ fault_of f)
 errors_equal e f = grind (arith, nat_tests, bytes_eq-Decides)
 
 -- ---- printed durations

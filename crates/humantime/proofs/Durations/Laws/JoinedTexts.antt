@@ -1,4 +1,5 @@
 -- Joined texts.
+use Rattle.std.proofs.lemmas.List.Sums.{sum_by-append}
 use Rattle.std.proofs.Common.{arith, ◌≡◌, ◌≢◌, ◌↔◌, ◌⊎◌, ℕ, ◌+◌, true, List, [], ◌∷◌, ◌++◌, None, refl, inl, inr, append_assoc, append-nil}
 use Rattle.std.specs.List.{AllByRecursion}
 use Rattle.humantime.specs.Durations.Characters.{is_whitespace, bare_zero}
@@ -8,7 +9,7 @@ use Rattle.humantime.specs.Durations.Faults.{NumberOverflow, HasFault}
 use Rattle.humantime.specs.Laws.Texts.{AcceptedAs}
 use Rattle.humantime.proofs.Durations.Reading.OneReading.{not_zero}
 use Rattle.humantime.proofs.Durations.Reading.Spellings.{respelled, spells-append}
-use Rattle.humantime.proofs.Durations.Reading.Summed.{additions-append, value-append, within_or_beyond}
+use Rattle.humantime.proofs.Durations.Reading.Summed.{additions-append, within_or_beyond}
 use Rattle.humantime.proofs.Durations.Reading.Outcomes.{items_whole, items_decide_overflow}
 pub use Rattle.humantime.proofs.Durations.Reading.Spellings.{each-append, spells_each-append}
 use Rattle.humantime.proofs.Durations.Laws.Readings.{accepted_spans, no_value_and_fault}
@@ -54,7 +55,7 @@ no_room_overflows text spans v some h =
     )
 
 both_spans : (a b : List ℕ) (ss ts : List SpelledSpan) (u v : ℕ) → AcceptedAs a ss u → AcceptedAs b ts v → AreSpans (a ++ b) (ss ++ ts) (u + v)
-both_spans a b ss ts u v h k = grind (arith, (accepted_spans a ss u h.0 h.1), (accepted_spans b ts v k.0 k.1), front-append, each-append, value-append)
+both_spans a b ss ts u v h k = grind (arith, (accepted_spans a ss u h.0 h.1), (accepted_spans b ts v k.0 k.1), front-append, each-append, additions-append, sum_by-append)
 
 pub joined_sum : (a b : List ℕ) (ss ts : List SpelledSpan) (u v : ℕ) → AcceptedAs a ss u → AcceptedAs b ts v
     → Accepted (a ++ b) (u + v) ↔ AllHaveRoom (additions ss ++ additions ts)

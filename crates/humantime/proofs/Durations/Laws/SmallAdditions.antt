@@ -6,7 +6,7 @@ use Rattle.std.specs.List.{AllByRecursion}
 use Rattle.humantime.specs.Values.{nanos_per_second}
 use Rattle.humantime.specs.Durations.Characters.{u64_max}
 use Rattle.humantime.specs.Durations.Units.{Addition, Nanos, Seconds}
-use Rattle.humantime.specs.Durations.Accepted.{addition_nanos, total, has_room, AllHaveRoom}
+use Rattle.humantime.specs.Durations.Accepted.{addition_nanos, total, AllHaveRoom}
 use Rattle.humantime.proofs.Durations.Reading.Rooms.{room_from, room_tells}
 
 -- An addition of nanoseconds, together with the nanoseconds of any sum below a second, fits a `u64`.
@@ -14,12 +14,9 @@ abbrev pub IsSmall : Addition → Type 0
 IsSmall (Nanos n) = n + 999999999 ≤ u64_max
 IsSmall (Seconds n) = ⊤
 
-small_room : (t : ℕ) (x : Addition) (sum : ℕ) → IsSmall x → t + addition_nanos x ≤ sum → sum / nanos_per_second ≤ u64_max → has_room t x ≡ true
-small_room t x sum small below fits = grind arith
-
 room_from_small : (t : ℕ) (xs : List Addition) → AllByRecursion IsSmall xs → (t + total xs) / nanos_per_second ≤ u64_max → room_from t xs ≡ true
 room_from_small t [] small fits = grind arith
-room_from_small t (x ∷ xs) small fits = grind (arith, common_steps, small_room, (room_from_small (t + addition_nanos x) xs small.1))
+room_from_small t (x ∷ xs) small fits = grind (arith, common_steps, (room_from_small (t + addition_nanos x) xs small.1))
 
 -- Small additions do not overflow if their sum is a duration.
 pub small_have_room : (xs : List Addition) → AllByRecursion IsSmall xs → total xs / nanos_per_second ≤ u64_max → AllHaveRoom xs

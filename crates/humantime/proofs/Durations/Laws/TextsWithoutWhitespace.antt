@@ -1,12 +1,12 @@
 -- A text without its whitespace represents the same spans.
 use Rattle.std.proofs.lemmas.Grind.{common_steps}
-use Rattle.std.proofs.Common.{◌≡◌, ℕ, Bool, List, [], ◌∷◌, refl, ap, ◌∙◌, arith, rules}
+use Rattle.std.proofs.Common.{◌≡◌, ℕ, Bool, List, [], ◌∷◌, refl, ap, arith, rules}
 use Rattle.std.proofs.lemmas.Bool.{cases_Bool, or_parts}
-use Rattle.humantime.specs.Durations.Characters.{is_whitespace, is_letter, digits, bare_zero}
-use Rattle.humantime.specs.Durations.Spans.{SpelledSpan, Only, Spells, SpellsEach, Reads}
+use Rattle.humantime.specs.Durations.Characters.{is_whitespace, is_letter, digits, bare_zero, is_point}
+use Rattle.humantime.specs.Durations.Spans.{SpelledSpan, Only, Spells, SpellsEach}
 use Rattle.humantime.specs.Durations.Accepted.{Accepted, BareZero, SumOf}
 use Rattle.humantime.specs.Laws.Texts.{without_whitespace}
-use Rattle.humantime.proofs.Durations.Reading.Classes.{digit_not_whitespace, whitespace_not_digit, letter_not_whitespace, point_not_numeric, is_point-46}
+use Rattle.humantime.proofs.Durations.Reading.Classes.{digit_not_whitespace, whitespace_not_digit, letter_not_whitespace, point_not_numeric}
 use Rattle.humantime.proofs.Durations.Printing.PrintedDigits.{some_digit}
 
 -- Whitespace is removed, and each other character is kept.
@@ -16,7 +16,7 @@ only_whitespace (c ∷ cs) h = rw h.0 (only_whitespace cs h.1)
 
 only_letters : (cs : List ℕ) → Only is_letter cs → without_whitespace cs ≡ cs
 only_letters [] h = refl
-only_letters (c ∷ cs) h = rw (letter_not_whitespace c h.0) (ap (λ (l : List ℕ). c ∷ l) (only_letters cs h.1))
+only_letters (c ∷ cs) h = grind (arith, letter_not_whitespace, (only_letters cs h.1))
 
 still_only : (p : ℕ → Bool) (cs : List ℕ) → Only p cs → Only p (without_whitespace cs)
 still_only p [] h = tt
@@ -27,19 +27,13 @@ same_digits [] = refl
 same_digits (c ∷ cs) = grind (arith, (same_digits cs), (cases_Bool (is_whitespace c)), (whitespace_not_digit c))
 
 spells_span : (text rest : List ℕ) (span : SpelledSpan) → Spells text span rest → Spells (without_whitespace text) span (without_whitespace rest)
-spells_span text rest span h = grind (arith, common_steps, only_letters, only_whitespace, still_only, same_digits, digit_not_whitespace, or_parts, point_not_numeric, is_point-46)
+unfolding is_point
+spells_span text rest span h = grind (arith, common_steps, only_letters, only_whitespace, still_only, same_digits, digit_not_whitespace, or_parts, point_not_numeric)
 
 spells_each : (body : List ℕ) (spans : List SpelledSpan) → SpellsEach body spans → SpellsEach (without_whitespace body) spans
 spells_each body [] h = ap without_whitespace h
 spells_each body (s ∷ ss) h = (without_whitespace h.0, spells_span body h.0 s h.1, spells_each h.0 ss h.2)
 
--- The text without its whitespace is the same spans.
-pub reads_without_whitespace : (text : List ℕ) (spans : List SpelledSpan) → Reads text spans → Reads (without_whitespace text) spans
-reads_without_whitespace text spans h = grind (arith, common_steps, only_whitespace, spells_each)
-
-zero_without_whitespace : without_whitespace bare_zero ≡ bare_zero
-zero_without_whitespace = rw (digit_not_whitespace 48 (some_digit bare_zero (search rules) (omega arith))) refl
-
 pub accepted_without_whitespace : (text : List ℕ) (v : ℕ) → Accepted text v → Accepted (without_whitespace text) v
-accepted_without_whitespace text v (BareZero z none) = BareZero (ap without_whitespace z ∙ zero_without_whitespace) none
-accepted_without_whitespace text v (SumOf spans reads within sum) = SumOf spans (reads_without_whitespace text spans reads) within sum
+accepted_without_whitespace text v (BareZero z none) = BareZero (rw (z, digit_not_whitespace 48 (some_digit bare_zero (search rules) (omega arith))) refl) none
+accepted_without_whitespace text v (SumOf spans reads within sum) = SumOf spans (grind (arith, common_steps, only_whitespace, spells_each, reads)) within sum

@@ -1,6 +1,6 @@
 -- The counts that division computes are the greatest, and only these.
 use Rattle.std.proofs.lemmas.Grind.{common_steps}
-use Rattle.std.proofs.Common.{◌≡◌, ◌⊎◌, ℕ, suc, ◌+◌, ◌*◌, ◌/◌, ◌%◌, ◌<◌, List, [], ◌∷◌, length, refl, ap, sym, ◌∙◌, arith, nat_cmp, IsTrue}
+use Rattle.std.proofs.Common.{◌≡◌, ℕ, ◌/◌, ◌%◌, ◌<◌, List, [], ◌∷◌, length, refl, sym, ◌∙◌, arith, nat_cmp, IsTrue}
 use Rattle.std.proofs.Math.Nat.{mul_comm, div-add-mod}
 use Rattle.std.proofs.lemmas.Nat.{le-div, mod_below}
 use Rattle.std.proofs.lemmas.Bool.{cases_lt}
@@ -18,27 +18,19 @@ abbrev Reaches : List ℕ → ℕ → Type 0
 Reaches [] m = m ≡ 1
 Reaches (w ∷ ws) m = (0 < w) × Reaches ws w
 
-length-divided : (ws : List ℕ) (d : ℕ) → length (divided ws d) ≡ length ws
-length-divided [] d = refl
-length-divided (w ∷ ws) d = ap suc (length-divided ws (d % w))
-
 divided_sum : (ws : List ℕ) (m d : ℕ) → Reaches ws m → d < m → weighted_sum ws (divided ws d) ≡ d
 divided_sum [] m d r h = omega arith
 divided_sum (w ∷ ws) m d r h = grind (arith, (divided_sum ws w (d % w) r.1 (mod_below d w r.0)))
-
--- A first count is less than that of division, or is equal to it and the others have the remainder as their sum.
-first_count : (w c s d : ℕ) → 0 < w → w * c + s ≡ d → (c < d / w) ⊎ ((c ≡ d / w) × (s ≡ d % w))
-first_count w c s d h e = grind (arith, (le-div c d w h), (mul_comm w c), (div-add-mod d w), (cases_lt c (d / w)))
 
 divided_last : (ws : List ℕ) (m d : ℕ) → Reaches ws m → (others : List ℕ) → length others ≡ length ws → weighted_sum ws others ≡ d
     → IsTrue (is_le (slice_cmp nat_cmp others (divided ws d)))
 divided_last [] m d r [] l e = refl
 divided_last (w ∷ ws) m d r (c ∷ cs) l e =
-    grind (arith, nat_cmp_is, (first_count w c (weighted_sum ws cs) d r.0 e), (divided_last ws w (d % w) r.1 cs))
+    grind (arith, nat_cmp_is, (le-div c d w r.0), (mul_comm w c), (div-add-mod d w), (cases_lt c (d / w)), (divided_last ws w (d % w) r.1 cs))
 divided_last _ m d r _ l e = absurd (omega (arith, l))
 
 divided_greatest : (d : ℕ) → AreCounts d (divided weights d)
-divided_greatest d = grind (arith, common_steps, length-divided, divided_sum, divided_last)
+divided_greatest d = grind (arith, common_steps, divided_sum, divided_last)
 
 -- No other counts are the greatest.
 pub counts_divided : (d : ℕ) (counts : List ℕ) → AreCounts d counts → counts ≡ divided weights d

@@ -1,7 +1,6 @@
 -- The digits of a printed count, as a number in a text.
 use Rattle.std.proofs.Common.{◌≡◌, ℕ, ◌<◌, ◌^◌, true, List, [], ◌∷◌, length, refl, arith}
 use Rattle.std.specs.Prelude.{decimal}
-use Rattle.std.specs.Int.{IsInRange}
 use Rattle.std.specs.Str.Parse.{AllDigits}
 use Rattle.std.proofs.lemmas.Str.Parse.{digit_from_value}
 use Rattle.std.proofs.lemmas.Fmt.{decimal_is_IsNumeral}
@@ -11,16 +10,14 @@ use Rattle.humantime.specs.Durations.Characters.{is_digit, is_numeric, digits}
 use Rattle.humantime.specs.Durations.Spans.{Only}
 use Rattle.humantime.proofs.Durations.Reading.Classes.{digit_is_numeric}
 
-digit_here : (c : ℕ) → IsInRange 48 57 c → is_digit c ≡ true
-unfolding is_digit
-digit_here c h = grind (arith, nat_tests)
-
 all_digits : (ds : List ℕ) → AllDigits 10 ds → Only is_numeric ds × (digits ds ≡ ds)
+unfolding is_digit
 all_digits [] h = (h, refl)
-all_digits (c ∷ cs) h = grind (arith, digit_is_numeric, digit_here, digit_from_value, (all_digits cs h.1))
+all_digits (c ∷ cs) h = grind (arith, nat_tests, digit_is_numeric, digit_from_value, (all_digits cs h.1))
 
 pub some_digit : (ds : List ℕ) → AllDigits 10 ds → 0 < length ds → begins is_digit ds ≡ true
-some_digit ds h k = grind (arith, digit_here)
+unfolding is_digit
+some_digit ds h k = grind (arith, nat_tests)
 
 -- The digits are those of a number, whose value is `n`.
 pub record IsNumber (ds : List ℕ) (n : ℕ) : Type 0 where

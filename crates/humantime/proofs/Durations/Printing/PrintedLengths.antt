@@ -12,9 +12,6 @@ use Rattle.humantime.specs.Results.Durations.{divided, duration_text}
 use Rattle.humantime.proofs.Durations.Printing.PrintedRows.{space, sized_units, counts_of_units, sum_limit}
 use Rattle.humantime.proofs.Durations.Printing.GreatestCounts.{canon_is_text, counts_divided}
 
-abbrev suffix_length : Suffix → ℕ
-suffix_length s = length s.0 + cond s.1 1 0
-
 -- A bound for the number of digits of each count, if the remainder is less than `m`.
 abbrev Sizes : List (ℕ × Suffix) → List ℕ → ℕ → Type 0
 Sizes [] [] m = ⊤
@@ -23,7 +20,7 @@ Sizes _ _ m = ⊥
 
 -- The greatest length of this number of digits, the suffixes and a space after each.
 abbrev length_for : List (ℕ × Suffix) → List ℕ → ℕ
-length_for (u ∷ us) (k ∷ ks) = k + suffix_length u.1 + 1 + length_for us ks
+length_for (u ∷ us) (k ∷ ks) = k + (length u.1.0 + cond u.1.1 1 0) + 1 + length_for us ks
 length_for _ _ = 0
 
 -- The length with a space after each text.
@@ -35,16 +32,10 @@ join_length : (p : List ℕ) (ps : List (List ℕ)) → length (join_with_byte s
 join_length p [] = omega arith
 join_length p (q ∷ ps) = omega (arith, length-append p (space ∷ join_with_byte space (q ∷ ps)), join_length q ps)
 
-count_length : (n k : ℕ) (s : Suffix) → 0 < k → n < 10 ^ k → n < 2 ^ 64 → length (printed_count n s) ≤ k + suffix_length s
-count_length n k s some below fits = grind (arith, length-append, length-decimal-le)
-
--- The length of the counts that are not zero.
-abbrev shown_length : List (ℕ × Suffix) → ℕ
-shown_length cs = spaced_length (map (λ c. printed_count c.0 c.1) (filter (λ c. nat_lt 0 c.0) cs))
-
-counts_length : (us : List (ℕ × Suffix)) (ks : List ℕ) (m r : ℕ) → Sizes us ks m → r < m → shown_length (counts_of_units us r) ≤ length_for us ks
+counts_length : (us : List (ℕ × Suffix)) (ks : List ℕ) (m r : ℕ) → Sizes us ks m → r < m
+    → spaced_length (map (λ c. printed_count c.0 c.1) (filter (λ c. nat_lt 0 c.0) (counts_of_units us r))) ≤ length_for us ks
 counts_length (u ∷ us) (k ∷ ks) m r h below =
-    grind (arith, (div_below r u.0 (10 ^ k)), (count_length (r / u.0) k), mod_below, (counts_length us ks u.0 (r % u.0) h.4))
+    grind (arith, (div_below r u.0 (10 ^ k)), length-append, (length-decimal-le k (r / u.0)), mod_below, (counts_length us ks u.0 (r % u.0) h.4))
 counts_length _ _ m r h below = grind arith
 
 abbrev sizes : List ℕ

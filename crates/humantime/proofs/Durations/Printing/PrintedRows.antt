@@ -72,12 +72,8 @@ abbrev pub is_table : List (ℕ × Suffix) → ℕ → Bool
 is_table [] m = m == 1
 is_table (u ∷ us) m = is_word u.0 m (printed_word u.1 true) && is_word u.0 m (printed_word u.1 false) && is_table us u.0
 
-three : (a b c : Bool) → (a && b && c) ≡ true → (a ≡ true) × (b ≡ true) × (c ≡ true)
+pub three : (a b c : Bool) → (a && b && c) ≡ true → (a ≡ true) × (b ≡ true) × (c ≡ true)
 three a b c h = grind arith
-
-pub table_row : (u : ℕ × Suffix) (us : List (ℕ × Suffix)) (m : ℕ) (many : Bool) → is_table (u ∷ us) m ≡ true
-    → IsPrintedWord u.0 m (printed_word u.1 many) × (is_table us u.0 ≡ true)
-table_row u us m many h = grind (arith, is_word-true, three)
 
 -- The upper bound of durations.
 abbrev pub sum_limit : ℕ

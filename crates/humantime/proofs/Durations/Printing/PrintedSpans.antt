@@ -1,6 +1,6 @@
 -- A printed text is spans within all limits, whose sum is the duration.
 use Rattle.std.proofs.lemmas.Grind.{common_steps}
-use Rattle.std.proofs.Common.{sym, true, ◌≡◌, ℕ, ◌+◌, ◌*◌, ◌/◌, ◌%◌, ◌^◌, ◌<◌, ◌≤◌, false, List, [], ◌∷◌, ◌++◌, refl, subst, ◌∙◌, arith, rules}
+use Rattle.std.proofs.Common.{sym, true, ◌≡◌, ℕ, ◌*◌, ◌/◌, ◌%◌, ◌^◌, ◌<◌, ◌≤◌, false, List, [], ◌∷◌, ◌++◌, refl, subst, ◌∙◌, arith, rules}
 use Rattle.std.specs.Prelude.{IsAscii, codes, decimal, map, nat_lt}
 use Rattle.std.specs.Str.{IsUtf8, is_utf8, chars}
 use Rattle.std.specs.List.{AllByRecursion, filter, join_with_byte}
@@ -23,7 +23,7 @@ use Rattle.humantime.proofs.Durations.Reading.Summed.{value-cons}
 use Rattle.humantime.proofs.Durations.Laws.JoinedTexts.{each-append}
 use Rattle.humantime.proofs.Durations.Laws.SmallAdditions.{IsSmall, small_have_room}
 use Rattle.humantime.proofs.Durations.Printing.PrintedDigits.{decimal_number}
-use Rattle.humantime.proofs.Durations.Printing.PrintedRows.{space, word_for, span_for, is_of_kind, IsPrintedWord, is_word-true, sized_units, counts_of_units, is_table, table_row, table, sum_limit}
+use Rattle.humantime.proofs.Durations.Printing.PrintedRows.{space, word_for, span_for, is_of_kind, IsPrintedWord, is_word-true, sized_units, counts_of_units, is_table, table, sum_limit, three}
 use Rattle.humantime.proofs.Durations.Printing.GreatestCounts.{canon_is_text}
 
 -- The count is printed as the text of its span, which keeps all limits.
@@ -42,8 +42,8 @@ few m n x some kind below whole = grind (arith, nat_tests, mul_comm, mul_assoc)
 count_chars : (n : ℕ) (s : Suffix) → n < 2 ^ 64 → chars (printed_count n s) ≡ decimal n ++ chars (word_for n s)
 count_chars n s h = grind (arith, common_steps, IsAscii-decimal, append_assoc, chars-append, IsUtf8-from_ascii, chars-IsAscii)
 
-row : (w m n : ℕ) (s : Suffix) → IsPrintedWord w m (word_for n s) → w * n < m → w * n < sum_limit → IsRow n s × (total (additions_of (span_for n s)) ≡ w * n)
-row w m n s i below whole =
+count_row : (w m n : ℕ) (s : Suffix) → IsPrintedWord w m (word_for n s) → w * n < m → w * n < sum_limit → IsRow n s × (total (additions_of (span_for n s)) ≡ w * n)
+count_row w m n s i below whole =
     let few = few m n i.unit.one i.some i.kind (rw i.weight below) (rw i.weight whole) in
     let number = decimal_number n few.0 in
     let adds : additions_of (span_for n s) ≡ times n i.unit.one ∷ [] = grind (arith, common_steps, number.value, i.is) in
@@ -70,14 +70,10 @@ AllRows cs = AllByRecursion (λ c. IsRow c.0 c.1) cs
 abbrev AreRows : ℕ → List (ℕ × Suffix) → Type 0
 AreRows d cs = AllRows (shown cs) × (value (spans_of (shown cs)) ≡ d)
 
-rows_cons : (w q r d : ℕ) (s : Suffix) (cs : List (ℕ × Suffix)) → w * q + r ≡ d
-    → IsRow q s × (total (additions_of (span_for q s)) ≡ w * q) → AreRows r cs → AreRows d ((q, s) ∷ cs)
-rows_cons w q r d s cs e row rest = grind (arith, nat_tests, value-cons)
-
 rows : (us : List (ℕ × Suffix)) (m d : ℕ) → is_table us m ≡ true → d < m → d < sum_limit → AreRows d (counts_of_units us d)
 rows [] m d h below whole = (tt, grind (arith, nat_tests))
 rows (u ∷ us) m d h below whole =
-    grind (arith, (table_row u us m (nat_lt 1 (d / u.0)) h), (rows_cons u.0 (d / u.0) (d % u.0) d u.1 (counts_of_units us (d % u.0))), (row u.0 m (d / u.0) u.1), (mod_below d u.0), (rows us u.0 (d % u.0)))
+    grind (arith, is_word-true, three, nat_tests, value-cons, (count_row u.0 m (d / u.0) u.1), (mod_below d u.0), (rows us u.0 (d % u.0)))
 
 -- ---- the text of these spans
 
@@ -124,7 +120,7 @@ zero_accepted : Accepted (chars (codes "0s")) 0
 unfolding is_letter scale_of_word is_utf8 chars encode
 zero_accepted =
     let s : Suffix = (codes "s", false) in
-    let second = row nanos_per_second sum_limit 0 s (is_word-true nanos_per_second sum_limit (codes "s") refl) (omega arith) (omega arith) in
+    let second = count_row nanos_per_second sum_limit 0 s (is_word-true nanos_per_second sum_limit (codes "s") refl) (omega arith) (omega arith) in
     let zero : codes "0s" ≡ printed_count 0 s = rw (decimal_digit 0 (omega arith)) refl in
     subst (λ (l : List ℕ). Accepted (chars l) 0) (sym zero) (rows_accepted (0, s) [] 0 (second.0, tt) (value-cons (span_for 0 s) [] ∙ omega (arith, second.1)) (omega arith))
 

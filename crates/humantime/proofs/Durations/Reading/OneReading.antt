@@ -1,6 +1,6 @@
 -- A text is at most one list of spans, and the text `0` is none.
-use Rattle.std.proofs.Common.{◌≡◌, ◌≢◌, ℕ, List, [], ◌∷◌, length, refl, sym, ap, ◌∙◌, inl, arith, subst, append-nil, length-append}
-use Rattle.humantime.specs.Durations.Characters.{is_digit, bare_zero}
+use Rattle.std.proofs.Common.{◌≡◌, ◌≢◌, ℕ, List, [], ◌∷◌, length, refl, sym, ap, inl, arith, append-nil, length-append}
+use Rattle.humantime.specs.Durations.Characters.{bare_zero}
 use Rattle.humantime.specs.Durations.Spans.{SpelledSpan, SpellsEach, SpellsAll, Reads}
 use Rattle.std.proofs.lemmas.Grind.{common_steps}
 use Rattle.humantime.specs.Durations.Faults.{Split}
@@ -14,9 +14,8 @@ split_whole text spans h = record { whole = sym (append-nil text); spelled = h; 
 
 one_each : (body : List ℕ) (ss ts : List SpelledSpan) → SpellsEach body ss → SpellsEach body ts → ss ≡ ts
 one_each body [] [] h k = refl
-one_each body [] (t ∷ ts) h k = absurd (begins_not_nil is_digit body (each_starts body t ts k) h)
-one_each body (s ∷ ss) [] h k = absurd (begins_not_nil is_digit body (each_starts body s ss h) k)
-one_each body (s ∷ ss) (t ∷ ts) h k = grind (arith, (first_here body [] s ss h (inl refl) refl), (first_here body [] t ts k (inl refl) refl), (one_each h.0 ss ts h.2 (subst (λ x. SpellsEach x ts) (sym (append-nil k.0) ∙ sym (first_here body [] t ts k (inl refl) refl).next_is ∙ (first_here body [] s ss h (inl refl) refl).next_is ∙ append-nil h.0) k.2)))
+one_each body (s ∷ ss) (t ∷ ts) h k = grind (arith, (first_here body [] s ss h (inl refl) refl), (first_here body [] t ts k (inl refl) refl), append-nil, (one_each h.0 ss ts h.2))
+one_each body ss ts h k = grind (arith, begins_not_nil, each_starts)
 
 pub one_reading : (text : List ℕ) (ss ts : List SpelledSpan) → Reads text ss → Reads text ts → ss ≡ ts
 unfolding split_whole

@@ -9,7 +9,7 @@ use Rattle.std.proofs.lemmas.Slice.Eq.{bytes_eq-Decides}
 use Rattle.humantime.specs.Durations.Characters.{bare_zero}
 use Rattle.humantime.specs.Durations.Spans.{SpelledSpan, Reads}
 use Rattle.humantime.specs.Durations.Accepted.{value, Formed, WithinLimits, Accepted, BareZero, SumOf}
-use Rattle.humantime.specs.Durations.Faults.{span_of, Fault, NumberOverflow, Stops, BreaksLimit, HasFault}
+use Rattle.humantime.specs.Durations.Faults.{span_of, Fault, NumberOverflow, BreaksLimit, HasFault}
 use Rattle.humantime.specs.Durations.Items.{Items, items_of}
 use Rattle.humantime.specs.Laws.ExactlyOne.{ExactlyOne}
 use Rattle.humantime.specs.Laws.Outcomes.{IsOutcome}
@@ -55,10 +55,6 @@ unfolding sum_spans
 outcome_accepted text v (BareZero zero none) = rw (zero, none) duration_answer-zero
 outcome_accepted text v (SumOf spans reads within sum) = grind (arith, (outcome_summed text spans None (not_zero text spans reads) (items_whole text spans reads within.formed)), (sum_spans_within spans None within), sum)
 
-stop_outcome : (text : List ℕ) (e : Fault) (h : HasFault text e) → Stops text h.front h.spans h.rest e → duration_answer text ≡ Err e
-unfolding sum_spans
-stop_outcome text e h s = grind (arith, (outcome_summed text h.spans (Some e) h.not_zero), (sum_spans_within h.spans (Some e) h.within))
-
 -- If the span at the start of the rest breaks a limit, so do the items of the text.
 over_outcome : (text : List ℕ) (e : Fault) (h : HasFault text e) → BreaksLimit h.spans h.rest e → duration_answer text ≡ Err e
 over_outcome text e h b =
@@ -78,7 +74,8 @@ over_outcome text e h b =
     )
 
 pub outcome_fault : (text : List ℕ) (e : Fault) → HasFault text e → duration_answer text ≡ Err e
-outcome_fault text e h = grind (arith, (stop_outcome text e h), (over_outcome text e h))
+unfolding sum_spans
+outcome_fault text e h = grind (arith, (outcome_summed text h.spans (Some e) h.not_zero), (sum_spans_within h.spans (Some e) h.within), (over_outcome text e h))
 
 -- The items determine the value, the fault, and whether a limit is broken.
 value_only : (text : List ℕ) (spans : List SpelledSpan) (stop : Option Fault) (v : ℕ) → text ≢ bare_zero → Items text spans stop → duration_answer text ≡ Ok v → (stop ≡ None) × WithinLimits spans × (value spans ≡ v)
@@ -127,16 +124,12 @@ pub is_answer : (bytes : List ℕ) (r : Result ℕ DurationError) → result_vie
 is_answer bytes r e p =
     record { value = answer_accepts (chars bytes) (result_view r) e; fault = answer_faults (chars bytes) (result_view r) e; answer = e; place = p }
 
-outcome_answered : (text : List ℕ) (r : Result ℕ Fault) → IsOutcome text r → r ≡ duration_answer text
-outcome_answered text (Ok v) a = sym (outcome_accepted text v a)
-outcome_answered text (Err e) f = sym (outcome_fault text e f)
+outcome_is : (text : List ℕ) (r : Result ℕ Fault) → IsOutcome text r ↔ (r ≡ duration_answer text)
+outcome_is text (Ok v) = (λ a. sym (outcome_accepted text v a), λ h. accepted_from_outcome text v (sym h))
+outcome_is text (Err e) = (λ f. sym (outcome_fault text e f), λ h. fault_from_outcome text e (sym h))
 
-answered_outcome : (text : List ℕ) (r : Result ℕ Fault) → duration_answer text ≡ r → IsOutcome text r
-answered_outcome text (Ok v) h = accepted_from_outcome text v h
-answered_outcome text (Err e) h = fault_from_outcome text e h
-
-pub one_outcome : (text : List ℕ) → ExactlyOne (IsOutcome text)
-one_outcome text = (duration_answer text, answered_outcome text (duration_answer text) refl, outcome_answered text)
+pub exactly_one_outcome : (text : List ℕ) → ExactlyOne (IsOutcome text)
+exactly_one_outcome text = (duration_answer text, (outcome_is text (duration_answer text)).1 refl, λ r. (outcome_is text r).0)
 
 pub one_list_of_items : (text : List ℕ) → ExactlyOne (λ (list : List SpelledSpan × Option Fault). Items text list.0 list.1)
 one_list_of_items text = (items text, items_found text, λ list h. sym (items_walked text list.0 list.1 h))

@@ -29,9 +29,7 @@ room_from-append t (x ∷ xs) ys = grind (arith, common_steps, (room_from-append
 -- If each addition fits after those before it, they can be added one by one.
 from_each : (before xs : List Addition) → AllHaveRoom (before ++ xs) → room_from (total before) xs ≡ true
 from_each before [] h = refl
-from_each before (x ∷ xs) h =
-    let more = rw (sum_by_push addition_nanos before x) at (from_each (before ++ x ∷ []) xs (rw append_assoc h)) in
-    grind (arith, (h before xs x refl), more)
+from_each before (x ∷ xs) h = grind (arith, append_assoc, (sum_by_push addition_nanos before x), (from_each (before ++ x ∷ []) xs), (h before xs x))
 
 pub room_tells : (xs : List Addition) → Decides (room_from 0 xs) (AllHaveRoom xs)
 room_tells xs = (λ h before after x e. grind (arith, common_steps, (room_from-append 0 before (x ∷ after))), from_each [] xs)

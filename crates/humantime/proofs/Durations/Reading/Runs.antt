@@ -24,13 +24,11 @@ begins_take_while p q cs h k = grind arith
 
 -- A prefix that passes the test, followed by a text that does not begin with such a character.
 pub take_while-append : (p : ℕ → Bool) (xs ys : List ℕ) → Only p xs → begins p ys ≡ false → take_while p (xs ++ ys) ≡ xs
-take_while-append p [] [] h e = refl
-take_while-append p [] (y ∷ ys) h e = rw e
+take_while-append p [] ys h e = grind arith
 take_while-append p (x ∷ xs) ys h e = rw (h.0) (ap (λ (l : List ℕ). x ∷ l) (take_while-append p xs ys h.1 e))
 
 pub drop_while-append : (p : ℕ → Bool) (xs ys : List ℕ) → Only p xs → begins p ys ≡ false → drop_while p (xs ++ ys) ≡ ys
-drop_while-append p [] [] h e = refl
-drop_while-append p [] (y ∷ ys) h e = rw e
+drop_while-append p [] ys h e = grind arith
 drop_while-append p (x ∷ xs) ys h e = rw (h.0) (drop_while-append p xs ys h.1 e)
 
 pub drop_while_shorter : (p : ℕ → Bool) (cs : List ℕ) → length (drop_while p cs) ≤ length cs
@@ -47,8 +45,7 @@ letters_begin cs h = grind arith
 
 pub ends_Only : (p : ℕ → Bool) (cs : List ℕ) → Only p cs → cs ≢ [] → ends p cs ≡ true
 ends_Only p [] h some = absurd (some refl)
-ends_Only p (c ∷ []) h some = h.0
-ends_Only p (c ∷ d ∷ cs) h some = ends_Only p (d ∷ cs) h.1 (λ e. cc)
+ends_Only p (c ∷ cs) h some = grind (arith, (ends_Only p cs h.1))
 
 -- A text that begins with a character of one class does not begin with one of another.
 pub begins_other : (p q : ℕ → Bool) → ((c : ℕ) → p c ≡ true → q c ≡ false) → (cs : List ℕ) → begins p cs ≡ true → begins q cs ≡ false
@@ -56,8 +53,7 @@ begins_other p q h cs k = grind arith
 
 pub ends_other : (p q : ℕ → Bool) → ((c : ℕ) → p c ≡ true → q c ≡ false) → (cs : List ℕ) → ends p cs ≡ true → ends q cs ≡ false
 ends_other p q other [] e = refl
-ends_other p q other (c ∷ []) e = other c e
-ends_other p q other (c ∷ d ∷ cs) e = ends_other p q other (d ∷ cs) e
+ends_other p q other (c ∷ cs) e = grind (arith, other, (ends_other p q other cs))
 
 -- A text begins like its first part, and ends like its last part.
 pub begins-append : (p : ℕ → Bool) (xs ys : List ℕ) → xs ≢ [] → begins p (xs ++ ys) ≡ begins p xs

@@ -3,7 +3,6 @@ use Rattle.std.proofs.Common.{◌≡◌, ◌≤◌, ◌<◌, ◌+◌, ◌*◌, �
 use Rattle.std.specs.Prelude.{◌==◌}
 use Rattle.std.specs.Char.{digit_value}
 use Rattle.std.specs.Str.Parse.{digits_value_after}
-use Rattle.std.proofs.lemmas.Bool.{eqb-true}
 use Rattle.std.proofs.lemmas.Grind.{common_steps}
 use Rattle.std.proofs.lemmas.Nat.{pow-add}
 use Rattle.std.proofs.lemmas.Nat.Gcd.{dvd_of_mod-eq-zero, mod-eq-zero_of_dvd}
@@ -50,29 +49,23 @@ significant_shorter ds = omega (arith, length-reverse (drop_while is_zero (rever
 
 -- ---- trailing zeros only change a power of ten
 
-pub value-append : (v : ℕ) (ds es : List ℕ) → digits_value_after 10 v (ds ++ es) ≡ digits_value_after 10 (digits_value_after 10 v ds) es
-value-append v [] es = refl
-value-append v (d ∷ ds) es = value-append (v * 10 + digit_value d) ds es
+pub digits_value-append : (v : ℕ) (ds es : List ℕ) → digits_value_after 10 v (ds ++ es) ≡ digits_value_after 10 (digits_value_after 10 v ds) es
+digits_value-append v [] es = refl
+digits_value-append v (d ∷ ds) es = digits_value-append (v * 10 + digit_value d) ds es
 
 zeros_value : (v : ℕ) (zs : List ℕ) → Only is_zero zs → digits_value_after 10 v (reverse zs) ≡ v * 10 ^ length zs
 zeros_value v [] only = omega arith
-zeros_value v (z ∷ zs) only =
-    let turned : reverse (z ∷ zs) ≡ reverse zs ++ z ∷ [] = reverse-append (z ∷ []) zs in
-    rw (turned, value-append v (reverse zs) (z ∷ []), zeros_value v zs only.1, eqb-true z 48 only.0, pow-suc 10 (length zs))
-    (omega (arith, mul_assoc v (10 ^ length zs) 10))
+zeros_value v (z ∷ zs) only = grind (arith, (reverse-append (z ∷ []) zs), digits_value-append, (zeros_value v zs only.1), (pow-suc 10 (length zs)), (mul_assoc v (10 ^ length zs) 10))
 
 zeros_count : (ds : List ℕ) → length ds ≡ length (without_trailing_zeros ds) + length (zeros_of ds)
 zeros_count ds = omega (arith, ap length (significant_and_zeros ds), length-append (without_trailing_zeros ds) (reverse (zeros_of ds)), length-reverse (zeros_of ds))
 
 -- Each trailing zero multiplies the value by ten.
 pub value_shifted : (ds : List ℕ) (z : ℕ) → length ds ≡ length (without_trailing_zeros ds) + z → decimal_value ds ≡ decimal_value (without_trailing_zeros ds) * 10 ^ z
-value_shifted ds z count = grind (arith, zeros_count, (significant_and_zeros ds), value-append, zeros_value, Only-take_while)
+value_shifted ds z count = grind (arith, zeros_count, (significant_and_zeros ds), digits_value-append, zeros_value, Only-take_while)
 
 product_shifted : (f : ℕ) (ds : List ℕ) → decimal_value ds * f ≡ decimal_value (without_trailing_zeros ds) * f * 10 ^ length (zeros_of ds)
 product_shifted f ds = grind (arith, value_shifted, zeros_count, mul_right_comm)
-
-power_shifted : (ds : List ℕ) → 10 ^ length ds ≡ 10 ^ length (without_trailing_zeros ds) * 10 ^ length (zeros_of ds)
-power_shifted ds = ap (λ (n : ℕ). 10 ^ n) (zeros_count ds) ∙ pow-add 10 (length (without_trailing_zeros ds)) (length (zeros_of ds))
 
 -- A whole part stays a whole part, with the same value.
 pub whole_part_kept : (f : ℕ) (ds : List ℕ) → is_whole_part f ds ≡ true → is_whole_part f (without_trailing_zeros ds) ≡ true
@@ -81,8 +74,8 @@ whole_part_kept f ds h =
     let kept = decimal_value (without_trailing_zeros ds) * f in
     let some : 0 < by = one-le-pow (length (zeros_of ds)) 10 (omega arith) in
     let parts : (decimal_value ds * f ≤ 18446744073709551615) × (decimal_value ds * f % 10 ^ length ds ≡ 0) = grind (arith, common_steps) in
-    let rest : kept * by % (10 ^ length (without_trailing_zeros ds) * by) ≡ 0 = rw (← product_shifted f ds, ← power_shifted ds) parts.1 in
+    let rest : kept * by % (10 ^ length (without_trailing_zeros ds) * by) ≡ 0 = rw (← product_shifted f ds, ← pow-add 10 (length (without_trailing_zeros ds)) (length (zeros_of ds)), ← zeros_count ds) parts.1 in
     grind (arith, common_steps, (mod-eq-zero_of_dvd _ (dvd_of_mul-dvd-mul_right (10 ^ length (without_trailing_zeros ds)) some (dvd_of_mod-eq-zero _ rest))), (le-mul_of_pos_right kept some), (product_shifted f ds), parts)
 
 pub amount_kept : (f : ℕ) (ds : List ℕ) → decimal_value ds * f / 10 ^ length ds ≡ decimal_value (without_trailing_zeros ds) * f / 10 ^ length (without_trailing_zeros ds)
-amount_kept f ds = grind (arith, product_shifted, power_shifted, mul-div-mul_right, one-le-pow)
+amount_kept f ds = grind (arith, product_shifted, zeros_count, pow-add, mul-div-mul_right, one-le-pow)

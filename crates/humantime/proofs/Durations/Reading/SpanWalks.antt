@@ -32,11 +32,9 @@ by_walk text P s first rest = by_count (length rest) text P s first rest (omega 
 -- As many steps as the rest has characters are enough.
 enough : (n m : ℕ) (first : Bool) (text rest : List ℕ) → length rest ≤ n → length rest ≤ m → walk n first text rest ≡ walk m first text rest
 unfolding walk
-enough n m first text [] h k = refl
-enough zero m first text (c ∷ cs) h k = absurd (omega arith)
-enough (suc n) zero first text (c ∷ cs) h k = absurd (omega arith)
 enough (suc n) (suc m) first text (c ∷ cs) h k =
     grind (arith, (enough n m false text (next_of (c ∷ cs))), (next_smaller (c ∷ cs)), (right_begins text (c ∷ cs)))
+enough n m first text rest h k = grind arith
 
 pub walk-end : (first : Bool) (text : List ℕ) → walk_from first text [] ≡ empty_walk [] (if first then Some Empty else None)
 unfolding walk

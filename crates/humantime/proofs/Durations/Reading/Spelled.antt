@@ -1,12 +1,13 @@
 -- The parser recovers a span from its spelling, by the longest runs of characters.
+use Rattle.std.proofs.lemmas.Bool.Decides.{nat_tests}
 use Rattle.std.specs.Prelude.{option_map, unwrap_or}
 use Rattle.std.proofs.Common.{◌≡◌, ◌≢◌, ◌⊎◌, ℕ, ◌≤◌, ◌<◌, true, false, List, [], ◌∷◌, ◌++◌, length, Option, Some, ap, ◌∙◌, arith, append_assoc, append-nil}
 use Rattle.humantime.specs.Texts.{take_while, drop_while, begins, ends}
-use Rattle.humantime.specs.Durations.Characters.{is_whitespace, is_digit, is_letter, is_numeric}
+use Rattle.humantime.specs.Durations.Characters.{is_whitespace, is_digit, is_letter, is_numeric, is_point}
 use Rattle.humantime.specs.Durations.Spans.{SpelledSpan, Only, SpellsFraction, Spells}
 use Rattle.humantime.specs.Durations.Faults.{number_of, after_number, after_point, fraction_of, after_fraction, after_word, span_of}
 use Rattle.humantime.specs.Results.Walks.{ends_span}
-use Rattle.humantime.proofs.Durations.Reading.Classes.{letter_not_numeric, letter_not_point, letter_not_whitespace, whitespace_is_numeric, point_not_numeric, is_point-46}
+use Rattle.humantime.proofs.Durations.Reading.Classes.{letter_not_whitespace, whitespace_is_numeric, point_not_numeric}
 use Rattle.humantime.proofs.Durations.Reading.Spellings.{spells_alone}
 use Rattle.humantime.proofs.Durations.Reading.Runs.{take_while-append, drop_while-append, drop_while_shorter, begins-append, begins_not_nil, letters_begin, ends_Only, ends_other, ends-append}
 
@@ -27,7 +28,8 @@ begins_word w t e = begins-append is_letter w t (begins_not_nil is_letter w e) �
 
 fraction_read : (b tail : List ℕ) (o : Option (List ℕ)) → SpellsFraction b o → begins is_letter tail ≡ true
     → (begins is_numeric (b ++ tail) ≡ false) × (option_map number_of (after_point (b ++ tail)) ≡ o) × (unwrap_or (option_map after_number (after_point (b ++ tail))) (b ++ tail) ≡ tail) × (o ≢ Some [])
-fraction_read b tail o h e = grind (arith, letter_not_point, letter_not_numeric, point_not_numeric, is_point-46, take_while-append, drop_while-append)
+unfolding is_letter is_point is_digit
+fraction_read b tail o h e = grind (arith, nat_tests, letter_not_whitespace, point_not_numeric, take_while-append, drop_while-append)
 
 -- The number and the fraction before a word are parsed as these.
 pub record IsReadToWord (rest number_text fraction_text tail : List ℕ) (fraction : Option (List ℕ)) : Type 0 where
@@ -56,13 +58,13 @@ followed a b word (x ∷ xs) here next whole only some whitespace o = whitespace
 
 -- A spelling is the span at its start, if its word ends with it.
 pub spelled_here : (here next : List ℕ) (s : SpelledSpan) → Spells here s [] → (ends_span next ≡ true) ⊎ (ends is_whitespace here ≡ true) → begins is_whitespace next ≡ false → IsSpelledAt (here ++ next) s next
+unfolding is_digit is_letter
 spelled_here here next s h o no_whitespace =
     let letter = letters_begin s.word h.word in
     let f : ends_span (h.whitespace ++ next) ≡ true = followed h.number_text h.fraction_text s.word h.whitespace here next (spells_alone here s h) h.word.0 letter h.only_whitespace o in
-    let stops : begins is_letter (h.whitespace ++ next) ≡ false = grind (arith, letter_not_numeric) in
-    let cut = drop_while-append is_whitespace h.whitespace next h.only_whitespace no_whitespace in
+    let stops : begins is_letter (h.whitespace ++ next) ≡ false = grind (arith, letter_not_whitespace, nat_tests) in
     rw (spelling_parts here next s h)
-    (grind (arith, (f), (stops), (letter), (cut), begins-append, begins_not_nil, take_while-append, drop_while-append, fraction_read))
+    (grind (arith, (f), (stops), (letter), begins-append, begins_not_nil, take_while-append, drop_while-append, fraction_read))
 
 fraction_shorter : (cs : List ℕ) → length (unwrap_or (option_map after_number (after_point cs)) cs) ≤ length cs
 fraction_shorter cs = grind (arith, drop_while_shorter)

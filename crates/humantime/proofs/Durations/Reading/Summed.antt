@@ -1,6 +1,6 @@
 -- The sum of spans by the reference, and whether they are within the limits.
 use Rattle.std.proofs.lemmas.Grind.{flat_map-append}
-use Rattle.std.proofs.Common.{true, ◌≡◌, ◌⊎◌, ℕ, ◌+◌, List, [], ◌∷◌, ◌++◌, Option, Some, None, Result, Ok, Err, map, refl, ap, ◌∙◌, arith}
+use Rattle.std.proofs.Common.{true, ◌≡◌, ◌⊎◌, ℕ, ◌+◌, List, [], ◌∷◌, ◌++◌, Option, Some, None, Result, Ok, Err, map, refl, arith}
 use Rattle.std.specs.Prelude.{Bool, ◌&&◌, if◌then◌else◌}
 use Rattle.std.specs.Bool.{Decides}
 use Rattle.std.specs.List.{AllByRecursion}
@@ -22,9 +22,6 @@ value-cons s ss = sum_by-append addition_nanos (additions_of s) (additions ss)
 
 pub additions-append : (ss ts : List SpelledSpan) → additions (ss ++ ts) ≡ additions ss ++ additions ts
 additions-append ss ts = flat_map-append additions_of ss ts
-
-pub value-append : (ss ts : List SpelledSpan) → value (ss ++ ts) ≡ value ss + value ts
-value-append ss ts = ap total (additions-append ss ts) ∙ sum_by-append addition_nanos (additions ss) (additions ts)
 
 -- Spans within the limits are added to the sum. Other spans are an overflow.
 sum_spans-is : (t : ℕ) (ss : List SpelledSpan) (items : List (Result SpelledSpan Fault))

@@ -51,9 +51,6 @@ abbrev pub first_after : Bool → List SpelledSpan → Bool
 first_after first [] = first
 first_after first (s ∷ ss) = false
 
-none_first : (spans : List SpelledSpan) → first_after false spans ≡ false
-none_first spans = grind arith
-
 -- These spans, followed by those of a walk.
 abbrev pub followed_by : List SpelledSpan → Walk → List SpelledSpan × Option Fault
 followed_by spans w = (spans ++ map span_of w.starts, w.stop)
@@ -65,9 +62,9 @@ through text body rest first [] h f o e = rw h refl
 through text body rest first (s ∷ ss) h f (inl o) e = cc
 through text body rest first (s ∷ ss) h f (inr o) e =
     let p = apart body h.0 s h.1 in
-    let more = rw (none_first ss) at (through text h.0 rest false ss h.2 f.1 (closes_more p.here h.0 rest ss h.2 (inr (rw p.whole at o))) e) in
+    let more = (through text h.0 rest false ss h.2 f.1 (closes_more p.here h.0 rest ss h.2 (inr (rw p.whole at o))) e) in
     let i = first_here body rest s ss h o e in
-    grind (arith, (i), (more), (walk-right first text (body ++ rest) (fine_goes text (body ++ rest) (grind arith))))
+    grind (arith, (i), more, (walk-right first text (body ++ rest) (fine_goes text (body ++ rest) (grind arith))))
 
 -- The front of a split begins after the leading whitespace.
 pub front_begins : (text front rest : List ℕ) (spans : List SpelledSpan) (h : Split text front spans rest) → drop_while is_whitespace text ≡ h.spelled.body ++ rest

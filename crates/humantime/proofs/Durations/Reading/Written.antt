@@ -1,5 +1,5 @@
 -- A rest that begins with a well-formed span is a spelling of that span followed by the text after it.
-use Rattle.std.specs.Prelude.{option_map, unwrap_or}
+use Rattle.std.specs.Prelude.{option_map}
 use Rattle.std.proofs.Common.{◌≡◌, ◌≢◌, ℕ, ◌<◌, true, false, List, [], ◌∷◌, ◌++◌, length, Some, if◌then◌else◌, arith, append-nil}
 use Rattle.humantime.specs.Texts.{take_while, begins, ends}
 use Rattle.humantime.specs.Durations.Characters.{is_whitespace, is_digit, is_point, is_numeric}
@@ -24,9 +24,6 @@ abbrev pub point_and_digits : List ℕ → List ℕ
 point_and_digits [] = []
 point_and_digits (c ∷ cs) = if is_point c then c ∷ take_while is_numeric cs else []
 
-fraction_text-append : (cs : List ℕ) → cs ≡ point_and_digits cs ++ unwrap_or (option_map after_number (after_point cs)) cs
-fraction_text-append cs = grind (arith, take_while-drop_while)
-
 fraction_spelled : (m : List ℕ) → option_map number_of (after_point m) ≢ Some [] → SpellsFraction (point_and_digits m) (option_map number_of (after_point m))
 unfolding is_point
 fraction_spelled m some = grind (arith, Only-take_while, nat_tests)
@@ -40,7 +37,7 @@ written_here rest h =
     let some = some_letters (word_of rest) h.unit in (
       take_while is_numeric rest ++ (point_and_digits (after_number rest) ++ (word_of rest ++ take_while is_whitespace (after_word rest))),
       record {
-        whole = (grind (arith, common_steps, take_while-drop_while, fraction_text-append));
+        whole = grind (arith, common_steps, take_while-drop_while);
         spells = (grind (arith, append-nil, Only-take_while, begins_take_while, digit_is_numeric, fraction_spelled, (some), (h)));
         closes = λ more e. (grind (arith, ends-append, ends_Only, Only-take_while, ((ends_tells (after_word rest)).1 h.ended), (more), (e)));
       },

@@ -13,7 +13,7 @@ use Rattle.humantime.proofs.Durations.Reading.Found.{items_found_at}
 use Rattle.humantime.proofs.Durations.Reading.Outcomes.{items_walked, duration_answer-items}
 use Rattle.humantime.proofs.Durations.Reading.SpanWalks.{Steps, by_walk}
 use Rattle.humantime.proofs.Durations.Reading.Stopping.{is_fine}
-use Rattle.humantime.proofs.Durations.Slices.SlicesFound.{one_each}
+use Rattle.humantime.proofs.Durations.Slices.SlicesFound.{one_view_each}
 use Rattle.humantime.proofs.Durations.Slices.SpanSlices.{is_span_view}
 use Rattle.humantime.proofs.Durations.Reading.Spelled.{next_of}
 use Rattle.humantime.proofs.Durations.Bytes.Trimming.{spelled_at}
@@ -54,7 +54,7 @@ are_items text =
 pub one_span_view : (text : List ℕ) (others : List (Result SpanView Fault)) → AreItems text others → others ≡ item_views text
 one_span_view text others o =
     let a = are_items text in
-    grind (arith, (items_walked text o.spans o.stop o.items), (items_walked text a.spans a.stop a.items), one_each, a)
+    grind (arith, (items_walked text o.spans o.stop o.items), (items_walked text a.spans a.stop a.items), one_view_each, a)
 
 -- If an error is the first item, it is the result of parsing.
 pub first_error_answers : (text : List ℕ) (listed others : List (Result SpanView Fault)) (e : Fault) → AreItems text listed

@@ -57,12 +57,12 @@ one_span : (text rest : List ℕ) (s : SpelledSpan) (x y : SpanView) (m n : List
 one_span text rest s x y m n h k = grind (arith, common_steps, (slices_found text rest s x m h), (slices_found text rest s y n k), (append_cancel_left x.unit (h.spelled.whitespace ++ m) (k.spelled.whitespace ++ n) (sym (slices_found text rest s x m h).left ∙ (slices_found text rest s y n k).left ∙ ap (λ (w : List ℕ). w ++ (k.spelled.whitespace ++ n)) (sym (h.unit ∙ sym k.unit)))))
 
 -- A list of spans has exactly one list of views, whatever whitespace precedes the rest of the text.
-pub one_each : (text p q m n : List ℕ) (spans : List SpelledSpan) (xs ys : List SpanView) (d e : List ℕ) → Only is_whitespace p → Only is_whitespace q → p ++ m ≡ q ++ n → AreSpanViews text m spans xs d → AreSpanViews text n spans ys e → xs ≡ ys
-one_each text p q m n (s ∷ ss) (x ∷ xs) (y ∷ ys) d e o u w h k =
+pub one_view_each : (text p q m n : List ℕ) (spans : List SpelledSpan) (xs ys : List SpanView) (d e : List ℕ) → Only is_whitespace p → Only is_whitespace q → p ++ m ≡ q ++ n → AreSpanViews text m spans xs d → AreSpanViews text n spans ys e → xs ≡ ys
+one_view_each text p q m n (s ∷ ss) (x ∷ xs) (y ∷ ys) d e o u w h k =
     let r : m ≡ n = sym (next_is p m o (grind arith)) ∙ ap (drop_while is_whitespace) w ∙ next_is q n u (grind arith) in
     let l : IsSpanView text m s y k.0 = subst (λ (z : List ℕ). IsSpanView text z s y k.0) (sym r) k.1 in
     let one = one_span text m s x y h.0 k.0 h.1 l in
     let p = h.1.spelled in
     let q = l.spelled in
-    ap₂ (λ (z : SpanView) (zs : List SpanView). z ∷ zs) one.0 (one_each text p.whitespace q.whitespace h.0 k.0 ss xs ys d e p.only_whitespace q.only_whitespace one.1 h.2 k.2)
-one_each text p q m n spans xs ys d e o u w h k = grind arith
+    ap₂ (λ (z : SpanView) (zs : List SpanView). z ∷ zs) one.0 (one_view_each text p.whitespace q.whitespace h.0 k.0 ss xs ys d e p.only_whitespace q.only_whitespace one.1 h.2 k.2)
+one_view_each text p q m n spans xs ys d e o u w h k = grind arith

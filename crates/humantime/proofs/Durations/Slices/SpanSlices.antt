@@ -1,13 +1,12 @@
 -- The view of the span at the start of a rest.
 use Rattle.std.proofs.lemmas.Grind.{common_steps}
-use Rattle.std.specs.Prelude.{option_map, unwrap_or}
-use Rattle.std.proofs.Common.{◌≡◌, ◌≢◌, ℕ, Bool, true, false, List, [], ◌∷◌, ◌++◌, Option, refl, sym, ap, subst, ◌∙◌, ◌<◌, ◌≤◌, arith}
+use Rattle.std.proofs.Common.{◌≡◌, ◌≢◌, ℕ, Bool, true, false, List, [], ◌∷◌, ◌++◌, Option, refl, sym, ap, subst, ◌∙◌, ◌<◌, arith}
 use Rattle.std.proofs.lemmas.List.{append_cancel_left}
 use Rattle.std.proofs.lemmas.Str.{encodes-append, length-le-encodes}
 use Rattle.humantime.specs.Texts.{begins, take_while, drop_while}
 use Rattle.humantime.specs.Durations.Characters.{is_whitespace, is_digit, is_letter, is_numeric, digits, byte_length, offset_of}
 use Rattle.humantime.specs.Durations.Spans.{Only, SpellsFraction, Spells}
-use Rattle.humantime.specs.Durations.Faults.{after_number, after_point, fraction_of, after_fraction, word_of, after_word, span_of, BeginsSpan}
+use Rattle.humantime.specs.Durations.Faults.{fraction_of, after_fraction, word_of, after_word, span_of, BeginsSpan}
 use Rattle.humantime.specs.Results.Items.{trimmed, number_slice, fraction_slice, view_at}
 use Rattle.humantime.specs.Durations.Items.{IsDigitSlice, IsFractionView, IsSpanView}
 use Rattle.humantime.proofs.Durations.Reading.Classes.{digit_is_numeric}
@@ -16,9 +15,6 @@ use Rattle.humantime.proofs.Durations.Reading.Spelled.{next_of, begins_word, rea
 use Rattle.humantime.proofs.Durations.Reading.Spellings.{spells-append}
 use Rattle.humantime.proofs.Durations.Reading.Written.{written_here}
 use Rattle.humantime.proofs.Durations.Bytes.Trimming.{dropped, digits_drop_while, digit_slice, no_slice, slice_after_point}
-
-fewer_bytes : (cs : List ℕ) → byte_length (unwrap_or (option_map after_number (after_point cs)) cs) ≤ byte_length cs
-fewer_bytes cs = grind (arith, common_steps, (take_while-drop_while is_numeric), encodes-append)
 
 Only-drop_while : (p q : ℕ → Bool) (cs : List ℕ) → Only p cs → Only p (drop_while q cs)
 Only-drop_while p q [] o = tt
@@ -39,7 +35,7 @@ fraction_is_viewed b tail o h k = grind (arith, no_slice, slice_after_point, tri
 pub next_bytes : (rest : List ℕ) → begins is_digit rest ≡ true → byte_length (after_word rest) < byte_length rest
 next_bytes rest b =
     let some = begins_some is_digit (take_while is_numeric rest) (begins_take_while is_digit is_numeric rest b digit_is_numeric) in
-    grind (arith, common_steps, (take_while-drop_while is_numeric rest), (fewer_bytes (after_number rest)), (take_while-drop_while is_letter (after_fraction rest)), encodes-append, length-le-encodes)
+    grind (arith, common_steps, (take_while-drop_while is_numeric rest), (take_while-drop_while is_numeric), encodes-append, (take_while-drop_while is_letter (after_fraction rest)), length-le-encodes)
 
 -- The slices of a well-formed span at the start of a rest tile it up to the next number.
 pub is_span_view : (text rest : List ℕ) → BeginsSpan rest → IsSpanView text rest (span_of rest) (view_at text rest) (next_of rest)

@@ -7,10 +7,10 @@ use Rattle.humantime.specs.Timestamps.Fields.{Fields, IsWeak, IsStrict, IsWeakMo
 use Rattle.humantime.specs.Timestamps.Checks.{has_t_and_zone, weak_checks, strict_checks, first_failed}
 use Rattle.humantime.specs.Results.Timestamps.{moment_at, weak_answer, strict_answer, moment_or_error}
 use Rattle.humantime.specs.Laws.Timestamps.{OneTimestamp, IsMarked}
-use Rattle.humantime.proofs.Timestamps.Reading.Checks.{fields_of, moment_of_fields}
+use Rattle.humantime.proofs.Timestamps.Reading.Checks.{fields_of, part_digits}
 use Rattle.humantime.proofs.Timestamps.Reading.Shown.{fields_weak}
 use Rattle.humantime.proofs.Timestamps.Reading.Passed.{weak_fields}
-use Rattle.humantime.proofs.Timestamps.Laws.StrictForm.{strict_is_weak, strict_checked}
+use Rattle.humantime.proofs.Timestamps.Laws.StrictForm.{strict_is_marked_weak, strict_checked}
 
 -- If no check fails, the text represents exactly the parts at their positions.
 abbrev AreDecided : List ℕ → List (Bool × TimestampError) → (Fields → Type 0) → Type 0
@@ -19,13 +19,10 @@ AreDecided bytes checks IsShown = (f : Fields) → IsShown f ↔ ((first_failed 
 weak_checks_decide : (bytes : List ℕ) → AreDecided bytes (weak_checks bytes) (IsWeak bytes)
 weak_checks_decide bytes f = (weak_fields bytes f, λ h. rw h.1 (fields_weak bytes h.0))
 
-strict_checks_decide : (bytes : List ℕ) → AreDecided bytes (strict_checks bytes) (IsStrict bytes)
-strict_checks_decide bytes f = grind (arith, (strict_checked bytes f), (weak_checks_decide bytes f))
-
 -- Therefore the result by the checks is the one outcome.
 outcome_of_checks : (bytes : List ℕ) (checks : List (Bool × TimestampError)) (IsShown : Fields → Type 0) → AreDecided bytes checks IsShown
     → OneTimestamp checks IsShown (moment_or_error (first_failed checks) (moment_at bytes))
-outcome_of_checks bytes checks IsShown decided = grind (arith, moment_of_fields, decided, (decided (fields_of bytes)))
+outcome_of_checks bytes checks IsShown decided = grind (arith, part_digits, decided, (decided (fields_of bytes)))
 
 pub weak_outcome : (bytes : List ℕ) → OneTimestamp (weak_checks bytes) (IsWeak bytes) (weak_answer bytes)
 unfolding weak_answer
@@ -33,7 +30,7 @@ weak_outcome bytes = outcome_of_checks bytes (weak_checks bytes) (IsWeak bytes) 
 
 pub strict_outcome : (bytes : List ℕ) → OneTimestamp (strict_checks bytes) (IsStrict bytes) (strict_answer bytes)
 unfolding strict_answer
-strict_outcome bytes = outcome_of_checks bytes (strict_checks bytes) (IsStrict bytes) (strict_checks_decide bytes)
+strict_outcome bytes = outcome_of_checks bytes (strict_checks bytes) (IsStrict bytes) (λ f. grind (arith, (strict_checked bytes f), (weak_checks_decide bytes f)))
 
 -- The result of the strict form, by its own check.
 pub strict_by_marks : (bytes : List ℕ) → (if has_t_and_zone bytes then weak_answer bytes else Err InvalidFormat) ≡ strict_answer bytes
@@ -41,4 +38,4 @@ unfolding weak_answer strict_answer
 strict_by_marks bytes = grind arith
 
 pub strict_moment_is_weak : (bytes : List ℕ) (t : ℤ) → IsStrictMoment bytes t ↔ (IsWeakMoment bytes t × IsMarked bytes)
-strict_moment_is_weak bytes t = ((λ m. grind (arith, (strict_is_weak bytes m.0))), (λ p. grind (arith, (strict_is_weak bytes p.0.0))))
+strict_moment_is_weak bytes t = ((λ m. grind (arith, (strict_is_marked_weak bytes m.0))), (λ p. grind (arith, (strict_is_marked_weak bytes p.0.0))))

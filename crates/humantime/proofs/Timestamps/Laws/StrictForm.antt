@@ -13,10 +13,10 @@ zone_by_end bytes f w =
     let found = zone_found (date_time_text f ++ fraction_text f.fraction) f.zone (holds_before_zone IsPlain plain_bytes bytes f w) in
     rw (← some_zone bytes, ap zone_of w.text ∙ found) (grind (arith, common_steps))
 
-pub strict_is_weak : (bytes : List ℕ) (f : Fields) → IsStrict bytes f ↔ (IsWeak bytes f × IsMarked bytes)
-strict_is_weak bytes f = grind (arith, zone_by_end)
+pub strict_is_marked_weak : (bytes : List ℕ) (f : Fields) → IsStrict bytes f ↔ (IsWeak bytes f × IsMarked bytes)
+strict_is_marked_weak bytes f = grind (arith, zone_by_end)
 
 -- The check of the strict form.
 pub strict_checked : (bytes : List ℕ) (f : Fields) → IsStrict bytes f ↔ ((has_t_and_zone bytes ≡ true) × IsWeak bytes f)
 unfolding has_t_and_zone
-strict_checked bytes f = grind (arith, strict_is_weak)
+strict_checked bytes f = grind (arith, strict_is_marked_weak)

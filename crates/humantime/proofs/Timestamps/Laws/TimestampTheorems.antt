@@ -37,7 +37,7 @@ pub strict_is_weak : (text : List ℕ) → StrictForm text
 strict_is_weak text =
     let law = read.strict_moment_is_weak text in
     record {
-      parts = strict.strict_is_weak text;
+      parts = strict.strict_is_marked_weak text;
       moment = law;
       weak = λ t given. weak_read text t ((law t).0 (((read.strict_outcome text).value t).0 given)).0;
       marked = λ t given. ((law t).0 (((read.strict_outcome text).value t).0 given)).1;
@@ -50,9 +50,6 @@ strict_is_weak text =
 printed_read : (t : ℤ) (k : ℕ) (text : List ℕ) → IsPrinted t k text → strict_answer text ≡ Ok (cut t k)
 printed_read t k text printed = strict_read text (cut t k) (printed_reads t k text printed).strict
 
-printed_read_weak : (t : ℤ) (k : ℕ) (text : List ℕ) → IsPrinted t k text → weak_answer text ≡ Ok (cut t k)
-printed_read_weak t k text printed = weak_read text (cut t k) (printed_reads t k text printed).weak
-
 -- A moment has at most nine fraction digits.
 cut_whole : (t : ℤ) → cut t 9 ≡ t
 cut_whole t = grind (arith, ints)
@@ -63,7 +60,7 @@ printed_moment_reads t k small = record {
   displayed = λ text. text_displayed t k text small;
   reads = printed_reads t k;
   strict = printed_read t k;
-  weak = printed_read_weak t k;
+  weak = λ text printed. weak_read text (cut t k) (printed_reads t k text printed).weak;
   whole = cut_whole t;
 }
 
@@ -81,12 +78,9 @@ cut_again (pos m) k n is =
     rw (whole, mul-mod_right width (m / width)) (omega (arith, ints))
 cut_again (negsuc m) k n is = absurd (omega (arith, ints, is))
 
-printed_again : (t : ℤ) (k : ℕ) (text : List ℕ) → IsPrinted t k text → IsPrinted (cut t k) k text
-printed_again t k text p = grind (arith, cut_again)
-
 -- A text is a printed text exactly if it is that of the moment that it parses to.
 pub printed_if_read_back : (k : ℕ) (text : List ℕ) → IsPrintedWith k text ↔ ((t : ℤ) × (strict_answer text ≡ Ok t) × IsPrinted t k text)
-printed_if_read_back k text = ((λ p. (cut p.0 k, printed_read p.0 k text p.1, printed_again p.0 k text p.1)), (λ p. (p.0, p.2)))
+printed_if_read_back k text = ((λ p. (cut p.0 k, printed_read p.0 k text p.1, grind (arith, cut_again, p))), (λ p. (p.0, p.2)))
 
 -- Two printed texts with the same number of digits compare, byte by byte, like the moments that they parse to.
 pub texts_in_order : (k : ℕ) (x y : List ℕ) (a b : ℤ) → IsPrintedWith k x → IsPrintedWith k y → strict_answer x ≡ Ok a → strict_answer y ≡ Ok b

@@ -1,5 +1,5 @@
 -- A property of digits, punctuation and separators is one of each byte of a timestamp.
-use Rattle.std.proofs.Common.{ℕ, ◌≤◌, List, [], ◌∷◌, ◌++◌, arith}
+use Rattle.std.proofs.Common.{ℕ, List, [], ◌∷◌, ◌++◌, arith}
 use Rattle.std.specs.Int.{IsInRange}
 use Rattle.std.specs.List.{AllByRecursion}
 use Rattle.humantime.proofs.Timestamps.Reading.Fractions.{AreDigits, digits_from_test}
@@ -7,11 +7,7 @@ use Rattle.std.specs.Prelude.{Option, IsTrue}
 use Rattle.std.specs.Str.{byte, all_ascii_digits}
 use Rattle.humantime.specs.Timestamps.Fields.{Fields, fraction_text, fraction_digits, date_time_text, IsWeak}
 use Rattle.std.proofs.lemmas.Bool.Decides.{nat_tests}
-use Rattle.humantime.specs.Calendar.{days_in_month}
 use Rattle.humantime.proofs.Dates.Years.{valid_from_test}
-
-pub month_most : (y m : ℕ) → days_in_month y m ≤ 31
-month_most y m = grind (arith, nat_tests)
 
 -- A property of the digits, the punctuation and the separators.
 abbrev pub HoldsOfBytes : (ℕ → Type 0) → Type 0
@@ -28,4 +24,4 @@ holds_of_fraction P p fraction h = grind (arith, digits_hold, digits_from_test)
 -- All bytes before the zone have the property.
 pub holds_before_zone : (P : ℕ → Type 0) → HoldsOfBytes P → (text : List ℕ) (f : Fields) → IsWeak text f
     → AllByRecursion P (date_time_text f ++ fraction_text f.fraction)
-holds_before_zone P p text f w = grind (arith, month_most, valid_from_test, digits_hold, digits_from_test)
+holds_before_zone P p text f w = grind (arith, nat_tests, valid_from_test, digits_hold, digits_from_test)

@@ -4,8 +4,7 @@ use Rattle.std.specs.Prelude.{true, slice_index, Option, Some, None, ◌==◌, i
 use Rattle.std.specs.Str.{byte, all_ascii_digits}
 use Rattle.std.proofs.lemmas.Bool.{and_parts}
 use Rattle.std.proofs.lemmas.Bool.Decides.{nat_tests}
-use Rattle.humantime.specs.Results.Timestamps.{moment_at}
-use Rattle.humantime.specs.Timestamps.Fields.{Separator, Letter_T, Space, Fields, separator_byte, fraction_text, fraction_digits, moment_of}
+use Rattle.humantime.specs.Timestamps.Fields.{Separator, Letter_T, Space, Fields, separator_byte, fraction_text, fraction_digits}
 use Rattle.humantime.specs.Timestamps.Checks.{has_two, has_separator, has_punctuation, has_digits, date_time_of, is_valid_date_time, zone_of, fraction_part, has_point, weak_checks, first_failed}
 
 -- No check of the weak form fails.
@@ -56,9 +55,6 @@ part_shown part h = grind arith
 
 pub part_digits : (part : List ℕ) → fraction_digits (digits_behind_point part) ≡ drop 1 part
 part_digits part = grind arith
-
-pub moment_of_fields : (bytes : List ℕ) → moment_of (fields_of bytes) ≡ moment_at bytes
-moment_of_fields bytes = rw (part_digits (fraction_part bytes)) refl
 
 -- The first 19 bytes, and the rest.
 pub nineteen : (bytes : List ℕ) → 19 ≤ length bytes

@@ -1,7 +1,7 @@
 -- The zone at the end of a text.
 use Rattle.std.proofs.lemmas.Grind.{common_steps}
-use Rattle.std.proofs.Common.{◌≡◌, ◌≢◌, ℕ, ◌+◌, ◌-◌, ◌*◌, ◌<◌, ◌≤◌, List, [], ◌∷◌, ◌++◌, length, get_or, take, drop, sym, ap, ◌∙◌, append_assoc, Fits, w8, arith, rules}
-use Rattle.std.specs.Prelude.{true, false, ◌&&◌, ◌==◌, codes, nat_eq, nat_lt, slice_index}
+use Rattle.std.proofs.Common.{◌≡◌, ◌≢◌, ℕ, ◌+◌, ◌-◌, ◌*◌, ◌<◌, ◌≤◌, List, [], ◌∷◌, ◌++◌, length, get_or, take, drop, sym, append_assoc, Fits, w8, arith, rules}
+use Rattle.std.specs.Prelude.{false, ◌==◌, codes, nat_eq, nat_lt, slice_index}
 use Rattle.std.specs.List.{AllByRecursion, ends_with}
 use Rattle.std.specs.Str.{bytes_eq}
 use Rattle.std.proofs.lemmas.List.{take-append-drop}
@@ -37,12 +37,9 @@ pub zone_fits : (bytes : List ℕ) → length (zone_text (zone_of bytes)) ≤ le
 unfolding zone_of
 zone_fits bytes = grind (arith, common_steps)
 
-zone_behind : (bytes : List ℕ) → drop (length bytes - length (zone_text (zone_of bytes))) bytes ≡ zone_text (zone_of bytes)
-unfolding zone_of
-zone_behind bytes = grind (arith, common_steps)
-
 pub zone_shown : (bytes : List ℕ) → bytes ≡ before_zone bytes ++ zone_text (zone_of bytes)
-zone_shown bytes = sym (ap (λ (z : List ℕ). before_zone bytes ++ z) (sym (zone_behind bytes)) ∙ take-append-drop (length bytes - length (zone_text (zone_of bytes))) bytes)
+unfolding zone_of
+zone_shown bytes = grind (arith, common_steps, take-append-drop)
 
 -- ---- Bytes that are not a zone
 
@@ -53,17 +50,10 @@ IsPlain c = (c ≢ 43) × (c ≢ 90)
 pub plain_bytes : HoldsOfBytes IsPlain
 plain_bytes = grind arith
 
--- An offset does not end in `Z`.
-offset_end : (xs : List ℕ) → ends_with nat_eq (xs ++ codes "+00:00") (codes "Z") ≡ true → ⊥
-offset_end xs z = grind (arith, common_steps, (sym (append_assoc xs (codes "+00:0") (codes "0"))))
-
 -- The zone is found after plain bytes.
 pub zone_found : (xs : List ℕ) (z : Zone) → AllByRecursion IsPlain xs → zone_of (xs ++ zone_text z) ≡ z
 unfolding zone_of
-zone_found xs z h = grind (arith, common_steps, offset_end)
-
-pub before_zone_found : (xs : List ℕ) (z : Zone) → AllByRecursion IsPlain xs → before_zone (xs ++ zone_text z) ≡ xs
-before_zone_found xs z h = rw (zone_found xs z h) (grind (arith, common_steps))
+zone_found xs z h = grind (arith, common_steps, (sym (append_assoc xs (codes "+00:0") (codes "0"))))
 
 -- ---- `+00:00` as two numbers
 
@@ -72,11 +62,7 @@ six : (bytes : List ℕ) → length bytes ≡ 6
     → bytes ≡ get_or bytes 0 0 ∷ get_or bytes 1 0 ∷ get_or bytes 2 0 ∷ get_or bytes 3 0 ∷ get_or bytes 4 0 ∷ get_or bytes 5 0 ∷ []
 six bytes h = grind (arith, common_steps)
 
--- Two bytes are determined by their number.
-two_tested : (a b n m : ℕ) → a < 256 → b < 256 → n ≡ a + b * 256 → m ≡ 12_336 → (n == m) ≡ ((a == 48) && ((b == 48) && true))
-two_tested a b n m ha hb e f = grind (arith, nat_tests)
-
 pub offset_from_test : (bytes : List ℕ) (n m : ℕ) → length bytes ≡ 6 → ((k : ℕ) → Fits w8 (get_or bytes k 0))
     → get_or bytes 0 0 + get_or bytes 1 0 * 256 + get_or bytes 2 0 * 65_536 + get_or bytes 3 0 * 16_777_216 ≡ 976_236_587
     → n ≡ get_or bytes 4 0 + get_or bytes 5 0 * 256 → m ≡ 12_336 → (n == m) ≡ bytes_eq bytes (codes "+00:00")
-offset_from_test bytes n m h fits front back known = grind (arith, nat_tests, six, two_tested)
+offset_from_test bytes n m h fits front back known = grind (arith, nat_tests, six)

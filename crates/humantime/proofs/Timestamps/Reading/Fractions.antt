@@ -1,5 +1,5 @@
 -- The digits of a fraction, parsed one by one, are its nanoseconds.
-use Rattle.std.proofs.Common.{◌≡◌, ℕ, zero, suc, ◌+◌, ◌-◌, ◌*◌, ◌/◌, ◌^◌, ◌<◌, ◌≤◌, List, [], ◌∷◌, ◌++◌, length, get_or, take, drop, drop-cons, add-one, refl, ◌∙◌, arith}
+use Rattle.std.proofs.Common.{◌≡◌, ℕ, zero, suc, ◌+◌, ◌-◌, ◌*◌, ◌/◌, ◌^◌, ◌<◌, ◌≤◌, List, [], ◌∷◌, ◌++◌, length, get_or, take, drop, drop-cons, add-one, refl, arith}
 use Rattle.std.proofs.lemmas.Grind.{common_steps}
 use Rattle.std.specs.Prelude.{true, min, if◌then◌else◌, Ok, Err}
 use Rattle.humantime.specs.declared.date.error.TimestampError.TheVariants.{InvalidDigit}
@@ -20,12 +20,9 @@ use Rattle.humantime.specs.Timestamps.Fields.{fraction_nanos}
 abbrev pub AreDigits : List ℕ → Type 0
 AreDigits ds = AllByRecursion (λ c. IsInRange 48 57 c) ds
 
-pub is_digit_from_test : (c : ℕ) → is_ascii_digit c ≡ true → IsInRange 48 57 c
-is_digit_from_test c h = grind (arith, nat_tests)
-
 pub digits_from_test : (ds : List ℕ) → all_ascii_digits ds ≡ true → AreDigits ds
 digits_from_test [] h = tt
-digits_from_test (c ∷ cs) h = grind (arith, is_digit_from_test, digits_from_test cs)
+digits_from_test (c ∷ cs) h = grind (arith, nat_tests, digits_from_test cs)
 
 pub digits_from : (ds : List ℕ) → AreDigits ds → all_ascii_digits ds ≡ true
 digits_from [] d = refl
@@ -42,8 +39,8 @@ add_nothing : (n : ℕ) (ds : List ℕ) → add_digits n 0 ds ≡ n
 add_nothing n [] = refl
 add_nothing n (c ∷ cs) = grind (arith, (add_nothing n cs))
 
-weights : (m d p q : ℕ) → q ≡ p * 10 → (m * 10 + d) * p ≡ m * q + q / 10 * d
-weights m d p q e = let tenth : q / 10 ≡ p = omega arith in rw (tenth, e) (grind arith)
+weighted_digit : (m d p q : ℕ) → q ≡ p * 10 → (m * 10 + d) * p ≡ m * q + q / 10 * d
+weighted_digit m d p q e = let tenth : q / 10 ≡ p = omega arith in rw (tenth, e) (grind arith)
 
 abbrev zeros : ℕ → List ℕ
 zeros zero = []
@@ -52,19 +49,15 @@ zeros (suc n) = 48 ∷ zeros n
 -- The first `k` of `n` zeros after the number `m`.
 zeros_read : (k n m : ℕ) → k ≤ n → digits_value_after 10 m (take k (zeros n)) ≡ m * 10 ^ k
 zeros_read zero n m h = omega arith
+zeros_read (suc k) (suc n) m h = grind (arith, (zeros_read k n (m * 10 + 0)), (weighted_digit m 0 (10 ^ k) (10 ^ suc k)), (pow-suc 10 k))
 zeros_read (suc k) zero m h = absurd (omega arith)
-zeros_read (suc k) (suc n) m h =
-    zeros_read k n (m * 10 + 0) (omega arith) ∙ weights m 0 (10 ^ k) (10 ^ suc k) (pow-suc 10 k) ∙ omega arith
 
 -- The first `k` digits, padded with zeros.
 filled : (k n m : ℕ) (ds : List ℕ) → AreDigits ds → k ≤ n → digits_value_after 10 m (take k (ds ++ zeros n)) ≡ add_digits (m * 10 ^ k) (10 ^ k / 10) ds
 filled zero n m ds digits h = grind (arith, (add_nothing m ds))
 filled (suc k) n m [] digits h = zeros_read (suc k) n m h
 filled (suc k) n m (c ∷ cs) digits h =
-    let value : digit_value c ≡ c - 48 = omega (arith, digit_value_digit c digits.0) in
-    let tenth : 10 ^ k ≡ 10 ^ suc k / 10 = omega (arith, pow-suc 10 k) in
-    let first : (m * 10 + digit_value c) * 10 ^ k ≡ m * 10 ^ suc k + 10 ^ suc k / 10 * (c - 48) = rw value (weights m (c - 48) (10 ^ k) (10 ^ suc k) (pow-suc 10 k)) in
-    filled k n (m * 10 + digit_value c) cs digits.1 (omega arith) ∙ (λ i. add_digits (first i) (tenth i / 10) cs)
+    grind (arith, (digit_value_digit c digits.0), (pow-suc 10 k), (weighted_digit m (c - 48) (10 ^ k) (10 ^ suc k)), (filled k n (m * 10 + digit_value c) cs digits.1))
 
 pub nanos_added : (ds : List ℕ) → AreDigits ds → fraction_nanos ds ≡ add_digits 0 100_000_000 ds
 unfolding fraction_nanos
@@ -91,16 +84,12 @@ pub next_digit : (ds : List ℕ) (k n m : ℕ) → k < length ds → is_ascii_di
     → (add_digits m (place_value (k + 1)) (drop (k + 1) ds) ≡ add_digits n (place_value k) (drop k ds))
     × (all_ascii_digits (drop (k + 1) ds) ≡ all_ascii_digits (drop k ds))
     × (n < 1_000_000_000 → n + 10 * place_value k ≤ 1_000_000_000 → (m < 1_000_000_000) × (m + 10 * place_value (k + 1) ≤ 1_000_000_000))
-next_digit ds k n m some digit added = grind (arith, common_steps, next_place, drop-cons, add-one, is_digit_from_test)
-
--- no digit is left, or none that counts
-ended : (ds : List ℕ) (k n : ℕ) → k ≡ min (length ds) 9 → add_digits n (place_value k) (drop k ds) ≡ n
-ended ds k n end = grind (arith, common_steps, add_nothing)
+next_digit ds k n m some digit added = grind (arith, common_steps, next_place, drop-cons, add-one, nat_tests)
 
 pub nine_read : (ds : List ℕ) (k n : ℕ) → k ≡ min (length ds) 9 → all_ascii_digits (drop k ds) ≡ all_ascii_digits ds
     → add_digits n (place_value k) (drop k ds) ≡ add_digits 0 100_000_000 ds
     → digits_answer ds ≡ (if all_ascii_digits (drop k ds) then Ok n else Err InvalidDigit)
-nine_read ds k n end digits added = grind (arith, nat_tests, (ended ds k n end), (nanos_added ds), (digits_from_test ds))
+nine_read ds k n end digits added = grind (arith, common_steps, nat_tests, add_nothing, (nanos_added ds), (digits_from_test ds))
 
 pub nothing_read : fraction_nanos [] ≡ 0
 unfolding fraction_nanos

@@ -1,5 +1,5 @@
 -- Bytes and numbers that are tested at once are tested as if one by one.
-use Rattle.std.proofs.Common.{◌≡◌, ℕ, ◌+◌, ◌-◌, ◌%◌, ◌^◌, ◌<◌, ◌≤◌, Bool, true, false, cond, eqb, ltb, ◌&&◌, List, [], ◌∷◌, map, replicate, length, get_or, take, drop, Fits, w8, refl, ap, sym, ◌∙◌, arith}
+use Rattle.std.proofs.Common.{◌≡◌, ℕ, ◌+◌, ◌-◌, ◌%◌, ◌^◌, ◌<◌, ◌≤◌, Bool, true, false, cond, eqb, ltb, ◌&&◌, List, [], ◌∷◌, map, replicate, length, get_or, take, drop, Fits, w8, refl, ap, ◌∙◌, arith}
 use Rattle.std.specs.Char.{is_ascii_digit}
 use Rattle.std.specs.List.{list_all}
 use Rattle.std.specs.Prelude.{◌==◌, codes, nat_eq, bit_or}
@@ -24,18 +24,14 @@ are_set ms = list_all (λ m. m) ms
 
 all_bits : (ms : List Bool) → eqb (mask_l ms) (2 ^ length ms - 1) ≡ are_set ms
 all_bits [] = refl
-all_bits (true ∷ ms) = grind (arith, nat_tests, (all_bits ms), two-pow-succ (length ms), one-le-pow (length ms) 2 (omega arith))
-all_bits (false ∷ ms) = grind (arith, nat_tests, two-pow-succ (length ms), one-le-pow (length ms) 2 (omega arith))
+all_bits (m ∷ ms) = grind (arith, nat_tests, (all_bits ms), two-pow-succ (length ms), one-le-pow (length ms) 2 (omega arith))
 
 -- The lanes of a vector, compared with those of another one.
 pub all_compared : (w : Width) (test : ℕ → ℕ → Bool) (ys xs : List ℕ) → length xs ≡ length ys → length ys ≤ 64
     → eqb (mask_l (map (top (hbits w)) (zip2 (λ a b. cond (test a b) (2 ^ bits w - 1) 0) xs ys)) % 2 ^ 64) (2 ^ length ys - 1) ≡ are_set (zip2 test xs ys)
 all_compared w test ys xs long few =
     let size = length-zip2 test xs ys long ∙ long in
-    ap (λ (ms : List Bool). eqb (mask_l ms % 2 ^ 64) (2 ^ length ys - 1)) (tops_compared w test xs ys)
-    ∙ ap (λ (n : ℕ). eqb n (2 ^ length ys - 1)) (mask_l-mod (zip2 test xs ys) 64 (omega (arith, size)))
-    ∙ ap (λ (n : ℕ). eqb (mask_l (zip2 test xs ys)) (2 ^ n - 1)) (sym size)
-    ∙ all_bits (zip2 test xs ys)
+    rw (tops_compared w test xs ys, mask_l-mod (zip2 test xs ys) 64 (omega (arith, size)), ← size) (all_bits (zip2 test xs ys))
 
 -- All lanes, compared with one number.
 pub all_by_one : (test : ℕ → ℕ → Bool) (n y : ℕ) (xs : List ℕ) → length xs ≡ n → are_set (zip2 test xs (replicate n y)) ≡ list_all (λ x. test x y) xs
@@ -48,20 +44,20 @@ abbrev pub above : ℕ → ℕ → ℕ
 above a least = (a + (2 ^ 8 - least)) % 2 ^ 8
 
 -- How far a number exceeds its maximum, or 0.
-abbrev left : ℕ → ℕ → ℕ
-left a most = above (cond (top 7 (cond (ltb a most) 255 0)) most a) most
+abbrev excess : ℕ → ℕ → ℕ
+excess a most = above (cond (top 7 (cond (ltb a most) 255 0)) most a) most
 
-digit_left : (c : ℕ) → c < 256 → nat_eq (left (above c 48) 9) 0 ≡ is_ascii_digit c
-digit_left c h = agree_below_at (λ c. nat_eq (left (above c 48) 9) 0) is_ascii_digit 256 c refl h
+digit_excess : (c : ℕ) → c < 256 → nat_eq (excess (above c 48) 9) 0 ≡ is_ascii_digit c
+digit_excess c h = agree_below_at (λ c. nat_eq (excess (above c 48) 9) 0) is_ascii_digit 256 c refl h
 
-dash_left : (c : ℕ) → c < 256 → nat_eq (left (above c 45) 0) 0 ≡ (c == 45)
-dash_left c h = agree_below_at (λ c. nat_eq (left (above c 45) 0) 0) (λ c. c == 45) 256 c refl h
+dash_excess : (c : ℕ) → c < 256 → nat_eq (excess (above c 45) 0) 0 ≡ (c == 45)
+dash_excess c h = agree_below_at (λ c. nat_eq (excess (above c 45) 0) 0) (λ c. c == 45) 256 c refl h
 
-colon_left : (c : ℕ) → c < 256 → nat_eq (left (above c 58) 0) 0 ≡ (c == 58)
-colon_left c h = agree_below_at (λ c. nat_eq (left (above c 58) 0) 0) (λ c. c == 58) 256 c refl h
+colon_excess : (c : ℕ) → c < 256 → nat_eq (excess (above c 58) 0) 0 ≡ (c == 58)
+colon_excess c h = agree_below_at (λ c. nat_eq (excess (above c 58) 0) 0) (λ c. c == 58) 256 c refl h
 
-any_left : (c least : ℕ) → nat_eq (left (above c least) 255) 0 ≡ true
-any_left c least = agree_below_at (λ n. nat_eq (left n 255) 0) (λ _. true) 256 (above c least) refl (omega arith)
+no_excess : (c least : ℕ) → nat_eq (excess (above c least) 255) 0 ≡ true
+no_excess c least = agree_below_at (λ n. nat_eq (excess n 255) 0) (λ _. true) 256 (above c least) refl (omega arith)
 
 both_zero : (a b : ℕ) → nat_eq (bit_or a b) 0 ≡ (nat_eq a 0 && nat_eq b 0)
 both_zero a b = grind (arith, nat_tests, le_or_l a b, le_or_r a b)
@@ -83,11 +79,11 @@ abbrev pub most_back : List ℕ
 most_back = 255 ∷ 255 ∷ 255 ∷ 255 ∷ 255 ∷ 255 ∷ 255 ∷ 255 ∷ 255 ∷ 255 ∷ 255 ∷ 255 ∷ 255 ∷ 0 ∷ 9 ∷ 9 ∷ []
 
 -- How far the numbers exceed their maxima.
-abbrev lefts : List ℕ → List ℕ → List ℕ
-lefts xs most = zip2 above (sel_l (map (top 7) (zip2 (λ a m. cond (ltb a m) 255 0) xs most)) most xs) most
+abbrev excesses : List ℕ → List ℕ → List ℕ
+excesses xs most = zip2 above (sel_l (map (top 7) (zip2 (λ a m. cond (ltb a m) 255 0) xs most)) most xs) most
 
 abbrev pub beyond : List ℕ → List ℕ
-beyond bytes = zip2 bit_or (lefts (zip2 above (take 16 bytes) least) most) (lefts (zip2 above (take 16 (drop 3 bytes)) least_back) most_back)
+beyond bytes = zip2 bit_or (excesses (zip2 above (take 16 bytes) least) most) (excesses (zip2 above (take 16 (drop 3 bytes)) least_back) most_back)
 
 pub length-beyond : (bytes : List ℕ) → 19 ≤ length bytes → length (beyond bytes) ≡ 16
 length-beyond bytes long = ap (λ (bytes : List ℕ). length (beyond bytes)) (nineteen bytes long)
@@ -107,13 +103,13 @@ unfolding has_layout has_punctuation has_digits has_two
 layout_tested bytes long fits separator =
     let byte = λ (k : ℕ). get_or bytes k 0 in
     let shown = λ (k : ℕ). is_ascii_digit (byte k) in
-    let digit_at = λ (k : ℕ). digit_left (byte k) (fits k).fits in
-    let digit = λ (k : ℕ) (l : ℕ). first_zero (left (above (byte k) 48) 9) (left (above (byte (k + 3)) l) 255) (any_left (byte (k + 3)) l) ∙ digit_at k in
-    let dash = λ (k : ℕ) (l : ℕ). first_zero (left (above (byte k) 45) 0) (left (above (byte (k + 3)) l) 255) (any_left (byte (k + 3)) l) ∙ dash_left (byte k) (fits k).fits in
-    let free = first_zero (left (above (byte 10) 32) 255) (left (above (byte 13) 58) 255) (any_left (byte 13) 58) ∙ any_left (byte 10) 32 in
-    let colons = both_zero (left (above (byte 13) 58) 0) (left (above (byte 16) 58) 0)
-    ∙ (λ i. colon_left (byte 13) (fits 13).fits i && colon_left (byte 16) (fits 16).fits i) in
-    let digits = λ (k : ℕ). both_zero (left (above (byte k) 48) 9) (left (above (byte (k + 3)) 48) 9) ∙ (λ i. digit_at k i && digit_at (k + 3) i) in
+    let digit_at = λ (k : ℕ). digit_excess (byte k) (fits k).fits in
+    let digit = λ (k : ℕ) (l : ℕ). first_zero (excess (above (byte k) 48) 9) (excess (above (byte (k + 3)) l) 255) (no_excess (byte (k + 3)) l) ∙ digit_at k in
+    let dash = λ (k : ℕ) (l : ℕ). first_zero (excess (above (byte k) 45) 0) (excess (above (byte (k + 3)) l) 255) (no_excess (byte (k + 3)) l) ∙ dash_excess (byte k) (fits k).fits in
+    let free = first_zero (excess (above (byte 10) 32) 255) (excess (above (byte 13) 58) 255) (no_excess (byte 13) 58) ∙ no_excess (byte 10) 32 in
+    let colons = both_zero (excess (above (byte 13) 58) 0) (excess (above (byte 16) 58) 0)
+    ∙ (λ i. colon_excess (byte 13) (fits 13).fits i && colon_excess (byte 16) (fits 16).fits i) in
+    let digits = λ (k : ℕ). both_zero (excess (above (byte k) 48) 9) (excess (above (byte (k + 3)) 48) 9) ∙ (λ i. digit_at k i && digit_at (k + 3) i) in
     ap (λ (bytes : List ℕ). list_all (λ n. nat_eq n 0) (beyond bytes)) (nineteen bytes long)
     ∙ (λ i. are_set (
     digit 0 48 i ∷ digit 1 45 i ∷ digit 2 48 i ∷ digit 3 48 i ∷ dash 4 45 i ∷ digit 5 48 i ∷ digit 6 48 i ∷ dash 7 32 i

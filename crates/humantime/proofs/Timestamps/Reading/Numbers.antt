@@ -1,8 +1,8 @@
 -- The weighted sums of digits are the numbers of date and time.
+use Rattle.std.proofs.lemmas.Bool.Decides.{nat_tests}
 use Rattle.std.proofs.lemmas.Grind.{common_steps}
-use Rattle.std.proofs.Common.{◌≡◌, ℕ, ◌+◌, ◌-◌, ◌*◌, ◌≤◌, List, [], ◌∷◌, length, take, drop, arith}
+use Rattle.std.proofs.Common.{◌≡◌, ℕ, ◌+◌, ◌*◌, ◌≤◌, List, [], ◌∷◌, length, take, drop, arith}
 use Rattle.std.specs.Prelude.{true, slice_index}
-use Rattle.std.specs.Int.{IsInRange}
 use lib.Dec.{T}
 use lib.Lanes.{zip2, dots, all_below, pair_sums, products}
 use Rattle.humantime.specs.declared.date.parse.DateTime.{DateTime}
@@ -11,17 +11,14 @@ use Rattle.humantime.proofs.Timestamps.Reading.Checks.{pairs_from_test}
 use Rattle.humantime.proofs.Timestamps.Reading.Lanes.{above, least, least_back}
 use Rattle.humantime.proofs.Timestamps.Reading.Places.{has_two_from_test, number_of_two, number_of_four}
 
-digit_above : (c : ℕ) → IsInRange 48 57 c → above c 48 ≡ c - 48
-digit_above c h = omega (arith, h)
-
 -- The number of two digits, and of four.
 pair_from_test : (bytes : List ℕ) (k : ℕ) → k + 2 ≤ length bytes → has_two bytes k ≡ true
     → above (slice_index bytes k) 48 * 10 + above (slice_index bytes (k + 1)) 48 ≡ number_between bytes k (k + 2)
-pair_from_test bytes k long h = grind (arith, has_two_from_test, number_of_two, digit_above)
+pair_from_test bytes k long h = grind (arith, has_two_from_test, number_of_two)
 
 year_from_test : (bytes : List ℕ) → 4 ≤ length bytes → has_two bytes 0 ≡ true → has_two bytes 2 ≡ true
     → let digit = λ (k : ℕ). above (slice_index bytes k) 48 in (digit 0 * 100 + digit 1 * 10 + digit 2) * 10 + digit 3 ≡ number_between bytes 0 4
-year_from_test bytes long century decade = grind (arith, has_two_from_test, number_of_four, digit_above)
+year_from_test bytes long century decade = grind (arith, has_two_from_test, number_of_four)
 
 -- The weights of the first 16 bytes, and of those from byte 3 on.
 abbrev front_weights : List ℕ
@@ -31,13 +28,9 @@ abbrev back_weights : List ℕ
 back_weights = 1 ∷ 0 ∷ 0 ∷ 0 ∷ 0 ∷ 0 ∷ 0 ∷ 0 ∷ 10 ∷ 1 ∷ 0 ∷ 0 ∷ 0 ∷ 0 ∷ 10 ∷ 1 ∷ []
 
 -- The sums of two products fit the 16 bits in which they are computed.
-pub front_fits : (bytes : List ℕ) → 16 ≤ length bytes → T (all_below 32768 (pair_sums (products (zip2 above (take 16 bytes) least) front_weights)))
-front_fits (b0 ∷ b1 ∷ b2 ∷ b3 ∷ b4 ∷ b5 ∷ b6 ∷ b7 ∷ b8 ∷ b9 ∷ b10 ∷ b11 ∷ b12 ∷ b13 ∷ b14 ∷ b15 ∷ r) long = grind arith
-front_fits _ h = absurd (omega arith)
-
-pub back_fits : (bytes : List ℕ) → 16 ≤ length bytes → T (all_below 32768 (pair_sums (products (zip2 above (take 16 bytes) least_back) back_weights)))
-back_fits (b0 ∷ b1 ∷ b2 ∷ b3 ∷ b4 ∷ b5 ∷ b6 ∷ b7 ∷ b8 ∷ b9 ∷ b10 ∷ b11 ∷ b12 ∷ b13 ∷ b14 ∷ b15 ∷ r) long = grind arith
-back_fits _ h = absurd (omega arith)
+pub sums_fit : (bytes : List ℕ) → 16 ≤ length bytes → T (all_below 32768 (pair_sums (products (zip2 above (take 16 bytes) least) front_weights)))
+    × T (all_below 32768 (pair_sums (products (zip2 above (take 16 bytes) least_back) back_weights)))
+sums_fit bytes long = (grind (arith, common_steps, nat_tests), grind (arith, common_steps, nat_tests))
 
 -- The numbers, by the sums over the first 16 bytes and over those from byte 3 on.
 abbrev summed : List ℕ → DateTime

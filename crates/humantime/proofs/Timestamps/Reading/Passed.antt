@@ -1,14 +1,15 @@
 -- A text that represents parts passes the checks, and these are the parts at their positions.
+use Rattle.std.proofs.lemmas.Grind.{common_steps}
 use Rattle.std.proofs.Common.{◌≡◌, ℕ, ◌+◌, ◌/◌, ◌%◌, ◌≤◌, List, length, drop, refl, arith}
 use Rattle.std.specs.Prelude.{true, slice_index, Option, None}
 use Rattle.std.proofs.lemmas.Bool.{le-leb}
 use Rattle.std.proofs.lemmas.Bool.Decides.{nat_tests}
 use Rattle.humantime.specs.Timestamps.Fields.{Fields, fraction_text, fraction_digits, fields_text, IsWeak}
-use Rattle.humantime.specs.Timestamps.Checks.{has_two, has_digits, number_between, date_time_of, has_separator, has_punctuation, is_valid_date_time, fraction_part, has_point, weak_checks, first_failed}
+use Rattle.humantime.specs.Timestamps.Checks.{has_two, has_digits, number_between, date_time_of, has_separator, has_punctuation, is_valid_date_time, has_point, weak_checks, first_failed}
 use Rattle.humantime.proofs.Dates.Years.{valid_from_test}
-use Rattle.humantime.proofs.Timestamps.Reading.Bytes.{month_most, holds_of_fraction}
-use Rattle.humantime.proofs.Timestamps.Reading.Checks.{separator_of, digits_behind_point, fields_of}
-use Rattle.humantime.proofs.Timestamps.Reading.Ends.{IsPlain, plain_bytes, before_zone_found, zone_found}
+use Rattle.humantime.proofs.Timestamps.Reading.Bytes.{holds_of_fraction}
+use Rattle.humantime.proofs.Timestamps.Reading.Checks.{digits_behind_point, fields_of}
+use Rattle.humantime.proofs.Timestamps.Reading.Ends.{IsPlain, plain_bytes, zone_found}
 use Rattle.humantime.proofs.Timestamps.Reading.Places.{number_of_two, number_of_four, bounds}
 
 -- The digits of a number at its position are parsed to that number.
@@ -29,33 +30,26 @@ ending : (fraction : Option (List ℕ)) → (has_point (fraction_text fraction) 
 unfolding has_point
 ending fraction = grind arith
 
-separator_back : (f : Fields) → (has_punctuation (fields_text f) ≡ true) × (separator_of (fields_text f) ≡ f.separator)
-unfolding has_punctuation has_separator
-separator_back f = grind arith
-
 written_passes : (f : Fields) → IsWeak (fields_text f) f
     → (first_failed (weak_checks (fields_text f)) ≡ None) × (f ≡ fields_of (fields_text f))
-unfolding is_valid_date_time has_digits
+unfolding is_valid_date_time has_digits has_punctuation has_separator
 written_passes f w =
     let bytes = fields_text f in
     let long : 19 ≤ length bytes = omega arith in
     let within = valid_from_test f.date.year f.date.month f.date.day w.date in
     let year = year_back bytes f.date.year (omega (arith, long)) within.0.1 refl refl refl refl in
     let month = two_back bytes 5 f.date.month (omega (arith, long)) refl refl (omega (arith, within.1.1)) in
-    let day = two_back bytes 8 f.date.day (omega (arith, long)) refl refl (omega (arith, within.2.1, month_most f.date.year f.date.month)) in
+    let day = two_back bytes 8 f.date.day (omega (arith, long)) refl refl (grind (arith, within.2.1, nat_tests)) in
     let hour = two_back bytes 11 f.hour (omega (arith, long)) refl refl (omega (arith, w.hour)) in
     let minute = two_back bytes 14 f.minute (omega (arith, long)) refl refl (omega (arith, w.minute)) in
     let second = two_back bytes 17 f.second (omega (arith, long)) refl refl (omega (arith, w.second)) in
     let plain = holds_of_fraction IsPlain plain_bytes f.fraction w.fraction in
-    let part : fraction_part bytes ≡ fraction_text f.fraction = before_zone_found (fraction_text f.fraction) f.zone plain in
     let end = ending f.fraction in
     let digits : has_digits bytes ≡ true = rw (year.0, year.1, month.0, day.0, hour.0, minute.0, second.0) refl in
     let range : is_valid_date_time (date_time_of bytes) ≡ true =
     rw (year.2, month.1, day.1, hour.1, minute.1, second.1) ((bounds _ _ _ _).1 (w.date, w.hour, w.minute, w.second)) in
-    let zone = zone_found (fraction_text f.fraction) f.zone plain in (
-      rw (le-leb 19 (length bytes) long, (separator_back f).0, digits, range, part, end.0, end.1, w.fraction) refl,
-      rw (year.2, month.1, day.1, (separator_back f).1, hour.1, minute.1, second.1, part, end.2, zone) refl,
-    )
+    let zone = zone_found (fraction_text f.fraction) f.zone plain in
+    grind (arith, common_steps, nat_tests, bytes, long, within, year, month, day, hour, minute, second, plain, end, digits, range, zone, le-leb)
 
 pub weak_fields : (bytes : List ℕ) (f : Fields) → IsWeak bytes f → (first_failed (weak_checks bytes) ≡ None) × (f ≡ fields_of bytes)
 weak_fields bytes f w = rw w.text (written_passes f (rw w.text at w))

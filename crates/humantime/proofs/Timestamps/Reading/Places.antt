@@ -6,12 +6,11 @@ use Rattle.std.proofs.Math.Seq.{drop-cons}
 use Rattle.std.proofs.lemmas.Bool.Decides.{nat_tests}
 use Rattle.std.proofs.lemmas.Str.{digit_value_digit}
 use Rattle.humantime.specs.Timestamps.Checks.{has_two, number_between}
-use Rattle.humantime.proofs.Timestamps.Reading.Fractions.{is_digit_from_test}
 
 -- The two digits at offset `k`.
 pub has_two_from_test : (bytes : List ℕ) (k : ℕ) → has_two bytes k ≡ true → IsInRange 48 57 (slice_index bytes k) × IsInRange 48 57 (slice_index bytes (k + 1))
 unfolding has_two
-has_two_from_test bytes k h = grind (arith, is_digit_from_test)
+has_two_from_test bytes k h = grind (arith, nat_tests)
 
 -- The bytes from an offset on, one after the other.
 pub next_byte : (bytes : List ℕ) (k to : ℕ) → k < to → to ≤ length bytes → slice_range bytes k to ≡ slice_index bytes k ∷ slice_range bytes (k + 1) to

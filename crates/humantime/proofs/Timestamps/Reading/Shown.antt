@@ -1,5 +1,7 @@
 -- A text that fails no check represents the parts at their positions.
-use Rattle.std.proofs.Common.{◌≡◌, ℕ, ◌+◌, ◌/◌, ◌%◌, ◌≤◌, List, ◌∷◌, ◌++◌, length, drop, ap, ◌∙◌, arith, rules}
+use Rattle.std.proofs.lemmas.Bool.Decides.{nat_tests}
+use Rattle.std.proofs.lemmas.Grind.{common_steps}
+use Rattle.std.proofs.Common.{◌≡◌, ℕ, ◌+◌, ◌/◌, ◌%◌, ◌≤◌, List, ◌++◌, length, drop, ap, ◌∙◌, arith, rules}
 use Rattle.std.specs.Prelude.{true, slice_index, None}
 use Rattle.humantime.specs.Timestamps.Fields.{fraction_text, zone_text, fields_text, IsWeak}
 use Rattle.humantime.specs.Timestamps.Checks.{has_two, zone_of, number_between, is_valid_date_time, fraction_part, weak_checks, first_failed}
@@ -29,10 +31,7 @@ written_shown bytes passed =
     let second = pair_shown bytes 17 (omega arith) pairs.6 in
     let end : drop 19 bytes ≡ fraction_text (digits_behind_point (fraction_part bytes)) ++ zone_text (zone_of (drop 19 bytes)) =
     zone_shown (drop 19 bytes) ∙ ap (λ (part : List ℕ). part ++ zone_text (zone_of (drop 19 bytes))) (part_shown (fraction_part bytes) p.4) in
-    nineteen bytes p.0
-    ∙ (λ i. year.0 i ∷ year.1 i ∷ year.2 i ∷ year.3 i
-    ∷ signs.0 i ∷ month.0 i ∷ month.1 i ∷ signs.1 i ∷ day.0 i ∷ day.1 i ∷ signs.2 i
-    ∷ hour.0 i ∷ hour.1 i ∷ signs.3 i ∷ minute.0 i ∷ minute.1 i ∷ signs.4 i ∷ second.0 i ∷ second.1 i ∷ end i)
+    grind (arith, common_steps, nat_tests, p, signs, pairs, year, month, day, hour, minute, second, end, nineteen)
 
 pub fields_weak : (bytes : List ℕ) → first_failed (weak_checks bytes) ≡ None → IsWeak bytes (fields_of bytes)
 unfolding is_valid_date_time

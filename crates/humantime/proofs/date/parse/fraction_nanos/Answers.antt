@@ -1,4 +1,4 @@
-use Rattle.std.proofs.Common.{◌≡◌, ◌∙◌, length, refl, sym, arith}
+use Rattle.std.proofs.Common.{◌≡◌, ◌∙◌, refl, sym, arith}
 use Rattle.std.proofs.lemmas.Bool.Decides.{nat_tests}
 use Rattle.std.proofs.lemmas.Grind.{common_steps}
 use Rattle.std.proofs.lemmas.List.{take_rest}
@@ -8,25 +8,14 @@ use Rattle.humantime.proofs.date.parse.fraction_nanos.Goals as goal
 pub loop-place-preserved : goal.loop-place-preserved
 loop-place-preserved c =
     let step = next_digit c.args.digits.now c.loop-place.place c.loop-place.nanos _ (grind (arith, nat_tests)) (sym c.if-not-is_ascii_digit.ensures.value) refl in
-    let bound = step.2 c.loop-place.invariant.low c.loop-place.invariant.room in
-    record {
-      added = step.0 ∙ c.loop-place.invariant.added;
-      digits = step.1 ∙ c.loop-place.invariant.digits;
-      within = grind (arith, nat_tests);
-      low = bound.0;
-      room = bound.1;
-    }
+    grind (arith, common_steps, nat_tests, step)
 
 pub returns-then-place-digits : goal.returns-then-place-digits
 returns-then-place-digits c =
-    let end : c.loop-place.place ≡ length c.args.digits.now = grind (arith, nat_tests) in
-    rw (nine_read c.args.digits.now _ _ (omega arith) c.loop-place.invariant.digits c.loop-place.invariant.added, end) (grind (arith, common_steps))
+    rw (nine_read c.args.digits.now _ _ (omega arith) c.loop-place.invariant.digits c.loop-place.invariant.added) (grind (arith, common_steps))
 
 pub returns-then-not-are_digits : goal.returns-then-not-are_digits
-returns-then-not-are_digits c =
-    let end : c.loop-place.place ≡ 9 = omega arith in
-    let left = rw (take_rest c.args.digits.now 9) at c.are_digits.ensures in
-    rw (nine_read c.args.digits.now _ _ (omega arith) c.loop-place.invariant.digits c.loop-place.invariant.added, end, sym left ∙ c.if-not-are_digits.true) refl
+returns-then-not-are_digits c = grind (arith, common_steps, nat_tests, nine_read, take_rest)
 
 pub returns : goal.returns
 returns c =

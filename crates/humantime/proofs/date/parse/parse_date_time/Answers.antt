@@ -2,7 +2,7 @@ use Rattle.std.proofs.Common.{eqb, w8, replicate, drop, length-drop, arith, sym,
 use Rattle.std.proofs.lemmas.Bool.{eq-eqb, eqb-true}
 use Rattle.humantime.proofs.Timestamps.Reading.Exits.{layout_parts}
 use Rattle.humantime.proofs.Timestamps.Reading.Lanes.{all_compared, all_by_one, beyond, length-beyond, layout_tested}
-use Rattle.humantime.proofs.Timestamps.Reading.Numbers.{date_time_summed, front_fits, back_fits}
+use Rattle.humantime.proofs.Timestamps.Reading.Numbers.{date_time_summed, sums_fit}
 use Rattle.humantime.proofs.date.parse.parse_date_time.Goals as goal
 
 pub returns-then-not-beyond : goal.returns-then-not-beyond
@@ -13,10 +13,10 @@ returns-then-not-beyond c =
     λ is. c.if-not-beyond.true (eqb-true _ _ (tested ∙ is))
 
 pub dot4 : goal.dot4
-dot4 c = (front_fits c.args.bytes.now (omega (arith, c.requires.long)), tt)
+dot4 c = ((sums_fit c.args.bytes.now (omega (arith, c.requires.long))).0, tt)
 
 pub dot4-2 : goal.dot4-2
-dot4-2 c = (back_fits (drop 3 c.args.bytes.now) (omega (arith, length-drop 3 c.args.bytes.now, c.requires.long)), tt)
+dot4-2 c = ((sums_fit (drop 3 c.args.bytes.now) (omega (arith, length-drop 3 c.args.bytes.now, c.requires.long))).1, tt)
 
 pub returns : goal.returns
 returns c =

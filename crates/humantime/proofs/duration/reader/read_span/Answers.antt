@@ -1,13 +1,11 @@
-use Rattle.std.proofs.Common.{ap, ◌∙◌}
-use Rattle.humantime.specs.Durations.Faults.{after_point}
-use Rattle.humantime.proofs.Durations.Bytes.SpanExits.{long_number, long_fraction, exit_long}
+use Rattle.std.proofs.lemmas.Bool.Decides.{nat_tests}
+use Rattle.std.proofs.lemmas.Grind.{common_steps}
+use Rattle.std.proofs.Common.{arith}
+use Rattle.humantime.proofs.Durations.Bytes.SpanExits.{exit_long}
 use Rattle.humantime.proofs.duration.reader.read_span.Goals as goal
 
 pub returns-in_default : goal.returns-in_default
-returns-in_default c = record { stop = exit_long _ _ (long_number _ c.in_default.ensures); place = tt; fine = tt }
+returns-in_default c = record { stop = exit_long _ _ (grind (arith, nat_tests)); place = tt; fine = tt }
 
 pub returns-in_default-read_fraction : goal.returns-in_default-read_fraction
-returns-in_default-read_fraction c =
-    let start = c.in-Some.ensures in
-    let behind = c.in-Some-skip_point.ensures.rest ∙ ap after_point c.in-Some.number.run.behind in
-    record { stop = exit_long _ _ (long_fraction _ _ (rw start at behind) c.in_default-read_fraction.ensures); place = tt; fine = tt }
+returns-in_default-read_fraction c = grind (arith, common_steps, nat_tests, exit_long)

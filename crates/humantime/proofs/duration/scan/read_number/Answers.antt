@@ -1,8 +1,9 @@
+use Rattle.humantime.proofs.Durations.Reading.SignificantDigits.{digits_value-append}
 use Rattle.std.proofs.Common.{◌≡◌, ◌∷◌, [], get_or, sym, ap, ◌∙◌, chars, drop, false, arith}
 use Rattle.humantime.specs.Texts.{begins, decimal_value}
 use Rattle.humantime.specs.Durations.Characters.{is_numeric}
 use Rattle.humantime.proofs.Durations.Reading.Classes.{digit_is}
-use Rattle.humantime.proofs.Durations.Bytes.Numbers.{other_left, first_digit, digit_range, none_read, read_digit, number_extended, read_whitespace, stops_here, run_is_read, value_more, number_passes}
+use Rattle.humantime.proofs.Durations.Bytes.Numbers.{other_left, first_digit, digit_range, none_read, read_digit, number_extended, read_whitespace, stops_here, run_is_read, value_more, value_grows}
 use Rattle.humantime.proofs.Durations.Bytes.Tails.{no_chars_at}
 use Rattle.humantime.proofs.duration.scan.read_number.Goals as goal
 use Rattle.humantime.proofs.duration.scan.read_number.Goals.{else-loop-at-test, then-loop-at-test+else-digit-le9+in-None}
@@ -42,7 +43,7 @@ pub returns-in_err-value : goal.returns-in_err-value
 returns-in_err-value c =
     let i = c.loop-at.invariant in
     let more = number_extended _ _ _ _ c.args.start.tail.utf8 c.as_bytes-bytes.ensures.value c.loop-at-test.true i.read (i.bytes c.loop-at.at) c.if-digit-le9.true in
-    rw c.from_residual.ensures (number_passes _ _ _ more.0 (omega (arith, c.in_err-value.ensures, more.1, i.value)))
+    rw c.from_residual.ensures (grind (arith, digits_value-append, value_grows, more.0.all))
 
 pub invariant_of-result : goal.invariant_of-result
 invariant_of-result c =

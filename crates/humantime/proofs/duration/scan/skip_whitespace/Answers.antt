@@ -1,6 +1,6 @@
 use Rattle.std.proofs.Common.{◌<◌, ◌∙◌, sym, length, refl, arith}
 use Rattle.std.proofs.lemmas.Str.{IsCharBoundary-start}
-use Rattle.humantime.proofs.Durations.Bytes.PlaceSteps.{whitespace_over, no_whitespace, ends_there, digit_stays}
+use Rattle.humantime.proofs.Durations.Bytes.PlaceSteps.{whitespace_over, no_whitespace, digit_stays}
 use Rattle.humantime.proofs.Durations.Bytes.Tails.{no_chars_at}
 use Rattle.humantime.proofs.duration.scan.skip_whitespace.Goals as goal
 use Rattle.humantime.proofs.duration.scan.skip_whitespace.Goals.{else-loop-at-test, then-loop-at-test+in-None}
@@ -25,4 +25,4 @@ pub returns-then-begins_with_digit-clause-rest : goal.returns-then-begins_with_d
 returns-then-begins_with_digit-clause-rest c = digit_stays _ (sym c.begins_with_digit.ensures ∙ c.if-begins_with_digit.true)
 
 pub returns-clause-rest : goal.returns-clause-rest
-returns-clause-rest c = rw c.advance.ensures.rest (grind (arith, else-loop-at-test, no_chars_at, then-loop-at-test+in-None, no_whitespace, ends_there))
+returns-clause-rest c = rw c.advance.ensures.rest (grind (arith, else-loop-at-test, no_chars_at, then-loop-at-test+in-None, no_whitespace))

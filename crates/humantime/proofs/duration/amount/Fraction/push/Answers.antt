@@ -1,8 +1,10 @@
+use Rattle.std.proofs.lemmas.Bool.Decides.{nat_tests}
+use Rattle.humantime.proofs.Durations.Reading.SignificantDigits.{significant_zero, significant_long}
 use Rattle.std.proofs.lemmas.Grind.{common_steps}
 use Rattle.std.proofs.Common.{◌-◌, arith, ap}
 use Rattle.humantime.specs.Steps.Scales.{Counted}
 use Rattle.humantime.proofs.Durations.Bytes.Numbers.{digit_range}
-use Rattle.humantime.proofs.Durations.Bytes.FractionDigits.{push_fits, fewer, zero_more, fraction_extended, one_too_many}
+use Rattle.humantime.proofs.Durations.Bytes.FractionDigits.{push_fits, fewer, fraction_extended}
 use Rattle.humantime.proofs.duration.amount.Fraction.push.Goals as goal
 
 pub overflow_sub-len : goal.overflow_sub-len
@@ -24,12 +26,12 @@ overflow_add-significand c =
     omega (arith, push_fits _ _ _ (c.args.c - 48) _ h.fits (omega (arith, digit_range c.args.c c.requires.digit)) (omega (arith, within)) c.power_of_ten-power.ensures (omega (arith, within, c.if-len-gt-MAX_FRACTION_DIGITS.false)))
 
 pub returns-then-c-eq48-clause-pushed : goal.returns-then-c-eq48-clause-pushed
-returns-then-c-eq48-clause-pushed c ds h = grind (arith, common_steps, zero_more)
+returns-then-c-eq48-clause-pushed c ds h = grind (arith, common_steps, significant_zero)
 
 pub returns-then-len-gt-MAX_FRACTION_DIGITS-clause-full : goal.returns-then-len-gt-MAX_FRACTION_DIGITS-clause-full
 returns-then-len-gt-MAX_FRACTION_DIGITS-clause-full c ds h es =
     let full = ap (λ (x : Counted). x.2) h.parts in
-    grind (arith, one_too_many)
+    grind (arith, nat_tests, significant_long)
 
 pub returns-clause-pushed : goal.returns-clause-pushed
 returns-clause-pushed c ds h = fraction_extended c.args.self ds c.args.c _ h c.requires.digit c.if-c-eq48.false (omega (arith, c.if-len-gt-MAX_FRACTION_DIGITS.false)) c.power_of_ten-power.ensures

@@ -1,5 +1,6 @@
-use Rattle.std.proofs.Common.{sym, subst, ap, ◌∙◌}
-use Rattle.humantime.specs.Durations.Counts.{IsCanonicalText}
+use Rattle.std.proofs.lemmas.Bool.Decides.{nat_tests}
+use Rattle.std.proofs.lemmas.Grind.{common_steps}
+use Rattle.std.proofs.Common.{ap, ◌∙◌, arith}
 use Rattle.std.specs.Prelude.{chars, ◌<◌}
 use Rattle.humantime.specs.Values.{duration_end}
 use Rattle.humantime.proofs.Durations.Laws.DurationTheorems.{printed_duration_reads}
@@ -8,9 +9,7 @@ use Rattle.humantime.proofs.Durations.Printing.GreatestCounts.{printed_is_canon}
 use Rattle.humantime.proofs.duration.print.FormattedDuration.text.Goals as goal
 
 pub returns-clause-canon : goal.returns-clause-canon
-returns-clause-canon c =
-    let text = c.str_prefix.ensures ∙ c.write_duration-end.ensures.text ∙ ap duration_text c.self.view_is in
-    subst (IsCanonicalText c.args.self.now) (sym text) (printed_is_canon c.args.self.now)
+returns-clause-canon c = grind (arith, common_steps, nat_tests, printed_is_canon)
 
 pub returns-clause-reads_back : goal.returns-clause-reads_back
 returns-clause-reads_back c =
