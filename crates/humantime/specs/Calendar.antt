@@ -3,26 +3,26 @@ use Rattle.std.specs.Prelude.{ℕ, zero, suc, ◌+◌, ◌-◌, ◌%◌, Bool, �
 use Rattle.std.specs.Int.{is_in_range}
 use Rattle.humantime.specs.declared.calendar.Date.{Date}
 
--- Tests whether a year is a leap year: a multiple of 4, but not of 100 unless it is one of 400.
+-- Tests whether a year is a leap year: a multiple of 4, but not of 100 unless it is also a multiple of 400.
 abbrev pub is_leap_year : ℕ → Bool
 is_leap_year y = (y % 4 == 0) && (not (y % 100 == 0) || (y % 400 == 0))
 
--- Returns the number of days of a year, 366 or 365.
+-- Returns the number of days in a year, 365 or 366.
 abbrev pub days_in_year : ℕ → ℕ
 days_in_year y = if is_leap_year y then 366 else 365
 
--- Returns the number of days of month `m`, 1 to 12, of year `y`: 28 to 31.
+-- Returns the number of days in month `m` (1 to 12) of year `y`, 28 to 31.
 abbrev pub days_in_month : ℕ → ℕ → ℕ
 days_in_month y m =
     if m == 2 then (if is_leap_year y then 29 else 28)
     else (if (m == 4) || (m == 6) || (m == 9) || (m == 11) then 30 else 31)
 
--- Returns the number of days of the `n` years from 1970 on.
+-- Returns the number of days in the `n` years from 1970 on.
 unfoldable pub days_of_years : ℕ → ℕ
 days_of_years zero = 0
 days_of_years (suc n) = days_of_years n + days_in_year (1970 + n)
 
--- Returns the number of days of the first `n` months of year `y`.
+-- Returns the number of days in the first `n` months of year `y`.
 unfoldable pub days_of_months : ℕ → ℕ → ℕ
 days_of_months y zero = 0
 days_of_months y (suc n) = days_of_months y n + days_in_month y (suc n)

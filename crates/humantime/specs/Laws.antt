@@ -1,4 +1,4 @@
--- What the laws say. They are proved as the contracts of the functions of `src/laws`, and only these cite the definitions below.
+-- The statements of the laws. The functions of `src/laws` have them as contracts, which are proved.
 pub mod Days
 pub mod ExactlyOne
 pub mod Older

@@ -1,4 +1,4 @@
--- What the calls return, each as one function of its arguments. Public contracts cite these functions, and theorems in `proofs` relate them
+-- The result of each call as one function of its arguments. Public contracts cite these functions, and theorems in `proofs` relate them
 -- to the definitions of the other modules.
 pub mod Dates
 pub mod Durations

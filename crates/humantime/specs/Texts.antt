@@ -23,6 +23,6 @@ ends p [] = false
 ends p (c ∷ []) = p c
 ends p (c ∷ d ∷ cs) = ends p (d ∷ cs)
 
--- Returns the value of decimal digits, and 0 if there are none.
+-- Returns the value of decimal digits, or 0 if there are none.
 abbrev pub decimal_value : List ℕ → ℕ
 decimal_value ds = digits_value 10 ds

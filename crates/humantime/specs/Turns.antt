@@ -2,7 +2,7 @@
 use Rattle.std.specs.Prelude.{ℕ, ◌+◌}
 use Rattle.humantime.specs.declared.calendar.Chain.{Chain, Start, Next'}
 
--- Returns the number of links of a chain.
+-- Returns the number of `Next` links in a chain.
 abbrev pub turns_of : Chain → ℕ
 turns_of Start = 0
 turns_of (Next' outer inner before) = turns_of before + 1

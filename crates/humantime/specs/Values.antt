@@ -38,11 +38,11 @@ seconds_per_month = 2_630_016
 abbrev pub seconds_per_year : ℕ
 seconds_per_year = 31_557_600
 
--- The upper bound of durations, which are shorter: 2^64 seconds in nanoseconds.
+-- The exclusive upper bound of durations: 2^64 seconds, in nanoseconds.
 abbrev pub duration_end : ℕ
 duration_end = 2 ^ 64 * nanos_per_second
 
--- Returns a moment in nanoseconds, given its seconds since 1970-01-01T00:00:00Z, which may be negative, and its nanoseconds.
+-- Returns a moment in nanoseconds, given its seconds since 1970-01-01T00:00:00Z, which may be negative, and the nanoseconds after them.
 abbrev pub moment : ℤ → ℕ → ℤ
 moment secs nanos = secs *ℤ pos nanos_per_second +ℤ pos nanos
 
@@ -50,10 +50,10 @@ moment secs nanos = secs *ℤ pos nanos_per_second +ℤ pos nanos
 abbrev pub second_of : ℤ → ℤ
 second_of t = int_div_euclid t (pos nanos_per_second)
 
--- Returns the nanoseconds of a moment after its second.
+-- Returns the nanoseconds of a moment after its second, below 10^9.
 abbrev pub nano_of : ℤ → ℕ
 nano_of t = nat_abs (int_rem_euclid t (pos nanos_per_second))
 
--- The upper bound of moments, which are earlier: 2^63 seconds in nanoseconds.
+-- The exclusive upper bound of moments: 2^63 seconds, in nanoseconds.
 abbrev pub moment_end : ℤ
 moment_end = pos (2 ^ 63 * nanos_per_second)

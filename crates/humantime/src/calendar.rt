@@ -1,4 +1,4 @@
-//! Conversions between the dates of 1970 to 9999 and their numbers of days since 1970-01-01, and [`Turns`], a count of iterations.
+//! Converts between dates from 1970 to 9999 and numbers of days since 1970-01-01, and counts iterations with [`Turns`].
 
 ghost use Rattle.std.specs.Prelude.{◌≡◌, ◌+◌, ◌-◌, ◌<◌, ◌≤◌, ◌↔◌, IsSome, IfSome, MatchOption};
 ghost use Rattle.std.specs.Int.{IsInRange};
@@ -16,42 +16,42 @@ const FIRST_YEAR: u32 = 1970;
 /// The last supported year.
 const LAST_YEAR: u32 = 9999;
 
-/// The day number of 9999-12-31.
+/// The number of days from 1970-01-01 to 9999-12-31.
 const LAST_DAY: u32 = 2_932_896;
 
-/// The number of days before each month of a common year, starting with January.
+/// The number of days before each month in a common year, starting with January.
 const DAYS_BEFORE_MONTH: [u32; 12] = [0, 31, 59, 90, 120, 151, 181, 212, 243, 273, 304, 334];
 
-/// The number of days of each month of a common year, starting with January.
+/// The number of days in each month of a common year, starting with January.
 const MONTH_LENGTHS: [u32; 12] = [31, 28, 31, 30, 31, 30, 31, 31, 30, 31, 30, 31];
 
-/// The day number of 2000-03-01, on which a cycle of 400 years begins.
+/// The number of days from 1970-01-01 to 2000-03-01, on which a cycle of 400 years begins.
 const MARCH_2000: u32 = 11_017;
 
-/// The number of days of 400 years.
+/// The number of days in 400 years.
 const DAYS_PER_400_YEARS: u32 = 146_097;
 
-/// The number of days of a century that does not end with a leap day.
+/// The number of days in a century that does not end with a leap day.
 const DAYS_PER_100_YEARS: u32 = 36_524;
 
-/// The number of days of four years that end with a leap day.
+/// The number of days in four years that end with a leap day.
 const DAYS_PER_4_YEARS: u32 = 1_461;
 
-/// The number of days of a common year.
+/// The number of days in a common year.
 const DAYS_PER_YEAR: u32 = 365;
 
-/// The count as a unary number: `Start` is 0, and `Next` adds 1. `Next` holds a snapshot of the field `chain` of [`Turns`], which is itself a
-/// snapshot. Snapshots take no bytes.
+/// A count as a unary number: `Start` is 0, and `Next` adds 1. `Next` holds a snapshot of the field `chain` of [`Turns`], which is itself
+/// a snapshot. Snapshots take no bytes.
 #[derive(Drop)]
 enum Chain {
     Start,
     Next(Snapshot<Snapshot<Chain>>),
 }
 
-/// A count of loop iterations: a whole number, starting at 0, without an upper bound.
+/// A count of loop iterations, which starts at 0 and has no upper bound.
 ///
-/// Only contracts see it. At run time it takes no bytes, and counting costs nothing. The loop of [`date_of_day`](crate::date_of_day)
-/// counts each of its iterations here, so a contract can bound how many iterations a call takes.
+/// Only contracts see it: at run time it takes no bytes, and counting costs nothing. The loop of [`date_of_day`](crate::date_of_day)
+/// counts each of its iterations here, so a contract can state how many a call takes.
 ///
 /// # Examples
 ///
@@ -109,7 +109,7 @@ impl Turns {
 
 /// A date: a year, a month from 1 (January) to 12, and a day of the month from 1.
 ///
-/// The fields may hold any numbers. [`day_number`] returns `None` for a date that does not exist.
+/// The fields may hold any numbers. [`day_number`] returns `None` for a date that does not exist in 1970 to 9999.
 ///
 /// # Examples
 ///
@@ -132,14 +132,14 @@ pub struct Date {
     pub day: u32,
 }
 
-/// Returns the number of days from 1970-01-01 to the first day of `year`.
+/// Returns the number of days from 1970-01-01 to the first day of `year`, which is 1970 to 9999.
 #[inline(always)]
 #[tactic(auto, using(crate::proofs::Dates::Years::days_of_years_closed))]
 fn days_before_year(year: u32) -> u32
     requires { IsInRange 1970 9999 year }
     ensures { result ≡ days_of_years (year - 1970) }
 {
-    // 1969, 1901 and 1601 follow multiples of 4, 100 and 400, so each quotient is the number of such multiples from 1970 to the year before.
+    // 1969, 1901 and 1601 follow multiples of 4, 100 and 400, so each quotient is the number of such multiples from 1970 to `year - 1`.
     365 * (year - 1970) + (year - 1969) / 4 - (year - 1901) / 100 + (year - 1601) / 400
 }
 
@@ -151,7 +151,7 @@ fn leap_days(year: u32) -> u32
     (year % 4 == 0 && (year % 100 != 0 || year % 400 == 0)) as u32
 }
 
-/// Returns the number of days of a month.
+/// Returns the number of days in a month, 28 to 31.
 #[inline(always)]
 fn month_length(year: u32, month: u32) -> u32
     requires { IsInRange 1 12 month }
@@ -180,10 +180,10 @@ fn days_before_month(year: u32, month: u32) -> u32
     }
 }
 
-/// Returns the number of days from 1970-01-01 to `date`, or `None` if no such date exists in 1970 to 9999.
+/// Returns the number of days from 1970-01-01 to `date`, or `None` if the date does not exist in 1970 to 9999.
 ///
-/// A formula counts the leap days before the year, and a table has the days before each month. There is no loop, so `turns` is
-/// left unchanged.
+/// A formula counts the leap days before the year, and a table has the days before each month. `turns` shows that there is no loop: it stays
+/// unchanged.
 ///
 /// # Examples
 ///
@@ -215,17 +215,17 @@ pub fn day_number(date: Date, turns: &mut Turns) -> Option<u32>
     Some(days + date.day - 1)
 }
 
-/// Returns the year that has this day, minus 1600 (below 8400), and the zero-based index of the day in that year (below 366). `day` is
+/// Returns the year of a day, counted from 1600 (below 8400), and the zero-based index of the day in that year (below 366). `day` is
 /// counted from 1970-01-01. Years begin on 1 March here, and 1600-03-01 is 135,080 days before 1970-01-01.
 ///
-/// The last century of a cycle and the last of four years have an extra day, which would make the quotient 4, so it is capped at 3.
+/// The last century of a cycle and the last of four years have an extra day. On that day the quotient would be 4, so it is capped at 3.
 #[inline(always)]
 fn march_year(day: u32) -> (u32, u32)
     requires { day ≤ 2_932_896 }
     ensures year { result.0 ≡ Dates.march_year (day + 135_080) }
     ensures day { march_days result.0 + result.1 ≡ day + 135_080 }
 {
-    // Counted from 1600-03-01, where the cycle of 400 years before 2000-03-01 begins, so that the subtraction does not underflow.
+    // Counted from 1600-03-01, 400 years before 2000-03-01, so that the subtraction does not underflow.
     let from = day + DAYS_PER_400_YEARS - MARCH_2000;
     let cycles = from / DAYS_PER_400_YEARS;
     let in_cycle = from % DAYS_PER_400_YEARS;
@@ -240,7 +240,8 @@ fn march_year(day: u32) -> (u32, u32)
     )
 }
 
-/// Returns the number of days from 1 March to the first day of `month`, where March is month 0.
+/// Returns the number of days from 1 March to the first day of `month`, where March is 0 and February 11. For 12, it returns 367, which no
+/// day of a year reaches.
 #[inline(always)]
 fn days_before_march_month(month: u32) -> u32
     requires { month ≤ 12 }
@@ -250,8 +251,8 @@ fn days_before_march_month(month: u32) -> u32
     (153 * month + 2) / 5
 }
 
-/// Returns the date at the zero-based `day_index` of a month. `year` begins on 1 March and is counted from 1600, `month` 0 is March, and months
-/// 10 and 11 are January and February of the next calendar year.
+/// Returns the date at the zero-based `day_index` in a month. `year` begins on 1 March and is counted from 1600. Month 0 is March, and
+/// months 10 and 11 are January and February of the next calendar year.
 #[inline(always)]
 fn march_date(year: u32, month: u32, day_index: u32) -> Date
     requires year { year < 8400 }
@@ -273,10 +274,10 @@ fn march_date(year: u32, month: u32, day_index: u32) -> Date
     }
 }
 
-/// Returns the date whose day number is `day`, or `None` if `day` is above 2932896, the day of 9999-12-31.
+/// Returns the date `day` days after 1970-01-01, or `None` if `day` is above 2932896 (9999-12-31).
 ///
-/// Divisions by the days of 400, 100, 4 and 1 years find the year, and a loop over the 12 months from March on finds the month.
-/// Each iteration adds 1 to `turns`, which grows by 12 for a date and is left unchanged for `None`.
+/// Divisions by the number of days in 400, 100, 4 and 1 years find the year, and a loop over 12 months from March on finds the month.
+/// Each iteration adds 1 to `turns`, which grows by 12 for a date and stays unchanged for `None`.
 ///
 /// # Examples
 ///

@@ -1,4 +1,4 @@
-//! Parsing and formatting of timestamps such as `2018-02-14T00:28:07Z`.
+//! Parses and prints timestamps such as `2018-02-14T00:28:07Z`.
 
 mod error;
 mod parse;

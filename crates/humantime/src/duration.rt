@@ -1,8 +1,8 @@
 //! Parses and prints durations such as `2h 37m`.
 //!
-//! In the order in which a text is read and a value is printed: `error`, `amount` (what a span adds), `cursor` (a position in a text),
-//! `scan` (whitespace, numbers, fractions and words), `span` and `reader` (one span), `iter` (all spans), `sum` (their sum), `parse` (a
-//! whole text), `writer` (output to a buffer) and `print`.
+//! The modules, each after those that it uses: `error`, `amount` (what a span adds), `cursor` (a position in a text), `scan` (whitespace,
+//! numbers, fractions and words), `span` and `reader` (one span), `iter` (all spans), `sum` (their sum), `parse` (a whole text), `writer`
+//! (output to a buffer) and `print`.
 
 mod amount;
 mod cursor;

@@ -1,7 +1,7 @@
-//! Laws of the definitions that contracts cite.
+//! Laws: theorems about the definitions that contracts cite.
 //!
-//! Each function does nothing at run time: its contract states the law, for every argument. A caller that needs the law in its
-//! own proof calls the function with the values that the law is about.
+//! Each function does nothing at run time; its contract states the law for all arguments. To use a law in the proof of a function,
+//! call the law there with the values that it is about.
 
 mod days;
 mod durations;

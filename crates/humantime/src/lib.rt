@@ -1,10 +1,10 @@
 //! Parses and prints durations such as `2h 37m` and UTC timestamps such as `2018-02-14T00:28:07Z`.
 //!
-//! The contracts cite the definitions in `specs/`, which docs/PROVED.md lists with what each says.
+//! The contracts cite the definitions in `specs/`; docs/PROVED.md says what each file of `specs/` defines.
 //!
 //! # Examples
 //!
-//! Each example of this crate is the body of a test: `rt` is the test's `HostRuntime`, and `?` ends it with an error.
+//! Each example in this crate is the body of a test: `rt` is the test's `HostRuntime`, and `?` ends the test with the error.
 //!
 //! ```
 //! use humantime::{StdDuration, format_rfc3339, parse_duration, parse_rfc3339};

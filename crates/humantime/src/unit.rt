@@ -1,4 +1,4 @@
-//! The units of time: what one of each unit adds to a duration.
+//! The units of time, and what one of each adds to a duration.
 
 pub(crate) mod sizes;
 pub(crate) mod words;
@@ -15,7 +15,7 @@ pub(crate) enum Addition {
 pub(crate) struct Scale {
     /// The size of one unit.
     pub one: Addition,
-    /// The same size, in nanoseconds or in seconds: a fraction has to denote a whole number of these. `None` if only a fraction of
-    /// zero is allowed.
+    /// The same size as a factor for fractions: a fraction times this must be a whole number of nanoseconds or of seconds. `None` if a
+    /// fraction must be zero.
     pub fraction: Option<Addition>,
 }

@@ -1,4 +1,4 @@
-//! [`Duration`] and [`Timestamp`], which wrap [`StdDuration`] and [`SystemTime`] to parse and display them. Built on `duration` and `date`.
+//! [`Duration`] and [`Timestamp`], which wrap [`StdDuration`] and [`SystemTime`] to parse and print them. Built on `duration` and `date`.
 
 ghost use Rattle.std.specs.Prelude.{◌≡◌, Some};
 ghost use Rattle.humantime.specs.Prelude.{IsDurationAnswer};
@@ -10,9 +10,10 @@ use std::fmt;
 use std::marker::Model;
 use std::str::FromStr;
 
-/// A duration that [`from_str`](Self::from_str) reads and `Display` prints, for a settings field or an option.
+/// A wrapper of [`StdDuration`] that [`from_str`](Self::from_str) parses and `Display` prints, for a settings field or a command-line
+/// option.
 ///
-/// Order, equality and hashing are those of the [`StdDuration`] that it holds; the default is zero.
+/// Order, equality and hashing are those of the wrapped `StdDuration`; the default is zero.
 ///
 /// # Examples
 ///
@@ -38,7 +39,7 @@ impl Model for Duration {
 }
 
 impl Duration {
-    /// Creates a `Duration` that holds `value`.
+    /// Creates a `Duration` that wraps `value`.
     ///
     /// # Examples
     ///
@@ -56,7 +57,7 @@ impl Duration {
 
     /// Parses a duration, as [`parse_duration`] does.
     ///
-    /// It is not a method of the trait `FromStr`, because the error borrows from `s`.
+    /// This is not a method of the trait `FromStr`, because the error borrows from `s`.
     ///
     /// # Errors
     ///
@@ -79,7 +80,7 @@ impl Duration {
         }
     }
 
-    /// Returns the duration that this wrapper holds.
+    /// Returns a reference to the wrapped duration.
     ///
     /// # Examples
     ///
@@ -112,7 +113,7 @@ impl From<Duration> for StdDuration {
     }
 }
 
-/// Writes what `Display` writes of the value that [`format_duration`] returns.
+/// Writes the text that `Display` writes for the value that [`format_duration`] returns.
 impl fmt::Display for Duration {
     ghost use Rattle.std.specs.Prelude.{Some};
     ghost use Rattle.humantime.specs.Results.Durations.{duration_text};
@@ -126,9 +127,9 @@ impl fmt::Display for Duration {
     }
 }
 
-/// A wrapper of [`SystemTime`] that implements `FromStr` and `Display`, for a settings field or an option.
+/// A wrapper of [`SystemTime`] that implements `FromStr` and `Display`, for a settings field or a command-line option.
 ///
-/// Ordering, equality and hashing are those of the wrapped `SystemTime`.
+/// Order, equality and hashing are those of the wrapped `SystemTime`.
 ///
 /// # Examples
 ///
@@ -154,7 +155,7 @@ impl Model for Timestamp {
 }
 
 impl Timestamp {
-    /// Returns the wrapped moment.
+    /// Returns a reference to the wrapped moment.
     ///
     /// # Examples
     ///
@@ -170,7 +171,7 @@ impl Timestamp {
     }
 }
 
-/// Parses what [`parse_rfc3339_weak`] parses, with the same errors.
+/// Parses a timestamp in the weak form, as [`parse_rfc3339_weak`] does, with the same errors.
 ///
 /// # Examples
 ///
@@ -211,9 +212,9 @@ impl From<Timestamp> for SystemTime {
     }
 }
 
-/// Writes what `Display` writes for the value that [`format_rfc3339`] returns.
+/// Writes the text that `Display` writes for the value that [`format_rfc3339`] returns.
 ///
-/// For a moment outside 1970 to 9999 it returns `fmt::Error` and writes nothing.
+/// For a moment outside 1970 to 9999, it returns `fmt::Error` and writes nothing.
 impl fmt::Display for Timestamp {
     ghost use Rattle.humantime.specs.Prelude.{DisplaysMoment, shortest_text};
 

@@ -16,8 +16,8 @@ pub data Command : List ℕ → Type 0 where
   Strict : Command (codes "strict")
   Weak : Command (codes "weak")
 
--- The output for a text is the printed text, with the default number of digits, of a moment that the text denotes, or the message of an
--- error of the text.
+-- The output for a text: the printed text of a moment that the text denotes, with the default number of digits, or the message of an error
+-- of the text.
 abbrev pub IsMomentOutput : (ℤ → Type 0) → (TimestampError → Type 0) → Result (List ℕ) (List ℕ) → Type 0
 IsMomentOutput Denotes Has (Ok printed) = (moment : ℤ) × Denotes moment × IsPrinted moment (places_of moment) printed
 IsMomentOutput Denotes Has (Err message) = (error : TimestampError) × Has error × (message ≡ timestamp_message error)
@@ -58,8 +58,8 @@ outcome None = (2, [], line (codes "usage: humantime duration|strict|weak TEXT")
 abbrev pub OneAnswer : List (List ℕ) → Type 0
 OneAnswer words = (answer other : Answer) → Answers words answer → Answers words other → other ≡ answer
 
--- The streams received exactly the answer, and the status is its own; or the status is 3, one stream received a prefix of its bytes, not
--- all of them, and the other received nothing.
+-- The streams received exactly the answer, and the status is that of the answer; or the status is 3, one stream received a prefix of its
+-- bytes, not all of them, and the other received nothing.
 pub data EndsWith (answer : Answer) (status : ℕ) (old new : Streams) : Type 0 where
   -- The streams received exactly the answer.
   Whole : status ≡ (outcome answer).0 → Appends old.out new.out (outcome answer).1 → Appends old.err new.err (outcome answer).2
@@ -74,6 +74,6 @@ pub data EndsWith (answer : Answer) (status : ℕ) (old new : Streams) : Type 0 
 abbrev pub Ends : List (List ℕ) → ℕ → Streams → Streams → Type 0
 Ends words status old new = (answer : Answer) × Answers words answer × EndsWith answer status old new
 
--- The program returned an error: nothing was written, or it ended as `Ends` says, and standard output could not be flushed.
+-- The program returned an error: either nothing was written, or it ended as `Ends` says and standard output could not be flushed.
 abbrev pub Fails : List (List ℕ) → Streams → Streams → Type 0
 Fails words old new = (Keeps old.out new.out × Keeps old.err new.err) ⊎ ((status : ℕ) × Ends words status old new)

@@ -1,4 +1,4 @@
--- What a writer has accepted, if its bytes are known.
+-- The bytes that a writer has accepted, if they are known.
 use Rattle.std.specs.Prelude.{ℕ, ◌<◌, List, [], ◌∷◌, ◌++◌, length, take, Option, Result, MatchResult}
 use Rattle.std.specs.Io.KnownBytes.{Appends}
 

@@ -19,9 +19,9 @@ mod tests;
 const ACCEPTED: u8 = 0;
 
 /// The exit status if the text could not be parsed.
-const REFUSED: u8 = 1;
+const REJECTED: u8 = 1;
 
-/// The exit status for arguments that are not a command and its text.
+/// The exit status if the arguments are not a command and its text.
 const MISUSED: u8 = 2;
 
 /// The exit status if a write failed.
@@ -36,8 +36,8 @@ const USAGE: &str = "usage: humantime duration|strict|weak TEXT";
 /// - If one of these cannot parse `TEXT`, it writes the error message to `err` and returns 1.
 /// - For any other arguments, it writes the usage line to `err` and returns 2.
 ///
-/// Each output ends with a line feed. A write has failed if it returns an error or writes no bytes: it is not retried, nothing more
-/// is written, and the status is 3. Nothing is allocated.
+/// Each output ends with a line feed. A write fails if it returns an error or writes no bytes: it is not retried, nothing more is
+/// written, and the status is 3. Nothing is allocated.
 ///
 /// # Examples
 ///
@@ -71,7 +71,7 @@ pub fn run<O: Write, E: Write>(words: &[&str], out: &mut O, err: &mut E) -> u8
     answer_words(words, out, err).unwrap_or(WRITE_FAILED)
 }
 
-/// Runs the command and returns its status.
+/// Runs the command and returns its status, or an error if a write failed.
 fn answer_words<O: Write, E: Write>(
     words: &[&str],
     out: &mut O,
@@ -88,7 +88,7 @@ fn answer_words<O: Write, E: Write>(
     }
 }
 
-/// Writes the canonical text of the duration to `out`, or the error message to `err`.
+/// Writes the canonical text of the duration to `out`, or the error message to `err`, and returns the status.
 fn answer_duration<O: Write, E: Write>(
     text: &str,
     out: &mut O,
@@ -100,11 +100,11 @@ fn answer_duration<O: Write, E: Write>(
 {
     match parse_duration(text) {
         Ok(duration) => write_line(out, humantime::Duration::from(duration)).and(Ok(ACCEPTED)),
-        Err(fault) => write_line(err, fault).and(Ok(REFUSED)),
+        Err(fault) => write_line(err, fault).and(Ok(REJECTED)),
     }
 }
 
-/// Writes the moment to `out`, or the error message to `err`.
+/// Writes the moment to `out`, or the error message to `err`, and returns the status.
 fn answer_moment<O: Write, E: Write>(
     read: Result<SystemTime, TimestampError>,
     out: &mut O,
@@ -116,6 +116,6 @@ fn answer_moment<O: Write, E: Write>(
 {
     match read {
         Ok(moment) => write_line(out, Timestamp::from(moment)).and(Ok(ACCEPTED)),
-        Err(error) => write_line(err, error).and(Ok(REFUSED)),
+        Err(error) => write_line(err, error).and(Ok(REJECTED)),
     }
 }

@@ -23,13 +23,13 @@ fn main(rt: HostRuntime) -> ExitCode {
     ExitCode::from(answer(&rt).unwrap_or(FAILED))
 }
 
-/// Runs the command given by the program's arguments, on standard output and standard error.
+/// Runs the command given by the program's arguments with standard output and standard error, and returns the exit status.
 fn answer(rt: &HostRuntime) -> io::Result<u8> {
     let args = env::args(rt)?.skip(1).collect::<Vec<String>>(rt.alloc())?;
     answer_args(rt.alloc(), &args, &mut rt.stdout(), &mut rt.stderr())
 }
 
-/// Runs the command given by `args`, and then flushes `out`.
+/// Runs the command given by `args`, flushes `out`, and returns the exit status.
 fn answer_args<O: Write, E: Write>(
     alloc: Global,
     args: &[String],

@@ -4,15 +4,15 @@ ghost use Rattle.std.specs.Prelude.{◌≤◌};
 
 use std::fmt::{self, Display, Write as _};
 
-/// The number of bytes of a piece at most.
+/// The maximum number of bytes in a piece.
 const PIECE_LEN: usize = 256;
 
 /// The bytes of a text from an offset on, as many as fit.
 ///
-/// `fmt::Write` adds to the text.
+/// Its `fmt::Write` appends to the text.
 #[derive(Drop)]
 pub(crate) struct Piece {
-    /// The number of bytes that the text lacks to reach the offset.
+    /// The number of bytes that the text still lacks to reach the offset.
     skip: usize,
     bytes: [u8; PIECE_LEN],
     len: usize,
@@ -26,7 +26,7 @@ impl Piece {
     ghost use Rattle.humantime_cli.specs.Pieces.{IsPiece};
     ghost use Rattle.humantime_cli.specs.Writes.{line};
 
-    /// Returns a piece, from the offset `start` on, of the text that `value` displays and a line feed.
+    /// Returns the piece from the offset `start` on of a line: the text that `value` displays and a line feed.
     pub(crate) fn of_line<D: Display + Copy>(value: D, start: usize) -> Result<Piece, fmt::Error>
         requires { IsSome (D.output value) }
         ensures { IfOk result (IsPiece start (line (unwrap_or (D.output value) []))) }
@@ -42,14 +42,14 @@ impl Piece {
         Ok(piece)
     }
 
-    /// Returns the bytes.
+    /// Returns the bytes of the piece.
     pub(crate) fn as_bytes(&self) -> &[u8]
         ensures { result.now ≡ take self.now.len self.now.bytes }
     {
         &self.bytes[..self.len]
     }
 
-    /// Returns `true` if the line has more bytes than fit.
+    /// Returns `true` if the line has bytes after those of the piece.
     pub(crate) fn is_cut(&self) -> bool
         ensures { result ≡ self.now.is_cut }
     {

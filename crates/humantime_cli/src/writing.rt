@@ -8,10 +8,10 @@ use crate::piece::Piece;
 use std::fmt::{self, Display};
 use std::io::Write;
 
-/// Writes the text that `value` displays and a line feed. Nothing more is written after a write that failed.
+/// Writes the text that `value` displays and a line feed. Nothing more is written after a failed write.
 ///
-/// The contract of `Display` says nothing about what was written before an error. So `value` is not displayed to `to`, but to a [`Piece`]. It
-/// is displayed again, for a piece that begins where the last write ended, only if the line does not fit a piece or is not written at once.
+/// The contract of `Display` says nothing about what was written before an error, so `value` is displayed to a [`Piece`] and not to `to`. It
+/// is displayed again, to a piece that begins where the last write ended, only if the line does not fit a piece or is not written at once.
 #[tactic(auto, unfolding(crate::specs::Writes::Writes))]
 pub(crate) fn write_line<W: Write, D: Display + Copy>(to: &mut W, value: D) -> fmt::Result
     requires { IsSome (D.output value) }
@@ -29,7 +29,7 @@ pub(crate) fn write_line<W: Write, D: Display + Copy>(to: &mut W, value: D) -> f
     }
 }
 
-/// Writes some of the bytes, at least one, and returns how many. A write has failed if it returns an error or writes no bytes.
+/// Writes at least one of the bytes, and returns how many were written. A write fails if it returns an error or writes no bytes.
 fn write_some<W: Write>(to: &mut W, bytes: &[u8]) -> Result<usize, fmt::Error>
     ensures { MatchResult result
         (λ count. (0 < count) × (count ≤ length bytes.now) × Appends (W.contents to.old) (W.contents to.new) (take count bytes.now))

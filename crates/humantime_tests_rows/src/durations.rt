@@ -108,7 +108,7 @@ pub(crate) fn explain<W: fmt::Write>(
     text: &str,
     wanted: &str,
 ) -> fmt::Result {
-    write_message(f, parse_duration(text).err(), wanted, u32::MAX)
+    write_message(f, parse_duration(text).err(), wanted, 5)
 }
 
 /// Writes the messages of the two kinds of error that have an offset, with this offset.
@@ -123,8 +123,8 @@ pub(crate) fn misplace<W: fmt::Write>(
     let invalid = DurationError::InvalidCharacter(at);
     let expected = DurationError::NumberExpected(at);
     let (first, second) = wanted.split_once(", ").unwrap_or_default();
-    let is_agreed = is_always_written(&invalid, first, u32::MAX)
-        && is_always_written(&expected, second, u32::MAX);
+    let is_agreed = is_always_written(&invalid, first, 2)
+        && is_always_written(&expected, second, 2);
     write_result(f, format_args!("{invalid}, {expected}"), is_agreed)
 }
 

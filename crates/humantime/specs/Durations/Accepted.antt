@@ -7,7 +7,7 @@ use Rattle.humantime.specs.Durations.Units.{Addition, Nanos, Seconds, Scale, sca
 use Rattle.humantime.specs.Durations.Spans.{SpelledSpan, Reads}
 use Rattle.humantime.specs.Values.{nanos_per_second}
 
--- Returns the number of an addition, without its kind.
+-- Returns the number of an addition, in nanoseconds or in seconds.
 abbrev pub size : Addition → ℕ
 size (Nanos n) = n
 size (Seconds n) = n
@@ -34,7 +34,7 @@ times n x = of_kind x (n * size x)
 abbrev pub part : List ℕ → Addition → Addition
 part ds x = of_kind x (decimal_value ds * size x / 10 ^ length ds)
 
--- Returns what a fraction adds, if there is one and its unit has fractions.
+-- Returns what a fraction adds: nothing if there is none or its unit has no fractions.
 abbrev pub fraction_additions : Option Addition → Option (List ℕ) → List Addition
 fraction_additions (Some x) (Some ds) = part ds x ∷ []
 fraction_additions _ _ = []
@@ -78,25 +78,24 @@ pub record Formed (s : SpelledSpan) : Type 0 where
 abbrev pub is_whole_part : ℕ → List ℕ → Bool
 is_whole_part n ds = fits_u64 (decimal_value ds * n) && (decimal_value ds * n % 10 ^ length ds == 0)
 
--- Tests whether a fraction, if any, satisfies `is_whole_part` without its trailing zeros, or has no other digits if its unit has no
--- fractions.
+-- Tests whether a fraction, if any, without its trailing zeros, passes `is_whole_part`, or is empty if its unit has no fractions.
 abbrev pub fraction_fits : Option Addition → Option (List ℕ) → Bool
 fraction_fits _ None = true
 fraction_fits None (Some ds) = length (without_trailing_zeros ds) == 0
 fraction_fits (Some x) (Some ds) = is_whole_part (size x) (without_trailing_zeros ds)
 
--- Tests whether the word is a unit, the number times the unit fits a `u64`, and the fraction fits.
+-- Tests whether the word is a unit, the number times the size of the unit fits a `u64`, and the fraction fits.
 abbrev pub fits : SpelledSpan → Bool
 fits s = is_some_and (λ u. fits_u64 (decimal_value s.number * size u.one) && fraction_fits u.fraction s.fraction)
     (scale_of_word s.word)
 
--- Tests whether an addition to a sum of `t` nanoseconds does not overflow: the whole seconds of the new sum fit a `u64`, and so do
--- nanoseconds that are added together with those of `t` below a second.
+-- Tests whether an addition to a sum of `t` nanoseconds does not overflow: the whole seconds of the new sum fit a `u64`, and if nanoseconds
+-- are added, so do these plus the nanoseconds of `t` below a second.
 abbrev pub has_room : ℕ → Addition → Bool
 has_room t (Nanos n) = fits_u64 (t % nanos_per_second + n) && fits_u64 ((t + n) / nanos_per_second)
 has_room t (Seconds n) = fits_u64 (t / nanos_per_second + n)
 
--- Each addition fits after those before it, without overflow.
+-- Each addition, made after those before it, does not overflow.
 abbrev pub AllHaveRoom : List Addition → Type 0
 AllHaveRoom xs = (before after : List Addition) (x : Addition) → xs ≡ before ++ x ∷ after → has_room (total before) x ≡ true
 
@@ -106,7 +105,7 @@ pub record WithinLimits (spans : List SpelledSpan) : Type 0 where
   pub fit : AllByRecursion (λ s. fits s ≡ true) spans
   pub room : AllHaveRoom (additions spans)
 
--- The text is exactly `0` and `d` is 0, or it is spans within the limits, and `d` is their sum.
+-- The text is exactly `0` and `d` is 0, or the text is spans within the limits and `d` is their sum.
 pub data Accepted (text : List ℕ) (d : ℕ) : Type 0 where
   -- The text is exactly `0`.
   BareZero : text ≡ bare_zero → d ≡ 0 → Accepted text d

@@ -1,4 +1,4 @@
--- The classes of characters of a duration's text.
+-- The classes of characters in the text of a duration.
 use Rattle.std.specs.Prelude.{ℕ, ◌-◌, Bool, ◌||◌, ◌==◌, List, [], ◌∷◌, length, encode_utf8_all, filter, codes, reverse}
 use Rattle.std.specs.Char.{char_set_contains, is_ascii_digit, is_ascii_alphabetic}
 use Rattle.std.specs.Str.{byte}
@@ -54,7 +54,7 @@ digits cs = filter is_digit cs
 unfoldable pub without_trailing_zeros : List ℕ → List ℕ
 without_trailing_zeros ds = reverse (drop_while (λ d. d == byte "0") (reverse ds))
 
--- The greatest `u64`, 2^64 - 1.
+-- The maximum of a `u64`, 2^64 - 1.
 abbrev pub u64_max : ℕ
 u64_max = 18446744073709551615
 

@@ -1,4 +1,4 @@
--- A duration as nine counts, its printed text, and the canonical text of the duration that a text denotes. A text is its bytes.
+-- A duration as nine counts, its printed text, and the canonical text of the duration that a text denotes. A text is its list of bytes.
 use Rattle.std.specs.Prelude.{◌≡◌, ℕ, ◌+◌, ◌*◌, Bool, true, false, ◌&&◌, List, [], ◌∷◌, ◌++◌, length, map, codes, decimal, nat_lt, if◌then◌else◌, chars, IsTrue}
 use Rattle.std.specs.List.{filter, zip, join_with_byte}
 use Rattle.std.specs.Str.{byte}
@@ -21,14 +21,14 @@ weighted_sum [] counts = 0
 weighted_sum (w ∷ ws) [] = 0
 weighted_sum (w ∷ ws) (c ∷ cs) = w * c + weighted_sum ws cs
 
--- The counts, one for each weight, have the weighted sum `d`, and are lexicographically the greatest that do.
+-- The counts, one for each weight, have the weighted sum `d`, and are lexicographically the greatest such counts.
 pub record AreGreatest (ws : List ℕ) (d : ℕ) (counts : List ℕ) : Type 0 where
   pub as_many : length counts ≡ length ws
   pub sum : weighted_sum ws counts ≡ d
   pub greatest : (others : List ℕ) → length others ≡ length ws → weighted_sum ws others ≡ d
       → IsTrue (is_le (slice_cmp nat_cmp others counts))
 
--- The counts are the nine whose weighted sum is `d` and that are lexicographically greatest.
+-- The counts are the lexicographically greatest nine whose weighted sum is `d`.
 abbrev pub AreCounts : ℕ → List ℕ → Type 0
 AreCounts d counts = AreGreatest weights d counts
 

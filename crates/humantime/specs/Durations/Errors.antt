@@ -1,4 +1,4 @@
--- The contents of a duration's error, and its message. A text is its bytes.
+-- The contents of a duration's error, and its message. A text is its list of bytes.
 use Rattle.std.specs.Prelude.{◌≡◌, ℕ, ◌<◌, ◌≤◌, List, length, Option, Some, None, Result, ⊤, slice_range, ◌++◌, codes, decimal, ◌∷◌, []}
 use Rattle.std.specs.Borrow.{Bor}
 use Rattle.std.specs.Str.{IsCharBoundary}
@@ -44,7 +44,7 @@ PointsInto bytes (errors.UnknownUnit start end unit value) = IsPartOf bytes unit
 PointsInto bytes errors.NumberOverflow = ⊤
 PointsInto bytes errors.Empty = ⊤
 
--- Returns the byte offset to which a fault points: 0 for a text without spans, and `None` if a limit is broken.
+-- Returns the byte offset to which a fault points: 0 for `Empty`, and `None` for `NumberOverflow`.
 abbrev pub place_of : Fault → Option ℕ
 place_of (InvalidCharacter at) = Some at
 place_of (NumberExpected at) = Some at
@@ -52,7 +52,7 @@ place_of (UnknownUnit start end unit value) = Some start
 place_of NumberOverflow = None
 place_of Empty = Some 0
 
--- Returns the message of a missing unit, if the unit is empty, or of an unknown one.
+-- Returns the message for an unknown unit, or for a missing one if the unit is empty.
 abbrev pub unit_message : List ℕ → ℕ → List ℕ
 unit_message [] value = codes "time unit needed, for example " ++ decimal value ++ codes "sec or " ++ decimal value ++ codes "ms"
 unit_message (b ∷ bs) value =

@@ -1,4 +1,4 @@
--- The first error of a text that is not accepted, by a table of ten rows of which exactly one applies. A text is its list of characters;
+-- The first error of a text that is not accepted, by a table of ten rows, of which exactly one applies. A text is its list of characters;
 -- offsets count its bytes, and a fault holds the bytes of its unit.
 use Rattle.std.specs.Prelude.{ℕ, true, false, List, [], ◌∷◌, Option, Some, None, IsSome, if◌then◌else◌, ◌≡◌, ◌≢◌, ◌⊎◌, ◌++◌, drop, option_map, unwrap_or, encode_utf8_all}
 use Rattle.humantime.specs.Texts.{take_while, drop_while, begins, ends, decimal_value}
@@ -62,7 +62,7 @@ pub record BeginsNumber (rest : List ℕ) : Type 0 where
 abbrev pub EndsSpan : List ℕ → Type 0
 EndsSpan next = (next ≡ []) ⊎ (begins is_numeric next ≡ true)
 
--- The rest begins with a whole span: a number, a fraction with digits, if any, and the word of a unit, which ends there.
+-- The rest begins with a whole span: a number, a fraction, if any, that has digits, and the word of a unit, after which the span may end.
 pub record BeginsSpan (rest : List ℕ) : Type 0 where
   pub number : BeginsNumber rest
   pub digits : fraction_of rest ≢ Some []
@@ -81,7 +81,7 @@ pub data Stops (text front : List ℕ) (spans : List SpelledSpan) (rest : List �
   -- A character other than a point or a letter follows the number.
   NoLetterAfterNumber : BeginsNumber rest → fraction_of rest ≡ None → word_of rest ≡ [] → after_word rest ≢ []
       → e ≡ InvalidCharacter (offset_of text (after_word rest)) → Stops text front spans rest e
-  -- A point has no digits, and a letter follows or the text ends; the offset is that of the point.
+  -- A point has no digits, and then a letter follows or the text ends. The offset is that of the point.
   PointWithoutDigits : BeginsNumber rest → fraction_of rest ≡ Some [] → (word_of rest ≢ []) ⊎ (after_word rest ≡ [])
       → e ≡ InvalidCharacter (offset_of text (after_number rest)) → Stops text front spans rest e
   -- A character other than a letter follows a point and its digits, if any.

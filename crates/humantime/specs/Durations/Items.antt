@@ -21,7 +21,7 @@ pub record Items (text : List ℕ) (spans : List SpelledSpan) (stop : Option Fau
   pub formed : AllByRecursion Formed spans
   pub ends : Ends text front spans rest stop
 
--- The view of a span: the slices that it borrows, the offsets of its start and of the end of its word, and its number.
+-- The view of a span: the slices that it borrows, the byte offsets of its start and of the end of its word, and the value of its number.
 pub record SpanView : Type 0 where
   pub number : List ℕ
   pub fraction : Option (List ℕ)
@@ -30,7 +30,7 @@ pub record SpanView : Type 0 where
   pub end : ℕ
   pub value : ℕ
 
--- The slice is the text without leading and trailing whitespace; it begins and ends with a digit.
+-- The slice is the text without its leading and trailing whitespace, and begins and ends with a digit.
 pub record IsDigitSlice (text slice : List ℕ) : Type 0 where
   pub before : List ℕ
   pub after : List ℕ

@@ -1,4 +1,4 @@
--- Spans, and how they are written in a text. A text is its list of characters. A word is always as long as possible, since the next span
+-- Spans, and how they are written in a text. A text is its list of characters. A word is always as long as possible, because the next span
 -- begins with a digit.
 use Rattle.std.specs.Prelude.{◌≡◌, ◌≢◌, ℕ, Bool, true, List, [], ◌∷◌, ◌++◌, Option, Some, None}
 use Rattle.std.specs.List.{AllByRecursion}
@@ -24,12 +24,13 @@ HoldsDigits text ds = Only is_numeric text × (digits text ≡ ds)
 abbrev pub IsLetters : List ℕ → Type 0
 IsLetters text = Only is_letter text × (text ≢ [])
 
--- The text is empty if there is no fraction. Otherwise it is a point followed by digits, at least one, and any whitespace among them.
+-- The text is empty if there is no fraction. Otherwise it is a point followed by one or more digits, with any whitespace around and between
+-- them.
 abbrev pub SpellsFraction : List ℕ → Option (List ℕ) → Type 0
 SpellsFraction text None = text ≡ []
 SpellsFraction text (Some ds) = (after : List ℕ) × (text ≡ byte "." ∷ after) × HoldsDigits after ds × (ds ≢ [])
 
--- The text is the number of the span, which begins with a digit, its fraction, its word and any whitespace, followed by `rest`.
+-- The text is the number of the span, which begins with a digit, its fraction, if any, its word and any whitespace, followed by `rest`.
 pub record Spells (text : List ℕ) (span : SpelledSpan) (rest : List ℕ) : Type 0 where
   pub number_text : List ℕ
   pub fraction_text : List ℕ

@@ -1,5 +1,5 @@
--- What was accepted earlier, while the Greek letter mu, U+03BC, was not a letter and trailing zeros of a fraction counted towards its
--- limits. A text is its list of characters.
+-- The texts that were accepted while trailing zeros of a fraction counted towards its limits. The Greek letter mu, U+03BC, was not a letter
+-- then; it is one in these definitions, so they accept more texts. A text is its list of characters.
 use Rattle.std.specs.Prelude.{◌≡◌, ℕ, ◌*◌, ◌≤◌, true, List, length, Option, Some, None, IsOk, ⊤, Ok}
 use Rattle.std.specs.List.{AllByRecursion}
 use Rattle.humantime.specs.Texts.{decimal_value}
@@ -16,8 +16,8 @@ OlderFraction _ None = ⊤
 OlderFraction None (Some ds) = ⊥
 OlderFraction (Some x) (Some ds) = (length ds ≤ 19) × (is_whole_part (size x) ds ≡ true)
 
--- The word was a unit, the number and its product with the unit did not exceed a `u64`, and the fraction kept its limits with all of its
--- digits.
+-- The word was a unit, the number and its product with the size of the unit fit a `u64`, and the fraction was within its limits with all of
+-- its digits.
 pub record OlderFormed (s : SpelledSpan) : Type 0 where
   pub unit : Scale
   pub word : scale_of_word s.word ≡ Some unit
@@ -26,8 +26,8 @@ pub record OlderFormed (s : SpelledSpan) : Type 0 where
   pub fraction : OlderFraction unit.fraction s.fraction
 
 -- While trailing zeros of a fraction counted, the text was accepted and denoted `v` nanoseconds. What spans add and their `value` are the
--- same with and without trailing zeros: `part` takes all digits of a fraction, and each zero at their end multiplies by ten both the number
--- that they denote and the power of ten that divides its product.
+-- same with and without trailing zeros: `part` takes all digits of a fraction, and each trailing zero multiplies by ten both the value of
+-- the digits and the power of ten that divides its product with the size.
 pub data AcceptedWithZeros (text : List ℕ) (v : ℕ) : Type 0 where
   -- The text was exactly `0`.
   OlderZero : text ≡ bare_zero → v ≡ 0 → AcceptedWithZeros text v

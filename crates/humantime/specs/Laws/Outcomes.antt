@@ -1,5 +1,5 @@
--- The outcome of a text: exactly one value or exactly one error, one list of spans and one list of items; and how its items determine the
--- outcome. A text is its list of characters.
+-- The outcome of a text: exactly one value or exactly one error, at most one list of spans and one list of items; and how its items
+-- determine the outcome. A text is its list of characters.
 use Rattle.std.specs.Prelude.{◌≡◌, ◌≢◌, ◌↔◌, ℕ, List, ◌∷◌, Option, Some, None, Result, Ok, Err}
 use Rattle.humantime.specs.Durations.Spans.{SpelledSpan, Reads}
 use Rattle.humantime.specs.Durations.Accepted.{value, WithinLimits, Accepted}
@@ -22,16 +22,16 @@ pub record HasOneOutcome (text : List ℕ) : Type 0 where
   pub reading : (ss ts : List SpelledSpan) → Reads text ss → Reads text ts → ss ≡ ts
   -- The text has exactly one list of spans, with the error that stops them, if any.
   pub items : ExactlyOne (λ (list : List SpelledSpan × Option Fault). Items text list.0 list.1)
-  -- The result of parsing is a value exactly if it is the value of the text.
+  -- The result of parsing is a value if and only if that is the value of the text.
   pub value : (v : ℕ) → (duration_answer text ≡ Ok v) ↔ Accepted text v
-  -- The result of parsing is an error exactly if it is the fault of the text.
+  -- The result of parsing is an error if and only if that is the fault of the text.
   pub fault : (e : Fault) → (duration_answer text ≡ Err e) ↔ HasFault text e
 
 -- The items of a text determine its value or fault, unless the text is exactly `0`.
 pub record ItemsDecide (text : List ℕ) : Type 0 where
   -- The text has exactly one list of spans, with the error that stops them, if any.
   pub one : ExactlyOne (λ (list : List SpelledSpan × Option Fault). Items text list.0 list.1)
-  -- The text is accepted exactly if no error stops the spans and they are within the limits; its value is their sum.
+  -- The text is accepted if and only if no error stops the spans and they are within the limits. Its value is then their sum.
   pub accepted : (spans : List SpelledSpan) (stop : Option Fault) → Items text spans stop → text ≢ bare_zero
       → (v : ℕ) → Accepted text v ↔ ((stop ≡ None) × WithinLimits spans × (value spans ≡ v))
   -- If the spans are within the limits, the fault of the text is the one that stops them.

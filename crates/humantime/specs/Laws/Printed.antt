@@ -1,4 +1,4 @@
--- Properties of printed texts. They are bytes; `chars` decodes them into characters.
+-- The laws of printed durations. A text is its list of bytes, which `chars` decodes into characters.
 use Rattle.std.specs.Prelude.{◌≡◌, ◌↔◌, ℕ, ◌≤◌, List, length, chars, slice_index, Ok, Err}
 use Rattle.humantime.specs.Durations.Accepted.{Accepted}
 use Rattle.humantime.specs.Durations.Counts.{AreCounts, IsCanonicalText, IsCanonicalOf}
@@ -18,9 +18,9 @@ pub record PrintsAndReads (d : ℕ) : Type 0 where
   -- Therefore parsing it returns `d`.
   pub answer : duration_answer (chars (duration_text d)) ≡ Ok d
 
--- The canonical texts of two durations, and so the printed ones, are equal exactly if the durations are.
+-- The canonical texts of two durations, and so the printed ones, are equal if and only if the durations are.
 pub record PrintApart (a b : ℕ) : Type 0 where
-  -- The canonical texts of `a` and of `b` nanoseconds are equal exactly if `a` and `b` are.
+  -- The canonical texts of `a` and of `b` nanoseconds are equal if and only if `a` and `b` are.
   pub canon : (bytes other : List ℕ) → IsCanonicalText a bytes → IsCanonicalText b other → ((bytes ≡ other) ↔ (a ≡ b))
   -- The same holds of the printed texts.
   pub text : (duration_text a ≡ duration_text b) ↔ (a ≡ b)
@@ -40,7 +40,7 @@ pub record IsCanonicalAgain (s : List ℕ) : Type 0 where
   pub value : (v : ℕ) (printed : List ℕ) → Accepted (chars s) v → IsCanonicalOf s printed → Accepted (chars printed) v
   -- It is its own canonical text, and has no other.
   pub again : (printed again : List ℕ) → IsCanonicalOf s printed → (IsCanonicalOf printed again ↔ (again ≡ printed))
-  -- The same two properties of the results of the calls.
+  -- The same two properties hold of the results of the calls.
   pub answer : (t : List ℕ) → canonical_answer (chars s) ≡ Ok t → canonical_answer (chars t) ≡ Ok t
   pub reads : (v : ℕ) (t : List ℕ) → duration_answer (chars s) ≡ Ok v → canonical_answer (chars s) ≡ Ok t → duration_answer (chars t) ≡ Ok v
   -- The result is the canonical text, or the first error.

@@ -38,10 +38,10 @@ pub record AddWhenJoined (a b : List ℕ) : Type 0 where
   -- Each of the texts, if it is accepted, is exactly `0` or spans.
   pub first : IsZeroOrSpans a
   pub second : IsZeroOrSpans b
-  -- The joined text is accepted with the sum exactly if no addition overflows, those of the first text followed by those of the second.
+  -- The joined text is accepted with the sum if and only if no addition overflows, where those of the second text follow those of the first.
   pub sum : (ss ts : List SpelledSpan) (u v : ℕ) → AcceptedAs a ss u → AcceptedAs b ts v
       → Accepted (a ++ b) (u + v) ↔ AllHaveRoom (additions ss ++ additions ts)
-  -- The fault of the joined text is an overflow exactly if an addition overflows.
+  -- The fault of the joined text is an overflow if and only if an addition overflows.
   pub overflow : (ss ts : List SpelledSpan) (u v : ℕ) → AcceptedAs a ss u → AcceptedAs b ts v
       → HasFault (a ++ b) NumberOverflow ↔ ¬ (AllHaveRoom (additions ss ++ additions ts))
   -- Therefore the joined text is accepted with the sum, or its fault is an overflow.
@@ -51,7 +51,7 @@ pub record AddWhenJoined (a b : List ℕ) : Type 0 where
   pub answer : (u v : ℕ) → duration_answer a ≡ Ok u → duration_answer b ≡ Ok v → a ≢ bare_zero → b ≢ bare_zero
       → (duration_answer (a ++ b) ≡ Ok (u + v)) ⊎ (duration_answer (a ++ b) ≡ Err NumberOverflow)
 
--- Two accepted texts whose spans are the same up to their order have equal values; `0` has no spans.
+-- Two accepted texts whose spans are the same up to their order have equal values. The text `0` has no spans.
 pub record KeepValueReordered (a b : List ℕ) : Type 0 where
   -- Accepted texts whose spans are permutations of each other have equal values.
   pub value : (ss ts : List SpelledSpan) (u v : ℕ) → Reads a ss → Reads b ts → IsPermutation ss ts

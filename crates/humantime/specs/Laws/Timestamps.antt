@@ -1,4 +1,4 @@
--- The laws of timestamps. A text is its bytes.
+-- The laws of timestamps. A text is its list of bytes.
 use Rattle.std.specs.Prelude.{◌≡◌, ◌↔◌, ℕ, ℤ, pos, Bool, List, slice_index, None, IsTrue, Result, Ok, Err, Some}
 use Rattle.std.specs.Cmp.Lexicographic.{slice_cmp}
 use Rattle.std.specs.Ordering.{nat_cmp, int_cmp}
@@ -14,7 +14,7 @@ use Rattle.humantime.specs.Laws.ExactlyOne.{ExactlyOne}
 abbrev pub IsMarked : List ℕ → Type 0
 IsMarked b = (slice_index b 10 ≡ byte "T") × IsTrue (ends_in_zone b)
 
--- The printed texts of two moments with the same number of digits compare, byte by byte, like the moments rounded down.
+-- The printed texts of two moments with the same number of digits compare, byte by byte, like the moments rounded down to these digits.
 abbrev pub InOrder : ℤ → ℤ → Type 0
 InOrder a b =
     (k : ℕ) (x y : List ℕ) → IsPrinted a k x → IsPrinted b k y
@@ -25,11 +25,11 @@ pub record ReadsAs (bytes : List ℕ) (t : ℤ) : Type 0 where
   pub strict : IsStrictMoment bytes t
   pub weak : IsWeakMoment bytes t
 
--- The text represents parts exactly if no check fails, and then only one set of parts. The result of parsing is their moment, or the error
--- of the first check that fails.
+-- The text represents parts if and only if no check fails, and then exactly one set of them. The result of parsing is their moment, or the
+-- error of the first check that fails.
 pub record OneTimestamp (checks : List (Bool × TimestampError)) (Represents : Fields → Type 0)
     (answer : Result ℤ TimestampError) : Type 0 where
-  -- The text represents some parts exactly if no check fails.
+  -- The text represents some parts if and only if no check fails.
   pub some : ((f : Fields) × Represents f) ↔ (first_failed checks ≡ None)
   -- It represents no others.
   pub only : (f g : Fields) → Represents f → Represents g → f ≡ g
@@ -40,7 +40,7 @@ pub record OneTimestamp (checks : List (Bool × TimestampError)) (Represents : F
 
 -- The strict form is the weak form with a `T` and a zone.
 pub record StrictForm (text : List ℕ) : Type 0 where
-  -- A text represents parts in the strict form exactly if it does so in the weak form and has a `T` and a zone.
+  -- A text represents parts in the strict form if and only if it does so in the weak form and has a `T` and a zone.
   pub parts : (f : Fields) → IsStrict text f ↔ (IsWeak text f × IsMarked text)
   -- The same holds of a moment.
   pub moment : (t : ℤ) → IsStrictMoment text t ↔ (IsWeakMoment text t × IsMarked text)
@@ -50,7 +50,7 @@ pub record StrictForm (text : List ℕ) : Type 0 where
   -- A text that is parsed in the weak form, and has a `T` and a zone, is also parsed in the strict form.
   pub strict : (t : ℤ) → weak_answer text ≡ Ok t → IsMarked text → strict_answer text ≡ Ok t
 
--- A moment of 1970 to 9999 has exactly one printed text with `k` digits. `Display` writes it, and it parses to the moment rounded down.
+-- A moment in 1970 to 9999 has exactly one printed text with `k` digits. `Display` writes it, and it parses to the moment rounded down.
 pub record PrintedMoment (t : ℤ) (k : ℕ) : Type 0 where
   -- The moment has exactly one printed text.
   pub one : IsPrintable t → ExactlyOne (IsPrinted t k)

@@ -1,6 +1,6 @@
--- The date of a day number, computed with years that begin on 1 March and are counted from 1600, so that a leap day is the last day of its
--- year. The text that `Display` of both timestamps writes is defined with this function. The function need not be trusted: a law says that
--- this text is the printed one.
+-- The date `n` days after 1970-01-01, computed with years that begin on 1 March and are counted from 1600, so that a leap day is the
+-- last day of its year. The text that `Display` of both timestamps writes is defined with this date. The definition need not be trusted: a
+-- law states that this text is the printed one.
 use Rattle.std.specs.Prelude.{ℕ, ◌+◌, ◌-◌, ◌*◌, ◌/◌, ◌%◌, nat_lt, if◌then◌else◌}
 use Rattle.humantime.specs.declared.calendar.Date.{Date}
 
@@ -8,7 +8,7 @@ use Rattle.humantime.specs.declared.calendar.Date.{Date}
 abbrev pub march_days : ℕ → ℕ
 march_days n = n * 365 + n / 4 - n / 100 + n / 400
 
--- The number of days of a year before month `k`, where March is month 0.
+-- The number of days in a year before month `k`, where March is month 0.
 abbrev pub march_months : ℕ → ℕ
 march_months k = (153 * k + 2) / 5
 

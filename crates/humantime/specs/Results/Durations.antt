@@ -13,8 +13,8 @@ use Rattle.humantime.specs.Results.Walks.{items, sum_spans}
 unfoldable pub duration_answer : List ℕ → Result ℕ Fault
 duration_answer text = if bytes_eq text bare_zero then Ok 0 else sum_spans 0 (items_of (items text).0 (items text).1)
 
--- The result of parsing a text is the duration that it denotes exactly if the text is accepted, and otherwise its first error, which points
--- into the text.
+-- The result of parsing a text is the duration that it denotes if and only if the text is accepted, and otherwise its first error, which
+-- points into the text.
 pub record IsDurationAnswer (bytes : List ℕ) (r : Result ℕ DurationError) : Type 0 where
   pub value : (v : ℕ) → (result_view r ≡ Ok v) ↔ Accepted (chars bytes) v
   pub fault : (e : Fault) → (result_view r ≡ Err e) ↔ HasFault (chars bytes) e

@@ -1,4 +1,4 @@
--- The items of a text and what each borrows from it, read from left to right: the reference for the iterator over spans.
+-- The items of a text, read from left to right, and what each borrows from it: the reference for the iterator over spans.
 use Rattle.std.specs.Prelude.{ℕ, Bool, List, Option, map, option_map, Result, Ok, Err}
 use Rattle.std.specs.Str.{drop_trailing_whitespace}
 use Rattle.humantime.specs.Texts.{take_while, drop_while, decimal_value}
@@ -16,7 +16,7 @@ trimmed cs = drop_trailing_whitespace (drop_while is_whitespace cs)
 abbrev pub number_slice : List ℕ → List ℕ
 number_slice rest = drop_trailing_whitespace (take_while is_numeric rest)
 
--- The slice from the first to the last digit of the fraction, if a point follows.
+-- The slice from the first to the last digit of the fraction, if `after`, the text after the number, begins with a point.
 abbrev pub fraction_slice : List ℕ → Option (List ℕ)
 fraction_slice after = option_map (λ digits. trimmed (take_while is_numeric digits)) (after_point after)
 

@@ -16,7 +16,7 @@ use Rattle.humantime.specs.Results.Items.{left_at, trimmed}
 abbrev pub span_view : Span → SpanView
 span_view s = record {
   number = drop_trailing_whitespace (chars s.number.now);
-  fraction = option_map (λ t. trimmed (chars t.now)) s.digits;
+  fraction = option_map (λ t. trimmed (chars t.now)) s.fraction;
   unit = chars s.unit.now;
   start = s.start;
   end = s.end;
@@ -38,8 +38,8 @@ items_left i =
 abbrev pub text_of : SpanIter → List ℕ
 text_of i = i.cursor.text.now
 
--- `next` returned the first of the items that had not been returned and left the others, or returned `None` if there were none. The
--- iterator still reads the same text, and the span lies in it, or the error points into it.
+-- `next` returned the first of the remaining items and left the others, or returned `None` if none remained. The iterator still reads the
+-- same text; the span lies in it, or the error points into it.
 abbrev pub GivesItem : SpanIter → Option (Result Span DurationError) → SpanIter → Type 0
 GivesItem old result new =
     YieldsFirstBy item_of items_left old result new

@@ -1,4 +1,4 @@
--- What the parsers return for a text, and what the printers write for a moment, each as one function.
+-- The result of parsing a timestamp, and the printed text of a moment, each as one function.
 use Rattle.std.specs.Prelude.{◌≡◌, ◌↔◌, ℕ, zero, suc, ◌+◌, ◌*◌, ◌/◌, ◌%◌, ◌^◌, ℤ, pos, negsuc, nat_lt, ◌==◌, if◌then◌else◌, List, [], ◌∷◌, take, drop, Option, Some, None, Result, Ok, Err, IsOk}
 use Rattle.humantime.specs.declared.calendar.Date.{Date}
 use Rattle.humantime.specs.declared.date.error.TimestampError.{TimestampError}
@@ -13,7 +13,7 @@ use Rattle.std.specs.declared.fmt.Error.{Error}
 use Rattle.std.specs.Fmt.{DisplaysOnOk, DisplaysStyledOnOk, fmt_error}
 use Rattle.humantime.specs.Results.Dates.{date_of}
 
--- The moment of the date, time and fraction at their positions in the text.
+-- The moment of the date, time and fraction at their positions in the text, in nanoseconds.
 abbrev pub moment_at : List ℕ → ℕ
 moment_at bytes =
     let x = date_time_of bytes in
@@ -32,8 +32,8 @@ weak_answer bytes = moment_or_error (first_failed (weak_checks bytes)) (moment_a
 unfoldable pub strict_answer : List ℕ → Result ℤ TimestampError
 strict_answer bytes = moment_or_error (first_failed (strict_checks bytes)) (moment_at bytes)
 
--- The result of parsing in the weak form is `Ok(t)` exactly if the text represents `t` in that form, and `Err(e)` exactly if `e` is the
--- error of the first check that fails.
+-- The result of parsing in the weak form is `Ok(t)` if and only if the text represents `t` in that form, and `Err(e)` if and only if `e` is
+-- the error of the first check that fails.
 pub record IsWeakAnswer (bytes : List ℕ) (r : Result ℤ TimestampError) : Type 0 where
   pub value : (t : ℤ) → (r ≡ Ok t) ↔ IsWeakMoment bytes t
   pub error : (e : TimestampError) → (r ≡ Err e) ↔ (first_failed (weak_checks bytes) ≡ Some e)
@@ -55,7 +55,7 @@ abbrev pub last_digits : ℕ → ℕ → List ℕ
 last_digits zero n = []
 last_digits (suc k) n = digit (n / 10 ^ k % 10) ∷ last_digits k n
 
--- The parts that are printed for a date, a second of the day and its nanoseconds, with `k` fraction digits.
+-- The parts that are printed for a date, a time in seconds after midnight and its nanoseconds, with `k` fraction digits.
 abbrev pub printed_fields : Date → ℕ → ℕ → ℕ → Fields
 printed_fields date time nanos k = record {
   date = date;
@@ -67,7 +67,7 @@ printed_fields date time nanos k = record {
   zone = Letter_Z;
 }
 
--- The parts that are printed for a moment of 1970 or later, with `k` fraction digits.
+-- The parts that are printed for a moment in 1970 or later, with `k` fraction digits.
 abbrev pub fields_at : ℕ → ℕ → Fields
 fields_at t k =
     let second = t / nanos_per_second in
@@ -86,8 +86,8 @@ printed_text x = moment_text x.moment x.places
 abbrev pub shortest_text : ℤ → Option (List ℕ)
 shortest_text t = moment_text t (places_of t)
 
--- What `Display` of a timestamp does. If it returns `Ok`, the moment is in 1970 to 9999, and its text has been written, whatever the
--- options of the formatter are. For a moment outside these years it returns `fmt::Error` and leaves the formatter unchanged.
+-- The effect of `Display` of a timestamp. If it returns `Ok`, the moment is in 1970 to 9999, and its text has been written, whatever the
+-- options of the formatter are. For a moment outside these years, it returns `fmt::Error` and leaves the formatter unchanged.
 pub record DisplaysMoment {W : Type 0} (gives : W → List ℕ → W → Type 0) (old : Formatter W) (result : Result (Unit {0}) Error) (moment : ℤ)
     (text : Option (List ℕ)) (new : Formatter W) : Type 0 where
   pub writes : DisplaysOnOk gives old result text new

@@ -1,5 +1,5 @@
 -- Parsing from left to right: the reference that the contracts of private functions cite. Theorems in `proofs` relate it to the definitions
--- of `Spans` and `Faults`.
+-- in `Spans` and `Faults`.
 use Rattle.std.specs.Prelude.{ℕ, zero, suc, ◌+◌, Bool, true, false, not, ◌==◌, List, [], ◌∷◌, length, Option, Some, None, is_some, Result, Ok, Err, if◌then◌else◌, map, encode_utf8_all}
 use Rattle.humantime.specs.Texts.{begins, drop_while, decimal_value}
 use Rattle.humantime.specs.Durations.Characters.{is_whitespace, is_digit, is_letter, is_numeric, offset_of}
@@ -14,9 +14,9 @@ abbrev pub ends_span : List ℕ → Bool
 ends_span [] = true
 ends_span (c ∷ cs) = is_numeric c
 
--- Returns the error of the span at the start of `rest`, which begins with a digit, if it has one. These are tested in order: the number or
--- the fraction is too long; a character other than a letter follows them; a point has no digits; a character other than a digit or
--- whitespace follows the word; the word, which may be empty, is not a unit.
+-- Returns the error, if any, of the span at the start of `rest`, which begins with a digit. These are tested in order: the number or the
+-- fraction is too long; a character other than a letter follows them; a point has no digits; a character other than a digit or whitespace
+-- follows the word; the word, which may be empty, is not a unit.
 unfoldable pub stop_at : List ℕ → List ℕ → Option Fault
 stop_at text rest =
     if too_long (span_of rest) then Some NumberOverflow
@@ -70,16 +70,16 @@ spans_of_walk w = (map span_of w.starts, w.stop)
 abbrev pub items : List ℕ → List SpelledSpan × Option Fault
 items text = spans_of_walk (walk_of text)
 
--- The sum of `t` and these additions, or `None` if one of them overflows.
+-- Returns the sum of `t` and these additions, or `None` if one of them overflows.
 unfoldable pub add_all : ℕ → List Addition → Option ℕ
 add_all t [] = Some t
 add_all t (x ∷ xs) = if has_room t x then add_all (t + addition_nanos x) xs else None
 
--- The sum of `t` and a span, or `None` if the span breaks a limit.
+-- Returns the sum of `t` and a span, or `None` if the span breaks a limit.
 unfoldable pub add_span : ℕ → SpelledSpan → Option ℕ
 add_span t s = if fits s then add_all t (additions_of s) else None
 
--- The sum of `t` and the spans: an error if they break a limit, and otherwise the error that stops them, if any.
+-- Returns the sum of `t` and the spans, or `NumberOverflow` if they break a limit, or otherwise the error that stops them, if any.
 unfoldable pub sum_spans : ℕ → List (Result SpelledSpan Fault) → Result ℕ Fault
 sum_spans t [] = Ok t
 sum_spans t (Err e ∷ items) = Err e

@@ -26,7 +26,7 @@ pub record IsWord (start : Cursor) (word : List ℕ) (end : Cursor) : Type 0 whe
   pub utf8 : IsUtf8 word
   pub same_text : end.text.now ≡ start.text.now
 
--- A span may end at `after`, the cursor after its word, and `next` is that cursor or one after some of the whitespace that follows.
+-- A span may end at `after`, the cursor after its word, and `next` is that cursor or a cursor after some of the whitespace that follows.
 pub record IsSpanEnd (after next : Cursor) : Type 0 where
   pub ends : ends_span (ahead after) ≡ true
   pub same : drop_while is_whitespace (ahead next) ≡ drop_while is_whitespace (ahead after)

@@ -1,4 +1,4 @@
--- A word as one number, its key.
+-- A word as a single number, its key.
 use Rattle.std.specs.Prelude.{ℕ, ◌+◌, ◌*◌, ◌%◌, ◌^◌, ◌==◌, List, [], ◌∷◌, Option, reverse, if◌then◌else◌}
 use Rattle.std.specs.Map.{lookup}
 use Rattle.humantime.specs.Durations.Characters.{micro_sign, greek_mu}
@@ -21,11 +21,11 @@ bytes_of (c ∷ cs) =
     else if c == greek_mu then 0xce ∷ 0xbc ∷ bytes_of cs
     else c ∷ bytes_of cs
 
--- The keys of words, each with what the word denotes.
+-- The keys of words, each with the scale of its word.
 abbrev pub keyed : List (List ℕ × Scale) → List (ℕ × Scale)
 keyed [] = []
 keyed (w ∷ ws) = (key (bytes_of w.0), w.1) ∷ keyed ws
 
--- Returns what the word with this key denotes, if there is one.
+-- Returns the scale of the word with this key, or `None` if there is no such word.
 unfoldable pub scale_of_key : ℕ → Option Scale
 scale_of_key k = lookup (λ j. k == j) (keyed words)

@@ -1,4 +1,4 @@
--- What the fractions and amounts of the code denote.
+-- The digits and spans that the `Fraction` and `Amount` of the code represent.
 use Rattle.std.specs.Prelude.{◌≡◌, ℕ, List, length, Option, Some, option_map, chars}
 use Rattle.std.specs.Borrow.{Bor}
 use Rattle.std.specs.Str.{drop_trailing_whitespace}
@@ -14,11 +14,11 @@ use Rattle.humantime.specs.Results.Items.{spelled, trimmed}
 abbrev pub Counted : Type 0
 Counted = ℕ × ℕ × ℕ
 
--- The three numbers of these digits.
+-- Returns the three numbers for these digits.
 abbrev pub counted : List ℕ → Counted
 counted ds = (decimal_value (without_trailing_zeros ds), length (without_trailing_zeros ds), length ds)
 
--- The three numbers of a fraction of the code.
+-- Returns the three numbers of a `Fraction` of the code.
 abbrev pub parts_of : Fraction → Counted
 parts_of f = (f.significand, f.places, f.len)
 
@@ -28,7 +28,7 @@ pub record IsAmountOf (a : Amount) (s : SpelledSpan) : Type 0 where
   pub value : a.value ≡ decimal_value s.number
   pub fraction : option_map parts_of a.fraction ≡ option_map counted s.fraction
 
--- The amount is the one of the span whose number, fraction and unit the slices hold, with whitespace after the number and around the fraction.
+-- The amount is that of the span whose number, fraction and unit the slices hold, with whitespace after the number and around the fraction.
 abbrev pub IsAmountRead : Amount → List ℕ → Option (Bor (List ℕ)) → List ℕ → Type 0
 IsAmountRead a number fraction unit =
     IsAmountOf a (spelled (drop_trailing_whitespace (chars number)) (option_map (λ f. trimmed (chars f.now)) fraction) (chars unit))

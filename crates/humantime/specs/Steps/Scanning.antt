@@ -17,7 +17,7 @@ pub record IsTail (text rest : List ℕ) : Type 0 where
 abbrev pub begins_with_nonletter : List ℕ → Bool
 begins_with_nonletter text = begins (λ c. not (is_letter c)) text
 
--- Returns the number of bytes of the whitespace character at the start of a text, or 0 if there is none.
+-- Returns the length in bytes of the whitespace character at the start of a text, or 0 if there is none.
 abbrev pub whitespace_len : List ℕ → ℕ
 whitespace_len [] = 0
 whitespace_len (c ∷ cs) = if is_whitespace c then len_utf8 c else 0

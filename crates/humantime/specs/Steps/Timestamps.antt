@@ -1,4 +1,4 @@
--- What private functions of the parser and of the printer return.
+-- The results of private functions that parse and print timestamps.
 use Rattle.std.specs.Prelude.{◌≡◌, ℕ, ◌+◌, ◌*◌, ◌<◌, Bool, ◌&&◌, nat_le, if◌then◌else◌, pos, ℤ, Result, Ok, Err, List, length, drop}
 use Rattle.std.specs.Str.{all_ascii_digits}
 use Rattle.humantime.specs.declared.calendar.Date.{Date}
@@ -13,15 +13,15 @@ use Rattle.humantime.specs.Timestamps.Checks.{has_punctuation, has_digits, has_p
 unfoldable pub has_layout : List ℕ → Bool
 has_layout bytes = nat_le 19 (length bytes) && has_punctuation bytes && has_digits bytes
 
--- The nanoseconds of the digits after a point, or the error of a byte that is not a digit.
+-- Returns the nanoseconds of the digits after a point, or `InvalidDigit` if a byte is not a digit.
 abbrev pub digits_answer : List ℕ → Result ℕ TimestampError
 digits_answer ds = if all_ascii_digits ds then Ok (fraction_nanos ds) else Err InvalidDigit
 
--- The nanoseconds of the bytes between the seconds and the zone, or their error.
+-- Returns the nanoseconds of the bytes between the seconds and the zone, or their error.
 abbrev pub fraction_answer : List ℕ → Result ℕ TimestampError
 fraction_answer part = if has_point part then digits_answer (drop 1 part) else Err InvalidFormat
 
--- The moment `t` is in this second of this date.
+-- The moment `t` is on this date, `time` whole seconds after midnight.
 pub record IsSecondOf (date : Date) (time : ℕ) (t : ℤ) : Type 0 where
   pub date_exists : IsDate date
   pub within_day : time < seconds_per_day

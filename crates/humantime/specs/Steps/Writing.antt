@@ -1,4 +1,4 @@
--- What a writer has written to its buffer.
+-- The text that a writer has written to its buffer.
 use Rattle.std.specs.Prelude.{◌≡◌, ◌≤◌, ℕ, ◌+◌, List, [], ◌∷◌, ◌++◌, length, take, decimal, true, false, if◌then◌else◌}
 use Rattle.std.specs.List.{join_with_byte}
 use Rattle.std.specs.Str.{byte}
@@ -15,7 +15,7 @@ pub record HasWritten (old new : Writer) (all : List ℕ) : Type 0 where
   pub room : length new.bytes.now ≡ length old.bytes.now
   pub bytes : written new ≡ all
 
--- The text is written after what was written before.
+-- The text was appended to what had been written before.
 pub record Appends (old new : Writer) (text : List ℕ) : Type 0 where
   pub has : HasWritten old new (written old ++ text)
   pub end : new.end ≡ old.end + length text
@@ -33,11 +33,11 @@ fixed unit = (unit, false)
 abbrev pub plural : List ℕ → Suffix
 plural unit = (unit, true)
 
--- An upper bound for the bytes of a count: its digits, its suffix and the `s` of the plural.
+-- Returns an upper bound for the number of bytes of a count: its digits, its suffix and the `s` of the plural.
 abbrev pub most_bytes : ℕ → Suffix → ℕ
 most_bytes count suffix = length (decimal count) + length suffix.0 + (if suffix.1 then 1 else 0)
 
--- The count is written, after a space if it is not the first one. A count of zero is left out.
+-- The count was appended, after a space if it is not the first one. A count of zero is left out.
 pub record AppendsCount (old new : Writer) (count : ℕ) (suffix : Suffix) : Type 0 where
   pub has : HasWritten old new (joined_after (written old) (printed_counts (count ∷ []) (suffix ∷ [])))
   pub end : new.end ≤ old.end + 1 + most_bytes count suffix

@@ -34,7 +34,7 @@ has_t_and_zone b = nat_le 20 (length b) && (slice_index b 10 == byte "T") && end
 unfoldable pub has_separator : List ℕ → Bool
 has_separator bytes = (slice_index bytes 10 == byte "T") || (slice_index bytes 10 == byte " ")
 
--- Tests whether the text has `-`, `-`, a separator, `:` and `:` at their positions.
+-- Tests whether the text has `-`, `-`, a separator, `:` and `:` at bytes 4, 7, 10, 13 and 16.
 unfoldable pub has_punctuation : List ℕ → Bool
 has_punctuation bytes =
     (slice_index bytes 4 == byte "-") && (slice_index bytes 7 == byte "-") && has_separator bytes

@@ -1,4 +1,4 @@
--- The parts of a timestamp, the texts that represent them, and the moment that they denote. A text is its bytes.
+-- The parts of a timestamp, the texts that represent them, and the moment that they denote. A text is its list of bytes.
 use Rattle.std.specs.Prelude.{ℕ, ◌+◌, ◌/◌, ◌%◌, List, [], ◌∷◌, ◌≡◌, ◌≢◌, ◌*◌, ◌≤◌, min, ◌++◌, take, codes, Option, Some, None, ℤ, pos, unwrap_or, IsTrue}
 use Rattle.std.specs.Str.{byte, all_ascii_digits}
 use Rattle.humantime.specs.Texts.{decimal_value}
@@ -23,7 +23,7 @@ pub data Separator : Type 0 where
   Letter_T : Separator
   Space : Separator
 
--- The zone at the end of a text, if any, is written `Z` or `+00:00`. It is always UTC.
+-- The zone at the end of a text, if any, is `Z` or `+00:00`. Both mean UTC.
 pub data Zone : Type 0 where
   NoZone : Zone
   Letter_Z : Zone
@@ -73,7 +73,7 @@ fraction_digits fraction = unwrap_or fraction []
 unfoldable pub fraction_nanos : List ℕ → ℕ
 fraction_nanos ds = decimal_value (take 9 (ds ++ codes "000000000"))
 
--- The text represents these parts in the weak form: the date exists, hour, minute and second are at most 23, 59 and 60, and the fraction,
+-- The text represents these parts in the weak form: the date exists; hour, minute and second are at most 23, 59 and 60; and the fraction,
 -- if any, has only digits.
 pub record IsWeak (bytes : List ℕ) (f : Fields) : Type 0 where
   pub text : bytes ≡ fields_text f
@@ -89,7 +89,7 @@ pub record IsStrict (bytes : List ℕ) (f : Fields) : Type 0 where
   pub separator : f.separator ≡ Letter_T
   pub zone : f.zone ≢ NoZone
 
--- Returns the number of seconds from 1970-01-01T00:00:00Z to a date and time; second 60 counts as 59.
+-- Returns the number of seconds from 1970-01-01T00:00:00Z to a date and time. Second 60 counts as second 59.
 abbrev pub seconds_of : Date → ℕ → ℕ → ℕ → ℕ
 seconds_of date hour minute second =
     day_of date * seconds_per_day + hour * seconds_per_hour + minute * seconds_per_minute + min second 59

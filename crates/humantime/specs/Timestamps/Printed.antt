@@ -1,4 +1,4 @@
--- The printed text of a moment, rounded down to a number of fraction digits. A text is its bytes.
+-- The printed text of a moment, rounded down to a number of fraction digits. A text is its list of bytes.
 use Rattle.std.specs.Prelude.{◌≡◌, ℕ, ◌-◌, ◌*◌, ◌^◌, ◌≤◌, ◌==◌, if◌then◌else◌, List, length, Some, None, option_map, ℤ, pos, ◌≤ℤ◌, ◌<ℤ◌, ◌-ℤ◌}
 use Rattle.std.specs.Int.{int_rem_euclid}
 use Rattle.humantime.specs.Values.{nanos_per_second, seconds_per_day, nano_of}

@@ -19,7 +19,7 @@ use std::fmt;
 /// ```
 #[derive(Clone, Copy, PartialEq, Eq, Debug)]
 pub enum TimestampError {
-    /// A number is out of range, such as month 13 or a year before 1970, or the month has no such day.
+    /// A number is out of range, such as month 13 or a year before 1970, or the month does not have that day.
     OutOfRange,
     /// A byte is not a digit where one is expected.
     InvalidDigit,

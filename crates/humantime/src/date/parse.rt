@@ -1,4 +1,4 @@
-//! [`parse_rfc3339`] and [`parse_rfc3339_weak`]: texts in the strict and in the weak form.
+//! Parses timestamps: [`parse_rfc3339`] in the strict form, and [`parse_rfc3339_weak`] in the weak form.
 
 ghost use Rattle.std.specs.Prelude.{◌≡◌, ◌^◌, ◌<◌, ◌≤◌, ◌↔◌, length, false, IsTrue, IfSome, SomeIff, Ok, Err, Some, ℤ, codes};
 ghost use Rattle.std.specs.Char.{is_ascii_digit};
@@ -14,35 +14,36 @@ ghost use Rattle.humantime.specs.Steps.Timestamps as Steps;
 
 use crate::calendar::{Date, Turns, day_number};
 use crate::date::error::TimestampError;
+use crate::unit::sizes::SECONDS_PER_DAY;
 use crate::value::SystemTime;
 use std::simd::prelude::*;
 
-// The vectors are statics that are read as slices: Rattle's own compiler loads such a vector in one instruction, and builds any
-// other in five.
+// The vectors are statics that are read as slices: the kit's own back end loads such a vector with one instruction, and builds any
+// other with five.
 
 /// The minimum of each of the first 16 bytes.
 static FRONT_MIN: [u8; 16] = *b"0000-00-00 00:00";
 
-/// How far each byte may be above its minimum: 9 for a digit and 0 for punctuation. The separator, at byte 10, may be any byte here,
-/// since it is tested separately.
+/// How far each of these bytes may be above its minimum: 9 for a digit and 0 for punctuation. The separator, byte 10, may be any byte
+/// here, because it is tested separately.
 static FRONT_RANGE: [u8; 16] = [9, 9, 9, 9, 0, 9, 9, 0, 9, 9, 255, 9, 9, 0, 9, 9];
 
 /// The minimum of each of the 16 bytes from byte 3 on.
 static BACK_MIN: [u8; 16] = *b"0-00-00 00:00:00";
 
-/// How far each of them may be above its minimum. Those up to byte 15 may be any byte here, since `FRONT_RANGE` is for them.
+/// How far each of these bytes may be above its minimum. Bytes 3 to 15 may be any bytes here, because `FRONT_RANGE` covers them.
 static BACK_RANGE: [u8; 16] = [
     255, 255, 255, 255, 255, 255, 255, 255, 255, 255, 255, 255, 255, 0, 9, 9,
 ];
 
-/// The weight of each of the first 16 bytes in `dot4`, which sums each group of four: the year divided by 10, the month, the day and
-/// the minute.
+/// The weight of each of the first 16 bytes in `dot4`, which adds up each group of four. The sums are the year divided by 10, the month,
+/// the day and the minute.
 static FRONT_WEIGHTS: [u8; 16] = [100, 10, 1, 0, 0, 10, 1, 0, 10, 1, 0, 0, 0, 0, 10, 1];
 
-/// The weight of each of the 16 bytes from byte 3 on: the last digit of the year, nothing, the hour and the second.
+/// The weight of each of the 16 bytes from byte 3 on. The sums are the last digit of the year, 0, the hour and the second.
 static BACK_WEIGHTS: [u8; 16] = [1, 0, 0, 0, 0, 0, 0, 0, 10, 1, 0, 0, 0, 0, 10, 1];
 
-/// The number of nanoseconds that a 1 represents at each of the first nine places after the point.
+/// The number of nanoseconds that the digit 1 stands for at each of the first nine places after the point.
 static PLACE_VALUES: [u32; 9] = [
     100_000_000,
     10_000_000,
@@ -66,23 +67,23 @@ struct DateTime {
 
 /// Parses a timestamp in the weak form, such as `2018-02-14 00:28:07`, and returns the moment that it represents.
 ///
-/// A `T` or a space separates the date from the time. The time is in UTC, and may end in `Z` or `+00:00`. A fraction of a second has
-/// any number of digits, including none; digits past the ninth are ignored. Second 60 is read as second 59. The Rust crate `humantime`
-/// defines this form, which is based on RFC 3339.
+/// A `T` or a space separates the date from the time. A point and any number of digits, including none, may follow the seconds; digits
+/// after the ninth are ignored. The text may end in `Z` or `+00:00`, and is always in UTC. Second 60 is read as second 59. The Rust crate
+/// `humantime` defines this form, which is based on RFC 3339.
 ///
 /// # Errors
 ///
 /// Returns the error of the first check that fails.
 ///
-/// These are the checks in their order. Bytes are counted from 0.
+/// These are the checks, in order. Bytes are counted from 0.
 ///
 /// - [`InvalidFormat`](TimestampError::InvalidFormat) if the text has fewer than 19 bytes;
-/// - `InvalidFormat` if the punctuation of the date and the time is not in its place;
+/// - `InvalidFormat` if a `-` (bytes 4 and 7), the `T` or space (byte 10) or a `:` (bytes 13 and 16) is missing;
 /// - [`InvalidDigit`](TimestampError::InvalidDigit) if any other byte up to byte 18 is not a digit;
-/// - [`OutOfRange`](TimestampError::OutOfRange) if the years 1970 to 9999 have no such date, the hour is above 23, the minute above
-///   59 or the second above 60;
-/// - `InvalidFormat` if the text from byte 19 on does not begin with a point, and is neither empty nor `Z` nor `+00:00`;
-/// - `InvalidDigit` if byte 19 is a point, and the text after it, without a `Z` or `+00:00` at its end, has a byte that is not a digit.
+/// - [`OutOfRange`](TimestampError::OutOfRange) if the date does not exist in the years 1970 to 9999, the hour is above 23, the minute
+///   above 59 or the second above 60;
+/// - `InvalidFormat` if the text from byte 19 on does not begin with a point and is neither empty nor `Z` nor `+00:00`;
+/// - `InvalidDigit` if byte 19 is a point and the text after it, without a `Z` or `+00:00` at its end, has a byte that is not a digit.
 ///
 /// # Examples
 ///
@@ -106,13 +107,14 @@ pub fn parse_rfc3339_weak(s: &str) -> Result<SystemTime, TimestampError>
 
 /// Parses a timestamp in the strict form, such as `2018-02-14T00:28:07Z`, and returns the moment that it represents.
 ///
-/// This is the weak form with a `T` between the date and the time, and `Z` or `+00:00` at the end. RFC 3339 defines it; other time
-/// zones and lowercase letters, which RFC 3339 allows, are not accepted.
+/// This is the weak form with a `T` between the date and the time, and `Z` or `+00:00` at the end. It is based on RFC 3339. Other time
+/// zones, lowercase letters and years before 1970, which RFC 3339 allows, are rejected. A point without digits and second 60 in any
+/// minute, which RFC 3339 does not allow, are accepted.
 ///
 /// # Errors
 ///
 /// Returns [`InvalidFormat`](TimestampError::InvalidFormat) if the text has fewer than 20 bytes, byte 10 (counted from 0) is not a
-/// `T`, or the text does not end in `Z` or `+00:00`. For any other text it returns the error that [`parse_rfc3339_weak`] returns.
+/// `T`, or the text does not end in `Z` or `+00:00`. Otherwise returns the error that [`parse_rfc3339_weak`] returns, if any.
 ///
 /// # Examples
 ///
@@ -136,7 +138,7 @@ pub fn parse_rfc3339(s: &str) -> Result<SystemTime, TimestampError>
     parse_rfc3339_weak(s)
 }
 
-/// Returns `true` if there are at least 20 bytes, byte 10 is a `T`, and a zone is at the end.
+/// Returns `true` if the text has at least 20 bytes, byte 10 is a `T`, and a zone is at the end.
 #[inline(always)]
 #[tactic(auto, using(crate::proofs::Timestamps::Reading::Ends::some_zone), unfolding(crate::specs::Timestamps::Checks::has_t_and_zone))]
 fn has_t_and_zone(bytes: &[u8]) -> bool
@@ -188,7 +190,7 @@ fn read_timestamp(bytes: &[u8]) -> Result<SystemTime, TimestampError>
     Ok(SystemTime::after_epoch(seconds, nanos))
 }
 
-/// Returns the error of a text of at least 19 bytes for which [`parse_date_time`] returns `None`. Punctuation is tested before digits.
+/// Returns the error of a text of at least 19 bytes for which [`parse_date_time`] returns `None`. Punctuation is tested before the digits.
 #[inline(always)]
 #[tactic(auto, using(crate::proofs::Timestamps::Reading::Exits::exit_layout))]
 fn layout_error(bytes: &[u8]) -> TimestampError
@@ -227,12 +229,12 @@ fn has_punctuation(bytes: &[u8]) -> bool
         && bytes[16] == b':'
 }
 
-/// Returns the date and time in the first 19 bytes, or `None` if one of them is not the digit or the punctuation that belongs there. The
-/// caller has tested the separator.
+/// Returns the date and time in the first 19 bytes, or `None` if a byte is not the digit or punctuation that its position requires.
+/// The caller must have tested the separator.
 ///
-/// All bytes are tested at once. The distance of a byte above its minimum wraps around to a large number if the byte is below it, so that
-/// one saturating subtraction of the range tests both bounds. Then `dot4` multiplies each digit by its weight, and adds up the products of
-/// each four bytes.
+/// All bytes are tested at once. The difference between a byte and its minimum wraps around to a large number if the byte is below it, so
+/// that one saturating subtraction of the range tests both bounds. Then `dot4` multiplies each digit by its weight and adds up the products
+/// of each group of four bytes.
 #[inline(always)]
 fn parse_date_time(bytes: &[u8]) -> Option<DateTime>
     requires long { 19 ≤ length bytes.now }
@@ -260,24 +262,24 @@ fn parse_date_time(bytes: &[u8]) -> Option<DateTime>
     })
 }
 
-/// Returns the number of seconds from 1970-01-01T00:00:00Z to a date and time, or `None` if it is out of range. Second 60 counts as
-/// second 59.
+/// Returns the number of seconds from 1970-01-01T00:00:00Z to a date and time, or `None` if the date does not exist in 1970 to 9999 or
+/// the time is out of range. Second 60 counts as second 59.
 #[inline(always)]
 #[tactic(auto, unfolding(crate::specs::Timestamps::Checks::is_valid_date_time))]
-fn unix_seconds(x: DateTime) -> Option<u64>
-    ensures value { SomeIff result (IsTrue (is_valid_date_time x)) (seconds_of x.date x.hour x.minute x.second) }
+fn unix_seconds(when: DateTime) -> Option<u64>
+    ensures value { SomeIff result (IsTrue (is_valid_date_time when)) (seconds_of when.date when.hour when.minute when.second) }
     ensures bound { IfSome result (λ n. n < 2 ^ 63) }
 {
-    let day = day_number(x.date, &mut Turns::new())?;
-    if x.hour > 23 || x.minute > 59 || x.second > 60 {
+    let day = day_number(when.date, &mut Turns::new())?;
+    if when.hour > 23 || when.minute > 59 || when.second > 60 {
         return None;
     }
-    let time = x.hour * 3_600 + x.minute * 60 + x.second.min(59);
-    Some(day as u64 * 86_400 + time as u64)
+    let second_of_day = when.hour * 3_600 + when.minute * 60 + when.second.min(59);
+    Some(day as u64 * SECONDS_PER_DAY + second_of_day as u64)
 }
 
-/// Returns the nanoseconds of the fraction in the bytes after the seconds, or 0 if there is none. A zone may follow it. Returns an error if
-/// the bytes have another form.
+/// Returns the nanoseconds of the fraction in the bytes after the seconds, or 0 if there is no fraction. A zone may follow. Returns an
+/// error if the bytes have any other form.
 #[inline(always)]
 #[tactic(auto, using(crate::proofs::Timestamps::Reading::Fractions::nothing_read), unfolding(crate::specs::Timestamps::Checks::has_point))]
 fn read_fraction(rest: &[u8]) -> Result<u32, TimestampError>
@@ -290,11 +292,11 @@ fn read_fraction(rest: &[u8]) -> Result<u32, TimestampError>
     }
 }
 
-/// Returns the nanoseconds that the digits after a point represent, or an error if a byte is not a digit. Digits past the ninth
+/// Returns the nanoseconds that the digits after a point represent, or an error if a byte is not a digit. Digits after the ninth
 /// are ignored.
 ///
-/// It is one loop over the nine places, which LLVM unrolls. For a text with a fraction that saves 0.1 to 0.15 of the time that the Rust
-/// crate `humantime` takes.
+/// This is a single loop over the nine places, which LLVM unrolls. For a text with a fraction, that saves 0.1 to 0.15 of the time that
+/// the Rust crate `humantime` takes.
 #[inline(always)]
 fn fraction_nanos(digits: &[u8]) -> Result<u32, TimestampError>
     ensures { result ≡ digits_answer digits.now }
@@ -326,7 +328,7 @@ fn are_digits(bytes: &[u8]) -> bool
 
 /// Returns `true` if these six bytes are `+00:00`.
 ///
-/// They are compared as two numbers. For a text that ends in them that saves 0.1 of the time that the Rust crate `humantime` takes.
+/// They are compared as two integers. For a text that ends in `+00:00`, that saves 0.1 of the time that the Rust crate `humantime` takes.
 #[inline(always)]
 fn is_zero_offset(bytes: &[u8]) -> bool
     requires { length bytes.now ≡ 6 }

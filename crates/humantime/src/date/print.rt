@@ -10,11 +10,12 @@ ghost use Rattle.humantime.specs.Results.Timestamps.{printed_fields};
 
 use crate::buffer::str_prefix;
 use crate::calendar::{Date, Turns, date_of_day};
+use crate::unit::sizes::SECONDS_PER_DAY;
 use crate::value::SystemTime;
 use std::fmt;
 use std::marker::Model;
 
-/// The numbers below 100, with two digits each.
+/// The numbers 0 to 99, with two digits each.
 static PAIRS: [u8; 200] = *b"\
     0001020304050607080910111213141516171819202122232425262728293031323334353637383940414243444546474849\
     5051525354555657585960616263646566676869707172737475767778798081828384858687888990919293949596979899";
@@ -40,10 +41,10 @@ enum Precision {
     Nanos,
 }
 
-/// A moment that is formatted as a timestamp by [`text`](Self::text) and by `Display`, with 0, 3, 6 or 9 digits after the point.
+/// A moment that [`text`](Self::text) and `Display` print as a timestamp, with a fraction of 0, 3, 6 or 9 digits.
 ///
-/// The `format_rfc3339` functions return it. `Display` writes the text that `text` returns in a single write, and ignores width and
-/// fill. For a moment outside 1970 to 9999 `Display` returns `fmt::Error` and writes nothing.
+/// It is returned by the `format_rfc3339` functions. `Display` writes the text that `text` returns in a single write, and ignores
+/// width and fill. For a moment outside 1970 to 9999, `Display` returns `fmt::Error` and writes nothing.
 ///
 /// # Examples
 ///
@@ -68,8 +69,8 @@ impl Model for Rfc3339Timestamp {
     ghost use Rattle.humantime.specs.declared.date.print.Precision.TheVariants.{Seconds, Millis, Micros, Nanos};
     ghost use Rattle.std.proofs.Common.{arith, lit≤, ◌≤◌};
 
-    // Contracts see the moment and its number of places: 0, 3, 6 or 9. `few` proves, variant by variant, that there are at most nine places.
-    // `inverse` gives the value that has a view, and `inverse_ok` proves that it does.
+    // Contracts see the moment and its number of fraction digits: 0, 3, 6 or 9. `few` proves, variant by variant, that there are at most
+    // nine. `inverse` returns the value that has a given view, as `inverse_ok` proves.
     ghost Value = { MomentToPrint };
 
     ghost view = { λ x. record {
@@ -83,7 +84,7 @@ impl Model for Rfc3339Timestamp {
     ghost inverse_ok = { λ x h. Prim.grind arith };
 }
 
-/// Formats `moment` as a timestamp with no fraction if its nanoseconds are zero, and with nine digits otherwise.
+/// Returns a value that prints `moment` as a timestamp with no fraction if its nanoseconds are zero, and with nine digits otherwise.
 ///
 /// This function never fails. For a moment outside 1970 to 9999, [`text`](Rfc3339Timestamp::text) returns `None` and `Display` returns
 /// [`fmt::Error`]. RFC 3339 defines the form of the timestamp, and the Rust crate `humantime` its number of digits.
@@ -111,7 +112,7 @@ pub fn format_rfc3339(moment: SystemTime) -> Rfc3339Timestamp
     Rfc3339Timestamp { moment, precision }
 }
 
-/// Formats `moment` as a timestamp with no fraction. The nanoseconds are truncated, not rounded.
+/// Returns a value that prints `moment` as a timestamp with no fraction. The nanoseconds are truncated, not rounded.
 ///
 /// This function never fails. For a moment outside 1970 to 9999, [`text`](Rfc3339Timestamp::text) returns `None` and `Display` returns
 /// [`fmt::Error`].
@@ -135,7 +136,7 @@ pub fn format_rfc3339_seconds(moment: SystemTime) -> Rfc3339Timestamp
     }
 }
 
-/// Formats `moment` as a timestamp with three digits after the point. Further digits are truncated, not rounded.
+/// Returns a value that prints `moment` as a timestamp with three digits after the point. Further digits are truncated, not rounded.
 ///
 /// This function never fails. For a moment outside 1970 to 9999, [`text`](Rfc3339Timestamp::text) returns `None` and `Display` returns
 /// [`fmt::Error`].
@@ -159,7 +160,7 @@ pub fn format_rfc3339_millis(moment: SystemTime) -> Rfc3339Timestamp
     }
 }
 
-/// Formats `moment` as a timestamp with six digits after the point. Further digits are truncated, not rounded.
+/// Returns a value that prints `moment` as a timestamp with six digits after the point. Further digits are truncated, not rounded.
 ///
 /// This function never fails. For a moment outside 1970 to 9999, [`text`](Rfc3339Timestamp::text) returns `None` and `Display` returns
 /// [`fmt::Error`].
@@ -183,7 +184,7 @@ pub fn format_rfc3339_micros(moment: SystemTime) -> Rfc3339Timestamp
     }
 }
 
-/// Formats `moment` as a timestamp with nine digits after the point.
+/// Returns a value that prints `moment` as a timestamp with nine digits after the point.
 ///
 /// This function never fails. For a moment outside 1970 to 9999, [`text`](Rfc3339Timestamp::text) returns `None` and `Display` returns
 /// [`fmt::Error`].
@@ -208,7 +209,7 @@ pub fn format_rfc3339_nanos(moment: SystemTime) -> Rfc3339Timestamp
 }
 
 impl Rfc3339Timestamp {
-    /// Returns the moment, with all its nanoseconds.
+    /// Returns a reference to the moment, with all its nanoseconds.
     ///
     /// # Examples
     ///
@@ -224,9 +225,9 @@ impl Rfc3339Timestamp {
         &self.moment
     }
 
-    /// Returns the printed text, borrowed from the front of `buf`, or `None` for a moment outside 1970 to 9999.
+    /// Writes the text to the front of `buf` and returns it as a slice of `buf`, or returns `None` outside 1970 to 9999.
     ///
-    /// The text has 20, 24, 27 or 30 bytes; the bytes of `buf` after it are unspecified. If it returns `None`, `buf` is
+    /// The text has 20, 24, 27 or 30 bytes; the bytes of `buf` after it are unspecified. If the result is `None`, `buf` is
     /// unchanged.
     ///
     /// # Examples
@@ -251,7 +252,7 @@ impl Rfc3339Timestamp {
         text_from_len(buf, len)
     }
 
-    /// Writes the text to the front of `buf` and returns its length, or returns `None` outside 1970 to 9999 and leaves `buf` unchanged.
+    /// Writes the text to the front of `buf` and returns its length in bytes. Outside 1970 to 9999, returns `None`, with `buf` unchanged.
     #[inline(always)]
     pub(crate) fn write(&self, buf: &mut [u8; 30]) -> Option<usize>
         ensures within { IsSome result ↔ IsPrintable self.now.moment }
@@ -259,25 +260,26 @@ impl Rfc3339Timestamp {
         ensures text { IfSome result (λ len. IsPrinted self.now.moment self.now.places (take len buf.new)) }
         ensures unchanged { IfNone result (buf.new ≡ buf.old) }
     {
-        let (date, time) = date_and_time(self.moment)?;
-        Some(self.write_parts(date, time, buf))
+        let (date, second_of_day) = date_and_time(self.moment)?;
+        Some(self.write_parts(date, second_of_day, buf))
     }
 
-    /// Writes the text of a date, a second of the day and this moment's fraction to the front of `buf`, and returns its length.
+    /// Writes the text of a date, a time (in seconds after midnight) and this moment's fraction to the front of `buf`. Returns its length in
+    /// bytes.
     #[inline(always)]
-    fn write_parts(&self, date: Date, time: u32, buf: &mut [u8; 30]) -> usize
-        requires { IsSecondOf date time self.now.moment }
+    fn write_parts(&self, date: Date, second_of_day: u32, buf: &mut [u8; 30]) -> usize
+        requires { IsSecondOf date second_of_day self.now.moment }
         ensures fits { result ≤ 30 }
-        ensures text { take result buf.new ≡ fields_text (printed_fields date time (nano_of self.now.moment) self.now.places) }
+        ensures text { take result buf.new ≡ fields_text (printed_fields date second_of_day (nano_of self.now.moment) self.now.places) }
     {
         let nanos = self.moment.subsec_nanos();
-        write_date_time(date, time, buf);
+        write_date_time(date, second_of_day, buf);
         if self.precision == Precision::Seconds {
             buf[SECONDS_END] = b'Z';
             return SECONDS_END + 1;
         }
         write_two_digits(buf, SECONDS_END + 1, nanos / 10_000_000);
-        // Digits three and four are written as a pair. With three digits only, the `Z` then replaces the fourth.
+        // Digits three and four are written as a pair. If there are only three digits, the `Z` then replaces the fourth.
         write_two_digits(buf, MILLIS_END - 1, nanos / 100_000 % 100);
         if self.precision == Precision::Millis {
             buf[MILLIS_END] = b'Z';
@@ -313,7 +315,7 @@ impl fmt::Display for Rfc3339Timestamp {
 
 /// Returns the first `len` bytes as a `str`, or `None` if `len` is `None`.
 ///
-/// It is a function of its own so that the proof of [`Rfc3339Timestamp::text`], which is written by hand, can use its contract.
+/// This is a separate function so that the handwritten proof of [`Rfc3339Timestamp::text`] can use its contract.
 #[inline(always)]
 fn text_from_len(buf: &[u8; 30], len: Option<usize>) -> Option<&str>
     requires fits { IfSome len (λ n. n ≤ 30) }
@@ -324,40 +326,40 @@ fn text_from_len(buf: &[u8; 30], len: Option<usize>) -> Option<&str>
     Some(str_prefix(buf, len))
 }
 
-/// Returns the date of a moment and the second of its day, or `None` outside 1970 to 9999.
+/// Returns the date of a moment and its time in seconds after midnight, or `None` outside 1970 to 9999.
 #[inline(always)]
 fn date_and_time(moment: SystemTime) -> Option<(Date, u32)>
     ensures within { IsSome result ↔ IsPrintable moment }
     ensures value { IfSome result (λ x. IsSecondOf x.0 x.1 moment) }
 {
     let secs = u64::try_from(moment.unix_seconds()).ok()?;
-    let day = u32::try_from(secs / 86_400).ok()?;
+    let day = u32::try_from(secs / SECONDS_PER_DAY).ok()?;
     let date = date_of_day(day, &mut Turns::new())?;
-    Some((date, (secs % 86_400) as u32))
+    Some((date, (secs % SECONDS_PER_DAY) as u32))
 }
 
-/// Fills the buffer with the date, `T`, the time of day (`time` seconds after midnight) and `.nnnnnnnnnz`. The caller overwrites the point
-/// and the letters after it, as far as its text reaches.
+/// Fills the buffer with the date, `T`, the time of day and `.nnnnnnnnnz`. The caller then writes a `Z` over the point, or digits and a `Z`
+/// over the letters after it.
 ///
-/// The contract names 0 nanoseconds and 0 digits of them, on which the text before the point does not depend.
+/// The contract passes 0 nanoseconds and 0 digits to `printed_fields`: the text before the point does not depend on them.
 #[inline(always)]
 #[tactic(auto, using(crate::proofs::Dates::Years::valid_from_test))]
-fn write_date_time(date: Date, time: u32, buf: &mut [u8; 30])
+fn write_date_time(date: Date, second_of_day: u32, buf: &mut [u8; 30])
     requires date { IsDate date }
-    requires time { time < 86_400 }
-    ensures { buf.new ≡ date_time_text (printed_fields date time 0 0) ++ codes ".nnnnnnnnnz" }
+    requires time { second_of_day < 86_400 }
+    ensures { buf.new ≡ date_time_text (printed_fields date second_of_day 0 0) ++ codes ".nnnnnnnnnz" }
 {
     *buf = *b"yyyy-mm-ddThh:mm:ss.nnnnnnnnnz";
     write_two_digits(buf, 0, date.year / 100);
     write_two_digits(buf, 2, date.year % 100);
     write_two_digits(buf, 5, date.month);
     write_two_digits(buf, 8, date.day);
-    write_two_digits(buf, 11, time / 3_600);
-    write_two_digits(buf, 14, time / 60 % 60);
-    write_two_digits(buf, 17, time % 60);
+    write_two_digits(buf, 11, second_of_day / 3_600);
+    write_two_digits(buf, 14, second_of_day / 60 % 60);
+    write_two_digits(buf, 17, second_of_day % 60);
 }
 
-/// Writes a number below 100 as two digits at offset `at`. The two stores compile to one move, and `copy_from_slice` to a call.
+/// Writes a number below 100 as two digits at offset `at`. The two stores compile to one move; `copy_from_slice` would compile to a call.
 #[inline(always)]
 #[tactic(auto, using(crate::proofs::Timestamps::Printing::Pairs::pair_written))]
 fn write_two_digits(buf: &mut [u8; 30], at: usize, n: u32)

@@ -6,10 +6,10 @@ ghost use Rattle.humantime.specs.Durations.Characters.{is_digit, u64_max};
 
 use crate::unit::Scale;
 
-/// The maximum number of digits of a fraction, without trailing zeros.
+/// The maximum number of digits in a fraction before its trailing zeros.
 const MAX_FRACTION_DIGITS: usize = 19;
 
-/// The powers of ten that fit in a `u64`.
+/// The powers of ten that fit in a `u64`: 10^0 to 10^19.
 static POWERS_OF_TEN: [u64; 20] = [
     1,
     10,
@@ -33,18 +33,18 @@ static POWERS_OF_TEN: [u64; 20] = [
     10_000_000_000_000_000_000,
 ];
 
-/// The digits after a point: what they are as a number, and how many they are.
+/// The digits after a point. Their value is `significand / 10^places`, which is below 1.
 #[derive(Clone, Copy, Debug)]
 pub(crate) struct Fraction {
-    /// The digits without trailing zeros, as a number.
+    /// The digits before the trailing zeros, as an integer.
     pub significand: u64,
     /// The number of digits before the trailing zeros, leading zeros included.
     pub places: usize,
-    /// The number of all digits.
+    /// The number of digits, trailing zeros included.
     pub len: usize,
 }
 
-/// What a span adds to a duration: its number `value`, its fraction and the scale of its unit.
+/// What a span adds to a duration: its number `value`, its fraction (`None` without a point) and the size of its unit.
 #[derive(Clone, Copy, Debug)]
 pub(crate) struct Amount {
     pub value: u64,
@@ -53,7 +53,7 @@ pub(crate) struct Amount {
     ghost few: { ForSome fraction (λ f. f.places ≤ 19) },
 }
 
-/// Returns ten times the value plus the digit, or `None` on overflow.
+/// Returns `value * 10 + digit`, or `None` on overflow.
 #[inline(always)]
 pub(crate) fn push_digit(value: u64, digit: u64) -> Option<u64>
     requires { digit ≤ 9 }
@@ -62,7 +62,7 @@ pub(crate) fn push_digit(value: u64, digit: u64) -> Option<u64>
     value.checked_mul(10)?.checked_add(digit)
 }
 
-/// Returns ten to the power of `exponent`.
+/// Returns 10 to the power of `exponent`, which is at most 19.
 pub(crate) fn power_of_ten(exponent: usize) -> u64
     requires { exponent ≤ 19 }
     ensures { result ≡ 10 ^ exponent }
@@ -73,14 +73,14 @@ pub(crate) fn power_of_ten(exponent: usize) -> u64
 impl Fraction {
     ghost use Rattle.humantime.specs.Steps.Scanning.{HasDigits, AppendsIfSome, IsFullIfNone};
 
-    /// No digits.
+    /// The fraction without digits.
     pub(crate) const EMPTY: Fraction = Fraction {
         significand: 0,
         places: 0,
         len: 0,
     };
 
-    /// Appends a digit, given as its ASCII byte, or returns `None` if that makes more than 19 digits before the trailing zeros.
+    /// Returns the fraction followed by the ASCII digit `c`, or `None` if it then has more than 19 digits before its trailing zeros.
     #[inline(always)]
     pub(crate) fn push(self, c: u8) -> Option<Fraction>
         requires digit { is_digit c ≡ true }
@@ -96,7 +96,7 @@ impl Fraction {
         if len > MAX_FRACTION_DIGITS {
             return None;
         }
-        // The zeros before this digit are not trailing zeros any more.
+        // The zeros before this digit are no longer trailing zeros.
         let power = power_of_ten(len - self.places);
         let significand = self.significand * power + (c - b'0') as u64;
         Some(Fraction {

@@ -5,7 +5,7 @@ ghost use Rattle.std.specs.Prelude.{◌≡◌, chars, drop, IsCharBoundary};
 ghost use Rattle.humantime.specs.Durations.Characters.{offset_of};
 ghost use Rattle.humantime.specs.Steps.Scanning.{IsTail};
 
-/// A text and the rest of it that is still to be read.
+/// A position in a text: the whole text, and the rest that is still unread.
 #[derive(Clone, Copy)]
 pub(crate) struct Cursor<'a> {
     pub(crate) text: &'a str,
@@ -14,7 +14,7 @@ pub(crate) struct Cursor<'a> {
 }
 
 impl<'a> Cursor<'a> {
-    /// Returns the offset of the rest in the text, in bytes.
+    /// Returns the byte offset of the rest in the text.
     #[inline(always)]
     #[tactic(auto, using(crate::proofs::Durations::Bytes::Tails::tail_offset))]
     pub(crate) fn offset(self) -> usize
@@ -23,7 +23,7 @@ impl<'a> Cursor<'a> {
         self.text.len() - self.rest.len()
     }
 
-    /// Returns a cursor whose rest begins `len` bytes later.
+    /// Returns the cursor `len` bytes later, which must be on a `char` boundary.
     #[inline(always)]
     pub(crate) fn advance(self, len: usize) -> Cursor<'a>
         requires { IsCharBoundary self.rest.now len }

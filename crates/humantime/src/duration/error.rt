@@ -29,21 +29,25 @@ pub enum DurationError<'a> {
     InvalidCharacter(usize),
     /// A number was expected, but the character at this offset is not a digit.
     NumberExpected(usize),
-    /// The letters after a number do not name a unit, or the text ends without a unit.
+    /// The letters after a number (ASCII, `µ` or `μ`) do not name a unit, or the text ends without a unit.
     UnknownUnit {
         /// The offset of the unit's first letter, or the text's length if the unit is missing.
         start: usize,
-        /// The offset after the unit's last letter.
+        /// The offset after the unit's last letter, or the text's length if the unit is missing.
         end: usize,
         /// The unit, borrowed from the text; empty if it is missing.
         unit: &'a str,
-        /// The number before the unit.
+        /// The integer part of the number before the unit.
         value: u64,
     },
     /// A number, its product with the size of its unit, or the sum overflows; or a fraction cannot be represented.
     ///
-    /// A fraction can be represented if it has at most 19 digits before its trailing zeros, and if it is a whole number of nanoseconds (units
-    /// up to minutes) or of seconds (hours and longer units). The digits as a number, times the unit's size in these, must also fit in a `u64`.
+    /// A fraction can be represented if it has at most 19 digits before its trailing zeros and is a whole number of nanoseconds (for units
+    /// up to minutes) or of seconds (for hours and longer units). The product of these digits, as an integer, and the size of the unit in
+    /// nanoseconds or seconds must also fit in a `u64`.
+    ///
+    /// The product of a number and its unit is in nanoseconds for units up to milliseconds, and otherwise in seconds. In nanoseconds, it
+    /// overflows if the sum of it and of what the earlier spans have below a second does not fit in a `u64`.
     NumberOverflow,
     /// The text is empty or consists of whitespace only.
     Empty,
@@ -74,7 +78,7 @@ impl fmt::Display for DurationError<'_> {
 
 impl Error for DurationError<'_> {}
 
-/// Writes the text, and then the number.
+/// Writes `text`, followed by `number` in decimal.
 fn write_number<W: fmt::Write>(text: &str, number: u64, f: &mut fmt::Formatter<W>) -> fmt::Result
     ensures writes { WritesOnOk W.write_str_gives f.old result (text.now ++ decimal number) f.new }
     ensures styled { WritesStyledOnOk W.write_str_gives f.old result (text.now ++ decimal number) f.new }
@@ -83,7 +87,7 @@ fn write_number<W: fmt::Write>(text: &str, number: u64, f: &mut fmt::Formatter<W
     f.write_str(Buffer::new().format(number))
 }
 
-/// Writes the message of an unknown or missing unit. `value` is the number before it.
+/// Writes the message for an unknown unit, or for a missing one if `unit` is empty. `value` is the number before it.
 fn write_unit<W: fmt::Write>(unit: &str, value: u64, f: &mut fmt::Formatter<W>) -> fmt::Result
     ensures writes { WritesOnOk W.write_str_gives f.old result (unit_message unit.now value) f.new }
     ensures styled { WritesStyledOnOk W.write_str_gives f.old result (unit_message unit.now value) f.new }
@@ -98,7 +102,7 @@ fn write_unit<W: fmt::Write>(unit: &str, value: u64, f: &mut fmt::Formatter<W>) 
     )
 }
 
-/// Writes the message of a missing unit.
+/// Writes the message for a missing unit. `value` is the number before it.
 fn write_unit_needed<W: fmt::Write>(value: u64, f: &mut fmt::Formatter<W>) -> fmt::Result
     ensures writes { WritesOnOk W.write_str_gives f.old result (unit_message [] value) f.new }
     ensures styled { WritesStyledOnOk W.write_str_gives f.old result (unit_message [] value) f.new }

@@ -6,13 +6,13 @@ use crate::duration::reader::read_span;
 use crate::duration::scan::{begins_with_digit, skip_whitespace};
 use crate::duration::span::Span;
 
-/// An iterator over the spans of a text, from left to right, and then its first error, if there is one.
+/// An iterator over the spans of a text, from left to right, and then the error at which they end, if any.
 ///
-/// [`spans`](crate::spans) returns it. After an error or the end of the text, it returns `None` forever. The offsets of
+/// It is returned by [`spans`](crate::spans). After an error or the end of the text, `next` always returns `None`. The offsets of
 /// a span or an error lie on `char` boundaries of the text.
 ///
-/// The clause `next_gives` is the contract of `next`: a call returns the first of the items that are left and leaves
-/// the others, or returns `None` if none is left. The text stays the same.
+/// The clause `next_gives` is the contract of `next`: a call returns the first of the remaining items and leaves the others, or
+/// returns `None` if none remains. The text stays the same.
 ///
 /// # Examples
 ///

@@ -1,4 +1,4 @@
-//! [`parse_duration`] and [`spans`]: whole texts, built on [`SpanIter`] and `add_amount`.
+//! Parses whole texts: [`parse_duration`] and [`spans`], built on [`SpanIter`] and `add_amount`.
 
 ghost use Rattle.std.specs.Prelude.{◌≡◌, chars, map, IfErr};
 ghost use Rattle.humantime.specs.Prelude.{AreItems, IsDurationAnswer, PointsInto, items_left, result_view, text_of};
@@ -11,15 +11,15 @@ use crate::duration::iter::SpanIter;
 use crate::duration::sum::add_amount;
 use crate::value::StdDuration;
 
-/// Returns an iterator over the spans of `s` from left to right, and then its first error, if there is one.
+/// Returns an iterator over the spans of `s`, from left to right, and then the error at which they end, if any.
 ///
-/// After an error or the end of the text, the iterator returns `None` forever.
+/// After an error or the end of the text, the iterator always returns `None`.
 ///
 /// # Errors
 ///
-/// The errors are those of [`parse_duration`], except that overflow and precision of spans and sums are not checked. A
+/// The errors are those of [`parse_duration`], except that products, sums and the precision of fractions are not checked. A
 /// number above `u64::MAX`, or a fraction with more than 19 digits before its trailing zeros, is still an error. Unlike
-/// `parse_duration`, this rejects `0`, which has no unit.
+/// `parse_duration`, this function rejects `0`, which has no unit.
 ///
 /// # Examples
 ///
@@ -46,7 +46,7 @@ pub fn spans(s: &str) -> SpanIter<'_>
     }
 }
 
-/// Returns the sum of the spans of a text, or its first error.
+/// Returns the sum of the spans of a text, or the text's first error.
 fn sum_of<'a>(text: &'a str) -> Result<StdDuration, DurationError<'a>>
     ensures value { result_view result ≡ sum_spans 0 (map span_in (item_views (chars text.now))) }
     ensures place { IfErr result (PointsInto text.now) }
@@ -54,7 +54,7 @@ fn sum_of<'a>(text: &'a str) -> Result<StdDuration, DurationError<'a>>
     let mut total = StdDuration::ZERO;
     let mut items = spans(text);
     while let Some(item) = items.next() {
-        // `match` in place of `?`, for which Rattle's own compiler copies the error by a call: `1foo~` would take 1.15 of the time.
+        // `match` and not `?`, for which the kit's own back end copies the error by a call: `1foo~` would take 1.15 times as long.
         match item {
             Ok(span) => match add_amount(total, span.amount) {
                 Some(sum) => total = sum,
@@ -68,22 +68,28 @@ fn sum_of<'a>(text: &'a str) -> Result<StdDuration, DurationError<'a>>
 
 /// Parses a duration, such as `2h 37min`.
 ///
-/// The text is one or more spans, each a number, an optional fraction and a unit, as in `2h 37min` or `1.5d`, and the duration is
-/// their sum. Whitespace is allowed between digits, and before and after each part. Trailing zeros of a fraction are ignored. The text
-/// `0`, without a unit or whitespace, is the zero duration.
+/// The text consists of one or more spans, and the duration is their sum. A span is a number, an optional fraction and a unit, such as
+/// `1.5d`. Digits are ASCII. Unicode whitespace is allowed between digits, and before and after each part. Trailing zeros of a fraction
+/// are ignored. The text `0`, without a unit or whitespace, is the zero duration.
+///
+/// The units are `ns`, `us` or `µs`, `ms`, `s`, `m`, `h`, `d`, `w`, `M` (a month of 30.44 days) and `y` (a year of 365.25 days), and longer
+/// words such as `min`, `hours` and `months`. Case matters.
 ///
 /// # Errors
 ///
-/// Returns the first error of the text. Its offsets are in bytes and lie on `char` boundaries.
+/// Returns the error of the first span that has one. The checks of a span are, in this order: that its number fits in a `u64` and its
+/// fraction has at most 19 digits before the trailing zeros; the characters; the unit; and the limits of the span and of the sum. Offsets
+/// are in bytes and lie on `char` boundaries.
 ///
 /// - [`Empty`](DurationError::Empty): the text is empty or has only whitespace.
 /// - [`NumberExpected`](DurationError::NumberExpected): the first character after leading whitespace, or after a span and the
 ///   whitespace that follows it, is not a digit.
 /// - [`InvalidCharacter`](DurationError::InvalidCharacter): a span has a character that is not allowed there, or a point
 ///   without a digit after it.
-/// - [`UnknownUnit`](DurationError::UnknownUnit): the letters after a number are not a unit, or the text ends without
-///   one. The unit that the error names is borrowed from `s`.
-/// - [`NumberOverflow`](DurationError::NumberOverflow): a number, a fraction, a span or the sum exceeds a limit.
+/// - [`UnknownUnit`](DurationError::UnknownUnit): the letters after a number (ASCII, `µ` or `μ`) are not a unit, or the text ends
+///   without one. The error borrows the unit from `s`.
+/// - [`NumberOverflow`](DurationError::NumberOverflow): a number, its product with the size of its unit, or the sum overflows; or a
+///   fraction cannot be represented.
 ///
 /// # Examples
 ///

@@ -17,9 +17,9 @@ use crate::value::StdDuration;
 use std::fmt;
 use std::marker::Model;
 
-/// A duration to be printed, by [`text`](Self::text) or `Display`.
+/// A duration that [`text`](Self::text) and `Display` print, such as `2h 37m`.
 ///
-/// It is returned by [`format_duration`]. Contracts see it as its number of nanoseconds.
+/// It is returned by [`format_duration`]. Contracts see it as its total number of nanoseconds.
 ///
 /// # Examples
 ///
@@ -43,12 +43,12 @@ impl Model for FormattedDuration {
     ghost view = { λ d. d.value };
 }
 
-/// Returns a value that prints `val`, such as `2h 37m`.
+/// Returns a value that prints the duration `val`, such as `2h 37m`.
 ///
-/// The format is that of the Rust crate `humantime`: years of 365.25 days, months of 30.44 days, days, hours, minutes, seconds,
-/// milliseconds, microseconds and nanoseconds, largest unit first, each count as large as possible. Counts of zero are left
-/// out. Years, months and days take a plural `s` above one. Microseconds are written `µs`, with the micro sign U+00B5. A
-/// duration of zero is `0s`. The text has at most 64 bytes.
+/// The format is that of the Rust crate `humantime`: counts of years (365.25 days), months (30.44 days), days, hours, minutes, seconds,
+/// milliseconds, microseconds and nanoseconds, largest unit first, each as large as possible, with a space between them. Counts of zero
+/// are left out. The units are written `year`, `month` and `day`, with an `s` if the count is above 1, and `h`, `m`, `s`, `ms`, `µs` (with
+/// the micro sign U+00B5) and `ns`. A duration of zero is `0s`. The text has at most 64 bytes.
 ///
 /// # Examples
 ///
@@ -68,7 +68,7 @@ pub fn format_duration(val: StdDuration) -> FormattedDuration
 }
 
 impl FormattedDuration {
-    /// Returns the duration.
+    /// Returns a reference to the duration.
     ///
     /// # Examples
     ///
@@ -85,8 +85,8 @@ impl FormattedDuration {
 
     /// Writes the text to the front of `buf` and returns it as a slice of `buf`.
     ///
-    /// The bytes of `buf` after the text are unspecified. [`parse_duration`](crate::parse_duration) reads the text back to the
-    /// same duration.
+    /// The bytes of `buf` after the text are unspecified. [`parse_duration`](crate::parse_duration) parses the text to the same
+    /// duration.
     ///
     /// # Examples
     ///
@@ -106,11 +106,12 @@ impl FormattedDuration {
     }
 }
 
-/// Writes the text of a duration to the front of the buffer, and returns its length in bytes.
+/// Writes the text of a duration to the front of the buffer, and returns the text's length in bytes.
 ///
-/// The clause `within` says that a duration is below 2^64 seconds, for the proof of [`FormattedDuration::text`], which holds a reference.
+/// The clause `within` holds for every duration. It is here for the proof of [`FormattedDuration::text`], which has only a reference to the
+/// duration.
 ///
-/// It is one function that is not inlined, so that the writer stays in registers: printing takes 0.8 of the instructions.
+/// This is a single function and is not inlined, so that the writer stays in registers and printing takes 0.8 of the instructions.
 #[inline(never)]
 #[tactic(auto, using(crate::proofs::Durations::Printing::CountTexts::counts_written))]
 fn write_duration(duration: StdDuration, buf: &mut [u8; 64]) -> usize
@@ -140,10 +141,10 @@ fn write_duration(duration: StdDuration, buf: &mut [u8; 64]) -> usize
     writer.finish()
 }
 
-/// Writes the whole text to the formatter at once, and returns the formatter's result.
+/// Writes the text to the formatter in a single write, and returns the formatter's result.
 ///
-/// Width, fill and alignment are ignored, as they are in the Rust crate `humantime`. To pad a duration, format the `&str` of
-/// [`text`](FormattedDuration::text).
+/// Width, fill and alignment are ignored, as in the Rust crate `humantime`. To pad a duration, format the `&str` that
+/// [`text`](FormattedDuration::text) returns.
 ///
 /// # Examples
 ///
@@ -164,14 +165,14 @@ impl fmt::Display for FormattedDuration {
     }
 }
 
-/// Parses a duration, writes its canonical text to the front of `buf`, and returns the text, borrowed from `buf`.
+/// Parses a duration, writes its canonical text to the front of `buf`, and returns the text as a slice of `buf`.
 ///
 /// The text is the one that [`FormattedDuration::text`] returns for the duration.
 ///
 /// # Errors
 ///
-/// Returns the error that [`parse_duration`] returns for `s`, and leaves `buf` unchanged. The error borrows from `s` alone,
-/// so it may be kept while the buffer is written again.
+/// Returns the error that [`parse_duration`] returns for `s`, and leaves `buf` unchanged. The error borrows only from `s`,
+/// so `buf` can be written again while the error is kept.
 ///
 /// # Examples
 ///
@@ -192,35 +193,37 @@ pub fn canonical<'a, 'b>(s: &'a str, buf: &'b mut [u8; 64]) -> Result<&'b str, D
     ensures place { IfErr result (PointsInto s.now) }
     ensures* unchanged { sem 𝓛 (KeptAtErr 64 buf.entry result) }
 {
-    let end = write_canonical(s, buf);
-    text_from_len(buf, end)
+    let len = write_canonical(s, buf);
+    text_from_len(buf, len)
 }
 
-/// Returns the text in the first `end` bytes, or the error.
+/// Returns the text in the first `len` bytes of the buffer, or the error if `len` is one.
 ///
-/// It is a function of its own so that the proof of [`canonical`], which is written by hand, can use its contract.
+/// This is a separate function so that the handwritten proof of [`canonical`] can use its contract.
 #[inline(always)]
 fn text_from_len<'a, 'b>(
     buf: &'b [u8; 64],
-    end: Result<usize, DurationError<'a>>,
+    len: Result<usize, DurationError<'a>>,
 ) -> Result<&'b str, DurationError<'a>>
-    requires fits { IfOk end (λ n. n ≤ 64) }
-    requires utf8 { IfOk end (λ n. IsUtf8 (take n buf.now)) }
-    ensures text { IfOk end.entry (λ n. text_result_view result ≡ Ok (take n buf.now)) }
-    ensures error { IfErr end.entry (λ e. result ≡ Err e) }
+    requires fits { IfOk len (λ n. n ≤ 64) }
+    requires utf8 { IfOk len (λ n. IsUtf8 (take n buf.now)) }
+    ensures text { IfOk len.entry (λ n. text_result_view result ≡ Ok (take n buf.now)) }
+    ensures error { IfErr len.entry (λ e. result ≡ Err e) }
 {
-    match end {
-        Ok(end) => Ok(str_prefix(buf, end)),
+    match len {
+        Ok(len) => Ok(str_prefix(buf, len)),
         Err(error) => Err(error),
     }
 }
 
-/// Parses a duration, writes its canonical text to the front of the buffer, and returns the length of the text in bytes, or the error.
+/// Parses a duration, writes its canonical text to the front of the buffer, and returns the text's length in bytes.
+///
+/// If parsing fails, returns the error and leaves the buffer unchanged.
 fn write_canonical<'a>(s: &'a str, buf: &mut [u8; 64]) -> Result<usize, DurationError<'a>>
     ensures unchanged { OnErr result (buf.new ≡ buf.old) }
-    ensures fits { IfOk result (λ end. end ≤ 64) }
-    ensures utf8 { IfOk result (λ end. IsUtf8 (take end buf.new)) }
-    ensures answer { result_map_both (λ end. take end buf.new) fault_of result ≡ canonical_answer (chars s.now) }
+    ensures fits { IfOk result (λ len. len ≤ 64) }
+    ensures utf8 { IfOk result (λ len. IsUtf8 (take len buf.new)) }
+    ensures answer { result_map_both (λ len. take len buf.new) fault_of result ≡ canonical_answer (chars s.now) }
     ensures place { IfErr result (PointsInto s.now) }
 {
     let duration = parse_duration(s)?;

@@ -1,4 +1,4 @@
-//! Reads one [`Span`] at a cursor, built on the steps of `scan`. In contracts, `ahead c` is the characters of `c.rest`.
+//! Reads one [`Span`] at a cursor, with the functions of `scan`. In contracts, `ahead c` stands for the characters of `c.rest`.
 
 ghost use Rattle.std.specs.Prelude.{◌≡◌, true, false, MatchOption};
 ghost use Rattle.humantime.specs.Texts.{begins};
@@ -18,8 +18,8 @@ use crate::duration::scan::{
 use crate::duration::span::Span;
 use crate::unit::words::scale_of;
 
-/// Returns the cursor after the number and its fraction, or after the number if it has no fraction. `fraction` is what was read after
-/// `number`: `None` means that no point follows.
+/// Returns the cursor after the number and its fraction, if any. `fraction` is the fraction after `number`, or `None` if no point
+/// follows the number.
 #[inline(always)]
 fn fraction_end<'a>(number: Number<'a>, fraction: Option<FractionPart<'a>>) -> Cursor<'a>
     requires { IsFractionOf number fraction }
@@ -32,14 +32,14 @@ fn fraction_end<'a>(number: Number<'a>, fraction: Option<FractionPart<'a>>) -> C
     }
 }
 
-/// Returns the cursor from which to look for the next span: after the whitespace character that follows the word, or right after
-/// the word if a digit or the end of the text follows. Returns `None` if any other character follows.
+/// Returns the cursor from which to look for the next span: after the first whitespace character that follows the word, or directly
+/// after the word if a digit or the end of the text follows. Returns `None` if any other character follows.
 #[inline(always)]
 fn next_span_start<'a>(after_word: Cursor<'a>) -> Option<Cursor<'a>>
     ensures { MatchOption result (ends_span (ahead after_word.entry) ≡ false) (λ next. IsSpanEnd after_word.entry next) }
 {
     let text = after_word.rest;
-    // Most words have a space or the end of the text after them. Testing for these first takes 0.92 of the instructions.
+    // A space or the end of the text follows most words. With the tests for these first, parsing takes 0.92 of the instructions.
     if text.is_empty() {
         return Some(after_word);
     }
@@ -53,7 +53,8 @@ fn next_span_start<'a>(after_word: Cursor<'a>) -> Option<Cursor<'a>>
     Some(after_word.advance(len))
 }
 
-/// Reads the span at the cursor. Returns it with the cursor from which to look for the next span, or returns its first error.
+/// Reads the span at the cursor. Returns the span and the cursor from which to look for the next one, or the error of the first check that
+/// fails.
 #[inline(always)]
 pub(crate) fn read_span<'a>(start: Cursor<'a>) -> Result<(Span<'a>, Cursor<'a>), DurationError<'a>>
     requires { begins is_digit (ahead start) ≡ true }
@@ -62,7 +63,7 @@ pub(crate) fn read_span<'a>(start: Cursor<'a>) -> Result<(Span<'a>, Cursor<'a>),
     let Some(number) = read_number(start) else {
         return Err(DurationError::NumberOverflow);
     };
-    // `complete_span` is inlined twice: a span without a fraction then needs no registers for one, and takes 0.92 of the instructions.
+    // `complete_span` is inlined twice, so that a span without a fraction needs no registers for one and takes 0.92 of the instructions.
     let Some(digits) = skip_point(number.end) else {
         return complete_span(number, None);
     };
@@ -72,7 +73,7 @@ pub(crate) fn read_span<'a>(start: Cursor<'a>) -> Result<(Span<'a>, Cursor<'a>),
     complete_span(number, Some(fraction))
 }
 
-/// Reads the unit after a number and its fraction, and returns what [`read_span`] returns.
+/// Reads the unit after a number and its fraction, if any, and returns the result of [`read_span`].
 #[inline(always)]
 fn complete_span<'a>(
     number: Number<'a>,
@@ -87,7 +88,7 @@ fn complete_span<'a>(
         return Err(DurationError::InvalidCharacter(end.offset()));
     };
     let after_word = word.end;
-    // A point without a digit after it.
+    // There is a point without a digit after it.
     if fraction.is_some_and(|fraction| fraction.value.len == 0) {
         return Err(DurationError::InvalidCharacter(number.end.offset()));
     }
@@ -104,7 +105,7 @@ fn complete_span<'a>(
     };
     let span = Span {
         number: number.slice,
-        digits: fraction.map(|fraction| fraction.slice),
+        fraction: fraction.map(|fraction| fraction.slice),
         unit: word.letters,
         start: number.start.offset(),
         end: after_word.offset(),

@@ -1,4 +1,6 @@
-//! Reads the parts of a span at a [`Cursor`]: whitespace, a number, a fraction, a word. In contracts, `ahead c` is the characters of `c.rest`.
+//! Reads the parts of a span at a [`Cursor`]: whitespace, a number, a fraction and a word.
+//!
+//! In contracts, `ahead c` stands for the characters of `c.rest`.
 
 ghost use Rattle.std.proofs.Props.{props};
 ghost use Rattle.std.specs.Prelude.{◌≡◌, ◌==◌, ◌+◌, ◌<◌, ◌≤◌, ◌&&◌, ◌||◌, true, take, drop, length, chars, option_map};
@@ -16,10 +18,10 @@ use crate::duration::amount::{Fraction, push_digit};
 use crate::duration::cursor::Cursor;
 use crate::unit::words::{EMPTY_KEY, push_byte};
 
-/// The largest number whose product with 10 fits in a `u64`.
+/// The greatest number whose product with 10 fits in a `u64`.
 const TENTH_OF_MAX: u64 = u64::MAX / 10;
 
-/// Returns `true` if the bytes encode the micro sign or the Greek letter mu, the only letters beyond ASCII in words of units.
+/// Returns `true` if the two bytes encode the micro sign or the Greek letter mu, the only letters outside ASCII in words of units.
 #[inline(always)]
 fn is_mu(first: u8, second: u8) -> bool
     ensures { result ≡ ((first == 0xc2 && second == 0xb5) || (first == 0xce && second == 0xbc)) }
@@ -27,9 +29,9 @@ fn is_mu(first: u8, second: u8) -> bool
     matches!((first, second), (0xc2, 0xb5) | (0xce, 0xbc))
 }
 
-/// Returns the length of the whitespace character that begins the text, in bytes, or 0 if there is none.
+/// Returns the length in bytes of the whitespace character at the start of the text, or 0 if there is none.
 ///
-/// It is cold and not inlined, so that loops over ASCII keep their variables in registers: fractions take 0.85 of the time.
+/// It is cold and not inlined, so that loops over ASCII keep their variables in registers and fractions take 0.85 of the time.
 #[cold]
 #[inline(never)]
 #[tactic(auto, using(crate::proofs::Durations::Bytes::PlaceSteps::none_width))]
@@ -42,33 +44,36 @@ fn leading_whitespace_len(text: &str) -> usize
     }
 }
 
-/// Returns the offset after the whitespace character at offset `at`, or `None` if another character begins there.
+/// Returns the offset after the whitespace character at offset `at`, or `None` if the character there is not whitespace.
 ///
-/// A character has to begin at `at`, so `at` is below the length.
+/// A character must begin at `at`, so `at` is less than the length of the text.
 #[inline(always)]
 pub(crate) fn skip_whitespace_char(text: &str, at: usize) -> Option<usize>
     requires { IsPlaceIn text.now at }
     ensures { SomeIff result (0 < whitespace_len (chars (drop at text.now))) (at + whitespace_len (chars (drop at text.now))) }
 {
     let bytes = text.as_bytes();
-    match bytes[at] {
-        // Usually this is an ASCII letter, which one test tells from whitespace.
-        b'!'..=0x7f => None,
-        b' ' | b'\t'..=b'\r' => Some(at + 1),
-        // The other control characters.
-        0..b' ' => None,
-        // A mu is recognized by its bytes, so that the `µ` of `µs` is not decoded by the cold `leading_whitespace_len`.
-        first if at + 1 < bytes.len() && is_mu(first, bytes[at + 1]) => None,
-        _ => match leading_whitespace_len(&text[at..]) {
-            0 => None,
-            len => Some(at + len),
-        },
+    // Usually this is an ASCII letter. No character from `!` to U+007F is whitespace.
+    if bytes[at] > b' ' && bytes[at] < 0x80 {
+        return None;
+    }
+    if bytes[at] < 0x80 {
+        let is_whitespace = bytes[at] == b' ' || bytes[at] >= b'\t' && bytes[at] <= b'\r';
+        return is_whitespace.then_some(at + 1);
+    }
+    // A mu is not whitespace. Without this test, `µs` would call the cold `leading_whitespace_len`.
+    if at + 1 < bytes.len() && is_mu(bytes[at], bytes[at + 1]) {
+        return None;
+    }
+    match leading_whitespace_len(&text[at..]) {
+        0 => None,
+        len => Some(at + len),
     }
 }
 
-/// Returns the offset after the spaces, U+0020, that begin at offset `from`. The contract does not promise that all of them are skipped.
+/// Returns the offset after the spaces (U+0020) at offset `from`, if any. The contract promises only that nothing but whitespace is skipped.
 ///
-/// It is a loop of its own, so that whitespace takes 0.65 of the time.
+/// This is a separate loop, so that a run of spaces takes 0.65 of the time.
 #[inline(always)]
 fn skip_spaces(text: &str, from: usize) -> usize
     requires { IsCharBoundary text.now from }
@@ -82,7 +87,7 @@ fn skip_spaces(text: &str, from: usize) -> usize
     at
 }
 
-/// Returns the cursor after the whitespace that begins at `start`, which may be none.
+/// Returns the cursor after the whitespace at `start`, if any.
 #[inline(always)]
 pub(crate) fn skip_whitespace<'a>(start: Cursor<'a>) -> Cursor<'a>
     ensures rest { ahead result ≡ drop_while is_whitespace (ahead start.entry) }
@@ -112,7 +117,7 @@ pub(crate) fn begins_with_digit(text: &str) -> bool
     !bytes.is_empty() && bytes[0].is_ascii_digit()
 }
 
-/// A number, with the cursors before and after it. The whitespace after its digits is part of it.
+/// A number, and the cursors before and after it. The whitespace after its digits is part of it.
 #[derive(Clone, Copy)]
 pub(crate) struct Number<'a> {
     pub start: Cursor<'a>,
@@ -127,7 +132,7 @@ pub(crate) struct Number<'a> {
 
 /// Reads the number at the cursor, or returns `None` if it does not fit in a `u64`.
 ///
-/// What the value, the slice and the end are follows from `start`, by the ghost fields of [`Number`].
+/// By the ghost fields of [`Number`], `start` determines the value, the slice and the end.
 #[inline(always)]
 #[tactic(auto, using(crate::proofs::Durations::Bytes::Numbers::first_digit))]
 pub(crate) fn read_number<'a>(start: Cursor<'a>) -> Option<Number<'a>>
@@ -139,11 +144,12 @@ pub(crate) fn read_number<'a>(start: Cursor<'a>) -> Option<Number<'a>>
     let mut value = (bytes[0] - b'0') as u64;
     let mut at = 1;
     while at < bytes.len() {
-        // Wraps around to a number above 9 unless the byte is a digit. As a `u64`, tested before whitespace: long numbers take 0.9 of the time.
+        // Above 9, possibly after wrapping around, unless the byte is a digit. It is a `u64` and is tested before whitespace, so that long
+        // numbers take 0.9 of the time.
         let digit = (bytes[at] as u64).wrapping_sub(b'0' as u64);
         if digit <= 9 {
             at += 1;
-            // Below the limit no digit overflows, so that only the last digits of the longest numbers are tested for it.
+            // Below `TENTH_OF_MAX` no digit overflows, so only the last digits of the longest numbers are tested for overflow.
             value = if value >= TENTH_OF_MAX {
                 push_digit(value, digit)?
             } else {
@@ -164,7 +170,7 @@ pub(crate) fn read_number<'a>(start: Cursor<'a>) -> Option<Number<'a>>
     })
 }
 
-/// The digits of a fraction, with the cursors before and after them. The whitespace around the digits is part of the fraction.
+/// The digits of a fraction, and the cursors before and after them. The whitespace around the digits is part of the fraction.
 #[derive(Clone, Copy)]
 pub(crate) struct FractionPart<'a> {
     pub start: Cursor<'a>,
@@ -176,9 +182,9 @@ pub(crate) struct FractionPart<'a> {
     ghost run: { IsNumericRun start slice.now end } by { Prim.hlevel props },
 }
 
-/// Reads the digits of a fraction at the cursor, which may be none. Returns `None` if there are more than 19 before the trailing zeros.
+/// Reads the digits of a fraction, if any, at the cursor. Returns `None` if there are more than 19 before the trailing zeros.
 ///
-/// What the value, the slice and the end are follows from `start`, by the ghost fields of [`FractionPart`].
+/// By the ghost fields of [`FractionPart`], `start` determines the value, the slice and the end.
 #[inline(always)]
 pub(crate) fn read_fraction<'a>(start: Cursor<'a>) -> Option<FractionPart<'a>>
     ensures { MatchOption result (19 < length (without_trailing_zeros (number_of (ahead start.entry)))) (λ f. f.start ≡ start.entry) }
@@ -206,7 +212,7 @@ pub(crate) fn read_fraction<'a>(start: Cursor<'a>) -> Option<FractionPart<'a>>
     })
 }
 
-/// Returns the cursor after the point that begins at `start`, or `None` if there is no point.
+/// Returns the cursor after the point at `start`, or `None` if there is no point.
 #[inline(always)]
 pub(crate) fn skip_point<'a>(start: Cursor<'a>) -> Option<Cursor<'a>>
     ensures rest { option_map ahead result ≡ after_point (ahead start.entry) }
@@ -219,17 +225,17 @@ pub(crate) fn skip_point<'a>(start: Cursor<'a>) -> Option<Cursor<'a>>
     Some(start.advance(1))
 }
 
-/// A word, with the cursor after it.
+/// A word, and the cursor after it.
 #[derive(Clone, Copy)]
 pub(crate) struct Word<'a> {
     pub letters: &'a str,
-    /// The key by which the unit is found.
+    /// The key by which the unit is looked up.
     pub key: u64,
     pub end: Cursor<'a>,
     ghost scale: { scale_of_key key ≡ scale_of_word (chars letters.now) },
 }
 
-/// Returns the length of the letters at the start of the text, in bytes, and the key of the word.
+/// Returns the length in bytes of the letters at the start of the text, and the key of this word.
 #[inline(always)]
 #[tactic(auto, using(crate::proofs::Durations::Bytes::Tails::no_chars_at))]
 fn read_letters(text: &str) -> (usize, u64)
@@ -241,7 +247,7 @@ fn read_letters(text: &str) -> (usize, u64)
     let mut key = EMPTY_KEY;
     let mut at = 0;
     while at < bytes.len() {
-        // In the second condition `>= 0x80` comes first, so that this one test ends a word before an ASCII character.
+        // The second condition begins with `>= 0x80`, so that this one test ends a word before an ASCII character.
         if bytes[at].is_ascii_alphabetic() {
             key = push_byte(key, bytes[at]);
             at += 1;

@@ -1,11 +1,11 @@
-//! [`Span`]: a number with its fraction and its unit, as read from a text.
+//! [`Span`]: a number with its fraction, if any, and its unit, as read from a text.
 
 ghost use Rattle.std.specs.Prelude.{◌≡◌, option_map, chars};
 ghost use Rattle.humantime.specs.Steps.Scales.{IsAmountRead};
 
 use crate::duration::amount::Amount;
 
-/// A number with its fraction and its unit, borrowed from a text.
+/// A number with its fraction, if any, and its unit, borrowed from a text.
 ///
 /// [`spans`](crate::spans) returns an iterator over the spans of a text.
 ///
@@ -26,18 +26,20 @@ pub struct Span<'a> {
     // The digits of the number, with the whitespace between and after them.
     pub(crate) number: &'a str,
     // The digits of the fraction, with the whitespace around them, or `None` if there is no point.
-    pub(crate) digits: Option<&'a str>,
+    pub(crate) fraction: Option<&'a str>,
     pub(crate) unit: &'a str,
     pub(crate) start: usize,
     pub(crate) end: usize,
     pub(crate) amount: Amount,
-    ghost read: { IsAmountRead amount number.now digits unit.now },
+    ghost read: { IsAmountRead amount number.now fraction unit.now },
 }
 
 impl<'a> Span<'a> {
     ghost use Rattle.humantime.specs.Results.Spans.{span_view};
 
-    /// Returns the integer part, from its first to its last digit, with the whitespace between them.
+    /// Returns the integer part as written in the text, from its first to its last digit.
+    ///
+    /// Whitespace between the digits is included.
     ///
     /// # Examples
     ///
@@ -54,7 +56,7 @@ impl<'a> Span<'a> {
         self.number.trim_end()
     }
 
-    /// Returns the fraction, from its first to its last digit, or `None` if there is no point.
+    /// Returns the fraction as written in the text, from its first to its last digit, or `None` if there is no point.
     ///
     /// Whitespace between the digits and trailing zeros are included.
     ///
@@ -70,7 +72,7 @@ impl<'a> Span<'a> {
     pub fn fraction(&self) -> Option<&'a str>
         ensures { option_map (λ t. chars t.now) result ≡ (span_view self.now).fraction }
     {
-        Some(self.digits?.trim_start().trim_end())
+        Some(self.fraction?.trim_start().trim_end())
     }
 
     /// Returns the unit as written in the text.
@@ -89,7 +91,7 @@ impl<'a> Span<'a> {
         self.unit
     }
 
-    /// Returns the offset of the first digit in the text, in bytes.
+    /// Returns the byte offset in the text of the first digit.
     ///
     /// # Examples
     ///
@@ -105,7 +107,7 @@ impl<'a> Span<'a> {
         self.start
     }
 
-    /// Returns the offset after the last letter of the unit in the text, in bytes.
+    /// Returns the byte offset in the text after the last letter of the unit.
     ///
     /// # Examples
     ///

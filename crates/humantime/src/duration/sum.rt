@@ -1,4 +1,4 @@
-//! Adds the [`Amount`] of a span to a duration, with overflow checked.
+//! Adds the [`Amount`] of a span to a duration, checking for overflow.
 
 ghost use Rattle.std.specs.Prelude.{◌≡◌, ◌≤◌, ◌*◌, SomeIff};
 ghost use Rattle.humantime.specs.Durations.Characters.{u64_max};
@@ -11,9 +11,9 @@ use crate::duration::amount::{Amount, Fraction, power_of_ten};
 use crate::unit::Addition;
 use crate::value::StdDuration;
 
-/// Returns the product, or `None` on overflow.
+/// Returns `value * factor`, or `None` on overflow.
 ///
-/// It is computed in 128 bits. With `checked_mul`, the code of Rattle's own compiler would use the stack.
+/// The product is computed in 128 bits: for `checked_mul`, the kit's own back end would use the stack.
 #[inline(always)]
 fn product(value: u64, factor: u64) -> Option<u64>
     ensures { SomeIff result (value * factor ≤ u64_max) (value * factor) }
@@ -21,7 +21,7 @@ fn product(value: u64, factor: u64) -> Option<u64>
     u64::try_from(value as u128 * factor as u128).ok()
 }
 
-/// Returns the sum plus `count` times an addition, or `None` on overflow.
+/// Returns `sum` plus `count` times the addition `one`, or `None` on overflow.
 #[inline(always)]
 fn add_times(sum: StdDuration, one: Addition, count: u64) -> Option<StdDuration>
     ensures { result ≡ steps.add_times sum one count }
@@ -32,23 +32,23 @@ fn add_times(sum: StdDuration, one: Addition, count: u64) -> Option<StdDuration>
     }
 }
 
-/// Returns the fraction times the factor, or `None` if that is not a whole number, or if the significand times the factor overflows.
+/// Returns the fraction times `factor`, or `None` if that is not a whole number or the significand times `factor` overflows.
 #[tactic(auto, using(crate::proofs::Durations::Bytes::Additions::power_positive))]
 fn part_of(fraction: Fraction, factor: u64) -> Option<u64>
     requires { fraction.places ≤ 19 }
     ensures { result ≡ steps.part_of fraction.significand fraction.places factor }
 {
-    let product = product(fraction.significand, factor)?;
+    let scaled = product(fraction.significand, factor)?;
     let power = power_of_ten(fraction.places);
-    if product % power != 0 {
+    if scaled % power != 0 {
         return None;
     }
-    Some(product / power)
+    Some(scaled / power)
 }
 
-/// Returns the sum plus a fraction of an addition, or `None` if that is not a whole number, or on overflow.
+/// Returns `sum` plus the fraction of the addition `one`, or `None` on overflow or if that part is not a whole number.
 ///
-/// If `one` is `None`, as for nanoseconds, which have no fractions, it returns `None` unless the fraction is zero.
+/// If `one` is `None`, as for nanoseconds, which have no fractions, the result is `None` unless the fraction is zero.
 fn add_part(sum: StdDuration, one: Option<Addition>, fraction: Fraction) -> Option<StdDuration>
     requires { fraction.places ≤ 19 }
     ensures { result ≡ steps.add_part sum one fraction.significand fraction.places }
@@ -60,14 +60,15 @@ fn add_part(sum: StdDuration, one: Option<Addition>, fraction: Fraction) -> Opti
     }
 }
 
-/// Returns the total plus what a span adds, first its number, then its fraction. Returns `None` on overflow, or if the fraction of
-/// the unit is not a whole number.
+/// Returns `total` plus what a span adds: first its number, then its fraction. Returns `None` on overflow, or if the fraction is not a
+/// whole number of nanoseconds or of seconds.
 #[inline(always)]
 pub(crate) fn add_amount(total: StdDuration, amount: Amount) -> Option<StdDuration>
     ensures { (s : SpelledSpan) → IsAmountOf amount s → result ≡ add_span total s }
 {
     let (count, scale) = (amount.value, amount.scale);
-    // `add_times` is called in both arms: it is then inlined twice, `amount.fraction` is tested once, and parsing takes 0.96 of the instructions.
+    // `add_times` is called in both arms, so that it is inlined twice and `amount.fraction` is tested once: parsing takes 0.96 of the
+    // instructions.
     match amount.fraction {
         None => add_times(total, scale.one, count),
         Some(fraction) => {

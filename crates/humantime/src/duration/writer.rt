@@ -1,4 +1,4 @@
-//! [`Writer`], which appends text to a byte buffer. Numbers are written by the crate `itoa`.
+//! [`Writer`], which appends text to a byte buffer. The crate `itoa` writes the numbers.
 
 ghost use Rattle.std.specs.Prelude.{◌≡◌, ◌<◌, ◌≤◌, ◌+◌, ◌==◌, if◌then◌else◌, codes, [], ◌∷◌, length, take, decimal};
 ghost use Rattle.std.specs.Str.{IsUtf8};
@@ -18,7 +18,7 @@ pub(crate) struct Writer<'b> {
 impl<'b> Writer<'b> {
     ghost use Rattle.humantime.specs.Steps.Writing.{fixed, plural, most_bytes, written, Appends, AppendsCount, HasWritten};
 
-    /// Returns a writer that has written nothing yet.
+    /// Creates a writer to `bytes` that has written nothing yet.
     #[inline(always)]
     pub(crate) fn new(bytes: &'b mut [u8]) -> Writer<'b>
         ensures same_reference { result.bytes.ghost_name ≡ bytes.entry.ghost_name }
@@ -29,7 +29,7 @@ impl<'b> Writer<'b> {
         Writer { bytes, end: 0 }
     }
 
-    /// Appends a text.
+    /// Appends a text, which must fit in the buffer.
     #[inline(always)]
     fn push(&mut self, text: &str)
         requires fits { self.old.end + length text.now ≤ length self.old.bytes.now }
@@ -41,7 +41,7 @@ impl<'b> Writer<'b> {
         self.end = end;
     }
 
-    /// Appends the decimal digits of a number.
+    /// Appends a number in decimal.
     #[inline(always)]
     fn push_number(&mut self, number: u64)
         requires fits { self.old.end + length (decimal number) ≤ length self.old.bytes.now }
@@ -49,7 +49,7 @@ impl<'b> Writer<'b> {
     {
         let mut buf = Buffer::new();
         let digits = buf.format(number);
-        // One or two digits are copied by a move, and more by a call. So `2h 37m` takes two thirds of the time.
+        // One or two digits are copied by a move, and more by a call, so that `2h 37m` takes two thirds of the time.
         match digits.len() {
             1 => self.push(&digits[..1]),
             2 => self.push(&digits[..2]),
@@ -73,7 +73,7 @@ impl<'b> Writer<'b> {
         self.push(unit);
     }
 
-    /// Appends a count and its unit as `push_count` does, with an `s` after the unit if the count is above one.
+    /// Appends a count and its unit as `push_count` does, with an `s` after the unit if the count is above 1.
     #[inline(always)]
     pub(crate) fn push_plural(&mut self, count: u64, unit: &str)
         requires fits { self.old.end + 1 + most_bytes count (plural unit.now) ≤ length self.old.bytes.now }
@@ -103,7 +103,7 @@ impl<'b> Writer<'b> {
         ensures text { take result self.exit.0.now ≡ written self.entry }
         ensures utf8 { IsUtf8 (take result self.exit.0.now) }
     {
-        // Taken apart, so that the contract can name the buffer as it is at the end: `self.exit.0` is `bytes`.
+        // Destructured, so that the contract can name the final buffer: `self.exit.0` is `bytes`.
         let Writer { bytes: _, end } = self;
         end
     }

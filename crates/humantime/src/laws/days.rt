@@ -1,10 +1,10 @@
-//! The law of days and dates: each day has one date.
+//! The law of days and dates: each day has exactly one date.
 
 ghost use Rattle.std.specs.Prelude.{◌≤◌};
 ghost use Rattle.humantime.specs.declared.calendar.Date.{Date};
 ghost use Rattle.humantime.specs.Prelude.{ExactlyOne, IsDateOfDay};
 
-/// States that each day from 1970-01-01 to 9999-12-31 is the day of exactly one date; no other day has a date.
+/// States that each day number from 0 to 2932896 has exactly one date, from 1970-01-01 to 9999-12-31, and that no other number has one.
 ///
 /// # Examples
 ///

@@ -1,12 +1,12 @@
-//! Laws of the texts of durations: one outcome, and spans that decide it.
+//! Laws of duration texts: each has one outcome, which its items determine.
 
 ghost use Rattle.std.specs.Prelude.{chars};
 ghost use Rattle.humantime.specs.Laws.Outcomes.{HasOneOutcome, ItemsDecide};
 
 /// States that a text has exactly one value or exactly one first error, and at most one list of spans.
 ///
-/// It also has exactly one list of items: its spans, and the error that ends them, if any. The answer, as a function of the
-/// text, is that value or that error.
+/// It also has exactly one list of items: its spans, and the error at which they end, if any. The result of parsing, as a function
+/// of the text, is that value or that error.
 ///
 /// # Examples
 ///
@@ -22,10 +22,10 @@ pub fn one_outcome(s: &str)
     ensures { HasOneOutcome (chars s.now) }
 {}
 
-/// States that the items of a text decide its value or its error, unless the text is exactly `0`.
+/// States that the items that [`spans`](crate::spans) yields determine the value or the error of a text, unless the text is exactly `0`.
 ///
-/// If the spans are within the limits, the text denotes their sum, or has the error that ends them. If the spans break a limit,
-/// the error is [`NumberOverflow`](crate::DurationError::NumberOverflow), whatever ends them. So an error that is the first item is
+/// If the spans are within the limits, the text denotes their sum, or has the error at which they end, if any. If they break a limit,
+/// the error is [`NumberOverflow`](crate::DurationError::NumberOverflow), whatever follows them. So if the first item is an error, it is
 /// the text's first error.
 ///
 /// # Examples

@@ -1,10 +1,10 @@
-//! Laws of printed durations: they are read back, differ, and are bounded.
+//! Laws of printed durations: the texts parse back, differ for different durations, and have at most 64 bytes.
 
 ghost use Rattle.humantime.specs.Laws.Printed.{IsBounded, IsCanonicalAgain, PrintApart, PrintsAndReads};
 
 use crate::value::StdDuration;
 
-/// States that a duration has one canonical text, which is the text that is printed and is accepted with the duration.
+/// States that a duration has exactly one canonical text, which is the printed text and parses to the duration.
 ///
 /// # Examples
 ///
@@ -22,7 +22,7 @@ pub fn printed_duration_reads(d: StdDuration)
     ensures { PrintsAndReads d }
 {}
 
-/// States that two durations have equal canonical texts exactly if they are equal.
+/// States that two durations have equal canonical texts if and only if they are equal.
 ///
 /// # Examples
 ///
@@ -39,7 +39,7 @@ pub fn printed_durations_differ(a: StdDuration, b: StdDuration)
     ensures { PrintApart a b }
 {}
 
-/// States that a canonical text has at most 64 bytes; its months are at most 11, its days at most 30.
+/// States that a canonical text has at most 64 bytes, and counts at most 11 months and 30 days.
 ///
 /// # Examples
 ///
@@ -60,7 +60,7 @@ pub fn printed_bounds(d: StdDuration)
 
 /// States that an accepted text has a canonical text, which parses to the same duration and is its own canonical text.
 ///
-/// It also states which function of the text the result of [`canonical`](crate::canonical) is.
+/// It also states that the result of [`canonical`](crate::canonical), as a function of the text, is this canonical text or the first error.
 ///
 /// # Examples
 ///

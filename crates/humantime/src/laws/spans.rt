@@ -1,11 +1,12 @@
-//! The law of spans: the slices that they borrow cover a text in order, except whitespace and points.
+//! The law of spans: their slices cover the text up to the end of the last span, except for whitespace and points.
 
 ghost use Rattle.std.specs.Prelude.{chars};
 ghost use Rattle.humantime.specs.Laws.Outcomes.{HasOneItemList};
 
-/// States that a text has exactly one list of items, whose slices follow each other in the text.
+/// States that [`spans`](crate::spans) yields exactly one list of items for a text, and that their slices follow each other in the text.
 ///
-/// What lies in no slice is whitespace or the point of a fraction. So two iterations over a text give the same slices.
+/// Up to the end of the last span, everything outside the slices is whitespace or the point of a fraction. So two iterations over a
+/// text return the same slices.
 ///
 /// # Examples
 ///

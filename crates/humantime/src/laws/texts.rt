@@ -1,4 +1,4 @@
-//! Laws of accepted texts: without whitespace, concatenated, reordered, and accepted by an earlier rule.
+//! Laws of accepted texts: without their whitespace, concatenated, with reordered spans, and accepted by an earlier rule.
 
 ghost use Rattle.std.specs.Prelude.{◌≡◌, ◌++◌, chars};
 ghost use Rattle.humantime.specs.Laws.Older.{KeepsValueWithZeros};
@@ -20,12 +20,12 @@ pub fn without_ws(s: &str)
     ensures { KeepsValueWithoutWhitespace (chars s.now) }
 {}
 
-/// States that the concatenation of two accepted texts, neither of them `0`, is accepted with the sum of their values, unless the
-/// sum overflows.
+/// States that the concatenation of two accepted texts, neither of them `0`, is accepted with the sum of their values, unless an
+/// addition overflows.
 ///
-/// It overflows exactly if a running sum does, of the additions of the first text's spans and then of the second's; the error is
-/// [`NumberOverflow`](crate::DurationError::NumberOverflow). An accepted text other than `0` consists of spans, so what is stated of
-/// each reading of the two texts is stated of the texts.
+/// The additions of the second text's spans follow those of the first's. The sum overflows if and only if one of these additions does;
+/// the error is then [`NumberOverflow`](crate::DurationError::NumberOverflow). An accepted text other than `0` consists of spans, so the
+/// statements about spans apply to it.
 ///
 /// # Examples
 ///
@@ -44,8 +44,7 @@ pub fn joined(a: &str, b: &str)
 
 /// States that two accepted texts whose spans are reorderings of each other have equal values.
 ///
-/// A reordering of an accepted text may overflow. The text `0` has no spans, so it is not a reordering of any text, and the law
-/// does not apply to it.
+/// A reordering of an accepted text may overflow. The text `0` has no spans, so the law does not apply to it.
 ///
 /// # Examples
 ///
@@ -66,10 +65,10 @@ pub fn reordered(a: &str, b: &str)
     ensures { KeepValueReordered (chars a.now) (chars b.now) }
 {}
 
-/// States that a text that was accepted while trailing zeros of a fraction still counted is accepted with the same value.
+/// States that a text accepted by an earlier rule, under which trailing zeros counted, is still accepted with the same value.
 ///
-/// By that earlier rule, trailing zeros counted towards the 19 digits that a fraction may have and towards its precision, and
-/// nanoseconds took no fraction at all.
+/// Under that rule, trailing zeros counted towards the 19 digits that a fraction may have and towards its precision, and nanoseconds
+/// had no fraction at all.
 ///
 /// # Examples
 ///

@@ -1,4 +1,4 @@
-//! Laws of timestamps: the strict form, one outcome, printed text that is read back, and its order.
+//! Laws of timestamps: the strict form, the one outcome of a text, and printed texts, which parse back and are in order.
 
 ghost use Rattle.std.specs.Prelude.{◌↔◌, ◌<ℤ◌, ℕ, List, IsTrue};
 ghost use Rattle.std.specs.Cmp.Lexicographic.{slice_cmp};
@@ -11,7 +11,7 @@ use crate::value::SystemTime;
 
 /// States that the strict form is the weak one with a `T` between the date and the time, and a zone at the end.
 ///
-/// So the strict parser returns a moment exactly if the weak parser returns it and the text has both.
+/// So the strict parser returns a moment if and only if the weak parser returns it and the text has both.
 ///
 /// # Examples
 ///
@@ -31,9 +31,9 @@ pub fn strict_is_weak(s: &str)
     ensures { StrictForm s.now }
 {}
 
-/// States that each text has exactly one outcome for each parser, which is the parser's answer as a function of the text.
+/// States that each text has exactly one outcome for each parser, a moment or an error, which is what the parser returns.
 ///
-/// A text represents a date and a time exactly if no check fails, and then only one of each.
+/// A text represents a date and a time if and only if no check fails, and then only one of each.
 ///
 /// # Examples
 ///
@@ -49,9 +49,9 @@ pub fn one_stamp_outcome(s: &str)
     ensures strict { OneTimestamp (strict_checks s.now) (IsStrict s.now) (strict_answer s.now) }
 {}
 
-/// States that a moment from 1970 to 9999 has one printed text, from which both parsers read the moment back.
+/// States that a moment from 1970 to 9999 has exactly one printed text, which both parsers parse back.
 ///
-/// They read it truncated to the digits that are printed. `Display` writes that text.
+/// They return the moment truncated to the printed digits. `Display` writes this text.
 ///
 /// # Examples
 ///
@@ -72,9 +72,7 @@ pub fn printed_moment_reads(x: &Rfc3339Timestamp)
     ensures { PrintedMoment x.now.moment x.now.places }
 {}
 
-/// States that printed texts with equally many digits are ordered, by their bytes, as their moments are.
-///
-/// The moments are rounded down to these digits.
+/// States that printed texts with the same number of digits are ordered, as bytes, like their moments rounded down to these digits.
 ///
 /// # Examples
 ///

@@ -1,7 +1,7 @@
 //! Looks up the size of a unit by its word.
 //!
-//! A word is looked up by its key, the number whose digits in base 256 are a 1 and then the bytes of the word. Before you change a
-//! word or a row of [`scale_of`], see "Adding a unit or a word" in docs/CONTRIBUTING.md.
+//! A word is looked up by its key, the number whose digits in base 256 are a 1 followed by the bytes of the word. Before you change
+//! a word or a row of [`scale_of`], see "Adding a unit or a word" in docs/CONTRIBUTING.md.
 
 ghost use Rattle.std.specs.Prelude.{◌≡◌, ◌+◌, ◌*◌, ◌%◌, ◌^◌, option_map};
 ghost use Rattle.humantime.specs.Steps.Keys.{scale_of_key};
@@ -11,7 +11,7 @@ use crate::unit::{Addition, Scale, sizes};
 /// The key of the empty word.
 pub(crate) const EMPTY_KEY: u64 = 1;
 
-/// The key of a word, computed at compile time. A word of more than seven bytes does not compile: its key would overflow.
+/// The key of a word, computed at compile time. A word of more than seven bytes does not compile, because its key would overflow.
 macro_rules! key {
     ($word:literal) => { key!(@ 1; $word; 0 1 2 3 4 5 6 7) };
     (@ $key:expr; $word:literal;) => { $key };
@@ -20,23 +20,23 @@ macro_rules! key {
     };
 }
 
-/// The scale of a nanosecond, which has no fractions. This and the next three are macros, because a reference to a constant expression
+/// The scale of the nanosecond, which has no fractions. This and the next three are macros, because a reference to a constant expression
 /// is `'static`, and a reference to the result of a function is not.
 macro_rules! whole_nanos {
     () => { Scale { one: Addition::Nanos(1), fraction: None } };
 }
 
-/// The scale of a unit of `size` nanoseconds, whose fractions have to be whole numbers of nanoseconds.
+/// The scale of a unit of `size` nanoseconds, whose fractions must be whole numbers of nanoseconds.
 macro_rules! in_nanos {
     ($size:expr) => { Scale { one: Addition::Nanos($size), fraction: Some(Addition::Nanos($size)) } };
 }
 
-/// The scale of a unit of `size` seconds, whose fractions have to be whole numbers of nanoseconds.
+/// The scale of a unit of `size` seconds, whose fractions must be whole numbers of nanoseconds.
 macro_rules! in_seconds_and_nanos {
     ($size:expr) => { Scale { one: Addition::Seconds($size), fraction: Some(Addition::Nanos($size * sizes::NANOS_PER_SECOND as u64)) } };
 }
 
-/// The scale of a unit of `size` seconds, whose fractions have to be whole numbers of seconds.
+/// The scale of a unit of `size` seconds, whose fractions must be whole numbers of seconds.
 macro_rules! in_seconds {
     ($size:expr) => { Scale { one: Addition::Seconds($size), fraction: Some(Addition::Seconds($size)) } };
 }
@@ -127,8 +127,8 @@ const Y: u64 = key!(b"y");
 
 /// Returns the key of a word with one more byte.
 ///
-/// It wraps around if the word has more than seven bytes. The highest byte of the key is then a byte of the word, and that of a unit's key is
-/// 0 or 1, so no unit has such a key.
+/// The key wraps around if the word has more than seven bytes. Its highest byte is then a byte of the word, while the highest byte of a
+/// unit's key is 0 or 1, so no unit has such a key.
 #[inline(always)]
 pub(crate) fn push_byte(key: u64, byte: u8) -> u64
     ensures { result ≡ (key * 256 + byte) % 2 ^ 64 }
@@ -136,7 +136,7 @@ pub(crate) fn push_byte(key: u64, byte: u8) -> u64
     key.wrapping_mul(256).wrapping_add(byte as u64)
 }
 
-/// Returns the scale of the unit whose word has this key, if there is one.
+/// Returns the scale of the unit whose word has this key, or `None` if there is no such unit.
 #[inline(always)]
 #[tactic(auto, unfolding(crate::specs::Steps::Keys::scale_of_key))]
 pub(crate) fn scale_of(key: u64) -> Option<&'static Scale>

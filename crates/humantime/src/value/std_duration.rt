@@ -11,7 +11,7 @@ use crate::unit::sizes::NANOS_PER_SECOND;
 use std::cmp::Ordering;
 use std::marker::Model;
 
-/// A length of time: whole seconds (`u64`) and nanoseconds below 10^9.
+/// A length of time, in whole seconds (`u64`) and nanoseconds below 10^9.
 ///
 /// This is the counterpart of `Duration` in `std::time`, with some of its methods. Contracts see it as its total number of
 /// nanoseconds; order and equality are those of this total. The default is zero.
@@ -81,8 +81,8 @@ impl StdDuration {
 
     /// Creates a duration of `secs` seconds and `nanos` nanoseconds.
     ///
-    /// Nanoseconds of 10^9 and more are carried into the seconds. The caller has to prove that the sum of the seconds does
-    /// not overflow `u64`; [`checked_new`](Self::checked_new) tests that at run time.
+    /// If `nanos` is 10^9 or more, it is carried into the seconds. The caller must prove that the seconds do not overflow
+    /// `u64`; [`checked_new`](Self::checked_new) tests this at run time.
     ///
     /// # Examples
     ///
@@ -104,7 +104,7 @@ impl StdDuration {
 
     /// Creates a duration of `secs` seconds and `nanos` nanoseconds, or returns `None` if its seconds overflow `u64`.
     ///
-    /// Nanoseconds of 10^9 and more are carried into the seconds.
+    /// If `nanos` is 10^9 or more, it is carried into the seconds.
     ///
     /// # Examples
     ///
@@ -209,7 +209,7 @@ impl StdDuration {
         StdDuration::checked_new(secs, self.nanos + other.nanos)
     }
 
-    /// Adds `secs` seconds, or returns `None` if the whole seconds overflow `u64`.
+    /// Adds `secs` seconds, or returns `None` if the whole seconds of the sum overflow `u64`.
     #[inline]
     pub(crate) fn checked_add_secs(self, secs: u64) -> Option<StdDuration>
         ensures { SomeIff result (self / nanos_per_second + secs < 2 ^ 64) (self + secs * nanos_per_second) }
@@ -218,13 +218,13 @@ impl StdDuration {
         Some(StdDuration { secs, ..self })
     }
 
-    /// Adds `nanos` nanoseconds. Returns `None` if `nanos + self.subsec_nanos()` or the seconds of the sum overflow `u64`.
+    /// Adds `nanos` nanoseconds. Returns `None` if `nanos + self.subsec_nanos()` or the whole seconds of the sum overflow `u64`.
     #[inline]
     pub(crate) fn checked_add_nanos(self, nanos: u64) -> Option<StdDuration>
         ensures { SomeIff result ((self % nanos_per_second + nanos < 2 ^ 64) × ((self + nanos) / nanos_per_second < 2 ^ 64)) (self + nanos) }
     {
         let sum = nanos.checked_add(self.nanos as u64)?;
-        // Most sums carry nothing, so the division is skipped.
+        // A sum below a second carries nothing, and needs no division.
         if sum < NANOS_PER_SECOND as u64 {
             let nanos = sum as u32;
             return Some(StdDuration { nanos, ..self });

@@ -26,9 +26,9 @@ pub const UNIX_EPOCH: SystemTime = SystemTime { secs: 0, nanos: 0 };
 
 /// A moment in time: seconds since 1970-01-01T00:00:00Z (`i64`), and nanoseconds below 10^9 after that second.
 ///
-/// This is the counterpart of `SystemTime` in `std::time`. It has `checked_add` and `duration_since`, and gives its seconds and
-/// nanoseconds. Contracts see it as its number of nanoseconds since 1970-01-01T00:00:00Z, negative before; order and equality are
-/// those of this number.
+/// This is the counterpart of `SystemTime` in `std::time`, with `checked_add`, `duration_since` and access to its seconds and
+/// nanoseconds. Contracts see it as its number of nanoseconds since 1970-01-01T00:00:00Z, which is negative before then; order and
+/// equality are those of this number.
 ///
 /// # Examples
 ///
@@ -68,7 +68,7 @@ impl Model for SystemTime {
 
 /// The error returned by [`SystemTime::duration_since`] if `earlier` is later than the moment.
 ///
-/// It holds the duration from the moment to `earlier`. Contracts see it as that number of nanoseconds, and equality is that of this number.
+/// It holds the duration from the moment to `earlier`. Contracts see it as that number of nanoseconds; equality is that of this number.
 /// Unlike the error of `std::time`, it has no message: it implements neither `Display` nor `Error`.
 ///
 /// # Examples
@@ -117,7 +117,7 @@ impl SystemTimeError {
 impl SystemTime {
     /// Creates the moment `nanos` nanoseconds after second `secs`, or returns `None` if `nanos` is 10^9 or more.
     ///
-    /// Seconds are counted from 1970-01-01T00:00:00Z, and are negative before it.
+    /// Seconds are counted from 1970-01-01T00:00:00Z, and are negative before then.
     ///
     /// # Examples
     ///
@@ -138,7 +138,7 @@ impl SystemTime {
         }
     }
 
-    /// Returns the whole seconds since 1970-01-01T00:00:00Z, rounded down; they are negative before it.
+    /// Returns the whole seconds since 1970-01-01T00:00:00Z, rounded down and negative before then.
     ///
     /// # Examples
     ///
@@ -159,7 +159,7 @@ impl SystemTime {
 
     /// Returns the nanoseconds after the second of [`unix_seconds`](Self::unix_seconds), always less than 10^9.
     ///
-    /// They count forwards before 1970 too, since that second is rounded down.
+    /// They count forward before 1970, too, because that second is rounded down.
     ///
     /// # Examples
     ///
@@ -178,7 +178,7 @@ impl SystemTime {
         self.nanos
     }
 
-    /// Adds a duration, or returns `None` if the seconds of the later moment overflow `i64`.
+    /// Adds a duration, or returns `None` if the seconds of the sum overflow `i64`.
     ///
     /// # Examples
     ///
@@ -207,7 +207,7 @@ impl SystemTime {
     ///
     /// # Errors
     ///
-    /// Returns [`SystemTimeError`] if `earlier` is later than this moment. The error keeps the duration from this moment to
+    /// Returns [`SystemTimeError`] if `earlier` is later than this moment. The error holds the duration from this moment to
     /// `earlier`.
     ///
     /// # Examples

@@ -101,7 +101,7 @@ fn weak_timestamps_are_printed(rt: HostRuntime) {
 }
 
 #[test]
-fn refused_durations_are_explained(rt: HostRuntime) {
+fn rejected_durations_have_a_message(rt: HostRuntime) {
     let rows = [
         ("", "value was empty\n"),
         ("1~", "invalid character at 1\n"),
@@ -117,7 +117,7 @@ fn refused_durations_are_explained(rt: HostRuntime) {
 }
 
 #[test]
-fn refused_timestamps_are_explained(rt: HostRuntime) {
+fn rejected_timestamps_have_a_message(rt: HostRuntime) {
     let strict = [
         ("1970-01-01 00:00:00Z", "timestamp format is invalid\n"),
         (

@@ -60,7 +60,7 @@ char_at text at u here = by (chars rest) (encodes-chars rest utf8)
 pub ascii_at : (text : List ℕ) (at : ℕ) → IsUtf8 text → IsPlaceIn text at → get_or text at 0 < 128 → IsCharAt text at (get_or text at 0) (at + 1)
 ascii_at text at u here small = grind (arith, common_steps, nat_tests, char_at, len_utf8_ascii)
 
--- There is a digit at an offset exactly if its byte is one.
+-- There is a digit at an offset if and only if its byte is one.
 pub digit_at : (text : List ℕ) (at : ℕ) → IsUtf8 text → IsPlaceIn text at → is_ascii_digit (get_or text at 0) ≡ begins is_digit (chars (drop at text))
 digit_at text at u here =
     let c = char_at text at u here in

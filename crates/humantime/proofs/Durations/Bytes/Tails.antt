@@ -45,7 +45,7 @@ no_bytes bs h = grind (arith, common_steps, chars-nil)
 pub no_chars_at : (text : List ℕ) (at : ℕ) → length text ≤ at → chars (drop at text) ≡ []
 no_chars_at text at end = no_bytes (drop at text) (omega (arith, length-drop at text))
 
--- A text begins with a word exactly if its letters end after its start.
+-- A text begins with a word if and only if its letters end after its start.
 pub a_word : (text : List ℕ) (at : ℕ) → IsUtf8 text → IsCharBoundary text at → chars (drop at text) ≡ drop_while is_letter (chars text) → at ≢ 0
     → begins_with_nonletter (chars text) ≡ false
 a_word text at u place rest some = grind (arith, common_steps, length-take, letter_begins, some_chars, IsUtf8-take, front_is)

@@ -48,7 +48,7 @@ spans_tile text =
 pub value_of_view : (r : Result ℕ DurationError) (v : ℕ) → result_view r ≡ Ok v → r ≡ Ok v
 value_of_view r v h = grind arith
 
--- Two errors are equal exactly if their faults are.
+-- Two errors are equal if and only if their faults are.
 pub errors_equal : (e f : DurationError) → IsTrue (errors.ghosts.eq e f) ↔ (fault_of e ≡ fault_of f)
 errors_equal e f = grind (arith, nat_tests, bytes_eq-Decides)
 

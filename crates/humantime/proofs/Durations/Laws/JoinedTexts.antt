@@ -38,14 +38,14 @@ pub record AreSpans (text : List ℕ) (spans : List SpelledSpan) (v : ℕ) : Typ
   pub fit : AllByRecursion (λ s. fits s ≡ true) spans
   pub sum : value spans ≡ v
 
--- Such a text is accepted exactly if no addition overflows.
+-- Such a text is accepted if and only if no addition overflows.
 pub room_accepts : (text : List ℕ) (spans : List SpelledSpan) (v : ℕ) → spans ≢ [] → AreSpans text spans v → Accepted text v ↔ AllHaveRoom (additions spans)
 room_accepts text spans v some h = (
   λ a. (accepted_spans text spans v (h.front, some) a).0.room,
   λ room. SumOf spans (h.front, some) (record { formed = h.formed; fit = h.fit; room = room }) h.sum,
 )
 
--- Its fault is an overflow exactly if an addition overflows.
+-- Its fault is an overflow if and only if an addition overflows.
 pub no_room_overflows : (text : List ℕ) (spans : List SpelledSpan) (v : ℕ) → spans ≢ [] → AreSpans text spans v
     → HasFault text NumberOverflow ↔ ¬ (AllHaveRoom (additions spans))
 no_room_overflows text spans v some h =

@@ -30,7 +30,7 @@ unfolding sum_spans add_span
 sum_spans-is t [] items = grind arith
 sum_spans-is t (s ∷ ss) items = grind (arith, add_all-is, (value-cons s ss), (sum_spans-is (t + total (additions_of s)) ss items))
 
--- Spans keep the limits exactly if each fits and no addition overflows.
+-- Spans keep the limits if and only if each fits and no addition overflows.
 within_from-is : (t : ℕ) (ss : List SpelledSpan) → Decides (within_from t ss) (AllByRecursion (λ s. fits s ≡ true) ss × (room_from t (additions ss) ≡ true))
 within_from-is t [] = grind arith
 within_from-is t (s ∷ ss) = grind (arith, (room_from-append t (additions_of s) (additions ss)), (within_from-is (t + total (additions_of s)) ss))

@@ -78,7 +78,7 @@ cut_again (pos m) k n is =
     rw (whole, mul-mod_right width (m / width)) (omega (arith, ints))
 cut_again (negsuc m) k n is = absurd (omega (arith, ints, is))
 
--- A text is a printed text exactly if it is that of the moment that it parses to.
+-- A text is a printed text if and only if it is that of the moment that it parses to.
 pub printed_if_read_back : (k : ℕ) (text : List ℕ) → IsPrintedWith k text ↔ ((t : ℤ) × (strict_answer text ≡ Ok t) × IsPrinted t k text)
 printed_if_read_back k text = ((λ p. (cut p.0 k, printed_read p.0 k text p.1, grind (arith, cut_again, p))), (λ p. (p.0, p.2)))
 
@@ -95,7 +95,7 @@ moment_at_most a b = grind (arith, ints)
 moment_before : (a b : ℤ) → IsTrue (is_lt (int_cmp a b)) ↔ (a <ℤ b)
 moment_before a b = grind (arith, ints)
 
--- A printed text is between two others, including the first of them, exactly if its moment is between theirs.
+-- A printed text is between two others, including the first of them, if and only if its moment is between theirs.
 pub stamps_between : (a b t : ℤ) (k : ℕ) (x y text : List ℕ) → IsPrinted a k x → IsPrinted b k y → IsPrinted t k text
     → (IsTrue (is_le (slice_cmp nat_cmp x text)) × IsTrue (is_lt (slice_cmp nat_cmp text y)))
     ↔ ((u : ℤ) × (strict_answer text ≡ Ok u) × (cut a k ≤ℤ u) × (u <ℤ cut b k))
@@ -103,7 +103,7 @@ stamps_between a b t k x y text first second printed =
     grind (arith, (printed_read t k text printed), (stamps_in_order a t k x text first printed), (stamps_in_order t b k text y printed second), (moment_at_most (cut a k) (cut t k)), (moment_before (cut t k) (cut b k)))
 
 -- The order of bytes for each number of digits that a printer prints. A caller that compares texts is proved with `using` one of these, and
--- needs no answer.
+-- needs no proof by hand.
 earlier : (a b : ℤ) (k : ℕ) (x y : List ℕ) → IsPrinted a k x → IsPrinted b k y → (cut a k <ℤ cut b k) ↔ IsTrue (is_lt (slice_cmp nat_cmp x y))
 earlier a b k x y p q = grind (arith, (stamps_in_order a b k x y p q), (moment_before (cut a k) (cut b k)))
 

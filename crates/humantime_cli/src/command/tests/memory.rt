@@ -51,7 +51,7 @@ fn a_flush_that_fails_is_an_error(rt: HostRuntime) -> Result<(), Fail> {
 }
 
 #[test]
-fn callers_are_answered(rt: HostRuntime) -> Result<(), Fail> {
+fn durations_are_written_for_a_caller(rt: HostRuntime) -> Result<(), Fail> {
     let mut out = Vec::with_capacity(rt.alloc(), 64)?;
     let mut err = Vec::with_capacity(rt.alloc(), 128)?;
     assert_eq!(rt; print_duration(&mut out, &mut err), 0);
@@ -64,7 +64,7 @@ fn callers_are_answered(rt: HostRuntime) -> Result<(), Fail> {
 }
 
 #[test]
-fn callers_with_timestamps_are_answered(rt: HostRuntime) -> Result<(), Fail> {
+fn timestamps_are_written_for_a_caller(rt: HostRuntime) -> Result<(), Fail> {
     let mut out = Vec::with_capacity(rt.alloc(), 64)?;
     let mut err = Vec::with_capacity(rt.alloc(), 128)?;
     assert_eq!(rt; print_strict(&mut out, &mut err), 0);
