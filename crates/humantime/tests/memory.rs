@@ -104,7 +104,7 @@ fn pass_refusal(rt: &(impl Abort + AllocGlobal)) {
 }
 
 #[test]
-fn answers_are_printed_into_memory_or_it_is_refused(rt: HostRuntime) {
+fn results_are_printed_into_a_string_or_memory_is_refused(rt: HostRuntime) {
     pass_refusal(&rt);
     let mut room = String::new(rt.alloc());
     for line in TABLE.lines() {
@@ -118,7 +118,7 @@ fn answers_are_printed_into_memory_or_it_is_refused(rt: HostRuntime) {
 }
 
 #[test]
-fn what_programs_print_is_printed_into_memory_or_it_is_refused(rt: HostRuntime) {
+fn lines_of_programs_are_printed_into_a_string_or_memory_is_refused(rt: HostRuntime) {
     pass_refusal(&rt);
     let row = report::Row {
         start: UNIX_EPOCH,

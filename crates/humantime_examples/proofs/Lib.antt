@@ -2,6 +2,7 @@ pub mod CountedDays
 pub mod FirstDigits
 pub mod Kept
 pub mod LongFractions
+pub mod ReadMoments
 pub mod Tiled
 pub mod UsualTexts
 pub mod Waits

@@ -1,4 +1,4 @@
--- A fraction is too long exactly if a digit other than 0 follows its first nineteen digits.
+-- A fraction is too long if and only if a digit other than 0 follows its first nineteen digits.
 use Rattle.std.proofs.Common.{◌≡◌, ◌≢◌, ◌↔◌, ℕ, ◌<◌, ◌≤◌, false, List, [], ◌∷◌, ◌++◌, length, reverse, arith, append_assoc}
 use Rattle.std.specs.Prelude.{◌==◌}
 use Rattle.std.proofs.lemmas.Bool.Decides.{nat_tests}

@@ -1,9 +1,13 @@
+pub mod Budgets
 pub mod FirstItems
 pub mod LogLines
 pub mod Longest
+pub mod Marks
 pub mod OptionErrors
 pub mod Options
 pub mod Report
 pub mod Retry
 pub mod Rows
+pub mod SettingsFile
 pub mod Tiles
+pub mod Written

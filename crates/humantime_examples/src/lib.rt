@@ -1,4 +1,4 @@
-//! Proved uses of `humantime`: the code of docs/HOWTO.md, callers of each call and law, larger modules, and a calendar that counts days.
+//! Proved examples for `humantime`: the files of docs/HOWTO.md, uses of each call and law, larger modules, and a calendar that counts days.
 //!
 //! Each is proved by the contracts of the library's public items alone.
 #![tactic(auto)]

@@ -1,6 +1,6 @@
 //! Errors of this crate in an error type of the caller, and in a message.
 
-ghost use Rattle.std.specs.Prelude.{◌≡◌, ◌++◌, ◌+ℤ◌, ◌<ℤ◌, ℕ, ℤ, pos, chars, codes, string_bytes, IfOk, IsOkAnd, List, Some, SomeIff, Ok, Err};
+ghost use Rattle.std.specs.Prelude.{◌≡◌, ◌↔◌, ◌++◌, ◌+ℤ◌, ◌<ℤ◌, ◌≤ℤ◌, ℕ, ℤ, pos, chars, codes, string_bytes, IfOk, IsErrAnd, IsOk, IsOkAnd, IsTrue, List, Some, SomeIff, Ok, Err};
 ghost use Rattle.humantime.specs.declared.TimestampError.{TimestampError};
 ghost use Rattle.humantime.specs.declared.DurationError.{DurationError};
 ghost use Rattle.humantime.specs.Prelude.{Fault, duration_answer, fault_message, fault_of, moment_end, strict_answer, timestamp_message};
@@ -51,11 +51,25 @@ impl<'a> From<DurationError<'a>> for LineError<'a> {
 /// Returns the moment at which a time limit after a start ends, or `None` if no `SystemTime` represents it.
 pub fn deadline<'a>(start: &str, limit: &'a str) -> Result<Option<SystemTime>, LineError<'a>>
     ensures end { (t : ℤ) (v : ℕ) → strict_answer start.now ≡ Ok t → duration_answer (chars limit.now) ≡ Ok v → IsOkAnd result (λ end. SomeIff end ((t +ℤ pos v) <ℤ moment_end) (t +ℤ pos v)) }
+    ensures texts { IfOk result (λ end. IsOk (strict_answer start.now) × IsOk (duration_answer (chars limit.now))) }
     ensures start { (e : TimestampError) → strict_answer start.now ≡ Err e → result ≡ Err (Start e) }
-    ensures limit { (t : ℤ) (e : Fault) → strict_answer start.now ≡ Ok t → duration_answer (chars limit.now) ≡ Err e → (error : DurationError) × (result ≡ Err (Limit error)) × (fault_of error ≡ e) }
+    ensures limit { (t : ℤ) (e : Fault) → strict_answer start.now ≡ Ok t → duration_answer (chars limit.now) ≡ Err e → IsErrAnd result (λ error. elim error as (λ _. Type 0) [ Limit fault ↦ fault_of fault ≡ e | _ ↦ ⊥ ]) }
 {
     let start = parse_rfc3339(start)?;
     Ok(start.checked_add(parse_duration(limit)?))
+}
+
+/// Returns `true` if a time limit after a start has ended at `now`.
+pub fn has_ended<'a>(start: &str, limit: &'a str, now: SystemTime) -> Result<bool, LineError<'a>>
+    ensures ended { (t : ℤ) (v : ℕ) → strict_answer start.now ≡ Ok t → duration_answer (chars limit.now) ≡ Ok v → IsOkAnd result (λ ended. IsTrue ended ↔ (((t +ℤ pos v) <ℤ moment_end) × ((t +ℤ pos v) ≤ℤ now))) }
+    ensures texts { IfOk result (λ ended. IsOk (strict_answer start.now) × IsOk (duration_answer (chars limit.now))) }
+    ensures start { (e : TimestampError) → strict_answer start.now ≡ Err e → result ≡ Err (Start e) }
+    ensures limit { (t : ℤ) (e : Fault) → strict_answer start.now ≡ Ok t → duration_answer (chars limit.now) ≡ Err e → IsErrAnd result (λ error. elim error as (λ _. Type 0) [ Limit fault ↦ fault_of fault ≡ e | _ ↦ ⊥ ]) }
+{
+    match deadline(start, limit)? {
+        Some(end) => Ok(end <= now),
+        None => Ok(false),
+    }
 }
 
 /// Returns the message for a text that is not a valid duration.

@@ -1,12 +1,7 @@
 //! Subtracts durations, and takes the durations of texts off a limit.
 
-ghost use Rattle.std.specs.Prelude.{◌≡◌, ◌+◌, ◌-◌, ◌<◌, ◌≤◌, List, ℕ, chars, All, IfOk, IsOk, Err, SomeIff, unwrap_or};
-ghost use Rattle.std.specs.Borrow.{Bor};
-ghost use Rattle.std.specs.List.{Contains, sum_by};
-ghost use Rattle.std.specs.Result.{result_ok};
-ghost use Rattle.humantime.specs.declared.DurationError.{DurationError};
-ghost use Rattle.humantime.specs.Prelude.{duration_answer, fault_of};
-ghost use Rattle.humantime_examples.specs.declared.how_to.arithmetic.BudgetError.TheVariants.{NotADuration, Exceeded};
+ghost use Rattle.std.specs.Prelude.{◌≡◌, ◌+◌, ◌-◌, ◌≤◌, IfErr, IfOk, OnOk, SomeIff};
+ghost use Rattle.humantime_examples.specs.Budgets.{AreDurations, IsDuration, IsErrorOf, IsFirstErrorOf, nanos_of, total_of};
 
 use super::std_values::{from_std_duration, to_std};
 use humantime::{DurationError, StdDuration, parse_duration};
@@ -25,7 +20,7 @@ pub fn saturating_sub(from: StdDuration, other: StdDuration) -> StdDuration
     from_std_duration(to_std(from).saturating_sub(to_std(other)))
 }
 
-/// Why nothing is left of a budget.
+/// Why `budget_left` fails.
 #[derive(Clone, Copy, PartialEq, Debug)]
 pub enum BudgetError<'a> {
     /// This text is not a duration.
@@ -34,16 +29,14 @@ pub enum BudgetError<'a> {
     Exceeded,
 }
 
-/// Returns what is left of a limit after the durations of the texts, or the first error.
+/// Returns what is left of a limit without the durations of the texts, or the first error.
 pub fn budget_left<'a>(
     limit: StdDuration,
     texts: &[&'a str],
 ) -> Result<StdDuration, BudgetError<'a>>
-    ensures durations { IfOk result (λ left. All (λ text. IsOk (duration_answer (chars text.now))) texts.now) }
-    ensures left { IfOk result (λ left. sum_by (λ text. unwrap_or (result_ok (duration_answer (chars text.now))) 0) texts.now + left ≡ limit) }
-    ensures exceeded { result ≡ Err Exceeded → limit < sum_by (λ text. unwrap_or (result_ok (duration_answer (chars text.now))) 0) texts.now }
-    ensures text { (text : Bor (List ℕ)) (e : DurationError) → result ≡ Err (NotADuration text e) → Contains texts.now text }
-    ensures error { (text : Bor (List ℕ)) (e : DurationError) → result ≡ Err (NotADuration text e) → duration_answer (chars text.now) ≡ Err (fault_of e) }
+    ensures durations { OnOk result (AreDurations texts.now) }
+    ensures left { IfOk result (λ left. total_of texts.now + left ≡ limit) }
+    ensures error { IfErr result (IsFirstErrorOf limit texts.now) }
 {
     let mut left = limit;
     for text in texts {
@@ -52,13 +45,11 @@ pub fn budget_left<'a>(
     Ok(left)
 }
 
-/// Takes the duration of a text off what is left.
+/// Subtracts the duration of a text from what is left.
 fn spend<'a>(left: StdDuration, text: &'a str) -> Result<StdDuration, BudgetError<'a>>
-    ensures duration { IfOk result (λ rest. IsOk (duration_answer (chars text.now))) }
-    ensures rest { IfOk result (λ rest. unwrap_or (result_ok (duration_answer (chars text.now))) 0 + rest ≡ left) }
-    ensures exceeded { result ≡ Err Exceeded → left < unwrap_or (result_ok (duration_answer (chars text.now))) 0 }
-    ensures text { (other : Bor (List ℕ)) (e : DurationError) → result ≡ Err (NotADuration other e) → other ≡ text.entry }
-    ensures error { (other : Bor (List ℕ)) (e : DurationError) → result ≡ Err (NotADuration other e) → duration_answer (chars text.now) ≡ Err (fault_of e) }
+    ensures duration { OnOk result (IsDuration text.now) }
+    ensures rest { IfOk result (λ rest. nanos_of text.now + rest ≡ left) }
+    ensures error { IfErr result (IsErrorOf left text.now) }
 {
     match parse_duration(text) {
         Ok(duration) => checked_sub(left, duration).ok_or(BudgetError::Exceeded),

@@ -21,7 +21,7 @@ pub struct Backup {
     pub keep: StdDuration,
 }
 
-/// A word that is not a duration or not a timestamp.
+/// The value of an option that is not a duration or not a timestamp.
 #[derive(Clone, Copy, Debug)]
 pub struct WordError<'a> {
     pub option: &'a str,
@@ -29,14 +29,14 @@ pub struct WordError<'a> {
     pub fault: WordFault<'a>,
 }
 
-/// What is wrong with a word.
+/// What is wrong with the value of an option.
 #[derive(Clone, Copy, Debug)]
 pub enum WordFault<'a> {
     Duration(DurationError<'a>),
     Timestamp(TimestampError),
 }
 
-/// Writes three lines: what is wrong, the option with the word, and a mark under the error.
+/// Writes three lines: what is wrong, the option with its value, and a mark under the fault.
 impl fmt::Display for WordError<'_> {
     fn fmt<W: fmt::Write>(&self, f: &mut fmt::Formatter<W>) -> fmt::Result {
         let (option, word) = (self.option, self.word);
@@ -84,12 +84,16 @@ pub fn command<'a>(alloc: Global) -> Result<Command<'a>, AllocError> {
         .arg(keep)
 }
 
-/// Reads the words of the options.
+/// Parses the values of the options.
 pub fn backup_of<'a>(matches: &ArgMatches<'a>) -> Result<Backup, WordError<'a>>
     ensures every { IfOk result (λ b. (word : List ℕ) → first_value (found_of matches.now) (codes "every") ≡ Some word → duration_answer (chars word) ≡ Ok b.every) }
     ensures since { IfOk result (λ b. (word : List ℕ) → first_value (found_of matches.now) (codes "since") ≡ Some word → weak_answer word ≡ Ok b.since) }
     ensures keep { IfOk result (λ b. (word : List ℕ) → first_value (found_of matches.now) (codes "keep") ≡ Some word → duration_answer (chars word) ≡ Ok b.keep) }
-    ensures all { (every since keep : List ℕ) → first_value (found_of matches.now) (codes "every") ≡ Some every → first_value (found_of matches.now) (codes "since") ≡ Some since → first_value (found_of matches.now) (codes "keep") ≡ Some keep → IsOk (duration_answer (chars every)) → IsOk (weak_answer since) → IsOk (duration_answer (chars keep)) → IsOk result }
+    ensures all { (every since keep : List ℕ)
+        → first_value (found_of matches.now) (codes "every") ≡ Some every → IsOk (duration_answer (chars every))
+        → first_value (found_of matches.now) (codes "since") ≡ Some since → IsOk (weak_answer since)
+        → first_value (found_of matches.now) (codes "keep") ≡ Some keep → IsOk (duration_answer (chars keep))
+        → IsOk result }
 {
     let every = duration("every", word(matches, "every"))?;
     let since = timestamp("since", word(matches, "since"))?;
@@ -97,14 +101,14 @@ pub fn backup_of<'a>(matches: &ArgMatches<'a>) -> Result<Backup, WordError<'a>>
     Ok(Backup { every, since, keep })
 }
 
-/// Returns the word of an option.
+/// Returns the value of an option.
 fn word<'a>(matches: &ArgMatches<'a>, option: &str) -> &'a str
     ensures { (word : List ℕ) → first_value (found_of matches.now) option.now ≡ Some word → result.now ≡ word }
 {
     matches.get_str(option).unwrap_or("")
 }
 
-/// Parses the word of an option as a duration.
+/// Parses the value of an option as a duration.
 fn duration<'a>(option: &'a str, word: &'a str) -> Result<StdDuration, WordError<'a>>
     ensures value { IfOk result (λ v. duration_answer (chars word.now) ≡ Ok v) }
     ensures accepted { IsOk (duration_answer (chars word.now)) → IsOk result }
@@ -123,7 +127,7 @@ fn duration<'a>(option: &'a str, word: &'a str) -> Result<StdDuration, WordError
     }
 }
 
-/// Parses the word of an option as a timestamp.
+/// Parses the value of an option as a timestamp.
 fn timestamp<'a>(option: &'a str, word: &'a str) -> Result<SystemTime, WordError<'a>>
     ensures value { IfOk result (λ v. weak_answer word.now ≡ Ok v) }
     ensures accepted { IsOk (weak_answer word.now) → IsOk result }
@@ -142,7 +146,11 @@ fn timestamp<'a>(option: &'a str, word: &'a str) -> Result<SystemTime, WordError
     }
 }
 
-/// Prints what the command line asks for, and returns the exit status: 2 for words that are wrong, and an error if nothing can be written.
+/// Prints what the command line asks for, and returns the exit status: 0, or 2 for arguments that are wrong.
+///
+/// # Errors
+///
+/// Returns an error if an argument is not UTF-8, if memory is refused, or if writing fails.
 pub fn run(rt: &HostRuntime) -> io::Result<u8> {
     let words = env::args(rt)?.collect::<Vec<String>>(rt.alloc())?;
     let matches = match command(rt.alloc())?.try_get_matches_from(words.as_slice()) {

@@ -26,7 +26,7 @@ pub fn from_signed_duration(signed: SignedDuration) -> Option<StdDuration>
     Some(from_std_duration(duration))
 }
 
-/// Returns a moment as a `Timestamp` of `jiff`, or `None` outside its range, which ends at 9999-12-30T22:00:00.
+/// Returns a moment as a `Timestamp` of `jiff`, or `None` outside its range, which ends before 9999-12-30T22:00:01Z.
 pub fn to_jiff(moment: SystemTime) -> Option<Timestamp>
     ensures within { IsSome result ↔ IsTimestampNanos moment }
     ensures value { IfSome result (λ stamp. stamp.nanosecond ≡ moment) }

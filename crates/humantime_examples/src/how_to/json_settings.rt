@@ -1,11 +1,16 @@
 //! Reads JSON, and finds the place of a fault in it.
 
+ghost use Rattle.std.specs.Prelude.{IfErr};
+ghost use Rattle.humantime_examples.specs.Marks.{HasMarkIn};
+
 use super::marked::{ReadError, fault_in, marked_at};
 use serde::Deserialize;
 use std::alloc::{AllocError, Global};
 
 /// Reads a value from JSON.
-pub fn from_json<'a, T: Deserialize<'a>>(alloc: Global, text: &'a str) -> Result<T, ReadError<'a>> {
+pub fn from_json<'a, T: Deserialize<'a>>(alloc: Global, text: &'a str) -> Result<T, ReadError<'a>>
+    ensures { IfErr result (HasMarkIn text.now) }
+{
     let error = match serde_json::from_str::<T>(alloc, text) {
         Ok(value) => return Ok(value),
         Err(error) => error,
@@ -39,7 +44,7 @@ fn fault(
     }
 }
 
-/// Returns what stands up to the second quote that no backslash escapes: if a text begins the document, this text.
+/// Returns the document up to its second quote that no backslash escapes: the whole string, if it begins with one.
 fn front_text(document: &str) -> &str {
     for (at, _) in document.match_indices('"').skip(1) {
         let before = document.get(..at).unwrap_or("");
@@ -53,7 +58,7 @@ fn front_text(document: &str) -> &str {
     ""
 }
 
-/// Returns the offset of the place of an error. Its line counts from 1, and its column counts bytes from 1.
+/// Returns the offset of an error in the document. The error has a line, from 1, and a column, in bytes from 1.
 fn offset_of(document: &str, error: &serde_json::Error) -> usize {
     let mut offset = error.column().saturating_sub(1);
     for line in document

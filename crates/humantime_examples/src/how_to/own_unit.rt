@@ -1,4 +1,4 @@
-//! Reads a unit of one's own beside those of `parse_duration`.
+//! Reads a unit of your own, in addition to those of `parse_duration`.
 
 ghost use Rattle.std.specs.Prelude.{◌≡◌, ◌≢◌, ◌*◌, ◌<◌, ◌^◌, ◌++◌, ℕ, List, chars, codes, decimal, Some};
 ghost use Rattle.std.specs.Result.{result_ok};
@@ -9,7 +9,7 @@ use humantime::{StdDuration, parse_duration};
 /// Seconds in a working day.
 const WORKING_DAY: u64 = 8 * 3600;
 
-/// Parses a whole number of working days of eight hours, such as `3wd`, or a duration. Returns `None` for other texts.
+/// Parses a whole number of working days of eight hours, such as `3wd`, or a duration. Returns `None` for any other text.
 pub fn working_time(text: &str) -> Option<StdDuration>
     ensures days { (n : ℕ) → text.now ≡ decimal n ++ codes "wd" → n < 2 ^ 48 → result ≡ Some (n * 28_800 * nanos_per_second) }
     ensures others { ((front : List ℕ) → text.now ≢ front ++ codes "wd") → result ≡ result_ok (duration_answer (chars text.now)) }
@@ -20,7 +20,7 @@ pub fn working_time(text: &str) -> Option<StdDuration>
     }
 }
 
-/// Parses a whole number, or returns `None` for another text.
+/// Parses a whole number. Returns `None` for any other text.
 fn whole_number(text: &str) -> Option<u64>
     ensures { (n : ℕ) → text.now ≡ decimal n → n < 2 ^ 64 → result ≡ Some n }
 {

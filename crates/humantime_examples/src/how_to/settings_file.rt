@@ -1,12 +1,8 @@
 //! Reads a settings file, and shows an error with its line.
 
-ghost use Rattle.std.specs.Prelude.{◌≡◌, ◌≢◌, ◌↔◌, ◌==◌, [], OnOk, IsSome, IsNone, IfSome, length, ◌≤◌, ◌⊎◌, ℕ, ℤ, None, Some, Ok, Err, IsOk, chars, codes};
-ghost use Rattle.std.specs.List.{after_first, before_first, position_or_len};
-ghost use Rattle.std.specs.Str.{byte, trim, trim_end, trim_start};
-ghost use Rattle.humantime.specs.declared.DurationError.{DurationError};
-ghost use Rattle.humantime.specs.declared.TimestampError.{TimestampError};
-ghost use Rattle.humantime.specs.Prelude.{duration_answer, fault_of, strict_answer};
-ghost use Rattle.humantime_examples.specs.declared.how_to.settings_file.Fault.TheVariants.{NoValue, Twice, UnknownKey, Duration, Timestamp};
+ghost use Rattle.std.specs.Prelude.{◌≡◌, IfErr, IfOk, IfSome, IsNone, OnErr, OnOk};
+ghost use Rattle.std.specs.Str.Lines.{lines};
+ghost use Rattle.humantime_examples.specs.SettingsFile.{HasFault, HasKey, HasNoKey, IsFirstError, Stores, StoresAll, code_of, no_settings, value_of};
 
 use super::offset::offset;
 use humantime::{
@@ -14,7 +10,7 @@ use humantime::{
 };
 use std::fmt;
 
-/// The settings of a file, `None` for each that it does not have.
+/// The settings of a file. A setting that it does not have is `None`.
 #[derive(Clone, Copy, Default, PartialEq, Debug)]
 pub struct Settings {
     /// How long to wait.
@@ -26,7 +22,7 @@ pub struct Settings {
 /// An error in a file.
 #[derive(Clone, Copy, PartialEq, Debug)]
 pub struct FileError<'a> {
-    /// The number of the line, from 1 on.
+    /// The line number, from 1.
     pub number: usize,
     /// The whole line.
     pub line: &'a str,
@@ -51,12 +47,16 @@ pub enum Fault<'a> {
     Timestamp(TimestampError),
 }
 
-/// Writes the number of the line and what is wrong, then the line, and a mark under the fault.
+/// Writes the line number and what is wrong and then, unless the line is long, the line and a mark under the fault.
 impl fmt::Display for FileError<'_> {
     fn fmt<W: fmt::Write>(&self, f: &mut fmt::Formatter<W>) -> fmt::Result {
-        write!(f, "line {}: {}\n{}\n", self.number, self.fault, self.line)?;
+        write!(f, "line {}: {}", self.number, self.fault)?;
+        if self.line.len() > 500 {
+            return Ok(());
+        }
+        write!(f, "\n{}\n", self.line)?;
         for c in self.line.get(..self.at).unwrap_or("").chars() {
-            f.write_char(if c == '\t' { '\t' } else { ' ' })?;
+            f.write_char(if c == '\t' { c } else { ' ' })?;
         }
         f.write_str("^")
     }
@@ -75,89 +75,79 @@ impl fmt::Display for Fault<'_> {
 }
 
 /// Reads a file.
-pub fn read_settings(text: &str) -> Result<Settings, FileError<'_>> {
+pub fn read_settings(text: &str) -> Result<Settings, FileError<'_>>
+    ensures settings { IfOk result (StoresAll (lines text.now) no_settings) }
+    ensures error { IfErr result (IsFirstError (lines text.now)) }
+{
     let mut settings = Settings::default();
     for (index, line) in text.lines().enumerate() {
-        read_line(&mut settings, line).map_err(|(at, fault)| FileError {
-            number: index + 1,
-            line,
-            at,
-            fault,
-        })?;
+        if let Err(fault) = read_line(&mut settings, line) {
+            let (number, at) = (index + 1, place(line, fault));
+            return Err(FileError {
+                number,
+                line,
+                at,
+                fault,
+            });
+        }
     }
     Ok(settings)
 }
 
-/// Stores what a line sets, or returns the byte offset of a fault in the line.
-fn read_line<'a>(settings: &mut Settings, line: &'a str) -> Result<(), (usize, Fault<'a>)>
-    ensures timeout { let code = trim_end (before_first (λ b. b == byte "#") line.now) in code ≢ [] → trim (before_first (λ b. b == byte "=") code) ≡ codes "timeout" → OnOk result ((v : ℕ) × (duration_answer (chars (trim_start (after_first (λ b. b == byte "=") code))) ≡ Ok v) × (settings.old.timeout ≡ None) × (settings.new ≡ record settings.old { timeout = Some v })) }
-    ensures since { let code = trim_end (before_first (λ b. b == byte "#") line.now) in code ≢ [] → trim (before_first (λ b. b == byte "=") code) ≡ codes "since" → OnOk result ((t : ℤ) × (strict_answer (trim_start (after_first (λ b. b == byte "=") code)) ≡ Ok t) × (settings.old.since ≡ None) × (settings.new ≡ record settings.old { since = Some t })) }
-    ensures no_duration { let code = trim_end (before_first (λ b. b == byte "#") line.now) in (at : ℕ) (e : DurationError) → result ≡ Err (at, Duration e) → duration_answer (chars (trim_start (after_first (λ b. b == byte "=") code))) ≡ Err (fault_of e) }
-    ensures no_timestamp { let code = trim_end (before_first (λ b. b == byte "#") line.now) in (at : ℕ) (e : TimestampError) → result ≡ Err (at, Timestamp e) → strict_answer (trim_start (after_first (λ b. b == byte "=") code)) ≡ Err e }
-    ensures no_value { let code = trim_end (before_first (λ b. b == byte "#") line.now) in (at : ℕ) → result ≡ Err (at, NoValue) → position_or_len (λ b. b == byte "=") code ≡ length code }
-    ensures twice { let code = trim_end (before_first (λ b. b == byte "#") line.now) in (at : ℕ) → result ≡ Err (at, Twice) → IsSome settings.old.timeout ⊎ IsSome settings.old.since }
-    ensures unknown_key { let code = trim_end (before_first (λ b. b == byte "#") line.now) in (at : ℕ) → result ≡ Err (at, UnknownKey) → (trim (before_first (λ b. b == byte "=") code) ≢ codes "timeout") × (trim (before_first (λ b. b == byte "=") code) ≢ codes "since") }
-    ensures blank { trim_end (before_first (λ b. b == byte "#") line.now) ≡ [] → IsOk result × (settings.new ≡ settings.old) }
+/// Stores what a line sets, or returns what is wrong with it.
+fn read_line<'a>(settings: &mut Settings, line: &'a str) -> Result<(), Fault<'a>>
+    ensures stored { OnOk result (Stores line.now settings.old settings.new) }
+    ensures fault { IfErr result (HasFault settings.old line.now) }
+    ensures unchanged { OnErr result (settings.new ≡ settings.old) }
 {
-    let code = without_comment(line).trim_end();
-    if code.is_empty() {
-        return Ok(());
-    }
-    let Some((key, value)) = key_and_value(code) else {
-        return Err((code.len(), Fault::NoValue));
-    };
-    match set(settings, key, value) {
-        Ok(()) => Ok(()),
-        Err(Fault::Duration(error)) => Err((
-            (code.len() - value.len()).saturating_add(offset(&error)),
-            Fault::Duration(error),
-        )),
-        Err(Fault::Timestamp(error)) => Err((code.len() - value.len(), Fault::Timestamp(error))),
-        Err(fault) => Err((code.len() - code.trim_start().len(), fault)),
-    }
-}
-
-/// Returns the line without its comment.
-fn without_comment(line: &str) -> &str
-    ensures { result.now ≡ before_first (λ b. b == byte "#") line.now }
-{
-    match line.split_once('#') {
-        Some((code, _comment)) => code,
-        None => line,
+    match key_and_value(line) {
+        Some(("timeout", value)) if settings.timeout.is_none() => match parse_duration(value) {
+            Ok(timeout) => {
+                settings.timeout = Some(timeout);
+                Ok(())
+            }
+            Err(error) => Err(Fault::Duration(error)),
+        },
+        Some(("since", value)) if settings.since.is_none() => match parse_rfc3339(value) {
+            Ok(since) => {
+                settings.since = Some(since);
+                Ok(())
+            }
+            Err(error) => Err(Fault::Timestamp(error)),
+        },
+        Some(("timeout" | "since", _)) => Err(Fault::Twice),
+        Some(_) => Err(Fault::UnknownKey),
+        None if code(line).is_empty() => Ok(()),
+        None => Err(Fault::NoValue),
     }
 }
 
 /// Splits a line at its first `=`.
-fn key_and_value(code: &str) -> Option<(&str, &str)>
-    ensures key { IfSome result (λ found. found.0.now ≡ trim (before_first (λ b. b == byte "=") code.now)) }
-    ensures value { IfSome result (λ found. found.1.now ≡ trim_start (after_first (λ b. b == byte "=") code.now)) }
-    ensures none { IsNone result → position_or_len (λ b. b == byte "=") code.now ≡ length code.now }
-    ensures within { IfSome result (λ found. length found.1.now ≤ length code.now) }
+fn key_and_value(line: &str) -> Option<(&str, &str)>
+    ensures key { IfSome result (λ found. HasKey line.now found.0.now) }
+    ensures value { IfSome result (λ found. found.1.now ≡ value_of line.now) }
+    ensures none { IsNone result → HasNoKey line.now }
 {
-    let (key, value) = code.split_once('=')?;
+    let (key, value) = code(line).split_once('=')?;
     Some((key.trim(), value.trim_start()))
 }
 
-/// Stores the value of a key.
-fn set<'a>(settings: &mut Settings, key: &str, value: &'a str) -> Result<(), Fault<'a>>
-    ensures timeout { key.now ≡ codes "timeout" → OnOk result ((v : ℕ) × (duration_answer (chars value.now) ≡ Ok v) × (settings.old.timeout ≡ None) × (settings.new ≡ record settings.old { timeout = Some v })) }
-    ensures since { key.now ≡ codes "since" → OnOk result ((t : ℤ) × (strict_answer value.now ≡ Ok t) × (settings.old.since ≡ None) × (settings.new ≡ record settings.old { since = Some t })) }
-    ensures no_duration { (e : DurationError) → result ≡ Err (Duration e) → (key.now ≡ codes "timeout") × (duration_answer (chars value.now) ≡ Err (fault_of e)) }
-    ensures no_timestamp { (e : TimestampError) → result ≡ Err (Timestamp e) → (key.now ≡ codes "since") × (strict_answer value.now ≡ Err e) }
-    ensures value { result ≢ Err NoValue }
-    ensures twice { result ≡ Err Twice → ((key.now ≡ codes "timeout") × IsSome settings.old.timeout) ⊎ ((key.now ≡ codes "since") × IsSome settings.old.since) }
-    ensures unknown_key { result ≡ Err UnknownKey ↔ ((key.now ≢ codes "timeout") × (key.now ≢ codes "since")) }
+/// Returns a line without its comment.
+fn code(line: &str) -> &str
+    ensures { result.now ≡ code_of line.now }
 {
-    let is_new = match key {
-        "timeout" => match parse_duration(value) {
-            Ok(timeout) => settings.timeout.replace(timeout).is_none(),
-            Err(error) => return Err(Fault::Duration(error)),
-        },
-        "since" => match parse_rfc3339(value) {
-            Ok(since) => settings.since.replace(since).is_none(),
-            Err(error) => return Err(Fault::Timestamp(error)),
-        },
-        _ => return Err(Fault::UnknownKey),
+    let (code, _comment) = line.split_once('#').unwrap_or((line, ""));
+    code.trim_end()
+}
+
+/// Returns the byte offset of a fault in its line.
+fn place(line: &str, fault: Fault<'_>) -> usize {
+    let code = code(line);
+    let rest = match (fault, key_and_value(line)) {
+        (Fault::NoValue, _) => "",
+        (Fault::Duration(error), Some((_, value))) => value.get(offset(&error)..).unwrap_or(""),
+        (Fault::Timestamp(_), Some((_, value))) => value,
+        _ => code.trim_start(),
     };
-    if is_new { Ok(()) } else { Err(Fault::Twice) }
+    code.len().saturating_sub(rest.len())
 }

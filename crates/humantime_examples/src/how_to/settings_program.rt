@@ -1,11 +1,14 @@
 //! Prints a settings file in canonical form.
 
+ghost use Rattle.std.specs.Prelude.{◌≤◌, IfErr, IfOk, IsSome, OnOk};
+ghost use Rattle.toml.specs.Parse.{parse_document};
+ghost use Rattle.humantime_examples.specs.Marks.{IsErrorIn};
+
 use super::marked::ReadError;
 use super::toml_settings::from_toml;
 use humantime::{Duration, StdDuration, SystemTime};
 use serde::{Deserialize, Serialize};
 use std::alloc::Global;
-use std::process::ExitCode;
 use std::{env, fs, io, time};
 
 /// The settings of a program.
@@ -32,7 +35,10 @@ pub struct Backup {
 }
 
 /// Returns the canonical text of settings.
-pub fn canonical_settings(alloc: Global, text: &str) -> Result<String, ReadError<'_>> {
+pub fn canonical_settings(alloc: Global, text: &str) -> Result<String, ReadError<'_>>
+    ensures document { OnOk result (IsSome (parse_document text.now)) }
+    ensures mark { IfErr result (IsErrorIn text.now) }
+{
     let settings: Settings = from_toml(alloc, text)?;
     match toml::to_string(alloc, &settings) {
         Ok(text) => Ok(text),
@@ -41,14 +47,17 @@ pub fn canonical_settings(alloc: Global, text: &str) -> Result<String, ReadError
     }
 }
 
-/// Prints the settings in the file that the program's word names, and returns the exit status.
+/// Prints the settings in the file that the program's argument names, and returns the exit status.
 ///
-/// It is 1 for a file that cannot be read or has an error, 2 unless there is one word, and 3 if memory is refused.
+/// It is 0 for valid settings, 1 if the file cannot be read or has an error, 2 unless there is exactly one argument, and 3 if memory is
+/// refused.
 ///
 /// # Errors
 ///
-/// An error is returned if the words cannot be read, or something cannot be written.
-pub fn run(rt: &HostRuntime) -> io::Result<u8> {
+/// Returns an error if an argument is not UTF-8, or if writing fails.
+pub fn run(rt: &HostRuntime) -> io::Result<u8>
+    ensures { IfOk result (λ status. status ≤ 3) }
+{
     let words = env::args(rt)?.skip(1).collect::<Vec<String>>(rt.alloc())?;
     let [path] = words.as_slice() else {
         eprintln!(rt; "usage: settings FILE")?;

@@ -31,14 +31,14 @@ pub fn to_std(duration: StdDuration) -> time::Duration
     time::Duration::new(duration.as_secs(), duration.subsec_nanos())
 }
 
-/// Parses a duration for a call of std.
+/// Parses a duration as one of std.
 pub fn parse_to_std(text: &str) -> Result<time::Duration, DurationError<'_>>
     ensures { result_map_both (λ duration. as_nanos duration) fault_of result ≡ duration_answer (chars text.now) }
 {
     Ok(to_std(parse_duration(text)?))
 }
 
-/// Returns a moment as a `SystemTime` of std, or `None` before 1970, where std has none.
+/// Returns a moment as a `SystemTime` of std, or `None` before 1970, which the kit's std does not represent.
 pub fn to_std_time(moment: SystemTime) -> Option<time::SystemTime>
     ensures within { IsSome result ↔ (pos 0 ≤ℤ moment) }
     ensures time { IfSome result (λ time. pos (system_time_nanos time) ≡ moment) }

@@ -84,7 +84,7 @@ pub trait Field: Sized + Drop {
         ensures { IfOk result (λ v. (e : Event) × IsRead e v × Begins F.gives F.stays from.old e from.new) };
 }
 
-/// A value that has a canonical text, and that texts denote.
+/// A value that is written as its canonical text, and read from a text.
 pub trait Text: Sized + Drop {
     ghost IsText: { Self → List ℕ → Type 0 };
 
@@ -116,7 +116,7 @@ impl<T: Text> Field for T {
     }
 }
 
-/// Reads a text, or `None` where a format has nothing, as `null` of JSON.
+/// Reads a text, or `None` if the format has no value there, such as `null` in JSON.
 fn text_or_none<F: Format>(
     alloc: Global,
     from: &mut Deserializer<'_, '_, F>,

@@ -7,7 +7,7 @@ use toml_parser::{Key, ParseError, dotted_key, quoted, starts_string};
 /// A value in a document.
 #[derive(Drop)]
 pub struct Place<'a> {
-    /// The keys that lead to it, with dots between them. The items of an array have those of the array.
+    /// The keys that lead to it, with dots between them. Items of an array have the keys of the array.
     pub keys: String,
     /// The document from the value on.
     pub value: &'a str,
@@ -26,11 +26,12 @@ impl<'a> Places<'a> {
     pub fn new(alloc: Global, document: &'a str) -> Result<Places<'a>, AllocError> {
         let mut open = Vec::new(alloc);
         open.push((String::new(alloc), false))?;
-        let rest = document;
+        // `toml` accepts a byte order mark, too.
+        let rest = document.strip_prefix('\u{feff}').unwrap_or(document);
         Ok(Places { rest, open })
     }
 
-    /// Returns the next value, or `None` after a header, a mark between values, or the end.
+    /// Returns the next value, or `None` if the walk passed a header or a mark between values, or is at the end.
     pub fn step(&mut self, alloc: Global) -> Result<Option<Place<'a>>, ParseError> {
         let rest = skip_blank(self.rest, true);
         self.rest = tail(rest, 1);
@@ -83,7 +84,7 @@ impl<'a> Places<'a> {
     }
 }
 
-/// Returns the keys of a table and those of a value in it.
+/// Returns the keys of a value in a table: those of the table, and then its own.
 fn joined(alloc: Global, table: &str, key: &Key) -> Result<String, AllocError> {
     let mut keys = String::from_str(alloc, table)?;
     for part in key.path.iter().chain([&key.last]) {
@@ -95,7 +96,7 @@ fn joined(alloc: Global, table: &str, key: &Key) -> Result<String, AllocError> {
     Ok(keys)
 }
 
-/// Returns what follows an offset.
+/// Returns the text after an offset.
 fn tail(text: &str, at: usize) -> &str {
     text.get(at..).unwrap_or("")
 }

@@ -1,7 +1,8 @@
 //! Reads TOML, and finds the place of a fault in it.
 
-ghost use Rattle.std.specs.Prelude.{IfOk, IsSome};
+ghost use Rattle.std.specs.Prelude.{IfErr, IfOk, IsSome, OnOk};
 ghost use Rattle.toml.specs.Parse.{parse_document};
+ghost use Rattle.humantime_examples.specs.Marks.{IsErrorIn};
 
 use super::marked::{ReadError, fault_in, marked_at};
 use super::toml_places::Places;
@@ -11,7 +12,8 @@ use toml_parser::{ParseError, quoted, starts_string};
 
 /// Reads a value from TOML.
 pub fn from_toml<T: DeserializeOwned>(alloc: Global, text: &str) -> Result<T, ReadError<'_>>
-    ensures { IfOk result (λ _. IsSome (parse_document text.now)) }
+    ensures document { OnOk result (IsSome (parse_document text.now)) }
+    ensures mark { IfErr result (IsErrorIn text.now) }
 {
     match toml::from_str::<T>(alloc, text) {
         Ok(value) => Ok(value),
@@ -19,12 +21,14 @@ pub fn from_toml<T: DeserializeOwned>(alloc: Global, text: &str) -> Result<T, Re
     }
 }
 
-/// Returns the error of a document with the place of its fault.
+/// Returns the error of a document, with the place of its fault if that is found.
 fn located<'a>(
     alloc: Global,
     text: &'a str,
     error: &toml::de::Error,
-) -> Result<ReadError<'a>, AllocError> {
+) -> Result<ReadError<'a>, AllocError>
+    ensures { IfOk result (IsErrorIn text.now) }
+{
     let Some(span) = error.span() else {
         return Ok(ReadError::OutOfMemory);
     };
@@ -49,7 +53,7 @@ fn located<'a>(
     }
 }
 
-/// Returns the message and the offset of the fault in the first value to which the keys lead, and of which `said` can be true.
+/// Returns the message and the offset of the fault in the first value that has these keys and can have the error `said`.
 fn search(
     alloc: Global,
     text: &str,
@@ -57,7 +61,7 @@ fn search(
     keys: &str,
 ) -> Result<Option<(String, usize)>, ParseError> {
     let mut places = Places::new(alloc, text)?;
-    // Each step passes a character at least.
+    // Each step passes at least one character.
     for _ in 0..text.len() {
         let Some(place) = places.step(alloc)? else {
             continue;
@@ -72,7 +76,7 @@ fn search(
     Ok(None)
 }
 
-/// Returns the message and the offset of the fault in the value at the front, if `said` can be true of it.
+/// Returns the message and the offset of the fault in the value at the front, if it can have the error `said`.
 fn fault_at(alloc: Global, said: &str, value: &str) -> Result<Option<(String, usize)>, ParseError> {
     if let Some(found) = said.strip_prefix("invalid type: ") {
         let is_found = match value.as_bytes().first() {

@@ -7,7 +7,7 @@ ghost use Rattle.humantime.specs.Prelude.{IsDate, day_of};
 use humantime::laws::one_date;
 use humantime::{Date, Turns, date_of_day, day_number};
 
-/// Returns the days of two dates. If both dates exist, their days are equal exactly if the dates are.
+/// Returns the days of two dates. If both dates exist, their days are equal if and only if the dates are.
 pub fn days_of(a: Date, b: Date, turns: &mut Turns) -> (Option<u32>, Option<u32>)
     ensures { IsDate a → IsDate b → (result.0 ≡ result.1) ↔ (a ≡ b) }
 {

@@ -113,7 +113,7 @@ pub fn is_same_string(alloc: Global, a: StdDuration, b: StdDuration) -> Result<b
     Ok(first.as_str() == second.as_str())
 }
 
-/// Parses two accepted texts that were joined. The result is their sum exactly if no addition overflows, and an overflow otherwise.
+/// Parses two accepted texts that were joined. The result is their sum if and only if no addition overflows, and an overflow otherwise.
 pub fn sum_of<'a>(a: &str, b: &str, both: &'a str) -> Result<StdDuration, DurationError<'a>>
     ensures sum { (ss : List SpelledSpan) (ts : List SpelledSpan) (u : ℕ) (v : ℕ) → Reads (chars a.now) ss → Reads (chars b.now) ts → Accepted (chars a.now) u → Accepted (chars b.now) v → both.now ≡ a.now ++ b.now → (result_view result ≡ Ok (u + v)) ↔ AllHaveRoom (additions ss ++ additions ts) }
     ensures overflow { (ss : List SpelledSpan) (ts : List SpelledSpan) (u : ℕ) (v : ℕ) → Reads (chars a.now) ss → Reads (chars b.now) ts → Accepted (chars a.now) u → Accepted (chars b.now) v → both.now ≡ a.now ++ b.now → (result_view result ≡ Err NumberOverflow) ↔ ¬ (AllHaveRoom (additions ss ++ additions ts)) }

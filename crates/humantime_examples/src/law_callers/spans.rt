@@ -68,7 +68,7 @@ pub fn split_at_error(text: &str) -> (&str, &str)
     (text, "")
 }
 
-/// Returns the items of a text, whose slices follow each other in it.
+/// Returns the items of a text, whose slices follow each other in the text.
 ///
 /// Each character before the span or error at which the items stop lies in exactly one slice (a number, a fraction or a unit), or in none and
 /// is whitespace or a point. If no item is an error, this holds for each character of the text.

@@ -59,7 +59,7 @@ const NONE: &[(u32, u32, u32)] = &[
 ];
 
 #[test]
-fn both_calendars_refuse_what_is_no_date(rt: HostRuntime) {
+fn both_calendars_reject_dates_that_do_not_exist(rt: HostRuntime) {
     for (year, month, day) in NONE {
         let date = Date {
             year: *year,

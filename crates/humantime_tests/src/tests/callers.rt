@@ -8,6 +8,7 @@ use humantime_examples::callers::durations::{
     default_limit, end_of, is_same_error, is_within, limit_seconds, place_in_line, shown_seconds,
     underlined,
 };
+use humantime_examples::callers::errors::{LineError, has_ended};
 use humantime_examples::callers::laws::{comes_back, looks_same, needs_no_space};
 use humantime_examples::callers::spans::longest_span;
 use humantime_examples::callers::timestamps::{
@@ -34,6 +35,18 @@ fn limits_are_read_and_compared(rt: HostRuntime) {
         is_within("1s", "x"),
     ];
     assert_same(&rt, within, [true, false, false]);
+}
+
+#[test]
+fn limits_end(rt: HostRuntime) {
+    let start = "1970-01-01T00:00:00Z";
+    let ended = |limit, secs, nanos| has_ended(start, limit, moment(&rt, secs, nanos)).ok();
+    assert_same(&rt, ended("1.5min", 90, 0), Some(true));
+    assert_same(&rt, ended("1.5min", 89, 999_999_999), Some(false));
+    assert_same(&rt, ended("18446744073709551615s", 90, 0), Some(false));
+    assert_same(&rt, ended("x", 90, 0), None);
+    let error = has_ended("1970-01-01", "x", moment(&rt, 90, 0)).err();
+    assert!(rt; matches!(error, Some(LineError::Start(TimestampError::InvalidFormat))));
 }
 
 #[test]
@@ -91,7 +104,7 @@ fn durations_are_printed_and_read_again(rt: HostRuntime) {
 }
 
 #[test]
-fn stamps_are_read(rt: HostRuntime) {
+fn timestamps_are_parsed(rt: HostRuntime) {
     let start = moment(&rt, 1_518_568_087, 0);
     assert_same(&rt, default_start(), Ok(start));
     let format = TimestampError::InvalidFormat;

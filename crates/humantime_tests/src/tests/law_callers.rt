@@ -82,7 +82,7 @@ fn durations_are_joined_and_printed(rt: HostRuntime) {
 }
 
 #[test]
-fn moments_come_back(rt: HostRuntime) {
+fn printed_moments_parse_to_the_same_moment(rt: HostRuntime) {
     let later = moment(&rt, 1_518_563_312, 456_123_999);
     let both = Some((Ok(later), Ok(later)));
     assert_same(&rt, printed_and_parsed(later), both);
@@ -127,7 +127,7 @@ fn durations_are_read_by_their_spans(rt: HostRuntime) {
 }
 
 #[test]
-fn parts_and_days_are_taken(rt: HostRuntime) {
+fn parts_of_dates_and_days_of_moments(rt: HostRuntime) {
     let text = Some("3s 500ms");
     assert_same(&rt, parts_text(1, 2_500_000_000, &mut [0; 64]), text);
     let none = parts_text(u64::MAX, 1_000_000_000, &mut [0; 64]).is_none();

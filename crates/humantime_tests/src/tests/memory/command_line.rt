@@ -82,7 +82,7 @@ fn errors_are_marked_in_words(rt: HostRuntime) -> Result<(), Fail> {
 }
 
 #[test]
-fn words_that_are_no_option_are_refused(rt: HostRuntime) -> Result<(), Fail> {
+fn unknown_options_are_rejected(rt: HostRuntime) -> Result<(), Fail> {
     let alloc = rt.alloc();
     for (words, status, part) in &[
         (

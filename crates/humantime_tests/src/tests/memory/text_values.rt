@@ -183,7 +183,7 @@ fn toml_answer(alloc: Global, text: &str) -> Result<String, AllocError> {
 }
 
 #[test]
-fn what_denotes_no_value_is_refused_in_json(rt: HostRuntime) -> Result<(), Fail> {
+fn values_that_are_not_texts_are_rejected_in_json(rt: HostRuntime) -> Result<(), Fail> {
     let alloc = rt.alloc();
     for (text, message) in &[
         (r#"{"wait":"2 moons"}"#, "not a duration at line 1 column 9"),
@@ -215,7 +215,7 @@ fn what_denotes_no_value_is_refused_in_json(rt: HostRuntime) -> Result<(), Fail>
 }
 
 #[test]
-fn what_denotes_no_value_is_refused_in_toml(rt: HostRuntime) -> Result<(), Fail> {
+fn values_that_are_not_texts_are_rejected_in_toml(rt: HostRuntime) -> Result<(), Fail> {
     let alloc = rt.alloc();
     let said = toml_answer(alloc, "wait = '2 moons'")?;
     assert_eq!(rt; said.as_str(), "not a duration\nin `wait`\n");

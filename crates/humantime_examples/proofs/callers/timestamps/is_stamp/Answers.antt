@@ -5,7 +5,7 @@ use Rattle.humantime.specs.Prelude.{IsPrinted, IsPrintedWith, IsPrintable, stric
 use Rattle.humantime.proofs.Theorems.{printed_if_read_back, strict_printable, printed_moment_reads}
 use Rattle.humantime_examples.proofs.callers.timestamps.is_stamp.Goals as goal
 
--- The text is the printed one of the moment that it is parsed to exactly if it is a printed text.
+-- The text is the printed one of the moment that it is parsed to if and only if it is a printed text.
 is_again : (text stamp : List ℕ) (t : ℤ) → strict_answer text ≡ Ok t → IsPrintable t → IsPrinted t 3 stamp → (stamp ≡ text) ↔ IsPrintedWith 3 text
 is_again text stamp t read printable printed =
     let law = printed_if_read_back 3 text in
