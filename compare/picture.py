@@ -1,43 +1,92 @@
-"""Draws docs/speed.svg from the table of compare/README.md, for `compare/bench --save` and for scripts/pages, which compares the two."""
+"""Sums up the table of compare/README.md by kinds of call, and draws docs/speed.svg from it. scripts/pages compares and writes both."""
+import math
 import re
 import statistics
 
 ROW = re.compile(r"^(\S.*?) +(\d+\.\d\d) +\d+\.\d\d +\d+\.\d\d +(\d+\.\d\d)$", re.M)
-STAMP = re.compile("strict$|weak$|timestamp")
-# Each kind of call, and the beginning of its rows' names: for durations, and then for timestamps.
-KINDS = [("parse a duration", "parse", False), ("reject a duration", "reject", False), ("print a duration", "print", False)]
-KINDS += [("parse a timestamp", "parse", True), ("reject a timestamp", "reject", True), ("print a timestamp", "print", True)]
-LEFT, UNIT, HIGH = 180, 320, 34
+# Each kind of call, with the form of its rows' names. The picture has those of calls with a short text.
+KINDS = {
+    "parse a duration": r"parse (?!.*(megabyte|strict$|weak$))",
+    "reject a duration": r"reject (?!.*(megabyte|strict$|weak$))",
+    "print a duration": r"print (?!a timestamp)",
+    "parse a timestamp": r"parse (?!.*megabyte).*(strict|weak)$",
+    "reject a timestamp": r"reject (?!.*megabyte).*(strict|weak)$",
+    "print a timestamp": r"print a timestamp",
+    "parse or reject a long text": r"(parse|reject) .*megabyte",
+    "`spans` and `canonical`": r"`(spans|canonical)`",
+    "the program's `run`": r"the program",
+}
+SHOWN = list(KINDS)[:6]
+LEFT, UNIT, TOP, HIGH = 190, 420, 62, 34
 
 
-def bars(at, name, rows):
-    """Yields the two bars of a kind of call, for each back end: the median, and a line from the smallest ratio to the largest."""
-    yield f'<text x="{LEFT - 40}" y="{at + 18}" text-anchor="end">{name}</text>'
-    for lower, color, ratios in ((0, "#2a6f97", [row[0] for row in rows]), (12, "#a9c6d8", [row[1] for row in rows])):
-        middle, y = statistics.median(ratios), at + 3 + lower
+def kinds(page):
+    """Returns the ratios of each kind of call: those by LLVM, and those by the kit's own back end. Each row has to be of one kind."""
+    rows = ROW.findall(page)
+    found = {kind: [row for row in rows if re.match(form, row[0])] for kind, form in KINDS.items()}
+    assert sorted(row for of_kind in found.values() for row in of_kind) == sorted(rows), "a row of compare/README.md is not of one kind"
+    return {kind: [[float(row[side]) for row in of_kind] for side in (1, 2)] for kind, of_kind in found.items()}
+
+
+def summary(page):
+    """Returns the table of the kinds: the medians, and in parentheses the smallest and the largest ratio of a row."""
+    lines = ["| kind of call | rows | by LLVM | by the kit's own back end |", "|---|---|---|---|"]
+    for kind, sides in kinds(page).items():
+        cells = [f"{statistics.median(ratios):.2f} ({min(ratios):.2f} to {max(ratios):.2f})" for ratios in sides]
+        lines.append(f"| {kind} | {len(sides[0])} | {' | '.join(cells)} |")
+    return "\n".join(lines) + "\n"
+
+
+def words(page):
+    """Returns the text that stands for the picture where it is not shown, with the medians by LLVM."""
+    medians = (statistics.median(sides[0]) for sides in kinds(page).values())
+    form = "Time divided by the crate's: {:.2f} to parse a duration, {:.2f} to reject and {:.2f} to print one; timestamps {:.2f}, {:.2f}, {:.2f}"
+    return form.format(*medians)
+
+
+def text(x, y, said, anchor="start"):
+    return f'<text x="{x}" y="{y}" text-anchor="{anchor}">{said}</text>'
+
+
+def bars(at, kind, sides):
+    """Yields the two bars of a kind, each with its median and a whisker from the smallest ratio to the largest."""
+    yield text(LEFT - 44, at + 18, kind, "end")
+    for y, color, ratios in zip((at + 3, at + 15), ("#2a6f97", "#a9c6d8"), sides):
+        middle = statistics.median(ratios)
         least, most = (LEFT + round(UNIT * ratio) for ratio in (min(ratios), max(ratios)))
         yield f'<rect x="{LEFT}" y="{y}" width="{round(UNIT * middle)}" height="11" fill="{color}"/>'
-        yield f'<path d="M{least} {y + 5.5}H{most}" stroke="#000"/><text x="{LEFT - 6}" y="{y + 10}" text-anchor="end">{middle:.2f}</text>'
+        yield f'<path d="M{least} {y + 2.5}v6m0 -3H{most}m0 -3v6" fill="none" stroke="#000"/>'
+        yield text(LEFT - 6, y + 10, f"{middle:.2f}", "end")
+
+
+def axis(bottom, ticks):
+    """Yields the axis from zero on, with a tick and its number at each fifth, and the line of the crate at 1."""
+    yield f'<path d="M{LEFT} {TOP}V{bottom}H{LEFT + UNIT * ticks // 5}" fill="none" stroke="#000"/>'
+    for tick in range(ticks + 1):
+        at = LEFT + UNIT * tick // 5
+        yield f'<path d="M{at} {bottom}v5" stroke="#000"/>' + text(at, bottom + 18, f"{tick / 5:g}", "middle")
+    yield f'<path d="M{LEFT + UNIT} {TOP}V{bottom}" stroke="#c1121f" stroke-dasharray="4 3"/>'
+    yield text(LEFT + UNIT, TOP - 6, "the crate", "middle")
 
 
 def picture(page):
-    """Returns the picture of the page's table, without the rows of long texts."""
-    found = [(name, (float(llvm), float(own))) for name, llvm, own in ROW.findall(page) if "megabyte" not in name]
-    lines = []
-    for number, (name, first, is_stamp) in enumerate(KINDS):
-        rows = [both for call, both in found if call.startswith(first) and bool(STAMP.search(call)) == is_stamp]
-        lines += bars(30 + number * HIGH, name, rows)
-    bottom, one = 34 + len(KINDS) * HIGH, LEFT + UNIT
-    said = "Time of a call divided by the crate's: the median of short texts, from the fastest text to the slowest."
+    """Returns the picture of the page's table. On its right is room for the captions in any font."""
+    found = kinds(page)
+    lines = [line for number, kind in enumerate(SHOWN) for line in bars(TOP + number * HIGH, kind, found[kind])]
+    bottom = TOP + 4 + len(SHOWN) * HIGH
+    ticks = math.ceil(5 * max(1, *(ratio for kind in SHOWN for side in found[kind] for ratio in side)))
+    width = max(740, LEFT + UNIT * ticks // 5 + 60)
     return "\n".join(
         [
-            f'<svg xmlns="http://www.w3.org/2000/svg" width="740" height="{bottom + 44}" font-family="sans-serif" font-size="11">',
+            f'<svg xmlns="http://www.w3.org/2000/svg" width="{width}" height="{bottom + 68}" font-family="sans-serif" font-size="11">',
             '<rect width="100%" height="100%" fill="#fff"/>',
+            text(20, 20, "Time of a call divided by the crate's time: lower is better"),
+            f'<rect x="20" y="31" width="11" height="11" fill="#2a6f97"/>{text(36, 41, "built by LLVM")}',
+            f'<rect x="{LEFT}" y="31" width="11" height="11" fill="#a9c6d8"/>{text(LEFT + 16, 41, "built by the kit&#39;s own back end")}',
             *lines,
-            f'<path d="M{one} 24V{bottom}" stroke="#c1121f" stroke-dasharray="4 3"/>'
-            f'<text x="{one}" y="16" text-anchor="middle">the crate = 1</text>',
-            f'<text x="{LEFT}" y="{bottom + 16}">{said}</text>',
-            f'<text x="{LEFT}" y="{bottom + 32}">Dark: built by LLVM. Light: built by the kit\'s own back end.</text>',
+            *axis(bottom, ticks),
+            text(20, bottom + 40, "Bar and number: the median of the rows of this kind in compare/README.md."),
+            text(20, bottom + 56, "Whisker: from the fastest of these rows to the slowest."),
             "</svg>",
             "",
         ]

@@ -1,4 +1,4 @@
-//! The answers of both sides: durations and timestamps parsed, messages of errors, timestamps printed.
+//! The results of both sides: durations and timestamps parsed, messages of errors, timestamps printed.
 
 #![allow(dead_code)] // Each of the two programs compares some of them.
 
@@ -42,7 +42,7 @@ pub fn caught<T>(call: impl FnOnce() -> T) -> Result<T, String> {
     })
 }
 
-/// Returns the crate's answer, or `None` if an offset is not on a `char` boundary or a unit is not the text between its offsets.
+/// Returns the crate's result, or `None` if an offset is not on a `char` boundary or a unit is not the text between its offsets.
 pub fn duration_by_crate(text: &str) -> Option<DurationRead> {
     use DurationError::*;
     Some(match caught(|| humantime::parse_duration(text)) {
@@ -59,7 +59,7 @@ pub fn duration_by_crate(text: &str) -> Option<DurationRead> {
     })
 }
 
-/// Returns the library's answer, or `None` if a unit is not the text between its offsets.
+/// Returns the library's result, or `None` if a unit is not the text between its offsets.
 pub fn duration_by_library(text: &str) -> Option<DurationRead> {
     let mut place = Answer::default();
     library_read_duration(&Text::of(text), &mut place);
@@ -94,7 +94,7 @@ pub fn other_messages<T, E: Display>(
     (by_crate != by_library && by_crate.len() <= 256).then_some((by_crate, by_library))
 }
 
-/// A function of the crate, and the one of the library that has to answer the same.
+/// A function of the crate, and the one of the library that has to return the same.
 pub struct Pair<C, L> {
     pub name: &'static str,
     by_crate: C,
@@ -107,7 +107,7 @@ pub const STRICT: Parser = Parser { name: "strict", by_crate: humantime::parse_r
 pub const WEAK: Parser = Parser { name: "weak", by_crate: humantime::parse_rfc3339_weak, by_library: library_read_weak };
 
 impl Parser {
-    /// Returns the crate's answer, or the message of its panic.
+    /// Returns the crate's result, or the message of its panic.
     pub fn read_by_crate(&self, text: &str) -> Result<MomentRead, String> {
         caught(|| (self.by_crate)(text)).map(|answer| match answer {
             Ok(moment) => {

@@ -1,6 +1,6 @@
 //! Times the crate and the library in one process.
 //!
-//! Each row is one call of each side, which is not inlined and leaves its answer in memory of the caller. The sides are called in turn, in
+//! Each row is one call of each side, which is not inlined and leaves its result in memory of the caller. The sides are called in turn, in
 //! batches, and the side that goes first changes with each round.
 
 mod answers;
@@ -44,7 +44,7 @@ unsafe impl GlobalAlloc for Counting {
 #[global_allocator]
 static COUNTING: Counting = Counting;
 
-/// Parses a text by a function of the crate. Drops the previous answer, and writes the new one in place, without a copy.
+/// Parses a text by a function of the crate. Drops the previous result, and writes the new one in place, without a copy.
 #[inline(never)]
 fn crate_read<T>(parse: impl Fn(&str) -> T, text: &str, place: &mut T) {
     unsafe {
@@ -109,7 +109,7 @@ fn hidden_text(text: &str) -> &str {
     }
 }
 
-/// Uses the answer in a way that the compiler cannot see, so that it has to be computed.
+/// Uses the result in a way that the compiler cannot see, so that it has to be computed.
 #[inline(always)]
 fn looked_at<T>(place: &T) {
     unsafe { asm!("/* {0} */", in(reg) place as *const T, options(nostack, preserves_flags)) };
@@ -125,7 +125,7 @@ fn batch(calls: usize, mut call: impl FnMut()) -> f64 {
     start.elapsed().as_nanos() as f64
 }
 
-/// Times a row: a call of the crate and a call of the library, each with the memory where it leaves its answer.
+/// Times a row: a call of the crate and a call of the library, each with the memory where it leaves its result.
 fn race<C, L>(name: &str, (mut crate_place, mut by_crate): (C, impl FnMut(&mut C)), (mut place, mut by_library): (L, impl FnMut(&mut L))) {
     let mut of_crate = || {
         by_crate(&mut crate_place);
@@ -293,14 +293,14 @@ fn durations_read() {
 /// printing.
 fn spans_and_canonical() {
     for (shown, text) in [("the longest duration", LONGEST), ("a megabyte of `1h `", &"1h ".repeat(349_525))] {
-        let name = format!("`spans` of {shown}, beside the crate's parsing");
+        let name = format!("`spans` of {shown}, against the crate's parsing");
         race_reading(&name, text, humantime::parse_duration, |text, place| library_walk_spans(text, place));
     }
     for (shown, text) in [("`2h 37min`", "2h 37min"), ("the longest duration", LONGEST)] {
         let text = placed(text);
         let given = Text::of(text);
         race_writing(
-            &format!("`canonical` of {shown}, beside parsing and printing"),
+            &format!("`canonical` of {shown}, against parsing and printing"),
             |place| crate_canonical(hidden_text(text), place),
             |place| library_canonical(hidden(&given), place),
         );
@@ -375,7 +375,7 @@ fn run(command: &str, text: &str) {
     by_crate(&mut crate_place);
     by_library(&mut place);
     let told: String = place.1.iter().map(Sink::text).collect();
-    let name = format!("the program's `{command}` of `{text}`, beside parsing and printing");
+    let name = format!("the program's `{command}` of `{text}`, against parsing and printing");
     assert_eq!(told.replace('µ', "u"), crate_place.replace('µ', "u"), "{name}");
     race(&name, (crate_place, by_crate), (place, by_library));
 }

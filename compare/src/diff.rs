@@ -1,4 +1,4 @@
-//! Compares the answers of the library with those of the crate, call by call. They have to be the same, except for the differences that are
+//! Compares the results of the library with those of the crate, call by call. They have to be the same, except for the differences that are
 //! listed.
 
 mod answers;

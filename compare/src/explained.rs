@@ -4,10 +4,10 @@ use crate::answers::DurationRead::{self, *};
 use crate::answers::{MomentRead, duration_by_crate};
 use crate::rows::Row;
 
-/// Returns the rows that explain the library's answer, or `None` if the difference is not listed.
+/// Returns the rows that explain the library's result, or `None` if the difference is not listed.
 ///
 /// The crate itself determines what is right. It parses the text without what the rows name: with the micro sign in place of the Greek
-/// letter, and without trailing zeros of fractions. If its answer is an accident, it is corrected.
+/// letter, and without trailing zeros of fractions. If its result is an accident, it is corrected.
 pub fn duration(text: &str, by_library: DurationRead) -> Option<Vec<Row>> {
     for (letters, zeros) in [(false, false), (true, false), (false, true), (true, true)] {
         let plain = Plain::of(text, letters, zeros);
@@ -39,7 +39,7 @@ impl Plain {
         plain
     }
 
-    /// Returns the answer with the offsets in the original text.
+    /// Returns the result with the offsets in the original text.
     fn placed(&self, answer: DurationRead) -> DurationRead {
         match answer {
             InvalidCharacter(at) => InvalidCharacter(self.places[at]),
@@ -91,7 +91,7 @@ fn zeros_of_fractions(text: &str) -> Vec<usize> {
     found
 }
 
-/// Returns the crate's answer, corrected if it is an accident, and the row that says so.
+/// Returns the crate's result, corrected if it is an accident, and the row that says so.
 fn put_right(text: &str, answer: DurationRead) -> (DurationRead, Option<Row>) {
     match answer {
         Panicked => (Overflow, Some(Row::CarryTooLarge)),
@@ -122,7 +122,7 @@ fn point_before_space(text: &str, at: usize) -> Option<usize> {
     (before.ends_with('.') && before.len() < at && ends && follows_number(text, point)).then_some(point)
 }
 
-/// Returns the row that lists the difference of these answers for the text.
+/// Returns the row that lists the difference of these results for the text.
 pub fn moment(text: &str, by_crate: MomentRead, by_library: MomentRead) -> Option<Row> {
     let end = text.as_bytes().get(19..)?;
     match (by_crate, by_library) {

@@ -4,7 +4,7 @@
 
 use std::marker::PhantomData;
 
-/// The answer of a call: a value if `kind` is 0, and otherwise an error.
+/// The result of a call: a value if `kind` is 0, and otherwise an error.
 #[repr(C)]
 #[derive(Default)]
 pub struct Answer {

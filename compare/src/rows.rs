@@ -20,11 +20,11 @@ rows! {
     PanicBefore1970: "`Display` of a moment before 1970 panics",
     ZerosOfFraction: "trailing zeros of a fraction count towards its limits",
     GreekLetter: "the Greek letter U+03BC is an invalid character",
-    CarryTooLarge: "spans whose carry exceeds the greatest second",
-    NoDigitAfterSpace: "a character other than a digit, after whitespace at the start or after a span",
+    CarryTooLarge: "spans whose nanoseconds carry their seconds beyond `u64::MAX`",
+    NoDigitAfterSpace: "whitespace at the start or after a span, and then a character other than a digit",
     BadAfterPoint: "an invalid character right after a point",
     SpaceAfterPoint: "whitespace after a point without digits, and then a letter or the end",
-    TailAfterPlus: "a timestamp's tail from `+` on after a fraction, unless it is `+00:00`",
+    TailAfterPlus: "after the fraction of a timestamp, a rest that begins with `+` and is not `+00:00`",
     BytesAfterZone: "bytes after a `Z` that follows the seconds",
 }
 
