@@ -24,11 +24,11 @@ abbrev pub total_of : List (Bor (List ℕ)) → ℕ
 total_of texts = sum_by (λ text. nanos_of text.now) texts
 
 -- The text is not a duration, or it is a duration that is longer than what is left.
-abbrev pub IsErrorOf : ℕ → List ℕ → BudgetError → Type 0
-IsErrorOf left text (NotADuration other e) = (other.now ≡ text) × (duration_answer (chars text) ≡ Err (fault_of e))
-IsErrorOf left text Exceeded = IsDuration text × (left < nanos_of text)
+abbrev pub IsErrorOf : ℕ → Bor (List ℕ) → BudgetError → Type 0
+IsErrorOf left text (NotADuration other e) = (other ≡ text) × (duration_answer (chars text.now) ≡ Err (fault_of e))
+IsErrorOf left text Exceeded = IsDuration text.now × (left < nanos_of text.now)
 
 -- The error is that of the first text with an error: those before it are durations within the limit.
 abbrev pub IsFirstErrorOf : ℕ → List (Bor (List ℕ)) → BudgetError → Type 0
 IsFirstErrorOf limit texts error = (before : List (Bor (List ℕ))) × (text : Bor (List ℕ)) × (after : List (Bor (List ℕ))) × (left : ℕ)
-    × (texts ≡ before ++ text ∷ after) × AreDurations before × (total_of before + left ≡ limit) × IsErrorOf left text.now error
+    × (texts ≡ before ++ text ∷ after) × AreDurations before × (total_of before + left ≡ limit) × IsErrorOf left text error

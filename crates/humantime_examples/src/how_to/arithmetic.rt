@@ -49,7 +49,7 @@ pub fn budget_left<'a>(
 fn spend<'a>(left: StdDuration, text: &'a str) -> Result<StdDuration, BudgetError<'a>>
     ensures duration { OnOk result (IsDuration text.now) }
     ensures rest { IfOk result (λ rest. nanos_of text.now + rest ≡ left) }
-    ensures error { IfErr result (IsErrorOf left text.now) }
+    ensures error { IfErr result (IsErrorOf left text.entry) }
 {
     match parse_duration(text) {
         Ok(duration) => checked_sub(left, duration).ok_or(BudgetError::Exceeded),

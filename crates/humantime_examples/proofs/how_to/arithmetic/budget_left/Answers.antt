@@ -13,7 +13,7 @@ outside = record { ref_ptr = (0, 0); now = [] }
 
 -- The error of a text is the first one, if the texts before it are durations within the limit.
 is_first : (limit left i : ℕ) (texts : List (Bor (List ℕ))) (error : BudgetError) → i < length texts → AreDurations (take i texts)
-    → total_of (take i texts) + left ≡ limit → IsErrorOf left (get_or texts i outside).now error → IsFirstErrorOf limit texts error
+    → total_of (take i texts) + left ≡ limit → IsErrorOf left (get_or texts i outside) error → IsFirstErrorOf limit texts error
 is_first limit left i texts error within durations total is =
     let split = take-append-drop i texts in
     let next = drop-cons texts i outside within in
