@@ -5,4 +5,5 @@ pub mod Older
 pub mod Outcomes
 pub mod Printed
 pub mod Texts
+pub mod Tiles
 pub mod Timestamps

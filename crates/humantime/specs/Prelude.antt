@@ -17,6 +17,7 @@ pub use Rattle.humantime.specs.Laws.Texts.{without_whitespace, AreReordered}
 pub use Rattle.humantime.specs.Laws.Older.{AcceptedWithZeros, WasAccepted}
 -- The items of a text.
 pub use Rattle.humantime.specs.Durations.Items.{Items, SpanView, AreItems}
+pub use Rattle.humantime.specs.Laws.Tiles.{slices_of, IsTiled}
 pub use Rattle.humantime.specs.Results.Spans.{span_view, items_left, text_of, GivesItem}
 -- Printing durations.
 pub use Rattle.humantime.specs.Durations.Counts.{AreCounts, IsCanonicalText, IsCanonicalOf}

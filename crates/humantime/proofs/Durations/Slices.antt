@@ -4,3 +4,4 @@ pub mod ItemViews
 pub mod Places
 pub mod SlicesFound
 pub mod SpanSlices
+pub mod Tiled

@@ -1,6 +1,7 @@
 -- The outcome of a text: exactly one value or exactly one error, at most one list of spans and one list of items; and how its items
 -- determine the outcome. A text is its list of characters.
-use Rattle.std.specs.Prelude.{◌≡◌, ◌≢◌, ◌↔◌, ℕ, List, ◌∷◌, Option, Some, None, Result, Ok, Err}
+use Rattle.std.specs.Prelude.{◌≡◌, ◌≢◌, ◌↔◌, ℕ, List, ◌∷◌, Option, Some, None, Result, Ok, Err, true, is_ok, flat_map}
+use Rattle.std.specs.List.{list_all}
 use Rattle.humantime.specs.Durations.Spans.{SpelledSpan, Reads}
 use Rattle.humantime.specs.Durations.Accepted.{value, WithinLimits, Accepted}
 use Rattle.humantime.specs.Durations.Faults.{Fault, NumberOverflow, HasFault}
@@ -8,6 +9,7 @@ use Rattle.humantime.specs.Durations.Items.{Items, SpanView, AreItems}
 use Rattle.humantime.specs.Durations.Characters.{bare_zero}
 use Rattle.humantime.specs.Results.Durations.{duration_answer}
 use Rattle.humantime.specs.Laws.ExactlyOne.{ExactlyOne}
+use Rattle.humantime.specs.Laws.Tiles.{IsTiled, slices_of}
 
 -- The outcome of a text is the value with which it is accepted, or its fault.
 abbrev pub IsOutcome : List ℕ → Result ℕ Fault → Type 0
@@ -44,9 +46,14 @@ pub record ItemsDecide (text : List ℕ) : Type 0 where
   pub too_large : (spans : List SpelledSpan) (stop : Option Fault) → Items text spans stop → text ≢ bare_zero
       → ¬ (WithinLimits spans) → HasFault text NumberOverflow
 
--- A text has exactly one list of items.
-pub record HasOneItemList (text : List ℕ) : Type 0 where
+-- A text has exactly one list of items, and their slices tile the text up to where the spans stop.
+pub record ItemsTile (text : List ℕ) : Type 0 where
   -- The text has exactly one list of items with their views.
   pub one : ExactlyOne (AreItems text)
   -- Therefore any two such lists are equal.
   pub same : (listed others : List (Result SpanView Fault)) → AreItems text listed → AreItems text others → others ≡ listed
+  -- Up to where the spans stop, each character lies in exactly one slice of one span, or in none and is whitespace or a point.
+  pub front : (listed : List (Result SpanView Fault)) (are : AreItems text listed) → IsTiled are.items.front (flat_map slices_of listed)
+  -- If no item is an error, this holds for each character of the text.
+  pub whole : (listed : List (Result SpanView Fault)) → AreItems text listed → list_all is_ok listed ≡ true
+      → IsTiled text (flat_map slices_of listed)

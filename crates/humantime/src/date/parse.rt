@@ -73,9 +73,7 @@ struct DateTime {
 ///
 /// # Errors
 ///
-/// Returns the error of the first check that fails.
-///
-/// These are the checks, in order. Bytes are counted from 0.
+/// Returns the error of the first of these checks that fails. Bytes are counted from 0.
 ///
 /// - [`InvalidFormat`](TimestampError::InvalidFormat) if the text has fewer than 19 bytes;
 /// - `InvalidFormat` if a `-` (bytes 4 and 7), the `T` or space (byte 10) or a `:` (bytes 13 and 16) is missing;

@@ -77,9 +77,8 @@ fn sum_of<'a>(text: &'a str) -> Result<StdDuration, DurationError<'a>>
 ///
 /// # Errors
 ///
-/// Returns the error of the first span that has one. The checks of a span are, in this order: that its number fits in a `u64` and its
-/// fraction has at most 19 digits before the trailing zeros; the characters; the unit; and the limits of the span and of the sum. Offsets
-/// are in bytes and lie on `char` boundaries.
+/// Returns the first error, from left to right. In a span, the checks are in this order: whether the number or the fraction is too long, the
+/// characters, the unit, and the limits of the span and of the sum. Offsets are in bytes and lie on `char` boundaries.
 ///
 /// - [`Empty`](DurationError::Empty): the text is empty or has only whitespace.
 /// - [`NumberExpected`](DurationError::NumberExpected): the first character after leading whitespace, or after a span and the

@@ -1,12 +1,13 @@
-//! The law of spans: their slices cover the text up to the end of the last span, except for whitespace and points.
+//! The law of spans: their slices cover the text up to where they stop, except for whitespace and points.
 
 ghost use Rattle.std.specs.Prelude.{chars};
-ghost use Rattle.humantime.specs.Laws.Outcomes.{HasOneItemList};
+ghost use Rattle.humantime.specs.Laws.Outcomes.{ItemsTile};
 
 /// States that [`spans`](crate::spans) yields exactly one list of items for a text, and that their slices follow each other in the text.
 ///
-/// Up to the end of the last span, everything outside the slices is whitespace or the point of a fraction. So two iterations over a
-/// text return the same slices.
+/// Up to the end of the last span and of the whitespace after it, each character lies in exactly one slice (a number, a fraction or a
+/// unit), or in none and is whitespace or a point. If no item is an error, that is the whole text. Two iterations over a text return the
+/// same slices.
 ///
 /// # Examples
 ///
@@ -21,5 +22,5 @@ ghost use Rattle.humantime.specs.Laws.Outcomes.{HasOneItemList};
 /// assert!(rt; matches!(items.next(), Some(Err(DurationError::NumberExpected(9)))));
 /// ```
 pub fn spans_tile(s: &str)
-    ensures { HasOneItemList (chars s.now) }
+    ensures { ItemsTile (chars s.now) }
 {}

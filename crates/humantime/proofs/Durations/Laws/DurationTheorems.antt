@@ -7,13 +7,14 @@ use Rattle.humantime.specs.contracts.duration.error.DurationErrorPartialEq.TheIm
 use Rattle.humantime.specs.Values.{duration_end}
 use Rattle.humantime.specs.Durations.Errors.{result_view, fault_of}
 use Rattle.humantime.specs.contracts.duration.error.DurationErrorPartialEq.TheImpl as errors
-use Rattle.humantime.specs.Laws.Outcomes.{HasOneOutcome, ItemsDecide, HasOneItemList}
+use Rattle.humantime.specs.Laws.Outcomes.{HasOneOutcome, ItemsDecide, ItemsTile}
 use Rattle.humantime.specs.Results.Items.{item_views}
 use Rattle.humantime.specs.Results.Durations.{duration_text, duration_answer, canonical_answer}
 use Rattle.humantime.specs.Laws.Printed.{PrintsAndReads, PrintApart, IsBounded, IsCanonicalAgain}
 use Rattle.humantime.proofs.Durations.Printing.CanonicalTexts as canonical
 use Rattle.humantime.proofs.Durations.Printing.GreatestCounts as counts
 use Rattle.humantime.proofs.Durations.Slices.ItemViews as views
+use Rattle.humantime.proofs.Durations.Slices.Tiled.{front_tiled, text_tiled}
 use Rattle.humantime.proofs.Durations.Reading.Outcomes as outcomes
 use Rattle.humantime.proofs.Durations.Printing.PrintedLengths as lengths
 use Rattle.humantime.proofs.Durations.Printing.PrintedSpans as printed
@@ -39,10 +40,15 @@ spans_decide text = record {
   too_large = outcomes.items_decide_overflow text;
 }
 
-pub spans_tile : (text : List ℕ) → HasOneItemList text
+pub spans_tile : (text : List ℕ) → ItemsTile text
 spans_tile text =
     let only = views.one_span_view text in
-    record { one = (item_views text, views.are_items text, only); same = λ xs ys a b. only ys b ∙ sym (only xs a) }
+    record {
+      one = (item_views text, views.are_items text, only);
+      same = λ xs ys a b. only ys b ∙ sym (only xs a);
+      front = front_tiled text;
+      whole = text_tiled text;
+    }
 
 -- If the view of a result is a value, so is the result.
 pub value_of_view : (r : Result ℕ DurationError) (v : ℕ) → result_view r ≡ Ok v → r ≡ Ok v
