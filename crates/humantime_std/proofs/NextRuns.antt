@@ -1,0 +1,60 @@
+-- The next run of a job.
+use Rattle.std.proofs.Common.{◌≡◌, ◌↔◌, ℕ, ◌+◌, ◌-◌, ◌*◌, ◌/◌, ◌%◌, ◌<◌, ◌≤◌, ℤ, pos, ◌+ℤ◌, ◌≤ℤ◌, ◌<ℤ◌, Option, None, Some, IsNone, IfSome, SomeIff, arith, ap, subst, sym, ◌∙◌, inl, inr, rules}
+use Rattle.std.proofs.Math.Nat.{add-mod-mod, mod-add-mod, mod_self}
+use Rattle.std.proofs.lemmas.Bool.{cases_lt}
+use Rattle.std.proofs.lemmas.Int.{ints}
+use Rattle.std.proofs.lemmas.Nat.{div-add-mod', mul-le, row_fits}
+use Rattle.humantime.specs.Prelude.{moment_end}
+use Rattle.humantime_std.specs.Schedule.{IsDue, IsNextRun}
+
+-- A gap and what it lacks of whole periods are whole periods.
+pub rest_of_wait : (gap every : ℕ) → 0 < every → (gap + (every - gap % every) % every) % every ≡ 0
+rest_of_wait gap every some =
+    let lack : ℕ = every - gap % every in
+    let sum : gap % every + lack ≡ every = omega arith in
+    add-mod-mod gap lack every ∙ sym (mod-add-mod gap every lack) ∙ ap (λ n. n % every) sum ∙ mod_self every
+
+-- The first run is the next one if `now` is not after the last run.
+pub first_run : (last now : ℤ) (every : ℕ) → now ≤ℤ last → IsNextRun last every now (last +ℤ pos every)
+first_run last now every early = record {
+  due = record { periods = 1; later = omega arith; at = omega (arith, ints); reached = omega (arith, ints) };
+  first = λ u due. omega (arith, ints, mul-le 1 every due.periods every due.later (omega arith));
+}
+
+-- The moment after a wait that is shorter than a period is the next run if the wait completes a period.
+pub run_after_wait : (last now : ℤ) (gap every wait : ℕ) → now ≡ last +ℤ pos gap → 0 < gap → wait < every → (gap + wait) % every ≡ 0
+    → IsNextRun last every now (now +ℤ pos wait)
+run_after_wait last now gap every wait is some short whole =
+    let k : ℕ = (gap + wait) / every in
+    let length : k * every ≡ gap + wait = omega (arith, div-add-mod' (gap + wait) every) in
+    let later : 1 ≤ k = elim (cases_lt 0 k) [
+      | inl fine ↦ fine
+      | inr none ↦ absurd (omega (arith, mul-le k every 0 every none (omega arith)))
+    ] in
+    let least : (j : ℕ) → gap ≤ j * every → k * every ≤ j * every = λ j reached. elim (cases_lt j k) [
+      | inl fewer ↦ absurd (omega (arith, row_fits j every k every fewer (omega arith)))
+      | inr fine ↦ mul-le k every j every fine (omega arith)
+    ] in
+    record {
+      due = record { periods = k; later = later; at = omega (arith, ints); reached = omega (arith, ints) };
+      first = λ u due. omega (arith, ints, least due.periods (omega (arith, ints)));
+    }
+
+-- An answer is the next run if it is that or, out of range, `None`.
+pub some_is_next : (last now t : ℤ) (every : ℕ) (r : Option ℤ) → IsNextRun last every now t → SomeIff r (t <ℤ moment_end) t
+    → IfSome r (IsNextRun last every now)
+some_is_next last now t every None is given = tt
+some_is_next last now t every (Some x) is given = subst (IsNextRun last every now) (sym given.1) is
+
+-- What is not before the end is at the end or later.
+not_before : (t end : ℤ) → ¬ (t <ℤ end) → end ≤ℤ t
+not_before t end given = grind (arith, ints)
+
+-- The answer is `None` exactly if no run in range is due.
+pub none_iff_none_due : (last now t : ℤ) (every : ℕ) (r : Option ℤ) → IsNextRun last every now t → SomeIff r (t <ℤ moment_end) t
+    → IsNone r ↔ ((u : ℤ) → IsDue last every now u → moment_end ≤ℤ u)
+none_iff_none_due last now t every None is given = (
+  λ none u due. not_before u moment_end (λ within. given (omega (arith, ints, is.first u due))),
+  λ all. search rules,
+)
+none_iff_none_due last now t every (Some x) is given = (λ none. absurd (search rules), λ all. absurd (omega (arith, ints, all t is.due)))

@@ -1,0 +1,118 @@
+//! The current time, sleep, and deadlines. No contract can say what a clock returns.
+
+ghost use Rattle.std.specs.Prelude.{◌≡◌, ◌+◌, ◌-◌, ◌↔◌, ◌≤ℤ◌, pos, IfOk, IfSome, IsSome};
+ghost use Rattle.std.specs.Time.{FitsClock, instant_nanos};
+
+use crate::durations::{duration_from_std, duration_to_std};
+use crate::times::time_from_std;
+use humantime::{StdDuration, SystemTime};
+use std::time::{self, Clock, Instant};
+use std::{io, thread};
+
+/// Returns the current time, which is not before 1970.
+///
+/// # Errors
+///
+/// Returns an error if the clock cannot be read, or reads a time before 1970, or one 2^63 seconds after 1970 or later.
+///
+/// # Examples
+///
+/// ```
+/// use humantime::{format_rfc3339_millis, parse_rfc3339};
+/// use humantime_std::now;
+///
+/// let moment = now(&rt)?;
+/// assert!(rt; moment > parse_rfc3339("2018-02-14T00:28:07Z")?);
+/// let mut buf = [0; 30];
+/// let text = format_rfc3339_millis(moment).text(&mut buf).ok_or("after 9999")?;
+/// assert_eq!(rt; text.len(), "2018-02-14T00:28:07.000Z".len());
+/// ```
+pub fn now(clock: &impl Clock) -> io::Result<SystemTime>
+    ensures { IfOk result (λ moment. pos 0 ≤ℤ moment) }
+{
+    Ok(time_from_std(time::SystemTime::now(clock)?).unwrap())
+}
+
+/// Puts the current thread to sleep for at least a duration. No contract can say how long it sleeps.
+///
+/// # Examples
+///
+/// ```
+/// use humantime::parse_duration;
+/// use humantime_std::{elapsed, sleep};
+/// use std::time::Instant;
+///
+/// let pause = parse_duration("1ms")?;
+/// let start = Instant::now(&rt)?;
+/// sleep(&rt, pause);
+/// assert!(rt; elapsed(&rt, start)? >= pause);
+/// ```
+pub fn sleep(clock: &impl Clock, duration: StdDuration) {
+    thread::sleep(clock, duration_to_std(duration))
+}
+
+/// Returns the time since an instant, less than 2^63 seconds, or zero if the clock reads an earlier one.
+///
+/// # Errors
+///
+/// Returns an error if the clock cannot be read, or reads 2^63 seconds or more.
+///
+/// # Examples
+///
+/// ```
+/// use humantime::{format_duration, parse_duration};
+/// use humantime_std::elapsed;
+/// use std::time::Instant;
+///
+/// let start = Instant::now(&rt)?;
+/// let duration = elapsed(&rt, start)?;
+/// assert!(rt; duration < parse_duration("1h")?);
+/// assert!(rt; !format_duration(duration).text(&mut [0; 64]).is_empty());
+/// ```
+pub fn elapsed(clock: &impl Clock, start: Instant) -> io::Result<StdDuration>
+    ensures { IfOk result FitsClock }
+{
+    Ok(time_left(start, Instant::now(clock)?))
+}
+
+/// Returns the end of a time limit that begins at `now`, or `None` if the clock of std ends before it: 2^63 seconds after its start.
+///
+/// # Examples
+///
+/// ```
+/// use humantime::{StdDuration, parse_duration};
+/// use humantime_std::{deadline, time_left};
+/// use std::time::Instant;
+///
+/// let start = Instant::now(&rt)?;
+/// let limit = parse_duration("1m 30s")?;
+/// let end = deadline(start, limit).ok_or("too late")?;
+/// assert_eq!(rt; time_left(start, end), limit);
+/// assert_eq!(rt; deadline(start, StdDuration::MAX), None);
+/// ```
+pub fn deadline(now: Instant, limit: StdDuration) -> Option<Instant>
+    ensures within { IsSome result ↔ FitsClock (instant_nanos now + limit) }
+    ensures end { IfSome result (λ end. instant_nanos end ≡ instant_nanos now + limit) }
+{
+    now.checked_add(duration_to_std(limit))
+}
+
+/// Returns the time from `now` to a deadline, or zero if it has passed.
+///
+/// # Examples
+///
+/// ```
+/// use humantime::StdDuration;
+/// use humantime_std::{deadline, time_left};
+/// use std::time::Instant;
+///
+/// let start = Instant::now(&rt)?;
+/// let end = deadline(start, StdDuration::from_secs(90)).ok_or("too late")?;
+/// assert_eq!(rt; time_left(start, end), StdDuration::from_secs(90));
+/// assert_eq!(rt; time_left(end, start), StdDuration::ZERO);
+/// ```
+pub fn time_left(now: Instant, deadline: Instant) -> StdDuration
+    ensures { result ≡ instant_nanos deadline - instant_nanos now }
+{
+    duration_from_std(deadline.saturating_duration_since(now))
+}

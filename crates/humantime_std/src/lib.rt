@@ -1,0 +1,26 @@
+//! `humantime` with std's `Duration`, `SystemTime` and `Instant`: conversions, the current time, sleep, deadlines, differences, and the
+//! next run of a job.
+//!
+//! The crate stands beside the port of the Rust crate `humantime`, which does not use it. A parameter `clock` takes the runtime, as `&rt`.
+//!
+//! # Examples
+//!
+//! ```
+//! use humantime::{StdDuration, parse_duration};
+//! use humantime_std::{deadline, sleep, time_left};
+//! use std::time::Instant;
+//!
+//! let limit = parse_duration("2ms 500us")?;
+//! let end = deadline(Instant::now(&rt)?, limit).ok_or("too late")?;
+//! sleep(&rt, time_left(Instant::now(&rt)?, end));
+//! assert_eq!(rt; time_left(Instant::now(&rt)?, end), StdDuration::ZERO);
+//! ```
+#![tactic(auto)]
+
+mod clocks;
+mod durations;
+mod times;
+
+pub use clocks::{deadline, elapsed, now, sleep, time_left};
+pub use durations::{checked_sub, duration_from_std, duration_to_std, offset, saturating_sub};
+pub use times::{next_run, time_checked_sub, time_from_std, time_to_std};
