@@ -1,0 +1,71 @@
+//! Settings with durations and timestamps as text: `serde` reads and writes them in JSON, TOML or another format, and an error shows its
+//! place.
+//!
+//! - [`#[serde(with = "humantime_settings")]`](Field) marks a field of a type that derives `Serialize` or `Deserialize`. An `Option` also
+//!   needs `default`, as in `#[serde(default, with = "humantime_settings")]`, to be `None` if it is missing.
+//! - [`AsText`] is an item of a list or a map.
+//! - [`from_json`] and [`from_toml`] read settings. Their error, [`SettingsError`], has the line, the column, the whole message of
+//!   `humantime`, and a mark under the fault.
+//! - [`to_json`] and [`to_toml`] write settings, each value as its canonical text.
+//!
+//! # Examples
+//!
+//! ```
+//! use humantime::{StdDuration, SystemTime};
+//! use humantime_settings::{AsText, from_json, to_json};
+//! use serde::{Deserialize, Serialize};
+//! use std::test::Fail;
+//! use std::time::Duration;
+//!
+//! #[derive(Drop, Serialize, Deserialize)]
+//! struct Settings {
+//!     #[serde(with = "humantime_settings")]
+//!     timeout: Duration,
+//!     retries: Vec<AsText<StdDuration>>,
+//!     backup: Backup,
+//! }
+//!
+//! #[derive(Drop, Serialize, Deserialize)]
+//! struct Backup {
+//!     #[serde(with = "humantime_settings")]
+//!     since: SystemTime,
+//!     #[serde(default, with = "humantime_settings")]
+//!     keep: Option<StdDuration>,
+//! }
+//!
+//! fn main(rt: HostRuntime) -> Result<(), Fail> {
+//!     let alloc = rt.alloc();
+//!     let text = r#"{"timeout": "90s", "retries": ["500ms"], "backup": {"since": "2024-01-02"}}"#;
+//!     let error = from_json::<Settings>(alloc, text).err().ok_or("read")?;
+//!     assert_eq!(rt; error.to_string(alloc)?.as_str(), r#"line 1, column 63: timestamp format is invalid
+//! {"timeout": "90s", "retries": ["500ms"], "backup": {"since": "2024-01-02"}}
+//!                                                               ^"#);
+//!
+//!     let text = r#"{"timeout": "90s", "retries": ["500ms"], "backup": {"since": "2024-01-02 03:04:05"}}"#;
+//!     let settings: Settings = from_json(alloc, text)?;
+//!     assert_eq!(rt; to_json(alloc, &settings)?.as_str(), r#"{
+//!   "timeout": "1m 30s",
+//!   "retries": [
+//!     "500ms"
+//!   ],
+//!   "backup": {
+//!     "since": "2024-01-02T03:04:05Z",
+//!     "keep": null
+//!   }
+//! }"#);
+//!     Ok(())
+//! }
+//! ```
+#![tactic(auto)]
+
+mod error;
+mod faults;
+mod fields;
+mod json_settings;
+mod toml_places;
+mod toml_settings;
+
+pub use error::{Marked, SettingsError};
+pub use fields::{AsText, Field, deserialize, serialize};
+pub use json_settings::{from_json, to_json};
+pub use toml_settings::{from_toml, to_toml};

@@ -1,0 +1,79 @@
+//! Tests that need memory.
+
+mod json_faults;
+mod toml_faults;
+pub mod values;
+
+use humantime::{Duration, StdDuration, SystemTime, Timestamp};
+use humantime_settings::{AsText, SettingsError, from_json, from_toml};
+use serde::Deserialize;
+use std::alloc::{AllocError, Global};
+use std::collections::BTreeMap;
+use std::test::Fail;
+
+#[derive(Debug, Drop, Deserialize)]
+#[serde(deny_unknown_fields)]
+struct Job {
+    name: String,
+    #[serde(with = "humantime_settings")]
+    every: StdDuration,
+    #[serde(with = "humantime_settings")]
+    since: SystemTime,
+    #[serde(default, with = "humantime_settings")]
+    keep: Option<Duration>,
+}
+
+#[derive(Debug, Drop, Deserialize)]
+struct Jobs {
+    #[serde(with = "humantime_settings")]
+    timeout: StdDuration,
+    job: Job,
+    #[serde(default)]
+    more: Vec<Job>,
+    #[serde(default)]
+    pauses: Vec<AsText<StdDuration>>,
+    #[serde(default)]
+    days: BTreeMap<String, AsText<SystemTime>>,
+    #[serde(default, with = "humantime_settings")]
+    zone: Option<Timestamp>,
+}
+
+/// Returns the place of an error, its message, and the rest of its line.
+fn shown(alloc: Global, read: Result<Jobs, SettingsError<'_>>) -> Result<String, AllocError> {
+    match read {
+        Ok(_) => String::from_str(alloc, "read"),
+        Err(SettingsError::At(fault)) => {
+            let (line, column, after) = (fault.line, fault.column(), fault.after);
+            format!(in alloc; "{line}:{column} {} | {after}", fault.message)
+        }
+        Err(error) => format!(in alloc; "{error}"),
+    }
+}
+
+#[test]
+fn marks_are_shown(rt: HostRuntime) -> Result<(), Fail> {
+    let alloc = rt.alloc();
+    let error = from_json::<Jobs>(alloc, "{\n  \"timeout\": \"10moons\"\n}").err().expect(&rt, "read");
+    assert_eq!(rt;
+        error.to_string(alloc)?.as_str(),
+        "line 2, column 17: unknown time unit \"moons\", supported units: ns, us/µs, ms, sec, min, hours, days, weeks, months, years (and few variations)\n  \"timeout\": \"10moons\"\n                ^"
+    );
+    for (text, message) in &[
+        ("\ttimeout = 'é 10moons'", "line 1, column 13: expected number at 0\n\ttimeout = 'é 10moons'\n\t           ^"),
+        (
+            "# µ\r\ntimeout = '1x 2'\r\n",
+            "line 2, column 13: unknown time unit \"x\", supported units: ns, us/µs, ms, sec, min, hours, days, weeks, months, years (and few variations)\ntimeout = '1x 2'\n            ^",
+        ),
+    ] {
+        let error = from_toml::<Jobs>(alloc, text).err().expect(&rt, "read");
+        assert_eq!(rt; error.to_string(alloc)?.as_str(), *message);
+    }
+    // A line of 500 bytes is shown, and a longer one is not.
+    let spaces = " ".repeat(alloc, 486)?;
+    for (text, has_line) in &[("1", true), ("11", false)] {
+        let document = format!(in alloc; "timeout = '{spaces}{text}~'")?;
+        let error = from_toml::<Jobs>(alloc, &document).err().expect(&rt, "read");
+        assert_eq!(rt; error.to_string(alloc)?.contains("\n"), *has_line);
+    }
+    Ok(())
+}

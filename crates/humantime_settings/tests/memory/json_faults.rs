@@ -1,0 +1,55 @@
+//! Errors in JSON, with their places.
+
+use crate::memory::shown;
+use humantime_settings::from_json;
+use std::test::Fail;
+
+const CASES: &[(&str, &str)] = &[
+    // The first field, the last one, and one of an object inside.
+    (
+        r#"{"timeout":"2h 7","job":{"name":"é","every":"1d","since":"2018-02-14T00:28:07Z"}}"#,
+        r#"1:17 time unit needed, for example 7sec or 7ms | ","job":{"name":"é","every":"1d","since":"2018-02-14T00:28:07Z"}}"#,
+    ),
+    (
+        "{\n  \"timeout\": \"2h\",\n  \"job\": {\"name\": \"é \", \"every\": \"5us\", \"since\": \"2018-02-14T00:28:07Z\"},\n\t\"zone\": \"\"\n}",
+        r#"4:10 timestamp format is invalid | """#,
+    ),
+    // Characters of several bytes before the fault: its offset in the message counts bytes from the value, and its column characters.
+    (
+        "{\n  \"timeout\": \"2h\",\n  \"job\": {\"name\": \"é 5µs x\", \"every\": \"5µs x\", \"since\": \"2018-02-14T00:28:07Z\"}\n}",
+        r#"3:44 expected number at 5 | x", "since": "2018-02-14T00:28:07Z"}"#,
+    ),
+    // A timestamp, which has no offset and is marked at its first character.
+    (
+        "{\n  \"timeout\": \"2h\",\n  \"job\": {\"name\": \"é \", \"every\": \"5us\", \"since\": \"2018-02-30T00:28:07Z\"}\n}",
+        r#"3:51 numeric component is out of range | 2018-02-30T00:28:07Z"}"#,
+    ),
+    // What is no text, an escape, and an item of a list or a map.
+    (
+        "{\n  \"timeout\": 2,\n  \"job\": {\"name\": \"é \", \"every\": \"5us\", \"since\": \"2018-02-14T00:28:07Z\"}\n}",
+        "2:14 invalid type | 2,",
+    ),
+    (
+        "{\n  \"timeout\":\n  [\"2h\"],\n  \"job\": {\"name\": \"é \", \"every\": \"5us\", \"since\": \"2018-02-14T00:28:07Z\"}\n}",
+        r#"3:3 invalid type | ["2h"],"#,
+    ),
+    (
+        "{\n  \"timeout\": \"2h\",\n  \"job\": {\"name\": \"é \", \"every\": \"5us\", \"since\": \"2018-02-14T00:28:07Z\", \"keep\": \"\\u0031h\\t2 \\\"\"}\n}",
+        r#"3:82 invalid character at 5 | "\u0031h\t2 \""}"#,
+    ),
+    (r#"{"timeout":"2h","pauses":["1s","2s","1 é"],"job":{}}"#, r#"1:40 invalid character at 2 | é"],"job":{}}"#),
+    (r#"{"timeout":"2h","days":{"a":"2018-02-14 00:28:07","b":"1h"}}"#, r#"1:56 timestamp format is invalid | 1h"}}"#),
+    // What is missing, unknown or cut.
+    ("{\n  \"timeout\": \"2h\",\n  \"job\": {\"name\": \"é\", \"every\": \"5us\"}\n}", "3:38 missing field `since` | }"),
+    ("{\"timeout\":\"2h\",\n\"job\":{\"nmae\":\"é\"}}", r#"2:8 unknown field | "nmae":"é"}}"#),
+    (r#"{"timeout":"2h""#, r#"1:15 EOF while parsing | ""#),
+];
+
+#[test]
+fn faults_in_json(rt: HostRuntime) -> Result<(), Fail> {
+    let alloc = rt.alloc();
+    for (text, message) in CASES {
+        assert_eq!(rt; shown(alloc, from_json(alloc, text))?.as_str(), *message);
+    }
+    Ok(())
+}

@@ -1,0 +1,69 @@
+//! Errors in TOML, with their places.
+
+use crate::memory::shown;
+use humantime_settings::from_toml;
+use std::test::Fail;
+
+/// The table in the middle of each document.
+const JOB: &str = "[job]\nname = \"5µs x\"\nevery = \"1d\"\nsince = \"2018-02-14T00:28:07Z\"\n";
+
+/// What a document has before and after this table, and its error.
+const CASES: &[(&str, &str, &str)] = &[
+    // The first field, the last one, and one of a table inside, which comments and other fields repeat.
+    ("timeout = \"2h 7\"\n", "", "1:16 time unit needed, for example 7sec or 7ms | \""),
+    ("timeout = '2h'\n", "keep = '1h 5µs x' # '1h'", "6:16 expected number at 8 | x' # '1h'"),
+    ("zone = '1h'\ntimeout = '2h'\n", "", "1:9 timestamp format is invalid | 1h'"),
+    ("", "", "missing field `timeout`"),
+    ("# every = '5µs x'\ntimeout = '2h'\n", "[[more]]\nname = 'a'\nevery = '5µs x'\nsince = ''", "9:14 expected number at 5 | x'"),
+    // The first of two tables is right, and the second is not.
+    (
+        "timeout = '2h'\n",
+        "[[more]]\nname = 'a'\nevery = '1s'\nsince = '2018-02-14 00:28:07'\n[[more]]\nname = 'a'\nevery = '1s'\nsince = '2018-02-30 00:28:07'\n",
+        "13:10 numeric component is out of range | 2018-02-30 00:28:07'",
+    ),
+    // Inline tables, dotted and quoted keys, and lists, on several lines.
+    ("timeout = '2h'\nmore = [\n  { name = 'b', # [\n    every = '1 s é' },\n]\n", "", "4:18 expected number at 4 | é' },"),
+    ("\"timeout\" = '1~'\n", "", "1:15 invalid character at 1 | ~'"),
+    ("timeout = '1s'\ndays.a = '2018-02-14 00:28:07'\ndays . \"b\" = '2018-02-14'\n", "", "3:15 timestamp format is invalid | 2018-02-14'"),
+    ("timeout = '1s'\npauses = [ '1s', # '1 é'\n '2s' , '1 é' ]\n", "", "3:12 invalid character at 2 | é' ]"),
+    ("timeout = \"\"\"\n1s\n2s x\"\"\"\n", "", "3:4 expected number at 6 | x\"\"\""),
+    // What is no text.
+    ("timeout = 30\n", "", "1:11 invalid type: integer `30`, expected a string | 30"),
+    ("timeout = [ '2h' ]\n", "", "1:11 invalid type: sequence, expected a string | [ '2h' ]"),
+    ("timeout = '2h'\npauses = [ '1s', 2, '3s' ]\n", "", "2:18 invalid type: integer `2`, expected a string | 2, '3s' ]"),
+    ("timeout = '2h'\nzone = 2018-02-14 00:28:07Z # UTC\n", "", "2:8 invalid type: map, expected a string | 2018-02-14 00:28:07Z # UTC"),
+    ("timeout = { a = '2h' }\n", "", "1:11 invalid type: map, expected a string | { a = '2h' }"),
+    ("timeout = '2h'\npauses = '1s'\n", "", "2:10 invalid type: string \"1s\", expected a sequence | '1s'"),
+    // A value with an escape is marked at its start.
+    ("timeout = \"\\u0031d\\t2 ~\"\n", "", "1:11 invalid character at 5 | \"\\u0031d\\t2 ~\""),
+    // What is missing or unknown has no mark.
+    ("timeout = '2h'\n", "nmae = 'a'\n", "unknown field `nmae` in `job`"),
+    ("timeout = '2h'\n", "[[more]]\nname = 'a'\nevery = '1s'\n", "missing field `since` in `more`"),
+    // Documents that TOML rejects, and one with a byte order mark.
+    ("timeout = \"2h\n", "", "1:14 invalid string | "),
+    ("timeout = '2h'\ntimeout = '2h'\n", "", "2:1 duplicate key | timeout = '2h'"),
+    ("\u{feff}# a comment\ntimeout = '1h x'\n", "", "2:15 expected number at 3 | x'"),
+];
+
+#[test]
+fn faults_in_toml(rt: HostRuntime) -> Result<(), Fail> {
+    let alloc = rt.alloc();
+    for (before, after, message) in CASES {
+        let text = format!(in alloc; "{before}{JOB}{after}")?;
+        assert_eq!(rt; shown(alloc, from_toml(alloc, &text))?.as_str(), *message);
+    }
+    Ok(())
+}
+
+#[test]
+fn keys_of_up_to_80_bytes_are_found(rt: HostRuntime) -> Result<(), Fail> {
+    let alloc = rt.alloc();
+    for (count, is_marked) in &[(75, true), (76, false)] {
+        let key = "k".repeat(alloc, *count)?;
+        let text = format!(in alloc; "timeout = '1s'\n{JOB}[days]\n{key} = '1h'\n")?;
+        let told = shown(alloc, from_toml(alloc, &text))?;
+        assert_eq!(rt; told.starts_with("7:"), *is_marked);
+        assert_eq!(rt; told.starts_with("not a timestamp in `days.kkk"), !*is_marked);
+    }
+    Ok(())
+}
