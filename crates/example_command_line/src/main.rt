@@ -1,0 +1,90 @@
+//! Prints the options of a command line. `--help` shows their defaults in canonical form, and a wrong duration gets a mark.
+//!
+//! The exit status is 0, or 2 for wrong arguments, or 3 if writing fails or memory is refused.
+#![tactic(auto)]
+
+use clap::error::ErrorKind;
+use clap::{Command, Error, arg};
+use humantime::{Duration, DurationError, Timestamp};
+use humantime_std::offset;
+use std::alloc::{AllocError, Global};
+use std::process::ExitCode;
+use std::{env, io};
+
+/// The options of the command line.
+#[derive(Clone, Copy, Debug, PartialEq)]
+pub struct Options {
+    pub timeout: Duration,
+    pub window: Duration,
+    pub since: Option<Timestamp>,
+}
+
+fn main(rt: HostRuntime) -> ExitCode {
+    let status = run(&rt).unwrap_or_else(|error| {
+        let _ = eprintln!(rt; "example_command_line: {error}"); // The status tells it, too.
+        3
+    });
+    ExitCode::from(status)
+}
+
+/// Prints the options, or what is wrong with them, and returns the exit status.
+fn run(rt: &HostRuntime) -> io::Result<u8> {
+    let words = env::args(rt)?.collect::<Vec<String>>(rt.alloc())?;
+    match options_of(rt.alloc(), &words) {
+        Ok(options) => {
+            println!(rt; "timeout {}, window {}", options.timeout, options.window)?;
+            if let Some(since) = options.since {
+                println!(rt; "since {since}")?;
+            }
+            Ok(0)
+        }
+        Err(error) if error.kind() == ErrorKind::OutOfMemory => Err(AllocError.into()),
+        Err(error) => {
+            error.print(rt)?;
+            Ok(error.exit_code() as u8)
+        }
+    }
+}
+
+/// Returns the options of a command line, whose first word is the program.
+pub fn options_of(alloc: Global, words: &[String]) -> Result<Options, Error> {
+    let mut command = command(alloc)?;
+    let matches = command.try_get_matches_from_mut(words)?;
+    let timeout = matches.get_str("timeout").unwrap_or("");
+    let window = matches.get_str("window").unwrap_or("");
+    let since = matches.try_get_one("since");
+    let (name, message) = match (
+        Duration::from_str(timeout),
+        Duration::from_str(window),
+        since,
+    ) {
+        (Ok(timeout), Ok(window), Ok(since)) => return Ok(Options {
+            timeout,
+            window,
+            since,
+        }),
+        (Err(error), _, _) => ("timeout", marked(alloc, timeout, error)?),
+        (_, Err(error), _) => ("window", marked(alloc, window, error)?),
+        (_, _, Err(error)) => ("since", error.to_string(alloc)?),
+    };
+    let message = format!(in alloc; "--{name}: {message}")?;
+    Err(command.error(ErrorKind::ValueValidation, &message)?)
+}
+
+/// Creates the command. A duration may begin with a hyphen, so that the library says what is wrong with `-1s`.
+fn command<'a>(alloc: Global) -> Result<Command<'a>, AllocError> {
+    let timeout = arg!(in alloc; --timeout <DURATION> "How long to wait").default_value("30s");
+    let window = arg!(in alloc; --window <DURATION> "How far to go").default_value("1year");
+    let since = arg!(in alloc; --since <TIMESTAMP> "Where to begin");
+    Command::new(alloc, "example_command_line")
+        .arg(timeout.allow_hyphen_values(true))?
+        .arg(window.allow_hyphen_values(true))?
+        .arg(since)
+}
+
+/// Returns the message for a wrong duration: what is wrong, and the text with a mark under the fault.
+fn marked(alloc: Global, text: &str, error: DurationError<'_>) -> Result<String, AllocError> {
+    let before = text.get(..offset(&error).unwrap_or(0)).unwrap_or("");
+    let column = before.chars().count().saturating_add(1);
+    format!(in alloc; "{error}\n  {text}\n  {:>column$}", "^")
+}

@@ -1,0 +1,52 @@
+//! Command lines that are wrong, the defaults, and help.
+#![tactic(auto)]
+
+use clap::Error;
+use example_command_line::{Options, options_of};
+use humantime::{Duration, StdDuration};
+use std::alloc::{AllocError, Global};
+use std::test::Fail;
+
+/// Returns the options of these words after the program's name.
+fn parsed(alloc: Global, words: &[&str]) -> Result<Result<Options, Error>, AllocError> {
+    let mut line = Vec::new(alloc);
+    line.push(String::from_str(alloc, "example_command_line")?)?;
+    for word in words {
+        line.push(String::from_str(alloc, word)?)?;
+    }
+    Ok(options_of(alloc, &line))
+}
+
+#[test]
+fn a_wrong_value_is_marked(rt: HostRuntime) -> Result<(), Fail> {
+    for (words, message) in &[
+        (["--window", "-1s"], "error: --window: expected number at 0\n  -1s\n  ^\n"),
+        (["--timeout", "5µs x"], "error: --timeout: expected number at 5\n  5µs x\n      ^\n"),
+        (["--timeout", ""], "error: --timeout: value was empty\n  \n  ^\n"),
+        (["--since", "yesterday"], "error: --since: timestamp format is invalid\n"),
+        (["--since", "2018-02-30T00:00:00Z"], "error: --since: numeric component is out of range\n"),
+        (["--until", "1h"], "error: unexpected argument '--until' found\n"),
+    ] {
+        let error = parsed(rt.alloc(), words)?.err().ok_or("options")?;
+        let text = error.to_string(rt.alloc())?;
+        assert!(rt; text.starts_with(message), "{text}");
+        assert!(rt; text.contains("Usage: example_command_line [OPTIONS]"), "{text}");
+        assert_eq!(rt; error.exit_code(), 2);
+    }
+    Ok(())
+}
+
+#[test]
+fn defaults_are_shown(rt: HostRuntime) -> Result<(), Fail> {
+    let options = Options {
+        timeout: Duration::new(StdDuration::from_secs(30)),
+        window: Duration::new(StdDuration::from_secs(31_557_600)),
+        since: None,
+    };
+    assert_eq!(rt; parsed(rt.alloc(), &[])?.ok(), Some(options));
+    let help = parsed(rt.alloc(), &["--help"])?.err().ok_or("options")?;
+    assert_eq!(rt; help.exit_code(), 0);
+    let text = help.to_string(rt.alloc())?;
+    assert!(rt; text.contains("[default: 30s]") && text.contains("[default: 1year]"), "{text}");
+    Ok(())
+}

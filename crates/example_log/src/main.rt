@@ -1,0 +1,88 @@
+//! Prints the lines of a log on standard input whose moments are in a range: `example_log FROM TO`, where TO is not in the range.
+//!
+//! A line has its timestamp at the front. A line without one goes with the line before it, and is left out if there is none.
+//!
+//! The exit status is 0, or 2 for wrong arguments, or 3 if reading or writing fails or memory is refused.
+#![tactic(auto)]
+
+use humantime::{SystemTime, TimestampError, parse_rfc3339_weak};
+use std::alloc::Global;
+use std::io::{self, BufRead, BufReader, BufWriter, Read, Write};
+use std::ops::Range;
+use std::process::ExitCode;
+use std::{env, str};
+
+/// The most bytes of a line that are in memory. A longer line is copied in pieces.
+const PIECE: u64 = 65_536;
+
+/// The length of a date and the byte after it, which may be a space.
+const DATE: usize = 11;
+
+fn main(rt: HostRuntime) -> ExitCode {
+    let status = run(&rt).unwrap_or_else(|error| {
+        let _ = eprintln!(rt; "example_log: {error}"); // The status tells it, too.
+        3
+    });
+    ExitCode::from(status)
+}
+
+/// Copies the lines between the moments that the arguments name, and returns the exit status.
+fn run(rt: &HostRuntime) -> io::Result<u8> {
+    let words = env::args(rt)?.skip(1).collect::<Vec<String>>(rt.alloc())?;
+    let [from, to] = words.as_slice() else {
+        eprintln!(rt; "usage: example_log FROM TO")?;
+        return Ok(2);
+    };
+    match range_of(from, to) {
+        Ok(range) => {
+            let mut log = BufReader::new(rt.alloc(), rt.stdin())?;
+            let mut out = BufWriter::new(rt.alloc(), rt.stdout())?;
+            copy_lines(rt.alloc(), &range, &mut log, &mut out)?;
+            Ok(0)
+        }
+        Err((name, error)) => {
+            eprintln!(rt; "example_log: {name}: {error}")?;
+            Ok(2)
+        }
+    }
+}
+
+/// Returns the range between two timestamps, or the name of the one that is wrong and its error.
+pub fn range_of(from: &str, to: &str) -> Result<Range<SystemTime>, (&'static str, TimestampError)> {
+    let from = parse_rfc3339_weak(from).map_err(|error| ("FROM", error))?;
+    let to = parse_rfc3339_weak(to).map_err(|error| ("TO", error))?;
+    Ok(from..to)
+}
+
+/// Copies the lines of a log whose moments are in a range, each with the lines without a timestamp that follow it.
+pub fn copy_lines<R: BufRead, W: Write>(
+    alloc: Global,
+    range: &Range<SystemTime>,
+    log: &mut R,
+    out: &mut W,
+) -> io::Result<()> {
+    let mut piece = Vec::new(alloc);
+    let (mut is_first, mut is_kept) = (true, false);
+    for _ in 0..u64::MAX {
+        piece.clear();
+        if log.by_ref().take(PIECE).read_until(b'\n', &mut piece)? == 0 {
+            break;
+        }
+        if is_first && let Some(moment) = moment_of(&piece) {
+            is_kept = range.contains(&moment);
+        }
+        if is_kept {
+            out.write_all(&piece)?;
+        }
+        is_first = piece.ends_with(b"\n");
+    }
+    out.flush()
+}
+
+/// Returns the moment of the timestamp at the front of a line, or `None` if there is none.
+fn moment_of(line: &[u8]) -> Option<SystemTime> {
+    let time = line.get(DATE..)?;
+    let end = time.iter().position(|byte| byte.is_ascii_whitespace());
+    let stamp = line.get(..DATE + end.unwrap_or(time.len()))?;
+    parse_rfc3339_weak(str::from_utf8(stamp).ok()?).ok()
+}

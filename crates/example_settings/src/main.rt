@@ -1,0 +1,71 @@
+//! Checks a settings file and prints it in canonical form: `example_settings FILE`, with a file in TOML.
+//!
+//! The exit status is 0 if the settings are valid, 2 unless there is exactly one argument, and 1 for any other error. If the settings have
+//! an error, standard error has the name of the file, the line, the column, what is wrong, and the line with a mark under the fault.
+#![tactic(auto)]
+
+use humantime::{Duration, StdDuration, SystemTime};
+use humantime_settings::{AsText, SettingsError, from_toml, to_toml};
+use serde::{Deserialize, Serialize};
+use std::alloc::Global;
+use std::collections::BTreeMap;
+use std::process::ExitCode;
+use std::{env, fs, io, time};
+
+/// The settings of a program.
+#[derive(Drop, Serialize, Deserialize)]
+#[serde(deny_unknown_fields)]
+struct Settings {
+    /// How long a request may take.
+    #[serde(with = "humantime_settings")]
+    timeout: time::Duration,
+    /// How long to wait before each further request.
+    retries: Vec<AsText<StdDuration>>,
+    backup: Backup,
+    /// When the program is switched off, by the name of the occasion.
+    breaks: BTreeMap<String, AsText<SystemTime>>,
+}
+
+/// The settings of backups.
+#[derive(Drop, Serialize, Deserialize)]
+#[serde(deny_unknown_fields)]
+struct Backup {
+    #[serde(with = "humantime_settings")]
+    every: StdDuration,
+    #[serde(with = "humantime_settings")]
+    since: SystemTime,
+    /// How long a backup is kept: for ever, if there is no such line.
+    #[serde(default, with = "humantime_settings")]
+    keep: Option<Duration>,
+}
+
+/// Returns the canonical form of settings.
+fn canonical(alloc: Global, text: &str) -> Result<String, SettingsError<'_>> {
+    let settings: Settings = from_toml(alloc, text)?;
+    to_toml(alloc, &settings)
+}
+
+fn main(rt: HostRuntime) -> io::Result<ExitCode> {
+    let words = env::args(&rt)?.skip(1).collect::<Vec<String>>(rt.alloc())?;
+    let [path] = words.as_slice() else {
+        eprintln!(rt; "usage: example_settings FILE")?;
+        return Ok(ExitCode::from(2));
+    };
+    let text = match fs::read_to_string(&rt, path.as_str()) {
+        Ok(text) => text,
+        Err(error) => {
+            eprintln!(rt; "{path}: {error}")?;
+            return Ok(ExitCode::FAILURE);
+        }
+    };
+    match canonical(rt.alloc(), &text) {
+        Ok(settings) => {
+            print!(rt; "{settings}")?;
+            Ok(ExitCode::SUCCESS)
+        }
+        Err(error) => {
+            eprintln!(rt; "{path}: {error}")?;
+            Ok(ExitCode::FAILURE)
+        }
+    }
+}

@@ -1,0 +1,106 @@
+//! Prints the lines `NAME<TAB>DURATION` of standard input as a table, with the total and the name of the longest.
+//!
+//! The exit status is 0, or 1 if a line is wrong, or 3 if reading or writing fails or memory is refused.
+#![tactic(auto)]
+
+use humantime::{DurationError, StdDuration, format_duration, parse_duration};
+use humantime_std::offset;
+use std::alloc::{AllocError, Global};
+use std::io::{self, Write};
+use std::process::ExitCode;
+use thiserror::Error;
+
+/// A row of the table.
+#[derive(Clone, Copy, Debug)]
+struct Row<'a> {
+    name: &'a str,
+    duration: StdDuration,
+}
+
+/// What is wrong with a line.
+#[derive(Clone, Copy, Debug, Error)]
+enum Fault<'a> {
+    #[error("a tab and a duration are missing")]
+    NoTab,
+    #[error("{0}")]
+    Duration(DurationError<'a>),
+    #[error("the total is longer than any duration")]
+    TotalTooLong,
+}
+
+fn main(rt: HostRuntime) -> ExitCode {
+    let text = io::read_to_string(rt.alloc(), rt.stdin());
+    let ran = text.and_then(|text| run(rt.alloc(), &text, &mut rt.stdout(), &mut rt.stderr()));
+    let status = ran.unwrap_or_else(|error| {
+        let _ = eprintln!(rt; "example_table: {error}"); // The status tells it, too.
+        3
+    });
+    ExitCode::from(status)
+}
+
+/// Writes the table of a text, or what is wrong with its first wrong line, and returns the exit status.
+pub fn run(
+    alloc: Global,
+    text: &str,
+    out: &mut impl Write,
+    err: &mut impl Write,
+) -> io::Result<u8> {
+    let mut rows = Vec::new(alloc);
+    let mut total = StdDuration::ZERO;
+    for (index, line) in text.lines().enumerate() {
+        match row_of(line, total) {
+            Ok((row, sum)) => {
+                if rows.push(row).is_err() {
+                    return Err(AllocError.into());
+                }
+                total = sum;
+            }
+            Err(fault) => {
+                let mark = mark_of(alloc, line, fault)?;
+                let number = index + 1;
+                writeln!(err, "example_table: line {number}: {fault}\n{line}\n{mark}")?;
+                return Ok(1);
+            }
+        }
+    }
+    out.write_all(table_of(alloc, &rows, total)?.as_bytes())?;
+    Ok(0)
+}
+
+/// Returns the row of a line, and the sum of its duration and the total so far.
+fn row_of(line: &str, total: StdDuration) -> Result<(Row<'_>, StdDuration), Fault<'_>> {
+    let (name, text) = line.split_once('\t').ok_or(Fault::NoTab)?;
+    let duration = parse_duration(text).map_err(|error| Fault::Duration(error))?;
+    let sum = total.checked_add(duration).ok_or(Fault::TotalTooLong)?;
+    Ok((Row { name, duration }, sum))
+}
+
+/// Returns the text to print under a line, with a mark under its fault.
+fn mark_of(alloc: Global, line: &str, fault: Fault<'_>) -> Result<String, AllocError> {
+    let start = line.find('\t').map_or(line.len(), |tab| tab + 1);
+    let at = match fault {
+        Fault::Duration(error) => start.saturating_add(offset(&error).unwrap_or(0)),
+        _ => start,
+    };
+    let before = line.get(..at).unwrap_or("").chars();
+    let blanks = before.map(|c| if c == '\t' { c } else { ' ' });
+    blanks.chain(['^']).collect(alloc)
+}
+
+/// Returns the text of a table.
+fn table_of(alloc: Global, rows: &[Row<'_>], total: StdDuration) -> Result<String, AllocError> {
+    let mut width = "longest".len();
+    for row in rows {
+        width = width.max(row.name.chars().count());
+    }
+    let mut table = String::new(alloc);
+    for row in rows {
+        let duration = format_duration(row.duration);
+        writeln!(table, "{:<width$}  {duration}", row.name)?;
+    }
+    writeln!(table, "{:<width$}  {}", "total", format_duration(total))?;
+    if let Some(row) = rows.iter().max_by_key(|row| row.duration) {
+        writeln!(table, "{:<width$}  {}", "longest", row.name)?;
+    }
+    Ok(table)
+}
