@@ -1,10 +1,6 @@
 //! No call allocates, and printing into memory returns an error if an allocation fails.
 
 use crate::support::{assert_nothing_allocated, assert_same, refuse_memory};
-use humantime::{StdDuration, UNIX_EPOCH};
-use humantime_examples::how_to::settings_file::read_settings;
-use humantime_examples::option::timeout;
-use humantime_examples::report;
 use humantime_tests_rows::{Row, TABLE, unescape};
 use std::alloc::{AllocError, Allocator, Global};
 use std::cell::Cell;
@@ -115,22 +111,4 @@ fn results_are_printed_into_a_string_or_memory_is_refused(rt: HostRuntime) {
         assert_printed(&rt, &row, false, wanted);
         assert_printed(&rt, &row, true, wanted);
     }
-}
-
-#[test]
-fn lines_of_programs_are_printed_into_a_string_or_memory_is_refused(rt: HostRuntime) {
-    pass_refusal(&rt);
-    let row = report::Row {
-        start: UNIX_EPOCH,
-        took: StdDuration::from_micros(90_000_012),
-        limit: StdDuration::from_secs(7200),
-    };
-    let text = "1970-01-01T00:00:00.000Z  1m 30s 12µs of 2h";
-    assert_printed(&rt, &row, false, text);
-    let error = timeout(&["--timeout=7"]).err().expect(&rt, "no error");
-    let text = "--timeout=7: time unit needed, for example 7sec or 7ms";
-    assert_printed(&rt, &error, false, text);
-    let error = read_settings("timeout = 5µs x").err().expect(&rt, "no error");
-    let text = "line 1: expected number at 5\ntimeout = 5µs x\n              ^";
-    assert_printed(&rt, &error, false, text);
 }

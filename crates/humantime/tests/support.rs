@@ -8,9 +8,12 @@ pub(crate) fn assert_same<T: Eq + Debug + Drop>(rt: &impl Abort, left: T, right:
     assert_eq!(rt; left, right);
 }
 
+/// The number of allocations that succeed in each test, before one that `rt try` lets fail.
+const GRANTED: u32 = 59;
+
 /// Allocates until the next allocation is the one that fails, `made` of them having been made before.
 pub(crate) fn refuse_memory(rt: &(impl Abort + AllocGlobal), made: u32) {
-    for _ in made..crate::GRANTED {
+    for _ in made..GRANTED {
         let _taken = Box::new(rt.alloc(), 0_u8).expect(rt, "no memory");
     }
 }

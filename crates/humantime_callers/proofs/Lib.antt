@@ -1,0 +1,15 @@
+pub mod CountedDays
+pub mod FirstDigits
+pub mod Kept
+pub mod LastErrors
+pub mod LongFractions
+pub mod Rounding
+pub mod WorkedCharacters
+pub mod WorkedDays
+pub mod WorkedLengths
+pub mod WorkedMessages
+pub mod WorkedOlder
+pub mod WorkedPrinted
+pub mod WorkedTexts
+pub mod WorkedTimestamps
+pub mod WorkedWords

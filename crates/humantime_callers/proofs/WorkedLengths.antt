@@ -1,0 +1,120 @@
+-- What holds of texts of any length: of their digits, zeros, letters and whitespace, from the definitions alone.
+use Rattle.std.proofs.Common.{◌≡◌, ◌≢◌, ℕ, ◌+◌, ◌*◌, List, [], ◌∷◌, ◌++◌, Option, Some, None, length, take, refl, sym, ap, ◌∙◌, arith, append_assoc, append-nil, inl}
+use Rattle.std.specs.Prelude.{codes, pos, IsTrue, encode_utf8_all}
+use Rattle.std.specs.Str.{byte, all_ascii_digits}
+use Rattle.std.proofs.Math.Seq.{take-append_seam}
+use Rattle.std.proofs.lemmas.Grind.{common_steps}
+use Rattle.humantime.specs.Texts.{decimal_value, drop_while}
+use Rattle.humantime.specs.Prelude.{Reads, SpelledSpan, HasFault, UnknownUnit, IsStrictMoment, nanos_per_second}
+use Rattle.humantime.specs.Durations.Characters.{byte_length, is_digit, is_letter, is_whitespace, offset_of}
+use Rattle.humantime.specs.Durations.Spans.{HoldsDigits, IsLetters, Only, Spells}
+use Rattle.humantime.specs.Durations.Accepted.{additions_of, fits, fraction_fits, too_long, of_kind, part, size}
+use Rattle.humantime.specs.Durations.Units.{scale_of_word}
+use Rattle.humantime.specs.Durations.Faults.{UnknownWord, after_fraction, after_word, number_of, word_of}
+use Rattle.humantime.specs.Timestamps.Fields.{Letter_T, Letter_Z}
+use Rattle.humantime.proofs.Durations.Reading.Classes.{digit_is_numeric}
+use Rattle.humantime.proofs.Durations.Reading.Runs.{drop_while-append}
+use Rattle.humantime.proofs.Durations.Reading.Spelled.{read_spelled, spelled_here}
+use Rattle.humantime.proofs.Durations.Reading.Summed.{within_tells}
+use Rattle.humantime.proofs.Durations.Reading.SignificantDigits.{amount_kept, significant_zero}
+use Rattle.humantime.proofs.OnLiterals.{humantime_on_literals}
+use Rattle.humantime.proofs.TimestampsOnLiterals.{timestamps_on_literals}
+
+-- Digits alone are the digits that they hold.
+digits_held : (ds : List ℕ) → Only is_digit ds → HoldsDigits ds ds
+digits_held [] only = (tt, refl)
+digits_held (d ∷ ds) only = let more = digits_held ds only.1 in grind (arith, common_steps, digit_is_numeric)
+
+-- A span is read with all its digits and letters, after and before any whitespace.
+any_span : (before number ds word after : List ℕ) → Only is_whitespace before → Only is_digit number → number ≢ [] → Only is_digit ds → ds ≢ []
+    → IsLetters word → Only is_whitespace after
+    → Reads (before ++ (number ++ (codes "." ++ (ds ++ (word ++ after))))) (record { number = number; fraction = Some ds; word = word } ∷ [])
+any_span before number ds word after white digits some fraction any letters more = (
+  record {
+    whitespace = before;
+    body = _;
+    whole = refl;
+    only_whitespace = white;
+    each = (
+      [],
+      record {
+        number_text = number;
+        fraction_text = byte "." ∷ ds;
+        whitespace = after;
+        whole = rw (append-nil after) refl;
+        starts = grind arith;
+        number = digits_held number digits;
+        fraction = (ds, refl, digits_held ds fraction, any);
+        word = letters;
+        only_whitespace = more;
+      },
+      refl,
+    );
+  },
+  λ none. cc,
+)
+
+-- A zero after the last digit of a fraction changes nothing, and neither does one before the first digit of a number.
+abbrev AreAlike : SpelledSpan → SpelledSpan → Type 0
+AreAlike a b = (too_long a ≡ too_long b) × (fits a ≡ fits b) × (additions_of a ≡ additions_of b)
+
+zero_fits : (one : Option _) (ds : List ℕ) → fraction_fits one (Some (ds ++ byte "0" ∷ [])) ≡ fraction_fits one (Some ds)
+zero_fits None ds = rw (significant_zero ds) refl
+zero_fits (Some one) ds = rw (significant_zero ds) refl
+
+zero_adds : (one : _) (ds : List ℕ) → part (ds ++ byte "0" ∷ []) one ≡ part ds one
+zero_adds one ds = ap (of_kind one) (amount_kept (size one) (ds ++ byte "0" ∷ []) ∙ rw (significant_zero ds) (sym (amount_kept (size one) ds)))
+
+zero_after : (number ds word : List ℕ)
+    → AreAlike (record { number = number; fraction = Some (ds ++ byte "0" ∷ []); word = word }) (record { number = number; fraction = Some ds; word = word })
+zero_after number ds word = (rw (significant_zero ds) refl, grind (arith, zero_fits), grind (arith, zero_adds))
+
+zero_before : (number word : List ℕ) (fraction : Option (List ℕ))
+    → AreAlike (record { number = byte "0" ∷ number; fraction = fraction; word = word }) (record { number = number; fraction = fraction; word = word })
+zero_before number word fraction = (refl, grind (arith, common_steps), grind (arith, common_steps))
+
+-- A word that is no unit is the error, however long it is.
+any_word : (word : List ℕ) → IsLetters word → scale_of_word word ≡ None
+    → HasFault (codes "1" ++ word) (UnknownUnit 1 (1 + byte_length word) (encode_utf8_all word) 1)
+unfolding humantime_on_literals
+any_word word letters none =
+    let spells : Spells (codes "1" ++ word) (record { number = codes "1"; fraction = None; word = word }) [] = record {
+      number_text = codes "1";
+      fraction_text = [];
+      whitespace = [];
+      whole = ap (λ (cs : List ℕ). codes "1" ++ cs) (sym (append-nil word));
+      starts = refl;
+      number = ((refl, tt), refl);
+      fraction = refl;
+      word = letters;
+      only_whitespace = tt;
+    } in
+    let found = rw (append-nil (codes "1" ++ word)) at (spelled_here (codes "1" ++ word) [] _ spells (inl refl) refl) in
+    let tail = (read_spelled (codes "1" ++ word) [] _ spells).tail_is in
+    let after : after_fraction (codes "1" ++ word) ≡ word = tail ∙ append-nil word in
+    let end : after_word (codes "1" ++ word) ≡ [] = ap (drop_while is_letter) tail ∙ drop_while-append is_letter word [] letters.0 refl in
+    let same : word_of (codes "1" ++ word) ≡ word = ap (λ (s : SpelledSpan). s.word) found.span in
+    let size : byte_length (codes "1" ++ word) ≡ 1 + byte_length word = omega arith in
+    let first : 1 ≡ offset_of (codes "1" ++ word) (after_fraction (codes "1" ++ word)) = rw after (omega (arith, size)) in
+    let last : 1 + byte_length word ≡ offset_of (codes "1" ++ word) (after_word (codes "1" ++ word)) = rw end (omega (arith, size)) in
+    let value : 1 ≡ decimal_value (number_of (codes "1" ++ word)) = ap (λ (s : SpelledSpan). decimal_value s.number) (sym found.span) in
+    record {
+      not_zero = λ zero. grind arith;
+      front = [];
+      rest = codes "1" ++ word;
+      spans = [];
+      split = record { whole = refl; spelled = record { whitespace = []; body = []; whole = refl; only_whitespace = tt; each = refl }; no_whitespace = refl };
+      within = (within_tells [] tt).0 refl;
+      row = inl (UnknownWord (record { digit = refl; short = ap too_long found.span }) found.point (λ empty. letters.1 (sym same ∙ empty)) (rw same none) (inl end) (rw (← first, ← last, ← value, same) refl));
+    }
+
+-- The digits of a timestamp after the ninth do not count.
+any_digits : (nine more : List ℕ) → length nine ≡ 9 → IsTrue (all_ascii_digits (nine ++ more))
+    → IsStrictMoment (codes "2018-02-14T00:28:07." ++ (nine ++ more) ++ codes "Z") (pos (1_518_568_087 * nanos_per_second + decimal_value nine))
+unfolding timestamps_on_literals
+any_digits nine more few are =
+    let first : take 9 ((nine ++ more) ++ codes "000000000") ≡ nine = rw (append_assoc nine more (codes "000000000"), ← few) (take-append_seam nine (more ++ codes "000000000")) in (
+      record { date = record { year = 2018; month = 2; day = 14 }; separator = Letter_T; hour = 0; minute = 28; second = 7; fraction = Some (nine ++ more); zone = Letter_Z },
+      record { weak = record { text = refl; date = refl; hour = omega arith; minute = omega arith; second = omega arith; fraction = are }; separator = refl; zone = λ none. cc },
+      ap (λ (ds : List ℕ). pos (1_518_568_087 * nanos_per_second + decimal_value ds)) (sym first),
+    )

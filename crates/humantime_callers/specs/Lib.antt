@@ -1,0 +1,2 @@
+pub mod FirstItems
+pub mod Longest

@@ -1,0 +1,79 @@
+//! Callers that write values by `Display`, in lines and in columns of tables. Width and fill do not change the texts.
+
+ghost use Rattle.std.specs.Prelude.{◌≡◌, ◌++◌, ℕ, List, Some, Err, IsOk, IfOk, OnOk, codes, string_bytes};
+ghost use Rattle.std.specs.Fmt.{DisplaysOnOk, DisplaysStyledOnOk, WritesInCalls, fmt_error};
+ghost use Rattle.humantime.specs.Prelude.{IsCanonicalText, IsPrintable, duration_text, fault_message, fault_of, printed_text, shortest_text, timestamp_message};
+
+use humantime::laws::printed_duration_reads;
+use humantime::{
+    Duration, DurationError, Rfc3339Timestamp, StdDuration, Timestamp, TimestampError,
+    format_duration,
+};
+use std::alloc::{AllocError, Global};
+use std::fmt::{self, Display, Write};
+
+/// Returns a duration as a `String`, by `Display`.
+pub fn duration_string(alloc: Global, duration: StdDuration) -> Result<String, AllocError>
+    ensures { IfOk result (λ s. IsCanonicalText duration (string_bytes s)) }
+{
+    printed_duration_reads(duration);
+    format!(in alloc; "{}", format_duration(duration))
+}
+
+/// Writes a line with a limit and the moment from which it applies.
+pub fn write_limit<W: Write>(limit: Duration, at: Timestamp, out: &mut W) -> fmt::Result
+    ensures { (from : List ℕ) → shortest_text at ≡ Some from → OnOk result (WritesInCalls W.write_str_gives out.old (duration_text limit ++ (codes " from " ++ from)) out.new) }
+{
+    write!(out, "{limit} from {at}")
+}
+
+/// Returns a row of a table: the time that something took, and its limit.
+pub fn limits_row(alloc: Global, took: StdDuration, limit: Duration) -> Result<String, AllocError>
+    ensures { IfOk result (λ row. string_bytes row ≡ duration_text took ++ (codes " of " ++ duration_text limit)) }
+{
+    format!(in alloc; "{:>80} of {limit:-<9}", format_duration(took))
+}
+
+/// Returns a row of a table: a start and an end.
+pub fn stamps_row(
+    alloc: Global,
+    start: Timestamp,
+    end: &Rfc3339Timestamp,
+) -> Result<String, AllocError>
+    ensures { (first : List ℕ) (last : List ℕ) → shortest_text start ≡ Some first → printed_text end.now ≡ Some last → IfOk result (λ row. string_bytes row ≡ first ++ (codes " to " ++ last)) }
+{
+    format!(in alloc; "{start:>40} to {end:.3}")
+}
+
+/// Returns a row of a table: the errors of a limit and of a start.
+pub fn errors_row(
+    alloc: Global,
+    limit: &DurationError<'_>,
+    start: &TimestampError,
+) -> Result<String, AllocError>
+    ensures { IfOk result (λ row. string_bytes row ≡ fault_message (fault_of limit.now) ++ (codes ", " ++ timestamp_message start.now)) }
+{
+    format!(in alloc; "{limit:>80}, {start:^3}")
+}
+
+/// Writes a timestamp. It writes nothing for a moment outside 1970 to 9999.
+pub fn write_timestamp<W: Write>(at: Timestamp, f: &mut fmt::Formatter<W>) -> fmt::Result
+    ensures writes { DisplaysOnOk W.write_str_gives f.old result (shortest_text at) f.new }
+    ensures styled { DisplaysStyledOnOk W.write_str_gives f.old result (shortest_text at) f.new }
+    ensures within { IsOk result → IsPrintable at }
+    ensures refused { ¬ (IsPrintable at) → result ≡ Err fmt_error }
+    ensures untouched { ¬ (IsPrintable at) → f.new ≡ f.old }
+{
+    at.fmt(f)
+}
+
+/// Writes what a printer of a timestamp prints. It writes nothing for a moment outside 1970 to 9999.
+pub fn write_stamp<W: Write>(stamp: &Rfc3339Timestamp, f: &mut fmt::Formatter<W>) -> fmt::Result
+    ensures writes { DisplaysOnOk W.write_str_gives f.old result (printed_text stamp.now) f.new }
+    ensures styled { DisplaysStyledOnOk W.write_str_gives f.old result (printed_text stamp.now) f.new }
+    ensures within { IsOk result → IsPrintable stamp.now.moment }
+    ensures refused { ¬ (IsPrintable stamp.now.moment) → result ≡ Err fmt_error }
+    ensures untouched { ¬ (IsPrintable stamp.now.moment) → f.new ≡ f.old }
+{
+    stamp.fmt(f)
+}

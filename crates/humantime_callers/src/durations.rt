@@ -1,0 +1,95 @@
+//! Limits, sums and offsets of errors: callers that parse and print durations.
+
+ghost use Rattle.std.specs.Prelude.{◌≡◌, ◌+◌, ◌*◌, ◌/◌, ◌<◌, ◌≤◌, ◌↔◌, ℕ, List, [], chars, drop, slice_range, option_map, true, IfSome, IsSome, IsOk, IsOkAnd, IsErrAnd, IsTrue, None, Ok, Err, Some};
+ghost use Rattle.std.specs.Result.{result_map_both};
+ghost use Rattle.humantime.specs.Prelude.{IsCanonicalText, Fault, InvalidCharacter, NumberExpected, UnknownUnit, NumberOverflow, Empty, duration_answer, duration_end, result_view, fault_of, place_of, nanos_per_second};
+
+use humantime::{DurationError, StdDuration, format_duration, parse_duration};
+
+/// Returns the whole seconds of a time limit in a settings file, or the error of its text.
+pub fn limit_seconds(text: &str) -> Result<u64, DurationError<'_>>
+    ensures { result_view result ≡ result_map_both (λ v. v / nanos_per_second) (λ e. e) (duration_answer (chars text.now)) }
+{
+    Ok(parse_duration(text)?.as_secs())
+}
+
+/// Returns the limit that applies if a file has none.
+pub fn default_limit() -> Option<StdDuration>
+    ensures { result ≡ Some (9420 * nanos_per_second) }
+{
+    parse_duration("2h 37min").ok()
+}
+
+/// Returns the sum of a start and a length, `None` if it is too long, or the first error of the two texts.
+pub fn end_of<'a>(start: &'a str, len: &'a str) -> Result<Option<StdDuration>, DurationError<'a>>
+    ensures sum { (v : ℕ) (w : ℕ) → duration_answer (chars start.now) ≡ Ok v → duration_answer (chars len.now) ≡ Ok w → IsOkAnd result (λ end. (IsSome end ↔ (v + w < duration_end)) × IfSome end (λ d. d ≡ v + w)) }
+    ensures start_fault { (e : Fault) → duration_answer (chars start.now) ≡ Err e → IsErrAnd result (λ error. fault_of error ≡ e) }
+    ensures len_fault { (v : ℕ) (e : Fault) → duration_answer (chars start.now) ≡ Ok v → duration_answer (chars len.now) ≡ Err e → IsErrAnd result (λ error. fault_of error ≡ e) }
+{
+    Ok(parse_duration(start)?.checked_add(parse_duration(len)?))
+}
+
+/// Returns `true` if both texts are valid durations, and the first is not longer than the second.
+pub fn is_within(text: &str, most: &str) -> bool
+    ensures { IsTrue result ↔ ((v : ℕ) × (w : ℕ) × (duration_answer (chars text.now) ≡ Ok v) × (duration_answer (chars most.now) ≡ Ok w) × (v ≤ w)) }
+{
+    match (parse_duration(text), parse_duration(most)) {
+        (Ok(d), Ok(limit)) => d <= limit,
+        _ => false,
+    }
+}
+
+/// Returns what to underline in a text that is not a valid duration: its unknown unit, or the rest from the error's offset on.
+pub fn underlined(text: &str) -> &str
+    ensures character { (at : ℕ) → duration_answer (chars text.now) ≡ Err (InvalidCharacter at) → result.now ≡ drop at text.now }
+    ensures number { (at : ℕ) → duration_answer (chars text.now) ≡ Err (NumberExpected at) → result.now ≡ drop at text.now }
+    ensures unit { (start : ℕ) (end : ℕ) (unit : List ℕ) (value : ℕ) → duration_answer (chars text.now) ≡ Err (UnknownUnit start end unit value) → (result.now ≡ unit) × (unit ≡ slice_range text.now start end) }
+    ensures overflow { duration_answer (chars text.now) ≡ Err NumberOverflow → result.now ≡ [] }
+    ensures empty { duration_answer (chars text.now) ≡ Err Empty → result.now ≡ [] }
+    ensures read { IsOk (duration_answer (chars text.now)) → result.now ≡ [] }
+{
+    match parse_duration(text) {
+        Err(DurationError::InvalidCharacter(at) | DurationError::NumberExpected(at)) => &text[at..],
+        Err(DurationError::UnknownUnit { start, end, .. }) => &text[start..end],
+        _ => "",
+    }
+}
+
+/// Returns the offset of a text's error in a line that has `before` bytes before the text, or `None` if no offset is known.
+pub fn place_in_line(text: &str, before: u32) -> Option<u64>
+    ensures error { (e : Fault) → duration_answer (chars text.now) ≡ Err e → result ≡ option_map (λ at. before + at) (place_of e) }
+    ensures read { IsOk (duration_answer (chars text.now)) → result ≡ None }
+{
+    match parse_duration(text) {
+        Err(DurationError::InvalidCharacter(at) | DurationError::NumberExpected(at)) => {
+            Some(before as u64 + at as u64)
+        }
+        Err(DurationError::UnknownUnit { start, .. }) => Some(before as u64 + start as u64),
+        Err(DurationError::Empty) => Some(before as u64),
+        _ => None,
+    }
+}
+
+/// Returns `true` if two errors are the same.
+#[tactic(auto, using(humantime::proofs::Theorems::errors_equal))]
+pub fn is_same_error(a: &DurationError<'_>, b: &DurationError<'_>) -> bool
+    ensures { IsTrue result ↔ (fault_of a.now ≡ fault_of b.now) }
+{
+    *a == *b
+}
+
+/// Returns the text of a time of seconds and microseconds, or `None` if it is too long.
+pub fn shown_time<'b>(secs: u64, micros: u64, buf: &'b mut [u8; 64]) -> Option<&'b str>
+    ensures within { IsSome result ↔ (secs * nanos_per_second + micros * 1000 < duration_end) }
+    ensures text { IfSome result (λ text. IsCanonicalText (secs * nanos_per_second + micros * 1000) text.now) }
+{
+    let time = StdDuration::from_secs(secs).checked_add(StdDuration::from_micros(micros))?;
+    Some(format_duration(time).text(buf))
+}
+
+/// Returns `true` if the text of a duration parses to that duration, which it always does.
+pub fn comes_back(duration: StdDuration) -> bool
+    ensures { result ≡ true }
+{
+    parse_duration(format_duration(duration).text(&mut [0; 64])) == Ok(duration)
+}

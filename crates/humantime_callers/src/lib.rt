@@ -1,0 +1,20 @@
+//! Callers of every public item of `humantime`.
+//!
+//! Each is proved by the contracts of public items alone, so a contract that says less leaves one of them unproved. The files
+//! `proofs/Worked*.antt` have facts that are computed from the definitions.
+#![tactic(auto)]
+
+pub mod borrowed;
+pub mod buffers;
+pub mod calendar;
+pub mod counted_calendar;
+pub mod displays;
+pub mod durations;
+pub mod errors;
+pub mod laws;
+pub mod limits;
+pub mod spans;
+pub mod timestamps;
+pub mod values;
+pub mod witnesses;
+pub mod wrappers;

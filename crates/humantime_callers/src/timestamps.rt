@@ -1,0 +1,113 @@
+//! Lines of a log: callers that parse, print and compare timestamps.
+
+ghost use Rattle.std.specs.Prelude.{◌≡◌, ◌*◌, ◌↔◌, ◌<ℤ◌, ◌≤ℤ◌, ℤ, pos, ◌+ℤ◌, IsTrue, IsSome, IsSomeAnd, IfSome, IfOk, IsOkAnd, Ok, Err, SomeIff, string_bytes};
+ghost use Rattle.std.specs.Ordering.{int_cmp};
+ghost use Rattle.humantime.specs.declared.TimestampError.{TimestampError};
+ghost use Rattle.humantime.specs.Prelude.{weak_answer, strict_answer, IsPrinted, IsPrintedWith, IsPrintable, cut, moment_end, nanos_per_second, places_of};
+
+use humantime::{
+    StdDuration, SystemTime, TimestampError, format_rfc3339, format_rfc3339_micros,
+    format_rfc3339_millis, format_rfc3339_seconds, parse_rfc3339, parse_rfc3339_weak,
+};
+use std::alloc::{AllocError, Global};
+use std::cmp::Ordering;
+
+/// Returns `true` if the moment of a line is not before `from`, or the error of the line's timestamp.
+pub fn is_since(stamp: &str, from: SystemTime) -> Result<bool, TimestampError>
+    ensures value { (t : ℤ) → strict_answer stamp.now ≡ Ok t → IsOkAnd result (λ since. IsTrue since ↔ (from ≤ℤ t)) }
+    ensures error { (e : TimestampError) → (result ≡ Err e) ↔ (strict_answer stamp.now ≡ Err e) }
+{
+    let moment = parse_rfc3339(stamp)?;
+    Ok(from <= moment)
+}
+
+/// Returns the moment `time` after the one in a text, or `None` if no `SystemTime` represents it.
+pub fn later_than(text: &str, time: StdDuration) -> Result<Option<SystemTime>, TimestampError>
+    ensures moment { (t : ℤ) → weak_answer text.now ≡ Ok t → IsOkAnd result (λ later. SomeIff later ((t +ℤ pos time) <ℤ moment_end) (t +ℤ pos time)) }
+    ensures error { (e : TimestampError) → (result ≡ Err e) ↔ (weak_answer text.now ≡ Err e) }
+{
+    Ok(parse_rfc3339_weak(text)?.checked_add(time))
+}
+
+/// Returns `true` if two texts denote the same moment, or have the same error.
+pub fn is_same_moment(text: &str, other: &str) -> bool
+    ensures { IsTrue result ↔ (weak_answer text.now ≡ weak_answer other.now) }
+{
+    parse_rfc3339_weak(text) == parse_rfc3339_weak(other)
+}
+
+/// Returns the timestamp at the start of a line, with whole seconds, or `None` outside 1970 to 9999.
+pub fn stamp_of<'b>(moment: SystemTime, buf: &'b mut [u8; 30]) -> Option<&'b str>
+    ensures within { IsSome result ↔ IsPrintable moment }
+    ensures text { IfSome result (λ text. IsPrinted moment 0 text.now) }
+{
+    format_rfc3339_seconds(moment).text(buf)
+}
+
+/// Returns a moment as a `String`, by `Display`.
+///
+/// Outside 1970 to 9999 it returns an error. The contract cannot say so, since `format!` does not specify its result if a `Display` fails.
+#[tactic(auto, using(humantime::proofs::Theorems::displayed_as))]
+pub fn stamp_string(alloc: Global, moment: SystemTime) -> Result<String, AllocError>
+    ensures { IsPrintable moment → IfOk result (λ s. IsPrinted moment (places_of moment) (string_bytes s)) }
+{
+    format!(in alloc; "{}", format_rfc3339(moment))
+}
+
+/// Returns `true` if a text is the printed text, with milliseconds, of the moment that it parses to.
+pub fn is_stamp(text: &str) -> bool
+    ensures { IsTrue result ↔ IsPrintedWith 3 text.now }
+{
+    match parse_rfc3339(text) {
+        Ok(moment) => match format_rfc3339_millis(moment).text(&mut [0; 30]) {
+            Some(stamp) => stamp == text,
+            None => false,
+        },
+        Err(_) => false,
+    }
+}
+
+/// Compares two such stamps by their bytes, which are ordered like the moments that they denote. Returns `None` for other texts.
+pub fn compare_stamps(stamp: &str, other: &str) -> Option<Ordering>
+    ensures within { IsSome result ↔ (IsPrintedWith 3 stamp.now × IsPrintedWith 3 other.now) }
+    ensures order { (a : ℤ) (b : ℤ) → strict_answer stamp.now ≡ Ok a → strict_answer other.now ≡ Ok b → IfSome result (λ order. order ≡ int_cmp a b) }
+{
+    if is_stamp(stamp) && is_stamp(other) {
+        Some(stamp.cmp(other))
+    } else {
+        None
+    }
+}
+
+/// Returns `true` if one stamp is earlier than another, by comparing their bytes.
+#[tactic(auto, using(humantime::proofs::Theorems::earlier_in_millis))]
+pub fn is_earlier(stamp: &str, other: &str) -> bool
+    ensures { (a : ℤ) (b : ℤ) → IsPrinted a 3 stamp.now → IsPrinted b 3 other.now → (IsTrue result ↔ (cut a 3 <ℤ cut b 3)) }
+{
+    stamp < other
+}
+
+/// Returns `true` if a printed timestamp is in a half-open range between two others, by comparing their bytes.
+pub fn is_between(stamp: &str, from: &str, to: &str) -> bool
+    ensures { (t : ℤ) (a : ℤ) (b : ℤ) → IsPrinted t 3 stamp.now → IsPrinted a 3 from.now → IsPrinted b 3 to.now → (IsTrue result ↔ ((u : ℤ) × (strict_answer stamp.now ≡ Ok u) × (cut a 3 ≤ℤ u) × (u <ℤ cut b 3))) }
+{
+    (from..to).contains(&stamp)
+}
+
+/// Parses a timestamp in any form, and prints it with microseconds, so that texts are in the order of their moments.
+pub fn sortable_stamp<'b>(
+    text: &str,
+    buf: &'b mut [u8; 30],
+) -> Result<Option<&'b str>, TimestampError>
+    ensures stamp { (t : ℤ) → weak_answer text.now ≡ Ok t → IsOkAnd result (λ stamp. IsSomeAnd stamp (λ s. IsPrinted t 6 s.now)) }
+    ensures error { (e : TimestampError) → (result ≡ Err e) ↔ (weak_answer text.now ≡ Err e) }
+{
+    Ok(format_rfc3339_micros(parse_rfc3339_weak(text)?).text(buf))
+}
+
+/// Returns the default for the first moment whose lines are kept.
+pub fn default_start() -> Result<SystemTime, TimestampError>
+    ensures { result ≡ Ok (pos (1_518_568_087 * nanos_per_second)) }
+{
+    parse_rfc3339("2018-02-14T00:28:07Z")
+}
