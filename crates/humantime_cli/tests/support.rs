@@ -5,11 +5,11 @@ ghost use Rattle.std.specs.Prelude.{◌≤◌, Some, take};
 use std::io::{self, ErrorKind, Write};
 
 /// The capacity of a writer in bytes.
-pub(super) const ROOM: usize = 256;
+pub(crate) const ROOM: usize = 256;
 
 /// How a writer fails.
 #[derive(Clone, Copy, PartialEq, Debug)]
-pub(super) enum Failure {
+pub(crate) enum Failure {
     Error,
     Interrupted,
     NoBytes,
@@ -19,7 +19,7 @@ pub(super) enum Failure {
 ///
 /// It accepts at most `step` bytes in each call and `limit` bytes in all, and then fails.
 #[derive(Drop)]
-pub(super) struct Limited {
+pub(crate) struct Limited {
     bytes: [u8; 256],
     len: usize,
     step: usize,
@@ -27,20 +27,20 @@ pub(super) struct Limited {
     failure: Failure,
     has_failed: bool,
     /// The number of calls of `write`.
-    pub(super) requests: u32,
+    pub(crate) requests: u32,
     /// The number of calls of `write` after one that failed.
-    pub(super) requests_after: u32,
+    pub(crate) requests_after: u32,
     /// The number of calls of `flush`.
-    pub(super) flushes: u32,
+    pub(crate) flushes: u32,
     /// The number of bytes that had been accepted at the last call of `flush`.
-    pub(super) flushed: usize,
-    pub(super) can_flush: bool,
+    pub(crate) flushed: usize,
+    pub(crate) can_flush: bool,
     ghost in_range: { len ≤ 256 },
 }
 
 impl Limited {
     /// Returns a writer that accepts at most `step` bytes in each call and `limit` bytes in all.
-    pub(super) fn new(step: usize, limit: usize, failure: Failure) -> Limited {
+    pub(crate) fn new(step: usize, limit: usize, failure: Failure) -> Limited {
         Limited {
             bytes: [0; 256],
             len: 0,
@@ -57,17 +57,17 @@ impl Limited {
     }
 
     /// Returns a writer that accepts at most `step` bytes in each call, up to its capacity.
-    pub(super) fn by(step: usize) -> Limited {
+    pub(crate) fn by(step: usize) -> Limited {
         Limited::new(step, ROOM, Failure::Error)
     }
 
     /// Returns a writer that accepts any number of bytes in each call, up to its capacity.
-    pub(super) fn open() -> Limited {
+    pub(crate) fn open() -> Limited {
         Limited::by(ROOM)
     }
 
     /// Returns the bytes that were accepted.
-    pub(super) fn taken(&self) -> &[u8] {
+    pub(crate) fn taken(&self) -> &[u8] {
         &self.bytes[..self.len]
     }
 }

@@ -1,8 +1,17 @@
-//! Tests with writers that accept one byte at a time, and with writers that fail.
+//! Writers that accept one byte at a time, writers that fail, and flushes.
 
-use super::writer::{Failure, Limited, ROOM};
-use super::{USAGE_LINE, assert_same, run};
+use crate::support::{Failure, Limited, ROOM};
+use crate::{answer_args, run};
+use std::alloc::Global;
+use std::fmt::Debug;
+use std::io::{self, ErrorKind};
 use std::process::Abort;
+use std::test::Fail;
+
+/// Asserts that two values are equal after a run with these arguments.
+fn assert_same<T: PartialEq + Debug + Drop>(rt: &impl Abort, left: T, right: T, words: &[&str]) {
+    assert_eq!(rt; left, right, "after {words:?}");
+}
 
 /// Asserts that a run with these arguments returns this status and that one of the writers receives the line byte by byte, in this number
 /// of calls.
@@ -61,5 +70,41 @@ fn nothing_follows_a_failed_write_to_out(rt: HostRuntime) {
 #[test]
 fn nothing_follows_a_failed_write_to_err(rt: HostRuntime) {
     assert_nothing_follows(&rt, &["duration", ""], false, "value was empty\n");
-    assert_nothing_follows(&rt, &[], false, USAGE_LINE);
+    assert_nothing_follows(&rt, &[], false, "usage: humantime duration|strict|weak TEXT\n");
+}
+
+/// Runs the program with the arguments `duration` and `2h 37min`.
+fn answered(alloc: Global, out: &mut Limited, err: &mut Limited) -> io::Result<u8> {
+    let args = vec![in alloc;
+        String::from_str(alloc, "duration")?,
+        String::from_str(alloc, "2h 37min")?,
+    ]?;
+    answer_args(alloc, &args, out, err)
+}
+
+/// Asserts that standard output is flushed once, after the whole line.
+fn assert_flushed(rt: &impl Abort, out: &Limited, err: &Limited) {
+    assert_same(rt, out.taken(), b"2h 37m\n", &[]);
+    assert_same(rt, out.flushed, 7, &[]);
+    assert_same(rt, out.flushes, 1, &[]);
+    assert_same(rt, err.requests, 0, &[]);
+}
+
+#[test]
+fn standard_output_is_flushed_after_the_line(rt: HostRuntime) -> Result<(), Fail> {
+    let (mut out, mut err) = (Limited::open(), Limited::open());
+    assert_eq!(rt; answered(rt.alloc(), &mut out, &mut err)?, 0);
+    assert_flushed(&rt, &out, &err);
+    Ok(())
+}
+
+#[test]
+fn a_flush_that_fails_is_an_error(rt: HostRuntime) -> Result<(), Fail> {
+    let (mut out, mut err) = (Limited::open(), Limited::open());
+    out.can_flush = false;
+    let ended = answered(rt.alloc(), &mut out, &mut err);
+    let error = ended.err().ok_or("the flush failed, and the result is no error")?;
+    assert_eq!(rt; error.kind(), ErrorKind::Other);
+    assert_flushed(&rt, &out, &err);
+    Ok(())
 }
