@@ -9,7 +9,10 @@ from pathlib import Path
 from typing import NamedTuple
 
 ROOT = Path(__file__).resolve().parent.parent
+CRATES = ROOT / "crates"
 EDITS = ("must-fail", "equivalent", "planted", "compile_fail")
+# What each crate stands on.
+STANDS_ON = {name: others.split() for name, others in re.findall(r"^(\w+):(.*)", (ROOT / "crates.txt").read_text(encoding="utf-8"), re.M)}
 
 if {"--help", "-h"} & set(sys.argv[1:]):
     print(sys.modules["__main__"].__doc__)
@@ -63,16 +66,39 @@ def room(script):
     return tempfile.TemporaryDirectory(prefix=f"{script}-")
 
 
-def copied(top, to, crates=(), without=EDITS):
-    """Copies the parts of a repository that `rt` reads, with the crates of these names, or all crates, but without the files and folders of
-    the names in `without`. So `out`, which has the results of earlier checks, is copied unless it is among them. Returns the new folder."""
-    top, to = Path(top), Path(to)
-    to.mkdir(parents=True, exist_ok=True)
-    for name in ("HANDLES", "crates.txt"):
-        shutil.copy(top / name, to)
-    for name in crates or os.listdir(top / "crates"):
-        shutil.copytree(top / "crates" / name, to / "crates" / name, ignore=shutil.ignore_patterns(*without))
-    return str(to)
+def below(*crates):
+    """Returns these crates of the repository with those that they stand on."""
+    found = set(crates)
+    for crate in crates:
+        found |= below(*(other for other in STANDS_ON[crate] if other in STANDS_ON))
+    return found
+
+
+def copied(to, crates=tuple(STANDS_ON), without=(*EDITS, "out", "tests")):
+    """Copies the parts of the repository that `rt` reads, with these crates and those that they stand on, but without the files and folders
+    of the names in `without`. Returns the new folder."""
+    to = Path(to)
+    lines = [f"{name}: {' '.join(STANDS_ON[name])}\n" for name in sorted(below(*crates))]
+    write("".join(lines), to, "crates.txt")
+    shutil.copy(ROOT / "HANDLES", to)
+    for name in below(*crates):
+        shutil.copytree(CRATES / name, to / "crates" / name, ignore=shutil.ignore_patterns(*without))
+    return to
+
+
+def tests_of(crate, folder, module, old="crate::"):
+    """Copies the tests of a crate into a folder, for a module of this path, and writes the module. The root of the tests is `lib.rs`."""
+    top, folder = CRATES / crate / "tests", Path(folder)
+    for path in top.rglob("*.rs"):
+        text = read(path).replace(old, f"{module}{old.removeprefix('crate')}").replace("#![tactic(auto)]\n", "")
+        write(text, folder.with_suffix(".rt") if path.name == "lib.rs" else folder / path.relative_to(top).with_suffix(".rt"))
+
+
+def with_tests(top, crate):
+    """Makes the tests of a program a module of its copy."""
+    source = Path(top, "crates", crate, "src")
+    tests_of(crate, source / "tests_unproved", "crate::tests_unproved", "crate::support")
+    write(f"{read(source, 'main.rt')}\n#[cfg(test)]\nmod tests_unproved;\n", source, "main.rt")
 
 
 def run(*command, **options):
