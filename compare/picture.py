@@ -1,31 +1,31 @@
-"""Sums up the table of compare/README.md by kinds of call, and draws docs/speed.svg from it. scripts/pages compares and writes both."""
+"""Sums up the rows of compare/TIMES.md by kinds of call, and draws docs/speed.svg from them. scripts/pages compares and writes both."""
 import math
 import re
 import statistics
 
 ROW = re.compile(r"^(\S.*?) +(\d+\.\d\d) +\d+\.\d\d +\d+\.\d\d +(\d+\.\d\d)$", re.M)
-# Each kind of call, with the form of its rows' names. The picture has those of calls with a short text.
+# Each kind of call, with the form of its rows' names.
 KINDS = {
     "parse a duration": r"parse (?!.*(megabyte|strict$|weak$))",
     "reject a duration": r"reject (?!.*(megabyte|strict$|weak$))",
-    "print a duration": r"print (?!a timestamp)",
+    "print a duration": r"print (?!a timestamp|.*`Display`)",
     "parse a timestamp": r"parse (?!.*megabyte).*(strict|weak)$",
     "reject a timestamp": r"reject (?!.*megabyte).*(strict|weak)$",
-    "print a timestamp": r"print a timestamp",
+    "print a timestamp": r"print a timestamp(?!.*`Display`)",
+    "print by `Display`": r"print .*`Display`",
     "parse or reject a long text": r"(parse|reject) .*megabyte",
     "`spans` and `canonical`": r"`(spans|canonical)`",
     "the program's `run`": r"the program",
 }
-SHOWN = list(KINDS)[:6]
-LEFT, UNIT, TOP, HIGH = 190, 420, 62, 34
+LEFT, UNIT, TOP, HIGH = 220, 420, 62, 34
 
 
 def kinds(page):
     """Returns the ratios of each kind of call: those by LLVM, and those by the kit's own back end. Each row has to be of one kind."""
     rows = ROW.findall(page)
     found = {kind: [row for row in rows if re.match(form, row[0])] for kind, form in KINDS.items()}
-    assert sorted(row for of_kind in found.values() for row in of_kind) == sorted(rows), "a row of compare/README.md is not of one kind"
-    return {kind: [[float(row[side]) for row in of_kind] for side in (1, 2)] for kind, of_kind in found.items()}
+    assert sorted(row for of_kind in found.values() for row in of_kind) == sorted(rows), "a row of compare/TIMES.md is not of one kind"
+    return {kind: [[float(row[side]) for row in of_kind] for side in (1, 2)] for kind, of_kind in found.items() if of_kind}
 
 
 def summary(page):
@@ -39,9 +39,8 @@ def summary(page):
 
 def words(page):
     """Returns the text that stands for the picture where it is not shown, with the medians by LLVM."""
-    medians = (statistics.median(sides[0]) for sides in kinds(page).values())
-    form = "Time divided by the crate's: {:.2f} to parse a duration, {:.2f} to reject and {:.2f} to print one; timestamps {:.2f}, {:.2f}, {:.2f}"
-    return form.format(*medians)
+    medians = [f"{kind.replace('`', '')} {statistics.median(sides[0]):.2f}" for kind, sides in kinds(page).items()]
+    return f"Time divided by the crate's: {', '.join(medians)}"
 
 
 def text(x, y, said, anchor="start"):
@@ -50,7 +49,7 @@ def text(x, y, said, anchor="start"):
 
 def bars(at, kind, sides):
     """Yields the two bars of a kind, each with its median and a whisker from the smallest ratio to the largest."""
-    yield text(LEFT - 44, at + 18, kind, "end")
+    yield text(LEFT - 44, at + 18, kind.replace("`", ""), "end")
     for y, color, ratios in zip((at + 3, at + 15), ("#2a6f97", "#a9c6d8"), sides):
         middle = statistics.median(ratios)
         least, most = (LEFT + round(UNIT * ratio) for ratio in (min(ratios), max(ratios)))
@@ -70,11 +69,11 @@ def axis(bottom, ticks):
 
 
 def picture(page):
-    """Returns the picture of the page's table. On its right is room for the captions in any font."""
+    """Returns the picture of the page's rows. On its right is room for the captions in any font."""
     found = kinds(page)
-    lines = [line for number, kind in enumerate(SHOWN) for line in bars(TOP + number * HIGH, kind, found[kind])]
-    bottom = TOP + 4 + len(SHOWN) * HIGH
-    ticks = math.ceil(5 * max(1, *(ratio for kind in SHOWN for side in found[kind] for ratio in side)))
+    lines = [line for number, (kind, sides) in enumerate(found.items()) for line in bars(TOP + number * HIGH, kind, sides)]
+    bottom = TOP + 4 + len(found) * HIGH
+    ticks = math.ceil(5 * max(1, *(ratio for sides in found.values() for side in sides for ratio in side)))
     width = max(740, LEFT + UNIT * ticks // 5 + 60)
     return "\n".join(
         [
@@ -85,7 +84,7 @@ def picture(page):
             f'<rect x="{LEFT}" y="31" width="11" height="11" fill="#a9c6d8"/>{text(LEFT + 16, 41, "built by the kit&#39;s own back end")}',
             *lines,
             *axis(bottom, ticks),
-            text(20, bottom + 40, "Bar and number: the median of the rows of this kind in compare/README.md."),
+            text(20, bottom + 40, "Bar and number: the median of the rows of this kind in compare/TIMES.md."),
             text(20, bottom + 56, "Whisker: from the fastest of these rows to the slowest."),
             "</svg>",
             "",

@@ -324,6 +324,22 @@ fn durations_printed() {
     print_duration("zero", 0, 0);
 }
 
+/// Times both sides writing by `Display`: the crate to a `String`, the library to an array.
+fn displayed() {
+    let (secs, nanos) = (1_518_563_287, 123_456_789);
+    let (duration, moment) = (Duration::from_secs(9_420), UNIX_EPOCH + Duration::new(secs as u64, nanos));
+    race_writing(
+        "print 9420 seconds, by `Display`",
+        |place| crate_print(humantime::format_duration, black_box(duration), place),
+        |place: &mut [u8; 64]| library_display_duration(black_box(9_420), 0, place),
+    );
+    race_writing(
+        "print a timestamp in milliseconds, by `Display`",
+        |place| crate_print(humantime::format_rfc3339_millis, black_box(moment), place),
+        |place: &mut [u8; 64]| library_display_millis(black_box(secs), black_box(nanos), place),
+    );
+}
+
 /// Times the parsing of a timestamp by both parsers, each of which the sides have to read or reject alike.
 fn read_moment(shown: &str, text: &str) {
     let name_of = |parser: Parser| {
@@ -386,6 +402,7 @@ fn main() {
     spans_and_canonical();
     durations_printed();
     timestamps();
+    displayed();
     run("duration", "2h 37min");
     run("duration", "1foo~");
     run("strict", "2018-02-14T00:28:07Z");

@@ -47,6 +47,8 @@ unsafe extern "C" {
     pub safe fn library_walk_spans(text: &Text, place: &mut Answer);
     pub safe fn library_canonical(text: &Text, place: &mut [u8; 64]) -> usize;
     pub safe fn library_print_duration(secs: u64, nanos: u32, place: &mut [u8; 64]) -> usize;
+    pub safe fn library_display_duration(secs: u64, nanos: u32, place: &mut [u8; 64]) -> usize;
+    pub safe fn library_display_millis(secs: i64, nanos: u32, place: &mut [u8; 64]) -> usize;
     pub safe fn library_read_strict(text: &Text, place: &mut Answer);
     pub safe fn library_read_weak(text: &Text, place: &mut Answer);
     pub safe fn library_print_smart(secs: i64, nanos: u32, place: &mut [u8; 30]) -> usize;

@@ -21,11 +21,11 @@ rows! {
     ZerosOfFraction: "trailing zeros of a fraction count towards its limits",
     GreekLetter: "the Greek letter U+03BC is an invalid character",
     CarryTooLarge: "spans whose nanoseconds carry their seconds beyond `u64::MAX`",
-    NoDigitAfterSpace: "whitespace at the start or after a span, and then a character other than a digit",
+    NoDigitAfterSpace: "whitespace at the start, or more than one whitespace character after a span, and then a character other than a digit",
     BadAfterPoint: "an invalid character right after a point",
     SpaceAfterPoint: "whitespace after a point without digits, and then a letter or the end",
-    TailAfterPlus: "after the fraction of a timestamp, a rest that begins with `+` and is not `+00:00`",
-    BytesAfterZone: "bytes after a `Z` that follows the seconds",
+    TailAfterPlus: "after the fraction of a timestamp, a `+` and five bytes other than `00:00`",
+    BytesAfterZone: "one to five bytes after a `Z` that follows the seconds",
 }
 
 /// The counts of cases and of differences.
