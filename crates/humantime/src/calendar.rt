@@ -3,7 +3,7 @@
 ghost use Rattle.std.specs.Prelude.{◌≡◌, ◌+◌, ◌-◌, ◌<◌, ◌≤◌, ◌↔◌, IsSome, IfSome, MatchOption};
 ghost use Rattle.std.specs.Int.{IsInRange};
 ghost use Rattle.humantime.specs.Calendar.{days_in_year, days_in_month, days_of_years, days_of_months, IsDate, day_of};
-ghost use Rattle.humantime.specs.Results.Dates.{march_days, march_months};
+ghost use Rattle.humantime.specs.Results.Dates.{march_days};
 ghost use Rattle.humantime.specs.Results.Dates as Dates;
 
 use std::marker::Model;
@@ -24,6 +24,9 @@ const DAYS_BEFORE_MONTH: [u32; 12] = [0, 31, 59, 90, 120, 151, 181, 212, 243, 27
 
 /// The number of days in each month of a common year, starting with January.
 const MONTH_LENGTHS: [u32; 12] = [31, 28, 31, 30, 31, 30, 31, 31, 30, 31, 30, 31];
+
+/// The number of days from 1 March to the first day of each month, from March to February.
+const DAYS_BEFORE_MARCH_MONTH: [u32; 12] = [0, 31, 61, 92, 122, 153, 184, 214, 245, 275, 306, 337];
 
 /// The number of days from 1970-01-01 to 2000-03-01, on which a cycle of 400 years begins.
 const MARCH_2000: u32 = 11_017;
@@ -240,17 +243,6 @@ fn march_year(day: u32) -> (u32, u32)
     )
 }
 
-/// Returns the number of days from 1 March to the first day of `month`, where March is 0 and February 11. For 12, it returns 367, which no
-/// day of a year reaches.
-#[inline(always)]
-fn days_before_march_month(month: u32) -> u32
-    requires { month ≤ 12 }
-    ensures { result ≡ march_months month }
-{
-    // March to July have 31, 30, 31, 30 and 31 days, 153 together, and so do August to December; then January has 31.
-    (153 * month + 2) / 5
-}
-
 /// Returns the date at the zero-based `day_index` in a month. `year` begins on 1 March and is counted from 1600. Month 0 is March, and
 /// months 10 and 11 are January and February of the next calendar year.
 #[inline(always)]
@@ -292,6 +284,7 @@ fn march_date(year: u32, month: u32, day_index: u32) -> Date
 /// assert_eq!(rt; date_of_day(2_932_897, &mut turns), None);
 /// ```
 #[inline(always)]
+#[tactic(auto, using(crate::proofs::Dates::Years::march_months_in_table))]
 pub fn date_of_day(day: u32, turns: &mut Turns) -> Option<Date>
     ensures within { IsSome result ↔ (day ≤ 2_932_896) }
     ensures date { IfSome result (λ d. IsDate d × (day_of d ≡ day)) }
@@ -301,13 +294,15 @@ pub fn date_of_day(day: u32, turns: &mut Turns) -> Option<Date>
         return None;
     }
     let (year, day_of_year) = march_year(day);
-    let mut month = 0;
-    for next in 1..13_u32 {
+    // The months that have begun by this day, March included.
+    let mut begun = 0;
+    for days_before in DAYS_BEFORE_MARCH_MONTH.iter() {
         turns.tick();
-        if day_of_year >= days_before_march_month(next) {
-            month += 1;
+        if day_of_year >= *days_before {
+            begun += 1;
         }
     }
-    let day_index = day_of_year - days_before_march_month(month);
+    let month = begun - 1;
+    let day_index = day_of_year - DAYS_BEFORE_MARCH_MONTH[month as usize];
     Some(march_date(year, month, day_index))
 }

@@ -23,7 +23,7 @@ late n y k d few month within ends sum = grind (arith, nat_tests, within_ranges,
 
 -- The date of the day, in the year that is computed.
 pub date_found : (n y k d : ℕ) (x : Date) → x ≡ march_date y k (d - march_months k) → n ≤ 2_932_896 → y ≡ march_year (n + 135_080)
-    → k ≡ min (march_month d) 12 → march_days y + d ≡ n + 135_080 → IsDateOfDay n x
+    → k ≡ min (march_month d) 11 → march_days y + d ≡ n + 135_080 → IsDateOfDay n x
 date_found n y k d x is few year month sum =
     let within : d < days_in_year (1601 + y) = omega (arith, march_days_next (1601 + y) (omega arith)) in
     elim (cases_Bool (nat_lt k 10)) [

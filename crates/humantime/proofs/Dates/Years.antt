@@ -51,5 +51,10 @@ pub days_in_table : (y k : ℕ) → k < 12 → days_of_months y k
 unfolding days_of_months
 days_in_table y k few = grind (arith, nat_tests)
 
+-- The days of the months from March on, by a table.
+pub march_months_in_table : (k : ℕ) → k < 12 → march_months k
+    ≡ slice_index_or (0 ∷ 31 ∷ 61 ∷ 92 ∷ 122 ∷ 153 ∷ 184 ∷ 214 ∷ 245 ∷ 275 ∷ 306 ∷ 337 ∷ []) k 0
+march_months_in_table k few = grind (arith, nat_tests)
+
 -- The lemmas about the days of the years and months before a date.
 pub ruleset days_counted = (days_of_years_closed, days_of_first_months, days_of_months_closed, days_in_year_bound)

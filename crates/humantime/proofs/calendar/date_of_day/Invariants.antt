@@ -1,9 +1,9 @@
-use Rattle.std.proofs.Common.{◌≡◌, ◌+◌, ◌-◌}
+use Rattle.std.proofs.Common.{◌≡◌, ◌+◌}
 use Rattle.std.specs.Prelude.{min}
 use Rattle.humantime.specs.Results.Dates.{march_month}
 use Rattle.humantime.proofs.calendar.date_of_day.Given as goal
 
--- `month` counts the months that have begun by this day, and each iteration is counted.
-abbrev pub invariant-loop-next : goal.invariant-loop-next
-invariant-loop-next l =
-    (l.month ≡ min (march_month l.day_of_year) (l.next - 1)) × (l.turns + 1 ≡ l.initial.turns + l.next)
+-- `begun` counts the months that have begun by this day, and each iteration is counted.
+abbrev pub invariant-loop-days_before : goal.invariant-loop-days_before
+invariant-loop-days_before l =
+    (l.begun ≡ min (march_month l.day_of_year + 1) l.days_before-index) × (l.turns ≡ l.initial.turns + l.days_before-index)
