@@ -50,7 +50,7 @@ impl<'a> Iterator for SpanIter<'a> {
         if start.rest.is_empty() {
             self.ended = true;
             // No span has been read.
-            if self.cursor.rest.len() == self.cursor.text.len() {
+            if self.cursor.offset() == 0 {
                 return Some(Err(DurationError::Empty));
             }
             return None;

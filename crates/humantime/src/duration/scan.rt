@@ -269,15 +269,8 @@ pub(crate) fn read_word<'a>(start: Cursor<'a>) -> Option<Word<'a>>
     ensures { MatchOption result (begins_with_nonletter (ahead start.entry) ≡ true) (λ w. IsWord start.entry w.letters.now w.end) }
 {
     let text = start.rest;
-    if text.is_empty() {
-        return Some(Word {
-            letters: text,
-            key: EMPTY_KEY,
-            end: start,
-        });
-    }
     let (len, key) = read_letters(text);
-    if len == 0 {
+    if len == 0 && !text.is_empty() {
         return None;
     }
     Some(Word {
