@@ -1,5 +1,5 @@
 -- Lemmas about a piece of a text, and about a line that is written piece by piece.
-use Rattle.std.proofs.Common.{arith, append_assoc, append-nil, ◌≡◌, ℕ, zero, suc, List, [], ◌∷◌, ◌++◌, ◌≤◌, ◌<◌, ◌+◌, ◌-◌, refl, sym, ap, ap₂, ◌∙◌, take, drop, min, subst, inl, inr, length, length-append, length-take, length-drop}
+use Rattle.std.proofs.Common.{arith, take_all, take-append-drop, append_assoc, append-nil, ◌≡◌, ℕ, zero, suc, List, [], ◌∷◌, ◌++◌, ◌≤◌, ◌<◌, ◌+◌, ◌-◌, refl, sym, ap, ap₂, ◌∙◌, take, drop, min, subst, inl, inr, length, length-append, length-take, length-drop}
 use Rattle.std.proofs.KnownBytes.{Appends-trans}
 use Rattle.std.proofs.Math.Seq.{take-add, drop-append-add}
 use Rattle.std.proofs.lemmas.Bool.{cases_Bool, cases_lt, ltb-false, ltb-true, or_cases, or_parts}
@@ -7,7 +7,7 @@ use Rattle.std.proofs.lemmas.List.{drop-append-le, drop-drop, take-append-le, ta
 use Rattle.std.specs.Fmt.{WritesText}
 use Rattle.std.specs.Io.KnownBytes.{Appends}
 use Rattle.std.specs.List.{FoldsTo, concat}
-use Rattle.std.specs.Prelude.{Option, None, Some, IsSome, true, ◌||◌, nat_lt, unwrap_or}
+use Rattle.std.specs.Prelude.{Option, None, Some, IsSome, true, false, ◌||◌, nat_lt, unwrap_or}
 use Rattle.humantime_cli.specs.Pieces.{IsPiece, AddsText}
 use Rattle.humantime_cli.specs.Writes.{line}
 use Rattle.humantime_cli.specs.declared.piece.Piece.{Piece}
@@ -85,3 +85,15 @@ more_written old mid new text bytes done count piece is shown some few cut taken
       ],
       subst (Appends old new) whole (Appends-trans old mid new _ _ taken more),
     )
+
+-- After the first bytes of a text, all of a piece that is not cut were written: so the text is written.
+pub all_written : (old mid new : Option (List ℕ)) (text bytes : List ℕ) (done count : ℕ) (piece : Piece) → IsPiece done text piece → bytes ≡ take piece.len piece.bytes
+    → done < length text → count ≡ length bytes → piece.is_cut ≡ false → Appends old mid (take done text) → Appends mid new (take count bytes) → Appends old new text
+all_written old mid new text bytes done count piece is shown some all whole taken more =
+    let sum = is.all whole in
+    let within = is.within (omega (arith, sum, some)) in
+    let same = shown ∙ is.bytes in
+    let size : count ≡ length text - done = omega (arith, sum, within, all, ap length same, length-take piece.len (drop done text), length-drop done text) in
+    let rest : take count bytes ≡ drop done text = ap (take count) same ∙ take-take count piece.len (drop done text) (omega (arith, size, sum, within))
+    ∙ take_all count (drop done text) (omega (arith, size, length-drop done text)) in
+    subst (Appends old new) (ap (λ (x : List ℕ). take done text ++ x) rest ∙ take-append-drop done text) (Appends-trans old mid new _ _ taken more)

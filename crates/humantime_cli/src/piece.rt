@@ -2,7 +2,7 @@
 
 ghost use Rattle.std.specs.Prelude.{◌≤◌};
 
-use std::fmt::{self, Display, Write as _};
+use std::fmt;
 
 /// The maximum number of bytes in a piece.
 const PIECE_LEN: usize = 256;
@@ -22,24 +22,19 @@ pub(crate) struct Piece {
 }
 
 impl Piece {
-    ghost use Rattle.std.specs.Prelude.{◌≡◌, [], take, unwrap_or, IsSome, IfOk};
+    ghost use Rattle.std.specs.Prelude.{◌≡◌, [], take};
     ghost use Rattle.humantime_cli.specs.Pieces.{IsPiece};
-    ghost use Rattle.humantime_cli.specs.Writes.{line};
 
-    /// Returns the piece from the offset `start` on of a line: the text that `value` displays and a line feed.
-    pub(crate) fn of_line<D: Display + Copy>(value: D, start: usize) -> Result<Piece, fmt::Error>
-        requires { IsSome (D.output value) }
-        ensures { IfOk result (IsPiece start (line (unwrap_or (D.output value) []))) }
+    /// Returns an empty piece of a text, from the offset `start` on.
+    pub(crate) fn new(start: usize) -> Piece
+        ensures { IsPiece start [] result }
     {
-        let mut piece = Piece {
+        Piece {
             skip: start,
             bytes: [0; PIECE_LEN],
             len: 0,
             is_cut: false,
-        };
-        piece.write(value)?;
-        piece.write_str("\n")?;
-        Ok(piece)
+        }
     }
 
     /// Returns the bytes of the piece.

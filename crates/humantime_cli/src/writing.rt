@@ -5,7 +5,7 @@ ghost use Rattle.std.specs.Io.KnownBytes.{Appends};
 ghost use Rattle.humantime_cli.specs.Writes.{Writes, line};
 
 use crate::piece::Piece;
-use std::fmt::{self, Display};
+use std::fmt::{self, Display, Write as _};
 use std::io::Write;
 
 /// Writes the text that `value` displays and a line feed. Nothing more is written after a failed write.
@@ -19,7 +19,9 @@ pub(crate) fn write_line<W: Write, D: Display + Copy>(to: &mut W, value: D) -> f
 {
     let mut done: usize = 0;
     loop {
-        let piece = Piece::of_line(value, done)?;
+        let mut piece = Piece::new(done);
+        piece.write(value)?;
+        piece.write_str("\n")?;
         let bytes = piece.as_bytes();
         let count = write_some(to, bytes)?;
         if count == bytes.len() && !piece.is_cut() {
