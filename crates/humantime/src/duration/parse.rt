@@ -47,6 +47,7 @@ pub fn spans(s: &str) -> SpanIter<'_>
 }
 
 /// Returns the sum of the spans of a text, or the text's first error.
+#[inline(always)]
 fn sum_of<'a>(text: &'a str) -> Result<StdDuration, DurationError<'a>>
     ensures value { result_view result ≡ sum_spans 0 (map span_in (item_views (chars text.now))) }
     ensures place { IfErr result (PointsInto text.now) }
