@@ -7,7 +7,7 @@ use denote.Follow.{such_by, follows_by}
 use Rattle.std.proofs.Common.{arith, ◌≡◌, ℕ, List, Bor, MutBor}
 use Rattle.std.specs.Prelude.{⊤, Result, Ok, Err, IfOk, IfErr, OnErr}
 use Rattle.std.specs.Borrow.{Array, u8}
-use Rattle.humantime.specs.Buffers.{Holds}
+use Rattle.humantime.specs.Buffers.{BufferHolds}
 use Rattle.humantime.specs.declared.duration.error.DurationError.{DurationError}
 use Rattle.std.specs.Result.{result_map_both}
 use Rattle.humantime.specs.Durations.Errors.{fault_of, text_result_view}
@@ -15,7 +15,7 @@ use Rattle.humantime.specs.Durations.Faults.{Fault}
 
 -- If the last bytes of a buffer are known, it holds them.
 pub holds : {M : Type 1} {𝓤 : Ura M} (𝓛 : Logic 𝓤) (n : ℕ) (buf : MutBor (List ℕ)) (last : List ℕ) (P : List ℕ → Type 0) → P last
-    → ent 𝓤 (𝓛.A.res buf.ghost_name ((Array u8 n).coded.code last)) (sem 𝓛 (Holds n buf P))
+    → ent 𝓤 (𝓛.A.res buf.ghost_name ((Array u8 n).coded.code last)) (sem 𝓛 (BufferHolds n buf P))
 unfolding such_by follows_by
 holds {𝓤 = 𝓤} 𝓛 n buf last P p =
     let Row = Array u8 n in

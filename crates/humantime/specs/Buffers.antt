@@ -4,13 +4,13 @@ use Rattle.std.specs.Borrow.{follows_so, Fml, MutBor, Array, u8}
 use mathlib.Core.Option.{none}
 
 -- Once nothing borrows from the buffer of `n` bytes, `P` holds of its bytes.
-abbrev pub Holds : ℕ → MutBor (List ℕ) → (List ℕ → Type 0) → Fml
-Holds n buf P = follows_so (Array u8 n) (Array u8 n) buf.ghost_name none (λ _ _. ⊤) P
+abbrev pub BufferHolds : ℕ → MutBor (List ℕ) → (List ℕ → Type 0) → Fml
+BufferHolds n buf P = follows_so (Array u8 n) (Array u8 n) buf.ghost_name none (λ _ _. ⊤) P
 
 -- If the result is `None`, the buffer is unchanged once nothing borrows from it.
 abbrev pub KeptAtNone : {A : Type 0} → ℕ → MutBor (List ℕ) → Option A → Fml
-KeptAtNone n buf answer = Holds n buf (λ last. IfNone answer (last ≡ buf.now))
+KeptAtNone n buf answer = BufferHolds n buf (λ last. IfNone answer (last ≡ buf.now))
 
 -- If the result is `Err`, the buffer is unchanged once nothing borrows from it.
 abbrev pub KeptAtErr : {A E : Type 0} → ℕ → MutBor (List ℕ) → Result A E → Fml
-KeptAtErr n buf answer = Holds n buf (λ last. OnErr answer (last ≡ buf.now))
+KeptAtErr n buf answer = BufferHolds n buf (λ last. OnErr answer (last ≡ buf.now))

@@ -8,7 +8,7 @@ pub use Rattle.humantime.specs.Calendar.{IsDate, day_of}
 pub use Rattle.humantime.specs.Laws.Days.{IsDateOfDay}
 -- Parsing durations: the result as a function of the characters, and the relations that define it.
 pub use Rattle.humantime.specs.Durations.Characters.{bare_zero}
-pub use Rattle.humantime.specs.Durations.Errors.{result_view, text_result_view, fault_of, PointsInto, IsPlaceIn, IsRangeIn, IsPartOf, fault_message, unit_message, place_of}
+pub use Rattle.humantime.specs.Durations.Errors.{result_view, text_result_view, fault_of, PointsInto, IsCharStartIn, IsRangeIn, IsPartOf, fault_message, unit_message, place_of}
 pub use Rattle.humantime.specs.Results.Durations.{IsDurationAnswer, duration_answer, canonical_answer, duration_text}
 pub use Rattle.humantime.specs.Durations.Accepted.{Accepted, BareZero, SumOf, value, additions, WithinLimits, AllHaveRoom}
 pub use Rattle.humantime.specs.Durations.Spans.{SpelledSpan, Reads}

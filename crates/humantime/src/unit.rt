@@ -5,7 +5,7 @@ pub(crate) mod words;
 
 /// A number of nanoseconds or seconds to add to a duration.
 #[derive(Clone, Copy, Debug)]
-pub(crate) enum Addition {
+pub(crate) enum Quantity {
     Nanos(u64),
     Seconds(u64),
 }
@@ -14,8 +14,8 @@ pub(crate) enum Addition {
 #[derive(Clone, Copy, Debug)]
 pub(crate) struct Scale {
     /// The size of one unit.
-    pub one: Addition,
+    pub whole: Quantity,
     /// The same size as a factor for fractions: a fraction times this must be a whole number of nanoseconds or of seconds. `None` if a
     /// fraction must be zero.
-    pub fraction: Option<Addition>,
+    pub part: Option<Quantity>,
 }

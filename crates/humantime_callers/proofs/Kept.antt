@@ -10,14 +10,14 @@ use denote.Triple.Walked.{says}
 use Rattle.std.proofs.Common.{◌≡◌, ℕ, List, [], ◌∷◌, refl, Bor, MutBor}
 use Rattle.std.specs.Prelude.{Option, None, Some, IsSome, IfNone, ◌↔◌, Result, Ok, Err, OnErr}
 use Rattle.std.specs.Borrow.{Array, u8}
-use Rattle.humantime.specs.Buffers.{Holds}
+use Rattle.humantime.specs.Buffers.{BufferHolds}
 use Rattle.humantime.specs.Durations.Errors.{text_result_view}
 use Rattle.humantime.specs.Durations.Faults.{Fault}
 use Rattle.humantime.specs.declared.duration.error.DurationError.{DurationError}
 
 -- The last bytes of the buffer, of which `P` holds.
 pub last_held : {M : Type 1} {𝓤 : Ura M} (𝓛 : Logic 𝓤) (n : ℕ) (buf : MutBor (List ℕ)) (P : List ℕ → Type 0)
-    → ent 𝓤 (sem 𝓛 (Holds n buf P)) (ex 𝓤 (λ (y : List ℕ). sep 𝓤 (𝓛.A.res buf.ghost_name ((Array u8 n).coded.code y)) (fact 𝓤 (P y))))
+    → ent 𝓤 (sem 𝓛 (BufferHolds n buf P)) (ex 𝓤 (λ (y : List ℕ). sep 𝓤 (𝓛.A.res buf.ghost_name ((Array u8 n).coded.code y)) (fact 𝓤 (P y))))
 unfolding such_by follows_by
 last_held {𝓤 = 𝓤} 𝓛 n buf P = ex_e 𝓤 _ (λ s. qed 𝓛 (‵ (fres buf.ghost_name ((Array u8 n).coded.code s.0.1)) ∷ []) ∵
     show ! (λ (y : List ℕ). sep 𝓤 (𝓛.A.res buf.ghost_name ((Array u8 n).coded.code y)) (fact 𝓤 (P y))) s.0.1 $ says ! s.2 $ done !)

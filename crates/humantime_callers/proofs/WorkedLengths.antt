@@ -7,7 +7,7 @@ use Rattle.std.proofs.lemmas.Grind.{common_steps}
 use Rattle.humantime.specs.Texts.{decimal_value, drop_while}
 use Rattle.humantime.specs.Prelude.{Reads, SpelledSpan, HasFault, UnknownUnit, IsStrictMoment, nanos_per_second}
 use Rattle.humantime.specs.Durations.Characters.{byte_length, is_digit, is_letter, is_whitespace, offset_of}
-use Rattle.humantime.specs.Durations.Spans.{HoldsDigits, IsLetters, Only, Spells}
+use Rattle.humantime.specs.Durations.Spans.{HoldsDigits, IsLetters, HasOnly, Spells}
 use Rattle.humantime.specs.Durations.Accepted.{additions_of, fits, fraction_fits, too_long, of_kind, part, size}
 use Rattle.humantime.specs.Durations.Units.{scale_of_word}
 use Rattle.humantime.specs.Durations.Faults.{UnknownWord, after_fraction, after_word, number_of, word_of}
@@ -21,13 +21,13 @@ use Rattle.humantime.proofs.OnLiterals.{humantime_on_literals}
 use Rattle.humantime.proofs.TimestampsOnLiterals.{timestamps_on_literals}
 
 -- Digits alone are the digits that they hold.
-digits_held : (ds : List ℕ) → Only is_digit ds → HoldsDigits ds ds
+digits_held : (ds : List ℕ) → HasOnly is_digit ds → HoldsDigits ds ds
 digits_held [] only = (tt, refl)
 digits_held (d ∷ ds) only = let more = digits_held ds only.1 in grind (arith, common_steps, digit_is_numeric)
 
 -- A span is read with all its digits and letters, after and before any whitespace.
-any_span : (before number ds word after : List ℕ) → Only is_whitespace before → Only is_digit number → number ≢ [] → Only is_digit ds → ds ≢ []
-    → IsLetters word → Only is_whitespace after
+any_span : (before number ds word after : List ℕ) → HasOnly is_whitespace before → HasOnly is_digit number → number ≢ [] → HasOnly is_digit ds → ds ≢ []
+    → IsLetters word → HasOnly is_whitespace after
     → Reads (before ++ (number ++ (codes "." ++ (ds ++ (word ++ after))))) (record { number = number; fraction = Some ds; word = word } ∷ [])
 any_span before number ds word after white digits some fraction any letters more = (
   record {

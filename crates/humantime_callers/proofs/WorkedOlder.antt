@@ -39,13 +39,13 @@ greatest_years = record { unit = _; word = refl; number = omega arith; product =
 -- There were no other limits, for any word and at any value. Without a fraction, the number and its product with the unit did not exceed a
 -- `u64`.
 any_number : (word number : List ℕ) (unit : _) → scale_of_word word ≡ Some unit
-    → decimal_value number ≤ u64_max → decimal_value number * size unit.one ≤ u64_max
+    → decimal_value number ≤ u64_max → decimal_value number * size unit.whole ≤ u64_max
     → OlderFormed (record { number = number; fraction = None; word = word })
 any_number word number unit is fits product = record { unit = unit; word = is; number = fits; product = product; fraction = tt }
 
 -- A fraction had at most 19 digits. Their product with what they are parts of did not exceed a `u64`, and was a multiple of their power of
 -- ten.
-any_fraction : (word number ds : List ℕ) (one part : _) → scale_of_word word ≡ Some (record { one = one; fraction = Some part })
+any_fraction : (word number ds : List ℕ) (one part : _) → scale_of_word word ≡ Some (record { whole = one; part = Some part })
     → decimal_value number ≤ u64_max → decimal_value number * size one ≤ u64_max
     → length ds ≤ 19 → decimal_value ds * size part ≤ u64_max → decimal_value ds * size part % 10 ^ length ds ≡ 0
     → OlderFormed (record { number = number; fraction = Some ds; word = word })

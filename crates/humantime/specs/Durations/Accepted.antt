@@ -3,53 +3,53 @@ use Rattle.std.specs.Prelude.{ℕ, ◌*◌, ◌/◌, ◌^◌, List, [], ◌∷�
 use Rattle.std.specs.List.{AllByRecursion}
 use Rattle.humantime.specs.Texts.{decimal_value}
 use Rattle.humantime.specs.Durations.Characters.{without_trailing_zeros, u64_max, bare_zero}
-use Rattle.humantime.specs.Durations.Units.{Addition, Nanos, Seconds, Scale, scale_of_word}
+use Rattle.humantime.specs.Durations.Units.{Quantity, Nanos, Seconds, Scale, scale_of_word}
 use Rattle.humantime.specs.Durations.Spans.{SpelledSpan, Reads}
 use Rattle.humantime.specs.Values.{nanos_per_second}
 
 -- Returns the number of an addition, in nanoseconds or in seconds.
-abbrev pub size : Addition → ℕ
+abbrev pub size : Quantity → ℕ
 size (Nanos n) = n
 size (Seconds n) = n
 
 -- Returns an addition in nanoseconds.
-abbrev pub addition_nanos : Addition → ℕ
-addition_nanos (Nanos n) = n
-addition_nanos (Seconds n) = n * nanos_per_second
+abbrev pub quantity_nanos : Quantity → ℕ
+quantity_nanos (Nanos n) = n
+quantity_nanos (Seconds n) = n * nanos_per_second
 
 -- Returns the sum of additions in nanoseconds.
-abbrev pub total : List Addition → ℕ
-total xs = sum_by addition_nanos xs
+abbrev pub total : List Quantity → ℕ
+total xs = sum_by quantity_nanos xs
 
 -- Returns an addition of the same kind with another number.
-abbrev pub of_kind : Addition → ℕ → Addition
+abbrev pub of_kind : Quantity → ℕ → Quantity
 of_kind (Nanos _) n = Nanos n
 of_kind (Seconds _) n = Seconds n
 
 -- Multiplies an addition by `n`.
-abbrev pub times : ℕ → Addition → Addition
+abbrev pub times : ℕ → Quantity → Quantity
 times n x = of_kind x (n * size x)
 
 -- Returns the part of an addition that the fraction digits `ds` denote, rounded down.
-abbrev pub part : List ℕ → Addition → Addition
+abbrev pub part : List ℕ → Quantity → Quantity
 part ds x = of_kind x (decimal_value ds * size x / 10 ^ length ds)
 
 -- Returns what a fraction adds: nothing if there is none or its unit has no fractions.
-abbrev pub fraction_additions : Option Addition → Option (List ℕ) → List Addition
+abbrev pub fraction_additions : Option Quantity → Option (List ℕ) → List Quantity
 fraction_additions (Some x) (Some ds) = part ds x ∷ []
 fraction_additions _ _ = []
 
 -- Returns what a span adds if its unit has this scale: its number first, and then its fraction.
-abbrev pub additions_at : Option Scale → SpelledSpan → List Addition
+abbrev pub additions_at : Option Scale → SpelledSpan → List Quantity
 additions_at None s = []
-additions_at (Some u) s = times (decimal_value s.number) u.one ∷ fraction_additions u.fraction s.fraction
+additions_at (Some u) s = times (decimal_value s.number) u.whole ∷ fraction_additions u.part s.fraction
 
 -- Returns what a span adds.
-abbrev pub additions_of : SpelledSpan → List Addition
+abbrev pub additions_of : SpelledSpan → List Quantity
 additions_of s = additions_at (scale_of_word s.word) s
 
 -- Returns what the spans add, each number before its fraction.
-abbrev pub additions : List SpelledSpan → List Addition
+abbrev pub additions : List SpelledSpan → List Quantity
 additions spans = flat_map additions_of spans
 
 -- Returns the sum of the spans in nanoseconds.
@@ -79,25 +79,25 @@ abbrev pub is_whole_part : ℕ → List ℕ → Bool
 is_whole_part n ds = fits_u64 (decimal_value ds * n) && (decimal_value ds * n % 10 ^ length ds == 0)
 
 -- Tests whether a fraction, if any, without its trailing zeros, passes `is_whole_part`, or is empty if its unit has no fractions.
-abbrev pub fraction_fits : Option Addition → Option (List ℕ) → Bool
+abbrev pub fraction_fits : Option Quantity → Option (List ℕ) → Bool
 fraction_fits _ None = true
 fraction_fits None (Some ds) = length (without_trailing_zeros ds) == 0
 fraction_fits (Some x) (Some ds) = is_whole_part (size x) (without_trailing_zeros ds)
 
 -- Tests whether the word is a unit, the number times the size of the unit fits a `u64`, and the fraction fits.
 abbrev pub fits : SpelledSpan → Bool
-fits s = is_some_and (λ u. fits_u64 (decimal_value s.number * size u.one) && fraction_fits u.fraction s.fraction)
+fits s = is_some_and (λ u. fits_u64 (decimal_value s.number * size u.whole) && fraction_fits u.part s.fraction)
     (scale_of_word s.word)
 
 -- Tests whether an addition to a sum of `t` nanoseconds does not overflow: the whole seconds of the new sum fit a `u64`, and if nanoseconds
 -- are added, so do these plus the nanoseconds of `t` below a second.
-abbrev pub has_room : ℕ → Addition → Bool
+abbrev pub has_room : ℕ → Quantity → Bool
 has_room t (Nanos n) = fits_u64 (t % nanos_per_second + n) && fits_u64 ((t + n) / nanos_per_second)
 has_room t (Seconds n) = fits_u64 (t / nanos_per_second + n)
 
 -- Each addition, made after those before it, does not overflow.
-abbrev pub AllHaveRoom : List Addition → Type 0
-AllHaveRoom xs = (before after : List Addition) (x : Addition) → xs ≡ before ++ x ∷ after → has_room (total before) x ≡ true
+abbrev pub AllHaveRoom : List Quantity → Type 0
+AllHaveRoom xs = (before after : List Quantity) (x : Quantity) → xs ≡ before ++ x ∷ after → has_room (total before) x ≡ true
 
 -- Each span is formed and fits, and no addition overflows.
 pub record WithinLimits (spans : List SpelledSpan) : Type 0 where

@@ -25,8 +25,8 @@ abbrev pub text_result_view : Result (Bor (List ℕ)) DurationError → Result (
 text_result_view r = result_map_both (λ t. t.now) fault_of r
 
 -- A character of the text begins at this byte offset.
-abbrev pub IsPlaceIn : List ℕ → ℕ → Type 0
-IsPlaceIn bytes at = (at < length bytes) × IsCharBoundary bytes at
+abbrev pub IsCharStartIn : List ℕ → ℕ → Type 0
+IsCharStartIn bytes at = (at < length bytes) × IsCharBoundary bytes at
 
 -- The offsets are in order and lie on `char` boundaries of the text.
 abbrev pub IsRangeIn : List ℕ → ℕ → ℕ → Type 0
@@ -38,8 +38,8 @@ IsPartOf bytes part start end = IsRangeIn bytes start end × (part ≡ slice_ran
 
 -- If the error has one offset, a character begins there. If it has a unit, that is the slice between its offsets.
 abbrev pub PointsInto : List ℕ → DurationError → Type 0
-PointsInto bytes (errors.InvalidCharacter at) = IsPlaceIn bytes at
-PointsInto bytes (errors.NumberExpected at) = IsPlaceIn bytes at
+PointsInto bytes (errors.InvalidCharacter at) = IsCharStartIn bytes at
+PointsInto bytes (errors.NumberExpected at) = IsCharStartIn bytes at
 PointsInto bytes (errors.UnknownUnit start end unit value) = IsPartOf bytes unit.now start end
 PointsInto bytes errors.NumberOverflow = ⊤
 PointsInto bytes errors.Empty = ⊤

@@ -70,33 +70,33 @@ pub record BeginsSpan (rest : List ℕ) : Type 0 where
   pub ended : EndsSpan (after_word rest)
 
 -- The first nine rows of the table: after the spans, the rest does not begin with a whole span, and the fault is `e`.
-pub data Stops (text front : List ℕ) (spans : List SpelledSpan) (rest : List ℕ) (e : Fault) : Type 0 where
+pub data IsStoppedWith (text front : List ℕ) (spans : List SpelledSpan) (rest : List ℕ) (e : Fault) : Type 0 where
   -- The text is empty or only whitespace.
-  OnlyWhitespace : spans ≡ [] → rest ≡ [] → e ≡ Empty → Stops text front spans rest e
+  OnlyWhitespace : spans ≡ [] → rest ≡ [] → e ≡ Empty → IsStoppedWith text front spans rest e
   -- A character other than a digit is at the start, or after a span and whitespace.
   NoNumber : rest ≢ [] → begins is_digit rest ≡ false → (spans ≡ []) ⊎ (ends is_whitespace front ≡ true)
-      → e ≡ NumberExpected (offset_of text rest) → Stops text front spans rest e
+      → e ≡ NumberExpected (offset_of text rest) → IsStoppedWith text front spans rest e
   -- The number or its fraction is too long, whatever follows.
-  TooLong : begins is_digit rest ≡ true → too_long (span_of rest) ≡ true → e ≡ NumberOverflow → Stops text front spans rest e
+  TooLong : begins is_digit rest ≡ true → too_long (span_of rest) ≡ true → e ≡ NumberOverflow → IsStoppedWith text front spans rest e
   -- A character other than a point or a letter follows the number.
   NoLetterAfterNumber : BeginsNumber rest → fraction_of rest ≡ None → word_of rest ≡ [] → after_word rest ≢ []
-      → e ≡ InvalidCharacter (offset_of text (after_word rest)) → Stops text front spans rest e
+      → e ≡ InvalidCharacter (offset_of text (after_word rest)) → IsStoppedWith text front spans rest e
   -- A point has no digits, and then a letter follows or the text ends. The offset is that of the point.
   PointWithoutDigits : BeginsNumber rest → fraction_of rest ≡ Some [] → (word_of rest ≢ []) ⊎ (after_word rest ≡ [])
-      → e ≡ InvalidCharacter (offset_of text (after_number rest)) → Stops text front spans rest e
+      → e ≡ InvalidCharacter (offset_of text (after_number rest)) → IsStoppedWith text front spans rest e
   -- A character other than a letter follows a point and its digits, if any.
   NoLetterAfterPoint : BeginsNumber rest → IsSome (fraction_of rest) → word_of rest ≡ [] → after_word rest ≢ []
-      → e ≡ InvalidCharacter (offset_of text (after_word rest)) → Stops text front spans rest e
+      → e ≡ InvalidCharacter (offset_of text (after_word rest)) → IsStoppedWith text front spans rest e
   -- A character other than a digit or whitespace follows the letters, whether they are a unit or not.
   WordNotEnded : BeginsNumber rest → fraction_of rest ≢ Some [] → word_of rest ≢ [] → ¬ (EndsSpan (after_word rest))
-      → e ≡ InvalidCharacter (offset_of text (after_word rest)) → Stops text front spans rest e
+      → e ≡ InvalidCharacter (offset_of text (after_word rest)) → IsStoppedWith text front spans rest e
   -- The text ends without a unit.
   NoWord : BeginsNumber rest → fraction_of rest ≢ Some [] → word_of rest ≡ [] → after_word rest ≡ []
-      → e ≡ UnknownUnit (byte_length text) (byte_length text) [] (decimal_value (number_of rest)) → Stops text front spans rest e
+      → e ≡ UnknownUnit (byte_length text) (byte_length text) [] (decimal_value (number_of rest)) → IsStoppedWith text front spans rest e
   -- The word is not a unit.
   UnknownWord : BeginsNumber rest → fraction_of rest ≢ Some [] → word_of rest ≢ [] → scale_of_word (word_of rest) ≡ None → EndsSpan (after_word rest)
       → e ≡ UnknownUnit (offset_of text (after_fraction rest)) (offset_of text (after_word rest)) (encode_utf8_all (word_of rest)) (decimal_value (number_of rest))
-      → Stops text front spans rest e
+      → IsStoppedWith text front spans rest e
 
 -- The tenth row of the table: the rest begins with a whole span, and the spans together with this one break a limit.
 pub record BreaksLimit (spans : List SpelledSpan) (rest : List ℕ) (e : Fault) : Type 0 where
@@ -112,4 +112,4 @@ pub record HasFault (text : List ℕ) (e : Fault) : Type 0 where
   pub spans : List SpelledSpan
   pub split : Split text front spans rest
   pub within : WithinLimits spans
-  pub row : Stops text front spans rest e ⊎ BreaksLimit spans rest e
+  pub row : IsStoppedWith text front spans rest e ⊎ BreaksLimit spans rest e

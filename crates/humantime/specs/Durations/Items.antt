@@ -2,16 +2,16 @@
 use Rattle.std.specs.Prelude.{◌≡◌, ◌≢◌, List, ℕ, [], Option, Some, None, true, ◌∷◌, ◌++◌, Result, Ok, Err, map, option_to_list, option_map}
 use Rattle.std.specs.List.{AllByRecursion}
 use Rattle.std.specs.Str.{byte}
-use Rattle.humantime.specs.Durations.Spans.{SpelledSpan, Only, Spells}
+use Rattle.humantime.specs.Durations.Spans.{SpelledSpan, HasOnly, Spells}
 use Rattle.humantime.specs.Durations.Accepted.{Formed}
-use Rattle.humantime.specs.Durations.Faults.{Fault, Split, Stops}
+use Rattle.humantime.specs.Durations.Faults.{Fault, Split, IsStoppedWith}
 use Rattle.humantime.specs.Texts.{begins, ends, drop_while, decimal_value}
 use Rattle.humantime.specs.Durations.Characters.{is_whitespace, is_digit, offset_of}
 
 -- The text ends after the spans, of which there is at least one, or it stops there with the fault.
-abbrev pub Ends : List ℕ → List ℕ → List SpelledSpan → List ℕ → Option Fault → Type 0
-Ends text front spans rest None = (rest ≡ []) × (spans ≢ [])
-Ends text front spans rest (Some e) = Stops text front spans rest e
+abbrev pub EndsOrStops : List ℕ → List ℕ → List SpelledSpan → List ℕ → Option Fault → Type 0
+EndsOrStops text front spans rest None = (rest ≡ []) × (spans ≢ [])
+EndsOrStops text front spans rest (Some e) = IsStoppedWith text front spans rest e
 
 -- The text is these spans, each formed, followed by the end of the text or by the fault.
 pub record Items (text : List ℕ) (spans : List SpelledSpan) (stop : Option Fault) : Type 0 where
@@ -19,7 +19,7 @@ pub record Items (text : List ℕ) (spans : List SpelledSpan) (stop : Option Fau
   pub rest : List ℕ
   pub split : Split text front spans rest
   pub formed : AllByRecursion Formed spans
-  pub ends : Ends text front spans rest stop
+  pub ends : EndsOrStops text front spans rest stop
 
 -- The view of a span: the slices that it borrows, the byte offsets of its start and of the end of its word, and the value of its number.
 pub record SpanView : Type 0 where
@@ -35,8 +35,8 @@ pub record IsDigitSlice (text slice : List ℕ) : Type 0 where
   pub before : List ℕ
   pub after : List ℕ
   pub whole : text ≡ before ++ (slice ++ after)
-  pub only_before : Only is_whitespace before
-  pub only_after : Only is_whitespace after
+  pub only_before : HasOnly is_whitespace before
+  pub only_after : HasOnly is_whitespace after
   pub first_digit : begins is_digit slice ≡ true
   pub last_digit : ends is_digit slice ≡ true
 

@@ -13,16 +13,16 @@ pub record SpelledSpan : Type 0 where
   pub word : List ℕ
 
 -- Each character of the text passes the test.
-abbrev pub Only : (ℕ → Bool) → List ℕ → Type 0
-Only passes text = AllByRecursion (λ c. passes c ≡ true) text
+abbrev pub HasOnly : (ℕ → Bool) → List ℕ → Type 0
+HasOnly passes text = AllByRecursion (λ c. passes c ≡ true) text
 
 -- The text is digits and whitespace, and its digits are `ds`.
 abbrev pub HoldsDigits : List ℕ → List ℕ → Type 0
-HoldsDigits text ds = Only is_numeric text × (digits text ≡ ds)
+HoldsDigits text ds = HasOnly is_numeric text × (digits text ≡ ds)
 
 -- The text is one or more letters.
 abbrev pub IsLetters : List ℕ → Type 0
-IsLetters text = Only is_letter text × (text ≢ [])
+IsLetters text = HasOnly is_letter text × (text ≢ [])
 
 -- The text is empty if there is no fraction. Otherwise it is a point followed by one or more digits, with any whitespace around and between
 -- them.
@@ -40,7 +40,7 @@ pub record Spells (text : List ℕ) (span : SpelledSpan) (rest : List ℕ) : Typ
   pub number : HoldsDigits number_text span.number
   pub fraction : SpellsFraction fraction_text span.fraction
   pub word : IsLetters span.word
-  pub only_whitespace : Only is_whitespace whitespace
+  pub only_whitespace : HasOnly is_whitespace whitespace
 
 -- The text is the spans, one after the other.
 abbrev pub SpellsEach : List ℕ → List SpelledSpan → Type 0
@@ -52,7 +52,7 @@ pub record SpellsAll (text : List ℕ) (spans : List SpelledSpan) : Type 0 where
   pub whitespace : List ℕ
   pub body : List ℕ
   pub whole : text ≡ whitespace ++ body
-  pub only_whitespace : Only is_whitespace whitespace
+  pub only_whitespace : HasOnly is_whitespace whitespace
   pub each : SpellsEach body spans
 
 -- The text is one or more spans, after any whitespace.

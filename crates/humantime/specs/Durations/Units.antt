@@ -2,27 +2,27 @@
 -- number of nanoseconds or of seconds.
 use Rattle.std.specs.Prelude.{ℕ, ◌*◌, List, [], ◌∷◌, ◌++◌, map, Option, Some, None, codes, bytes_eq}
 use Rattle.std.specs.Map.{lookup}
-pub use Rattle.humantime.specs.declared.unit.Addition.{Addition}
-pub use Rattle.humantime.specs.declared.unit.Addition.TheVariants.{Nanos, Seconds}
+pub use Rattle.humantime.specs.declared.unit.Quantity.{Quantity}
+pub use Rattle.humantime.specs.declared.unit.Quantity.TheVariants.{Nanos, Seconds}
 pub use Rattle.humantime.specs.declared.unit.Scale.{Scale}
 use Rattle.humantime.specs.Values.{nanos_per_micro, nanos_per_milli, nanos_per_second, seconds_per_minute, seconds_per_hour, seconds_per_day, seconds_per_week, seconds_per_month, seconds_per_year}
 use Rattle.humantime.specs.Durations.Characters.{micro_sign, greek_mu}
 
 -- The scale of the nanosecond, which has no fractions.
 abbrev pub whole_nanos : Scale
-whole_nanos = record { one = Nanos 1; fraction = None }
+whole_nanos = record { whole = Nanos 1; part = None }
 
 -- The scale of a unit of `size` nanoseconds, whose fractions are added as nanoseconds.
 abbrev pub in_nanos : ℕ → Scale
-in_nanos size = record { one = Nanos size; fraction = Some (Nanos size) }
+in_nanos size = record { whole = Nanos size; part = Some (Nanos size) }
 
 -- The scale of a unit of `size` seconds, whose fractions are added as nanoseconds.
 abbrev pub in_seconds_and_nanos : ℕ → Scale
-in_seconds_and_nanos size = record { one = Seconds size; fraction = Some (Nanos (size * nanos_per_second)) }
+in_seconds_and_nanos size = record { whole = Seconds size; part = Some (Nanos (size * nanos_per_second)) }
 
 -- The scale of a unit of `size` seconds, whose fractions are added as seconds.
 abbrev pub in_seconds : ℕ → Scale
-in_seconds size = record { one = Seconds size; fraction = Some (Seconds size) }
+in_seconds size = record { whole = Seconds size; part = Some (Seconds size) }
 
 -- Pairs each of these words with the scale.
 abbrev unit_words : List (List ℕ) → Scale → List (List ℕ × Scale)

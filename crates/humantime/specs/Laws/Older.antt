@@ -5,13 +5,13 @@ use Rattle.std.specs.List.{AllByRecursion}
 use Rattle.humantime.specs.Texts.{decimal_value}
 use Rattle.humantime.specs.Durations.Characters.{u64_max, bare_zero}
 use Rattle.humantime.specs.Results.Durations.{duration_answer}
-use Rattle.humantime.specs.Durations.Units.{Addition, Scale, scale_of_word}
+use Rattle.humantime.specs.Durations.Units.{Quantity, Scale, scale_of_word}
 use Rattle.humantime.specs.Durations.Spans.{SpelledSpan, Reads}
 use Rattle.humantime.specs.Durations.Accepted.{size, additions, value, is_whole_part, AllHaveRoom, Accepted}
 
 -- While trailing zeros counted, a fraction had at most 19 digits and denoted a whole number of nanoseconds or of seconds, and nanoseconds
 -- had no fraction.
-abbrev pub OlderFraction : Option Addition → Option (List ℕ) → Type 0
+abbrev pub OlderFraction : Option Quantity → Option (List ℕ) → Type 0
 OlderFraction _ None = ⊤
 OlderFraction None (Some ds) = ⊥
 OlderFraction (Some x) (Some ds) = (length ds ≤ 19) × (is_whole_part (size x) ds ≡ true)
@@ -22,8 +22,8 @@ pub record OlderFormed (s : SpelledSpan) : Type 0 where
   pub unit : Scale
   pub word : scale_of_word s.word ≡ Some unit
   pub number : decimal_value s.number ≤ u64_max
-  pub product : decimal_value s.number * size unit.one ≤ u64_max
-  pub fraction : OlderFraction unit.fraction s.fraction
+  pub product : decimal_value s.number * size unit.whole ≤ u64_max
+  pub fraction : OlderFraction unit.part s.fraction
 
 -- While trailing zeros of a fraction counted, the text was accepted and denoted `v` nanoseconds. What spans add and their `value` are the
 -- same with and without trailing zeros: `part` takes all digits of a fraction, and each trailing zero multiplies by ten both the value of

@@ -19,7 +19,7 @@ pub record PrintsAndReads (d : ℕ) : Type 0 where
   pub answer : duration_answer (chars (duration_text d)) ≡ Ok d
 
 -- The canonical texts of two durations, and so the printed ones, are equal if and only if the durations are.
-pub record PrintApart (a b : ℕ) : Type 0 where
+pub record TextsTellApart (a b : ℕ) : Type 0 where
   -- The canonical texts of `a` and of `b` nanoseconds are equal if and only if `a` and `b` are.
   pub canon : (bytes other : List ℕ) → IsCanonicalText a bytes → IsCanonicalText b other → ((bytes ≡ other) ↔ (a ≡ b))
   -- The same holds of the printed texts.

@@ -15,8 +15,8 @@ abbrev pub IsMarked : List ℕ → Type 0
 IsMarked b = (slice_index b 10 ≡ byte "T") × IsTrue (ends_in_zone b)
 
 -- The printed texts of two moments with the same number of digits compare, byte by byte, like the moments rounded down to these digits.
-abbrev pub InOrder : ℤ → ℤ → Type 0
-InOrder a b =
+abbrev pub PrintInOrder : ℤ → ℤ → Type 0
+PrintInOrder a b =
     (k : ℕ) (x y : List ℕ) → IsPrinted a k x → IsPrinted b k y
     → slice_cmp nat_cmp x y ≡ int_cmp (cut a k) (cut b k)
 
@@ -27,7 +27,7 @@ pub record ReadsAs (bytes : List ℕ) (t : ℤ) : Type 0 where
 
 -- The text represents parts if and only if no check fails, and then exactly one set of them. The result of parsing is their moment, or the
 -- error of the first check that fails.
-pub record OneTimestamp (checks : List (Bool × TimestampError)) (Represents : Fields → Type 0)
+pub record HasOneTimestamp (checks : List (Bool × TimestampError)) (Represents : Fields → Type 0)
     (answer : Result ℤ TimestampError) : Type 0 where
   -- The text represents some parts if and only if no check fails.
   pub some : ((f : Fields) × Represents f) ↔ (first_failed checks ≡ None)
@@ -39,7 +39,7 @@ pub record OneTimestamp (checks : List (Bool × TimestampError)) (Represents : F
   pub error : (e : TimestampError) → (answer ≡ Err e) ↔ (first_failed checks ≡ Some e)
 
 -- The strict form is the weak form with a `T` and a zone.
-pub record StrictForm (text : List ℕ) : Type 0 where
+pub record IsWeakAndMarked (text : List ℕ) : Type 0 where
   -- A text represents parts in the strict form if and only if it does so in the weak form and has a `T` and a zone.
   pub parts : (f : Fields) → IsStrict text f ↔ (IsWeak text f × IsMarked text)
   -- The same holds of a moment.
@@ -51,7 +51,7 @@ pub record StrictForm (text : List ℕ) : Type 0 where
   pub strict : (t : ℤ) → weak_answer text ≡ Ok t → IsMarked text → strict_answer text ≡ Ok t
 
 -- A moment in 1970 to 9999 has exactly one printed text with `k` digits. `Display` writes it, and it parses to the moment rounded down.
-pub record PrintedMoment (t : ℤ) (k : ℕ) : Type 0 where
+pub record MomentPrintsAndReads (t : ℤ) (k : ℕ) : Type 0 where
   -- The moment has exactly one printed text.
   pub one : IsPrintable t → ExactlyOne (IsPrinted t k)
   -- `Display` writes this text.

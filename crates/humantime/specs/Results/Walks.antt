@@ -3,9 +3,9 @@
 use Rattle.std.specs.Prelude.{ℕ, zero, suc, ◌+◌, Bool, true, false, not, ◌==◌, List, [], ◌∷◌, length, Option, Some, None, is_some, Result, Ok, Err, if◌then◌else◌, map, encode_utf8_all}
 use Rattle.humantime.specs.Texts.{begins, drop_while, decimal_value}
 use Rattle.humantime.specs.Durations.Characters.{is_whitespace, is_digit, is_letter, is_numeric, offset_of}
-use Rattle.humantime.specs.Durations.Units.{Addition, scale_of_word}
+use Rattle.humantime.specs.Durations.Units.{Quantity, scale_of_word}
 use Rattle.humantime.specs.Durations.Spans.{SpelledSpan}
-use Rattle.humantime.specs.Durations.Accepted.{addition_nanos, additions_of, fits, is_some_and, has_room, too_long}
+use Rattle.humantime.specs.Durations.Accepted.{quantity_nanos, additions_of, fits, is_some_and, has_room, too_long}
 use Rattle.humantime.specs.Durations.Faults.{number_of, after_number, fraction_of, after_fraction, word_of, after_word, span_of, Fault, InvalidCharacter, NumberExpected, UnknownUnit, NumberOverflow, Empty}
 pub use Rattle.humantime.specs.Durations.Accepted.{too_long}
 
@@ -71,9 +71,9 @@ abbrev pub items : List ℕ → List SpelledSpan × Option Fault
 items text = spans_of_walk (walk_of text)
 
 -- Returns the sum of `t` and these additions, or `None` if one of them overflows.
-unfoldable pub add_all : ℕ → List Addition → Option ℕ
+unfoldable pub add_all : ℕ → List Quantity → Option ℕ
 add_all t [] = Some t
-add_all t (x ∷ xs) = if has_room t x then add_all (t + addition_nanos x) xs else None
+add_all t (x ∷ xs) = if has_room t x then add_all (t + quantity_nanos x) xs else None
 
 -- Returns the sum of `t` and a span, or `None` if the span breaks a limit.
 unfoldable pub add_span : ℕ → SpelledSpan → Option ℕ

@@ -1,8 +1,8 @@
--- The digits and spans that the `Fraction` and `Amount` of the code represent.
+-- The digits and spans that the `Decimal` and `Amount` of the code represent.
 use Rattle.std.specs.Prelude.{◌≡◌, ℕ, List, length, Option, Some, option_map, chars}
 use Rattle.std.specs.Borrow.{Bor}
 use Rattle.std.specs.Str.{drop_trailing_whitespace}
-use Rattle.humantime.specs.declared.duration.amount.Fraction.{Fraction}
+use Rattle.humantime.specs.declared.duration.amount.Decimal.{Decimal}
 use Rattle.humantime.specs.declared.duration.amount.Amount.{Amount}
 use Rattle.humantime.specs.Texts.{decimal_value}
 use Rattle.humantime.specs.Durations.Characters.{without_trailing_zeros}
@@ -18,9 +18,9 @@ Counted = ℕ × ℕ × ℕ
 abbrev pub counted : List ℕ → Counted
 counted ds = (decimal_value (without_trailing_zeros ds), length (without_trailing_zeros ds), length ds)
 
--- Returns the three numbers of a `Fraction` of the code.
-abbrev pub parts_of : Fraction → Counted
-parts_of f = (f.significand, f.places, f.len)
+-- Returns the three numbers of a `Decimal` of the code.
+abbrev pub parts_of : Decimal → Counted
+parts_of f = (f.significand, f.exponent, f.len)
 
 -- The amount is the one that the span denotes.
 pub record IsAmountOf (a : Amount) (s : SpelledSpan) : Type 0 where

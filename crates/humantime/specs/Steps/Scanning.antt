@@ -1,7 +1,7 @@
 -- The steps that parse one span, each on the rest of a text.
 use Rattle.std.specs.Prelude.{◌≡◌, ◌≤◌, ◌<◌, ◌^◌, ℕ, ◌-◌, ◌++◌, Bool, not, List, [], ◌∷◌, Option, IfSome, IfNone, length, drop, if◌then◌else◌, IsUtf8, IsCharBoundary, chars}
 use Rattle.std.specs.Char.{len_utf8}
-use Rattle.humantime.specs.declared.duration.amount.Fraction.{Fraction}
+use Rattle.humantime.specs.declared.duration.amount.Decimal.{Decimal}
 use Rattle.humantime.specs.Texts.{begins, drop_while}
 use Rattle.humantime.specs.Durations.Characters.{is_whitespace, is_letter, without_trailing_zeros}
 use Rattle.humantime.specs.Steps.Scales.{counted, parts_of}
@@ -23,17 +23,17 @@ whitespace_len [] = 0
 whitespace_len (c ∷ cs) = if is_whitespace c then len_utf8 c else 0
 
 -- The fraction has these digits, at most 19 of them before the trailing zeros.
-pub record HasDigits (f : Fraction) (ds : List ℕ) : Type 0 where
+pub record HasDigits (f : Decimal) (ds : List ℕ) : Type 0 where
   pub parts : parts_of f ≡ counted ds
-  pub few : f.places ≤ 19
-  pub fits : f.significand < 10 ^ f.places
+  pub few : f.exponent ≤ 19
+  pub fits : f.significand < 10 ^ f.exponent
 
 -- The result, if there is one, has the digits of the fraction and then the digit `c`.
-abbrev pub AppendsIfSome : Fraction → ℕ → Option Fraction → Type 0
+abbrev pub AppendsIfSome : Decimal → ℕ → Option Decimal → Type 0
 AppendsIfSome f c result = (ds : List ℕ) → HasDigits f ds → IfSome result (λ g. HasDigits g (ds ++ c ∷ []))
 
 -- If there is no result, the digit `c` makes more than 19 digits before the trailing zeros, whatever digits follow.
-abbrev pub IsFullIfNone : Fraction → ℕ → Option Fraction → Type 0
+abbrev pub IsFullIfNone : Decimal → ℕ → Option Decimal → Type 0
 IsFullIfNone f c result = (ds : List ℕ) → HasDigits f ds → IfNone result ((es : List ℕ) → 19 < length (without_trailing_zeros (ds ++ c ∷ es)))
 
 -- There is only whitespace between the two positions.

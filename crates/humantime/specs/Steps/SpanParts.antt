@@ -3,7 +3,7 @@ use Rattle.std.specs.Prelude.{◌≡◌, ◌<◌, false, length, Option, Some, N
 use Rattle.std.specs.Option.{ForSome}
 use Rattle.humantime.specs.declared.duration.cursor.Cursor.{Cursor}
 use Rattle.humantime.specs.declared.duration.scan.Number.{Number}
-use Rattle.humantime.specs.declared.duration.scan.FractionPart.{FractionPart}
+use Rattle.humantime.specs.declared.duration.scan.FractionText.{FractionText}
 use Rattle.humantime.specs.declared.duration.error.DurationError.{DurationError}
 use Rattle.humantime.specs.declared.duration.span.Span.{Span}
 use Rattle.humantime.specs.Texts.{drop_while}
@@ -17,7 +17,7 @@ use Rattle.humantime.specs.Results.Walks.{stop_at}
 use Rattle.humantime.specs.Steps.Cursors.{ahead}
 
 -- `fraction` is the fraction after `number`, or `None` if no point follows. Neither is too long.
-pub record IsFractionOf (number : Number) (fraction : Option FractionPart) : Type 0 where
+pub record IsFractionOf (number : Number) (fraction : Option FractionText) : Type 0 where
   pub point : option_map (λ f. ahead f.start) fraction ≡ after_point (ahead number.end)
   pub text : ForSome fraction (λ f. f.start.text.now ≡ number.start.text.now)
   pub short : too_long (span_of (ahead number.start)) ≡ false

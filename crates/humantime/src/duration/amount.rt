@@ -1,4 +1,4 @@
-//! [`Amount`], what a span adds to a duration, and the arithmetic that builds its number and its [`Fraction`] digit by digit.
+//! [`Amount`], what a span adds to a duration, and the arithmetic that builds its number and its [`Decimal`] digit by digit.
 
 ghost use Rattle.std.specs.Prelude.{◌≡◌, ℕ, List, true, SomeIff, ◌+◌, ◌-◌, ◌*◌, ◌^◌, ◌≤◌, ◌<◌};
 ghost use Rattle.std.specs.Option.{ForSome};
@@ -33,13 +33,13 @@ static POWERS_OF_TEN: [u64; 20] = [
     10_000_000_000_000_000_000,
 ];
 
-/// The digits after a point. Their value is `significand / 10^places`, which is below 1.
+/// The digits after a point. Their value is `significand / 10^exponent`, which is below 1.
 #[derive(Clone, Copy, Debug)]
-pub(crate) struct Fraction {
+pub(crate) struct Decimal {
     /// The digits before the trailing zeros, as an integer.
     pub significand: u64,
     /// The number of digits before the trailing zeros, leading zeros included.
-    pub places: usize,
+    pub exponent: usize,
     /// The number of digits, trailing zeros included.
     pub len: usize,
 }
@@ -48,9 +48,9 @@ pub(crate) struct Fraction {
 #[derive(Clone, Copy, Debug)]
 pub(crate) struct Amount {
     pub value: u64,
-    pub fraction: Option<Fraction>,
+    pub fraction: Option<Decimal>,
     pub scale: &'static Scale,
-    ghost few: { ForSome fraction (λ f. f.places ≤ 19) },
+    ghost few: { ForSome fraction (λ f. f.exponent ≤ 19) },
 }
 
 /// Returns `value * 10 + digit`, or `None` on overflow.
@@ -70,19 +70,19 @@ pub(crate) fn power_of_ten(exponent: usize) -> u64
     POWERS_OF_TEN[exponent]
 }
 
-impl Fraction {
+impl Decimal {
     ghost use Rattle.humantime.specs.Steps.Scanning.{HasDigits, AppendsIfSome, IsFullIfNone};
 
     /// The fraction without digits.
-    pub(crate) const EMPTY: Fraction = Fraction {
+    pub(crate) const EMPTY: Decimal = Decimal {
         significand: 0,
-        places: 0,
+        exponent: 0,
         len: 0,
     };
 
     /// Returns the fraction followed by the ASCII digit `c`, or `None` if it then has more than 19 digits before its trailing zeros.
     #[inline(always)]
-    pub(crate) fn push(self, c: u8) -> Option<Fraction>
+    pub(crate) fn push(self, c: u8) -> Option<Decimal>
         requires digit { is_digit c ≡ true }
         requires digits { (ds : List ℕ) × HasDigits self ds }
         requires room { self.len + 1 < 2 ^ 64 }
@@ -91,17 +91,17 @@ impl Fraction {
     {
         let len = self.len + 1;
         if c == b'0' {
-            return Some(Fraction { len, ..self });
+            return Some(Decimal { len, ..self });
         }
         if len > MAX_FRACTION_DIGITS {
             return None;
         }
         // The zeros before this digit are no longer trailing zeros.
-        let power = power_of_ten(len - self.places);
+        let power = power_of_ten(len - self.exponent);
         let significand = self.significand * power + (c - b'0') as u64;
-        Some(Fraction {
+        Some(Decimal {
             significand,
-            places: len,
+            exponent: len,
             len,
         })
     }

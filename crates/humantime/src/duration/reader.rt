@@ -12,7 +12,7 @@ use crate::duration::amount::Amount;
 use crate::duration::cursor::Cursor;
 use crate::duration::error::DurationError;
 use crate::duration::scan::{
-    FractionPart, Number, begins_with_digit, read_fraction, read_number, read_word, skip_point,
+    FractionText, Number, begins_with_digit, read_fraction, read_number, read_word, skip_point,
     skip_whitespace_char,
 };
 use crate::duration::span::Span;
@@ -21,7 +21,7 @@ use crate::unit::words::scale_of;
 /// Returns the cursor after the number and its fraction, if any. `fraction` is the fraction after `number`, or `None` if no point
 /// follows the number.
 #[inline(always)]
-fn fraction_end<'a>(number: Number<'a>, fraction: Option<FractionPart<'a>>) -> Cursor<'a>
+fn fraction_end<'a>(number: Number<'a>, fraction: Option<FractionText<'a>>) -> Cursor<'a>
     requires { IsFractionOf number fraction }
     ensures rest { ahead result ≡ after_fraction (ahead number.entry.start) }
     ensures text { result.text.now ≡ number.entry.start.text.now }
@@ -77,7 +77,7 @@ pub(crate) fn read_span<'a>(start: Cursor<'a>) -> Result<(Span<'a>, Cursor<'a>),
 #[inline(always)]
 fn complete_span<'a>(
     number: Number<'a>,
-    fraction: Option<FractionPart<'a>>,
+    fraction: Option<FractionText<'a>>,
 ) -> Result<(Span<'a>, Cursor<'a>), DurationError<'a>>
     requires digit { begins is_digit (ahead number.start) ≡ true }
     requires fraction { IsFractionOf number fraction }

@@ -7,14 +7,14 @@ ghost use Rattle.std.specs.Prelude.{◌≡◌, ◌==◌, ◌+◌, ◌<◌, ◌�
 ghost use Rattle.std.specs.Prelude.{IfSome, SomeIff, MatchOption, IsCharBoundary};
 ghost use Rattle.humantime.specs.Texts.{begins, drop_while, decimal_value};
 ghost use Rattle.humantime.specs.Durations.Characters.{is_digit, is_whitespace, is_letter, without_trailing_zeros, u64_max};
-ghost use Rattle.humantime.specs.Durations.Errors.{IsPlaceIn};
+ghost use Rattle.humantime.specs.Durations.Errors.{IsCharStartIn};
 ghost use Rattle.humantime.specs.Durations.Faults.{number_of, after_point};
 ghost use Rattle.humantime.specs.Durations.Units.{scale_of_word};
 ghost use Rattle.humantime.specs.Steps.Cursors.{ahead, IsNumericRun, IsWord};
 ghost use Rattle.humantime.specs.Steps.Keys.{scale_of_key};
 ghost use Rattle.humantime.specs.Steps.Scanning.{HasDigits, SkipsWhitespace, whitespace_len, begins_with_nonletter};
 
-use crate::duration::amount::{Fraction, push_digit};
+use crate::duration::amount::{Decimal, push_digit};
 use crate::duration::cursor::Cursor;
 use crate::unit::words::{EMPTY_KEY, push_byte};
 
@@ -49,7 +49,7 @@ fn leading_whitespace_len(text: &str) -> usize
 /// A character must begin at `at`, so `at` is less than the length of the text.
 #[inline(always)]
 pub(crate) fn skip_whitespace_char(text: &str, at: usize) -> Option<usize>
-    requires { IsPlaceIn text.now at }
+    requires { IsCharStartIn text.now at }
     ensures { SomeIff result (0 < whitespace_len (chars (drop at text.now))) (at + whitespace_len (chars (drop at text.now))) }
 {
     let bytes = text.as_bytes();
@@ -172,9 +172,9 @@ pub(crate) fn read_number<'a>(start: Cursor<'a>) -> Option<Number<'a>>
 
 /// The digits of a fraction, and the cursors before and after them. The whitespace around the digits is part of the fraction.
 #[derive(Clone, Copy)]
-pub(crate) struct FractionPart<'a> {
+pub(crate) struct FractionText<'a> {
     pub start: Cursor<'a>,
-    pub value: Fraction,
+    pub value: Decimal,
     /// The digits, and the whitespace around them.
     pub slice: &'a str,
     pub end: Cursor<'a>,
@@ -184,14 +184,14 @@ pub(crate) struct FractionPart<'a> {
 
 /// Reads the digits of a fraction, if any, at the cursor. Returns `None` if there are more than 19 before the trailing zeros.
 ///
-/// By the ghost fields of [`FractionPart`], `start` determines the value, the slice and the end.
+/// By the ghost fields of [`FractionText`], `start` determines the value, the slice and the end.
 #[inline(always)]
-pub(crate) fn read_fraction<'a>(start: Cursor<'a>) -> Option<FractionPart<'a>>
+pub(crate) fn read_fraction<'a>(start: Cursor<'a>) -> Option<FractionText<'a>>
     ensures { MatchOption result (19 < length (without_trailing_zeros (number_of (ahead start.entry)))) (λ f. f.start ≡ start.entry) }
 {
     let text = start.rest;
     let bytes = text.as_bytes();
-    let mut value = Fraction::EMPTY;
+    let mut value = Decimal::EMPTY;
     let mut at = 0;
     while at < bytes.len() {
         if bytes[at].is_ascii_digit() {
@@ -204,7 +204,7 @@ pub(crate) fn read_fraction<'a>(start: Cursor<'a>) -> Option<FractionPart<'a>>
             }
         }
     }
-    Some(FractionPart {
+    Some(FractionText {
         start,
         value,
         slice: &text[..at],

@@ -7,8 +7,8 @@ ghost use Rattle.humantime.specs.Steps.Adding as steps;
 ghost use Rattle.humantime.specs.Results.Walks.{add_span};
 ghost use Rattle.humantime.specs.Steps.Scales.{IsAmountOf};
 
-use crate::duration::amount::{Amount, Fraction, power_of_ten};
-use crate::unit::Addition;
+use crate::duration::amount::{Amount, Decimal, power_of_ten};
+use crate::unit::Quantity;
 use crate::value::StdDuration;
 
 /// Returns `value * factor`, or `None` on overflow.
@@ -23,23 +23,23 @@ fn product(value: u64, factor: u64) -> Option<u64>
 
 /// Returns `sum` plus `count` times the addition `one`, or `None` on overflow.
 #[inline(always)]
-fn add_times(sum: StdDuration, one: Addition, count: u64) -> Option<StdDuration>
+fn add_times(sum: StdDuration, one: Quantity, count: u64) -> Option<StdDuration>
     ensures { result ≡ steps.add_times sum one count }
 {
     match one {
-        Addition::Nanos(size) => sum.checked_add_nanos(product(count, size)?),
-        Addition::Seconds(size) => sum.checked_add_secs(product(count, size)?),
+        Quantity::Nanos(size) => sum.checked_add_nanos(product(count, size)?),
+        Quantity::Seconds(size) => sum.checked_add_secs(product(count, size)?),
     }
 }
 
 /// Returns the fraction times `factor`, or `None` if that is not a whole number or the significand times `factor` overflows.
 #[tactic(auto, using(crate::proofs::Durations::Bytes::Additions::power_positive))]
-fn part_of(fraction: Fraction, factor: u64) -> Option<u64>
-    requires { fraction.places ≤ 19 }
-    ensures { result ≡ steps.part_of fraction.significand fraction.places factor }
+fn part_of(fraction: Decimal, factor: u64) -> Option<u64>
+    requires { fraction.exponent ≤ 19 }
+    ensures { result ≡ steps.part_of fraction.significand fraction.exponent factor }
 {
     let scaled = product(fraction.significand, factor)?;
-    let power = power_of_ten(fraction.places);
+    let power = power_of_ten(fraction.exponent);
     if scaled % power != 0 {
         return None;
     }
@@ -49,14 +49,14 @@ fn part_of(fraction: Fraction, factor: u64) -> Option<u64>
 /// Returns `sum` plus the fraction of the addition `one`, or `None` on overflow or if that part is not a whole number.
 ///
 /// If `one` is `None`, as for nanoseconds, which have no fractions, the result is `None` unless the fraction is zero.
-fn add_part(sum: StdDuration, one: Option<Addition>, fraction: Fraction) -> Option<StdDuration>
-    requires { fraction.places ≤ 19 }
-    ensures { result ≡ steps.add_part sum one fraction.significand fraction.places }
+fn add_part(sum: StdDuration, one: Option<Quantity>, fraction: Decimal) -> Option<StdDuration>
+    requires { fraction.exponent ≤ 19 }
+    ensures { result ≡ steps.add_part sum one fraction.significand fraction.exponent }
 {
     match one {
-        None => (fraction.places == 0).then_some(sum),
-        Some(Addition::Nanos(size)) => sum.checked_add_nanos(part_of(fraction, size)?),
-        Some(Addition::Seconds(size)) => sum.checked_add_secs(part_of(fraction, size)?),
+        None => (fraction.exponent == 0).then_some(sum),
+        Some(Quantity::Nanos(size)) => sum.checked_add_nanos(part_of(fraction, size)?),
+        Some(Quantity::Seconds(size)) => sum.checked_add_secs(part_of(fraction, size)?),
     }
 }
 
@@ -70,10 +70,10 @@ pub(crate) fn add_amount(total: StdDuration, amount: Amount) -> Option<StdDurati
     // `add_times` is called in both arms, so that it is inlined twice and `amount.fraction` is tested once: parsing takes 0.96 of the
     // instructions.
     match amount.fraction {
-        None => add_times(total, scale.one, count),
+        None => add_times(total, scale.whole, count),
         Some(fraction) => {
-            let sum = add_times(total, scale.one, count)?;
-            add_part(sum, scale.fraction, fraction)
+            let sum = add_times(total, scale.whole, count)?;
+            add_part(sum, scale.part, fraction)
         }
     }
 }

@@ -1,6 +1,6 @@
 //! Laws of printed durations: the texts parse back, differ for different durations, and have at most 64 bytes.
 
-ghost use Rattle.humantime.specs.Laws.Printed.{IsBounded, IsCanonicalAgain, PrintApart, PrintsAndReads};
+ghost use Rattle.humantime.specs.Laws.Printed.{IsBounded, IsCanonicalAgain, TextsTellApart, PrintsAndReads};
 
 use crate::value::StdDuration;
 
@@ -36,7 +36,7 @@ pub fn printed_duration_reads(d: StdDuration)
 /// assert_eq!(rt; format_duration(longer).text(&mut other), "1m 1ns");
 /// ```
 pub fn printed_durations_differ(a: StdDuration, b: StdDuration)
-    ensures { PrintApart a b }
+    ensures { TextsTellApart a b }
 {}
 
 /// States that a canonical text has at most 64 bytes, and counts at most 11 months and 30 days.

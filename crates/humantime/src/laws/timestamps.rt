@@ -3,7 +3,7 @@
 ghost use Rattle.std.specs.Prelude.{◌↔◌, ◌<ℤ◌, ℕ, List, IsTrue};
 ghost use Rattle.std.specs.Cmp.Lexicographic.{slice_cmp};
 ghost use Rattle.std.specs.Ordering.{is_lt, nat_cmp};
-ghost use Rattle.humantime.specs.Laws.Timestamps.{InOrder, OneTimestamp, PrintedMoment, StrictForm};
+ghost use Rattle.humantime.specs.Laws.Timestamps.{PrintInOrder, HasOneTimestamp, MomentPrintsAndReads, IsWeakAndMarked};
 ghost use Rattle.humantime.specs.Prelude.{IsPrinted, IsStrict, IsWeak, strict_answer, strict_checks, weak_answer, weak_checks};
 
 use crate::date::Rfc3339Timestamp;
@@ -28,7 +28,7 @@ use crate::value::SystemTime;
 /// ```
 #[tactic(auto, using(crate::proofs::Theorems::strict_is_weak))]
 pub fn strict_is_weak(s: &str)
-    ensures { StrictForm s.now }
+    ensures { IsWeakAndMarked s.now }
 {}
 
 /// States that each text has exactly one outcome for each parser, a moment or an error, which is what the parser returns.
@@ -45,8 +45,8 @@ pub fn strict_is_weak(s: &str)
 /// assert_eq!(rt; parse_rfc3339("1970-13-01 00:00:00junk"), Err(TimestampError::InvalidFormat));
 /// ```
 pub fn one_stamp_outcome(s: &str)
-    ensures weak { OneTimestamp (weak_checks s.now) (IsWeak s.now) (weak_answer s.now) }
-    ensures strict { OneTimestamp (strict_checks s.now) (IsStrict s.now) (strict_answer s.now) }
+    ensures weak { HasOneTimestamp (weak_checks s.now) (IsWeak s.now) (weak_answer s.now) }
+    ensures strict { HasOneTimestamp (strict_checks s.now) (IsStrict s.now) (strict_answer s.now) }
 {}
 
 /// States that a moment from 1970 to 9999 has exactly one printed text, which both parsers parse back.
@@ -69,7 +69,7 @@ pub fn one_stamp_outcome(s: &str)
 /// assert_eq!(rt; parse_rfc3339_weak(text), Ok(cut));
 /// ```
 pub fn printed_moment_reads(x: &Rfc3339Timestamp)
-    ensures { PrintedMoment x.now.moment x.now.places }
+    ensures { MomentPrintsAndReads x.now.moment x.now.places }
 {}
 
 /// States that printed texts with the same number of digits are ordered, as bytes, like their moments rounded down to these digits.
@@ -88,6 +88,6 @@ pub fn printed_moment_reads(x: &Rfc3339Timestamp)
 /// ```
 #[tactic(auto, using(crate::proofs::Theorems::stamps_in_order, crate::proofs::Theorems::earlier_in_nanos))]
 pub fn stamps_in_order(a: SystemTime, b: SystemTime)
-    ensures order { InOrder a b }
+    ensures order { PrintInOrder a b }
     ensures nanos { (x : List ℕ) (y : List ℕ) → IsPrinted a 9 x → IsPrinted b 9 y → (a <ℤ b) ↔ IsTrue (is_lt (slice_cmp nat_cmp x y)) }
 {}

@@ -6,7 +6,7 @@
 ghost use Rattle.std.specs.Prelude.{◌≡◌, ◌+◌, ◌*◌, ◌%◌, ◌^◌, option_map};
 ghost use Rattle.humantime.specs.Steps.Keys.{scale_of_key};
 
-use crate::unit::{Addition, Scale, sizes};
+use crate::unit::{Quantity, Scale, sizes};
 
 /// The key of the empty word.
 pub(crate) const EMPTY_KEY: u64 = 1;
@@ -23,22 +23,22 @@ macro_rules! key {
 /// The scale of the nanosecond, which has no fractions. This and the next three are macros, because a reference to a constant expression
 /// is `'static`, and a reference to the result of a function is not.
 macro_rules! whole_nanos {
-    () => { Scale { one: Addition::Nanos(1), fraction: None } };
+    () => { Scale { whole: Quantity::Nanos(1), part: None } };
 }
 
 /// The scale of a unit of `size` nanoseconds, whose fractions must be whole numbers of nanoseconds.
 macro_rules! in_nanos {
-    ($size:expr) => { Scale { one: Addition::Nanos($size), fraction: Some(Addition::Nanos($size)) } };
+    ($size:expr) => { Scale { whole: Quantity::Nanos($size), part: Some(Quantity::Nanos($size)) } };
 }
 
 /// The scale of a unit of `size` seconds, whose fractions must be whole numbers of nanoseconds.
 macro_rules! in_seconds_and_nanos {
-    ($size:expr) => { Scale { one: Addition::Seconds($size), fraction: Some(Addition::Nanos($size * sizes::NANOS_PER_SECOND as u64)) } };
+    ($size:expr) => { Scale { whole: Quantity::Seconds($size), part: Some(Quantity::Nanos($size * sizes::NANOS_PER_SECOND as u64)) } };
 }
 
 /// The scale of a unit of `size` seconds, whose fractions must be whole numbers of seconds.
 macro_rules! in_seconds {
-    ($size:expr) => { Scale { one: Addition::Seconds($size), fraction: Some(Addition::Seconds($size)) } };
+    ($size:expr) => { Scale { whole: Quantity::Seconds($size), part: Some(Quantity::Seconds($size)) } };
 }
 
 const NANOS: u64 = key!(b"nanos");

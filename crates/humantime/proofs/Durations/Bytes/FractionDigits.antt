@@ -3,7 +3,7 @@ use Rattle.std.proofs.Common.{◌≡◌, ◌≢◌, ◌≤◌, ◌<◌, ◌+◌,
 use Rattle.std.proofs.lemmas.Bool.{ne_eqb}
 use Rattle.std.proofs.lemmas.Nat.{pow-add}
 use Rattle.std.proofs.Math.Nat.{pow-le-pow_right, mul-le-mul_right}
-use Rattle.humantime.specs.declared.duration.amount.Fraction.{Fraction}
+use Rattle.humantime.specs.declared.duration.amount.Decimal.{Decimal}
 use Rattle.humantime.specs.Texts.{decimal_value}
 use Rattle.humantime.specs.Durations.Characters.{is_digit, without_trailing_zeros}
 use Rattle.humantime.specs.Steps.Scales.{Counted}
@@ -22,29 +22,29 @@ push_fits v n k d p fits digit more power few =
     omega (arith, shifted_fits v n k d p fits digit more power, pow-le-pow_right {n = 10} (omega arith) {i = n + k} {j = 19} few)
 
 -- There are no more digits before the trailing zeros than in all.
-pub fewer : (f : Fraction) (ds : List ℕ) → HasDigits f ds → f.places ≤ f.len
+pub fewer : (f : Decimal) (ds : List ℕ) → HasDigits f ds → f.exponent ≤ f.len
 fewer f ds h = omega (arith, ap (λ (x : Counted). x.1) h.parts, ap (λ (x : Counted). x.2) h.parts, significant_shorter ds)
 
 -- The fraction without digits.
-pub no_digits : HasDigits (record { significand = 0; places = 0; len = 0 }) []
+pub no_digits : HasDigits (record { significand = 0; exponent = 0; len = 0 }) []
 unfolding without_trailing_zeros
 no_digits = record { parts = refl; few = omega arith; fits = omega arith }
 
 -- Another digit follows the zeros.
-pub fraction_extended : (f : Fraction) (ds : List ℕ) (c p : ℕ) → HasDigits f ds → is_digit c ≡ true → c ≢ 48 → f.len + 1 ≤ 19 → p ≡ 10 ^ (f.len + 1 - f.places)
-    → HasDigits (record { significand = f.significand * p + (c - 48); places = f.len + 1; len = f.len + 1 }) (ds ++ c ∷ [])
+pub fraction_extended : (f : Decimal) (ds : List ℕ) (c p : ℕ) → HasDigits f ds → is_digit c ≡ true → c ≢ 48 → f.len + 1 ≤ 19 → p ≡ 10 ^ (f.len + 1 - f.exponent)
+    → HasDigits (record { significand = f.significand * p + (c - 48); exponent = f.len + 1; len = f.len + 1 }) (ds ++ c ∷ [])
 fraction_extended f ds c p h is some few power =
-    let zeros = f.len - f.places in
+    let zeros = f.len - f.exponent in
     let within = fewer f ds h in
     let value_is : f.significand ≡ decimal_value (without_trailing_zeros ds) = ap (λ (x : Counted). x.0) h.parts in
-    let count_is : f.places ≡ length (without_trailing_zeros ds) = ap (λ (x : Counted). x.1) h.parts in
+    let count_is : f.exponent ≡ length (without_trailing_zeros ds) = ap (λ (x : Counted). x.1) h.parts in
     let len_is : f.len ≡ length ds = ap (λ (x : Counted). x.2) h.parts in
     let kept : without_trailing_zeros (ds ++ c ∷ []) ≡ ds ++ c ∷ [] = significant_last ds c (ne_eqb c 48 some) in
     let value : decimal_value ds ≡ f.significand * 10 ^ zeros = rw value_is (value_shifted ds zeros (omega (arith, within, len_is, count_is))) in
     let tens : p ≡ 10 ^ zeros * 10 = power ∙ ap (λ (n : ℕ). 10 ^ n) (omega (arith, within)) ∙ pow-add 10 zeros 1 in
     let more : decimal_value (ds ++ c ∷ []) ≡ f.significand * p + (c - 48) = omega (arith, value_more ds c is, value, ap (λ (n : ℕ). f.significand * n) tens) in
     let long : length (ds ++ c ∷ []) ≡ f.len + 1 = omega (arith, length-append ds (c ∷ []), len_is) in
-    let sum : f.places + (f.len + 1 - f.places) ≡ f.len + 1 = omega (arith, within) in
+    let sum : f.exponent + (f.len + 1 - f.exponent) ≡ f.len + 1 = omega (arith, within) in
     record {
       parts = rw (kept, more, long) refl;
       few = few;

@@ -8,7 +8,7 @@ use Rattle.std.proofs.lemmas.Bool.{cases_lt, or_cases, and_parts, eqb-true}
 use Rattle.std.proofs.lemmas.Bool.Decides.{nat_tests}
 use Rattle.std.proofs.lemmas.List.{get_or-drop}
 use Rattle.std.proofs.lemmas.Str.{IsUtf8-drop, IsCharBoundary-past_char, drop_past_char, chars_past_char, byte_from_char, char_from_byte, len_utf8_ascii, len_utf8_bounds, encodes-chars, encode_same, IsCharBoundary-start}
-use Rattle.humantime.specs.Durations.Errors.{IsPlaceIn}
+use Rattle.humantime.specs.Durations.Errors.{IsCharStartIn}
 use Rattle.humantime.specs.Texts.{begins, drop_while}
 use Rattle.humantime.specs.Durations.Characters.{is_letter, is_whitespace, whitespace_chars, is_digit, is_point}
 use Rattle.humantime.specs.Steps.Scanning.{whitespace_len}
@@ -25,7 +25,7 @@ pub record IsCharAt (text : List ℕ) (at char next : ℕ) : Type 0 where
   pub ascii : get_or text at 0 < 128 → char ≡ get_or text at 0
   pub wide : 128 ≤ get_or text at 0 → 128 ≤ char
 
-pub char_at : (text : List ℕ) (at : ℕ) → IsUtf8 text → IsPlaceIn text at → (char : ℕ) × IsCharAt text at char (at + len_utf8 char)
+pub char_at : (text : List ℕ) (at : ℕ) → IsUtf8 text → IsCharStartIn text at → (char : ℕ) × IsCharAt text at char (at + len_utf8 char)
 char_at text at u here = by (chars rest) (encodes-chars rest utf8)
   where
     rest : List ℕ
@@ -57,11 +57,11 @@ char_at text at u here = by (chars rest) (encodes-chars rest utf8)
         )
 
 -- An ASCII byte is a character.
-pub ascii_at : (text : List ℕ) (at : ℕ) → IsUtf8 text → IsPlaceIn text at → get_or text at 0 < 128 → IsCharAt text at (get_or text at 0) (at + 1)
+pub ascii_at : (text : List ℕ) (at : ℕ) → IsUtf8 text → IsCharStartIn text at → get_or text at 0 < 128 → IsCharAt text at (get_or text at 0) (at + 1)
 ascii_at text at u here small = grind (arith, common_steps, nat_tests, char_at, len_utf8_ascii)
 
 -- There is a digit at an offset if and only if its byte is one.
-pub digit_at : (text : List ℕ) (at : ℕ) → IsUtf8 text → IsPlaceIn text at → is_ascii_digit (get_or text at 0) ≡ begins is_digit (chars (drop at text))
+pub digit_at : (text : List ℕ) (at : ℕ) → IsUtf8 text → IsCharStartIn text at → is_ascii_digit (get_or text at 0) ≡ begins is_digit (chars (drop at text))
 digit_at text at u here =
     let c = char_at text at u here in
     rw (c.1.ahead, ← digit_is) (elim (cases_lt (get_or text at 0) 128) [
@@ -70,7 +70,7 @@ digit_at text at u here =
     ])
 
 -- Whitespace at an offset is a character of its length.
-pub whitespace_over : (text : List ℕ) (at next : ℕ) → IsUtf8 text → IsPlaceIn text at → 0 < whitespace_len (chars (drop at text))
+pub whitespace_over : (text : List ℕ) (at next : ℕ) → IsUtf8 text → IsCharStartIn text at → 0 < whitespace_len (chars (drop at text))
     → next ≡ at + whitespace_len (chars (drop at text)) → (c : ℕ) × (is_whitespace c ≡ true) × IsCharAt text at c next
 whitespace_over text at next u here some n = let c = char_at text at u here in grind arith
 
@@ -145,7 +145,7 @@ pub no_whitespace_at_mu : (text : List ℕ) (at : ℕ) → IsUtf8 text → IsCha
 no_whitespace_at_mu text at u place some pair = grind (arith, common_steps, nat_tests, letter_not_whitespace, mu_over)
 
 -- An ASCII letter is one byte.
-pub letter_over : (text : List ℕ) (at : ℕ) → IsUtf8 text → IsPlaceIn text at → is_ascii_alphabetic (get_or text at 0) ≡ true
+pub letter_over : (text : List ℕ) (at : ℕ) → IsUtf8 text → IsCharStartIn text at → is_ascii_alphabetic (get_or text at 0) ≡ true
     → (is_letter (get_or text at 0) ≡ true) × IsCharAt text at (get_or text at 0) (at + 1)
 unfolding is_letter
 letter_over text at u here e = grind (arith, common_steps, nat_tests, ascii_at)

@@ -12,7 +12,7 @@ use Rattle.humantime.specs.Results.Walks.{stop_at}
 use Rattle.humantime.specs.Steps.Scanning.{begins_with_nonletter}
 use Rattle.humantime.proofs.Durations.Bytes.Trimming.{spelled_at}
 use Rattle.humantime.specs.declared.duration.scan.Number.{Number}
-use Rattle.humantime.specs.declared.duration.scan.FractionPart.{FractionPart}
+use Rattle.humantime.specs.declared.duration.scan.FractionText.{FractionText}
 use Rattle.humantime.specs.Steps.SpanParts.{IsFractionOf}
 use Rattle.humantime.specs.Steps.Cursors.{ahead}
 use Rattle.humantime.specs.Steps.Scales.{parts_of, counted}
@@ -39,10 +39,10 @@ pub spelled_read : (rest number letters : List ℕ) (digits : Option (Bor (List 
 spelled_read rest number letters digits n l d = grind (arith, (spelled_at [] rest))
 
 -- What is read of the fraction, if there is one, is the fraction after the number.
-pub fraction_parts : (number : Number) (fraction : Option FractionPart) → IsFractionOf number fraction
+pub fraction_parts : (number : Number) (fraction : Option FractionText) → IsFractionOf number fraction
     → option_map (λ f. parts_of f.value) fraction ≡ option_map counted (fraction_of (ahead number.start))
 fraction_parts number fraction h = grind (arith, common_steps, nat_tests)
 
-pub fraction_slice_is : (number : Number) (fraction : Option FractionPart) → IsFractionOf number fraction
+pub fraction_slice_is : (number : Number) (fraction : Option FractionText) → IsFractionOf number fraction
     → option_map (λ f. chars f.slice.now) fraction ≡ option_map (take_while is_numeric) (after_point (after_number (ahead number.start)))
 fraction_slice_is number fraction h = grind (arith, common_steps, nat_tests)

@@ -8,7 +8,7 @@ use Rattle.std.proofs.lemmas.Bool.Decides.{nat_tests}
 use Rattle.std.proofs.lemmas.List.Elements.{filter-append}
 use Rattle.humantime.specs.Texts.{begins, ends, take_while, drop_while}
 use Rattle.humantime.specs.Durations.Characters.{is_whitespace, is_digit, is_letter, is_numeric, digits, is_point}
-use Rattle.humantime.specs.Durations.Spans.{Only}
+use Rattle.humantime.specs.Durations.Spans.{HasOnly}
 use Rattle.humantime.specs.Durations.Faults.{number_of, after_number, after_point, span_of}
 use Rattle.humantime.specs.Results.Items.{trimmed, fraction_slice, view_at, spelled}
 use Rattle.humantime.specs.Durations.Items.{IsDigitSlice}
@@ -22,7 +22,7 @@ suc_not_zero n = grind (arith, nat_tests)
 pub record Dropped (cs ds : List ℕ) : Type 0 where
   pub tail : List ℕ
   pub whole : cs ≡ ds ++ tail
-  pub whitespace : Only is_whitespace tail
+  pub whitespace : HasOnly is_whitespace tail
   pub last : (ds ≡ []) ⊎ (ends is_whitespace ds ≡ false)
 
 pub dropped : (cs : List ℕ) → Dropped cs (drop_trailing_whitespace cs)
@@ -35,7 +35,7 @@ dropped (c ∷ cs) = by (std_is_whitespace c) (drop_trailing_whitespace cs) refl
     by false [] e d = record { tail = d.tail; whole = ap (c ∷◌) d.whole; whitespace = d.whitespace; last = inr (sym (whitespace_is c) ∙ e) }
     by false (x ∷ xs) e d = record { tail = d.tail; whole = ap (c ∷◌) d.whole; whitespace = d.whitespace; last = grind arith }
 
-digits_of_whitespace : (cs : List ℕ) → Only is_whitespace cs → digits cs ≡ []
+digits_of_whitespace : (cs : List ℕ) → HasOnly is_whitespace cs → digits cs ≡ []
 digits_of_whitespace [] o = refl
 digits_of_whitespace (c ∷ cs) o = rw (whitespace_not_digit c o.0) (digits_of_whitespace cs o.1)
 
@@ -53,16 +53,16 @@ trimmed_digits o = grind (arith, common_steps, nat_tests, digits_drop_while, dig
 pub spelled_at : (text rest : List ℕ) → spelled (view_at text rest).number (view_at text rest).fraction (view_at text rest).unit ≡ span_of rest
 spelled_at text rest = grind (arith, (digits_dropped _ _ (dropped (take_while is_numeric rest))), (trimmed_digits (after_point (after_number rest))))
 
-ends_digit : (x : ℕ) (xs : List ℕ) → Only is_numeric (x ∷ xs) → ends is_whitespace (x ∷ xs) ≡ false → ends is_digit (x ∷ xs) ≡ true
+ends_digit : (x : ℕ) (xs : List ℕ) → HasOnly is_numeric (x ∷ xs) → ends is_whitespace (x ∷ xs) ≡ false → ends is_digit (x ∷ xs) ≡ true
 ends_digit x [] o e = digit_from_numeric x o.0 e
 ends_digit x (y ∷ ys) o e = ends_digit y ys o.1 e
 
-only_front : (p : ℕ → Bool) (xs ys : List ℕ) → Only p (xs ++ ys) → Only p xs
+only_front : (p : ℕ → Bool) (xs ys : List ℕ) → HasOnly p (xs ++ ys) → HasOnly p xs
 only_front p [] ys o = tt
 only_front p (x ∷ xs) ys o = (o.0, only_front p xs ys o.1)
 
 -- The slice of digits and whitespace that begins with a digit, without trailing whitespace, after other whitespace.
-pub digit_slice : (before cs ds : List ℕ) → Dropped cs ds → Only is_whitespace before → begins is_digit cs ≡ true → Only is_numeric cs
+pub digit_slice : (before cs ds : List ℕ) → Dropped cs ds → HasOnly is_whitespace before → begins is_digit cs ≡ true → HasOnly is_numeric cs
     → IsDigitSlice (before ++ cs) ds
 digit_slice before cs [] d w b o = grind (arith, whitespace_not_digit)
 digit_slice before cs (x ∷ xs) d w b o = grind (arith, only_front, ends_digit)
@@ -72,7 +72,7 @@ pub no_slice : (tail : List ℕ) → begins is_letter tail ≡ true → fraction
 unfolding is_letter is_point
 no_slice tail h = grind (arith, nat_tests)
 
-pub slice_after_point : (after tail : List ℕ) → Only is_numeric after → begins is_letter tail ≡ true
+pub slice_after_point : (after tail : List ℕ) → HasOnly is_numeric after → begins is_letter tail ≡ true
     → fraction_slice (46 ∷ (after ++ tail)) ≡ Some (trimmed after)
 unfolding is_digit is_letter is_point
 slice_after_point after tail only e = grind (arith, letter_not_whitespace, nat_tests, take_while-append)

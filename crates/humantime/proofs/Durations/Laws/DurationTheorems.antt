@@ -10,7 +10,7 @@ use Rattle.humantime.specs.contracts.duration.error.DurationErrorPartialEq.TheIm
 use Rattle.humantime.specs.Laws.Outcomes.{HasOneOutcome, ItemsDecide, ItemsTile}
 use Rattle.humantime.specs.Results.Items.{item_views}
 use Rattle.humantime.specs.Results.Durations.{duration_text, duration_answer, canonical_answer}
-use Rattle.humantime.specs.Laws.Printed.{PrintsAndReads, PrintApart, IsBounded, IsCanonicalAgain}
+use Rattle.humantime.specs.Laws.Printed.{PrintsAndReads, TextsTellApart, IsBounded, IsCanonicalAgain}
 use Rattle.humantime.proofs.Durations.Printing.CanonicalTexts as canonical
 use Rattle.humantime.proofs.Durations.Printing.GreatestCounts as counts
 use Rattle.humantime.proofs.Durations.Slices.ItemViews as views
@@ -72,7 +72,7 @@ printed_duration_reads d fits =
       answer = outcomes.outcome_accepted (chars (duration_text d)) d (reads (duration_text d) canon);
     }
 
-pub printed_durations_differ : (a b : ℕ) → a < duration_end → b < duration_end → PrintApart a b
+pub printed_durations_differ : (a b : ℕ) → a < duration_end → b < duration_end → TextsTellApart a b
 printed_durations_differ a b fits_a fits_b =
     let apart = back.texts_tell_apart a b (omega arith) (omega arith) in
     record { canon = apart; text = apart (duration_text a) (duration_text b) (counts.printed_is_canon a) (counts.printed_is_canon b) }

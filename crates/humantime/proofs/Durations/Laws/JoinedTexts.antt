@@ -3,7 +3,7 @@ use Rattle.std.proofs.lemmas.List.Sums.{sum_by-append}
 use Rattle.std.proofs.Common.{arith, ◌≡◌, ◌≢◌, ◌↔◌, ◌⊎◌, ℕ, ◌+◌, true, List, [], ◌∷◌, ◌++◌, None, refl, inl, inr, append_assoc, append-nil}
 use Rattle.std.specs.List.{AllByRecursion}
 use Rattle.humantime.specs.Durations.Characters.{is_whitespace, bare_zero}
-use Rattle.humantime.specs.Durations.Spans.{SpelledSpan, Only, SpellsEach, SpellsAll, Reads}
+use Rattle.humantime.specs.Durations.Spans.{SpelledSpan, HasOnly, SpellsEach, SpellsAll, Reads}
 use Rattle.humantime.specs.Durations.Accepted.{additions, value, Formed, fits, AllHaveRoom, Accepted, BareZero, SumOf}
 use Rattle.humantime.specs.Durations.Faults.{NumberOverflow, HasFault}
 use Rattle.humantime.specs.Laws.Texts.{AcceptedAs}
@@ -15,7 +15,7 @@ pub use Rattle.humantime.proofs.Durations.Reading.Spellings.{each-append, spells
 use Rattle.humantime.proofs.Durations.Laws.Readings.{accepted_spans, no_value_and_fault}
 
 -- Whitespace after a span belongs to it.
-spells_each-whitespace : (body whitespace : List ℕ) (s : SpelledSpan) (ss : List SpelledSpan) → SpellsEach body (s ∷ ss) → Only is_whitespace whitespace → SpellsEach (body ++ whitespace) (s ∷ ss)
+spells_each-whitespace : (body whitespace : List ℕ) (s : SpelledSpan) (ss : List SpelledSpan) → SpellsEach body (s ∷ ss) → HasOnly is_whitespace whitespace → SpellsEach (body ++ whitespace) (s ∷ ss)
 spells_each-whitespace body whitespace s [] h only = ([], grind (arith, (respelled body h.0 (body ++ whitespace) [] (h.1.whitespace ++ whitespace) s h.1), append_assoc, append-nil, each-append), refl)
 spells_each-whitespace body whitespace s (t ∷ ts) h only = (h.0 ++ whitespace, spells-append body h.0 whitespace s h.1, spells_each-whitespace h.0 whitespace t ts h.2 only)
 

@@ -3,22 +3,22 @@ use Rattle.std.proofs.lemmas.Grind.{common_steps}
 use Rattle.std.proofs.Common.{◌≡◌, ℕ, Bool, List, [], ◌∷◌, refl, ap, arith, rules}
 use Rattle.std.proofs.lemmas.Bool.{cases_Bool, or_parts}
 use Rattle.humantime.specs.Durations.Characters.{is_whitespace, is_letter, digits, bare_zero, is_point}
-use Rattle.humantime.specs.Durations.Spans.{SpelledSpan, Only, Spells, SpellsEach}
+use Rattle.humantime.specs.Durations.Spans.{SpelledSpan, HasOnly, Spells, SpellsEach}
 use Rattle.humantime.specs.Durations.Accepted.{Accepted, BareZero, SumOf}
 use Rattle.humantime.specs.Laws.Texts.{without_whitespace}
 use Rattle.humantime.proofs.Durations.Reading.Classes.{digit_not_whitespace, whitespace_not_digit, letter_not_whitespace, point_not_numeric}
 use Rattle.humantime.proofs.Durations.Printing.PrintedDigits.{some_digit}
 
 -- Whitespace is removed, and each other character is kept.
-only_whitespace : (cs : List ℕ) → Only is_whitespace cs → without_whitespace cs ≡ []
+only_whitespace : (cs : List ℕ) → HasOnly is_whitespace cs → without_whitespace cs ≡ []
 only_whitespace [] h = refl
 only_whitespace (c ∷ cs) h = rw h.0 (only_whitespace cs h.1)
 
-only_letters : (cs : List ℕ) → Only is_letter cs → without_whitespace cs ≡ cs
+only_letters : (cs : List ℕ) → HasOnly is_letter cs → without_whitespace cs ≡ cs
 only_letters [] h = refl
 only_letters (c ∷ cs) h = grind (arith, letter_not_whitespace, (only_letters cs h.1))
 
-still_only : (p : ℕ → Bool) (cs : List ℕ) → Only p cs → Only p (without_whitespace cs)
+still_only : (p : ℕ → Bool) (cs : List ℕ) → HasOnly p cs → HasOnly p (without_whitespace cs)
 still_only p [] h = tt
 still_only p (c ∷ cs) h = grind (arith, (still_only p cs h.1), (cases_Bool (is_whitespace c)))
 

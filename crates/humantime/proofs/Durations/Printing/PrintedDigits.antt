@@ -7,10 +7,10 @@ use Rattle.std.proofs.lemmas.Fmt.{decimal_is_IsNumeral}
 use Rattle.std.proofs.lemmas.Bool.Decides.{nat_tests}
 use Rattle.humantime.specs.Texts.{begins, decimal_value}
 use Rattle.humantime.specs.Durations.Characters.{is_digit, is_numeric, digits}
-use Rattle.humantime.specs.Durations.Spans.{Only}
+use Rattle.humantime.specs.Durations.Spans.{HasOnly}
 use Rattle.humantime.proofs.Durations.Reading.Classes.{digit_is_numeric}
 
-all_digits : (ds : List ℕ) → AllDigits 10 ds → Only is_numeric ds × (digits ds ≡ ds)
+all_digits : (ds : List ℕ) → AllDigits 10 ds → HasOnly is_numeric ds × (digits ds ≡ ds)
 unfolding is_digit
 all_digits [] h = (h, refl)
 all_digits (c ∷ cs) h = grind (arith, nat_tests, digit_is_numeric, digit_from_value, (all_digits cs h.1))
@@ -22,7 +22,7 @@ some_digit ds h k = grind (arith, nat_tests)
 -- The digits are those of a number, whose value is `n`.
 pub record IsNumber (ds : List ℕ) (n : ℕ) : Type 0 where
   pub starts : begins is_digit ds ≡ true
-  pub numeric : Only is_numeric ds
+  pub numeric : HasOnly is_numeric ds
   pub its_digits : digits ds ≡ ds
   pub value : decimal_value ds ≡ n
 

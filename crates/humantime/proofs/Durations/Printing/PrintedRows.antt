@@ -9,9 +9,9 @@ use Rattle.std.proofs.lemmas.Bool.Decides.{nat_tests}
 use Rattle.humantime.specs.Values.{nanos_per_second}
 use Rattle.humantime.specs.Texts.{begins}
 use Rattle.humantime.specs.Durations.Characters.{is_letter}
-use Rattle.humantime.specs.Durations.Units.{Addition, Nanos, Seconds, Scale, scale_of_word}
-use Rattle.humantime.specs.Durations.Accepted.{addition_nanos, size, is_some_and}
-use Rattle.humantime.specs.Durations.Spans.{SpelledSpan, Only}
+use Rattle.humantime.specs.Durations.Units.{Quantity, Nanos, Seconds, Scale, scale_of_word}
+use Rattle.humantime.specs.Durations.Accepted.{quantity_nanos, size, is_some_and}
+use Rattle.humantime.specs.Durations.Spans.{SpelledSpan, HasOnly}
 use Rattle.humantime.specs.Durations.Counts.{Suffix, weights, suffixes}
 
 -- The byte between two counts.
@@ -30,7 +30,7 @@ abbrev pub span_for : ℕ → Suffix → SpelledSpan
 span_for n s = record { number = decimal n; fraction = None; word = chars (word_for n s) }
 
 -- The addition is one of seconds, or of nanoseconds if the remainder is at most a second.
-abbrev pub is_of_kind : ℕ → Addition → Bool
+abbrev pub is_of_kind : ℕ → Quantity → Bool
 is_of_kind m (Nanos n) = nat_le m nanos_per_second
 is_of_kind m (Seconds n) = true
 
@@ -39,19 +39,19 @@ pub record IsPrintedWord (w m : ℕ) (word : List ℕ) : Type 0 where
   pub utf8 : IsUtf8 word
   pub unit : Scale
   pub is : scale_of_word (chars word) ≡ Some unit
-  pub weight : addition_nanos unit.one ≡ w
-  pub some : 0 < size unit.one
-  pub kind : is_of_kind m unit.one ≡ true
-  pub letters : Only is_letter (chars word)
+  pub weight : quantity_nanos unit.whole ≡ w
+  pub some : 0 < size unit.whole
+  pub kind : is_of_kind m unit.whole ≡ true
+  pub letters : HasOnly is_letter (chars word)
   pub first : begins is_letter (chars word) ≡ true
 
 abbrev counts : ℕ → ℕ → Option Scale → Bool
-counts w m o = is_some_and (λ u. (addition_nanos u.one == w) && nat_lt 0 (size u.one) && is_of_kind m u.one) o
+counts w m o = is_some_and (λ u. (quantity_nanos u.whole == w) && nat_lt 0 (size u.whole) && is_of_kind m u.whole) o
 
 abbrev is_word : ℕ → ℕ → List ℕ → Bool
 is_word w m word = is_utf8 word && counts w m (scale_of_word (chars word)) && list_all is_letter (chars word) && begins is_letter (chars word)
 
-only_from : (p : ℕ → Bool) (cs : List ℕ) → list_all p cs ≡ true → Only p cs
+only_from : (p : ℕ → Bool) (cs : List ℕ) → list_all p cs ≡ true → HasOnly p cs
 only_from p [] h = tt
 only_from p (c ∷ cs) h = grind (arith, (only_from p cs))
 

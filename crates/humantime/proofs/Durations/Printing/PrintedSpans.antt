@@ -13,9 +13,9 @@ use Rattle.std.proofs.lemmas.Str.{chars-append, chars-IsAscii, chars-nil, IsUtf8
 use Rattle.std.proofs.lemmas.Fmt.{IsAscii-decimal, decimal_digit}
 use Rattle.humantime.specs.Values.{nanos_per_second}
 use Rattle.humantime.specs.Durations.Characters.{whitespace_chars, is_letter, is_whitespace, u64_max}
-use Rattle.humantime.specs.Durations.Units.{Addition, scale_of_word}
-use Rattle.humantime.specs.Durations.Spans.{SpelledSpan, Only, Spells, SpellsEach, Reads}
-use Rattle.humantime.specs.Durations.Accepted.{addition_nanos, size, times, total, additions_of, additions, value, Formed, fits, Accepted, SumOf}
+use Rattle.humantime.specs.Durations.Units.{Quantity, scale_of_word}
+use Rattle.humantime.specs.Durations.Spans.{SpelledSpan, HasOnly, Spells, SpellsEach, Reads}
+use Rattle.humantime.specs.Durations.Accepted.{quantity_nanos, size, times, total, additions_of, additions, value, Formed, fits, Accepted, SumOf}
 use Rattle.humantime.specs.Durations.Counts.{Suffix, printed_count, joined_by_space, IsCanonicalText}
 use Rattle.humantime.specs.Results.Durations.{duration_text}
 use Rattle.humantime.proofs.Durations.Reading.Spellings.{spells-append}
@@ -29,14 +29,14 @@ use Rattle.humantime.proofs.Durations.Printing.GreatestCounts.{canon_is_text}
 -- The count is printed as the text of its span, which keeps all limits.
 pub record IsRow (n : ℕ) (s : Suffix) : Type 0 where
   pub utf8 : IsUtf8 (printed_count n s)
-  pub spells : (white : List ℕ) → Only is_whitespace white → Spells (chars (printed_count n s) ++ white) (span_for n s) []
+  pub spells : (white : List ℕ) → HasOnly is_whitespace white → Spells (chars (printed_count n s) ++ white) (span_for n s) []
   pub formed : Formed (span_for n s)
   pub fits : fits (span_for n s) ≡ true
   pub small : AllByRecursion IsSmall (additions_of (span_for n s))
 
 -- What a count adds, if the remainder is less than `m` and is a duration.
-few : (m n : ℕ) (x : Addition) → 0 < size x → is_of_kind m x ≡ true → addition_nanos x * n < m → addition_nanos x * n < sum_limit
-    → (n < 2 ^ 64) × (n * size x ≤ u64_max) × IsSmall (times n x) × (addition_nanos (times n x) ≡ addition_nanos x * n)
+few : (m n : ℕ) (x : Quantity) → 0 < size x → is_of_kind m x ≡ true → quantity_nanos x * n < m → quantity_nanos x * n < sum_limit
+    → (n < 2 ^ 64) × (n * size x ≤ u64_max) × IsSmall (times n x) × (quantity_nanos (times n x) ≡ quantity_nanos x * n)
 few m n x some kind below whole = grind (arith, nat_tests, mul_comm, mul_assoc)
 
 count_chars : (n : ℕ) (s : Suffix) → n < 2 ^ 64 → chars (printed_count n s) ≡ decimal n ++ chars (word_for n s)
@@ -44,9 +44,9 @@ count_chars n s h = grind (arith, common_steps, IsAscii-decimal, append_assoc, c
 
 count_row : (w m n : ℕ) (s : Suffix) → IsPrintedWord w m (word_for n s) → w * n < m → w * n < sum_limit → IsRow n s × (total (additions_of (span_for n s)) ≡ w * n)
 count_row w m n s i below whole =
-    let few = few m n i.unit.one i.some i.kind (rw i.weight below) (rw i.weight whole) in
+    let few = few m n i.unit.whole i.some i.kind (rw i.weight below) (rw i.weight whole) in
     let number = decimal_number n few.0 in
-    let adds : additions_of (span_for n s) ≡ times n i.unit.one ∷ [] = grind (arith, common_steps, number.value, i.is) in
+    let adds : additions_of (span_for n s) ≡ times n i.unit.whole ∷ [] = grind (arith, common_steps, number.value, i.is) in
     let row : IsRow n s = record {
       utf8 = rw append_assoc (IsUtf8-append (decimal n) (word_for n s) (IsUtf8-from_ascii (decimal n) (IsAscii-decimal n few.0)) i.utf8);
       spells = λ white only. grind (arith, common_steps, number, count_chars);

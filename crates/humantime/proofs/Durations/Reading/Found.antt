@@ -8,8 +8,8 @@ use Rattle.humantime.specs.Durations.Spans.{SpelledSpan, Spells, SpellsAll}
 use Rattle.humantime.specs.Durations.Faults.{Fault, NumberOverflow, Split, BeginsSpan, HasFault, Empty, span_of}
 use Rattle.humantime.specs.Durations.Accepted.{Formed, WithinLimits}
 use Rattle.humantime.specs.Results.Walks.{Walk, empty_walk, walk_of, items}
-use Rattle.humantime.specs.Durations.Items.{Items, Ends}
-use Rattle.humantime.proofs.Durations.Reading.Runs.{ends-append, take_while-drop_while, Only-take_while, begins-drop_while}
+use Rattle.humantime.specs.Durations.Items.{Items, EndsOrStops}
+use Rattle.humantime.proofs.Durations.Reading.Runs.{ends-append, take_while-drop_while, take_while-only, begins-drop_while}
 use Rattle.humantime.proofs.Durations.Reading.Spelled.{next_of}
 use Rattle.humantime.proofs.Durations.Reading.Spellings.{each-append, spells_each-append}
 use Rattle.humantime.proofs.Durations.Reading.Summed.{within_tells, within_or_beyond}
@@ -41,13 +41,13 @@ read_on text front rest first spans r f =
 
 -- The leading whitespace of a text is skipped, and no span is parsed yet.
 begun : (text : List ℕ) → IsReadTo text true (take_while is_whitespace text) [] (drop_while is_whitespace text)
-begun text = grind (arith, common_steps, take_while-drop_while, Only-take_while, begins-drop_while)
+begun text = grind (arith, common_steps, take_while-drop_while, take_while-only, begins-drop_while)
 
 -- The items of a text are these spans, followed by those of a walk.
 abbrev ItemsAfter : List ℕ → List SpelledSpan → Walk → Type 0
 ItemsAfter text spans w = (i : Items text (spans ++ map span_of w.starts) w.stop) × (i.rest ≡ w.unread)
 
-items_end : (text front rest : List ℕ) (first : Bool) (spans : List SpelledSpan) (stop : Option Fault) → IsReadTo text first front spans rest → Ends text front spans rest stop
+items_end : (text front rest : List ℕ) (first : Bool) (spans : List SpelledSpan) (stop : Option Fault) → IsReadTo text first front spans rest → EndsOrStops text front spans rest stop
     → ItemsAfter text spans (empty_walk rest stop)
 items_end text front rest first spans stop r e = rw (append-nil spans) (record { front = front; rest = rest; split = r.split; formed = r.formed; ends = e }, refl)
 

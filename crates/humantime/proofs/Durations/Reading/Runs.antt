@@ -4,15 +4,15 @@ use Rattle.std.proofs.Common.{◌≡◌, ◌≢◌, ℕ, ◌≤◌, ◌<◌, Boo
 use Rattle.std.proofs.lemmas.Bool.{cases_Bool}
 use Rattle.humantime.specs.Texts.{take_while, drop_while, begins, ends}
 use Rattle.humantime.specs.Durations.Characters.{is_letter}
-use Rattle.humantime.specs.Durations.Spans.{Only, IsLetters}
+use Rattle.humantime.specs.Durations.Spans.{HasOnly, IsLetters}
 
 pub take_while-drop_while : (p : ℕ → Bool) (cs : List ℕ) → take_while p cs ++ drop_while p cs ≡ cs
 take_while-drop_while p [] = refl
 take_while-drop_while p (c ∷ cs) = elim (cases_Bool (p c)) [ inl e ↦ rw e (ap (λ (x : List ℕ). c ∷ x) (take_while-drop_while p cs)) | inr e ↦ rw e ]
 
-pub Only-take_while : (p : ℕ → Bool) (cs : List ℕ) → Only p (take_while p cs)
-Only-take_while p [] = tt
-Only-take_while p (c ∷ cs) = elim (cases_Bool (p c)) [ inl e ↦ rw e (e, Only-take_while p cs) | inr e ↦ rw e tt ]
+pub take_while-only : (p : ℕ → Bool) (cs : List ℕ) → HasOnly p (take_while p cs)
+take_while-only p [] = tt
+take_while-only p (c ∷ cs) = elim (cases_Bool (p c)) [ inl e ↦ rw e (e, take_while-only p cs) | inr e ↦ rw e tt ]
 
 pub begins-drop_while : (p : ℕ → Bool) (cs : List ℕ) → begins p (drop_while p cs) ≡ false
 begins-drop_while p [] = refl
@@ -23,11 +23,11 @@ pub begins_take_while : (p q : ℕ → Bool) (cs : List ℕ) → begins p cs ≡
 begins_take_while p q cs h k = grind arith
 
 -- A prefix that passes the test, followed by a text that does not begin with such a character.
-pub take_while-append : (p : ℕ → Bool) (xs ys : List ℕ) → Only p xs → begins p ys ≡ false → take_while p (xs ++ ys) ≡ xs
+pub take_while-append : (p : ℕ → Bool) (xs ys : List ℕ) → HasOnly p xs → begins p ys ≡ false → take_while p (xs ++ ys) ≡ xs
 take_while-append p [] ys h e = grind arith
 take_while-append p (x ∷ xs) ys h e = rw (h.0) (ap (λ (l : List ℕ). x ∷ l) (take_while-append p xs ys h.1 e))
 
-pub drop_while-append : (p : ℕ → Bool) (xs ys : List ℕ) → Only p xs → begins p ys ≡ false → drop_while p (xs ++ ys) ≡ ys
+pub drop_while-append : (p : ℕ → Bool) (xs ys : List ℕ) → HasOnly p xs → begins p ys ≡ false → drop_while p (xs ++ ys) ≡ ys
 drop_while-append p [] ys h e = grind arith
 drop_while-append p (x ∷ xs) ys h e = rw (h.0) (drop_while-append p xs ys h.1 e)
 
@@ -43,9 +43,9 @@ begins_not_nil p cs h = grind arith
 pub letters_begin : (cs : List ℕ) → IsLetters cs → begins is_letter cs ≡ true
 letters_begin cs h = grind arith
 
-pub ends_Only : (p : ℕ → Bool) (cs : List ℕ) → Only p cs → cs ≢ [] → ends p cs ≡ true
-ends_Only p [] h some = absurd (some refl)
-ends_Only p (c ∷ cs) h some = grind (arith, (ends_Only p cs h.1))
+pub ends_only : (p : ℕ → Bool) (cs : List ℕ) → HasOnly p cs → cs ≢ [] → ends p cs ≡ true
+ends_only p [] h some = absurd (some refl)
+ends_only p (c ∷ cs) h some = grind (arith, (ends_only p cs h.1))
 
 -- A text that begins with a character of one class does not begin with one of another.
 pub begins_other : (p q : ℕ → Bool) → ((c : ℕ) → p c ≡ true → q c ≡ false) → (cs : List ℕ) → begins p cs ≡ true → begins q cs ≡ false

@@ -11,8 +11,8 @@ use Rattle.std.proofs.lemmas.List.{length-reverse, reverse-append, reverse-rever
 use Rattle.humantime.specs.Texts.{take_while, drop_while, decimal_value}
 use Rattle.humantime.specs.Durations.Characters.{without_trailing_zeros}
 use Rattle.humantime.specs.Durations.Accepted.{is_whole_part}
-use Rattle.humantime.specs.Durations.Spans.{Only}
-use Rattle.humantime.proofs.Durations.Reading.Runs.{take_while-drop_while, Only-take_while, drop_while_shorter}
+use Rattle.humantime.specs.Durations.Spans.{HasOnly}
+use Rattle.humantime.proofs.Durations.Reading.Runs.{take_while-drop_while, take_while-only, drop_while_shorter}
 
 abbrev is_zero : ℕ → Bool
 is_zero d = d == 48
@@ -53,7 +53,7 @@ pub digits_value-append : (v : ℕ) (ds es : List ℕ) → digits_value_after 10
 digits_value-append v [] es = refl
 digits_value-append v (d ∷ ds) es = digits_value-append (v * 10 + digit_value d) ds es
 
-zeros_value : (v : ℕ) (zs : List ℕ) → Only is_zero zs → digits_value_after 10 v (reverse zs) ≡ v * 10 ^ length zs
+zeros_value : (v : ℕ) (zs : List ℕ) → HasOnly is_zero zs → digits_value_after 10 v (reverse zs) ≡ v * 10 ^ length zs
 zeros_value v [] only = omega arith
 zeros_value v (z ∷ zs) only = grind (arith, (reverse-append (z ∷ []) zs), digits_value-append, (zeros_value v zs only.1), (pow-suc 10 (length zs)), (mul_assoc v (10 ^ length zs) 10))
 
@@ -62,7 +62,7 @@ zeros_count ds = omega (arith, ap length (significant_and_zeros ds), length-appe
 
 -- Each trailing zero multiplies the value by ten.
 pub value_shifted : (ds : List ℕ) (z : ℕ) → length ds ≡ length (without_trailing_zeros ds) + z → decimal_value ds ≡ decimal_value (without_trailing_zeros ds) * 10 ^ z
-value_shifted ds z count = grind (arith, zeros_count, (significant_and_zeros ds), digits_value-append, zeros_value, Only-take_while)
+value_shifted ds z count = grind (arith, zeros_count, (significant_and_zeros ds), digits_value-append, zeros_value, take_while-only)
 
 product_shifted : (f : ℕ) (ds : List ℕ) → decimal_value ds * f ≡ decimal_value (without_trailing_zeros ds) * f * 10 ^ length (zeros_of ds)
 product_shifted f ds = grind (arith, value_shifted, zeros_count, mul_right_comm)

@@ -4,12 +4,12 @@ use Rattle.std.specs.Prelude.{option_map, unwrap_or}
 use Rattle.std.proofs.Common.{◌≡◌, ◌≢◌, ◌⊎◌, ℕ, ◌≤◌, ◌<◌, true, false, List, [], ◌∷◌, ◌++◌, length, Option, Some, ap, ◌∙◌, arith, append_assoc, append-nil}
 use Rattle.humantime.specs.Texts.{take_while, drop_while, begins, ends}
 use Rattle.humantime.specs.Durations.Characters.{is_whitespace, is_digit, is_letter, is_numeric, is_point}
-use Rattle.humantime.specs.Durations.Spans.{SpelledSpan, Only, SpellsFraction, Spells}
+use Rattle.humantime.specs.Durations.Spans.{SpelledSpan, HasOnly, SpellsFraction, Spells}
 use Rattle.humantime.specs.Durations.Faults.{number_of, after_number, after_point, fraction_of, after_fraction, after_word, span_of}
 use Rattle.humantime.specs.Results.Walks.{ends_span}
 use Rattle.humantime.proofs.Durations.Reading.Classes.{letter_not_whitespace, whitespace_is_numeric, point_not_numeric}
 use Rattle.humantime.proofs.Durations.Reading.Spellings.{spells_alone}
-use Rattle.humantime.proofs.Durations.Reading.Runs.{take_while-append, drop_while-append, drop_while_shorter, begins-append, begins_not_nil, letters_begin, ends_Only, ends_other, ends-append}
+use Rattle.humantime.proofs.Durations.Reading.Runs.{take_while-append, drop_while-append, drop_while_shorter, begins-append, begins_not_nil, letters_begin, ends_only, ends_other, ends-append}
 
 -- The text after a span: after its word and the whitespace that follows.
 abbrev pub next_of : List ℕ → List ℕ
@@ -48,10 +48,10 @@ pub read_spelled : (rest next : List ℕ) (s : SpelledSpan) (h : Spells rest s n
 read_spelled rest next s h = grind (arith, begins_word, fraction_read, drop_while-append, take_while-append)
 
 -- If a spelling ends with its word, it does not end in whitespace.
-ends_in_word : (a b word : List ℕ) → Only is_letter word → begins is_letter word ≡ true → ends is_whitespace (a ++ (b ++ (word ++ []))) ≡ false
-ends_in_word a b word only some = grind (arith, begins_not_nil, append-nil, ends-append, ends_other, letter_not_whitespace, ends_Only)
+ends_in_word : (a b word : List ℕ) → HasOnly is_letter word → begins is_letter word ≡ true → ends is_whitespace (a ++ (b ++ (word ++ []))) ≡ false
+ends_in_word a b word only some = grind (arith, begins_not_nil, append-nil, ends-append, ends_other, letter_not_whitespace, ends_only)
 
-followed : (a b word c here next : List ℕ) → here ≡ a ++ (b ++ (word ++ c)) → Only is_letter word → begins is_letter word ≡ true → Only is_whitespace c
+followed : (a b word c here next : List ℕ) → here ≡ a ++ (b ++ (word ++ c)) → HasOnly is_letter word → begins is_letter word ≡ true → HasOnly is_whitespace c
     → (ends_span next ≡ true) ⊎ (ends is_whitespace here ≡ true) → ends_span (c ++ next) ≡ true
 followed a b word [] here next whole only some whitespace o = grind (arith, (ends_in_word a b word only some))
 followed a b word (x ∷ xs) here next whole only some whitespace o = whitespace_is_numeric x (whitespace.0)

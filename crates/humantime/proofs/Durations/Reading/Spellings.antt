@@ -3,7 +3,7 @@ use Rattle.std.proofs.Common.{arith, ◌≡◌, ℕ, List, [], ◌∷◌, ◌++�
 use Rattle.std.specs.List.{AllByRecursion}
 use Rattle.std.proofs.lemmas.Grind.{common_steps}
 use Rattle.humantime.specs.Durations.Characters.{is_whitespace}
-use Rattle.humantime.specs.Durations.Spans.{SpelledSpan, Only, Spells, SpellsEach}
+use Rattle.humantime.specs.Durations.Spans.{SpelledSpan, HasOnly, Spells, SpellsEach}
 
 -- The text is a spelling of the span alone, followed by the rest.
 pub record IsApart (text : List ℕ) (span : SpelledSpan) (rest : List ℕ) : Type 0 where
@@ -13,7 +13,7 @@ pub record IsApart (text : List ℕ) (span : SpelledSpan) (rest : List ℕ) : Ty
 
 -- The same parts with other whitespace, or with another rest.
 pub respelled : (text rest here next white : List ℕ) (s : SpelledSpan) (h : Spells text s rest)
-    → here ≡ h.number_text ++ (h.fraction_text ++ (s.word ++ (white ++ next))) → Only is_whitespace white → Spells here s next
+    → here ≡ h.number_text ++ (h.fraction_text ++ (s.word ++ (white ++ next))) → HasOnly is_whitespace white → Spells here s next
 respelled text rest here next white s h whole only = grind arith
 
 pub apart : (text rest : List ℕ) (s : SpelledSpan) → Spells text s rest → IsApart text s rest

@@ -9,7 +9,7 @@ use Rattle.humantime.specs.Durations.Characters.{is_whitespace, is_digit, is_let
 use Rattle.humantime.specs.Durations.Units.{scale_of_word}
 use Rattle.humantime.specs.Durations.Spans.{SpelledSpan}
 use Rattle.humantime.specs.Durations.Accepted.{is_some_and}
-use Rattle.humantime.specs.Durations.Faults.{Fault, EndsSpan, BeginsSpan, Stops}
+use Rattle.humantime.specs.Durations.Faults.{Fault, EndsSpan, BeginsSpan, IsStoppedWith}
 use Rattle.humantime.specs.Results.Walks.{stop_at, fault_at, ends_span}
 use Rattle.humantime.proofs.Durations.Reading.Runs.{take_while-drop_while}
 
@@ -32,7 +32,7 @@ some_letters word h e = grind arith
 -- ---- the chain and the table
 
 -- An error of the table is found by the tests.
-pub stops_at : (text front : List ℕ) (spans : List SpelledSpan) (rest : List ℕ) (e : Fault) → rest ≢ [] → Stops text front spans rest e → fault_at text rest ≡ Some e
+pub stops_at : (text front : List ℕ) (spans : List SpelledSpan) (rest : List ℕ) (e : Fault) → rest ≢ [] → IsStoppedWith text front spans rest e → fault_at text rest ≡ Some e
 unfolding stop_at scale_of_word
 stops_at text front spans rest e some stops = grind (arith, no_letter_tells, no_digits_tells, ends_tells, take_while-drop_while)
 
@@ -43,7 +43,7 @@ fine_goes text rest s = grind (arith, common_steps, some_letters)
 
 -- An error that the tests find is one of the table.
 pub wrong_stops : (text front : List ℕ) (spans : List SpelledSpan) (rest : List ℕ) (e : Fault) → rest ≢ [] → (begins is_digit rest ≡ false → (spans ≡ []) ⊎ (ends is_whitespace front ≡ true))
-    → fault_at text rest ≡ Some e → Stops text front spans rest e
+    → fault_at text rest ≡ Some e → IsStoppedWith text front spans rest e
 unfolding stop_at
 wrong_stops text front spans rest e some first found = grind (arith, common_steps)
 

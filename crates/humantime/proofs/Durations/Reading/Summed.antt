@@ -6,7 +6,7 @@ use Rattle.std.specs.Bool.{Decides}
 use Rattle.std.specs.List.{AllByRecursion}
 use Rattle.std.proofs.lemmas.List.Sums.{sum_by-append}
 use Rattle.humantime.specs.Durations.Spans.{SpelledSpan}
-use Rattle.humantime.specs.Durations.Accepted.{addition_nanos, total, additions_of, additions, value, Formed, fits, WithinLimits}
+use Rattle.humantime.specs.Durations.Accepted.{quantity_nanos, total, additions_of, additions, value, Formed, fits, WithinLimits}
 use Rattle.humantime.specs.Results.Walks.{add_span, sum_spans}
 use Rattle.humantime.specs.Durations.Faults.{Fault, NumberOverflow}
 use Rattle.humantime.specs.Durations.Items.{items_of}
@@ -18,7 +18,7 @@ within_from t [] = true
 within_from t (s ∷ ss) = fits s && room_from t (additions_of s) && within_from (t + total (additions_of s)) ss
 
 pub value-cons : (s : SpelledSpan) (ss : List SpelledSpan) → value (s ∷ ss) ≡ total (additions_of s) + value ss
-value-cons s ss = sum_by-append addition_nanos (additions_of s) (additions ss)
+value-cons s ss = sum_by-append quantity_nanos (additions_of s) (additions ss)
 
 pub additions-append : (ss ts : List SpelledSpan) → additions (ss ++ ts) ≡ additions ss ++ additions ts
 additions-append ss ts = flat_map-append additions_of ss ts

@@ -7,7 +7,7 @@ use Rattle.humantime.specs.Durations.Characters.{is_whitespace, is_digit}
 use Rattle.humantime.specs.Durations.Spans.{SpelledSpan, SpellsEach}
 use Rattle.humantime.specs.Durations.Accepted.{Formed}
 use Rattle.humantime.specs.Durations.Faults.{Fault, Split, span_of}
-use Rattle.humantime.specs.Durations.Items.{Items, Ends}
+use Rattle.humantime.specs.Durations.Items.{Items, EndsOrStops}
 use Rattle.humantime.specs.Results.Walks.{Walk, empty_walk, walk_from, spans_of_walk, items, ends_span}
 use Rattle.humantime.proofs.Durations.Reading.Classes.{digit_is_numeric, digit_not_whitespace}
 use Rattle.humantime.proofs.Durations.Reading.Runs.{drop_while-append, begins-append, begins_other, begins_not_nil, ends-append}
@@ -76,7 +76,7 @@ front_walked text front rest spans h f o =
     grind (arith, (front_begins text front rest spans h), (through text h.spelled.body rest true spans h.spelled.each f), (closes_more h.spelled.whitespace h.spelled.body rest spans h.spelled.each))
 
 -- The walk ends where the items do.
-ends_walked : (text front rest : List ℕ) (spans : List SpelledSpan) (stop : Option Fault) → Ends text front spans rest stop → walk_from (first_after true spans) text rest ≡ empty_walk rest stop
+ends_walked : (text front rest : List ℕ) (spans : List SpelledSpan) (stop : Option Fault) → EndsOrStops text front spans rest stop → walk_from (first_after true spans) text rest ≡ empty_walk rest stop
 ends_walked text front [] spans stop h = grind (arith, walk-end)
 ends_walked text front (c ∷ cs) spans None h = cc
 ends_walked text front (c ∷ cs) spans (Some e) h = walk-wrong (first_after true spans) text (c ∷ cs) e (λ n. cc) (stops_at text front spans (c ∷ cs) e (λ n. cc) h)

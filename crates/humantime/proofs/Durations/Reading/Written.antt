@@ -7,7 +7,7 @@ use Rattle.humantime.specs.Durations.Spans.{SpelledSpan, SpellsFraction, Spells}
 use Rattle.humantime.specs.Durations.Accepted.{Formed}
 use Rattle.humantime.specs.Durations.Faults.{number_of, after_number, after_point, word_of, after_word, span_of, BeginsSpan}
 use Rattle.humantime.proofs.Durations.Reading.Classes.{digit_is_numeric}
-use Rattle.humantime.proofs.Durations.Reading.Runs.{take_while-drop_while, Only-take_while, begins_take_while, ends_Only, ends-append}
+use Rattle.humantime.proofs.Durations.Reading.Runs.{take_while-drop_while, take_while-only, begins_take_while, ends_only, ends-append}
 use Rattle.std.proofs.lemmas.Bool.Decides.{nat_tests}
 use Rattle.std.proofs.lemmas.Grind.{common_steps}
 use Rattle.humantime.proofs.Durations.Reading.Spelled.{next_of}
@@ -26,7 +26,7 @@ point_and_digits (c ∷ cs) = if is_point c then c ∷ take_while is_numeric cs 
 
 fraction_spelled : (m : List ℕ) → option_map number_of (after_point m) ≢ Some [] → SpellsFraction (point_and_digits m) (option_map number_of (after_point m))
 unfolding is_point
-fraction_spelled m some = grind (arith, Only-take_while, nat_tests)
+fraction_spelled m some = grind (arith, take_while-only, nat_tests)
 
 -- A spelling has a digit and a letter.
 pub spelling_some : (text rest : List ℕ) (s : SpelledSpan) → Spells text s rest → 1 < length text
@@ -38,8 +38,8 @@ written_here rest h =
       take_while is_numeric rest ++ (point_and_digits (after_number rest) ++ (word_of rest ++ take_while is_whitespace (after_word rest))),
       record {
         whole = grind (arith, common_steps, take_while-drop_while);
-        spells = (grind (arith, append-nil, Only-take_while, begins_take_while, digit_is_numeric, fraction_spelled, (some), (h)));
-        closes = λ more e. (grind (arith, ends-append, ends_Only, Only-take_while, ((ends_tells (after_word rest)).1 h.ended), (more), (e)));
+        spells = (grind (arith, append-nil, take_while-only, begins_take_while, digit_is_numeric, fraction_spelled, (some), (h)));
+        closes = λ more e. (grind (arith, ends-append, ends_only, take_while-only, ((ends_tells (after_word rest)).1 h.ended), (more), (e)));
       },
     )
 

@@ -4,12 +4,12 @@ use Rattle.std.proofs.Common.{◌≡◌, ◌≢◌, ◌≤◌, ◌++◌, ℕ, Li
 use Rattle.std.proofs.lemmas.Str.{chars-nil}
 use Rattle.humantime.specs.declared.duration.cursor.Cursor.{Cursor}
 use Rattle.humantime.specs.Durations.Characters.{offset_of}
-use Rattle.humantime.specs.Durations.Errors.{IsPlaceIn, IsRangeIn, IsPartOf}
+use Rattle.humantime.specs.Durations.Errors.{IsCharStartIn, IsRangeIn, IsPartOf}
 use Rattle.humantime.specs.Steps.Cursors.{ahead}
 use Rattle.humantime.proofs.Durations.Bytes.Tails.{tail_boundary, tail_offset}
 
 -- A cursor before the end of the text is at a character.
-pub cursor_place : (text : List ℕ) (c : Cursor) (at : ℕ) → c.text.now ≡ text → at ≡ offset_of (chars c.text.now) (ahead c) → ahead c ≢ [] → IsPlaceIn text at
+pub cursor_place : (text : List ℕ) (c : Cursor) (at : ℕ) → c.text.now ≡ text → at ≡ offset_of (chars c.text.now) (ahead c) → ahead c ≢ [] → IsCharStartIn text at
 cursor_place text c at same is some = grind (arith, common_steps, tail_boundary, tail_offset, chars-nil)
 
 -- Two cursors are the ends of a range.

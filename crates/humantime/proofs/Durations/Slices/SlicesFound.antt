@@ -6,7 +6,7 @@ use Rattle.std.specs.Str.{drop_trailing_whitespace}
 use Rattle.std.proofs.lemmas.List.{append_cancel_left}
 use Rattle.humantime.specs.Texts.{begins, ends, drop_while}
 use Rattle.humantime.specs.Durations.Characters.{is_whitespace, is_digit, is_letter}
-use Rattle.humantime.specs.Durations.Spans.{SpelledSpan, Only, SpellsFraction}
+use Rattle.humantime.specs.Durations.Spans.{SpelledSpan, HasOnly, SpellsFraction}
 use Rattle.humantime.specs.Durations.Faults.{after_number, after_fraction}
 use Rattle.humantime.specs.Durations.Items.{SpanView, IsDigitSlice, IsFractionView, IsSpanView, AreSpanViews}
 use Rattle.humantime.specs.Results.Items.{trimmed, number_slice, fraction_slice}
@@ -15,12 +15,12 @@ use Rattle.humantime.proofs.Durations.Reading.Runs.{drop_while-append, begins_ot
 use Rattle.humantime.proofs.Durations.Reading.Spelled.{begins_word, read_spelled}
 use Rattle.humantime.proofs.Durations.Bytes.Trimming.{suc_not_zero, no_slice, slice_after_point}
 
-drop_whitespace : (cs : List ℕ) → Only is_whitespace cs → drop_trailing_whitespace cs ≡ []
+drop_whitespace : (cs : List ℕ) → HasOnly is_whitespace cs → drop_trailing_whitespace cs ≡ []
 drop_whitespace [] o = refl
 drop_whitespace (c ∷ cs) o = rw (drop_whitespace cs o.1, whitespace_is c, o.0)
 
 -- Only the whitespace after the last digit is dropped.
-drop_tail : (xs tail : List ℕ) → Only is_whitespace tail → ends is_digit xs ≡ true → drop_trailing_whitespace (xs ++ tail) ≡ xs
+drop_tail : (xs tail : List ℕ) → HasOnly is_whitespace tail → ends is_digit xs ≡ true → drop_trailing_whitespace (xs ++ tail) ≡ xs
 drop_tail [] tail o e = cc
 drop_tail (x ∷ []) tail o e = ap₂ (λ (b : Bool) (l : List ℕ). cond (b && eqb (length l) 0) [] (x ∷ l)) (whitespace_is x ∙ digit_not_whitespace x e) (drop_whitespace tail o)
 drop_tail (x ∷ y ∷ xs) tail o e = rw (drop_tail (y ∷ xs) tail o e, suc_not_zero (length xs), and-false)
@@ -48,7 +48,7 @@ slices_found text rest s x next h =
     let fraction = fraction_found k.fraction_text (s.word ++ (k.whitespace ++ next)) s.fraction x.fraction k.fraction h.fraction letter in
     grind (arith, r, fraction, h, (trimmed_is k.number_text x.number h.number), digit_not_whitespace)
 
-next_is : (whitespace next : List ℕ) → Only is_whitespace whitespace → begins is_digit next ≡ true → drop_while is_whitespace (whitespace ++ next) ≡ next
+next_is : (whitespace next : List ℕ) → HasOnly is_whitespace whitespace → begins is_digit next ≡ true → drop_while is_whitespace (whitespace ++ next) ≡ next
 next_is whitespace next o b = drop_while-append is_whitespace whitespace next o (begins_other is_digit is_whitespace digit_not_whitespace next b)
 
 -- Two views of one span are equal, and so are the texts after them.
@@ -57,7 +57,7 @@ one_span : (text rest : List ℕ) (s : SpelledSpan) (x y : SpanView) (m n : List
 one_span text rest s x y m n h k = grind (arith, common_steps, (slices_found text rest s x m h), (slices_found text rest s y n k), (append_cancel_left x.unit (h.spelled.whitespace ++ m) (k.spelled.whitespace ++ n) (sym (slices_found text rest s x m h).left ∙ (slices_found text rest s y n k).left ∙ ap (λ (w : List ℕ). w ++ (k.spelled.whitespace ++ n)) (sym (h.unit ∙ sym k.unit)))))
 
 -- A list of spans has exactly one list of views, whatever whitespace precedes the rest of the text.
-pub one_view_each : (text p q m n : List ℕ) (spans : List SpelledSpan) (xs ys : List SpanView) (d e : List ℕ) → Only is_whitespace p → Only is_whitespace q → p ++ m ≡ q ++ n → AreSpanViews text m spans xs d → AreSpanViews text n spans ys e → xs ≡ ys
+pub one_view_each : (text p q m n : List ℕ) (spans : List SpelledSpan) (xs ys : List SpanView) (d e : List ℕ) → HasOnly is_whitespace p → HasOnly is_whitespace q → p ++ m ≡ q ++ n → AreSpanViews text m spans xs d → AreSpanViews text n spans ys e → xs ≡ ys
 one_view_each text p q m n (s ∷ ss) (x ∷ xs) (y ∷ ys) d e o u w h k =
     let r : m ≡ n = sym (next_is p m o (grind arith)) ∙ ap (drop_while is_whitespace) w ∙ next_is q n u (grind arith) in
     let l : IsSpanView text m s y k.0 = subst (λ (z : List ℕ). IsSpanView text z s y k.0) (sym r) k.1 in

@@ -5,29 +5,29 @@ use Rattle.std.proofs.lemmas.List.{append_cancel_left}
 use Rattle.std.proofs.lemmas.Str.{encodes-append, length-le-encodes}
 use Rattle.humantime.specs.Texts.{begins, take_while, drop_while}
 use Rattle.humantime.specs.Durations.Characters.{is_whitespace, is_digit, is_letter, is_numeric, digits, byte_length, offset_of}
-use Rattle.humantime.specs.Durations.Spans.{Only, SpellsFraction, Spells}
+use Rattle.humantime.specs.Durations.Spans.{HasOnly, SpellsFraction, Spells}
 use Rattle.humantime.specs.Durations.Faults.{fraction_of, after_fraction, word_of, after_word, span_of, BeginsSpan}
 use Rattle.humantime.specs.Results.Items.{trimmed, number_slice, fraction_slice, view_at}
 use Rattle.humantime.specs.Durations.Items.{IsDigitSlice, IsFractionView, IsSpanView}
 use Rattle.humantime.proofs.Durations.Reading.Classes.{digit_is_numeric}
-use Rattle.humantime.proofs.Durations.Reading.Runs.{take_while-drop_while, Only-take_while, begins-drop_while, begins_take_while, letters_begin, begins_some}
+use Rattle.humantime.proofs.Durations.Reading.Runs.{take_while-drop_while, take_while-only, begins-drop_while, begins_take_while, letters_begin, begins_some}
 use Rattle.humantime.proofs.Durations.Reading.Spelled.{next_of, begins_word, read_spelled}
 use Rattle.humantime.proofs.Durations.Reading.Spellings.{spells-append}
 use Rattle.humantime.proofs.Durations.Reading.Written.{written_here}
 use Rattle.humantime.proofs.Durations.Bytes.Trimming.{dropped, digits_drop_while, digit_slice, no_slice, slice_after_point}
 
-Only-drop_while : (p q : ℕ → Bool) (cs : List ℕ) → Only p cs → Only p (drop_while q cs)
-Only-drop_while p q [] o = tt
-Only-drop_while p q (c ∷ cs) o = grind (arith, (Only-drop_while p q cs o.1))
+drop_while-only : (p q : ℕ → Bool) (cs : List ℕ) → HasOnly p cs → HasOnly p (drop_while q cs)
+drop_while-only p q [] o = tt
+drop_while-only p q (c ∷ cs) o = grind (arith, (drop_while-only p q cs o.1))
 
 -- Digits and whitespace that do not begin with whitespace begin with a digit.
-begins_digit_or_end : (cs : List ℕ) → Only is_numeric cs → begins is_whitespace cs ≡ false → digits cs ≢ [] → begins is_digit cs ≡ true
+begins_digit_or_end : (cs : List ℕ) → HasOnly is_numeric cs → begins is_whitespace cs ≡ false → digits cs ≢ [] → begins is_digit cs ≡ true
 begins_digit_or_end cs h k e = grind arith
 
 -- Digits and whitespace, with at least one digit, have a slice from the first to the last digit.
-trimmed_slice : (cs : List ℕ) → Only is_numeric cs → digits cs ≢ [] → IsDigitSlice cs (trimmed cs)
+trimmed_slice : (cs : List ℕ) → HasOnly is_numeric cs → digits cs ≢ [] → IsDigitSlice cs (trimmed cs)
 trimmed_slice cs o n =
-    grind (arith, (digit_slice (take_while is_whitespace cs) (drop_while is_whitespace cs) (trimmed cs) (dropped (drop_while is_whitespace cs)) (Only-take_while is_whitespace cs)), Only-drop_while, begins_digit_or_end, begins-drop_while, digits_drop_while, take_while-drop_while)
+    grind (arith, (digit_slice (take_while is_whitespace cs) (drop_while is_whitespace cs) (trimmed cs) (dropped (drop_while is_whitespace cs)) (take_while-only is_whitespace cs)), drop_while-only, begins_digit_or_end, begins-drop_while, digits_drop_while, take_while-drop_while)
 
 fraction_is_viewed : (b tail : List ℕ) (o : Option (List ℕ)) → SpellsFraction b o → begins is_letter tail ≡ true → IsFractionView b (fraction_slice (b ++ tail))
 fraction_is_viewed b tail o h k = grind (arith, no_slice, slice_after_point, trimmed_slice)
@@ -43,7 +43,7 @@ is_span_view text rest f =
     let w = written_here rest f in
     let h : Spells rest (span_of rest) (next_of rest) = subst (λ (l : List ℕ). Spells l (span_of rest) (next_of rest)) (sym w.1.whole) (spells-append w.0 [] (next_of rest) (span_of rest) w.1.spells) in
     let r = read_spelled rest (next_of rest) (span_of rest) h in
-    let number = digit_slice [] (take_while is_numeric rest) (number_slice rest) (dropped (take_while is_numeric rest)) tt (begins_take_while is_digit is_numeric rest f.number.digit digit_is_numeric) (Only-take_while is_numeric rest) in
+    let number = digit_slice [] (take_while is_numeric rest) (number_slice rest) (dropped (take_while is_numeric rest)) tt (begins_take_while is_digit is_numeric rest f.number.digit digit_is_numeric) (take_while-only is_numeric rest) in
     let left = append_cancel_left (word_of rest) (after_word rest) (h.whitespace ++ next_of rest) (take_while-drop_while is_letter (after_fraction rest) ∙ r.tail_is) in
     record {
       spelled = h;

@@ -7,18 +7,18 @@ use Rattle.std.proofs.lemmas.Grind.{common_steps}
 use Rattle.std.proofs.lemmas.List.{append_cancel_right}
 use Rattle.humantime.specs.Texts.{take_while}
 use Rattle.humantime.specs.Durations.Characters.{is_point, is_whitespace, whitespace_chars}
-use Rattle.humantime.specs.Durations.Spans.{SpelledSpan, Only}
-use Rattle.humantime.specs.Durations.Items.{AreItems, AreSpanViews, Ends, IsDigitSlice, IsFractionView, IsSpanView, SpanView, items_of}
+use Rattle.humantime.specs.Durations.Spans.{SpelledSpan, HasOnly}
+use Rattle.humantime.specs.Durations.Items.{AreItems, AreSpanViews, EndsOrStops, IsDigitSlice, IsFractionView, IsSpanView, SpanView, items_of}
 use Rattle.humantime.specs.Durations.Faults.{Fault}
-use Rattle.humantime.proofs.Durations.Reading.Runs.{Only-take_while, take_while-drop_while}
+use Rattle.humantime.proofs.Durations.Reading.Runs.{take_while-only, take_while-drop_while}
 use Rattle.humantime.proofs.Durations.Reading.Spellings.{each-append}
 use Rattle.humantime.specs.Laws.Tiles.{IsTiled, is_gap, slices_of}
 
-only_gap : (text : List ℕ) → Only is_whitespace text → Only is_gap text
+only_gap : (text : List ℕ) → HasOnly is_whitespace text → HasOnly is_gap text
 only_gap [] only = tt
 only_gap (c ∷ text) only = rw (only.0) (refl, only_gap text only.1)
 
-gap-tiled : (gap text : List ℕ) (slices : List (List ℕ)) → Only is_gap gap → IsTiled text slices → IsTiled (gap ++ text) slices
+gap-tiled : (gap text : List ℕ) (slices : List (List ℕ)) → HasOnly is_gap gap → IsTiled text slices → IsTiled (gap ++ text) slices
 gap-tiled gap text [] only tiled = each-append _ gap text only tiled
 gap-tiled gap text (slice ∷ slices) only tiled =
     (gap ++ tiled.0, tiled.1, ap (λ t. gap ++ t) tiled.2 ∙ sym (append_assoc gap tiled.0 (slice ++ tiled.1)), each-append _ gap tiled.0 only tiled.3, tiled.4)
@@ -66,10 +66,10 @@ front_tiled text items are =
     let white = take_while is_whitespace text in
     let found = views_tile text _ are.spans are.slices are.items.rest are.stop are.each in
     let same : white ++ found.front ≡ are.items.front = append_cancel_right _ _ are.items.rest (append_assoc white found.front are.items.rest ∙ ap (λ t. white ++ t) (sym found.whole) ∙ take_while-drop_while is_whitespace text ∙ are.items.split.whole) in
-    rw (are.are, sym same) (gap-tiled white found.front _ (only_gap white (Only-take_while is_whitespace text)) found.tiled)
+    rw (are.are, sym same) (gap-tiled white found.front _ (only_gap white (take_while-only is_whitespace text)) found.tiled)
 
 rest_is_empty : (text front rest : List ℕ) (spans : List SpelledSpan) (views : List SpanView) (stop : Option Fault)
-    → Ends text front spans rest stop → list_all is_ok (items_of views stop) ≡ true → rest ≡ []
+    → EndsOrStops text front spans rest stop → list_all is_ok (items_of views stop) ≡ true → rest ≡ []
 rest_is_empty text front rest spans (x ∷ views) stop ends each = rest_is_empty text front rest spans views stop ends each
 rest_is_empty text front rest spans [] stop ends each = grind arith
 

@@ -6,7 +6,7 @@ use Rattle.humantime.specs.declared.date.error.TimestampError.TheVariants.{Inval
 use Rattle.humantime.specs.Timestamps.Fields.{Fields, IsWeak, IsStrict, IsWeakMoment, IsStrictMoment}
 use Rattle.humantime.specs.Timestamps.Checks.{has_t_and_zone, weak_checks, strict_checks, first_failed}
 use Rattle.humantime.specs.Results.Timestamps.{moment_at, weak_answer, strict_answer, moment_or_error}
-use Rattle.humantime.specs.Laws.Timestamps.{OneTimestamp, IsMarked}
+use Rattle.humantime.specs.Laws.Timestamps.{HasOneTimestamp, IsMarked}
 use Rattle.humantime.proofs.Timestamps.Reading.Checks.{fields_of, part_digits}
 use Rattle.humantime.proofs.Timestamps.Reading.Shown.{fields_weak}
 use Rattle.humantime.proofs.Timestamps.Reading.Passed.{weak_fields}
@@ -21,14 +21,14 @@ weak_checks_decide bytes f = (weak_fields bytes f, λ h. rw h.1 (fields_weak byt
 
 -- Therefore the result by the checks is the one outcome.
 outcome_of_checks : (bytes : List ℕ) (checks : List (Bool × TimestampError)) (IsShown : Fields → Type 0) → AreDecided bytes checks IsShown
-    → OneTimestamp checks IsShown (moment_or_error (first_failed checks) (moment_at bytes))
+    → HasOneTimestamp checks IsShown (moment_or_error (first_failed checks) (moment_at bytes))
 outcome_of_checks bytes checks IsShown decided = grind (arith, part_digits, decided, (decided (fields_of bytes)))
 
-pub weak_outcome : (bytes : List ℕ) → OneTimestamp (weak_checks bytes) (IsWeak bytes) (weak_answer bytes)
+pub weak_outcome : (bytes : List ℕ) → HasOneTimestamp (weak_checks bytes) (IsWeak bytes) (weak_answer bytes)
 unfolding weak_answer
 weak_outcome bytes = outcome_of_checks bytes (weak_checks bytes) (IsWeak bytes) (weak_checks_decide bytes)
 
-pub strict_outcome : (bytes : List ℕ) → OneTimestamp (strict_checks bytes) (IsStrict bytes) (strict_answer bytes)
+pub strict_outcome : (bytes : List ℕ) → HasOneTimestamp (strict_checks bytes) (IsStrict bytes) (strict_answer bytes)
 unfolding strict_answer
 strict_outcome bytes = outcome_of_checks bytes (strict_checks bytes) (IsStrict bytes) (λ f. grind (arith, (strict_checked bytes f), (weak_checks_decide bytes f)))
 

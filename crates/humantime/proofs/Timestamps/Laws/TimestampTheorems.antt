@@ -7,7 +7,7 @@ use Rattle.std.specs.Ordering.{nat_cmp, int_cmp, is_le, is_lt}
 use Rattle.std.proofs.lemmas.Int.{ints}
 use Rattle.humantime.specs.Timestamps.Fields.{IsWeak, IsStrict, IsWeakMoment, IsStrictMoment}
 use Rattle.humantime.specs.Timestamps.Checks.{weak_checks, strict_checks}
-use Rattle.humantime.specs.Laws.Timestamps.{OneTimestamp, StrictForm, PrintedMoment}
+use Rattle.humantime.specs.Laws.Timestamps.{HasOneTimestamp, IsWeakAndMarked, MomentPrintsAndReads}
 use Rattle.humantime.specs.Timestamps.Printed.{MomentToPrint, cut, IsPrinted, IsPrintedWith, IsPrintable}
 use Rattle.humantime.specs.Results.Timestamps.{printed_text, weak_answer, strict_answer}
 use Rattle.humantime.proofs.Timestamps.Printing.Printed.{one_printed, printed_some, text_displayed, printed_reads}
@@ -22,8 +22,8 @@ pub use Rattle.humantime.proofs.Timestamps.Printing.Printed.{places_of_bound, pr
 -- ---- Parsing timestamps
 
 pub one_stamp_outcome : (text : List ℕ)
-    → OneTimestamp (weak_checks text) (IsWeak text) (weak_answer text)
-    × OneTimestamp (strict_checks text) (IsStrict text) (strict_answer text)
+    → HasOneTimestamp (weak_checks text) (IsWeak text) (weak_answer text)
+    × HasOneTimestamp (strict_checks text) (IsStrict text) (strict_answer text)
 one_stamp_outcome text = (read.weak_outcome text, read.strict_outcome text)
 
 -- The result of parsing a text, given the moment that it represents.
@@ -33,7 +33,7 @@ weak_read text t shown = ((read.weak_outcome text).value t).1 shown
 strict_read : (text : List ℕ) (t : ℤ) → IsStrictMoment text t → strict_answer text ≡ Ok t
 strict_read text t shown = ((read.strict_outcome text).value t).1 shown
 
-pub strict_is_weak : (text : List ℕ) → StrictForm text
+pub strict_is_weak : (text : List ℕ) → IsWeakAndMarked text
 strict_is_weak text =
     let law = read.strict_moment_is_weak text in
     record {
@@ -54,7 +54,7 @@ printed_read t k text printed = strict_read text (cut t k) (printed_reads t k te
 cut_whole : (t : ℤ) → cut t 9 ≡ t
 cut_whole t = grind (arith, ints)
 
-pub printed_moment_reads : (t : ℤ) (k : ℕ) → k ≤ 9 → PrintedMoment t k
+pub printed_moment_reads : (t : ℤ) (k : ℕ) → k ≤ 9 → MomentPrintsAndReads t k
 printed_moment_reads t k small = record {
   one = one_printed t k small;
   displayed = λ text. text_displayed t k text small;

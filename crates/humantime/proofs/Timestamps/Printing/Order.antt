@@ -16,7 +16,7 @@ use Rattle.humantime.specs.declared.calendar.Date.{Date}
 use Rattle.humantime.specs.Calendar.{IsDate, day_of}
 use Rattle.humantime.specs.Timestamps.Fields.{Letter_T, Letter_Z, Fields, fields_text, fraction_text, fraction_nanos, moment_of, fraction_digits}
 use Rattle.humantime.specs.Timestamps.Printed.{IsPrinted}
-use Rattle.humantime.specs.Laws.Timestamps.{InOrder}
+use Rattle.humantime.specs.Laws.Timestamps.{PrintInOrder}
 use Rattle.humantime.proofs.Dates.DaysOfDates.{before_year, before_month}
 use Rattle.humantime.proofs.Dates.Years.{valid_from_test}
 use Rattle.humantime.proofs.Timestamps.Reading.Fractions.{AreDigits, nanos_bound, digits_from_test}
@@ -113,7 +113,7 @@ clock_cmp a h i s m b j k t n h23 i59 s59 m9 j23 k59 t59 n9 =
     (j * 3_600_000_000_000 + (k * 60_000_000_000 + (t * 1_000_000_000 + n))) (omega arith) (omega arith)
     ∙ (λ x. nat_cmp (same a h i s m s59 x) (same b j k t n t59 x))
 
-pub stamps_in_order : (a b : ℤ) → InOrder a b
+pub stamps_in_order : (a b : ℤ) → PrintInOrder a b
 stamps_in_order a b k x y p q =
     let f = p.fields in
     let g = q.fields in

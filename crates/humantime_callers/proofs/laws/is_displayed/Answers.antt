@@ -2,11 +2,11 @@ use Rattle.std.proofs.Common.{◌≡◌, ◌∙◌, ℕ, ℤ, List, Option, None
 use Rattle.std.specs.Prelude.{IfSome, IsSome}
 use Rattle.std.proofs.lemmas.Slice.Eq.{bytes_eq-Decides}
 use Rattle.humantime.specs.Prelude.{IsPrintable, IsPrinted, moment_text}
-use Rattle.humantime.specs.Laws.Timestamps.{PrintedMoment}
+use Rattle.humantime.specs.Laws.Timestamps.{MomentPrintsAndReads}
 use Rattle.humantime_callers.proofs.laws.is_displayed.Goals as goal
 
 -- The text that is printed for a moment is the one that was written.
-written : (text : Option (Bor (List ℕ))) (t : ℤ) (k : ℕ) (bytes : List ℕ) → PrintedMoment t k → IsPrintable t
+written : (text : Option (Bor (List ℕ))) (t : ℤ) (k : ℕ) (bytes : List ℕ) → MomentPrintsAndReads t k → IsPrintable t
     → IsSome text → IfSome text (λ x. IsPrinted t k x.now) → IfSome (moment_text t k) (λ shown. bytes ≡ shown)
     → (x : Bor (List ℕ)) × (text ≡ Some x) × (x.now ≡ bytes)
 written None t k bytes law within is printed displayed = absurd (cc)

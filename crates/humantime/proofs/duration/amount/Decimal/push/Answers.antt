@@ -5,7 +5,7 @@ use Rattle.std.proofs.Common.{◌-◌, arith, ap}
 use Rattle.humantime.specs.Steps.Scales.{Counted}
 use Rattle.humantime.proofs.Durations.Bytes.Numbers.{digit_range}
 use Rattle.humantime.proofs.Durations.Bytes.FractionDigits.{push_fits, fewer, fraction_extended}
-use Rattle.humantime.proofs.duration.amount.Fraction.push.Goals as goal
+use Rattle.humantime.proofs.duration.amount.Decimal.push.Goals as goal
 
 pub overflow_sub-len : goal.overflow_sub-len
 overflow_sub-len c = omega (arith, fewer _ _ c.requires.digits.1)
