@@ -5,6 +5,6 @@ pub mod DecimalLengths
 pub mod GreatestCounts
 pub mod PrintedDigits
 pub mod PrintedLengths
-pub mod PrintedRows
+pub mod PrintedUnits
 pub mod PrintedSpans
 pub mod ReadsBack

@@ -2,7 +2,7 @@
 use Rattle.std.specs.Prelude.{ℕ, ◌*◌, ◌/◌, ◌^◌, List, [], ◌∷◌, length, Bool, true, false, ◌||◌, ◌&&◌, ◌==◌, nat_lt, nat_le, Option, Some, None, sum_by, flat_map, ◌≡◌, ◌+◌, ◌%◌, ◌++◌, IsSome}
 use Rattle.std.specs.List.{AllByRecursion}
 use Rattle.humantime.specs.Texts.{decimal_value}
-use Rattle.humantime.specs.Durations.Characters.{without_trailing_zeros, u64_max, bare_zero}
+use Rattle.humantime.specs.Durations.Characters.{without_trailing_zeros, max_fraction_digits, u64_max, bare_zero}
 use Rattle.humantime.specs.Durations.Units.{Quantity, Nanos, Seconds, Scale, scale_of_word}
 use Rattle.humantime.specs.Durations.Spans.{SpelledSpan, Reads}
 use Rattle.humantime.specs.Values.{nanos_per_second}
@@ -65,29 +65,37 @@ abbrev pub is_some_and : {A : Type 0} → (A → Bool) → Option A → Bool
 is_some_and passes None = false
 is_some_and passes (Some x) = passes x
 
+-- Tests whether an option is `None` or its value passes a test.
+abbrev pub is_none_or : {A : Type 0} → (A → Bool) → Option A → Bool
+is_none_or passes None = true
+is_none_or passes (Some x) = passes x
+
 -- Tests whether the number does not fit a `u64`, or the fraction has more than 19 digits without its trailing zeros.
 abbrev pub too_long : SpelledSpan → Bool
-too_long s = nat_lt u64_max (decimal_value s.number) || is_some_and (λ ds. nat_lt 19 (length (without_trailing_zeros ds))) s.fraction
+too_long s = nat_lt u64_max (decimal_value s.number) || is_some_and (λ ds. nat_lt max_fraction_digits (length (without_trailing_zeros ds))) s.fraction
 
 -- The span is not `too_long`, and its word is a unit.
 pub record Formed (s : SpelledSpan) : Type 0 where
   pub short : too_long s ≡ false
   pub word : IsSome (scale_of_word s.word)
 
--- Tests whether `0.ds` times `n` is a whole number, and `ds` times `n` fits a `u64`.
-abbrev pub is_whole_part : ℕ → List ℕ → Bool
-is_whole_part n ds = fits_u64 (decimal_value ds * n) && (decimal_value ds * n % 10 ^ length ds == 0)
+-- Tests whether `number / 10^count` of `n` is a whole number, and `number` times `n` fits a `u64`.
+abbrev pub is_whole_part : ℕ → ℕ → ℕ → Bool
+is_whole_part n number count = fits_u64 (number * n) && (number * n % 10 ^ count == 0)
 
--- Tests whether a fraction, if any, without its trailing zeros, passes `is_whole_part`, or is empty if its unit has no fractions.
+-- Tests whether the part of `n` that the fraction digits `ds` denote passes `is_whole_part`.
+abbrev pub has_whole_part : ℕ → List ℕ → Bool
+has_whole_part n ds = is_whole_part n (decimal_value ds) (length ds)
+
+-- Tests whether a fraction, if any, without its trailing zeros, passes `has_whole_part`, or is empty if its unit has no fractions.
 abbrev pub fraction_fits : Option Quantity → Option (List ℕ) → Bool
 fraction_fits _ None = true
 fraction_fits None (Some ds) = length (without_trailing_zeros ds) == 0
-fraction_fits (Some x) (Some ds) = is_whole_part (size x) (without_trailing_zeros ds)
+fraction_fits (Some x) (Some ds) = has_whole_part (size x) (without_trailing_zeros ds)
 
--- Tests whether the word is a unit, the number times the size of the unit fits a `u64`, and the fraction fits.
+-- Tests whether the number times the size of the unit fits a `u64`, and the fraction fits. A word that is not a unit has no size.
 abbrev pub fits : SpelledSpan → Bool
-fits s = is_some_and (λ u. fits_u64 (decimal_value s.number * size u.whole) && fraction_fits u.part s.fraction)
-    (scale_of_word s.word)
+fits s = is_none_or (λ u. fits_u64 (decimal_value s.number * size u.whole) && fraction_fits u.part s.fraction) (scale_of_word s.word)
 
 -- Tests whether an addition to a sum of `t` nanoseconds does not overflow: the whole seconds of the new sum fit a `u64`, and if nanoseconds
 -- are added, so do these plus the nanoseconds of `t` below a second.

@@ -54,6 +54,10 @@ digits cs = filter is_digit cs
 unfoldable pub without_trailing_zeros : List ℕ → List ℕ
 without_trailing_zeros ds = reverse (drop_while (λ d. d == byte "0") (reverse ds))
 
+-- The maximum number of digits in a fraction, without its trailing zeros.
+abbrev pub max_fraction_digits : ℕ
+max_fraction_digits = 19
+
 -- The maximum of a `u64`, 2^64 - 1.
 abbrev pub u64_max : ℕ
 u64_max = 18446744073709551615

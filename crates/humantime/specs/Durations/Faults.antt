@@ -1,6 +1,6 @@
 -- The first error of a text that is not accepted, by a table of ten rows, of which exactly one applies. A text is its list of characters;
 -- offsets count its bytes, and a fault holds the bytes of its unit.
-use Rattle.std.specs.Prelude.{ℕ, true, false, List, [], ◌∷◌, Option, Some, None, IsSome, if◌then◌else◌, ◌≡◌, ◌≢◌, ◌⊎◌, ◌++◌, drop, option_map, unwrap_or, encode_utf8_all}
+use Rattle.std.specs.Prelude.{ℕ, Bool, true, false, List, [], ◌∷◌, Option, Some, None, IsSome, if◌then◌else◌, ◌≡◌, ◌≢◌, ◌⊎◌, ◌++◌, drop, option_map, unwrap_or, encode_utf8_all}
 use Rattle.humantime.specs.Texts.{take_while, drop_while, begins, ends, decimal_value}
 use Rattle.humantime.specs.Durations.Characters.{is_letter, is_numeric, is_point, digits, is_whitespace, is_digit, byte_length, offset_of, bare_zero}
 use Rattle.humantime.specs.Durations.Spans.{SpelledSpan, SpellsAll}
@@ -58,16 +58,17 @@ pub record BeginsNumber (rest : List ℕ) : Type 0 where
   pub digit : begins is_digit rest ≡ true
   pub short : too_long (span_of rest) ≡ false
 
--- A digit or whitespace follows a word, or the text ends there.
-abbrev pub EndsSpan : List ℕ → Type 0
-EndsSpan next = (next ≡ []) ⊎ (begins is_numeric next ≡ true)
+-- Tests whether a text may follow a span: it is empty, or begins with a digit or whitespace.
+abbrev pub may_follow_span : List ℕ → Bool
+may_follow_span [] = true
+may_follow_span (c ∷ cs) = is_numeric c
 
 -- The rest begins with a whole span: a number, a fraction, if any, that has digits, and the word of a unit, after which the span may end.
 pub record BeginsSpan (rest : List ℕ) : Type 0 where
   pub number : BeginsNumber rest
   pub digits : fraction_of rest ≢ Some []
   pub unit : IsSome (scale_of_word (word_of rest))
-  pub ended : EndsSpan (after_word rest)
+  pub ended : may_follow_span (after_word rest) ≡ true
 
 -- The first nine rows of the table: after the spans, the rest does not begin with a whole span, and the fault is `e`.
 pub data IsStoppedWith (text front : List ℕ) (spans : List SpelledSpan) (rest : List ℕ) (e : Fault) : Type 0 where
@@ -88,14 +89,14 @@ pub data IsStoppedWith (text front : List ℕ) (spans : List SpelledSpan) (rest 
   NoLetterAfterPoint : BeginsNumber rest → IsSome (fraction_of rest) → word_of rest ≡ [] → after_word rest ≢ []
       → e ≡ InvalidCharacter (offset_of text (after_word rest)) → IsStoppedWith text front spans rest e
   -- A character other than a digit or whitespace follows the letters, whether they are a unit or not.
-  WordNotEnded : BeginsNumber rest → fraction_of rest ≢ Some [] → word_of rest ≢ [] → ¬ (EndsSpan (after_word rest))
+  WordNotEnded : BeginsNumber rest → fraction_of rest ≢ Some [] → word_of rest ≢ [] → may_follow_span (after_word rest) ≡ false
       → e ≡ InvalidCharacter (offset_of text (after_word rest)) → IsStoppedWith text front spans rest e
   -- The text ends without a unit.
   NoWord : BeginsNumber rest → fraction_of rest ≢ Some [] → word_of rest ≡ [] → after_word rest ≡ []
       → e ≡ UnknownUnit (byte_length text) (byte_length text) [] (decimal_value (number_of rest)) → IsStoppedWith text front spans rest e
   -- The word is not a unit.
-  UnknownWord : BeginsNumber rest → fraction_of rest ≢ Some [] → word_of rest ≢ [] → scale_of_word (word_of rest) ≡ None → EndsSpan (after_word rest)
-      → e ≡ UnknownUnit (offset_of text (after_fraction rest)) (offset_of text (after_word rest)) (encode_utf8_all (word_of rest)) (decimal_value (number_of rest))
+  UnknownWord : BeginsNumber rest → fraction_of rest ≢ Some [] → word_of rest ≢ [] → scale_of_word (word_of rest) ≡ None
+      → may_follow_span (after_word rest) ≡ true → e ≡ UnknownUnit (offset_of text (after_fraction rest)) (offset_of text (after_word rest)) (encode_utf8_all (word_of rest)) (decimal_value (number_of rest))
       → IsStoppedWith text front spans rest e
 
 -- The tenth row of the table: the rest begins with a whole span, and the spans together with this one break a limit.

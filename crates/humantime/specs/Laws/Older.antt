@@ -3,18 +3,18 @@
 use Rattle.std.specs.Prelude.{◌≡◌, ℕ, ◌*◌, ◌≤◌, true, List, length, Option, Some, None, IsOk, ⊤, Ok}
 use Rattle.std.specs.List.{AllByRecursion}
 use Rattle.humantime.specs.Texts.{decimal_value}
-use Rattle.humantime.specs.Durations.Characters.{u64_max, bare_zero}
+use Rattle.humantime.specs.Durations.Characters.{max_fraction_digits, u64_max, bare_zero}
 use Rattle.humantime.specs.Results.Durations.{duration_answer}
 use Rattle.humantime.specs.Durations.Units.{Quantity, Scale, scale_of_word}
 use Rattle.humantime.specs.Durations.Spans.{SpelledSpan, Reads}
-use Rattle.humantime.specs.Durations.Accepted.{size, additions, value, is_whole_part, AllHaveRoom, Accepted}
+use Rattle.humantime.specs.Durations.Accepted.{size, additions, value, has_whole_part, AllHaveRoom, Accepted}
 
 -- While trailing zeros counted, a fraction had at most 19 digits and denoted a whole number of nanoseconds or of seconds, and nanoseconds
 -- had no fraction.
 abbrev pub OlderFraction : Option Quantity → Option (List ℕ) → Type 0
 OlderFraction _ None = ⊤
 OlderFraction None (Some ds) = ⊥
-OlderFraction (Some x) (Some ds) = (length ds ≤ 19) × (is_whole_part (size x) ds ≡ true)
+OlderFraction (Some x) (Some ds) = (length ds ≤ max_fraction_digits) × (has_whole_part (size x) ds ≡ true)
 
 -- The word was a unit, the number and its product with the size of the unit fit a `u64`, and the fraction was within its limits with all of
 -- its digits.

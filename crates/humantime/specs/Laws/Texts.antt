@@ -2,7 +2,7 @@
 use Rattle.std.specs.Prelude.{◌≡◌, ◌≢◌, ◌↔◌, ◌⊎◌, ℕ, ◌+◌, List, ◌++◌, Ok, Err, filter, not, IsPermutation}
 use Rattle.humantime.specs.Durations.Characters.{is_whitespace, bare_zero}
 use Rattle.humantime.specs.Durations.Spans.{SpelledSpan, Reads}
-use Rattle.humantime.specs.Durations.Accepted.{additions, AllHaveRoom, Accepted}
+use Rattle.humantime.specs.Durations.Accepted.{additions, AllHaveRoom, WithinLimits, Accepted}
 use Rattle.humantime.specs.Durations.Faults.{NumberOverflow, HasFault}
 use Rattle.humantime.specs.Results.Durations.{duration_answer}
 
@@ -10,9 +10,9 @@ use Rattle.humantime.specs.Results.Durations.{duration_answer}
 abbrev pub without_whitespace : List ℕ → List ℕ
 without_whitespace text = filter (λ c. not (is_whitespace c)) text
 
--- If the text is accepted, it is exactly `0`, or it is spans.
+-- The text is accepted if and only if it is exactly `0`, or spans within the limits.
 abbrev pub IsZeroOrSpans : List ℕ → Type 0
-IsZeroOrSpans text = (v : ℕ) → Accepted text v → (text ≡ bare_zero) ⊎ ((spans : List SpelledSpan) × Reads text spans)
+IsZeroOrSpans text = ((v : ℕ) × Accepted text v) ↔ ((text ≡ bare_zero) ⊎ ((spans : List SpelledSpan) × Reads text spans × WithinLimits spans))
 
 -- The text is these spans, and is accepted with this value.
 abbrev pub AcceptedAs : List ℕ → List SpelledSpan → ℕ → Type 0
@@ -35,7 +35,7 @@ pub record KeepsValueWithoutWhitespace (text : List ℕ) : Type 0 where
 
 -- If two accepted texts other than `0` are joined, the result is the sum, or an overflow if an addition does not fit.
 pub record AddWhenJoined (a b : List ℕ) : Type 0 where
-  -- Each of the texts, if it is accepted, is exactly `0` or spans.
+  -- Each of the texts is accepted if and only if it is exactly `0`, or spans within the limits.
   pub first : IsZeroOrSpans a
   pub second : IsZeroOrSpans b
   -- The joined text is accepted with the sum if and only if no addition overflows, where those of the second text follow those of the first.

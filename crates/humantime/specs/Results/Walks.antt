@@ -6,13 +6,7 @@ use Rattle.humantime.specs.Durations.Characters.{is_whitespace, is_digit, is_let
 use Rattle.humantime.specs.Durations.Units.{Quantity, scale_of_word}
 use Rattle.humantime.specs.Durations.Spans.{SpelledSpan}
 use Rattle.humantime.specs.Durations.Accepted.{quantity_nanos, additions_of, fits, is_some_and, has_room, too_long}
-use Rattle.humantime.specs.Durations.Faults.{number_of, after_number, fraction_of, after_fraction, word_of, after_word, span_of, Fault, InvalidCharacter, NumberExpected, UnknownUnit, NumberOverflow, Empty}
-pub use Rattle.humantime.specs.Durations.Accepted.{too_long}
-
--- Tests whether a digit or whitespace follows a word, or the text ends there.
-abbrev pub ends_span : List ℕ → Bool
-ends_span [] = true
-ends_span (c ∷ cs) = is_numeric c
+use Rattle.humantime.specs.Durations.Faults.{number_of, after_number, fraction_of, after_fraction, word_of, after_word, span_of, may_follow_span, Fault, InvalidCharacter, NumberExpected, UnknownUnit, NumberOverflow, Empty}
 
 -- Returns the error, if any, of the span at the start of `rest`, which begins with a digit. These are tested in order: the number or the
 -- fraction is too long; a character other than a letter follows them; a point has no digits; a character other than a digit or whitespace
@@ -22,7 +16,7 @@ stop_at text rest =
     if too_long (span_of rest) then Some NumberOverflow
     else if begins (λ c. not (is_letter c)) (after_fraction rest) then Some (InvalidCharacter (offset_of text (after_word rest)))
     else if is_some_and (λ ds. length ds == 0) (fraction_of rest) then Some (InvalidCharacter (offset_of text (after_number rest)))
-    else if not (ends_span (after_word rest)) then Some (InvalidCharacter (offset_of text (after_word rest)))
+    else if not (may_follow_span (after_word rest)) then Some (InvalidCharacter (offset_of text (after_word rest)))
     else if is_some (scale_of_word (word_of rest)) then None
     else Some (UnknownUnit (offset_of text (after_fraction rest)) (offset_of text (after_word rest))
     (encode_utf8_all (word_of rest)) (decimal_value (number_of rest)))
@@ -70,10 +64,14 @@ spans_of_walk w = (map span_of w.starts, w.stop)
 abbrev pub items : List ℕ → List SpelledSpan × Option Fault
 items text = spans_of_walk (walk_of text)
 
--- Returns the sum of `t` and these additions, or `None` if one of them overflows.
+-- Returns the sum of `t` and a quantity, or `None` on overflow.
+abbrev pub add : ℕ → Quantity → Option ℕ
+add t x = if has_room t x then Some (t + quantity_nanos x) else None
+
+-- Returns the sum of `t` and these quantities, or `None` if one of them overflows.
 unfoldable pub add_all : ℕ → List Quantity → Option ℕ
 add_all t [] = Some t
-add_all t (x ∷ xs) = if has_room t x then add_all (t + quantity_nanos x) xs else None
+add_all t (x ∷ xs) = elim (add t x) [ None ↦ None | Some u ↦ add_all u xs ]
 
 -- Returns the sum of `t` and a span, or `None` if the span breaks a limit.
 unfoldable pub add_span : ℕ → SpelledSpan → Option ℕ

@@ -5,7 +5,7 @@ use Rattle.humantime.specs.Texts.{take_while, drop_while}
 use Rattle.humantime.specs.Durations.Characters.{is_whitespace, is_letter, is_numeric}
 use Rattle.humantime.specs.Durations.Faults.{after_number}
 use Rattle.humantime.specs.Steps.Scanning.{begins_with_nonletter}
-use Rattle.humantime.specs.Results.Walks.{ends_span}
+use Rattle.humantime.specs.Durations.Faults.{may_follow_span}
 
 -- The characters after the cursor.
 abbrev pub ahead : Cursor → List ℕ
@@ -28,7 +28,7 @@ pub record IsWord (start : Cursor) (word : List ℕ) (end : Cursor) : Type 0 whe
 
 -- A span may end at `after`, the cursor after its word, and `next` is that cursor or a cursor after some of the whitespace that follows.
 pub record IsSpanEnd (after next : Cursor) : Type 0 where
-  pub ends : ends_span (ahead after) ≡ true
+  pub ends : may_follow_span (ahead after) ≡ true
   pub same : drop_while is_whitespace (ahead next) ≡ drop_while is_whitespace (ahead after)
   pub shorter : length next.rest.now ≤ length after.rest.now
   pub same_text : next.text.now ≡ after.text.now

@@ -3,7 +3,7 @@ use Rattle.std.specs.Prelude.{◌≡◌, ◌≤◌, ◌<◌, ◌^◌, ℕ, ◌-�
 use Rattle.std.specs.Char.{len_utf8}
 use Rattle.humantime.specs.declared.duration.amount.Decimal.{Decimal}
 use Rattle.humantime.specs.Texts.{begins, drop_while}
-use Rattle.humantime.specs.Durations.Characters.{is_whitespace, is_letter, without_trailing_zeros}
+use Rattle.humantime.specs.Durations.Characters.{is_whitespace, is_letter, without_trailing_zeros, max_fraction_digits}
 use Rattle.humantime.specs.Steps.Scales.{counted, parts_of}
 
 -- The text ends in the bytes of the rest, which is valid UTF-8.
@@ -25,7 +25,7 @@ whitespace_len (c ∷ cs) = if is_whitespace c then len_utf8 c else 0
 -- The fraction has these digits, at most 19 of them before the trailing zeros.
 pub record HasDigits (f : Decimal) (ds : List ℕ) : Type 0 where
   pub parts : parts_of f ≡ counted ds
-  pub few : f.exponent ≤ 19
+  pub few : f.exponent ≤ max_fraction_digits
   pub fits : f.significand < 10 ^ f.exponent
 
 -- The result, if there is one, has the digits of the fraction and then the digit `c`.
@@ -34,7 +34,7 @@ AppendsIfSome f c result = (ds : List ℕ) → HasDigits f ds → IfSome result 
 
 -- If there is no result, the digit `c` makes more than 19 digits before the trailing zeros, whatever digits follow.
 abbrev pub IsFullIfNone : Decimal → ℕ → Option Decimal → Type 0
-IsFullIfNone f c result = (ds : List ℕ) → HasDigits f ds → IfNone result ((es : List ℕ) → 19 < length (without_trailing_zeros (ds ++ c ∷ es)))
+IsFullIfNone f c result = (ds : List ℕ) → HasDigits f ds → IfNone result ((es : List ℕ) → max_fraction_digits < length (without_trailing_zeros (ds ++ c ∷ es)))
 
 -- There is only whitespace between the two positions.
 pub record SkipsWhitespace (text : List ℕ) (from to : ℕ) : Type 0 where

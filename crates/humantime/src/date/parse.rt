@@ -280,8 +280,7 @@ fn read_fraction(rest: &[u8]) -> Result<u32, TimestampError>
 /// Returns the nanoseconds that the digits after a point represent, or an error if a byte is not a digit. Digits after the ninth
 /// are ignored.
 ///
-/// This is a single loop over the nine places, which LLVM unrolls. For a text with a fraction, that saves 0.1 to 0.15 of the time that
-/// the Rust crate `humantime` takes.
+/// The loop runs over the nine places and not over the digits, so that LLVM unrolls it.
 #[inline(always)]
 fn fraction_nanos(digits: &[u8]) -> Result<u32, TimestampError>
     ensures { result ≡ digits_answer digits.now }

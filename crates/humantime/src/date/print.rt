@@ -254,7 +254,7 @@ impl Rfc3339Timestamp {
 
     /// Writes the text to the front of `buf` and returns its length in bytes. Outside 1970 to 9999, returns `None`, with `buf` unchanged.
     #[inline(always)]
-    pub(crate) fn write(&self, buf: &mut [u8; 30]) -> Option<usize>
+    fn write(&self, buf: &mut [u8; 30]) -> Option<usize>
         ensures within { IsSome result ↔ IsPrintable self.now.moment }
         ensures fits { IfSome result (λ len. len ≤ 30) }
         ensures text { IfSome result (λ len. IsPrinted self.now.moment self.now.places (take len buf.new)) }

@@ -2,7 +2,7 @@
 
 ghost use Rattle.std.specs.Prelude.{◌≡◌, ℕ, List, true, SomeIff, ◌+◌, ◌-◌, ◌*◌, ◌^◌, ◌≤◌, ◌<◌};
 ghost use Rattle.std.specs.Option.{ForSome};
-ghost use Rattle.humantime.specs.Durations.Characters.{is_digit, u64_max};
+ghost use Rattle.humantime.specs.Durations.Characters.{is_digit, max_fraction_digits, u64_max};
 
 use crate::unit::Scale;
 
@@ -50,7 +50,7 @@ pub(crate) struct Amount {
     pub value: u64,
     pub fraction: Option<Decimal>,
     pub scale: &'static Scale,
-    ghost few: { ForSome fraction (λ f. f.exponent ≤ 19) },
+    ghost few: { ForSome fraction (λ f. f.exponent ≤ max_fraction_digits) },
 }
 
 /// Returns `value * 10 + digit`, or `None` on overflow.
@@ -64,7 +64,7 @@ pub(crate) fn push_digit(value: u64, digit: u64) -> Option<u64>
 
 /// Returns 10 to the power of `exponent`, which is at most 19.
 pub(crate) fn power_of_ten(exponent: usize) -> u64
-    requires { exponent ≤ 19 }
+    requires { exponent ≤ max_fraction_digits }
     ensures { result ≡ 10 ^ exponent }
 {
     POWERS_OF_TEN[exponent]

@@ -55,7 +55,7 @@ fn sum_of<'a>(text: &'a str) -> Result<StdDuration, DurationError<'a>>
     let mut total = StdDuration::ZERO;
     let mut items = spans(text);
     while let Some(item) = items.next() {
-        // `match` and not `?`, for which the kit's own back end copies the error by a call: `1foo~` would take 1.15 times as long.
+        // `match` and not `?`, for which the kit's own back end copies the error by a call.
         match item {
             Ok(span) => match add_amount(total, span.amount) {
                 Some(sum) => total = sum,

@@ -111,7 +111,7 @@ impl FormattedDuration {
 /// The clause `within` holds for every duration. It is here for the proof of [`FormattedDuration::text`], which has only a reference to the
 /// duration.
 ///
-/// This is a single function and is not inlined, so that the writer stays in registers and printing takes 0.8 of the instructions.
+/// This is a single function and is not inlined, so that the writer stays in registers.
 #[inline(never)]
 #[tactic(auto, using(crate::proofs::Durations::Printing::CountTexts::counts_written))]
 fn write_duration(duration: StdDuration, buf: &mut [u8; 64]) -> usize

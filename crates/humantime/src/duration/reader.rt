@@ -6,7 +6,7 @@ ghost use Rattle.humantime.specs.Durations.Characters.{is_digit};
 ghost use Rattle.humantime.specs.Durations.Faults.{after_fraction};
 ghost use Rattle.humantime.specs.Steps.Cursors.{ahead, IsSpanEnd};
 ghost use Rattle.humantime.specs.Steps.SpanParts.{IsFractionOf, ReadsSpan};
-ghost use Rattle.humantime.specs.Results.Walks.{ends_span};
+ghost use Rattle.humantime.specs.Durations.Faults.{may_follow_span};
 
 use crate::duration::amount::Amount;
 use crate::duration::cursor::Cursor;
@@ -36,10 +36,10 @@ fn fraction_end<'a>(number: Number<'a>, fraction: Option<FractionText<'a>>) -> C
 /// after the word if a digit or the end of the text follows. Returns `None` if any other character follows.
 #[inline(always)]
 fn next_span_start<'a>(after_word: Cursor<'a>) -> Option<Cursor<'a>>
-    ensures { MatchOption result (ends_span (ahead after_word.entry) ≡ false) (λ next. IsSpanEnd after_word.entry next) }
+    ensures { MatchOption result (may_follow_span (ahead after_word.entry) ≡ false) (λ next. IsSpanEnd after_word.entry next) }
 {
     let text = after_word.rest;
-    // A space or the end of the text follows most words. With the tests for these first, parsing takes 0.92 of the instructions.
+    // The end of the text or a space follows most words, so these are tested first.
     if text.is_empty() {
         return Some(after_word);
     }
@@ -63,7 +63,7 @@ pub(crate) fn read_span<'a>(start: Cursor<'a>) -> Result<(Span<'a>, Cursor<'a>),
     let Some(number) = read_number(start) else {
         return Err(DurationError::NumberOverflow);
     };
-    // `complete_span` is inlined twice, so that a span without a fraction needs no registers for one and takes 0.92 of the instructions.
+    // `complete_span` is inlined twice, so that a span without a fraction needs no registers for one.
     let Some(digits) = skip_point(number.end) else {
         return complete_span(number, None);
     };
@@ -88,7 +88,7 @@ fn complete_span<'a>(
         return Err(DurationError::InvalidCharacter(end.offset()));
     };
     let after_word = word.end;
-    // There is a point without a digit after it.
+    // A point without digits is an error only if a letter or the end of the text follows it, so it is tested after the word.
     if fraction.is_some_and(|fraction| fraction.value.len == 0) {
         return Err(DurationError::InvalidCharacter(number.end.offset()));
     }

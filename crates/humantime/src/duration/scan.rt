@@ -6,7 +6,7 @@ ghost use Rattle.std.proofs.Props.{props};
 ghost use Rattle.std.specs.Prelude.{◌≡◌, ◌==◌, ◌+◌, ◌<◌, ◌≤◌, ◌&&◌, ◌||◌, true, take, drop, length, chars, option_map};
 ghost use Rattle.std.specs.Prelude.{IfSome, SomeIff, MatchOption, IsCharBoundary};
 ghost use Rattle.humantime.specs.Texts.{begins, drop_while, decimal_value};
-ghost use Rattle.humantime.specs.Durations.Characters.{is_digit, is_whitespace, is_letter, without_trailing_zeros, u64_max};
+ghost use Rattle.humantime.specs.Durations.Characters.{is_digit, is_whitespace, is_letter, without_trailing_zeros, max_fraction_digits, u64_max};
 ghost use Rattle.humantime.specs.Durations.Errors.{IsCharStartIn};
 ghost use Rattle.humantime.specs.Durations.Faults.{number_of, after_point};
 ghost use Rattle.humantime.specs.Durations.Units.{scale_of_word};
@@ -31,7 +31,7 @@ fn is_mu(first: u8, second: u8) -> bool
 
 /// Returns the length in bytes of the whitespace character at the start of the text, or 0 if there is none.
 ///
-/// It is cold and not inlined, so that loops over ASCII keep their variables in registers and fractions take 0.85 of the time.
+/// It is cold and not inlined, so that loops over ASCII keep their variables in registers.
 #[cold]
 #[inline(never)]
 #[tactic(auto, using(crate::proofs::Durations::Bytes::PlaceSteps::none_width))]
@@ -73,7 +73,7 @@ pub(crate) fn skip_whitespace_char(text: &str, at: usize) -> Option<usize>
 
 /// Returns the offset after the spaces (U+0020) at offset `from`, if any. The contract promises only that nothing but whitespace is skipped.
 ///
-/// This is a separate loop, so that a run of spaces takes 0.65 of the time.
+/// This is a separate loop, because most runs of whitespace are spaces.
 #[inline(always)]
 fn skip_spaces(text: &str, from: usize) -> usize
     requires { IsCharBoundary text.now from }
@@ -94,7 +94,7 @@ pub(crate) fn skip_whitespace<'a>(start: Cursor<'a>) -> Cursor<'a>
     ensures text { result.text.now ≡ start.entry.text.now }
 {
     let text = start.rest;
-    // Most texts have a digit here. Without this test, `2h 37min` would take a tenth more instructions.
+    // Most texts have a digit here.
     if begins_with_digit(text) {
         return start;
     }
@@ -144,8 +144,7 @@ pub(crate) fn read_number<'a>(start: Cursor<'a>) -> Option<Number<'a>>
     let mut value = (bytes[0] - b'0') as u64;
     let mut at = 1;
     while at < bytes.len() {
-        // Above 9, possibly after wrapping around, unless the byte is a digit. It is a `u64` and is tested before whitespace, so that long
-        // numbers take 0.9 of the time.
+        // Above 9, possibly after wrapping around, unless the byte is a digit.
         let digit = (bytes[at] as u64).wrapping_sub(b'0' as u64);
         if digit <= 9 {
             at += 1;
@@ -187,7 +186,7 @@ pub(crate) struct FractionText<'a> {
 /// By the ghost fields of [`FractionText`], `start` determines the value, the slice and the end.
 #[inline(always)]
 pub(crate) fn read_fraction<'a>(start: Cursor<'a>) -> Option<FractionText<'a>>
-    ensures { MatchOption result (19 < length (without_trailing_zeros (number_of (ahead start.entry)))) (λ f. f.start ≡ start.entry) }
+    ensures { MatchOption result (max_fraction_digits < length (without_trailing_zeros (number_of (ahead start.entry)))) (λ f. f.start ≡ start.entry) }
 {
     let text = start.rest;
     let bytes = text.as_bytes();

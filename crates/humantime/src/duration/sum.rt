@@ -1,7 +1,8 @@
 //! Adds the [`Amount`] of a span to a duration, checking for overflow.
 
-ghost use Rattle.std.specs.Prelude.{◌≡◌, ◌≤◌, ◌*◌, SomeIff};
-ghost use Rattle.humantime.specs.Durations.Characters.{u64_max};
+ghost use Rattle.std.specs.Prelude.{◌≡◌, ◌≤◌, ◌*◌, ◌/◌, ◌^◌, IsTrue, SomeIff};
+ghost use Rattle.humantime.specs.Durations.Characters.{max_fraction_digits, u64_max};
+ghost use Rattle.humantime.specs.Durations.Accepted.{is_whole_part};
 ghost use Rattle.humantime.specs.Durations.Spans.{SpelledSpan};
 ghost use Rattle.humantime.specs.Steps.Adding as steps;
 ghost use Rattle.humantime.specs.Results.Walks.{add_span};
@@ -35,8 +36,8 @@ fn add_times(sum: StdDuration, one: Quantity, count: u64) -> Option<StdDuration>
 /// Returns the fraction times `factor`, or `None` if that is not a whole number or the significand times `factor` overflows.
 #[tactic(auto, using(crate::proofs::Durations::Bytes::Additions::power_positive))]
 fn part_of(fraction: Decimal, factor: u64) -> Option<u64>
-    requires { fraction.exponent ≤ 19 }
-    ensures { result ≡ steps.part_of fraction.significand fraction.exponent factor }
+    requires { fraction.exponent ≤ max_fraction_digits }
+    ensures { SomeIff result (IsTrue (is_whole_part factor fraction.significand fraction.exponent)) (fraction.significand * factor / 10 ^ fraction.exponent) }
 {
     let scaled = product(fraction.significand, factor)?;
     let power = power_of_ten(fraction.exponent);
@@ -50,7 +51,7 @@ fn part_of(fraction: Decimal, factor: u64) -> Option<u64>
 ///
 /// If `one` is `None`, as for nanoseconds, which have no fractions, the result is `None` unless the fraction is zero.
 fn add_part(sum: StdDuration, one: Option<Quantity>, fraction: Decimal) -> Option<StdDuration>
-    requires { fraction.exponent ≤ 19 }
+    requires { fraction.exponent ≤ max_fraction_digits }
     ensures { result ≡ steps.add_part sum one fraction.significand fraction.exponent }
 {
     match one {
@@ -67,8 +68,7 @@ pub(crate) fn add_amount(total: StdDuration, amount: Amount) -> Option<StdDurati
     ensures { (s : SpelledSpan) → IsAmountOf amount s → result ≡ add_span total s }
 {
     let (count, scale) = (amount.value, amount.scale);
-    // `add_times` is called in both arms, so that it is inlined twice and `amount.fraction` is tested once: parsing takes 0.96 of the
-    // instructions.
+    // `add_times` is called in both arms, so that `amount.fraction` is tested once.
     match amount.fraction {
         None => add_times(total, scale.whole, count),
         Some(fraction) => {

@@ -49,7 +49,7 @@ impl<'b> Writer<'b> {
     {
         let mut buf = Buffer::new();
         let digits = buf.format(number);
-        // One or two digits are copied by a move, and more by a call, so that `2h 37m` takes two thirds of the time.
+        // One or two digits, as most numbers have, are copied without a call.
         match digits.len() {
             1 => self.push(&digits[..1]),
             2 => self.push(&digits[..2]),

@@ -1,7 +1,8 @@
 -- Accepted texts and their spans.
-use Rattle.std.proofs.Common.{arith, ◌≡◌, ℕ, List, [], ◌∷◌, refl, sum_by, IsPermutation}
+use Rattle.std.proofs.Common.{arith, ◌≡◌, ◌⊎◌, inl, inr, ℕ, List, [], ◌∷◌, refl, sum_by, IsPermutation}
 use Rattle.std.proofs.lemmas.Grind.{common_steps}
 use Rattle.std.proofs.lemmas.List.Sorted.{sum_by-IsPermutation}
+use Rattle.humantime.specs.Durations.Characters.{bare_zero}
 use Rattle.humantime.specs.Durations.Spans.{SpelledSpan, Reads}
 use Rattle.humantime.specs.Durations.Faults.{Fault, HasFault}
 use Rattle.humantime.specs.Durations.Accepted.{total, value, WithinLimits, Accepted, BareZero, SumOf, additions_of}
@@ -10,9 +11,15 @@ use Rattle.humantime.proofs.Durations.Reading.OneReading.{not_zero}
 use Rattle.humantime.proofs.Durations.Reading.Summed.{value-cons}
 use Rattle.humantime.proofs.Durations.Reading.Outcomes.{one_reading, outcome_accepted, outcome_fault}
 
--- An accepted text is exactly `0`, or it is spans.
+-- An accepted text is exactly `0`, or it is spans within the limits.
+zero_or_spans_read : (text : List ℕ) (v : ℕ) → Accepted text v → (text ≡ bare_zero) ⊎ ((spans : List SpelledSpan) × Reads text spans × WithinLimits spans)
+zero_or_spans_read text v (BareZero zero none) = inl zero
+zero_or_spans_read text v (SumOf spans reads within sum) = inr (spans, reads, within)
+
 pub zero_or_spans : (text : List ℕ) → IsZeroOrSpans text
-zero_or_spans text v a = grind arith
+zero_or_spans text =
+    ((λ some. zero_or_spans_read text some.0 some.1),
+    (λ is. elim is [ inl zero ↦ (0, BareZero zero refl) | inr found ↦ (value found.0, SumOf found.0 found.1 found.2 refl) ]))
 
 -- The value of an accepted text of spans is their sum, and they are within the limits.
 pub accepted_spans : (text : List ℕ) (spans : List SpelledSpan) (v : ℕ) → Reads text spans → Accepted text v → WithinLimits spans × (value spans ≡ v)

@@ -9,7 +9,7 @@ use Rattle.humantime.specs.Values.{nanos_per_second}
 use Rattle.humantime.specs.Durations.Characters.{u64_max}
 use Rattle.humantime.specs.Durations.Counts.{Suffix, weights, suffixes, printed_count, printed_counts, joined_by_space, AreCounts, IsCanonicalText}
 use Rattle.humantime.specs.Results.Durations.{divided, duration_text}
-use Rattle.humantime.proofs.Durations.Printing.PrintedRows.{space, sized_units, counts_of_units, sum_limit}
+use Rattle.humantime.proofs.Durations.Printing.PrintedUnits.{space, sized_units, counts_of_units, sum_limit}
 use Rattle.humantime.proofs.Durations.Printing.GreatestCounts.{canon_is_text, counts_divided}
 
 -- A bound for the number of digits of each count, if the remainder is less than `m`.

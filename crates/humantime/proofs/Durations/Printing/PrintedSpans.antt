@@ -23,11 +23,11 @@ use Rattle.humantime.proofs.Durations.Reading.Summed.{value-cons}
 use Rattle.humantime.proofs.Durations.Laws.JoinedTexts.{each-append}
 use Rattle.humantime.proofs.Durations.Laws.SmallAdditions.{IsSmall, small_have_room}
 use Rattle.humantime.proofs.Durations.Printing.PrintedDigits.{decimal_number}
-use Rattle.humantime.proofs.Durations.Printing.PrintedRows.{space, word_for, span_for, is_of_kind, IsPrintedWord, is_word-true, sized_units, counts_of_units, is_table, table, sum_limit, three}
+use Rattle.humantime.proofs.Durations.Printing.PrintedUnits.{space, word_for, span_for, is_of_kind, IsPrintedWord, is_word-true, sized_units, counts_of_units, is_table, table, sum_limit, three}
 use Rattle.humantime.proofs.Durations.Printing.GreatestCounts.{canon_is_text}
 
 -- The count is printed as the text of its span, which keeps all limits.
-pub record IsRow (n : ℕ) (s : Suffix) : Type 0 where
+pub record IsPrintedSpan (n : ℕ) (s : Suffix) : Type 0 where
   pub utf8 : IsUtf8 (printed_count n s)
   pub spells : (white : List ℕ) → HasOnly is_whitespace white → Spells (chars (printed_count n s) ++ white) (span_for n s) []
   pub formed : Formed (span_for n s)
@@ -42,19 +42,19 @@ few m n x some kind below whole = grind (arith, nat_tests, mul_comm, mul_assoc)
 count_chars : (n : ℕ) (s : Suffix) → n < 2 ^ 64 → chars (printed_count n s) ≡ decimal n ++ chars (word_for n s)
 count_chars n s h = grind (arith, common_steps, IsAscii-decimal, append_assoc, chars-append, IsUtf8-from_ascii, chars-IsAscii)
 
-count_row : (w m n : ℕ) (s : Suffix) → IsPrintedWord w m (word_for n s) → w * n < m → w * n < sum_limit → IsRow n s × (total (additions_of (span_for n s)) ≡ w * n)
-count_row w m n s i below whole =
+printed_span : (w m n : ℕ) (s : Suffix) → IsPrintedWord w m (word_for n s) → w * n < m → w * n < sum_limit → IsPrintedSpan n s × (total (additions_of (span_for n s)) ≡ w * n)
+printed_span w m n s i below whole =
     let few = few m n i.unit.whole i.some i.kind (rw i.weight below) (rw i.weight whole) in
     let number = decimal_number n few.0 in
     let adds : additions_of (span_for n s) ≡ times n i.unit.whole ∷ [] = grind (arith, common_steps, number.value, i.is) in
-    let row : IsRow n s = record {
+    let is : IsPrintedSpan n s = record {
       utf8 = rw append_assoc (IsUtf8-append (decimal n) (word_for n s) (IsUtf8-from_ascii (decimal n) (IsAscii-decimal n few.0)) i.utf8);
       spells = λ white only. grind (arith, common_steps, number, count_chars);
       formed = record { short = grind (arith, common_steps, number.value); word = rw i.is refl };
       fits = rw i.is (grind (arith, number.value, few.1));
       small = rw adds (few.2, tt);
     } in
-    (row, rw (adds, ← i.weight) (omega (arith, few.3)))
+    (is, rw (adds, ← i.weight) (omega (arith, few.3)))
 
 -- The counts that are not zero, and their spans.
 abbrev pub shown : List (ℕ × Suffix) → List (ℕ × Suffix)
@@ -63,17 +63,17 @@ shown cs = filter (λ c. nat_lt 0 c.0) cs
 abbrev pub spans_of : List (ℕ × Suffix) → List SpelledSpan
 spans_of cs = map (λ c. span_for c.0 c.1) cs
 
-abbrev pub AllRows : List (ℕ × Suffix) → Type 0
-AllRows cs = AllByRecursion (λ c. IsRow c.0 c.1) cs
+abbrev pub AllPrintedSpans : List (ℕ × Suffix) → Type 0
+AllPrintedSpans cs = AllByRecursion (λ c. IsPrintedSpan c.0 c.1) cs
 
--- The counts that are printed are rows, and the sum of their spans is `d`.
-abbrev AreRows : ℕ → List (ℕ × Suffix) → Type 0
-AreRows d cs = AllRows (shown cs) × (value (spans_of (shown cs)) ≡ d)
+-- The counts that are printed are spans, and the sum of their spans is `d`.
+abbrev ArePrintedSpans : ℕ → List (ℕ × Suffix) → Type 0
+ArePrintedSpans d cs = AllPrintedSpans (shown cs) × (value (spans_of (shown cs)) ≡ d)
 
-rows : (us : List (ℕ × Suffix)) (m d : ℕ) → is_table us m ≡ true → d < m → d < sum_limit → AreRows d (counts_of_units us d)
-rows [] m d h below whole = (tt, grind (arith, nat_tests))
-rows (u ∷ us) m d h below whole =
-    grind (arith, is_word-true, three, nat_tests, value-cons, (count_row u.0 m (d / u.0) u.1), (mod_below d u.0), (rows us u.0 (d % u.0)))
+shown_spans : (us : List (ℕ × Suffix)) (m d : ℕ) → is_table us m ≡ true → d < m → d < sum_limit → ArePrintedSpans d (counts_of_units us d)
+shown_spans [] m d h below whole = (tt, grind (arith, nat_tests))
+shown_spans (u ∷ us) m d h below whole =
+    grind (arith, is_word-true, three, nat_tests, value-cons, (printed_span u.0 m (d / u.0) u.1), (mod_below d u.0), (shown_spans us u.0 (d % u.0)))
 
 -- ---- the text of these spans
 
@@ -82,18 +82,18 @@ chars_space p q utf8 =
     let ascii : IsAscii (space ∷ []) = search rules in
     grind (arith, (chars-append p (space ∷ q) utf8), (chars-append (space ∷ []) q (IsUtf8-from_ascii (space ∷ []) ascii)), (chars-IsAscii (space ∷ []) ascii), append_assoc)
 
--- The text of the rows, joined with single spaces.
-abbrev pub rows_text : List (ℕ × Suffix) → List ℕ
-rows_text rows = join_with_byte space (map (λ c. printed_count c.0 c.1) rows)
+-- The text of the counts, joined with single spaces.
+abbrev pub counts_text : List (ℕ × Suffix) → List ℕ
+counts_text cs = join_with_byte space (map (λ c. printed_count c.0 c.1) cs)
 
-rows_spell : (rows : List (ℕ × Suffix)) → AllRows rows → SpellsEach (chars (rows_text rows)) (spans_of rows)
+counts_spell : (cs : List (ℕ × Suffix)) → AllPrintedSpans cs → SpellsEach (chars (counts_text cs)) (spans_of cs)
 unfolding is_whitespace whitespace_chars
-rows_spell [] h = chars-nil
-rows_spell (c ∷ []) h = ([], subst (λ l. Spells l (span_for c.0 c.1) []) (append-nil (chars (printed_count c.0 c.1))) (h.0.spells [] tt), refl)
-rows_spell (c ∷ d ∷ rows) h =
-    let rest = chars (rows_text (d ∷ rows)) in
+counts_spell [] h = chars-nil
+counts_spell (c ∷ []) h = ([], subst (λ l. Spells l (span_for c.0 c.1) []) (append-nil (chars (printed_count c.0 c.1))) (h.0.spells [] tt), refl)
+counts_spell (c ∷ d ∷ cs) h =
+    let rest = chars (counts_text (d ∷ cs)) in
     let here = spells-append _ [] rest (span_for c.0 c.1) (h.0.spells (space ∷ []) (refl, tt)) in
-    (rest, rw (chars_space (printed_count c.0 c.1) (rows_text (d ∷ rows)) h.0.utf8) here, rows_spell (d ∷ rows) h.1)
+    (rest, rw (chars_space (printed_count c.0 c.1) (counts_text (d ∷ cs)) h.0.utf8) here, counts_spell (d ∷ cs) h.1)
 
 -- The spans keep their limits, and each adds little.
 pub record SpansAreWithin (spans : List SpelledSpan) : Type 0 where
@@ -101,37 +101,37 @@ pub record SpansAreWithin (spans : List SpelledSpan) : Type 0 where
   pub fit : AllByRecursion (λ s. fits s ≡ true) spans
   pub small : AllByRecursion IsSmall (additions spans)
 
-rows_within : (rows : List (ℕ × Suffix)) → AllRows rows → SpansAreWithin (spans_of rows)
-rows_within [] h = record { formed = tt; fit = tt; small = tt }
-rows_within (c ∷ rows) h = grind (arith, (rows_within rows h.1), each-append)
+counts_within : (cs : List (ℕ × Suffix)) → AllPrintedSpans cs → SpansAreWithin (spans_of cs)
+counts_within [] h = record { formed = tt; fit = tt; small = tt }
+counts_within (c ∷ cs) h = grind (arith, (counts_within cs h.1), each-append)
 
--- The text of rows whose sum is a duration is accepted with that duration.
-rows_accepted : (c : ℕ × Suffix) (rows : List (ℕ × Suffix)) (d : ℕ) → AllRows (c ∷ rows) → value (spans_of (c ∷ rows)) ≡ d → d / nanos_per_second ≤ u64_max
-    → Accepted (chars (rows_text (c ∷ rows))) d
-rows_accepted c rows d h sum short =
-    let within = rows_within (c ∷ rows) h in
-    let room = small_have_room (additions (spans_of (c ∷ rows))) within.small (rw sum short) in
-    let reads : Reads (chars (rows_text (c ∷ rows))) (spans_of (c ∷ rows)) =
-    (record { whitespace = []; body = _; whole = refl; only_whitespace = tt; each = rows_spell (c ∷ rows) h }, λ e. cc) in
-    SumOf (spans_of (c ∷ rows)) reads (record { formed = within.formed; fit = within.fit; room = room }) sum
+-- The text of counts whose sum is a duration is accepted with that duration.
+counts_accepted : (c : ℕ × Suffix) (cs : List (ℕ × Suffix)) (d : ℕ) → AllPrintedSpans (c ∷ cs) → value (spans_of (c ∷ cs)) ≡ d → d / nanos_per_second ≤ u64_max
+    → Accepted (chars (counts_text (c ∷ cs))) d
+counts_accepted c cs d h sum short =
+    let within = counts_within (c ∷ cs) h in
+    let room = small_have_room (additions (spans_of (c ∷ cs))) within.small (rw sum short) in
+    let reads : Reads (chars (counts_text (c ∷ cs))) (spans_of (c ∷ cs)) =
+    (record { whitespace = []; body = _; whole = refl; only_whitespace = tt; each = counts_spell (c ∷ cs) h }, λ e. cc) in
+    SumOf (spans_of (c ∷ cs)) reads (record { formed = within.formed; fit = within.fit; room = room }) sum
 
 -- If all counts are zero, the text is that of zero seconds.
 zero_accepted : Accepted (chars (codes "0s")) 0
 unfolding is_letter scale_of_word is_utf8 chars encode
 zero_accepted =
     let s : Suffix = (codes "s", false) in
-    let second = count_row nanos_per_second sum_limit 0 s (is_word-true nanos_per_second sum_limit (codes "s") refl) (omega arith) (omega arith) in
+    let second = printed_span nanos_per_second sum_limit 0 s (is_word-true nanos_per_second sum_limit (codes "s") refl) (omega arith) (omega arith) in
     let zero : codes "0s" ≡ printed_count 0 s = rw (decimal_digit 0 (omega arith)) refl in
-    subst (λ (l : List ℕ). Accepted (chars l) 0) (sym zero) (rows_accepted (0, s) [] 0 (second.0, tt) (value-cons (span_for 0 s) [] ∙ omega (arith, second.1)) (omega arith))
+    subst (λ (l : List ℕ). Accepted (chars l) 0) (sym zero) (counts_accepted (0, s) [] 0 (second.0, tt) (value-cons (span_for 0 s) [] ∙ omega (arith, second.1)) (omega arith))
 
-all_accepted : (rows : List (ℕ × Suffix)) (d : ℕ) → AllRows rows → value (spans_of rows) ≡ d → d / nanos_per_second ≤ u64_max
-    → Accepted (chars (joined_by_space (map (λ c. printed_count c.0 c.1) rows))) d
+all_accepted : (cs : List (ℕ × Suffix)) (d : ℕ) → AllPrintedSpans cs → value (spans_of cs) ≡ d → d / nanos_per_second ≤ u64_max
+    → Accepted (chars (joined_by_space (map (λ c. printed_count c.0 c.1) cs))) d
 all_accepted [] d h sum short = subst (Accepted (chars (codes "0s"))) sum zero_accepted
-all_accepted (c ∷ rows) d h sum short = rows_accepted c rows d h sum short
+all_accepted (c ∷ cs) d h sum short = counts_accepted c cs d h sum short
 
 -- The canonical text of a duration is accepted with its value.
 pub canon_reads : (d : ℕ) → d / nanos_per_second ≤ u64_max → (text : List ℕ) → IsCanonicalText d text → Accepted (chars text) d
 unfolding duration_text
 canon_reads d h text canon =
-    let all = rows sized_units sum_limit d table (omega arith) (omega arith) in
+    let all = shown_spans sized_units sum_limit d table (omega arith) (omega arith) in
     rw (canon_is_text d text canon) (all_accepted (shown (counts_of_units sized_units d)) d all.0 all.1 h)

@@ -10,7 +10,7 @@ use Rattle.std.proofs.Math.Nat.{pow-suc, one-le-pow, mul_assoc, mul_right_comm, 
 use Rattle.std.proofs.lemmas.List.{length-reverse, reverse-append, reverse-reverse}
 use Rattle.humantime.specs.Texts.{take_while, drop_while, decimal_value}
 use Rattle.humantime.specs.Durations.Characters.{without_trailing_zeros}
-use Rattle.humantime.specs.Durations.Accepted.{is_whole_part}
+use Rattle.humantime.specs.Durations.Accepted.{has_whole_part}
 use Rattle.humantime.specs.Durations.Spans.{HasOnly}
 use Rattle.humantime.proofs.Durations.Reading.Runs.{take_while-drop_while, take_while-only, drop_while_shorter}
 
@@ -68,7 +68,7 @@ product_shifted : (f : ℕ) (ds : List ℕ) → decimal_value ds * f ≡ decimal
 product_shifted f ds = grind (arith, value_shifted, zeros_count, mul_right_comm)
 
 -- A whole part stays a whole part, with the same value.
-pub whole_part_kept : (f : ℕ) (ds : List ℕ) → is_whole_part f ds ≡ true → is_whole_part f (without_trailing_zeros ds) ≡ true
+pub whole_part_kept : (f : ℕ) (ds : List ℕ) → has_whole_part f ds ≡ true → has_whole_part f (without_trailing_zeros ds) ≡ true
 whole_part_kept f ds h =
     let by = 10 ^ length (zeros_of ds) in
     let kept = decimal_value (without_trailing_zeros ds) * f in

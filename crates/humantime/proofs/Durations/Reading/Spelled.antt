@@ -6,7 +6,7 @@ use Rattle.humantime.specs.Texts.{take_while, drop_while, begins, ends}
 use Rattle.humantime.specs.Durations.Characters.{is_whitespace, is_digit, is_letter, is_numeric, is_point}
 use Rattle.humantime.specs.Durations.Spans.{SpelledSpan, HasOnly, SpellsFraction, Spells}
 use Rattle.humantime.specs.Durations.Faults.{number_of, after_number, after_point, fraction_of, after_fraction, after_word, span_of}
-use Rattle.humantime.specs.Results.Walks.{ends_span}
+use Rattle.humantime.specs.Durations.Faults.{may_follow_span}
 use Rattle.humantime.proofs.Durations.Reading.Classes.{letter_not_whitespace, whitespace_is_numeric, point_not_numeric}
 use Rattle.humantime.proofs.Durations.Reading.Spellings.{spells_alone}
 use Rattle.humantime.proofs.Durations.Reading.Runs.{take_while-append, drop_while-append, drop_while_shorter, begins-append, begins_not_nil, letters_begin, ends_only, ends_other, ends-append}
@@ -20,7 +20,7 @@ pub record IsSpelledAt (rest : List ℕ) (s : SpelledSpan) (next : List ℕ) : T
   pub starts : begins is_digit rest ≡ true
   pub span : span_of rest ≡ s
   pub point : fraction_of rest ≢ Some []
-  pub ends : ends_span (after_word rest) ≡ true
+  pub ends : may_follow_span (after_word rest) ≡ true
   pub next_is : next_of rest ≡ next
 
 pub begins_word : (w t : List ℕ) → begins is_letter w ≡ true → begins is_letter (w ++ t) ≡ true
@@ -52,16 +52,16 @@ ends_in_word : (a b word : List ℕ) → HasOnly is_letter word → begins is_le
 ends_in_word a b word only some = grind (arith, begins_not_nil, append-nil, ends-append, ends_other, letter_not_whitespace, ends_only)
 
 followed : (a b word c here next : List ℕ) → here ≡ a ++ (b ++ (word ++ c)) → HasOnly is_letter word → begins is_letter word ≡ true → HasOnly is_whitespace c
-    → (ends_span next ≡ true) ⊎ (ends is_whitespace here ≡ true) → ends_span (c ++ next) ≡ true
+    → (may_follow_span next ≡ true) ⊎ (ends is_whitespace here ≡ true) → may_follow_span (c ++ next) ≡ true
 followed a b word [] here next whole only some whitespace o = grind (arith, (ends_in_word a b word only some))
 followed a b word (x ∷ xs) here next whole only some whitespace o = whitespace_is_numeric x (whitespace.0)
 
 -- A spelling is the span at its start, if its word ends with it.
-pub spelled_here : (here next : List ℕ) (s : SpelledSpan) → Spells here s [] → (ends_span next ≡ true) ⊎ (ends is_whitespace here ≡ true) → begins is_whitespace next ≡ false → IsSpelledAt (here ++ next) s next
+pub spelled_here : (here next : List ℕ) (s : SpelledSpan) → Spells here s [] → (may_follow_span next ≡ true) ⊎ (ends is_whitespace here ≡ true) → begins is_whitespace next ≡ false → IsSpelledAt (here ++ next) s next
 unfolding is_digit is_letter
 spelled_here here next s h o no_whitespace =
     let letter = letters_begin s.word h.word in
-    let f : ends_span (h.whitespace ++ next) ≡ true = followed h.number_text h.fraction_text s.word h.whitespace here next (spells_alone here s h) h.word.0 letter h.only_whitespace o in
+    let f : may_follow_span (h.whitespace ++ next) ≡ true = followed h.number_text h.fraction_text s.word h.whitespace here next (spells_alone here s h) h.word.0 letter h.only_whitespace o in
     let stops : begins is_letter (h.whitespace ++ next) ≡ false = grind (arith, letter_not_whitespace, nat_tests) in
     rw (spelling_parts here next s h)
     (grind (arith, (f), (stops), (letter), begins-append, begins_not_nil, take_while-append, drop_while-append, fraction_read))

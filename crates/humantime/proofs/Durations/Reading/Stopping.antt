@@ -9,8 +9,8 @@ use Rattle.humantime.specs.Durations.Characters.{is_whitespace, is_digit, is_let
 use Rattle.humantime.specs.Durations.Units.{scale_of_word}
 use Rattle.humantime.specs.Durations.Spans.{SpelledSpan}
 use Rattle.humantime.specs.Durations.Accepted.{is_some_and}
-use Rattle.humantime.specs.Durations.Faults.{Fault, EndsSpan, BeginsSpan, IsStoppedWith}
-use Rattle.humantime.specs.Results.Walks.{stop_at, fault_at, ends_span}
+use Rattle.humantime.specs.Durations.Faults.{Fault, BeginsSpan, IsStoppedWith}
+use Rattle.humantime.specs.Results.Walks.{stop_at, fault_at}
 use Rattle.humantime.proofs.Durations.Reading.Runs.{take_while-drop_while}
 
 -- ---- each test, and the condition of the table
@@ -22,9 +22,6 @@ no_letter_tells cs = grind (arith, common_steps)
 no_digits_tells : (fraction : Option (List ℕ)) → Decides (is_some_and (λ ds. length ds == 0) fraction) (fraction ≡ Some [])
 no_digits_tells fraction = grind (arith, common_steps, nat_tests)
 
-pub ends_tells : (next : List ℕ) → Decides (ends_span next) (EndsSpan next)
-ends_tells next = grind (arith, common_steps)
-
 pub some_letters : (word : List ℕ) → IsSome (scale_of_word word) → word ≢ []
 unfolding scale_of_word
 some_letters word h e = grind arith
@@ -34,7 +31,7 @@ some_letters word h e = grind arith
 -- An error of the table is found by the tests.
 pub stops_at : (text front : List ℕ) (spans : List SpelledSpan) (rest : List ℕ) (e : Fault) → rest ≢ [] → IsStoppedWith text front spans rest e → fault_at text rest ≡ Some e
 unfolding stop_at scale_of_word
-stops_at text front spans rest e some stops = grind (arith, no_letter_tells, no_digits_tells, ends_tells, take_while-drop_while)
+stops_at text front spans rest e some stops = grind (arith, no_letter_tells, no_digits_tells, take_while-drop_while)
 
 -- The tests find no error in a whole span.
 pub fine_goes : (text rest : List ℕ) → BeginsSpan rest → fault_at text rest ≡ None

@@ -8,7 +8,8 @@ use Rattle.humantime.specs.Durations.Spans.{SpelledSpan, SpellsEach}
 use Rattle.humantime.specs.Durations.Accepted.{Formed}
 use Rattle.humantime.specs.Durations.Faults.{Fault, Split, span_of}
 use Rattle.humantime.specs.Durations.Items.{Items, EndsOrStops}
-use Rattle.humantime.specs.Results.Walks.{Walk, empty_walk, walk_from, spans_of_walk, items, ends_span}
+use Rattle.humantime.specs.Durations.Faults.{may_follow_span}
+use Rattle.humantime.specs.Results.Walks.{Walk, empty_walk, walk_from, spans_of_walk, items}
 use Rattle.humantime.proofs.Durations.Reading.Classes.{digit_is_numeric, digit_not_whitespace}
 use Rattle.humantime.proofs.Durations.Reading.Runs.{drop_while-append, begins-append, begins_other, begins_not_nil, ends-append}
 use Rattle.humantime.proofs.Durations.Reading.Spelled.{IsSpelledAt, spelled_here}
@@ -18,7 +19,7 @@ use Rattle.humantime.proofs.Durations.Reading.Stopping.{fine_goes, stops_at}
 
 -- The front ends before the rest: with whitespace, or because of the first character of the rest.
 abbrev pub Closes : List ℕ → List ℕ → Type 0
-Closes front rest = (ends_span rest ≡ true) ⊎ (ends is_whitespace front ≡ true)
+Closes front rest = (may_follow_span rest ≡ true) ⊎ (ends is_whitespace front ≡ true)
 
 pub closes_digit : (front rest : List ℕ) → begins is_digit rest ≡ true → Closes front rest
 closes_digit front rest d = grind (arith, digit_is_numeric)

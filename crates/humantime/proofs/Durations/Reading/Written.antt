@@ -11,7 +11,7 @@ use Rattle.humantime.proofs.Durations.Reading.Runs.{take_while-drop_while, take_
 use Rattle.std.proofs.lemmas.Bool.Decides.{nat_tests}
 use Rattle.std.proofs.lemmas.Grind.{common_steps}
 use Rattle.humantime.proofs.Durations.Reading.Spelled.{next_of}
-use Rattle.humantime.proofs.Durations.Reading.Stopping.{some_letters, ends_tells}
+use Rattle.humantime.proofs.Durations.Reading.Stopping.{some_letters}
 
 -- A spelling of the span at the start of the rest ends in whitespace if no digit follows it.
 pub record IsWritten (rest here : List ℕ) : Type 0 where
@@ -39,7 +39,7 @@ written_here rest h =
       record {
         whole = grind (arith, common_steps, take_while-drop_while);
         spells = (grind (arith, append-nil, take_while-only, begins_take_while, digit_is_numeric, fraction_spelled, (some), (h)));
-        closes = λ more e. (grind (arith, ends-append, ends_only, take_while-only, ((ends_tells (after_word rest)).1 h.ended), (more), (e)));
+        closes = λ more e. (grind (arith, ends-append, ends_only, take_while-only, (h.ended), (more), (e)));
       },
     )
 
