@@ -13,7 +13,7 @@ use std::fmt;
 use std::io::Write;
 
 #[cfg(test)]
-mod callers;
+mod tests;
 
 /// The exit status if the text was parsed.
 const ACCEPTED: u8 = 0;

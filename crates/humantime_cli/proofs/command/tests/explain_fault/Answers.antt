@@ -1,6 +1,6 @@
 use Rattle.std.proofs.Common.{◌∙◌, append-nil}
-use Rattle.humantime_cli.proofs.WorkedRuns.{explained}
-use Rattle.humantime_cli.proofs.command.callers.explain_fault.Goals as goal
+use Rattle.humantime_cli.proofs.command.tests.WorkedRuns.{explained}
+use Rattle.humantime_cli.proofs.command.tests.explain_fault.Goals as goal
 
 pub returns : goal.returns
 returns c other =

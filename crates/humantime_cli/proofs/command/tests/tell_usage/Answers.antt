@@ -1,6 +1,6 @@
 use Rattle.std.proofs.Common.{◌∙◌, append-nil}
-use Rattle.humantime_cli.proofs.WorkedRuns.{usage_told}
-use Rattle.humantime_cli.proofs.command.callers.tell_usage.Goals as goal
+use Rattle.humantime_cli.proofs.command.tests.WorkedRuns.{usage_told}
+use Rattle.humantime_cli.proofs.command.tests.tell_usage.Goals as goal
 
 pub returns : goal.returns
 returns c other =

@@ -1,6 +1,6 @@
 use Rattle.std.proofs.Common.{◌∙◌, append-nil}
-use Rattle.humantime_cli.proofs.WorkedRuns.{strict_printed}
-use Rattle.humantime_cli.proofs.command.callers.print_strict.Goals as goal
+use Rattle.humantime_cli.proofs.command.tests.WorkedRuns.{strict_printed}
+use Rattle.humantime_cli.proofs.command.tests.print_strict.Goals as goal
 
 pub returns : goal.returns
 returns c other =

@@ -1,6 +1,6 @@
 use Rattle.std.proofs.Common.{◌∙◌, append-nil}
-use Rattle.humantime_cli.proofs.WorkedRuns.{weak_printed}
-use Rattle.humantime_cli.proofs.command.callers.print_weak.Goals as goal
+use Rattle.humantime_cli.proofs.command.tests.WorkedRuns.{weak_printed}
+use Rattle.humantime_cli.proofs.command.tests.print_weak.Goals as goal
 
 pub returns : goal.returns
 returns c other =

@@ -1,6 +1,6 @@
 use Rattle.std.proofs.Common.{◌∙◌, append-nil}
-use Rattle.humantime_cli.proofs.WorkedRuns.{strict_explained}
-use Rattle.humantime_cli.proofs.command.callers.explain_strict.Goals as goal
+use Rattle.humantime_cli.proofs.command.tests.WorkedRuns.{strict_explained}
+use Rattle.humantime_cli.proofs.command.tests.explain_strict.Goals as goal
 
 pub returns : goal.returns
 returns c other =

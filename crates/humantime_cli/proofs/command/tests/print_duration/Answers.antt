@@ -1,6 +1,6 @@
 use Rattle.std.proofs.Common.{◌∙◌, append-nil}
-use Rattle.humantime_cli.proofs.WorkedRuns.{printed_whole, printed_cut}
-use Rattle.humantime_cli.proofs.command.callers.print_duration.Goals as goal
+use Rattle.humantime_cli.proofs.command.tests.WorkedRuns.{printed_whole, printed_cut}
+use Rattle.humantime_cli.proofs.command.tests.print_duration.Goals as goal
 
 pub returns-clause-whole : goal.returns-clause-whole
 returns-clause-whole c other =

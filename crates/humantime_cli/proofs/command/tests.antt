@@ -1,0 +1,2 @@
+-- What the callers of `run` conclude from its contract.
+pub mod WorkedRuns
