@@ -12,24 +12,14 @@ use crate::duration::amount::{Amount, Decimal, power_of_ten};
 use crate::unit::Quantity;
 use crate::value::StdDuration;
 
-/// Returns `value * factor`, or `None` on overflow.
-///
-/// The product is computed in 128 bits: for `checked_mul`, the kit's own back end would use the stack.
-#[inline(always)]
-fn product(value: u64, factor: u64) -> Option<u64>
-    ensures { SomeIff result (value * factor ≤ u64_max) (value * factor) }
-{
-    u64::try_from(value as u128 * factor as u128).ok()
-}
-
 /// Returns `sum` plus `count` times the addition `one`, or `None` on overflow.
 #[inline(always)]
 fn add_times(sum: StdDuration, one: Quantity, count: u64) -> Option<StdDuration>
     ensures { result ≡ steps.add_times sum one count }
 {
     match one {
-        Quantity::Nanos(size) => sum.checked_add_nanos(product(count, size)?),
-        Quantity::Seconds(size) => sum.checked_add_secs(product(count, size)?),
+        Quantity::Nanos(size) => sum.checked_add_nanos(count.checked_mul(size)?),
+        Quantity::Seconds(size) => sum.checked_add_secs(count.checked_mul(size)?),
     }
 }
 
@@ -39,7 +29,7 @@ fn part_of(fraction: Decimal, factor: u64) -> Option<u64>
     requires { fraction.exponent ≤ max_fraction_digits }
     ensures { SomeIff result (IsTrue (is_whole_part factor fraction.significand fraction.exponent)) (fraction.significand * factor / 10 ^ fraction.exponent) }
 {
-    let scaled = product(fraction.significand, factor)?;
+    let scaled = fraction.significand.checked_mul(factor)?;
     let power = power_of_ten(fraction.exponent);
     if scaled % power != 0 {
         return None;

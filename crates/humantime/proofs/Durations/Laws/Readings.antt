@@ -17,9 +17,10 @@ zero_or_spans_read text v (BareZero zero none) = inl zero
 zero_or_spans_read text v (SumOf spans reads within sum) = inr (spans, reads, within)
 
 pub zero_or_spans : (text : List ℕ) → IsZeroOrSpans text
-zero_or_spans text =
-    ((λ some. zero_or_spans_read text some.0 some.1),
-    (λ is. elim is [ inl zero ↦ (0, BareZero zero refl) | inr found ↦ (value found.0, SumOf found.0 found.1 found.2 refl) ]))
+zero_or_spans text = (
+  (λ some. zero_or_spans_read text some.0 some.1),
+  (λ is. elim is [ inl zero ↦ (0, BareZero zero refl) | inr found ↦ (value found.0, SumOf found.0 found.1 found.2 refl) ]),
+)
 
 -- The value of an accepted text of spans is their sum, and they are within the limits.
 pub accepted_spans : (text : List ℕ) (spans : List SpelledSpan) (v : ℕ) → Reads text spans → Accepted text v → WithinLimits spans × (value spans ≡ v)
