@@ -10,7 +10,7 @@ use Rattle.humantime.specs.Durations.Characters.{byte_length, is_digit, is_lette
 use Rattle.humantime.specs.Durations.Spans.{HoldsDigits, IsLetters, HasOnly, Spells}
 use Rattle.humantime.specs.Durations.Accepted.{additions_of, fits, fraction_fits, too_long, of_kind, part, size}
 use Rattle.humantime.specs.Durations.Units.{scale_of_word}
-use Rattle.humantime.specs.Durations.Faults.{UnknownWord, after_fraction, after_word, number_of, word_of}
+use Rattle.humantime.specs.Durations.Faults.{UnknownWord, after_fraction, after_word, may_follow_span, number_of, word_of}
 use Rattle.humantime.specs.Timestamps.Fields.{Letter_T, Letter_Z}
 use Rattle.humantime.proofs.Durations.Reading.Classes.{digit_is_numeric}
 use Rattle.humantime.proofs.Durations.Reading.Runs.{drop_while-append}
@@ -105,7 +105,7 @@ any_word word letters none =
       spans = [];
       split = record { whole = refl; spelled = record { whitespace = []; body = []; whole = refl; only_whitespace = tt; each = refl }; no_whitespace = refl };
       within = (within_tells [] tt).0 refl;
-      row = inl (UnknownWord (record { digit = refl; short = ap too_long found.span }) found.point (λ empty. letters.1 (sym same ∙ empty)) (rw same none) (inl end) (rw (← first, ← last, ← value, same) refl));
+      row = inl (UnknownWord (record { digit = refl; short = ap too_long found.span }) found.point (λ empty. letters.1 (sym same ∙ empty)) (rw same none) (ap may_follow_span end) (rw (← first, ← last, ← value, same) refl));
     }
 
 -- The digits of a timestamp after the ninth do not count.

@@ -7,30 +7,30 @@ use Rattle.humantime.specs.Durations.Units.{Quantity, Nanos, Seconds, Scale, sca
 use Rattle.humantime.specs.Durations.Spans.{SpelledSpan, Reads}
 use Rattle.humantime.specs.Values.{nanos_per_second}
 
--- Returns the number of an addition, in nanoseconds or in seconds.
+-- Returns the number of nanoseconds or of seconds in a quantity.
 abbrev pub size : Quantity → ℕ
 size (Nanos n) = n
 size (Seconds n) = n
 
--- Returns an addition in nanoseconds.
+-- Returns a quantity in nanoseconds.
 abbrev pub quantity_nanos : Quantity → ℕ
 quantity_nanos (Nanos n) = n
 quantity_nanos (Seconds n) = n * nanos_per_second
 
--- Returns the sum of additions in nanoseconds.
+-- Returns the sum of quantities in nanoseconds.
 abbrev pub total : List Quantity → ℕ
 total xs = sum_by quantity_nanos xs
 
--- Returns an addition of the same kind with another number.
+-- Returns a quantity of the same kind with another number.
 abbrev pub of_kind : Quantity → ℕ → Quantity
 of_kind (Nanos _) n = Nanos n
 of_kind (Seconds _) n = Seconds n
 
--- Multiplies an addition by `n`.
+-- Multiplies a quantity by `n`.
 abbrev pub times : ℕ → Quantity → Quantity
 times n x = of_kind x (n * size x)
 
--- Returns the part of an addition that the fraction digits `ds` denote, rounded down.
+-- Returns the part of a quantity that the fraction digits `ds` denote, rounded down.
 abbrev pub part : List ℕ → Quantity → Quantity
 part ds x = of_kind x (decimal_value ds * size x / 10 ^ length ds)
 
@@ -97,7 +97,7 @@ fraction_fits (Some x) (Some ds) = has_whole_part (size x) (without_trailing_zer
 abbrev pub fits : SpelledSpan → Bool
 fits s = is_none_or (λ u. fits_u64 (decimal_value s.number * size u.whole) && fraction_fits u.part s.fraction) (scale_of_word s.word)
 
--- Tests whether an addition to a sum of `t` nanoseconds does not overflow: the whole seconds of the new sum fit a `u64`, and if nanoseconds
+-- Tests whether adding a quantity to `t` nanoseconds does not overflow: the whole seconds of the new sum fit a `u64`, and if nanoseconds
 -- are added, so do these plus the nanoseconds of `t` below a second.
 abbrev pub has_room : ℕ → Quantity → Bool
 has_room t (Nanos n) = fits_u64 (t % nanos_per_second + n) && fits_u64 ((t + n) / nanos_per_second)

@@ -1,4 +1,4 @@
--- The words of the units and the scale of each: what one unit adds, and what its fractions are parts of, if it has any. An addition is a
+-- The words of the units and the scale of each: what one unit adds, and what its fractions are parts of, if it has any. A quantity is a
 -- number of nanoseconds or of seconds.
 use Rattle.std.specs.Prelude.{ℕ, ◌*◌, List, [], ◌∷◌, ◌++◌, map, Option, Some, None, codes, bytes_eq}
 use Rattle.std.specs.Map.{lookup}

@@ -1,4 +1,4 @@
--- Single additions to a duration of `t` nanoseconds. `None` means that a limit is broken.
+-- Quantities added to a duration of `t` nanoseconds. `None` means that a limit is broken.
 use Rattle.std.specs.Prelude.{ℕ, ◌*◌, ◌/◌, ◌^◌, ◌==◌, Option, Some, None, if◌then◌else◌}
 use Rattle.humantime.specs.Durations.Units.{Quantity}
 use Rattle.humantime.specs.Durations.Accepted.{size, of_kind, times, fits_u64, is_whole_part}

@@ -12,7 +12,7 @@ use crate::duration::amount::{Amount, Decimal, power_of_ten};
 use crate::unit::Quantity;
 use crate::value::StdDuration;
 
-/// Returns `sum` plus `count` times the addition `one`, or `None` on overflow.
+/// Returns `sum` plus `count` times `one`, or `None` on overflow.
 #[inline(always)]
 fn add_times(sum: StdDuration, one: Quantity, count: u64) -> Option<StdDuration>
     ensures { result ≡ steps.add_times sum one count }
@@ -37,7 +37,7 @@ fn part_of(fraction: Decimal, factor: u64) -> Option<u64>
     Some(scaled / power)
 }
 
-/// Returns `sum` plus the fraction of the addition `one`, or `None` on overflow or if that part is not a whole number.
+/// Returns `sum` plus the fraction of `one`, or `None` on overflow or if that part is not a whole number.
 ///
 /// If `one` is `None`, as for nanoseconds, which have no fractions, the result is `None` unless the fraction is zero.
 fn add_part(sum: StdDuration, one: Option<Quantity>, fraction: Decimal) -> Option<StdDuration>

@@ -1,4 +1,4 @@
--- Single additions, and the sum with a whole span.
+-- The sum with a whole span.
 use Rattle.std.proofs.Common.{◌≡◌, ℕ, ◌^◌, ◌<◌, Option, Some, None, option_map, arith}
 use Rattle.std.proofs.Math.Nat.{one-le-pow}
 use Rattle.humantime.specs.declared.duration.amount.Amount.{Amount}
