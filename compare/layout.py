@@ -92,6 +92,8 @@ def program(top, name, options, folder, **environment):
     place = top / name
     place.mkdir(exist_ok=True)
     (place / "Cargo.toml").write_text(CARGO.format(name=name, here=HERE, crate=options.crate))
-    flags = f"-C target-cpu={options.cpu} -L native={folder} -l static={EXPORTS}"
+    # A `String` of the library allocates by functions of the kit's archive.
+    kit = Path(run(["rt", "doc"], ROOT).strip()).parent
+    flags = f"-C target-cpu={options.cpu} -L native={folder} -l static={EXPORTS} -L native={kit}/c -l static=libc_c"
     run(["cargo", "build", "--release", "--offline"], place, RUSTFLAGS=flags, **environment)
     return place / "target" / "release" / name

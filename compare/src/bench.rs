@@ -60,6 +60,15 @@ fn crate_print<T, F: Display>(format: impl Fn(T) -> F, value: T, place: &mut Str
     let _ = write!(place, "{}", format(value));
 }
 
+/// Writes values by `Display` to one new `String`.
+#[inline(never)]
+fn crate_display<T: Copy, F: Display>(format: impl Fn(T) -> F, values: &[T; DISPLAYED], place: &mut String) {
+    *place = String::with_capacity(size_of::<Displayed>());
+    for value in values {
+        let _ = write!(place, "{}", format(*value));
+    }
+}
+
 #[inline(never)]
 fn crate_canonical(text: &str, place: &mut String) {
     place.clear();
@@ -316,28 +325,33 @@ fn print_duration(shown: &str, secs: u64, nanos: u32) {
     );
 }
 
+/// Times both sides writing a value sixteen times to one new `String`. The library then copies the text to the caller's memory.
+fn race_displaying<T: Copy, F: Display>(
+    shown: &str,
+    (value, format): (T, impl Fn(T) -> F),
+    (parts, by_library): (Parts, impl Fn(&[Parts; DISPLAYED], &mut Displayed) -> usize),
+) {
+    let (values, parts) = ([value; DISPLAYED], [parts; DISPLAYED]);
+    race_writing(
+        &format!("print {shown} {DISPLAYED} times, by `Display` to a `String`"),
+        |place| crate_display(&format, hidden(&values), place),
+        |place| by_library(hidden(&parts), place),
+    );
+}
+
+fn display_duration(shown: &str, secs: i64, nanos: u32) {
+    let by_crate = (Duration::new(secs as u64, nanos), humantime::format_duration);
+    race_displaying(shown, by_crate, (Parts { secs, nanos }, |parts, place| library_display_duration(parts, place)));
+}
+
 fn durations_printed() {
     print_duration("9420 seconds", 9_420, 0);
     print_duration("1296122 seconds", 1_296_122, 0);
     print_duration("63115320 seconds and 12000 nanoseconds", 63_115_320, 12_000);
     print_duration("the longest duration", u64::MAX, 999_999_999);
     print_duration("zero", 0, 0);
-}
-
-/// Times both sides writing by `Display`: the crate to a `String`, the library to an array.
-fn displayed() {
-    let (secs, nanos) = (1_518_563_287, 123_456_789);
-    let (duration, moment) = (Duration::from_secs(9_420), UNIX_EPOCH + Duration::new(secs as u64, nanos));
-    race_writing(
-        "print 9420 seconds, by `Display`",
-        |place| crate_print(humantime::format_duration, black_box(duration), place),
-        |place: &mut [u8; 64]| library_display_duration(black_box(9_420), 0, place),
-    );
-    race_writing(
-        "print a timestamp in milliseconds, by `Display`",
-        |place| crate_print(humantime::format_rfc3339_millis, black_box(moment), place),
-        |place: &mut [u8; 64]| library_display_millis(black_box(secs), black_box(nanos), place),
-    );
+    display_duration("9420 seconds", 9_420, 0);
+    display_duration("63115320 seconds and 12000 nanoseconds", 63_115_320, 12_000);
 }
 
 /// Times the parsing of a timestamp by both parsers, each of which the sides have to read or reject alike.
@@ -362,6 +376,16 @@ fn print_moment(unit: &str, format: impl Fn(SystemTime) -> Rfc3339Timestamp + Co
     );
 }
 
+fn display_moment(
+    unit: &str,
+    format: impl Fn(SystemTime) -> Rfc3339Timestamp,
+    by_library: impl Fn(&[Parts; DISPLAYED], &mut Displayed) -> usize,
+) {
+    let (secs, nanos) = (1_518_563_287, 123_456_789);
+    let by_crate = (UNIX_EPOCH + Duration::new(secs as u64, nanos), format);
+    race_displaying(&format!("a timestamp in {unit}"), by_crate, (Parts { secs, nanos }, by_library));
+}
+
 fn timestamps() {
     for text in [
         "2018-02-14T00:28:07Z", "2018-02-14T00:28:07.133Z", "2018-02-14T00:28:07.123456789Z", "2018-02-14T00:28:07+00:00",
@@ -378,6 +402,10 @@ fn timestamps() {
     print_moment("milliseconds", humantime::format_rfc3339_millis, |secs, nanos, place| library_print_millis(secs, nanos, place));
     print_moment("microseconds", humantime::format_rfc3339_micros, |secs, nanos, place| library_print_micros(secs, nanos, place));
     print_moment("nanoseconds", humantime::format_rfc3339_nanos, |secs, nanos, place| library_print_nanos(secs, nanos, place));
+    display_moment("seconds", humantime::format_rfc3339_seconds, |parts, place| library_display_seconds(parts, place));
+    display_moment("milliseconds", humantime::format_rfc3339_millis, |parts, place| library_display_millis(parts, place));
+    display_moment("microseconds", humantime::format_rfc3339_micros, |parts, place| library_display_micros(parts, place));
+    display_moment("nanoseconds", humantime::format_rfc3339_nanos, |parts, place| library_display_nanos(parts, place));
 }
 
 /// Times the program on a command and its text. An error message is written to the other writer.
@@ -402,7 +430,6 @@ fn main() {
     spans_and_canonical();
     durations_printed();
     timestamps();
-    displayed();
     run("duration", "2h 37min");
     run("duration", "1foo~");
     run("strict", "2018-02-14T00:28:07Z");

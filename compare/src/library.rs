@@ -31,6 +31,20 @@ impl Text<'_> {
     }
 }
 
+/// The seconds and nanoseconds of a duration, or of a moment since 1970.
+#[repr(C)]
+#[derive(Clone, Copy)]
+pub struct Parts {
+    pub secs: i64,
+    pub nanos: u32,
+}
+
+/// How many values a call writes by `Display`.
+pub const DISPLAYED: usize = 16;
+
+/// Where such a call leaves their text.
+pub type Displayed = [u8; 1024];
+
 /// What the program wrote to one of its outputs.
 #[repr(C)]
 pub struct Sink {
@@ -47,8 +61,7 @@ unsafe extern "C" {
     pub safe fn library_walk_spans(text: &Text, place: &mut Answer);
     pub safe fn library_canonical(text: &Text, place: &mut [u8; 64]) -> usize;
     pub safe fn library_print_duration(secs: u64, nanos: u32, place: &mut [u8; 64]) -> usize;
-    pub safe fn library_display_duration(secs: u64, nanos: u32, place: &mut [u8; 64]) -> usize;
-    pub safe fn library_display_millis(secs: i64, nanos: u32, place: &mut [u8; 64]) -> usize;
+    pub safe fn library_display_duration(parts: &[Parts; DISPLAYED], place: &mut Displayed) -> usize;
     pub safe fn library_read_strict(text: &Text, place: &mut Answer);
     pub safe fn library_read_weak(text: &Text, place: &mut Answer);
     pub safe fn library_print_smart(secs: i64, nanos: u32, place: &mut [u8; 30]) -> usize;
@@ -56,6 +69,10 @@ unsafe extern "C" {
     pub safe fn library_print_millis(secs: i64, nanos: u32, place: &mut [u8; 30]) -> usize;
     pub safe fn library_print_micros(secs: i64, nanos: u32, place: &mut [u8; 30]) -> usize;
     pub safe fn library_print_nanos(secs: i64, nanos: u32, place: &mut [u8; 30]) -> usize;
+    pub safe fn library_display_seconds(parts: &[Parts; DISPLAYED], place: &mut Displayed) -> usize;
+    pub safe fn library_display_millis(parts: &[Parts; DISPLAYED], place: &mut Displayed) -> usize;
+    pub safe fn library_display_micros(parts: &[Parts; DISPLAYED], place: &mut Displayed) -> usize;
+    pub safe fn library_display_nanos(parts: &[Parts; DISPLAYED], place: &mut Displayed) -> usize;
 }
 
 /// Runs the program on a command and its text, and returns its status.
