@@ -296,9 +296,9 @@ pub fn date_of_day(day: u32, turns: &mut Turns) -> Option<Date>
     let (year, day_of_year) = march_year(day);
     // The months that have begun by this day, March included.
     let mut begun = 0;
-    for days_before in DAYS_BEFORE_MARCH_MONTH.iter() {
+    for month in 0..12_usize {
         turns.tick();
-        if day_of_year >= *days_before {
+        if day_of_year >= DAYS_BEFORE_MARCH_MONTH[month] {
             begun += 1;
         }
     }

@@ -4,6 +4,6 @@ use Rattle.humantime.specs.Results.Dates.{march_month}
 use Rattle.humantime.proofs.calendar.date_of_day.Given as goal
 
 -- `begun` counts the months that have begun by this day, and each iteration is counted.
-abbrev pub invariant-loop-days_before : goal.invariant-loop-days_before
-invariant-loop-days_before l =
-    (l.begun ≡ min (march_month l.day_of_year + 1) l.days_before-index) × (l.turns ≡ l.initial.turns + l.days_before-index)
+abbrev pub invariant-loop-month : goal.invariant-loop-month
+invariant-loop-month l =
+    (l.begun ≡ min (march_month l.day_of_year + 1) l.month) × (l.turns ≡ l.initial.turns + l.month)
