@@ -150,10 +150,11 @@ fn has_t_and_zone(bytes: &[u8]) -> bool
 fn before_zone(bytes: &[u8]) -> &[u8]
     ensures { result.now ≡ Checks.before_zone bytes.now }
 {
-    if let Some(before) = bytes.strip_suffix(b"Z") {
-        return before;
+    match bytes {
+        [before @ .., b'Z'] => before,
+        [before @ .., b'+', b'0', b'0', b':', b'0', b'0'] => before,
+        _ => bytes,
     }
-    bytes.strip_suffix(b"+00:00").unwrap_or(bytes)
 }
 
 /// Parses the bytes of a timestamp in the weak form. Returns the moment, or the error of the first check that fails.
