@@ -3,9 +3,8 @@ use Rattle.std.specs.Prelude.{◌≡◌, ◌≤◌, ◌++◌, true, false, List,
 use Rattle.humantime.specs.declared.duration.cursor.Cursor.{Cursor}
 use Rattle.humantime.specs.Texts.{take_while, drop_while}
 use Rattle.humantime.specs.Durations.Characters.{is_whitespace, is_letter, is_numeric}
-use Rattle.humantime.specs.Durations.Faults.{after_number}
+use Rattle.humantime.specs.Durations.Faults.{after_number, may_follow_span}
 use Rattle.humantime.specs.Steps.Scanning.{begins_with_nonletter}
-use Rattle.humantime.specs.Durations.Faults.{may_follow_span}
 
 -- The characters after the cursor.
 abbrev pub ahead : Cursor → List ℕ

@@ -12,8 +12,7 @@ use Rattle.humantime.specs.Durations.Errors.{IsCharStartIn}
 use Rattle.humantime.specs.Texts.{begins, drop_while}
 use Rattle.humantime.specs.Durations.Characters.{is_letter, is_whitespace, whitespace_chars, is_digit, is_point}
 use Rattle.humantime.specs.Steps.Scanning.{whitespace_len}
-use Rattle.humantime.specs.Durations.Faults.{after_point}
-use Rattle.humantime.specs.Durations.Faults.{may_follow_span}
+use Rattle.humantime.specs.Durations.Faults.{after_point, may_follow_span}
 use Rattle.humantime.proofs.Durations.Reading.Classes.{digit_is, digit_not_whitespace, whitespace_is_numeric, letter_not_whitespace, wide_no_digit, whitespace_is}
 
 -- The character at an offset, and the offset after it.

@@ -5,8 +5,7 @@ use Rattle.std.proofs.Common.{◌≡◌, ◌≢◌, ◌⊎◌, ℕ, ◌≤◌, �
 use Rattle.humantime.specs.Texts.{take_while, drop_while, begins, ends}
 use Rattle.humantime.specs.Durations.Characters.{is_whitespace, is_digit, is_letter, is_numeric, is_point}
 use Rattle.humantime.specs.Durations.Spans.{SpelledSpan, HasOnly, SpellsFraction, Spells}
-use Rattle.humantime.specs.Durations.Faults.{number_of, after_number, after_point, fraction_of, after_fraction, after_word, span_of}
-use Rattle.humantime.specs.Durations.Faults.{may_follow_span}
+use Rattle.humantime.specs.Durations.Faults.{after_fraction, after_number, after_point, after_word, fraction_of, may_follow_span, number_of, span_of}
 use Rattle.humantime.proofs.Durations.Reading.Classes.{letter_not_whitespace, whitespace_is_numeric, point_not_numeric}
 use Rattle.humantime.proofs.Durations.Reading.Spellings.{spells_alone}
 use Rattle.humantime.proofs.Durations.Reading.Runs.{take_while-append, drop_while-append, drop_while_shorter, begins-append, begins_not_nil, letters_begin, ends_only, ends_other, ends-append}

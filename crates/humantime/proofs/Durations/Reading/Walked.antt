@@ -6,9 +6,8 @@ use Rattle.humantime.specs.Texts.{begins, ends, drop_while}
 use Rattle.humantime.specs.Durations.Characters.{is_whitespace, is_digit}
 use Rattle.humantime.specs.Durations.Spans.{SpelledSpan, SpellsEach}
 use Rattle.humantime.specs.Durations.Accepted.{Formed}
-use Rattle.humantime.specs.Durations.Faults.{Fault, Split, span_of}
+use Rattle.humantime.specs.Durations.Faults.{Fault, Split, may_follow_span, span_of}
 use Rattle.humantime.specs.Durations.Items.{Items, EndsOrStops}
-use Rattle.humantime.specs.Durations.Faults.{may_follow_span}
 use Rattle.humantime.specs.Results.Walks.{Walk, empty_walk, walk_from, spans_of_walk, items}
 use Rattle.humantime.proofs.Durations.Reading.Classes.{digit_is_numeric, digit_not_whitespace}
 use Rattle.humantime.proofs.Durations.Reading.Runs.{drop_while-append, begins-append, begins_other, begins_not_nil, ends-append}
