@@ -1,11 +1,10 @@
 //! Parses and prints durations such as `2h 37m`.
 //!
-//! The modules, each after those that it uses: `error`, `amount` (what a span adds), `cursor` (a position in a text), `scan` (whitespace,
+//! The modules, each after those that it uses: `error`, `amount` (what a span adds), `scan` (whitespace,
 //! numbers, fractions and words), `span` and `reader` (one span), `iter` (all spans), `sum` (their sum), `parse` (a whole text), `writer`
 //! (output to a buffer) and `print`.
 
 mod amount;
-mod cursor;
 mod error;
 mod iter;
 mod parse;

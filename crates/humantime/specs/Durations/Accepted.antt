@@ -70,9 +70,13 @@ abbrev pub is_none_or : {A : Type 0} → (A → Bool) → Option A → Bool
 is_none_or passes None = true
 is_none_or passes (Some x) = passes x
 
--- Tests whether the number does not fit a `u64`, or the fraction has more than 19 digits without its trailing zeros.
+-- Tests whether a fraction, if there is one, has more than 19 digits without its trailing zeros.
+abbrev pub has_too_many_digits : Option (List ℕ) → Bool
+has_too_many_digits fraction = is_some_and (λ ds. nat_lt max_fraction_digits (length (without_trailing_zeros ds))) fraction
+
+-- Tests whether the number does not fit a `u64`, or the fraction has too many digits.
 abbrev pub too_long : SpelledSpan → Bool
-too_long s = nat_lt u64_max (decimal_value s.number) || is_some_and (λ ds. nat_lt max_fraction_digits (length (without_trailing_zeros ds))) s.fraction
+too_long s = nat_lt u64_max (decimal_value s.number) || has_too_many_digits s.fraction
 
 -- The span is not `too_long`, and its word is a unit.
 pub record Formed (s : SpelledSpan) : Type 0 where

@@ -32,11 +32,11 @@ item_of (Err e) = Err (fault_of e)
 abbrev pub items_left : SpanIter → List (Result SpanView Fault)
 items_left i =
     if i.ended then []
-    else left_at (length i.cursor.rest.now == length i.cursor.text.now) (chars i.cursor.text.now) (drop_while is_whitespace (chars i.cursor.rest.now))
+    else left_at (length i.rest.now == length i.text.now) (chars i.text.now) (drop_while is_whitespace (chars i.rest.now))
 
 -- The text that an iterator borrows.
 abbrev pub text_of : SpanIter → List ℕ
-text_of i = i.cursor.text.now
+text_of i = i.text.now
 
 -- `next` returned the first of the remaining items and left the others, or returned `None` if none remained. The iterator still reads the
 -- same text; the span lies in it, or the error points into it.

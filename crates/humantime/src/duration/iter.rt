@@ -1,9 +1,11 @@
 //! [`SpanIter`], the iterator over the spans of a text, built on `read_span`.
 
-use crate::duration::cursor::Cursor;
+ghost use Rattle.std.proofs.Props.{props};
+ghost use Rattle.humantime.specs.Steps.Scanning.{IsTail};
+
 use crate::duration::error::DurationError;
 use crate::duration::reader::read_span;
-use crate::duration::scan::{begins_with_digit, skip_whitespace};
+use crate::duration::scan::skip_whitespace;
 use crate::duration::span::Span;
 
 /// An iterator over the spans of a text, from left to right, and then the error at which they end, if any.
@@ -27,8 +29,11 @@ use crate::duration::span::Span;
 /// ```
 #[derive(Drop)]
 pub struct SpanIter<'a> {
-    pub(crate) cursor: Cursor<'a>,
+    pub(crate) text: &'a str,
+    /// The part at the end of `text` that has not been read.
+    pub(crate) rest: &'a str,
     pub(crate) ended: bool,
+    ghost tail: { IsTail text.now rest.now } by { Prim.hlevel props },
 }
 
 impl<'a> Iterator for SpanIter<'a> {
@@ -46,22 +51,18 @@ impl<'a> Iterator for SpanIter<'a> {
         if self.ended {
             return None;
         }
-        let start = skip_whitespace(self.cursor);
-        if start.rest.is_empty() {
+        let start = skip_whitespace(self.rest);
+        if start.is_empty() {
             self.ended = true;
             // No span has been read.
-            if self.cursor.offset() == 0 {
+            if self.rest.len() == self.text.len() {
                 return Some(Err(DurationError::Empty));
             }
             return None;
         }
-        if !begins_with_digit(start.rest) {
-            self.ended = true;
-            return Some(Err(DurationError::NumberExpected(start.offset())));
-        }
-        match read_span(start) {
-            Ok((span, next)) => {
-                self.cursor = next;
+        match read_span(self.text, start) {
+            Ok((span, rest)) => {
+                self.rest = rest;
                 Some(Ok(span))
             }
             Err(e) => {

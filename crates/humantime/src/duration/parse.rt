@@ -5,7 +5,6 @@ ghost use Rattle.humantime.specs.Prelude.{AreItems, IsDurationAnswer, PointsInto
 ghost use Rattle.humantime.specs.Results.Items.{item_views, span_in};
 ghost use Rattle.humantime.specs.Results.Walks.{sum_spans};
 
-use crate::duration::cursor::Cursor;
 use crate::duration::error::DurationError;
 use crate::duration::iter::SpanIter;
 use crate::duration::sum::add_amount;
@@ -41,7 +40,8 @@ pub fn spans(s: &str) -> SpanIter<'_>
     ensures text { text_of result ≡ s.now }
 {
     SpanIter {
-        cursor: Cursor { text: s, rest: s },
+        text: s,
+        rest: s,
         ended: false,
     }
 }

@@ -1,117 +1,94 @@
-//! Reads one [`Span`] at a cursor, with the functions of `scan`. In contracts, `ahead c` stands for the characters of `c.rest`.
+//! Reads one [`Span`], with the readers of `scan`.
 
-ghost use Rattle.std.specs.Prelude.{◌≡◌, true, false, MatchOption};
-ghost use Rattle.humantime.specs.Texts.{begins};
-ghost use Rattle.humantime.specs.Durations.Characters.{is_digit};
-ghost use Rattle.humantime.specs.Durations.Faults.{after_fraction};
-ghost use Rattle.humantime.specs.Steps.Cursors.{ahead, IsSpanEnd};
-ghost use Rattle.humantime.specs.Steps.SpanParts.{IsFractionOf, ReadsSpan};
-ghost use Rattle.humantime.specs.Durations.Faults.{may_follow_span};
+ghost use Rattle.std.specs.Prelude.{◌≡◌, ◌≢◌, IfOk, MatchResult, chars, length};
+ghost use Rattle.humantime.specs.Durations.Errors.{IsRangeIn, PointsInto};
+ghost use Rattle.humantime.specs.Steps.Readers as reader;
+ghost use Rattle.humantime.specs.Steps.Readers.{IsBegun, span_result};
+ghost use Rattle.humantime.specs.Steps.Scanning.{IsTail};
 
-use crate::duration::amount::Amount;
-use crate::duration::cursor::Cursor;
+use crate::duration::amount::{Amount, Decimal};
 use crate::duration::error::DurationError;
 use crate::duration::scan::{
-    FractionText, Number, begins_with_digit, read_fraction, read_number, read_word, skip_point,
-    skip_whitespace_char,
+    begins_with_digit, end_span, read_fraction, read_number, read_word, skip_point,
 };
 use crate::duration::span::Span;
 use crate::unit::words::scale_of;
 
-/// Returns the cursor after the number and its fraction, if any. `fraction` is the fraction after `number`, or `None` if no point
-/// follows the number.
+/// Reads the span at the start of `rest`, the end of `text`. Returns the span and the rest from which to look for the next one, or the error
+/// of the first check that fails.
 #[inline(always)]
-fn fraction_end<'a>(number: Number<'a>, fraction: Option<FractionText<'a>>) -> Cursor<'a>
-    requires { IsFractionOf number fraction }
-    ensures rest { ahead result ≡ after_fraction (ahead number.entry.start) }
-    ensures text { result.text.now ≡ number.entry.start.text.now }
+pub(crate) fn read_span<'a>(
+    text: &'a str,
+    rest: &'a str,
+) -> Result<(Span<'a>, &'a str), DurationError<'a>>
+    requires tail { IsTail text.now rest.now }
+    requires some { length rest.now ≢ 0 }
+    ensures read { span_result result ≡ reader.read_span (chars text.now) (chars rest.now) }
+    ensures rest { IfOk result (λ x. IsTail text.now x.1.now) }
+    ensures places { MatchResult result (λ x. IsRangeIn text.now x.0.start x.0.end) (PointsInto text.now) }
 {
-    match fraction {
-        Some(fraction) => fraction.end,
-        None => number.end,
+    if !begins_with_digit(rest) {
+        return Err(DurationError::NumberExpected(text.len() - rest.len()));
     }
-}
-
-/// Returns the cursor from which to look for the next span: after the first whitespace character that follows the word, or directly
-/// after the word if a digit or the end of the text follows. Returns `None` if any other character follows.
-#[inline(always)]
-fn next_span_start<'a>(after_word: Cursor<'a>) -> Option<Cursor<'a>>
-    ensures { MatchOption result (may_follow_span (ahead after_word.entry) ≡ false) (λ next. IsSpanEnd after_word.entry next) }
-{
-    let text = after_word.rest;
-    // The end of the text or a space follows most words, so these are tested first.
-    if text.is_empty() {
-        return Some(after_word);
-    }
-    if text.as_bytes()[0] == b' ' {
-        return Some(after_word.advance(1));
-    }
-    if begins_with_digit(text) {
-        return Some(after_word);
-    }
-    let len = skip_whitespace_char(text, 0)?;
-    Some(after_word.advance(len))
-}
-
-/// Reads the span at the cursor. Returns the span and the cursor from which to look for the next one, or the error of the first check that
-/// fails.
-#[inline(always)]
-pub(crate) fn read_span<'a>(start: Cursor<'a>) -> Result<(Span<'a>, Cursor<'a>), DurationError<'a>>
-    requires { begins is_digit (ahead start) ≡ true }
-    ensures { ReadsSpan start.entry result }
-{
-    let Some(number) = read_number(start) else {
+    let Some((value, after_number)) = read_number(rest) else {
+        return Err(DurationError::NumberOverflow);
+    };
+    let Some((fraction, after_fraction)) = read_fraction(after_number) else {
         return Err(DurationError::NumberOverflow);
     };
     // `complete_span` is inlined twice, so that a span without a fraction needs no registers for one.
-    let Some(digits) = skip_point(number.end) else {
-        return complete_span(number, None);
-    };
-    let Some(fraction) = read_fraction(digits) else {
-        return Err(DurationError::NumberOverflow);
-    };
-    complete_span(number, Some(fraction))
+    match fraction {
+        None => complete_span(text, rest, value, after_number, None, after_fraction),
+        Some(_) => complete_span(text, rest, value, after_number, fraction, after_fraction),
+    }
 }
 
 /// Reads the unit after a number and its fraction, if any, and returns the result of [`read_span`].
 #[inline(always)]
+#[tactic(auto, using(crate::proofs::Durations::Bytes::Tails::tail_tail, crate::proofs::Durations::Bytes::Tails::tail_boundary))]
 fn complete_span<'a>(
-    number: Number<'a>,
-    fraction: Option<FractionText<'a>>,
-) -> Result<(Span<'a>, Cursor<'a>), DurationError<'a>>
-    requires digit { begins is_digit (ahead number.start) ≡ true }
-    requires fraction { IsFractionOf number fraction }
-    ensures { ReadsSpan number.entry.start result }
+    text: &'a str,
+    rest: &'a str,
+    value: u64,
+    after_number: &'a str,
+    fraction: Option<Decimal>,
+    after_fraction: &'a str,
+) -> Result<(Span<'a>, &'a str), DurationError<'a>>
+    requires tail { IsTail text.now rest.now }
+    requires begun { IsBegun rest.now value after_number.now fraction after_fraction.now }
+    ensures read { span_result result ≡ reader.read_span (chars text.now) (chars rest.now) }
+    ensures rest { IfOk result (λ x. IsTail text.now x.1.now) }
+    ensures places { MatchResult result (λ x. IsRangeIn text.now x.0.start x.0.end) (PointsInto text.now) }
 {
-    let end = fraction_end(number, fraction);
-    let Some(word) = read_word(end) else {
-        return Err(DurationError::InvalidCharacter(end.offset()));
+    let Some((key, after_word)) = read_word(after_fraction) else {
+        return Err(DurationError::InvalidCharacter(text.len() - after_fraction.len()));
     };
-    let after_word = word.end;
     // A point without digits is an error only if a letter or the end of the text follows it, so it is tested after the word.
-    if fraction.is_some_and(|fraction| fraction.value.len == 0) {
-        return Err(DurationError::InvalidCharacter(number.end.offset()));
+    if fraction.is_some_and(|fraction| fraction.len == 0) {
+        return Err(DurationError::InvalidCharacter(text.len() - after_number.len()));
     }
-    let Some(next) = next_span_start(after_word) else {
-        return Err(DurationError::InvalidCharacter(after_word.offset()));
+    let Some(next) = end_span(after_word) else {
+        return Err(DurationError::InvalidCharacter(text.len() - after_word.len()));
     };
-    let Some(scale) = scale_of(word.key) else {
+    let unit = &after_fraction[..after_fraction.len() - after_word.len()];
+    let end = text.len() - after_word.len();
+    let Some(scale) = scale_of(key) else {
         return Err(DurationError::UnknownUnit {
-            start: end.offset(),
-            end: after_word.offset(),
-            unit: word.letters,
-            value: number.value,
+            start: text.len() - after_fraction.len(),
+            end,
+            unit,
+            value,
         });
     };
     let span = Span {
-        number: number.slice,
-        fraction: fraction.map(|fraction| fraction.slice),
-        unit: word.letters,
-        start: number.start.offset(),
-        end: after_word.offset(),
+        number: &rest[..rest.len() - after_number.len()],
+        fraction: skip_point(&after_number[..after_number.len() - after_fraction.len()]),
+        unit,
+        start: text.len() - rest.len(),
+        end,
         amount: Amount {
-            value: number.value,
-            fraction: fraction.map(|fraction| fraction.value),
+            value,
+            fraction,
             scale,
         },
     };

@@ -1,21 +1,18 @@
-//! Reads the parts of a span at a [`Cursor`]: whitespace, a number, a fraction and a word.
-//!
-//! In contracts, `ahead c` stands for the characters of `c.rest`.
+//! Readers of the parts of a span, each from a text to what it reads and the rest of the text.
 
-ghost use Rattle.std.proofs.Props.{props};
-ghost use Rattle.std.specs.Prelude.{◌≡◌, ◌==◌, ◌+◌, ◌<◌, ◌≤◌, ◌&&◌, ◌||◌, true, take, drop, length, chars, option_map};
-ghost use Rattle.std.specs.Prelude.{IfSome, SomeIff, MatchOption, IsCharBoundary};
-ghost use Rattle.humantime.specs.Texts.{begins, drop_while, decimal_value};
-ghost use Rattle.humantime.specs.Durations.Characters.{is_digit, is_whitespace, is_letter, without_trailing_zeros, max_fraction_digits, u64_max};
+ghost use Rattle.std.specs.Prelude.{◌≡◌, ◌==◌, ◌+◌, ◌<◌, ◌&&◌, ◌||◌, true, drop, chars, option_map};
+ghost use Rattle.std.specs.Prelude.{IfSome, SomeIff, IsCharBoundary};
+ghost use Rattle.humantime.specs.Texts.{begins, drop_while};
+ghost use Rattle.humantime.specs.Durations.Characters.{is_digit, is_whitespace};
 ghost use Rattle.humantime.specs.Durations.Errors.{IsCharStartIn};
-ghost use Rattle.humantime.specs.Durations.Faults.{number_of, after_point};
-ghost use Rattle.humantime.specs.Durations.Units.{scale_of_word};
-ghost use Rattle.humantime.specs.Steps.Cursors.{ahead, IsNumericRun, IsWord};
+ghost use Rattle.humantime.specs.Durations.Faults.{after_point};
 ghost use Rattle.humantime.specs.Steps.Keys.{scale_of_key};
-ghost use Rattle.humantime.specs.Steps.Scanning.{HasDigits, SkipsWhitespace, whitespace_len, begins_with_nonletter};
+ghost use Rattle.humantime.specs.Steps.Readers as reader;
+ghost use Rattle.humantime.specs.Steps.Readers.{read_view};
+ghost use Rattle.humantime.specs.Steps.Scales.{parts_of};
+ghost use Rattle.humantime.specs.Steps.Scanning.{IsTail, SkipsWhitespace, whitespace_len};
 
 use crate::duration::amount::{Decimal, push_digit};
-use crate::duration::cursor::Cursor;
 use crate::unit::words::{EMPTY_KEY, push_byte};
 
 /// The greatest number whose product with 10 fits in a `u64`.
@@ -87,25 +84,25 @@ fn skip_spaces(text: &str, from: usize) -> usize
     at
 }
 
-/// Returns the cursor after the whitespace at `start`, if any.
+/// Returns what follows the whitespace at the start of the text, if any.
 #[inline(always)]
-pub(crate) fn skip_whitespace<'a>(start: Cursor<'a>) -> Cursor<'a>
-    ensures rest { ahead result ≡ drop_while is_whitespace (ahead start.entry) }
-    ensures text { result.text.now ≡ start.entry.text.now }
+#[tactic(auto, using(crate::proofs::Durations::Bytes::Tails::slice_tail, crate::proofs::Durations::Bytes::Tails::whole_tail))]
+pub(crate) fn skip_whitespace(s: &str) -> &str
+    ensures read { chars result.now ≡ drop_while is_whitespace (chars s.now) }
+    ensures rest { IsTail s.now result.now }
 {
-    let text = start.rest;
     // Most texts have a digit here.
-    if begins_with_digit(text) {
-        return start;
+    if begins_with_digit(s) {
+        return s;
     }
     let mut at = 0;
-    while at < text.len() {
-        match skip_whitespace_char(text, at) {
-            Some(next) => at = skip_spaces(text, next),
+    while at < s.len() {
+        match skip_whitespace_char(s, at) {
+            Some(next) => at = skip_spaces(s, next),
             None => break,
         }
     }
-    start.advance(at)
+    &s[at..]
 }
 
 /// Returns `true` if the text begins with a digit.
@@ -117,30 +114,15 @@ pub(crate) fn begins_with_digit(text: &str) -> bool
     !bytes.is_empty() && bytes[0].is_ascii_digit()
 }
 
-/// A number, and the cursors before and after it. The whitespace after its digits is part of it.
-#[derive(Clone, Copy)]
-pub(crate) struct Number<'a> {
-    pub start: Cursor<'a>,
-    pub value: u64,
-    /// The digits, and the whitespace between and after them.
-    pub slice: &'a str,
-    pub end: Cursor<'a>,
-    ghost digits: { value ≡ decimal_value (number_of (ahead start)) },
-    ghost fits: { value ≤ u64_max },
-    ghost run: { IsNumericRun start slice.now end } by { Prim.hlevel props },
-}
-
-/// Reads the number at the cursor, or returns `None` if it does not fit in a `u64`.
-///
-/// By the ghost fields of [`Number`], `start` determines the value, the slice and the end.
+/// Reads a number, or returns `None` if it does not fit in a `u64`. The text must begin with a digit.
 #[inline(always)]
-#[tactic(auto, using(crate::proofs::Durations::Bytes::Numbers::first_digit))]
-pub(crate) fn read_number<'a>(start: Cursor<'a>) -> Option<Number<'a>>
-    requires { begins is_digit (ahead start) ≡ true }
-    ensures { MatchOption result (u64_max < decimal_value (number_of (ahead start.entry))) (λ n. n.start ≡ start.entry) }
+#[tactic(auto, using(crate::proofs::Durations::Bytes::Numbers::first_digit, crate::proofs::Durations::Bytes::Tails::slice_tail))]
+pub(crate) fn read_number(s: &str) -> Option<(u64, &str)>
+    requires { begins is_digit (chars s.now) ≡ true }
+    ensures read { read_view (λ n. n) result ≡ reader.read_number (chars s.now) }
+    ensures rest { IfSome result (λ x. IsTail s.now x.1.now) }
 {
-    let text = start.rest;
-    let bytes = text.as_bytes();
+    let bytes = s.as_bytes();
     let mut value = (bytes[0] - b'0') as u64;
     let mut at = 1;
     while at < bytes.len() {
@@ -155,41 +137,39 @@ pub(crate) fn read_number<'a>(start: Cursor<'a>) -> Option<Number<'a>>
                 value * 10 + digit
             };
         } else {
-            match skip_whitespace_char(text, at) {
+            match skip_whitespace_char(s, at) {
                 Some(next) => at = next,
                 None => break,
             }
         }
     }
-    Some(Number {
-        start,
-        value,
-        slice: &text[..at],
-        end: start.advance(at),
-    })
+    Some((value, &s[at..]))
 }
 
-/// The digits of a fraction, and the cursors before and after them. The whitespace around the digits is part of the fraction.
-#[derive(Clone, Copy)]
-pub(crate) struct FractionText<'a> {
-    pub start: Cursor<'a>,
-    pub value: Decimal,
-    /// The digits, and the whitespace around them.
-    pub slice: &'a str,
-    pub end: Cursor<'a>,
-    ghost digits: { HasDigits value (number_of (ahead start)) } by { Prim.hlevel props },
-    ghost run: { IsNumericRun start slice.now end } by { Prim.hlevel props },
-}
-
-/// Reads the digits of a fraction, if any, at the cursor. Returns `None` if there are more than 19 before the trailing zeros.
-///
-/// By the ghost fields of [`FractionText`], `start` determines the value, the slice and the end.
+/// Returns what follows the point at the start of the text, or `None` if there is no point.
 #[inline(always)]
-pub(crate) fn read_fraction<'a>(start: Cursor<'a>) -> Option<FractionText<'a>>
-    ensures { MatchOption result (max_fraction_digits < length (without_trailing_zeros (number_of (ahead start.entry)))) (λ f. f.start ≡ start.entry) }
+#[tactic(auto, using(crate::proofs::Durations::Bytes::Tails::slice_tail, crate::proofs::Durations::Bytes::Tails::whole_tail))]
+pub(crate) fn skip_point(s: &str) -> Option<&str>
+    ensures read { option_map (λ t. chars t.now) result ≡ after_point (chars s.now) }
+    ensures rest { IfSome result (λ t. IsTail s.now t.now) }
 {
-    let text = start.rest;
-    let bytes = text.as_bytes();
+    if s.is_empty() || s.as_bytes()[0] != b'.' {
+        return None;
+    }
+    Some(&s[1..])
+}
+
+/// Reads a point and the digits after it, if any. Returns `None` if there are more than 19 digits before the trailing zeros.
+#[inline(always)]
+#[tactic(auto, using(crate::proofs::Durations::Bytes::Tails::slice_tail, crate::proofs::Durations::Bytes::Tails::whole_tail, crate::proofs::Durations::Bytes::Tails::tail_tail))]
+pub(crate) fn read_fraction(s: &str) -> Option<(Option<Decimal>, &str)>
+    ensures read { read_view (option_map parts_of) result ≡ reader.read_fraction (chars s.now) }
+    ensures rest { IfSome result (λ x. IsTail s.now x.1.now) }
+{
+    let Some(digits) = skip_point(s) else {
+        return Some((None, s));
+    };
+    let bytes = digits.as_bytes();
     let mut value = Decimal::EMPTY;
     let mut at = 0;
     while at < bytes.len() {
@@ -197,52 +177,25 @@ pub(crate) fn read_fraction<'a>(start: Cursor<'a>) -> Option<FractionText<'a>>
             value = value.push(bytes[at])?;
             at += 1;
         } else {
-            match skip_whitespace_char(text, at) {
+            match skip_whitespace_char(digits, at) {
                 Some(next) => at = next,
                 None => break,
             }
         }
     }
-    Some(FractionText {
-        start,
-        value,
-        slice: &text[..at],
-        end: start.advance(at),
-    })
+    Some((Some(value), &digits[at..]))
 }
 
-/// Returns the cursor after the point at `start`, or `None` if there is no point.
+/// Reads a word and returns its key, or `None` if the text begins with a character other than a letter.
+///
+/// The word is empty only at the end of the text.
 #[inline(always)]
-pub(crate) fn skip_point<'a>(start: Cursor<'a>) -> Option<Cursor<'a>>
-    ensures rest { option_map ahead result ≡ after_point (ahead start.entry) }
-    ensures text { IfSome result (λ c. c.text.now ≡ start.entry.text.now) }
+#[tactic(auto, using(crate::proofs::Durations::Bytes::Tails::no_chars_at, crate::proofs::Durations::Bytes::Tails::slice_tail))]
+pub(crate) fn read_word(s: &str) -> Option<(u64, &str)>
+    ensures read { read_view scale_of_key result ≡ reader.read_word (chars s.now) }
+    ensures rest { IfSome result (λ x. IsTail s.now x.1.now) }
 {
-    let bytes = start.rest.as_bytes();
-    if bytes.is_empty() || bytes[0] != b'.' {
-        return None;
-    }
-    Some(start.advance(1))
-}
-
-/// A word, and the cursor after it.
-#[derive(Clone, Copy)]
-pub(crate) struct Word<'a> {
-    pub letters: &'a str,
-    /// The key by which the unit is looked up.
-    pub key: u64,
-    pub end: Cursor<'a>,
-    ghost scale: { scale_of_key key ≡ scale_of_word (chars letters.now) },
-}
-
-/// Returns the length in bytes of the letters at the start of the text, and the key of this word.
-#[inline(always)]
-#[tactic(auto, using(crate::proofs::Durations::Bytes::Tails::no_chars_at))]
-fn read_letters(text: &str) -> (usize, u64)
-    ensures place { IsCharBoundary text.now result.0 }
-    ensures rest { chars (drop result.0 text.now) ≡ drop_while is_letter (chars text.now) }
-    ensures key { scale_of_key result.1 ≡ scale_of_word (chars (take result.0 text.now)) }
-{
-    let bytes = text.as_bytes();
+    let bytes = s.as_bytes();
     let mut key = EMPTY_KEY;
     let mut at = 0;
     while at < bytes.len() {
@@ -257,24 +210,30 @@ fn read_letters(text: &str) -> (usize, u64)
             break;
         }
     }
-    (at, key)
-}
-
-/// Reads the word at the cursor, or returns `None` if the next character is not a letter.
-///
-/// The word is empty only at the end of the text.
-#[inline(always)]
-pub(crate) fn read_word<'a>(start: Cursor<'a>) -> Option<Word<'a>>
-    ensures { MatchOption result (begins_with_nonletter (ahead start.entry) ≡ true) (λ w. IsWord start.entry w.letters.now w.end) }
-{
-    let text = start.rest;
-    let (len, key) = read_letters(text);
-    if len == 0 && !text.is_empty() {
+    if at == 0 && !s.is_empty() {
         return None;
     }
-    Some(Word {
-        letters: &text[..len],
-        key,
-        end: start.advance(len),
-    })
+    Some((key, &s[at..]))
+}
+
+/// Returns what follows the word of a span, from which to look for the next span: without its first character if that is whitespace.
+/// Returns `None` if the text begins with a character other than a digit or whitespace.
+#[inline(always)]
+#[tactic(auto, using(crate::proofs::Durations::Bytes::Tails::slice_tail, crate::proofs::Durations::Bytes::Tails::whole_tail))]
+pub(crate) fn end_span(s: &str) -> Option<&str>
+    ensures read { option_map (λ t. chars t.now) result ≡ reader.end_span (chars s.now) }
+    ensures rest { IfSome result (λ t. IsTail s.now t.now) }
+{
+    // The end of the text or a space follows most words, so these are tested first.
+    if s.is_empty() {
+        return Some(s);
+    }
+    if s.as_bytes()[0] == b' ' {
+        return Some(&s[1..]);
+    }
+    if begins_with_digit(s) {
+        return Some(s);
+    }
+    let len = skip_whitespace_char(s, 0)?;
+    Some(&s[len..])
 }

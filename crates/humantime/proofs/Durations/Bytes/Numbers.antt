@@ -1,6 +1,6 @@
 -- Parsing the digits at the start of a text, one by one.
 use Rattle.std.proofs.lemmas.Grind.{common_steps}
-use Rattle.std.proofs.Common.{◌≡◌, ◌≤◌, ◌<◌, ◌+◌, ◌-◌, ◌*◌, ◌%◌, ℕ, List, [], ◌∷◌, ◌++◌, arith, append_assoc, append-nil, true, false, chars, take, drop, get_or, length, IsUtf8, IsCharBoundary, refl}
+use Rattle.std.proofs.Common.{◌≡◌, ◌≤◌, ◌<◌, ◌+◌, ◌-◌, ◌*◌, ◌%◌, ℕ, List, [], ◌∷◌, ◌++◌, arith, append_assoc, append-nil, true, false, chars, drop, get_or, length, IsUtf8, IsCharBoundary, refl}
 use Rattle.std.specs.Char.{digit_value, is_ascii_digit}
 use Rattle.std.specs.Str.Parse.{digits_value_after}
 use Rattle.std.proofs.lemmas.Str.{digit_value_digit, IsCharBoundary-start}
@@ -8,11 +8,9 @@ use Rattle.std.proofs.lemmas.Bool.Decides.{nat_tests}
 use Rattle.humantime.specs.Texts.{begins, decimal_value}
 use Rattle.humantime.specs.Durations.Characters.{is_digit, is_numeric}
 use Rattle.humantime.specs.Durations.Faults.{number_of, after_number}
-use Rattle.humantime.specs.declared.duration.cursor.Cursor.{Cursor}
-use Rattle.humantime.specs.Steps.Cursors.{ahead, IsNumericRun}
 use Rattle.humantime.specs.Steps.Scanning.{whitespace_len}
 use Rattle.humantime.proofs.Durations.Bytes.PlaceSteps.{digit_at, whitespace_over, no_whitespace, ascii_at}
-use Rattle.humantime.proofs.Durations.Bytes.Tails.{front_is, no_bytes}
+use Rattle.humantime.proofs.Durations.Bytes.Tails.{no_bytes}
 use Rattle.humantime.proofs.Durations.Reading.Classes.{digit_is, digit_is_numeric, whitespace_is_numeric, whitespace_not_digit, wide_no_digit}
 use Rattle.humantime.proofs.Durations.Reading.SignificantDigits.{digits_value-append}
 
@@ -40,11 +38,10 @@ pub stops_here : (text bytes : List ℕ) (at : ℕ) → IsUtf8 text → bytes �
     → ¬ (0 < whitespace_len (chars (drop at text))) → begins is_numeric (chars (drop at text)) ≡ false
 stops_here text bytes at u same some place d w = grind (arith, common_steps, nat_tests, digit_at, no_whitespace)
 
--- All digits of a run are parsed if neither a digit nor whitespace follows.
-pub run_is_read : (start end : Cursor) (at : ℕ) (slice ds : List ℕ) → IsRead start.rest.now at ds → begins is_numeric (chars (drop at start.rest.now)) ≡ false
-    → slice ≡ take at start.rest.now → end.rest.now ≡ drop at start.rest.now → end.text.now ≡ start.text.now
-    → (number_of (ahead start) ≡ ds) × IsNumericRun start slice end
-run_is_read start end at slice ds h ended front rest same = grind (arith, common_steps, append-nil, front_is, (start.tail.utf8), (h.after), (h.all), (h.place))
+-- All digits are read if neither a digit nor whitespace follows.
+pub all_read : (text : List ℕ) (at : ℕ) (ds : List ℕ) → IsRead text at ds → begins is_numeric (chars (drop at text)) ≡ false
+    → (number_of (chars text) ≡ ds) × (after_number (chars text) ≡ chars (drop at text))
+all_read text at ds h ended = grind (arith, common_steps, append-nil, h.after, h.all)
 
 -- A byte is not a digit if subtracting 48 from it, in 64 bits, leaves more than nine.
 pub other_left : (c : ℕ) → c < 256 → 9 < (c + 18446744073709551568) % 18446744073709551616 → is_ascii_digit c ≡ false

@@ -11,6 +11,7 @@ use Rattle.std.proofs.lemmas.Str.{IsUtf8-drop, IsCharBoundary-past_char, drop_pa
 use Rattle.humantime.specs.Durations.Errors.{IsCharStartIn}
 use Rattle.humantime.specs.Texts.{begins, drop_while}
 use Rattle.humantime.specs.Durations.Characters.{is_letter, is_whitespace, whitespace_chars, is_digit, is_point}
+use Rattle.humantime.specs.Steps.Readers.{after_space}
 use Rattle.humantime.specs.Steps.Scanning.{whitespace_len}
 use Rattle.humantime.specs.Durations.Faults.{after_point, may_follow_span}
 use Rattle.humantime.proofs.Durations.Reading.Classes.{digit_is, digit_not_whitespace, whitespace_is_numeric, letter_not_whitespace, wide_no_digit, whitespace_is}
@@ -153,13 +154,13 @@ letter_over text at u here e = grind (arith, common_steps, nat_tests, ascii_at)
 
 -- Whitespace ends a span.
 pub whitespace_ends : (text : List ℕ) (at : ℕ) → IsUtf8 text → 0 < length text → 0 < whitespace_len (chars text) → at ≡ 0 + whitespace_len (chars text)
-    → IsCharBoundary text at × (may_follow_span (chars text) ≡ true) × (drop_while is_whitespace (chars (drop at text)) ≡ drop_while is_whitespace (chars text))
+    → IsCharBoundary text at × (may_follow_span (chars text) ≡ true) × (chars (drop at text) ≡ after_space (chars text))
 whitespace_ends text at u some white n =
     grind (arith, whitespace_is_numeric, (whitespace_over text 0 at u (some, IsCharBoundary-start text u)))
 
 -- A space ends a span, and is one byte.
 pub space_ends : (text : List ℕ) → IsUtf8 text → 0 < length text → get_or text 0 0 ≡ 32
-    → IsCharBoundary text 1 × (may_follow_span (chars text) ≡ true) × (drop_while is_whitespace (chars (drop 1 text)) ≡ drop_while is_whitespace (chars text))
+    → IsCharBoundary text 1 × (may_follow_span (chars text) ≡ true) × (chars (drop 1 text) ≡ after_space (chars text))
 unfolding is_whitespace whitespace_chars
 space_ends text u some e =
     grind (arith, whitespace_is_numeric, (ascii_at text 0 u (some, IsCharBoundary-start text u)))

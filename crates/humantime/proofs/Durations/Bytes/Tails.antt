@@ -1,16 +1,33 @@
 -- The end parts of a text, as bytes.
 use Rattle.std.proofs.lemmas.Grind.{common_steps}
-use Rattle.std.proofs.Common.{◌≡◌, ◌≢◌, ◌≤◌, ◌-◌, ℕ, Bool, true, false, List, [], ◌++◌, length, take, drop, ap, sym, ◌∙◌, arith, length-append, length-drop, length-take, IsUtf8, IsCharBoundary, chars}
-use Rattle.std.proofs.lemmas.List.{take-append-drop, append_cancel_right}
+use Rattle.std.proofs.Common.{◌≡◌, ◌≢◌, ◌≤◌, ◌-◌, ◌+◌, ℕ, Bool, true, false, List, [], ◌++◌, length, take, drop, ap, sym, ◌∙◌, arith, length-append, length-drop, length-take, IsUtf8, IsCharBoundary, chars}
+use Rattle.std.specs.Prelude.{slice_range}
+use Rattle.std.proofs.lemmas.List.{take-append-drop, drop-drop, append_cancel_right}
 use Rattle.std.proofs.lemmas.Str.{IsUtf8-take, IsCharBoundary-at_seam, encodes-chars, chars-append, chars-nil}
 use Rattle.humantime.specs.Texts.{take_while, drop_while}
 use Rattle.humantime.specs.Durations.Characters.{is_letter, byte_length, offset_of}
+use Rattle.humantime.specs.Durations.Errors.{IsCharStartIn, IsRangeIn, IsPartOf}
 use Rattle.humantime.specs.Steps.Scanning.{IsTail, begins_with_nonletter}
 use Rattle.humantime.proofs.Durations.Reading.Runs.{take_while-drop_while}
 
 -- The text before the rest.
 abbrev pub front_of : List ℕ → List ℕ → List ℕ
 front_of text rest = take (length text - length rest) text
+
+pub whole_tail : (text : List ℕ) → IsUtf8 text → IsTail text text
+whole_tail text u = grind (arith, common_steps)
+
+pub slice_tail : (text rest : List ℕ) (at : ℕ) → IsUtf8 text → IsUtf8 rest → rest ≡ drop at text → length rest + at ≡ length text → IsTail text rest
+slice_tail text rest at u v e n = record { shorter = omega (arith, n); ends = e ∙ ap (λ (k : ℕ). drop k text) (omega (arith, n)); utf8 = v; whole = u }
+
+pub tail_tail : (text middle rest : List ℕ) → IsTail text middle → IsTail middle rest → IsTail text rest
+tail_tail text middle rest t r = record {
+  shorter = omega (arith, t.shorter, r.shorter);
+  ends = r.ends ∙ ap (drop (length middle - length rest)) t.ends ∙ drop-drop (length middle - length rest) (length text - length middle) text
+      ∙ ap (λ (k : ℕ). drop k text) (omega (arith, t.shorter, r.shorter));
+  utf8 = r.utf8;
+  whole = t.whole;
+}
 
 pub tail_whole : (text rest : List ℕ) → IsTail text rest → text ≡ front_of text rest ++ rest
 tail_whole text rest t = sym (take-append-drop (length text - length rest) text) ∙ ap (λ (x : List ℕ). front_of text rest ++ x) (sym t.ends)
@@ -25,6 +42,29 @@ front_is p text at u place after =
     append_cancel_right (chars (take at text)) (take_while p (chars text)) (drop_while p (chars text))
     (ap (λ (x : List ℕ). chars (take at text) ++ x) (sym after) ∙ sym (chars-append (take at text) (drop at text) (IsUtf8-take text at u place))
     ∙ ap chars (take-append-drop at text) ∙ sym (take_while-drop_while p (chars text)))
+
+-- A rest that is not empty begins at a character.
+pub tail_place : (text rest : List ℕ) → IsTail text rest → chars rest ≢ [] → IsCharStartIn text (length text - length rest)
+tail_place text rest t some = grind (arith, common_steps, tail_boundary, chars-nil)
+
+pub tail_range : (text a b : List ℕ) → IsTail text a → IsTail a b → IsRangeIn text (length text - length a) (length text - length b)
+tail_range text a b t u = (omega (arith, u.shorter), tail_boundary text a t, tail_boundary text b (tail_tail text a b t u))
+
+-- The text between two rests is a slice of the text.
+pub tail_part : (text a b part : List ℕ) → IsTail text a → IsTail a b → part ≡ slice_range a 0 (length a - length b) → IsPartOf text part (length text - length a) (length text - length b)
+tail_part text a b part t u e = (tail_range text a b t u, grind (arith, common_steps))
+
+-- The text before the rest, if the longest prefix that passes a test ends there.
+pub front_read : (p : ℕ → Bool) (text rest front : List ℕ) → IsTail text rest → chars rest ≡ drop_while p (chars text) → front ≡ slice_range text 0 (length text - length rest)
+    → chars front ≡ take_while p (chars text)
+front_read p text rest front t e f =
+    let is : front ≡ front_of text rest = grind (arith, common_steps) in
+    ap chars is ∙ front_is p text (length text - length rest) t.whole (tail_boundary text rest t) (ap chars (sym t.ends) ∙ e)
+
+pub front_chars : (text rest front : List ℕ) → IsTail text rest → IsUtf8 front → front ≡ slice_range text 0 (length text - length rest) → chars text ≡ chars front ++ chars rest
+front_chars text rest front t u f =
+    let is : front ≡ front_of text rest = grind (arith, common_steps) in
+    ap chars (tail_whole text rest t ∙ ap (λ (x : List ℕ). x ++ rest) (sym is)) ∙ chars-append front rest u
 
 letter_begins : (cs : List ℕ) → take_while is_letter cs ≢ [] → begins_with_nonletter cs ≡ false
 letter_begins cs some = grind arith

@@ -12,7 +12,7 @@ pub record Steps (text : List ℕ) (P : Bool → List ℕ → Walk → Type 0) :
   pub wrong : (first : Bool) (rest : List ℕ) (e : Fault) → rest ≢ [] → fault_at text rest ≡ Some e → P first rest (empty_walk rest (Some e))
   pub right : (first : Bool) (rest : List ℕ) (w : Walk) → fault_at text rest ≡ None → P false (next_of rest) w → P first rest (one_more rest w)
 
-right_begins : (text rest : List ℕ) → fault_at text rest ≡ None → begins is_digit rest ≡ true
+pub right_begins : (text rest : List ℕ) → fault_at text rest ≡ None → begins is_digit rest ≡ true
 right_begins text rest s = grind arith
 
 by_count : (n : ℕ) (text : List ℕ) (P : Bool → List ℕ → Walk → Type 0) → Steps text P → (first : Bool) (rest : List ℕ) → length rest ≤ n → P first rest (walk n first text rest)

@@ -1,22 +1,35 @@
 -- One step over the items of a text.
-use Rattle.std.proofs.Common.{◌≡◌, ◌≢◌, ℕ, Bool, true, false, List, [], ◌∷◌, Some, Result, Err, if◌then◌else◌, ap}
-use Rattle.humantime.specs.Texts.{begins, drop_while}
-use Rattle.humantime.specs.Durations.Characters.{is_whitespace, is_digit, offset_of}
-use Rattle.humantime.specs.Durations.Faults.{Fault, NumberExpected}
-use Rattle.humantime.specs.Results.Walks.{stop_at}
+use Rattle.std.proofs.lemmas.Grind.{common_steps}
+use Rattle.std.proofs.Common.{◌≡◌, ◌≢◌, ◌≤◌, ◌<◌, ℕ, Bool, false, List, [], ◌∷◌, None, Ok, Err, chars, length, length-append, IsUtf8, ap, arith}
+use Rattle.std.proofs.lemmas.Str.{encodes-chars}
+use Rattle.humantime.specs.Texts.{drop_while}
+use Rattle.humantime.specs.Durations.Characters.{is_whitespace, byte_length}
+use Rattle.humantime.specs.Durations.Faults.{Fault, after_word}
 use Rattle.humantime.specs.Durations.Items.{SpanView}
-use Rattle.humantime.specs.Results.Items.{views_on, left_at}
-use Rattle.humantime.proofs.Durations.Reading.Runs.{begins_not_nil}
-use Rattle.humantime.proofs.Durations.Reading.SpanWalks.{walk-wrong}
+use Rattle.humantime.specs.Results.Items.{left_at, view_at}
+use Rattle.humantime.specs.Results.Walks.{fault_at}
+use Rattle.humantime.specs.Steps.Readers.{after_space, read_span}
+use Rattle.humantime.proofs.Durations.Reading.SpanWalks.{right_begins, walk-right, walk-wrong}
+use Rattle.humantime.proofs.Durations.Slices.SpanSlices.{next_bytes}
 
--- The items that are left, if leading whitespace is still to be skipped and the iterator has not ended.
-abbrev pub left : Bool → Bool → List ℕ → List ℕ → List (Result SpanView Fault)
-left ended first text before = if ended then [] else left_at first text (drop_while is_whitespace before)
+after_space_bytes : (cs : List ℕ) → byte_length (after_space cs) ≤ byte_length cs
+after_space_bytes [] = omega arith
+after_space_bytes (c ∷ cs) = grind (arith, common_steps, length-append)
 
-pub step_stopped : (ended first : Bool) (text before rest : List ℕ) (f : Fault) → ended ≡ false → rest ≡ drop_while is_whitespace before → begins is_digit rest ≡ true → stop_at text rest ≡ Some f → left ended first text before ≡ Err f ∷ []
-step_stopped ended first text before rest f e r d s =
-    rw (e, ← r) (ap (views_on text) (walk-wrong first text rest f (begins_not_nil is_digit rest d) (rw d s)))
+after_space_same : (cs : List ℕ) → drop_while is_whitespace (after_space cs) ≡ drop_while is_whitespace cs
+after_space_same cs = grind (arith, common_steps)
 
-pub step_expected : (ended first : Bool) (text before rest : List ℕ) (n : ℕ) → ended ≡ false → rest ≡ drop_while is_whitespace before → rest ≢ [] → begins is_digit rest ≡ false → n ≡ offset_of text rest → left ended first text before ≡ Err (NumberExpected n) ∷ []
-step_expected ended first text before rest n e r s d p =
-    rw (e, ← r) (ap (views_on text) (walk-wrong first text rest (NumberExpected n) s (rw (d, p))))
+pub step_stopped : (first : Bool) (text rest : List ℕ) (f : Fault) → rest ≢ [] → Err f ≡ read_span text rest → left_at first text rest ≡ Err f ∷ []
+step_stopped first text rest f some e = grind (arith, common_steps, (walk-wrong first text rest f some))
+
+-- A span that was read has no fault.
+fine : (text rest next : List ℕ) (x : SpanView) → Ok (x, next) ≡ read_span text rest → (fault_at text rest ≡ None) × (x ≡ view_at text rest) × (next ≡ after_space (after_word rest))
+fine text rest next x e = grind (arith, common_steps)
+
+pub step_shorter : (text rest next : List ℕ) (x : SpanView) → IsUtf8 rest → IsUtf8 next → Ok (x, chars next) ≡ read_span text (chars rest) → length next < length rest
+step_shorter text rest next x u v e =
+    let f = fine text (chars rest) (chars next) x e in
+    omega (arith, ap length (encodes-chars rest u), ap length (encodes-chars next v), ap byte_length f.2, after_space_bytes (after_word (chars rest)), next_bytes (chars rest) (right_begins text (chars rest) f.0))
+
+pub step_goes : (first : Bool) (text rest next : List ℕ) (x : SpanView) → Ok (x, next) ≡ read_span text rest → left_at first text rest ≡ Ok x ∷ left_at false text (drop_while is_whitespace next)
+step_goes first text rest next x e = grind (arith, (fine text rest next x e), (walk-right first text rest), after_space_same)

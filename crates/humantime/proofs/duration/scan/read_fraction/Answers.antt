@@ -1,16 +1,18 @@
+use Rattle.std.proofs.lemmas.Bool.Decides.{nat_tests}
+use Rattle.std.proofs.lemmas.Grind.{common_steps}
 use Rattle.std.proofs.Common.{◌≡◌, ◌+◌, ◌++◌, ◌∷◌, [], get_or, sym, ap, ◌∙◌, chars, drop, false, arith, length-append, append_assoc}
 use Rattle.humantime.specs.Texts.{begins}
 use Rattle.humantime.specs.Durations.Characters.{is_numeric}
 use Rattle.humantime.specs.Durations.Faults.{number_of}
 use Rattle.humantime.proofs.Durations.Reading.Classes.{digit_is}
-use Rattle.humantime.proofs.Durations.Bytes.Numbers.{none_read, read_digit, read_whitespace, stops_here, run_is_read}
+use Rattle.humantime.proofs.Durations.Bytes.Numbers.{none_read, read_digit, read_whitespace, stops_here, all_read}
 use Rattle.humantime.proofs.Durations.Bytes.FractionDigits.{no_digits}
 use Rattle.humantime.proofs.Durations.Bytes.Tails.{no_chars_at}
 use Rattle.humantime.proofs.duration.scan.read_fraction.Goals as goal
 use Rattle.humantime.proofs.duration.scan.read_fraction.Goals.{else-loop-at-test, then-loop-at-test+else-is_ascii_digit+in-None}
 
 pub loop-at-init : goal.loop-at-init
-loop-at-init c = record { taken = []; read = none_read _ c.args.start.tail.utf8; digits = no_digits; few = omega arith }
+loop-at-init c = record { taken = []; read = none_read _ c.in-Some.ensures.rest.utf8; digits = no_digits; few = omega arith }
 
 pub push-requires-clause-digit : goal.push-requires-clause-digit
 push-requires-clause-digit c = grind (arith, digit_is)
@@ -20,7 +22,7 @@ loop-at-preserved-then-is_ascii_digit c =
     let i = c.loop-at.invariant in
     record {
       taken = i.taken ++ get_or c.as_bytes-bytes.result.now c.loop-at.at 0 ∷ [];
-      read = read_digit _ _ _ _ c.args.start.tail.utf8 c.as_bytes-bytes.ensures.value c.loop-at-test.true i.read (sym c.is_ascii_digit.ensures.value ∙ c.if-is_ascii_digit.true);
+      read = read_digit _ _ _ _ c.in-Some.ensures.rest.utf8 c.as_bytes-bytes.ensures.value c.loop-at-test.true i.read (sym c.is_ascii_digit.ensures.value ∙ c.if-is_ascii_digit.true);
       digits = c.in_ok-value.ensures.pushed i.taken i.digits;
       few = omega (arith, length-append i.taken (get_or c.as_bytes-bytes.result.now c.loop-at.at 0 ∷ []), i.few);
     }
@@ -28,25 +30,24 @@ loop-at-preserved-then-is_ascii_digit c =
 pub loop-at-preserved : goal.loop-at-preserved
 loop-at-preserved c =
     let i = c.loop-at.invariant in
-    let read = read_whitespace _ _ _ _ _ c.args.start.tail.utf8 c.as_bytes-bytes.ensures.value c.loop-at-test.true i.read c.in-Some.ensures.0 c.in-Some.ensures.1 in
+    let read = read_whitespace _ _ _ _ _ c.in-Some.ensures.rest.utf8 c.as_bytes-bytes.ensures.value c.loop-at-test.true i.read c.in-Some-skip_whitespace_char.ensures.0 c.in-Some-skip_whitespace_char.ensures.1 in
     record { taken = i.taken; read = read; digits = i.digits; few = omega (arith, i.few) }
 
-pub returns-in_err-value : goal.returns-in_err-value
-returns-in_err-value c =
+pub returns-in_err-value-clause-read : goal.returns-in_err-value-clause-read
+returns-in_err-value-clause-read c =
     let i = c.loop-at.invariant in
-    let read = read_digit _ _ _ _ c.args.start.tail.utf8 c.as_bytes-bytes.ensures.value c.loop-at-test.true i.read (sym c.is_ascii_digit.ensures.value ∙ c.if-is_ascii_digit.true) in
-    let over = c.in_err-value.ensures.full i.taken i.digits (number_of (chars (drop (c.loop-at.at + 1) c.args.start.rest.now))) in
-    rw (c.from_residual.ensures, read.all ∙ append_assoc i.taken _ _) over
+    let read = read_digit _ _ _ _ c.in-Some.ensures.rest.utf8 c.as_bytes-bytes.ensures.value c.loop-at-test.true i.read (sym c.is_ascii_digit.ensures.value ∙ c.if-is_ascii_digit.true) in
+    let over = c.in_err-value.ensures.full i.taken i.digits (number_of (chars (drop (c.loop-at.at + 1) c.in-Some.digits.now))) in
+    rw c.from_residual.ensures (grind (arith, nat_tests, read.all, append_assoc i.taken, over))
 
-pub invariant_of-result : goal.invariant_of-result
-invariant_of-result c =
+pub returns-clause-read : goal.returns-clause-read
+returns-clause-read c =
     let i = c.loop-at.invariant in
-    let text = c.args.start.rest.now in
-    let ended : begins is_numeric (chars (drop c.loop-at.at text)) ≡ false = elim c.loop-at-test.branch [
-      | else-loop-at-test w ↦ ap (begins is_numeric) (no_chars_at text c.loop-at.at (omega (arith, w.loop-at-test.false, c.as_bytes-bytes.ensures.len)))
+    let ended : begins is_numeric (chars (drop c.loop-at.at c.in-Some.digits.now)) ≡ false = elim c.loop-at-test.branch [
+      | else-loop-at-test w ↦ ap (begins is_numeric) (no_chars_at _ c.loop-at.at (omega (arith, w.loop-at-test.false, c.as_bytes-bytes.ensures.len)))
       | then-loop-at-test+else-is_ascii_digit+in-None w ↦
-          stops_here _ _ _ c.args.start.tail.utf8 c.as_bytes-bytes.ensures.value w.loop-at-test.true i.read.place
+          stops_here _ _ _ c.in-Some.ensures.rest.utf8 c.as_bytes-bytes.ensures.value w.loop-at-test.true i.read.place
           (sym w.is_ascii_digit.ensures.value ∙ w.if-is_ascii_digit.false) w.in-None.ensures
     ] in
-    let r = run_is_read c.args.start c.advance.result c.loop-at.at c.range.result.now i.taken i.read ended (grind arith) c.advance.ensures.rest c.advance.ensures.text in
-    record { digits = rw r.0 i.digits; run = r.1 }
+    let r = all_read _ _ _ i.read ended in
+    grind (arith, common_steps, nat_tests, r.0, r.1, i.digits.parts, i.digits.few)

@@ -8,12 +8,12 @@ use Rattle.humantime.proofs.Durations.Bytes.PlaceSteps.{point_over, char_at}
 use Rattle.humantime.proofs.Durations.Bytes.Tails.{no_bytes}
 use Rattle.humantime.proofs.duration.scan.skip_point.Goals as goal
 
-pub returns-then-is_empty-clause-rest : goal.returns-then-is_empty-clause-rest
+pub returns-then-is_empty-clause-read : goal.returns-then-is_empty-clause-read
 unfolding is_point
-returns-then-is_empty-clause-rest c = grind (arith, no_bytes, common_steps, nat_tests, IsCharBoundary-start, cases_lt, char_at, ne_eqb)
+returns-then-is_empty-clause-read c = grind (arith, no_bytes, common_steps, nat_tests, IsCharBoundary-start, cases_lt, char_at, ne_eqb)
 
-pub advance-requires : goal.advance-requires
-advance-requires c = (point_over c.args.start.rest.now c.args.start.tail.utf8 (grind arith) (grind arith)).0
+pub range_from-requires : goal.range_from-requires
+range_from-requires c _ = (point_over c.args.s.now c.utf8.s (grind arith) (grind arith)).0
 
-pub returns-clause-rest : goal.returns-clause-rest
-returns-clause-rest c = rw c.advance.ensures.rest (sym (point_over c.args.start.rest.now c.args.start.tail.utf8 (grind arith) (grind arith)).1)
+pub returns-clause-read : goal.returns-clause-read
+returns-clause-read c = rw c.range_from.ensures.value (sym (point_over c.args.s.now c.utf8.s (grind arith) (grind arith)).1)

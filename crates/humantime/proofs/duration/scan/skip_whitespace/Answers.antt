@@ -6,23 +6,23 @@ use Rattle.humantime.proofs.duration.scan.skip_whitespace.Goals as goal
 use Rattle.humantime.proofs.duration.scan.skip_whitespace.Goals.{else-loop-at-test, then-loop-at-test+in-None}
 
 pub loop-at-init : goal.loop-at-init
-loop-at-init c = record { order = omega arith; place = IsCharBoundary-start c.args.start.rest.now c.args.start.tail.utf8; same = refl }
+loop-at-init c = record { order = omega arith; place = IsCharBoundary-start c.args.s.now c.utf8.s; same = refl }
 
 pub loop-at-preserved : goal.loop-at-preserved
 loop-at-preserved c =
     let i = c.loop-at.invariant in
-    let some : c.loop-at.at < length c.args.start.rest.now = grind arith in
-    let s = whitespace_over _ _ _ c.args.start.tail.utf8 (some, i.place) c.in-Some.ensures.0 c.in-Some.ensures.1 in
+    let some : c.loop-at.at < length c.args.s.now = grind arith in
+    let s = whitespace_over _ _ _ c.utf8.s (some, i.place) c.in-Some.ensures.0 c.in-Some.ensures.1 in
     let spaces = c.skip_spaces-at.ensures in
     record { order = omega arith; place = spaces.place; same = spaces.same ∙ rw (s.2.ahead, s.1) at i.same }
 
 pub skip_spaces-at-requires : goal.skip_spaces-at-requires
 skip_spaces-at-requires c =
-    let some : c.loop-at.at < length c.args.start.rest.now = grind arith in
-    (whitespace_over _ _ _ c.args.start.tail.utf8 (some, c.loop-at.invariant.place) c.in-Some.ensures.0 c.in-Some.ensures.1).2.place
+    let some : c.loop-at.at < length c.args.s.now = grind arith in
+    (whitespace_over _ _ _ c.utf8.s (some, c.loop-at.invariant.place) c.in-Some.ensures.0 c.in-Some.ensures.1).2.place
 
-pub returns-then-begins_with_digit-clause-rest : goal.returns-then-begins_with_digit-clause-rest
-returns-then-begins_with_digit-clause-rest c = digit_stays _ (sym c.begins_with_digit.ensures ∙ c.if-begins_with_digit.true)
+pub returns-then-begins_with_digit-clause-read : goal.returns-then-begins_with_digit-clause-read
+returns-then-begins_with_digit-clause-read c = digit_stays _ (sym c.begins_with_digit.ensures ∙ c.if-begins_with_digit.true)
 
-pub returns-clause-rest : goal.returns-clause-rest
-returns-clause-rest c = rw c.advance.ensures.rest (grind (arith, else-loop-at-test, no_chars_at, then-loop-at-test+in-None, no_whitespace))
+pub returns-clause-read : goal.returns-clause-read
+returns-clause-read c = grind (arith, else-loop-at-test, no_chars_at, then-loop-at-test+in-None, no_whitespace)

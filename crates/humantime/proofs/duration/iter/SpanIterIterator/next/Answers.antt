@@ -1,42 +1,35 @@
-use Rattle.humantime.proofs.Durations.Reading.SpanWalks.{walk-right, walk-end}
 use Rattle.std.proofs.lemmas.Bool.Decides.{nat_tests}
 use Rattle.std.proofs.lemmas.Grind.{common_steps}
-use Rattle.std.proofs.Common.{◌≢◌, [], ne_eqb, refl, arith}
-use Rattle.humantime.specs.Steps.Cursors.{ahead}
-use Rattle.humantime.proofs.Durations.Slices.Iterating.{step_stopped, step_expected}
-use Rattle.humantime.proofs.Durations.Slices.Places.{cursor_place}
-use Rattle.humantime.proofs.Durations.Bytes.Tails.{no_bytes, some_chars, tail_offset}
+use Rattle.std.proofs.Common.{◌≡◌, ◌≢◌, [], chars, false, length, ne_eqb, refl, arith}
+use Rattle.std.specs.Prelude.{◌==◌}
+use Rattle.humantime.proofs.Durations.Reading.SpanWalks.{walk-end}
+use Rattle.humantime.proofs.Durations.Slices.Iterating.{step_stopped, step_shorter, step_goes}
+use Rattle.humantime.proofs.Durations.Bytes.Tails.{no_bytes, some_chars}
 use Rattle.humantime.proofs.duration.iter.SpanIterIterator.next.Goals as goal
 
-pub returns-then-offset-eq0-clause-steps : goal.returns-then-offset-eq0-clause-steps
-returns-then-offset-eq0-clause-steps c = (grind (arith, no_bytes, walk-end, tail_offset), refl, tt)
+pub returns-then-self-2-clause-steps : goal.returns-then-self-2-clause-steps
+returns-then-self-2-clause-steps c = (grind (arith, common_steps, nat_tests, no_bytes, walk-end), refl, tt)
 
-pub returns-then-offset-eq0-clause-goes : goal.returns-then-offset-eq0-clause-goes
-returns-then-offset-eq0-clause-goes c = grind (arith, common_steps, nat_tests, returns-then-offset-eq0-clause-steps)
+pub returns-then-self-2-clause-goes : goal.returns-then-self-2-clause-goes
+returns-then-self-2-clause-goes c = grind (arith, common_steps, nat_tests, returns-then-self-2-clause-steps)
 
 pub returns-then-is_empty-clause-steps : goal.returns-then-is_empty-clause-steps
-returns-then-is_empty-clause-steps c = (grind (arith, no_bytes, walk-end), refl, tt)
-
-pub returns-then-not-begins_with_digit-clause-steps : goal.returns-then-not-begins_with_digit-clause-steps
-returns-then-not-begins_with_digit-clause-steps c =
-    let start = c.skip_whitespace-start.result in
-    let same = c.skip_whitespace-start.ensures.text in
-    let some : ahead start ≢ [] = some_chars start.rest.now start.tail.utf8 (grind arith) in
-    (grind (arith, step_expected), refl, cursor_place _ start _ same c.offset-then-not-begins_with_digit.ensures some)
-
-pub returns-then-not-begins_with_digit-clause-goes : goal.returns-then-not-begins_with_digit-clause-goes
-returns-then-not-begins_with_digit-clause-goes c = grind (arith, common_steps, nat_tests, returns-then-not-begins_with_digit-clause-steps)
+returns-then-is_empty-clause-steps c = (grind (arith, common_steps, nat_tests, no_bytes, walk-end), refl, tt)
 
 pub returns-in-Ok-clause-steps : goal.returns-in-Ok-clause-steps
-returns-in-Ok-clause-steps c = grind (arith, common_steps, nat_tests, ne_eqb, walk-right)
+returns-in-Ok-clause-steps c =
+    let shorter = step_shorter _ _ _ _ c.skip_whitespace-start.utf8 c.in-Ok.ensures.rest.utf8 c.in-Ok.ensures.read in
+    let later : (length c.in-Ok.rest.now == length c.args.self.now.text.now) ≡ false =
+    ne_eqb _ _ (λ e. omega (arith, e, shorter, c.skip_whitespace-start.ensures.rest.shorter, c.args.self.now.tail.shorter)) in
+    (rw (c.if-self.false, later, ← c.skip_whitespace-start.ensures.read) (step_goes _ _ _ _ _ c.in-Ok.ensures.read), refl, c.in-Ok.ensures.places)
 
 pub returns-in-Ok-clause-goes : goal.returns-in-Ok-clause-goes
 returns-in-Ok-clause-goes c = grind (arith, common_steps, nat_tests, returns-in-Ok-clause-steps)
 
 pub returns-in-Err-clause-steps : goal.returns-in-Err-clause-steps
 returns-in-Err-clause-steps c =
-    let place = rw c.skip_whitespace-start.ensures.text at c.in-Err.ensures.place in
-    (grind (arith, step_stopped), refl, grind (arith, place))
+    let some : chars c.skip_whitespace-start.result.now ≢ [] = some_chars _ c.skip_whitespace-start.utf8 (grind arith) in
+    (rw (c.if-self.false, ← c.skip_whitespace-start.ensures.read) (step_stopped _ _ _ _ some c.in-Err.ensures.read), refl, c.in-Err.ensures.places)
 
 pub returns-in-Err-clause-goes : goal.returns-in-Err-clause-goes
 returns-in-Err-clause-goes c =
