@@ -1,5 +1,5 @@
 -- Lemmas about the output for the results of the library, and the uniqueness of the answer.
-use Rattle.std.proofs.Common.{◌≡◌, ◌≢◌, ◌↔◌, ℕ, List, [], ◌∷◌, length, ap, sym, ◌∙◌, refl}
+use Rattle.std.proofs.Common.{◌≡◌, ◌≢◌, ◌↔◌, ℕ, List, [], ◌∷◌, length, ap, sym, ◌∙◌, refl, arith}
 use Rattle.std.specs.Prelude.{ℤ, None, Some, Result, Ok, Err, chars, codes, IsSome, IfOk, unwrap_or, if◌then◌else◌, ◌==◌}
 use Rattle.std.specs.Result.{result_map_both}
 use Rattle.humantime.specs.declared.date.error.TimestampError.{TimestampError}
@@ -9,8 +9,7 @@ use Rattle.humantime_cli.specs.Answers.{Answers, OneAnswer, IsOutputOf, IsMoment
 
 -- A moment that was parsed satisfies any property of those that the text denotes.
 pub each_read : {T E : Type 0} {P Q : T → Type 0} (read : Result T E) → ((t : T) → (read ≡ Ok t) ↔ P t) → ((t : T) → P t → Q t) → IfOk read Q
-each_read (Ok t) value all = all t ((value t).0 refl)
-each_read (Err e) value all = tt
+each_read read value all = grind (arith, value, all)
 
 -- The text of the moment that was parsed, or the message of its error.
 abbrev pub moment_written : Result ℤ TimestampError → Result (List ℕ) (List ℕ)
@@ -24,8 +23,7 @@ pub tells_moment : {Denotes : ℤ → Type 0} {Has : TimestampError → Type 0} 
     → ((e : TimestampError) → (read ≡ Err e) ↔ Has e) → ((t : ℤ) → Denotes t → IsPrintable t) → IsMomentOutput Denotes Has (moment_written read)
 tells_moment (Ok t) value error printable =
     let denoted = (value t).0 refl in
-    let some = printed_some t (places_of t) (places_of_bound t) (printable t denoted) in
-    (t, denoted, rw some.1 some.2)
+    (t, denoted, grind (arith, (printed_some t (places_of t) (places_of_bound t) (printable t denoted))))
 tells_moment (Err e) value error printable = (e, (error e).0 refl, refl)
 
 -- Arguments that are not two are not a command and its text.
@@ -34,22 +32,14 @@ not_two words other name command text same = other (ap length same)
 
 -- Neither are two arguments whose first is not the name of a command.
 pub unnamed : (name : List ℕ) {text : List ℕ} → name ≢ codes "duration" → name ≢ codes "strict" → name ≢ codes "weak" → Answers (name ∷ text ∷ []) None
-unnamed name duration strict weak _ Duration text same = duration (cc)
-unnamed name duration strict weak _ Strict text same = strict (cc)
-unnamed name duration strict weak _ Weak text same = weak (cc)
+unnamed name duration strict weak other command text same = grind (arith, command)
 
-one_moment : (read : Result ℤ TimestampError) (told : Result (List ℕ) (List ℕ))
-    → IsMomentOutput (λ t. (read ≡ Ok t) × IsPrintable t) (λ e. read ≡ Err e) told → told ≡ moment_written read
-one_moment read (Ok printed) (t, (is, within), whole) =
-    let shown = ((printed_moment_reads t (places_of t) (places_of_bound t)).displayed printed).1 (within, whole) in
-    ap (λ o. Ok (unwrap_or o [])) (sym shown) ∙ ap moment_written (sym is)
-one_moment read (Err message) (e, is, same) = ap Err same ∙ ap moment_written (sym is)
-
--- Output for a moment or an error is also output for the moments and errors that these imply.
-implied : {P Q : ℤ → Type 0} {F G : TimestampError → Type 0} (told : Result (List ℕ) (List ℕ)) → ((t : ℤ) → P t → Q t) → ((e : TimestampError) → F e → G e)
-    → IsMomentOutput P F told → IsMomentOutput Q G told
-implied (Ok printed) value error (t, is, whole) = (t, value t is, whole)
-implied (Err message) value error (e, is, same) = (e, error e is, same)
+-- The output for a moment or an error that these results imply.
+one_moment : {P : ℤ → Type 0} {F : TimestampError → Type 0} (read : Result ℤ TimestampError) (told : Result (List ℕ) (List ℕ))
+    → ((t : ℤ) → P t → (read ≡ Ok t) × IsPrintable t) → ((e : TimestampError) → F e → read ≡ Err e) → IsMomentOutput P F told → told ≡ moment_written read
+one_moment read (Ok printed) value error (t, is, whole) =
+    grind (arith, (value t is), (((printed_moment_reads t (places_of t) (places_of_bound t)).displayed printed).1 ((value t is).1, whole)))
+one_moment read (Err message) value error (e, is, same) = grind (arith, (error e is))
 
 -- The answer to arguments, by the first byte of the command.
 abbrev words_answer : List (List ℕ) → Result (List ℕ) (List ℕ)
@@ -59,15 +49,14 @@ words_answer ((b ∷ name) ∷ text ∷ words) =
 words_answer words = Err []
 
 one_command_answer : {name : List ℕ} (command : Command name) (text : List ℕ) (told : Result (List ℕ) (List ℕ)) → IsOutputOf command text told → told ≡ words_answer (name ∷ text ∷ [])
-one_command_answer Duration text (Ok printed) is = ap (result_map_both (λ t. t) fault_message) (sym (((canonical_again text).text printed).1 is))
-one_command_answer Duration text (Err message) (fault, has, same) =
-    ap Err same ∙ ap (result_map_both (λ t. t) fault_message) (sym (((canonical_again text).fault fault).1 has))
+one_command_answer Duration text (Ok printed) is = grind (arith, (((canonical_again text).text printed).1 is))
+one_command_answer Duration text (Err message) (fault, has, same) = grind (arith, (((canonical_again text).fault fault).1 has))
 one_command_answer Strict text told tells =
-    let one = one_stamp_outcome text in
-    one_moment (strict_answer text) told (implied told (λ t is. ((one.1.value t).1 is, strict_printable text t is)) (λ e. (one.1.error e).1) tells)
+    let one = (one_stamp_outcome text).1 in
+    one_moment (strict_answer text) told (λ t is. ((one.value t).1 is, strict_printable text t is)) (λ e. (one.error e).1) tells
 one_command_answer Weak text told tells =
-    let one = one_stamp_outcome text in
-    one_moment (weak_answer text) told (implied told (λ t is. ((one.0.value t).1 is, weak_printable text t is)) (λ e. (one.0.error e).1) tells)
+    let one = (one_stamp_outcome text).0 in
+    one_moment (weak_answer text) told (λ t is. ((one.value t).1 is, weak_printable text t is)) (λ e. (one.error e).1) tells
 
 answer_of_words : (words : List (List ℕ)) (told : Result (List ℕ) (List ℕ)) → Answers words (Some told) → told ≡ words_answer words
 answer_of_words words told (name, command, text, same, tells) = one_command_answer command text told tells ∙ ap words_answer (sym same)

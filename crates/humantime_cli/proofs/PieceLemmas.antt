@@ -11,6 +11,8 @@ use Rattle.std.specs.Prelude.{Option, None, Some, IsSome, true, false, ◌||◌,
 use Rattle.humantime_cli.specs.Pieces.{IsPiece, AddsText}
 use Rattle.humantime_cli.specs.Writes.{line}
 use Rattle.humantime_cli.specs.declared.piece.Piece.{Piece}
+use Rattle.std.proofs.lemmas.Bool.Decides.{nat_tests}
+use Rattle.std.proofs.lemmas.Grind.{common_steps}
 
 -- Texts that were added one after the other are one text.
 adds_all : (old : Piece) (texts : List (List ℕ)) (new : Piece) → FoldsTo AddsText old texts new → AddsText old (concat texts) new
@@ -22,15 +24,14 @@ adds_all old (x ∷ xs) new (mid, first, rest) start text is =
 front_same : (start n : ℕ) (text s : List ℕ) → (0 < n → start + n ≤ length text) → take n (drop start text) ≡ take n (drop start (text ++ s))
 front_same start zero text s within = refl
 front_same start (suc n) text s within =
-    let long = within (omega arith) in
-    sym (ap (take (suc n)) (drop-append-le start text s (omega (arith, long))) ∙ take-append-le (suc n) (drop start text) s (omega (arith, length-drop start text, long)))
+    grind (arith, within, (drop-append-le start text s), (take-append-le (suc n) (drop start text) s), (length-drop start text))
 
 -- The bytes that are added to a piece that is not full, from the offset `skip` of the added text on.
 more_same : (start len skip count : ℕ) (text s : List ℕ) → (0 < count → skip + length text ≡ start + len)
     → take count (drop skip s) ≡ take count (drop len (drop start (text ++ s)))
 more_same start len skip zero text s reached = refl
 more_same start len skip (suc n) text s reached =
-    ap (take (suc n)) (sym (drop-drop len start (text ++ s) ∙ ap (λ (k : ℕ). drop k (text ++ s)) (omega (arith, reached (omega arith))) ∙ drop-append-add text s skip))
+    grind (arith, reached, (drop-drop len start (text ++ s)), (drop-append-add text s skip))
 
 -- As much of a text was added to a piece as fits.
 pub longer_piece : (start skipped count : ℕ) (text s : List ℕ) (old new : Piece) → IsPiece start text old → skipped ≡ min old.skip (length s)
@@ -39,27 +40,11 @@ pub longer_piece : (start skipped count : ℕ) (text s : List ℕ) (old new : Pi
     → take new.len new.bytes ≡ take old.len old.bytes ++ take count (drop skipped s) → IsPiece start (text ++ s) new
 longer_piece start skipped count text s old new is most fit skip len cut bytes =
     let longer = length-append text s in
-    let reached : 0 < count → skipped + length text ≡ start + old.len = λ some. elim (cases_Bool old.is_cut) [
-      | inl cut_off ↦ absurd (omega (arith, some, (is.cut cut_off).0, fit))
-      | inr whole ↦ omega (arith, some, is.all whole, most, fit)
-    ] in
+    let reached : 0 < count → skipped + length text ≡ start + old.len = grind (arith, nat_tests, is, old.in_range) in
     record {
-      all = λ none. let both = or_parts _ _ (sym cut ∙ none) in omega (arith, is.all both.0, longer, most, fit, skip, len, ltb-false _ _ both.1);
-      cut = λ cut_off. elim (or_cases _ _ (sym cut ∙ cut_off)) [
-        | inl before ↦ let was = is.cut before in (omega (arith, was.0, fit, len), omega (arith, was.0, was.1, fit, len, longer))
-        | inr now ↦
-            let more = ltb-true _ _ now in (
-              omega (arith, more, fit, len, old.in_range),
-              elim (cases_lt 0 count) [
-                | inl some ↦ omega (arith, reached some, more, len, longer)
-                | inr none ↦ omega (arith, is.within (omega (arith, more, none, fit)), more, none, len, longer)
-              ],
-            )
-      ];
-      within = λ some. elim (cases_lt 0 count) [
-        | inl more ↦ omega (arith, reached more, most, fit, len, longer)
-        | inr none ↦ omega (arith, is.within (omega (arith, some, len, none)), len, none, longer)
-      ];
+      all = grind (arith, nat_tests, is, longer);
+      cut = grind (arith, nat_tests, is, longer, old.in_range);
+      within = grind (arith, nat_tests, is, longer);
       bytes = bytes ∙ ap₂ (λ (x y : List ℕ). x ++ y) (is.bytes ∙ front_same start old.len text s is.within) (more_same start old.len skipped count text s reached)
           ∙ sym (take-add old.len count (drop start (text ++ s))) ∙ ap (λ (n : ℕ). take n (drop start (text ++ s))) (sym len);
     }
@@ -78,22 +63,12 @@ pub more_written : (old mid new : Option (List ℕ)) (text bytes : List ℕ) (do
 more_written old mid new text bytes done count piece is shown some few cut taken more =
     let size : length bytes ≤ piece.len = omega (arith, ap length shown, length-take piece.len piece.bytes) in
     let first = ap (take count) (shown ∙ is.bytes) ∙ take-take count piece.len (drop done text) (omega (arith, few, size)) in
-    let whole = ap (λ (rest : List ℕ). take done text ++ rest) first ∙ sym (take-add done count text) in (
-      elim (cases_lt count (length bytes)) [
-        | inl less ↦ omega (arith, less, size, is.within (omega (arith, less, size)))
-        | inr all ↦ let over = is.cut (cut (omega (arith, all, few))) in omega (arith, over.0, over.1, few, size)
-      ],
-      subst (Appends old new) whole (Appends-trans old mid new _ _ taken more),
-    )
+    let whole = ap (λ (rest : List ℕ). take done text ++ rest) first ∙ sym (take-add done count text) in
+    (grind (arith, is, size, cut), subst (Appends old new) whole (Appends-trans old mid new _ _ taken more))
 
 -- After the first bytes of a text, all of a piece that is not cut were written: so the text is written.
 pub all_written : (old mid new : Option (List ℕ)) (text bytes : List ℕ) (done count : ℕ) (piece : Piece) → IsPiece done text piece → bytes ≡ take piece.len piece.bytes
     → done < length text → count ≡ length bytes → piece.is_cut ≡ false → Appends old mid (take done text) → Appends mid new (take count bytes) → Appends old new text
 all_written old mid new text bytes done count piece is shown some all whole taken more =
-    let sum = is.all whole in
-    let within = is.within (omega (arith, sum, some)) in
-    let same = shown ∙ is.bytes in
-    let size : count ≡ length text - done = omega (arith, sum, within, all, ap length same, length-take piece.len (drop done text), length-drop done text) in
-    let rest : take count bytes ≡ drop done text = ap (take count) same ∙ take-take count piece.len (drop done text) (omega (arith, size, sum, within))
-    ∙ take_all count (drop done text) (omega (arith, size, length-drop done text)) in
-    subst (Appends old new) (ap (λ (x : List ℕ). take done text ++ x) rest ∙ take-append-drop done text) (Appends-trans old mid new _ _ taken more)
+    let same : take done text ++ take count bytes ≡ text = grind (arith, common_steps, is, take-take, take_all, length-take, length-drop, take-append-drop) in
+    subst (Appends old new) same (Appends-trans old mid new _ _ taken more)

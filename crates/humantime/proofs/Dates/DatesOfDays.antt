@@ -8,18 +8,18 @@ use Rattle.humantime.specs.Calendar.{days_in_year}
 use Rattle.humantime.specs.declared.calendar.Date.{Date}
 use Rattle.humantime.specs.Laws.Days.{IsDateOfDay}
 use Rattle.humantime.specs.Results.Dates.{march_days, march_months, march_year, march_month, march_date, date_of}
-use Rattle.humantime.proofs.Dates.Years.{days_of_years_closed, days_in_year_bound, days_of_first_months, days_of_months_closed, within_ranges, march_days_next}
+use Rattle.humantime.proofs.Dates.Years.{days_of_years_closed, days_in_year_bound, days_of_first_months, days_of_months_closed, march_days_next}
 
 -- The months March to December.
 early : (n y k d : ℕ) → n ≤ 2_932_896 → k < 10 → march_months k + d < march_months (k + 1) → march_days y + march_months k + d ≡ n + 135_080
     → IsDateOfDay n (record { year = 1600 + y; month = k + 3; day = d + 1 })
-early n y k d few month within sum = grind (arith, common_steps, within_ranges, nat_tests, (days_of_months_closed (1600 + y) (k + 3)), days_of_years_closed (1600 + y), march_days_next (1600 + y))
+early n y k d few month within sum = grind (arith, common_steps, nat_tests, (days_of_months_closed (1600 + y) (k + 3)), days_of_years_closed (1600 + y), march_days_next (1600 + y))
 
 -- The months January and February.
 late : (n y k d : ℕ) → n ≤ 2_932_896 → 10 ≤ k → march_months k + d < march_months (k + 1) → march_months k + d < days_in_year (1601 + y)
     → march_days y + march_months k + d ≡ n + 135_080
     → IsDateOfDay n (record { year = 1601 + y; month = k - 9; day = d + 1 })
-late n y k d few month within ends sum = grind (arith, nat_tests, within_ranges, (days_in_year_bound (1601 + y)), (days_of_first_months (1601 + y) (k - 10)), days_of_years_closed (1601 + y))
+late n y k d few month within ends sum = grind (arith, nat_tests, (days_in_year_bound (1601 + y)), (days_of_first_months (1601 + y) (k - 10)), days_of_years_closed (1601 + y))
 
 -- The date of the day, in the year that is computed.
 pub date_found : (n y k d : ℕ) (x : Date) → x ≡ march_date y k (d - march_months k) → n ≤ 2_932_896 → y ≡ march_year (n + 135_080)

@@ -9,25 +9,18 @@ use Rattle.humantime.specs.Results.Dates.{date_of}
 use Rattle.humantime.proofs.Dates.Years.{AreWithin, valid_from_test, days_of_years_closed, march_days_next, days_of_months_closed}
 use Rattle.humantime.proofs.Dates.DatesOfDays.{date_of_is}
 
--- The number of days from 1970-01-01 to day `d` of month `m` of year `y`.
-abbrev day_count : ℕ → ℕ → ℕ → ℕ
-day_count y m d = days_of_years (y - 1970) + days_of_months y (m - 1) + (d - 1)
-
 -- The number of days is monotonic in the number of months.
 months_grow : (y m n : ℕ) → m ≤ n → days_of_months y m ≤ days_of_months y n
 unfolding days_of_months
 months_grow y m zero few = grind arith
 months_grow y m (suc n) few = grind (arith, (months_grow y m n), (cases_eq m (suc n)))
 
-month_end : (y m : ℕ) → 1 ≤ m → days_of_months y m ≡ days_of_months y (m - 1) + days_in_month y m
-unfolding days_of_months
-month_end y m some = grind arith
-
 -- The day of a date is before the days of each later month and year.
 pub before_month : (y m d : ℕ) → AreWithin y m d → (later : ℕ) → m < later → days_of_months y (m - 1) + (d - 1) < days_of_months y (later - 1)
-before_month y m d valid later less = omega (arith, month_end y m valid.1.0, months_grow y m (later - 1) (omega arith))
+unfolding days_of_months
+before_month y m d valid later less = grind (arith, (months_grow y m (later - 1)))
 
-pub before_year : (y m d : ℕ) → AreWithin y m d → (later : ℕ) → y < later → day_count y m d < days_of_years (later - 1970)
+pub before_year : (y m d : ℕ) → AreWithin y m d → (later : ℕ) → y < later → days_of_years (y - 1970) + days_of_months y (m - 1) + (d - 1) < days_of_years (later - 1970)
 before_year y m d valid later less =
     grind (arith, (before_month y m d valid 13), (days_of_months_closed y 13), days_of_years_closed, (march_days_next y))
 

@@ -10,12 +10,8 @@ use Rattle.humantime.specs.Results.Dates.{march_days, march_months}
 abbrev pub AreWithin : ℕ → ℕ → ℕ → Type 0
 AreWithin y m d = IsInRange 1970 9999 y × IsInRange 1 12 m × IsInRange 1 (days_in_month y m) d
 
-pub within_ranges : (y m n d : ℕ) → IsTrue (is_in_range 1970 9999 y && is_in_range 1 12 m && is_in_range 1 n d)
-    ↔ (IsInRange 1970 9999 y × IsInRange 1 12 m × IsInRange 1 n d)
-within_ranges y m n d = grind (arith, nat_tests)
-
 pub valid_from_test : (y m d : ℕ) → IsTrue (is_valid y m d) → AreWithin y m d
-valid_from_test y m d = (within_ranges y m (days_in_month y m) d).0
+valid_from_test y m d valid = grind (arith, nat_tests)
 
 pub days_in_year_bound : (y : ℕ) → days_in_year y ≤ 366
 days_in_year_bound y = grind (arith, nat_tests)

@@ -4,15 +4,16 @@ use Rattle.std.proofs.Common.{arith, ◌≡◌, ◌≢◌, ◌↔◌, ◌⊎◌,
 use Rattle.std.specs.List.{AllByRecursion}
 use Rattle.humantime.specs.Durations.Characters.{is_whitespace, bare_zero}
 use Rattle.humantime.specs.Durations.Spans.{SpelledSpan, HasOnly, SpellsEach, SpellsAll, Reads}
-use Rattle.humantime.specs.Durations.Accepted.{additions, value, Formed, fits, AllHaveRoom, Accepted, BareZero, SumOf}
+use Rattle.humantime.specs.Durations.Accepted.{additions, value, Formed, fits, AllHaveRoom, Accepted, BareZero, SumOf, additions_of}
 use Rattle.humantime.specs.Durations.Faults.{NumberOverflow, HasFault}
 use Rattle.humantime.specs.Laws.Texts.{AcceptedAs}
 use Rattle.humantime.proofs.Durations.Reading.OneReading.{not_zero}
 use Rattle.humantime.proofs.Durations.Reading.Spellings.{respelled, spells-append}
-use Rattle.humantime.proofs.Durations.Reading.Summed.{additions-append, within_or_beyond}
-use Rattle.humantime.proofs.Durations.Reading.Outcomes.{items_whole, items_decide_overflow}
+use Rattle.humantime.proofs.Durations.Reading.Summed.{within_or_beyond}
+use Rattle.humantime.proofs.Durations.Reading.Outcomes.{items_whole, items_decide_overflow, outcome_accepted, outcome_fault}
 pub use Rattle.humantime.proofs.Durations.Reading.Spellings.{each-append, spells_each-append}
-use Rattle.humantime.proofs.Durations.Laws.Readings.{accepted_spans, no_value_and_fault}
+use Rattle.humantime.proofs.Durations.Laws.Readings.{accepted_spans}
+use Rattle.std.proofs.lemmas.Grind.{flat_map-append}
 
 -- Whitespace after a span belongs to it.
 spells_each-whitespace : (body whitespace : List ℕ) (s : SpelledSpan) (ss : List SpelledSpan) → SpellsEach body (s ∷ ss) → HasOnly is_whitespace whitespace → SpellsEach (body ++ whitespace) (s ∷ ss)
@@ -38,43 +39,35 @@ pub record AreSpans (text : List ℕ) (spans : List SpelledSpan) (v : ℕ) : Typ
   pub fit : AllByRecursion (λ s. fits s ≡ true) spans
   pub sum : value spans ≡ v
 
--- Such a text is accepted if and only if no addition overflows.
-pub room_accepts : (text : List ℕ) (spans : List SpelledSpan) (v : ℕ) → spans ≢ [] → AreSpans text spans v → Accepted text v ↔ AllHaveRoom (additions spans)
-room_accepts text spans v some h = (
-  λ a. (accepted_spans text spans v (h.front, some) a).0.room,
-  λ room. SumOf spans (h.front, some) (record { formed = h.formed; fit = h.fit; room = room }) h.sum,
-)
-
--- Its fault is an overflow if and only if an addition overflows.
-pub no_room_overflows : (text : List ℕ) (spans : List SpelledSpan) (v : ℕ) → spans ≢ [] → AreSpans text spans v
-    → HasFault text NumberOverflow ↔ ¬ (AllHaveRoom (additions spans))
-no_room_overflows text spans v some h =
-    let reads : Reads text spans = (h.front, some) in (
-      λ f room. no_value_and_fault text v NumberOverflow ((room_accepts text spans v some h).1 room) f,
-      λ none. items_decide_overflow text spans None (items_whole text spans reads h.formed) (not_zero text spans reads) (λ g. none g.room),
+-- Such a text is accepted if and only if no addition overflows, and its fault is an overflow if and only if an addition overflows.
+pub room_decides : (text : List ℕ) (spans : List SpelledSpan) (v : ℕ) → spans ≢ [] → AreSpans text spans v
+    → (Accepted text v ↔ AllHaveRoom (additions spans)) × (HasFault text NumberOverflow ↔ ¬ (AllHaveRoom (additions spans)))
+room_decides text spans v some h =
+    let reads : Reads text spans = (h.front, some) in
+    let accepted = λ (room : AllHaveRoom (additions spans)). SumOf spans reads (record { formed = h.formed; fit = h.fit; room = room }) h.sum in (
+      (λ a. (accepted_spans text spans v reads a).0.room, accepted),
+      (
+        λ f room. grind (arith, (outcome_accepted text v (accepted room)), (outcome_fault text NumberOverflow f)),
+        λ none. items_decide_overflow text spans None (items_whole text spans reads h.formed) (not_zero text spans reads) (λ g. none g.room),
+      ),
     )
 
 both_spans : (a b : List ℕ) (ss ts : List SpelledSpan) (u v : ℕ) → AcceptedAs a ss u → AcceptedAs b ts v → AreSpans (a ++ b) (ss ++ ts) (u + v)
-both_spans a b ss ts u v h k = grind (arith, (accepted_spans a ss u h.0 h.1), (accepted_spans b ts v k.0 k.1), front-append, each-append, additions-append, sum_by-append)
+both_spans a b ss ts u v h k = grind (arith, (accepted_spans a ss u h.0 h.1), (accepted_spans b ts v k.0 k.1), front-append, each-append, flat_map-append, sum_by-append)
 
-pub joined_sum : (a b : List ℕ) (ss ts : List SpelledSpan) (u v : ℕ) → AcceptedAs a ss u → AcceptedAs b ts v
-    → Accepted (a ++ b) (u + v) ↔ AllHaveRoom (additions ss ++ additions ts)
-joined_sum a b ss ts u v h k =
-    rw (← additions-append ss ts) (room_accepts (a ++ b) (ss ++ ts) (u + v) (some-append ss ts h.0.1) (both_spans a b ss ts u v h k))
-
-pub joined_overflow : (a b : List ℕ) (ss ts : List SpelledSpan) (u v : ℕ) → AcceptedAs a ss u → AcceptedAs b ts v
-    → HasFault (a ++ b) NumberOverflow ↔ ¬ (AllHaveRoom (additions ss ++ additions ts))
-joined_overflow a b ss ts u v h k =
-    rw (← additions-append ss ts) (no_room_overflows (a ++ b) (ss ++ ts) (u + v) (some-append ss ts h.0.1) (both_spans a b ss ts u v h k))
+pub joined_room : (a b : List ℕ) (ss ts : List SpelledSpan) (u v : ℕ) → AcceptedAs a ss u → AcceptedAs b ts v
+    → (Accepted (a ++ b) (u + v) ↔ AllHaveRoom (additions ss ++ additions ts)) × (HasFault (a ++ b) NumberOverflow ↔ ¬ (AllHaveRoom (additions ss ++ additions ts)))
+joined_room a b ss ts u v h k =
+    rw (← flat_map-append additions_of ss ts) (room_decides (a ++ b) (ss ++ ts) (u + v) (some-append ss ts h.0.1) (both_spans a b ss ts u v h k))
 
 pub joined_sum_or_overflow : (a b : List ℕ) (u v : ℕ) → Accepted a u → Accepted b v → a ≢ bare_zero → b ≢ bare_zero
     → Accepted (a ++ b) (u + v) ⊎ HasFault (a ++ b) NumberOverflow
 joined_sum_or_overflow a b u v (BareZero z none) y some_a some_b = absurd (some_a z)
 joined_sum_or_overflow a b u v (SumOf ss h g p) (BareZero z none) some_a some_b = absurd (some_b z)
 joined_sum_or_overflow a b u v (SumOf ss h g p) (SumOf ts k l q) some_a some_b =
-    let some = some-append ss ts h.1 in
     let both = both_spans a b ss ts u v (h, SumOf ss h g p) (k, SumOf ts k l q) in
+    let room = room_decides (a ++ b) (ss ++ ts) (u + v) (some-append ss ts h.1) both in
     elim (within_or_beyond (ss ++ ts) both.formed) [
-      | inl g ↦ inl ((room_accepts (a ++ b) (ss ++ ts) (u + v) some both).1 g.room)
-      | inr bad ↦ inr ((no_room_overflows (a ++ b) (ss ++ ts) (u + v) some both).1 (λ room. bad (record { formed = both.formed; fit = both.fit; room = room })))
+      | inl g ↦ inl (room.0.1 g.room)
+      | inr bad ↦ inr (room.1.1 (λ all. bad (record { formed = both.formed; fit = both.fit; room = all })))
     ]

@@ -12,24 +12,16 @@ use Rattle.humantime.proofs.Durations.Reading.Summed.{value-cons}
 use Rattle.humantime.proofs.Durations.Reading.Outcomes.{one_reading, outcome_accepted, outcome_fault}
 
 -- An accepted text is exactly `0`, or it is spans within the limits.
-zero_or_spans_read : (text : List ℕ) (v : ℕ) → Accepted text v → (text ≡ bare_zero) ⊎ ((spans : List SpelledSpan) × Reads text spans × WithinLimits spans)
-zero_or_spans_read text v (BareZero zero none) = inl zero
-zero_or_spans_read text v (SumOf spans reads within sum) = inr (spans, reads, within)
-
 pub zero_or_spans : (text : List ℕ) → IsZeroOrSpans text
 zero_or_spans text = (
-  (λ some. zero_or_spans_read text some.0 some.1),
-  (λ is. elim is [ inl zero ↦ (0, BareZero zero refl) | inr found ↦ (value found.0, SumOf found.0 found.1 found.2 refl) ]),
+  λ some. elim some.1 [ BareZero zero _ ↦ inl zero | SumOf spans reads within _ ↦ inr (spans, reads, within) ],
+  λ is. elim is [ inl zero ↦ (0, BareZero zero refl) | inr found ↦ (value found.0, SumOf found.0 found.1 found.2 refl) ],
 )
 
 -- The value of an accepted text of spans is their sum, and they are within the limits.
 pub accepted_spans : (text : List ℕ) (spans : List SpelledSpan) (v : ℕ) → Reads text spans → Accepted text v → WithinLimits spans × (value spans ≡ v)
 accepted_spans text spans v h (BareZero z none) = absurd (not_zero text spans h z)
 accepted_spans text spans v h (SumOf others k within sum) = rw (one_reading text spans others h k) (within, sum)
-
--- No text has both a value and a fault.
-pub no_value_and_fault : (text : List ℕ) (v : ℕ) (e : Fault) → Accepted text v → HasFault text e → ⊥
-no_value_and_fault text v e a f = grind (arith, (outcome_accepted text v a), (outcome_fault text e f))
 
 -- The value of spans is the sum of what each adds, so their order does not matter.
 value-sum : (spans : List SpelledSpan) → value spans ≡ sum_by (λ s. total (additions_of s)) spans

@@ -19,8 +19,8 @@ pub joined : (a b : List ℕ) → AddWhenJoined a b
 joined a b = record {
   first = readings.zero_or_spans a;
   second = readings.zero_or_spans b;
-  sum = texts.joined_sum a b;
-  overflow = texts.joined_overflow a b;
+  sum = λ ss ts u v h k. (texts.joined_room a b ss ts u v h k).0;
+  overflow = λ ss ts u v h k. (texts.joined_room a b ss ts u v h k).1;
   one = texts.joined_sum_or_overflow a b;
   answer = λ u v x y some_a some_b.
       elim (texts.joined_sum_or_overflow a b u v (accepted_from_outcome a u x) (accepted_from_outcome b v y) some_a some_b) [

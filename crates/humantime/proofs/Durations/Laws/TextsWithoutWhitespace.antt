@@ -2,12 +2,11 @@
 use Rattle.std.proofs.lemmas.Grind.{common_steps}
 use Rattle.std.proofs.Common.{◌≡◌, ℕ, Bool, List, [], ◌∷◌, refl, ap, arith, rules}
 use Rattle.std.proofs.lemmas.Bool.{cases_Bool, or_parts}
-use Rattle.humantime.specs.Durations.Characters.{is_whitespace, is_letter, digits, bare_zero, is_point}
+use Rattle.humantime.specs.Durations.Characters.{is_whitespace, is_letter, digits, bare_zero, is_point, is_digit}
 use Rattle.humantime.specs.Durations.Spans.{SpelledSpan, HasOnly, Spells, SpellsEach}
 use Rattle.humantime.specs.Durations.Accepted.{Accepted, BareZero, SumOf}
 use Rattle.humantime.specs.Laws.Texts.{without_whitespace}
 use Rattle.humantime.proofs.Durations.Reading.Classes.{digit_not_whitespace, whitespace_not_digit, letter_not_whitespace, point_not_numeric}
-use Rattle.humantime.proofs.Durations.Printing.PrintedDigits.{some_digit}
 
 -- Whitespace is removed, and each other character is kept.
 only_whitespace : (cs : List ℕ) → HasOnly is_whitespace cs → without_whitespace cs ≡ []
@@ -35,5 +34,6 @@ spells_each body [] h = ap without_whitespace h
 spells_each body (s ∷ ss) h = (without_whitespace h.0, spells_span body h.0 s h.1, spells_each h.0 ss h.2)
 
 pub accepted_without_whitespace : (text : List ℕ) (v : ℕ) → Accepted text v → Accepted (without_whitespace text) v
-accepted_without_whitespace text v (BareZero z none) = BareZero (rw (z, digit_not_whitespace 48 (some_digit bare_zero (search rules) (omega arith))) refl) none
+unfolding is_digit
+accepted_without_whitespace text v (BareZero z none) = BareZero (rw (z, digit_not_whitespace 48 refl) refl) none
 accepted_without_whitespace text v (SumOf spans reads within sum) = SumOf spans (grind (arith, common_steps, only_whitespace, spells_each, reads)) within sum

@@ -1,6 +1,6 @@
 -- The text that is written count by count is the text of the counts.
 use Rattle.std.proofs.lemmas.Grind.{common_steps}
-use Rattle.std.proofs.Common.{◌≡◌, ℕ, ◌/◌, ◌%◌, ◌<◌, List, [], ◌∷◌, length, refl, ap, ◌∙◌, arith, rules}
+use Rattle.std.proofs.Common.{◌≡◌, ℕ, ◌/◌, ◌%◌, ◌<◌, List, [], ◌∷◌, length, refl, ap, ◌∙◌, arith, rules, ◌++◌}
 use Rattle.std.specs.Prelude.{◌==◌, if◌then◌else◌, codes}
 use Rattle.std.specs.List.{AllByRecursion}
 use Rattle.std.proofs.lemmas.Bool.Decides.{nat_tests}
@@ -36,14 +36,15 @@ or_zero_joined : (ns : List ℕ) (ss : List Suffix) → Lettered ss → or_zero 
 or_zero_joined (n ∷ ns) (s ∷ ss) h = grind (arith, common_steps, nat_tests, length-append, (or_zero_joined ns ss h.1))
 or_zero_joined _ _ h = refl
 
+-- The counts of the units, each of the remainder, which is the last count.
+abbrev in_turn : List ℕ → ℕ → List ℕ
+in_turn [] n = n ∷ []
+in_turn (u ∷ us) n = n / u ∷ in_turn us (n % u)
+
 -- The nine counts of `s` seconds and `n` nanoseconds.
 abbrev counts_of : ℕ → ℕ → List ℕ
 counts_of s n =
-    s / seconds_per_year ∷ s % seconds_per_year / seconds_per_month ∷ s % seconds_per_year % seconds_per_month / seconds_per_day
-    ∷ s % seconds_per_year % seconds_per_month % seconds_per_day / seconds_per_hour
-    ∷ s % seconds_per_year % seconds_per_month % seconds_per_day % seconds_per_hour / seconds_per_minute
-    ∷ s % seconds_per_year % seconds_per_month % seconds_per_day % seconds_per_hour % seconds_per_minute
-    ∷ n / nanos_per_milli ∷ n % nanos_per_milli / nanos_per_micro ∷ n % nanos_per_milli % nanos_per_micro ∷ []
+    in_turn (seconds_per_year ∷ seconds_per_month ∷ seconds_per_day ∷ seconds_per_hour ∷ seconds_per_minute ∷ []) s ++ in_turn (nanos_per_milli ∷ nanos_per_micro ∷ []) n
 
 pub written_is_text : (d : ℕ) → or_zero (with_counts [] (counts_of (d / nanos_per_second) (d % nanos_per_second)) suffixes) ≡ duration_text d
 unfolding duration_text

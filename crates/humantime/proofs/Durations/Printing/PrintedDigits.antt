@@ -15,16 +15,7 @@ unfolding is_digit
 all_digits [] h = (h, refl)
 all_digits (c ∷ cs) h = grind (arith, nat_tests, digit_is_numeric, digit_from_value, (all_digits cs h.1))
 
-pub some_digit : (ds : List ℕ) → AllDigits 10 ds → 0 < length ds → begins is_digit ds ≡ true
+pub decimal_number : (n : ℕ) → n < 2 ^ 64
+    → (begins is_digit (decimal n) ≡ true) × HasOnly is_numeric (decimal n) × (digits (decimal n) ≡ decimal n) × (decimal_value (decimal n) ≡ n)
 unfolding is_digit
-some_digit ds h k = grind (arith, nat_tests)
-
--- The digits are those of a number, whose value is `n`.
-pub record IsNumber (ds : List ℕ) (n : ℕ) : Type 0 where
-  pub starts : begins is_digit ds ≡ true
-  pub numeric : HasOnly is_numeric ds
-  pub its_digits : digits ds ≡ ds
-  pub value : decimal_value ds ≡ n
-
-pub decimal_number : (n : ℕ) → n < 2 ^ 64 → IsNumber (decimal n) n
-decimal_number n h = grind (arith, (decimal_is_IsNumeral n h), some_digit, all_digits)
+decimal_number n h = grind (arith, nat_tests, (decimal_is_IsNumeral n h), all_digits)

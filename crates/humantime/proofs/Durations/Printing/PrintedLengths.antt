@@ -38,17 +38,13 @@ counts_length (u ∷ us) (k ∷ ks) m r h below =
     grind (arith, (div_below r u.0 (10 ^ k)), length-append, (length-decimal-le k (r / u.0)), mod_below, (counts_length us ks u.0 (r % u.0) h.4))
 counts_length _ _ m r h below = grind arith
 
-abbrev sizes : List ℕ
-sizes = 12 ∷ 2 ∷ 2 ∷ 2 ∷ 2 ∷ 2 ∷ 3 ∷ 3 ∷ 3 ∷ []
-
 joined_length : (ps : List (List ℕ)) → spaced_length ps ≤ 65 → length (joined_by_space ps) ≤ 64
 joined_length ps h = grind (arith, join_length)
 
 pub canon_length : (d : ℕ) → d / nanos_per_second ≤ u64_max → (text : List ℕ) → IsCanonicalText d text → length text ≤ 64
 unfolding duration_text
 canon_length d h text canon =
-    grind (arith, (counts_length sized_units sizes sum_limit d (grind arith)), (canon_is_text d text canon), (joined_length (printed_counts (divided weights d) suffixes)))
+    grind (arith, (counts_length sized_units (12 ∷ 2 ∷ 2 ∷ 2 ∷ 2 ∷ 2 ∷ 3 ∷ 3 ∷ 3 ∷ []) sum_limit d (grind arith)), (canon_is_text d text canon), (joined_length (printed_counts (divided weights d) suffixes)))
 
 pub counts_small : (d : ℕ) (counts : List ℕ) → AreCounts d counts → (slice_index counts 1 ≤ 11) × (slice_index counts 2 ≤ 30)
-counts_small d counts greatest =
-    rw (counts_divided d counts greatest) (omega arith, omega arith)
+counts_small d counts greatest = rw (counts_divided d counts greatest) (omega arith, omega arith)

@@ -23,8 +23,11 @@ use Rattle.humantime.proofs.Durations.Reading.Summed.{value-cons}
 use Rattle.humantime.proofs.Durations.Laws.JoinedTexts.{each-append}
 use Rattle.humantime.proofs.Durations.Laws.SmallAdditions.{IsSmall, small_have_room}
 use Rattle.humantime.proofs.Durations.Printing.PrintedDigits.{decimal_number}
-use Rattle.humantime.proofs.Durations.Printing.PrintedUnits.{space, word_for, span_for, is_of_kind, IsPrintedWord, is_word-true, sized_units, counts_of_units, is_table, table, sum_limit, three}
+use Rattle.humantime.proofs.Durations.Printing.PrintedUnits.{space, word_for, span_for, is_of_kind, IsPrintedWord, is_word-true, sized_units, counts_of_units, is_table, table, sum_limit}
 use Rattle.humantime.proofs.Durations.Printing.GreatestCounts.{canon_is_text}
+use Rattle.std.proofs.lemmas.Bool.{and_parts}
+use Rattle.humantime.proofs.OnLiterals.{humantime_on_literals}
+use Rattle.humantime.proofs.Durations.Reading.Outcomes.{accepted_from_outcome}
 
 -- The count is printed as the text of its span, which keeps all limits.
 pub record IsPrintedSpan (n : ℕ) (s : Suffix) : Type 0 where
@@ -46,12 +49,12 @@ printed_span : (w m n : ℕ) (s : Suffix) → IsPrintedWord w m (word_for n s) �
 printed_span w m n s i below whole =
     let few = few m n i.unit.whole i.some i.kind (rw i.weight below) (rw i.weight whole) in
     let number = decimal_number n few.0 in
-    let adds : additions_of (span_for n s) ≡ times n i.unit.whole ∷ [] = grind (arith, common_steps, number.value, i.is) in
+    let adds : additions_of (span_for n s) ≡ times n i.unit.whole ∷ [] = grind (arith, common_steps, number.3, i.is) in
     let is : IsPrintedSpan n s = record {
       utf8 = rw append_assoc (IsUtf8-append (decimal n) (word_for n s) (IsUtf8-from_ascii (decimal n) (IsAscii-decimal n few.0)) i.utf8);
       spells = λ white only. grind (arith, common_steps, number, count_chars);
-      formed = record { short = grind (arith, common_steps, number.value); word = rw i.is refl };
-      fits = rw i.is (grind (arith, number.value, few.1));
+      formed = record { short = grind (arith, common_steps, number.3); word = rw i.is refl };
+      fits = rw i.is (grind (arith, number.3, few.1));
       small = rw adds (few.2, tt);
     } in
     (is, rw (adds, ← i.weight) (omega (arith, few.3)))
@@ -67,13 +70,11 @@ abbrev pub AllPrintedSpans : List (ℕ × Suffix) → Type 0
 AllPrintedSpans cs = AllByRecursion (λ c. IsPrintedSpan c.0 c.1) cs
 
 -- The counts that are printed are spans, and the sum of their spans is `d`.
-abbrev ArePrintedSpans : ℕ → List (ℕ × Suffix) → Type 0
-ArePrintedSpans d cs = AllPrintedSpans (shown cs) × (value (spans_of (shown cs)) ≡ d)
-
-shown_spans : (us : List (ℕ × Suffix)) (m d : ℕ) → is_table us m ≡ true → d < m → d < sum_limit → ArePrintedSpans d (counts_of_units us d)
+shown_spans : (us : List (ℕ × Suffix)) (m d : ℕ) → is_table us m ≡ true → d < m → d < sum_limit
+    → AllPrintedSpans (shown (counts_of_units us d)) × (value (spans_of (shown (counts_of_units us d))) ≡ d)
 shown_spans [] m d h below whole = (tt, grind (arith, nat_tests))
 shown_spans (u ∷ us) m d h below whole =
-    grind (arith, is_word-true, three, nat_tests, value-cons, (printed_span u.0 m (d / u.0) u.1), (mod_below d u.0), (shown_spans us u.0 (d % u.0)))
+    grind (arith, is_word-true, and_parts, nat_tests, value-cons, (printed_span u.0 m (d / u.0) u.1), (mod_below d u.0), (shown_spans us u.0 (d % u.0)))
 
 -- ---- the text of these spans
 
@@ -96,38 +97,22 @@ counts_spell (c ∷ d ∷ cs) h =
     (rest, rw (chars_space (printed_count c.0 c.1) (counts_text (d ∷ cs)) h.0.utf8) here, counts_spell (d ∷ cs) h.1)
 
 -- The spans keep their limits, and each adds little.
-pub record SpansAreWithin (spans : List SpelledSpan) : Type 0 where
-  pub formed : AllByRecursion Formed spans
-  pub fit : AllByRecursion (λ s. fits s ≡ true) spans
-  pub small : AllByRecursion IsSmall (additions spans)
-
-counts_within : (cs : List (ℕ × Suffix)) → AllPrintedSpans cs → SpansAreWithin (spans_of cs)
-counts_within [] h = record { formed = tt; fit = tt; small = tt }
+counts_within : (cs : List (ℕ × Suffix)) → AllPrintedSpans cs
+    → AllByRecursion Formed (spans_of cs) × AllByRecursion (λ s. fits s ≡ true) (spans_of cs) × AllByRecursion IsSmall (additions (spans_of cs))
+counts_within [] h = (tt, tt, tt)
 counts_within (c ∷ cs) h = grind (arith, (counts_within cs h.1), each-append)
 
 -- The text of counts whose sum is a duration is accepted with that duration.
-counts_accepted : (c : ℕ × Suffix) (cs : List (ℕ × Suffix)) (d : ℕ) → AllPrintedSpans (c ∷ cs) → value (spans_of (c ∷ cs)) ≡ d → d / nanos_per_second ≤ u64_max
-    → Accepted (chars (counts_text (c ∷ cs))) d
-counts_accepted c cs d h sum short =
-    let within = counts_within (c ∷ cs) h in
-    let room = small_have_room (additions (spans_of (c ∷ cs))) within.small (rw sum short) in
-    let reads : Reads (chars (counts_text (c ∷ cs))) (spans_of (c ∷ cs)) =
-    (record { whitespace = []; body = _; whole = refl; only_whitespace = tt; each = counts_spell (c ∷ cs) h }, λ e. cc) in
-    SumOf (spans_of (c ∷ cs)) reads (record { formed = within.formed; fit = within.fit; room = room }) sum
-
--- If all counts are zero, the text is that of zero seconds.
-zero_accepted : Accepted (chars (codes "0s")) 0
-unfolding is_letter scale_of_word is_utf8 chars encode
-zero_accepted =
-    let s : Suffix = (codes "s", false) in
-    let second = printed_span nanos_per_second sum_limit 0 s (is_word-true nanos_per_second sum_limit (codes "s") refl) (omega arith) (omega arith) in
-    let zero : codes "0s" ≡ printed_count 0 s = rw (decimal_digit 0 (omega arith)) refl in
-    subst (λ (l : List ℕ). Accepted (chars l) 0) (sym zero) (counts_accepted (0, s) [] 0 (second.0, tt) (value-cons (span_for 0 s) [] ∙ omega (arith, second.1)) (omega arith))
-
 all_accepted : (cs : List (ℕ × Suffix)) (d : ℕ) → AllPrintedSpans cs → value (spans_of cs) ≡ d → d / nanos_per_second ≤ u64_max
     → Accepted (chars (joined_by_space (map (λ c. printed_count c.0 c.1) cs))) d
-all_accepted [] d h sum short = subst (Accepted (chars (codes "0s"))) sum zero_accepted
-all_accepted (c ∷ cs) d h sum short = counts_accepted c cs d h sum short
+unfolding humantime_on_literals
+all_accepted [] d h sum short = subst (Accepted (chars (codes "0s"))) sum (accepted_from_outcome (chars (codes "0s")) 0 refl)
+all_accepted (c ∷ cs) d h sum short =
+    let within = counts_within (c ∷ cs) h in
+    let room = small_have_room (additions (spans_of (c ∷ cs))) within.2 (rw sum short) in
+    let reads : Reads (chars (counts_text (c ∷ cs))) (spans_of (c ∷ cs)) =
+    (record { whitespace = []; body = _; whole = refl; only_whitespace = tt; each = counts_spell (c ∷ cs) h }, λ e. cc) in
+    SumOf (spans_of (c ∷ cs)) reads (record { formed = within.0; fit = within.1; room = room }) sum
 
 -- The canonical text of a duration is accepted with its value.
 pub canon_reads : (d : ℕ) → d / nanos_per_second ≤ u64_max → (text : List ℕ) → IsCanonicalText d text → Accepted (chars text) d

@@ -18,13 +18,9 @@ use Rattle.humantime.specs.Durations.Counts.{Suffix, weights, suffixes}
 abbrev pub space : ℕ
 space = 32
 
--- The word of a suffix, in the singular or in the plural.
-abbrev printed_word : Suffix → Bool → List ℕ
-printed_word s many = s.0 ++ cond (s.1 && many) (codes "s") []
-
 -- The word after a count of `n`, and the span of that count.
 abbrev pub word_for : ℕ → Suffix → List ℕ
-word_for n s = printed_word s (nat_lt 1 n)
+word_for n s = s.0 ++ cond (s.1 && nat_lt 1 n) (codes "s") []
 
 abbrev pub span_for : ℕ → Suffix → SpelledSpan
 span_for n s = record { number = decimal n; fraction = None; word = chars (word_for n s) }
@@ -45,11 +41,10 @@ pub record IsPrintedWord (w m : ℕ) (word : List ℕ) : Type 0 where
   pub letters : HasOnly is_letter (chars word)
   pub first : begins is_letter (chars word) ≡ true
 
-abbrev counts : ℕ → ℕ → Option Scale → Bool
-counts w m o = is_some_and (λ u. (quantity_nanos u.whole == w) && nat_lt 0 (size u.whole) && is_of_kind m u.whole) o
-
 abbrev is_word : ℕ → ℕ → List ℕ → Bool
-is_word w m word = is_utf8 word && counts w m (scale_of_word (chars word)) && list_all is_letter (chars word) && begins is_letter (chars word)
+is_word w m word =
+    is_utf8 word && list_all is_letter (chars word) && begins is_letter (chars word)
+    && is_some_and (λ u. (quantity_nanos u.whole == w) && nat_lt 0 (size u.whole) && is_of_kind m u.whole) (scale_of_word (chars word))
 
 only_from : (p : ℕ → Bool) (cs : List ℕ) → list_all p cs ≡ true → HasOnly p cs
 only_from p [] h = tt
@@ -70,10 +65,7 @@ counts_of_units (u ∷ us) d = (d / u.0, u.1) ∷ counts_of_units us (d % u.0)
 -- Each suffix has words of its weight, if the remainder is less than `m`.
 abbrev pub is_table : List (ℕ × Suffix) → ℕ → Bool
 is_table [] m = m == 1
-is_table (u ∷ us) m = is_word u.0 m (printed_word u.1 true) && is_word u.0 m (printed_word u.1 false) && is_table us u.0
-
-pub three : (a b c : Bool) → (a && b && c) ≡ true → (a ≡ true) × (b ≡ true) × (c ≡ true)
-three a b c h = grind arith
+is_table (u ∷ us) m = is_word u.0 m (word_for 1 u.1) && is_word u.0 m (word_for 2 u.1) && is_table us u.0
 
 -- The upper bound of durations.
 abbrev pub sum_limit : ℕ

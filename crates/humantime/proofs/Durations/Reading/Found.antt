@@ -37,7 +37,7 @@ read_on : (text front rest : List ℕ) (first : Bool) (spans : List SpelledSpan)
     → (here : List ℕ) × IsReadTo text false (front ++ here) (spans ++ span_of rest ∷ []) (next_of rest)
 read_on text front rest first spans r f =
     let w = written_here rest f in
-    grind (arith, common_steps, w, (front_push front w.0 spans (span_of rest) r.split.spelled w.1.spells), (each-append Formed spans (span_of rest ∷ []) r.formed (formed_here rest f, tt)), begins-drop_while, ends-append)
+    grind (arith, common_steps, w, (front_push front w.0 spans (span_of rest) r.split.spelled w.2), (each-append Formed spans (span_of rest ∷ []) r.formed (formed_here rest f, tt)), begins-drop_while, ends-append)
 
 -- The leading whitespace of a text is skipped, and no span is parsed yet.
 begun : (text : List ℕ) → IsReadTo text true (take_while is_whitespace text) [] (drop_while is_whitespace text)

@@ -18,7 +18,6 @@ one_each body (s ∷ ss) (t ∷ ts) h k = grind (arith, (first_here body [] s ss
 one_each body ss ts h k = grind (arith, begins_not_nil, each_starts)
 
 pub one_reading : (text : List ℕ) (ss ts : List SpelledSpan) → Reads text ss → Reads text ts → ss ≡ ts
-unfolding split_whole
 one_reading text ss ts h k =
     grind (arith, common_steps, (front_begins _ _ _ _ (split_whole _ _ h.0)), (front_begins _ _ _ _ (split_whole _ _ k.0)), one_each)
 

@@ -59,19 +59,14 @@ outcome_accepted text v (SumOf spans reads within sum) = grind (arith, (outcome_
 over_outcome : (text : List ℕ) (e : Fault) (h : HasFault text e) → BreaksLimit h.spans h.rest e → duration_answer text ≡ Err e
 over_outcome text e h b =
     let more = walk_from false text (next_of h.rest) in
+    let here = span_of h.rest ∷ [] in
+    let rest = map span_of more.starts in
     let walk = front_walked text h.front h.rest h.spans h.split h.within.formed (inr (closes_digit h.front h.rest b.span.number.digit)) in
-    grind (
-      arith,
-      (walk-right (first_after true h.spans) text h.rest (fine_goes text h.rest b.span)),
-      walk,
-      (duration_answer-items text h.not_zero),
-      (sum_too_large (h.spans ++ span_of h.rest ∷ map span_of more.starts) more.stop),
-      (items_found text).formed,
-      (append_assoc h.spans (span_of h.rest ∷ []) (map span_of more.starts)),
-      (within_front (h.spans ++ span_of h.rest ∷ []) (map span_of more.starts)),
-      (each-append Formed h.spans (span_of h.rest ∷ [])),
-      (formed_here h.rest b.span),
-    )
+    let right = walk-right (first_after true h.spans) text h.rest (fine_goes text h.rest b.span) in
+    let large = sum_too_large (h.spans ++ span_of h.rest ∷ rest) more.stop in
+    let front = within_front (h.spans ++ here) rest in
+    let formed = (items_found text).formed in
+    grind (arith, walk, right, (duration_answer-items text h.not_zero), formed, large, front, (append_assoc h.spans here rest), (each-append Formed h.spans here))
 
 pub outcome_fault : (text : List ℕ) (e : Fault) → HasFault text e → duration_answer text ≡ Err e
 unfolding sum_spans
@@ -97,10 +92,7 @@ accepted_from_outcome text v h = elim (zero_or_not text) [
 fault_read : (text : List ℕ) (e : Fault) → text ≢ bare_zero → duration_answer text ≡ Err e → HasFault text e
 fault_read text e some h =
     let i = items_found text in
-    elim (summed_fault (items text).0 (items text).1 e i.formed (sym (duration_answer-items text some) ∙ h)) [
-      | inl stopped ↦ items_decide_fault text (items text).0 e (rw stopped.1 at i) some stopped.0
-      | inr beyond ↦ rw (← beyond.1) (too_large_found text some beyond.0)
-    ]
+    grind (arith, (summed_fault (items text).0 (items text).1 e i.formed), (duration_answer-items text some), (items_decide_fault text (items text).0 e), i, too_large_found)
 
 pub fault_from_outcome : (text : List ℕ) (e : Fault) → duration_answer text ≡ Err e → HasFault text e
 fault_from_outcome text e h = grind (arith, duration_answer-zero, fault_read)

@@ -19,12 +19,9 @@ by_count : (n : ℕ) (text : List ℕ) (P : Bool → List ℕ → Walk → Type 
 unfolding walk
 by_count n text P s first [] h = s.end first
 by_count zero text P s first (c ∷ cs) h = absurd (omega arith)
-by_count (suc n) text P s first (c ∷ cs) h = by (fault_at text (c ∷ cs)) refl (λ d. let k = next_smaller (c ∷ cs) d in by_count n text P s false (next_of (c ∷ cs)) (omega arith))
-  where
-    by : (o : Option Fault) → fault_at text (c ∷ cs) ≡ o → (begins is_digit (c ∷ cs) ≡ true → P false (next_of (c ∷ cs)) (walk n false text (next_of (c ∷ cs))))
-        → P first (c ∷ cs) (elim o [ None ↦ one_more (c ∷ cs) (walk n false text (next_of (c ∷ cs))) | Some e ↦ empty_walk (c ∷ cs) (Some e) ])
-    by None e more = s.right first (c ∷ cs) _ e (more (right_begins text (c ∷ cs) e))
-    by (Some f) e more = s.wrong first (c ∷ cs) f (λ n. cc) e
+by_count (suc n) text P s first (c ∷ cs) h =
+    let rest = c ∷ cs in
+    grind (arith, (s.wrong first rest), (s.right first rest), (next_smaller rest), (right_begins text rest), (by_count n text P s false (next_of rest)))
 
 pub by_walk : (text : List ℕ) (P : Bool → List ℕ → Walk → Type 0) → Steps text P → (first : Bool) (rest : List ℕ) → P first rest (walk_from first text rest)
 by_walk text P s first rest = by_count (length rest) text P s first rest (omega arith)

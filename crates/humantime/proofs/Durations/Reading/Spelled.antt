@@ -38,9 +38,6 @@ pub record IsReadToWord (rest number_text fraction_text tail : List ℕ) (fracti
   pub tail_is : after_fraction rest ≡ tail
   pub some : fraction ≢ Some []
 
-spelling_parts : (here next : List ℕ) (s : SpelledSpan) (h : Spells here s []) → here ++ next ≡ h.number_text ++ (h.fraction_text ++ (s.word ++ (h.whitespace ++ next)))
-spelling_parts here next s h = ap (λ (x : List ℕ). x ++ next) (spells_alone here s h) ∙ simp append_assoc
-
 -- The number and the fraction of a span are parsed up to its word.
 pub read_spelled : (rest next : List ℕ) (s : SpelledSpan) (h : Spells rest s next)
     → IsReadToWord rest h.number_text h.fraction_text (s.word ++ (h.whitespace ++ next)) s.fraction
@@ -62,8 +59,8 @@ spelled_here here next s h o no_whitespace =
     let letter = letters_begin s.word h.word in
     let f : may_follow_span (h.whitespace ++ next) ≡ true = followed h.number_text h.fraction_text s.word h.whitespace here next (spells_alone here s h) h.word.0 letter h.only_whitespace o in
     let stops : begins is_letter (h.whitespace ++ next) ≡ false = grind (arith, letter_not_whitespace, nat_tests) in
-    rw (spelling_parts here next s h)
-    (grind (arith, (f), (stops), (letter), begins-append, begins_not_nil, take_while-append, drop_while-append, fraction_read))
+    rw (spells_alone here s h)
+    (simp append_assoc (grind (arith, (f), (stops), (letter), begins-append, begins_not_nil, take_while-append, drop_while-append, fraction_read)))
 
 fraction_shorter : (cs : List ℕ) → length (unwrap_or (option_map after_number (after_point cs)) cs) ≤ length cs
 fraction_shorter cs = grind (arith, drop_while_shorter)

@@ -5,23 +5,16 @@ use Rattle.std.proofs.lemmas.Grind.{common_steps}
 use Rattle.humantime.specs.Durations.Characters.{is_whitespace}
 use Rattle.humantime.specs.Durations.Spans.{SpelledSpan, HasOnly, Spells, SpellsEach}
 
--- The text is a spelling of the span alone, followed by the rest.
-pub record IsApart (text : List ℕ) (span : SpelledSpan) (rest : List ℕ) : Type 0 where
-  pub here : List ℕ
-  pub whole : text ≡ here ++ rest
-  pub spells : Spells here span []
-
 -- The same parts with other whitespace, or with another rest.
 pub respelled : (text rest here next white : List ℕ) (s : SpelledSpan) (h : Spells text s rest)
     → here ≡ h.number_text ++ (h.fraction_text ++ (s.word ++ (white ++ next))) → HasOnly is_whitespace white → Spells here s next
 respelled text rest here next white s h whole only = grind arith
 
-pub apart : (text rest : List ℕ) (s : SpelledSpan) → Spells text s rest → IsApart text s rest
-apart text rest s h = record {
-  here = h.number_text ++ (h.fraction_text ++ (s.word ++ h.whitespace));
-  whole = h.whole ∙ sym (simp append_assoc);
-  spells = respelled text rest _ [] h.whitespace s h (sym (simp append-nil)) h.only_whitespace;
-}
+-- The text is a spelling of the span alone, followed by the rest.
+pub apart : (text rest : List ℕ) (s : SpelledSpan) → Spells text s rest → (here : List ℕ) × (text ≡ here ++ rest) × Spells here s []
+apart text rest s h =
+    let here = h.number_text ++ (h.fraction_text ++ (s.word ++ h.whitespace)) in
+    (here, grind (arith, append_assoc, h.whole), respelled text rest here [] h.whitespace s h (sym (simp append-nil)) h.only_whitespace)
 
 pub spells-append : (text rest more : List ℕ) (s : SpelledSpan) → Spells text s rest → Spells (text ++ more) s (rest ++ more)
 spells-append text rest more s h = grind (arith, common_steps)

@@ -19,9 +19,6 @@ use Rattle.humantime.proofs.Durations.Reading.Runs.{take_while-drop_while}
 no_letter_tells : (cs : List ℕ) → Decides (begins (λ c. not (is_letter c)) cs) ((take_while is_letter cs ≡ []) × (drop_while is_letter cs ≢ []))
 no_letter_tells cs = grind (arith, common_steps)
 
-no_digits_tells : (fraction : Option (List ℕ)) → Decides (is_some_and (λ ds. length ds == 0) fraction) (fraction ≡ Some [])
-no_digits_tells fraction = grind (arith, common_steps, nat_tests)
-
 pub some_letters : (word : List ℕ) → IsSome (scale_of_word word) → word ≢ []
 unfolding scale_of_word
 some_letters word h e = grind arith
@@ -31,7 +28,7 @@ some_letters word h e = grind arith
 -- An error of the table is found by the tests.
 pub stops_at : (text front : List ℕ) (spans : List SpelledSpan) (rest : List ℕ) (e : Fault) → rest ≢ [] → IsStoppedWith text front spans rest e → fault_at text rest ≡ Some e
 unfolding stop_at scale_of_word
-stops_at text front spans rest e some stops = grind (arith, no_letter_tells, no_digits_tells, take_while-drop_while)
+stops_at text front spans rest e some stops = grind (arith, common_steps, nat_tests, no_letter_tells, take_while-drop_while)
 
 -- The tests find no error in a whole span.
 pub fine_goes : (text rest : List ℕ) → BeginsSpan rest → fault_at text rest ≡ None

@@ -20,9 +20,6 @@ within_from t (s ∷ ss) = fits s && room_from t (additions_of s) && within_from
 pub value-cons : (s : SpelledSpan) (ss : List SpelledSpan) → value (s ∷ ss) ≡ total (additions_of s) + value ss
 value-cons s ss = sum_by-append quantity_nanos (additions_of s) (additions ss)
 
-pub additions-append : (ss ts : List SpelledSpan) → additions (ss ++ ts) ≡ additions ss ++ additions ts
-additions-append ss ts = flat_map-append additions_of ss ts
-
 -- Spans within the limits are added to the sum. Other spans are an overflow.
 sum_spans-is : (t : ℕ) (ss : List SpelledSpan) (items : List (Result SpelledSpan Fault))
     → sum_spans t (map Ok ss ++ items) ≡ (if within_from t ss then sum_spans (t + value ss) items else Err NumberOverflow)

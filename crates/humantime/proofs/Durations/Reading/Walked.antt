@@ -26,17 +26,14 @@ closes_digit front rest d = grind (arith, digit_is_numeric)
 pub each_starts : (body : List ℕ) (s : SpelledSpan) (ss : List SpelledSpan) → SpellsEach body (s ∷ ss) → begins is_digit body ≡ true
 each_starts body s ss h = grind arith
 
-starts_before : (body rest : List ℕ) (s : SpelledSpan) (ss : List SpelledSpan) → SpellsEach body (s ∷ ss) → begins is_digit (body ++ rest) ≡ true
-starts_before body rest s ss h = let d = each_starts body s ss h in begins-append is_digit body rest (begins_not_nil is_digit body d) ∙ d
-
 no_whitespace_before : (body rest : List ℕ) (ss : List SpelledSpan) → SpellsEach body ss → begins is_whitespace rest ≡ false → begins is_whitespace (body ++ rest) ≡ false
 no_whitespace_before body rest [] h e = rw h e
-no_whitespace_before body rest (s ∷ ss) h e = begins_other is_digit is_whitespace digit_not_whitespace (body ++ rest) (starts_before body rest s ss h)
+no_whitespace_before body rest (s ∷ ss) h e = grind (arith, each_starts, begins-append, begins_not_nil, digit_not_whitespace)
 
 -- Each spelling except for the last one ends before a digit.
 closes_here : (here more rest : List ℕ) (ss : List SpelledSpan) → SpellsEach more ss → Closes (here ++ more) rest → Closes here (more ++ rest)
 closes_here here more rest [] h o = grind (arith, append-nil)
-closes_here here more rest (s ∷ ss) h o = closes_digit here (more ++ rest) (starts_before more rest s ss h)
+closes_here here more rest (s ∷ ss) h o = grind (arith, each_starts, begins-append, begins_not_nil, closes_digit)
 
 closes_more : (xs ys rest : List ℕ) (ss : List SpelledSpan) → SpellsEach ys ss → (ss ≡ []) ⊎ Closes (xs ++ ys) rest → (ss ≡ []) ⊎ Closes ys rest
 closes_more xs ys rest [] h o = inl refl
@@ -44,7 +41,10 @@ closes_more xs ys rest (s ∷ ss) h o = rw (ends-append is_whitespace xs ys (beg
 
 -- The first of these spans is the span at the start of the text.
 pub first_here : (body rest : List ℕ) (s : SpelledSpan) (ss : List SpelledSpan) (h : SpellsEach body (s ∷ ss)) → Closes body rest → begins is_whitespace rest ≡ false → IsSpelledAt (body ++ rest) s (h.0 ++ rest)
-first_here body rest s ss h o e = grind (arith, common_steps, (spelled_here (apart body h.0 s h.1).here (h.0 ++ rest) s (apart body h.0 s h.1).spells (closes_here (apart body h.0 s h.1).here h.0 rest ss h.2 (subst (λ b. Closes b rest) (apart body h.0 s h.1).whole o)) (no_whitespace_before h.0 rest ss h.2 e)))
+first_here body rest s ss h o e =
+    let p = apart body h.0 s h.1 in
+    let closes = closes_here p.0 h.0 rest ss h.2 (rw p.1 at o) in
+    grind (arith, common_steps, p, (spelled_here p.0 (h.0 ++ rest) s p.2 closes (no_whitespace_before h.0 rest ss h.2 e)))
 
 -- Whether no span precedes the rest, after these spans.
 abbrev pub first_after : Bool → List SpelledSpan → Bool
@@ -62,7 +62,7 @@ through text body rest first [] h f o e = rw h refl
 through text body rest first (s ∷ ss) h f (inl o) e = cc
 through text body rest first (s ∷ ss) h f (inr o) e =
     let p = apart body h.0 s h.1 in
-    let more = (through text h.0 rest false ss h.2 f.1 (closes_more p.here h.0 rest ss h.2 (inr (rw p.whole at o))) e) in
+    let more = (through text h.0 rest false ss h.2 f.1 (closes_more p.0 h.0 rest ss h.2 (inr (rw p.1 at o))) e) in
     let i = first_here body rest s ss h o e in
     grind (arith, (i), more, (walk-right first text (body ++ rest) (fine_goes text (body ++ rest) (grind arith))))
 

@@ -13,34 +13,25 @@ use Rattle.std.proofs.lemmas.Grind.{common_steps}
 use Rattle.humantime.proofs.Durations.Reading.Spelled.{next_of}
 use Rattle.humantime.proofs.Durations.Reading.Stopping.{some_letters}
 
--- A spelling of the span at the start of the rest ends in whitespace if no digit follows it.
-pub record IsWritten (rest here : List ℕ) : Type 0 where
-  pub whole : rest ≡ here ++ next_of rest
-  pub spells : Spells here (span_of rest) []
-  pub closes : next_of rest ≢ [] → begins is_digit (next_of rest) ≡ false → ends is_whitespace here ≡ true
-
 -- The point and the text after it up to the word, if a text begins with a point.
 abbrev pub point_and_digits : List ℕ → List ℕ
 point_and_digits [] = []
 point_and_digits (c ∷ cs) = if is_point c then c ∷ take_while is_numeric cs else []
 
-fraction_spelled : (m : List ℕ) → option_map number_of (after_point m) ≢ Some [] → SpellsFraction (point_and_digits m) (option_map number_of (after_point m))
-unfolding is_point
-fraction_spelled m some = grind (arith, take_while-only, nat_tests)
-
 -- A spelling has a digit and a letter.
 pub spelling_some : (text rest : List ℕ) (s : SpelledSpan) → Spells text s rest → 1 < length text
 spelling_some text rest s h = grind (arith, common_steps)
 
-pub written_here : (rest : List ℕ) → BeginsSpan rest → (here : List ℕ) × IsWritten rest here
+-- A spelling of the span at the start of the rest ends in whitespace if no digit follows it.
+pub written_here : (rest : List ℕ) → BeginsSpan rest → (here : List ℕ) × (rest ≡ here ++ next_of rest) × Spells here (span_of rest) []
+    × (next_of rest ≢ [] → begins is_digit (next_of rest) ≡ false → ends is_whitespace here ≡ true)
+unfolding is_point
 written_here rest h =
     let some = some_letters (word_of rest) h.unit in (
       take_while is_numeric rest ++ (point_and_digits (after_number rest) ++ (word_of rest ++ take_while is_whitespace (after_word rest))),
-      record {
-        whole = grind (arith, common_steps, take_while-drop_while);
-        spells = (grind (arith, append-nil, take_while-only, begins_take_while, digit_is_numeric, fraction_spelled, (some), (h)));
-        closes = λ more e. (grind (arith, ends-append, ends_only, take_while-only, (h.ended), (more), (e)));
-      },
+      grind (arith, common_steps, take_while-drop_while),
+      grind (arith, append-nil, take_while-only, begins_take_while, digit_is_numeric, nat_tests, (some), (h)),
+      λ more e. grind (arith, ends-append, ends_only, take_while-only, (h.ended), (more), (e)),
     )
 
 -- The span at the start of the rest is well formed.

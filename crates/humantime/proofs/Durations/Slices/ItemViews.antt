@@ -21,7 +21,7 @@ use Rattle.humantime.proofs.Durations.Bytes.Trimming.{spelled_at}
 -- The views of the spans of a walk represent these spans.
 spans_read : (text : List ℕ) (starts : List (List ℕ)) (stop : Option Fault) → map span_in (items_of (map (view_at text) starts) stop) ≡ items_of (map span_of starts) stop
 spans_read text [] stop = grind arith
-spans_read text (rest ∷ starts) stop = ap₂ (λ (s : SpelledSpan) (items : List (Result SpelledSpan Fault)). Ok s ∷ items) (spelled_at text rest) (spans_read text starts stop)
+spans_read text (rest ∷ starts) stop = grind (arith, (spelled_at text rest), (spans_read text starts stop))
 
 -- Unless the text is `0`, the sum of its items is its outcome.
 sum_views_outcome : (text : List ℕ) → text ≢ bare_zero → sum_spans 0 (map span_in (item_views text)) ≡ duration_answer text

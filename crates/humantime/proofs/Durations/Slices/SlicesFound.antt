@@ -34,13 +34,9 @@ fraction_found b tail (Some ds) (Some slice) h k e = grind (arith, (slice_after_
 fraction_found b tail _ _ h k e = grind (arith, no_slice)
 
 -- The slices of a span are those at the start of the rest.
-record SlicesAt (rest : List ℕ) (x : SpanView) (t : List ℕ) : Type 0 where
-  number : x.number ≡ number_slice rest
-  fraction : x.fraction ≡ fraction_slice (after_number rest)
-  left : after_fraction rest ≡ x.unit ++ t
-  starts : begins is_digit rest ≡ true
-
-slices_found : (text rest : List ℕ) (s : SpelledSpan) (x : SpanView) (next : List ℕ) (h : IsSpanView text rest s x next) → SlicesAt rest x (h.spelled.whitespace ++ next)
+slices_found : (text rest : List ℕ) (s : SpelledSpan) (x : SpanView) (next : List ℕ) (h : IsSpanView text rest s x next)
+    → (x.number ≡ number_slice rest) × (x.fraction ≡ fraction_slice (after_number rest)) × (after_fraction rest ≡ x.unit ++ (h.spelled.whitespace ++ next))
+    × (begins is_digit rest ≡ true)
 slices_found text rest s x next h =
     let k = h.spelled in
     let r = read_spelled rest next s h.spelled in
@@ -48,21 +44,18 @@ slices_found text rest s x next h =
     let fraction = fraction_found k.fraction_text (s.word ++ (k.whitespace ++ next)) s.fraction x.fraction k.fraction h.fraction letter in
     grind (arith, r, fraction, h, (trimmed_is k.number_text x.number h.number), digit_not_whitespace)
 
-next_is : (whitespace next : List ℕ) → HasOnly is_whitespace whitespace → begins is_digit next ≡ true → drop_while is_whitespace (whitespace ++ next) ≡ next
-next_is whitespace next o b = drop_while-append is_whitespace whitespace next o (begins_other is_digit is_whitespace digit_not_whitespace next b)
-
 -- Two views of one span are equal, and so are the texts after them.
 one_span : (text rest : List ℕ) (s : SpelledSpan) (x y : SpanView) (m n : List ℕ) (h : IsSpanView text rest s x m) (k : IsSpanView text rest s y n)
     → (x ≡ y) × (h.spelled.whitespace ++ m ≡ k.spelled.whitespace ++ n)
-one_span text rest s x y m n h k = grind (arith, common_steps, (slices_found text rest s x m h), (slices_found text rest s y n k), (append_cancel_left x.unit (h.spelled.whitespace ++ m) (k.spelled.whitespace ++ n) (sym (slices_found text rest s x m h).left ∙ (slices_found text rest s y n k).left ∙ ap (λ (w : List ℕ). w ++ (k.spelled.whitespace ++ n)) (sym (h.unit ∙ sym k.unit)))))
+one_span text rest s x y m n h k =
+    let cancel = append_cancel_left x.unit (h.spelled.whitespace ++ m) (k.spelled.whitespace ++ n) in
+    grind (arith, common_steps, (slices_found text rest s x m h), (slices_found text rest s y n k), cancel, h.unit, k.unit)
 
 -- A list of spans has exactly one list of views, whatever whitespace precedes the rest of the text.
 pub one_view_each : (text p q m n : List ℕ) (spans : List SpelledSpan) (xs ys : List SpanView) (d e : List ℕ) → HasOnly is_whitespace p → HasOnly is_whitespace q → p ++ m ≡ q ++ n → AreSpanViews text m spans xs d → AreSpanViews text n spans ys e → xs ≡ ys
 one_view_each text p q m n (s ∷ ss) (x ∷ xs) (y ∷ ys) d e o u w h k =
-    let r : m ≡ n = sym (next_is p m o (grind arith)) ∙ ap (drop_while is_whitespace) w ∙ next_is q n u (grind arith) in
+    let r : m ≡ n = grind (arith, (drop_while-append is_whitespace p m o), (drop_while-append is_whitespace q n u), digit_not_whitespace) in
     let l : IsSpanView text m s y k.0 = subst (λ (z : List ℕ). IsSpanView text z s y k.0) (sym r) k.1 in
     let one = one_span text m s x y h.0 k.0 h.1 l in
-    let p = h.1.spelled in
-    let q = l.spelled in
-    ap₂ (λ (z : SpanView) (zs : List SpanView). z ∷ zs) one.0 (one_view_each text p.whitespace q.whitespace h.0 k.0 ss xs ys d e p.only_whitespace q.only_whitespace one.1 h.2 k.2)
+    grind (arith, one, (one_view_each text h.1.spelled.whitespace l.spelled.whitespace h.0 k.0 ss xs ys d e h.1.spelled.only_whitespace l.spelled.only_whitespace one.1 h.2 k.2))
 one_view_each text p q m n spans xs ys d e o u w h k = grind arith

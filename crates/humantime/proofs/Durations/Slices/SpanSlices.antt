@@ -41,7 +41,7 @@ next_bytes rest b =
 pub is_span_view : (text rest : List ℕ) → BeginsSpan rest → IsSpanView text rest (span_of rest) (view_at text rest) (next_of rest)
 is_span_view text rest f =
     let w = written_here rest f in
-    let h : Spells rest (span_of rest) (next_of rest) = subst (λ (l : List ℕ). Spells l (span_of rest) (next_of rest)) (sym w.1.whole) (spells-append w.0 [] (next_of rest) (span_of rest) w.1.spells) in
+    let h : Spells rest (span_of rest) (next_of rest) = subst (λ (l : List ℕ). Spells l (span_of rest) (next_of rest)) (sym w.1) (spells-append w.0 [] (next_of rest) (span_of rest) w.2) in
     let r = read_spelled rest (next_of rest) (span_of rest) h in
     let number = digit_slice [] (take_while is_numeric rest) (number_slice rest) (dropped (take_while is_numeric rest)) tt (begins_take_while is_digit is_numeric rest f.number.digit digit_is_numeric) (take_while-only is_numeric rest) in
     let left = append_cancel_left (word_of rest) (after_word rest) (h.whitespace ++ next_of rest) (take_while-drop_while is_letter (after_fraction rest) ∙ r.tail_is) in

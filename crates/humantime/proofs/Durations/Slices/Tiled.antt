@@ -36,37 +36,31 @@ fraction-tiled text (Some slice) after slices view tiled =
     rw (view.1) (gap-tiled (byte "." ∷ []) (view.0 ++ after) (slice ∷ slices) (refl, tt) (digits-tiled view.0 slice after slices view.2 tiled))
 
 -- The text is a front that the slices tile, followed by `end`.
-record HasTiledFront (text : List ℕ) (slices : List (List ℕ)) (end : List ℕ) : Type 0 where
-  front : List ℕ
-  whole : text ≡ front ++ end
-  tiled : IsTiled front slices
+abbrev HasTiledFront : List ℕ → List (List ℕ) → List ℕ → Type 0
+HasTiledFront text slices end = (front : List ℕ) × (text ≡ front ++ end) × IsTiled front slices
 
 span_tiled : (text here : List ℕ) (s : SpelledSpan) (x : SpanView) (next : List ℕ) (slices : List (List ℕ)) (end : List ℕ)
     → IsSpanView text here s x next → HasTiledFront next slices end → HasTiledFront here (slices_of (Ok x) ++ slices) end
 span_tiled text here s x next slices end view later =
     let spelled = view.spelled in
-    let after = spelled.whitespace ++ later.front in
-    let white = gap-tiled spelled.whitespace later.front slices (only_gap spelled.whitespace spelled.only_whitespace) later.tiled in
+    let after = spelled.whitespace ++ later.0 in
+    let white = gap-tiled spelled.whitespace later.0 slices (only_gap spelled.whitespace spelled.only_whitespace) later.2 in
     let word : IsTiled (s.word ++ after) (x.unit ∷ slices) = ([], after, ap (λ w. w ++ after) (sym view.unit), tt, white) in
     let fraction = fraction-tiled spelled.fraction_text x.fraction (s.word ++ after) (x.unit ∷ slices) view.fraction word in
-    record {
-      front = spelled.number_text ++ (spelled.fraction_text ++ (s.word ++ after));
-      whole = grind (arith, common_steps);
-      tiled = rw (append_assoc (option_to_list x.fraction) (x.unit ∷ []) slices) (digits-tiled spelled.number_text x.number _ _ view.number fraction);
-    }
+    let front = spelled.number_text ++ (spelled.fraction_text ++ (s.word ++ after)) in
+    (front, grind (arith, common_steps), rw (append_assoc (option_to_list x.fraction) (x.unit ∷ []) slices) (digits-tiled spelled.number_text x.number _ _ view.number fraction))
 
 views_tile : (text here : List ℕ) (spans : List SpelledSpan) (views : List SpanView) (end : List ℕ) (stop : Option Fault)
     → AreSpanViews text here spans views end → HasTiledFront here (flat_map slices_of (items_of views stop)) end
 views_tile text here (s ∷ ss) (x ∷ xs) end stop each = span_tiled text here s x each.0 _ end each.1 (views_tile text each.0 ss xs end stop each.2)
-views_tile text here [] [] end stop each = record { front = []; whole = each; tiled = grind arith }
-views_tile text here spans views end stop each = grind arith
+views_tile text here spans views end stop each = ([], grind arith, grind arith)
 
 pub front_tiled : (text : List ℕ) (items : List (Result SpanView Fault)) (are : AreItems text items) → IsTiled are.items.front (flat_map slices_of items)
 front_tiled text items are =
     let white = take_while is_whitespace text in
     let found = views_tile text _ are.spans are.slices are.items.rest are.stop are.each in
-    let same : white ++ found.front ≡ are.items.front = append_cancel_right _ _ are.items.rest (append_assoc white found.front are.items.rest ∙ ap (λ t. white ++ t) (sym found.whole) ∙ take_while-drop_while is_whitespace text ∙ are.items.split.whole) in
-    rw (are.are, sym same) (gap-tiled white found.front _ (only_gap white (take_while-only is_whitespace text)) found.tiled)
+    let same : white ++ found.0 ≡ are.items.front = append_cancel_right _ _ are.items.rest (append_assoc white found.0 are.items.rest ∙ ap (λ t. white ++ t) (sym found.1) ∙ take_while-drop_while is_whitespace text ∙ are.items.split.whole) in
+    rw (are.are, sym same) (gap-tiled white found.0 _ (only_gap white (take_while-only is_whitespace text)) found.2)
 
 rest_is_empty : (text front rest : List ℕ) (spans : List SpelledSpan) (views : List SpanView) (stop : Option Fault)
     → EndsOrStops text front spans rest stop → list_all is_ok (items_of views stop) ≡ true → rest ≡ []
@@ -76,4 +70,4 @@ rest_is_empty text front rest spans [] stop ends each = grind arith
 pub text_tiled : (text : List ℕ) (items : List (Result SpanView Fault)) → AreItems text items → list_all is_ok items ≡ true → IsTiled text (flat_map slices_of items)
 text_tiled text items are each =
     let empty = rest_is_empty _ _ _ _ are.slices are.stop are.items.ends (ap (list_all is_ok) (sym are.are) ∙ each) in
-    subst (λ t. IsTiled t (flat_map slices_of items)) (sym (are.items.split.whole ∙ ap (λ t. are.items.front ++ t) empty ∙ append-nil are.items.front)) (front_tiled text items are)
+    grind (arith, empty, are.items.split.whole, append-nil, (front_tiled text items are))

@@ -74,8 +74,7 @@ displayed_as x t k bytes same digits within written =
 cut_again : (t : ℤ) (k n : ℕ) → pos n ≡ cut t k → cut (pos n) k ≡ pos n
 cut_again (pos m) k n is =
     let width = 10 ^ (9 - k) in
-    let whole : n ≡ width * (m / width) = omega (arith, ints, is, div-add-mod m width) in
-    rw (whole, mul-mod_right width (m / width)) (omega (arith, ints))
+    grind (arith, ints, (div-add-mod m width), (mul-mod_right width (m / width)))
 cut_again (negsuc m) k n is = absurd (omega (arith, ints, is))
 
 -- A text is a printed text if and only if it is that of the moment that it parses to.

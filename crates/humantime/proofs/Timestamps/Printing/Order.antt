@@ -21,11 +21,6 @@ use Rattle.humantime.proofs.Dates.DaysOfDates.{before_year, before_month}
 use Rattle.humantime.proofs.Dates.Years.{valid_from_test}
 use Rattle.humantime.proofs.Timestamps.Reading.Fractions.{AreDigits, nanos_bound, digits_from_test}
 
--- What is compared first decides, unless it is equal.
-step_cmp : (m n x y : ℕ) (c o : Ordering) → (m < n → x < y) → (n < m → y < x) → (m ≡ n → c ≡ ordering_then (nat_cmp x y) o)
-    → ordering_then (nat_cmp m n) c ≡ ordering_then (nat_cmp x y) o
-step_cmp m n x y c o less more same = grind (arith, nat_tests)
-
 below : (w m n x y : ℕ) → x < w → m < n → m * w + x < n * w + y
 below w m n x y h less = grind arith
 
@@ -35,11 +30,6 @@ then_cmp m n o = ordering_then (nat_cmp m n) o
 -- A number followed by one below `w`, as one number.
 pair_cmp : (w m n x y : ℕ) → x < w → y < w → then_cmp m n (nat_cmp x y) ≡ nat_cmp (m * w + x) (n * w + y)
 pair_cmp w m n x y h k = grind (arith, nat_tests, below w m n x y h, below w n m y x k)
-
--- A number followed by a digit.
-digit_cmp : (m n x y : ℕ) (o : Ordering) → IsInRange 48 57 x → IsInRange 48 57 y
-    → then_cmp m n (then_cmp x y o) ≡ then_cmp (m * 10 + digit_value x) (n * 10 + digit_value y) o
-digit_cmp m n x y o h k = grind (arith, nat_tests, digit_value_digit x h, digit_value_digit y k)
 
 two_digits_cmp : (m n : ℕ) (o : Ordering) → then_cmp (48 + m / 10) (48 + n / 10) (then_cmp (48 + m % 10) (48 + n % 10) o) ≡ then_cmp m n o
 two_digits_cmp m n o = grind (arith, common_steps)
@@ -58,31 +48,24 @@ filled_cmp : (k : ℕ) (ds es zs ws : List ℕ) (m n : ℕ) → AreDigits ds →
     → ordering_then (nat_cmp m n) (slice_cmp nat_cmp (ds ++ ws) (es ++ ws))
     ≡ ordering_then (nat_cmp (digits_value_after 10 m (take k (ds ++ zs))) (digits_value_after 10 n (take k (es ++ zs)))) (slice_cmp nat_cmp ws ws)
 filled_cmp k [] [] zs ws m n d e long room = ap (λ (c : Ordering). ordering_then c (slice_cmp nat_cmp ws ws)) (after_cmp (take k zs) m n)
-filled_cmp (suc k) (x ∷ xs) (y ∷ ys) zs ws m n d e long room = digit_cmp m n x y _ d.0 e.0 ∙ filled_cmp k xs ys zs ws (m * 10 + digit_value x) (n * 10 + digit_value y) d.1 e.1 (omega arith) (omega arith)
+filled_cmp (suc k) (x ∷ xs) (y ∷ ys) zs ws m n d e long room =
+    grind (arith, nat_tests, digit_value_digit, (filled_cmp k xs ys zs ws (m * 10 + digit_value x) (n * 10 + digit_value y) d.1 e.1))
 filled_cmp k ds es zs ws m n d e long room = absurd (omega arith)
-
-nanos_cmp : (ds es ws : List ℕ) → AreDigits ds → AreDigits es → length ds ≡ length es → length ds ≤ 9
-    → slice_cmp nat_cmp (ds ++ ws) (es ++ ws) ≡ ordering_then (nat_cmp (fraction_nanos ds) (fraction_nanos es)) (slice_cmp nat_cmp ws ws)
-unfolding fraction_nanos
-nanos_cmp ds es ws d e long room = filled_cmp 9 ds es (codes "000000000") ws 0 0 d e long room
 
 fraction_cmp : (k : ℕ) (p q : Option (List ℕ)) → k ≤ 9
     → option_map length p ≡ (if k == 0 then None else Some k) → option_map length q ≡ (if k == 0 then None else Some k)
     → AreDigits (fraction_digits p) → AreDigits (fraction_digits q)
     → slice_cmp nat_cmp (fraction_text p ++ codes "Z") (fraction_text q ++ codes "Z") ≡ nat_cmp (fraction_nanos (fraction_digits p)) (fraction_nanos (fraction_digits q))
-fraction_cmp k p q h e f g i = grind (arith, nanos_cmp)
+unfolding fraction_nanos
+fraction_cmp k p q h e f g i = grind (arith, (filled_cmp 9 (fraction_digits p) (fraction_digits q) (codes "000000000") (codes "Z") 0 0))
 
 -- Dates are ordered like their days.
 day_cmp : (a b : Date) (o : Ordering) → IsDate a → IsDate b
     → then_cmp a.year b.year (then_cmp a.month b.month (then_cmp a.day b.day o)) ≡ then_cmp (day_of a) (day_of b) o
 day_cmp a b o va vb =
-    let left = valid_from_test a.year a.month a.day va in
-    let right = valid_from_test b.year b.month b.day vb in
-    step_cmp a.year b.year (day_of a) (day_of b) _ o
-    (λ less. omega (arith, before_year a.year a.month a.day left b.year less)) (λ more. omega (arith, before_year b.year b.month b.day right a.year more)) (λ y.
-    step_cmp a.month b.month (day_of a) (day_of b) _ o
-    (λ less. grind (arith, before_month a.year a.month a.day left b.month less, y)) (λ more. grind (arith, before_month b.year b.month b.day right a.month more, y))
-    (λ m. step_cmp a.day b.day (day_of a) (day_of b) o o (λ less. grind (arith, left.2.0, y, m)) (λ more. grind (arith, right.2.0, y, m)) (λ d. grind (arith, nat_tests, y, m, d))))
+    let before = λ (c d : Date) (v : IsDate c). before_year c.year c.month c.day (valid_from_test c.year c.month c.day v) d.year in
+    let begun = λ (c d : Date) (v : IsDate c). before_month c.year c.month c.day (valid_from_test c.year c.month c.day v) d.month in
+    grind (arith, nat_tests, valid_from_test, (before a b va), (before b a vb), (begun a b va), (begun b a vb))
 
 -- The text of parts with `T` and `Z`.
 abbrev marked : Fields → List ℕ
@@ -104,14 +87,13 @@ clock_cmp : (a h i s m b j k t n : ℕ) → h ≤ 23 → i ≤ 59 → s ≤ 59 �
     → then_cmp a b (then_cmp h j (then_cmp i k (then_cmp s t (nat_cmp m n))))
     ≡ nat_cmp ((a * 86_400 + h * 3_600 + i * 60 + min s 59) * 1_000_000_000 + m) ((b * 86_400 + j * 3_600 + k * 60 + min t 59) * 1_000_000_000 + n)
 clock_cmp a h i s m b j k t n h23 i59 s59 m9 j23 k59 t59 n9 =
-    let same : (a h i s m : ℕ) → s ≤ 59 → a * 86_400_000_000_000 + (h * 3_600_000_000_000 + (i * 60_000_000_000 + (s * 1_000_000_000 + m)))
-    ≡ (a * 86_400 + h * 3_600 + i * 60 + min s 59) * 1_000_000_000 + m = λ a h i s m most. omega arith in
-    ap (then_cmp a b) (ap (then_cmp h j) (ap (then_cmp i k) (pair_cmp 1_000_000_000 s t m n m9 n9)
-    ∙ pair_cmp 60_000_000_000 i k (s * 1_000_000_000 + m) (t * 1_000_000_000 + n) (omega arith) (omega arith))
-    ∙ pair_cmp 3_600_000_000_000 h j (i * 60_000_000_000 + (s * 1_000_000_000 + m)) (k * 60_000_000_000 + (t * 1_000_000_000 + n)) (omega arith) (omega arith))
-    ∙ pair_cmp 86_400_000_000_000 a b (h * 3_600_000_000_000 + (i * 60_000_000_000 + (s * 1_000_000_000 + m)))
-    (j * 3_600_000_000_000 + (k * 60_000_000_000 + (t * 1_000_000_000 + n))) (omega arith) (omega arith)
-    ∙ (λ x. nat_cmp (same a h i s m s59 x) (same b j k t n t59 x))
+    rw (
+      pair_cmp 1_000_000_000 s t m n m9 n9,
+      pair_cmp 60_000_000_000 i k (s * 1_000_000_000 + m) (t * 1_000_000_000 + n) (omega arith) (omega arith),
+      pair_cmp 3_600_000_000_000 h j (i * 60_000_000_000 + (s * 1_000_000_000 + m)) (k * 60_000_000_000 + (t * 1_000_000_000 + n)) (omega arith) (omega arith),
+      pair_cmp 86_400_000_000_000 a b (h * 3_600_000_000_000 + (i * 60_000_000_000 + (s * 1_000_000_000 + m))) (j * 3_600_000_000_000 + (k * 60_000_000_000 + (t * 1_000_000_000 + n)))
+          (omega arith) (omega arith),
+    ) (grind arith)
 
 pub stamps_in_order : (a b : ℤ) → PrintInOrder a b
 stamps_in_order a b k x y p q =

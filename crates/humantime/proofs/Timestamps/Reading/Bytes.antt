@@ -17,10 +17,6 @@ pub digits_hold : (P : ℕ → Type 0) → HoldsOfBytes P → (ds : List ℕ) �
 digits_hold P h [] digits = tt
 digits_hold P h (c ∷ cs) digits = (h.0 c digits.0, digits_hold P h cs digits.1)
 
-pub holds_of_fraction : (P : ℕ → Type 0) → HoldsOfBytes P → (fraction : Option (List ℕ)) → IsTrue (all_ascii_digits (fraction_digits fraction))
-    → AllByRecursion P (fraction_text fraction)
-holds_of_fraction P p fraction h = grind (arith, digits_hold, digits_from_test)
-
 -- All bytes before the zone have the property.
 pub holds_before_zone : (P : ℕ → Type 0) → HoldsOfBytes P → (text : List ℕ) (f : Fields) → IsWeak text f
     → AllByRecursion P (date_time_text f ++ fraction_text f.fraction)

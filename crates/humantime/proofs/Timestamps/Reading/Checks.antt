@@ -13,10 +13,6 @@ pub all_passed : (bytes : List ℕ) → first_failed (weak_checks bytes) ≡ Non
     × (has_point (fraction_part bytes) ≡ true) × (all_ascii_digits (drop 1 (fraction_part bytes)) ≡ true)
 all_passed bytes h = grind (arith, nat_tests)
 
--- The separator between the date and the time.
-abbrev pub separator_of : List ℕ → Separator
-separator_of bytes = if slice_index bytes 10 == byte "T" then Letter_T else Space
-
 -- The digits after the point, if there is one.
 abbrev pub digits_behind_point : List ℕ → Option (List ℕ)
 digits_behind_point [] = None
@@ -26,7 +22,7 @@ digits_behind_point (_ ∷ ds) = Some ds
 abbrev pub fields_of : List ℕ → Fields
 fields_of bytes = record {
   date = (date_time_of bytes).date;
-  separator = separator_of bytes;
+  separator = if slice_index bytes 10 == byte "T" then Letter_T else Space;
   hour = (date_time_of bytes).hour;
   minute = (date_time_of bytes).minute;
   second = (date_time_of bytes).second;
@@ -34,24 +30,12 @@ fields_of bytes = record {
   zone = zone_of (drop 19 bytes);
 }
 
--- The punctuation at its positions.
-pub punctuation_from_test : (bytes : List ℕ) → has_punctuation bytes ≡ true
-    → (slice_index bytes 4 ≡ 45) × (slice_index bytes 7 ≡ 45) × (slice_index bytes 10 ≡ separator_byte (separator_of bytes))
-    × (slice_index bytes 13 ≡ 58) × (slice_index bytes 16 ≡ 58)
-unfolding has_punctuation has_separator
-punctuation_from_test bytes h = grind arith
-
 -- The pairs of digits at their positions.
 pub pairs_from_test : (bytes : List ℕ) → has_digits bytes ≡ true
     → (has_two bytes 0 ≡ true) × (has_two bytes 2 ≡ true) × (has_two bytes 5 ≡ true) × (has_two bytes 8 ≡ true)
     × (has_two bytes 11 ≡ true) × (has_two bytes 14 ≡ true) × (has_two bytes 17 ≡ true)
 unfolding has_digits
 pairs_from_test bytes h = grind (arith, and_parts)
-
--- The bytes between the seconds and the zone.
-pub part_shown : (part : List ℕ) → has_point part ≡ true → part ≡ fraction_text (digits_behind_point part)
-unfolding has_point
-part_shown part h = grind arith
 
 pub part_digits : (part : List ℕ) → fraction_digits (digits_behind_point part) ≡ drop 1 part
 part_digits part = grind arith

@@ -46,16 +46,11 @@ abbrev zeros : ℕ → List ℕ
 zeros zero = []
 zeros (suc n) = 48 ∷ zeros n
 
--- The first `k` of `n` zeros after the number `m`.
-zeros_read : (k n m : ℕ) → k ≤ n → digits_value_after 10 m (take k (zeros n)) ≡ m * 10 ^ k
-zeros_read zero n m h = omega arith
-zeros_read (suc k) (suc n) m h = grind (arith, (zeros_read k n (m * 10 + 0)), (weighted_digit m 0 (10 ^ k) (10 ^ suc k)), (pow-suc 10 k))
-zeros_read (suc k) zero m h = absurd (omega arith)
-
 -- The first `k` digits, padded with zeros.
 filled : (k n m : ℕ) (ds : List ℕ) → AreDigits ds → k ≤ n → digits_value_after 10 m (take k (ds ++ zeros n)) ≡ add_digits (m * 10 ^ k) (10 ^ k / 10) ds
 filled zero n m ds digits h = grind (arith, (add_nothing m ds))
-filled (suc k) n m [] digits h = zeros_read (suc k) n m h
+filled (suc k) (suc n) m [] digits h = grind (arith, (filled k n (m * 10 + 0) [] digits), (weighted_digit m 0 (10 ^ k) (10 ^ suc k)), (pow-suc 10 k))
+filled (suc k) zero m [] digits h = absurd (omega arith)
 filled (suc k) n m (c ∷ cs) digits h =
     grind (arith, (digit_value_digit c digits.0), (pow-suc 10 k), (weighted_digit m (c - 48) (10 ^ k) (10 ^ suc k)), (filled k n (m * 10 + digit_value c) cs digits.1))
 

@@ -26,16 +26,13 @@ all_bits : (ms : List Bool) → eqb (mask_l ms) (2 ^ length ms - 1) ≡ are_set 
 all_bits [] = refl
 all_bits (m ∷ ms) = grind (arith, nat_tests, (all_bits ms), two-pow-succ (length ms), one-le-pow (length ms) 2 (omega arith))
 
--- The lanes of a vector, compared with those of another one.
-pub all_compared : (w : Width) (test : ℕ → ℕ → Bool) (ys xs : List ℕ) → length xs ≡ length ys → length ys ≤ 64
-    → eqb (mask_l (map (top (hbits w)) (zip2 (λ a b. cond (test a b) (2 ^ bits w - 1) 0) xs ys)) % 2 ^ 64) (2 ^ length ys - 1) ≡ are_set (zip2 test xs ys)
-all_compared w test ys xs long few =
-    let size = length-zip2 test xs ys long ∙ long in
-    rw (tops_compared w test xs ys, mask_l-mod (zip2 test xs ys) 64 (omega (arith, size)), ← size) (all_bits (zip2 test xs ys))
-
--- All lanes, compared with one number.
-pub all_by_one : (test : ℕ → ℕ → Bool) (n y : ℕ) (xs : List ℕ) → length xs ≡ n → are_set (zip2 test xs (replicate n y)) ≡ list_all (λ x. test x y) xs
-all_by_one test n y xs long = ap are_set (zip2_splat test xs n y long) ∙ list_all-map (λ m. m) (λ x. test x y) xs
+-- The lanes of a vector, compared with zero.
+zeros_compared : (xs : List ℕ) → length xs ≡ 16
+    → eqb (mask_l (map (top (hbits w8)) (zip2 (λ a b. cond (eqb a b) (2 ^ bits w8 - 1) 0) xs (replicate 16 0))) % 2 ^ 64) (2 ^ 16 - 1) ≡ list_all (λ x. eqb x 0) xs
+zeros_compared xs long =
+    let size = length-zip2 eqb xs (replicate 16 0) long ∙ long in
+    rw (tops_compared w8 eqb xs (replicate 16 0), mask_l-mod (zip2 eqb xs (replicate 16 0)) 64 (omega (arith, size)))
+    (rw size at (all_bits (zip2 eqb xs (replicate 16 0))) ∙ ap are_set (zip2_splat eqb xs 16 0 long) ∙ list_all-map (λ m. m) (λ x. eqb x 0) xs)
 
 -- ---- Date and time
 
@@ -50,11 +47,8 @@ excess a most = above (cond (top 7 (cond (ltb a most) 255 0)) most a) most
 digit_excess : (c : ℕ) → c < 256 → nat_eq (excess (above c 48) 9) 0 ≡ is_ascii_digit c
 digit_excess c h = agree_below_at (λ c. nat_eq (excess (above c 48) 9) 0) is_ascii_digit 256 c refl h
 
-dash_excess : (c : ℕ) → c < 256 → nat_eq (excess (above c 45) 0) 0 ≡ (c == 45)
-dash_excess c h = agree_below_at (λ c. nat_eq (excess (above c 45) 0) 0) (λ c. c == 45) 256 c refl h
-
-colon_excess : (c : ℕ) → c < 256 → nat_eq (excess (above c 58) 0) 0 ≡ (c == 58)
-colon_excess c h = agree_below_at (λ c. nat_eq (excess (above c 58) 0) 0) (λ c. c == 58) 256 c refl h
+sign_excess : (c sign : ℕ) → c < 256 → sign < 256 → nat_eq (excess (above c sign) 0) 0 ≡ (c == sign)
+sign_excess c sign h k = grind (arith, nat_tests)
 
 no_excess : (c least : ℕ) → nat_eq (excess (above c least) 255) 0 ≡ true
 no_excess c least = agree_below_at (λ n. nat_eq (excess n 255) 0) (λ _. true) 256 (above c least) refl (omega arith)
@@ -97,18 +91,18 @@ signs_first false t u v a b c d e f g h i j k l m n = grind arith
 signs_first true false u v a b c d e f g h i j k l m n = grind arith
 signs_first true true false v a b c d e f g h i j k l m n = grind arith
 
-pub layout_tested : (bytes : List ℕ) → 19 ≤ length bytes → ((k : ℕ) → Fits w8 (get_or bytes k 0)) → has_separator bytes ≡ true
+bytes_tested : (bytes : List ℕ) → 19 ≤ length bytes → ((k : ℕ) → Fits w8 (get_or bytes k 0)) → has_separator bytes ≡ true
     → list_all (λ n. nat_eq n 0) (beyond bytes) ≡ has_layout bytes
 unfolding has_layout has_punctuation has_digits has_two
-layout_tested bytes long fits separator =
+bytes_tested bytes long fits separator =
     let byte = λ (k : ℕ). get_or bytes k 0 in
     let shown = λ (k : ℕ). is_ascii_digit (byte k) in
     let digit_at = λ (k : ℕ). digit_excess (byte k) (fits k).fits in
     let digit = λ (k : ℕ) (l : ℕ). first_zero (excess (above (byte k) 48) 9) (excess (above (byte (k + 3)) l) 255) (no_excess (byte (k + 3)) l) ∙ digit_at k in
-    let dash = λ (k : ℕ) (l : ℕ). first_zero (excess (above (byte k) 45) 0) (excess (above (byte (k + 3)) l) 255) (no_excess (byte (k + 3)) l) ∙ dash_excess (byte k) (fits k).fits in
+    let dash = λ (k : ℕ) (l : ℕ). first_zero (excess (above (byte k) 45) 0) (excess (above (byte (k + 3)) l) 255) (no_excess (byte (k + 3)) l) ∙ sign_excess (byte k) 45 (fits k).fits (omega arith) in
     let free = first_zero (excess (above (byte 10) 32) 255) (excess (above (byte 13) 58) 255) (no_excess (byte 13) 58) ∙ no_excess (byte 10) 32 in
     let colons = both_zero (excess (above (byte 13) 58) 0) (excess (above (byte 16) 58) 0)
-    ∙ (λ i. colon_excess (byte 13) (fits 13).fits i && colon_excess (byte 16) (fits 16).fits i) in
+    ∙ (λ i. sign_excess (byte 13) 58 (fits 13).fits (omega arith) i && sign_excess (byte 16) 58 (fits 16).fits (omega arith) i) in
     let digits = λ (k : ℕ). both_zero (excess (above (byte k) 48) 9) (excess (above (byte (k + 3)) 48) 9) ∙ (λ i. digit_at k i && digit_at (k + 3) i) in
     ap (λ (bytes : List ℕ). list_all (λ n. nat_eq n 0) (beyond bytes)) (nineteen bytes long)
     ∙ (λ i. are_set (
@@ -118,3 +112,8 @@ layout_tested bytes long fits separator =
     ∙ rw (separator, le-leb 19 (length bytes) long)
     (signs_first (byte 4 == 45) (byte 7 == 45) (byte 13 == 58) (byte 16 == 58)
     (shown 0) (shown 1) (shown 2) (shown 3) (shown 5) (shown 6) (shown 8) (shown 9) (shown 11) (shown 12) (shown 14) (shown 15) (shown 17) (shown 18))
+
+-- All lanes are tested at once.
+pub layout_tested : (bytes : List ℕ) → 19 ≤ length bytes → ((k : ℕ) → Fits w8 (get_or bytes k 0)) → has_separator bytes ≡ true
+    → eqb (mask_l (map (top (hbits w8)) (zip2 (λ a b. cond (eqb a b) (2 ^ bits w8 - 1) 0) (beyond bytes) (replicate 16 0))) % 2 ^ 64) (2 ^ 16 - 1) ≡ has_layout bytes
+layout_tested bytes long fits separator = zeros_compared (beyond bytes) (length-beyond bytes long) ∙ bytes_tested bytes long fits separator

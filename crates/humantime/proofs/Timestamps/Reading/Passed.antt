@@ -7,10 +7,12 @@ use Rattle.std.proofs.lemmas.Bool.Decides.{nat_tests}
 use Rattle.humantime.specs.Timestamps.Fields.{Fields, fraction_text, fraction_digits, fields_text, IsWeak}
 use Rattle.humantime.specs.Timestamps.Checks.{has_two, has_digits, number_between, date_time_of, has_separator, has_punctuation, is_valid_date_time, has_point, weak_checks, first_failed}
 use Rattle.humantime.proofs.Dates.Years.{valid_from_test}
-use Rattle.humantime.proofs.Timestamps.Reading.Bytes.{holds_of_fraction}
+use Rattle.humantime.proofs.Timestamps.Reading.Bytes.{digits_hold}
 use Rattle.humantime.proofs.Timestamps.Reading.Checks.{digits_behind_point, fields_of}
 use Rattle.humantime.proofs.Timestamps.Reading.Ends.{IsPlain, plain_bytes, zone_found}
 use Rattle.humantime.proofs.Timestamps.Reading.Places.{number_of_two, number_of_four, bounds}
+use Rattle.humantime.proofs.Timestamps.Reading.Fractions.{digits_from_test}
+use Rattle.std.specs.List.{AllByRecursion}
 
 -- The digits of a number at its position are parsed to that number.
 two_back : (bytes : List ℕ) (k n : ℕ) → k + 2 ≤ length bytes → slice_index bytes k ≡ 48 + n / 10 → slice_index bytes (k + 1) ≡ 48 + n % 10 → n ≤ 99
@@ -43,7 +45,7 @@ written_passes f w =
     let hour = two_back bytes 11 f.hour (omega (arith, long)) refl refl (omega (arith, w.hour)) in
     let minute = two_back bytes 14 f.minute (omega (arith, long)) refl refl (omega (arith, w.minute)) in
     let second = two_back bytes 17 f.second (omega (arith, long)) refl refl (omega (arith, w.second)) in
-    let plain = holds_of_fraction IsPlain plain_bytes f.fraction w.fraction in
+    let plain : AllByRecursion IsPlain (fraction_text f.fraction) = grind (arith, plain_bytes, digits_hold, digits_from_test, w.fraction) in
     let end = ending f.fraction in
     let digits : has_digits bytes ≡ true = rw (year.0, year.1, month.0, day.0, hour.0, minute.0, second.0) refl in
     let range : is_valid_date_time (date_time_of bytes) ≡ true =

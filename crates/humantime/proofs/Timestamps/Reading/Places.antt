@@ -18,11 +18,8 @@ next_byte bytes k to some long =
     let size : to - k ≡ suc (to - (k + 1)) = omega arith in
     rw (size, drop-cons bytes k 0 (omega arith), add-one k) refl
 
-pub no_byte : (bytes : List ℕ) (k to : ℕ) → to ≤ k → slice_range bytes k to ≡ []
-no_byte bytes k to none = let size : to - k ≡ 0 = omega arith in rw size refl
-
 last_two : (bytes : List ℕ) (k to : ℕ) → to ≡ k + 2 → to ≤ length bytes → slice_range bytes k to ≡ slice_index bytes k ∷ slice_index bytes (k + 1) ∷ []
-last_two bytes k to two long = simp (next_byte bytes k to (omega arith), next_byte bytes (k + 1) to (omega arith), no_byte bytes (k + 1 + 1) to (omega arith))
+last_two bytes k to two long = grind (arith, (next_byte bytes k to), (next_byte bytes (k + 1) to))
 
 pub number_of_two : (bytes : List ℕ) (k : ℕ) → k + 2 ≤ length bytes → has_two bytes k ≡ true
     → number_between bytes k (k + 2) ≡ (slice_index bytes k - 48) * 10 + (slice_index bytes (k + 1) - 48)

@@ -4,8 +4,8 @@ use Rattle.std.proofs.lemmas.Grind.{common_steps}
 use Rattle.std.proofs.Common.{◌≡◌, ℕ, ◌+◌, ◌/◌, ◌%◌, ◌≤◌, List, ◌++◌, length, drop, ap, ◌∙◌, arith, rules}
 use Rattle.std.specs.Prelude.{true, slice_index, None}
 use Rattle.humantime.specs.Timestamps.Fields.{fraction_text, zone_text, fields_text, IsWeak}
-use Rattle.humantime.specs.Timestamps.Checks.{has_two, zone_of, number_between, is_valid_date_time, fraction_part, weak_checks, first_failed}
-use Rattle.humantime.proofs.Timestamps.Reading.Checks.{all_passed, digits_behind_point, fields_of, punctuation_from_test, pairs_from_test, part_shown, part_digits, nineteen}
+use Rattle.humantime.specs.Timestamps.Checks.{has_two, zone_of, number_between, is_valid_date_time, fraction_part, weak_checks, first_failed, has_punctuation, has_separator, has_point}
+use Rattle.humantime.proofs.Timestamps.Reading.Checks.{all_passed, digits_behind_point, fields_of, pairs_from_test, part_digits, nineteen}
 use Rattle.humantime.proofs.Timestamps.Reading.Ends.{zone_shown}
 use Rattle.humantime.proofs.Timestamps.Reading.Places.{has_two_from_test, number_of_two, number_of_four, bounds}
 
@@ -19,9 +19,9 @@ year_shown : (bytes : List ℕ) → 4 ≤ length bytes → has_two bytes 0 ≡ t
 year_shown bytes long century decade = search (rules, has_two_from_test, number_of_four)
 
 written_shown : (bytes : List ℕ) → first_failed (weak_checks bytes) ≡ None → bytes ≡ fields_text (fields_of bytes)
+unfolding has_punctuation has_separator has_point
 written_shown bytes passed =
     let p = all_passed bytes passed in
-    let signs = punctuation_from_test bytes p.1 in
     let pairs = pairs_from_test bytes p.2 in
     let year = year_shown bytes (omega arith) pairs.0 pairs.1 in
     let month = pair_shown bytes 5 (omega arith) pairs.2 in
@@ -29,20 +29,9 @@ written_shown bytes passed =
     let hour = pair_shown bytes 11 (omega arith) pairs.4 in
     let minute = pair_shown bytes 14 (omega arith) pairs.5 in
     let second = pair_shown bytes 17 (omega arith) pairs.6 in
-    let end : drop 19 bytes ≡ fraction_text (digits_behind_point (fraction_part bytes)) ++ zone_text (zone_of (drop 19 bytes)) =
-    zone_shown (drop 19 bytes) ∙ ap (λ (part : List ℕ). part ++ zone_text (zone_of (drop 19 bytes))) (part_shown (fraction_part bytes) p.4) in
-    grind (arith, common_steps, nat_tests, p, signs, pairs, year, month, day, hour, minute, second, end, nineteen)
+    let end : drop 19 bytes ≡ fraction_text (digits_behind_point (fraction_part bytes)) ++ zone_text (zone_of (drop 19 bytes)) = grind (arith, (zone_shown (drop 19 bytes)), p.4) in
+    grind (arith, common_steps, nat_tests, p, pairs, year, month, day, hour, minute, second, end, nineteen)
 
 pub fields_weak : (bytes : List ℕ) → first_failed (weak_checks bytes) ≡ None → IsWeak bytes (fields_of bytes)
 unfolding is_valid_date_time
-fields_weak bytes passed =
-    let p = all_passed bytes passed in
-    let range = (bounds _ _ _ _).0 p.3 in
-    record {
-      text = written_shown bytes passed;
-      date = range.0;
-      hour = range.1;
-      minute = range.2;
-      second = range.3;
-      fraction = rw (part_digits (fraction_part bytes)) p.5;
-    }
+fields_weak bytes passed = grind (arith, (all_passed bytes passed), (written_shown bytes passed), bounds, part_digits)

@@ -15,9 +15,7 @@ pub answer_moment-requires-in-weak : goal.answer_moment-requires-in-weak
 answer_moment-requires-in-weak g c = each_read _ c.parse_rfc3339_weak.ensures.value (weak_printable _)
 
 pub returns-in-duration : goal.returns-in-duration
-returns-in-duration g c =
-    let told = c.answer_duration.ensures in
-    (_, (_, Duration, _, grind (arith, common_steps), told.1), told.2)
+returns-in-duration g c = (_, (_, Duration, _, grind (arith, common_steps), c.answer_duration.ensures.1), c.answer_duration.ensures.2)
 
 pub returns-in-strict : goal.returns-in-strict
 returns-in-strict g c =
@@ -31,9 +29,5 @@ returns-in-weak g c =
 
 pub returns-in_default : goal.returns-in_default
 returns-in_default g c =
-    let none : Answers (texts c.args.words.now) None = elim c.in_default.branch [
-      | in_default-via-then-words-lt2 w ↦ not_two (texts c.args.words.now) (grind (arith, common_steps))
-      | in_default-via-else-words-lt2+then-words-lt3+in_default w ↦ grind (arith, common_steps, unnamed)
-      | in_default-via-else-words-lt2+else-words-lt3 w ↦ not_two (texts c.args.words.now) (grind (arith, common_steps, w))
-    ] in
+    let none : Answers (texts c.args.words.now) None = grind (arith, common_steps, c.in_default.branch, (not_two (texts c.args.words.now)), unnamed) in
     (None, none, rw c.and.ensures (to_err _ (codes "usage: humantime duration|strict|weak TEXT") None _ _ _ refl refl c.write_line.ensures))

@@ -1,16 +1,13 @@
 use Rattle.std.proofs.Common.{eqb, w8, replicate, drop, length-drop, arith, sym, ◌∙◌}
 use Rattle.std.proofs.lemmas.Bool.{eq-eqb, eqb-true}
 use Rattle.humantime.proofs.Timestamps.Reading.Exits.{layout_parts}
-use Rattle.humantime.proofs.Timestamps.Reading.Lanes.{all_compared, all_by_one, beyond, length-beyond, layout_tested}
+use Rattle.humantime.proofs.Timestamps.Reading.Lanes.{layout_tested}
 use Rattle.humantime.proofs.Timestamps.Reading.Numbers.{date_time_summed, sums_fit}
 use Rattle.humantime.proofs.date.parse.parse_date_time.Goals as goal
 
 pub returns-then-not-beyond : goal.returns-then-not-beyond
-returns-then-not-beyond c =
-    let long = length-beyond c.args.bytes.now c.requires.long in
-    let tested = all_compared w8 eqb (replicate 16 0) (beyond c.args.bytes.now) long (omega arith) ∙ all_by_one eqb 16 0 (beyond c.args.bytes.now) long
-    ∙ layout_tested c.args.bytes.now c.requires.long c.type_inv.bytes c.requires.separator in
-    λ is. c.if-not-beyond.true (eqb-true _ _ (tested ∙ is))
+returns-then-not-beyond c is =
+    c.if-not-beyond.true (eqb-true _ _ (layout_tested c.args.bytes.now c.requires.long c.type_inv.bytes c.requires.separator ∙ is))
 
 pub dot4 : goal.dot4
 dot4 c = ((sums_fit c.args.bytes.now (omega (arith, c.requires.long))).0, tt)
@@ -20,9 +17,7 @@ dot4-2 c = ((sums_fit (drop 3 c.args.bytes.now) (omega (arith, length-drop 3 c.a
 
 pub returns : goal.returns
 returns c =
-    let long = length-beyond c.args.bytes.now c.requires.long in
-    let tested = all_compared w8 eqb (replicate 16 0) (beyond c.args.bytes.now) long (omega arith) ∙ all_by_one eqb 16 0 (beyond c.args.bytes.now) long
-    ∙ layout_tested c.args.bytes.now c.requires.long c.type_inv.bytes c.requires.separator in
+    let tested = layout_tested c.args.bytes.now c.requires.long c.type_inv.bytes c.requires.separator in
     let layout = sym tested ∙ eq-eqb _ _ c.if-not-beyond.false in
     let parts = layout_parts c.args.bytes.now layout in
     (layout, date_time_summed c.args.bytes.now parts.0 parts.2)

@@ -3,11 +3,7 @@ use Rattle.humantime.proofs.Timestamps.Laws.Reading.{strict_outcome, strict_by_m
 use Rattle.humantime.proofs.date.parse.parse_rfc3339.Goals as goal
 
 pub returns-then-not-has_t_and_zone : goal.returns-then-not-has_t_and_zone
-returns-then-not-has_t_and_zone c =
-    let other = sym (rw c.as_bytes.ensures.value at c.has_t_and_zone.ensures) ∙ c.if-not-has_t_and_zone.true in
-    let one = strict_outcome c.args.s.now in
-    let same = rw other at (strict_by_marks c.args.s.now) in
-    record { value = grind (arith, one.value, same); error = grind (arith, one.error, same); answer = grind (arith, same) }
+returns-then-not-has_t_and_zone c = grind (arith, (strict_outcome c.args.s.now), (strict_by_marks c.args.s.now))
 
 pub returns : goal.returns
 returns c =

@@ -12,7 +12,4 @@ pub returns-clause-canon : goal.returns-clause-canon
 returns-clause-canon c = grind (arith, common_steps, nat_tests, printed_is_canon)
 
 pub returns-clause-reads_back : goal.returns-clause-reads_back
-returns-clause-reads_back c =
-    let text = c.str_prefix.ensures ∙ c.write_duration-end.ensures.text ∙ ap duration_text c.self.view_is in
-    let within : c.args.self.now < duration_end = rw c.self.view_is at c.write_duration-end.ensures.within in
-    ap (λ t. duration_answer (chars t)) text ∙ (printed_duration_reads c.args.self.now within).answer
+returns-clause-reads_back c = grind (arith, common_steps, (printed_duration_reads c.args.self.now))
