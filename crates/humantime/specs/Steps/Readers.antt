@@ -1,5 +1,5 @@
 -- What the readers of the parts of a span return, as functions of the characters of a text.
-use Rattle.std.specs.Prelude.{◌≡◌, true, ℕ, nat_lt, List, [], ◌∷◌, Option, Some, None, Result, Ok, Err, if◌then◌else◌, option_map, unwrap_or, chars}
+use Rattle.std.specs.Prelude.{◌≡◌, true, false, ℕ, nat_lt, List, [], ◌∷◌, Option, Some, None, Result, Ok, Err, if◌then◌else◌, option_map, unwrap_or, chars}
 use Rattle.std.specs.Borrow.{Bor}
 use Rattle.std.specs.Result.{result_map_both}
 use Rattle.humantime.specs.declared.duration.amount.Decimal.{Decimal}
@@ -7,9 +7,9 @@ use Rattle.humantime.specs.declared.duration.error.DurationError.{DurationError}
 use Rattle.humantime.specs.declared.duration.span.Span.{Span}
 use Rattle.humantime.specs.Texts.{begins, take_while, drop_while, decimal_value}
 use Rattle.humantime.specs.Durations.Characters.{is_digit, is_whitespace, is_letter, u64_max}
-use Rattle.humantime.specs.Durations.Accepted.{has_too_many_digits}
+use Rattle.humantime.specs.Durations.Accepted.{has_too_many_digits, too_long}
 use Rattle.humantime.specs.Durations.Errors.{fault_of}
-use Rattle.humantime.specs.Durations.Faults.{number_of, after_number, after_point, after_word, may_follow_span, Fault}
+use Rattle.humantime.specs.Durations.Faults.{number_of, after_number, after_point, fraction_of, after_fraction, after_word, span_of, may_follow_span, Fault}
 use Rattle.humantime.specs.Durations.Items.{SpanView}
 use Rattle.humantime.specs.Durations.Units.{Scale, scale_of_word}
 use Rattle.humantime.specs.Results.Items.{view_at}
@@ -58,10 +58,13 @@ read_span text rest = elim (fault_at text rest) [
 abbrev pub span_result : Result (Span × Bor (List ℕ)) DurationError → Result (SpanView × List ℕ) Fault
 span_result r = result_map_both (λ x. (span_view x.0, chars x.1.now)) fault_of r
 
--- The number and the fraction, if any, at the start of `rest` were read. Each is followed by the end of the text that stands after it here.
-pub record IsBegun (rest : List ℕ) (value : ℕ) (after_number : List ℕ) (fraction : Option Decimal) (after_fraction : List ℕ) : Type 0 where
+-- These are the number at the start of `rest` and its fraction, if any, neither of which is too long, and what follows each.
+pub record IsBegun (rest : List ℕ) (number : ℕ) (after : List ℕ) (decimals : Option Decimal) (end : List ℕ) : Type 0 where
   pub digit : begins is_digit (chars rest) ≡ true
-  pub number : Some (value, chars after_number) ≡ read_number (chars rest)
-  pub number_rest : IsTail rest after_number
-  pub decimals : Some (option_map parts_of fraction, chars after_fraction) ≡ read_fraction (chars after_number)
-  pub decimals_rest : IsTail after_number after_fraction
+  pub short : too_long (span_of (chars rest)) ≡ false
+  pub number_is : number ≡ decimal_value (number_of (chars rest))
+  pub after_is : chars after ≡ after_number (chars rest)
+  pub decimals_are : option_map parts_of decimals ≡ option_map counted (fraction_of (chars rest))
+  pub end_is : chars end ≡ after_fraction (chars rest)
+  pub after_tail : IsTail rest after
+  pub end_tail : IsTail after end

@@ -17,6 +17,7 @@ use crate::unit::words::scale_of;
 /// Reads the span at the start of `rest`, the end of `text`. Returns the span and the rest from which to look for the next one, or the error
 /// of the first check that fails.
 #[inline(always)]
+#[tactic(auto, using(crate::proofs::Durations::Bytes::Tails::tail_offset), unfolding(crate::specs::Results::Walks::stop_at))]
 pub(crate) fn read_span<'a>(
     text: &'a str,
     rest: &'a str,
@@ -45,7 +46,7 @@ pub(crate) fn read_span<'a>(
 
 /// Reads the unit after a number and its fraction, if any, and returns the result of [`read_span`].
 #[inline(always)]
-#[tactic(auto, using(crate::proofs::Durations::Bytes::Tails::tail_tail, crate::proofs::Durations::Bytes::Tails::tail_boundary))]
+#[tactic(auto, using(crate::proofs::Durations::Bytes::Tails::tail_tail, crate::proofs::Durations::Bytes::Tails::tail_boundary, crate::proofs::Durations::Bytes::Tails::tail_place))]
 fn complete_span<'a>(
     text: &'a str,
     rest: &'a str,

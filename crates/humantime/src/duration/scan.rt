@@ -219,7 +219,7 @@ pub(crate) fn read_word(s: &str) -> Option<(u64, &str)>
 /// Returns what follows the word of a span, from which to look for the next span: without its first character if that is whitespace.
 /// Returns `None` if the text begins with a character other than a digit or whitespace.
 #[inline(always)]
-#[tactic(auto, using(crate::proofs::Durations::Bytes::Tails::slice_tail, crate::proofs::Durations::Bytes::Tails::whole_tail))]
+#[tactic(auto, using(crate::proofs::Durations::Bytes::Tails::slice_tail, crate::proofs::Durations::Bytes::Tails::whole_tail, crate::proofs::Durations::Bytes::Tails::no_bytes, crate::proofs::Durations::Bytes::Tails::some_chars, crate::proofs::Durations::Bytes::PlaceSteps::space_ends, std::proofs::lemmas::Str::len_utf8_bounds, std::proofs::lemmas::Grind::common_steps))]
 pub(crate) fn end_span(s: &str) -> Option<&str>
     ensures read { option_map (λ t. chars t.now) result ≡ reader.end_span (chars s.now) }
     ensures rest { IfSome result (λ t. IsTail s.now t.now) }

@@ -10,11 +10,10 @@ use Rattle.humantime.specs.Texts.{begins, drop_while, take_while, decimal_value}
 use Rattle.humantime.specs.Durations.Accepted.{is_some_and, too_long}
 use Rattle.humantime.specs.Durations.Characters.{is_digit, is_letter, is_numeric, offset_of}
 use Rattle.humantime.specs.Durations.Faults.{number_of, after_number, after_point, after_fraction, fraction_of, word_of, after_word, span_of, InvalidCharacter, UnknownUnit}
-use Rattle.humantime.specs.Durations.Items.{SpanView}
 use Rattle.humantime.specs.Durations.Units.{Scale, scale_of_word}
 use Rattle.humantime.specs.Results.Items.{spelled, trimmed, view_at}
 use Rattle.humantime.specs.Results.Walks.{stop_at}
-use Rattle.humantime.specs.Steps.Readers.{IsBegun, read_number, read_fraction, read_word, end_span, read_span}
+use Rattle.humantime.specs.Steps.Readers.{IsBegun, read_word, end_span, read_span}
 use Rattle.humantime.specs.Steps.Scales.{Counted, counted, parts_of}
 use Rattle.humantime.specs.Steps.Scanning.{begins_with_nonletter}
 use Rattle.humantime.proofs.Durations.Bytes.Trimming.{spelled_at}
@@ -44,55 +43,35 @@ fraction_digits [] slice after e f = grind (arith, common_steps)
 fraction_digits (c ∷ cs) slice after e f =
     grind (arith, common_steps, (append_cancel_right slice [] after), (append_cancel_right slice (c ∷ take_while is_numeric cs) after), (take_while-drop_while is_numeric cs))
 
--- A number and a fraction, if any, at the start of `rest` were read.
-pub record PartsRead (rest after : List ℕ) (value : ℕ) (fraction : Option Counted) (word : List ℕ) : Type 0 where
-  pub begun : begins is_digit rest ≡ true
-  pub short : too_long (span_of rest) ≡ false
-  pub value_is : value ≡ decimal_value (number_of rest)
-  pub after_is : after ≡ after_number rest
-  pub fraction_is : fraction ≡ option_map counted (fraction_of rest)
-  pub word_is : word ≡ after_fraction rest
-
-pub parts_read : {rest after word : List ℕ} {value : ℕ} {fraction : Option Decimal} → IsBegun rest value after fraction word
-    → PartsRead (chars rest) (chars after) value (option_map parts_of fraction) (chars word)
-parts_read b = by _ _ _ _ _ b.digit b.number b.decimals
-  where
-    by : (rest after : List ℕ) (value : ℕ) (fraction : Option Counted) (word : List ℕ) → begins is_digit rest ≡ true → Some (value, after) ≡ read_number rest → Some (fraction, word) ≡ read_fraction after
-        → PartsRead rest after value fraction word
-    by rest after value fraction word d n f = grind (arith, common_steps)
-
-pub fraction_read : (after word : List ℕ) (fraction : Option Counted) → Some (fraction, word) ≡ read_fraction after → word ≡ unwrap_or (option_map after_number (after_point after)) after
-fraction_read after word fraction f = grind (arith, common_steps)
-
 pub word_read : (word next : List ℕ) (scale : Option Scale) → Some (scale, next) ≡ read_word word → (scale ≡ scale_of_word (take_while is_letter word)) × (next ≡ drop_while is_letter word)
 word_read word next scale w = grind (arith, common_steps)
 
--- Tests whether a fraction was read that has no digits.
+-- Tests whether a fraction has no digits.
 abbrev pub is_bare : Option Counted → Bool
 is_bare fraction = is_some_and (λ x. x.2 == 0) fraction
 
-pub exit_word : (text rest after word : List ℕ) (value : ℕ) (fraction : Option Counted) → PartsRead rest after value fraction word → None ≡ read_word word
-    → Err (InvalidCharacter (offset_of text word)) ≡ read_span text rest
+pub exit_word : {rest after word : List ℕ} {value : ℕ} {fraction : Option Decimal} (text : List ℕ) → IsBegun rest value after fraction word → None ≡ read_word (chars word)
+    → Err (InvalidCharacter (offset_of text (chars word))) ≡ read_span text (chars rest)
 unfolding stop_at
-exit_word text rest after word value fraction p w = grind (arith, common_steps, no_letters)
+exit_word text b w = grind (arith, common_steps, no_letters)
 
-pub exit_bare : (text rest after word next : List ℕ) (value : ℕ) (fraction : Option Counted) (scale : Option Scale) → PartsRead rest after value fraction word → Some (scale, next) ≡ read_word word
-    → is_bare fraction ≡ true → Err (InvalidCharacter (offset_of text after)) ≡ read_span text rest
+pub exit_bare : {rest after word : List ℕ} {value : ℕ} {fraction : Option Decimal} (text next : List ℕ) (scale : Option Scale) → IsBegun rest value after fraction word → Some (scale, next) ≡ read_word (chars word)
+    → is_bare (option_map parts_of fraction) ≡ true → Err (InvalidCharacter (offset_of text (chars after))) ≡ read_span text (chars rest)
 unfolding stop_at
-exit_bare text rest after word next value fraction scale p w b = grind (arith, common_steps)
+exit_bare text next scale b w bare = grind (arith, common_steps)
 
-pub exit_end : (text rest after word next : List ℕ) (value : ℕ) (fraction : Option Counted) (scale : Option Scale) → PartsRead rest after value fraction word → Some (scale, next) ≡ read_word word
-    → is_bare fraction ≡ false → None ≡ end_span next → Err (InvalidCharacter (offset_of text next)) ≡ read_span text rest
+pub exit_end : {rest after word : List ℕ} {value : ℕ} {fraction : Option Decimal} (text next : List ℕ) (scale : Option Scale) → IsBegun rest value after fraction word → Some (scale, next) ≡ read_word (chars word)
+    → is_bare (option_map parts_of fraction) ≡ false → None ≡ end_span next → Err (InvalidCharacter (offset_of text next)) ≡ read_span text (chars rest)
 unfolding stop_at
-exit_end text rest after word next value fraction scale p w b e = grind (arith, common_steps)
+exit_end text next scale b w bare e = grind (arith, common_steps)
 
-pub exit_unit : (text rest after word next end : List ℕ) (value : ℕ) (fraction : Option Counted) → PartsRead rest after value fraction word → Some (None, next) ≡ read_word word
-    → is_bare fraction ≡ false → Some end ≡ end_span next
-    → Err (UnknownUnit (offset_of text word) (offset_of text next) (encode_utf8_all (take_while is_letter word)) value) ≡ read_span text rest
+pub exit_unit : {rest after word : List ℕ} {value : ℕ} {fraction : Option Decimal} (text next end : List ℕ) → IsBegun rest value after fraction word → Some (None, next) ≡ read_word (chars word)
+    → is_bare (option_map parts_of fraction) ≡ false → Some end ≡ end_span next
+    → Err (UnknownUnit (offset_of text (chars word)) (offset_of text next) (encode_utf8_all (take_while is_letter (chars word))) value) ≡ read_span text (chars rest)
 unfolding stop_at
-exit_unit text rest after word next end value fraction p w b e = grind (arith, common_steps)
+exit_unit text next end b w bare e = grind (arith, common_steps)
 
-pub no_exit : (text rest after word next end : List ℕ) (value : ℕ) (fraction : Option Counted) (scale : Scale) (view : SpanView) → PartsRead rest after value fraction word → Some (Some scale, next) ≡ read_word word
-    → is_bare fraction ≡ false → Some end ≡ end_span next → view ≡ view_at text rest → Ok (view, end) ≡ read_span text rest
+pub no_exit : (text rest word next end : List ℕ) (fraction : Option Counted) (scale : Scale) → begins is_digit rest ≡ true → too_long (span_of rest) ≡ false → fraction ≡ option_map counted (fraction_of rest)
+    → word ≡ after_fraction rest → Some (Some scale, next) ≡ read_word word → is_bare fraction ≡ false → Some end ≡ end_span next → Ok (view_at text rest, end) ≡ read_span text rest
 unfolding stop_at
-no_exit text rest after word next end value fraction scale view p w b e v = grind (arith, common_steps)
+no_exit text rest word next end fraction scale d s f is w bare e = grind (arith, common_steps)

@@ -1,84 +1,73 @@
 use Rattle.std.proofs.lemmas.Grind.{common_steps}
 use Rattle.std.proofs.lemmas.Bool.Decides.{nat_tests}
 use Rattle.std.proofs.lemmas.Str.{encodes-chars}
-use Rattle.std.proofs.Common.{◌≡◌, ◌∙◌, encode_utf8_all, sym, ap, option_map, arith}
+use Rattle.std.proofs.Common.{◌≡◌, ◌∙◌, encode_utf8_all, Ok, chars, sym, ap, option_map, arith}
 use Rattle.humantime.specs.Texts.{take_while, drop_while}
 use Rattle.humantime.specs.Durations.Characters.{is_numeric, is_letter, offset_of}
-use Rattle.humantime.specs.Durations.Faults.{after_point}
 use Rattle.humantime.specs.Durations.Units.{scale_of_word}
 use Rattle.humantime.specs.Steps.Scales.{parts_of}
-use Rattle.humantime.proofs.Durations.Bytes.Tails.{tail_offset, tail_place, tail_tail, tail_range, front_read, front_chars}
-use Rattle.humantime.proofs.Durations.Bytes.SpanExits.{parts_read, is_bare, exit_word, exit_bare, exit_end, exit_unit, no_exit, fraction_read, fraction_digits, word_read, view_read, spelled_read}
+use Rattle.humantime.proofs.Durations.Bytes.Tails.{tail_offset, tail_tail, tail_part, tail_range, front_read, front_chars}
+use Rattle.humantime.proofs.Durations.Bytes.SpanExits.{fraction_digits, word_read, view_read, spelled_read, is_bare, exit_word, exit_bare, exit_end, exit_unit, no_exit}
 use Rattle.humantime.proofs.duration.reader.complete_span.Goals as goal
 
-pub returns-in_default : goal.returns-in_default
-returns-in_default c =
+pub returns-in_default-clause-read : goal.returns-in_default-clause-read
+returns-in_default-clause-read c =
     let b = c.requires.begun in
-    let tail = tail_tail _ _ _ (tail_tail _ _ _ c.requires.tail b.number_rest) b.decimals_rest in record {
-      read = rw (tail_offset _ _ tail) (exit_word _ _ _ _ _ _ (parts_read b) c.in_default.ensures.read);
-      rest = tt;
-      places = tail_place _ _ tail (λ none. grind (arith, none, c.in_default.ensures.read));
-    }
+    rw (tail_offset _ _ (tail_tail _ _ _ (tail_tail _ _ _ c.requires.tail b.after_tail) b.end_tail)) (exit_word _ b c.in_default.ensures.read)
 
-pub returns-then-is_some_and : goal.returns-then-is_some_and
-returns-then-is_some_and c =
+pub returns-then-is_some_and-clause-read : goal.returns-then-is_some_and-clause-read
+returns-then-is_some_and-clause-read c =
     let b = c.requires.begun in
-    let tail = tail_tail _ _ _ c.requires.tail b.number_rest in
-    let bare : is_bare (option_map parts_of c.args.fraction) ≡ c.is_some_and.result = grind (arith, c.is_some_and.ensures, common_steps, nat_tests) in record {
-      read = rw (tail_offset _ _ tail) (exit_bare _ _ _ _ _ _ _ _ (parts_read b) c.in-Some.ensures.read (bare ∙ c.if-is_some_and.true));
-      rest = tt;
-      places = tail_place _ _ tail (λ none. grind (arith, common_steps, none, b.decimals));
-    }
+    let bare : is_bare (option_map parts_of c.args.fraction) ≡ c.is_some_and.result = grind (arith, c.is_some_and.ensures, common_steps, nat_tests) in
+    rw (tail_offset _ _ (tail_tail _ _ _ c.requires.tail b.after_tail)) (exit_bare _ _ _ b c.in-Some.ensures.read (bare ∙ c.if-is_some_and.true))
 
-pub returns-in_default-end_span : goal.returns-in_default-end_span
-returns-in_default-end_span c =
+pub returns-in_default-end_span-clause-read : goal.returns-in_default-end_span-clause-read
+returns-in_default-end_span-clause-read c =
     let b = c.requires.begun in
-    let tail = tail_tail _ _ _ (tail_tail _ _ _ (tail_tail _ _ _ c.requires.tail b.number_rest) b.decimals_rest) c.in-Some.ensures.rest in
-    let bare : is_bare (option_map parts_of c.args.fraction) ≡ c.is_some_and.result = grind (arith, c.is_some_and.ensures, common_steps, nat_tests) in record {
-      read = rw (tail_offset _ _ tail) (exit_end _ _ _ _ _ _ _ _ (parts_read b) c.in-Some.ensures.read (bare ∙ c.if-is_some_and.false) c.in_default-end_span.ensures.read);
-      rest = tt;
-      places = tail_place _ _ tail (λ none. grind (arith, none, c.in_default-end_span.ensures.read));
-    }
+    let tail = tail_tail _ _ _ (tail_tail _ _ _ (tail_tail _ _ _ c.requires.tail b.after_tail) b.end_tail) c.in-Some.ensures.rest in
+    let bare : is_bare (option_map parts_of c.args.fraction) ≡ c.is_some_and.result = grind (arith, c.is_some_and.ensures, common_steps, nat_tests) in
+    rw (tail_offset _ _ tail) (exit_end _ _ _ b c.in-Some.ensures.read (bare ∙ c.if-is_some_and.false) c.in_default-end_span.ensures.read)
 
 pub returns-in_default-scale_of-clause-read : goal.returns-in_default-scale_of-clause-read
 returns-in_default-scale_of-clause-read c =
     let b = c.requires.begun in
-    let tail = tail_tail _ _ _ (tail_tail _ _ _ c.requires.tail b.number_rest) b.decimals_rest in
+    let tail = tail_tail _ _ _ (tail_tail _ _ _ c.requires.tail b.after_tail) b.end_tail in
     let bare : is_bare (option_map parts_of c.args.fraction) ≡ c.is_some_and.result = grind (arith, c.is_some_and.ensures, common_steps, nat_tests) in
     let letters = front_read is_letter _ _ _ c.in-Some.ensures.rest (word_read _ _ _ c.in-Some.ensures.read).1 c.range-unit.ensures.value in
-    let unit = sym (encodes-chars _ c.range-unit.utf8) ∙ ap encode_utf8_all letters in
-    rw (tail_offset _ _ tail, tail_offset _ _ (tail_tail _ _ _ tail c.in-Some.ensures.rest), unit)
-    (exit_unit _ _ _ _ _ _ _ _ (parts_read b) (rw (sym c.in_default-scale_of.ensures) at c.in-Some.ensures.read) (bare ∙ c.if-is_some_and.false) c.in-Some-end_span.ensures.read)
+    rw (tail_offset _ _ tail, tail_offset _ _ (tail_tail _ _ _ tail c.in-Some.ensures.rest), sym (encodes-chars _ c.range-unit.utf8) ∙ ap encode_utf8_all letters)
+    (exit_unit _ _ _ b (rw (sym c.in_default-scale_of.ensures) at c.in-Some.ensures.read) (bare ∙ c.if-is_some_and.false) c.in-Some-end_span.ensures.read)
+
+pub returns-in_default-scale_of-clause-places : goal.returns-in_default-scale_of-clause-places
+returns-in_default-scale_of-clause-places c =
+    let b = c.requires.begun in
+    tail_part _ _ _ _ (tail_tail _ _ _ (tail_tail _ _ _ c.requires.tail b.after_tail) b.end_tail) c.in-Some.ensures.rest c.range-unit.ensures.value
 
 pub invariant_of-span-2 : goal.invariant_of-span-2
 invariant_of-span-2 c =
     let b = c.requires.begun in
-    let p = parts_read b in
     let word = word_read _ _ _ c.in-Some.ensures.read in
-    let number = front_read is_numeric _ _ _ b.number_rest p.after_is c.range.ensures.value in
-    let letters = front_read is_letter _ _ _ c.in-Some.ensures.rest word.1 c.range-unit.ensures.value ∙ ap (take_while is_letter) p.word_is in
-    let digits = c.skip_point.ensures.read ∙ fraction_digits _ _ _ (front_chars _ _ _ b.decimals_rest c.range-2.utf8 c.range-2.ensures.value) (fraction_read _ _ _ b.decimals)
-    ∙ ap (λ cs. option_map (take_while is_numeric) (after_point cs)) p.after_is in
+    let number = front_read is_numeric _ _ _ b.after_tail b.after_is c.range.ensures.value in
+    let letters = front_read is_letter _ _ _ c.in-Some.ensures.rest word.1 c.range-unit.ensures.value ∙ ap (take_while is_letter) b.end_is in
+    let digits = c.skip_point.ensures.read ∙ fraction_digits _ _ _ (sym b.after_is ∙ front_chars _ _ _ b.end_tail c.range-2.utf8 c.range-2.ensures.value) b.end_is in
     record {
       read = rw (spelled_read _ _ _ c.skip_point.result number letters digits)
-          (record { scale = sym (c.in-Some-scale_of.ensures ∙ word.0 ∙ ap (λ cs. scale_of_word (take_while is_letter cs)) p.word_is); value = p.value_is; fraction = p.fraction_is });
+          (record { scale = sym (c.in-Some-scale_of.ensures ∙ word.0 ∙ ap (λ cs. scale_of_word (take_while is_letter cs)) b.end_is); value = b.number_is; fraction = b.decimals_are });
     }
 
 pub returns-clause-read : goal.returns-clause-read
 returns-clause-read c =
     let b = c.requires.begun in
-    let p = parts_read b in
-    let tail = tail_tail _ _ _ (tail_tail _ _ _ (tail_tail _ _ _ c.requires.tail b.number_rest) b.decimals_rest) c.in-Some.ensures.rest in
-    let bare : is_bare (option_map parts_of c.args.fraction) ≡ c.is_some_and.result = grind (arith, c.is_some_and.ensures, common_steps, nat_tests) in
     let word = word_read _ _ _ c.in-Some.ensures.read in
-    let number = front_read is_numeric _ _ _ b.number_rest p.after_is c.range.ensures.value in
-    let letters = front_read is_letter _ _ _ c.in-Some.ensures.rest word.1 c.range-unit.ensures.value ∙ ap (take_while is_letter) p.word_is in
-    let digits = c.skip_point.ensures.read ∙ fraction_digits _ _ _ (front_chars _ _ _ b.decimals_rest c.range-2.utf8 c.range-2.ensures.value) (fraction_read _ _ _ b.decimals)
-    ∙ ap (λ cs. option_map (take_while is_numeric) (after_point cs)) p.after_is in
-    let view = view_read _ _ _ _ _ _ _ _ number digits letters (tail_offset _ _ c.requires.tail) (tail_offset _ _ tail ∙ ap (offset_of _) (word.1 ∙ ap (drop_while is_letter) p.word_is)) p.value_is in
-    no_exit _ _ _ _ _ _ _ _ _ _ p (rw (sym c.in-Some-scale_of.ensures) at c.in-Some.ensures.read) (bare ∙ c.if-is_some_and.false) c.in-Some-end_span.ensures.read view
+    let number = front_read is_numeric _ _ _ b.after_tail b.after_is c.range.ensures.value in
+    let letters = front_read is_letter _ _ _ c.in-Some.ensures.rest word.1 c.range-unit.ensures.value ∙ ap (take_while is_letter) b.end_is in
+    let digits = c.skip_point.ensures.read ∙ fraction_digits _ _ _ (sym b.after_is ∙ front_chars _ _ _ b.end_tail c.range-2.utf8 c.range-2.ensures.value) b.end_is in
+    let tail = tail_tail _ _ _ (tail_tail _ _ _ (tail_tail _ _ _ c.requires.tail b.after_tail) b.end_tail) c.in-Some.ensures.rest in
+    let view = view_read _ _ _ _ _ _ _ _ number digits letters (tail_offset _ _ c.requires.tail) (tail_offset _ _ tail ∙ ap (offset_of _) (word.1 ∙ ap (drop_while is_letter) b.end_is)) b.number_is in
+    let bare : is_bare (option_map parts_of c.args.fraction) ≡ c.is_some_and.result = grind (arith, c.is_some_and.ensures, common_steps, nat_tests) in
+    ap (λ x. Ok (x, chars c.in-Some-end_span.next.now)) view
+    ∙ no_exit _ _ _ _ _ _ _ b.digit b.short b.decimals_are b.end_is (rw (sym c.in-Some-scale_of.ensures) at c.in-Some.ensures.read) (bare ∙ c.if-is_some_and.false) c.in-Some-end_span.ensures.read
 
 pub returns-clause-places : goal.returns-clause-places
 returns-clause-places c =
     let b = c.requires.begun in
-    tail_range _ _ _ c.requires.tail (tail_tail _ _ _ (tail_tail _ _ _ b.number_rest b.decimals_rest) c.in-Some.ensures.rest)
+    tail_range _ _ _ c.requires.tail (tail_tail _ _ _ (tail_tail _ _ _ b.after_tail b.end_tail) c.in-Some.ensures.rest)

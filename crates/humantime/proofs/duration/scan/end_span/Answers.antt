@@ -1,26 +1,15 @@
-use Rattle.std.proofs.lemmas.Bool.Decides.{nat_tests}
 use Rattle.std.proofs.lemmas.Grind.{common_steps}
 use Rattle.std.proofs.Common.{arith}
-use Rattle.std.proofs.lemmas.Str.{IsCharBoundary-start, len_utf8_bounds}
+use Rattle.std.proofs.lemmas.Str.{IsCharBoundary-start}
 use Rattle.humantime.proofs.Durations.Bytes.PlaceSteps.{space_ends, whitespace_ends}
-use Rattle.humantime.proofs.Durations.Bytes.Tails.{no_bytes, some_chars}
 use Rattle.humantime.proofs.Durations.Reading.Classes.{digit_is_numeric, digit_not_whitespace}
 use Rattle.humantime.proofs.duration.scan.end_span.Goals as goal
-
-pub returns-then-is_empty-clause-read : goal.returns-then-is_empty-clause-read
-returns-then-is_empty-clause-read c = grind (arith, common_steps, nat_tests, no_bytes)
 
 pub range_from-requires : goal.range_from-requires
 range_from-requires c _ = (space_ends _ c.utf8.s (grind arith) (grind arith)).0
 
-pub returns-then-as_bytes-eq32-clause-read : goal.returns-then-as_bytes-eq32-clause-read
-returns-then-as_bytes-eq32-clause-read c = grind (arith, common_steps, nat_tests, space_ends)
-
 pub skip_whitespace_char-requires : goal.skip_whitespace_char-requires
 skip_whitespace_char-requires c = (grind arith, IsCharBoundary-start c.args.s.now c.utf8.s)
-
-pub returns-in_err-len-clause-read : goal.returns-in_err-len-clause-read
-returns-in_err-len-clause-read c = grind (arith, common_steps, nat_tests, len_utf8_bounds, some_chars)
 
 pub range_from-requires-2 : goal.range_from-requires-2
 range_from-requires-2 c _ = (whitespace_ends _ _ c.utf8.s (grind arith) c.in_ok-len.ensures.0 c.in_ok-len.ensures.1).0

@@ -1,6 +1,6 @@
 use Rattle.std.proofs.lemmas.Bool.Decides.{nat_tests}
 use Rattle.std.proofs.lemmas.Grind.{common_steps}
-use Rattle.std.proofs.Common.{◌≡◌, ◌+◌, ◌++◌, ◌∷◌, [], get_or, sym, ap, ◌∙◌, chars, drop, false, arith, length-append, append_assoc}
+use Rattle.std.proofs.Common.{◌≡◌, ◌+◌, ◌++◌, ◌∷◌, [], get_or, sym, ◌∙◌, chars, drop, false, arith, length-append, append_assoc}
 use Rattle.humantime.specs.Texts.{begins}
 use Rattle.humantime.specs.Durations.Characters.{is_numeric}
 use Rattle.humantime.specs.Durations.Faults.{number_of}
@@ -43,11 +43,6 @@ returns-in_err-value-clause-read c =
 pub returns-clause-read : goal.returns-clause-read
 returns-clause-read c =
     let i = c.loop-at.invariant in
-    let ended : begins is_numeric (chars (drop c.loop-at.at c.in-Some.digits.now)) ≡ false = elim c.loop-at-test.branch [
-      | else-loop-at-test w ↦ ap (begins is_numeric) (no_chars_at _ c.loop-at.at (omega (arith, w.loop-at-test.false, c.as_bytes-bytes.ensures.len)))
-      | then-loop-at-test+else-is_ascii_digit+in-None w ↦
-          stops_here _ _ _ c.in-Some.ensures.rest.utf8 c.as_bytes-bytes.ensures.value w.loop-at-test.true i.read.place
-          (sym w.is_ascii_digit.ensures.value ∙ w.if-is_ascii_digit.false) w.in-None.ensures
-    ] in
+    let ended : begins is_numeric (chars (drop c.loop-at.at c.in-Some.digits.now)) ≡ false = grind (arith, else-loop-at-test, then-loop-at-test+else-is_ascii_digit+in-None, no_chars_at, stops_here) in
     let r = all_read _ _ _ i.read ended in
     grind (arith, common_steps, nat_tests, r.0, r.1, i.digits.parts, i.digits.few)

@@ -1,6 +1,6 @@
 use Rattle.std.proofs.lemmas.Bool.Decides.{nat_tests}
 use Rattle.humantime.proofs.Durations.Reading.SignificantDigits.{digits_value-append}
-use Rattle.std.proofs.Common.{◌≡◌, ◌∷◌, [], get_or, sym, ap, ◌∙◌, chars, drop, false, arith}
+use Rattle.std.proofs.Common.{◌≡◌, ◌∷◌, [], get_or, sym, ◌∙◌, chars, drop, false, arith}
 use Rattle.humantime.specs.Texts.{begins}
 use Rattle.humantime.specs.Durations.Characters.{is_numeric}
 use Rattle.humantime.proofs.Durations.Reading.Classes.{digit_is}
@@ -49,11 +49,6 @@ returns-in_err-value-clause-read c =
 pub returns-clause-read : goal.returns-clause-read
 returns-clause-read c =
     let i = c.loop-at.invariant in
-    let ended : begins is_numeric (chars (drop c.loop-at.at c.args.s.now)) ≡ false = elim c.loop-at-test.branch [
-      | else-loop-at-test w ↦ ap (begins is_numeric) (no_chars_at _ c.loop-at.at (omega (arith, w.loop-at-test.false, c.as_bytes-bytes.ensures.len)))
-      | then-loop-at-test+else-digit-le9+in-None w ↦
-          stops_here _ _ _ c.utf8.s c.as_bytes-bytes.ensures.value w.loop-at-test.true i.read.place
-          (other_left _ (i.bytes c.loop-at.at) w.if-digit-le9.false) w.in-None.ensures
-    ] in
+    let ended : begins is_numeric (chars (drop c.loop-at.at c.args.s.now)) ≡ false = grind (arith, else-loop-at-test, then-loop-at-test+else-digit-le9+in-None, no_chars_at, other_left, stops_here) in
     let r = all_read _ _ _ i.read ended in
     grind (arith, nat_tests, r.0, r.1, i.value, i.fits)

@@ -1,10 +1,9 @@
 use Rattle.humantime.specs.Texts.{drop_while}
 use Rattle.humantime.specs.Durations.Characters.{is_letter}
-use Rattle.humantime.specs.Steps.Scanning.{begins_with_nonletter}
 use Rattle.std.proofs.lemmas.Bool.{cases_lt}
 use Rattle.std.proofs.lemmas.Bool.Decides.{nat_tests}
 use Rattle.std.proofs.lemmas.Grind.{common_steps}
-use Rattle.std.proofs.Common.{◌<◌, ◌+◌, ◌≡◌, chars, drop, false, ℕ, List, length, get_or, refl, sym, ap, ◌∙◌, arith}
+use Rattle.std.proofs.Common.{◌<◌, ◌+◌, ◌≡◌, chars, drop, ℕ, List, length, get_or, refl, sym, ap, ◌∙◌, arith}
 use Rattle.std.proofs.lemmas.Str.{IsCharBoundary-start, chars-nil}
 use Rattle.humantime.proofs.Durations.Bytes.PlaceSteps.{letter_over, letter_high, mu_over, mu_high, ascii_at, micro_bytes, char_at, mu_bytes}
 use Rattle.humantime.proofs.Durations.Bytes.WordKeys.{key_more, scale_so_far}
@@ -51,11 +50,7 @@ returns-clause-read c =
     let rest = rest_is (goal.at.returns-clause-read c).Left-loop-at in
     let key = scale_so_far _ _ _ c.utf8.s (λ k. (c.type_inv.s k).fits) c.loop-at.invariant.place c.loop-at.invariant.key in
     let letters = front_is is_letter _ c.loop-at.at c.utf8.s c.loop-at.invariant.place rest in
-    let begun : begins_with_nonletter (chars c.args.s.now) ≡ false = elim c.else-at-eq0.branch [
-      | else-at-eq0-via-then-at-eq0+else-not-is_empty w ↦ grind (arith, common_steps, nat_tests, no_bytes)
-      | else-at-eq0-via-else-at-eq0 w ↦ a_word _ c.loop-at.at c.utf8.s c.loop-at.invariant.place rest (grind arith)
-    ] in
-    rw (begun, c.range_from.ensures.value, rest, key, letters) refl
+    grind (arith, common_steps, nat_tests, rest, key, letters, a_word, no_bytes)
 
 pub returns-then-not-is_empty-clause-read : goal.returns-then-not-is_empty-clause-read
 returns-then-not-is_empty-clause-read c =
