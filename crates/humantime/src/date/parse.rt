@@ -17,32 +17,32 @@ use crate::unit::sizes::SECONDS_PER_DAY;
 use crate::value::SystemTime;
 use std::simd::prelude::*;
 
-// The vectors are statics that are read as slices: the kit's own back end loads such a vector with one instruction, and builds any
-// other with five.
+// The first 19 bytes of a timestamp are read as two vectors of 16 bytes, the front from byte 0 and the back from byte 3. The tables are
+// statics that are read as slices: the kit's own back end loads such a vector with one instruction, and builds any other with five.
 
-/// The minimum of each of the first 16 bytes.
+/// The least byte that is allowed at each of the bytes 0 to 15 of a timestamp.
 static FRONT_MIN: [u8; 16] = *b"0000-00-00 00:00";
 
-/// How far each of these bytes may be above its minimum: 9 for a digit and 0 for punctuation. The separator, byte 10, may be any byte
+/// How far each byte of the front may be above its minimum: 9 for a digit and 0 for punctuation. The separator, byte 10, may be any byte
 /// here, because it is tested separately.
 static FRONT_RANGE: [u8; 16] = [9, 9, 9, 9, 0, 9, 9, 0, 9, 9, 255, 9, 9, 0, 9, 9];
 
-/// The minimum of each of the 16 bytes from byte 3 on.
+/// The least byte that is allowed at each of the 16 bytes from byte 3 on.
 static BACK_MIN: [u8; 16] = *b"0-00-00 00:00:00";
 
-/// How far each of these bytes may be above its minimum. Bytes 3 to 15 may be any bytes here, because `FRONT_RANGE` covers them.
+/// How far each byte of the back may be above its minimum. Bytes 3 to 15 may be any bytes here, because `FRONT_RANGE` covers them.
 static BACK_RANGE: [u8; 16] = [
     255, 255, 255, 255, 255, 255, 255, 255, 255, 255, 255, 255, 255, 0, 9, 9,
 ];
 
-/// The weight of each of the first 16 bytes in `dot4`, which adds up each group of four. The sums are the year divided by 10, the month,
-/// the day and the minute.
+/// The weight of each of the first 16 bytes in `dot4` of the kit, which adds up each group of four. The sums are the year divided by 10,
+/// because a weight of 1000 does not fit in a `u8`, the month, the day and the minute.
 static FRONT_WEIGHTS: [u8; 16] = [100, 10, 1, 0, 0, 10, 1, 0, 10, 1, 0, 0, 0, 0, 10, 1];
 
 /// The weight of each of the 16 bytes from byte 3 on. The sums are the last digit of the year, 0, the hour and the second.
 static BACK_WEIGHTS: [u8; 16] = [1, 0, 0, 0, 0, 0, 0, 0, 10, 1, 0, 0, 0, 0, 10, 1];
 
-/// The number of nanoseconds that the digit 1 stands for at each of the first nine places after the point.
+/// The value in nanoseconds of a 1 at each of the first nine decimal places.
 static PLACE_VALUES: [u32; 9] = [
     100_000_000,
     10_000_000,
@@ -144,7 +144,7 @@ fn has_t_and_zone(bytes: &[u8]) -> bool
     bytes.len() >= 20 && bytes[10] == b'T' && before_zone(bytes).len() < bytes.len()
 }
 
-/// Returns the bytes before the zone at the end, or all of them if there is no zone.
+/// Returns the bytes before the zone (`Z` or `+00:00`) at the end, or all of them if there is no zone.
 #[inline(always)]
 #[tactic(auto, unfolding(crate::specs::Timestamps::Checks::zone_of))]
 fn before_zone(bytes: &[u8]) -> &[u8]
@@ -181,7 +181,7 @@ fn read_timestamp(bytes: &[u8]) -> Result<SystemTime, TimestampError>
 #[tactic(auto, using(crate::proofs::Timestamps::Reading::Exits::exit_layout))]
 fn layout_error(bytes: &[u8]) -> TimestampError
     requires long { 19 ≤ length bytes.now }
-    requires other { Steps.has_layout bytes.now ≡ false }
+    requires wrong_layout { Steps.has_layout bytes.now ≡ false }
     ensures { weak_answer bytes.now ≡ Err result }
 {
     if has_punctuation(bytes) {
@@ -249,13 +249,14 @@ fn parse_date_time(bytes: &[u8]) -> Option<DateTime>
 }
 
 /// Returns the number of seconds from 1970-01-01T00:00:00Z to a date and time, or `None` if the date does not exist in 1970 to 9999 or
-/// the time is out of range. Second 60 counts as second 59.
+/// the time is out of range. Second 60 counts as second 59. The number is below 2^63, as `SystemTime` demands.
 #[inline(always)]
 #[tactic(auto, unfolding(crate::specs::Timestamps::Checks::is_valid_date_time))]
 fn unix_seconds(when: DateTime) -> Option<u64>
     ensures value { SomeIff result (IsTrue (is_valid_date_time when)) (seconds_of when.date when.hour when.minute when.second) }
     ensures bound { IfSome result (λ n. n < 2 ^ 63) }
 {
+    // `Turns` counts iterations for contracts alone.
     let day = day_number(when.date, &mut Turns::new())?;
     if when.hour > 23 || when.minute > 59 || when.second > 60 {
         return None;

@@ -29,10 +29,13 @@ use crate::duration::span::Span;
 /// ```
 #[derive(Drop)]
 pub struct SpanIter<'a> {
+    /// The whole text.
     pub(crate) text: &'a str,
     /// The part at the end of `text` that has not been read.
     pub(crate) rest: &'a str,
+    /// Whether an error or the end of the text has been returned.
     pub(crate) ended: bool,
+    // `by` proves that two iterators with the same other fields are equal, whatever the proof in this one is.
     ghost tail: { IsTail text.now rest.now } by { Prim.hlevel props },
 }
 
@@ -44,6 +47,7 @@ impl<'a> Iterator for SpanIter<'a> {
 
     ghost next_gives = { GivesItem };
 
+    // The number of items that are left, by which a loop over the iterator ends.
     ghost remaining = { item_count items_left };
 
     #[inline(always)]
@@ -51,16 +55,16 @@ impl<'a> Iterator for SpanIter<'a> {
         if self.ended {
             return None;
         }
-        let start = skip_whitespace(self.rest);
-        if start.is_empty() {
+        let unread = skip_whitespace(self.rest);
+        if unread.is_empty() {
             self.ended = true;
-            // No span has been read.
+            // If no span has been read, the text is empty or only whitespace.
             if self.rest.len() == self.text.len() {
                 return Some(Err(DurationError::Empty));
             }
             return None;
         }
-        match read_span(self.text, start) {
+        match read_span(self.text, unread) {
             Ok((span, rest)) => {
                 self.rest = rest;
                 Some(Ok(span))

@@ -16,9 +16,9 @@ use crate::value::StdDuration;
 ///
 /// # Errors
 ///
-/// The errors are those of [`parse_duration`], except that products, sums and the precision of fractions are not checked. A
-/// number above `u64::MAX`, or a fraction with more than 19 digits before its trailing zeros, is still an error. Unlike
-/// `parse_duration`, this function rejects `0`, which has no unit.
+/// The errors are those of [`parse_duration`], except that products and sums, and whether a fraction is a whole number of nanoseconds or
+/// seconds, are not checked. A number above `u64::MAX`, or a fraction with more than 19 digits before its trailing zeros, is still an
+/// error. Unlike `parse_duration`, this function rejects `0`, which has no unit.
 ///
 /// # Examples
 ///
@@ -55,7 +55,7 @@ fn sum_of<'a>(text: &'a str) -> Result<StdDuration, DurationError<'a>>
     let mut total = StdDuration::ZERO;
     let mut items = spans(text);
     while let Some(item) = items.next() {
-        // `match` and not `?`, for which the kit's own back end copies the error by a call.
+        // `match` and not `?`: with `?`, the kit's own back end calls a function to copy the error.
         match item {
             Ok(span) => match add_amount(total, span.amount) {
                 Some(sum) => total = sum,
@@ -70,26 +70,27 @@ fn sum_of<'a>(text: &'a str) -> Result<StdDuration, DurationError<'a>>
 /// Parses a duration, such as `2h 37min`.
 ///
 /// The text consists of one or more spans, and the duration is their sum. A span is a number, an optional fraction and a unit, such as
-/// `1.5d`. Digits are ASCII. Unicode whitespace is allowed between digits, and before and after each part. Trailing zeros of a fraction
-/// are ignored. The text `0`, without a unit or whitespace, is the zero duration.
+/// `1.5d`. Digits are ASCII. Unicode whitespace is allowed everywhere but in a unit. Trailing zeros of a fraction are ignored. The text
+/// `0`, without a unit or whitespace, is the zero duration.
 ///
 /// The units are `ns`, `us` or `µs`, `ms`, `s`, `m`, `h`, `d`, `w`, `M` (a month of 30.44 days) and `y` (a year of 365.25 days), and longer
 /// words such as `min`, `hours` and `months`. Case matters.
 ///
 /// # Errors
 ///
-/// Returns the first error, from left to right. In a span, the checks are in this order: whether the number or the fraction is too long, the
-/// characters, the unit, and the limits of the span and of the sum. Offsets are in bytes and lie on `char` boundaries.
+/// Returns the first error, from left to right. In a span, the checks are in this order: whether the number is too large or the fraction too
+/// long, the characters, the unit, and the limits of the span and of the sum. Offsets are in bytes and lie on `char` boundaries.
 ///
 /// - [`Empty`](DurationError::Empty): the text is empty or has only whitespace.
-/// - [`NumberExpected`](DurationError::NumberExpected): the first character after leading whitespace, or after a span and the
-///   whitespace that follows it, is not a digit.
+/// - [`NumberExpected`](DurationError::NumberExpected): the first character after leading whitespace, or after a span and whitespace, is not
+///   a digit.
 /// - [`InvalidCharacter`](DurationError::InvalidCharacter): a span has a character that is not allowed there, or a point
 ///   without a digit after it.
 /// - [`UnknownUnit`](DurationError::UnknownUnit): the letters after a number (ASCII, `µ` or `μ`) are not a unit, or the text ends
 ///   without one. The error borrows the unit from `s`.
-/// - [`NumberOverflow`](DurationError::NumberOverflow): a number, its product with the size of its unit, or the sum overflows; or a
-///   fraction cannot be represented.
+/// - [`NumberOverflow`](DurationError::NumberOverflow): a number, its product with the size of its unit, that of a fraction's digits, or
+///   the sum overflows; or a fraction has more than 19 digits before its trailing zeros, or is not a whole number of nanoseconds or, from
+///   hours on, of seconds.
 ///
 /// # Examples
 ///

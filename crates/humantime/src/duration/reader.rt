@@ -14,8 +14,8 @@ use crate::duration::scan::{
 use crate::duration::span::Span;
 use crate::unit::words::scale_of;
 
-/// Reads the span at the start of `rest`, the end of `text`. Returns the span and the rest from which to look for the next one, or the error
-/// of the first check that fails.
+/// Reads the span at the start of `rest`, which is the unread end of `text` and not empty. Returns the span and the text after it, or the
+/// error of the first check that fails. Offsets are those in `text`.
 #[inline(always)]
 #[tactic(auto, using(crate::proofs::Durations::Bytes::Tails::tail_offset), unfolding(crate::specs::Results::Walks::stop_at))]
 pub(crate) fn read_span<'a>(
@@ -23,7 +23,7 @@ pub(crate) fn read_span<'a>(
     rest: &'a str,
 ) -> Result<(Span<'a>, &'a str), DurationError<'a>>
     requires tail { IsTail text.now rest.now }
-    requires some { length rest.now ≢ 0 }
+    requires nonempty { length rest.now ≢ 0 }
     ensures read { span_result result ≡ reader.read_span (chars text.now) (chars rest.now) }
     ensures rest { IfOk result (λ x. IsTail text.now x.1.now) }
     ensures places { MatchResult result (λ x. IsRangeIn text.now x.0.start x.0.end) (PointsInto text.now) }
@@ -37,14 +37,15 @@ pub(crate) fn read_span<'a>(
     let Some((fraction, after_fraction)) = read_fraction(after_number) else {
         return Err(DurationError::NumberOverflow);
     };
-    // `complete_span` is inlined twice, so that a span without a fraction needs no registers for one.
+    // Both arms do the same: `complete_span` is inlined twice, so that a span without a fraction needs no registers for one.
     match fraction {
         None => complete_span(text, rest, value, after_number, None, after_fraction),
         Some(_) => complete_span(text, rest, value, after_number, fraction, after_fraction),
     }
 }
 
-/// Reads the unit after a number and its fraction, if any, and returns the result of [`read_span`].
+/// Reads the unit after a number and its fraction, if any, and returns the result of [`read_span`]. The value and the fraction were read from
+/// the start of `rest`, and are followed by `after_number` and `after_fraction`.
 #[inline(always)]
 #[tactic(auto, using(crate::proofs::Durations::Bytes::Tails::tail_tail, crate::proofs::Durations::Bytes::Tails::tail_boundary, crate::proofs::Durations::Bytes::Tails::tail_place))]
 fn complete_span<'a>(
@@ -64,10 +65,11 @@ fn complete_span<'a>(
     let Some((key, after_word)) = read_word(after_fraction) else {
         return Err(DurationError::InvalidCharacter(text.len() - after_fraction.len()));
     };
-    // A point without digits is an error only if a letter or the end of the text follows it, so it is tested after the word.
+    // `1.~` is wrong at the `~`, but `1.s~` at the point. So a point without digits is rejected after the first letter is found.
     if fraction.is_some_and(|fraction| fraction.len == 0) {
         return Err(DurationError::InvalidCharacter(text.len() - after_number.len()));
     }
+    // `1foo~` is wrong at the `~`, so what follows the word is tested before the word.
     let Some(next) = end_span(after_word) else {
         return Err(DurationError::InvalidCharacter(text.len() - after_word.len()));
     };
@@ -82,6 +84,7 @@ fn complete_span<'a>(
         });
     };
     let span = Span {
+        // Both slices have the whitespace around the digits, which the methods of `Span` trim. The second is `None` if there is no point.
         number: &rest[..rest.len() - after_number.len()],
         fraction: skip_point(&after_number[..after_number.len() - after_fraction.len()]),
         unit,

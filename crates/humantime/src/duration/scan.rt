@@ -1,4 +1,6 @@
-//! Readers of the parts of a span, each from a text to what it reads and the rest of the text.
+//! Reads the parts of a span. Each reader takes a text, and returns what it has read from its start, and the rest of the text.
+//!
+//! In contracts, `IsTail text rest` says that `rest` is the end of `text`. So an offset is a difference of two lengths.
 
 ghost use Rattle.std.specs.Prelude.{◌≡◌, ◌==◌, ◌+◌, ◌<◌, ◌&&◌, ◌||◌, true, drop, chars, option_map};
 ghost use Rattle.std.specs.Prelude.{IfSome, SomeIff, IsCharBoundary};
@@ -15,10 +17,10 @@ ghost use Rattle.humantime.specs.Steps.Scanning.{IsTail, SkipsWhitespace, whites
 use crate::duration::amount::{Decimal, push_digit};
 use crate::unit::words::{EMPTY_KEY, push_byte};
 
-/// The greatest number whose product with 10 fits in a `u64`.
+/// The greatest number whose product with 10 fits in a `u64`. A digit can be appended to any smaller number.
 const TENTH_OF_MAX: u64 = u64::MAX / 10;
 
-/// Returns `true` if the two bytes encode the micro sign or the Greek letter mu, the only letters outside ASCII in words of units.
+/// Returns `true` if the two bytes encode `µ` (U+00B5) or `μ` (U+03BC), the only letters outside ASCII in the words of units.
 #[inline(always)]
 fn is_mu(first: u8, second: u8) -> bool
     ensures { result ≡ ((first == 0xc2 && second == 0xb5) || (first == 0xce && second == 0xbc)) }
@@ -50,11 +52,12 @@ pub(crate) fn skip_whitespace_char(text: &str, at: usize) -> Option<usize>
     ensures { SomeIff result (0 < whitespace_len (chars (drop at text.now))) (at + whitespace_len (chars (drop at text.now))) }
 {
     let bytes = text.as_bytes();
-    // Usually this is an ASCII letter. No character from `!` to U+007F is whitespace.
+    // The byte is usually an ASCII letter. No character from `!` to U+007F is whitespace.
     if bytes[at] > b' ' && bytes[at] < 0x80 {
         return None;
     }
     if bytes[at] < 0x80 {
+        // U+000B is whitespace, too, which `is_ascii_whitespace` lacks.
         let is_whitespace = bytes[at] == b' ' || bytes[at] >= b'\t' && bytes[at] <= b'\r';
         return is_whitespace.then_some(at + 1);
     }
@@ -68,9 +71,10 @@ pub(crate) fn skip_whitespace_char(text: &str, at: usize) -> Option<usize>
     }
 }
 
-/// Returns the offset after the spaces (U+0020) at offset `from`, if any. The contract promises only that nothing but whitespace is skipped.
+/// Returns the offset after the spaces (U+0020) at offset `from`, if any. The contract does not say that all are skipped, but that nothing
+/// else than whitespace is.
 ///
-/// This is a separate loop, because most runs of whitespace are spaces.
+/// It is a loop of its own, in which each further space costs one test.
 #[inline(always)]
 fn skip_spaces(text: &str, from: usize) -> usize
     requires { IsCharBoundary text.now from }
@@ -91,7 +95,7 @@ pub(crate) fn skip_whitespace(s: &str) -> &str
     ensures read { chars result.now ≡ drop_while is_whitespace (chars s.now) }
     ensures rest { IsTail s.now result.now }
 {
-    // Most texts have a digit here.
+    // Usually a digit is first, because `end_span` has skipped the space before it.
     if begins_with_digit(s) {
         return s;
     }
@@ -105,7 +109,7 @@ pub(crate) fn skip_whitespace(s: &str) -> &str
     &s[at..]
 }
 
-/// Returns `true` if the text begins with a digit.
+/// Returns `true` if the text begins with an ASCII digit.
 #[inline(always)]
 pub(crate) fn begins_with_digit(text: &str) -> bool
     ensures { result ≡ begins is_digit (chars text.now) }
@@ -114,7 +118,8 @@ pub(crate) fn begins_with_digit(text: &str) -> bool
     !bytes.is_empty() && bytes[0].is_ascii_digit()
 }
 
-/// Reads a number, or returns `None` if it does not fit in a `u64`. The text must begin with a digit.
+/// Reads the digits at the start of the text, with the whitespace between and after them. Returns their value and the rest, or `None` if the
+/// value does not fit in a `u64`. The text must begin with a digit.
 #[inline(always)]
 #[tactic(auto, using(crate::proofs::Durations::Bytes::Numbers::first_digit, crate::proofs::Durations::Bytes::Tails::slice_tail))]
 pub(crate) fn read_number(s: &str) -> Option<(u64, &str)>
@@ -126,11 +131,11 @@ pub(crate) fn read_number(s: &str) -> Option<(u64, &str)>
     let mut value = (bytes[0] - b'0') as u64;
     let mut at = 1;
     while at < bytes.len() {
-        // Above 9, possibly after wrapping around, unless the byte is a digit.
+        // At most 9 if and only if the byte is a digit, so that one subtraction both tests and converts it.
         let digit = (bytes[at] as u64).wrapping_sub(b'0' as u64);
         if digit <= 9 {
             at += 1;
-            // Below `TENTH_OF_MAX` no digit overflows, so only the last digits of the longest numbers are tested for overflow.
+            // Only the last digits of the longest numbers are tested for overflow.
             value = if value >= TENTH_OF_MAX {
                 push_digit(value, digit)?
             } else {
@@ -146,7 +151,7 @@ pub(crate) fn read_number(s: &str) -> Option<(u64, &str)>
     Some((value, &s[at..]))
 }
 
-/// Returns what follows the point at the start of the text, or `None` if there is no point.
+/// Returns what follows the decimal point at the start of the text, or `None` if there is no point.
 #[inline(always)]
 #[tactic(auto, using(crate::proofs::Durations::Bytes::Tails::slice_tail, crate::proofs::Durations::Bytes::Tails::whole_tail))]
 pub(crate) fn skip_point(s: &str) -> Option<&str>
@@ -159,31 +164,34 @@ pub(crate) fn skip_point(s: &str) -> Option<&str>
     Some(&s[1..])
 }
 
-/// Reads a point and the digits after it, if any. Returns `None` if there are more than 19 digits before the trailing zeros.
+/// Reads a decimal point at the start of the text and the digits after it, with the whitespace around and between them. Returns the digits
+/// and the rest, or `None` if there are more than 19 digits before the trailing zeros.
+///
+/// If there is no point, there are no digits (`None`), and the rest is the text. If no digit follows the point, the `Decimal` is empty.
 #[inline(always)]
 #[tactic(auto, using(crate::proofs::Durations::Bytes::Tails::slice_tail, crate::proofs::Durations::Bytes::Tails::whole_tail, crate::proofs::Durations::Bytes::Tails::tail_tail))]
 pub(crate) fn read_fraction(s: &str) -> Option<(Option<Decimal>, &str)>
     ensures read { read_view (option_map parts_of) result ≡ reader.read_fraction (chars s.now) }
     ensures rest { IfSome result (λ x. IsTail s.now x.1.now) }
 {
-    let Some(digits) = skip_point(s) else {
+    let Some(after_point) = skip_point(s) else {
         return Some((None, s));
     };
-    let bytes = digits.as_bytes();
-    let mut value = Decimal::EMPTY;
+    let bytes = after_point.as_bytes();
+    let mut decimal = Decimal::EMPTY;
     let mut at = 0;
     while at < bytes.len() {
         if bytes[at].is_ascii_digit() {
-            value = value.push(bytes[at])?;
+            decimal = decimal.push(bytes[at])?;
             at += 1;
         } else {
-            match skip_whitespace_char(digits, at) {
+            match skip_whitespace_char(after_point, at) {
                 Some(next) => at = next,
                 None => break,
             }
         }
     }
-    Some((Some(value), &digits[at..]))
+    Some((Some(decimal), &after_point[at..]))
 }
 
 /// Reads a word and returns its key, or `None` if the text begins with a character other than a letter.
@@ -216,8 +224,10 @@ pub(crate) fn read_word(s: &str) -> Option<(u64, &str)>
     Some((key, &s[at..]))
 }
 
-/// Returns what follows the word of a span, from which to look for the next span: without its first character if that is whitespace.
-/// Returns `None` if the text begins with a character other than a digit or whitespace.
+/// Returns the text after a span, given the text after its word: without its first character if that is whitespace. Returns `None` if it
+/// begins with a character other than a digit or whitespace, which may not follow a word.
+///
+/// It skips one character, since there is usually only one before the next digit. `skip_whitespace` skips the others.
 #[inline(always)]
 #[tactic(auto, using(crate::proofs::Durations::Bytes::Tails::slice_tail, crate::proofs::Durations::Bytes::Tails::whole_tail, crate::proofs::Durations::Bytes::Tails::no_bytes, crate::proofs::Durations::Bytes::Tails::some_chars, crate::proofs::Durations::Bytes::PlaceSteps::space_ends, std::proofs::lemmas::Str::len_utf8_bounds, std::proofs::lemmas::Grind::common_steps))]
 pub(crate) fn end_span(s: &str) -> Option<&str>

@@ -18,18 +18,18 @@ returns-then-is_empty-clause-steps c = (grind (arith, common_steps, nat_tests, n
 
 pub returns-in-Ok-clause-steps : goal.returns-in-Ok-clause-steps
 returns-in-Ok-clause-steps c =
-    let shorter = step_shorter _ _ _ _ c.skip_whitespace-start.utf8 c.in-Ok.ensures.rest.utf8 c.in-Ok.ensures.read in
+    let shorter = step_shorter _ _ _ _ c.skip_whitespace-unread.utf8 c.in-Ok.ensures.rest.utf8 c.in-Ok.ensures.read in
     let later : (length c.in-Ok.rest.now == length c.args.self.now.text.now) ≡ false =
-    ne_eqb _ _ (λ e. omega (arith, e, shorter, c.skip_whitespace-start.ensures.rest.shorter, c.args.self.now.tail.shorter)) in
-    (rw (c.if-self.false, later, ← c.skip_whitespace-start.ensures.read) (step_goes _ _ _ _ _ c.in-Ok.ensures.read), refl, c.in-Ok.ensures.places)
+    ne_eqb _ _ (λ e. omega (arith, e, shorter, c.skip_whitespace-unread.ensures.rest.shorter, c.args.self.now.tail.shorter)) in
+    (rw (c.if-self.false, later, ← c.skip_whitespace-unread.ensures.read) (step_goes _ _ _ _ _ c.in-Ok.ensures.read), refl, c.in-Ok.ensures.places)
 
 pub returns-in-Ok-clause-goes : goal.returns-in-Ok-clause-goes
 returns-in-Ok-clause-goes c = grind (arith, common_steps, nat_tests, returns-in-Ok-clause-steps)
 
 pub returns-in-Err-clause-steps : goal.returns-in-Err-clause-steps
 returns-in-Err-clause-steps c =
-    let some : chars c.skip_whitespace-start.result.now ≢ [] = some_chars _ c.skip_whitespace-start.utf8 (grind arith) in
-    (rw (c.if-self.false, ← c.skip_whitespace-start.ensures.read) (step_stopped _ _ _ _ some c.in-Err.ensures.read), refl, c.in-Err.ensures.places)
+    let some : chars c.skip_whitespace-unread.result.now ≢ [] = some_chars _ c.skip_whitespace-unread.utf8 (grind arith) in
+    (rw (c.if-self.false, ← c.skip_whitespace-unread.ensures.read) (step_stopped _ _ _ _ some c.in-Err.ensures.read), refl, c.in-Err.ensures.places)
 
 pub returns-in-Err-clause-goes : goal.returns-in-Err-clause-goes
 returns-in-Err-clause-goes c =
