@@ -90,7 +90,7 @@ fn skip_spaces(text: &str, from: usize) -> usize
 
 /// Returns what follows the whitespace at the start of the text, if any.
 #[inline(always)]
-#[tactic(auto, using(crate::proofs::Durations::Bytes::Tails::slice_tail, crate::proofs::Durations::Bytes::Tails::whole_tail))]
+#[tactic(auto, using(crate::proofs::Durations::Bytes::Tails::slice_tail, crate::proofs::Durations::Bytes::Tails::whole_tail, crate::proofs::Durations::Bytes::PlaceSteps::digit_stays))]
 pub(crate) fn skip_whitespace(s: &str) -> &str
     ensures read { chars result.now ≡ drop_while is_whitespace (chars s.now) }
     ensures rest { IsTail s.now result.now }
@@ -153,7 +153,7 @@ pub(crate) fn read_number(s: &str) -> Option<(u64, &str)>
 
 /// Returns what follows the decimal point at the start of the text, or `None` if there is no point.
 #[inline(always)]
-#[tactic(auto, using(crate::proofs::Durations::Bytes::Tails::slice_tail, crate::proofs::Durations::Bytes::Tails::whole_tail))]
+#[tactic(auto, using(crate::proofs::Durations::Bytes::Tails::slice_tail, crate::proofs::Durations::Bytes::PlaceSteps::point_over))]
 pub(crate) fn skip_point(s: &str) -> Option<&str>
     ensures read { option_map (λ t. chars t.now) result ≡ after_point (chars s.now) }
     ensures rest { IfSome result (λ t. IsTail s.now t.now) }

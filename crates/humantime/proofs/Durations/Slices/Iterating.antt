@@ -13,8 +13,7 @@ use Rattle.humantime.proofs.Durations.Reading.SpanWalks.{right_begins, walk-righ
 use Rattle.humantime.proofs.Durations.Slices.SpanSlices.{next_bytes}
 
 after_space_bytes : (cs : List ℕ) → byte_length (after_space cs) ≤ byte_length cs
-after_space_bytes [] = omega arith
-after_space_bytes (c ∷ cs) = grind (arith, common_steps, length-append)
+after_space_bytes cs = grind (arith, common_steps, length-append)
 
 after_space_same : (cs : List ℕ) → drop_while is_whitespace (after_space cs) ≡ drop_while is_whitespace cs
 after_space_same cs = grind (arith, common_steps)

@@ -12,8 +12,7 @@ use Rattle.humantime.proofs.duration.reader.complete_span.Goals as goal
 
 pub returns-in_default-clause-read : goal.returns-in_default-clause-read
 returns-in_default-clause-read c =
-    let b = c.requires.begun in
-    rw (tail_offset _ _ (tail_tail _ _ _ (tail_tail _ _ _ c.requires.tail b.after_tail) b.end_tail)) (exit_word _ b c.in_default.ensures.read)
+    rw (tail_offset _ _ (tail_tail _ _ _ (tail_tail _ _ _ c.requires.tail c.requires.begun.after_tail) c.requires.begun.end_tail)) (exit_word _ c.requires.begun c.in_default.ensures.read)
 
 pub returns-then-is_some_and-clause-read : goal.returns-then-is_some_and-clause-read
 returns-then-is_some_and-clause-read c =
@@ -39,8 +38,7 @@ returns-in_default-scale_of-clause-read c =
 
 pub returns-in_default-scale_of-clause-places : goal.returns-in_default-scale_of-clause-places
 returns-in_default-scale_of-clause-places c =
-    let b = c.requires.begun in
-    tail_part _ _ _ _ (tail_tail _ _ _ (tail_tail _ _ _ c.requires.tail b.after_tail) b.end_tail) c.in-Some.ensures.rest c.range-unit.ensures.value
+    tail_part _ _ _ _ (tail_tail _ _ _ (tail_tail _ _ _ c.requires.tail c.requires.begun.after_tail) c.requires.begun.end_tail) c.in-Some.ensures.rest c.range-unit.ensures.value
 
 pub invariant_of-span-2 : goal.invariant_of-span-2
 invariant_of-span-2 c =
@@ -69,5 +67,4 @@ returns-clause-read c =
 
 pub returns-clause-places : goal.returns-clause-places
 returns-clause-places c =
-    let b = c.requires.begun in
-    tail_range _ _ _ c.requires.tail (tail_tail _ _ _ (tail_tail _ _ _ b.after_tail b.end_tail) c.in-Some.ensures.rest)
+    tail_range _ _ _ c.requires.tail (tail_tail _ _ _ (tail_tail _ _ _ c.requires.begun.after_tail c.requires.begun.end_tail) c.in-Some.ensures.rest)

@@ -1,6 +1,6 @@
-use Rattle.std.proofs.Common.{◌<◌, ◌∙◌, sym, length, refl, arith}
+use Rattle.std.proofs.Common.{◌∙◌, refl, arith}
 use Rattle.std.proofs.lemmas.Str.{IsCharBoundary-start}
-use Rattle.humantime.proofs.Durations.Bytes.PlaceSteps.{whitespace_over, no_whitespace, digit_stays}
+use Rattle.humantime.proofs.Durations.Bytes.PlaceSteps.{whitespace_over, no_whitespace}
 use Rattle.humantime.proofs.Durations.Bytes.Tails.{no_chars_at}
 use Rattle.humantime.proofs.duration.scan.skip_whitespace.Goals as goal
 use Rattle.humantime.proofs.duration.scan.skip_whitespace.Goals.{else-loop-at-test, then-loop-at-test+in-None}
@@ -11,18 +11,12 @@ loop-at-init c = record { order = omega arith; place = IsCharBoundary-start c.ar
 pub loop-at-preserved : goal.loop-at-preserved
 loop-at-preserved c =
     let i = c.loop-at.invariant in
-    let some : c.loop-at.at < length c.args.s.now = grind arith in
-    let s = whitespace_over _ _ _ c.utf8.s (some, i.place) c.in-Some.ensures.0 c.in-Some.ensures.1 in
+    let s = whitespace_over _ _ _ c.utf8.s (grind arith, i.place) c.in-Some.ensures.0 c.in-Some.ensures.1 in
     let spaces = c.skip_spaces-at.ensures in
     record { order = omega arith; place = spaces.place; same = spaces.same ∙ rw (s.2.ahead, s.1) at i.same }
 
 pub skip_spaces-at-requires : goal.skip_spaces-at-requires
-skip_spaces-at-requires c =
-    let some : c.loop-at.at < length c.args.s.now = grind arith in
-    (whitespace_over _ _ _ c.utf8.s (some, c.loop-at.invariant.place) c.in-Some.ensures.0 c.in-Some.ensures.1).2.place
-
-pub returns-then-begins_with_digit-clause-read : goal.returns-then-begins_with_digit-clause-read
-returns-then-begins_with_digit-clause-read c = digit_stays _ (sym c.begins_with_digit.ensures ∙ c.if-begins_with_digit.true)
+skip_spaces-at-requires c = (whitespace_over _ _ _ c.utf8.s (grind arith, c.loop-at.invariant.place) c.in-Some.ensures.0 c.in-Some.ensures.1).2.place
 
 pub returns-clause-read : goal.returns-clause-read
 returns-clause-read c = grind (arith, else-loop-at-test, no_chars_at, then-loop-at-test+in-None, no_whitespace)
