@@ -1,6 +1,5 @@
 -- The definitions that the contracts of private functions cite. Public contracts do not depend on them.
 pub mod Adding
-pub mod Keys
 pub mod Readers
 pub mod Scales
 pub mod Scanning

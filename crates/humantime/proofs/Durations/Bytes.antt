@@ -6,4 +6,4 @@ pub mod PlaceSteps
 pub mod SpanExits
 pub mod Tails
 pub mod Trimming
-pub mod WordKeys
+pub mod Words

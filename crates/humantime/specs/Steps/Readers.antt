@@ -5,13 +5,12 @@ use Rattle.std.specs.Result.{result_map_both}
 use Rattle.humantime.specs.declared.duration.amount.Decimal.{Decimal}
 use Rattle.humantime.specs.declared.duration.error.DurationError.{DurationError}
 use Rattle.humantime.specs.declared.duration.span.Span.{Span}
-use Rattle.humantime.specs.Texts.{begins, take_while, drop_while, decimal_value}
+use Rattle.humantime.specs.Texts.{begins, drop_while, decimal_value}
 use Rattle.humantime.specs.Durations.Characters.{is_digit, is_whitespace, is_letter, u64_max}
 use Rattle.humantime.specs.Durations.Accepted.{has_too_many_digits, too_long}
 use Rattle.humantime.specs.Durations.Errors.{fault_of}
 use Rattle.humantime.specs.Durations.Faults.{number_of, after_number, after_point, fraction_of, after_fraction, after_word, span_of, may_follow_span, Fault}
 use Rattle.humantime.specs.Durations.Items.{SpanView}
-use Rattle.humantime.specs.Durations.Units.{Scale, scale_of_word}
 use Rattle.humantime.specs.Results.Items.{view_at}
 use Rattle.humantime.specs.Results.Spans.{span_view}
 use Rattle.humantime.specs.Results.Walks.{fault_at}
@@ -33,10 +32,9 @@ read_fraction text =
     if has_too_many_digits (option_map number_of (after_point text)) then None
     else Some (option_map counted (option_map number_of (after_point text)), unwrap_or (option_map after_number (after_point text)) text)
 
--- Reads the word at the start of a text, which must be empty or begin with a letter. The value is the scale of the unit.
-abbrev pub read_word : List ℕ → Option (Option Scale × List ℕ)
-read_word text =
-    if begins_with_nonletter text then None else Some (scale_of_word (take_while is_letter text), drop_while is_letter text)
+-- Returns what follows the letters at the start of a text, which must be empty or begin with a letter.
+abbrev pub skip_word : List ℕ → Option (List ℕ)
+skip_word text = if begins_with_nonletter text then None else Some (drop_while is_letter text)
 
 -- Returns a text without its first character if that is whitespace.
 abbrev pub after_space : List ℕ → List ℕ

@@ -9,7 +9,7 @@ ghost use Rattle.humantime.specs.Steps.Scanning.{IsTail};
 use crate::duration::amount::{Amount, Decimal};
 use crate::duration::error::DurationError;
 use crate::duration::scan::{
-    begins_with_digit, end_span, read_fraction, read_number, read_word, skip_point,
+    begins_with_digit, end_span, read_fraction, read_number, skip_point, skip_word,
 };
 use crate::duration::span::Span;
 use crate::unit::words::scale_of;
@@ -62,7 +62,7 @@ fn complete_span<'a>(
     ensures rest { IfOk result (λ x. IsTail text.now x.1.now) }
     ensures places { MatchResult result (λ x. IsRangeIn text.now x.0.start x.0.end) (PointsInto text.now) }
 {
-    let Some((key, after_word)) = read_word(after_fraction) else {
+    let Some(after_word) = skip_word(after_fraction) else {
         return Err(DurationError::InvalidCharacter(text.len() - after_fraction.len()));
     };
     // `1.~` is wrong at the `~`, but `1.s~` at the point. So a point without digits is rejected after the first letter is found.
@@ -75,7 +75,7 @@ fn complete_span<'a>(
     };
     let unit = &after_fraction[..after_fraction.len() - after_word.len()];
     let end = text.len() - after_word.len();
-    let Some(scale) = scale_of(key) else {
+    let Some(scale) = scale_of(unit) else {
         return Err(DurationError::UnknownUnit {
             start: text.len() - after_fraction.len(),
             end,

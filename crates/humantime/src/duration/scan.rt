@@ -8,14 +8,12 @@ ghost use Rattle.humantime.specs.Texts.{begins, drop_while};
 ghost use Rattle.humantime.specs.Durations.Characters.{is_digit, is_whitespace};
 ghost use Rattle.humantime.specs.Durations.Errors.{IsCharStartIn};
 ghost use Rattle.humantime.specs.Durations.Faults.{after_point};
-ghost use Rattle.humantime.specs.Steps.Keys.{scale_of_key};
 ghost use Rattle.humantime.specs.Steps.Readers as reader;
 ghost use Rattle.humantime.specs.Steps.Readers.{read_view};
 ghost use Rattle.humantime.specs.Steps.Scales.{parts_of};
 ghost use Rattle.humantime.specs.Steps.Scanning.{IsTail, SkipsWhitespace, whitespace_len};
 
 use crate::duration::amount::{Decimal, push_digit};
-use crate::unit::words::{EMPTY_KEY, push_byte};
 
 /// The greatest number whose product with 10 fits in a `u64`. A digit can be appended to any smaller number.
 const TENTH_OF_MAX: u64 = u64::MAX / 10;
@@ -194,25 +192,20 @@ pub(crate) fn read_fraction(s: &str) -> Option<(Option<Decimal>, &str)>
     Some((Some(decimal), &after_point[at..]))
 }
 
-/// Reads a word and returns its key, or `None` if the text begins with a character other than a letter.
-///
-/// The word is empty only at the end of the text.
+/// Returns what follows the letters at the start of the text, or `None` if it begins with any other character.
 #[inline(always)]
 #[tactic(auto, using(crate::proofs::Durations::Bytes::Tails::no_chars_at, crate::proofs::Durations::Bytes::Tails::slice_tail))]
-pub(crate) fn read_word(s: &str) -> Option<(u64, &str)>
-    ensures read { read_view scale_of_key result ≡ reader.read_word (chars s.now) }
-    ensures rest { IfSome result (λ x. IsTail s.now x.1.now) }
+pub(crate) fn skip_word(s: &str) -> Option<&str>
+    ensures read { option_map (λ t. chars t.now) result ≡ reader.skip_word (chars s.now) }
+    ensures rest { IfSome result (λ t. IsTail s.now t.now) }
 {
     let bytes = s.as_bytes();
-    let mut key = EMPTY_KEY;
     let mut at = 0;
     while at < bytes.len() {
-        // The second condition begins with `>= 0x80`, so that this one test ends a word before an ASCII character.
         if bytes[at].is_ascii_alphabetic() {
-            key = push_byte(key, bytes[at]);
             at += 1;
+            // With `>= 0x80` first, one test ends a word before an ASCII character.
         } else if bytes[at] >= 0x80 && at + 1 < bytes.len() && is_mu(bytes[at], bytes[at + 1]) {
-            key = push_byte(push_byte(key, bytes[at]), bytes[at + 1]);
             at += 2;
         } else {
             break;
@@ -221,7 +214,7 @@ pub(crate) fn read_word(s: &str) -> Option<(u64, &str)>
     if at == 0 && !s.is_empty() {
         return None;
     }
-    Some((key, &s[at..]))
+    Some(&s[at..])
 }
 
 /// Returns the text after a span, given the text after its word: without its first character if that is whitespace. Returns `None` if it

@@ -132,13 +132,6 @@ mu_over text at u place some pair = elim (or_cases _ _ pair) [
       (956, refl, two_over text at 956 0xce 0xbc u place some (eqb-true _ _ p.0) (eqb-true _ _ p.1) mu_bytes)
 ]
 
--- The bytes of a letter are not below the first letter.
-pub mu_high : (first second : ℕ) → is_mu_pair first second ≡ true → (65 ≤ first) × (65 ≤ second)
-mu_high first second pair = grind (arith, nat_tests)
-
-pub letter_high : (c : ℕ) → is_ascii_alphabetic c ≡ true → 65 ≤ c
-letter_high c letter = grind (arith, nat_tests)
-
 -- A mu is not whitespace.
 pub no_whitespace_at_mu : (text : List ℕ) (at : ℕ) → IsUtf8 text → IsCharBoundary text at → at + 1 < length text
     → is_mu_pair (get_or text at 0) (get_or text (at + 1) 0) ≡ true → whitespace_len (chars (drop at text)) ≡ 0

@@ -13,7 +13,7 @@ use Rattle.humantime.specs.Durations.Faults.{number_of, after_number, after_poin
 use Rattle.humantime.specs.Durations.Units.{Scale, scale_of_word}
 use Rattle.humantime.specs.Results.Items.{spelled, trimmed, view_at}
 use Rattle.humantime.specs.Results.Walks.{stop_at}
-use Rattle.humantime.specs.Steps.Readers.{IsBegun, read_word, end_span, read_span}
+use Rattle.humantime.specs.Steps.Readers.{IsBegun, skip_word, end_span, read_span}
 use Rattle.humantime.specs.Steps.Scales.{Counted, counted, parts_of}
 use Rattle.humantime.specs.Steps.Scanning.{begins_with_nonletter}
 use Rattle.humantime.proofs.Durations.Bytes.Trimming.{spelled_at}
@@ -43,35 +43,35 @@ fraction_digits [] slice after e f = grind (arith, common_steps)
 fraction_digits (c ∷ cs) slice after e f =
     grind (arith, common_steps, (append_cancel_right slice [] after), (append_cancel_right slice (c ∷ take_while is_numeric cs) after), (take_while-drop_while is_numeric cs))
 
-pub word_read : (word next : List ℕ) (scale : Option Scale) → Some (scale, next) ≡ read_word word → (scale ≡ scale_of_word (take_while is_letter word)) × (next ≡ drop_while is_letter word)
-word_read word next scale w = grind (arith, common_steps)
+pub word_read : (word next : List ℕ) → Some next ≡ skip_word word → next ≡ drop_while is_letter word
+word_read word next w = grind (arith, common_steps)
 
 -- Tests whether a fraction has no digits.
 abbrev pub is_bare : Option Counted → Bool
 is_bare fraction = is_some_and (λ x. x.2 == 0) fraction
 
-pub exit_word : {rest after word : List ℕ} {value : ℕ} {fraction : Option Decimal} (text : List ℕ) → IsBegun rest value after fraction word → None ≡ read_word (chars word)
+pub exit_word : {rest after word : List ℕ} {value : ℕ} {fraction : Option Decimal} (text : List ℕ) → IsBegun rest value after fraction word → None ≡ skip_word (chars word)
     → Err (InvalidCharacter (offset_of text (chars word))) ≡ read_span text (chars rest)
 unfolding stop_at
 exit_word text b w = grind (arith, common_steps, no_letters)
 
-pub exit_bare : {rest after word : List ℕ} {value : ℕ} {fraction : Option Decimal} (text next : List ℕ) (scale : Option Scale) → IsBegun rest value after fraction word → Some (scale, next) ≡ read_word (chars word)
+pub exit_bare : {rest after word : List ℕ} {value : ℕ} {fraction : Option Decimal} (text next : List ℕ) → IsBegun rest value after fraction word → Some next ≡ skip_word (chars word)
     → is_bare (option_map parts_of fraction) ≡ true → Err (InvalidCharacter (offset_of text (chars after))) ≡ read_span text (chars rest)
 unfolding stop_at
-exit_bare text next scale b w bare = grind (arith, common_steps)
+exit_bare text next b w bare = grind (arith, common_steps)
 
-pub exit_end : {rest after word : List ℕ} {value : ℕ} {fraction : Option Decimal} (text next : List ℕ) (scale : Option Scale) → IsBegun rest value after fraction word → Some (scale, next) ≡ read_word (chars word)
+pub exit_end : {rest after word : List ℕ} {value : ℕ} {fraction : Option Decimal} (text next : List ℕ) → IsBegun rest value after fraction word → Some next ≡ skip_word (chars word)
     → is_bare (option_map parts_of fraction) ≡ false → None ≡ end_span next → Err (InvalidCharacter (offset_of text next)) ≡ read_span text (chars rest)
 unfolding stop_at
-exit_end text next scale b w bare e = grind (arith, common_steps)
+exit_end text next b w bare e = grind (arith, common_steps)
 
-pub exit_unit : {rest after word : List ℕ} {value : ℕ} {fraction : Option Decimal} (text next end : List ℕ) → IsBegun rest value after fraction word → Some (None, next) ≡ read_word (chars word)
-    → is_bare (option_map parts_of fraction) ≡ false → Some end ≡ end_span next
+pub exit_unit : {rest after word : List ℕ} {value : ℕ} {fraction : Option Decimal} (text next end : List ℕ) → IsBegun rest value after fraction word → Some next ≡ skip_word (chars word)
+    → scale_of_word (take_while is_letter (chars word)) ≡ None → is_bare (option_map parts_of fraction) ≡ false → Some end ≡ end_span next
     → Err (UnknownUnit (offset_of text (chars word)) (offset_of text next) (encode_utf8_all (take_while is_letter (chars word))) value) ≡ read_span text (chars rest)
 unfolding stop_at
-exit_unit text next end b w bare e = grind (arith, common_steps)
+exit_unit text next end b w none bare e = grind (arith, common_steps)
 
 pub no_exit : (text rest word next end : List ℕ) (fraction : Option Counted) (scale : Scale) → begins is_digit rest ≡ true → too_long (span_of rest) ≡ false → fraction ≡ option_map counted (fraction_of rest)
-    → word ≡ after_fraction rest → Some (Some scale, next) ≡ read_word word → is_bare fraction ≡ false → Some end ≡ end_span next → Ok (view_at text rest, end) ≡ read_span text rest
+    → word ≡ after_fraction rest → Some next ≡ skip_word word → scale_of_word (take_while is_letter word) ≡ Some scale → is_bare fraction ≡ false → Some end ≡ end_span next → Ok (view_at text rest, end) ≡ read_span text rest
 unfolding stop_at
-no_exit text rest word next end fraction scale d s f is w bare e = grind (arith, common_steps)
+no_exit text rest word next end fraction scale d s f is w unit bare e = grind (arith, common_steps)

@@ -2,14 +2,12 @@ use Rattle.std.proofs.Common.{◌≡◌, ◌-◌, length, drop, IsCharBoundary}
 use Rattle.std.specs.Str.{chars}
 use Rattle.humantime.specs.Texts.{drop_while}
 use Rattle.humantime.specs.Durations.Characters.{is_letter}
-use Rattle.humantime.proofs.Durations.Bytes.WordKeys.{IsSoFar}
-use Rattle.humantime.proofs.duration.scan.read_word.Given as goal
+use Rattle.humantime.proofs.duration.scan.skip_word.Given as goal
 
 abbrev pub invariant-loop-at : goal.invariant-loop-at
 invariant-loop-at l = record {
   place : IsCharBoundary l.s l.at;
   same : drop_while is_letter (chars (drop l.at l.s)) ≡ drop_while is_letter (chars l.s);
-  key : IsSoFar l.s l.at l.key;
 }
 
 abbrev pub decreases-loop-at : goal.decreases-loop-at

@@ -5,14 +5,13 @@ use Rattle.std.proofs.lemmas.Bool.Decides.{nat_tests}
 use Rattle.std.proofs.lemmas.Grind.{common_steps}
 use Rattle.std.proofs.Common.{◌<◌, ◌+◌, ◌≡◌, chars, drop, ℕ, List, length, get_or, refl, sym, ap, ◌∙◌, arith}
 use Rattle.std.proofs.lemmas.Str.{IsCharBoundary-start, chars-nil}
-use Rattle.humantime.proofs.Durations.Bytes.PlaceSteps.{letter_over, letter_high, mu_over, mu_high, ascii_at, micro_bytes, char_at, mu_bytes}
-use Rattle.humantime.proofs.Durations.Bytes.WordKeys.{key_more, scale_so_far}
+use Rattle.humantime.proofs.Durations.Bytes.PlaceSteps.{letter_over, mu_over, ascii_at, micro_bytes, char_at, mu_bytes}
 use Rattle.humantime.proofs.Durations.Bytes.Tails.{no_chars_at, a_word, front_is, no_bytes, no_letter_begins, some_chars}
-use Rattle.humantime.proofs.duration.scan.read_word.Goals as goal
-use Rattle.humantime.proofs.duration.scan.read_word.Goals.{Left-loop-at, else-loop-at-test, then-loop-at-test+else-is_ascii_alphabetic+else-bytes-at-ge128, else-bytes-at-ge128-via-then-bytes-at-ge128+then-at-bytes+else-is_mu, else-bytes-at-ge128-via-then-bytes-at-ge128+else-at-bytes, else-bytes-at-ge128-via-else-bytes-at-ge128, else-at-eq0-via-then-at-eq0+else-not-is_empty, else-at-eq0-via-else-at-eq0}
+use Rattle.humantime.proofs.duration.scan.skip_word.Goals as goal
+use Rattle.humantime.proofs.duration.scan.skip_word.Goals.{Left-loop-at, else-loop-at-test, then-loop-at-test+else-is_ascii_alphabetic+else-bytes-at-ge128, else-bytes-at-ge128-via-then-bytes-at-ge128+then-at-bytes+else-is_mu, else-bytes-at-ge128-via-then-bytes-at-ge128+else-at-bytes, else-bytes-at-ge128-via-else-bytes-at-ge128, else-at-eq0-via-then-at-eq0+else-not-is_empty, else-at-eq0-via-else-at-eq0}
 
 pub loop-at-init : goal.loop-at-init
-loop-at-init c = record { place = IsCharBoundary-start c.args.s.now c.utf8.s; same = refl; key = (refl, λ j none. absurd (omega (arith, none))) }
+loop-at-init c = record { place = IsCharBoundary-start c.args.s.now c.utf8.s; same = refl }
 
 pub loop-at-preserved-then-is_ascii_alphabetic : goal.loop-at-preserved-then-is_ascii_alphabetic
 loop-at-preserved-then-is_ascii_alphabetic c =
@@ -21,7 +20,7 @@ loop-at-preserved-then-is_ascii_alphabetic c =
     let some : at < length text = omega (arith, c.loop-at-test.true, c.as_bytes-bytes.ensures.len) in
     let alphabetic = rw c.as_bytes-bytes.ensures.value at (sym c.is_ascii_alphabetic.ensures.value ∙ c.if-is_ascii_alphabetic.true) in
     let s = letter_over text at c.utf8.s (some, c.loop-at.invariant.place) alphabetic in
-    grind (arith, common_steps, nat_tests, text, at, some, alphabetic, s, key_more, letter_high)
+    grind (arith, common_steps, nat_tests, s)
 
 pub loop-at-preserved : goal.loop-at-preserved
 loop-at-preserved c =
@@ -30,11 +29,7 @@ loop-at-preserved c =
     let within : at + 1 < length text = omega (arith, c.if-at-bytes.true, c.as_bytes-bytes.ensures.len) in
     let mu = rw c.as_bytes-bytes.ensures.value at (sym c.is_mu.ensures ∙ c.if-is_mu.true) in
     let s = mu_over text at c.utf8.s c.loop-at.invariant.place within mu in
-    let high = mu_high _ _ mu in
-    let seen = λ (k : ℕ). ap (λ (x : List ℕ). get_or x k 0) c.as_bytes-bytes.ensures.value in
-    let first = key_more text at c.loop-at.key c.push_byte.result (omega arith) high.0 c.loop-at.invariant.key (rw (c.push_byte.ensures, seen at) refl) in
-    let second = key_more text (at + 1) c.push_byte.result c.push_byte-key-then-is_mu.result within high.1 first (rw (c.push_byte-key-then-is_mu.ensures, seen (at + 1)) refl) in
-    grind (arith, common_steps, nat_tests, text, at, within, mu, s, high, seen, first, second)
+    grind (arith, common_steps, nat_tests, s)
 
 rest_is : (c : Left-loop-at) → chars (drop c.loop-at.at c.args.s.now) ≡ drop_while is_letter (chars c.args.s.now)
 unfolding is_letter
@@ -48,9 +43,8 @@ rest_is c =
 pub returns-clause-read : goal.returns-clause-read
 returns-clause-read c =
     let rest = rest_is (goal.at.returns-clause-read c).Left-loop-at in
-    let key = scale_so_far _ _ _ c.utf8.s (λ k. (c.type_inv.s k).fits) c.loop-at.invariant.place c.loop-at.invariant.key in
     let letters = front_is is_letter _ c.loop-at.at c.utf8.s c.loop-at.invariant.place rest in
-    grind (arith, common_steps, nat_tests, rest, key, letters, a_word, no_bytes)
+    grind (arith, common_steps, nat_tests, rest, letters, a_word, no_bytes)
 
 pub returns-then-not-is_empty-clause-read : goal.returns-then-not-is_empty-clause-read
 returns-then-not-is_empty-clause-read c =

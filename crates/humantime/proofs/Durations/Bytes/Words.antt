@@ -1,0 +1,114 @@
+-- The unit of a word by its bytes.
+use Rattle.std.proofs.lemmas.Bool.Decides.{nat_tests}
+use Rattle.std.proofs.Common.{◌⊎◌, ◌≡◌, ◌∙◌, ◌≤◌, sym, ap, refl, ℕ, zero, suc, Bool, true, ◌&&◌, List, [], ◌∷◌, ◌++◌, length, get_or, ltb, Option, Some, None, chars, arith}
+use Rattle.std.specs.Prelude.{◌==◌, bytes_eq, if◌then◌else◌}
+use Rattle.std.specs.List.{list_all}
+use Rattle.std.specs.Cmp.{both_ways}
+use Rattle.std.specs.Map.{lookup}
+use Rattle.std.specs.Str.{IsUtf8}
+use Rattle.std.proofs.Math.Utf8.{encode, encodes, scalars}
+use Rattle.std.proofs.lemmas.Bool.{and_parts, ltb-true}
+use Rattle.std.proofs.lemmas.Slice.Eq.{bytes_eq-Decides}
+use Rattle.std.proofs.lemmas.Str.{chars-encodes, encodes-chars}
+use Rattle.humantime.specs.Durations.Characters.{micro_sign, greek_mu}
+use Rattle.humantime.specs.Durations.Units.{Scale, words_below_second, words_from_second, words_from_day, scale_of_word}
+use Rattle.humantime.specs.Steps.Scales.{scale_from_day, scale_from_second}
+
+-- The UTF-8 bytes of a word of ASCII letters, micro signs and Greek mus.
+abbrev pub bytes_of : List ℕ → List ℕ
+bytes_of [] = []
+bytes_of (c ∷ cs) =
+    if c == micro_sign then 0xc2 ∷ 0xb5 ∷ bytes_of cs
+    else if c == greek_mu then 0xce ∷ 0xbc ∷ bytes_of cs
+    else c ∷ bytes_of cs
+
+-- The word has one to seven bytes.
+abbrev is_spelled : List ℕ → Bool
+is_spelled w = scalars w && (bytes_eq (encodes w) (bytes_of w) && (ltb 0 (length (bytes_of w)) && ltb (length (bytes_of w)) 8))
+
+-- The bytes from this place on are these.
+abbrev pub has_from : List ℕ → ℕ → List ℕ → Bool
+has_from bs k [] = true
+has_from bs k (c ∷ cs) = (get_or bs k 0 == c) && has_from bs (suc k) cs
+
+has_later : (b : ℕ) (bs : List ℕ) (k : ℕ) (w : List ℕ) → has_from (b ∷ bs) (suc k) w ≡ has_from bs k w
+has_later b bs k [] = refl
+has_later b bs k (c ∷ cs) = ap (λ x. (get_or bs k 0 == c) && x) (has_later b bs (suc k) cs)
+
+same_bytes : (bs w : List ℕ) → bytes_eq bs w ≡ ((length bs == length w) && has_from bs 0 w)
+same_bytes [] [] = refl
+same_bytes [] (c ∷ cs) = grind (arith, nat_tests)
+same_bytes (b ∷ bs) [] = grind (arith, nat_tests)
+same_bytes (b ∷ bs) (c ∷ cs) = grind (arith, nat_tests, (same_bytes bs cs), (has_later b bs 0 cs))
+
+word_told : (bs w : List ℕ) → IsUtf8 bs → is_spelled w ≡ true → bytes_eq (chars bs) w ≡ bytes_eq bs (bytes_of w)
+word_told bs w text spelled =
+    let p = and_parts _ _ spelled in
+    let q = and_parts _ _ p.1 in
+    let spelling : encodes w ≡ bytes_of w = (bytes_eq-Decides (encodes w) (bytes_of w)).0 q.0 in
+    both_ways _ _
+    (λ e. (bytes_eq-Decides bs (bytes_of w)).1 (sym (encodes-chars bs text) ∙ ap encodes ((bytes_eq-Decides (chars bs) w).0 e) ∙ spelling))
+    (λ e. (bytes_eq-Decides (chars bs) w).1 (ap chars ((bytes_eq-Decides bs (bytes_of w)).0 e ∙ sym spelling) ∙ chars-encodes w p.0))
+
+-- Looks up the bytes among the words of this length, and returns the other result if they are none of these.
+abbrev pub scale_among : List ℕ → ℕ → List (List ℕ × Scale) → Option Scale → Option Scale
+scale_among bs n [] later = later
+scale_among bs n (w ∷ ws) later =
+    if n == length (bytes_of w.0) then (if has_from bs 0 (bytes_of w.0) then Some w.1 else scale_among bs n ws later) else scale_among bs n ws later
+
+abbrev are_spelled : List (List ℕ × Scale) → Bool
+are_spelled ws = list_all (λ w. is_spelled w.0) ws
+
+by_length : (bs : List ℕ) (n : ℕ) → IsUtf8 bs → length bs ≡ n → (ws later : List (List ℕ × Scale)) → are_spelled ws ≡ true
+    → lookup (bytes_eq (chars bs)) (ws ++ later) ≡ scale_among bs n ws (lookup (bytes_eq (chars bs)) later)
+by_length bs n text e [] later t = refl
+by_length bs n text e (w ∷ ws) later t =
+    grind (arith, nat_tests, (word_told bs w.0 text), (same_bytes bs (bytes_of w.0)), (by_length bs n text e ws later))
+
+none_longer : (bs : List ℕ) (n : ℕ) → 8 ≤ n → (ws : List (List ℕ × Scale)) (later : Option Scale) → are_spelled ws ≡ true
+    → scale_among bs n ws later ≡ later
+none_longer bs n long [] later t = refl
+none_longer bs n long (w ∷ ws) later t = grind (arith, nat_tests, and_parts, ltb-true, (none_longer bs n long ws later))
+
+-- The same for words of any length.
+abbrev pub scale_at_length : List ℕ → List (List ℕ × Scale) → Option Scale → Option Scale
+scale_at_length bs ws later =
+    if length bs == 1 then scale_among bs 1 ws later
+    else if length bs == 2 then scale_among bs 2 ws later
+    else if length bs == 3 then scale_among bs 3 ws later
+    else if length bs == 4 then scale_among bs 4 ws later
+    else if length bs == 5 then scale_among bs 5 ws later
+    else if length bs == 6 then scale_among bs 6 ws later
+    else if length bs == 7 then scale_among bs 7 ws later
+    else later
+
+no_bytes : (bs : List ℕ) (n : ℕ) → n ≡ 0 → (ws : List (List ℕ × Scale)) (later : Option Scale) → are_spelled ws ≡ true
+    → scale_among bs n ws later ≡ later
+no_bytes bs n e [] later t = refl
+no_bytes bs n e (w ∷ ws) later t = grind (arith, nat_tests, and_parts, ltb-true, (no_bytes bs n e ws later))
+
+all_lengths : (bs : List ℕ) → IsUtf8 bs → (ws later : List (List ℕ × Scale)) → are_spelled ws ≡ true
+    → lookup (bytes_eq (chars bs)) (ws ++ later) ≡ scale_at_length bs ws (lookup (bytes_eq (chars bs)) later)
+all_lengths bs text ws later t =
+    let at = λ (n : ℕ) (e : length bs ≡ n). by_length bs n text e ws later t in
+    let last = lookup (bytes_eq (chars bs)) later in
+    grind (arith, nat_tests, (at 1), (at 2), (at 3), (at 4), (at 5), (at 6), (at 7), (at (length bs) refl), (none_longer bs (length bs)), (no_bytes bs (length bs)))
+
+pub below_second : (bs : List ℕ) → IsUtf8 bs → scale_of_word (chars bs) ≡ scale_at_length bs words_below_second (scale_from_second (chars bs))
+unfolding scale_of_word scale_from_second encode
+below_second bs text = all_lengths bs text words_below_second (words_from_second ++ words_from_day) refl
+
+pub from_second : (bs : List ℕ) → IsUtf8 bs → scale_from_second (chars bs) ≡ scale_at_length bs words_from_second (scale_from_day (chars bs))
+unfolding scale_from_second scale_from_day encode
+from_second bs text = all_lengths bs text words_from_second words_from_day refl
+
+pub from_day : (bs : List ℕ) → IsUtf8 bs → scale_from_day (chars bs) ≡ scale_at_length bs words_from_day None
+unfolding scale_from_day encode
+from_day bs text = all_lengths bs text words_from_day [] refl
+
+pub at_each_length : (bs : List ℕ) (scale later found : Option Scale) (ws : List (List ℕ × Scale)) → scale ≡ scale_at_length bs ws later
+    → (length bs ≡ 1 → found ≡ scale_among bs 1 ws later) → (length bs ≡ 2 → found ≡ scale_among bs 2 ws later)
+    → (length bs ≡ 3 → found ≡ scale_among bs 3 ws later) → (length bs ≡ 4 → found ≡ scale_among bs 4 ws later)
+    → (length bs ≡ 5 → found ≡ scale_among bs 5 ws later) → (length bs ≡ 6 → found ≡ scale_among bs 6 ws later)
+    → (length bs ≡ 7 → found ≡ scale_among bs 7 ws later) → (length bs ≡ 0 ⊎ 8 ≤ length bs → found ≡ later) → found ≡ scale
+at_each_length bs scale later found ws t one two three four five six seven other = grind (arith, nat_tests, one, two, three, four, five, six, seven, other)
