@@ -1,5 +1,5 @@
 -- What the readers of the parts of a span return, as functions of the characters of a text.
-use Rattle.std.specs.Prelude.{◌≡◌, true, false, ℕ, nat_lt, List, [], ◌∷◌, Option, Some, None, Result, Ok, Err, if◌then◌else◌, option_map, unwrap_or, chars}
+use Rattle.std.specs.Prelude.{◌≡◌, true, false, ℕ, nat_lt, List, [], ◌∷◌, Option, Some, None, Result, Ok, Err, if◌then◌else◌, option_map, chars}
 use Rattle.std.specs.Borrow.{Bor}
 use Rattle.std.specs.Result.{result_map_both}
 use Rattle.humantime.specs.declared.duration.amount.Decimal.{Decimal}
@@ -9,7 +9,7 @@ use Rattle.humantime.specs.Texts.{begins, drop_while, decimal_value}
 use Rattle.humantime.specs.Durations.Characters.{is_digit, is_whitespace, is_letter, u64_max}
 use Rattle.humantime.specs.Durations.Accepted.{has_too_many_digits, too_long}
 use Rattle.humantime.specs.Durations.Errors.{fault_of}
-use Rattle.humantime.specs.Durations.Faults.{number_of, after_number, after_point, fraction_of, after_fraction, after_word, span_of, may_follow_span, Fault}
+use Rattle.humantime.specs.Durations.Faults.{number_of, after_number, fraction_of, after_fraction, after_word, span_of, may_follow_span, Fault}
 use Rattle.humantime.specs.Durations.Items.{SpanView}
 use Rattle.humantime.specs.Results.Items.{view_at}
 use Rattle.humantime.specs.Results.Spans.{span_view}
@@ -26,11 +26,10 @@ abbrev pub read_number : List ℕ → Option (ℕ × List ℕ)
 read_number text =
     if nat_lt u64_max (decimal_value (number_of text)) then None else Some (decimal_value (number_of text), after_number text)
 
--- Reads the fraction at the start of a text, if there is a point. More than 19 digits before the trailing zeros are too long.
-abbrev pub read_fraction : List ℕ → Option (Option Counted × List ℕ)
+-- Reads the digits of a fraction at the start of a text, if any. More than 19 before the trailing zeros are too long.
+abbrev pub read_fraction : List ℕ → Option (Counted × List ℕ)
 read_fraction text =
-    if has_too_many_digits (option_map number_of (after_point text)) then None
-    else Some (option_map counted (option_map number_of (after_point text)), unwrap_or (option_map after_number (after_point text)) text)
+    if has_too_many_digits (Some (number_of text)) then None else Some (counted (number_of text), after_number text)
 
 -- Returns what follows the letters at the start of a text, which must be empty or begin with a letter.
 abbrev pub skip_word : List ℕ → Option (List ℕ)

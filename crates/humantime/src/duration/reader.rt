@@ -17,7 +17,7 @@ use crate::unit::words::scale_of;
 /// Reads the span at the start of `rest`, which is the unread end of `text` and not empty. Returns the span and the text after it, or the
 /// error of the first check that fails. Offsets are those in `text`.
 #[inline(always)]
-#[tactic(auto, using(crate::proofs::Durations::Bytes::Tails::tail_offset), unfolding(crate::specs::Results::Walks::stop_at))]
+#[tactic(auto, using(crate::proofs::Durations::Bytes::Tails::tail_offset, crate::proofs::Durations::Bytes::Tails::tail_tail, crate::proofs::Durations::Bytes::Tails::whole_tail), unfolding(crate::specs::Results::Walks::stop_at))]
 pub(crate) fn read_span<'a>(
     text: &'a str,
     rest: &'a str,
@@ -34,14 +34,21 @@ pub(crate) fn read_span<'a>(
     let Some((value, after_number)) = read_number(rest) else {
         return Err(DurationError::NumberOverflow);
     };
-    let Some((fraction, after_fraction)) = read_fraction(after_number) else {
+    // `complete_span` is inlined twice, so that a span without a fraction needs no registers for one.
+    let Some(after_point) = skip_point(after_number) else {
+        return complete_span(text, rest, value, after_number, None, after_number);
+    };
+    let Some((fraction, after_fraction)) = read_fraction(after_point) else {
         return Err(DurationError::NumberOverflow);
     };
-    // Both arms do the same: `complete_span` is inlined twice, so that a span without a fraction needs no registers for one.
-    match fraction {
-        None => complete_span(text, rest, value, after_number, None, after_fraction),
-        Some(_) => complete_span(text, rest, value, after_number, fraction, after_fraction),
-    }
+    complete_span(
+        text,
+        rest,
+        value,
+        after_number,
+        Some(fraction),
+        after_fraction,
+    )
 }
 
 /// Reads the unit after a number and its fraction, if any, and returns the result of [`read_span`]. The value and the fraction were read from

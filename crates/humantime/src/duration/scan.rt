@@ -162,20 +162,15 @@ pub(crate) fn skip_point(s: &str) -> Option<&str>
     Some(&s[1..])
 }
 
-/// Reads a decimal point at the start of the text and the digits after it, with the whitespace around and between them. Returns the digits
-/// and the rest, or `None` if there are more than 19 digits before the trailing zeros.
-///
-/// If there is no point, there are no digits (`None`), and the rest is the text. If no digit follows the point, the `Decimal` is empty.
+/// Reads the digits of a fraction at the start of the text, if any, with the whitespace around and between them. Returns the digits and the
+/// rest, or `None` if there are more than 19 digits before the trailing zeros.
 #[inline(always)]
-#[tactic(auto, using(crate::proofs::Durations::Bytes::Tails::slice_tail, crate::proofs::Durations::Bytes::Tails::whole_tail, crate::proofs::Durations::Bytes::Tails::tail_tail))]
-pub(crate) fn read_fraction(s: &str) -> Option<(Option<Decimal>, &str)>
-    ensures read { read_view (option_map parts_of) result ≡ reader.read_fraction (chars s.now) }
+#[tactic(auto, using(crate::proofs::Durations::Bytes::Tails::slice_tail))]
+pub(crate) fn read_fraction(s: &str) -> Option<(Decimal, &str)>
+    ensures read { read_view parts_of result ≡ reader.read_fraction (chars s.now) }
     ensures rest { IfSome result (λ x. IsTail s.now x.1.now) }
 {
-    let Some(after_point) = skip_point(s) else {
-        return Some((None, s));
-    };
-    let bytes = after_point.as_bytes();
+    let bytes = s.as_bytes();
     let mut decimal = Decimal::EMPTY;
     let mut at = 0;
     while at < bytes.len() {
@@ -183,13 +178,13 @@ pub(crate) fn read_fraction(s: &str) -> Option<(Option<Decimal>, &str)>
             decimal = decimal.push(bytes[at])?;
             at += 1;
         } else {
-            match skip_whitespace_char(after_point, at) {
+            match skip_whitespace_char(s, at) {
                 Some(next) => at = next,
                 None => break,
             }
         }
     }
-    Some((Some(decimal), &after_point[at..]))
+    Some((decimal, &s[at..]))
 }
 
 /// Returns what follows the letters at the start of the text, or `None` if it begins with any other character.

@@ -6,10 +6,10 @@ use Rattle.humantime.proofs.duration.scan.read_fraction.Given as goal
 abbrev pub invariant-loop-at : goal.invariant-loop-at
 invariant-loop-at l = record {
   taken : List ℕ;
-  read : IsRead l.after_point l.at taken;
+  read : IsRead l.s l.at taken;
   digits : HasDigits l.decimal taken;
   few : length taken ≤ l.at;
 }
 
 abbrev pub decreases-loop-at : goal.decreases-loop-at
-decreases-loop-at l = length l.after_point - l.at
+decreases-loop-at l = length l.s - l.at
