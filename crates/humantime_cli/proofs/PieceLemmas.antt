@@ -1,8 +1,7 @@
 -- Lemmas about a piece of a text, and about a line that is written piece by piece.
-use Rattle.std.proofs.Common.{arith, take_all, take-append-drop, append_assoc, append-nil, ◌≡◌, ℕ, zero, suc, List, [], ◌∷◌, ◌++◌, ◌≤◌, ◌<◌, ◌+◌, ◌-◌, refl, sym, ap, ap₂, ◌∙◌, take, drop, min, subst, inl, inr, length, length-append, length-take, length-drop}
+use Rattle.std.proofs.Common.{arith, take_all, take-append-drop, append_assoc, append-nil, ◌≡◌, ℕ, zero, suc, List, [], ◌∷◌, ◌++◌, ◌≤◌, ◌<◌, ◌+◌, ◌-◌, refl, sym, ap, ap₂, ◌∙◌, take, drop, min, subst, length, length-append, length-take, length-drop}
 use Rattle.std.proofs.KnownBytes.{Appends-trans}
 use Rattle.std.proofs.Math.Seq.{take-add, drop-append-add}
-use Rattle.std.proofs.lemmas.Bool.{cases_Bool, cases_lt, ltb-false, ltb-true, or_cases, or_parts}
 use Rattle.std.proofs.lemmas.List.{drop-append-le, drop-drop, take-append-le, take-take}
 use Rattle.std.specs.Fmt.{WritesText}
 use Rattle.std.specs.Io.KnownBytes.{Appends}

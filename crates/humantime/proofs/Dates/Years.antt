@@ -1,7 +1,7 @@
 -- The days of years and of months in closed form, and the ranges of the fields of a date.
 use Rattle.std.proofs.Common.{◌≡◌, ℕ, zero, suc, ◌+◌, ◌-◌, ◌*◌, ◌<◌, ◌≤◌, refl, arith, IsTrue}
-use Rattle.std.specs.Prelude.{◌↔◌, ◌&&◌, nat_lt, if◌then◌else◌, [], ◌∷◌, slice_index_or}
-use Rattle.std.specs.Int.{IsInRange, is_in_range}
+use Rattle.std.specs.Prelude.{nat_lt, if◌then◌else◌, [], ◌∷◌, slice_index_or}
+use Rattle.std.specs.Int.{IsInRange}
 use Rattle.std.proofs.lemmas.Bool.Decides.{nat_tests}
 use Rattle.humantime.specs.Calendar.{days_in_year, days_in_month, days_of_years, days_of_months, is_valid}
 use Rattle.humantime.specs.Results.Dates.{march_days, march_months}

@@ -1,15 +1,13 @@
 -- Accepted texts and their spans.
-use Rattle.std.proofs.Common.{arith, ◌≡◌, ◌⊎◌, inl, inr, ℕ, List, [], ◌∷◌, refl, sum_by, IsPermutation}
+use Rattle.std.proofs.Common.{arith, ◌≡◌, inl, inr, ℕ, List, [], ◌∷◌, refl, sum_by, IsPermutation}
 use Rattle.std.proofs.lemmas.Grind.{common_steps}
 use Rattle.std.proofs.lemmas.List.Sorted.{sum_by-IsPermutation}
-use Rattle.humantime.specs.Durations.Characters.{bare_zero}
 use Rattle.humantime.specs.Durations.Spans.{SpelledSpan, Reads}
-use Rattle.humantime.specs.Durations.Faults.{Fault, HasFault}
 use Rattle.humantime.specs.Durations.Accepted.{total, value, WithinLimits, Accepted, BareZero, SumOf, additions_of}
 use Rattle.humantime.specs.Laws.Texts.{IsZeroOrSpans}
 use Rattle.humantime.proofs.Durations.Reading.OneReading.{not_zero}
 use Rattle.humantime.proofs.Durations.Reading.Summed.{value-cons}
-use Rattle.humantime.proofs.Durations.Reading.Outcomes.{one_reading, outcome_accepted, outcome_fault}
+use Rattle.humantime.proofs.Durations.Reading.Outcomes.{one_reading}
 
 -- An accepted text is exactly `0`, or it is spans within the limits.
 pub zero_or_spans : (text : List ℕ) → IsZeroOrSpans text

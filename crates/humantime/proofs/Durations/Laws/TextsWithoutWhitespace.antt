@@ -1,8 +1,8 @@
 -- A text without its whitespace represents the same spans.
 use Rattle.std.proofs.lemmas.Grind.{common_steps}
-use Rattle.std.proofs.Common.{◌≡◌, ℕ, Bool, List, [], ◌∷◌, refl, ap, arith, rules}
+use Rattle.std.proofs.Common.{◌≡◌, ℕ, Bool, List, [], ◌∷◌, refl, ap, arith}
 use Rattle.std.proofs.lemmas.Bool.{cases_Bool, or_parts}
-use Rattle.humantime.specs.Durations.Characters.{is_whitespace, is_letter, digits, bare_zero, is_point, is_digit}
+use Rattle.humantime.specs.Durations.Characters.{is_whitespace, is_letter, digits, is_point, is_digit}
 use Rattle.humantime.specs.Durations.Spans.{SpelledSpan, HasOnly, Spells, SpellsEach}
 use Rattle.humantime.specs.Durations.Accepted.{Accepted, BareZero, SumOf}
 use Rattle.humantime.specs.Laws.Texts.{without_whitespace}

@@ -36,7 +36,7 @@ or_zero_joined : (ns : List ℕ) (ss : List Suffix) → Lettered ss → or_zero 
 or_zero_joined (n ∷ ns) (s ∷ ss) h = grind (arith, common_steps, nat_tests, length-append, (or_zero_joined ns ss h.1))
 or_zero_joined _ _ h = refl
 
--- The counts of the units, each of the remainder, which is the last count.
+-- The counts of the units one after the other, each of what the unit before leaves, and last what remains.
 abbrev in_turn : List ℕ → ℕ → List ℕ
 in_turn [] n = n ∷ []
 in_turn (u ∷ us) n = n / u ∷ in_turn us (n % u)

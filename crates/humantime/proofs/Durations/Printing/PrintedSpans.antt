@@ -1,19 +1,18 @@
 -- A printed text is spans within all limits, whose sum is the duration.
 use Rattle.std.proofs.lemmas.Grind.{common_steps}
-use Rattle.std.proofs.Common.{sym, true, ◌≡◌, ℕ, ◌*◌, ◌/◌, ◌%◌, ◌^◌, ◌<◌, ◌≤◌, false, List, [], ◌∷◌, ◌++◌, refl, subst, ◌∙◌, arith, rules}
+use Rattle.std.proofs.Common.{true, ◌≡◌, ℕ, ◌*◌, ◌/◌, ◌%◌, ◌^◌, ◌<◌, ◌≤◌, List, [], ◌∷◌, ◌++◌, refl, subst, arith, rules}
 use Rattle.std.specs.Prelude.{IsAscii, codes, decimal, map, nat_lt}
-use Rattle.std.specs.Str.{IsUtf8, is_utf8, chars}
+use Rattle.std.specs.Str.{IsUtf8, chars}
 use Rattle.std.specs.List.{AllByRecursion, filter, join_with_byte}
-use lib.Utf8.{encode}
 use Rattle.std.proofs.Math.Nat.{mul_assoc, mul_comm}
 use Rattle.std.proofs.lemmas.Nat.{mod_below}
 use Rattle.std.proofs.lemmas.Bool.Decides.{nat_tests}
 use Rattle.std.proofs.lemmas.List.{append_assoc, append-nil}
 use Rattle.std.proofs.lemmas.Str.{chars-append, chars-IsAscii, chars-nil, IsUtf8-append, IsUtf8-from_ascii}
-use Rattle.std.proofs.lemmas.Fmt.{IsAscii-decimal, decimal_digit}
+use Rattle.std.proofs.lemmas.Fmt.{IsAscii-decimal}
 use Rattle.humantime.specs.Values.{nanos_per_second}
-use Rattle.humantime.specs.Durations.Characters.{whitespace_chars, is_letter, is_whitespace, u64_max}
-use Rattle.humantime.specs.Durations.Units.{Quantity, scale_of_word}
+use Rattle.humantime.specs.Durations.Characters.{whitespace_chars, is_whitespace, u64_max}
+use Rattle.humantime.specs.Durations.Units.{Quantity}
 use Rattle.humantime.specs.Durations.Spans.{SpelledSpan, HasOnly, Spells, SpellsEach, Reads}
 use Rattle.humantime.specs.Durations.Accepted.{quantity_nanos, size, times, total, additions_of, additions, value, Formed, fits, Accepted, SumOf}
 use Rattle.humantime.specs.Durations.Counts.{Suffix, printed_count, joined_by_space, IsCanonicalText}

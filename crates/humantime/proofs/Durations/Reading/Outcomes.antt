@@ -20,7 +20,6 @@ use Rattle.humantime.specs.Results.Durations.{IsDurationAnswer, duration_answer}
 use Rattle.humantime.proofs.Durations.Reading.Summed.{sum_spans_within, sum_too_large, summed_value, summed_fault, within_front}
 use Rattle.humantime.proofs.Durations.Reading.Spelled.{next_of}
 use Rattle.humantime.proofs.Durations.Reading.Stopping.{fine_goes}
-use Rattle.humantime.proofs.Durations.Reading.Written.{formed_here}
 use Rattle.humantime.proofs.Durations.Reading.SpanWalks.{walk-right}
 use Rattle.humantime.proofs.Durations.Reading.Found.{too_large_found}
 use Rattle.humantime.proofs.Durations.Reading.Spellings.{each-append}

@@ -47,10 +47,7 @@ pub ends_only : (p : ℕ → Bool) (cs : List ℕ) → HasOnly p cs → cs ≢ [
 ends_only p [] h some = absurd (some refl)
 ends_only p (c ∷ cs) h some = grind (arith, (ends_only p cs h.1))
 
--- A text that begins with a character of one class does not begin with one of another.
-pub begins_other : (p q : ℕ → Bool) → ((c : ℕ) → p c ≡ true → q c ≡ false) → (cs : List ℕ) → begins p cs ≡ true → begins q cs ≡ false
-begins_other p q h cs k = grind arith
-
+-- A text that ends with a character of one class does not end with one of another.
 pub ends_other : (p q : ℕ → Bool) → ((c : ℕ) → p c ≡ true → q c ≡ false) → (cs : List ℕ) → ends p cs ≡ true → ends q cs ≡ false
 ends_other p q other [] e = refl
 ends_other p q other (c ∷ cs) e = grind (arith, other, (ends_other p q other cs))

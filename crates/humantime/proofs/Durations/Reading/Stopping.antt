@@ -1,14 +1,13 @@
 -- The tests at the start of a span find the error that the table of first errors gives.
 use Rattle.std.proofs.lemmas.Grind.{common_steps}
-use Rattle.std.proofs.Common.{◌≡◌, ◌≢◌, ◌⊎◌, ℕ, true, false, List, [], length, Option, Some, None, arith}
-use Rattle.std.specs.Prelude.{◌==◌, not, IsSome}
+use Rattle.std.proofs.Common.{◌≡◌, ◌≢◌, ◌⊎◌, ℕ, true, false, List, [], Some, None, arith}
+use Rattle.std.specs.Prelude.{not, IsSome}
 use Rattle.std.specs.Bool.{Decides}
 use Rattle.std.proofs.lemmas.Bool.Decides.{nat_tests}
 use Rattle.humantime.specs.Texts.{begins, ends, take_while, drop_while}
 use Rattle.humantime.specs.Durations.Characters.{is_whitespace, is_digit, is_letter}
 use Rattle.humantime.specs.Durations.Units.{scale_of_word}
 use Rattle.humantime.specs.Durations.Spans.{SpelledSpan}
-use Rattle.humantime.specs.Durations.Accepted.{is_some_and}
 use Rattle.humantime.specs.Durations.Faults.{Fault, BeginsSpan, IsStoppedWith}
 use Rattle.humantime.specs.Results.Walks.{stop_at, fault_at}
 use Rattle.humantime.proofs.Durations.Reading.Runs.{take_while-drop_while}

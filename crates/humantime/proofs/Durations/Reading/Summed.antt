@@ -1,5 +1,4 @@
 -- The sum of spans by the reference, and whether they are within the limits.
-use Rattle.std.proofs.lemmas.Grind.{flat_map-append}
 use Rattle.std.proofs.Common.{true, ◌≡◌, ◌⊎◌, ℕ, ◌+◌, List, [], ◌∷◌, ◌++◌, Option, Some, None, Result, Ok, Err, map, refl, arith}
 use Rattle.std.specs.Prelude.{Bool, ◌&&◌, if◌then◌else◌}
 use Rattle.std.specs.Bool.{Decides}

@@ -1,6 +1,6 @@
 -- The walk over a text finds the spans that the text consists of.
 use Rattle.std.proofs.lemmas.Grind.{common_steps}
-use Rattle.std.proofs.Common.{◌≡◌, ◌⊎◌, ℕ, Bool, true, false, List, [], ◌∷◌, ◌++◌, map, Option, Some, None, refl, ◌∙◌, inl, inr, arith, subst, append-nil}
+use Rattle.std.proofs.Common.{◌≡◌, ◌⊎◌, ℕ, Bool, true, false, List, [], ◌∷◌, ◌++◌, map, Option, Some, None, refl, inl, inr, arith, append-nil}
 use Rattle.std.specs.List.{AllByRecursion}
 use Rattle.humantime.specs.Texts.{begins, ends, drop_while}
 use Rattle.humantime.specs.Durations.Characters.{is_whitespace, is_digit}
@@ -10,7 +10,7 @@ use Rattle.humantime.specs.Durations.Faults.{Fault, Split, may_follow_span, span
 use Rattle.humantime.specs.Durations.Items.{Items, EndsOrStops}
 use Rattle.humantime.specs.Results.Walks.{Walk, empty_walk, walk_from, spans_of_walk, items}
 use Rattle.humantime.proofs.Durations.Reading.Classes.{digit_is_numeric, digit_not_whitespace}
-use Rattle.humantime.proofs.Durations.Reading.Runs.{drop_while-append, begins-append, begins_other, begins_not_nil, ends-append}
+use Rattle.humantime.proofs.Durations.Reading.Runs.{drop_while-append, begins-append, begins_not_nil, ends-append}
 use Rattle.humantime.proofs.Durations.Reading.Spelled.{IsSpelledAt, spelled_here}
 use Rattle.humantime.proofs.Durations.Reading.Spellings.{apart}
 use Rattle.humantime.proofs.Durations.Reading.SpanWalks.{walk-end, walk-wrong, walk-right}

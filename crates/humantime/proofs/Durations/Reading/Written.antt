@@ -1,11 +1,10 @@
 -- A rest that begins with a well-formed span is a spelling of that span followed by the text after it.
-use Rattle.std.specs.Prelude.{option_map}
-use Rattle.std.proofs.Common.{◌≡◌, ◌≢◌, ℕ, ◌<◌, true, false, List, [], ◌∷◌, ◌++◌, length, Some, if◌then◌else◌, arith, append-nil}
+use Rattle.std.proofs.Common.{◌≡◌, ◌≢◌, ℕ, ◌<◌, true, false, List, [], ◌∷◌, ◌++◌, length, if◌then◌else◌, arith, append-nil}
 use Rattle.humantime.specs.Texts.{take_while, begins, ends}
 use Rattle.humantime.specs.Durations.Characters.{is_whitespace, is_digit, is_point, is_numeric}
-use Rattle.humantime.specs.Durations.Spans.{SpelledSpan, SpellsFraction, Spells}
+use Rattle.humantime.specs.Durations.Spans.{SpelledSpan, Spells}
 use Rattle.humantime.specs.Durations.Accepted.{Formed}
-use Rattle.humantime.specs.Durations.Faults.{number_of, after_number, after_point, word_of, after_word, span_of, BeginsSpan}
+use Rattle.humantime.specs.Durations.Faults.{after_number, word_of, after_word, span_of, BeginsSpan}
 use Rattle.humantime.proofs.Durations.Reading.Classes.{digit_is_numeric}
 use Rattle.humantime.proofs.Durations.Reading.Runs.{take_while-drop_while, take_while-only, begins_take_while, ends_only, ends-append}
 use Rattle.std.proofs.lemmas.Bool.Decides.{nat_tests}

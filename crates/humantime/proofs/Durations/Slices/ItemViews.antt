@@ -1,9 +1,8 @@
 -- The list of the views of the items of a text.
-use Rattle.std.proofs.Common.{◌≡◌, ◌≢◌, ◌++◌, IsUtf8, chars, encode_utf8_all, arith, ℕ, Bool, true, List, [], ◌∷◌, map, Option, Result, Ok, Err, refl, sym, ap, ap₂, ◌∙◌}
+use Rattle.std.proofs.Common.{◌≡◌, ◌≢◌, ◌++◌, IsUtf8, chars, encode_utf8_all, arith, ℕ, Bool, true, List, [], ◌∷◌, map, Option, Result, Err, refl, sym, ap, ◌∙◌}
 use Rattle.std.proofs.lemmas.Str.{encodes-chars, encode_ascii}
 use Rattle.humantime.specs.Texts.{drop_while}
 use Rattle.humantime.specs.Durations.Characters.{is_whitespace, bare_zero}
-use Rattle.humantime.specs.Durations.Spans.{SpelledSpan}
 use Rattle.humantime.specs.Durations.Faults.{span_of, Fault}
 use Rattle.humantime.specs.Results.Walks.{Walk, walk_of, sum_spans}
 use Rattle.humantime.specs.Results.Durations.{duration_answer}

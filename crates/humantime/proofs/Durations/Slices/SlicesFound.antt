@@ -1,17 +1,17 @@
 -- The view of a span is determined by the text and the span.
-use Rattle.std.proofs.Common.{arith, ◌≡◌, ℕ, Bool, true, ◌&&◌, cond, eqb, List, [], ◌∷◌, ◌++◌, length, Option, Some, refl, sym, ap, ap₂, subst, ◌∙◌}
+use Rattle.std.proofs.Common.{arith, ◌≡◌, ℕ, Bool, true, ◌&&◌, cond, eqb, List, [], ◌∷◌, ◌++◌, length, Option, Some, refl, sym, ap₂, subst, ◌∙◌}
 use Rattle.std.proofs.Math.Bool.{and-false}
 use Rattle.std.proofs.lemmas.Grind.{common_steps}
 use Rattle.std.specs.Str.{drop_trailing_whitespace}
 use Rattle.std.proofs.lemmas.List.{append_cancel_left}
-use Rattle.humantime.specs.Texts.{begins, ends, drop_while}
+use Rattle.humantime.specs.Texts.{begins, ends}
 use Rattle.humantime.specs.Durations.Characters.{is_whitespace, is_digit, is_letter}
 use Rattle.humantime.specs.Durations.Spans.{SpelledSpan, HasOnly, SpellsFraction}
 use Rattle.humantime.specs.Durations.Faults.{after_number, after_fraction}
 use Rattle.humantime.specs.Durations.Items.{SpanView, IsDigitSlice, IsFractionView, IsSpanView, AreSpanViews}
 use Rattle.humantime.specs.Results.Items.{trimmed, number_slice, fraction_slice}
 use Rattle.humantime.proofs.Durations.Reading.Classes.{whitespace_is, digit_not_whitespace}
-use Rattle.humantime.proofs.Durations.Reading.Runs.{drop_while-append, begins_other, letters_begin}
+use Rattle.humantime.proofs.Durations.Reading.Runs.{drop_while-append, letters_begin}
 use Rattle.humantime.proofs.Durations.Reading.Spelled.{begins_word, read_spelled}
 use Rattle.humantime.proofs.Durations.Bytes.Trimming.{suc_not_zero, no_slice, slice_after_point}
 

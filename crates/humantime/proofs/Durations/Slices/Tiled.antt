@@ -1,5 +1,5 @@
 -- The slices of the items of a text tile it up to where the spans stop.
-use Rattle.std.proofs.Common.{◌≡◌, ◌∙◌, ℕ, List, [], ◌∷◌, ◌++◌, Option, None, Some, true, Result, Ok, refl, sym, ap, subst, append_assoc, append-nil, arith}
+use Rattle.std.proofs.Common.{◌≡◌, ◌∙◌, ℕ, List, [], ◌∷◌, ◌++◌, Option, None, Some, true, Result, Ok, refl, sym, ap, append_assoc, append-nil, arith}
 use Rattle.std.specs.Prelude.{flat_map, is_ok, option_to_list}
 use Rattle.std.specs.List.{list_all}
 use Rattle.std.specs.Str.{byte}

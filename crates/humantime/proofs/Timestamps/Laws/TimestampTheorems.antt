@@ -1,5 +1,5 @@
 -- The laws of timestamps and days as theorems over plain variables, each under its name in `laws`, and others that callers cite.
-use Rattle.std.proofs.Common.{◌≡◌, ◌≤◌, ◌-◌, ◌*◌, ◌/◌, ◌^◌, ℕ, List, arith}
+use Rattle.std.proofs.Common.{◌≡◌, ◌≤◌, ◌-◌, ◌/◌, ◌^◌, ℕ, List, arith}
 use Rattle.std.proofs.Math.Nat.{mul-mod_right, div-add-mod}
 use Rattle.std.specs.Prelude.{◌↔◌, ℤ, pos, negsuc, ◌≤ℤ◌, ◌<ℤ◌, Ok, IsTrue, IfSome}
 use Rattle.std.specs.Cmp.Lexicographic.{slice_cmp}

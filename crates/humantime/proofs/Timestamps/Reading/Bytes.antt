@@ -3,9 +3,8 @@ use Rattle.std.proofs.Common.{ℕ, List, [], ◌∷◌, ◌++◌, arith}
 use Rattle.std.specs.Int.{IsInRange}
 use Rattle.std.specs.List.{AllByRecursion}
 use Rattle.humantime.proofs.Timestamps.Reading.Fractions.{AreDigits, digits_from_test}
-use Rattle.std.specs.Prelude.{Option, IsTrue}
-use Rattle.std.specs.Str.{byte, all_ascii_digits}
-use Rattle.humantime.specs.Timestamps.Fields.{Fields, fraction_text, fraction_digits, date_time_text, IsWeak}
+use Rattle.std.specs.Str.{byte}
+use Rattle.humantime.specs.Timestamps.Fields.{Fields, fraction_text, date_time_text, IsWeak}
 use Rattle.std.proofs.lemmas.Bool.Decides.{nat_tests}
 use Rattle.humantime.proofs.Dates.Years.{valid_from_test}
 

@@ -4,8 +4,8 @@ use Rattle.std.specs.Prelude.{true, slice_index, Option, Some, None, ◌==◌, i
 use Rattle.std.specs.Str.{byte, all_ascii_digits}
 use Rattle.std.proofs.lemmas.Bool.{and_parts}
 use Rattle.std.proofs.lemmas.Bool.Decides.{nat_tests}
-use Rattle.humantime.specs.Timestamps.Fields.{Separator, Letter_T, Space, Fields, separator_byte, fraction_text, fraction_digits}
-use Rattle.humantime.specs.Timestamps.Checks.{has_two, has_separator, has_punctuation, has_digits, date_time_of, is_valid_date_time, zone_of, fraction_part, has_point, weak_checks, first_failed}
+use Rattle.humantime.specs.Timestamps.Fields.{Letter_T, Space, Fields, fraction_digits}
+use Rattle.humantime.specs.Timestamps.Checks.{has_two, has_punctuation, has_digits, date_time_of, is_valid_date_time, zone_of, fraction_part, has_point, weak_checks, first_failed}
 
 -- No check of the weak form fails.
 pub all_passed : (bytes : List ℕ) → first_failed (weak_checks bytes) ≡ None

@@ -10,7 +10,6 @@ use Rattle.std.proofs.lemmas.Nat.{le_or_l, le_or_r}
 use Rattle.std.proofs.lemmas.Simd.{mask_l-mod, tops_compared, length-zip2, zip2_splat}
 use native.Mathlib.Nat.{two-pow-succ, one-le-pow}
 use lib.Lanes.{zip2, mask_l, top, sel_l}
-use mir.Syntax.{Width}
 use mir.Val.{bits, hbits}
 use Rattle.humantime.specs.Timestamps.Checks.{has_two, has_separator, has_punctuation, has_digits}
 use Rattle.humantime.specs.Steps.Timestamps.{has_layout}

@@ -1,7 +1,7 @@
 -- A text that fails no check represents the parts at their positions.
 use Rattle.std.proofs.lemmas.Bool.Decides.{nat_tests}
 use Rattle.std.proofs.lemmas.Grind.{common_steps}
-use Rattle.std.proofs.Common.{◌≡◌, ℕ, ◌+◌, ◌/◌, ◌%◌, ◌≤◌, List, ◌++◌, length, drop, ap, ◌∙◌, arith, rules}
+use Rattle.std.proofs.Common.{◌≡◌, ℕ, ◌+◌, ◌/◌, ◌%◌, ◌≤◌, List, ◌++◌, length, drop, arith, rules}
 use Rattle.std.specs.Prelude.{true, slice_index, None}
 use Rattle.humantime.specs.Timestamps.Fields.{fraction_text, zone_text, fields_text, IsWeak}
 use Rattle.humantime.specs.Timestamps.Checks.{has_two, zone_of, number_between, is_valid_date_time, fraction_part, weak_checks, first_failed, has_punctuation, has_separator, has_point}

@@ -1,4 +1,4 @@
-use Rattle.std.proofs.Common.{eqb, w8, replicate, drop, length-drop, arith, sym, ◌∙◌}
+use Rattle.std.proofs.Common.{drop, length-drop, arith, sym, ◌∙◌}
 use Rattle.std.proofs.lemmas.Bool.{eq-eqb, eqb-true}
 use Rattle.humantime.proofs.Timestamps.Reading.Exits.{layout_parts}
 use Rattle.humantime.proofs.Timestamps.Reading.Lanes.{layout_tested}

@@ -1,8 +1,7 @@
 use Rattle.std.proofs.lemmas.Bool.Decides.{nat_tests}
 use Rattle.humantime.proofs.Durations.Reading.SignificantDigits.{significant_zero, significant_long}
 use Rattle.std.proofs.lemmas.Grind.{common_steps}
-use Rattle.std.proofs.Common.{◌-◌, arith, ap}
-use Rattle.humantime.specs.Steps.Scales.{Counted}
+use Rattle.std.proofs.Common.{◌-◌, arith}
 use Rattle.humantime.proofs.Durations.Bytes.Numbers.{digit_range}
 use Rattle.humantime.proofs.Durations.Bytes.FractionDigits.{push_fits, fewer, fraction_extended}
 use Rattle.humantime.proofs.duration.amount.Decimal.push.Goals as goal

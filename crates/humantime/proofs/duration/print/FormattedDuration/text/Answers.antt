@@ -1,10 +1,7 @@
 use Rattle.std.proofs.lemmas.Bool.Decides.{nat_tests}
 use Rattle.std.proofs.lemmas.Grind.{common_steps}
-use Rattle.std.proofs.Common.{ap, ◌∙◌, arith}
-use Rattle.std.specs.Prelude.{chars, ◌<◌}
-use Rattle.humantime.specs.Values.{duration_end}
+use Rattle.std.proofs.Common.{arith}
 use Rattle.humantime.proofs.Durations.Laws.DurationTheorems.{printed_duration_reads}
-use Rattle.humantime.specs.Results.Durations.{duration_answer, duration_text}
 use Rattle.humantime.proofs.Durations.Printing.GreatestCounts.{printed_is_canon}
 use Rattle.humantime.proofs.duration.print.FormattedDuration.text.Goals as goal
 
