@@ -28,31 +28,19 @@ in_seconds size = record { whole = Seconds size; part = Some (Seconds size) }
 abbrev unit_words : List (List ℕ) → Scale → List (List ℕ × Scale)
 unit_words spellings scale = map (λ word. (word, scale)) spellings
 
--- The words of the units below a second, each with its scale.
-abbrev pub words_below_second : List (List ℕ × Scale)
-words_below_second =
+-- The words of the units, each with its scale.
+abbrev pub words : List (List ℕ × Scale)
+words =
     unit_words (codes "nanos" ∷ codes "nsec" ∷ codes "ns" ∷ []) whole_nanos
     ++ unit_words (codes "usec" ∷ codes "us" ∷ (micro_sign ∷ codes "s") ∷ (greek_mu ∷ codes "s") ∷ []) (in_nanos nanos_per_micro)
     ++ unit_words (codes "millis" ∷ codes "msec" ∷ codes "ms" ∷ []) (in_nanos nanos_per_milli)
-
--- The words of the units from a second to an hour, each with its scale.
-abbrev pub words_from_second : List (List ℕ × Scale)
-words_from_second =
-    unit_words (codes "seconds" ∷ codes "second" ∷ codes "secs" ∷ codes "sec" ∷ codes "s" ∷ []) (in_seconds_and_nanos 1)
+    ++ unit_words (codes "seconds" ∷ codes "second" ∷ codes "secs" ∷ codes "sec" ∷ codes "s" ∷ []) (in_seconds_and_nanos 1)
     ++ unit_words (codes "minutes" ∷ codes "minute" ∷ codes "min" ∷ codes "mins" ∷ codes "m" ∷ []) (in_seconds_and_nanos seconds_per_minute)
     ++ unit_words (codes "hours" ∷ codes "hour" ∷ codes "hr" ∷ codes "hrs" ∷ codes "h" ∷ []) (in_seconds seconds_per_hour)
-
--- The words of the units of a day or more, each with its scale.
-abbrev pub words_from_day : List (List ℕ × Scale)
-words_from_day =
-    unit_words (codes "days" ∷ codes "day" ∷ codes "d" ∷ []) (in_seconds seconds_per_day)
+    ++ unit_words (codes "days" ∷ codes "day" ∷ codes "d" ∷ []) (in_seconds seconds_per_day)
     ++ unit_words (codes "weeks" ∷ codes "week" ∷ codes "wk" ∷ codes "wks" ∷ codes "w" ∷ []) (in_seconds seconds_per_week)
     ++ unit_words (codes "months" ∷ codes "month" ∷ codes "M" ∷ []) (in_seconds seconds_per_month)
     ++ unit_words (codes "years" ∷ codes "year" ∷ codes "yr" ∷ codes "yrs" ∷ codes "y" ∷ []) (in_seconds seconds_per_year)
-
--- The words of all units, each with its scale.
-abbrev pub words : List (List ℕ × Scale)
-words = words_below_second ++ words_from_second ++ words_from_day
 
 -- Returns the scale of a word, if it is a unit.
 unfoldable pub scale_of_word : List ℕ → Option Scale

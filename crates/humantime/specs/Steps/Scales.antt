@@ -1,5 +1,5 @@
 -- The digits and spans that the `Decimal` and `Amount` of the code represent.
-use Rattle.std.specs.Prelude.{◌≡◌, ℕ, List, length, Option, Some, option_map, chars, bytes_eq, ◌++◌}
+use Rattle.std.specs.Prelude.{◌≡◌, ℕ, List, length, Option, Some, option_map, chars, bytes_eq, ltb, not, filter}
 use Rattle.std.specs.Borrow.{Bor}
 use Rattle.std.specs.Map.{lookup}
 use Rattle.std.specs.Str.{drop_trailing_whitespace}
@@ -7,7 +7,7 @@ use Rattle.humantime.specs.declared.duration.amount.Decimal.{Decimal}
 use Rattle.humantime.specs.declared.duration.amount.Amount.{Amount}
 use Rattle.humantime.specs.Texts.{decimal_value}
 use Rattle.humantime.specs.Durations.Characters.{without_trailing_zeros}
-use Rattle.humantime.specs.Durations.Units.{Scale, words_from_second, words_from_day, scale_of_word}
+use Rattle.humantime.specs.Durations.Units.{Quantity, Nanos, Seconds, Scale, words, scale_of_word}
 use Rattle.humantime.specs.Durations.Spans.{SpelledSpan}
 use Rattle.humantime.specs.Results.Items.{spelled, trimmed}
 
@@ -34,10 +34,19 @@ abbrev pub IsAmountRead : Amount → List ℕ → Option (Bor (List ℕ)) → Li
 IsAmountRead a number fraction unit =
     IsAmountOf a (spelled (drop_trailing_whitespace (chars number)) (option_map (λ f. trimmed (chars f.now)) fraction) (chars unit))
 
--- Returns the scale of a word, if it is a unit of a day or more.
-unfoldable pub scale_from_day : List ℕ → Option Scale
-scale_from_day word = lookup (bytes_eq word) words_from_day
+-- Returns the seconds of a quantity, or 0 for one of nanoseconds.
+abbrev whole_seconds : Quantity → ℕ
+whole_seconds (Nanos n) = 0
+whole_seconds (Seconds n) = n
 
--- Returns the scale of a word, if it is a unit of a second or more.
-unfoldable pub scale_from_second : List ℕ → Option Scale
-scale_from_second word = lookup (bytes_eq word) (words_from_second ++ words_from_day)
+-- Returns those of the words whose units are below this number of seconds.
+abbrev pub words_below : ℕ → List (List ℕ × Scale) → List (List ℕ × Scale)
+words_below seconds ws = filter (λ w. ltb (whole_seconds w.1.whole) seconds) ws
+
+-- Returns the words of the units of at least this number of seconds.
+abbrev pub words_from : ℕ → List (List ℕ × Scale)
+words_from seconds = filter (λ w. not (ltb (whole_seconds w.1.whole) seconds)) words
+
+-- Returns the scale of a word, if it is a unit of at least this number of seconds.
+unfoldable pub scale_from : ℕ → List ℕ → Option Scale
+scale_from seconds word = lookup (bytes_eq word) (words_from seconds)

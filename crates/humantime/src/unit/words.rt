@@ -4,8 +4,9 @@
 //! three matches, by the sizes of the units, because the prover goes through each as a whole.
 
 ghost use Rattle.std.specs.Prelude.{◌≡◌, chars, option_map};
+ghost use Rattle.humantime.specs.Values.{seconds_per_day};
 ghost use Rattle.humantime.specs.Durations.Units.{scale_of_word};
-ghost use Rattle.humantime.specs.Steps.Scales as steps;
+ghost use Rattle.humantime.specs.Steps.Scales.{scale_from};
 
 use crate::unit::{Quantity, Scale, sizes};
 
@@ -46,7 +47,7 @@ pub(crate) fn scale_of(word: &str) -> Option<&'static Scale>
 /// Returns the scale of a unit of a second or more by its word, or `None` if there is no such unit.
 #[tactic(auto, using(std::proofs::lemmas::Bool::Decides::nat_tests, crate::proofs::Durations::Bytes::Words::from_second))]
 fn scale_from_second(word: &str) -> Option<&'static Scale>
-    ensures { option_map (λ s. s.now) result ≡ steps.scale_from_second (chars word.now) }
+    ensures { option_map (λ s. s.now) result ≡ scale_from 1 (chars word.now) }
 {
     match word.as_bytes() {
         b"seconds" | b"second" | b"secs" | b"sec" | b"s" => Some(&in_seconds_and_nanos!(1)),
@@ -61,7 +62,7 @@ fn scale_from_second(word: &str) -> Option<&'static Scale>
 /// Returns the scale of a unit of a day or more by its word, or `None` if there is no such unit.
 #[tactic(auto, using(std::proofs::lemmas::Bool::Decides::nat_tests, crate::proofs::Durations::Bytes::Words::from_day))]
 fn scale_from_day(word: &str) -> Option<&'static Scale>
-    ensures { option_map (λ s. s.now) result ≡ steps.scale_from_day (chars word.now) }
+    ensures { option_map (λ s. s.now) result ≡ scale_from seconds_per_day (chars word.now) }
 {
     match word.as_bytes() {
         b"days" | b"day" | b"d" => Some(&in_seconds!(sizes::SECONDS_PER_DAY)),

@@ -1,6 +1,6 @@
 -- The unit of a word by its bytes.
 use Rattle.std.proofs.lemmas.Bool.Decides.{nat_tests}
-use Rattle.std.proofs.Common.{◌⊎◌, ◌≡◌, ◌∙◌, ◌≤◌, sym, ap, refl, ℕ, zero, suc, Bool, true, ◌&&◌, List, [], ◌∷◌, ◌++◌, length, get_or, ltb, Option, Some, None, chars, arith}
+use Rattle.std.proofs.Common.{◌⊎◌, ◌+◌, ◌<◌, ◌≡◌, ◌∙◌, ◌≤◌, sym, ap, refl, ℕ, zero, suc, Bool, true, ◌&&◌, List, [], ◌∷◌, ◌++◌, length, get_or, ltb, Option, Some, None, chars, arith}
 use Rattle.std.specs.Prelude.{◌==◌, bytes_eq, if◌then◌else◌}
 use Rattle.std.specs.List.{list_all}
 use Rattle.std.specs.Cmp.{both_ways}
@@ -11,8 +11,9 @@ use Rattle.std.proofs.lemmas.Bool.{and_parts, ltb-true}
 use Rattle.std.proofs.lemmas.Slice.Eq.{bytes_eq-Decides}
 use Rattle.std.proofs.lemmas.Str.{chars-encodes, encodes-chars}
 use Rattle.humantime.specs.Durations.Characters.{micro_sign, greek_mu}
-use Rattle.humantime.specs.Durations.Units.{Scale, words_below_second, words_from_second, words_from_day, scale_of_word}
-use Rattle.humantime.specs.Steps.Scales.{scale_from_day, scale_from_second}
+use Rattle.humantime.specs.Values.{seconds_per_day}
+use Rattle.humantime.specs.Durations.Units.{Scale, words, scale_of_word}
+use Rattle.humantime.specs.Steps.Scales.{words_below, words_from, scale_from}
 
 -- The UTF-8 bytes of a word of ASCII letters, micro signs and Greek mus.
 abbrev pub bytes_of : List ℕ → List ℕ
@@ -65,48 +66,36 @@ by_length bs n text e [] later t = refl
 by_length bs n text e (w ∷ ws) later t =
     grind (arith, nat_tests, (word_told bs w.0 text), (same_bytes bs (bytes_of w.0)), (by_length bs n text e ws later))
 
-none_longer : (bs : List ℕ) (n : ℕ) → 8 ≤ n → (ws : List (List ℕ × Scale)) (later : Option Scale) → are_spelled ws ≡ true
+no_such_length : (bs : List ℕ) (n : ℕ) → n ≡ 0 ⊎ 8 ≤ n → (ws : List (List ℕ × Scale)) (later : Option Scale) → are_spelled ws ≡ true
     → scale_among bs n ws later ≡ later
-none_longer bs n long [] later t = refl
-none_longer bs n long (w ∷ ws) later t = grind (arith, nat_tests, and_parts, ltb-true, (none_longer bs n long ws later))
+no_such_length bs n e [] later t = refl
+no_such_length bs n e (w ∷ ws) later t = grind (arith, nat_tests, and_parts, ltb-true, (no_such_length bs n e ws later))
 
--- The same for words of any length.
-abbrev pub scale_at_length : List ℕ → List (List ℕ × Scale) → Option Scale → Option Scale
-scale_at_length bs ws later =
-    if length bs == 1 then scale_among bs 1 ws later
-    else if length bs == 2 then scale_among bs 2 ws later
-    else if length bs == 3 then scale_among bs 3 ws later
-    else if length bs == 4 then scale_among bs 4 ws later
-    else if length bs == 5 then scale_among bs 5 ws later
-    else if length bs == 6 then scale_among bs 6 ws later
-    else if length bs == 7 then scale_among bs 7 ws later
-    else later
+-- The same among the words of `k` lengths from this one on.
+abbrev pub scale_by_lengths : List ℕ → ℕ → ℕ → List (List ℕ × Scale) → Option Scale → Option Scale
+scale_by_lengths bs n zero ws later = later
+scale_by_lengths bs n (suc k) ws later = if length bs == n then scale_among bs n ws later else scale_by_lengths bs (suc n) k ws later
 
-no_bytes : (bs : List ℕ) (n : ℕ) → n ≡ 0 → (ws : List (List ℕ × Scale)) (later : Option Scale) → are_spelled ws ≡ true
-    → scale_among bs n ws later ≡ later
-no_bytes bs n e [] later t = refl
-no_bytes bs n e (w ∷ ws) later t = grind (arith, nat_tests, and_parts, ltb-true, (no_bytes bs n e ws later))
+by_lengths : (bs : List ℕ) (n k : ℕ) → IsUtf8 bs → n + k ≡ 8 → (length bs < n → length bs ≡ 0) → (ws later : List (List ℕ × Scale)) → are_spelled ws ≡ true
+    → lookup (bytes_eq (chars bs)) (ws ++ later) ≡ scale_by_lengths bs n k ws (lookup (bytes_eq (chars bs)) later)
+by_lengths bs n zero text e none ws later t =
+    by_length bs (length bs) text refl ws later t ∙ no_such_length bs (length bs) (grind (arith, none)) ws (lookup (bytes_eq (chars bs)) later) t
+by_lengths bs n (suc k) text e none ws later t = grind (arith, nat_tests, none, (by_length bs n text), (by_lengths bs (suc n) k text))
 
-all_lengths : (bs : List ℕ) → IsUtf8 bs → (ws later : List (List ℕ × Scale)) → are_spelled ws ≡ true
-    → lookup (bytes_eq (chars bs)) (ws ++ later) ≡ scale_at_length bs ws (lookup (bytes_eq (chars bs)) later)
-all_lengths bs text ws later t =
-    let at = λ (n : ℕ) (e : length bs ≡ n). by_length bs n text e ws later t in
-    let last = lookup (bytes_eq (chars bs)) later in
-    grind (arith, nat_tests, (at 1), (at 2), (at 3), (at 4), (at 5), (at 6), (at 7), (at (length bs) refl), (none_longer bs (length bs)), (no_bytes bs (length bs)))
+pub below_second : (bs : List ℕ) → IsUtf8 bs → scale_of_word (chars bs) ≡ scale_by_lengths bs 1 7 (words_below 1 words) (scale_from 1 (chars bs))
+unfolding scale_of_word scale_from encode
+below_second bs text = by_lengths bs 1 7 text refl (λ few. omega arith) (words_below 1 words) (words_from 1) refl
 
-pub below_second : (bs : List ℕ) → IsUtf8 bs → scale_of_word (chars bs) ≡ scale_at_length bs words_below_second (scale_from_second (chars bs))
-unfolding scale_of_word scale_from_second encode
-below_second bs text = all_lengths bs text words_below_second (words_from_second ++ words_from_day) refl
+pub from_second : (bs : List ℕ) → IsUtf8 bs
+    → scale_from 1 (chars bs) ≡ scale_by_lengths bs 1 7 (words_below seconds_per_day (words_from 1)) (scale_from seconds_per_day (chars bs))
+unfolding scale_from encode
+from_second bs text = by_lengths bs 1 7 text refl (λ few. omega arith) (words_below seconds_per_day (words_from 1)) (words_from seconds_per_day) refl
 
-pub from_second : (bs : List ℕ) → IsUtf8 bs → scale_from_second (chars bs) ≡ scale_at_length bs words_from_second (scale_from_day (chars bs))
-unfolding scale_from_second scale_from_day encode
-from_second bs text = all_lengths bs text words_from_second words_from_day refl
+pub from_day : (bs : List ℕ) → IsUtf8 bs → scale_from seconds_per_day (chars bs) ≡ scale_by_lengths bs 1 7 (words_from seconds_per_day) None
+unfolding scale_from encode
+from_day bs text = by_lengths bs 1 7 text refl (λ few. omega arith) (words_from seconds_per_day) [] refl
 
-pub from_day : (bs : List ℕ) → IsUtf8 bs → scale_from_day (chars bs) ≡ scale_at_length bs words_from_day None
-unfolding scale_from_day encode
-from_day bs text = all_lengths bs text words_from_day [] refl
-
-pub at_each_length : (bs : List ℕ) (scale later found : Option Scale) (ws : List (List ℕ × Scale)) → scale ≡ scale_at_length bs ws later
+pub at_each_length : (bs : List ℕ) (scale later found : Option Scale) (ws : List (List ℕ × Scale)) → scale ≡ scale_by_lengths bs 1 7 ws later
     → (length bs ≡ 1 → found ≡ scale_among bs 1 ws later) → (length bs ≡ 2 → found ≡ scale_among bs 2 ws later)
     → (length bs ≡ 3 → found ≡ scale_among bs 3 ws later) → (length bs ≡ 4 → found ≡ scale_among bs 4 ws later)
     → (length bs ≡ 5 → found ≡ scale_among bs 5 ws later) → (length bs ≡ 6 → found ≡ scale_among bs 6 ws later)

@@ -1,12 +1,12 @@
 use Rattle.std.proofs.lemmas.Bool.Decides.{nat_tests}
-use Rattle.std.proofs.Common.{None, chars, arith}
-use Rattle.humantime.specs.Durations.Units.{words_below_second, words_from_second, words_from_day}
-use Rattle.humantime.specs.Steps.Scales.{scale_from_day, scale_from_second}
+use Rattle.std.proofs.Common.{chars, arith}
+use Rattle.humantime.specs.Values.{seconds_per_day}
+use Rattle.humantime.specs.Steps.Scales.{words_below, words_from, scale_from}
 use Rattle.humantime.proofs.Durations.Bytes.Words.{at_each_length, from_second}
 use Rattle.humantime.proofs.unit.words.scale_from_second.Goals as goal
 
 pub returns-in_default : goal.returns-in_default
 returns-in_default c =
-    rw (← c.as_bytes.ensures.value) (at_each_length c.as_bytes.result.now _ (scale_from_day (chars c.as_bytes.result.now)) _ words_from_second (from_second c.as_bytes.result.now c.as_bytes.ensures.utf8)
+    rw (← c.as_bytes.ensures.value) (at_each_length c.as_bytes.result.now _ (scale_from seconds_per_day (chars c.as_bytes.result.now)) _ (words_below seconds_per_day (words_from 1)) (from_second c.as_bytes.result.now c.as_bytes.ensures.utf8)
     (λ n. grind (arith, nat_tests)) (λ n. grind (arith, nat_tests)) (λ n. grind (arith, nat_tests)) (λ n. grind (arith, nat_tests))
     (λ n. grind (arith, nat_tests)) (λ n. grind (arith, nat_tests)) (λ n. grind (arith, nat_tests)) (λ n. grind (arith, nat_tests)))
