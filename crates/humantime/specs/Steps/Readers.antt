@@ -55,13 +55,14 @@ read_span text rest = elim (fault_at text rest) [
 abbrev pub span_result : Result (Span × Bor (List ℕ)) DurationError → Result (SpanView × List ℕ) Fault
 span_result r = result_map_both (λ x. (span_view x.0, chars x.1.now)) fault_of r
 
--- These are the number at the start of `rest` and its fraction, if any, neither of which is too long, and what follows each.
-pub record IsBegun (rest : List ℕ) (number : ℕ) (after : List ℕ) (decimals : Option Decimal) (end : List ℕ) : Type 0 where
+-- The number at the start of `rest` and its fraction, if any, were read, and neither is too long: these are their values, each before the
+-- text that follows it.
+pub record HasRead (rest : List ℕ) (value : ℕ) (after_value : List ℕ) (decimals : Option Decimal) (after_decimals : List ℕ) : Type 0 where
   pub digit : begins is_digit (chars rest) ≡ true
   pub short : too_long (span_of (chars rest)) ≡ false
-  pub number_is : number ≡ decimal_value (number_of (chars rest))
-  pub after_is : chars after ≡ after_number (chars rest)
+  pub value_is : value ≡ decimal_value (number_of (chars rest))
+  pub after_value_is : chars after_value ≡ after_number (chars rest)
   pub decimals_are : option_map parts_of decimals ≡ option_map counted (fraction_of (chars rest))
-  pub end_is : chars end ≡ after_fraction (chars rest)
-  pub after_tail : IsTail rest after
-  pub end_tail : IsTail after end
+  pub after_decimals_is : chars after_decimals ≡ after_fraction (chars rest)
+  pub value_tail : IsTail rest after_value
+  pub decimals_tail : IsTail after_value after_decimals

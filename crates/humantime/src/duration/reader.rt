@@ -3,7 +3,7 @@
 ghost use Rattle.std.specs.Prelude.{◌≡◌, ◌≢◌, IfOk, MatchResult, chars, length};
 ghost use Rattle.humantime.specs.Durations.Errors.{IsRangeIn, PointsInto};
 ghost use Rattle.humantime.specs.Steps.Readers as reader;
-ghost use Rattle.humantime.specs.Steps.Readers.{IsBegun, span_result};
+ghost use Rattle.humantime.specs.Steps.Readers.{HasRead, span_result};
 ghost use Rattle.humantime.specs.Steps.Scanning.{IsTail};
 
 use crate::duration::amount::{Amount, Decimal};
@@ -64,7 +64,7 @@ fn complete_span<'a>(
     after_fraction: &'a str,
 ) -> Result<(Span<'a>, &'a str), DurationError<'a>>
     requires tail { IsTail text.now rest.now }
-    requires begun { IsBegun rest.now value after_number.now fraction after_fraction.now }
+    requires parts { HasRead rest.now value after_number.now fraction after_fraction.now }
     ensures read { span_result result ≡ reader.read_span (chars text.now) (chars rest.now) }
     ensures rest { IfOk result (λ x. IsTail text.now x.1.now) }
     ensures places { MatchResult result (λ x. IsRangeIn text.now x.0.start x.0.end) (PointsInto text.now) }

@@ -13,7 +13,7 @@ use Rattle.humantime.specs.Durations.Faults.{number_of, after_number, after_poin
 use Rattle.humantime.specs.Durations.Units.{Scale, scale_of_word}
 use Rattle.humantime.specs.Results.Items.{spelled, trimmed, view_at}
 use Rattle.humantime.specs.Results.Walks.{stop_at}
-use Rattle.humantime.specs.Steps.Readers.{IsBegun, skip_word, end_span, read_span}
+use Rattle.humantime.specs.Steps.Readers.{HasRead, skip_word, end_span, read_span}
 use Rattle.humantime.specs.Steps.Scales.{Counted, counted, parts_of}
 use Rattle.humantime.specs.Steps.Scanning.{begins_with_nonletter}
 use Rattle.humantime.proofs.Durations.Bytes.Trimming.{spelled_at}
@@ -50,22 +50,22 @@ word_read word next w = grind (arith, common_steps)
 abbrev pub is_bare : Option Counted → Bool
 is_bare fraction = is_some_and (λ x. x.2 == 0) fraction
 
-pub exit_word : {rest after word : List ℕ} {value : ℕ} {fraction : Option Decimal} (text : List ℕ) → IsBegun rest value after fraction word → None ≡ skip_word (chars word)
+pub exit_word : {rest after word : List ℕ} {value : ℕ} {fraction : Option Decimal} (text : List ℕ) → HasRead rest value after fraction word → None ≡ skip_word (chars word)
     → Err (InvalidCharacter (offset_of text (chars word))) ≡ read_span text (chars rest)
 unfolding stop_at
 exit_word text b w = grind (arith, common_steps, no_letters)
 
-pub exit_bare : {rest after word : List ℕ} {value : ℕ} {fraction : Option Decimal} (text next : List ℕ) → IsBegun rest value after fraction word → Some next ≡ skip_word (chars word)
+pub exit_bare : {rest after word : List ℕ} {value : ℕ} {fraction : Option Decimal} (text next : List ℕ) → HasRead rest value after fraction word → Some next ≡ skip_word (chars word)
     → is_bare (option_map parts_of fraction) ≡ true → Err (InvalidCharacter (offset_of text (chars after))) ≡ read_span text (chars rest)
 unfolding stop_at
 exit_bare text next b w bare = grind (arith, common_steps)
 
-pub exit_end : {rest after word : List ℕ} {value : ℕ} {fraction : Option Decimal} (text next : List ℕ) → IsBegun rest value after fraction word → Some next ≡ skip_word (chars word)
+pub exit_end : {rest after word : List ℕ} {value : ℕ} {fraction : Option Decimal} (text next : List ℕ) → HasRead rest value after fraction word → Some next ≡ skip_word (chars word)
     → is_bare (option_map parts_of fraction) ≡ false → None ≡ end_span next → Err (InvalidCharacter (offset_of text next)) ≡ read_span text (chars rest)
 unfolding stop_at
 exit_end text next b w bare e = grind (arith, common_steps)
 
-pub exit_unit : {rest after word : List ℕ} {value : ℕ} {fraction : Option Decimal} (text next end : List ℕ) → IsBegun rest value after fraction word → Some next ≡ skip_word (chars word)
+pub exit_unit : {rest after word : List ℕ} {value : ℕ} {fraction : Option Decimal} (text next end : List ℕ) → HasRead rest value after fraction word → Some next ≡ skip_word (chars word)
     → scale_of_word (take_while is_letter (chars word)) ≡ None → is_bare (option_map parts_of fraction) ≡ false → Some end ≡ end_span next
     → Err (UnknownUnit (offset_of text (chars word)) (offset_of text next) (encode_utf8_all (take_while is_letter (chars word))) value) ≡ read_span text (chars rest)
 unfolding stop_at

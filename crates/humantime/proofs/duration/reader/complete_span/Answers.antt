@@ -12,25 +12,25 @@ use Rattle.humantime.proofs.duration.reader.complete_span.Goals as goal
 
 pub returns-in_default-clause-read : goal.returns-in_default-clause-read
 returns-in_default-clause-read c =
-    rw (tail_offset _ _ (tail_tail _ _ _ (tail_tail _ _ _ c.requires.tail c.requires.begun.after_tail) c.requires.begun.end_tail)) (exit_word _ c.requires.begun c.in_default.ensures.read)
+    rw (tail_offset _ _ (tail_tail _ _ _ (tail_tail _ _ _ c.requires.tail c.requires.parts.value_tail) c.requires.parts.decimals_tail)) (exit_word _ c.requires.parts c.in_default.ensures.read)
 
 pub returns-then-is_some_and-clause-read : goal.returns-then-is_some_and-clause-read
 returns-then-is_some_and-clause-read c =
-    let b = c.requires.begun in
+    let b = c.requires.parts in
     let bare : is_bare (option_map parts_of c.args.fraction) ≡ c.is_some_and.result = grind (arith, c.is_some_and.ensures, common_steps, nat_tests) in
-    rw (tail_offset _ _ (tail_tail _ _ _ c.requires.tail b.after_tail)) (exit_bare _ _ b c.in-Some.ensures.read (bare ∙ c.if-is_some_and.true))
+    rw (tail_offset _ _ (tail_tail _ _ _ c.requires.tail b.value_tail)) (exit_bare _ _ b c.in-Some.ensures.read (bare ∙ c.if-is_some_and.true))
 
 pub returns-in_default-end_span-clause-read : goal.returns-in_default-end_span-clause-read
 returns-in_default-end_span-clause-read c =
-    let b = c.requires.begun in
-    let tail = tail_tail _ _ _ (tail_tail _ _ _ (tail_tail _ _ _ c.requires.tail b.after_tail) b.end_tail) c.in-Some.ensures.rest in
+    let b = c.requires.parts in
+    let tail = tail_tail _ _ _ (tail_tail _ _ _ (tail_tail _ _ _ c.requires.tail b.value_tail) b.decimals_tail) c.in-Some.ensures.rest in
     let bare : is_bare (option_map parts_of c.args.fraction) ≡ c.is_some_and.result = grind (arith, c.is_some_and.ensures, common_steps, nat_tests) in
     rw (tail_offset _ _ tail) (exit_end _ _ b c.in-Some.ensures.read (bare ∙ c.if-is_some_and.false) c.in_default-end_span.ensures.read)
 
 pub returns-in_default-scale_of-clause-read : goal.returns-in_default-scale_of-clause-read
 returns-in_default-scale_of-clause-read c =
-    let b = c.requires.begun in
-    let tail = tail_tail _ _ _ (tail_tail _ _ _ c.requires.tail b.after_tail) b.end_tail in
+    let b = c.requires.parts in
+    let tail = tail_tail _ _ _ (tail_tail _ _ _ c.requires.tail b.value_tail) b.decimals_tail in
     let bare : is_bare (option_map parts_of c.args.fraction) ≡ c.is_some_and.result = grind (arith, c.is_some_and.ensures, common_steps, nat_tests) in
     let letters = front_read is_letter _ _ _ c.in-Some.ensures.rest (word_read _ _ c.in-Some.ensures.read) c.range-unit.ensures.value in
     rw (tail_offset _ _ tail, tail_offset _ _ (tail_tail _ _ _ tail c.in-Some.ensures.rest), sym (encodes-chars _ c.range-unit.utf8) ∙ ap encode_utf8_all letters)
@@ -38,34 +38,34 @@ returns-in_default-scale_of-clause-read c =
 
 pub returns-in_default-scale_of-clause-places : goal.returns-in_default-scale_of-clause-places
 returns-in_default-scale_of-clause-places c =
-    tail_part _ _ _ _ (tail_tail _ _ _ (tail_tail _ _ _ c.requires.tail c.requires.begun.after_tail) c.requires.begun.end_tail) c.in-Some.ensures.rest c.range-unit.ensures.value
+    tail_part _ _ _ _ (tail_tail _ _ _ (tail_tail _ _ _ c.requires.tail c.requires.parts.value_tail) c.requires.parts.decimals_tail) c.in-Some.ensures.rest c.range-unit.ensures.value
 
 pub invariant_of-span-2 : goal.invariant_of-span-2
 invariant_of-span-2 c =
-    let b = c.requires.begun in
+    let b = c.requires.parts in
     let word = word_read _ _ c.in-Some.ensures.read in
-    let number = front_read is_numeric _ _ _ b.after_tail b.after_is c.range.ensures.value in
-    let letters = front_read is_letter _ _ _ c.in-Some.ensures.rest word c.range-unit.ensures.value ∙ ap (take_while is_letter) b.end_is in
-    let digits = c.skip_point.ensures.read ∙ fraction_digits _ _ _ (sym b.after_is ∙ front_chars _ _ _ b.end_tail c.range-2.utf8 c.range-2.ensures.value) b.end_is in
+    let number = front_read is_numeric _ _ _ b.value_tail b.after_value_is c.range.ensures.value in
+    let letters = front_read is_letter _ _ _ c.in-Some.ensures.rest word c.range-unit.ensures.value ∙ ap (take_while is_letter) b.after_decimals_is in
+    let digits = c.skip_point.ensures.read ∙ fraction_digits _ _ _ (sym b.after_value_is ∙ front_chars _ _ _ b.decimals_tail c.range-2.utf8 c.range-2.ensures.value) b.after_decimals_is in
     record {
       read = rw (spelled_read _ _ _ c.skip_point.result number letters digits)
-          (record { scale = sym (c.in-Some-scale_of.ensures ∙ ap scale_of_word letters); value = b.number_is; fraction = b.decimals_are });
+          (record { scale = sym (c.in-Some-scale_of.ensures ∙ ap scale_of_word letters); value = b.value_is; fraction = b.decimals_are });
     }
 
 pub returns-clause-read : goal.returns-clause-read
 returns-clause-read c =
-    let b = c.requires.begun in
+    let b = c.requires.parts in
     let word = word_read _ _ c.in-Some.ensures.read in
-    let number = front_read is_numeric _ _ _ b.after_tail b.after_is c.range.ensures.value in
+    let number = front_read is_numeric _ _ _ b.value_tail b.after_value_is c.range.ensures.value in
     let unit = front_read is_letter _ _ _ c.in-Some.ensures.rest word c.range-unit.ensures.value in
-    let letters = unit ∙ ap (take_while is_letter) b.end_is in
-    let digits = c.skip_point.ensures.read ∙ fraction_digits _ _ _ (sym b.after_is ∙ front_chars _ _ _ b.end_tail c.range-2.utf8 c.range-2.ensures.value) b.end_is in
-    let tail = tail_tail _ _ _ (tail_tail _ _ _ (tail_tail _ _ _ c.requires.tail b.after_tail) b.end_tail) c.in-Some.ensures.rest in
-    let view = view_read _ _ _ _ _ _ _ _ number digits letters (tail_offset _ _ c.requires.tail) (tail_offset _ _ tail ∙ ap (offset_of _) (word ∙ ap (drop_while is_letter) b.end_is)) b.number_is in
+    let letters = unit ∙ ap (take_while is_letter) b.after_decimals_is in
+    let digits = c.skip_point.ensures.read ∙ fraction_digits _ _ _ (sym b.after_value_is ∙ front_chars _ _ _ b.decimals_tail c.range-2.utf8 c.range-2.ensures.value) b.after_decimals_is in
+    let tail = tail_tail _ _ _ (tail_tail _ _ _ (tail_tail _ _ _ c.requires.tail b.value_tail) b.decimals_tail) c.in-Some.ensures.rest in
+    let view = view_read _ _ _ _ _ _ _ _ number digits letters (tail_offset _ _ c.requires.tail) (tail_offset _ _ tail ∙ ap (offset_of _) (word ∙ ap (drop_while is_letter) b.after_decimals_is)) b.value_is in
     let bare : is_bare (option_map parts_of c.args.fraction) ≡ c.is_some_and.result = grind (arith, c.is_some_and.ensures, common_steps, nat_tests) in
     ap (λ x. Ok (x, chars c.in-Some-end_span.next.now)) view
-    ∙ no_exit _ _ _ _ _ _ _ b.digit b.short b.decimals_are b.end_is c.in-Some.ensures.read (sym (c.in-Some-scale_of.ensures ∙ ap scale_of_word unit)) (bare ∙ c.if-is_some_and.false) c.in-Some-end_span.ensures.read
+    ∙ no_exit _ _ _ _ _ _ _ b.digit b.short b.decimals_are b.after_decimals_is c.in-Some.ensures.read (sym (c.in-Some-scale_of.ensures ∙ ap scale_of_word unit)) (bare ∙ c.if-is_some_and.false) c.in-Some-end_span.ensures.read
 
 pub returns-clause-places : goal.returns-clause-places
 returns-clause-places c =
-    tail_range _ _ _ c.requires.tail (tail_tail _ _ _ (tail_tail _ _ _ c.requires.begun.after_tail c.requires.begun.end_tail) c.in-Some.ensures.rest)
+    tail_range _ _ _ c.requires.tail (tail_tail _ _ _ (tail_tail _ _ _ c.requires.parts.value_tail c.requires.parts.decimals_tail) c.in-Some.ensures.rest)
