@@ -1,4 +1,4 @@
--- The classes of characters in the text of a duration.
+-- The classes of characters in the text of a duration, which is its list of characters.
 use Rattle.std.specs.Prelude.{ℕ, ◌-◌, Bool, ◌||◌, ◌==◌, List, [], ◌∷◌, length, encode_utf8_all, filter, codes, reverse}
 use Rattle.std.specs.Char.{char_set_contains, is_ascii_digit, is_ascii_alphabetic}
 use Rattle.std.specs.Str.{byte}
