@@ -2,7 +2,7 @@
 -- in `Spans` and `Faults`.
 use Rattle.std.specs.Prelude.{ℕ, zero, suc, ◌+◌, Bool, true, false, not, ◌==◌, List, [], ◌∷◌, length, Option, Some, None, is_some, Result, Ok, Err, if◌then◌else◌, map, encode_utf8_all}
 use Rattle.humantime.specs.Texts.{begins, drop_while, decimal_value}
-use Rattle.humantime.specs.Durations.Characters.{is_whitespace, is_digit, is_letter, is_numeric, offset_of}
+use Rattle.humantime.specs.Durations.Characters.{is_whitespace, is_digit, is_letter, offset_of}
 use Rattle.humantime.specs.Durations.Units.{Quantity, scale_of_word}
 use Rattle.humantime.specs.Durations.Spans.{SpelledSpan}
 use Rattle.humantime.specs.Durations.Accepted.{quantity_nanos, additions_of, fits, is_some_and, has_room, too_long}

@@ -5,7 +5,7 @@ ghost use Rattle.std.specs.Char.{is_ascii_digit};
 ghost use Rattle.std.specs.List.{list_all};
 ghost use Rattle.humantime.specs.declared.date.error.TimestampError.{TimestampError};
 ghost use Rattle.humantime.specs.Prelude.{IsWeakMoment, IsStrictMoment, first_failed, weak_checks, strict_checks, weak_answer, strict_answer};
-ghost use Rattle.humantime.specs.Timestamps.Fields.{seconds_of};
+ghost use Rattle.humantime.specs.Timestamps.Fields.{ZeroOffset, seconds_of};
 ghost use Rattle.humantime.specs.Timestamps.Checks.{date_time_of, is_valid_date_time};
 ghost use Rattle.humantime.specs.Timestamps.Checks;
 ghost use Rattle.humantime.specs.Steps.Timestamps.{fraction_answer, digits_answer};
@@ -152,9 +152,18 @@ fn before_zone(bytes: &[u8]) -> &[u8]
 {
     match bytes {
         [before @ .., b'Z'] => before,
-        [before @ .., b'+', b'0', b'0', b':', b'0', b'0'] => before,
+        _ if ends_in_zero_offset(bytes) => &bytes[..bytes.len() - 6],
         _ => bytes,
     }
+}
+
+/// Returns `true` if the last six bytes are `+00:00`.
+#[inline(always)]
+#[tactic(auto, using(std::proofs::lemmas::Bool::Decides::nat_tests, crate::proofs::Timestamps::Reading::Ends::zero_offset_at_end))]
+fn ends_in_zero_offset(bytes: &[u8]) -> bool
+    ensures { result ≡ Checks.ends_in ZeroOffset bytes.now }
+{
+    matches!(bytes, [.., b'+', b'0', b'0', b':', b'0', b'0'])
 }
 
 /// Parses the bytes of a timestamp in the weak form. Returns the moment, or the error of the first check that fails.

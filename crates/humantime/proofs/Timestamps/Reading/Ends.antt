@@ -1,9 +1,8 @@
 -- The zone at the end of a text.
 use Rattle.std.proofs.lemmas.Grind.{common_steps}
-use Rattle.std.proofs.Common.{◌∙◌, ◌≡◌, ◌≢◌, ℕ, List, [], ◌∷◌, ◌++◌, ◌+◌, length, drop, sym, append_assoc, arith, rules}
-use Rattle.std.specs.Prelude.{false, ◌==◌, ◌&&◌, ◌-◌, ◌≤◌, codes, nat_eq, nat_lt, slice_index}
+use Rattle.std.proofs.Common.{◌≡◌, ◌≢◌, ℕ, List, [], ◌∷◌, ◌++◌, ◌+◌, length, drop, sym, append_assoc, arith, rules}
+use Rattle.std.specs.Prelude.{◌==◌, ◌&&◌, ◌-◌, ◌≤◌, codes, nat_eq, nat_lt, slice_index}
 use Rattle.std.specs.List.{AllByRecursion, ends_with}
-use Rattle.std.proofs.lemmas.Bool.Decides.{nat_tests}
 use Rattle.std.proofs.lemmas.List.{take-append-drop, drop_more}
 use Rattle.std.proofs.Math.ListN.{drop_of_length-le}
 use Rattle.humantime.specs.Timestamps.Fields.{Zone, zone_text}
@@ -21,9 +20,6 @@ pub zero_offset_at_end : (bytes : List ℕ) → 6 ≤ length bytes → ends_with
     ((slice_index bytes (length bytes - 6) == 43) && (slice_index bytes (length bytes - 5) == 48) && (slice_index bytes (length bytes - 4) == 48)
     && (slice_index bytes (length bytes - 3) == 58) && (slice_index bytes (length bytes - 2) == 48) && (slice_index bytes (length bytes - 1) == 48))
 zero_offset_at_end bytes long = rw (last_six bytes (length bytes - 6) (omega (arith, long))) (grind (arith, common_steps))
-
-pub last_of_zero_offset : (bytes : List ℕ) → 6 ≤ length bytes → slice_index bytes (length bytes - 1) ≢ 48 → ends_with nat_eq bytes (codes "+00:00") ≡ false
-last_of_zero_offset bytes long other = zero_offset_at_end bytes long ∙ grind (arith, nat_tests)
 
 pub some_zone : (bytes : List ℕ) → nat_lt 0 (length (zone_text (zone_of bytes))) ≡ ends_in_zone bytes
 unfolding zone_of

@@ -3,7 +3,7 @@ use Rattle.humantime.specs.Durations.Characters.{is_letter}
 use Rattle.std.proofs.lemmas.Bool.{cases_lt}
 use Rattle.std.proofs.lemmas.Bool.Decides.{nat_tests}
 use Rattle.std.proofs.lemmas.Grind.{common_steps}
-use Rattle.std.proofs.Common.{◌<◌, ◌+◌, ◌≡◌, chars, drop, ℕ, List, length, get_or, refl, sym, ap, ◌∙◌, arith}
+use Rattle.std.proofs.Common.{◌<◌, ◌+◌, ◌≡◌, chars, drop, length, refl, sym, ◌∙◌, arith}
 use Rattle.std.proofs.lemmas.Str.{IsCharBoundary-start, chars-nil}
 use Rattle.humantime.proofs.Durations.Bytes.PlaceSteps.{letter_over, mu_over, ascii_at, micro_bytes, char_at, mu_bytes}
 use Rattle.humantime.proofs.Durations.Bytes.Tails.{no_chars_at, a_word, front_is, no_bytes, no_letter_begins, some_chars}
