@@ -11,12 +11,11 @@ use Rattle.humantime.specs.Durations.Accepted.{is_some_and, too_long}
 use Rattle.humantime.specs.Durations.Characters.{is_digit, is_letter, is_numeric, offset_of}
 use Rattle.humantime.specs.Durations.Faults.{number_of, after_number, after_point, after_fraction, fraction_of, word_of, after_word, span_of, InvalidCharacter, UnknownUnit}
 use Rattle.humantime.specs.Durations.Units.{Scale, scale_of_word}
-use Rattle.humantime.specs.Results.Items.{spelled, trimmed, view_at}
+use Rattle.humantime.specs.Results.Items.{trimmed, view_at}
 use Rattle.humantime.specs.Results.Walks.{stop_at}
 use Rattle.humantime.specs.Steps.Readers.{HasRead, skip_word, end_span, read_span}
 use Rattle.humantime.specs.Steps.Scales.{Counted, counted, parts_of}
 use Rattle.humantime.specs.Steps.Scanning.{begins_with_nonletter}
-use Rattle.humantime.proofs.Durations.Bytes.Trimming.{spelled_at}
 use Rattle.humantime.proofs.Durations.Reading.Runs.{take_while-drop_while}
 
 -- A text that does not begin with a letter has no letters at its start.
@@ -29,12 +28,6 @@ pub view_read : (text rest number word : List ℕ) (digits : Option (Bor (List �
     → word ≡ word_of rest → start ≡ offset_of text rest → end ≡ offset_of text (after_word rest) → value ≡ decimal_value (number_of rest)
     → record { number = drop_trailing_whitespace number; fraction = option_map (λ t. trimmed (chars t.now)) digits; unit = word; start = start; end = end; value = value } ≡ view_at text rest
 view_read text rest number word digits start end value n d w p q v = grind arith
-
--- The slices that were parsed represent the span.
-pub spelled_read : (rest number letters : List ℕ) (digits : Option (Bor (List ℕ))) → number ≡ take_while is_numeric rest → letters ≡ word_of rest
-    → option_map (λ t. chars t.now) digits ≡ option_map (take_while is_numeric) (after_point (after_number rest))
-    → spelled (drop_trailing_whitespace number) (option_map (λ t. trimmed (chars t.now)) digits) letters ≡ span_of rest
-spelled_read rest number letters digits n l d = grind (arith, (spelled_at [] rest))
 
 -- The digits of the slice between a number and the word after it.
 pub fraction_digits : (cs slice after : List ℕ) → cs ≡ slice ++ after → after ≡ unwrap_or (option_map after_number (after_point cs)) cs

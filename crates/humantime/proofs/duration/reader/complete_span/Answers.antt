@@ -1,13 +1,15 @@
 use Rattle.std.proofs.lemmas.Grind.{common_steps}
 use Rattle.std.proofs.lemmas.Bool.Decides.{nat_tests}
 use Rattle.std.proofs.lemmas.Str.{encodes-chars}
-use Rattle.std.proofs.Common.{◌≡◌, ◌∙◌, encode_utf8_all, Ok, chars, sym, ap, option_map, arith}
+use Rattle.std.proofs.Common.{[], refl, ◌≡◌, ◌∙◌, encode_utf8_all, Ok, chars, sym, ap, option_map, arith}
 use Rattle.humantime.specs.Texts.{take_while, drop_while}
 use Rattle.humantime.specs.Durations.Characters.{is_numeric, is_letter, offset_of}
 use Rattle.humantime.specs.Durations.Units.{scale_of_word}
+use Rattle.humantime.specs.Results.Items.{spelled}
 use Rattle.humantime.specs.Steps.Scales.{parts_of}
 use Rattle.humantime.proofs.Durations.Bytes.Tails.{tail_offset, tail_tail, tail_part, tail_range, front_read, front_chars}
-use Rattle.humantime.proofs.Durations.Bytes.SpanExits.{fraction_digits, word_read, view_read, spelled_read, is_bare, exit_word, exit_bare, exit_end, exit_unit, no_exit}
+use Rattle.humantime.proofs.Durations.Bytes.SpanExits.{fraction_digits, word_read, view_read, is_bare, exit_word, exit_bare, exit_end, exit_unit, no_exit}
+use Rattle.humantime.proofs.Durations.Bytes.Trimming.{spelled_at}
 use Rattle.humantime.proofs.duration.reader.complete_span.Goals as goal
 
 pub returns-in_default-clause-read : goal.returns-in_default-clause-read
@@ -48,7 +50,7 @@ invariant_of-span-2 c =
     let letters = front_read is_letter _ _ _ c.in-Some.ensures.rest word c.range-unit.ensures.value ∙ ap (take_while is_letter) b.after_decimals_is in
     let digits = c.skip_point.ensures.read ∙ fraction_digits _ _ _ (sym b.after_value_is ∙ front_chars _ _ _ b.decimals_tail c.range-2.utf8 c.range-2.ensures.value) b.after_decimals_is in
     record {
-      read = rw (spelled_read _ _ _ c.skip_point.result number letters digits)
+      read = rw (ap (λ x. spelled x.number x.fraction x.unit) (view_read [] _ _ _ c.skip_point.result _ _ _ number digits letters refl refl refl) ∙ spelled_at [] _)
           (record { scale = sym (c.in-Some-scale_of.ensures ∙ ap scale_of_word letters); value = b.value_is; fraction = b.decimals_are });
     }
 

@@ -1,6 +1,6 @@
 use Rattle.std.proofs.lemmas.Bool.Decides.{nat_tests}
 use Rattle.std.proofs.lemmas.Grind.{common_steps}
-use Rattle.std.proofs.Common.{◌≡◌, false, length, ne_eqb, refl, arith}
+use Rattle.std.proofs.Common.{◌≡◌, ◌≢◌, [], chars, false, length, ne_eqb, refl, arith}
 use Rattle.std.specs.Prelude.{◌==◌}
 use Rattle.humantime.proofs.Durations.Reading.SpanWalks.{walk-end}
 use Rattle.humantime.proofs.Durations.Slices.Iterating.{step_stopped, step_shorter, step_goes}
@@ -28,7 +28,10 @@ returns-in-Ok-clause-goes c = grind (arith, common_steps, nat_tests, returns-in-
 
 pub returns-in-Err-clause-steps : goal.returns-in-Err-clause-steps
 returns-in-Err-clause-steps c =
-    (rw (c.if-self.false, ← c.skip_whitespace-unread.ensures.read) (step_stopped _ _ _ _ (some_chars _ c.skip_whitespace-unread.utf8 (grind arith)) c.in-Err.ensures.read), refl, c.in-Err.ensures.places)
+    let some : chars c.skip_whitespace-unread.result.now ≢ [] = some_chars _ c.skip_whitespace-unread.utf8 (grind arith) in
+    (grind (arith, step_stopped), refl, grind (arith, c.in-Err.ensures.places))
 
 pub returns-in-Err-clause-goes : goal.returns-in-Err-clause-goes
-returns-in-Err-clause-goes c = grind (arith, common_steps, nat_tests, returns-in-Err-clause-steps)
+returns-in-Err-clause-goes c =
+    let s = (returns-in-Err-clause-steps c).0 in
+    grind arith
