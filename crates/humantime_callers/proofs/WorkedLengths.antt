@@ -1,5 +1,5 @@
 -- What holds of texts of any length: of their digits, zeros, letters and whitespace, from the definitions alone.
-use Rattle.std.proofs.Common.{◌≡◌, ◌≢◌, ℕ, ◌+◌, ◌*◌, List, [], ◌∷◌, ◌++◌, Option, Some, None, length, take, refl, sym, ap, ◌∙◌, arith, append_assoc, append-nil, inl}
+use Rattle.std.proofs.Common.{◌≡◌, ◌≢◌, ℕ, ◌+◌, ◌*◌, List, [], ◌∷◌, ◌++◌, Option, Some, None, length, take, refl, sym, ap, subst, ◌∙◌, arith, append_assoc, append-nil, inl}
 use Rattle.std.specs.Prelude.{codes, pos, IsTrue, encode_utf8_all}
 use Rattle.std.specs.Str.{byte, all_ascii_digits}
 use Rattle.std.proofs.Math.Seq.{take-append_seam}
@@ -14,7 +14,7 @@ use Rattle.humantime.specs.Durations.Faults.{UnknownWord, after_fraction, after_
 use Rattle.humantime.specs.Timestamps.Fields.{Letter_T, Letter_Z}
 use Rattle.humantime.proofs.Durations.Reading.Classes.{digit_is_numeric}
 use Rattle.humantime.proofs.Durations.Reading.Runs.{drop_while-append}
-use Rattle.humantime.proofs.Durations.Reading.Spelled.{read_spelled, spelled_here}
+use Rattle.humantime.proofs.Durations.Reading.Spelled.{IsSpelledAt, read_spelled, spelled_here}
 use Rattle.humantime.proofs.Durations.Reading.Summed.{within_tells}
 use Rattle.humantime.proofs.Durations.Reading.SignificantDigits.{amount_kept, significant_zero}
 use Rattle.humantime.proofs.OnLiterals.{humantime_on_literals}
@@ -78,7 +78,8 @@ any_word : (word : List ℕ) → IsLetters word → scale_of_word word ≡ None
     → HasFault (codes "1" ++ word) (UnknownUnit 1 (1 + byte_length word) (encode_utf8_all word) 1)
 unfolding humantime_on_literals
 any_word word letters none =
-    let spells : Spells (codes "1" ++ word) (record { number = codes "1"; fraction = None; word = word }) [] = record {
+    let span : SpelledSpan = record { number = codes "1"; fraction = None; word = word } in
+    let spells : Spells (codes "1" ++ word) span [] = record {
       number_text = codes "1";
       fraction_text = [];
       whitespace = [];
@@ -89,15 +90,15 @@ any_word word letters none =
       word = letters;
       only_whitespace = tt;
     } in
-    let found = rw (append-nil (codes "1" ++ word)) at (spelled_here (codes "1" ++ word) [] _ spells (inl refl) refl) in
-    let tail = (read_spelled (codes "1" ++ word) [] _ spells).tail_is in
+    let found = subst (λ (text : List ℕ). IsSpelledAt text span []) (append-nil (codes "1" ++ word)) (spelled_here (codes "1" ++ word) [] span spells (inl refl) refl) in
+    let tail = (read_spelled (codes "1" ++ word) [] span spells).3 in
     let after : after_fraction (codes "1" ++ word) ≡ word = tail ∙ append-nil word in
     let end : after_word (codes "1" ++ word) ≡ [] = ap (drop_while is_letter) tail ∙ drop_while-append is_letter word [] letters.0 refl in
-    let same : word_of (codes "1" ++ word) ≡ word = ap (λ (s : SpelledSpan). s.word) found.span in
+    let same : word_of (codes "1" ++ word) ≡ word = ap (λ (s : SpelledSpan). s.word) found.1 in
     let size : byte_length (codes "1" ++ word) ≡ 1 + byte_length word = omega arith in
     let first : 1 ≡ offset_of (codes "1" ++ word) (after_fraction (codes "1" ++ word)) = rw after (omega (arith, size)) in
     let last : 1 + byte_length word ≡ offset_of (codes "1" ++ word) (after_word (codes "1" ++ word)) = rw end (omega (arith, size)) in
-    let value : 1 ≡ decimal_value (number_of (codes "1" ++ word)) = ap (λ (s : SpelledSpan). decimal_value s.number) (sym found.span) in
+    let value : 1 ≡ decimal_value (number_of (codes "1" ++ word)) = ap (λ (s : SpelledSpan). decimal_value s.number) (sym found.1) in
     record {
       not_zero = λ zero. grind arith;
       front = [];
@@ -105,7 +106,7 @@ any_word word letters none =
       spans = [];
       split = record { whole = refl; spelled = record { whitespace = []; body = []; whole = refl; only_whitespace = tt; each = refl }; no_whitespace = refl };
       within = (within_tells [] tt).0 refl;
-      row = inl (UnknownWord (record { digit = refl; short = ap too_long found.span }) found.point (λ empty. letters.1 (sym same ∙ empty)) (rw same none) (ap may_follow_span end) (rw (← first, ← last, ← value, same) refl));
+      row = inl (UnknownWord (record { digit = refl; short = ap too_long found.1 }) found.2 (λ empty. letters.1 (sym same ∙ empty)) (rw same none) (ap may_follow_span end) (rw (← first, ← last, ← value, same) refl));
     }
 
 -- The digits of a timestamp after the ninth do not count.

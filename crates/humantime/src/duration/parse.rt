@@ -34,6 +34,7 @@ use crate::value::StdDuration;
 /// assert!(rt; matches!(items.next(), Some(Err(DurationError::NumberExpected(6)))));
 /// assert!(rt; items.next().is_none());
 /// ```
+#[tactic(auto, using(crate::proofs::Durations::Slices::ItemViews::are_items))]
 #[inline(always)]
 pub fn spans(s: &str) -> SpanIter<'_>
     ensures items { AreItems (chars s.now) (items_left result) }

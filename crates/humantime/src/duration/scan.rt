@@ -45,6 +45,7 @@ fn leading_whitespace_len(text: &str) -> usize
 ///
 /// A character must begin at `at`, so `at` is less than the length of the text.
 #[inline(always)]
+#[tactic(auto, using(crate::proofs::Durations::Bytes::PlaceSteps::ascii_at, crate::proofs::Durations::Bytes::PlaceSteps::no_whitespace_at_mu, crate::proofs::Durations::Reading::Classes::low_whitespace, crate::proofs::Durations::Reading::Classes::no_whitespace_between, std::proofs::lemmas::Bool::Decides::nat_tests))]
 pub(crate) fn skip_whitespace_char(text: &str, at: usize) -> Option<usize>
     requires { IsCharStartIn text.now at }
     ensures { SomeIff result (0 < whitespace_len (chars (drop at text.now))) (at + whitespace_len (chars (drop at text.now))) }
@@ -74,6 +75,7 @@ pub(crate) fn skip_whitespace_char(text: &str, at: usize) -> Option<usize>
 ///
 /// It is a loop of its own, in which each further space costs one test.
 #[inline(always)]
+#[tactic(auto, using(crate::proofs::Durations::Bytes::PlaceSteps::ascii_at, crate::proofs::Durations::Reading::Classes::low_whitespace, std::proofs::lemmas::Grind::common_steps, std::proofs::lemmas::Bool::Decides::nat_tests))]
 fn skip_spaces(text: &str, from: usize) -> usize
     requires { IsCharBoundary text.now from }
     ensures { SkipsWhitespace text.now from result }
@@ -88,7 +90,7 @@ fn skip_spaces(text: &str, from: usize) -> usize
 
 /// Returns what follows the whitespace at the start of the text, if any.
 #[inline(always)]
-#[tactic(auto, using(crate::proofs::Durations::Bytes::Tails::slice_tail, crate::proofs::Durations::Bytes::Tails::whole_tail, crate::proofs::Durations::Bytes::PlaceSteps::digit_stays))]
+#[tactic(auto, using(crate::proofs::Durations::Bytes::Tails::slice_tail, crate::proofs::Durations::Bytes::Tails::whole_tail, crate::proofs::Durations::Bytes::PlaceSteps::digit_stays, crate::proofs::Durations::Bytes::PlaceSteps::starts))]
 pub(crate) fn skip_whitespace(s: &str) -> &str
     ensures read { chars result.now ≡ drop_while is_whitespace (chars s.now) }
     ensures rest { IsTail s.now result.now }
@@ -109,6 +111,7 @@ pub(crate) fn skip_whitespace(s: &str) -> &str
 
 /// Returns `true` if the text begins with an ASCII digit.
 #[inline(always)]
+#[tactic(auto, using(crate::proofs::Durations::Bytes::PlaceSteps::digit_at, crate::proofs::Durations::Bytes::PlaceSteps::starts, crate::proofs::Durations::Bytes::Tails::no_bytes, std::proofs::lemmas::Grind::common_steps, std::proofs::lemmas::Bool::Decides::nat_tests))]
 pub(crate) fn begins_with_digit(text: &str) -> bool
     ensures { result ≡ begins is_digit (chars text.now) }
 {
@@ -165,7 +168,7 @@ pub(crate) fn skip_point(s: &str) -> Option<&str>
 /// Reads the digits of a fraction at the start of the text, if any, with the whitespace around and between them. Returns the digits and the
 /// rest, or `None` if there are more than 19 digits before the trailing zeros.
 #[inline(always)]
-#[tactic(auto, using(crate::proofs::Durations::Bytes::Tails::slice_tail))]
+#[tactic(auto, using(crate::proofs::Durations::Bytes::Tails::slice_tail, crate::proofs::Durations::Reading::Classes::digit_is))]
 pub(crate) fn read_fraction(s: &str) -> Option<(Decimal, &str)>
     ensures read { read_view parts_of result ≡ reader.read_fraction (chars s.now) }
     ensures rest { IfSome result (λ x. IsTail s.now x.1.now) }
@@ -189,7 +192,7 @@ pub(crate) fn read_fraction(s: &str) -> Option<(Decimal, &str)>
 
 /// Returns what follows the letters at the start of the text, or `None` if it begins with any other character.
 #[inline(always)]
-#[tactic(auto, using(crate::proofs::Durations::Bytes::Tails::no_chars_at, crate::proofs::Durations::Bytes::Tails::slice_tail))]
+#[tactic(auto, using(crate::proofs::Durations::Bytes::Tails::no_chars_at, crate::proofs::Durations::Bytes::Tails::slice_tail, crate::proofs::Durations::Bytes::PlaceSteps::starts))]
 pub(crate) fn skip_word(s: &str) -> Option<&str>
     ensures read { option_map (λ t. chars t.now) result ≡ reader.skip_word (chars s.now) }
     ensures rest { IfSome result (λ t. IsTail s.now t.now) }
@@ -217,7 +220,7 @@ pub(crate) fn skip_word(s: &str) -> Option<&str>
 ///
 /// It skips one character, since there is usually only one before the next digit. `skip_whitespace` skips the others.
 #[inline(always)]
-#[tactic(auto, using(crate::proofs::Durations::Bytes::Tails::slice_tail, crate::proofs::Durations::Bytes::Tails::whole_tail, crate::proofs::Durations::Bytes::Tails::no_bytes, crate::proofs::Durations::Bytes::Tails::some_chars, crate::proofs::Durations::Bytes::PlaceSteps::space_ends, std::proofs::lemmas::Str::len_utf8_bounds, std::proofs::lemmas::Grind::common_steps))]
+#[tactic(auto, using(crate::proofs::Durations::Bytes::Tails::slice_tail, crate::proofs::Durations::Bytes::Tails::whole_tail, crate::proofs::Durations::Bytes::Tails::no_bytes, crate::proofs::Durations::Bytes::Tails::some_chars, crate::proofs::Durations::Bytes::PlaceSteps::space_ends, crate::proofs::Durations::Bytes::PlaceSteps::whitespace_ends, crate::proofs::Durations::Bytes::PlaceSteps::starts, std::proofs::lemmas::Str::len_utf8_bounds, std::proofs::lemmas::Grind::common_steps))]
 pub(crate) fn end_span(s: &str) -> Option<&str>
     ensures read { option_map (λ t. chars t.now) result ≡ reader.end_span (chars s.now) }
     ensures rest { IfSome result (λ t. IsTail s.now t.now) }

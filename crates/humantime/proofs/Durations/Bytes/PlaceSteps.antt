@@ -14,7 +14,10 @@ use Rattle.humantime.specs.Durations.Characters.{is_letter, is_whitespace, white
 use Rattle.humantime.specs.Steps.Readers.{after_space}
 use Rattle.humantime.specs.Steps.Scanning.{whitespace_len}
 use Rattle.humantime.specs.Durations.Faults.{after_point, may_follow_span}
-use Rattle.humantime.proofs.Durations.Reading.Classes.{digit_is, digit_not_whitespace, whitespace_is_numeric, letter_not_whitespace, wide_no_digit, whitespace_is}
+use Rattle.humantime.proofs.Durations.Reading.Classes.{digit_is, digit_not_whitespace, whitespace_is_numeric, letter_not_whitespace, whitespace_is}
+
+-- A character may begin at the start of a text.
+pub ruleset starts = (IsCharBoundary-start)
 
 -- The character at an offset, and the offset after it.
 pub record IsCharAt (text : List ℕ) (at char next : ℕ) : Type 0 where
@@ -26,35 +29,26 @@ pub record IsCharAt (text : List ℕ) (at char next : ℕ) : Type 0 where
   pub wide : 128 ≤ get_or text at 0 → 128 ≤ char
 
 pub char_at : (text : List ℕ) (at : ℕ) → IsUtf8 text → IsCharStartIn text at → (char : ℕ) × IsCharAt text at char (at + len_utf8 char)
-char_at text at u here = by (chars rest) (encodes-chars rest utf8)
+char_at text at u here = by (chars (drop at text)) (encodes-chars (drop at text) (IsUtf8-drop text at u here.1))
   where
-    rest : List ℕ
-    rest = drop at text
-
-    utf8 : IsUtf8 rest
-    utf8 = IsUtf8-drop text at u here.1
-
-    some : 0 < length rest
-    some = omega (arith, length-drop at text, here.0)
-
-    first : get_or rest 0 0 ≡ get_or text at 0
-    first = get_or-drop at text 0 0 ∙ ap (λ (k : ℕ). get_or text k 0) (omega arith)
-
-    by : (cs : List ℕ) → encode_utf8_all cs ≡ rest → (char : ℕ) × IsCharAt text at char (at + len_utf8 char)
-    by [] e = absurd (omega (arith, ap length e, some))
+    by : (cs : List ℕ) → encode_utf8_all cs ≡ drop at text → (char : ℕ) × IsCharAt text at char (at + len_utf8 char)
+    by [] e = absurd (omega (arith, ap length e, length-drop at text, here.0))
     by (c ∷ cs) e =
+        let rest = drop at text in
+        let utf8 = IsUtf8-drop text at u here.1 in
+        let some : 0 < length rest = omega (arith, length-drop at text, here.0) in
         let behind : drop (at + len_utf8 c) text ≡ encode_utf8_all cs = drop_past_char text (encode_utf8_all cs) at c (sym e) in
-        let bytes : rest ≡ encode_utf8 c ++ drop (at + len_utf8 c) text = sym e ∙ ap (λ (x : List ℕ). encode_utf8 c ++ x) (sym behind) in (
-          c,
-          record {
-            bytes = bytes;
-            ahead = chars_past_char rest (drop (at + len_utf8 c) text) c utf8 bytes;
-            place = IsCharBoundary-past_char text (encode_utf8_all cs) at c (omega (arith, here.0)) utf8 (sym e);
-            long = refl;
-            ascii = λ small. char_from_byte rest (encode_utf8_all cs) c (sym e) (omega (arith, first, small)) some ∙ first;
-            wide = λ large. grind (arith, (cases_lt c 128), (byte_from_char rest (encode_utf8_all cs) c (sym e)), first, large, some);
-          },
-        )
+        let bytes : rest ≡ encode_utf8 c ++ drop (at + len_utf8 c) text = sym e ∙ ap (λ (x : List ℕ). encode_utf8 c ++ x) (sym behind) in
+        let first : get_or rest 0 0 ≡ get_or text at 0 = get_or-drop at text 0 0 ∙ ap (λ (k : ℕ). get_or text k 0) (omega arith) in
+        let is_there : IsCharAt text at c (at + len_utf8 c) = record {
+          bytes = bytes;
+          ahead = chars_past_char rest (drop (at + len_utf8 c) text) c utf8 bytes;
+          place = IsCharBoundary-past_char text (encode_utf8_all cs) at c (omega (arith, here.0)) utf8 (sym e);
+          long = refl;
+          ascii = λ small. char_from_byte rest (encode_utf8_all cs) c (sym e) (omega (arith, first, small)) some ∙ first;
+          wide = λ large. grind (arith, (cases_lt c 128), (byte_from_char rest (encode_utf8_all cs) c (sym e)), first, large, some);
+        } in
+        (c, is_there)
 
 -- An ASCII byte is a character.
 pub ascii_at : (text : List ℕ) (at : ℕ) → IsUtf8 text → IsCharStartIn text at → get_or text at 0 < 128 → IsCharAt text at (get_or text at 0) (at + 1)
@@ -64,10 +58,7 @@ ascii_at text at u here small = grind (arith, common_steps, nat_tests, char_at, 
 pub digit_at : (text : List ℕ) (at : ℕ) → IsUtf8 text → IsCharStartIn text at → is_ascii_digit (get_or text at 0) ≡ begins is_digit (chars (drop at text))
 digit_at text at u here =
     let c = char_at text at u here in
-    rw (c.1.ahead, ← digit_is) (elim (cases_lt (get_or text at 0) 128) [
-      | inl small ↦ rw (c.1.ascii small)
-      | inr large ↦ wide_no_digit _ large ∙ sym (wide_no_digit _ (c.1.wide large))
-    ])
+    rw (c.1.ahead, ← digit_is) (grind (arith, nat_tests, (cases_lt (get_or text at 0) 128), c.1.ascii, c.1.wide))
 
 -- Whitespace at an offset is a character of its length.
 pub whitespace_over : (text : List ℕ) (at next : ℕ) → IsUtf8 text → IsCharStartIn text at → 0 < whitespace_len (chars (drop at text))
@@ -102,14 +93,6 @@ point_over text u some e =
 abbrev pub is_mu_pair : ℕ → ℕ → Bool
 is_mu_pair first second = (first == 0xc2 && second == 0xb5) || (first == 0xce && second == 0xbc)
 
-pub micro_bytes : encode_utf8 181 ≡ 0xc2 ∷ 0xb5 ∷ []
-unfolding encode
-micro_bytes = refl
-
-pub mu_bytes : encode_utf8 956 ≡ 0xce ∷ 0xbc ∷ []
-unfolding encode
-mu_bytes = refl
-
 -- A character of two bytes is at an offset if its bytes are.
 two_over : (text : List ℕ) (at c x y : ℕ) → IsUtf8 text → IsCharBoundary text at → at + 1 < length text
     → get_or text at 0 ≡ x → get_or text (at + 1) 0 ≡ y
@@ -122,14 +105,14 @@ two_over text at c x y u place some first second spelled =
 pub mu_over : (text : List ℕ) (at : ℕ) → IsUtf8 text → IsCharBoundary text at → at + 1 < length text
     → is_mu_pair (get_or text at 0) (get_or text (at + 1) 0) ≡ true
     → (c : ℕ) × (is_letter c ≡ true) × IsCharAt text at c (at + 2)
-unfolding is_letter
+unfolding is_letter encode
 mu_over text at u place some pair = elim (or_cases _ _ pair) [
   | inl micro ↦
       let p = and_parts _ _ micro in
-      (181, refl, two_over text at 181 0xc2 0xb5 u place some (eqb-true _ _ p.0) (eqb-true _ _ p.1) micro_bytes)
+      (181, refl, two_over text at 181 0xc2 0xb5 u place some (eqb-true _ _ p.0) (eqb-true _ _ p.1) refl)
   | inr mu ↦
       let p = and_parts _ _ mu in
-      (956, refl, two_over text at 956 0xce 0xbc u place some (eqb-true _ _ p.0) (eqb-true _ _ p.1) mu_bytes)
+      (956, refl, two_over text at 956 0xce 0xbc u place some (eqb-true _ _ p.0) (eqb-true _ _ p.1) refl)
 ]
 
 -- A mu is not whitespace.

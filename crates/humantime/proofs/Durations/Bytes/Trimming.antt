@@ -1,15 +1,15 @@
 -- Slices without leading and trailing whitespace.
 use Rattle.std.proofs.lemmas.Grind.{common_steps}
-use Rattle.std.proofs.Common.{◌≡◌, ℕ, suc, Bool, true, false, ◌&&◌, cond, eqb, List, [], ◌∷◌, ◌++◌, length, Option, Some, None, option_map, ◌⊎◌, inl, inr, refl, sym, ap, ◌∙◌, append-nil, arith, IsUtf8, chars}
+use Rattle.std.proofs.Common.{◌≡◌, ℕ, suc, Bool, true, false, ◌&&◌, cond, eqb, List, [], ◌∷◌, ◌++◌, length, Some, None, ◌⊎◌, inl, refl, sym, ap, ◌∙◌, append-nil, arith, IsUtf8, chars}
 use Rattle.std.specs.Char.{is_whitespace as std_is_whitespace}
 use Rattle.std.specs.Str.{trim_start, trim_end, skip_leading_whitespace, drop_trailing_whitespace}
 use Rattle.std.proofs.lemmas.Str.{encodes-chars, encodes_same}
 use Rattle.std.proofs.lemmas.Bool.Decides.{nat_tests}
 use Rattle.std.proofs.lemmas.List.Elements.{filter-append}
-use Rattle.humantime.specs.Texts.{begins, ends, take_while, drop_while}
+use Rattle.humantime.specs.Texts.{begins, ends, drop_while}
 use Rattle.humantime.specs.Durations.Characters.{is_whitespace, is_digit, is_letter, is_numeric, digits, is_point}
 use Rattle.humantime.specs.Durations.Spans.{HasOnly}
-use Rattle.humantime.specs.Durations.Faults.{number_of, after_number, after_point, span_of}
+use Rattle.humantime.specs.Durations.Faults.{span_of}
 use Rattle.humantime.specs.Results.Items.{trimmed, fraction_slice, view_at, spelled}
 use Rattle.humantime.specs.Durations.Items.{IsDigitSlice}
 use Rattle.humantime.proofs.Durations.Reading.Classes.{whitespace_is, whitespace_not_digit, digit_from_numeric, letter_not_whitespace}
@@ -32,8 +32,7 @@ dropped (c ∷ cs) = by (std_is_whitespace c) (drop_trailing_whitespace cs) refl
     by : (w : Bool) (ds : List ℕ) → std_is_whitespace c ≡ w → Dropped cs ds → Dropped (c ∷ cs) (cond (w && eqb (length ds) 0) [] (c ∷ ds))
     by true [] e d = record { tail = c ∷ d.tail; whole = ap (c ∷◌) d.whole; whitespace = (sym (whitespace_is c) ∙ e, d.whitespace); last = inl refl }
     by true (x ∷ xs) e d = rw (suc_not_zero (length xs)) (record { tail = d.tail; whole = ap (c ∷◌) d.whole; whitespace = d.whitespace; last = grind arith })
-    by false [] e d = record { tail = d.tail; whole = ap (c ∷◌) d.whole; whitespace = d.whitespace; last = inr (sym (whitespace_is c) ∙ e) }
-    by false (x ∷ xs) e d = record { tail = d.tail; whole = ap (c ∷◌) d.whole; whitespace = d.whitespace; last = grind arith }
+    by false ds e d = record { tail = d.tail; whole = ap (c ∷◌) d.whole; whitespace = d.whitespace; last = grind (arith, whitespace_is) }
 
 digits_of_whitespace : (cs : List ℕ) → HasOnly is_whitespace cs → digits cs ≡ []
 digits_of_whitespace [] o = refl
@@ -46,12 +45,9 @@ pub digits_drop_while : (cs : List ℕ) → digits (drop_while is_whitespace cs)
 digits_drop_while [] = refl
 digits_drop_while (c ∷ cs) = grind (arith, (digits_drop_while cs), whitespace_not_digit)
 
-trimmed_digits : (o : Option (List ℕ)) → option_map digits (option_map (λ ds. trimmed (take_while is_numeric ds)) o) ≡ option_map number_of o
-trimmed_digits o = grind (arith, common_steps, nat_tests, digits_drop_while, digits_dropped, dropped)
-
 -- The slices represent the span that they are taken from.
 pub spelled_at : (text rest : List ℕ) → spelled (view_at text rest).number (view_at text rest).fraction (view_at text rest).unit ≡ span_of rest
-spelled_at text rest = grind (arith, (digits_dropped _ _ (dropped (take_while is_numeric rest))), (trimmed_digits (after_point (after_number rest))))
+spelled_at text rest = grind (arith, common_steps, nat_tests, digits_drop_while, digits_dropped, dropped)
 
 ends_digit : (x : ℕ) (xs : List ℕ) → HasOnly is_numeric (x ∷ xs) → ends is_whitespace (x ∷ xs) ≡ false → ends is_digit (x ∷ xs) ≡ true
 ends_digit x [] o e = digit_from_numeric x o.0 e
@@ -82,10 +78,10 @@ pub end_trimmed : (text cut : List ℕ) → IsUtf8 cut → cut ≡ trim_end text
 unfolding trim_end
 end_trimmed text cut u e = encodes_same (chars cut) (drop_trailing_whitespace (chars text)) (encodes-chars cut u ∙ e)
 
+skipped : (cs : List ℕ) → skip_leading_whitespace cs ≡ drop_while is_whitespace cs
+skipped [] = refl
+skipped (c ∷ cs) = grind (arith, whitespace_is, skipped cs)
+
 pub start_trimmed : (text cut : List ℕ) → IsUtf8 cut → cut ≡ trim_start text → chars cut ≡ drop_while is_whitespace (chars text)
 unfolding trim_start
 start_trimmed text cut u e = encodes_same (chars cut) (skip_leading_whitespace (chars text)) (encodes-chars cut u ∙ e) ∙ skipped (chars text)
-  where
-    skipped : (cs : List ℕ) → skip_leading_whitespace cs ≡ drop_while is_whitespace cs
-    skipped [] = refl
-    skipped (c ∷ cs) = grind (arith, whitespace_is, skipped cs)

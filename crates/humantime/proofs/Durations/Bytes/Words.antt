@@ -1,9 +1,8 @@
 -- The unit of a word by its bytes.
 use Rattle.std.proofs.lemmas.Bool.Decides.{nat_tests}
-use Rattle.std.proofs.Common.{◌⊎◌, ◌+◌, ◌<◌, ◌≡◌, ◌∙◌, ◌≤◌, sym, ap, refl, ℕ, zero, suc, Bool, true, ◌&&◌, List, [], ◌∷◌, ◌++◌, length, get_or, ltb, Option, Some, None, chars, arith}
+use Rattle.std.proofs.Common.{◌⊎◌, ◌+◌, ◌<◌, ◌≡◌, ◌∙◌, ◌≤◌, ap, refl, ℕ, zero, suc, Bool, true, ◌&&◌, List, [], ◌∷◌, ◌++◌, length, get_or, ltb, Option, Some, None, chars, arith}
 use Rattle.std.specs.Prelude.{◌==◌, bytes_eq, if◌then◌else◌}
 use Rattle.std.specs.List.{list_all}
-use Rattle.std.specs.Cmp.{both_ways}
 use Rattle.std.specs.Map.{lookup}
 use Rattle.std.specs.Str.{IsUtf8}
 use Rattle.std.proofs.Math.Utf8.{encode, encodes, scalars}
@@ -37,19 +36,14 @@ has_later b bs k [] = refl
 has_later b bs k (c ∷ cs) = ap (λ x. (get_or bs k 0 == c) && x) (has_later b bs (suc k) cs)
 
 same_bytes : (bs w : List ℕ) → bytes_eq bs w ≡ ((length bs == length w) && has_from bs 0 w)
-same_bytes [] [] = refl
-same_bytes [] (c ∷ cs) = grind (arith, nat_tests)
+same_bytes [] w = grind (arith, nat_tests)
 same_bytes (b ∷ bs) [] = grind (arith, nat_tests)
 same_bytes (b ∷ bs) (c ∷ cs) = grind (arith, nat_tests, (same_bytes bs cs), (has_later b bs 0 cs))
 
 word_told : (bs w : List ℕ) → IsUtf8 bs → is_spelled w ≡ true → bytes_eq (chars bs) w ≡ bytes_eq bs (bytes_of w)
 word_told bs w text spelled =
-    let p = and_parts _ _ spelled in
-    let q = and_parts _ _ p.1 in
-    let spelling : encodes w ≡ bytes_of w = (bytes_eq-Decides (encodes w) (bytes_of w)).0 q.0 in
-    both_ways _ _
-    (λ e. (bytes_eq-Decides bs (bytes_of w)).1 (sym (encodes-chars bs text) ∙ ap encodes ((bytes_eq-Decides (chars bs) w).0 e) ∙ spelling))
-    (λ e. (bytes_eq-Decides (chars bs) w).1 (ap chars ((bytes_eq-Decides bs (bytes_of w)).0 e ∙ sym spelling) ∙ chars-encodes w p.0))
+    let spelling : (scalars w ≡ true) × (encodes w ≡ bytes_of w) = grind (arith, (bytes_eq-Decides (encodes w) (bytes_of w))) in
+    grind (arith, spelling, (bytes_eq-Decides bs (bytes_of w)), (bytes_eq-Decides (chars bs) w), (encodes-chars bs text), (chars-encodes w spelling.0))
 
 -- Looks up the bytes among the words of this length, and returns the other result if they are none of these.
 abbrev pub scale_among : List ℕ → ℕ → List (List ℕ × Scale) → Option Scale → Option Scale

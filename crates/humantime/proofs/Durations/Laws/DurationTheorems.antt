@@ -1,6 +1,10 @@
 -- The laws of durations as theorems over plain variables, each under its name in `laws`.
 use Rattle.std.proofs.lemmas.Bool.Decides.{nat_tests}
-use Rattle.std.proofs.Common.{◌≡◌, ◌↔◌, ℕ, ◌<◌, List, Result, Ok, IsTrue, chars, refl, sym, ◌∙◌, arith}
+use Rattle.humantime.specs.Laws.ExactlyOne.{ExactlyOne}
+use Rattle.humantime.specs.Durations.Items.{AreItems}
+use Rattle.humantime.specs.Durations.Accepted.{Accepted}
+use Rattle.humantime.specs.Durations.Counts.{IsCanonicalText}
+use Rattle.std.proofs.Common.{rules, ◌≡◌, ◌↔◌, ℕ, ◌<◌, List, Result, Ok, IsTrue, chars, refl, sym, ◌∙◌, arith}
 use Rattle.std.proofs.lemmas.Slice.Eq.{bytes_eq-Decides}
 use Rattle.humantime.specs.declared.duration.error.DurationError.{DurationError}
 use Rattle.humantime.specs.contracts.duration.error.DurationErrorPartialEq.TheImpl as errors
@@ -23,22 +27,12 @@ use Rattle.humantime.proofs.Durations.Printing.ReadsBack as back
 -- ---- texts of durations
 
 pub one_outcome : (text : List ℕ) → HasOneOutcome text
-one_outcome text = record {
-  outcome = outcomes.exactly_one_outcome text;
-  reading = outcomes.one_reading text;
-  items = outcomes.one_list_of_items text;
-  value = outcomes.answer_accepts text (duration_answer text) refl;
-  fault = outcomes.answer_faults text (duration_answer text) refl;
-}
+one_outcome text =
+    search (rules, outcomes.exactly_one_outcome, outcomes.one_reading, outcomes.one_list_of_items, outcomes.answer_accepts, outcomes.answer_faults)
 
 pub spans_decide : (text : List ℕ) → ItemsDecide text
-spans_decide text = record {
-  one = outcomes.one_list_of_items text;
-  accepted = outcomes.items_decide_value text;
-  stopped = outcomes.items_decide_fault text;
-  first = views.first_error_answers text;
-  too_large = outcomes.items_decide_overflow text;
-}
+spans_decide text =
+    search (rules, outcomes.one_list_of_items, outcomes.items_decide_value, outcomes.items_decide_fault, views.first_error_answers, outcomes.items_decide_overflow)
 
 pub spans_tile : (text : List ℕ) → ItemsTile text
 spans_tile text =
@@ -62,20 +56,13 @@ errors_equal e f = grind (arith, nat_tests, bytes_eq-Decides)
 
 pub printed_duration_reads : (d : ℕ) → d < duration_end → PrintsAndReads d
 printed_duration_reads d fits =
-    let reads = printed.canon_reads d (omega arith) in
     let canon = counts.printed_is_canon d in
-    record {
-      one = (duration_text d, canon, counts.canon_is_text d);
-      printed = canon;
-      only = counts.canon_is_text d;
-      reads = reads;
-      answer = outcomes.outcome_accepted (chars (duration_text d)) d (reads (duration_text d) canon);
-    }
+    let one : ExactlyOne (IsCanonicalText d) = (duration_text d, canon, counts.canon_is_text d) in
+    search (rules, one, canon, counts.canon_is_text, (printed.canon_reads d (omega arith)), outcomes.outcome_accepted)
 
 pub printed_durations_differ : (a b : ℕ) → a < duration_end → b < duration_end → TextsTellApart a b
 printed_durations_differ a b fits_a fits_b =
-    let apart = back.texts_tell_apart a b (omega arith) (omega arith) in
-    record { canon = apart; text = apart (duration_text a) (duration_text b) (counts.printed_is_canon a) (counts.printed_is_canon b) }
+    search (rules, (back.texts_tell_apart a b (omega arith) (omega arith)), counts.printed_is_canon)
 
 pub printed_bounds : (d : ℕ) → d < duration_end → IsBounded d
 printed_bounds d fits = record { length = lengths.canon_length d (omega arith); counts = lengths.counts_small d }

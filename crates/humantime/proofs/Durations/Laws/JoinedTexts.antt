@@ -1,4 +1,5 @@
 -- Joined texts.
+use Rattle.std.proofs.lemmas.Grind.{common_steps}
 use Rattle.std.proofs.lemmas.List.Sums.{sum_by-append}
 use Rattle.std.proofs.Common.{arith, ◌≡◌, ◌≢◌, ◌↔◌, ◌⊎◌, ℕ, ◌+◌, true, List, [], ◌∷◌, ◌++◌, None, refl, inl, inr, append_assoc, append-nil}
 use Rattle.std.specs.List.{AllByRecursion}
@@ -33,22 +34,19 @@ some-append [] ts some e = some refl
 some-append (s ∷ ss) ts some e = cc
 
 -- The text is any whitespace followed by spans with this value that keep all limits except for that of their sum.
-pub record AreSpans (text : List ℕ) (spans : List SpelledSpan) (v : ℕ) : Type 0 where
-  pub front : SpellsAll text spans
-  pub formed : AllByRecursion Formed spans
-  pub fit : AllByRecursion (λ s. fits s ≡ true) spans
-  pub sum : value spans ≡ v
+abbrev pub AreSpans : List ℕ → List SpelledSpan → ℕ → Type 0
+AreSpans text spans v = SpellsAll text spans × AllByRecursion Formed spans × AllByRecursion (λ s. fits s ≡ true) spans × (value spans ≡ v)
 
 -- Such a text is accepted if and only if no addition overflows, and its fault is an overflow if and only if an addition overflows.
 pub room_decides : (text : List ℕ) (spans : List SpelledSpan) (v : ℕ) → spans ≢ [] → AreSpans text spans v
     → (Accepted text v ↔ AllHaveRoom (additions spans)) × (HasFault text NumberOverflow ↔ ¬ (AllHaveRoom (additions spans)))
 room_decides text spans v some h =
-    let reads : Reads text spans = (h.front, some) in
-    let accepted = λ (room : AllHaveRoom (additions spans)). SumOf spans reads (record { formed = h.formed; fit = h.fit; room = room }) h.sum in (
+    let reads : Reads text spans = (h.0, some) in
+    let accepted = λ (room : AllHaveRoom (additions spans)). SumOf spans reads (record { formed = h.1; fit = h.2; room = room }) h.3 in (
       (λ a. (accepted_spans text spans v reads a).0.room, accepted),
       (
         λ f room. grind (arith, (outcome_accepted text v (accepted room)), (outcome_fault text NumberOverflow f)),
-        λ none. items_decide_overflow text spans None (items_whole text spans reads h.formed) (not_zero text spans reads) (λ g. none g.room),
+        λ none. items_decide_overflow text spans None (items_whole text spans reads h.1) (not_zero text spans reads) (λ g. none g.room),
       ),
     )
 
@@ -67,7 +65,7 @@ joined_sum_or_overflow a b u v (SumOf ss h g p) (BareZero z none) some_a some_b 
 joined_sum_or_overflow a b u v (SumOf ss h g p) (SumOf ts k l q) some_a some_b =
     let both = both_spans a b ss ts u v (h, SumOf ss h g p) (k, SumOf ts k l q) in
     let room = room_decides (a ++ b) (ss ++ ts) (u + v) (some-append ss ts h.1) both in
-    elim (within_or_beyond (ss ++ ts) both.formed) [
+    elim (within_or_beyond (ss ++ ts) both.1) [
       | inl g ↦ inl (room.0.1 g.room)
-      | inr bad ↦ inr (room.1.1 (λ all. bad (record { formed = both.formed; fit = both.fit; room = all })))
+      | inr bad ↦ inr (room.1.1 (λ all. bad (record { formed = both.1; fit = both.2; room = all })))
     ]

@@ -1,5 +1,5 @@
 -- Accepted texts and their spans.
-use Rattle.std.proofs.Common.{arith, ◌≡◌, inl, inr, ℕ, List, [], ◌∷◌, refl, sum_by, IsPermutation}
+use Rattle.std.proofs.Common.{arith, rules, ◌≡◌, inl, inr, ℕ, List, [], ◌∷◌, refl, sum_by, IsPermutation}
 use Rattle.std.proofs.lemmas.Grind.{common_steps}
 use Rattle.std.proofs.lemmas.List.Sorted.{sum_by-IsPermutation}
 use Rattle.humantime.specs.Durations.Spans.{SpelledSpan, Reads}
@@ -11,10 +11,8 @@ use Rattle.humantime.proofs.Durations.Reading.Outcomes.{one_reading}
 
 -- An accepted text is exactly `0`, or it is spans within the limits.
 pub zero_or_spans : (text : List ℕ) → IsZeroOrSpans text
-zero_or_spans text = (
-  λ some. elim some.1 [ BareZero zero _ ↦ inl zero | SumOf spans reads within _ ↦ inr (spans, reads, within) ],
-  λ is. elim is [ inl zero ↦ (0, BareZero zero refl) | inr found ↦ (value found.0, SumOf found.0 found.1 found.2 refl) ],
-)
+zero_or_spans text =
+    (λ some. grind (arith, (some)), λ is. elim is [ inl zero ↦ (0, BareZero zero refl) | inr found ↦ (value found.0, SumOf found.0 found.1 found.2 refl) ])
 
 -- The value of an accepted text of spans is their sum, and they are within the limits.
 pub accepted_spans : (text : List ℕ) (spans : List SpelledSpan) (v : ℕ) → Reads text spans → Accepted text v → WithinLimits spans × (value spans ≡ v)

@@ -1,5 +1,5 @@
 -- The laws of accepted texts as theorems over plain variables, each under its name in `laws`, and other theorems.
-use Rattle.std.proofs.Common.{ℕ, ◌+◌, List, ◌++◌, inl, inr, refl}
+use Rattle.std.proofs.Common.{arith, rules, ℕ, ◌+◌, List, ◌++◌, inl, inr, refl}
 use Rattle.humantime.specs.Durations.Characters.{bare_zero}
 use Rattle.humantime.specs.Durations.Faults.{NumberOverflow}
 use Rattle.humantime.specs.Laws.Texts.{without_whitespace, KeepsValueWithoutWhitespace, AddWhenJoined, KeepValueReordered}
@@ -10,10 +10,7 @@ use Rattle.humantime.proofs.Durations.Laws.TextsWithoutWhitespace as drops_white
 use Rattle.humantime.proofs.Durations.Laws.JoinedTexts as texts
 
 pub without_ws : (text : List ℕ) → KeepsValueWithoutWhitespace text
-without_ws text = record {
-  value = drops_whitespace.accepted_without_whitespace text;
-  answer = λ v h. outcome_accepted (without_whitespace text) v (drops_whitespace.accepted_without_whitespace text v (accepted_from_outcome text v h));
-}
+without_ws text = search (rules, drops_whitespace.accepted_without_whitespace, outcome_accepted, accepted_from_outcome)
 
 pub joined : (a b : List ℕ) → AddWhenJoined a b
 joined a b = record {

@@ -9,7 +9,7 @@ use Rattle.humantime.specs.Values.{nanos_per_micro, nanos_per_milli, nanos_per_s
 use Rattle.humantime.specs.Results.Durations.{divided, duration_text}
 use Rattle.humantime.specs.Steps.Writing.{joined_after}
 use Rattle.humantime.specs.Durations.Counts.{Suffix, weights, suffixes, printed_count, printed_counts, joined_by_space}
-use Rattle.humantime.proofs.Durations.Printing.DecimalLengths.{decimal_two, decimal_three, decimal_twelve}
+use Rattle.humantime.proofs.Durations.Printing.DecimalLengths.{decimal_short}
 
 -- Counts that are written after a text, one by one.
 abbrev pub with_counts : List ℕ → List ℕ → List Suffix → List ℕ
@@ -54,4 +54,4 @@ written_is_text d =
     ∙ or_zero_joined (divided weights d) suffixes (search rules)
 
 -- The lemmas about the text of the nine counts, and about the lengths of counts.
-pub ruleset counts_written = (written_is_text, decimal_two, decimal_three, decimal_twelve)
+pub ruleset counts_written = (written_is_text, decimal_short)

@@ -29,12 +29,10 @@ use Rattle.humantime.proofs.OnLiterals.{humantime_on_literals}
 use Rattle.humantime.proofs.Durations.Reading.Outcomes.{accepted_from_outcome}
 
 -- The count is printed as the text of its span, which keeps all limits.
-pub record IsPrintedSpan (n : ℕ) (s : Suffix) : Type 0 where
-  pub utf8 : IsUtf8 (printed_count n s)
-  pub spells : (white : List ℕ) → HasOnly is_whitespace white → Spells (chars (printed_count n s) ++ white) (span_for n s) []
-  pub formed : Formed (span_for n s)
-  pub fits : fits (span_for n s) ≡ true
-  pub small : AllByRecursion IsSmall (additions_of (span_for n s))
+abbrev pub IsPrintedSpan : ℕ → Suffix → Type 0
+IsPrintedSpan n s =
+    IsUtf8 (printed_count n s) × ((white : List ℕ) → HasOnly is_whitespace white → Spells (chars (printed_count n s) ++ white) (span_for n s) [])
+    × Formed (span_for n s) × (fits (span_for n s) ≡ true) × AllByRecursion IsSmall (additions_of (span_for n s))
 
 -- What a count adds, if the remainder is less than `m` and is a duration.
 few : (m n : ℕ) (x : Quantity) → 0 < size x → is_of_kind m x ≡ true → quantity_nanos x * n < m → quantity_nanos x * n < sum_limit
@@ -46,17 +44,17 @@ count_chars n s h = grind (arith, common_steps, IsAscii-decimal, append_assoc, c
 
 printed_span : (w m n : ℕ) (s : Suffix) → IsPrintedWord w m (word_for n s) → w * n < m → w * n < sum_limit → IsPrintedSpan n s × (total (additions_of (span_for n s)) ≡ w * n)
 printed_span w m n s i below whole =
-    let few = few m n i.unit.whole i.some i.kind (rw i.weight below) (rw i.weight whole) in
+    let few = few m n i.0.whole i.3 i.4 (rw i.2 below) (rw i.2 whole) in
     let number = decimal_number n few.0 in
-    let adds : additions_of (span_for n s) ≡ times n i.unit.whole ∷ [] = grind (arith, common_steps, number.3, i.is) in
-    let is : IsPrintedSpan n s = record {
-      utf8 = rw append_assoc (IsUtf8-append (decimal n) (word_for n s) (IsUtf8-from_ascii (decimal n) (IsAscii-decimal n few.0)) i.utf8);
-      spells = λ white only. grind (arith, common_steps, number, count_chars);
-      formed = record { short = grind (arith, common_steps, number.3); word = rw i.is refl };
-      fits = rw i.is (grind (arith, number.3, few.1));
-      small = rw adds (few.2, tt);
-    } in
-    (is, rw (adds, ← i.weight) (omega (arith, few.3)))
+    let adds : additions_of (span_for n s) ≡ times n i.0.whole ∷ [] = grind (arith, common_steps, number.3, i.1) in
+    let is : IsPrintedSpan n s = (
+      rw append_assoc (IsUtf8-append (decimal n) (word_for n s) (IsUtf8-from_ascii (decimal n) (IsAscii-decimal n few.0)) i.5),
+      λ white only. grind (arith, common_steps, number, count_chars),
+      record { short = grind (arith, common_steps, number.3); word = rw i.1 refl },
+      rw i.1 (grind (arith, number.3, few.1)),
+      rw adds (few.2, tt),
+    ) in
+    (is, rw (adds, ← i.2) (omega (arith, few.3)))
 
 -- The counts that are not zero, and their spans.
 abbrev pub shown : List (ℕ × Suffix) → List (ℕ × Suffix)
@@ -89,11 +87,11 @@ counts_text cs = join_with_byte space (map (λ c. printed_count c.0 c.1) cs)
 counts_spell : (cs : List (ℕ × Suffix)) → AllPrintedSpans cs → SpellsEach (chars (counts_text cs)) (spans_of cs)
 unfolding is_whitespace whitespace_chars
 counts_spell [] h = chars-nil
-counts_spell (c ∷ []) h = ([], subst (λ l. Spells l (span_for c.0 c.1) []) (append-nil (chars (printed_count c.0 c.1))) (h.0.spells [] tt), refl)
+counts_spell (c ∷ []) h = ([], subst (λ l. Spells l (span_for c.0 c.1) []) (append-nil (chars (printed_count c.0 c.1))) (h.0.1 [] tt), refl)
 counts_spell (c ∷ d ∷ cs) h =
     let rest = chars (counts_text (d ∷ cs)) in
-    let here = spells-append _ [] rest (span_for c.0 c.1) (h.0.spells (space ∷ []) (refl, tt)) in
-    (rest, rw (chars_space (printed_count c.0 c.1) (counts_text (d ∷ cs)) h.0.utf8) here, counts_spell (d ∷ cs) h.1)
+    let here = spells-append _ [] rest (span_for c.0 c.1) (h.0.1 (space ∷ []) (refl, tt)) in
+    (rest, rw (chars_space (printed_count c.0 c.1) (counts_text (d ∷ cs)) h.0.0) here, counts_spell (d ∷ cs) h.1)
 
 -- The spans keep their limits, and each adds little.
 counts_within : (cs : List (ℕ × Suffix)) → AllPrintedSpans cs

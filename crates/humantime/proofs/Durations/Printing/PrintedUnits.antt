@@ -31,15 +31,10 @@ is_of_kind m (Nanos n) = nat_le m nanos_per_second
 is_of_kind m (Seconds n) = true
 
 -- The word is letters, and denotes such a unit, which has `w` nanoseconds.
-pub record IsPrintedWord (w m : ℕ) (word : List ℕ) : Type 0 where
-  pub utf8 : IsUtf8 word
-  pub unit : Scale
-  pub is : scale_of_word (chars word) ≡ Some unit
-  pub weight : quantity_nanos unit.whole ≡ w
-  pub some : 0 < size unit.whole
-  pub kind : is_of_kind m unit.whole ≡ true
-  pub letters : HasOnly is_letter (chars word)
-  pub first : begins is_letter (chars word) ≡ true
+abbrev pub IsPrintedWord : ℕ → ℕ → List ℕ → Type 0
+IsPrintedWord w m word =
+    (unit : Scale) × (scale_of_word (chars word) ≡ Some unit) × (quantity_nanos unit.whole ≡ w) × (0 < size unit.whole) × (is_of_kind m unit.whole ≡ true)
+    × IsUtf8 word × HasOnly is_letter (chars word) × (begins is_letter (chars word) ≡ true)
 
 abbrev is_word : ℕ → ℕ → List ℕ → Bool
 is_word w m word =

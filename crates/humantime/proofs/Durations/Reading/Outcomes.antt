@@ -88,13 +88,10 @@ accepted_from_outcome text v h = elim (zero_or_not text) [
   | inr n ↦ let i = items_found text in sum_accepted text (items text).0 (items text).1 v i (value_only text (items text).0 (items text).1 v n i h)
 ]
 
-fault_read : (text : List ℕ) (e : Fault) → text ≢ bare_zero → duration_answer text ≡ Err e → HasFault text e
-fault_read text e some h =
-    let i = items_found text in
-    grind (arith, (summed_fault (items text).0 (items text).1 e i.formed), (duration_answer-items text some), (items_decide_fault text (items text).0 e), i, too_large_found)
-
 pub fault_from_outcome : (text : List ℕ) (e : Fault) → duration_answer text ≡ Err e → HasFault text e
-fault_from_outcome text e h = grind (arith, duration_answer-zero, fault_read)
+fault_from_outcome text e h =
+    let i = items_found text in
+    grind (arith, duration_answer-zero, (summed_fault (items text).0 (items text).1 e i.formed), (duration_answer-items text), (items_decide_fault text (items text).0 e), i, too_large_found)
 
 pub items_decide_value : (text : List ℕ) (spans : List SpelledSpan) (stop : Option Fault) → Items text spans stop → text ≢ bare_zero
     → (v : ℕ) → Accepted text v ↔ ((stop ≡ None) × WithinLimits spans × (value spans ≡ v))

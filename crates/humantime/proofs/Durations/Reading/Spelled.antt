@@ -15,12 +15,9 @@ abbrev pub next_of : List ℕ → List ℕ
 next_of rest = drop_while is_whitespace (after_word rest)
 
 -- The rest begins with a digit, and its span and the text after it are these.
-pub record IsSpelledAt (rest : List ℕ) (s : SpelledSpan) (next : List ℕ) : Type 0 where
-  pub starts : begins is_digit rest ≡ true
-  pub span : span_of rest ≡ s
-  pub point : fraction_of rest ≢ Some []
-  pub ends : may_follow_span (after_word rest) ≡ true
-  pub next_is : next_of rest ≡ next
+abbrev pub IsSpelledAt : List ℕ → SpelledSpan → List ℕ → Type 0
+IsSpelledAt rest s next =
+    (begins is_digit rest ≡ true) × (span_of rest ≡ s) × (fraction_of rest ≢ Some []) × (may_follow_span (after_word rest) ≡ true) × (next_of rest ≡ next)
 
 pub begins_word : (w t : List ℕ) → begins is_letter w ≡ true → begins is_letter (w ++ t) ≡ true
 begins_word w t e = begins-append is_letter w t (begins_not_nil is_letter w e) ∙ e
@@ -30,17 +27,10 @@ fraction_read : (b tail : List ℕ) (o : Option (List ℕ)) → SpellsFraction b
 unfolding is_letter is_point is_digit
 fraction_read b tail o h e = grind (arith, nat_tests, letter_not_whitespace, point_not_numeric, take_while-append, drop_while-append)
 
--- The number and the fraction before a word are parsed as these.
-pub record IsReadToWord (rest number_text fraction_text tail : List ℕ) (fraction : Option (List ℕ)) : Type 0 where
-  pub number_is : take_while is_numeric rest ≡ number_text
-  pub after_is : after_number rest ≡ fraction_text ++ tail
-  pub fraction_is : fraction_of rest ≡ fraction
-  pub tail_is : after_fraction rest ≡ tail
-  pub some : fraction ≢ Some []
-
 -- The number and the fraction of a span are parsed up to its word.
 pub read_spelled : (rest next : List ℕ) (s : SpelledSpan) (h : Spells rest s next)
-    → IsReadToWord rest h.number_text h.fraction_text (s.word ++ (h.whitespace ++ next)) s.fraction
+    → (take_while is_numeric rest ≡ h.number_text) × (after_number rest ≡ h.fraction_text ++ (s.word ++ (h.whitespace ++ next)))
+    × (fraction_of rest ≡ s.fraction) × (after_fraction rest ≡ s.word ++ (h.whitespace ++ next)) × (s.fraction ≢ Some [])
 read_spelled rest next s h = grind (arith, begins_word, fraction_read, drop_while-append, take_while-append)
 
 -- If a spelling ends with its word, it does not end in whitespace.

@@ -44,11 +44,11 @@ is_span_view text rest f =
     let h : Spells rest (span_of rest) (next_of rest) = subst (λ (l : List ℕ). Spells l (span_of rest) (next_of rest)) (sym w.1) (spells-append w.0 [] (next_of rest) (span_of rest) w.2) in
     let r = read_spelled rest (next_of rest) (span_of rest) h in
     let number = digit_slice [] (take_while is_numeric rest) (number_slice rest) (dropped (take_while is_numeric rest)) tt (begins_take_while is_digit is_numeric rest f.number.digit digit_is_numeric) (take_while-only is_numeric rest) in
-    let left = append_cancel_left (word_of rest) (after_word rest) (h.whitespace ++ next_of rest) (take_while-drop_while is_letter (after_fraction rest) ∙ r.tail_is) in
+    let left = append_cancel_left (word_of rest) (after_word rest) (h.whitespace ++ next_of rest) (take_while-drop_while is_letter (after_fraction rest) ∙ r.3) in
     record {
       spelled = h;
-      number = subst (λ (l : List ℕ). IsDigitSlice l (number_slice rest)) r.number_is number;
-      fraction = subst (λ (l : List ℕ). IsFractionView h.fraction_text (fraction_slice l)) (sym r.after_is) (fraction_is_viewed h.fraction_text (word_of rest ++ (h.whitespace ++ next_of rest)) (fraction_of rest) h.fraction (begins_word (word_of rest) (h.whitespace ++ next_of rest) (letters_begin (word_of rest) h.word)));
+      number = subst (λ (l : List ℕ). IsDigitSlice l (number_slice rest)) r.0 number;
+      fraction = subst (λ (l : List ℕ). IsFractionView h.fraction_text (fraction_slice l)) (sym r.1) (fraction_is_viewed h.fraction_text (word_of rest ++ (h.whitespace ++ next_of rest)) (fraction_of rest) h.fraction (begins_word (word_of rest) (h.whitespace ++ next_of rest) (letters_begin (word_of rest) h.word)));
       unit = refl;
       start = refl;
       end = ap (offset_of text) left;

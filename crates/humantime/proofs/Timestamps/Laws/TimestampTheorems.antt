@@ -5,13 +5,13 @@ use Rattle.std.specs.Prelude.{◌↔◌, ℤ, pos, negsuc, ◌≤ℤ◌, ◌<ℤ
 use Rattle.std.specs.Cmp.Lexicographic.{slice_cmp}
 use Rattle.std.specs.Ordering.{nat_cmp, int_cmp, is_le, is_lt}
 use Rattle.std.proofs.lemmas.Int.{ints}
-use Rattle.humantime.specs.Timestamps.Fields.{IsWeak, IsStrict, IsWeakMoment, IsStrictMoment}
+use Rattle.humantime.specs.Timestamps.Fields.{IsWeak, IsStrict}
 use Rattle.humantime.specs.Timestamps.Checks.{weak_checks, strict_checks}
 use Rattle.humantime.specs.Laws.Timestamps.{HasOneTimestamp, IsWeakAndMarked, MomentPrintsAndReads}
 use Rattle.humantime.specs.Timestamps.Printed.{MomentToPrint, cut, IsPrinted, IsPrintedWith, IsPrintable}
 use Rattle.humantime.specs.Results.Timestamps.{printed_text, weak_answer, strict_answer}
-use Rattle.humantime.proofs.Timestamps.Printing.Printed.{one_printed, printed_some, text_displayed, printed_reads}
-use Rattle.humantime.proofs.Timestamps.Printing.Order.{stamps_in_order}
+use Rattle.humantime.proofs.Timestamps.Printing.Printed.{printed_some, text_displayed, printed_reads}
+use Rattle.humantime.proofs.Timestamps.Printing.Order.{stamps_in_order, one_text}
 use Rattle.humantime.proofs.Timestamps.Laws.Reading as read
 use Rattle.humantime.proofs.Timestamps.Laws.StrictForm as strict
 pub use Rattle.humantime.proofs.Dates.DaysOfDates.{one_date, day_at_most}
@@ -26,29 +26,24 @@ pub one_stamp_outcome : (text : List ℕ)
     × HasOneTimestamp (strict_checks text) (IsStrict text) (strict_answer text)
 one_stamp_outcome text = (read.weak_outcome text, read.strict_outcome text)
 
--- The result of parsing a text, given the moment that it represents.
-weak_read : (text : List ℕ) (t : ℤ) → IsWeakMoment text t → weak_answer text ≡ Ok t
-weak_read text t shown = ((read.weak_outcome text).value t).1 shown
-
-strict_read : (text : List ℕ) (t : ℤ) → IsStrictMoment text t → strict_answer text ≡ Ok t
-strict_read text t shown = ((read.strict_outcome text).value t).1 shown
-
 pub strict_is_weak : (text : List ℕ) → IsWeakAndMarked text
 strict_is_weak text =
     let law = read.strict_moment_is_weak text in
+    let in_weak = (read.weak_outcome text).value in
+    let in_strict = (read.strict_outcome text).value in
     record {
       parts = strict.strict_is_marked_weak text;
       moment = law;
-      weak = λ t given. weak_read text t ((law t).0 (((read.strict_outcome text).value t).0 given)).0;
-      marked = λ t given. ((law t).0 (((read.strict_outcome text).value t).0 given)).1;
-      strict = λ t given marked. strict_read text t ((law t).1 (((read.weak_outcome text).value t).0 given, marked));
+      weak = λ t given. (in_weak t).1 ((law t).0 ((in_strict t).0 given)).0;
+      marked = λ t given. ((law t).0 ((in_strict t).0 given)).1;
+      strict = λ t given marked. (in_strict t).1 ((law t).1 ((in_weak t).0 given, marked));
     }
 
 -- ---- Printing timestamps
 
 -- The result of parsing a printed text.
 printed_read : (t : ℤ) (k : ℕ) (text : List ℕ) → IsPrinted t k text → strict_answer text ≡ Ok (cut t k)
-printed_read t k text printed = strict_read text (cut t k) (printed_reads t k text printed).strict
+printed_read t k text printed = ((read.strict_outcome text).value (cut t k)).1 (printed_reads t k text printed).strict
 
 -- A moment has at most nine fraction digits.
 cut_whole : (t : ℤ) → cut t 9 ≡ t
@@ -56,11 +51,11 @@ cut_whole t = grind (arith, ints)
 
 pub printed_moment_reads : (t : ℤ) (k : ℕ) → k ≤ 9 → MomentPrintsAndReads t k
 printed_moment_reads t k small = record {
-  one = one_printed t k small;
+  one = λ h. let some = printed_some t k small h in (some.0, some.2, λ other p. one_text t k other some.0 p some.2);
   displayed = λ text. text_displayed t k text small;
   reads = printed_reads t k;
   strict = printed_read t k;
-  weak = λ text printed. weak_read text (cut t k) (printed_reads t k text printed).weak;
+  weak = λ text printed. ((read.weak_outcome text).value (cut t k)).1 (printed_reads t k text printed).weak;
   whole = cut_whole t;
 }
 
@@ -73,8 +68,7 @@ displayed_as x t k bytes same digits within written =
 -- Rounding down twice is rounding down once.
 cut_again : (t : ℤ) (k n : ℕ) → pos n ≡ cut t k → cut (pos n) k ≡ pos n
 cut_again (pos m) k n is =
-    let width = 10 ^ (9 - k) in
-    grind (arith, ints, (div-add-mod m width), (mul-mod_right width (m / width)))
+    grind (arith, ints, (div-add-mod m (10 ^ (9 - k))), (mul-mod_right (10 ^ (9 - k)) (m / 10 ^ (9 - k))))
 cut_again (negsuc m) k n is = absurd (omega (arith, ints, is))
 
 -- A text is a printed text if and only if it is that of the moment that it parses to.

@@ -14,16 +14,13 @@ sum_of_digits zero j n a h = grind arith
 sum_of_digits (suc k) zero n a h = absurd (omega arith)
 sum_of_digits (suc k) (suc j) n a h = grind (arith, (pow-suc 10 j), one-le-pow, mod-mul, (sum_of_digits k j n (a + 10 ^ j * (n / 10 ^ j % 10))))
 
-last_are_digits : (k j n : ℕ) → AreDigits (take k (last_digits j n))
+pub last_are_digits : (k j n : ℕ) → AreDigits (take k (last_digits j n))
 last_are_digits (suc k) (suc j) n = ((omega arith, omega arith), last_are_digits k j n)
 last_are_digits k j n = tt
 
 -- The fraction that is printed for `n` nanoseconds, with `k` digits.
 abbrev pub cut_fraction : ℕ → ℕ → Option (List ℕ)
 cut_fraction n k = if k == 0 then None else Some (take k (last_digits 9 n))
-
-pub shown_digits : (k n : ℕ) → AreDigits (fraction_digits (cut_fraction n k))
-shown_digits k n = grind (arith, (last_are_digits k 9 n))
 
 pub shown_nanos : (k n : ℕ) → k ≤ 9 → n < 1_000_000_000 → fraction_nanos (fraction_digits (cut_fraction n k)) ≡ n - n % 10 ^ (9 - k)
 shown_nanos k n small h = grind (arith, (sum_of_digits k 9 n 0 small), (nanos_added (take k (last_digits 9 n)) (last_are_digits k 9 n)))

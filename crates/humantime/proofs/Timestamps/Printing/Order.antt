@@ -62,9 +62,15 @@ fraction_cmp k p q h e f g i = grind (arith, (filled_cmp 9 (fraction_digits p) (
 day_cmp : (a b : Date) (o : Ordering) → IsDate a → IsDate b
     → then_cmp a.year b.year (then_cmp a.month b.month (then_cmp a.day b.day o)) ≡ then_cmp (day_of a) (day_of b) o
 day_cmp a b o va vb =
-    let before = λ (c d : Date) (v : IsDate c). before_year c.year c.month c.day (valid_from_test c.year c.month c.day v) d.year in
-    let begun = λ (c d : Date) (v : IsDate c). before_month c.year c.month c.day (valid_from_test c.year c.month c.day v) d.month in
-    grind (arith, nat_tests, valid_from_test, (before a b va), (before b a vb), (begun a b va), (begun b a vb))
+    grind (
+      arith,
+      nat_tests,
+      valid_from_test,
+      (before_year a.year a.month a.day),
+      (before_year b.year b.month b.day),
+      (before_month a.year a.month a.day),
+      (before_month b.year b.month b.day),
+    )
 
 -- The text of parts with `T` and `Z`.
 abbrev marked : Fields → List ℕ
@@ -96,14 +102,12 @@ clock_cmp a h i s m b j k t n h23 i59 s59 m9 j23 k59 t59 n9 =
 
 pub stamps_in_order : (a b : ℤ) → PrintInOrder a b
 stamps_in_order a b k x y p q =
-    let f = p.fields in
-    let g = q.fields in
-    let fraction = fraction_cmp k f.fraction g.fraction p.few p.places q.places (digits_from_test _ p.weak.fraction) (digits_from_test _ q.weak.fraction) in
-    let clock = day_cmp f.date g.date _ p.weak.date q.weak.date ∙ clock_cmp _ _ _ _ _ _ _ _ _ _
+    let fraction = fraction_cmp k p.fields.fraction q.fields.fraction p.few p.places q.places (digits_from_test _ p.weak.fraction) (digits_from_test _ q.weak.fraction) in
+    let clock = day_cmp p.fields.date q.fields.date _ p.weak.date q.weak.date ∙ clock_cmp _ _ _ _ _ _ _ _ _ _
     p.weak.hour p.weak.minute p.second (nanos_bound _ (digits_from_test _ p.weak.fraction))
     q.weak.hour q.weak.minute q.second (nanos_bound _ (digits_from_test _ q.weak.fraction)) in
-    let moments = pos_cmp (moment_of f) (moment_of g) ∙ (λ i. int_cmp (p.moment i) (q.moment i)) in
-    (λ i. slice_cmp nat_cmp (shown_marked a k x p i) (shown_marked b k y q i)) ∙ (marked_cmp f g ∙ (rw fraction clock ∙ moments))
+    let moments = pos_cmp (moment_of p.fields) (moment_of q.fields) ∙ (λ i. int_cmp (p.moment i) (q.moment i)) in
+    (λ i. slice_cmp nat_cmp (shown_marked a k x p i) (shown_marked b k y q i)) ∙ (marked_cmp p.fields q.fields ∙ (rw fraction clock ∙ moments))
 
 -- Therefore a moment has only one printed text.
 pub one_text : (t : ℤ) (k : ℕ) (x y : List ℕ) → IsPrinted t k x → IsPrinted t k y → x ≡ y

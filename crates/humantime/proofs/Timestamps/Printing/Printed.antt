@@ -16,10 +16,9 @@ use Rattle.humantime.specs.Timestamps.Printed.{places_of, cut, year_10000, IsPri
 use Rattle.humantime.specs.Laws.Timestamps.{ReadsAs}
 use Rattle.humantime.specs.Results.Timestamps.{printed_fields, fields_at, moment_text}
 use Rattle.humantime.specs.Steps.Timestamps.{IsSecondOf}
-use Rattle.humantime.specs.Laws.ExactlyOne.{ExactlyOne}
 use Rattle.humantime.proofs.Timestamps.Reading.Bytes.{holds_before_zone}
 use Rattle.humantime.proofs.Dates.DatesOfDays.{date_of_is}
-use Rattle.humantime.proofs.Timestamps.Printing.Digits.{shown_digits, shown_nanos, cut_nanos}
+use Rattle.humantime.proofs.Timestamps.Printing.Digits.{last_are_digits, shown_nanos, cut_nanos}
 use Rattle.humantime.proofs.Timestamps.Printing.Order.{one_text}
 
 pub places_of_bound : (t : ℤ) → places_of t ≤ 9
@@ -35,7 +34,7 @@ shown_printed (negsuc t) k time date small is = absurd (let whole = is.sum in le
 shown_printed (pos t) k time date small is = record {
   few = small;
   fields = printed_fields date time (t % 1_000_000_000) k;
-  weak = grind (arith, (shown_digits k (t % 1_000_000_000)), digits_from);
+  weak = grind (arith, (last_are_digits k 9 (t % 1_000_000_000)), digits_from);
   separator = refl;
   zone = refl;
   second = omega arith;
@@ -72,8 +71,3 @@ text_displayed t k text small = (
 -- A printed text parses to the moment, rounded down.
 pub printed_reads : (t : ℤ) (k : ℕ) (text : List ℕ) → IsPrinted t k text → ReadsAs text (cut t k)
 printed_reads t k text p = grind arith
-
-pub one_printed : (t : ℤ) (k : ℕ) → k ≤ 9 → IsPrintable t → ExactlyOne (IsPrinted t k)
-one_printed t k small h =
-    let some = printed_some t k small h in
-    (some.0, some.2, λ other p. one_text t k other some.0 p some.2)

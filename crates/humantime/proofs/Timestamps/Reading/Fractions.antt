@@ -1,5 +1,5 @@
 -- The digits of a fraction, parsed one by one, are its nanoseconds.
-use Rattle.std.proofs.Common.{◌≡◌, ℕ, zero, suc, ◌+◌, ◌-◌, ◌*◌, ◌/◌, ◌^◌, ◌<◌, ◌≤◌, List, [], ◌∷◌, ◌++◌, length, get_or, take, drop, drop-cons, add-one, refl, arith}
+use Rattle.std.proofs.Common.{◌≡◌, ℕ, zero, suc, ◌+◌, ◌-◌, ◌*◌, ◌/◌, ◌^◌, ◌<◌, ◌≤◌, List, [], ◌∷◌, ◌++◌, length, replicate, get_or, take, drop, drop-cons, add-one, refl, arith}
 use Rattle.std.proofs.lemmas.Grind.{common_steps}
 use Rattle.std.specs.Prelude.{true, min, if◌then◌else◌, Ok, Err}
 use Rattle.humantime.specs.declared.date.error.TimestampError.TheVariants.{InvalidDigit}
@@ -42,12 +42,8 @@ add_nothing n (c ∷ cs) = grind (arith, (add_nothing n cs))
 weighted_digit : (m d p q : ℕ) → q ≡ p * 10 → (m * 10 + d) * p ≡ m * q + q / 10 * d
 weighted_digit m d p q e = let tenth : q / 10 ≡ p = omega arith in rw (tenth, e) (grind arith)
 
-abbrev zeros : ℕ → List ℕ
-zeros zero = []
-zeros (suc n) = 48 ∷ zeros n
-
 -- The first `k` digits, padded with zeros.
-filled : (k n m : ℕ) (ds : List ℕ) → AreDigits ds → k ≤ n → digits_value_after 10 m (take k (ds ++ zeros n)) ≡ add_digits (m * 10 ^ k) (10 ^ k / 10) ds
+filled : (k n m : ℕ) (ds : List ℕ) → AreDigits ds → k ≤ n → digits_value_after 10 m (take k (ds ++ replicate n 48)) ≡ add_digits (m * 10 ^ k) (10 ^ k / 10) ds
 filled zero n m ds digits h = grind (arith, (add_nothing m ds))
 filled (suc k) (suc n) m [] digits h = grind (arith, (filled k n (m * 10 + 0) [] digits), (weighted_digit m 0 (10 ^ k) (10 ^ suc k)), (pow-suc 10 k))
 filled (suc k) zero m [] digits h = absurd (omega arith)
@@ -61,8 +57,7 @@ nanos_added ds digits = filled 9 9 0 ds digits (omega arith)
 add_bound : (ds : List ℕ) (n u : ℕ) → AreDigits ds → n < 1_000_000_000 → n + 10 * u ≤ 1_000_000_000 → add_digits n u ds < 1_000_000_000
 add_bound [] n u digits low room = low
 add_bound (c ∷ cs) n u digits low room =
-    let most : u * (c - 48) ≤ u * 9 = mul-le-mul_left u (omega (arith, digits.0)) in
-    add_bound cs (n + u * (c - 48)) (u / 10) digits.1 (omega arith) (omega arith)
+    grind (arith, (add_bound cs (n + u * (c - 48)) (u / 10) digits.1), (mul-le-mul_left {m = c - 48} {n = 9} u (omega (arith, digits.0))))
 
 pub nanos_bound : (ds : List ℕ) → AreDigits ds → fraction_nanos ds < 1_000_000_000
 nanos_bound ds digits = rw (nanos_added ds digits) (add_bound ds 0 100_000_000 digits (omega arith) (omega arith))

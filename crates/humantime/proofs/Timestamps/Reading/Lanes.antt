@@ -78,9 +78,6 @@ excesses xs most = zip2 above (sel_l (map (top 7) (zip2 (λ a m. cond (ltb a m) 
 abbrev pub beyond : List ℕ → List ℕ
 beyond bytes = zip2 bit_or (excesses (zip2 above (take 16 bytes) least) most) (excesses (zip2 above (take 16 (drop 3 bytes)) least_back) most_back)
 
-pub length-beyond : (bytes : List ℕ) → 19 ≤ length bytes → length (beyond bytes) ≡ 16
-length-beyond bytes long = ap (λ (bytes : List ℕ). length (beyond bytes)) (nineteen bytes long)
-
 -- The punctuation can be tested first, and the seconds among the other fields.
 signs_first : (s t u v a b c d e f g h i j k l m n : Bool)
     → are_set (a ∷ b ∷ c ∷ d ∷ s ∷ e ∷ f ∷ t ∷ g ∷ h ∷ true ∷ i ∷ j ∷ (u && v) ∷ (k && m) ∷ (l && n) ∷ [])
@@ -115,4 +112,5 @@ bytes_tested bytes long fits separator =
 -- All lanes are tested at once.
 pub layout_tested : (bytes : List ℕ) → 19 ≤ length bytes → ((k : ℕ) → Fits w8 (get_or bytes k 0)) → has_separator bytes ≡ true
     → eqb (mask_l (map (top (hbits w8)) (zip2 (λ a b. cond (eqb a b) (2 ^ bits w8 - 1) 0) (beyond bytes) (replicate 16 0))) % 2 ^ 64) (2 ^ 16 - 1) ≡ has_layout bytes
-layout_tested bytes long fits separator = zeros_compared (beyond bytes) (length-beyond bytes long) ∙ bytes_tested bytes long fits separator
+layout_tested bytes long fits separator =
+    zeros_compared (beyond bytes) (ap (λ (bytes : List ℕ). length (beyond bytes)) (nineteen bytes long)) ∙ bytes_tested bytes long fits separator

@@ -23,14 +23,22 @@ unfolding has_punctuation has_separator has_point
 written_shown bytes passed =
     let p = all_passed bytes passed in
     let pairs = pairs_from_test bytes p.2 in
-    let year = year_shown bytes (omega arith) pairs.0 pairs.1 in
-    let month = pair_shown bytes 5 (omega arith) pairs.2 in
-    let day = pair_shown bytes 8 (omega arith) pairs.3 in
-    let hour = pair_shown bytes 11 (omega arith) pairs.4 in
-    let minute = pair_shown bytes 14 (omega arith) pairs.5 in
-    let second = pair_shown bytes 17 (omega arith) pairs.6 in
     let end : drop 19 bytes ≡ fraction_text (digits_behind_point (fraction_part bytes)) ++ zone_text (zone_of (drop 19 bytes)) = grind (arith, (zone_shown (drop 19 bytes)), p.4) in
-    grind (arith, common_steps, nat_tests, p, pairs, year, month, day, hour, minute, second, end, nineteen)
+    grind (
+      arith,
+      common_steps,
+      nat_tests,
+      p,
+      pairs,
+      end,
+      nineteen,
+      (year_shown bytes (omega arith) pairs.0 pairs.1),
+      (pair_shown bytes 5 (omega arith) pairs.2),
+      (pair_shown bytes 8 (omega arith) pairs.3),
+      (pair_shown bytes 11 (omega arith) pairs.4),
+      (pair_shown bytes 14 (omega arith) pairs.5),
+      (pair_shown bytes 17 (omega arith) pairs.6),
+    )
 
 pub fields_weak : (bytes : List ℕ) → first_failed (weak_checks bytes) ≡ None → IsWeak bytes (fields_of bytes)
 unfolding is_valid_date_time

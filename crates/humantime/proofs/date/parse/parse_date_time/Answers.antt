@@ -17,7 +17,6 @@ dot4-2 c = ((sums_fit (drop 3 c.args.bytes.now) (omega (arith, length-drop 3 c.a
 
 pub returns : goal.returns
 returns c =
-    let tested = layout_tested c.args.bytes.now c.requires.long c.type_inv.bytes c.requires.separator in
-    let layout = sym tested ∙ eq-eqb _ _ c.if-not-beyond.false in
+    let layout = sym (layout_tested c.args.bytes.now c.requires.long c.type_inv.bytes c.requires.separator) ∙ eq-eqb _ _ c.if-not-beyond.false in
     let parts = layout_parts c.args.bytes.now layout in
     (layout, date_time_summed c.args.bytes.now parts.0 parts.2)

@@ -55,18 +55,14 @@ use Rattle.humantime.proofs.duration.print.write_canonical.Met as g-met
 use Rattle.humantime.specs.contracts.duration.print.text_from_len as h
 use Rattle.humantime.proofs.duration.print.text_from_len.Met as h-met
 
-abbrev stayed : Stays f.ended.signature.params f.ended.kept
-stayed = (stay_dropped _ yes, (stay_dropped _ no, tt))
-
-abbrev A : RattleType
-A = Array u8 64
-
 abbrev text_vals : Bor (List ℕ) → List Val
 text_vals x = slice_val x.ref_ptr (length x.now) ∷ []
 
 pub canonical_spec : {M : Type 1} → statement M
 canonical_spec {M} 𝓤 𝓛 𝓜 𝓡 wired =
+    let A : RattleType = Array u8 64 in
     let c = f.clauses 𝓛 𝓜.mem 𝓡.returns in
+    let stayed : Stays f.ended.signature.params f.ended.kept = (stay_dropped _ yes, (stay_dropped _ no, tt)) in
     proved 𝓛 f.ended stayed c 𝓜 𝓡 (Goes-dropped 𝓛 2 (StrRefOf (0 ∷ []) tt) yes (λ κs x w. refl), (Goes-spent_ref 𝓛 2 (1 ∷ []) tt (plain (λ _. A)), tt))
     f.Key.name code.function (code.unfolded 𝓤 𝓛.H 𝓜 𝓡 wired)
     (λ κs. (text_vals, (mut_vals, tt))) (λ κs. ((str-laws (record { mir = named 0; lft = κs.0 })).tells, (mut_Tells (named 1) κs.1.0 A, tt))) (λ κs qs bounds a _ are.

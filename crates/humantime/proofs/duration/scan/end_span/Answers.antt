@@ -1,23 +1,11 @@
 use Rattle.std.proofs.lemmas.Grind.{common_steps}
 use Rattle.std.proofs.Common.{arith}
-use Rattle.std.proofs.lemmas.Str.{IsCharBoundary-start}
-use Rattle.humantime.proofs.Durations.Bytes.PlaceSteps.{space_ends, whitespace_ends}
+use Rattle.humantime.proofs.Durations.Bytes.PlaceSteps.{whitespace_ends}
 use Rattle.humantime.proofs.Durations.Reading.Classes.{digit_is_numeric, digit_not_whitespace}
 use Rattle.humantime.proofs.duration.scan.end_span.Goals as goal
 
-pub range_from-requires : goal.range_from-requires
-range_from-requires c _ = (space_ends _ c.utf8.s (grind arith) (grind arith)).0
-
-pub skip_whitespace_char-requires : goal.skip_whitespace_char-requires
-skip_whitespace_char-requires c = (grind arith, IsCharBoundary-start c.args.s.now c.utf8.s)
-
 pub range_from-requires-2 : goal.range_from-requires-2
 range_from-requires-2 c _ = (whitespace_ends _ _ c.utf8.s (grind arith) c.in_ok-len.ensures.0 c.in_ok-len.ensures.1).0
-
-pub returns-clause-read : goal.returns-clause-read
-returns-clause-read c =
-    let w = whitespace_ends c.args.s.now c.in_ok-len.len c.utf8.s (grind arith) c.in_ok-len.ensures.0 c.in_ok-len.ensures.1 in
-    grind arith
 
 pub returns-then-begins_with_digit-clause-read : goal.returns-then-begins_with_digit-clause-read
 returns-then-begins_with_digit-clause-read c = grind (arith, common_steps, digit_is_numeric, digit_not_whitespace)

@@ -6,7 +6,7 @@ use Rattle.humantime.proofs.duration.scan.read_fraction.Given as goal
 abbrev pub invariant-loop-at : goal.invariant-loop-at
 invariant-loop-at l = record {
   taken : List ℕ;
-  read : IsRead l.s l.at taken;
+  read : IsRead l.s 0 l.at taken;
   digits : HasDigits l.decimal taken;
   few : length taken ≤ l.at;
 }

@@ -1,14 +1,15 @@
-use Rattle.std.proofs.Common.{◌≡◌, ◌≤◌, ◌<◌, get_or, ◌-◌, ℕ, List, length}
+use Rattle.std.proofs.Common.{◌≡◌, ◌≤◌, ◌<◌, ◌-◌, ℕ, chars, drop, get_or, length, IsCharBoundary}
+use Rattle.std.specs.Str.Parse.{digits_value_after}
 use Rattle.humantime.specs.Texts.{decimal_value}
 use Rattle.humantime.specs.Durations.Characters.{u64_max}
-use Rattle.humantime.proofs.Durations.Bytes.Numbers.{IsRead}
+use Rattle.humantime.specs.Durations.Faults.{number_of, after_number}
 use Rattle.humantime.proofs.duration.scan.read_number.Given as goal
 
 abbrev pub invariant-loop-at : goal.invariant-loop-at
 invariant-loop-at l = record {
-  taken : List ℕ;
-  read : IsRead l.s l.at taken;
-  value : l.value ≡ decimal_value taken;
+  place : IsCharBoundary l.s l.at;
+  value : digits_value_after 10 l.value (number_of (chars (drop l.at l.s))) ≡ decimal_value (number_of (chars l.s));
+  after : after_number (chars (drop l.at l.s)) ≡ after_number (chars l.s);
   fits : l.value ≤ u64_max;
   bytes : (k : ℕ) → get_or l.bytes k 0 < 256;
 }

@@ -1,19 +1,11 @@
-use Rattle.std.proofs.Common.{◌∙◌, refl, arith}
-use Rattle.std.proofs.lemmas.Str.{IsCharBoundary-start}
+use Rattle.std.proofs.Common.{arith}
 use Rattle.humantime.proofs.Durations.Bytes.PlaceSteps.{whitespace_over, no_whitespace}
 use Rattle.humantime.proofs.Durations.Bytes.Tails.{no_chars_at}
 use Rattle.humantime.proofs.duration.scan.skip_whitespace.Goals as goal
 use Rattle.humantime.proofs.duration.scan.skip_whitespace.Goals.{else-loop-at-test, then-loop-at-test+in-None}
 
-pub loop-at-init : goal.loop-at-init
-loop-at-init c = record { order = omega arith; place = IsCharBoundary-start c.args.s.now c.utf8.s; same = refl }
-
 pub loop-at-preserved : goal.loop-at-preserved
-loop-at-preserved c =
-    let i = c.loop-at.invariant in
-    let s = whitespace_over _ _ _ c.utf8.s (grind arith, i.place) c.in-Some.ensures.0 c.in-Some.ensures.1 in
-    let spaces = c.skip_spaces-at.ensures in
-    record { order = omega arith; place = spaces.place; same = spaces.same ∙ rw (s.2.ahead, s.1) at i.same }
+loop-at-preserved c = grind (arith, (whitespace_over c.args.s.now c.loop-at.at c.in-Some.next c.utf8.s))
 
 pub skip_spaces-at-requires : goal.skip_spaces-at-requires
 skip_spaces-at-requires c = (whitespace_over _ _ _ c.utf8.s (grind arith, c.loop-at.invariant.place) c.in-Some.ensures.0 c.in-Some.ensures.1).2.place

@@ -52,15 +52,11 @@ use Rattle.humantime.proofs.date.print.Rfc3339Timestamp.write.Met as g-met
 use Rattle.humantime.specs.contracts.date.print.text_from_len as h
 use Rattle.humantime.proofs.date.print.text_from_len.Met as h-met
 
-abbrev stayed : Stays f.ended.signature.params f.ended.kept
-stayed = (stay_dropped _ yes, (stay_dropped _ no, tt))
-
-abbrev A : RattleType
-A = Array u8 30
-
 pub text_spec : {M : Type 1} → statement M
 text_spec {M} 𝓤 𝓛 𝓜 𝓡 wired =
+    let A : RattleType = Array u8 30 in
     let c = f.clauses 𝓛 𝓜.mem 𝓡.returns in
+    let stayed : Stays f.ended.signature.params f.ended.kept = (stay_dropped _ yes, (stay_dropped _ no, tt)) in
     proved 𝓛 f.ended stayed c 𝓜 𝓡 (Goes-dropped 𝓛 2 (RefOf (0 ∷ []) tt (plain (λ _. Self)) (λ _. tt)) yes (λ κs x w. refl), (Goes-spent_ref 𝓛 2 (1 ∷ []) tt (plain (λ _. A)), tt))
     f.Key.name code.function (code.unfolded 𝓤 𝓛.H 𝓜 𝓡 wired)
     (λ κs. (shr_vals, (mut_vals, tt))) (λ κs. (shr_Tells (named 0) κs.0 Self, (mut_Tells (named 1) κs.1.0 A, tt))) (λ κs qs bounds a _ are.

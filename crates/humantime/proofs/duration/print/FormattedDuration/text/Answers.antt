@@ -1,12 +1,7 @@
-use Rattle.std.proofs.lemmas.Bool.Decides.{nat_tests}
 use Rattle.std.proofs.lemmas.Grind.{common_steps}
 use Rattle.std.proofs.Common.{arith}
 use Rattle.humantime.proofs.Durations.Laws.DurationTheorems.{printed_duration_reads}
-use Rattle.humantime.proofs.Durations.Printing.GreatestCounts.{printed_is_canon}
 use Rattle.humantime.proofs.duration.print.FormattedDuration.text.Goals as goal
-
-pub returns-clause-canon : goal.returns-clause-canon
-returns-clause-canon c = grind (arith, common_steps, nat_tests, printed_is_canon)
 
 pub returns-clause-reads_back : goal.returns-clause-reads_back
 returns-clause-reads_back c = grind (arith, common_steps, (printed_duration_reads c.args.self.now))
