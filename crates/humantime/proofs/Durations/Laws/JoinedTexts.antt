@@ -1,5 +1,5 @@
 -- Joined texts.
-use Rattle.std.proofs.lemmas.Grind.{common_steps}
+use Rattle.std.proofs.lemmas.Grind.{common_steps, flat_map-append}
 use Rattle.std.proofs.lemmas.List.Sums.{sum_by-append}
 use Rattle.std.proofs.Common.{arith, ◌≡◌, ◌≢◌, ◌↔◌, ◌⊎◌, ℕ, ◌+◌, true, List, [], ◌∷◌, ◌++◌, None, refl, inl, inr, append_assoc, append-nil}
 use Rattle.std.specs.List.{AllByRecursion}
@@ -14,7 +14,6 @@ use Rattle.humantime.proofs.Durations.Reading.Summed.{within_or_beyond}
 use Rattle.humantime.proofs.Durations.Reading.Outcomes.{items_whole, items_decide_overflow, outcome_accepted, outcome_fault}
 pub use Rattle.humantime.proofs.Durations.Reading.Spellings.{each-append, spells_each-append}
 use Rattle.humantime.proofs.Durations.Laws.Readings.{accepted_spans}
-use Rattle.std.proofs.lemmas.Grind.{flat_map-append}
 
 -- Whitespace after a span belongs to it.
 spells_each-whitespace : (body whitespace : List ℕ) (s : SpelledSpan) (ss : List SpelledSpan) → SpellsEach body (s ∷ ss) → HasOnly is_whitespace whitespace → SpellsEach (body ++ whitespace) (s ∷ ss)
