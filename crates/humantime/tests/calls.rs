@@ -1,4 +1,4 @@
-//! Each kind of call once, as CALLING.md shows them.
+//! Each kind of call once, as a program calls it.
 
 use humantime::{
     Date, Duration, DurationError, StdDuration, SystemTime, Timestamp, Turns, canonical,

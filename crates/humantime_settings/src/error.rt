@@ -35,7 +35,7 @@ pub enum SettingsError<'a> {
     OutOfMemory,
     /// A fault at a place in the text.
     At(Marked<'a>),
-    /// A fault of the whole text, such as a missing setting in TOML, or of a value that has no text: what is wrong.
+    /// What is wrong with the whole text, such as a missing setting in TOML, or with a value that has no text.
     Whole(String),
 }
 
