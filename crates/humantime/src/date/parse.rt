@@ -80,7 +80,7 @@ struct DateTime {
 /// - [`OutOfRange`](TimestampError::OutOfRange) if the date does not exist in the years 1970 to 9999, the hour is above 23, the minute
 ///   above 59 or the second above 60;
 /// - `InvalidFormat` if the text from byte 19 on does not begin with a point and is neither empty nor `Z` nor `+00:00`;
-/// - `InvalidDigit` if byte 19 is a point and the text after it, without a `Z` or `+00:00` at its end, has a byte that is not a digit.
+/// - `InvalidDigit` if byte 19 is a point and the text after it, up to a `Z` or `+00:00` at its end, has a byte that is not a digit.
 ///
 /// # Examples
 ///

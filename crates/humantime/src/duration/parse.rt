@@ -16,8 +16,8 @@ use crate::value::StdDuration;
 ///
 /// # Errors
 ///
-/// The errors are those of [`parse_duration`], except that products and sums, and whether a fraction is a whole number of nanoseconds or
-/// seconds, are not checked. A number above `u64::MAX`, or a fraction with more than 19 digits before its trailing zeros, is still an
+/// The errors are those of [`parse_duration`], but products and sums are not checked, nor whether a fraction is a whole number of
+/// nanoseconds or seconds. A number above `u64::MAX`, or a fraction with more than 19 digits before its trailing zeros, is still an
 /// error. Unlike `parse_duration`, this function rejects `0`, which has no unit.
 ///
 /// # Examples
@@ -89,7 +89,7 @@ fn sum_of<'a>(text: &'a str) -> Result<StdDuration, DurationError<'a>>
 ///   without a digit after it.
 /// - [`UnknownUnit`](DurationError::UnknownUnit): the letters after a number (ASCII, `µ` or `μ`) are not a unit, or the text ends
 ///   without one. The error borrows the unit from `s`.
-/// - [`NumberOverflow`](DurationError::NumberOverflow): a number, its product with the size of its unit, that of a fraction's digits, or
+/// - [`NumberOverflow`](DurationError::NumberOverflow): a number, its product or that of a fraction's digits with the unit's size, or
 ///   the sum overflows; or a fraction has more than 19 digits before its trailing zeros, or is not a whole number of nanoseconds or, from
 ///   hours on, of seconds.
 ///
