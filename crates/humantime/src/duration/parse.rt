@@ -89,9 +89,9 @@ fn sum_of<'a>(text: &'a str) -> Result<StdDuration, DurationError<'a>>
 ///   without a digit after it.
 /// - [`UnknownUnit`](DurationError::UnknownUnit): the letters after a number (ASCII, `µ` or `μ`) are not a unit, or the text ends
 ///   without one. The error borrows the unit from `s`.
-/// - [`NumberOverflow`](DurationError::NumberOverflow): a number, its product or that of a fraction's digits with the unit's size, or
-///   the sum overflows; or a fraction has more than 19 digits before its trailing zeros, or is not a whole number of nanoseconds or, from
-///   hours on, of seconds.
+/// - [`NumberOverflow`](DurationError::NumberOverflow): a number, a number times the size of its unit, the digits of a fraction times
+///   that size, or the sum overflows; or a fraction has more than 19 digits before its trailing zeros, or is not a whole number of
+///   nanoseconds or, from hours on, of seconds.
 ///
 /// # Examples
 ///
