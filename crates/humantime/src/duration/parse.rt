@@ -91,7 +91,7 @@ fn sum_of<'a>(text: &'a str) -> Result<StdDuration, DurationError<'a>>
 ///   without one. The error borrows the unit from `s`.
 /// - [`NumberOverflow`](DurationError::NumberOverflow): a number, a number times the size of its unit, the digits of a fraction times
 ///   that size, or the sum overflows; or a fraction has more than 19 digits before its trailing zeros, or is not a whole number of
-///   nanoseconds or, from hours on, of seconds.
+///   nanoseconds or, for hours and longer units, of seconds.
 ///
 /// # Examples
 ///
