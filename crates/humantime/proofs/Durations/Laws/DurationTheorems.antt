@@ -1,14 +1,14 @@
 -- The laws of durations as theorems over plain variables, each under its name in `laws`.
 use Rattle.std.proofs.lemmas.Bool.Decides.{nat_tests}
 use Rattle.humantime.specs.Laws.ExactlyOne.{ExactlyOne}
-use Rattle.humantime.specs.Durations.Items.{AreItems}
-use Rattle.humantime.specs.Durations.Accepted.{Accepted}
+use Rattle.humantime.specs.Durations.Items.{AreItems, SpanView}
 use Rattle.humantime.specs.Durations.Counts.{IsCanonicalText}
 use Rattle.std.proofs.Common.{rules, ◌≡◌, ◌↔◌, ℕ, ◌<◌, List, Result, Ok, IsTrue, chars, refl, sym, ◌∙◌, arith}
 use Rattle.std.proofs.lemmas.Slice.Eq.{bytes_eq-Decides}
 use Rattle.humantime.specs.declared.duration.error.DurationError.{DurationError}
 use Rattle.humantime.specs.contracts.duration.error.DurationErrorPartialEq.TheImpl as errors
 use Rattle.humantime.specs.Values.{duration_end}
+use Rattle.humantime.specs.Durations.Faults.{Fault}
 use Rattle.humantime.specs.Durations.Errors.{result_view, fault_of}
 use Rattle.humantime.specs.contracts.duration.error.DurationErrorPartialEq.TheImpl as errors
 use Rattle.humantime.specs.Laws.Outcomes.{HasOneOutcome, ItemsDecide, ItemsTile}
@@ -37,12 +37,9 @@ spans_decide text =
 pub spans_tile : (text : List ℕ) → ItemsTile text
 spans_tile text =
     let only = views.one_span_view text in
-    record {
-      one = (item_views text, views.are_items text, only);
-      same = λ xs ys a b. only ys b ∙ sym (only xs a);
-      front = front_tiled text;
-      whole = text_tiled text;
-    }
+    let one : ExactlyOne (AreItems text) = (item_views text, views.are_items text, only) in
+    let same = λ (xs ys : List (Result SpanView Fault)) (a : AreItems text xs) (b : AreItems text ys). only ys b ∙ sym (only xs a) in
+    search (rules, one, same, front_tiled, text_tiled)
 
 -- If the view of a result is a value, so is the result.
 pub value_of_view : (r : Result ℕ DurationError) (v : ℕ) → result_view r ≡ Ok v → r ≡ Ok v
@@ -56,9 +53,8 @@ errors_equal e f = grind (arith, nat_tests, bytes_eq-Decides)
 
 pub printed_duration_reads : (d : ℕ) → d < duration_end → PrintsAndReads d
 printed_duration_reads d fits =
-    let canon = counts.printed_is_canon d in
-    let one : ExactlyOne (IsCanonicalText d) = (duration_text d, canon, counts.canon_is_text d) in
-    search (rules, one, canon, counts.canon_is_text, (printed.canon_reads d (omega arith)), outcomes.outcome_accepted)
+    let one : ExactlyOne (IsCanonicalText d) = (duration_text d, counts.printed_is_canon d, counts.canon_is_text d) in
+    search (rules, one, (printed.canon_reads d (omega arith)), outcomes.outcome_accepted)
 
 pub printed_durations_differ : (a b : ℕ) → a < duration_end → b < duration_end → TextsTellApart a b
 printed_durations_differ a b fits_a fits_b =

@@ -1,5 +1,5 @@
 -- Joined texts.
-use Rattle.std.proofs.lemmas.Grind.{common_steps, flat_map-append}
+use Rattle.std.proofs.lemmas.Grind.{flat_map-append}
 use Rattle.std.proofs.lemmas.List.Sums.{sum_by-append}
 use Rattle.std.proofs.Common.{arith, ◌≡◌, ◌≢◌, ◌↔◌, ◌⊎◌, ℕ, ◌+◌, true, List, [], ◌∷◌, ◌++◌, None, refl, inl, inr, append_assoc, append-nil}
 use Rattle.std.specs.List.{AllByRecursion}
@@ -21,41 +21,35 @@ spells_each-whitespace body whitespace s [] h only = ([], grind (arith, (respell
 spells_each-whitespace body whitespace s (t ∷ ts) h only = (h.0 ++ whitespace, spells-append body h.0 whitespace s h.1, spells_each-whitespace h.0 whitespace t ts h.2 only)
 
 -- Spans followed by spans.
-pub front-append : (a b : List ℕ) (ss ts : List SpelledSpan) → Reads a ss → SpellsAll b ts → SpellsAll (a ++ b) (ss ++ ts)
+front-append : (a b : List ℕ) (ss ts : List SpelledSpan) → Reads a ss → SpellsAll b ts → Reads (a ++ b) (ss ++ ts)
 front-append a b [] ts h k = absurd (h.1 refl)
 front-append a b (s ∷ ss) ts h k =
     let f = h.0 in
     let each = spells_each-append (f.body ++ k.whitespace) k.body (s ∷ ss) ts (spells_each-whitespace f.body _ s ss f.each k.only_whitespace) k.each in
-    record { whitespace = f.whitespace; body = _; whole = rw (f.whole, k.whole) (simp append_assoc); only_whitespace = f.only_whitespace; each = each }
+    grind (arith, append_assoc, f.whole, k.whole, each)
 
-pub some-append : (ss ts : List SpelledSpan) → ss ≢ [] → ss ++ ts ≢ []
-some-append [] ts some e = some refl
-some-append (s ∷ ss) ts some e = cc
-
--- The text is any whitespace followed by spans with this value that keep all limits except for that of their sum.
-abbrev pub AreSpans : List ℕ → List SpelledSpan → ℕ → Type 0
-AreSpans text spans v = SpellsAll text spans × AllByRecursion Formed spans × AllByRecursion (λ s. fits s ≡ true) spans × (value spans ≡ v)
+-- The text is any whitespace followed by one or more spans with this value that keep all limits except for that of their sum.
+abbrev AreSpans : List ℕ → List SpelledSpan → ℕ → Type 0
+AreSpans text spans v = Reads text spans × AllByRecursion Formed spans × AllByRecursion (λ s. fits s ≡ true) spans × (value spans ≡ v)
 
 -- Such a text is accepted if and only if no addition overflows, and its fault is an overflow if and only if an addition overflows.
-pub room_decides : (text : List ℕ) (spans : List SpelledSpan) (v : ℕ) → spans ≢ [] → AreSpans text spans v
+room_decides : (text : List ℕ) (spans : List SpelledSpan) (v : ℕ) → AreSpans text spans v
     → (Accepted text v ↔ AllHaveRoom (additions spans)) × (HasFault text NumberOverflow ↔ ¬ (AllHaveRoom (additions spans)))
-room_decides text spans v some h =
-    let reads : Reads text spans = (h.0, some) in
-    let accepted = λ (room : AllHaveRoom (additions spans)). SumOf spans reads (record { formed = h.1; fit = h.2; room = room }) h.3 in (
-      (λ a. (accepted_spans text spans v reads a).0.room, accepted),
-      (
-        λ f room. grind (arith, (outcome_accepted text v (accepted room)), (outcome_fault text NumberOverflow f)),
-        λ none. items_decide_overflow text spans None (items_whole text spans reads h.1) (not_zero text spans reads) (λ g. none g.room),
-      ),
+room_decides text spans v h =
+    let accepted = λ (room : AllHaveRoom (additions spans)). SumOf spans h.0 (record { formed = h.1; fit = h.2; room = room }) h.3 in
+    let overflow = items_decide_overflow text spans None (items_whole text spans h.0 h.1) (not_zero text spans h.0) in (
+      (λ a. (accepted_spans text spans v h.0 a).0.room, accepted),
+      (λ f room. grind (arith, (outcome_accepted text v (accepted room)), (outcome_fault text NumberOverflow f)), λ none. overflow (λ g. none g.room)),
     )
 
 both_spans : (a b : List ℕ) (ss ts : List SpelledSpan) (u v : ℕ) → AcceptedAs a ss u → AcceptedAs b ts v → AreSpans (a ++ b) (ss ++ ts) (u + v)
-both_spans a b ss ts u v h k = grind (arith, (accepted_spans a ss u h.0 h.1), (accepted_spans b ts v k.0 k.1), front-append, each-append, flat_map-append, sum_by-append)
+both_spans a b ss ts u v h k =
+    grind (arith, (accepted_spans a ss u h.0 h.1), (accepted_spans b ts v k.0 k.1), (front-append a b ss ts h.0 k.0.0), each-append, flat_map-append, sum_by-append)
 
 pub joined_room : (a b : List ℕ) (ss ts : List SpelledSpan) (u v : ℕ) → AcceptedAs a ss u → AcceptedAs b ts v
     → (Accepted (a ++ b) (u + v) ↔ AllHaveRoom (additions ss ++ additions ts)) × (HasFault (a ++ b) NumberOverflow ↔ ¬ (AllHaveRoom (additions ss ++ additions ts)))
 joined_room a b ss ts u v h k =
-    rw (← flat_map-append additions_of ss ts) (room_decides (a ++ b) (ss ++ ts) (u + v) (some-append ss ts h.0.1) (both_spans a b ss ts u v h k))
+    rw (← flat_map-append additions_of ss ts) (room_decides (a ++ b) (ss ++ ts) (u + v) (both_spans a b ss ts u v h k))
 
 pub joined_sum_or_overflow : (a b : List ℕ) (u v : ℕ) → Accepted a u → Accepted b v → a ≢ bare_zero → b ≢ bare_zero
     → Accepted (a ++ b) (u + v) ⊎ HasFault (a ++ b) NumberOverflow
@@ -63,7 +57,7 @@ joined_sum_or_overflow a b u v (BareZero z none) y some_a some_b = absurd (some_
 joined_sum_or_overflow a b u v (SumOf ss h g p) (BareZero z none) some_a some_b = absurd (some_b z)
 joined_sum_or_overflow a b u v (SumOf ss h g p) (SumOf ts k l q) some_a some_b =
     let both = both_spans a b ss ts u v (h, SumOf ss h g p) (k, SumOf ts k l q) in
-    let room = room_decides (a ++ b) (ss ++ ts) (u + v) (some-append ss ts h.1) both in
+    let room = room_decides (a ++ b) (ss ++ ts) (u + v) both in
     elim (within_or_beyond (ss ++ ts) both.1) [
       | inl g ↦ inl (room.0.1 g.room)
       | inr bad ↦ inr (room.1.1 (λ all. bad (record { formed = both.1; fit = both.2; room = all })))

@@ -1,5 +1,5 @@
 -- Accepted texts and their spans.
-use Rattle.std.proofs.Common.{arith, rules, ◌≡◌, inl, inr, ℕ, List, [], ◌∷◌, refl, sum_by, IsPermutation}
+use Rattle.std.proofs.Common.{arith, ◌≡◌, inl, inr, ℕ, List, [], ◌∷◌, refl, sum_by, IsPermutation}
 use Rattle.std.proofs.lemmas.Grind.{common_steps}
 use Rattle.std.proofs.lemmas.List.Sorted.{sum_by-IsPermutation}
 use Rattle.humantime.specs.Durations.Spans.{SpelledSpan, Reads}
@@ -26,4 +26,4 @@ value-sum (s ∷ ss) = grind (arith, common_steps, (value-cons s ss), (value-sum
 
 pub reordered_value : (a b : List ℕ) (ss ts : List SpelledSpan) (u v : ℕ) → Reads a ss → Reads b ts → IsPermutation ss ts
     → Accepted a u → Accepted b v → u ≡ v
-reordered_value a b ss ts u v h k moved x y = grind (arith, (accepted_spans a ss u h x), (accepted_spans b ts v k y), value-sum, (sum_by-IsPermutation (λ s. total (additions_of s)) ss ts moved))
+reordered_value a b ss ts u v h k moved x y = grind (arith, (accepted_spans a ss u h x), (accepted_spans b ts v k y), value-sum, sum_by-IsPermutation)

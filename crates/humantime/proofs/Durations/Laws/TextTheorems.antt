@@ -1,8 +1,7 @@
 -- The laws of accepted texts as theorems over plain variables, each under its name in `laws`, and other theorems.
-use Rattle.std.proofs.Common.{arith, rules, ℕ, ◌+◌, List, ◌++◌, inl, inr, refl}
-use Rattle.humantime.specs.Durations.Characters.{bare_zero}
+use Rattle.std.proofs.Common.{rules, ℕ, ◌+◌, List, ◌++◌, inl, inr}
 use Rattle.humantime.specs.Durations.Faults.{NumberOverflow}
-use Rattle.humantime.specs.Laws.Texts.{without_whitespace, KeepsValueWithoutWhitespace, AddWhenJoined, KeepValueReordered}
+use Rattle.humantime.specs.Laws.Texts.{AreReordered, KeepsValueWithoutWhitespace, AddWhenJoined, KeepValueReordered}
 use Rattle.humantime.proofs.Durations.Reading.Outcomes.{accepted_from_outcome, outcome_accepted, outcome_fault}
 use Rattle.humantime.proofs.Durations.Reading.OneReading.{not_zero}
 use Rattle.humantime.proofs.Durations.Laws.Readings as readings
@@ -28,11 +27,5 @@ joined a b = record {
 
 pub reordered : (a b : List ℕ) → KeepValueReordered a b
 reordered a b =
-    let value = readings.reordered_value a b in
-    record {
-      value = value;
-      answer = λ ss ts u v h k moved x y. value ss ts u v h k moved (accepted_from_outcome a u x) (accepted_from_outcome b v y);
-      alike = λ r u v x y.
-          value r.spans r.others u v r.reads r.other_reads r.moved (accepted_from_outcome a u x) (accepted_from_outcome b v y);
-      zero = λ spans h. not_zero bare_zero spans h refl;
-    }
+    let alike = λ (r : AreReordered a b) (u v : ℕ). readings.reordered_value a b r.spans r.others u v r.reads r.other_reads r.moved in
+    search (rules, readings.reordered_value, alike, accepted_from_outcome, not_zero)

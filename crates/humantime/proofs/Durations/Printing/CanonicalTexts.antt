@@ -1,9 +1,9 @@
 -- The canonical text of the result of parsing a text.
-use Rattle.std.proofs.Common.{arith, ◌≡◌, ◌↔◌, ℕ, List, Result, Ok, Err, refl, ap, ◌∙◌}
+use Rattle.std.proofs.Common.{arith, ◌≡◌, ◌↔◌, ℕ, List, Result, Ok, Err, refl}
 use Rattle.std.specs.Prelude.{chars}
 use Rattle.humantime.specs.Durations.Faults.{Fault, HasFault}
 use Rattle.humantime.specs.Durations.Counts.{IsCanonicalOf}
-use Rattle.humantime.specs.Results.Durations.{duration_text, duration_answer, printed_answer, canonical_answer}
+use Rattle.humantime.specs.Results.Durations.{duration_text, duration_answer, canonical_answer}
 use Rattle.humantime.proofs.Durations.Printing.GreatestCounts.{printed_is_canon, canon_is_text}
 use Rattle.humantime.proofs.Durations.Reading.Outcomes.{answer_accepts, answer_faults}
 
@@ -11,11 +11,10 @@ use Rattle.humantime.proofs.Durations.Reading.Outcomes.{answer_accepts, answer_f
 pub answer_is_canonical : (s : List ℕ) (r : Result (List ℕ) Fault) → r ≡ canonical_answer (chars s) → (t : List ℕ) → (r ≡ Ok t) ↔ IsCanonicalOf s t
 unfolding canonical_answer
 answer_is_canonical s r e t =
-    let decided = answer_accepts (chars s) (duration_answer (chars s)) refl in (
-      λ h.
-          let p : (v : ℕ) × (duration_answer (chars s) ≡ Ok v) × (duration_text v ≡ t) = grind arith in
-          record { duration = p.0; accepted = (decided p.0).0 p.1; canon = rw (← p.2) (printed_is_canon p.0) },
-      λ h. rw (canon_is_text h.duration t h.canon) (e ∙ ap printed_answer ((decided h.duration).1 h.accepted)),
+    let decided = answer_accepts (chars s) (duration_answer (chars s)) refl in
+    let printed : r ≡ Ok t → (v : ℕ) × (duration_answer (chars s) ≡ Ok v) × (duration_text v ≡ t) = λ h. grind arith in (
+      λ h. let p = printed h in record { duration = p.0; accepted = (decided p.0).0 p.1; canon = rw (← p.2) (printed_is_canon p.0) },
+      λ h. grind (arith, (canon_is_text h.duration t h.canon), ((decided h.duration).1 h.accepted)),
     )
 
 pub answer_is_fault : (s : List ℕ) (r : Result (List ℕ) Fault) → r ≡ canonical_answer (chars s) → (f : Fault) → (r ≡ Err f) ↔ HasFault (chars s) f

@@ -1,6 +1,6 @@
 -- The counts that division computes are the greatest, and only these.
 use Rattle.std.proofs.lemmas.Grind.{common_steps}
-use Rattle.std.proofs.Common.{◌≡◌, ℕ, ◌/◌, ◌%◌, ◌<◌, List, [], ◌∷◌, length, refl, sym, ◌∙◌, arith, nat_cmp, IsTrue}
+use Rattle.std.proofs.Common.{◌≡◌, ℕ, ◌/◌, ◌%◌, ◌<◌, List, [], ◌∷◌, length, refl, arith, nat_cmp, IsTrue}
 use Rattle.std.proofs.Math.Nat.{mul_comm, div-add-mod}
 use Rattle.std.proofs.lemmas.Nat.{le-div, mod_below}
 use Rattle.std.proofs.lemmas.Bool.{cases_lt}
@@ -26,7 +26,7 @@ divided_last : (ws : List ℕ) (m d : ℕ) → Reaches ws m → (others : List �
     → IsTrue (is_le (slice_cmp nat_cmp others (divided ws d)))
 divided_last [] m d r [] l e = refl
 divided_last (w ∷ ws) m d r (c ∷ cs) l e =
-    grind (arith, nat_cmp_is, (le-div c d w r.0), (mul_comm w c), (div-add-mod d w), (cases_lt c (d / w)), (divided_last ws w (d % w) r.1 cs))
+    grind (arith, nat_cmp_is, le-div, mul_comm, div-add-mod, (cases_lt c (d / w)), (divided_last ws w (d % w) r.1 cs))
 divided_last _ m d r _ l e = absurd (omega (arith, l))
 
 divided_greatest : (d : ℕ) → AreCounts d (divided weights d)
@@ -37,7 +37,7 @@ pub counts_divided : (d : ℕ) (counts : List ℕ) → AreCounts d counts → co
 counts_divided d counts g =
     let other = divided_greatest d in
     let least = rw (nat_list_cmp_total.antisymm (divided weights d) counts) at (g.greatest (divided weights d) other.as_many other.sum) in
-    grind (arith, nat_tests, (exact_bytes counts (divided weights d)), (other.greatest counts g.as_many g.sum), least)
+    grind (arith, nat_tests, exact_bytes, (other.greatest counts g.as_many g.sum), least)
 
 -- The text of the counts that division computes is the only canonical text.
 pub printed_is_canon : (d : ℕ) → IsCanonicalText d (duration_text d)
@@ -47,6 +47,3 @@ printed_is_canon d = record { counts = divided weights d; are = divided_greatest
 pub canon_is_text : (d : ℕ) (text : List ℕ) → IsCanonicalText d text → text ≡ duration_text d
 unfolding duration_text
 canon_is_text d text canon = grind (arith, counts_divided)
-
-pub one_canon : (d : ℕ) (a b : List ℕ) → IsCanonicalText d a → IsCanonicalText d b → a ≡ b
-one_canon d a b left right = canon_is_text d a left ∙ sym (canon_is_text d b right)

@@ -30,7 +30,7 @@ spaced_length (p ∷ ps) = length p + 1 + spaced_length ps
 
 join_length : (p : List ℕ) (ps : List (List ℕ)) → length (join_with_byte space (p ∷ ps)) + 1 ≡ spaced_length (p ∷ ps)
 join_length p [] = omega arith
-join_length p (q ∷ ps) = omega (arith, length-append p (space ∷ join_with_byte space (q ∷ ps)), join_length q ps)
+join_length p (q ∷ ps) = omega (arith, length-append {A = ℕ}, join_length q ps)
 
 counts_length : (us : List (ℕ × Suffix)) (ks : List ℕ) (m r : ℕ) → Sizes us ks m → r < m
     → spaced_length (map (λ c. printed_count c.0 c.1) (filter (λ c. nat_lt 0 c.0) (counts_of_units us r))) ≤ length_for us ks

@@ -1,7 +1,7 @@
 -- A printed text is spans within all limits, whose sum is the duration.
 use Rattle.std.proofs.lemmas.Grind.{common_steps}
-use Rattle.std.proofs.Common.{true, ◌≡◌, ℕ, ◌*◌, ◌/◌, ◌%◌, ◌^◌, ◌<◌, ◌≤◌, List, [], ◌∷◌, ◌++◌, refl, subst, arith, rules}
-use Rattle.std.specs.Prelude.{IsAscii, codes, decimal, map, nat_lt}
+use Rattle.std.proofs.Common.{true, ◌≡◌, ℕ, ◌*◌, ◌/◌, ◌%◌, ◌^◌, ◌<◌, ◌≤◌, List, [], ◌∷◌, ◌++◌, refl, arith}
+use Rattle.std.specs.Prelude.{codes, decimal, map, nat_lt}
 use Rattle.std.specs.Str.{IsUtf8, chars}
 use Rattle.std.specs.List.{AllByRecursion, filter, join_with_byte}
 use Rattle.std.proofs.Math.Nat.{mul_assoc, mul_comm}
@@ -13,7 +13,7 @@ use Rattle.std.proofs.lemmas.Fmt.{IsAscii-decimal}
 use Rattle.humantime.specs.Values.{nanos_per_second}
 use Rattle.humantime.specs.Durations.Characters.{whitespace_chars, is_whitespace, u64_max}
 use Rattle.humantime.specs.Durations.Units.{Quantity}
-use Rattle.humantime.specs.Durations.Spans.{SpelledSpan, HasOnly, Spells, SpellsEach, Reads}
+use Rattle.humantime.specs.Durations.Spans.{SpelledSpan, HasOnly, Spells, SpellsEach}
 use Rattle.humantime.specs.Durations.Accepted.{quantity_nanos, size, times, total, additions_of, additions, value, Formed, fits, Accepted, SumOf}
 use Rattle.humantime.specs.Durations.Counts.{Suffix, printed_count, joined_by_space, IsCanonicalText}
 use Rattle.humantime.specs.Results.Durations.{duration_text}
@@ -45,16 +45,8 @@ count_chars n s h = grind (arith, common_steps, IsAscii-decimal, append_assoc, c
 printed_span : (w m n : ℕ) (s : Suffix) → IsPrintedWord w m (word_for n s) → w * n < m → w * n < sum_limit → IsPrintedSpan n s × (total (additions_of (span_for n s)) ≡ w * n)
 printed_span w m n s i below whole =
     let few = few m n i.0.whole i.3 i.4 (rw i.2 below) (rw i.2 whole) in
-    let number = decimal_number n few.0 in
-    let adds : additions_of (span_for n s) ≡ times n i.0.whole ∷ [] = grind (arith, common_steps, number.3, i.1) in
-    let is : IsPrintedSpan n s = (
-      rw append_assoc (IsUtf8-append (decimal n) (word_for n s) (IsUtf8-from_ascii (decimal n) (IsAscii-decimal n few.0)) i.5),
-      λ white only. grind (arith, common_steps, number, count_chars),
-      record { short = grind (arith, common_steps, number.3); word = rw i.1 refl },
-      rw i.1 (grind (arith, number.3, few.1)),
-      rw adds (few.2, tt),
-    ) in
-    (is, rw (adds, ← i.2) (omega (arith, few.3)))
+    let utf8 = IsUtf8-append (decimal n) (word_for n s) (IsUtf8-from_ascii (decimal n) (IsAscii-decimal n few.0)) i.5 in
+    grind (arith, common_steps, (decimal_number n few.0), count_chars, few, i, rw (← append_assoc) at utf8)
 
 -- The counts that are not zero, and their spans.
 abbrev pub shown : List (ℕ × Suffix) → List (ℕ × Suffix)
@@ -69,16 +61,15 @@ AllPrintedSpans cs = AllByRecursion (λ c. IsPrintedSpan c.0 c.1) cs
 -- The counts that are printed are spans, and the sum of their spans is `d`.
 shown_spans : (us : List (ℕ × Suffix)) (m d : ℕ) → is_table us m ≡ true → d < m → d < sum_limit
     → AllPrintedSpans (shown (counts_of_units us d)) × (value (spans_of (shown (counts_of_units us d))) ≡ d)
-shown_spans [] m d h below whole = (tt, grind (arith, nat_tests))
+shown_spans [] m d h below whole = grind (arith, nat_tests)
 shown_spans (u ∷ us) m d h below whole =
-    grind (arith, is_word-true, and_parts, nat_tests, value-cons, (printed_span u.0 m (d / u.0) u.1), (mod_below d u.0), (shown_spans us u.0 (d % u.0)))
+    grind (arith, is_word-true, and_parts, nat_tests, value-cons, (printed_span u.0 m (d / u.0) u.1), mod_below, (shown_spans us u.0 (d % u.0)))
 
 -- ---- the text of these spans
 
 chars_space : (p q : List ℕ) → IsUtf8 p → chars (p ++ space ∷ q) ≡ (chars p ++ space ∷ []) ++ chars q
 chars_space p q utf8 =
-    let ascii : IsAscii (space ∷ []) = search rules in
-    grind (arith, (chars-append p (space ∷ q) utf8), (chars-append (space ∷ []) q (IsUtf8-from_ascii (space ∷ []) ascii)), (chars-IsAscii (space ∷ []) ascii), append_assoc)
+    grind (arith, (chars-append p (space ∷ q) utf8), (chars-append (space ∷ []) q), (IsUtf8-from_ascii (space ∷ [])), (chars-IsAscii (space ∷ [])), append_assoc)
 
 -- The text of the counts, joined with single spaces.
 abbrev pub counts_text : List (ℕ × Suffix) → List ℕ
@@ -87,11 +78,10 @@ counts_text cs = join_with_byte space (map (λ c. printed_count c.0 c.1) cs)
 counts_spell : (cs : List (ℕ × Suffix)) → AllPrintedSpans cs → SpellsEach (chars (counts_text cs)) (spans_of cs)
 unfolding is_whitespace whitespace_chars
 counts_spell [] h = chars-nil
-counts_spell (c ∷ []) h = ([], subst (λ l. Spells l (span_for c.0 c.1) []) (append-nil (chars (printed_count c.0 c.1))) (h.0.1 [] tt), refl)
+counts_spell (c ∷ []) h = ([], rw append-nil at (h.0.1 [] tt), refl)
 counts_spell (c ∷ d ∷ cs) h =
     let rest = chars (counts_text (d ∷ cs)) in
-    let here = spells-append _ [] rest (span_for c.0 c.1) (h.0.1 (space ∷ []) (refl, tt)) in
-    (rest, rw (chars_space (printed_count c.0 c.1) (counts_text (d ∷ cs)) h.0.0) here, counts_spell (d ∷ cs) h.1)
+    (rest, rw (chars_space _ _ h.0.0) (spells-append _ [] rest (span_for c.0 c.1) (h.0.1 (space ∷ []) (refl, tt))), counts_spell (d ∷ cs) h.1)
 
 -- The spans keep their limits, and each adds little.
 counts_within : (cs : List (ℕ × Suffix)) → AllPrintedSpans cs
@@ -103,13 +93,13 @@ counts_within (c ∷ cs) h = grind (arith, (counts_within cs h.1), each-append)
 all_accepted : (cs : List (ℕ × Suffix)) (d : ℕ) → AllPrintedSpans cs → value (spans_of cs) ≡ d → d / nanos_per_second ≤ u64_max
     → Accepted (chars (joined_by_space (map (λ c. printed_count c.0 c.1) cs))) d
 unfolding humantime_on_literals
-all_accepted [] d h sum short = subst (Accepted (chars (codes "0s"))) sum (accepted_from_outcome (chars (codes "0s")) 0 refl)
+all_accepted [] d h sum short = rw (← sum) (accepted_from_outcome (chars (codes "0s")) 0 refl)
 all_accepted (c ∷ cs) d h sum short =
+    let spans = spans_of (c ∷ cs) in
     let within = counts_within (c ∷ cs) h in
-    let room = small_have_room (additions (spans_of (c ∷ cs))) within.2 (rw sum short) in
-    let reads : Reads (chars (counts_text (c ∷ cs))) (spans_of (c ∷ cs)) =
-    (record { whitespace = []; body = _; whole = refl; only_whitespace = tt; each = counts_spell (c ∷ cs) h }, λ e. cc) in
-    SumOf (spans_of (c ∷ cs)) reads (record { formed = within.0; fit = within.1; room = room }) sum
+    let room = small_have_room (additions spans) within.2 (rw sum short) in
+    let each = counts_spell (c ∷ cs) h in
+    SumOf spans (record { whitespace = []; body = _; whole = refl; only_whitespace = tt; each = each }, λ e. cc) (grind (arith, within, (room))) sum
 
 -- The canonical text of a duration is accepted with its value.
 pub canon_reads : (d : ℕ) → d / nanos_per_second ≤ u64_max → (text : List ℕ) → IsCanonicalText d text → Accepted (chars text) d

@@ -1,7 +1,7 @@
 -- The result of the reference is the value or the fault of the text, and the only one.
 use Rattle.std.proofs.lemmas.Grind.{common_steps}
-use Rattle.std.proofs.Common.{◌≡◌, ◌≢◌, ◌⊎◌, ◌↔◌, ℕ, true, false, List, [], ◌∷◌, ◌++◌, map, Option, Some, None, Result, Ok, Err, refl, sym, ap, ◌∙◌, inl, inr, arith, append_assoc}
-use Rattle.std.specs.Prelude.{IfErr, chars}
+use Rattle.std.proofs.Common.{◌≡◌, ◌≢◌, ◌⊎◌, ◌↔◌, ℕ, true, List, [], ◌∷◌, ◌++◌, Option, Some, None, Result, Ok, Err, refl, sym, ◌∙◌, inl, inr, arith, append_assoc}
+use Rattle.std.specs.Prelude.{IfErr, chars, option_map, unwrap_or}
 use Rattle.std.specs.List.{AllByRecursion}
 use Rattle.std.specs.Str.{bytes_eq}
 use Rattle.std.proofs.lemmas.Bool.{cases_Bool}
@@ -13,17 +13,17 @@ use Rattle.humantime.specs.Durations.Faults.{span_of, Fault, NumberOverflow, Bre
 use Rattle.humantime.specs.Durations.Items.{Items, items_of}
 use Rattle.humantime.specs.Laws.ExactlyOne.{ExactlyOne}
 use Rattle.humantime.specs.Laws.Outcomes.{IsOutcome}
-use Rattle.humantime.specs.Results.Walks.{walk_from, items, sum_spans}
+use Rattle.humantime.specs.Results.Walks.{items, sum_spans}
 use Rattle.humantime.specs.declared.duration.error.DurationError.{DurationError}
 use Rattle.humantime.specs.Durations.Errors.{result_view, PointsInto}
 use Rattle.humantime.specs.Results.Durations.{IsDurationAnswer, duration_answer}
-use Rattle.humantime.proofs.Durations.Reading.Summed.{sum_spans_within, sum_too_large, summed_value, summed_fault, within_front}
-use Rattle.humantime.proofs.Durations.Reading.Spelled.{next_of}
+use Rattle.humantime.proofs.Durations.Reading.Summed.{spans_summed, within_from-front, within_tells}
+use Rattle.humantime.proofs.Durations.Reading.Classes.{digit_is_numeric}
 use Rattle.humantime.proofs.Durations.Reading.Stopping.{fine_goes}
 use Rattle.humantime.proofs.Durations.Reading.SpanWalks.{walk-right}
 use Rattle.humantime.proofs.Durations.Reading.Found.{too_large_found}
 use Rattle.humantime.proofs.Durations.Reading.Spellings.{each-append}
-use Rattle.humantime.proofs.Durations.Reading.Walked.{first_after, front_walked, closes_digit}
+use Rattle.humantime.proofs.Durations.Reading.Walked.{first_after, front_walked}
 use Rattle.humantime.proofs.Durations.Reading.OneReading.{split_whole, not_zero}
 pub use Rattle.humantime.proofs.Durations.Reading.Found.{items_found}
 pub use Rattle.humantime.proofs.Durations.Reading.Walked.{items_walked}
@@ -38,68 +38,60 @@ pub duration_answer-items : (text : List ℕ) → text ≢ bare_zero → duratio
 unfolding duration_answer
 duration_answer-items text some = grind (arith, bytes_eq-Decides)
 
-pub zero_or_not : (text : List ℕ) → (text ≡ bare_zero) ⊎ (text ≢ bare_zero)
+zero_or_not : (text : List ℕ) → (text ≡ bare_zero) ⊎ (text ≢ bare_zero)
 zero_or_not text = grind (arith, (bytes_eq-Decides text bare_zero), (cases_Bool (bytes_eq text bare_zero)))
 
 -- Any items of a text determine its outcome.
-outcome_summed : (text : List ℕ) (spans : List SpelledSpan) (stop : Option Fault) → text ≢ bare_zero → Items text spans stop → duration_answer text ≡ sum_spans 0 (items_of spans stop)
-outcome_summed text spans stop some h = duration_answer-items text some ∙ ap (λ (r : List SpelledSpan × Option Fault). sum_spans 0 (items_of r.0 r.1)) (items_walked text spans stop h)
+outcome_summed : (text : List ℕ) (spans : List SpelledSpan) (stop : Option Fault) → text ≢ bare_zero → Items text spans stop
+    → (WithinLimits spans × (duration_answer text ≡ unwrap_or (option_map Err stop) (Ok (value spans))))
+    ⊎ (¬ (WithinLimits spans) × (duration_answer text ≡ Err NumberOverflow))
+outcome_summed text spans stop some h = grind (arith, (duration_answer-items text some), (items_walked text spans stop h), (spans_summed spans stop h.formed))
 
 -- No error stops the spans of a text that consists of them.
 pub items_whole : (text : List ℕ) (spans : List SpelledSpan) → Reads text spans → AllByRecursion Formed spans → Items text spans None
-items_whole text spans h f = record { front = text; rest = []; split = split_whole text spans h.0; formed = f; ends = (refl, h.1) }
+items_whole text spans h f = grind (arith, (split_whole text spans h.0))
 
 pub outcome_accepted : (text : List ℕ) (v : ℕ) → Accepted text v → duration_answer text ≡ Ok v
-unfolding sum_spans
 outcome_accepted text v (BareZero zero none) = rw (zero, none) duration_answer-zero
-outcome_accepted text v (SumOf spans reads within sum) = grind (arith, (outcome_summed text spans None (not_zero text spans reads) (items_whole text spans reads within.formed)), (sum_spans_within spans None within), sum)
+outcome_accepted text v (SumOf spans reads within sum) =
+    grind (arith, (outcome_summed text spans None (not_zero text spans reads) (items_whole text spans reads within.formed)), sum)
 
 -- If the span at the start of the rest breaks a limit, so do the items of the text.
 over_outcome : (text : List ℕ) (e : Fault) (h : HasFault text e) → BreaksLimit h.spans h.rest e → duration_answer text ≡ Err e
 over_outcome text e h b =
-    let more = walk_from false text (next_of h.rest) in
-    let here = span_of h.rest ∷ [] in
-    let rest = map span_of more.starts in
-    let walk = front_walked text h.front h.rest h.spans h.split h.within.formed (inr (closes_digit h.front h.rest b.span.number.digit)) in
+    let walk = front_walked text h.front h.rest h.spans h.split h.within.formed (inr (inl (grind (arith, digit_is_numeric)))) in
     let right = walk-right (first_after true h.spans) text h.rest (fine_goes text h.rest b.span) in
-    let large = sum_too_large (h.spans ++ span_of h.rest ∷ rest) more.stop in
-    let front = within_front (h.spans ++ here) rest in
-    let formed = (items_found text).formed in
-    grind (arith, walk, right, (duration_answer-items text h.not_zero), formed, large, front, (append_assoc h.spans here rest), (each-append Formed h.spans here))
+    let here = span_of h.rest ∷ [] in
+    let summed = outcome_summed text (items text).0 (items text).1 h.not_zero (items_found text) in
+    grind (arith, walk, right, summed, (within_from-front 0 (h.spans ++ here)), within_tells, (append_assoc h.spans here), (each-append Formed h.spans here))
 
 pub outcome_fault : (text : List ℕ) (e : Fault) → HasFault text e → duration_answer text ≡ Err e
-unfolding sum_spans
-outcome_fault text e h = grind (arith, (outcome_summed text h.spans (Some e) h.not_zero), (sum_spans_within h.spans (Some e) h.within), (over_outcome text e h))
+outcome_fault text e h = grind (arith, (outcome_summed text h.spans (Some e) h.not_zero), (over_outcome text e h))
 
 -- The items determine the value, the fault, and whether a limit is broken.
-value_only : (text : List ℕ) (spans : List SpelledSpan) (stop : Option Fault) (v : ℕ) → text ≢ bare_zero → Items text spans stop → duration_answer text ≡ Ok v → (stop ≡ None) × WithinLimits spans × (value spans ≡ v)
-value_only text spans stop v some h o = summed_value spans stop v h.formed (sym (outcome_summed text spans stop some h) ∙ o)
-
-sum_accepted : (text : List ℕ) (spans : List SpelledSpan) (stop : Option Fault) (v : ℕ) → Items text spans stop → (stop ≡ None) × WithinLimits spans × (value spans ≡ v) → Accepted text v
-sum_accepted text spans stop v h d = let i = rw d.0 at h in SumOf spans (grind (arith, common_steps, (i))) d.1 d.2
+pub items_decide_value : (text : List ℕ) (spans : List SpelledSpan) (stop : Option Fault) → Items text spans stop → text ≢ bare_zero
+    → (v : ℕ) → Accepted text v ↔ ((stop ≡ None) × WithinLimits spans × (value spans ≡ v))
+items_decide_value text spans stop h some v =
+    (λ a. grind (arith, (outcome_summed text spans stop some h), (outcome_accepted text v a)), λ d. SumOf spans (grind (arith, common_steps)) d.1 d.2)
 
 pub items_decide_fault : (text : List ℕ) (spans : List SpelledSpan) (e : Fault) → Items text spans (Some e) → text ≢ bare_zero
     → WithinLimits spans → HasFault text e
-items_decide_fault text spans e h some g = record { not_zero = some; front = h.front; rest = h.rest; spans = spans; split = h.split; within = g; row = inl h.ends }
+items_decide_fault text spans e h some g = grind arith
 
 pub accepted_from_outcome : (text : List ℕ) (v : ℕ) → duration_answer text ≡ Ok v → Accepted text v
 accepted_from_outcome text v h = elim (zero_or_not text) [
   | inl z ↦ BareZero z (let p = duration_answer-zero in cc)
-  | inr n ↦ let i = items_found text in sum_accepted text (items text).0 (items text).1 v i (value_only text (items text).0 (items text).1 v n i h)
+  | inr n ↦ let i = items_found text in (items_decide_value text _ _ i n v).1 (grind (arith, (outcome_summed text _ _ n i)))
 ]
 
 pub fault_from_outcome : (text : List ℕ) (e : Fault) → duration_answer text ≡ Err e → HasFault text e
 fault_from_outcome text e h =
     let i = items_found text in
-    grind (arith, duration_answer-zero, (summed_fault (items text).0 (items text).1 e i.formed), (duration_answer-items text), (items_decide_fault text (items text).0 e), i, too_large_found)
-
-pub items_decide_value : (text : List ℕ) (spans : List SpelledSpan) (stop : Option Fault) → Items text spans stop → text ≢ bare_zero
-    → (v : ℕ) → Accepted text v ↔ ((stop ≡ None) × WithinLimits spans × (value spans ≡ v))
-items_decide_value text spans stop h some v = (λ a. value_only text spans stop v some h (outcome_accepted text v a), sum_accepted text spans stop v h)
+    grind (arith, duration_answer-zero, (outcome_summed text (items text).0 (items text).1), (items_decide_fault text (items text).0 e), i, too_large_found)
 
 pub items_decide_overflow : (text : List ℕ) (spans : List SpelledSpan) (stop : Option Fault) → Items text spans stop → text ≢ bare_zero
     → ¬ (WithinLimits spans) → HasFault text NumberOverflow
-items_decide_overflow text spans stop h some b = fault_from_outcome text NumberOverflow (outcome_summed text spans stop some h ∙ sum_too_large spans stop h.formed b)
+items_decide_overflow text spans stop h some b = fault_from_outcome text NumberOverflow (grind (arith, (outcome_summed text spans stop some h)))
 
 -- Therefore the result of parsing is the value or the fault.
 pub answer_accepts : (text : List ℕ) (r : Result ℕ Fault) → r ≡ duration_answer text → (v : ℕ) → (r ≡ Ok v) ↔ Accepted text v
@@ -109,8 +101,7 @@ pub answer_faults : (text : List ℕ) (r : Result ℕ Fault) → r ≡ duration_
 answer_faults text r e f = (λ h. fault_from_outcome text f (sym e ∙ h), λ a. e ∙ outcome_fault text f a)
 
 pub is_answer : (bytes : List ℕ) (r : Result ℕ DurationError) → result_view r ≡ duration_answer (chars bytes) → IfErr r (PointsInto bytes) → IsDurationAnswer bytes r
-is_answer bytes r e p =
-    record { value = answer_accepts (chars bytes) (result_view r) e; fault = answer_faults (chars bytes) (result_view r) e; answer = e; place = p }
+is_answer bytes r e p = search (answer_accepts, answer_faults, e, p)
 
 outcome_is : (text : List ℕ) (r : Result ℕ Fault) → IsOutcome text r ↔ (r ≡ duration_answer text)
 outcome_is text (Ok v) = (λ a. sym (outcome_accepted text v a), λ h. accepted_from_outcome text v (sym h))

@@ -29,10 +29,10 @@ room_from-append t (x ∷ xs) ys = grind (arith, common_steps, (room_from-append
 -- If each addition fits after those before it, they can be added one by one.
 from_each : (before xs : List Quantity) → AllHaveRoom (before ++ xs) → room_from (total before) xs ≡ true
 from_each before [] h = refl
-from_each before (x ∷ xs) h = grind (arith, append_assoc, (sum_by_push quantity_nanos before x), (from_each (before ++ x ∷ []) xs), (h before xs x))
+from_each before (x ∷ xs) h = grind (arith, append_assoc, sum_by_push, (from_each (before ++ x ∷ []) xs), (h before xs x))
 
 pub room_tells : (xs : List Quantity) → Decides (room_from 0 xs) (AllHaveRoom xs)
-room_tells xs = (λ h before after x e. grind (arith, common_steps, (room_from-append 0 before (x ∷ after))), from_each [] xs)
+room_tells xs = grind (arith, common_steps, (room_from-append 0), (from_each [] xs))
 
 room_fits : (t : ℕ) (xs : List Quantity) → t / nanos_per_second ≤ u64_max → room_from t xs ≡ true → (t + total xs) / nanos_per_second ≤ u64_max
 room_fits t [] fits h = omega arith
@@ -40,4 +40,4 @@ room_fits t (x ∷ xs) fits h = grind (arith, common_steps, (room_fits (t + quan
 
 -- If no addition overflows, the sum is a duration.
 pub room_is_duration : (xs : List Quantity) → AllHaveRoom xs → total xs / nanos_per_second ≤ u64_max
-room_is_duration xs h = grind (arith, common_steps, room_fits, room_tells)
+room_is_duration xs h = grind (arith, (room_fits 0 xs), (room_tells xs))

@@ -1,10 +1,9 @@
 -- The longest prefix of a text that passes a test, and what follows it.
 use Rattle.std.proofs.lemmas.Grind.{common_steps}
-use Rattle.std.proofs.Common.{◌≡◌, ◌≢◌, ℕ, ◌≤◌, ◌<◌, Bool, true, false, List, [], ◌∷◌, ◌++◌, length, refl, ap, inl, inr, arith, length-append}
+use Rattle.std.proofs.Common.{◌≡◌, ◌≢◌, ℕ, ◌≤◌, Bool, true, false, List, [], ◌∷◌, ◌++◌, length, refl, ap, inl, inr, arith, length-append}
 use Rattle.std.proofs.lemmas.Bool.{cases_Bool}
 use Rattle.humantime.specs.Texts.{take_while, drop_while, begins, ends}
-use Rattle.humantime.specs.Durations.Characters.{is_letter}
-use Rattle.humantime.specs.Durations.Spans.{HasOnly, IsLetters}
+use Rattle.humantime.specs.Durations.Spans.{HasOnly}
 
 pub take_while-drop_while : (p : ℕ → Bool) (cs : List ℕ) → take_while p cs ++ drop_while p cs ≡ cs
 take_while-drop_while p [] = refl
@@ -34,15 +33,6 @@ drop_while-append p (x ∷ xs) ys h e = rw (h.0) (drop_while-append p xs ys h.1 
 pub drop_while_shorter : (p : ℕ → Bool) (cs : List ℕ) → length (drop_while p cs) ≤ length cs
 drop_while_shorter p cs = omega (arith, ap length (take_while-drop_while p cs), length-append (take_while p cs) (drop_while p cs))
 
-pub begins_some : (p : ℕ → Bool) (cs : List ℕ) → begins p cs ≡ true → 0 < length cs
-begins_some p cs h = grind arith
-
-pub begins_not_nil : (p : ℕ → Bool) (cs : List ℕ) → begins p cs ≡ true → cs ≢ []
-begins_not_nil p cs h = grind arith
-
-pub letters_begin : (cs : List ℕ) → IsLetters cs → begins is_letter cs ≡ true
-letters_begin cs h = grind arith
-
 pub ends_only : (p : ℕ → Bool) (cs : List ℕ) → HasOnly p cs → cs ≢ [] → ends p cs ≡ true
 ends_only p [] h some = absurd (some refl)
 ends_only p (c ∷ cs) h some = grind (arith, (ends_only p cs h.1))
@@ -58,6 +48,5 @@ begins-append p xs ys h = grind (arith, common_steps)
 
 pub ends-append : (p : ℕ → Bool) (xs ys : List ℕ) → ys ≢ [] → ends p (xs ++ ys) ≡ ends p ys
 ends-append p [] ys some = refl
-ends-append p (x ∷ []) [] some = absurd (some refl)
-ends-append p (x ∷ []) (y ∷ ys) some = refl
+ends-append p (x ∷ []) ys some = grind arith
 ends-append p (x ∷ z ∷ xs) ys some = ends-append p (z ∷ xs) ys some

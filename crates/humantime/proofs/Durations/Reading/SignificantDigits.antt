@@ -1,5 +1,5 @@
 -- The digits of a fraction without its trailing zeros.
-use Rattle.std.proofs.Common.{◌≡◌, ◌≤◌, ◌<◌, ◌+◌, ◌*◌, ◌/◌, ◌%◌, ◌^◌, ℕ, Bool, true, false, List, [], ◌∷◌, ◌++◌, length, refl, sym, ap, ◌∙◌, arith, length-append, append_assoc, reverse}
+use Rattle.std.proofs.Common.{◌≡◌, ◌≤◌, ◌<◌, ◌+◌, ◌*◌, ◌/◌, ◌%◌, ◌^◌, ℕ, Bool, true, false, List, [], ◌∷◌, ◌++◌, length, refl, arith, length-append, append_assoc, reverse}
 use Rattle.std.specs.Prelude.{◌==◌}
 use Rattle.std.specs.Char.{digit_value}
 use Rattle.std.specs.Str.Parse.{digits_value_after}
@@ -12,7 +12,7 @@ use Rattle.humantime.specs.Texts.{take_while, drop_while, decimal_value}
 use Rattle.humantime.specs.Durations.Characters.{without_trailing_zeros}
 use Rattle.humantime.specs.Durations.Accepted.{has_whole_part}
 use Rattle.humantime.specs.Durations.Spans.{HasOnly}
-use Rattle.humantime.proofs.Durations.Reading.Runs.{take_while-drop_while, take_while-only, drop_while_shorter}
+use Rattle.humantime.proofs.Durations.Reading.Runs.{take_while-drop_while, take_while-only}
 
 abbrev is_zero : ℕ → Bool
 is_zero d = d == 48
@@ -23,29 +23,30 @@ zeros_of ds = take_while is_zero (reverse ds)
 
 significant_and_zeros : (ds : List ℕ) → ds ≡ without_trailing_zeros ds ++ reverse (zeros_of ds)
 unfolding without_trailing_zeros
-significant_and_zeros ds =
-    sym (reverse-reverse ds) ∙ ap reverse (sym (take_while-drop_while is_zero (reverse ds))) ∙ reverse-append (zeros_of ds) (drop_while is_zero (reverse ds))
+significant_and_zeros ds = grind (arith, common_steps, reverse-append, reverse-reverse, (take_while-drop_while is_zero (reverse ds)))
 
 -- Another digit than zero keeps all digits before it.
 pub significant_last : (ds : List ℕ) (d : ℕ) → (d == 48) ≡ false → without_trailing_zeros (ds ++ d ∷ []) ≡ ds ++ d ∷ []
 unfolding without_trailing_zeros
-significant_last ds d e = rw (reverse-append ds (d ∷ []), e) (reverse-append (d ∷ []) (reverse ds) ∙ ap (λ (l : List ℕ). l ++ d ∷ []) (reverse-reverse ds))
+significant_last ds d e = grind (arith, common_steps, reverse-append, reverse-reverse)
 
 pub significant_zero : (ds : List ℕ) → without_trailing_zeros (ds ++ 48 ∷ []) ≡ without_trailing_zeros ds
 unfolding without_trailing_zeros
 significant_zero ds = rw (reverse-append ds (48 ∷ []))
 
 drop_while_long : (p : ℕ → Bool) (xs ys : List ℕ) (d : ℕ) → p d ≡ false → length ys < length (drop_while p (xs ++ d ∷ ys))
-drop_while_long p [] ys d e = rw e (omega arith)
-drop_while_long p (x ∷ xs) ys d e = grind (arith, (drop_while_long p xs ys d e), (length-append xs (d ∷ ys)))
+drop_while_long p [] ys d e = grind arith
+drop_while_long p (x ∷ xs) ys d e = grind (arith, (drop_while_long p xs ys d e), length-append)
 
 pub significant_long : (ds es : List ℕ) (d : ℕ) → (d == 48) ≡ false → length ds < length (without_trailing_zeros (ds ++ d ∷ es))
 unfolding without_trailing_zeros
 significant_long ds es d e = grind (arith, common_steps, reverse-append, append_assoc, length-reverse, drop_while_long)
 
+zeros_count : (ds : List ℕ) → length ds ≡ length (without_trailing_zeros ds) + length (zeros_of ds)
+zeros_count ds = grind (arith, (significant_and_zeros ds), length-append, length-reverse)
+
 pub significant_shorter : (ds : List ℕ) → length (without_trailing_zeros ds) ≤ length ds
-unfolding without_trailing_zeros
-significant_shorter ds = omega (arith, length-reverse (drop_while is_zero (reverse ds)), drop_while_shorter is_zero (reverse ds), length-reverse ds)
+significant_shorter ds = omega (arith, zeros_count ds)
 
 -- ---- trailing zeros only change a power of ten
 
@@ -56,9 +57,6 @@ digits_value-append v (d ∷ ds) es = digits_value-append (v * 10 + digit_value 
 zeros_value : (v : ℕ) (zs : List ℕ) → HasOnly is_zero zs → digits_value_after 10 v (reverse zs) ≡ v * 10 ^ length zs
 zeros_value v [] only = omega arith
 zeros_value v (z ∷ zs) only = grind (arith, (reverse-append (z ∷ []) zs), digits_value-append, (zeros_value v zs only.1), (pow-suc 10 (length zs)), (mul_assoc v (10 ^ length zs) 10))
-
-zeros_count : (ds : List ℕ) → length ds ≡ length (without_trailing_zeros ds) + length (zeros_of ds)
-zeros_count ds = omega (arith, ap length (significant_and_zeros ds), length-append (without_trailing_zeros ds) (reverse (zeros_of ds)), length-reverse (zeros_of ds))
 
 -- Each trailing zero multiplies the value by ten.
 pub value_shifted : (ds : List ℕ) (z : ℕ) → length ds ≡ length (without_trailing_zeros ds) + z → decimal_value ds ≡ decimal_value (without_trailing_zeros ds) * 10 ^ z
@@ -72,10 +70,8 @@ pub whole_part_kept : (f : ℕ) (ds : List ℕ) → has_whole_part f ds ≡ true
 whole_part_kept f ds h =
     let by = 10 ^ length (zeros_of ds) in
     let kept = decimal_value (without_trailing_zeros ds) * f in
-    let some : 0 < by = one-le-pow (length (zeros_of ds)) 10 (omega arith) in
-    let parts : (decimal_value ds * f ≤ 18446744073709551615) × (decimal_value ds * f % 10 ^ length ds ≡ 0) = grind (arith, common_steps) in
-    let rest : kept * by % (10 ^ length (without_trailing_zeros ds) * by) ≡ 0 = rw (← product_shifted f ds, ← pow-add 10 (length (without_trailing_zeros ds)) (length (zeros_of ds)), ← zeros_count ds) parts.1 in
-    grind (arith, common_steps, (mod-eq-zero_of_dvd _ (dvd_of_mul-dvd-mul_right (10 ^ length (without_trailing_zeros ds)) some (dvd_of_mod-eq-zero _ rest))), (le-mul_of_pos_right kept some), (product_shifted f ds), parts)
+    let rest : kept * by % (10 ^ length (without_trailing_zeros ds) * by) ≡ 0 = grind (arith, common_steps, (product_shifted f ds), zeros_count, pow-add) in
+    grind (arith, common_steps, mod-eq-zero_of_dvd, dvd_of_mul-dvd-mul_right, dvd_of_mod-eq-zero, one-le-pow, le-mul_of_pos_right, (product_shifted f ds), rest)
 
 pub amount_kept : (f : ℕ) (ds : List ℕ) → decimal_value ds * f / 10 ^ length ds ≡ decimal_value (without_trailing_zeros ds) * f / 10 ^ length (without_trailing_zeros ds)
 amount_kept f ds = grind (arith, product_shifted, zeros_count, pow-add, mul-div-mul_right, one-le-pow)

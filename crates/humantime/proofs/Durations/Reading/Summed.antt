@@ -1,6 +1,6 @@
 -- The sum of spans by the reference, and whether they are within the limits.
-use Rattle.std.proofs.Common.{true, ◌≡◌, ◌⊎◌, ℕ, ◌+◌, List, [], ◌∷◌, ◌++◌, Option, Some, None, Result, Ok, Err, map, refl, arith}
-use Rattle.std.specs.Prelude.{Bool, ◌&&◌, if◌then◌else◌}
+use Rattle.std.proofs.Common.{true, ◌≡◌, ◌⊎◌, ℕ, ◌+◌, List, [], ◌∷◌, ◌++◌, Option, Result, Ok, Err, map, refl, arith}
+use Rattle.std.specs.Prelude.{Bool, ◌&&◌, if◌then◌else◌, option_map, unwrap_or}
 use Rattle.std.specs.Bool.{Decides}
 use Rattle.std.specs.List.{AllByRecursion}
 use Rattle.std.proofs.lemmas.List.Sums.{sum_by-append}
@@ -29,35 +29,22 @@ sum_spans-is t (s ∷ ss) items = grind (arith, add_all-is, (value-cons s ss), (
 -- Spans keep the limits if and only if each fits and no addition overflows.
 within_from-is : (t : ℕ) (ss : List SpelledSpan) → Decides (within_from t ss) (AllByRecursion (λ s. fits s ≡ true) ss × (room_from t (additions ss) ≡ true))
 within_from-is t [] = grind arith
-within_from-is t (s ∷ ss) = grind (arith, (room_from-append t (additions_of s) (additions ss)), (within_from-is (t + total (additions_of s)) ss))
+within_from-is t (s ∷ ss) = grind (arith, room_from-append, (within_from-is (t + total (additions_of s)) ss))
 
 pub within_tells : (ss : List SpelledSpan) → AllByRecursion Formed ss → Decides (within_from 0 ss) (WithinLimits ss)
 within_tells ss f = grind (arith, (within_from-is 0 ss), (room_tells (additions ss)))
 
--- The sum of spans that an error may stop: the value, or else the fault.
-pub sum_spans_within : (spans : List SpelledSpan) (stop : Option Fault) → WithinLimits spans → sum_spans 0 (items_of spans stop) ≡ sum_spans (value spans) (items_of [] stop)
-sum_spans_within spans stop g = grind (arith, (sum_spans-is 0 spans (items_of [] stop)), (within_tells spans g.formed))
-
 pub within_or_beyond : (spans : List SpelledSpan) → AllByRecursion Formed spans → WithinLimits spans ⊎ ¬ (WithinLimits spans)
 within_or_beyond spans f = grind (arith, (within_tells spans f))
 
-pub sum_too_large : (spans : List SpelledSpan) (stop : Option Fault) → AllByRecursion Formed spans → ¬ (WithinLimits spans) → sum_spans 0 (items_of spans stop) ≡ Err NumberOverflow
-sum_too_large spans stop f bad = grind (arith, (sum_spans-is 0 spans (items_of [] stop)), (within_tells spans f))
-
--- The converse.
-pub summed_value : (spans : List SpelledSpan) (stop : Option Fault) (v : ℕ) → AllByRecursion Formed spans → sum_spans 0 (items_of spans stop) ≡ Ok v → (stop ≡ None) × WithinLimits spans × (value spans ≡ v)
+-- The sum of spans that an error may stop: the value or that error if they are within the limits, and otherwise an overflow.
+pub spans_summed : (spans : List SpelledSpan) (stop : Option Fault) → AllByRecursion Formed spans
+    → (WithinLimits spans × (sum_spans 0 (items_of spans stop) ≡ unwrap_or (option_map Err stop) (Ok (value spans))))
+    ⊎ (¬ (WithinLimits spans) × (sum_spans 0 (items_of spans stop) ≡ Err NumberOverflow))
 unfolding sum_spans
-summed_value spans stop v f h = grind (arith, (within_or_beyond spans f), (sum_spans_within spans stop), (sum_too_large spans stop f))
-
-pub summed_fault : (spans : List SpelledSpan) (stop : Option Fault) (e : Fault) → AllByRecursion Formed spans → sum_spans 0 (items_of spans stop) ≡ Err e
-    → (WithinLimits spans × (stop ≡ Some e)) ⊎ (¬ (WithinLimits spans) × (NumberOverflow ≡ e))
-unfolding sum_spans
-summed_fault spans stop e f h = grind (arith, (within_or_beyond spans f), (sum_spans_within spans stop), (sum_too_large spans stop f))
+spans_summed spans stop f = grind (arith, (sum_spans-is 0 spans (items_of [] stop)), (within_tells spans f))
 
 -- The first spans of a list are within the limits if all are.
-within_from-front : (t : ℕ) (ss ts : List SpelledSpan) → within_from t (ss ++ ts) ≡ true → within_from t ss ≡ true
+pub within_from-front : (t : ℕ) (ss ts : List SpelledSpan) → within_from t (ss ++ ts) ≡ true → within_from t ss ≡ true
 within_from-front t [] ts h = refl
 within_from-front t (s ∷ ss) ts h = grind (arith, (within_from-front (t + total (additions_of s)) ss ts))
-
-pub within_front : (ss ts : List SpelledSpan) → AllByRecursion Formed ss → WithinLimits (ss ++ ts) → WithinLimits ss
-within_front ss ts f g = grind (arith, (within_tells (ss ++ ts) g.formed), (within_from-front 0 ss ts), (within_tells ss f))

@@ -1,5 +1,5 @@
 -- The list of the views of the items of a text.
-use Rattle.std.proofs.Common.{◌≡◌, ◌≢◌, ◌++◌, IsUtf8, chars, encode_utf8_all, arith, ℕ, Bool, true, List, [], ◌∷◌, map, Option, Result, Err, refl, sym, ap, ◌∙◌}
+use Rattle.std.proofs.Common.{◌≡◌, ◌≢◌, IsUtf8, chars, arith, ℕ, Bool, true, List, [], ◌∷◌, map, Option, Result, Err, refl}
 use Rattle.std.proofs.lemmas.Str.{encodes-chars, encode_ascii}
 use Rattle.humantime.specs.Texts.{drop_while}
 use Rattle.humantime.specs.Durations.Characters.{is_whitespace, bare_zero}
@@ -20,16 +20,15 @@ use Rattle.humantime.proofs.Durations.Bytes.Trimming.{spelled_at}
 -- The views of the spans of a walk represent these spans.
 spans_read : (text : List ℕ) (starts : List (List ℕ)) (stop : Option Fault) → map span_in (items_of (map (view_at text) starts) stop) ≡ items_of (map span_of starts) stop
 spans_read text [] stop = grind arith
-spans_read text (rest ∷ starts) stop = grind (arith, (spelled_at text rest), (spans_read text starts stop))
+spans_read text (rest ∷ starts) stop = grind (arith, spelled_at, (spans_read text starts stop))
 
 -- Unless the text is `0`, the sum of its items is its outcome.
 sum_views_outcome : (text : List ℕ) → text ≢ bare_zero → sum_spans 0 (map span_in (item_views text)) ≡ duration_answer text
-sum_views_outcome text some = ap (sum_spans 0) (spans_read text (walk_of text).starts (walk_of text).stop) ∙ sym (duration_answer-items text some)
+sum_views_outcome text some = grind (arith, spans_read, (duration_answer-items text some))
 
 -- The same for the bytes of the text, since a text whose one character is `0` is that byte.
 pub sum_answers : (bs : List ℕ) → IsUtf8 bs → bs ≢ bare_zero → sum_spans 0 (map span_in (item_views (chars bs))) ≡ duration_answer (chars bs)
-sum_answers bs u n =
-    sum_views_outcome (chars bs) (λ e. n (sym (encodes-chars bs u) ∙ ap encode_utf8_all e ∙ ap (◌++ []) (encode_ascii 48 (omega arith))))
+sum_answers bs u n = sum_views_outcome (chars bs) (λ e. n (grind (arith, (encodes-chars bs u), encode_ascii)))
 
 -- Each span of a walk has its view, up to the rest that the walk leaves.
 abbrev Lends : List ℕ → Bool → List ℕ → Walk → Type 0
@@ -59,4 +58,4 @@ one_span_view text others o =
 pub first_error_answers : (text : List ℕ) (listed others : List (Result SpanView Fault)) (e : Fault) → AreItems text listed
     → listed ≡ Err e ∷ others → text ≢ bare_zero → duration_answer text ≡ Err e
 unfolding sum_spans
-first_error_answers text listed others e a first some = sym (sum_views_outcome text some) ∙ ap (λ (items : List (Result SpanView Fault)). sum_spans 0 (map span_in items)) (sym (one_span_view text listed a) ∙ first)
+first_error_answers text listed others e a first some = grind (arith, (sum_views_outcome text some), (one_span_view text listed a))

@@ -1,5 +1,5 @@
 -- The view of a span is determined by the text and the span.
-use Rattle.std.proofs.Common.{arith, ◌≡◌, ℕ, Bool, true, ◌&&◌, cond, eqb, List, [], ◌∷◌, ◌++◌, length, Option, Some, refl, sym, ap₂, subst, ◌∙◌}
+use Rattle.std.proofs.Common.{arith, ◌≡◌, ℕ, Bool, true, ◌&&◌, cond, eqb, List, [], ◌∷◌, ◌++◌, length, Option, Some, refl, ap₂, ◌∙◌}
 use Rattle.std.proofs.Math.Bool.{and-false}
 use Rattle.std.proofs.lemmas.Grind.{common_steps}
 use Rattle.std.specs.Str.{drop_trailing_whitespace}
@@ -11,13 +11,13 @@ use Rattle.humantime.specs.Durations.Faults.{after_number, after_fraction}
 use Rattle.humantime.specs.Durations.Items.{SpanView, IsDigitSlice, IsFractionView, IsSpanView, AreSpanViews}
 use Rattle.humantime.specs.Results.Items.{trimmed, number_slice, fraction_slice}
 use Rattle.humantime.proofs.Durations.Reading.Classes.{whitespace_is, digit_not_whitespace}
-use Rattle.humantime.proofs.Durations.Reading.Runs.{drop_while-append, letters_begin}
+use Rattle.humantime.proofs.Durations.Reading.Runs.{drop_while-append}
 use Rattle.humantime.proofs.Durations.Reading.Spelled.{begins_word, read_spelled}
 use Rattle.humantime.proofs.Durations.Bytes.Trimming.{suc_not_zero, no_slice, slice_after_point}
 
 drop_whitespace : (cs : List ℕ) → HasOnly is_whitespace cs → drop_trailing_whitespace cs ≡ []
 drop_whitespace [] o = refl
-drop_whitespace (c ∷ cs) o = rw (drop_whitespace cs o.1, whitespace_is c, o.0)
+drop_whitespace (c ∷ cs) o = grind (arith, (drop_whitespace cs o.1), whitespace_is)
 
 -- Only the whitespace after the last digit is dropped.
 drop_tail : (xs tail : List ℕ) → HasOnly is_whitespace tail → ends is_digit xs ≡ true → drop_trailing_whitespace (xs ++ tail) ≡ xs
@@ -39,10 +39,8 @@ slices_found : (text rest : List ℕ) (s : SpelledSpan) (x : SpanView) (next : L
     × (begins is_digit rest ≡ true)
 slices_found text rest s x next h =
     let k = h.spelled in
-    let r = read_spelled rest next s h.spelled in
-    let letter = begins_word s.word (k.whitespace ++ next) (letters_begin s.word k.word) in
-    let fraction = fraction_found k.fraction_text (s.word ++ (k.whitespace ++ next)) s.fraction x.fraction k.fraction h.fraction letter in
-    grind (arith, r, fraction, h, (trimmed_is k.number_text x.number h.number), digit_not_whitespace)
+    let fraction = fraction_found k.fraction_text (s.word ++ (k.whitespace ++ next)) s.fraction x.fraction k.fraction h.fraction in
+    grind (arith, (read_spelled rest next s k), begins_word, fraction, h, (trimmed_is k.number_text x.number h.number), digit_not_whitespace)
 
 -- Two views of one span are equal, and so are the texts after them.
 one_span : (text rest : List ℕ) (s : SpelledSpan) (x y : SpanView) (m n : List ℕ) (h : IsSpanView text rest s x m) (k : IsSpanView text rest s y n)
@@ -55,7 +53,7 @@ one_span text rest s x y m n h k =
 pub one_view_each : (text p q m n : List ℕ) (spans : List SpelledSpan) (xs ys : List SpanView) (d e : List ℕ) → HasOnly is_whitespace p → HasOnly is_whitespace q → p ++ m ≡ q ++ n → AreSpanViews text m spans xs d → AreSpanViews text n spans ys e → xs ≡ ys
 one_view_each text p q m n (s ∷ ss) (x ∷ xs) (y ∷ ys) d e o u w h k =
     let r : m ≡ n = grind (arith, (drop_while-append is_whitespace p m o), (drop_while-append is_whitespace q n u), digit_not_whitespace) in
-    let l : IsSpanView text m s y k.0 = subst (λ (z : List ℕ). IsSpanView text z s y k.0) (sym r) k.1 in
-    let one = one_span text m s x y h.0 k.0 h.1 l in
-    grind (arith, one, (one_view_each text h.1.spelled.whitespace l.spelled.whitespace h.0 k.0 ss xs ys d e h.1.spelled.only_whitespace l.spelled.only_whitespace one.1 h.2 k.2))
+    let l = rw (← r) at k.1 in
+    let more = one_view_each text h.1.spelled.whitespace l.spelled.whitespace h.0 k.0 ss xs ys d e h.1.spelled.only_whitespace l.spelled.only_whitespace in
+    grind (arith, (one_span text m s x y h.0 k.0 h.1 l), more)
 one_view_each text p q m n spans xs ys d e o u w h k = grind arith

@@ -12,25 +12,20 @@ use Rattle.humantime.proofs.Timestamps.Reading.Shown.{fields_weak}
 use Rattle.humantime.proofs.Timestamps.Reading.Passed.{weak_fields}
 use Rattle.humantime.proofs.Timestamps.Laws.StrictForm.{strict_is_marked_weak, strict_checked}
 
--- If no check fails, the text represents exactly the parts at their positions.
-abbrev AreDecided : List ℕ → List (Bool × TimestampError) → (Fields → Type 0) → Type 0
-AreDecided bytes checks IsShown = (f : Fields) → IsShown f ↔ ((first_failed checks ≡ None) × (f ≡ fields_of bytes))
-
-weak_checks_decide : (bytes : List ℕ) → AreDecided bytes (weak_checks bytes) (IsWeak bytes)
-weak_checks_decide bytes f = (weak_fields bytes f, λ h. rw h.1 (fields_weak bytes h.0))
-
--- Therefore the result by the checks is the one outcome.
-outcome_of_checks : (bytes : List ℕ) (checks : List (Bool × TimestampError)) (IsShown : Fields → Type 0) → AreDecided bytes checks IsShown
+-- If the text represents exactly the parts at their positions, and only if no check fails, then the result by the checks is the one outcome.
+outcome_of_checks : (bytes : List ℕ) (checks : List (Bool × TimestampError)) (IsShown : Fields → Type 0)
+    → ((f : Fields) → IsShown f ↔ ((first_failed checks ≡ None) × (f ≡ fields_of bytes)))
     → HasOneTimestamp checks IsShown (moment_or_error (first_failed checks) (moment_at bytes))
 outcome_of_checks bytes checks IsShown decided = grind (arith, part_digits, decided, (decided (fields_of bytes)))
 
 pub weak_outcome : (bytes : List ℕ) → HasOneTimestamp (weak_checks bytes) (IsWeak bytes) (weak_answer bytes)
 unfolding weak_answer
-weak_outcome bytes = outcome_of_checks bytes (weak_checks bytes) (IsWeak bytes) (weak_checks_decide bytes)
+weak_outcome bytes = outcome_of_checks bytes (weak_checks bytes) (IsWeak bytes) (λ f. grind (arith, (weak_fields bytes f), (fields_weak bytes)))
 
 pub strict_outcome : (bytes : List ℕ) → HasOneTimestamp (strict_checks bytes) (IsStrict bytes) (strict_answer bytes)
 unfolding strict_answer
-strict_outcome bytes = outcome_of_checks bytes (strict_checks bytes) (IsStrict bytes) (λ f. grind (arith, (strict_checked bytes f), (weak_checks_decide bytes f)))
+strict_outcome bytes =
+    outcome_of_checks bytes (strict_checks bytes) (IsStrict bytes) (λ f. grind (arith, (strict_checked bytes f), (weak_fields bytes f), (fields_weak bytes)))
 
 -- The result of the strict form, by its own check.
 pub strict_by_marks : (bytes : List ℕ) → (if has_t_and_zone bytes then weak_answer bytes else Err InvalidFormat) ≡ strict_answer bytes
@@ -38,4 +33,4 @@ unfolding weak_answer strict_answer
 strict_by_marks bytes = grind arith
 
 pub strict_moment_is_weak : (bytes : List ℕ) (t : ℤ) → IsStrictMoment bytes t ↔ (IsWeakMoment bytes t × IsMarked bytes)
-strict_moment_is_weak bytes t = ((λ m. grind (arith, (strict_is_marked_weak bytes m.0))), (λ p. grind (arith, (strict_is_marked_weak bytes p.0.0))))
+strict_moment_is_weak bytes t = grind (arith, (strict_is_marked_weak bytes))

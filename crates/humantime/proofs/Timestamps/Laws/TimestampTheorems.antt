@@ -45,10 +45,6 @@ strict_is_weak text =
 printed_read : (t : ℤ) (k : ℕ) (text : List ℕ) → IsPrinted t k text → strict_answer text ≡ Ok (cut t k)
 printed_read t k text printed = ((read.strict_outcome text).value (cut t k)).1 (printed_reads t k text printed).strict
 
--- A moment has at most nine fraction digits.
-cut_whole : (t : ℤ) → cut t 9 ≡ t
-cut_whole t = grind (arith, ints)
-
 pub printed_moment_reads : (t : ℤ) (k : ℕ) → k ≤ 9 → MomentPrintsAndReads t k
 printed_moment_reads t k small = record {
   one = λ h. let some = printed_some t k small h in (some.0, some.2, λ other p. one_text t k other some.0 p some.2);
@@ -56,7 +52,7 @@ printed_moment_reads t k small = record {
   reads = printed_reads t k;
   strict = printed_read t k;
   weak = λ text printed. ((read.weak_outcome text).value (cut t k)).1 (printed_reads t k text printed).weak;
-  whole = cut_whole t;
+  whole = grind (arith, ints);
 }
 
 -- What `Display` wrote for a timestamp that is known.
@@ -82,27 +78,26 @@ texts_in_order k x y a b p q left right =
     grind (arith, printed_read p.0 k x p.1, printed_read q.0 k y q.1, stamps_in_order p.0 q.0 k x y p.1 q.1)
 
 -- The order of two moments as an inequality.
-moment_at_most : (a b : ℤ) → IsTrue (is_le (int_cmp a b)) ↔ (a ≤ℤ b)
-moment_at_most a b = grind (arith, ints)
-
-moment_before : (a b : ℤ) → IsTrue (is_lt (int_cmp a b)) ↔ (a <ℤ b)
-moment_before a b = grind (arith, ints)
+order_of_moments : (a b : ℤ) → (IsTrue (is_le (int_cmp a b)) ↔ (a ≤ℤ b)) × (IsTrue (is_lt (int_cmp a b)) ↔ (a <ℤ b))
+order_of_moments a b = grind (arith, ints)
 
 -- A printed text is between two others, including the first of them, if and only if its moment is between theirs.
 pub stamps_between : (a b t : ℤ) (k : ℕ) (x y text : List ℕ) → IsPrinted a k x → IsPrinted b k y → IsPrinted t k text
     → (IsTrue (is_le (slice_cmp nat_cmp x text)) × IsTrue (is_lt (slice_cmp nat_cmp text y)))
     ↔ ((u : ℤ) × (strict_answer text ≡ Ok u) × (cut a k ≤ℤ u) × (u <ℤ cut b k))
 stamps_between a b t k x y text first second printed =
-    grind (arith, (printed_read t k text printed), (stamps_in_order a t k x text first printed), (stamps_in_order t b k text y printed second), (moment_at_most (cut a k) (cut t k)), (moment_before (cut t k) (cut b k)))
+    let lower = stamps_in_order a t k x text first printed in
+    let upper = stamps_in_order t b k text y printed second in
+    grind (arith, (printed_read t k text printed), lower, upper, order_of_moments)
 
 -- The order of bytes for each number of digits that a printer prints. A caller that compares texts is proved with `using` one of these, and
 -- needs no proof by hand.
 earlier : (a b : ℤ) (k : ℕ) (x y : List ℕ) → IsPrinted a k x → IsPrinted b k y → (cut a k <ℤ cut b k) ↔ IsTrue (is_lt (slice_cmp nat_cmp x y))
-earlier a b k x y p q = grind (arith, (stamps_in_order a b k x y p q), (moment_before (cut a k) (cut b k)))
+earlier a b k x y p q = grind (arith, (stamps_in_order a b k x y p q), (order_of_moments (cut a k) (cut b k)))
 
 pub earlier_in_millis : (a b : ℤ) (x y : List ℕ) → IsPrinted a 3 x → IsPrinted b 3 y → (cut a 3 <ℤ cut b 3) ↔ IsTrue (is_lt (slice_cmp nat_cmp x y))
 earlier_in_millis a b x y = earlier a b 3 x y
 
 -- With nine digits nothing is rounded.
 pub earlier_in_nanos : (a b : ℤ) (x y : List ℕ) → IsPrinted a 9 x → IsPrinted b 9 y → (a <ℤ b) ↔ IsTrue (is_lt (slice_cmp nat_cmp x y))
-earlier_in_nanos a b x y p q = rw (cut_whole a, cut_whole b) at (earlier a b 9 x y p q)
+earlier_in_nanos a b x y p q = grind (arith, ints, (earlier a b 9 x y p q))
