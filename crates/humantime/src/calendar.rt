@@ -10,12 +10,6 @@ use std::marker::Model;
 use std::mem;
 use std::snapshot::Snapshot;
 
-/// The first supported year.
-const FIRST_YEAR: u32 = 1970;
-
-/// The last supported year.
-const LAST_YEAR: u32 = 9999;
-
 /// The number of days from 1970-01-01 to 9999-12-31.
 const LAST_DAY: u32 = 2_932_896;
 
@@ -25,7 +19,7 @@ const DAYS_BEFORE_MONTH: [u32; 12] = [0, 31, 59, 90, 120, 151, 181, 212, 243, 27
 /// The number of days in each month of a common year, starting with January.
 const MONTH_LENGTHS: [u32; 12] = [31, 28, 31, 30, 31, 30, 31, 31, 30, 31, 30, 31];
 
-/// The number of days from 1 March to the first day of each month, from March to February.
+/// For each month, starting with March: the number of days from 1 March to its first day.
 const DAYS_BEFORE_MARCH_MONTH: [u32; 12] = [0, 31, 61, 92, 122, 153, 184, 214, 245, 275, 306, 337];
 
 /// The number of days from 1970-01-01 to 2000-03-01, on which a cycle of 400 years begins.
@@ -34,17 +28,17 @@ const MARCH_2000: u32 = 11_017;
 /// The number of days in 400 years.
 const DAYS_PER_400_YEARS: u32 = 146_097;
 
-/// The number of days in a century that does not end with a leap day.
+/// The number of days in 100 years from 1 March on that do not end with a leap day.
 const DAYS_PER_100_YEARS: u32 = 36_524;
 
-/// The number of days in four years that end with a leap day.
+/// The number of days in four years from 1 March on that end with a leap day.
 const DAYS_PER_4_YEARS: u32 = 1_461;
 
 /// The number of days in a common year.
 const DAYS_PER_YEAR: u32 = 365;
 
-/// A count as a unary number: `Start` is 0, and `Next` adds 1. `Next` holds a snapshot of the field `chain` of [`Turns`], which is itself
-/// a snapshot. Snapshots take no bytes.
+/// A count as a unary number: `Start` is 0, and `Next` adds 1. `Next` holds a snapshot of the previous count: of the field `chain` of
+/// [`Turns`], which is a snapshot itself. Snapshots take no bytes.
 #[derive(Drop)]
 enum Chain {
     Start,
@@ -97,9 +91,8 @@ impl Turns {
     pub fn new() -> Turns
         ensures { result ≡ 0 }
     {
-        Turns {
-            chain: Snapshot::of(&Chain::Start),
-        }
+        let chain = Snapshot::of(&Chain::Start);
+        Turns { chain }
     }
 
     /// Counts one iteration.
@@ -142,7 +135,7 @@ fn days_before_year(year: u32) -> u32
     requires { IsInRange 1970 9999 year }
     ensures { result ≡ days_of_years (year - 1970) }
 {
-    // 1969, 1901 and 1601 follow multiples of 4, 100 and 400, so each quotient is the number of such multiples from 1970 to `year - 1`.
+    // `(year - 1969) / 4` is the number of multiples of 4 from 1970 to `year - 1`, because 1968 is one. Likewise 1900 of 100, and 1600 of 400.
     365 * (year - 1970) + (year - 1969) / 4 - (year - 1901) / 100 + (year - 1601) / 400
 }
 
@@ -208,7 +201,7 @@ pub fn day_number(date: Date, turns: &mut Turns) -> Option<u32>
 {
     // There is no loop, so nothing is counted.
     let _ = turns;
-    if date.year < FIRST_YEAR || date.year > LAST_YEAR || date.month < 1 || date.month > 12 {
+    if date.year < 1970 || date.year > 9999 || date.month < 1 || date.month > 12 {
         return None;
     }
     if date.day < 1 || date.day > month_length(date.year, date.month) {
@@ -218,10 +211,11 @@ pub fn day_number(date: Date, turns: &mut Turns) -> Option<u32>
     Some(days + date.day - 1)
 }
 
-/// Returns the year of a day, counted from 1600 (below 8400), and the zero-based index of the day in that year (below 366). `day` is
-/// counted from 1970-01-01. Years begin on 1 March here, and 1600-03-01 is 135,080 days before 1970-01-01.
+/// Splits a day, counted from 1970-01-01, into the number of years from 1600-03-01 (below 8400) and the zero-based index of the day in its
+/// year (below 366). Years begin on 1 March here, so that a leap day is the last day of its year. 1600-03-01 is 135,080 days before
+/// 1970-01-01.
 ///
-/// The last century of a cycle and the last of four years have an extra day. On that day the quotient would be 4, so it is capped at 3.
+/// The last century of 400 years and the last of four years have an extra day, on which the quotient would be 4, so both are capped at 3.
 #[inline(always)]
 fn march_year(day: u32) -> (u32, u32)
     requires { day ≤ 2_932_896 }
@@ -237,33 +231,8 @@ fn march_year(day: u32) -> (u32, u32)
     let fours = in_century / DAYS_PER_4_YEARS;
     let in_four = in_century % DAYS_PER_4_YEARS;
     let years = (in_four / DAYS_PER_YEAR).min(3);
-    (
-        400 * cycles + 100 * centuries + 4 * fours + years,
-        in_four - years * DAYS_PER_YEAR,
-    )
-}
-
-/// Returns the date at the zero-based `day_index` in a month. `year` begins on 1 March and is counted from 1600. Month 0 is March, and
-/// months 10 and 11 are January and February of the next calendar year.
-#[inline(always)]
-fn march_date(year: u32, month: u32, day_index: u32) -> Date
-    requires year { year < 8400 }
-    requires day { day_index < 366 }
-    ensures { result ≡ Dates.march_date year month day_index }
-{
-    if month < 10 {
-        Date {
-            year: 1600 + year,
-            month: month + 3,
-            day: day_index + 1,
-        }
-    } else {
-        Date {
-            year: 1601 + year,
-            month: month - 9,
-            day: day_index + 1,
-        }
-    }
+    let year = 400 * cycles + 100 * centuries + 4 * fours + years;
+    (year, in_four - years * DAYS_PER_YEAR)
 }
 
 /// Returns the date `day` days after 1970-01-01, or `None` if `day` is above 2932896 (9999-12-31).
@@ -294,15 +263,15 @@ pub fn date_of_day(day: u32, turns: &mut Turns) -> Option<Date>
         return None;
     }
     let (year, day_of_year) = march_year(day);
-    // The months that have begun by this day, March included.
+    // The months that have begun by this day, March included. A loop without an exit is faster than one that ends at the month.
     let mut begun = 0;
     for month in 0..12_usize {
         turns.tick();
-        if day_of_year >= DAYS_BEFORE_MARCH_MONTH[month] {
-            begun += 1;
-        }
+        begun += (day_of_year >= DAYS_BEFORE_MARCH_MONTH[month]) as u32;
     }
-    let month = begun - 1;
-    let day_index = day_of_year - DAYS_BEFORE_MARCH_MONTH[month as usize];
-    Some(march_date(year, month, day_index))
+    // Months 11 and 12 of a year from March on are January and February of the next calendar year.
+    let year = 1600 + year + (begun > 10) as u32;
+    let month = (begun + 1) % 12 + 1;
+    let day = day_of_year - DAYS_BEFORE_MARCH_MONTH[begun as usize - 1] + 1;
+    Some(Date { year, month, day })
 }

@@ -24,8 +24,13 @@ pub before_year : (y m d : ℕ) → AreWithin y m d → (later : ℕ) → y < la
 before_year y m d valid later less =
     grind (arith, (before_month y m d valid 13), (days_of_months_closed y 13), days_of_years_closed, (march_days_next y))
 
+-- The same of a date that exists.
+pub before_later : (d : Date) → IsDate d → ((later : ℕ) → d.year < later → day_of d < days_of_years (later - 1970))
+    × ((later : ℕ) → d.month < later → days_of_months d.year (d.month - 1) + (d.day - 1) < days_of_months d.year (later - 1))
+before_later d valid = let within = valid_from_test d.year d.month d.day valid in (before_year d.year d.month d.day within, before_month d.year d.month d.day within)
+
 pub same_date : (a b : Date) → IsDate a → IsDate b → day_of a ≡ day_of b → a ≡ b
-same_date a b valid valid' same = grind (arith, valid_from_test, (before_year a.year a.month a.day), (before_year b.year b.month b.day), (before_month a.year a.month a.day), (before_month b.year b.month b.day))
+same_date a b valid valid' same = grind (arith, valid_from_test, (before_later a valid), (before_later b valid'))
 
 pub one_date : (day : ℕ) → day ≤ 2_932_896 → ExactlyOne (IsDateOfDay day)
 one_date day few =
