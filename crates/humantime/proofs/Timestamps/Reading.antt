@@ -2,7 +2,6 @@
 pub mod Bytes
 pub mod Checks
 pub mod Ends
-pub mod Exits
 pub mod Fractions
 pub mod Lanes
 pub mod Numbers

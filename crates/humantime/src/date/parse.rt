@@ -18,42 +18,27 @@ use crate::value::SystemTime;
 use std::simd::prelude::*;
 
 // The first 19 bytes of a timestamp are read as two vectors of 16 bytes, the front from byte 0 and the back from byte 3. The tables are
-// statics that are read as slices: the kit's own back end loads such a vector with one instruction, and builds any other with five.
+// statics that are read as slices: the kit's own back end loads such a vector with one instruction, and takes five for a literal.
 
-/// The least byte that is allowed at each of the bytes 0 to 15 of a timestamp.
+/// The least byte that is allowed at each of the bytes 0 to 15 of a timestamp, except for byte 10, the separator.
 static FRONT_MIN: [u8; 16] = *b"0000-00-00 00:00";
 
-/// How far each byte of the front may be above its minimum: 9 for a digit and 0 for punctuation. The separator, byte 10, may be any byte
-/// here, because it is tested separately.
+/// How far each byte of the front may be above its minimum: 9 for a digit and 0 for punctuation. The separator may be any byte here, and is
+/// tested separately.
 static FRONT_RANGE: [u8; 16] = [9, 9, 9, 9, 0, 9, 9, 0, 9, 9, 255, 9, 9, 0, 9, 9];
 
 /// The least byte that is allowed at each of the 16 bytes from byte 3 on.
 static BACK_MIN: [u8; 16] = *b"0-00-00 00:00:00";
 
-/// How far each byte of the back may be above its minimum. Bytes 3 to 15 may be any bytes here, because `FRONT_RANGE` covers them.
-static BACK_RANGE: [u8; 16] = [
-    255, 255, 255, 255, 255, 255, 255, 255, 255, 255, 255, 255, 255, 0, 9, 9,
-];
+/// How far each byte of the back may be above its minimum.
+static BACK_RANGE: [u8; 16] = [9, 0, 9, 9, 0, 9, 9, 255, 9, 9, 0, 9, 9, 0, 9, 9];
 
-/// The weight of each of the first 16 bytes in `dot4` of the kit, which adds up each group of four. The sums are the year divided by 10,
-/// because a weight of 1000 does not fit in a `u8`, the month, the day and the minute.
+/// The weight of each of the first 16 bytes in `dot4` of the kit, which adds up each group of four. The sums are the first three digits of the
+/// year, the month, the day and the minute. The last digit of the year is in the back, because a weight of 1000 does not fit in a `u8`.
 static FRONT_WEIGHTS: [u8; 16] = [100, 10, 1, 0, 0, 10, 1, 0, 10, 1, 0, 0, 0, 0, 10, 1];
 
 /// The weight of each of the 16 bytes from byte 3 on. The sums are the last digit of the year, 0, the hour and the second.
 static BACK_WEIGHTS: [u8; 16] = [1, 0, 0, 0, 0, 0, 0, 0, 10, 1, 0, 0, 0, 0, 10, 1];
-
-/// The value in nanoseconds of a 1 at each of the first nine decimal places.
-static PLACE_VALUES: [u32; 9] = [
-    100_000_000,
-    10_000_000,
-    1_000_000,
-    100_000,
-    10_000,
-    1_000,
-    100,
-    10,
-    1,
-];
 
 /// A date and a time of day, which may be out of range.
 #[derive(Clone, Copy)]
@@ -137,7 +122,7 @@ pub fn parse_rfc3339(s: &str) -> Result<SystemTime, TimestampError>
 
 /// Returns `true` if the text has at least 20 bytes, byte 10 is a `T`, and a zone is at the end.
 #[inline(always)]
-#[tactic(auto, using(crate::proofs::Timestamps::Reading::Ends::zone_cut), unfolding(crate::specs::Timestamps::Checks::has_t_and_zone))]
+#[tactic(auto, unfolding(crate::specs::Timestamps::Checks::has_t_and_zone, crate::specs::Timestamps::Checks::zone_of))]
 fn has_t_and_zone(bytes: &[u8]) -> bool
     ensures { result ≡ Checks.has_t_and_zone bytes.now }
 {
@@ -168,69 +153,46 @@ fn ends_in_zero_offset(bytes: &[u8]) -> bool
 
 /// Parses the bytes of a timestamp in the weak form. Returns the moment, or the error of the first check that fails.
 #[inline(always)]
-#[tactic(auto, using(crate::proofs::Timestamps::Reading::Exits::checks_in_order))]
+#[tactic(auto, using(crate::proofs::Timestamps::Reading::Checks::checks_in_order), unfolding(crate::specs::Timestamps::Checks::has_separator, crate::specs::Results::Timestamps::weak_answer, crate::specs::Steps::Timestamps::has_layout))]
 fn read_timestamp(bytes: &[u8]) -> Result<SystemTime, TimestampError>
     ensures { result ≡ weak_answer bytes.now }
 {
-    if bytes.len() < 19 || !has_separator(bytes) {
+    // Byte 10 separates the date from the time.
+    if bytes.len() < 19 || (bytes[10] != b'T' && bytes[10] != b' ') {
         return Err(TimestampError::InvalidFormat);
     }
     let Some(date_time) = parse_date_time(bytes) else {
         return Err(layout_error(bytes));
     };
-    let Some(seconds) = unix_seconds(date_time) else {
-        return Err(TimestampError::OutOfRange);
-    };
+    let seconds = unix_seconds(date_time).ok_or(TimestampError::OutOfRange)?;
     let nanos = read_fraction(&bytes[19..])?;
     Ok(SystemTime::after_epoch(seconds, nanos))
 }
 
-/// Returns the error of a text of at least 19 bytes for which [`parse_date_time`] returns `None`. Punctuation is tested before the digits.
+/// Returns the error of a text for which [`parse_date_time`] returns `None`. If the punctuation is right, a digit is wrong.
 #[inline(always)]
-#[tactic(auto, using(crate::proofs::Timestamps::Reading::Exits::exit_layout))]
+#[tactic(auto, using(std::proofs::lemmas::Bool::Decides::nat_tests), unfolding(crate::specs::Results::Timestamps::weak_answer, crate::specs::Steps::Timestamps::has_layout, crate::specs::Timestamps::Checks::has_punctuation))]
 fn layout_error(bytes: &[u8]) -> TimestampError
     requires long { 19 ≤ length bytes.now }
+    requires separator { IsTrue (Checks.has_separator bytes.now) }
     requires wrong_layout { Steps.has_layout bytes.now ≡ false }
     ensures { weak_answer bytes.now ≡ Err result }
 {
-    if has_punctuation(bytes) {
+    if bytes[4] == b'-' && bytes[7] == b'-' && bytes[13] == b':' && bytes[16] == b':' {
         TimestampError::InvalidDigit
     } else {
         TimestampError::InvalidFormat
     }
 }
 
-/// Returns `true` if a `T` or a space separates the date from the time.
-#[inline(always)]
-#[tactic(auto, unfolding(crate::specs::Timestamps::Checks::has_separator))]
-fn has_separator(bytes: &[u8]) -> bool
-    requires { 19 ≤ length bytes.now }
-    ensures { result ≡ Checks.has_separator bytes.now }
-{
-    bytes[10] == b'T' || bytes[10] == b' '
-}
-
-/// Returns `true` if the punctuation of the date and the time is in its place.
-#[inline(always)]
-#[tactic(auto, unfolding(crate::specs::Timestamps::Checks::has_punctuation))]
-fn has_punctuation(bytes: &[u8]) -> bool
-    requires { 19 ≤ length bytes.now }
-    ensures { result ≡ Checks.has_punctuation bytes.now }
-{
-    bytes[4] == b'-'
-        && bytes[7] == b'-'
-        && has_separator(bytes)
-        && bytes[13] == b':'
-        && bytes[16] == b':'
-}
-
 /// Returns the date and time in the first 19 bytes, or `None` if a byte is not the digit or punctuation that its position requires.
 /// The caller must have tested the separator.
 ///
 /// All bytes are tested at once. The difference between a byte and its minimum wraps around to a large number if the byte is below it, so
-/// that one saturating subtraction of the range tests both bounds. Then `dot4` multiplies each digit by its weight and adds up the products
-/// of each group of four bytes.
+/// that one saturating subtraction of the range tests both bounds: it leaves 0 exactly if the byte is in range. Then `dot4` multiplies each
+/// digit by its weight and adds up the products of each group of four bytes.
 #[inline(always)]
+#[tactic(auto, using(crate::proofs::Timestamps::Reading::Numbers::sums_fit))]
 fn parse_date_time(bytes: &[u8]) -> Option<DateTime>
     requires long { 19 ≤ length bytes.now }
     requires separator { IsTrue (Checks.has_separator bytes.now) }
@@ -243,17 +205,14 @@ fn parse_date_time(bytes: &[u8]) -> Option<DateTime>
     if !beyond.simd_eq(u8x16::splat(0)).all() {
         return None;
     }
-    let front = front.dot4(u8x16::from_slice(&FRONT_WEIGHTS)).to_array();
-    let back = back.dot4(u8x16::from_slice(&BACK_WEIGHTS)).to_array();
+    let [year, month, day, minute] = front.dot4(u8x16::from_slice(&FRONT_WEIGHTS)).to_array();
+    let [last_digit, _, hour, second] = back.dot4(u8x16::from_slice(&BACK_WEIGHTS)).to_array();
+    let year = year * 10 + last_digit;
     Some(DateTime {
-        date: Date {
-            year: front[0] * 10 + back[0],
-            month: front[1],
-            day: front[2],
-        },
-        hour: back[2],
-        minute: front[3],
-        second: back[3],
+        date: Date { year, month, day },
+        hour,
+        minute,
+        second,
     })
 }
 
@@ -265,7 +224,7 @@ fn unix_seconds(when: DateTime) -> Option<u64>
     ensures value { SomeIff result (IsTrue (is_valid_date_time when)) (seconds_of when.date when.hour when.minute when.second) }
     ensures bound { IfSome result (λ n. n < 2 ^ 63) }
 {
-    // `Turns` counts iterations for contracts alone.
+    // `day_number` takes a count that only contracts see.
     let day = day_number(when.date, &mut Turns::new())?;
     if when.hour > 23 || when.minute > 59 || when.second > 60 {
         return None;
@@ -277,7 +236,7 @@ fn unix_seconds(when: DateTime) -> Option<u64>
 /// Returns the nanoseconds of the fraction in the bytes after the seconds, or 0 if there is no fraction. A zone may follow. Returns an
 /// error if the bytes have any other form.
 #[inline(always)]
-#[tactic(auto, using(crate::proofs::Timestamps::Reading::Fractions::nothing_read), unfolding(crate::specs::Timestamps::Checks::has_point))]
+#[tactic(auto, unfolding(crate::specs::Timestamps::Checks::has_point, crate::specs::Timestamps::Fields::fraction_nanos))]
 fn read_fraction(rest: &[u8]) -> Result<u32, TimestampError>
     ensures { result ≡ fraction_answer (Checks.before_zone rest.now) }
 {
@@ -289,7 +248,7 @@ fn read_fraction(rest: &[u8]) -> Result<u32, TimestampError>
 }
 
 /// Returns the nanoseconds that the digits after a point represent, or an error if a byte is not a digit. Digits after the ninth
-/// are ignored.
+/// do not change the result.
 ///
 /// The loop runs over the nine places and not over the digits, so that LLVM unrolls it.
 #[inline(always)]
@@ -297,7 +256,9 @@ fn fraction_nanos(digits: &[u8]) -> Result<u32, TimestampError>
     ensures { result ≡ digits_answer digits.now }
 {
     let mut nanos = 0;
-    for (place, place_value) in PLACE_VALUES.iter().enumerate() {
+    // The nanoseconds of a 1 at this place.
+    let mut place_value = 100_000_000;
+    for place in 0..9_usize {
         if place == digits.len() {
             return Ok(nanos);
         }
@@ -305,12 +266,12 @@ fn fraction_nanos(digits: &[u8]) -> Result<u32, TimestampError>
         if !digit.is_ascii_digit() {
             return Err(TimestampError::InvalidDigit);
         }
-        nanos += *place_value * (digit - b'0') as u32;
+        nanos += place_value * (digit - b'0') as u32;
+        place_value /= 10;
     }
-    if !are_digits(&digits[9..]) {
-        return Err(TimestampError::InvalidDigit);
-    }
-    Ok(nanos)
+    are_digits(&digits[9..])
+        .then_some(nanos)
+        .ok_or(TimestampError::InvalidDigit)
 }
 
 /// Returns `true` if all bytes are digits.

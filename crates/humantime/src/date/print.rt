@@ -20,18 +20,6 @@ static PAIRS: [u8; 200] = *b"\
     0001020304050607080910111213141516171819202122232425262728293031323334353637383940414243444546474849\
     5051525354555657585960616263646566676869707172737475767778798081828384858687888990919293949596979899";
 
-/// The offset after the seconds of a printed timestamp.
-const SECONDS_END: usize = 19;
-
-/// The offset after the point and three digits.
-const MILLIS_END: usize = 23;
-
-/// The offset after the point and six digits.
-const MICROS_END: usize = 26;
-
-/// The offset after the point and nine digits.
-const NANOS_END: usize = 29;
-
 /// The number of digits in the fraction of a second: none, three, six or nine.
 #[derive(Clone, Copy, PartialEq, Eq, Debug)]
 enum Precision {
@@ -69,8 +57,8 @@ impl Model for Rfc3339Timestamp {
     ghost use Rattle.humantime.specs.declared.date.print.Precision.TheVariants.{Seconds, Millis, Micros, Nanos};
     ghost use Rattle.std.proofs.Common.{arith, lit≤, ◌≤◌};
 
-    // Contracts see the moment and its number of fraction digits: 0, 3, 6 or 9. `few` proves, variant by variant, that there are at most
-    // nine. `inverse` returns the value that has a given view, as `inverse_ok` proves.
+    // `view` is what contracts see: the moment and its number of fraction digits, 0, 3, 6 or 9. `few` proves, variant by variant, that there
+    // are at most nine. `inverse` maps a view back to its value, as `inverse_ok` proves.
     ghost Value = { MomentToPrint };
 
     ghost view = { λ x. record {
@@ -104,12 +92,10 @@ pub fn format_rfc3339(moment: SystemTime) -> Rfc3339Timestamp
     ensures moment { result.moment ≡ moment }
     ensures places { result.places ≡ places_of moment }
 {
-    let precision = if moment.subsec_nanos() == 0 {
-        Precision::Seconds
-    } else {
-        Precision::Nanos
-    };
-    Rfc3339Timestamp { moment, precision }
+    match moment.subsec_nanos() {
+        0 => format_rfc3339_seconds(moment),
+        _ => format_rfc3339_nanos(moment),
+    }
 }
 
 /// Returns a value that prints `moment` as a timestamp with no fraction. The nanoseconds are truncated, not rounded.
@@ -130,10 +116,8 @@ pub fn format_rfc3339_seconds(moment: SystemTime) -> Rfc3339Timestamp
     ensures moment { result.moment ≡ moment }
     ensures places { result.places ≡ 0 }
 {
-    Rfc3339Timestamp {
-        moment,
-        precision: Precision::Seconds,
-    }
+    let precision = Precision::Seconds;
+    Rfc3339Timestamp { moment, precision }
 }
 
 /// Returns a value that prints `moment` as a timestamp with three digits after the point. Further digits are truncated, not rounded.
@@ -154,10 +138,8 @@ pub fn format_rfc3339_millis(moment: SystemTime) -> Rfc3339Timestamp
     ensures moment { result.moment ≡ moment }
     ensures places { result.places ≡ 3 }
 {
-    Rfc3339Timestamp {
-        moment,
-        precision: Precision::Millis,
-    }
+    let precision = Precision::Millis;
+    Rfc3339Timestamp { moment, precision }
 }
 
 /// Returns a value that prints `moment` as a timestamp with six digits after the point. Further digits are truncated, not rounded.
@@ -178,10 +160,8 @@ pub fn format_rfc3339_micros(moment: SystemTime) -> Rfc3339Timestamp
     ensures moment { result.moment ≡ moment }
     ensures places { result.places ≡ 6 }
 {
-    Rfc3339Timestamp {
-        moment,
-        precision: Precision::Micros,
-    }
+    let precision = Precision::Micros;
+    Rfc3339Timestamp { moment, precision }
 }
 
 /// Returns a value that prints `moment` as a timestamp with nine digits after the point.
@@ -202,10 +182,8 @@ pub fn format_rfc3339_nanos(moment: SystemTime) -> Rfc3339Timestamp
     ensures moment { result.moment ≡ moment }
     ensures places { result.places ≡ 9 }
 {
-    Rfc3339Timestamp {
-        moment,
-        precision: Precision::Nanos,
-    }
+    let precision = Precision::Nanos;
+    Rfc3339Timestamp { moment, precision }
 }
 
 impl Rfc3339Timestamp {
@@ -275,25 +253,25 @@ impl Rfc3339Timestamp {
         let nanos = self.moment.subsec_nanos();
         write_date_time(date, second_of_day, buf);
         if self.precision == Precision::Seconds {
-            buf[SECONDS_END] = b'Z';
-            return SECONDS_END + 1;
+            buf[19] = b'Z';
+            return 20;
         }
-        write_two_digits(buf, SECONDS_END + 1, nanos / 10_000_000);
+        write_two_digits(buf, 20, nanos / 10_000_000);
         // Digits three and four are written as a pair. If there are only three digits, the `Z` then replaces the fourth.
-        write_two_digits(buf, MILLIS_END - 1, nanos / 100_000 % 100);
+        write_two_digits(buf, 22, nanos / 100_000 % 100);
         if self.precision == Precision::Millis {
-            buf[MILLIS_END] = b'Z';
-            return MILLIS_END + 1;
+            buf[23] = b'Z';
+            return 24;
         }
-        write_two_digits(buf, MICROS_END - 2, nanos / 1_000 % 100);
+        write_two_digits(buf, 24, nanos / 1_000 % 100);
         if self.precision == Precision::Micros {
-            buf[MICROS_END] = b'Z';
-            return MICROS_END + 1;
+            buf[26] = b'Z';
+            return 27;
         }
-        write_two_digits(buf, MICROS_END, nanos / 10 % 100);
-        buf[NANOS_END - 1] = b'0' + (nanos % 10) as u8;
-        buf[NANOS_END] = b'Z';
-        NANOS_END + 1
+        write_two_digits(buf, 26, nanos / 10 % 100);
+        buf[28] = b'0' + (nanos % 10) as u8;
+        buf[29] = b'Z';
+        30
     }
 }
 
@@ -302,13 +280,12 @@ impl fmt::Display for Rfc3339Timestamp {
 
     ghost styled_output = { λ x _. printed_text x };
 
+    #[tactic(auto, using(crate::proofs::Timestamps::Printing::Printed::text_displayed))]
     fn fmt<W: fmt::Write>(&self, f: &mut fmt::Formatter<W>) -> fmt::Result
         ensures { DisplaysMoment W.write_str_gives f.old result self.now.moment (printed_text self.now) f.new }
     {
         let mut buf = [0; 30];
-        let Some(text) = self.text(&mut buf) else {
-            return Err(fmt::Error);
-        };
+        let text = self.text(&mut buf).ok_or(fmt::Error)?;
         f.write_str(text)
     }
 }
@@ -322,8 +299,7 @@ fn text_from_len(buf: &[u8; 30], len: Option<usize>) -> Option<&str>
     requires utf8 { IfSome len (λ n. IsUtf8 (take n buf.now)) }
     ensures { option_map (λ t. t.now) result ≡ option_map (λ n. take n buf.now) len }
 {
-    let len = len?;
-    Some(str_prefix(buf, len))
+    Some(str_prefix(buf, len?))
 }
 
 /// Returns the date of a moment and its time in seconds after midnight, or `None` outside 1970 to 9999.
@@ -338,8 +314,8 @@ fn date_and_time(moment: SystemTime) -> Option<(Date, u32)>
     Some((date, (secs % SECONDS_PER_DAY) as u32))
 }
 
-/// Fills the buffer with the date, `T`, the time of day and `.nnnnnnnnnz`. The caller then writes a `Z` over the point, or digits and a `Z`
-/// over the letters after it.
+/// Fills the buffer with the date, `T`, the time of day and `.nnnnnnnnnz`. Small letters stand for what is written over them: the caller
+/// writes a `Z` over the point, or digits and a `Z` after it.
 ///
 /// The contract passes 0 nanoseconds and 0 digits to `printed_fields`: the text before the point does not depend on them.
 #[inline(always)]

@@ -1,6 +1,6 @@
 -- The digits of a fraction: the first `k` of nine are the nanoseconds, rounded down to `k` digits.
 use Rattle.std.proofs.Common.{◌≡◌, ℕ, zero, suc, ◌+◌, ◌-◌, ◌*◌, ◌/◌, ◌%◌, ◌^◌, ◌<◌, ◌≤◌, take, arith}
-use Rattle.std.specs.Prelude.{List, Option, Some, None, ◌==◌, if◌then◌else◌}
+use Rattle.std.specs.Prelude.{Some, None, ◌==◌, if◌then◌else◌}
 use Rattle.std.proofs.Math.Nat.{pow-suc, one-le-pow, mod-mod_of_dvd, dvd-mul_left}
 use Rattle.std.proofs.Math.Arith.{mod-mul}
 use Rattle.std.proofs.lemmas.Nat.{pow-add}
@@ -19,10 +19,8 @@ last_are_digits (suc k) (suc j) n = ((omega arith, omega arith), last_are_digits
 last_are_digits k j n = tt
 
 -- The fraction that is printed for `n` nanoseconds, with `k` digits.
-abbrev pub cut_fraction : ℕ → ℕ → Option (List ℕ)
-cut_fraction n k = if k == 0 then None else Some (take k (last_digits 9 n))
-
-pub shown_nanos : (k n : ℕ) → k ≤ 9 → n < 1_000_000_000 → fraction_nanos (fraction_digits (cut_fraction n k)) ≡ n - n % 10 ^ (9 - k)
+pub shown_nanos : (k n : ℕ) → k ≤ 9 → n < 1_000_000_000
+    → fraction_nanos (fraction_digits (if k == 0 then None else Some (take k (last_digits 9 n)))) ≡ n - n % 10 ^ (9 - k)
 shown_nanos k n small h = grind (arith, (sum_of_digits k 9 n 0 small), (nanos_added (take k (last_digits 9 n)) (last_are_digits k 9 n)))
 
 -- Rounding a moment down rounds its nanoseconds down.

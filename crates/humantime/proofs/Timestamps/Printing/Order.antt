@@ -16,7 +16,7 @@ use Rattle.humantime.specs.Calendar.{IsDate, day_of}
 use Rattle.humantime.specs.Timestamps.Fields.{Letter_T, Letter_Z, Fields, fields_text, fraction_text, fraction_nanos, moment_of, fraction_digits}
 use Rattle.humantime.specs.Timestamps.Printed.{IsPrinted}
 use Rattle.humantime.specs.Laws.Timestamps.{PrintInOrder}
-use Rattle.humantime.proofs.Dates.DaysOfDates.{before_year, before_month}
+use Rattle.humantime.proofs.Dates.DaysOfDates.{before_later}
 use Rattle.humantime.proofs.Dates.Years.{valid_from_test}
 use Rattle.humantime.proofs.Timestamps.Reading.Fractions.{AreDigits, nanos_bound, digits_from_test}
 
@@ -61,16 +61,7 @@ fraction_cmp k p q h e f g i = grind (arith, (filled_cmp 9 (fraction_digits p) (
 -- Dates are ordered like their days.
 day_cmp : (a b : Date) (o : Ordering) → IsDate a → IsDate b
     → then_cmp a.year b.year (then_cmp a.month b.month (then_cmp a.day b.day o)) ≡ then_cmp (day_of a) (day_of b) o
-day_cmp a b o va vb =
-    grind (
-      arith,
-      nat_tests,
-      valid_from_test,
-      (before_year a.year a.month a.day),
-      (before_year b.year b.month b.day),
-      (before_month a.year a.month a.day),
-      (before_month b.year b.month b.day),
-    )
+day_cmp a b o va vb = grind (arith, nat_tests, valid_from_test, (before_later a va), (before_later b vb))
 
 -- The text of parts with `T` and `Z`.
 abbrev marked : Fields → List ℕ

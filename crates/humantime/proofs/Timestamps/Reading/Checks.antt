@@ -2,7 +2,11 @@
 use Rattle.std.proofs.Common.{◌≡◌, ℕ, ◌≤◌, List, [], ◌∷◌, length, get_or, drop, refl, arith}
 use Rattle.std.specs.Prelude.{true, slice_index, Option, Some, None, ◌==◌, if◌then◌else◌}
 use Rattle.std.specs.Str.{byte, all_ascii_digits}
-use Rattle.std.proofs.lemmas.Bool.{and_parts}
+use Rattle.std.proofs.lemmas.Bool.{and_parts, le-leb}
+use Rattle.std.proofs.lemmas.Grind.{common_steps}
+use Rattle.std.proofs.lemmas.List.{take_rest}
+use Rattle.std.proofs.lemmas.Result.{err_from_is_err_and}
+use Rattle.humantime.specs.Steps.Timestamps.{has_layout}
 use Rattle.std.proofs.lemmas.Bool.Decides.{nat_tests}
 use Rattle.humantime.specs.Timestamps.Fields.{Letter_T, Space, Fields, fraction_digits}
 use Rattle.humantime.specs.Timestamps.Checks.{has_two, has_punctuation, has_digits, date_time_of, is_valid_date_time, zone_of, fraction_part, has_point, weak_checks, first_failed}
@@ -12,6 +16,14 @@ pub all_passed : (bytes : List ℕ) → first_failed (weak_checks bytes) ≡ Non
     → (19 ≤ length bytes) × (has_punctuation bytes ≡ true) × (has_digits bytes ≡ true) × (is_valid_date_time (date_time_of bytes) ≡ true)
     × (has_point (fraction_part bytes) ≡ true) × (all_ascii_digits (drop 1 (fraction_part bytes)) ≡ true)
 all_passed bytes h = grind (arith, nat_tests)
+
+-- The parts of a right layout.
+pub layout_parts : (bytes : List ℕ) → has_layout bytes ≡ true → (19 ≤ length bytes) × (has_punctuation bytes ≡ true) × (has_digits bytes ≡ true)
+unfolding has_layout
+layout_parts bytes h = grind (arith, nat_tests)
+
+-- The lemmas about the result after the layout, by its definition.
+pub ruleset checks_in_order = (layout_parts, common_steps, nat_tests, err_from_is_err_and, le-leb, take_rest)
 
 -- The digits after the point, if there is one.
 abbrev pub digits_behind_point : List ℕ → Option (List ℕ)

@@ -14,7 +14,7 @@ use Rattle.humantime.proofs.Timestamps.Reading.Bytes.{HoldsOfBytes}
 -- The last six bytes, one by one.
 last_six : (bytes : List ℕ) (k : ℕ) → k + 6 ≡ length bytes → drop k bytes ≡
     slice_index bytes k ∷ slice_index bytes (k + 1) ∷ slice_index bytes (k + 2) ∷ slice_index bytes (k + 3) ∷ slice_index bytes (k + 4) ∷ slice_index bytes (k + 5) ∷ []
-last_six bytes k long = grind (arith, (drop_more bytes k 0), (drop_more bytes (k + 1) 0), (drop_more bytes (k + 2) 0), (drop_more bytes (k + 3) 0), (drop_more bytes (k + 4) 0), (drop_more bytes (k + 5) 0), drop_of_length-le)
+last_six bytes k long = grind (arith, (λ (i : ℕ). drop_more bytes i 0), drop_of_length-le)
 
 pub zero_offset_at_end : (bytes : List ℕ) → 6 ≤ length bytes → ends_with nat_eq bytes (codes "+00:00") ≡
     ((slice_index bytes (length bytes - 6) == 43) && (slice_index bytes (length bytes - 5) == 48) && (slice_index bytes (length bytes - 4) == 48)
@@ -24,10 +24,6 @@ zero_offset_at_end bytes long = rw (last_six bytes (length bytes - 6) (omega (ar
 pub some_zone : (bytes : List ℕ) → nat_lt 0 (length (zone_text (zone_of bytes))) ≡ ends_in_zone bytes
 unfolding zone_of
 some_zone bytes = search rules
-
-pub zone_cut : (bytes : List ℕ) → nat_lt (length (before_zone bytes)) (length bytes) ≡ ends_in_zone bytes
-unfolding zone_of
-zone_cut bytes = grind (arith, common_steps)
 
 pub zone_shown : (bytes : List ℕ) → bytes ≡ before_zone bytes ++ zone_text (zone_of bytes)
 unfolding zone_of

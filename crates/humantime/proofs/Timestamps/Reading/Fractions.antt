@@ -9,7 +9,7 @@ use Rattle.std.specs.Int.{IsInRange}
 use Rattle.std.specs.List.{AllByRecursion}
 use Rattle.std.specs.Str.{all_ascii_digits}
 use Rattle.std.specs.Str.Parse.{digits_value_after}
-use Rattle.std.proofs.Math.Nat.{pow-suc, mul-le-mul_left}
+use Rattle.std.proofs.Math.Nat.{pow-suc, mul-le-mul_left, div-div-eq-div-mul}
 use Rattle.std.proofs.lemmas.Bool.Decides.{nat_tests}
 use Rattle.std.proofs.lemmas.Str.{digit_value_digit}
 use Rattle.humantime.specs.Timestamps.Fields.{fraction_nanos}
@@ -62,25 +62,19 @@ add_bound (c ∷ cs) n u digits low room =
 pub nanos_bound : (ds : List ℕ) → AreDigits ds → fraction_nanos ds < 1_000_000_000
 nanos_bound ds digits = rw (nanos_added ds digits) (add_bound ds 0 100_000_000 digits (omega arith) (omega arith))
 
--- The weight of the digit at index `k`: a tenth of the weight of the digit before.
-abbrev pub place_value : ℕ → ℕ
-place_value k = get_or (100_000_000 ∷ 10_000_000 ∷ 1_000_000 ∷ 100_000 ∷ 10_000 ∷ 1_000 ∷ 100 ∷ 10 ∷ 1 ∷ []) k 0
-
-next_place : (k : ℕ) → place_value (k + 1) ≡ place_value k / 10
-next_place k = grind arith
+-- The weight of the digit at index `k + 1`.
+pub next_place : (k : ℕ) → 100_000_000 / 10 ^ (k + 1) ≡ 100_000_000 / 10 ^ k / 10
+next_place k = grind (arith, pow-suc 10 k, div-div-eq-div-mul 100_000_000 (10 ^ k) 10)
 
 -- The digit at index `k` is added to `n`.
-pub next_digit : (ds : List ℕ) (k n m : ℕ) → k < length ds → is_ascii_digit (get_or ds k 0) ≡ true → m ≡ n + place_value k * (get_or ds k 0 - 48)
-    → (add_digits m (place_value (k + 1)) (drop (k + 1) ds) ≡ add_digits n (place_value k) (drop k ds))
+pub next_digit : (ds : List ℕ) (k n m u : ℕ) → k < length ds → is_ascii_digit (get_or ds k 0) ≡ true → m ≡ n + u * (get_or ds k 0 - 48)
+    → (add_digits m (u / 10) (drop (k + 1) ds) ≡ add_digits n u (drop k ds))
     × (all_ascii_digits (drop (k + 1) ds) ≡ all_ascii_digits (drop k ds))
-    × (n < 1_000_000_000 → n + 10 * place_value k ≤ 1_000_000_000 → (m < 1_000_000_000) × (m + 10 * place_value (k + 1) ≤ 1_000_000_000))
-next_digit ds k n m some digit added = grind (arith, common_steps, next_place, drop-cons, add-one, nat_tests)
+    × (n < 1_000_000_000 → n + 10 * u ≤ 1_000_000_000 → (m < 1_000_000_000) × (m + 10 * (u / 10) ≤ 1_000_000_000))
+next_digit ds k n m u some digit added =
+    grind (arith, common_steps, drop-cons, add-one, nat_tests, (mul-le-mul_left {m = get_or ds k 0 - 48} {n = 9} u (grind (arith, nat_tests))))
 
-pub nine_read : (ds : List ℕ) (k n : ℕ) → k ≡ min (length ds) 9 → all_ascii_digits (drop k ds) ≡ all_ascii_digits ds
-    → add_digits n (place_value k) (drop k ds) ≡ add_digits 0 100_000_000 ds
+pub nine_read : (ds : List ℕ) (k n u : ℕ) → k ≡ min (length ds) 9 → u ≡ 100_000_000 / 10 ^ k → all_ascii_digits (drop k ds) ≡ all_ascii_digits ds
+    → add_digits n u (drop k ds) ≡ add_digits 0 100_000_000 ds
     → digits_answer ds ≡ (if all_ascii_digits (drop k ds) then Ok n else Err InvalidDigit)
-nine_read ds k n end digits added = grind (arith, common_steps, nat_tests, add_nothing, (nanos_added ds), (digits_from_test ds))
-
-pub nothing_read : fraction_nanos [] ≡ 0
-unfolding fraction_nanos
-nothing_read = refl
+nine_read ds k n u end unit digits added = grind (arith, common_steps, nat_tests, add_nothing, (nanos_added ds), (digits_from_test ds))

@@ -1,5 +1,5 @@
 -- Bytes and numbers that are tested at once are tested as if one by one.
-use Rattle.std.proofs.Common.{◌≡◌, ℕ, ◌+◌, ◌-◌, ◌%◌, ◌^◌, ◌<◌, ◌≤◌, Bool, true, false, cond, eqb, ltb, ◌&&◌, List, [], ◌∷◌, map, replicate, length, get_or, take, drop, Fits, w8, refl, ap, ◌∙◌, arith}
+use Rattle.std.proofs.Common.{◌≡◌, ℕ, ◌+◌, ◌-◌, ◌%◌, ◌^◌, ◌<◌, ◌≤◌, Bool, true, cond, eqb, ltb, ◌&&◌, List, [], ◌∷◌, map, replicate, length, get_or, take, drop, Fits, w8, refl, ap, ◌∙◌, arith}
 use Rattle.std.specs.Char.{is_ascii_digit}
 use Rattle.std.specs.List.{list_all}
 use Rattle.std.specs.Prelude.{◌==◌, codes, nat_eq, bit_or}
@@ -43,49 +43,34 @@ above a least = (a + (2 ^ 8 - least)) % 2 ^ 8
 abbrev excess : ℕ → ℕ → ℕ
 excess a most = above (cond (top 7 (cond (ltb a most) 255 0)) most a) most
 
-digit_excess : (c : ℕ) → c < 256 → nat_eq (excess (above c 48) 9) 0 ≡ is_ascii_digit c
-digit_excess c h = agree_below_at (λ c. nat_eq (excess (above c 48) 9) 0) is_ascii_digit 256 c refl h
-
 sign_excess : (c sign : ℕ) → c < 256 → sign < 256 → nat_eq (excess (above c sign) 0) 0 ≡ (c == sign)
 sign_excess c sign h k = grind (arith, nat_tests)
 
-no_excess : (c least : ℕ) → nat_eq (excess (above c least) 255) 0 ≡ true
-no_excess c least = agree_below_at (λ n. nat_eq (excess n 255) 0) (λ _. true) 256 (above c least) refl (omega arith)
+both : (a b : ℕ) {p q : Bool} → nat_eq a 0 ≡ p → nat_eq b 0 ≡ q → nat_eq (bit_or a b) 0 ≡ (p && q)
+both a b e f = grind (arith, nat_tests, le_or_l a b, le_or_r a b)
 
-both_zero : (a b : ℕ) → nat_eq (bit_or a b) 0 ≡ (nat_eq a 0 && nat_eq b 0)
-both_zero a b = grind (arith, nat_tests, le_or_l a b, le_or_r a b)
-
-first_zero : (a b : ℕ) → nat_eq b 0 ≡ true → nat_eq (bit_or a b) 0 ≡ nat_eq a 0
-first_zero a b zero = grind (arith, nat_tests, le_or_l a b, le_or_r a b)
-
--- The minimum of each byte, and the range above it; and the same from the fourth byte on.
+-- The minimum of each of the first 16 bytes, and of those from the fourth byte on.
 abbrev pub least : List ℕ
 least = codes "0000-00-00 00:00"
 
-abbrev pub most : List ℕ
-most = 9 ∷ 9 ∷ 9 ∷ 9 ∷ 0 ∷ 9 ∷ 9 ∷ 0 ∷ 9 ∷ 9 ∷ 255 ∷ 9 ∷ 9 ∷ 0 ∷ 9 ∷ 9 ∷ []
-
 abbrev pub least_back : List ℕ
 least_back = codes "0-00-00 00:00:00"
-
-abbrev pub most_back : List ℕ
-most_back = 255 ∷ 255 ∷ 255 ∷ 255 ∷ 255 ∷ 255 ∷ 255 ∷ 255 ∷ 255 ∷ 255 ∷ 255 ∷ 255 ∷ 255 ∷ 0 ∷ 9 ∷ 9 ∷ []
 
 -- How far the numbers exceed their maxima.
 abbrev excesses : List ℕ → List ℕ → List ℕ
 excesses xs most = zip2 above (sel_l (map (top 7) (zip2 (λ a m. cond (ltb a m) 255 0) xs most)) most xs) most
 
 abbrev pub beyond : List ℕ → List ℕ
-beyond bytes = zip2 bit_or (excesses (zip2 above (take 16 bytes) least) most) (excesses (zip2 above (take 16 (drop 3 bytes)) least_back) most_back)
+beyond bytes =
+    zip2 bit_or (excesses (zip2 above (take 16 bytes) least) (9 ∷ 9 ∷ 9 ∷ 9 ∷ 0 ∷ 9 ∷ 9 ∷ 0 ∷ 9 ∷ 9 ∷ 255 ∷ 9 ∷ 9 ∷ 0 ∷ 9 ∷ 9 ∷ []))
+    (excesses (zip2 above (take 16 (drop 3 bytes)) least_back) (9 ∷ 0 ∷ 9 ∷ 9 ∷ 0 ∷ 9 ∷ 9 ∷ 255 ∷ 9 ∷ 9 ∷ 0 ∷ 9 ∷ 9 ∷ 0 ∷ 9 ∷ 9 ∷ []))
 
--- The punctuation can be tested first, and the seconds among the other fields.
+-- The punctuation can be tested first, and then the digits.
 signs_first : (s t u v a b c d e f g h i j k l m n : Bool)
-    → are_set (a ∷ b ∷ c ∷ d ∷ s ∷ e ∷ f ∷ t ∷ g ∷ h ∷ true ∷ i ∷ j ∷ (u && v) ∷ (k && m) ∷ (l && n) ∷ [])
+    → are_set ((a && d) ∷ (b && s) ∷ (c && e) ∷ (d && f) ∷ (s && t) ∷ (e && g) ∷ (f && h) ∷ (t && true)
+    ∷ (g && i) ∷ (h && j) ∷ (true && u) ∷ (i && k) ∷ (j && l) ∷ (u && v) ∷ (k && m) ∷ (l && n) ∷ [])
     ≡ ((s && t && true && u && v) && ((a && b) && ((c && d) && ((e && f) && ((g && h) && ((i && j) && ((k && l) && ((m && n) && true))))))))
-signs_first true true true v a b c d e f g h i j k l m n = grind arith
-signs_first false t u v a b c d e f g h i j k l m n = grind arith
-signs_first true false u v a b c d e f g h i j k l m n = grind arith
-signs_first true true false v a b c d e f g h i j k l m n = grind arith
+signs_first s t u v a b c d e f g h i j k l m n = grind arith
 
 bytes_tested : (bytes : List ℕ) → 19 ≤ length bytes → ((k : ℕ) → Fits w8 (get_or bytes k 0)) → has_separator bytes ≡ true
     → list_all (λ n. nat_eq n 0) (beyond bytes) ≡ has_layout bytes
@@ -93,17 +78,16 @@ unfolding has_layout has_punctuation has_digits has_two
 bytes_tested bytes long fits separator =
     let byte = λ (k : ℕ). get_or bytes k 0 in
     let shown = λ (k : ℕ). is_ascii_digit (byte k) in
-    let digit_at = λ (k : ℕ). digit_excess (byte k) (fits k).fits in
-    let digit = λ (k : ℕ) (l : ℕ). first_zero (excess (above (byte k) 48) 9) (excess (above (byte (k + 3)) l) 255) (no_excess (byte (k + 3)) l) ∙ digit_at k in
-    let dash = λ (k : ℕ) (l : ℕ). first_zero (excess (above (byte k) 45) 0) (excess (above (byte (k + 3)) l) 255) (no_excess (byte (k + 3)) l) ∙ sign_excess (byte k) 45 (fits k).fits (omega arith) in
-    let free = first_zero (excess (above (byte 10) 32) 255) (excess (above (byte 13) 58) 255) (no_excess (byte 13) 58) ∙ no_excess (byte 10) 32 in
-    let colons = both_zero (excess (above (byte 13) 58) 0) (excess (above (byte 16) 58) 0)
-    ∙ (λ i. sign_excess (byte 13) 58 (fits 13).fits (omega arith) i && sign_excess (byte 16) 58 (fits 16).fits (omega arith) i) in
-    let digits = λ (k : ℕ). both_zero (excess (above (byte k) 48) 9) (excess (above (byte (k + 3)) 48) 9) ∙ (λ i. digit_at k i && digit_at (k + 3) i) in
+    let digit = λ (k : ℕ). agree_below_at (λ c. nat_eq (excess (above c 48) 9) 0) is_ascii_digit 256 (byte k) refl (fits k).fits in
+    let dash = λ (k : ℕ). sign_excess (byte k) 45 (fits k).fits (omega arith) in
+    let colon = λ (k : ℕ). sign_excess (byte k) 58 (fits k).fits (omega arith) in
+    let free = agree_below_at (λ n. nat_eq (excess n 255) 0) (λ _. true) 256 (above (byte 10) 32) refl (omega arith) in
     ap (λ (bytes : List ℕ). list_all (λ n. nat_eq n 0) (beyond bytes)) (nineteen bytes long)
     ∙ (λ i. are_set (
-    digit 0 48 i ∷ digit 1 45 i ∷ digit 2 48 i ∷ digit 3 48 i ∷ dash 4 45 i ∷ digit 5 48 i ∷ digit 6 48 i ∷ dash 7 32 i
-    ∷ digit 8 48 i ∷ digit 9 48 i ∷ free i ∷ digit 11 48 i ∷ digit 12 48 i ∷ colons i ∷ digits 14 i ∷ digits 15 i ∷ []
+    both _ _ (digit 0) (digit 3) i ∷ both _ _ (digit 1) (dash 4) i ∷ both _ _ (digit 2) (digit 5) i ∷ both _ _ (digit 3) (digit 6) i
+    ∷ both _ _ (dash 4) (dash 7) i ∷ both _ _ (digit 5) (digit 8) i ∷ both _ _ (digit 6) (digit 9) i ∷ both _ _ (dash 7) free i
+    ∷ both _ _ (digit 8) (digit 11) i ∷ both _ _ (digit 9) (digit 12) i ∷ both _ _ free (colon 13) i ∷ both _ _ (digit 11) (digit 14) i
+    ∷ both _ _ (digit 12) (digit 15) i ∷ both _ _ (colon 13) (colon 16) i ∷ both _ _ (digit 14) (digit 17) i ∷ both _ _ (digit 15) (digit 18) i ∷ []
     ))
     ∙ rw (separator, le-leb 19 (length bytes) long)
     (signs_first (byte 4 == 45) (byte 7 == 45) (byte 13 == 58) (byte 16 == 58)

@@ -19,8 +19,8 @@ abbrev back_weights : List ℕ
 back_weights = 1 ∷ 0 ∷ 0 ∷ 0 ∷ 0 ∷ 0 ∷ 0 ∷ 0 ∷ 10 ∷ 1 ∷ 0 ∷ 0 ∷ 0 ∷ 0 ∷ 10 ∷ 1 ∷ []
 
 -- The sums of two products fit the 16 bits in which they are computed.
-pub sums_fit : (bytes : List ℕ) → 16 ≤ length bytes → T (all_below 32768 (pair_sums (products (zip2 above (take 16 bytes) least) front_weights)))
-    × T (all_below 32768 (pair_sums (products (zip2 above (take 16 bytes) least_back) back_weights)))
+pub sums_fit : (bytes : List ℕ) → 19 ≤ length bytes → T (all_below 32768 (pair_sums (products (zip2 above (take 16 bytes) least) front_weights)))
+    × T (all_below 32768 (pair_sums (products (zip2 above (take 16 (drop 3 bytes)) least_back) back_weights)))
 sums_fit bytes long = (grind (arith, common_steps, nat_tests), grind (arith, common_steps, nat_tests))
 
 -- The numbers, by the sums over the first 16 bytes and over those from byte 3 on.
@@ -31,14 +31,5 @@ summed bytes =
     record { date = record { year = front 0 * 10 + back 0; month = front 1; day = front 2 }; hour = back 2; minute = front 3; second = back 3 }
 
 pub date_time_summed : (bytes : List ℕ) → 19 ≤ length bytes → has_digits bytes ≡ true → summed bytes ≡ date_time_of bytes
-date_time_summed bytes long digits = ap summed (nineteen bytes long) ∙ grind (
-  arith,
-  (pairs_from_test bytes digits),
-  has_two_from_test,
-  (number_of_four bytes),
-  (number_of_two bytes 5),
-  (number_of_two bytes 8),
-  (number_of_two bytes 11),
-  (number_of_two bytes 14),
-  (number_of_two bytes 17),
-)
+date_time_summed bytes long digits =
+    ap summed (nineteen bytes long) ∙ grind (arith, (pairs_from_test bytes digits), has_two_from_test, number_of_four, number_of_two)

@@ -5,12 +5,12 @@ use Rattle.std.specs.Prelude.{true, slice_index, Option, None}
 use Rattle.std.proofs.lemmas.Bool.{le-leb}
 use Rattle.std.proofs.lemmas.Bool.Decides.{nat_tests}
 use Rattle.humantime.specs.Timestamps.Fields.{Fields, fraction_text, fraction_digits, fields_text, IsWeak}
-use Rattle.humantime.specs.Timestamps.Checks.{has_two, has_digits, number_between, date_time_of, has_separator, has_punctuation, is_valid_date_time, has_point, weak_checks, first_failed}
+use Rattle.humantime.specs.Timestamps.Checks.{has_two, has_digits, number_between, has_separator, has_punctuation, is_valid_date_time, has_point, weak_checks, first_failed}
 use Rattle.humantime.proofs.Dates.Years.{valid_from_test}
 use Rattle.humantime.proofs.Timestamps.Reading.Bytes.{digits_hold}
 use Rattle.humantime.proofs.Timestamps.Reading.Checks.{digits_behind_point, fields_of}
 use Rattle.humantime.proofs.Timestamps.Reading.Ends.{IsPlain, plain_bytes, zone_found}
-use Rattle.humantime.proofs.Timestamps.Reading.Places.{number_of_two, number_of_four, bounds}
+use Rattle.humantime.proofs.Timestamps.Reading.Places.{number_of_two, number_of_four}
 use Rattle.humantime.proofs.Timestamps.Reading.Fractions.{digits_from_test}
 use Rattle.std.specs.List.{AllByRecursion}
 
@@ -46,29 +46,7 @@ written_passes f w =
     let minute = two_back bytes 14 f.minute (omega (arith, long)) refl refl (omega (arith, w.minute)) in
     let second = two_back bytes 17 f.second (omega (arith, long)) refl refl (omega (arith, w.second)) in
     let plain : AllByRecursion IsPlain (fraction_text f.fraction) = grind (arith, plain_bytes, digits_hold, digits_from_test, w.fraction) in
-    let digits : has_digits bytes ≡ true = rw (year.0, year.1, month.0, day.0, hour.0, minute.0, second.0) refl in
-    let range : is_valid_date_time (date_time_of bytes) ≡ true =
-    rw (year.2, month.1, day.1, hour.1, minute.1, second.1) ((bounds _ _ _ _).1 (w.date, w.hour, w.minute, w.second)) in
-    grind (
-      arith,
-      common_steps,
-      nat_tests,
-      bytes,
-      long,
-      within,
-      year,
-      month,
-      day,
-      hour,
-      minute,
-      second,
-      plain,
-      digits,
-      range,
-      le-leb,
-      (ending f.fraction),
-      (zone_found (fraction_text f.fraction) f.zone plain),
-    )
+    grind (arith, common_steps, nat_tests, le-leb, (ending f.fraction), (zone_found (fraction_text f.fraction) f.zone plain))
 
 pub weak_fields : (bytes : List ℕ) (f : Fields) → IsWeak bytes f → (first_failed (weak_checks bytes) ≡ None) × (f ≡ fields_of bytes)
 weak_fields bytes f w = rw w.text (written_passes f (rw w.text at w))

@@ -1,6 +1,6 @@
 -- Numbers at their positions: the values of digits, and the ranges of date and time.
 use Rattle.std.proofs.Common.{◌≡◌, ℕ, suc, ◌+◌, ◌-◌, ◌*◌, ◌<◌, ◌≤◌, List, [], ◌∷◌, length, refl, add-one, arith, rules}
-use Rattle.std.specs.Prelude.{◌↔◌, Bool, true, IsTrue, ◌&&◌, nat_le, slice_index, slice_range}
+use Rattle.std.specs.Prelude.{true, slice_index, slice_range}
 use Rattle.std.specs.Int.{IsInRange}
 use Rattle.std.proofs.Math.Seq.{drop-cons}
 use Rattle.std.proofs.lemmas.Bool.Decides.{nat_tests}
@@ -32,8 +32,3 @@ unfolding number_between
 number_of_four bytes long century decade =
     rw (next_byte bytes 0 4 (omega arith) long, next_byte bytes 1 4 (omega arith) long, last_two bytes 2 4 refl long)
     (search (rules, has_two_from_test, digit_value_digit))
-
--- The tests of a date and a time of day.
-pub bounds : (date : Bool) (h i s : ℕ)
-    → IsTrue (date && nat_le h 23 && nat_le i 59 && nat_le s 60) ↔ (IsTrue date × (h ≤ 23) × (i ≤ 59) × (s ≤ 60))
-bounds date h i s = grind (arith, nat_tests)

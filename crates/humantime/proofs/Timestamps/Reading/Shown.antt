@@ -7,7 +7,7 @@ use Rattle.humantime.specs.Timestamps.Fields.{fraction_text, zone_text, fields_t
 use Rattle.humantime.specs.Timestamps.Checks.{has_two, zone_of, number_between, is_valid_date_time, fraction_part, weak_checks, first_failed, has_punctuation, has_separator, has_point}
 use Rattle.humantime.proofs.Timestamps.Reading.Checks.{all_passed, digits_behind_point, fields_of, pairs_from_test, part_digits, nineteen}
 use Rattle.humantime.proofs.Timestamps.Reading.Ends.{zone_shown}
-use Rattle.humantime.proofs.Timestamps.Reading.Places.{has_two_from_test, number_of_two, number_of_four, bounds}
+use Rattle.humantime.proofs.Timestamps.Reading.Places.{has_two_from_test, number_of_two, number_of_four}
 
 pair_shown : (bytes : List ℕ) (k : ℕ) → k + 2 ≤ length bytes → has_two bytes k ≡ true
     → (slice_index bytes k ≡ 48 + number_between bytes k (k + 2) / 10) × (slice_index bytes (k + 1) ≡ 48 + number_between bytes k (k + 2) % 10)
@@ -28,9 +28,6 @@ written_shown bytes passed =
       arith,
       common_steps,
       nat_tests,
-      p,
-      pairs,
-      end,
       nineteen,
       (year_shown bytes (omega arith) pairs.0 pairs.1),
       (pair_shown bytes 5 (omega arith) pairs.2),
@@ -42,4 +39,4 @@ written_shown bytes passed =
 
 pub fields_weak : (bytes : List ℕ) → first_failed (weak_checks bytes) ≡ None → IsWeak bytes (fields_of bytes)
 unfolding is_valid_date_time
-fields_weak bytes passed = grind (arith, (all_passed bytes passed), (written_shown bytes passed), bounds, part_digits)
+fields_weak bytes passed = grind (arith, (all_passed bytes passed), (written_shown bytes passed), nat_tests, part_digits)

@@ -1,19 +1,13 @@
-use Rattle.std.proofs.Common.{drop, length-drop, arith, sym, ◌∙◌}
+use Rattle.std.proofs.Common.{sym, ◌∙◌}
 use Rattle.std.proofs.lemmas.Bool.{eq-eqb, eqb-true}
-use Rattle.humantime.proofs.Timestamps.Reading.Exits.{layout_parts}
+use Rattle.humantime.proofs.Timestamps.Reading.Checks.{layout_parts}
 use Rattle.humantime.proofs.Timestamps.Reading.Lanes.{layout_tested}
-use Rattle.humantime.proofs.Timestamps.Reading.Numbers.{date_time_summed, sums_fit}
+use Rattle.humantime.proofs.Timestamps.Reading.Numbers.{date_time_summed}
 use Rattle.humantime.proofs.date.parse.parse_date_time.Goals as goal
 
 pub returns-then-not-beyond : goal.returns-then-not-beyond
 returns-then-not-beyond c is =
     c.if-not-beyond.true (eqb-true _ _ (layout_tested c.args.bytes.now c.requires.long c.type_inv.bytes c.requires.separator ∙ is))
-
-pub dot4 : goal.dot4
-dot4 c = ((sums_fit c.args.bytes.now (omega (arith, c.requires.long))).0, tt)
-
-pub dot4-2 : goal.dot4-2
-dot4-2 c = ((sums_fit (drop 3 c.args.bytes.now) (omega (arith, length-drop 3 c.args.bytes.now, c.requires.long))).1, tt)
 
 pub returns : goal.returns
 returns c =

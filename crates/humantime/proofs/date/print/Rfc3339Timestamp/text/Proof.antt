@@ -62,8 +62,7 @@ text_spec {M} 𝓤 𝓛 𝓜 𝓡 wired =
     (λ κs. (shr_vals, (mut_vals, tt))) (λ κs. (shr_Tells (named 0) κs.0 Self, (mut_Tells (named 1) κs.1.0 A, tt))) (λ κs qs bounds a _ are.
     let κ₀ = κs.0 in let q₀ = qs.0 in let κ = κs.1.0 in let q = qs.1.0 in let x = a.0 in let r = a.1.0 in let b = r.ref_ptr.0 in let o = r.ref_ptr.1 in let vs = mut_vals r in
     let Ref = λ (κ' : List ℕ) (y : MutBor (List ℕ)). (MutRef (named 1) κ' A).own_val y vs in
-    let Seen = ‵ ((ShrRef (named 0) κ₀ Self).own_val x (shr_vals x)) in
-    qed 𝓛 (((‵ (flft κ₀ q₀) ⊛ ‵ (flft κ q) ⊛ ‵ ftrue) ⊛ Seen ⊛ ‵ (Ref κ r) ⊛ ‵ ftrue) ∷ ‵ ftrue ∷ []) ∵
+    qed 𝓛 (((‵ (flft κ₀ q₀) ⊛ ‵ (flft κ q) ⊛ ‵ ftrue) ⊛ ‵ ((ShrRef (named 0) κ₀ Self).own_val x (shr_vals x)) ⊛ ‵ (Ref κ r) ⊛ ‵ ftrue) ∷ ‵ ftrue ∷ []) ∵
     -- 1
     split ! $ split ! $ move ! (1 ∷ []) $ split ! $ move ! (3 ∷ []) $ split ! $ move ! (1 ∷ []) $ split ! $
     -- [buf; nothing; self; κ; nothing; κ₀; nothing]
