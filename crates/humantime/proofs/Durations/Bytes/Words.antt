@@ -42,8 +42,7 @@ same_bytes (b ∷ bs) (c ∷ cs) = grind (arith, nat_tests, (same_bytes bs cs), 
 
 word_told : (bs w : List ℕ) → IsUtf8 bs → is_spelled w ≡ true → bytes_eq (chars bs) w ≡ bytes_eq bs (bytes_of w)
 word_told bs w text spelled =
-    let spelling : (scalars w ≡ true) × (encodes w ≡ bytes_of w) = grind (arith, (bytes_eq-Decides (encodes w) (bytes_of w))) in
-    grind (arith, spelling, (bytes_eq-Decides bs (bytes_of w)), (bytes_eq-Decides (chars bs) w), (encodes-chars bs text), (chars-encodes w spelling.0))
+    grind (arith, (bytes_eq-Decides (encodes w) (bytes_of w)), (bytes_eq-Decides bs (bytes_of w)), (bytes_eq-Decides (chars bs) w), (encodes-chars bs text), (chars-encodes w))
 
 -- Looks up the bytes among the words of this length, and returns the other result if they are none of these.
 abbrev pub scale_among : List ℕ → ℕ → List (List ℕ × Scale) → Option Scale → Option Scale
