@@ -74,10 +74,7 @@ impl Duration {
     pub fn from_str(s: &str) -> Result<Duration, DurationError<'_>>
         ensures { IsDurationAnswer s.now result }
     {
-        match parse_duration(s) {
-            Ok(value) => Ok(Duration(value)),
-            Err(error) => Err(error),
-        }
+        Ok(Duration(parse_duration(s)?))
     }
 
     /// Returns a reference to the wrapped duration.

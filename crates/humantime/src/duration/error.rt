@@ -1,6 +1,6 @@
 //! [`DurationError`]: the error of parsing a duration, and its messages.
 
-ghost use Rattle.std.specs.Prelude.{◌++◌, Some, [], decimal};
+ghost use Rattle.std.specs.Prelude.{◌++◌, Some, decimal};
 ghost use Rattle.std.specs.Fmt.{WritesOnOk, WritesStyledOnOk};
 ghost use Rattle.humantime.specs.Durations.Errors.{fault_of, fault_message, unit_message};
 
@@ -61,17 +61,13 @@ impl fmt::Display for DurationError<'_> {
 
     fn fmt<W: fmt::Write>(&self, f: &mut fmt::Formatter<W>) -> fmt::Result {
         match self {
-            DurationError::InvalidCharacter(at) => write_number(
-                "invalid character at ",
-                *at as u64,
-                f,
-            ),
-            DurationError::NumberExpected(at) => write_number("expected number at ", *at as u64, f),
-            DurationError::UnknownUnit { unit, value, .. } => write_unit(unit, *value, f),
-            DurationError::NumberOverflow => f.write_str(
+            Self::InvalidCharacter(at) => write_number("invalid character at ", *at as u64, f),
+            Self::NumberExpected(at) => write_number("expected number at ", *at as u64, f),
+            Self::UnknownUnit { unit, value, .. } => write_unit(unit, *value, f),
+            Self::NumberOverflow => f.write_str(
                 "number is too large or cannot be represented without a lack of precision (values below 1ns are not supported)",
             ),
-            DurationError::Empty => f.write_str("value was empty"),
+            Self::Empty => f.write_str("value was empty"),
         }
     }
 }
@@ -93,21 +89,13 @@ fn write_unit<W: fmt::Write>(unit: &str, value: u64, f: &mut fmt::Formatter<W>) 
     ensures styled { WritesStyledOnOk W.write_str_gives f.old result (unit_message unit.now value) f.new }
 {
     if unit.is_empty() {
-        return write_unit_needed(value, f);
+        write_number("time unit needed, for example ", value, f)?;
+        write_number("sec or ", value, f)?;
+        return f.write_str("ms");
     }
     f.write_str("unknown time unit \"")?;
     f.write_str(unit)?;
     f.write_str(
         "\", supported units: ns, us/µs, ms, sec, min, hours, days, weeks, months, years (and few variations)",
     )
-}
-
-/// Writes the message for a missing unit. `value` is the number before it.
-fn write_unit_needed<W: fmt::Write>(value: u64, f: &mut fmt::Formatter<W>) -> fmt::Result
-    ensures writes { WritesOnOk W.write_str_gives f.old result (unit_message [] value) f.new }
-    ensures styled { WritesStyledOnOk W.write_str_gives f.old result (unit_message [] value) f.new }
-{
-    write_number("time unit needed, for example ", value, f)?;
-    write_number("sec or ", value, f)?;
-    f.write_str("ms")
 }

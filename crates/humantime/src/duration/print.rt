@@ -211,10 +211,7 @@ fn text_from_len<'a, 'b>(
     ensures text { IfOk len.entry (λ n. text_result_view result ≡ Ok (take n buf.now)) }
     ensures error { IfErr len.entry (λ e. result ≡ Err e) }
 {
-    match len {
-        Ok(len) => Ok(str_prefix(buf, len)),
-        Err(error) => Err(error),
-    }
+    Ok(str_prefix(buf, len?))
 }
 
 /// Parses a duration, writes its canonical text to the front of the buffer, and returns the text's length in bytes.

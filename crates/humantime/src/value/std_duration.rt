@@ -153,9 +153,7 @@ impl StdDuration {
     pub fn from_micros(micros: u64) -> StdDuration
         ensures { result ≡ micros * 1000 }
     {
-        let secs = micros / 1_000_000;
-        let nanos = (micros % 1_000_000 * 1000) as u32;
-        StdDuration { secs, nanos }
+        StdDuration::new(micros / 1_000_000, (micros % 1_000_000 * 1000) as u32)
     }
 
     /// Returns the number of whole seconds, without the fractional part.
@@ -259,9 +257,7 @@ impl Ord for StdDuration {
     ghost matches_eq = { Prim.search (comparing, rules) };
 
     fn cmp(&self, other: &StdDuration) -> Ordering {
-        self.secs
-            .cmp(&other.secs)
-            .then(self.nanos.cmp(&other.nanos))
+        (self.secs, self.nanos).cmp(&(other.secs, other.nanos))
     }
 }
 

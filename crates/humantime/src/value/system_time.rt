@@ -197,10 +197,7 @@ impl SystemTime {
         let nanos = self.nanos + duration.subsec_nanos();
         let carry = (nanos / NANOS_PER_SECOND) as i64;
         let secs = self.secs.checked_add_unsigned(duration.as_secs())?;
-        Some(SystemTime {
-            secs: secs.checked_add(carry)?,
-            nanos: nanos % NANOS_PER_SECOND,
-        })
+        SystemTime::from_parts(secs.checked_add(carry)?, nanos % NANOS_PER_SECOND)
     }
 
     /// Returns the duration from `earlier` to this moment.
@@ -226,12 +223,10 @@ impl SystemTime {
         ensures later { IfOk result (λ d. self.now ≡ earlier +ℤ pos d) }
         ensures before { IfErr result (λ e. earlier ≡ self.now +ℤ pos e) }
     {
-        let now = *self;
-        if earlier <= now {
-            Ok(now.since(earlier))
-        } else {
-            Err(SystemTimeError(earlier.since(now)))
+        if earlier > *self {
+            return Err(SystemTimeError(earlier.since(*self)));
         }
+        Ok(self.since(earlier))
     }
 
     /// Creates the moment `secs` seconds and `nanos` nanoseconds after 1970-01-01T00:00:00Z.
@@ -251,10 +246,9 @@ impl SystemTime {
         ensures { self ≡ earlier +ℤ pos result }
     {
         let secs = self.secs.abs_diff(earlier.secs);
-        if earlier.nanos <= self.nanos {
-            StdDuration::new(secs, self.nanos - earlier.nanos)
-        } else {
-            StdDuration::new(secs - 1, self.nanos + NANOS_PER_SECOND - earlier.nanos)
+        match self.nanos.checked_sub(earlier.nanos) {
+            Some(nanos) => StdDuration::new(secs, nanos),
+            None => StdDuration::new(secs - 1, self.nanos + NANOS_PER_SECOND - earlier.nanos),
         }
     }
 }
@@ -283,11 +277,9 @@ impl Ord for SystemTime {
 
     ghost matches_eq = { Prim.search (comparing, rules) };
 
-    #[tactic(auto, using(crate::proofs::Moments::int_cmp_moment))]
+    #[tactic(auto, using(crate::proofs::Moments::int_cmp_moment, std::proofs::lemmas::Int::ints))]
     fn cmp(&self, other: &SystemTime) -> Ordering {
-        self.secs
-            .cmp(&other.secs)
-            .then(self.nanos.cmp(&other.nanos))
+        (self.secs, self.nanos).cmp(&(other.secs, other.nanos))
     }
 }
 
