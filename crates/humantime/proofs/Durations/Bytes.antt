@@ -1,5 +1,4 @@
 -- Lemmas about the steps of the parser over the bytes of a text, about slices, and about sums.
-pub mod Additions
 pub mod FractionDigits
 pub mod Numbers
 pub mod PlaceSteps

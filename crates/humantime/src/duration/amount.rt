@@ -6,10 +6,10 @@ ghost use Rattle.humantime.specs.Durations.Characters.{is_digit, max_fraction_di
 
 use crate::unit::Scale;
 
-/// The maximum number of digits in a fraction before its trailing zeros.
+/// The maximum number of digits in a fraction before its trailing zeros. Any number of so many digits fits in a `u64`.
 const MAX_FRACTION_DIGITS: usize = 19;
 
-/// The powers of ten that fit in a `u64`: 10^0 to 10^19.
+/// The powers of ten that fit in a `u64`: 10^0 to 10^19. A look-up is faster than `pow`.
 static POWERS_OF_TEN: [u64; 20] = [
     1,
     10,
@@ -34,7 +34,7 @@ static POWERS_OF_TEN: [u64; 20] = [
 ];
 
 /// The digits after a point. Their value is `significand / 10^exponent`, which is below 1.
-#[derive(Clone, Copy, Debug)]
+#[derive(Clone, Copy, Debug, Default)]
 pub(crate) struct Decimal {
     /// The digits before the trailing zeros, as an integer.
     pub significand: u64,
@@ -73,15 +73,9 @@ pub(crate) fn power_of_ten(exponent: usize) -> u64
 impl Decimal {
     ghost use Rattle.humantime.specs.Steps.Scanning.{HasDigits, AppendsIfSome, IsFullIfNone};
 
-    /// The fraction without digits.
-    pub(crate) const EMPTY: Decimal = Decimal {
-        significand: 0,
-        exponent: 0,
-        len: 0,
-    };
-
     /// Returns the fraction followed by the ASCII digit `c`, or `None` if it then has more than 19 digits before its trailing zeros.
     #[inline(always)]
+    #[tactic(auto, using(crate::proofs::Durations::Bytes::FractionDigits::fewer, crate::proofs::Durations::Reading::SignificantDigits::significant_long, crate::proofs::Durations::Bytes::Numbers::digit_range, crate::proofs::Durations::Reading::SignificantDigits::significant_zero, std::proofs::lemmas::Grind::common_steps))]
     pub(crate) fn push(self, c: u8) -> Option<Decimal>
         requires digit { is_digit c ≡ true }
         requires digits { (ds : List ℕ) × HasDigits self ds }

@@ -35,7 +35,7 @@ pub struct SpanIter<'a> {
     pub(crate) rest: &'a str,
     /// Whether an error or the end of the text has been returned.
     pub(crate) ended: bool,
-    // `by` proves that two iterators with the same other fields are equal, whatever the proof in this one is.
+    // `by` proves that two iterators are equal if their other fields are, whatever proofs they hold here.
     ghost tail: { IsTail text.now rest.now } by { Prim.hlevel props },
 }
 
@@ -51,6 +51,7 @@ impl<'a> Iterator for SpanIter<'a> {
     ghost remaining = { item_count items_left };
 
     #[inline(always)]
+    #[tactic(auto, using(crate::proofs::Durations::Bytes::Tails::no_bytes, crate::proofs::Durations::Bytes::Tails::some_chars, crate::proofs::Durations::Slices::Iterating::step_stopped, std::proofs::lemmas::Grind::common_steps, std::proofs::lemmas::Bool::Decides::nat_tests), unfolding(crate::specs::Results::Walks::walk))]
     fn next(&mut self) -> Option<Result<Span<'a>, DurationError<'a>>> {
         if self.ended {
             return None;
@@ -58,11 +59,9 @@ impl<'a> Iterator for SpanIter<'a> {
         let unread = skip_whitespace(self.rest);
         if unread.is_empty() {
             self.ended = true;
-            // If no span has been read, the text is empty or only whitespace.
-            if self.rest.len() == self.text.len() {
-                return Some(Err(DurationError::Empty));
-            }
-            return None;
+            // If `rest` is still the whole text, no span has been read, so the text is empty or only whitespace.
+            let is_blank = self.rest.len() == self.text.len();
+            return is_blank.then_some(Err(DurationError::Empty));
         }
         match read_span(self.text, unread) {
             Ok((span, rest)) => {

@@ -1,4 +1,4 @@
-//! Reads one [`Span`], with the readers of `scan`.
+//! Reads one [`Span`], with the readers of `scan`. The offset of a rest in the text is the difference of their lengths.
 
 ghost use Rattle.std.specs.Prelude.{◌≡◌, ◌≢◌, IfOk, MatchResult, chars, length};
 ghost use Rattle.humantime.specs.Durations.Errors.{IsRangeIn, PointsInto};
@@ -14,14 +14,13 @@ use crate::duration::scan::{
 use crate::duration::span::Span;
 use crate::unit::words::scale_of;
 
-/// Reads the span at the start of `rest`, which is the unread end of `text` and not empty. Returns the span and the text after it, or the
-/// error of the first check that fails. Offsets are those in `text`.
+/// A span and the text after it, or the error of the first check that fails.
+type ReadSpan<'a> = Result<(Span<'a>, &'a str), DurationError<'a>>;
+
+/// Reads the span at the start of `rest`, which is the unread end of `text` and not empty. Offsets are those in `text`.
 #[inline(always)]
 #[tactic(auto, using(crate::proofs::Durations::Bytes::Tails::tail_offset, crate::proofs::Durations::Bytes::Tails::tail_tail, crate::proofs::Durations::Bytes::Tails::whole_tail), unfolding(crate::specs::Results::Walks::stop_at))]
-pub(crate) fn read_span<'a>(
-    text: &'a str,
-    rest: &'a str,
-) -> Result<(Span<'a>, &'a str), DurationError<'a>>
+pub(crate) fn read_span<'a>(text: &'a str, rest: &'a str) -> ReadSpan<'a>
     requires tail { IsTail text.now rest.now }
     requires nonempty { length rest.now ≢ 0 }
     ensures read { span_result result ≡ reader.read_span (chars text.now) (chars rest.now) }
@@ -38,21 +37,14 @@ pub(crate) fn read_span<'a>(
     let Some(after_point) = skip_point(after_number) else {
         return complete_span(text, rest, value, after_number, None, after_number);
     };
-    let Some((fraction, after_fraction)) = read_fraction(after_point) else {
+    let Some((digits, after_digits)) = read_fraction(after_point) else {
         return Err(DurationError::NumberOverflow);
     };
-    complete_span(
-        text,
-        rest,
-        value,
-        after_number,
-        Some(fraction),
-        after_fraction,
-    )
+    complete_span(text, rest, value, after_number, Some(digits), after_digits)
 }
 
 /// Reads the unit after a number and its fraction, if any, and returns the result of [`read_span`]. The value and the fraction were read from
-/// the start of `rest`, and are followed by `after_number` and `after_fraction`.
+/// the start of `rest`, and are followed by `after_number` and `after_fraction`, which are the same if there is no point.
 #[inline(always)]
 #[tactic(auto, using(crate::proofs::Durations::Bytes::Tails::tail_tail, crate::proofs::Durations::Bytes::Tails::tail_boundary, crate::proofs::Durations::Bytes::Tails::tail_place))]
 fn complete_span<'a>(
@@ -62,7 +54,7 @@ fn complete_span<'a>(
     after_number: &'a str,
     fraction: Option<Decimal>,
     after_fraction: &'a str,
-) -> Result<(Span<'a>, &'a str), DurationError<'a>>
+) -> ReadSpan<'a>
     requires tail { IsTail text.now rest.now }
     requires parts { HasRead rest.now value after_number.now fraction after_fraction.now }
     ensures read { span_result result ≡ reader.read_span (chars text.now) (chars rest.now) }
@@ -72,7 +64,7 @@ fn complete_span<'a>(
     let Some(after_word) = skip_word(after_fraction) else {
         return Err(DurationError::InvalidCharacter(text.len() - after_fraction.len()));
     };
-    // `1.~` is wrong at the `~`, but `1.s~` at the point. So a point without digits is rejected after the first letter is found.
+    // The error of `1.~` is at the `~`, but that of `1.s~` and of `1.` at the point. So this is tested after `skip_word`.
     if fraction.is_some_and(|fraction| fraction.len == 0) {
         return Err(DurationError::InvalidCharacter(text.len() - after_number.len()));
     }
@@ -91,7 +83,8 @@ fn complete_span<'a>(
         });
     };
     let span = Span {
-        // Both slices have the whitespace around the digits, which the methods of `Span` trim. The second is `None` if there is no point.
+        // Both slices have the whitespace around the digits, which the methods of `Span` trim. Without a point, the second is empty, and
+        // `skip_point` returns `None`.
         number: &rest[..rest.len() - after_number.len()],
         fraction: skip_point(&after_number[..after_number.len() - after_fraction.len()]),
         unit,

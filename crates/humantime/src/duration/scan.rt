@@ -1,6 +1,7 @@
-//! Reads the parts of a span. Each reader takes a text, and returns what it has read from its start, and the rest of the text.
+//! Reads the parts of a span, such as `1.5d`: its number, point, fraction and word.
 //!
-//! In contracts, `IsTail text rest` says that `rest` is the end of `text`. So an offset is a difference of two lengths.
+//! A `read_..` function returns a value and the rest of the text, a `skip_..` function only the rest, or the next offset if it takes one. In
+//! contracts, `IsTail text rest` says that `rest` is the end of `text`.
 
 ghost use Rattle.std.specs.Prelude.{◌≡◌, ◌==◌, ◌+◌, ◌<◌, ◌&&◌, ◌||◌, true, drop, chars, option_map};
 ghost use Rattle.std.specs.Prelude.{IfSome, SomeIff, IsCharBoundary};
@@ -26,19 +27,17 @@ fn is_mu(first: u8, second: u8) -> bool
     matches!((first, second), (0xc2, 0xb5) | (0xce, 0xbc))
 }
 
-/// Returns the length in bytes of the whitespace character at the start of the text, or 0 if there is none.
+/// The slow path of [`skip_whitespace_char`], for characters outside ASCII.
 ///
 /// It is cold and not inlined, so that loops over ASCII keep their variables in registers.
 #[cold]
 #[inline(never)]
-#[tactic(auto, using(crate::proofs::Durations::Bytes::PlaceSteps::none_width))]
-fn leading_whitespace_len(text: &str) -> usize
-    ensures { result ≡ whitespace_len (chars text.now) }
+fn skip_non_ascii_whitespace(text: &str, at: usize) -> Option<usize>
+    requires { IsCharStartIn text.now at }
+    ensures { SomeIff result (0 < whitespace_len (chars (drop at text.now))) (at + whitespace_len (chars (drop at text.now))) }
 {
-    match text.chars().next() {
-        Some(c) if c.is_whitespace() => c.len_utf8(),
-        Some(_) | None => 0,
-    }
+    let c = text[at..].chars().next()?;
+    c.is_whitespace().then_some(at + c.len_utf8())
 }
 
 /// Returns the offset after the whitespace character at offset `at`, or `None` if the character there is not whitespace.
@@ -60,20 +59,16 @@ pub(crate) fn skip_whitespace_char(text: &str, at: usize) -> Option<usize>
         let is_whitespace = bytes[at] == b' ' || bytes[at] >= b'\t' && bytes[at] <= b'\r';
         return is_whitespace.then_some(at + 1);
     }
-    // A mu is not whitespace. Without this test, `µs` would call the cold `leading_whitespace_len`.
+    // A mu is not whitespace. Without this test, `µs` would call the cold `skip_non_ascii_whitespace`.
     if at + 1 < bytes.len() && is_mu(bytes[at], bytes[at + 1]) {
         return None;
     }
-    match leading_whitespace_len(&text[at..]) {
-        0 => None,
-        len => Some(at + len),
-    }
+    skip_non_ascii_whitespace(text, at)
 }
 
-/// Returns the offset after the spaces (U+0020) at offset `from`, if any. The contract does not say that all are skipped, but that nothing
-/// else than whitespace is.
+/// Returns the offset after the spaces (U+0020) at offset `from`, if any. The contract promises only that what is skipped is whitespace.
 ///
-/// It is a loop of its own, in which each further space costs one test.
+/// Each space costs one test here, and several in [`skip_whitespace_char`].
 #[inline(always)]
 #[tactic(auto, using(crate::proofs::Durations::Bytes::PlaceSteps::ascii_at, crate::proofs::Durations::Reading::Classes::low_whitespace, std::proofs::lemmas::Grind::common_steps, std::proofs::lemmas::Bool::Decides::nat_tests))]
 fn skip_spaces(text: &str, from: usize) -> usize
@@ -100,11 +95,10 @@ pub(crate) fn skip_whitespace(s: &str) -> &str
         return s;
     }
     let mut at = 0;
-    while at < s.len() {
-        match skip_whitespace_char(s, at) {
-            Some(next) => at = skip_spaces(s, next),
-            None => break,
-        }
+    while at < s.len()
+        && let Some(next) = skip_whitespace_char(s, at)
+    {
+        at = skip_spaces(s, next);
     }
     &s[at..]
 }
@@ -132,7 +126,7 @@ pub(crate) fn read_number(s: &str) -> Option<(u64, &str)>
     let mut value = (bytes[0] - b'0') as u64;
     let mut at = 1;
     while at < bytes.len() {
-        // At most 9 if and only if the byte is a digit, so that one subtraction both tests and converts it.
+        // It is at most 9 exactly if the byte is a digit, so one subtraction tests and converts it.
         let digit = (bytes[at] as u64).wrapping_sub(b'0' as u64);
         if digit <= 9 {
             at += 1;
@@ -142,11 +136,10 @@ pub(crate) fn read_number(s: &str) -> Option<(u64, &str)>
             } else {
                 value * 10 + digit
             };
+        } else if let Some(next) = skip_whitespace_char(s, at) {
+            at = next;
         } else {
-            match skip_whitespace_char(s, at) {
-                Some(next) => at = next,
-                None => break,
-            }
+            break;
         }
     }
     Some((value, &s[at..]))
@@ -154,7 +147,7 @@ pub(crate) fn read_number(s: &str) -> Option<(u64, &str)>
 
 /// Returns what follows the decimal point at the start of the text, or `None` if there is no point.
 #[inline(always)]
-#[tactic(auto, using(crate::proofs::Durations::Bytes::Tails::slice_tail, crate::proofs::Durations::Bytes::PlaceSteps::point_over))]
+#[tactic(auto, using(crate::proofs::Durations::Bytes::Tails::slice_tail, crate::proofs::Durations::Bytes::Tails::no_bytes, crate::proofs::Durations::Bytes::PlaceSteps::char_at, crate::proofs::Durations::Bytes::PlaceSteps::starts, std::proofs::lemmas::Bool::cases_lt, std::proofs::lemmas::Bool::ne_eqb, std::proofs::lemmas::Grind::common_steps, std::proofs::lemmas::Bool::Decides::nat_tests), unfolding(crate::specs::Durations::Characters::is_point))]
 pub(crate) fn skip_point(s: &str) -> Option<&str>
     ensures read { option_map (λ t. chars t.now) result ≡ after_point (chars s.now) }
     ensures rest { IfSome result (λ t. IsTail s.now t.now) }
@@ -174,23 +167,22 @@ pub(crate) fn read_fraction(s: &str) -> Option<(Decimal, &str)>
     ensures rest { IfSome result (λ x. IsTail s.now x.1.now) }
 {
     let bytes = s.as_bytes();
-    let mut decimal = Decimal::EMPTY;
+    let mut decimal = Decimal::default();
     let mut at = 0;
     while at < bytes.len() {
         if bytes[at].is_ascii_digit() {
             decimal = decimal.push(bytes[at])?;
             at += 1;
+        } else if let Some(next) = skip_whitespace_char(s, at) {
+            at = next;
         } else {
-            match skip_whitespace_char(s, at) {
-                Some(next) => at = next,
-                None => break,
-            }
+            break;
         }
     }
     Some((decimal, &s[at..]))
 }
 
-/// Returns what follows the letters at the start of the text, or `None` if it begins with any other character.
+/// Returns what follows the letters (ASCII, `µ` or `μ`) at the start of the text, or `None` if it begins with another character.
 #[inline(always)]
 #[tactic(auto, using(crate::proofs::Durations::Bytes::Tails::no_chars_at, crate::proofs::Durations::Bytes::Tails::slice_tail, crate::proofs::Durations::Bytes::PlaceSteps::starts))]
 pub(crate) fn skip_word(s: &str) -> Option<&str>
@@ -200,23 +192,21 @@ pub(crate) fn skip_word(s: &str) -> Option<&str>
     let bytes = s.as_bytes();
     let mut at = 0;
     while at < bytes.len() {
+        // `>= 0x80` is tested first, so that an ASCII character that ends the word costs one test.
         if bytes[at].is_ascii_alphabetic() {
             at += 1;
-            // With `>= 0x80` first, one test ends a word before an ASCII character.
         } else if bytes[at] >= 0x80 && at + 1 < bytes.len() && is_mu(bytes[at], bytes[at + 1]) {
             at += 2;
         } else {
             break;
         }
     }
-    if at == 0 && !s.is_empty() {
-        return None;
-    }
-    Some(&s[at..])
+    // At the end of the text, the word is empty: the caller reports that the unit is missing.
+    (at > 0 || s.is_empty()).then_some(&s[at..])
 }
 
-/// Returns the text after a span, given the text after its word: without its first character if that is whitespace. Returns `None` if it
-/// begins with a character other than a digit or whitespace, which may not follow a word.
+/// Takes the text after the word of a span. Returns it without its first character if that is whitespace, unchanged if it is empty or begins
+/// with a digit, and otherwise `None`, since no other character may follow a word.
 ///
 /// It skips one character, since there is usually only one before the next digit. `skip_whitespace` skips the others.
 #[inline(always)]

@@ -24,17 +24,14 @@ fn add_times(sum: StdDuration, one: Quantity, count: u64) -> Option<StdDuration>
 }
 
 /// Returns the fraction times `factor`, or `None` if that is not a whole number or the significand times `factor` overflows.
-#[tactic(auto, using(crate::proofs::Durations::Bytes::Additions::power_positive))]
+#[tactic(auto, using(crate::proofs::Durations::Bytes::FractionDigits::power_positive))]
 fn part_of(fraction: Decimal, factor: u64) -> Option<u64>
     requires { fraction.exponent ≤ max_fraction_digits }
     ensures { SomeIff result (IsTrue (is_whole_part factor fraction.significand fraction.exponent)) (fraction.significand * factor / 10 ^ fraction.exponent) }
 {
     let scaled = fraction.significand.checked_mul(factor)?;
     let power = power_of_ten(fraction.exponent);
-    if scaled % power != 0 {
-        return None;
-    }
-    Some(scaled / power)
+    (scaled % power == 0).then_some(scaled / power)
 }
 
 /// Returns `sum` plus the fraction of `one`, or `None` on overflow or if that part is not a whole number.
@@ -54,6 +51,7 @@ fn add_part(sum: StdDuration, one: Option<Quantity>, fraction: Decimal) -> Optio
 /// Returns `total` plus what a span adds: first its number, then its fraction. Returns `None` on overflow, or if the fraction is not a
 /// whole number of nanoseconds or of seconds.
 #[inline(always)]
+#[tactic(auto, using(crate::proofs::Durations::Reading::SignificantDigits::amount_kept, std::proofs::lemmas::Grind::common_steps), unfolding(crate::specs::Results::Walks::add_all, crate::specs::Results::Walks::add_span))]
 pub(crate) fn add_amount(total: StdDuration, amount: Amount) -> Option<StdDuration>
     ensures { (s : SpelledSpan) → IsAmountOf amount s → result ≡ add_span total s }
 {

@@ -1,20 +1,20 @@
 -- Offsets in a text, and the characters at them.
 use Rattle.std.proofs.lemmas.Grind.{common_steps}
-use Rattle.std.proofs.Common.{◌≡◌, ◌<◌, ◌≤◌, ◌+◌, ℕ, List, [], ◌∷◌, ◌++◌, length, get_or, drop, refl, ap, sym, ◌∙◌, arith, length-drop, IsUtf8, IsCharBoundary, chars, encode_utf8, encode_utf8_all, Bool, true, false, inl, inr}
-use Rattle.std.specs.Prelude.{◌==◌, ◌&&◌, ◌||◌, Some, None, slice_get, if◌then◌else◌}
-use Rattle.std.specs.Char.{is_ascii_digit, is_ascii_alphabetic, is_whitespace as std_is_whitespace, len_utf8}
+use Rattle.std.proofs.Common.{◌≡◌, ◌<◌, ◌≤◌, ◌+◌, ℕ, List, [], ◌∷◌, ◌++◌, length, get_or, drop, refl, ap, sym, ◌∙◌, arith, length-drop, IsUtf8, IsCharBoundary, chars, encode_utf8, encode_utf8_all, Bool, true, false}
+use Rattle.std.specs.Prelude.{◌==◌, ◌&&◌, ◌||◌}
+use Rattle.std.specs.Char.{is_ascii_digit, len_utf8}
 use Rattle.std.proofs.Math.Utf8.{encode}
-use Rattle.std.proofs.lemmas.Bool.{cases_lt, or_cases, and_parts, eqb-true}
+use Rattle.std.proofs.lemmas.Bool.{cases_lt}
 use Rattle.std.proofs.lemmas.Bool.Decides.{nat_tests}
 use Rattle.std.proofs.lemmas.List.{get_or-drop}
 use Rattle.std.proofs.lemmas.Str.{IsUtf8-drop, IsCharBoundary-past_char, drop_past_char, chars_past_char, byte_from_char, char_from_byte, len_utf8_ascii, len_utf8_bounds, encodes-chars, encode_same, IsCharBoundary-start}
 use Rattle.humantime.specs.Durations.Errors.{IsCharStartIn}
 use Rattle.humantime.specs.Texts.{begins, drop_while}
-use Rattle.humantime.specs.Durations.Characters.{is_letter, is_whitespace, whitespace_chars, is_digit, is_point}
+use Rattle.humantime.specs.Durations.Characters.{is_letter, is_whitespace, whitespace_chars, is_digit}
 use Rattle.humantime.specs.Steps.Readers.{after_space}
 use Rattle.humantime.specs.Steps.Scanning.{whitespace_len}
-use Rattle.humantime.specs.Durations.Faults.{after_point, may_follow_span}
-use Rattle.humantime.proofs.Durations.Reading.Classes.{digit_is, digit_not_whitespace, whitespace_is_numeric, letter_not_whitespace, whitespace_is}
+use Rattle.humantime.specs.Durations.Faults.{may_follow_span}
+use Rattle.humantime.proofs.Durations.Reading.Classes.{digit_not_whitespace, letter_not_whitespace, whitespace_is_numeric}
 
 -- A character may begin at the start of a text.
 pub ruleset starts = (IsCharBoundary-start)
@@ -39,16 +39,17 @@ char_at text at u here = by (chars (drop at text)) (encodes-chars (drop at text)
         let some : 0 < length rest = omega (arith, length-drop at text, here.0) in
         let behind : drop (at + len_utf8 c) text ≡ encode_utf8_all cs = drop_past_char text (encode_utf8_all cs) at c (sym e) in
         let bytes : rest ≡ encode_utf8 c ++ drop (at + len_utf8 c) text = sym e ∙ ap (λ (x : List ℕ). encode_utf8 c ++ x) (sym behind) in
-        let first : get_or rest 0 0 ≡ get_or text at 0 = get_or-drop at text 0 0 ∙ ap (λ (k : ℕ). get_or text k 0) (omega arith) in
-        let is_there : IsCharAt text at c (at + len_utf8 c) = record {
-          bytes = bytes;
-          ahead = chars_past_char rest (drop (at + len_utf8 c) text) c utf8 bytes;
-          place = IsCharBoundary-past_char text (encode_utf8_all cs) at c (omega (arith, here.0)) utf8 (sym e);
-          long = refl;
-          ascii = λ small. char_from_byte rest (encode_utf8_all cs) c (sym e) (omega (arith, first, small)) some ∙ first;
-          wide = λ large. grind (arith, (cases_lt c 128), (byte_from_char rest (encode_utf8_all cs) c (sym e)), first, large, some);
-        } in
-        (c, is_there)
+        let first : get_or rest 0 0 ≡ get_or text at 0 = get_or-drop at text 0 0 ∙ ap (λ (k : ℕ). get_or text k 0) (omega arith) in (
+          c,
+          record {
+            bytes = bytes;
+            ahead = chars_past_char rest (drop (at + len_utf8 c) text) c utf8 bytes;
+            place = IsCharBoundary-past_char text (encode_utf8_all cs) at c (omega (arith, here.0)) utf8 (sym e);
+            long = refl;
+            ascii = λ small. char_from_byte rest (encode_utf8_all cs) c (sym e) (omega (arith, first, small)) some ∙ first;
+            wide = λ large. grind (arith, (cases_lt c 128), (byte_from_char rest (encode_utf8_all cs) c (sym e)), first, large, some);
+          },
+        )
 
 -- An ASCII byte is a character.
 pub ascii_at : (text : List ℕ) (at : ℕ) → IsUtf8 text → IsCharStartIn text at → get_or text at 0 < 128 → IsCharAt text at (get_or text at 0) (at + 1)
@@ -56,9 +57,8 @@ ascii_at text at u here small = grind (arith, common_steps, nat_tests, char_at, 
 
 -- There is a digit at an offset if and only if its byte is one.
 pub digit_at : (text : List ℕ) (at : ℕ) → IsUtf8 text → IsCharStartIn text at → is_ascii_digit (get_or text at 0) ≡ begins is_digit (chars (drop at text))
-digit_at text at u here =
-    let c = char_at text at u here in
-    rw (c.1.ahead, ← digit_is) (grind (arith, nat_tests, (cases_lt (get_or text at 0) 128), c.1.ascii, c.1.wide))
+unfolding is_digit
+digit_at text at u here = grind (arith, nat_tests, (char_at text at u here), (cases_lt (get_or text at 0) 128))
 
 -- Whitespace at an offset is a character of its length.
 pub whitespace_over : (text : List ℕ) (at next : ℕ) → IsUtf8 text → IsCharStartIn text at → 0 < whitespace_len (chars (drop at text))
@@ -68,24 +68,9 @@ whitespace_over text at next u here some n = let c = char_at text at u here in g
 pub no_whitespace : (cs : List ℕ) → ¬ (0 < whitespace_len cs) → begins is_whitespace cs ≡ false
 no_whitespace cs none = grind (arith, len_utf8_bounds)
 
--- The whitespace at the start of a text is its first character, if that is whitespace.
-pub first_width : (cs : List ℕ) (c : ℕ) (white : Bool) → Some c ≡ slice_get cs 0 → white ≡ std_is_whitespace c
-    → (if white then len_utf8 c else 0) ≡ whitespace_len cs
-first_width cs c white e w = grind (arith, whitespace_is)
-
-pub none_width : (cs : List ℕ) → None ≡ slice_get cs 0 → 0 ≡ whitespace_len cs
-none_width cs e = grind arith
-
 -- A text that begins with a digit has no leading whitespace.
 pub digit_stays : (cs : List ℕ) → begins is_digit cs ≡ true → cs ≡ drop_while is_whitespace cs
 digit_stays cs d = grind (arith, digit_not_whitespace)
-
--- The text after the point, and its offset.
-pub point_over : (text : List ℕ) → IsUtf8 text → 0 < length text → get_or text 0 0 ≡ 46
-    → IsCharBoundary text 1 × (after_point (chars text) ≡ Some (chars (drop 1 text)))
-unfolding is_point
-point_over text u some e =
-    grind (arith, (ascii_at text 0 u (some, IsCharBoundary-start text u)))
 
 -- ---- letters
 
@@ -93,38 +78,20 @@ point_over text u some e =
 abbrev pub is_mu_pair : ℕ → ℕ → Bool
 is_mu_pair first second = (first == 0xc2 && second == 0xb5) || (first == 0xce && second == 0xbc)
 
--- A character of two bytes is at an offset if its bytes are.
-two_over : (text : List ℕ) (at c x y : ℕ) → IsUtf8 text → IsCharBoundary text at → at + 1 < length text
-    → get_or text at 0 ≡ x → get_or text (at + 1) 0 ≡ y
-    → encode_utf8 c ≡ x ∷ y ∷ [] → IsCharAt text at c (at + len_utf8 c)
-two_over text at c x y u place some first second spelled =
-    let d = char_at text at u (omega arith, place) in
-    grind (arith, common_steps, (encode_same d.0 c (drop (at + len_utf8 d.0) text) (drop (at + 2) text)), d)
-
 -- Passing one of the two letters that are not ASCII.
 pub mu_over : (text : List ℕ) (at : ℕ) → IsUtf8 text → IsCharBoundary text at → at + 1 < length text
     → is_mu_pair (get_or text at 0) (get_or text (at + 1) 0) ≡ true
     → (c : ℕ) × (is_letter c ≡ true) × IsCharAt text at c (at + 2)
 unfolding is_letter encode
-mu_over text at u place some pair = elim (or_cases _ _ pair) [
-  | inl micro ↦
-      let p = and_parts _ _ micro in
-      (181, refl, two_over text at 181 0xc2 0xb5 u place some (eqb-true _ _ p.0) (eqb-true _ _ p.1) refl)
-  | inr mu ↦
-      let p = and_parts _ _ mu in
-      (956, refl, two_over text at 956 0xce 0xbc u place some (eqb-true _ _ p.0) (eqb-true _ _ p.1) refl)
-]
+mu_over text at u place some pair =
+    let d = char_at text at u (omega arith, place) in
+    let behind = drop (at + len_utf8 d.0) text in
+    grind (arith, common_steps, nat_tests, (encode_same d.0 181 behind (drop (at + 2) text)), (encode_same d.0 956 behind (drop (at + 2) text)), d)
 
 -- A mu is not whitespace.
 pub no_whitespace_at_mu : (text : List ℕ) (at : ℕ) → IsUtf8 text → IsCharBoundary text at → at + 1 < length text
     → is_mu_pair (get_or text at 0) (get_or text (at + 1) 0) ≡ true → whitespace_len (chars (drop at text)) ≡ 0
 no_whitespace_at_mu text at u place some pair = grind (arith, common_steps, nat_tests, letter_not_whitespace, mu_over)
-
--- An ASCII letter is one byte.
-pub letter_over : (text : List ℕ) (at : ℕ) → IsUtf8 text → IsCharStartIn text at → is_ascii_alphabetic (get_or text at 0) ≡ true
-    → (is_letter (get_or text at 0) ≡ true) × IsCharAt text at (get_or text at 0) (at + 1)
-unfolding is_letter
-letter_over text at u here e = grind (arith, common_steps, nat_tests, ascii_at)
 
 -- ---- what ends a span
 

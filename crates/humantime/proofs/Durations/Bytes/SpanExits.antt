@@ -43,16 +43,6 @@ word_read word next w = grind (arith, common_steps)
 abbrev pub is_bare : Option Counted → Bool
 is_bare fraction = is_some_and (λ x. x.2 == 0) fraction
 
-pub exit_word : {rest after word : List ℕ} {value : ℕ} {fraction : Option Decimal} (text : List ℕ) → HasRead rest value after fraction word → None ≡ skip_word (chars word)
-    → Err (InvalidCharacter (offset_of text (chars word))) ≡ read_span text (chars rest)
-unfolding stop_at
-exit_word text b w = grind (arith, common_steps, no_letters)
-
-pub exit_bare : {rest after word : List ℕ} {value : ℕ} {fraction : Option Decimal} (text next : List ℕ) → HasRead rest value after fraction word → Some next ≡ skip_word (chars word)
-    → is_bare (option_map parts_of fraction) ≡ true → Err (InvalidCharacter (offset_of text (chars after))) ≡ read_span text (chars rest)
-unfolding stop_at
-exit_bare text next b w bare = grind (arith, common_steps)
-
 pub exit_end : {rest after word : List ℕ} {value : ℕ} {fraction : Option Decimal} (text next : List ℕ) → HasRead rest value after fraction word → Some next ≡ skip_word (chars word)
     → is_bare (option_map parts_of fraction) ≡ false → None ≡ end_span next → Err (InvalidCharacter (offset_of text next)) ≡ read_span text (chars rest)
 unfolding stop_at

@@ -1,7 +1,8 @@
 -- The end parts of a text, as bytes.
+use Rattle.std.proofs.lemmas.Bool.Decides.{nat_tests}
 use Rattle.std.proofs.lemmas.Grind.{common_steps}
-use Rattle.std.proofs.Common.{◌≡◌, ◌≢◌, ◌≤◌, ◌-◌, ◌+◌, ℕ, Bool, true, false, List, [], ◌++◌, length, take, drop, ap, sym, ◌∙◌, arith, length-append, length-drop, length-take, IsUtf8, IsCharBoundary, chars}
-use Rattle.std.specs.Prelude.{slice_range}
+use Rattle.std.proofs.Common.{◌≡◌, ◌≢◌, ◌≤◌, ◌-◌, ◌+◌, ℕ, Bool, List, [], ◌++◌, length, take, drop, ap, ◌∙◌, arith, length-append, length-drop, length-take, IsUtf8, IsCharBoundary, chars}
+use Rattle.std.specs.Prelude.{◌==◌, ◌&&◌, not, slice_range}
 use Rattle.std.proofs.lemmas.List.{take-append-drop, drop-drop, append_cancel_right}
 use Rattle.std.proofs.lemmas.Str.{IsUtf8-take, IsCharBoundary-at_seam, encodes-chars, chars-append, chars-nil}
 use Rattle.humantime.specs.Texts.{take_while, drop_while}
@@ -23,14 +24,13 @@ slice_tail text rest at u v e n = record { shorter = omega (arith, n); ends = e 
 pub tail_tail : (text middle rest : List ℕ) → IsTail text middle → IsTail middle rest → IsTail text rest
 tail_tail text middle rest t r = record {
   shorter = omega (arith, t.shorter, r.shorter);
-  ends = r.ends ∙ ap (drop (length middle - length rest)) t.ends ∙ drop-drop (length middle - length rest) (length text - length middle) text
-      ∙ ap (λ (k : ℕ). drop k text) (omega (arith, t.shorter, r.shorter));
+  ends = grind (arith, t.ends, r.ends, t.shorter, r.shorter, (drop-drop (length middle - length rest) (length text - length middle) text));
   utf8 = r.utf8;
   whole = t.whole;
 }
 
 pub tail_whole : (text rest : List ℕ) → IsTail text rest → text ≡ front_of text rest ++ rest
-tail_whole text rest t = sym (take-append-drop (length text - length rest) text) ∙ ap (λ (x : List ℕ). front_of text rest ++ x) (sym t.ends)
+tail_whole text rest t = grind (arith, t.ends, (take-append-drop (length text - length rest) text))
 
 pub tail_boundary : (text rest : List ℕ) → IsTail text rest → IsCharBoundary text (length text - length rest)
 tail_boundary text rest t = grind (arith, common_steps, ap length (tail_whole text rest t), length-append (front_of text rest) rest, IsCharBoundary-at_seam)
@@ -39,9 +39,8 @@ tail_boundary text rest t = grind (arith, common_steps, ap length (tail_whole te
 pub front_is : (p : ℕ → Bool) (text : List ℕ) (at : ℕ) → IsUtf8 text → IsCharBoundary text at → chars (drop at text) ≡ drop_while p (chars text)
     → chars (take at text) ≡ take_while p (chars text)
 front_is p text at u place after =
-    append_cancel_right (chars (take at text)) (take_while p (chars text)) (drop_while p (chars text))
-    (ap (λ (x : List ℕ). chars (take at text) ++ x) (sym after) ∙ sym (chars-append (take at text) (drop at text) (IsUtf8-take text at u place))
-    ∙ ap chars (take-append-drop at text) ∙ sym (take_while-drop_while p (chars text)))
+    append_cancel_right _ _ (drop_while p (chars text))
+    (grind (arith, after, (chars-append (take at text) (drop at text) (IsUtf8-take text at u place)), (take-append-drop at text), (take_while-drop_while p (chars text))))
 
 -- A rest that is not empty begins at a character.
 pub tail_place : (text rest : List ℕ) → IsTail text rest → chars rest ≢ [] → IsCharStartIn text (length text - length rest)
@@ -58,19 +57,10 @@ tail_part text a b part t u e = (tail_range text a b t u, grind (arith, common_s
 pub front_read : (p : ℕ → Bool) (text rest front : List ℕ) → IsTail text rest → chars rest ≡ drop_while p (chars text) → front ≡ slice_range text 0 (length text - length rest)
     → chars front ≡ take_while p (chars text)
 front_read p text rest front t e f =
-    let is : front ≡ front_of text rest = grind (arith, common_steps) in
-    ap chars is ∙ front_is p text (length text - length rest) t.whole (tail_boundary text rest t) (ap chars (sym t.ends) ∙ e)
+    grind (arith, common_steps, t.ends, (front_is p text (length text - length rest) t.whole (tail_boundary text rest t)))
 
 pub front_chars : (text rest front : List ℕ) → IsTail text rest → IsUtf8 front → front ≡ slice_range text 0 (length text - length rest) → chars text ≡ chars front ++ chars rest
-front_chars text rest front t u f =
-    let is : front ≡ front_of text rest = grind (arith, common_steps) in
-    ap chars (tail_whole text rest t ∙ ap (λ (x : List ℕ). x ++ rest) (sym is)) ∙ chars-append front rest u
-
-letter_begins : (cs : List ℕ) → take_while is_letter cs ≢ [] → begins_with_nonletter cs ≡ false
-letter_begins cs some = grind arith
-
-pub no_letter_begins : (cs : List ℕ) → take_while is_letter cs ≡ [] → cs ≢ [] → begins_with_nonletter cs ≡ true
-no_letter_begins cs none some = grind arith
+front_chars text rest front t u f = grind (arith, common_steps, (tail_whole text rest t), (chars-append front rest u))
 
 pub tail_offset : (text rest : List ℕ) → IsTail text rest → length text - length rest ≡ offset_of (chars text) (chars rest)
 tail_offset text rest t = grind (arith, encodes-chars)
@@ -86,6 +76,9 @@ pub no_chars_at : (text : List ℕ) (at : ℕ) → length text ≤ at → chars 
 no_chars_at text at end = no_bytes (drop at text) (omega (arith, length-drop at text))
 
 -- A text begins with a word if and only if its letters end after its start.
-pub a_word : (text : List ℕ) (at : ℕ) → IsUtf8 text → IsCharBoundary text at → chars (drop at text) ≡ drop_while is_letter (chars text) → at ≢ 0
-    → begins_with_nonletter (chars text) ≡ false
-a_word text at u place rest some = grind (arith, common_steps, length-take, letter_begins, some_chars, IsUtf8-take, front_is)
+pub word_begins : (text : List ℕ) (at : ℕ) → IsUtf8 text → IsCharBoundary text at → chars (drop at text) ≡ drop_while is_letter (chars text)
+    → begins_with_nonletter (chars text) ≡ (at == 0 && not (length text == 0))
+word_begins text at u place rest =
+    let letters = front_is is_letter text at u place rest in
+    let begins_is : begins_with_nonletter (chars text) ≡ (length (take_while is_letter (chars text)) == 0 && not (length (chars text) == 0)) = grind (arith, common_steps, nat_tests) in
+    grind (arith, common_steps, nat_tests, length-take, IsUtf8-take, some_chars, no_bytes, letters, begins_is)

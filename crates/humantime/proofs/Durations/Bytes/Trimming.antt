@@ -1,10 +1,11 @@
 -- Slices without leading and trailing whitespace.
 use Rattle.std.proofs.lemmas.Grind.{common_steps}
-use Rattle.std.proofs.Common.{◌≡◌, ℕ, suc, Bool, true, false, ◌&&◌, cond, eqb, List, [], ◌∷◌, ◌++◌, length, Some, None, ◌⊎◌, inl, refl, sym, ap, ◌∙◌, append-nil, arith, IsUtf8, chars}
+use Rattle.std.proofs.Common.{◌≡◌, ℕ, Bool, true, false, ◌&&◌, cond, eqb, List, [], ◌∷◌, ◌++◌, length, Some, None, ◌⊎◌, inl, refl, sym, ap, ◌∙◌, append-nil, arith, IsUtf8, chars}
 use Rattle.std.specs.Char.{is_whitespace as std_is_whitespace}
 use Rattle.std.specs.Str.{trim_start, trim_end, skip_leading_whitespace, drop_trailing_whitespace}
 use Rattle.std.proofs.lemmas.Str.{encodes-chars, encodes_same}
 use Rattle.std.proofs.lemmas.Bool.Decides.{nat_tests}
+pub use Rattle.std.proofs.Math.Dec.{eqb-suc-zero as suc_not_zero}
 use Rattle.std.proofs.lemmas.List.Elements.{filter-append}
 use Rattle.humantime.specs.Texts.{begins, ends, drop_while}
 use Rattle.humantime.specs.Durations.Characters.{is_whitespace, is_digit, is_letter, is_numeric, digits, is_point}
@@ -14,9 +15,6 @@ use Rattle.humantime.specs.Results.Items.{trimmed, fraction_slice, view_at, spel
 use Rattle.humantime.specs.Durations.Items.{IsDigitSlice}
 use Rattle.humantime.proofs.Durations.Reading.Classes.{whitespace_is, whitespace_not_digit, digit_from_numeric, letter_not_whitespace}
 use Rattle.humantime.proofs.Durations.Reading.Runs.{take_while-append}
-
-pub suc_not_zero : (n : ℕ) → eqb (suc n) 0 ≡ false
-suc_not_zero n = grind (arith, nat_tests)
 
 -- `ds` is `cs` without trailing whitespace.
 pub record Dropped (cs ds : List ℕ) : Type 0 where

@@ -6,21 +6,23 @@ use Rattle.humantime.specs.Texts.{take_while, drop_while}
 use Rattle.humantime.specs.Durations.Characters.{is_numeric, is_letter, offset_of}
 use Rattle.humantime.specs.Durations.Units.{scale_of_word}
 use Rattle.humantime.specs.Results.Items.{spelled}
+use Rattle.humantime.specs.Results.Walks.{stop_at}
 use Rattle.humantime.specs.Steps.Scales.{parts_of}
 use Rattle.humantime.proofs.Durations.Bytes.Tails.{tail_offset, tail_tail, tail_part, tail_range, front_read, front_chars}
-use Rattle.humantime.proofs.Durations.Bytes.SpanExits.{fraction_digits, word_read, view_read, is_bare, exit_word, exit_bare, exit_end, exit_unit, no_exit}
+use Rattle.humantime.proofs.Durations.Bytes.SpanExits.{no_letters, fraction_digits, word_read, view_read, is_bare, exit_end, exit_unit, no_exit}
 use Rattle.humantime.proofs.Durations.Bytes.Trimming.{spelled_at}
 use Rattle.humantime.proofs.duration.reader.complete_span.Goals as goal
 
 pub returns-in_default-clause-read : goal.returns-in_default-clause-read
+unfolding stop_at
 returns-in_default-clause-read c =
-    rw (tail_offset _ _ (tail_tail _ _ _ (tail_tail _ _ _ c.requires.tail c.requires.parts.value_tail) c.requires.parts.decimals_tail)) (exit_word _ c.requires.parts c.in_default.ensures.read)
+    rw (tail_offset _ _ (tail_tail _ _ _ (tail_tail _ _ _ c.requires.tail c.requires.parts.value_tail) c.requires.parts.decimals_tail)) (grind (arith, common_steps, no_letters))
 
 pub returns-then-is_some_and-clause-read : goal.returns-then-is_some_and-clause-read
+unfolding stop_at
 returns-then-is_some_and-clause-read c =
-    let b = c.requires.parts in
     let bare : is_bare (option_map parts_of c.args.fraction) ≡ c.is_some_and.result = grind (arith, c.is_some_and.ensures, common_steps, nat_tests) in
-    rw (tail_offset _ _ (tail_tail _ _ _ c.requires.tail b.value_tail)) (exit_bare _ _ b c.in-Some.ensures.read (bare ∙ c.if-is_some_and.true))
+    rw (tail_offset _ _ (tail_tail _ _ _ c.requires.tail c.requires.parts.value_tail)) (grind (arith, common_steps))
 
 pub returns-in_default-end_span-clause-read : goal.returns-in_default-end_span-clause-read
 returns-in_default-end_span-clause-read c =

@@ -1,6 +1,6 @@
 use Rattle.std.proofs.lemmas.Bool.Decides.{nat_tests}
 use Rattle.std.proofs.lemmas.Grind.{common_steps}
-use Rattle.std.proofs.Common.{◌≡◌, ◌+◌, ◌++◌, ◌∷◌, [], get_or, refl, chars, drop, false, arith, length-append, append-nil, append_assoc}
+use Rattle.std.proofs.Common.{◌≡◌, ◌+◌, ◌++◌, ◌∷◌, [], get_or, chars, drop, false, arith, length-append, append-nil, append_assoc}
 use Rattle.humantime.specs.Texts.{begins}
 use Rattle.humantime.specs.Durations.Characters.{is_numeric, without_trailing_zeros}
 use Rattle.humantime.specs.Durations.Faults.{number_of}
@@ -8,11 +8,11 @@ use Rattle.humantime.proofs.Durations.Bytes.Numbers.{read_digit, read_whitespace
 use Rattle.humantime.proofs.Durations.Bytes.PlaceSteps.{starts}
 use Rattle.humantime.proofs.Durations.Bytes.Tails.{no_chars_at}
 use Rattle.humantime.proofs.duration.scan.read_fraction.Goals as goal
-use Rattle.humantime.proofs.duration.scan.read_fraction.Goals.{else-loop-at-test, then-loop-at-test+else-is_ascii_digit+in-None}
+use Rattle.humantime.proofs.duration.scan.read_fraction.Goals.{else-loop-at-test, then-loop-at-test+else-is_ascii_digit+in_default}
 
 pub loop-at-init : goal.loop-at-init
 unfolding without_trailing_zeros
-loop-at-init c = record { taken = []; read = grind (arith, starts); digits = record { parts = refl; few = omega arith; fits = omega arith }; few = omega arith }
+loop-at-init c = record { taken = []; read = grind (arith, starts); digits = record { parts = grind arith; few = grind arith; fits = grind arith }; few = omega arith }
 
 pub loop-at-preserved-then-is_ascii_digit : goal.loop-at-preserved-then-is_ascii_digit
 loop-at-preserved-then-is_ascii_digit c =
@@ -38,5 +38,5 @@ returns-in_err-decimal-clause-read c =
 pub returns-clause-read : goal.returns-clause-read
 returns-clause-read c =
     let i = c.loop-at.invariant in
-    let ended : begins is_numeric (chars (drop c.loop-at.at c.args.s.now)) ≡ false = grind (arith, else-loop-at-test, then-loop-at-test+else-is_ascii_digit+in-None, no_chars_at, stops_here) in
+    let ended : begins is_numeric (chars (drop c.loop-at.at c.args.s.now)) ≡ false = grind (arith, else-loop-at-test, then-loop-at-test+else-is_ascii_digit+in_default, no_chars_at, stops_here) in
     grind (arith, common_steps, nat_tests, ended, append-nil, i.read, i.digits.parts, i.digits.few)

@@ -8,7 +8,7 @@ use Rattle.humantime.proofs.Durations.Bytes.Numbers.{other_left, first_digit, di
 use Rattle.humantime.proofs.Durations.Bytes.PlaceSteps.{starts}
 use Rattle.humantime.proofs.Durations.Bytes.Tails.{no_chars_at}
 use Rattle.humantime.proofs.duration.scan.read_number.Goals as goal
-use Rattle.humantime.proofs.duration.scan.read_number.Goals.{else-loop-at-test, then-loop-at-test+else-digit-le9+in-None}
+use Rattle.humantime.proofs.duration.scan.read_number.Goals.{else-loop-at-test, then-loop-at-test+else-digit-le9+in_default}
 
 pub loop-at-init : goal.loop-at-init
 loop-at-init c = grind (arith, nat_tests, starts, first_digit, (read_digit c.args.s.now 0 c.utf8.s), digit_value_digit, digit_range, digit_is, c.type_inv.bytes)
@@ -30,5 +30,5 @@ returns-in_err-value-clause-read c =
 
 pub returns-clause-read : goal.returns-clause-read
 returns-clause-read c =
-    let ended : begins is_numeric (chars (drop c.loop-at.at c.args.s.now)) ≡ false = grind (arith, else-loop-at-test, then-loop-at-test+else-digit-le9+in-None, no_chars_at, other_left, stops_here) in
+    let ended : begins is_numeric (chars (drop c.loop-at.at c.args.s.now)) ≡ false = grind (arith, else-loop-at-test, then-loop-at-test+else-digit-le9+in_default, no_chars_at, other_left, stops_here) in
     grind (arith, nat_tests, ended, c.loop-at.invariant)

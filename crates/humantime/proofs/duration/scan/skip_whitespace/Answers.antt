@@ -2,7 +2,7 @@ use Rattle.std.proofs.Common.{arith}
 use Rattle.humantime.proofs.Durations.Bytes.PlaceSteps.{whitespace_over, no_whitespace}
 use Rattle.humantime.proofs.Durations.Bytes.Tails.{no_chars_at}
 use Rattle.humantime.proofs.duration.scan.skip_whitespace.Goals as goal
-use Rattle.humantime.proofs.duration.scan.skip_whitespace.Goals.{else-loop-at-test, then-loop-at-test+in-None}
+use Rattle.humantime.proofs.duration.scan.skip_whitespace.Goals.{else-loop-at-test, then-loop-at-test+in-None-1}
 
 pub loop-at-preserved : goal.loop-at-preserved
 loop-at-preserved c = grind (arith, (whitespace_over c.args.s.now c.loop-at.at c.in-Some.next c.utf8.s))
@@ -11,4 +11,4 @@ pub skip_spaces-at-requires : goal.skip_spaces-at-requires
 skip_spaces-at-requires c = (whitespace_over _ _ _ c.utf8.s (grind arith, c.loop-at.invariant.place) c.in-Some.ensures.0 c.in-Some.ensures.1).2.place
 
 pub returns-clause-read : goal.returns-clause-read
-returns-clause-read c = grind (arith, else-loop-at-test, no_chars_at, then-loop-at-test+in-None, no_whitespace)
+returns-clause-read c = grind (arith, else-loop-at-test, no_chars_at, then-loop-at-test+in-None-1, no_whitespace)
