@@ -34,7 +34,7 @@ more_same start len skip (suc n) text s reached =
 
 -- As much of a text was added to a piece as fits.
 pub longer_piece : (start skipped count : ℕ) (text s : List ℕ) (old new : Piece) → IsPiece start text old → skipped ≡ min old.skip (length s)
-    → count ≡ min (length s - skipped) (256 - old.len) → new.skip ≡ old.skip - skipped → new.len ≡ old.len + count
+    → count ≡ min (length s - skipped) (192 - old.len) → new.skip ≡ old.skip - skipped → new.len ≡ old.len + count
     → new.is_cut ≡ (old.is_cut || nat_lt count (length s - skipped))
     → take new.len new.bytes ≡ take old.len old.bytes ++ take count (drop skipped s) → IsPiece start (text ++ s) new
 longer_piece start skipped count text s old new is most fit skip len cut bytes =

@@ -1,24 +1,24 @@
-//! [`Piece`]: the bytes of a line from an offset on, as many as fit.
+//! [`Piece`]: up to 192 bytes of a line, from an offset on.
 
 ghost use Rattle.std.specs.Prelude.{◌≤◌};
 
 use std::fmt;
 
-/// The maximum number of bytes in a piece.
-const PIECE_LEN: usize = 256;
+/// The maximum number of bytes in a piece. Only the message for a unit of more than 72 bytes takes more than one.
+const PIECE_LEN: usize = 192;
 
 /// The bytes of a text from an offset on, as many as fit.
 ///
-/// Its `fmt::Write` appends to the text.
+/// The whole text is written to it: it skips the bytes before the offset, and drops those that do not fit.
 #[derive(Drop)]
 pub(crate) struct Piece {
-    /// The number of bytes that the text still lacks to reach the offset.
+    /// The number of bytes that it still skips.
     skip: usize,
     bytes: [u8; PIECE_LEN],
     len: usize,
     /// Whether some bytes did not fit.
-    is_cut: bool,
-    ghost in_range: { len ≤ 256 },
+    pub(crate) is_cut: bool,
+    ghost in_range: { len ≤ 192 },
 }
 
 impl Piece {
@@ -43,13 +43,6 @@ impl Piece {
     {
         &self.bytes[..self.len]
     }
-
-    /// Returns `true` if the line has bytes after those of the piece.
-    pub(crate) fn is_cut(&self) -> bool
-        ensures { result ≡ self.now.is_cut }
-    {
-        self.is_cut
-    }
 }
 
 impl fmt::Write for Piece {
@@ -57,6 +50,7 @@ impl fmt::Write for Piece {
 
     ghost write_str_gives = { AddsText };
 
+    #[inline(always)]
     fn write_str(&mut self, s: &str) -> fmt::Result {
         let skipped = self.skip.min(s.len());
         self.skip -= skipped;
