@@ -3,21 +3,24 @@ use Rattle.std.proofs.Common.{◌≡◌, ◌≢◌, ◌↔◌, ℕ, List, [], �
 use Rattle.std.specs.Prelude.{ℤ, None, Some, Result, Ok, Err, chars, codes, IsSome, IfOk, unwrap_or, if◌then◌else◌, ◌==◌}
 use Rattle.std.specs.Result.{result_map_both}
 use Rattle.humantime.specs.declared.date.error.TimestampError.{TimestampError}
-use Rattle.humantime.specs.Prelude.{IsPrintable, fault_message, timestamp_message, canonical_answer, strict_answer, weak_answer, places_of, shortest_text}
-use Rattle.humantime.proofs.Theorems.{canonical_again, printed_some, one_stamp_outcome, printed_moment_reads, places_of_bound, strict_printable, weak_printable}
+use Rattle.humantime.specs.declared.duration.error.DurationError.{DurationError}
+use Rattle.humantime.specs.Prelude.{IsDurationAnswer, IsPrintable, duration_text, fault_of, fault_message, timestamp_message, canonical_answer, strict_answer, weak_answer, places_of, shortest_text}
+use Rattle.humantime.proofs.Theorems.{canonical_again, printed_is_canon, printed_some, one_stamp_outcome, printed_moment_reads, places_of_bound, strict_printable, weak_printable}
 use Rattle.humantime_cli.specs.Answers.{Answers, OneAnswer, IsOutputOf, IsMomentOutput, Command, Duration, Strict, Weak}
-
--- A moment that was parsed satisfies any property of those that the text denotes.
-pub each_read : {T E : Type 0} {P Q : T → Type 0} (read : Result T E) → ((t : T) → (read ≡ Ok t) ↔ P t) → ((t : T) → P t → Q t) → IfOk read Q
-each_read read value all = grind (arith, value, all)
 
 -- The text of the moment that was parsed, or the message of its error.
 abbrev pub moment_written : Result ℤ TimestampError → Result (List ℕ) (List ℕ)
 moment_written read = result_map_both (λ t. unwrap_or (shortest_text t) []) timestamp_message read
 
--- A moment of 1970 to 9999 has a text.
-pub has_text : (t : ℤ) → IsPrintable t → IsSome (shortest_text t)
-has_text t within = rw (printed_some t (places_of t) (places_of_bound t) within).1 refl
+-- A moment that was parsed has a text.
+pub has_text : {P : ℤ → Type 0} (read : Result ℤ TimestampError) → ((t : ℤ) → (read ≡ Ok t) ↔ P t) → ((t : ℤ) → P t → IsPrintable t) → IfOk read (λ t. IsSome (shortest_text t))
+has_text (Ok t) value printable = rw (printed_some t (places_of t) (places_of_bound t) (printable t ((value t).0 refl))).1 refl
+has_text (Err e) value printable = tt
+
+pub tells_duration : {text : List ℕ} (read : Result ℕ DurationError) → IsDurationAnswer text read
+    → IsOutputOf Duration text (result_map_both duration_text (λ e. fault_message (fault_of e)) read)
+tells_duration (Ok d) is = record { duration = d; accepted = (is.value d).0 refl; canon = printed_is_canon d }
+tells_duration (Err e) is = (fault_of e, (is.fault (fault_of e)).0 refl, refl)
 
 pub tells_moment : {Denotes : ℤ → Type 0} {Has : TimestampError → Type 0} (read : Result ℤ TimestampError) → ((t : ℤ) → (read ≡ Ok t) ↔ Denotes t)
     → ((e : TimestampError) → (read ≡ Err e) ↔ Has e) → ((t : ℤ) → Denotes t → IsPrintable t) → IsMomentOutput Denotes Has (moment_written read)

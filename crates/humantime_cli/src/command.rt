@@ -1,15 +1,12 @@
-//! Runs one command: parses its argument, and writes the result or an error message. Built on `writing`.
+//! Runs one command: parses its argument, and writes the result or an error message.
 
-ghost use Rattle.std.specs.Prelude.{ℕ, List, [], Result, unwrap_or, Some, IfOk};
-ghost use Rattle.std.specs.Result.{result_map_both, result_unwrap_or};
-ghost use Rattle.humantime.specs.Prelude.{IsPrintable, shortest_text, timestamp_message};
-ghost use Rattle.humantime_cli.specs.Answers.{texts, streams, Ends, EndsWith, IsOutputOf, Duration, OneAnswer};
+ghost use Rattle.std.specs.Prelude.{[], unwrap_or, Some, IsSome, IfOk, IfErr};
+ghost use Rattle.std.specs.Result.{result_map_both};
+ghost use Rattle.humantime_cli.specs.Answers.{texts, streams, Ends, EndsWith, OneAnswer};
 
 use crate::writing::write_line;
-use humantime::{
-    SystemTime, Timestamp, TimestampError, parse_duration, parse_rfc3339, parse_rfc3339_weak,
-};
-use std::fmt;
+use humantime::{Duration, Timestamp, parse_rfc3339, parse_rfc3339_weak};
+use std::fmt::Display;
 use std::io::Write;
 
 #[cfg(test)]
@@ -24,8 +21,8 @@ const REJECTED: u8 = 1;
 /// The exit status if the arguments are not a command and its text.
 const MISUSED: u8 = 2;
 
-/// The exit status if a write failed.
-const WRITE_FAILED: u8 = 3;
+/// The exit status if a write failed or, in `main`, the arguments cannot be collected or standard output cannot be flushed.
+pub(crate) const FAILED: u8 = 3;
 
 const USAGE: &str = "usage: humantime duration|strict|weak TEXT";
 
@@ -63,59 +60,36 @@ const USAGE: &str = "usage: humantime duration|strict|weak TEXT";
 /// assert_eq!(rt; out.get_ref().as_slice(), b"1970-01-01T00:00:00.".as_slice());
 /// assert_eq!(rt; err.position(), 0);
 /// ```
+#[tactic(auto, using(crate::proofs::AnswerLemmas::one_answer))]
 pub fn run<O: Write, E: Write>(words: &[&str], out: &mut O, err: &mut E) -> u8
     ensures ends { Ends (texts words.now) result (streams (O.contents out.old) (E.contents err.old))
         (streams (O.contents out.new) (E.contents err.new)) }
     ensures one { OneAnswer (texts words.now) }
 {
-    answer_words(words, out, err).unwrap_or(WRITE_FAILED)
-}
-
-/// Runs the command and returns its status, or an error if a write failed.
-fn answer_words<O: Write, E: Write>(
-    words: &[&str],
-    out: &mut O,
-    err: &mut E,
-) -> Result<u8, fmt::Error>
-    ensures { Ends (texts words.now) (result_unwrap_or result 3) (streams (O.contents out.old) (E.contents err.old))
-        (streams (O.contents out.new) (E.contents err.new)) }
-{
     match words {
-        ["duration", text] => answer_duration(text, out, err),
-        ["strict", text] => answer_moment(parse_rfc3339(text), out, err),
-        ["weak", text] => answer_moment(parse_rfc3339_weak(text), out, err),
-        _ => write_line(err, USAGE).and(Ok(MISUSED)),
+        ["duration", text] => answer(&Duration::from_str(text), out, err),
+        ["strict", text] => answer(&parse_rfc3339(text).map(Timestamp::from), out, err),
+        ["weak", text] => answer(&parse_rfc3339_weak(text).map(Timestamp::from), out, err),
+        _ => write_line(err, USAGE).and(Ok(MISUSED)).unwrap_or(FAILED),
     }
 }
 
-/// Writes the canonical text of the duration to `out`, or the error message to `err`, and returns the status.
-fn answer_duration<O: Write, E: Write>(
-    text: &str,
+/// Writes the value to `out`, or the error to `err`, and returns the status.
+///
+/// It takes a reference, because the prover does not accept a call with a `Result<Duration, DurationError<'_>>` by value.
+#[inline(always)]
+fn answer<O: Write, E: Write, V: Display + Copy, F: Display + Copy>(
+    parsed: &Result<V, F>,
     out: &mut O,
     err: &mut E,
-) -> Result<u8, fmt::Error>
-    ensures { (output : Result (List ℕ) (List ℕ)) × IsOutputOf Duration text.now output
-        × EndsWith (Some output) (result_unwrap_or result 3) (streams (O.contents out.old) (E.contents err.old))
-        (streams (O.contents out.new) (E.contents err.new)) }
-{
-    match parse_duration(text) {
-        Ok(duration) => write_line(out, humantime::Duration::from(duration)).and(Ok(ACCEPTED)),
-        Err(fault) => write_line(err, fault).and(Ok(REJECTED)),
-    }
-}
-
-/// Writes the moment to `out`, or the error message to `err`, and returns the status.
-fn answer_moment<O: Write, E: Write>(
-    read: Result<SystemTime, TimestampError>,
-    out: &mut O,
-    err: &mut E,
-) -> Result<u8, fmt::Error>
-    requires { IfOk read IsPrintable }
-    ensures { EndsWith (Some (result_map_both (λ moment. unwrap_or (shortest_text moment) []) timestamp_message read)) (result_unwrap_or result 3)
+) -> u8
+    requires value { IfOk parsed.now (λ v. IsSome (V.output v)) }
+    requires error { IfErr parsed.now (λ e. IsSome (F.output e)) }
+    ensures { EndsWith (Some (result_map_both (λ v. unwrap_or (V.output v) []) (λ e. unwrap_or (F.output e) []) parsed.now)) result
         (streams (O.contents out.old) (E.contents err.old)) (streams (O.contents out.new) (E.contents err.new)) }
 {
-    match read {
-        Ok(moment) => write_line(out, Timestamp::from(moment)).and(Ok(ACCEPTED)),
-        Err(error) => write_line(err, error).and(Ok(REJECTED)),
+    match parsed {
+        Ok(value) => write_line(out, *value).and(Ok(ACCEPTED)).unwrap_or(FAILED),
+        Err(error) => write_line(err, *error).and(Ok(REJECTED)).unwrap_or(FAILED),
     }
 }

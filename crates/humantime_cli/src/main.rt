@@ -10,14 +10,12 @@ mod command;
 mod piece;
 mod writing;
 
+use command::FAILED;
 pub use command::run;
 use std::alloc::{AllocError, Global};
 use std::io::Write;
 use std::process::ExitCode;
 use std::{env, io};
-
-/// The exit status if the arguments cannot be collected or standard output cannot be flushed.
-const FAILED: u8 = 3;
 
 fn main(rt: HostRuntime) -> ExitCode {
     ExitCode::from(answer(&rt).unwrap_or(FAILED))

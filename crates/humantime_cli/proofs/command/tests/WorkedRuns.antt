@@ -1,6 +1,6 @@
 -- What a caller of `run` can conclude for known arguments, if the bytes of both writers are known. The callers in the tests cite these
 -- facts. Each of them fails to prove if a definition or a clause of `run` is weakened.
-use Rattle.std.proofs.Common.{arith, ◌≡◌, ◌≢◌, ◌<◌, ℕ, ◌+◌, ◌*◌, List, [], ◌∷◌, ◌++◌, length, take, subst, inl, inr, refl}
+use Rattle.std.proofs.Common.{arith, ◌≡◌, ◌≢◌, ◌<◌, ℕ, ◌+◌, ◌*◌, List, [], ◌∷◌, ◌++◌, length, take, subst, inl, inr, refl, ◌∙◌, append-nil}
 use Rattle.std.specs.Prelude.{ℤ, pos, None, Some, Ok, Err, codes}
 use Rattle.humantime.specs.declared.date.error.TimestampError.{TimestampError}
 use Rattle.humantime.specs.declared.date.error.TimestampError.TheVariants.{OutOfRange, InvalidFormat}
@@ -16,13 +16,22 @@ use Rattle.humantime_cli.proofs.AnswerLemmas.{not_two}
 ends_with : (words : List (List ℕ)) (answer : Answer) {status : ℕ} {old new : Streams} → Answers words answer → OneAnswer words → Ends words status old new → EndsWith answer status old new
 ends_with words answer {status = status} {old = old} {new = new} answers one (other, also, ends) = subst (λ a. EndsWith a status old new) (one answer other answers also) ends
 
--- Unless the status is 3, it is that of the answer, and exactly these bytes were written.
-abbrev Wrote : ℕ → List ℕ → List ℕ → ℕ → List ℕ → List ℕ → List ℕ → List ℕ → Type 0
-Wrote code out err status old_out new_out old_err new_err = status ≢ 3 → (status ≡ code) × (new_out ≡ old_out ++ out) × (new_err ≡ old_err ++ err)
+-- Unless the status is 3, it is 0, and exactly this line was printed.
+abbrev Printed : List ℕ → ℕ → List ℕ → List ℕ → List ℕ → List ℕ → Type 0
+Printed out status old_out new_out old_err new_err = status ≢ 3 → (status ≡ 0) × (new_out ≡ old_out ++ out) × (new_err ≡ old_err)
 
-all_written : {answer : Answer} {s : ℕ} {o n e m : List ℕ} → EndsWith answer s (streams (Some o) (Some e)) (streams (Some n) (Some m)) → Wrote (outcome answer).0 (outcome answer).1 (outcome answer).2 s o n e m
-all_written (Whole same taken told) other = (same, taken, told)
-all_written (Cut three fronts) other = absurd (other three)
+printed : {text : List ℕ} {s : ℕ} {o n e m : List ℕ} → EndsWith (Some (Ok text)) s (streams (Some o) (Some e)) (streams (Some n) (Some m)) → Printed (line text) s o n e m
+printed (Whole same taken told) other = (same, taken, told ∙ append-nil _)
+printed (Cut three fronts) other = absurd (other three)
+
+-- Unless the status is 3, it is this one, and exactly this line was written to standard error.
+abbrev Explained : ℕ → List ℕ → ℕ → List ℕ → List ℕ → List ℕ → List ℕ → Type 0
+Explained code err status old_out new_out old_err new_err = status ≢ 3 → (status ≡ code) × (new_out ≡ old_out) × (new_err ≡ old_err ++ err)
+
+explained : {answer : Answer} {s : ℕ} {o n e m : List ℕ} → EndsWith answer s (streams (Some o) (Some e)) (streams (Some n) (Some m)) → (outcome answer).1 ≡ []
+    → Explained (outcome answer).0 (outcome answer).2 s o n e m
+explained (Whole same taken told) none other = (same, rw none at taken ∙ append-nil _, told)
+explained (Cut three fronts) none other = absurd (other three)
 
 -- If the status is 3, a prefix of the output was written.
 front_written : {printed : List ℕ} {s : ℕ} {o n e m : List ℕ} → EndsWith (Some (Ok printed)) s (streams (Some o) (Some e)) (streams (Some n) (Some m)) → s ≡ 3
@@ -69,33 +78,33 @@ abbrev Ran : List (List ℕ) → (ℕ → List ℕ → List ℕ → List ℕ →
 Ran words Told = (s : ℕ) (o n e m : List ℕ) → OneAnswer words → Ends words s (streams (Some o) (Some e)) (streams (Some n) (Some m)) → Told s o n e m
 
 -- The whole duration was printed.
-pub printed_whole : Ran (codes "duration" ∷ codes "2h 37min" ∷ []) (Wrote 0 (codes "2h 37m\n") [])
-printed_whole _ _ _ _ _ one ends = all_written (ends_with _ (Some (Ok (codes "2h 37m"))) duration_printed one ends)
+pub printed_whole : Ran (codes "duration" ∷ codes "2h 37min" ∷ []) (Printed (codes "2h 37m\n"))
+printed_whole _ _ _ _ _ one ends = printed (ends_with _ (Some (Ok (codes "2h 37m"))) duration_printed one ends)
 
 -- With status 3, at most the first six of the seven bytes of the line were written.
 pub printed_cut : Ran (codes "duration" ∷ codes "2h 37min" ∷ []) (λ s o n e m. s ≡ 3 → ((k : ℕ) × (k < 7) × (n ≡ o ++ take k (codes "2h 37m\n"))) × (m ≡ e))
 printed_cut _ _ _ _ _ one ends three = front_written (ends_with _ (Some (Ok (codes "2h 37m"))) duration_printed one ends) three
 
 -- The message of the error was printed.
-pub explained : Ran (codes "duration" ∷ codes "1~" ∷ []) (Wrote 1 [] (codes "invalid character at 1\n"))
-explained _ _ _ _ _ one ends = all_written (ends_with _ (Some (Err (codes "invalid character at 1"))) fault_explained one ends)
+pub fault_printed : Ran (codes "duration" ∷ codes "1~" ∷ []) (Explained 1 (codes "invalid character at 1\n"))
+fault_printed _ _ _ _ _ one ends = explained (ends_with _ (Some (Err (codes "invalid character at 1"))) fault_explained one ends) refl
 
 -- A timestamp in the strict form was printed.
-pub strict_printed : Ran (codes "strict" ∷ codes "2018-02-14T00:28:07Z" ∷ []) (Wrote 0 (codes "2018-02-14T00:28:07Z\n") [])
-strict_printed _ _ _ _ _ one ends = all_written (ends_with _ (Some (Ok (codes "2018-02-14T00:28:07Z"))) strict_read one ends)
+pub strict_printed : Ran (codes "strict" ∷ codes "2018-02-14T00:28:07Z" ∷ []) (Printed (codes "2018-02-14T00:28:07Z\n"))
+strict_printed _ _ _ _ _ one ends = printed (ends_with _ (Some (Ok (codes "2018-02-14T00:28:07Z"))) strict_read one ends)
 
 -- The error of a timestamp that is not in the strict form was printed.
-pub strict_explained : Ran (codes "strict" ∷ codes "2018-02-14 00:28:07" ∷ []) (Wrote 1 [] (codes "timestamp format is invalid\n"))
-strict_explained _ _ _ _ _ one ends = all_written (ends_with _ (Some (Err (codes "timestamp format is invalid"))) strict_refused one ends)
+pub strict_explained : Ran (codes "strict" ∷ codes "2018-02-14 00:28:07" ∷ []) (Explained 1 (codes "timestamp format is invalid\n"))
+strict_explained _ _ _ _ _ one ends = explained (ends_with _ (Some (Err (codes "timestamp format is invalid"))) strict_refused one ends) refl
 
 -- A timestamp in the weak form was printed.
-pub weak_printed : Ran (codes "weak" ∷ codes "2018-02-14 00:28:07.5" ∷ []) (Wrote 0 (codes "2018-02-14T00:28:07.500000000Z\n") [])
-weak_printed _ _ _ _ _ one ends = all_written (ends_with _ (Some (Ok (codes "2018-02-14T00:28:07.500000000Z"))) weak_read one ends)
+pub weak_printed : Ran (codes "weak" ∷ codes "2018-02-14 00:28:07.5" ∷ []) (Printed (codes "2018-02-14T00:28:07.500000000Z\n"))
+weak_printed _ _ _ _ _ one ends = printed (ends_with _ (Some (Ok (codes "2018-02-14T00:28:07.500000000Z"))) weak_read one ends)
 
 -- The error of a date that does not exist was printed.
-pub weak_explained : Ran (codes "weak" ∷ codes "1970-02-30 00:00:00" ∷ []) (Wrote 1 [] (codes "numeric component is out of range\n"))
-weak_explained _ _ _ _ _ one ends = all_written (ends_with _ (Some (Err (codes "numeric component is out of range"))) weak_refused one ends)
+pub weak_explained : Ran (codes "weak" ∷ codes "1970-02-30 00:00:00" ∷ []) (Explained 1 (codes "numeric component is out of range\n"))
+weak_explained _ _ _ _ _ one ends = explained (ends_with _ (Some (Err (codes "numeric component is out of range"))) weak_refused one ends) refl
 
 -- The usage line was printed.
-pub usage_told : Ran (codes "--help" ∷ []) (Wrote 2 [] (codes "usage: humantime duration|strict|weak TEXT\n"))
-usage_told _ _ _ _ _ one ends = all_written (ends_with _ None (not_two _ (omega arith)) one ends)
+pub usage_told : Ran (codes "--help" ∷ []) (Explained 2 (codes "usage: humantime duration|strict|weak TEXT\n"))
+usage_told _ _ _ _ _ one ends = explained (ends_with _ None (not_two _ (omega arith)) one ends) refl

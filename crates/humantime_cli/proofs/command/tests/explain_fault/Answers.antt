@@ -1,8 +1,5 @@
-use Rattle.std.proofs.Common.{◌∙◌, append-nil}
-use Rattle.humantime_cli.proofs.command.tests.WorkedRuns.{explained}
+use Rattle.humantime_cli.proofs.command.tests.WorkedRuns.{fault_printed}
 use Rattle.humantime_cli.proofs.command.tests.explain_fault.Goals as goal
 
 pub returns : goal.returns
-returns c other =
-    let told = explained _ _ _ _ _ c.run.ensures.one c.run.ensures.ends other in
-    (told.0, told.1 ∙ append-nil _, told.2)
+returns c = fault_printed _ _ _ _ _ c.run.ensures.one c.run.ensures.ends

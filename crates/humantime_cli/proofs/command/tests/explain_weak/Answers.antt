@@ -1,8 +1,5 @@
-use Rattle.std.proofs.Common.{◌∙◌, append-nil}
 use Rattle.humantime_cli.proofs.command.tests.WorkedRuns.{weak_explained}
 use Rattle.humantime_cli.proofs.command.tests.explain_weak.Goals as goal
 
 pub returns : goal.returns
-returns c other =
-    let told = weak_explained _ _ _ _ _ c.run.ensures.one c.run.ensures.ends other in
-    (told.0, told.1 ∙ append-nil _, told.2)
+returns c = weak_explained _ _ _ _ _ c.run.ensures.one c.run.ensures.ends

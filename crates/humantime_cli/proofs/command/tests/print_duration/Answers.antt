@@ -1,11 +1,8 @@
-use Rattle.std.proofs.Common.{◌∙◌, append-nil}
 use Rattle.humantime_cli.proofs.command.tests.WorkedRuns.{printed_whole, printed_cut}
 use Rattle.humantime_cli.proofs.command.tests.print_duration.Goals as goal
 
 pub returns-clause-whole : goal.returns-clause-whole
-returns-clause-whole c other =
-    let told = printed_whole _ _ _ _ _ c.run.ensures.one c.run.ensures.ends other in
-    (told.0, told.1, told.2 ∙ append-nil _)
+returns-clause-whole c = printed_whole _ _ _ _ _ c.run.ensures.one c.run.ensures.ends
 
 pub returns-clause-cut : goal.returns-clause-cut
 returns-clause-cut c = printed_cut _ _ _ _ _ c.run.ensures.one c.run.ensures.ends

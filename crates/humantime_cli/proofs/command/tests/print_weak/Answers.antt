@@ -1,8 +1,5 @@
-use Rattle.std.proofs.Common.{◌∙◌, append-nil}
 use Rattle.humantime_cli.proofs.command.tests.WorkedRuns.{weak_printed}
 use Rattle.humantime_cli.proofs.command.tests.print_weak.Goals as goal
 
 pub returns : goal.returns
-returns c other =
-    let told = weak_printed _ _ _ _ _ c.run.ensures.one c.run.ensures.ends other in
-    (told.0, told.1, told.2 ∙ append-nil _)
+returns c = weak_printed _ _ _ _ _ c.run.ensures.one c.run.ensures.ends
