@@ -46,6 +46,7 @@ pub(crate) fn is_always_written<T: Display>(value: &T, text: &str, most: u32) ->
         is_written(format_args!("{value:+}"), text, most),
         is_written(format_args!("{value:#}"), text, most),
         is_written(format_args!("{value:030}"), text, most),
+        is_written(format_args!("{value:µ^+#0400.3}"), text, most),
     ])
 }
 
