@@ -93,7 +93,7 @@ pub(crate) fn print<W: fmt::Write>(f: &mut Formatter<W>, call: &str, numbers: &s
 }
 
 /// Returns the printer that the call of this name returns.
-pub(crate) fn printer(call: &str, moment: SystemTime) -> Option<Rfc3339Timestamp> {
+fn printer(call: &str, moment: SystemTime) -> Option<Rfc3339Timestamp> {
     match call {
         "shortest" => Some(format_rfc3339(moment)),
         "seconds" => Some(format_rfc3339_seconds(moment)),
