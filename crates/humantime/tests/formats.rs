@@ -1,6 +1,6 @@
 //! Widths, precisions and fills have no effect on what is written.
 
-use crate::support::{assert_nothing_allocated, assert_same, is_written, refuse_memory};
+use crate::support::{assert_nothing_allocated, is_written, refuse_memory};
 use humantime::{
     Duration, DurationError, StdDuration, Timestamp, TimestampError, UNIX_EPOCH, format_duration,
     format_rfc3339,
@@ -29,8 +29,8 @@ fn no_width_and_no_precision_changes_anything(rt: HostRuntime) {
     refuse_memory(&rt, 0);
     let (value, duration) = (StdDuration::from_secs(1_296_122), "15days 2m 2s");
     let (moment, stamp) = (UNIX_EPOCH, "1970-01-01T00:00:00Z");
-    assert_same(
-        &rt,
+    assert_eq!(
+        rt;
         [
             misprinted_width(&format_duration(value), duration),
             misprinted_width(&Duration::from(value), duration),

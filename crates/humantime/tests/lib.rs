@@ -1,9 +1,7 @@
 //! Tests that no row can express. They are run and not proved.
 #![tactic(auto)]
 
-mod calls;
 mod durations;
 mod formats;
 mod memory;
 pub(crate) mod support;
-mod values;

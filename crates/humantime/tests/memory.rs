@@ -1,6 +1,6 @@
 //! No call allocates, and printing into memory returns an error if an allocation fails.
 
-use crate::support::{assert_nothing_allocated, assert_same, refuse_memory};
+use crate::support::{assert_nothing_allocated, refuse_memory};
 use humantime_tests_rows::{Row, TABLE, unescape};
 use std::alloc::{AllocError, Allocator, Global};
 use std::cell::Cell;
@@ -84,11 +84,11 @@ fn assert_printed<D: Display>(
         let refused = memory.refused.get();
         if let Ok(text) = text {
             let answer = text.as_str().strip_prefix(if is_end { "kept " } else { "" });
-            assert_same(rt, (answer, refused), (Some(wanted), 0));
+            assert_eq!(rt; (answer, refused), (Some(wanted), 0));
             assert!(rt; granted > 0, "nothing was allocated for {wanted}");
             return;
         }
-        assert_same(rt, (wanted, refused), (wanted, 1));
+        assert_eq!(rt; (wanted, refused), (wanted, 1));
     }
     panic!(rt; "{wanted} is not printed");
 }

@@ -1,12 +1,7 @@
-//! Assertions for tests and examples, a sink that expects a text, and memory that is refused.
+//! A sink that expects a text, and memory that is refused, for tests and examples.
 
-use std::fmt::{self, Debug, Display, Write};
+use std::fmt::{self, Display, Write};
 use std::process::Abort;
-
-/// Asserts that the two values are equal, using only `Eq`: without this impl no test of a type compiles.
-pub(crate) fn assert_same<T: Eq + Debug + Drop>(rt: &impl Abort, left: T, right: T) {
-    assert_eq!(rt; left, right);
-}
 
 /// The number of allocations that succeed in each test, before one that `rt try` lets fail.
 const GRANTED: u32 = 59;
