@@ -9,7 +9,7 @@ use Rattle.humantime.specs.declared.duration.amount.Decimal.{Decimal}
 use Rattle.humantime.specs.Texts.{begins, drop_while, take_while, decimal_value}
 use Rattle.humantime.specs.Durations.Accepted.{is_some_and, too_long}
 use Rattle.humantime.specs.Durations.Characters.{is_digit, is_letter, is_numeric, offset_of}
-use Rattle.humantime.specs.Durations.Faults.{number_of, after_number, after_point, after_fraction, fraction_of, word_of, after_word, span_of, InvalidCharacter, UnknownUnit}
+use Rattle.humantime.specs.Durations.Faults.{number_of, after_number, after_point, after_fraction, fraction_of, word_of, after_word, span_of, UnknownUnit}
 use Rattle.humantime.specs.Durations.Units.{Scale, scale_of_word}
 use Rattle.humantime.specs.Results.Items.{trimmed, view_at}
 use Rattle.humantime.specs.Results.Walks.{stop_at}
@@ -42,11 +42,6 @@ word_read word next w = grind (arith, common_steps)
 -- Tests whether a fraction has no digits.
 abbrev pub is_bare : Option Counted → Bool
 is_bare fraction = is_some_and (λ x. x.2 == 0) fraction
-
-pub exit_end : {rest after word : List ℕ} {value : ℕ} {fraction : Option Decimal} (text next : List ℕ) → HasRead rest value after fraction word → Some next ≡ skip_word (chars word)
-    → is_bare (option_map parts_of fraction) ≡ false → None ≡ end_span next → Err (InvalidCharacter (offset_of text next)) ≡ read_span text (chars rest)
-unfolding stop_at
-exit_end text next b w bare e = grind (arith, common_steps)
 
 pub exit_unit : {rest after word : List ℕ} {value : ℕ} {fraction : Option Decimal} (text next end : List ℕ) → HasRead rest value after fraction word → Some next ≡ skip_word (chars word)
     → scale_of_word (take_while is_letter (chars word)) ≡ None → is_bare (option_map parts_of fraction) ≡ false → Some end ≡ end_span next

@@ -1,7 +1,7 @@
 -- The end parts of a text, as bytes.
 use Rattle.std.proofs.lemmas.Bool.Decides.{nat_tests}
 use Rattle.std.proofs.lemmas.Grind.{common_steps}
-use Rattle.std.proofs.Common.{◌≡◌, ◌≢◌, ◌≤◌, ◌-◌, ◌+◌, ℕ, Bool, List, [], ◌++◌, length, take, drop, ap, ◌∙◌, arith, length-append, length-drop, length-take, IsUtf8, IsCharBoundary, chars}
+use Rattle.std.proofs.Common.{◌≡◌, ◌≢◌, ◌≤◌, ◌-◌, ◌+◌, ℕ, Bool, List, [], ◌++◌, length, take, drop, ap, sym, ◌∙◌, arith, length-append, length-drop, length-take, IsUtf8, IsCharBoundary, chars}
 use Rattle.std.specs.Prelude.{◌==◌, ◌&&◌, not, slice_range}
 use Rattle.std.proofs.lemmas.List.{take-append-drop, drop-drop, append_cancel_right}
 use Rattle.std.proofs.lemmas.Str.{IsUtf8-take, IsCharBoundary-at_seam, encodes-chars, chars-append, chars-nil}
@@ -35,23 +35,30 @@ tail_whole text rest t = grind (arith, t.ends, (take-append-drop (length text - 
 pub tail_boundary : (text rest : List ℕ) → IsTail text rest → IsCharBoundary text (length text - length rest)
 tail_boundary text rest t = grind (arith, common_steps, ap length (tail_whole text rest t), length-append (front_of text rest) rest, IsCharBoundary-at_seam)
 
+pub tail_offset : (text rest : List ℕ) → IsTail text rest → length text - length rest ≡ offset_of (chars text) (chars rest)
+tail_offset text rest t = grind (arith, encodes-chars)
+
+-- A rest that is not empty begins at a character.
+pub tail_place : (text rest : List ℕ) → IsTail text rest → chars rest ≢ [] → IsCharStartIn text (offset_of (chars text) (chars rest))
+tail_place text rest t some = rw (sym (tail_offset text rest t)) (grind (arith, common_steps, tail_boundary, chars-nil))
+
+pub tail_range : (text a b : List ℕ) → IsTail text a → IsTail a b → IsRangeIn text (offset_of (chars text) (chars a)) (offset_of (chars text) (chars b))
+tail_range text a b t u =
+    let v = tail_tail text a b t u in
+    rw (sym (tail_offset text a t), sym (tail_offset text b v)) (omega (arith, u.shorter), tail_boundary text a t, tail_boundary text b v)
+
+-- The text between two rests is a slice of the text.
+pub tail_part : (text a b part : List ℕ) → IsTail text a → IsTail a b → part ≡ slice_range a 0 (length a - length b)
+    → IsPartOf text part (offset_of (chars text) (chars a)) (offset_of (chars text) (chars b))
+tail_part text a b part t u e =
+    (tail_range text a b t u, rw (sym (tail_offset text a t), sym (tail_offset text b (tail_tail text a b t u))) (grind (arith, common_steps)))
+
 -- The text before an offset, if the longest prefix that passes a test ends there.
 pub front_is : (p : ℕ → Bool) (text : List ℕ) (at : ℕ) → IsUtf8 text → IsCharBoundary text at → chars (drop at text) ≡ drop_while p (chars text)
     → chars (take at text) ≡ take_while p (chars text)
 front_is p text at u place after =
     append_cancel_right _ _ (drop_while p (chars text))
     (grind (arith, after, (chars-append (take at text) (drop at text) (IsUtf8-take text at u place)), (take-append-drop at text), (take_while-drop_while p (chars text))))
-
--- A rest that is not empty begins at a character.
-pub tail_place : (text rest : List ℕ) → IsTail text rest → chars rest ≢ [] → IsCharStartIn text (length text - length rest)
-tail_place text rest t some = grind (arith, common_steps, tail_boundary, chars-nil)
-
-pub tail_range : (text a b : List ℕ) → IsTail text a → IsTail a b → IsRangeIn text (length text - length a) (length text - length b)
-tail_range text a b t u = (omega (arith, u.shorter), tail_boundary text a t, tail_boundary text b (tail_tail text a b t u))
-
--- The text between two rests is a slice of the text.
-pub tail_part : (text a b part : List ℕ) → IsTail text a → IsTail a b → part ≡ slice_range a 0 (length a - length b) → IsPartOf text part (length text - length a) (length text - length b)
-tail_part text a b part t u e = (tail_range text a b t u, grind (arith, common_steps))
 
 -- The text before the rest, if the longest prefix that passes a test ends there.
 pub front_read : (p : ℕ → Bool) (text rest front : List ℕ) → IsTail text rest → chars rest ≡ drop_while p (chars text) → front ≡ slice_range text 0 (length text - length rest)
@@ -61,9 +68,6 @@ front_read p text rest front t e f =
 
 pub front_chars : (text rest front : List ℕ) → IsTail text rest → IsUtf8 front → front ≡ slice_range text 0 (length text - length rest) → chars text ≡ chars front ++ chars rest
 front_chars text rest front t u f = grind (arith, common_steps, (tail_whole text rest t), (chars-append front rest u))
-
-pub tail_offset : (text rest : List ℕ) → IsTail text rest → length text - length rest ≡ offset_of (chars text) (chars rest)
-tail_offset text rest t = grind (arith, encodes-chars)
 
 -- A text without characters has no bytes, and one without bytes no characters.
 pub some_chars : (bs : List ℕ) → IsUtf8 bs → length bs ≢ 0 → chars bs ≢ []
