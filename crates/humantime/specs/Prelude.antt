@@ -14,7 +14,7 @@ pub use Rattle.humantime.specs.Durations.Accepted.{Accepted, BareZero, SumOf, va
 pub use Rattle.humantime.specs.Durations.Spans.{SpelledSpan, Reads}
 pub use Rattle.humantime.specs.Durations.Faults.{Fault, InvalidCharacter, NumberExpected, UnknownUnit, NumberOverflow, Empty, HasFault}
 pub use Rattle.humantime.specs.Laws.Texts.{without_whitespace, AreReordered}
-pub use Rattle.humantime.specs.Laws.Older.{AcceptedWithZeros, WasAccepted}
+pub use Rattle.humantime.specs.Laws.Older.{AcceptedWithZeros, WasAccepted, older_additions}
 -- The items of a text.
 pub use Rattle.humantime.specs.Durations.Items.{Items, SpanView, AreItems}
 pub use Rattle.humantime.specs.Laws.Tiles.{slices_of, IsTiled}

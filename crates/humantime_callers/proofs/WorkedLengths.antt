@@ -8,7 +8,7 @@ use Rattle.humantime.specs.Texts.{decimal_value, drop_while}
 use Rattle.humantime.specs.Prelude.{Reads, SpelledSpan, HasFault, UnknownUnit, IsStrictMoment, nanos_per_second}
 use Rattle.humantime.specs.Durations.Characters.{byte_length, is_digit, is_letter, is_whitespace, offset_of}
 use Rattle.humantime.specs.Durations.Spans.{HoldsDigits, IsLetters, HasOnly, Spells}
-use Rattle.humantime.specs.Durations.Accepted.{additions_of, fits, fraction_fits, too_long, of_kind, part, size}
+use Rattle.humantime.specs.Durations.Accepted.{additions_of, fits, fraction_fits, too_long, part}
 use Rattle.humantime.specs.Durations.Units.{scale_of_word}
 use Rattle.humantime.specs.Durations.Faults.{UnknownWord, after_fraction, after_word, may_follow_span, number_of, word_of}
 use Rattle.humantime.specs.Timestamps.Fields.{Letter_T, Letter_Z}
@@ -16,7 +16,7 @@ use Rattle.humantime.proofs.Durations.Reading.Classes.{digit_is_numeric}
 use Rattle.humantime.proofs.Durations.Reading.Runs.{drop_while-append}
 use Rattle.humantime.proofs.Durations.Reading.Spelled.{IsSpelledAt, read_spelled, spelled_here}
 use Rattle.humantime.proofs.Durations.Reading.Summed.{within_tells}
-use Rattle.humantime.proofs.Durations.Reading.SignificantDigits.{amount_kept, significant_zero}
+use Rattle.humantime.proofs.Durations.Reading.SignificantDigits.{significant_zero}
 use Rattle.humantime.proofs.OnLiterals.{humantime_on_literals}
 use Rattle.humantime.proofs.TimestampsOnLiterals.{timestamps_on_literals}
 
@@ -63,7 +63,7 @@ zero_fits None ds = rw (significant_zero ds) refl
 zero_fits (Some one) ds = rw (significant_zero ds) refl
 
 zero_adds : (one : _) (ds : List ℕ) → part (ds ++ byte "0" ∷ []) one ≡ part ds one
-zero_adds one ds = ap (of_kind one) (amount_kept (size one) (ds ++ byte "0" ∷ []) ∙ rw (significant_zero ds) (sym (amount_kept (size one) ds)))
+zero_adds one ds = rw (significant_zero ds) refl
 
 zero_after : (number ds word : List ℕ)
     → AreAlike (record { number = number; fraction = Some (ds ++ byte "0" ∷ []); word = word }) (record { number = number; fraction = Some ds; word = word })

@@ -8,8 +8,8 @@ use Rattle.humantime.specs.Texts.{decimal_value}
 use Rattle.humantime.specs.Durations.Characters.{u64_max}
 use Rattle.humantime.specs.Durations.Units.{scale_of_word}
 use Rattle.humantime.specs.Durations.Spans.{SpelledSpan, Reads}
-use Rattle.humantime.specs.Durations.Accepted.{additions, size, value, AllHaveRoom}
-use Rattle.humantime.specs.Laws.Older.{OlderFormed, AcceptedWithZeros, OlderZero, OlderSum}
+use Rattle.humantime.specs.Durations.Accepted.{size, AllHaveRoom}
+use Rattle.humantime.specs.Laws.Older.{OlderFormed, older_additions, older_value, AcceptedWithZeros, OlderZero, OlderSum}
 use Rattle.humantime.proofs.OnLiterals.{humantime_on_literals}
 
 nineteen_digits : OlderFormed (record { number = codes "0"; fraction = Some (codes "0000000000000000000"); word = codes "s" })
@@ -53,8 +53,8 @@ any_fraction word number ds one part is fits product few most whole =
     record { unit = _; word = is; number = fits; product = product; fraction = (few, grind (arith, nat_tests)) }
 
 -- Spans were accepted if there was room for each addition, and so was `0`.
-any_sum : (text : List ℕ) (spans : List SpelledSpan) → Reads text spans → AllByRecursion OlderFormed spans → AllHaveRoom (additions spans)
-    → AcceptedWithZeros text (value spans)
+any_sum : (text : List ℕ) (spans : List SpelledSpan) → Reads text spans → AllByRecursion OlderFormed spans → AllHaveRoom (older_additions spans)
+    → AcceptedWithZeros text (older_value spans)
 any_sum text spans reads formed room = OlderSum spans reads formed room refl
 
 zero : AcceptedWithZeros (codes "0") 0

@@ -2,7 +2,7 @@
 
 ghost use Rattle.std.specs.Prelude.{◌≡◌, ◌≢◌, ◌+◌, ◌/◌, ◌≤◌, ◌++◌, ◌∷◌, ◌<ℤ◌, ◌↔◌, ◌⊎◌, ℕ, ℤ, List, Option, Result, None, Some, Ok, Err, chars, length, option_map, slice_index, true, IfOk, IfSome, IsOk, IsPermutation, IsSome, IsTrue, SomeIff};
 ghost use Rattle.std.specs.Ordering.{int_cmp, is_lt};
-ghost use Rattle.humantime.specs.Prelude.{Accepted, AcceptedWithZeros, AllHaveRoom, AreCounts, AreItems, AreReordered, Fault, Fields, HasFault, IsCanonicalOf, IsCanonicalText, IsMarked, IsPrintable, IsPrinted, IsStrict, IsStrictMoment, IsWeak, IsWeakMoment, Items, NumberOverflow, Reads, SpanView, SpelledSpan, WasAccepted, WithinLimits, additions, bare_zero, cut, canonical_answer, duration_answer, first_failed, nanos_per_second, result_view, strict_answer, strict_checks, value, weak_answer, weak_checks, without_whitespace};
+ghost use Rattle.humantime.specs.Prelude.{Accepted, AcceptedWithZeros, AllHaveRoom, AreCounts, AreItems, AreReordered, Fault, Fields, HasFault, IsCanonicalOf, IsCanonicalText, IsMarked, IsPrintable, IsPrinted, IsStrict, IsStrictMoment, IsWeak, IsWeakMoment, Items, NumberOverflow, Reads, SpanView, SpelledSpan, WasAccepted, WithinLimits, additions, bare_zero, cut, canonical_answer, duration_answer, first_failed, nanos_per_second, older_additions, result_view, strict_answer, strict_checks, value, weak_answer, weak_checks, without_whitespace};
 
 use crate::durations::limit_seconds;
 use humantime::laws::{
@@ -34,7 +34,7 @@ pub fn whole_seconds(text: &str) -> Result<u64, DurationError<'_>>
 }
 
 /// Returns the duration that a text denotes, or its first error, as determined by its items and their limits and by the table of first
-/// errors. A text that was accepted by older rules is still accepted with the same value.
+/// errors. A text that was accepted by older rules is still accepted with the same value, and any spans add what they added.
 pub fn decided(text: &str) -> Result<StdDuration, DurationError<'_>>
     ensures items { (ss : List SpelledSpan) × (stop : Option Fault) × Items (chars text.now) ss stop }
     ensures accepted { (ss : List SpelledSpan) (stop : Option Fault) → Items (chars text.now) ss stop → chars text.now ≢ bare_zero → (v : ℕ) → (result_view result ≡ Ok v) ↔ ((stop ≡ None) × WithinLimits ss × (value ss ≡ v)) }
@@ -44,6 +44,7 @@ pub fn decided(text: &str) -> Result<StdDuration, DurationError<'_>>
     ensures row { (e : Fault) → (result_view result ≡ Err e) ↔ HasFault (chars text.now) e }
     ensures before { (v : ℕ) → AcceptedWithZeros (chars text.now) v → result_view result ≡ Ok v }
     ensures still { WasAccepted (chars text.now) → IsOk result }
+    ensures added { (ss : List SpelledSpan) → older_additions ss ≡ additions ss }
 {
     spans_decide(text);
     still_accepted(text);

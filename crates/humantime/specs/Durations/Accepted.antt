@@ -30,9 +30,9 @@ of_kind (Seconds _) n = Seconds n
 abbrev pub times : ℕ → Quantity → Quantity
 times n x = of_kind x (n * size x)
 
--- Returns the part of a quantity that the fraction digits `ds` denote, rounded down.
+-- Returns the part of a quantity that the fraction digits `ds` denote without their trailing zeros, rounded down: 0 if no digits are left.
 abbrev pub part : List ℕ → Quantity → Quantity
-part ds x = of_kind x (decimal_value ds * size x / 10 ^ length ds)
+part ds x = let kept = without_trailing_zeros ds in of_kind x (decimal_value kept * size x / 10 ^ length kept)
 
 -- Returns what a fraction adds: nothing if there is none or its unit has no fractions.
 abbrev pub fraction_additions : Option Quantity → Option (List ℕ) → List Quantity

@@ -51,7 +51,7 @@ fn add_part(sum: StdDuration, one: Option<Quantity>, fraction: Decimal) -> Optio
 /// Returns `total` plus what a span adds: first its number, then its fraction. Returns `None` on overflow, or if the fraction is not a
 /// whole number of nanoseconds or of seconds.
 #[inline(always)]
-#[tactic(auto, using(crate::proofs::Durations::Reading::SignificantDigits::amount_kept, std::proofs::lemmas::Grind::common_steps), unfolding(crate::specs::Results::Walks::add_all, crate::specs::Results::Walks::add_span))]
+#[tactic(auto, unfolding(crate::specs::Results::Walks::add_all, crate::specs::Results::Walks::add_span))]
 pub(crate) fn add_amount(total: StdDuration, amount: Amount) -> Option<StdDuration>
     ensures { (s : SpelledSpan) → IsAmountOf amount s → result ≡ add_span total s }
 {

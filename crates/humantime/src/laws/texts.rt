@@ -68,7 +68,7 @@ pub fn reordered(a: &str, b: &str)
 /// States that a text accepted by an earlier rule, under which trailing zeros counted, is still accepted with the same value.
 ///
 /// Under that rule, trailing zeros counted towards the 19 digits that a fraction may have and towards its precision, and nanoseconds
-/// had no fraction at all.
+/// had no fraction at all. What a span adds is the same under both rules.
 ///
 /// # Examples
 ///
