@@ -2,7 +2,6 @@
 //! by hand.
 #![tactic(auto)]
 
-mod calendars;
 mod callers;
 mod memory;
 mod sinks;
