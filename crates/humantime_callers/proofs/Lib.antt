@@ -7,9 +7,8 @@ pub mod Rounding
 pub mod WorkedCharacters
 pub mod WorkedDays
 pub mod WorkedLengths
+pub mod WorkedLimits
 pub mod WorkedMessages
 pub mod WorkedOlder
-pub mod WorkedPrinted
-pub mod WorkedTexts
 pub mod WorkedTimestamps
 pub mod WorkedWords

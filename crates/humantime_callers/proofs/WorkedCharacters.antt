@@ -4,6 +4,7 @@ use Rattle.std.specs.Prelude.{codes, Bool, false, ◌||◌}
 use Rattle.std.proofs.lemmas.Bool.Decides.{nat_tests}
 use Rattle.std.specs.List.{range_with_len}
 use Rattle.humantime.specs.Prelude.{without_whitespace}
+use Rattle.humantime.specs.Laws.Tiles.{is_gap}
 use Rattle.humantime.specs.Durations.Characters.{whitespace_chars, is_whitespace, is_digit, is_letter, is_point}
 use Rattle.humantime.proofs.OnLiterals.{humantime_on_literals}
 
@@ -56,6 +57,10 @@ is_any c = is_whitespace c || is_digit c || is_letter c || is_point c
 no_others : (c : ℕ) → 12_289 ≤ c → is_any c ≡ false
 unfolding is_whitespace whitespace_chars is_digit is_letter is_point
 no_others c h = grind (arith, nat_tests)
+
+-- Only whitespace and points may lie outside the slices of spans.
+any_gap : (c : ℕ) → is_gap c ≡ (is_whitespace c || is_point c)
+any_gap c = refl
 
 -- A text without its whitespace keeps its other characters in order.
 no_whitespace : without_whitespace (codes "1 2\th" ++ 0x3000 ∷ codes "3 0 min") ≡ codes "12h30min"

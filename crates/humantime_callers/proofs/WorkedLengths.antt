@@ -1,11 +1,11 @@
 -- What holds of texts of any length: of their digits, zeros, letters and whitespace, from the definitions alone.
 use Rattle.std.proofs.Common.{◌≡◌, ◌≢◌, ℕ, ◌+◌, ◌*◌, List, [], ◌∷◌, ◌++◌, Option, Some, None, length, take, refl, sym, ap, subst, ◌∙◌, arith, append_assoc, append-nil, inl}
-use Rattle.std.specs.Prelude.{codes, pos, IsTrue, encode_utf8_all}
+use Rattle.std.specs.Prelude.{codes, pos, IsPermutation, IsTrue, encode_utf8_all}
 use Rattle.std.specs.Str.{byte, all_ascii_digits}
 use Rattle.std.proofs.Math.Seq.{take-append_seam}
 use Rattle.std.proofs.lemmas.Grind.{common_steps}
 use Rattle.humantime.specs.Texts.{decimal_value, drop_while}
-use Rattle.humantime.specs.Prelude.{Reads, SpelledSpan, HasFault, UnknownUnit, IsStrictMoment, nanos_per_second}
+use Rattle.humantime.specs.Prelude.{AreReordered, Reads, SpelledSpan, HasFault, UnknownUnit, IsStrictMoment, nanos_per_second}
 use Rattle.humantime.specs.Durations.Characters.{byte_length, is_digit, is_letter, is_whitespace, offset_of}
 use Rattle.humantime.specs.Durations.Spans.{HoldsDigits, IsLetters, HasOnly, Spells}
 use Rattle.humantime.specs.Durations.Accepted.{additions_of, fits, fraction_fits, too_long, part}
@@ -72,6 +72,12 @@ zero_after number ds word = (rw (significant_zero ds) refl, grind (arith, zero_f
 zero_before : (number word : List ℕ) (fraction : Option (List ℕ))
     → AreAlike (record { number = byte "0" ∷ number; fraction = fraction; word = word }) (record { number = number; fraction = fraction; word = word })
 zero_before number word fraction = (refl, grind (arith, common_steps), grind (arith, common_steps))
+
+-- Spans may be in any other order.
+any_order : (text other : List ℕ) (spans others : List SpelledSpan) → Reads text spans → Reads other others → IsPermutation spans others
+    → AreReordered text other
+any_order text other spans others reads other_reads moved =
+    record { spans = spans; others = others; reads = reads; other_reads = other_reads; moved = moved }
 
 -- A word that is no unit is the error, however long it is.
 any_word : (word : List ℕ) → IsLetters word → scale_of_word word ≡ None

@@ -1,43 +1,17 @@
--- What was accepted while trailing zeros of a fraction counted, by computation: the limits were 19 digits and the greatest number, and no
--- less. With one more zero, the product of the sixteen digits of a day with its seconds would not fit a `u64`.
-use Rattle.std.proofs.Common.{◌≡◌, ◌≤◌, ◌*◌, ◌%◌, ◌^◌, ℕ, List, length, refl, Some, None, arith}
-use Rattle.std.specs.Prelude.{codes}
+-- What was accepted while trailing zeros of a fraction counted, and what spans added then: the limits of any number and any fraction, no less
+-- and no more.
+use Rattle.std.proofs.Common.{◌≡◌, ◌∙◌, ◌≤◌, ◌*◌, ◌/◌, ◌%◌, ◌^◌, ℕ, List, [], ◌∷◌, length, refl, sym, ap, Some, None, arith}
+use Rattle.std.specs.Prelude.{codes, unwrap_or}
 use Rattle.std.specs.List.{AllByRecursion}
 use Rattle.std.proofs.lemmas.Bool.Decides.{nat_tests}
 use Rattle.humantime.specs.Texts.{decimal_value}
 use Rattle.humantime.specs.Durations.Characters.{u64_max}
 use Rattle.humantime.specs.Durations.Units.{scale_of_word}
 use Rattle.humantime.specs.Durations.Spans.{SpelledSpan, Reads}
-use Rattle.humantime.specs.Durations.Accepted.{size, AllHaveRoom}
-use Rattle.humantime.specs.Laws.Older.{OlderFormed, older_additions, older_value, AcceptedWithZeros, OlderZero, OlderSum}
-use Rattle.humantime.proofs.OnLiterals.{humantime_on_literals}
+use Rattle.humantime.specs.Durations.Accepted.{size, of_kind, times, AllHaveRoom}
+use Rattle.humantime.specs.Laws.Older.{OlderFormed, OlderFraction, older_additions, older_additions_of, older_fraction_additions, older_value, AcceptedWithZeros, OlderZero, OlderSum}
 
-nineteen_digits : OlderFormed (record { number = codes "0"; fraction = Some (codes "0000000000000000000"); word = codes "s" })
-unfolding humantime_on_literals
-nineteen_digits = record { unit = _; word = refl; number = omega arith; product = omega arith; fraction = (omega arith, refl) }
-
-greatest_number : OlderFormed (record { number = codes "18446744073709551615"; fraction = None; word = codes "ns" })
-unfolding humantime_on_literals
-greatest_number = record { unit = _; word = refl; number = omega arith; product = omega arith; fraction = tt }
-
-seven_digits_of_a_day : OlderFormed (record { number = codes "0"; fraction = Some (codes "0078125"); word = codes "d" })
-unfolding humantime_on_literals
-seven_digits_of_a_day = record { unit = _; word = refl; number = omega arith; product = omega arith; fraction = (omega arith, refl) }
-
-sixteen_digits_of_a_day : OlderFormed (record { number = codes "0"; fraction = Some (codes "0078125000000000"); word = codes "d" })
-unfolding humantime_on_literals
-sixteen_digits_of_a_day = record { unit = _; word = refl; number = omega arith; product = omega arith; fraction = (omega arith, refl) }
-
-fifty_zeros : OlderFormed (record { number = codes "000000000000000000000000000000000000000000000000001"; fraction = None; word = codes "s" })
-unfolding humantime_on_literals
-fifty_zeros = record { unit = _; word = refl; number = omega arith; product = omega arith; fraction = tt }
-
-greatest_years : OlderFormed (record { number = codes "584542046090"; fraction = None; word = codes "y" })
-unfolding humantime_on_literals
-greatest_years = record { unit = _; word = refl; number = omega arith; product = omega arith; fraction = tt }
-
--- There were no other limits, for any word and at any value. Without a fraction, the number and its product with the unit did not exceed a
--- `u64`.
+-- Without a fraction, the number and its product with the unit did not exceed a `u64`.
 any_number : (word number : List ℕ) (unit : _) → scale_of_word word ≡ Some unit
     → decimal_value number ≤ u64_max → decimal_value number * size unit.whole ≤ u64_max
     → OlderFormed (record { number = number; fraction = None; word = word })
@@ -59,3 +33,25 @@ any_sum text spans reads formed room = OlderSum spans reads formed room refl
 
 zero : AcceptedWithZeros (codes "0") 0
 zero = OlderZero refl refl
+
+-- There were no more: nanoseconds had no fraction, and zeros and digits after the nineteenth counted.
+no_fraction : (ds : List ℕ) → ¬ (OlderFraction None (Some ds))
+no_fraction ds h = h
+
+only_fraction : (part : _) (ds : List ℕ) → OlderFraction (Some part) (Some ds)
+    → (length ds ≤ 19) × (decimal_value ds * size part ≤ u64_max) × (decimal_value ds * size part % 10 ^ length ds ≡ 0)
+only_fraction part ds h = (h.0, grind (arith, nat_tests, (h.1)), grind (arith, nat_tests, (h.1)))
+
+only_formed : (s : SpelledSpan) (unit : _) → scale_of_word s.word ≡ Some unit → OlderFormed s
+    → (decimal_value s.number ≤ u64_max) × (decimal_value s.number * size unit.whole ≤ u64_max) × OlderFraction unit.part s.fraction
+only_formed s unit is h =
+    let same : h.unit ≡ unit = ap (λ u. unwrap_or u unit) (sym h.word ∙ is) in
+    rw (← same) (h.number, h.product, h.fraction)
+
+-- A span added its number and then its fraction, with all digits of both.
+any_addition : (s : SpelledSpan) (unit : _) → scale_of_word s.word ≡ Some unit
+    → older_additions_of s ≡ times (decimal_value s.number) unit.whole ∷ older_fraction_additions unit.part s.fraction
+any_addition s unit is = rw is refl
+
+any_part : (part : _) (ds : List ℕ) → older_fraction_additions (Some part) (Some ds) ≡ of_kind part (decimal_value ds * size part / 10 ^ length ds) ∷ []
+any_part part ds = refl

@@ -1,0 +1,173 @@
+-- The limits of any number, any fraction and any sum, what any span adds, and how any count is printed: each rule written out, so that it
+-- holds at every value.
+use Rattle.std.proofs.Common.{◌≡◌, ℕ, ◌+◌, ◌*◌, ◌/◌, ◌%◌, ◌^◌, List, [], ◌∷◌, ◌++◌, Some, None, length, refl}
+use Rattle.std.specs.Prelude.{codes, decimal, Bool, true, false, ◌&&◌, ◌||◌, ◌==◌, nat_le, nat_lt, if◌then◌else◌, option_map, sum_by, IsSome}
+use Rattle.std.specs.List.{AllByRecursion, zip}
+use Rattle.std.specs.Str.{byte}
+use Rattle.std.specs.Str.Parse.{digits_value}
+use Rattle.humantime.specs.Texts.{decimal_value}
+use Rattle.humantime.specs.Durations.Characters.{without_trailing_zeros}
+use Rattle.humantime.specs.Durations.Units.{in_nanos, in_seconds, in_seconds_and_nanos, scale_of_word, whole_nanos}
+use Rattle.humantime.specs.Durations.Spans.{SpelledSpan, Reads}
+use Rattle.humantime.specs.Durations.Accepted.{Accepted, BareZero, SumOf, Formed, additions, additions_of, fits, fraction_additions, fraction_fits, has_room, has_too_many_digits, of_kind, quantity_nanos, size, too_long, total, value}
+use Rattle.humantime.specs.Durations.Counts.{Suffix, printed_count, printed_counts, joined_by_space, suffixes, weights}
+use Rattle.humantime.specs.Results.Durations.{divided, duration_text}
+use Rattle.humantime.proofs.Durations.Reading.SignificantDigits.{significant_last, significant_zero}
+
+abbrev small : ℕ → Bool
+small n = nat_le n 18446744073709551615
+
+-- ---- units
+
+-- A unit adds seconds or nanoseconds, and so do its fractions: how many of them, and how many nanoseconds these are.
+in_nanoseconds : (n : ℕ) → let unit = in_nanos n in
+    (size unit.whole ≡ n) × (quantity_nanos unit.whole ≡ n) × (option_map size unit.part ≡ Some n) × (option_map quantity_nanos unit.part ≡ Some n)
+in_nanoseconds n = (refl, refl, refl, refl)
+
+short_seconds : (n : ℕ) → let unit = in_seconds_and_nanos n in
+    (size unit.whole ≡ n) × (quantity_nanos unit.whole ≡ n * 1_000_000_000)
+    × (option_map size unit.part ≡ Some (n * 1_000_000_000)) × (option_map quantity_nanos unit.part ≡ Some (n * 1_000_000_000))
+short_seconds n = (refl, refl, refl, refl)
+
+long_seconds : (n : ℕ) → let unit = in_seconds n in
+    (size unit.whole ≡ n) × (quantity_nanos unit.whole ≡ n * 1_000_000_000)
+    × (option_map size unit.part ≡ Some n) × (option_map quantity_nanos unit.part ≡ Some (n * 1_000_000_000))
+long_seconds n = (refl, refl, refl, refl)
+
+nanosecond : (size whole_nanos.whole ≡ 1) × (quantity_nanos whole_nanos.whole ≡ 1) × (whole_nanos.part ≡ None)
+nanosecond = (refl, refl, refl)
+
+same_kind : (m n : ℕ) → (of_kind (in_nanos m).whole n ≡ (in_nanos n).whole) × (of_kind (in_seconds m).whole n ≡ (in_seconds n).whole)
+same_kind m n = (refl, refl)
+
+-- ---- digits
+
+digits : (ds : List ℕ) → decimal_value ds ≡ digits_value 10 ds
+digits ds = refl
+
+no_zeros : without_trailing_zeros [] ≡ []
+unfolding without_trailing_zeros
+no_zeros = refl
+
+last_zero : (ds : List ℕ) → without_trailing_zeros (ds ++ codes "0") ≡ without_trailing_zeros ds
+last_zero ds = significant_zero ds
+
+last_digit : (ds : List ℕ) (d : ℕ) → (d == byte "0") ≡ false → without_trailing_zeros (ds ++ d ∷ []) ≡ ds ++ d ∷ []
+last_digit ds d other = significant_last ds d other
+
+-- A number has to fit 64 bits, and a fraction may have nineteen digits without its trailing zeros.
+any_length : (s : SpelledSpan) → too_long s ≡ (nat_lt 18446744073709551615 (decimal_value s.number) || has_too_many_digits s.fraction)
+any_length s = refl
+
+no_digits : has_too_many_digits None ≡ false
+no_digits = refl
+
+nineteen : (fs : List ℕ) → has_too_many_digits (Some fs) ≡ nat_lt 19 (length (without_trailing_zeros fs))
+nineteen fs = refl
+
+-- ---- limits of a span of any unit
+
+-- The number times the size of the unit has to fit 64 bits, and the fraction has to fit.
+any_number : (s : SpelledSpan) (unit : _) → scale_of_word s.word ≡ Some unit
+    → fits s ≡ (small (decimal_value s.number * size unit.whole) && fraction_fits unit.part s.fraction)
+any_number s unit is = rw is refl
+
+no_fraction : (part : _) → fraction_fits part None ≡ true
+no_fraction part = refl
+
+-- Without its trailing zeros, it denotes a whole number of what it is a part of, and its product with this fits 64 bits.
+any_fraction : (part : _) (fs : List ℕ) → fraction_fits (Some part) (Some fs)
+    ≡ (let ds = without_trailing_zeros fs in small (decimal_value ds * size part) && (decimal_value ds * size part % 10 ^ length ds == 0))
+any_fraction part fs = refl
+
+fraction_of_nanos : (fs : List ℕ) → fraction_fits None (Some fs) ≡ (length (without_trailing_zeros fs) == 0)
+fraction_of_nanos fs = refl
+
+-- ---- limits of a sum
+
+-- The seconds of the new sum have to fit 64 bits, and added nanoseconds have to do so together with those below a second.
+room_of_seconds : (t n : ℕ) → has_room t (in_seconds n).whole ≡ small (t / 1_000_000_000 + n)
+room_of_seconds t n = refl
+
+room_of_nanos : (t n : ℕ) → has_room t (in_nanos n).whole ≡ (small (t % 1_000_000_000 + n) && small ((t + n) / 1_000_000_000))
+room_of_nanos t n = refl
+
+-- There are no other limits, for any spans.
+formed : (s : SpelledSpan) → too_long s ≡ false → IsSome (scale_of_word s.word) → Formed s
+formed s short unit = record { short = short; word = unit }
+
+any_spans : (text : List ℕ) (spans : List SpelledSpan) → Reads text spans → AllByRecursion Formed spans
+    → AllByRecursion (λ s. fits s ≡ true) spans
+    → ((before after : List _) (x : _) → additions spans ≡ before ++ x ∷ after → has_room (total before) x ≡ true)
+    → Accepted text (value spans)
+any_spans text spans reads each fit room = SumOf spans reads (record { formed = each; fit = fit; room = room }) refl
+
+zero : Accepted (codes "0") 0
+zero = BareZero refl refl
+
+-- ---- what a span of any unit adds
+
+any_addition : (s : SpelledSpan) (unit : _) → scale_of_word s.word ≡ Some unit
+    → additions_of s ≡ of_kind unit.whole (decimal_value s.number * size unit.whole) ∷ fraction_additions unit.part s.fraction
+any_addition s unit is = rw is refl
+
+no_part : (part : _) → fraction_additions part None ≡ []
+no_part None = refl
+no_part (Some part) = refl
+
+no_part_of_nanos : (fs : List ℕ) → fraction_additions None (Some fs) ≡ []
+no_part_of_nanos fs = refl
+
+any_part : (part : _) (fs : List ℕ) → fraction_additions (Some part) (Some fs)
+    ≡ (let ds = without_trailing_zeros fs in of_kind part (decimal_value ds * size part / 10 ^ length ds) ∷ [])
+any_part part fs = refl
+
+any_additions : (s : SpelledSpan) (spans : List SpelledSpan) → additions (s ∷ spans) ≡ additions_of s ++ additions spans
+any_additions s spans = refl
+
+any_total : (xs : List _) → total xs ≡ sum_by quantity_nanos xs
+any_total xs = refl
+
+any_value : (spans : List SpelledSpan) → value spans ≡ total (additions spans)
+any_value spans = refl
+
+-- ---- printing
+
+-- A count above 1 has the `s` of the plural if its unit has one, and no other count has it.
+plural : (n : ℕ) (unit : List ℕ) → printed_count n (unit, true) ≡ decimal n ++ unit ++ (if nat_lt 1 n then codes "s" else [])
+plural n unit = refl
+
+no_plural : (n : ℕ) (unit : List ℕ) → printed_count n (unit, false) ≡ decimal n ++ unit ++ []
+no_plural n unit = refl
+
+-- A text has the counts that are not zero, joined with single spaces.
+zero_count : (x : Suffix) (counts : List ℕ) (ends : List Suffix) → printed_counts (0 ∷ counts) (x ∷ ends) ≡ printed_counts counts ends
+zero_count x counts ends = refl
+
+other_count : (c : ℕ) (x : Suffix) (counts : List ℕ) (ends : List Suffix) → nat_lt 0 c ≡ true
+    → printed_counts (c ∷ counts) (x ∷ ends) ≡ printed_count c x ∷ printed_counts counts ends
+other_count c x counts ends some = rw some refl
+
+no_count : joined_by_space [] ≡ codes "0s"
+no_count = refl
+
+one_count : (a : List ℕ) → joined_by_space (a ∷ []) ≡ a
+one_count a = refl
+
+space : (a b : List ℕ) (others : List (List ℕ)) → joined_by_space (a ∷ b ∷ others) ≡ a ++ byte " " ∷ joined_by_space (b ∷ others)
+space a b others = refl
+
+-- The counts come by division, from years to nanoseconds.
+by_division : (w d : ℕ) (ws : List ℕ) → divided (w ∷ ws) d ≡ d / w ∷ divided ws (d % w)
+by_division w d ws = refl
+
+any_text : (d : ℕ) → duration_text d ≡ joined_by_space (printed_counts (divided weights d) suffixes)
+unfolding duration_text
+any_text d = refl
+
+nine_units :
+    zip weights suffixes
+    ≡ (31_557_600_000_000_000, (codes "year", true)) ∷ (2_630_016_000_000_000, (codes "month", true))
+    ∷ (86_400_000_000_000, (codes "day", true)) ∷ (3_600_000_000_000, (codes "h", false)) ∷ (60_000_000_000, (codes "m", false)) ∷ (1_000_000_000, (codes "s", false))
+    ∷ (1_000_000, (codes "ms", false)) ∷ (1_000, (0xc2 ∷ 0xb5 ∷ codes "s", false)) ∷ (1, (codes "ns", false)) ∷ []
+nine_units = refl
