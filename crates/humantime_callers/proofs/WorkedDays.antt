@@ -1,79 +1,35 @@
--- The first and the last day of each month, in a common and in a leap year, by computation.
-use Rattle.std.proofs.Common.{◌≡◌, ℕ, ◌+◌, List, [], ◌∷◌, map, refl}
-use Rattle.std.specs.Prelude.{Bool, true, false}
+-- The calendar: the day after any day, the first day of any next month and year, and which dates exist.
+use Rattle.std.proofs.Common.{◌≡◌, ℕ, ◌+◌, ◌%◌, ◌≤◌, [], ◌∷◌, map, refl, arith}
+use Rattle.std.specs.Prelude.{◌&&◌, ◌||◌, ◌==◌, not, nat_le, if◌then◌else◌}
 use Rattle.std.specs.List.{range_with_len}
 use Rattle.humantime.specs.declared.calendar.Date.{Date}
-use Rattle.humantime.specs.Calendar.{days_in_month, is_valid, day_of}
-use Rattle.humantime.proofs.TimestampsOnLiterals.{timestamps_on_literals}
-
-abbrev months : List ℕ
-months = range_with_len 1 12
+use Rattle.humantime.specs.Calendar.{days_in_month, days_of_months, days_of_years, is_leap_year, is_valid, day_of}
 
 abbrev date : ℕ → ℕ → ℕ → Date
 date y m d = record { year = y; month = m; day = d }
 
-abbrev first_days : ℕ → List ℕ
-first_days y = map (λ m. day_of (date y m 1)) months
+first_day : day_of (date 1970 1 1) ≡ 0
+unfolding days_of_years days_of_months
+first_day = refl
 
-abbrev last_days : ℕ → List ℕ
-last_days y = map (λ m. day_of (date y m (days_in_month y m))) months
+next_day : (y m d : ℕ) → 1 ≤ d → day_of (date y m (d + 1)) ≡ day_of (date y m d) + 1
+next_day y m d some = omega arith
 
-common_first : first_days 1970 ≡ 0 ∷ 31 ∷ 59 ∷ 90 ∷ 120 ∷ 151 ∷ 181 ∷ 212 ∷ 243 ∷ 273 ∷ 304 ∷ 334 ∷ []
-unfolding timestamps_on_literals
-common_first = refl
+next_month : (y m : ℕ) → 1 ≤ m → day_of (date y (m + 1) 1) ≡ day_of (date y m 1) + days_in_month y m
+unfolding days_of_months
+next_month y m some = grind arith
 
-common_last : last_days 1970 ≡ 30 ∷ 58 ∷ 89 ∷ 119 ∷ 150 ∷ 180 ∷ 211 ∷ 242 ∷ 272 ∷ 303 ∷ 333 ∷ 364 ∷ []
-unfolding timestamps_on_literals
-common_last = refl
+next_year : (y : ℕ) → 1970 ≤ y → day_of (date (y + 1) 1 1) ≡ day_of (date y 1 1) + (if is_leap_year y then 366 else 365)
+unfolding days_of_years days_of_months
+next_year y late = grind arith
 
-leap_first : first_days 1972 ≡ 730 ∷ 761 ∷ 790 ∷ 821 ∷ 851 ∷ 882 ∷ 912 ∷ 943 ∷ 974 ∷ 1004 ∷ 1035 ∷ 1065 ∷ []
-unfolding timestamps_on_literals
-leap_first = refl
+leap : (y : ℕ) → is_leap_year y ≡ ((y % 4 == 0) && (not (y % 100 == 0) || (y % 400 == 0)))
+leap y = refl
 
-leap_last : last_days 1972 ≡ 760 ∷ 789 ∷ 820 ∷ 850 ∷ 881 ∷ 911 ∷ 942 ∷ 973 ∷ 1003 ∷ 1034 ∷ 1064 ∷ 1095 ∷ []
-unfolding timestamps_on_literals
-leap_last = refl
+lengths : (y : ℕ) → map (days_in_month y) (range_with_len 1 12)
+    ≡ 31 ∷ (if is_leap_year y then 29 else 28) ∷ 31 ∷ 30 ∷ 31 ∷ 30 ∷ 31 ∷ 31 ∷ 30 ∷ 31 ∷ 30 ∷ 31 ∷ []
+lengths y = refl
 
--- The last day of each month exists, and the day after it and day 0 do not.
-abbrev exist : ℕ → ℕ → List Bool
-exist y later = map (λ m. is_valid y m (days_in_month y m + later)) months
-
-last_days_exist : exist 1970 0 ≡ map (λ m. true) months
-last_days_exist = refl
-
-leap_last_days_exist : exist 1972 0 ≡ map (λ m. true) months
-leap_last_days_exist = refl
-
-no_later_days : exist 1970 1 ≡ map (λ m. false) months
-no_later_days = refl
-
-no_later_days_of_a_leap_year : exist 1972 1 ≡ map (λ m. false) months
-no_later_days_of_a_leap_year = refl
-
--- The length of each month.
-common_lengths : map (days_in_month 1970) months ≡ 31 ∷ 28 ∷ 31 ∷ 30 ∷ 31 ∷ 30 ∷ 31 ∷ 31 ∷ 30 ∷ 31 ∷ 30 ∷ 31 ∷ []
-common_lengths = refl
-
-leap_lengths : map (days_in_month 1972) months ≡ 31 ∷ 29 ∷ 31 ∷ 30 ∷ 31 ∷ 30 ∷ 31 ∷ 31 ∷ 30 ∷ 31 ∷ 30 ∷ 31 ∷ []
-leap_lengths = refl
-
--- The last day of February in years that are multiples of 100, and of 400.
-centuries : map (λ y. days_in_month y 2) (2100 ∷ 2200 ∷ 2300 ∷ 2500 ∷ 5000 ∷ 9900 ∷ []) ≡ 28 ∷ 28 ∷ 28 ∷ 28 ∷ 28 ∷ 28 ∷ []
-centuries = refl
-
-fourth_centuries : map (λ y. days_in_month y 2) (2000 ∷ 2400 ∷ 2800 ∷ 3200 ∷ 3600 ∷ 4000 ∷ 8000 ∷ 9600 ∷ []) ≡ 29 ∷ 29 ∷ 29 ∷ 29 ∷ 29 ∷ 29 ∷ 29 ∷ 29 ∷ []
-fourth_centuries = refl
-
--- The first and the last year.
-ends : map (λ y. is_valid y 1 1) (1969 ∷ 1970 ∷ 9999 ∷ 10_000 ∷ []) ≡ false ∷ true ∷ true ∷ false ∷ []
-ends = refl
-
--- Months and days begin at 1, and there are twelve months.
-no_zero : is_valid 1970 0 1 ≡ false
-no_zero = refl
-
-no_day_zero : is_valid 1970 1 0 ≡ false
-no_day_zero = refl
-
-no_month_13 : is_valid 1970 13 1 ≡ false
-no_month_13 = refl
+valid : (y m d : ℕ) → is_valid y m d
+    ≡ ((nat_le 1970 y && nat_le y 9999) && (nat_le 1 m && nat_le m 12) && (nat_le 1 d && nat_le d (days_in_month y m)))
+valid y m d = refl

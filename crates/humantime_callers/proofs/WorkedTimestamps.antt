@@ -1,70 +1,20 @@
--- The results of parsing some timestamps, and the printed texts of some moments, by computation.
-use Rattle.std.proofs.Common.{◌≡◌, ℕ, ◌+◌, ◌*◌, List, [], ◌∷◌, ◌++◌, Some, None, Result, Ok, Err, map, filter, take, drop, refl}
-use Rattle.std.specs.Prelude.{ℤ, codes, is_ok, pos, negsuc}
-use Rattle.std.specs.List.{range_with_len}
+-- What holds of any timestamp and of any moment, each rule written out; and which bytes fit at each place of a text, by computation.
+use Rattle.std.proofs.Common.{◌≡◌, ◌≢◌, ◌↔◌, ◌⊎◌, ℕ, ◌+◌, ◌-◌, ◌*◌, ◌/◌, ◌%◌, ◌^◌, ◌≤◌, List, [], ◌∷◌, ◌++◌, None, Some, Result, Err, length, map, filter, take, drop, refl, inl, inr, arith}
+use Rattle.std.specs.Prelude.{ℤ, ◌≤ℤ◌, ◌<ℤ◌, pos, negsuc, Bool, true, false, ◌&&◌, ◌||◌, ◌==◌, nat_le, nat_lt, if◌then◌else◌, codes, is_ok, min, option_map, slice_index, IsTrue}
+use Rattle.std.specs.Char.{is_ascii_digit}
+use Rattle.std.specs.List.{list_all, range_with_len}
+use Rattle.std.specs.Str.{byte, all_ascii_digits}
+use Rattle.std.proofs.lemmas.Bool.Decides.{nat_tests}
+use Rattle.std.proofs.lemmas.Int.{ints}
 use Rattle.humantime.specs.declared.date.error.TimestampError.{TimestampError}
 use Rattle.humantime.specs.declared.date.error.TimestampError.TheVariants.{OutOfRange, InvalidDigit, InvalidFormat}
-use Rattle.humantime.specs.Prelude.{nanos_per_second, weak_answer, strict_answer, cut, moment_text, places_of, shortest_text}
+use Rattle.humantime.specs.Prelude.{weak_answer, strict_answer, cut, moment_text, places_of, shortest_text, IsPrintable, IsPrinted}
+use Rattle.humantime.specs.Texts.{decimal_value}
+use Rattle.humantime.specs.Calendar.{IsDate, day_of, is_valid}
+use Rattle.humantime.specs.Timestamps.Checks.{date_time_of, ends_in_zone, first_failed, fraction_part, has_two, is_valid_date_time, strict_checks, weak_checks}
+use Rattle.humantime.specs.Timestamps.Fields.{Fields, Separator, Letter_T, Space, Zone, NoZone, Letter_Z, ZeroOffset, IsStrict, IsWeak, date_time_text, fields_text, four_digits, fraction_digits, fraction_nanos, fraction_text, moment_of, separator_byte, two_digits, zone_text}
+use Rattle.humantime.specs.Results.Timestamps.{fields_at}
 use Rattle.humantime.proofs.TimestampsOnLiterals.{timestamps_on_literals}
-
--- A text, and the results of the weak and the strict parser.
-record Row : Type 0 where
-  text : List ℕ
-  weak : Result ℤ TimestampError
-  strict : Result ℤ TimestampError
-
-abbrev row : List ℕ → Result ℤ TimestampError → Result ℤ TimestampError → Row
-row text weak strict = record { text = text; weak = weak; strict = strict }
-
--- A second, and the number of nanoseconds after it.
-abbrev at : ℕ → ℕ → Result ℤ TimestampError
-at second nanos = Ok (pos (second * nanos_per_second + nanos))
-
-abbrev rows : List Row
-rows =
-    row (codes "2018-02-14 00:28:07") (at 1_518_568_087 0) (Err InvalidFormat)
-    ∷ row (codes "2018-02-14T00:28:07Z") (at 1_518_568_087 0) (at 1_518_568_087 0)
-    ∷ row (codes "1970-01-01T00:00:00.+00:00") (at 0 0) (at 0 0)
-    ∷ row (codes "2016-12-31T23:59:60Z") (at 1_483_228_799 0) (at 1_483_228_799 0)
-    ∷ row (codes "1970-01-01 00:00:00.000123Z") (at 0 123_000) (Err InvalidFormat)
-    ∷ row (codes "1970-02-30T00:00:00Z") (Err OutOfRange) (Err OutOfRange)
-    ∷ row (codes "1970-13-01 00:00:00junk") (Err OutOfRange) (Err InvalidFormat)
-    ∷ row (codes "1969-1x-01 00:00:00") (Err InvalidDigit) (Err InvalidFormat)
-    ∷ row (codes "1970-01-01T00:00:00ZabZ") (Err InvalidFormat) (Err InvalidFormat)
-    ∷ row (codes "1970-01-01T00:00:00.5+abcdZ") (Err InvalidDigit) (Err InvalidDigit)
-    ∷ row (codes "2016-12-31 12:30:60") (at 1_483_187_459 0) (Err InvalidFormat)
-    ∷ row (codes "1970-01-01T00:00:60Z") (at 59 0) (at 59 0)
-    ∷ row (codes "9999-12-31T23:59:59.9999999999Z") (at 253_402_300_799 999_999_999) (at 253_402_300_799 999_999_999)
-    ∷ row (codes "1970-01-01T00:00:00.1234567896Z") (at 0 123_456_789) (at 0 123_456_789)
-    ∷ row (codes "1970-01-01 00:00:00.12345678999") (at 0 123_456_789) (Err InvalidFormat)
-    ∷ row (codes "1970-01-01T00:00:00.123456789987654321012345678998+00:00") (at 0 123_456_789) (at 0 123_456_789)
-    ∷ row (codes "1970-08-31T00:00:00Z") (at 20_908_800 0) (at 20_908_800 0)
-    ∷ row (codes "1970-09-01T00:00:00Z") (at 20_995_200 0) (at 20_995_200 0)
-    ∷ row (codes "1970-09-31T00:00:00Z") (Err OutOfRange) (Err OutOfRange)
-    ∷ row (codes "1970-12-30T24:00:00Z") (Err OutOfRange) (Err OutOfRange)
-    ∷ row (codes "1970-12-30T00:60:00Z") (Err OutOfRange) (Err OutOfRange)
-    ∷ row (codes "1970-12-30T23:59:61Z") (Err OutOfRange) (Err OutOfRange)
-    ∷ row (codes "1970-01-01t00:00:00Z") (Err InvalidFormat) (Err InvalidFormat)
-    ∷ row (codes "2018-02-14T00:28:07+02:00") (Err InvalidFormat) (Err InvalidFormat)
-    ∷ row (codes "1970-01-01 00:00:07+0000") (Err InvalidFormat) (Err InvalidFormat)
-    ∷ row (codes "1970-01-01T00:00:00UTC") (Err InvalidFormat) (Err InvalidFormat)
-    ∷ row (codes "1970-01-01_00:00:00") (Err InvalidFormat) (Err InvalidFormat)
-    ∷ row (codes "1970-01-01_00:00:00Z") (Err InvalidFormat) (Err InvalidFormat)
-    ∷ row (codes "2100-02-29T00:00:00Z") (Err OutOfRange) (Err OutOfRange)
-    ∷ row (codes "1970-13-01 00:00:00.5x") (Err OutOfRange) (Err InvalidFormat)
-    ∷ row (codes "1970-13-01T00:00:00.5xZ") (Err OutOfRange) (Err OutOfRange)
-    ∷ row (codes "1970-01-01 00:00:00.5+02:00") (Err InvalidDigit) (Err InvalidFormat)
-    ∷ row (codes "1970-01-01 00:00:00.1234567890x") (Err InvalidDigit) (Err InvalidFormat)
-    ∷ row (codes "1970-01-01T00:00:00.1234567890xZ") (Err InvalidDigit) (Err InvalidDigit)
-    ∷ []
-
-rows_weak : map (λ x. weak_answer x.text) rows ≡ map (λ x. x.weak) rows
-unfolding timestamps_on_literals
-rows_weak = refl
-
-rows_strict : map (λ x. strict_answer x.text) rows ≡ map (λ x. x.strict) rows
-unfolding timestamps_on_literals
-rows_strict = refl
 
 -- Returns the bytes of ASCII with which the parser accepts the text if they take the place of its byte at this offset, or follow its end.
 abbrev fitting : (List ℕ → Result ℤ TimestampError) → List ℕ → ℕ → List ℕ
@@ -76,8 +26,9 @@ digits = codes "0123456789"
 abbrev with_fraction : List ℕ
 with_fraction = codes "2018-02-14T00:28:07.5Z"
 
--- The bytes that fit at each offset of this text, and none after its end. The separators stand between the date and the time, and the last bytes
--- at the end. The year is 1970 to 9999, the month 1 to 12, the day 1 to 28, the hour at most 23, the minute at most 59, the second at most 60.
+-- The bytes that fit at each offset of this text, and none after its end. The separators stand between the date and the time, and the last
+-- bytes at the end. The year is 1970 to 9999, the month 1 to 12, the day 1 to 28, the hour at most 23, the minute at most 59, the second at
+-- most 60.
 abbrev bytes_of : List ℕ → List ℕ → List (List ℕ)
 bytes_of separators last =
     codes "23456789" ∷ digits ∷ digits ∷ digits
@@ -108,43 +59,138 @@ bytes_of_zones :
 unfolding timestamps_on_literals
 bytes_of_zones = refl
 
--- The number of digits that `format_rfc3339` prints: none if the nanoseconds are zero, and otherwise nine, also before 1970.
-no_digits : map places_of (pos 0 ∷ pos 1_000_000_000 ∷ pos 253_402_300_799_000_000_000 ∷ negsuc 999_999_999 ∷ []) ≡ 0 ∷ 0 ∷ 0 ∷ 0 ∷ []
-no_digits = refl
+-- ---- errors
 
-nine_digits_before_1970 : map places_of (negsuc 0 ∷ negsuc 999_999_998 ∷ negsuc 1_000_000_000 ∷ []) ≡ 9 ∷ 9 ∷ 9 ∷ []
-nine_digits_before_1970 = refl
-
-nine_digits : map places_of (pos 1 ∷ pos 7 ∷ pos 999 ∷ pos 1_000 ∷ pos 1_000_000 ∷ pos 500_000_000 ∷ pos 999_999_999 ∷ pos 1_000_000_001 ∷ []) ≡ 9 ∷ 9 ∷ 9 ∷ 9 ∷ 9 ∷ 9 ∷ 9 ∷ 9 ∷ []
-nine_digits = refl
-
--- A moment rounded down to no digits, three, six and nine, also before 1970.
-cut_moment : map (cut (pos 1_456_123_999)) (0 ∷ 3 ∷ 6 ∷ 9 ∷ []) ≡ pos 1_000_000_000 ∷ pos 1_456_000_000 ∷ pos 1_456_123_000 ∷ pos 1_456_123_999 ∷ []
-cut_moment = refl
-
-cut_before_1970 : map (cut (negsuc 543_876_000)) (0 ∷ 3 ∷ 6 ∷ 9 ∷ []) ≡ negsuc 999_999_999 ∷ negsuc 543_999_999 ∷ negsuc 543_876_999 ∷ negsuc 543_876_000 ∷ []
-cut_before_1970 = refl
-
-in_millis : moment_text (pos (1_518_563_312 * nanos_per_second + 456_123_999)) 3 ≡ Some (codes "2018-02-13T23:08:32.456Z")
+-- The first of these checks that fails gives the error, after that for a `T` and a zone in the strict form.
+any_checks : (b : List ℕ)
+    → weak_checks b
+    ≡ (nat_le 19 (length b), InvalidFormat)
+    ∷ (
+      (slice_index b 4 == byte "-") && (slice_index b 7 == byte "-") && ((slice_index b 10 == byte "T") || (slice_index b 10 == byte " "))
+          && (slice_index b 13 == byte ":") && (slice_index b 16 == byte ":"),
+      InvalidFormat,
+    )
+    ∷ (list_all (λ k. has_two b k) (0 ∷ 2 ∷ 5 ∷ 8 ∷ 11 ∷ 14 ∷ 17 ∷ []), InvalidDigit)
+    ∷ (is_valid_date_time (date_time_of b), OutOfRange)
+    ∷ ((length (fraction_part b) == 0) || (slice_index (fraction_part b) 0 == byte "."), InvalidFormat)
+    ∷ (all_ascii_digits (drop 1 (fraction_part b)), InvalidDigit) ∷ []
 unfolding timestamps_on_literals
-in_millis = refl
+any_checks b = refl
 
-last_moment : moment_text (pos (253_402_300_799 * nanos_per_second + 999_999_999)) 9 ≡ Some (codes "9999-12-31T23:59:59.999999999Z")
+any_digits : (b : List ℕ) (k : ℕ) → has_two b k ≡ (is_ascii_digit (slice_index b k) && is_ascii_digit (slice_index b (k + 1)))
 unfolding timestamps_on_literals
-last_moment = refl
+any_digits b k = refl
 
-whole_second : shortest_text (pos (951_782_400 * nanos_per_second)) ≡ Some (codes "2000-02-29T00:00:00Z")
+any_range : (x : _)
+    → is_valid_date_time x ≡ (is_valid x.date.year x.date.month x.date.day && nat_le x.hour 23 && nat_le x.minute 59 && nat_le x.second 60)
 unfolding timestamps_on_literals
-whole_second = refl
+any_range x = refl
 
-seven_nanos : shortest_text (pos 7) ≡ Some (codes "1970-01-01T00:00:00.000000007Z")
+strict_check : (b : List ℕ)
+    → strict_checks b ≡ (nat_le 20 (length b) && (slice_index b 10 == byte "T") && ends_in_zone b, InvalidFormat) ∷ weak_checks b
 unfolding timestamps_on_literals
-seven_nanos = refl
+strict_check b = refl
 
-before_1970 : moment_text (negsuc 0) 0 ≡ None
-unfolding timestamps_on_literals
-before_1970 = refl
+first_error : (e : TimestampError) (others : List (Bool × TimestampError))
+    → (first_failed ((true, e) ∷ others) ≡ first_failed others) × (first_failed ((false, e) ∷ others) ≡ Some e)
+first_error e others = (refl, refl)
 
-one_nanosecond : shortest_text (pos 1) ≡ Some (codes "1970-01-01T00:00:00.000000001Z")
+short_weak : (text : List ℕ) → nat_le 19 (length text) ≡ false → weak_answer text ≡ Err InvalidFormat
 unfolding timestamps_on_literals
-one_nanosecond = refl
+short_weak text short = rw short refl
+
+short_strict : (text : List ℕ) → nat_le 20 (length text) ≡ false → strict_answer text ≡ Err InvalidFormat
+unfolding timestamps_on_literals
+short_strict text short = rw short refl
+
+-- ---- forms
+
+-- Nothing else is asked of the text of any parts in the weak form, nor in the strict one.
+weak_form : (text : List ℕ) (f : Fields)
+    → IsWeak text f
+    ↔ ((text ≡ fields_text f) × IsDate f.date × (f.hour ≤ 23) × (f.minute ≤ 59) × (f.second ≤ 60)
+    × IsTrue (all_ascii_digits (fraction_digits f.fraction)))
+weak_form text f = (
+  λ w. (w.text, w.date, w.hour, w.minute, w.second, w.fraction),
+  λ h. record { text = h.0; date = h.1; hour = h.2; minute = h.3; second = h.4; fraction = h.5 },
+)
+
+strict_form : (text : List ℕ) (f : Fields) → IsStrict text f ↔ (IsWeak text f × (f.separator ≡ Letter_T) × (f.zone ≢ NoZone))
+strict_form text f = (λ s. (s.weak, s.separator, s.zone), λ h. record { weak = h.0; separator = h.1; zone = h.2 })
+
+any_text : (f : Fields) → fields_text f ≡ date_time_text f ++ fraction_text f.fraction ++ zone_text f.zone
+any_text f = refl
+
+any_date_time : (f : Fields)
+    → date_time_text f
+    ≡ four_digits f.date.year ++ codes "-" ++ two_digits f.date.month ++ codes "-" ++ two_digits f.date.day ++ separator_byte f.separator
+    ∷ two_digits f.hour ++ codes ":" ++ two_digits f.minute ++ codes ":" ++ two_digits f.second
+any_date_time f = refl
+
+any_two : (n : ℕ) → two_digits n ≡ (48 + n / 10) ∷ (48 + n % 10) ∷ []
+any_two n = refl
+
+any_four : (n : ℕ) → four_digits n ≡ (48 + n / 1000) ∷ (48 + n / 100 % 10) ∷ (48 + n / 10 % 10) ∷ (48 + n % 10) ∷ []
+any_four n = refl
+
+separators : (s : Separator) → (separator_byte s ≡ byte "T") ⊎ (separator_byte s ≡ byte " ")
+separators Letter_T = inl refl
+separators Space = inr refl
+
+zones : (z : Zone) → (zone_text z ≡ []) ⊎ ((zone_text z ≡ codes "Z") ⊎ (zone_text z ≡ codes "+00:00"))
+zones NoZone = inl refl
+zones Letter_Z = inr (inl refl)
+zones ZeroOffset = inr (inr refl)
+
+points : (ds : List ℕ) → (fraction_text None ≡ []) × (fraction_text (Some ds) ≡ byte "." ∷ ds)
+points ds = (refl, refl)
+
+-- Second 60 counts as second 59, and nine digits of a fraction count.
+any_moment : (f : Fields)
+    → moment_of f
+    ≡ (day_of f.date * 86_400 + f.hour * 3_600 + f.minute * 60 + min f.second 59) * 1_000_000_000
+    + decimal_value (take 9 (fraction_digits f.fraction ++ codes "000000000"))
+unfolding fraction_nanos
+any_moment f = refl
+
+-- ---- printing; `negsuc n` is n + 1 nanoseconds before 1970
+
+-- `format_rfc3339` prints no digits if the nanoseconds are zero, and otherwise nine.
+places_from_1970 : (n : ℕ) → places_of (pos n) ≡ (if n % 1_000_000_000 == 0 then 0 else 9)
+places_from_1970 n = refl
+
+places_before_1970 : (n : ℕ) → places_of (negsuc n) ≡ (if (n + 1) % 1_000_000_000 == 0 then 0 else 9)
+places_before_1970 n = grind (arith, nat_tests)
+
+-- A moment is rounded down, also before 1970.
+cut_from_1970 : (n k : ℕ) → cut (pos n) k ≡ pos (n - n % 10 ^ (9 - k))
+cut_from_1970 n k = grind (arith, ints)
+
+cut_before_1970 : (n k : ℕ) → cut (negsuc n) k ≡ negsuc (n + (10 ^ (9 - k) - 1 - n % 10 ^ (9 - k)))
+cut_before_1970 n k = grind (arith, ints)
+
+-- Nothing else is asked of a printed text.
+printed_form : (t : ℤ) (k : ℕ) (text : List ℕ)
+    → IsPrinted t k text
+    ↔ ((k ≤ 9)
+    × ((f : Fields) × IsWeak text f × (f.separator ≡ Letter_T) × (f.zone ≡ Letter_Z) × (f.second ≤ 59)
+    × (option_map length f.fraction ≡ (if k == 0 then None else Some k)) × (pos (moment_of f) ≡ cut t k)))
+printed_form t k text = (
+  λ p. (p.few, (p.fields, p.weak, p.separator, p.zone, p.second, p.places, p.moment)),
+  λ h. record { few = h.0; fields = h.1.0; weak = h.1.1; separator = h.1.2; zone = h.1.3; second = h.1.4; places = h.1.5; moment = h.1.6 },
+)
+
+printable : (t : ℤ) → IsPrintable t ↔ ((pos 0 ≤ℤ t) × (t <ℤ pos 253_402_300_800_000_000_000))
+printable t = (λ h. h, λ h. h)
+
+text_from_1970 : (n k : ℕ)
+    → moment_text (pos n) k ≡ (if nat_lt n 253_402_300_800_000_000_000 then Some (fields_text (fields_at n k)) else None)
+unfolding timestamps_on_literals
+text_from_1970 n k = refl
+
+text_before_1970 : (n k : ℕ) → moment_text (negsuc n) k ≡ None
+unfolding timestamps_on_literals
+text_before_1970 n k = refl
+
+shortest : (t : ℤ) → shortest_text t ≡ moment_text t (places_of t)
+shortest t = refl

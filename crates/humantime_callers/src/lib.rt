@@ -1,7 +1,8 @@
 //! Callers of every public item of `humantime`.
 //!
 //! Each is proved by the contracts of public items alone, so a contract that says less leaves one of them unproved. The files
-//! `proofs/Worked*.antt` have facts that are computed from the definitions.
+//! `proofs/Worked*.antt` state the rules of the definitions once more, each with literals and for any value, so that a definition that
+//! changes at one value is refused.
 #![tactic(auto)]
 
 pub mod borrowed;
