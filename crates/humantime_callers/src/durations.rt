@@ -1,6 +1,6 @@
 //! Limits, sums and offsets of errors: callers that parse and print durations.
 
-ghost use Rattle.std.specs.Prelude.{◌≡◌, ◌+◌, ◌*◌, ◌/◌, ◌<◌, ◌≤◌, ◌↔◌, ℕ, List, [], chars, drop, slice_range, option_map, true, IfSome, IsSome, IsOk, IsOkAnd, IsErrAnd, IsTrue, None, Ok, Err, Some};
+ghost use Rattle.std.specs.Prelude.{◌≡◌, ◌+◌, ◌*◌, ◌/◌, ◌<◌, ◌≤◌, ◌↔◌, ℕ, List, [], chars, drop, slice_range, option_map, true, IfSome, IsSome, IsOk, IsOkAnd, IsErrAnd, IsTrue, None, Ok, Err};
 ghost use Rattle.std.specs.Result.{result_map_both};
 ghost use Rattle.humantime.specs.Prelude.{IsCanonicalText, Fault, InvalidCharacter, NumberExpected, UnknownUnit, NumberOverflow, Empty, duration_answer, duration_end, result_view, fault_of, place_of, nanos_per_second};
 
@@ -11,13 +11,6 @@ pub fn limit_seconds(text: &str) -> Result<u64, DurationError<'_>>
     ensures { result_view result ≡ result_map_both (λ v. v / nanos_per_second) (λ e. e) (duration_answer (chars text.now)) }
 {
     Ok(parse_duration(text)?.as_secs())
-}
-
-/// Returns the limit that applies if a file has none.
-pub fn default_limit() -> Option<StdDuration>
-    ensures { result ≡ Some (9420 * nanos_per_second) }
-{
-    parse_duration("2h 37min").ok()
 }
 
 /// Returns the sum of a start and a length, `None` if it is too long, or the first error of the two texts.

@@ -63,8 +63,9 @@ pub fn canonical_text<'b>(duration: StdDuration, buf: &'b mut [u8; 64]) -> &'b s
 }
 
 /// Parses the canonical text of a duration, which returns that duration.
+#[tactic(auto, using(humantime::proofs::Theorems::value_of_view))]
 pub fn read_back(text: &str, duration: StdDuration) -> Result<StdDuration, DurationError<'_>>
-    ensures { IsCanonicalText duration text.now → result_view result ≡ Ok duration }
+    ensures { IsCanonicalText duration text.now → result ≡ Ok duration }
 {
     printed_duration_reads(duration);
     parse_duration(text)

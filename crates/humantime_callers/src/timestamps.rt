@@ -1,9 +1,9 @@
 //! Lines of a log: callers that parse, print and compare timestamps.
 
-ghost use Rattle.std.specs.Prelude.{◌≡◌, ◌*◌, ◌↔◌, ◌<ℤ◌, ◌≤ℤ◌, ℤ, pos, ◌+ℤ◌, IsTrue, IsSome, IsSomeAnd, IfSome, IfOk, IsOkAnd, Ok, Err, SomeIff, string_bytes};
+ghost use Rattle.std.specs.Prelude.{◌≡◌, ◌↔◌, ◌<ℤ◌, ◌≤ℤ◌, ℤ, pos, ◌+ℤ◌, IsTrue, IsSome, IsSomeAnd, IfSome, IfOk, IsOkAnd, Ok, Err, SomeIff, string_bytes};
 ghost use Rattle.std.specs.Ordering.{int_cmp};
 ghost use Rattle.humantime.specs.declared.TimestampError.{TimestampError};
-ghost use Rattle.humantime.specs.Prelude.{weak_answer, strict_answer, IsPrinted, IsPrintedWith, IsPrintable, cut, moment_end, nanos_per_second, places_of};
+ghost use Rattle.humantime.specs.Prelude.{weak_answer, strict_answer, IsPrinted, IsPrintedWith, IsPrintable, cut, moment_end, places_of};
 
 use humantime::{
     StdDuration, SystemTime, TimestampError, format_rfc3339, format_rfc3339_micros,
@@ -103,11 +103,4 @@ pub fn sortable_stamp<'b>(
     ensures error { (e : TimestampError) → (result ≡ Err e) ↔ (weak_answer text.now ≡ Err e) }
 {
     Ok(format_rfc3339_micros(parse_rfc3339_weak(text)?).text(buf))
-}
-
-/// Returns the default for the first moment whose lines are kept.
-pub fn default_start() -> Result<SystemTime, TimestampError>
-    ensures { result ≡ Ok (pos (1_518_568_087 * nanos_per_second)) }
-{
-    parse_rfc3339("2018-02-14T00:28:07Z")
 }
