@@ -13,9 +13,9 @@ mod writing;
 use command::FAILED;
 pub use command::run;
 use std::alloc::{AllocError, Global};
-use std::io::Write;
+use std::env::{self, Env, FillError};
+use std::io::{self, Write};
 use std::process::ExitCode;
-use std::{env, io};
 
 fn main(rt: HostRuntime) -> ExitCode {
     ExitCode::from(answer(&rt).unwrap_or(FAILED))
@@ -23,8 +23,26 @@ fn main(rt: HostRuntime) -> ExitCode {
 
 /// Runs the command given by the program's arguments with standard output and standard error, and returns the exit status.
 fn answer(rt: &HostRuntime) -> io::Result<u8> {
-    let args = env::args(rt)?.skip(1).collect::<Vec<String>>(rt.alloc())?;
+    let args = env::args(&(AfterName(rt), rt.alloc()))?.collect::<Vec<String>>(rt.alloc())?;
     answer_args(rt.alloc(), &args, &mut rt.stdout(), &mut rt.stderr())
+}
+
+/// The arguments after the program's name, which may be missing and need not be UTF-8. It has no variables.
+#[derive(Clone, Copy)]
+struct AfterName<'a>(&'a HostRuntime);
+
+impl Env for AfterName<'_> {
+    fn arg(&self, i: usize, buf: &mut [u8]) -> Result<usize, FillError> {
+        self.0.arg(i.saturating_add(1), buf)
+    }
+
+    fn var(&self, _name: &str, _buf: &mut [u8]) -> Result<usize, FillError> {
+        Err(FillError::NotPresent)
+    }
+
+    fn var_at(&self, _i: usize, _buf: &mut [u8]) -> Result<usize, FillError> {
+        Err(FillError::NotPresent)
+    }
 }
 
 /// Runs the command given by `args`, flushes `out`, and returns the exit status.
