@@ -1,4 +1,4 @@
-//! Callers of every public item of `humantime`.
+//! Callers of every public item of `humantime`, and of the functions of `humantime_std` that take no clock.
 //!
 //! Each is proved by the contracts of public items alone, so a contract that says less leaves one of them unproved. The files
 //! `proofs/Worked*.antt` state the rules of the definitions once more, each with literals and for any value, so that a definition that
@@ -15,6 +15,7 @@ pub mod errors;
 pub mod laws;
 pub mod limits;
 pub mod spans;
+pub mod std_limits;
 pub mod timestamps;
 pub mod values;
 pub mod witnesses;
