@@ -64,10 +64,13 @@ fn marks_are_shown(rt: HostRuntime) -> Result<(), Fail> {
             "# µ\r\ntimeout = '1x 2'\r\n",
             "line 2, column 13: unknown time unit \"x\", supported units: ns, us/µs, ms, sec, min, hours, days, weeks, months, years (and few variations)\ntimeout = '1x 2'\n            ^",
         ),
+        // Only the carriage return is cut off the line.
+        ("timeout = '1~' \t\r\n", "line 1, column 13: invalid character at 1\ntimeout = '1~' \t\n            ^"),
     ] {
         let error = from_toml::<Jobs>(alloc, text).err().expect(&rt, "read");
         assert_eq!(rt; error.to_string(alloc)?.as_str(), *message);
     }
+    assert_eq!(rt; SettingsError::OutOfMemory.to_string(alloc)?.as_str(), "out of memory");
     // A line of 500 bytes is shown, and a longer one is not.
     let spaces = " ".repeat(alloc, 486)?;
     for (text, has_line) in &[("1", true), ("11", false)] {

@@ -39,6 +39,10 @@ const CASES: &[(&str, &str)] = &[
     ),
     (r#"{"timeout":"2h","pauses":["1s","2s","1 é"],"job":{}}"#, r#"1:40 invalid character at 2 | é"],"job":{}}"#),
     (r#"{"timeout":"2h","days":{"a":"2018-02-14 00:28:07","b":"1h"}}"#, r#"1:56 timestamp format is invalid | 1h"}}"#),
+    // A number that is too large, which is marked at the start of its text; lines that end in CR LF; and an escape before the closing quote.
+    (r#"{"timeout":"1h 1.5ns"}"#, r#"1:13 number is too large or cannot be represented without a lack of precision (values below 1ns are not supported) | 1h 1.5ns"}"#),
+    ("{\r\n\r\n\r\n\r\n\"pauses\":[\"1s\",\"1h x\"]}", r#"5:20 expected number at 3 | x"]}"#),
+    (r#"{"timeout":"1s \\"}"#, r#"1:12 expected number at 3 | "1s \\"}"#),
     // What is missing, unknown or cut.
     ("{\n  \"timeout\": \"2h\",\n  \"job\": {\"name\": \"é\", \"every\": \"5us\"}\n}", "3:38 missing field `since` | }"),
     ("{\"timeout\":\"2h\",\n\"job\":{\"nmae\":\"é\"}}", r#"2:8 unknown field | "nmae":"é"}}"#),

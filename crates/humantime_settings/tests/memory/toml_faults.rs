@@ -34,6 +34,17 @@ const CASES: &[(&str, &str, &str)] = &[
     ("timeout = '2h'\nzone = 2018-02-14 00:28:07Z # UTC\n", "", "2:8 invalid type: map, expected a string | 2018-02-14 00:28:07Z # UTC"),
     ("timeout = { a = '2h' }\n", "", "1:11 invalid type: map, expected a string | { a = '2h' }"),
     ("timeout = '2h'\npauses = '1s'\n", "", "2:10 invalid type: string \"1s\", expected a sequence | '1s'"),
+    // A number that is too large, which is marked at the start of its text.
+    ("timeout = '1.5ns'\n", "", "1:12 number is too large or cannot be represented without a lack of precision (values below 1ns are not supported) | 1.5ns'"),
+    // Keys behind an array, an inline table, both in one another, and values that are no texts, with comments and in lines that end in CR LF.
+    ("timeout = '1s'\npauses = ['1s', '2s']\nzone = '1h'\n", "", "3:9 timestamp format is invalid | 1h'"),
+    ("timeout = '1s'\ndays = { a = '2018-02-14 00:28:07' }\nzone = '1h'\n", "", "3:9 timestamp format is invalid | 1h'"),
+    ("more = []\nx = [[1, 2], [{ y = 3 }]]\ntimeout = '1x'\n", "", "3:13 unknown time unit \"x\", supported units: ns, us/µs, ms, sec, min, hours, days, weeks, months, years (and few variations) | x'"),
+    ("x = 1 # y, ['\ny = { a = 1.5, b = true } # ]\nz = [1, 2] # {\ntimeout = '1~'\n", "", "4:13 invalid character at 1 | ~'"),
+    ("x = 7\r\ny = true\r\ntimeout = '1~'\r\n", "", "3:13 invalid character at 1 | ~'\r"),
+    // A header with blanks, a quoted key and a comment, and one behind tables whose last keys are the same.
+    ("timeout = '1s'\n", "[ \t\"days\" ] # days\na = '1h'\n", "7:6 timestamp format is invalid | 1h'"),
+    ("timeout = '1s'\n", "[x.job]\nevery = '1~'\n[x.days]\na = '1h'\n[days]\na = '2h'\n", "11:6 timestamp format is invalid | 2h'"),
     // A value with an escape is marked at its start.
     ("timeout = \"\\u0031d\\t2 ~\"\n", "", "1:11 invalid character at 5 | \"\\u0031d\\t2 ~\""),
     // What is missing or unknown has no mark.
@@ -65,5 +76,14 @@ fn keys_of_up_to_80_bytes_are_found(rt: HostRuntime) -> Result<(), Fail> {
         assert_eq!(rt; told.starts_with("7:"), *is_marked);
         assert_eq!(rt; told.starts_with("not a timestamp in `days.kkk"), !*is_marked);
     }
+    Ok(())
+}
+
+#[test]
+fn a_fault_behind_many_values_is_found(rt: HostRuntime) -> Result<(), Fail> {
+    let alloc = rt.alloc();
+    let others = "'1s', ".repeat(alloc, 5_000)?;
+    let text = format!(in alloc; "timeout = '1s'\npauses = [{others}'1~']\n{JOB}")?;
+    assert_eq!(rt; shown(alloc, from_toml(alloc, &text))?.as_str(), "2:30013 invalid character at 1 | ~']");
     Ok(())
 }
