@@ -19,8 +19,10 @@
 
 mod clocks;
 mod durations;
+pub mod located;
 mod times;
 
 pub use clocks::{deadline, elapsed, now, sleep, time_left};
 pub use durations::{checked_sub, duration_from_std, duration_to_std, offset, saturating_sub};
+pub use located::{Located, Underline};
 pub use times::{next_run, time_checked_sub, time_from_std, time_to_std};

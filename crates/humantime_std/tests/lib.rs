@@ -2,3 +2,4 @@
 #![tactic(auto)]
 
 mod clocks;
+mod located;

@@ -1,0 +1,139 @@
+-- The bytes that are wrong in a text that is not a timestamp or a duration. A text is its list of bytes.
+use Rattle.std.specs.Prelude.{◌≤◌, ◌+◌, ◌==◌, ◌||◌, nat_eq, nat_le, min, if◌then◌else◌, ℕ, Bool, List, [], ◌∷◌, length, drop, slice_index, codes, Option, Some, None}
+use Rattle.std.specs.Char.{is_ascii_digit}
+use Rattle.std.specs.Int.{is_in_range}
+use Rattle.std.specs.List.{common_prefix_len, prefix_len, starts_with}
+use Rattle.std.specs.Str.{IsCharBoundary, byte}
+use Rattle.humantime.specs.declared.date.error.TimestampError.{TimestampError}
+use Rattle.humantime.specs.declared.date.error.TimestampError.TheVariants.{OutOfRange}
+use Rattle.humantime.specs.Calendar.{is_valid}
+use Rattle.humantime.specs.Durations.Faults as durations
+use Rattle.humantime.specs.Timestamps.Checks.{date_time_of, strict_checks, weak_checks}
+use Rattle.humantime_std.specs.declared.located.Located.{Located}
+
+-- A range of bytes: its first offset, and the offset after it.
+abbrev pub Range : Type 0
+Range = ℕ × ℕ
+
+-- The range is in the text, and its ends are where a character begins or the text ends.
+pub record IsRangeIn (text : List ℕ) (start end : ℕ) : Type 0 where
+  pub order : start ≤ end
+  pub at_start : IsCharBoundary text start
+  pub at_end : IsCharBoundary text end
+
+-- Tests whether a byte continues a character.
+abbrev pub is_continuation : ℕ → Bool
+is_continuation b = is_in_range 128 191 b
+
+-- Returns the offset after the character that begins at an offset, or the end of the text if none does.
+unfoldable pub char_end : List ℕ → ℕ → ℕ
+char_end text at = min (at + 1 + prefix_len is_continuation (drop (at + 1) text)) (length text)
+
+-- ---- The layout
+
+-- Tests whether a byte can stand at a place of a layout: a digit at `0`, a `T` or a space at a space, and otherwise the same byte.
+abbrev pub fits : ℕ → ℕ → Bool
+fits place b =
+    if place == byte "0" then is_ascii_digit b
+    else if place == byte " " then (b == byte "T" || b == byte " ")
+    else (b == place)
+
+-- The first 19 bytes of the weak form.
+abbrev pub weak_layout : List ℕ
+weak_layout = codes "0000-00-00 00:00:00"
+
+-- The first 19 bytes of the strict form.
+abbrev pub strict_layout : List ℕ
+strict_layout = codes "0000-00-00T00:00:00"
+
+-- Returns the number of bytes at the front of a text that fit a layout.
+unfoldable pub fit_len : List ℕ → List ℕ → ℕ
+fit_len layout text = common_prefix_len fits layout text
+
+-- The first character that does not fit the layout, or the end of the text if it ends there.
+abbrev pub misfit : List ℕ → List ℕ → Range
+misfit layout text = (fit_len layout text, char_end text (fit_len layout text))
+
+-- ---- The numbers
+
+-- The fields of a date and a time in order: whether each is in its bounds, and its bytes.
+abbrev pub bounds : ℕ → ℕ → ℕ → ℕ → ℕ → ℕ → List (Bool × ℕ × ℕ)
+bounds year month day hour minute second =
+    (nat_le 1970 year, 0, 4)
+    ∷ (is_in_range 1 12 month, 5, 7)
+    ∷ (is_valid year month day, 8, 10)
+    ∷ (nat_le hour 23, 11, 13)
+    ∷ (nat_le minute 59, 14, 16)
+    ∷ (nat_le second 60, 17, 19)
+    ∷ []
+
+-- Returns the bytes of the first field that is out of its bounds.
+abbrev pub first_outside : List (Bool × ℕ × ℕ) → Range
+first_outside [] = (0, 0)
+first_outside (field ∷ fields) = if field.0 then first_outside fields else (field.1, field.2)
+
+-- Returns the bytes of the first number of a text that is out of its bounds.
+unfoldable pub wrong_field : List ℕ → Range
+wrong_field b =
+    let x = date_time_of b in
+    first_outside (bounds x.date.year x.date.month x.date.day x.hour x.minute x.second)
+
+-- ---- The end
+
+-- Returns the offset after the seconds and the fraction, if any.
+unfoldable pub fraction_end : List ℕ → ℕ
+fraction_end b = if slice_index b 19 == byte "." then 20 + prefix_len is_ascii_digit (drop 20 b) else 19
+
+-- Returns the length of the zone at the front of a text, or 0 if there is none.
+unfoldable pub zone_len : List ℕ → ℕ
+zone_len rest = if starts_with nat_eq rest (codes "Z") then 1 else if starts_with nat_eq rest (codes "+00:00") then 6 else 0
+
+-- Returns the length of the longest timestamp at the front of a text: with its fraction, if any, and its zone, if any.
+abbrev pub timestamp_len : List ℕ → ℕ
+timestamp_len b = fraction_end b + zone_len (drop (fraction_end b) b)
+
+-- What follows the longest timestamp at the front of a text.
+abbrev pub rest_of : List ℕ → Range
+rest_of b = (timestamp_len b, length b)
+
+-- ---- The checks
+
+-- The range of an error in a text of this layout: what does not fit the layout, the wrong field, or what follows the timestamp.
+abbrev pub range_behind : List ℕ → TimestampError → Range
+range_behind b OutOfRange = wrong_field b
+range_behind b _ = rest_of b
+
+abbrev pub error_range : List ℕ → List ℕ → TimestampError → Range
+error_range layout b e = if fit_len layout b == 19 then range_behind b e else misfit layout b
+
+-- The range at fault of each check of `weak_checks`, in a text of this layout.
+abbrev pub ranges : List ℕ → List ℕ → List Range
+ranges layout b = misfit layout b ∷ misfit layout b ∷ misfit layout b ∷ wrong_field b ∷ rest_of b ∷ rest_of b ∷ []
+
+-- The range at fault of each check of `strict_checks`: of the first, the character that does not fit, or what stands in place of the zone.
+abbrev pub strict_ranges : List ℕ → List Range
+strict_ranges b = (if fit_len strict_layout b == 19 then rest_of b else misfit strict_layout b) ∷ ranges strict_layout b
+
+-- Returns the error of the first check that fails, with its range, or `None` if none does.
+abbrev pub first_located : List (Bool × TimestampError) → List Range → Option (Located TimestampError)
+first_located (check ∷ checks) (range ∷ ranges) =
+    if check.0 then first_located checks ranges else Some (record { error = check.1; start = range.0; end = range.1 })
+first_located _ _ = None
+
+-- The fault of a text in the weak form.
+unfoldable pub weak_error : List ℕ → Option (Located TimestampError)
+weak_error b = first_located (weak_checks b) (ranges weak_layout b)
+
+-- The fault of a text in the strict form.
+unfoldable pub strict_error : List ℕ → Option (Located TimestampError)
+strict_error b = first_located (strict_checks b) (strict_ranges b)
+
+-- ---- Durations
+
+-- The bytes of a duration's fault: the character that is wrong, the unit, or the whole text.
+abbrev pub duration_range : List ℕ → durations.Fault → Range
+duration_range text (durations.InvalidCharacter at) = (at, char_end text at)
+duration_range text (durations.NumberExpected at) = (at, char_end text at)
+duration_range text (durations.UnknownUnit start end unit value) = (start, end)
+duration_range text durations.NumberOverflow = (0, length text)
+duration_range text durations.Empty = (0, length text)

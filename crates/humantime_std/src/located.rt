@@ -1,0 +1,417 @@
+//! The parsers of `humantime` with errors that have a place: the bytes that are wrong.
+
+ghost use Rattle.std.specs.Prelude.{◌≡◌, ◌+◌, ◌^◌, ◌<◌, ◌≤◌, chars, length, slice_range, take, true, IfErr};
+ghost use Rattle.std.specs.Char.{is_ascii_digit};
+ghost use Rattle.std.specs.List.{prefix_len};
+ghost use Rattle.std.specs.Result.{result_err, result_map_both};
+ghost use Rattle.std.specs.Str.{IsCharBoundary};
+ghost use Rattle.humantime.specs.Prelude.{PointsInto, duration_answer, fault_of, strict_answer, weak_answer};
+ghost use Rattle.humantime.specs.Timestamps.Checks.{has_digits, has_two, number_between};
+ghost use Rattle.humantime_std.specs.Located as spec;
+ghost use Rattle.humantime_std.specs.Located.{IsRangeIn, bounds, duration_range, error_range, strict_error, weak_error};
+
+use humantime::{Date, DurationError, StdDuration, SystemTime, TimestampError, Turns, day_number};
+use std::error::Error;
+use std::fmt::{self, Display};
+use unicode_width::UnicodeWidthStr;
+
+/// An error of a parser, and the bytes of the text that are wrong. They begin and end where a character does.
+///
+/// `Display` writes the message of the error.
+///
+/// # Examples
+///
+/// ```
+/// use humantime::TimestampError;
+/// use humantime_std::located::{Located, parse_rfc3339_weak};
+///
+/// // 2018-02-14 24:00:00
+/// //            ^^
+/// let error = Located { error: TimestampError::OutOfRange, start: 11, end: 13 };
+/// assert_eq!(rt; parse_rfc3339_weak("2018-02-14 24:00:00"), Err(error));
+/// // 2018-02-14
+/// //           ^ something is missing here
+/// let error = Located { error: TimestampError::InvalidFormat, start: 10, end: 10 };
+/// assert_eq!(rt; parse_rfc3339_weak("2018-02-14"), Err(error));
+/// ```
+#[derive(Clone, Copy, PartialEq, Eq, Debug)]
+pub struct Located<E> {
+    /// Why the text is rejected.
+    pub error: E,
+    /// The offset of the first byte that is wrong.
+    pub start: usize,
+    /// The offset after the last byte that is wrong. It is `start` if something is missing there.
+    pub end: usize,
+}
+
+impl<E> Located<E> {
+    /// Returns a mark to print under the text: `^` under each column that is wrong, or one where something is missing.
+    ///
+    /// # Examples
+    ///
+    /// ```
+    /// use humantime_std::located::parse_duration;
+    ///
+    /// let text = "5µs 2parsecs";
+    /// let error = parse_duration(text).expect_err(&rt, "no such unit");
+    /// let mark = format!(in rt.alloc(); "{}", error.underline(text))?;
+    /// assert_eq!(rt; mark.as_str(), "     ^^^^^^^");
+    /// ```
+    #[tactic(auto, using(crate::proofs::Inside::floor_at_boundary, crate::proofs::Inside::boundary_in_rest))]
+    pub fn underline<'a>(&self, text: &'a str) -> Underline<'a>
+        ensures before { IsRangeIn text.now self.now.start self.now.end → result.before.now ≡ take self.now.start text.now }
+        ensures part { IsRangeIn text.now self.now.start self.now.end → result.part.now ≡ slice_range text.now self.now.start self.now.end }
+    {
+        let (before, rest) = text.split_at(text.floor_char_boundary(self.start));
+        let len = rest.floor_char_boundary(self.end.saturating_sub(before.len()));
+        let (part, _) = rest.split_at(len);
+        Underline { before, part }
+    }
+
+    /// Returns this error as one of a text that has this many more bytes before it.
+    ///
+    /// # Examples
+    ///
+    /// ```
+    /// use humantime_std::located::parse_duration;
+    ///
+    /// let line = "limit = 5 moons";
+    /// let error = parse_duration("5 moons").expect_err(&rt, "no such unit").after("limit = ".len());
+    /// assert_eq!(rt; error.underline(line).part, "moons");
+    /// ```
+    pub fn after(self, offset: usize) -> Located<E>
+        ensures error { result.error ≡ self.error }
+        ensures start { self.start + offset < 2 ^ 64 → result.start ≡ self.start + offset }
+        ensures end { self.end + offset < 2 ^ 64 → result.end ≡ self.end + offset }
+    {
+        Located {
+            error: self.error,
+            start: self.start.saturating_add(offset),
+            end: self.end.saturating_add(offset),
+        }
+    }
+}
+
+/// Writes the message of the error.
+impl<E: Display> Display for Located<E> {
+    fn fmt<W: fmt::Write>(&self, f: &mut fmt::Formatter<W>) -> fmt::Result {
+        self.error.fmt(f)
+    }
+}
+
+/// A mark to print under a line: `^` under each column of a part of it.
+///
+/// The columns are those of a terminal as the crate `unicode_width` counts them: two for a wide character such as `中`, none for a combining
+/// one.
+///
+/// # Examples
+///
+/// ```
+/// use humantime_std::located::Underline;
+///
+/// let mark = Underline { before: "\tµ ", part: "2018" };
+/// assert_eq!(rt; mark.to_string(rt.alloc())?.as_str(), "\t  ^^^^");
+/// let mark = Underline { before: "2018", part: "" };
+/// assert_eq!(rt; mark.to_string(rt.alloc())?.as_str(), "    ^");
+/// let mark = Underline { before: "5中 ", part: "\u{3000}e\u{301}" };
+/// assert_eq!(rt; mark.to_string(rt.alloc())?.as_str(), "    ^^^");
+/// ```
+#[derive(Clone, Copy, PartialEq, Eq, Debug)]
+pub struct Underline<'a> {
+    /// The line up to the part. Its tabs are printed, so that the mark stands under the part.
+    pub before: &'a str,
+    /// The part. If it takes no column, one `^` is printed.
+    pub part: &'a str,
+}
+
+impl Display for Underline<'_> {
+    fn fmt<W: fmt::Write>(&self, f: &mut fmt::Formatter<W>) -> fmt::Result {
+        for (tabs, piece) in self.before.split('\t').enumerate() {
+            if tabs > 0 {
+                f.write_str("\t")?;
+            }
+            fill(f, " ", piece.width())?;
+        }
+        fill(f, "^", self.part.width().max(1))
+    }
+}
+
+/// Writes a text as many times as there are columns.
+fn fill<W: fmt::Write>(f: &mut fmt::Formatter<W>, text: &str, columns: usize) -> fmt::Result {
+    for _i in 0..columns {
+        f.write_str(text)?;
+    }
+    Ok(())
+}
+
+/// What can stand at each of the first 19 bytes: `0` is any digit, a space is a `T` or a space, and another byte is that byte.
+type Layout = [u8; 19];
+
+/// The layout of the weak form.
+static WEAK: Layout = *b"0000-00-00 00:00:00";
+
+/// The layout of the strict form.
+static STRICT: Layout = *b"0000-00-00T00:00:00";
+
+/// Parses a duration as [`humantime::parse_duration`] does.
+///
+/// # Errors
+///
+/// Returns its error with the character that is wrong, with the unit, or, if this is missing, with the end of the text. The place of
+/// `NumberOverflow` and of `Empty` is the whole text.
+///
+/// # Examples
+///
+/// ```
+/// use humantime::{DurationError, StdDuration};
+/// use humantime_std::located::{Located, parse_duration};
+///
+/// assert_eq!(rt; parse_duration("90s"), Ok(StdDuration::from_secs(90)));
+/// let error = Located { error: DurationError::NumberExpected(3), start: 3, end: 5 };
+/// assert_eq!(rt; parse_duration("1h é"), Err(error));
+/// ```
+pub fn parse_duration(text: &str) -> Result<StdDuration, Located<DurationError<'_>>>
+    ensures answer { result_map_both (λ d. d) (λ e. fault_of e.error) result ≡ duration_answer (chars text.now) }
+    ensures place { IfErr result (λ e. (e.start, e.end) ≡ duration_range text.now (fault_of e.error)) }
+    ensures range { IfErr result (λ e. IsRangeIn text.now e.start e.end) }
+{
+    match humantime::parse_duration(text) {
+        Ok(duration) => Ok(duration),
+        Err(error) => {
+            let (start, end) = duration_range(text, &error);
+            Err(Located { error, start, end })
+        }
+    }
+}
+
+/// Parses a timestamp in the weak form as [`humantime::parse_rfc3339_weak`] does.
+///
+/// # Errors
+///
+/// Returns its error with the bytes that are wrong:
+///
+/// - if the first 19 bytes are not of the form `0000-00-00 00:00:00`, the first character that cannot stand there, or the end of the text
+///   if it ends before that;
+/// - else, if a number is out of range, the first such number, such as the day;
+/// - else what follows the longest timestamp at the front of the text.
+///
+/// # Examples
+///
+/// ```
+/// use humantime_std::located::parse_rfc3339_weak;
+///
+/// for (text, part) in [
+///     ("2018-2-14 00:28:07", "-"),
+///     ("2018-02-30 00:28:07", "30"),
+///     ("2018-02-14 00:28:07+02:00", "+02:00"),
+///     ("2018-02-14 00:28:07.5 UTC", " UTC"),
+///     ("2018-02-14 00:28:07Z.", "."),
+/// ] {
+///     let error = parse_rfc3339_weak(text).expect_err(&rt, "wrong");
+///     assert_eq!(rt; error.underline(text).part, part);
+/// }
+/// assert!(rt; parse_rfc3339_weak("2018-02-14 00:28:07.5").is_ok());
+/// ```
+pub fn parse_rfc3339_weak(text: &str) -> Result<SystemTime, Located<TimestampError>>
+    ensures answer { result_map_both (λ t. t) (λ e. e.error) result ≡ weak_answer text.now }
+    ensures place { result_err result ≡ weak_error text.now }
+    ensures range { IfErr result (λ e. IsRangeIn text.now e.start e.end) }
+{
+    match humantime::parse_rfc3339_weak(text) {
+        Ok(moment) => Ok(moment),
+        Err(error) => Err(error_in(&WEAK, text, error)),
+    }
+}
+
+/// Parses a timestamp in the strict form as [`humantime::parse_rfc3339`] does.
+///
+/// # Errors
+///
+/// Returns its error with the bytes that are wrong, as [`parse_rfc3339_weak`] does. A space in place of the `T` is wrong. If the zone is
+/// missing, the place is the end of the text.
+///
+/// # Examples
+///
+/// ```
+/// use humantime_std::located::parse_rfc3339;
+///
+/// for (text, start, part) in [
+///     ("2018-02-14 00:28:07Z", 10, " "),
+///     ("2018-02-14T00:28:07", 19, ""),
+///     ("2018-02-14T00:28:07.5+02:00", 21, "+02:00"),
+/// ] {
+///     let error = parse_rfc3339(text).expect_err(&rt, "wrong");
+///     assert_eq!(rt; (error.start, error.underline(text).part), (start, part));
+/// }
+/// assert!(rt; parse_rfc3339("2018-02-14T00:28:07.5Z").is_ok());
+/// ```
+pub fn parse_rfc3339(text: &str) -> Result<SystemTime, Located<TimestampError>>
+    ensures answer { result_map_both (λ t. t) (λ e. e.error) result ≡ strict_answer text.now }
+    ensures place { result_err result ≡ strict_error text.now }
+    ensures range { IfErr result (λ e. IsRangeIn text.now e.start e.end) }
+{
+    match humantime::parse_rfc3339(text) {
+        Ok(moment) => Ok(moment),
+        Err(error) => Err(error_in(&STRICT, text, error)),
+    }
+}
+
+/// Returns the range of a duration's error.
+fn duration_range(text: &str, error: &DurationError<'_>) -> (usize, usize)
+    requires { PointsInto text.now error.now }
+    ensures { result ≡ spec.duration_range text.now (fault_of error.now) }
+{
+    match error {
+        DurationError::InvalidCharacter(at) | DurationError::NumberExpected(at) => {
+            (*at, char_end(text, *at))
+        }
+        DurationError::UnknownUnit { start, end, .. } => (*start, *end),
+        DurationError::NumberOverflow | DurationError::Empty => (0, text.len()),
+    }
+}
+
+/// Returns an error of a timestamp with its range.
+fn error_in(layout: &Layout, text: &str, error: TimestampError) -> Located<TimestampError>
+    requires numbers { spec.fit_len layout.now text.now ≡ 19 → (19 ≤ length text.now) × (has_digits text.now ≡ true) }
+    ensures { result ≡ record { error = error; start = (error_range layout.now text.now error).0; end = (error_range layout.now text.now error).1 } }
+{
+    let fitting = fit_len(layout, text.as_bytes());
+    let (start, end) = if fitting < layout.len() {
+        (fitting, char_end(text, fitting))
+    } else {
+        match error {
+            TimestampError::OutOfRange => wrong_field(text.as_bytes()),
+            _ => (timestamp_len(text.as_bytes()), text.len()),
+        }
+    };
+    Located { error, start, end }
+}
+
+/// Returns the offset after the character at an offset, or the end of the text if there is none.
+#[tactic(auto, using(crate::proofs::Ranges::char_end_found))]
+fn char_end(text: &str, at: usize) -> usize
+    requires { at ≤ length text.now }
+    ensures end { result ≡ spec.char_end text.now at }
+    ensures boundary { IsCharBoundary text.now result }
+{
+    text.ceil_char_boundary(at + 1)
+}
+
+/// Returns the number of bytes at the front that fit a layout.
+#[tactic(auto, unfolding(crate::specs::Located::fit_len))]
+fn fit_len(layout: &Layout, bytes: &[u8]) -> usize
+    ensures len { result ≡ spec.fit_len layout.now bytes.now }
+    ensures within { result ≤ length bytes.now }
+    ensures few { result ≤ 19 }
+{
+    for (at, place) in layout.iter().enumerate() {
+        if at == bytes.len() || !fits(*place, bytes[at]) {
+            return at;
+        }
+    }
+    layout.len()
+}
+
+/// Returns `true` if a byte can stand at this place of a layout.
+fn fits(place: u8, byte: u8) -> bool
+    ensures { result ≡ spec.fits place byte }
+{
+    match place {
+        b'0' => byte.is_ascii_digit(),
+        b' ' => byte == b'T' || byte == b' ',
+        _ => byte == place,
+    }
+}
+
+/// Returns the bytes of the first field that is out of range.
+#[tactic(auto, unfolding(crate::specs::Located::wrong_field))]
+fn wrong_field(bytes: &[u8]) -> (usize, usize)
+    requires long { 19 ≤ length bytes.now }
+    requires digits { has_digits bytes.now ≡ true }
+    ensures { result ≡ spec.wrong_field bytes.now }
+{
+    let (century, year) = (pair(bytes, 0), pair(bytes, 2));
+    let date = Date {
+        year: century * 100 + year,
+        month: pair(bytes, 5),
+        day: pair(bytes, 8),
+    };
+    first_outside(date, pair(bytes, 11), pair(bytes, 14), pair(bytes, 17))
+}
+
+/// Returns the bytes of the first field that is out of its bounds.
+fn first_outside(date: Date, hour: u32, minute: u32, second: u32) -> (usize, usize)
+    ensures { result ≡ spec.first_outside (bounds date.year date.month date.day hour minute second) }
+{
+    if date.year < 1970 {
+        (0, 4)
+    } else if date.month < 1 || date.month > 12 {
+        (5, 7)
+    } else if day_number(date, &mut Turns::new()).is_none() {
+        (8, 10)
+    } else if hour > 23 {
+        (11, 13)
+    } else if minute > 59 {
+        (14, 16)
+    } else if second > 60 {
+        (17, 19)
+    } else {
+        (0, 0)
+    }
+}
+
+/// Returns the number that two digits represent.
+#[tactic(auto, using(crate::proofs::Ranges::number_of_pair))]
+fn pair(bytes: &[u8], at: usize) -> u32
+    requires long { at + 2 ≤ length bytes.now }
+    requires digits { has_two bytes.now at ≡ true }
+    ensures number { result ≡ number_between bytes.now at (at + 2) }
+    ensures small { result < 100 }
+{
+    (bytes[at] - b'0') as u32 * 10 + (bytes[at + 1] - b'0') as u32
+}
+
+/// Returns the length of the longest timestamp at the front, as far as its layout goes.
+fn timestamp_len(bytes: &[u8]) -> usize
+    requires { 19 ≤ length bytes.now }
+    ensures { result ≡ spec.timestamp_len bytes.now }
+{
+    let end = fraction_end(bytes);
+    end + zone_len(&bytes[end..])
+}
+
+/// Returns the offset after the seconds and the fraction, if any.
+#[tactic(auto, unfolding(crate::specs::Located::fraction_end))]
+fn fraction_end(bytes: &[u8]) -> usize
+    requires { 19 ≤ length bytes.now }
+    ensures end { result ≡ spec.fraction_end bytes.now }
+    ensures within { result ≤ length bytes.now }
+{
+    if bytes.len() == 19 || bytes[19] != b'.' {
+        return 19;
+    }
+    20 + digits_len(&bytes[20..])
+}
+
+/// Returns the number of digits at the front.
+fn digits_len(bytes: &[u8]) -> usize
+    ensures len { result ≡ prefix_len is_ascii_digit bytes.now }
+    ensures within { result ≤ length bytes.now }
+{
+    bytes.iter().take_while(|b| b.is_ascii_digit()).count()
+}
+
+/// Returns the length of the zone at the front, or 0 if there is none.
+#[tactic(auto, unfolding(crate::specs::Located::zone_len))]
+fn zone_len(rest: &[u8]) -> usize
+    ensures len { result ≡ spec.zone_len rest.now }
+    ensures few { result ≤ 6 }
+{
+    if rest.starts_with(b"Z") {
+        1
+    } else if rest.starts_with(b"+00:00") {
+        6
+    } else {
+        0
+    }
+}
