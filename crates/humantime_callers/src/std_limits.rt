@@ -1,21 +1,21 @@
 //! Callers of `humantime_std`, whose results are known up to the limits of the types.
 
-ghost use Rattle.std.specs.Prelude.{◌≡◌, ◌+◌, ◌*◌, ◌≤◌, ◌⊎◌, ◌↔◌, ◌∷◌, [], ◌+ℤ◌, ◌≤ℤ◌, ◌<ℤ◌, ℕ, pos, IfSome, IsSomeAnd, IsTrue, None, Some, SomeIff};
+ghost use Rattle.std.specs.Prelude.{◌≡◌, ◌≢◌, ◌+◌, ◌*◌, ◌/◌, ◌≤◌, ◌⊎◌, ◌↔◌, ◌∷◌, [], ◌+ℤ◌, ◌≤ℤ◌, ◌<ℤ◌, ℕ, min, pos, slice_range, option_map, IfSome, IsSomeAnd, IsTrue, None, Some, SomeIff};
 ghost use Rattle.std.specs.Time.{FitsClock, instant_nanos};
 ghost use Rattle.humantime.specs.Prelude.{moment_end};
+ghost use Rattle.humantime_std.specs.Located.{weak_error};
+ghost use Rattle.humantime_std.specs.Schedule.{IsNextRun};
 
 use humantime::{DurationError, StdDuration, SystemTime};
-use humantime_std::{
-    checked_sub, deadline, duration_from_std, duration_to_std, next_run, offset, saturating_sub,
-    time_checked_sub, time_from_std, time_left, time_to_std,
-};
+use humantime_std::located::parse_rfc3339_weak;
+use humantime_std::{StdDurationExt, SystemTimeExt, deadline, next_run, offset, time_left};
 use std::time::Instant;
 
 /// Returns `true` if a duration minus another is `rest`: if the other plus `rest` is the duration.
 pub fn is_rest(duration: StdDuration, other: StdDuration, rest: StdDuration) -> bool
     ensures { IsTrue result ↔ (duration ≡ other + rest) }
 {
-    checked_sub(duration, other) == Some(rest)
+    duration.checked_sub(other) == Some(rest)
 }
 
 /// Returns `true` if a time minus a duration is `earlier`: if `earlier` plus the duration is the time.
@@ -23,7 +23,7 @@ pub fn is_rest(duration: StdDuration, other: StdDuration, rest: StdDuration) -> 
 pub fn is_earlier(time: SystemTime, duration: StdDuration, earlier: SystemTime) -> bool
     ensures { IsTrue result ↔ (time ≡ earlier +ℤ pos duration) }
 {
-    match time_checked_sub(time, duration) {
+    match time.checked_sub(duration) {
         Some(found) => found == earlier,
         None => false,
     }
@@ -34,21 +34,21 @@ pub fn balance(limit: StdDuration, used: StdDuration) -> (StdDuration, StdDurati
     ensures same { used + result.0 ≡ limit + result.1 }
     ensures zero { (result.0 ≡ 0) ⊎ (result.1 ≡ 0) }
 {
-    (saturating_sub(limit, used), saturating_sub(used, limit))
+    (limit.saturating_sub(used), used.saturating_sub(limit))
 }
 
 /// Converts a duration to one of std and back.
 pub fn duration_through_std(duration: StdDuration) -> StdDuration
     ensures { result ≡ duration }
 {
-    duration_from_std(duration_to_std(duration))
+    StdDuration::from_std(duration.to_std())
 }
 
 /// Converts a time to one of std and back, or returns `None` if it is before 1970.
 pub fn time_through_std(time: SystemTime) -> Option<SystemTime>
     ensures { SomeIff result (pos 0 ≤ℤ time) time }
 {
-    time_from_std(time_to_std(time)?)
+    SystemTime::from_std(time.to_std()?)
 }
 
 /// Returns what is left of a limit when it begins, which is the limit, or `None` if the clock of std ends before it.
@@ -64,6 +64,36 @@ pub fn first_run(last: SystemTime, every: StdDuration, now: SystemTime) -> Optio
     ensures first { (k : ℕ) → 1 ≤ k → let t = last +ℤ pos (k * every) in now ≤ℤ t → t <ℤ moment_end → IsSomeAnd result (λ next. next ≤ℤ t) }
 {
     next_run(last, every, now)
+}
+
+/// Returns how long to wait for the next run of a job.
+pub fn wait_for(last: SystemTime, every: StdDuration, now: SystemTime) -> Option<StdDuration>
+    ensures { IfSome result (λ wait. IsNextRun last every now (now +ℤ pos wait)) }
+{
+    next_run(last, every, now)?.duration_since(now).ok()
+}
+
+/// Returns the delay before the next try: `factor` times as long as the one before, but not longer than `most`.
+pub fn next_delay(delay: StdDuration, factor: u32, most: StdDuration) -> StdDuration
+    ensures { result ≡ min (delay * factor) most }
+{
+    let longer = delay.to_std().saturating_mul(factor);
+    StdDuration::from_std(longer.min(most.to_std()))
+}
+
+/// Returns how many percent of a whole a part is, rounded down, or `None` if the whole is zero.
+pub fn share(part: StdDuration, whole: StdDuration) -> Option<u128>
+    ensures { SomeIff result (whole ≢ 0) (part * 100 / whole) }
+{
+    (part.as_nanos() * 100).checked_div(whole.as_nanos())
+}
+
+/// Returns the bytes of a text that are not those of a timestamp, or `None` if it is one.
+pub fn wrong_part(text: &str) -> Option<&str>
+    ensures { option_map (λ part. part.now) result ≡ option_map (λ error. slice_range text.now error.start error.end) (weak_error text.now) }
+{
+    let error = parse_rfc3339_weak(text).err()?;
+    Some(error.underline(text).part)
 }
 
 /// Returns the offset of an error of each variant, with these values.

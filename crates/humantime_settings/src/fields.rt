@@ -13,7 +13,7 @@ use humantime::{
     Duration, StdDuration, SystemTime, Timestamp, format_duration, format_rfc3339, parse_duration,
     parse_rfc3339_weak,
 };
-use humantime_std::{duration_from_std, duration_to_std};
+use humantime_std::StdDurationExt;
 use serde::{
     Described, Deserialize, DeserializeOwned, Deserializer, Format, Serialize, Serializer,
 };
@@ -286,11 +286,11 @@ impl Text for time::Duration {
     ghost IsParsedFrom = { λ d t. duration_answer (chars t) ≡ Ok (as_nanos d) };
 
     fn write_text<S: Serializer>(&self, out: &mut S) -> Result<(), S::Error> {
-        duration_from_std(*self).write_text(out)
+        StdDuration::from_std(*self).write_text(out)
     }
 
     fn parse_text(text: &str) -> Result<time::Duration, &'static str> {
-        Ok(duration_to_std(StdDuration::parse_text(text)?))
+        Ok(StdDuration::parse_text(text)?.to_std())
     }
 }
 

@@ -3,8 +3,8 @@
 ghost use Rattle.std.specs.Prelude.{◌≡◌, ◌+◌, ◌-◌, ◌↔◌, ◌≤ℤ◌, pos, IfOk, IfSome, IsSome};
 ghost use Rattle.std.specs.Time.{FitsClock, instant_nanos};
 
-use crate::durations::{duration_from_std, duration_to_std};
-use crate::times::time_from_std;
+use crate::durations::StdDurationExt;
+use crate::times::SystemTimeExt;
 use humantime::{StdDuration, SystemTime};
 use std::time::{self, Clock, Instant};
 use std::{io, thread};
@@ -30,7 +30,7 @@ use std::{io, thread};
 pub fn now(clock: &impl Clock) -> io::Result<SystemTime>
     ensures { IfOk result (λ moment. pos 0 ≤ℤ moment) }
 {
-    Ok(time_from_std(time::SystemTime::now(clock)?).unwrap())
+    Ok(SystemTime::from_std(time::SystemTime::now(clock)?).unwrap())
 }
 
 /// Puts the current thread to sleep for at least a duration. No contract can say how long it sleeps.
@@ -48,7 +48,7 @@ pub fn now(clock: &impl Clock) -> io::Result<SystemTime>
 /// assert!(rt; elapsed(&rt, start)? >= pause);
 /// ```
 pub fn sleep(clock: &impl Clock, duration: StdDuration) {
-    thread::sleep(clock, duration_to_std(duration))
+    thread::sleep(clock, duration.to_std())
 }
 
 /// Returns the time since an instant, less than 2^63 seconds, or zero if the clock reads an earlier one.
@@ -94,7 +94,7 @@ pub fn deadline(now: Instant, limit: StdDuration) -> Option<Instant>
     ensures within { IsSome result ↔ FitsClock (instant_nanos now + limit) }
     ensures end { IfSome result (λ end. instant_nanos end ≡ instant_nanos now + limit) }
 {
-    now.checked_add(duration_to_std(limit))
+    now.checked_add(limit.to_std())
 }
 
 /// Returns the time from `now` to a deadline, or zero if it has passed.
@@ -114,5 +114,5 @@ pub fn deadline(now: Instant, limit: StdDuration) -> Option<Instant>
 pub fn time_left(now: Instant, deadline: Instant) -> StdDuration
     ensures { result ≡ instant_nanos deadline - instant_nanos now }
 {
-    duration_from_std(deadline.saturating_duration_since(now))
+    StdDuration::from_std(deadline.saturating_duration_since(now))
 }

@@ -23,6 +23,6 @@ pub mod located;
 mod times;
 
 pub use clocks::{deadline, elapsed, now, sleep, time_left};
-pub use durations::{checked_sub, duration_from_std, duration_to_std, offset, saturating_sub};
+pub use durations::{StdDurationExt, offset};
 pub use located::{Located, Underline};
-pub use times::{next_run, time_checked_sub, time_from_std, time_to_std};
+pub use times::{SystemTimeExt, next_run};

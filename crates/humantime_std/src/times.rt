@@ -2,81 +2,103 @@
 
 ghost use Rattle.std.specs.Prelude.{◌≡◌, ◌+◌, ◌%◌, ◌<◌, ◌↔◌, ◌-ℤ◌, ◌≤ℤ◌, ◌<ℤ◌, ℤ, Some, pos, neg_ℤ, IfSome, IsNone, IsSome, SomeIff};
 ghost use Rattle.std.specs.Time.{FitsClock, system_time_nanos};
-ghost use Rattle.humantime.specs.Prelude.{duration_end, moment_end};
+ghost use Rattle.humantime.specs.Prelude.{moment_end};
 ghost use Rattle.humantime_std.specs.Schedule.{IsDue, IsNextRun};
 
-use crate::durations::duration_from_std;
+use crate::durations::StdDurationExt;
 use humantime::{StdDuration, SystemTime, UNIX_EPOCH};
 use std::time;
 
 const NANOS_PER_SECOND: u32 = 1_000_000_000;
 
-/// Converts a time of std, or returns `None` if it is 2^63 seconds after 1970 or later. No clock of std returns such a time.
+/// Methods of std's `SystemTime` that [`SystemTime`] does not have, and conversions from and to it.
 ///
 /// # Examples
 ///
 /// ```
-/// use humantime::SystemTime;
-/// use humantime_std::time_from_std;
-/// use std::time::{Duration, UNIX_EPOCH};
-///
-/// let time = UNIX_EPOCH + Duration::new(1_518_568_087, 5);
-/// assert_eq!(rt; time_from_std(time), SystemTime::from_parts(1_518_568_087, 5));
-/// ```
-pub fn time_from_std(time: time::SystemTime) -> Option<SystemTime>
-    ensures { SomeIff result (FitsClock (system_time_nanos time)) (pos (system_time_nanos time)) }
-{
-    let since = time.duration_since(time::UNIX_EPOCH).ok()?;
-    UNIX_EPOCH.checked_add(duration_from_std(since))
-}
-
-/// Converts a time to one of std, or returns `None` if it is before 1970. A `SystemTime` of std is never that early in Rattle.
-///
-/// # Examples
-///
-/// ```
-/// use humantime::{SystemTime, parse_rfc3339};
-/// use humantime_std::time_to_std;
-/// use std::time::{Duration, UNIX_EPOCH};
-///
-/// let moment = parse_rfc3339("2018-02-14T00:28:07.000000005Z")?;
-/// assert_eq!(rt; time_to_std(moment), Some(UNIX_EPOCH + Duration::new(1_518_568_087, 5)));
-/// let before = SystemTime::from_parts(-1, 999_999_999).ok_or("too many nanoseconds")?;
-/// assert_eq!(rt; time_to_std(before), None);
-/// ```
-pub fn time_to_std(time: SystemTime) -> Option<time::SystemTime>
-    ensures within { IsSome result ↔ (pos 0 ≤ℤ time) }
-    ensures time { IfSome result (λ found. pos (system_time_nanos found) ≡ time) }
-{
-    let secs = u64::try_from(time.unix_seconds()).ok()?;
-    time::UNIX_EPOCH.checked_add(time::Duration::new(secs, time.subsec_nanos()))
-}
-
-/// Subtracts a duration from a time, or returns `None` if the difference is more than 2^63 seconds before 1970.
-///
-/// # Examples
-///
-/// ```
-/// use humantime::{StdDuration, SystemTime, parse_duration, parse_rfc3339};
-/// use humantime_std::time_checked_sub;
+/// use humantime::{parse_duration, parse_rfc3339};
+/// use humantime_std::SystemTimeExt;
 ///
 /// let moment = parse_rfc3339("2018-02-14T00:28:07Z")?;
 /// let hour_before = parse_rfc3339("2018-02-13T23:28:07Z")?;
-/// assert_eq!(rt; time_checked_sub(moment, parse_duration("1h")?), Some(hour_before));
-/// let first = SystemTime::from_parts(i64::MIN, 0).ok_or("too many nanoseconds")?;
-/// assert_eq!(rt; time_checked_sub(first, StdDuration::new(0, 1)), None);
+/// assert_eq!(rt; moment.checked_sub(parse_duration("1h")?), Some(hour_before));
 /// ```
-pub fn time_checked_sub(time: SystemTime, duration: StdDuration) -> Option<SystemTime>
-    ensures { SomeIff result (neg_ℤ moment_end ≤ℤ (time -ℤ pos duration)) (time -ℤ pos duration) }
-{
-    let secs = time
-        .unix_seconds()
-        .checked_sub_unsigned(duration.as_secs())?;
-    let (nanos, other) = (time.subsec_nanos(), duration.subsec_nanos());
-    if other <= nanos {
-        SystemTime::from_parts(secs, nanos - other)
-    } else {
-        SystemTime::from_parts(secs.checked_sub(1)?, nanos + NANOS_PER_SECOND - other)
+pub trait SystemTimeExt: Sized {
+    /// Converts a time of std, or returns `None` if it is 2^63 seconds after 1970 or later. No clock of std returns such a time.
+    ///
+    /// # Examples
+    ///
+    /// ```
+    /// use humantime::SystemTime;
+    /// use humantime_std::SystemTimeExt;
+    /// use std::time::{Duration, UNIX_EPOCH};
+    ///
+    /// let time = UNIX_EPOCH + Duration::new(1_518_568_087, 5);
+    /// assert_eq!(rt; SystemTime::from_std(time), SystemTime::from_parts(1_518_568_087, 5));
+    /// ```
+    fn from_std(time: time::SystemTime) -> Option<Self>;
+
+    /// Converts this time to one of std, or returns `None` if it is before 1970. A `SystemTime` of std is never that early in Rattle.
+    ///
+    /// # Examples
+    ///
+    /// ```
+    /// use humantime::{SystemTime, parse_rfc3339};
+    /// use humantime_std::SystemTimeExt;
+    /// use std::time::{Duration, UNIX_EPOCH};
+    ///
+    /// let moment = parse_rfc3339("2018-02-14T00:28:07.000000005Z")?;
+    /// assert_eq!(rt; moment.to_std(), Some(UNIX_EPOCH + Duration::new(1_518_568_087, 5)));
+    /// let before = SystemTime::from_parts(-1, 999_999_999).ok_or("too many nanoseconds")?;
+    /// assert_eq!(rt; before.to_std(), None);
+    /// ```
+    fn to_std(self) -> Option<time::SystemTime>;
+
+    /// Subtracts a duration, or returns `None` if the difference is more than 2^63 seconds before 1970.
+    ///
+    /// # Examples
+    ///
+    /// ```
+    /// use humantime::{StdDuration, SystemTime, parse_duration, parse_rfc3339};
+    /// use humantime_std::SystemTimeExt;
+    ///
+    /// let moment = parse_rfc3339("2018-02-14T00:28:07Z")?;
+    /// let hour_before = parse_rfc3339("2018-02-13T23:28:07Z")?;
+    /// assert_eq!(rt; moment.checked_sub(parse_duration("1h")?), Some(hour_before));
+    /// let first = SystemTime::from_parts(i64::MIN, 0).ok_or("too many nanoseconds")?;
+    /// assert_eq!(rt; first.checked_sub(StdDuration::new(0, 1)), None);
+    /// ```
+    fn checked_sub(self, duration: StdDuration) -> Option<Self>;
+}
+
+impl SystemTimeExt for SystemTime {
+    fn from_std(time: time::SystemTime) -> Option<SystemTime>
+        ensures { SomeIff result (FitsClock (system_time_nanos time)) (pos (system_time_nanos time)) }
+    {
+        let since = time.duration_since(time::UNIX_EPOCH).ok()?;
+        UNIX_EPOCH.checked_add(StdDuration::from_std(since))
+    }
+
+    fn to_std(self) -> Option<time::SystemTime>
+        ensures within { IsSome result ↔ (pos 0 ≤ℤ self) }
+        ensures time { IfSome result (λ found. pos (system_time_nanos found) ≡ self) }
+    {
+        let secs = u64::try_from(self.unix_seconds()).ok()?;
+        time::UNIX_EPOCH.checked_add(time::Duration::new(secs, self.subsec_nanos()))
+    }
+
+    fn checked_sub(self, duration: StdDuration) -> Option<SystemTime>
+        ensures { SomeIff result (neg_ℤ moment_end ≤ℤ (self -ℤ pos duration)) (self -ℤ pos duration) }
+    {
+        let secs = self
+            .unix_seconds()
+            .checked_sub_unsigned(duration.as_secs())?;
+        let (nanos, other) = (self.subsec_nanos(), duration.subsec_nanos());
+        if other <= nanos {
+            SystemTime::from_parts(secs, nanos - other)
+        } else {
+            SystemTime::from_parts(secs.checked_sub(1)?, nanos + NANOS_PER_SECOND - other)
+        }
     }
 }
 
@@ -117,17 +139,7 @@ fn wait_after(gap: StdDuration, every: StdDuration) -> Option<StdDuration>
     ensures short { IfSome result (λ wait. wait < every) }
     ensures whole { IfSome result (λ wait. (gap + wait) % every ≡ 0) }
 {
-    let every = total_nanos(every);
-    let over = total_nanos(gap).checked_rem(every)?;
-    let wait = (every - over) % every;
-    let per_second = NANOS_PER_SECOND as u128;
-    Some(StdDuration::new((wait / per_second) as u64, (wait % per_second) as u32))
-}
-
-/// Returns the whole duration in nanoseconds.
-fn total_nanos(duration: StdDuration) -> u128
-    ensures same { result ≡ duration }
-    ensures within { result < duration_end }
-{
-    duration.as_secs() as u128 * NANOS_PER_SECOND as u128 + duration.subsec_nanos() as u128
+    let every = every.as_nanos();
+    let over = gap.as_nanos().checked_rem(every)?;
+    StdDuration::checked_from_nanos_u128((every - over) % every)
 }
