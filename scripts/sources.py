@@ -72,6 +72,7 @@ def items(text):
             head = dedent(re.split(r"\s*\{\}?$|(?<=;)$", "\n".join(lines[number - 1 :]), maxsplit=1, flags=re.M)[0]).removeprefix("pub ")
             head = re.sub(r",\n\s+(?=[a-z_]+:)", ", ", re.sub(r",\s*\n\)", ")", re.sub(r"\(\s*\n\s*", "(", head)))
             yield Item(found[3], found[4], number, docs, *((owner, trait) if found[1] else ("", "")), bool(found[2]), head)
+            owner = found[4] if found[3] == "trait" else owner
         elif docs and not line.strip().startswith("#["):
             yield Item("docs", "", docs[0][0], docs)
         if line == "}":
