@@ -1,13 +1,15 @@
-//! Prints the options of a command line. `--help` shows their defaults in canonical form, and a wrong duration gets a mark.
+//! Prints the options of a command line. `--help` shows their defaults in canonical form, and a wrong value gets a mark.
 //!
 //! The exit status is 0, or 2 for wrong arguments, or 3 if writing fails or memory is refused.
 #![tactic(auto)]
 
 use clap::error::ErrorKind;
 use clap::{Command, Error, arg};
-use humantime::{Duration, DurationError, Timestamp};
-use humantime_std::offset;
+use humantime::{Duration, Timestamp};
+use humantime_std::Located;
+use humantime_std::located::{parse_duration, parse_rfc3339_weak};
 use std::alloc::{AllocError, Global};
+use std::fmt::Display;
 use std::process::ExitCode;
 use std::{env, io};
 
@@ -52,20 +54,20 @@ pub fn options_of(alloc: Global, words: &[String]) -> Result<Options, Error> {
     let matches = command.try_get_matches_from_mut(words)?;
     let timeout = matches.get_str("timeout").unwrap_or("");
     let window = matches.get_str("window").unwrap_or("");
-    let since = matches.try_get_one("since");
+    let since = matches.get_str("since");
     let (name, message) = match (
-        Duration::from_str(timeout),
-        Duration::from_str(window),
-        since,
+        parse_duration(timeout),
+        parse_duration(window),
+        since.map(|text| parse_rfc3339_weak(text)).transpose(),
     ) {
         (Ok(timeout), Ok(window), Ok(since)) => return Ok(Options {
-            timeout,
-            window,
-            since,
+            timeout: Duration::new(timeout),
+            window: Duration::new(window),
+            since: since.map(|moment| Timestamp::from(moment)),
         }),
         (Err(error), _, _) => ("timeout", marked(alloc, timeout, error)?),
         (_, Err(error), _) => ("window", marked(alloc, window, error)?),
-        (_, _, Err(error)) => ("since", error.to_string(alloc)?),
+        (_, _, Err(error)) => ("since", marked(alloc, since.unwrap_or(""), error)?),
     };
     let message = format!(in alloc; "--{name}: {message}")?;
     Err(command.error(ErrorKind::ValueValidation, &message)?)
@@ -82,9 +84,11 @@ fn command<'a>(alloc: Global) -> Result<Command<'a>, AllocError> {
         .arg(since)
 }
 
-/// Returns the message for a wrong duration: what is wrong, and the text with a mark under the fault.
-fn marked(alloc: Global, text: &str, error: DurationError<'_>) -> Result<String, AllocError> {
-    let before = text.get(..offset(&error).unwrap_or(0)).unwrap_or("");
-    let column = before.chars().count().saturating_add(1);
-    format!(in alloc; "{error}\n  {text}\n  {:>column$}", "^")
+/// Returns the message for a wrong value: what is wrong, and the text with a mark under it.
+fn marked<E: Display + Drop>(
+    alloc: Global,
+    text: &str,
+    error: Located<E>,
+) -> Result<String, AllocError> {
+    format!(in alloc; "{error}\n  {text}\n  {}", error.underline(text))
 }

@@ -23,8 +23,10 @@ fn a_wrong_value_is_marked(rt: HostRuntime) -> Result<(), Fail> {
         (["--window", "-1s"], "error: --window: expected number at 0\n  -1s\n  ^\n"),
         (["--timeout", "5µs x"], "error: --timeout: expected number at 5\n  5µs x\n      ^\n"),
         (["--timeout", ""], "error: --timeout: value was empty\n  \n  ^\n"),
-        (["--since", "yesterday"], "error: --since: timestamp format is invalid\n"),
-        (["--since", "2018-02-30T00:00:00Z"], "error: --since: numeric component is out of range\n"),
+        (["--timeout", "1h 2parsecs"], "error: --timeout: unknown time unit \"parsecs\", supported units: ns, us/µs, ms, sec, min, hours, days, weeks, months, years (and few variations)\n  1h 2parsecs\n      ^^^^^^^\n"),
+        (["--since", "yesterday"], "error: --since: timestamp format is invalid\n  yesterday\n  ^\n"),
+        (["--since", "2018-02-30T00:00:00Z"], "error: --since: numeric component is out of range\n  2018-02-30T00:00:00Z\n          ^^\n"),
+        (["--since", "2018-02-14 00:28:07+02:00"], "error: --since: timestamp format is invalid\n  2018-02-14 00:28:07+02:00\n                     ^^^^^^\n"),
         (["--until", "1h"], "error: unexpected argument '--until' found\n"),
     ] {
         let error = parsed(rt.alloc(), words)?.err().ok_or("options")?;

@@ -6,6 +6,7 @@
 #![tactic(auto)]
 
 use humantime::{SystemTime, TimestampError, parse_rfc3339_weak};
+use humantime_std::{Located, located};
 use std::alloc::Global;
 use std::io::{self, BufRead, BufReader, BufWriter, Read, Write};
 use std::ops::Range;
@@ -40,18 +41,27 @@ fn run(rt: &HostRuntime) -> io::Result<u8> {
             copy_lines(rt.alloc(), &range, &mut log, &mut out)?;
             Ok(0)
         }
-        Err((name, error)) => {
-            eprintln!(rt; "example_log: {name}: {error}")?;
+        Err((name, text, error)) => {
+            let mark = error.underline(text);
+            eprintln!(rt; "example_log: {name}: {error}\n  {text}\n  {mark}")?;
             Ok(2)
         }
     }
 }
 
-/// Returns the range between two timestamps, or the name of the one that is wrong and its error.
-pub fn range_of(from: &str, to: &str) -> Result<Range<SystemTime>, (&'static str, TimestampError)> {
-    let from = parse_rfc3339_weak(from).map_err(|error| ("FROM", error))?;
-    let to = parse_rfc3339_weak(to).map_err(|error| ("TO", error))?;
-    Ok(from..to)
+/// A wrong argument: its name, its text and what is wrong with it.
+type Wrong<'a> = (&'static str, &'a str, Located<TimestampError>);
+
+/// Returns the range between two timestamps, or the first one that is wrong.
+pub fn range_of<'a>(from: &'a str, to: &'a str) -> Result<Range<SystemTime>, Wrong<'a>> {
+    match (
+        located::parse_rfc3339_weak(from),
+        located::parse_rfc3339_weak(to),
+    ) {
+        (Ok(from), Ok(to)) => Ok(from..to),
+        (Err(error), _) => Err(("FROM", from, error)),
+        (_, Err(error)) => Err(("TO", to, error)),
+    }
 }
 
 /// Copies the lines of a log whose moments are in a range, each with the lines without a timestamp that follow it.

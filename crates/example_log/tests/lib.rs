@@ -11,11 +11,12 @@ const TO: &str = "2018-02-14 00:28:08";
 
 #[test]
 fn a_wrong_argument_is_named(rt: HostRuntime) {
-    for (from, to, name, error) in &[
-        ("yesterday", TO, "FROM", TimestampError::InvalidFormat),
-        (FROM, "2018-02-30 00:00:00", "TO", TimestampError::OutOfRange),
+    for (from, to, name, error, part) in &[
+        ("yesterday", TO, "FROM", TimestampError::InvalidFormat, "y"),
+        (FROM, "2018-02-30 00:00:00", "TO", TimestampError::OutOfRange, "30"),
     ] {
-        assert_eq!(rt; range_of(from, to).err(), Some((*name, *error)));
+        let wrong = range_of(from, to).err().map(|(name, text, wrong)| (name, wrong.error, wrong.underline(text).part));
+        assert_eq!(rt; wrong, Some((*name, *error, *part)));
     }
 }
 

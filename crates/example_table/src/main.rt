@@ -1,10 +1,11 @@
-//! Prints the lines `NAME<TAB>DURATION` of standard input as a table, with the total and the name of the longest.
+//! Prints the lines `NAME<TAB>DURATION` of standard input as a table, with each share of the total, the total, the mean and the longest.
 //!
 //! The exit status is 0, or 1 if a line is wrong, or 3 if reading or writing fails or memory is refused.
 #![tactic(auto)]
 
-use humantime::{DurationError, StdDuration, format_duration, parse_duration};
-use humantime_std::offset;
+use humantime::{DurationError, StdDuration, format_duration};
+use humantime_std::located::parse_duration;
+use humantime_std::{Located, StdDurationExt, Underline};
 use std::alloc::{AllocError, Global};
 use std::io::{self, Write};
 use std::process::ExitCode;
@@ -23,7 +24,7 @@ enum Fault<'a> {
     #[error("a tab and a duration are missing")]
     NoTab,
     #[error("{0}")]
-    Duration(DurationError<'a>),
+    Duration(Located<DurationError<'a>>),
     #[error("the total is longer than any duration")]
     TotalTooLong,
 }
@@ -56,7 +57,7 @@ pub fn run(
                 total = sum;
             }
             Err(fault) => {
-                let mark = mark_of(alloc, line, fault)?;
+                let mark = mark_of(line, fault);
                 let number = index + 1;
                 writeln!(err, "example_table: line {number}: {fault}\n{line}\n{mark}")?;
                 return Ok(1);
@@ -75,19 +76,17 @@ fn row_of(line: &str, total: StdDuration) -> Result<(Row<'_>, StdDuration), Faul
     Ok((Row { name, duration }, sum))
 }
 
-/// Returns the text to print under a line, with a mark under its fault.
-fn mark_of(alloc: Global, line: &str, fault: Fault<'_>) -> Result<String, AllocError> {
+/// Returns the mark to print under a line.
+fn mark_of<'a>(line: &'a str, fault: Fault<'_>) -> Underline<'a> {
     let start = line.find('\t').map_or(line.len(), |tab| tab + 1);
-    let at = match fault {
-        Fault::Duration(error) => start.saturating_add(offset(&error).unwrap_or(0)),
-        _ => start,
-    };
-    let before = line.get(..at).unwrap_or("").chars();
-    let blanks = before.map(|c| if c == '\t' { c } else { ' ' });
-    blanks.chain(['^']).collect(alloc)
+    let (before, _) = line.split_at(start);
+    match fault {
+        Fault::Duration(error) => error.after(start).underline(line),
+        _ => Underline { before, part: "" },
+    }
 }
 
-/// Returns the text of a table.
+/// Returns the text of a table. A share is a whole number of percent, rounded down.
 fn table_of(alloc: Global, rows: &[Row<'_>], total: StdDuration) -> Result<String, AllocError> {
     let mut width = "longest".len();
     for row in rows {
@@ -95,12 +94,22 @@ fn table_of(alloc: Global, rows: &[Row<'_>], total: StdDuration) -> Result<Strin
     }
     let mut table = String::new(alloc);
     for row in rows {
+        let share = row.duration.as_nanos() * 100;
+        let percent = share.checked_div(total.as_nanos()).unwrap_or(0);
         let duration = format_duration(row.duration);
-        writeln!(table, "{:<width$}  {duration}", row.name)?;
+        writeln!(table, "{:<width$}  {percent:>3}%  {duration}", row.name)?;
     }
-    writeln!(table, "{:<width$}  {}", "total", format_duration(total))?;
+    writeln!(
+        table,
+        "{:<width$}        {}",
+        "total",
+        format_duration(total)
+    )?;
+    if let Some(mean) = total.checked_div(rows.len() as u64) {
+        writeln!(table, "{:<width$}        {}", "mean", format_duration(mean))?;
+    }
     if let Some(row) = rows.iter().max_by_key(|row| row.duration) {
-        writeln!(table, "{:<width$}  {}", "longest", row.name)?;
+        writeln!(table, "{:<width$}        {}", "longest", row.name)?;
     }
     Ok(table)
 }

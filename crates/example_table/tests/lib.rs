@@ -36,11 +36,12 @@ fn a_wrong_line_is_marked(rt: HostRuntime) -> Result<(), Fail> {
 #[test]
 fn a_table_is_written(rt: HostRuntime) -> Result<(), Fail> {
     for (text, table) in &[
-        ("", "total    0s\n"),
-        ("a\t90s\r\n\t0", "a        1m 30s\n         0s\ntotal    1m 30s\nlongest  a\n"),
+        ("", "total          0s\n"),
+        ("a\t0", "a          0%  0s\ntotal          0s\nmean           0s\nlongest        a\n"),
+        ("a\t90s\r\n\t0", "a        100%  1m 30s\n           0%  0s\ntotal          1m 30s\nmean           45s\nlongest        a\n"),
         (
             "a\t18446744073709551615s",
-            "a        584542046090years 7months 15days 17h 5m 3s\n",
+            "a        100%  584542046090years 7months 15days 17h 5m 3s\n",
         ),
     ] {
         let (status, out, err) = answer(rt.alloc(), text)?;
