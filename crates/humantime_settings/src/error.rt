@@ -35,7 +35,7 @@ pub enum SettingsError<'a> {
     OutOfMemory,
     /// A fault at a place in the text.
     At(Marked<'a>),
-    /// What is wrong with the whole text, such as a missing setting in TOML, or with a value that has no text.
+    /// What is wrong at no place that is known, such as with the key of a map in TOML, or with a value that has no text.
     Whole(String),
 }
 

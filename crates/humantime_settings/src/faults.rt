@@ -3,11 +3,15 @@
 use humantime::{parse_duration, parse_rfc3339_weak};
 use humantime_std::offset;
 use std::alloc::{AllocError, Global};
+use std::fmt::{Display, InlineText};
 
-/// The error of a text that is not a duration.
-pub(crate) const NOT_A_DURATION: &str = "not a duration";
-/// The error of a text that is not a timestamp.
-pub(crate) const NOT_A_TIMESTAMP: &str = "not a timestamp";
+/// A message as the error of a format has it: its first 80 bytes, which end in dots if it is longer.
+pub(crate) type Message = InlineText<80>;
+
+/// Returns the message of an error.
+pub(crate) fn message_of<E: Display + Drop>(error: E) -> Message {
+    Message::of(error)
+}
 
 /// What is wrong with a text, and where.
 #[derive(Drop)]
@@ -19,51 +23,46 @@ pub(crate) struct Fault {
 
 /// Returns the fault of a value in `source`, which is the value as the document has it.
 ///
-/// `said` is the message of the format. If this is not one of the two errors of this crate, or the value does not have this error, returns
-/// `None`.
+/// `said` is the message of the format. If it is not that of an error of this value, returns `None`.
 pub(crate) fn fault_in(
     alloc: Global,
     said: &str,
     source: &str,
     value: &str,
 ) -> Result<Option<Fault>, AllocError> {
-    let fault = match said {
-        NOT_A_DURATION => duration_fault(alloc, value)?,
-        NOT_A_TIMESTAMP => timestamp_fault(alloc, value)?,
-        _ => None,
-    };
-    Ok(fault.map(|fault| Fault {
-        at: offset_in(source, value, fault.at),
-        ..fault
-    }))
+    if let Err(error) = parse_duration(value) {
+        let message = error.to_string(alloc)?;
+        if is_cut_from(said, &message) {
+            let at = offset_in(source, value, offset(&error).unwrap_or(0));
+            return Ok(Some(Fault { message, at }));
+        }
+    }
+    if let Err(error) = parse_rfc3339_weak(value) {
+        let message = error.to_string(alloc)?;
+        if is_cut_from(said, &message) {
+            // A timestamp's error has no place, so it is marked at the first character.
+            let at = offset_in(source, value, 0);
+            return Ok(Some(Fault { message, at }));
+        }
+    }
+    Ok(None)
+}
+
+/// Returns `true` if a format says this message, which it may have cut.
+fn is_cut_from(said: &str, message: &str) -> bool {
+    match said.strip_suffix("...") {
+        Some(front) => message.starts_with(front),
+        None => said == message,
+    }
 }
 
 /// Returns the offset in `source` of the character at the offset `inner` of the value, or 0 if the value has an escape.
 fn offset_in(source: &str, value: &str, inner: usize) -> usize {
+    if source.contains('\\') {
+        return 0;
+    }
     match source.find(value) {
-        Some(start) if !source.contains('\\') => start.saturating_add(inner),
-        _ => 0,
-    }
-}
-
-/// Returns the fault of a text that is not a duration.
-fn duration_fault(alloc: Global, text: &str) -> Result<Option<Fault>, AllocError> {
-    match parse_duration(text) {
-        Ok(_) => Ok(None),
-        Err(error) => Ok(Some(Fault {
-            message: error.to_string(alloc)?,
-            at: offset(&error).unwrap_or(0),
-        })),
-    }
-}
-
-/// Returns the fault of a text that is not a timestamp. It has no place, so it is marked at the first character.
-fn timestamp_fault(alloc: Global, text: &str) -> Result<Option<Fault>, AllocError> {
-    match parse_rfc3339_weak(text) {
-        Ok(_) => Ok(None),
-        Err(error) => Ok(Some(Fault {
-            message: error.to_string(alloc)?,
-            at: 0,
-        })),
+        Some(start) => start.saturating_add(inner),
+        None => 0,
     }
 }

@@ -7,7 +7,7 @@ ghost use Rattle.serde.specs.Steps.{Begins, Gives};
 ghost use Rattle.humantime.specs.Prelude.{IsPrinted, duration_answer, duration_text, places_of, weak_answer};
 ghost use Rattle.humantime_settings.specs.Texts.{IsText, IsTextOrNothing};
 
-use crate::faults::{NOT_A_DURATION, NOT_A_TIMESTAMP};
+use crate::faults::{Message, message_of};
 use humantime::laws::printed_moment_reads;
 use humantime::{
     Duration, StdDuration, SystemTime, Timestamp, format_duration, format_rfc3339, parse_duration,
@@ -62,9 +62,9 @@ pub fn serialize<T: Field, S: Serializer>(value: &T, out: &mut S) -> Result<(), 
 ///
 /// # Errors
 ///
-/// Returns an error of the format if there is no text or if memory is refused, and one with the message `not a duration` or
-/// `not a timestamp` if there is another text. [`from_json`](crate::from_json) and [`from_toml`](crate::from_toml) put the message of
-/// `humantime` in its place.
+/// Returns an error of the format if there is no text or if memory is refused, and one with the message of `humantime` if there is another
+/// text. The formats cut it at 80 bytes; [`from_json`](crate::from_json) and [`from_toml`](crate::from_toml) put the whole message in its
+/// place.
 ///
 /// # Examples
 ///
@@ -189,8 +189,8 @@ trait Text: Sized + Drop {
     fn write_text<S: Serializer>(&self, out: &mut S) -> Result<(), S::Error>
         ensures { OnOk result ((t : List ℕ) × IsPrintedAs self.now t × IsParsedFrom self.now t × Logs (S.written out.old) (S.written out.new) (text t)) };
 
-    /// Parses a text, or returns what it is not.
-    fn parse_text(text: &str) -> Result<Self, &'static str>
+    /// Parses a text, or returns the message of the error.
+    fn parse_text(text: &str) -> Result<Self, Message>
         ensures value { IfOk result (λ v. IsParsedFrom v text.now) }
         ensures refused { IfErr result (λ _. (v : Self) → ¬ IsParsedFrom v text.now) };
 }
@@ -208,7 +208,7 @@ impl<T: Text> Field for T {
         let text = from.string(alloc)?;
         match T::parse_text(&text) {
             Ok(value) => Ok(value),
-            Err(message) => Err(from.custom(message)),
+            Err(message) => Err(from.custom(message.as_str())),
         }
     }
 }
@@ -234,7 +234,7 @@ impl<T: Text> Field for Option<T> {
         };
         match T::parse_text(&text) {
             Ok(value) => Ok(Some(value)),
-            Err(message) => Err(from.custom(message)),
+            Err(message) => Err(from.custom(message.as_str())),
         }
     }
 }
@@ -261,8 +261,8 @@ impl Text for StdDuration {
         out.str(format_duration(*self).text(&mut [0; 64]))
     }
 
-    fn parse_text(text: &str) -> Result<StdDuration, &'static str> {
-        parse_duration(text).map_err(|_| NOT_A_DURATION)
+    fn parse_text(text: &str) -> Result<StdDuration, Message> {
+        parse_duration(text).map_err(|error| message_of(error))
     }
 }
 
@@ -275,7 +275,7 @@ impl Text for Duration {
         self.as_ref().write_text(out)
     }
 
-    fn parse_text(text: &str) -> Result<Duration, &'static str> {
+    fn parse_text(text: &str) -> Result<Duration, Message> {
         Ok(Duration::new(StdDuration::parse_text(text)?))
     }
 }
@@ -289,7 +289,7 @@ impl Text for time::Duration {
         StdDuration::from_std(*self).write_text(out)
     }
 
-    fn parse_text(text: &str) -> Result<time::Duration, &'static str> {
+    fn parse_text(text: &str) -> Result<time::Duration, Message> {
         Ok(StdDuration::parse_text(text)?.to_std())
     }
 }
@@ -308,8 +308,8 @@ impl Text for SystemTime {
         }
     }
 
-    fn parse_text(text: &str) -> Result<SystemTime, &'static str> {
-        parse_rfc3339_weak(text).map_err(|_| NOT_A_TIMESTAMP)
+    fn parse_text(text: &str) -> Result<SystemTime, Message> {
+        parse_rfc3339_weak(text).map_err(|error| message_of(error))
     }
 }
 
@@ -322,7 +322,7 @@ impl Text for Timestamp {
         self.as_ref().write_text(out)
     }
 
-    fn parse_text(text: &str) -> Result<Timestamp, &'static str> {
+    fn parse_text(text: &str) -> Result<Timestamp, Message> {
         Ok(Timestamp::from(SystemTime::parse_text(text)?))
     }
 }

@@ -5,22 +5,24 @@ ghost use Rattle.toml.specs.Parse.{parse_document};
 ghost use Rattle.humantime_settings.specs.Marks.{IsErrorIn};
 
 use crate::error::{SettingsError, marked_at};
-use crate::faults::{Fault, fault_in};
-use crate::toml_places::Places;
+use crate::faults::{Fault, Message, fault_in};
+use crate::toml_places::{Place, Places, after_value};
 use serde::{DeserializeOwned, Serialize};
 use std::alloc::{AllocError, Global};
-use toml_parser::{ParseError, quoted, starts_string};
+use toml_parser::text::first;
+use toml_parser::{ParseError, Scalar, quoted, starts_string, unquoted};
 
 /// Reads settings in TOML.
 ///
 /// # Errors
 ///
-/// Returns [`SettingsError::At`] where the document is not TOML, or with a value of the wrong type, or one that is not a duration or a
-/// timestamp. A value that is not a duration is marked where `humantime` finds the fault, and another one at its start; so is one with an
-/// escape. Of several wrong values, the one whose keys sort first has the error.
+/// Returns [`SettingsError::At`] where the document is not TOML, with a value of the wrong type or one that is not a duration or a timestamp,
+/// with an unknown key, and with the first table that lacks a key. A value that is not a duration is marked where `humantime` finds the fault,
+/// and another one at its start; so is one with an escape. A table is marked at its header or brace, and the one at the top at the start of
+/// the document. Of several wrong values, the one whose keys sort first has the error.
 ///
-/// Returns [`SettingsError::Whole`], with the keys in the message, for another fault, such as a key that is missing or unknown, for a table
-/// of the wrong type under a header, and for a value whose keys have over 80 bytes together.
+/// Returns [`SettingsError::Whole`], with the keys in the message, for a fault in the key of a map, for one in a table that neither a header
+/// nor a brace begins, and for one below keys that have over 80 bytes together.
 ///
 /// Returns [`SettingsError::OutOfMemory`] if memory is refused.
 ///
@@ -44,7 +46,7 @@ pub fn from_toml<T: DeserializeOwned>(alloc: Global, text: &str) -> Result<T, Se
 {
     match toml::from_str::<T>(alloc, text) {
         Ok(value) => Ok(value),
-        Err(error) => Err(located(alloc, text, &error)?),
+        Err(error) => Err(located::<T>(alloc, text, &error)?),
     }
 }
 
@@ -77,7 +79,7 @@ pub fn to_toml<T: Serialize>(alloc: Global, value: &T) -> Result<String, Setting
 }
 
 /// Returns the error of a document, with the place of its fault if that is found.
-fn located<'a>(
+fn located<'a, T: DeserializeOwned>(
     alloc: Global,
     text: &'a str,
     error: &toml::de::Error,
@@ -88,61 +90,235 @@ fn located<'a>(
         return Ok(SettingsError::OutOfMemory);
     };
     let (whole, said) = (error.to_string(alloc)?, error.message());
-    // The fault of a value has no span: `whole` ends with a line "in `KEY.KEY`", which `toml` cuts at 80 bytes.
-    let Some((_, keys)) = whole.rsplit_once("\nin `") else {
+    // The fault of a value has no span: `whole` ends with a line "in `KEY.KEY`", which `toml` cuts at 80 bytes, unless there are no keys.
+    let keys = whole.rsplit_once("\nin `").map(|(_, keys)| keys);
+    if keys.is_none() && whole.starts_with("TOML parse error") {
         let said = String::from_str(alloc, said)?;
-        return Ok(if whole.starts_with("TOML parse error") {
-            SettingsError::At(marked_at(text, span.start, said))
-        } else {
-            SettingsError::Whole(said)
-        });
-    };
+        return Ok(SettingsError::At(marked_at(text, span.start, said)));
+    }
+    let keys = keys.unwrap_or("");
     let keys = keys.strip_suffix("`\n").unwrap_or(keys);
-    match search(alloc, text, said, keys) {
+    match search::<T>(alloc, text, said, keys) {
         Ok(Some(fault)) => Ok(SettingsError::At(marked_at(text, fault.at, fault.message))),
         Err(ParseError::OutOfMemory) => Err(AllocError),
         Ok(None) | Err(ParseError::At(..)) => {
-            let message = format!(in alloc; "{said} in `{keys}`")?;
+            let message = with_keys(alloc, said, keys)?;
             Ok(SettingsError::Whole(message))
         }
     }
 }
 
-/// Returns the fault of the first value that has these keys and can have the error `said`.
-fn search(alloc: Global, text: &str, said: &str, keys: &str) -> Result<Option<Fault>, ParseError> {
-    let mut places = Places::new(alloc, text)?;
+/// Returns a message with these keys.
+fn with_keys(alloc: Global, said: &str, keys: &str) -> Result<String, AllocError> {
+    if keys.is_empty() {
+        return String::from_str(alloc, said);
+    }
+    format!(in alloc; "{said} in `{keys}`")
+}
+
+/// Returns the fault with the message `said` below these keys.
+fn search<T: DeserializeOwned>(
+    alloc: Global,
+    text: &str,
+    said: &str,
+    keys: &str,
+) -> Result<Option<Fault>, ParseError> {
+    let at = if let Some(name) = name_in(said, "unknown field `") {
+        unknown_key(alloc, text, &joined(alloc, keys, name)?)?
+    } else if let Some(name) = name_in(said, "missing field `") {
+        table_without(alloc, text, &joined(alloc, keys, name)?, name)?
+    } else {
+        return wrong_value::<T>(alloc, text, said, keys);
+    };
+    Ok(match at {
+        Some(at) => Some(Fault {
+            message: String::from_str(alloc, said)?,
+            at,
+        }),
+        None => None,
+    })
+}
+
+/// Returns the name at the end of a message.
+fn name_in<'a>(said: &'a str, front: &str) -> Option<&'a str> {
+    said.strip_prefix(front)?.strip_suffix('`')
+}
+
+/// Returns the keys of a name in a table.
+fn joined(alloc: Global, table: &str, name: &str) -> Result<String, AllocError> {
+    if table.is_empty() {
+        return String::from_str(alloc, name);
+    }
+    format!(in alloc; "{table}.{name}")
+}
+
+/// Returns the offset of the first key that has these keys.
+fn unknown_key(alloc: Global, text: &str, keys: &str) -> Result<Option<usize>, ParseError> {
+    let mut places = Places::new(alloc, text, keys)?;
     // Each step passes at least one character.
     for _ in 0..text.len() {
         let Some(place) = places.step(alloc)? else {
             continue;
         };
-        if place.keys.as_str() == keys {
-            if let Some(fault) = fault_at(alloc, said, place.value)? {
-                let start = text.len().saturating_sub(place.value.len());
-                return Ok(Some(Fault {
-                    at: start.saturating_add(fault.at),
-                    ..fault
-                }));
-            }
+        if place.left == Some("") {
+            return Ok(Some(offset_of(text, place.start)));
         }
     }
     Ok(None)
 }
 
-/// Returns the fault of the value at the front, if it can have the error `said`.
-fn fault_at(alloc: Global, said: &str, value: &str) -> Result<Option<Fault>, ParseError> {
-    if let Some(found) = said.strip_prefix("invalid type: ") {
-        let is_found = match value.as_bytes().first() {
-            Some(b'[') => found.starts_with("sequence"),
-            Some(b'"' | b'\'') => found.starts_with("string"),
-            _ => !found.starts_with("sequence") && !found.starts_with("string"),
+/// Returns the offset of the first table that has no key of this name, which `keys` end with. The table at the top begins with the document.
+fn table_without(
+    alloc: Global,
+    text: &str,
+    keys: &str,
+    name: &str,
+) -> Result<Option<usize>, ParseError> {
+    let mut places = Places::new(alloc, text, keys)?;
+    let mut found = (keys == name).then_some(0);
+    for _ in 0..text.len() {
+        let Some(place) = places.step(alloc)? else {
+            continue;
         };
-        if !is_found {
-            return Ok(None);
+        let is_table = place.value.is_none_or(|value| first(value) == b'{');
+        match place.left {
+            Some("") => found = None,
+            Some(left) if is_table && left.strip_prefix('.') == Some(name) => {
+                if found.is_some() {
+                    return Ok(found);
+                }
+                found = Some(offset_of(text, place.value.unwrap_or(place.start)));
+            }
+            _ => {}
         }
-        let message = String::from_str(alloc, said)?;
-        return Ok(Some(Fault { message, at: 0 }));
     }
+    Ok(found)
+}
+
+/// Returns the fault of a value that has these keys and can have the error `said`.
+fn wrong_value<T: DeserializeOwned>(
+    alloc: Global,
+    text: &str,
+    said: &str,
+    keys: &str,
+) -> Result<Option<Fault>, ParseError> {
+    let mut places = Places::new(alloc, text, keys)?;
+    // The first value of a wrong type in as many arrays.
+    let mut found: Vec<Place<'_, '_>> = Vec::new(alloc);
+    for _ in 0..text.len() {
+        let Some(place) = places.step(alloc)? else {
+            continue;
+        };
+        if place.left != Some("") {
+            continue;
+        }
+        if is_wrong_type(alloc, said, place)? {
+            if !found.iter().any(|other| other.depth == place.depth) {
+                found.push(place)?;
+            }
+        } else if let Some(fault) = wrong_text(alloc, said, place.value.unwrap_or(""))? {
+            let start = offset_of(text, place.value.unwrap_or(""));
+            return Ok(Some(Fault {
+                at: start.saturating_add(fault.at),
+                ..fault
+            }));
+        }
+    }
+    let Some(place) = last_read::<T>(alloc, text, said, &found)? else {
+        return Ok(None);
+    };
+    Ok(Some(Fault {
+        message: String::from_str(alloc, said)?,
+        at: offset_of(text, place.value.unwrap_or(place.start)),
+    }))
+}
+
+/// Returns the offset in a document of what ends it.
+fn offset_of(document: &str, end: &str) -> usize {
+    document.len().saturating_sub(end.len())
+}
+
+/// Returns the last of these places that a reader comes to: those behind the fault can have any value.
+fn last_read<'a, 'k, T: DeserializeOwned>(
+    alloc: Global,
+    text: &'a str,
+    said: &str,
+    found: &[Place<'a, 'k>],
+) -> Result<Option<Place<'a, 'k>>, ParseError> {
+    let (mut from, mut to) = (0, found.len());
+    for _ in 0..found.len() {
+        let middle = usize::midpoint(from, to);
+        let Some(place) = found.get(middle).filter(|_| from < middle) else {
+            break;
+        };
+        if is_read::<T>(alloc, text, said, place.value.unwrap_or(""))? {
+            from = middle;
+        } else {
+            to = middle;
+        }
+    }
+    Ok(found.get(from).copied())
+}
+
+/// Returns `true` if a reader comes to a value: the error is not `said` with another one in its place.
+fn is_read<T: DeserializeOwned>(
+    alloc: Global,
+    text: &str,
+    said: &str,
+    value: &str,
+) -> Result<bool, ParseError> {
+    let before = text.strip_suffix(value).unwrap_or("");
+    let after = after_value(alloc, value)?;
+    let other = if said.starts_with("invalid") {
+        "nan"
+    } else {
+        "'~'"
+    };
+    let changed = format!(in alloc; "{before}{other} {after}")?;
+    match toml::from_str::<T>(alloc, &changed) {
+        Err(error) if error.is_memory() => Err(ParseError::OutOfMemory),
+        Err(error) => Ok(error.message() != said),
+        Ok(_) => Ok(true),
+    }
+}
+
+/// Returns `true` if a format can say this of the type of a value.
+fn is_wrong_type(alloc: Global, said: &str, place: Place<'_, '_>) -> Result<bool, ParseError> {
+    let Some(value) = place.value else {
+        let is_array = place.start.starts_with("[[");
+        return Ok(
+            said.starts_with("invalid type: map")
+                || is_array && said.starts_with("invalid type: sequence"),
+        );
+    };
+    let found = words_of(alloc, value)?;
+    Ok(
+        ["invalid type: ", "invalid value: "].iter().any(|front| {
+            said.starts_with(Message::of(*front).and(&*found, 40).as_str())
+        }),
+    )
+}
+
+/// Returns the words that `toml` has for the value at the front. A date or a time is a map there.
+fn words_of(alloc: Global, value: &str) -> Result<String, ParseError> {
+    if starts_string(value) {
+        let (text, _) = quoted(alloc, value)?;
+        return Ok(format!(in alloc; "string {text:?}")?);
+    }
+    Ok(match first(value) {
+        b'[' => String::from_str(alloc, "sequence")?,
+        b'{' => String::from_str(alloc, "map")?,
+        _ => match unquoted(alloc, value)?.0 {
+            Scalar::Boolean(b) => format!(in alloc; "boolean `{b}`")?,
+            Scalar::Integer(n) => format!(in alloc; "integer `{n}`")?,
+            Scalar::Float(x) => format!(in alloc; "floating point `{x:?}`")?,
+            Scalar::Datetime(_) => String::from_str(alloc, "map")?,
+        },
+    })
+}
+
+/// Returns the fault of the string at the front, if it can have the error `said`.
+fn wrong_text(alloc: Global, said: &str, value: &str) -> Result<Option<Fault>, ParseError> {
     if !starts_string(value) {
         return Ok(None);
     }

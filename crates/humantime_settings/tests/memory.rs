@@ -36,6 +36,12 @@ struct Jobs {
     days: BTreeMap<String, AsText<SystemTime>>,
     #[serde(default, with = "humantime_settings")]
     zone: Option<Timestamp>,
+    #[serde(default)]
+    counts: Vec<i64>,
+    #[serde(default)]
+    pairs: Vec<Vec<i64>>,
+    #[serde(default, rename = "more.every")]
+    note: String,
 }
 
 /// Returns the place of an error, its message, and the rest of its line.

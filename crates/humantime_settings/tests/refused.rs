@@ -71,7 +71,7 @@ fn fault_in_toml(rt: HostRuntime) {
 
 #[test]
 fn fault_of_keys(rt: HostRuntime) {
-    let wanted = "invalid type: map, expected a sequence in `waits`";
+    let wanted = "line 1, column 1: invalid type: map, expected a sequence\n[waits]\n^";
     assert_answer(&rt, |alloc| told(alloc, from_toml::<Lists>(alloc, "[waits]\n[ends]\n")), wanted);
 }
 

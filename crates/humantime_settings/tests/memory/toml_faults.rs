@@ -13,7 +13,7 @@ const CASES: &[(&str, &str, &str)] = &[
     ("timeout = \"2h 7\"\n", "", "1:16 time unit needed, for example 7sec or 7ms | \""),
     ("timeout = '2h'\n", "keep = '1h 5µs x' # '1h'", "6:16 expected number at 8 | x' # '1h'"),
     ("zone = '1h'\ntimeout = '2h'\n", "", "1:9 timestamp format is invalid | 1h'"),
-    ("", "", "missing field `timeout`"),
+    ("", "", "1:1 missing field `timeout` | [job]"),
     ("# every = '5µs x'\ntimeout = '2h'\n", "[[more]]\nname = 'a'\nevery = '5µs x'\nsince = ''", "9:14 expected number at 5 | x'"),
     // The first of two tables is right, and the second is not.
     (
@@ -45,11 +45,28 @@ const CASES: &[(&str, &str, &str)] = &[
     // A header with blanks, a quoted key and a comment, and one behind tables whose last keys are the same.
     ("timeout = '1s'\n", "[ \t\"days\" ] # days\na = '1h'\n", "7:6 timestamp format is invalid | 1h'"),
     ("timeout = '1s'\n", "[x.job]\nevery = '1~'\n[x.days]\na = '1h'\n[days]\na = '2h'\n", "11:6 timestamp format is invalid | 2h'"),
+    // Items of one list, of different types: the first of the type that the error names.
+    ("timeout = '2h'\ncounts = [ 1, true, 2.5 ]\n", "", "2:15 invalid type: boolean `true`, expected an integer | true, 2.5 ]"),
+    ("timeout = '2h'\ncounts = [ 1, 2.5, true ]\n", "", "2:15 invalid type: floating point `2.5`, expected an integer | 2.5, true ]"),
+    ("timeout = '2h'\ncounts = [ 1, { a = 1 } ]\n", "", "2:15 invalid type: map, expected an integer | { a = 1 } ]"),
+    ("timeout = '2h'\ncounts = [ 1, 1979-05-27 ]\n", "", "2:15 invalid type: map, expected an integer | 1979-05-27 ]"),
+    // An item that is an array of the wrong type, and not the array that it is in; with the same number where it is right.
+    ("timeout = '2h'\ncounts = [1, [2]]\n", "", "2:14 invalid type: sequence, expected an integer | [2]]"),
+    ("timeout = '2h'\ncounts = [1, [[2], 3], [4]]\n", "", "2:14 invalid type: sequence, expected an integer | [[2], 3], [4]]"),
+    ("timeout = '2h'\npairs = [[1], [1, 2], [[1], 2], [[3]]]\n", "", "2:24 invalid type: sequence, expected an integer | [1], 2], [[3]]]"),
+    ("timeout = '2h'\npairs = [[1], 1, [true]]\n", "", "2:15 invalid type: integer `1`, expected a sequence | 1, [true]]"),
+    ("timeout = '2h'\ncounts = [0x1F, +1_0, -2, 9_9.5]\n", "", "2:27 invalid type: floating point `99.5`, expected an integer | 9_9.5]"),
+    // Two values whose keys have the same text: the one that has the error.
+    (
+        "timeout = '2h'\n'more.every' = 'x'\n",
+        "[[more]]\nname = 'a'\nevery = '5 é'\nsince = '2018-02-14 00:28:07'\n",
+        "9:12 invalid character at 2 | é'",
+    ),
     // A value with an escape is marked at its start.
     ("timeout = \"\\u0031d\\t2 ~\"\n", "", "1:11 invalid character at 5 | \"\\u0031d\\t2 ~\""),
-    // What is missing or unknown has no mark.
-    ("timeout = '2h'\n", "nmae = 'a'\n", "unknown field `nmae` in `job`"),
-    ("timeout = '2h'\n", "[[more]]\nname = 'a'\nevery = '1s'\n", "missing field `since` in `more`"),
+    // What is unknown is marked at its key, and what is missing where its table begins: the first one that has no such key.
+    ("timeout = '2h'\n", "nmae = 'a'\n", "6:1 unknown field `nmae` | nmae = 'a'"),
+    ("timeout = '2h'\n", "[[more]]\nname = 'a'\nevery = '1s'\n", "6:1 missing field `since` | [[more]]"),
     // Documents that TOML rejects, and one with a byte order mark.
     ("timeout = \"2h\n", "", "1:14 invalid string | "),
     ("timeout = '2h'\ntimeout = '2h'\n", "", "2:1 duplicate key | timeout = '2h'"),
@@ -74,7 +91,7 @@ fn keys_of_up_to_80_bytes_are_found(rt: HostRuntime) -> Result<(), Fail> {
         let text = format!(in alloc; "timeout = '1s'\n{JOB}[days]\n{key} = '1h'\n")?;
         let told = shown(alloc, from_toml(alloc, &text))?;
         assert_eq!(rt; told.starts_with("7:"), *is_marked);
-        assert_eq!(rt; told.starts_with("not a timestamp in `days.kkk"), !*is_marked);
+        assert_eq!(rt; told.starts_with("timestamp format is invalid in `days.kkk"), !*is_marked);
     }
     Ok(())
 }

@@ -139,10 +139,10 @@ fn lists_and_maps_are_read_and_written(rt: HostRuntime) -> Result<(), Fail> {
 #[test]
 fn values_that_are_not_texts_are_rejected(rt: HostRuntime) -> Result<(), Fail> {
     for (text, message) in &[
-        (r#"{"wait":"2 moons"}"#, "not a duration at line 1 column 9"),
-        (r#"{"wait":""}"#, "not a duration at line 1 column 9"),
-        (r#"{"wait":"1s","until":"2018-02-30T00:28:07Z"}"#, "not a timestamp at line 1 column 22"),
-        (r#"{"wait":"1s","until":"1s"}"#, "not a timestamp at line 1 column 22"),
+        (r#"{"wait":"2 moons"}"#, "unknown time unit \"moons\", su... at line 1 column 9"),
+        (r#"{"wait":""}"#, "value was empty at line 1 column 9"),
+        (r#"{"wait":"1s","until":"2018-02-30T00:28:07Z"}"#, "numeric component is out of r... at line 1 column 22"),
+        (r#"{"wait":"1s","until":"1s"}"#, "timestamp format is invalid at line 1 column 22"),
         (r#"{"wait":"1s","until":90}"#, "invalid type at line 1 column 22"),
     ] {
         let error = serde_json::from_str::<Optional>(rt.alloc(), text).err().expect(&rt, "read");
@@ -151,8 +151,8 @@ fn values_that_are_not_texts_are_rejected(rt: HostRuntime) -> Result<(), Fail> {
     let error = serde_json::from_str::<Values>(rt.alloc(), r#"{"wait":null}"#).err().expect(&rt, "read");
     assert_eq!(rt; error.to_string(rt.alloc())?.as_str(), "invalid type at line 1 column 9");
     for (text, message) in &[
-        ("wait = '2 moons'", "not a duration\nin `wait`\n"),
-        ("wait = '1s'\nuntil = '1969-12-31T23:59:59Z'", "not a timestamp\nin `until`\n"),
+        ("wait = '2 moons'", "unknown time unit \"moons\", supported units: ns, us/µs, ms, sec, min, hours, ...\nin `wait`\n"),
+        ("wait = '1s'\nuntil = '1969-12-31T23:59:59Z'", "numeric component is out of range\nin `until`\n"),
         ("wait = '1s'\nuntil = 1970-01-01T00:00:00Z", "invalid type: map, expected a string\nin `until`\n"),
     ] {
         let error = toml::from_str::<Optional>(rt.alloc(), text).err().expect(&rt, "read");
