@@ -101,7 +101,8 @@ impl From<AllocError> for SettingsError<'_> {
 const LONG: usize = 500;
 
 /// Writes what is wrong. A fault at a place comes with its line and column in front of it and, unless the line has over 500 bytes, with
-/// the line and a mark under the fault behind it.
+/// the line and a mark under the fault behind it. A control character of the line or the message, but for a tab, is written as an escape
+/// such as `\u{1b}`, so that none of the text is a command to a terminal.
 ///
 /// # Examples
 ///
@@ -117,26 +118,50 @@ impl fmt::Display for SettingsError<'_> {
     fn fmt<W: fmt::Write>(&self, f: &mut fmt::Formatter<W>) -> fmt::Result {
         let fault = match self {
             SettingsError::OutOfMemory => return f.write_str("out of memory"),
-            SettingsError::Whole(message) => return f.write_str(message.as_str()),
+            SettingsError::Whole(message) => return write_escaped(f, message),
             SettingsError::At(fault) => fault,
         };
         let (line, before) = (fault.line, fault.before);
         let after = fault.after.trim_end_matches('\r');
-        write!(
-            f,
-            "line {line}, column {}: {}",
-            fault.column(),
-            fault.message
-        )?;
+        write!(f, "line {line}, column {}: ", fault.column())?;
+        write_escaped(f, &fault.message)?;
         if before.len().saturating_add(after.len()) > LONG {
             return Ok(());
         }
-        write!(f, "\n{before}{after}\n")?;
+        f.write_str("\n")?;
+        write_escaped(f, before)?;
+        write_escaped(f, after)?;
+        f.write_str("\n")?;
         for c in before.chars() {
-            f.write_str(if c == '\t' { "\t" } else { " " })?;
+            if is_escaped(c) {
+                for _ in c.escape_unicode() {
+                    f.write_str(" ")?;
+                }
+            } else {
+                f.write_str(if c == '\t' { "\t" } else { " " })?;
+            }
         }
         f.write_str("^")
     }
+}
+
+/// Returns `true` for a control character that is not a tab.
+fn is_escaped(c: char) -> bool {
+    c != '\t' && c.is_control()
+}
+
+/// Writes a text with an escape in place of each character that is not to reach a terminal.
+fn write_escaped<W: fmt::Write>(f: &mut fmt::Formatter<W>, text: &str) -> fmt::Result {
+    for c in text.chars() {
+        if is_escaped(c) {
+            for part in c.escape_unicode() {
+                f.write_char(part)?;
+            }
+        } else {
+            f.write_char(c)?;
+        }
+    }
+    Ok(())
 }
 
 impl Error for SettingsError<'_> {}

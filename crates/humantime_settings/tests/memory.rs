@@ -76,6 +76,17 @@ fn marks_are_shown(rt: HostRuntime) -> Result<(), Fail> {
         let error = from_toml::<Jobs>(alloc, text).err().expect(&rt, "read");
         assert_eq!(rt; error.to_string(alloc)?.as_str(), *message);
     }
+    // Control characters but tabs are escapes, in the line, in the message and in a text that has no place.
+    for (text, message) in &[
+        ("{\"\u{1b}[2J\t\u{9b}é\": \u{7f}", "line 1, column 2: invalid JSON\n{\"\\u{1b}[2J\t\\u{9b}é\": \\u{7f}\n ^"),
+        ("{\"timeout\": \"1 \u{9b}x\u{9b}\"}", "line 1, column 16: invalid character at 2\n{\"timeout\": \"1 \\u{9b}x\\u{9b}\"}\n               ^"),
+        ("{\"\u{85}\": 1, \"timeout\": \"1x\\u001b\"}", "line 1, column 21: invalid character at 2\n{\"\\u{85}\": 1, \"timeout\": \"1x\\u001b\"}\n                         ^"),
+    ] {
+        let error = from_json::<Jobs>(alloc, text).err().expect(&rt, "read");
+        assert_eq!(rt; error.to_string(alloc)?.as_str(), *message);
+    }
+    let whole = SettingsError::Whole(String::from_str(alloc, "a\tb\u{1b}\n")?);
+    assert_eq!(rt; whole.to_string(alloc)?.as_str(), "a\tb\\u{1b}\\u{a}");
     assert_eq!(rt; SettingsError::OutOfMemory.to_string(alloc)?.as_str(), "out of memory");
     // A line of 500 bytes is shown, and a longer one is not.
     let spaces = " ".repeat(alloc, 486)?;
