@@ -8,6 +8,11 @@ use std::fmt::{Display, InlineText};
 /// A message as the error of a format has it: its first 80 bytes, which end in dots if it is longer.
 pub(crate) type Message = InlineText<80>;
 
+/// The error of a value that is no text, where a duration is wanted. JSON has room for 32 bytes.
+pub(crate) const WANTS_DURATION: &str = "expected a duration in quotes";
+/// The error of a value that is no text, where a timestamp is wanted.
+pub(crate) const WANTS_TIMESTAMP: &str = "expected a timestamp in quotes";
+
 /// Returns the message of an error.
 pub(crate) fn message_of<E: Display + Drop>(error: E) -> Message {
     Message::of(error)

@@ -7,7 +7,7 @@ ghost use Rattle.serde.specs.Steps.{Begins, Gives};
 ghost use Rattle.humantime.specs.Prelude.{IsPrinted, duration_answer, duration_text, places_of, weak_answer};
 ghost use Rattle.humantime_settings.specs.Texts.{IsText, IsTextOrNothing};
 
-use crate::faults::{Message, message_of};
+use crate::faults::{Message, WANTS_DURATION, WANTS_TIMESTAMP, message_of};
 use humantime::laws::printed_moment_reads;
 use humantime::{
     Duration, StdDuration, SystemTime, Timestamp, format_duration, format_rfc3339, parse_duration,
@@ -62,9 +62,9 @@ pub fn serialize<T: Field, S: Serializer>(value: &T, out: &mut S) -> Result<(), 
 ///
 /// # Errors
 ///
-/// Returns an error of the format if there is no text or if memory is refused, and one with the message of `humantime` if there is another
-/// text. The formats cut it at 80 bytes; [`from_json`](crate::from_json) and [`from_toml`](crate::from_toml) put the whole message in its
-/// place.
+/// Returns an error of the format with the message `expected a duration in quotes` or `expected a timestamp in quotes` if there is no text,
+/// one with the message of `humantime` if there is another text, and one of its own if memory is refused. The formats cut a message at 80
+/// bytes or less; [`from_json`](crate::from_json) and [`from_toml`](crate::from_toml) have the whole.
 ///
 /// # Examples
 ///
@@ -189,6 +189,9 @@ trait Text: Sized + Drop {
     fn write_text<S: Serializer>(&self, out: &mut S) -> Result<(), S::Error>
         ensures { OnOk result ((t : List ℕ) × IsPrintedAs self.now t × IsParsedFrom self.now t × Logs (S.written out.old) (S.written out.new) (text t)) };
 
+    /// Returns the error of a value that is no text.
+    fn wanted() -> &'static str;
+
     /// Parses a text, or returns the message of the error.
     fn parse_text(text: &str) -> Result<Self, Message>
         ensures value { IfOk result (λ v. IsParsedFrom v text.now) }
@@ -205,7 +208,10 @@ impl<T: Text> Field for T {
     }
 
     fn read<F: Format>(alloc: Global, from: &mut Deserializer<'_, '_, F>) -> Result<T, F::Error> {
-        let text = from.string(alloc)?;
+        let text = match from.string(alloc) {
+            Ok(text) => text,
+            Err(error) => return Err(no_text::<T, F>(from, error)),
+        };
         match T::parse_text(&text) {
             Ok(value) => Ok(value),
             Err(message) => Err(from.custom(message.as_str())),
@@ -229,13 +235,24 @@ impl<T: Text> Field for Option<T> {
         alloc: Global,
         from: &mut Deserializer<'_, '_, F>,
     ) -> Result<Option<T>, F::Error> {
-        let Some(text) = text_or_none(alloc, from)? else {
-            return Ok(None);
+        let text = match text_or_none(alloc, from) {
+            Ok(Some(text)) => text,
+            Ok(None) => return Ok(None),
+            Err(error) => return Err(no_text::<T, F>(from, error)),
         };
         match T::parse_text(&text) {
             Ok(value) => Ok(Some(value)),
             Err(message) => Err(from.custom(message.as_str())),
         }
+    }
+}
+
+/// Returns the error where no text was read.
+fn no_text<T: Text, F: Format>(from: &Deserializer<'_, '_, F>, error: F::Error) -> F::Error {
+    if from.is_fatal(&error) {
+        error
+    } else {
+        from.custom(T::wanted())
     }
 }
 
@@ -261,6 +278,10 @@ impl Text for StdDuration {
         out.str(format_duration(*self).text(&mut [0; 64]))
     }
 
+    fn wanted() -> &'static str {
+        WANTS_DURATION
+    }
+
     fn parse_text(text: &str) -> Result<StdDuration, Message> {
         parse_duration(text).map_err(|error| message_of(error))
     }
@@ -275,6 +296,10 @@ impl Text for Duration {
         self.as_ref().write_text(out)
     }
 
+    fn wanted() -> &'static str {
+        StdDuration::wanted()
+    }
+
     fn parse_text(text: &str) -> Result<Duration, Message> {
         Ok(Duration::new(StdDuration::parse_text(text)?))
     }
@@ -287,6 +312,10 @@ impl Text for time::Duration {
 
     fn write_text<S: Serializer>(&self, out: &mut S) -> Result<(), S::Error> {
         StdDuration::from_std(*self).write_text(out)
+    }
+
+    fn wanted() -> &'static str {
+        StdDuration::wanted()
     }
 
     fn parse_text(text: &str) -> Result<time::Duration, Message> {
@@ -308,6 +337,10 @@ impl Text for SystemTime {
         }
     }
 
+    fn wanted() -> &'static str {
+        WANTS_TIMESTAMP
+    }
+
     fn parse_text(text: &str) -> Result<SystemTime, Message> {
         parse_rfc3339_weak(text).map_err(|error| message_of(error))
     }
@@ -320,6 +353,10 @@ impl Text for Timestamp {
 
     fn write_text<S: Serializer>(&self, out: &mut S) -> Result<(), S::Error> {
         self.as_ref().write_text(out)
+    }
+
+    fn wanted() -> &'static str {
+        SystemTime::wanted()
     }
 
     fn parse_text(text: &str) -> Result<Timestamp, Message> {

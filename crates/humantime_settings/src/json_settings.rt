@@ -17,7 +17,8 @@ use std::alloc::{AllocError, Global};
 /// # Errors
 ///
 /// Returns [`SettingsError::At`] with the first fault, and [`SettingsError::OutOfMemory`] if memory is refused. A value that is not a
-/// duration is marked where `humantime` finds the fault, and another one at its start. So is a value with an escape.
+/// duration is marked where `humantime` finds the fault, and any other wrong value, and one with an escape, at its start. An unknown key is
+/// marked at its start, and a missing one where its object ends.
 ///
 /// # Examples
 ///
@@ -88,6 +89,11 @@ fn located(alloc: Global, text: &str, error: &serde_json::Error) -> Result<Fault
         Err(error) if error.is_memory() => return Err(AllocError),
         Err(_) => return Ok(Fault { message, at }),
     };
+    // `serde_json` leaves out which.
+    if matches!(message.as_str(), "unknown field" | "unknown variant") {
+        let message = format!(in alloc; "{message} `{value}`")?;
+        return Ok(Fault { message, at });
+    }
     match fault_in(alloc, &message, source, &value)? {
         Some(fault) => Ok(Fault {
             at: at.saturating_add(fault.at),

@@ -5,7 +5,7 @@ ghost use Rattle.toml.specs.Parse.{parse_document};
 ghost use Rattle.humantime_settings.specs.Marks.{IsErrorIn};
 
 use crate::error::{SettingsError, marked_at};
-use crate::faults::{Fault, Message, fault_in};
+use crate::faults::{Fault, Message, WANTS_DURATION, WANTS_TIMESTAMP, fault_in};
 use crate::toml_places::{Place, Places, after_value};
 use serde::{DeserializeOwned, Serialize};
 use std::alloc::{AllocError, Global};
@@ -16,13 +16,13 @@ use toml_parser::{ParseError, Scalar, quoted, starts_string, unquoted};
 ///
 /// # Errors
 ///
-/// Returns [`SettingsError::At`] where the document is not TOML, with a value of the wrong type or one that is not a duration or a timestamp,
-/// with an unknown key, and with the first table that lacks a key. A value that is not a duration is marked where `humantime` finds the fault,
-/// and another one at its start; so is one with an escape. A table is marked at its header or brace, and the one at the top at the start of
-/// the document. Of several wrong values, the one whose keys sort first has the error.
+/// Returns [`SettingsError::At`] where the document is not TOML, with a value of the wrong type or one that is not a duration or a
+/// timestamp, with an unknown key, and with the first table that lacks a key. A value that is not a duration is marked where `humantime`
+/// finds the fault, and any other wrong value, and one with an escape, at its start. A table is marked at its header or brace, and the one
+/// at the top at the start of the document. Of several wrong values, the one whose keys sort first has the error.
 ///
-/// Returns [`SettingsError::Whole`], with the keys in the message, for a fault in the key of a map, for one in a table that neither a header
-/// nor a brace begins, and for one below keys that have over 80 bytes together.
+/// Returns [`SettingsError::Whole`], with the keys in the message, for a fault in the key of a map, for one in a table that neither a
+/// header nor a brace begins, and for one below keys that have over 80 bytes together.
 ///
 /// Returns [`SettingsError::OutOfMemory`] if memory is refused.
 ///
@@ -167,7 +167,7 @@ fn unknown_key(alloc: Global, text: &str, keys: &str) -> Result<Option<usize>, P
     Ok(None)
 }
 
-/// Returns the offset of the first table that has no key of this name, which `keys` end with. The table at the top begins with the document.
+/// Returns the offset of the first table that has no key of this name, with which `keys` end. The table at the top begins with the text.
 fn table_without(
     alloc: Global,
     text: &str,
@@ -282,8 +282,11 @@ fn is_read<T: DeserializeOwned>(
     }
 }
 
-/// Returns `true` if a format can say this of the type of a value.
+/// Returns `true` if `toml` or a field can say this of the type of a value.
 fn is_wrong_type(alloc: Global, said: &str, place: Place<'_, '_>) -> Result<bool, ParseError> {
+    if said == WANTS_DURATION || said == WANTS_TIMESTAMP {
+        return Ok(!place.value.is_some_and(|value| starts_string(value)));
+    }
     let Some(value) = place.value else {
         let is_array = place.start.starts_with("[[");
         return Ok(

@@ -76,6 +76,18 @@ fn fault_of_keys(rt: HostRuntime) {
 }
 
 #[test]
+fn fault_of_a_type(rt: HostRuntime) {
+    let wanted = "line 1, column 16: expected a duration in quotes\nwaits = ['1s', 2]\n               ^";
+    assert_answer(&rt, |alloc| told(alloc, from_toml::<Lists>(alloc, "waits = ['1s', 2]\n[ends]\n")), wanted);
+}
+
+#[test]
+fn missing_key(rt: HostRuntime) {
+    let wanted = "line 1, column 1: missing field `ends`\nwaits = []\n^";
+    assert_answer(&rt, |alloc| told(alloc, from_toml::<Lists>(alloc, "waits = []\n")), wanted);
+}
+
+#[test]
 fn no_text(rt: HostRuntime) {
     let before = AsText(moment(&rt, -1, 0));
     assert_answer(&rt, |alloc| told(alloc, to_json(alloc, &before)), "time is not from 1970 to 9999");

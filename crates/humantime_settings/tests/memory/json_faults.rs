@@ -27,11 +27,11 @@ const CASES: &[(&str, &str)] = &[
     // What is no text, an escape, and an item of a list or a map.
     (
         "{\n  \"timeout\": 2,\n  \"job\": {\"name\": \"é \", \"every\": \"5us\", \"since\": \"2018-02-14T00:28:07Z\"}\n}",
-        "2:14 invalid type | 2,",
+        "2:14 expected a duration in quotes | 2,",
     ),
     (
         "{\n  \"timeout\":\n  [\"2h\"],\n  \"job\": {\"name\": \"é \", \"every\": \"5us\", \"since\": \"2018-02-14T00:28:07Z\"}\n}",
-        r#"3:3 invalid type | ["2h"],"#,
+        r#"3:3 expected a duration in quotes | ["2h"],"#,
     ),
     (
         "{\n  \"timeout\": \"2h\",\n  \"job\": {\"name\": \"é \", \"every\": \"5us\", \"since\": \"2018-02-14T00:28:07Z\", \"keep\": \"\\u0031h\\t2 \\\"\"}\n}",
@@ -43,9 +43,14 @@ const CASES: &[(&str, &str)] = &[
     (r#"{"timeout":"1h 1.5ns"}"#, r#"1:13 number is too large or cannot be represented without a lack of precision (values below 1ns are not supported) | 1h 1.5ns"}"#),
     ("{\r\n\r\n\r\n\r\n\"pauses\":[\"1s\",\"1h x\"]}", r#"5:20 expected number at 3 | x"]}"#),
     (r#"{"timeout":"1s \\"}"#, r#"1:12 expected number at 3 | "1s \\"}"#),
+    // No value, and a date without quotes, which is no JSON.
+    (r#"{"timeout":null}"#, "1:12 expected a duration in quotes | null}"),
+    (r#"{"timeout":"2h","days":{"a":null}}"#, "1:29 expected a timestamp in quotes | null}}"),
+    (r#"{"timeout":"2h","zone":90}"#, "1:24 expected a timestamp in quotes | 90}"),
     // What is missing, unknown or cut.
+    ("{\"timeout\":\"2h\",\n\"job\":{ \"nm\\u0061e\\n\":1}}", "2:9 unknown field `nmae\n` | \"nm\\u0061e\\n\":1}}"),
     ("{\n  \"timeout\": \"2h\",\n  \"job\": {\"name\": \"é\", \"every\": \"5us\"}\n}", "3:38 missing field `since` | }"),
-    ("{\"timeout\":\"2h\",\n\"job\":{\"nmae\":\"é\"}}", r#"2:8 unknown field | "nmae":"é"}}"#),
+    ("{\"timeout\":\"2h\",\n\"job\":{\"nmae\":\"é\"}}", r#"2:8 unknown field `nmae` | "nmae":"é"}}"#),
     (r#"{"timeout":"2h""#, r#"1:15 EOF while parsing | ""#),
 ];
 

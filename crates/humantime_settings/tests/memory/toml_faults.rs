@@ -28,12 +28,14 @@ const CASES: &[(&str, &str, &str)] = &[
     ("timeout = '1s'\npauses = [ '1s', # '1 é'\n '2s' , '1 é' ]\n", "", "3:12 invalid character at 2 | é' ]"),
     ("timeout = \"\"\"\n1s\n2s x\"\"\"\n", "", "3:4 expected number at 6 | x\"\"\""),
     // What is no text.
-    ("timeout = 30\n", "", "1:11 invalid type: integer `30`, expected a string | 30"),
-    ("timeout = [ '2h' ]\n", "", "1:11 invalid type: sequence, expected a string | [ '2h' ]"),
-    ("timeout = '2h'\npauses = [ '1s', 2, '3s' ]\n", "", "2:18 invalid type: integer `2`, expected a string | 2, '3s' ]"),
-    ("timeout = '2h'\nzone = 2018-02-14 00:28:07Z # UTC\n", "", "2:8 invalid type: map, expected a string | 2018-02-14 00:28:07Z # UTC"),
-    ("timeout = { a = '2h' }\n", "", "1:11 invalid type: map, expected a string | { a = '2h' }"),
+    ("timeout = 30\n", "", "1:11 expected a duration in quotes | 30"),
+    ("timeout = [ '2h' ]\n", "", "1:11 expected a duration in quotes | [ '2h' ]"),
+    ("timeout = '2h'\npauses = [ '1s', 2, '3s' ]\n", "", "2:18 expected a duration in quotes | 2, '3s' ]"),
+    ("timeout = '2h'\nzone = 2018-02-14 00:28:07Z # UTC\n", "", "2:8 expected a timestamp in quotes | 2018-02-14 00:28:07Z # UTC"),
+    ("timeout = { a = '2h' }\n", "", "1:11 expected a duration in quotes | { a = '2h' }"),
     ("timeout = '2h'\npauses = '1s'\n", "", "2:10 invalid type: string \"1s\", expected a sequence | '1s'"),
+    ("timeout = '2h'\npauses = [ '1s', [ '2s' ], [ '3s' ] ]\n", "", "2:18 expected a duration in quotes | [ '2s' ], [ '3s' ] ]"),
+    ("timeout = '2h'\n", "[[pauses]]\na = '1s'\n", "6:1 expected a duration in quotes | [[pauses]]"),
     // A number that is too large, which is marked at the start of its text.
     ("timeout = '1.5ns'\n", "", "1:12 number is too large or cannot be represented without a lack of precision (values below 1ns are not supported) | 1.5ns'"),
     // Keys behind an array, an inline table, both in one another, and values that are no texts, with comments and in lines that end in CR LF.

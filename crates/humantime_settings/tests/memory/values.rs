@@ -143,17 +143,17 @@ fn values_that_are_not_texts_are_rejected(rt: HostRuntime) -> Result<(), Fail> {
         (r#"{"wait":""}"#, "value was empty at line 1 column 9"),
         (r#"{"wait":"1s","until":"2018-02-30T00:28:07Z"}"#, "numeric component is out of r... at line 1 column 22"),
         (r#"{"wait":"1s","until":"1s"}"#, "timestamp format is invalid at line 1 column 22"),
-        (r#"{"wait":"1s","until":90}"#, "invalid type at line 1 column 22"),
+        (r#"{"wait":"1s","until":90}"#, "expected a timestamp in quotes at line 1 column 22"),
     ] {
         let error = serde_json::from_str::<Optional>(rt.alloc(), text).err().expect(&rt, "read");
         assert_eq!(rt; error.to_string(rt.alloc())?.as_str(), *message);
     }
     let error = serde_json::from_str::<Values>(rt.alloc(), r#"{"wait":null}"#).err().expect(&rt, "read");
-    assert_eq!(rt; error.to_string(rt.alloc())?.as_str(), "invalid type at line 1 column 9");
+    assert_eq!(rt; error.to_string(rt.alloc())?.as_str(), "expected a duration in quotes at line 1 column 9");
     for (text, message) in &[
         ("wait = '2 moons'", "unknown time unit \"moons\", supported units: ns, us/µs, ms, sec, min, hours, ...\nin `wait`\n"),
         ("wait = '1s'\nuntil = '1969-12-31T23:59:59Z'", "numeric component is out of range\nin `until`\n"),
-        ("wait = '1s'\nuntil = 1970-01-01T00:00:00Z", "invalid type: map, expected a string\nin `until`\n"),
+        ("wait = '1s'\nuntil = 1970-01-01T00:00:00Z", "expected a timestamp in quotes\nin `until`\n"),
     ] {
         let error = toml::from_str::<Optional>(rt.alloc(), text).err().expect(&rt, "read");
         assert_eq!(rt; error.to_string(rt.alloc())?.as_str(), *message);
