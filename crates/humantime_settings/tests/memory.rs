@@ -1,5 +1,6 @@
 //! Tests that need memory.
 
+mod drawn;
 mod json_faults;
 mod toml_faults;
 pub mod values;
