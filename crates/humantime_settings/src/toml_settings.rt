@@ -267,7 +267,7 @@ fn is_read<T: DeserializeOwned>(
     said: &str,
     value: &str,
 ) -> Result<bool, ParseError> {
-    let before = text.strip_suffix(value).unwrap_or("");
+    let before = text.get(..offset_of(text, value)).unwrap_or("");
     let after = after_value(alloc, value)?;
     let other = if said.starts_with("invalid") {
         "nan"
@@ -326,6 +326,6 @@ fn wrong_text(alloc: Global, said: &str, value: &str) -> Result<Option<Fault>, P
         return Ok(None);
     }
     let (text, after) = quoted(alloc, value)?;
-    let source = value.strip_suffix(after).unwrap_or(value);
+    let source = value.get(..offset_of(value, after)).unwrap_or(value);
     Ok(fault_in(alloc, said, source, &text)?)
 }
