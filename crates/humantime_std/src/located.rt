@@ -116,7 +116,7 @@ impl<E: Display> Display for Located<E> {
 /// let mark = Underline { before: "5中 ", part: "\u{3000}e\u{301}" };
 /// assert_eq!(rt; mark.to_string(rt.alloc())?.as_str(), "    ^^^");
 /// ```
-#[derive(Clone, Copy, PartialEq, Eq, Debug)]
+#[derive(Clone, Copy, Debug)]
 pub struct Underline<'a> {
     /// The line up to the part. Its tabs are printed, so that the mark stands under the part.
     pub before: &'a str,
