@@ -99,6 +99,20 @@ fn keys_of_up_to_80_bytes_are_found(rt: HostRuntime) -> Result<(), Fail> {
 }
 
 #[test]
+fn arrays_in_one_another_are_told_apart(rt: HostRuntime) -> Result<(), Fail> {
+    let alloc = rt.alloc();
+    // The list is right, and its item is not, however many are in it. At 80 the document is rejected.
+    for (count, column, message) in &[(2, 11, "expected a duration in quotes"), (79, 11, "expected a duration in quotes"), (81, 90, "cannot recurse further; max recursion depth met")] {
+        let (open, close) = ("[".repeat(alloc, *count)?, "]".repeat(alloc, *count)?);
+        let text = format!(in alloc; "timeout = '1s'\npauses = {open}{close}\n{JOB}")?;
+        let told = shown(alloc, from_toml(alloc, &text))?;
+        assert!(rt; told.starts_with(format!(in alloc; "2:{column} {message} | ")?.as_str()), "{told}");
+    }
+    assert_eq!(rt; shown(alloc, from_toml(alloc, ""))?.as_str(), "1:1 missing field `timeout` | ");
+    Ok(())
+}
+
+#[test]
 fn a_fault_behind_many_values_is_found(rt: HostRuntime) -> Result<(), Fail> {
     let alloc = rt.alloc();
     let others = "'1s', ".repeat(alloc, 5_000)?;
