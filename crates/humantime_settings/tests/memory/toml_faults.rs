@@ -64,6 +64,8 @@ const CASES: &[(&str, &str, &str)] = &[
         "[[more]]\nname = 'a'\nevery = '5 é'\nsince = '2018-02-14 00:28:07'\n",
         "9:12 invalid character at 2 | é'",
     ),
+    // Keys whose texts are the same without the dot.
+    ("time.out = '1~'\ntimeout = '1~'\n", "", "2:13 invalid character at 1 | ~'"),
     // A value with an escape is marked at its start.
     ("timeout = \"\\u0031d\\t2 ~\"\n", "", "1:11 invalid character at 5 | \"\\u0031d\\t2 ~\""),
     // What is unknown is marked at its key, and what is missing where its table begins: the first one that has no such key.
