@@ -1,18 +1,19 @@
-"""What the scripts share: files, edits, copies of the repository, commands, `--help`, and the last line of a script."""
+"""What the scripts share: files, edits, copies of the repository, commands, what passed before, `--help`, and a script's last line."""
 import os
 import re
 import shutil
 import subprocess
 import sys
 import tempfile
+from hashlib import sha256
 from pathlib import Path
-from typing import NamedTuple
 
 ROOT = Path(__file__).resolve().parent.parent
 CRATES = ROOT / "crates"
-EDITS = ("must-fail", "equivalent", "planted", "compile_fail")
 # What each crate stands on.
 STANDS_ON = {name: others.split() for name, others in re.findall(r"^(\w+):(.*)", (ROOT / "crates.txt").read_text(encoding="utf-8"), re.M)}
+# What passed on this machine, by the checksum of all that it read.
+PASSED = Path(os.environ.get("XDG_CACHE_HOME") or Path.home() / ".cache", "humantime")
 
 if {"--help", "-h"} & set(sys.argv[1:]):
     print(sys.modules["__main__"].__doc__)
@@ -31,34 +32,21 @@ def write(text, *path):
     path.write_text(text, encoding="utf-8")
 
 
-class Edit(NamedTuple):
-    """An edit: its crate, its name without the extension, and its text, which has the form of those in must-fail/: lines `file: PATH`, and
-    pairs of lines `old: TEXT` and `new: TEXT`. Each old text occurs exactly once in its file, as the pairs before have changed it."""
-
-    crate: str
-    name: str
-    text: str
-
-    def texts(self):
-        """Returns the files after the edit by their paths in the crate."""
-        texts, path, old = {}, None, None
-        for word, said in re.findall(r"^(file|old|new):(?: (.*))?$", self.text, re.M):
-            if word == "file":
-                path = said
-            elif word == "old":
-                old = said
-            else:
-                text = texts[path] if path in texts else read("crates", self.crate, path)
-                if text.count(old) != 1:
-                    sys.exit(f"{self.name} of {self.crate}: {path} has {text.count(old)} times: {old}")
-                texts[path] = text.replace(old, said)
-        return texts or sys.exit(f"{self.name} of {self.crate} changes nothing")
-
-
-def edits(folder):
-    """Returns the edits in this folder of all crates."""
-    paths = sorted(ROOT.glob(f"crates/*/{folder}/*.edit"))
-    return [Edit(path.parts[-3], path.stem, path.read_text(encoding="utf-8")) for path in paths]
+def edited(crate, edit):
+    """Returns the files that an edit of a crate changes, by their paths in the crate. The edit has the form of those in must-fail/: lines
+    `file: PATH`, and pairs of lines `old: TEXT` and `new: TEXT`. Each old text occurs once in its file, as the pairs before changed it."""
+    texts, path, old = {}, None, None
+    for word, said in re.findall(r"^(file|old|new):(?: (.*))?$", edit, re.M):
+        if word == "file":
+            path = said
+        elif word == "old":
+            old = said
+        else:
+            text = texts[path] if path in texts else read("crates", crate, path)
+            if text.count(old) != 1:
+                sys.exit(f"{crate}/{path} has {text.count(old)} times: {old}")
+            texts[path] = text.replace(old, said)
+    return texts or sys.exit(f"this edit of {crate} changes nothing: {edit}")
 
 
 def room(script):
@@ -74,7 +62,7 @@ def below(*crates):
     return found
 
 
-def copied(to, crates=tuple(STANDS_ON), without=(*EDITS, "out", "tests")):
+def copied(to, crates=tuple(STANDS_ON), without=("must-fail", "out", "tests")):
     """Copies the parts of the repository that `rt` reads, with these crates and those that they stand on, but without the files and folders
     of the names in `without`. Returns the new folder."""
     to = Path(to)
@@ -84,6 +72,19 @@ def copied(to, crates=tuple(STANDS_ON), without=(*EDITS, "out", "tests")):
     for name in below(*crates):
         shutil.copytree(CRATES / name, to / "crates" / name, ignore=shutil.ignore_patterns(*without))
     return to
+
+
+def once(crates, attempt, *given):
+    """Returns the failures of an attempt that reads these crates, those below them and what is given. It is not made again if it passed on
+    this machine with the same of all these, the scripts and the kit. `--anew` makes it."""
+    paths = [path for name in below(*crates) for path in (CRATES / name).rglob("*") if path.is_file() and "out" not in path.parts]
+    sums = [(str(path.relative_to(ROOT)), sha256(path.read_bytes()).hexdigest()) for path in sorted([*paths, *ROOT.glob("scripts/*")])]
+    read_too = run("rt", "version").stdout, attempt.__name__, given, [STANDS_ON[name] for name in sorted(below(*crates))]
+    mark = PASSED / sha256(repr((read_too, sums)).encode()).hexdigest()
+    failed = [] if mark.exists() and "--anew" not in sys.argv else attempt(*given)
+    if not failed:
+        write("", mark)
+    return failed
 
 
 def tests_of(crate, folder, module, old="crate::"):
