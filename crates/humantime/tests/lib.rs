@@ -1,7 +1,62 @@
-//! Tests that no row can express. They are run and not proved.
+//! No call allocates: the rows hold, and the program answers, where memory is refused. These tests are run and not proved.
 #![tactic(auto)]
 
-mod durations;
-mod formats;
-mod memory;
 pub(crate) mod support;
+
+use crate::support::{assert_nothing_allocated, is_written, refuse_memory};
+use humantime::{canonical, parse_duration};
+use humantime_cli::run;
+use humantime_tests_rows::{Row, TABLE, unescape};
+use std::io::Cursor;
+use std::process::Abort;
+use std::str;
+
+/// Asserts that `holds` returns `true` for each row that begins so, and allocates nothing.
+fn assert_rows(rt: &(impl Abort + AllocGlobal), begin: &str, holds: fn(&str) -> bool) {
+    let mut room = String::with_capacity(rt.alloc(), TABLE.len()).expect(rt, "no memory");
+    let mut asked = 0_u32;
+    refuse_memory(rt, 1);
+    for line in TABLE.lines() {
+        room.clear();
+        unescape(line, &mut room).expect(rt, "the room is too small");
+        if room.as_str().starts_with(begin) {
+            assert!(rt; holds(room.as_str()), "{line}");
+            asked += 1;
+        }
+    }
+    assert!(rt; asked > 400, "there are {asked} rows");
+    assert_nothing_allocated(rt);
+}
+
+#[test]
+fn rows_hold_where_memory_is_refused(rt: HostRuntime) {
+    assert_rows(&rt, "", |row| Row::new(row).holds());
+}
+
+/// Returns the line that was written, without its end, or `None` if it has none.
+fn line_of(written: &Cursor<[u8; 512]>) -> Option<&str> {
+    let end = written.position() as usize;
+    let bytes = written.get_ref().as_slice().get(..end)?;
+    str::from_utf8(bytes).ok()?.strip_suffix('\n')
+}
+
+/// Returns whether the program prints the canonical text of a row's text, or the message of its error, into arrays.
+fn is_answered(row: &str) -> bool {
+    let (head, _) = row.rsplit_once("\" = ").unwrap_or_default();
+    let text = head.strip_prefix("duration \"").unwrap_or_default();
+    let (mut out, mut err) = (Cursor::new([0; 512]), Cursor::new([0; 512]));
+    let status = run(&["duration", text], &mut out, &mut err);
+    match (canonical(text, &mut [0; 64]), parse_duration(text)) {
+        (Ok(printed), Ok(_)) => status == 0 && line_of(&out) == Some(printed) && err.position() == 0,
+        (Err(error), Err(_)) => {
+            let message = line_of(&err).unwrap_or_default();
+            status == 1 && out.position() == 0 && is_written(error, message)
+        }
+        _ => false,
+    }
+}
+
+#[test]
+fn the_program_answers_where_memory_is_refused(rt: HostRuntime) {
+    assert_rows(&rt, "duration \"", is_answered);
+}
