@@ -9,8 +9,7 @@ use humantime::{Duration, Timestamp, parse_rfc3339, parse_rfc3339_weak};
 use std::fmt::Display;
 use std::io::Write;
 
-#[cfg(test)]
-mod tests;
+mod callers;
 
 /// The exit status if the text was parsed.
 const ACCEPTED: u8 = 0;

@@ -1,5 +1,5 @@
-use Rattle.humantime_cli.proofs.command.tests.WorkedRuns.{printed_whole, printed_cut}
-use Rattle.humantime_cli.proofs.command.tests.print_duration.Goals as goal
+use Rattle.humantime_cli.proofs.command.callers.WorkedRuns.{printed_whole, printed_cut}
+use Rattle.humantime_cli.proofs.command.callers.print_duration.Goals as goal
 
 pub returns-clause-whole : goal.returns-clause-whole
 returns-clause-whole c = printed_whole _ _ _ _ _ c.run.ensures.one c.run.ensures.ends

@@ -59,20 +59,6 @@ strict_read =
     let t : ℤ = pos (1_518_568_087 * nanos_per_second) in
     (codes "strict", Strict, codes "2018-02-14T00:28:07Z", refl, moment_printed (IsStrictMoment (codes "2018-02-14T00:28:07Z")) (λ e. first_failed (strict_checks (codes "2018-02-14T00:28:07Z")) ≡ Some e) t _ (((one_stamp_outcome (codes "2018-02-14T00:28:07Z")).1.value t).0 refl) refl)
 
-strict_refused : Answers (codes "strict" ∷ codes "2018-02-14 00:28:07" ∷ []) (Some (Err (codes "timestamp format is invalid")))
-unfolding timestamps_on_literals
-strict_refused = (codes "strict", Strict, codes "2018-02-14 00:28:07", refl, (InvalidFormat, ((one_stamp_outcome (codes "2018-02-14 00:28:07")).1.error InvalidFormat).0 refl, refl))
-
-weak_read : Answers (codes "weak" ∷ codes "2018-02-14 00:28:07.5" ∷ []) (Some (Ok (codes "2018-02-14T00:28:07.500000000Z")))
-unfolding timestamps_on_literals
-weak_read =
-    let t : ℤ = pos (1_518_568_087 * nanos_per_second + 500_000_000) in
-    (codes "weak", Weak, codes "2018-02-14 00:28:07.5", refl, moment_printed (IsWeakMoment (codes "2018-02-14 00:28:07.5")) (λ e. first_failed (weak_checks (codes "2018-02-14 00:28:07.5")) ≡ Some e) t _ (((one_stamp_outcome (codes "2018-02-14 00:28:07.5")).0.value t).0 refl) refl)
-
-weak_refused : Answers (codes "weak" ∷ codes "1970-02-30 00:00:00" ∷ []) (Some (Err (codes "numeric component is out of range")))
-unfolding timestamps_on_literals
-weak_refused = (codes "weak", Weak, codes "1970-02-30 00:00:00", refl, (OutOfRange, ((one_stamp_outcome (codes "1970-02-30 00:00:00")).0.error OutOfRange).0 refl, refl))
-
 -- What a caller with these arguments can conclude.
 abbrev Ran : List (List ℕ) → (ℕ → List ℕ → List ℕ → List ℕ → List ℕ → Type 0) → Type 0
 Ran words Told = (s : ℕ) (o n e m : List ℕ) → OneAnswer words → Ends words s (streams (Some o) (Some e)) (streams (Some n) (Some m)) → Told s o n e m
@@ -92,19 +78,3 @@ fault_printed _ _ _ _ _ one ends = explained (ends_with _ (Some (Err (codes "inv
 -- A timestamp in the strict form was printed.
 pub strict_printed : Ran (codes "strict" ∷ codes "2018-02-14T00:28:07Z" ∷ []) (Printed (codes "2018-02-14T00:28:07Z\n"))
 strict_printed _ _ _ _ _ one ends = printed (ends_with _ (Some (Ok (codes "2018-02-14T00:28:07Z"))) strict_read one ends)
-
--- The error of a timestamp that is not in the strict form was printed.
-pub strict_explained : Ran (codes "strict" ∷ codes "2018-02-14 00:28:07" ∷ []) (Explained 1 (codes "timestamp format is invalid\n"))
-strict_explained _ _ _ _ _ one ends = explained (ends_with _ (Some (Err (codes "timestamp format is invalid"))) strict_refused one ends) refl
-
--- A timestamp in the weak form was printed.
-pub weak_printed : Ran (codes "weak" ∷ codes "2018-02-14 00:28:07.5" ∷ []) (Printed (codes "2018-02-14T00:28:07.500000000Z\n"))
-weak_printed _ _ _ _ _ one ends = printed (ends_with _ (Some (Ok (codes "2018-02-14T00:28:07.500000000Z"))) weak_read one ends)
-
--- The error of a date that does not exist was printed.
-pub weak_explained : Ran (codes "weak" ∷ codes "1970-02-30 00:00:00" ∷ []) (Explained 1 (codes "numeric component is out of range\n"))
-weak_explained _ _ _ _ _ one ends = explained (ends_with _ (Some (Err (codes "numeric component is out of range"))) weak_refused one ends) refl
-
--- The usage line was printed.
-pub usage_told : Ran (codes "--help" ∷ []) (Explained 2 (codes "usage: humantime duration|strict|weak TEXT\n"))
-usage_told _ _ _ _ _ one ends = explained (ends_with _ None (not_two _ (omega arith)) one ends) refl

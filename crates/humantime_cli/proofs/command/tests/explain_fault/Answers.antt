@@ -1,5 +1,0 @@
-use Rattle.humantime_cli.proofs.command.tests.WorkedRuns.{fault_printed}
-use Rattle.humantime_cli.proofs.command.tests.explain_fault.Goals as goal
-
-pub returns : goal.returns
-returns c = fault_printed _ _ _ _ _ c.run.ensures.one c.run.ensures.ends
