@@ -40,7 +40,7 @@ struct Backup {
 }
 
 /// Returns the canonical form of settings.
-fn canonical(alloc: Global, text: &str) -> Result<String, SettingsError<'_>> {
+fn canonical(alloc: Global, text: &str) -> Result<String, SettingsError> {
     let settings: Settings = from_toml(alloc, text)?;
     to_toml(alloc, &settings)
 }

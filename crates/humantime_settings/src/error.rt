@@ -1,14 +1,16 @@
 //! The error of settings, and the place of a fault in a text.
 
-ghost use Rattle.std.specs.Prelude.{◌≡◌, ◌+◌, chars, count_by, length};
+ghost use Rattle.std.specs.Prelude.{◌≡◌, ◌+◌, IfOk, chars, count_by, length, string_bytes};
 ghost use Rattle.std.specs.List.{after_last, before_first};
 ghost use Rattle.std.specs.Str.{IsCharBoundary};
-ghost use Rattle.humantime_settings.specs.Marks.{IsMarkedIn, is_line_feed};
+ghost use Rattle.humantime_settings.specs.Marks.{IsMarkedIn, column_of, is_line_feed, line_of, message_of};
 ghost use Rattle.humantime_settings.specs.declared.error.SettingsError.TheVariants.{OutOfMemory};
 
-use std::alloc::AllocError;
+use crate::faults::Fault;
+use humantime_std::located::Underline;
+use std::alloc::{AllocError, Global};
 use std::error::Error;
-use std::fmt;
+use std::fmt::{self, InlineText};
 
 /// Why settings were not read or written.
 ///
@@ -30,16 +32,84 @@ use std::fmt;
 /// }
 /// ```
 #[derive(Debug, Drop, PartialEq, Eq)]
-pub enum SettingsError<'a> {
+pub enum SettingsError {
     /// Memory was refused.
     OutOfMemory,
     /// A fault at a place in the text.
-    At(Marked<'a>),
+    At(Marked),
     /// What is wrong at no place that is known, such as with the key of a map in TOML, or with a value that has no text.
     Whole(String),
 }
 
-/// A fault at a place in a text.
+impl SettingsError {
+    /// Returns the line number of the fault, from 1, or `None` if it has no place.
+    ///
+    /// # Examples
+    ///
+    /// ```
+    /// use humantime::StdDuration;
+    /// use humantime_settings::{AsText, SettingsError, from_json};
+    ///
+    /// let read = from_json::<AsText<StdDuration>>(rt.alloc(), "\n\"5 moons\"");
+    /// assert_eq!(rt; read.err().ok_or("read")?.line(), Some(2));
+    /// assert_eq!(rt; SettingsError::OutOfMemory.line(), None);
+    /// ```
+    pub fn line(&self) -> Option<usize>
+        ensures { result ≡ line_of self.now }
+    {
+        match self {
+            SettingsError::At(fault) => Some(fault.line),
+            _ => None,
+        }
+    }
+
+    /// Returns the column of the fault, in characters from 1, or `None` if it has no place.
+    ///
+    /// # Examples
+    ///
+    /// ```
+    /// use humantime::StdDuration;
+    /// use humantime_settings::{AsText, SettingsError, from_json};
+    ///
+    /// let read = from_json::<AsText<StdDuration>>(rt.alloc(), "\n\"5µs x\"");
+    /// assert_eq!(rt; read.err().ok_or("read")?.column(), Some(6));
+    /// assert_eq!(rt; SettingsError::OutOfMemory.column(), None);
+    /// ```
+    pub fn column(&self) -> Option<usize>
+        ensures { result ≡ column_of self.now }
+    {
+        match self {
+            SettingsError::At(fault) => Some(fault.column()),
+            _ => None,
+        }
+    }
+
+    /// Returns what is wrong, without the place.
+    ///
+    /// # Examples
+    ///
+    /// ```
+    /// use humantime::StdDuration;
+    /// use humantime_settings::{AsText, SettingsError, from_json};
+    ///
+    /// let read = from_json::<AsText<StdDuration>>(rt.alloc(), "\n\"5µs x\"");
+    /// assert_eq!(rt; read.err().ok_or("read")?.message(), "expected number at 5");
+    /// assert_eq!(rt; SettingsError::OutOfMemory.message(), "out of memory");
+    /// ```
+    pub fn message(&self) -> &str
+        ensures { result.now ≡ message_of self.now }
+    {
+        match self {
+            SettingsError::OutOfMemory => "out of memory",
+            SettingsError::At(fault) => fault.message.as_str(),
+            SettingsError::Whole(message) => message.as_str(),
+        }
+    }
+}
+
+/// A fault at a place in a text, with the line that has it in three parts: `before`, `marked` and `after`.
+///
+/// A later version may add fields.
 ///
 /// # Examples
 ///
@@ -47,30 +117,34 @@ pub enum SettingsError<'a> {
 /// use humantime::StdDuration;
 /// use humantime_settings::{AsText, SettingsError, from_json};
 ///
-/// let text = "[\n  \"1s\", \"5µs x\"\n]";
+/// let text = "[\n  \"1s\", \"5µs 2parsecs\"\n]";
 /// let read = from_json::<Vec<AsText<StdDuration>>>(rt.alloc(), text);
 /// let Err(SettingsError::At(fault)) = read else {
 ///     panic!(rt; "{read:?}");
 /// };
-/// assert_eq!(rt; (fault.at, fault.line, fault.column()), (16, 2, 14));
-/// assert_eq!(rt; (fault.before, fault.after), ("  \"1s\", \"5µs ", "x\""));
-/// assert_eq!(rt; fault.message.as_str(), "expected number at 5");
+/// assert_eq!(rt; (fault.at, fault.line, fault.column()), (17, 2, 15));
+/// assert_eq!(rt; fault.before.as_str(), "  \"1s\", \"5µs 2");
+/// assert_eq!(rt; (fault.marked.as_str(), fault.after.as_str()), ("parsecs", "\""));
+/// assert!(rt; fault.message.starts_with("unknown time unit"));
 /// ```
 #[derive(Debug, Drop, PartialEq, Eq)]
-pub struct Marked<'a> {
+#[non_exhaustive]
+pub struct Marked {
     /// The byte offset in the text.
     pub at: usize,
     /// The line number, from 1.
     pub line: usize,
     /// The line up to the fault.
-    pub before: &'a str,
-    /// The line from the fault on.
-    pub after: &'a str,
+    pub before: String,
+    /// The part of the line that is wrong. It is empty if something is missing there, or if only the start of the fault is known.
+    pub marked: String,
+    /// The line after this part.
+    pub after: String,
     /// What is wrong.
     pub message: String,
 }
 
-impl Marked<'_> {
+impl Marked {
     /// Returns the column of the fault, in characters from 1.
     ///
     /// # Examples
@@ -83,13 +157,13 @@ impl Marked<'_> {
     /// assert!(rt; matches!(&read, Err(SettingsError::At(fault)) if fault.column() == 6));
     /// ```
     pub fn column(&self) -> usize
-        ensures { result ≡ length (chars self.now.before.now) + 1 }
+        ensures { result ≡ length (chars (string_bytes self.now.before)) + 1 }
     {
-        self.before.chars().count() + 1
+        self.before.as_str().chars().count() + 1
     }
 }
 
-impl From<AllocError> for SettingsError<'_> {
+impl From<AllocError> for SettingsError {
     ghost from_gives = { λ _ e. e ≡ OutOfMemory };
 
     fn from(_refused: AllocError) -> Self {
@@ -100,9 +174,13 @@ impl From<AllocError> for SettingsError<'_> {
 /// The greatest length of a line that is shown, in bytes.
 const LONG: usize = 500;
 
+/// The greatest length of such a line with its escapes: that of a byte has at most six.
+const LONG_ESCAPED: usize = 3000;
+
 /// Writes what is wrong. A fault at a place comes with its line and column in front of it and, unless the line has over 500 bytes, with
-/// the line and a mark under the fault behind it. A control character of the line or the message, but for a tab, is written as an escape
-/// such as `\u{1b}`, so that none of the text is a command to a terminal.
+/// the line and a mark under the fault behind it: `^` under each column of what is wrong, or one where only the place is known. A control
+/// character of the line or the message, but for a tab, is written as an escape such as `\u{1b}`, so that none of the text is a command to
+/// a terminal.
 ///
 /// # Examples
 ///
@@ -110,75 +188,77 @@ const LONG: usize = 500;
 /// use humantime::StdDuration;
 /// use humantime_settings::{AsText, from_json};
 ///
-/// let text = "[\n  \"1s\", \"5µs x\"\n]";
+/// let text = "[\n  \"1s\", \"5µs 7moons\"\n]";
 /// let error = from_json::<Vec<AsText<StdDuration>>>(rt.alloc(), text).err().ok_or("read")?;
-/// assert_eq!(rt; error.to_string(rt.alloc())?.as_str(), "line 2, column 14: expected number at 5\n  \"1s\", \"5µs x\"\n             ^");
+/// let shown = error.to_string(rt.alloc())?;
+/// assert!(rt; shown.starts_with("line 2, column 15: unknown time unit \"moons\""));
+/// assert!(rt; shown.ends_with("\n  \"1s\", \"5µs 7moons\"\n              ^^^^^"));
 /// ```
-impl fmt::Display for SettingsError<'_> {
+impl fmt::Display for SettingsError {
     fn fmt<W: fmt::Write>(&self, f: &mut fmt::Formatter<W>) -> fmt::Result {
-        let fault = match self {
-            SettingsError::OutOfMemory => return f.write_str("out of memory"),
-            SettingsError::Whole(message) => return write_escaped(f, message),
-            SettingsError::At(fault) => fault,
+        let message = Escaped(self.message());
+        let SettingsError::At(fault) = self else {
+            return write!(f, "{message}");
         };
-        let (line, before) = (fault.line, fault.before);
+        write!(
+            f,
+            "line {}, column {}: {message}",
+            fault.line,
+            fault.column()
+        )?;
+        let (before, marked) = (fault.before.as_str(), fault.marked.as_str());
         let after = fault.after.trim_end_matches('\r');
-        write!(f, "line {line}, column {}: ", fault.column())?;
-        write_escaped(f, &fault.message)?;
-        if before.len().saturating_add(after.len()) > LONG {
+        let len = before.len().saturating_add(marked.len());
+        if len.saturating_add(after.len()) > LONG {
             return Ok(());
         }
-        f.write_str("\n")?;
-        write_escaped(f, before)?;
-        write_escaped(f, after)?;
-        f.write_str("\n")?;
-        for c in before.chars() {
-            if is_escaped(c) {
-                for _ in c.escape_unicode() {
-                    f.write_str(" ")?;
-                }
+        let before = InlineText::<LONG_ESCAPED>::of(Escaped(before));
+        let marked = InlineText::<LONG_ESCAPED>::of(Escaped(marked));
+        let (before, part) = (before.as_str(), marked.as_str());
+        let mark = Underline { before, part };
+        write!(f, "\n{before}{part}{}\n{mark}", Escaped(after))
+    }
+}
+
+/// A text that is written with an escape in place of each character that is not to reach a terminal.
+#[derive(Clone, Copy)]
+struct Escaped<'a>(&'a str);
+
+impl fmt::Display for Escaped<'_> {
+    fn fmt<W: fmt::Write>(&self, f: &mut fmt::Formatter<W>) -> fmt::Result {
+        for c in self.0.chars() {
+            if c != '\t' && c.is_control() {
+                write!(f, "\\u{{{:x}}}", c as u32)?;
             } else {
-                f.write_str(if c == '\t' { "\t" } else { " " })?;
+                f.write_char(c)?;
             }
         }
-        f.write_str("^")
+        Ok(())
     }
 }
 
-/// Returns `true` for a control character that is not a tab.
-fn is_escaped(c: char) -> bool {
-    c != '\t' && c.is_control()
-}
+impl Error for SettingsError {}
 
-/// Writes a text with an escape in place of each character that is not to reach a terminal.
-fn write_escaped<W: fmt::Write>(f: &mut fmt::Formatter<W>, text: &str) -> fmt::Result {
-    for c in text.chars() {
-        if is_escaped(c) {
-            for part in c.escape_unicode() {
-                f.write_char(part)?;
-            }
-        } else {
-            f.write_char(c)?;
-        }
-    }
-    Ok(())
-}
-
-impl Error for SettingsError<'_> {}
-
-/// Returns the fault at an offset of a text with the line that has it, or at the end if no character begins there.
-pub(crate) fn marked_at(text: &str, at: usize, message: String) -> Marked<'_>
-    ensures { IsMarkedIn text.now result }
+/// Returns a fault with its line. It begins at the end of the text if no character begins at its start, and ends where the line ends.
+pub(crate) fn marked_at(alloc: Global, text: &str, fault: Fault) -> Result<Marked, AllocError>
+    ensures { IfOk result (IsMarkedIn text.now) }
 {
-    let at = boundary_in(text, at);
-    let (before, after) = text.split_at(at);
-    Marked {
+    let at = boundary_in(text, fault.start);
+    let (before, rest) = text.split_at(at);
+    let line = first_line(rest);
+    let len = fault
+        .end
+        .saturating_sub(at)
+        .min(line.trim_end_matches('\r').len());
+    let (marked, after) = line.split_at(line.floor_char_boundary(len));
+    Ok(Marked {
         at,
         line: line_number(before),
-        before: last_line(before),
-        after: first_line(after),
-        message,
-    }
+        before: String::from_str(alloc, last_line(before))?,
+        marked: String::from_str(alloc, marked)?,
+        after: String::from_str(alloc, after)?,
+        message: fault.message,
+    })
 }
 
 /// Returns an offset if a character begins or the text ends there, and otherwise the end.

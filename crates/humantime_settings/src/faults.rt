@@ -1,7 +1,6 @@
 //! What `humantime` says of a value that is not a duration or a timestamp.
 
-use humantime::{parse_duration, parse_rfc3339_weak};
-use humantime_std::offset;
+use humantime_std::located::{Located, parse_duration, parse_rfc3339_weak};
 use std::alloc::{AllocError, Global};
 use std::fmt::{Display, InlineText};
 
@@ -22,8 +21,31 @@ pub(crate) fn message_of<E: Display + Drop>(error: E) -> Message {
 #[derive(Drop)]
 pub(crate) struct Fault {
     pub message: String,
-    /// The byte offset.
-    pub at: usize,
+    /// The offset of the first byte that is wrong.
+    pub start: usize,
+    /// The offset after the last byte that is wrong. It is `start` if only this is known.
+    pub end: usize,
+}
+
+impl Fault {
+    /// Creates a fault of which only the start is known.
+    pub(crate) fn at(start: usize, message: String) -> Fault {
+        let end = start;
+        Fault {
+            message,
+            start,
+            end,
+        }
+    }
+
+    /// Returns the same fault of a text with this many more bytes before it.
+    pub(crate) fn after(self, offset: usize) -> Fault {
+        Fault {
+            message: self.message,
+            start: self.start.saturating_add(offset),
+            end: self.end.saturating_add(offset),
+        }
+    }
 }
 
 /// Returns the fault of a value in `source`, which is the value as the document has it.
@@ -35,22 +57,34 @@ pub(crate) fn fault_in(
     source: &str,
     value: &str,
 ) -> Result<Option<Fault>, AllocError> {
-    if let Err(error) = parse_duration(value) {
-        let message = error.to_string(alloc)?;
-        if is_cut_from(said, &message) {
-            let at = offset_in(source, value, offset(&error).unwrap_or(0));
-            return Ok(Some(Fault { message, at }));
-        }
+    let fault = said_fault(alloc, said, source, value, parse_duration(value).err())?;
+    if fault.is_some() {
+        return Ok(fault);
     }
-    if let Err(error) = parse_rfc3339_weak(value) {
-        let message = error.to_string(alloc)?;
-        if is_cut_from(said, &message) {
-            // A timestamp's error has no place, so it is marked at the first character.
-            let at = offset_in(source, value, 0);
-            return Ok(Some(Fault { message, at }));
-        }
+    said_fault(alloc, said, source, value, parse_rfc3339_weak(value).err())
+}
+
+/// Returns the fault of a value with this error, if a format says its message.
+fn said_fault<E: Display + Drop>(
+    alloc: Global,
+    said: &str,
+    source: &str,
+    value: &str,
+    error: Option<Located<E>>,
+) -> Result<Option<Fault>, AllocError> {
+    let Some(error) = error else {
+        return Ok(None);
+    };
+    let (start, end) = range_in(source, value, error.start, error.end);
+    let message = error.to_string(alloc)?;
+    if !is_cut_from(said, &message) {
+        return Ok(None);
     }
-    Ok(None)
+    Ok(Some(Fault {
+        message,
+        start,
+        end,
+    }))
 }
 
 /// Returns `true` if a format says this message, which it may have cut.
@@ -61,13 +95,13 @@ fn is_cut_from(said: &str, message: &str) -> bool {
     }
 }
 
-/// Returns the offset in `source` of the character at the offset `inner` of the value, or 0 if the value has an escape.
-fn offset_in(source: &str, value: &str, inner: usize) -> usize {
+/// Returns the range in `source` of a range of the value, or the start if the value has an escape.
+fn range_in(source: &str, value: &str, start: usize, end: usize) -> (usize, usize) {
     if source.contains('\\') {
-        return 0;
+        return (0, 0);
     }
     match source.find(value) {
-        Some(start) => start.saturating_add(inner),
-        None => 0,
+        Some(at) => (at.saturating_add(start), at.saturating_add(end)),
+        None => (0, 0),
     }
 }

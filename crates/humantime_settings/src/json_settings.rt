@@ -31,10 +31,7 @@ use std::alloc::{AllocError, Global};
 /// let error = from_json::<Vec<AsText<StdDuration>>>(rt.alloc(), r#"["1s", "1m 30"]"#).err().ok_or("read")?;
 /// assert_eq!(rt; error.to_string(rt.alloc())?.as_str(), "line 1, column 14: time unit needed, for example 30sec or 30ms\n[\"1s\", \"1m 30\"]\n             ^");
 /// ```
-pub fn from_json<'a, T: Deserialize<'a>>(
-    alloc: Global,
-    text: &'a str,
-) -> Result<T, SettingsError<'a>>
+pub fn from_json<'a, T: Deserialize<'a>>(alloc: Global, text: &'a str) -> Result<T, SettingsError>
     ensures mark { IfErr result (IsErrorIn text.now) }
     ensures place { (message : _) → result ≢ Err (SettingsError.Whole message) }
 {
@@ -46,7 +43,7 @@ pub fn from_json<'a, T: Deserialize<'a>>(
         return Err(SettingsError::OutOfMemory);
     }
     let fault = located(alloc, text, &error)?;
-    Err(SettingsError::At(marked_at(text, fault.at, fault.message)))
+    Err(SettingsError::At(marked_at(alloc, text, fault)?))
 }
 
 /// Writes settings in JSON, one to a line.
@@ -65,7 +62,7 @@ pub fn from_json<'a, T: Deserialize<'a>>(
 /// let waits = [AsText(StdDuration::from_secs(1)), AsText(StdDuration::from_secs(90))];
 /// assert_eq!(rt; to_json(rt.alloc(), &waits)?.as_str(), "[\n  \"1s\",\n  \"1m 30s\"\n]");
 /// ```
-pub fn to_json<T: Serialize>(alloc: Global, value: &T) -> Result<String, SettingsError<'static>>
+pub fn to_json<T: Serialize>(alloc: Global, value: &T) -> Result<String, SettingsError>
     ensures tokens { IfOk result (λ s. (log : Log) × T.writes value.now (Some []) log × AreTokensOf false log (tokens (string_bytes s))) }
     ensures layout { IfOk result (λ s. string_bytes s ≡ pretty (tokens (string_bytes s))) }
     ensures whole { (fault : _) → result ≢ Err (SettingsError.At fault) }
@@ -87,20 +84,17 @@ fn located(alloc: Global, text: &str, error: &serde_json::Error) -> Result<Fault
     let value = match serde_json::from_str::<String>(alloc, source) {
         Ok(value) => value,
         Err(error) if error.is_memory() => return Err(AllocError),
-        Err(_) => return Ok(Fault { message, at }),
+        Err(_) => return Ok(Fault::at(at, message)),
     };
     // `serde_json` leaves out which.
     if matches!(message.as_str(), "unknown field" | "unknown variant") {
         let message = format!(in alloc; "{message} `{value}`")?;
-        return Ok(Fault { message, at });
+        return Ok(Fault::at(at, message));
     }
-    match fault_in(alloc, &message, source, &value)? {
-        Some(fault) => Ok(Fault {
-            at: at.saturating_add(fault.at),
-            ..fault
-        }),
-        None => Ok(Fault { message, at }),
-    }
+    Ok(match fault_in(alloc, &message, source, &value)? {
+        Some(fault) => fault.after(at),
+        None => Fault::at(at, message),
+    })
 }
 
 /// Returns the document up to its second quote that no backslash escapes: the whole string, if it begins with one.

@@ -37,9 +37,9 @@
 //!     let alloc = rt.alloc();
 //!     let text = r#"{"timeout": "90s", "retries": ["500ms"], "backup": {"since": "2024-01-02"}}"#;
 //!     let error = from_json::<Settings>(alloc, text).err().ok_or("read")?;
-//!     assert_eq!(rt; error.to_string(alloc)?.as_str(), r#"line 1, column 63: timestamp format is invalid
+//!     assert_eq!(rt; error.to_string(alloc)?.as_str(), r#"line 1, column 73: timestamp format is invalid
 //! {"timeout": "90s", "retries": ["500ms"], "backup": {"since": "2024-01-02"}}
-//!                                                               ^"#);
+//!                                                                         ^"#);
 //!
 //!     let text = r#"{"timeout": "90s", "retries": ["500ms"], "backup": {"since": "2024-01-02 03:04:05"}}"#;
 //!     let settings: Settings = from_json(alloc, text)?;

@@ -40,7 +40,7 @@ use toml_parser::{ParseError, Scalar, quoted, starts_string, unquoted};
 /// let error = from_toml::<Waits>(rt.alloc(), "first = '1s'\nsecond = '1m 30'\n").err().ok_or("read")?;
 /// assert_eq!(rt; error.to_string(rt.alloc())?.as_str(), "line 2, column 16: time unit needed, for example 30sec or 30ms\nsecond = '1m 30'\n               ^");
 /// ```
-pub fn from_toml<T: DeserializeOwned>(alloc: Global, text: &str) -> Result<T, SettingsError<'_>>
+pub fn from_toml<T: DeserializeOwned>(alloc: Global, text: &str) -> Result<T, SettingsError>
     ensures document { OnOk result (IsSome (parse_document text.now)) }
     ensures mark { IfErr result (IsErrorIn text.now) }
 {
@@ -68,7 +68,7 @@ pub fn from_toml<T: DeserializeOwned>(alloc: Global, text: &str) -> Result<T, Se
 /// waits.insert("first", AsText(StdDuration::from_secs(90)))?;
 /// assert_eq!(rt; to_toml(rt.alloc(), &waits)?.as_str(), "first = \"1m 30s\"\n");
 /// ```
-pub fn to_toml<T: Serialize>(alloc: Global, value: &T) -> Result<String, SettingsError<'static>>
+pub fn to_toml<T: Serialize>(alloc: Global, value: &T) -> Result<String, SettingsError>
     ensures { (fault : _) → result ≢ Err (SettingsError.At fault) }
 {
     match toml::to_string(alloc, value) {
@@ -79,11 +79,11 @@ pub fn to_toml<T: Serialize>(alloc: Global, value: &T) -> Result<String, Setting
 }
 
 /// Returns the error of a document, with the place of its fault if that is found.
-fn located<'a, T: DeserializeOwned>(
+fn located<T: DeserializeOwned>(
     alloc: Global,
-    text: &'a str,
+    text: &str,
     error: &toml::de::Error,
-) -> Result<SettingsError<'a>, AllocError>
+) -> Result<SettingsError, AllocError>
     ensures { IfOk result (IsErrorIn text.now) }
 {
     let Some(span) = error.span() else {
@@ -93,13 +93,13 @@ fn located<'a, T: DeserializeOwned>(
     // The fault of a value has no span: `whole` ends with a line "in `KEY.KEY`", which `toml` cuts at 80 bytes, unless there are no keys.
     let keys = whole.rsplit_once("\nin `").map(|(_, keys)| keys);
     if keys.is_none() && whole.starts_with("TOML parse error") {
-        let said = String::from_str(alloc, said)?;
-        return Ok(SettingsError::At(marked_at(text, span.start, said)));
+        let fault = Fault::at(span.start, String::from_str(alloc, said)?);
+        return Ok(SettingsError::At(marked_at(alloc, text, fault)?));
     }
     let keys = keys.unwrap_or("");
     let keys = keys.strip_suffix("`\n").unwrap_or(keys);
     match search::<T>(alloc, text, said, keys) {
-        Ok(Some(fault)) => Ok(SettingsError::At(marked_at(text, fault.at, fault.message))),
+        Ok(Some(fault)) => Ok(SettingsError::At(marked_at(alloc, text, fault)?)),
         Err(ParseError::OutOfMemory) => Err(AllocError),
         Ok(None) | Err(ParseError::At(..)) => {
             let message = with_keys(alloc, said, keys)?;
@@ -131,10 +131,7 @@ fn search<T: DeserializeOwned>(
         return wrong_value::<T>(alloc, text, said, keys);
     };
     Ok(match at {
-        Some(at) => Some(Fault {
-            message: String::from_str(alloc, said)?,
-            at,
-        }),
+        Some(at) => Some(Fault::at(at, String::from_str(alloc, said)?)),
         None => None,
     })
 }
@@ -218,19 +215,14 @@ fn wrong_value<T: DeserializeOwned>(
             }
         } else if let Some(fault) = wrong_text(alloc, said, place.value.unwrap_or(""))? {
             let start = offset_of(text, place.value.unwrap_or(""));
-            return Ok(Some(Fault {
-                at: start.saturating_add(fault.at),
-                ..fault
-            }));
+            return Ok(Some(fault.after(start)));
         }
     }
     let Some(place) = last_read::<T>(alloc, text, said, &found)? else {
         return Ok(None);
     };
-    Ok(Some(Fault {
-        message: String::from_str(alloc, said)?,
-        at: offset_of(text, place.value.unwrap_or(place.start)),
-    }))
+    let at = offset_of(text, place.value.unwrap_or(place.start));
+    Ok(Some(Fault::at(at, String::from_str(alloc, said)?)))
 }
 
 /// Returns the offset in a document of what ends it.

@@ -45,13 +45,13 @@ struct Jobs {
     note: String,
 }
 
-/// Returns the place of an error, its message, and the rest of its line.
-fn shown(alloc: Global, read: Result<Jobs, SettingsError<'_>>) -> Result<String, AllocError> {
+/// Returns the place of an error, its message, what is wrong in its line, and the rest of the line.
+fn shown(alloc: Global, read: Result<Jobs, SettingsError>) -> Result<String, AllocError> {
     match read {
         Ok(_) => String::from_str(alloc, "read"),
         Err(SettingsError::At(fault)) => {
-            let (line, column, after) = (fault.line, fault.column(), fault.after);
-            format!(in alloc; "{line}:{column} {} | {after}", fault.message)
+            let (line, column) = (fault.line, fault.column());
+            format!(in alloc; "{line}:{column} {} | {} | {}", fault.message, fault.marked, fault.after)
         }
         Err(error) => format!(in alloc; "{error}"),
     }
@@ -63,7 +63,7 @@ fn marks_are_shown(rt: HostRuntime) -> Result<(), Fail> {
     let error = from_json::<Jobs>(alloc, "{\n  \"timeout\": \"10moons\"\n}").err().expect(&rt, "read");
     assert_eq!(rt;
         error.to_string(alloc)?.as_str(),
-        "line 2, column 17: unknown time unit \"moons\", supported units: ns, us/µs, ms, sec, min, hours, days, weeks, months, years (and few variations)\n  \"timeout\": \"10moons\"\n                ^"
+        "line 2, column 17: unknown time unit \"moons\", supported units: ns, us/µs, ms, sec, min, hours, days, weeks, months, years (and few variations)\n  \"timeout\": \"10moons\"\n                ^^^^^"
     );
     for (text, message) in &[
         ("\ttimeout = 'é 10moons'", "line 1, column 13: expected number at 0\n\ttimeout = 'é 10moons'\n\t           ^"),
@@ -80,7 +80,7 @@ fn marks_are_shown(rt: HostRuntime) -> Result<(), Fail> {
     // Control characters but tabs are escapes, in the line, in the message and in a text that has no place.
     for (text, message) in &[
         ("{\"\u{1b}[2J\t\u{9b}é\": \u{7f}", "line 1, column 2: invalid JSON\n{\"\\u{1b}[2J\t\\u{9b}é\": \\u{7f}\n ^"),
-        ("{\"timeout\": \"1 \u{9b}x\u{9b}\"}", "line 1, column 16: invalid character at 2\n{\"timeout\": \"1 \\u{9b}x\\u{9b}\"}\n               ^"),
+        ("{\"timeout\": \"1 \u{9b}x\u{9b}\"}", "line 1, column 16: invalid character at 2\n{\"timeout\": \"1 \\u{9b}x\\u{9b}\"}\n               ^^^^^^"),
         ("{\"\u{85}\": 1, \"timeout\": \"1x\\u001b\"}", "line 1, column 21: invalid character at 2\n{\"\\u{85}\": 1, \"timeout\": \"1x\\u001b\"}\n                         ^"),
     ] {
         let error = from_json::<Jobs>(alloc, text).err().expect(&rt, "read");

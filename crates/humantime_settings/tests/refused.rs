@@ -6,10 +6,10 @@ use humantime_settings::{AsText, SettingsError, from_json, from_toml, to_json, t
 use std::alloc::Global;
 use std::process::Abort;
 
-type Answer = Result<String, SettingsError<'static>>;
+type Answer = Result<String, SettingsError>;
 
 /// Returns the text of the error of a call.
-fn told<T: Drop>(alloc: Global, called: Result<T, SettingsError<'_>>) -> Answer {
+fn told<T: Drop>(alloc: Global, called: Result<T, SettingsError>) -> Answer {
     match called {
         Ok(_) => Ok(String::from_str(alloc, "no error")?),
         Err(SettingsError::OutOfMemory) => Err(SettingsError::OutOfMemory),
@@ -58,14 +58,14 @@ fn from_toml_to_json(rt: HostRuntime) {
 #[test]
 fn fault_in_json(rt: HostRuntime) {
     let text = "{\"since\":\"2018-02-14T00:28:07Z\",\n\"wait\":\"3 moons\"}";
-    let wanted = "line 2, column 11: unknown time unit \"moons\", supported units: ns, us/µs, ms, sec, min, hours, days, weeks, months, years (and few variations)\n\"wait\":\"3 moons\"}\n          ^";
+    let wanted = "line 2, column 11: unknown time unit \"moons\", supported units: ns, us/µs, ms, sec, min, hours, days, weeks, months, years (and few variations)\n\"wait\":\"3 moons\"}\n          ^^^^^";
     assert_answer(&rt, |alloc| told(alloc, from_json::<Values>(alloc, text)), wanted);
 }
 
 #[test]
 fn fault_in_toml(rt: HostRuntime) {
     let text = "every = \"36\\u0068\"\nsince = '2018-02-14T00:28:07Z'\nwait = '3 moons'\npause = '1s'\nuntil = '2018-02-14 00:28:07'\n";
-    let wanted = "line 3, column 11: unknown time unit \"moons\", supported units: ns, us/µs, ms, sec, min, hours, days, weeks, months, years (and few variations)\nwait = '3 moons'\n          ^";
+    let wanted = "line 3, column 11: unknown time unit \"moons\", supported units: ns, us/µs, ms, sec, min, hours, days, weeks, months, years (and few variations)\nwait = '3 moons'\n          ^^^^^";
     assert_answer(&rt, |alloc| told(alloc, from_toml::<Values>(alloc, text)), wanted);
 }
 

@@ -8,50 +8,50 @@ const CASES: &[(&str, &str)] = &[
     // The first field, the last one, and one of an object inside.
     (
         r#"{"timeout":"2h 7","job":{"name":"é","every":"1d","since":"2018-02-14T00:28:07Z"}}"#,
-        r#"1:17 time unit needed, for example 7sec or 7ms | ","job":{"name":"é","every":"1d","since":"2018-02-14T00:28:07Z"}}"#,
+        r#"1:17 time unit needed, for example 7sec or 7ms |  | ","job":{"name":"é","every":"1d","since":"2018-02-14T00:28:07Z"}}"#,
     ),
     (
         "{\n  \"timeout\": \"2h\",\n  \"job\": {\"name\": \"é \", \"every\": \"5us\", \"since\": \"2018-02-14T00:28:07Z\"},\n\t\"zone\": \"\"\n}",
-        r#"4:10 timestamp format is invalid | """#,
+        r#"4:10 timestamp format is invalid |  | """#,
     ),
     // Characters of several bytes before the fault: its offset in the message counts bytes from the value, and its column characters.
     (
         "{\n  \"timeout\": \"2h\",\n  \"job\": {\"name\": \"é 5µs x\", \"every\": \"5µs x\", \"since\": \"2018-02-14T00:28:07Z\"}\n}",
-        r#"3:44 expected number at 5 | x", "since": "2018-02-14T00:28:07Z"}"#,
+        r#"3:44 expected number at 5 | x | ", "since": "2018-02-14T00:28:07Z"}"#,
     ),
-    // A timestamp, which has no offset and is marked at its first character.
+    // A timestamp, whose day is out of range.
     (
         "{\n  \"timeout\": \"2h\",\n  \"job\": {\"name\": \"é \", \"every\": \"5us\", \"since\": \"2018-02-30T00:28:07Z\"}\n}",
-        r#"3:51 numeric component is out of range | 2018-02-30T00:28:07Z"}"#,
+        r#"3:59 numeric component is out of range | 30 | T00:28:07Z"}"#,
     ),
     // What is no text, an escape, and an item of a list or a map.
     (
         "{\n  \"timeout\": 2,\n  \"job\": {\"name\": \"é \", \"every\": \"5us\", \"since\": \"2018-02-14T00:28:07Z\"}\n}",
-        "2:14 expected a duration in quotes | 2,",
+        "2:14 expected a duration in quotes |  | 2,",
     ),
     (
         "{\n  \"timeout\":\n  [\"2h\"],\n  \"job\": {\"name\": \"é \", \"every\": \"5us\", \"since\": \"2018-02-14T00:28:07Z\"}\n}",
-        r#"3:3 expected a duration in quotes | ["2h"],"#,
+        r#"3:3 expected a duration in quotes |  | ["2h"],"#,
     ),
     (
         "{\n  \"timeout\": \"2h\",\n  \"job\": {\"name\": \"é \", \"every\": \"5us\", \"since\": \"2018-02-14T00:28:07Z\", \"keep\": \"\\u0031h\\t2 \\\"\"}\n}",
-        r#"3:82 invalid character at 5 | "\u0031h\t2 \""}"#,
+        r#"3:82 invalid character at 5 |  | "\u0031h\t2 \""}"#,
     ),
-    (r#"{"timeout":"2h","pauses":["1s","2s","1 é"],"job":{}}"#, r#"1:40 invalid character at 2 | é"],"job":{}}"#),
-    (r#"{"timeout":"2h","days":{"a":"2018-02-14 00:28:07","b":"1h"}}"#, r#"1:56 timestamp format is invalid | 1h"}}"#),
-    // A number that is too large, which is marked at the start of its text; lines that end in CR LF; and an escape before the closing quote.
-    (r#"{"timeout":"1h 1.5ns"}"#, r#"1:13 number is too large or cannot be represented without a lack of precision (values below 1ns are not supported) | 1h 1.5ns"}"#),
-    ("{\r\n\r\n\r\n\r\n\"pauses\":[\"1s\",\"1h x\"]}", r#"5:20 expected number at 3 | x"]}"#),
-    (r#"{"timeout":"1s \\"}"#, r#"1:12 expected number at 3 | "1s \\"}"#),
+    (r#"{"timeout":"2h","pauses":["1s","2s","1 é"],"job":{}}"#, r#"1:40 invalid character at 2 | é | "],"job":{}}"#),
+    (r#"{"timeout":"2h","days":{"a":"2018-02-14 00:28:07","b":"1h"}}"#, r#"1:57 timestamp format is invalid | h | "}}"#),
+    // A number that is too large, whose whole text is marked; lines that end in CR LF; and an escape before the closing quote.
+    (r#"{"timeout":"1h 1.5ns"}"#, r#"1:13 number is too large or cannot be represented without a lack of precision (values below 1ns are not supported) | 1h 1.5ns | "}"#),
+    ("{\r\n\r\n\r\n\r\n\"pauses\":[\"1s\",\"1h x\"]}", r#"5:20 expected number at 3 | x | "]}"#),
+    (r#"{"timeout":"1s \\"}"#, r#"1:12 expected number at 3 |  | "1s \\"}"#),
     // No value, and a date without quotes, which is no JSON.
-    (r#"{"timeout":null}"#, "1:12 expected a duration in quotes | null}"),
-    (r#"{"timeout":"2h","days":{"a":null}}"#, "1:29 expected a timestamp in quotes | null}}"),
-    (r#"{"timeout":"2h","zone":90}"#, "1:24 expected a timestamp in quotes | 90}"),
+    (r#"{"timeout":null}"#, "1:12 expected a duration in quotes |  | null}"),
+    (r#"{"timeout":"2h","days":{"a":null}}"#, "1:29 expected a timestamp in quotes |  | null}}"),
+    (r#"{"timeout":"2h","zone":90}"#, "1:24 expected a timestamp in quotes |  | 90}"),
     // What is missing, unknown or cut.
-    ("{\"timeout\":\"2h\",\n\"job\":{ \"nm\\u0061e\\n\":1}}", "2:9 unknown field `nmae\n` | \"nm\\u0061e\\n\":1}}"),
-    ("{\n  \"timeout\": \"2h\",\n  \"job\": {\"name\": \"é\", \"every\": \"5us\"}\n}", "3:38 missing field `since` | }"),
-    ("{\"timeout\":\"2h\",\n\"job\":{\"nmae\":\"é\"}}", r#"2:8 unknown field `nmae` | "nmae":"é"}}"#),
-    (r#"{"timeout":"2h""#, r#"1:15 EOF while parsing | ""#),
+    ("{\"timeout\":\"2h\",\n\"job\":{ \"nm\\u0061e\\n\":1}}", "2:9 unknown field `nmae\n` |  | \"nm\\u0061e\\n\":1}}"),
+    ("{\n  \"timeout\": \"2h\",\n  \"job\": {\"name\": \"é\", \"every\": \"5us\"}\n}", "3:38 missing field `since` |  | }"),
+    ("{\"timeout\":\"2h\",\n\"job\":{\"nmae\":\"é\"}}", r#"2:8 unknown field `nmae` |  | "nmae":"é"}}"#),
+    (r#"{"timeout":"2h""#, r#"1:15 EOF while parsing |  | ""#),
 ];
 
 #[test]
