@@ -19,12 +19,18 @@ use std::fmt::{self, InlineText};
 /// ```
 /// use humantime::StdDuration;
 /// use humantime_settings::{AsText, SettingsError, from_toml};
+/// use std::alloc::Global;
 /// use std::collections::BTreeMap;
 ///
 /// type Waits = BTreeMap<String, AsText<StdDuration>>;
 ///
-/// let text = "first = '1s'\nsecond = '90'\n";
-/// match from_toml::<Waits>(rt.alloc(), text) {
+/// /// Reads settings from a text, which is gone afterwards.
+/// fn waits(alloc: Global, text: String) -> Result<Waits, SettingsError> {
+///     from_toml(alloc, &text)
+/// }
+///
+/// let text = String::from_str(rt.alloc(), "first = '1s'\nsecond = '90'\n")?;
+/// match waits(rt.alloc(), text) {
 ///     Err(SettingsError::At(fault)) => {
 ///         assert_eq!(rt; fault.message.as_str(), "time unit needed, for example 90sec or 90ms");
 ///     }

@@ -1,5 +1,6 @@
 //! What `humantime` says of a value that is not a duration or a timestamp.
 
+use crate::raw_strings::raw_range;
 use humantime_std::located::{Located, parse_duration, parse_rfc3339_weak};
 use std::alloc::{AllocError, Global};
 use std::fmt::{Display, InlineText};
@@ -48,38 +49,37 @@ impl Fault {
     }
 }
 
-/// Returns the fault of a value in `source`, which is the value as the document has it.
+/// Returns the fault of a value in `string`, which is the value as the document has it, with its quotes.
 ///
 /// `said` is the message of the format. If it is not that of an error of this value, returns `None`.
 pub(crate) fn fault_in(
     alloc: Global,
     said: &str,
-    source: &str,
+    string: &str,
     value: &str,
 ) -> Result<Option<Fault>, AllocError> {
-    let fault = said_fault(alloc, said, source, value, parse_duration(value).err())?;
+    let fault = said_fault(alloc, said, string, parse_duration(value).err())?;
     if fault.is_some() {
         return Ok(fault);
     }
-    said_fault(alloc, said, source, value, parse_rfc3339_weak(value).err())
+    said_fault(alloc, said, string, parse_rfc3339_weak(value).err())
 }
 
-/// Returns the fault of a value with this error, if a format says its message.
+/// Returns the fault of a string whose text has this error, if a format says its message.
 fn said_fault<E: Display + Drop>(
     alloc: Global,
     said: &str,
-    source: &str,
-    value: &str,
+    string: &str,
     error: Option<Located<E>>,
 ) -> Result<Option<Fault>, AllocError> {
     let Some(error) = error else {
         return Ok(None);
     };
-    let (start, end) = range_in(source, value, error.start, error.end);
     let message = error.to_string(alloc)?;
     if !is_cut_from(said, &message) {
         return Ok(None);
     }
+    let (start, end) = raw_range(string, error.start, error.end);
     Ok(Some(Fault {
         message,
         start,
@@ -92,16 +92,5 @@ fn is_cut_from(said: &str, message: &str) -> bool {
     match said.strip_suffix("...") {
         Some(front) => message.starts_with(front),
         None => said == message,
-    }
-}
-
-/// Returns the range in `source` of a range of the value, or the start if the value has an escape.
-fn range_in(source: &str, value: &str, start: usize, end: usize) -> (usize, usize) {
-    if source.contains('\\') {
-        return (0, 0);
-    }
-    match source.find(value) {
-        Some(at) => (at.saturating_add(start), at.saturating_add(end)),
-        None => (0, 0),
     }
 }

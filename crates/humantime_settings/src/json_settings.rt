@@ -16,9 +16,9 @@ use std::alloc::{AllocError, Global};
 ///
 /// # Errors
 ///
-/// Returns [`SettingsError::At`] with the first fault, and [`SettingsError::OutOfMemory`] if memory is refused. A value that is not a
-/// duration is marked where `humantime` finds the fault, and any other wrong value, and one with an escape, at its start. An unknown key is
-/// marked at its start, and a missing one where its object ends.
+/// Returns [`SettingsError::At`] with the first fault, and [`SettingsError::OutOfMemory`] if memory is refused. A text that is no
+/// duration or timestamp is marked where it is wrong, and any other value at its start. An unknown key is marked at its start, and a missing
+/// one where its object ends.
 ///
 /// # Examples
 ///

@@ -62,6 +62,7 @@ mod error;
 mod faults;
 mod fields;
 mod json_settings;
+mod raw_strings;
 mod toml_places;
 mod toml_settings;
 

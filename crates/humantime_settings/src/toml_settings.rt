@@ -17,9 +17,9 @@ use toml_parser::{ParseError, Scalar, quoted, starts_string, unquoted};
 /// # Errors
 ///
 /// Returns [`SettingsError::At`] where the document is not TOML, with a value of the wrong type or one that is not a duration or a
-/// timestamp, with an unknown key, and with the first table that lacks a key. A value that is not a duration is marked where `humantime`
-/// finds the fault, and any other wrong value, and one with an escape, at its start. A table is marked at its header or brace, and the one
-/// at the top at the start of the document. Of several wrong values, the one whose keys sort first has the error.
+/// timestamp, with an unknown key, and with the first table that lacks a key. A text that is no duration or
+/// timestamp is marked where it is wrong, and any other value at its start. A table is marked at its header or brace, and the one at the top
+/// at the start of the document. Of several wrong values, the one whose keys sort first has the error.
 ///
 /// Returns [`SettingsError::Whole`], with the keys in the message, for a fault in the key of a map, for one in a table that neither a
 /// header nor a brace begins, and for one below keys that have over 80 bytes together.

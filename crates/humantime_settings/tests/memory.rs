@@ -1,6 +1,7 @@
 //! Tests that need memory.
 
 mod drawn;
+mod drawn_strings;
 mod json_faults;
 mod toml_faults;
 pub mod values;
@@ -81,7 +82,7 @@ fn marks_are_shown(rt: HostRuntime) -> Result<(), Fail> {
     for (text, message) in &[
         ("{\"\u{1b}[2J\t\u{9b}é\": \u{7f}", "line 1, column 2: invalid JSON\n{\"\\u{1b}[2J\t\\u{9b}é\": \\u{7f}\n ^"),
         ("{\"timeout\": \"1 \u{9b}x\u{9b}\"}", "line 1, column 16: invalid character at 2\n{\"timeout\": \"1 \\u{9b}x\\u{9b}\"}\n               ^^^^^^"),
-        ("{\"\u{85}\": 1, \"timeout\": \"1x\\u001b\"}", "line 1, column 21: invalid character at 2\n{\"\\u{85}\": 1, \"timeout\": \"1x\\u001b\"}\n                         ^"),
+        ("{\"\u{85}\": 1, \"timeout\": \"1x\\u001b\"}", "line 1, column 24: invalid character at 2\n{\"\\u{85}\": 1, \"timeout\": \"1x\\u001b\"}\n                            ^^^^^^"),
     ] {
         let error = from_json::<Jobs>(alloc, text).err().expect(&rt, "read");
         assert_eq!(rt; error.to_string(alloc)?.as_str(), *message);

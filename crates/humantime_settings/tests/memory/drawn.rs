@@ -59,7 +59,7 @@ const TOML: Values = Values {
         ("'''1h #[ '''", 6),
         ("\"\"\"\n5 é\"\"\"", 6),
         ("'''\r\n1s\n]'''", 8),
-        ("\"1s\\u0020~\"", 0),
+        ("\"1s\\u0020~\"", 9),
         ("7", 0),
         ("true", 0),
         ("-2.5", 0),
@@ -84,9 +84,9 @@ const JSON: Values = Values {
         ("\" 2h 5~\"", 6),
         ("\"\u{3000}2h 5~\"", 8),
         ("\"1h #[ \"", 4),
-        ("\"1s\\u0020~\"", 0),
-        ("\"1s \\\\\"", 0),
-        ("\"1s \\\"\"", 0),
+        ("\"1s\\u0020~\"", 9),
+        ("\"1s \\\\\"", 4),
+        ("\"1s \\\"\"", 4),
         ("7", 0),
         ("-2.5e3", 0),
         ("true", 0),
@@ -99,9 +99,9 @@ const JSON: Values = Values {
 
 /// A document that is drawn.
 #[derive(Drop)]
-struct Draw {
+pub struct Draw {
     state: u64,
-    text: String,
+    pub text: String,
     /// How many values are put.
     count: u64,
     /// The number of the wrong one, and its mark.
@@ -110,12 +110,12 @@ struct Draw {
 }
 
 impl Draw {
-    fn new(alloc: Global, seed: u64, wrong: u64) -> Draw {
+    pub fn new(alloc: Global, seed: u64, wrong: u64) -> Draw {
         Draw { state: seed, text: String::new(alloc), count: 0, wrong, at: 0 }
     }
 
     /// Returns a number below another one.
-    fn below(&mut self, end: u64) -> u64 {
+    pub fn below(&mut self, end: u64) -> u64 {
         self.state ^= self.state << 13;
         self.state ^= self.state >> 7;
         self.state ^= self.state << 17;
@@ -126,7 +126,7 @@ impl Draw {
         self.below(2) == 0
     }
 
-    fn put(&mut self, texts: &[&str]) -> Result<(), AllocError> {
+    pub fn put(&mut self, texts: &[&str]) -> Result<(), AllocError> {
         let at = self.below(texts.len() as u64) as usize;
         self.text.push_str(texts.get(at).unwrap_or(&""))
     }

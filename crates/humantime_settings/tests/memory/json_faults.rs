@@ -12,7 +12,7 @@ const CASES: &[(&str, &str)] = &[
     ),
     (
         "{\n  \"timeout\": \"2h\",\n  \"job\": {\"name\": \"é \", \"every\": \"5us\", \"since\": \"2018-02-14T00:28:07Z\"},\n\t\"zone\": \"\"\n}",
-        r#"4:10 timestamp format is invalid |  | """#,
+        r#"4:11 timestamp format is invalid |  | ""#,
     ),
     // Characters of several bytes before the fault: its offset in the message counts bytes from the value, and its column characters.
     (
@@ -35,14 +35,14 @@ const CASES: &[(&str, &str)] = &[
     ),
     (
         "{\n  \"timeout\": \"2h\",\n  \"job\": {\"name\": \"é \", \"every\": \"5us\", \"since\": \"2018-02-14T00:28:07Z\", \"keep\": \"\\u0031h\\t2 \\\"\"}\n}",
-        r#"3:82 invalid character at 5 |  | "\u0031h\t2 \""}"#,
+        r#"3:94 invalid character at 5 | \" | "}"#,
     ),
     (r#"{"timeout":"2h","pauses":["1s","2s","1 é"],"job":{}}"#, r#"1:40 invalid character at 2 | é | "],"job":{}}"#),
     (r#"{"timeout":"2h","days":{"a":"2018-02-14 00:28:07","b":"1h"}}"#, r#"1:57 timestamp format is invalid | h | "}}"#),
     // A number that is too large, whose whole text is marked; lines that end in CR LF; and an escape before the closing quote.
     (r#"{"timeout":"1h 1.5ns"}"#, r#"1:13 number is too large or cannot be represented without a lack of precision (values below 1ns are not supported) | 1h 1.5ns | "}"#),
     ("{\r\n\r\n\r\n\r\n\"pauses\":[\"1s\",\"1h x\"]}", r#"5:20 expected number at 3 | x | "]}"#),
-    (r#"{"timeout":"1s \\"}"#, r#"1:12 expected number at 3 |  | "1s \\"}"#),
+    (r#"{"timeout":"1s \\"}"#, r#"1:16 expected number at 3 | \\ | "}"#),
     // No value, and a date without quotes, which is no JSON.
     (r#"{"timeout":null}"#, "1:12 expected a duration in quotes |  | null}"),
     (r#"{"timeout":"2h","days":{"a":null}}"#, "1:29 expected a timestamp in quotes |  | null}}"),

@@ -66,8 +66,8 @@ const CASES: &[(&str, &str, &str)] = &[
     ),
     // Keys whose texts are the same without the dot.
     ("time.out = '1~'\ntimeout = '1~'\n", "", "2:13 invalid character at 1 | ~ | '"),
-    // A value with an escape is marked at its start.
-    ("timeout = \"\\u0031d\\t2 ~\"\n", "", "1:11 invalid character at 5 |  | \"\\u0031d\\t2 ~\""),
+    // A fault behind escapes.
+    ("timeout = \"\\u0031d\\t2 ~\"\n", "", "1:23 invalid character at 5 | ~ | \""),
     // What is unknown is marked at its key, and what is missing where its table begins: the first one that has no such key.
     ("timeout = '2h'\n", "nmae = 'a'\n", "6:1 unknown field `nmae` |  | nmae = 'a'"),
     ("timeout = '2h'\n", "[[more]]\nname = 'a'\nevery = '1s'\n", "6:1 missing field `since` |  | [[more]]"),

@@ -1,0 +1,181 @@
+//! Drawn strings, in which each character is written in one of its ways: what is marked is what stands for the wrong bytes of the text.
+
+use crate::memory::drawn::Draw;
+use humantime::{StdDuration, SystemTime};
+use humantime_settings::{AsText, SettingsError, from_json, from_toml};
+use humantime_std::located::{parse_duration, parse_rfc3339_weak};
+use std::alloc::{AllocError, Global};
+use std::collections::BTreeMap;
+use std::test::Fail;
+
+/// A kind of strings.
+#[derive(Clone, Copy)]
+struct Kind {
+    is_json: bool,
+    has_escapes: bool,
+    has_lines: bool,
+    /// What is before the content, and after it.
+    open: &'static str,
+    close: &'static str,
+}
+
+const KINDS: &[Kind] = &[
+    Kind { is_json: true, has_escapes: true, has_lines: false, open: "\"", close: "\"" },
+    Kind { is_json: true, has_escapes: true, has_lines: false, open: "\"", close: "\"" },
+    Kind { is_json: false, has_escapes: true, has_lines: false, open: "\"", close: "\"" },
+    Kind { is_json: false, has_escapes: false, has_lines: false, open: "'", close: "'" },
+    Kind { is_json: false, has_escapes: true, has_lines: true, open: "\"\"\"", close: "\"\"\"" },
+    Kind { is_json: false, has_escapes: true, has_lines: true, open: "\"\"\"\n", close: "\"\"\"" },
+    Kind { is_json: false, has_escapes: true, has_lines: true, open: "\"\"\"\r\n", close: "\"\"\"" },
+    Kind { is_json: false, has_escapes: false, has_lines: true, open: "'''", close: "'''" },
+    Kind { is_json: false, has_escapes: false, has_lines: true, open: "'''\n", close: "'''" },
+    Kind { is_json: false, has_escapes: false, has_lines: true, open: "'''\r\n", close: "'''" },
+];
+
+/// Parts of durations, most of them right, then wrong ones, and what may follow.
+const DURATIONS: [&[&str]; 4] = [
+    &["", "3h ", "1d\u{3000}2h\t", "\u{2003}", "2w"],
+    &["", "5µs ", "7s\n", "\t"],
+    &["~", "é", "𝄞", "7parsecs", "9µx", "12", "\"", "\\", "/", "\u{1b}", "\u{7f}", "\\u00e9~", "5\u{10ffff}"],
+    &["", " ", "1h", "é𝄞", "\n"],
+];
+
+/// Parts of timestamps.
+const TIMESTAMPS: [&[&str]; 4] = [
+    &["2018-02-14 00:28:07", "2018-02-30 00:28:07", "2018-13-14T00:28:07.", "1969-12-31 00:00:00", "2018-02é", "2018-2-14 00:28:07", ""],
+    &["", ".5", "Z\n"],
+    &["", "x", "+02:00", "😀é", "\u{ffff}", "\\"],
+    &["", "😀", "Z"],
+];
+
+/// A part of a string that stands for one character of its text, or for nothing.
+#[derive(Clone, Copy)]
+struct Piece {
+    start: usize,
+    end: usize,
+    /// The offset in the text after the character.
+    text_end: usize,
+}
+
+/// Puts a character as this kind of string can have it, or one that it can have in its place, which is returned.
+fn put_char(draw: &mut Draw, kind: Kind, c: char) -> Result<char, AllocError> {
+    let alloc = *draw.text.allocator();
+    let code = c as u32;
+    if !kind.has_escapes {
+        let c = if c == '\'' || c.is_control() && c != '\t' && !(kind.has_lines && c == '\n') { '?' } else { c };
+        draw.text.push(c)?;
+        return Ok(c);
+    }
+    let short = match c {
+        '\t' => "\\t",
+        '\n' => "\\n",
+        '"' => "\\\"",
+        '\\' => "\\\\",
+        '/' if kind.is_json => "\\/",
+        '\u{1b}' if !kind.is_json => "\\e",
+        _ => "",
+    };
+    let is_plain = !c.is_control() && c != '"' && c != '\\' || kind.has_lines && c == '\n';
+    let escape = match draw.below(5) {
+        0 if code < 0x1_0000 => format!(in alloc; "\\u{code:04x}")?,
+        1 if code < 0x1_0000 => format!(in alloc; "\\u{code:04X}")?,
+        0 | 1 if kind.is_json => {
+            let (high, low) = (0xd800 + ((code - 0x1_0000) >> 10), 0xdc00 + code % 0x400);
+            format!(in alloc; "\\u{high:04X}\\u{low:04x}")?
+        }
+        0 | 1 => format!(in alloc; "\\U{code:08X}")?,
+        2 if !kind.is_json && code < 0x100 => format!(in alloc; "\\x{code:02x}")?,
+        _ if is_plain => {
+            draw.text.push(c)?;
+            return Ok(c);
+        }
+        _ if short.is_empty() => format!(in alloc; "\\u{code:04x}")?,
+        _ => String::from_str(alloc, short)?,
+    };
+    draw.text.push_str(&escape)?;
+    Ok(c)
+}
+
+/// Puts a backslash at the end of a line, or nothing.
+fn put_blank(draw: &mut Draw, kind: Kind, text: &str, pieces: &mut Vec<Piece>) -> Result<(), AllocError> {
+    if !kind.has_lines || !kind.has_escapes || draw.below(6) > 0 {
+        return Ok(());
+    }
+    let start = draw.text.len();
+    draw.put(&["\\\n", "\\\r\n  ", "\\ \t\n\n \t\r\n"])?;
+    pieces.push(Piece { start, end: draw.text.len(), text_end: text.len() })?;
+    Ok(())
+}
+
+/// Puts a string with a text that is drawn, and returns the text and the pieces.
+fn put_string(draw: &mut Draw, kind: Kind, parts: &[&[&str]; 4]) -> Result<(String, Vec<Piece>), AllocError> {
+    let alloc = *draw.text.allocator();
+    let (mut text, mut pieces) = (String::new(alloc), Vec::new(alloc));
+    draw.text.push_str(kind.open)?;
+    for part in parts {
+        let at = draw.below(part.len() as u64) as usize;
+        let part = part.get(at).unwrap_or(&"");
+        for c in part.chars() {
+            put_blank(draw, kind, &text, &mut pieces)?;
+            let start = draw.text.len();
+            text.push(put_char(draw, kind, c)?)?;
+            pieces.push(Piece { start, end: draw.text.len(), text_end: text.len() })?;
+        }
+    }
+    put_blank(draw, kind, &text, &mut pieces)?;
+    draw.text.push_str(kind.close)?;
+    Ok((text, pieces))
+}
+
+/// Returns the text of a string, as the reader of its format decodes it.
+fn decoded(alloc: Global, kind: Kind, string: &str) -> Result<String, Fail> {
+    if kind.is_json {
+        return Ok(serde_json::from_str::<String>(alloc, string)?);
+    }
+    Ok(toml_parser::quoted(alloc, string)?.0)
+}
+
+/// Returns the error of a document with a map of durations or of times.
+fn error_of(alloc: Global, kind: Kind, is_time: bool, document: &str) -> Option<SettingsError> {
+    match (kind.is_json, is_time) {
+        (true, true) => from_json::<BTreeMap<String, AsText<SystemTime>>>(alloc, document).err(),
+        (true, false) => from_json::<BTreeMap<String, AsText<StdDuration>>>(alloc, document).err(),
+        (false, true) => from_toml::<BTreeMap<String, AsText<SystemTime>>>(alloc, document).err(),
+        (false, false) => from_toml::<BTreeMap<String, AsText<StdDuration>>>(alloc, document).err(),
+    }
+}
+
+#[test]
+fn drawn_strings(rt: HostRuntime) -> Result<(), Fail> {
+    let alloc = rt.alloc();
+    for seed in 1..=1500 {
+        let mut draw = Draw::new(alloc, seed * 0x9E37_79B9, 0);
+        let kind = *KINDS.get(draw.below(KINDS.len() as u64) as usize).ok_or("no kind")?;
+        let is_time = draw.below(2) == 0;
+        let (before, after) = if kind.is_json { ("{\n\t\"é\": ", "}") } else { ("# é\nwait = ", "\n") };
+        draw.text.push_str(before)?;
+        let (text, pieces) = put_string(&mut draw, kind, if is_time { &TIMESTAMPS } else { &DURATIONS })?;
+        let string = draw.text.get(before.len()..).unwrap_or("");
+        assert_eq!(rt; decoded(alloc, kind, string)?, text);
+        let content_end = draw.text.len() - kind.close.len();
+        draw.text.push_str(after)?;
+        let wrong = if is_time {
+            parse_rfc3339_weak(&text).err().map(|error| (error.start, error.end))
+        } else {
+            parse_duration(&text).err().map(|error| (error.start, error.end))
+        };
+        let Some((start, end)) = wrong else {
+            assert!(rt; error_of(alloc, kind, is_time, &draw.text).is_none(), "{}", draw.text);
+            continue;
+        };
+        let first = pieces.iter().find(|piece| start < piece.text_end).map_or(content_end, |piece| piece.start);
+        let last = pieces.iter().find(|piece| start < end && end <= piece.text_end).map_or(first, |piece| piece.end);
+        // A mark ends with its line.
+        let part = draw.text.get(first..last).unwrap_or("?").lines().next().unwrap_or("");
+        let Some(SettingsError::At(marked)) = error_of(alloc, kind, is_time, &draw.text) else {
+            panic!(rt; "{}", draw.text);
+        };
+        assert_eq!(rt; (marked.at, marked.marked.as_str()), (first, part), "{}", draw.text);
+    }
+    Ok(())
+}
