@@ -2,7 +2,6 @@
 
 ghost use Rattle.std.specs.Prelude.{◌≡◌, ◌+◌, IfOk, chars, count_by, length, string_bytes};
 ghost use Rattle.std.specs.List.{after_last, before_first};
-ghost use Rattle.std.specs.Str.{IsCharBoundary};
 ghost use Rattle.humantime_settings.specs.Marks.{IsMarkedIn, column_of, is_line_feed, line_of, message_of};
 ghost use Rattle.humantime_settings.specs.declared.error.SettingsError.TheVariants.{OutOfMemory};
 
@@ -245,11 +244,11 @@ impl fmt::Display for Escaped<'_> {
 
 impl Error for SettingsError {}
 
-/// Returns a fault with its line. It begins at the end of the text if no character begins at its start, and ends where the line ends.
+/// Returns a fault with its line. It begins where a character begins or the text ends, and ends with the line at the latest.
 pub(crate) fn marked_at(alloc: Global, text: &str, fault: Fault) -> Result<Marked, AllocError>
     ensures { IfOk result (IsMarkedIn text.now) }
 {
-    let at = boundary_in(text, fault.start);
+    let at = text.floor_char_boundary(fault.start);
     let (before, rest) = text.split_at(at);
     let line = first_line(rest);
     let len = fault
@@ -265,17 +264,6 @@ pub(crate) fn marked_at(alloc: Global, text: &str, fault: Fault) -> Result<Marke
         after: String::from_str(alloc, after)?,
         message: fault.message,
     })
-}
-
-/// Returns an offset if a character begins or the text ends there, and otherwise the end.
-fn boundary_in(text: &str, at: usize) -> usize
-    ensures { IsCharBoundary text.now result }
-{
-    if text.is_char_boundary(at) {
-        at
-    } else {
-        text.len()
-    }
 }
 
 /// Returns the number of the last line of a text, from 1.

@@ -80,21 +80,38 @@ fn located(alloc: Global, text: &str, error: &serde_json::Error) -> Result<Fault
     let mut message = error.to_string(alloc)?;
     message.truncate(message.rfind(" at line ").unwrap_or(message.len()));
     let at = offset_of(text, error);
-    let source = front_text(text.get(at..).unwrap_or(""));
-    let value = match serde_json::from_str::<String>(alloc, source) {
+    let front = text.get(at..).unwrap_or("");
+    // The message leaves out which type, field or variant.
+    if message.as_str() == "invalid type" {
+        let message = format!(in alloc; "invalid type: {}", type_of(front))?;
+        return Ok(Fault::at(at, message));
+    }
+    let string = front_text(front);
+    let value = match serde_json::from_str::<String>(alloc, string) {
         Ok(value) => value,
         Err(error) if error.is_memory() => return Err(AllocError),
         Err(_) => return Ok(Fault::at(at, message)),
     };
-    // `serde_json` leaves out which.
     if matches!(message.as_str(), "unknown field" | "unknown variant") {
         let message = format!(in alloc; "{message} `{value}`")?;
         return Ok(Fault::at(at, message));
     }
-    Ok(match fault_in(alloc, &message, source, &value)? {
+    Ok(match fault_in(alloc, &message, string, &value)? {
         Some(fault) => fault.after(at),
         None => Fault::at(at, message),
     })
+}
+
+/// Returns what the error of `serde` calls the type of the value at the front.
+fn type_of(document: &str) -> &'static str {
+    match document.as_bytes().first() {
+        Some(b'"') => "string",
+        Some(b'[') => "sequence",
+        Some(b'{') => "map",
+        Some(b't' | b'f') => "boolean",
+        Some(b'n') => "null",
+        _ => "number",
+    }
 }
 
 /// Returns the document up to its second quote that no backslash escapes: the whole string, if it begins with one.

@@ -1,5 +1,6 @@
 //! Tests that need memory.
 
+mod bad_input;
 mod drawn;
 mod drawn_strings;
 mod json_faults;

@@ -70,6 +70,18 @@ fn fault_in_toml(rt: HostRuntime) {
 }
 
 #[test]
+fn fault_behind_an_escape_in_json(rt: HostRuntime) {
+    let wanted = "line 1, column 19: invalid character at 4\n{\"wait\":\"1\\u0068 2~\"}\n                  ^";
+    assert_answer(&rt, |alloc| told(alloc, from_json::<Values>(alloc, "{\"wait\":\"1\\u0068 2~\"}")), wanted);
+}
+
+#[test]
+fn fault_behind_an_escape_in_toml(rt: HostRuntime) {
+    let wanted = "line 1, column 26: invalid character at 4\nwaits = ['1s', \"\\u0032h 3~\"]\n                         ^";
+    assert_answer(&rt, |alloc| told(alloc, from_toml::<Lists>(alloc, "waits = ['1s', \"\\u0032h 3~\"]\n[ends]\n")), wanted);
+}
+
+#[test]
 fn fault_of_keys(rt: HostRuntime) {
     let wanted = "line 1, column 1: invalid type: map, expected a sequence\n[waits]\n^";
     assert_answer(&rt, |alloc| told(alloc, from_toml::<Lists>(alloc, "[waits]\n[ends]\n")), wanted);

@@ -47,6 +47,15 @@ const CASES: &[(&str, &str)] = &[
     (r#"{"timeout":null}"#, "1:12 expected a duration in quotes |  | null}"),
     (r#"{"timeout":"2h","days":{"a":null}}"#, "1:29 expected a timestamp in quotes |  | null}}"),
     (r#"{"timeout":"2h","zone":90}"#, "1:24 expected a timestamp in quotes |  | 90}"),
+    // Values of a wrong type for fields that are not of this crate.
+    (r#"{"timeout":"2h","counts":[1,true]}"#, "1:29 invalid type: boolean |  | true]}"),
+    (r#"{"timeout":"2h","counts":[1, null]}"#, "1:30 invalid type: null |  | null]}"),
+    (r#"{"timeout":"2h","counts":["2"]}"#, r#"1:27 invalid type: string |  | "2"]}"#),
+    (r#"{"timeout":"2h","counts":[[2]]}"#, "1:27 invalid type: sequence |  | [2]]}"),
+    (r#"{"timeout":"2h","counts": {}}"#, "1:27 invalid type: map |  | {}}"),
+    (r#"{"timeout":"2h","pairs":[[1], 2]}"#, "1:31 invalid type: number |  | 2]}"),
+    (r#"{"timeout":"2h","more.every":-7}"#, "1:30 invalid type: number |  | -7}"),
+    (r#"{"timeout":"2h","job":false}"#, "1:23 invalid type: boolean |  | false}"),
     // What is missing, unknown or cut.
     ("{\"timeout\":\"2h\",\n\"job\":{ \"nm\\u0061e\\n\":1}}", "2:9 unknown field `nmae\n` |  | \"nm\\u0061e\\n\":1}}"),
     ("{\n  \"timeout\": \"2h\",\n  \"job\": {\"name\": \"é\", \"every\": \"5us\"}\n}", "3:38 missing field `since` |  | }"),
