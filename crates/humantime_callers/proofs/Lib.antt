@@ -1,6 +1,5 @@
 pub mod CountedDays
 pub mod FirstDigits
-pub mod Kept
 pub mod LastErrors
 pub mod LongFractions
 pub mod Rounding

@@ -5,7 +5,6 @@
 //! changes at one value is refused.
 #![tactic(auto)]
 
-pub mod buffers;
 pub mod calendar;
 pub mod counted_calendar;
 pub mod displays;
