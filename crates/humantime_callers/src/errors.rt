@@ -1,54 +1,69 @@
 //! Errors point into their texts, and become errors of the caller.
 
-ghost use Rattle.std.specs.Prelude.{◌≡◌, ◌↔◌, ◌++◌, ◌+ℤ◌, ◌<ℤ◌, ◌≤ℤ◌, ℕ, ℤ, pos, chars, codes, true, IfOk, IfSome, IsErrAnd, IsOk, IsOkAnd, IsTrue, List, Some, SomeIff, Ok, Err};
+ghost use Rattle.std.specs.Prelude.{◌≡◌, ◌++◌, ◌+ℤ◌, ◌<ℤ◌, ℕ, ℤ, pos, chars, codes, true, IfSome, IsErrAnd, IsOkAnd, List, Some, SomeIff, Ok, Err};
 ghost use Rattle.humantime.specs.declared.TimestampError.{TimestampError};
 ghost use Rattle.humantime.specs.declared.DurationError.{DurationError};
-ghost use Rattle.humantime.specs.Prelude.{Fault, PointsInto, duration_answer, fault_message, fault_of, moment_end, strict_answer, timestamp_message};
+ghost use Rattle.humantime.specs.Prelude.{Fault, PointsInto, duration_answer, fault_message, fault_of, moment_end, strict_answer, text_of, timestamp_message};
 ghost use Rattle.humantime_callers.specs.declared.errors.LineError.TheVariants.{Start, Limit};
 
 use humantime::{
-    Duration, DurationError, SystemTime, TimestampError, canonical, parse_duration, parse_rfc3339,
-    spans,
+    Duration, DurationError, SpanIter, SystemTime, TimestampError, canonical, parse_duration,
+    parse_rfc3339,
 };
 use std::fmt;
 
-/// Returns `true` if an error, if there is one, points into its text: its unit is the slice between its offsets.
-fn is_in(error: Option<DurationError<'_>>, text: &str) -> bool
-    requires { IfSome error (PointsInto text.now) }
+/// Returns `true` if an error points into its text: a character begins at its offset, or its unit is the slice between its offsets.
+fn is_in(error: DurationError<'_>, text: &str) -> bool
+    requires { PointsInto text.now error }
     ensures { result ≡ true }
 {
     match error {
-        Some(DurationError::InvalidCharacter(at) | DurationError::NumberExpected(at)) => {
-            at < text.len() && text.is_char_boundary(at)
+        DurationError::InvalidCharacter(at) | DurationError::NumberExpected(at) => {
+            !text[at..].is_empty()
         }
-        Some(
-            DurationError::UnknownUnit {
-                start,
-                end,
-                unit,
-                ..
-            },
-        ) => &text[start..end] == unit,
+        DurationError::UnknownUnit {
+            start,
+            end,
+            unit,
+            ..
+        } => &text[start..end] == unit,
         _ => true,
     }
 }
 
-/// Returns `true` if the error of a text and that of its second item point into the text, which they always do.
+/// Returns `true` if the error of a text, if it has one, points into it, which it always does.
 pub fn points_into(text: &str) -> bool
     ensures { result ≡ true }
 {
-    let mut items = spans(text);
-    let _first = items.next();
-    let second = items.next().and_then(|item| item.err());
-    let printed = canonical(text, &mut [0; 64]).err();
-    is_in(parse_duration(text).err(), text)
-        && is_in(Duration::from_str(text).err(), text)
-        && is_in(printed, text)
-        && is_in(second, text)
+    match Duration::from_str(text) {
+        Err(error) => is_in(error, text),
+        Ok(_) => true,
+    }
+}
+
+/// Returns `true` if the error of `canonical`, if there is one, points into its text, which it always does.
+pub fn canonical_points_into(text: &str) -> bool
+    ensures { result ≡ true }
+{
+    match canonical(text, &mut [0; 64]) {
+        Err(error) => is_in(error, text),
+        Ok(_) => true,
+    }
+}
+
+/// Returns the next item, if it is an error, which points into the text of the items.
+pub fn next_error<'a>(items: &mut SpanIter<'a>) -> Option<DurationError<'a>>
+    ensures error { IfSome result (PointsInto (text_of items.old)) }
+    ensures text { text_of items.new ≡ text_of items.old }
+{
+    match items.next() {
+        Some(Err(error)) => Some(error),
+        _ => None,
+    }
 }
 
 /// An error in a start or a time limit.
-#[derive(Clone, Copy, Debug)]
+#[derive(Debug, Drop)]
 pub enum LineError<'a> {
     /// The start is not a valid timestamp.
     Start(TimestampError),
@@ -88,23 +103,9 @@ impl<'a> From<DurationError<'a>> for LineError<'a> {
 /// Returns the moment at which a time limit after a start ends, or `None` if no `SystemTime` represents it.
 pub fn deadline<'a>(start: &str, limit: &'a str) -> Result<Option<SystemTime>, LineError<'a>>
     ensures end { (t : ℤ) (v : ℕ) → strict_answer start.now ≡ Ok t → duration_answer (chars limit.now) ≡ Ok v → IsOkAnd result (λ end. SomeIff end ((t +ℤ pos v) <ℤ moment_end) (t +ℤ pos v)) }
-    ensures texts { IfOk result (λ end. IsOk (strict_answer start.now) × IsOk (duration_answer (chars limit.now))) }
     ensures start { (e : TimestampError) → strict_answer start.now ≡ Err e → result ≡ Err (Start e) }
     ensures limit { (t : ℤ) (e : Fault) → strict_answer start.now ≡ Ok t → duration_answer (chars limit.now) ≡ Err e → IsErrAnd result (λ error. elim error as (λ _. Type 0) [ Limit fault ↦ fault_of fault ≡ e | _ ↦ ⊥ ]) }
 {
     let start = parse_rfc3339(start)?;
     Ok(start.checked_add(parse_duration(limit)?))
-}
-
-/// Returns `true` if a time limit after a start has ended at `now`.
-pub fn has_ended<'a>(start: &str, limit: &'a str, now: SystemTime) -> Result<bool, LineError<'a>>
-    ensures ended { (t : ℤ) (v : ℕ) → strict_answer start.now ≡ Ok t → duration_answer (chars limit.now) ≡ Ok v → IsOkAnd result (λ ended. IsTrue ended ↔ (((t +ℤ pos v) <ℤ moment_end) × ((t +ℤ pos v) ≤ℤ now))) }
-    ensures texts { IfOk result (λ ended. IsOk (strict_answer start.now) × IsOk (duration_answer (chars limit.now))) }
-    ensures start { (e : TimestampError) → strict_answer start.now ≡ Err e → result ≡ Err (Start e) }
-    ensures limit { (t : ℤ) (e : Fault) → strict_answer start.now ≡ Ok t → duration_answer (chars limit.now) ≡ Err e → IsErrAnd result (λ error. elim error as (λ _. Type 0) [ Limit fault ↦ fault_of fault ≡ e | _ ↦ ⊥ ]) }
-{
-    match deadline(start, limit)? {
-        Some(end) => Ok(end <= now),
-        None => Ok(false),
-    }
 }
