@@ -1,6 +1,6 @@
 //! Limits, sums and offsets of errors: callers that parse and print durations.
 
-ghost use Rattle.std.specs.Prelude.{◌≡◌, ◌+◌, ◌*◌, ◌/◌, ◌<◌, ◌≤◌, ◌↔◌, ℕ, List, [], chars, drop, slice_range, option_map, true, IfSome, IsSome, IsOk, IsOkAnd, IsErrAnd, IsTrue, None, Ok, Err};
+ghost use Rattle.std.specs.Prelude.{◌≡◌, ◌+◌, ◌*◌, ◌/◌, ◌<◌, ◌≤◌, ◌↔◌, ℕ, List, [], chars, drop, slice_range, option_map, true, IfSome, IsSome, IsOk, IsOkAnd, IsErrAnd, IsTrue, SomeIff, None, Ok, Err};
 ghost use Rattle.std.specs.Result.{result_map_both};
 ghost use Rattle.humantime.specs.Prelude.{IsCanonicalText, Fault, InvalidCharacter, NumberExpected, UnknownUnit, NumberOverflow, Empty, duration_answer, duration_end, result_view, fault_of, place_of, nanos_per_second};
 
@@ -15,7 +15,7 @@ pub fn limit_seconds(text: &str) -> Result<u64, DurationError<'_>>
 
 /// Returns the sum of a start and a length, `None` if it is too long, or the first error of the two texts.
 pub fn end_of<'a>(start: &'a str, len: &'a str) -> Result<Option<StdDuration>, DurationError<'a>>
-    ensures sum { (v : ℕ) (w : ℕ) → duration_answer (chars start.now) ≡ Ok v → duration_answer (chars len.now) ≡ Ok w → IsOkAnd result (λ end. (IsSome end ↔ (v + w < duration_end)) × IfSome end (λ d. d ≡ v + w)) }
+    ensures sum { (v : ℕ) (w : ℕ) → duration_answer (chars start.now) ≡ Ok v → duration_answer (chars len.now) ≡ Ok w → IsOkAnd result (λ end. SomeIff end (v + w < duration_end) (v + w)) }
     ensures start_fault { (e : Fault) → duration_answer (chars start.now) ≡ Err e → IsErrAnd result (λ error. fault_of error ≡ e) }
     ensures len_fault { (v : ℕ) (e : Fault) → duration_answer (chars start.now) ≡ Ok v → duration_answer (chars len.now) ≡ Err e → IsErrAnd result (λ error. fault_of error ≡ e) }
 {

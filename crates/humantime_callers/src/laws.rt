@@ -2,7 +2,7 @@
 
 ghost use Rattle.std.specs.Prelude.{◌≡◌, ◌≢◌, ◌+◌, ◌/◌, ◌≤◌, ◌++◌, ◌∷◌, ◌<ℤ◌, ◌↔◌, ◌⊎◌, ℕ, ℤ, List, Option, Result, None, Some, Ok, Err, chars, length, option_map, slice_index, true, IfOk, IfSome, IsOk, IsPermutation, IsSome, IsTrue, SomeIff};
 ghost use Rattle.std.specs.Ordering.{int_cmp, is_lt};
-ghost use Rattle.humantime.specs.Prelude.{Accepted, AcceptedWithZeros, AllHaveRoom, AreCounts, AreItems, AreReordered, Fault, Fields, HasFault, IsCanonicalOf, IsCanonicalText, IsMarked, IsPrintable, IsPrinted, IsStrict, IsStrictMoment, IsWeak, IsWeakMoment, Items, NumberOverflow, Reads, SpanView, SpelledSpan, WasAccepted, WithinLimits, additions, bare_zero, cut, canonical_answer, duration_answer, first_failed, nanos_per_second, older_additions, result_view, strict_answer, strict_checks, value, weak_answer, weak_checks, without_whitespace};
+ghost use Rattle.humantime.specs.Prelude.{Accepted, AcceptedWithZeros, AllHaveRoom, AreCounts, AreItems, AreReordered, Fault, Fields, HasFault, IsCanonicalOf, IsCanonicalText, IsMarked, IsPrintable, IsPrinted, IsStrict, IsStrictMoment, IsWeak, IsWeakMoment, Items, NumberOverflow, Reads, SpanView, SpelledSpan, WasAccepted, WithinLimits, additions, bare_zero, cut, canonical_answer, duration_answer, first_failed, nanos_per_second, older_additions, result_view, strict_checks, value, weak_answer, weak_checks, without_whitespace};
 
 use crate::durations::limit_seconds;
 use humantime::laws::{
@@ -141,16 +141,22 @@ pub fn forms_of(text: &str) -> (bool, bool)
     )
 }
 
-/// Returns `true` if a text has a `T` and a zone. Then it is in the strict form if and only if it is in the weak form.
+/// Returns `true` if a text has a `T` and a zone.
 pub fn is_marked(text: &str) -> bool
-    ensures marked { IsTrue result ↔ IsMarked text.now }
-    ensures parts { (f : Fields) → IsStrict text.now f ↔ (IsTrue result × IsWeak text.now f) }
-    ensures moment { (t : ℤ) → IsStrictMoment text.now t ↔ (IsTrue result × IsWeakMoment text.now t) }
-    ensures answer { (t : ℤ) → (strict_answer text.now ≡ Ok t) ↔ (IsTrue result × (weak_answer text.now ≡ Ok t)) }
+    ensures { IsTrue result ↔ IsMarked text.now }
 {
-    strict_is_weak(text);
     let bytes = text.as_bytes();
     bytes.len() > 10 && bytes[10] == b'T' && (bytes.ends_with(b"Z") || bytes.ends_with(b"+00:00"))
+}
+
+/// Parses a text in the strict form, which is the weak form with a `T` and a zone.
+pub fn strict_moment(text: &str) -> Parsed
+    ensures parts { (f : Fields) → IsStrict text.now f ↔ (IsMarked text.now × IsWeak text.now f) }
+    ensures moment { (t : ℤ) → IsStrictMoment text.now t ↔ (IsMarked text.now × IsWeakMoment text.now t) }
+    ensures answer { (t : ℤ) → (result ≡ Ok t) ↔ (IsMarked text.now × (weak_answer text.now ≡ Ok t)) }
+{
+    strict_is_weak(text);
+    parse_rfc3339(text)
 }
 
 /// Prints a moment with nine digits and parses the text in both forms, which returns that moment.

@@ -1,38 +1,42 @@
 //! Callers that iterate over the spans of a text, and use what these borrow.
 
-ghost use Rattle.std.specs.Prelude.{◌≡◌, ◌↔◌, List, Option, Result, chars, flat_map, is_ok, option_map, true, Err, IfOk, IfSome};
+ghost use Rattle.std.specs.Prelude.{◌≡◌, List, Option, Result, chars, flat_map, is_ok, option_map, true, IfSome};
 ghost use Rattle.std.specs.List.{list_all};
-ghost use Rattle.humantime.specs.Prelude.{AreItems, Fault, IsTiled, SpanView, duration_answer, items_left, result_view, slices_of, span_view};
+ghost use Rattle.humantime.specs.Prelude.{AreItems, Fault, IsTiled, SpanView, items_left, slices_of, span_view};
 ghost use Rattle.humantime_callers.specs.FirstItems.{HasDigitEnds, first_span};
 ghost use Rattle.humantime_callers.specs.Longest.{longest_of};
 
 use humantime::laws::spans_tile;
-use humantime::{DurationError, Span, SpanIter, StdDuration, parse_duration, spans};
+use humantime::{Span, SpanIter, StdDuration, parse_duration, spans};
 
-/// Returns the longest span of a duration, each span parsed on its own, or the error of the text.
-pub fn longest_span(text: &str) -> Result<StdDuration, DurationError<'_>>
-    ensures longest { IfOk result (λ longest. (items : List (Result SpanView Fault)) × AreItems (chars text.now) items × (longest ≡ longest_of text.now items)) }
-    ensures fault { (e : Fault) → (result_view result ≡ Err e) ↔ (duration_answer (chars text.now) ≡ Err e) }
+/// Returns the longest span of a text, each span parsed on its own, or zero if no span is a duration.
+pub fn longest_span(text: &str) -> StdDuration
+    ensures { (items : List (Result SpanView Fault)) × AreItems (chars text.now) items × (result ≡ longest_of text.now items) }
 {
-    parse_duration(text)?;
     let mut longest = StdDuration::ZERO;
     for item in spans(text) {
         let Ok(span) = item else { continue };
-        if let Ok(time) = parse_duration(&text[span.start()..span.end()]) {
-            longest = longest.max(time);
-        }
+        let alone = parse_duration(&text[span.start()..span.end()]);
+        longest = longest.max(alone.unwrap_or(StdDuration::ZERO));
     }
-    Ok(longest)
+    longest
+}
+
+/// Returns the next item, if it is a span.
+fn next_span<'a>(items: &mut SpanIter<'a>) -> Option<Span<'a>>
+    ensures { option_map span_view result ≡ first_span (items_left items.old) }
+{
+    match items.next() {
+        Some(Ok(span)) => Some(span),
+        _ => None,
+    }
 }
 
 /// Returns the first item of a text, if it is a span.
 fn first_span(text: &str) -> Option<Span<'_>>
     ensures { (items : List (Result SpanView Fault)) × AreItems (chars text.now) items × (option_map span_view result ≡ first_span items) }
 {
-    match spans(text).next() {
-        Some(Ok(span)) => Some(span),
-        _ => None,
-    }
+    next_span(&mut spans(text))
 }
 
 /// Returns the number, the fraction, the unit, the offsets and the value of the first span of a text.

@@ -67,16 +67,11 @@ pub fn is_stamp(text: &str) -> bool
     }
 }
 
-/// Compares two such stamps by their bytes, which are ordered like the moments that they denote. Returns `None` for other texts.
-pub fn compare_stamps(stamp: &str, other: &str) -> Option<Ordering>
-    ensures within { IsSome result ↔ (IsPrintedWith 3 stamp.now × IsPrintedWith 3 other.now) }
-    ensures order { (a : ℤ) (b : ℤ) → strict_answer stamp.now ≡ Ok a → strict_answer other.now ≡ Ok b → IfSome result (λ order. order ≡ int_cmp a b) }
+/// Compares two such stamps by their bytes, which are ordered like the moments that they denote.
+pub fn compare_stamps(stamp: &str, other: &str) -> Ordering
+    ensures { (a : ℤ) (b : ℤ) → IsPrintedWith 3 stamp.now → IsPrintedWith 3 other.now → strict_answer stamp.now ≡ Ok a → strict_answer other.now ≡ Ok b → result ≡ int_cmp a b }
 {
-    if is_stamp(stamp) && is_stamp(other) {
-        Some(stamp.cmp(other))
-    } else {
-        None
-    }
+    stamp.cmp(other)
 }
 
 /// Returns `true` if one stamp is earlier than another, by comparing their bytes.

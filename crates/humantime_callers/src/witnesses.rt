@@ -63,19 +63,10 @@ pub fn compared_timestamp(a: &Timestamp, b: &Timestamp) -> Compared
     (*a == *b, *a < *b, a.cmp(b), a.partial_cmp(b))
 }
 
-pub fn is_same_date(a: &Date, b: &Date) -> bool
-    ensures { IsTrue result ↔ (a.now ≡ b.now) }
-{
-    *a == *b
-}
+/// A value of each other type whose `==` says that its fields are equal.
+pub type Others = (Date, SystemTimeError, TimestampError);
 
-pub fn is_same_system_time_error(a: &SystemTimeError, b: &SystemTimeError) -> bool
-    ensures { IsTrue result ↔ (a.now ≡ b.now) }
-{
-    *a == *b
-}
-
-pub fn is_same_timestamp_error(a: &TimestampError, b: &TimestampError) -> bool
+pub fn is_same_other(a: &Others, b: &Others) -> bool
     ensures { IsTrue result ↔ (a.now ≡ b.now) }
 {
     *a == *b
@@ -90,13 +81,7 @@ pub fn feed_alike<T: Hash, H: Hasher>(a: &T, b: &T, first: &mut H, second: &mut 
 }
 
 /// A value of each type that can be hashed.
-#[derive(PartialEq, Eq, Hash, Drop)]
-pub struct Times {
-    pub std_duration: StdDuration,
-    pub system_time: SystemTime,
-    pub duration: Duration,
-    pub timestamp: Timestamp,
-}
+pub type Times = (StdDuration, SystemTime, Duration, Timestamp);
 
 /// Feeds equal durations and moments to two hashers, which keeps their states equal.
 pub fn times_feed_alike<H: Hasher>(a: &Times, b: &Times, first: &mut H, second: &mut H)
@@ -105,35 +90,36 @@ pub fn times_feed_alike<H: Hasher>(a: &Times, b: &Times, first: &mut H, second: 
     feed_alike(a, b, first, second);
 }
 
+/// A value of each type that can be copied.
+pub type Copied<'a> = (
+    StdDuration,
+    SystemTime,
+    Duration,
+    Timestamp,
+    Date,
+    Span<'a>,
+    Rfc3339Timestamp,
+    DurationError<'a>,
+    TimestampError,
+    SystemTimeError,
+);
+
 /// A value of each type that can be cloned.
-#[derive(Clone, Drop)]
-pub struct Values<'a> {
-    pub std_duration: StdDuration,
-    pub system_time: SystemTime,
-    pub duration: Duration,
-    pub timestamp: Timestamp,
-    pub date: Date,
-    pub span: Span<'a>,
-    pub printed_duration: FormattedDuration,
-    pub printed_timestamp: Rfc3339Timestamp,
-    pub duration_error: DurationError<'a>,
-    pub timestamp_error: TimestampError,
-    pub system_time_error: SystemTimeError,
-}
+pub type Cloned<'a> = (Copied<'a>, FormattedDuration);
 
 /// Returns clones of all values, which are the values.
-pub fn clone_of<'a>(values: &Values<'a>) -> Result<Values<'a>, AllocError>
+pub fn clone_of<'a>(values: &Cloned<'a>) -> Result<Cloned<'a>, AllocError>
     ensures { IsOkAnd result (λ clone. clone ≡ values.now) }
 {
     values.clone()
 }
 
-/// Returns copies of all values but the printed duration, whose type is not `Copy`.
-pub fn copy_of<'a>(values: &Values<'a>, printed_duration: FormattedDuration) -> Values<'a>
-    ensures { result ≡ record values.now { printed_duration = printed_duration } }
+/// Returns copies of all values whose types are `Copy`.
+pub fn copy_of<'a>(values: &Copied<'a>) -> Copied<'a>
+    ensures { result ≡ values.now }
 {
-    Values {
-        printed_duration,
-        ..*values
-    }
+    (
+        values.0, values.1, values.2, values.3, values.4, values.5, values.6, values.7, values.8,
+        values.9,
+    )
 }
