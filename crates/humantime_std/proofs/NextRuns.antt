@@ -21,7 +21,7 @@ first_run last now every early = record {
   first = λ u due. omega (arith, ints, mul-le 1 every due.periods every due.later (omega arith));
 }
 
--- The moment after a wait that is shorter than a period is the next run if the wait completes a period.
+-- The time after a wait that is shorter than a period is the next run if the wait completes a period.
 pub run_after_wait : (last now : ℤ) (gap every wait : ℕ) → now ≡ last +ℤ pos gap → 0 < gap → wait < every → (gap + wait) % every ≡ 0
     → IsNextRun last every now (now +ℤ pos wait)
 run_after_wait last now gap every wait is some short whole =

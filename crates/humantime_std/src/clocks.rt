@@ -21,14 +21,14 @@ use std::{io, thread};
 /// use humantime::{format_rfc3339_millis, parse_rfc3339};
 /// use humantime_std::now;
 ///
-/// let moment = now(&rt)?;
-/// assert!(rt; moment > parse_rfc3339("2018-02-14T00:28:07Z")?);
+/// let time = now(&rt)?;
+/// assert!(rt; time > parse_rfc3339("2018-02-14T00:28:07Z")?);
 /// let mut buf = [0; 30];
-/// let text = format_rfc3339_millis(moment).text(&mut buf).ok_or("after 9999")?;
+/// let text = format_rfc3339_millis(time).text(&mut buf).ok_or("after 9999")?;
 /// assert_eq!(rt; text.len(), "2018-02-14T00:28:07.000Z".len());
 /// ```
 pub fn now(clock: &impl Clock) -> io::Result<SystemTime>
-    ensures { IfOk result (λ moment. pos 0 ≤ℤ moment) }
+    ensures { IfOk result (λ time. pos 0 ≤ℤ time) }
 {
     Ok(SystemTime::from_std(time::SystemTime::now(clock)?).unwrap())
 }

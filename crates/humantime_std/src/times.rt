@@ -19,9 +19,9 @@ const NANOS_PER_SECOND: u32 = 1_000_000_000;
 /// use humantime::{parse_duration, parse_rfc3339};
 /// use humantime_std::SystemTimeExt;
 ///
-/// let moment = parse_rfc3339("2018-02-14T00:28:07Z")?;
+/// let time = parse_rfc3339("2018-02-14T00:28:07Z")?;
 /// let hour_before = parse_rfc3339("2018-02-13T23:28:07Z")?;
-/// assert_eq!(rt; moment.checked_sub(parse_duration("1h")?), Some(hour_before));
+/// assert_eq!(rt; time.checked_sub(parse_duration("1h")?), Some(hour_before));
 /// ```
 pub trait SystemTimeExt: Sized {
     /// Converts a time of std, or returns `None` if it is 2^63 seconds after 1970 or later. No clock of std returns such a time.
@@ -47,8 +47,8 @@ pub trait SystemTimeExt: Sized {
     /// use humantime_std::SystemTimeExt;
     /// use std::time::{Duration, UNIX_EPOCH};
     ///
-    /// let moment = parse_rfc3339("2018-02-14T00:28:07.000000005Z")?;
-    /// assert_eq!(rt; moment.to_std(), Some(UNIX_EPOCH + Duration::new(1_518_568_087, 5)));
+    /// let time = parse_rfc3339("2018-02-14T00:28:07.000000005Z")?;
+    /// assert_eq!(rt; time.to_std(), Some(UNIX_EPOCH + Duration::new(1_518_568_087, 5)));
     /// let before = SystemTime::from_parts(-1, 999_999_999).ok_or("too many nanoseconds")?;
     /// assert_eq!(rt; before.to_std(), None);
     /// ```
@@ -62,9 +62,9 @@ pub trait SystemTimeExt: Sized {
     /// use humantime::{StdDuration, SystemTime, parse_duration, parse_rfc3339};
     /// use humantime_std::SystemTimeExt;
     ///
-    /// let moment = parse_rfc3339("2018-02-14T00:28:07Z")?;
+    /// let time = parse_rfc3339("2018-02-14T00:28:07Z")?;
     /// let hour_before = parse_rfc3339("2018-02-13T23:28:07Z")?;
-    /// assert_eq!(rt; moment.checked_sub(parse_duration("1h")?), Some(hour_before));
+    /// assert_eq!(rt; time.checked_sub(parse_duration("1h")?), Some(hour_before));
     /// let first = SystemTime::from_parts(i64::MIN, 0).ok_or("too many nanoseconds")?;
     /// assert_eq!(rt; first.checked_sub(StdDuration::new(0, 1)), None);
     /// ```
@@ -102,9 +102,9 @@ impl SystemTimeExt for SystemTime {
     }
 }
 
-/// Returns when a job runs next: the first of the moments `last + every`, `last + 2 * every` and so on that is not before `now`.
+/// Returns when a job runs next: the first of the times `last + every`, `last + 2 * every` and so on that is not before `now`.
 ///
-/// Returns `None` if no `SystemTime` is such a moment. With a period of zero, the only run is at `last`.
+/// Returns `None` if no `SystemTime` is such a time. With a period of zero, the only run is at `last`.
 ///
 /// # Examples
 ///

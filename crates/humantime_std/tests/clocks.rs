@@ -39,8 +39,8 @@ impl Clock for Stopped {
 #[test]
 fn now_reads_the_clock(rt: HostRuntime) {
     for (secs, nanos) in [(0, 0), (1_518_568_087, 133_999_999), (i64::MAX, 999_999_999)] {
-        let moment = now(&Stopped::at(secs.unsigned_abs(), nanos)).expect(&rt, "no time");
-        assert_eq!(rt; Some(moment), SystemTime::from_parts(secs, nanos));
+        let time = now(&Stopped::at(secs.unsigned_abs(), nanos)).expect(&rt, "no time");
+        assert_eq!(rt; Some(time), SystemTime::from_parts(secs, nanos));
     }
     assert!(rt; now(&Stopped::at(1 << 63, 0)).is_err());
 }
