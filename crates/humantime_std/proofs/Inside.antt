@@ -1,9 +1,9 @@
 -- The range of an error lies in the text, between characters.
-use Rattle.std.proofs.Common.{◌≡◌, ℕ, zero, suc, ◌+◌, ◌-◌, ◌<◌, ◌≤◌, List, [], ◌∷◌, length, get_or, drop, inl, inr, add-one, lit<, lit≤, arith, rules}
-use Rattle.std.specs.Prelude.{true, false, Bool, ◌==◌, slice_index}
+use Rattle.std.proofs.Common.{◌≡◌, ℕ, zero, suc, ◌+◌, ◌-◌, ◌<◌, ◌≤◌, List, [], ◌∷◌, length, get_or, drop, inl, inr, add-one, lit<, arith, rules}
+use Rattle.std.specs.Prelude.{true, false, ◌==◌}
 use Rattle.std.specs.Char.{is_ascii_digit}
 use Rattle.std.specs.List.{common_prefix_len, prefix_len}
-use Rattle.std.specs.Str.{IsUtf8, IsCharBoundary, byte}
+use Rattle.std.specs.Str.{IsUtf8, IsCharBoundary}
 use Rattle.std.proofs.lemmas.Bool.{cases_lt, cases_Bool}
 use Rattle.std.proofs.lemmas.Bool.Decides.{nat_tests}
 use Rattle.std.proofs.lemmas.List.{get_or-drop, get_or_past, length-drop}
@@ -11,11 +11,7 @@ use Rattle.std.proofs.lemmas.List.Sums.{common_prefix_len-le, prefix_len-le-leng
 use Rattle.std.proofs.lemmas.Str.{IsCharBoundary-start, IsCharBoundary-end, IsCharBoundary-after_ascii}
 use Rattle.humantime.specs.declared.date.error.TimestampError.{TimestampError}
 use Rattle.humantime.specs.declared.date.error.TimestampError.TheVariants.{OutOfRange, InvalidDigit, InvalidFormat}
-use Rattle.humantime.specs.Timestamps.Checks.{date_time_of}
-use Rattle.humantime.specs.declared.duration.error.DurationError.{DurationError}
-use Rattle.humantime.specs.declared.duration.error.DurationError.TheVariants as errors
-use Rattle.humantime.specs.Durations.Errors.{PointsInto, fault_of}
-use Rattle.humantime_std.specs.Located.{IsRangeIn, bounds, char_end, duration_range, error_range, first_outside, fit_len, fits, fraction_end, is_continuation, timestamp_len, range_behind, strict_layout, weak_layout, wrong_field, zone_len}
+use Rattle.humantime_std.specs.Located.{IsRangeIn, char_end, error_range, fit_len, fits, fraction_end, is_continuation, timestamp_len, range_behind, strict_layout, weak_layout, wrong_field, zone_len}
 
 -- The end of a character is a boundary.
 end_of_char : (b : List ℕ) (at : ℕ) → at ≤ length b → IsCharBoundary b (char_end b at) × (at ≤ char_end b at)
@@ -44,53 +40,26 @@ after_ascii b (suc k) utf8 inside ascii =
     rw add-one at (IsCharBoundary-after_ascii b k utf8 (omega arith) (rw before at (ascii (omega arith))))
 
 -- The bytes that fit a layout of ASCII are ASCII.
-fits_ascii : (p c : ℕ) → p < 128 → fits p c ≡ true → c < 128
-fits_ascii p c small fit = grind (arith, nat_tests)
-
 abbrev AllAscii : List ℕ → Type 0
 AllAscii [] = Unit {0}
 AllAscii (p ∷ ps) = (p < 128) × AllAscii ps
 
 fitting_ascii : (layout b : List ℕ) (k : ℕ) → AllAscii layout → k < common_prefix_len fits layout b → get_or b k 0 < 128
-fitting_ascii [] b k ascii few = absurd (omega (arith, few))
-fitting_ascii (p ∷ ps) [] k ascii few = absurd (omega (arith, few))
-fitting_ascii (p ∷ ps) (c ∷ cs) k ascii few =
-    elim (cases_Bool (fits p c)) [
-      | inl fit ↦ elim k as (λ i. i < common_prefix_len fits (p ∷ ps) (c ∷ cs) → get_or (c ∷ cs) i 0 < 128) [
-        | zero ↦ λ _. fits_ascii p c ascii.0 fit
-        | suc j ↦ λ less. fitting_ascii ps cs j ascii.1 (omega (arith, rw fit at less))
-      ] few
-      | inr gap ↦ absurd (omega (arith, rw gap at few))
-    ]
+fitting_ascii (p ∷ ps) (c ∷ cs) zero ascii few = grind (arith, nat_tests)
+fitting_ascii (p ∷ ps) (c ∷ cs) (suc k) ascii few = grind (arith, (fitting_ascii ps cs k ascii.1))
+fitting_ascii layout b k ascii few = grind arith
 
 -- The seconds, or the fraction, end with an ASCII byte.
 fraction_ascii : (b : List ℕ) → 19 ≤ length b → get_or b 18 0 < 128
     → (19 ≤ fraction_end b) × (fraction_end b ≤ length b) × (get_or b (fraction_end b - 1) 0 < 128)
 unfolding fraction_end
 fraction_ascii b long seconds =
-    elim (cases_Bool (slice_index b 19 == byte ".")) [
-      | inl point ↦
-          let rest = drop 20 b in
-          let n : ℕ = prefix_len is_ascii_digit rest in
-          let some : 20 ≤ length b = elim (cases_lt 19 (length b)) [
-            | inl more ↦ omega arith
-            | inr less ↦ absurd (grind (arith, nat_tests, (get_or_past b 19 0 less)))
-          ] in
-          let few = prefix_len-le-length is_ascii_digit rest in
-          let size : length rest ≡ length b - 20 = length-drop 20 b in
-          let last : get_or b (20 + n - 1) 0 < 128 = elim (cases_lt 0 n) [
-            | inl digits ↦
-                let digit : is_ascii_digit (get_or rest (n - 1) 0) ≡ true = prefix_len_passes is_ascii_digit rest (n - 1) 0 (omega arith) in
-                let there : is_ascii_digit (get_or b (20 + (n - 1)) 0) ≡ true = rw get_or-drop at digit in
-                let same : 20 + n - 1 ≡ 20 + (n - 1) = omega arith in
-                rw same (grind (arith, nat_tests))
-            | inr none ↦
-                let same : 20 + n - 1 ≡ 19 = omega arith in
-                rw same (grind (arith, nat_tests))
-          ] in
-          rw point (omega arith, omega (arith, few, size, some), last)
-      | inr other ↦ rw other (omega arith, long, seconds)
-    ]
+    let n : ℕ = prefix_len is_ascii_digit (drop 20 b) in
+    let few : n ≤ length (drop 20 b) = prefix_len-le-length is_ascii_digit (drop 20 b) in
+    let size : length (drop 20 b) ≡ length b - 20 = length-drop 20 b in
+    let digit : 0 < n → is_ascii_digit (get_or (drop 20 b) (n - 1) 0) ≡ true = λ some. prefix_len_passes is_ascii_digit (drop 20 b) (n - 1) 0 (omega arith) in
+    let there : get_or (drop 20 b) (n - 1) 0 ≡ get_or b (20 + (n - 1)) 0 = get_or-drop 20 b (n - 1) 0 in
+    grind (arith, nat_tests, (get_or_past b 19 0))
 
 -- A zone ends with an ASCII byte.
 zone_ascii : (rest : List ℕ) → (zone_len rest ≤ length rest) × (0 < zone_len rest → get_or rest (zone_len rest - 1) 0 < 128)
@@ -118,24 +87,15 @@ timestamp_inside b utf8 long seconds =
     ] in
     record { order = inside; at_start = after_ascii b (from + n) utf8 inside ascii; at_end = IsCharBoundary-end b }
 
--- A property of the range of each field is one of the first field that is out of its bounds.
-abbrev HoldsOfAll : (ℕ → ℕ → Type 0) → List (Bool × ℕ × ℕ) → Type 0
-HoldsOfAll P [] = Unit {0}
-HoldsOfAll P (field ∷ fields) = P field.1 field.2 × HoldsOfAll P fields
-
-first_outside_has : (P : ℕ → ℕ → Type 0) → P 0 0 → (fields : List (Bool × ℕ × ℕ)) → HoldsOfAll P fields → P (first_outside fields).0 (first_outside fields).1
-first_outside_has P none [] all = none
-first_outside_has P none (field ∷ fields) all =
-    elim (cases_Bool field.0) [ inl inside ↦ rw inside (first_outside_has P none fields all.1) | inr outside ↦ rw outside all.0 ]
+field_few : (b : List ℕ) → ((wrong_field b).0 ≤ (wrong_field b).1) × ((wrong_field b).1 ≤ 19)
+unfolding wrong_field
+field_few b = grind arith
 
 field_inside : (b : List ℕ) → IsUtf8 b → 19 ≤ length b → ((k : ℕ) → k < 19 → get_or b k 0 < 128) → IsRangeIn b (wrong_field b).0 (wrong_field b).1
-unfolding wrong_field
 field_inside b utf8 long ascii =
+    let few = field_few b in
     let at : (k : ℕ) → k ≤ 19 → IsCharBoundary b k = λ k few. after_ascii b k utf8 (omega (arith, long)) (λ some. ascii (k - 1) (omega arith)) in
-    let range : (k m : ℕ) → k ≤ m → m ≤ 19 → IsRangeIn b k m = λ k m order few. record { order = order; at_start = at k (omega arith); at_end = at m few } in
-    let x = date_time_of b in
-    first_outside_has (IsRangeIn b) (range 0 0 (lit≤ tt) (lit≤ tt)) (bounds x.date.year x.date.month x.date.day x.hour x.minute x.second)
-    (range 0 4 (lit≤ tt) (lit≤ tt), (range 5 7 (lit≤ tt) (lit≤ tt), (range 8 10 (lit≤ tt) (lit≤ tt), (range 11 13 (lit≤ tt) (lit≤ tt), (range 14 16 (lit≤ tt) (lit≤ tt), (range 17 19 (lit≤ tt) (lit≤ tt), tt))))))
+    record { order = few.0; at_start = at _ (omega arith); at_end = at _ few.1 }
 
 -- A range of an error is in the text.
 range_inside : (layout b : List ℕ) (e : TimestampError) → AllAscii layout → IsUtf8 b → IsRangeIn b (error_range layout b e).0 (error_range layout b e).1
@@ -167,28 +127,15 @@ strict_inside b e utf8 = range_inside strict_layout b e (search rules) utf8
 
 -- ---- Durations
 
-character_inside : (b : List ℕ) (at : ℕ) → at < length b → IsCharBoundary b at → IsRangeIn b at (char_end b at)
+pub character_inside : (b : List ℕ) (at : ℕ) → at < length b → IsCharBoundary b at → IsRangeIn b at (char_end b at)
 character_inside b at some boundary =
     let end = end_of_char b at (omega arith) in
     record { order = end.1; at_start = boundary; at_end = end.0 }
 
-whole_inside : (b : List ℕ) → IsUtf8 b → IsRangeIn b 0 (length b)
+pub whole_inside : (b : List ℕ) → IsUtf8 b → IsRangeIn b 0 (length b)
 whole_inside b utf8 = record { order = omega arith; at_start = IsCharBoundary-start b utf8; at_end = IsCharBoundary-end b }
 
-pub duration_inside : (b : List ℕ) (e : DurationError) → IsUtf8 b → PointsInto b e
-    → IsRangeIn b (duration_range b (fault_of e)).0 (duration_range b (fault_of e)).1
-duration_inside b (errors.InvalidCharacter at) utf8 place = character_inside b at place.0 place.1
-duration_inside b (errors.NumberExpected at) utf8 place = character_inside b at place.0 place.1
-duration_inside b (errors.UnknownUnit start end unit value) utf8 place = record { order = place.0.0; at_start = place.0.1; at_end = place.0.2 }
-duration_inside b errors.NumberOverflow utf8 place = whole_inside b utf8
-duration_inside b errors.Empty utf8 place = whole_inside b utf8
-
 -- ---- Marks
-
--- The last boundary up to a boundary is this one.
-pub floor_at_boundary : (b : List ℕ) (i r : ℕ) → IsCharBoundary b i → r ≤ i → ((j : ℕ) → r < j → j ≤ i → ¬ (IsCharBoundary b j)) → r ≡ i
-floor_at_boundary b i r boundary below nearest =
-    elim (cases_lt r i) [ inl less ↦ absurd (nearest i less (omega arith) boundary) | inr same ↦ omega arith ]
 
 pub boundary_in_rest : (b : List ℕ) (k m : ℕ) → k ≤ m → IsCharBoundary b m → IsCharBoundary (drop k b) (m - k)
 boundary_in_rest b k m order boundary =

@@ -1,2 +1,3 @@
+pub mod Fronts
 pub mod Located
 pub mod Schedule

@@ -1,14 +1,19 @@
 -- The bytes that are wrong in a text that is not a timestamp or a duration. A text is its list of bytes.
-use Rattle.std.specs.Prelude.{◌≤◌, ◌+◌, ◌==◌, ◌||◌, nat_eq, nat_le, min, if◌then◌else◌, ℕ, Bool, List, [], ◌∷◌, length, drop, slice_index, codes, Option, Some, None}
+use Rattle.std.specs.Prelude.{◌≡◌, ◌≤◌, chars, ◌+◌, ◌==◌, ◌||◌, nat_eq, nat_le, min, if◌then◌else◌, ℕ, Bool, List, [], ◌∷◌, length, drop, slice_index, codes, Option, option_map}
 use Rattle.std.specs.Char.{is_ascii_digit}
 use Rattle.std.specs.Int.{is_in_range}
 use Rattle.std.specs.List.{common_prefix_len, prefix_len, starts_with}
+use Rattle.std.specs.Result.{result_err}
 use Rattle.std.specs.Str.{IsCharBoundary, byte}
 use Rattle.humantime.specs.declared.date.error.TimestampError.{TimestampError}
 use Rattle.humantime.specs.declared.date.error.TimestampError.TheVariants.{OutOfRange}
 use Rattle.humantime.specs.Calendar.{is_valid}
+use Rattle.humantime.specs.Durations.Accepted.{too_long}
+use Rattle.humantime.specs.Durations.Characters.{byte_length, offset_of}
 use Rattle.humantime.specs.Durations.Faults as durations
-use Rattle.humantime.specs.Timestamps.Checks.{date_time_of, strict_checks, weak_checks}
+use Rattle.humantime.specs.Durations.Faults.{HasFault, after_word, span_of}
+use Rattle.humantime.specs.Results.Timestamps.{strict_answer, weak_answer}
+use Rattle.humantime.specs.Timestamps.Checks.{date_time_of}
 use Rattle.humantime_std.specs.declared.located.Located.{Located}
 
 -- A range of bytes: its first offset, and the offset after it.
@@ -96,9 +101,10 @@ timestamp_len b = fraction_end b + zone_len (drop (fraction_end b) b)
 abbrev pub rest_of : List ℕ → Range
 rest_of b = (timestamp_len b, length b)
 
--- ---- The checks
+-- ---- Timestamps
 
--- The range of an error in a text of this layout: what does not fit the layout, the wrong field, or what follows the timestamp.
+-- The bytes of an error in a text of this layout: the first character that does not fit it; else the first number that is out of its
+-- bounds, if that is the error; else what follows the longest timestamp at the front.
 abbrev pub range_behind : List ℕ → TimestampError → Range
 range_behind b OutOfRange = wrong_field b
 range_behind b _ = rest_of b
@@ -106,34 +112,35 @@ range_behind b _ = rest_of b
 abbrev pub error_range : List ℕ → List ℕ → TimestampError → Range
 error_range layout b e = if fit_len layout b == 19 then range_behind b e else misfit layout b
 
--- The range at fault of each check of `weak_checks`, in a text of this layout.
-abbrev pub ranges : List ℕ → List ℕ → List Range
-ranges layout b = misfit layout b ∷ misfit layout b ∷ misfit layout b ∷ wrong_field b ∷ rest_of b ∷ rest_of b ∷ []
+-- Returns an error of a text in this layout with its bytes.
+abbrev pub located : List ℕ → List ℕ → TimestampError → Located TimestampError
+located layout b e = record { error = e; start = (error_range layout b e).0; end = (error_range layout b e).1 }
 
--- The range at fault of each check of `strict_checks`: of the first, the character that does not fit, or what stands in place of the zone.
-abbrev pub strict_ranges : List ℕ → List Range
-strict_ranges b = (if fit_len strict_layout b == 19 then rest_of b else misfit strict_layout b) ∷ ranges strict_layout b
+-- Returns the error of a text in the weak form, if any, with its bytes.
+abbrev pub weak_error : List ℕ → Option (Located TimestampError)
+weak_error b = option_map (located weak_layout b) (result_err (weak_answer b))
 
--- Returns the error of the first check that fails, with its range, or `None` if none does.
-abbrev pub first_located : List (Bool × TimestampError) → List Range → Option (Located TimestampError)
-first_located (check ∷ checks) (range ∷ ranges) =
-    if check.0 then first_located checks ranges else Some (record { error = check.1; start = range.0; end = range.1 })
-first_located _ _ = None
-
--- The fault of a text in the weak form.
-unfoldable pub weak_error : List ℕ → Option (Located TimestampError)
-weak_error b = first_located (weak_checks b) (ranges weak_layout b)
-
--- The fault of a text in the strict form.
-unfoldable pub strict_error : List ℕ → Option (Located TimestampError)
-strict_error b = first_located (strict_checks b) (strict_ranges b)
+-- Returns the error of a text in the strict form, if any, with its bytes.
+abbrev pub strict_error : List ℕ → Option (Located TimestampError)
+strict_error b = option_map (located strict_layout b) (result_err (strict_answer b))
 
 -- ---- Durations
 
--- The bytes of a duration's fault: the character that is wrong, the unit, or the whole text.
-abbrev pub duration_range : List ℕ → durations.Fault → Range
-duration_range text (durations.InvalidCharacter at) = (at, char_end text at)
-duration_range text (durations.NumberExpected at) = (at, char_end text at)
-duration_range text (durations.UnknownUnit start end unit value) = (start, end)
-duration_range text durations.NumberOverflow = (0, length text)
-duration_range text durations.Empty = (0, length text)
+-- Returns the offset after the span at the front of a rest, or the end of the text if its number or its fraction is too long.
+abbrev pub overflow_end : List ℕ → List ℕ → ℕ
+overflow_end text rest = if too_long (span_of rest) then byte_length text else offset_of text (after_word rest)
+
+-- The text, as characters, overflows at the span between these offsets: the spans before it are within the limits, and together with it
+-- they are not, or it is too long.
+pub record OverflowsAt (text : List ℕ) (start end : ℕ) : Type 0 where
+  pub fault : HasFault text durations.NumberOverflow
+  pub at_start : start ≡ offset_of text fault.rest
+  pub at_end : end ≡ overflow_end text fault.rest
+
+-- The bytes of a duration's fault: the character that is wrong, the unit, the span at which the text overflows, or the whole text.
+abbrev pub IsFaultRange : List ℕ → durations.Fault → ℕ → ℕ → Type 0
+IsFaultRange text (durations.InvalidCharacter at) start end = (start ≡ at) × (end ≡ char_end text at)
+IsFaultRange text (durations.NumberExpected at) start end = (start ≡ at) × (end ≡ char_end text at)
+IsFaultRange text (durations.UnknownUnit from to unit value) start end = (start ≡ from) × (end ≡ to)
+IsFaultRange text durations.NumberOverflow start end = OverflowsAt (chars text) start end
+IsFaultRange text durations.Empty start end = (start ≡ 0) × (end ≡ length text)

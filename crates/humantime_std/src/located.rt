@@ -1,16 +1,19 @@
 //! The parsers of `humantime` with errors that have a place: the bytes that are wrong.
 
-ghost use Rattle.std.specs.Prelude.{◌≡◌, ◌+◌, ◌^◌, ◌<◌, ◌≤◌, chars, length, slice_range, take, true, IfErr};
+ghost use Rattle.std.specs.Prelude.{◌≡◌, ◌+◌, ◌^◌, ◌<◌, ◌≤◌, chars, length, slice_range, suc, take, true, IfErr, IfNone, IfSome};
 ghost use Rattle.std.specs.Char.{is_ascii_digit};
 ghost use Rattle.std.specs.List.{prefix_len};
 ghost use Rattle.std.specs.Result.{result_err, result_map_both};
 ghost use Rattle.std.specs.Str.{IsCharBoundary};
-ghost use Rattle.humantime.specs.Prelude.{PointsInto, duration_answer, fault_of, strict_answer, weak_answer};
+ghost use Rattle.humantime.specs.Prelude.{HasFault, NumberOverflow, PointsInto, duration_answer, fault_of, span_view, strict_answer, weak_answer};
 ghost use Rattle.humantime.specs.Timestamps.Checks.{has_digits, has_two, number_between};
 ghost use Rattle.humantime_std.specs.Located as spec;
-ghost use Rattle.humantime_std.specs.Located.{IsRangeIn, bounds, duration_range, error_range, strict_error, weak_error};
+ghost use Rattle.humantime_std.specs.Fronts.{BeginsSpans, Fit, IsSpanAfter, begun, end_after};
+ghost use Rattle.humantime_std.specs.Located.{IsFaultRange, IsRangeIn, OverflowsAt, bounds, is_continuation, strict_error, weak_error};
 
-use humantime::{Date, DurationError, StdDuration, SystemTime, TimestampError, Turns, day_number};
+use humantime::{
+    Date, DurationError, Span, StdDuration, SystemTime, TimestampError, Turns, day_number, spans,
+};
 use std::error::Error;
 use std::fmt::{self, Display};
 use unicode_width::UnicodeWidthStr;
@@ -57,14 +60,14 @@ impl<E> Located<E> {
     /// let mark = format!(in rt.alloc(); "{}", error.underline(text))?;
     /// assert_eq!(rt; mark.as_str(), "     ^^^^^^^");
     /// ```
-    #[tactic(auto, using(crate::proofs::Inside::floor_at_boundary, crate::proofs::Inside::boundary_in_rest))]
+    #[tactic(auto, using(crate::proofs::Inside::boundary_in_rest))]
     pub fn underline<'a>(&self, text: &'a str) -> Underline<'a>
         ensures before { IsRangeIn text.now self.now.start self.now.end → result.before.now ≡ take self.now.start text.now }
         ensures part { IsRangeIn text.now self.now.start self.now.end → result.part.now ≡ slice_range text.now self.now.start self.now.end }
     {
-        let (before, rest) = text.split_at(text.floor_char_boundary(self.start));
-        let len = rest.floor_char_boundary(self.end.saturating_sub(before.len()));
-        let (part, _) = rest.split_at(len);
+        let (before, rest) = text.split_at_checked(self.start).unwrap_or((text, ""));
+        let len = self.end.saturating_sub(self.start);
+        let (part, _) = rest.split_at_checked(len).unwrap_or((rest, ""));
         Underline { before, part }
     }
 
@@ -158,7 +161,8 @@ static STRICT: Layout = *b"0000-00-00T00:00:00";
 /// # Errors
 ///
 /// Returns its error with the character that is wrong, with the unit, or, if this is missing, with the end of the text. The place of
-/// `NumberOverflow` and of `Empty` is the whole text.
+/// `NumberOverflow` is the first span up to whose end the text overflows, or, if its number or fraction is too long, all from there on. The
+/// place of `Empty` is the whole text.
 ///
 /// # Examples
 ///
@@ -172,7 +176,7 @@ static STRICT: Layout = *b"0000-00-00T00:00:00";
 /// ```
 pub fn parse_duration(text: &str) -> Result<StdDuration, Located<DurationError<'_>>>
     ensures answer { result_map_both (λ d. d) (λ e. fault_of e.error) result ≡ duration_answer (chars text.now) }
-    ensures place { IfErr result (λ e. (e.start, e.end) ≡ duration_range text.now (fault_of e.error)) }
+    ensures place { IfErr result (λ e. IsFaultRange text.now (fault_of e.error) e.start e.end) }
     ensures range { IfErr result (λ e. IsRangeIn text.now e.start e.end) }
 {
     match humantime::parse_duration(text) {
@@ -218,7 +222,7 @@ pub fn parse_rfc3339_weak(text: &str) -> Result<SystemTime, Located<TimestampErr
     ensures range { IfErr result (λ e. IsRangeIn text.now e.start e.end) }
 {
     match humantime::parse_rfc3339_weak(text) {
-        Ok(moment) => Ok(moment),
+        Ok(time) => Ok(time),
         Err(error) => Err(error_in(&WEAK, text, error)),
     }
 }
@@ -251,29 +255,102 @@ pub fn parse_rfc3339(text: &str) -> Result<SystemTime, Located<TimestampError>>
     ensures range { IfErr result (λ e. IsRangeIn text.now e.start e.end) }
 {
     match humantime::parse_rfc3339(text) {
-        Ok(moment) => Ok(moment),
+        Ok(time) => Ok(time),
         Err(error) => Err(error_in(&STRICT, text, error)),
     }
 }
 
 /// Returns the range of a duration's error.
+#[tactic(auto, using(crate::proofs::Inside::character_inside, crate::proofs::Inside::whole_inside))]
 fn duration_range(text: &str, error: &DurationError<'_>) -> (usize, usize)
-    requires { PointsInto text.now error.now }
-    ensures { result ≡ spec.duration_range text.now (fault_of error.now) }
+    requires points { PointsInto text.now error.now }
+    requires fault { HasFault (chars text.now) (fault_of error.now) }
+    ensures place { IsFaultRange text.now (fault_of error.now) result.0 result.1 }
+    ensures range { IsRangeIn text.now result.0 result.1 }
 {
     match error {
-        DurationError::InvalidCharacter(at) | DurationError::NumberExpected(at) => {
-            (*at, char_end(text, *at))
-        }
+        DurationError::InvalidCharacter(at) => (*at, char_end(text, *at)),
+        DurationError::NumberExpected(at) => (*at, char_end(text, *at)),
         DurationError::UnknownUnit { start, end, .. } => (*start, *end),
-        DurationError::NumberOverflow | DurationError::Empty => (0, text.len()),
+        DurationError::NumberOverflow => overflow_range(text),
+        DurationError::Empty => (0, text.len()),
+    }
+}
+
+/// Returns the range of the first span up to whose end a text overflows.
+fn overflow_range(text: &str) -> (usize, usize)
+    requires { HasFault (chars text.now) NumberOverflow }
+    ensures place { OverflowsAt (chars text.now) result.0 result.1 }
+    ensures range { IsRangeIn text.now result.0 result.1 }
+{
+    let (count, end) = fitting_front(text);
+    match nth_span(text, count) {
+        Some(span) => (span.start(), span.end()),
+        None => {
+            let (_, rest) = text.split_at(end);
+            (text.len() - rest.trim_start().len(), text.len())
+        }
+    }
+}
+
+/// Returns how many spans at the front of a text are within the limits, and the offset after them.
+///
+/// Each test parses a front of the text, so their number is halved, and not counted up.
+fn fitting_front(text: &str) -> (usize, usize)
+    requires { HasFault (chars text.now) NumberOverflow }
+    ensures fit { Fit (chars text.now) result.0 }
+    ensures most { ¬ (Fit (chars text.now) (suc result.0)) }
+    ensures end { result.1 ≡ end_after result.0 (chars text.now) }
+    ensures boundary { IsCharBoundary text.now result.1 }
+{
+    let (mut low, mut high, mut front) = (0, text.len(), 0);
+    while low < high {
+        let middle = low + (high - low) / 2;
+        match fitting_end(text, middle) {
+            Some(end) => {
+                low = middle + 1;
+                front = end;
+            }
+            None => high = middle,
+        }
+    }
+    (low, front)
+}
+
+/// Returns the offset after the span at an index, if the spans up to it are within the limits.
+fn fitting_end(text: &str, index: usize) -> Option<usize>
+    ensures fit { IfSome result (λ end. Fit (chars text.now) (suc index)) }
+    ensures end { IfSome result (λ end. end ≡ end_after (suc index) (chars text.now)) }
+    ensures boundary { IfSome result (λ end. IsCharBoundary text.now end) }
+    ensures none { IfNone result (¬ (Fit (chars text.now) (suc index))) }
+{
+    let span = nth_span(text, index)?;
+    let end = span.end();
+    let (front, _) = text.split_at(end);
+    match humantime::parse_duration(front) {
+        Ok(_) => Some(end),
+        Err(_) => None,
+    }
+}
+
+/// Returns the span at an index, if there is one.
+fn nth_span(text: &str, index: usize) -> Option<Span<'_>>
+    ensures some { IfSome result (λ s. IsSpanAfter (chars text.now) index (span_view s).start (span_view s).end) }
+    ensures none { IfNone result (¬ (BeginsSpans (suc index) (begun (chars text.now)))) }
+{
+    let Some(item) = spans(text).nth(index) else {
+        return None;
+    };
+    match item {
+        Ok(span) => Some(span),
+        Err(_) => None,
     }
 }
 
 /// Returns an error of a timestamp with its range.
 fn error_in(layout: &Layout, text: &str, error: TimestampError) -> Located<TimestampError>
-    requires numbers { spec.fit_len layout.now text.now ≡ 19 → (19 ≤ length text.now) × (has_digits text.now ≡ true) }
-    ensures { result ≡ record { error = error; start = (error_range layout.now text.now error).0; end = (error_range layout.now text.now error).1 } }
+    requires numbers { spec.fit_len layout.now text.now ≡ 19 → has_digits text.now ≡ true }
+    ensures { result ≡ spec.located layout.now text.now error }
 {
     let fitting = fit_len(layout, text.as_bytes());
     let (start, end) = if fitting < layout.len() {
@@ -288,17 +365,31 @@ fn error_in(layout: &Layout, text: &str, error: TimestampError) -> Located<Times
 }
 
 /// Returns the offset after the character at an offset, or the end of the text if there is none.
-#[tactic(auto, using(crate::proofs::Ranges::char_end_found))]
+#[tactic(auto, unfolding(crate::specs::Located::char_end))]
 fn char_end(text: &str, at: usize) -> usize
     requires { at ≤ length text.now }
-    ensures end { result ≡ spec.char_end text.now at }
-    ensures boundary { IsCharBoundary text.now result }
+    ensures { result ≡ spec.char_end text.now at }
 {
-    text.ceil_char_boundary(at + 1)
+    let bytes = text.as_bytes();
+    if at == bytes.len() {
+        return at;
+    }
+    at + 1 + continuation_len(&bytes[at + 1..])
+}
+
+/// Returns the number of bytes at the front that continue a character.
+fn continuation_len(bytes: &[u8]) -> usize
+    ensures len { result ≡ prefix_len is_continuation bytes.now }
+    ensures within { result ≤ length bytes.now }
+{
+    bytes
+        .iter()
+        .take_while(|b| **b >= 0x80 && **b <= 0xbf)
+        .count()
 }
 
 /// Returns the number of bytes at the front that fit a layout.
-#[tactic(auto, unfolding(crate::specs::Located::fit_len))]
+#[tactic(auto, using(crate::proofs::Ranges::fit_steps), unfolding(crate::specs::Located::fit_len))]
 fn fit_len(layout: &Layout, bytes: &[u8]) -> usize
     ensures len { result ≡ spec.fit_len layout.now bytes.now }
     ensures within { result ≤ length bytes.now }

@@ -53,6 +53,37 @@ fn a_timestamp_has_its_place(rt: HostRuntime) {
 }
 
 #[test]
+fn an_overflow_has_its_span(rt: HostRuntime) {
+    for (text, start, end) in [
+        ("18446744073709551615m", 0, 21),
+        ("1s 0.0001h 3s", 3, 10),
+        ("584542046090y 584542046090y", 14, 27),
+        ("584542046090y 1h 584542046090y 1h x", 17, 30),
+        ("1ns18446744073709551615ns 5s", 3, 25),
+        ("\u{2003}1s\u{2003}0.5ns\u{2003}x", 8, 13),
+        ("1s 99999999999999999999s", 3, 24),
+        ("1s 0.12345678901234567891h", 3, 26),
+        ("18446744073709551616~ 1s", 0, 24),
+        ("18446744073709551615s 1s 99999999999999999999s", 22, 24),
+    ] {
+        let error = parse_duration(text).expect_err(&rt, "it overflows");
+        assert_eq!(rt; error, Located { error: DurationError::NumberOverflow, start, end }, "{text}");
+    }
+}
+
+#[test]
+fn an_overflow_has_its_span_behind_many(rt: HostRuntime) -> Result<(), Fail> {
+    let mut text = String::new(rt.alloc());
+    for _i in 0..1 << 14 {
+        text.push_str("1 h ")?;
+    }
+    text.push_str("18446744073709551615s 5s")?;
+    let error = parse_duration(&text).expect_err(&rt, "it overflows");
+    assert_eq!(rt; (error.start, error.end), (1 << 16, (1 << 16) + 21));
+    Ok(())
+}
+
+#[test]
 fn a_long_text_has_its_place(rt: HostRuntime) -> Result<(), Fail> {
     let mut text = String::new(rt.alloc());
     text.push_str("2018-02-14T00:28:07.")?;
