@@ -1,14 +1,17 @@
-//! Prints when each job of a file runs next, and how long it is until then: `schedule FILE NOW`.
+//! Prints when each job of a file runs next, how long it is until then, and when a failed job runs again: `schedule FILE NOW RETRY`.
 //!
-//! A line of the file is a job's name, the moment of its last run and its period, with spaces or tabs between them. The exit status is 0,
-//! or 1 if the file cannot be read or a line is wrong, 2 if an argument is, and 3 if writing fails or memory is refused.
+//! A line of the file is a job's name, the time of its last run and its period, with spaces or tabs between them. RETRY is
+//! `FIRST..MOST xN`: the delay after the first failure, the longest delay, and how many times as long each delay is as the one before. The
+//! exit status is 0, or 1 if the file cannot be read or a line is wrong, 2 if an argument is, and 3 if writing fails or memory is refused.
 #![tactic(auto)]
+
+ghost use Rattle.std.specs.Prelude.{◌≡◌, ◌*◌, min};
 
 use humantime::{
     DurationError, StdDuration, SystemTime, TimestampError, format_duration, format_rfc3339,
-    parse_duration, parse_rfc3339,
 };
-use humantime_std::next_run;
+use humantime_std::located::{parse_duration, parse_rfc3339};
+use humantime_std::{Located, StdDurationExt, next_run};
 use std::process::ExitCode;
 use std::{env, fmt, fs, io};
 
@@ -19,18 +22,30 @@ struct Job<'a> {
     every: StdDuration,
 }
 
-/// What is wrong with a line.
+/// How a failed job runs again.
 #[derive(Clone, Copy)]
-enum JobError<'a> {
-    Last(TimestampError),
-    Every(DurationError<'a>),
+struct Retry {
+    first: StdDuration,
+    most: StdDuration,
+    factor: u32,
 }
 
-impl fmt::Display for JobError<'_> {
+/// A wrong text, and what is wrong with it.
+#[derive(Clone, Copy)]
+enum Wrong<'a> {
+    Time(&'a str, Located<TimestampError>),
+    Duration(&'a str, Located<DurationError<'a>>),
+    Retry(&'a str),
+}
+
+impl fmt::Display for Wrong<'_> {
     fn fmt<W: fmt::Write>(&self, f: &mut fmt::Formatter<W>) -> fmt::Result {
         match self {
-            JobError::Last(error) => write!(f, "its last run: {error}"),
-            JobError::Every(error) => write!(f, "its period: {error}"),
+            Wrong::Time(text, error) => write!(f, "{error}\n  {text}\n  {}", error.underline(text)),
+            Wrong::Duration(text, error) => {
+                write!(f, "{error}\n  {text}\n  {}", error.underline(text))
+            }
+            Wrong::Retry(text) => write!(f, "not of the form FIRST..MOST xN\n  {text}"),
         }
     }
 }
@@ -42,12 +57,51 @@ fn split_word(text: &str) -> (&str, &str) {
         .unwrap_or((text, ""))
 }
 
-fn read_job(line: &str) -> Result<Job<'_>, JobError<'_>> {
+fn read_time(text: &str) -> Result<SystemTime, Wrong<'_>> {
+    parse_rfc3339(text).map_err(|error| Wrong::Time(text, error))
+}
+
+fn read_duration(text: &str) -> Result<StdDuration, Wrong<'_>> {
+    parse_duration(text).map_err(|error| Wrong::Duration(text, error))
+}
+
+fn read_job(line: &str) -> Result<Job<'_>, Wrong<'_>> {
     let (name, rest) = split_word(line);
     let (last, every) = split_word(rest);
-    let last = parse_rfc3339(last).map_err(|error| JobError::Last(error))?;
-    let every = parse_duration(every.trim()).map_err(|error| JobError::Every(error))?;
+    let last = read_time(last)?;
+    let every = read_duration(every.trim())?;
     Ok(Job { name, last, every })
+}
+
+fn read_retry(text: &str) -> Result<Retry, Wrong<'_>> {
+    let (delays, factor) = text.split_once(" x").ok_or(Wrong::Retry(text))?;
+    let (first, most) = delays.split_once("..").ok_or(Wrong::Retry(text))?;
+    Ok(Retry {
+        first: read_duration(first)?,
+        most: read_duration(most)?,
+        factor: factor.parse().map_err(|_| Wrong::Retry(text))?,
+    })
+}
+
+/// Returns the delay after one more failure: `factor` times as long, but not longer than `most`.
+fn next_delay(delay: StdDuration, factor: u32, most: StdDuration) -> StdDuration
+    ensures { result ≡ min (delay * factor) most }
+{
+    let longer = delay.to_std().saturating_mul(factor);
+    StdDuration::from_std(longer.min(most.to_std()))
+}
+
+/// Prints the delays after the first failures of a job.
+fn print_delays(rt: &impl Print, retry: Retry) -> io::Result<()> {
+    let mut delay = retry.first.min(retry.most);
+    for failures in 1..=5 {
+        println!(rt;
+            "after failure {failures}: again in {}",
+            format_duration(delay)
+        )?;
+        delay = next_delay(delay, retry.factor, retry.most);
+    }
+    Ok(())
 }
 
 fn print_next(rt: &impl Print, job: Job<'_>, now: SystemTime) -> io::Result<()> {
@@ -69,8 +123,8 @@ fn print_all(rt: &(impl Print + Eprint), text: &str, now: SystemTime) -> io::Res
     for (index, line) in text.lines().enumerate() {
         match read_job(line) {
             Ok(job) => print_next(rt, job, now)?,
-            Err(error) => {
-                eprintln!(rt; "line {}: {error}", index + 1)?;
+            Err(wrong) => {
+                eprintln!(rt; "line {}: {wrong}", index + 1)?;
                 status = 1;
             }
         }
@@ -80,19 +134,27 @@ fn print_all(rt: &(impl Print + Eprint), text: &str, now: SystemTime) -> io::Res
 
 fn run(rt: &HostRuntime) -> io::Result<u8> {
     let words = env::args(rt)?.skip(1).collect::<Vec<String>>(rt.alloc())?;
-    let [path, now] = words.as_slice() else {
-        eprintln!(rt; "usage: schedule FILE NOW")?;
+    let [path, now, retry] = words.as_slice() else {
+        eprintln!(rt; "usage: schedule FILE NOW RETRY")?;
         return Ok(2);
     };
-    let now = match parse_rfc3339(now.as_str()) {
-        Ok(now) => now,
-        Err(error) => {
-            eprintln!(rt; "{now}: {error}")?;
-            return Ok(2);
+    match (read_time(now), read_retry(retry)) {
+        (Ok(now), Ok(retry)) => print_file(rt, path, now, retry),
+        (Err(wrong), _) | (_, Err(wrong)) => {
+            eprintln!(rt; "schedule: {wrong}")?;
+            Ok(2)
         }
-    };
-    match fs::read_to_string(rt, path.as_str()) {
-        Ok(text) => print_all(rt, text.as_str(), now),
+    }
+}
+
+/// Prints the next run of each job in a file, and then the delays after failures. Returns the exit status.
+fn print_file(rt: &HostRuntime, path: &str, now: SystemTime, retry: Retry) -> io::Result<u8> {
+    match fs::read_to_string(rt, path) {
+        Ok(text) => {
+            let status = print_all(rt, &text, now)?;
+            print_delays(rt, retry)?;
+            Ok(status)
+        }
         Err(error) if error.kind() == io::ErrorKind::OutOfMemory => Err(error),
         Err(error) => {
             eprintln!(rt; "{path}: {error}")?;
