@@ -1,13 +1,13 @@
 //! Callers of `humantime_std`, whose results are known up to the limits of the types.
 
-ghost use Rattle.std.specs.Prelude.{◌≡◌, ◌≢◌, ◌+◌, ◌*◌, ◌/◌, ◌≤◌, ◌⊎◌, ◌↔◌, ◌∷◌, [], ◌+ℤ◌, ◌≤ℤ◌, ◌<ℤ◌, ℕ, min, pos, slice_range, option_map, IfSome, IsSomeAnd, IsTrue, None, Some, SomeIff};
+ghost use Rattle.std.specs.Prelude.{◌≡◌, ◌≢◌, ◌+◌, ◌*◌, ◌/◌, ◌≤◌, ◌⊎◌, ◌↔◌, ◌∷◌, [], ◌+ℤ◌, ◌≤ℤ◌, ◌<ℤ◌, ℕ, chars, min, pos, slice_range, option_map, Err, IfSome, IsNone, IsOk, IsSomeAnd, IsTrue, None, Some, SomeIff};
 ghost use Rattle.std.specs.Time.{FitsClock, instant_nanos};
-ghost use Rattle.humantime.specs.Prelude.{moment_end};
-ghost use Rattle.humantime_std.specs.Located.{weak_error};
+ghost use Rattle.humantime.specs.Prelude.{Fault, duration_answer, moment_end};
+ghost use Rattle.humantime_std.specs.Located.{IsFaultRange, IsRangeIn, weak_error};
 ghost use Rattle.humantime_std.specs.Schedule.{IsNextRun};
 
 use humantime::{DurationError, StdDuration, SystemTime};
-use humantime_std::located::parse_rfc3339_weak;
+use humantime_std::located::{self, parse_rfc3339_weak};
 use humantime_std::{StdDurationExt, SystemTimeExt, deadline, next_run, offset, time_left};
 use std::time::Instant;
 
@@ -112,4 +112,14 @@ pub fn offsets(at: usize, end: usize, unit: &str, value: u64) -> [Option<usize>;
         offset(&DurationError::NumberOverflow),
         offset(&DurationError::Empty),
     ]
+}
+
+/// Returns the bytes of a text that are wrong, or `None` if it is a duration.
+pub fn wrong_range(text: &str) -> Option<(usize, usize)>
+    ensures none { IsNone result ↔ IsOk (duration_answer (chars text.now)) }
+    ensures place { (e : Fault) → duration_answer (chars text.now) ≡ Err e → IfSome result (λ range. IsFaultRange text.now e range.0 range.1) }
+    ensures range { IfSome result (λ range. IsRangeIn text.now range.0 range.1) }
+{
+    let error = located::parse_duration(text).err()?;
+    Some((error.start, error.end))
 }
