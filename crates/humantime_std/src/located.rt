@@ -295,7 +295,7 @@ fn overflow_range(text: &str) -> (usize, usize)
 
 /// Returns how many spans at the front of a text are within the limits, and the offset after them.
 ///
-/// Each test parses a front of the text, so their number is halved, and not counted up.
+/// It halves their number: each test parses a front of the text, so one test for each span would take quadratic time.
 fn fitting_front(text: &str) -> (usize, usize)
     requires { HasFault (chars text.now) NumberOverflow }
     ensures fit { Fit (chars text.now) result.0 }
