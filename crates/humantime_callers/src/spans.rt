@@ -22,21 +22,14 @@ pub fn longest_span(text: &str) -> StdDuration
     longest
 }
 
-/// Returns the next item, if it is a span.
-fn next_span<'a>(items: &mut SpanIter<'a>) -> Option<Span<'a>>
-    ensures { option_map span_view result ≡ first_span (items_left items.old) }
-{
-    match items.next() {
-        Some(Ok(span)) => Some(span),
-        _ => None,
-    }
-}
-
 /// Returns the first item of a text, if it is a span.
 fn first_span(text: &str) -> Option<Span<'_>>
     ensures { (items : List (Result SpanView Fault)) × AreItems (chars text.now) items × (option_map span_view result ≡ first_span items) }
 {
-    next_span(&mut spans(text))
+    match spans(text).next() {
+        Some(Ok(span)) => Some(span),
+        _ => None,
+    }
 }
 
 /// Returns the number, the fraction, the unit, the offsets and the value of the first span of a text.
