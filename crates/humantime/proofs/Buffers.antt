@@ -10,8 +10,7 @@ use Rattle.std.specs.Borrow.{Array, u8}
 use Rattle.humantime.specs.Buffers.{BufferHolds}
 use Rattle.humantime.specs.declared.duration.error.DurationError.{DurationError}
 use Rattle.std.specs.Result.{result_map_both}
-use Rattle.humantime.specs.Durations.Errors.{fault_of, text_result_view}
-use Rattle.humantime.specs.Durations.Faults.{Fault}
+use Rattle.humantime.specs.DurationErrors.{fault_of, text_result_view, Fault}
 
 -- If the last bytes of a buffer are known, it holds them.
 pub holds : {M : Type 1} {𝓤 : Ura M} (𝓛 : Logic 𝓤) (n : ℕ) (buf : MutBor (List ℕ)) (last : List ℕ) (P : List ℕ → Type 0) → P last

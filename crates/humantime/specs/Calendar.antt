@@ -1,7 +1,10 @@
--- The proleptic Gregorian calendar from 1970 to 9999. Years and months are counted one by one.
+-- Dates and days, and the count of loop turns.
 use Rattle.std.specs.Prelude.{ℕ, zero, suc, ◌+◌, ◌-◌, ◌%◌, Bool, ◌&&◌, ◌||◌, ◌==◌, not, if◌then◌else◌, IsTrue}
 use Rattle.std.specs.Int.{is_in_range}
 use Rattle.humantime.specs.declared.calendar.Date.{Date}
+use Rattle.humantime.specs.declared.calendar.Chain.{Chain, Start, Next'}
+
+-- ==== The proleptic Gregorian calendar from 1970 to 9999. Years and months are counted one by one.
 
 -- Tests whether a year is a leap year: a multiple of 4, but not of 100 unless it is also a multiple of 400.
 abbrev pub is_leap_year : ℕ → Bool
@@ -38,3 +41,10 @@ IsDate d = IsTrue (is_valid d.year d.month d.day)
 -- Returns the number of days from 1970-01-01 to a date.
 abbrev pub day_of : Date → ℕ
 day_of d = days_of_years (d.year - 1970) + days_of_months d.year (d.month - 1) + (d.day - 1)
+
+-- ==== The number of iterations that a chain of turns denotes.
+
+-- Returns the number of `Next` links in a chain.
+abbrev pub turns_of : Chain → ℕ
+turns_of Start = 0
+turns_of (Next' outer inner before) = turns_of before + 1

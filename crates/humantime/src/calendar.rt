@@ -3,8 +3,8 @@
 ghost use Rattle.std.specs.Prelude.{◌≡◌, ◌+◌, ◌-◌, ◌<◌, ◌≤◌, ◌↔◌, IsSome, IfSome, MatchOption};
 ghost use Rattle.std.specs.Int.{IsInRange};
 ghost use Rattle.humantime.specs.Calendar.{days_in_year, days_in_month, days_of_years, days_of_months, IsDate, day_of};
-ghost use Rattle.humantime.specs.Results.Dates.{march_days};
-ghost use Rattle.humantime.specs.Results.Dates as Dates;
+ghost use Rattle.humantime.specs.TimestampResults.{march_days};
+ghost use Rattle.humantime.specs.TimestampResults as Dates;
 
 use std::marker::Model;
 use std::mem;
@@ -72,7 +72,7 @@ impl Model for Turns {
 
     ghost Value = { ℕ };
 
-    ghost use Rattle.humantime.specs.Turns.{turns_of};
+    ghost use Rattle.humantime.specs.Calendar.{turns_of};
 
     ghost view = { λ t. turns_of t.chain.value };
 }
@@ -130,7 +130,7 @@ pub struct Date {
 
 /// Returns the number of days from 1970-01-01 to the first day of `year`, which is 1970 to 9999.
 #[inline(always)]
-#[tactic(auto, using(crate::proofs::Dates::Years::days_of_years_closed))]
+#[tactic(auto, using(crate::proofs::Dates::days_of_years_closed))]
 fn days_before_year(year: u32) -> u32
     requires { IsInRange 1970 9999 year }
     ensures { result ≡ days_of_years (year - 1970) }
@@ -163,7 +163,7 @@ fn month_length(year: u32, month: u32) -> u32
 
 /// Returns the number of days from the first day of `year` to the first day of `month`.
 #[inline(always)]
-#[tactic(auto, using(crate::proofs::Dates::Years::days_in_table))]
+#[tactic(auto, using(crate::proofs::Dates::days_in_table))]
 fn days_before_month(year: u32, month: u32) -> u32
     requires { IsInRange 1 12 month }
     ensures { result ≡ days_of_months year (month - 1) }
@@ -193,7 +193,7 @@ fn days_before_month(year: u32, month: u32) -> u32
 /// assert_eq!(rt; day_number(no_date, &mut turns), None);
 /// ```
 #[inline(always)]
-#[tactic(auto, using(crate::proofs::Dates::Years::days_counted))]
+#[tactic(auto, using(crate::proofs::Dates::days_counted))]
 pub fn day_number(date: Date, turns: &mut Turns) -> Option<u32>
     ensures valid { IsSome result ↔ IsDate date }
     ensures day { IfSome result (λ n. n ≡ day_of date) }
@@ -253,7 +253,7 @@ fn march_year(day: u32) -> (u32, u32)
 /// assert_eq!(rt; date_of_day(2_932_897, &mut turns), None);
 /// ```
 #[inline(always)]
-#[tactic(auto, using(crate::proofs::Dates::Years::march_months_in_table))]
+#[tactic(auto, using(crate::proofs::Dates::march_months_in_table))]
 pub fn date_of_day(day: u32, turns: &mut Turns) -> Option<Date>
     ensures within { IsSome result ↔ (day ≤ 2_932_896) }
     ensures date { IfSome result (λ d. IsDate d × (day_of d ≡ day)) }

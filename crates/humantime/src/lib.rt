@@ -11,8 +11,8 @@
 //!
 //! let duration = parse_duration("2h 37min")?;
 //! assert_eq!(rt; duration, StdDuration::from_secs(9420));
-//! let moment = parse_rfc3339("2018-02-14T00:28:07Z")?;
-//! let later = moment.checked_add(duration).ok_or("out of range")?;
+//! let time = parse_rfc3339("2018-02-14T00:28:07Z")?;
+//! let later = time.checked_add(duration).ok_or("out of range")?;
 //! let mut buf = [0; 30];
 //! assert_eq!(rt; format_rfc3339(later).text(&mut buf), Some("2018-02-14T03:05:07Z"));
 //! ```

@@ -113,7 +113,7 @@ impl From<Duration> for StdDuration {
 /// Writes the text that `Display` writes for the value that [`format_duration`] returns.
 impl fmt::Display for Duration {
     ghost use Rattle.std.specs.Prelude.{Some};
-    ghost use Rattle.humantime.specs.Results.Durations.{duration_text};
+    ghost use Rattle.humantime.specs.DurationResults.{duration_text};
 
     ghost output = { λ d. Some (duration_text d) };
 
@@ -152,7 +152,7 @@ impl Model for Timestamp {
 }
 
 impl Timestamp {
-    /// Returns a reference to the wrapped moment.
+    /// Returns a reference to the wrapped time.
     ///
     /// # Examples
     ///
@@ -179,7 +179,7 @@ impl Timestamp {
 /// assert_eq!(rt; "1970-02-30T00:00:00Z".parse::<Timestamp>(), Err(TimestampError::OutOfRange));
 /// ```
 impl FromStr for Timestamp {
-    ghost use Rattle.humantime.specs.Results.Timestamps.{IsWeakAnswer};
+    ghost use Rattle.humantime.specs.TimestampResults.{IsWeakAnswer};
 
     type Err = TimestampError;
 
@@ -187,22 +187,22 @@ impl FromStr for Timestamp {
 
     fn from_str(s: &str) -> Result<Timestamp, TimestampError> {
         match parse_rfc3339_weak(s) {
-            Ok(moment) => Ok(Timestamp(moment)),
+            Ok(time) => Ok(Timestamp(time)),
             Err(error) => Err(error),
         }
     }
 }
 
 impl From<SystemTime> for Timestamp {
-    ghost from_gives = { λ moment t. t ≡ moment };
+    ghost from_gives = { λ time t. t ≡ time };
 
-    fn from(moment: SystemTime) -> Timestamp {
-        Timestamp(moment)
+    fn from(time: SystemTime) -> Timestamp {
+        Timestamp(time)
     }
 }
 
 impl From<Timestamp> for SystemTime {
-    ghost from_gives = { λ t moment. moment ≡ t };
+    ghost from_gives = { λ t time. time ≡ t };
 
     fn from(timestamp: Timestamp) -> SystemTime {
         timestamp.0
@@ -211,7 +211,7 @@ impl From<Timestamp> for SystemTime {
 
 /// Writes the text that `Display` writes for the value that [`format_rfc3339`] returns.
 ///
-/// For a moment outside 1970 to 9999, it returns `fmt::Error` and writes nothing.
+/// For a time outside 1970 to 9999, it returns `fmt::Error` and writes nothing.
 impl fmt::Display for Timestamp {
     ghost use Rattle.humantime.specs.Prelude.{DisplaysMoment, shortest_text};
 

@@ -2,7 +2,7 @@
 use Rattle.std.proofs.Common.{◌≡◌, ℕ, ◌+◌, ◌-◌, ◌≤◌, arith}
 use Rattle.std.proofs.lemmas.Bool.Decides.{nat_tests}
 use Rattle.humantime.specs.Calendar.{days_in_month, days_of_years, days_of_months}
-use Rattle.humantime.proofs.Dates.Years.{days_of_months_closed, days_of_years_closed, valid_from_test}
+use Rattle.humantime.proofs.Dates.{days_of_months_closed, days_of_years_closed, valid_from_test}
 use Rattle.humantime.proofs.Theorems.{day_at_most}
 
 pub year_counted : (y m : ℕ) → 1970 ≤ y → m ≡ 13 → days_of_years (y + 1 - 1970) ≡ days_of_years (y - 1970) + days_of_months y (m - 1)

@@ -2,11 +2,10 @@
 use Rattle.std.proofs.Common.{◌≡◌, ◌∙◌, ℕ, List, [], ◌∷◌, Option, None, Some, Result, Bor, sym, ap, arith}
 use Rattle.std.specs.Prelude.{chars, option_map, IfSome}
 use Rattle.std.proofs.lemmas.Grind.{common_steps}
-use Rattle.humantime.specs.Texts.{drop_while}
-use Rattle.humantime.specs.Durations.Characters.{is_whitespace}
-use Rattle.humantime.specs.Durations.Spans.{SpelledSpan}
-use Rattle.humantime.specs.Durations.Items.{AreItems, AreSpanViews, IsFractionView, IsSpanView, SpanView, items_of}
-use Rattle.humantime.specs.Durations.Faults.{Fault}
+use Rattle.humantime.specs.Characters.{drop_while, is_whitespace}
+use Rattle.humantime.specs.Durations.{SpelledSpan}
+use Rattle.humantime.specs.Items.{AreItems, AreSpanViews, IsFractionView, IsSpanView, SpanView, items_of}
+use Rattle.humantime.specs.DurationErrors.{Fault}
 use Rattle.humantime_callers.specs.FirstItems.{HasDigitEnds, first_span}
 
 first_of_views : (text here end : List ℕ) (spans : List SpelledSpan) (slices : List SpanView) (stop : Option Fault) (x : SpanView)

@@ -1,8 +1,8 @@
 -- No item of a text follows an error.
 use Rattle.std.proofs.Common.{◌≡◌, ℕ, List, [], ◌∷◌, Option, None, Some, Result, Ok, Err, refl}
 use Rattle.std.specs.Prelude.{⊤}
-use Rattle.humantime.specs.Durations.Faults.{Fault}
-use Rattle.humantime.specs.Durations.Items.{AreItems, SpanView, items_of}
+use Rattle.humantime.specs.DurationErrors.{Fault}
+use Rattle.humantime.specs.Items.{AreItems, SpanView, items_of}
 
 -- If one of the items is an error, it is the last one.
 abbrev pub EndsAtError : List (Result SpanView Fault) → Type 0

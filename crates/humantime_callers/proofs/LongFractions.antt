@@ -3,10 +3,8 @@ use Rattle.std.proofs.Common.{◌≡◌, ◌≢◌, ◌↔◌, ℕ, ◌<◌, ◌
 use Rattle.std.specs.Prelude.{◌==◌}
 use Rattle.std.proofs.lemmas.Bool.Decides.{nat_tests}
 use Rattle.std.proofs.lemmas.List.{length-reverse, reverse-append, reverse-reverse}
-use Rattle.humantime.specs.Texts.{begins, take_while, drop_while}
-use Rattle.humantime.specs.Durations.Characters.{without_trailing_zeros}
-use Rattle.humantime.proofs.Durations.Reading.Runs.{take_while-drop_while, begins-drop_while}
-use Rattle.humantime.proofs.Durations.Reading.SignificantDigits.{significant_long}
+use Rattle.humantime.specs.Characters.{begins, take_while, drop_while, without_trailing_zeros}
+use Rattle.humantime.proofs.Characters.{take_while-drop_while, begins-drop_while, significant_long}
 
 -- A digit other than 0 follows the first nineteen digits.
 record IsLong (digits : List ℕ) : Type 0 where

@@ -5,8 +5,8 @@ use Rattle.std.specs.Char.{char_set_contains}
 use Rattle.std.proofs.lemmas.Bool.Decides.{nat_tests}
 use Rattle.std.specs.List.{range_with_len}
 use Rattle.humantime.specs.Prelude.{without_whitespace}
-use Rattle.humantime.specs.Laws.Tiles.{is_gap}
-use Rattle.humantime.specs.Durations.Characters.{whitespace_chars, is_whitespace, is_digit, is_letter, is_point}
+use Rattle.humantime.specs.Laws.{is_gap}
+use Rattle.humantime.specs.Characters.{whitespace_chars, is_whitespace, is_digit, is_letter, is_point}
 use Rattle.humantime.proofs.OnLiterals.{humantime_on_literals}
 
 -- All characters of ASCII.

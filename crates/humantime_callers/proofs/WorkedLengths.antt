@@ -4,21 +4,15 @@ use Rattle.std.specs.Prelude.{codes, pos, IsPermutation, IsTrue, encode_utf8_all
 use Rattle.std.specs.Str.{byte, all_ascii_digits}
 use Rattle.std.proofs.Math.Seq.{take-append_seam}
 use Rattle.std.proofs.lemmas.Grind.{common_steps}
-use Rattle.humantime.specs.Texts.{decimal_value, drop_while}
+use Rattle.humantime.specs.Characters.{decimal_value, drop_while, byte_length, is_digit, is_letter, is_whitespace, offset_of}
 use Rattle.humantime.specs.Prelude.{AreReordered, Reads, SpelledSpan, HasFault, UnknownUnit, IsStrictMoment, nanos_per_second}
-use Rattle.humantime.specs.Durations.Characters.{byte_length, is_digit, is_letter, is_whitespace, offset_of}
-use Rattle.humantime.specs.Durations.Spans.{HoldsDigits, IsLetters, HasOnly, Spells}
-use Rattle.humantime.specs.Durations.Accepted.{additions_of, fits, fraction_fits, too_long, part}
-use Rattle.humantime.specs.Durations.Units.{scale_of_word}
-use Rattle.humantime.specs.Durations.Faults.{UnknownWord, after_fraction, after_word, may_follow_span, number_of, word_of}
-use Rattle.humantime.specs.Timestamps.Fields.{Letter_T, Letter_Z}
-use Rattle.humantime.proofs.Durations.Reading.Classes.{digit_is_numeric}
-use Rattle.humantime.proofs.Durations.Reading.Runs.{drop_while-append}
-use Rattle.humantime.proofs.Durations.Reading.Spelled.{IsSpelledAt, read_spelled, spelled_here}
-use Rattle.humantime.proofs.Durations.Reading.Summed.{within_tells}
-use Rattle.humantime.proofs.Durations.Reading.SignificantDigits.{significant_zero}
-use Rattle.humantime.proofs.OnLiterals.{humantime_on_literals}
-use Rattle.humantime.proofs.TimestampsOnLiterals.{timestamps_on_literals}
+use Rattle.humantime.specs.Durations.{HoldsDigits, IsLetters, HasOnly, Spells, additions_of, fits, fraction_fits, too_long, part, scale_of_word}
+use Rattle.humantime.specs.DurationErrors.{UnknownWord, after_fraction, after_word, may_follow_span, number_of, word_of}
+use Rattle.humantime.specs.Timestamps.{Letter_T, Letter_Z}
+use Rattle.humantime.proofs.Characters.{digit_is_numeric, drop_while-append, significant_zero}
+use Rattle.humantime.proofs.Spellings.{IsSpelledAt, read_spelled, spelled_here}
+use Rattle.humantime.proofs.Sums.{within_tells}
+use Rattle.humantime.proofs.OnLiterals.{humantime_on_literals, timestamps_on_literals}
 
 -- Digits alone are the digits that they hold.
 digits_held : (ds : List ℕ) → HasOnly is_digit ds → HoldsDigits ds ds

@@ -5,14 +5,11 @@ use Rattle.std.specs.Prelude.{codes, decimal, Bool, true, false, ◌&&◌, ◌||
 use Rattle.std.specs.List.{AllByRecursion, zip}
 use Rattle.std.specs.Str.{byte}
 use Rattle.std.specs.Str.Parse.{digits_value}
-use Rattle.humantime.specs.Texts.{decimal_value}
-use Rattle.humantime.specs.Durations.Characters.{without_trailing_zeros}
-use Rattle.humantime.specs.Durations.Units.{in_nanos, in_seconds, in_seconds_and_nanos, scale_of_word, whole_nanos}
-use Rattle.humantime.specs.Durations.Spans.{SpelledSpan, Reads}
-use Rattle.humantime.specs.Durations.Accepted.{Accepted, BareZero, SumOf, Formed, additions, additions_of, fits, fraction_additions, fraction_fits, has_room, has_too_many_digits, of_kind, quantity_nanos, size, too_long, total, value}
-use Rattle.humantime.specs.Durations.Counts.{Suffix, printed_count, printed_counts, joined_by_space, suffixes, weights}
-use Rattle.humantime.specs.Results.Durations.{divided, duration_text}
-use Rattle.humantime.proofs.Durations.Reading.SignificantDigits.{significant_last, significant_zero}
+use Rattle.humantime.specs.Characters.{decimal_value, without_trailing_zeros}
+use Rattle.humantime.specs.Durations.{in_nanos, in_seconds, in_seconds_and_nanos, scale_of_word, whole_nanos, SpelledSpan, Reads, Accepted, BareZero, SumOf, Formed, additions, additions_of, fits, fraction_additions, fraction_fits, has_room, has_too_many_digits, of_kind, quantity_nanos, size, too_long, total, value}
+use Rattle.humantime.specs.PrintedDurations.{Suffix, printed_count, printed_counts, joined_by_space, suffixes, weights}
+use Rattle.humantime.specs.DurationResults.{divided, duration_text}
+use Rattle.humantime.proofs.Characters.{significant_last, significant_zero}
 
 abbrev small : ℕ → Bool
 small n = nat_le n 18446744073709551615

@@ -4,12 +4,9 @@ use Rattle.std.proofs.Common.{◌≡◌, ◌∙◌, ◌≤◌, ◌*◌, ◌/◌,
 use Rattle.std.specs.Prelude.{codes, unwrap_or}
 use Rattle.std.specs.List.{AllByRecursion}
 use Rattle.std.proofs.lemmas.Bool.Decides.{nat_tests}
-use Rattle.humantime.specs.Texts.{decimal_value}
-use Rattle.humantime.specs.Durations.Characters.{u64_max}
-use Rattle.humantime.specs.Durations.Units.{scale_of_word}
-use Rattle.humantime.specs.Durations.Spans.{SpelledSpan, Reads}
-use Rattle.humantime.specs.Durations.Accepted.{size, of_kind, times, AllHaveRoom}
-use Rattle.humantime.specs.Laws.Older.{OlderFormed, OlderFraction, older_additions, older_additions_of, older_fraction_additions, older_value, AcceptedWithZeros, OlderZero, OlderSum}
+use Rattle.humantime.specs.Characters.{decimal_value, u64_max}
+use Rattle.humantime.specs.Durations.{scale_of_word, SpelledSpan, Reads, size, of_kind, times, AllHaveRoom}
+use Rattle.humantime.specs.Laws.{OlderFormed, OlderFraction, older_additions, older_additions_of, older_fraction_additions, older_value, AcceptedWithZeros, OlderZero, OlderSum}
 
 -- Without a fraction, the number and its product with the unit did not exceed a `u64`.
 any_number : (word number : List ℕ) (unit : _) → scale_of_word word ≡ Some unit

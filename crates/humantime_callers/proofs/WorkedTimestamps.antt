@@ -9,12 +9,11 @@ use Rattle.std.proofs.lemmas.Int.{ints}
 use Rattle.humantime.specs.declared.date.error.TimestampError.{TimestampError}
 use Rattle.humantime.specs.declared.date.error.TimestampError.TheVariants.{OutOfRange, InvalidDigit, InvalidFormat}
 use Rattle.humantime.specs.Prelude.{weak_answer, strict_answer, cut, moment_text, places_of, shortest_text, IsPrintable, IsPrinted}
-use Rattle.humantime.specs.Texts.{decimal_value}
+use Rattle.humantime.specs.Characters.{decimal_value}
 use Rattle.humantime.specs.Calendar.{IsDate, day_of, is_valid}
-use Rattle.humantime.specs.Timestamps.Checks.{date_time_of, ends_in_zone, first_failed, fraction_part, has_two, is_valid_date_time, strict_checks, weak_checks}
-use Rattle.humantime.specs.Timestamps.Fields.{Fields, Separator, Letter_T, Space, Zone, NoZone, Letter_Z, ZeroOffset, IsStrict, IsWeak, date_time_text, fields_text, four_digits, fraction_digits, fraction_nanos, fraction_text, moment_of, separator_byte, two_digits, zone_text}
-use Rattle.humantime.specs.Results.Timestamps.{fields_at}
-use Rattle.humantime.proofs.TimestampsOnLiterals.{timestamps_on_literals}
+use Rattle.humantime.specs.Timestamps.{date_time_of, ends_in_zone, first_failed, fraction_part, has_two, is_valid_date_time, strict_checks, weak_checks, Fields, Separator, Letter_T, Space, Zone, NoZone, Letter_Z, ZeroOffset, IsStrict, IsWeak, date_time_text, fields_text, four_digits, fraction_digits, fraction_nanos, fraction_text, moment_of, separator_byte, two_digits, zone_text}
+use Rattle.humantime.specs.TimestampResults.{fields_at}
+use Rattle.humantime.proofs.OnLiterals.{timestamps_on_literals}
 
 -- Returns the bytes of ASCII with which the parser accepts the text if they take the place of its byte at this offset, or follow its end.
 abbrev fitting : (List ℕ → Result ℤ TimestampError) → List ℕ → ℕ → List ℕ

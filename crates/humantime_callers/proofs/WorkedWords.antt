@@ -2,7 +2,7 @@
 use Rattle.std.proofs.Common.{◌≡◌, ℕ, List, [], ◌∷◌, ◌++◌, map, refl}
 use Rattle.std.specs.Prelude.{codes, bytes_eq}
 use Rattle.std.specs.Map.{lookup}
-use Rattle.humantime.specs.Durations.Units.{in_nanos, in_seconds, in_seconds_and_nanos, scale_of_word, whole_nanos, words}
+use Rattle.humantime.specs.Durations.{in_nanos, in_seconds, in_seconds_and_nanos, scale_of_word, whole_nanos, words}
 
 abbrev unit : {A : Type 0} → List (List ℕ) → A → List (List ℕ × A)
 unit spellings scale = map (λ word. (word, scale)) spellings

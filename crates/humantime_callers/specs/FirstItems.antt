@@ -1,8 +1,7 @@
 -- The first items of a text.
 use Rattle.std.specs.Prelude.{◌≡◌, ℕ, List, [], ◌∷◌, Option, None, Some, Result, Ok, Err, true}
 use Rattle.humantime.specs.Prelude.{Fault, SpanView}
-use Rattle.humantime.specs.Texts.{begins, ends}
-use Rattle.humantime.specs.Durations.Characters.{is_digit}
+use Rattle.humantime.specs.Characters.{begins, ends, is_digit}
 
 -- The text begins and ends with a digit.
 abbrev pub HasDigitEnds : List ℕ → Type 0

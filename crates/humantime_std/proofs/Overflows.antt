@@ -8,32 +8,23 @@ use Rattle.std.proofs.Math.Utf8.{scalars}
 use Rattle.std.proofs.lemmas.Grind.{common_steps}
 use Rattle.std.proofs.lemmas.List.{append_cancel_left}
 use Rattle.std.proofs.lemmas.Str.{IsCharBoundary-at_seam, IsUtf8-take, IsUtf8-drop, chars_from_encodes, encodes-append, encodes-chars, encodes_same, length-le-encodes, scalars-chars}
-use Rattle.humantime.specs.Texts.{take_while}
-use Rattle.humantime.specs.Durations.Characters.{byte_length, is_letter, is_whitespace, offset_of}
-use Rattle.humantime.specs.Durations.Spans.{SpelledSpan, Spells, SpellsAll, Reads}
-use Rattle.humantime.specs.Durations.Accepted.{Formed, SumOf, WithinLimits, too_long, value}
-use Rattle.humantime.specs.Durations.Faults.{BeginsSpan, BreaksLimit, Empty, Fault, HasFault, IsStoppedWith, NumberOverflow, OnlyWhitespace, after_fraction, after_word, span_of, word_of}
-use Rattle.humantime.specs.Durations.Items.{AreItems, SpanView}
-use Rattle.humantime.specs.Results.Spans.{GivesItem, item_of, items_left, span_view}
+use Rattle.humantime.specs.Characters.{take_while, byte_length, is_letter, is_whitespace, offset_of}
+use Rattle.humantime.specs.Durations.{SpelledSpan, Spells, SpellsAll, Reads, Formed, SumOf, WithinLimits, too_long, value}
+use Rattle.humantime.specs.DurationErrors.{BeginsSpan, BreaksLimit, Empty, Fault, HasFault, IsStoppedWith, NumberOverflow, OnlyWhitespace, after_fraction, after_word, span_of, word_of}
+use Rattle.humantime.specs.Items.{AreItems, SpanView}
+use Rattle.humantime.specs.SpanResults.{GivesItem, item_of, items_left, span_view}
 use Rattle.humantime.specs.declared.duration.error.DurationError.{DurationError}
 use Rattle.humantime.specs.declared.duration.iter.SpanIter.{SpanIter}
 use Rattle.humantime.specs.declared.duration.span.Span.{Span}
-use Rattle.humantime.specs.Results.Durations.{duration_answer}
-use Rattle.humantime.specs.Results.Items.{left_at, view_at}
-use Rattle.humantime.specs.Results.Walks.{fault_at}
-use Rattle.humantime.proofs.Durations.Laws.Readings.{accepted_spans}
-use Rattle.humantime.proofs.Durations.Reading.Classes.{whitespace_is}
-use Rattle.humantime.proofs.Durations.Reading.Found.{IsReadTo}
-use Rattle.humantime.proofs.Durations.Reading.Outcomes.{accepted_from_outcome, outcome_accepted, outcome_fault}
-use Rattle.humantime.proofs.Durations.Reading.Runs.{begins-drop_while, drop_while_shorter, ends-append, take_while-drop_while, take_while-only}
-use Rattle.humantime.proofs.Durations.Reading.SpanWalks.{walk-end, walk-right, walk-wrong}
-use Rattle.humantime.proofs.Durations.Reading.Spelled.{next_smaller, read_spelled}
-use Rattle.humantime.proofs.Durations.Reading.Spellings.{each-append, respelled, spells_each-append}
-use Rattle.humantime.proofs.Durations.Reading.Stopping.{fine_goes, is_fine, wrong_stops}
-use Rattle.humantime.proofs.Durations.Reading.Summed.{within_tells}
-use Rattle.humantime.proofs.Durations.Reading.Written.{written_here}
-use Rattle.humantime.proofs.Durations.Slices.ItemViews.{one_span_view}
-use Rattle.humantime.proofs.Durations.Slices.SpanSlices.{is_span_view, next_bytes}
+use Rattle.humantime.specs.DurationResults.{duration_answer, left_at, view_at}
+use Rattle.humantime.specs.Walks.{fault_at}
+use Rattle.humantime.proofs.Outcomes.{accepted_spans, accepted_from_outcome, outcome_accepted, outcome_fault}
+use Rattle.humantime.proofs.Characters.{whitespace_is, begins-drop_while, drop_while_shorter, ends-append, take_while-drop_while, take_while-only}
+use Rattle.humantime.proofs.TextWalks.{IsReadTo, walk-end, walk-right, walk-wrong}
+use Rattle.humantime.proofs.Spellings.{next_smaller, read_spelled, each-append, respelled, spells_each-append, fine_goes, is_fine, wrong_stops, written_here}
+use Rattle.humantime.proofs.Sums.{within_tells}
+use Rattle.humantime.proofs.Items.{one_span_view}
+use Rattle.humantime.proofs.Slices.{is_span_view, next_bytes}
 use Rattle.humantime_std.specs.Located.{IsRangeIn, OverflowsAt}
 use Rattle.humantime_std.specs.Fronts.{BeginsSpans, Fit, IsSpanAfter, begun, end_after, first_spans, rest_after}
 

@@ -6,8 +6,8 @@ use Rattle.std.proofs.lemmas.Bool.{and_parts}
 use Rattle.std.proofs.lemmas.List.{drop_all}
 use Rattle.std.proofs.lemmas.Grind.{common_steps}
 use Rattle.std.proofs.lemmas.List.Sums.{common_prefix_len-drop_no, common_prefix_len-drop_yes}
-use Rattle.humantime.specs.Timestamps.Checks.{has_digits, has_two, number_between}
-use Rattle.humantime.proofs.Timestamps.Reading.Places.{has_two_from_test, number_of_two, number_of_four}
+use Rattle.humantime.specs.Timestamps.{has_digits, has_two, number_between}
+use Rattle.humantime.proofs.TimestampParts.{has_two_from_test, number_of_two, number_of_four}
 use Rattle.humantime_std.specs.Located.{fits, fit_len, weak_layout, strict_layout}
 
 -- ---- Numbers

@@ -1,10 +1,8 @@
 -- The spans at the front of a text, one after the other: what the contracts of private functions cite. A text is its list of characters.
 use Rattle.std.specs.Prelude.{◌≡◌, ℕ, zero, suc, List, [], ◌∷◌, ⊤}
-use Rattle.humantime.specs.Texts.{drop_while}
-use Rattle.humantime.specs.Durations.Characters.{is_whitespace, offset_of}
-use Rattle.humantime.specs.Durations.Accepted.{WithinLimits}
-use Rattle.humantime.specs.Durations.Faults.{BeginsSpan, after_word, span_of}
-use Rattle.humantime.specs.Durations.Spans.{SpelledSpan}
+use Rattle.humantime.specs.Characters.{drop_while, is_whitespace, offset_of}
+use Rattle.humantime.specs.Durations.{WithinLimits, SpelledSpan}
+use Rattle.humantime.specs.DurationErrors.{BeginsSpan, after_word, span_of}
 
 -- Returns a text without its leading whitespace.
 abbrev pub begun : List ℕ → List ℕ

@@ -8,12 +8,12 @@ use Rattle.std.specs.Str.{IsCharBoundary, byte}
 use Rattle.humantime.specs.declared.date.error.TimestampError.{TimestampError}
 use Rattle.humantime.specs.declared.date.error.TimestampError.TheVariants.{OutOfRange}
 use Rattle.humantime.specs.Calendar.{is_valid}
-use Rattle.humantime.specs.Durations.Accepted.{too_long}
-use Rattle.humantime.specs.Durations.Characters.{byte_length, offset_of}
-use Rattle.humantime.specs.Durations.Faults as durations
-use Rattle.humantime.specs.Durations.Faults.{HasFault, after_word, span_of}
-use Rattle.humantime.specs.Results.Timestamps.{strict_answer, weak_answer}
-use Rattle.humantime.specs.Timestamps.Checks.{date_time_of}
+use Rattle.humantime.specs.Durations.{too_long}
+use Rattle.humantime.specs.Characters.{byte_length, offset_of}
+use Rattle.humantime.specs.DurationErrors as durations
+use Rattle.humantime.specs.DurationErrors.{HasFault, after_word, span_of}
+use Rattle.humantime.specs.TimestampResults.{strict_answer, weak_answer}
+use Rattle.humantime.specs.Timestamps.{date_time_of}
 use Rattle.humantime_std.specs.declared.located.Located.{Located}
 
 -- A range of bytes: its first offset, and the offset after it.

@@ -6,7 +6,7 @@ ghost use Rattle.std.specs.List.{prefix_len};
 ghost use Rattle.std.specs.Result.{result_err, result_map_both};
 ghost use Rattle.std.specs.Str.{IsCharBoundary};
 ghost use Rattle.humantime.specs.Prelude.{HasFault, NumberOverflow, PointsInto, duration_answer, fault_of, span_view, strict_answer, weak_answer};
-ghost use Rattle.humantime.specs.Timestamps.Checks.{has_digits, has_two, number_between};
+ghost use Rattle.humantime.specs.Timestamps.{has_digits, has_two, number_between};
 ghost use Rattle.humantime_std.specs.Located as spec;
 ghost use Rattle.humantime_std.specs.Fronts.{BeginsSpans, Fit, IsSpanAfter, begun, end_after};
 ghost use Rattle.humantime_std.specs.Located.{IsFaultRange, IsRangeIn, OverflowsAt, bounds, is_continuation, strict_error, weak_error};

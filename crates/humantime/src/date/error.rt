@@ -29,7 +29,7 @@ pub enum TimestampError {
 
 impl fmt::Display for TimestampError {
     ghost use Rattle.std.specs.Prelude.{Some};
-    ghost use Rattle.humantime.specs.Timestamps.Checks.{timestamp_message};
+    ghost use Rattle.humantime.specs.Timestamps.{timestamp_message};
 
     ghost output = { λ e. Some (timestamp_message e) };
 

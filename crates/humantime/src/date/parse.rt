@@ -5,15 +5,14 @@ ghost use Rattle.std.specs.Char.{is_ascii_digit};
 ghost use Rattle.std.specs.List.{list_all};
 ghost use Rattle.humantime.specs.declared.date.error.TimestampError.{TimestampError};
 ghost use Rattle.humantime.specs.Prelude.{IsWeakMoment, IsStrictMoment, first_failed, weak_checks, strict_checks, weak_answer, strict_answer};
-ghost use Rattle.humantime.specs.Timestamps.Fields.{ZeroOffset, seconds_of};
-ghost use Rattle.humantime.specs.Timestamps.Checks.{date_time_of, is_valid_date_time};
-ghost use Rattle.humantime.specs.Timestamps.Checks;
-ghost use Rattle.humantime.specs.Steps.Timestamps.{fraction_answer, digits_answer};
-ghost use Rattle.humantime.specs.Steps.Timestamps as Steps;
+ghost use Rattle.humantime.specs.Timestamps.{ZeroOffset, seconds_of, date_time_of, is_valid_date_time};
+ghost use Rattle.humantime.specs.Timestamps as Checks;
+ghost use Rattle.humantime.specs.StepsOfCalls.{fraction_answer, digits_answer};
+ghost use Rattle.humantime.specs.StepsOfCalls as Steps;
 
 use crate::calendar::{Date, Turns, day_number};
 use crate::date::error::TimestampError;
-use crate::unit::sizes::SECONDS_PER_DAY;
+use crate::unit::SECONDS_PER_DAY;
 use crate::value::SystemTime;
 use std::simd::prelude::*;
 
@@ -49,7 +48,7 @@ struct DateTime {
     second: u32,
 }
 
-/// Parses a timestamp in the weak form, such as `2018-02-14 00:28:07`, and returns the moment that it represents.
+/// Parses a timestamp in the weak form, such as `2018-02-14 00:28:07`, and returns the time that it represents.
 ///
 /// A `T` or a space separates the date from the time. A point and any number of digits, including none, may follow the seconds; digits
 /// after the ninth are ignored. The text may end in `Z` or `+00:00`, and is always in UTC. Second 60 is read as second 59. The Rust crate
@@ -72,9 +71,9 @@ struct DateTime {
 /// ```
 /// use humantime::{SystemTime, TimestampError, parse_rfc3339_weak};
 ///
-/// let moment = SystemTime::from_parts(1_514_811_180, 0).ok_or("too many nanoseconds")?;
-/// assert_eq!(rt; parse_rfc3339_weak("2018-01-01 12:53:00"), Ok(moment));
-/// assert_eq!(rt; parse_rfc3339_weak("2018-01-01T12:53:00.+00:00"), Ok(moment));
+/// let time = SystemTime::from_parts(1_514_811_180, 0).ok_or("too many nanoseconds")?;
+/// assert_eq!(rt; parse_rfc3339_weak("2018-01-01 12:53:00"), Ok(time));
+/// assert_eq!(rt; parse_rfc3339_weak("2018-01-01T12:53:00.+00:00"), Ok(time));
 /// assert_eq!(rt; parse_rfc3339_weak("1970-02-30T00:00:00Z"), Err(TimestampError::OutOfRange));
 /// assert_eq!(rt; parse_rfc3339_weak("1970-01-01 00:00:00.5+02:00"), Err(TimestampError::InvalidDigit));
 /// ```
@@ -87,7 +86,7 @@ pub fn parse_rfc3339_weak(s: &str) -> Result<SystemTime, TimestampError>
     read_timestamp(s.as_bytes())
 }
 
-/// Parses a timestamp in the strict form, such as `2018-02-14T00:28:07Z`, and returns the moment that it represents.
+/// Parses a timestamp in the strict form, such as `2018-02-14T00:28:07Z`, and returns the time that it represents.
 ///
 /// This is the weak form with a `T` between the date and the time, and `Z` or `+00:00` at the end. It is based on RFC 3339. Other time
 /// zones, lowercase letters and years before 1970, which RFC 3339 allows, are rejected. A point without digits and second 60 in any
@@ -103,8 +102,8 @@ pub fn parse_rfc3339_weak(s: &str) -> Result<SystemTime, TimestampError>
 /// ```
 /// use humantime::{SystemTime, TimestampError, parse_rfc3339};
 ///
-/// let moment = SystemTime::from_parts(1_518_568_087, 0).ok_or("too many nanoseconds")?;
-/// assert_eq!(rt; parse_rfc3339("2018-02-14T00:28:07Z"), Ok(moment));
+/// let time = SystemTime::from_parts(1_518_568_087, 0).ok_or("too many nanoseconds")?;
+/// assert_eq!(rt; parse_rfc3339("2018-02-14T00:28:07Z"), Ok(time));
 /// assert_eq!(rt; parse_rfc3339("2018-02-14 00:28:07"), Err(TimestampError::InvalidFormat));
 /// assert_eq!(rt; parse_rfc3339("2100-02-29T00:00:00Z"), Err(TimestampError::OutOfRange));
 /// ```
@@ -122,7 +121,7 @@ pub fn parse_rfc3339(s: &str) -> Result<SystemTime, TimestampError>
 
 /// Returns `true` if the text has at least 20 bytes, byte 10 is a `T`, and a zone is at the end.
 #[inline(always)]
-#[tactic(auto, unfolding(crate::specs::Timestamps::Checks::has_t_and_zone, crate::specs::Timestamps::Checks::zone_of))]
+#[tactic(auto, unfolding(crate::specs::Timestamps::has_t_and_zone, crate::specs::Timestamps::zone_of))]
 fn has_t_and_zone(bytes: &[u8]) -> bool
     ensures { result ≡ Checks.has_t_and_zone bytes.now }
 {
@@ -131,7 +130,7 @@ fn has_t_and_zone(bytes: &[u8]) -> bool
 
 /// Returns the bytes before the zone (`Z` or `+00:00`) at the end, or all of them if there is no zone.
 #[inline(always)]
-#[tactic(auto, unfolding(crate::specs::Timestamps::Checks::zone_of))]
+#[tactic(auto, unfolding(crate::specs::Timestamps::zone_of))]
 fn before_zone(bytes: &[u8]) -> &[u8]
     ensures { result.now ≡ Checks.before_zone bytes.now }
 {
@@ -144,16 +143,16 @@ fn before_zone(bytes: &[u8]) -> &[u8]
 
 /// Returns `true` if the last six bytes are `+00:00`.
 #[inline(always)]
-#[tactic(auto, using(std::proofs::lemmas::Bool::Decides::nat_tests, crate::proofs::Timestamps::Reading::Ends::zero_offset_at_end))]
+#[tactic(auto, using(std::proofs::lemmas::Bool::Decides::nat_tests, crate::proofs::TimestampParts::zero_offset_at_end))]
 fn ends_in_zero_offset(bytes: &[u8]) -> bool
     ensures { result ≡ Checks.ends_in ZeroOffset bytes.now }
 {
     matches!(bytes, [.., b'+', b'0', b'0', b':', b'0', b'0'])
 }
 
-/// Parses the bytes of a timestamp in the weak form. Returns the moment, or the error of the first check that fails.
+/// Parses the bytes of a timestamp in the weak form. Returns the time, or the error of the first check that fails.
 #[inline(always)]
-#[tactic(auto, using(crate::proofs::Timestamps::Reading::Checks::checks_in_order), unfolding(crate::specs::Timestamps::Checks::has_separator, crate::specs::Results::Timestamps::weak_answer, crate::specs::Steps::Timestamps::has_layout))]
+#[tactic(auto, using(crate::proofs::Checks::checks_in_order), unfolding(crate::specs::Timestamps::has_separator, crate::specs::TimestampResults::weak_answer, crate::specs::StepsOfCalls::has_layout))]
 fn read_timestamp(bytes: &[u8]) -> Result<SystemTime, TimestampError>
     ensures { result ≡ weak_answer bytes.now }
 {
@@ -171,7 +170,7 @@ fn read_timestamp(bytes: &[u8]) -> Result<SystemTime, TimestampError>
 
 /// Returns the error of a text for which [`parse_date_time`] returns `None`. If the punctuation is right, a digit is wrong.
 #[inline(always)]
-#[tactic(auto, using(std::proofs::lemmas::Bool::Decides::nat_tests), unfolding(crate::specs::Results::Timestamps::weak_answer, crate::specs::Steps::Timestamps::has_layout, crate::specs::Timestamps::Checks::has_punctuation))]
+#[tactic(auto, using(std::proofs::lemmas::Bool::Decides::nat_tests), unfolding(crate::specs::TimestampResults::weak_answer, crate::specs::StepsOfCalls::has_layout, crate::specs::Timestamps::has_punctuation))]
 fn layout_error(bytes: &[u8]) -> TimestampError
     requires long { 19 ≤ length bytes.now }
     requires separator { IsTrue (Checks.has_separator bytes.now) }
@@ -192,7 +191,7 @@ fn layout_error(bytes: &[u8]) -> TimestampError
 /// that one saturating subtraction of the range tests both bounds: it leaves 0 exactly if the byte is in range. Then `dot4` multiplies each
 /// digit by its weight and adds up the products of each group of four bytes.
 #[inline(always)]
-#[tactic(auto, using(crate::proofs::Timestamps::Reading::Numbers::sums_fit))]
+#[tactic(auto, using(crate::proofs::Checks::sums_fit))]
 fn parse_date_time(bytes: &[u8]) -> Option<DateTime>
     requires long { 19 ≤ length bytes.now }
     requires separator { IsTrue (Checks.has_separator bytes.now) }
@@ -219,7 +218,7 @@ fn parse_date_time(bytes: &[u8]) -> Option<DateTime>
 /// Returns the number of seconds from 1970-01-01T00:00:00Z to a date and time, or `None` if the date does not exist in 1970 to 9999 or
 /// the time is out of range. Second 60 counts as second 59. The number is below 2^63, as `SystemTime` demands.
 #[inline(always)]
-#[tactic(auto, unfolding(crate::specs::Timestamps::Checks::is_valid_date_time))]
+#[tactic(auto, unfolding(crate::specs::Timestamps::is_valid_date_time))]
 fn unix_seconds(when: DateTime) -> Option<u64>
     ensures value { SomeIff result (IsTrue (is_valid_date_time when)) (seconds_of when.date when.hour when.minute when.second) }
     ensures bound { IfSome result (λ n. n < 2 ^ 63) }
@@ -236,7 +235,7 @@ fn unix_seconds(when: DateTime) -> Option<u64>
 /// Returns the nanoseconds of the fraction in the bytes after the seconds, or 0 if there is no fraction. A zone may follow. Returns an
 /// error if the bytes have any other form.
 #[inline(always)]
-#[tactic(auto, unfolding(crate::specs::Timestamps::Checks::has_point, crate::specs::Timestamps::Fields::fraction_nanos))]
+#[tactic(auto, unfolding(crate::specs::Timestamps::has_point, crate::specs::Timestamps::fraction_nanos))]
 fn read_fraction(rest: &[u8]) -> Result<u32, TimestampError>
     ensures { result ≡ fraction_answer (Checks.before_zone rest.now) }
 {

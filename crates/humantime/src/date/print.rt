@@ -4,13 +4,13 @@ ghost use Rattle.std.specs.Prelude.{◌≡◌, ◌+◌, ◌<◌, ◌≤◌, ◌�
 ghost use Rattle.std.specs.Borrow.{sem};
 ghost use Rattle.std.specs.Str.{IsUtf8};
 ghost use Rattle.humantime.specs.Prelude.{DisplaysMoment, IsDate, IsPrintable, IsPrinted, KeptAtNone, nano_of, places_of, printed_text};
-ghost use Rattle.humantime.specs.Timestamps.Fields.{two_digits, date_time_text, fields_text};
-ghost use Rattle.humantime.specs.Steps.Timestamps.{IsSecondOf};
-ghost use Rattle.humantime.specs.Results.Timestamps.{printed_fields};
+ghost use Rattle.humantime.specs.Timestamps.{two_digits, date_time_text, fields_text};
+ghost use Rattle.humantime.specs.StepsOfCalls.{IsSecondOf};
+ghost use Rattle.humantime.specs.TimestampResults.{printed_fields};
 
 use crate::buffer::str_prefix;
 use crate::calendar::{Date, Turns, date_of_day};
-use crate::unit::sizes::SECONDS_PER_DAY;
+use crate::unit::SECONDS_PER_DAY;
 use crate::value::SystemTime;
 use std::fmt;
 use std::marker::Model;
@@ -29,10 +29,10 @@ enum Precision {
     Nanos,
 }
 
-/// A moment that [`text`](Self::text) and `Display` print as a timestamp, with a fraction of 0, 3, 6 or 9 digits.
+/// A time that [`text`](Self::text) and `Display` print as a timestamp, with a fraction of 0, 3, 6 or 9 digits.
 ///
 /// It is returned by the `format_rfc3339` functions. `Display` writes the text that `text` returns in a single write, and ignores
-/// width and fill. For a moment outside 1970 to 9999, `Display` returns `fmt::Error` and writes nothing.
+/// width and fill. For a time outside 1970 to 9999, `Display` returns `fmt::Error` and writes nothing.
 ///
 /// # Examples
 ///
@@ -46,35 +46,35 @@ enum Precision {
 /// ```
 #[derive(Clone, Copy, Debug)]
 pub struct Rfc3339Timestamp {
-    moment: SystemTime,
+    time: SystemTime,
     precision: Precision,
 }
 
 impl Model for Rfc3339Timestamp {
     ghost use Rattle.humantime.specs.Values.{nano_of};
-    ghost use Rattle.humantime.specs.Timestamps.Printed.{MomentToPrint};
-    ghost use Rattle.humantime.specs.Results.Timestamps.{places, precision_of};
+    ghost use Rattle.humantime.specs.Timestamps.{MomentToPrint};
+    ghost use Rattle.humantime.specs.TimestampResults.{places, precision_of};
     ghost use Rattle.humantime.specs.declared.date.print.Precision.TheVariants.{Seconds, Millis, Micros, Nanos};
     ghost use Rattle.std.proofs.Common.{arith, lit≤, ◌≤◌};
 
-    // `view` is what contracts see: the moment and its number of fraction digits, 0, 3, 6 or 9. `few` proves, variant by variant, that there
+    // `view` is what contracts see: the time and its number of fraction digits, 0, 3, 6 or 9. `few` proves, variant by variant, that there
     // are at most nine. `inverse` maps a view back to its value, as `inverse_ok` proves.
     ghost Value = { MomentToPrint };
 
     ghost view = { λ x. record {
-      moment = x.moment;
+      moment = x.time;
       places = places x.precision;
       few = elim x.precision as (λ p. places p ≤ 9) [ Seconds ↦ lit≤ tt | Millis ↦ lit≤ tt | Micros ↦ lit≤ tt | Nanos ↦ lit≤ tt ];
     } };
 
-    ghost inverse = { λ x. record { moment = x.moment; precision = precision_of x.places } };
+    ghost inverse = { λ x. record { time = x.moment; precision = precision_of x.places } };
 
     ghost inverse_ok = { λ x h. Prim.grind arith };
 }
 
-/// Returns a value that prints `moment` as a timestamp with no fraction if its nanoseconds are zero, and with nine digits otherwise.
+/// Returns a value that prints `time` as a timestamp with no fraction if its nanoseconds are zero, and with nine digits otherwise.
 ///
-/// This function never fails. For a moment outside 1970 to 9999, [`text`](Rfc3339Timestamp::text) returns `None` and `Display` returns
+/// This function never fails. For a time outside 1970 to 9999, [`text`](Rfc3339Timestamp::text) returns `None` and `Display` returns
 /// [`fmt::Error`]. RFC 3339 defines the form of the timestamp, and the Rust crate `humantime` its number of digits.
 ///
 /// # Examples
@@ -85,22 +85,22 @@ impl Model for Rfc3339Timestamp {
 /// let mut buf = [0; 30];
 /// let whole = SystemTime::from_parts(1_518_563_312, 0).ok_or("too many nanoseconds")?;
 /// assert_eq!(rt; format_rfc3339(whole).text(&mut buf), Some("2018-02-13T23:08:32Z"));
-/// let moment = SystemTime::from_parts(1_518_563_312, 456_123_999).ok_or("too many nanoseconds")?;
-/// assert_eq!(rt; format_rfc3339(moment).text(&mut buf), Some("2018-02-13T23:08:32.456123999Z"));
+/// let time = SystemTime::from_parts(1_518_563_312, 456_123_999).ok_or("too many nanoseconds")?;
+/// assert_eq!(rt; format_rfc3339(time).text(&mut buf), Some("2018-02-13T23:08:32.456123999Z"));
 /// ```
-pub fn format_rfc3339(moment: SystemTime) -> Rfc3339Timestamp
-    ensures moment { result.moment ≡ moment }
-    ensures places { result.places ≡ places_of moment }
+pub fn format_rfc3339(time: SystemTime) -> Rfc3339Timestamp
+    ensures moment { result.moment ≡ time }
+    ensures places { result.places ≡ places_of time }
 {
-    match moment.subsec_nanos() {
-        0 => format_rfc3339_seconds(moment),
-        _ => format_rfc3339_nanos(moment),
+    match time.subsec_nanos() {
+        0 => format_rfc3339_seconds(time),
+        _ => format_rfc3339_nanos(time),
     }
 }
 
-/// Returns a value that prints `moment` as a timestamp with no fraction. The nanoseconds are truncated, not rounded.
+/// Returns a value that prints `time` as a timestamp with no fraction. The nanoseconds are truncated, not rounded.
 ///
-/// This function never fails. For a moment outside 1970 to 9999, [`text`](Rfc3339Timestamp::text) returns `None` and `Display` returns
+/// This function never fails. For a time outside 1970 to 9999, [`text`](Rfc3339Timestamp::text) returns `None` and `Display` returns
 /// [`fmt::Error`].
 ///
 /// # Examples
@@ -108,21 +108,21 @@ pub fn format_rfc3339(moment: SystemTime) -> Rfc3339Timestamp
 /// ```
 /// use humantime::{SystemTime, format_rfc3339_seconds};
 ///
-/// let moment = SystemTime::from_parts(1_518_563_312, 456_123_999).ok_or("too many nanoseconds")?;
+/// let time = SystemTime::from_parts(1_518_563_312, 456_123_999).ok_or("too many nanoseconds")?;
 /// let mut buf = [0; 30];
-/// assert_eq!(rt; format_rfc3339_seconds(moment).text(&mut buf), Some("2018-02-13T23:08:32Z"));
+/// assert_eq!(rt; format_rfc3339_seconds(time).text(&mut buf), Some("2018-02-13T23:08:32Z"));
 /// ```
-pub fn format_rfc3339_seconds(moment: SystemTime) -> Rfc3339Timestamp
-    ensures moment { result.moment ≡ moment }
+pub fn format_rfc3339_seconds(time: SystemTime) -> Rfc3339Timestamp
+    ensures moment { result.moment ≡ time }
     ensures places { result.places ≡ 0 }
 {
     let precision = Precision::Seconds;
-    Rfc3339Timestamp { moment, precision }
+    Rfc3339Timestamp { time, precision }
 }
 
-/// Returns a value that prints `moment` as a timestamp with three digits after the point. Further digits are truncated, not rounded.
+/// Returns a value that prints `time` as a timestamp with three digits after the point. Further digits are truncated, not rounded.
 ///
-/// This function never fails. For a moment outside 1970 to 9999, [`text`](Rfc3339Timestamp::text) returns `None` and `Display` returns
+/// This function never fails. For a time outside 1970 to 9999, [`text`](Rfc3339Timestamp::text) returns `None` and `Display` returns
 /// [`fmt::Error`].
 ///
 /// # Examples
@@ -130,21 +130,21 @@ pub fn format_rfc3339_seconds(moment: SystemTime) -> Rfc3339Timestamp
 /// ```
 /// use humantime::{SystemTime, format_rfc3339_millis};
 ///
-/// let moment = SystemTime::from_parts(1_518_563_312, 456_123_999).ok_or("too many nanoseconds")?;
+/// let time = SystemTime::from_parts(1_518_563_312, 456_123_999).ok_or("too many nanoseconds")?;
 /// let mut buf = [0; 30];
-/// assert_eq!(rt; format_rfc3339_millis(moment).text(&mut buf), Some("2018-02-13T23:08:32.456Z"));
+/// assert_eq!(rt; format_rfc3339_millis(time).text(&mut buf), Some("2018-02-13T23:08:32.456Z"));
 /// ```
-pub fn format_rfc3339_millis(moment: SystemTime) -> Rfc3339Timestamp
-    ensures moment { result.moment ≡ moment }
+pub fn format_rfc3339_millis(time: SystemTime) -> Rfc3339Timestamp
+    ensures moment { result.moment ≡ time }
     ensures places { result.places ≡ 3 }
 {
     let precision = Precision::Millis;
-    Rfc3339Timestamp { moment, precision }
+    Rfc3339Timestamp { time, precision }
 }
 
-/// Returns a value that prints `moment` as a timestamp with six digits after the point. Further digits are truncated, not rounded.
+/// Returns a value that prints `time` as a timestamp with six digits after the point. Further digits are truncated, not rounded.
 ///
-/// This function never fails. For a moment outside 1970 to 9999, [`text`](Rfc3339Timestamp::text) returns `None` and `Display` returns
+/// This function never fails. For a time outside 1970 to 9999, [`text`](Rfc3339Timestamp::text) returns `None` and `Display` returns
 /// [`fmt::Error`].
 ///
 /// # Examples
@@ -152,21 +152,21 @@ pub fn format_rfc3339_millis(moment: SystemTime) -> Rfc3339Timestamp
 /// ```
 /// use humantime::{SystemTime, format_rfc3339_micros};
 ///
-/// let moment = SystemTime::from_parts(1_518_563_312, 456_123_999).ok_or("too many nanoseconds")?;
+/// let time = SystemTime::from_parts(1_518_563_312, 456_123_999).ok_or("too many nanoseconds")?;
 /// let mut buf = [0; 30];
-/// assert_eq!(rt; format_rfc3339_micros(moment).text(&mut buf), Some("2018-02-13T23:08:32.456123Z"));
+/// assert_eq!(rt; format_rfc3339_micros(time).text(&mut buf), Some("2018-02-13T23:08:32.456123Z"));
 /// ```
-pub fn format_rfc3339_micros(moment: SystemTime) -> Rfc3339Timestamp
-    ensures moment { result.moment ≡ moment }
+pub fn format_rfc3339_micros(time: SystemTime) -> Rfc3339Timestamp
+    ensures moment { result.moment ≡ time }
     ensures places { result.places ≡ 6 }
 {
     let precision = Precision::Micros;
-    Rfc3339Timestamp { moment, precision }
+    Rfc3339Timestamp { time, precision }
 }
 
-/// Returns a value that prints `moment` as a timestamp with nine digits after the point.
+/// Returns a value that prints `time` as a timestamp with nine digits after the point.
 ///
-/// This function never fails. For a moment outside 1970 to 9999, [`text`](Rfc3339Timestamp::text) returns `None` and `Display` returns
+/// This function never fails. For a time outside 1970 to 9999, [`text`](Rfc3339Timestamp::text) returns `None` and `Display` returns
 /// [`fmt::Error`].
 ///
 /// # Examples
@@ -174,33 +174,33 @@ pub fn format_rfc3339_micros(moment: SystemTime) -> Rfc3339Timestamp
 /// ```
 /// use humantime::{SystemTime, format_rfc3339_nanos};
 ///
-/// let moment = SystemTime::from_parts(1_518_563_312, 456_123_999).ok_or("too many nanoseconds")?;
+/// let time = SystemTime::from_parts(1_518_563_312, 456_123_999).ok_or("too many nanoseconds")?;
 /// let mut buf = [0; 30];
-/// assert_eq!(rt; format_rfc3339_nanos(moment).text(&mut buf), Some("2018-02-13T23:08:32.456123999Z"));
+/// assert_eq!(rt; format_rfc3339_nanos(time).text(&mut buf), Some("2018-02-13T23:08:32.456123999Z"));
 /// ```
-pub fn format_rfc3339_nanos(moment: SystemTime) -> Rfc3339Timestamp
-    ensures moment { result.moment ≡ moment }
+pub fn format_rfc3339_nanos(time: SystemTime) -> Rfc3339Timestamp
+    ensures moment { result.moment ≡ time }
     ensures places { result.places ≡ 9 }
 {
     let precision = Precision::Nanos;
-    Rfc3339Timestamp { moment, precision }
+    Rfc3339Timestamp { time, precision }
 }
 
 impl Rfc3339Timestamp {
-    /// Returns a reference to the moment, with all its nanoseconds.
+    /// Returns a reference to the time, with all its nanoseconds.
     ///
     /// # Examples
     ///
     /// ```
     /// use humantime::{SystemTime, format_rfc3339_seconds};
     ///
-    /// let moment = SystemTime::from_parts(1_518_563_312, 456_123_999).ok_or("too many nanoseconds")?;
-    /// assert_eq!(rt; *format_rfc3339_seconds(moment).get_ref(), moment);
+    /// let time = SystemTime::from_parts(1_518_563_312, 456_123_999).ok_or("too many nanoseconds")?;
+    /// assert_eq!(rt; *format_rfc3339_seconds(time).get_ref(), time);
     /// ```
     pub fn get_ref(&self) -> &SystemTime
         ensures { result.now ≡ self.now.moment }
     {
-        &self.moment
+        &self.time
     }
 
     /// Writes the text to the front of `buf` and returns it as a slice of `buf`, or returns `None` outside 1970 to 9999.
@@ -238,11 +238,11 @@ impl Rfc3339Timestamp {
         ensures text { IfSome result (λ len. IsPrinted self.now.moment self.now.places (take len buf.new)) }
         ensures unchanged { IfNone result (buf.new ≡ buf.old) }
     {
-        let (date, second_of_day) = date_and_time(self.moment)?;
+        let (date, second_of_day) = date_and_time(self.time)?;
         Some(self.write_parts(date, second_of_day, buf))
     }
 
-    /// Writes the text of a date, a time (in seconds after midnight) and this moment's fraction to the front of `buf`. Returns its length in
+    /// Writes the text of a date, the seconds after midnight and this time's fraction to the front of `buf`. Returns its length in
     /// bytes.
     #[inline(always)]
     fn write_parts(&self, date: Date, second_of_day: u32, buf: &mut [u8; 30]) -> usize
@@ -250,7 +250,7 @@ impl Rfc3339Timestamp {
         ensures fits { result ≤ 30 }
         ensures text { take result buf.new ≡ fields_text (printed_fields date second_of_day (nano_of self.now.moment) self.now.places) }
     {
-        let nanos = self.moment.subsec_nanos();
+        let nanos = self.time.subsec_nanos();
         write_date_time(date, second_of_day, buf);
         if self.precision == Precision::Seconds {
             buf[19] = b'Z';
@@ -280,7 +280,7 @@ impl fmt::Display for Rfc3339Timestamp {
 
     ghost styled_output = { λ x _. printed_text x };
 
-    #[tactic(auto, using(crate::proofs::Timestamps::Printing::Printed::text_displayed))]
+    #[tactic(auto, using(crate::proofs::PrintedTimestamps::text_displayed))]
     fn fmt<W: fmt::Write>(&self, f: &mut fmt::Formatter<W>) -> fmt::Result
         ensures { DisplaysMoment W.write_str_gives f.old result self.now.moment (printed_text self.now) f.new }
     {
@@ -302,13 +302,13 @@ fn text_from_len(buf: &[u8; 30], len: Option<usize>) -> Option<&str>
     Some(str_prefix(buf, len?))
 }
 
-/// Returns the date of a moment and its time in seconds after midnight, or `None` outside 1970 to 9999.
+/// Returns the date of a time and its seconds after midnight, or `None` outside 1970 to 9999.
 #[inline(always)]
-fn date_and_time(moment: SystemTime) -> Option<(Date, u32)>
-    ensures within { IsSome result ↔ IsPrintable moment }
-    ensures value { IfSome result (λ x. IsSecondOf x.0 x.1 moment) }
+fn date_and_time(time: SystemTime) -> Option<(Date, u32)>
+    ensures within { IsSome result ↔ IsPrintable time }
+    ensures value { IfSome result (λ x. IsSecondOf x.0 x.1 time) }
 {
-    let secs = u64::try_from(moment.unix_seconds()).ok()?;
+    let secs = u64::try_from(time.unix_seconds()).ok()?;
     let day = u32::try_from(secs / SECONDS_PER_DAY).ok()?;
     let date = date_of_day(day, &mut Turns::new())?;
     Some((date, (secs % SECONDS_PER_DAY) as u32))
@@ -319,7 +319,7 @@ fn date_and_time(moment: SystemTime) -> Option<(Date, u32)>
 ///
 /// The contract passes 0 nanoseconds and 0 digits to `printed_fields`: the text before the point does not depend on them.
 #[inline(always)]
-#[tactic(auto, using(crate::proofs::Dates::Years::valid_from_test))]
+#[tactic(auto, using(crate::proofs::Dates::valid_from_test))]
 fn write_date_time(date: Date, second_of_day: u32, buf: &mut [u8; 30])
     requires date { IsDate date }
     requires time { second_of_day < 86_400 }
@@ -337,7 +337,7 @@ fn write_date_time(date: Date, second_of_day: u32, buf: &mut [u8; 30])
 
 /// Writes a number below 100 as two digits at offset `at`. The two stores compile to one move; `copy_from_slice` would compile to a call.
 #[inline(always)]
-#[tactic(auto, using(crate::proofs::Timestamps::Printing::Pairs::pair_written))]
+#[tactic(auto, using(crate::proofs::PrintedTimestamps::pair_written))]
 fn write_two_digits(buf: &mut [u8; 30], at: usize, n: u32)
     requires place { at + 2 ≤ 30 }
     requires small { n < 100 }

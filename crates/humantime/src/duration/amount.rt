@@ -2,7 +2,7 @@
 
 ghost use Rattle.std.specs.Prelude.{◌≡◌, ℕ, List, true, SomeIff, ◌+◌, ◌-◌, ◌*◌, ◌^◌, ◌≤◌, ◌<◌};
 ghost use Rattle.std.specs.Option.{ForSome};
-ghost use Rattle.humantime.specs.Durations.Characters.{is_digit, max_fraction_digits, u64_max};
+ghost use Rattle.humantime.specs.Characters.{is_digit, max_fraction_digits, u64_max};
 
 use crate::unit::Scale;
 
@@ -71,11 +71,11 @@ pub(crate) fn power_of_ten(exponent: usize) -> u64
 }
 
 impl Decimal {
-    ghost use Rattle.humantime.specs.Steps.Scanning.{HasDigits, AppendsIfSome, IsFullIfNone};
+    ghost use Rattle.humantime.specs.StepsOfParts.{HasDigits, AppendsIfSome, IsFullIfNone};
 
     /// Returns the fraction followed by the ASCII digit `c`, or `None` if it then has more than 19 digits before its trailing zeros.
     #[inline(always)]
-    #[tactic(auto, using(crate::proofs::Durations::Bytes::FractionDigits::fewer, crate::proofs::Durations::Reading::SignificantDigits::significant_long, crate::proofs::Durations::Bytes::Numbers::digit_range, crate::proofs::Durations::Reading::SignificantDigits::significant_zero, std::proofs::lemmas::Grind::common_steps))]
+    #[tactic(auto, using(crate::proofs::SpanParts::fewer, crate::proofs::Characters::significant_long, crate::proofs::SpanParts::digit_range, crate::proofs::Characters::significant_zero, std::proofs::lemmas::Grind::common_steps))]
     pub(crate) fn push(self, c: u8) -> Option<Decimal>
         requires digit { is_digit c ≡ true }
         requires digits { (ds : List ℕ) × HasDigits self ds }

@@ -2,7 +2,7 @@
 
 ghost use Rattle.std.specs.Prelude.{◌++◌, Some, decimal};
 ghost use Rattle.std.specs.Fmt.{WritesOnOk, WritesStyledOnOk};
-ghost use Rattle.humantime.specs.Durations.Errors.{fault_of, fault_message, unit_message};
+ghost use Rattle.humantime.specs.DurationErrors.{fault_of, fault_message, unit_message};
 
 use itoa::Buffer;
 use std::error::Error;

@@ -1,11 +1,10 @@
 //! [`SpanIter`], the iterator over the spans of a text, built on `read_span`.
 
 ghost use Rattle.std.proofs.Props.{props};
-ghost use Rattle.humantime.specs.Steps.Scanning.{IsTail};
+ghost use Rattle.humantime.specs.StepsOfParts.{IsTail};
 
 use crate::duration::error::DurationError;
-use crate::duration::reader::read_span;
-use crate::duration::scan::skip_whitespace;
+use crate::duration::scan::{read_span, skip_whitespace};
 use crate::duration::span::Span;
 
 /// An iterator over the spans of a text, from left to right, and then the error at which they end, if any.
@@ -43,7 +42,7 @@ impl<'a> Iterator for SpanIter<'a> {
     type Item = Result<Span<'a>, DurationError<'a>>;
 
     ghost use Rattle.std.specs.Iterator.{item_count};
-    ghost use Rattle.humantime.specs.Results.Spans.{items_left, GivesItem};
+    ghost use Rattle.humantime.specs.SpanResults.{items_left, GivesItem};
 
     ghost next_gives = { GivesItem };
 
@@ -51,7 +50,7 @@ impl<'a> Iterator for SpanIter<'a> {
     ghost remaining = { item_count items_left };
 
     #[inline(always)]
-    #[tactic(auto, using(crate::proofs::Durations::Bytes::Tails::no_bytes, crate::proofs::Durations::Bytes::Tails::some_chars, crate::proofs::Durations::Slices::Iterating::step_stopped, std::proofs::lemmas::Grind::common_steps, std::proofs::lemmas::Bool::Decides::nat_tests), unfolding(crate::specs::Results::Walks::walk))]
+    #[tactic(auto, using(crate::proofs::Offsets::no_bytes, crate::proofs::Offsets::some_chars, crate::proofs::Items::step_stopped, std::proofs::lemmas::Grind::common_steps, std::proofs::lemmas::Bool::Decides::nat_tests), unfolding(crate::specs::Walks::walk))]
     fn next(&mut self) -> Option<Result<Span<'a>, DurationError<'a>>> {
         if self.ended {
             return None;

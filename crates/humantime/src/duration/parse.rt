@@ -1,14 +1,73 @@
-//! Parses whole texts: [`parse_duration`] and [`spans`], built on [`SpanIter`] and `add_amount`.
+//! Parses whole texts: [`parse_duration`] adds up what [`spans`] yields.
 
-ghost use Rattle.std.specs.Prelude.{◌≡◌, chars, map, IfErr};
+ghost use Rattle.std.specs.Prelude.{◌≡◌, ◌≤◌, ◌*◌, ◌/◌, ◌^◌, IsTrue, SomeIff, chars, map, IfErr};
+ghost use Rattle.humantime.specs.Characters.{max_fraction_digits, u64_max};
+ghost use Rattle.humantime.specs.Durations.{is_whole_part, SpelledSpan};
+ghost use Rattle.humantime.specs.StepsOfCalls as steps;
+ghost use Rattle.humantime.specs.Walks.{add_span, sum_spans};
+ghost use Rattle.humantime.specs.StepsOfParts.{IsAmountOf};
 ghost use Rattle.humantime.specs.Prelude.{AreItems, IsDurationAnswer, PointsInto, items_left, result_view, text_of};
-ghost use Rattle.humantime.specs.Results.Items.{item_views, span_in};
-ghost use Rattle.humantime.specs.Results.Walks.{sum_spans};
+ghost use Rattle.humantime.specs.DurationResults.{item_views, span_in};
 
+use crate::duration::amount::{Amount, Decimal, power_of_ten};
 use crate::duration::error::DurationError;
 use crate::duration::iter::SpanIter;
-use crate::duration::sum::add_amount;
+use crate::unit::Quantity;
 use crate::value::StdDuration;
+
+/// Returns `sum` plus `count` times `one`, or `None` on overflow.
+#[inline(always)]
+fn add_times(sum: StdDuration, one: Quantity, count: u64) -> Option<StdDuration>
+    ensures { result ≡ steps.add_times sum one count }
+{
+    match one {
+        Quantity::Nanos(size) => sum.checked_add_nanos(count.checked_mul(size)?),
+        Quantity::Seconds(size) => sum.checked_add_secs(count.checked_mul(size)?),
+    }
+}
+
+/// Returns the fraction times `factor`, or `None` if that is not a whole number or the significand times `factor` overflows.
+#[tactic(auto, using(crate::proofs::SpanParts::power_positive))]
+fn part_of(fraction: Decimal, factor: u64) -> Option<u64>
+    requires { fraction.exponent ≤ max_fraction_digits }
+    ensures { SomeIff result (IsTrue (is_whole_part factor fraction.significand fraction.exponent)) (fraction.significand * factor / 10 ^ fraction.exponent) }
+{
+    let scaled = fraction.significand.checked_mul(factor)?;
+    let power = power_of_ten(fraction.exponent);
+    (scaled % power == 0).then_some(scaled / power)
+}
+
+/// Returns `sum` plus the fraction of `one`, or `None` on overflow or if that part is not a whole number.
+///
+/// If `one` is `None`, as for nanoseconds, which have no fractions, the result is `None` unless the fraction is zero.
+fn add_part(sum: StdDuration, one: Option<Quantity>, fraction: Decimal) -> Option<StdDuration>
+    requires { fraction.exponent ≤ max_fraction_digits }
+    ensures { result ≡ steps.add_part sum one fraction.significand fraction.exponent }
+{
+    match one {
+        None => (fraction.exponent == 0).then_some(sum),
+        Some(Quantity::Nanos(size)) => sum.checked_add_nanos(part_of(fraction, size)?),
+        Some(Quantity::Seconds(size)) => sum.checked_add_secs(part_of(fraction, size)?),
+    }
+}
+
+/// Returns `total` plus what a span adds: first its number, then its fraction. Returns `None` on overflow, or if the fraction is not a
+/// whole number of nanoseconds or of seconds.
+#[inline(always)]
+#[tactic(auto, unfolding(crate::specs::Walks::add_all, crate::specs::Walks::add_span))]
+fn add_amount(total: StdDuration, amount: Amount) -> Option<StdDuration>
+    ensures { (s : SpelledSpan) → IsAmountOf amount s → result ≡ add_span total s }
+{
+    let (count, scale) = (amount.value, amount.scale);
+    // `add_times` is called in both arms, so that `amount.fraction` is tested once.
+    match amount.fraction {
+        None => add_times(total, scale.whole, count),
+        Some(fraction) => {
+            let sum = add_times(total, scale.whole, count)?;
+            add_part(sum, scale.part, fraction)
+        }
+    }
+}
 
 /// Returns an iterator over the spans of `s`, from left to right, and then the error at which they end, if any.
 ///
@@ -34,7 +93,7 @@ use crate::value::StdDuration;
 /// assert!(rt; matches!(items.next(), Some(Err(DurationError::NumberExpected(6)))));
 /// assert!(rt; items.next().is_none());
 /// ```
-#[tactic(auto, using(crate::proofs::Durations::Slices::ItemViews::are_items))]
+#[tactic(auto, using(crate::proofs::Items::are_items))]
 #[inline(always)]
 pub fn spans(s: &str) -> SpanIter<'_>
     ensures items { AreItems (chars s.now) (items_left result) }
@@ -49,7 +108,7 @@ pub fn spans(s: &str) -> SpanIter<'_>
 
 /// Returns the sum of the spans of a text, or the text's first error.
 #[inline(always)]
-#[tactic(auto, using(std::proofs::lemmas::Grind::common_steps, std::proofs::lemmas::Bool::Decides::nat_tests), unfolding(crate::specs::Results::Walks::sum_spans))]
+#[tactic(auto, using(std::proofs::lemmas::Grind::common_steps, std::proofs::lemmas::Bool::Decides::nat_tests), unfolding(crate::specs::Walks::sum_spans))]
 fn sum_of<'a>(text: &'a str) -> Result<StdDuration, DurationError<'a>>
     ensures value { result_view result ≡ sum_spans 0 (map span_in (item_views (chars text.now))) }
     ensures place { IfErr result (PointsInto text.now) }

@@ -1,21 +1,127 @@
-//! Prints durations: [`format_duration`], [`FormattedDuration`] and [`canonical`], built on [`Writer`].
+//! Prints durations: [`format_duration`], [`FormattedDuration`] and [`canonical`], built on `Writer`. The crate `itoa` writes the
+//! numbers.
 
-ghost use Rattle.std.specs.Prelude.{◌≡◌, ◌<◌, ◌≤◌, ◌↔◌, ℕ, List, take, chars, IfOk, IfErr, OnErr, Ok, Some};
+ghost use Rattle.std.specs.Prelude.{◌≡◌, ◌<◌, ◌≤◌, ◌+◌, ◌==◌, if◌then◌else◌, codes, [], ◌∷◌, length, take, decimal, ◌↔◌, ℕ, List, chars};
+ghost use Rattle.std.specs.Prelude.{IfOk, IfErr, OnErr, Ok, Some};
+ghost use Rattle.std.specs.Str.{IsUtf8};
+ghost use Rattle.std.proofs.Props.{props};
 ghost use Rattle.std.specs.Borrow.{sem};
 ghost use Rattle.std.specs.Result.{result_map_both};
-ghost use Rattle.std.specs.Str.{IsUtf8};
-ghost use Rattle.humantime.specs.Durations.Errors.{fault_of};
-ghost use Rattle.humantime.specs.Prelude.{Fault, HasFault, IsCanonicalOf, IsCanonicalText, KeptAtErr, PointsInto};
-ghost use Rattle.humantime.specs.Prelude.{canonical_answer, duration_answer, duration_end, duration_text, text_result_view};
+ghost use Rattle.humantime.specs.DurationErrors.{fault_of};
+ghost use Rattle.humantime.specs.Prelude.{Fault, HasFault, IsCanonicalOf, IsCanonicalText, KeptAtErr, PointsInto, canonical_answer};
+ghost use Rattle.humantime.specs.Prelude.{duration_answer, duration_end, duration_text, text_result_view};
 
 use crate::buffer::str_prefix;
 use crate::duration::error::DurationError;
 use crate::duration::parse_duration;
-use crate::duration::writer::Writer;
-use crate::unit::sizes;
+use crate::unit;
 use crate::value::StdDuration;
+use itoa::Buffer;
 use std::fmt;
 use std::marker::Model;
+
+/// A buffer whose first `end` bytes are the text written so far.
+#[derive(Drop)]
+struct Writer<'b> {
+    bytes: &'b mut [u8],
+    end: usize,
+    ghost within: { end ≤ length bytes.now },
+    ghost utf8: { IsUtf8 (take end bytes.now) } by { Prim.hlevel props },
+}
+
+impl<'b> Writer<'b> {
+    ghost use Rattle.humantime.specs.StepsOfCalls.{fixed, plural, most_bytes, written, Appends, AppendsCount, HasWritten};
+
+    /// Creates a writer to `bytes` that has written nothing yet.
+    #[inline(always)]
+    pub(crate) fn new(bytes: &'b mut [u8]) -> Writer<'b>
+        ensures same_reference { result.bytes.ghost_name ≡ bytes.entry.ghost_name }
+        ensures room { length result.bytes.now ≡ length bytes.old }
+        ensures end { result.end ≡ 0 }
+        ensures empty { written result ≡ [] }
+    {
+        Writer { bytes, end: 0 }
+    }
+
+    /// Appends a text, which must fit in the buffer.
+    #[inline(always)]
+    fn push(&mut self, text: &str)
+        requires fits { self.old.end + length text.now ≤ length self.old.bytes.now }
+        ensures { Appends self.old self.new text.now }
+    {
+        let end = self.end + text.len();
+        let bytes = &mut *self.bytes;
+        bytes[self.end..end].copy_from_slice(text.as_bytes());
+        self.end = end;
+    }
+
+    /// Appends a number in decimal.
+    #[inline(always)]
+    fn push_number(&mut self, number: u64)
+        requires fits { self.old.end + length (decimal number) ≤ length self.old.bytes.now }
+        ensures { Appends self.old self.new (decimal number) }
+    {
+        let mut buf = Buffer::new();
+        let digits = buf.format(number);
+        // One or two digits, as most numbers have, are copied without a call.
+        match digits.len() {
+            1 => self.push(&digits[..1]),
+            2 => self.push(&digits[..2]),
+            _ => self.push(digits),
+        }
+    }
+
+    /// Appends a count and its unit, preceded by a space unless nothing has been written yet. A count of zero is left out.
+    #[inline(always)]
+    pub(crate) fn push_count(&mut self, count: u64, unit: &str)
+        requires fits { self.old.end + 1 + most_bytes count (fixed unit.now) ≤ length self.old.bytes.now }
+        ensures { AppendsCount self.old self.new count (fixed unit.now) }
+    {
+        if count == 0 {
+            return;
+        }
+        if self.end > 0 {
+            self.push(" ");
+        }
+        self.push_number(count);
+        self.push(unit);
+    }
+
+    /// Appends a count and its unit as `push_count` does, with an `s` after the unit if the count is above 1.
+    #[inline(always)]
+    pub(crate) fn push_plural(&mut self, count: u64, unit: &str)
+        requires fits { self.old.end + 1 + most_bytes count (plural unit.now) ≤ length self.old.bytes.now }
+        ensures { AppendsCount self.old self.new count (plural unit.now) }
+    {
+        self.push_count(count, unit);
+        if count > 1 {
+            self.push("s");
+        }
+    }
+
+    /// Appends `0s` if nothing has been written yet.
+    #[inline(always)]
+    pub(crate) fn push_zero_if_empty(&mut self)
+        requires { 2 ≤ length self.old.bytes.now }
+        ensures { HasWritten self.old self.new (if length (written self.old) == 0 then codes "0s" else written self.old) }
+    {
+        if self.end == 0 {
+            self.push("0s");
+        }
+    }
+
+    /// Returns the number of bytes written.
+    #[inline(always)]
+    pub(crate) fn finish(self) -> usize
+        ensures most { result ≤ length self.entry.bytes.now }
+        ensures text { take result self.exit.0.now ≡ written self.entry }
+        ensures utf8 { IsUtf8 (take result self.exit.0.now) }
+    {
+        // Destructured, so that the contract can name the final buffer: `self.exit.0` is `bytes`.
+        let Writer { bytes: _, end } = self;
+        end
+    }
+}
 
 /// A duration that [`text`](Self::text) and `Display` print, such as `2h 37m`.
 ///
@@ -114,7 +220,7 @@ impl FormattedDuration {
 ///
 /// This is a single function and is not inlined, so that the writer stays in registers.
 #[inline(never)]
-#[tactic(auto, using(crate::proofs::Durations::Printing::CountTexts::counts_written))]
+#[tactic(auto, using(crate::proofs::Counts::counts_written))]
 fn write_duration(duration: StdDuration, buf: &mut [u8; 64]) -> usize
     ensures fits { result ≤ 64 }
     ensures text { take result buf.new ≡ duration_text duration }
@@ -123,21 +229,21 @@ fn write_duration(duration: StdDuration, buf: &mut [u8; 64]) -> usize
 {
     let mut writer = Writer::new(buf);
     let secs = duration.as_secs();
-    writer.push_plural(secs / sizes::SECONDS_PER_YEAR, "year");
-    let secs = secs % sizes::SECONDS_PER_YEAR;
-    writer.push_plural(secs / sizes::SECONDS_PER_MONTH, "month");
-    let secs = secs % sizes::SECONDS_PER_MONTH;
-    writer.push_plural(secs / sizes::SECONDS_PER_DAY, "day");
-    let secs = secs % sizes::SECONDS_PER_DAY;
-    writer.push_count(secs / sizes::SECONDS_PER_HOUR, "h");
-    let secs = secs % sizes::SECONDS_PER_HOUR;
-    writer.push_count(secs / sizes::SECONDS_PER_MINUTE, "m");
-    writer.push_count(secs % sizes::SECONDS_PER_MINUTE, "s");
+    writer.push_plural(secs / unit::SECONDS_PER_YEAR, "year");
+    let secs = secs % unit::SECONDS_PER_YEAR;
+    writer.push_plural(secs / unit::SECONDS_PER_MONTH, "month");
+    let secs = secs % unit::SECONDS_PER_MONTH;
+    writer.push_plural(secs / unit::SECONDS_PER_DAY, "day");
+    let secs = secs % unit::SECONDS_PER_DAY;
+    writer.push_count(secs / unit::SECONDS_PER_HOUR, "h");
+    let secs = secs % unit::SECONDS_PER_HOUR;
+    writer.push_count(secs / unit::SECONDS_PER_MINUTE, "m");
+    writer.push_count(secs % unit::SECONDS_PER_MINUTE, "s");
     let nanos = duration.subsec_nanos() as u64;
-    writer.push_count(nanos / sizes::NANOS_PER_MILLI, "ms");
-    let nanos = nanos % sizes::NANOS_PER_MILLI;
-    writer.push_count(nanos / sizes::NANOS_PER_MICRO, "µs");
-    writer.push_count(nanos % sizes::NANOS_PER_MICRO, "ns");
+    writer.push_count(nanos / unit::NANOS_PER_MILLI, "ms");
+    let nanos = nanos % unit::NANOS_PER_MILLI;
+    writer.push_count(nanos / unit::NANOS_PER_MICRO, "µs");
+    writer.push_count(nanos % unit::NANOS_PER_MICRO, "ns");
     writer.push_zero_if_empty();
     writer.finish()
 }
@@ -217,7 +323,7 @@ fn text_from_len<'a, 'b>(
 /// Parses a duration, writes its canonical text to the front of the buffer, and returns the text's length in bytes.
 ///
 /// If parsing fails, returns the error and leaves the buffer unchanged.
-#[tactic(auto, using(std::proofs::lemmas::Result::err_from_is_err_and), unfolding(crate::specs::Results::Durations::canonical_answer))]
+#[tactic(auto, using(std::proofs::lemmas::Result::err_from_is_err_and), unfolding(crate::specs::DurationResults::canonical_answer))]
 fn write_canonical<'a>(s: &'a str, buf: &mut [u8; 64]) -> Result<usize, DurationError<'a>>
     ensures unchanged { OnErr result (buf.new ≡ buf.old) }
     ensures fits { IfOk result (λ len. len ≤ 64) }

@@ -1,20 +1,20 @@
-//! Reads the parts of a span, such as `1.5d`: its number, point, fraction and word.
+//! Reads the parts of a span, such as `1.5d`: its number, point, fraction and word; and then a [`Span`].
 //!
 //! A `read_..` function returns a value and the rest of the text, a `skip_..` function only the rest, or the next offset if it takes one. In
 //! contracts, `IsTail text rest` says that `rest` is the end of `text`.
 
-ghost use Rattle.std.specs.Prelude.{◌≡◌, ◌==◌, ◌+◌, ◌<◌, ◌&&◌, ◌||◌, true, drop, chars, option_map};
-ghost use Rattle.std.specs.Prelude.{IfSome, SomeIff, IsCharBoundary};
-ghost use Rattle.humantime.specs.Texts.{begins, drop_while};
-ghost use Rattle.humantime.specs.Durations.Characters.{is_digit, is_whitespace};
-ghost use Rattle.humantime.specs.Durations.Errors.{IsCharStartIn};
-ghost use Rattle.humantime.specs.Durations.Faults.{after_point};
-ghost use Rattle.humantime.specs.Steps.Readers as reader;
-ghost use Rattle.humantime.specs.Steps.Readers.{read_view};
-ghost use Rattle.humantime.specs.Steps.Scales.{parts_of};
-ghost use Rattle.humantime.specs.Steps.Scanning.{IsTail, SkipsWhitespace, whitespace_len};
+ghost use Rattle.std.specs.Prelude.{◌≡◌, ◌==◌, ◌+◌, ◌<◌, ◌&&◌, ◌||◌, true, drop, chars, option_map, IfSome, SomeIff, IsCharBoundary, ◌≢◌};
+ghost use Rattle.std.specs.Prelude.{IfOk, MatchResult, length};
+ghost use Rattle.humantime.specs.Characters.{begins, drop_while, is_digit, is_whitespace, offset_of};
+ghost use Rattle.humantime.specs.DurationErrors.{IsCharStartIn, after_point, IsRangeIn, PointsInto};
+ghost use Rattle.humantime.specs.StepsOfCalls as reader;
+ghost use Rattle.humantime.specs.StepsOfCalls.{read_view, HasRead, span_result};
+ghost use Rattle.humantime.specs.StepsOfParts.{parts_of, IsTail, SkipsWhitespace, whitespace_len};
 
-use crate::duration::amount::{Decimal, push_digit};
+use crate::duration::amount::{Amount, Decimal, push_digit};
+use crate::duration::error::DurationError;
+use crate::duration::span::Span;
+use crate::unit::scale_of;
 
 /// The greatest number whose product with 10 fits in a `u64`. A digit can be appended to any smaller number.
 const TENTH_OF_MAX: u64 = u64::MAX / 10;
@@ -24,6 +24,7 @@ const TENTH_OF_MAX: u64 = u64::MAX / 10;
 fn is_mu(first: u8, second: u8) -> bool
     ensures { result ≡ ((first == 0xc2 && second == 0xb5) || (first == 0xce && second == 0xbc)) }
 {
+    // A `match` of the pair keeps the loop over digits in registers, which comparisons joined by `&&` and `||` do not.
     matches!((first, second), (0xc2, 0xb5) | (0xce, 0xbc))
 }
 
@@ -44,7 +45,7 @@ fn skip_non_ascii_whitespace(text: &str, at: usize) -> Option<usize>
 ///
 /// A character must begin at `at`, so `at` is less than the length of the text.
 #[inline(always)]
-#[tactic(auto, using(crate::proofs::Durations::Bytes::PlaceSteps::ascii_at, crate::proofs::Durations::Bytes::PlaceSteps::no_whitespace_at_mu, crate::proofs::Durations::Reading::Classes::low_whitespace, crate::proofs::Durations::Reading::Classes::no_whitespace_between, std::proofs::lemmas::Bool::Decides::nat_tests))]
+#[tactic(auto, using(crate::proofs::Offsets::ascii_at, crate::proofs::Offsets::no_whitespace_at_mu, crate::proofs::Characters::low_whitespace, crate::proofs::Characters::no_whitespace_between, std::proofs::lemmas::Bool::Decides::nat_tests))]
 pub(crate) fn skip_whitespace_char(text: &str, at: usize) -> Option<usize>
     requires { IsCharStartIn text.now at }
     ensures { SomeIff result (0 < whitespace_len (chars (drop at text.now))) (at + whitespace_len (chars (drop at text.now))) }
@@ -70,7 +71,7 @@ pub(crate) fn skip_whitespace_char(text: &str, at: usize) -> Option<usize>
 ///
 /// Each space costs one test here, and several in [`skip_whitespace_char`].
 #[inline(always)]
-#[tactic(auto, using(crate::proofs::Durations::Bytes::PlaceSteps::ascii_at, crate::proofs::Durations::Reading::Classes::low_whitespace, std::proofs::lemmas::Grind::common_steps, std::proofs::lemmas::Bool::Decides::nat_tests))]
+#[tactic(auto, using(crate::proofs::Offsets::ascii_at, crate::proofs::Characters::low_whitespace, std::proofs::lemmas::Grind::common_steps, std::proofs::lemmas::Bool::Decides::nat_tests))]
 fn skip_spaces(text: &str, from: usize) -> usize
     requires { IsCharBoundary text.now from }
     ensures { SkipsWhitespace text.now from result }
@@ -85,7 +86,7 @@ fn skip_spaces(text: &str, from: usize) -> usize
 
 /// Returns what follows the whitespace at the start of the text, if any.
 #[inline(always)]
-#[tactic(auto, using(crate::proofs::Durations::Bytes::Tails::slice_tail, crate::proofs::Durations::Bytes::Tails::whole_tail, crate::proofs::Durations::Bytes::PlaceSteps::digit_stays, crate::proofs::Durations::Bytes::PlaceSteps::starts))]
+#[tactic(auto, using(crate::proofs::Offsets::slice_tail, crate::proofs::Offsets::whole_tail, crate::proofs::Offsets::digit_stays, crate::proofs::Offsets::starts))]
 pub(crate) fn skip_whitespace(s: &str) -> &str
     ensures read { chars result.now ≡ drop_while is_whitespace (chars s.now) }
     ensures rest { IsTail s.now result.now }
@@ -105,7 +106,7 @@ pub(crate) fn skip_whitespace(s: &str) -> &str
 
 /// Returns `true` if the text begins with an ASCII digit.
 #[inline(always)]
-#[tactic(auto, using(crate::proofs::Durations::Bytes::PlaceSteps::digit_at, crate::proofs::Durations::Bytes::PlaceSteps::starts, crate::proofs::Durations::Bytes::Tails::no_bytes, std::proofs::lemmas::Grind::common_steps, std::proofs::lemmas::Bool::Decides::nat_tests))]
+#[tactic(auto, using(crate::proofs::Offsets::digit_at, crate::proofs::Offsets::starts, crate::proofs::Offsets::no_bytes, std::proofs::lemmas::Grind::common_steps, std::proofs::lemmas::Bool::Decides::nat_tests))]
 pub(crate) fn begins_with_digit(text: &str) -> bool
     ensures { result ≡ begins is_digit (chars text.now) }
 {
@@ -116,7 +117,7 @@ pub(crate) fn begins_with_digit(text: &str) -> bool
 /// Reads the digits at the start of the text, with the whitespace between and after them. Returns their value and the rest, or `None` if the
 /// value does not fit in a `u64`. The text must begin with a digit.
 #[inline(always)]
-#[tactic(auto, using(crate::proofs::Durations::Bytes::Numbers::first_digit, crate::proofs::Durations::Bytes::Tails::slice_tail))]
+#[tactic(auto, using(crate::proofs::SpanParts::first_digit, crate::proofs::Offsets::slice_tail))]
 pub(crate) fn read_number(s: &str) -> Option<(u64, &str)>
     requires { begins is_digit (chars s.now) ≡ true }
     ensures read { read_view (λ n. n) result ≡ reader.read_number (chars s.now) }
@@ -147,7 +148,7 @@ pub(crate) fn read_number(s: &str) -> Option<(u64, &str)>
 
 /// Returns what follows the decimal point at the start of the text, or `None` if there is no point.
 #[inline(always)]
-#[tactic(auto, using(crate::proofs::Durations::Bytes::Tails::slice_tail, crate::proofs::Durations::Bytes::Tails::no_bytes, crate::proofs::Durations::Bytes::PlaceSteps::char_at, crate::proofs::Durations::Bytes::PlaceSteps::starts, std::proofs::lemmas::Bool::cases_lt, std::proofs::lemmas::Bool::ne_eqb, std::proofs::lemmas::Grind::common_steps, std::proofs::lemmas::Bool::Decides::nat_tests), unfolding(crate::specs::Durations::Characters::is_point))]
+#[tactic(auto, using(crate::proofs::Offsets::slice_tail, crate::proofs::Offsets::no_bytes, crate::proofs::Offsets::char_at, crate::proofs::Offsets::starts, std::proofs::lemmas::Bool::cases_lt, std::proofs::lemmas::Bool::ne_eqb, std::proofs::lemmas::Grind::common_steps, std::proofs::lemmas::Bool::Decides::nat_tests), unfolding(crate::specs::Characters::is_point))]
 pub(crate) fn skip_point(s: &str) -> Option<&str>
     ensures read { option_map (λ t. chars t.now) result ≡ after_point (chars s.now) }
     ensures rest { IfSome result (λ t. IsTail s.now t.now) }
@@ -161,7 +162,7 @@ pub(crate) fn skip_point(s: &str) -> Option<&str>
 /// Reads the digits of a fraction at the start of the text, if any, with the whitespace around and between them. Returns the digits and the
 /// rest, or `None` if there are more than 19 digits before the trailing zeros.
 #[inline(always)]
-#[tactic(auto, using(crate::proofs::Durations::Bytes::Tails::slice_tail, crate::proofs::Durations::Reading::Classes::digit_is))]
+#[tactic(auto, using(crate::proofs::Offsets::slice_tail, crate::proofs::Characters::digit_is))]
 pub(crate) fn read_fraction(s: &str) -> Option<(Decimal, &str)>
     ensures read { read_view parts_of result ≡ reader.read_fraction (chars s.now) }
     ensures rest { IfSome result (λ x. IsTail s.now x.1.now) }
@@ -184,7 +185,7 @@ pub(crate) fn read_fraction(s: &str) -> Option<(Decimal, &str)>
 
 /// Returns what follows the letters (ASCII, `µ` or `μ`) at the start of the text, or `None` if it begins with another character.
 #[inline(always)]
-#[tactic(auto, using(crate::proofs::Durations::Bytes::Tails::no_chars_at, crate::proofs::Durations::Bytes::Tails::slice_tail, crate::proofs::Durations::Bytes::PlaceSteps::starts))]
+#[tactic(auto, using(crate::proofs::Offsets::no_chars_at, crate::proofs::Offsets::slice_tail, crate::proofs::Offsets::starts))]
 pub(crate) fn skip_word(s: &str) -> Option<&str>
     ensures read { option_map (λ t. chars t.now) result ≡ reader.skip_word (chars s.now) }
     ensures rest { IfSome result (λ t. IsTail s.now t.now) }
@@ -210,7 +211,7 @@ pub(crate) fn skip_word(s: &str) -> Option<&str>
 ///
 /// It skips one character, since there is usually only one before the next digit. `skip_whitespace` skips the others.
 #[inline(always)]
-#[tactic(auto, using(crate::proofs::Durations::Bytes::Tails::slice_tail, crate::proofs::Durations::Bytes::Tails::whole_tail, crate::proofs::Durations::Bytes::Tails::no_bytes, crate::proofs::Durations::Bytes::Tails::some_chars, crate::proofs::Durations::Bytes::PlaceSteps::space_ends, crate::proofs::Durations::Bytes::PlaceSteps::whitespace_ends, crate::proofs::Durations::Bytes::PlaceSteps::starts, std::proofs::lemmas::Str::len_utf8_bounds, std::proofs::lemmas::Grind::common_steps))]
+#[tactic(auto, using(crate::proofs::Offsets::slice_tail, crate::proofs::Offsets::whole_tail, crate::proofs::Offsets::no_bytes, crate::proofs::Offsets::some_chars, crate::proofs::Offsets::space_ends, crate::proofs::Offsets::whitespace_ends, crate::proofs::Offsets::starts, std::proofs::lemmas::Str::len_utf8_bounds, std::proofs::lemmas::Grind::common_steps))]
 pub(crate) fn end_span(s: &str) -> Option<&str>
     ensures read { option_map (λ t. chars t.now) result ≡ reader.end_span (chars s.now) }
     ensures rest { IfSome result (λ t. IsTail s.now t.now) }
@@ -227,4 +228,99 @@ pub(crate) fn end_span(s: &str) -> Option<&str>
     }
     let len = skip_whitespace_char(s, 0)?;
     Some(&s[len..])
+}
+
+/// A span and the text after it, or the error of the first check that fails.
+type ReadSpan<'a> = Result<(Span<'a>, &'a str), DurationError<'a>>;
+
+/// Returns the offset in the text at which `rest`, its unread end, begins.
+#[inline(always)]
+#[tactic(auto, using(crate::proofs::Offsets::tail_offset))]
+fn offset_in(text: &str, rest: &str) -> usize
+    requires { IsTail text.now rest.now }
+    ensures { result ≡ offset_of (chars text.now) (chars rest.now) }
+{
+    text.len() - rest.len()
+}
+
+/// Reads the span at the start of `rest`, which is the unread end of `text` and not empty. Offsets are those in `text`.
+#[inline(always)]
+#[tactic(auto, using(crate::proofs::Offsets::some_chars, crate::proofs::Offsets::tail_place, crate::proofs::Offsets::tail_tail, crate::proofs::Offsets::whole_tail), unfolding(crate::specs::Walks::stop_at))]
+pub(crate) fn read_span<'a>(text: &'a str, rest: &'a str) -> ReadSpan<'a>
+    requires tail { IsTail text.now rest.now }
+    requires nonempty { length rest.now ≢ 0 }
+    ensures read { span_result result ≡ reader.read_span (chars text.now) (chars rest.now) }
+    ensures rest { IfOk result (λ x. IsTail text.now x.1.now) }
+    ensures places { MatchResult result (λ x. IsRangeIn text.now x.0.start x.0.end) (PointsInto text.now) }
+{
+    if !begins_with_digit(rest) {
+        return Err(DurationError::NumberExpected(offset_in(text, rest)));
+    }
+    let Some((value, after_number)) = read_number(rest) else {
+        return Err(DurationError::NumberOverflow);
+    };
+    // `complete_span` is inlined twice, so that a span without a fraction needs no registers for one.
+    let Some(after_point) = skip_point(after_number) else {
+        return complete_span(text, rest, value, after_number, None, after_number);
+    };
+    let Some((digits, after_digits)) = read_fraction(after_point) else {
+        return Err(DurationError::NumberOverflow);
+    };
+    complete_span(text, rest, value, after_number, Some(digits), after_digits)
+}
+
+/// Reads the unit after a number and its fraction, if any, and returns the result of [`read_span`]. The value and the fraction were read from
+/// the start of `rest`, and are followed by `after_number` and `after_fraction`, which are the same if there is no point.
+#[inline(always)]
+#[tactic(auto, using(crate::proofs::Offsets::tail_boundary, crate::proofs::Offsets::tail_tail, crate::proofs::SpanParts::no_letters, std::proofs::lemmas::Bool::Decides::nat_tests), unfolding(crate::specs::Walks::stop_at))]
+fn complete_span<'a>(
+    text: &'a str,
+    rest: &'a str,
+    value: u64,
+    after_number: &'a str,
+    fraction: Option<Decimal>,
+    after_fraction: &'a str,
+) -> ReadSpan<'a>
+    requires tail { IsTail text.now rest.now }
+    requires parts { HasRead rest.now value after_number.now fraction after_fraction.now }
+    ensures read { span_result result ≡ reader.read_span (chars text.now) (chars rest.now) }
+    ensures rest { IfOk result (λ x. IsTail text.now x.1.now) }
+    ensures places { MatchResult result (λ x. IsRangeIn text.now x.0.start x.0.end) (PointsInto text.now) }
+{
+    let Some(after_word) = skip_word(after_fraction) else {
+        return Err(DurationError::InvalidCharacter(offset_in(text, after_fraction)));
+    };
+    // The error of `1.~` is at the `~`, but that of `1.s~` and of `1.` at the point. So this is tested after `skip_word`.
+    if fraction.is_some_and(|fraction| fraction.len == 0) {
+        return Err(DurationError::InvalidCharacter(offset_in(text, after_number)));
+    }
+    // `1foo~` is wrong at the `~`, so what follows the word is tested before the word.
+    let Some(next) = end_span(after_word) else {
+        return Err(DurationError::InvalidCharacter(offset_in(text, after_word)));
+    };
+    let unit = &after_fraction[..after_fraction.len() - after_word.len()];
+    let end = offset_in(text, after_word);
+    let Some(scale) = scale_of(unit) else {
+        return Err(DurationError::UnknownUnit {
+            start: offset_in(text, after_fraction),
+            end,
+            unit,
+            value,
+        });
+    };
+    let span = Span {
+        // Both slices have the whitespace around the digits, which the methods of `Span` trim. Without a point, the second is empty, and
+        // `skip_point` returns `None`.
+        number: &rest[..rest.len() - after_number.len()],
+        fraction: skip_point(&after_number[..after_number.len() - after_fraction.len()]),
+        unit,
+        start: offset_in(text, rest),
+        end,
+        amount: Amount {
+            value,
+            fraction,
+            scale,
+        },
+    };
+    Ok((span, next))
 }

@@ -1,7 +1,7 @@
 //! [`Span`]: a number with its fraction, if any, and its unit, as read from a text.
 
 ghost use Rattle.std.specs.Prelude.{◌≡◌, option_map, chars};
-ghost use Rattle.humantime.specs.Steps.Scales.{IsAmountRead};
+ghost use Rattle.humantime.specs.StepsOfParts.{IsAmountRead};
 
 use crate::duration::amount::Amount;
 
@@ -35,7 +35,7 @@ pub struct Span<'a> {
 }
 
 impl<'a> Span<'a> {
-    ghost use Rattle.humantime.specs.Results.Spans.{span_view};
+    ghost use Rattle.humantime.specs.SpanResults.{span_view};
 
     /// Returns the integer part as written in the text, from its first to its last digit.
     ///
@@ -49,7 +49,7 @@ impl<'a> Span<'a> {
     /// let span = spans("1 2 .5h").next().ok_or("no span")??;
     /// assert_eq!(rt; span.number(), "1 2");
     /// ```
-    #[tactic(auto, using(crate::proofs::Durations::Bytes::Trimming::end_trimmed))]
+    #[tactic(auto, using(crate::proofs::Slices::end_trimmed))]
     pub fn number(&self) -> &'a str
         ensures { chars result.now ≡ (span_view self.now).number }
     {

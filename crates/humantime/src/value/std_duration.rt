@@ -7,7 +7,7 @@ ghost use Rattle.std.specs.Cmp.Rules.{comparing};
 ghost use Rattle.std.specs.Ordering.{nat_cmp, as_partial_cmp};
 ghost use Rattle.humantime.specs.Values.{nanos_per_second, duration_end};
 
-use crate::unit::sizes::NANOS_PER_SECOND;
+use crate::unit::NANOS_PER_SECOND;
 use std::cmp::Ordering;
 use std::marker::Model;
 

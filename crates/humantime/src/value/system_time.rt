@@ -1,4 +1,4 @@
-//! [`SystemTime`]: a moment in time.
+//! [`SystemTime`]: a time.
 
 ghost use Rattle.std.specs.Prelude.{◌≡◌, ℕ, ℤ, pos, ◌+◌, ◌*◌, ◌^◌, ◌<◌, ◌↔◌, ◌+ℤ◌, ◌≤ℤ◌, ◌<ℤ◌, SomeIff, IsOk, IfOk, IfErr};
 ghost use Rattle.std.proofs.Common.{rules};
@@ -7,12 +7,12 @@ ghost use Rattle.std.specs.Cmp.Rules.{comparing};
 ghost use Rattle.std.specs.Ordering.{int_cmp, int_eq, as_partial_cmp};
 ghost use Rattle.humantime.specs.Values.{moment, second_of, nano_of, moment_end, nanos_per_second};
 
-use crate::unit::sizes::NANOS_PER_SECOND;
+use crate::unit::NANOS_PER_SECOND;
 use crate::value::std_duration::StdDuration;
 use std::cmp::Ordering;
 use std::marker::Model;
 
-/// The moment 1970-01-01T00:00:00Z.
+/// 1970-01-01T00:00:00Z.
 ///
 /// # Examples
 ///
@@ -24,7 +24,7 @@ use std::marker::Model;
 /// ```
 pub const UNIX_EPOCH: SystemTime = SystemTime { secs: 0, nanos: 0 };
 
-/// A moment in time: seconds since 1970-01-01T00:00:00Z (`i64`), and nanoseconds below 10^9 after that second.
+/// A time: seconds since 1970-01-01T00:00:00Z (`i64`), and nanoseconds below 10^9 after that second.
 ///
 /// This is the counterpart of `SystemTime` in `std::time`, with `checked_add`, `duration_since` and access to its seconds and
 /// nanoseconds. Contracts see it as its number of nanoseconds since 1970-01-01T00:00:00Z, which is negative before then; order and
@@ -66,9 +66,9 @@ impl Model for SystemTime {
         λ i. record { secs = secs i; nanos = nanos i } };
 }
 
-/// The error returned by [`SystemTime::duration_since`] if `earlier` is later than the moment.
+/// The error returned by [`SystemTime::duration_since`] if `earlier` is later than the time.
 ///
-/// It holds the duration from the moment to `earlier`. Contracts see it as that number of nanoseconds; equality is that of this number.
+/// It holds the duration from the time to `earlier`. Contracts see it as that number of nanoseconds; equality is that of this number.
 /// Unlike the error of `std::time`, it has no message: it implements neither `Display` nor `Error`.
 ///
 /// # Examples
@@ -95,7 +95,7 @@ impl Model for SystemTimeError {
 }
 
 impl SystemTimeError {
-    /// Returns the duration from the moment to `earlier`.
+    /// Returns the duration from the time to `earlier`.
     ///
     /// # Examples
     ///
@@ -115,7 +115,7 @@ impl SystemTimeError {
 }
 
 impl SystemTime {
-    /// Creates the moment `nanos` nanoseconds after second `secs`, or returns `None` if `nanos` is 10^9 or more.
+    /// Creates the time `nanos` nanoseconds after second `secs`, or returns `None` if `nanos` is 10^9 or more.
     ///
     /// Seconds are counted from 1970-01-01T00:00:00Z, and are negative before then.
     ///
@@ -125,7 +125,7 @@ impl SystemTime {
     /// use humantime::{SystemTime, UNIX_EPOCH};
     ///
     /// assert_eq!(rt; SystemTime::from_parts(0, 0), Some(UNIX_EPOCH));
-    /// assert!(rt; SystemTime::from_parts(-1, 999_999_999).is_some_and(|moment| moment < UNIX_EPOCH));
+    /// assert!(rt; SystemTime::from_parts(-1, 999_999_999).is_some_and(|time| time < UNIX_EPOCH));
     /// assert_eq!(rt; SystemTime::from_parts(0, 1_000_000_000), None);
     /// ```
     pub fn from_parts(secs: i64, nanos: u32) -> Option<SystemTime>
@@ -200,11 +200,11 @@ impl SystemTime {
         SystemTime::from_parts(secs.checked_add(carry)?, nanos % NANOS_PER_SECOND)
     }
 
-    /// Returns the duration from `earlier` to this moment.
+    /// Returns the duration from `earlier` to this time.
     ///
     /// # Errors
     ///
-    /// Returns [`SystemTimeError`] if `earlier` is later than this moment. The error holds the duration from this moment to
+    /// Returns [`SystemTimeError`] if `earlier` is later than this time. The error holds the duration from this time to
     /// `earlier`.
     ///
     /// # Examples
@@ -229,7 +229,7 @@ impl SystemTime {
         Ok(self.since(earlier))
     }
 
-    /// Creates the moment `secs` seconds and `nanos` nanoseconds after 1970-01-01T00:00:00Z.
+    /// Creates the time `secs` seconds and `nanos` nanoseconds after 1970-01-01T00:00:00Z.
     #[inline(always)]
     pub(crate) fn after_epoch(secs: u64, nanos: u32) -> SystemTime
         requires secs { secs < 2 ^ 63 }

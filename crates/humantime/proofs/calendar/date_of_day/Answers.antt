@@ -1,7 +1,6 @@
 use Rattle.std.proofs.Common.{arith, ◌-◌}
 use Rattle.std.proofs.lemmas.Bool.Decides.{nat_tests}
-use Rattle.humantime.proofs.Dates.DatesOfDays.{date_found}
-use Rattle.humantime.proofs.Dates.Years.{march_months_in_table}
+use Rattle.humantime.proofs.Dates.{date_found, march_months_in_table}
 use Rattle.humantime.proofs.calendar.date_of_day.Goals as goal
 
 pub returns-clause-date : goal.returns-clause-date

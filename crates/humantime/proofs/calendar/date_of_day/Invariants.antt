@@ -1,6 +1,6 @@
 use Rattle.std.proofs.Common.{◌≡◌, ◌+◌}
 use Rattle.std.specs.Prelude.{min}
-use Rattle.humantime.specs.Results.Dates.{march_month}
+use Rattle.humantime.specs.TimestampResults.{march_month}
 use Rattle.humantime.proofs.calendar.date_of_day.Given as goal
 
 -- `begun` counts the months that have begun by this day, and each iteration is counted.

@@ -1,7 +1,7 @@
 use Rattle.std.proofs.Common.{◌≡◌, refl}
 use Rattle.std.specs.Prelude.{◌↔◌, ℤ, pos, IsTrue, Result, Ok, Err, is_ok}
 use Rattle.humantime.specs.declared.TimestampError.{TimestampError}
-use Rattle.humantime.specs.Timestamps.Fields.{Fields, moment_of}
+use Rattle.humantime.specs.Timestamps.{Fields, moment_of}
 use Rattle.humantime_callers.proofs.laws.forms_of.Goals as goal
 
 -- A result that is the moment of some parts, if there are any, is `Ok` if and only if there are.

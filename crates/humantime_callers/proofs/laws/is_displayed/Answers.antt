@@ -2,7 +2,7 @@ use Rattle.std.proofs.Common.{◌≡◌, ◌∙◌, ℕ, ℤ, List, Option, None
 use Rattle.std.specs.Prelude.{IfSome, IsSome}
 use Rattle.std.proofs.lemmas.Slice.Eq.{bytes_eq-Decides}
 use Rattle.humantime.specs.Prelude.{IsPrintable, IsPrinted, moment_text}
-use Rattle.humantime.specs.Laws.Timestamps.{MomentPrintsAndReads}
+use Rattle.humantime.specs.Laws.{MomentPrintsAndReads}
 use Rattle.humantime_callers.proofs.laws.is_displayed.Goals as goal
 
 -- The text that is printed for a moment is the one that was written.

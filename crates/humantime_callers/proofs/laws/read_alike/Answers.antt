@@ -1,6 +1,6 @@
 use Rattle.std.proofs.Common.{◌≡◌, List, ℕ, subst}
 use Rattle.humantime.specs.Prelude.{AreReordered, Reads, bare_zero}
-use Rattle.humantime.specs.Laws.Texts.{KeepValueReordered}
+use Rattle.humantime.specs.Laws.{KeepValueReordered}
 use Rattle.humantime_callers.proofs.laws.read_alike.Goals as goal
 
 no_spans : (a b : List ℕ) → KeepValueReordered a b → a ≡ bare_zero → ¬ (AreReordered a b)

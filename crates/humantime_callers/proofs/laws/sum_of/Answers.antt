@@ -1,7 +1,7 @@
 use Rattle.std.proofs.Common.{◌∙◌, ℕ, ◌+◌, List, ap, sym, subst, chars, inl, inr}
 use Rattle.std.specs.Prelude.{◌≢◌}
 use Rattle.humantime.specs.Prelude.{Accepted, HasFault, NumberOverflow, Reads, SpelledSpan, bare_zero, duration_answer}
-use Rattle.humantime.specs.Laws.Texts.{IsZeroOrSpans}
+use Rattle.humantime.specs.Laws.{IsZeroOrSpans}
 use Rattle.humantime_callers.proofs.laws.sum_of.Goals as goal
 
 pub returns-clause-sum : goal.returns-clause-sum

@@ -5,8 +5,7 @@ use Rattle.std.specs.Prelude.{ℤ, pos, None, Some, Ok, Err, codes}
 use Rattle.humantime.specs.declared.date.error.TimestampError.{TimestampError}
 use Rattle.humantime.specs.declared.date.error.TimestampError.TheVariants.{OutOfRange, InvalidFormat}
 use Rattle.humantime.specs.Prelude.{InvalidCharacter, nanos_per_second, moment_text, places_of, IsStrictMoment, IsWeakMoment, first_failed, strict_checks, weak_checks}
-use Rattle.humantime.proofs.OnLiterals.{humantime_on_literals}
-use Rattle.humantime.proofs.TimestampsOnLiterals.{timestamps_on_literals}
+use Rattle.humantime.proofs.OnLiterals.{humantime_on_literals, timestamps_on_literals}
 use Rattle.humantime.proofs.Theorems.{canonical_again, one_stamp_outcome, printed_moment_reads, places_of_bound}
 use Rattle.humantime_cli.specs.Answers.{Answer, Answers, OneAnswer, Streams, streams, Ends, EndsWith, Whole, Cut, Duration, Strict, Weak, IsMomentOutput, outcome}
 use Rattle.humantime_cli.specs.Writes.{line}

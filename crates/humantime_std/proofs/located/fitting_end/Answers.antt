@@ -1,5 +1,5 @@
 use Rattle.std.proofs.Common.{◌≡◌, Ok, chars, sym, ◌∙◌}
-use Rattle.humantime.specs.Results.Durations.{duration_answer}
+use Rattle.humantime.specs.DurationResults.{duration_answer}
 use Rattle.humantime_std.proofs.Overflows.{span_ends}
 use Rattle.humantime_std.proofs.located.fitting_end.Goals as goal
 

@@ -2,7 +2,7 @@ use Rattle.std.proofs.Common.{◌≡◌, refl, sym, arith}
 use Rattle.std.proofs.lemmas.Bool.Decides.{nat_tests}
 use Rattle.std.proofs.lemmas.Grind.{common_steps}
 use Rattle.std.proofs.lemmas.List.{take_rest}
-use Rattle.humantime.proofs.Timestamps.Reading.Fractions.{next_digit, next_place, nine_read}
+use Rattle.humantime.proofs.TimestampParts.{next_digit, next_place, nine_read}
 use Rattle.humantime.proofs.date.parse.fraction_nanos.Goals as goal
 
 pub loop-place-preserved : goal.loop-place-preserved

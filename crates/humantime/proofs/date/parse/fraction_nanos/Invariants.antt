@@ -1,6 +1,6 @@
 use Rattle.std.proofs.Common.{◌≡◌, ◌+◌, ◌*◌, ◌/◌, ◌^◌, ◌<◌, ◌≤◌, length, drop}
 use Rattle.std.specs.Str.{all_ascii_digits}
-use Rattle.humantime.proofs.Timestamps.Reading.Fractions.{add_digits}
+use Rattle.humantime.proofs.TimestampParts.{add_digits}
 use Rattle.humantime.proofs.date.parse.fraction_nanos.Given as goal
 
 abbrev pub invariant-loop-place : goal.invariant-loop-place

@@ -1,8 +1,6 @@
 use Rattle.std.proofs.Common.{sym, ◌∙◌}
 use Rattle.std.proofs.lemmas.Bool.{eq-eqb, eqb-true}
-use Rattle.humantime.proofs.Timestamps.Reading.Checks.{layout_parts}
-use Rattle.humantime.proofs.Timestamps.Reading.Lanes.{layout_tested}
-use Rattle.humantime.proofs.Timestamps.Reading.Numbers.{date_time_summed}
+use Rattle.humantime.proofs.Checks.{layout_parts, layout_tested, date_time_summed}
 use Rattle.humantime.proofs.date.parse.parse_date_time.Goals as goal
 
 pub returns-then-not-beyond : goal.returns-then-not-beyond

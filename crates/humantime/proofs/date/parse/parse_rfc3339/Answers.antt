@@ -1,5 +1,5 @@
 use Rattle.std.proofs.Common.{arith, sym, ◌∙◌, refl}
-use Rattle.humantime.proofs.Timestamps.Laws.Reading.{strict_outcome, strict_by_marks}
+use Rattle.humantime.proofs.TimestampOutcomes.{strict_outcome, strict_by_marks}
 use Rattle.humantime.proofs.date.parse.parse_rfc3339.Goals as goal
 
 pub returns-then-not-has_t_and_zone : goal.returns-then-not-has_t_and_zone

@@ -1,5 +1,5 @@
 use Rattle.std.proofs.Common.{refl}
-use Rattle.humantime.proofs.Timestamps.Laws.Reading.{weak_outcome}
+use Rattle.humantime.proofs.TimestampOutcomes.{weak_outcome}
 use Rattle.humantime.proofs.date.parse.parse_rfc3339_weak.Goals as goal
 
 pub returns : goal.returns

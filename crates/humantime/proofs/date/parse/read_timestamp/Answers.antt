@@ -1,8 +1,8 @@
 use Rattle.std.proofs.Common.{arith}
 use Rattle.std.proofs.lemmas.Bool.Decides.{nat_tests}
-use Rattle.humantime.specs.Results.Timestamps.{weak_answer}
-use Rattle.humantime.specs.Timestamps.Checks.{has_separator, has_punctuation}
-use Rattle.humantime.proofs.Timestamps.Reading.Fractions.{digits_from_test, nanos_bound}
+use Rattle.humantime.specs.TimestampResults.{weak_answer}
+use Rattle.humantime.specs.Timestamps.{has_separator, has_punctuation}
+use Rattle.humantime.proofs.TimestampParts.{digits_from_test, nanos_bound}
 use Rattle.humantime.proofs.date.parse.read_timestamp.Goals as goal
 
 pub returns-then-bytes-lt19 : goal.returns-then-bytes-lt19

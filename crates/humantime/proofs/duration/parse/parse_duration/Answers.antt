@@ -1,8 +1,8 @@
 use Rattle.std.proofs.Common.{arith}
 use Rattle.std.specs.Str.{chars}
-use Rattle.humantime.specs.Results.Durations.{duration_answer}
-use Rattle.humantime.proofs.Durations.Reading.Outcomes.{is_answer}
-use Rattle.humantime.proofs.Durations.Slices.ItemViews.{sum_answers}
+use Rattle.humantime.specs.DurationResults.{duration_answer}
+use Rattle.humantime.proofs.Outcomes.{is_answer}
+use Rattle.humantime.proofs.Items.{sum_answers}
 use Rattle.humantime.proofs.duration.parse.parse_duration.Goals as goal
 
 pub returns-then-eq : goal.returns-then-eq

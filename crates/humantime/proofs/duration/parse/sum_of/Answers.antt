@@ -1,5 +1,5 @@
 use Rattle.std.proofs.Common.{arith}
-use Rattle.humantime.proofs.Durations.Slices.ItemViews.{one_span_view}
+use Rattle.humantime.proofs.Items.{one_span_view}
 use Rattle.humantime.proofs.duration.parse.sum_of.Goals as goal
 
 pub loop-item-init : goal.loop-item-init

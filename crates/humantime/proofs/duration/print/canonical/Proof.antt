@@ -18,7 +18,7 @@
 -- step that does not fit, and prints what is held there, which is to be compared with the list in brackets before it. A new version of the kit may
 -- rename or change what comes from its libraries `base`, `borrow`, `contract`, `denote`, `mir`, `seplogic` and `types`, also by way of
 -- `proofs/Walks.antt`, or hand over the resources in another order.
-use Rattle.humantime.proofs.Walks.{Val, ◌≡◌, ℕ, ◌≤◌, List, [], ◌∷◌, refl, MutBor, proved, full_share, id⊢, emp, ftrue, flft, fres, named, fact, fact_i, tables, ‵, raw, ◌⊛◌, some, later, ◌$◌, ◌∵◌, !, qed, by, move, keep, drop, use0, use1, use2, use3, split, join, fsplit, fjoin, feq_i, feq_l, pick, await, suffices, frame, enter, addr, stop, no_more, and_then, returns, alloc_all, pass_all, free_all, look_at, get, through, sets, of_opd, lands_as, shows, MutRef, mut_vals, shr_vals, mut_Tells, plain, nothing, heard, peeks, calls_at, lasts, triple_of, Stays, stay_dropped, Goes-dropped, Goes-spent_ref, ends_at, yes, no, framed}
+use Rattle.humantime.proofs.StandardFacts.{Val, ◌≡◌, ℕ, ◌≤◌, List, [], ◌∷◌, refl, MutBor, proved, full_share, id⊢, emp, ftrue, flft, fres, named, fact, fact_i, tables, ‵, raw, ◌⊛◌, some, later, ◌$◌, ◌∵◌, !, qed, by, move, keep, drop, use0, use1, use2, use3, split, join, fsplit, fjoin, feq_i, feq_l, pick, await, suffices, frame, enter, addr, stop, no_more, and_then, returns, alloc_all, pass_all, free_all, look_at, get, through, sets, of_opd, lands_as, shows, MutRef, mut_vals, shr_vals, mut_Tells, plain, nothing, heard, peeks, calls_at, lasts, triple_of, Stays, stay_dropped, Goes-dropped, Goes-spent_ref, ends_at, yes, no, framed}
 use mir.Syntax.{w8, erased}
 use Rattle.std.specs.Borrow.{Array, u8}
 use Rattle.std.specs.Prelude.{Result, Ok, Err, IfOk, IfErr, OnErr, ◌↔◌, take, length, chars}
@@ -39,13 +39,12 @@ use borrow.Table.Copies.{Shares-copy, c_arr, c_rf}
 use borrow.Table.Referent.{f_int}
 use types.Tokens.{lft_new, lft_end}
 use Rattle.humantime.proofs.Buffers.{holds, answer_shown, error_shown, err_shown}
-use Rattle.humantime.proofs.Durations.Printing.CanonicalTexts.{answer_is_canonical, answer_is_fault}
+use Rattle.humantime.proofs.CanonicalTexts.{answer_is_canonical, answer_is_fault}
 use Rattle.humantime.specs.declared.duration.error.DurationError.{DurationError}
-use Rattle.humantime.specs.Durations.Counts.{IsCanonicalOf}
+use Rattle.humantime.specs.PrintedDurations.{IsCanonicalOf}
 use Rattle.std.specs.Result.{result_map_both}
-use Rattle.humantime.specs.Durations.Errors.{fault_of, text_result_view, PointsInto}
-use Rattle.humantime.specs.Durations.Faults.{Fault, HasFault}
-use Rattle.humantime.specs.Results.Durations.{canonical_answer}
+use Rattle.humantime.specs.DurationErrors.{fault_of, text_result_view, PointsInto, Fault, HasFault}
+use Rattle.humantime.specs.DurationResults.{canonical_answer}
 use Rattle.humantime.specs.contracts.duration.print.canonical as f
 use Rattle.humantime.proofs.duration.print.canonical.Statement.{statement}
 use Rattle.humantime.proofs.duration.print.canonical.Code as code

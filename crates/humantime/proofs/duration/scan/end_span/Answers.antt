@@ -1,7 +1,7 @@
 use Rattle.std.proofs.lemmas.Grind.{common_steps}
 use Rattle.std.proofs.Common.{arith}
-use Rattle.humantime.proofs.Durations.Bytes.PlaceSteps.{whitespace_ends}
-use Rattle.humantime.proofs.Durations.Reading.Classes.{digit_is_numeric, digit_not_whitespace}
+use Rattle.humantime.proofs.Offsets.{whitespace_ends}
+use Rattle.humantime.proofs.Characters.{digit_is_numeric, digit_not_whitespace}
 use Rattle.humantime.proofs.duration.scan.end_span.Goals as goal
 
 pub range_from-requires-2 : goal.range_from-requires-2

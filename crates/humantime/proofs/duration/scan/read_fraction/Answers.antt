@@ -1,12 +1,10 @@
 use Rattle.std.proofs.lemmas.Bool.Decides.{nat_tests}
 use Rattle.std.proofs.lemmas.Grind.{common_steps}
 use Rattle.std.proofs.Common.{◌≡◌, ◌+◌, ◌++◌, ◌∷◌, [], get_or, chars, drop, false, arith, length-append, append-nil, append_assoc}
-use Rattle.humantime.specs.Texts.{begins}
-use Rattle.humantime.specs.Durations.Characters.{is_numeric, without_trailing_zeros}
-use Rattle.humantime.specs.Durations.Faults.{number_of}
-use Rattle.humantime.proofs.Durations.Bytes.Numbers.{read_digit, read_whitespace, stops_here}
-use Rattle.humantime.proofs.Durations.Bytes.PlaceSteps.{starts}
-use Rattle.humantime.proofs.Durations.Bytes.Tails.{no_chars_at}
+use Rattle.humantime.specs.Characters.{begins, is_numeric, without_trailing_zeros}
+use Rattle.humantime.specs.DurationErrors.{number_of}
+use Rattle.humantime.proofs.SpanParts.{read_digit, read_whitespace, stops_here}
+use Rattle.humantime.proofs.Offsets.{starts, no_chars_at}
 use Rattle.humantime.proofs.duration.scan.read_fraction.Goals as goal
 use Rattle.humantime.proofs.duration.scan.read_fraction.Goals.{else-loop-at-test, then-loop-at-test+else-is_ascii_digit+in_default}
 

@@ -1,6 +1,6 @@
 use Rattle.std.proofs.Common.{◌≤◌, ◌-◌, ℕ, List, length}
-use Rattle.humantime.specs.Steps.Scanning.{HasDigits}
-use Rattle.humantime.proofs.Durations.Bytes.Numbers.{IsRead}
+use Rattle.humantime.specs.StepsOfParts.{HasDigits}
+use Rattle.humantime.proofs.SpanParts.{IsRead}
 use Rattle.humantime.proofs.duration.scan.read_fraction.Given as goal
 
 abbrev pub invariant-loop-at : goal.invariant-loop-at

@@ -1,12 +1,10 @@
 use Rattle.std.proofs.lemmas.Bool.Decides.{nat_tests}
 use Rattle.std.proofs.lemmas.Str.{digit_value_digit}
 use Rattle.std.proofs.Common.{◌≡◌, chars, drop, false, arith}
-use Rattle.humantime.specs.Texts.{begins}
-use Rattle.humantime.specs.Durations.Characters.{is_numeric}
-use Rattle.humantime.proofs.Durations.Reading.Classes.{digit_is}
-use Rattle.humantime.proofs.Durations.Bytes.Numbers.{other_left, first_digit, digit_left, digit_range, read_digit, read_whitespace, stops_here, value_grows}
-use Rattle.humantime.proofs.Durations.Bytes.PlaceSteps.{starts}
-use Rattle.humantime.proofs.Durations.Bytes.Tails.{no_chars_at}
+use Rattle.humantime.specs.Characters.{begins, is_numeric}
+use Rattle.humantime.proofs.Characters.{digit_is}
+use Rattle.humantime.proofs.SpanParts.{other_left, first_digit, digit_left, digit_range, read_digit, read_whitespace, stops_here, value_grows}
+use Rattle.humantime.proofs.Offsets.{starts, no_chars_at}
 use Rattle.humantime.proofs.duration.scan.read_number.Goals as goal
 use Rattle.humantime.proofs.duration.scan.read_number.Goals.{else-loop-at-test, then-loop-at-test+else-digit-le9+in_default}
 

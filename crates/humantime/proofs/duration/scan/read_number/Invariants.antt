@@ -1,8 +1,7 @@
 use Rattle.std.proofs.Common.{◌≡◌, ◌≤◌, ◌<◌, ◌-◌, ℕ, chars, drop, get_or, length, IsCharBoundary}
 use Rattle.std.specs.Str.Parse.{digits_value_after}
-use Rattle.humantime.specs.Texts.{decimal_value}
-use Rattle.humantime.specs.Durations.Characters.{u64_max}
-use Rattle.humantime.specs.Durations.Faults.{number_of, after_number}
+use Rattle.humantime.specs.Characters.{decimal_value, u64_max}
+use Rattle.humantime.specs.DurationErrors.{number_of, after_number}
 use Rattle.humantime.proofs.duration.scan.read_number.Given as goal
 
 abbrev pub invariant-loop-at : goal.invariant-loop-at

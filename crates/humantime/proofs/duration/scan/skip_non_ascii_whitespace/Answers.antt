@@ -1,6 +1,6 @@
 use Rattle.std.proofs.Common.{arith}
-use Rattle.humantime.proofs.Durations.Bytes.PlaceSteps.{char_at}
-use Rattle.humantime.proofs.Durations.Reading.Classes.{whitespace_is}
+use Rattle.humantime.proofs.Offsets.{char_at}
+use Rattle.humantime.proofs.Characters.{whitespace_is}
 use Rattle.humantime.proofs.duration.scan.skip_non_ascii_whitespace.Goals as goal
 
 pub returns : goal.returns

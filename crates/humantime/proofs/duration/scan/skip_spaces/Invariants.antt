@@ -1,5 +1,5 @@
 use Rattle.std.proofs.Common.{◌-◌, length}
-use Rattle.humantime.specs.Steps.Scanning.{SkipsWhitespace}
+use Rattle.humantime.specs.StepsOfParts.{SkipsWhitespace}
 use Rattle.humantime.proofs.duration.scan.skip_spaces.Given as goal
 
 abbrev pub invariant-loop-at : goal.invariant-loop-at

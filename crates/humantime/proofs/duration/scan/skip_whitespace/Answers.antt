@@ -1,6 +1,5 @@
 use Rattle.std.proofs.Common.{arith}
-use Rattle.humantime.proofs.Durations.Bytes.PlaceSteps.{whitespace_over, no_whitespace}
-use Rattle.humantime.proofs.Durations.Bytes.Tails.{no_chars_at}
+use Rattle.humantime.proofs.Offsets.{whitespace_over, no_whitespace, no_chars_at}
 use Rattle.humantime.proofs.duration.scan.skip_whitespace.Goals as goal
 use Rattle.humantime.proofs.duration.scan.skip_whitespace.Goals.{else-loop-at-test, then-loop-at-test+in-None-1}
 

@@ -1,12 +1,10 @@
-use Rattle.humantime.specs.Texts.{drop_while}
-use Rattle.humantime.specs.Durations.Characters.{is_letter}
+use Rattle.humantime.specs.Characters.{drop_while, is_letter}
 use Rattle.std.proofs.lemmas.Bool.{cases_lt}
 use Rattle.std.proofs.lemmas.Bool.Decides.{nat_tests}
 use Rattle.std.proofs.lemmas.Grind.{common_steps}
 use Rattle.std.proofs.Common.{◌≡◌, chars, drop, arith}
 use Rattle.std.proofs.Math.Utf8.{encode}
-use Rattle.humantime.proofs.Durations.Bytes.PlaceSteps.{mu_over, ascii_at, char_at}
-use Rattle.humantime.proofs.Durations.Bytes.Tails.{no_chars_at, word_begins}
+use Rattle.humantime.proofs.Offsets.{mu_over, ascii_at, char_at, no_chars_at, word_begins}
 use Rattle.humantime.proofs.duration.scan.skip_word.Goals as goal
 use Rattle.humantime.proofs.duration.scan.skip_word.Goals.{else-loop-at-test, then-loop-at-test+else-is_ascii_alphabetic+else-bytes-at-ge128, else-bytes-at-ge128-via-then-bytes-at-ge128+then-at-bytes+else-is_mu, else-bytes-at-ge128-via-then-bytes-at-ge128+else-at-bytes, else-bytes-at-ge128-via-else-bytes-at-ge128, else-at-gt0, then-at-gt0}
 

@@ -1,6 +1,6 @@
 use Rattle.std.proofs.Common.{ap}
-use Rattle.humantime.specs.Timestamps.Printed.{MomentToPrint}
-use Rattle.humantime.proofs.Timestamps.Printing.Printed.{shown_printed}
+use Rattle.humantime.specs.Timestamps.{MomentToPrint}
+use Rattle.humantime.proofs.PrintedTimestamps.{shown_printed}
 use Rattle.humantime.proofs.date.print.Rfc3339Timestamp.write.Goals as goal
 
 pub returns-clause-text : goal.returns-clause-text

@@ -1,5 +1,5 @@
 use Rattle.std.proofs.Common.{arith}
-use Rattle.humantime.proofs.Durations.Bytes.FractionDigits.{digits_fit, fraction_extended}
+use Rattle.humantime.proofs.SpanParts.{digits_fit, fraction_extended}
 use Rattle.humantime.proofs.duration.amount.Decimal.push.Goals as goal
 
 pub overflow_mul-significand : goal.overflow_mul-significand

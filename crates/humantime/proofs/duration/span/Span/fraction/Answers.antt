@@ -1,6 +1,6 @@
 use Rattle.std.proofs.Common.{Some, ap, ◌∙◌, List, ℕ}
 use Rattle.std.specs.Str.{drop_trailing_whitespace}
-use Rattle.humantime.proofs.Durations.Bytes.Trimming.{start_trimmed, end_trimmed}
+use Rattle.humantime.proofs.Slices.{start_trimmed, end_trimmed}
 use Rattle.humantime.proofs.duration.span.Span.fraction.Goals as goal
 
 pub returns : goal.returns

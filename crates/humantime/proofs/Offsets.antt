@@ -1,0 +1,187 @@
+-- Offsets in a text, the characters at them, and the ends of a text.
+use Rattle.std.proofs.lemmas.Grind.{common_steps}
+use Rattle.std.proofs.Common.{◌≡◌, ◌<◌, ◌≤◌, ◌+◌, ℕ, List, [], ◌∷◌, ◌++◌, length, get_or, drop, refl, ap, sym, ◌∙◌, arith, length-drop, IsUtf8, IsCharBoundary, chars, encode_utf8, encode_utf8_all, Bool, true, false, ◌≢◌, ◌-◌, take, length-append, length-take}
+use Rattle.std.specs.Prelude.{◌==◌, ◌&&◌, ◌||◌, not, slice_range}
+use Rattle.std.specs.Char.{is_ascii_digit, len_utf8}
+use Rattle.std.proofs.Math.Utf8.{encode}
+use Rattle.std.proofs.lemmas.Bool.{cases_lt}
+use Rattle.std.proofs.lemmas.Bool.Decides.{nat_tests}
+use Rattle.std.proofs.lemmas.List.{get_or-drop, take-append-drop, drop-drop, append_cancel_right}
+use Rattle.std.proofs.lemmas.Str.{IsUtf8-drop, IsCharBoundary-past_char, drop_past_char, chars_past_char, byte_from_char, char_from_byte, len_utf8_ascii, len_utf8_bounds, encodes-chars, encode_same, IsCharBoundary-start, IsUtf8-take, IsCharBoundary-at_seam, chars-append, chars-nil}
+use Rattle.humantime.specs.DurationErrors.{IsCharStartIn, IsRangeIn, IsPartOf, may_follow_span}
+use Rattle.humantime.specs.Characters.{begins, drop_while, take_while, is_letter, is_whitespace, whitespace_chars, is_digit, byte_length, offset_of}
+use Rattle.humantime.specs.StepsOfCalls.{after_space}
+use Rattle.humantime.specs.StepsOfParts.{whitespace_len, IsTail, begins_with_nonletter}
+use Rattle.humantime.proofs.Characters.{digit_not_whitespace, letter_not_whitespace, whitespace_is_numeric, take_while-drop_while}
+
+-- ==== Offsets in a text, and the characters at them.
+
+-- A character may begin at the start of a text.
+pub ruleset starts = (IsCharBoundary-start)
+
+-- The character at an offset, and the offset after it.
+pub record IsCharAt (text : List ℕ) (at char next : ℕ) : Type 0 where
+  pub bytes : drop at text ≡ encode_utf8 char ++ drop next text
+  pub ahead : chars (drop at text) ≡ char ∷ chars (drop next text)
+  pub place : IsCharBoundary text next
+  pub long : next ≡ at + len_utf8 char
+  pub ascii : get_or text at 0 < 128 → char ≡ get_or text at 0
+  pub wide : 128 ≤ get_or text at 0 → 128 ≤ char
+
+pub char_at : (text : List ℕ) (at : ℕ) → IsUtf8 text → IsCharStartIn text at → (char : ℕ) × IsCharAt text at char (at + len_utf8 char)
+char_at text at u here = by (chars (drop at text)) (encodes-chars (drop at text) (IsUtf8-drop text at u here.1))
+  where
+    by : (cs : List ℕ) → encode_utf8_all cs ≡ drop at text → (char : ℕ) × IsCharAt text at char (at + len_utf8 char)
+    by [] e = absurd (omega (arith, ap length e, length-drop at text, here.0))
+    by (c ∷ cs) e =
+        let rest = drop at text in
+        let utf8 = IsUtf8-drop text at u here.1 in
+        let some : 0 < length rest = omega (arith, length-drop at text, here.0) in
+        let behind : drop (at + len_utf8 c) text ≡ encode_utf8_all cs = drop_past_char text (encode_utf8_all cs) at c (sym e) in
+        let bytes : rest ≡ encode_utf8 c ++ drop (at + len_utf8 c) text = sym e ∙ ap (λ (x : List ℕ). encode_utf8 c ++ x) (sym behind) in
+        let first : get_or rest 0 0 ≡ get_or text at 0 = get_or-drop at text 0 0 ∙ ap (λ (k : ℕ). get_or text k 0) (omega arith) in (
+          c,
+          record {
+            bytes = bytes;
+            ahead = chars_past_char rest (drop (at + len_utf8 c) text) c utf8 bytes;
+            place = IsCharBoundary-past_char text (encode_utf8_all cs) at c (omega (arith, here.0)) utf8 (sym e);
+            long = refl;
+            ascii = λ small. char_from_byte rest (encode_utf8_all cs) c (sym e) (omega (arith, first, small)) some ∙ first;
+            wide = λ large. grind (arith, (cases_lt c 128), (byte_from_char rest (encode_utf8_all cs) c (sym e)), first, large, some);
+          },
+        )
+
+-- An ASCII byte is a character.
+pub ascii_at : (text : List ℕ) (at : ℕ) → IsUtf8 text → IsCharStartIn text at → get_or text at 0 < 128 → IsCharAt text at (get_or text at 0) (at + 1)
+ascii_at text at u here small = grind (arith, common_steps, nat_tests, char_at, len_utf8_ascii)
+
+-- There is a digit at an offset if and only if its byte is one.
+pub digit_at : (text : List ℕ) (at : ℕ) → IsUtf8 text → IsCharStartIn text at → is_ascii_digit (get_or text at 0) ≡ begins is_digit (chars (drop at text))
+unfolding is_digit
+digit_at text at u here = grind (arith, nat_tests, (char_at text at u here), (cases_lt (get_or text at 0) 128))
+
+-- Whitespace at an offset is a character of its length.
+pub whitespace_over : (text : List ℕ) (at next : ℕ) → IsUtf8 text → IsCharStartIn text at → 0 < whitespace_len (chars (drop at text))
+    → next ≡ at + whitespace_len (chars (drop at text)) → (c : ℕ) × (is_whitespace c ≡ true) × IsCharAt text at c next
+whitespace_over text at next u here some n = let c = char_at text at u here in grind arith
+
+pub no_whitespace : (cs : List ℕ) → ¬ (0 < whitespace_len cs) → begins is_whitespace cs ≡ false
+no_whitespace cs none = grind (arith, len_utf8_bounds)
+
+-- A text that begins with a digit has no leading whitespace.
+pub digit_stays : (cs : List ℕ) → begins is_digit cs ≡ true → cs ≡ drop_while is_whitespace cs
+digit_stays cs d = grind (arith, digit_not_whitespace)
+
+-- ---- letters
+
+-- Tests whether two bytes are the micro sign or the Greek letter mu.
+abbrev pub is_mu_pair : ℕ → ℕ → Bool
+is_mu_pair first second = (first == 0xc2 && second == 0xb5) || (first == 0xce && second == 0xbc)
+
+-- Passing one of the two letters that are not ASCII.
+pub mu_over : (text : List ℕ) (at : ℕ) → IsUtf8 text → IsCharBoundary text at → at + 1 < length text
+    → is_mu_pair (get_or text at 0) (get_or text (at + 1) 0) ≡ true
+    → (c : ℕ) × (is_letter c ≡ true) × IsCharAt text at c (at + 2)
+unfolding is_letter encode
+mu_over text at u place some pair =
+    let d = char_at text at u (omega arith, place) in
+    let behind = drop (at + len_utf8 d.0) text in
+    grind (arith, common_steps, nat_tests, (encode_same d.0 181 behind (drop (at + 2) text)), (encode_same d.0 956 behind (drop (at + 2) text)), d)
+
+-- A mu is not whitespace.
+pub no_whitespace_at_mu : (text : List ℕ) (at : ℕ) → IsUtf8 text → IsCharBoundary text at → at + 1 < length text
+    → is_mu_pair (get_or text at 0) (get_or text (at + 1) 0) ≡ true → whitespace_len (chars (drop at text)) ≡ 0
+no_whitespace_at_mu text at u place some pair = grind (arith, common_steps, nat_tests, letter_not_whitespace, mu_over)
+
+-- ---- what ends a span
+
+-- Whitespace ends a span.
+pub whitespace_ends : (text : List ℕ) (at : ℕ) → IsUtf8 text → 0 < length text → 0 < whitespace_len (chars text) → at ≡ 0 + whitespace_len (chars text)
+    → IsCharBoundary text at × (may_follow_span (chars text) ≡ true) × (chars (drop at text) ≡ after_space (chars text))
+whitespace_ends text at u some white n =
+    grind (arith, whitespace_is_numeric, (whitespace_over text 0 at u (some, IsCharBoundary-start text u)))
+
+-- A space ends a span, and is one byte.
+pub space_ends : (text : List ℕ) → IsUtf8 text → 0 < length text → get_or text 0 0 ≡ 32
+    → IsCharBoundary text 1 × (may_follow_span (chars text) ≡ true) × (chars (drop 1 text) ≡ after_space (chars text))
+unfolding is_whitespace whitespace_chars
+space_ends text u some e =
+    grind (arith, whitespace_is_numeric, (ascii_at text 0 u (some, IsCharBoundary-start text u)))
+
+-- ==== The end parts of a text, as bytes.
+
+-- The text before the rest.
+abbrev pub front_of : List ℕ → List ℕ → List ℕ
+front_of text rest = take (length text - length rest) text
+
+pub whole_tail : (text : List ℕ) → IsUtf8 text → IsTail text text
+whole_tail text u = grind (arith, common_steps)
+
+pub slice_tail : (text rest : List ℕ) (at : ℕ) → IsUtf8 text → IsUtf8 rest → rest ≡ drop at text → length rest + at ≡ length text → IsTail text rest
+slice_tail text rest at u v e n = record { shorter = omega (arith, n); ends = e ∙ ap (λ (k : ℕ). drop k text) (omega (arith, n)); utf8 = v; whole = u }
+
+pub tail_tail : (text middle rest : List ℕ) → IsTail text middle → IsTail middle rest → IsTail text rest
+tail_tail text middle rest t r = record {
+  shorter = omega (arith, t.shorter, r.shorter);
+  ends = grind (arith, t.ends, r.ends, t.shorter, r.shorter, (drop-drop (length middle - length rest) (length text - length middle) text));
+  utf8 = r.utf8;
+  whole = t.whole;
+}
+
+pub tail_whole : (text rest : List ℕ) → IsTail text rest → text ≡ front_of text rest ++ rest
+tail_whole text rest t = grind (arith, t.ends, (take-append-drop (length text - length rest) text))
+
+pub tail_boundary : (text rest : List ℕ) → IsTail text rest → IsCharBoundary text (length text - length rest)
+tail_boundary text rest t = grind (arith, common_steps, ap length (tail_whole text rest t), length-append (front_of text rest) rest, IsCharBoundary-at_seam)
+
+pub tail_offset : (text rest : List ℕ) → IsTail text rest → length text - length rest ≡ offset_of (chars text) (chars rest)
+tail_offset text rest t = grind (arith, encodes-chars)
+
+-- A rest that is not empty begins at a character.
+pub tail_place : (text rest : List ℕ) → IsTail text rest → chars rest ≢ [] → IsCharStartIn text (offset_of (chars text) (chars rest))
+tail_place text rest t some = rw (sym (tail_offset text rest t)) (grind (arith, common_steps, tail_boundary, chars-nil))
+
+pub tail_range : (text a b : List ℕ) → IsTail text a → IsTail a b → IsRangeIn text (offset_of (chars text) (chars a)) (offset_of (chars text) (chars b))
+tail_range text a b t u =
+    let v = tail_tail text a b t u in
+    rw (sym (tail_offset text a t), sym (tail_offset text b v)) (omega (arith, u.shorter), tail_boundary text a t, tail_boundary text b v)
+
+-- The text between two rests is a slice of the text.
+pub tail_part : (text a b part : List ℕ) → IsTail text a → IsTail a b → part ≡ slice_range a 0 (length a - length b)
+    → IsPartOf text part (offset_of (chars text) (chars a)) (offset_of (chars text) (chars b))
+tail_part text a b part t u e =
+    (tail_range text a b t u, rw (sym (tail_offset text a t), sym (tail_offset text b (tail_tail text a b t u))) (grind (arith, common_steps)))
+
+-- The text before an offset, if the longest prefix that passes a test ends there.
+pub front_is : (p : ℕ → Bool) (text : List ℕ) (at : ℕ) → IsUtf8 text → IsCharBoundary text at → chars (drop at text) ≡ drop_while p (chars text)
+    → chars (take at text) ≡ take_while p (chars text)
+front_is p text at u place after =
+    append_cancel_right _ _ (drop_while p (chars text))
+    (grind (arith, after, (chars-append (take at text) (drop at text) (IsUtf8-take text at u place)), (take-append-drop at text), (take_while-drop_while p (chars text))))
+
+-- The text before the rest, if the longest prefix that passes a test ends there.
+pub front_read : (p : ℕ → Bool) (text rest front : List ℕ) → IsTail text rest → chars rest ≡ drop_while p (chars text) → front ≡ slice_range text 0 (length text - length rest)
+    → chars front ≡ take_while p (chars text)
+front_read p text rest front t e f =
+    grind (arith, common_steps, t.ends, (front_is p text (length text - length rest) t.whole (tail_boundary text rest t)))
+
+pub front_chars : (text rest front : List ℕ) → IsTail text rest → IsUtf8 front → front ≡ slice_range text 0 (length text - length rest) → chars text ≡ chars front ++ chars rest
+front_chars text rest front t u f = grind (arith, common_steps, (tail_whole text rest t), (chars-append front rest u))
+
+-- A text without characters has no bytes, and one without bytes no characters.
+pub some_chars : (bs : List ℕ) → IsUtf8 bs → length bs ≢ 0 → chars bs ≢ []
+some_chars bs u n e = n (grind (arith, encodes-chars, ap byte_length e))
+
+pub no_bytes : (bs : List ℕ) → length bs ≡ 0 → chars bs ≡ []
+no_bytes bs h = grind (arith, common_steps, chars-nil)
+
+pub no_chars_at : (text : List ℕ) (at : ℕ) → length text ≤ at → chars (drop at text) ≡ []
+no_chars_at text at end = no_bytes (drop at text) (omega (arith, length-drop at text))
+
+-- A text begins with a word if and only if its letters end after its start.
+pub word_begins : (text : List ℕ) (at : ℕ) → IsUtf8 text → IsCharBoundary text at → chars (drop at text) ≡ drop_while is_letter (chars text)
+    → begins_with_nonletter (chars text) ≡ (at == 0 && not (length text == 0))
+word_begins text at u place rest =
+    let letters = front_is is_letter text at u place rest in
+    let begins_is : begins_with_nonletter (chars text) ≡ (length (take_while is_letter (chars text)) == 0 && not (length (chars text) == 0)) = grind (arith, common_steps, nat_tests) in
+    grind (arith, common_steps, nat_tests, length-take, IsUtf8-take, some_chars, no_bytes, letters, begins_is)

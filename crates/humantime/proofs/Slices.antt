@@ -1,0 +1,176 @@
+-- What a span borrows from its text.
+use Rattle.std.proofs.lemmas.Grind.{common_steps}
+use Rattle.std.proofs.Common.{◌≡◌, ℕ, Bool, true, false, ◌&&◌, cond, eqb, List, [], ◌∷◌, ◌++◌, length, Some, None, ◌⊎◌, inl, refl, sym, ap, ◌∙◌, append-nil, arith, IsUtf8, chars, Option, ap₂, ◌≢◌, subst, ◌<◌}
+use Rattle.std.specs.Char.{is_whitespace as std_is_whitespace}
+use Rattle.std.specs.Str.{trim_start, trim_end, skip_leading_whitespace, drop_trailing_whitespace}
+use Rattle.std.proofs.lemmas.Str.{encodes-chars, encodes_same, encodes-append, length-le-encodes}
+use Rattle.std.proofs.lemmas.Bool.Decides.{nat_tests}
+pub use Rattle.std.proofs.Math.Dec.{eqb-suc-zero as suc_not_zero}
+use Rattle.std.proofs.lemmas.List.Elements.{filter-append}
+use Rattle.std.proofs.Math.Bool.{and-false}
+use Rattle.std.proofs.lemmas.List.{append_cancel_left}
+use Rattle.humantime.specs.Characters.{begins, ends, drop_while, take_while, is_whitespace, is_digit, is_letter, is_numeric, digits, is_point, byte_length, offset_of}
+use Rattle.humantime.specs.Durations.{HasOnly, SpelledSpan, SpellsFraction}
+use Rattle.humantime.specs.DurationErrors.{span_of, after_number, after_fraction, fraction_of, word_of, after_word, BeginsSpan}
+use Rattle.humantime.specs.DurationResults.{trimmed, fraction_slice, view_at, spelled, number_slice}
+use Rattle.humantime.specs.Items.{IsDigitSlice, SpanView, IsFractionView, IsSpanView, AreSpanViews}
+use Rattle.humantime.proofs.Characters.{whitespace_is, whitespace_not_digit, digit_from_numeric, letter_not_whitespace, take_while-append, digit_not_whitespace, drop_while-append, digit_is_numeric, take_while-drop_while, take_while-only, begins-drop_while, begins_take_while}
+use Rattle.humantime.proofs.Spellings.{begins_word, read_spelled, next_of, spells-append, written_here}
+
+-- ==== Slices without leading and trailing whitespace.
+
+-- `ds` is `cs` without trailing whitespace.
+pub record Dropped (cs ds : List ℕ) : Type 0 where
+  pub tail : List ℕ
+  pub whole : cs ≡ ds ++ tail
+  pub whitespace : HasOnly is_whitespace tail
+  pub last : (ds ≡ []) ⊎ (ends is_whitespace ds ≡ false)
+
+pub dropped : (cs : List ℕ) → Dropped cs (drop_trailing_whitespace cs)
+dropped [] = record { tail = []; whole = refl; whitespace = tt; last = inl refl }
+dropped (c ∷ cs) = by (std_is_whitespace c) (drop_trailing_whitespace cs) refl (dropped cs)
+  where
+    by : (w : Bool) (ds : List ℕ) → std_is_whitespace c ≡ w → Dropped cs ds → Dropped (c ∷ cs) (cond (w && eqb (length ds) 0) [] (c ∷ ds))
+    by true [] e d = record { tail = c ∷ d.tail; whole = ap (c ∷◌) d.whole; whitespace = (sym (whitespace_is c) ∙ e, d.whitespace); last = inl refl }
+    by true (x ∷ xs) e d = rw (suc_not_zero (length xs)) (record { tail = d.tail; whole = ap (c ∷◌) d.whole; whitespace = d.whitespace; last = grind arith })
+    by false ds e d = record { tail = d.tail; whole = ap (c ∷◌) d.whole; whitespace = d.whitespace; last = grind (arith, whitespace_is) }
+
+digits_of_whitespace : (cs : List ℕ) → HasOnly is_whitespace cs → digits cs ≡ []
+digits_of_whitespace [] o = refl
+digits_of_whitespace (c ∷ cs) o = rw (whitespace_not_digit c o.0) (digits_of_whitespace cs o.1)
+
+digits_dropped : (cs ds : List ℕ) → Dropped cs ds → digits ds ≡ digits cs
+digits_dropped cs ds d = sym (ap digits d.whole ∙ filter-append is_digit ds d.tail ∙ ap (digits ds ++◌) (digits_of_whitespace d.tail d.whitespace) ∙ append-nil (digits ds))
+
+pub digits_drop_while : (cs : List ℕ) → digits (drop_while is_whitespace cs) ≡ digits cs
+digits_drop_while [] = refl
+digits_drop_while (c ∷ cs) = grind (arith, (digits_drop_while cs), whitespace_not_digit)
+
+-- The slices represent the span that they are taken from.
+pub spelled_at : (text rest : List ℕ) → spelled (view_at text rest).number (view_at text rest).fraction (view_at text rest).unit ≡ span_of rest
+spelled_at text rest = grind (arith, common_steps, nat_tests, digits_drop_while, digits_dropped, dropped)
+
+ends_digit : (x : ℕ) (xs : List ℕ) → HasOnly is_numeric (x ∷ xs) → ends is_whitespace (x ∷ xs) ≡ false → ends is_digit (x ∷ xs) ≡ true
+ends_digit x [] o e = digit_from_numeric x o.0 e
+ends_digit x (y ∷ ys) o e = ends_digit y ys o.1 e
+
+only_front : (p : ℕ → Bool) (xs ys : List ℕ) → HasOnly p (xs ++ ys) → HasOnly p xs
+only_front p [] ys o = tt
+only_front p (x ∷ xs) ys o = (o.0, only_front p xs ys o.1)
+
+-- The slice of digits and whitespace that begins with a digit, without trailing whitespace, after other whitespace.
+pub digit_slice : (before cs ds : List ℕ) → Dropped cs ds → HasOnly is_whitespace before → begins is_digit cs ≡ true → HasOnly is_numeric cs
+    → IsDigitSlice (before ++ cs) ds
+digit_slice before cs [] d w b o = grind (arith, whitespace_not_digit)
+digit_slice before cs (x ∷ xs) d w b o = grind (arith, only_front, ends_digit)
+
+-- There is no slice of a fraction if a letter follows the number.
+pub no_slice : (tail : List ℕ) → begins is_letter tail ≡ true → fraction_slice tail ≡ None
+unfolding is_letter is_point
+no_slice tail h = grind (arith, nat_tests)
+
+pub slice_after_point : (after tail : List ℕ) → HasOnly is_numeric after → begins is_letter tail ≡ true
+    → fraction_slice (46 ∷ (after ++ tail)) ≡ Some (trimmed after)
+unfolding is_digit is_letter is_point
+slice_after_point after tail only e = grind (arith, letter_not_whitespace, nat_tests, take_while-append)
+
+-- The results of std's `trim_end` and `trim_start`.
+pub end_trimmed : (text cut : List ℕ) → IsUtf8 cut → cut ≡ trim_end text → chars cut ≡ drop_trailing_whitespace (chars text)
+unfolding trim_end
+end_trimmed text cut u e = encodes_same (chars cut) (drop_trailing_whitespace (chars text)) (encodes-chars cut u ∙ e)
+
+skipped : (cs : List ℕ) → skip_leading_whitespace cs ≡ drop_while is_whitespace cs
+skipped [] = refl
+skipped (c ∷ cs) = grind (arith, whitespace_is, skipped cs)
+
+pub start_trimmed : (text cut : List ℕ) → IsUtf8 cut → cut ≡ trim_start text → chars cut ≡ drop_while is_whitespace (chars text)
+unfolding trim_start
+start_trimmed text cut u e = encodes_same (chars cut) (skip_leading_whitespace (chars text)) (encodes-chars cut u ∙ e) ∙ skipped (chars text)
+
+-- ==== The view of a span is determined by the text and the span.
+
+drop_whitespace : (cs : List ℕ) → HasOnly is_whitespace cs → drop_trailing_whitespace cs ≡ []
+drop_whitespace [] o = refl
+drop_whitespace (c ∷ cs) o = grind (arith, (drop_whitespace cs o.1), whitespace_is)
+
+-- Only the whitespace after the last digit is dropped.
+drop_tail : (xs tail : List ℕ) → HasOnly is_whitespace tail → ends is_digit xs ≡ true → drop_trailing_whitespace (xs ++ tail) ≡ xs
+drop_tail [] tail o e = cc
+drop_tail (x ∷ []) tail o e = ap₂ (λ (b : Bool) (l : List ℕ). cond (b && eqb (length l) 0) [] (x ∷ l)) (whitespace_is x ∙ digit_not_whitespace x e) (drop_whitespace tail o)
+drop_tail (x ∷ y ∷ xs) tail o e = rw (drop_tail (y ∷ xs) tail o e, suc_not_zero (length xs), and-false)
+
+-- A text without leading and trailing whitespace goes from its first to its last digit.
+trimmed_is : (text slice : List ℕ) → IsDigitSlice text slice → trimmed text ≡ slice
+trimmed_is text slice h = grind (arith, digit_not_whitespace, drop_while-append, drop_tail)
+
+fraction_found : (b tail : List ℕ) (o f : Option (List ℕ)) → SpellsFraction b o → IsFractionView b f → begins is_letter tail ≡ true → f ≡ fraction_slice (b ++ tail)
+fraction_found b tail (Some ds) (Some slice) h k e = grind (arith, (slice_after_point h.0 tail h.2.0 e), (trimmed_is k.0 slice k.2))
+fraction_found b tail _ _ h k e = grind (arith, no_slice)
+
+-- The slices of a span are those at the start of the rest.
+slices_found : (text rest : List ℕ) (s : SpelledSpan) (x : SpanView) (next : List ℕ) (h : IsSpanView text rest s x next)
+    → (x.number ≡ number_slice rest) × (x.fraction ≡ fraction_slice (after_number rest)) × (after_fraction rest ≡ x.unit ++ (h.spelled.whitespace ++ next))
+    × (begins is_digit rest ≡ true)
+slices_found text rest s x next h =
+    let k = h.spelled in
+    let fraction = fraction_found k.fraction_text (s.word ++ (k.whitespace ++ next)) s.fraction x.fraction k.fraction h.fraction in
+    grind (arith, (read_spelled rest next s k), begins_word, fraction, h, (trimmed_is k.number_text x.number h.number), digit_not_whitespace)
+
+-- Two views of one span are equal, and so are the texts after them.
+one_span : (text rest : List ℕ) (s : SpelledSpan) (x y : SpanView) (m n : List ℕ) (h : IsSpanView text rest s x m) (k : IsSpanView text rest s y n)
+    → (x ≡ y) × (h.spelled.whitespace ++ m ≡ k.spelled.whitespace ++ n)
+one_span text rest s x y m n h k =
+    let cancel = append_cancel_left x.unit (h.spelled.whitespace ++ m) (k.spelled.whitespace ++ n) in
+    grind (arith, common_steps, (slices_found text rest s x m h), (slices_found text rest s y n k), cancel, h.unit, k.unit)
+
+-- A list of spans has exactly one list of views, whatever whitespace precedes the rest of the text.
+pub one_view_each : (text p q m n : List ℕ) (spans : List SpelledSpan) (xs ys : List SpanView) (d e : List ℕ) → HasOnly is_whitespace p → HasOnly is_whitespace q → p ++ m ≡ q ++ n → AreSpanViews text m spans xs d → AreSpanViews text n spans ys e → xs ≡ ys
+one_view_each text p q m n (s ∷ ss) (x ∷ xs) (y ∷ ys) d e o u w h k =
+    let r : m ≡ n = grind (arith, (drop_while-append is_whitespace p m o), (drop_while-append is_whitespace q n u), digit_not_whitespace) in
+    let l = rw (← r) at k.1 in
+    let more = one_view_each text h.1.spelled.whitespace l.spelled.whitespace h.0 k.0 ss xs ys d e h.1.spelled.only_whitespace l.spelled.only_whitespace in
+    grind (arith, (one_span text m s x y h.0 k.0 h.1 l), more)
+one_view_each text p q m n spans xs ys d e o u w h k = grind arith
+
+-- ==== The view of the span at the start of a rest.
+
+drop_while-only : (p q : ℕ → Bool) (cs : List ℕ) → HasOnly p cs → HasOnly p (drop_while q cs)
+drop_while-only p q [] o = tt
+drop_while-only p q (c ∷ cs) o = grind (arith, (drop_while-only p q cs o.1))
+
+-- Digits and whitespace that do not begin with whitespace begin with a digit.
+begins_digit_or_end : (cs : List ℕ) → HasOnly is_numeric cs → begins is_whitespace cs ≡ false → digits cs ≢ [] → begins is_digit cs ≡ true
+begins_digit_or_end cs h k e = grind arith
+
+-- Digits and whitespace, with at least one digit, have a slice from the first to the last digit.
+trimmed_slice : (cs : List ℕ) → HasOnly is_numeric cs → digits cs ≢ [] → IsDigitSlice cs (trimmed cs)
+trimmed_slice cs o n =
+    grind (arith, (digit_slice (take_while is_whitespace cs) (drop_while is_whitespace cs) (trimmed cs) (dropped (drop_while is_whitespace cs)) (take_while-only is_whitespace cs)), drop_while-only, begins_digit_or_end, begins-drop_while, digits_drop_while, take_while-drop_while)
+
+fraction_is_viewed : (b tail : List ℕ) (o : Option (List ℕ)) → SpellsFraction b o → begins is_letter tail ≡ true → IsFractionView b (fraction_slice (b ++ tail))
+fraction_is_viewed b tail o h k = grind (arith, no_slice, slice_after_point, trimmed_slice)
+
+pub next_bytes : (rest : List ℕ) → begins is_digit rest ≡ true → byte_length (after_word rest) < byte_length rest
+next_bytes rest b =
+    let some : 0 < length (take_while is_numeric rest) = grind (arith, digit_is_numeric) in
+    grind (arith, common_steps, (take_while-drop_while is_numeric rest), (take_while-drop_while is_numeric), encodes-append, (take_while-drop_while is_letter (after_fraction rest)), length-le-encodes)
+
+-- The slices of a well-formed span at the start of a rest tile it up to the next number.
+pub is_span_view : (text rest : List ℕ) → BeginsSpan rest → IsSpanView text rest (span_of rest) (view_at text rest) (next_of rest)
+is_span_view text rest f =
+    let w = written_here rest f in
+    let h = rw (← w.1) at (spells-append w.0 [] (next_of rest) (span_of rest) w.2) in
+    let after = h.whitespace ++ next_of rest in
+    let r = read_spelled rest (next_of rest) (span_of rest) h in
+    let starts = begins_take_while is_digit is_numeric rest f.number.digit digit_is_numeric in
+    let number = digit_slice [] (take_while is_numeric rest) (number_slice rest) (dropped (take_while is_numeric rest)) tt starts (take_while-only is_numeric rest) in
+    let fraction = fraction_is_viewed h.fraction_text (word_of rest ++ after) (fraction_of rest) h.fraction (begins_word (word_of rest) after (grind arith)) in
+    record {
+      spelled = h;
+      number = subst (λ (l : List ℕ). IsDigitSlice l (number_slice rest)) r.0 number;
+      fraction = subst (λ (l : List ℕ). IsFractionView h.fraction_text (fraction_slice l)) (sym r.1) fraction;
+      unit = refl;
+      start = refl;
+      end = ap (offset_of text) (append_cancel_left (word_of rest) (after_word rest) after (take_while-drop_while is_letter (after_fraction rest) ∙ r.3));
+      value = refl;
+    }

@@ -1,0 +1,45 @@
+-- What a span and an item borrow from their text, and the items that an iterator over spans has not returned yet.
+use Rattle.std.specs.Prelude.{◌≡◌, ℕ, ◌==◌, List, [], Option, Result, Ok, Err, IfSome, MatchResult, length, if◌then◌else◌, option_map, chars}
+use Rattle.std.specs.Iterator.{YieldsFirstBy}
+use Rattle.std.specs.Str.{drop_trailing_whitespace}
+use Rattle.humantime.specs.declared.duration.error.DurationError.{DurationError}
+use Rattle.humantime.specs.declared.duration.iter.SpanIter.{SpanIter}
+use Rattle.humantime.specs.declared.duration.span.Span.{Span}
+use Rattle.humantime.specs.Characters.{drop_while, is_whitespace}
+use Rattle.humantime.specs.DurationErrors.{IsRangeIn, PointsInto, fault_of, Fault}
+use Rattle.humantime.specs.Items.{SpanView}
+use Rattle.humantime.specs.DurationResults.{left_at, trimmed}
+
+-- The slices, offsets and number of a span.
+abbrev pub span_view : Span → SpanView
+span_view s = record {
+  number = drop_trailing_whitespace (chars s.number.now);
+  fraction = option_map (λ t. trimmed (chars t.now)) s.fraction;
+  unit = chars s.unit.now;
+  start = s.start;
+  end = s.end;
+  value = s.amount.value;
+}
+
+-- The view of an item: that of its span, or the fault of its error.
+abbrev pub item_of : Result Span DurationError → Result SpanView Fault
+item_of (Ok s) = Ok (span_view s)
+item_of (Err e) = Err (fault_of e)
+
+-- The items of a text that have not been returned yet: none after an error or the end of the text.
+abbrev pub items_left : SpanIter → List (Result SpanView Fault)
+items_left i =
+    if i.ended then []
+    else left_at (length i.rest.now == length i.text.now) (chars i.text.now) (drop_while is_whitespace (chars i.rest.now))
+
+-- The text that an iterator borrows.
+abbrev pub text_of : SpanIter → List ℕ
+text_of i = i.text.now
+
+-- `next` returned the first of the remaining items and left the others, or returned `None` if none remained. The iterator still reads the
+-- same text; the span lies in it, or the error points into it.
+abbrev pub GivesItem : SpanIter → Option (Result Span DurationError) → SpanIter → Type 0
+GivesItem old result new =
+    YieldsFirstBy item_of items_left old result new
+    × (text_of new ≡ text_of old)
+    × IfSome result (λ item. MatchResult item (λ s. IsRangeIn (text_of old) s.start s.end) (PointsInto (text_of old)))

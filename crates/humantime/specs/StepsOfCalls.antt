@@ -1,0 +1,150 @@
+-- Steps of the parsers and printers: the readers of a span, sums, timestamps and writers.
+use Rattle.std.specs.Prelude.{◌≡◌, true, false, ℕ, nat_lt, List, [], ◌∷◌, Option, Some, None, Result, Ok, Err, if◌then◌else◌, option_map, chars, ◌*◌, ◌/◌, ◌^◌, ◌==◌, ◌+◌, ◌<◌, Bool, ◌&&◌, nat_le, pos, ℤ, length, drop, ◌≤◌, ◌++◌, take, decimal}
+use Rattle.std.specs.Borrow.{Bor}
+use Rattle.std.specs.Result.{result_map_both}
+use Rattle.std.specs.Str.{all_ascii_digits, byte}
+use Rattle.std.specs.List.{join_with_byte}
+use Rattle.humantime.specs.declared.duration.amount.Decimal.{Decimal}
+use Rattle.humantime.specs.declared.duration.error.DurationError.{DurationError}
+use Rattle.humantime.specs.declared.duration.span.Span.{Span}
+use Rattle.humantime.specs.Characters.{begins, drop_while, decimal_value, is_digit, is_whitespace, is_letter, u64_max}
+use Rattle.humantime.specs.Durations.{has_too_many_digits, too_long, Quantity, size, of_kind, times, fits_u64, is_whole_part}
+use Rattle.humantime.specs.DurationErrors.{fault_of, number_of, after_number, fraction_of, after_fraction, after_word, span_of, may_follow_span, Fault}
+use Rattle.humantime.specs.Items.{SpanView}
+use Rattle.humantime.specs.DurationResults.{view_at}
+use Rattle.humantime.specs.SpanResults.{span_view}
+use Rattle.humantime.specs.Walks.{fault_at, add}
+use Rattle.humantime.specs.StepsOfParts.{Counted, counted, parts_of, IsTail, begins_with_nonletter}
+use Rattle.humantime.specs.declared.calendar.Date.{Date}
+use Rattle.humantime.specs.declared.date.error.TimestampError.{TimestampError}
+use Rattle.humantime.specs.declared.date.error.TimestampError.TheVariants.{InvalidDigit, InvalidFormat}
+use Rattle.humantime.specs.Calendar.{IsDate, day_of}
+use Rattle.humantime.specs.Values.{seconds_per_day, second_of}
+use Rattle.humantime.specs.Timestamps.{fraction_nanos, has_punctuation, has_digits, has_point}
+use Rattle.humantime.specs.declared.duration.print.Writer.{Writer}
+use Rattle.humantime.specs.PrintedDurations.{Suffix, printed_counts}
+
+-- ==== What the readers of the parts of a span return, as functions of the characters of a text.
+
+-- What a reader returned: the view of the value, and the characters of the rest.
+abbrev pub read_view : {A B : Type 0} → (A → B) → Option (A × Bor (List ℕ)) → Option (B × List ℕ)
+read_view view r = option_map (λ x. (view x.0, chars x.1.now)) r
+
+-- Reads the number at the start of a text. A number that does not fit in a `u64` is too long.
+abbrev pub read_number : List ℕ → Option (ℕ × List ℕ)
+read_number text =
+    if nat_lt u64_max (decimal_value (number_of text)) then None else Some (decimal_value (number_of text), after_number text)
+
+-- Reads the digits of a fraction at the start of a text, if any. More than 19 before the trailing zeros are too long.
+abbrev pub read_fraction : List ℕ → Option (Counted × List ℕ)
+read_fraction text =
+    if has_too_many_digits (Some (number_of text)) then None else Some (counted (number_of text), after_number text)
+
+-- Returns what follows the letters at the start of a text, which must be empty or begin with a letter.
+abbrev pub skip_word : List ℕ → Option (List ℕ)
+skip_word text = if begins_with_nonletter text then None else Some (drop_while is_letter text)
+
+-- Returns a text without its first character if that is whitespace.
+abbrev pub after_space : List ℕ → List ℕ
+after_space [] = []
+after_space (c ∷ cs) = if is_whitespace c then cs else c ∷ cs
+
+-- Reads up to one whitespace character after a word. A character other than a digit or whitespace must not follow a word.
+abbrev pub end_span : List ℕ → Option (List ℕ)
+end_span text = if may_follow_span text then Some (after_space text) else None
+
+-- Reads the span at the start of `rest`.
+abbrev pub read_span : List ℕ → List ℕ → Result (SpanView × List ℕ) Fault
+read_span text rest = elim (fault_at text rest) [
+  | None ↦ Ok (view_at text rest, after_space (after_word rest))
+  | Some e ↦ Err e
+]
+
+-- The view of a span that was read and the characters of the rest, or the fault of the error.
+abbrev pub span_result : Result (Span × Bor (List ℕ)) DurationError → Result (SpanView × List ℕ) Fault
+span_result r = result_map_both (λ x. (span_view x.0, chars x.1.now)) fault_of r
+
+-- The number at the start of `rest` and its fraction, if any, were read, and neither is too long: these are their values, each before the
+-- text that follows it.
+pub record HasRead (rest : List ℕ) (value : ℕ) (after_value : List ℕ) (decimals : Option Decimal) (after_decimals : List ℕ) : Type 0 where
+  pub digit : begins is_digit (chars rest) ≡ true
+  pub short : too_long (span_of (chars rest)) ≡ false
+  pub value_is : value ≡ decimal_value (number_of (chars rest))
+  pub after_value_is : chars after_value ≡ after_number (chars rest)
+  pub decimals_are : option_map parts_of decimals ≡ option_map counted (fraction_of (chars rest))
+  pub after_decimals_is : chars after_decimals ≡ after_fraction (chars rest)
+  pub value_tail : IsTail rest after_value
+  pub decimals_tail : IsTail after_value after_decimals
+
+-- ==== Quantities added to a duration of `t` nanoseconds. `None` means that a limit is broken.
+
+-- Returns the sum of `t` and `count` times a quantity, or `None` on overflow.
+abbrev pub add_times : ℕ → Quantity → ℕ → Option ℕ
+add_times t x count = if fits_u64 (count * size x) then add t (times count x) else None
+
+-- Returns the sum of `t` and `number / 10^count` of a quantity, or `None` if that is not a whole number or on overflow. If the unit has no
+-- fractions, there must be no digits.
+abbrev pub add_part : ℕ → Option Quantity → ℕ → ℕ → Option ℕ
+add_part t None number count = if count == 0 then Some t else None
+add_part t (Some x) number count =
+    if is_whole_part (size x) number count then add t (of_kind x (number * size x / 10 ^ count)) else None
+
+-- ==== The results of private functions that parse and print timestamps.
+
+-- Tests whether the text has at least 19 bytes, with punctuation and digits at their positions.
+unfoldable pub has_layout : List ℕ → Bool
+has_layout bytes = nat_le 19 (length bytes) && has_punctuation bytes && has_digits bytes
+
+-- Returns the nanoseconds of the digits after a point, or `InvalidDigit` if a byte is not a digit.
+abbrev pub digits_answer : List ℕ → Result ℕ TimestampError
+digits_answer ds = if all_ascii_digits ds then Ok (fraction_nanos ds) else Err InvalidDigit
+
+-- Returns the nanoseconds of the bytes between the seconds and the zone, or their error.
+abbrev pub fraction_answer : List ℕ → Result ℕ TimestampError
+fraction_answer part = if has_point part then digits_answer (drop 1 part) else Err InvalidFormat
+
+-- The moment `t` is on this date, `time` whole seconds after midnight.
+pub record IsSecondOf (date : Date) (time : ℕ) (t : ℤ) : Type 0 where
+  pub date_exists : IsDate date
+  pub within_day : time < seconds_per_day
+  pub sum : pos (day_of date * seconds_per_day + time) ≡ second_of t
+
+-- ==== The text that a writer has written to its buffer.
+
+-- Returns the bytes that the writer has written: the front of its buffer.
+abbrev pub written : Writer → List ℕ
+written w = take w.end w.bytes.now
+
+-- The writer has written exactly these bytes, to the same buffer as before.
+pub record HasWritten (old new : Writer) (all : List ℕ) : Type 0 where
+  pub same_reference : new.bytes.ghost_name ≡ old.bytes.ghost_name
+  pub room : length new.bytes.now ≡ length old.bytes.now
+  pub bytes : written new ≡ all
+
+-- The text was appended to what had been written before.
+pub record Appends (old new : Writer) (text : List ℕ) : Type 0 where
+  pub has : HasWritten old new (written old ++ text)
+  pub end : new.end ≡ old.end + length text
+
+-- Joins a text and the texts after it with single spaces, leaving out an empty first text.
+abbrev pub joined_after : List ℕ → List (List ℕ) → List ℕ
+joined_after [] ps = join_with_byte (byte " ") ps
+joined_after (b ∷ bs) ps = join_with_byte (byte " ") ((b ∷ bs) ∷ ps)
+
+-- A suffix that stays the same in the plural.
+abbrev pub fixed : List ℕ → Suffix
+fixed unit = (unit, false)
+
+-- A suffix that takes an `s` in the plural.
+abbrev pub plural : List ℕ → Suffix
+plural unit = (unit, true)
+
+-- Returns an upper bound for the number of bytes of a count: its digits, its suffix and the `s` of the plural.
+abbrev pub most_bytes : ℕ → Suffix → ℕ
+most_bytes count suffix = length (decimal count) + length suffix.0 + (if suffix.1 then 1 else 0)
+
+-- The count was appended, after a space if it is not the first one. A count of zero is left out.
+pub record AppendsCount (old new : Writer) (count : ℕ) (suffix : Suffix) : Type 0 where
+  pub has : HasWritten old new (joined_after (written old) (printed_counts (count ∷ []) (suffix ∷ [])))
+  pub end : new.end ≤ old.end + 1 + most_bytes count suffix
+  pub first : old.end ≡ 0 → new.end ≤ most_bytes count suffix

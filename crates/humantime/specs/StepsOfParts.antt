@@ -1,0 +1,91 @@
+-- Steps of the parser of durations: whitespace, digits, and what an amount keeps of its text.
+use Rattle.std.specs.Prelude.{◌≡◌, ℕ, List, length, Option, Some, option_map, chars, bytes_eq, ltb, not, filter, ◌≤◌, ◌<◌, ◌^◌, ◌-◌, ◌++◌, Bool, [], ◌∷◌, IfSome, IfNone, drop, if◌then◌else◌, IsUtf8, IsCharBoundary}
+use Rattle.std.specs.Borrow.{Bor}
+use Rattle.std.specs.Map.{lookup}
+use Rattle.std.specs.Str.{drop_trailing_whitespace}
+use Rattle.std.specs.Char.{len_utf8}
+use Rattle.humantime.specs.declared.duration.amount.Decimal.{Decimal}
+use Rattle.humantime.specs.declared.duration.amount.Amount.{Amount}
+use Rattle.humantime.specs.Characters.{decimal_value, without_trailing_zeros, begins, drop_while, is_whitespace, is_letter, max_fraction_digits}
+use Rattle.humantime.specs.Durations.{Quantity, Nanos, Seconds, Scale, words, scale_of_word, SpelledSpan}
+use Rattle.humantime.specs.DurationResults.{spelled, trimmed}
+
+-- ==== The digits and spans that the `Decimal` and `Amount` of the code represent.
+
+-- A fraction as three numbers: the value of its digits without trailing zeros, the number of these digits, and the number of all digits.
+abbrev pub Counted : Type 0
+Counted = ℕ × ℕ × ℕ
+
+-- Returns the three numbers for these digits.
+abbrev pub counted : List ℕ → Counted
+counted ds = (decimal_value (without_trailing_zeros ds), length (without_trailing_zeros ds), length ds)
+
+-- Returns the three numbers of a `Decimal` of the code.
+abbrev pub parts_of : Decimal → Counted
+parts_of f = (f.significand, f.exponent, f.len)
+
+-- The amount is the one that the span denotes.
+pub record IsAmountOf (a : Amount) (s : SpelledSpan) : Type 0 where
+  pub scale : scale_of_word s.word ≡ Some a.scale.now
+  pub value : a.value ≡ decimal_value s.number
+  pub fraction : option_map parts_of a.fraction ≡ option_map counted s.fraction
+
+-- The amount is that of the span whose number, fraction and unit the slices hold, with whitespace after the number and around the fraction.
+abbrev pub IsAmountRead : Amount → List ℕ → Option (Bor (List ℕ)) → List ℕ → Type 0
+IsAmountRead a number fraction unit =
+    IsAmountOf a (spelled (drop_trailing_whitespace (chars number)) (option_map (λ f. trimmed (chars f.now)) fraction) (chars unit))
+
+-- Returns the seconds of a quantity, or 0 for one of nanoseconds.
+abbrev whole_seconds : Quantity → ℕ
+whole_seconds (Nanos n) = 0
+whole_seconds (Seconds n) = n
+
+-- Returns those of the words whose units are below this number of seconds.
+abbrev pub words_below : ℕ → List (List ℕ × Scale) → List (List ℕ × Scale)
+words_below seconds ws = filter (λ w. ltb (whole_seconds w.1.whole) seconds) ws
+
+-- Returns the words of the units of at least this number of seconds.
+abbrev pub words_from : ℕ → List (List ℕ × Scale)
+words_from seconds = filter (λ w. not (ltb (whole_seconds w.1.whole) seconds)) words
+
+-- Returns the scale of a word, if it is a unit of at least this number of seconds.
+unfoldable pub scale_from : ℕ → List ℕ → Option Scale
+scale_from seconds word = lookup (bytes_eq word) (words_from seconds)
+
+-- ==== The steps that parse one span, each on the rest of a text.
+
+-- The text ends in the bytes of the rest, which is valid UTF-8.
+pub record IsTail (text rest : List ℕ) : Type 0 where
+  pub shorter : length rest ≤ length text
+  pub ends : rest ≡ drop (length text - length rest) text
+  pub utf8 : IsUtf8 rest
+  pub whole : IsUtf8 text
+
+-- Tests whether a text begins with a character other than a letter.
+abbrev pub begins_with_nonletter : List ℕ → Bool
+begins_with_nonletter text = begins (λ c. not (is_letter c)) text
+
+-- Returns the length in bytes of the whitespace character at the start of a text, or 0 if there is none.
+abbrev pub whitespace_len : List ℕ → ℕ
+whitespace_len [] = 0
+whitespace_len (c ∷ cs) = if is_whitespace c then len_utf8 c else 0
+
+-- The fraction has these digits, at most 19 of them before the trailing zeros.
+pub record HasDigits (f : Decimal) (ds : List ℕ) : Type 0 where
+  pub parts : parts_of f ≡ counted ds
+  pub few : f.exponent ≤ max_fraction_digits
+  pub fits : f.significand < 10 ^ f.exponent
+
+-- The result, if there is one, has the digits of the fraction and then the digit `c`.
+abbrev pub AppendsIfSome : Decimal → ℕ → Option Decimal → Type 0
+AppendsIfSome f c result = (ds : List ℕ) → HasDigits f ds → IfSome result (λ g. HasDigits g (ds ++ c ∷ []))
+
+-- If there is no result, the digit `c` makes more than 19 digits before the trailing zeros, whatever digits follow.
+abbrev pub IsFullIfNone : Decimal → ℕ → Option Decimal → Type 0
+IsFullIfNone f c result = (ds : List ℕ) → HasDigits f ds → IfNone result ((es : List ℕ) → max_fraction_digits < length (without_trailing_zeros (ds ++ c ∷ es)))
+
+-- There is only whitespace between the two positions.
+pub record SkipsWhitespace (text : List ℕ) (from to : ℕ) : Type 0 where
+  pub order : from ≤ to
+  pub place : IsCharBoundary text to
+  pub same : drop_while is_whitespace (chars (drop to text)) ≡ drop_while is_whitespace (chars (drop from text))
