@@ -1,6 +1,7 @@
 -- The layout of a timestamp, tested on all bytes at once.
+use Rattle.humantime.specs.TimestampResults.{weak_answer}
 use Rattle.std.proofs.Common.{◌≡◌, ℕ, ◌≤◌, List, [], ◌∷◌, length, get_or, drop, refl, arith, ◌+◌, ◌-◌, ◌%◌, ◌^◌, ◌<◌, Bool, cond, eqb, ltb, ◌&&◌, map, replicate, take, Fits, w8, ap, ◌∙◌, ◌*◌}
-use Rattle.std.specs.Prelude.{true, slice_index, Option, Some, None, ◌==◌, if◌then◌else◌, codes, nat_eq, bit_or}
+use Rattle.std.specs.Prelude.{true, slice_index, Option, Some, None, ◌==◌, if◌then◌else◌, codes, nat_eq, bit_or, ⊤}
 use Rattle.std.specs.Str.{byte, all_ascii_digits}
 use Rattle.std.proofs.lemmas.Bool.{and_parts, le-leb, agree_below_at}
 use Rattle.std.proofs.lemmas.Grind.{common_steps}
@@ -181,3 +182,17 @@ summed bytes =
 pub date_time_summed : (bytes : List ℕ) → 19 ≤ length bytes → has_digits bytes ≡ true → summed bytes ≡ date_time_of bytes
 date_time_summed bytes long digits =
     ap summed (nineteen bytes long) ∙ grind (arith, (pairs_from_test bytes digits), has_two_from_test, number_of_four, number_of_two)
+
+-- What the checks of a timestamp need, and the definitions that they open.
+pub ruleset checks = (checks_in_order)
+
+unfoldable pub checks_open : ⊤
+unfolding has_separator has_layout weak_answer
+checks_open = tt
+
+-- The same for its punctuation alone.
+pub ruleset marks = (nat_tests)
+
+unfoldable pub marks_open : ⊤
+unfolding has_punctuation has_layout weak_answer
+marks_open = tt

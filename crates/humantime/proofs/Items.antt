@@ -1,4 +1,6 @@
 -- The items of a text, as `spans` returns them, and the slices of the text between them.
+use Rattle.std.proofs.lemmas.Bool.Decides.{nat_tests}
+use Rattle.humantime.proofs.Offsets.{no_bytes, some_chars}
 use Rattle.std.proofs.Common.{◌≡◌, ◌≢◌, IsUtf8, chars, arith, ℕ, Bool, true, List, [], ◌∷◌, map, Option, Result, Err, refl, ◌≤◌, ◌<◌, false, None, Ok, length, length-append, ◌++◌, Some, sym, ap, append_assoc, append-nil}
 use Rattle.std.proofs.lemmas.Str.{encodes-chars, encode_ascii}
 use Rattle.std.proofs.lemmas.Grind.{common_steps}
@@ -139,3 +141,6 @@ front_tiled text items are =
 
 pub text_tiled : (text : List ℕ) (items : List (Result SpanView Fault)) → AreItems text items → list_all is_ok items ≡ true → IsTiled text (flat_map slices_of items)
 text_tiled text items are each = grind (arith, list_all-append, and_parts, append-nil, (front_tiled text items are))
+
+-- What `next` needs.
+pub ruleset next_item = (step_stopped, no_bytes, some_chars, common_steps, nat_tests)

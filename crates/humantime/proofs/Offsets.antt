@@ -4,7 +4,7 @@ use Rattle.std.proofs.Common.{◌≡◌, ◌<◌, ◌≤◌, ◌+◌, ℕ, List,
 use Rattle.std.specs.Prelude.{◌==◌, ◌&&◌, ◌||◌, not, slice_range}
 use Rattle.std.specs.Char.{is_ascii_digit, len_utf8}
 use Rattle.std.proofs.Math.Utf8.{encode}
-use Rattle.std.proofs.lemmas.Bool.{cases_lt}
+use Rattle.std.proofs.lemmas.Bool.{cases_lt, ne_eqb}
 use Rattle.std.proofs.lemmas.Bool.Decides.{nat_tests}
 use Rattle.std.proofs.lemmas.List.{get_or-drop, take-append-drop, drop-drop, append_cancel_right}
 use Rattle.std.proofs.lemmas.Str.{IsUtf8-drop, IsCharBoundary-past_char, drop_past_char, chars_past_char, byte_from_char, char_from_byte, len_utf8_ascii, len_utf8_bounds, encodes-chars, encode_same, IsCharBoundary-start, IsUtf8-take, IsCharBoundary-at_seam, chars-append, chars-nil}
@@ -12,7 +12,7 @@ use Rattle.humantime.specs.DurationErrors.{IsCharStartIn, IsRangeIn, IsPartOf, m
 use Rattle.humantime.specs.Characters.{begins, drop_while, take_while, is_letter, is_whitespace, whitespace_chars, is_digit, byte_length, offset_of}
 use Rattle.humantime.specs.StepsOfCalls.{after_space}
 use Rattle.humantime.specs.StepsOfParts.{whitespace_len, IsTail, begins_with_nonletter}
-use Rattle.humantime.proofs.Characters.{digit_not_whitespace, letter_not_whitespace, whitespace_is_numeric, take_while-drop_while}
+use Rattle.humantime.proofs.Characters.{digit_not_whitespace, letter_not_whitespace, whitespace_is_numeric, take_while-drop_while, low_whitespace, no_whitespace_between}
 
 -- ==== Offsets in a text, and the characters at them.
 
@@ -185,3 +185,20 @@ word_begins text at u place rest =
     let letters = front_is is_letter text at u place rest in
     let begins_is : begins_with_nonletter (chars text) ≡ (length (take_while is_letter (chars text)) == 0 && not (length (chars text) == 0)) = grind (arith, common_steps, nat_tests) in
     grind (arith, common_steps, nat_tests, length-take, IsUtf8-take, some_chars, no_bytes, letters, begins_is)
+
+-- ==== What the functions that scan a text need.
+
+-- The rest of a text from an offset on, and a text without bytes.
+pub ruleset rests = (slice_tail, whole_tail, no_bytes, some_chars, no_chars_at, IsCharBoundary-start)
+
+-- The first character of a text.
+pub ruleset first = (rests, char_at, digit_at, digit_stays, cases_lt, ne_eqb, common_steps, nat_tests)
+
+-- Whitespace at an offset.
+pub ruleset whitespace_at = (ascii_at, no_whitespace_at_mu, low_whitespace, no_whitespace_between, common_steps, nat_tests)
+
+-- What ends a span.
+pub ruleset span_ends = (rests, space_ends, whitespace_ends, len_utf8_bounds, common_steps)
+
+-- The offset of a rest in its text, in bytes.
+pub ruleset offsets = (some_chars, tail_place, tail_tail, whole_tail)

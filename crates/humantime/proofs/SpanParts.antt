@@ -19,8 +19,8 @@ use Rattle.humantime.specs.Durations.{is_some_and, too_long, Scale, scale_of_wor
 use Rattle.humantime.specs.DurationResults.{trimmed, view_at}
 use Rattle.humantime.specs.Walks.{stop_at}
 use Rattle.humantime.specs.StepsOfCalls.{HasRead, skip_word, end_span, read_span}
-use Rattle.humantime.proofs.Offsets.{digit_at, whitespace_over, no_whitespace, ascii_at, no_bytes}
-use Rattle.humantime.proofs.Characters.{digit_is, digit_is_numeric, whitespace_is_numeric, whitespace_not_digit, wide_no_digit, digits_value-append, significant_shorter, significant_last, significant_zero, value_shifted, take_while-drop_while}
+use Rattle.humantime.proofs.Offsets.{digit_at, whitespace_over, no_whitespace, ascii_at, no_bytes, tail_boundary, tail_tail}
+use Rattle.humantime.proofs.Characters.{digit_is, digit_is_numeric, whitespace_is_numeric, whitespace_not_digit, wide_no_digit, digits_value-append, significant_shorter, significant_last, significant_zero, value_shifted, take_while-drop_while, significant_long}
 
 -- ==== Parsing the digits at the start of a text, one by one.
 
@@ -136,3 +136,9 @@ pub no_exit : (text rest word next end : List ℕ) (fraction : Option Counted) (
     → word ≡ after_fraction rest → Some next ≡ skip_word word → scale_of_word (take_while is_letter word) ≡ Some scale → is_bare fraction ≡ false → Some end ≡ end_span next → Ok (view_at text rest, end) ≡ read_span text rest
 unfolding stop_at
 no_exit text rest word next end fraction scale d s f is w unit bare e = grind (arith, common_steps)
+
+-- What appending a digit to a fraction needs.
+pub ruleset decimals = (fewer, significant_long, significant_zero, digit_range, common_steps)
+
+-- What reading a span from its fraction on needs.
+pub ruleset spans = (tail_boundary, tail_tail, no_letters, nat_tests)

@@ -94,3 +94,6 @@ pub at_each_length : (bs : List ℕ) (scale later found : Option Scale) (ws : Li
     → (length bs ≡ 5 → found ≡ scale_among bs 5 ws later) → (length bs ≡ 6 → found ≡ scale_among bs 6 ws later)
     → (length bs ≡ 7 → found ≡ scale_among bs 7 ws later) → (length bs ≡ 0 ⊎ 8 ≤ length bs → found ≡ later) → found ≡ scale
 at_each_length bs scale later found ws t one two three four five six seven other = grind (arith, nat_tests, one, two, three, four, five, six, seven, other)
+
+-- What the look-up of a word needs.
+pub ruleset words_of_units = (below_second, from_second, from_day, nat_tests)

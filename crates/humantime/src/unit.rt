@@ -59,7 +59,7 @@ macro_rules! unit {
 }
 
 /// Returns the scale of a unit by its word, or `None` if there is no such unit.
-#[tactic(auto, using(std::proofs::lemmas::Bool::Decides::nat_tests, crate::proofs::UnitWords::below_second))]
+#[tactic(auto, using(crate::proofs::UnitWords::words_of_units))]
 pub(crate) fn scale_of(word: &str) -> Option<&'static Scale>
     ensures { option_map (λ s. s.now) result ≡ scale_of_word (chars word.now) }
 {
@@ -73,7 +73,7 @@ pub(crate) fn scale_of(word: &str) -> Option<&'static Scale>
 }
 
 /// Returns the scale of a unit of a second or more by its word, or `None` if there is no such unit.
-#[tactic(auto, using(std::proofs::lemmas::Bool::Decides::nat_tests, crate::proofs::UnitWords::from_second))]
+#[tactic(auto, using(crate::proofs::UnitWords::words_of_units))]
 fn scale_from_second(word: &str) -> Option<&'static Scale>
     ensures { option_map (λ s. s.now) result ≡ scale_from 1 (chars word.now) }
 {
@@ -86,7 +86,7 @@ fn scale_from_second(word: &str) -> Option<&'static Scale>
 }
 
 /// Returns the scale of a unit of a day or more by its word, or `None` if there is no such unit.
-#[tactic(auto, using(std::proofs::lemmas::Bool::Decides::nat_tests, crate::proofs::UnitWords::from_day))]
+#[tactic(auto, using(crate::proofs::UnitWords::words_of_units))]
 fn scale_from_day(word: &str) -> Option<&'static Scale>
     ensures { option_map (λ s. s.now) result ≡ scale_from seconds_per_day (chars word.now) }
 {

@@ -75,7 +75,7 @@ impl Decimal {
 
     /// Returns the fraction followed by the ASCII digit `c`, or `None` if it then has more than 19 digits before its trailing zeros.
     #[inline(always)]
-    #[tactic(auto, using(crate::proofs::SpanParts::fewer, crate::proofs::Characters::significant_long, crate::proofs::SpanParts::digit_range, crate::proofs::Characters::significant_zero, std::proofs::lemmas::Grind::common_steps))]
+    #[tactic(auto, using(crate::proofs::SpanParts::decimals))]
     pub(crate) fn push(self, c: u8) -> Option<Decimal>
         requires digit { is_digit c ≡ true }
         requires digits { (ds : List ℕ) × HasDigits self ds }

@@ -50,7 +50,7 @@ impl<'a> Iterator for SpanIter<'a> {
     ghost remaining = { item_count items_left };
 
     #[inline(always)]
-    #[tactic(auto, using(crate::proofs::Offsets::no_bytes, crate::proofs::Offsets::some_chars, crate::proofs::Items::step_stopped, std::proofs::lemmas::Grind::common_steps, std::proofs::lemmas::Bool::Decides::nat_tests), unfolding(crate::specs::Walks::walk))]
+    #[tactic(auto, using(crate::proofs::Items::next_item), unfolding(crate::specs::Walks::walk))]
     fn next(&mut self) -> Option<Result<Span<'a>, DurationError<'a>>> {
         if self.ended {
             return None;

@@ -323,7 +323,7 @@ fn text_from_len<'a, 'b>(
 /// Parses a duration, writes its canonical text to the front of the buffer, and returns the text's length in bytes.
 ///
 /// If parsing fails, returns the error and leaves the buffer unchanged.
-#[tactic(auto, using(std::proofs::lemmas::Result::err_from_is_err_and), unfolding(crate::specs::DurationResults::canonical_answer))]
+#[tactic(auto, unfolding(crate::specs::DurationResults::canonical_answer))]
 fn write_canonical<'a>(s: &'a str, buf: &mut [u8; 64]) -> Result<usize, DurationError<'a>>
     ensures unchanged { OnErr result (buf.new ≡ buf.old) }
     ensures fits { IfOk result (λ len. len ≤ 64) }

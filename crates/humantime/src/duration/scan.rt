@@ -45,7 +45,7 @@ fn skip_non_ascii_whitespace(text: &str, at: usize) -> Option<usize>
 ///
 /// A character must begin at `at`, so `at` is less than the length of the text.
 #[inline(always)]
-#[tactic(auto, using(crate::proofs::Offsets::ascii_at, crate::proofs::Offsets::no_whitespace_at_mu, crate::proofs::Characters::low_whitespace, crate::proofs::Characters::no_whitespace_between, std::proofs::lemmas::Bool::Decides::nat_tests))]
+#[tactic(auto, using(crate::proofs::Offsets::whitespace_at))]
 pub(crate) fn skip_whitespace_char(text: &str, at: usize) -> Option<usize>
     requires { IsCharStartIn text.now at }
     ensures { SomeIff result (0 < whitespace_len (chars (drop at text.now))) (at + whitespace_len (chars (drop at text.now))) }
@@ -71,7 +71,7 @@ pub(crate) fn skip_whitespace_char(text: &str, at: usize) -> Option<usize>
 ///
 /// Each space costs one test here, and several in [`skip_whitespace_char`].
 #[inline(always)]
-#[tactic(auto, using(crate::proofs::Offsets::ascii_at, crate::proofs::Characters::low_whitespace, std::proofs::lemmas::Grind::common_steps, std::proofs::lemmas::Bool::Decides::nat_tests))]
+#[tactic(auto, using(crate::proofs::Offsets::whitespace_at))]
 fn skip_spaces(text: &str, from: usize) -> usize
     requires { IsCharBoundary text.now from }
     ensures { SkipsWhitespace text.now from result }
@@ -86,7 +86,7 @@ fn skip_spaces(text: &str, from: usize) -> usize
 
 /// Returns what follows the whitespace at the start of the text, if any.
 #[inline(always)]
-#[tactic(auto, using(crate::proofs::Offsets::slice_tail, crate::proofs::Offsets::whole_tail, crate::proofs::Offsets::digit_stays, crate::proofs::Offsets::starts))]
+#[tactic(auto, using(crate::proofs::Offsets::first))]
 pub(crate) fn skip_whitespace(s: &str) -> &str
     ensures read { chars result.now ≡ drop_while is_whitespace (chars s.now) }
     ensures rest { IsTail s.now result.now }
@@ -106,7 +106,7 @@ pub(crate) fn skip_whitespace(s: &str) -> &str
 
 /// Returns `true` if the text begins with an ASCII digit.
 #[inline(always)]
-#[tactic(auto, using(crate::proofs::Offsets::digit_at, crate::proofs::Offsets::starts, crate::proofs::Offsets::no_bytes, std::proofs::lemmas::Grind::common_steps, std::proofs::lemmas::Bool::Decides::nat_tests))]
+#[tactic(auto, using(crate::proofs::Offsets::first))]
 pub(crate) fn begins_with_digit(text: &str) -> bool
     ensures { result ≡ begins is_digit (chars text.now) }
 {
@@ -117,7 +117,7 @@ pub(crate) fn begins_with_digit(text: &str) -> bool
 /// Reads the digits at the start of the text, with the whitespace between and after them. Returns their value and the rest, or `None` if the
 /// value does not fit in a `u64`. The text must begin with a digit.
 #[inline(always)]
-#[tactic(auto, using(crate::proofs::SpanParts::first_digit, crate::proofs::Offsets::slice_tail))]
+#[tactic(auto, using(crate::proofs::Offsets::rests, crate::proofs::SpanParts::first_digit))]
 pub(crate) fn read_number(s: &str) -> Option<(u64, &str)>
     requires { begins is_digit (chars s.now) ≡ true }
     ensures read { read_view (λ n. n) result ≡ reader.read_number (chars s.now) }
@@ -148,7 +148,7 @@ pub(crate) fn read_number(s: &str) -> Option<(u64, &str)>
 
 /// Returns what follows the decimal point at the start of the text, or `None` if there is no point.
 #[inline(always)]
-#[tactic(auto, using(crate::proofs::Offsets::slice_tail, crate::proofs::Offsets::no_bytes, crate::proofs::Offsets::char_at, crate::proofs::Offsets::starts, std::proofs::lemmas::Bool::cases_lt, std::proofs::lemmas::Bool::ne_eqb, std::proofs::lemmas::Grind::common_steps, std::proofs::lemmas::Bool::Decides::nat_tests), unfolding(crate::specs::Characters::is_point))]
+#[tactic(auto, using(crate::proofs::Offsets::first), unfolding(crate::specs::Characters::is_point))]
 pub(crate) fn skip_point(s: &str) -> Option<&str>
     ensures read { option_map (λ t. chars t.now) result ≡ after_point (chars s.now) }
     ensures rest { IfSome result (λ t. IsTail s.now t.now) }
@@ -162,7 +162,7 @@ pub(crate) fn skip_point(s: &str) -> Option<&str>
 /// Reads the digits of a fraction at the start of the text, if any, with the whitespace around and between them. Returns the digits and the
 /// rest, or `None` if there are more than 19 digits before the trailing zeros.
 #[inline(always)]
-#[tactic(auto, using(crate::proofs::Offsets::slice_tail, crate::proofs::Characters::digit_is))]
+#[tactic(auto, using(crate::proofs::Offsets::rests, crate::proofs::Characters::digit_is))]
 pub(crate) fn read_fraction(s: &str) -> Option<(Decimal, &str)>
     ensures read { read_view parts_of result ≡ reader.read_fraction (chars s.now) }
     ensures rest { IfSome result (λ x. IsTail s.now x.1.now) }
@@ -185,7 +185,7 @@ pub(crate) fn read_fraction(s: &str) -> Option<(Decimal, &str)>
 
 /// Returns what follows the letters (ASCII, `µ` or `μ`) at the start of the text, or `None` if it begins with another character.
 #[inline(always)]
-#[tactic(auto, using(crate::proofs::Offsets::no_chars_at, crate::proofs::Offsets::slice_tail, crate::proofs::Offsets::starts))]
+#[tactic(auto, using(crate::proofs::Offsets::rests))]
 pub(crate) fn skip_word(s: &str) -> Option<&str>
     ensures read { option_map (λ t. chars t.now) result ≡ reader.skip_word (chars s.now) }
     ensures rest { IfSome result (λ t. IsTail s.now t.now) }
@@ -211,7 +211,7 @@ pub(crate) fn skip_word(s: &str) -> Option<&str>
 ///
 /// It skips one character, since there is usually only one before the next digit. `skip_whitespace` skips the others.
 #[inline(always)]
-#[tactic(auto, using(crate::proofs::Offsets::slice_tail, crate::proofs::Offsets::whole_tail, crate::proofs::Offsets::no_bytes, crate::proofs::Offsets::some_chars, crate::proofs::Offsets::space_ends, crate::proofs::Offsets::whitespace_ends, crate::proofs::Offsets::starts, std::proofs::lemmas::Str::len_utf8_bounds, std::proofs::lemmas::Grind::common_steps))]
+#[tactic(auto, using(crate::proofs::Offsets::span_ends))]
 pub(crate) fn end_span(s: &str) -> Option<&str>
     ensures read { option_map (λ t. chars t.now) result ≡ reader.end_span (chars s.now) }
     ensures rest { IfSome result (λ t. IsTail s.now t.now) }
@@ -245,7 +245,7 @@ fn offset_in(text: &str, rest: &str) -> usize
 
 /// Reads the span at the start of `rest`, which is the unread end of `text` and not empty. Offsets are those in `text`.
 #[inline(always)]
-#[tactic(auto, using(crate::proofs::Offsets::some_chars, crate::proofs::Offsets::tail_place, crate::proofs::Offsets::tail_tail, crate::proofs::Offsets::whole_tail), unfolding(crate::specs::Walks::stop_at))]
+#[tactic(auto, using(crate::proofs::Offsets::offsets), unfolding(crate::specs::Walks::stop_at))]
 pub(crate) fn read_span<'a>(text: &'a str, rest: &'a str) -> ReadSpan<'a>
     requires tail { IsTail text.now rest.now }
     requires nonempty { length rest.now ≢ 0 }
@@ -272,7 +272,7 @@ pub(crate) fn read_span<'a>(text: &'a str, rest: &'a str) -> ReadSpan<'a>
 /// Reads the unit after a number and its fraction, if any, and returns the result of [`read_span`]. The value and the fraction were read from
 /// the start of `rest`, and are followed by `after_number` and `after_fraction`, which are the same if there is no point.
 #[inline(always)]
-#[tactic(auto, using(crate::proofs::Offsets::tail_boundary, crate::proofs::Offsets::tail_tail, crate::proofs::SpanParts::no_letters, std::proofs::lemmas::Bool::Decides::nat_tests), unfolding(crate::specs::Walks::stop_at))]
+#[tactic(auto, using(crate::proofs::SpanParts::spans), unfolding(crate::specs::Walks::stop_at))]
 fn complete_span<'a>(
     text: &'a str,
     rest: &'a str,
